@@ -1,0 +1,181 @@
+-- What the system keeps of frames and slots, keyed by process and page. Walks and counts are filters of the entries.
+use Rattle.std.specs.Prelude.{ℕ, ◌+◌, ◌-◌, ◌*◌, Bool, true, false, not, ◌&&◌, ◌||◌, ◌==◌, nat_lt, if◌then◌else◌, List, [], ◌∷◌, length, map, filter, sum_by, Option, Some, None, is_some, is_none, option_map}
+use Rattle.std.specs.List.{list_any, list_all}
+use Rattle.std.specs.Ordering.{nat_cmp, ordering_then}
+use Rattle.std.specs.declared.cmp.Ordering.{Ordering}
+use Rattle.std.specs.FinMap.Entries.{find}
+use Rattle.av_vma.specs.declared.slot.Slot.{Slot}
+use Rattle.av_vma.specs.Ranges.{how_many, numbers}
+
+-- ---- what does not change in a run
+
+-- the numbers of a swap header: its pages, its usable slots, and its bad pages
+pub record Header : Type 0 where
+  pub pages : ℕ
+  pub slots : ℕ
+  pub bad : List ℕ
+
+-- frames: how many there are. sizes: the pages of each device. headers: what page 0 of each device says (nothing at a fault),
+-- where the devices tell their pages
+pub record Setting : Type 0 where
+  pub frames : ℕ
+  pub sizes : List ℕ
+  pub headers : Option (ℕ → Option Header)
+
+-- ---- the ledger
+
+abbrev pub Key : Type 0
+Key = ℕ × ℕ
+
+-- by process, then page
+abbrev pub key_cmp : Key → Key → Ordering
+key_cmp a b = ordering_then (nat_cmp a.0 b.0) (nat_cmp a.1 b.1)
+
+-- an entry is the zero page, a frame (seen or not), or a slot
+pub data Entry : Type 0 where
+  Zero : Entry
+  InFrame : (frame : ℕ) (seen : Bool) → Entry
+  InSlot : (slot : Slot) → Entry
+
+-- a slot, the frame that caches it, and whether the page changed since its last write began
+pub record Cached : Type 0 where
+  pub slot : Slot
+  pub frame : ℕ
+  pub stale : Bool
+
+-- an area that is on: its usable slots and bad pages
+pub record Area : Type 0 where
+  pub slots : ℕ
+  pub bad : ℕ
+
+-- entries: rising by key. active, inactive: head first. on: rising by area
+pub record Ledger : Type 0 where
+  pub entries : List (Key × Entry)
+  pub cache : List Cached
+  pub flight : List Slot
+  pub active : List ℕ
+  pub inactive : List ℕ
+  pub on : List (ℕ × Area)
+
+abbrev pub fresh : Ledger
+fresh = record { entries = []; cache = []; flight = []; active = []; inactive = []; on = [] }
+
+-- ---- filters
+
+abbrev pub same_slot : Slot → Slot → Bool
+same_slot a b = a.area == b.area && a.page == b.page
+
+abbrev pub names_frame : ℕ → Entry → Bool
+names_frame f Zero = false
+names_frame f (InFrame g seen) = f == g
+names_frame f (InSlot s) = false
+
+abbrev pub names_slot : Slot → Entry → Bool
+names_slot s Zero = false
+names_slot s (InFrame f seen) = false
+names_slot s (InSlot t) = same_slot s t
+
+abbrev pub entry : Ledger → Key → Option Entry
+entry l k = find key_cmp k l.entries
+
+-- the walk of a frame: the keys of its entries, by process and page
+abbrev pub walk : Ledger → ℕ → List Key
+walk l f = map (λ e. e.0) (filter (λ e. names_frame f e.1) l.entries)
+
+-- how many entries name the frame, and how many the slot
+abbrev pub mapped : Ledger → ℕ → ℕ
+mapped l f = how_many (λ e. names_frame f e.1) l.entries
+
+abbrev pub slot_entries : Ledger → Slot → ℕ
+slot_entries l s = how_many (λ e. names_slot s e.1) l.entries
+
+abbrev pub cached_by : (Cached → Bool) → List Cached → Option Cached
+cached_by test [] = None
+cached_by test (c ∷ cs) = if test c then Some c else cached_by test cs
+
+-- the slot at which a frame is cached, and the frame at which a slot is
+abbrev pub slot_of : Ledger → ℕ → Option Slot
+slot_of l f = option_map (λ (c : Cached). c.slot) (cached_by (λ c. f == c.frame) l.cache)
+
+abbrev pub frame_at : Ledger → Slot → Option ℕ
+frame_at l s = option_map (λ (c : Cached). c.frame) (cached_by (λ c. same_slot s c.slot) l.cache)
+
+abbrev pub is_cached : Ledger → Slot → Bool
+is_cached l s = list_any (λ (c : Cached). same_slot s c.slot) l.cache
+
+abbrev pub is_stale : Ledger → Slot → Bool
+is_stale l s = list_any (λ (c : Cached). same_slot s c.slot && c.stale) l.cache
+
+abbrev pub in_flight : Ledger → Slot → Bool
+in_flight l s = list_any (same_slot s) l.flight
+
+-- the count of a slot: the entries that name it, plus one if it is cached
+abbrev pub slot_count : Ledger → Slot → ℕ
+slot_count l s = slot_entries l s + (if is_cached l s then 1 else 0)
+
+-- no entry and no cached slot names the frame
+abbrev pub is_free : Ledger → ℕ → Bool
+is_free l f = mapped l f == 0 && is_none (slot_of l f)
+
+abbrev pub free_frames : Setting → Ledger → List ℕ
+free_frames m l = filter (is_free l) (numbers 0 m.frames)
+
+abbrev pub has_free : Setting → Ledger → Bool
+has_free m l = list_any (is_free l) (numbers 0 m.frames)
+
+abbrev pub is_unmapped : Ledger → Option ℕ → Bool
+is_unmapped l None = false
+is_unmapped l (Some f) = mapped l f == 0
+
+-- a cached slot, not in flight, that no entry names and whose frame no entry names
+abbrev pub is_orphan : Ledger → Slot → Bool
+is_orphan l s = is_unmapped l (frame_at l s) && not (in_flight l s) && slot_entries l s == 0
+
+-- ---- slots of areas that are on
+
+abbrev pub size_of : List ℕ → ℕ → ℕ
+size_of [] k = 0
+size_of (n ∷ ns) k = if k == 0 then n else size_of ns (k - 1)
+
+abbrev pub is_on : Ledger → ℕ → Bool
+is_on l k = is_some (find nat_cmp k l.on)
+
+abbrev pub is_header_slot : Slot → Option Header → Bool
+is_header_slot s None = false
+is_header_slot s (Some h) = nat_lt s.page h.pages && not (list_any (λ b. b == s.page) h.bad)
+
+abbrev pub may_be_slot : Slot → Option (ℕ → Option Header) → Bool
+may_be_slot s None = true
+may_be_slot s (Some header) = is_header_slot s (header s.area)
+
+-- what the header says of a page, where it is told: whether it is a slot
+abbrev pub is_usable : Setting → Slot → Bool
+is_usable m s = may_be_slot s m.headers
+
+abbrev pub is_free_slot : Setting → Ledger → Slot → Bool
+is_free_slot m l s =
+    is_on l s.area && nat_lt 0 s.page && nat_lt s.page (size_of m.sizes s.area) && slot_count l s == 0 && is_usable m s
+
+-- the slots of an area in use, and how many are free
+abbrev pub slots_in_use : Setting → Ledger → ℕ → List ℕ
+slots_in_use m l k = filter (λ page. nat_lt 0 (slot_count l (record { area = k; page = page }))) (numbers 1 (size_of m.sizes k - 1))
+
+abbrev pub free_slots : Setting → Ledger → ℕ × Area → ℕ
+free_slots m l a = a.1.slots - length (slots_in_use m l a.0)
+
+-- whether an area is another than the one that a swapoff is closing
+abbrev pub is_open : Option ℕ → ℕ → Bool
+is_open None k = true
+is_open (Some closing) k = not (k == closing)
+
+-- no slot is free of an area that is on and isn't closing
+abbrev pub no_slot : Setting → Option ℕ → Ledger → Bool
+no_slot m closing l = list_all (λ a. not (is_open closing a.0) || free_slots m l a == 0) l.on
+
+-- a slot that may be given
+abbrev pub may_give : Setting → Option ℕ → Ledger → Slot → Bool
+may_give m closing l s = is_free_slot m l s && is_open closing s.area
+
+-- swap is full: twice the number of free slots is less than the number of usable ones
+abbrev pub is_full : Setting → Ledger → Bool
+is_full m l = nat_lt (2 * sum_by (free_slots m l) l.on) (sum_by (λ (a : ℕ × Area). a.1.slots) l.on)

@@ -1,0 +1,11 @@
+pub mod World
+pub mod Ledger
+pub mod Event
+pub mod Pass
+pub mod Fault
+pub mod Refusal
+pub mod Step
+pub mod Choice
+pub mod Transcript
+pub mod Sound
+pub mod Stands

@@ -1,0 +1,49 @@
+-- Transcripts: commands with their replies, in order.
+use Rattle.std.specs.Prelude.{◌≡◌, ℕ, List, [], ◌∷◌}
+use Rattle.av_vma.specs.Ranges.{numbers}
+use Rattle.av_trace.specs.declared.command.Command.{Command}
+use Rattle.av_trace.specs.declared.reply.Reply.{Reply}
+use Rattle.av_plain.specs.World.{World}
+use Rattle.av_plain.specs.Ledger.{Ledger, Setting, fresh}
+use Rattle.av_plain.specs.Event.{Event, after_all}
+use Rattle.av_plain.specs.Step.{IsLegal, next_world}
+use Rattle.av_plain.specs.Choice.{ChoosesAll}
+
+-- a command and its reply
+pub record Exchange : Type 0 where
+  pub command : Command
+  pub reply : Reply
+
+-- ---- legal
+
+-- each reply is legal in its turn, and these are the memories and the ledger in the end
+abbrev pub IsLegalFrom : Setting → World → Ledger → List Exchange → World → Ledger → Type 0
+IsLegalFrom m w l [] w' l' = (w' ≡ w) × (l' ≡ l)
+IsLegalFrom m w l (e ∷ es) w' l' =
+    (events : List Event) × IsLegal m w l e.command e.reply events
+    × IsLegalFrom m (next_world m w l events e.command e.reply.answer) (after_all l events) es w' l'
+
+-- ---- legal, and with each frame chosen exactly
+
+-- the memories, the ledger, and the free frames in the order in which they are taken
+pub record State : Type 0 where
+  pub world : World
+  pub ledger : Ledger
+  pub free : List ℕ
+
+-- no process lives, and all frames are free, rising
+abbrev pub at_first : Setting → State
+at_first m = record { world = []; ledger = fresh; free = numbers 0 m.frames }
+
+-- a command is answered so, and leaves this state
+pub record IsStep (m : Setting) (old : State) (command : Command) (reply : Reply) (new : State) : Type 0 where
+  pub events : List Event
+  pub legal : IsLegal m old.world old.ledger command reply events
+  pub world : new.world ≡ next_world m old.world old.ledger events command reply.answer
+  pub ledger : new.ledger ≡ after_all old.ledger events
+  pub free : ChoosesAll old.ledger events old.free new.free
+
+-- a transcript, each of its replies a step
+abbrev pub IsRun : Setting → State → List Exchange → State → Type 0
+IsRun m old [] new = new ≡ old
+IsRun m old (e ∷ es) new = (mid : State) × IsStep m old e.command e.reply mid × IsRun m mid es new

@@ -1,0 +1,90 @@
+-- What processes see: plain private memories, copied whole at fork. Nothing here knows a frame or a slot.
+use Rattle.std.specs.Prelude.{◌≡◌, ℕ, ◌+◌, ◌-◌, ◌*◌, ◌/◌, ◌%◌, Bool, true, false, ◌||◌, if◌then◌else◌, List, [], ◌∷◌, length, slice_index, Option, Some, None, is_some, option_map, option_and_then, IfSome}
+use Rattle.std.specs.Ordering.{nat_cmp}
+use Rattle.std.specs.FinMap.Entries.{find, put}
+use Rattle.av_vma.specs.declared.area.Prot.{Prot}
+use Rattle.av_vma.specs.Ranges.{within}
+
+-- ---- addresses and pages of 4096 bytes
+
+-- the page of an address
+abbrev pub page_of : ℕ → ℕ
+page_of address = address / 4096
+
+-- the first address of a page
+abbrev pub address_of : ℕ → ℕ
+address_of page = 4096 * page
+
+-- a length rounded up to whole pages
+abbrev pub pages_of : ℕ → ℕ
+pages_of len = (len + 4095) / 4096
+
+-- ---- worlds
+
+-- a page: its protection, and its bytes by their place in it. None is a byte that nobody claims: it may be read as anything
+pub record Page : Type 0 where
+  pub prot : Prot
+  pub bytes : ℕ → Option ℕ
+
+-- a process is what it has mapped, by page
+abbrev pub Process : Type 0
+Process = ℕ → Option Page
+
+-- the processes that live, rising by number
+abbrev pub World : Type 0
+World = List (ℕ × Process)
+
+-- a process without any page
+abbrev pub nothing : Process
+nothing page = None
+
+-- a page of zeros
+abbrev pub zeros : Prot → Page
+zeros prot = record { prot = prot; bytes = λ _. Some 0 }
+
+abbrev pub process : World → ℕ → Option Process
+process w p = find nat_cmp p w
+
+abbrev pub lives : World → ℕ → Bool
+lives w p = is_some (process w p)
+
+-- the pages of a process, none where it does not live
+abbrev pub pages : World → ℕ → Process
+pages w p page = option_and_then (λ q. q page) (process w p)
+
+abbrev pub is_mapped : Process → ℕ → Bool
+is_mapped q page = is_some (q page)
+
+-- which accesses a protection allows: a write where it says so, a read unless it says nothing at all
+abbrev pub allows : Bool → Prot → Bool
+allows true prot = prot.write
+allows false prot = prot.read || prot.write || prot.execute
+
+-- ---- changes
+
+-- the process has these pages now, and lives
+abbrev pub set_process : World → ℕ → Process → World
+set_process w p q = put nat_cmp p q w
+
+-- q with the n pages from `from` on taken from `new`
+abbrev pub replaced : Process → ℕ → ℕ → Process → Process
+replaced q from n new page = if within from n page then new page else q page
+
+-- q with these bytes from an address on; a page that is not mapped stays so
+abbrev pub written : Process → ℕ → List ℕ → Process
+written q address bytes page = option_map (λ (p : Page). record p {
+  bytes = λ i.
+      if within address (length bytes) (address_of page + i) then Some (slice_index bytes (address_of page + i - address))
+      else p.bytes i;
+}) (q page)
+
+-- ---- what a read shows
+
+-- the byte at an address, where it is mapped and claimed
+abbrev pub byte_at : Process → ℕ → Option ℕ
+byte_at q address = option_and_then (λ (p : Page). p.bytes (address % 4096)) (q (page_of address))
+
+-- these are the bytes from an address on, where they are claimed
+abbrev pub Shows : Process → ℕ → List ℕ → Type 0
+Shows q address [] = Unit {0}
+Shows q address (b ∷ bytes) = IfSome (byte_at q address) (λ claimed. claimed ≡ b) × Shows q (address + 1) bytes
