@@ -1,0 +1,6 @@
+//! The kernel: frames, page tables and areas, and one command at a time.
+#![tactic(auto)]
+
+mod kernel;
+
+pub use kernel::Kernel;
