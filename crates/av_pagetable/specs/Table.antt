@@ -3,8 +3,8 @@ use Rattle.std.specs.Prelude.{◌≡◌, ℕ, ◌<◌, ◌≤◌, ◌==◌, Bool
 use Rattle.std.specs.Ordering.{nat_cmp}
 use Rattle.std.specs.BTreeMap as tree_map
 use Rattle.std.specs.BTreeMap.{BTreeMap}
-use Rattle.av_pagetable.specs.declared.Pte.{Pte}
-use Rattle.av_pagetable.specs.declared.Pte.TheVariants.{Empty, Zero, Here, Away}
+use Rattle.av_pagetable.specs.declared.pte.Pte.{Pte}
+use Rattle.av_pagetable.specs.declared.pte.Pte.TheVariants.{Empty, Zero, Here, Away}
 
 -- no page is as high as this
 abbrev pub top_page : ℕ
@@ -28,7 +28,3 @@ pub record IsFirst (table : ℕ → Pte) (from to page : ℕ) : Type 0 where
 pub record IsFull (m : BTreeMap ℕ Pte) : Type 0 where
   pub some : (page : ℕ) → tree_map.get nat_cmp m page ≡ Some Empty → ⊥
   pub below : (page : ℕ) → top_page ≤ page → tree_map.get nat_cmp m page ≡ None
-
--- what is seen of several tables: what each process has, if it is there
-abbrev pub seen : {T : Type 0} → (T → ℕ → Pte) → BTreeMap ℕ T → ℕ → Option (ℕ → Pte)
-seen at tables process = option_map at (tree_map.get nat_cmp tables process)
