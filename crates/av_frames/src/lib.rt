@@ -188,6 +188,15 @@ impl Frames {
     {
         self.bytes[frame as usize] = blank();
     }
+
+    /// Makes a page of bytes those of a frame.
+    pub fn load(&mut self, frame: u32, page: &[u8])
+        requires in_range { frame < length self.old.bytes }
+        requires long { length page.now ≡ 4096 }
+        ensures { seen self.new ≡ record (seen self.old) { bytes = with_at frame (slice_index page.now) (seen self.old).bytes } }
+    {
+        replace(&mut self.bytes[frame as usize], page);
+    }
 }
 
 /// A page of zeros.
@@ -204,6 +213,14 @@ fn overlay(page: &mut [u8; 4096], at: usize, piece: &[u8])
     ensures long { length page.new ≡ 4096 }
 {
     page[at..at + piece.len()].copy_from_slice(piece);
+}
+
+/// Makes a page the given bytes.
+fn replace(page: &mut [u8; 4096], bytes: &[u8])
+    requires { length bytes.now ≡ 4096 }
+    ensures { page.new ≡ bytes.now }
+{
+    page.copy_from_slice(bytes);
 }
 
 /// The same value, this many times.
