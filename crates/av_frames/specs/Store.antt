@@ -1,0 +1,69 @@
+-- What is seen of the frames: a free list, and for each frame its bytes, how many entries name it, its home, its slot, and whether it is dirty.
+use Rattle.std.specs.Prelude.{◌≡◌, ℕ, ◌+◌, ◌-◌, ◌^◌, ◌<◌, ◌≤◌, Bool, true, false, not, ◌==◌, if◌then◌else◌, List, [], ◌∷◌, length, slice_index, slice_index_or, Option, Some, None}
+use Rattle.std.specs.List.{list_any}
+use Rattle.av_vma.specs.declared.slot.Slot.{Slot}
+use Rattle.av_vma.specs.Ranges.{how_many, within, numbers, with_at}
+
+abbrev pub is_in : ℕ → List ℕ → Bool
+is_in f fs = list_any (λ g. f == g) fs
+
+-- the value of `Frames`: a value has to be data, so each is a list by frame
+pub record Store : Type 0 where
+  pub free : List ℕ
+  pub bytes : List (List ℕ)
+  pub maps : List ℕ
+  pub homes : List (Option (ℕ × ℕ))
+  pub dirty : List Bool
+  pub slots : List (Option Slot)
+
+-- the same by functions
+pub record Seen : Type 0 where
+  pub count : ℕ
+  pub free : List ℕ
+  pub bytes : ℕ → ℕ → ℕ
+  pub maps : ℕ → ℕ
+  pub home : ℕ → Option (ℕ × ℕ)
+  pub dirty : ℕ → Bool
+  pub slot : ℕ → Option Slot
+
+abbrev pub seen : Store → Seen
+seen s = record {
+  count = length s.bytes;
+  free = s.free;
+  bytes = λ f i. slice_index (slice_index_or s.bytes f []) i;
+  maps = λ f. slice_index s.maps f;
+  home = λ f. slice_index_or s.homes f None;
+  dirty = λ f. slice_index_or s.dirty f false;
+  slot = λ f. slice_index_or s.slots f None;
+}
+
+abbrev pub fresh : ℕ → Seen
+fresh n = record {
+  count = n;
+  free = numbers 0 n;
+  bytes = λ f i. 0;
+  maps = λ f. 0;
+  home = λ f. None;
+  dirty = λ f. false;
+  slot = λ f. None;
+}
+
+-- bytes with a piece laid over them
+abbrev pub overlaid : ℕ → List ℕ → (ℕ → ℕ) → ℕ → ℕ
+overlaid at piece bytes i = if within at (length piece) i then slice_index piece (i - at) else bytes i
+
+abbrev pub itself : Bool → Bool
+itself b = b
+
+pub record IsWhole (frees : List ℕ) (frees_len frees_room : ℕ) (pages : List (List ℕ)) (flags : List Bool) (counts : List ℕ) (owners : List (Option (ℕ × ℕ))) (marks : List Bool) (places : List (Option Slot)) : Type 0 where
+  pub few : length pages < 2 ^ 32
+  pub used : length flags ≡ length pages
+  pub maps : length counts ≡ length pages
+  pub homes : length owners ≡ length pages
+  pub dirty : length marks ≡ length pages
+  pub slots : length places ≡ length pages
+  pub len : frees_len ≡ length frees
+  pub room : length pages ≤ frees_room
+  -- each frame is used or stands once in the free list
+  pub total : length frees + how_many itself flags ≡ length pages
+  pub once : (f : ℕ) → how_many (λ g. f == g) frees ≡ (if slice_index_or flags f true then 0 else 1)

@@ -1,0 +1,245 @@
+//! The frames: which are free, their bytes, and what is kept of each.
+#![tactic(auto)]
+
+ghost use Rattle.std.specs.Prelude.{◌≡◌, ℕ, ◌+◌, ◌<◌, ◌≤◌, ◌^◌, ◌-◌, ◌∷◌, [], length, slice_index, MatchOption, IfOk, true, false, replicate, not};
+ghost use Rattle.av_frames.specs.Store.{seen, fresh, overlaid, is_in};
+ghost use Rattle.std.specs.VecDeque.{deque_len, deque_capacity};
+ghost use Rattle.av_vma.specs.Ranges.{numbers, with_at};
+
+use av_vma::Slot;
+use std::alloc::{AllocError, Global};
+use std::collections::VecDeque;
+use std::marker::Model;
+
+#[derive(Drop)]
+pub struct Frames {
+    free: VecDeque<u32>,
+    bytes: Vec<[u8; 4096]>,
+    used: Vec<bool>,
+    maps: Vec<u64>,
+    homes: Vec<Option<(u64, u64)>>,
+    dirty: Vec<bool>,
+    slots: Vec<Option<Slot>>,
+}
+
+impl Model for Frames {
+    ghost use Rattle.std.specs.Prelude.{length};
+    ghost use Rattle.std.specs.VecDeque.{deque_len, deque_capacity};
+    ghost use Rattle.av_frames.specs.Store.{Store, IsWhole};
+
+    ghost Value = { Store };
+
+    ghost view = { λ a. record { free = a.free.items; bytes = a.bytes.items; maps = a.maps.items; homes = a.homes.items; dirty = a.dirty.items; slots = a.slots.items } };
+
+    ghost invariant = { λ a. IsWhole a.free.items (deque_len a.free) (deque_capacity a.free) a.bytes.items a.used.items a.maps.items a.homes.items a.dirty.items a.slots.items };
+}
+
+impl Frames {
+    /// This many frames, all free and without any entry.
+    pub fn new(alloc: Global, count: u32) -> Result<Frames, AllocError>
+        ensures { IfOk result (λ frames. seen frames ≡ fresh count) }
+    {
+        let n = count as usize;
+        Ok(Frames {
+            free: all_numbers(alloc, count)?,
+            bytes: filled(alloc, blank(), n)?,
+            used: filled(alloc, false, n)?,
+            maps: filled(alloc, 0, n)?,
+            homes: filled(alloc, None, n)?,
+            dirty: filled(alloc, false, n)?,
+            slots: filled(alloc, None, n)?,
+        })
+    }
+
+    /// Takes the first free frame. None exactly where no frame is free.
+    pub fn take(&mut self) -> Option<u32>
+        ensures { MatchOption result
+            ((self.old.free ≡ []) × (seen self.new ≡ seen self.old))
+            (λ f. (self.old.free ≡ f ∷ self.new.free) × (f < length self.old.bytes) × (is_in f self.new.free ≡ false) × (seen self.new ≡ record (seen self.old) { free = self.new.free })) }
+    {
+        let frame = self.free.pop_front()?;
+        self.used[frame as usize] = true;
+        Some(frame)
+    }
+
+    /// Puts a frame in front of the free ones.
+    pub fn give(&mut self, frame: u32)
+        requires in_range { frame < length self.old.bytes }
+        requires not_free { is_in frame self.old.free ≡ false }
+        ensures { seen self.new ≡ record (seen self.old) { free = frame ∷ self.old.free } }
+    {
+        self.used[frame as usize] = false;
+        self.free.push_front_reserved(frame);
+    }
+
+    /// How many entries name the frame.
+    pub fn maps(&self, frame: u32) -> u64
+        requires { frame < length self.now.bytes }
+        ensures { result ≡ (seen self.now).maps frame }
+    {
+        self.maps[frame as usize]
+    }
+
+    pub fn map_up(&mut self, frame: u32)
+        requires in_range { frame < length self.old.bytes }
+        requires room { (seen self.old).maps frame < 2 ^ 64 - 1 }
+        ensures { seen self.new ≡ record (seen self.old) { maps = with_at frame ((seen self.old).maps frame + 1) (seen self.old).maps } }
+    {
+        self.maps[frame as usize] += 1;
+    }
+
+    pub fn map_down(&mut self, frame: u32)
+        requires in_range { frame < length self.old.bytes }
+        requires some { 0 < (seen self.old).maps frame }
+        ensures { seen self.new ≡ record (seen self.old) { maps = with_at frame ((seen self.old).maps frame - 1) (seen self.old).maps } }
+    {
+        self.maps[frame as usize] -= 1;
+    }
+
+    /// The frame's home: an anon_vma and a linear index.
+    pub fn home(&self, frame: u32) -> Option<(u64, u64)>
+        requires { frame < length self.now.bytes }
+        ensures { result ≡ (seen self.now).home frame }
+    {
+        self.homes[frame as usize]
+    }
+
+    pub fn set_home(&mut self, frame: u32, home: Option<(u64, u64)>)
+        requires { frame < length self.old.bytes }
+        ensures { seen self.new ≡ record (seen self.old) { home = with_at frame home (seen self.old).home } }
+    {
+        self.homes[frame as usize] = home;
+    }
+
+    /// Whether the frame changed since its slot was written.
+    pub fn dirty(&self, frame: u32) -> bool
+        requires { frame < length self.now.bytes }
+        ensures { result ≡ (seen self.now).dirty frame }
+    {
+        self.dirty[frame as usize]
+    }
+
+    pub fn set_dirty(&mut self, frame: u32, dirty: bool)
+        requires { frame < length self.old.bytes }
+        ensures { seen self.new ≡ record (seen self.old) { dirty = with_at frame dirty (seen self.old).dirty } }
+    {
+        self.dirty[frame as usize] = dirty;
+    }
+
+    /// The slot at which the frame is cached.
+    pub fn slot(&self, frame: u32) -> Option<Slot>
+        requires { frame < length self.now.bytes }
+        ensures { result ≡ (seen self.now).slot frame }
+    {
+        self.slots[frame as usize]
+    }
+
+    pub fn set_slot(&mut self, frame: u32, slot: Option<Slot>)
+        requires { frame < length self.old.bytes }
+        ensures { seen self.new ≡ record (seen self.old) { slot = with_at frame slot (seen self.old).slot } }
+    {
+        self.slots[frame as usize] = slot;
+    }
+
+    /// How many frames are free.
+    pub fn free(&self) -> u32
+        ensures { result ≡ length self.now.free }
+    {
+        self.free.len() as u32
+    }
+
+    pub fn is_free(&self, frame: u32) -> bool
+        requires { frame < length self.now.bytes }
+        ensures { result ≡ is_in frame self.now.free }
+    {
+        !self.used[frame as usize]
+    }
+
+    /// The bytes of a frame.
+    pub fn bytes(&self, frame: u32) -> &[u8]
+        requires { frame < length self.now.bytes }
+        ensures long { length result.now ≡ 4096 }
+        ensures bytes { (i : ℕ) → slice_index result.now i ≡ (seen self.now).bytes frame i }
+    {
+        &self.bytes[frame as usize]
+    }
+
+    /// Lays a piece over the bytes of a frame.
+    pub fn write_at(&mut self, frame: u32, at: usize, piece: &[u8])
+        requires in_range { frame < length self.old.bytes }
+        requires fits { at + length piece.now ≤ 4096 }
+        ensures { seen self.new ≡ record (seen self.old) { bytes = with_at frame (overlaid at piece.now ((seen self.old).bytes frame)) (seen self.old).bytes } }
+    {
+        overlay(&mut self.bytes[frame as usize], at, piece);
+    }
+
+    /// Copies the bytes of a frame to another.
+    pub fn copy(&mut self, from: u32, to: u32)
+        requires { (from < length self.old.bytes) × (to < length self.old.bytes) }
+        ensures { seen self.new ≡ record (seen self.old) { bytes = with_at to ((seen self.old).bytes from) (seen self.old).bytes } }
+    {
+        self.bytes[to as usize] = self.bytes[from as usize];
+    }
+
+    /// Makes each byte of a frame zero.
+    pub fn zero(&mut self, frame: u32)
+        requires { frame < length self.old.bytes }
+        ensures { seen self.new ≡ record (seen self.old) { bytes = with_at frame (λ i. 0) (seen self.old).bytes } }
+    {
+        self.bytes[frame as usize] = blank();
+    }
+
+    /// Makes a page of bytes those of a frame.
+    pub fn load(&mut self, frame: u32, page: &[u8])
+        requires in_range { frame < length self.old.bytes }
+        requires long { length page.now ≡ 4096 }
+        ensures { seen self.new ≡ record (seen self.old) { bytes = with_at frame (slice_index page.now) (seen self.old).bytes } }
+    {
+        replace(&mut self.bytes[frame as usize], page);
+    }
+}
+
+/// A page of zeros.
+fn blank() -> [u8; 4096]
+    ensures { result ≡ replicate 4096 0 }
+{
+    [0; 4096]
+}
+
+/// Lays a piece over a page.
+fn overlay(page: &mut [u8; 4096], at: usize, piece: &[u8])
+    requires { at + length piece.now ≤ 4096 }
+    ensures over { (i : ℕ) → slice_index page.new i ≡ overlaid at piece.now (slice_index page.old) i }
+    ensures long { length page.new ≡ 4096 }
+{
+    page[at..at + piece.len()].copy_from_slice(piece);
+}
+
+/// Makes a page the given bytes.
+fn replace(page: &mut [u8; 4096], bytes: &[u8])
+    requires { length bytes.now ≡ 4096 }
+    ensures { page.new ≡ bytes.now }
+{
+    page.copy_from_slice(bytes);
+}
+
+/// The same value, this many times.
+fn filled<T: Copy>(alloc: Global, value: T, count: usize) -> Result<Vec<T>, AllocError>
+    ensures { IfOk result (λ v. v.items ≡ replicate count value) }
+{
+    let mut values = Vec::new(alloc);
+    values.resize(count, value)?;
+    Ok(values)
+}
+
+/// The numbers below the count, with room for no more.
+#[tactic(auto, using(crate::proofs::Fresh::numbers_next))]
+fn all_numbers(alloc: Global, count: u32) -> Result<VecDeque<u32>, AllocError>
+    ensures { IfOk result (λ q. (q.items ≡ numbers 0 count) × (deque_len q ≡ count) × (count ≤ deque_capacity q)) }
+{
+    let mut numbers = VecDeque::with_capacity(alloc, count as usize)?;
+    for i in 0..count {
+        numbers.push_back(i)?;
+    }
+    Ok(numbers)
+}

@@ -1,0 +1,10 @@
+//! Page tables: what each page of each process has.
+#![tactic(auto)]
+
+mod pte;
+mod table;
+mod tables;
+
+pub use pte::Pte;
+pub use table::{MapTable, Table};
+pub use tables::Tables;
