@@ -5,33 +5,34 @@ ghost use Rattle.av_plain.specs.Transcript.{State, at_first};
 ghost use Rattle.av_kernel.specs.Kernel.{setting, Stands, Steps, Counts};
 
 use av_trace::{Command, Reply};
+use crate::mem::Mem;
 use std::alloc::{AllocError, Global};
 use std::marker::Model;
 
 /// The memory of all processes, and how many commands were done.
 #[derive(Drop)]
 pub struct Kernel {
-    frames: u32,
+    mem: Mem,
     steps: u32,
     tally: [u32; 8],
     spent: bool,
 }
 
 impl Model for Kernel {
+    ghost use Rattle.av_kernel.specs.contracts.mem.Mem.{the_row};
     ghost use Rattle.av_kernel.specs.Machine.{Machine, machine_code};
 
     ghost Value = { Machine };
 
-    ghost coded = { machine_code };
+    ghost coded = { machine_code the_row.coded };
 
-    ghost view = { λ k. record { frames = k.frames; steps = k.steps; tally = k.tally; spent = k.spent } };
+    ghost view = { λ k. record { mem = k.mem; steps = k.steps; tally = k.tally; spent = k.spent } };
 }
 
 impl Kernel {
     /// A kernel with this many frames, all free, and no process.
     pub fn new(_alloc: Global, _frames: u32) -> Result<Kernel, AllocError>
         ensures stands { IfOk result (λ k. Stands k (at_first (setting _frames))) }
-        ensures frames { IfOk result (λ k. k.frames ≡ _frames) }
         ensures counts { IfOk result (λ k. (k.steps ≡ 0) × (k.tally ≡ replicate 8 0) × (k.spent ≡ false)) }
     {
         Err(AllocError)
@@ -41,7 +42,6 @@ impl Kernel {
     pub fn step(&mut self, _alloc: Global, _command: &Command) -> Result<Reply, AllocError>
         requires { self.old.steps < 2 ^ 24 }
         ensures stands { (s : State) → Stands self.old s → IfOk result (λ reply. Steps self.old self.new s _command.now reply) }
-        ensures frames { self.new.frames ≡ self.old.frames }
         ensures counts { OnOk result (self.old.spent ≡ false) }
         ensures counted { IfOk result (λ reply. Counts self.old self.new reply) }
         ensures spent { OnErr result (self.new.spent ≡ true) }

@@ -2,5 +2,7 @@
 #![tactic(auto)]
 
 mod kernel;
+mod mem;
+mod spaces;
 
 pub use kernel::Kernel;
