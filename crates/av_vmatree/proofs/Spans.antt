@@ -1,5 +1,5 @@
 -- Lists of spans of which no two meet.
-use Rattle.std.proofs.Common.{◌≡◌, ℕ, ◌+◌, ◌-◌, ◌^◌, ◌<◌, ◌≤◌, max, ◌⊎◌, inl, inr, Bool, true, false, cond, ◌&&◌, ◌||◌, eqb, ltb, leb, Option, Some, None, is_some, IfSome, IsSomeAnd, List, [], ◌∷◌, ◌++◌, length, refl, sym, ap, subst, ◌∙◌, arith}
+use Rattle.std.proofs.Common.{◌≡◌, ℕ, ◌+◌, ◌-◌, ◌^◌, ◌<◌, ◌≤◌, max, ◌⊎◌, inl, inr, Bool, true, false, cond, ◌&&◌, ◌||◌, eqb, ltb, leb, Option, Some, None, is_some, is_ok, IfSome, IsSomeAnd, OnOk, Result, Ok, Err, List, [], ◌∷◌, ◌++◌, length, refl, sym, ap, subst, ◌∙◌, arith}
 use Rattle.std.proofs.lemmas.Bool.{leb-true, ltb-true, ltb-false, le-leb, lt-leb, lt-ltb, le-ltb, eq-eqb, ne_eqb, eqb-true, both_ways, cases_lt, and_parts, cond-false}
 use Rattle.av_vma.specs.Gap.{low_page, top_page}
 use Rattle.av_vma.specs.Ranges.{with_at}
@@ -60,7 +60,7 @@ free_from_clear p n (s ∷ xs) clear = λ page low high.
     let out : holds s page ≡ false = elim clear.0 [ inl past ↦ holds_above s page (omega arith) | inr before ↦ holds_below s page (omega arith) ] in
     rw out (free_from_clear p n xs clear.1 page low high)
 
-wide_at : (l : List Span) (a : Span) (r : List Span) → AreApart (l ++ a ∷ r) → a.from < a.to
+pub wide_at : (l : List Span) (a : Span) (r : List Span) → AreApart (l ++ a ∷ r) → a.from < a.to
 wide_at [] a r s = s.0
 wide_at (c ∷ l) a r s = wide_at l a r s.2
 
@@ -260,3 +260,19 @@ pub apart_right : (l : List Span) (a : Span) (r : List Span) → AreApart (l ++ 
 apart_right [] a r s = s.2
 apart_right (b ∷ l) a r s = apart_right l a r s.2
 
+
+-- what an insertion leaves that may want memory
+pub record IsAfterInsert (ok : Bool) (a : Span) (xs new : List Span) : Type 0 where
+  pub good : AreSpans new
+  pub inserted : ok ≡ true → IsInserted a xs new
+
+pub after_insert : (ok : Bool) (a : Span) (d xs new : List Span) → d ≡ xs → new ≡ cond ok (with_span a d) d → AreSpans d → a.from < a.to → low_page ≤ a.from → a.to ≤ top_page → IsFree (taken xs) a.from a.to → span_of xs a.area ≡ None → IsAfterInsert ok a xs new
+after_insert true a d xs new is e good some low high free other =
+    let h = inserted a xs (subst AreSpans is good) some low high free other in
+    let same : new ≡ with_span a xs = e ∙ ap (with_span a) is in
+    record { good = subst AreSpans (sym same) h.good; inserted = λ _. subst (IsInserted a xs) (sym same) h }
+after_insert false a d xs new is e good some low high free other = record { good = subst AreSpans (sym e) good; inserted = λ no. cc }
+
+pub on_ok : {X E : Type 0} (r : Result X E) (P : Type 0) → (is_ok r ≡ true → P) → OnOk r P
+on_ok (Ok x) P f = f refl
+on_ok (Err e) P f = tt
