@@ -1,0 +1,9 @@
+pub mod Laws
+pub mod LedgerLaws
+pub mod WorldLaws
+pub mod MoreLaws
+pub mod WalkLaws
+pub mod RunLaws
+pub mod AccessLaws
+pub mod NoSwapLaws
+pub mod TwoWrites
