@@ -1,5 +1,9 @@
 ghost use Rattle.std.specs.Prelude.{◌≡◌, ℕ, ◌<◌, ◌≤◌, MatchOption, MatchResult, OnSome, Some, None, true, false, option_map};
 ghost use Rattle.std.specs.Borrow.{LendsSo, sem};
+ghost use Rattle.std.specs.Prelude.{◌==◌};
+ghost use Rattle.std.specs.List.{list_any};
+ghost use Rattle.std.specs.List.Sorted.{IsStrictlyIncreasing};
+ghost use Rattle.std.specs.Map.Iter.{ShowsInOrder, deref};
 ghost use Rattle.av_vma.specs.Ranges.{with_at};
 ghost use Rattle.av_pagetable.specs.Table.{IsFirst, top_page};
 ghost use Rattle.av_pagetable.specs.Entries.{table_of, has, entry_by, with_entry};
@@ -9,6 +13,7 @@ use crate::pte::Pte;
 use crate::table::Table;
 use std::alloc::{AllocError, Global};
 use std::collections::BTreeMap;
+use std::collections::btree_map::Keys;
 
 /// The page tables of the processes that are there, by process number.
 #[derive(Drop)]
@@ -46,6 +51,15 @@ impl<T: Table> Tables<T> {
         ensures entries { entry_by T.at self.new ≡ with_at process (λ page. Pte.Empty) (entry_by T.at self.old) }
     {
         let _ = self.tables.remove(&process);
+    }
+
+    /// The numbers of the processes that are there, rising.
+    pub fn pids(&self) -> Keys<'_, u16, T>
+        ensures all { (process : ℕ) → list_any (λ p. process == p) result ≡ has self.now process }
+        ensures rising { IsStrictlyIncreasing result }
+        ensures runs { ShowsInOrder (deref {X = ℕ}) }
+    {
+        self.tables.keys()
     }
 
     /// The table of a process. None exactly where the process is not there.
