@@ -5,21 +5,17 @@ use Rattle.av_trace.specs.declared.reply.Reply.{Reply}
 use Rattle.av_trace.specs.declared.reply.Answer.{Answer}
 use Rattle.av_trace.specs.declared.reply.Answer.TheVariants.{Done, MapAt, Data, Refused, Segv, Bus, Oom, On, NoFrame}
 use Rattle.av_kernel.specs.View.{setting, Keeps}
-use Rattle.av_plain.specs.Transcript.{State, IsStep, at_first}
+use Rattle.av_plain.specs.Transcript.{State, IsStep}
 use Rattle.av_kernel.specs.Machine.{Machine}
-use Rattle.av_frames.specs.Store.{seen}
-
-abbrev pub frames_of : Machine → ℕ
-frames_of k = (seen k.mem.frames).count
 
 -- the kernel stands for the memories, the ledger and the free frames
-unfoldable pub Stands : Machine → State → Type 0
-Stands k s = s ≡ at_first (setting (seen k.mem.frames).count)
+abbrev pub Stands : Machine → State → Type 0
+Stands k s = Keeps k.mem s
 
 -- a command's reply is a step, and the kernel stands for what it leaves
 pub record Steps (old new : Machine) (s : State) (command : Command) (reply : Reply) : Type 0 where
   pub next : State
-  pub step : IsStep (setting (frames_of old)) s command reply next
+  pub step : IsStep (setting old.frames) s command reply next
   pub stands : Stands new next
 
 -- the place of a reply's first word: ok, map, data, on, err, segv, bus, oom

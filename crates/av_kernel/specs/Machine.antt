@@ -16,5 +16,5 @@ pub record Machine : Type 0 where
 abbrev pub machine_code : Coded Mem → Coded Machine
 machine_code mem =
     code_by (ℕ × (Mem × (ℕ × (List ℕ × Bool)))) (coded× coded_ℕ (coded× mem (coded× coded_ℕ (coded× (coded_list coded_ℕ) coded_bool))))
-        (λ s. (s.frames, (s.mem, (s.steps, (s.tally, s.spent)))))
-        (λ p. record { frames = p.0; mem = p.1.0; steps = p.1.1.0; tally = p.1.1.1.0; spent = p.1.1.1.1 }) (λ _. refl)
+    (λ s. (s.frames, (s.mem, (s.steps, (s.tally, s.spent)))))
+    (λ p. record { frames = p.0; mem = p.1.0; steps = p.1.1.0; tally = p.1.1.1.0; spent = p.1.1.1.1 }) (λ _. refl)
