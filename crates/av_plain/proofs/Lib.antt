@@ -14,3 +14,5 @@ pub mod SoundAccess
 pub mod SoundPages
 pub mod SoundThere
 pub mod Soundness
+pub mod SoundBound
+pub mod SoundMeans
