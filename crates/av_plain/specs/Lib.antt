@@ -8,4 +8,5 @@ pub mod Step
 pub mod Choice
 pub mod Transcript
 pub mod Sound
+pub mod Says
 pub mod Stands
