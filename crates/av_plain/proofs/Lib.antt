@@ -16,3 +16,5 @@ pub mod SoundThere
 pub mod Soundness
 pub mod SoundBound
 pub mod SoundMeans
+pub mod OutOfMemory
+pub mod FirstRows
