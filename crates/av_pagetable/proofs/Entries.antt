@@ -1,5 +1,5 @@
 -- Entries by process and page, after a change of one table.
-use Rattle.std.proofs.Common.{◌≡◌, ◌≢◌, ℕ, Bool, true, false, cond, ◌&&◌, Option, Some, None, refl, sym, ap, subst, ◌∙◌, arith, ◌==◌, is_some, option_map, MatchResult, Result, Ok, Err}
+use Rattle.std.proofs.Common.{◌≡◌, ℕ, Bool, true, false, cond, ◌&&◌, Option, Some, None, refl, sym, ap, subst, ◌∙◌, arith, ◌==◌, is_some, option_map, MatchResult, Result, Ok, Err}
 use Rattle.std.proofs.lemmas.Bool.Decides.{nat_tests}
 use Rattle.std.specs.Prelude.{MatchOption, ◌<◌, ◌≤◌}
 use Rattle.av_pagetable.specs.declared.pte.Pte.{Pte}

@@ -1,10 +1,10 @@
 -- A page table is seen as a function from page to entry, Empty where there is none.
-use Rattle.std.specs.Prelude.{◌≡◌, ℕ, ◌<◌, ◌≤◌, ◌==◌, Bool, true, false, if◌then◌else◌, Option, Some, None, option_map}
+use Rattle.std.specs.Prelude.{◌≡◌, ℕ, ◌<◌, ◌≤◌, Option, Some, None}
 use Rattle.std.specs.Ordering.{nat_cmp}
 use Rattle.std.specs.BTreeMap as tree_map
 use Rattle.std.specs.BTreeMap.{BTreeMap}
 use Rattle.av_pagetable.specs.declared.pte.Pte.{Pte}
-use Rattle.av_pagetable.specs.declared.pte.Pte.TheVariants.{Empty, Zero, Here, Away}
+use Rattle.av_pagetable.specs.declared.pte.Pte.TheVariants.{Empty}
 
 -- no page is as high as this
 abbrev pub top_page : ℕ
