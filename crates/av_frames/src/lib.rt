@@ -17,8 +17,10 @@ use std::marker::Model;
 /// A fixed number of frames of 4096 bytes, numbered from 0. Only `new` takes memory.
 #[derive(Drop)]
 pub struct Frames {
+    // The first is taken next. There is room for every frame, so that giving one back takes no memory.
     free: VecDeque<u32>,
     bytes: Vec<[u8; 4096]>,
+    // Whether each frame is out of `free`, so that no one has to search it.
     used: Vec<bool>,
     maps: Vec<u64>,
     homes: Vec<Option<(u64, u64)>>,
@@ -43,15 +45,15 @@ impl Frames {
     pub fn new(alloc: Global, count: u32) -> Result<Frames, AllocError>
         ensures { IfOk result (λ frames. seen frames ≡ fresh count) }
     {
-        let n = count as usize;
+        let len = count as usize;
         Ok(Frames {
             free: all_numbers(alloc, count)?,
-            bytes: filled(alloc, blank(), n)?,
-            used: filled(alloc, false, n)?,
-            maps: filled(alloc, 0, n)?,
-            homes: filled(alloc, None, n)?,
-            dirty: filled(alloc, false, n)?,
-            slots: filled(alloc, None, n)?,
+            bytes: filled(alloc, blank(), len)?,
+            used: filled(alloc, false, len)?,
+            maps: filled(alloc, 0, len)?,
+            homes: filled(alloc, None, len)?,
+            dirty: filled(alloc, false, len)?,
+            slots: filled(alloc, None, len)?,
         })
     }
 
