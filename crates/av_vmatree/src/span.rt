@@ -42,7 +42,10 @@ impl Entry for Span {
     }
 
     fn joined(left: Extent, middle: &Span, right: Extent) -> Extent {
-        join(left, join(Extent::Between(middle.from, middle.to, 0), right))
+        join(
+            left,
+            join(Extent::Between(middle.from, middle.to, 0), right),
+        )
     }
 }
 
