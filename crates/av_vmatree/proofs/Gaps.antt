@@ -10,7 +10,7 @@ use Rattle.av_vmatree.specs.declared.span.Extent.{Extent}
 use Rattle.av_vmatree.specs.declared.span.Extent.TheVariants.{Nothing, Between}
 use Rattle.av_vmatree.specs.Extent.{extent_of, joined, last_between, fits}
 use Rattle.av_vmatree.specs.Spans.{or_else, taken, AreApart, AreWithin}
-use Rattle.av_vmatree.proofs.Spans.{AreClear, IsWithin, clear_from_free, free_from_clear}
+use Rattle.av_vmatree.proofs.Spans.{AreClear, IsWithin, clear_from_free, free_from_clear, or_else_assoc}
 
 -- the extent of a row of spans
 abbrev pub row_of : List Span → Extent
@@ -33,10 +33,6 @@ abbrev pub IsGapOf : ℕ → ℕ → ℕ → List Span → Option ℕ → Type 0
 IsGapOf n lo hi xs None = (q : ℕ) → lo ≤ q → q + n ≤ hi → AreClear xs q n → ⊥
 IsGapOf n lo hi xs (Some p) = IsGreatest n lo hi xs p
 
-or_else_assoc : (x y z : Option ℕ) → or_else (or_else x y) z ≡ or_else x (or_else y z)
-or_else_assoc (Some a) y z = refl
-or_else_assoc None y z = refl
-
 some_first : (x y : Option ℕ) → is_some x ≡ true → x ≡ or_else x y
 some_first (Some a) y e = refl
 some_first None y e = absurd (both_ways false refl e)
@@ -55,9 +51,9 @@ leb_max n a b =
     elim (nat_le n a) as (λ v. nat_le n a ≡ v → nat_le n (max a b) ≡ (v || nat_le n b)) [
       | true ↦ λ e. let h : n ≤ a = leb-true _ _ e in le-leb n (max a b) (omega arith)
       | false ↦ λ e. elim (nat_le n b) as (λ v. nat_le n b ≡ v → nat_le n (max a b) ≡ v) [
-          | true ↦ λ d. let h : n ≤ b = leb-true _ _ d in le-leb n (max a b) (omega arith)
-          | false ↦ λ d. let h : a < n = leb-false _ _ e in let k : b < n = leb-false _ _ d in lt-leb n (max a b) (omega arith)
-        ] refl
+        | true ↦ λ d. let h : n ≤ b = leb-true _ _ d in le-leb n (max a b) (omega arith)
+        | false ↦ λ d. let h : a < n = leb-false _ _ e in let k : b < n = leb-false _ _ d in lt-leb n (max a b) (omega arith)
+      ] refl
     ] refl
 
 or_swap : (x c d : Bool) → (x || c || d) ≡ (x || d || c)
@@ -101,7 +97,7 @@ gap_none n lo hi a xs one some later within none =
             low = omega arith;
             high = omega arith;
             free = (inr (omega arith), free_later xs a.to (a.from - n) n (omega arith) later);
-            last = λ q more high free. elim free.0 [ inl past ↦ none q past high free.1 | inr before ↦ absurd (omega arith) ]
+            last = λ q more high free. elim free.0 [ inl past ↦ none q past high free.1 | inr before ↦ absurd (omega arith) ];
           }
       | false ↦ λ e. let not : a.from - lo < n = leb-false _ _ e in
           λ q low high free. elim free.0 [ inl past ↦ none q past high free.1 | inr before ↦ absurd (omega arith) ]
@@ -112,7 +108,7 @@ gap_some n lo hi p a xs one some low g = let l = g.low in record {
   low = omega arith;
   high = g.high;
   free = (inl g.low, g.free);
-  last = λ q more high free. g.last q more high free.1
+  last = λ q more high free. g.last q more high free.1;
 }
 
 gap_cases : (n lo hi : ℕ) (a : Span) (xs : List Span) (x : Option ℕ) → 1 ≤ n → a.from < a.to → AllOf (λ b. a.to ≤ b.from) xs → lo ≤ a.from → a.from ≤ hi → IsGapOf n a.to hi xs x → IsGapOf n lo hi (a ∷ xs) (or_else x (last_between n lo a.from))
@@ -150,11 +146,10 @@ gap_left n lo hi d l a r is one e =
 -- the rule by spans is the rule by pages
 pub gap_by_pages : (n : ℕ) (xs : List Span) (r : Option ℕ) → 1 ≤ n → AreApart xs → IsGapOf n low_page top_page xs r → IsGap (taken xs) n r
 gap_by_pages n xs None one apart none = λ page room. none page room.lowest room.highest (clear_from_free page n xs one apart room.free)
-gap_by_pages n xs (Some p) one apart g =
-    (
-      record { lowest = g.low; highest = g.high; free = free_from_clear p n xs g.free },
-      λ other room. elim (cases_lt p other) [
-        | inl more ↦ absurd (g.last other more room.highest (clear_from_free other n xs one apart room.free))
-        | inr less ↦ less
-      ]
-    )
+gap_by_pages n xs (Some p) one apart g = (
+  record { lowest = g.low; highest = g.high; free = free_from_clear p n xs g.free },
+  λ other room. elim (cases_lt p other) [
+    | inl more ↦ absurd (g.last other more room.highest (clear_from_free other n xs one apart room.free))
+    | inr less ↦ less
+  ],
+)
