@@ -55,9 +55,10 @@ mmap_at-found bytes c e =
     let len = field_at-found lengths p.value.1 q.value q.first in
     let prot = field_at-found prots q.value.1 r.value r.first in
     let end = finish-found r.value.1 _ c r.second in
-    subst (λ d. IsCommand d × (codes "mmap" ++ bytes ≡ line_of d)) end.1
-    ((process.1, omega (arith, len.1.most)),
-    ap (λ (t : List ℕ). codes "mmap" ++ t) (then_field _ (decimal p.value.0) _ _ process.0 (then_field _ (decimal q.value.0) _ _ len.0 (then_field _ (prot_text r.value.0) _ _ prot.0 end.0))))
+    subst (λ d. IsCommand d × (codes "mmap" ++ bytes ≡ line_of d)) end.1 (
+      (process.1, omega (arith, len.1.most)),
+      ap (λ (t : List ℕ). codes "mmap" ++ t) (then_field _ (decimal p.value.0) _ _ process.0 (then_field _ (decimal q.value.0) _ _ len.0 (then_field _ (prot_text r.value.0) _ _ prot.0 end.0))),
+    )
 
 pub read_at-found : IsReader (codes "read", read_at)
 unfolding read_at
@@ -69,9 +70,10 @@ read_at-found bytes c e =
     let address = field_at-found addresses p.value.1 q.value q.first in
     let len = field_at-found sizes q.value.1 r.value r.first in
     let end = finish-found r.value.1 _ c r.second in
-    subst (λ d. IsCommand d × (codes "read" ++ bytes ≡ line_of d)) end.1
-    ((process.1, address.1, len.1),
-    ap (λ (t : List ℕ). codes "read" ++ t) (then_field _ (decimal p.value.0) _ _ process.0 (then_field _ (hex q.value.0) _ _ address.0 (then_field _ (decimal r.value.0) _ _ len.0 end.0))))
+    subst (λ d. IsCommand d × (codes "read" ++ bytes ≡ line_of d)) end.1 (
+      (process.1, address.1, len.1),
+      ap (λ (t : List ℕ). codes "read" ++ t) (then_field _ (decimal p.value.0) _ _ process.0 (then_field _ (hex q.value.0) _ _ address.0 (then_field _ (decimal r.value.0) _ _ len.0 end.0))),
+    )
 
 pub write_at-found : IsReader (codes "write", write_at)
 unfolding write_at
@@ -83,9 +85,10 @@ write_at-found bytes c e =
     let address = field_at-found addresses p.value.1 q.value q.first in
     let found = field_at-found datas q.value.1 r.value r.first in
     let end = finish-found r.value.1 _ c r.second in
-    subst (λ d. IsCommand d × (codes "write" ++ bytes ≡ line_of d)) end.1
-    ((process.1, address.1, found.1),
-    ap (λ (t : List ℕ). codes "write" ++ t) (then_field _ (decimal p.value.0) _ _ process.0 (then_field _ (hex q.value.0) _ _ address.0 (then_field _ (hex_text r.value.0) _ _ found.0 end.0))))
+    subst (λ d. IsCommand d × (codes "write" ++ bytes ≡ line_of d)) end.1 (
+      (process.1, address.1, found.1),
+      ap (λ (t : List ℕ). codes "write" ++ t) (then_field _ (decimal p.value.0) _ _ process.0 (then_field _ (hex q.value.0) _ _ address.0 (then_field _ (hex_text r.value.0) _ _ found.0 end.0))),
+    )
 
 pub spawn_at-again : (p : ℕ) → IsProcess p → spawn_at (field (decimal p) ++ []) ≡ Some (commands.Spawn p)
 unfolding spawn_at finish

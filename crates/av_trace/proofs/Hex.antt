@@ -31,8 +31,8 @@ onto-append (suc k) n acc =
     elim (cases_Bool (eqb (n / 16) 0)) [
       | inl e ↦ let z = eqb-true _ _ e in onto-last k n acc z ∙ ap (λ (t : List ℕ). t ++ acc) (sym (onto-last k n [] z))
       | inr e ↦ let z = eqb-false _ _ e in
-        onto-more k n acc z ∙ onto-append k (n / 16) (glyph n ∷ acc) ∙ sym (append_assoc (onto k (n / 16) []) (glyph n ∷ []) acc)
-        ∙ ap (λ (t : List ℕ). t ++ acc) (sym (onto-more k n [] z ∙ onto-append k (n / 16) (glyph n ∷ [])))
+          onto-more k n acc z ∙ onto-append k (n / 16) (glyph n ∷ acc) ∙ sym (append_assoc (onto k (n / 16) []) (glyph n ∷ []) acc)
+          ∙ ap (λ (t : List ℕ). t ++ acc) (sym (onto-more k n [] z ∙ onto-append k (n / 16) (glyph n ∷ [])))
     ]
 
 smaller : (k n : ℕ) → n < 16 ^ suc k → n / 16 < 16 ^ k
@@ -45,9 +45,9 @@ onto-fuel (suc j) (suc k) n p q =
     elim (cases_Bool (eqb (n / 16) 0)) [
       | inl e ↦ let z = eqb-true _ _ e in onto-last (suc j) n [] z ∙ sym (onto-last (suc k) n [] z)
       | inr e ↦ let z = eqb-false _ _ e in
-        let front = onto-fuel j k (n / 16) (smaller (suc j) n p) (smaller (suc k) n q) in
-        onto-more (suc j) n [] z ∙ onto-append (suc j) (n / 16) (glyph n ∷ []) ∙ ap (λ (t : List ℕ). t ++ glyph n ∷ []) front
-        ∙ sym (onto-more (suc k) n [] z ∙ onto-append (suc k) (n / 16) (glyph n ∷ []))
+          let front = onto-fuel j k (n / 16) (smaller (suc j) n p) (smaller (suc k) n q) in
+          onto-more (suc j) n [] z ∙ onto-append (suc j) (n / 16) (glyph n ∷ []) ∙ ap (λ (t : List ℕ). t ++ glyph n ∷ []) front
+          ∙ sym (onto-more (suc k) n [] z ∙ onto-append (suc k) (n / 16) (glyph n ∷ []))
     ]
 
 pub hex_digit : (n : ℕ) → n < 16 → hex n ≡ digit_glyph false n ∷ []
@@ -76,35 +76,35 @@ pub hex_digit-found : (c d : ℕ) → hex_digit_of c ≡ Some d → IsHexDigit c
 hex_digit-found c d e =
     elim (cases_Bool (leb 48 c && leb c 57)) [
       | inl t ↦
-        let b = and_parts (leb 48 c) (leb c 57) t in
-        let low = leb-true 48 c b.0 in
-        let high = leb-true c 57 b.1 in
-        let v : c - 48 ≡ d = same_Some _ _ (sym (cond-true _ _ _ t) ∙ e) in
-        record { spelled = glyph_low d (omega arith) ∙ omega arith; small = omega arith; printed = low }
+          let b = and_parts (leb 48 c) (leb c 57) t in
+          let low = leb-true 48 c b.0 in
+          let high = leb-true c 57 b.1 in
+          let v : c - 48 ≡ d = same_Some _ _ (sym (cond-true _ _ _ t) ∙ e) in
+          record { spelled = glyph_low d (omega arith) ∙ omega arith; small = omega arith; printed = low }
       | inr f ↦
-        let e' = sym (cond-false _ _ _ f) ∙ e in
-        let p = cond_some (leb 97 c && leb c 102) (c - 87) d e' in
-        let b = and_parts (leb 97 c) (leb c 102) p.0 in
-        let low = leb-true 97 c b.0 in
-        let high = leb-true c 102 b.1 in
-        record { spelled = glyph_high d (omega (arith, p.1)) ∙ omega (arith, p.1); small = omega (arith, p.1); printed = omega arith }
+          let e' = sym (cond-false _ _ _ f) ∙ e in
+          let p = cond_some (leb 97 c && leb c 102) (c - 87) d e' in
+          let b = and_parts (leb 97 c) (leb c 102) p.0 in
+          let low = leb-true 97 c b.0 in
+          let high = leb-true c 102 b.1 in
+          record { spelled = glyph_high d (omega (arith, p.1)) ∙ omega (arith, p.1); small = omega (arith, p.1); printed = omega arith }
     ]
 
 pub hex_digit-again : (d : ℕ) → d < 16 → hex_digit_of (digit_glyph false d) ≡ Some d
 hex_digit-again d small =
     elim (cases_lt d 10) [
       | inl lt ↦
-        let from : leb 48 (48 + d) ≡ true = le-leb _ _ (omega arith) in
-        let to : leb (48 + d) 57 ≡ true = le-leb _ _ (omega arith) in
-        let value : 48 + d - 48 ≡ d = omega arith in
-        ap hex_digit_of (glyph_low d lt) ∙ cond-true (leb 48 (48 + d) && leb (48 + d) 57) _ _ (and_from _ _ from to) ∙ ap Some value
+          let from : leb 48 (48 + d) ≡ true = le-leb _ _ (omega arith) in
+          let to : leb (48 + d) 57 ≡ true = le-leb _ _ (omega arith) in
+          let value : 48 + d - 48 ≡ d = omega arith in
+          ap hex_digit_of (glyph_low d lt) ∙ cond-true (leb 48 (48 + d) && leb (48 + d) 57) _ _ (and_from _ _ from to) ∙ ap Some value
       | inr ge ↦
-        let past : leb (87 + d) 57 ≡ false = lt-leb _ _ (omega arith) in
-        let from : leb 97 (87 + d) ≡ true = le-leb _ _ (omega arith) in
-        let to : leb (87 + d) 102 ≡ true = le-leb _ _ (omega arith) in
-        let value : 87 + d - 87 ≡ d = omega arith in
-        ap hex_digit_of (glyph_high d ge) ∙ cond-false (leb 48 (87 + d) && leb (87 + d) 57) _ _ (and_right _ _ past)
-        ∙ cond-true (leb 97 (87 + d) && leb (87 + d) 102) _ _ (and_from _ _ from to) ∙ ap Some value
+          let past : leb (87 + d) 57 ≡ false = lt-leb _ _ (omega arith) in
+          let from : leb 97 (87 + d) ≡ true = le-leb _ _ (omega arith) in
+          let to : leb (87 + d) 102 ≡ true = le-leb _ _ (omega arith) in
+          let value : 87 + d - 87 ≡ d = omega arith in
+          ap hex_digit_of (glyph_high d ge) ∙ cond-false (leb 48 (87 + d) && leb (87 + d) 57) _ _ (and_right _ _ past)
+          ∙ cond-true (leb 97 (87 + d) && leb (87 + d) 102) _ _ (and_from _ _ from to) ∙ ap Some value
     ]
 
 pub record IsHex (word : List ℕ) (n : ℕ) : Type 0 where
@@ -198,15 +198,15 @@ written (suc k) n h small =
     elim (cases_lt n 16) [
       | inl lt ↦ one_digit n lt
       | inr ge ↦
-        let w = written k (n / 16) (smaller (suc k) n h) (omega arith) in
-        let step = hex_step n ge small in
-        record {
-          read = ap (hex_after 0) step ∙ hex_after-push 0 (hex (n / 16)) (glyph n) ∙ ap (λ o. o >>= λ m. hex_after m (glyph n ∷ [])) w.read ∙ last_step (n / 16) (n % 16) n (omega arith) (omega arith) small;
-          first = w.first;
-          others = w.others ++ glyph n ∷ [];
-          parts = step ∙ ap (λ (x : List ℕ). x ++ glyph n ∷ []) w.parts;
-          plain = λ _. w.plain (omega arith);
-        }
+          let w = written k (n / 16) (smaller (suc k) n h) (omega arith) in
+          let step = hex_step n ge small in
+          record {
+            read = ap (hex_after 0) step ∙ hex_after-push 0 (hex (n / 16)) (glyph n) ∙ ap (λ o. o >>= λ m. hex_after m (glyph n ∷ [])) w.read ∙ last_step (n / 16) (n % 16) n (omega arith) (omega arith) small;
+            first = w.first;
+            others = w.others ++ glyph n ∷ [];
+            parts = step ∙ ap (λ (x : List ℕ). x ++ glyph n ∷ []) w.parts;
+            plain = λ _. w.plain (omega arith);
+          }
     ]
 
 plain_cons : (c : ℕ) (cs : List ℕ) → (c ≡ 48 → ⊥) → has_plain_start (c ∷ cs) ≡ true

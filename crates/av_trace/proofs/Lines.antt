@@ -20,9 +20,9 @@ read_by-found [] name bytes c all e = absurd cc
 read_by-found (r ∷ rs) name bytes c all e =
     elim (cases_Bool (bytes_eq name r.0)) [
       | inl t ↦
-        let same : name ≡ r.0 = (bytes_eq-Decides name r.0).0 t in
-        let s = all.0 bytes c (sym (cond-true _ _ _ t) ∙ e) in
-        (s.0, ap (λ (n : List ℕ). n ++ bytes) same ∙ s.1)
+          let same : name ≡ r.0 = (bytes_eq-Decides name r.0).0 t in
+          let s = all.0 bytes c (sym (cond-true _ _ _ t) ∙ e) in
+          (s.0, ap (λ (n : List ℕ). n ++ bytes) same ∙ s.1)
       | inr t ↦ read_by-found rs name bytes c all.1 (sym (cond-false _ _ _ t) ∙ e)
     ]
 
