@@ -1,5 +1,5 @@
 -- Each command: what is read is in range and on its line, and what is in range is read from its line.
-use Rattle.std.proofs.Common.{◌≡◌, ℕ, ◌-◌, ◌^◌, ◌<◌, List, [], ◌∷◌, ◌++◌, Option, Some, None, refl, sym, ap, subst, ◌∙◌, arith, lit<}
+use Rattle.std.proofs.Common.{◌≡◌, ℕ, ◌-◌, ◌^◌, List, [], ◌∷◌, ◌++◌, Some, refl, ap, subst, ◌∙◌, arith, lit<}
 use Rattle.std.specs.Prelude.{codes}
 use Rattle.std.specs.Fmt.{decimal}
 use Rattle.std.proofs.lemmas.Option.{same_Some}
@@ -11,7 +11,7 @@ use Rattle.av_trace.specs.Grammar.{field, hex, hex_text, prot_text, IsNumberIn, 
 use Rattle.av_trace.specs.Reading.{Reader, decimal_between, finish, spawn_at, mmap_at, read_at, write_at}
 use Rattle.av_trace.proofs.Steps.{bind_some}
 use Rattle.av_trace.proofs.WordLaws.{Reads, field_at-found, field_at-again, numbers}
-use Rattle.av_trace.proofs.FieldLaws.{prots, addresses, datas}
+use Rattle.av_trace.proofs.FieldLaws.{prots, addresses, byte_words}
 
 -- a reader gets the commands that have this name, from the rest of their lines
 abbrev pub IsReader : List ℕ × Reader → Type 0
@@ -83,7 +83,7 @@ write_at-found bytes c e =
     let r = bind_some {A = List ℕ × List ℕ} _ _ _ q.second in
     let process = field_at-found processes bytes p.value p.first in
     let address = field_at-found addresses p.value.1 q.value q.first in
-    let found = field_at-found datas q.value.1 r.value r.first in
+    let found = field_at-found byte_words q.value.1 r.value r.first in
     let end = finish-found r.value.1 _ c r.second in
     subst (λ d. IsCommand d × (codes "write" ++ bytes ≡ line_of d)) end.1 (
       (process.1, address.1, found.1),
@@ -119,5 +119,5 @@ unfolding write_at finish
 write_at-again p address found h small is =
     let first = field_at-again processes p (field (hex address) ++ (field (hex_text found) ++ [])) h refl in
     let second = field_at-again addresses address (field (hex_text found) ++ []) small refl in
-    let third = field_at-again datas found [] is tt in
+    let third = field_at-again byte_words found [] is tt in
     rw (first, second, third) refl

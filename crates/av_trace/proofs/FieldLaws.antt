@@ -1,11 +1,10 @@
 -- Each kind of word: what is read is in range and so spelled, and what is in range is read from its spelling.
-use Rattle.std.proofs.Common.{zero, suc, Bool, true, false, ◌≡◌, ℕ, ◌*◌, ◌/◌, ◌%◌, ◌<◌, ◌≤◌, List, [], ◌∷◌, ◌++◌, length, Option, Some, None, refl, sym, ap, subst, ◌∙◌, arith, inl, inr, eqb, leb}
+use Rattle.std.proofs.Common.{zero, suc, Bool, true, false, ◌≡◌, ℕ, ◌*◌, ◌/◌, ◌%◌, ◌≤◌, List, [], ◌∷◌, length, Some, refl, sym, ap, subst, ◌∙◌, arith, inl, inr, eqb, leb}
 use Rattle.std.specs.Prelude.{◌&&◌}
-use Rattle.std.specs.List.{AllByRecursion}
 use Rattle.std.proofs.lemmas.Bool.{cases_Bool, cond-true, cond-false, ne_eqb, eq-eqb, eqb-true, and_parts, and_from, leb-true, le-leb}
 use Rattle.std.proofs.lemmas.Option.{same_Some}
 use Rattle.av_vma.specs.declared.area.Prot.{Prot}
-use Rattle.av_trace.specs.Grammar.{hex, hex_text, letter, prot_text, IsNumberIn, IsWide, IsByte, IsData}
+use Rattle.av_trace.specs.Grammar.{hex, hex_text, letter, prot_text, IsWide, IsData}
 use Rattle.av_trace.specs.Reading.{hex_of, pairs_of, data_of, letter_of, prot_of}
 use Rattle.av_trace.proofs.Steps.{bind_some, cond_found}
 use Rattle.av_trace.proofs.WordLaws.{IsWord, Reads}
@@ -109,8 +108,8 @@ data_of-again bytes is =
     let few : (leb 2 (length (hex_text bytes)) && leb (length (hex_text bytes)) 8192) ≡ true = and_from _ _ (le-leb _ _ low) (le-leb _ _ high) in
     cond-true _ _ _ few ∙ pairs_of-again bytes is.1
 
-pub datas : Reads data_of IsData hex_text
-datas = record {
+pub byte_words : Reads data_of IsData hex_text
+byte_words = record {
   found = data_of-found;
   again = data_of-again;
   words = λ bytes _. hex_text-word bytes;

@@ -1,16 +1,13 @@
 -- Numbers in hexadecimal digits, as `{:x}` writes them.
-use Rattle.std.proofs.Common.{not, ◌-◌, leb, ltb, Option, Some, None, ◌≡◌, ℕ, zero, suc, ◌+◌, ◌*◌, ◌/◌, ◌%◌, ◌^◌, ◌<◌, ◌≤◌, Bool, true, false, cond, eqb, List, [], ◌∷◌, ◌++◌, length, get_or, refl, sym, ap, subst, ◌∙◌, arith, inl, inr, append_assoc, append-nil, ◌⊎◌}
-use Rattle.std.specs.Prelude.{◌&&◌, ◌==◌, if◌then◌else◌}
+use Rattle.std.proofs.Common.{not, ◌-◌, leb, ltb, Option, Some, None, ◌≡◌, ℕ, zero, suc, ◌+◌, ◌*◌, ◌/◌, ◌%◌, ◌^◌, ◌<◌, ◌≤◌, Bool, true, false, eqb, List, [], ◌∷◌, ◌++◌, length, get_or, refl, sym, ap, subst, ◌∙◌, arith, inl, inr, append_assoc, append-nil}
+use Rattle.std.specs.Prelude.{◌&&◌, if◌then◌else◌}
 use Rattle.std.specs.Fmt.{digits, digits_onto, digit_glyph}
 use Rattle.std.proofs.Math.Nat.{pow-suc}
-use Rattle.std.specs.Char.{digit_value}
-use Rattle.std.specs.Str.Parse.{digits_value, digits_value_after}
-use Rattle.std.proofs.lemmas.Bool.Decides.{nat_tests}
 use Rattle.std.proofs.lemmas.Bool.{cases_Bool, eqb-true, eqb-false, cond-true, cond-false, eq-eqb, ne_eqb, cases_eq, cases_lt, and_parts, and_from, and_right, leb-true, le-leb, lt-leb, lt-ltb, le-ltb, ltb-true}
 use Rattle.std.proofs.lemmas.Option.{cond_some, same_Some}
 use Rattle.av_trace.specs.Grammar.{hex}
 use Rattle.av_trace.specs.Reading.{◌>>=◌, has_plain_start, hex_digit_of, hex_after, hex_of}
-use Rattle.av_trace.proofs.Steps.{Found, bind_some, cond_found}
+use Rattle.av_trace.proofs.Steps.{bind_some, cond_found}
 
 abbrev onto : ℕ → ℕ → List ℕ → List ℕ
 onto k n acc = digits_onto k 16 false n acc

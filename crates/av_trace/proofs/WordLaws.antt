@@ -1,5 +1,5 @@
 -- A word of a line: where it ends, and how it is read.
-use Rattle.std.proofs.Common.{zero, suc, Bool, true, false, ◌≡◌, ℕ, ◌^◌, ◌<◌, List, [], ◌∷◌, ◌++◌, length, get_or, take, drop, Option, Some, None, refl, sym, ap, subst, ◌∙◌, arith, inl, inr, add-zero, nat_lt, eqb, ltb}
+use Rattle.std.proofs.Common.{true, ◌≡◌, ℕ, ◌^◌, ◌<◌, List, [], ◌∷◌, ◌++◌, length, get_or, take, drop, Option, Some, None, refl, sym, ap, subst, ◌∙◌, arith, inl, inr, add-zero, nat_lt, eqb, ltb}
 use Rattle.std.specs.Prelude.{◌==◌, nat_le, ◌&&◌, IfSome, IfNone}
 use Rattle.std.specs.Fmt.{decimal}
 use Rattle.std.specs.Str.{all_ascii_digits}

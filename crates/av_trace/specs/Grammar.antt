@@ -81,6 +81,10 @@ line_of (commands.Mmap p len prot place) = line (codes "mmap") (decimal p ∷ de
 line_of (commands.Read p address len) = line (codes "read") (decimal p ∷ hex address ∷ decimal len ∷ [])
 line_of (commands.Write p address bytes) = line (codes "write") (decimal p ∷ hex address ∷ hex_text bytes ∷ [])
 
+-- a text begins with these bytes
+abbrev pub BeginsWith : List ℕ → List ℕ → Type 0
+BeginsWith front text = (rest : List ℕ) × (text ≡ front ++ rest)
+
 -- what a line says: a command, or nothing, which no line says yet
 abbrev pub Says : List ℕ → Option Command → Type 0
 Says line None = ⊥

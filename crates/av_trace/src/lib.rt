@@ -7,6 +7,8 @@ mod fields;
 mod parse;
 mod print;
 mod reply;
+#[cfg(test)]
+mod tests;
 mod words;
 
 pub use bytes::Bytes;

@@ -1,9 +1,9 @@
 //! Lines as commands.
 
-ghost use Rattle.std.specs.Prelude.{◌≡◌, List, ℕ, Option, IfOk, IsErrOf};
+ghost use Rattle.std.specs.Prelude.{◌≡◌, List, ℕ, Option, codes, take, IfOk, OnErr, IsErrOf};
 ghost use Rattle.av_trace.specs.declared.command.Command.{Command as AnyCommand};
-ghost use Rattle.av_trace.specs.Grammar.{Says};
-ghost use Rattle.av_trace.specs.Reading.{finish, spawn_at, mmap_at, read_at, write_at, command_at, command_of};
+ghost use Rattle.av_trace.specs.Grammar.{BeginsWith, Says};
+ghost use Rattle.av_trace.specs.Reading.{word_len, finish, spawn_at, mmap_at, read_at, write_at, command_at, command_of};
 
 use crate::command::{Command, Place};
 use crate::fields::{address, data_field, number, process, prot, split_word};
@@ -90,7 +90,8 @@ fn write(alloc: Global, bytes: &[u8]) -> Result<Option<Command>, AllocError>
 
 #[tactic(auto, unfolding(crate::specs::Reading::command_at))]
 fn command(alloc: Global, name: &[u8], bytes: &[u8]) -> Result<Option<Command>, AllocError>
-    ensures { IfOk result (λ found. found ≡ command_at name.now bytes.now) }
+    ensures found { IfOk result (λ found. found ≡ command_at name.now bytes.now) }
+    ensures memory { OnErr result (name.now ≡ codes "write") }
 {
     if name == b"spawn".as_slice() {
         Ok(spawn(bytes))
@@ -107,7 +108,8 @@ fn command(alloc: Global, name: &[u8], bytes: &[u8]) -> Result<Option<Command>, 
 
 #[tactic(auto, unfolding(crate::specs::Reading::command_of))]
 fn whole_line(alloc: Global, line: &[u8]) -> Result<Option<Command>, AllocError>
-    ensures { IfOk result (λ found. found ≡ command_of line.now) }
+    ensures found { IfOk result (λ found. found ≡ command_of line.now) }
+    ensures memory { OnErr result (take (word_len line.now) line.now ≡ codes "write") }
 {
     let (name, rest) = split_word(line);
     command(alloc, name, rest)
@@ -119,6 +121,8 @@ pub fn parse_line(alloc: Global, line: &[u8]) -> Result<Option<Command>, LineFau
     ensures found { IfOk result (λ said. Says line.now said) }
     // A line is bad only if it says nothing.
     ensures bad { IsErrOf result LineFault.Bad → (said : Option AnyCommand) → Says line.now said → ⊥ }
+    // Only what begins as a write takes memory.
+    ensures memory { IsErrOf result LineFault.Memory → BeginsWith (codes "write") line.now }
 {
     match whole_line(alloc, line) {
         Ok(Some(command)) => Ok(Some(command)),

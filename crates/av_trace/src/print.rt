@@ -320,26 +320,37 @@ fn row_line(text: &mut Bytes, row: Row) -> Result<(), AllocError>
     }
 }
 
-/// The notes, each on a line that begins with a space.
+/// What begins the line of a note or a row.
+fn begin_row(text: &mut Bytes) -> Result<(), AllocError>
+    ensures { OnOk result (text.new ≡ text.old ++ 32 ∷ []) }
+{
+    text.append(b" ")
+}
+
+fn end_line(text: &mut Bytes) -> Result<(), AllocError>
+    ensures { OnOk result (text.new ≡ text.old ++ 10 ∷ []) }
+{
+    text.append(b"\n")
+}
+
 fn add_notes(text: &mut Bytes, notes: &[Note]) -> Result<(), AllocError>
     ensures { OnOk result (text.new ≡ text.old ++ flat_map (λ note. ended (field (line_of_note note))) notes.now) }
 {
     for note in notes {
-        text.append(b" ")?;
+        begin_row(text)?;
         note_line(text, *note)?;
-        text.append(b"\n")?;
+        end_line(text)?;
     }
     Ok(())
 }
 
-/// The rows, each on a line that begins with a space.
 fn add_rows(text: &mut Bytes, rows: &[Row]) -> Result<(), AllocError>
     ensures { OnOk result (text.new ≡ text.old ++ flat_map (λ row. ended (field (line_of_row row))) rows.now) }
 {
     for row in rows {
-        text.append(b" ")?;
+        begin_row(text)?;
         row_line(text, *row)?;
-        text.append(b"\n")?;
+        end_line(text)?;
     }
     Ok(())
 }
@@ -351,7 +362,7 @@ pub fn reply_text(reply: &Reply, text: &mut Bytes) -> Result<(), AllocError>
     ensures { OnOk result (text.new ≡ text.old ++ text_of reply.now) }
 {
     answer_line(text, &reply.answer)?;
-    text.append(b"\n")?;
+    end_line(text)?;
     add_notes(text, reply.notes.as_slice())?;
     add_rows(text, reply.rows.as_slice())
 }

@@ -1,4 +1,4 @@
-use Rattle.std.proofs.Common.{◌≤◌, arith, length}
+use Rattle.std.proofs.Common.{arith}
 use Rattle.av_trace.specs.Reading.{pairs_of}
 use Rattle.av_trace.proofs.Pairs.{pairs_step}
 use Rattle.av_trace.proofs.fields.pairs.Goals as goal
