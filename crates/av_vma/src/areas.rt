@@ -50,7 +50,8 @@ impl Areas {
         requires used { IsSome (area_of self.now id) }
         ensures { area_of self.now id ≡ Some result }
     {
-        self.slab[id as usize]
+        let area = &self.slab[id as usize];
+        *area
     }
 
     /// Puts `area` in place of the one with this number, which is in use.

@@ -1,4 +1,4 @@
-ghost use Rattle.std.specs.Prelude.{◌≡◌, ℕ, ◌-◌, ◌<◌, ◌≤◌, [], Some, None, true, false, is_ok, is_some, IfSome, IsSomeAnd, OnOk, if◌then◌else◌};
+ghost use Rattle.std.specs.Prelude.{◌≡◌, ℕ, ◌-◌, ◌<◌, ◌≤◌, [], Some, None, true, false, is_ok, IfSome, IsSome, IsSomeAnd, OnOk, if◌then◌else◌};
 ghost use Rattle.av_vma.specs.Gap.{low_page, top_page, IsGap};
 ghost use Rattle.av_vma.specs.Ranges.{within, with_at};
 ghost use Rattle.av_vmatree.specs.Spans.{AreSpans, IsFree, IsMet, area_after, area_at, area_before, holds, span, span_of, taken, unless_area, with_span, without_area};
@@ -73,7 +73,7 @@ impl Tree {
 
     /// Takes out an area that is there.
     pub fn remove(&mut self, area: AreaId)
-        requires there { is_some (span_of self.old area) ≡ true }
+        requires there { IsSome (span_of self.old area) }
         ensures spans { self.new ≡ without_area area self.old }
         ensures areas { (number : ℕ) → span_of self.new number ≡ with_at area None (span_of self.old) number }
         ensures pages { (page : ℕ) → area_at self.new page ≡ unless_area area (area_at self.old page) }
@@ -131,11 +131,11 @@ impl Tree {
         let mut nearest = None;
         let mut part = &self.spans;
         'down: while let Some((left, span, right)) = part.parts() {
-            if page < span.from {
+            if span.from <= page {
+                part = right;
+            } else {
                 nearest = Some(span.area);
                 part = left;
-            } else {
-                part = right;
             }
         }
         nearest

@@ -1,4 +1,4 @@
-use Rattle.std.proofs.Common.{◌≡◌, ◌∙◌, subst, Some, None}
+use Rattle.std.proofs.Common.{◌∙◌, subst}
 use Rattle.av_vmatree.specs.Spans.{AreApart}
 use Rattle.av_vmatree.proofs.Spans.{apart_left, apart_right, before_left, before_right}
 use Rattle.av_vmatree.proofs.tree.Tree.before.Goals as goal

@@ -1,6 +1,6 @@
 use Rattle.std.proofs.Common.{refl}
 use Rattle.av_vmatree.specs.Spans.{span}
-use Rattle.av_vmatree.proofs.Spans.{IsInserted, inserted_span, room_more, tells_insert}
+use Rattle.av_vmatree.proofs.Spans.{inserted_span, room_more, tells_insert}
 use Rattle.av_vmatree.proofs.tree.Tree.insert.Goals as goal
 
 pub insert-requires-2 : goal.insert-requires-2

@@ -1,4 +1,4 @@
-use Rattle.std.proofs.Common.{◌≡◌, ◌≤◌, ◌<◌, ◌∙◌, sym, ap, subst, max, is_some, arith}
+use Rattle.std.proofs.Common.{◌≤◌, ◌<◌, ◌∙◌, sym, ap, subst, max, is_some, arith}
 use Rattle.av_vmatree.specs.Spans.{AreApart}
 use Rattle.av_vmatree.proofs.Spans.{at_left, at_right, at_here, apart_left, apart_right, wide_at}
 use Rattle.av_vmatree.proofs.tree.Tree.is_free.Goals as goal

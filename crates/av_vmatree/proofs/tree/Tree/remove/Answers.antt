@@ -1,5 +1,5 @@
 use Rattle.std.proofs.Common.{◌∙◌, refl, sym}
-use Rattle.av_vmatree.proofs.Spans.{IsRemoved, removed, room_here, tells_remove}
+use Rattle.av_vmatree.proofs.Spans.{removed, room_here, tells_remove}
 use Rattle.av_vmatree.proofs.tree.Tree.remove.Goals as goal
 
 pub remove-requires-2 : goal.remove-requires-2
