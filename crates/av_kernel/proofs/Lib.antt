@@ -1,0 +1,4 @@
+pub mod AccessPages
+pub mod AccessBytes
+pub mod AccessParts
+pub mod AccessSteps
