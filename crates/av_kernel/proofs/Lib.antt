@@ -1,0 +1,4 @@
+pub mod Parts
+pub mod Fresh
+pub mod Commands
+pub mod Counting

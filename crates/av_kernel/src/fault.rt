@@ -1,0 +1,1 @@
+//! Making a page ready for an access: the page fault.
