@@ -52,7 +52,7 @@ gap_below is_taken from n {page} is some low high below above = (
             let top = room.highest in
             absurd (not_free (is_taken (other + n - 1)) (room.free (other + n - 1) (omega (arith, some)) (omega (arith, some))) (above (other + n - 1) (omega (arith, is, low, some, more)) (omega (arith, some, top))))
 
-first_run-runs : Runs 4 first_run
+pub first_run-runs : Runs 4 first_run
 first_run-runs = by_steps (machine 4) (at_first (machine 4)) first_run (
     ([], 0 ∷ 1 ∷ 2 ∷ 3 ∷ [], record { answer = (refl, refl, refl); notes = refl }, refl,
     ([], 0 ∷ 1 ∷ 2 ∷ 3 ∷ [], record { answer = (Some 0x7fffffffe, (record { lowest = omega arith; highest = omega arith; free = λ q a b. refl }, (λ b h. omega (arith, h.highest))), refl, refl, refl); notes = refl }, refl,
@@ -60,7 +60,7 @@ first_run-runs = by_steps (machine 4) (at_first (machine 4)) first_run (
     (Used false (1, 0x7fffffffe) ∷ [], 1 ∷ 2 ∷ 3 ∷ [], record { answer = (Whole, 0 ∷ 65 ∷ 0 ∷ [], ([], Served, [], (refl, record { coming = []; making = []; whole = refl; comes_in = refl; made = refl }), refl, (refl, refl)), (refl, (refl, (refl, (refl, tt)))), refl, refl); notes = refl }, (1 ∷ 2 ∷ 3 ∷ [], refl, refl),
     tt)))))
 
-zero_first-runs : Runs 4 zero_first
+pub zero_first-runs : Runs 4 zero_first
 zero_first-runs = by_steps (machine 4) (at_first (machine 4)) zero_first (
     ([], 0 ∷ 1 ∷ 2 ∷ 3 ∷ [], record { answer = (refl, refl, refl); notes = refl }, refl,
     ([], 0 ∷ 1 ∷ 2 ∷ 3 ∷ [], record { answer = (Some 0x7fffffffe, (record { lowest = omega arith; highest = omega arith; free = λ q a b. refl }, (λ b h. omega (arith, h.highest))), refl, refl, refl); notes = refl }, refl,
@@ -71,7 +71,7 @@ zero_first-runs = by_steps (machine 4) (at_first (machine 4)) zero_first (
     (Used false (1, 0x7fffffffe) ∷ [], 1 ∷ 2 ∷ 3 ∷ [], record { answer = (Whole, 1 ∷ 2 ∷ [], ([], Served, [], (refl, record { coming = []; making = []; whole = refl; comes_in = refl; made = refl }), refl, (refl, refl)), (refl, (refl, (refl, tt))), refl, refl); notes = refl }, (1 ∷ 2 ∷ 3 ∷ [], refl, refl),
     tt))))))))
 
-one_frame-runs : Runs 1 one_frame
+pub one_frame-runs : Runs 1 one_frame
 one_frame-runs = by_steps (machine 1) (at_first (machine 1)) one_frame (
     ([], 0 ∷ [], record { answer = (refl, refl, refl); notes = refl }, refl,
     ([], 0 ∷ [], record { answer = (Some 0x7fffffffd, (record { lowest = omega arith; highest = omega arith; free = λ q a b. refl }, (λ b h. omega (arith, h.highest))), refl, refl, refl); notes = refl }, refl,
@@ -80,7 +80,7 @@ one_frame-runs = by_steps (machine 1) (at_first (machine 1)) one_frame (
     ([], [], record { answer = (Stopped 0x7fffffffe (Starved (record { pinned = 0; noslot = 1; fault = 0 })), ([], Starved (record { pinned = 0; noslot = 1; fault = 0 }), [], (refl, record { coming = []; sought = []; whole = refl; before = inl refl; wants = refl; seeks = refl; none = refl; numbers = refl }), refl, (refl, refl)), refl, refl); notes = refl }, refl,
     tt))))))
 
-part_denied-runs : Runs 4 part_denied
+pub part_denied-runs : Runs 4 part_denied
 part_denied-runs = by_steps (machine 4) (at_first (machine 4)) part_denied (
     ([], 0 ∷ 1 ∷ 2 ∷ 3 ∷ [], record { answer = (refl, refl, refl); notes = refl }, refl,
     ([], 0 ∷ 1 ∷ 2 ∷ 3 ∷ [], record { answer = (Some 0x7fffffffe, (record { lowest = omega arith; highest = omega arith; free = λ q a b. refl }, (λ b h. omega (arith, h.highest))), refl, refl, refl); notes = refl }, refl,
@@ -92,7 +92,7 @@ part_denied-runs = by_steps (machine 4) (at_first (machine 4)) part_denied (
     ([], 1 ∷ 2 ∷ 3 ∷ [], record { answer = (Stopped 0x7fffffffc Denied, [], ([], Denied, [], (refl, refl), refl, (refl, refl)), (refl, tt), refl, refl); notes = refl }, refl,
     tt)))))))))
 
-two_processes-runs : Runs 4 two_processes
+pub two_processes-runs : Runs 4 two_processes
 two_processes-runs = by_steps (machine 4) (at_first (machine 4)) two_processes (
     ([], 0 ∷ 1 ∷ 2 ∷ 3 ∷ [], record { answer = (refl, refl, refl); notes = refl }, refl,
     ([], 0 ∷ 1 ∷ 2 ∷ 3 ∷ [], record { answer = (refl, refl, refl); notes = refl }, refl,
@@ -106,7 +106,7 @@ two_processes-runs = by_steps (machine 4) (at_first (machine 4)) two_processes (
     (Used false (3, 0x7fffffffe) ∷ [], 2 ∷ 3 ∷ [], record { answer = (Whole, 6 ∷ [], ([], Served, [], (refl, record { coming = []; making = []; whole = refl; comes_in = refl; made = refl }), refl, (refl, refl)), (refl, (refl, tt)), refl, refl); notes = refl }, (2 ∷ 3 ∷ [], refl, refl),
     tt)))))))))))
 
-refusals-runs : Runs 4 refusals
+pub refusals-runs : Runs 4 refusals
 refusals-runs = by_steps (machine 4) (at_first (machine 4)) refusals (
     ([], 0 ∷ 1 ∷ 2 ∷ 3 ∷ [], record { answer = (refl, refl, refl); notes = refl }, refl,
     ([], 0 ∷ 1 ∷ 2 ∷ 3 ∷ [], record { answer = (refl, refl, refl); notes = refl }, refl,
@@ -121,7 +121,7 @@ refusals-runs = by_steps (machine 4) (at_first (machine 4)) refusals (
     ([], 0 ∷ 1 ∷ 2 ∷ 3 ∷ [], record { answer = (Stopped 0x10 Denied, [], ([], Denied, [], (refl, refl), refl, (refl, refl)), (refl, tt), refl, refl); notes = refl }, refl,
     tt))))))))))))
 
-all_mapped-runs : Runs 4 all_mapped
+pub all_mapped-runs : Runs 4 all_mapped
 all_mapped-runs = by_steps (machine 4) (at_first (machine 4)) all_mapped (
     ([], 0 ∷ 1 ∷ 2 ∷ 3 ∷ [], record { answer = (refl, refl, refl); notes = refl }, refl,
     ([], 0 ∷ 1 ∷ 2 ∷ 3 ∷ [], record { answer = (Some 0x10, (record { lowest = omega arith; highest = omega arith; free = λ q a b. refl }, (λ b h. omega (arith, h.highest))), refl, refl, refl); notes = refl }, refl,

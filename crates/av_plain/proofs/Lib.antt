@@ -18,3 +18,5 @@ pub mod SoundBound
 pub mod SoundMeans
 pub mod OutOfMemory
 pub mod FirstRows
+pub mod SwapRows
+pub mod LedgerRows

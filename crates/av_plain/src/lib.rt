@@ -4,6 +4,10 @@
 //! No function does anything. Each one's contract is a law, proved of the definitions alone.
 #![tactic(auto)]
 
+mod rows;
+
+pub use rows::{ledger_rows_lead, rows_run, shared_rows_run, swap_rows_run};
+
 ghost use Rattle.std.specs.Prelude.{◌≡◌, ℕ, ◌+◌, List, []};
 ghost use Rattle.av_trace.specs.declared.command.Command.{Command};
 ghost use Rattle.av_trace.specs.declared.reply.OutOf.{OutOf};
