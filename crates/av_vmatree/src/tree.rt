@@ -1,12 +1,13 @@
-ghost use Rattle.std.specs.Prelude.{◌≡◌, ℕ, ◌-◌, ◌<◌, ◌≤◌, [], Some, None, true, false, is_ok, IfSome, IsSomeAnd, OnOk, if◌then◌else◌};
+ghost use Rattle.std.specs.Prelude.{◌≡◌, ℕ, ◌-◌, ◌<◌, ◌≤◌, [], Some, None, true, false, is_ok, is_some, IfSome, IsSomeAnd, OnOk, if◌then◌else◌};
 ghost use Rattle.av_vma.specs.Gap.{low_page, top_page, IsGap};
 ghost use Rattle.av_vma.specs.Ranges.{within, with_at};
-ghost use Rattle.av_vmatree.specs.Spans.{AreSpans, IsFree, IsMet, area_at, holds, span, span_of, taken, with_span};
+ghost use Rattle.av_vmatree.specs.Spans.{AreSpans, IsFree, IsMet, area_after, area_at, area_before, holds, span, span_of, taken, unless_area, with_span, without_area};
 
 use crate::gap::gap_in;
 use crate::span::Span;
 use av_tree::Avl;
 use std::alloc::{AllocError, Global};
+use std::collections::BTreeMap;
 use std::marker::Model;
 
 /// The lowest page that can be mapped.
@@ -21,19 +22,21 @@ pub const TOP_PAGE: u64 = 0x7ffffffff;
 #[derive(Drop)]
 pub struct Tree {
     spans: Avl<Span>,
+    /// The page that each area begins with.
+    starts: BTreeMap<u64, u64>,
     alloc: Global,
 }
 
 impl Model for Tree {
     ghost use Rattle.std.specs.Prelude.{List};
     ghost use Rattle.av_vmatree.specs.declared.span.Span.{Span};
-    ghost use Rattle.av_vmatree.specs.Spans.{AreSpans};
+    ghost use Rattle.av_vmatree.specs.Spans.{AreSpans, TellsStarts};
 
     ghost Value = { List Span };
 
     ghost view = { λ t. t.spans.0 };
 
-    ghost invariant = { λ t. AreSpans t.spans.0 };
+    ghost invariant = { λ t. AreSpans t.spans.0 × TellsStarts t.starts t.spans.0 };
 }
 
 impl Tree {
@@ -43,6 +46,7 @@ impl Tree {
     {
         Tree {
             spans: Avl::new(),
+            starts: BTreeMap::new(alloc),
             alloc,
         }
     }
@@ -59,7 +63,32 @@ impl Tree {
         ensures pages { OnOk result ((page : ℕ) → area_at self.new page ≡ (if within from (to - from) page then Some area else area_at self.old page)) }
         ensures kept { AreSpans self.new }
     {
-        self.spans.insert(self.alloc, Span { from, to, area })
+        self.starts.insert(area, from)?;
+        match self.spans.insert(self.alloc, Span { from, to, area }) {
+            Ok(()) => Ok(()),
+            Err(error) => {
+                self.starts.remove(&area);
+                Err(error)
+            }
+        }
+    }
+
+    /// Takes out an area that is there.
+    pub fn remove(&mut self, area: u64)
+        requires there { is_some (span_of self.old area) ≡ true }
+        ensures spans { self.new ≡ without_area area self.old }
+        ensures areas { (number : ℕ) → span_of self.new number ≡ with_at area None (span_of self.old) number }
+        ensures pages { (page : ℕ) → area_at self.new page ≡ unless_area area (area_at self.old page) }
+        ensures kept { AreSpans self.new }
+    {
+        let Some(from) = self.starts.remove(&area) else {
+            unreachable!()
+        };
+        self.spans.remove(&Span {
+            from,
+            to: from,
+            area,
+        });
     }
 
     /// The area that holds the page.
@@ -78,6 +107,40 @@ impl Tree {
             }
         }
         None
+    }
+
+    /// The nearest area wholly below the page.
+    pub fn before(&self, page: u64) -> Option<u64>
+        ensures { result ≡ area_before self.now page }
+    {
+        let mut nearest = None;
+        let mut cur = &self.spans;
+        'down: while let Some((left, span, right)) = cur.parts() {
+            if span.to <= page {
+                nearest = Some(span.area);
+                cur = right;
+            } else {
+                cur = left;
+            }
+        }
+        nearest
+    }
+
+    /// The nearest area wholly above the page.
+    pub fn after(&self, page: u64) -> Option<u64>
+        ensures { result ≡ area_after self.now page }
+    {
+        let mut nearest = None;
+        let mut cur = &self.spans;
+        'down: while let Some((left, span, right)) = cur.parts() {
+            if page < span.from {
+                nearest = Some(span.area);
+                cur = left;
+            } else {
+                cur = right;
+            }
+        }
+        nearest
     }
 
     /// Whether no area holds a page from `from` to below `to`.
