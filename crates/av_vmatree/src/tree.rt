@@ -6,24 +6,20 @@ ghost use Rattle.av_vmatree.specs.Spans.{AreSpans, IsFree, IsMet, area_after, ar
 use crate::gap::gap_in;
 use crate::span::Span;
 use av_tree::Avl;
+use av_vma::AreaId;
 use std::alloc::{AllocError, Global};
 use std::collections::BTreeMap;
 use std::marker::Model;
 
-/// The lowest page that can be mapped.
-pub const LOW_PAGE: u64 = 16;
-
-/// The first page that no process can have.
-pub const TOP_PAGE: u64 = 0x7ffffffff;
-
 /// The areas of one process, seen as the list of their spans in the order of their pages.
 ///
+/// Pages go by number, which is their address over 4096. A call takes time logarithmic in the number of areas.
 /// No two spans share a page or an area, and each lies from page 16 to below page 0x7ffffffff.
 #[derive(Drop)]
 pub struct Tree {
     spans: Avl<Span>,
     /// The page that each area begins with.
-    starts: BTreeMap<u64, u64>,
+    starts: BTreeMap<AreaId, u64>,
     alloc: Global,
 }
 
@@ -51,8 +47,10 @@ impl Tree {
         }
     }
 
-    /// Puts in an area on free pages. Without memory all stays.
-    pub fn insert(&mut self, area: u64, from: u64, to: u64) -> Result<(), AllocError>
+    /// Puts in an area, new to the process, with the pages from `from` to below `to`, all of them free.
+    ///
+    /// Without memory all stays.
+    pub fn insert(&mut self, area: AreaId, from: u64, to: u64) -> Result<(), AllocError>
         requires some { from < to }
         requires low { low_page ≤ from }
         requires high { to ≤ top_page }
@@ -74,7 +72,7 @@ impl Tree {
     }
 
     /// Takes out an area that is there.
-    pub fn remove(&mut self, area: u64)
+    pub fn remove(&mut self, area: AreaId)
         requires there { is_some (span_of self.old area) ≡ true }
         ensures spans { self.new ≡ without_area area self.old }
         ensures areas { (number : ℕ) → span_of self.new number ≡ with_at area None (span_of self.old) number }
@@ -92,16 +90,16 @@ impl Tree {
     }
 
     /// The area that holds the page.
-    pub fn find(&self, page: u64) -> Option<u64>
+    pub fn find(&self, page: u64) -> Option<AreaId>
         ensures area { result ≡ area_at self.now page }
         ensures span { IfSome result (λ area. IsSomeAnd (span_of self.now area) (λ s. holds s page ≡ true)) }
     {
-        let mut cur = &self.spans;
-        'down: while let Some((left, span, right)) = cur.parts() {
+        let mut part = &self.spans;
+        'down: while let Some((left, span, right)) = part.parts() {
             if page < span.from {
-                cur = left;
+                part = left;
             } else if span.to <= page {
-                cur = right;
+                part = right;
             } else {
                 return Some(span.area);
             }
@@ -110,34 +108,34 @@ impl Tree {
     }
 
     /// The nearest area wholly below the page.
-    pub fn before(&self, page: u64) -> Option<u64>
+    pub fn before(&self, page: u64) -> Option<AreaId>
         ensures { result ≡ area_before self.now page }
     {
         let mut nearest = None;
-        let mut cur = &self.spans;
-        'down: while let Some((left, span, right)) = cur.parts() {
+        let mut part = &self.spans;
+        'down: while let Some((left, span, right)) = part.parts() {
             if span.to <= page {
                 nearest = Some(span.area);
-                cur = right;
+                part = right;
             } else {
-                cur = left;
+                part = left;
             }
         }
         nearest
     }
 
     /// The nearest area wholly above the page.
-    pub fn after(&self, page: u64) -> Option<u64>
+    pub fn after(&self, page: u64) -> Option<AreaId>
         ensures { result ≡ area_after self.now page }
     {
         let mut nearest = None;
-        let mut cur = &self.spans;
-        'down: while let Some((left, span, right)) = cur.parts() {
+        let mut part = &self.spans;
+        'down: while let Some((left, span, right)) = part.parts() {
             if page < span.from {
                 nearest = Some(span.area);
-                cur = left;
+                part = left;
             } else {
-                cur = right;
+                part = right;
             }
         }
         nearest
@@ -152,12 +150,12 @@ impl Tree {
         if from == to {
             return true;
         }
-        let mut cur = &self.spans;
-        'down: while let Some((left, span, right)) = cur.parts() {
+        let mut part = &self.spans;
+        'down: while let Some((left, span, right)) = part.parts() {
             if to <= span.from {
-                cur = left;
+                part = left;
             } else if span.to <= from {
-                cur = right;
+                part = right;
             } else {
                 return false;
             }
@@ -165,7 +163,7 @@ impl Tree {
         true
     }
 
-    /// The greatest page from which on `pages` pages are free, or none where as many are nowhere together.
+    /// The greatest page from which on `pages` pages are free, or none where there is no such page.
     pub fn gap(&self, pages: u64) -> Option<u64>
         requires { 1 ≤ pages }
         ensures { IsGap (taken self.now) pages result }

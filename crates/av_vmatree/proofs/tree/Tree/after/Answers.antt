@@ -7,7 +7,7 @@ pub down-preserved-then-page-span : goal.down-preserved-then-page-span
 down-preserved-then-page-span c =
     let s = c.in-Some in
     let apart = subst AreApart s.ensures.parts.entries c.down.invariant.1 in (
-      after_left c.args.page c.down.cur.now.0 s.left.now.0 s.span.now s.right.now.0 c.down.nearest s.ensures.parts.entries c.if-page-span.true ∙ c.down.invariant.0,
+      after_left c.args.page c.down.part.now.0 s.left.now.0 s.span.now s.right.now.0 c.down.nearest s.ensures.parts.entries c.if-page-span.true ∙ c.down.invariant.0,
       apart_left s.left.now.0 s.span.now s.right.now.0 apart,
     )
 
@@ -15,6 +15,6 @@ pub down-preserved : goal.down-preserved
 down-preserved c =
     let s = c.in-Some in
     let apart = subst AreApart s.ensures.parts.entries c.down.invariant.1 in (
-      after_right c.args.page c.down.cur.now.0 s.left.now.0 s.span.now s.right.now.0 c.down.nearest s.ensures.parts.entries c.down.invariant.1 c.if-page-span.false ∙ c.down.invariant.0,
+      after_right c.args.page c.down.part.now.0 s.left.now.0 s.span.now s.right.now.0 c.down.nearest s.ensures.parts.entries c.down.invariant.1 c.if-page-span.false ∙ c.down.invariant.0,
       apart_right s.left.now.0 s.span.now s.right.now.0 apart,
     )

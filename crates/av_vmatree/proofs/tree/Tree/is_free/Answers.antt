@@ -8,7 +8,7 @@ down-preserved-then-to-span c =
     let s = c.in-Some in
     let e = s.ensures.parts.entries in
     let apart = c.down.invariant.1 in (
-      λ page low high. at_left page c.down.cur.now.0 s.left.now.0 s.span.now s.right.now.0 e apart (omega arith) ∙ c.down.invariant.0 page low high,
+      λ page low high. at_left page c.down.part.now.0 s.left.now.0 s.span.now s.right.now.0 e apart (omega arith) ∙ c.down.invariant.0 page low high,
       apart_left s.left.now.0 s.span.now s.right.now.0 (subst AreApart e apart),
     )
 
@@ -17,7 +17,7 @@ down-preserved c =
     let s = c.in-Some in
     let e = s.ensures.parts.entries in
     let apart = c.down.invariant.1 in (
-      λ page low high. at_right page c.down.cur.now.0 s.left.now.0 s.span.now s.right.now.0 e apart (omega arith) ∙ c.down.invariant.0 page low high,
+      λ page low high. at_right page c.down.part.now.0 s.left.now.0 s.span.now s.right.now.0 e apart (omega arith) ∙ c.down.invariant.0 page low high,
       apart_right s.left.now.0 s.span.now s.right.now.0 (subst AreApart e apart),
     )
 
@@ -32,5 +32,5 @@ returns-else-span-from-clause-met c _ =
       page = page;
       lowest = low;
       highest = high;
-      met = ap is_some (sym (at_here page c.down.cur.now.0 s.left.now.0 s.span.now s.right.now.0 s.ensures.parts.entries c.down.invariant.1 (omega arith) (omega arith) ∙ c.down.invariant.0 page low high));
+      met = ap is_some (sym (at_here page c.down.part.now.0 s.left.now.0 s.span.now s.right.now.0 s.ensures.parts.entries c.down.invariant.1 (omega arith) (omega arith) ∙ c.down.invariant.0 page low high));
     }
