@@ -39,9 +39,9 @@ pub record IsMapped (old new : Spaces) (p from n : ℕ) (prot : Prot) : Type 0 w
   pub number : length new ≡ length old
   pub apart : AllApart new
 
--- ---- the view of the areas by number, and of a tree of spans for each process
+-- ---- the processes seen through the areas by number and a tree of spans for each process
 
--- an area's protection, or none at all where there is no area
+-- an area's protection, or no access at all where there is no area
 abbrev pub prot_by : Option Area → Prot
 prot_by None = record { read = false; write = false; execute = false }
 prot_by (Some area) = area.prot
@@ -50,26 +50,30 @@ prot_by (Some area) = area.prot
 abbrev pub range_by : (ℕ → Option Area) → Span → Range
 range_by areas s = record { from = s.from; to = s.to; prot = prot_by (areas s.area) }
 
+-- the ranges of one process
 abbrev pub ranges_by : (ℕ → Option Area) → List Span → List Range
 ranges_by areas = map (range_by areas)
 
+-- the ranges of every process
 abbrev pub spaces_by : (ℕ → Option Area) → List (ℕ × List Span) → Spaces
 spaces_by areas = map (λ e. (e.0, ranges_by areas e.1))
 
--- p's area that has exactly the pages of the span
+-- this is an area of p, on exactly the pages of the span
 abbrev pub IsAreaOf : ℕ → Span → Option Area → Type 0
 IsAreaOf p s None = ⊥
 IsAreaOf p s (Some area) = (area.pid ≡ p) × (area.start ≡ 4096 * s.from) × (area.end ≡ 4096 * s.to)
 
+-- each span is that of an area of p
 abbrev pub AreNumbered : (ℕ → Option Area) → ℕ → List Span → Type 0
 AreNumbered areas p [] = Unit {0}
 AreNumbered areas p (s ∷ spans) = IsAreaOf p s (areas s.area) × AreNumbered areas p spans
 
--- the spans of one process, each of an area of that process
+-- what holds of the spans of p
 pub record IsTree (areas : ℕ → Option Area) (p : ℕ) (spans : List Span) : Type 0 where
   pub spans_are : AreSpans spans
   pub numbered : AreNumbered areas p spans
 
+-- it holds of every process that has a tree; so no area is in two trees, since it names its process
 abbrev pub AreTrees : (ℕ → Option Area) → BTreeMap ℕ (List Span) → Type 0
 AreTrees areas trees = (p : ℕ) → IfSome (get nat_cmp trees p) (IsTree areas p)
 
