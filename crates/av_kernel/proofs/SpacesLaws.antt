@@ -1,5 +1,5 @@
 -- Areas by process: what the trees and the numbered areas say of ranges.
-use Rattle.std.proofs.Common.{◌≡◌, ◌≢◌, ℕ, ◌+◌, ◌-◌, ◌*◌, ◌<◌, ◌≤◌, ◌==◌, eqb, nat_lt, nat_le, Bool, true, false, cond, ◌&&◌, List, [], ◌∷◌, length, Option, Some, None, is_some, option_map, IfSome, Result, Ok, Err, is_ok, OnErr, refl, sym, ap, subst, ◌∙◌, arith}
+use Rattle.std.proofs.Common.{◌≡◌, ◌≢◌, ℕ, ◌+◌, ◌-◌, ◌*◌, ◌<◌, ◌≤◌, ◌==◌, nat_lt, nat_le, true, false, cond, ◌&&◌, List, [], ◌∷◌, length, Option, Some, None, is_some, option_map, IfSome, Result, Ok, Err, is_ok, OnErr, refl, sym, ap, subst, ◌∙◌, arith}
 use Rattle.std.proofs.lemmas.Bool.Decides.{nat_tests}
 use Rattle.std.proofs.lemmas.Bool.{eqb-true, false≢true}
 use Rattle.std.proofs.lemmas.List.{length-map}
@@ -15,8 +15,8 @@ use Rattle.av_vma.specs.Gap.{top_page, IsGap}
 use Rattle.av_vmatree.specs.declared.span.Span.{Span}
 use Rattle.av_vmatree.specs.Spans.{AreSpans, AreWithin, IsFree, area_at, holds, span, span_of, taken, with_span}
 use Rattle.av_vmatree.specs.Spans as tree
-use Rattle.av_plain.specs.Stands.{Range, prot_in, prot_of, AreApart}
-use Rattle.av_kernel.specs.Spaces.{areas_of, is_taken, AllApart, IsSpawned, IsMapped, prot_by, range_by, ranges_by, spaces_by, IsAreaOf, AreNumbered, IsTree, AreTrees, IsGrown}
+use Rattle.av_plain.specs.Stands.{prot_in, prot_of, AreApart}
+use Rattle.av_kernel.specs.Spaces.{areas_of, is_taken, AllApart, IsSpawned, IsMapped, prot_by, ranges_by, spaces_by, IsAreaOf, AreNumbered, IsTree, AreTrees, IsGrown}
 
 -- ---- one process in the list of all
 
@@ -87,9 +87,9 @@ held f p [] page n within numbered at = absurd (clash at)
     clash e = cc
 held f p (s ∷ spans) page n within numbered at = elim (holds s page) as (λ b. holds s page ≡ b → cond b (Some s.area) (area_at spans page) ≡ Some n → IsHeld f page n) [
   | true ↦ λ h e. record {
-      used = subst (λ m. IsSome (f m)) (same s.area n e) (of_area p s (f s.area) numbered.0);
-      below = below_top s page h within.0.1;
-    }
+    used = subst (λ m. IsSome (f m)) (same s.area n e) (of_area p s (f s.area) numbered.0);
+    below = below_top s page h within.0.1;
+  }
   | false ↦ λ _ e. held f p spans page n within.1 numbered.1 e
 ] refl at
   where
@@ -146,11 +146,11 @@ trees_spawned f old new p trees now q = subst (λ o. IfSome o (IsTree f q)) (sym
 pub spawned : (f : ℕ → Option Area) (old new : BTreeMap ℕ (List Span)) (p : ℕ) → AreTrees f old → ((q : ℕ) → get nat_cmp new q ≡ cond (is_at (nat_cmp p) q) (Some []) (get nat_cmp old q)) → length new.entries ≡ length old.entries + 1 → IsSpawned (spaces_by f old.entries) (spaces_by f new.entries) p
 spawned f old new p trees now number = record {
   areas = λ q. areas_are f new.entries q
-    ∙ ap (option_map (ranges_by f)) (now q ∙ ap (λ b. cond b (Some []) (get nat_cmp old q)) (at_key p q))
-    ∙ elim (q == p) as (λ b. option_map (ranges_by f) (cond b (Some []) (get nat_cmp old q)) ≡ cond b (Some []) (areas_of (spaces_by f old.entries) q)) [
-      | true ↦ refl
-      | false ↦ sym (areas_are f old.entries q)
-    ];
+      ∙ ap (option_map (ranges_by f)) (now q ∙ ap (λ b. cond b (Some []) (get nat_cmp old q)) (at_key p q))
+      ∙ elim (q == p) as (λ b. option_map (ranges_by f) (cond b (Some []) (get nat_cmp old q)) ≡ cond b (Some []) (areas_of (spaces_by f old.entries) q)) [
+        | true ↦ refl
+        | false ↦ sym (areas_are f old.entries q)
+      ];
   number = length-map new.entries _ ∙ number ∙ ap (λ n. n + 1) (sym (length-map old.entries _));
   apart = all_apart f new (trees_spawned f old new p trees now);
 }
@@ -210,10 +210,13 @@ module _ (f f' : ℕ → Option Area) (n : ℕ) (area : Area) (unused : f n ≡ 
   numbered_with p s [] here h = (here, tt)
   numbered_with p s (t ∷ spans) here h = elim (nat_lt s.from t.from) as (λ b. AreNumbered f' p (cond b (s ∷ t ∷ spans) (t ∷ cond (nat_lt t.from s.from) (with_span s spans) spans))) [
     | true ↦ (here, h)
-    | false ↦ (h.0, elim (nat_lt t.from s.from) as (λ b. AreNumbered f' p (cond b (with_span s spans) spans)) [
-      | true ↦ numbered_with p s spans here h.1
-      | false ↦ h.1
-    ])
+    | false ↦ (
+      h.0,
+      elim (nat_lt t.from s.from) as (λ b. AreNumbered f' p (cond b (with_span s spans) spans)) [
+        | true ↦ numbered_with p s spans here h.1
+        | false ↦ h.1
+      ],
+    )
   ]
 
   here : f' n ≡ Some area
@@ -241,19 +244,19 @@ module _ (f f' : ℕ → Option Area) (n : ℕ) (area : Area) (unused : f n ≡ 
   pub mapped : (old new : BTreeMap ℕ (List Span)) (p from pages : ℕ) → IsAreaOf p (span n from (from + pages)) (Some area) → AreTrees f old → IsGrown old new p (span n from (from + pages)) → IsMapped (spaces_by f old.entries) (spaces_by f' new.entries) p from pages area.prot
   mapped old new p from pages is trees g = record {
     others = λ q apart. areas_are f' new.entries q
-      ∙ ap (option_map (ranges_by f')) (g.now q ∙ ap (λ b. cond b (Some g.after) (get nat_cmp old q)) (differ q p apart))
-      ∙ each q (get nat_cmp old q) (trees q)
-      ∙ sym (areas_are f old.entries q);
+        ∙ ap (option_map (ranges_by f')) (g.now q ∙ ap (λ b. cond b (Some g.after) (get nat_cmp old q)) (differ q p apart))
+        ∙ each q (get nat_cmp old q) (trees q)
+        ∙ sym (areas_are f old.entries q);
     alive = ap is_some now_is;
     pages = λ page. ap (λ o. prot_of o page) now_is
-      ∙ prot_is f' g.after page
-      ∙ ap (option_map (λ k. prot_by (f' k))) (g.pages page ∙ ap (λ k. cond (within from k page) (Some n) (area_at g.before page)) (many from pages))
-      ∙ elim (within from pages page) as (λ b. option_map (λ k. prot_by (f' k)) (cond b (Some n) (area_at g.before page)) ≡ cond b (Some area.prot) (prot_of (areas_of (spaces_by f old.entries) p) page)) [
-        | true ↦ ap (λ o. Some (prot_by o)) here
-        | false ↦ sym (prot_is f' g.before page)
-          ∙ ap (λ l. prot_in l page) (ranges_stay p g.before (tree_of f old p g.before trees g.was).numbered)
-          ∙ sym (ap (λ o. prot_of o page) (areas_are f old.entries p ∙ ap (option_map (ranges_by f)) g.was))
-      ];
+        ∙ prot_is f' g.after page
+        ∙ ap (option_map (λ k. prot_by (f' k))) (g.pages page ∙ ap (λ k. cond (within from k page) (Some n) (area_at g.before page)) (many from pages))
+        ∙ elim (within from pages page) as (λ b. option_map (λ k. prot_by (f' k)) (cond b (Some n) (area_at g.before page)) ≡ cond b (Some area.prot) (prot_of (areas_of (spaces_by f old.entries) p) page)) [
+          | true ↦ ap (λ o. Some (prot_by o)) here
+          | false ↦ sym (prot_is f' g.before page)
+              ∙ ap (λ l. prot_in l page) (ranges_stay p g.before (tree_of f old p g.before trees g.was).numbered)
+              ∙ sym (ap (λ o. prot_of o page) (areas_are f old.entries p ∙ ap (option_map (ranges_by f)) g.was))
+        ];
     number = length-map new.entries _ ∙ g.number ∙ sym (length-map old.entries _);
     apart = all_apart f' new (trees_grown old new p (span n from (from + pages)) refl is trees g);
   }

@@ -95,13 +95,7 @@ impl Spaces {
     }
 
     /// Maps free pages of a process that lives as one area. Without memory all stays.
-    pub fn map(
-        &mut self,
-        process: u16,
-        from: u64,
-        pages: u64,
-        prot: Prot,
-    ) -> Result<(), AllocError>
+    pub fn map(&mut self, process: u16, from: u64, pages: u64, prot: Prot) -> Result<(), AllocError>
         requires lives { is_some (areas_of self.old process) ≡ true }
         requires some { 1 ≤ pages }
         requires low { low_page ≤ from }

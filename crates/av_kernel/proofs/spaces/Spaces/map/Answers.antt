@@ -1,4 +1,4 @@
-use Rattle.std.proofs.Common.{ℕ, ◌+◌, ◌≤◌, ◌<◌, ◌≡◌, false, is_some, refl, ap, subst, ◌∙◌}
+use Rattle.std.proofs.Common.{◌+◌, is_some, refl, ap, subst, ◌∙◌}
 use Rattle.av_vma.specs.Areas.{area_of}
 use Rattle.av_vmatree.specs.Spans.{span}
 use Rattle.av_kernel.specs.Spaces.{areas_of, is_taken, spaces_by, IsMapped}

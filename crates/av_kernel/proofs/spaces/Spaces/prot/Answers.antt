@@ -1,4 +1,4 @@
-use Rattle.std.proofs.Common.{◌≡◌, ap, sym, ◌∙◌}
+use Rattle.std.proofs.Common.{ap, sym, ◌∙◌}
 use Rattle.av_vma.specs.Areas.{area_of}
 use Rattle.av_plain.specs.Stands.{prot_of}
 use Rattle.av_kernel.specs.Spaces.{areas_of}

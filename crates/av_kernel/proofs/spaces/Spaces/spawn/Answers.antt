@@ -1,4 +1,4 @@
-use Rattle.std.proofs.Common.{None, ◌≡◌, sym, subst, ap, ◌∙◌}
+use Rattle.std.proofs.Common.{subst, ap, ◌∙◌}
 use Rattle.av_vma.specs.Areas.{area_of}
 use Rattle.av_kernel.specs.Spaces.{areas_of, spaces_by, IsSpawned}
 use Rattle.av_kernel.proofs.SpacesLaws.{spawns}
