@@ -2,6 +2,7 @@ pub mod Parts
 pub mod Fresh
 pub mod Commands
 pub mod Counting
+pub mod SpacesLaws
 pub mod AccessPages
 pub mod AccessBytes
 pub mod AccessParts
