@@ -3,6 +3,8 @@ pub mod Ledger
 pub mod Event
 pub mod Pass
 pub mod Fault
+pub mod Taking
+pub mod Report
 pub mod Refusal
 pub mod Step
 pub mod Choice

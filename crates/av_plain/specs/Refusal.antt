@@ -4,7 +4,7 @@ use Rattle.av_vma.specs.Gap.{top_page}
 use Rattle.av_trace.specs.declared.reply.Errno.{Errno}
 use Rattle.av_trace.specs.declared.reply.Errno.TheVariants.{Esrch, Eagain, Enomem, Eexist, Einval}
 use Rattle.av_trace.specs.declared.command.Command.{Command}
-use Rattle.av_trace.specs.declared.command.Command.TheVariants.{Spawn, Mmap, Read, Write}
+use Rattle.av_trace.specs.declared.command.Command.TheVariants.{Spawn, Exit, Mmap, Read, Write, Maps, Stat}
 use Rattle.av_plain.specs.World.{World, pages_of, lives}
 use Rattle.av_plain.specs.Ledger.{Ledger, Setting}
 
@@ -35,9 +35,12 @@ is_too_long len = overflows len || nat_lt top_page (pages_of len)
 -- the tests of each command
 abbrev pub tests : Setting → World → Ledger → Command → Tests
 tests m w l (Spawn p) = (lives w p, Eexist) ∷ too_many w ∷ []
+tests m w l (Exit p) = no_process w p ∷ []
 tests m w l (Mmap p len prot place) = no_process w p ∷ (len == 0, Einval) ∷ (is_too_long len, Enomem) ∷ []
 tests m w l (Read p a n) = no_process w p ∷ []
 tests m w l (Write p a bytes) = no_process w p ∷ []
+tests m w l (Maps p) = no_process w p ∷ []
+tests m w l Stat = []
 
 -- the first test that holds
 abbrev pub refusal : Tests → Option Errno

@@ -33,6 +33,8 @@ pub record View : Type 0 where
   pub slot : ℕ → Option Slot
   pub dirty : ℕ → Bool
   pub free : List ℕ
+  -- the active frames, head first
+  pub active : List ℕ
   -- the table of a process, by page
   pub table : ℕ → ℕ → Option Pte
   -- how many processes live, and the areas of one that does
@@ -61,6 +63,12 @@ pub record FramesStand (m : Setting) (v : View) (l : Ledger) : Type 0 where
   pub slots : (f : ℕ) → v.slot f ≡ slot_of l f
   pub dirty : (f : ℕ) → IfSome (slot_of l f) (λ s. v.dirty f ≡ is_stale l s)
   pub free : (f : ℕ) → f < m.frames → is_in f v.free ≡ is_free l f
+
+-- ---- the lists
+
+-- the active frames are these. (That the inactive ones are the kernel's, too, begins where it keeps lists: all others in use are inactive.)
+pub record ListsStand (v : View) (l : Ledger) : Type 0 where
+  pub active : v.active ≡ l.active
 
 -- ---- the tables
 
@@ -156,10 +164,11 @@ HeadersStand m l = (k : ℕ) → IfSome (find nat_cmp k l.on) (λ area. IfSome m
 
 -- ---- the whole
 
--- The kernel and the device stand for the memories and the ledger. (That each frame which isn't free is in one list of the kernel's begins where it keeps lists.)
+-- The kernel and the device stand for the memories and the ledger.
 pub record Stands (m : Setting) (v : View) (device : Device) (s : State) : Type 0 where
   pub sound : AllSound m s.world s.ledger
   pub frames : FramesStand m v s.ledger
+  pub lists : ListsStand v s.ledger
   pub tables : TablesStand v s.ledger
   pub swap : SwapStands v s.ledger
   pub areas : AreasStand v s.world

@@ -8,15 +8,17 @@ use Rattle.av_trace.specs.declared.reply.Note.TheVariants.{Loaded}
 use Rattle.av_trace.specs.declared.reply.Row.{Row}
 use Rattle.av_trace.specs.declared.reply.Reply.{Reply}
 use Rattle.av_trace.specs.declared.reply.Answer.{Answer}
-use Rattle.av_trace.specs.declared.reply.Answer.TheVariants.{Done, MapAt, Data, Refused, Segv, Bus, Oom}
+use Rattle.av_trace.specs.declared.reply.Answer.TheVariants.{Done, MapAt, Data, Refused, Segv, Bus, Oom, Runs, Counted}
 use Rattle.av_trace.specs.declared.command.Place.{Place}
 use Rattle.av_trace.specs.declared.command.Place.TheVariants.{Auto}
 use Rattle.av_trace.specs.declared.command.Command.{Command}
-use Rattle.av_trace.specs.declared.command.Command.TheVariants.{Spawn, Mmap, Read, Write}
-use Rattle.av_plain.specs.World.{World, Process, Page, nothing, zeros, page_of, pages_of, address_of, pages, is_mapped, set_process, replaced, written, Shows}
+use Rattle.av_trace.specs.declared.command.Command.TheVariants.{Spawn, Exit, Mmap, Read, Write, Maps, Stat}
+use Rattle.av_plain.specs.World.{World, Process, Page, nothing, zeros, page_of, pages_of, address_of, pages, is_mapped, set_process, end_process, replaced, written, Shows}
 use Rattle.av_plain.specs.Ledger.{Ledger, Setting, Entry, entry, names_slot}
 use Rattle.av_plain.specs.Event.{Event, Noted, after, after_all, notes_of}
 use Rattle.av_plain.specs.Fault.{Accesses, End, Whole, Stopped, Served, Denied, Starved, Lost, served, touched, fails}
+use Rattle.av_plain.specs.Taking.{keys_of_process, taking}
+use Rattle.av_plain.specs.Report.{AreMaps, totals}
 use Rattle.av_plain.specs.Refusal.{tests, refusal}
 
 -- ---- where a mapping goes
@@ -75,6 +77,7 @@ stored w p a (b ∷ bytes) = set_process w p (written (pages w p) a (b ∷ bytes
 -- what a command changes where it isn't refused
 abbrev pub next : World → Command → Answer → World
 next w (Spawn p) Done = set_process w p nothing
+next w (Exit p) Done = end_process w p
 next w (Mmap p len prot place) (MapAt a) = set_process w p (replaced (pages w p) (page_of a) (pages_of len) (λ _. Some (zeros prot)))
 next w (Write p a bytes) answer = stored w p a (first_bytes answer bytes)
 next w command answer = w
@@ -101,6 +104,7 @@ Reads q a k shown = (length shown ≡ k) × Shows q a shown
 -- what each command does where it isn't refused: its events, its answer and its rows
 abbrev pub Follows : Setting → World → Ledger → Command → List Event → Answer → List Row → Type 0
 Follows m w l (Spawn p) events answer rows = (answer ≡ Done) × (events ≡ []) × (rows ≡ [])
+Follows m w l (Exit p) events answer rows = (answer ≡ Done) × (events ≡ taking l (keys_of_process l p)) × (rows ≡ [])
 Follows m w l (Mmap p len prot place) events answer rows =
     (to : Option ℕ) × Goes (pages w p) (pages_of len) place to × IsMapAt answer to × (events ≡ []) × (rows ≡ [])
 Follows m w l (Read p a n) events answer rows =
@@ -108,6 +112,8 @@ Follows m w l (Read p a n) events answer rows =
     × Reads (pages (with_loads m w l events) p) a (served a n end) shown × Answers false a n end shown answer × (rows ≡ [])
 Follows m w l (Write p a bytes) events answer rows =
     (end : End) × Accesses m w l true p (touched a (length bytes)) events end × Answers true a (length bytes) end [] answer × (rows ≡ [])
+Follows m w l (Maps p) events answer rows = (answer ≡ Runs (length rows)) × AreMaps (pages w p) rows × (events ≡ [])
+Follows m w l Stat events answer rows = (answer ≡ Counted (totals m w l)) × (events ≡ []) × (rows ≡ [])
 
 -- ---- a legal reply
 

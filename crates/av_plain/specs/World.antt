@@ -1,7 +1,7 @@
 -- What processes see: plain private memories, copied whole at fork. Nothing here knows a frame or a slot.
-use Rattle.std.specs.Prelude.{◌≡◌, ℕ, ◌+◌, ◌-◌, ◌*◌, ◌/◌, ◌%◌, Bool, true, false, ◌||◌, if◌then◌else◌, List, [], ◌∷◌, length, slice_index, Option, Some, None, is_some, option_map, option_and_then, IfSome}
+use Rattle.std.specs.Prelude.{◌≡◌, ℕ, ◌+◌, ◌-◌, ◌*◌, ◌/◌, ◌%◌, Bool, true, false, not, ◌||◌, ◌==◌, if◌then◌else◌, List, [], ◌∷◌, length, slice_index, Option, Some, None, is_some, option_map, option_and_then, IfSome}
 use Rattle.std.specs.Ordering.{nat_cmp}
-use Rattle.std.specs.FinMap.Entries.{find, put}
+use Rattle.std.specs.FinMap.Entries.{find, put, where_key}
 use Rattle.av_vma.specs.declared.area.Prot.{Prot}
 use Rattle.av_vma.specs.Ranges.{within}
 
@@ -68,6 +68,10 @@ allows false prot = prot.read || prot.write || prot.execute
 -- the process has these pages now, and lives
 abbrev pub set_process : World → ℕ → Process → World
 set_process w p q = put nat_cmp p q w
+
+-- the process is gone
+abbrev pub end_process : World → ℕ → World
+end_process w p = where_key nat_cmp (λ q. not (q == p)) w
 
 -- q with the n pages from `from` on taken from `new`
 abbrev pub replaced : Process → ℕ → ℕ → Process → Process

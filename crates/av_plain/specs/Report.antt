@@ -1,0 +1,54 @@
+-- Reports: the runs of `maps`, and the numbers of `stat`.
+use Rattle.std.specs.Prelude.{◌≡◌, ℕ, ◌*◌, ◌<◌, ◌≤◌, Bool, true, false, ◌&&◌, ◌==◌, not, nat_lt, nat_le, if◌then◌else◌, List, [], ◌∷◌, length, sum_by, Option, Some, None, option_map}
+use Rattle.av_vma.specs.declared.area.Prot.{Prot}
+use Rattle.av_trace.specs.declared.reply.Row.{Row}
+use Rattle.av_trace.specs.declared.reply.Row.TheVariants.{Run, Entry}
+use Rattle.av_trace.specs.declared.reply.Totals.{Totals}
+use Rattle.av_plain.specs.World.{World, Process, Page, address_of}
+use Rattle.av_plain.specs.Ledger.{Ledger, Setting, Area, free_frames, free_slots}
+
+-- ---- maps
+
+-- the protection of the run that holds the page
+abbrev pub prot_in_rows : List Row → ℕ → Option Prot
+prot_in_rows [] page = None
+prot_in_rows (Run start end prot ∷ rows) page = if nat_le start (address_of page) && nat_lt (address_of page) end then Some prot else prot_in_rows rows page
+prot_in_rows (Entry p a ∷ rows) page = prot_in_rows rows page
+
+-- the rows are runs, none is empty, they rise, and none begins where the one before ends with the same protection
+abbrev pub AreLongestRuns : List Row → Type 0
+AreLongestRuns [] = Unit {0}
+AreLongestRuns (Entry p a ∷ rows) = ⊥
+AreLongestRuns (Run a b p ∷ []) = a < b
+AreLongestRuns (Run a b p ∷ Entry q x ∷ rows) = ⊥
+AreLongestRuns (Run a b p ∷ Run c d q ∷ rows) = (a < b) × (b ≤ c) × (b ≡ c → p ≡ q → ⊥) × AreLongestRuns (Run c d q ∷ rows)
+
+-- a page is in a run exactly where it is mapped, and with its protection
+abbrev pub Cover : Process → List Row → Type 0
+Cover q rows = (page : ℕ) → prot_in_rows rows page ≡ option_map (λ (p : Page). p.prot) (q page)
+
+-- each run begins and ends on pages
+abbrev pub AreOnPages : List Row → Type 0
+AreOnPages [] = Unit {0}
+AreOnPages (Run a b p ∷ rows) = ((from : ℕ) × (a ≡ address_of from)) × ((to : ℕ) × (b ≡ address_of to)) × AreOnPages rows
+AreOnPages (Entry p a ∷ rows) = AreOnPages rows
+
+-- the longest runs of mapped pages with one protection
+pub record AreMaps (q : Process) (rows : List Row) : Type 0 where
+  pub runs : AreLongestRuns rows
+  pub pages : AreOnPages rows
+  pub cover : Cover q rows
+
+-- ---- stat
+
+abbrev pub totals : Setting → World → Ledger → Totals
+totals m w l = record {
+  frames = m.frames;
+  free = length (free_frames m l);
+  active = length l.active;
+  inactive = length l.inactive;
+  flight = length l.flight;
+  slots = sum_by (λ (a : ℕ × Area). a.1.slots) l.on;
+  free_slots = sum_by (free_slots m l) l.on;
+  processes = length w;
+}
