@@ -1,0 +1,2 @@
+pub mod PageParts
+pub mod PageEntries
