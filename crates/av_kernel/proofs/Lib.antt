@@ -1,2 +1,3 @@
 pub mod PageParts
 pub mod PageEntries
+pub mod PageWritten
