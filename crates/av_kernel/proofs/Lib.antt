@@ -1,3 +1,6 @@
 pub mod PageParts
 pub mod PageEntries
 pub mod PageWritten
+pub mod PageServes
+pub mod PageViews
+pub mod PageTouched
