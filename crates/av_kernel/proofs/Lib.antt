@@ -4,3 +4,5 @@ pub mod PageWritten
 pub mod PageServes
 pub mod PageViews
 pub mod PageTouched
+pub mod PageSafe
+pub mod PageMade
