@@ -6,3 +6,4 @@ pub mod PageViews
 pub mod PageTouched
 pub mod PageSafe
 pub mod PageMade
+pub mod PageSteps

@@ -6,7 +6,6 @@ ghost use Rattle.av_pagetable.specs.Entries.{entry_at, has};
 ghost use Rattle.av_pagetable.specs.declared.pte.Pte.TheVariants as Pte;
 ghost use Rattle.av_plain.specs.Stands.{prot_of};
 ghost use Rattle.av_plain.specs.Transcript.{State};
-ghost use Rattle.av_plain.specs.World.{lives};
 ghost use Rattle.av_kernel.specs.Spaces.{areas_of};
 ghost use Rattle.av_kernel.specs.View.{count, view, Keeps, IsSteady};
 ghost use Rattle.av_kernel.specs.Page.{permitted, frame_named, one_more, one_less, IsTaken, IsTouched};
@@ -183,7 +182,7 @@ impl Mem {
         notes: &mut Notes,
     ) -> Result<Touched, AllocError>
         requires steady { IsSteady self.old }
-        ensures step { (s : State) → Keeps self.old s → lives s.world process ≡ true → IfOk result (IsTouched s self.new false (process, page) notes.old notes.new) }
+        ensures step { (s : State) → Keeps self.old s → IfOk result (IsTouched s self.new false (process, page) notes.old notes.new) }
         ensures count { count self.new ≡ count self.old }
     {
         if !self.may_access(process, page, false) {
@@ -192,8 +191,10 @@ impl Mem {
         match self.tables.get(process, page) {
             Pte::Empty => self.make_zero(process, page, notes),
             Pte::Zero => Ok(Touched::Zeros),
-            Pte::Here { frame, seen: true, .. } => Ok(Touched::Ready(frame)),
-            Pte::Here { frame, write, .. } => {
+            Pte::Here { frame, write, seen } => {
+                if seen {
+                    return Ok(Touched::Ready(frame));
+                }
                 let entry = Pte::Here {
                     frame,
                     write,
@@ -215,7 +216,7 @@ impl Mem {
         notes: &mut Notes,
     ) -> Result<Touched, AllocError>
         requires steady { IsSteady self.old }
-        ensures step { (s : State) → Keeps self.old s → lives s.world process ≡ true → IfOk result (IsTouched s self.new true (process, page) notes.old notes.new) }
+        ensures step { (s : State) → Keeps self.old s → IfOk result (IsTouched s self.new true (process, page) notes.old notes.new) }
         ensures count { count self.new ≡ count self.old }
     {
         if !self.may_access(process, page, true) {
@@ -223,12 +224,10 @@ impl Mem {
         }
         match self.tables.get(process, page) {
             Pte::Empty | Pte::Zero => self.make_new(process, page, notes),
-            Pte::Here {
-                frame,
-                write: true,
-                seen: true,
-            } => Ok(Touched::Ready(frame)),
-            Pte::Here { frame, .. } => {
+            Pte::Here { frame, write, seen } => {
+                if write && seen {
+                    return Ok(Touched::Ready(frame));
+                }
                 if self.frames.maps(frame) > 1 {
                     return self.make_copy(process, page, frame, notes);
                 }
