@@ -7,3 +7,4 @@ pub mod PageTouched
 pub mod PageSafe
 pub mod PageMade
 pub mod PageSteps
+pub mod PageShown

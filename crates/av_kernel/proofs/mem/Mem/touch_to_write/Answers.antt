@@ -28,4 +28,4 @@ pub returns-then-seen-clause-step : goal.returns-then-seen-clause-step
 returns-then-seen-clause-step c = λ s keeps.
     let h = c.in-Here in
     seen_there c.args.self.now s c.args.process c.args.page h.frame true h.write c.args.notes.now keeps (sym c.may_access.ensures.permitted ∙ c.if-not-may_access.false)
-        (sym c.get.ensures ∙ h.is ∙ ap (Here h.frame h.write) ?) (λ _. ?)
+        (sym c.get.ensures ∙ h.is ∙ ap (Here h.frame h.write) c.if-seen.true) (λ _. c.if-write.true)
