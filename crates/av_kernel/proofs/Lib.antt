@@ -1,3 +1,8 @@
+pub mod Parts
+pub mod Fresh
+pub mod Commands
+pub mod Counting
+pub mod SpacesLaws
 pub mod AccessPages
 pub mod AccessBytes
 pub mod AccessParts

@@ -7,3 +7,16 @@ pub mod RunLaws
 pub mod AccessLaws
 pub mod NoSwapLaws
 pub mod TwoWrites
+pub mod SoundLaws
+pub mod SoundEntries
+pub mod SoundChanges
+pub mod SoundAccess
+pub mod SoundPages
+pub mod SoundThere
+pub mod Soundness
+pub mod SoundBound
+pub mod SoundMeans
+pub mod OutOfMemory
+pub mod FirstRows
+pub mod SwapRows
+pub mod LedgerRows

@@ -8,4 +8,6 @@ pub mod Step
 pub mod Choice
 pub mod Transcript
 pub mod Sound
+pub mod Says
 pub mod Stands
+pub mod Rows
