@@ -1,5 +1,5 @@
 -- The free list and the flags of the frames in use go together.
-use Rattle.std.proofs.Common.{◌≡◌, ℕ, zero, suc, ◌+◌, ◌-◌, ◌<◌, ◌≤◌, Bool, true, false, cond, not, ◌^◌, ◌||◌, List, [], ◌∷◌, length, get_or, slice_set, replicate, Option, refl, sym, ap, subst, ◌∙◌, arith, ◌==◌, length-set, get_or-set_same, get_or-set_other}
+use Rattle.std.proofs.Common.{◌≡◌, ℕ, zero, suc, ◌+◌, ◌<◌, ◌≤◌, Bool, true, false, cond, not, ◌^◌, ◌||◌, List, [], ◌∷◌, length, get_or, slice_set, replicate, Option, refl, sym, ap, subst, ◌∙◌, arith, ◌==◌, length-set, get_or-set_same, get_or-set_other}
 use Rattle.std.proofs.lemmas.Grind.{common_steps}
 use Rattle.std.proofs.lemmas.Bool.Decides.{nat_tests}
 use Rattle.av_vma.specs.declared.slot.Slot.{Slot}

@@ -1,10 +1,9 @@
 -- Frames that are all free.
-use Rattle.std.proofs.Common.{◌≡◌, ℕ, zero, suc, ◌+◌, ◌-◌, ◌^◌, ◌<◌, ◌≤◌, Bool, true, false, cond, List, [], ◌∷◌, ◌++◌, length, get_or, replicate, Option, None, refl, sym, ap, subst, ◌∙◌, arith, ◌==◌}
+use Rattle.std.proofs.Common.{◌≡◌, ℕ, zero, suc, ◌+◌, ◌^◌, ◌<◌, ◌≤◌, true, false, cond, List, [], ◌∷◌, ◌++◌, length, get_or, replicate, None, refl, sym, ap, subst, ◌∙◌, arith, ◌==◌}
 use Rattle.std.proofs.lemmas.List.{length-replicate}
 use Rattle.std.proofs.lemmas.Bool.Decides.{nat_tests}
-use Rattle.av_vma.specs.declared.slot.Slot.{Slot}
 use Rattle.av_vma.specs.Ranges.{how_many, numbers}
-use Rattle.av_frames.specs.Store.{IsWhole, itself, Store, seen, fresh}
+use Rattle.av_frames.specs.Store.{IsWhole, itself, seen, fresh}
 use Rattle.av_frames.proofs.Free.{zeros}
 
 one_more : (a n : ℕ) → (a + 1) + n ≡ a + suc n

@@ -1,9 +1,10 @@
--- What is seen of the frames: a free list, and for each frame its bytes, how many entries name it, its home, its slot, and whether it is dirty.
-use Rattle.std.specs.Prelude.{◌≡◌, ℕ, ◌+◌, ◌-◌, ◌^◌, ◌<◌, ◌≤◌, Bool, true, false, not, ◌==◌, if◌then◌else◌, List, [], ◌∷◌, length, slice_index, slice_index_or, Option, Some, None}
+-- What is seen of the frames: a free list, and for each frame its bytes, how many entries name it, its home, the slot at which it is cached, and whether it is dirty.
+use Rattle.std.specs.Prelude.{◌≡◌, ℕ, ◌+◌, ◌-◌, ◌^◌, ◌<◌, ◌≤◌, Bool, true, false, ◌==◌, if◌then◌else◌, List, [], length, slice_index, slice_index_or, Option, None}
 use Rattle.std.specs.List.{list_any}
 use Rattle.av_vma.specs.declared.slot.Slot.{Slot}
-use Rattle.av_vma.specs.Ranges.{how_many, within, numbers, with_at}
+use Rattle.av_vma.specs.Ranges.{how_many, within, numbers}
 
+-- whether a frame is in a list
 abbrev pub is_in : ℕ → List ℕ → Bool
 is_in f fs = list_any (λ g. f == g) fs
 
@@ -16,7 +17,7 @@ pub record Store : Type 0 where
   pub dirty : List Bool
   pub slots : List (Option Slot)
 
--- the same by functions
+-- the same as functions of the frame's number; of bytes, also of the place in the page
 pub record Seen : Type 0 where
   pub count : ℕ
   pub free : List ℕ
@@ -26,6 +27,7 @@ pub record Seen : Type 0 where
   pub dirty : ℕ → Bool
   pub slot : ℕ → Option Slot
 
+-- what the lists of a store say of each frame
 abbrev pub seen : Store → Seen
 seen s = record {
   count = length s.bytes;
@@ -37,6 +39,7 @@ seen s = record {
   slot = λ f. slice_index_or s.slots f None;
 }
 
+-- n frames that are all free, full of zeros, and named by nothing
 abbrev pub fresh : ℕ → Seen
 fresh n = record {
   count = n;
@@ -52,9 +55,11 @@ fresh n = record {
 abbrev pub overlaid : ℕ → List ℕ → (ℕ → ℕ) → ℕ → ℕ
 overlaid at piece bytes i = if within at (length piece) i then slice_index piece (i - at) else bytes i
 
+-- the test that a flag stands
 abbrev pub itself : Bool → Bool
 itself b = b
 
+-- the lists of `Frames` fit together: one item for each frame, room in the free list for all, and a flag for each frame in use
 pub record IsWhole (frees : List ℕ) (frees_len frees_room : ℕ) (pages : List (List ℕ)) (flags : List Bool) (counts : List ℕ) (owners : List (Option (ℕ × ℕ))) (marks : List Bool) (places : List (Option Slot)) : Type 0 where
   pub few : length pages < 2 ^ 32
   pub used : length flags ≡ length pages

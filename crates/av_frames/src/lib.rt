@@ -1,5 +1,8 @@
-//! The frames: which are free, their bytes, and what is kept of each.
+//! The frames of physical memory: which are free, their bytes, and what is kept of each (Linux's `struct page`).
 #![tactic(auto)]
+
+#[cfg(test)]
+mod tests;
 
 ghost use Rattle.std.specs.Prelude.{◌≡◌, ℕ, ◌+◌, ◌<◌, ◌≤◌, ◌^◌, ◌-◌, ◌∷◌, [], length, slice_index, MatchOption, IfOk, true, false, replicate, not};
 ghost use Rattle.av_frames.specs.Store.{seen, fresh, overlaid, is_in};
@@ -11,10 +14,13 @@ use std::alloc::{AllocError, Global};
 use std::collections::VecDeque;
 use std::marker::Model;
 
+/// A fixed number of frames of 4096 bytes, numbered from 0. Only `new` takes memory.
 #[derive(Drop)]
 pub struct Frames {
+    // The first is taken next. There is room for every frame, so that giving one back takes no memory.
     free: VecDeque<u32>,
     bytes: Vec<[u8; 4096]>,
+    // Whether each frame is out of `free`, so that no one has to search it.
     used: Vec<bool>,
     maps: Vec<u64>,
     homes: Vec<Option<(u64, u64)>>,
@@ -35,19 +41,19 @@ impl Model for Frames {
 }
 
 impl Frames {
-    /// This many frames, all free and without any entry.
+    /// This many frames, all free in order of their numbers, full of zeros, and named by no entry.
     pub fn new(alloc: Global, count: u32) -> Result<Frames, AllocError>
         ensures { IfOk result (λ frames. seen frames ≡ fresh count) }
     {
-        let n = count as usize;
+        let len = count as usize;
         Ok(Frames {
             free: all_numbers(alloc, count)?,
-            bytes: filled(alloc, blank(), n)?,
-            used: filled(alloc, false, n)?,
-            maps: filled(alloc, 0, n)?,
-            homes: filled(alloc, None, n)?,
-            dirty: filled(alloc, false, n)?,
-            slots: filled(alloc, None, n)?,
+            bytes: filled(alloc, blank(), len)?,
+            used: filled(alloc, false, len)?,
+            maps: filled(alloc, 0, len)?,
+            homes: filled(alloc, None, len)?,
+            dirty: filled(alloc, false, len)?,
+            slots: filled(alloc, None, len)?,
         })
     }
 
@@ -55,7 +61,7 @@ impl Frames {
     pub fn take(&mut self) -> Option<u32>
         ensures { MatchOption result
             ((self.old.free ≡ []) × (seen self.new ≡ seen self.old))
-            (λ f. (self.old.free ≡ f ∷ self.new.free) × (f < length self.old.bytes) × (is_in f self.new.free ≡ false) × (seen self.new ≡ record (seen self.old) { free = self.new.free })) }
+            (λ f. (self.old.free ≡ f ∷ self.new.free) × (f < (seen self.old).count) × (is_in f self.new.free ≡ false) × (seen self.new ≡ record (seen self.old) { free = self.new.free })) }
     {
         let frame = self.free.pop_front()?;
         self.used[frame as usize] = true;
@@ -64,7 +70,7 @@ impl Frames {
 
     /// Puts a frame in front of the free ones.
     pub fn give(&mut self, frame: u32)
-        requires in_range { frame < length self.old.bytes }
+        requires in_range { frame < (seen self.old).count }
         requires not_free { is_in frame self.old.free ≡ false }
         ensures { seen self.new ≡ record (seen self.old) { free = frame ∷ self.old.free } }
     {
@@ -81,68 +87,73 @@ impl Frames {
 
     /// How many entries name the frame.
     pub fn maps(&self, frame: u32) -> u64
-        requires { frame < length self.now.bytes }
+        requires { frame < (seen self.now).count }
         ensures { result ≡ (seen self.now).maps frame }
     {
         self.maps[frame as usize]
     }
 
+    /// One more entry names the frame.
     pub fn map_up(&mut self, frame: u32)
-        requires in_range { frame < length self.old.bytes }
+        requires in_range { frame < (seen self.old).count }
         requires room { (seen self.old).maps frame < 2 ^ 64 - 1 }
         ensures { seen self.new ≡ record (seen self.old) { maps = with_at frame ((seen self.old).maps frame + 1) (seen self.old).maps } }
     {
         self.maps[frame as usize] += 1;
     }
 
+    /// One entry fewer names the frame.
     pub fn map_down(&mut self, frame: u32)
-        requires in_range { frame < length self.old.bytes }
+        requires in_range { frame < (seen self.old).count }
         requires some { 0 < (seen self.old).maps frame }
         ensures { seen self.new ≡ record (seen self.old) { maps = with_at frame ((seen self.old).maps frame - 1) (seen self.old).maps } }
     {
         self.maps[frame as usize] -= 1;
     }
 
-    /// The frame's home: an anon_vma and a linear index.
+    /// Where the entries of the frame are found: an anon_vma's number, and the page's linear index there.
     pub fn home(&self, frame: u32) -> Option<(u64, u64)>
-        requires { frame < length self.now.bytes }
+        requires { frame < (seen self.now).count }
         ensures { result ≡ (seen self.now).home frame }
     {
         self.homes[frame as usize]
     }
 
+    /// Sets the frame's home.
     pub fn set_home(&mut self, frame: u32, home: Option<(u64, u64)>)
-        requires { frame < length self.old.bytes }
+        requires { frame < (seen self.old).count }
         ensures { seen self.new ≡ record (seen self.old) { home = with_at frame home (seen self.old).home } }
     {
         self.homes[frame as usize] = home;
     }
 
-    /// Whether the frame changed since its slot was written.
+    /// Whether the frame's bytes may differ from those in its slot.
     pub fn dirty(&self, frame: u32) -> bool
-        requires { frame < length self.now.bytes }
+        requires { frame < (seen self.now).count }
         ensures { result ≡ (seen self.now).dirty frame }
     {
         self.dirty[frame as usize]
     }
 
+    /// Sets whether they may differ.
     pub fn set_dirty(&mut self, frame: u32, dirty: bool)
-        requires { frame < length self.old.bytes }
+        requires { frame < (seen self.old).count }
         ensures { seen self.new ≡ record (seen self.old) { dirty = with_at frame dirty (seen self.old).dirty } }
     {
         self.dirty[frame as usize] = dirty;
     }
 
-    /// The slot at which the frame is cached.
+    /// The slot at which the frame is in the swap cache, if it is there.
     pub fn slot(&self, frame: u32) -> Option<Slot>
-        requires { frame < length self.now.bytes }
+        requires { frame < (seen self.now).count }
         ensures { result ≡ (seen self.now).slot frame }
     {
         self.slots[frame as usize]
     }
 
+    /// Sets that slot.
     pub fn set_slot(&mut self, frame: u32, slot: Option<Slot>)
-        requires { frame < length self.old.bytes }
+        requires { frame < (seen self.old).count }
         ensures { seen self.new ≡ record (seen self.old) { slot = with_at frame slot (seen self.old).slot } }
     {
         self.slots[frame as usize] = slot;
@@ -155,34 +166,35 @@ impl Frames {
         self.free.len() as u32
     }
 
+    /// Whether a frame is free.
     pub fn is_free(&self, frame: u32) -> bool
-        requires { frame < length self.now.bytes }
+        requires { frame < (seen self.now).count }
         ensures { result ≡ is_in frame self.now.free }
     {
         !self.used[frame as usize]
     }
 
-    /// The bytes of a frame.
+    /// The 4096 bytes of a frame.
     pub fn bytes(&self, frame: u32) -> &[u8]
-        requires { frame < length self.now.bytes }
+        requires { frame < (seen self.now).count }
         ensures long { length result.now ≡ 4096 }
         ensures bytes { (i : ℕ) → slice_index result.now i ≡ (seen self.now).bytes frame i }
     {
         &self.bytes[frame as usize]
     }
 
-    /// Lays a piece over the bytes of a frame.
+    /// Writes a piece over a frame's bytes from `at` on.
     pub fn write_at(&mut self, frame: u32, at: usize, piece: &[u8])
-        requires in_range { frame < length self.old.bytes }
+        requires in_range { frame < (seen self.old).count }
         requires fits { at + length piece.now ≤ 4096 }
         ensures { seen self.new ≡ record (seen self.old) { bytes = with_at frame (overlaid at piece.now ((seen self.old).bytes frame)) (seen self.old).bytes } }
     {
         overlay(&mut self.bytes[frame as usize], at, piece);
     }
 
-    /// Copies the bytes of a frame to another.
+    /// Copies the bytes of one frame to another.
     pub fn copy(&mut self, from: u32, to: u32)
-        requires { (from < length self.old.bytes) × (to < length self.old.bytes) }
+        requires { (from < (seen self.old).count) × (to < (seen self.old).count) }
         ensures { seen self.new ≡ record (seen self.old) { bytes = with_at to ((seen self.old).bytes from) (seen self.old).bytes } }
     {
         self.bytes[to as usize] = self.bytes[from as usize];
@@ -190,15 +202,15 @@ impl Frames {
 
     /// Makes each byte of a frame zero.
     pub fn zero(&mut self, frame: u32)
-        requires { frame < length self.old.bytes }
+        requires { frame < (seen self.old).count }
         ensures { seen self.new ≡ record (seen self.old) { bytes = with_at frame (λ i. 0) (seen self.old).bytes } }
     {
         self.bytes[frame as usize] = blank();
     }
 
-    /// Makes a page of bytes those of a frame.
+    /// Makes a frame's bytes those of a page, as it was read from a device.
     pub fn load(&mut self, frame: u32, page: &[u8])
-        requires in_range { frame < length self.old.bytes }
+        requires in_range { frame < (seen self.old).count }
         requires long { length page.now ≡ 4096 }
         ensures { seen self.new ≡ record (seen self.old) { bytes = with_at frame (slice_index page.now) (seen self.old).bytes } }
     {
@@ -213,7 +225,7 @@ fn blank() -> [u8; 4096]
     [0; 4096]
 }
 
-/// Lays a piece over a page.
+/// Writes a piece over a page from `at` on.
 fn overlay(page: &mut [u8; 4096], at: usize, piece: &[u8])
     requires { at + length piece.now ≤ 4096 }
     ensures over { (i : ℕ) → slice_index page.new i ≡ overlaid at piece.now (slice_index page.old) i }
@@ -239,7 +251,7 @@ fn filled<T: Copy>(alloc: Global, value: T, count: usize) -> Result<Vec<T>, Allo
     Ok(values)
 }
 
-/// The numbers below the count, with room for no more.
+/// The numbers below the count, with the room that they take.
 #[tactic(auto, using(crate::proofs::Fresh::numbers_next))]
 fn all_numbers(alloc: Global, count: u32) -> Result<VecDeque<u32>, AllocError>
     ensures { IfOk result (λ q. (q.items ≡ numbers 0 count) × (deque_len q ≡ count) × (count ≤ deque_capacity q)) }

@@ -8,3 +8,12 @@ pub mod PageSafe
 pub mod PageMade
 pub mod PageSteps
 pub mod PageShown
+pub mod Parts
+pub mod Fresh
+pub mod Commands
+pub mod Counting
+pub mod SpacesLaws
+pub mod AccessPages
+pub mod AccessBytes
+pub mod AccessParts
+pub mod AccessSteps

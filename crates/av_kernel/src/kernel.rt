@@ -1,6 +1,6 @@
 //! The kernel, one command at a time.
 
-ghost use Rattle.std.specs.Prelude.{◌≡◌, ◌<◌, ◌^◌, IfOk, OnOk, OnErr, true, false, replicate};
+ghost use Rattle.std.specs.Prelude.{◌≡◌, ℕ, ◌<◌, ◌^◌, slice_index, length, IfOk, OnOk, OnErr, true, false, replicate};
 ghost use Rattle.av_plain.specs.Transcript.{State, at_first};
 ghost use Rattle.av_kernel.specs.Kernel.{Stands, Steps, Counts, word_of, counted};
 ghost use Rattle.av_kernel.specs.View.{setting};
@@ -109,7 +109,9 @@ fn word(answer: &Answer) -> Option<usize>
 
 /// One more reply with this answer.
 fn count_word(tally: &mut [u32; 8], answer: &Answer)
-    ensures { tally.new ≡ counted (word_of answer.now) tally.old }
+    requires { (i : ℕ) → slice_index tally.old i < 2 ^ 24 }
+    ensures counted { tally.new ≡ counted (word_of answer.now) tally.old }
+    ensures words { length tally.new ≡ 8 }
 {
     if let Some(place) = word(answer) {
         tally[place] += 1;

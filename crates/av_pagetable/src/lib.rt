@@ -4,6 +4,8 @@
 mod pte;
 mod table;
 mod tables;
+#[cfg(test)]
+mod tests;
 
 pub use pte::Pte;
 pub use table::{MapTable, Table};

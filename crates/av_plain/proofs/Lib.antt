@@ -16,3 +16,7 @@ pub mod SoundThere
 pub mod Soundness
 pub mod SoundBound
 pub mod SoundMeans
+pub mod OutOfMemory
+pub mod FirstRows
+pub mod SwapRows
+pub mod LedgerRows

@@ -260,4 +260,3 @@ used-kept m x l write k s = by write (entry l k) refl
     by write (Some (InSlot t)) is = s
     by false (Some (InFrame f seen)) is = seen-kept m x l k f seen true s is
     by true (Some (InFrame f seen)) is = stale f seen is (slot_of l f)
-

@@ -148,7 +148,7 @@ copied-kept m x l k f g seen s at shared below free =
       in_range = λ j h. let a = me j in in_range_of (j == f) j m.frames (mapped (set_entry k new l) j) (mapped l j) (holders l j) (λ is. subst (λ n. n < m.frames) (sym (same-is j f is)) below) (omega (arith, a)) (s.in_range j) h;
       listed = λ j. listings-to_head f j l ∙ listed_of (j == f) (listings l j) (uses l j) (mapped (set_entry k new l) j + holders l j) (s.listed j)
           (λ is. let a = me j in let c = flag _ _ is in
-            let ne : cond (j == g) 1 0 ≤ mapped l j = old j (j == g) refl in let ze = ap (uses l) (same-is j f is) ∙ free in omega (arith, a, c, ne, ze))
+          let ne : cond (j == g) 1 0 ≤ mapped l j = old j (j == g) refl in let ze = ap (uses l) (same-is j f is) ∙ free in omega (arith, a, c, ne, ze))
           (λ is. let a = me j in let c = flag _ _ is in left j (j == g) refl (mapped (set_entry k new l) j) (omega (arith, a, c)));
       flying = s.flying;
       used = λ t j h. let a = me j in let b = se t in still t j h (j == g) refl (mapped (set_entry k new l) j) (slot_entries (set_entry k new l) t) b (omega (arith, a));

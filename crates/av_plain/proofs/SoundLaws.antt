@@ -47,6 +47,7 @@ count-without-list f g (x ∷ fs) =
     gone true c n h = refl
     gone false true n h = cc
     gone false false n h = omega arith
+
     other : (b c : Bool) (n : ℕ) → (b ≡ true → c ≡ true → ⊥) → cond c 1 0 + cond b 0 n ≡ cond b 0 (cond c 1 0 + n)
     other true true n h = absurd (h refl refl)
     other true false n h = refl

@@ -30,9 +30,10 @@ others-differ c (d ∷ cs) h i = (neither (same_slot c.slot d.slot) (c.frame == 
 distinct : (cs : List Cached) → ((s : Slot) → how_many (λ (c : Cached). same_slot s c.slot) cs ≤ 1) → ((f : ℕ) → how_many (λ (c : Cached). f == c.frame) cs ≤ 1) → IsDistinct same_cached cs
 unfolding IsDistinct
 distinct [] h i = tt
-distinct (c ∷ cs) h i =
-    (others-differ c cs (let a = h c.slot in let b = flag _ _ (slot-itself c.slot) in omega (arith, a, b)) (let a = i c.frame in let b = flag _ _ (same-itself c.frame) in omega (arith, a, b)),
-    distinct cs (λ s. let a = h s in omega (arith, a)) (λ f. let a = i f in omega (arith, a)))
+distinct (c ∷ cs) h i = (
+  others-differ c cs (let a = h c.slot in let b = flag _ _ (slot-itself c.slot) in omega (arith, a, b)) (let a = i c.frame in let b = flag _ _ (same-itself c.frame) in omega (arith, a, b)),
+  distinct cs (λ s. let a = h s in omega (arith, a)) (λ f. let a = i f in omega (arith, a)),
+)
 
 in_range_all : (cs : List Cached) (n : ℕ) → ((f : ℕ) → 0 < how_many (λ (c : Cached). f == c.frame) cs → f < n) → AllByRecursion (λ (c : Cached). c.frame < n) cs
 in_range_all [] n h = tt

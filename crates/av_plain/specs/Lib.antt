@@ -10,3 +10,4 @@ pub mod Transcript
 pub mod Sound
 pub mod Says
 pub mod Stands
+pub mod Rows

@@ -22,6 +22,7 @@ is_of l f e = names_frame f e || is_at_slot (slot_of l f) e
 abbrev pub same_cached : Cached → Cached → Bool
 same_cached a b = same_slot a.slot b.slot || a.frame == b.frame
 
+-- what is true of memories and a ledger that are sound
 pub record SaysSound (m : Setting) (w : World) (l : Ledger) : Type 0 where
   -- processes rise by number, and there are at most 4096
   pub processes : T (is_sorted nat_cmp w)

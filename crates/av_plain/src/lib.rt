@@ -4,8 +4,14 @@
 //! No function does anything. Each one's contract is a law, proved of the definitions alone.
 #![tactic(auto)]
 
-ghost use Rattle.std.specs.Prelude.{ℕ, List, []};
+mod rows;
+
+pub use rows::{ledger_rows_lead, rows_run, shared_rows_run, swap_rows_run};
+
+ghost use Rattle.std.specs.Prelude.{◌≡◌, ℕ, ◌+◌, List, []};
 ghost use Rattle.av_trace.specs.declared.command.Command.{Command};
+ghost use Rattle.av_trace.specs.declared.reply.OutOf.{OutOf};
+ghost use Rattle.av_trace.specs.declared.reply.Answer.TheVariants.{Oom};
 ghost use Rattle.av_trace.specs.declared.reply.Reply.{Reply};
 ghost use Rattle.av_plain.specs.World.{World};
 ghost use Rattle.av_plain.specs.Ledger.{Ledger, Setting, fresh};
@@ -34,4 +40,9 @@ pub fn runs_are_legal()
 /// processes live.
 pub fn what_sound_says()
     ensures { (m : Setting) (w : World) (l : Ledger) → AllSound m w l → SaysSound m w l }
+{}
+
+/// The three numbers of an out-of-memory are all frames: pinned, not cached, and cached.
+pub fn numbers_add_up()
+    ensures { (m : Setting) (w : World) (l : Ledger) (command : Command) (reply : Reply) (events : List Event) (k : ℕ) (out : OutOf) (shown : List ℕ) → AllSound m w l → IsLegal m w l command reply events → reply.answer ≡ Oom k out shown → out.pinned + out.noslot + out.fault ≡ m.frames }
 {}

@@ -1,13 +1,15 @@
 -- Lists of spans of which no two meet.
-use Rattle.std.proofs.Common.{◌≡◌, ℕ, ◌+◌, ◌-◌, ◌^◌, ◌<◌, ◌≤◌, max, ◌⊎◌, inl, inr, Bool, true, false, cond, ◌&&◌, ◌||◌, eqb, ltb, leb, Option, Some, None, is_some, is_ok, IfSome, IsSomeAnd, OnOk, Result, Ok, Err, List, [], ◌∷◌, ◌++◌, length, refl, sym, ap, subst, ◌∙◌, arith}
-use Rattle.std.proofs.lemmas.Bool.{leb-true, ltb-true, ltb-false, le-leb, lt-leb, lt-ltb, le-ltb, eq-eqb, ne_eqb, eqb-true, both_ways, cases_lt, and_parts, cond-false}
+use Rattle.std.proofs.Common.{◌≡◌, ℕ, ◌+◌, ◌-◌, ◌^◌, ◌<◌, ◌≤◌, max, ◌⊎◌, inl, inr, Bool, true, false, cond, ◌&&◌, eqb, ltb, leb, Option, Some, None, option_map, is_some, IfSome, IsSomeAnd, List, [], ◌∷◌, ◌++◌, length, refl, sym, ap, subst, ◌∙◌, arith}
+use Rattle.std.proofs.lemmas.Bool.{leb-true, ltb-true, ltb-false, le-leb, lt-leb, lt-ltb, le-ltb, eq-eqb, ne_eqb, eqb-true, eqb-false, both_ways, cases_lt, and_parts, cond-false}
+use Rattle.std.specs.BTreeMap.{BTreeMap, get}
+use Rattle.std.specs.Ordering.{is_eq, nat_cmp}
 use Rattle.av_vma.specs.Gap.{low_page, top_page}
 use Rattle.av_vma.specs.Ranges.{with_at}
 use Rattle.av_tree.specs.Order.{AllOf, with_entry, without_key}
 use Rattle.av_vmatree.specs.declared.span.Span.{Span}
-use Rattle.av_vmatree.specs.Spans.{start_of, number_of, holds, area_at, taken, span_of, with_span, without_area, IsFree, AreApart, AreWithin, AreDistinct, AreSpans}
+use Rattle.av_vmatree.specs.Spans.{start_of, holds, area_after, area_at, area_before, or_else, taken, span_of, with_span, unless_area, without_area, IsFree, TellsStarts, AreApart, AreDistinct, AreSpans}
 
--- the first and the last of the n pages from p on, and all between, are of no span
+-- no span meets the n pages from p on
 abbrev pub AreClear : List Span → ℕ → ℕ → Type 0
 AreClear xs p n = AllOf (λ a. (a.to ≤ p) ⊎ (p + n ≤ a.from)) xs
 
@@ -37,16 +39,16 @@ tail_free s xs f t free = λ page low high. some_free (holds s page) s.area (are
 
 head_clear : (s : Span) (xs : List Span) (p n : ℕ) → 1 ≤ n → s.from < s.to → IsFree (taken (s ∷ xs)) p (p + n) → (s.to ≤ p) ⊎ (p + n ≤ s.from)
 head_clear s xs p n one some free = elim (cases_lt p s.to) [
-    | inr past ↦ inl past
-    | inl not_past ↦ elim (cases_lt s.from (p + n)) [
-        | inr before ↦ inr before
-        | inl not_before ↦
-            let page = max p s.from in
-            let here : holds s page ≡ true = holds_here s page (omega arith) (omega arith) in
-            let met : taken (s ∷ xs) page ≡ true = rw here refl in
-            absurd (both_ways _ (free page (omega arith) (omega arith)) met)
-      ]
+  | inr past ↦ inl past
+  | inl not_past ↦ elim (cases_lt s.from (p + n)) [
+    | inr before ↦ inr before
+    | inl not_before ↦
+        let page = max p s.from in
+        let here : holds s page ≡ true = holds_here s page (omega arith) (omega arith) in
+        let met : taken (s ∷ xs) page ≡ true = rw here refl in
+        absurd (both_ways _ (free page (omega arith) (omega arith)) met)
   ]
+]
 
 -- pages that are not taken are of no span
 pub clear_from_free : (p n : ℕ) (xs : List Span) → 1 ≤ n → AreApart xs → IsFree (taken xs) p (p + n) → AreClear xs p n
@@ -165,9 +167,9 @@ held (b ∷ xs) p d =
   where
     later : (n : ℕ) → IsSomeAnd (span_of xs n) (λ s. holds s p ≡ true) → IsSomeAnd (cond (eqb n b.area) (Some b) (span_of xs n)) (λ s. holds s p ≡ true)
     later n h = elim (eqb n b.area) as (λ v. eqb n b.area ≡ v → IsSomeAnd (cond v (Some b) (span_of xs n)) (λ s. holds s p ≡ true)) [
-        | true ↦ λ e. absurd (subst (λ o. IsSomeAnd o (λ s. holds s p ≡ true)) (ap (span_of xs) (eqb-true _ _ e) ∙ d.0) h)
-        | false ↦ λ e. h
-      ] refl
+      | true ↦ λ e. absurd (subst (λ o. IsSomeAnd o (λ s. holds s p ≡ true)) (ap (span_of xs) (eqb-true _ _ e) ∙ d.0) h)
+      | false ↦ λ e. h
+    ] refl
 
 -- two tests of which one at most passes may be asked in either order
 swap_tests : {X : Type 0} (a b : Bool) (x y z : X) → (b ≡ true → a ≡ false) → cond a x (cond b y z) ≡ cond b y (cond a x z)
@@ -222,7 +224,7 @@ distinct_with a (b ∷ xs) some s f new d =
           let later = other_later a b xs new in
           rw (lt-ltb b.from a.from less) (
             span_with a xs b.area some s.2 f.1 later ∙ cond-false (eqb b.area a.area) (Some a) (span_of xs b.area) (ne_eqb _ _ (λ same. other_here a b xs new (sym same))) ∙ d.0,
-            distinct_with a xs some s.2 f.1 later d.1
+            distinct_with a xs some s.2 f.1 later d.1,
           )
     ] refl
 
@@ -239,10 +241,10 @@ inserted a xs good some low high free new =
       good = record {
         apart = apart_with a xs some good.apart clear;
         within = within_with low_page top_page a xs low high good.within;
-        distinct = distinct_with a xs some good.apart clear new good.distinct
+        distinct = distinct_with a xs some good.apart clear new good.distinct;
       };
       areas = λ n. span_with a xs n some good.apart clear new;
-      pages = λ p. at_with a xs p some good.apart clear
+      pages = λ p. at_with a xs p some good.apart clear;
     }
 
 pub room_more : (xs : List Span) → AreSpans xs → length xs + 1 < 2 ^ 63
@@ -256,23 +258,176 @@ apart_left (b ∷ l) a r s = (s.0, all_front b l (a ∷ r) s.1, apart_left l a r
     all_front b [] m s = tt
     all_front b (c ∷ l) m s = (s.0, all_front b l m s.1)
 
+apart_tail : (l m : List Span) → AreApart (l ++ m) → AreApart m
+apart_tail [] m s = s
+apart_tail (b ∷ l) m s = apart_tail l m s.2
+
 pub apart_right : (l : List Span) (a : Span) (r : List Span) → AreApart (l ++ a ∷ r) → AreApart r
 apart_right [] a r s = s.2
 apart_right (b ∷ l) a r s = apart_right l a r s.2
 
+pub inserted_span : (a : Span) (d xs new : List Span) → d ≡ xs → new ≡ with_span a d → AreSpans d → a.from < a.to → low_page ≤ a.from → a.to ≤ top_page → IsFree (taken xs) a.from a.to → span_of xs a.area ≡ None → IsInserted a xs new
+inserted_span a d xs new is e good some low high free other =
+    subst (IsInserted a xs) (sym (e ∙ ap (with_span a) is)) (inserted a xs (subst AreSpans is good) some low high free other)
 
--- what an insertion leaves that may want memory
-pub record IsAfterInsert (ok : Bool) (a : Span) (xs new : List Span) : Type 0 where
+none_either : (v : Bool) (x : Option Span) → x ≡ None → x ≡ cond v None x
+none_either true x e = e
+none_either false x e = refl
+
+-- the spans with one less
+pub span_without : (n : ℕ) (xs : List Span) (k : ℕ) → AreDistinct xs → span_of (without_area n xs) k ≡ with_at n None (span_of xs) k
+span_without n [] k d = none_either (eqb k n) None refl
+span_without n (b ∷ xs) k d =
+    elim (eqb b.area n) as (λ v. eqb b.area n ≡ v → span_of (cond v xs (b ∷ without_area n xs)) k ≡ with_at n None (span_of (b ∷ xs)) k) [
+      | true ↦ λ e.
+          let same : b.area ≡ n = eqb-true _ _ e in
+          elim (eqb k n) as (λ v. eqb k n ≡ v → span_of xs k ≡ cond v None (cond (eqb k b.area) (Some b) (span_of xs k))) [
+            | true ↦ λ h. ap (span_of xs) (eqb-true k n h ∙ sym same) ∙ d.0
+            | false ↦ λ h. rw (same, h) refl
+          ] refl
+      | false ↦ λ e. rw (span_without n xs k d.1) (swap_tests (eqb k b.area) (eqb k n) (Some b) None (span_of xs k) (λ h. ne_eqb k b.area (λ same. eqb-false b.area n e (sym same ∙ eqb-true k n h))))
+    ] refl
+
+distinct_without : (n : ℕ) (xs : List Span) → AreDistinct xs → AreDistinct (without_area n xs)
+distinct_without n [] d = tt
+distinct_without n (b ∷ xs) d =
+    elim (eqb b.area n) as (λ v. eqb b.area n ≡ v → AreDistinct (cond v xs (b ∷ without_area n xs))) [
+      | true ↦ λ e. d.1
+      | false ↦ λ e. (rw (span_without n xs b.area d.1, e) d.0, distinct_without n xs d.1)
+    ] refl
+
+-- an area that is not there is at no page
+unless_none : (n : ℕ) (xs : List Span) (p : ℕ) → span_of xs n ≡ None → area_at xs p ≡ unless_area n (area_at xs p)
+unless_none n [] p none = refl
+unless_none n (b ∷ xs) p none =
+    elim (eqb n b.area) as (λ v. eqb n b.area ≡ v → cond v (Some b) (span_of xs n) ≡ None → area_at (b ∷ xs) p ≡ unless_area n (area_at (b ∷ xs) p)) [
+      | true ↦ λ e no. cc
+      | false ↦ λ e no. elim (holds b p) as (λ v. cond v (Some b.area) (area_at xs p) ≡ unless_area n (cond v (Some b.area) (area_at xs p))) [
+        | true ↦ rw (ne_eqb b.area n (λ same. eqb-false n b.area e (sym same))) refl
+        | false ↦ unless_none n xs p no
+      ]
+    ] refl none
+
+at_without : (n : ℕ) (xs : List Span) (p : ℕ) → AreApart xs → AreDistinct xs → area_at (without_area n xs) p ≡ unless_area n (area_at xs p)
+at_without n [] p s d = refl
+at_without n (b ∷ xs) p s d =
+    elim (eqb b.area n) as (λ v. eqb b.area n ≡ v → area_at (cond v xs (b ∷ without_area n xs)) p ≡ unless_area n (area_at (b ∷ xs) p)) [
+      | true ↦ λ e. elim (holds b p) as (λ v. holds b p ≡ v → area_at xs p ≡ unless_area n (cond v (Some b.area) (area_at xs p))) [
+        | true ↦ λ h. rw e (none_later p b xs (let high : p < b.from + (b.to - b.from) = ltb-true p (b.from + (b.to - b.from)) (and_parts (leb b.from p) (ltb p (b.from + (b.to - b.from))) h).1 in let wide : b.from < b.to = s.0 in omega arith) s.1)
+        | false ↦ λ h. unless_none n xs p (ap (span_of xs) (sym (eqb-true b.area n e)) ∙ d.0)
+      ] refl
+      | false ↦ λ e. elim (holds b p) as (λ v. cond v (Some b.area) (area_at (without_area n xs) p) ≡ unless_area n (cond v (Some b.area) (area_at xs p))) [
+        | true ↦ rw e refl
+        | false ↦ at_without n xs p s.2 d.1
+      ]
+    ] refl
+
+all_found : (P : Span → Type 0) (n : ℕ) (xs : List Span) (a : Span) → AllOf P xs → span_of xs n ≡ Some a → P a
+all_found P n [] a all found = cc
+all_found P n (b ∷ xs) a all found =
+    elim (eqb n b.area) as (λ v. cond v (Some b) (span_of xs n) ≡ Some a → P a) [
+      | true ↦ λ e. let same : b ≡ a = cc in subst P same all.0
+      | false ↦ λ e. all_found P n xs a all.1 e
+    ] found
+
+-- a span is taken out by its start as by its area
+without_start : (n : ℕ) (xs : List Span) (a : Span) → AreApart xs → span_of xs n ≡ Some a → without_key start_of a.from xs ≡ without_area n xs
+without_start n [] a s found = refl
+without_start n (b ∷ xs) a s found =
+    elim (eqb n b.area) as (λ v. eqb n b.area ≡ v → cond v (Some b) (span_of xs n) ≡ Some a → without_key start_of a.from (b ∷ xs) ≡ without_area n (b ∷ xs)) [
+      | true ↦ λ e found. let same : b ≡ a = cc in rw (eq-eqb b.from a.from (ap start_of same), eq-eqb b.area n (sym (eqb-true n b.area e))) refl
+      | false ↦ λ e found.
+          let later : b.to ≤ a.from = all_found (λ t. b.to ≤ t.from) n xs a s.1 found in
+          let wide : b.from < b.to = s.0 in
+          rw (ne_eqb b.from a.from (λ same. omega arith), ne_eqb b.area n (λ same. eqb-false n b.area e (sym same))) (ap (λ t. b ∷ t) (without_start n xs a s.2 found))
+    ] refl found
+
+-- what the removal of an area leaves
+pub record IsRemoved (n : ℕ) (xs new : List Span) : Type 0 where
   pub good : AreSpans new
-  pub inserted : ok ≡ true → IsInserted a xs new
+  pub spans : new ≡ without_area n xs
+  pub areas : (k : ℕ) → span_of new k ≡ with_at n None (span_of xs) k
+  pub pages : (p : ℕ) → area_at new p ≡ unless_area n (area_at xs p)
 
-pub after_insert : (ok : Bool) (a : Span) (d xs new : List Span) → d ≡ xs → new ≡ cond ok (with_span a d) d → AreSpans d → a.from < a.to → low_page ≤ a.from → a.to ≤ top_page → IsFree (taken xs) a.from a.to → span_of xs a.area ≡ None → IsAfterInsert ok a xs new
-after_insert true a d xs new is e good some low high free other =
-    let h = inserted a xs (subst AreSpans is good) some low high free other in
-    let same : new ≡ with_span a xs = e ∙ ap (with_span a) is in
-    record { good = subst AreSpans (sym same) h.good; inserted = λ _. subst (IsInserted a xs) (sym same) h }
-after_insert false a d xs new is e good some low high free other = record { good = subst AreSpans (sym e) good; inserted = λ no. cc }
+removed_span : (n : ℕ) (a : Span) (xs : List Span) → AreSpans xs → span_of xs n ≡ Some a → IsRemoved n xs (without_key start_of a.from xs)
+removed_span n a xs good found =
+    let same = without_start n xs a good.apart found in
+    record {
+      good = record {
+        apart = apart_without a.from xs good.apart;
+        within = within_without low_page top_page a.from xs good.within;
+        distinct = subst AreDistinct (sym same) (distinct_without n xs good.distinct);
+      };
+      spans = same;
+      areas = λ k. ap (λ t. span_of t k) same ∙ span_without n xs k good.distinct;
+      pages = λ p. ap (λ t. area_at t p) same ∙ at_without n xs p good.apart good.distinct;
+    }
 
-pub on_ok : {X E : Type 0} (r : Result X E) (P : Type 0) → (is_ok r ≡ true → P) → OnOk r P
-on_ok (Ok x) P f = f refl
-on_ok (Err e) P f = tt
+removed_found : (n first : ℕ) (found : Option Span) (xs : List Span) → AreSpans xs → span_of xs n ≡ found → option_map start_of found ≡ Some first → IsRemoved n xs (without_key start_of first xs)
+removed_found n first None xs good is e = cc
+removed_found n first (Some a) xs good is e = let same : a.from ≡ first = cc in subst (λ k. IsRemoved n xs (without_key start_of k xs)) same (removed_span n a xs good is)
+
+pub removed : (n first : ℕ) (d xs new : List Span) → d ≡ xs → AreSpans d → option_map start_of (span_of d n) ≡ Some first → new ≡ without_key start_of first d → IsRemoved n xs new
+removed n first d xs new is good found e =
+    subst (λ l. IsRemoved n l new) is (subst (IsRemoved n d) (sym e) (removed_found n first (span_of d n) d good refl found))
+
+-- the map of the starts
+same_number : (a b : ℕ) → is_eq (nat_cmp a b) ≡ eqb b a
+same_number a b = grind arith
+
+pub tells_insert : (a : Span) (m n : BTreeMap ℕ ℕ) (xs new : List Span) → TellsStarts m xs → ((q : ℕ) → get nat_cmp n q ≡ cond (is_eq (nat_cmp a.area q)) (Some a.from) (get nat_cmp m q)) → ((k : ℕ) → span_of new k ≡ with_at a.area (Some a) (span_of xs) k) → TellsStarts n new
+tells_insert a m n xs new tells put is = λ k. rw (put k, same_number a.area k, is k, tells k) (elim (eqb k a.area) as (λ v. cond v (Some a.from) (option_map start_of (span_of xs k)) ≡ option_map start_of (cond v (Some a) (span_of xs k))) [ true ↦ refl | false ↦ refl ])
+
+pub tells_remove : (area : ℕ) (m n : BTreeMap ℕ ℕ) (xs new : List Span) → TellsStarts m xs → ((q : ℕ) → get nat_cmp n q ≡ cond (is_eq (nat_cmp area q)) None (get nat_cmp m q)) → ((k : ℕ) → span_of new k ≡ with_at area None (span_of xs) k) → TellsStarts n new
+tells_remove area m n xs new tells cut is = λ k. rw (cut k, same_number area k, is k, tells k) (elim (eqb k area) as (λ v. cond v None (option_map start_of (span_of xs k)) ≡ option_map start_of (cond v None (span_of xs k))) [ true ↦ refl | false ↦ refl ])
+
+-- the nearest areas, down the tree
+pub or_else_assoc : (x y z : Option ℕ) → or_else (or_else x y) z ≡ or_else x (or_else y z)
+or_else_assoc (Some a) y z = refl
+or_else_assoc None y z = refl
+
+or_else_some : (x y : Option ℕ) (n : ℕ) → or_else (or_else x (Some n)) y ≡ or_else x (Some n)
+or_else_some (Some a) y n = refl
+or_else_some None y n = refl
+
+before_cut : (p : ℕ) (l m : List Span) → area_before (l ++ m) p ≡ or_else (area_before m p) (area_before l p)
+before_cut p [] m = elim (area_before m p) as (λ o. o ≡ or_else o None) [ Some x ↦ refl | None ↦ refl ]
+before_cut p (b ∷ l) m = ap (λ o. or_else o (cond (leb b.to p) (Some b.area) None)) (before_cut p l m) ∙ or_else_assoc (area_before m p) (area_before l p) _
+
+before_none : (p : ℕ) (a : Span) (xs : List Span) → p < a.to → AllOf (λ b. a.to ≤ b.from) xs → AreApart xs → area_before xs p ≡ None
+before_none p a [] h later s = refl
+before_none p a (b ∷ xs) h later s =
+    let wide : b.from < b.to = s.0 in
+    let k : a.to ≤ b.from = later.0 in
+    rw (before_none p a xs h later.1 s.2, lt-leb b.to p (omega arith)) refl
+
+pub before_right : (p : ℕ) (d l : List Span) (a : Span) (r : List Span) (near : Option ℕ) → d ≡ l ++ a ∷ r → a.to ≤ p → or_else (area_before r p) (Some a.area) ≡ or_else (area_before d p) near
+before_right p d l a r near is h =
+    rw (is, before_cut p l (a ∷ r), le-leb a.to p h, or_else_some (area_before r p) (area_before l p) a.area, or_else_some (area_before r p) near a.area) refl
+
+pub before_left : (p : ℕ) (d l : List Span) (a : Span) (r : List Span) (near : Option ℕ) → d ≡ l ++ a ∷ r → AreApart d → p < a.to → or_else (area_before l p) near ≡ or_else (area_before d p) near
+before_left p d l a r near is s h =
+    let apart = apart_tail l (a ∷ r) (subst AreApart is s) in
+    rw (is, before_cut p l (a ∷ r), before_none p a r h apart.1 apart.2, lt-leb a.to p h) refl
+
+after_cut : (p : ℕ) (l m : List Span) → area_after (l ++ m) p ≡ or_else (area_after l p) (area_after m p)
+after_cut p [] m = refl
+after_cut p (b ∷ l) m = elim (ltb p b.from) as (λ v. cond v (Some b.area) (area_after (l ++ m) p) ≡ or_else (cond v (Some b.area) (area_after l p)) (area_after m p)) [ true ↦ refl | false ↦ after_cut p l m ]
+
+after_none : (p : ℕ) (l : List Span) (a : Span) (r : List Span) → a.from ≤ p → AreApart (l ++ a ∷ r) → area_after l p ≡ None
+after_none p [] a r h s = refl
+after_none p (b ∷ l) a r h s =
+    let wide : b.from < b.to = s.0 in
+    let k : b.to ≤ a.from = middle_after b l a r s.1 in
+    rw (le-ltb p b.from (omega arith)) (after_none p l a r h s.2)
+
+pub after_left : (p : ℕ) (d l : List Span) (a : Span) (r : List Span) (near : Option ℕ) → d ≡ l ++ a ∷ r → p < a.from → or_else (area_after l p) (Some a.area) ≡ or_else (area_after d p) near
+after_left p d l a r near is h =
+    rw (is, after_cut p l (a ∷ r), lt-ltb p a.from h, or_else_some (area_after l p) near a.area) refl
+
+pub after_right : (p : ℕ) (d l : List Span) (a : Span) (r : List Span) (near : Option ℕ) → d ≡ l ++ a ∷ r → AreApart d → a.from ≤ p → or_else (area_after r p) near ≡ or_else (area_after d p) near
+after_right p d l a r near is s h =
+    rw (is, after_cut p l (a ∷ r), after_none p l a r h (subst AreApart is s), le-ltb p a.from h) refl
+
+pub room_here : (xs : List Span) → AreSpans xs → length xs < 2 ^ 63
+room_here xs g = let h = room_more xs g in omega (arith, h)

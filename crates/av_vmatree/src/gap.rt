@@ -1,14 +1,13 @@
-//! The greatest gap, by the extent of each subtree.
 ghost use Rattle.std.specs.Prelude.{◌≡◌, ◌≤◌};
 ghost use Rattle.av_vma.specs.Gap.{IsGap};
 ghost use Rattle.av_vmatree.specs.Extent.{last_between, fits};
 ghost use Rattle.av_vmatree.specs.Spans.{AreApart, AreWithin, taken};
 
 use crate::span::{Extent, Span};
-use crate::tree::{LOW_PAGE, TOP_PAGE};
 use av_tree::Avl;
+use av_vma::{LOW_PAGE, TOP_PAGE};
 
-/// The greatest page from which on `pages` pages are free.
+/// The greatest page from which on `pages` pages are free. The extent of each subtree tells on which side it lies.
 pub fn gap_in(spans: &Avl<Span>, pages: u64) -> Option<u64>
     requires some { 1 ≤ pages }
     requires apart { AreApart spans.now.0 }
@@ -17,14 +16,14 @@ pub fn gap_in(spans: &Avl<Span>, pages: u64) -> Option<u64>
 {
     let mut low = LOW_PAGE;
     let mut high = TOP_PAGE;
-    let mut cur = spans;
-    'down: while let Some((left, span, right)) = cur.parts() {
+    let mut part = spans;
+    'down: while let Some((left, span, right)) = part.parts() {
         if is_room(right.sum(), span.to, high, pages) {
             low = span.to;
-            cur = right;
+            part = right;
         } else {
             high = span.from;
-            cur = left;
+            part = left;
         }
     }
     last_start(low, high, pages)
@@ -36,7 +35,7 @@ fn is_room(row: Extent, low: u64, high: u64, pages: u64) -> bool
 {
     match row {
         Extent::Nothing => pages <= high.saturating_sub(low),
-        Extent::Between(from, to, widest) => {
+        Extent::Between { from, to, widest } => {
             pages <= widest || pages <= from.saturating_sub(low) || pages <= high.saturating_sub(to)
         }
     }

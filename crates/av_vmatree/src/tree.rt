@@ -1,39 +1,38 @@
-ghost use Rattle.std.specs.Prelude.{◌≡◌, ℕ, ◌-◌, ◌<◌, ◌≤◌, [], Some, None, true, false, is_ok, IfSome, IsSomeAnd, OnOk, if◌then◌else◌};
+ghost use Rattle.std.specs.Prelude.{◌≡◌, ℕ, ◌-◌, ◌<◌, ◌≤◌, [], Some, None, true, false, is_ok, IfSome, IsSome, IsSomeAnd, OnOk, if◌then◌else◌};
 ghost use Rattle.av_vma.specs.Gap.{low_page, top_page, IsGap};
 ghost use Rattle.av_vma.specs.Ranges.{within, with_at};
-ghost use Rattle.av_vmatree.specs.Spans.{AreSpans, IsFree, IsMet, area_at, holds, span, span_of, taken, with_span};
+ghost use Rattle.av_vmatree.specs.Spans.{AreSpans, IsFree, IsMet, area_after, area_at, area_before, holds, span, span_of, taken, unless_area, with_span, without_area};
 
 use crate::gap::gap_in;
 use crate::span::Span;
 use av_tree::Avl;
+use av_vma::AreaId;
 use std::alloc::{AllocError, Global};
+use std::collections::BTreeMap;
 use std::marker::Model;
-
-/// The lowest page that can be mapped.
-pub const LOW_PAGE: u64 = 16;
-
-/// The first page that no process can have.
-pub const TOP_PAGE: u64 = 0x7ffffffff;
 
 /// The areas of one process, seen as the list of their spans in the order of their pages.
 ///
+/// Pages go by number, which is their address over 4096. A call takes time logarithmic in the number of areas.
 /// No two spans share a page or an area, and each lies from page 16 to below page 0x7ffffffff.
 #[derive(Drop)]
 pub struct Tree {
     spans: Avl<Span>,
+    /// The page that each area begins with.
+    starts: BTreeMap<AreaId, u64>,
     alloc: Global,
 }
 
 impl Model for Tree {
     ghost use Rattle.std.specs.Prelude.{List};
     ghost use Rattle.av_vmatree.specs.declared.span.Span.{Span};
-    ghost use Rattle.av_vmatree.specs.Spans.{AreSpans};
+    ghost use Rattle.av_vmatree.specs.Spans.{AreSpans, TellsStarts};
 
     ghost Value = { List Span };
 
     ghost view = { λ t. t.spans.0 };
 
-    ghost invariant = { λ t. AreSpans t.spans.0 };
+    ghost invariant = { λ t. AreSpans t.spans.0 × TellsStarts t.starts t.spans.0 };
 }
 
 impl Tree {
@@ -43,12 +42,15 @@ impl Tree {
     {
         Tree {
             spans: Avl::new(),
+            starts: BTreeMap::new(alloc),
             alloc,
         }
     }
 
-    /// Puts in an area on free pages. Without memory all stays.
-    pub fn insert(&mut self, area: u64, from: u64, to: u64) -> Result<(), AllocError>
+    /// Puts in an area, new to the process, with the pages from `from` to below `to`, all of them free.
+    ///
+    /// Without memory all stays.
+    pub fn insert(&mut self, area: AreaId, from: u64, to: u64) -> Result<(), AllocError>
         requires some { from < to }
         requires low { low_page ≤ from }
         requires high { to ≤ top_page }
@@ -59,25 +61,84 @@ impl Tree {
         ensures pages { OnOk result ((page : ℕ) → area_at self.new page ≡ (if within from (to - from) page then Some area else area_at self.old page)) }
         ensures kept { AreSpans self.new }
     {
-        self.spans.insert(self.alloc, Span { from, to, area })
+        self.starts.insert(area, from)?;
+        match self.spans.insert(self.alloc, Span { from, to, area }) {
+            Ok(()) => Ok(()),
+            Err(error) => {
+                self.starts.remove(&area);
+                Err(error)
+            }
+        }
+    }
+
+    /// Takes out an area that is there.
+    pub fn remove(&mut self, area: AreaId)
+        requires there { IsSome (span_of self.old area) }
+        ensures spans { self.new ≡ without_area area self.old }
+        ensures areas { (number : ℕ) → span_of self.new number ≡ with_at area None (span_of self.old) number }
+        ensures pages { (page : ℕ) → area_at self.new page ≡ unless_area area (area_at self.old page) }
+        ensures kept { AreSpans self.new }
+    {
+        let Some(from) = self.starts.remove(&area) else {
+            unreachable!()
+        };
+        self.spans.remove(&Span {
+            from,
+            to: from,
+            area,
+        });
     }
 
     /// The area that holds the page.
-    pub fn find(&self, page: u64) -> Option<u64>
+    pub fn find(&self, page: u64) -> Option<AreaId>
         ensures area { result ≡ area_at self.now page }
         ensures span { IfSome result (λ area. IsSomeAnd (span_of self.now area) (λ s. holds s page ≡ true)) }
     {
-        let mut cur = &self.spans;
-        'down: while let Some((left, span, right)) = cur.parts() {
+        let mut part = &self.spans;
+        'down: while let Some((left, span, right)) = part.parts() {
             if page < span.from {
-                cur = left;
+                part = left;
             } else if span.to <= page {
-                cur = right;
+                part = right;
             } else {
                 return Some(span.area);
             }
         }
         None
+    }
+
+    /// The nearest area wholly below the page.
+    pub fn before(&self, page: u64) -> Option<AreaId>
+        ensures { result ≡ area_before self.now page }
+    {
+        let mut nearest = None;
+        let mut part = &self.spans;
+        'down: while let Some((left, span, right)) = part.parts() {
+            if span.to <= page {
+                nearest = Some(span.area);
+                part = right;
+            } else {
+                part = left;
+            }
+        }
+        nearest
+    }
+
+    /// The nearest area wholly above the page.
+    pub fn after(&self, page: u64) -> Option<AreaId>
+        ensures { result ≡ area_after self.now page }
+    {
+        let mut nearest = None;
+        let mut part = &self.spans;
+        'down: while let Some((left, span, right)) = part.parts() {
+            if span.from <= page {
+                part = right;
+            } else {
+                nearest = Some(span.area);
+                part = left;
+            }
+        }
+        nearest
     }
 
     /// Whether no area holds a page from `from` to below `to`.
@@ -89,12 +150,12 @@ impl Tree {
         if from == to {
             return true;
         }
-        let mut cur = &self.spans;
-        'down: while let Some((left, span, right)) = cur.parts() {
+        let mut part = &self.spans;
+        'down: while let Some((left, span, right)) = part.parts() {
             if to <= span.from {
-                cur = left;
+                part = left;
             } else if span.to <= from {
-                cur = right;
+                part = right;
             } else {
                 return false;
             }
@@ -102,7 +163,7 @@ impl Tree {
         true
     }
 
-    /// The greatest page from which on `pages` pages are free, or none where as many are nowhere together.
+    /// The greatest page from which on `pages` pages are free, or none where there is no such page.
     pub fn gap(&self, pages: u64) -> Option<u64>
         requires { 1 ≤ pages }
         ensures { IsGap (taken self.now) pages result }

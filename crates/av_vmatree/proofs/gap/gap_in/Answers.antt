@@ -15,10 +15,10 @@ pub down-preserved-then-is_room : goal.down-preserved-then-is_room
 down-preserved-then-is_room c =
     let s = c.in-Some in
     let e : fits c.args.pages s.span.now.to c.down.high (row_of s.right.now.0) ≡ true = search rules in
-    gap_right c.args.pages c.down.low c.down.high c.down.cur.now.0 s.left.now.0 s.span.now s.right.now.0 s.ensures.parts.entries c.requires.some e ∙ c.down.invariant
+    gap_right c.args.pages c.down.low c.down.high c.down.part.now.0 s.left.now.0 s.span.now s.right.now.0 s.ensures.parts.entries c.requires.some e ∙ c.down.invariant
 
 pub down-preserved : goal.down-preserved
 down-preserved c =
     let s = c.in-Some in
     let e : fits c.args.pages s.span.now.to c.down.high (row_of s.right.now.0) ≡ false = search rules in
-    gap_left c.args.pages c.down.low c.down.high c.down.cur.now.0 s.left.now.0 s.span.now s.right.now.0 s.ensures.parts.entries c.requires.some e ∙ c.down.invariant
+    gap_left c.args.pages c.down.low c.down.high c.down.part.now.0 s.left.now.0 s.span.now s.right.now.0 s.ensures.parts.entries c.requires.some e ∙ c.down.invariant
