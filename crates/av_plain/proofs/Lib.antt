@@ -20,3 +20,5 @@ pub mod OutOfMemory
 pub mod FirstRows
 pub mod SwapRows
 pub mod LedgerRows
+pub mod OnePage
+pub mod Determined

@@ -10,4 +10,5 @@ pub mod Transcript
 pub mod Sound
 pub mod Says
 pub mod Stands
+pub mod Determined
 pub mod Rows
