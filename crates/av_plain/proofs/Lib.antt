@@ -22,3 +22,4 @@ pub mod SwapRows
 pub mod LedgerRows
 pub mod OnePage
 pub mod Determined
+pub mod ChangedRows

@@ -326,3 +326,70 @@ copied_and_gone =
     ∷ (TurnedOn 0 7 1, record fresh { entries = ((4, 0x20), InFrame 2 false) ∷ []; inactive = 2 ∷ []; on = (0, record { slots = 7; bad = 1 }) ∷ [] })
     ∷ (TurnedOff 0, record fresh { entries = ((4, 0x20), InFrame 2 false) ∷ []; inactive = 2 ∷ [] })
     ∷ []
+
+-- ---- replies that may not come
+
+-- process 1 has the topmost page mapped and not yet touched
+abbrev pub untouched : State
+untouched = record { world = (1, λ page. if page == 0x7fffffffe then Some (zeros read_write) else None) ∷ []; ledger = fresh; free = 0 ∷ 1 ∷ 2 ∷ 3 ∷ [] }
+
+-- no process lives
+abbrev pub empty : State
+empty = at_first (machine 4)
+
+-- the page is in frame 0 and cached at slot 1, which no entry names
+abbrev pub in_swap_cache : State
+in_swap_cache = record {
+  world = (1, with_byte 7) ∷ [];
+  ledger = record fresh { entries = ((1, 0x7fffffffe), InFrame 0 true) ∷ []; cache = record { slot = slot 1; frame = 0; stale = false } ∷ []; inactive = 0 ∷ []; on = (0, record { slots = 7; bad = 0 }) ∷ [] };
+  free = 1 ∷ 2 ∷ 3 ∷ [];
+}
+
+-- the run may not be: some reply of it is wrong
+abbrev pub Refutes : ℕ → List Exchange → Type 0
+Refutes frames row = (new : State) → IsRun (machine frames) (at_first (machine frames)) row new → ⊥
+
+-- the first frame is 0, not 1
+abbrev pub wrong_frame : List Exchange
+wrong_frame =
+    says (Spawn 1) Done []
+    ∷ says (Mmap 1 4096 read_write Auto) (MapAt 0x7fffffffe000) []
+    ∷ says (Write 1 0x7fffffffe005 (0x41 ∷ [])) Done (New 1 0x7fffffffe000 1 ∷ [])
+    ∷ says (Read 1 0x7fffffffe004 3) (Data (0 ∷ 0x41 ∷ 0 ∷ [])) [] ∷ []
+
+-- what was written one byte before
+abbrev pub wrong_place : List Exchange
+wrong_place =
+    says (Spawn 1) Done []
+    ∷ says (Mmap 1 4096 read_write Auto) (MapAt 0x7fffffffe000) []
+    ∷ says (Write 1 0x7fffffffe005 (0x41 ∷ [])) Done (New 1 0x7fffffffe000 0 ∷ [])
+    ∷ says (Read 1 0x7fffffffe004 3) (Data (0x41 ∷ 0 ∷ 0 ∷ [])) [] ∷ []
+
+-- the byte that the write had no frame for
+abbrev pub written_in_vain : List Exchange
+written_in_vain =
+    says (Spawn 1) Done []
+    ∷ says (Mmap 1 8192 read_write Auto) (MapAt 0x7fffffffd000) []
+    ∷ says (Write 1 0x7fffffffdfff (0xaa ∷ 0xbb ∷ [])) (Oom 1 (record { pinned = 0; noslot = 1; fault = 0 }) []) (New 1 0x7fffffffd000 0 ∷ [])
+    ∷ says (Read 1 0x7fffffffdfff 2) (Data (0xaa ∷ 0xbb ∷ [])) (Zeroed 1 0x7fffffffe000 ∷ [])
+    ∷ says (Write 1 0x7fffffffe000 (1 ∷ [])) (Oom 0 (record { pinned = 0; noslot = 1; fault = 0 }) []) [] ∷ []
+
+-- a page lower than the gap rule says
+abbrev pub too_low : List Exchange
+too_low =
+    says (Spawn 1) Done []
+    ∷ says (Mmap 1 4096 read_write Auto) (MapAt 0x7fffffffd000) [] ∷ []
+
+-- a refused write makes no process, so one can be spawned
+abbrev pub made_by_write : List Exchange
+made_by_write =
+    says (Write 2 0x10000 (1 ∷ [])) (Refused Esrch) []
+    ∷ says (Spawn 2) (Refused Eexist) [] ∷ []
+
+-- a denied write stores what came before
+abbrev pub lost_by_segv : List Exchange
+lost_by_segv =
+    says (Spawn 1) Done []
+    ∷ says (Mmap 1 4096 read_write Auto) (MapAt 0x7fffffffe000) []
+    ∷ says (Write 1 0x7fffffffefff (1 ∷ 2 ∷ [])) (Segv 1 []) (New 1 0x7fffffffe000 0 ∷ [])
+    ∷ says (Read 1 0x7fffffffefff 1) (Data (0 ∷ [])) [] ∷ []
