@@ -1,32 +1,31 @@
 -- Where devices tell their pages and do not fail, a command has one reply.
-use Rattle.std.proofs.Common.{◌≡◌, ℕ, zero, suc, ◌+◌, ◌-◌, ◌*◌, ◌/◌, ◌%◌, ◌<◌, ◌≤◌, Bool, true, false, cond, if◌then◌else◌, nat_lt, List, [], ◌∷◌, ◌++◌, length, Option, Some, None, is_some, option_map, refl, sym, ap, subst, ◌∙◌, arith, ◌==◌}
+use Rattle.std.proofs.Common.{◌≡◌, ℕ, zero, suc, ◌+◌, ◌-◌, ◌*◌, ◌/◌, ◌%◌, ◌<◌, ◌≤◌, Bool, true, false, cond, if◌then◌else◌, List, [], ◌∷◌, ◌++◌, length, Option, Some, None, is_some, option_map, refl, sym, ap, subst, ◌∙◌, arith, ◌==◌}
 use Rattle.std.proofs.lemmas.Bool.Decides.{nat_tests}
 use Rattle.std.specs.Prelude.{IfSome, MatchOption, option_and_then, slice_index}
 use Rattle.std.specs.Ordering.{nat_cmp, eq_by_cmp}
 use Rattle.av_vma.specs.Ranges.{numbers, within}
-use Rattle.av_vma.specs.Gap.{IsRoom, IsGap}
+use Rattle.av_vma.specs.Gap.{IsGap}
 use Rattle.av_trace.specs.declared.command.Command.{Command}
 use Rattle.av_trace.specs.declared.command.Command.TheVariants.{Spawn, Mmap, Read, Write}
 use Rattle.av_trace.specs.declared.command.Place.TheVariants.{Auto}
 use Rattle.av_trace.specs.declared.reply.Errno.{Errno}
 use Rattle.av_trace.specs.declared.reply.Note.{Note}
 use Rattle.av_trace.specs.declared.reply.Note.TheVariants.{Zeroed, New, Copied, Loaded, Mapped, Put, Unmapped, Started, Written, Failed, Dropped, Kept, Aged}
-use Rattle.av_trace.specs.declared.reply.OutOf.{OutOf}
 use Rattle.av_trace.specs.declared.reply.Row.{Row}
 use Rattle.av_trace.specs.declared.reply.Reply.{Reply}
 use Rattle.av_trace.specs.declared.reply.Answer.{Answer}
-use Rattle.av_trace.specs.declared.reply.Answer.TheVariants.{Done, MapAt, Data, Refused, Segv, Bus, Oom}
+use Rattle.av_trace.specs.declared.reply.Answer.TheVariants.{Refused}
 use Rattle.av_plain.specs.World.{World, Process, Page, nothing, zeros, pages, page_of, pages_of, address_of, is_mapped, set_process, replaced, written, byte_at, Shows}
-use Rattle.av_plain.specs.Ledger.{Ledger, Setting, Key, Entry, entry}
+use Rattle.av_plain.specs.Ledger.{Ledger, Setting, Key}
 use Rattle.av_plain.specs.Event.{Event, Noted, Taken, Used, Forked, Moved, TurnedOn, TurnedOff, after, after_all, notes_of}
-use Rattle.av_plain.specs.Fault.{Accesses, GoesOn, Touches, How, Served, Denied, Starved, Lost, End, Whole, Stopped, happening, noting, touched, served, bytes_before, is_allowed, permits}
+use Rattle.av_plain.specs.Fault.{Accesses, GoesOn, Touches, How, Served, Denied, Starved, Lost, End, Whole, Stopped, happening, noting, touched, served, is_allowed, permits}
 use Rattle.av_plain.specs.Refusal.{tests, refusal}
 use Rattle.av_plain.specs.Step.{IsLegal, Follows, Refuses, Answers, IsMapAt, Reads, forgotten, with_loads, first_bytes, stored, next, next_world}
 use Rattle.av_plain.specs.Choice.{Chooses, ChoosesAll}
 use Rattle.av_plain.specs.Transcript.{Exchange, State, IsStep, IsRun, at_first}
 use Rattle.av_plain.specs.Determined.{Tells, IsClaimed, is_bus, NoBus, SameCommands}
 use Rattle.av_plain.proofs.WorldLaws.{pages-set}
-use Rattle.av_plain.proofs.OnePage.{Chosen, chosen-first, is_lost, outcome_of, touches-outcome}
+use Rattle.av_plain.proofs.OnePage.{Chosen, chosen-first, is_lost, touches-outcome}
 
 -- ---- the free frames
 
@@ -101,9 +100,9 @@ accesses-one m w l write p (page ∷ ps) es fs end end' free a b h g c d kept ke
     let now = after_all l here in
     let moved : happening write (p, page) g.0 g.1 ≡ here = ap (λ (o : List Note × How). happening write (p, page) o.0 o.1) same in
     let rest = goes h.1 g.1 (ap (λ (o : List Note × How). o.1) same) h.2 g.2 c'.0 d'.0
-        (chooses-one l here free d'.0 c'.0 (subst (λ x. ChoosesAll l x free d'.0) moved d'.1) c'.1) now
-        (λ q r x y. accesses-one m w now write p ps h.2 g.2 end end' c'.0 a b q r x y kept kept')
-        h.5 (subst (λ x. GoesOn g.1 page g.2 end' (Accesses m w (after_all l x) write p ps g.2 end')) moved g.5) c'.2 (subst (λ x. ChoosesAll (after_all l x) g.2 d'.0 b) moved d'.2) in
+    (chooses-one l here free d'.0 c'.0 (subst (λ x. ChoosesAll l x free d'.0) moved d'.1) c'.1) now
+    (λ q r x y. accesses-one m w now write p ps h.2 g.2 end end' c'.0 a b q r x y kept kept')
+    h.5 (subst (λ x. GoesOn g.1 page g.2 end' (Accesses m w (after_all l x) write p ps g.2 end')) moved g.5) c'.2 (subst (λ x. ChoosesAll (after_all l x) g.2 d'.0 b) moved d'.2) in
     (h.4 ∙ (λ i. sym moved i ++ rest.0 i) ∙ sym g.4, rest.1)
   where
     goes : (how how' : How) → how' ≡ how → (later later' : List Event) (mid mid' : List ℕ) → mid' ≡ mid → (now : Ledger)
@@ -301,9 +300,9 @@ claimed-stored w p a (b ∷ bytes) claimed = claimed-set w p (written (pages w p
     either false x o h = h
 
     over : (page : ℕ) (o : Option Page) → Claims o → Claims (option_map (λ (p : Page). record p {
-        bytes = λ i.
-        if within a (length (b ∷ bytes)) (address_of page + i) then Some (slice_index (b ∷ bytes) (address_of page + i - a))
-        else p.bytes i;
+      bytes = λ i.
+          if within a (length (b ∷ bytes)) (address_of page + i) then Some (slice_index (b ∷ bytes) (address_of page + i - a))
+          else p.bytes i;
     }) o)
     over page None h = tt
     over page (Some q) h = λ i below. either (within a (length (b ∷ bytes)) (address_of page + i)) (slice_index (b ∷ bytes) (address_of page + i - a)) (q.bytes i) (h i below)

@@ -1,5 +1,17 @@
--- Worked rows: commands with the replies that they must have, and some that they must not have.
-use Rattle.std.specs.Prelude.{◌≡◌, ℕ, Bool, true, false, ◌==◌, ◌||◌, if◌then◌else◌, List, [], ◌∷◌, map, Option, Some, None}
+-- Worked rows: commands with the replies that they must have, and some that they must not have. Which row would fail if a definition were wrong:
+--   the gap rule: part_denied, all_mapped, mapped_too_low, no_room_though_empty
+--   refusals and their order: refusals, crowded, wrong_order, wrong_order_in_a_crowd
+--   protections: two_processes, part_denied, denied_though_allowed
+--   what a page needs (`need`, `IsMade`): zero_first, no_note, note_too_many, page_below, unnoted_zero, frame_for_a_read
+--   when a frame is shared (`is_shared`): copies, load_and_copy, no_copy_of_shared, copy_for_a_read
+--   what comes in (`ComesIn`): loads, maps_again, map_without_load
+--   when a slot is dropped (`spare`, `is_full`): loads, load_to_write, load_when_full, maps_again, drop_missing, drop_though_not_full, drop_in_flight
+--   where an access stops (`RunsOut`, `IsLost`, `touched`, `served`): one_frame, no_copy, no_load, load_without_copy, starved_though_free, bus_without_a_frame, bus_at_a_frame
+--   the numbers of an out-of-memory (`out_of`): one_frame, no_copy, wrong_numbers
+--   the next memories (`written`, `stored`, `replaced`, `with_loads`): first_run, wrong_place, written_in_vain, denied_write, refused_write, load_unclaimed
+--   the next ledger (`after`): out_and_back, copied_and_gone
+--   the choice of frames (`Chooses`): wrong_frame, taken_and_freed, dropped_and_freed
+use Rattle.std.specs.Prelude.{◌≡◌, ℕ, Bool, true, false, ◌==◌, if◌then◌else◌, List, [], ◌∷◌, map, Some, None}
 use Rattle.av_vma.specs.declared.area.Prot.{Prot}
 use Rattle.av_vma.specs.declared.slot.Slot.{Slot}
 use Rattle.av_vma.specs.Ranges.{numbers}
@@ -7,14 +19,13 @@ use Rattle.av_trace.specs.declared.command.Place.TheVariants.{Auto}
 use Rattle.av_trace.specs.declared.command.Command.{Command}
 use Rattle.av_trace.specs.declared.command.Command.TheVariants.{Spawn, Mmap, Read, Write}
 use Rattle.av_trace.specs.declared.reply.Errno.TheVariants.{Esrch, Eagain, Enomem, Eexist, Einval}
-use Rattle.av_trace.specs.declared.reply.OutOf.{OutOf}
 use Rattle.av_trace.specs.declared.reply.Note.{Note}
 use Rattle.av_trace.specs.declared.reply.Note.TheVariants.{Zeroed, New, Copied, Loaded, Mapped, Put, Unmapped, Started, Written, Failed, Dropped, Kept, Aged}
 use Rattle.av_trace.specs.declared.reply.Cause.TheVariants.{Writeback, Referenced, NoSlot, WriteStarted}
 use Rattle.av_trace.specs.declared.reply.Reply.{Reply}
 use Rattle.av_trace.specs.declared.reply.Answer.{Answer}
 use Rattle.av_trace.specs.declared.reply.Answer.TheVariants.{Done, MapAt, Data, Refused, Segv, Bus, Oom}
-use Rattle.av_plain.specs.World.{World, Process, Page, nothing, zeros}
+use Rattle.av_plain.specs.World.{Process, Page, nothing, zeros}
 use Rattle.av_plain.specs.Ledger.{Ledger, Setting, Cached, Entry, Zero, InFrame, InSlot, fresh}
 use Rattle.av_plain.specs.Event.{Event, Noted, Taken, Used, Forked, Moved, TurnedOn, TurnedOff, after}
 use Rattle.av_plain.specs.Step.{IsLegal}
@@ -374,22 +385,22 @@ written_in_vain =
     ∷ says (Read 1 0x7fffffffdfff 2) (Data (0xaa ∷ 0xbb ∷ [])) (Zeroed 1 0x7fffffffe000 ∷ [])
     ∷ says (Write 1 0x7fffffffe000 (1 ∷ [])) (Oom 0 (record { pinned = 0; noslot = 1; fault = 0 }) []) [] ∷ []
 
--- a page lower than the gap rule says
-abbrev pub too_low : List Exchange
-too_low =
-    says (Spawn 1) Done []
-    ∷ says (Mmap 1 4096 read_write Auto) (MapAt 0x7fffffffd000) [] ∷ []
+-- a refused write makes no process: one can be spawned, and it isn't there already
+abbrev pub refused_write : Answer → List Exchange
+refused_write answer = says (Write 2 0x10000 (1 ∷ [])) (Refused Esrch) [] ∷ says (Spawn 2) answer [] ∷ []
 
--- a refused write makes no process, so one can be spawned
-abbrev pub made_by_write : List Exchange
-made_by_write =
-    says (Write 2 0x10000 (1 ∷ [])) (Refused Esrch) []
-    ∷ says (Spawn 2) (Refused Eexist) [] ∷ []
-
--- a denied write stores what came before
-abbrev pub lost_by_segv : List Exchange
-lost_by_segv =
+-- a denied write stores what came before the stop: this byte is read then
+abbrev pub denied_write : ℕ → List Exchange
+denied_write b =
     says (Spawn 1) Done []
     ∷ says (Mmap 1 4096 read_write Auto) (MapAt 0x7fffffffe000) []
     ∷ says (Write 1 0x7fffffffefff (1 ∷ 2 ∷ [])) (Segv 1 []) (New 1 0x7fffffffe000 0 ∷ [])
-    ∷ says (Read 1 0x7fffffffefff 1) (Data (0 ∷ [])) [] ∷ []
+    ∷ says (Read 1 0x7fffffffefff 1) (Data (b ∷ [])) [] ∷ []
+
+-- two frames are taken and become free, one by one, each going in front
+abbrev pub taken_and_freed : List Event
+taken_and_freed = Noted (New 1 0x10000 0) ∷ Noted (New 1 0x11000 1) ∷ Used true (1, 0x11) ∷ Taken (1, 0x10) ∷ Taken (1, 0x11) ∷ []
+
+-- a cached frame that nothing else names becomes free when its slot is dropped
+abbrev pub orphan : Ledger
+orphan = record fresh { cache = cached 5 false; inactive = 5 ∷ [] }

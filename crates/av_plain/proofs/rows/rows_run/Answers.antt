@@ -1,4 +1,5 @@
-use Rattle.av_plain.proofs.FirstRows.{first_run-runs, zero_first-runs, one_frame-runs, part_denied-runs, two_processes-runs, refusals-runs, all_mapped-runs}
+use Rattle.av_plain.proofs.FirstRows.{first_run-runs, zero_first-runs, one_frame-runs, part_denied-runs, two_processes-runs, refusals-runs, all_mapped-runs, denied_write-runs}
+use Rattle.av_plain.proofs.ChangedRows.{refused_write-runs}
 use Rattle.av_plain.proofs.SwapRows.{crowded-runs}
 use Rattle.av_plain.proofs.rows.rows_run.Goals as goal
 
@@ -22,6 +23,12 @@ returns-clause-refusals c = refusals-runs
 
 pub returns-clause-all_mapped : goal.returns-clause-all_mapped
 returns-clause-all_mapped c = all_mapped-runs
+
+pub returns-clause-denied_write : goal.returns-clause-denied_write
+returns-clause-denied_write c = denied_write-runs
+
+pub returns-clause-refused_write : goal.returns-clause-refused_write
+returns-clause-refused_write c = refused_write-runs
 
 pub returns-clause-crowded : goal.returns-clause-crowded
 returns-clause-crowded c = crowded-runs
