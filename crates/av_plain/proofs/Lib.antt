@@ -23,3 +23,5 @@ pub mod LedgerRows
 pub mod OnePage
 pub mod Determined
 pub mod ChangedRows
+pub mod FreeList
+pub mod SoundRow

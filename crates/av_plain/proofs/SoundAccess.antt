@@ -74,7 +74,7 @@ comes-kept m l write k notes s h = by write (entry l k) refl h
 -- ---- a page is made
 
 -- ---- a page is made
-shared-is : (l : Ledger) (g : ℕ) → is_shared l g ≡ true → IsSharedBy l g
+pub shared-is : (l : Ledger) (g : ℕ) → is_shared l g ≡ true → IsSharedBy l g
 shared-is l g h = by (nat_lt 1 (mapped l g)) refl (slot_of l g) refl h
   where
     by : (b : Bool) → nat_lt 1 (mapped l g) ≡ b → (o : Option Slot) → slot_of l g ≡ o → (b || is_named l o) ≡ true → IsSharedBy l g

@@ -18,11 +18,12 @@ ghost use Rattle.av_plain.specs.Step.{IsLegal, next_world};
 ghost use Rattle.av_plain.specs.Transcript.{Exchange, State, IsLegalFrom, IsStep, IsRun, at_first};
 ghost use Rattle.av_plain.specs.Sound.{AllSound};
 ghost use Rattle.av_plain.specs.Says.{SaysSound};
+ghost use Rattle.av_plain.specs.FreeList.{ListsFree};
 ghost use Rattle.av_plain.specs.Determined.{Tells, IsClaimed, is_bus, NoBus, SameCommands};
 
 pub use rows::{
-    changed_replies_are_refused, changed_replies_of_swap_are_refused, changed_runs_are_refused,
-    ledger_rows_lead, rows_run, shared_rows_run, swap_rows_run,
+    a_page_in_writeback_is_sound, changed_replies_are_refused, changed_replies_of_swap_are_refused,
+    changed_runs_are_refused, ledger_rows_lead, rows_run, shared_rows_run, swap_rows_run,
 };
 
 /// Sound memories and a sound ledger are so after every legal reply, a refusal too.
@@ -60,4 +61,9 @@ pub fn replies_are_determined()
 /// So there is one run of some commands, from nothing on.
 pub fn runs_are_determined()
     ensures { (m : Setting) (exchanges exchanges' : List Exchange) (new other : State) → Tells m → SameCommands exchanges exchanges' → NoBus exchanges → NoBus exchanges' → IsRun m (at_first m) exchanges new → IsRun m (at_first m) exchanges' other → (exchanges ≡ exchanges') × (new ≡ other) }
+{}
+
+/// In a run the list of free frames has each free frame of the machine once, and no other number.
+pub fn runs_list_free_frames()
+    ensures { (m : Setting) (exchanges : List Exchange) (new : State) → IsRun m (at_first m) exchanges new → ListsFree m new.ledger new.free }
 {}

@@ -10,6 +10,7 @@ ghost use Rattle.av_trace.specs.declared.reply.Answer.TheVariants.{Done, MapAt, 
 ghost use Rattle.av_plain.specs.Ledger.{InFrame, fresh};
 ghost use Rattle.av_plain.specs.Event.{Noted};
 ghost use Rattle.av_plain.specs.Choice.{ChoosesAll};
+ghost use Rattle.av_plain.specs.Sound.{AllSound};
 ghost use Rattle.av_plain.specs.Rows.{Allows, Runs, Leads, machine, with_swap, untold};
 ghost use Rattle.av_plain.specs.Rows.{first_run, zero_first, one_frame, part_denied, two_processes, refusals, all_mapped};
 ghost use Rattle.av_plain.specs.Rows.{crowd, crowded, after_fork, copies, no_copy};
@@ -95,4 +96,9 @@ pub fn changed_replies_of_swap_are_refused()
     ensures map_without_load { Forbids (with_swap 4 8 7) (paged_out 7 (0 ∷ 1 ∷ 2 ∷ 3 ∷ [])) (Read 1 0x7fffffffe000 1) (answered (Data (7 ∷ [])) (Mapped 1 0x7fffffffe000 0 ∷ [])) }
     ensures bus_without_a_frame { Forbids (with_swap 0 8 7) (paged_out 7 []) (Read 1 0x7fffffffe000 1) (answered (Bus 0 []) []) }
     ensures bus_at_a_frame { Forbids (machine 4) (after_fork (1 ∷ 2 ∷ 3 ∷ [])) (Read 1 0x7fffffffe000 1) (answered (Bus 0 []) []) }
+{}
+
+/// Soundness can be met with swap in use: a page whose write to its slot is in flight.
+pub fn a_page_in_writeback_is_sound()
+    ensures { AllSound (with_swap 4 8 7) in_writeback.world in_writeback.ledger }
 {}
