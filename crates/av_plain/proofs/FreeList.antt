@@ -20,7 +20,7 @@ use Rattle.av_plain.specs.Fault.{is_shared, Ready, Split, held, need, TakesFor, 
 use Rattle.av_plain.specs.Refusal.{tests, refusal}
 use Rattle.av_plain.specs.Step.{IsLegal, Follows, Refuses}
 use Rattle.av_plain.specs.Choice.{ChoosesAll, freed}
-use Rattle.av_plain.specs.Transcript.{Exchange, State, IsRun, at_first}
+use Rattle.av_plain.specs.Transcript.{Exchange, State, IsStep, IsRun, at_first}
 use Rattle.av_plain.specs.Sound.{holders, pairs, uses, IsSound, AllSound}
 use Rattle.av_plain.proofs.Laws.{weight}
 use Rattle.av_plain.proofs.LedgerLaws.{mapped-set, how_many-found}
@@ -30,11 +30,12 @@ use Rattle.av_plain.proofs.AccessLaws.{after_all-append, noting-append, noting-a
 use Rattle.av_plain.proofs.SoundLaws.{same-is, pair-slot, pair-frame, two_frames, frame_at-none, frame_at-some, holders-not_cached}
 use Rattle.av_plain.proofs.SoundEntries.{IsBlank, blank-frame, IsSharedBy, ByFrame, BySlot}
 use Rattle.av_plain.proofs.SoundPages.{settle-entries}
-use Rattle.av_plain.proofs.SoundChanges.{free-is}
+use Rattle.av_plain.proofs.SoundChanges.{any-counts, free-is}
 use Rattle.av_plain.proofs.SoundAccess.{Takes, takes-alone, comes-kept, made-kept, touches-kept, happening-kept, shared-is}
 use Rattle.av_plain.proofs.OnePage.{chosen-first}
 use Rattle.av_plain.proofs.Soundness.{step-sound, first-sound}
 use Rattle.av_plain.specs.FreeList.{ListsFree}
+use Rattle.av_plain.specs.Stands.{is_in}
 
 -- ---- changes of the list
 
@@ -449,5 +450,27 @@ first-lists m g = once g 0 m.frames ∙ ap (λ b. cond b 1 0) (plain g m.frames)
     plain : (g n : ℕ) → (nat_le 0 g && nat_lt g (0 + n)) ≡ nat_lt g n
     plain g n = grind (arith, nat_tests)
 
+to_lists : (m : Setting) (l : Ledger) (free : List ℕ) → ListsFree m l free → Lists m l free
+to_lists m l free h f = h f ∙ ap (λ b. cond (b && nat_lt f m.frames) 1 0) (free-is l f)
+
+from_lists : (m : Setting) (l : Ledger) (free : List ℕ) → Lists m l free → ListsFree m l free
+from_lists m l free h f = h f ∙ ap (λ b. cond (b && nat_lt f m.frames) 1 0) (sym (free-is l f))
+
+pub first-lists_free : (m : Setting) → ListsFree m fresh (numbers 0 m.frames)
+first-lists_free m = from_lists m fresh (numbers 0 m.frames) (first-lists m)
+
+pub step-lists_free : (m : Setting) (old : State) (command : Command) (reply : Reply) (new : State) → AllSound m old.world old.ledger → ListsFree m old.ledger old.free → IsStep m old command reply new → ListsFree m new.ledger new.free
+step-lists_free m old command reply new s h step = subst (λ l. ListsFree m l new.free) (sym step.ledger)
+    (from_lists m (after_all old.ledger step.events) new.free (legal-lists m old.world old.ledger command reply step.events old.free new.free s.ledger step.legal step.free (to_lists m old.ledger old.free h)))
+
 pub run-lists_free : (m : Setting) (es : List Exchange) (new : State) → IsRun m (at_first m) es new → ListsFree m new.ledger new.free
-run-lists_free m es new q f = run-lists m (at_first m) es new (first-sound m) (first-lists m) q f ∙ ap (λ b. cond (b && nat_lt f m.frames) 1 0) (sym (free-is new.ledger f))
+run-lists_free m es new q = from_lists m new.ledger new.free (run-lists m (at_first m) es new (first-sound m) (first-lists m) q)
+
+-- so a frame of the machine is in the list where it is free
+pub lists-is_in : (m : Setting) (l : Ledger) (free : List ℕ) (f : ℕ) → ListsFree m l free → f < m.frames → is_in f free ≡ is_free l f
+lists-is_in m l free f h below = any-counts (λ g. f == g) free ∙ by (is_free l f) (nat_lt f m.frames) (grind (arith, nat_tests, below)) _ (h f)
+  where
+    by : (a b : Bool) → b ≡ true → (n : ℕ) → n ≡ cond (a && b) 1 0 → nat_lt 0 n ≡ a
+    by true true e n h = grind (arith, nat_tests, h)
+    by true false e n h = cc
+    by false b e n h = grind (arith, nat_tests, h)

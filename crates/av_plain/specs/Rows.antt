@@ -29,7 +29,7 @@ use Rattle.av_plain.specs.World.{Process, Page, nothing, zeros}
 use Rattle.av_plain.specs.Ledger.{Ledger, Setting, Cached, Entry, Zero, InFrame, InSlot, fresh}
 use Rattle.av_plain.specs.Event.{Event, Noted, Taken, Used, Forked, Moved, TurnedOn, TurnedOff, after}
 use Rattle.av_plain.specs.Step.{IsLegal}
-use Rattle.av_plain.specs.Transcript.{Exchange, State, IsStep, IsRun, at_first}
+use Rattle.av_plain.specs.Transcript.{Exchange, State, IsRun, at_first}
 
 -- ---- what a row claims
 
@@ -43,10 +43,6 @@ machine frames = record { frames = frames; sizes = []; headers = Some (λ _. Non
 
 abbrev pub Runs : ℕ → List Exchange → Type 0
 Runs frames row = Allows (machine frames) (at_first (machine frames)) row
-
--- no other reply may come to the command
-abbrev pub Only : Setting → State → Command → Reply → Type 0
-Only m old command reply = (other : Reply) (new : State) → IsStep m old command other new → other ≡ reply
 
 -- the reply may not come to the command, whichever frames the kernel chooses
 abbrev pub Forbids : Setting → State → Command → Reply → Type 0
