@@ -1,5 +1,6 @@
 -- Changed rows: replies that may not come.
-use Rattle.std.specs.Prelude.{◌≡◌, ℕ, zero, suc, ◌+◌, ◌*◌, Bool, true, false, List, [], ◌∷◌, ◌++◌, length, Option, Some, None, refl, MatchOption}
+use Rattle.std.specs.Ordering.{nat_cmp, eq_by_cmp}
+use Rattle.std.specs.Prelude.{◌≡◌, ◌==◌, ℕ, zero, suc, ◌+◌, ◌*◌, ◌<◌, cond, if◌then◌else◌, IfSome, option_and_then, is_some, Bool, true, false, List, [], ◌∷◌, ◌++◌, length, Option, Some, None, refl, MatchOption}
 use Rattle.std.proofs.Common.{arith, sym, ap, subst, ◌∙◌}
 use Rattle.av_vma.specs.Gap.{IsGap}
 use Rattle.av_trace.specs.declared.command.Command.TheVariants.{Spawn, Mmap, Read, Write}
@@ -12,19 +13,20 @@ use Rattle.av_trace.specs.declared.reply.Row.TheVariants.{Entry}
 use Rattle.av_trace.specs.declared.reply.Reply.{Reply}
 use Rattle.av_trace.specs.declared.reply.Answer.{Answer}
 use Rattle.av_trace.specs.declared.reply.Answer.TheVariants.{Done, MapAt, Data, Refused, Segv, Bus, Oom}
-use Rattle.av_plain.specs.World.{World, nothing, is_mapped}
+use Rattle.av_plain.specs.World.{World, Process, Page, process, nothing, is_mapped}
 use Rattle.av_plain.specs.Ledger.{Ledger, Setting, Key, has_free}
 use Rattle.av_plain.specs.Event.{Event, Used, notes_of}
 use Rattle.av_plain.specs.Pass.{noted_all}
 use Rattle.av_plain.specs.Fault.{Need, Absent, IsLost, Accesses, GoesOn, Touches, How, Served, Denied, Starved, Lost, End, Whole, Stopped, happening, noting, touched}
 use Rattle.av_plain.specs.Refusal.{tests, refusal}
 use Rattle.av_plain.specs.Step.{IsLegal, Follows, Refuses, Answers, IsMapAt}
-use Rattle.av_plain.specs.Transcript.{Exchange, State}
-use Rattle.av_plain.specs.Determined.{NoBus, SameCommands, is_bus}
-use Rattle.av_plain.specs.Rows.{machine, crowd, after_fork, with_swap, slot, paged_out, in_writeback, Runs, Refutes, Forbids, answered, read_write, untouched, empty, in_swap_cache, first_run, one_frame, wrong_frame, wrong_place, written_in_vain, refused_write, denied_write}
+use Rattle.av_plain.specs.Transcript.{Exchange, State, at_first}
+use Rattle.av_plain.specs.Determined.{Tells, IsClaimed, NoBus, SameCommands, is_bus}
+use Rattle.av_plain.specs.Rows.{Allows, Rejects, copies, leaked, load_when_half_full, wrong_load, page_with, with_byte, machine, crowd, after_fork, with_swap, slot, paged_out, in_writeback, Runs, Refutes, Forbids, answered, read_write, untouched, empty, in_swap_cache, first_run, one_frame, wrong_frame, wrong_place, written_in_vain, refused_write, denied_write}
 use Rattle.av_plain.proofs.AccessLaws.{notes_of-append, notes_of-noting}
 use Rattle.av_plain.proofs.OnePage.{Chosen, outcome_of, touches-outcome, is_lost}
-use Rattle.av_plain.proofs.Determined.{runs-determined}
+use Rattle.av_plain.proofs.Determined.{runs-determined, runs-one}
+use Rattle.av_plain.proofs.SwapRows.{copies-runs, load_when_half_full-runs}
 use Rattle.av_plain.proofs.FirstRows.{by_steps, denied_write-runs, first_run-runs, one_frame-runs}
 
 -- ---- runs that differ from one that may be
@@ -50,6 +52,10 @@ code zero (e ∷ es) = answer_code e.reply.answer + notes_code e.reply.notes
 code (suc n) (e ∷ es) = code n es
 
 -- a run with the same commands as one that may be is that one
+same_run_from : (m : Setting) (old : State) (row changed : List Exchange) (n : ℕ) → Tells m → IsClaimed old.world → Allows m old row → SameCommands row changed → NoBus row → NoBus changed → (code n row ≡ code n changed → ⊥) → Rejects m old changed
+same_run_from m old row changed n told claimed runs same kept kept' differ new h = differ (ap (code n) (runs-one m old row changed runs.0 new told claimed same kept kept' runs.1 h).0)
+
+-- and so from nothing on
 same_run : (frames : ℕ) (row changed : List Exchange) (n : ℕ) → Runs frames row → SameCommands row changed → NoBus row → NoBus changed → (code n row ≡ code n changed → ⊥) → Refutes frames changed
 same_run frames row changed n runs same kept kept' differ new h = differ (ap (code n) (runs-determined (machine frames) row changed runs.0 new refl same kept kept' runs.1 h).0)
 
@@ -316,3 +322,27 @@ made_by_a_refused_write = same_run 4 (refused_write Done) (refused_write (Refuse
 
 pub lost_by_a_denied_write : Refutes 4 (denied_write 0)
 lost_by_a_denied_write = same_run 4 (denied_write 1) (denied_write 0) 3 denied_write-runs (refl, (refl, (refl, (refl, tt)))) (refl, (refl, (refl, (refl, tt)))) (refl, (refl, (refl, (refl, tt)))) (λ e. omega (arith, e))
+
+-- ---- runs from other states
+
+claimed : (b : ℕ) (page : ℕ) → IfSome (with_byte b page) (λ (q : Page). (i : ℕ) → i < 4096 → is_some (q.bytes i) ≡ true)
+claimed b page = by (page == 0x7fffffffe)
+  where
+    by : (c : Bool) → IfSome (if c then Some (page_with b) else None) (λ (q : Page). (i : ℕ) → i < 4096 → is_some (q.bytes i) ≡ true)
+    by true = λ i below. refl
+    by false = tt
+
+claimed_first : (p b : ℕ) (w : World) → IsClaimed w → IsClaimed ((p, with_byte b) ∷ w)
+claimed_first p b w rest q page = by (eq_by_cmp nat_cmp q p)
+  where
+    by : (c : Bool) → IfSome (option_and_then (λ (m : Process). m page) (cond c (Some (with_byte b)) (process w q))) (λ (q : Page). (i : ℕ) → i < 4096 → is_some (q.bytes i) ≡ true)
+    by true = claimed b page
+    by false = rest q page
+
+pub leaked-rejected : Rejects (machine 4) (after_fork (1 ∷ 2 ∷ 3 ∷ [])) leaked
+leaked-rejected = same_run_from (machine 4) (after_fork (1 ∷ 2 ∷ 3 ∷ [])) copies leaked 2 refl (claimed_first 1 7 ((2, with_byte 7) ∷ []) (claimed_first 2 7 [] (λ p page. tt))) copies-runs
+    (refl, (refl, (refl, (refl, (refl, (refl, tt)))))) (refl, (refl, (refl, (refl, (refl, (refl, tt)))))) (refl, (refl, (refl, (refl, (refl, (refl, tt)))))) (λ e. omega (arith, e))
+
+pub wrong_load-rejected : Rejects (with_swap 4 3 2) (paged_out 2 (0 ∷ 1 ∷ 2 ∷ 3 ∷ [])) wrong_load
+wrong_load-rejected = same_run_from (with_swap 4 3 2) (paged_out 2 (0 ∷ 1 ∷ 2 ∷ 3 ∷ [])) load_when_half_full wrong_load 0 refl (claimed_first 1 7 [] (λ p page. tt)) load_when_half_full-runs
+    (refl, tt) (refl, tt) (refl, tt) (λ e. omega (arith, e))

@@ -343,7 +343,7 @@ claimed-step m old new command reply told claimed h = subst IsClaimed (sym h.wor
 
 -- ---- runs
 
-runs-one : (m : Setting) (old : State) (es fs : List Exchange) (new new' : State) → Tells m → IsClaimed old.world → SameCommands es fs → NoBus es → NoBus fs → IsRun m old es new → IsRun m old fs new' → (es ≡ fs) × (new ≡ new')
+pub runs-one : (m : Setting) (old : State) (es fs : List Exchange) (new new' : State) → Tells m → IsClaimed old.world → SameCommands es fs → NoBus es → NoBus fs → IsRun m old es new → IsRun m old fs new' → (es ≡ fs) × (new ≡ new')
 runs-one m old [] [] new new' told claimed same kept kept' h g = (refl, h ∙ sym g)
 runs-one m old [] (f ∷ fs) new new' told claimed same kept kept' h g = absurd same
 runs-one m old (e ∷ es) [] new new' told claimed same kept kept' h g = absurd same

@@ -7,7 +7,7 @@ use Rattle.av_plain.specs.Choice.{ChoosesAll}
 use Rattle.av_plain.specs.Rows.{Leads, ledger_with, slot, out_and_back, copied_and_gone, taken_and_freed, orphan}
 
 pub out_and_back-leads : Leads (ledger_with (InFrame 5 true) [] [] (5 ∷ []) (6 ∷ [])) out_and_back
-out_and_back-leads = (refl, (refl, (refl, (refl, (refl, (refl, (refl, (refl, (refl, (refl, (refl, (refl, (refl, (refl, (refl, (refl, (refl, tt)))))))))))))))))
+out_and_back-leads = (refl, (refl, (refl, (refl, (refl, (refl, (refl, (refl, (refl, (refl, (refl, (refl, (refl, (refl, (refl, (refl, (refl, (refl, tt))))))))))))))))))
 
 pub copied_and_gone-leads : Leads fresh copied_and_gone
 copied_and_gone-leads = (refl, (refl, (refl, (refl, (refl, (refl, (refl, (refl, (refl, (refl, tt))))))))))

@@ -1,14 +1,14 @@
 -- Worked rows: commands with the replies that they must have, and some that they must not have. Which row would fail if a definition were wrong:
 --   the gap rule: part_denied, all_mapped, mapped_too_low, no_room_though_empty
 --   refusals and their order: refusals, crowded, wrong_order, wrong_order_in_a_crowd
---   protections: two_processes, part_denied, denied_though_allowed
+--   protections: two_processes, part_denied, readable, denied_though_allowed
 --   what a page needs (`need`, `IsMade`): zero_first, no_note, note_too_many, page_below, unnoted_zero, frame_for_a_read
 --   when a frame is shared (`is_shared`): copies, load_and_copy, no_copy_of_shared, copy_for_a_read
 --   what comes in (`ComesIn`): loads, maps_again, map_without_load
---   when a slot is dropped (`spare`, `is_full`): loads, load_to_write, load_when_full, maps_again, drop_missing, drop_though_not_full, drop_in_flight
+--   when a slot is dropped (`spare`, `is_full`): loads, load_to_write, load_when_full, load_when_half_full, maps_again, drop_missing, drop_though_not_full, drop_in_flight
 --   where an access stops (`RunsOut`, `IsLost`, `touched`, `served`): one_frame, no_copy, no_load, load_without_copy, starved_though_free, bus_without_a_frame, bus_at_a_frame
 --   the numbers of an out-of-memory (`out_of`): one_frame, no_copy, wrong_numbers
---   the next memories (`written`, `stored`, `replaced`, `with_loads`): first_run, wrong_place, written_in_vain, denied_write, refused_write, load_unclaimed
+--   the next memories (`written`, `stored`, `replaced`, `with_loads`): first_run, wrong_place, written_in_vain, denied_write, refused_write, leaked, wrong_load, load_unclaimed
 --   the next ledger (`after`): out_and_back, copied_and_gone
 --   the choice of frames (`Chooses`): wrong_frame, taken_and_freed, dropped_and_freed
 use Rattle.std.specs.Prelude.{◌≡◌, ℕ, Bool, true, false, ◌==◌, if◌then◌else◌, List, [], ◌∷◌, map, Some, None}
@@ -65,6 +65,12 @@ read_only = record { read = true; write = false; execute = false }
 abbrev pub no_access : Prot
 no_access = record { read = false; write = false; execute = false }
 
+abbrev pub write_only : Prot
+write_only = record { read = false; write = true; execute = false }
+
+abbrev pub execute_only : Prot
+execute_only = record { read = false; write = false; execute = true }
+
 -- ---- from nothing on
 
 -- a page is mapped at the top, written, and read with the zeros around
@@ -120,6 +126,17 @@ two_processes =
     ∷ says (Write 3 0x7fffffffe000 (6 ∷ [])) Done (New 3 0x7fffffffe000 1 ∷ [])
     ∷ says (Read 7 0x7fffffffc000 1) (Data (5 ∷ [])) []
     ∷ says (Read 3 0x7fffffffe000 1) (Data (6 ∷ [])) [] ∷ []
+
+-- a page can be read that may be written or executed; it can be written only where that is said
+abbrev pub readable : List Exchange
+readable =
+    says (Spawn 1) Done []
+    ∷ says (Mmap 1 4096 write_only Auto) (MapAt 0x7fffffffe000) []
+    ∷ says (Mmap 1 4096 execute_only Auto) (MapAt 0x7fffffffd000) []
+    ∷ says (Read 1 0x7fffffffe000 1) (Data (0 ∷ [])) (Zeroed 1 0x7fffffffe000 ∷ [])
+    ∷ says (Read 1 0x7fffffffd000 1) (Data (0 ∷ [])) (Zeroed 1 0x7fffffffd000 ∷ [])
+    ∷ says (Write 1 0x7fffffffd000 (1 ∷ [])) (Segv 0 []) []
+    ∷ says (Write 1 0x7fffffffe000 (1 ∷ [])) Done (New 1 0x7fffffffe000 0 ∷ []) ∷ []
 
 -- refusals, each by the first test that holds. A refused write makes no process
 abbrev pub refusals : List Exchange
@@ -225,6 +242,10 @@ load_to_write =
 abbrev pub load_when_full : List Exchange
 load_when_full = says (Read 1 0x7fffffffe000 1) (Data (7 ∷ [])) (Loaded (slot 1) 0 ∷ Mapped 1 0x7fffffffe000 0 ∷ Dropped (slot 1) ∷ []) ∷ []
 
+-- with half of the slots free it isn't
+abbrev pub load_when_half_full : List Exchange
+load_when_half_full = says (Read 1 0x7fffffffe000 1) (Data (7 ∷ [])) (Loaded (slot 1) 0 ∷ Mapped 1 0x7fffffffe000 0 ∷ []) ∷ []
+
 -- no frame is free for the load
 abbrev pub no_load : List Exchange
 no_load = says (Read 1 0x7fffffffe000 1) (Oom 0 (record { pinned = 0; noslot = 0; fault = 0 }) []) [] ∷ []
@@ -314,6 +335,7 @@ out_and_back =
     ∷ (Noted (Dropped (slot 1)), ledger_with (InSlot (slot 1)) [] [] [] (6 ∷ []))
     ∷ (Noted (Loaded (slot 1) 7), ledger_with (InSlot (slot 1)) (cached 7 false) [] [] (7 ∷ 6 ∷ []))
     ∷ (Noted (Mapped 1 0x7fffffffe000 7), ledger_with (InFrame 7 false) (cached 7 false) [] [] (7 ∷ 6 ∷ []))
+    ∷ (Used false (1, 0x7fffffffe), ledger_with (InFrame 7 true) (cached 7 false) [] [] (7 ∷ 6 ∷ []))
     ∷ (Used true (1, 0x7fffffffe), ledger_with (InFrame 7 true) (cached 7 true) [] [] (7 ∷ 6 ∷ []))
     ∷ (Noted (Kept 7 NoSlot), ledger_with (InFrame 7 true) (cached 7 true) [] (7 ∷ []) (6 ∷ []))
     ∷ (Noted (Dropped (slot 1)), ledger_with (InFrame 7 true) [] [] (7 ∷ []) (6 ∷ []))
@@ -353,8 +375,25 @@ in_swap_cache = record {
 }
 
 -- the run may not be: some reply of it is wrong
+abbrev pub Rejects : Setting → State → List Exchange → Type 0
+Rejects m old row = (new : State) → IsRun m old row new → ⊥
+
 abbrev pub Refutes : ℕ → List Exchange → Type 0
-Refutes frames row = (new : State) → IsRun (machine frames) (at_first (machine frames)) row new → ⊥
+Refutes frames row = Rejects (machine frames) (at_first (machine frames)) row
+
+-- what one process writes the other one reads
+abbrev pub leaked : List Exchange
+leaked =
+    says (Read 2 0x7fffffffe000 1) (Data (7 ∷ [])) []
+    ∷ says (Write 1 0x7fffffffe000 (8 ∷ [])) Done (Copied 1 0x7fffffffe000 1 ∷ [])
+    ∷ says (Read 2 0x7fffffffe000 1) (Data (8 ∷ [])) []
+    ∷ says (Write 2 0x7fffffffe000 (9 ∷ [])) Done []
+    ∷ says (Read 1 0x7fffffffe000 1) (Data (8 ∷ [])) []
+    ∷ says (Read 2 0x7fffffffe000 1) (Data (9 ∷ [])) [] ∷ []
+
+-- a load from a device that tells its pages brings in other bytes
+abbrev pub wrong_load : List Exchange
+wrong_load = says (Read 1 0x7fffffffe000 1) (Data (8 ∷ [])) (Loaded (slot 1) 0 ∷ Mapped 1 0x7fffffffe000 0 ∷ []) ∷ []
 
 -- the first frame is 0, not 1
 abbrev pub wrong_frame : List Exchange

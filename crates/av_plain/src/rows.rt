@@ -12,11 +12,11 @@ ghost use Rattle.av_plain.specs.Event.{Noted};
 ghost use Rattle.av_plain.specs.Choice.{ChoosesAll};
 ghost use Rattle.av_plain.specs.Sound.{AllSound};
 ghost use Rattle.av_plain.specs.Rows.{Allows, Runs, Leads, machine, with_swap, untold};
-ghost use Rattle.av_plain.specs.Rows.{first_run, zero_first, one_frame, part_denied, two_processes, refusals, all_mapped};
+ghost use Rattle.av_plain.specs.Rows.{first_run, zero_first, one_frame, part_denied, two_processes, readable, refusals, all_mapped};
 ghost use Rattle.av_plain.specs.Rows.{crowd, crowded, after_fork, copies, no_copy};
-ghost use Rattle.av_plain.specs.Rows.{paged_out, loads, load_to_write, load_when_full, no_load, in_writeback, maps_again, slot_shared, load_and_copy, load_without_copy, load_unclaimed};
-ghost use Rattle.av_plain.specs.Rows.{Refutes, Forbids, answered, read_write, slot, empty, untouched, in_swap_cache};
-ghost use Rattle.av_plain.specs.Rows.{wrong_frame, wrong_place, written_in_vain, refused_write, denied_write};
+ghost use Rattle.av_plain.specs.Rows.{paged_out, loads, load_to_write, load_when_full, load_when_half_full, no_load, in_writeback, maps_again, slot_shared, load_and_copy, load_without_copy, load_unclaimed};
+ghost use Rattle.av_plain.specs.Rows.{Rejects, Refutes, Forbids, answered, read_write, slot, empty, untouched, in_swap_cache};
+ghost use Rattle.av_plain.specs.Rows.{wrong_frame, wrong_place, written_in_vain, refused_write, denied_write, leaked, wrong_load};
 ghost use Rattle.av_plain.specs.Rows.{ledger_with, out_and_back, copied_and_gone, taken_and_freed, orphan};
 
 /// Runs from nothing on.
@@ -26,6 +26,7 @@ pub fn rows_run()
     ensures one_frame { Runs 1 one_frame }
     ensures part_denied { Runs 4 part_denied }
     ensures two_processes { Runs 4 two_processes }
+    ensures readable { Runs 4 readable }
     ensures refusals { Runs 4 refusals }
     ensures all_mapped { Runs 4 all_mapped }
     ensures refused_write { Runs 4 (refused_write Done) }
@@ -46,6 +47,7 @@ pub fn swap_rows_run()
     ensures loads { Allows (with_swap 4 8 7) (paged_out 7 (0 ∷ 1 ∷ 2 ∷ 3 ∷ [])) loads }
     ensures load_to_write { Allows (with_swap 4 8 7) (paged_out 7 (0 ∷ 1 ∷ 2 ∷ 3 ∷ [])) load_to_write }
     ensures load_when_full { Allows (with_swap 4 2 1) (paged_out 1 (0 ∷ 1 ∷ 2 ∷ 3 ∷ [])) load_when_full }
+    ensures load_when_half_full { Allows (with_swap 4 3 2) (paged_out 2 (0 ∷ 1 ∷ 2 ∷ 3 ∷ [])) load_when_half_full }
     ensures no_load { Allows (with_swap 0 8 7) (paged_out 7 []) no_load }
     ensures maps_again { Allows (with_swap 4 8 7) in_writeback maps_again }
     ensures load_unclaimed { Allows untold (paged_out 7 (0 ∷ 1 ∷ 2 ∷ 3 ∷ [])) load_unclaimed }
@@ -66,6 +68,8 @@ pub fn changed_runs_are_refused()
     ensures written_in_vain { Refutes 1 written_in_vain }
     ensures made_by_a_refused_write { Refutes 4 (refused_write (Refused Eexist)) }
     ensures lost_by_a_denied_write { Refutes 4 (denied_write 0) }
+    ensures leaked { Rejects (machine 4) (after_fork (1 ∷ 2 ∷ 3 ∷ [])) leaked }
+    ensures wrong_load { Rejects (with_swap 4 3 2) (paged_out 2 (0 ∷ 1 ∷ 2 ∷ 3 ∷ [])) wrong_load }
 {}
 
 /// Replies to one command that may not come, whichever frames the kernel takes: a note too few or too many, or of

@@ -1,6 +1,7 @@
 use Rattle.av_plain.proofs.FirstRows.{first_run-runs, zero_first-runs, one_frame-runs, part_denied-runs, two_processes-runs, refusals-runs, all_mapped-runs, denied_write-runs}
 use Rattle.av_plain.proofs.ChangedRows.{refused_write-runs}
 use Rattle.av_plain.proofs.SwapRows.{crowded-runs}
+use Rattle.av_plain.proofs.FirstRows.{readable-runs}
 use Rattle.av_plain.proofs.rows.rows_run.Goals as goal
 
 pub returns-clause-first_run : goal.returns-clause-first_run
@@ -32,3 +33,6 @@ returns-clause-refused_write c = refused_write-runs
 
 pub returns-clause-crowded : goal.returns-clause-crowded
 returns-clause-crowded c = crowded-runs
+
+pub returns-clause-readable : goal.returns-clause-readable
+returns-clause-readable c = readable-runs
