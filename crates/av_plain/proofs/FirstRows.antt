@@ -13,7 +13,7 @@ use Rattle.av_plain.specs.Fault.{Served, Denied, Starved, Whole, Stopped}
 use Rattle.av_plain.specs.Step.{IsLegal, next_world}
 use Rattle.av_plain.specs.Choice.{ChoosesAll}
 use Rattle.av_plain.specs.Transcript.{Exchange, State, IsRun, at_first}
-use Rattle.av_plain.specs.Rows.{Allows, Runs, machine, first_run, zero_first, one_frame, part_denied, two_processes, refusals, all_mapped}
+use Rattle.av_plain.specs.Rows.{Allows, Runs, machine, first_run, zero_first, one_frame, part_denied, two_processes, refusals, all_mapped, readable, denied_write}
 
 -- each exchange by its events, and the frames that are free after it
 abbrev pub Steps : Setting → State → List Exchange → Type 0
@@ -106,6 +106,17 @@ two_processes-runs = by_steps (machine 4) (at_first (machine 4)) two_processes (
     (Used false (3, 0x7fffffffe) ∷ [], 2 ∷ 3 ∷ [], record { answer = (Whole, 6 ∷ [], ([], Served, [], (refl, record { coming = []; making = []; whole = refl; comes_in = refl; made = refl }), refl, (refl, refl)), (refl, (refl, tt)), refl, refl); notes = refl }, (2 ∷ 3 ∷ [], refl, refl),
     tt)))))))))))
 
+pub readable-runs : Runs 4 readable
+readable-runs = by_steps (machine 4) (at_first (machine 4)) readable (
+    ([], 0 ∷ 1 ∷ 2 ∷ 3 ∷ [], record { answer = (refl, refl, refl); notes = refl }, refl,
+    ([], 0 ∷ 1 ∷ 2 ∷ 3 ∷ [], record { answer = (Some 0x7fffffffe, (record { lowest = omega arith; highest = omega arith; free = λ q a b. refl }, (λ b h. omega (arith, h.highest))), refl, refl, refl); notes = refl }, refl,
+    ([], 0 ∷ 1 ∷ 2 ∷ 3 ∷ [], record { answer = (Some 0x7fffffffd, (gap_below _ 0x7fffffffe 1 refl (omega arith) (omega arith) (omega arith) (λ q h. grind (arith, nat_tests, h)) (λ q h i. grind (arith, nat_tests, h, i))), refl, refl, refl); notes = refl }, refl,
+    (Noted (Zeroed 1 0x7fffffffe000) ∷ Used false (1, 0x7fffffffe) ∷ [], 0 ∷ 1 ∷ 2 ∷ 3 ∷ [], record { answer = (Whole, 0 ∷ [], (Zeroed 1 0x7fffffffe000 ∷ [], Served, [], (refl, record { coming = []; making = Zeroed 1 0x7fffffffe000 ∷ []; whole = refl; comes_in = refl; made = refl }), refl, (refl, refl)), (refl, (refl, tt)), refl, refl); notes = refl }, (0 ∷ 1 ∷ 2 ∷ 3 ∷ [], refl, (0 ∷ 1 ∷ 2 ∷ 3 ∷ [], refl, refl)),
+    (Noted (Zeroed 1 0x7fffffffd000) ∷ Used false (1, 0x7fffffffd) ∷ [], 0 ∷ 1 ∷ 2 ∷ 3 ∷ [], record { answer = (Whole, 0 ∷ [], (Zeroed 1 0x7fffffffd000 ∷ [], Served, [], (refl, record { coming = []; making = Zeroed 1 0x7fffffffd000 ∷ []; whole = refl; comes_in = refl; made = refl }), refl, (refl, refl)), (refl, (refl, tt)), refl, refl); notes = refl }, (0 ∷ 1 ∷ 2 ∷ 3 ∷ [], refl, (0 ∷ 1 ∷ 2 ∷ 3 ∷ [], refl, refl)),
+    ([], 0 ∷ 1 ∷ 2 ∷ 3 ∷ [], record { answer = (Stopped 0x7fffffffd Denied, ([], Denied, [], (refl, refl), refl, (refl, refl)), refl, refl); notes = refl }, refl,
+    (Noted (New 1 0x7fffffffe000 0) ∷ Used true (1, 0x7fffffffe) ∷ [], 1 ∷ 2 ∷ 3 ∷ [], record { answer = (Whole, (New 1 0x7fffffffe000 0 ∷ [], Served, [], (refl, record { coming = []; making = New 1 0x7fffffffe000 0 ∷ []; whole = refl; comes_in = refl; made = record { sought = []; frame = 0; seeks = refl; in_range = omega arith; free = refl; whole = refl } }), refl, (refl, refl)), refl, refl); notes = refl }, (1 ∷ 2 ∷ 3 ∷ [], refl, (1 ∷ 2 ∷ 3 ∷ [], refl, refl)),
+    tt))))))))
+
 pub refusals-runs : Runs 4 refusals
 refusals-runs = by_steps (machine 4) (at_first (machine 4)) refusals (
     ([], 0 ∷ 1 ∷ 2 ∷ 3 ∷ [], record { answer = (refl, refl, refl); notes = refl }, refl,
@@ -127,4 +138,12 @@ all_mapped-runs = by_steps (machine 4) (at_first (machine 4)) all_mapped (
     ([], 0 ∷ 1 ∷ 2 ∷ 3 ∷ [], record { answer = (Some 0x10, (record { lowest = omega arith; highest = omega arith; free = λ q a b. refl }, (λ b h. omega (arith, h.highest))), refl, refl, refl); notes = refl }, refl,
     ([], 0 ∷ 1 ∷ 2 ∷ 3 ∷ [], record { answer = (None, (λ page room. not_free _ (room.free page (omega arith) (omega arith)) (let low = room.lowest in let high = room.highest in grind (arith, nat_tests, low, high))), refl, refl, refl); notes = refl }, refl,
     (Noted (New 1 0x10000 0) ∷ Used true (1, 0x10) ∷ [], 1 ∷ 2 ∷ 3 ∷ [], record { answer = (Whole, (New 1 0x10000 0 ∷ [], Served, [], (refl, record { coming = []; making = New 1 0x10000 0 ∷ []; whole = refl; comes_in = refl; made = record { sought = []; frame = 0; seeks = refl; in_range = omega arith; free = refl; whole = refl } }), refl, (refl, refl)), refl, refl); notes = refl }, (1 ∷ 2 ∷ 3 ∷ [], refl, (1 ∷ 2 ∷ 3 ∷ [], refl, refl)),
+    tt)))))
+
+pub denied_write-runs : Runs 4 (denied_write 1)
+denied_write-runs = by_steps (machine 4) (at_first (machine 4)) (denied_write 1) (
+    ([], 0 ∷ 1 ∷ 2 ∷ 3 ∷ [], record { answer = (refl, refl, refl); notes = refl }, refl,
+    ([], 0 ∷ 1 ∷ 2 ∷ 3 ∷ [], record { answer = (Some 0x7fffffffe, (record { lowest = omega arith; highest = omega arith; free = λ q a b. refl }, (λ b h. omega (arith, h.highest))), refl, refl, refl); notes = refl }, refl,
+    (Noted (New 1 0x7fffffffe000 0) ∷ Used true (1, 0x7fffffffe) ∷ [], 1 ∷ 2 ∷ 3 ∷ [], record { answer = (Stopped 0x7ffffffff Denied, (New 1 0x7fffffffe000 0 ∷ [], Served, [], (refl, record { coming = []; making = New 1 0x7fffffffe000 0 ∷ []; whole = refl; comes_in = refl; made = record { sought = []; frame = 0; seeks = refl; in_range = omega arith; free = refl; whole = refl } }), refl, ([], Denied, [], (refl, refl), refl, (refl, refl))), refl, refl); notes = refl }, (1 ∷ 2 ∷ 3 ∷ [], refl, (1 ∷ 2 ∷ 3 ∷ [], refl, refl)),
+    (Used false (1, 0x7fffffffe) ∷ [], 1 ∷ 2 ∷ 3 ∷ [], record { answer = (Whole, 1 ∷ [], ([], Served, [], (refl, record { coming = []; making = []; whole = refl; comes_in = refl; made = refl }), refl, (refl, refl)), (refl, (refl, tt)), refl, refl); notes = refl }, (1 ∷ 2 ∷ 3 ∷ [], refl, refl),
     tt)))))

@@ -6,7 +6,7 @@ use Rattle.av_trace.specs.declared.reply.Note.{Note}
 use Rattle.av_trace.specs.declared.reply.Note.TheVariants.{Zeroed, New, Copied, Loaded, Mapped, Dropped}
 use Rattle.av_plain.specs.Event.{Event, Noted, Used}
 use Rattle.av_plain.specs.Fault.{Served, Denied, Starved, Lost, Whole, Stopped}
-use Rattle.av_plain.specs.Rows.{Allows, machine, crowd, crowded, after_fork, copies, no_copy, with_swap, slot, paged_out, loads, load_to_write, load_when_full, no_load, in_writeback, maps_again, slot_shared, load_and_copy, load_without_copy, untold, load_unclaimed}
+use Rattle.av_plain.specs.Rows.{Allows, machine, crowd, crowded, after_fork, copies, no_copy, with_swap, slot, paged_out, loads, load_to_write, load_when_full, load_when_half_full, no_load, in_writeback, maps_again, slot_shared, load_and_copy, load_without_copy, untold, load_unclaimed}
 use Rattle.av_plain.proofs.FirstRows.{by_steps}
 
 pub crowded-runs : Allows (machine 4) (crowd 4095) crowded
@@ -53,6 +53,11 @@ load_to_write-runs = by_steps (with_swap 4 8 7) (paged_out 7 (0 ∷ 1 ∷ 2 ∷ 
 pub load_when_full-runs : Allows (with_swap 4 2 1) (paged_out 1 (0 ∷ 1 ∷ 2 ∷ 3 ∷ [])) load_when_full
 load_when_full-runs = by_steps (with_swap 4 2 1) (paged_out 1 (0 ∷ 1 ∷ 2 ∷ 3 ∷ [])) load_when_full (
     (Noted (Loaded (slot 1) 0) ∷ Noted (Mapped 1 0x7fffffffe000 0) ∷ Noted (Dropped (slot 1)) ∷ Used false (1, 0x7fffffffe) ∷ [], 1 ∷ 2 ∷ 3 ∷ [], record { answer = (Whole, 7 ∷ [], (Loaded (slot 1) 0 ∷ Mapped 1 0x7fffffffe000 0 ∷ Dropped (slot 1) ∷ [], Served, [], (refl, record { coming = Loaded (slot 1) 0 ∷ Mapped 1 0x7fffffffe000 0 ∷ []; making = []; whole = refl; comes_in = (Loaded (slot 1) 0 ∷ [], 0, record { sought = []; frame = 0; seeks = refl; in_range = omega arith; free = refl; whole = refl }, refl, refl); made = refl }), refl, (refl, refl)), (refl, (refl, tt)), refl, refl); notes = refl }, (1 ∷ 2 ∷ 3 ∷ [], refl, (1 ∷ 2 ∷ 3 ∷ [], refl, (1 ∷ 2 ∷ 3 ∷ [], refl, (1 ∷ 2 ∷ 3 ∷ [], refl, refl)))),
+    tt))
+
+pub load_when_half_full-runs : Allows (with_swap 4 3 2) (paged_out 2 (0 ∷ 1 ∷ 2 ∷ 3 ∷ [])) load_when_half_full
+load_when_half_full-runs = by_steps (with_swap 4 3 2) (paged_out 2 (0 ∷ 1 ∷ 2 ∷ 3 ∷ [])) load_when_half_full (
+    (Noted (Loaded (slot 1) 0) ∷ Noted (Mapped 1 0x7fffffffe000 0) ∷ Used false (1, 0x7fffffffe) ∷ [], 1 ∷ 2 ∷ 3 ∷ [], record { answer = (Whole, 7 ∷ [], (Loaded (slot 1) 0 ∷ Mapped 1 0x7fffffffe000 0 ∷ [], Served, [], (refl, record { coming = Loaded (slot 1) 0 ∷ Mapped 1 0x7fffffffe000 0 ∷ []; making = []; whole = refl; comes_in = (Loaded (slot 1) 0 ∷ [], 0, record { sought = []; frame = 0; seeks = refl; in_range = omega arith; free = refl; whole = refl }, refl, refl); made = refl }), refl, (refl, refl)), (refl, (refl, tt)), refl, refl); notes = refl }, (1 ∷ 2 ∷ 3 ∷ [], refl, (1 ∷ 2 ∷ 3 ∷ [], refl, (1 ∷ 2 ∷ 3 ∷ [], refl, refl))),
     tt))
 
 pub no_load-runs : Allows (with_swap 0 8 7) (paged_out 7 []) no_load
