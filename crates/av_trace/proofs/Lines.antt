@@ -1,0 +1,55 @@
+-- A line that is read as a command is the command's line, and a command's line is read as that command.
+use Rattle.std.proofs.Common.{inl, inr, ◌≡◌, ℕ, List, [], ◌∷◌, ◌++◌, take, drop, Option, Some, None, sym, ap, ◌∙◌}
+use Rattle.std.specs.List.{AllByRecursion}
+use Rattle.std.specs.Str.{bytes_eq}
+use Rattle.std.proofs.lemmas.Slice.Eq.{bytes_eq-Decides}
+use Rattle.std.proofs.lemmas.List.{take-append-drop}
+use Rattle.std.proofs.lemmas.Bool.{cases_Bool, cond-true, cond-false}
+use Rattle.av_trace.specs.declared.command.Place.TheVariants as places
+use Rattle.av_trace.specs.declared.command.Command.{Command}
+use Rattle.av_trace.specs.declared.command.Command.TheVariants as commands
+use Rattle.av_trace.specs.Grammar.{IsCommand, line_of, Says}
+use Rattle.av_trace.specs.Reading.{word_len, Reader, readers, read_by, command_at, command_of}
+use Rattle.av_trace.proofs.Commands.{IsReader, spawn_at-found, spawn_at-again, mmap_at-found, mmap_at-again, read_at-found, read_at-again, write_at-found, write_at-again}
+
+each_reads : AllByRecursion IsReader readers
+each_reads = (spawn_at-found, (mmap_at-found, (read_at-found, (write_at-found, tt))))
+
+read_by-found : (rs : List (List ℕ × Reader)) (name bytes : List ℕ) (c : Command) → AllByRecursion IsReader rs → read_by rs name bytes ≡ Some c → IsCommand c × (name ++ bytes ≡ line_of c)
+read_by-found [] name bytes c all e = absurd cc
+read_by-found (r ∷ rs) name bytes c all e =
+    elim (cases_Bool (bytes_eq name r.0)) [
+      | inl t ↦
+          let same : name ≡ r.0 = (bytes_eq-Decides name r.0).0 t in
+          let s = all.0 bytes c (sym (cond-true _ _ _ t) ∙ e) in
+          (s.0, ap (λ (n : List ℕ). n ++ bytes) same ∙ s.1)
+      | inr t ↦ read_by-found rs name bytes c all.1 (sym (cond-false _ _ _ t) ∙ e)
+    ]
+
+pub command_of-found : (line : List ℕ) (c : Command) → command_of line ≡ Some c → Says line (Some c)
+unfolding command_of command_at
+command_of-found line c e =
+    let s = read_by-found readers (take (word_len line) line) (drop (word_len line) line) c each_reads e in
+    (s.0, sym (take-append-drop (word_len line) line) ∙ s.1)
+
+pub command_of-again : (c : Command) → IsCommand c → command_of (line_of c) ≡ Some c
+unfolding command_of command_at
+command_of-again (commands.Spawn p) h = spawn_at-again p h
+command_of-again (commands.Mmap p len prot places.Auto) h = mmap_at-again p len prot h.0 h.1
+command_of-again (commands.Read p address len) h = read_at-again p address len h.0 h.1 h.2
+command_of-again (commands.Write p address found) h = write_at-again p address found h.0 h.1 h.2
+
+-- a line that says something is read
+pub says_is : (line : List ℕ) (said : Option Command) → Says line said → command_of line ≡ None → ⊥
+says_is line None says none = says
+says_is line (Some c) says none =
+    let read : command_of line ≡ Some c = ap command_of says.1 ∙ command_of-again c says.0 in
+    cc
+
+pub says_one : (line : List ℕ) (a b : Option Command) → Says line a → Says line b → a ≡ b
+says_one line None b says others = absurd says
+says_one line (Some c) None says others = absurd others
+says_one line (Some c) (Some d) says others =
+    let read : command_of line ≡ Some c = ap command_of says.1 ∙ command_of-again c says.0 in
+    let read' : command_of line ≡ Some d = ap command_of others.1 ∙ command_of-again d others.0 in
+    cc

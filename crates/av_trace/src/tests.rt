@@ -1,0 +1,201 @@
+use super::*;
+use av_vma::{Prot, Slot};
+use std::alloc::{AllocError, Global};
+use std::test::*;
+
+fn is_bad(alloc: Global, line: &[u8]) -> bool {
+    matches!(parse_line(alloc, line), Err(LineFault::Bad))
+}
+
+fn is_command(alloc: Global, line: &[u8]) -> bool {
+    matches!(parse_line(alloc, line), Ok(Some(_)))
+}
+
+#[test]
+fn lines(rt: HostRuntime) {
+    let good = [
+        "spawn 1",
+        "spawn 32767",
+        "mmap 1 0 ---",
+        "mmap 1 18446744073709551615 rwx",
+        "read 1 0 1",
+        "read 1 ffffffffffffffff 4096",
+        "write 1 10000 0f",
+    ];
+    for line in good {
+        assert!(rt; is_command(rt.alloc(), line.as_bytes()), "{line}");
+    }
+    let bad = [
+        "",
+        "# spawn 1",
+        "spawn",
+        "spawn 0",
+        "spawn 01",
+        "spawn 32768",
+        "spawn  1",
+        "spawn 1 ",
+        " spawn 1",
+        "spawn 1 2",
+        "spawns 1",
+        "mmap 1 18446744073709551616 rw-",
+        "mmap 1 4096 rw",
+        "mmap 1 4096 wr-",
+        "read 1 10000 0",
+        "read 1 10000 4097",
+        "read 1 010000 1",
+        "read 1 1000A 1",
+        "read 1 10000000000000000 1",
+        "write 1 10000",
+        "write 1 10000 0",
+        "write 1 10000 000",
+        "write 1 10000 0F",
+    ];
+    for line in bad {
+        assert!(rt; is_bad(rt.alloc(), line.as_bytes()), "{line}");
+    }
+}
+
+#[test]
+fn long_lines(rt: HostRuntime) -> Result<(), Fail> {
+    let mut line = Vec::from_slice(rt.alloc(), b"write 1 10000 ")?;
+    for _ in 0..4096 {
+        line.extend_from_slice(b"7f")?;
+    }
+    assert!(rt; is_command(rt.alloc(), line.as_slice()));
+    line.extend_from_slice(b"7f")?;
+    assert!(rt; is_bad(rt.alloc(), line.as_slice()));
+    Ok(())
+}
+
+#[test]
+fn stored_bytes(rt: HostRuntime) {
+    match parse_line(rt.alloc(), b"write 7 7fffffffd000 00417f") {
+        Ok(
+            Some(
+                Command::Write {
+                    process,
+                    address,
+                    bytes,
+                },
+            ),
+        ) => {
+            assert_eq!(rt; process, 7);
+            assert_eq!(rt; address, 0x7fff_ffff_d000);
+            assert!(rt; bytes.as_slice() == b"\x00\x41\x7f".as_slice());
+        }
+        _ => assert!(rt; false),
+    }
+}
+
+#[test]
+fn numbers(rt: HostRuntime) {
+    assert_eq!(rt; number_in(b"262144", 1, 262_144), Some(262_144));
+    assert_eq!(rt; number_in(b"262145", 1, 262_144), None);
+}
+
+/// Whether this is the text of the reply.
+fn has_text(alloc: Global, reply: &Reply, wanted: &str) -> Result<bool, AllocError> {
+    let mut text = Bytes::new(alloc);
+    reply_text(reply, &mut text)?;
+    Ok(text.as_slice() == wanted.as_bytes())
+}
+
+fn answered(alloc: Global, answer: Answer) -> Reply {
+    Reply {
+        answer,
+        notes: Notes::new(alloc),
+        rows: Rows::new(alloc),
+    }
+}
+
+#[test]
+fn stops_and_bytes(rt: HostRuntime) -> Result<(), Fail> {
+    let alloc = rt.alloc();
+    let segv = Answer::Segv {
+        served: 2,
+        shown: Bytes::new(alloc),
+    };
+    assert!(rt; has_text(alloc, &answered(alloc, segv), "segv 2\n")?);
+    let bytes = Bytes::from_vec(Vec::from_slice(alloc, b"\x00\x41\x00")?);
+    assert!(rt;
+        has_text(
+            alloc,
+            &answered(alloc, Answer::Data(bytes)),
+            "data 004100\n"
+        )?
+    );
+    Ok(())
+}
+
+#[test]
+fn refusals_and_entries(rt: HostRuntime) -> Result<(), Fail> {
+    let alloc = rt.alloc();
+    let refused = Answer::Refused(Errno::Eagain);
+    assert!(rt; has_text(alloc, &answered(alloc, refused), "err EAGAIN\n")?);
+    let entry = Answer::EntryFrame {
+        frame: 5,
+        seen: false,
+        cached: Some(Slot { area: 3, page: 70 }),
+    };
+    assert!(rt; has_text(alloc, &answered(alloc, entry), "frame 5 old cached 3:70\n")?);
+    Ok(())
+}
+
+#[test]
+fn totals(rt: HostRuntime) -> Result<(), Fail> {
+    let totals = Totals {
+        frames: 4,
+        free: 1,
+        active: 1,
+        inactive: 2,
+        flight: 0,
+        slots: 15,
+        free_slots: 12,
+        processes: 2,
+    };
+    let reply = answered(rt.alloc(), Answer::Counted(totals));
+    let wanted =
+        "stat frames=4 free=1 active=1 inactive=2 flight=0 slots=15 freeslots=12 procs=2\n";
+    assert!(rt; has_text(rt.alloc(), &reply, wanted)?);
+    Ok(())
+}
+
+#[test]
+fn notes(rt: HostRuntime) -> Result<(), Fail> {
+    let alloc = rt.alloc();
+    let oom = Answer::Oom {
+        served: 1,
+        out: OutOf {
+            pinned: 0,
+            noslot: 1,
+            fault: 0,
+        },
+        shown: Bytes::new(alloc),
+    };
+    let mut reply = answered(alloc, oom);
+    reply.notes.push(Note::New {
+        process: 1,
+        address: 0x7fff_ffff_d000,
+        frame: 0,
+    })?;
+    let wanted = "oom 1 pinned=0 noslot=1 fault=0\n new 1 7fffffffd000 0\n";
+    assert!(rt; has_text(alloc, &reply, wanted)?);
+    Ok(())
+}
+
+#[test]
+fn rows(rt: HostRuntime) -> Result<(), Fail> {
+    let alloc = rt.alloc();
+    let mut reply = answered(alloc, Answer::Runs(1));
+    reply.rows.push(Row::Run {
+        start: 0x10000,
+        end: 0x12000,
+        prot: Prot {
+            read: true,
+            write: true,
+            execute: false,
+        },
+    })?;
+    assert!(rt; has_text(alloc, &reply, "runs 1\n 10000-12000 rw-\n")?);
+    Ok(())
+}
