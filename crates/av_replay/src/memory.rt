@@ -1,6 +1,6 @@
 //! A source and a sink in memory, which fail at the calls that a list names.
 
-ghost use Rattle.std.specs.Prelude.{◌==◌, ◌≡◌, ◌≤◌, Some, true, drop, length};
+ghost use Rattle.std.specs.Prelude.{◌==◌, ◌≡◌, ◌≤◌, Some, true, drop, length, []};
 ghost use Rattle.av_replay.specs.Outside.{Rose};
 
 use crate::outside::{Failed, Sink, SinkErr, Source};
@@ -100,6 +100,8 @@ impl MemSink {
 
 impl Sink for MemSink {
     ghost held = { λ s. Some s.bytes.items };
+
+    ghost kept_back = { λ _. [] };
 
     ghost faults = { λ s. s.faults.count };
 

@@ -1,8 +1,10 @@
 //! A source over any reader, and a sink over any writer, as standard input and output.
 //!
-//! What passes through them is not told, so the contracts of `run` say of them when they failed, and that the end was reached.
+//! What passes through them is not told. Of them the contract of `run` says when they failed, that the end of the input was reached,
+//! and that nothing is kept back in the end.
 
 ghost use Rattle.std.specs.Prelude.{None};
+ghost use Rattle.std.specs.Io.Buffered.{writer_buffer};
 
 use crate::outside::{Failed, Sink, SinkErr, Source};
 use std::alloc::Global;
@@ -69,6 +71,8 @@ impl<W: Write + Drop> WriteSink<W> {
 
 impl<W: Write + Drop> Sink for WriteSink<W> {
     ghost held = { λ _. None };
+
+    ghost kept_back = { λ s. writer_buffer s.writer };
 
     ghost faults = { λ s. s.faults };
 
