@@ -1,21 +1,25 @@
 //! A source and a sink in memory, which fail at the calls that a list names.
 
-ghost use Rattle.std.specs.Prelude.{◌==◌, ◌≡◌, ◌≤◌, Some, true, drop, length};
+ghost use Rattle.std.specs.Prelude.{◌==◌, ◌≡◌, ◌≤◌, Some, true, drop, length, []};
 ghost use Rattle.av_replay.specs.Outside.{Rose};
 
 use crate::outside::{Failed, Sink, SinkErr, Source};
 use std::alloc::Global;
 
-/// Which calls fail, counted from 1, and how often one did.
+/// Which calls fail, counted from 1, and how often one did. Without such calls that is 0 for ever.
 #[derive(Drop)]
 struct Faults {
     failing: Vec<u64>,
     calls: u64,
     count: u64,
+    ghost none: { failing.items ≡ [] → count ≡ 0 },
 }
 
 impl Faults {
-    fn new(failing: Vec<u64>) -> Faults {
+    fn new(failing: Vec<u64>) -> Faults
+        ensures failing { result.failing ≡ failing }
+        ensures count { result.count ≡ 0 }
+    {
         Faults {
             failing,
             calls: 0,
@@ -25,6 +29,7 @@ impl Faults {
 
     /// Whether this call fails.
     fn fails(&mut self) -> bool
+        ensures failing { self.new.failing ≡ self.old.failing }
         ensures falls { self.old.count ≤ self.new.count }
         ensures rises { result ≡ true → Rose self.old.count self.new.count }
     {
@@ -47,8 +52,12 @@ pub struct MemSource {
 }
 
 impl MemSource {
-    /// A source of these bytes, which fails at the calls of these numbers.
-    pub fn new(bytes: Vec<u8>, failing: Vec<u64>) -> MemSource {
+    /// A source of these bytes, which fails at the calls of these numbers, from 1.
+    pub fn new(bytes: Vec<u8>, failing: Vec<u64>) -> MemSource
+        ensures left { ⟦<MemSource as Source>⟧.left result ≡ Some bytes.items }
+        ensures faults { ⟦<MemSource as Source>⟧.faults result ≡ 0 }
+        ensures failing { result.faults.failing ≡ failing }
+    {
         MemSource {
             bytes,
             at: 0,
@@ -83,14 +92,19 @@ pub struct MemSink {
 }
 
 impl MemSink {
-    /// An empty sink, which fails at the calls of these numbers.
-    pub fn new(alloc: Global, failing: Vec<u64>) -> MemSink {
+    /// An empty sink, whose writes of these numbers fail, from 1.
+    pub fn new(alloc: Global, failing: Vec<u64>) -> MemSink
+        ensures held { ⟦<MemSink as Sink>⟧.held result ≡ Some [] }
+        ensures faults { ⟦<MemSink as Sink>⟧.faults result ≡ 0 }
+        ensures failing { result.faults.failing ≡ failing }
+    {
         MemSink {
             bytes: Vec::new(alloc),
             faults: Faults::new(failing),
         }
     }
 
+    /// What was written.
     pub fn bytes(&self) -> &[u8]
         ensures { Some result.now ≡ ⟦<MemSink as Sink>⟧.held self.now }
     {
@@ -100,6 +114,8 @@ impl MemSink {
 
 impl Sink for MemSink {
     ghost held = { λ s. Some s.bytes.items };
+
+    ghost kept_back = { λ _. [] };
 
     ghost faults = { λ s. s.faults.count };
 

@@ -1,6 +1,6 @@
 //! A source of bytes and a sink for bytes, each with a count of its faults.
 
-ghost use Rattle.std.specs.Prelude.{Bool, true, ◌≡◌, ℕ, ◌<◌, ◌≤◌, List, Option, None, length, take, IfOk, OnErr, IsErrOf};
+ghost use Rattle.std.specs.Prelude.{Bool, true, ◌≡◌, ℕ, ◌<◌, ◌≤◌, List, Option, None, length, take, IfOk, OnErr, IsErrOf, [], OnOk};
 ghost use Rattle.av_replay.specs.Outside.{Rose, Took, Gained, HasEnded};
 
 /// The source failed, or the sink could not hand on what it kept back.
@@ -41,6 +41,9 @@ pub trait Sink {
     /// What it holds, where it is told. A sink that tells keeps nothing back.
     ghost held: { Self → Option (List ℕ) };
 
+    /// What it keeps back.
+    ghost kept_back: { Self → List ℕ };
+
     /// How often it failed.
     ghost faults: { Self → ℕ };
 
@@ -56,6 +59,7 @@ pub trait Sink {
     /// Hands on what was kept back. A sink that tells what it holds has nothing to hand on, and doesn't fail here.
     fn flush(&mut self) -> Result<(), Failed>
         ensures same { held self.new ≡ held self.old }
+        ensures handed_on { OnOk result (kept_back self.new ≡ []) }
         ensures failed { OnErr result (held self.old ≡ None) }
         ensures never_falls { faults self.old ≤ faults self.new }
         ensures cause { OnErr result (Rose (faults self.old) (faults self.new)) };

@@ -1,12 +1,15 @@
 //! A source over any reader, and a sink over any writer, as standard input and output.
 //!
-//! What passes through them is not told, so the contracts of `run` say of them when they failed, and that the end was reached.
+//! What passes through them is not told. Of them the contract of `run` says when they failed, that the end of the input was reached,
+//! and that nothing is kept back in the end.
 
-ghost use Rattle.std.specs.Prelude.{None};
+ghost use Rattle.std.specs.Prelude.{None, ◌≡◌, [], IfOk, IfErr};
+ghost use Rattle.std.specs.Io.Buffered.{writer_buffer};
+ghost use Rattle.std.specs.IoError.{error_kind};
 
 use crate::outside::{Failed, Sink, SinkErr, Source};
 use std::alloc::Global;
-use std::io::{self, BufWriter, Read, Write};
+use std::io::{self, BufWriter, ErrorKind, Read, Write};
 
 /// How many bytes a sink keeps back at most.
 const ROOM: usize = 1 << 16;
@@ -20,7 +23,10 @@ pub struct ReadSource<R: Read + Drop> {
 }
 
 impl<R: Read + Drop> ReadSource<R> {
-    pub fn new(reader: R) -> ReadSource<R> {
+    /// A source over this reader, which has not failed yet.
+    pub fn new(reader: R) -> ReadSource<R>
+        ensures { result.faults ≡ 0 }
+    {
         ReadSource {
             reader,
             has_told_end: false,
@@ -58,8 +64,12 @@ pub struct WriteSink<W: Write + Drop> {
 }
 
 impl<W: Write + Drop> WriteSink<W> {
-    /// A sink over this writer. The error is want of memory.
-    pub fn new(alloc: Global, writer: W) -> io::Result<WriteSink<W>> {
+    /// A sink over this writer, which has not failed yet. The error is want of memory.
+    pub fn new(alloc: Global, writer: W) -> io::Result<WriteSink<W>>
+        ensures faults { IfOk result (λ s. s.faults ≡ 0) }
+        ensures empty { IfOk result (λ s. writer_buffer s.writer ≡ []) }
+        ensures err { IfErr result (λ e. error_kind e ≡ ErrorKind.OutOfMemory) }
+    {
         Ok(WriteSink {
             writer: BufWriter::with_capacity(alloc, ROOM, writer)?,
             faults: 0,
@@ -69,6 +79,8 @@ impl<W: Write + Drop> WriteSink<W> {
 
 impl<W: Write + Drop> Sink for WriteSink<W> {
     ghost held = { λ _. None };
+
+    ghost kept_back = { λ s. writer_buffer s.writer };
 
     ghost faults = { λ s. s.faults };
 

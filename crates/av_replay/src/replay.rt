@@ -1,6 +1,6 @@
 //! The loop over the lines.
 
-ghost use Rattle.std.specs.Prelude.{true, ◌≡◌, ◌≤◌, [], Some, replicate};
+ghost use Rattle.std.specs.Prelude.{true, ◌≡◌, ◌≤◌, [], Some, replicate, ◌≢◌};
 ghost use Rattle.av_plain.specs.Transcript.{at_first};
 ghost use Rattle.av_kernel.specs.Kernel.{setting, Stands};
 ghost use Rattle.av_replay.specs.Outside.{Rose};
@@ -95,6 +95,7 @@ pub fn replay<S: Source, K: Sink>(
     requires tally { kernel.old.tally ≡ replicate 8 0 }
     ensures headline { Headline kernel.old.frames result (S.left source.old) (S.left source.new) (K.held sink.old) (K.held sink.new) (Some kernel.new) }
     ensures told { result ≡ Status.Done → S.has_told_end source.new ≡ true }
+    ensures handed_on { result ≢ Status.Memory → result ≢ Status.WriteFault → K.kept_back sink.new ≡ [] }
     ensures read_cause { result ≡ Status.ReadFault → Rose (S.faults source.old) (S.faults source.new) }
     ensures write_cause { result ≡ Status.WriteFault → Rose (K.faults sink.old) (K.faults sink.new) }
 {

@@ -1,6 +1,6 @@
 //! The top call.
 
-ghost use Rattle.std.specs.Prelude.{true, Some, List, ◌≡◌, ℕ, ◌≢◌, map, string_bytes, None, IsSome};
+ghost use Rattle.std.specs.Prelude.{true, Some, List, ◌≡◌, ℕ, ◌≢◌, map, string_bytes, None, IsSome, []};
 ghost use Rattle.av_replay.specs.Outside.{Rose};
 ghost use Rattle.av_replay.specs.Headline.{Headline};
 ghost use Rattle.av_replay.specs.Trace.{IsTrace, IsDoneOrMemory};
@@ -51,8 +51,11 @@ pub fn run<S: Source, K: Sink>(
     ensures complete { (content : List ℕ) (n : ℕ) → IsForm (map string_bytes words.now) n → S.left source.old ≡ Some content → IsTrace content
         → (Rose (S.faults source.old) (S.faults source.new) → ⊥) → (Rose (K.faults sink.old) (K.faults sink.new) → ⊥) → IsDoneOrMemory result.status }
 
-    // A fault is told only where there was one.
+    // All was read in the end, and no text is kept back.
     ensures read_to_end { result.status ≡ Status.Done → S.has_told_end source.new ≡ true }
+    ensures handed_on { result.status ≢ Status.Usage → result.status ≢ Status.Memory → result.status ≢ Status.WriteFault → K.kept_back sink.new ≡ [] }
+
+    // A fault is told only where there was one.
     ensures read_cause { result.status ≡ Status.ReadFault → Rose (S.faults source.old) (S.faults source.new) }
     ensures write_cause { result.status ≡ Status.WriteFault → Rose (K.faults sink.old) (K.faults sink.new) }
 {

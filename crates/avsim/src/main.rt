@@ -5,13 +5,17 @@ mod failure;
 
 use crate::failure::{Failure, number};
 use av_replay::{ReadSource, Status, WriteSink, run};
+use std::io::{self, ErrorKind};
 use std::process::ExitCode;
-use std::{env, io};
+use std::env;
 
 /// Runs the program on its words, over standard input and output.
 fn replayed(rt: &HostRuntime) -> Status {
-    let Ok(args) = env::args(rt) else {
-        return Status::Usage;
+    let args = match env::args(rt) {
+        Ok(args) => args,
+        Err(error) if error.kind() == ErrorKind::OutOfMemory => return Status::Memory,
+        // A word that is no text.
+        Err(_) => return Status::Usage,
     };
     let mut words = Vec::new(rt.alloc());
     for word in args.skip(1) {

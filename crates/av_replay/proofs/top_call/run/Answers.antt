@@ -25,6 +25,7 @@ returns-in_default-replay g c =
       complete = λ content n form told trace no_read no_write.
           complete _ _ _ _ _ _ _ content h told trace (λ e. no_read (c.replay.ensures.read_cause e)) (λ e. no_write (c.replay.ensures.write_cause e));
       read_to_end = c.replay.ensures.told;
+      handed_on = λ no_usage no_memory no_write. c.replay.ensures.handed_on no_memory no_write;
       read_cause = c.replay.ensures.read_cause;
       write_cause = c.replay.ensures.write_cause;
     }
