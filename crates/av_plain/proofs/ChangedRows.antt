@@ -20,7 +20,7 @@ use Rattle.av_plain.specs.Pass.{noted_all}
 use Rattle.av_plain.specs.Fault.{Need, Absent, IsLost, Accesses, GoesOn, Touches, How, Served, Denied, Starved, Lost, End, Whole, Stopped, happening, noting, touched}
 use Rattle.av_plain.specs.Refusal.{tests, refusal}
 use Rattle.av_plain.specs.Step.{IsLegal, Follows, Refuses, Answers, IsMapAt}
-use Rattle.av_plain.specs.Transcript.{Exchange, State, at_first}
+use Rattle.av_plain.specs.Transcript.{Exchange, State}
 use Rattle.av_plain.specs.Determined.{Tells, IsClaimed, NoBus, SameCommands, is_bus}
 use Rattle.av_plain.specs.Rows.{Allows, Rejects, copies, leaked, load_when_half_full, wrong_load, page_with, with_byte, machine, crowd, after_fork, with_swap, slot, paged_out, in_writeback, Runs, Refutes, Forbids, answered, read_write, untouched, empty, in_swap_cache, first_run, one_frame, wrong_frame, wrong_place, written_in_vain, refused_write, denied_write}
 use Rattle.av_plain.proofs.AccessLaws.{notes_of-append, notes_of-noting}

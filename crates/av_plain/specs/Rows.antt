@@ -37,10 +37,11 @@ use Rattle.av_plain.specs.Transcript.{Exchange, State, IsRun, at_first}
 abbrev pub Allows : Setting → State → List Exchange → Type 0
 Allows m old row = (new : State) × IsRun m old row new
 
--- from the first state of a machine with so many frames and no device
+-- a machine with so many frames and no device
 abbrev pub machine : ℕ → Setting
 machine frames = record { frames = frames; sizes = []; headers = Some (λ _. None) }
 
+-- and so from the first state of such a machine on
 abbrev pub Runs : ℕ → List Exchange → Type 0
 Runs frames row = Allows (machine frames) (at_first (machine frames)) row
 
@@ -50,12 +51,15 @@ Forbids m old command reply = (events : List Event) → IsLegal m old.world old.
 
 -- ---- how a row is written
 
+-- a reply without rows
 abbrev pub answered : Answer → List Note → Reply
 answered answer notes = record { answer = answer; notes = notes; rows = [] }
 
+-- a command and what it is answered
 abbrev pub says : Command → Answer → List Note → Exchange
 says command answer notes = record { command = command; reply = answered answer notes }
 
+-- the protections `rw-`, `r--`, `---`, `-w-` and `--x`
 abbrev pub read_write : Prot
 read_write = record { read = true; write = true; execute = false }
 
@@ -163,10 +167,11 @@ all_mapped =
 
 -- ---- from states that later commands lead to
 
--- a page whose first byte is this one, with zeros behind it, and a process with that page alone, the topmost
+-- a page whose first byte is this one, with zeros behind it
 abbrev pub page_with : ℕ → Page
 page_with b = record { prot = read_write; bytes = λ i. Some (if i == 0 then b else 0) }
 
+-- a process with that page alone, the topmost
 abbrev pub with_byte : ℕ → Process
 with_byte b page = if page == 0x7fffffffe then Some (page_with b) else None
 
@@ -211,6 +216,7 @@ no_copy =
 abbrev pub with_swap : ℕ → ℕ → ℕ → Setting
 with_swap frames pages slots = record { frames = frames; sizes = pages ∷ []; headers = Some (λ _. Some (record { pages = pages; slots = slots; bad = [] })) }
 
+-- a slot of the one area
 abbrev pub slot : ℕ → Slot
 slot page = record { area = 0; page = page }
 
@@ -285,10 +291,11 @@ load_without_copy =
     says (Write 2 0x7fffffffe000 (2 ∷ [])) (Oom 0 (record { pinned = 1; noslot = 0; fault = 0 }) []) (Loaded (slot 1) 0 ∷ Mapped 2 0x7fffffffe000 0 ∷ [])
     ∷ says (Read 2 0x7fffffffe000 1) (Data (7 ∷ [])) [] ∷ []
 
--- a device that doesn't tell its pages may give any bytes, until they are written
+-- a machine whose device doesn't tell its pages
 abbrev pub untold : Setting
 untold = record { frames = 4; sizes = 8 ∷ []; headers = None }
 
+-- it may give any bytes, until they are written
 abbrev pub load_unclaimed : List Exchange
 load_unclaimed =
     says (Read 1 0x7fffffffe000 1) (Data (0x63 ∷ [])) (Loaded (slot 1) 0 ∷ Mapped 1 0x7fffffffe000 0 ∷ [])
@@ -378,6 +385,7 @@ in_swap_cache = record {
 abbrev pub Rejects : Setting → State → List Exchange → Type 0
 Rejects m old row = (new : State) → IsRun m old row new → ⊥
 
+-- and so from nothing on
 abbrev pub Refutes : ℕ → List Exchange → Type 0
 Refutes frames row = Rejects (machine frames) (at_first (machine frames)) row
 
