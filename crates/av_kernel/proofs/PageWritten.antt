@@ -67,9 +67,9 @@ elsewhere page other at n i fits below ne = test (4096 * page + at) n (4096 * ot
     test : (a n x : ℕ) → (a ≤ x → x < a + n → ⊥) → within a n x ≡ false
     test a n x h = elim (nat_le a x) as (λ b. nat_le a x ≡ b → (b && nat_lt x (a + n)) ≡ false) [
       | true ↦ λ e. elim (nat_lt x (a + n)) as (λ b. nat_lt x (a + n) ≡ b → b ≡ false) [
-          | true ↦ λ d. absurd (h (le_of a x e) (lt_of x (a + n) d))
-          | false ↦ λ d. refl
-        ] refl
+        | true ↦ λ d. absurd (h (le_of a x e) (lt_of x (a + n) d))
+        | false ↦ λ d. refl
+      ] refl
       | false ↦ λ e. refl
     ] refl
       where
@@ -103,7 +103,7 @@ module _ (m : Setting) (v : View) (w : World) (l : Ledger) (p page f : ℕ) (was
   at_pages_now q o h =
       let there = parts.at_pages q o h in
       by_process w p (written (pages w p) (4096 * page + start) piece) q o (λ x. is_some x ≡ true)
-          (λ same. some_written (pages w p) (4096 * page + start) piece o (subst (λ x. is_some (pages w x o) ≡ true) same there)) (λ _. there)
+      (λ same. some_written (pages w p) (4096 * page + start) piece o (subst (λ x. is_some (pages w x o) ≡ true) same there)) (λ _. there)
 
   areas_now : AreasStand (over f start piece v) (set_process w p (written (pages w p) (4096 * page + start) piece))
   areas_now = record {

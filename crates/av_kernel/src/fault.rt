@@ -67,12 +67,7 @@ impl Mem {
     }
 
     /// Takes a frame for a page and copies the page's present one to it. None exactly where no frame is free.
-    fn take_copy(
-        &mut self,
-        process: u16,
-        page: u64,
-        from: u32,
-    ) -> Result<Option<u32>, AllocError>
+    fn take_copy(&mut self, process: u16, page: u64, from: u32) -> Result<Option<u32>, AllocError>
         requires steady { IsSteady self.old }
         requires there { has self.old.tables process ≡ true }
         requires below { page < top_page }

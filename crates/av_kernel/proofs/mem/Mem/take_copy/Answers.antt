@@ -36,7 +36,7 @@ map_down-requires-clause-some c =
     let g = c.args.from in
     let e = entry_frame c.args.self.now c.args.process c.args.page g c.requires.steady c.requires.named in
     subst (λ n. 0 < n) (sym (ap (λ (s : Seen). s.maps g) (c.map_up.ensures ∙ ap (λ (s : Seen). record s { maps = with_at f (s.maps f + 1) s.maps }) (c.copy.ensures ∙ ap (λ (s : Seen). record s { bytes = with_at f (s.bytes g) s.bytes }) c.in-Some.ensures.3))))
-        (still (g == f) _ ((seen c.args.self.now.frames).maps f) e.1)
+    (still (g == f) _ ((seen c.args.self.now.frames).maps f) e.1)
 
 pub returns-clause-taken : goal.returns-clause-taken
 returns-clause-taken c =
@@ -44,6 +44,6 @@ returns-clause-taken c =
     let g = c.args.from in
     let t = c.in-Some.ensures in
     frame_taken c.args.self.now _ c.args.process c.args.page f _ _ c.take.new.self.free
-        (c.map_down.ensures ∙ ap (λ (s : Seen). record s { maps = with_at g (s.maps g - 1) s.maps })
-        (c.map_up.ensures ∙ ap (λ (s : Seen). record s { maps = with_at f (s.maps f + 1) s.maps }) (c.copy.ensures ∙ ap (λ (s : Seen). record s { bytes = with_at f (s.bytes g) s.bytes }) t.3)))
-        t.0 t.2 t.1 c.in_ok-set.ensures.sets refl
+    (c.map_down.ensures ∙ ap (λ (s : Seen). record s { maps = with_at g (s.maps g - 1) s.maps })
+    (c.map_up.ensures ∙ ap (λ (s : Seen). record s { maps = with_at f (s.maps f + 1) s.maps }) (c.copy.ensures ∙ ap (λ (s : Seen). record s { bytes = with_at f (s.bytes g) s.bytes }) t.3)))
+    t.0 t.2 t.1 c.in_ok-set.ensures.sets refl

@@ -18,5 +18,5 @@ returns-clause-taken c =
     let f = c.in-Some.frame in
     let t = c.in-Some.ensures in
     frame_taken c.args.self.now _ c.args.process c.args.page f _ _ c.take.new.self.free
-        (c.map_up.ensures ∙ ap (λ (s : Seen). record s { maps = with_at f (s.maps f + 1) s.maps }) (c.zero.ensures ∙ ap (λ (s : Seen). record s { bytes = with_at f (λ i. 0) s.bytes }) t.3))
-        t.0 t.2 t.1 c.in_ok-set.ensures.sets refl
+    (c.map_up.ensures ∙ ap (λ (s : Seen). record s { maps = with_at f (s.maps f + 1) s.maps }) (c.zero.ensures ∙ ap (λ (s : Seen). record s { bytes = with_at f (λ i. 0) s.bytes }) t.3))
+    t.0 t.2 t.1 c.in_ok-set.ensures.sets refl

@@ -20,13 +20,13 @@ returns-then-not-may_access-clause-step c = λ s keeps.
 pub returns-in-Zero-clause-step : goal.returns-in-Zero-clause-step
 returns-in-Zero-clause-step c = λ s keeps.
     zeros_there s c.args.self.now c.args.self.now c.args.process c.args.page c.args.notes.now keeps (sym c.may_access.ensures.permitted ∙ c.if-not-may_access.false)
-        (sym (keeps.stands.tables.entries c.args.process c.args.page) ∙ ap (λ e. entry_of (plain e)) (sym c.get.ensures ∙ c.in-Zero.is))
+    (sym (keeps.stands.tables.entries c.args.process c.args.page) ∙ ap (λ e. entry_of (plain e)) (sym c.get.ensures ∙ c.in-Zero.is))
 
 pub returns-then-seen-clause-step : goal.returns-then-seen-clause-step
 returns-then-seen-clause-step c = λ s keeps.
     let h = c.in-Here in
     seen_there c.args.self.now s c.args.process c.args.page h.frame false h.write c.args.notes.now keeps (sym c.may_access.ensures.permitted ∙ c.if-not-may_access.false)
-        (sym c.get.ensures ∙ h.is ∙ ap (Here h.frame h.write) c.if-seen.true) (λ e. absurd (false≢true e))
+    (sym c.get.ensures ∙ h.is ∙ ap (Here h.frame h.write) c.if-seen.true) (λ e. absurd (false≢true e))
 
 pub returns-else-seen-clause-step : goal.returns-else-seen-clause-step
 returns-else-seen-clause-step c = λ s keeps.
@@ -34,4 +34,4 @@ returns-else-seen-clause-step c = λ s keeps.
     let old = c.args.self.now in
     let is = sym c.get.ensures ∙ h.is in
     seen_now old (record old { tables = c.change.new.self }) s c.args.process c.args.page h.frame false h.write h.write h.seen c.args.notes.now keeps (sym c.may_access.ensures.permitted ∙ c.if-not-may_access.false)
-        is c.change.ensures.sets c.change.ensures.processes refl refl (few_by_bit old s c.args.process c.args.page h.frame h.write h.seen keeps is) (λ e. absurd (false≢true e))
+    is c.change.ensures.sets c.change.ensures.processes refl refl (few_by_bit old s c.args.process c.args.page h.frame h.write h.seen keeps is) (λ e. absurd (false≢true e))

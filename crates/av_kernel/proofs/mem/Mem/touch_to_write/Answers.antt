@@ -22,10 +22,10 @@ returns-else-maps-gt1-clause-step c = λ s keeps.
     let old = c.args.self.now in
     let few : mapped s.ledger h.frame ≤ 1 = subst (λ n. n ≤ 1) (c.maps.ensures ∙ keeps.stands.frames.maps h.frame) c.if-maps-gt1.false in
     seen_now old (record old { tables = c.change.new.self }) s c.args.process c.args.page h.frame true h.write true h.seen c.args.notes.now keeps (sym c.may_access.ensures.permitted ∙ c.if-not-may_access.false)
-        (sym c.get.ensures ∙ h.is) c.change.ensures.sets c.change.ensures.processes refl refl (λ _. few) (λ _. few)
+    (sym c.get.ensures ∙ h.is) c.change.ensures.sets c.change.ensures.processes refl refl (λ _. few) (λ _. few)
 
 pub returns-then-seen-clause-step : goal.returns-then-seen-clause-step
 returns-then-seen-clause-step c = λ s keeps.
     let h = c.in-Here in
     seen_there c.args.self.now s c.args.process c.args.page h.frame true h.write c.args.notes.now keeps (sym c.may_access.ensures.permitted ∙ c.if-not-may_access.false)
-        (sym c.get.ensures ∙ h.is ∙ ap (Here h.frame h.write) c.if-seen.true) (λ _. c.if-write.true)
+    (sym c.get.ensures ∙ h.is ∙ ap (Here h.frame h.write) c.if-seen.true) (λ _. c.if-write.true)
