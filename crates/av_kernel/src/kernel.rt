@@ -6,6 +6,9 @@ ghost use Rattle.av_kernel.specs.Kernel.{Stands, Steps, Counts, word_of, counted
 ghost use Rattle.av_kernel.specs.View.{setting};
 
 use crate::mem::Mem;
+use crate::spaces::Spaces;
+use av_frames::Frames;
+use av_pagetable::{MapTable, Tables};
 use av_trace::{Answer, Command, Reply};
 use std::alloc::{AllocError, Global};
 use std::marker::Model;
@@ -73,6 +76,27 @@ impl Kernel {
                 Err(refused)
             }
         }
+    }
+
+    /// The frames.
+    pub fn frames(&self) -> &Frames
+        ensures { result.now ≡ self.now.mem.frames }
+    {
+        &self.mem.frames
+    }
+
+    /// The page tables of the processes that live.
+    pub fn tables(&self) -> &Tables<MapTable>
+        ensures { result.now ≡ self.now.mem.tables }
+    {
+        &self.mem.tables
+    }
+
+    /// The areas of the processes that live.
+    pub fn areas(&self) -> &Spaces
+        ensures { result.now ≡ self.now.mem.spaces }
+    {
+        &self.mem.spaces
     }
 
     /// How many commands were answered.

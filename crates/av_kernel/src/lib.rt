@@ -13,3 +13,6 @@ mod touched;
 pub use kernel::Kernel;
 pub use mem::Mem;
 pub use spaces::Spaces;
+
+#[cfg(test)]
+mod tests;

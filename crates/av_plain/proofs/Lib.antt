@@ -20,3 +20,8 @@ pub mod OutOfMemory
 pub mod FirstRows
 pub mod SwapRows
 pub mod LedgerRows
+pub mod OnePage
+pub mod Determined
+pub mod ChangedRows
+pub mod FreeList
+pub mod SoundRow

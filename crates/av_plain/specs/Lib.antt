@@ -12,4 +12,6 @@ pub mod Transcript
 pub mod Sound
 pub mod Says
 pub mod Stands
+pub mod FreeList
+pub mod Determined
 pub mod Rows

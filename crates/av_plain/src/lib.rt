@@ -6,9 +6,7 @@
 
 mod rows;
 
-pub use rows::{ledger_rows_lead, rows_run, shared_rows_run, swap_rows_run};
-
-ghost use Rattle.std.specs.Prelude.{◌≡◌, ℕ, ◌+◌, List, []};
+ghost use Rattle.std.specs.Prelude.{◌≡◌, ℕ, ◌+◌, false, List, []};
 ghost use Rattle.av_trace.specs.declared.command.Command.{Command};
 ghost use Rattle.av_trace.specs.declared.reply.OutOf.{OutOf};
 ghost use Rattle.av_trace.specs.declared.reply.Answer.TheVariants.{Oom};
@@ -17,9 +15,16 @@ ghost use Rattle.av_plain.specs.World.{World};
 ghost use Rattle.av_plain.specs.Ledger.{Ledger, Setting, fresh};
 ghost use Rattle.av_plain.specs.Event.{Event, after_all};
 ghost use Rattle.av_plain.specs.Step.{IsLegal, next_world};
-ghost use Rattle.av_plain.specs.Transcript.{Exchange, State, IsLegalFrom, IsRun, at_first};
+ghost use Rattle.av_plain.specs.Transcript.{Exchange, State, IsLegalFrom, IsStep, IsRun, at_first};
 ghost use Rattle.av_plain.specs.Sound.{AllSound};
 ghost use Rattle.av_plain.specs.Says.{SaysSound};
+ghost use Rattle.av_plain.specs.FreeList.{ListsFree};
+ghost use Rattle.av_plain.specs.Determined.{Tells, IsClaimed, is_bus, NoBus, SameCommands};
+
+pub use rows::{
+    a_page_in_writeback_is_sound, changed_replies_are_refused, changed_replies_of_swap_are_refused,
+    changed_runs_are_refused, ledger_rows_lead, rows_run, shared_rows_run, swap_rows_run,
+};
 
 /// Sound memories and a sound ledger are so after every legal reply, a refusal too.
 pub fn soundness_stays()
@@ -45,4 +50,20 @@ pub fn what_sound_says()
 /// The three numbers of an out-of-memory are all frames: pinned, not cached, and cached.
 pub fn numbers_add_up()
     ensures { (m : Setting) (w : World) (l : Ledger) (command : Command) (reply : Reply) (events : List Event) (k : ℕ) (out : OutOf) (shown : List ℕ) → AllSound m w l → IsLegal m w l command reply events → reply.answer ≡ Oom k out shown → out.pinned + out.noslot + out.fault ≡ m.frames }
+{}
+
+/// Where the devices tell their pages, each byte of the memories is claimed, and no fault of a device is reported, a
+/// command has one reply, and leaves one state: nothing is left to the kernel's choice.
+pub fn replies_are_determined()
+    ensures { (m : Setting) (old new other : State) (command : Command) (reply reply' : Reply) → Tells m → IsClaimed old.world → is_bus reply.answer ≡ false → is_bus reply'.answer ≡ false → IsStep m old command reply new → IsStep m old command reply' other → (reply ≡ reply') × (new ≡ other) }
+{}
+
+/// So there is one run of some commands, from nothing on.
+pub fn runs_are_determined()
+    ensures { (m : Setting) (exchanges exchanges' : List Exchange) (new other : State) → Tells m → SameCommands exchanges exchanges' → NoBus exchanges → NoBus exchanges' → IsRun m (at_first m) exchanges new → IsRun m (at_first m) exchanges' other → (exchanges ≡ exchanges') × (new ≡ other) }
+{}
+
+/// In a run the list of free frames has each free frame of the machine once, and no other number.
+pub fn runs_list_free_frames()
+    ensures { (m : Setting) (exchanges : List Exchange) (new : State) → IsRun m (at_first m) exchanges new → ListsFree m new.ledger new.free }
 {}

@@ -1,5 +1,7 @@
-use Rattle.av_plain.proofs.FirstRows.{first_run-runs, zero_first-runs, one_frame-runs, part_denied-runs, two_processes-runs, refusals-runs, all_mapped-runs}
+use Rattle.av_plain.proofs.FirstRows.{first_run-runs, zero_first-runs, one_frame-runs, part_denied-runs, two_processes-runs, refusals-runs, all_mapped-runs, denied_write-runs}
+use Rattle.av_plain.proofs.ChangedRows.{refused_write-runs}
 use Rattle.av_plain.proofs.SwapRows.{crowded-runs}
+use Rattle.av_plain.proofs.FirstRows.{readable-runs}
 use Rattle.av_plain.proofs.rows.rows_run.Goals as goal
 
 pub returns-clause-first_run : goal.returns-clause-first_run
@@ -23,5 +25,14 @@ returns-clause-refusals c = refusals-runs
 pub returns-clause-all_mapped : goal.returns-clause-all_mapped
 returns-clause-all_mapped c = all_mapped-runs
 
+pub returns-clause-denied_write : goal.returns-clause-denied_write
+returns-clause-denied_write c = denied_write-runs
+
+pub returns-clause-refused_write : goal.returns-clause-refused_write
+returns-clause-refused_write c = refused_write-runs
+
 pub returns-clause-crowded : goal.returns-clause-crowded
 returns-clause-crowded c = crowded-runs
+
+pub returns-clause-readable : goal.returns-clause-readable
+returns-clause-readable c = readable-runs

@@ -1,4 +1,5 @@
 use Rattle.av_plain.proofs.SwapRows.{loads-runs, load_to_write-runs, load_when_full-runs, no_load-runs, maps_again-runs, load_unclaimed-runs}
+use Rattle.av_plain.proofs.SwapRows.{load_when_half_full-runs}
 use Rattle.av_plain.proofs.rows.swap_rows_run.Goals as goal
 
 pub returns-clause-loads : goal.returns-clause-loads
@@ -18,3 +19,6 @@ returns-clause-maps_again c = maps_again-runs
 
 pub returns-clause-load_unclaimed : goal.returns-clause-load_unclaimed
 returns-clause-load_unclaimed c = load_unclaimed-runs
+
+pub returns-clause-load_when_half_full : goal.returns-clause-load_when_half_full
+returns-clause-load_when_half_full c = load_when_half_full-runs

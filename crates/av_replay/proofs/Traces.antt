@@ -1,0 +1,139 @@
+-- A trace of good lines is done, or memory runs out.
+use Rattle.std.proofs.Common.{eqb, ◌≡◌, ◌≢◌, ℕ, ◌^◌, ◌<◌, ◌≤◌, List, [], ◌∷◌, ◌++◌, length, take, drop, Option, Some, None, length-take-le, refl, sym, ap, subst, ◌∙◌, append_assoc, append-nil, arith, inl, inr, length-append}
+use Rattle.std.specs.Prelude.{All, unwrap_or}
+use Rattle.std.specs.List.{AllByRecursion}
+use Rattle.std.proofs.lemmas.Bool.{cond-true, cond-false, ne_eqb, cases_eq, eq-eqb}
+use Rattle.std.proofs.lemmas.Option.{same_Some}
+use Rattle.std.proofs.lemmas.List.{take-append-drop}
+use Rattle.std.proofs.lemmas.List.Elements.{All-head, All-tail}
+use Rattle.av_kernel.specs.Machine.{Machine}
+use Rattle.av_replay.specs.declared.status.Status.{Status}
+use Rattle.av_replay.specs.declared.status.Status.TheVariants as statuses
+use Rattle.av_replay.specs.Outside.{Took, HasEnded}
+use Rattle.av_replay.specs.Line.{IsLine, IsNoNewline, HasNoNewline}
+use Rattle.av_replay.specs.Turn.{IsBad}
+use Rattle.av_replay.specs.Headline.{joined, Headline}
+use Rattle.av_replay.specs.Trace.{onto_first, lines_of, IsGood, IsTrace, IsDoneOrMemory}
+
+lines_of-other : (b : ℕ) (bytes : List ℕ) → b ≢ 10 → lines_of (b ∷ bytes) ≡ onto_first b (lines_of bytes)
+lines_of-other b bytes ne = cond-false _ _ _ (ne_eqb b 10 ne)
+
+lines_of-line : (line more : List ℕ) → HasNoNewline line → lines_of (line ++ 10 ∷ more) ≡ line ∷ lines_of more
+lines_of-line [] more none = refl
+lines_of-line (b ∷ line) more none =
+    lines_of-other b (line ++ 10 ∷ more) (All-head IsNoNewline b line none) ∙ ap (onto_first b) (lines_of-line line more (All-tail IsNoNewline b line none))
+
+lines_of-joined : (lines : List (List ℕ)) (more : List ℕ) → AllByRecursion IsLine lines → lines_of (joined lines ++ more) ≡ lines ++ lines_of more
+lines_of-joined [] more all = refl
+lines_of-joined (line ∷ lines) more all =
+    ap lines_of (append_assoc (line ++ 10 ∷ []) (joined lines) more ∙ append_assoc line (10 ∷ []) (joined lines ++ more))
+    ∙ lines_of-line line (joined lines ++ more) all.0.one
+    ∙ ap (λ (ls : List (List ℕ)). line ∷ ls) (lines_of-joined lines more all.1)
+
+lines_of-last : (line : List ℕ) → HasNoNewline line → 0 < length line → lines_of line ≡ line ∷ []
+lines_of-last [] none some = absurd (omega arith)
+lines_of-last (b ∷ []) none some = lines_of-other b [] (All-head IsNoNewline b [] none)
+lines_of-last (b ∷ d ∷ line) none some =
+    lines_of-other b (d ∷ line) (All-head IsNoNewline b (d ∷ line) none) ∙ ap (onto_first b) (lines_of-last (d ∷ line) (All-tail IsNoNewline b (d ∷ line) none) (omega arith))
+
+-- a text without newline stands in its first line
+pub record First (size : ℕ) (lines : List (List ℕ)) : Type 0 where
+  pub line : List ℕ
+  pub others : List (List ℕ)
+  pub are : lines ≡ line ∷ others
+  pub long : size ≤ length line
+
+first_onto : (b : ℕ) (lines : List (List ℕ)) → First 1 (onto_first b lines)
+first_onto b [] = record { line = b ∷ []; others = []; are = refl; long = omega arith }
+first_onto b (line ∷ lines) = record { line = b ∷ line; others = lines; are = refl; long = omega arith }
+
+pub starts_long : (bytes more : List ℕ) → HasNoNewline bytes → 0 < length bytes → First (length bytes) (lines_of (bytes ++ more))
+starts_long [] more none some = absurd (omega arith)
+starts_long (b ∷ []) more none some = rw (lines_of-other b more (All-head IsNoNewline b [] none)) (first_onto b (lines_of more))
+starts_long (b ∷ d ∷ bytes) more none some =
+    let f = starts_long (d ∷ bytes) more (All-tail IsNoNewline b (d ∷ bytes) none) (omega arith) in
+    let are : lines_of (b ∷ d ∷ (bytes ++ more)) ≡ (b ∷ f.line) ∷ f.others = lines_of-other b (d ∷ (bytes ++ more)) (All-head IsNoNewline b (d ∷ bytes) none) ∙ ap (onto_first b) f.are in
+    record { line = b ∷ f.line; others = f.others; are = are; long = omega (arith, f.long) }
+
+some_line : (bytes : List ℕ) → 0 < length bytes → 0 < length (lines_of bytes)
+some_line [] some = absurd (omega arith)
+some_line (b ∷ bytes) some =
+    elim (cases_eq b 10) [
+      | inl e ↦ rw (cond-true (eqb b 10) ([] ∷ lines_of bytes) (onto_first b (lines_of bytes)) (eq-eqb b 10 e)) (omega arith)
+      | inr ne ↦ let f = first_onto b (lines_of bytes) in rw (lines_of-other b bytes ne, f.are) (omega arith)
+    ]
+
+-- what the source told is what was taken and what is left
+pub record Told (content taken : List ℕ) (left' : Option (List ℕ)) : Type 0 where
+  pub more : List ℕ
+  pub left_is : left' ≡ Some more
+  pub parts : content ≡ taken ++ more
+
+told : (content taken : List ℕ) (left' : Option (List ℕ)) → Took (Some content) left' taken → Told content taken left'
+told content taken None took = absurd cc
+told content taken (Some more) took = record { more = more; left_is = refl; parts = same_Some _ _ took }
+
+member : (lines : List (List ℕ)) (line : List ℕ) (others : List (List ℕ)) → All IsGood (lines ++ line ∷ others) → IsGood line
+member [] line others all = All-head IsGood line others all
+member (x ∷ lines) line others all = member lines line others (All-tail IsGood x (lines ++ line ∷ others) all)
+
+-- the lines that were done, and those that are left
+split : (lines : List (List ℕ)) (rest content more : List ℕ) → AllByRecursion IsLine lines → content ≡ (joined lines ++ rest) ++ more → lines_of content ≡ lines ++ lines_of (rest ++ more)
+split lines rest content more all e = ap lines_of (e ∙ append_assoc (joined lines) rest more) ∙ lines_of-joined lines (rest ++ more) all
+
+-- the first of the other lines is good
+first_good : (lines : List (List ℕ)) (rest content more line : List ℕ) (others : List (List ℕ)) → AllByRecursion IsLine lines → content ≡ (joined lines ++ rest) ++ more → All IsGood (lines_of content) → lines_of (rest ++ more) ≡ line ∷ others → IsGood line
+first_good lines rest content more line others all e good are =
+    member lines line others (subst (λ (ls : List (List ℕ)). All IsGood ls) (split lines rest content more all e ∙ ap (λ (ls : List (List ℕ)). lines ++ ls) are) good)
+
+ended_is_nil : (left' : Option (List ℕ)) (more : List ℕ) → left' ≡ Some more → HasEnded left' → more ≡ []
+ended_is_nil None more e ended = absurd cc
+ended_is_nil (Some rest) more e ended = sym (same_Some _ _ e) ∙ ended
+
+pub not_bad : (lines : List (List ℕ)) (rest content : List ℕ) (left' : Option (List ℕ)) → AllByRecursion IsLine lines → Took (Some content) left' (joined lines ++ rest) → All IsGood (lines_of content) → IsBad rest left' → ⊥
+not_bad lines rest content left' all took good (inl long) =
+    let t = told content (joined lines ++ rest) left' took in
+    let front = take 8449 rest in
+    let len : length front ≡ 8449 = length-take-le 8449 rest (omega (arith, long.long)) in
+    let parts : rest ++ t.more ≡ front ++ (drop 8449 rest ++ t.more) = ap (λ (r : List ℕ). r ++ t.more) (sym (take-append-drop 8449 rest)) ∙ append_assoc front (drop 8449 rest) t.more in
+    let f = starts_long front (drop 8449 rest ++ t.more) long.one (omega (arith, len)) in
+    let g = first_good lines rest content t.more f.line f.others all t.parts good (ap lines_of parts ∙ f.are) in
+    omega (arith, g.is_line.short, f.long, len)
+not_bad lines rest content left' all took good (inr bad) =
+    let t = told content (joined lines ++ rest) left' took in
+    let line = bad.0 in
+    let is_good : IsGood line = elim bad.3 [
+      | inl newline ↦
+          let are : lines_of (rest ++ t.more) ≡ line ∷ lines_of (newline.0 ++ t.more) =
+          ap (λ (r : List ℕ). lines_of (r ++ t.more)) newline.1 ∙ ap lines_of (append_assoc line (10 ∷ newline.0) t.more) ∙ lines_of-line line (newline.0 ++ t.more) bad.1.one in
+          first_good lines rest content t.more line (lines_of (newline.0 ++ t.more)) all t.parts good are
+      | inr last ↦
+          let none = ended_is_nil left' t.more t.left_is last.2 in
+          let same : rest ++ t.more ≡ line = ap (λ (m : List ℕ). rest ++ m) none ∙ append-nil rest ∙ last.0 in
+          first_good lines rest content t.more line [] all t.parts good (ap lines_of same ∙ lines_of-last line bad.1.one last.1)
+    ] in
+    bad.2 is_good.said is_good.says
+
+pub not_many : (lines : List (List ℕ)) (rest content : List ℕ) (left' : Option (List ℕ)) → AllByRecursion IsLine lines → Took (Some content) left' (joined lines ++ rest) → length (lines_of content) ≤ 2 ^ 24 → length lines ≡ 2 ^ 24 → 0 < length rest → ⊥
+not_many lines rest content left' all took few many one =
+    let t = told content (joined lines ++ rest) left' took in
+    let some = some_line (rest ++ t.more) (omega (arith, length-append rest t.more)) in
+    omega (arith, ap length (split lines rest content t.more all t.parts), length-append lines (lines_of (rest ++ t.more)), some)
+
+-- what was read, where no last line without newline was done
+read_is : (left left' : Option (List ℕ)) (content taken rest : List ℕ) (last : Option (List ℕ)) → left ≡ Some content → last ≡ None → Took left left' (taken ++ (unwrap_or last [] ++ rest)) → Took (Some content) left' (taken ++ rest)
+read_is left left' content taken rest last e none took =
+    subst (λ (l : Option (List ℕ)). Took l left' (taken ++ rest)) e (subst (λ (o : Option (List ℕ)). Took left left' (taken ++ (unwrap_or o [] ++ rest))) none took)
+
+pub complete : (n : ℕ) (status : Status) (left left' held held' : Option (List ℕ)) (kernel : Option Machine) (content : List ℕ) → Headline n status left left' held held' kernel → left ≡ Some content → IsTrace content → status ≢ statuses.ReadFault → status ≢ statuses.WriteFault → IsDoneOrMemory status
+complete n statuses.Done left left' held held' kernel content h e trace no_read no_write = tt
+complete n statuses.Memory left left' held held' kernel content h e trace no_read no_write = tt
+complete n statuses.Usage left left' held held' kernel content h e trace no_read no_write = h.ends
+complete n statuses.ReadFault left left' held held' kernel content h e trace no_read no_write = no_read refl
+complete n statuses.WriteFault left left' held held' kernel content h e trace no_read no_write = no_write refl
+complete n (statuses.BadLine number) left left' held held' kernel content h e trace no_read no_write =
+    let stops = h.ends.0 in
+    not_bad h.run.lines h.rest content left' h.replays.lines (read_is left left' content (joined h.run.lines) h.rest h.run.last e stops.0 h.replays.read) trace.good stops.2
+complete n statuses.TooMany left left' held held' kernel content h e trace no_read no_write =
+    let stops = h.ends.0 in
+    not_many h.run.lines h.rest content left' h.replays.lines (read_is left left' content (joined h.run.lines) h.rest h.run.last e stops.0 h.replays.read) trace.few stops.1 stops.2

@@ -1,0 +1,38 @@
+-- A whole trace, line by line.
+use Rattle.std.specs.Prelude.{ℕ, ◌^◌, ◌≤◌, List, [], ◌∷◌, length, Option, All, ◌==◌, if◌then◌else◌}
+use Rattle.av_trace.specs.declared.command.Command.{Command}
+use Rattle.av_trace.specs.Grammar.{Says}
+use Rattle.av_replay.specs.declared.status.Status.{Status}
+use Rattle.av_replay.specs.declared.status.Status.TheVariants as statuses
+use Rattle.av_replay.specs.Line.{IsLine}
+
+-- a byte goes onto the first line
+abbrev pub onto_first : ℕ → List (List ℕ) → List (List ℕ)
+onto_first b [] = (b ∷ []) ∷ []
+onto_first b (line ∷ lines) = (b ∷ line) ∷ lines
+
+-- the lines of a text, without their newlines; the last one may have none
+abbrev pub lines_of : List ℕ → List (List ℕ)
+lines_of [] = []
+lines_of (b ∷ bytes) = if b == 10 then [] ∷ lines_of bytes else onto_first b (lines_of bytes)
+
+-- a line that is short enough, and in the grammar
+pub record IsGood (line : List ℕ) : Type 0 where
+  pub is_line : IsLine line
+  pub said : Option Command
+  pub says : Says line said
+
+-- each line is good, and there are not too many
+pub record IsTrace (content : List ℕ) : Type 0 where
+  pub good : All IsGood (lines_of content)
+  pub few : length (lines_of content) ≤ 2 ^ 24
+
+-- the status is Done, or memory ran out
+abbrev pub IsDoneOrMemory : Status → Type 0
+IsDoneOrMemory statuses.Done = Unit {0}
+IsDoneOrMemory statuses.Memory = Unit {0}
+IsDoneOrMemory statuses.Usage = ⊥
+IsDoneOrMemory (statuses.BadLine n) = ⊥
+IsDoneOrMemory statuses.ReadFault = ⊥
+IsDoneOrMemory statuses.WriteFault = ⊥
+IsDoneOrMemory statuses.TooMany = ⊥

@@ -1,0 +1,104 @@
+//! What was read of the source and is not yet done.
+
+ghost use Rattle.std.specs.Prelude.{true, ◌≡◌, ◌+◌, ◌-◌, ◌<◌, ◌≤◌, List, [], ℕ, length, take, drop, IfOk, OnErr};
+ghost use Rattle.av_replay.specs.Outside.{Rose, in_front, Took, HasEnded};
+ghost use Rattle.av_replay.specs.Line.{longest};
+
+use crate::outside::{Failed, Source};
+use std::alloc::{AllocError, Global};
+use std::marker::Model;
+
+/// How many bytes are read at once, at most. It is more than a line may have.
+const ROOM: usize = 1 << 16;
+
+/// Bytes of the source whose lines are not yet done.
+#[derive(Drop)]
+pub struct Pending {
+    bytes: Vec<u8>,
+    start: usize,
+    end: usize,
+}
+
+impl Model for Pending {
+    ghost use Rattle.std.specs.Prelude.{List, ℕ, ◌≡◌, ◌≤◌, ◌-◌, length, take, drop};
+    ghost use Rattle.std.specs.Coded.{coded_ℕ, coded_list};
+
+    ghost Value = { List ℕ };
+
+    ghost coded = { coded_list coded_ℕ };
+
+    ghost view = { λ p. take (p.end - p.start) (drop p.start p.bytes.items) };
+
+    ghost invariant = { λ p. (p.start ≤ p.end) × (p.end ≤ length p.bytes.items) × (length p.bytes.items ≡ 65536) };
+}
+
+/// Moves these bytes to the front, so that there is room after them.
+fn move_to_front(bytes: &mut Vec<u8>, start: usize, end: usize)
+    requires start { start ≤ end }
+    requires end { end ≤ length bytes.old.items }
+    ensures moved { take (end - start) bytes.new.items ≡ take (end - start) (drop start bytes.old.items) }
+    ensures len { length bytes.new.items ≡ length bytes.old.items }
+{
+    bytes.copy_within(start..end, 0);
+}
+
+/// Reads into the room after the bytes that are kept.
+fn read_behind<S: Source>(source: &mut S, bytes: &mut [u8], kept: usize) -> Result<usize, Failed>
+    requires { kept < length bytes.old }
+    ensures kept { take kept bytes.new ≡ take kept bytes.old }
+    ensures within { IfOk result (λ n. kept + n ≤ length bytes.new) }
+    ensures taken { IfOk result (λ n. Took (S.left source.old) (S.left source.new) (take n (drop kept bytes.new))) }
+    ensures ended { IfOk result (λ n. n ≡ 0 → HasEnded (S.left source.new)) }
+    ensures told { IfOk result (λ n. n ≡ 0 → S.has_told_end source.new ≡ true) }
+    ensures failed { OnErr result (S.left source.new ≡ S.left source.old) }
+    ensures never_falls { S.faults source.old ≤ S.faults source.new }
+    ensures cause { OnErr result (Rose (S.faults source.old) (S.faults source.new)) }
+{
+    source.read(&mut bytes[kept..])
+}
+
+impl Pending {
+    /// Nothing, with room for what is read.
+    pub fn new(alloc: Global) -> Result<Pending, AllocError>
+        ensures { IfOk result (λ p. p ≡ []) }
+    {
+        Ok(Pending {
+            bytes: vec![in alloc; 0; ROOM]?,
+            start: 0,
+            end: 0,
+        })
+    }
+
+    pub fn as_slice(&self) -> &[u8]
+        ensures { result.now ≡ self.now }
+    {
+        &self.bytes[self.start..self.end]
+    }
+
+    /// Takes so many bytes away in front.
+    pub fn skip(&mut self, count: usize)
+        requires { count ≤ length self.old }
+        ensures { self.new ≡ drop count self.old }
+    {
+        self.start += count;
+    }
+
+    /// Reads more, and says how many bytes came. 0 is the end of the input.
+    pub fn fill<S: Source>(&mut self, source: &mut S) -> Result<usize, Failed>
+        requires { length self.old ≤ longest }
+        ensures undone { in_front self.new (S.left source.new) ≡ in_front self.old (S.left source.old) }
+        ensures more { IfOk result (λ n. length self.new ≡ length self.old + n) }
+        ensures ended { IfOk result (λ n. n ≡ 0 → (self.new ≡ self.old) × HasEnded (S.left source.new)) }
+        ensures told { IfOk result (λ n. n ≡ 0 → S.has_told_end source.new ≡ true) }
+        ensures failed { OnErr result (self.new ≡ self.old) }
+        ensures never_falls { S.faults source.old ≤ S.faults source.new }
+        ensures cause { OnErr result (Rose (S.faults source.old) (S.faults source.new)) }
+    {
+        move_to_front(&mut self.bytes, self.start, self.end);
+        self.end -= self.start;
+        self.start = 0;
+        let count = read_behind(source, &mut self.bytes, self.end)?;
+        self.end += count;
+        Ok(count)
+    }
+}

@@ -1,0 +1,18 @@
+/// How a run ended.
+#[derive(Clone, Copy, Drop, Debug, PartialEq, Eq)]
+pub enum Status {
+    /// The input was read to its end, and every line done.
+    Done,
+    /// The words are no command line of this program. Nothing was read or written.
+    Usage,
+    /// The line of this number, from 1, is no command. The lines before it are done.
+    BadLine(u32),
+    /// The source failed. The lines whose newline came before are done.
+    ReadFault,
+    /// The sink failed.
+    WriteFault,
+    /// Memory ran out.
+    Memory,
+    /// The first byte of line 2^24 + 1 came. The lines before it are done.
+    TooMany,
+}

@@ -1,0 +1,56 @@
+//! What the program says and answers when it fails.
+
+ghost use Rattle.std.specs.Prelude.{◌≡◌, ◌↔◌, IsNone};
+ghost use Rattle.avsim.specs.Numbers.{number_of};
+
+use av_replay::Status;
+use thiserror::Error;
+
+/// Why the program failed, in the words that it prints.
+#[derive(Debug, Drop, Error)]
+pub enum Failure {
+    #[error("usage: avsim run FRAMES [SWAP..] | avsim work SEED LINES FRAMES [SWAP..]")]
+    Usage,
+    #[error("line {0}: not a command")]
+    BadLine(u32),
+    #[error("read failed")]
+    Read,
+    #[error("write failed")]
+    Write,
+    #[error("out of memory")]
+    Memory,
+    #[error("too many lines")]
+    TooMany,
+}
+
+impl Failure {
+    /// The failure of a status, if it is one.
+    pub fn of(status: Status) -> Option<Failure>
+        ensures { IsNone result ↔ status ≡ Status.Done }
+    {
+        match status {
+            Status::Done => None,
+            Status::Usage => Some(Failure::Usage),
+            Status::BadLine(line) => Some(Failure::BadLine(line)),
+            Status::ReadFault => Some(Failure::Read),
+            Status::WriteFault => Some(Failure::Write),
+            Status::Memory => Some(Failure::Memory),
+            Status::TooMany => Some(Failure::TooMany),
+        }
+    }
+}
+
+/// The number with which the program ends.
+pub fn number(status: Status) -> u8
+    ensures { result ≡ number_of status }
+{
+    match status {
+        Status::Done => 0,
+        Status::Usage => 2,
+        Status::BadLine(_) => 3,
+        Status::ReadFault => 4,
+        Status::WriteFault => 5,
+        Status::Memory => 6,
+        Status::TooMany => 7,
+    }
+}
