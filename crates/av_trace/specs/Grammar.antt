@@ -64,9 +64,12 @@ IsData bytes = IsNumberIn 1 4096 (length bytes) × AllByRecursion IsByte bytes
 -- the values are in range
 abbrev pub IsCommand : Command → Type 0
 IsCommand (commands.Spawn p) = IsProcess p
+IsCommand (commands.Exit p) = IsProcess p
 IsCommand (commands.Mmap p len prot place) = IsProcess p × IsWide len
 IsCommand (commands.Read p address len) = IsProcess p × IsWide address × IsNumberIn 1 4096 len
 IsCommand (commands.Write p address bytes) = IsProcess p × IsWide address × IsData bytes
+IsCommand (commands.Maps p) = IsProcess p
+IsCommand commands.Stat = Unit {0}
 
 -- ---- lines
 
@@ -77,9 +80,12 @@ place_words places.Auto = []
 -- the one line of a command
 abbrev pub line_of : Command → List ℕ
 line_of (commands.Spawn p) = line (codes "spawn") (decimal p ∷ [])
+line_of (commands.Exit p) = line (codes "exit") (decimal p ∷ [])
 line_of (commands.Mmap p len prot place) = line (codes "mmap") (decimal p ∷ decimal len ∷ prot_text prot ∷ place_words place)
 line_of (commands.Read p address len) = line (codes "read") (decimal p ∷ hex address ∷ decimal len ∷ [])
 line_of (commands.Write p address bytes) = line (codes "write") (decimal p ∷ hex address ∷ hex_text bytes ∷ [])
+line_of (commands.Maps p) = line (codes "maps") (decimal p ∷ [])
+line_of commands.Stat = codes "stat"
 
 -- a text begins with these bytes
 abbrev pub BeginsWith : List ℕ → List ℕ → Type 0

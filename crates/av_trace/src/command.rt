@@ -18,6 +18,9 @@ pub enum Command {
     Spawn {
         process: u16,
     },
+    Exit {
+        process: u16,
+    },
     Mmap {
         process: u16,
         len: u64,
@@ -34,4 +37,8 @@ pub enum Command {
         address: u64,
         bytes: Bytes,
     },
+    Maps {
+        process: u16,
+    },
+    Stat,
 }

@@ -3,7 +3,7 @@
 ghost use Rattle.std.specs.Prelude.{◌≡◌, List, ℕ, Option, codes, take, IfOk, OnErr, IsErrOf};
 ghost use Rattle.av_trace.specs.declared.command.Command.{Command as AnyCommand};
 ghost use Rattle.av_trace.specs.Grammar.{BeginsWith, Says};
-ghost use Rattle.av_trace.specs.Reading.{word_len, finish, spawn_at, mmap_at, read_at, write_at, command_at, command_of};
+ghost use Rattle.av_trace.specs.Reading.{word_len, finish, process_only_at, mmap_at, read_at, write_at, command_at, command_of};
 
 use crate::command::{Command, Place};
 use crate::fields::{address, data_field, number, process, prot, split_word};
@@ -28,12 +28,20 @@ fn end(bytes: &[u8], command: Command) -> Option<Command>
     }
 }
 
-#[tactic(auto, unfolding(crate::specs::Reading::spawn_at))]
+#[tactic(auto, unfolding(crate::specs::Reading::process_only_at))]
 fn spawn(bytes: &[u8]) -> Option<Command>
-    ensures { result ≡ spawn_at bytes.now }
+    ensures { result ≡ process_only_at Command.Spawn bytes.now }
 {
     let (process, rest) = process(bytes)?;
     end(rest, Command::Spawn { process })
+}
+
+#[tactic(auto, unfolding(crate::specs::Reading::process_only_at))]
+fn exit(bytes: &[u8]) -> Option<Command>
+    ensures { result ≡ process_only_at Command.Exit bytes.now }
+{
+    let (process, rest) = process(bytes)?;
+    end(rest, Command::Exit { process })
 }
 
 #[tactic(auto, unfolding(crate::specs::Reading::mmap_at))]
@@ -88,6 +96,14 @@ fn write(alloc: Global, bytes: &[u8]) -> Result<Option<Command>, AllocError>
     Ok(end(rest, command))
 }
 
+#[tactic(auto, unfolding(crate::specs::Reading::process_only_at))]
+fn maps(bytes: &[u8]) -> Option<Command>
+    ensures { result ≡ process_only_at Command.Maps bytes.now }
+{
+    let (process, rest) = process(bytes)?;
+    end(rest, Command::Maps { process })
+}
+
 #[tactic(auto, unfolding(crate::specs::Reading::command_at))]
 fn command(alloc: Global, name: &[u8], bytes: &[u8]) -> Result<Option<Command>, AllocError>
     ensures found { IfOk result (λ found. found ≡ command_at name.now bytes.now) }
@@ -95,12 +111,18 @@ fn command(alloc: Global, name: &[u8], bytes: &[u8]) -> Result<Option<Command>, 
 {
     if name == b"spawn".as_slice() {
         Ok(spawn(bytes))
+    } else if name == b"exit".as_slice() {
+        Ok(exit(bytes))
     } else if name == b"mmap".as_slice() {
         Ok(mmap(bytes))
     } else if name == b"read".as_slice() {
         Ok(read(bytes))
     } else if name == b"write".as_slice() {
         write(alloc, bytes)
+    } else if name == b"maps".as_slice() {
+        Ok(maps(bytes))
+    } else if name == b"stat".as_slice() {
+        Ok(end(bytes, Command::Stat))
     } else {
         Ok(None)
     }
