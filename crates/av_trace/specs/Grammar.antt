@@ -1,5 +1,5 @@
 -- The lines that are commands. Each command has one line.
-use Rattle.std.specs.Prelude.{◌≡◌, false, length, ◌/◌, ◌%◌, ℕ, ◌≤◌, ◌<◌, ◌^◌, Bool, if◌then◌else◌, List, [], ◌∷◌, ◌++◌, codes, Option, Some, None}
+use Rattle.std.specs.Prelude.{◌≡◌, ◌==◌, true, false, length, ◌/◌, ◌%◌, ℕ, ◌≤◌, ◌<◌, ◌^◌, Bool, if◌then◌else◌, List, [], ◌∷◌, ◌++◌, codes, Option, Some, None}
 use Rattle.std.specs.List.{flat_map, AllByRecursion}
 use Rattle.std.specs.Fmt.{decimal, digits, digit_glyph}
 use Rattle.av_vma.specs.declared.area.Prot.{Prot}
@@ -91,7 +91,12 @@ line_of commands.Stat = codes "stat"
 abbrev pub BeginsWith : List ℕ → List ℕ → Type 0
 BeginsWith front text = (rest : List ℕ) × (text ≡ front ++ rest)
 
--- what a line says: a command, or nothing, which no line says yet
+-- no command: an empty line, or a comment, which begins with `#`
+abbrev pub is_blank : List ℕ → Bool
+is_blank [] = true
+is_blank (b ∷ bytes) = b == 35
+
+-- what a line says: a command, or nothing
 abbrev pub Says : List ℕ → Option Command → Type 0
-Says line None = ⊥
+Says line None = is_blank line ≡ true
 Says line (Some c) = IsCommand c × (line ≡ line_of c)
