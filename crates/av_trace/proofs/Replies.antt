@@ -1,11 +1,9 @@
 -- A reply's text is read back line by line, so it is the text of one reply to the command only.
-use Rattle.std.proofs.Common.{Bool, true, ◌≡◌, ℕ, List, [], ◌∷◌, ◌++◌, Option, Some, None, refl, sym, ap, subst, ◌∙◌, append_assoc, append-nil, arith}
+use Rattle.std.proofs.Common.{true, ◌≡◌, ℕ, List, [], ◌∷◌, ◌++◌, Option, Some, None, refl, sym, ap, subst, ◌∙◌, append_assoc, append-nil, arith}
 use Rattle.std.specs.Prelude.{codes}
 use Rattle.std.specs.List.{flat_map, AllByRecursion}
 use Rattle.std.specs.Fmt.{decimal}
 use Rattle.std.proofs.lemmas.Option.{same_Some}
-use Rattle.av_vma.specs.declared.area.Prot.{Prot}
-use Rattle.av_vma.specs.declared.slot.Slot.{Slot}
 use Rattle.av_trace.specs.declared.command.Command.{Command}
 use Rattle.av_trace.specs.declared.command.Command.TheVariants as commands
 use Rattle.av_trace.specs.declared.reply.Errno.{Errno}
@@ -13,16 +11,15 @@ use Rattle.av_trace.specs.declared.reply.OutOf.{OutOf}
 use Rattle.av_trace.specs.declared.reply.Totals.{Totals}
 use Rattle.av_trace.specs.declared.reply.Answer.{Answer}
 use Rattle.av_trace.specs.declared.reply.Answer.TheVariants as answers
-use Rattle.av_trace.specs.declared.reply.Cause.{Cause}
 use Rattle.av_trace.specs.declared.reply.Note.{Note}
 use Rattle.av_trace.specs.declared.reply.Note.TheVariants as notes
 use Rattle.av_trace.specs.declared.reply.Row.{Row}
 use Rattle.av_trace.specs.declared.reply.Row.TheVariants as rows
 use Rattle.av_trace.specs.declared.reply.Reply.{Reply}
 use Rattle.av_trace.specs.Grammar.{hex, hex_text, prot_text, field, line, IsWide}
-use Rattle.av_trace.specs.Text.{errno_name, cause_name, slot_text, labelled, shown_words, out_words, total_words, answer_line, note_line, row_line, ended, text_of}
+use Rattle.av_trace.specs.Text.{errno_name, cause_name, slot_text, shown_words, out_words, total_words, answer_line, note_line, row_line, ended, text_of}
 use Rattle.av_trace.specs.Reading.{◌>>=◌, hex_of, pairs_of, prot_of}
-use Rattle.av_trace.specs.Forms.{AreBytes, IsSlot, AreCauses, AreTotals, IsAnswerTo, IsNote, AreNotesOf, IsRun, AreRowsOf, MayAnswer}
+use Rattle.av_trace.specs.Forms.{AreBytes, AreCauses, AreTotals, IsAnswerTo, IsNote, IsRun, AreRowsOf, MayAnswer}
 use Rattle.av_trace.proofs.Hex.{hex_of-again}
 use Rattle.av_trace.proofs.Pairs.{pairs_of-again}
 use Rattle.av_trace.proofs.FieldLaws.{prots}
@@ -73,20 +70,20 @@ no_newline r = ap (lacks 10) r.is ∙ lacks-line r.name r.words r.plain r.all_pl
 unfoldable note_of : LineReader Note
 note_of words =
     by_name (
-      (codes "zero", next number_of (λ p. next hex_of (λ address. last (notes.Zeroed p address))))
-      ∷ (codes "new", next number_of (λ p. next hex_of (λ address. next number_of (λ frame. last (notes.New p address frame)))))
-      ∷ (codes "copy", next number_of (λ p. next hex_of (λ address. next number_of (λ frame. last (notes.Copied p address frame)))))
-      ∷ (codes "load", next slot_of (λ slot. next number_of (λ frame. last (notes.Loaded slot frame))))
-      ∷ (codes "map", next number_of (λ p. next hex_of (λ address. next number_of (λ frame. last (notes.Mapped p address frame)))))
-      ∷ (codes "put", next number_of (λ frame. next slot_of (λ slot. last (notes.Put frame slot))))
-      ∷ (codes "unmap", next number_of (λ frame. last (notes.Unmapped frame)))
-      ∷ (codes "start", next slot_of (λ slot. last (notes.Started slot)))
-      ∷ (codes "done", next slot_of (λ slot. last (notes.Written slot)))
-      ∷ (codes "fail", next slot_of (λ slot. last (notes.Failed slot)))
-      ∷ (codes "drop", next slot_of (λ slot. last (notes.Dropped slot)))
-      ∷ (codes "keep", next number_of (λ frame. next cause_of (λ cause. last (notes.Kept frame cause))))
-      ∷ (codes "age", next number_of (λ frame. last (notes.Aged frame)))
-      ∷ []
+    (codes "zero", next number_of (λ p. next hex_of (λ address. last (notes.Zeroed p address))))
+    ∷ (codes "new", next number_of (λ p. next hex_of (λ address. next number_of (λ frame. last (notes.New p address frame)))))
+    ∷ (codes "copy", next number_of (λ p. next hex_of (λ address. next number_of (λ frame. last (notes.Copied p address frame)))))
+    ∷ (codes "load", next slot_of (λ slot. next number_of (λ frame. last (notes.Loaded slot frame))))
+    ∷ (codes "map", next number_of (λ p. next hex_of (λ address. next number_of (λ frame. last (notes.Mapped p address frame)))))
+    ∷ (codes "put", next number_of (λ frame. next slot_of (λ slot. last (notes.Put frame slot))))
+    ∷ (codes "unmap", next number_of (λ frame. last (notes.Unmapped frame)))
+    ∷ (codes "start", next slot_of (λ slot. last (notes.Started slot)))
+    ∷ (codes "done", next slot_of (λ slot. last (notes.Written slot)))
+    ∷ (codes "fail", next slot_of (λ slot. last (notes.Failed slot)))
+    ∷ (codes "drop", next slot_of (λ slot. last (notes.Dropped slot)))
+    ∷ (codes "keep", next number_of (λ frame. next cause_of (λ cause. last (notes.Kept frame cause))))
+    ∷ (codes "age", next number_of (λ frame. last (notes.Aged frame)))
+    ∷ []
     ) words
 
 -- the words of an entry that gets a frame
@@ -254,55 +251,55 @@ shown_at more (w ∷ words) = pairs_of w >>= λ bytes. last (more bytes) words
 abbrev causes_at : {B : Type 0} → (OutOf → LineReader B) → LineReader B
 causes_at more words =
     next (labelled_of (codes "pinned=")) (
-      λ pinned. next (labelled_of (codes "noslot=")) (λ noslot. next (labelled_of (codes "fault=")) (λ fault. more (record { pinned = pinned; noslot = noslot; fault = fault })))
+    λ pinned. next (labelled_of (codes "noslot=")) (λ noslot. next (labelled_of (codes "fault=")) (λ fault. more (record { pinned = pinned; noslot = noslot; fault = fault })))
     ) words
 
 abbrev totals_at : LineReader Answer
 totals_at words =
     next (labelled_of (codes "frames=")) (
-      λ frames. next (labelled_of (codes "free=")) (
-        λ free. next (labelled_of (codes "active=")) (
-          λ active. next (labelled_of (codes "inactive=")) (
-            λ inactive. next (labelled_of (codes "flight=")) (
-              λ flight. next (labelled_of (codes "slots=")) (
-                λ slots. next (labelled_of (codes "freeslots=")) (
-                  λ free_slots. next (labelled_of (codes "procs=")) (
-                    λ processes. last (
-                      answers.Counted (
-                        record {
-                          frames = frames;
-                          free = free;
-                          active = active;
-                          inactive = inactive;
-                          flight = flight;
-                          slots = slots;
-                          free_slots = free_slots;
-                          processes = processes;
-                        }
-                      )
-                    )
-                  )
-                )
-              )
-            )
-          )
-        )
-      )
+    λ frames. next (labelled_of (codes "free=")) (
+    λ free. next (labelled_of (codes "active=")) (
+    λ active. next (labelled_of (codes "inactive=")) (
+    λ inactive. next (labelled_of (codes "flight=")) (
+    λ flight. next (labelled_of (codes "slots=")) (
+    λ slots. next (labelled_of (codes "freeslots=")) (
+    λ free_slots. next (labelled_of (codes "procs=")) (
+    λ processes. last (
+    answers.Counted (
+    record {
+      frames = frames;
+      free = free;
+      active = active;
+      inactive = inactive;
+      flight = flight;
+      slots = slots;
+      free_slots = free_slots;
+      processes = processes;
+    }
+    )
+    )
+    )
+    )
+    )
+    )
+    )
+    )
+    )
     ) words
 
 unfoldable answer_of : LineReader Answer
 answer_of words =
     by_name (
-      (codes "ok", last answers.Done)
-      ∷ (codes "map", next hex_of (λ address. last (answers.MapAt address)))
-      ∷ (codes "data", next pairs_of (λ bytes. last (answers.«Data» bytes)))
-      ∷ (codes "err", next errno_of (λ error. last (answers.Refused error)))
-      ∷ (codes "segv", next number_of (λ served. shown_at (answers.Segv served)))
-      ∷ (codes "bus", next number_of (λ served. shown_at (answers.Bus served)))
-      ∷ (codes "oom", next number_of (λ served. causes_at (λ out. shown_at (answers.Oom served out))))
-      ∷ (codes "runs", next number_of (λ n. last (answers.Runs n)))
-      ∷ (codes "stat", totals_at)
-      ∷ []
+    (codes "ok", last answers.Done)
+    ∷ (codes "map", next hex_of (λ address. last (answers.MapAt address)))
+    ∷ (codes "data", next pairs_of (λ bytes. last (answers.«Data» bytes)))
+    ∷ (codes "err", next errno_of (λ error. last (answers.Refused error)))
+    ∷ (codes "segv", next number_of (λ served. shown_at (answers.Segv served)))
+    ∷ (codes "bus", next number_of (λ served. shown_at (answers.Bus served)))
+    ∷ (codes "oom", next number_of (λ served. causes_at (λ out. shown_at (answers.Oom served out))))
+    ∷ (codes "runs", next number_of (λ n. last (answers.Runs n)))
+    ∷ (codes "stat", totals_at)
+    ∷ []
     ) words
 
 abbrev IsAnswerLine : Answer → Type 0

@@ -1,7 +1,6 @@
 -- The words of replies: each is plain, and is read back.
-use Rattle.std.proofs.Common.{Bool, true, false, cond, ◌≡◌, ℕ, zero, suc, ◌-◌, ◌/◌, ◌%◌, ◌^◌, ◌<◌, List, [], ◌∷◌, ◌++◌, length, drop, Option, Some, None, refl, sym, ap, ◌∙◌, arith, lit<}
+use Rattle.std.proofs.Common.{Bool, true, false, ◌≡◌, ℕ, ◌-◌, ◌/◌, ◌%◌, ◌^◌, ◌<◌, List, [], ◌∷◌, length, drop, Option, Some, None, refl, ap, ◌∙◌, arith, lit<}
 use Rattle.std.specs.Prelude.{codes, if◌then◌else◌}
-use Rattle.std.specs.List.{flat_map, AllByRecursion}
 use Rattle.std.specs.Int.{IsInRange}
 use Rattle.std.specs.Str.{bytes_eq}
 use Rattle.std.specs.Fmt.{decimal, digit_glyph}
@@ -132,16 +131,16 @@ named (x ∷ xs) w = if bytes_eq w x.0 then Some x.1 else named xs w
 unfoldable pub errno_of : List ℕ → Option Errno
 errno_of w =
     named (
-      (codes "EPERM", errors.Eperm)
-      ∷ (codes "ESRCH", errors.Esrch)
-      ∷ (codes "EIO", errors.Eio)
-      ∷ (codes "EAGAIN", errors.Eagain)
-      ∷ (codes "ENOMEM", errors.Enomem)
-      ∷ (codes "EFAULT", errors.Efault)
-      ∷ (codes "EBUSY", errors.Ebusy)
-      ∷ (codes "EEXIST", errors.Eexist)
-      ∷ (codes "EINVAL", errors.Einval)
-      ∷ []
+    (codes "EPERM", errors.Eperm)
+    ∷ (codes "ESRCH", errors.Esrch)
+    ∷ (codes "EIO", errors.Eio)
+    ∷ (codes "EAGAIN", errors.Eagain)
+    ∷ (codes "ENOMEM", errors.Enomem)
+    ∷ (codes "EFAULT", errors.Efault)
+    ∷ (codes "EBUSY", errors.Ebusy)
+    ∷ (codes "EEXIST", errors.Eexist)
+    ∷ (codes "EINVAL", errors.Einval)
+    ∷ []
     ) w
 
 -- a word is plain, and is read as x
@@ -168,11 +167,11 @@ errno-named errors.Einval = record { plain = plain_name _ refl refl; again = ref
 unfoldable pub cause_of : List ℕ → Option Cause
 cause_of w =
     named (
-      (codes "referenced", causes.Referenced)
-      ∷ (codes "writeback", causes.Writeback)
-      ∷ (codes "noslot", causes.NoSlot)
-      ∷ (codes "started", causes.WriteStarted)
-      ∷ []
+    (codes "referenced", causes.Referenced)
+    ∷ (codes "writeback", causes.Writeback)
+    ∷ (codes "noslot", causes.NoSlot)
+    ∷ (codes "started", causes.WriteStarted)
+    ∷ []
     ) w
 
 pub cause-named : (cause : Cause) → Names cause_of (cause_name cause) cause
