@@ -8,7 +8,7 @@ use Rattle.av_trace.specs.Grammar.{hex, hex_text, letter, prot_text, IsWide, IsD
 use Rattle.av_trace.specs.Reading.{hex_of, pairs_of, data_of, letter_of, prot_of}
 use Rattle.av_trace.proofs.Steps.{bind_some, cond_found}
 use Rattle.av_trace.proofs.WordLaws.{IsWord, Reads}
-use Rattle.av_trace.proofs.Hex.{hex_of-found, hex_of-again, hex-no_space, glyph_printed}
+use Rattle.av_trace.proofs.Hex.{hex_of-found, hex_of-again, hex-none_below, glyph_printed}
 use Rattle.av_trace.proofs.Pairs.{pairs_of-found, pairs_of-again}
 
 -- ---- protections
@@ -72,7 +72,7 @@ pub addresses : Reads hex_of IsWide hex
 addresses = record {
   found = λ w n e. let h = hex_of-found w n e in (sym h.spelled, h.small);
   again = hex_of-again;
-  words = hex-no_space;
+  words = λ n small. hex-none_below 32 n (omega arith) small;
 }
 
 -- ---- what `write` stores

@@ -223,20 +223,20 @@ hex_of-again n small =
     let w = written 15 n (omega arith) small in
     cond-true _ _ _ (plain_start n w.first w.others w.parts w.plain) ∙ w.read
 
--- a word that is read has no space
-no_space : (n m : ℕ) (ds : List ℕ) → hex_after n ds ≡ Some m → (i : ℕ) → i < length ds → get_or ds i 0 ≡ 32 → ⊥
-no_space n m [] e i lt is = omega arith
-no_space n m (c ∷ cs) e zero lt is =
+-- a word that is read has no byte below the digits
+none_below : (c n m : ℕ) (ds : List ℕ) → c < 48 → hex_after n ds ≡ Some m → (i : ℕ) → i < length ds → get_or ds i 0 ≡ c → ⊥
+none_below c n m [] low e i lt is = omega arith
+none_below c n m (b ∷ ds) low e zero lt is =
     let f = bind_some {A = ℕ} _ _ _ e in
-    let d = hex_digit-found c f.value f.first in
+    let d = hex_digit-found b f.value f.first in
     omega (arith, d.printed)
-no_space n m (c ∷ cs) e (suc i) lt is =
-    let f = bind_some {A = ℕ} (hex_digit_of c) (λ d. if ltb (n * 16 + d) (2 ^ 64) then hex_after (n * 16 + d) cs else None) m e in
-    let p = cond_found (ltb (n * 16 + f.value) (2 ^ 64)) (hex_after (n * 16 + f.value) cs) m f.second in
-    no_space (n * 16 + f.value) m cs p.1 i (omega arith) is
+none_below c n m (b ∷ ds) low e (suc i) lt is =
+    let f = bind_some {A = ℕ} (hex_digit_of b) (λ d. if ltb (n * 16 + d) (2 ^ 64) then hex_after (n * 16 + d) ds else None) m e in
+    let p = cond_found (ltb (n * 16 + f.value) (2 ^ 64)) (hex_after (n * 16 + f.value) ds) m f.second in
+    none_below c (n * 16 + f.value) m ds low p.1 i (omega arith) is
 
-pub hex-no_space : (n : ℕ) → n < 2 ^ 64 → (i : ℕ) → i < length (hex n) → get_or (hex n) i 0 ≡ 32 → ⊥
-hex-no_space n small = no_space 0 n (hex n) (written 15 n (omega arith) small).read
+pub hex-none_below : (c n : ℕ) → c < 48 → n < 2 ^ 64 → (i : ℕ) → i < length (hex n) → get_or (hex n) i 0 ≡ c → ⊥
+hex-none_below c n low small = none_below c 0 n (hex n) low (written 15 n (omega arith) small).read
 
 pub glyph_printed : (n : ℕ) → 48 ≤ digit_glyph false n
 glyph_printed n =

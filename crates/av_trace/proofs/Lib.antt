@@ -6,3 +6,6 @@ pub mod Pairs
 pub mod FieldLaws
 pub mod Commands
 pub mod Lines
+pub mod Split
+pub mod ReplyWords
+pub mod Replies

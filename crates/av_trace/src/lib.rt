@@ -15,5 +15,5 @@ pub use bytes::Bytes;
 pub use command::{Command, Place};
 pub use fields::number_in;
 pub use parse::{LineFault, one_meaning, parse_line};
-pub use print::reply_text;
+pub use print::{one_reply, reply_text};
 pub use reply::{Answer, Cause, Errno, Note, Notes, OutOf, Reply, Row, Rows, Totals};

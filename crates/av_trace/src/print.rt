@@ -3,6 +3,9 @@
 ghost use Rattle.std.specs.Prelude.{◌≡◌, ◌++◌, [], ◌∷◌, codes, take, Option, Some, None, OnOk};
 ghost use Rattle.std.specs.List.{flat_map};
 ghost use Rattle.std.specs.Fmt.{decimal as digits_of};
+ghost use Rattle.av_trace.specs.declared.command.Command.{Command as AnyCommand};
+ghost use Rattle.av_trace.specs.declared.reply.Reply.{Reply as AnyReply};
+ghost use Rattle.av_trace.specs.Forms.{MayAnswer};
 ghost use Rattle.av_trace.specs.Grammar.{hex as hex_digits_of, field, line};
 ghost use Rattle.av_trace.specs.Text.{errno_name, cause_name, slot_text, shown_words, out_words, cached_words, seen_word, total_words, answer_line as line_of_answer, note_line as line_of_note, row_line as line_of_row, ended, text_of};
 
@@ -366,3 +369,8 @@ pub fn reply_text(reply: &Reply, text: &mut Bytes) -> Result<(), AllocError>
     add_notes(text, reply.notes.as_slice())?;
     add_rows(text, reply.rows.as_slice())
 }
+
+/// A text is that of one reply to a command at most: a reader who knows the command loses nothing.
+pub fn one_reply()
+    ensures { (command : AnyCommand) (a b : AnyReply) → MayAnswer command a → MayAnswer command b → text_of a ≡ text_of b → a ≡ b }
+{}

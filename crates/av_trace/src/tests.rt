@@ -11,6 +11,10 @@ fn is_command(alloc: Global, line: &[u8]) -> bool {
     matches!(parse_line(alloc, line), Ok(Some(_)))
 }
 
+fn says_nothing(alloc: Global, line: &[u8]) -> bool {
+    matches!(parse_line(alloc, line), Ok(None))
+}
+
 #[test]
 fn lines(rt: HostRuntime) {
     let good = [
@@ -21,13 +25,19 @@ fn lines(rt: HostRuntime) {
         "read 1 0 1",
         "read 1 ffffffffffffffff 4096",
         "write 1 10000 0f",
+        "exit 32767",
+        "maps 1",
+        "stat",
     ];
     for line in good {
         assert!(rt; is_command(rt.alloc(), line.as_bytes()), "{line}");
     }
+    for line in ["", "#", "# spawn 1"] {
+        assert!(rt; says_nothing(rt.alloc(), line.as_bytes()), "{line}");
+    }
     let bad = [
-        "",
-        "# spawn 1",
+        " ",
+        " # spawn 1",
         "spawn",
         "spawn 0",
         "spawn 01",
@@ -49,6 +59,11 @@ fn lines(rt: HostRuntime) {
         "write 1 10000 0",
         "write 1 10000 000",
         "write 1 10000 0F",
+        "exit",
+        "exit 1 2",
+        "maps 0",
+        "stat ",
+        "stat x",
     ];
     for line in bad {
         assert!(rt; is_bad(rt.alloc(), line.as_bytes()), "{line}");
@@ -145,17 +160,16 @@ fn refusals_and_entries(rt: HostRuntime) -> Result<(), Fail> {
 fn totals(rt: HostRuntime) -> Result<(), Fail> {
     let totals = Totals {
         frames: 4,
-        free: 1,
-        active: 1,
-        inactive: 2,
+        free: 3,
+        active: 0,
+        inactive: 1,
         flight: 0,
-        slots: 15,
-        free_slots: 12,
-        processes: 2,
+        slots: 0,
+        free_slots: 0,
+        processes: 1,
     };
     let reply = answered(rt.alloc(), Answer::Counted(totals));
-    let wanted =
-        "stat frames=4 free=1 active=1 inactive=2 flight=0 slots=15 freeslots=12 procs=2\n";
+    let wanted = "stat frames=4 free=3 active=0 inactive=1 flight=0 slots=0 freeslots=0 procs=1\n";
     assert!(rt; has_text(rt.alloc(), &reply, wanted)?);
     Ok(())
 }
@@ -183,19 +197,26 @@ fn notes(rt: HostRuntime) -> Result<(), Fail> {
     Ok(())
 }
 
+/// A run that can be read.
+fn run(start: u64, end: u64, write: bool) -> Row {
+    Row::Run {
+        start,
+        end,
+        prot: Prot {
+            read: true,
+            write,
+            execute: false,
+        },
+    }
+}
+
 #[test]
 fn rows(rt: HostRuntime) -> Result<(), Fail> {
     let alloc = rt.alloc();
-    let mut reply = answered(alloc, Answer::Runs(1));
-    reply.rows.push(Row::Run {
-        start: 0x10000,
-        end: 0x12000,
-        prot: Prot {
-            read: true,
-            write: true,
-            execute: false,
-        },
-    })?;
-    assert!(rt; has_text(alloc, &reply, "runs 1\n 10000-12000 rw-\n")?);
+    let mut reply = answered(alloc, Answer::Runs(2));
+    reply.rows.push(run(0x10000, 0x12000, true))?;
+    reply.rows.push(run(0x12000, 0x13000, false))?;
+    let wanted = "runs 2\n 10000-12000 rw-\n 12000-13000 r--\n";
+    assert!(rt; has_text(alloc, &reply, wanted)?);
     Ok(())
 }
