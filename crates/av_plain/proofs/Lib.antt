@@ -8,6 +8,7 @@ pub mod AccessLaws
 pub mod NoSwapLaws
 pub mod TwoWrites
 pub mod SoundLaws
+pub mod TakingLaws
 pub mod SoundEntries
 pub mod SoundChanges
 pub mod SoundAccess
