@@ -14,6 +14,7 @@ pub mod SoundChanges
 pub mod SoundAccess
 pub mod SoundPages
 pub mod SoundThere
+pub mod SoundTaken
 pub mod Soundness
 pub mod SoundBound
 pub mod SoundMeans
