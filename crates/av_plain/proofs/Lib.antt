@@ -18,7 +18,10 @@ pub mod SoundTaken
 pub mod Soundness
 pub mod SoundBound
 pub mod SoundMeans
+pub mod FrameCounts
+pub mod MapsLaws
 pub mod OutOfMemory
 pub mod FirstRows
 pub mod SwapRows
 pub mod LedgerRows
+pub mod ExitRows

@@ -41,6 +41,7 @@ pub record AreMaps (q : Process) (rows : List Row) : Type 0 where
 
 -- ---- stat
 
+-- the numbers of `stat`; its slots are the usable ones of the areas that are on
 abbrev pub totals : Setting → World → Ledger → Totals
 totals m w l = record {
   frames = m.frames;
