@@ -1,5 +1,5 @@
 -- Entries taken away, from the least key on: what is left, and what goes with an entry.
-use Rattle.std.proofs.Common.{◌≡◌, ◌≢◌, ℕ, ◌+◌, ◌<◌, Bool, true, false, cond, not, ◌&&◌, ◌||◌, T, List, [], ◌∷◌, ◌++◌, map, filter, Option, Some, None, refl, sym, ap, subst, ◌∙◌, arith, ◌==◌}
+use Rattle.std.proofs.Common.{◌≡◌, ℕ, ◌+◌, ◌<◌, Bool, true, false, cond, not, ◌&&◌, ◌||◌, T, List, [], ◌∷◌, ◌++◌, map, filter, Option, Some, None, refl, sym, ap, subst, ◌∙◌, arith, ◌==◌}
 use Rattle.std.proofs.lemmas.Bool.Decides.{nat_tests}
 use Rattle.std.specs.List.{list_any}
 use Rattle.std.specs.declared.cmp.Ordering.TheVariants.{Less}
@@ -9,7 +9,7 @@ use Rattle.av_vma.specs.declared.slot.Slot.{Slot}
 use Rattle.av_vma.specs.Ranges.{how_many}
 use Rattle.av_trace.specs.declared.reply.Note.TheVariants.{Dropped}
 use Rattle.av_plain.specs.Ledger.{Ledger, Key, key_cmp, Entry, Zero, InFrame, InSlot, entry, mapped, slot_entries, names_frame, names_slot, is_free, is_orphan, frame_at, slot_of}
-use Rattle.av_plain.specs.Event.{Event, Taken, after, after_all, settle, settle_entry, unlisted, not_cached, at, frame_of, taken}
+use Rattle.av_plain.specs.Event.{Taken, after, after_all, settle, settle_entry, unlisted, not_cached, at, frame_of, taken}
 use Rattle.av_plain.specs.Pass.{when}
 use Rattle.av_plain.specs.Fault.{noting}
 use Rattle.av_plain.specs.Taking.{keys_of_process, drops, slot_behind_key, taking_one, taking}

@@ -1,5 +1,5 @@
 -- Worked rows: commands with the replies that they must have, and some that they must not have.
-use Rattle.std.specs.Prelude.{◌≡◌, ℕ, Bool, true, false, ◌==◌, ◌||◌, if◌then◌else◌, List, [], ◌∷◌, map, length, Option, Some, None}
+use Rattle.std.specs.Prelude.{◌≡◌, ℕ, Bool, true, false, ◌==◌, ◌||◌, if◌then◌else◌, List, [], ◌∷◌, map, length, Some, None}
 use Rattle.av_vma.specs.declared.area.Prot.{Prot}
 use Rattle.av_vma.specs.declared.slot.Slot.{Slot}
 use Rattle.av_vma.specs.Ranges.{numbers}
@@ -7,7 +7,6 @@ use Rattle.av_trace.specs.declared.command.Place.TheVariants.{Auto}
 use Rattle.av_trace.specs.declared.command.Command.{Command}
 use Rattle.av_trace.specs.declared.command.Command.TheVariants.{Spawn, Exit, Mmap, Read, Write, Maps, Stat}
 use Rattle.av_trace.specs.declared.reply.Errno.TheVariants.{Esrch, Eagain, Enomem, Eexist, Einval}
-use Rattle.av_trace.specs.declared.reply.OutOf.{OutOf}
 use Rattle.av_trace.specs.declared.reply.Note.{Note}
 use Rattle.av_trace.specs.declared.reply.Note.TheVariants.{Zeroed, New, Copied, Loaded, Mapped, Put, Unmapped, Started, Written, Failed, Dropped, Kept, Aged}
 use Rattle.av_trace.specs.declared.reply.Cause.TheVariants.{Writeback, Referenced, NoSlot, WriteStarted}
@@ -17,7 +16,7 @@ use Rattle.av_trace.specs.declared.reply.Row.TheVariants.{Run}
 use Rattle.av_trace.specs.declared.reply.Totals.{Totals}
 use Rattle.av_trace.specs.declared.reply.Answer.{Answer}
 use Rattle.av_trace.specs.declared.reply.Answer.TheVariants.{Done, MapAt, Data, Refused, Segv, Bus, Oom, Runs as RunCount, Counted}
-use Rattle.av_plain.specs.World.{World, Process, Page, nothing, zeros}
+use Rattle.av_plain.specs.World.{Process, Page, nothing, zeros}
 use Rattle.av_plain.specs.Ledger.{Ledger, Setting, Cached, Entry, Zero, InFrame, InSlot, fresh}
 use Rattle.av_plain.specs.Event.{Event, Noted, Taken, Used, Forked, Moved, TurnedOn, TurnedOff, after}
 use Rattle.av_plain.specs.Step.{IsLegal}

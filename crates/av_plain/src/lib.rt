@@ -6,8 +6,6 @@
 
 mod rows;
 
-pub use rows::{changed_rows_are_refused, exits_and_reports_run, ledger_rows_lead, rows_run, shared_rows_run, swap_rows_run};
-
 ghost use Rattle.std.specs.Prelude.{◌≡◌, ℕ, ◌+◌, List, []};
 ghost use Rattle.av_trace.specs.declared.command.Command.{Command};
 ghost use Rattle.av_trace.specs.declared.reply.OutOf.{OutOf};
@@ -22,6 +20,11 @@ ghost use Rattle.av_plain.specs.Step.{IsLegal, next_world};
 ghost use Rattle.av_plain.specs.Transcript.{Exchange, State, IsLegalFrom, IsRun, at_first};
 ghost use Rattle.av_plain.specs.Sound.{AllSound};
 ghost use Rattle.av_plain.specs.Says.{SaysSound};
+
+pub use rows::{
+    changed_rows_are_refused, exits_and_reports_run, ledger_rows_lead, rows_run, shared_rows_run,
+    swap_rows_run,
+};
 
 /// Sound memories and a sound ledger are so after every legal reply, a refusal too.
 pub fn soundness_stays()
