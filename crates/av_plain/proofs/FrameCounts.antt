@@ -7,7 +7,8 @@ use Rattle.av_plain.specs.Ledger.{Ledger, Setting, is_free, free_frames}
 use Rattle.av_plain.specs.Report.{totals}
 use Rattle.av_plain.specs.Sound.{listings, uses, IsSound}
 use Rattle.av_plain.proofs.SoundLaws.{same-itself}
-use Rattle.av_plain.proofs.SoundChanges.{free-is}
+use Rattle.av_plain.specs.Stands.{is_in}
+use Rattle.av_plain.proofs.SoundChanges.{any-counts, free-is}
 
 -- ---- sums over the numbers below one
 
@@ -93,6 +94,20 @@ free-length m l fs once =
     below : (f : ℕ) (b : Bool) → nat_lt f m.frames ≡ b → {k : ℕ} → k ≡ cond (b && is_free l f) 1 0 → 0 < k → f < m.frames
     below f true is e h = grind (arith, nat_tests, is)
     below f false is e h = absurd (omega (arith, e, h))
+
+-- a list without repetition that has exactly the free frames
+pub free-once : (m : Setting) (l : Ledger) (fs : List ℕ) → ((f : ℕ) → how_many (λ g. f == g) fs ≤ 1) → ((f : ℕ) → is_in f fs ≡ true → f < m.frames) → ((f : ℕ) → f < m.frames → is_in f fs ≡ is_free l f)
+    → (f : ℕ) → how_many (λ g. f == g) fs ≡ cond (nat_lt f m.frames && is_free l f) 1 0
+free-once m l fs once below same f = by (nat_lt f m.frames) refl (is_in f fs) (any-counts (λ g. f == g) fs) refl
+  where
+    count : (n : ℕ) (b : Bool) → n ≤ 1 → b ≡ nat_lt 0 n → n ≡ cond b 1 0
+    count n true few e = let z : 0 < n = grind (arith, nat_tests, e) in omega (arith, few, z)
+    count n false few e = let z : n ≡ 0 = grind (arith, nat_tests, e) in z
+
+    by : (t : Bool) → nat_lt f m.frames ≡ t → (b : Bool) → b ≡ nat_lt 0 (how_many (λ g. f == g) fs) → is_in f fs ≡ b → how_many (λ g. f == g) fs ≡ cond (t && is_free l f) 1 0
+    by true is b e at = count _ b (once f) e ∙ ap (λ b. cond b 1 0) (sym at ∙ same f (grind (arith, nat_tests, is)))
+    by false is true e at = let less = below f at in absurd (grind (arith, nat_tests, is, less))
+    by false is false e at = count _ false (once f) e
 
 -- each frame is free, active or inactive
 pub frames-add : (m : Setting) (l : Ledger) → IsSound m l → length (free_frames m l) + length l.active + length l.inactive ≡ m.frames

@@ -20,6 +20,7 @@ pub mod SoundBound
 pub mod SoundMeans
 pub mod FrameCounts
 pub mod MapsLaws
+pub mod JoinedRanges
 pub mod OutOfMemory
 pub mod FirstRows
 pub mod SwapRows

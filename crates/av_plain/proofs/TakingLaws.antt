@@ -222,6 +222,20 @@ entry-ended l p page = entry-taking l (keys_of_process l p) (p, page) ∙ by (en
     by None is = ap (cond (list_any (same_key (p, page)) (keys_of_process l p)) None) is ∙ none _
     by (Some e) is = ap (λ b. cond b None (entry l (p, page))) (key-listed (λ k. k.0 == p) (p, page) l.entries e is (itself p))
 
+-- the others' entries stay
+pub entry-others : (l : Ledger) (p q page : ℕ) → (q == p) ≡ false → entry (after_all l (taking l (keys_of_process l p))) (q, page) ≡ entry l (q, page)
+entry-others l p q page other = entry-taking l (keys_of_process l p) (q, page) ∙ ap (λ b. cond b None (entry l (q, page))) (none (map (λ (e : Key × Entry). e.0) l.entries))
+  where
+    apart : (k : Key) → (k.0 == p) ≡ true → same_key (q, page) k ≡ false
+    apart k is = grind (arith, nat_tests, is, other)
+
+    none : (ks : List Key) → list_any (same_key (q, page)) (filter (λ k. k.0 == p) ks) ≡ false
+    none [] = refl
+    none (k ∷ ks) = elim (k.0 == p) as (λ b. (k.0 == p) ≡ b → list_any (same_key (q, page)) (cond b (k ∷ filter (λ k. k.0 == p) ks) (filter (λ k. k.0 == p) ks)) ≡ false) [
+      | true ↦ λ is. ap (λ b. b || list_any (same_key (q, page)) (filter (λ k. k.0 == p) ks)) (apart k is) ∙ none ks
+      | false ↦ λ is. none ks
+    ] refl
+
 -- ---- without swap
 
 -- where nothing is cached and no entry names a slot, an entry that goes drops none
