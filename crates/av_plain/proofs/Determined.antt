@@ -6,7 +6,7 @@ use Rattle.std.specs.Ordering.{nat_cmp, eq_by_cmp}
 use Rattle.av_vma.specs.Ranges.{numbers, within}
 use Rattle.av_vma.specs.Gap.{IsGap}
 use Rattle.av_trace.specs.declared.command.Command.{Command}
-use Rattle.av_trace.specs.declared.command.Command.TheVariants.{Spawn, Mmap, Read, Write}
+use Rattle.av_trace.specs.declared.command.Command.TheVariants.{Spawn, Exit, Mmap, Read, Write, Maps, Stat}
 use Rattle.av_trace.specs.declared.command.Place.TheVariants.{Auto}
 use Rattle.av_trace.specs.declared.reply.Errno.{Errno}
 use Rattle.av_trace.specs.declared.reply.Note.{Note}
@@ -14,8 +14,8 @@ use Rattle.av_trace.specs.declared.reply.Note.TheVariants.{Zeroed, New, Copied, 
 use Rattle.av_trace.specs.declared.reply.Row.{Row}
 use Rattle.av_trace.specs.declared.reply.Reply.{Reply}
 use Rattle.av_trace.specs.declared.reply.Answer.{Answer}
-use Rattle.av_trace.specs.declared.reply.Answer.TheVariants.{Refused}
-use Rattle.av_plain.specs.World.{World, Process, Page, nothing, zeros, pages, page_of, pages_of, address_of, is_mapped, set_process, replaced, written, byte_at, Shows}
+use Rattle.av_trace.specs.declared.reply.Answer.TheVariants.{Refused, Runs}
+use Rattle.av_plain.specs.World.{World, Process, Page, nothing, zeros, pages, page_of, pages_of, address_of, is_mapped, set_process, end_process, replaced, written, byte_at, Shows}
 use Rattle.av_plain.specs.Ledger.{Ledger, Setting, Key}
 use Rattle.av_plain.specs.Event.{Event, Noted, Taken, Used, Forked, Moved, TurnedOn, TurnedOff, after, after_all, notes_of}
 use Rattle.av_plain.specs.Fault.{Accesses, GoesOn, Touches, How, Served, Denied, Starved, Lost, End, Whole, Stopped, happening, noting, touched, served, is_allowed, permits}
@@ -25,6 +25,8 @@ use Rattle.av_plain.specs.Choice.{Chooses, ChoosesAll}
 use Rattle.av_plain.specs.Transcript.{Exchange, State, IsStep, IsRun, at_first}
 use Rattle.av_plain.specs.Determined.{Tells, IsClaimed, is_bus, NoBus, SameCommands}
 use Rattle.av_plain.proofs.WorldLaws.{pages-set}
+use Rattle.av_plain.proofs.MapsLaws.{one-answer}
+use Rattle.av_plain.proofs.SoundTaken.{pages-ended}
 use Rattle.av_plain.proofs.OnePage.{Chosen, chosen-first, is_lost, touches-outcome}
 
 -- ---- the free frames
@@ -240,6 +242,7 @@ record Same (es fs : List Event) (answer answer' : Answer) (rows rows' : List Ro
 follows-one : (m : Setting) (w : World) (l : Ledger) (command : Command) (es fs : List Event) (answer answer' : Answer) (rows rows' : List Row) (free a b : List ℕ) → Tells m → IsClaimed w
     → is_bus answer ≡ false → is_bus answer' ≡ false → ChoosesAll l es free a → ChoosesAll l fs free b → Follows m w l command es answer rows → Follows m w l command fs answer' rows' → Same es fs answer answer' rows rows'
 follows-one m w l (Spawn p) es fs answer answer' rows rows' free a b told claimed kept kept' c d h g = record { events = h.1 ∙ sym g.1; answers = h.0 ∙ sym g.0; reports = h.2 ∙ sym g.2 }
+follows-one m w l (Exit p) es fs answer answer' rows rows' free a b told claimed kept kept' c d h g = record { events = h.1 ∙ sym g.1; answers = h.0 ∙ sym g.0; reports = h.2 ∙ sym g.2 }
 follows-one m w l (Mmap p len prot Auto) es fs answer answer' rows rows' free a b told claimed kept kept' c d h g = record {
   events = h.3 ∙ sym g.3;
   answers = map_at-one g.0 answer answer' (subst (IsMapAt answer) (gap-one (is_mapped (pages w p)) (pages_of len) h.0 g.0 h.1 g.1) h.2) g.2;
@@ -259,6 +262,10 @@ follows-one m w l (Read p x n) es fs answer answer' rows rows' free a b told cla
 follows-one m w l (Write p x bytes) es fs answer answer' rows rows' free a b told claimed kept kept' c d h g =
     let one = accesses-one m w l true p (touched x (length bytes)) es fs h.0 g.0 free a b h.1 g.1 c d (end-kept true x (length bytes) h.0 [] answer h.2 kept) (end-kept true x (length bytes) g.0 [] answer' g.2 kept') in
     record { events = one.0; answers = answers-one true x (length bytes) h.0 [] answer answer' h.2 (subst (λ e. Answers true x (length bytes) e [] answer') (sym one.1) g.2); reports = h.3 ∙ sym g.3 }
+follows-one m w l (Maps p) es fs answer answer' rows rows' free a b told claimed kept kept' c d h g =
+    let same = one-answer (pages w p) rows rows' h.1 g.1 in
+    record { events = h.2 ∙ sym g.2; answers = h.0 ∙ ap (λ (rs : List Row). Runs (length rs)) same ∙ sym g.0; reports = same }
+follows-one m w l Stat es fs answer answer' rows rows' free a b told claimed kept kept' c d h g = record { events = h.1 ∙ sym g.1; answers = h.0 ∙ sym g.0; reports = h.2 ∙ sym g.2 }
 
 legal-one : (m : Setting) (w : World) (l : Ledger) (command : Command) (reply reply' : Reply) (es fs : List Event) (free a b : List ℕ) → Tells m → IsClaimed w
     → is_bus reply.answer ≡ false → is_bus reply'.answer ≡ false → ChoosesAll l es free a → ChoosesAll l fs free b → IsLegal m w l command reply es → IsLegal m w l command reply' fs → Same es fs reply.answer reply'.answer reply.rows reply'.rows
@@ -291,6 +298,13 @@ claimed-set w p new claimed here q page = subst Claims (sym (pages-set w p new q
     by true = here page
     by false = claimed q page
 
+claimed-ended : (w : World) (p : ℕ) → IsClaimed w → IsClaimed (end_process w p)
+claimed-ended w p claimed q page = subst Claims (sym (pages-ended w p q page)) (by (q == p))
+  where
+    by : (b : Bool) → Claims (cond b None (pages w q page))
+    by true = tt
+    by false = claimed q page
+
 claimed-stored : (w : World) (p a : ℕ) (bytes : List ℕ) → IsClaimed w → IsClaimed (stored w p a bytes)
 claimed-stored w p a [] claimed = claimed
 claimed-stored w p a (b ∷ bytes) claimed = claimed-set w p (written (pages w p) a (b ∷ bytes)) claimed (λ page. over page (pages w p page) (claimed p page))
@@ -312,6 +326,7 @@ claimed-follows m w l command es answer rows told claimed h = subst (λ v. IsCla
   where
     by : (command : Command) → Follows m w l command es answer rows → IsClaimed (next w command answer)
     by (Spawn p) h = subst (λ x. IsClaimed (next w (Spawn p) x)) (sym h.0) (claimed-set w p nothing claimed (λ page. tt))
+    by (Exit p) h = subst (λ x. IsClaimed (next w (Exit p) x)) (sym h.0) (claimed-ended w p claimed)
     by (Mmap p len prot place) h = at h.0 h.2
       where
         inside : (b : Bool) (o : Option Page) → Claims o → Claims (if b then Some (zeros prot) else o)
@@ -324,15 +339,20 @@ claimed-follows m w l command es answer rows told claimed h = subst (λ v. IsCla
             (claimed-set w p (replaced (pages w p) (page_of (address_of page)) (pages_of len) (λ _. Some (zeros prot))) claimed (λ q. inside (within (page_of (address_of page)) (pages_of len) q) (pages w p q) (claimed p q)))
     by (Read p a n) h = claimed
     by (Write p a bytes) h = claimed-stored w p a (first_bytes answer bytes) claimed
+    by (Maps p) h = claimed
+    by Stat h = claimed
 
 claimed-refused : (m : Setting) (w : World) (l : Ledger) (command : Command) (es : List Event) (error : Errno) → Tells m → IsClaimed w → IsClaimed (next_world m w l es command (Refused error))
 claimed-refused m w l command es error told claimed = subst (λ v. IsClaimed (next v command (Refused error))) (sym (loads-told m w l es told)) (by command)
   where
     by : (command : Command) → IsClaimed (next w command (Refused error))
     by (Spawn p) = claimed
+    by (Exit p) = claimed
     by (Mmap p len prot place) = claimed
     by (Read p a n) = claimed
     by (Write p a bytes) = claimed
+    by (Maps p) = claimed
+    by Stat = claimed
 
 claimed-step : (m : Setting) (old new : State) (command : Command) (reply : Reply) → Tells m → IsClaimed old.world → IsStep m old command reply new → IsClaimed new.world
 claimed-step m old new command reply told claimed h = subst IsClaimed (sym h.world) (by (refusal (tests m old.world old.ledger command)) h.legal.answer)

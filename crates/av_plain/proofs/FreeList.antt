@@ -6,22 +6,23 @@ use Rattle.std.specs.FinMap.Entries.{is_sorted}
 use Rattle.av_vma.specs.declared.slot.Slot.{Slot}
 use Rattle.av_vma.specs.Ranges.{how_many, numbers}
 use Rattle.av_trace.specs.declared.command.Command.{Command}
-use Rattle.av_trace.specs.declared.command.Command.TheVariants.{Spawn, Mmap, Read, Write}
+use Rattle.av_trace.specs.declared.command.Command.TheVariants.{Spawn, Exit, Mmap, Read, Write, Maps, Stat}
 use Rattle.av_trace.specs.declared.reply.Errno.{Errno}
 use Rattle.av_trace.specs.declared.reply.OutOf.{OutOf}
 use Rattle.av_trace.specs.declared.reply.Note.{Note}
 use Rattle.av_trace.specs.declared.reply.Note.TheVariants.{Zeroed, New, Copied, Loaded, Mapped, Dropped}
 use Rattle.av_trace.specs.declared.reply.Reply.{Reply}
 use Rattle.av_plain.specs.World.{World, address_of}
-use Rattle.av_plain.specs.Ledger.{Ledger, Setting, Cached, same_slot, Key, key_cmp, Entry, Zero, InFrame, InSlot, entry, mapped, names_frame, slot_of, frame_at, is_free, is_full, in_flight, slot_entries, fresh}
-use Rattle.av_plain.specs.Event.{Event, Used, after_all, place, set_entry, without, mark, at, settle, not_cached, noted, used, used_at}
+use Rattle.av_plain.specs.Ledger.{Ledger, Setting, Cached, same_slot, Key, key_cmp, Entry, Zero, InFrame, InSlot, entry, mapped, names_frame, slot_of, frame_at, is_free, is_full, in_flight, slot_entries, is_orphan, fresh}
+use Rattle.av_plain.specs.Event.{Event, Used, after_all, place, set_entry, without, mark, at, settle, not_cached, noted, taken, used, used_at}
 use Rattle.av_plain.specs.Pass.{nothing_spared, pinning, noted_all, when}
 use Rattle.av_plain.specs.Fault.{is_shared, Ready, Split, held, need, TakesFor, ComesIn, IsMade, spare_slot, spare_of, spare, comes, Serves, RunsOut, How, Served, Denied, Starved, Lost, Touches, End, noting, happening, GoesOn, Accesses, touched}
+use Rattle.av_plain.specs.Taking.{keys_of_process, drops, slot_behind_key, taking_one, taking}
 use Rattle.av_plain.specs.Refusal.{tests, refusal}
 use Rattle.av_plain.specs.Step.{IsLegal, Follows, Refuses}
-use Rattle.av_plain.specs.Choice.{ChoosesAll, freed}
+use Rattle.av_plain.specs.Choice.{ChoosesAll, frame_under, freed}
 use Rattle.av_plain.specs.Transcript.{Exchange, State, IsStep, IsRun, at_first}
-use Rattle.av_plain.specs.Sound.{holders, pairs, uses, IsSound, AllSound}
+use Rattle.av_plain.specs.Sound.{holders, pairs, uses, IsSoundBut, IsSound, no_excuse, AllSound}
 use Rattle.av_plain.proofs.Laws.{weight}
 use Rattle.av_plain.proofs.LedgerLaws.{mapped-set, how_many-found}
 use Rattle.av_plain.proofs.NoSwapLaws.{place-address, itself}
@@ -32,6 +33,8 @@ use Rattle.av_plain.proofs.SoundEntries.{IsBlank, blank-frame, IsSharedBy, ByFra
 use Rattle.av_plain.proofs.SoundPages.{settle-entries}
 use Rattle.av_plain.proofs.SoundChanges.{any-counts, free-is}
 use Rattle.av_plain.proofs.SoundAccess.{Takes, takes-alone, comes-kept, made-kept, touches-kept, happening-kept, shared-is}
+use Rattle.av_plain.proofs.TakingLaws.{mapped-taken, same_swap-taken}
+use Rattle.av_plain.proofs.SoundTaken.{excuse_of, taken-kept, taking_one-kept}
 use Rattle.av_plain.proofs.OnePage.{chosen-first}
 use Rattle.av_plain.proofs.Soundness.{step-sound, first-sound}
 use Rattle.av_plain.specs.FreeList.{ListsFree}
@@ -85,6 +88,22 @@ lists-freed m l l' f free below was now others h g = by (g == f) refl (h g)
       where
         plus : (n : ℕ) → 0 + n ≡ n
         plus n = omega arith
+
+-- a frame in use goes in front where it is free after the change, and the others stay as they are
+freed-lists : (m : Setting) (l l' : Ledger) (f : ℕ) (free : List ℕ) → f < m.frames → 0 < uses l f → ((g : ℕ) → (g == f) ≡ false → uses l' g ≡ uses l g) → Lists m l free → Lists m l' (freed l l' (Some f) free)
+freed-lists m l l' f free below was others h = each (is_free l' f) (is_free l f) (free-is l' f) (free-is l f ∙ busy (uses l f) was)
+  where
+    busy : (n : ℕ) → 0 < n → (n == 0) ≡ false
+    busy n p = grind (arith, nat_tests, p)
+
+    each : (b c : Bool) → b ≡ (uses l' f == 0) → c ≡ false → Lists m l' (if b && not c then f ∷ free else free)
+    each true true e z = cc
+    each true false e z = lists-freed m l l' f free below was (grind (arith, nat_tests, e)) others h
+    each false c e z = lists-same m l l' free free refl (λ g. same g (g == f) refl) h
+      where
+        same : (g : ℕ) (b : Bool) → (g == f) ≡ b → (uses l' g == 0) ≡ (uses l g == 0)
+        same g false is' = ap (λ n. n == 0) (others g is')
+        same g true is' = subst (λ x. (uses l' x == 0) ≡ (uses l x == 0)) (sym (same-is g f is')) (sym e ∙ sym (busy (uses l f) was))
 
 -- ---- uses after a note
 
@@ -237,12 +256,9 @@ made-lists m l write k notes free free' s q c h = by write (entry l k) refl q
 
 -- ---- a drop
 
-drop-lists : (m : Setting) (l : Ledger) (t : Slot) (free : List ℕ) → IsSound m l → Lists m l free → Lists m (noted (Dropped t) l) (freed l (noted (Dropped t) l) (frame_at l t) free)
-drop-lists m l t free s h = by (frame_at l t) refl
+drop-lists : (m : Setting) (x : Slot → ℕ) (l : Ledger) (t : Slot) (free : List ℕ) → IsSoundBut m x l → Lists m l free → Lists m (noted (Dropped t) l) (freed l (noted (Dropped t) l) (frame_at l t) free)
+drop-lists m x l t free s h = by (frame_at l t) refl
   where
-    now : Ledger
-    now = noted (Dropped t) l
-
     held : (o : Option ℕ) (l0 : Ledger) → (g : ℕ) → holders (at o settle l0) g ≡ holders l0 g
     held None l0 g = refl
     held (Some f) l0 g = elim (is_free l0 f) as (λ b. ◌≡◌ {A = ℕ} (how_many (λ c. g == c.frame) (cond b (record l0 { active = without f l0.active; inactive = without f l0.inactive }) l0).cache) (holders l0 g)) [ true ↦ refl | false ↦ refl ]
@@ -256,32 +272,19 @@ drop-lists m l t free s h = by (frame_at l t) refl
 
     by : (o : Option ℕ) → frame_at l t ≡ o → Lists m (noted (Dropped t) l) (freed l (noted (Dropped t) l) o free)
     by None is = lists-same m l (noted (Dropped t) l) free free refl (λ g. ap (λ n. n == 0) (let a = less g in let z = frame_at-none t l.cache is in let p = pair-slot t g l.cache in omega (arith, a, z, p))) h
-    by (Some f) is =
-        each (is_free (noted (Dropped t) l) f) (is_free l f) (free-is (noted (Dropped t) l) f) (free-is l f ∙ busy (uses l f) was)
+    by (Some f) is = freed-lists m l (noted (Dropped t) l) f free (s.in_range f was) was others h
       where
         was : 0 < uses l f
         was = let p = frame_at-some f t l.cache is in let q = pair-frame t f l.cache in omega (arith, p, q)
 
-        busy : (n : ℕ) → 0 < n → (n == 0) ≡ false
-        busy n p = grind (arith, nat_tests, p)
-
         others : (g : ℕ) → (g == f) ≡ false → uses (noted (Dropped t) l) g ≡ uses l g
         others g other = let a = less g in let p = frame_at-some f t l.cache is in let two = two_frames t g f l.cache other in let once = s.slots_once t in omega (arith, a, p, two, once)
-
-        each : (b c : Bool) → b ≡ (uses (noted (Dropped t) l) f == 0) → c ≡ false → Lists m (noted (Dropped t) l) (if b && not c then f ∷ free else free)
-        each true true e z = cc
-        each true false e z = lists-freed m l (noted (Dropped t) l) f free (s.in_range f was) was (grind (arith, nat_tests, e)) others h
-        each false c e z = lists-same m l (noted (Dropped t) l) free free refl (λ g. same g (g == f) refl) h
-          where
-            same : (g : ℕ) (b : Bool) → (g == f) ≡ b → (uses (noted (Dropped t) l) g == 0) ≡ (uses l g == 0)
-            same g false is' = ap (λ n. n == 0) (others g is')
-            same g true is' = subst (λ x. (uses (noted (Dropped t) l) x == 0) ≡ (uses l x == 0)) (sym (same-is g f is')) (sym e ∙ sym (busy (uses l f) was))
 
 spare-lists : (m : Setting) (l : Ledger) (write came : Bool) (k : Key) (free free' : List ℕ) → IsSound m l → ChoosesAll l (noting (spare m write came l k)) free free' → Lists m l free → Lists m (noted_all l (spare m write came l k)) free'
 spare-lists m l write came k free free' s c h = by (entry l k) c
   where
     dropped : (t : Slot) (b : Bool) → ChoosesAll l (noting (when b (Dropped t))) free free' → Lists m (noted_all l (when b (Dropped t))) free'
-    dropped t true c = subst (Lists m (noted (Dropped t) l)) (sym (c.2 ∙ c.1)) (drop-lists m l t free s h)
+    dropped t true c = subst (Lists m (noted (Dropped t) l)) (sym (c.2 ∙ c.1)) (drop-lists m no_excuse l t free s h)
     dropped t false c = subst (Lists m l) (sym c) h
 
     slot : (o : Option Slot) → ChoosesAll l (noting (spare_slot m write came l o)) free free' → Lists m (noted_all l (spare_slot m write came l o)) free'
@@ -293,6 +296,49 @@ spare-lists m l write came k free free' s c h = by (entry l k) c
     by (Some Zero) c = subst (Lists m l) (sym c) h
     by (Some (InFrame f seen)) c = slot (slot_of l f) c
     by (Some (InSlot t)) c = subst (Lists m l) (sym c) h
+
+-- ---- entries taken away
+
+taken-lists : (m : Setting) (l : Ledger) (k : Key) (free : List ℕ) → IsSound m l → Lists m l free → Lists m (taken k l) (freed l (taken k l) (frame_under (entry l k)) free)
+taken-lists m l k free s h = by (entry l k) refl
+  where
+    less : (g : ℕ) → uses l g ≡ uses (taken k l) g + weight (names_frame g) (entry l k)
+    less g = let a = mapped-taken k l g s.in_order in let b = ap (how_many (λ (c : Cached). g == c.frame)) (same_swap-taken k l).cache in omega (arith, a, b)
+
+    same : (g : ℕ) → weight (names_frame g) (entry l k) ≡ 0 → uses (taken k l) g ≡ uses l g
+    same g none = let a = less g in omega (arith, a, none)
+
+    none : ((g : ℕ) → weight (names_frame g) (entry l k) ≡ 0) → Lists m (taken k l) free
+    none z = lists-same m l (taken k l) free free refl (λ g. ap (λ n. n == 0) (same g (z g))) h
+
+    by : (o : Option Entry) → entry l k ≡ o → Lists m (taken k l) (freed l (taken k l) (frame_under o) free)
+    by None is = none (λ g. ap (weight (names_frame g)) is)
+    by (Some Zero) is = none (λ g. ap (weight (names_frame g)) is)
+    by (Some (InSlot t)) is = none (λ g. ap (weight (names_frame g)) is)
+    by (Some (InFrame f seen)) is = freed-lists m l (taken k l) f free (s.in_range f was) was (λ g other. same g (ap (weight (names_frame g)) is ∙ ap (λ b. cond b 1 0) other)) h
+      where
+        was : 0 < uses l f
+        was = let p = how_many-found (names_frame f) k l.entries (InFrame f seen) is (itself f) in omega (arith, p)
+
+drops-lists : (m : Setting) (x : Slot → ℕ) (l : Ledger) (o : Option Slot) (free free' : List ℕ) → IsSoundBut m x l → ChoosesAll l (drops l o) free free' → Lists m l free → Lists m (after_all l (drops l o)) free'
+drops-lists m x l None free free' s c h = subst (Lists m l) (sym c) h
+drops-lists m x l (Some t) free free' s c h = by (is_orphan l t) c
+  where
+    by : (b : Bool) → ChoosesAll l (noting (when b (Dropped t))) free free' → Lists m (after_all l (noting (when b (Dropped t)))) free'
+    by true c = subst (Lists m (noted (Dropped t) l)) (sym (c.2 ∙ c.1)) (drop-lists m x l t free s h)
+    by false c = subst (Lists m l) (sym c) h
+
+taking_one-lists : (m : Setting) (l : Ledger) (k : Key) (free free' : List ℕ) → IsSound m l → ChoosesAll l (taking_one l k) free free' → Lists m l free → Lists m (after_all l (taking_one l k)) free'
+taking_one-lists m l k free free' s c h =
+    drops-lists m (excuse_of (slot_behind_key l (entry l k))) (taken k l) (slot_behind_key l (entry l k)) c.0 free' (taken-kept m l k s) c.2 (subst (Lists m (taken k l)) (sym c.1) (taken-lists m l k free s h))
+
+taking-lists : (m : Setting) (l : Ledger) (ks : List Key) (free free' : List ℕ) → IsSound m l → ChoosesAll l (taking l ks) free free' → Lists m l free → Lists m (after_all l (taking l ks)) free'
+taking-lists m l [] free free' s c h = subst (Lists m l) (sym c) h
+taking-lists m l (k ∷ ks) free free' s c h =
+    let now = after_all l (taking_one l k) in
+    let both = chosen-first l (taking_one l k) (taking now ks) free free' c in
+    subst (λ x. Lists m x free') (sym (after_all-append l (taking_one l k) (taking now ks)))
+    (taking-lists m now ks both.0 free' (taking_one-kept m l k s) both.2 (taking_one-lists m l k free both.0 s both.1 h))
 
 -- ---- a page
 
@@ -405,9 +451,12 @@ legal-lists m w l command reply es free free' s legal c h = by (refusal (tests m
 
     follows : (command : Command) → Follows m w l command es reply.answer reply.rows → Lists m (after_all l es) free'
     follows (Spawn p) q = none q.1
+    follows (Exit p) q = subst (λ es. Lists m (after_all l es) free') (sym q.1) (taking-lists m l (keys_of_process l p) free free' s (subst (λ es. ChoosesAll l es free free') q.1 c) h)
     follows (Mmap p len prot place) q = none q.3
     follows (Read p a n) q = accesses-lists m w l false p (touched a n) es q.0 free free' s q.2 c h
     follows (Write p a bytes) q = accesses-lists m w l true p (touched a (length bytes)) es q.0 free free' s q.1 c h
+    follows (Maps p) q = none q.2
+    follows Stat q = none q.1
 
     by : (o : Option Errno) → MatchOption o (Follows m w l command es reply.answer reply.rows) (λ error. Refuses error es reply.answer reply.rows) → Lists m (after_all l es) free'
     by None q = follows command q

@@ -8,14 +8,19 @@ pub mod AccessLaws
 pub mod NoSwapLaws
 pub mod TwoWrites
 pub mod SoundLaws
+pub mod TakingLaws
 pub mod SoundEntries
 pub mod SoundChanges
 pub mod SoundAccess
 pub mod SoundPages
 pub mod SoundThere
+pub mod SoundTaken
 pub mod Soundness
 pub mod SoundBound
 pub mod SoundMeans
+pub mod FrameCounts
+pub mod MapsLaws
+pub mod JoinedRanges
 pub mod OutOfMemory
 pub mod FirstRows
 pub mod SwapRows
@@ -25,3 +30,4 @@ pub mod Determined
 pub mod ChangedRows
 pub mod FreeList
 pub mod SoundRow
+pub mod ExitRows

@@ -11,9 +11,11 @@ ghost use Rattle.av_trace.specs.declared.command.Command.{Command};
 ghost use Rattle.av_trace.specs.declared.reply.OutOf.{OutOf};
 ghost use Rattle.av_trace.specs.declared.reply.Answer.TheVariants.{Oom};
 ghost use Rattle.av_trace.specs.declared.reply.Reply.{Reply};
-ghost use Rattle.av_plain.specs.World.{World};
+ghost use Rattle.av_trace.specs.declared.reply.Row.{Row};
+ghost use Rattle.av_plain.specs.World.{World, Process};
 ghost use Rattle.av_plain.specs.Ledger.{Ledger, Setting, fresh};
 ghost use Rattle.av_plain.specs.Event.{Event, after_all};
+ghost use Rattle.av_plain.specs.Report.{AreMaps, totals};
 ghost use Rattle.av_plain.specs.Step.{IsLegal, next_world};
 ghost use Rattle.av_plain.specs.Transcript.{Exchange, State, IsLegalFrom, IsStep, IsRun, at_first};
 ghost use Rattle.av_plain.specs.Sound.{AllSound};
@@ -22,8 +24,9 @@ ghost use Rattle.av_plain.specs.FreeList.{ListsFree};
 ghost use Rattle.av_plain.specs.Determined.{Tells, IsClaimed, is_bus, NoBus, SameCommands};
 
 pub use rows::{
-    a_page_in_writeback_is_sound, changed_replies_are_refused, changed_replies_of_swap_are_refused,
-    changed_runs_are_refused, ledger_rows_lead, rows_run, shared_rows_run, swap_rows_run,
+    a_page_in_writeback_is_sound, changed_exits_and_reports_are_refused,
+    changed_replies_are_refused, changed_replies_of_swap_are_refused, changed_runs_are_refused,
+    exits_and_reports_run, ledger_rows_lead, rows_run, shared_rows_run, swap_rows_run,
 };
 
 /// Sound memories and a sound ledger are so after every legal reply, a refusal too.
@@ -66,4 +69,14 @@ pub fn runs_are_determined()
 /// In a run the list of free frames has each free frame of the machine once, and no other number.
 pub fn runs_list_free_frames()
     ensures { (m : Setting) (exchanges : List Exchange) (new : State) → IsRun m (at_first m) exchanges new → ListsFree m new.ledger new.free }
+{}
+
+/// Each frame is free, active or inactive, and so the numbers of `stat` add up.
+pub fn totals_add_up()
+    ensures { (m : Setting) (w : World) (l : Ledger) → AllSound m w l → (totals m w l).free + (totals m w l).active + (totals m w l).inactive ≡ (totals m w l).frames }
+{}
+
+/// The longest runs of a process's pages are one list: `maps` has one answer.
+pub fn maps_has_one_answer()
+    ensures { (q : Process) (rows others : List Row) → AreMaps q rows → AreMaps q others → rows ≡ others }
 {}

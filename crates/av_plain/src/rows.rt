@@ -2,11 +2,11 @@
 
 ghost use Rattle.std.specs.Prelude.{List, [], ◌∷◌, true};
 ghost use Rattle.av_trace.specs.declared.command.Place.TheVariants.{Auto};
-ghost use Rattle.av_trace.specs.declared.command.Command.TheVariants.{Spawn, Mmap, Read, Write};
-ghost use Rattle.av_trace.specs.declared.reply.Errno.TheVariants.{Eagain, Enomem, Eexist, Einval};
+ghost use Rattle.av_trace.specs.declared.command.Command.TheVariants.{Spawn, Exit, Mmap, Read, Write, Maps, Stat};
+ghost use Rattle.av_trace.specs.declared.reply.Errno.TheVariants.{Esrch, Eagain, Enomem, Eexist, Einval};
 ghost use Rattle.av_trace.specs.declared.reply.Note.TheVariants.{Zeroed, New, Copied, Mapped, Dropped};
 ghost use Rattle.av_trace.specs.declared.reply.Row.TheVariants.{Entry};
-ghost use Rattle.av_trace.specs.declared.reply.Answer.TheVariants.{Done, MapAt, Data, Refused, Segv, Bus, Oom};
+ghost use Rattle.av_trace.specs.declared.reply.Answer.TheVariants.{Done, MapAt, Data, Refused, Segv, Bus, Oom, Counted};
 ghost use Rattle.av_plain.specs.Ledger.{InFrame, fresh};
 ghost use Rattle.av_plain.specs.Event.{Noted};
 ghost use Rattle.av_plain.specs.Choice.{ChoosesAll};
@@ -18,6 +18,9 @@ ghost use Rattle.av_plain.specs.Rows.{paged_out, loads, load_to_write, load_when
 ghost use Rattle.av_plain.specs.Rows.{Rejects, Refutes, Forbids, answered, read_write, slot, empty, untouched, in_swap_cache};
 ghost use Rattle.av_plain.specs.Rows.{wrong_frame, wrong_place, written_in_vain, refused_write, denied_write, leaked, wrong_load};
 ghost use Rattle.av_plain.specs.Rows.{ledger_with, out_and_back, copied_and_gone, taken_and_freed, orphan};
+ghost use Rattle.av_plain.specs.Rows.{exit_frees, exit_and_again, two_runs, exit_shared, exit_drops, exit_in_writeback, exit_paged_out};
+ghost use Rattle.av_plain.specs.Rows.{Only, numbers_of, one_written, all_gone, two_protections};
+ghost use Rattle.av_plain.specs.Rows.{split_run, joined_runs, run_left_out, run_too_long, falling_runs, part_of_page};
 
 /// Runs from nothing on.
 pub fn rows_run()
@@ -105,4 +108,29 @@ pub fn changed_replies_of_swap_are_refused()
 /// Soundness can be met with swap in use: a page whose write to its slot is in flight.
 pub fn a_page_in_writeback_is_sound()
     ensures { AllSound (with_swap 4 8 7) in_writeback.world in_writeback.ledger }
+{}
+
+/// Processes that end, the runs of `maps` and the numbers of `stat`.
+pub fn exits_and_reports_run()
+    ensures exit_frees { Runs 4 exit_frees }
+    ensures exit_and_again { Runs 4 exit_and_again }
+    ensures two_runs { Runs 4 two_runs }
+    ensures exit_shared { Allows (machine 4) (after_fork (1 ∷ 2 ∷ 3 ∷ [])) exit_shared }
+    ensures exit_drops { Allows (with_swap 4 8 7) in_swap_cache exit_drops }
+    ensures exit_in_writeback { Allows (with_swap 4 8 7) in_writeback exit_in_writeback }
+    ensures exit_paged_out { Allows (with_swap 4 8 7) (paged_out 7 (0 ∷ 1 ∷ 2 ∷ 3 ∷ [])) exit_paged_out }
+{}
+
+/// Reports and exits that differ from these in one place may not come: none of these lists is an answer to `maps`, and
+/// `stat` and `exit` have one reply, and leave one state.
+pub fn changed_exits_and_reports_are_refused()
+    ensures split_run { Forbids (machine 4) two_protections (Maps 1) split_run }
+    ensures joined_runs { Forbids (machine 4) two_protections (Maps 1) joined_runs }
+    ensures run_left_out { Forbids (machine 4) two_protections (Maps 1) run_left_out }
+    ensures run_too_long { Forbids (machine 4) two_protections (Maps 1) run_too_long }
+    ensures falling_runs { Forbids (machine 4) two_protections (Maps 1) falling_runs }
+    ensures part_of_page { Forbids (machine 4) two_protections (Maps 1) part_of_page }
+    ensures stat { Only (machine 4) one_written Stat (answered (Counted (numbers_of 4 3 0 1 1)) []) one_written }
+    ensures exit { Only (machine 4) one_written (Exit 1) (answered Done []) all_gone }
+    ensures exit_again { Only (machine 4) all_gone (Exit 1) (answered (Refused Esrch) []) all_gone }
 {}
