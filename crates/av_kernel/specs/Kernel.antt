@@ -4,17 +4,13 @@ use Rattle.av_trace.specs.declared.command.Command.{Command}
 use Rattle.av_trace.specs.declared.reply.Reply.{Reply}
 use Rattle.av_trace.specs.declared.reply.Answer.{Answer}
 use Rattle.av_trace.specs.declared.reply.Answer.TheVariants.{Done, MapAt, Data, Refused, Segv, Bus, Oom, On, NoFrame}
-use Rattle.av_plain.specs.Ledger.{Setting}
-use Rattle.av_plain.specs.Transcript.{State, IsStep, at_first}
+use Rattle.av_kernel.specs.View.{setting, Keeps}
+use Rattle.av_plain.specs.Transcript.{State, IsStep}
 use Rattle.av_kernel.specs.Machine.{Machine}
 
--- so many frames, and no device
-abbrev pub setting : ℕ → Setting
-setting frames = record { frames = frames; sizes = []; headers = Some (λ _. None) }
-
 -- the kernel stands for the memories, the ledger and the free frames
-unfoldable pub Stands : Machine → State → Type 0
-Stands k s = s ≡ at_first (setting k.frames)
+abbrev pub Stands : Machine → State → Type 0
+Stands k s = Keeps k.mem s
 
 -- a command's reply is a step, and the kernel stands for what it leaves
 pub record Steps (old new : Machine) (s : State) (command : Command) (reply : Reply) : Type 0 where

@@ -1,6 +1,18 @@
 //! The kernel: frames, page tables and areas, and one command at a time.
 #![tactic(auto)]
 
+mod access;
+mod command;
+mod fault;
 mod kernel;
+mod mem;
+mod page;
+mod spaces;
+mod touched;
 
 pub use kernel::Kernel;
+pub use mem::Mem;
+pub use spaces::Spaces;
+
+#[cfg(test)]
+mod tests;

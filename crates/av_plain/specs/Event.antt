@@ -10,6 +10,7 @@ use Rattle.av_plain.specs.World.{page_of}
 use Rattle.av_vma.specs.Ranges.{within}
 use Rattle.av_plain.specs.Ledger.{Ledger, Cached, Key, key_cmp, Entry, Zero, InFrame, InSlot, entry, names_frame, slot_of, frame_at, same_slot, is_free}
 
+-- what may happen to the ledger
 pub data Event : Type 0 where
   -- what a note tells
   Noted : (note : Note) → Event
@@ -26,9 +27,11 @@ pub data Event : Type 0 where
 
 -- ---- parts of a change
 
+-- the key has this entry now
 abbrev pub set_entry : Key → Entry → Ledger → Ledger
 set_entry k e l = record l { entries = put key_cmp k e l.entries }
 
+-- the entry with its seen bit cleared
 abbrev pub unseen : Entry → Entry
 unseen Zero = Zero
 unseen (InFrame f seen) = InFrame f false
@@ -38,6 +41,7 @@ unseen (InSlot s) = InSlot s
 abbrev pub change_entries : ℕ → (Entry → Entry) → Ledger → Ledger
 change_entries f change l = record l { entries = map (λ e. (e.0, (if names_frame f e.1 then change e.1 else e.1))) l.entries }
 
+-- the list without the frame
 abbrev pub without : ℕ → List ℕ → List ℕ
 without f fs = filter (λ g. not (f == g)) fs
 
@@ -45,12 +49,15 @@ without f fs = filter (λ g. not (f == g)) fs
 abbrev pub unlisted : ℕ → Ledger → Ledger
 unlisted f l = record l { active = without f l.active; inactive = without f l.inactive }
 
+-- the frame goes to the head of inactive, from whichever list it was in
 abbrev pub to_inactive_head : ℕ → Ledger → Ledger
 to_inactive_head f l = record l { active = without f l.active; inactive = f ∷ without f l.inactive }
 
+-- or to its tail
 abbrev pub to_inactive_tail : ℕ → Ledger → Ledger
 to_inactive_tail f l = record l { active = without f l.active; inactive = without f l.inactive ++ f ∷ [] }
 
+-- or to the head of active
 abbrev pub to_active : ℕ → Ledger → Ledger
 to_active f l = record l { active = f ∷ without f l.active; inactive = without f l.inactive }
 
@@ -58,15 +65,19 @@ to_active f l = record l { active = f ∷ without f l.active; inactive = without
 abbrev pub settle : ℕ → Ledger → Ledger
 settle f l = if is_free l f then unlisted f l else l
 
+-- the cached slot is stale, or is not
 abbrev pub mark : Bool → Slot → Ledger → Ledger
 mark stale s l = record l { cache = map (λ (c : Cached). if same_slot s c.slot then record c { stale = stale } else c) l.cache }
 
+-- the slot is cached at the frame
 abbrev pub cached_at : Slot → ℕ → Bool → Ledger → Ledger
 cached_at s f stale l = record l { cache = record { slot = s; frame = f; stale = stale } ∷ l.cache }
 
+-- the slot is cached no longer
 abbrev pub not_cached : Slot → Ledger → Ledger
 not_cached s l = record l { cache = filter (λ (c : Cached). not (same_slot s c.slot)) l.cache }
 
+-- the slot is in flight no longer
 abbrev pub landed : Slot → Ledger → Ledger
 landed s l = record l { flight = filter (λ t. not (same_slot s t)) l.flight }
 
@@ -77,9 +88,11 @@ at (Some x) change l = change x l
 
 -- ---- what a note changes
 
+-- the key of an address
 abbrev pub place : ℕ → ℕ → Key
 place process address = (process, page_of address)
 
+-- the ledger after a note
 abbrev pub noted : Note → Ledger → Ledger
 noted (Zeroed p a) l = set_entry (place p a) Zero l
 noted (New p a f) l = to_inactive_head f (set_entry (place p a) (InFrame f false) l)
@@ -117,6 +130,7 @@ abbrev pub settle_entry : Option Entry → Ledger → Ledger
 settle_entry None l = l
 settle_entry (Some e) l = at (frame_of e) settle l
 
+-- the ledger after an entry is taken away
 abbrev pub taken : Key → Ledger → Ledger
 taken k l = settle_entry (entry l k) (record l { entries = where_key key_cmp (λ q. not (k.0 == q.0 && k.1 == q.1)) l.entries })
 
@@ -128,6 +142,7 @@ used_at write k l (Some (InSlot s)) = l
 used_at false k l (Some (InFrame f seen)) = set_entry k (InFrame f true) l
 used_at true k l (Some (InFrame f seen)) = at (slot_of l f) (mark true) (set_entry k (InFrame f true) l)
 
+-- the ledger after a page was read or written
 abbrev pub used : Bool → Key → Ledger → Ledger
 used write k l = used_at write k l (entry l k)
 
@@ -135,14 +150,17 @@ used write k l = used_at write k l (entry l k)
 abbrev pub put_all : List (Key × Entry) → Ledger → Ledger
 put_all es l = fold (λ l e. set_entry e.0 e.1 l) l es
 
+-- the child gets the parent's entries, unseen
 abbrev pub forked : ℕ → ℕ → Ledger → Ledger
 forked p q l = put_all (map (λ e. ((q, e.0.1), unseen e.1)) (where_key key_cmp (λ k. k.0 == p) l.entries)) l
 
+-- the entries of the n pages from `from` on go to as many pages from `to` on
 abbrev pub moved : ℕ → ℕ → ℕ → ℕ → Ledger → Ledger
 moved p n from to l =
     put_all (map (λ e. ((p, e.0.1 - from + to), e.1)) (where_key key_cmp (λ k. k.0 == p && within from n k.1) l.entries))
     (record l { entries = where_key key_cmp (λ k. not (k.0 == p && within from n k.1)) l.entries })
 
+-- the ledger after an event
 abbrev pub after : Ledger → Event → Ledger
 after l (Noted note) = noted note l
 after l (Taken k) = taken k l
@@ -152,6 +170,7 @@ after l (Moved p n from to) = moved p n from to l
 after l (TurnedOn k slots bad) = record l { on = put nat_cmp k (record { slots = slots; bad = bad }) l.on }
 after l (TurnedOff k) = record l { on = where_key nat_cmp (λ q. not (q == k)) l.on }
 
+-- and after several
 abbrev pub after_all : Ledger → List Event → Ledger
 after_all l [] = l
 after_all l (e ∷ es) = after_all (after l e) es

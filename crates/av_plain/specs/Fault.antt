@@ -17,9 +17,11 @@ abbrev pub is_named : Ledger → Option Slot → Bool
 is_named l None = false
 is_named l (Some s) = nat_lt 0 (slot_entries l s)
 
+-- a write to the frame has to copy it
 abbrev pub is_shared : Ledger → ℕ → Bool
 is_shared l f = nat_lt 1 (mapped l f) || is_named l (slot_of l f)
 
+-- what a page needs before it can be read or written
 pub data Need : Type 0 where
   -- nothing
   Ready : Need
@@ -34,10 +36,12 @@ pub data Need : Type 0 where
   -- the frame that caches the slot
   Held : (frame : ℕ) → Need
 
+-- what a page needs whose entry names the slot, by the frame that caches it
 abbrev pub held : Slot → Option ℕ → Need
 held s None = Absent s
 held s (Some f) = Held f
 
+-- what a page needs, by its entry
 abbrev pub need : Bool → Ledger → Option Entry → Need
 need false l None = Blank
 need true l None = Fresh
@@ -81,12 +85,14 @@ abbrev pub spare_slot : Setting → Bool → Bool → Ledger → Option Slot →
 spare_slot m write came l None = []
 spare_slot m write came l (Some s) = when (not (in_flight l s) && slot_entries l s == 0 && (write || came && is_full m l)) (Dropped s)
 
+-- the `drop` that an entry's slot gets, if any
 abbrev pub spare_of : Setting → Bool → Bool → Ledger → Option Entry → List Note
 spare_of m write came l None = []
 spare_of m write came l (Some Zero) = []
 spare_of m write came l (Some (InFrame f seen)) = spare_slot m write came l (slot_of l f)
 spare_of m write came l (Some (InSlot s)) = []
 
+-- the `drop` that ends a page's notes, if any
 abbrev pub spare : Setting → Bool → Bool → Ledger → Key → List Note
 spare m write came l k = spare_of m write came l (entry l k)
 
@@ -110,7 +116,7 @@ pub record Serves (m : Setting) (l : Ledger) (write : Bool) (k : Key) (notes : L
 
 -- ---- where it stops
 
--- the frame that the page's copy pins, and whether the page needs a frame at all
+-- the frame that the page's copy pins, if it needs one
 abbrev pub pinned_by : Need → Option ℕ
 pinned_by (Split g) = Some g
 pinned_by Ready = None
@@ -119,6 +125,7 @@ pinned_by Fresh = None
 pinned_by (Absent s) = None
 pinned_by (Held f) = None
 
+-- whether a frame has to be taken
 abbrev pub wants_frame : Need → Bool
 wants_frame Fresh = true
 wants_frame (Split g) = true
@@ -147,13 +154,16 @@ pub record IsLost (m : Setting) (l : Ledger) (write : Bool) (k : Key) (notes : L
 
 -- ---- one page, served or not
 
+-- whether the page is mapped and its protection allows the access
 abbrev pub permits : Bool → Option Page → Bool
 permits write None = false
 permits write (Some page) = allows write page.prot
 
+-- and so for a key of the memories
 abbrev pub is_allowed : World → Bool → Key → Bool
 is_allowed w write k = permits write (pages w k.0 k.1)
 
+-- how a page is served, or why it is not
 pub data How : Type 0 where
   Served : How
   -- it is not mapped, or its protection does not allow the access
@@ -163,6 +173,7 @@ pub data How : Type 0 where
   -- the device did not give it
   Lost : How
 
+-- what the notes of a page are, by how it ends
 abbrev pub Touches : Setting → World → Ledger → Bool → Key → List Note → How → Type 0
 Touches m w l write k notes Served = IsTrue (is_allowed w write k) × Serves m l write k notes
 Touches m w l write k notes Denied = (is_allowed w write k ≡ false) × (notes ≡ [])
@@ -176,6 +187,7 @@ pub data End : Type 0 where
   Whole : End
   Stopped : (page : ℕ) (how : How) → End
 
+-- notes as events
 abbrev pub noting : List Note → List Event
 noting notes = map Noted notes
 
@@ -215,9 +227,11 @@ abbrev pub served : ℕ → ℕ → End → ℕ
 served a n Whole = n
 served a n (Stopped page how) = bytes_before a page
 
+-- a write to a slot that failed
 abbrev pub is_fail : Note → Bool
 is_fail (Failed s) = true
 is_fail _ = false
 
+-- how many writes to slots failed
 abbrev pub fails : List Note → ℕ
 fails notes = how_many is_fail notes

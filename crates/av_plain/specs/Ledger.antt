@@ -24,6 +24,7 @@ pub record Setting : Type 0 where
 
 -- ---- the ledger
 
+-- a process and a page
 abbrev pub Key : Type 0
 Key = ℕ × ℕ
 
@@ -57,24 +58,29 @@ pub record Ledger : Type 0 where
   pub inactive : List ℕ
   pub on : List (ℕ × Area)
 
+-- no entry, no cached slot, no list and no area
 abbrev pub fresh : Ledger
 fresh = record { entries = []; cache = []; flight = []; active = []; inactive = []; on = [] }
 
 -- ---- filters
 
+-- whether two slots are one
 abbrev pub same_slot : Slot → Slot → Bool
 same_slot a b = a.area == b.area && a.page == b.page
 
+-- whether an entry names the frame
 abbrev pub names_frame : ℕ → Entry → Bool
 names_frame f Zero = false
 names_frame f (InFrame g seen) = f == g
 names_frame f (InSlot s) = false
 
+-- whether an entry names the slot
 abbrev pub names_slot : Slot → Entry → Bool
 names_slot s Zero = false
 names_slot s (InFrame f seen) = false
 names_slot s (InSlot t) = same_slot s t
 
+-- the entry of a key, if it has one
 abbrev pub entry : Ledger → Key → Option Entry
 entry l k = find key_cmp k l.entries
 
@@ -82,30 +88,36 @@ entry l k = find key_cmp k l.entries
 abbrev pub walk : Ledger → ℕ → List Key
 walk l f = map (λ e. e.0) (filter (λ e. names_frame f e.1) l.entries)
 
--- how many entries name the frame, and how many the slot
+-- how many entries name the frame
 abbrev pub mapped : Ledger → ℕ → ℕ
 mapped l f = how_many (λ e. names_frame f e.1) l.entries
 
+-- and how many the slot
 abbrev pub slot_entries : Ledger → Slot → ℕ
 slot_entries l s = how_many (λ e. names_slot s e.1) l.entries
 
+-- the first cached pair that passes the test
 abbrev pub cached_by : (Cached → Bool) → List Cached → Option Cached
 cached_by test [] = None
 cached_by test (c ∷ cs) = if test c then Some c else cached_by test cs
 
--- the slot at which a frame is cached, and the frame at which a slot is
+-- the slot at which a frame is cached, if it is
 abbrev pub slot_of : Ledger → ℕ → Option Slot
 slot_of l f = option_map (λ (c : Cached). c.slot) (cached_by (λ c. f == c.frame) l.cache)
 
+-- and the frame at which a slot is cached
 abbrev pub frame_at : Ledger → Slot → Option ℕ
 frame_at l s = option_map (λ (c : Cached). c.frame) (cached_by (λ c. same_slot s c.slot) l.cache)
 
+-- whether the slot is cached
 abbrev pub is_cached : Ledger → Slot → Bool
 is_cached l s = list_any (λ (c : Cached). same_slot s c.slot) l.cache
 
+-- and whether its page changed since its last write began
 abbrev pub is_stale : Ledger → Slot → Bool
 is_stale l s = list_any (λ (c : Cached). same_slot s c.slot && c.stale) l.cache
 
+-- whether a write of the slot is in flight
 abbrev pub in_flight : Ledger → Slot → Bool
 in_flight l s = list_any (same_slot s) l.flight
 
@@ -117,12 +129,15 @@ slot_count l s = slot_entries l s + (if is_cached l s then 1 else 0)
 abbrev pub is_free : Ledger → ℕ → Bool
 is_free l f = mapped l f == 0 && is_none (slot_of l f)
 
+-- the free frames, rising
 abbrev pub free_frames : Setting → Ledger → List ℕ
 free_frames m l = filter (is_free l) (numbers 0 m.frames)
 
+-- whether a frame is free
 abbrev pub has_free : Setting → Ledger → Bool
 has_free m l = list_any (is_free l) (numbers 0 m.frames)
 
+-- there is a frame, and no entry names it
 abbrev pub is_unmapped : Ledger → Option ℕ → Bool
 is_unmapped l None = false
 is_unmapped l (Some f) = mapped l f == 0
@@ -133,17 +148,21 @@ is_orphan l s = is_unmapped l (frame_at l s) && not (in_flight l s) && slot_entr
 
 -- ---- slots of areas that are on
 
+-- the number of a device's pages, 0 where there is no such device
 abbrev pub size_of : List ℕ → ℕ → ℕ
 size_of [] k = 0
 size_of (n ∷ ns) k = if k == 0 then n else size_of ns (k - 1)
 
+-- whether the area is on
 abbrev pub is_on : Ledger → ℕ → Bool
 is_on l k = is_some (find nat_cmp k l.on)
 
+-- the header has the page as a slot: it is one of its pages, and not bad
 abbrev pub is_header_slot : Slot → Option Header → Bool
 is_header_slot s None = false
 is_header_slot s (Some h) = nat_lt s.page h.pages && not (list_any (λ b. b == s.page) h.bad)
 
+-- where headers are told, the area's header has it as a slot
 abbrev pub may_be_slot : Slot → Option (ℕ → Option Header) → Bool
 may_be_slot s None = true
 may_be_slot s (Some header) = is_header_slot s (header s.area)
@@ -152,14 +171,16 @@ may_be_slot s (Some header) = is_header_slot s (header s.area)
 abbrev pub is_usable : Setting → Slot → Bool
 is_usable m s = may_be_slot s m.headers
 
+-- a slot of an area that is on, which nothing names
 abbrev pub is_free_slot : Setting → Ledger → Slot → Bool
 is_free_slot m l s =
     is_on l s.area && nat_lt 0 s.page && nat_lt s.page (size_of m.sizes s.area) && slot_count l s == 0 && is_usable m s
 
--- the slots of an area in use, and how many are free
+-- the slots of an area in use, rising
 abbrev pub slots_in_use : Setting → Ledger → ℕ → List ℕ
 slots_in_use m l k = filter (λ page. nat_lt 0 (slot_count l (record { area = k; page = page }))) (numbers 1 (size_of m.sizes k - 1))
 
+-- how many slots of the area are free
 abbrev pub free_slots : Setting → Ledger → ℕ × Area → ℕ
 free_slots m l a = a.1.slots - length (slots_in_use m l a.0)
 

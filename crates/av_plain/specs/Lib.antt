@@ -8,4 +8,8 @@ pub mod Step
 pub mod Choice
 pub mod Transcript
 pub mod Sound
+pub mod Says
 pub mod Stands
+pub mod FreeList
+pub mod Determined
+pub mod Rows

@@ -42,9 +42,11 @@ pub record Spared : Type 0 where
   pub pinned : Option ℕ
   pub closing : Option ℕ
 
+-- nothing is left alone
 abbrev pub nothing_spared : Spared
 nothing_spared = record { pinned = None; closing = None }
 
+-- only the pinned frame is left alone, if there is one
 abbrev pub pinning : Option ℕ → Spared
 pinning pinned = record { pinned = pinned; closing = None }
 

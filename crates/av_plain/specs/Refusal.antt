@@ -8,6 +8,7 @@ use Rattle.av_trace.specs.declared.command.Command.TheVariants.{Spawn, Mmap, Rea
 use Rattle.av_plain.specs.World.{World, pages_of, lives}
 use Rattle.av_plain.specs.Ledger.{Ledger, Setting}
 
+-- tests in order, each with the error that it leads to
 abbrev pub Tests : Type 0
 Tests = List (Bool × Errno)
 
@@ -15,9 +16,11 @@ Tests = List (Bool × Errno)
 abbrev pub most_processes : ℕ
 most_processes = 4096
 
+-- the process does not live
 abbrev pub no_process : World → ℕ → Bool × Errno
 no_process w p = (not (lives w p), Esrch)
 
+-- as many processes live as may
 abbrev pub too_many : World → Bool × Errno
 too_many w = (nat_le most_processes (length w), Eagain)
 
@@ -29,6 +32,7 @@ overflows len = nat_le (2 ^ 64) (4096 * pages_of len)
 abbrev pub is_too_long : ℕ → Bool
 is_too_long len = overflows len || nat_lt top_page (pages_of len)
 
+-- the tests of each command
 abbrev pub tests : Setting → World → Ledger → Command → Tests
 tests m w l (Spawn p) = (lives w p, Eexist) ∷ too_many w ∷ []
 tests m w l (Mmap p len prot place) = no_process w p ∷ (len == 0, Einval) ∷ (is_too_long len, Enomem) ∷ []

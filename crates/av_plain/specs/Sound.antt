@@ -1,27 +1,30 @@
 -- When a ledger is sound. All is said by counts and by what a key has.
-use Rattle.std.specs.Prelude.{◌≡◌, ℕ, ◌+◌, ◌<◌, ◌≤◌, min, Bool, true, false, ◌&&◌, ◌==◌, nat_lt, if◌then◌else◌, Option, Some, None, is_some, T, length}
+use Rattle.std.specs.Prelude.{◌≡◌, ℕ, ◌+◌, ◌<◌, ◌≤◌, min, Bool, true, false, ◌&&◌, ◌==◌, nat_lt, Some, is_some, T, length}
 use Rattle.std.specs.Ordering.{nat_cmp}
 use Rattle.std.specs.FinMap.Entries.{is_sorted}
 use Rattle.av_vma.specs.declared.slot.Slot.{Slot}
 use Rattle.av_vma.specs.Ranges.{how_many}
 use Rattle.av_plain.specs.World.{World, pages}
 use Rattle.av_plain.specs.Refusal.{most_processes}
-use Rattle.av_plain.specs.Ledger.{is_on, size_of, is_usable, Ledger, Setting, Key, key_cmp, Entry, Zero, InFrame, InSlot, Cached, entry, mapped, slot_entries, same_slot}
+use Rattle.av_plain.specs.Ledger.{is_on, size_of, is_usable, Ledger, Setting, key_cmp, Entry, Zero, InFrame, InSlot, Cached, entry, mapped, slot_entries, same_slot}
 
--- how often a slot, a frame, and both as one pair are cached
+-- how often a slot is cached
 abbrev pub slots : Ledger → Slot → ℕ
 slots l s = how_many (λ (c : Cached). same_slot s c.slot) l.cache
 
+-- how often a frame caches a slot
 abbrev pub holders : Ledger → ℕ → ℕ
 holders l f = how_many (λ (c : Cached). f == c.frame) l.cache
 
+-- how often the slot is cached at this frame
 abbrev pub pairs : Ledger → Slot → ℕ → ℕ
 pairs l s f = how_many (λ (c : Cached). same_slot s c.slot && f == c.frame) l.cache
 
--- how often a slot stands in flight, and a frame in the lists
+-- how often a slot stands in flight
 abbrev pub flights : Ledger → Slot → ℕ
 flights l s = how_many (same_slot s) l.flight
 
+-- how often the frame stands in the two lists
 abbrev pub listings : Ledger → ℕ → ℕ
 listings l f = how_many (λ g. f == g) l.active + how_many (λ g. f == g) l.inactive
 
@@ -41,18 +44,26 @@ kin l (InSlot s) (InSlot t) = same_slot s t
 
 -- what holds after each event. excuse: the slots that may be without a use until their drop
 pub record IsSoundBut (m : Setting) (excuse : Slot → ℕ) (l : Ledger) : Type 0 where
+  -- entries rise by key
   pub in_order : T (is_sorted key_cmp l.entries)
+  -- a slot is cached once at most, and a frame caches one slot at most
   pub slots_once : (s : Slot) → slots l s ≤ 1
   pub frames_once : (f : ℕ) → holders l f ≤ 1
+  -- a frame in use is one of the machine's, and stands once in the lists; a free one does not
   pub in_range : (f : ℕ) → 0 < uses l f → f < m.frames
   pub listed : (f : ℕ) → listings l f ≡ min 1 (uses l f)
+  -- a slot in flight is cached, and stands there once
   pub flying : (s : Slot) → flights l s ≤ slots l s
+  -- a cached slot is in flight, or an entry names it or its frame
   pub used : (s : Slot) (f : ℕ) → 0 < pairs l s f → 0 < flights l s + slot_entries l s + mapped l f + excuse s
+  -- two entries of one process name different memories
   pub one : (p a b : ℕ) (d e : Entry) → entry l (p, a) ≡ Some d → entry l (p, b) ≡ Some e → kin l d e ≡ true → a ≡ b
 
+-- no slot is excused
 abbrev pub no_excuse : Slot → ℕ
 no_excuse s = 0
 
+-- what holds between commands
 abbrev pub IsSound : Setting → Ledger → Type 0
 IsSound m l = IsSoundBut m no_excuse l
 
@@ -64,7 +75,7 @@ AtPages w l = (p page : ℕ) → is_some (entry l (p, page)) ≡ true → is_som
 abbrev pub count : Ledger → Slot → ℕ
 count l s = slots l s + slot_entries l s
 
--- a slot of an area that is on, as D8 says it, whether in use or not
+-- a slot of an area that is on, whether in use or not
 abbrev pub is_there : Setting → Ledger → Slot → Bool
 is_there m l s = is_on l s.area && nat_lt 0 s.page && nat_lt s.page (size_of m.sizes s.area) && is_usable m s
 

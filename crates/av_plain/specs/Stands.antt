@@ -24,6 +24,7 @@ pub record Range : Type 0 where
   pub to : ℕ
   pub prot : Prot
 
+-- what the parts of the kernel answer
 pub record View : Type 0 where
   -- the frames: how many there are, their bytes, how many entries name each, the slot of each and whether it is dirty, and the free ones in the order in which they are taken
   pub frames : ℕ
@@ -49,9 +50,11 @@ Device = Option (Slot → ℕ → ℕ)
 
 -- ---- the frames
 
+-- whether the frame is in the list
 abbrev pub is_in : ℕ → List ℕ → Bool
 is_in f fs = list_any (λ g. f == g) fs
 
+-- each frame has the counts, the slot and the freeness that the ledger gives it
 pub record FramesStand (m : Setting) (v : View) (l : Ledger) : Type 0 where
   pub frames : v.frames ≡ m.frames
   pub maps : (f : ℕ) → v.maps f ≡ mapped l f
@@ -61,6 +64,7 @@ pub record FramesStand (m : Setting) (v : View) (l : Ledger) : Type 0 where
 
 -- ---- the tables
 
+-- the entry of a table's place
 abbrev pub entry_of : Option Pte → Option Entry
 entry_of None = None
 entry_of (Some t) = Some t.entry
@@ -72,6 +76,7 @@ pub record TablesStand (v : View) (l : Ledger) : Type 0 where
 
 -- ---- swap
 
+-- the swap areas have the cache, the counts, the flight and the numbers of the ledger
 pub record SwapStands (v : View) (l : Ledger) : Type 0 where
   pub finds : (s : Slot) → v.find s ≡ frame_at l s
   pub counts : (s : Slot) → v.entries s ≡ slot_entries l s
@@ -91,6 +96,7 @@ AreApart [] = Unit {0}
 AreApart (a ∷ []) = a.from < a.to
 AreApart (a ∷ b ∷ areas) = (a.from < a.to) × (a.to ≤ b.from) × AreApart (b ∷ areas)
 
+-- and so of a process that may not live
 abbrev pub prot_of : Option (List Range) → ℕ → Option Prot
 prot_of None page = None
 prot_of (Some areas) page = prot_in areas page
@@ -132,6 +138,7 @@ IsClean v device s None = Unit {0}
 IsClean v None s (Some f) = Unit {0}
 IsClean v (Some at) s (Some f) = (i : ℕ) → i < 4096 → at s i ≡ v.bytes f i
 
+-- frames and devices hold what the pages claim
 pub record BytesStand (v : View) (device : Device) (w : World) (l : Ledger) : Type 0 where
   pub kept : (p page : ℕ) → IsKept v device l (entry l (p, page)) (pages w p page)
   pub clean : (s : Slot) → is_stale l s ≡ false → in_flight l s ≡ false → IsClean v device s (frame_at l s)
@@ -143,6 +150,7 @@ abbrev pub HasNumbers : Area → Option Header → Type 0
 HasNumbers area None = ⊥
 HasNumbers area (Some h) = (area.slots ≡ h.slots) × (area.bad ≡ length h.bad)
 
+-- each area that is on has the numbers of its header
 abbrev pub HeadersStand : Setting → Ledger → Type 0
 HeadersStand m l = (k : ℕ) → IfSome (find nat_cmp k l.on) (λ area. IfSome m.headers (λ headers. HasNumbers area (headers k)))
 

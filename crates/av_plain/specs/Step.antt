@@ -15,7 +15,7 @@ use Rattle.av_trace.specs.declared.command.Command.{Command}
 use Rattle.av_trace.specs.declared.command.Command.TheVariants.{Spawn, Mmap, Read, Write}
 use Rattle.av_plain.specs.World.{World, Process, Page, nothing, zeros, page_of, pages_of, address_of, pages, is_mapped, set_process, replaced, written, Shows}
 use Rattle.av_plain.specs.Ledger.{Ledger, Setting, Entry, entry, names_slot}
-use Rattle.av_plain.specs.Event.{Event, Noted, after, after_all, notes_of}
+use Rattle.av_plain.specs.Event.{Event, Noted, after, notes_of}
 use Rattle.av_plain.specs.Fault.{Accesses, End, Whole, Stopped, Served, Denied, Starved, Lost, served, touched, fails}
 use Rattle.av_plain.specs.Refusal.{tests, refusal}
 
@@ -32,6 +32,7 @@ IsMapAt answer (Some page) = answer ≡ MapAt (address_of page)
 
 -- ---- the memories after a command
 
+-- there is an entry, and it names the slot
 abbrev pub is_of_slot : Slot → Option Entry → Bool
 is_of_slot s None = false
 is_of_slot s (Some e) = names_slot s e
@@ -44,6 +45,7 @@ unknown p = record p { bytes = λ _. None }
 abbrev pub unclaimed : Ledger → Slot → World → World
 unclaimed l s w = map (λ (e : ℕ × Process). (e.0, λ page. if is_of_slot s (entry l (e.0, page)) then option_map unknown (e.1 page) else e.1 page)) w
 
+-- what an event makes unclaimed: a load does, the others do not
 abbrev pub told : Ledger → Event → World → World
 told l (Noted (Loaded s f)) w = unclaimed l s w
 told l event w = w
@@ -53,6 +55,7 @@ abbrev pub forgotten : World → Ledger → List Event → World
 forgotten w l [] = w
 forgotten w l (e ∷ es) = forgotten (told l e w) (after l e) es
 
+-- the memories after the loads of a command: where the devices tell their pages, nothing is forgotten
 abbrev pub with_loads : Setting → World → Ledger → List Event → World
 with_loads m w l events = if is_some m.headers then w else forgotten w l events
 
@@ -119,6 +122,7 @@ pub record IsLegal (m : Setting) (w : World) (l : Ledger) (command : Command) (r
 
 -- ---- what only a fault of the device explains
 
+-- an answer that only a fault explains
 abbrev pub told_faults : Answer → ℕ
 told_faults (Bus k shown) = 1
 told_faults (Refused Eio) = 1

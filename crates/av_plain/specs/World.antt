@@ -42,9 +42,11 @@ nothing page = None
 abbrev pub zeros : Prot → Page
 zeros prot = record { prot = prot; bytes = λ _. Some 0 }
 
+-- the process with this number, if it lives
 abbrev pub process : World → ℕ → Option Process
 process w p = find nat_cmp p w
 
+-- whether it lives
 abbrev pub lives : World → ℕ → Bool
 lives w p = is_some (process w p)
 
@@ -52,6 +54,7 @@ lives w p = is_some (process w p)
 abbrev pub pages : World → ℕ → Process
 pages w p page = option_and_then (λ q. q page) (process w p)
 
+-- whether the process has the page mapped
 abbrev pub is_mapped : Process → ℕ → Bool
 is_mapped q page = is_some (q page)
 

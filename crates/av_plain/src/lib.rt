@@ -1,11 +1,69 @@
-//! The definitions that every other crate is judged by: the plain memories, the ledger, and what a legal reply is.
+//! The definitions that every other crate is judged by: the plain memories, the ledger of frames and slots, and
+//! what a legal reply is. They stand in `specs`, from `World` to `Stands`; here are the laws that they keep.
+//!
+//! No function does anything. Each one's contract is a law, proved of the definitions alone.
 #![tactic(auto)]
 
-ghost use Rattle.std.specs.Prelude.{◌≡◌};
-ghost use Rattle.av_plain.specs.Transcript.{Exchange, State, IsRun};
-ghost use Rattle.av_plain.specs.Stands.{Stands};
+mod rows;
 
-/// Nothing yet.
-pub fn none()
-    ensures { (e : Exchange) → e ≡ e }
+ghost use Rattle.std.specs.Prelude.{◌≡◌, ℕ, ◌+◌, false, List, []};
+ghost use Rattle.av_trace.specs.declared.command.Command.{Command};
+ghost use Rattle.av_trace.specs.declared.reply.OutOf.{OutOf};
+ghost use Rattle.av_trace.specs.declared.reply.Answer.TheVariants.{Oom};
+ghost use Rattle.av_trace.specs.declared.reply.Reply.{Reply};
+ghost use Rattle.av_plain.specs.World.{World};
+ghost use Rattle.av_plain.specs.Ledger.{Ledger, Setting, fresh};
+ghost use Rattle.av_plain.specs.Event.{Event, after_all};
+ghost use Rattle.av_plain.specs.Step.{IsLegal, next_world};
+ghost use Rattle.av_plain.specs.Transcript.{Exchange, State, IsLegalFrom, IsStep, IsRun, at_first};
+ghost use Rattle.av_plain.specs.Sound.{AllSound};
+ghost use Rattle.av_plain.specs.Says.{SaysSound};
+ghost use Rattle.av_plain.specs.FreeList.{ListsFree};
+ghost use Rattle.av_plain.specs.Determined.{Tells, IsClaimed, is_bus, NoBus, SameCommands};
+
+pub use rows::{
+    a_page_in_writeback_is_sound, changed_replies_are_refused, changed_replies_of_swap_are_refused,
+    changed_runs_are_refused, ledger_rows_lead, rows_run, shared_rows_run, swap_rows_run,
+};
+
+/// Sound memories and a sound ledger are so after every legal reply, a refusal too.
+pub fn soundness_stays()
+    ensures { (m : Setting) (w : World) (l : Ledger) (command : Command) (reply : Reply) (events : List Event) → AllSound m w l → IsLegal m w l command reply events → AllSound m (next_world m w l events command reply.answer) (after_all l events) }
+{}
+
+/// What a legal transcript leaves, from no process on, is sound.
+pub fn transcripts_are_sound()
+    ensures { (m : Setting) (exchanges : List Exchange) (w : World) (l : Ledger) → IsLegalFrom m [] fresh exchanges w l → AllSound m w l }
+{}
+
+/// A run, in which also the order of the free frames counts, is a legal transcript.
+pub fn runs_are_legal()
+    ensures { (m : Setting) (old : State) (exchanges : List Exchange) (new : State) → IsRun m old exchanges new → IsLegalFrom m old.world old.ledger exchanges new.world new.ledger }
+{}
+
+/// Soundness is kept by counts. In plain sentences it says this, and so that no more entries name a frame than
+/// processes live.
+pub fn what_sound_says()
+    ensures { (m : Setting) (w : World) (l : Ledger) → AllSound m w l → SaysSound m w l }
+{}
+
+/// The three numbers of an out-of-memory are all frames: pinned, not cached, and cached.
+pub fn numbers_add_up()
+    ensures { (m : Setting) (w : World) (l : Ledger) (command : Command) (reply : Reply) (events : List Event) (k : ℕ) (out : OutOf) (shown : List ℕ) → AllSound m w l → IsLegal m w l command reply events → reply.answer ≡ Oom k out shown → out.pinned + out.noslot + out.fault ≡ m.frames }
+{}
+
+/// Where the devices tell their pages, each byte of the memories is claimed, and no fault of a device is reported, a
+/// command has one reply, and leaves one state: nothing is left to the kernel's choice.
+pub fn replies_are_determined()
+    ensures { (m : Setting) (old new other : State) (command : Command) (reply reply' : Reply) → Tells m → IsClaimed old.world → is_bus reply.answer ≡ false → is_bus reply'.answer ≡ false → IsStep m old command reply new → IsStep m old command reply' other → (reply ≡ reply') × (new ≡ other) }
+{}
+
+/// So there is one run of some commands, from nothing on.
+pub fn runs_are_determined()
+    ensures { (m : Setting) (exchanges exchanges' : List Exchange) (new other : State) → Tells m → SameCommands exchanges exchanges' → NoBus exchanges → NoBus exchanges' → IsRun m (at_first m) exchanges new → IsRun m (at_first m) exchanges' other → (exchanges ≡ exchanges') × (new ≡ other) }
+{}
+
+/// In a run the list of free frames has each free frame of the machine once, and no other number.
+pub fn runs_list_free_frames()
+    ensures { (m : Setting) (exchanges : List Exchange) (new : State) → IsRun m (at_first m) exchanges new → ListsFree m new.ledger new.free }
 {}

@@ -1,2 +1,3 @@
-pub mod Ranges
+pub mod Areas
 pub mod Gap
+pub mod Ranges

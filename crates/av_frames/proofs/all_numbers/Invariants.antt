@@ -1,0 +1,7 @@
+use Rattle.std.proofs.Common.{◌≡◌, ◌≤◌}
+use Rattle.std.specs.VecDeque.{deque_len, deque_capacity}
+use Rattle.av_vma.specs.Ranges.{numbers}
+use Rattle.av_frames.proofs.all_numbers.Given as goal
+
+abbrev pub invariant-loop-i : goal.invariant-loop-i
+invariant-loop-i l = (l.numbers.items ≡ numbers 0 l.i) × (deque_len l.numbers ≡ l.i) × (l.count ≤ deque_capacity l.numbers)

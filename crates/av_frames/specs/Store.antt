@@ -1,0 +1,74 @@
+-- What is seen of the frames: a free list, and for each frame its bytes, how many entries name it, its home, the slot at which it is cached, and whether it is dirty.
+use Rattle.std.specs.Prelude.{◌≡◌, ℕ, ◌+◌, ◌-◌, ◌^◌, ◌<◌, ◌≤◌, Bool, true, false, ◌==◌, if◌then◌else◌, List, [], length, slice_index, slice_index_or, Option, None}
+use Rattle.std.specs.List.{list_any}
+use Rattle.av_vma.specs.declared.slot.Slot.{Slot}
+use Rattle.av_vma.specs.Ranges.{how_many, within, numbers}
+
+-- whether a frame is in a list
+abbrev pub is_in : ℕ → List ℕ → Bool
+is_in f fs = list_any (λ g. f == g) fs
+
+-- the value of `Frames`: a value has to be data, so each is a list by frame
+pub record Store : Type 0 where
+  pub free : List ℕ
+  pub bytes : List (List ℕ)
+  pub maps : List ℕ
+  pub homes : List (Option (ℕ × ℕ))
+  pub dirty : List Bool
+  pub slots : List (Option Slot)
+
+-- the same as functions of the frame's number; of bytes, also of the place in the page
+pub record Seen : Type 0 where
+  pub count : ℕ
+  pub free : List ℕ
+  pub bytes : ℕ → ℕ → ℕ
+  pub maps : ℕ → ℕ
+  pub home : ℕ → Option (ℕ × ℕ)
+  pub dirty : ℕ → Bool
+  pub slot : ℕ → Option Slot
+
+-- what the lists of a store say of each frame
+abbrev pub seen : Store → Seen
+seen s = record {
+  count = length s.bytes;
+  free = s.free;
+  bytes = λ f i. slice_index (slice_index_or s.bytes f []) i;
+  maps = λ f. slice_index s.maps f;
+  home = λ f. slice_index_or s.homes f None;
+  dirty = λ f. slice_index_or s.dirty f false;
+  slot = λ f. slice_index_or s.slots f None;
+}
+
+-- n frames that are all free, full of zeros, and named by nothing
+abbrev pub fresh : ℕ → Seen
+fresh n = record {
+  count = n;
+  free = numbers 0 n;
+  bytes = λ f i. 0;
+  maps = λ f. 0;
+  home = λ f. None;
+  dirty = λ f. false;
+  slot = λ f. None;
+}
+
+-- bytes with a piece laid over them
+abbrev pub overlaid : ℕ → List ℕ → (ℕ → ℕ) → ℕ → ℕ
+overlaid at piece bytes i = if within at (length piece) i then slice_index piece (i - at) else bytes i
+
+-- the test that a flag stands
+abbrev pub itself : Bool → Bool
+itself b = b
+
+-- the lists of `Frames` fit together: one item for each frame, room in the free list for all, and a flag for each frame in use
+pub record IsWhole (frees : List ℕ) (frees_len frees_room : ℕ) (pages : List (List ℕ)) (flags : List Bool) (counts : List ℕ) (owners : List (Option (ℕ × ℕ))) (marks : List Bool) (places : List (Option Slot)) : Type 0 where
+  pub few : length pages < 2 ^ 32
+  pub used : length flags ≡ length pages
+  pub maps : length counts ≡ length pages
+  pub homes : length owners ≡ length pages
+  pub dirty : length marks ≡ length pages
+  pub slots : length places ≡ length pages
+  pub len : frees_len ≡ length frees
+  pub room : length pages ≤ frees_room
+  -- each frame is used or stands once in the free list
+  pub total : length frees + how_many itself flags ≡ length pages
+  pub once : (f : ℕ) → how_many (λ g. f == g) frees ≡ (if slice_index_or flags f true then 0 else 1)

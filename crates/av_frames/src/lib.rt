@@ -1,0 +1,264 @@
+//! The frames of physical memory: which are free, their bytes, and what is kept of each (Linux's `struct page`).
+#![tactic(auto)]
+
+#[cfg(test)]
+mod tests;
+
+ghost use Rattle.std.specs.Prelude.{◌≡◌, ℕ, ◌+◌, ◌<◌, ◌≤◌, ◌^◌, ◌-◌, ◌∷◌, [], length, slice_index, MatchOption, IfOk, true, false, replicate, not};
+ghost use Rattle.av_frames.specs.Store.{seen, fresh, overlaid, is_in};
+ghost use Rattle.std.specs.VecDeque.{deque_len, deque_capacity};
+ghost use Rattle.av_vma.specs.Ranges.{numbers, with_at};
+
+use av_vma::Slot;
+use std::alloc::{AllocError, Global};
+use std::collections::VecDeque;
+use std::marker::Model;
+
+/// A fixed number of frames of 4096 bytes, numbered from 0. Only `new` takes memory.
+#[derive(Drop)]
+pub struct Frames {
+    // The first is taken next. There is room for every frame, so that giving one back takes no memory.
+    free: VecDeque<u32>,
+    bytes: Vec<[u8; 4096]>,
+    // Whether each frame is out of `free`, so that no one has to search it.
+    used: Vec<bool>,
+    maps: Vec<u64>,
+    homes: Vec<Option<(u64, u64)>>,
+    dirty: Vec<bool>,
+    slots: Vec<Option<Slot>>,
+}
+
+impl Model for Frames {
+    ghost use Rattle.std.specs.Prelude.{length};
+    ghost use Rattle.std.specs.VecDeque.{deque_len, deque_capacity};
+    ghost use Rattle.av_frames.specs.Store.{Store, IsWhole};
+
+    ghost Value = { Store };
+
+    ghost view = { λ a. record { free = a.free.items; bytes = a.bytes.items; maps = a.maps.items; homes = a.homes.items; dirty = a.dirty.items; slots = a.slots.items } };
+
+    ghost invariant = { λ a. IsWhole a.free.items (deque_len a.free) (deque_capacity a.free) a.bytes.items a.used.items a.maps.items a.homes.items a.dirty.items a.slots.items };
+}
+
+impl Frames {
+    /// This many frames, all free in order of their numbers, full of zeros, and named by no entry.
+    pub fn new(alloc: Global, count: u32) -> Result<Frames, AllocError>
+        ensures { IfOk result (λ frames. seen frames ≡ fresh count) }
+    {
+        let len = count as usize;
+        Ok(Frames {
+            free: all_numbers(alloc, count)?,
+            bytes: filled(alloc, blank(), len)?,
+            used: filled(alloc, false, len)?,
+            maps: filled(alloc, 0, len)?,
+            homes: filled(alloc, None, len)?,
+            dirty: filled(alloc, false, len)?,
+            slots: filled(alloc, None, len)?,
+        })
+    }
+
+    /// Takes the first free frame. None exactly where no frame is free.
+    pub fn take(&mut self) -> Option<u32>
+        ensures { MatchOption result
+            ((self.old.free ≡ []) × (seen self.new ≡ seen self.old))
+            (λ f. (self.old.free ≡ f ∷ self.new.free) × (f < (seen self.old).count) × (is_in f self.new.free ≡ false) × (seen self.new ≡ record (seen self.old) { free = self.new.free })) }
+    {
+        let frame = self.free.pop_front()?;
+        self.used[frame as usize] = true;
+        Some(frame)
+    }
+
+    /// Puts a frame in front of the free ones.
+    pub fn give(&mut self, frame: u32)
+        requires in_range { frame < (seen self.old).count }
+        requires not_free { is_in frame self.old.free ≡ false }
+        ensures { seen self.new ≡ record (seen self.old) { free = frame ∷ self.old.free } }
+    {
+        self.used[frame as usize] = false;
+        self.free.push_front_reserved(frame);
+    }
+
+    /// How many frames there are, free or not.
+    pub fn count(&self) -> u32
+        ensures { result ≡ length self.now.bytes }
+    {
+        self.bytes.len() as u32
+    }
+
+    /// How many entries name the frame.
+    pub fn maps(&self, frame: u32) -> u64
+        requires { frame < (seen self.now).count }
+        ensures { result ≡ (seen self.now).maps frame }
+    {
+        self.maps[frame as usize]
+    }
+
+    /// One more entry names the frame.
+    pub fn map_up(&mut self, frame: u32)
+        requires in_range { frame < (seen self.old).count }
+        requires room { (seen self.old).maps frame < 2 ^ 64 - 1 }
+        ensures { seen self.new ≡ record (seen self.old) { maps = with_at frame ((seen self.old).maps frame + 1) (seen self.old).maps } }
+    {
+        self.maps[frame as usize] += 1;
+    }
+
+    /// One entry fewer names the frame.
+    pub fn map_down(&mut self, frame: u32)
+        requires in_range { frame < (seen self.old).count }
+        requires some { 0 < (seen self.old).maps frame }
+        ensures { seen self.new ≡ record (seen self.old) { maps = with_at frame ((seen self.old).maps frame - 1) (seen self.old).maps } }
+    {
+        self.maps[frame as usize] -= 1;
+    }
+
+    /// Where the entries of the frame are found: an anon_vma's number, and the page's linear index there.
+    pub fn home(&self, frame: u32) -> Option<(u64, u64)>
+        requires { frame < (seen self.now).count }
+        ensures { result ≡ (seen self.now).home frame }
+    {
+        self.homes[frame as usize]
+    }
+
+    /// Sets the frame's home.
+    pub fn set_home(&mut self, frame: u32, home: Option<(u64, u64)>)
+        requires { frame < (seen self.old).count }
+        ensures { seen self.new ≡ record (seen self.old) { home = with_at frame home (seen self.old).home } }
+    {
+        self.homes[frame as usize] = home;
+    }
+
+    /// Whether the frame's bytes may differ from those in its slot.
+    pub fn dirty(&self, frame: u32) -> bool
+        requires { frame < (seen self.now).count }
+        ensures { result ≡ (seen self.now).dirty frame }
+    {
+        self.dirty[frame as usize]
+    }
+
+    /// Sets whether they may differ.
+    pub fn set_dirty(&mut self, frame: u32, dirty: bool)
+        requires { frame < (seen self.old).count }
+        ensures { seen self.new ≡ record (seen self.old) { dirty = with_at frame dirty (seen self.old).dirty } }
+    {
+        self.dirty[frame as usize] = dirty;
+    }
+
+    /// The slot at which the frame is in the swap cache, if it is there.
+    pub fn slot(&self, frame: u32) -> Option<Slot>
+        requires { frame < (seen self.now).count }
+        ensures { result ≡ (seen self.now).slot frame }
+    {
+        self.slots[frame as usize]
+    }
+
+    /// Sets that slot.
+    pub fn set_slot(&mut self, frame: u32, slot: Option<Slot>)
+        requires { frame < (seen self.old).count }
+        ensures { seen self.new ≡ record (seen self.old) { slot = with_at frame slot (seen self.old).slot } }
+    {
+        self.slots[frame as usize] = slot;
+    }
+
+    /// How many frames are free.
+    pub fn free(&self) -> u32
+        ensures { result ≡ length self.now.free }
+    {
+        self.free.len() as u32
+    }
+
+    /// Whether a frame is free.
+    pub fn is_free(&self, frame: u32) -> bool
+        requires { frame < (seen self.now).count }
+        ensures { result ≡ is_in frame self.now.free }
+    {
+        !self.used[frame as usize]
+    }
+
+    /// The 4096 bytes of a frame.
+    pub fn bytes(&self, frame: u32) -> &[u8]
+        requires { frame < (seen self.now).count }
+        ensures long { length result.now ≡ 4096 }
+        ensures bytes { (i : ℕ) → slice_index result.now i ≡ (seen self.now).bytes frame i }
+    {
+        &self.bytes[frame as usize]
+    }
+
+    /// Writes a piece over a frame's bytes from `at` on.
+    pub fn write_at(&mut self, frame: u32, at: usize, piece: &[u8])
+        requires in_range { frame < (seen self.old).count }
+        requires fits { at + length piece.now ≤ 4096 }
+        ensures { seen self.new ≡ record (seen self.old) { bytes = with_at frame (overlaid at piece.now ((seen self.old).bytes frame)) (seen self.old).bytes } }
+    {
+        overlay(&mut self.bytes[frame as usize], at, piece);
+    }
+
+    /// Copies the bytes of one frame to another.
+    pub fn copy(&mut self, from: u32, to: u32)
+        requires { (from < (seen self.old).count) × (to < (seen self.old).count) }
+        ensures { seen self.new ≡ record (seen self.old) { bytes = with_at to ((seen self.old).bytes from) (seen self.old).bytes } }
+    {
+        self.bytes[to as usize] = self.bytes[from as usize];
+    }
+
+    /// Makes each byte of a frame zero.
+    pub fn zero(&mut self, frame: u32)
+        requires { frame < (seen self.old).count }
+        ensures { seen self.new ≡ record (seen self.old) { bytes = with_at frame (λ i. 0) (seen self.old).bytes } }
+    {
+        self.bytes[frame as usize] = blank();
+    }
+
+    /// Makes a frame's bytes those of a page, as it was read from a device.
+    pub fn load(&mut self, frame: u32, page: &[u8])
+        requires in_range { frame < (seen self.old).count }
+        requires long { length page.now ≡ 4096 }
+        ensures { seen self.new ≡ record (seen self.old) { bytes = with_at frame (slice_index page.now) (seen self.old).bytes } }
+    {
+        replace(&mut self.bytes[frame as usize], page);
+    }
+}
+
+/// A page of zeros.
+fn blank() -> [u8; 4096]
+    ensures { result ≡ replicate 4096 0 }
+{
+    [0; 4096]
+}
+
+/// Writes a piece over a page from `at` on.
+fn overlay(page: &mut [u8; 4096], at: usize, piece: &[u8])
+    requires { at + length piece.now ≤ 4096 }
+    ensures over { (i : ℕ) → slice_index page.new i ≡ overlaid at piece.now (slice_index page.old) i }
+    ensures long { length page.new ≡ 4096 }
+{
+    page[at..at + piece.len()].copy_from_slice(piece);
+}
+
+/// Makes a page the given bytes.
+fn replace(page: &mut [u8; 4096], bytes: &[u8])
+    requires { length bytes.now ≡ 4096 }
+    ensures { page.new ≡ bytes.now }
+{
+    page.copy_from_slice(bytes);
+}
+
+/// The same value, this many times.
+fn filled<T: Copy>(alloc: Global, value: T, count: usize) -> Result<Vec<T>, AllocError>
+    ensures { IfOk result (λ v. v.items ≡ replicate count value) }
+{
+    let mut values = Vec::new(alloc);
+    values.resize(count, value)?;
+    Ok(values)
+}
+
+/// The numbers below the count, with the room that they take.
+#[tactic(auto, using(crate::proofs::Fresh::numbers_next))]
+fn all_numbers(alloc: Global, count: u32) -> Result<VecDeque<u32>, AllocError>
+    ensures { IfOk result (λ q. (q.items ≡ numbers 0 count) × (deque_len q ≡ count) × (count ≤ deque_capacity q)) }
+{
+    let mut numbers = VecDeque::with_capacity(alloc, count as usize)?;
+    for i in 0..count {
+        numbers.push_back(i)?;
+    }
+    Ok(numbers)
+}

@@ -1,0 +1,180 @@
+-- An access goes on by one page, or stops at it.
+use Rattle.std.proofs.Common.{◌≡◌, ℕ, ◌+◌, ◌-◌, ◌*◌, ◌%◌, ◌<◌, ◌≤◌, Bool, true, false, List, [], ◌∷◌, ◌++◌, length, Option, Some, None, zero, suc, refl, sym, ap, subst, ◌∙◌, arith}
+use Rattle.std.proofs.lemmas.List.{append-nil, append_assoc}
+use Rattle.av_trace.specs.declared.reply.Note.{Note}
+use Rattle.av_vma.specs.Ranges.{numbers}
+use Rattle.av_plain.specs.World.{World, lives, pages}
+use Rattle.av_plain.specs.Ledger.{Ledger, Setting}
+use Rattle.av_plain.specs.Event.{Event, Used, after_all, notes_of}
+use Rattle.av_plain.specs.Fault.{Accesses, End, Whole, Stopped, How, Served, Denied, Starved, Lost, Touches, happening, noting, is_allowed, touched}
+use Rattle.av_plain.specs.Step.{stored, Reads}
+use Rattle.av_plain.specs.Choice.{ChoosesAll}
+use Rattle.av_plain.specs.Transcript.{State}
+use Rattle.av_plain.proofs.AccessLaws.{after_all-append, notes_of-append, notes_of-noting, chooses-append, accesses-append, alike-all}
+use Rattle.av_kernel.specs.declared.mem.Mem.{Mem}
+use Rattle.av_kernel.specs.declared.touched.Stop.{Stop}
+use Rattle.av_kernel.specs.declared.touched.Stop.TheVariants.{Segv, Oom}
+use Rattle.av_kernel.specs.View.{setting, count}
+use Rattle.av_kernel.specs.Page.{IsPageStep, ShowsPiece, how_stopped, world_after}
+use Rattle.av_kernel.specs.declared.access.Piece.{Piece}
+use Rattle.av_kernel.specs.Access.{IsAccess, IsPiece, world_served}
+use Rattle.av_kernel.proofs.AccessPages.{touches, touched-one, touched-more}
+use Rattle.av_kernel.proofs.AccessBytes.{reads-more, stored_twice, allowed-stored, lives-stored}
+
+-- ---- the memories after a part of an access
+
+pub allowed-served : (w : World) (write : Bool) (p a : ℕ) (bytes : List ℕ) (page : ℕ) → is_allowed w write (p, page) ≡ is_allowed (world_served write p a bytes w) write (p, page)
+allowed-served w true p a bytes page = allowed-stored w true p a bytes page
+allowed-served w false p a bytes page = refl
+
+pub lives-served : (w : World) (write : Bool) (p a : ℕ) (bytes : List ℕ) → lives w p ≡ true → lives (world_served write p a bytes w) p ≡ true
+lives-served w true p a bytes h = lives-stored w p a bytes h
+lives-served w false p a bytes h = h
+
+pub served_twice : (w : World) (write : Bool) (p a page at : ℕ) (xs ys : List ℕ) → (write ≡ true → 4096 * page + at ≡ a + length xs)
+    → world_after write p page at ys None (world_served write p a xs w) ≡ world_served write p a (xs ++ ys) w
+served_twice w true p a page at xs ys is = ap (λ b. stored (stored w p a xs) p b ys) (is refl) ∙ stored_twice w p a xs ys
+served_twice w false p a page at xs ys is = refl
+
+-- a page that stopped leaves the memories
+pub stopped-world : (write : Bool) (p page at : ℕ) (ys : List ℕ) (stop : Stop) (w : World) → world_after write p page at ys (Some stop) w ≡ w
+stopped-world true p page at ys stop w = refl
+stopped-world false p page at ys stop w = refl
+
+-- the process lives on after a part of an access
+pub still_lives : {s : State} {mid : Mem} {write : Bool} {p a k : ℕ} {xs : List ℕ} {before now : List Note} → lives s.world p ≡ true → (h : IsAccess s mid write p a k xs before now None k) → lives h.next.world p ≡ true
+still_lives {s} {mid} {write} {p} {a} {k} {xs} lived h = ap (λ w. lives w p) h.world ∙ lives-served s.world write p a xs lived
+
+-- ---- what happens at one page
+
+pub notes-happening : (write : Bool) (k : ℕ × ℕ) (added : List Note) (how : How) → notes_of (happening write k added how) ≡ added
+notes-happening write k added Served = notes_of-append (noting added) (Used write k ∷ []) ∙ append-nil _ ∙ notes_of-noting added
+notes-happening write k added Denied = notes_of-noting added
+notes-happening write k added (Starved out) = notes_of-noting added
+notes-happening write k added Lost = notes_of-noting added
+
+-- a page that is served is an access of this page, whole
+one_served : (m : Setting) (w : World) (l : Ledger) (write : Bool) (p page : ℕ) (added : List Note) → Touches m w l write (p, page) added Served
+    → Accesses m w l write p (page ∷ []) (happening write (p, page) added Served) Whole
+one_served m w l write p page added h = (added, Served, [], h, sym (append-nil _), (refl, refl))
+
+-- a page that stops an access of it and more
+one_stopped : (m : Setting) (w : World) (l : Ledger) (write : Bool) (p page : ℕ) (rest : List ℕ) (added : List Note) (stop : Stop) → Touches m w l write (p, page) added (how_stopped stop)
+    → Accesses m w l write p (page ∷ rest) (happening write (p, page) added (how_stopped stop)) (Stopped page (how_stopped stop))
+one_stopped m w l write p page rest added Segv h = (added, Denied, [], h, sym (append-nil _), (refl, refl))
+one_stopped m w l write p page rest added (Oom out) h = (added, Starved out, [], h, sym (append-nil _), (refl, refl))
+
+-- ---- the access goes on
+
+-- k bytes were served, and a piece begins behind them
+record Behind (a k page at : ℕ) : Type 0 where
+  is : 4096 * page + at ≡ a + k
+  small : at < 4096
+  begins : 1 ≤ k → at ≡ 0
+
+module _ (s : State) (mid new : Mem) (write : Bool) (p a k page at : ℕ) (xs ys : List ℕ) (before now after : List Note)
+    (same : count new ≡ count mid) (behind : Behind a k page at) (h : IsAccess s mid write p a k xs before now None k) where
+  notes-both : (how : How) (added : List Note) → after ≡ now ++ added → after ≡ before ++ notes_of (h.events ++ happening write (p, page) added how)
+  notes-both how added is = is ∙ ap (λ ns. ns ++ added) h.notes ∙ append_assoc before (notes_of h.events) added
+      ∙ ap (λ ns. before ++ ns) (ap (λ ns. notes_of h.events ++ ns) (sym (notes-happening write (p, page) added how)) ∙ sym (notes_of-append h.events (happening write (p, page) added how)))
+
+  accesses-both : (pages : List ℕ) (more : List Event) (end : End) → Accesses (setting (count new)) h.next.world h.next.ledger write p pages more end
+      → Accesses (setting (count new)) s.world s.ledger write p (touched a k ++ pages) (h.events ++ more) end
+  accesses-both pages more end g = accesses-append (setting (count new)) s.world h.next.world s.ledger write p (touched a k) pages h.events more end
+      (alike-all s.world h.next.world write p (λ page. allowed-served s.world write p a xs page ∙ ap (λ w. is_allowed w write (p, page)) (sym h.world)) pages)
+      (subst (λ n. Accesses (setting n) s.world s.ledger write p (touched a k) h.events Whole) (sym same) (subst (λ end. Accesses (setting (count mid)) s.world s.ledger write p (touched a k) h.events end) h.is_end.0 h.accesses))
+      (subst (λ l. Accesses (setting (count new)) h.next.world l write p pages more end) h.ledger g)
+
+  free-both : (more : List Event) (free : List ℕ) → ChoosesAll h.next.ledger more h.next.free free → ChoosesAll s.ledger (h.events ++ more) s.free free
+  free-both more free g = chooses-append s.ledger h.events more s.free h.next.free free h.free (subst (λ l. ChoosesAll l more h.next.free free) h.ledger g)
+
+  ledger-both : (more : List Event) (l : Ledger) → l ≡ after_all h.next.ledger more → l ≡ after_all s.ledger (h.events ++ more)
+  ledger-both more l is = is ∙ ap (λ x. after_all x more) h.ledger ∙ sym (after_all-append s.ledger h.events more)
+
+  -- by m bytes of the page
+  goes_on : (m : ℕ) → at + m ≤ 4096 → 1 ≤ m → (write ≡ true → length xs ≡ k) → IsPageStep h.next new write p page at ys now after None
+      → IsAccess s new write p a (k + m) (xs ++ ys) before after None (k + m)
+  goes_on m small some long g = record {
+    events = h.events ++ happening write (p, page) g.added Served;
+    notes = notes-both Served g.added g.notes;
+    end = Whole;
+    accesses = subst (λ pages. Accesses (setting (count new)) s.world s.ledger write p pages (h.events ++ happening write (p, page) g.added Served) Whole) (sym (touched-one a k m page at behind.is small some behind.begins))
+        (accesses-both (page ∷ []) _ Whole (one_served _ h.next.world h.next.ledger write p page g.added g.touches));
+    is_end = (refl, refl);
+    next = g.next;
+    world = g.world ∙ ap (world_after write p page at ys None) h.world ∙ served_twice s.world write p a page at xs ys (λ is. behind.is ∙ ap (λ n. a + n) (sym (long is)));
+    ledger = ledger-both _ _ g.ledger;
+    free = free-both _ _ g.free;
+    keeps = g.keeps;
+  }
+
+  -- or stops there
+  stops : (n : ℕ) (stop : Stop) → k < n → IsPageStep h.next new write p page at ys now after (Some stop)
+      → IsAccess s new write p a n xs before after (Some stop) k
+  stops n stop less g = record {
+    events = h.events ++ happening write (p, page) g.added (how_stopped stop);
+    notes = notes-both (how_stopped stop) g.added g.notes;
+    end = Stopped page (how_stopped stop);
+    accesses = subst (λ pages. Accesses (setting (count new)) s.world s.ledger write p pages (h.events ++ happening write (p, page) g.added (how_stopped stop)) (Stopped page (how_stopped stop))) (sym (touched-more a k n page at behind.is behind.small less behind.begins))
+        (accesses-both (page ∷ numbers (page + 1) (touches a n - (touches a k + 1))) _ _ (one_stopped _ h.next.world h.next.ledger write p page _ g.added stop g.touches));
+    is_end = (page, refl, served k behind.is behind.begins, less);
+    next = g.next;
+    world = g.world ∙ stopped-world write p page at ys stop h.next.world ∙ h.world;
+    ledger = ledger-both _ _ g.ledger;
+    free = free-both _ _ g.free;
+    keeps = g.keeps;
+  }
+    where
+      served : (k : ℕ) → 4096 * page + at ≡ a + k → (1 ≤ k → at ≡ 0) → k ≡ 4096 * page - a
+      served zero is begins = omega (arith, is)
+      served (suc k) is begins = let none : at ≡ 0 = begins (omega arith) in omega (arith, is, none)
+
+-- ---- the pieces
+
+behind-piece : (a n k : ℕ) (piece : Piece) → IsPiece a n k piece → k < n → (1 ≤ k → k < n → (a + k) % 4096 ≡ 0) → Behind a k piece.page piece.at
+behind-piece a n k piece is less begins = record { is = is.0; small = is.1; begins = λ some. first (begins some less) }
+  where
+    first : (a + k) % 4096 ≡ 0 → piece.at ≡ 0
+    first h = omega (arith, is.0, is.1, h)
+
+piece-in_page : (a n k : ℕ) (piece : Piece) → IsPiece a n k piece → piece.at + piece.len ≤ 4096
+piece-in_page a n k piece is = omega (arith, is.1, is.2)
+
+piece-some : (a n k : ℕ) (piece : Piece) → IsPiece a n k piece → k < n → 1 ≤ piece.len
+piece-some a n k piece is less = omega (arith, is.1, is.2, less)
+
+pub piece-within : (a n k : ℕ) (piece : Piece) → IsPiece a n k piece → k < n → k + piece.len ≤ n
+piece-within a n k piece is less = omega (arith, is.2, less)
+
+-- behind a piece a page begins, or nothing is left
+pub piece-ends : (a n k : ℕ) (piece : Piece) → IsPiece a n k piece → 1 ≤ k + piece.len → k + piece.len < n → (a + (k + piece.len)) % 4096 ≡ 0
+piece-ends a n k piece is some less = omega (arith, is.0, is.1, is.2, less)
+
+-- what is no stop is none
+none_left : (end : Option Stop) → ((stop : Stop) → end ≡ Some stop → ⊥) → end ≡ None
+none_left None h = refl
+none_left (Some stop) h = absurd (h stop refl)
+
+-- a page's step is taken from where the access stands
+module _ (s : State) (mid new : Mem) (write : Bool) (p a n k : ℕ) (piece : Piece) (xs ys : List ℕ) (before now after : List Note) (end : Option Stop)
+    (same : count new ≡ count mid) (is : IsPiece a n k piece) (less : k < n) (begins : 1 ≤ k → k < n → (a + k) % 4096 ≡ 0)
+    (h : IsAccess s mid write p a k xs before now None k) where
+  behind : Behind a k piece.page piece.at
+  behind = behind-piece a n k piece is less begins
+
+  pub piece-served : IsPageStep h.next new write p piece.page piece.at ys now after end → ((stop : Stop) → end ≡ Some stop → ⊥) → (write ≡ true → length xs ≡ k) → (zs : List ℕ) → xs ++ ys ≡ zs
+      → IsAccess s new write p a (k + piece.len) zs before after None (k + piece.len)
+  piece-served g none long zs whole = subst (λ zs. IsAccess s new write p a (k + piece.len) zs before after None (k + piece.len)) whole
+      (goes_on s mid new write p a k piece.page piece.at xs ys before now after same behind h piece.len (piece-in_page a n k piece is) (piece-some a n k piece is less) long
+      (subst (λ end. IsPageStep h.next new write p piece.page piece.at ys now after end) (none_left end none) g))
+
+  pub piece-stopped : IsPageStep h.next new write p piece.page piece.at ys now after end → (stop : Stop) → end ≡ Some stop → IsAccess s new write p a n xs before after (Some stop) k
+  piece-stopped g stop some = stops s mid new write p a k piece.page piece.at xs ys before now after same behind h n stop less
+      (subst (λ end. IsPageStep h.next new write p piece.page piece.at ys now after end) some g)
+
+-- the piece that was served is shown too
+pub piece-shown : (w w' : World) (p a n k : ℕ) (piece : Piece) (shown now : List ℕ) (end : Option Stop) → w' ≡ w → IsPiece a n k piece → ((stop : Stop) → end ≡ Some stop → ⊥)
+    → ShowsPiece w' p piece.page piece.at piece.len shown now end → Reads (pages w p) a k shown → Reads (pages w p) a (k + piece.len) now
+piece-shown w w' p a n k piece shown now end same is none g h =
+    let shows = subst (λ w. ShowsPiece w p piece.page piece.at piece.len shown now None) same (subst (λ end. ShowsPiece w' p piece.page piece.at piece.len shown now end) (none_left end none) g) in
+    reads-more (pages w p) a k piece.len (4096 * piece.page + piece.at) shown now shows.0 is.0 shows.1 shows.2 shows.3 h

@@ -1,0 +1,140 @@
+-- A whole access is a step, by how it ended.
+use Rattle.std.proofs.Common.{◌≡◌, ℕ, Bool, true, false, not, cond, List, [], length, take, ◌++◌, Some, None, refl, sym, ap, subst, ◌∙◌}
+use Rattle.std.specs.Prelude.{MatchOption}
+use Rattle.std.proofs.Math.Seq.{take-length}
+use Rattle.av_trace.specs.declared.reply.Note.{Note}
+use Rattle.av_trace.specs.declared.reply.Row.{Row}
+use Rattle.av_trace.specs.declared.reply.Errno.{Errno}
+use Rattle.av_trace.specs.declared.reply.Errno.TheVariants.{Esrch}
+use Rattle.av_trace.specs.declared.reply.Answer.{Answer}
+use Rattle.av_trace.specs.declared.reply.Answer.TheVariants as answers
+use Rattle.av_trace.specs.declared.command.Command.TheVariants.{Read, Write}
+use Rattle.av_plain.specs.World.{World, lives, pages}
+use Rattle.av_plain.specs.Fault.{Accesses, Whole, Stopped, touched, bytes_before}
+use Rattle.av_plain.specs.Step.{Answers, Reads, stored, next}
+use Rattle.av_plain.specs.Transcript.{State}
+use Rattle.av_plain.specs.Event.{Event, notes_of}
+use Rattle.av_kernel.specs.declared.mem.Mem.{Mem}
+use Rattle.av_kernel.specs.declared.touched.Stop.{Stop}
+use Rattle.av_kernel.specs.declared.touched.Stop.TheVariants.{Segv, Oom}
+use Rattle.av_kernel.specs.View.{setting, count}
+use Rattle.av_kernel.specs.Page.{how_stopped}
+use Rattle.av_kernel.specs.Command.{MemSteps}
+use Rattle.av_kernel.specs.Access.{IsAccess, answer_of}
+
+-- the process lives, so that the command is not refused
+not_refused : (lived : Bool) (Follow : Type 0) (Refuse : Errno → Type 0) → lived ≡ true → Follow → MatchOption (cond (not lived) (Some Esrch) None) Follow Refuse
+not_refused true Follow Refuse is h = h
+not_refused false Follow Refuse is h = absurd (no is)
+  where
+    no : false ≡ true → ⊥
+    no e = cc
+
+-- the answer of an access that stopped
+answers-stopped : (write : Bool) (a n k page : ℕ) (stop : Stop) (shown : List ℕ) → k ≡ bytes_before a page → Answers write a n (Stopped page (how_stopped stop)) shown (answer_of stop k shown)
+answers-stopped true a n k page Segv shown is = ap (λ k. answers.Segv k shown) is
+answers-stopped true a n k page (Oom out) shown is = ap (λ k. answers.Oom k out shown) is
+answers-stopped false a n k page Segv shown is = ap (λ k. answers.Segv k shown) is
+answers-stopped false a n k page (Oom out) shown is = ap (λ k. answers.Oom k out shown) is
+
+-- a write that stopped stored what it says
+world-stopped : (w : World) (p a k : ℕ) (bytes : List ℕ) (stop : Stop) → stored w p a (take k bytes) ≡ next w (Write p a bytes) (answer_of stop k [])
+world-stopped w p a k bytes Segv = refl
+world-stopped w p a k bytes (Oom out) = refl
+
+module _ (s : State) (old new : Mem) (p a : ℕ) (before notes : List Note) (rows : List Row) (k : ℕ) (fresh : before ≡ []) (none : rows ≡ []) (same : count new ≡ count old) (lived : lives s.world p ≡ true) where
+  -- the notes are those of the access alone
+  alone : (events : List Event) → notes ≡ before ++ notes_of events → notes ≡ notes_of events
+  alone events is = is ∙ ap (λ ns. ns ++ notes_of events) fresh
+
+  pub read-done : (n : ℕ) (shown : List ℕ) (answer : Answer) → IsAccess s new false p a n [] before notes None k → Reads (pages s.world p) a k shown → answer ≡ answers.Data shown
+      → MemSteps old new s (Read p a n) (record { answer = answer; notes = notes; rows = rows })
+  read-done n shown answer h reads is = record {
+    next = h.next;
+    step = record {
+      events = h.events;
+      legal = record {
+        answer = not_refused (lives s.world p) _ _ lived (
+          Whole,
+          shown,
+          subst (λ end. Accesses (setting (count old)) s.world s.ledger false p (touched a n) h.events end) h.is_end.0 (subst (λ m. Accesses (setting m) s.world s.ledger false p (touched a n) h.events h.end) same h.accesses),
+          subst (λ k. Reads (pages s.world p) a k shown) h.is_end.1 reads,
+          is,
+          none,
+        );
+        notes = alone h.events h.notes;
+      };
+      world = h.world;
+      ledger = h.ledger;
+      free = h.free;
+    };
+    keeps = h.keeps;
+  }
+
+  pub read-stopped : (n : ℕ) (shown : List ℕ) (answer : Answer) (stop : Stop) → IsAccess s new false p a n [] before notes (Some stop) k → Reads (pages s.world p) a k shown → answer ≡ answer_of stop k shown
+      → MemSteps old new s (Read p a n) (record { answer = answer; notes = notes; rows = rows })
+  read-stopped n shown answer stop h reads is = record {
+    next = h.next;
+    step = record {
+      events = h.events;
+      legal = record {
+        answer = not_refused (lives s.world p) _ _ lived (
+          Stopped h.is_end.0 (how_stopped stop),
+          shown,
+          subst (λ end. Accesses (setting (count old)) s.world s.ledger false p (touched a n) h.events end) h.is_end.1 (subst (λ m. Accesses (setting m) s.world s.ledger false p (touched a n) h.events h.end) same h.accesses),
+          subst (λ k. Reads (pages s.world p) a k shown) h.is_end.2 reads,
+          subst (Answers false a n (Stopped h.is_end.0 (how_stopped stop)) shown) (sym is) (answers-stopped false a n k h.is_end.0 stop shown h.is_end.2),
+          none,
+        );
+        notes = alone h.events h.notes;
+      };
+      world = h.world;
+      ledger = h.ledger;
+      free = h.free;
+    };
+    keeps = h.keeps;
+  }
+
+  pub write-done : (bytes : List ℕ) (answer : Answer) → IsAccess s new true p a (length bytes) (take k bytes) before notes None k → answer ≡ answers.Done
+      → MemSteps old new s (Write p a bytes) (record { answer = answer; notes = notes; rows = rows })
+  write-done bytes answer h is = record {
+    next = h.next;
+    step = record {
+      events = h.events;
+      legal = record {
+        answer = not_refused (lives s.world p) _ _ lived (
+          Whole,
+          subst (λ end. Accesses (setting (count old)) s.world s.ledger true p (touched a (length bytes)) h.events end) h.is_end.0 (subst (λ m. Accesses (setting m) s.world s.ledger true p (touched a (length bytes)) h.events h.end) same h.accesses),
+          is,
+          none,
+        );
+        notes = alone h.events h.notes;
+      };
+      world = h.world ∙ ap (stored s.world p a) (ap (λ k. take k bytes) h.is_end.1 ∙ take-length bytes) ∙ ap (next s.world (Write p a bytes)) (sym is);
+      ledger = h.ledger;
+      free = h.free;
+    };
+    keeps = h.keeps;
+  }
+
+  pub write-stopped : (bytes : List ℕ) (answer : Answer) (stop : Stop) → IsAccess s new true p a (length bytes) (take k bytes) before notes (Some stop) k → answer ≡ answer_of stop k []
+      → MemSteps old new s (Write p a bytes) (record { answer = answer; notes = notes; rows = rows })
+  write-stopped bytes answer stop h is = record {
+    next = h.next;
+    step = record {
+      events = h.events;
+      legal = record {
+        answer = not_refused (lives s.world p) _ _ lived (
+          Stopped h.is_end.0 (how_stopped stop),
+          subst (λ end. Accesses (setting (count old)) s.world s.ledger true p (touched a (length bytes)) h.events end) h.is_end.1 (subst (λ m. Accesses (setting m) s.world s.ledger true p (touched a (length bytes)) h.events h.end) same h.accesses),
+          subst (Answers true a (length bytes) (Stopped h.is_end.0 (how_stopped stop)) []) (sym is) (answers-stopped true a (length bytes) k h.is_end.0 stop [] h.is_end.2),
+          none,
+        );
+        notes = alone h.events h.notes;
+      };
+      world = h.world ∙ world-stopped s.world p a k bytes stop ∙ ap (next s.world (Write p a bytes)) (sym is);
+      ledger = h.ledger;
+      free = h.free;
+    };
+    keeps = h.keeps;
+  }

@@ -1,0 +1,77 @@
+-- The view of the memory system, put together from what its parts are seen as.
+use Rattle.std.specs.Prelude.{◌≡◌, ℕ, Bool, false, List, [], length, Option, Some, None, is_some, T}
+use Rattle.std.specs.Ordering.{nat_cmp}
+use Rattle.std.specs.FinMap.Entries.{is_sorted}
+use Rattle.av_plain.specs.World.{World, lives}
+use Rattle.av_plain.specs.Ledger.{Ledger, Setting, Entry, Zero as ZeroEntry, InFrame, InSlot, key_cmp}
+use Rattle.av_plain.specs.Transcript.{State}
+use Rattle.av_plain.specs.Sound.{AtPages}
+use Rattle.av_plain.specs.Stands.{View, Pte as Plain, Stands, FramesStand, TablesStand, SwapStands, AreasStand, BytesStand}
+use Rattle.av_frames.specs.Store.{Seen, seen}
+use Rattle.av_pagetable.specs.declared.pte.Pte.{Pte}
+use Rattle.av_pagetable.specs.declared.pte.Pte.TheVariants.{Empty, Zero, Here, Away}
+use Rattle.av_pagetable.specs.Entries.{entry_at, has}
+use Rattle.av_kernel.specs.Spaces.{Spaces, areas_of}
+use Rattle.av_kernel.specs.declared.mem.Mem.{Mem}
+
+-- so many frames, and no device
+abbrev pub setting : ℕ → Setting
+setting frames = record { frames = frames; sizes = []; headers = Some (λ _. None) }
+
+-- an entry in the words of the ledger
+abbrev pub plain : Pte → Option Plain
+plain Empty = None
+plain Zero = Some (record { entry = ZeroEntry; write = false })
+plain (Here f write was) = Some (record { entry = InFrame f was; write = write })
+plain (Away s) = Some (record { entry = InSlot s; write = false })
+
+-- the view of frames, entries and areas, without swap
+abbrev pub joined : Seen → (ℕ → ℕ → Option Plain) → Spaces → View
+joined frames table spaces = record {
+  frames = frames.count;
+  bytes = frames.bytes;
+  maps = frames.maps;
+  slot = frames.slot;
+  dirty = frames.dirty;
+  free = frames.free;
+  table = table;
+  processes = length spaces;
+  areas = areas_of spaces;
+  find = λ s. None;
+  entries = λ s. 0;
+  flight = [];
+  on = [];
+}
+
+abbrev pub view : Mem → View
+view k = joined (seen k.frames) (λ p page. plain (entry_at k.tables p page)) k.spaces
+
+-- how many frames there are
+abbrev pub count : Mem → ℕ
+count k = (seen k.frames).count
+
+-- a process has a table exactly where it lives
+abbrev pub HasTables : Mem → Type 0
+HasTables k = (p : ℕ) → has k.tables p ≡ is_some (areas_of k.spaces p)
+
+-- the memory system stands for the memories, the ledger and the free frames; there is no device
+pub record Keeps (k : Mem) (s : State) : Type 0 where
+  pub stands : Stands (setting (count k)) (view k) None s
+  pub tables : HasTables k
+
+-- it stands for some
+abbrev pub IsSteady : Mem → Type 0
+IsSteady k = (s : State) × Keeps k s
+
+-- ---- within a command
+
+-- what stands within an access, without the ledger's lists
+pub record PartsStand (k : Mem) (w : World) (l : Ledger) : Type 0 where
+  pub in_order : T (is_sorted key_cmp l.entries)
+  pub at_pages : AtPages w l
+  pub frames : FramesStand (setting (count k)) (view k) l
+  pub tables : TablesStand (view k) l
+  pub swap : SwapStands (view k) l
+  pub areas : AreasStand (view k) w
+  pub bytes : BytesStand (view k) None w l
+  pub has_tables : HasTables k

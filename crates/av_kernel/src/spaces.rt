@@ -1,0 +1,147 @@
+//! The areas of every process that lives.
+
+ghost use Rattle.std.specs.Prelude.{◌≡◌, ℕ, ◌+◌, ◌<◌, ◌≤◌, [], None, true, false, is_some, length, IsSome, IsSomeAnd, OnOk, OnErr, IfSome};
+ghost use Rattle.std.specs.Ordering.{nat_cmp};
+ghost use Rattle.std.specs.BTreeMap.{IsUnchanged, get as tree_of};
+ghost use Rattle.av_vma.specs.Gap.{low_page, top_page, IsGap};
+ghost use Rattle.av_vmatree.specs.Spans.{IsFree, span, span_of, taken};
+ghost use Rattle.av_plain.specs.Stands.{prot_of};
+ghost use Rattle.av_kernel.specs.Spaces.{areas_of, is_taken, IsSpawned, IsMapped, IsGrown};
+
+use av_vma::{Area, Areas, Prot};
+use av_vmatree::Tree;
+use std::alloc::{AllocError, Global};
+use std::collections::BTreeMap;
+use std::marker::Model;
+
+/// The bytes of one page.
+const PAGE_SIZE: u64 = 4096;
+
+/// The areas of every process that lives, seen as the list of the processes, rising, each with the ranges of its areas.
+#[derive(Drop)]
+pub struct Spaces {
+    alloc: Global,
+    areas: Areas,
+    trees: BTreeMap<u16, Tree>,
+}
+
+impl Model for Spaces {
+    ghost use Rattle.std.specs.Prelude.{ℕ, List};
+    ghost use Rattle.av_vma.specs.Areas.{area_of};
+    ghost use Rattle.av_plain.specs.Stands.{Range};
+    ghost use Rattle.av_kernel.specs.Spaces.{spaces_by, AreTrees};
+
+    ghost Value = { List (ℕ × List Range) };
+
+    ghost view = { λ s. spaces_by (area_of s.areas) s.trees.entries };
+
+    ghost invariant = { λ s. AreTrees (area_of s.areas) s.trees };
+}
+
+impl Spaces {
+    /// No process.
+    pub fn new(alloc: Global) -> Self
+        ensures { result ≡ [] }
+    {
+        Spaces {
+            alloc,
+            areas: Areas::new(alloc),
+            trees: BTreeMap::new(alloc),
+        }
+    }
+
+    /// How many processes live.
+    pub fn count(&self) -> usize
+        ensures { result ≡ length self.now }
+    {
+        self.trees.len()
+    }
+
+    /// Whether a process lives.
+    pub fn lives(&self, process: u16) -> bool
+        ensures { result ≡ is_some (areas_of self.now process) }
+    {
+        self.trees.contains_key(&process)
+    }
+
+    /// The protection of a page, if it is mapped.
+    pub fn prot(&self, process: u16, page: u64) -> Option<Prot>
+        ensures prot { result ≡ prot_of (areas_of self.now process) page }
+        ensures below { IsSome result → page < top_page }
+    {
+        let tree = self.trees.get(&process)?;
+        let number = tree.find(page)?;
+        Some(self.areas.get(number).prot)
+    }
+
+    /// The greatest page from which on this many are free in a process that lives.
+    pub fn gap(&self, process: u16, pages: u64) -> Option<u64>
+        requires lives { is_some (areas_of self.now process) ≡ true }
+        requires some { 1 ≤ pages }
+        ensures { IsGap (is_taken self.now process) pages result }
+    {
+        let tree = self.trees.get(&process)?;
+        tree.gap(pages)
+    }
+
+    /// Gives a process that does not live no areas, so that it lives. Without memory all stays.
+    pub fn spawn(&mut self, process: u16) -> Result<(), AllocError>
+        requires { areas_of self.old process ≡ None }
+        ensures ok { OnOk result (IsSpawned self.old self.new process) }
+        ensures err { OnErr result (self.new ≡ self.old) }
+    {
+        self.trees.insert(process, Tree::new(self.alloc))?;
+        Ok(())
+    }
+
+    /// Maps free pages of a process that lives as one area. Without memory all stays.
+    pub fn map(&mut self, process: u16, from: u64, pages: u64, prot: Prot) -> Result<(), AllocError>
+        requires lives { is_some (areas_of self.old process) ≡ true }
+        requires some { 1 ≤ pages }
+        requires low { low_page ≤ from }
+        requires high { from + pages ≤ top_page }
+        requires free { (page : ℕ) → from ≤ page → page < from + pages → is_taken self.old process page ≡ false }
+        ensures ok { OnOk result (IsMapped self.old self.new process from pages prot) }
+        ensures err { OnErr result (self.new ≡ self.old) }
+    {
+        let to = from + pages;
+        let number = self.areas.add(Area {
+            pid: process,
+            start: PAGE_SIZE * from,
+            end: PAGE_SIZE * to,
+            prot,
+            flags: 0,
+            pgoff: from,
+            anon: None,
+        })?;
+        match insert_span(&mut self.trees, process, number, from, to) {
+            Ok(()) => Ok(()),
+            Err(error) => {
+                self.areas.remove(number);
+                Err(error)
+            }
+        }
+    }
+}
+
+/// Puts the pages of an area into the tree of its process. Without memory all stays.
+fn insert_span(
+    trees: &mut BTreeMap<u16, Tree>,
+    process: u16,
+    area: u64,
+    from: u64,
+    to: u64,
+) -> Result<(), AllocError>
+    requires some { from < to }
+    requires low { low_page ≤ from }
+    requires high { to ≤ top_page }
+    requires free { IsSomeAnd (tree_of nat_cmp trees.old process) (λ spans. IsFree (taken spans) from to) }
+    requires other { IsSomeAnd (tree_of nat_cmp trees.old process) (λ spans. span_of spans area ≡ None) }
+    ensures ok { OnOk result (IsGrown trees.old trees.new process (span area from to)) }
+    ensures err { OnErr result (IsUnchanged trees.old trees.new) }
+{
+    match trees.get_mut(&process) {
+        Some(tree) => tree.insert(area, from, to),
+        None => Ok(()),
+    }
+}

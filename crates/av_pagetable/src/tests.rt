@@ -1,0 +1,41 @@
+use crate::{MapTable, Pte, Table, Tables};
+use av_vma::Slot;
+use std::alloc::AllocError;
+
+const AWAY: Pte = Pte::Away {
+    slot: Slot { area: 0, page: 7 },
+};
+
+#[test]
+fn entries_of_a_process(rt: HostRuntime) -> Result<(), AllocError> {
+    let mut tables: Tables<MapTable> = Tables::new(rt.alloc());
+    tables.spawn(rt.alloc(), 4)?;
+    tables.set(4, 16, Pte::Zero)?;
+    tables.set(4, 20, Pte::Zero)?;
+    tables.change(4, 20, AWAY);
+    assert_eq!(rt; tables.get(4, 20), AWAY);
+    assert_eq!(rt; tables.get(5, 20), Pte::Empty);
+    assert_eq!(rt; tables.next_from(4, 17), Some(20));
+    assert_eq!(rt; tables.take_first(4, 0, 20), Some((16, Pte::Zero)));
+    assert_eq!(rt; tables.take_first(4, 0, 20), None);
+    Ok(())
+}
+
+#[test]
+fn processes_come_and_go(rt: HostRuntime) -> Result<(), AllocError> {
+    let mut tables: Tables<MapTable> = Tables::new(rt.alloc());
+    tables.spawn(rt.alloc(), 9)?;
+    tables.spawn(rt.alloc(), 4)?;
+    let mut digits = 0u64;
+    for process in tables.pids() {
+        digits = digits.wrapping_mul(10).wrapping_add(u64::from(*process));
+    }
+    assert_eq!(rt; digits, 49);
+    tables.end(9);
+    assert!(rt; tables.of(9).is_none());
+    if let Some(table) = tables.of_mut(4) {
+        table.set(1, Pte::Zero)?;
+    }
+    assert!(rt; tables.of(4).is_some_and(|table| table.get(1) == Pte::Zero));
+    Ok(())
+}

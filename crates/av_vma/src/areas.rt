@@ -1,0 +1,72 @@
+ghost use Rattle.std.specs.Prelude.{◌≡◌, ℕ, Some, None, IfOk, OnErr, IsSome};
+ghost use Rattle.av_vma.specs.Areas.{area_of};
+ghost use Rattle.av_vma.specs.Ranges.{with_at};
+
+use crate::area::Area;
+use slab::Slab;
+use std::alloc::{AllocError, Global};
+use std::marker::Model;
+
+/// The number of an area, given out by `Areas::add` and in use until `Areas::remove`.
+pub type AreaId = u64;
+
+/// The areas of all processes, a finite map from the numbers in use.
+#[derive(Drop)]
+pub struct Areas {
+    slab: Slab<Area>,
+}
+
+impl Model for Areas {
+    ghost use Rattle.std.specs.Prelude.{List, Option};
+    ghost use Rattle.av_vma.specs.declared.area.Area.{Area};
+
+    ghost Value = { List (Option Area) };
+
+    ghost view = { λ a. a.slab.slots };
+}
+
+impl Areas {
+    /// No area at all.
+    pub fn new(alloc: Global) -> Areas
+        ensures { (number : ℕ) → area_of result number ≡ None }
+    {
+        Areas {
+            slab: Slab::new(alloc),
+        }
+    }
+
+    /// Puts `area` under a number that is not in use. Without memory all stays.
+    pub fn add(&mut self, area: Area) -> Result<AreaId, AllocError>
+        ensures unused { IfOk result (λ id. area_of self.old id ≡ None) }
+        ensures added { IfOk result (λ id. (number : ℕ) → area_of self.new number ≡ with_at id (Some area) (area_of self.old) number) }
+        ensures kept { OnErr result (self.new ≡ self.old) }
+    {
+        let id = self.slab.insert(area)?;
+        Ok(id as u64)
+    }
+
+    /// The area with a number that is in use.
+    pub fn get(&self, id: AreaId) -> Area
+        requires used { IsSome (area_of self.now id) }
+        ensures { area_of self.now id ≡ Some result }
+    {
+        let area = &self.slab[id as usize];
+        *area
+    }
+
+    /// Puts `area` in place of the one with this number, which is in use.
+    pub fn change(&mut self, id: AreaId, area: Area)
+        requires used { IsSome (area_of self.old id) }
+        ensures { (number : ℕ) → area_of self.new number ≡ with_at id (Some area) (area_of self.old) number }
+    {
+        self.slab[id as usize] = area;
+    }
+
+    /// Takes out the area with this number, which is in use until now.
+    pub fn remove(&mut self, id: AreaId)
+        requires used { IsSome (area_of self.old id) }
+        ensures { (number : ℕ) → area_of self.new number ≡ with_at id None (area_of self.old) number }
+    {
+        self.slab.remove(id as usize);
+    }
+}

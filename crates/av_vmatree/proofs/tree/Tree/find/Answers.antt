@@ -1,0 +1,27 @@
+use Rattle.std.proofs.Common.{◌≡◌, ◌∙◌, sym, subst, true, IfSome, IsSomeAnd}
+use Rattle.av_vmatree.specs.Spans.{AreApart, AreDistinct, holds, span_of}
+use Rattle.av_vmatree.proofs.Spans.{at_left, at_right, at_here, apart_left, apart_right, held}
+use Rattle.av_vmatree.proofs.tree.Tree.find.Goals as goal
+
+pub down-preserved-then-page-span : goal.down-preserved-then-page-span
+down-preserved-then-page-span c =
+    let s = c.in-Some in
+    let e = s.ensures.parts.entries in
+    let apart = c.down.invariant.1 in
+    (at_left c.args.page c.down.part.now.0 s.left.now.0 s.span.now s.right.now.0 e apart c.if-page-span.true ∙ c.down.invariant.0, apart_left s.left.now.0 s.span.now s.right.now.0 (subst AreApart e apart))
+
+pub down-preserved : goal.down-preserved
+down-preserved c =
+    let s = c.in-Some in
+    let e = s.ensures.parts.entries in
+    let apart = c.down.invariant.1 in
+    (at_right c.args.page c.down.part.now.0 s.left.now.0 s.span.now s.right.now.0 e apart c.if-span-page.true ∙ c.down.invariant.0, apart_right s.left.now.0 s.span.now s.right.now.0 (subst AreApart e apart))
+
+pub returns-else-span-page : goal.returns-else-span-page
+returns-else-span-page c =
+    let s = c.in-Some in
+    let here = at_here c.args.page c.down.part.now.0 s.left.now.0 s.span.now s.right.now.0 s.ensures.parts.entries c.down.invariant.1 c.if-page-span.false c.if-span-page.false ∙ c.down.invariant.0 in
+    record {
+      area = here;
+      span = subst (λ o. IfSome o (λ n. IsSomeAnd (span_of c.args.self.now n) (λ s. holds s c.args.page ≡ true))) (sym here) (held c.args.self.now c.args.page (subst AreDistinct c.self.view_is c.self.invariant.0.distinct));
+    }

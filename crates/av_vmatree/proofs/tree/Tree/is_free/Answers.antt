@@ -1,0 +1,36 @@
+use Rattle.std.proofs.Common.{◌≤◌, ◌<◌, ◌∙◌, sym, ap, subst, max, is_some, arith}
+use Rattle.av_vmatree.specs.Spans.{AreApart}
+use Rattle.av_vmatree.proofs.Spans.{at_left, at_right, at_here, apart_left, apart_right, wide_at}
+use Rattle.av_vmatree.proofs.tree.Tree.is_free.Goals as goal
+
+pub down-preserved-then-to-span : goal.down-preserved-then-to-span
+down-preserved-then-to-span c =
+    let s = c.in-Some in
+    let e = s.ensures.parts.entries in
+    let apart = c.down.invariant.1 in (
+      λ page low high. at_left page c.down.part.now.0 s.left.now.0 s.span.now s.right.now.0 e apart (omega arith) ∙ c.down.invariant.0 page low high,
+      apart_left s.left.now.0 s.span.now s.right.now.0 (subst AreApart e apart),
+    )
+
+pub down-preserved : goal.down-preserved
+down-preserved c =
+    let s = c.in-Some in
+    let e = s.ensures.parts.entries in
+    let apart = c.down.invariant.1 in (
+      λ page low high. at_right page c.down.part.now.0 s.left.now.0 s.span.now s.right.now.0 e apart (omega arith) ∙ c.down.invariant.0 page low high,
+      apart_right s.left.now.0 s.span.now s.right.now.0 (subst AreApart e apart),
+    )
+
+pub returns-else-span-from-clause-met : goal.returns-else-span-from-clause-met
+returns-else-span-from-clause-met c _ =
+    let s = c.in-Some in
+    let wide : s.span.now.from < s.span.now.to = wide_at s.left.now.0 s.span.now s.right.now.0 (subst AreApart s.ensures.parts.entries c.down.invariant.1) in
+    let page = max c.args.from s.span.now.from in
+    let low : c.args.from ≤ page = omega arith in
+    let high : page < c.args.to = omega arith in
+    record {
+      page = page;
+      lowest = low;
+      highest = high;
+      met = ap is_some (sym (at_here page c.down.part.now.0 s.left.now.0 s.span.now s.right.now.0 s.ensures.parts.entries c.down.invariant.1 (omega arith) (omega arith) ∙ c.down.invariant.0 page low high));
+    }

@@ -1,0 +1,173 @@
+ghost use Rattle.std.specs.Prelude.{◌≡◌, ℕ, ◌-◌, ◌<◌, ◌≤◌, [], Some, None, true, false, is_ok, IfSome, IsSome, IsSomeAnd, OnOk, if◌then◌else◌};
+ghost use Rattle.av_vma.specs.Gap.{low_page, top_page, IsGap};
+ghost use Rattle.av_vma.specs.Ranges.{within, with_at};
+ghost use Rattle.av_vmatree.specs.Spans.{AreSpans, IsFree, IsMet, area_after, area_at, area_before, holds, span, span_of, taken, unless_area, with_span, without_area};
+
+use crate::gap::gap_in;
+use crate::span::Span;
+use av_tree::Avl;
+use av_vma::AreaId;
+use std::alloc::{AllocError, Global};
+use std::collections::BTreeMap;
+use std::marker::Model;
+
+/// The areas of one process, seen as the list of their spans in the order of their pages.
+///
+/// Pages go by number, which is their address over 4096. A call takes time logarithmic in the number of areas.
+/// No two spans share a page or an area, and each lies from page 16 to below page 0x7ffffffff.
+#[derive(Drop)]
+pub struct Tree {
+    spans: Avl<Span>,
+    /// The page that each area begins with.
+    starts: BTreeMap<AreaId, u64>,
+    alloc: Global,
+}
+
+impl Model for Tree {
+    ghost use Rattle.std.specs.Prelude.{List};
+    ghost use Rattle.av_vmatree.specs.declared.span.Span.{Span};
+    ghost use Rattle.av_vmatree.specs.Spans.{AreSpans, TellsStarts};
+
+    ghost Value = { List Span };
+
+    ghost view = { λ t. t.spans.0 };
+
+    ghost invariant = { λ t. AreSpans t.spans.0 × TellsStarts t.starts t.spans.0 };
+}
+
+impl Tree {
+    /// The areas of a process that has none.
+    pub fn new(alloc: Global) -> Tree
+        ensures { result ≡ [] }
+    {
+        Tree {
+            spans: Avl::new(),
+            starts: BTreeMap::new(alloc),
+            alloc,
+        }
+    }
+
+    /// Puts in an area, new to the process, with the pages from `from` to below `to`, all of them free.
+    ///
+    /// Without memory all stays.
+    pub fn insert(&mut self, area: AreaId, from: u64, to: u64) -> Result<(), AllocError>
+        requires some { from < to }
+        requires low { low_page ≤ from }
+        requires high { to ≤ top_page }
+        requires free { IsFree (taken self.old) from to }
+        requires other { span_of self.old area ≡ None }
+        ensures spans { self.new ≡ (if is_ok result then with_span (span area from to) self.old else self.old) }
+        ensures areas { OnOk result ((number : ℕ) → span_of self.new number ≡ with_at area (Some (span area from to)) (span_of self.old) number) }
+        ensures pages { OnOk result ((page : ℕ) → area_at self.new page ≡ (if within from (to - from) page then Some area else area_at self.old page)) }
+        ensures kept { AreSpans self.new }
+    {
+        self.starts.insert(area, from)?;
+        match self.spans.insert(self.alloc, Span { from, to, area }) {
+            Ok(()) => Ok(()),
+            Err(error) => {
+                self.starts.remove(&area);
+                Err(error)
+            }
+        }
+    }
+
+    /// Takes out an area that is there.
+    pub fn remove(&mut self, area: AreaId)
+        requires there { IsSome (span_of self.old area) }
+        ensures spans { self.new ≡ without_area area self.old }
+        ensures areas { (number : ℕ) → span_of self.new number ≡ with_at area None (span_of self.old) number }
+        ensures pages { (page : ℕ) → area_at self.new page ≡ unless_area area (area_at self.old page) }
+        ensures kept { AreSpans self.new }
+    {
+        let Some(from) = self.starts.remove(&area) else {
+            unreachable!()
+        };
+        self.spans.remove(&Span {
+            from,
+            to: from,
+            area,
+        });
+    }
+
+    /// The area that holds the page.
+    pub fn find(&self, page: u64) -> Option<AreaId>
+        ensures area { result ≡ area_at self.now page }
+        ensures span { IfSome result (λ area. IsSomeAnd (span_of self.now area) (λ s. holds s page ≡ true)) }
+    {
+        let mut part = &self.spans;
+        'down: while let Some((left, span, right)) = part.parts() {
+            if page < span.from {
+                part = left;
+            } else if span.to <= page {
+                part = right;
+            } else {
+                return Some(span.area);
+            }
+        }
+        None
+    }
+
+    /// The nearest area wholly below the page.
+    pub fn before(&self, page: u64) -> Option<AreaId>
+        ensures { result ≡ area_before self.now page }
+    {
+        let mut nearest = None;
+        let mut part = &self.spans;
+        'down: while let Some((left, span, right)) = part.parts() {
+            if span.to <= page {
+                nearest = Some(span.area);
+                part = right;
+            } else {
+                part = left;
+            }
+        }
+        nearest
+    }
+
+    /// The nearest area wholly above the page.
+    pub fn after(&self, page: u64) -> Option<AreaId>
+        ensures { result ≡ area_after self.now page }
+    {
+        let mut nearest = None;
+        let mut part = &self.spans;
+        'down: while let Some((left, span, right)) = part.parts() {
+            if span.from <= page {
+                part = right;
+            } else {
+                nearest = Some(span.area);
+                part = left;
+            }
+        }
+        nearest
+    }
+
+    /// Whether no area holds a page from `from` to below `to`.
+    pub fn is_free(&self, from: u64, to: u64) -> bool
+        requires { from ≤ to }
+        ensures free { result ≡ true → IsFree (taken self.now) from to }
+        ensures met { result ≡ false → IsMet (taken self.now) from to }
+    {
+        if from == to {
+            return true;
+        }
+        let mut part = &self.spans;
+        'down: while let Some((left, span, right)) = part.parts() {
+            if to <= span.from {
+                part = left;
+            } else if span.to <= from {
+                part = right;
+            } else {
+                return false;
+            }
+        }
+        true
+    }
+
+    /// The greatest page from which on `pages` pages are free, or none where there is no such page.
+    pub fn gap(&self, pages: u64) -> Option<u64>
+        requires { 1 ≤ pages }
+        ensures { IsGap (taken self.now) pages result }
+    {
+        gap_in(&self.spans, pages)
+    }
+}
