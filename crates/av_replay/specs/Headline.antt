@@ -5,7 +5,8 @@ use Rattle.std.specs.Option.{option_to_list}
 use Rattle.av_trace.specs.Text.{text_of}
 use Rattle.av_plain.specs.Transcript.{Exchange, State, IsRun, at_first}
 use Rattle.av_kernel.specs.Machine.{Machine}
-use Rattle.av_kernel.specs.Kernel.{setting, Stands}
+use Rattle.av_kernel.specs.Kernel.{Stands}
+use Rattle.av_kernel.specs.View.{setting}
 use Rattle.av_replay.specs.declared.status.Status.{Status}
 use Rattle.av_replay.specs.declared.status.Status.TheVariants as statuses
 use Rattle.av_replay.specs.Outside.{Took, Gained, HasEnded}

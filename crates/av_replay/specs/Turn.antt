@@ -7,7 +7,8 @@ use Rattle.av_trace.specs.Grammar.{Says}
 use Rattle.av_trace.specs.Text.{text_of}
 use Rattle.av_plain.specs.Transcript.{Exchange, State, IsRun}
 use Rattle.av_kernel.specs.Machine.{Machine}
-use Rattle.av_kernel.specs.Kernel.{setting, Stands, word_of, counted}
+use Rattle.av_kernel.specs.Kernel.{Stands, word_of, counted}
+use Rattle.av_kernel.specs.View.{setting}
 use Rattle.av_replay.specs.declared.turn.Doing.{Doing}
 use Rattle.av_replay.specs.declared.turn.Doing.TheVariants as doings
 use Rattle.av_replay.specs.declared.turn.Turn.{Turn}

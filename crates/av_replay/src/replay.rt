@@ -2,7 +2,8 @@
 
 ghost use Rattle.std.specs.Prelude.{true, ◌≡◌, ◌≤◌, [], Some, replicate, ◌≢◌};
 ghost use Rattle.av_plain.specs.Transcript.{at_first};
-ghost use Rattle.av_kernel.specs.Kernel.{setting, Stands};
+ghost use Rattle.av_kernel.specs.Kernel.{Stands};
+ghost use Rattle.av_kernel.specs.View.{setting};
 ghost use Rattle.av_replay.specs.Outside.{Rose};
 ghost use Rattle.av_replay.specs.Turn.{Waits, Finishes};
 ghost use Rattle.av_replay.specs.Headline.{Headline};

@@ -1,7 +1,7 @@
 //! What the program says and answers when it fails.
 
-ghost use Rattle.std.specs.Prelude.{◌≡◌, ◌↔◌, IsNone};
-ghost use Rattle.avsim.specs.Numbers.{number_of};
+ghost use Rattle.std.specs.Prelude.{◌≡◌};
+ghost use Rattle.avsim.specs.Endings.{number_of, failure_of};
 
 use av_replay::Status;
 use thiserror::Error;
@@ -26,7 +26,7 @@ pub enum Failure {
 impl Failure {
     /// The failure of a status, if it is one.
     pub fn of(status: Status) -> Option<Failure>
-        ensures { IsNone result ↔ status ≡ Status.Done }
+        ensures { result ≡ failure_of status }
     {
         match status {
             Status::Done => None,

@@ -5,9 +5,9 @@ mod failure;
 
 use crate::failure::{Failure, number};
 use av_replay::{ReadSource, Status, WriteSink, run};
+use std::env;
 use std::io::{self, ErrorKind};
 use std::process::ExitCode;
-use std::env;
 
 /// Runs the program on its words, over standard input and output.
 fn replayed(rt: &HostRuntime) -> Status {

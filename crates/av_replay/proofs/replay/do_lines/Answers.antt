@@ -1,6 +1,6 @@
 use Rattle.std.proofs.Common.{◌+◌, ◌∙◌, ap, [], ◌∷◌, length-append, arith, refl}
 use Rattle.av_plain.specs.Transcript.{at_first}
-use Rattle.av_kernel.specs.Kernel.{setting}
+use Rattle.av_kernel.specs.View.{setting}
 use Rattle.av_replay.specs.Turn.{Moment}
 use Rattle.av_replay.proofs.Runs.{starts, goes_on, longer, next_answers}
 use Rattle.av_replay.proofs.Endings.{all_done, last_done, bad_line, read_fault, write_fault, memory, finishes}
@@ -23,7 +23,7 @@ loop-number-preserved g c =
     let a = next_answers _ _ _ _ _ _ _ _ _ _ s.1 t.2 in
     record {
       so_far = (longer s.0 t.0 a.did a.next, goes_on _ _ _ _ _ _ _ _ s.1 t.2, length-append s.0.lines (t.0 ∷ []) ∙ ap (λ n. n + 1) s.2);
-      steps = omega (arith, c.in-Done.ensures.steps);
+      steps = omega (arith, c.in-Done.ensures.steps refl);
       source_later = omega (arith, c.in-Done.ensures.source_never_falls);
       sink_later = omega (arith, c.in-Done.ensures.sink_never_falls);
     }
