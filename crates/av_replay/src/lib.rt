@@ -18,3 +18,6 @@ pub use outside::{Failed, Sink, SinkErr, Source};
 pub use real::{ReadSource, WriteSink};
 pub use status::Status;
 pub use top_call::{Outcome, run};
+
+#[cfg(test)]
+mod tests;
