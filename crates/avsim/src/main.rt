@@ -2,8 +2,10 @@
 #![tactic(auto)]
 
 mod failure;
+mod help;
 
 use crate::failure::{Failure, number};
+use crate::help::{HELP, VERSION};
 use av_replay::{ReadSource, Status, WriteSink, run};
 use std::env;
 use std::io::{self, ErrorKind};

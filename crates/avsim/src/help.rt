@@ -1,0 +1,40 @@
+//! What the program tells about itself.
+
+/// The text of `--version`.
+pub const VERSION: &str = "avsim 0.1.0\n";
+
+/// The text of `--help`.
+pub const HELP: &str = "\
+avsim replays a trace of memory commands against a model of Linux private anonymous memory.
+It reads the trace from standard input and writes each command's reply to standard output.
+
+usage: avsim run FRAMES     replay a trace on a machine with 1 to 16384 frames of 4096 bytes
+       avsim --help         print this text
+       avsim --version      print the version
+
+A trace has one command a line. An empty line, or one that begins with #, says nothing.
+
+  spawn P                   process P (1 to 32767) begins without memory
+  exit P                    it ends, and its frames are free
+  mmap P LEN PROT           map LEN bytes, rounded up to pages, at the greatest address where they fit;
+                            PROT is like rw-, r-- or ---
+  read P A N                read N bytes (1 to 4096) at the hexadecimal address A
+  write P A HEX             write the bytes of the hexadecimal digits HEX at A
+  maps P                    the longest runs of mapped pages with one protection
+  stat                      how many frames there are, are free, are in use; how many processes live
+
+for example: printf 'spawn 1\\nmmap 1 4096 rw-\\nwrite 1 7fffffffe005 41\\nread 1 7fffffffe004 3\\n' | avsim run 4
+
+prints:      ok
+             map 7fffffffe000
+             ok
+              new 1 7fffffffe000 0
+             data 004100
+
+A reply is followed by notes of what happened, each on a line that begins with a space:
+  zero P A                  the page's entry is the page of zeros now
+  new P A f                 it is frame f, zeroed
+
+exit status: 0, or 2 usage, 3 a line that is no command, 4 a failed read, 5 a failed write,
+             6 out of memory, 7 too many lines
+";
