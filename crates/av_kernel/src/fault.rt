@@ -16,6 +16,17 @@ use av_pagetable::Pte;
 use av_trace::{Note, Notes, OutOf};
 use std::alloc::AllocError;
 
+/// The entry of a frame that a page has and that was accessed.
+fn accessed(frame: u32, write: bool) -> Pte
+    ensures { result ≡ Pte.Here frame write true }
+{
+    Pte::Here {
+        frame,
+        write,
+        seen: true,
+    }
+}
+
 impl Mem {
     /// Whether a page is mapped with a protection that allows the access.
     fn may_access(&self, process: u16, page: u64, write: bool) -> bool
@@ -55,12 +66,7 @@ impl Mem {
         let Some(frame) = self.frames.take() else {
             return Ok(None);
         };
-        let entry = Pte::Here {
-            frame,
-            write: true,
-            seen: true,
-        };
-        self.tables.set(process, page, entry)?;
+        self.tables.set(process, page, accessed(frame, true))?;
         self.frames.zero(frame);
         self.frames.map_up(frame);
         Ok(Some(frame))
@@ -81,12 +87,7 @@ impl Mem {
         let Some(frame) = self.frames.take() else {
             return Ok(None);
         };
-        let entry = Pte::Here {
-            frame,
-            write: true,
-            seen: true,
-        };
-        self.tables.set(process, page, entry)?;
+        self.tables.set(process, page, accessed(frame, true))?;
         self.frames.copy(from, frame);
         self.frames.map_up(frame);
         self.frames.map_down(from);
@@ -190,12 +191,7 @@ impl Mem {
                 if seen {
                     return Ok(Touched::Ready(frame));
                 }
-                let entry = Pte::Here {
-                    frame,
-                    write,
-                    seen: true,
-                };
-                self.tables.change(process, page, entry);
+                self.tables.change(process, page, accessed(frame, write));
                 Ok(Touched::Ready(frame))
             }
             Pte::Away { .. } => unreachable!(),
@@ -226,12 +222,7 @@ impl Mem {
                 if self.frames.maps(frame) > 1 {
                     return self.make_copy(process, page, frame, notes);
                 }
-                let entry = Pte::Here {
-                    frame,
-                    write: true,
-                    seen: true,
-                };
-                self.tables.change(process, page, entry);
+                self.tables.change(process, page, accessed(frame, true));
                 Ok(Touched::Ready(frame))
             }
             Pte::Away { .. } => unreachable!(),

@@ -1,4 +1,5 @@
 use Rattle.std.proofs.Common.{◌≡◌, ◌∙◌, sym, ap, refl, true, subst, ◌≤◌, ℕ}
+use Rattle.av_pagetable.specs.Entries.{entry_at, with_entry}
 use Rattle.av_pagetable.specs.declared.pte.Pte.TheVariants.{Here}
 use Rattle.av_plain.specs.Ledger.{mapped}
 use Rattle.av_kernel.specs.Page.{frame_named}
@@ -22,7 +23,7 @@ returns-else-maps-gt1-clause-step c = λ s keeps.
     let old = c.args.self.now in
     let few : mapped s.ledger h.frame ≤ 1 = subst (λ n. n ≤ 1) (c.maps.ensures ∙ keeps.stands.frames.maps h.frame) c.if-maps-gt1.false in
     seen_now old (record old { tables = c.change.new.self }) s c.args.process c.args.page h.frame true h.write true h.seen c.args.notes.now keeps (sym c.may_access.ensures.permitted ∙ c.if-not-may_access.false)
-    (sym c.get.ensures ∙ h.is) c.change.ensures.sets c.change.ensures.processes refl refl (λ _. few) (λ _. few)
+    (sym c.get.ensures ∙ h.is) (subst (λ e. entry_at c.change.new.self ≡ with_entry c.args.process c.args.page e (entry_at old.tables)) c.accessed.ensures c.change.ensures.sets) c.change.ensures.processes refl refl (λ _. few) (λ _. few)
 
 pub returns-then-seen-clause-step : goal.returns-then-seen-clause-step
 returns-then-seen-clause-step c = λ s keeps.
