@@ -1,6 +1,6 @@
 //! Making a page ready for an access: the page fault, and the bit that marks a page as seen.
 
-ghost use Rattle.std.specs.Prelude.{◌≡◌, ◌+◌, ◌-◌, ◌<◌, ◌≤◌, [], true, false, IsTrue, IfOk, MatchOption, Some, None};
+ghost use Rattle.std.specs.Prelude.{◌≡◌, ◌+◌, ◌-◌, ◌<◌, ◌≤◌, [], true, false, IsTrue, IfOk, MatchOption, MatchBool, Some, None};
 ghost use Rattle.av_vma.specs.Gap.{top_page};
 ghost use Rattle.av_pagetable.specs.Entries.{entry_at, has};
 ghost use Rattle.av_pagetable.specs.declared.pte.Pte.TheVariants as Pte;
@@ -38,6 +38,14 @@ impl Mem {
             Some(prot) => prot.readable(),
             None => false,
         }
+    }
+
+    /// Whether more than one entry names the frame.
+    fn is_shared(&self, frame: u32) -> bool
+        requires { frame < count self.now }
+        ensures { MatchBool result (1 < (view self.now).maps frame) ((view self.now).maps frame ≤ 1) }
+    {
+        self.frames.maps(frame) > 1
     }
 
     /// The numbers of an out-of-memory: the pinned frames, and all others, none of which has a slot.
@@ -219,7 +227,7 @@ impl Mem {
                 if write && seen {
                     return Ok(Touched::Ready(frame));
                 }
-                if self.frames.maps(frame) > 1 {
+                if self.is_shared(frame) {
                     return self.make_copy(process, page, frame, notes);
                 }
                 self.tables.change(process, page, accessed(frame, true));
