@@ -1,10 +1,10 @@
-use Rattle.std.proofs.Common.{◌≡◌, ◌∙◌, sym, ap, refl, true, subst, ◌≤◌, ℕ}
+use Rattle.std.proofs.Common.{◌≡◌, ◌∙◌, sym, ap, refl, true, subst, ◌≤◌}
 use Rattle.av_pagetable.specs.Entries.{entry_at, with_entry}
 use Rattle.av_pagetable.specs.declared.pte.Pte.TheVariants.{Here}
 use Rattle.av_plain.specs.Ledger.{mapped}
 use Rattle.av_kernel.specs.Page.{frame_named}
 use Rattle.av_kernel.proofs.PageTouched.{denied}
-use Rattle.av_kernel.proofs.PageSafe.{none_away, process_there, entry_frame, seen_there, seen_now}
+use Rattle.av_kernel.proofs.PageSafe.{none_away, entry_frame, seen_there, seen_now}
 use Rattle.av_kernel.proofs.mem.Mem.touch_to_write.Goals as goal
 
 pub is_shared-requires : goal.is_shared-requires
