@@ -1,16 +1,16 @@
 -- What may be put into a page's entry: zeros, a frame that was free, or the same frame as seen.
-use Rattle.std.proofs.Common.{◌≡◌, ◌≢◌, ℕ, zero, suc, ◌+◌, ◌-◌, ◌*◌, ◌<◌, ◌≤◌, Bool, true, false, cond, ◌&&◌, ◌||◌, List, [], ◌∷◌, Option, Some, None, refl, sym, ap, subst, ◌∙◌, arith, ◌==◌, nat_lt, is_some}
+use Rattle.std.proofs.Common.{◌≡◌, ◌≢◌, ℕ, zero, suc, ◌+◌, ◌<◌, ◌≤◌, Bool, true, false, cond, ◌||◌, List, ◌∷◌, Option, Some, None, refl, sym, ap, subst, ◌∙◌, arith, ◌==◌, is_some}
 use Rattle.std.proofs.lemmas.Bool.Decides.{nat_tests}
 use Rattle.std.proofs.lemmas.Bool.{false≢true}
 use Rattle.av_vma.specs.declared.slot.Slot.{Slot}
 use Rattle.av_vma.specs.Ranges.{with_at}
 use Rattle.av_frames.specs.Store.{is_in}
 use Rattle.av_plain.specs.World.{World, pages}
-use Rattle.av_plain.specs.Ledger.{Ledger, Setting, Entry, Zero, InFrame, InSlot, entry, mapped, names_frame, names_slot, is_free}
+use Rattle.av_plain.specs.Ledger.{Ledger, Setting, Entry, Zero, InFrame, entry, mapped, names_frame, names_slot, is_free}
 use Rattle.av_plain.specs.Event.{set_entry, to_inactive_head}
 use Rattle.av_plain.specs.Stands.{View, Holds, IsKept}
 use Rattle.av_plain.proofs.Laws.{weight}
-use Rattle.av_plain.proofs.LedgerLaws.{same_key, entry-set, same_key-itself, how_many-found, mapped-set}
+use Rattle.av_plain.proofs.LedgerLaws.{entry-set, same_key-itself, how_many-found, mapped-set}
 use Rattle.av_plain.proofs.NoSwapLaws.{itself, free_is, zero_is}
 use Rattle.av_kernel.proofs.PageParts.{Parts, changed, as_pte, parts_now}
 

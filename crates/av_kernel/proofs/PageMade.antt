@@ -1,20 +1,17 @@
 -- A write to a page that gets a frame: of zeros, or a copy.
-use Rattle.std.proofs.Common.{◌≡◌, ◌≢◌, ℕ, ◌+◌, ◌-◌, ◌*◌, ◌<◌, ◌≤◌, Bool, true, false, cond, ◌&&◌, ◌||◌, List, [], ◌∷◌, ◌++◌, Option, Some, None, refl, sym, ap, subst, ◌∙◌, arith, ◌==◌, nat_lt, is_some}
+use Rattle.std.proofs.Common.{◌≡◌, ℕ, ◌+◌, ◌-◌, ◌*◌, ◌<◌, Bool, true, false, cond, ◌||◌, List, [], ◌∷◌, ◌++◌, Option, Some, None, refl, sym, ap, subst, ◌∙◌, arith, ◌==◌}
 use Rattle.std.proofs.lemmas.Bool.{false≢true}
-use Rattle.std.proofs.lemmas.Bool.Decides.{nat_tests}
-use Rattle.av_vma.specs.declared.slot.Slot.{Slot}
-use Rattle.av_vma.specs.Ranges.{with_at}
 use Rattle.av_trace.specs.declared.reply.OutOf.{OutOf}
 use Rattle.av_trace.specs.declared.reply.Note.{Note}
 use Rattle.av_trace.specs.declared.reply.Note.TheVariants.{New, Copied}
 use Rattle.av_frames.specs.Store.{is_in}
 use Rattle.av_pagetable.specs.Entries.{entry_at, has}
-use Rattle.av_plain.specs.World.{World, Page, pages}
+use Rattle.av_plain.specs.World.{pages}
 use Rattle.av_plain.specs.Ledger.{Ledger, Key, Entry, Zero, InFrame, InSlot, entry, mapped, names_frame, names_slot, is_free}
 use Rattle.av_plain.specs.Event.{noted, set_entry, to_inactive_head}
-use Rattle.av_plain.specs.Pass.{noted_all, out_of, nothing_spared, pinning}
-use Rattle.av_plain.specs.Fault.{Serves, Fresh, Split, need}
-use Rattle.av_plain.specs.Stands.{View, prot_of, Holds, IsKept}
+use Rattle.av_plain.specs.Pass.{nothing_spared, pinning}
+use Rattle.av_plain.specs.Fault.{Fresh, Split, need}
+use Rattle.av_plain.specs.Stands.{prot_of, Holds, IsKept}
 use Rattle.av_plain.specs.Transcript.{State}
 use Rattle.av_plain.proofs.Laws.{weight}
 use Rattle.av_plain.proofs.NoSwapLaws.{itself, place-page, free_is, zero_is}
@@ -23,9 +20,9 @@ use Rattle.av_kernel.specs.declared.touched.Stop.TheVariants.{Oom}
 use Rattle.av_kernel.specs.declared.touched.Touched.TheVariants.{Ready as ReadyAt, Stopped}
 use Rattle.av_kernel.specs.View.{setting, count, view, Keeps}
 use Rattle.av_kernel.specs.Page.{permitted, frame_named, one_more, one_less, IsTouched, IsTaken}
-use Rattle.av_kernel.proofs.PageParts.{Parts, of_keeps}
+use Rattle.av_kernel.proofs.PageParts.{of_keeps}
 use Rattle.av_kernel.proofs.PageEntries.{given_to, equal_is}
-use Rattle.av_kernel.proofs.PageServes.{is_bare, bare_entry, bare_frame, bare_slot, named_entry, need_fresh, need_split, serves, takes, out_is, how_pinned}
+use Rattle.av_kernel.proofs.PageServes.{is_bare, bare_entry, bare_frame, bare_slot, need_fresh, need_split, serves, takes, out_is}
 use Rattle.av_kernel.proofs.PageTouched.{given_now, starved}
 use Rattle.av_kernel.proofs.PageSafe.{named_frame}
 

@@ -1,5 +1,5 @@
 -- Which notes a page takes, by its entry, and what an out-of-memory says, where there is no device.
-use Rattle.std.proofs.Common.{◌≡◌, ◌≢◌, ℕ, zero, suc, ◌+◌, ◌-◌, ◌*◌, ◌<◌, ◌≤◌, Bool, true, false, cond, not, ◌&&◌, ◌||◌, T, List, [], ◌∷◌, ◌++◌, Option, Some, None, is_some, is_none, option_map, refl, sym, ap, subst, ◌∙◌, arith, ◌==◌, nat_lt, append-nil, inl}
+use Rattle.std.proofs.Common.{◌≡◌, ◌≢◌, ℕ, zero, suc, ◌+◌, ◌-◌, ◌<◌, ◌≤◌, Bool, true, false, cond, not, ◌&&◌, ◌||◌, List, [], ◌∷◌, ◌++◌, Option, Some, None, is_some, is_none, option_map, refl, sym, ap, subst, ◌∙◌, arith, ◌==◌, nat_lt, append-nil, inl}
 use Rattle.std.proofs.lemmas.Bool.Decides.{nat_tests}
 use Rattle.std.proofs.lemmas.Bool.{false≢true}
 use Rattle.std.specs.List.{list_any}
@@ -12,8 +12,8 @@ use Rattle.av_pagetable.specs.declared.pte.Pte.TheVariants.{Empty, Zero as ZeroP
 use Rattle.av_plain.specs.World.{World, Page, pages}
 use Rattle.av_plain.specs.Ledger.{Ledger, Setting, Key, Entry, Zero, InFrame, InSlot, entry, mapped, slot_entries, names_frame, names_slot, is_free, has_free, slot_of}
 use Rattle.av_plain.specs.Event.{without}
-use Rattle.av_plain.specs.Pass.{noted_all, out_of, unpinned, pinning, Spared}
-use Rattle.av_plain.specs.Fault.{Serves, need, Need, Ready, Blank, Fresh, Split, comes, ComesIn, IsMade, TakesFor, is_shared, spare_of, spare_slot, permits, RunsOut, pinned_by, wants_frame}
+use Rattle.av_plain.specs.Pass.{noted_all, out_of, Spared}
+use Rattle.av_plain.specs.Fault.{Serves, need, Need, Ready, Fresh, Split, comes, ComesIn, IsMade, TakesFor, spare_of, spare_slot, permits, RunsOut, pinned_by, wants_frame}
 use Rattle.av_plain.specs.Stands.{View, entry_of, AreasStand, prot_of}
 use Rattle.av_plain.proofs.Laws.{weight}
 use Rattle.av_plain.proofs.LedgerLaws.{how_many-found}

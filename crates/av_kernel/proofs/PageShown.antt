@@ -1,10 +1,9 @@
 -- What a read shows of a page is what the page claims.
-use Rattle.std.proofs.Common.{◌≡◌, ℕ, suc, ◌+◌, ◌-◌, ◌*◌, ◌/◌, ◌%◌, ◌<◌, ◌≤◌, true, false, List, [], ◌∷◌, ◌++◌, length, get_or, take, drop, replicate, slice_index, Option, Some, None, refl, sym, ap, subst, ◌∙◌, arith}
+use Rattle.std.proofs.Common.{◌≡◌, ℕ, suc, ◌+◌, ◌-◌, ◌*◌, ◌/◌, ◌%◌, ◌<◌, ◌≤◌, false, List, [], ◌∷◌, ◌++◌, length, get_or, take, drop, replicate, Option, Some, None, sym, ap, subst, ◌∙◌, arith}
 use Rattle.std.proofs.lemmas.List.{get_or-take, get_or-drop, get_or-replicate, length-take-le, length-drop, length-replicate}
 use Rattle.std.specs.Prelude.{IfSome, option_and_then}
 use Rattle.av_trace.specs.declared.reply.Note.{Note}
-use Rattle.av_plain.specs.World.{World, Process, Page, pages, page_of, byte_at, Shows}
-use Rattle.av_plain.specs.Ledger.{Ledger, Zero, InFrame, entry}
+use Rattle.av_plain.specs.World.{Process, Page, pages, byte_at, Shows}
 use Rattle.av_plain.specs.Event.{after_all}
 use Rattle.av_plain.specs.Fault.{Served, happening}
 use Rattle.av_plain.specs.Stands.{Holds, IsKept}

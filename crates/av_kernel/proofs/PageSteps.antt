@@ -1,5 +1,5 @@
 -- A page that has been touched, and then read or written, or not served: what the kernel stands for after it.
-use Rattle.std.proofs.Common.{◌≡◌, ℕ, zero, ◌+◌, ◌*◌, ◌/◌, ◌%◌, ◌<◌, ◌≤◌, Bool, true, false, cond, not, List, [], ◌∷◌, ◌++◌, length, Option, Some, None, refl, sym, ap, subst, ◌∙◌, arith, ◌==◌, is_some, append-nil, if◌then◌else◌}
+use Rattle.std.proofs.Common.{◌≡◌, ℕ, ◌+◌, ◌*◌, ◌/◌, ◌%◌, ◌<◌, ◌≤◌, Bool, true, false, cond, not, List, [], ◌∷◌, length, Some, None, refl, sym, ap, subst, ◌∙◌, arith, ◌==◌, is_some, append-nil, if◌then◌else◌}
 use Rattle.std.proofs.lemmas.Bool.Decides.{nat_tests}
 use Rattle.std.specs.Prelude.{IfSome}
 use Rattle.std.specs.Ordering.{nat_cmp}
@@ -7,19 +7,17 @@ use Rattle.std.specs.FinMap.Entries.{find}
 use Rattle.av_vma.specs.Ranges.{numbers, with_at}
 use Rattle.av_frames.specs.Store.{Seen, seen, overlaid}
 use Rattle.av_trace.specs.declared.reply.Note.{Note}
-use Rattle.av_trace.specs.declared.reply.Errno.{Errno}
 use Rattle.av_trace.specs.declared.reply.Errno.TheVariants.{Esrch}
 use Rattle.av_trace.specs.declared.reply.Answer.TheVariants.{Done}
 use Rattle.av_trace.specs.declared.command.Command.TheVariants.{Write}
 use Rattle.av_pagetable.specs.Entries.{entry_at, has}
-use Rattle.av_plain.specs.World.{World, lives, pages, written, set_process, address_of, page_of, pages_of}
-use Rattle.av_plain.specs.Ledger.{Ledger, Setting, Area, InFrame, entry, mapped, names_frame}
-use Rattle.av_plain.specs.Event.{Event, after_all}
+use Rattle.av_plain.specs.World.{World, lives, pages, written, set_process, page_of, pages_of}
+use Rattle.av_plain.specs.Ledger.{Ledger, Setting, Area, InFrame, mapped, names_frame}
+use Rattle.av_plain.specs.Event.{after_all}
 use Rattle.av_plain.specs.Fault.{Accesses, GoesOn, End, Stopped as EndStopped, Touches, How, Served, Denied, Starved, Lost, Whole, happening, touched}
-use Rattle.av_plain.specs.Refusal.{tests, refusal}
 use Rattle.av_plain.specs.Step.{stored}
 use Rattle.av_plain.specs.Sound.{AllSound}
-use Rattle.av_plain.specs.Stands.{View, Stands, HeadersStand, HasNumbers}
+use Rattle.av_plain.specs.Stands.{HeadersStand, HasNumbers}
 use Rattle.av_plain.specs.Choice.{ChoosesAll}
 use Rattle.av_plain.specs.Transcript.{State}
 use Rattle.av_plain.proofs.LedgerLaws.{how_many-found}
@@ -30,11 +28,10 @@ use Rattle.av_plain.proofs.SoundThere.{there-accesses}
 use Rattle.av_plain.proofs.Soundness.{follows-sound}
 use Rattle.av_kernel.specs.declared.mem.Mem.{Mem}
 use Rattle.av_kernel.specs.declared.touched.Stop.{Stop}
-use Rattle.av_kernel.specs.declared.touched.Stop.TheVariants.{Segv, Oom}
 use Rattle.av_kernel.specs.declared.touched.Touched.{Touched}
-use Rattle.av_kernel.specs.declared.touched.Touched.TheVariants.{Ready, Zeros, Stopped}
+use Rattle.av_kernel.specs.declared.touched.Touched.TheVariants.{Ready, Stopped}
 use Rattle.av_kernel.specs.Spaces.{areas_of}
-use Rattle.av_kernel.specs.View.{setting, count, plain, view, joined, Keeps, PartsStand, HasTables}
+use Rattle.av_kernel.specs.View.{setting, count, plain, view, joined, Keeps, PartsStand}
 use Rattle.av_kernel.specs.Page.{IsTouched, IsPageStep, how_touched, how_stopped, world_after}
 use Rattle.av_kernel.proofs.PageParts.{Parts, of_stand, to_stand}
 use Rattle.av_kernel.proofs.PageWritten.{over, written_now, stored_is}

@@ -1,28 +1,27 @@
 -- A page that has been touched: its notes are lawful, and the parts stand after them and its use.
-use Rattle.std.proofs.Common.{◌≡◌, ℕ, ◌+◌, ◌-◌, ◌*◌, ◌<◌, ◌≤◌, Bool, true, false, cond, ◌&&◌, T, List, [], ◌∷◌, ◌++◌, Option, Some, None, refl, sym, ap, subst, ◌∙◌, arith, ◌==◌, is_some, append-nil}
+use Rattle.std.proofs.Common.{◌≡◌, ℕ, ◌+◌, ◌*◌, ◌<◌, ◌≤◌, Bool, true, false, cond, ◌&&◌, T, List, [], ◌∷◌, ◌++◌, Option, Some, None, refl, sym, ap, subst, ◌∙◌, arith, ◌==◌, is_some, append-nil}
 use Rattle.std.specs.FinMap.Entries.{is_sorted}
 use Rattle.av_vma.specs.declared.slot.Slot.{Slot}
 use Rattle.av_vma.specs.Ranges.{with_at}
 use Rattle.av_trace.specs.declared.reply.OutOf.{OutOf}
 use Rattle.av_trace.specs.declared.reply.Note.{Note}
 use Rattle.av_trace.specs.declared.reply.Note.TheVariants.{Zeroed}
-use Rattle.av_pagetable.specs.Entries.{entry_at, has}
-use Rattle.av_plain.specs.World.{World, pages, address_of}
-use Rattle.av_plain.specs.Ledger.{Ledger, Setting, Key, key_cmp, Entry, Zero, InFrame, InSlot, entry, mapped, names_frame, names_slot, has_free}
-use Rattle.av_plain.specs.Event.{Event, Noted, Used, after_all, noted, used, used_at, set_entry, at, mark, place}
-use Rattle.av_plain.specs.Pass.{noted_all, out_of}
-use Rattle.av_plain.specs.Fault.{Serves, Touches, Served, Denied, Starved, happening, need, Need, Ready, Blank, wants_frame, pinned_by, permits}
-use Rattle.av_plain.specs.Choice.{Chooses, ChoosesAll}
-use Rattle.av_plain.specs.Stands.{View, Pte as Plain, entry_of, prot_of, Holds}
+use Rattle.av_pagetable.specs.Entries.{has}
+use Rattle.av_plain.specs.World.{World, pages}
+use Rattle.av_plain.specs.Ledger.{Ledger, Key, key_cmp, Entry, Zero, InFrame, entry, mapped, names_frame, names_slot}
+use Rattle.av_plain.specs.Event.{Noted, noted, used, used_at, set_entry, at, mark}
+use Rattle.av_plain.specs.Pass.{out_of}
+use Rattle.av_plain.specs.Fault.{Serves, Touches, Served, Starved, need, Need, Ready, Blank, wants_frame, pinned_by, permits}
+use Rattle.av_plain.specs.Choice.{Chooses}
+use Rattle.av_plain.specs.Stands.{View, Pte as Plain, prot_of, Holds}
 use Rattle.av_plain.specs.Transcript.{State}
 use Rattle.av_plain.proofs.Laws.{weight}
-use Rattle.av_plain.proofs.LedgerLaws.{same_key, same_key-is, same_key-itself, entry-set, mapped-set}
+use Rattle.av_plain.proofs.LedgerLaws.{same_key-is, same_key-itself, entry-set, mapped-set}
 use Rattle.av_plain.proofs.NoSwapLaws.{place-page, key_is, no_slot}
 use Rattle.av_kernel.specs.declared.mem.Mem.{Mem}
 use Rattle.av_kernel.specs.declared.touched.Stop.TheVariants.{Segv, Oom}
-use Rattle.av_kernel.specs.declared.touched.Touched.{Touched}
 use Rattle.av_kernel.specs.declared.touched.Touched.TheVariants.{Ready as ReadyAt, Zeros, Stopped}
-use Rattle.av_kernel.specs.View.{setting, count, plain, view, Keeps, PartsStand, HasTables}
+use Rattle.av_kernel.specs.View.{setting, count, view, Keeps, PartsStand, HasTables}
 use Rattle.av_kernel.specs.Page.{permitted, IsTouched, IsTaken}
 use Rattle.av_kernel.proofs.PageParts.{Parts, changed, as_pte, of_keeps, to_stand}
 use Rattle.av_kernel.proofs.PageEntries.{zeroed, seen, given, given_to, entry_given, once_named}

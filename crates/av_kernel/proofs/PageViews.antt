@@ -1,11 +1,11 @@
 -- What the view is after a change of the parts.
-use Rattle.std.proofs.Common.{◌≡◌, ℕ, ◌+◌, ◌-◌, ◌<◌, Bool, true, false, cond, ◌&&◌, List, [], ◌∷◌, Option, Some, None, refl, sym, ap, subst, ◌∙◌, ◌==◌}
+use Rattle.std.proofs.Common.{◌≡◌, ℕ, ◌<◌, Bool, true, false, cond, ◌&&◌, List, ◌∷◌, Option, refl, sym, ap, subst, ◌∙◌, ◌==◌}
 use Rattle.av_vma.specs.Ranges.{with_at}
 use Rattle.av_frames.specs.Store.{is_in, Seen, seen}
 use Rattle.av_pagetable.specs.declared.pte.Pte.{Pte}
 use Rattle.av_pagetable.specs.declared.pte.Pte.TheVariants.{Here}
 use Rattle.av_pagetable.specs.Entries.{entry_at, with_entry}
-use Rattle.av_plain.specs.Stands.{View, Pte as Plain}
+use Rattle.av_plain.specs.Stands.{Pte as Plain}
 use Rattle.av_kernel.specs.declared.mem.Mem.{Mem}
 use Rattle.av_kernel.specs.View.{plain, joined, view, count}
 use Rattle.av_kernel.specs.Page.{IsTaken, taken_for}

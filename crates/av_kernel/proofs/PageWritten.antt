@@ -4,15 +4,13 @@ use Rattle.std.proofs.lemmas.Bool.Decides.{nat_tests}
 use Rattle.std.proofs.lemmas.Bool.{false≢true}
 use Rattle.std.specs.Prelude.{IfSome}
 use Rattle.std.specs.Ordering.{nat_cmp, eq_by_cmp}
-use Rattle.av_vma.specs.declared.slot.Slot.{Slot}
-use Rattle.av_vma.specs.declared.area.Prot.{Prot}
 use Rattle.av_vma.specs.Ranges.{within, with_at}
 use Rattle.av_frames.specs.Store.{overlaid}
-use Rattle.av_plain.specs.World.{World, Process, Page, pages, lives, written, set_process, address_of}
-use Rattle.av_plain.specs.Ledger.{Ledger, Setting, Key, Entry, Zero, InFrame, InSlot, entry, mapped, names_frame, frame_at}
+use Rattle.av_plain.specs.World.{World, Process, Page, pages, lives, written, set_process}
+use Rattle.av_plain.specs.Ledger.{Ledger, Setting, Key, Entry, Zero, InFrame, InSlot, entry, mapped, frame_at}
 use Rattle.av_plain.specs.Step.{stored}
 use Rattle.av_plain.specs.Sound.{IsTidy}
-use Rattle.av_plain.specs.Stands.{View, Holds, HoldsTold, IsKept, IsKeptAt, AreasStand, BytesStand}
+use Rattle.av_plain.specs.Stands.{View, Holds, IsKept, IsKeptAt, AreasStand, BytesStand}
 use Rattle.av_plain.proofs.LedgerLaws.{same_key, same_key-is, same_key-itself, only_one}
 use Rattle.av_plain.proofs.WorldLaws.{pages-set, lives-set, length-set_old}
 use Rattle.av_plain.proofs.NoSwapLaws.{itself}

@@ -1,5 +1,5 @@
 -- What a read or write does at one page.
-use Rattle.std.specs.Prelude.{◌≡◌, ℕ, ◌+◌, ◌-◌, ◌<◌, ◌∷◌, ◌≤◌, ◌++◌, Bool, true, false, List, [], length, Option, Some, None, if◌then◌else◌, ◌&&◌}
+use Rattle.std.specs.Prelude.{◌≡◌, ℕ, ◌+◌, ◌-◌, ◌<◌, ◌∷◌, ◌≤◌, ◌++◌, Bool, true, false, List, length, Option, Some, None}
 use Rattle.av_trace.specs.declared.reply.Note.{Note}
 use Rattle.av_vma.specs.declared.area.Prot.{Prot}
 use Rattle.av_vma.specs.Ranges.{with_at}
@@ -9,10 +9,9 @@ use Rattle.av_pagetable.specs.declared.pte.Pte.TheVariants.{Empty, Zero as ZeroP
 use Rattle.av_pagetable.specs.Entries.{with_entry}
 use Rattle.av_plain.specs.Stands.{View}
 use Rattle.av_plain.specs.World.{World, address_of, allows, pages, Shows}
-use Rattle.av_plain.specs.Ledger.{Ledger, Key, Entry, Zero, InFrame, InSlot, entry, mapped}
-use Rattle.av_plain.specs.Event.{Event, after_all, notes_of}
-use Rattle.av_plain.specs.Pass.{noted_all}
-use Rattle.av_plain.specs.Fault.{Touches, How, Served, Denied, Starved, happening, noting}
+use Rattle.av_plain.specs.Ledger.{Ledger, Key, Zero, InFrame, entry, mapped}
+use Rattle.av_plain.specs.Event.{after_all}
+use Rattle.av_plain.specs.Fault.{Touches, How, Served, Denied, Starved, happening}
 use Rattle.av_plain.specs.Step.{stored}
 use Rattle.av_plain.specs.Choice.{ChoosesAll}
 use Rattle.av_plain.specs.Transcript.{State}

@@ -1,6 +1,6 @@
 //! Making a page ready for an access: the page fault, and the bit that marks a page as seen.
 
-ghost use Rattle.std.specs.Prelude.{◌≡◌, ◌+◌, ◌-◌, ◌<◌, ◌≤◌, [], true, false, IsTrue, IfOk, MatchOption, Some, None};
+ghost use Rattle.std.specs.Prelude.{◌≡◌, ◌+◌, ◌-◌, ◌<◌, ◌≤◌, [], true, false, IsTrue, IfOk, MatchOption, MatchBool, Some, None};
 ghost use Rattle.av_vma.specs.Gap.{top_page};
 ghost use Rattle.av_pagetable.specs.Entries.{entry_at, has};
 ghost use Rattle.av_pagetable.specs.declared.pte.Pte.TheVariants as Pte;
@@ -16,6 +16,17 @@ use av_pagetable::Pte;
 use av_trace::{Note, Notes, OutOf};
 use std::alloc::AllocError;
 
+/// The entry of a frame that a page has and that was accessed.
+fn accessed(frame: u32, write: bool) -> Pte
+    ensures { result ≡ Pte.Here frame write true }
+{
+    Pte::Here {
+        frame,
+        write,
+        seen: true,
+    }
+}
+
 impl Mem {
     /// Whether a page is mapped with a protection that allows the access.
     fn may_access(&self, process: u16, page: u64, write: bool) -> bool
@@ -27,6 +38,14 @@ impl Mem {
             Some(prot) => prot.readable(),
             None => false,
         }
+    }
+
+    /// Whether more than one entry names the frame.
+    fn is_shared(&self, frame: u32) -> bool
+        requires { frame < count self.now }
+        ensures { MatchBool result (1 < (view self.now).maps frame) ((view self.now).maps frame ≤ 1) }
+    {
+        self.frames.maps(frame) > 1
     }
 
     /// The numbers of an out-of-memory: the pinned frames, and all others, none of which has a slot.
@@ -55,12 +74,7 @@ impl Mem {
         let Some(frame) = self.frames.take() else {
             return Ok(None);
         };
-        let entry = Pte::Here {
-            frame,
-            write: true,
-            seen: true,
-        };
-        self.tables.set(process, page, entry)?;
+        self.tables.set(process, page, accessed(frame, true))?;
         self.frames.zero(frame);
         self.frames.map_up(frame);
         Ok(Some(frame))
@@ -81,12 +95,7 @@ impl Mem {
         let Some(frame) = self.frames.take() else {
             return Ok(None);
         };
-        let entry = Pte::Here {
-            frame,
-            write: true,
-            seen: true,
-        };
-        self.tables.set(process, page, entry)?;
+        self.tables.set(process, page, accessed(frame, true))?;
         self.frames.copy(from, frame);
         self.frames.map_up(frame);
         self.frames.map_down(from);
@@ -190,12 +199,7 @@ impl Mem {
                 if seen {
                     return Ok(Touched::Ready(frame));
                 }
-                let entry = Pte::Here {
-                    frame,
-                    write,
-                    seen: true,
-                };
-                self.tables.change(process, page, entry);
+                self.tables.change(process, page, accessed(frame, write));
                 Ok(Touched::Ready(frame))
             }
             Pte::Away { .. } => unreachable!(),
@@ -223,15 +227,10 @@ impl Mem {
                 if write && seen {
                     return Ok(Touched::Ready(frame));
                 }
-                if self.frames.maps(frame) > 1 {
+                if self.is_shared(frame) {
                     return self.make_copy(process, page, frame, notes);
                 }
-                let entry = Pte::Here {
-                    frame,
-                    write: true,
-                    seen: true,
-                };
-                self.tables.change(process, page, entry);
+                self.tables.change(process, page, accessed(frame, true));
                 Ok(Touched::Ready(frame))
             }
             Pte::Away { .. } => unreachable!(),

@@ -2,7 +2,7 @@ use Rattle.std.proofs.Common.{◌∙◌, sym, ap, refl}
 use Rattle.av_pagetable.specs.declared.pte.Pte.TheVariants.{Zero}
 use Rattle.av_plain.specs.Stands.{entry_of}
 use Rattle.av_kernel.specs.View.{plain}
-use Rattle.av_kernel.proofs.PageViews.{entry_put_in, frame_taken}
+use Rattle.av_kernel.proofs.PageViews.{entry_put_in}
 use Rattle.av_kernel.proofs.PageTouched.{zeroed_now}
 use Rattle.av_kernel.proofs.mem.Mem.make_zero.Goals as goal
 

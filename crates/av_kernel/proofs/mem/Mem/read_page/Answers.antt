@@ -1,4 +1,4 @@
-use Rattle.std.proofs.Common.{◌≡◌, sym, refl, ap, true, false, []}
+use Rattle.std.proofs.Common.{refl, false, []}
 use Rattle.av_kernel.proofs.PageSteps.{frame_below, stopped, read_served}
 use Rattle.av_kernel.specs.declared.touched.Touched.TheVariants.{Ready, Zeros}
 use Rattle.av_kernel.proofs.PageShown.{frame_shown, zeros_shown}

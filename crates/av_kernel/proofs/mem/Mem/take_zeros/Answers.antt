@@ -1,6 +1,7 @@
-use Rattle.std.proofs.Common.{◌≡◌, ◌∙◌, ap, refl, ◌+◌, arith}
+use Rattle.std.proofs.Common.{◌≡◌, ◌∙◌, ap, refl, subst, ◌+◌, arith}
 use Rattle.av_vma.specs.Ranges.{with_at}
 use Rattle.av_frames.specs.Store.{Seen, seen}
+use Rattle.av_pagetable.specs.Entries.{entry_at, with_entry}
 use Rattle.av_kernel.proofs.PageViews.{frame_taken}
 use Rattle.av_kernel.proofs.PageSafe.{free_unmapped}
 use Rattle.av_kernel.proofs.mem.Mem.take_zeros.Goals as goal
@@ -19,4 +20,4 @@ returns-clause-taken c =
     let t = c.in-Some.ensures in
     frame_taken c.args.self.now _ c.args.process c.args.page f _ _ c.take.new.self.free
     (c.map_up.ensures ∙ ap (λ (s : Seen). record s { maps = with_at f (s.maps f + 1) s.maps }) (c.zero.ensures ∙ ap (λ (s : Seen). record s { bytes = with_at f (λ i. 0) s.bytes }) t.3))
-    t.0 t.2 t.1 c.in_ok-set.ensures.sets refl
+    t.0 t.2 t.1 (subst (λ e. entry_at c.set.new.self ≡ with_entry c.args.process c.args.page e (entry_at c.args.self.now.tables)) c.accessed.ensures c.in_ok-set.ensures.sets) refl

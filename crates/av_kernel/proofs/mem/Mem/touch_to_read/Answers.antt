@@ -1,5 +1,6 @@
-use Rattle.std.proofs.Common.{◌≡◌, ◌∙◌, sym, ap, refl, false}
+use Rattle.std.proofs.Common.{◌≡◌, ◌∙◌, sym, ap, refl, subst, false}
 use Rattle.std.proofs.lemmas.Bool.{false≢true}
+use Rattle.av_pagetable.specs.Entries.{entry_at, with_entry}
 use Rattle.av_pagetable.specs.declared.pte.Pte.TheVariants.{Here}
 use Rattle.av_plain.specs.Stands.{entry_of}
 use Rattle.av_kernel.specs.View.{plain}
@@ -34,4 +35,4 @@ returns-else-seen-clause-step c = λ s keeps.
     let old = c.args.self.now in
     let is = sym c.get.ensures ∙ h.is in
     seen_now old (record old { tables = c.change.new.self }) s c.args.process c.args.page h.frame false h.write h.write h.seen c.args.notes.now keeps (sym c.may_access.ensures.permitted ∙ c.if-not-may_access.false)
-    is c.change.ensures.sets c.change.ensures.processes refl refl (few_by_bit old s c.args.process c.args.page h.frame h.write h.seen keeps is) (λ e. absurd (false≢true e))
+    is (subst (λ e. entry_at c.change.new.self ≡ with_entry c.args.process c.args.page e (entry_at old.tables)) c.accessed.ensures c.change.ensures.sets) c.change.ensures.processes refl refl (few_by_bit old s c.args.process c.args.page h.frame h.write h.seen keeps is) (λ e. absurd (false≢true e))

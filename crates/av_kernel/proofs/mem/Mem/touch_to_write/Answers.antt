@@ -1,13 +1,14 @@
-use Rattle.std.proofs.Common.{◌≡◌, ◌∙◌, sym, ap, refl, true, subst, ◌≤◌, ℕ}
+use Rattle.std.proofs.Common.{◌≡◌, ◌∙◌, sym, ap, refl, true, subst, ◌≤◌}
+use Rattle.av_pagetable.specs.Entries.{entry_at, with_entry}
 use Rattle.av_pagetable.specs.declared.pte.Pte.TheVariants.{Here}
 use Rattle.av_plain.specs.Ledger.{mapped}
 use Rattle.av_kernel.specs.Page.{frame_named}
 use Rattle.av_kernel.proofs.PageTouched.{denied}
-use Rattle.av_kernel.proofs.PageSafe.{none_away, process_there, entry_frame, seen_there, seen_now}
+use Rattle.av_kernel.proofs.PageSafe.{none_away, entry_frame, seen_there, seen_now}
 use Rattle.av_kernel.proofs.mem.Mem.touch_to_write.Goals as goal
 
-pub maps-requires : goal.maps-requires
-maps-requires c = (entry_frame c.args.self.now c.args.process c.args.page c.in-Here.frame c.requires.steady (ap frame_named (sym c.get.ensures ∙ c.in-Here.is))).0
+pub is_shared-requires : goal.is_shared-requires
+is_shared-requires c = (entry_frame c.args.self.now c.args.process c.args.page c.in-Here.frame c.requires.steady (ap frame_named (sym c.get.ensures ∙ c.in-Here.is))).0
 
 pub unreachable-requires : goal.unreachable-requires
 unreachable-requires c = none_away c.args.self.now c.args.process c.args.page c.in-Away.slot c.requires.steady (sym c.get.ensures ∙ c.in-Away.is)
@@ -16,13 +17,13 @@ pub returns-then-not-may_access-clause-step : goal.returns-then-not-may_access-c
 returns-then-not-may_access-clause-step c = λ s keeps.
     denied s c.args.self.now c.args.self.now c.args.process c.args.page c.args.notes.now keeps true (sym c.may_access.ensures.permitted ∙ c.if-not-may_access.true)
 
-pub returns-else-maps-gt1-clause-step : goal.returns-else-maps-gt1-clause-step
-returns-else-maps-gt1-clause-step c = λ s keeps.
+pub returns-else-is_shared-clause-step : goal.returns-else-is_shared-clause-step
+returns-else-is_shared-clause-step c = λ s keeps.
     let h = c.in-Here in
     let old = c.args.self.now in
-    let few : mapped s.ledger h.frame ≤ 1 = subst (λ n. n ≤ 1) (c.maps.ensures ∙ keeps.stands.frames.maps h.frame) c.if-maps-gt1.false in
+    let few : mapped s.ledger h.frame ≤ 1 = subst (λ n. n ≤ 1) (keeps.stands.frames.maps h.frame) (rw c.if-is_shared.false at c.is_shared.ensures) in
     seen_now old (record old { tables = c.change.new.self }) s c.args.process c.args.page h.frame true h.write true h.seen c.args.notes.now keeps (sym c.may_access.ensures.permitted ∙ c.if-not-may_access.false)
-    (sym c.get.ensures ∙ h.is) c.change.ensures.sets c.change.ensures.processes refl refl (λ _. few) (λ _. few)
+    (sym c.get.ensures ∙ h.is) (subst (λ e. entry_at c.change.new.self ≡ with_entry c.args.process c.args.page e (entry_at old.tables)) c.accessed.ensures c.change.ensures.sets) c.change.ensures.processes refl refl (λ _. few) (λ _. few)
 
 pub returns-then-seen-clause-step : goal.returns-then-seen-clause-step
 returns-then-seen-clause-step c = λ s keeps.

@@ -1,4 +1,4 @@
-use Rattle.std.proofs.Common.{◌≡◌, sym, refl, ap, true, false}
+use Rattle.std.proofs.Common.{sym, refl, true}
 use Rattle.std.proofs.lemmas.Bool.{false≢true}
 use Rattle.av_kernel.proofs.PageSteps.{frame_below, stopped, written_served}
 use Rattle.av_kernel.proofs.mem.Mem.write_page.Goals as goal
