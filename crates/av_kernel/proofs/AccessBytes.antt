@@ -1,12 +1,11 @@
 -- The bytes of an access piece by piece are those of the whole.
-use Rattle.std.proofs.Common.{◌≡◌, ℕ, ◌+◌, suc, Bool, true, false, cond, T, List, [], ◌∷◌, ◌++◌, length, Option, Some, None, is_some, option_and_then, option_map, refl, sym, ap, subst, ◌∙◌, arith}
-use Rattle.std.specs.Prelude.{IfSome}
+use Rattle.std.proofs.Common.{◌≡◌, ℕ, ◌+◌, suc, Bool, true, cond, List, [], ◌∷◌, ◌++◌, length, Option, Some, None, refl, sym, ap, subst, ◌∙◌, arith}
 use Rattle.std.specs.Ordering.{nat_cmp, is_eq, eq_by_cmp}
 use Rattle.std.specs.declared.cmp.Ordering.TheVariants.{Less, Equal, Greater}
-use Rattle.std.specs.Cmp.{IsTotalOrder, nat_cmp_total, tied_itself}
-use Rattle.std.specs.FinMap.Entries.{put, find, by_order}
+use Rattle.std.specs.Cmp.{nat_cmp_total, tied_itself}
+use Rattle.std.specs.FinMap.Entries.{put, by_order}
 use Rattle.std.proofs.lemmas.List.{append-nil, length-append}
-use Rattle.av_plain.specs.World.{World, Process, Page, process, pages, lives, set_process, written, byte_at, Shows, allows}
+use Rattle.av_plain.specs.World.{World, Process, Page, process, pages, lives, set_process, written, Shows}
 use Rattle.av_plain.specs.Fault.{is_allowed, permits}
 use Rattle.av_plain.specs.Step.{stored, Reads}
 use Rattle.av_plain.proofs.WorldLaws.{lives-set, pages-set}

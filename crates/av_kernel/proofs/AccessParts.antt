@@ -10,12 +10,12 @@ use Rattle.av_plain.specs.Fault.{Accesses, End, Whole, Stopped, How, Served, Den
 use Rattle.av_plain.specs.Step.{stored, Reads}
 use Rattle.av_plain.specs.Choice.{ChoosesAll}
 use Rattle.av_plain.specs.Transcript.{State}
-use Rattle.av_plain.proofs.AccessLaws.{after_all-append, notes_of-append, notes_of-noting, chooses-append, accesses-append, AllowAlike, alike-all}
+use Rattle.av_plain.proofs.AccessLaws.{after_all-append, notes_of-append, notes_of-noting, chooses-append, accesses-append, alike-all}
 use Rattle.av_kernel.specs.declared.mem.Mem.{Mem}
 use Rattle.av_kernel.specs.declared.touched.Stop.{Stop}
 use Rattle.av_kernel.specs.declared.touched.Stop.TheVariants.{Segv, Oom}
-use Rattle.av_kernel.specs.View.{setting, count, Keeps}
-use Rattle.av_kernel.specs.Page.{IsPageStep, ShowsPiece, how_stopped, how_ended, world_after}
+use Rattle.av_kernel.specs.View.{setting, count}
+use Rattle.av_kernel.specs.Page.{IsPageStep, ShowsPiece, how_stopped, world_after}
 use Rattle.av_kernel.specs.declared.access.Piece.{Piece}
 use Rattle.av_kernel.specs.Access.{IsAccess, IsPiece, world_served}
 use Rattle.av_kernel.proofs.AccessPages.{touches, touched-one, touched-more}
@@ -40,6 +40,10 @@ served_twice w false p a page at xs ys is = refl
 pub stopped-world : (write : Bool) (p page at : ℕ) (ys : List ℕ) (stop : Stop) (w : World) → world_after write p page at ys (Some stop) w ≡ w
 stopped-world true p page at ys stop w = refl
 stopped-world false p page at ys stop w = refl
+
+-- the process lives on after a part of an access
+pub still_lives : {s : State} {mid : Mem} {write : Bool} {p a k : ℕ} {xs : List ℕ} {before now : List Note} → lives s.world p ≡ true → (h : IsAccess s mid write p a k xs before now None k) → lives h.next.world p ≡ true
+still_lives {s} {mid} {write} {p} {a} {k} {xs} lived h = ap (λ w. lives w p) h.world ∙ lives-served s.world write p a xs lived
 
 -- ---- what happens at one page
 
@@ -70,10 +74,6 @@ record Behind (a k page at : ℕ) : Type 0 where
 
 module _ (s : State) (mid new : Mem) (write : Bool) (p a k page at : ℕ) (xs ys : List ℕ) (before now after : List Note)
     (same : count new ≡ count mid) (behind : Behind a k page at) (h : IsAccess s mid write p a k xs before now None k) where
-  -- the process lives on
-  alive : lives s.world p ≡ true → lives h.next.world p ≡ true
-  alive lived = ap (λ w. lives w p) h.world ∙ lives-served s.world write p a xs lived
-
   notes-both : (how : How) (added : List Note) → after ≡ now ++ added → after ≡ before ++ notes_of (h.events ++ happening write (p, page) added how)
   notes-both how added is = is ∙ ap (λ ns. ns ++ added) h.notes ∙ append_assoc before (notes_of h.events) added
       ∙ ap (λ ns. before ++ ns) (ap (λ ns. notes_of h.events ++ ns) (sym (notes-happening write (p, page) added how)) ∙ sym (notes_of-append h.events (happening write (p, page) added how)))
@@ -157,19 +157,16 @@ none_left (Some stop) h = absurd (h stop refl)
 
 -- a page's step is taken from where the access stands
 module _ (s : State) (mid new : Mem) (write : Bool) (p a n k : ℕ) (piece : Piece) (xs ys : List ℕ) (before now after : List Note) (end : Option Stop)
-    (same : count new ≡ count mid) (is : IsPiece a n k piece) (less : k < n) (begins : 1 ≤ k → k < n → (a + k) % 4096 ≡ 0) (lived : lives s.world p ≡ true)
+    (same : count new ≡ count mid) (is : IsPiece a n k piece) (less : k < n) (begins : 1 ≤ k → k < n → (a + k) % 4096 ≡ 0)
     (h : IsAccess s mid write p a k xs before now None k) where
   behind : Behind a k piece.page piece.at
   behind = behind-piece a n k piece is less begins
 
-  -- the process lives on
-  pub still_lives : lives h.next.world p ≡ true
-  still_lives = alive s mid new write p a k piece.page piece.at xs ys before now after same behind h lived
-
-  pub piece-served : IsPageStep h.next new write p piece.page piece.at ys now after end → ((stop : Stop) → end ≡ Some stop → ⊥) → (write ≡ true → length xs ≡ k)
-      → IsAccess s new write p a (k + piece.len) (xs ++ ys) before after None (k + piece.len)
-  piece-served g none long = goes_on s mid new write p a k piece.page piece.at xs ys before now after same behind h piece.len (piece-in_page a n k piece is) (piece-some a n k piece is less) long
-      (subst (λ end. IsPageStep h.next new write p piece.page piece.at ys now after end) (none_left end none) g)
+  pub piece-served : IsPageStep h.next new write p piece.page piece.at ys now after end → ((stop : Stop) → end ≡ Some stop → ⊥) → (write ≡ true → length xs ≡ k) → (zs : List ℕ) → xs ++ ys ≡ zs
+      → IsAccess s new write p a (k + piece.len) zs before after None (k + piece.len)
+  piece-served g none long zs whole = subst (λ zs. IsAccess s new write p a (k + piece.len) zs before after None (k + piece.len)) whole
+      (goes_on s mid new write p a k piece.page piece.at xs ys before now after same behind h piece.len (piece-in_page a n k piece is) (piece-some a n k piece is less) long
+      (subst (λ end. IsPageStep h.next new write p piece.page piece.at ys now after end) (none_left end none) g))
 
   pub piece-stopped : IsPageStep h.next new write p piece.page piece.at ys now after end → (stop : Stop) → end ≡ Some stop → IsAccess s new write p a n xs before after (Some stop) k
   piece-stopped g stop some = stops s mid new write p a k piece.page piece.at xs ys before now after same behind h n stop less

@@ -1,5 +1,5 @@
 -- A whole access is a step, by how it ended.
-use Rattle.std.proofs.Common.{◌≡◌, ℕ, Bool, true, false, not, cond, List, [], length, take, ◌++◌, Option, Some, None, refl, sym, ap, subst, ◌∙◌}
+use Rattle.std.proofs.Common.{◌≡◌, ℕ, Bool, true, false, not, cond, List, [], length, take, ◌++◌, Some, None, refl, sym, ap, subst, ◌∙◌}
 use Rattle.std.specs.Prelude.{MatchOption}
 use Rattle.std.proofs.Math.Seq.{take-length}
 use Rattle.av_trace.specs.declared.reply.Note.{Note}
@@ -10,7 +10,7 @@ use Rattle.av_trace.specs.declared.reply.Answer.{Answer}
 use Rattle.av_trace.specs.declared.reply.Answer.TheVariants as answers
 use Rattle.av_trace.specs.declared.command.Command.TheVariants.{Read, Write}
 use Rattle.av_plain.specs.World.{World, lives, pages}
-use Rattle.av_plain.specs.Fault.{Accesses, End, Whole, Stopped, touched, bytes_before, served}
+use Rattle.av_plain.specs.Fault.{Accesses, Whole, Stopped, touched, bytes_before}
 use Rattle.av_plain.specs.Step.{Answers, Reads, stored, next}
 use Rattle.av_plain.specs.Transcript.{State}
 use Rattle.av_plain.specs.Event.{Event, notes_of}
@@ -20,7 +20,7 @@ use Rattle.av_kernel.specs.declared.touched.Stop.TheVariants.{Segv, Oom}
 use Rattle.av_kernel.specs.View.{setting, count}
 use Rattle.av_kernel.specs.Page.{how_stopped}
 use Rattle.av_kernel.specs.Command.{MemSteps}
-use Rattle.av_kernel.specs.Access.{IsAccess, IsEnd, answer_of}
+use Rattle.av_kernel.specs.Access.{IsAccess, answer_of}
 
 -- the process lives, so that the command is not refused
 not_refused : (lived : Bool) (Follow : Type 0) (Refuse : Errno → Type 0) → lived ≡ true → Follow → MatchOption (cond (not lived) (Some Esrch) None) Follow Refuse

@@ -9,6 +9,8 @@ ghost use Rattle.av_kernel.specs.View.{count, Keeps, IsSteady};
 ghost use Rattle.av_kernel.specs.Command.{MemSteps};
 ghost use Rattle.av_kernel.specs.Access.{IsPiece, IsAccess, answer_of};
 ghost use Rattle.av_trace.specs.declared.command.Command.TheVariants as commands;
+ghost use Rattle.av_trace.specs.declared.reply.Answer.TheVariants as answers;
+ghost use Rattle.av_trace.specs.declared.reply.Errno.TheVariants as errors;
 
 use crate::command::answered;
 use crate::mem::Mem;
@@ -48,7 +50,7 @@ impl Mem {
         ensures count { count self.new ≡ count self.old }
     {
         if !self.spaces.lives(process) {
-            return Ok(answered(alloc, Answer::Refused(Errno::Esrch)));
+            return Ok(no_process(alloc));
         }
         let mut shown = Bytes::new(alloc);
         let mut notes = Notes::new(alloc);
@@ -77,7 +79,7 @@ impl Mem {
         ensures count { count self.new ≡ count self.old }
     {
         if !self.spaces.lives(process) {
-            return Ok(answered(alloc, Answer::Refused(Errno::Esrch)));
+            return Ok(no_process(alloc));
         }
         let mut notes = Notes::new(alloc);
         let ended = self.write_pieces(process, address, bytes, &mut notes)?;
@@ -171,6 +173,13 @@ fn next_piece(address: u64, len: usize, done: usize) -> Piece
         at,
         len: (len - done).min(4096 - at),
     }
+}
+
+/// The reply where the process does not live.
+fn no_process(alloc: Global) -> Reply
+    ensures { result ≡ record { answer = answers.Refused errors.Esrch; notes = []; rows = [] } }
+{
+    answered(alloc, Answer::Refused(Errno::Esrch))
 }
 
 /// The answer of an access that stopped, with the bytes that a read has shown.

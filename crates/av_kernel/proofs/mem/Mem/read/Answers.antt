@@ -1,5 +1,5 @@
 -- The reply by how the access ended.
-use Rattle.std.proofs.Common.{◌≡◌, [], false, None, Some, sym, subst, ◌∙◌}
+use Rattle.std.proofs.Common.{[], false, sym, subst, ◌∙◌}
 use Rattle.av_kernel.specs.Access.{IsAccess}
 use Rattle.av_kernel.proofs.AccessSteps.{read-done, read-stopped}
 use Rattle.av_kernel.proofs.mem.Mem.read.Goals.{in-None, in-Some}

@@ -1,5 +1,5 @@
 -- What is done so far is an access of its own, served whole and shown; behind it a page begins, or nothing is left.
-use Rattle.std.proofs.Common.{◌≡◌, ℕ, ◌+◌, ◌-◌, ◌%◌, ◌<◌, ◌≤◌, false, [], None}
+use Rattle.std.proofs.Common.{◌≡◌, ◌+◌, ◌-◌, ◌%◌, ◌<◌, ◌≤◌, false, [], None}
 use Rattle.av_plain.specs.World.{pages}
 use Rattle.av_plain.specs.Step.{Reads}
 use Rattle.av_plain.specs.Transcript.{State}

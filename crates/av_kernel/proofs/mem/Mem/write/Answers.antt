@@ -1,5 +1,5 @@
 -- The reply by how the access ended.
-use Rattle.std.proofs.Common.{◌≡◌, [], length, take, true, None, Some, sym, ap, subst, ◌∙◌}
+use Rattle.std.proofs.Common.{length, take, true, sym, ap, subst, ◌∙◌}
 use Rattle.av_kernel.specs.Access.{IsAccess, answer_of}
 use Rattle.av_kernel.proofs.AccessSteps.{write-done, write-stopped}
 use Rattle.av_kernel.proofs.mem.Mem.write.Goals.{in-None, in-Some}

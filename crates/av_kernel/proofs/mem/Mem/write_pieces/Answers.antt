@@ -1,8 +1,7 @@
 -- Each piece that is served is a part of the access more, and one that stops ends it.
-use Rattle.std.proofs.Common.{◌≡◌, ℕ, ◌+◌, ◌-◌, List, ◌++◌, length, take, drop, true, None, sym, ap, subst, ◌∙◌, arith}
+use Rattle.std.proofs.Common.{◌≡◌, ℕ, ◌+◌, ◌-◌, List, ◌++◌, length, take, drop, true, sym, ap, ◌∙◌, arith}
 use Rattle.std.proofs.lemmas.List.{length-take-le}
 use Rattle.std.proofs.Math.Seq.{take-add}
-use Rattle.av_kernel.specs.Access.{IsAccess}
 use Rattle.av_kernel.proofs.AccessParts.{still_lives, piece-served, piece-stopped, piece-within, piece-ends}
 use Rattle.av_kernel.proofs.mem.Mem.write_pieces.Goals as goal
 
@@ -20,10 +19,9 @@ returns-in-Some-clause-access c = λ s keeps.
     let piece = c.next_piece-piece.result in
     let h = c.loop-done.invariant.access s keeps in
     let lived = sym (keeps.stands.areas.alive c.args.process) ∙ c.requires.lives in
-    let alive = still_lives s c.loop-done.self c.write_page.new.self true c.args.process c.args.address (length bytes) k piece (take k bytes) (part k piece.len bytes) c.args.notes.now c.loop-done.notes c.write_page.new._notes c.in_ok-stop.field-0
-    c.write_page.ensures.count c.next_piece-piece.ensures c.loop-done-test.true c.loop-done.invariant.begins lived h in
-    piece-stopped s c.loop-done.self c.write_page.new.self true c.args.process c.args.address (length bytes) k piece (take k bytes) (part k piece.len bytes) c.args.notes.now c.loop-done.notes c.write_page.new._notes c.in_ok-stop.field-0
-    c.write_page.ensures.count c.next_piece-piece.ensures c.loop-done-test.true c.loop-done.invariant.begins lived h (c.in_ok-stop.ensures.step h.next h.keeps alive) c.in-Some.stop c.in-Some.is
+    let alive = still_lives lived h in
+    piece-stopped s c.loop-done.self c.write_page.new.self true c.args.process c.args.address (length bytes) k piece (take k bytes) (part k piece.len bytes) c.args.notes.now c.loop-done.notes _ c.in_ok-stop.field-0
+    c.write_page.ensures.count c.next_piece-piece.ensures c.loop-done-test.true c.loop-done.invariant.begins h (c.in_ok-stop.ensures.step h.next h.keeps alive) c.in-Some.stop c.in-Some.is
 
 pub loop-done-preserved : goal.loop-done-preserved
 loop-done-preserved c =
@@ -36,11 +34,9 @@ loop-done-preserved c =
       access = λ s keeps.
           let h = c.loop-done.invariant.access s keeps in
           let lived = sym (keeps.stands.areas.alive c.args.process) ∙ c.requires.lives in
-          let alive = still_lives s c.loop-done.self c.write_page.new.self true c.args.process c.args.address (length bytes) k piece (take k bytes) (part k piece.len bytes) c.args.notes.now c.loop-done.notes c.write_page.new._notes c.in_ok-stop.field-0
-          c.write_page.ensures.count c.next_piece-piece.ensures c.loop-done-test.true c.loop-done.invariant.begins lived h in
-          subst (λ ys. IsAccess s c.write_page.new.self true c.args.process c.args.address (k + piece.len) ys c.args.notes.now c.write_page.new._notes None (k + piece.len)) (parts k piece.len bytes)
-          (piece-served s c.loop-done.self c.write_page.new.self true c.args.process c.args.address (length bytes) k piece (take k bytes) (part k piece.len bytes) c.args.notes.now c.loop-done.notes c.write_page.new._notes c.in_ok-stop.field-0
-          c.write_page.ensures.count c.next_piece-piece.ensures c.loop-done-test.true c.loop-done.invariant.begins lived h (c.in_ok-stop.ensures.step h.next h.keeps alive) c.in_default.not-Some
-          (λ _. length-take-le k bytes c.loop-done.invariant.within));
+          let alive = still_lives lived h in
+          piece-served s c.loop-done.self c.write_page.new.self true c.args.process c.args.address (length bytes) k piece (take k bytes) (part k piece.len bytes) c.args.notes.now c.loop-done.notes _ c.in_ok-stop.field-0
+          c.write_page.ensures.count c.next_piece-piece.ensures c.loop-done-test.true c.loop-done.invariant.begins h (c.in_ok-stop.ensures.step h.next h.keeps alive) c.in_default.not-Some
+          (λ _. length-take-le k bytes c.loop-done.invariant.within) (take (k + piece.len) bytes) (parts k piece.len bytes);
       count = c.write_page.ensures.count ∙ c.loop-done.invariant.count;
     }
