@@ -78,6 +78,13 @@ impl Frames {
         self.free.push_front_reserved(frame);
     }
 
+    /// How many frames there are, free or not.
+    pub fn count(&self) -> u32
+        ensures { result ≡ length self.now.bytes }
+    {
+        self.bytes.len() as u32
+    }
+
     /// How many entries name the frame.
     pub fn maps(&self, frame: u32) -> u64
         requires { frame < (seen self.now).count }

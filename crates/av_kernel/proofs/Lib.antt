@@ -1,3 +1,13 @@
+pub mod PageParts
+pub mod PageEntries
+pub mod PageWritten
+pub mod PageServes
+pub mod PageViews
+pub mod PageTouched
+pub mod PageSafe
+pub mod PageMade
+pub mod PageSteps
+pub mod PageShown
 pub mod Parts
 pub mod Fresh
 pub mod Commands

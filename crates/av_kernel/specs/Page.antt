@@ -1,7 +1,14 @@
 -- What a read or write does at one page.
-use Rattle.std.specs.Prelude.{◌≡◌, ℕ, ◌+◌, ◌<◌, ◌≤◌, ◌++◌, Bool, true, false, List, [], length, Option, Some, None, if◌then◌else◌, ◌&&◌}
+use Rattle.std.specs.Prelude.{◌≡◌, ℕ, ◌+◌, ◌-◌, ◌<◌, ◌∷◌, ◌≤◌, ◌++◌, Bool, true, false, List, [], length, Option, Some, None, if◌then◌else◌, ◌&&◌}
 use Rattle.av_trace.specs.declared.reply.Note.{Note}
-use Rattle.av_plain.specs.World.{World, address_of, pages, Shows}
+use Rattle.av_vma.specs.declared.area.Prot.{Prot}
+use Rattle.av_vma.specs.Ranges.{with_at}
+use Rattle.av_frames.specs.Store.{is_in}
+use Rattle.av_pagetable.specs.declared.pte.Pte.{Pte}
+use Rattle.av_pagetable.specs.declared.pte.Pte.TheVariants.{Empty, Zero as ZeroPte, Here, Away}
+use Rattle.av_pagetable.specs.Entries.{with_entry}
+use Rattle.av_plain.specs.Stands.{View}
+use Rattle.av_plain.specs.World.{World, address_of, allows, pages, Shows}
 use Rattle.av_plain.specs.Ledger.{Ledger, Key, Entry, Zero, InFrame, InSlot, entry, mapped}
 use Rattle.av_plain.specs.Event.{Event, after_all, notes_of}
 use Rattle.av_plain.specs.Pass.{noted_all}
@@ -14,7 +21,7 @@ use Rattle.av_kernel.specs.declared.touched.Stop.{Stop}
 use Rattle.av_kernel.specs.declared.touched.Stop.TheVariants.{Segv, Oom}
 use Rattle.av_kernel.specs.declared.touched.Touched.{Touched}
 use Rattle.av_kernel.specs.declared.touched.Touched.TheVariants.{Ready, Zeros, Stopped}
-use Rattle.av_kernel.specs.View.{setting, count, view, Keeps, PartsStand}
+use Rattle.av_kernel.specs.View.{setting, count, plain, view, Keeps, PartsStand}
 
 -- ---- the page is made ready
 
@@ -29,18 +36,55 @@ how_touched (Stopped stop) = how_stopped stop
 
 -- the page's entry is this frame, or zeros; no other entry has a frame that is to be written
 abbrev pub IsReady : Bool → Ledger → Key → Touched → Type 0
-IsReady write l k (Ready f) = (was : Bool) × (entry l k ≡ Some (InFrame f was)) × (write ≡ true → mapped l f ≤ 1)
+IsReady write l k (Ready f) = (entry l k ≡ Some (InFrame f true)) × (write ≡ true → mapped l f ≤ 1)
 IsReady write l k Zeros = (entry l k ≡ Some Zero) × (write ≡ false)
 IsReady write l k (Stopped stop) = Unit {0}
 
--- these notes were added, they make the page ready or say why not, and the kernel's parts stand after them
+-- these notes were added, and they make the page ready or say why not; the kernel's parts stand after them and the page's use, but that a write has stored no byte yet
 pub record IsTouched (s : State) (new : Mem) (write : Bool) (k : Key) (before now : List Note) (touched : Touched) : Type 0 where
   pub added : List Note
   pub notes : now ≡ before ++ added
   pub touches : Touches (setting (count new)) s.world s.ledger write k added (how_touched touched)
-  pub ready : IsReady write (noted_all s.ledger added) k touched
-  pub parts : PartsStand new s.world (noted_all s.ledger added)
-  pub free : ChoosesAll s.ledger (noting added) s.free (view new).free
+  pub ready : IsReady write (after_all s.ledger (happening write k added (how_touched touched))) k touched
+  pub parts : PartsStand new s.world (after_all s.ledger (happening write k added (how_touched touched)))
+  pub free : ChoosesAll s.ledger (happening write k added (how_touched touched)) s.free (view new).free
+
+-- ---- the parts of a fault
+
+-- whether a protection, if the page has one, allows the access
+abbrev pub permitted : Bool → Option Prot → Bool
+permitted write None = false
+permitted write (Some prot) = allows write prot
+
+-- the frame that an entry names
+abbrev pub frame_named : Pte → Option ℕ
+frame_named Empty = None
+frame_named ZeroPte = None
+frame_named (Here f write was) = Some f
+frame_named (Away s) = None
+
+-- one more entry names f, and one less g
+abbrev pub one_more : ℕ → (ℕ → ℕ) → ℕ → ℕ
+one_more f maps = with_at f (maps f + 1) maps
+
+abbrev pub one_less : ℕ → (ℕ → ℕ) → ℕ → ℕ
+one_less g maps = with_at g (maps g - 1) maps
+
+-- a frame has been taken for a page, which may write it in place; then these are its bytes, the counts of entries, and the free frames
+abbrev pub taken_for : ℕ → ℕ → ℕ → (ℕ → ℕ) → (ℕ → ℕ) → List ℕ → View → View
+taken_for p page f bytes maps rest v = record v {
+  table = with_entry p page (plain (Here f true true)) v.table;
+  bytes = with_at f bytes v.bytes;
+  maps = maps;
+  free = rest;
+}
+
+-- it was the first of the free ones
+pub record IsTaken (old new : Mem) (p page f : ℕ) (bytes maps : ℕ → ℕ) : Type 0 where
+  pub first : (view old).free ≡ f ∷ (view new).free
+  pub gone : is_in f (view new).free ≡ false
+  pub below : f < count old
+  pub view : view new ≡ taken_for p page f bytes maps (view new).free (view old)
 
 -- ---- the page is served, or not
 

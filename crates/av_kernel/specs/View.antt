@@ -65,7 +65,7 @@ IsSteady k = (s : State) × Keeps k s
 
 -- ---- within a command
 
--- what stands between the notes of a page and its use, when the ledger's lists may wait for both
+-- what stands within an access, without the ledger's lists
 pub record PartsStand (k : Mem) (w : World) (l : Ledger) : Type 0 where
   pub in_order : T (is_sorted key_cmp l.entries)
   pub at_pages : AtPages w l

@@ -1,0 +1,22 @@
+use Rattle.std.proofs.Common.{◌≡◌, ◌∙◌, ap, refl, ◌+◌, arith}
+use Rattle.av_vma.specs.Ranges.{with_at}
+use Rattle.av_frames.specs.Store.{Seen, seen}
+use Rattle.av_kernel.proofs.PageViews.{frame_taken}
+use Rattle.av_kernel.proofs.PageSafe.{free_unmapped}
+use Rattle.av_kernel.proofs.mem.Mem.take_zeros.Goals as goal
+
+pub map_up-requires-clause-room : goal.map_up-requires-clause-room
+map_up-requires-clause-room c =
+    let f = c.in-Some.frame in
+    let t = c.in-Some.ensures in
+    let none = free_unmapped c.args.self.now f c.take.new.self.free c.requires.steady t.0 t.1 in
+    let same : (seen c.zero.new.self).maps f ≡ 0 = ap (λ (s : Seen). s.maps f) (c.zero.ensures ∙ ap (λ (s : Seen). record s { bytes = with_at f (λ i. 0) s.bytes }) t.3) ∙ none in
+    omega (arith, same)
+
+pub returns-clause-taken : goal.returns-clause-taken
+returns-clause-taken c =
+    let f = c.in-Some.frame in
+    let t = c.in-Some.ensures in
+    frame_taken c.args.self.now _ c.args.process c.args.page f _ _ c.take.new.self.free
+        (c.map_up.ensures ∙ ap (λ (s : Seen). record s { maps = with_at f (s.maps f + 1) s.maps }) (c.zero.ensures ∙ ap (λ (s : Seen). record s { bytes = with_at f (λ i. 0) s.bytes }) t.3))
+        t.0 t.2 t.1 c.in_ok-set.ensures.sets refl
