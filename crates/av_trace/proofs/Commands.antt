@@ -7,8 +7,8 @@ use Rattle.av_vma.specs.declared.area.Prot.{Prot}
 use Rattle.av_trace.specs.declared.command.Place.TheVariants as places
 use Rattle.av_trace.specs.declared.command.Command.{Command}
 use Rattle.av_trace.specs.declared.command.Command.TheVariants as commands
-use Rattle.av_trace.specs.Grammar.{field, hex, hex_text, prot_text, IsNumberIn, IsProcess, IsWide, IsData, IsCommand, line_of}
-use Rattle.av_trace.specs.Reading.{Reader, decimal_between, finish, spawn_at, mmap_at, read_at, write_at}
+use Rattle.av_trace.specs.Grammar.{field, hex, hex_text, prot_text, IsNumberIn, IsProcess, IsWide, IsData, IsCommand, line, line_of}
+use Rattle.av_trace.specs.Reading.{Reader, decimal_between, finish, process_only_at, mmap_at, read_at, write_at}
 use Rattle.av_trace.proofs.Steps.{bind_some}
 use Rattle.av_trace.proofs.WordLaws.{Reads, field_at-found, field_at-again, numbers}
 use Rattle.av_trace.proofs.FieldLaws.{prots, addresses, byte_words}
@@ -36,14 +36,19 @@ unfolding finish
 finish-found [] c d e = (refl, same_Some _ _ e)
 finish-found (b ∷ bytes) c d e = absurd cc
 
-pub spawn_at-found : IsReader (codes "spawn", spawn_at)
-unfolding spawn_at
-spawn_at-found bytes c e =
+pub process_only_at-found : (name : List ℕ) (command : ℕ → Command) → ((p : ℕ) → IsProcess p → IsCommand (command p)) → ((p : ℕ) → line name (decimal p ∷ []) ≡ line_of (command p)) → IsReader (name, process_only_at command)
+unfolding process_only_at
+process_only_at-found name command fits spelled bytes c e =
     let p = bind_some {A = ℕ × List ℕ} _ _ _ e in
     let process = field_at-found processes bytes p.value p.first in
     let end = finish-found p.value.1 _ c p.second in
-    subst (λ d. IsCommand d × (codes "spawn" ++ bytes ≡ line_of d)) end.1
-    (process.1, ap (λ (t : List ℕ). codes "spawn" ++ t) (then_field _ (decimal p.value.0) _ _ process.0 end.0))
+    subst (λ d. IsCommand d × (name ++ bytes ≡ line_of d)) end.1
+    (fits p.value.0 process.1, ap (λ (t : List ℕ). name ++ t) (then_field _ (decimal p.value.0) _ _ process.0 end.0) ∙ spelled p.value.0)
+
+pub stat_at-found : IsReader (codes "stat", λ bytes. finish bytes commands.Stat)
+stat_at-found bytes c e =
+    let end = finish-found bytes _ c e in
+    subst (λ d. IsCommand d × (codes "stat" ++ bytes ≡ line_of d)) end.1 (tt, ap (λ (t : List ℕ). codes "stat" ++ t) end.0)
 
 pub mmap_at-found : IsReader (codes "mmap", mmap_at)
 unfolding mmap_at
@@ -90,9 +95,13 @@ write_at-found bytes c e =
       ap (λ (t : List ℕ). codes "write" ++ t) (then_field _ (decimal p.value.0) _ _ process.0 (then_field _ (hex q.value.0) _ _ address.0 (then_field _ (hex_text r.value.0) _ _ found.0 end.0))),
     )
 
-pub spawn_at-again : (p : ℕ) → IsProcess p → spawn_at (field (decimal p) ++ []) ≡ Some (commands.Spawn p)
-unfolding spawn_at finish
-spawn_at-again p h = rw (field_at-again processes p [] h tt) refl
+pub process_only_at-again : (command : ℕ → Command) (p : ℕ) → IsProcess p → process_only_at command (field (decimal p) ++ []) ≡ Some (command p)
+unfolding process_only_at finish
+process_only_at-again command p h = rw (field_at-again processes p [] h tt) refl
+
+pub finish-again : (c : Command) → finish [] c ≡ Some c
+unfolding finish
+finish-again c = refl
 
 pub mmap_at-again : (p len : ℕ) (prot : Prot) → IsProcess p → IsWide len →
     mmap_at (field (decimal p) ++ (field (decimal len) ++ (field (prot_text prot) ++ []))) ≡ Some (commands.Mmap p len prot places.Auto)

@@ -1,5 +1,5 @@
 -- The lines that are commands. Each command has one line.
-use Rattle.std.specs.Prelude.{◌≡◌, false, length, ◌/◌, ◌%◌, ℕ, ◌≤◌, ◌<◌, ◌^◌, Bool, if◌then◌else◌, List, [], ◌∷◌, ◌++◌, codes, Option, Some, None}
+use Rattle.std.specs.Prelude.{◌≡◌, ◌==◌, true, false, length, ◌/◌, ◌%◌, ℕ, ◌≤◌, ◌<◌, ◌^◌, Bool, if◌then◌else◌, List, [], ◌∷◌, ◌++◌, codes, Option, Some, None}
 use Rattle.std.specs.List.{flat_map, AllByRecursion}
 use Rattle.std.specs.Fmt.{decimal, digits, digit_glyph}
 use Rattle.av_vma.specs.declared.area.Prot.{Prot}
@@ -64,9 +64,12 @@ IsData bytes = IsNumberIn 1 4096 (length bytes) × AllByRecursion IsByte bytes
 -- the values are in range
 abbrev pub IsCommand : Command → Type 0
 IsCommand (commands.Spawn p) = IsProcess p
+IsCommand (commands.Exit p) = IsProcess p
 IsCommand (commands.Mmap p len prot place) = IsProcess p × IsWide len
 IsCommand (commands.Read p address len) = IsProcess p × IsWide address × IsNumberIn 1 4096 len
 IsCommand (commands.Write p address bytes) = IsProcess p × IsWide address × IsData bytes
+IsCommand (commands.Maps p) = IsProcess p
+IsCommand commands.Stat = Unit {0}
 
 -- ---- lines
 
@@ -77,15 +80,23 @@ place_words places.Auto = []
 -- the one line of a command
 abbrev pub line_of : Command → List ℕ
 line_of (commands.Spawn p) = line (codes "spawn") (decimal p ∷ [])
+line_of (commands.Exit p) = line (codes "exit") (decimal p ∷ [])
 line_of (commands.Mmap p len prot place) = line (codes "mmap") (decimal p ∷ decimal len ∷ prot_text prot ∷ place_words place)
 line_of (commands.Read p address len) = line (codes "read") (decimal p ∷ hex address ∷ decimal len ∷ [])
 line_of (commands.Write p address bytes) = line (codes "write") (decimal p ∷ hex address ∷ hex_text bytes ∷ [])
+line_of (commands.Maps p) = line (codes "maps") (decimal p ∷ [])
+line_of commands.Stat = codes "stat"
 
 -- a text begins with these bytes
 abbrev pub BeginsWith : List ℕ → List ℕ → Type 0
 BeginsWith front text = (rest : List ℕ) × (text ≡ front ++ rest)
 
--- what a line says: a command, or nothing, which no line says yet
+-- no command: an empty line, or a comment, which begins with `#`
+abbrev pub is_blank : List ℕ → Bool
+is_blank [] = true
+is_blank (b ∷ bytes) = b == 35
+
+-- what a line says: a command, or nothing
 abbrev pub Says : List ℕ → Option Command → Type 0
-Says line None = ⊥
+Says line None = is_blank line ≡ true
 Says line (Some c) = IsCommand c × (line ≡ line_of c)

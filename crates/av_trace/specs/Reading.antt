@@ -105,11 +105,11 @@ unfoldable pub finish : List ℕ → Command → Option Command
 finish [] c = Some c
 finish (b ∷ bytes) c = None
 
--- the words of `spawn`
-unfoldable pub spawn_at : List ℕ → Option Command
-spawn_at bytes = do
+-- the words of a command that names a process and nothing else
+unfoldable pub process_only_at : (ℕ → Command) → List ℕ → Option Command
+process_only_at command bytes = do
   p ← process_at bytes
-  finish p.1 (commands.Spawn p.0)
+  finish p.1 (command p.0)
 
 -- the words of `mmap`
 unfoldable pub mmap_at : List ℕ → Option Command
@@ -142,10 +142,13 @@ Reader = List ℕ → Option Command
 -- the commands, by name
 abbrev pub readers : List (List ℕ × Reader)
 readers =
-    (codes "spawn", spawn_at)
+    (codes "spawn", process_only_at commands.Spawn)
+    ∷ (codes "exit", process_only_at commands.Exit)
     ∷ (codes "mmap", mmap_at)
     ∷ (codes "read", read_at)
     ∷ (codes "write", write_at)
+    ∷ (codes "maps", process_only_at commands.Maps)
+    ∷ (codes "stat", λ bytes. finish bytes commands.Stat)
     ∷ []
 
 -- what the reader of that name reads

@@ -2,17 +2,17 @@
 
 ghost use Rattle.std.specs.Prelude.{◌≡◌, List, ℕ, Option, codes, take, IfOk, OnErr, IsErrOf};
 ghost use Rattle.av_trace.specs.declared.command.Command.{Command as AnyCommand};
-ghost use Rattle.av_trace.specs.Grammar.{BeginsWith, Says};
-ghost use Rattle.av_trace.specs.Reading.{word_len, finish, spawn_at, mmap_at, read_at, write_at, command_at, command_of};
+ghost use Rattle.av_trace.specs.Grammar.{BeginsWith, is_blank, Says};
+ghost use Rattle.av_trace.specs.Reading.{word_len, finish, process_only_at, mmap_at, read_at, write_at, command_at, command_of};
 
 use crate::command::{Command, Place};
 use crate::fields::{address, data_field, number, process, prot, split_word};
 use std::alloc::{AllocError, Global};
 
-/// Why a line was not read as a command.
+/// Why a line was not read.
 #[derive(Clone, Copy, Drop, Debug, PartialEq, Eq)]
 pub enum LineFault {
-    /// It says nothing.
+    /// It is no command, no comment, and not empty.
     Bad,
     /// There was no memory for the bytes of a write.
     Memory,
@@ -28,12 +28,20 @@ fn end(bytes: &[u8], command: Command) -> Option<Command>
     }
 }
 
-#[tactic(auto, unfolding(crate::specs::Reading::spawn_at))]
+#[tactic(auto, unfolding(crate::specs::Reading::process_only_at))]
 fn spawn(bytes: &[u8]) -> Option<Command>
-    ensures { result ≡ spawn_at bytes.now }
+    ensures { result ≡ process_only_at Command.Spawn bytes.now }
 {
     let (process, rest) = process(bytes)?;
     end(rest, Command::Spawn { process })
+}
+
+#[tactic(auto, unfolding(crate::specs::Reading::process_only_at))]
+fn exit(bytes: &[u8]) -> Option<Command>
+    ensures { result ≡ process_only_at Command.Exit bytes.now }
+{
+    let (process, rest) = process(bytes)?;
+    end(rest, Command::Exit { process })
 }
 
 #[tactic(auto, unfolding(crate::specs::Reading::mmap_at))]
@@ -88,6 +96,14 @@ fn write(alloc: Global, bytes: &[u8]) -> Result<Option<Command>, AllocError>
     Ok(end(rest, command))
 }
 
+#[tactic(auto, unfolding(crate::specs::Reading::process_only_at))]
+fn maps(bytes: &[u8]) -> Option<Command>
+    ensures { result ≡ process_only_at Command.Maps bytes.now }
+{
+    let (process, rest) = process(bytes)?;
+    end(rest, Command::Maps { process })
+}
+
 #[tactic(auto, unfolding(crate::specs::Reading::command_at))]
 fn command(alloc: Global, name: &[u8], bytes: &[u8]) -> Result<Option<Command>, AllocError>
     ensures found { IfOk result (λ found. found ≡ command_at name.now bytes.now) }
@@ -95,12 +111,18 @@ fn command(alloc: Global, name: &[u8], bytes: &[u8]) -> Result<Option<Command>, 
 {
     if name == b"spawn".as_slice() {
         Ok(spawn(bytes))
+    } else if name == b"exit".as_slice() {
+        Ok(exit(bytes))
     } else if name == b"mmap".as_slice() {
         Ok(mmap(bytes))
     } else if name == b"read".as_slice() {
         Ok(read(bytes))
     } else if name == b"write".as_slice() {
         write(alloc, bytes)
+    } else if name == b"maps".as_slice() {
+        Ok(maps(bytes))
+    } else if name == b"stat".as_slice() {
+        Ok(end(bytes, Command::Stat))
     } else {
         Ok(None)
     }
@@ -115,15 +137,28 @@ fn whole_line(alloc: Global, line: &[u8]) -> Result<Option<Command>, AllocError>
     command(alloc, name, rest)
 }
 
-/// What a line says, its newline left out: a command, or nothing.
+/// Whether a line is empty or a comment.
+fn says_nothing(line: &[u8]) -> bool
+    ensures { result ≡ is_blank line.now }
+{
+    match line {
+        [] => true,
+        [first, ..] => *first == b'#',
+    }
+}
+
+/// What a line says, its newline left out: a command, or nothing where it is empty or begins with `#`.
 pub fn parse_line(alloc: Global, line: &[u8]) -> Result<Option<Command>, LineFault>
     // What is read is what the line says.
     ensures found { IfOk result (λ said. Says line.now said) }
-    // A line is bad only if it says nothing.
+    // A line is bad only if it says neither a command nor nothing.
     ensures bad { IsErrOf result LineFault.Bad → (said : Option AnyCommand) → Says line.now said → ⊥ }
     // Only what begins as a write takes memory.
     ensures memory { IsErrOf result LineFault.Memory → BeginsWith (codes "write") line.now }
 {
+    if says_nothing(line) {
+        return Ok(None);
+    }
     match whole_line(alloc, line) {
         Ok(Some(command)) => Ok(Some(command)),
         Ok(None) => Err(LineFault::Bad),
