@@ -8,11 +8,13 @@ pub mod AccessLaws
 pub mod NoSwapLaws
 pub mod TwoWrites
 pub mod SoundLaws
+pub mod TakingLaws
 pub mod SoundEntries
 pub mod SoundChanges
 pub mod SoundAccess
 pub mod SoundPages
 pub mod SoundThere
+pub mod SoundTaken
 pub mod Soundness
 pub mod SoundBound
 pub mod SoundMeans

@@ -5,7 +5,7 @@ use Rattle.std.specs.Prelude.{IfSome, MatchOption}
 use Rattle.av_vma.specs.declared.slot.Slot.{Slot}
 use Rattle.av_vma.specs.Ranges.{how_many, numbers}
 use Rattle.av_trace.specs.declared.command.Command.{Command}
-use Rattle.av_trace.specs.declared.command.Command.TheVariants.{Spawn, Mmap, Read, Write}
+use Rattle.av_trace.specs.declared.command.Command.TheVariants.{Spawn, Exit, Mmap, Read, Write, Maps, Stat}
 use Rattle.av_trace.specs.declared.reply.Errno.{Errno}
 use Rattle.av_trace.specs.declared.reply.Note.{Note}
 use Rattle.av_trace.specs.declared.reply.OutOf.{OutOf}
@@ -137,6 +137,7 @@ answers-add m write a n (Stopped page Lost) shown answer adds h = subst (AnswerA
 
 follows-add : (m : Setting) (w : World) (l : Ledger) (command : Command) (events : List Event) (answer : Answer) (rows : List Row) → IsSound m l → Follows m w l command events answer rows → AnswerAdds m answer
 follows-add m w l (Spawn p) events answer rows s h = subst (AnswerAdds m) (sym h.0) tt
+follows-add m w l (Exit p) events answer rows s h = subst (AnswerAdds m) (sym h.0) tt
 follows-add m w l (Mmap p len prot place) events answer rows s h = by h.0 h.2
   where
     by : (to : Option ℕ) → IsMapAt answer to → AnswerAdds m answer
@@ -144,6 +145,8 @@ follows-add m w l (Mmap p len prot place) events answer rows s h = by h.0 h.2
     by (Some page) e = subst (AnswerAdds m) (sym e) tt
 follows-add m w l (Read p a n) events answer rows s h = answers-add m false a n h.0 h.1 answer (accesses-add m w l false p (touched a n) events h.0 s h.2) h.4
 follows-add m w l (Write p a bytes) events answer rows s h = answers-add m true a (length bytes) h.0 [] answer (accesses-add m w l true p (touched a (length bytes)) events h.0 s h.1) h.2
+follows-add m w l (Maps p) events answer rows s h = subst (AnswerAdds m) (sym h.0) tt
+follows-add m w l Stat events answer rows s h = subst (AnswerAdds m) (sym h.0) tt
 
 pub legal-adds : (m : Setting) (w : World) (l : Ledger) (command : Command) (reply : Reply) (events : List Event) (k : ℕ) (out : OutOf) (shown : List ℕ)
     → AllSound m w l → IsLegal m w l command reply events → reply.answer ≡ Oom k out shown → out.pinned + out.noslot + out.fault ≡ m.frames

@@ -7,7 +7,7 @@ use Rattle.std.specs.FinMap.Entries.{find, is_sorted, below_all}
 use Rattle.av_vma.specs.declared.slot.Slot.{Slot}
 use Rattle.av_vma.specs.Ranges.{within}
 use Rattle.av_trace.specs.declared.command.Command.{Command}
-use Rattle.av_trace.specs.declared.command.Command.TheVariants.{Spawn, Mmap, Read, Write}
+use Rattle.av_trace.specs.declared.command.Command.TheVariants.{Spawn, Exit, Mmap, Read, Write, Maps, Stat}
 use Rattle.av_trace.specs.declared.command.Place.TheVariants.{Auto}
 use Rattle.av_trace.specs.declared.reply.Errno.{Errno}
 use Rattle.av_trace.specs.declared.reply.Errno.TheVariants.{Esrch, Eagain, Enomem, Eexist, Einval}
@@ -16,10 +16,11 @@ use Rattle.av_trace.specs.declared.reply.Row.{Row}
 use Rattle.av_trace.specs.declared.reply.Reply.{Reply}
 use Rattle.av_trace.specs.declared.reply.Answer.{Answer}
 use Rattle.av_trace.specs.declared.reply.Answer.TheVariants.{Done, MapAt, Refused}
-use Rattle.av_plain.specs.World.{World, Process, Page, nothing, zeros, process, lives, pages, page_of, pages_of, address_of, set_process, replaced, written}
+use Rattle.av_plain.specs.World.{World, Process, Page, nothing, zeros, process, lives, pages, page_of, pages_of, address_of, set_process, end_process, replaced, written}
 use Rattle.av_plain.specs.Ledger.{Ledger, Setting, Entry, entry, fresh}
 use Rattle.av_plain.specs.Event.{Event, Noted, Taken, Used, Forked, Moved, TurnedOn, TurnedOff, after, after_all}
 use Rattle.av_plain.specs.Fault.{Accesses, End, touched}
+use Rattle.av_plain.specs.Taking.{keys_of_process, taking}
 use Rattle.av_plain.specs.Refusal.{tests, refusal, most_processes, is_too_long}
 use Rattle.av_plain.specs.Step.{IsLegal, Follows, Refuses, IsMapAt, is_of_slot, unknown, unclaimed, told, forgotten, with_loads, first_bytes, stored, next, next_world}
 use Rattle.av_plain.specs.Transcript.{Exchange, IsLegalFrom, State, IsStep, IsRun, at_first}
@@ -28,6 +29,7 @@ use Rattle.av_plain.proofs.WorldLaws.{pages-set, length-set_new, length-set_old,
 use Rattle.av_plain.proofs.SoundAccess.{accesses-kept}
 use Rattle.av_plain.proofs.SoundPages.{accesses-at}
 use Rattle.av_plain.proofs.SoundThere.{there-accesses}
+use Rattle.av_plain.proofs.SoundTaken.{exit-sound}
 
 -- ---- loads from a device that doesn't tell its pages leave what is mapped, and the processes
 
@@ -205,6 +207,11 @@ follows-sound m w l (Spawn p) events answer rows s fine h =
     second true b h = cc
     second false true h = cc
     second false false h = refl
+follows-sound m w l (Exit p) events answer rows s fine h =
+    let loaded = loads-sound m w l l events s in
+    subst (λ a. AllSound m (next (with_loads m w l events) (Exit p) a) (after_all l events)) (sym h.0)
+    (subst (λ es. AllSound m (end_process (with_loads m w l events) p) (after_all l es)) (sym h.1)
+    (exit-sound m w (with_loads m w l events) l p s loaded.world loaded.at_pages))
 follows-sound m w l (Mmap p len prot Auto) events answer rows s fine h = by h.0 h.2
   where
     loaded : AllSound m (with_loads m w l events) (after_all l events)
@@ -225,15 +232,20 @@ follows-sound m w l (Write p a bytes) events answer rows s fine h =
     stored-sound m (with_loads m w l events) (after_all l events) p a (first_bytes answer bytes)
     (loads-sound m w l (after_all l events) events (accesses-sound m w l true p (touched a (length bytes)) events h.0 s h.1))
     (lives-loads m w l events p ∙ alive (lives w p) _ fine)
+follows-sound m w l (Maps p) events answer rows s fine h = loads-sound m w l (after_all l events) events (unchanged m w l events h.2 s)
+follows-sound m w l Stat events answer rows s fine h = loads-sound m w l (after_all l events) events (unchanged m w l events h.1 s)
 
 refused-sound : (m : Setting) (w : World) (l : Ledger) (command : Command) (error : Errno) (events : List Event) → events ≡ [] → AllSound m w l → AllSound m (next_world m w l events command (Refused error)) (after_all l events)
 refused-sound m w l command error events none s = by command (loads-sound m w l (after_all l events) events (unchanged m w l events none s))
   where
     by : (command : Command) → AllSound m (with_loads m w l events) (after_all l events) → AllSound m (next_world m w l events command (Refused error)) (after_all l events)
     by (Spawn p) h = h
+    by (Exit p) h = h
     by (Mmap p len prot place) h = h
     by (Read p a n) h = h
     by (Write p a bytes) h = h
+    by (Maps p) h = h
+    by Stat h = h
 
 pub soundness-stays : (m : Setting) (w : World) (l : Ledger) (command : Command) (reply : Reply) (events : List Event)
     → AllSound m w l → IsLegal m w l command reply events → AllSound m (next_world m w l events command reply.answer) (after_all l events)

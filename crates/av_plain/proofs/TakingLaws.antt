@@ -1,0 +1,235 @@
+-- Entries taken away, from the least key on: what is left, and what goes with an entry.
+use Rattle.std.proofs.Common.{◌≡◌, ◌≢◌, ℕ, ◌+◌, ◌<◌, Bool, true, false, cond, not, ◌&&◌, ◌||◌, T, List, [], ◌∷◌, ◌++◌, map, filter, Option, Some, None, refl, sym, ap, subst, ◌∙◌, arith, ◌==◌}
+use Rattle.std.proofs.lemmas.Bool.Decides.{nat_tests}
+use Rattle.std.specs.List.{list_any}
+use Rattle.std.specs.declared.cmp.Ordering.TheVariants.{Less}
+use Rattle.std.specs.Ordering.{is_eq}
+use Rattle.std.specs.FinMap.Entries.{find, where_key, is_sorted, find-where_key, is_sorted-where_key}
+use Rattle.av_vma.specs.declared.slot.Slot.{Slot}
+use Rattle.av_vma.specs.Ranges.{how_many}
+use Rattle.av_trace.specs.declared.reply.Note.TheVariants.{Dropped}
+use Rattle.av_plain.specs.Ledger.{Ledger, Key, key_cmp, Entry, Zero, InFrame, InSlot, entry, mapped, slot_entries, names_frame, names_slot, is_free, is_orphan, frame_at, slot_of}
+use Rattle.av_plain.specs.Event.{Event, Taken, after, after_all, settle, settle_entry, unlisted, not_cached, at, frame_of, taken}
+use Rattle.av_plain.specs.Pass.{when}
+use Rattle.av_plain.specs.Fault.{noting}
+use Rattle.av_plain.specs.Taking.{keys_of_process, drops, slot_behind_key, taking_one, taking}
+use Rattle.av_plain.proofs.Laws.{keys_total, weight, count-without}
+use Rattle.av_plain.proofs.LedgerLaws.{same_key, same_key-is, same_key-itself, how_many-found}
+use Rattle.av_plain.proofs.MoreLaws.{keys_from_least}
+use Rattle.av_plain.proofs.AccessLaws.{after_all-append}
+use Rattle.av_plain.proofs.SoundLaws.{slot-itself}
+
+-- ---- the ledger without an entry
+
+-- the entry has gone, and its frame is not settled yet
+abbrev pub leaving : Key → Ledger → Ledger
+leaving k l = record l { entries = where_key key_cmp (λ q. not (same_key k q)) l.entries }
+
+test_same : (k q : Key) → same_key k q ≡ (k.0 == q.0 && k.1 == q.1)
+test_same k q = grind (arith, nat_tests)
+
+-- an entry is taken: it leaves, and its frame is settled
+pub taken-is : (k : Key) (l : Ledger) → taken k l ≡ settle_entry (entry l k) (leaving k l)
+taken-is k l = ap (λ (test : Key → Bool). settle_entry (entry l k) (record l { entries = where_key key_cmp (λ q. not (test q)) l.entries })) (λ i q. sym (test_same k q) i)
+
+pub entry-leaving : (k q : Key) (l : Ledger) → entry (leaving k l) q ≡ cond (same_key k q) None (entry l q)
+entry-leaving k q l = find-where_key key_cmp (λ x. not (same_key k x)) q (λ x t. ap (λ y. not (same_key k y)) (sym (same_key-is q x (ap is_eq t)))) l.entries ∙ turned (same_key k q) (entry l q)
+  where
+    turned : (b : Bool) (o : Option Entry) → cond (not b) o None ≡ cond b None o
+    turned true o = refl
+    turned false o = refl
+
+pub mapped-leaving : (k : Key) (l : Ledger) (f : ℕ) → T (is_sorted key_cmp l.entries) → mapped l f ≡ mapped (leaving k l) f + weight (names_frame f) (entry l k)
+mapped-leaving k l f h = count-without keys_total (names_frame f) k l.entries h
+
+pub slot_entries-leaving : (k : Key) (l : Ledger) (s : Slot) → T (is_sorted key_cmp l.entries) → slot_entries l s ≡ slot_entries (leaving k l) s + weight (names_slot s) (entry l k)
+slot_entries-leaving k l s h = count-without keys_total (names_slot s) k l.entries h
+
+-- ---- settling and dropping leave the entries
+
+entries-settle : (f : ℕ) (l : Ledger) → (settle f l).entries ≡ l.entries
+entries-settle f l = elim (is_free l f) as (λ b. (cond b (unlisted f l) l).entries ≡ l.entries) [ true ↦ refl | false ↦ refl ]
+
+entries-at : (o : Option ℕ) (l : Ledger) → (at o settle l).entries ≡ l.entries
+entries-at None l = refl
+entries-at (Some f) l = entries-settle f l
+
+entries-settle_entry : (o : Option Entry) (l : Ledger) → (settle_entry o l).entries ≡ l.entries
+entries-settle_entry None l = refl
+entries-settle_entry (Some e) l = entries-at (frame_of e) l
+
+pub entries-taken : (k : Key) (l : Ledger) → (taken k l).entries ≡ (leaving k l).entries
+entries-taken k l = ap (λ (x : Ledger). x.entries) (taken-is k l) ∙ entries-settle_entry (entry l k) (leaving k l)
+
+entries-drops : (l : Ledger) (o : Option Slot) → (after_all l (drops l o)).entries ≡ l.entries
+entries-drops l None = refl
+entries-drops l (Some s) = elim (is_orphan l s) as (λ b. (after_all l (noting (when b (Dropped s)))).entries ≡ l.entries) [
+  | true ↦ entries-at (frame_at l s) (not_cached s l)
+  | false ↦ refl
+]
+
+pub entries-taking_one : (l : Ledger) (k : Key) → (after_all l (taking_one l k)).entries ≡ (leaving k l).entries
+entries-taking_one l k = entries-drops (taken k l) (slot_behind_key l (entry l k)) ∙ entries-taken k l
+
+-- ---- what is left of a key, and of the counts
+
+pub entry-taken : (k : Key) (l : Ledger) (q : Key) → entry (taken k l) q ≡ cond (same_key k q) None (entry l q)
+entry-taken k l q = ap (find key_cmp q) (entries-taken k l) ∙ entry-leaving k q l
+
+pub mapped-taken : (k : Key) (l : Ledger) (f : ℕ) → T (is_sorted key_cmp l.entries) → mapped l f ≡ mapped (taken k l) f + weight (names_frame f) (entry l k)
+mapped-taken k l f h = mapped-leaving k l f h ∙ ap (λ es. how_many (λ (e : Key × Entry). names_frame f e.1) es + weight (names_frame f) (entry l k)) (sym (entries-taken k l))
+
+pub slot_entries-taken : (k : Key) (l : Ledger) (s : Slot) → T (is_sorted key_cmp l.entries) → slot_entries l s ≡ slot_entries (taken k l) s + weight (names_slot s) (entry l k)
+slot_entries-taken k l s h = slot_entries-leaving k l s h ∙ ap (λ es. how_many (λ (e : Key × Entry). names_slot s e.1) es + weight (names_slot s) (entry l k)) (sym (entries-taken k l))
+
+pub in_order-taken : (k : Key) (l : Ledger) → T (is_sorted key_cmp l.entries) → T (is_sorted key_cmp (taken k l).entries)
+in_order-taken k l h = subst (λ es. T (is_sorted key_cmp es)) (sym (entries-taken k l)) (is_sorted-where_key key_cmp (λ q. not (same_key k q)) l.entries h)
+
+-- the cache, flight and the areas that are on stay
+pub record SameSwap (l l' : Ledger) : Type 0 where
+  pub cache : l'.cache ≡ l.cache
+  pub flight : l'.flight ≡ l.flight
+  pub on : l'.on ≡ l.on
+
+same_settled : (o : Option ℕ) (l : Ledger) → SameSwap l (at o settle l)
+same_settled None l = record { cache = refl; flight = refl; on = refl }
+same_settled (Some f) l = by (is_free l f)
+  where
+    by : (b : Bool) → SameSwap l (cond b (unlisted f l) l)
+    by true = record { cache = refl; flight = refl; on = refl }
+    by false = record { cache = refl; flight = refl; on = refl }
+
+pub same_swap-taken : (k : Key) (l : Ledger) → SameSwap l (taken k l)
+same_swap-taken k l = subst (SameSwap l) (sym (taken-is k l)) (by (entry l k))
+  where
+    of_leaving : (l' : Ledger) → SameSwap (leaving k l) l' → SameSwap l l'
+    of_leaving l' s = record { cache = s.cache; flight = s.flight; on = s.on }
+
+    by : (o : Option Entry) → SameSwap l (settle_entry o (leaving k l))
+    by None = of_leaving (leaving k l) (record { cache = refl; flight = refl; on = refl })
+    by (Some e) = of_leaving (at (frame_of e) settle (leaving k l)) (same_settled (frame_of e) (leaving k l))
+
+-- an entry that names no frame leaves, and no more
+pub taken-blank : (k : Key) (l : Ledger) (e : Entry) → entry l k ≡ Some e → frame_of e ≡ None → taken k l ≡ leaving k l
+taken-blank k l e is none = taken-is k l ∙ ap (λ o. settle_entry o (leaving k l)) is ∙ ap (λ o. at o settle (leaving k l)) none
+
+-- the frame of an entry leaves its list exactly where it is free then
+pub taken-frame : (k : Key) (l : Ledger) (f : ℕ) (seen : Bool) → entry l k ≡ Some (InFrame f seen) → taken k l ≡ cond (is_free (leaving k l) f) (unlisted f (leaving k l)) (leaving k l)
+taken-frame k l f seen is = taken-is k l ∙ ap (λ o. settle_entry o (leaving k l)) is
+
+-- ---- entries that go in order
+
+pub entry-taking_one : (l : Ledger) (k q : Key) → entry (after_all l (taking_one l k)) q ≡ cond (same_key k q) None (entry l q)
+entry-taking_one l k q = ap (find key_cmp q) (entries-taking_one l k) ∙ entry-leaving k q l
+
+same_turned : (k q : Key) → same_key k q ≡ same_key q k
+same_turned k q = grind (arith, nat_tests)
+
+pub entry-taking : (l : Ledger) (ks : List Key) (q : Key) → entry (after_all l (taking l ks)) q ≡ cond (list_any (same_key q) ks) None (entry l q)
+entry-taking l [] q = refl
+entry-taking l (k ∷ ks) q =
+    ap (λ x. entry x q) (after_all-append l (taking_one l k) (taking (after_all l (taking_one l k)) ks)) ∙ entry-taking (after_all l (taking_one l k)) ks q
+    ∙ ap (cond (list_any (same_key q) ks) None) (entry-taking_one l k q ∙ ap (λ b. cond b None (entry l q)) (same_turned k q)) ∙ both (same_key q k) (list_any (same_key q) ks) (entry l q)
+  where
+    both : (a b : Bool) (o : Option Entry) → cond b None (cond a None o) ≡ cond (a || b) None o
+    both true true o = refl
+    both true false o = refl
+    both false b o = refl
+
+-- the keys that pass, by rising key
+abbrev pub keys_that : (Key → Bool) → Ledger → List Key
+keys_that test l = filter test (map (λ (e : Key × Entry). e.0) l.entries)
+
+-- no key that passes has an entry: then none goes
+pub none_that : (test : Key → Bool) (l : Ledger) → ((k : Key) → test k ≡ true → entry l k ≡ None) → keys_that test l ≡ []
+none_that test l h = nothing l.entries h
+  where
+    clash : {x : Entry} → Some x ≡ None → ⊥
+    clash e = cc
+
+    later : (x : Entry) (o : Option Entry) (b : Bool) → cond b (Some x) o ≡ None → o ≡ None
+    later x o true h = absurd (clash h)
+    later x o false h = h
+
+    nothing : (es : List (Key × Entry)) → ((k : Key) → test k ≡ true → find key_cmp k es ≡ None) → filter test (map (λ (e : Key × Entry). e.0) es) ≡ []
+    nothing [] h = refl
+    nothing (e ∷ es) h = elim (test e.0) as (λ b. test e.0 ≡ b → cond b (e.0 ∷ filter test (map (λ (e : Key × Entry). e.0) es)) (filter test (map (λ (e : Key × Entry). e.0) es)) ≡ []) [
+      | true ↦ λ is. absurd (clash (sym (ap (λ b. cond b (Some e.1) (find key_cmp e.0 es)) (same_key-itself e.0)) ∙ h e.0 is))
+      | false ↦ λ is. nothing es (λ k t. later e.1 (find key_cmp k es) (same_key k e.0) (h k t))
+    ] refl
+
+-- where k is the least key that passes and has an entry, it goes first, and the rest is the same of what it leaves
+pub taking-least : (test : Key → Bool) (l : Ledger) (k : Key) (e : Entry) → T (is_sorted key_cmp l.entries) → entry l k ≡ Some e → test k ≡ true
+    → ((q : Key) → key_cmp q k ≡ Less → test q ≡ true → entry l q ≡ None)
+    → taking l (keys_that test l) ≡ taking_one l k ++ taking (after_all l (taking_one l k)) (keys_that test (after_all l (taking_one l k)))
+taking-least test l k e sorted is passes least =
+    ap (taking l) (keys_from_least keys_total test k e l.entries (λ x y t. same_key-is x y (ap is_eq t)) sorted is passes least)
+    ∙ ap (λ es. taking_one l k ++ taking (after_all l (taking_one l k)) (filter test (map (λ (e : Key × Entry). e.0) es))) (sym (entries-taking_one l k))
+
+-- a key that passes and has an entry is among those that go
+pub key-listed : (test : Key → Bool) (q : Key) (es : List (Key × Entry)) (e : Entry) → find key_cmp q es ≡ Some e → test q ≡ true → list_any (same_key q) (filter test (map (λ (x : Key × Entry). x.0) es)) ≡ true
+key-listed test q [] e at is = cc
+key-listed test q (x ∷ es) e at is =
+    elim (same_key q x.0) as (λ b. same_key q x.0 ≡ b → cond b (Some x.1) (find key_cmp q es) ≡ Some e → list_any (same_key q) (cond (test x.0) (x.0 ∷ filter test (map (λ (x : Key × Entry). x.0) es)) (filter test (map (λ (x : Key × Entry). x.0) es))) ≡ true) [
+      | true ↦ λ same at'. first (test x.0) (sym (ap test (same_key-is q x.0 same)) ∙ is) same
+      | false ↦ λ other at'. more (test x.0) (key-listed test q es e at' is)
+    ] refl at
+  where
+    first : (b : Bool) → b ≡ true → same_key q x.0 ≡ true → list_any (same_key q) (cond b (x.0 ∷ filter test (map (λ (x : Key × Entry). x.0) es)) (filter test (map (λ (x : Key × Entry). x.0) es))) ≡ true
+    first true h same = ap (λ b. b || list_any (same_key q) (filter test (map (λ (x : Key × Entry). x.0) es))) same
+    first false h same = cc
+
+    more : (b : Bool) → list_any (same_key q) (filter test (map (λ (x : Key × Entry). x.0) es)) ≡ true → list_any (same_key q) (cond b (x.0 ∷ filter test (map (λ (x : Key × Entry). x.0) es)) (filter test (map (λ (x : Key × Entry). x.0) es))) ≡ true
+    more true h = or_right (same_key q x.0) _ h
+      where
+        or_right : (a b : Bool) → b ≡ true → (a || b) ≡ true
+        or_right true b h = refl
+        or_right false b h = h
+    more false h = h
+
+-- ---- the entries of a process
+
+-- a process without entries has none taken
+pub exit-done : (l : Ledger) (p : ℕ) → ((page : ℕ) → entry l (p, page) ≡ None) → taking l (keys_of_process l p) ≡ []
+exit-done l p none = ap (taking l) (none_that (λ k. k.0 == p) l (λ k t. let same : k.0 ≡ p = grind (arith, nat_tests) in subst (λ x. entry l (x, k.1) ≡ None) (sym same) (none k.1)))
+
+-- the entry of its least page goes first
+pub exit-least : (l : Ledger) (p page : ℕ) (e : Entry) → T (is_sorted key_cmp l.entries) → entry l (p, page) ≡ Some e → ((q : ℕ) → q < page → entry l (p, q) ≡ None)
+    → taking l (keys_of_process l p) ≡ (let now = after_all l (taking_one l (p, page)) in taking_one l (p, page) ++ taking now (keys_of_process now p))
+exit-least l p page e sorted is least = taking-least (λ k. k.0 == p) l (p, page) e sorted is (itself p) by_page
+  where
+    itself : (p : ℕ) → (p == p) ≡ true
+    itself p = grind (arith, nat_tests)
+
+    by_page : (q : Key) → key_cmp q (p, page) ≡ Less → (q.0 == p) ≡ true → entry l q ≡ None
+    by_page q less t =
+        let same : q.0 ≡ p = grind (arith, nat_tests) in
+        let under : q.1 < page = grind (arith, nat_tests) in
+        subst (λ x. entry l (x, q.1) ≡ None) (sym same) (least q.1 under)
+
+-- and afterwards it has none
+pub entry-ended : (l : Ledger) (p page : ℕ) → entry (after_all l (taking l (keys_of_process l p))) (p, page) ≡ None
+entry-ended l p page = entry-taking l (keys_of_process l p) (p, page) ∙ by (entry l (p, page)) refl
+  where
+    none : (b : Bool) → ◌≡◌ {A = Option Entry} (cond b None None) None
+    none true = refl
+    none false = refl
+
+    itself : (p : ℕ) → (p == p) ≡ true
+    itself p = grind (arith, nat_tests)
+
+    by : (o : Option Entry) → entry l (p, page) ≡ o → cond (list_any (same_key (p, page)) (keys_of_process l p)) None (entry l (p, page)) ≡ None
+    by None is = ap (cond (list_any (same_key (p, page)) (keys_of_process l p)) None) is ∙ none _
+    by (Some e) is = ap (λ b. cond b None (entry l (p, page))) (key-listed (λ k. k.0 == p) (p, page) l.entries e is (itself p))
+
+-- ---- without swap
+
+-- where nothing is cached and no entry names a slot, an entry that goes drops none
+pub taking_one-alone : (l : Ledger) (k : Key) → l.cache ≡ [] → ((s : Slot) → slot_entries l s ≡ 0) → taking_one l k ≡ Taken k ∷ []
+taking_one-alone l k cache none = ap (λ o. Taken k ∷ drops (after l (Taken k)) o) (behind (entry l k) refl)
+  where
+    behind : (o : Option Entry) → entry l k ≡ o → slot_behind_key l o ≡ None
+    behind None is = refl
+    behind (Some Zero) is = refl
+    behind (Some (InFrame f seen)) is = ap (λ c. slot_of (record l { cache = c }) f) cache
+    behind (Some (InSlot s)) is = let some = how_many-found (names_slot s) k l.entries (InSlot s) is (slot-itself s) in let zero = none s in absurd (omega (arith, some, zero))
