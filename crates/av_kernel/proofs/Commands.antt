@@ -92,6 +92,7 @@ module _ (old : Mem) (tables : Tables MapTable) (spaces : List (ℕ × List Rang
           stands = record {
             sound = step-sound (setting (count old)) s command reply (state_after s p now) st.sound step;
             frames = record { frames = refl; maps = st.frames.maps; slots = st.frames.slots; dirty = st.frames.dirty; free = st.frames.free };
+            lists = record { active = st.lists.active };
             tables = record {
               entries = λ q page. ap (λ (t : ℕ → ℕ → Pte). entry_of (plain (t q page))) entries ∙ st.tables.entries q page;
               write_bits = λ q page t f is. st.tables.write_bits q page t f (sym (ap (λ (t : ℕ → ℕ → Pte). plain (t q page)) entries) ∙ is);
