@@ -183,7 +183,7 @@ fn runs_of(alloc: Global, areas: &Areas, spans: &[Span]) -> Result<Rows, AllocEr
     let mut run = areas.get(first.area);
     for span in rest {
         let next = areas.get(span.area);
-        if run.end == next.start && run.prot == next.prot {
+        if goes_on(&run, &next) {
             run.end = next.end;
         } else {
             rows.push(row_of(&run))?;
@@ -192,6 +192,14 @@ fn runs_of(alloc: Global, areas: &Areas, spans: &[Span]) -> Result<Rows, AllocEr
     }
     rows.push(row_of(&run))?;
     Ok(rows)
+}
+
+/// Whether an area begins where a run ends, with its protection.
+fn goes_on(run: &Area, next: &Area) -> bool
+    ensures yes { result ≡ true → (run.now.end ≡ next.now.start) × (run.now.prot ≡ next.now.prot) }
+    ensures no { result ≡ false → run.now.end ≡ next.now.start → run.now.prot ≡ next.now.prot → ⊥ }
+{
+    run.end == next.start && run.prot == next.prot
 }
 
 /// The row of `maps` for one run.
