@@ -1,18 +1,16 @@
 -- The worked rows from nothing on.
 use Rattle.std.specs.Prelude.{◌≡◌, ℕ, ◌+◌, ◌-◌, ◌<◌, ◌≤◌, Bool, nat_le, true, false, List, [], ◌∷◌, Some, None, refl}
-use Rattle.std.proofs.Common.{arith, inl, inr, sym, ap, subst, ◌∙◌}
+use Rattle.std.proofs.Common.{arith, inl, sym, ◌∙◌}
 use Rattle.std.proofs.lemmas.Bool.Decides.{nat_tests}
 use Rattle.std.proofs.lemmas.Bool.{false≢true}
 use Rattle.av_vma.specs.Gap.{low_page, top_page, IsRoom, IsGap}
-use Rattle.av_trace.specs.declared.reply.OutOf.{OutOf}
-use Rattle.av_trace.specs.declared.reply.Note.{Note}
 use Rattle.av_trace.specs.declared.reply.Note.TheVariants.{Zeroed, New}
-use Rattle.av_plain.specs.Ledger.{Setting, Key}
+use Rattle.av_plain.specs.Ledger.{Setting}
 use Rattle.av_plain.specs.Event.{Event, Noted, Used, after_all}
 use Rattle.av_plain.specs.Fault.{Served, Denied, Starved, Whole, Stopped}
 use Rattle.av_plain.specs.Step.{IsLegal, next_world}
 use Rattle.av_plain.specs.Choice.{ChoosesAll}
-use Rattle.av_plain.specs.Transcript.{Exchange, State, IsRun, at_first}
+use Rattle.av_plain.specs.Transcript.{Exchange, State, at_first}
 use Rattle.av_plain.specs.Rows.{Allows, Runs, machine, first_run, zero_first, one_frame, part_denied, two_processes, refusals, all_mapped}
 
 -- each exchange by its events, and the frames that are free after it
@@ -53,78 +51,316 @@ gap_below is_taken from n {page} is some low high below above = (
             absurd (not_free (is_taken (other + n - 1)) (room.free (other + n - 1) (omega (arith, some)) (omega (arith, some))) (above (other + n - 1) (omega (arith, is, low, some, more)) (omega (arith, some, top))))
 
 pub first_run-runs : Runs 4 first_run
-first_run-runs = by_steps (machine 4) (at_first (machine 4)) first_run (
-    ([], 0 ∷ 1 ∷ 2 ∷ 3 ∷ [], record { answer = (refl, refl, refl); notes = refl }, refl,
-    ([], 0 ∷ 1 ∷ 2 ∷ 3 ∷ [], record { answer = (Some 0x7fffffffe, (record { lowest = omega arith; highest = omega arith; free = λ q a b. refl }, (λ b h. omega (arith, h.highest))), refl, refl, refl); notes = refl }, refl,
-    (Noted (New 1 0x7fffffffe000 0) ∷ Used true (1, 0x7fffffffe) ∷ [], 1 ∷ 2 ∷ 3 ∷ [], record { answer = (Whole, (New 1 0x7fffffffe000 0 ∷ [], Served, [], (refl, record { coming = []; making = New 1 0x7fffffffe000 0 ∷ []; whole = refl; comes_in = refl; made = record { sought = []; frame = 0; seeks = refl; in_range = omega arith; free = refl; whole = refl } }), refl, (refl, refl)), refl, refl); notes = refl }, (1 ∷ 2 ∷ 3 ∷ [], refl, (1 ∷ 2 ∷ 3 ∷ [], refl, refl)),
-    (Used false (1, 0x7fffffffe) ∷ [], 1 ∷ 2 ∷ 3 ∷ [], record { answer = (Whole, 0 ∷ 65 ∷ 0 ∷ [], ([], Served, [], (refl, record { coming = []; making = []; whole = refl; comes_in = refl; made = refl }), refl, (refl, refl)), (refl, (refl, (refl, (refl, tt)))), refl, refl); notes = refl }, (1 ∷ 2 ∷ 3 ∷ [], refl, refl),
-    tt)))))
+first_run-runs = by_steps (machine 4) (at_first (machine 4)) first_run ((
+  [],
+  0 ∷ 1 ∷ 2 ∷ 3 ∷ [],
+  record { answer = (refl, refl, refl); notes = refl },
+  refl,
+  (
+    [],
+    0 ∷ 1 ∷ 2 ∷ 3 ∷ [],
+    record { answer = (Some 0x7fffffffe, (record { lowest = omega arith; highest = omega arith; free = λ q a b. refl }, (λ b h. omega (arith, h.highest))), refl, refl, refl); notes = refl },
+    refl,
+    (
+      Noted (New 1 0x7fffffffe000 0) ∷ Used true (1, 0x7fffffffe) ∷ [],
+      1 ∷ 2 ∷ 3 ∷ [],
+      record { answer = (Whole, (New 1 0x7fffffffe000 0 ∷ [], Served, [], (refl, record { coming = []; making = New 1 0x7fffffffe000 0 ∷ []; whole = refl; comes_in = refl; made = record { sought = []; frame = 0; seeks = refl; in_range = omega arith; free = refl; whole = refl } }), refl, (refl, refl)), refl, refl); notes = refl },
+      (1 ∷ 2 ∷ 3 ∷ [], refl, (1 ∷ 2 ∷ 3 ∷ [], refl, refl)),
+      (
+        Used false (1, 0x7fffffffe) ∷ [],
+        1 ∷ 2 ∷ 3 ∷ [],
+        record { answer = (Whole, 0 ∷ 65 ∷ 0 ∷ [], ([], Served, [], (refl, record { coming = []; making = []; whole = refl; comes_in = refl; made = refl }), refl, (refl, refl)), (refl, (refl, (refl, (refl, tt)))), refl, refl); notes = refl },
+        (1 ∷ 2 ∷ 3 ∷ [], refl, refl),
+        tt,
+      ),
+    ),
+  ),
+))
 
 pub zero_first-runs : Runs 4 zero_first
-zero_first-runs = by_steps (machine 4) (at_first (machine 4)) zero_first (
-    ([], 0 ∷ 1 ∷ 2 ∷ 3 ∷ [], record { answer = (refl, refl, refl); notes = refl }, refl,
-    ([], 0 ∷ 1 ∷ 2 ∷ 3 ∷ [], record { answer = (Some 0x7fffffffe, (record { lowest = omega arith; highest = omega arith; free = λ q a b. refl }, (λ b h. omega (arith, h.highest))), refl, refl, refl); notes = refl }, refl,
-    (Noted (Zeroed 1 0x7fffffffe000) ∷ Used false (1, 0x7fffffffe) ∷ [], 0 ∷ 1 ∷ 2 ∷ 3 ∷ [], record { answer = (Whole, 0 ∷ 0 ∷ [], (Zeroed 1 0x7fffffffe000 ∷ [], Served, [], (refl, record { coming = []; making = Zeroed 1 0x7fffffffe000 ∷ []; whole = refl; comes_in = refl; made = refl }), refl, (refl, refl)), (refl, (refl, (refl, tt))), refl, refl); notes = refl }, (0 ∷ 1 ∷ 2 ∷ 3 ∷ [], refl, (0 ∷ 1 ∷ 2 ∷ 3 ∷ [], refl, refl)),
-    (Used false (1, 0x7fffffffe) ∷ [], 0 ∷ 1 ∷ 2 ∷ 3 ∷ [], record { answer = (Whole, 0 ∷ [], ([], Served, [], (refl, record { coming = []; making = []; whole = refl; comes_in = refl; made = refl }), refl, (refl, refl)), (refl, (refl, tt)), refl, refl); notes = refl }, (0 ∷ 1 ∷ 2 ∷ 3 ∷ [], refl, refl),
-    (Noted (New 1 0x7fffffffe000 0) ∷ Used true (1, 0x7fffffffe) ∷ [], 1 ∷ 2 ∷ 3 ∷ [], record { answer = (Whole, (New 1 0x7fffffffe000 0 ∷ [], Served, [], (refl, record { coming = []; making = New 1 0x7fffffffe000 0 ∷ []; whole = refl; comes_in = refl; made = record { sought = []; frame = 0; seeks = refl; in_range = omega arith; free = refl; whole = refl } }), refl, (refl, refl)), refl, refl); notes = refl }, (1 ∷ 2 ∷ 3 ∷ [], refl, (1 ∷ 2 ∷ 3 ∷ [], refl, refl)),
-    (Used true (1, 0x7fffffffe) ∷ [], 1 ∷ 2 ∷ 3 ∷ [], record { answer = (Whole, ([], Served, [], (refl, record { coming = []; making = []; whole = refl; comes_in = refl; made = refl }), refl, (refl, refl)), refl, refl); notes = refl }, (1 ∷ 2 ∷ 3 ∷ [], refl, refl),
-    (Used false (1, 0x7fffffffe) ∷ [], 1 ∷ 2 ∷ 3 ∷ [], record { answer = (Whole, 1 ∷ 2 ∷ [], ([], Served, [], (refl, record { coming = []; making = []; whole = refl; comes_in = refl; made = refl }), refl, (refl, refl)), (refl, (refl, (refl, tt))), refl, refl); notes = refl }, (1 ∷ 2 ∷ 3 ∷ [], refl, refl),
-    tt))))))))
+zero_first-runs = by_steps (machine 4) (at_first (machine 4)) zero_first ((
+  [],
+  0 ∷ 1 ∷ 2 ∷ 3 ∷ [],
+  record { answer = (refl, refl, refl); notes = refl },
+  refl,
+  (
+    [],
+    0 ∷ 1 ∷ 2 ∷ 3 ∷ [],
+    record { answer = (Some 0x7fffffffe, (record { lowest = omega arith; highest = omega arith; free = λ q a b. refl }, (λ b h. omega (arith, h.highest))), refl, refl, refl); notes = refl },
+    refl,
+    (
+      Noted (Zeroed 1 0x7fffffffe000) ∷ Used false (1, 0x7fffffffe) ∷ [],
+      0 ∷ 1 ∷ 2 ∷ 3 ∷ [],
+      record { answer = (Whole, 0 ∷ 0 ∷ [], (Zeroed 1 0x7fffffffe000 ∷ [], Served, [], (refl, record { coming = []; making = Zeroed 1 0x7fffffffe000 ∷ []; whole = refl; comes_in = refl; made = refl }), refl, (refl, refl)), (refl, (refl, (refl, tt))), refl, refl); notes = refl },
+      (0 ∷ 1 ∷ 2 ∷ 3 ∷ [], refl, (0 ∷ 1 ∷ 2 ∷ 3 ∷ [], refl, refl)),
+      (
+        Used false (1, 0x7fffffffe) ∷ [],
+        0 ∷ 1 ∷ 2 ∷ 3 ∷ [],
+        record { answer = (Whole, 0 ∷ [], ([], Served, [], (refl, record { coming = []; making = []; whole = refl; comes_in = refl; made = refl }), refl, (refl, refl)), (refl, (refl, tt)), refl, refl); notes = refl },
+        (0 ∷ 1 ∷ 2 ∷ 3 ∷ [], refl, refl),
+        (
+          Noted (New 1 0x7fffffffe000 0) ∷ Used true (1, 0x7fffffffe) ∷ [],
+          1 ∷ 2 ∷ 3 ∷ [],
+          record { answer = (Whole, (New 1 0x7fffffffe000 0 ∷ [], Served, [], (refl, record { coming = []; making = New 1 0x7fffffffe000 0 ∷ []; whole = refl; comes_in = refl; made = record { sought = []; frame = 0; seeks = refl; in_range = omega arith; free = refl; whole = refl } }), refl, (refl, refl)), refl, refl); notes = refl },
+          (1 ∷ 2 ∷ 3 ∷ [], refl, (1 ∷ 2 ∷ 3 ∷ [], refl, refl)),
+          (
+            Used true (1, 0x7fffffffe) ∷ [],
+            1 ∷ 2 ∷ 3 ∷ [],
+            record { answer = (Whole, ([], Served, [], (refl, record { coming = []; making = []; whole = refl; comes_in = refl; made = refl }), refl, (refl, refl)), refl, refl); notes = refl },
+            (1 ∷ 2 ∷ 3 ∷ [], refl, refl),
+            (
+              Used false (1, 0x7fffffffe) ∷ [],
+              1 ∷ 2 ∷ 3 ∷ [],
+              record { answer = (Whole, 1 ∷ 2 ∷ [], ([], Served, [], (refl, record { coming = []; making = []; whole = refl; comes_in = refl; made = refl }), refl, (refl, refl)), (refl, (refl, (refl, tt))), refl, refl); notes = refl },
+              (1 ∷ 2 ∷ 3 ∷ [], refl, refl),
+              tt,
+            ),
+          ),
+        ),
+      ),
+    ),
+  ),
+))
 
 pub one_frame-runs : Runs 1 one_frame
-one_frame-runs = by_steps (machine 1) (at_first (machine 1)) one_frame (
-    ([], 0 ∷ [], record { answer = (refl, refl, refl); notes = refl }, refl,
-    ([], 0 ∷ [], record { answer = (Some 0x7fffffffd, (record { lowest = omega arith; highest = omega arith; free = λ q a b. refl }, (λ b h. omega (arith, h.highest))), refl, refl, refl); notes = refl }, refl,
-    (Noted (New 1 0x7fffffffd000 0) ∷ Used true (1, 0x7fffffffd) ∷ [], [], record { answer = (Stopped 0x7fffffffe (Starved (record { pinned = 0; noslot = 1; fault = 0 })), (New 1 0x7fffffffd000 0 ∷ [], Served, [], (refl, record { coming = []; making = New 1 0x7fffffffd000 0 ∷ []; whole = refl; comes_in = refl; made = record { sought = []; frame = 0; seeks = refl; in_range = omega arith; free = refl; whole = refl } }), refl, ([], Starved (record { pinned = 0; noslot = 1; fault = 0 }), [], (refl, record { coming = []; sought = []; whole = refl; before = inl refl; wants = refl; seeks = refl; none = refl; numbers = refl }), refl, (refl, refl))), refl, refl); notes = refl }, ([], refl, ([], refl, refl)),
-    (Used false (1, 0x7fffffffd) ∷ Noted (Zeroed 1 0x7fffffffe000) ∷ Used false (1, 0x7fffffffe) ∷ [], [], record { answer = (Whole, 170 ∷ 0 ∷ [], ([], Served, Noted (Zeroed 1 0x7fffffffe000) ∷ Used false (1, 0x7fffffffe) ∷ [], (refl, record { coming = []; making = []; whole = refl; comes_in = refl; made = refl }), refl, (Zeroed 1 0x7fffffffe000 ∷ [], Served, [], (refl, record { coming = []; making = Zeroed 1 0x7fffffffe000 ∷ []; whole = refl; comes_in = refl; made = refl }), refl, (refl, refl))), (refl, (refl, (refl, tt))), refl, refl); notes = refl }, ([], refl, ([], refl, ([], refl, refl))),
-    ([], [], record { answer = (Stopped 0x7fffffffe (Starved (record { pinned = 0; noslot = 1; fault = 0 })), ([], Starved (record { pinned = 0; noslot = 1; fault = 0 }), [], (refl, record { coming = []; sought = []; whole = refl; before = inl refl; wants = refl; seeks = refl; none = refl; numbers = refl }), refl, (refl, refl)), refl, refl); notes = refl }, refl,
-    tt))))))
+one_frame-runs = by_steps (machine 1) (at_first (machine 1)) one_frame ((
+  [],
+  0 ∷ [],
+  record { answer = (refl, refl, refl); notes = refl },
+  refl,
+  (
+    [],
+    0 ∷ [],
+    record { answer = (Some 0x7fffffffd, (record { lowest = omega arith; highest = omega arith; free = λ q a b. refl }, (λ b h. omega (arith, h.highest))), refl, refl, refl); notes = refl },
+    refl,
+    (
+      Noted (New 1 0x7fffffffd000 0) ∷ Used true (1, 0x7fffffffd) ∷ [],
+      [],
+      record { answer = (Stopped 0x7fffffffe (Starved (record { pinned = 0; noslot = 1; fault = 0 })), (New 1 0x7fffffffd000 0 ∷ [], Served, [], (refl, record { coming = []; making = New 1 0x7fffffffd000 0 ∷ []; whole = refl; comes_in = refl; made = record { sought = []; frame = 0; seeks = refl; in_range = omega arith; free = refl; whole = refl } }), refl, ([], Starved (record { pinned = 0; noslot = 1; fault = 0 }), [], (refl, record { coming = []; sought = []; whole = refl; before = inl refl; wants = refl; seeks = refl; none = refl; numbers = refl }), refl, (refl, refl))), refl, refl); notes = refl },
+      ([], refl, ([], refl, refl)),
+      (
+        Used false (1, 0x7fffffffd) ∷ Noted (Zeroed 1 0x7fffffffe000) ∷ Used false (1, 0x7fffffffe) ∷ [],
+        [],
+        record { answer = (Whole, 170 ∷ 0 ∷ [], ([], Served, Noted (Zeroed 1 0x7fffffffe000) ∷ Used false (1, 0x7fffffffe) ∷ [], (refl, record { coming = []; making = []; whole = refl; comes_in = refl; made = refl }), refl, (Zeroed 1 0x7fffffffe000 ∷ [], Served, [], (refl, record { coming = []; making = Zeroed 1 0x7fffffffe000 ∷ []; whole = refl; comes_in = refl; made = refl }), refl, (refl, refl))), (refl, (refl, (refl, tt))), refl, refl); notes = refl },
+        ([], refl, ([], refl, ([], refl, refl))),
+        (
+          [],
+          [],
+          record { answer = (Stopped 0x7fffffffe (Starved (record { pinned = 0; noslot = 1; fault = 0 })), ([], Starved (record { pinned = 0; noslot = 1; fault = 0 }), [], (refl, record { coming = []; sought = []; whole = refl; before = inl refl; wants = refl; seeks = refl; none = refl; numbers = refl }), refl, (refl, refl)), refl, refl); notes = refl },
+          refl,
+          tt,
+        ),
+      ),
+    ),
+  ),
+))
 
 pub part_denied-runs : Runs 4 part_denied
-part_denied-runs = by_steps (machine 4) (at_first (machine 4)) part_denied (
-    ([], 0 ∷ 1 ∷ 2 ∷ 3 ∷ [], record { answer = (refl, refl, refl); notes = refl }, refl,
-    ([], 0 ∷ 1 ∷ 2 ∷ 3 ∷ [], record { answer = (Some 0x7fffffffe, (record { lowest = omega arith; highest = omega arith; free = λ q a b. refl }, (λ b h. omega (arith, h.highest))), refl, refl, refl); notes = refl }, refl,
-    ([], 0 ∷ 1 ∷ 2 ∷ 3 ∷ [], record { answer = (Some 0x7fffffffd, (gap_below _ 0x7fffffffe 1 refl (omega arith) (omega arith) (omega arith) (λ q h. grind (arith, nat_tests, h)) (λ q h i. grind (arith, nat_tests, h, i))), refl, refl, refl); notes = refl }, refl,
-    (Noted (New 1 0x7fffffffd000 0) ∷ Used true (1, 0x7fffffffd) ∷ [], 1 ∷ 2 ∷ 3 ∷ [], record { answer = (Stopped 0x7fffffffe Denied, (New 1 0x7fffffffd000 0 ∷ [], Served, [], (refl, record { coming = []; making = New 1 0x7fffffffd000 0 ∷ []; whole = refl; comes_in = refl; made = record { sought = []; frame = 0; seeks = refl; in_range = omega arith; free = refl; whole = refl } }), refl, ([], Denied, [], (refl, refl), refl, (refl, refl))), refl, refl); notes = refl }, (1 ∷ 2 ∷ 3 ∷ [], refl, (1 ∷ 2 ∷ 3 ∷ [], refl, refl)),
-    (Used false (1, 0x7fffffffd) ∷ Noted (Zeroed 1 0x7fffffffe000) ∷ Used false (1, 0x7fffffffe) ∷ [], 1 ∷ 2 ∷ 3 ∷ [], record { answer = (Whole, 1 ∷ 2 ∷ 0 ∷ 0 ∷ [], ([], Served, Noted (Zeroed 1 0x7fffffffe000) ∷ Used false (1, 0x7fffffffe) ∷ [], (refl, record { coming = []; making = []; whole = refl; comes_in = refl; made = refl }), refl, (Zeroed 1 0x7fffffffe000 ∷ [], Served, [], (refl, record { coming = []; making = Zeroed 1 0x7fffffffe000 ∷ []; whole = refl; comes_in = refl; made = refl }), refl, (refl, refl))), (refl, (refl, (refl, (refl, (refl, tt))))), refl, refl); notes = refl }, (1 ∷ 2 ∷ 3 ∷ [], refl, (1 ∷ 2 ∷ 3 ∷ [], refl, (1 ∷ 2 ∷ 3 ∷ [], refl, refl))),
-    (Used false (1, 0x7fffffffe) ∷ [], 1 ∷ 2 ∷ 3 ∷ [], record { answer = (Stopped 0x7ffffffff Denied, 0 ∷ [], ([], Served, [], (refl, record { coming = []; making = []; whole = refl; comes_in = refl; made = refl }), refl, ([], Denied, [], (refl, refl), refl, (refl, refl))), (refl, (refl, tt)), refl, refl); notes = refl }, (1 ∷ 2 ∷ 3 ∷ [], refl, refl),
-    ([], 1 ∷ 2 ∷ 3 ∷ [], record { answer = (Stopped 0x7fffffffe Denied, ([], Denied, [], (refl, refl), refl, (refl, refl)), refl, refl); notes = refl }, refl,
-    ([], 1 ∷ 2 ∷ 3 ∷ [], record { answer = (Stopped 0x7fffffffc Denied, [], ([], Denied, [], (refl, refl), refl, (refl, refl)), (refl, tt), refl, refl); notes = refl }, refl,
-    tt)))))))))
+part_denied-runs = by_steps (machine 4) (at_first (machine 4)) part_denied ((
+  [],
+  0 ∷ 1 ∷ 2 ∷ 3 ∷ [],
+  record { answer = (refl, refl, refl); notes = refl },
+  refl,
+  (
+    [],
+    0 ∷ 1 ∷ 2 ∷ 3 ∷ [],
+    record { answer = (Some 0x7fffffffe, (record { lowest = omega arith; highest = omega arith; free = λ q a b. refl }, (λ b h. omega (arith, h.highest))), refl, refl, refl); notes = refl },
+    refl,
+    (
+      [],
+      0 ∷ 1 ∷ 2 ∷ 3 ∷ [],
+      record { answer = (Some 0x7fffffffd, (gap_below _ 0x7fffffffe 1 refl (omega arith) (omega arith) (omega arith) (λ q h. grind (arith, nat_tests, h)) (λ q h i. grind (arith, nat_tests, h, i))), refl, refl, refl); notes = refl },
+      refl,
+      (
+        Noted (New 1 0x7fffffffd000 0) ∷ Used true (1, 0x7fffffffd) ∷ [],
+        1 ∷ 2 ∷ 3 ∷ [],
+        record { answer = (Stopped 0x7fffffffe Denied, (New 1 0x7fffffffd000 0 ∷ [], Served, [], (refl, record { coming = []; making = New 1 0x7fffffffd000 0 ∷ []; whole = refl; comes_in = refl; made = record { sought = []; frame = 0; seeks = refl; in_range = omega arith; free = refl; whole = refl } }), refl, ([], Denied, [], (refl, refl), refl, (refl, refl))), refl, refl); notes = refl },
+        (1 ∷ 2 ∷ 3 ∷ [], refl, (1 ∷ 2 ∷ 3 ∷ [], refl, refl)),
+        (
+          Used false (1, 0x7fffffffd) ∷ Noted (Zeroed 1 0x7fffffffe000) ∷ Used false (1, 0x7fffffffe) ∷ [],
+          1 ∷ 2 ∷ 3 ∷ [],
+          record { answer = (Whole, 1 ∷ 2 ∷ 0 ∷ 0 ∷ [], ([], Served, Noted (Zeroed 1 0x7fffffffe000) ∷ Used false (1, 0x7fffffffe) ∷ [], (refl, record { coming = []; making = []; whole = refl; comes_in = refl; made = refl }), refl, (Zeroed 1 0x7fffffffe000 ∷ [], Served, [], (refl, record { coming = []; making = Zeroed 1 0x7fffffffe000 ∷ []; whole = refl; comes_in = refl; made = refl }), refl, (refl, refl))), (refl, (refl, (refl, (refl, (refl, tt))))), refl, refl); notes = refl },
+          (1 ∷ 2 ∷ 3 ∷ [], refl, (1 ∷ 2 ∷ 3 ∷ [], refl, (1 ∷ 2 ∷ 3 ∷ [], refl, refl))),
+          (
+            Used false (1, 0x7fffffffe) ∷ [],
+            1 ∷ 2 ∷ 3 ∷ [],
+            record { answer = (Stopped 0x7ffffffff Denied, 0 ∷ [], ([], Served, [], (refl, record { coming = []; making = []; whole = refl; comes_in = refl; made = refl }), refl, ([], Denied, [], (refl, refl), refl, (refl, refl))), (refl, (refl, tt)), refl, refl); notes = refl },
+            (1 ∷ 2 ∷ 3 ∷ [], refl, refl),
+            (
+              [],
+              1 ∷ 2 ∷ 3 ∷ [],
+              record { answer = (Stopped 0x7fffffffe Denied, ([], Denied, [], (refl, refl), refl, (refl, refl)), refl, refl); notes = refl },
+              refl,
+              (
+                [],
+                1 ∷ 2 ∷ 3 ∷ [],
+                record { answer = (Stopped 0x7fffffffc Denied, [], ([], Denied, [], (refl, refl), refl, (refl, refl)), (refl, tt), refl, refl); notes = refl },
+                refl,
+                tt,
+              ),
+            ),
+          ),
+        ),
+      ),
+    ),
+  ),
+))
 
 pub two_processes-runs : Runs 4 two_processes
-two_processes-runs = by_steps (machine 4) (at_first (machine 4)) two_processes (
-    ([], 0 ∷ 1 ∷ 2 ∷ 3 ∷ [], record { answer = (refl, refl, refl); notes = refl }, refl,
-    ([], 0 ∷ 1 ∷ 2 ∷ 3 ∷ [], record { answer = (refl, refl, refl); notes = refl }, refl,
-    ([], 0 ∷ 1 ∷ 2 ∷ 3 ∷ [], record { answer = (Some 0x7fffffffe, (record { lowest = omega arith; highest = omega arith; free = λ q a b. refl }, (λ b h. omega (arith, h.highest))), refl, refl, refl); notes = refl }, refl,
-    ([], 0 ∷ 1 ∷ 2 ∷ 3 ∷ [], record { answer = (Some 0x7fffffffe, (record { lowest = omega arith; highest = omega arith; free = λ q a b. refl }, (λ b h. omega (arith, h.highest))), refl, refl, refl); notes = refl }, refl,
-    ([], 0 ∷ 1 ∷ 2 ∷ 3 ∷ [], record { answer = (Some 0x7fffffffc, (gap_below _ 0x7fffffffe 2 refl (omega arith) (omega arith) (omega arith) (λ q h. grind (arith, nat_tests, h)) (λ q h i. grind (arith, nat_tests, h, i))), refl, refl, refl); notes = refl }, refl,
-    ([], 0 ∷ 1 ∷ 2 ∷ 3 ∷ [], record { answer = (Stopped 0x7fffffffe Denied, [], ([], Denied, [], (refl, refl), refl, (refl, refl)), (refl, tt), refl, refl); notes = refl }, refl,
-    (Noted (New 7 0x7fffffffc000 0) ∷ Used true (7, 0x7fffffffc) ∷ [], 1 ∷ 2 ∷ 3 ∷ [], record { answer = (Whole, (New 7 0x7fffffffc000 0 ∷ [], Served, [], (refl, record { coming = []; making = New 7 0x7fffffffc000 0 ∷ []; whole = refl; comes_in = refl; made = record { sought = []; frame = 0; seeks = refl; in_range = omega arith; free = refl; whole = refl } }), refl, (refl, refl)), refl, refl); notes = refl }, (1 ∷ 2 ∷ 3 ∷ [], refl, (1 ∷ 2 ∷ 3 ∷ [], refl, refl)),
-    (Noted (New 3 0x7fffffffe000 1) ∷ Used true (3, 0x7fffffffe) ∷ [], 2 ∷ 3 ∷ [], record { answer = (Whole, (New 3 0x7fffffffe000 1 ∷ [], Served, [], (refl, record { coming = []; making = New 3 0x7fffffffe000 1 ∷ []; whole = refl; comes_in = refl; made = record { sought = []; frame = 1; seeks = refl; in_range = omega arith; free = refl; whole = refl } }), refl, (refl, refl)), refl, refl); notes = refl }, (2 ∷ 3 ∷ [], refl, (2 ∷ 3 ∷ [], refl, refl)),
-    (Used false (7, 0x7fffffffc) ∷ [], 2 ∷ 3 ∷ [], record { answer = (Whole, 5 ∷ [], ([], Served, [], (refl, record { coming = []; making = []; whole = refl; comes_in = refl; made = refl }), refl, (refl, refl)), (refl, (refl, tt)), refl, refl); notes = refl }, (2 ∷ 3 ∷ [], refl, refl),
-    (Used false (3, 0x7fffffffe) ∷ [], 2 ∷ 3 ∷ [], record { answer = (Whole, 6 ∷ [], ([], Served, [], (refl, record { coming = []; making = []; whole = refl; comes_in = refl; made = refl }), refl, (refl, refl)), (refl, (refl, tt)), refl, refl); notes = refl }, (2 ∷ 3 ∷ [], refl, refl),
-    tt)))))))))))
+two_processes-runs = by_steps (machine 4) (at_first (machine 4)) two_processes ((
+  [],
+  0 ∷ 1 ∷ 2 ∷ 3 ∷ [],
+  record { answer = (refl, refl, refl); notes = refl },
+  refl,
+  (
+    [],
+    0 ∷ 1 ∷ 2 ∷ 3 ∷ [],
+    record { answer = (refl, refl, refl); notes = refl },
+    refl,
+    (
+      [],
+      0 ∷ 1 ∷ 2 ∷ 3 ∷ [],
+      record { answer = (Some 0x7fffffffe, (record { lowest = omega arith; highest = omega arith; free = λ q a b. refl }, (λ b h. omega (arith, h.highest))), refl, refl, refl); notes = refl },
+      refl,
+      (
+        [],
+        0 ∷ 1 ∷ 2 ∷ 3 ∷ [],
+        record { answer = (Some 0x7fffffffe, (record { lowest = omega arith; highest = omega arith; free = λ q a b. refl }, (λ b h. omega (arith, h.highest))), refl, refl, refl); notes = refl },
+        refl,
+        (
+          [],
+          0 ∷ 1 ∷ 2 ∷ 3 ∷ [],
+          record { answer = (Some 0x7fffffffc, (gap_below _ 0x7fffffffe 2 refl (omega arith) (omega arith) (omega arith) (λ q h. grind (arith, nat_tests, h)) (λ q h i. grind (arith, nat_tests, h, i))), refl, refl, refl); notes = refl },
+          refl,
+          (
+            [],
+            0 ∷ 1 ∷ 2 ∷ 3 ∷ [],
+            record { answer = (Stopped 0x7fffffffe Denied, [], ([], Denied, [], (refl, refl), refl, (refl, refl)), (refl, tt), refl, refl); notes = refl },
+            refl,
+            (
+              Noted (New 7 0x7fffffffc000 0) ∷ Used true (7, 0x7fffffffc) ∷ [],
+              1 ∷ 2 ∷ 3 ∷ [],
+              record { answer = (Whole, (New 7 0x7fffffffc000 0 ∷ [], Served, [], (refl, record { coming = []; making = New 7 0x7fffffffc000 0 ∷ []; whole = refl; comes_in = refl; made = record { sought = []; frame = 0; seeks = refl; in_range = omega arith; free = refl; whole = refl } }), refl, (refl, refl)), refl, refl); notes = refl },
+              (1 ∷ 2 ∷ 3 ∷ [], refl, (1 ∷ 2 ∷ 3 ∷ [], refl, refl)),
+              (
+                Noted (New 3 0x7fffffffe000 1) ∷ Used true (3, 0x7fffffffe) ∷ [],
+                2 ∷ 3 ∷ [],
+                record { answer = (Whole, (New 3 0x7fffffffe000 1 ∷ [], Served, [], (refl, record { coming = []; making = New 3 0x7fffffffe000 1 ∷ []; whole = refl; comes_in = refl; made = record { sought = []; frame = 1; seeks = refl; in_range = omega arith; free = refl; whole = refl } }), refl, (refl, refl)), refl, refl); notes = refl },
+                (2 ∷ 3 ∷ [], refl, (2 ∷ 3 ∷ [], refl, refl)),
+                (
+                  Used false (7, 0x7fffffffc) ∷ [],
+                  2 ∷ 3 ∷ [],
+                  record { answer = (Whole, 5 ∷ [], ([], Served, [], (refl, record { coming = []; making = []; whole = refl; comes_in = refl; made = refl }), refl, (refl, refl)), (refl, (refl, tt)), refl, refl); notes = refl },
+                  (2 ∷ 3 ∷ [], refl, refl),
+                  (
+                    Used false (3, 0x7fffffffe) ∷ [],
+                    2 ∷ 3 ∷ [],
+                    record { answer = (Whole, 6 ∷ [], ([], Served, [], (refl, record { coming = []; making = []; whole = refl; comes_in = refl; made = refl }), refl, (refl, refl)), (refl, (refl, tt)), refl, refl); notes = refl },
+                    (2 ∷ 3 ∷ [], refl, refl),
+                    tt,
+                  ),
+                ),
+              ),
+            ),
+          ),
+        ),
+      ),
+    ),
+  ),
+))
 
 pub refusals-runs : Runs 4 refusals
-refusals-runs = by_steps (machine 4) (at_first (machine 4)) refusals (
-    ([], 0 ∷ 1 ∷ 2 ∷ 3 ∷ [], record { answer = (refl, refl, refl); notes = refl }, refl,
-    ([], 0 ∷ 1 ∷ 2 ∷ 3 ∷ [], record { answer = (refl, refl, refl); notes = refl }, refl,
-    ([], 0 ∷ 1 ∷ 2 ∷ 3 ∷ [], record { answer = (refl, refl, refl); notes = refl }, refl,
-    ([], 0 ∷ 1 ∷ 2 ∷ 3 ∷ [], record { answer = (refl, refl, refl); notes = refl }, refl,
-    ([], 0 ∷ 1 ∷ 2 ∷ 3 ∷ [], record { answer = (refl, refl, refl); notes = refl }, refl,
-    ([], 0 ∷ 1 ∷ 2 ∷ 3 ∷ [], record { answer = (None, (λ page room. let low = room.lowest in let high = room.highest in absurd (omega (arith, low, high))), refl, refl, refl); notes = refl }, refl,
-    ([], 0 ∷ 1 ∷ 2 ∷ 3 ∷ [], record { answer = (refl, refl, refl); notes = refl }, refl,
-    ([], 0 ∷ 1 ∷ 2 ∷ 3 ∷ [], record { answer = (refl, refl, refl); notes = refl }, refl,
-    ([], 0 ∷ 1 ∷ 2 ∷ 3 ∷ [], record { answer = (refl, refl, refl); notes = refl }, refl,
-    ([], 0 ∷ 1 ∷ 2 ∷ 3 ∷ [], record { answer = (refl, refl, refl); notes = refl }, refl,
-    ([], 0 ∷ 1 ∷ 2 ∷ 3 ∷ [], record { answer = (Stopped 0x10 Denied, [], ([], Denied, [], (refl, refl), refl, (refl, refl)), (refl, tt), refl, refl); notes = refl }, refl,
-    tt))))))))))))
+refusals-runs = by_steps (machine 4) (at_first (machine 4)) refusals ((
+  [],
+  0 ∷ 1 ∷ 2 ∷ 3 ∷ [],
+  record { answer = (refl, refl, refl); notes = refl },
+  refl,
+  (
+    [],
+    0 ∷ 1 ∷ 2 ∷ 3 ∷ [],
+    record { answer = (refl, refl, refl); notes = refl },
+    refl,
+    (
+      [],
+      0 ∷ 1 ∷ 2 ∷ 3 ∷ [],
+      record { answer = (refl, refl, refl); notes = refl },
+      refl,
+      (
+        [],
+        0 ∷ 1 ∷ 2 ∷ 3 ∷ [],
+        record { answer = (refl, refl, refl); notes = refl },
+        refl,
+        (
+          [],
+          0 ∷ 1 ∷ 2 ∷ 3 ∷ [],
+          record { answer = (refl, refl, refl); notes = refl },
+          refl,
+          (
+            [],
+            0 ∷ 1 ∷ 2 ∷ 3 ∷ [],
+            record { answer = (None, (λ page room. let low = room.lowest in let high = room.highest in absurd (omega (arith, low, high))), refl, refl, refl); notes = refl },
+            refl,
+            (
+              [],
+              0 ∷ 1 ∷ 2 ∷ 3 ∷ [],
+              record { answer = (refl, refl, refl); notes = refl },
+              refl,
+              (
+                [],
+                0 ∷ 1 ∷ 2 ∷ 3 ∷ [],
+                record { answer = (refl, refl, refl); notes = refl },
+                refl,
+                (
+                  [],
+                  0 ∷ 1 ∷ 2 ∷ 3 ∷ [],
+                  record { answer = (refl, refl, refl); notes = refl },
+                  refl,
+                  (
+                    [],
+                    0 ∷ 1 ∷ 2 ∷ 3 ∷ [],
+                    record { answer = (refl, refl, refl); notes = refl },
+                    refl,
+                    (
+                      [],
+                      0 ∷ 1 ∷ 2 ∷ 3 ∷ [],
+                      record { answer = (Stopped 0x10 Denied, [], ([], Denied, [], (refl, refl), refl, (refl, refl)), (refl, tt), refl, refl); notes = refl },
+                      refl,
+                      tt,
+                    ),
+                  ),
+                ),
+              ),
+            ),
+          ),
+        ),
+      ),
+    ),
+  ),
+))
 
 pub all_mapped-runs : Runs 4 all_mapped
-all_mapped-runs = by_steps (machine 4) (at_first (machine 4)) all_mapped (
-    ([], 0 ∷ 1 ∷ 2 ∷ 3 ∷ [], record { answer = (refl, refl, refl); notes = refl }, refl,
-    ([], 0 ∷ 1 ∷ 2 ∷ 3 ∷ [], record { answer = (Some 0x10, (record { lowest = omega arith; highest = omega arith; free = λ q a b. refl }, (λ b h. omega (arith, h.highest))), refl, refl, refl); notes = refl }, refl,
-    ([], 0 ∷ 1 ∷ 2 ∷ 3 ∷ [], record { answer = (None, (λ page room. not_free _ (room.free page (omega arith) (omega arith)) (let low = room.lowest in let high = room.highest in grind (arith, nat_tests, low, high))), refl, refl, refl); notes = refl }, refl,
-    (Noted (New 1 0x10000 0) ∷ Used true (1, 0x10) ∷ [], 1 ∷ 2 ∷ 3 ∷ [], record { answer = (Whole, (New 1 0x10000 0 ∷ [], Served, [], (refl, record { coming = []; making = New 1 0x10000 0 ∷ []; whole = refl; comes_in = refl; made = record { sought = []; frame = 0; seeks = refl; in_range = omega arith; free = refl; whole = refl } }), refl, (refl, refl)), refl, refl); notes = refl }, (1 ∷ 2 ∷ 3 ∷ [], refl, (1 ∷ 2 ∷ 3 ∷ [], refl, refl)),
-    tt)))))
+all_mapped-runs = by_steps (machine 4) (at_first (machine 4)) all_mapped ((
+  [],
+  0 ∷ 1 ∷ 2 ∷ 3 ∷ [],
+  record { answer = (refl, refl, refl); notes = refl },
+  refl,
+  (
+    [],
+    0 ∷ 1 ∷ 2 ∷ 3 ∷ [],
+    record { answer = (Some 0x10, (record { lowest = omega arith; highest = omega arith; free = λ q a b. refl }, (λ b h. omega (arith, h.highest))), refl, refl, refl); notes = refl },
+    refl,
+    (
+      [],
+      0 ∷ 1 ∷ 2 ∷ 3 ∷ [],
+      record { answer = (None, (λ page room. not_free _ (room.free page (omega arith) (omega arith)) (let low = room.lowest in let high = room.highest in grind (arith, nat_tests, low, high))), refl, refl, refl); notes = refl },
+      refl,
+      (
+        Noted (New 1 0x10000 0) ∷ Used true (1, 0x10) ∷ [],
+        1 ∷ 2 ∷ 3 ∷ [],
+        record { answer = (Whole, (New 1 0x10000 0 ∷ [], Served, [], (refl, record { coming = []; making = New 1 0x10000 0 ∷ []; whole = refl; comes_in = refl; made = record { sought = []; frame = 0; seeks = refl; in_range = omega arith; free = refl; whole = refl } }), refl, (refl, refl)), refl, refl); notes = refl },
+        (1 ∷ 2 ∷ 3 ∷ [], refl, (1 ∷ 2 ∷ 3 ∷ [], refl, refl)),
+        tt,
+      ),
+    ),
+  ),
+))

@@ -1,5 +1,5 @@
 -- The ledger, event by event.
-use Rattle.std.specs.Prelude.{true, false, [], ◌∷◌, refl}
+use Rattle.std.specs.Prelude.{true, [], ◌∷◌, refl}
 use Rattle.av_plain.specs.Ledger.{InFrame, fresh}
 use Rattle.av_plain.specs.Rows.{Leads, ledger_with, out_and_back, copied_and_gone}
 

@@ -18,7 +18,11 @@ pub mod SoundTaken
 pub mod Soundness
 pub mod SoundBound
 pub mod SoundMeans
+pub mod FrameCounts
+pub mod MapsLaws
+pub mod JoinedRanges
 pub mod OutOfMemory
 pub mod FirstRows
 pub mod SwapRows
 pub mod LedgerRows
+pub mod ExitRows

@@ -1,5 +1,5 @@
 -- The numbers of an out-of-memory are all frames.
-use Rattle.std.proofs.Common.{◌≡◌, ◌⊎◌, inl, inr, ℕ, zero, suc, ◌+◌, ◌<◌, ◌≤◌, Bool, true, false, cond, not, List, [], ◌∷◌, length, Option, Some, None, is_none, is_some, refl, sym, ap, subst, ◌∙◌, arith, ◌==◌}
+use Rattle.std.proofs.Common.{◌≡◌, ◌⊎◌, inl, inr, ℕ, zero, suc, ◌+◌, ◌<◌, ◌≤◌, Bool, true, false, cond, not, List, [], ◌∷◌, length, Option, Some, None, is_none, is_some, refl, sym, ap, subst, arith, ◌==◌}
 use Rattle.std.proofs.lemmas.Bool.Decides.{nat_tests}
 use Rattle.std.specs.Prelude.{IfSome, MatchOption}
 use Rattle.av_vma.specs.declared.slot.Slot.{Slot}
@@ -12,15 +12,15 @@ use Rattle.av_trace.specs.declared.reply.OutOf.{OutOf}
 use Rattle.av_trace.specs.declared.reply.Reply.{Reply}
 use Rattle.av_trace.specs.declared.reply.Row.{Row}
 use Rattle.av_trace.specs.declared.reply.Answer.{Answer}
-use Rattle.av_trace.specs.declared.reply.Answer.TheVariants.{Done, MapAt, Data, Refused, Segv, Bus, Oom}
+use Rattle.av_trace.specs.declared.reply.Answer.TheVariants.{Oom}
 use Rattle.av_plain.specs.World.{World}
 use Rattle.av_plain.specs.Ledger.{Ledger, Setting, Key, Entry, Zero, InFrame, InSlot, entry, names_frame, frame_at, slot_of}
 use Rattle.av_plain.specs.Event.{Event, without, after_all}
-use Rattle.av_plain.specs.Pass.{noted_all, out_of, unpinned}
-use Rattle.av_plain.specs.Fault.{Need, Ready, Split, Absent, Held, held, need, is_shared, pinned_by, ComesIn, RunsOut, Accesses, GoesOn, Touches, How, Served, Denied, Starved, Lost, End, Whole, Stopped, happening, touched}
+use Rattle.av_plain.specs.Pass.{noted_all, out_of}
+use Rattle.av_plain.specs.Fault.{Ready, Split, held, need, is_shared, pinned_by, ComesIn, RunsOut, Accesses, GoesOn, Touches, How, Served, Denied, Starved, Lost, End, Whole, Stopped, happening, touched}
 use Rattle.av_plain.specs.Refusal.{tests, refusal}
 use Rattle.av_plain.specs.Step.{IsLegal, Follows, Refuses, Answers, IsMapAt}
-use Rattle.av_plain.specs.Sound.{uses, IsSound, AllSound}
+use Rattle.av_plain.specs.Sound.{IsSound, AllSound}
 use Rattle.av_plain.proofs.LedgerLaws.{how_many-found}
 use Rattle.av_plain.proofs.NoSwapLaws.{itself}
 use Rattle.av_plain.proofs.SoundAccess.{comes-kept, touches-kept, happening-kept}

@@ -1,22 +1,20 @@
 -- Soundness after a read or write.
-use Rattle.std.proofs.Common.{◌≡◌, ◌⊎◌, inl, inr, ℕ, ◌+◌, ◌*◌, ◌/◌, ◌<◌, ◌≤◌, Bool, true, false, cond, not, ◌&&◌, ◌||◌, if◌then◌else◌, nat_lt, T, List, [], ◌∷◌, ◌++◌, Option, Some, None, refl, sym, ap, subst, ◌∙◌, arith, ◌==◌}
+use Rattle.std.proofs.Common.{◌≡◌, ◌⊎◌, inl, inr, ℕ, ◌<◌, Bool, true, false, cond, not, ◌&&◌, ◌||◌, nat_lt, List, [], ◌∷◌, ◌++◌, Option, Some, None, refl, sym, ap, subst, ◌∙◌, arith, ◌==◌}
 use Rattle.std.proofs.lemmas.Bool.Decides.{nat_tests}
-use Rattle.std.specs.Prelude.{IsTrue}
 use Rattle.av_vma.specs.declared.slot.Slot.{Slot}
 use Rattle.av_trace.specs.declared.reply.OutOf.{OutOf}
 use Rattle.av_trace.specs.declared.reply.Note.{Note}
-use Rattle.av_trace.specs.declared.reply.Note.TheVariants.{Zeroed, New, Copied, Loaded, Mapped, Failed, Dropped}
-use Rattle.av_vma.specs.Ranges.{how_many}
+use Rattle.av_trace.specs.declared.reply.Note.TheVariants.{New, Copied, Loaded, Mapped, Dropped}
 use Rattle.av_plain.specs.World.{World, address_of}
-use Rattle.av_plain.specs.Ledger.{Setting, Key, key_cmp, Entry, InFrame, InSlot, Zero, Ledger, Cached, entry, mapped, slot_entries, names_frame, names_slot, same_slot, is_free, slot_of, frame_at, in_flight, is_full, has_free}
-use Rattle.av_plain.specs.Event.{Event, Used, place, noted, set_entry, to_inactive_head, after_all, used}
+use Rattle.av_plain.specs.Ledger.{Setting, Key, Entry, InFrame, InSlot, Zero, Ledger, entry, mapped, slot_entries, names_slot, same_slot, is_free, slot_of, frame_at, in_flight, is_full}
+use Rattle.av_plain.specs.Event.{Event, Used, noted, set_entry, to_inactive_head, after_all, used}
 use Rattle.av_plain.specs.Pass.{noted_all, when, Spared, nothing_spared, pinning}
-use Rattle.av_plain.specs.Fault.{is_named, is_shared, Need, Ready, Blank, Fresh, Split, Absent, Held, held, need, TakesFor, ComesIn, IsMade, spare_slot, spare_of, spare, comes, Serves, pinned_by, RunsOut, IsLost, How, Served, Denied, Starved, Lost, Touches, End, noting, happening, GoesOn, Accesses}
-use Rattle.av_plain.specs.Sound.{slots, holders, pairs, flights, listings, uses, kin, IsSoundBut, IsSound, no_excuse}
+use Rattle.av_plain.specs.Fault.{is_named, is_shared, Ready, Split, held, need, TakesFor, ComesIn, IsMade, spare_slot, spare_of, spare, comes, Serves, RunsOut, How, Served, Denied, Starved, Lost, Touches, End, noting, happening, GoesOn, Accesses}
+use Rattle.av_plain.specs.Sound.{flights, uses, IsSound, no_excuse}
 use Rattle.av_plain.proofs.LedgerLaws.{how_many-found}
 use Rattle.av_plain.proofs.NoSwapLaws.{place-address, zero_is}
 use Rattle.av_plain.proofs.AccessLaws.{after_all-append, noting-all, noted_all-append}
-use Rattle.av_plain.proofs.SoundLaws.{same-is, same-itself, slot-is, slot-itself, slot_of-none, slot_of-some, frame_at-none, frame_at-some}
+use Rattle.av_plain.proofs.SoundLaws.{slot-itself, slot_of-some, frame_at-none, frame_at-some}
 use Rattle.av_plain.proofs.SoundEntries.{IsBlank, zeroed-kept, new-kept, IsSharedBy, ByFrame, BySlot, copied-kept, mapped-kept}
 use Rattle.av_plain.proofs.SoundChanges.{any-counts, free-is, loaded-kept, drop-sound, used-kept}
 

@@ -1,17 +1,17 @@
 -- At most as many entries name a frame as processes live: each process has one at most.
-use Rattle.std.proofs.Common.{◌≡◌, ℕ, zero, suc, ◌+◌, ◌<◌, ◌≤◌, Bool, true, false, cond, not, ◌&&◌, T, List, [], ◌∷◌, length, Option, Some, None, is_some, refl, sym, ap, subst, ◌∙◌, arith, ◌==◌, nat_lt}
+use Rattle.std.proofs.Common.{◌≡◌, ℕ, zero, suc, ◌+◌, ◌<◌, ◌≤◌, Bool, true, false, cond, not, ◌&&◌, T, List, [], ◌∷◌, length, Option, Some, None, is_some, refl, sym, ap, subst, ◌∙◌, arith, ◌==◌}
 use Rattle.std.proofs.lemmas.Bool.Decides.{nat_tests}
 use Rattle.std.specs.Ordering.{nat_cmp, eq_by_cmp}
 use Rattle.std.specs.FinMap.Entries.{find, is_sorted}
 use Rattle.av_vma.specs.declared.slot.Slot.{Slot}
 use Rattle.av_vma.specs.Ranges.{how_many}
-use Rattle.av_plain.specs.World.{World, Process, lives}
+use Rattle.av_plain.specs.World.{World, lives}
 use Rattle.av_plain.specs.Ledger.{Ledger, Setting, Key, key_cmp, Entry, Zero, InFrame, InSlot, entry, mapped, slot_entries, names_frame, names_slot, same_slot}
 use Rattle.av_plain.specs.Refusal.{most_processes}
 use Rattle.av_plain.specs.Sound.{kin, AllSound}
 use Rattle.av_plain.proofs.Laws.{keys_total, both_first, both_second, find_below}
 use Rattle.av_plain.proofs.LedgerLaws.{same_key, same_key-is}
-use Rattle.av_plain.proofs.MoreLaws.{how_many-same, how_many-or, how_many-none}
+use Rattle.av_plain.proofs.MoreLaws.{how_many-or, how_many-none}
 use Rattle.av_plain.proofs.SoundLaws.{same-is, slot-is}
 use Rattle.av_plain.proofs.Soundness.{no_entries}
 

@@ -1,22 +1,19 @@
 -- Soundness after a load, a drop, and a page that is used.
-use Rattle.std.proofs.Common.{◌≡◌, ◌⊎◌, inl, inr, ℕ, ◌+◌, ◌<◌, ◌≤◌, min, Bool, true, false, cond, not, ◌&&◌, ◌||◌, if◌then◌else◌, nat_lt, T, List, [], ◌∷◌, ◌++◌, map, filter, Option, Some, None, is_none, is_some, option_map, refl, sym, ap, subst, ◌∙◌, arith, ◌==◌}
+use Rattle.std.proofs.Common.{◌≡◌, ℕ, ◌+◌, ◌<◌, ◌≤◌, min, Bool, true, false, cond, ◌&&◌, ◌||◌, if◌then◌else◌, nat_lt, T, List, [], ◌∷◌, Option, Some, None, is_none, refl, sym, ap, subst, ◌∙◌, arith, ◌==◌}
 use Rattle.std.proofs.lemmas.Bool.Decides.{nat_tests}
 use Rattle.std.specs.List.{list_any}
-use Rattle.std.specs.Ordering.{is_eq}
-use Rattle.std.specs.FinMap.Entries.{is_sorted, find, where_key, find-where_key, is_sorted-where_key}
+use Rattle.std.specs.FinMap.Entries.{is_sorted}
 use Rattle.av_vma.specs.declared.slot.Slot.{Slot}
-use Rattle.av_trace.specs.declared.reply.Note.TheVariants.{Dropped, Started, Written, Failed, Unmapped}
+use Rattle.av_trace.specs.declared.reply.Note.TheVariants.{Dropped}
 use Rattle.av_vma.specs.Ranges.{how_many}
-use Rattle.av_plain.specs.Ledger.{Setting, Key, key_cmp, Entry, InFrame, InSlot, Zero, Ledger, Cached, entry, mapped, slot_entries, names_frame, names_slot, same_slot, is_free, slot_of, frame_at, is_orphan, in_flight, is_unmapped}
-use Rattle.av_plain.specs.Event.{set_entry, to_inactive_head, to_inactive_tail, to_active, unlisted, mark, cached_at, not_cached, landed, change_entries, unseen, settle, at, used, used_at, taken, settle_entry, frame_of, slot_behind, noted, after_all}
-use Rattle.av_plain.specs.Pass.{when}
-use Rattle.av_plain.specs.Fault.{noting}
+use Rattle.av_plain.specs.Ledger.{Setting, Key, key_cmp, Entry, InFrame, InSlot, Zero, Ledger, Cached, entry, mapped, slot_entries, names_frame, names_slot, same_slot, is_free, slot_of, frame_at}
+use Rattle.av_plain.specs.Event.{set_entry, to_inactive_head, unlisted, mark, cached_at, not_cached, landed, settle, at, used, used_at, noted}
 use Rattle.av_plain.specs.Sound.{slots, holders, pairs, flights, listings, uses, kin, IsSoundBut, IsSound, no_excuse}
-use Rattle.av_plain.proofs.Laws.{keys_total, weight, count-put, count-without}
-use Rattle.av_plain.proofs.LedgerLaws.{same_key, same_key-is, same_key-itself, entry-set, mapped-set, is_sorted-set, how_many-found, how_many-append}
-use Rattle.av_plain.proofs.MoreLaws.{how_many-same, how_many-map, find-map, is_sorted-map}
-use Rattle.av_plain.proofs.SoundLaws.{same-is, same-itself, same-turned, slot-is, slot-itself, slot-turned, listings-to_head, listings-to_tail, listings-to_active, listings-unlisted, pair-slot, pair-frame, two_slots, two_frames, slots-not_cached, pairs-not_cached, holders-not_cached, slot_of-none, slot_of-some, frame_at-none, frame_at-some}
-use Rattle.av_plain.proofs.SoundEntries.{One, kin-turned, none_kin, flag, listed_of, in_range_of, one-set, slot_entries-set}
+use Rattle.av_plain.proofs.Laws.{weight}
+use Rattle.av_plain.proofs.LedgerLaws.{mapped-set, is_sorted-set, how_many-found}
+use Rattle.av_plain.proofs.MoreLaws.{how_many-same, how_many-map}
+use Rattle.av_plain.proofs.SoundLaws.{same-is, same-itself, slot-is, listings-to_head, listings-unlisted, pair-slot, pair-frame, two_frames, slots-not_cached, pairs-not_cached, holders-not_cached, slot_of-none, slot_of-some, frame_at-none, frame_at-some}
+use Rattle.av_plain.proofs.SoundEntries.{One, flag, listed_of, one-set, slot_entries-set}
 
 pub any-counts : {X : Type 0} (p : X → Bool) (xs : List X) → list_any p xs ≡ nat_lt 0 (how_many p xs)
 any-counts p [] = grind (arith, nat_tests)

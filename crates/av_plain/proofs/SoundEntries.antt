@@ -1,15 +1,14 @@
 -- Soundness after one entry is set: zero, new, copy, map, and a page that is used.
-use Rattle.std.proofs.Common.{◌≡◌, ◌⊎◌, inl, inr, ℕ, ◌+◌, ◌<◌, ◌≤◌, min, Bool, true, false, cond, not, ◌&&◌, nat_lt, T, List, [], ◌∷◌, ◌++◌, map, filter, Option, Some, None, is_none, is_some, option_map, refl, sym, ap, subst, ◌∙◌, arith, ◌==◌}
+use Rattle.std.proofs.Common.{◌≡◌, ℕ, ◌+◌, ◌<◌, ◌≤◌, min, Bool, true, false, cond, T, Option, Some, None, refl, sym, ap, subst, ◌∙◌, arith, ◌==◌}
 use Rattle.std.proofs.lemmas.Bool.Decides.{nat_tests}
 use Rattle.std.specs.FinMap.Entries.{is_sorted}
 use Rattle.av_vma.specs.declared.slot.Slot.{Slot}
-use Rattle.av_vma.specs.Ranges.{how_many}
-use Rattle.av_plain.specs.Ledger.{Setting, Key, key_cmp, Entry, InFrame, InSlot, Zero, Ledger, Cached, entry, mapped, slot_entries, names_frame, names_slot, same_slot}
+use Rattle.av_plain.specs.Ledger.{Setting, Key, key_cmp, Entry, InFrame, InSlot, Zero, Ledger, entry, mapped, slot_entries, names_frame, names_slot, same_slot}
 use Rattle.av_plain.specs.Event.{set_entry, to_inactive_head}
-use Rattle.av_plain.specs.Sound.{slots, holders, pairs, flights, listings, uses, kin, IsSoundBut}
+use Rattle.av_plain.specs.Sound.{holders, pairs, flights, listings, uses, kin, IsSoundBut}
 use Rattle.av_plain.proofs.Laws.{keys_total, weight, count-put}
-use Rattle.av_plain.proofs.LedgerLaws.{same_key, same_key-is, same_key-itself, entry-set, mapped-set, is_sorted-set, how_many-found}
-use Rattle.av_plain.proofs.SoundLaws.{same-is, same-itself, same-turned, slot-is, slot-itself, slot-turned, listings-to_head, pair-slot, pair-frame, two_slots, two_frames}
+use Rattle.av_plain.proofs.LedgerLaws.{same_key, same_key-is, entry-set, mapped-set, is_sorted-set, how_many-found}
+use Rattle.av_plain.proofs.SoundLaws.{same-is, same-turned, slot-is, slot-turned, listings-to_head, pair-frame, two_slots, two_frames}
 
 abbrev pub One : Ledger → Type 0
 One l = (p a b : ℕ) (d e : Entry) → entry l (p, a) ≡ Some d → entry l (p, b) ≡ Some e → kin l d e ≡ true → a ≡ b

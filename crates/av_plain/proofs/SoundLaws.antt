@@ -1,15 +1,12 @@
 -- Counts after each change of the lists, the cache and flight.
-use Rattle.std.proofs.Common.{◌≡◌, ℕ, ◌+◌, ◌<◌, ◌≤◌, min, Bool, true, false, cond, not, ◌&&◌, nat_lt, T, List, [], ◌∷◌, ◌++◌, map, filter, Option, Some, None, is_none, is_some, option_map, refl, sym, ap, subst, ◌∙◌, arith, ◌==◌}
+use Rattle.std.proofs.Common.{◌≡◌, ℕ, ◌+◌, ◌<◌, ◌≤◌, Bool, true, false, cond, not, ◌&&◌, List, [], ◌∷◌, filter, Some, None, option_map, refl, ap, ◌∙◌, arith, ◌==◌}
 use Rattle.std.proofs.lemmas.Bool.Decides.{nat_tests}
-use Rattle.std.specs.List.{list_any}
 use Rattle.av_vma.specs.declared.slot.Slot.{Slot}
 use Rattle.av_vma.specs.Ranges.{how_many}
-use Rattle.av_plain.specs.Ledger.{Key, key_cmp, Entry, InFrame, InSlot, Zero, Ledger, Cached, entry, mapped, slot_entries, names_frame, names_slot, same_slot, cached_by, slot_of, frame_at, is_cached, in_flight, is_free, is_orphan, is_unmapped}
-use Rattle.av_plain.specs.Event.{set_entry, without, to_inactive_head, to_inactive_tail, to_active, unlisted, mark, cached_at, not_cached, landed}
-use Rattle.av_plain.specs.Sound.{slots, holders, pairs, flights, listings, uses, kin, IsSoundBut}
-use Rattle.av_plain.proofs.Laws.{keys_total, weight, count-put}
-use Rattle.av_plain.proofs.LedgerLaws.{same_key, same_key-is, same_key-itself, entry-set, mapped-set, is_sorted-set, how_many-found, how_many-append}
-use Rattle.av_plain.proofs.MoreLaws.{how_many-same, how_many-map}
+use Rattle.av_plain.specs.Ledger.{Ledger, Cached, same_slot, cached_by}
+use Rattle.av_plain.specs.Event.{without, to_inactive_head, to_inactive_tail, to_active, unlisted}
+use Rattle.av_plain.specs.Sound.{listings}
+use Rattle.av_plain.proofs.LedgerLaws.{how_many-append}
 
 pub same-is : (f g : ℕ) → (f == g) ≡ true → f ≡ g
 same-is f g h = grind (arith, nat_tests)

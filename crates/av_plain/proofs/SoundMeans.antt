@@ -1,15 +1,15 @@
 -- What a sound ledger says in plain sentences.
-use Rattle.std.proofs.Common.{◌≡◌, ℕ, ◌+◌, ◌<◌, ◌≤◌, min, Bool, true, false, cond, not, ◌&&◌, ◌||◌, nat_lt, T, List, [], ◌∷◌, ◌++◌, All, Option, Some, None, is_none, is_some, option_map, refl, sym, ap, subst, ◌∙◌, arith, ◌==◌}
+use Rattle.std.proofs.Common.{◌≡◌, ℕ, ◌+◌, ◌<◌, ◌≤◌, min, Bool, true, false, cond, not, ◌&&◌, ◌||◌, nat_lt, List, [], ◌∷◌, Option, Some, None, refl, ap, subst, ◌∙◌, arith, ◌==◌}
 use Rattle.std.proofs.lemmas.Bool.Decides.{nat_tests}
-use Rattle.std.specs.List.{list_any, AllByRecursion, IsDistinct}
+use Rattle.std.specs.List.{AllByRecursion, IsDistinct}
 use Rattle.av_vma.specs.declared.slot.Slot.{Slot}
 use Rattle.av_vma.specs.Ranges.{how_many}
-use Rattle.av_plain.specs.Ledger.{Setting, Key, Entry, InFrame, InSlot, Zero, Ledger, Cached, entry, mapped, slot_entries, names_frame, names_slot, same_slot, slot_of, frame_at, is_cached, is_free, is_orphan, is_unmapped, in_flight}
-use Rattle.av_plain.specs.Sound.{slots, holders, pairs, flights, uses, kin, IsSound, IsSoundBut, no_excuse, AllSound}
+use Rattle.av_plain.specs.Ledger.{Setting, Entry, InFrame, InSlot, Zero, Ledger, Cached, mapped, slot_entries, names_frame, names_slot, same_slot, slot_of, frame_at, is_cached, is_free, is_orphan, is_unmapped, in_flight}
+use Rattle.av_plain.specs.Sound.{slots, pairs, flights, uses, kin, AllSound}
 use Rattle.av_plain.specs.Says.{same_cached, is_of, is_at_slot, SaysSound}
 use Rattle.av_plain.specs.World.{World}
 use Rattle.av_plain.proofs.LedgerLaws.{how_many-found, how_many-append}
-use Rattle.av_plain.proofs.SoundLaws.{same-is, same-itself, same-turned, slot-is, slot-itself, slot-turned, pair-slot, pair-frame, slot_of-some, frame_at-some}
+use Rattle.av_plain.proofs.SoundLaws.{same-is, same-itself, slot-is, slot-itself, slot_of-some, frame_at-some}
 use Rattle.av_plain.proofs.SoundEntries.{flag}
 use Rattle.av_plain.proofs.SoundBound.{mapped-bound, slot_entries-bound}
 use Rattle.av_plain.proofs.SoundChanges.{any-counts, free-is}

@@ -1,23 +1,18 @@
 -- Each entry stays at a mapped page.
-use Rattle.std.proofs.Common.{◌≡◌, ◌⊎◌, inl, inr, ℕ, ◌+◌, ◌-◌, ◌*◌, ◌<◌, ◌≤◌, min, Bool, true, false, cond, not, ◌&&◌, ◌||◌, if◌then◌else◌, nat_lt, nat_le, T, List, [], ◌∷◌, ◌++◌, length, map, filter, take, reverse, Option, Some, None, is_none, is_some, option_map, refl, sym, ap, subst, ◌∙◌, arith, ◌==◌}
-use Rattle.std.proofs.lemmas.Bool.Decides.{nat_tests}
-use Rattle.std.specs.Prelude.{IsTrue, MatchOption, MatchBool}
-use Rattle.std.specs.List.{list_any}
+use Rattle.std.proofs.Common.{◌≡◌, ◌⊎◌, inl, inr, ℕ, Bool, true, false, cond, List, [], ◌∷◌, ◌++◌, Option, Some, None, is_some, option_map, refl, sym, ap, subst, ◌∙◌, ◌==◌}
 use Rattle.av_vma.specs.declared.slot.Slot.{Slot}
 use Rattle.av_trace.specs.declared.reply.OutOf.{OutOf}
 use Rattle.av_trace.specs.declared.reply.Note.{Note}
 use Rattle.av_trace.specs.declared.reply.Note.TheVariants.{Zeroed, New, Copied, Loaded, Mapped, Put, Unmapped, Started, Written, Failed, Dropped, Kept, Aged}
 use Rattle.av_trace.specs.declared.reply.Cause.TheVariants.{Writeback, Referenced, NoSlot, WriteStarted}
 use Rattle.av_plain.specs.World.{World, Page, pages, address_of}
-use Rattle.av_vma.specs.Ranges.{how_many}
-use Rattle.av_plain.specs.Ledger.{Setting, Key, key_cmp, Entry, InFrame, InSlot, Zero, Ledger, Cached, entry, mapped, slot_entries, is_orphan, slot_of, frame_at, has_free, in_flight, is_full, is_free}
+use Rattle.av_plain.specs.Ledger.{Setting, Key, key_cmp, Entry, InFrame, InSlot, Zero, Ledger, entry, slot_of, frame_at, is_free}
 use Rattle.av_plain.specs.Event.{Event, Used, place, noted, set_entry, change_entries, unseen, at, settle, unlisted, landed, to_inactive_tail, not_cached, used, used_at, mark, after_all}
 use Rattle.av_plain.specs.Pass.{noted_all, when, Spared, nothing_spared, pinning}
-use Rattle.av_plain.specs.Fault.{Need, Ready, Blank, Fresh, Split, Absent, Held, held, need, TakesFor, ComesIn, IsMade, spare_slot, spare_of, spare, comes, Serves, pinned_by, RunsOut, IsLost, How, Served, Denied, Starved, Lost, Touches, permits, is_allowed, End, noting, happening, GoesOn, Accesses}
-use Rattle.av_plain.specs.Sound.{IsSound, AtPages}
-use Rattle.av_plain.proofs.LedgerLaws.{same_key, same_key-is, same_key-itself, entry-set}
+use Rattle.av_plain.specs.Fault.{Need, Ready, Blank, Fresh, Split, Absent, Held, need, TakesFor, ComesIn, IsMade, spare_slot, spare_of, spare, comes, Serves, RunsOut, How, Served, Denied, Starved, Lost, Touches, permits, is_allowed, End, noting, happening, GoesOn, Accesses}
+use Rattle.av_plain.proofs.LedgerLaws.{same_key, same_key-is, entry-set}
 use Rattle.av_plain.proofs.MoreLaws.{find-map}
-use Rattle.av_plain.proofs.AccessLaws.{after_all-append, noting-all, noted_all-append}
+use Rattle.av_plain.proofs.AccessLaws.{after_all-append, noting-all}
 use Rattle.av_plain.proofs.NoSwapLaws.{place-address}
 
 -- settling leaves the entries, and so does a write that ends well

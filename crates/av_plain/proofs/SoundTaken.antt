@@ -1,21 +1,20 @@
 -- Soundness after entries are taken away, with the slots that they leave as orphans; and after a process has gone.
-use Rattle.std.proofs.Common.{◌≡◌, ℕ, suc, ◌+◌, ◌<◌, ◌≤◌, min, Bool, true, false, cond, not, ◌&&◌, nat_lt, T, List, [], ◌∷◌, ◌++◌, length, Option, Some, None, is_none, is_some, refl, sym, ap, subst, ◌∙◌, arith, ◌==◌}
+use Rattle.std.proofs.Common.{◌≡◌, ℕ, suc, ◌+◌, ◌<◌, ◌≤◌, Bool, true, false, cond, not, ◌&&◌, nat_lt, T, List, [], ◌∷◌, length, Option, Some, None, is_some, refl, sym, ap, subst, ◌∙◌, arith, ◌==◌}
 use Rattle.std.proofs.lemmas.Bool.Decides.{nat_tests}
 use Rattle.std.specs.Prelude.{option_and_then}
 use Rattle.std.specs.List.{list_any}
 use Rattle.std.specs.Ordering.{nat_cmp, is_eq, eq_by_cmp}
-use Rattle.std.specs.FinMap.Entries.{is_sorted, find, where_key, find-where_key, is_sorted-where_key}
+use Rattle.std.specs.FinMap.Entries.{is_sorted, find-where_key, is_sorted-where_key}
 use Rattle.av_vma.specs.declared.slot.Slot.{Slot}
 use Rattle.av_trace.specs.declared.reply.Note.TheVariants.{Dropped}
 use Rattle.av_vma.specs.Ranges.{how_many}
 use Rattle.av_plain.specs.World.{World, Process, process, pages, end_process}
 use Rattle.av_plain.specs.Ledger.{Setting, Key, key_cmp, Entry, InFrame, InSlot, Zero, Ledger, entry, mapped, slot_entries, names_frame, names_slot, same_slot, slot_of, frame_at, is_orphan, is_unmapped, in_flight}
-use Rattle.av_plain.specs.Event.{settle, settle_entry, taken, noted, after_all}
+use Rattle.av_plain.specs.Event.{settle_entry, taken, after_all}
 use Rattle.av_plain.specs.Pass.{when}
 use Rattle.av_plain.specs.Fault.{noting}
 use Rattle.av_plain.specs.Taking.{keys_of_process, drops, slot_behind_key, taking_one, taking}
-use Rattle.av_plain.specs.Sound.{slots, holders, pairs, flights, listings, uses, kin, IsSoundBut, IsSound, no_excuse, count, AreThere, AtPages, IsTidy, AllSound}
-use Rattle.av_plain.specs.Refusal.{most_processes}
+use Rattle.av_plain.specs.Sound.{holders, pairs, flights, IsSoundBut, IsSound, no_excuse, AreThere, AtPages, IsTidy, AllSound}
 use Rattle.av_plain.proofs.Laws.{weight}
 use Rattle.av_plain.proofs.LedgerLaws.{same_key, how_many-found}
 use Rattle.av_plain.proofs.AccessLaws.{after_all-append}

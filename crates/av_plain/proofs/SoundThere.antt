@@ -1,9 +1,7 @@
 -- Each slot in use stays a slot of an area that is on: an access brings none into use.
-use Rattle.std.proofs.Common.{◌≡◌, ◌⊎◌, inl, inr, ℕ, ◌+◌, ◌<◌, ◌≤◌, Bool, true, false, cond, not, ◌&&◌, ◌||◌, if◌then◌else◌, nat_lt, T, List, [], ◌∷◌, ◌++◌, map, filter, Option, Some, None, refl, sym, ap, subst, ◌∙◌, arith, ◌==◌}
-use Rattle.std.proofs.lemmas.Bool.Decides.{nat_tests}
+use Rattle.std.proofs.Common.{◌≡◌, ◌⊎◌, inl, inr, ℕ, ◌+◌, ◌<◌, Bool, true, false, cond, not, ◌&&◌, ◌||◌, if◌then◌else◌, T, List, [], ◌∷◌, ◌++◌, Option, Some, None, refl, sym, ap, subst, ◌∙◌, arith, ◌==◌}
 use Rattle.std.specs.FinMap.Entries.{is_sorted}
 use Rattle.av_vma.specs.declared.slot.Slot.{Slot}
-use Rattle.av_trace.specs.declared.reply.OutOf.{OutOf}
 use Rattle.av_trace.specs.declared.reply.Note.{Note}
 use Rattle.av_trace.specs.declared.reply.Note.TheVariants.{Zeroed, New, Copied, Loaded, Mapped, Put, Unmapped, Started, Written, Failed, Dropped, Kept, Aged}
 use Rattle.av_vma.specs.Ranges.{how_many}
@@ -11,14 +9,14 @@ use Rattle.av_plain.specs.World.{World, address_of}
 use Rattle.av_plain.specs.Ledger.{Ledger, Setting, Key, key_cmp, Entry, Zero, InFrame, InSlot, Cached, entry, slot_entries, names_slot, same_slot, slot_of, frame_at, in_flight, is_free, is_full}
 use Rattle.av_plain.specs.Event.{Event, Used, place, set_entry, unlisted, settle, mark, not_cached, at, noted, used, used_at, after_all}
 use Rattle.av_plain.specs.Pass.{noted_all, when, Spared, nothing_spared, pinning}
-use Rattle.av_plain.specs.Fault.{is_shared, Need, Ready, Blank, Fresh, Split, Absent, Held, held, need, TakesFor, ComesIn, IsMade, spare_slot, spare_of, spare, comes, Serves, RunsOut, IsLost, How, Served, Denied, Starved, Lost, Touches, End, noting, happening, GoesOn, Accesses}
+use Rattle.av_plain.specs.Fault.{is_shared, Need, Ready, Blank, Fresh, Split, Absent, Held, held, need, TakesFor, ComesIn, IsMade, spare_slot, spare_of, spare, comes, Serves, RunsOut, How, Served, Denied, Starved, Lost, Touches, End, noting, happening, GoesOn, Accesses}
 use Rattle.av_plain.specs.Sound.{slots, IsSound, count, is_there, AreThere}
 use Rattle.av_plain.proofs.LedgerLaws.{how_many-found, is_sorted-set}
 use Rattle.av_plain.proofs.MoreLaws.{how_many-same, how_many-map}
-use Rattle.av_plain.proofs.AccessLaws.{after_all-append, noting-all, noted_all-append}
+use Rattle.av_plain.proofs.AccessLaws.{after_all-append, noting-all}
 use Rattle.av_plain.proofs.SoundLaws.{slot-is, slot-itself, slots-not_cached}
 use Rattle.av_plain.proofs.SoundEntries.{flag, slot_entries-set}
-use Rattle.av_plain.proofs.SoundAccess.{comes-kept, made-kept, touches-kept, happening-kept}
+use Rattle.av_plain.proofs.SoundAccess.{touches-kept, happening-kept}
 use Rattle.av_plain.proofs.SoundPages.{settle-entries}
 
 -- the notes of an access. A `load` is of a slot that an entry names

@@ -1,5 +1,5 @@
 -- What holds of sound memories and a sound ledger holds after every legal reply, and so in every run.
-use Rattle.std.proofs.Common.{◌≡◌, ℕ, suc, ◌+◌, ◌<◌, ◌≤◌, Bool, true, false, cond, not, ◌&&◌, T, List, [], ◌∷◌, length, map, Option, Some, None, is_some, option_map, refl, sym, ap, subst, ◌∙◌, arith, nat_le, if◌then◌else◌}
+use Rattle.std.proofs.Common.{◌≡◌, ℕ, suc, ◌≤◌, Bool, true, false, cond, not, ◌&&◌, T, List, [], ◌∷◌, length, Option, Some, None, is_some, option_map, refl, sym, ap, subst, ◌∙◌, arith, nat_le, if◌then◌else◌}
 use Rattle.std.proofs.lemmas.Bool.Decides.{nat_tests}
 use Rattle.std.specs.Prelude.{MatchOption, option_and_then}
 use Rattle.std.specs.Ordering.{nat_cmp, is_lt, eq_by_cmp}
@@ -10,21 +10,20 @@ use Rattle.av_trace.specs.declared.command.Command.{Command}
 use Rattle.av_trace.specs.declared.command.Command.TheVariants.{Spawn, Exit, Mmap, Read, Write, Maps, Stat}
 use Rattle.av_trace.specs.declared.command.Place.TheVariants.{Auto}
 use Rattle.av_trace.specs.declared.reply.Errno.{Errno}
-use Rattle.av_trace.specs.declared.reply.Errno.TheVariants.{Esrch, Eagain, Enomem, Eexist, Einval}
+use Rattle.av_trace.specs.declared.reply.Errno.TheVariants.{Esrch, Eagain, Eexist}
 use Rattle.av_trace.specs.declared.reply.Note.TheVariants.{Zeroed, New, Copied, Loaded, Mapped, Put, Unmapped, Started, Written, Failed, Dropped, Kept, Aged}
 use Rattle.av_trace.specs.declared.reply.Row.{Row}
 use Rattle.av_trace.specs.declared.reply.Reply.{Reply}
 use Rattle.av_trace.specs.declared.reply.Answer.{Answer}
-use Rattle.av_trace.specs.declared.reply.Answer.TheVariants.{Done, MapAt, Refused}
+use Rattle.av_trace.specs.declared.reply.Answer.TheVariants.{Refused}
 use Rattle.av_plain.specs.World.{World, Process, Page, nothing, zeros, process, lives, pages, page_of, pages_of, address_of, set_process, end_process, replaced, written}
 use Rattle.av_plain.specs.Ledger.{Ledger, Setting, Entry, entry, fresh}
 use Rattle.av_plain.specs.Event.{Event, Noted, Taken, Used, Forked, Moved, TurnedOn, TurnedOff, after, after_all}
 use Rattle.av_plain.specs.Fault.{Accesses, End, touched}
-use Rattle.av_plain.specs.Taking.{keys_of_process, taking}
-use Rattle.av_plain.specs.Refusal.{tests, refusal, most_processes, is_too_long}
+use Rattle.av_plain.specs.Refusal.{tests, refusal, most_processes}
 use Rattle.av_plain.specs.Step.{IsLegal, Follows, Refuses, IsMapAt, is_of_slot, unknown, unclaimed, told, forgotten, with_loads, first_bytes, stored, next, next_world}
 use Rattle.av_plain.specs.Transcript.{Exchange, IsLegalFrom, State, IsStep, IsRun, at_first}
-use Rattle.av_plain.specs.Sound.{IsTidy, IsSound, AtPages, AreThere, AllSound}
+use Rattle.av_plain.specs.Sound.{AtPages, AllSound}
 use Rattle.av_plain.proofs.WorldLaws.{pages-set, length-set_new, length-set_old, is_sorted-set}
 use Rattle.av_plain.proofs.SoundAccess.{accesses-kept}
 use Rattle.av_plain.proofs.SoundPages.{accesses-at}

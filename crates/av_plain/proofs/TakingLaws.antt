@@ -1,5 +1,5 @@
 -- Entries taken away, from the least key on: what is left, and what goes with an entry.
-use Rattle.std.proofs.Common.{◌≡◌, ◌≢◌, ℕ, ◌+◌, ◌<◌, Bool, true, false, cond, not, ◌&&◌, ◌||◌, T, List, [], ◌∷◌, ◌++◌, map, filter, Option, Some, None, refl, sym, ap, subst, ◌∙◌, arith, ◌==◌}
+use Rattle.std.proofs.Common.{◌≡◌, ℕ, ◌+◌, ◌<◌, Bool, true, false, cond, not, ◌&&◌, ◌||◌, T, List, [], ◌∷◌, ◌++◌, map, filter, Option, Some, None, refl, sym, ap, subst, ◌∙◌, arith, ◌==◌}
 use Rattle.std.proofs.lemmas.Bool.Decides.{nat_tests}
 use Rattle.std.specs.List.{list_any}
 use Rattle.std.specs.declared.cmp.Ordering.TheVariants.{Less}
@@ -9,7 +9,7 @@ use Rattle.av_vma.specs.declared.slot.Slot.{Slot}
 use Rattle.av_vma.specs.Ranges.{how_many}
 use Rattle.av_trace.specs.declared.reply.Note.TheVariants.{Dropped}
 use Rattle.av_plain.specs.Ledger.{Ledger, Key, key_cmp, Entry, Zero, InFrame, InSlot, entry, mapped, slot_entries, names_frame, names_slot, is_free, is_orphan, frame_at, slot_of}
-use Rattle.av_plain.specs.Event.{Event, Taken, after, after_all, settle, settle_entry, unlisted, not_cached, at, frame_of, taken}
+use Rattle.av_plain.specs.Event.{Taken, after, after_all, settle, settle_entry, unlisted, not_cached, at, frame_of, taken}
 use Rattle.av_plain.specs.Pass.{when}
 use Rattle.av_plain.specs.Fault.{noting}
 use Rattle.av_plain.specs.Taking.{keys_of_process, drops, slot_behind_key, taking_one, taking}
@@ -221,6 +221,20 @@ entry-ended l p page = entry-taking l (keys_of_process l p) (p, page) ∙ by (en
     by : (o : Option Entry) → entry l (p, page) ≡ o → cond (list_any (same_key (p, page)) (keys_of_process l p)) None (entry l (p, page)) ≡ None
     by None is = ap (cond (list_any (same_key (p, page)) (keys_of_process l p)) None) is ∙ none _
     by (Some e) is = ap (λ b. cond b None (entry l (p, page))) (key-listed (λ k. k.0 == p) (p, page) l.entries e is (itself p))
+
+-- the others' entries stay
+pub entry-others : (l : Ledger) (p q page : ℕ) → (q == p) ≡ false → entry (after_all l (taking l (keys_of_process l p))) (q, page) ≡ entry l (q, page)
+entry-others l p q page other = entry-taking l (keys_of_process l p) (q, page) ∙ ap (λ b. cond b None (entry l (q, page))) (none (map (λ (e : Key × Entry). e.0) l.entries))
+  where
+    apart : (k : Key) → (k.0 == p) ≡ true → same_key (q, page) k ≡ false
+    apart k is = grind (arith, nat_tests, is, other)
+
+    none : (ks : List Key) → list_any (same_key (q, page)) (filter (λ k. k.0 == p) ks) ≡ false
+    none [] = refl
+    none (k ∷ ks) = elim (k.0 == p) as (λ b. (k.0 == p) ≡ b → list_any (same_key (q, page)) (cond b (k ∷ filter (λ k. k.0 == p) ks) (filter (λ k. k.0 == p) ks)) ≡ false) [
+      | true ↦ λ is. ap (λ b. b || list_any (same_key (q, page)) (filter (λ k. k.0 == p) ks)) (apart k is) ∙ none ks
+      | false ↦ λ is. none ks
+    ] refl
 
 -- ---- without swap
 

@@ -1,5 +1,5 @@
 -- Which frame is taken: the first of the free ones, whose order follows the events.
-use Rattle.std.specs.Prelude.{◌≡◌, ℕ, Bool, not, ◌&&◌, if◌then◌else◌, List, [], ◌∷◌, Option, Some, None}
+use Rattle.std.specs.Prelude.{◌≡◌, ℕ, not, ◌&&◌, if◌then◌else◌, List, [], ◌∷◌, Option, Some, None}
 use Rattle.av_trace.specs.declared.reply.Note.TheVariants.{New, Copied, Loaded, Dropped}
 use Rattle.av_plain.specs.Ledger.{Ledger, Entry, entry, frame_at, is_free}
 use Rattle.av_plain.specs.Event.{Event, Noted, Taken, after, frame_of}

@@ -1,5 +1,5 @@
 -- Reports: the runs of `maps`, and the numbers of `stat`.
-use Rattle.std.specs.Prelude.{◌≡◌, ℕ, ◌*◌, ◌<◌, ◌≤◌, Bool, true, false, ◌&&◌, ◌==◌, not, nat_lt, nat_le, if◌then◌else◌, List, [], ◌∷◌, length, sum_by, Option, Some, None, option_map}
+use Rattle.std.specs.Prelude.{◌≡◌, ℕ, ◌<◌, ◌≤◌, ◌&&◌, nat_lt, nat_le, if◌then◌else◌, List, [], ◌∷◌, length, sum_by, Option, Some, None, option_map}
 use Rattle.av_vma.specs.declared.area.Prot.{Prot}
 use Rattle.av_trace.specs.declared.reply.Row.{Row}
 use Rattle.av_trace.specs.declared.reply.Row.TheVariants.{Run, Entry}
@@ -41,6 +41,7 @@ pub record AreMaps (q : Process) (rows : List Row) : Type 0 where
 
 -- ---- stat
 
+-- the numbers of `stat`; its slots are the usable ones of the areas that are on
 abbrev pub totals : Setting → World → Ledger → Totals
 totals m w l = record {
   frames = m.frames;

@@ -1,20 +1,22 @@
 -- Worked rows: commands with the replies that they must have, and some that they must not have.
-use Rattle.std.specs.Prelude.{◌≡◌, ℕ, Bool, true, false, ◌==◌, ◌||◌, if◌then◌else◌, List, [], ◌∷◌, map, Option, Some, None}
+use Rattle.std.specs.Prelude.{◌≡◌, ℕ, Bool, true, false, ◌==◌, ◌||◌, if◌then◌else◌, List, [], ◌∷◌, map, length, Some, None}
 use Rattle.av_vma.specs.declared.area.Prot.{Prot}
 use Rattle.av_vma.specs.declared.slot.Slot.{Slot}
 use Rattle.av_vma.specs.Ranges.{numbers}
 use Rattle.av_trace.specs.declared.command.Place.TheVariants.{Auto}
 use Rattle.av_trace.specs.declared.command.Command.{Command}
-use Rattle.av_trace.specs.declared.command.Command.TheVariants.{Spawn, Mmap, Read, Write}
+use Rattle.av_trace.specs.declared.command.Command.TheVariants.{Spawn, Exit, Mmap, Read, Write, Maps, Stat}
 use Rattle.av_trace.specs.declared.reply.Errno.TheVariants.{Esrch, Eagain, Enomem, Eexist, Einval}
-use Rattle.av_trace.specs.declared.reply.OutOf.{OutOf}
 use Rattle.av_trace.specs.declared.reply.Note.{Note}
 use Rattle.av_trace.specs.declared.reply.Note.TheVariants.{Zeroed, New, Copied, Loaded, Mapped, Put, Unmapped, Started, Written, Failed, Dropped, Kept, Aged}
 use Rattle.av_trace.specs.declared.reply.Cause.TheVariants.{Writeback, Referenced, NoSlot, WriteStarted}
 use Rattle.av_trace.specs.declared.reply.Reply.{Reply}
+use Rattle.av_trace.specs.declared.reply.Row.{Row}
+use Rattle.av_trace.specs.declared.reply.Row.TheVariants.{Run}
+use Rattle.av_trace.specs.declared.reply.Totals.{Totals}
 use Rattle.av_trace.specs.declared.reply.Answer.{Answer}
-use Rattle.av_trace.specs.declared.reply.Answer.TheVariants.{Done, MapAt, Data, Refused, Segv, Bus, Oom}
-use Rattle.av_plain.specs.World.{World, Process, Page, nothing, zeros}
+use Rattle.av_trace.specs.declared.reply.Answer.TheVariants.{Done, MapAt, Data, Refused, Segv, Bus, Oom, Runs as RunCount, Counted}
+use Rattle.av_plain.specs.World.{Process, Page, nothing, zeros}
 use Rattle.av_plain.specs.Ledger.{Ledger, Setting, Cached, Entry, Zero, InFrame, InSlot, fresh}
 use Rattle.av_plain.specs.Event.{Event, Noted, Taken, Used, Forked, Moved, TurnedOn, TurnedOff, after}
 use Rattle.av_plain.specs.Step.{IsLegal}
@@ -33,9 +35,9 @@ machine frames = record { frames = frames; sizes = []; headers = Some (λ _. Non
 abbrev pub Runs : ℕ → List Exchange → Type 0
 Runs frames row = Allows (machine frames) (at_first (machine frames)) row
 
--- no other reply may come to the command
-abbrev pub Only : Setting → State → Command → Reply → Type 0
-Only m old command reply = (other : Reply) (new : State) → IsStep m old command other new → other ≡ reply
+-- no other reply may come to the command, and no other state be left
+abbrev pub Only : Setting → State → Command → Reply → State → Type 0
+Only m old command reply new = (other : Reply) (state : State) → IsStep m old command other state → (other ≡ reply) × (state ≡ new)
 
 -- the reply may not come to the command, whichever frames the kernel chooses
 abbrev pub Forbids : Setting → State → Command → Reply → Type 0
@@ -48,6 +50,22 @@ answered answer notes = record { answer = answer; notes = notes; rows = [] }
 
 abbrev pub says : Command → Answer → List Note → Exchange
 says command answer notes = record { command = command; reply = answered answer notes }
+
+abbrev pub reports : Command → Answer → List Row → Exchange
+reports command answer rows = record { command = command; reply = record { answer = answer; notes = []; rows = rows } }
+
+-- the numbers of `stat` without swap: frames, free ones, active and inactive ones, and processes
+abbrev pub numbers_of : ℕ → ℕ → ℕ → ℕ → ℕ → Totals
+numbers_of frames free active inactive processes = record {
+  frames = frames;
+  free = free;
+  active = active;
+  inactive = inactive;
+  flight = 0;
+  slots = 0;
+  free_slots = 0;
+  processes = processes;
+}
 
 abbrev pub read_write : Prot
 read_write = record { read = true; write = true; execute = false }
@@ -137,6 +155,44 @@ all_mapped =
     ∷ says (Mmap 1 4096 read_write Auto) (Refused Enomem) []
     ∷ says (Write 1 0x10000 (9 ∷ [])) Done (New 1 0x10000 0 ∷ []) ∷ []
 
+-- a page that is written takes a frame, and the exit of its process gives it back. A process that is gone is not there
+abbrev pub exit_frees : List Exchange
+exit_frees =
+    says (Spawn 1) Done []
+    ∷ says (Mmap 1 4096 read_write Auto) (MapAt 0x7fffffffe000) []
+    ∷ says (Write 1 0x7fffffffe005 (0x41 ∷ [])) Done (New 1 0x7fffffffe000 0 ∷ [])
+    ∷ says (Read 1 0x7fffffffe004 3) (Data (0 ∷ 0x41 ∷ 0 ∷ [])) []
+    ∷ says Stat (Counted (numbers_of 4 3 0 1 1)) []
+    ∷ says (Exit 1) Done []
+    ∷ says Stat (Counted (numbers_of 4 4 0 0 0)) []
+    ∷ says (Exit 1) (Refused Esrch) []
+    ∷ says (Maps 1) (Refused Esrch) []
+    ∷ says (Spawn 1) Done []
+    ∷ says (Maps 1) (RunCount 0) []
+    ∷ says (Read 1 0x7fffffffe005 1) (Segv 0 []) [] ∷ []
+
+-- frames that are given back are taken first, the last one before the others
+abbrev pub exit_and_again : List Exchange
+exit_and_again =
+    says (Spawn 1) Done []
+    ∷ says (Spawn 2) Done []
+    ∷ says (Mmap 1 8192 read_write Auto) (MapAt 0x7fffffffd000) []
+    ∷ says (Mmap 2 8192 read_write Auto) (MapAt 0x7fffffffd000) []
+    ∷ says (Write 1 0x7fffffffdfff (1 ∷ 2 ∷ [])) Done (New 1 0x7fffffffd000 0 ∷ New 1 0x7fffffffe000 1 ∷ [])
+    ∷ says (Exit 1) Done []
+    ∷ says (Write 2 0x7fffffffdfff (3 ∷ 4 ∷ [])) Done (New 2 0x7fffffffd000 1 ∷ New 2 0x7fffffffe000 0 ∷ [])
+    ∷ says Stat (Counted (numbers_of 4 2 0 2 1)) [] ∷ []
+
+-- a run ends where the protection changes, and goes on where a further mapping has the same
+abbrev pub two_runs : List Exchange
+two_runs =
+    says (Spawn 1) Done []
+    ∷ says (Mmap 1 4096 read_only Auto) (MapAt 0x7fffffffe000) []
+    ∷ says (Mmap 1 8192 read_write Auto) (MapAt 0x7fffffffc000) []
+    ∷ reports (Maps 1) (RunCount 2) (Run 0x7fffffffc000 0x7fffffffe000 read_write ∷ Run 0x7fffffffe000 0x7ffffffff000 read_only ∷ [])
+    ∷ says (Mmap 1 4096 read_write Auto) (MapAt 0x7fffffffb000) []
+    ∷ reports (Maps 1) (RunCount 2) (Run 0x7fffffffb000 0x7fffffffe000 read_write ∷ Run 0x7fffffffe000 0x7ffffffff000 read_only ∷ []) ∷ []
+
 -- ---- from states that later commands lead to
 
 -- a page whose first byte is this one, with zeros behind it, and a process with that page alone, the topmost
@@ -182,6 +238,15 @@ no_copy =
     says (Write 2 0x7fffffffe000 (6 ∷ [])) (Oom 0 (record { pinned = 1; noslot = 0; fault = 0 }) []) []
     ∷ says (Read 1 0x7fffffffe000 1) (Data (7 ∷ [])) []
     ∷ says (Read 2 0x7fffffffe000 1) (Data (7 ∷ [])) [] ∷ []
+
+-- a frame stays while an entry names it
+abbrev pub exit_shared : List Exchange
+exit_shared =
+    says (Exit 1) Done []
+    ∷ says Stat (Counted (numbers_of 4 3 0 1 1)) []
+    ∷ says (Read 2 0x7fffffffe000 1) (Data (7 ∷ [])) []
+    ∷ says (Exit 2) Done []
+    ∷ says Stat (Counted (numbers_of 4 4 0 0 0)) [] ∷ []
 
 -- a machine with so many frames, and a device whose header tells its pages and slots
 abbrev pub with_swap : ℕ → ℕ → ℕ → Setting
@@ -237,6 +302,47 @@ maps_again =
     ∷ says (Write 1 0x7fffffffe000 (9 ∷ [])) Done []
     ∷ says (Read 1 0x7fffffffe000 1) (Data (9 ∷ [])) [] ∷ []
 
+-- the numbers of `stat` with seven slots: free frames, inactive ones, writes in flight, free slots and processes
+abbrev pub swap_numbers : ℕ → ℕ → ℕ → ℕ → ℕ → Totals
+swap_numbers free inactive flight free_slots processes = record {
+  frames = 4;
+  free = free;
+  active = 0;
+  inactive = inactive;
+  flight = flight;
+  slots = 7;
+  free_slots = free_slots;
+  processes = processes;
+}
+
+-- the page's frame is cached at slot 1 and written
+abbrev pub cached_and_clean : State
+cached_and_clean = record {
+  world = (1, with_byte 7) ∷ [];
+  ledger = record fresh { entries = ((1, 0x7fffffffe), InFrame 0 true) ∷ []; cache = record { slot = slot 1; frame = 0; stale = false } ∷ []; inactive = 0 ∷ []; on = (0, record { slots = 7; bad = 0 }) ∷ [] };
+  free = 1 ∷ 2 ∷ 3 ∷ [];
+}
+
+-- a cached slot that nothing names any more is dropped, and its frame is free
+abbrev pub exit_drops : List Exchange
+exit_drops =
+    says Stat (Counted (swap_numbers 3 1 0 6 1)) []
+    ∷ says (Exit 1) Done (Dropped (slot 1) ∷ [])
+    ∷ says Stat (Counted (swap_numbers 4 0 0 7 0)) [] ∷ []
+
+-- one in flight stays, with its frame
+abbrev pub exit_in_writeback : List Exchange
+exit_in_writeback =
+    says (Exit 1) Done []
+    ∷ says Stat (Counted (swap_numbers 3 1 1 6 0)) [] ∷ []
+
+-- a slot that isn't cached is free with its last entry
+abbrev pub exit_paged_out : List Exchange
+exit_paged_out =
+    says Stat (Counted (swap_numbers 4 0 0 6 1)) []
+    ∷ says (Exit 1) Done []
+    ∷ says Stat (Counted (swap_numbers 4 0 0 7 0)) [] ∷ []
+
 -- two processes have one slot, as after a fork
 abbrev pub slot_shared : List ℕ → State
 slot_shared free = record {
@@ -267,6 +373,55 @@ load_unclaimed =
     ∷ says (Read 1 0x7fffffffe000 1) (Data (0x2a ∷ [])) []
     ∷ says (Write 1 0x7fffffffe000 (8 ∷ [])) Done (Dropped (slot 1) ∷ [])
     ∷ says (Read 1 0x7fffffffe000 2) (Data (8 ∷ 0x11 ∷ [])) [] ∷ []
+
+-- ---- what may not come
+
+-- one page is written, in frame 0
+abbrev pub one_written : State
+one_written = record {
+  world = (1, with_byte 7) ∷ [];
+  ledger = record fresh { entries = ((1, 0x7fffffffe), InFrame 0 true) ∷ []; inactive = 0 ∷ [] };
+  free = 1 ∷ 2 ∷ 3 ∷ [];
+}
+
+-- nothing lives, and frame 0 was given back last
+abbrev pub all_gone : State
+all_gone = record { world = []; ledger = fresh; free = 0 ∷ 1 ∷ 2 ∷ 3 ∷ [] }
+
+-- the topmost page of process 1 is for reading only, the two below for reading and writing
+abbrev pub two_kinds : Process
+two_kinds page = if page == 0x7fffffffe then Some (zeros read_only) else (if page == 0x7fffffffd || page == 0x7fffffffc then Some (zeros read_write) else None)
+
+abbrev pub two_protections : State
+two_protections = record { world = (1, two_kinds) ∷ []; ledger = fresh; free = 0 ∷ 1 ∷ 2 ∷ 3 ∷ [] }
+
+-- a reply to `maps` with these rows
+abbrev pub with_runs : List Row → Reply
+with_runs rows = record { answer = RunCount (length rows); notes = []; rows = rows }
+
+-- the lower run cut in two, though the protection is the same
+abbrev pub split_run : Reply
+split_run = with_runs (Run 0x7fffffffc000 0x7fffffffd000 read_write ∷ Run 0x7fffffffd000 0x7fffffffe000 read_write ∷ Run 0x7fffffffe000 0x7ffffffff000 read_only ∷ [])
+
+-- one run over both, though the protections differ
+abbrev pub joined_runs : Reply
+joined_runs = with_runs (Run 0x7fffffffc000 0x7ffffffff000 read_write ∷ [])
+
+-- the upper run left out
+abbrev pub run_left_out : Reply
+run_left_out = with_runs (Run 0x7fffffffc000 0x7fffffffe000 read_write ∷ [])
+
+-- a page that is not mapped
+abbrev pub run_too_long : Reply
+run_too_long = with_runs (Run 0x7fffffffb000 0x7fffffffe000 read_write ∷ Run 0x7fffffffe000 0x7ffffffff000 read_only ∷ [])
+
+-- the runs falling
+abbrev pub falling_runs : Reply
+falling_runs = with_runs (Run 0x7fffffffe000 0x7ffffffff000 read_only ∷ Run 0x7fffffffc000 0x7fffffffe000 read_write ∷ [])
+
+-- a run of part of a page
+abbrev pub part_of_page : Reply
+part_of_page = with_runs (Run 0x7fffffffc000 0x7fffffffe000 read_write ∷ Run 0x7fffffffe000 0x7fffffffe001 read_only ∷ [])
 
 -- ---- the ledger, event by event
 

@@ -15,7 +15,7 @@ use Rattle.av_trace.specs.declared.command.Command.{Command}
 use Rattle.av_trace.specs.declared.command.Command.TheVariants.{Spawn, Exit, Mmap, Read, Write, Maps, Stat}
 use Rattle.av_plain.specs.World.{World, Process, Page, nothing, zeros, page_of, pages_of, address_of, pages, is_mapped, set_process, end_process, replaced, written, Shows}
 use Rattle.av_plain.specs.Ledger.{Ledger, Setting, Entry, entry, names_slot}
-use Rattle.av_plain.specs.Event.{Event, Noted, after, after_all, notes_of}
+use Rattle.av_plain.specs.Event.{Event, Noted, after, notes_of}
 use Rattle.av_plain.specs.Fault.{Accesses, End, Whole, Stopped, Served, Denied, Starved, Lost, served, touched, fails}
 use Rattle.av_plain.specs.Taking.{keys_of_process, taking}
 use Rattle.av_plain.specs.Report.{AreMaps, totals}

@@ -6,20 +6,25 @@
 
 mod rows;
 
-pub use rows::{ledger_rows_lead, rows_run, shared_rows_run, swap_rows_run};
-
 ghost use Rattle.std.specs.Prelude.{◌≡◌, ℕ, ◌+◌, List, []};
 ghost use Rattle.av_trace.specs.declared.command.Command.{Command};
 ghost use Rattle.av_trace.specs.declared.reply.OutOf.{OutOf};
 ghost use Rattle.av_trace.specs.declared.reply.Answer.TheVariants.{Oom};
 ghost use Rattle.av_trace.specs.declared.reply.Reply.{Reply};
-ghost use Rattle.av_plain.specs.World.{World};
+ghost use Rattle.av_trace.specs.declared.reply.Row.{Row};
+ghost use Rattle.av_plain.specs.World.{World, Process};
 ghost use Rattle.av_plain.specs.Ledger.{Ledger, Setting, fresh};
 ghost use Rattle.av_plain.specs.Event.{Event, after_all};
+ghost use Rattle.av_plain.specs.Report.{AreMaps, totals};
 ghost use Rattle.av_plain.specs.Step.{IsLegal, next_world};
 ghost use Rattle.av_plain.specs.Transcript.{Exchange, State, IsLegalFrom, IsRun, at_first};
 ghost use Rattle.av_plain.specs.Sound.{AllSound};
 ghost use Rattle.av_plain.specs.Says.{SaysSound};
+
+pub use rows::{
+    changed_rows_are_refused, exits_and_reports_run, ledger_rows_lead, rows_run, shared_rows_run,
+    swap_rows_run,
+};
 
 /// Sound memories and a sound ledger are so after every legal reply, a refusal too.
 pub fn soundness_stays()
@@ -45,4 +50,14 @@ pub fn what_sound_says()
 /// The three numbers of an out-of-memory are all frames: pinned, not cached, and cached.
 pub fn numbers_add_up()
     ensures { (m : Setting) (w : World) (l : Ledger) (command : Command) (reply : Reply) (events : List Event) (k : ℕ) (out : OutOf) (shown : List ℕ) → AllSound m w l → IsLegal m w l command reply events → reply.answer ≡ Oom k out shown → out.pinned + out.noslot + out.fault ≡ m.frames }
+{}
+
+/// Each frame is free, active or inactive, and so the numbers of `stat` add up.
+pub fn totals_add_up()
+    ensures { (m : Setting) (w : World) (l : Ledger) → AllSound m w l → (totals m w l).free + (totals m w l).active + (totals m w l).inactive ≡ (totals m w l).frames }
+{}
+
+/// The longest runs of a process's pages are one list: `maps` has one answer.
+pub fn maps_has_one_answer()
+    ensures { (q : Process) (rows others : List Row) → AreMaps q rows → AreMaps q others → rows ≡ others }
 {}
