@@ -8,7 +8,7 @@ use Rattle.av_vma.specs.declared.area.Prot.{Prot}
 use Rattle.av_vma.specs.Gap.{IsGap, IsRoom}
 use Rattle.av_vma.specs.Ranges.{within, with_at}
 use Rattle.av_trace.specs.declared.command.Command.{Command}
-use Rattle.av_trace.specs.declared.command.Command.TheVariants.{Spawn, Mmap, Read, Write}
+use Rattle.av_trace.specs.declared.command.Command.TheVariants.{Spawn, Exit, Mmap, Read, Write, Maps, Stat}
 use Rattle.av_trace.specs.declared.command.Place.TheVariants.{Auto}
 use Rattle.av_trace.specs.declared.reply.Errno.{Errno}
 use Rattle.av_trace.specs.declared.reply.Errno.TheVariants.{Esrch, Eagain, Enomem, Eexist, Einval}
@@ -44,9 +44,12 @@ bare answer = record { answer = answer; notes = []; rows = [] }
 
 same_world : (m : Setting) (w : World) (l : Ledger) (command : Command) (error : Errno) → is_some m.headers ≡ true → w ≡ next_world m w l [] command (Refused error)
 same_world m w l (Spawn p) error told = sym (ap (λ b. cond b w w) told)
+same_world m w l (Exit p) error told = sym (ap (λ b. cond b w w) told)
 same_world m w l (Mmap p len prot place) error told = sym (ap (λ b. cond b w w) told)
 same_world m w l (Read p a n) error told = sym (ap (λ b. cond b w w) told)
 same_world m w l (Write p a bytes) error told = sym (ap (λ b. cond b w w) told)
+same_world m w l (Maps p) error told = sym (ap (λ b. cond b w w) told)
+same_world m w l Stat error told = sym (ap (λ b. cond b w w) told)
 
 -- the first test that holds refuses the command, and nothing changes
 pub refused : (k : Mem) (s : State) (command : Command) (error : Errno) → Keeps k s → refusal (tests (setting (count k)) s.world s.ledger command) ≡ Some error → MemSteps k k s command (bare (Refused error))
@@ -92,6 +95,7 @@ module _ (old : Mem) (tables : Tables MapTable) (spaces : List (ℕ × List Rang
           stands = record {
             sound = step-sound (setting (count old)) s command reply (state_after s p now) st.sound step;
             frames = record { frames = refl; maps = st.frames.maps; slots = st.frames.slots; dirty = st.frames.dirty; free = st.frames.free };
+            lists = record { active = st.lists.active };
             tables = record {
               entries = λ q page. ap (λ (t : ℕ → ℕ → Pte). entry_of (plain (t q page))) entries ∙ st.tables.entries q page;
               write_bits = λ q page t f is. st.tables.write_bits q page t f (sym (ap (λ (t : ℕ → ℕ → Pte). plain (t q page)) entries) ∙ is);

@@ -40,6 +40,7 @@ fresh-keeps frames tables spaces n is none empty = record {
       dirty = λ f. tt;
       free = λ f below. ap (λ (s : Seen). is_in f s.free) is ∙ is_in-numbers 0 n f (omega arith) (let same = ap (λ (s : Seen). s.count) is in omega (arith, below, same));
     };
+    lists = record { active = refl };
     tables = record {
       entries = λ p page. ap (λ t. entry_of (plain t)) (no_entry tables p page (none p));
       write_bits = λ p page t f there write names. absurd (nothing (ap plain (sym (no_entry tables p page (none p))) ∙ there));

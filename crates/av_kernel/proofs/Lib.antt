@@ -13,6 +13,10 @@ pub mod Fresh
 pub mod Commands
 pub mod Counting
 pub mod SpacesLaws
+pub mod SpacesEnd
+pub mod Runs
+pub mod Leaving
+pub mod Exits
 pub mod AccessPages
 pub mod AccessBytes
 pub mod AccessParts

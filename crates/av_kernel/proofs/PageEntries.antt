@@ -6,8 +6,8 @@ use Rattle.av_vma.specs.declared.slot.Slot.{Slot}
 use Rattle.av_vma.specs.Ranges.{with_at}
 use Rattle.av_frames.specs.Store.{is_in}
 use Rattle.av_plain.specs.World.{World, pages}
-use Rattle.av_plain.specs.Ledger.{Ledger, Setting, Entry, Zero, InFrame, entry, mapped, names_frame, names_slot, is_free}
-use Rattle.av_plain.specs.Event.{set_entry, to_inactive_head}
+use Rattle.av_plain.specs.Ledger.{Ledger, Setting, Entry, Zero, InFrame, InSlot, entry, mapped, names_frame, names_slot, is_free}
+use Rattle.av_plain.specs.Event.{set_entry, to_inactive_head, without}
 use Rattle.av_plain.specs.Stands.{View, Holds, IsKept}
 use Rattle.av_plain.proofs.Laws.{weight}
 use Rattle.av_plain.proofs.LedgerLaws.{entry-set, same_key-itself, how_many-found, mapped-set}
@@ -29,18 +29,18 @@ not_equal a b h = grind (arith, nat_tests)
 pub zeroed : (m : Setting) (v : View) (w : World) (l : Ledger) (p page : ℕ) → Parts m v w l → is_some (pages w p page) ≡ true → entry l (p, page) ≡ None
     → Parts m (changed p page (as_pte Zero false) v.bytes v.maps v.free v) w (set_entry (p, page) Zero l)
 zeroed m v w l p page parts there none =
-    parts_now m v w l (set_entry (p, page) Zero l) p page Zero false v.bytes v.maps v.free parts refl parts.cache refl refl there
-    (λ s. ap (weight (names_slot s)) none) (λ s. refl)
-    (λ g. ap (λ o. v.maps g + weight (names_frame g) o) none)
-    (frees m v w l parts) (λ g few. few) (λ t g names. absurd (false≢true names)) (λ q o g was is other. refl)
-    (subst (λ o. IsKept v None l o (pages w p page)) none (parts.bytes.kept p page))
+    parts_now m v w l (set_entry (p, page) Zero l) p page Zero false v.bytes v.maps v.free parts refl parts.cache refl refl parts.active there
+        (λ s. ap (weight (names_slot s)) none) (λ s. refl)
+        (λ g. ap (λ o. v.maps g + weight (names_frame g) o) none)
+        (frees m v w l parts) (λ g few. few) (λ t g names. absurd (false≢true names)) (λ q o g was is other. refl)
+        (subst (λ o. IsKept v None l o (pages w p page)) none (parts.bytes.kept p page))
 
 -- ---- the same frame, as seen
 
 module _ (m : Setting) (v : View) (w : World) (l : Ledger) (p page f : ℕ) (was write : Bool) (parts : Parts m v w l) (there : is_some (pages w p page) ≡ true)
     (named : entry l (p, page) ≡ Some (InFrame f was)) (few : write ≡ true → mapped l f ≤ 1) where
   pub seen : Parts m (changed p page (as_pte (InFrame f true) write) v.bytes v.maps v.free v) w (set_entry (p, page) (InFrame f true) l)
-  seen = parts_now m v w l (set_entry (p, page) (InFrame f true) l) p page (InFrame f true) write v.bytes v.maps v.free parts refl parts.cache refl refl there
+  seen = parts_now m v w l (set_entry (p, page) (InFrame f true) l) p page (InFrame f true) write v.bytes v.maps v.free parts refl parts.cache refl refl parts.active there
       (λ s. ap (weight (names_slot s)) named) (λ s. refl)
       (λ g. ap (λ o. v.maps g + weight (names_frame g) o) named)
       (frees m v w l parts) (λ g few. few)
@@ -122,7 +122,7 @@ module _ (m : Setting) (v : View) (w : World) (l : Ledger) (p page f : ℕ) (res
     other_frame g some true e = let zero = ap (mapped l) (equal_is g f e) ∙ unmapped in absurd (omega (arith, some, zero))
 
     pub given : Parts m (changed p page (as_pte (InFrame f false) true) (with_at f bytes v.bytes) maps rest v) w (given_to p page f l)
-    given = parts_now m v w l (given_to p page f l) p page (InFrame f false) true (with_at f bytes v.bytes) maps rest parts refl parts.cache refl refl there no_slot (λ s. refl) counts
+    given = parts_now m v w l (given_to p page f l) p page (InFrame f false) true (with_at f bytes v.bytes) maps rest parts refl parts.cache refl refl (ap (without f) parts.active) there no_slot (λ s. refl) counts
         (λ g under. free_now g under (g == f) refl) few
         (λ writes g names. few_own g names)
         (λ q o g was is other. ap (λ b. cond b bytes (v.bytes g)) (other_frame g (how_many-found (names_frame g) (q, o) l.entries (InFrame g was) is (itself g)) (g == f) refl))

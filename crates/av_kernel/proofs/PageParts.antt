@@ -22,6 +22,7 @@ use Rattle.av_kernel.specs.View.{setting, count, view, Keeps, PartsStand, HasTab
 pub record Parts (m : Setting) (v : View) (w : World) (l : Ledger) : Type 0 where
   pub in_order : T (is_sorted key_cmp l.entries)
   pub cache : l.cache ≡ []
+  pub active : l.active ≡ []
   pub at_pages : AtPages w l
   pub frames : FramesStand m v l
   pub tables : TablesStand v l
@@ -50,15 +51,16 @@ no_frame_at l s none = ap (λ (c : List Cached). option_map (λ (c : Cached). c.
 -- ---- to and from the kernel
 
 pub of_stand : (k : Mem) (w : World) (l : Ledger) → PartsStand k w l → Parts (setting (count k)) (view k) w l
-of_stand k w l h = record { in_order = h.in_order; cache = no_cache l h.swap.finds; at_pages = h.at_pages; frames = h.frames; tables = h.tables; swap = h.swap; areas = h.areas; bytes = h.bytes }
+of_stand k w l h = record { in_order = h.in_order; cache = no_cache l h.swap.finds; active = sym h.lists.active; at_pages = h.at_pages; frames = h.frames; tables = h.tables; swap = h.swap; areas = h.areas; bytes = h.bytes }
 
 pub to_stand : (k : Mem) (w : World) (l : Ledger) → Parts (setting (count k)) (view k) w l → HasTables k → PartsStand k w l
-to_stand k w l h tables = record { in_order = h.in_order; at_pages = h.at_pages; frames = h.frames; tables = h.tables; swap = h.swap; areas = h.areas; bytes = h.bytes; has_tables = tables }
+to_stand k w l h tables = record { in_order = h.in_order; at_pages = h.at_pages; frames = h.frames; lists = record { active = sym h.active }; tables = h.tables; swap = h.swap; areas = h.areas; bytes = h.bytes; has_tables = tables }
 
 pub of_keeps : (k : Mem) (s : State) → Keeps k s → Parts (setting (count k)) (view k) s.world s.ledger
 of_keeps k s h = record {
   in_order = h.stands.sound.ledger.in_order;
   cache = no_cache s.ledger h.stands.swap.finds;
+  active = sym h.stands.lists.active;
   at_pages = h.stands.sound.at_pages;
   frames = h.stands.frames;
   tables = h.stands.tables;
@@ -82,7 +84,7 @@ no_device v s (Some f) = tt
 
 module _ (m : Setting) (v : View) (w : World) (l l' : Ledger) (p page : ℕ) (e : Entry) (write : Bool) (bytes : ℕ → ℕ → ℕ) (maps : ℕ → ℕ) (rest : List ℕ)
     (parts : Parts m v w l)
-    (entries_is : l'.entries ≡ put key_cmp (p, page) e l.entries) (cache_is : l'.cache ≡ []) (flight_is : l'.flight ≡ l.flight) (on_is : l'.on ≡ l.on)
+    (entries_is : l'.entries ≡ put key_cmp (p, page) e l.entries) (cache_is : l'.cache ≡ []) (flight_is : l'.flight ≡ l.flight) (on_is : l'.on ≡ l.on) (active_is : l'.active ≡ [])
     (there : is_some (pages w p page) ≡ true)
     (was_no_slot : (s : Slot) → weight (names_slot s) (entry l (p, page)) ≡ 0)
     (is_no_slot : (s : Slot) → names_slot s e ≡ false)
@@ -185,6 +187,7 @@ module _ (m : Setting) (v : View) (w : World) (l l' : Ledger) (p page : ℕ) (e 
   parts_now = record {
     in_order = subst (λ es. T (is_sorted key_cmp es)) (sym entries_is) (is_sorted-set (p, page) e l parts.in_order);
     cache = cache_is;
+    active = active_is;
     at_pages = at_pages_now;
     frames = frames_now;
     tables = tables_now;

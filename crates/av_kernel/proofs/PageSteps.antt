@@ -93,7 +93,7 @@ no_headers m l none k = subst (λ (on : List (ℕ × Area)). IfSome (find nat_cm
 
 pub keeps_now : (k : Mem) (w : World) (l : Ledger) → PartsStand k w l → AllSound (setting (count k)) w l → Keeps k (record { world = w; ledger = l; free = (view k).free })
 keeps_now k w l h sound = record {
-  stands = record { sound = sound; frames = h.frames; tables = h.tables; swap = h.swap; areas = h.areas; bytes = h.bytes; headers = no_headers (setting (count k)) l h.swap.on; free = refl };
+  stands = record { sound = sound; frames = h.frames; lists = h.lists; tables = h.tables; swap = h.swap; areas = h.areas; bytes = h.bytes; headers = no_headers (setting (count k)) l h.swap.on; free = refl };
   tables = h.has_tables;
 }
 

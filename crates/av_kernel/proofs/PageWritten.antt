@@ -172,6 +172,7 @@ module _ (m : Setting) (v : View) (w : World) (l : Ledger) (p page f : ℕ) (was
   written_now = record {
     in_order = parts.in_order;
     cache = parts.cache;
+    active = parts.active;
     at_pages = at_pages_now;
     frames = record { frames = parts.frames.frames; maps = parts.frames.maps; slots = parts.frames.slots; dirty = parts.frames.dirty; free = parts.frames.free };
     tables = record { entries = parts.tables.entries; write_bits = parts.tables.write_bits };

@@ -1,6 +1,8 @@
 pub mod Spaces
 pub mod View
 pub mod Page
+pub mod Exit
+pub mod Report
 pub mod Access
 pub mod Command
 pub mod Invariant

@@ -1,5 +1,5 @@
 -- The areas of every process, by process number.
-use Rattle.std.specs.Prelude.{◌≡◌, ◌≢◌, ℕ, ◌+◌, ◌*◌, ◌==◌, Bool, true, false, is_some, if◌then◌else◌, List, [], ◌∷◌, map, length, Option, Some, None, IfSome}
+use Rattle.std.specs.Prelude.{◌≡◌, ◌≢◌, ℕ, ◌+◌, ◌*◌, ◌==◌, Bool, true, false, is_some, if◌then◌else◌, List, [], ◌∷◌, map, length, Option, Some, None, IsSome, IfSome}
 use Rattle.std.specs.Ordering.{nat_cmp}
 use Rattle.std.specs.FinMap.Entries.{find}
 use Rattle.std.specs.BTreeMap.{BTreeMap, get}
@@ -7,7 +7,7 @@ use Rattle.av_vma.specs.declared.area.Area.{Area}
 use Rattle.av_vma.specs.declared.area.Prot.{Prot}
 use Rattle.av_vma.specs.Ranges.{within, with_at}
 use Rattle.av_vmatree.specs.declared.span.Span.{Span}
-use Rattle.av_vmatree.specs.Spans.{AreSpans, area_at, holds, with_span}
+use Rattle.av_vmatree.specs.Spans.{AreSpans, span_of, area_at, holds, with_span}
 use Rattle.av_plain.specs.Stands.{Range, prot_of, AreApart}
 
 abbrev pub Spaces : Type 0
@@ -39,6 +39,12 @@ pub record IsMapped (old new : Spaces) (p from n : ℕ) (prot : Prot) : Type 0 w
   pub number : length new ≡ length old
   pub apart : AllApart new
 
+-- p does not live any more
+pub record IsEnded (old new : Spaces) (p : ℕ) : Type 0 where
+  pub areas : (q : ℕ) → areas_of new q ≡ (if q == p then None else areas_of old q)
+  pub number : length new + 1 ≡ length old
+  pub apart : AllApart new
+
 -- ---- the processes seen through the areas by number and a tree of spans for each process
 
 -- an area's protection, or no access at all where there is no area
@@ -67,6 +73,15 @@ IsAreaOf p s (Some area) = (area.pid ≡ p) × (area.start ≡ 4096 * s.from) ×
 abbrev pub AreNumbered : (ℕ → Option Area) → ℕ → List Span → Type 0
 AreNumbered areas p [] = Unit {0}
 AreNumbered areas p (s ∷ spans) = IsAreaOf p s (areas s.area) × AreNumbered areas p spans
+
+-- each span is that of an area in use, and no two are of one area
+abbrev pub AreUsed : (ℕ → Option Area) → List Span → Type 0
+AreUsed areas [] = Unit {0}
+AreUsed areas (s ∷ spans) = IsSome (areas s.area) × (span_of spans s.area ≡ None) × AreUsed areas spans
+
+-- the areas but for those that the spans name
+abbrev pub without_areas : List Span → (ℕ → Option Area) → ℕ → Option Area
+without_areas spans areas number = if is_some (span_of spans number) then None else areas number
 
 -- what holds of the spans of p
 pub record IsTree (areas : ℕ → Option Area) (p : ℕ) (spans : List Span) : Type 0 where

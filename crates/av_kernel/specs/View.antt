@@ -6,7 +6,7 @@ use Rattle.av_plain.specs.World.{World, lives}
 use Rattle.av_plain.specs.Ledger.{Ledger, Setting, Entry, Zero as ZeroEntry, InFrame, InSlot, key_cmp}
 use Rattle.av_plain.specs.Transcript.{State}
 use Rattle.av_plain.specs.Sound.{AtPages}
-use Rattle.av_plain.specs.Stands.{View, Pte as Plain, Stands, FramesStand, TablesStand, SwapStands, AreasStand, BytesStand}
+use Rattle.av_plain.specs.Stands.{View, Pte as Plain, Stands, FramesStand, TablesStand, SwapStands, ListsStand, AreasStand, BytesStand}
 use Rattle.av_frames.specs.Store.{Seen, seen}
 use Rattle.av_pagetable.specs.declared.pte.Pte.{Pte}
 use Rattle.av_pagetable.specs.declared.pte.Pte.TheVariants.{Empty, Zero, Here, Away}
@@ -25,7 +25,7 @@ plain Zero = Some (record { entry = ZeroEntry; write = false })
 plain (Here f write was) = Some (record { entry = InFrame f was; write = write })
 plain (Away s) = Some (record { entry = InSlot s; write = false })
 
--- the view of frames, entries and areas, without swap
+-- the view of frames, entries and areas, without swap. No frame is active
 abbrev pub joined : Seen → (ℕ → ℕ → Option Plain) → Spaces → View
 joined frames table spaces = record {
   frames = frames.count;
@@ -34,6 +34,7 @@ joined frames table spaces = record {
   slot = frames.slot;
   dirty = frames.dirty;
   free = frames.free;
+  active = [];
   table = table;
   processes = length spaces;
   areas = areas_of spaces;
@@ -65,11 +66,12 @@ IsSteady k = (s : State) × Keeps k s
 
 -- ---- within a command
 
--- what stands within an access, without the ledger's lists
+-- what stands within an access
 pub record PartsStand (k : Mem) (w : World) (l : Ledger) : Type 0 where
   pub in_order : T (is_sorted key_cmp l.entries)
   pub at_pages : AtPages w l
   pub frames : FramesStand (setting (count k)) (view k) l
+  pub lists : ListsStand (view k) l
   pub tables : TablesStand (view k) l
   pub swap : SwapStands (view k) l
   pub areas : AreasStand (view k) w

@@ -92,6 +92,7 @@ impl Mem {
     {
         match command {
             Command::Spawn { process } => self.spawn(alloc, *process),
+            Command::Exit { process } => self.exit(alloc, *process),
             Command::Mmap {
                 process,
                 len,
@@ -108,6 +109,8 @@ impl Mem {
                 address,
                 bytes,
             } => self.write(alloc, *process, *address, bytes.as_slice()),
+            Command::Maps { process } => self.maps(alloc, *process),
+            Command::Stat => Ok(self.stat(alloc)),
         }
     }
 }

@@ -3,10 +3,12 @@
 
 mod access;
 mod command;
+mod exit;
 mod fault;
 mod kernel;
 mod mem;
 mod page;
+mod report;
 mod spaces;
 mod touched;
 

@@ -1,15 +1,19 @@
 //! The areas of every process that lives.
 
-ghost use Rattle.std.specs.Prelude.{◌≡◌, ℕ, ◌+◌, ◌<◌, ◌≤◌, [], None, true, false, is_some, length, IsSome, IsSomeAnd, OnOk, OnErr, IfSome};
+ghost use Rattle.std.specs.Prelude.{◌≡◌, ℕ, ◌+◌, ◌<◌, ◌≤◌, [], None, true, false, is_some, length, IsSome, IsSomeAnd, OnOk, OnErr, IfOk, IfSome};
 ghost use Rattle.std.specs.Ordering.{nat_cmp};
 ghost use Rattle.std.specs.BTreeMap.{IsUnchanged, get as tree_of};
 ghost use Rattle.av_vma.specs.Gap.{low_page, top_page, IsGap};
 ghost use Rattle.av_vmatree.specs.Spans.{IsFree, span, span_of, taken};
-ghost use Rattle.av_plain.specs.Stands.{prot_of};
-ghost use Rattle.av_kernel.specs.Spaces.{areas_of, is_taken, IsSpawned, IsMapped, IsGrown};
+ghost use Rattle.av_plain.specs.Stands.{AreApart, prot_of};
+ghost use Rattle.av_kernel.specs.Spaces.{areas_of, is_taken, ranges_by, AreNumbered, AreUsed, IsSpawned, IsMapped, IsGrown, IsEnded, without_areas};
+ghost use Rattle.av_kernel.specs.Report.{AreRuns};
+ghost use Rattle.av_trace.specs.declared.reply.Row.TheVariants as row;
+ghost use Rattle.av_vma.specs.Areas.{area_of};
 
+use av_trace::{Row, Rows};
 use av_vma::{Area, Areas, Prot};
-use av_vmatree::Tree;
+use av_vmatree::{Span, Tree};
 use std::alloc::{AllocError, Global};
 use std::collections::BTreeMap;
 use std::marker::Model;
@@ -121,6 +125,91 @@ impl Spaces {
                 Err(error)
             }
         }
+    }
+
+    /// Takes away a process that lives, with its areas, in time linear in their number. Without memory all stays.
+    pub fn end(&mut self, process: u16) -> Result<(), AllocError>
+        requires { is_some (areas_of self.old process) ≡ true }
+        ensures ok { OnOk result (IsEnded self.old self.new process) }
+        ensures err { OnErr result (self.new ≡ self.old) }
+    {
+        let spans = spans_of(self.alloc, &self.trees, process)?;
+        remove_areas(&mut self.areas, &spans);
+        self.trees.remove(&process);
+        Ok(())
+    }
+
+    /// The longest runs of pages with one protection of a process that lives, rising, in time linear in its areas.
+    pub fn runs(&self, process: u16) -> Result<Rows, AllocError>
+        requires { is_some (areas_of self.now process) ≡ true }
+        ensures { IfOk result (λ rows. IfSome (areas_of self.now process) (λ ranges. AreRuns ranges rows)) }
+    {
+        let spans = spans_of(self.alloc, &self.trees, process)?;
+        runs_of(self.alloc, &self.areas, &spans)
+    }
+}
+
+/// The spans of a process's areas in the order of their pages.
+fn spans_of(alloc: Global, trees: &BTreeMap<u16, Tree>, process: u16) -> Result<Vec<Span>, AllocError>
+    ensures { IfOk result (λ spans. IfSome (tree_of nat_cmp trees.now process) (λ tree. spans.items ≡ tree)) }
+{
+    let mut spans = Vec::new(alloc);
+    if let Some(tree) = trees.get(&process) {
+        tree.append_to(&mut spans)?;
+    }
+    Ok(spans)
+}
+
+/// Takes out the areas that these spans name, each once.
+fn remove_areas(areas: &mut Areas, spans: &[Span])
+    requires { AreUsed (area_of areas.old) spans.now }
+    ensures { (number : ℕ) → area_of areas.new number ≡ without_areas spans.now (area_of areas.old) number }
+{
+    for span in spans {
+        areas.remove(span.area);
+    }
+}
+
+/// The longest runs of pages with one protection of these areas of one process.
+fn runs_of(alloc: Global, areas: &Areas, spans: &[Span]) -> Result<Rows, AllocError>
+    requires numbered { (process : ℕ) × AreNumbered (area_of areas.now) process spans.now }
+    requires apart { AreApart (ranges_by (area_of areas.now) spans.now) }
+    ensures { IfOk result (λ rows. AreRuns (ranges_by (area_of areas.now) spans.now) rows) }
+{
+    let mut rows = Rows::new(alloc);
+    let Some((first, rest)) = spans.split_first() else {
+        return Ok(rows);
+    };
+    let mut run = areas.get(first.area);
+    for span in rest {
+        let next = areas.get(span.area);
+        if goes_on(&run, &next) {
+            run.end = next.end;
+        } else {
+            rows.push(row_of(&run))?;
+            run = next;
+        }
+    }
+    rows.push(row_of(&run))?;
+    Ok(rows)
+}
+
+/// Whether an area begins where a run ends, with its protection.
+fn goes_on(run: &Area, next: &Area) -> bool
+    ensures yes { result ≡ true → (run.now.end ≡ next.now.start) × (run.now.prot ≡ next.now.prot) }
+    ensures no { result ≡ false → run.now.end ≡ next.now.start → run.now.prot ≡ next.now.prot → ⊥ }
+{
+    run.end == next.start && run.prot == next.prot
+}
+
+/// The row of `maps` for one run.
+fn row_of(run: &Area) -> Row
+    ensures { result ≡ row.Run run.now.start run.now.end run.now.prot }
+{
+    Row::Run {
+        start: run.start,
+        end: run.end,
+        prot: run.prot,
     }
 }
 

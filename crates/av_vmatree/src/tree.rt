@@ -1,4 +1,4 @@
-ghost use Rattle.std.specs.Prelude.{◌≡◌, ℕ, ◌-◌, ◌<◌, ◌≤◌, [], Some, None, true, false, is_ok, IfSome, IsSome, IsSomeAnd, OnOk, if◌then◌else◌};
+ghost use Rattle.std.specs.Prelude.{◌≡◌, ℕ, ◌-◌, ◌<◌, ◌≤◌, ◌++◌, [], Some, None, true, false, is_ok, IfSome, IsSome, IsSomeAnd, OnOk, if◌then◌else◌};
 ghost use Rattle.av_vma.specs.Gap.{low_page, top_page, IsGap};
 ghost use Rattle.av_vma.specs.Ranges.{within, with_at};
 ghost use Rattle.av_vmatree.specs.Spans.{AreSpans, IsFree, IsMet, area_after, area_at, area_before, holds, span, span_of, taken, unless_area, with_span, without_area};
@@ -161,6 +161,13 @@ impl Tree {
             }
         }
         true
+    }
+
+    /// Adds the spans of all areas in the order of their pages. It takes time linear in their number.
+    pub fn append_to(&self, spans: &mut Vec<Span>) -> Result<(), AllocError>
+        ensures { OnOk result (spans.new.items ≡ spans.old.items ++ self.now) }
+    {
+        self.spans.append_to(spans)
     }
 
     /// The greatest page from which on `pages` pages are free, or none where there is no such page.
