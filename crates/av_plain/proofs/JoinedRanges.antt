@@ -44,7 +44,7 @@ module _ (same : Prot → Prot → Bool) where
   apart-grown a b (c ∷ ranges) h = (let x = h.0 in let y = h.1 in let z = h.2.0 in omega (arith, x, y, z), h.2.1, h.2.2)
 
   module _ (is : (p q : Prot) → same p q ≡ true → p ≡ q) (itself : (p : Prot) → same p p ≡ true) where
-    longest : (a : Range) (ranges : List Range) → AreApart (a ∷ ranges) → AreLongestRuns (joined a ranges)
+    pub longest : (a : Range) (ranges : List Range) → AreApart (a ∷ ranges) → AreLongestRuns (joined a ranges)
     longest a [] h = omega (arith, h)
     longest a (b ∷ ranges) h = by (a.to == b.from && same a.prot b.prot) refl (longest (grown a b) ranges (apart-grown a b ranges h)) (longest b ranges h.2)
       where
@@ -59,7 +59,7 @@ module _ (same : Prot → Prot → Bool) where
         by true e one two = one
         by false e one two = front-run (address_of a.from) (address_of a.to) a.prot b ranges (let x = h.0 in omega (arith, x)) (let y = h.1 in omega (arith, y)) (apart e) two
 
-    on-pages : (a : Range) (ranges : List Range) → AreOnPages (joined a ranges)
+    pub on-pages : (a : Range) (ranges : List Range) → AreOnPages (joined a ranges)
     on-pages a [] = ((a.from, refl), (a.to, refl), tt)
     on-pages a (b ∷ ranges) = by (a.to == b.from && same a.prot b.prot) (on-pages (grown a b) ranges) (on-pages b ranges)
       where
@@ -70,7 +70,7 @@ module _ (same : Prot → Prot → Bool) where
     in_pages : (from to page : ℕ) → (nat_le (address_of from) (address_of page) && nat_lt (address_of page) (address_of to)) ≡ (nat_le from page && nat_lt page to)
     in_pages from to page = grind (arith, nat_tests)
 
-    cover : (a : Range) (ranges : List Range) → AreApart (a ∷ ranges) → (page : ℕ) → prot_in_rows (joined a ranges) page ≡ prot_in (a ∷ ranges) page
+    pub cover : (a : Range) (ranges : List Range) → AreApart (a ∷ ranges) → (page : ℕ) → prot_in_rows (joined a ranges) page ≡ prot_in (a ∷ ranges) page
     cover a [] h page = ap (λ t. cond t (Some a.prot) None) (in_pages a.from a.to page)
     cover a (b ∷ ranges) h page = by (a.to == b.from && same a.prot b.prot) refl (cover (grown a b) ranges (apart-grown a b ranges h) page) (cover b ranges h.2 page)
       where
