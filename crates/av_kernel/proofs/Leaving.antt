@@ -3,17 +3,10 @@ use Rattle.std.proofs.Common.{◌≡◌, ◌≢◌, ℕ, ◌+◌, ◌-◌, ◌<�
 use Rattle.std.proofs.lemmas.Bool.Decides.{nat_tests}
 use Rattle.std.proofs.lemmas.Bool.{false≢true}
 use Rattle.std.specs.Prelude.{IfSome, option_map}
-use Rattle.std.specs.Ordering.{nat_cmp}
-use Rattle.std.specs.BTreeMap as tree_map
 use Rattle.av_vma.specs.declared.slot.Slot.{Slot}
 use Rattle.av_vma.specs.Ranges.{with_at}
-use Rattle.av_frames.specs.Store.{Store, Seen, seen, is_in}
-use Rattle.av_pagetable.specs.declared.pte.Pte.{Pte}
-use Rattle.av_pagetable.specs.declared.pte.Pte.TheVariants.{Empty, Zero as ZeroPte, Here, Away}
-use Rattle.av_pagetable.specs.declared.tables.Tables.{Tables}
-use Rattle.av_pagetable.specs.declared.table.MapTable.{MapTable}
-use Rattle.av_pagetable.specs.Table.{IsFirst, page_bound, or_empty}
-use Rattle.av_pagetable.specs.Entries.{entry_at, with_entry}
+use Rattle.av_frames.specs.Store.{is_in}
+use Rattle.av_pagetable.specs.Entries.{with_entry}
 use Rattle.av_plain.specs.Ledger.{Ledger, Setting, Key, Entry, Zero, InFrame, InSlot, entry, mapped, slot_entries, names_frame, names_slot, is_free, is_stale}
 use Rattle.av_plain.specs.Event.{Taken, after_all, taken, settle_entry, settle, unlisted, without, at, frame_of}
 use Rattle.av_plain.specs.Fault.{is_shared}
@@ -25,14 +18,9 @@ use Rattle.av_plain.proofs.LedgerLaws.{same_key, how_many-found}
 use Rattle.av_plain.proofs.NoSwapLaws.{itself, no_slot, free_is, shared_is, zero_is}
 use Rattle.av_plain.proofs.TakingLaws.{leaving, taken-is, entry-taken, mapped-taken, slot_entries-taken, same_swap-taken, taking_one-alone}
 use Rattle.av_plain.proofs.SoundTaken.{taking_one-kept}
-use Rattle.av_kernel.specs.declared.mem.Mem.{Mem}
-use Rattle.av_kernel.specs.View.{setting, count, plain, view, joined}
-use Rattle.av_kernel.specs.Page.{frame_named}
-use Rattle.av_kernel.specs.Exit.{LedgerStands, released, TakesLeast}
-use Rattle.av_kernel.proofs.PageParts.{no_cache, no_frame_at}
+use Rattle.av_kernel.specs.Exit.{LedgerStand, released}
+use Rattle.av_kernel.proofs.PageParts.{no_frame_at}
 use Rattle.av_kernel.proofs.PageEntries.{equal_is}
-use Rattle.av_kernel.proofs.PageServes.{named_entry}
-use Rattle.av_kernel.proofs.PageViews.{entry_put_in}
 
 -- ---- the ledger
 
@@ -58,32 +46,28 @@ key_is p page q o = grind (arith, nat_tests)
 -- ---- an entry that is no slot goes
 
 module _ (m : Setting) (v : View) (l : Ledger) (p page : ℕ) (e : Entry) (maps : ℕ → ℕ) (rest : List ℕ)
-    (cache : l.cache ≡ []) (sound : IsSound m l) (frames : FramesStand m v l) (lists : ListsStand v l) (tables : TablesStand v l) (swap : SwapStands v l)
-    (no_active : v.active ≡ []) (is : entry l (p, page) ≡ Some e) (no_slots : (s : Slot) → names_slot s e ≡ false)
+    (cache : l.cache ≡ []) (parts : LedgerStand m v l) (no_active : v.active ≡ []) (no_entries : (s : Slot) → v.entries s ≡ 0)
+    (is : entry l (p, page) ≡ Some e) (no_slots : (s : Slot) → names_slot s e ≡ false)
     (counts : (g : ℕ) → maps g + cond (names_frame g e) 1 0 ≡ v.maps g)
     (free : (g : ℕ) → g < m.frames → is_in g rest ≡ (maps g == 0)) where
-  -- the view after
-  abbrev pub left : View
-  left = record v { table = with_entry p page None v.table; maps = maps; free = rest }
-
   cache_now : (taken (p, page) l).cache ≡ []
   cache_now = (same_swap-taken (p, page) l).cache ∙ cache
 
-  mapped_now : (g : ℕ) → mapped (taken (p, page) l) g ≡ maps g
-  mapped_now g = equal _ _ _ _ _ (mapped-taken (p, page) l g sound.in_order) (ap (weight (names_frame g)) is) (counts g) (frames.maps g)
+  pub mapped_now : (g : ℕ) → mapped (taken (p, page) l) g ≡ maps g
+  mapped_now g = equal _ _ _ _ _ (mapped-taken (p, page) l g parts.sound.in_order) (ap (weight (names_frame g)) is) (counts g) (parts.frames.maps g)
     where
-      equal : (n x y k c : ℕ) → n ≡ x + k → k ≡ c → y + c ≡ v.maps g → v.maps g ≡ n → x ≡ y
+      equal : (n x y k c : ℕ) {w : ℕ} → n ≡ x + k → k ≡ c → y + c ≡ w → w ≡ n → x ≡ y
       equal n x y k c a b d f = omega arith
 
   slots_now : (s : Slot) → slot_entries l s ≡ slot_entries (taken (p, page) l) s
-  slots_now s = equal _ _ _ (slot_entries-taken (p, page) l s sound.in_order) (ap (weight (names_slot s)) is ∙ ap (λ b. cond b 1 0) (no_slots s))
+  slots_now s = equal _ _ _ (slot_entries-taken (p, page) l s parts.sound.in_order) (ap (weight (names_slot s)) is ∙ ap (λ b. cond b 1 0) (no_slots s))
     where
       equal : (n x k : ℕ) → n ≡ x + k → k ≡ 0 → n ≡ x
       equal n x k a b = omega arith
 
   tables_now : TablesStand (record v { table = with_entry p page None v.table; maps = maps; free = rest }) (taken (p, page) l)
   tables_now = record {
-    entries = λ q o. pushed (q == p && o == page) (v.table q o) (entry l (q, o)) (tables.entries q o)
+    entries = λ q o. pushed (q == p && o == page) (v.table q o) (entry l (q, o)) (parts.tables.entries q o)
         ∙ sym (entry-taken (p, page) l (q, o) ∙ ap (λ b. cond b None (entry l (q, o))) (key_is p page q o));
     write_bits = λ q o t g there writes names. by (q == p && o == page) q o t g there writes names;
   }
@@ -102,24 +86,132 @@ module _ (m : Setting) (v : View) (l : Ledger) (p page : ℕ) (e : Entry) (maps 
       by true q o t g there writes names = absurd (clash there)
       by false q o t g there writes names =
           shared_is (taken (p, page) l) g cache_now
-          ∙ fewer (mapped l g) (maps g) (mapped (taken (p, page) l) g) _ (sym (shared_is l g cache) ∙ tables.write_bits q o t g there writes names) (counts g ∙ frames.maps g) (mapped_now g)
+          ∙ fewer (mapped l g) (maps g) (mapped (taken (p, page) l) g) (cond (names_frame g e) 1 0) (sym (shared_is l g cache) ∙ parts.tables.write_bits q o t g there writes names) (counts g ∙ parts.frames.maps g) (mapped_now g)
 
-  pub stands_now : (LedgerParts m (record v { table = with_entry p page None v.table; maps = maps; free = rest }) (taken (p, page) l))
+  pub stands_now : LedgerStand m (record v { table = with_entry p page None v.table; maps = maps; free = rest }) (taken (p, page) l)
   stands_now = record {
-    sound = subst (IsSound m) (ap (after_all l) (taking_one-alone l (p, page) cache (λ s. sym (swap.counts s) ∙ zero s))) (taking_one-kept m l (p, page) sound);
+    sound = subst (IsSound m) (ap (after_all l) (taking_one-alone l (p, page) cache (λ s. sym (parts.swap.counts s) ∙ no_entries s))) (taking_one-kept m l (p, page) parts.sound);
     frames = record {
-      frames = frames.frames;
+      frames = parts.frames.frames;
       maps = λ g. sym (mapped_now g);
-      slots = λ g. frames.slots g ∙ no_slot l g cache ∙ sym (no_slot (taken (p, page) l) g cache_now);
+      slots = λ g. parts.frames.slots g ∙ no_slot l g cache ∙ sym (no_slot (taken (p, page) l) g cache_now);
       dirty = λ g. subst (λ o. IfSome o (λ s. v.dirty g ≡ is_stale (taken (p, page) l) s)) (sym (no_slot (taken (p, page) l) g cache_now)) tt;
       free = λ g below. free g below ∙ ap (λ n. n == 0) (sym (mapped_now g)) ∙ sym (free_is (taken (p, page) l) g cache_now);
     };
-    lists = record { active = no_active ∙ sym (active-taken (p, page) l (sym lists.active ∙ no_active)) };
+    lists = record { active = no_active ∙ sym (active-taken (p, page) l (sym parts.lists.active ∙ no_active)) };
     tables = tables_now;
     swap = record {
-      finds = λ s. swap.finds s ∙ no_frame_at l s cache ∙ sym (no_frame_at (taken (p, page) l) s cache_now);
-      counts = λ s. swap.counts s ∙ slots_now s;
-      flight = swap.flight ∙ sym (same_swap-taken (p, page) l).flight;
-      on = swap.on ∙ sym (same_swap-taken (p, page) l).on;
+      finds = λ s. parts.swap.finds s ∙ no_frame_at l s cache ∙ sym (no_frame_at (taken (p, page) l) s cache_now);
+      counts = λ s. parts.swap.counts s ∙ slots_now s;
+      flight = parts.swap.flight ∙ sym (same_swap-taken (p, page) l).flight;
+      on = parts.swap.on ∙ sym (same_swap-taken (p, page) l).on;
     };
   }
+
+-- ---- the page of zeros, and a frame
+
+module _ (m : Setting) (v : View) (l : Ledger) (p page : ℕ)
+    (cache : l.cache ≡ []) (parts : LedgerStand m v l) (no_active : v.active ≡ []) (no_entries : (s : Slot) → v.entries s ≡ 0) where
+  frees : (g : ℕ) → g < m.frames → is_in g v.free ≡ (v.maps g == 0)
+  frees g below = parts.frames.free g below ∙ free_is l g cache ∙ ap (λ n. n == 0) (sym (parts.frames.maps g))
+
+  pub zero_left : entry l (p, page) ≡ Some Zero → LedgerStand m (record v { table = with_entry p page None v.table }) (taken (p, page) l)
+  zero_left is = stands_now m v l p page Zero v.maps v.free cache parts no_active no_entries is (λ s. refl) (λ g. same (v.maps g)) frees
+    where
+      same : (n : ℕ) → n + 0 ≡ n
+      same n = omega arith
+
+  pub zero_freed : entry l (p, page) ≡ Some Zero → v.free ≡ freed l (taken (p, page) l) (frame_under (entry l (p, page))) v.free
+  zero_freed is = sym (ap (λ o. freed l (taken (p, page) l) (frame_under o) v.free) is)
+
+  module _ (f : ℕ) (was : Bool) (is : entry l (p, page) ≡ Some (InFrame f was)) where
+    some : 0 < v.maps f
+    some = subst (λ n. 0 < n) (sym (parts.frames.maps f)) (how_many-found (names_frame f) (p, page) l.entries (InFrame f was) is (itself f))
+
+    fewer : (g : ℕ) → with_at f (v.maps f - 1) v.maps g + cond (g == f) 1 0 ≡ v.maps g
+    fewer g = by (g == f) refl
+      where
+        by : (b : Bool) → (g == f) ≡ b → cond b (v.maps f - 1) (v.maps g) + cond b 1 0 ≡ v.maps g
+        by true e = let same = ap v.maps (equal_is g f e) in let positive = some in omega (arith, same, positive)
+        by false e = omega arith
+
+    was_used : is_free l f ≡ false
+    was_used = free_is l f cache ∙ ap (λ n. n == 0) (sym (parts.frames.maps f)) ∙ positive (v.maps f) some
+      where
+        positive : (n : ℕ) → 0 < n → (n == 0) ≡ false
+        positive n h = grind (arith, nat_tests, h)
+
+    at_f : with_at f (v.maps f - 1) v.maps f ≡ v.maps f - 1
+    at_f = ap (λ b. cond b (v.maps f - 1) (v.maps f)) (itself f)
+
+    -- another entry names the frame
+    module _ (more : (v.maps f == 1) ≡ false) where
+      two : 1 < v.maps f
+      two = let positive = some in by (v.maps f) positive more
+        where
+          by : (n : ℕ) → 0 < n → (n == 1) ≡ false → 1 < n
+          by n h e = grind (arith, nat_tests, h, e)
+
+      shared_free : (g : ℕ) → g < m.frames → is_in g v.free ≡ (with_at f (v.maps f - 1) v.maps g == 0)
+      shared_free g below = frees g below ∙ by (g == f) refl
+        where
+          both : (n k : ℕ) → n ≡ k → 1 < k → (n == 0) ≡ (k - 1 == 0)
+          both n k e h = grind (arith, nat_tests, e, h)
+
+          by : (b : Bool) → (g == f) ≡ b → (v.maps g == 0) ≡ (cond b (v.maps f - 1) (v.maps g) == 0)
+          by true e = both _ _ (ap v.maps (equal_is g f e)) two
+          by false e = refl
+
+      pub shared_left : LedgerStand m (record v { table = with_entry p page None v.table; maps = with_at f (v.maps f - 1) v.maps }) (taken (p, page) l)
+      shared_left = stands_now m v l p page (InFrame f was) (with_at f (v.maps f - 1) v.maps) v.free cache parts no_active no_entries is (λ s. refl) fewer shared_free
+
+      pub shared_freed : v.free ≡ freed l (taken (p, page) l) (frame_under (entry l (p, page))) v.free
+      shared_freed =
+          let now = mapped_now m v l p page (InFrame f was) (with_at f (v.maps f - 1) v.maps) v.free cache parts no_active no_entries is (λ s. refl) fewer shared_free f in
+          sym (ap (λ o. freed l (taken (p, page) l) (frame_under o) v.free) is
+          ∙ ap (λ b. cond (b && not (is_free l f)) (f ∷ v.free) v.free) (free_is (taken (p, page) l) f ((same_swap-taken (p, page) l).cache ∙ cache) ∙ ap (λ n. n == 0) (now ∙ at_f) ∙ used (v.maps f) two))
+        where
+          used : (n : ℕ) → 1 < n → (n - 1 == 0) ≡ false
+          used n h = grind (arith, nat_tests, h)
+
+    -- no other does
+    module _ (one : (v.maps f == 1) ≡ true) where
+      last_free : (g : ℕ) → g < m.frames → is_in g (f ∷ v.free) ≡ (with_at f (v.maps f - 1) v.maps g == 0)
+      last_free g below = ap (λ b. (g == f) || b) (frees g below) ∙ by (g == f) refl
+        where
+          gone : (n : ℕ) → (n == 1) ≡ true → true ≡ (n - 1 == 0)
+          gone n e = grind (arith, nat_tests, e)
+
+          by : (b : Bool) → (g == f) ≡ b → (b || (v.maps g == 0)) ≡ (cond b (v.maps f - 1) (v.maps g) == 0)
+          by true e = gone (v.maps f) one
+          by false e = refl
+
+      pub last_left : LedgerStand m (record v { table = with_entry p page None v.table; maps = with_at f (v.maps f - 1) v.maps; free = f ∷ v.free }) (taken (p, page) l)
+      last_left = stands_now m v l p page (InFrame f was) (with_at f (v.maps f - 1) v.maps) (f ∷ v.free) cache parts no_active no_entries is (λ s. refl) fewer last_free
+
+      pub last_freed : ◌≡◌ {A = List ℕ} (f ∷ v.free) (freed l (taken (p, page) l) (frame_under (entry l (p, page))) v.free)
+      last_freed =
+          let now = mapped_now m v l p page (InFrame f was) (with_at f (v.maps f - 1) v.maps) (f ∷ v.free) cache parts no_active no_entries is (λ s. refl) fewer last_free f in
+          let free = free_is (taken (p, page) l) f ((same_swap-taken (p, page) l).cache ∙ cache) ∙ ap (λ n. n == 0) (now ∙ at_f) ∙ gone (v.maps f) one in
+          sym (ap (λ o. freed l (taken (p, page) l) (frame_under o) v.free) is ∙ (λ i. cond (free i && not (was_used i)) (f ∷ v.free) v.free))
+        where
+          gone : (n : ℕ) → (n == 1) ≡ true → (n - 1 == 0) ≡ true
+          gone n e = grind (arith, nat_tests, e)
+
+    -- released, it is one or the other
+    pub released_left : LedgerStand m (released f (record v { table = with_entry p page None v.table })) (taken (p, page) l)
+    released_left = by (v.maps f == 1) refl
+      where
+        by : (b : Bool) → (v.maps f == 1) ≡ b
+            → LedgerStand m (cond b (record v { table = with_entry p page None v.table; maps = with_at f (v.maps f - 1) v.maps; free = f ∷ v.free }) (record v { table = with_entry p page None v.table; maps = with_at f (v.maps f - 1) v.maps })) (taken (p, page) l)
+        by true e = last_left e
+        by false e = shared_left e
+
+    pub released_freed : (released f (record v { table = with_entry p page None v.table })).free ≡ freed l (taken (p, page) l) (frame_under (entry l (p, page))) v.free
+    released_freed = by (v.maps f == 1) refl
+      where
+        by : (b : Bool) → (v.maps f == 1) ≡ b
+            → (cond b (record v { table = with_entry p page None v.table; maps = with_at f (v.maps f - 1) v.maps; free = f ∷ v.free }) (record v { table = with_entry p page None v.table; maps = with_at f (v.maps f - 1) v.maps })).free
+            ≡ freed l (taken (p, page) l) (frame_under (entry l (p, page))) v.free
+        by true e = last_freed e
+        by false e = shared_freed e
