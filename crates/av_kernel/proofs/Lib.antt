@@ -15,7 +15,9 @@ pub mod Counting
 pub mod SpacesLaws
 pub mod SpacesEnd
 pub mod Runs
+pub mod Released
 pub mod Leaving
+pub mod TakeLeast
 pub mod Exits
 pub mod AccessPages
 pub mod AccessBytes

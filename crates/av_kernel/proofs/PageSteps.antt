@@ -88,7 +88,7 @@ sound_written n w l p page at piece notes s alive some fits h =
 -- ---- the kernel
 
 -- no area is on, so no header is asked for
-no_headers : (m : Setting) (l : Ledger) → [] ≡ l.on → HeadersStand m l
+pub no_headers : (m : Setting) (l : Ledger) → [] ≡ l.on → HeadersStand m l
 no_headers m l none k = subst (λ (on : List (ℕ × Area)). IfSome (find nat_cmp k on) (λ area. IfSome m.headers (λ headers. HasNumbers area (headers k)))) none tt
 
 pub keeps_now : (k : Mem) (w : World) (l : Ledger) → PartsStand k w l → AllSound (setting (count k)) w l → Keeps k (record { world = w; ledger = l; free = (view k).free })

@@ -12,10 +12,24 @@ use Rattle.av_vmatree.specs.declared.span.Span.{Span}
 use Rattle.av_vmatree.specs.Spans.{AreDistinct, span_of}
 use Rattle.av_plain.specs.Stands.{AreApart}
 use Rattle.av_kernel.specs.Spaces.{areas_of, ranges_by, spaces_by, prot_by, IsAreaOf, AreNumbered, AreUsed, IsTree, AreTrees, IsEnded, without_areas}
-use Rattle.av_kernel.proofs.SpacesLaws.{areas_are, all_apart, of_area, at_key, tree_of}
+use Rattle.av_kernel.proofs.SpacesLaws.{areas_are, all_apart, of_area, at_key, not_dead}
 
 itself : (n : ℕ) → (n == n) ≡ true
 itself n = grind (arith, nat_tests)
+
+-- ---- the spans of a process that lives
+
+pub tree_spans : (f : ℕ → Option Area) (m : BTreeMap ℕ (List Span)) (p : ℕ) (spans : List Span) → AreTrees f m → is_some (areas_of (spaces_by f m.entries) p) ≡ true → IfSome (get nat_cmp m p) (λ tree. spans ≡ tree)
+    → (get nat_cmp m p ≡ Some spans) × IsTree f p spans
+tree_spans f m p spans trees alive same = each (get nat_cmp m p) refl same (trees p)
+  where
+    each : (o : Option (List Span)) → get nat_cmp m p ≡ o → IfSome o (λ tree. spans ≡ tree) → IfSome o (IsTree f p) → (get nat_cmp m p ≡ Some spans) × IsTree f p spans
+    each None is same tree = absurd (not_dead f m p is alive)
+    each (Some t) is same tree = (is ∙ ap Some (sym same), subst (IsTree f p) (sym same) tree)
+
+-- one tree fewer
+pub number_left : (taken there : Option (List Span)) (spans : List Span) (n m : ℕ) → taken ≡ there → there ≡ Some spans → n + cond (is_some taken) 1 0 ≡ m → n + 1 ≡ m
+number_left taken there spans n m is some h = ap (λ o. n + cond (is_some o) 1 0) (sym (is ∙ some)) ∙ h
 
 -- ---- areas taken out one by one
 
@@ -31,17 +45,17 @@ module _ (f f' : ℕ → Option Area) (n : ℕ) (now : (k : ℕ) → f' k ≡ wi
 
   still_used : (spans : List Span) → span_of spans n ≡ None → AreUsed f spans → AreUsed f' spans
   still_used [] none h = tt
-  still_used (t ∷ spans) none h = by (n == t.area) refl none
+  still_used (t ∷ spans) none h = by (n == t.area) refl none (λ none. still_used spans none h.2)
     where
       turned : (a b : ℕ) → (a == b) ≡ false → (b == a) ≡ false
       turned a b e = grind (arith, nat_tests)
 
-      by : (b : Bool) → (n == t.area) ≡ b → cond b (Some t) (span_of spans n) ≡ None → AreUsed f' (t ∷ spans)
-      by true e none = absurd (clash none)
+      by : (b : Bool) → (n == t.area) ≡ b → cond b (Some t) (span_of spans n) ≡ None → (span_of spans n ≡ None → AreUsed f' spans) → AreUsed f' (t ∷ spans)
+      by true e none more = absurd (clash none)
         where
           clash : {x : Span} → Some x ≡ None → ⊥
           clash e = cc
-      by false e none = (subst IsSome (sym (other t.area (turned n t.area e))) h.0, h.1, still_used spans none h.2)
+      by false e none more = (subst IsSome (sym (other t.area (turned n t.area e))) h.0, h.1, more none)
 
   pub one_less : (s : Span) (spans : List Span) → s.area ≡ n → AreUsed f (s ∷ spans) → AreUsed f' spans
   one_less s spans same h = still_used spans (subst (λ k. span_of spans k ≡ None) same h.1) h.2
@@ -66,11 +80,11 @@ found_area f p [] n s h is = absurd (clash is)
   where
     clash : {x : Span} → None ≡ Some x → ⊥
     clash e = cc
-found_area f p (t ∷ spans) n s h is = by (n == t.area) refl is
+found_area f p (t ∷ spans) n s h is = by (n == t.area) refl is (λ is. found_area f p spans n s h.1 is)
   where
-    by : (b : Bool) → (n == t.area) ≡ b → cond b (Some t) (span_of spans n) ≡ Some s → (t : Span) × IsAreaOf p t (f n)
-    by true e is = (t, subst (λ k. IsAreaOf p t (f k)) (sym (eqb-true n t.area e)) h.0)
-    by false e is = found_area f p spans n s h.1 is
+    by : (b : Bool) → (n == t.area) ≡ b → cond b (Some t) (span_of spans n) ≡ Some s → (span_of spans n ≡ Some s → (t : Span) × IsAreaOf p t (f n)) → (t : Span) × IsAreaOf p t (f n)
+    by true e is more = (t, subst (λ k. IsAreaOf p t (f k)) (sym (eqb-true n t.area e)) h.0)
+    by false e is more = more is
 
 -- an area is one process's
 one_owner : (p q : ℕ) (s t : Span) (o : Option Area) → IsAreaOf p s o → IsAreaOf q t o → q ≡ p

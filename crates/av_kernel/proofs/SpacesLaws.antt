@@ -73,7 +73,7 @@ pub record IsHeld (f : ℕ → Option Area) (page n : ℕ) : Type 0 where
   pub used : IsSome (f n)
   pub below : page < top_page
 
-of_area : (p : ℕ) (s : Span) (o : Option Area) → IsAreaOf p s o → IsSome o
+pub of_area : (p : ℕ) (s : Span) (o : Option Area) → IsAreaOf p s o → IsSome o
 of_area p s None h = absurd h
 of_area p s (Some area) h = refl
 
@@ -120,12 +120,12 @@ prot_dead f m p page is = sym (ap (λ o. prot_of o page) (areas_are f m.entries 
 
 -- ---- the ranges are apart
 
-apart_ranges : (f : ℕ → Option Area) (spans : List Span) → tree.AreApart spans → AreApart (ranges_by f spans)
+pub apart_ranges : (f : ℕ → Option Area) (spans : List Span) → tree.AreApart spans → AreApart (ranges_by f spans)
 apart_ranges f [] h = tt
 apart_ranges f (s ∷ []) h = h.0
 apart_ranges f (s ∷ t ∷ spans) h = (h.0, h.1.0, apart_ranges f (t ∷ spans) h.2)
 
-all_apart : (f : ℕ → Option Area) (m : BTreeMap ℕ (List Span)) → AreTrees f m → AllApart (spaces_by f m.entries)
+pub all_apart : (f : ℕ → Option Area) (m : BTreeMap ℕ (List Span)) → AreTrees f m → AllApart (spaces_by f m.entries)
 all_apart f m trees p = subst (λ o. IfSome o AreApart) (sym (areas_are f m.entries p)) (each (get nat_cmp m p) (trees p))
   where
     each : (o : Option (List Span)) → IfSome o (IsTree f p) → IfSome (option_map (ranges_by f) o) AreApart
@@ -134,7 +134,7 @@ all_apart f m trees p = subst (λ o. IfSome o AreApart) (sym (areas_are f m.entr
 
 -- ---- a process without areas
 
-at_key : (p q : ℕ) → is_eq (nat_cmp p q) ≡ (q == p)
+pub at_key : (p q : ℕ) → is_eq (nat_cmp p q) ≡ (q == p)
 at_key p q = grind (arith, nat_tests)
 
 pub trees_spawned : (f : ℕ → Option Area) (old new : BTreeMap ℕ (List Span)) (p : ℕ) → AreTrees f old → ((q : ℕ) → get nat_cmp new q ≡ cond (is_at (nat_cmp p) q) (Some []) (get nat_cmp old q)) → AreTrees f new

@@ -1,7 +1,7 @@
 -- What stands while the entries of a process go, one by one.
 use Rattle.std.specs.Prelude.{◌≡◌, ◌≢◌, ℕ, ◌+◌, ◌-◌, ◌<◌, ◌≤◌, ◌==◌, true, is_some, if◌then◌else◌, ◌∷◌, Option, Some, None}
 use Rattle.av_vma.specs.Ranges.{with_at}
-use Rattle.av_plain.specs.Ledger.{Ledger, entry}
+use Rattle.av_plain.specs.Ledger.{Ledger, Setting, entry}
 use Rattle.av_plain.specs.Event.{taken, after_all}
 use Rattle.av_plain.specs.Taking.{keys_of_process, taking}
 use Rattle.av_plain.specs.Choice.{ChoosesAll, freed, frame_under}
@@ -11,12 +11,16 @@ use Rattle.av_kernel.specs.declared.mem.Mem.{Mem}
 use Rattle.av_kernel.specs.View.{setting, count, view}
 
 -- the parts that speak of the ledger alone
-pub record LedgerStands (k : Mem) (l : Ledger) : Type 0 where
-  pub sound : IsSound (setting (count k)) l
-  pub frames : FramesStand (setting (count k)) (view k) l
-  pub lists : ListsStand (view k) l
-  pub tables : TablesStand (view k) l
-  pub swap : SwapStands (view k) l
+pub record LedgerStand (m : Setting) (v : View) (l : Ledger) : Type 0 where
+  pub sound : IsSound m l
+  pub frames : FramesStand m v l
+  pub lists : ListsStand v l
+  pub tables : TablesStand v l
+  pub swap : SwapStands v l
+
+-- the memory system's parts do
+abbrev pub LedgerStands : Mem → Ledger → Type 0
+LedgerStands k l = LedgerStand (setting (count k)) (view k) l
 
 -- they stand for some
 abbrev pub IsOrderly : Mem → Type 0

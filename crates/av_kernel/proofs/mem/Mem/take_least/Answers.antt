@@ -1,34 +1,48 @@
-use Rattle.std.proofs.Common.{rules, ◌≡◌, ℕ, ◌<◌, ◌^◌, true, false, IfOk, IfSome, ◌+◌, ◌-◌, ◌*◌, ◌≤◌, length, ◌/◌, ◌%◌, Bool, nat_eq, nat_lt, List, [], ◌∷◌, ◌++◌, slice_index_or, slice_set, bit_and, bit_or, Fits, w8, w32, w64, Bor, MutBor}
-use Rattle.av_frames.specs.Store.{is_in}
-use Rattle.av_pagetable.specs.Entries.{has}
-use Rattle.av_plain.specs.Ledger.{Ledger}
-use Rattle.av_plain.specs.Transcript.{State}
-use Rattle.av_kernel.specs.View.{count, view, Keeps, IsSteady}
-use Rattle.av_kernel.specs.Command.{MemSteps}
-use Rattle.av_kernel.specs.Exit.{LedgerStands, IsOrderly, released, TakesLeast, HasTaken}
-use Rattle.av_trace.specs.declared.command.Command.TheVariants as commands
+use Rattle.std.proofs.Common.{◌≡◌, ◌∙◌, None, refl, subst, sym, ap}
+use Rattle.av_kernel.specs.Exit.{TakesLeast}
+use Rattle.av_kernel.proofs.TakeLeast.{frame_used, none_taken, zero_taken, frame_taken}
 use Rattle.av_kernel.proofs.mem.Mem.take_least.Goals as goal
 
--- src/exit.rt:63:29
 pub returns-in_err-page-clause-takes : goal.returns-in_err-page-clause-takes
-returns-in_err-page-clause-takes c = ?
+returns-in_err-page-clause-takes c = λ l stands.
+    let old = c.args.self.now in
+    let new = record old { tables = c.take_first.new.self } in
+    let t = c.in_err-page.ensures.takes in
+    subst (TakesLeast old new l c.args.process c.args.from) (sym c.from_residual.ensures) (none_taken old l stands new c.args.process c.args.from t.0 t.1 refl refl)
 
--- src/exit.rt:65:13
 pub release-requires-clause-in_range : goal.release-requires-clause-in_range
-release-requires-clause-in_range c = ?
+release-requires-clause-in_range c =
+    let o = c.requires.orderly in
+    (frame_used c.args.self.now o.0 o.1 c.args.process c.in_ok-page.page c.in-Here.frame c.in-Here.write c.in-Here.seen (c.in_ok-page.ensures.takes.1 ∙ c.in-Here.is)).0
 
--- src/exit.rt:65:13
 pub release-requires-clause-named : goal.release-requires-clause-named
-release-requires-clause-named c = ?
+release-requires-clause-named c =
+    let o = c.requires.orderly in
+    (frame_used c.args.self.now o.0 o.1 c.args.process c.in_ok-page.page c.in-Here.frame c.in-Here.write c.in-Here.seen (c.in_ok-page.ensures.takes.1 ∙ c.in-Here.is)).1
 
--- src/exit.rt:65:13
 pub release-requires-clause-not_free : goal.release-requires-clause-not_free
-release-requires-clause-not_free c = ?
+release-requires-clause-not_free c =
+    let o = c.requires.orderly in
+    (frame_used c.args.self.now o.0 o.1 c.args.process c.in_ok-page.page c.in-Here.frame c.in-Here.write c.in-Here.seen (c.in_ok-page.ensures.takes.1 ∙ c.in-Here.is)).2
 
--- src/exit.rt:54:5
 pub returns-in-Here-clause-takes : goal.returns-in-Here-clause-takes
-returns-in-Here-clause-takes c = ?
+returns-in-Here-clause-takes c = λ l stands.
+    let old = c.args.self.now in
+    let mid = record old { tables = c.take_first.new.self } in
+    let t = c.in_ok-page.ensures.takes in
+    frame_taken old l stands c.release.new.self c.args.process c.args.from c.in_ok-page.page c.in_ok-page.entry t.0 t.1 mid c.in-Here.frame c.in-Here.write c.in-Here.seen c.in-Here.is t.2 refl refl
+    c.release.ensures.view c.release.ensures.count
 
--- src/exit.rt:54:5
 pub returns-in_default : goal.returns-in_default
-returns-in_default c = ?
+returns-in_default c =
+    let old = c.args.self.now in
+    let new = record old { tables = c.take_first.new.self } in
+    let t = c.in_ok-page.ensures.takes in
+    record {
+      takes = λ l stands. zero_taken old l stands new c.args.process c.args.from c.in_ok-page.page c.in_ok-page.entry t.0 t.1 c.in_default.not-Here t.2 refl refl;
+      below = t.0.below;
+      processes = c.in_ok-page.ensures.processes;
+      bytes = refl;
+      spaces = refl;
+      count = refl;
+    }
