@@ -2,6 +2,7 @@
 use Rattle.std.proofs.Common.{◌≡◌, ℕ, zero, suc, ◌+◌, ◌<◌, ◌≤◌, Bool, true, false, cond, not, ◌^◌, ◌||◌, List, [], ◌∷◌, length, get_or, slice_set, replicate, Option, refl, sym, ap, subst, ◌∙◌, arith, ◌==◌, length-set, get_or-set_same, get_or-set_other}
 use Rattle.std.proofs.lemmas.Grind.{common_steps}
 use Rattle.std.proofs.lemmas.Bool.Decides.{nat_tests}
+use Rattle.std.proofs.lemmas.Bool.{false≢true}
 use Rattle.av_vma.specs.declared.slot.Slot.{Slot}
 use Rattle.av_vma.specs.Ranges.{how_many, with_at}
 use Rattle.av_frames.specs.Store.{IsWhole, is_in, itself, Store, seen}
@@ -171,3 +172,20 @@ module _ (frees : List ℕ) (n room : ℕ) (pages : List (List ℕ)) (flags : Li
     where
       fits : (m p : ℕ) → length frees + m ≡ p → n ≡ length frees → p < 2 ^ 32 → n < 2 ^ 32
       fits m p a b d = omega arith
+
+-- the free list has no frame twice, and no number that isn't a frame
+pub once_free : (frees : List ℕ) (frees_len frees_room : ℕ) (pages : List (List ℕ)) (flags : List Bool) (counts : List ℕ) (owners : List (Option (ℕ × ℕ))) (marks : List Bool) (places : List (Option Slot))
+    → IsWhole frees frees_len frees_room pages flags counts owners marks places → (f : ℕ) → how_many (λ g. f == g) frees ≤ 1
+once_free frees frees_len frees_room pages flags counts owners marks places h f = by (get_or flags f true) _ (h.once f)
+  where
+    by : (b : Bool) (n : ℕ) → n ≡ cond b 0 1 → n ≤ 1
+    by true n e = omega (arith, e)
+    by false n e = omega (arith, e)
+
+pub in_range_free : (frees : List ℕ) (frees_len frees_room : ℕ) (pages : List (List ℕ)) (flags : List Bool) (counts : List ℕ) (owners : List (Option (ℕ × ℕ))) (marks : List Bool) (places : List (Option Slot))
+    → IsWhole frees frees_len frees_room pages flags counts owners marks places → (f : ℕ) → is_in f frees ≡ true → f < length pages
+in_range_free frees frees_len frees_room pages flags counts owners marks places h f inside = by (get_or flags f true) refl (h.once f)
+  where
+    by : (b : Bool) → get_or flags f true ≡ b → how_many (λ g. f == g) frees ≡ cond b 0 1 → f < length pages
+    by true e n = absurd (false≢true (sym (not_in f frees n) ∙ inside))
+    by false e n = let less = within_flags flags f e in let same = h.used in omega (arith, less, same)

@@ -4,10 +4,10 @@
 #[cfg(test)]
 mod tests;
 
-ghost use Rattle.std.specs.Prelude.{◌≡◌, ℕ, ◌+◌, ◌<◌, ◌≤◌, ◌^◌, ◌-◌, ◌∷◌, [], length, slice_index, MatchOption, IfOk, true, false, replicate, not};
+ghost use Rattle.std.specs.Prelude.{◌≡◌, ℕ, ◌+◌, ◌<◌, ◌≤◌, ◌^◌, ◌-◌, ◌∷◌, ◌==◌, [], length, slice_index, MatchOption, IfOk, true, false, replicate, not};
 ghost use Rattle.av_frames.specs.Store.{seen, fresh, overlaid, is_in};
 ghost use Rattle.std.specs.VecDeque.{deque_len, deque_capacity};
-ghost use Rattle.av_vma.specs.Ranges.{numbers, with_at};
+ghost use Rattle.av_vma.specs.Ranges.{how_many, numbers, with_at};
 
 use av_vma::Slot;
 use std::alloc::{AllocError, Global};
@@ -161,7 +161,11 @@ impl Frames {
 
     /// How many frames are free.
     pub fn free(&self) -> u32
-        ensures { result ≡ length self.now.free }
+        ensures count { result ≡ length self.now.free }
+        // The free list has each free frame once.
+        ensures once { (f : ℕ) → how_many (λ g. f == g) self.now.free ≤ 1 }
+        ensures in_range { (f : ℕ) → is_in f self.now.free ≡ true → f < (seen self.now).count }
+        ensures within { result ≤ (seen self.now).count }
     {
         self.free.len() as u32
     }

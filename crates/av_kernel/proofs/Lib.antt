@@ -23,3 +23,4 @@ pub mod AccessPages
 pub mod AccessBytes
 pub mod AccessParts
 pub mod AccessSteps
+pub mod Stats
