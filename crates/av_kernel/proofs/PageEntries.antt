@@ -30,10 +30,10 @@ pub zeroed : (m : Setting) (v : View) (w : World) (l : Ledger) (p page : ℕ) �
     → Parts m (changed p page (as_pte Zero false) v.bytes v.maps v.free v) w (set_entry (p, page) Zero l)
 zeroed m v w l p page parts there none =
     parts_now m v w l (set_entry (p, page) Zero l) p page Zero false v.bytes v.maps v.free parts refl parts.cache refl refl parts.active there
-        (λ s. ap (weight (names_slot s)) none) (λ s. refl)
-        (λ g. ap (λ o. v.maps g + weight (names_frame g) o) none)
-        (frees m v w l parts) (λ g few. few) (λ t g names. absurd (false≢true names)) (λ q o g was is other. refl)
-        (subst (λ o. IsKept v None l o (pages w p page)) none (parts.bytes.kept p page))
+    (λ s. ap (weight (names_slot s)) none) (λ s. refl)
+    (λ g. ap (λ o. v.maps g + weight (names_frame g) o) none)
+    (frees m v w l parts) (λ g few. few) (λ t g names. absurd (false≢true names)) (λ q o g was is other. refl)
+    (subst (λ o. IsKept v None l o (pages w p page)) none (parts.bytes.kept p page))
 
 -- ---- the same frame, as seen
 

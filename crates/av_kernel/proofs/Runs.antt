@@ -141,8 +141,8 @@ left-begun f s next run now rows rows' all spans on apart added is h =
       on.start,
       on.end,
       ap (λ rows. rows ++ joined same_prot (range s.from s.to next.prot) (ranges_by f spans)) (added ∙ (λ i. rows ++ Run (h.2 i) (h.3 i) run.prot ∷ []))
-      ∙ ap (λ prot. (rows ++ Run (4096 * h.0) (4096 * h.1) run.prot ∷ []) ++ joined same_prot (range s.from s.to prot) (ranges_by f spans)) (sym on.prot)
-      ∙ begins rows all h.0 h.1 run.prot (range_by f s) (ranges_by f spans) (λ at same. apart (let is : run.end ≡ next.start = omega (arith, old_end, next_start, at) in is) (same ∙ on.prot)) h.4,
+          ∙ ap (λ prot. (rows ++ Run (4096 * h.0) (4096 * h.1) run.prot ∷ []) ++ joined same_prot (range s.from s.to prot) (ranges_by f spans)) (sym on.prot)
+          ∙ begins rows all h.0 h.1 run.prot (range_by f s) (ranges_by f spans) (λ at same. apart (let is : run.end ≡ next.start = omega (arith, old_end, next_start, at) in is) (same ∙ on.prot)) h.4,
     )
 
 pub left-last : (run : Area) (rows rows' all : List Row) → rows' ≡ rows ++ Run run.start run.end run.prot ∷ [] → IsLeft rows run [] all → rows' ≡ all

@@ -86,28 +86,26 @@ module _ (old : Mem) (l : Ledger) (stands : LedgerStands old l) where
 
       pub zero_taken : ((f : ℕ) (write was : Bool) → e ≡ Here f write was → ⊥) → entry_at new.tables ≡ with_entry p page Empty (entry_at old.tables) → new.frames ≡ old.frames → new.spaces ≡ old.spaces → TakesLeast old new l p from (Some page)
       zero_taken other tables frames spaces =
-          let there = zero_there p page e is (λ none. first.there (is ∙ none)) other in
-          (
+          let there = zero_there p page e is (λ none. first.there (is ∙ none)) other in (
             first.from_there,
             ap is_some there,
             least,
             ap (λ f. (seen f).free) frames ∙ zero_freed (setting (count old)) (view old) l p page cache stands refl (λ s. refl) there,
             subst (λ n. LedgerStand (setting n) (view new) (taken (p, page) l)) (sym (ap (λ f. (seen f).count) frames))
-            (subst (λ v. LedgerStand (setting (count old)) v (taken (p, page) l)) (sym (entry_put_in old new p page Empty tables frames spaces))
-            (zero_left (setting (count old)) (view old) l p page cache stands refl (λ s. refl) there)),
+                (subst (λ v. LedgerStand (setting (count old)) v (taken (p, page) l)) (sym (entry_put_in old new p page Empty tables frames spaces))
+                (zero_left (setting (count old)) (view old) l p page cache stands refl (λ s. refl) there)),
           )
 
       pub frame_taken : (mid : Mem) (f : ℕ) (write was : Bool) → e ≡ Here f write was → entry_at mid.tables ≡ with_entry p page Empty (entry_at old.tables) → mid.frames ≡ old.frames → mid.spaces ≡ old.spaces
           → view new ≡ released f (view mid) → count new ≡ count old → TakesLeast old new l p from (Some page)
       frame_taken mid f write was here tables frames spaces same counts =
           let there = frame_there p page f write was (is ∙ here) in
-          let seen_so : view new ≡ released f (record (view old) { table = with_entry p page None (view old).table }) = same ∙ ap (released f) (entry_put_in old mid p page Empty tables frames spaces) in
-          (
+          let seen_so : view new ≡ released f (record (view old) { table = with_entry p page None (view old).table }) = same ∙ ap (released f) (entry_put_in old mid p page Empty tables frames spaces) in (
             first.from_there,
             ap is_some there,
             least,
             ap (λ (v : View). v.free) seen_so ∙ released_freed (setting (count old)) (view old) l p page cache stands refl (λ s. refl) f was there,
             subst (λ n. LedgerStand (setting n) (view new) (taken (p, page) l)) (sym counts)
-            (subst (λ v. LedgerStand (setting (count old)) v (taken (p, page) l)) (sym seen_so)
-            (released_left (setting (count old)) (view old) l p page cache stands refl (λ s. refl) f was there)),
+                (subst (λ v. LedgerStand (setting (count old)) v (taken (p, page) l)) (sym seen_so)
+                (released_left (setting (count old)) (view old) l p page cache stands refl (λ s. refl) f was there)),
           )

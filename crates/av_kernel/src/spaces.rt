@@ -150,7 +150,11 @@ impl Spaces {
 }
 
 /// The spans of a process's areas in the order of their pages.
-fn spans_of(alloc: Global, trees: &BTreeMap<u16, Tree>, process: u16) -> Result<Vec<Span>, AllocError>
+fn spans_of(
+    alloc: Global,
+    trees: &BTreeMap<u16, Tree>,
+    process: u16,
+) -> Result<Vec<Span>, AllocError>
     ensures { IfOk result (λ spans. IfSome (tree_of nat_cmp trees.now process) (λ tree. spans.items ≡ tree)) }
 {
     let mut spans = Vec::new(alloc);
