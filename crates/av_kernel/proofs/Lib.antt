@@ -18,6 +18,7 @@ pub mod Runs
 pub mod Released
 pub mod Leaving
 pub mod TakeLeast
+pub mod TakeEntries
 pub mod Exits
 pub mod AccessPages
 pub mod AccessBytes

@@ -1,8 +1,8 @@
 -- What stands while the entries of a process go, one by one.
-use Rattle.std.specs.Prelude.{◌≡◌, ◌≢◌, ℕ, ◌+◌, ◌-◌, ◌<◌, ◌≤◌, ◌==◌, true, is_some, if◌then◌else◌, ◌∷◌, Option, Some, None}
+use Rattle.std.specs.Prelude.{◌≡◌, ◌≢◌, ℕ, ◌+◌, ◌-◌, ◌<◌, ◌≤◌, ◌==◌, true, is_some, if◌then◌else◌, [], ◌∷◌, Option, Some, None}
 use Rattle.av_vma.specs.Ranges.{with_at}
 use Rattle.av_plain.specs.Ledger.{Ledger, Setting, entry}
-use Rattle.av_plain.specs.Event.{taken, after_all}
+use Rattle.av_plain.specs.Event.{taken, after_all, notes_of}
 use Rattle.av_plain.specs.Taking.{keys_of_process, taking}
 use Rattle.av_plain.specs.Choice.{ChoosesAll, freed, frame_under}
 use Rattle.av_plain.specs.Sound.{IsSound}
@@ -37,8 +37,9 @@ TakesLeast old new l p from (Some page) =
     (from ≤ page) × (is_some (entry l (p, page)) ≡ true) × ((q : ℕ) → from ≤ q → q < page → entry l (p, q) ≡ None)
     × ((view new).free ≡ freed l (taken (p, page) l) (frame_under (entry l (p, page))) (view old).free) × LedgerStands new (taken (p, page) l)
 
--- all entries of the process have gone, and the frames that became free are in front
+-- all entries of the process have gone, without a note, and the frames that became free are in front
 pub record HasTaken (old new : Mem) (p : ℕ) (l : Ledger) : Type 0 where
   pub stands : LedgerStands new (after_all l (taking l (keys_of_process l p)))
+  pub notes : notes_of (taking l (keys_of_process l p)) ≡ []
   pub others : (q page : ℕ) → q ≢ p → entry (after_all l (taking l (keys_of_process l p))) (q, page) ≡ entry l (q, page)
   pub free : ChoosesAll l (taking l (keys_of_process l p)) (view old).free (view new).free
