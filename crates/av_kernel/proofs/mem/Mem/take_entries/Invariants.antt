@@ -14,7 +14,7 @@ invariant-loop-page l = record {
   processes : has l.self.tables ≡ has l.initial.self.tables;
   bytes : (view l.self).bytes ≡ (view l.initial.self).bytes;
   spaces : l.self.spaces ≡ l.initial.self.spaces;
-  count : count l.self ≡ count l.initial.self
+  count : count l.self ≡ count l.initial.self;
 }
 
 abbrev pub decreases-loop-page : goal.decreases-loop-page
