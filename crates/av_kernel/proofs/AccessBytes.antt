@@ -5,7 +5,7 @@ use Rattle.std.specs.declared.cmp.Ordering.TheVariants.{Less, Equal, Greater}
 use Rattle.std.specs.Cmp.{nat_cmp_total, tied_itself}
 use Rattle.std.specs.FinMap.Entries.{put, by_order}
 use Rattle.std.proofs.lemmas.List.{append-nil, length-append}
-use Rattle.av_plain.specs.World.{World, Process, Page, process, pages, lives, set_process, written, Shows}
+use Rattle.av_plain.specs.World.{World, Process, Page, pages, lives, set_process, written, Shows}
 use Rattle.av_plain.specs.Fault.{is_allowed, permits}
 use Rattle.av_plain.specs.Step.{stored, Reads}
 use Rattle.av_plain.proofs.WorldLaws.{lives-set, pages-set}

@@ -1,11 +1,11 @@
 -- Commands on processes and areas: they have no events, and leave frames and entries as they are.
-use Rattle.std.proofs.Common.{◌≡◌, ◌≢◌, ℕ, ◌+◌, ◌*◌, ◌/◌, ◌<◌, ◌≤◌, Bool, true, false, cond, not, ◌&&◌, T, List, [], ◌∷◌, length, Option, Some, None, is_some, option_map, refl, sym, ap, subst, ◌∙◌, arith, ◌==◌, nat_le, nat_lt, IfSome}
+use Rattle.std.proofs.Common.{◌≡◌, ◌≢◌, ℕ, ◌+◌, ◌<◌, ◌≤◌, Bool, true, false, cond, not, List, [], length, Option, Some, None, is_some, option_map, refl, sym, ap, subst, ◌∙◌, arith, ◌==◌, nat_le}
 use Rattle.std.proofs.lemmas.Bool.Decides.{nat_tests}
 use Rattle.std.proofs.lemmas.Bool.{false≢true}
 use Rattle.std.specs.Ordering.{nat_cmp, eq_by_cmp}
 use Rattle.std.specs.Prelude.{MatchOption, if◌then◌else◌}
 use Rattle.av_vma.specs.declared.area.Prot.{Prot}
-use Rattle.av_vma.specs.Gap.{IsGap, IsRoom}
+use Rattle.av_vma.specs.Gap.{IsGap}
 use Rattle.av_vma.specs.Ranges.{within, with_at}
 use Rattle.av_trace.specs.declared.command.Command.{Command}
 use Rattle.av_trace.specs.declared.command.Command.TheVariants.{Spawn, Exit, Mmap, Read, Write, Maps, Stat}
@@ -15,21 +15,21 @@ use Rattle.av_trace.specs.declared.reply.Errno.TheVariants.{Esrch, Eagain, Enome
 use Rattle.av_trace.specs.declared.reply.Reply.{Reply}
 use Rattle.av_trace.specs.declared.reply.Answer.{Answer}
 use Rattle.av_trace.specs.declared.reply.Answer.TheVariants.{Done, MapAt, Refused}
-use Rattle.av_plain.specs.World.{World, Process, Page, nothing, zeros, process, lives, pages, page_of, pages_of, address_of, is_mapped, set_process, replaced}
+use Rattle.av_plain.specs.World.{World, Process, Page, nothing, zeros, lives, pages, page_of, pages_of, address_of, is_mapped, set_process, replaced}
 use Rattle.av_vma.specs.declared.slot.Slot.{Slot}
 use Rattle.av_plain.specs.Ledger.{Ledger, Setting, Entry, entry, frame_at}
 use Rattle.av_plain.specs.Refusal.{tests, refusal, is_too_long, most_processes}
 use Rattle.av_plain.specs.Step.{IsLegal, Follows, Refuses, IsMapAt, next_world}
 use Rattle.av_plain.specs.Transcript.{State, IsStep}
-use Rattle.av_plain.specs.Stands.{View, Stands, IsKept, IsClean, AreasStand, FramesStand, TablesStand, entry_of, prot_of, AreApart, Range}
+use Rattle.av_plain.specs.Stands.{IsKept, IsClean, AreasStand, entry_of, prot_of, Range}
 use Rattle.av_plain.proofs.Soundness.{step-sound}
-use Rattle.av_plain.proofs.WorldLaws.{pages-set, lives-set, length-set_new, length-set_old, no_pages}
+use Rattle.av_plain.proofs.WorldLaws.{pages-set, lives-set, length-set_new, length-set_old}
 use Rattle.av_pagetable.specs.Entries.{entry_at, has}
 use Rattle.av_pagetable.specs.declared.tables.Tables.{Tables}
 use Rattle.av_pagetable.specs.declared.table.MapTable.{MapTable}
 use Rattle.av_pagetable.specs.declared.pte.Pte.{Pte}
 use Rattle.av_kernel.specs.declared.mem.Mem.{Mem}
-use Rattle.av_kernel.specs.Spaces.{areas_of, is_taken, IsSpawned, IsMapped, AllApart}
+use Rattle.av_kernel.specs.Spaces.{areas_of, is_taken, IsSpawned, IsMapped}
 use Rattle.av_kernel.specs.View.{setting, plain, view, count, HasTables, Keeps}
 use Rattle.av_kernel.specs.Command.{MemSteps}
 use Rattle.av_kernel.proofs.Parts.{kept-nothing, kept-same, mapped_is, gap_agrees, page_back}

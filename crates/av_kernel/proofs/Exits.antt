@@ -1,5 +1,5 @@
 -- A process that ends: its entries, its table and its areas have gone, and nothing of the others.
-use Rattle.std.proofs.Common.{◌≡◌, ◌≢◌, ℕ, suc, ◌+◌, ◌<◌, ◌≤◌, Bool, true, false, cond, not, ◌&&◌, T, List, [], ◌∷◌, length, Option, Some, None, is_some, option_map, refl, sym, ap, subst, ◌∙◌, arith, ◌==◌}
+use Rattle.std.proofs.Common.{◌≡◌, ◌≢◌, ℕ, suc, ◌+◌, Bool, true, false, cond, not, T, List, [], ◌∷◌, length, Option, Some, None, is_some, option_map, refl, sym, ap, subst, ◌∙◌, arith, ◌==◌}
 use Rattle.std.proofs.lemmas.Bool.Decides.{nat_tests}
 use Rattle.std.proofs.lemmas.Bool.{false≢true}
 use Rattle.std.specs.Prelude.{MatchOption}
@@ -15,7 +15,7 @@ use Rattle.av_pagetable.specs.declared.table.MapTable.{MapTable}
 use Rattle.av_pagetable.specs.declared.pte.Pte.{Pte}
 use Rattle.av_pagetable.specs.declared.pte.Pte.TheVariants.{Empty}
 use Rattle.av_pagetable.specs.Entries.{entry_at, has}
-use Rattle.av_plain.specs.World.{World, Process, Page, lives, pages, end_process}
+use Rattle.av_plain.specs.World.{World, Page, lives, pages, end_process}
 use Rattle.av_plain.specs.Ledger.{Ledger, Entry, Zero, InFrame, InSlot, entry, frame_at, names_frame}
 use Rattle.av_plain.specs.Event.{after_all}
 use Rattle.av_plain.specs.Fault.{is_shared}
@@ -32,9 +32,9 @@ use Rattle.av_plain.proofs.SoundTaken.{process-ended, pages-ended}
 use Rattle.av_plain.proofs.Soundness.{step-sound}
 use Rattle.av_kernel.specs.declared.mem.Mem.{Mem}
 use Rattle.av_kernel.specs.Spaces.{areas_of, IsEnded}
-use Rattle.av_kernel.specs.View.{setting, plain, view, count, HasTables, Keeps}
+use Rattle.av_kernel.specs.View.{setting, plain, view, count, Keeps}
 use Rattle.av_kernel.specs.Command.{MemSteps}
-use Rattle.av_kernel.specs.Exit.{LedgerStands, IsOrderly, HasTaken}
+use Rattle.av_kernel.specs.Exit.{LedgerStands, HasTaken}
 use Rattle.av_kernel.proofs.Parts.{kept-nothing}
 use Rattle.av_kernel.proofs.PageParts.{no_cache, no_frame_at, no_device}
 use Rattle.av_kernel.proofs.PageSteps.{no_headers}

@@ -1,22 +1,17 @@
 -- A memory system with nothing in it stands for no memories and the empty ledger.
-use Rattle.std.proofs.Common.{◌≡◌, ℕ, ◌+◌, ◌<◌, ◌≤◌, Bool, true, false, List, [], ◌∷◌, Option, Some, None, refl, sym, ap, subst, ◌∙◌, arith, is_some}
-use Rattle.av_vma.specs.Ranges.{numbers}
-use Rattle.av_plain.specs.Transcript.{State, at_first}
-use Rattle.av_plain.specs.Ledger.{fresh}
+use Rattle.std.proofs.Common.{◌≡◌, ℕ, false, List, [], Option, Some, None, refl, sym, ap, subst, ◌∙◌, arith, is_some}
+use Rattle.av_plain.specs.Transcript.{at_first}
 use Rattle.std.specs.Prelude.{IfSome, option_map, length}
-use Rattle.av_plain.specs.Stands.{View, Range, IsKept, entry_of, is_in, prot_of, AreApart}
+use Rattle.av_plain.specs.Stands.{Range, entry_of, is_in, prot_of, AreApart}
 use Rattle.av_plain.proofs.NoSwapLaws.{is_in-numbers}
 use Rattle.av_plain.proofs.Soundness.{first-sound}
 use Rattle.av_frames.specs.Store.{Store, Seen, seen, fresh as fresh_frames}
-use Rattle.av_pagetable.specs.Entries.{has, entry_at, table_of, at_page}
-use Rattle.av_pagetable.specs.declared.pte.Pte.{Pte}
+use Rattle.av_pagetable.specs.Entries.{has, entry_at, at_page}
 use Rattle.av_pagetable.specs.declared.pte.Pte.TheVariants.{Empty}
 use Rattle.av_pagetable.specs.declared.tables.Tables.{Tables}
 use Rattle.av_pagetable.specs.declared.table.MapTable.{MapTable}
-use Rattle.av_kernel.specs.declared.mem.Mem.{Mem}
-use Rattle.av_kernel.specs.View.{setting, plain, view, count, HasTables, Keeps}
+use Rattle.av_kernel.specs.View.{setting, plain, Keeps}
 use Rattle.av_kernel.specs.Spaces.{areas_of}
-use Rattle.av_kernel.proofs.Parts.{kept-nothing}
 
 no_table : {A B : Type 0} (f : A → B) (o : Option A) → is_some o ≡ false → (option_map f o) ≡ None
 no_table f None h = refl

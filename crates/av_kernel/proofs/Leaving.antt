@@ -1,21 +1,20 @@
 -- An entry goes: what the kernel's parts stand for after it.
-use Rattle.std.proofs.Common.{◌≡◌, ◌≢◌, ℕ, ◌+◌, ◌-◌, ◌<◌, ◌≤◌, Bool, true, false, cond, not, ◌&&◌, ◌||◌, List, [], ◌∷◌, Option, Some, None, refl, sym, ap, subst, ◌∙◌, arith, ◌==◌, nat_lt, is_some}
+use Rattle.std.proofs.Common.{◌≡◌, ℕ, ◌+◌, ◌-◌, ◌<◌, ◌≤◌, Bool, true, false, cond, not, ◌&&◌, ◌||◌, List, [], ◌∷◌, Option, Some, None, refl, sym, ap, subst, ◌∙◌, arith, ◌==◌, nat_lt}
 use Rattle.std.proofs.lemmas.Bool.Decides.{nat_tests}
-use Rattle.std.proofs.lemmas.Bool.{false≢true}
-use Rattle.std.specs.Prelude.{IfSome, option_map}
+use Rattle.std.specs.Prelude.{IfSome}
 use Rattle.av_vma.specs.declared.slot.Slot.{Slot}
 use Rattle.av_vma.specs.Ranges.{with_at}
 use Rattle.av_frames.specs.Store.{is_in}
 use Rattle.av_pagetable.specs.Entries.{with_entry}
-use Rattle.av_plain.specs.Ledger.{Ledger, Setting, Key, Entry, Zero, InFrame, InSlot, entry, mapped, slot_entries, names_frame, names_slot, is_free, is_stale}
-use Rattle.av_plain.specs.Event.{Taken, after_all, taken, settle_entry, settle, unlisted, without, at, frame_of}
+use Rattle.av_plain.specs.Ledger.{Ledger, Setting, Key, Entry, Zero, InFrame, entry, mapped, slot_entries, names_frame, names_slot, is_free, is_stale}
+use Rattle.av_plain.specs.Event.{after_all, taken, settle_entry, settle, unlisted, without, at, frame_of}
 use Rattle.av_plain.specs.Fault.{is_shared}
 use Rattle.av_plain.specs.Choice.{freed, frame_under}
 use Rattle.av_plain.specs.Sound.{IsSound}
-use Rattle.av_plain.specs.Stands.{View, Pte as Plain, entry_of, FramesStand, ListsStand, TablesStand, SwapStands}
+use Rattle.av_plain.specs.Stands.{View, Pte as Plain, entry_of, TablesStand}
 use Rattle.av_plain.proofs.Laws.{weight}
 use Rattle.av_plain.proofs.LedgerLaws.{same_key, how_many-found}
-use Rattle.av_plain.proofs.NoSwapLaws.{itself, no_slot, free_is, shared_is, zero_is}
+use Rattle.av_plain.proofs.NoSwapLaws.{itself, no_slot, free_is, shared_is}
 use Rattle.av_plain.proofs.TakingLaws.{leaving, taken-is, entry-taken, mapped-taken, slot_entries-taken, same_swap-taken, taking_one-alone}
 use Rattle.av_plain.proofs.SoundTaken.{taking_one-kept}
 use Rattle.av_kernel.specs.Exit.{LedgerStand, released}

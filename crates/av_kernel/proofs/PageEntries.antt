@@ -6,7 +6,7 @@ use Rattle.av_vma.specs.declared.slot.Slot.{Slot}
 use Rattle.av_vma.specs.Ranges.{with_at}
 use Rattle.av_frames.specs.Store.{is_in}
 use Rattle.av_plain.specs.World.{World, pages}
-use Rattle.av_plain.specs.Ledger.{Ledger, Setting, Entry, Zero, InFrame, InSlot, entry, mapped, names_frame, names_slot, is_free}
+use Rattle.av_plain.specs.Ledger.{Ledger, Setting, Entry, Zero, InFrame, entry, mapped, names_frame, names_slot, is_free}
 use Rattle.av_plain.specs.Event.{set_entry, to_inactive_head, without}
 use Rattle.av_plain.specs.Stands.{View, Holds, IsKept}
 use Rattle.av_plain.proofs.Laws.{weight}

@@ -1,13 +1,10 @@
 -- The parts of a memory system whose frames stay as they are.
-use Rattle.std.proofs.Common.{◌≡◌, ◌≢◌, ℕ, ◌+◌, ◌*◌, ◌/◌, ◌<◌, ◌≤◌, Bool, true, false, cond, T, List, [], ◌∷◌, length, Option, Some, None, is_some, option_map, refl, sym, ap, subst, ◌∙◌, arith, ◌==◌}
-use Rattle.std.proofs.lemmas.Bool.Decides.{nat_tests}
-use Rattle.std.specs.Ordering.{nat_cmp, eq_by_cmp}
+use Rattle.std.proofs.Common.{◌≡◌, ℕ, Bool, Option, Some, None, is_some, option_map, refl, sym, subst, arith}
 use Rattle.av_vma.specs.Gap.{IsGap}
-use Rattle.av_vma.specs.declared.area.Prot.{Prot}
 use Rattle.std.specs.Int.{div_ceil}
-use Rattle.av_plain.specs.World.{World, Page, address_of, page_of, pages_of, is_mapped, pages}
+use Rattle.av_plain.specs.World.{Page, address_of, page_of, pages_of}
 use Rattle.av_plain.specs.Ledger.{Ledger, Entry, Zero as ZeroEntry, InFrame, InSlot, frame_at}
-use Rattle.av_plain.specs.Stands.{View, Device, Holds, IsKept, IsKeptAt, HoldsTold}
+use Rattle.av_plain.specs.Stands.{View, Holds, IsKept, IsKeptAt}
 
 pub page_back : (page : ℕ) → page_of (address_of page) ≡ page
 page_back page = omega arith

@@ -1,9 +1,8 @@
 -- The rows of `maps` as they are found: the ranges joined so far, the run that may still grow, and the ranges to come.
-use Rattle.std.proofs.Common.{◌≡◌, ℕ, ◌+◌, ◌*◌, ◌==◌, true, false, cond, Bool, ◌&&◌, List, [], ◌∷◌, ◌++◌, drop, Option, Some, None, refl, sym, ap, subst, ◌∙◌, arith, zero, suc}
+use Rattle.std.proofs.Common.{◌≡◌, ℕ, ◌*◌, ◌==◌, true, false, cond, Bool, ◌&&◌, List, [], ◌∷◌, ◌++◌, drop, Option, Some, refl, sym, ap, subst, ◌∙◌, arith, zero, suc}
 use Rattle.std.proofs.lemmas.Bool.Decides.{nat_tests}
 use Rattle.std.proofs.lemmas.Bool.{false≢true}
 use Rattle.std.proofs.lemmas.List.{append_assoc}
-use Rattle.std.specs.Prelude.{IsSome}
 use Rattle.av_vma.specs.declared.area.Area.{Area}
 use Rattle.av_vma.specs.declared.area.Prot.{Prot}
 use Rattle.av_vmatree.specs.declared.span.Span.{Span}
@@ -13,7 +12,6 @@ use Rattle.av_plain.specs.Stands.{Range, AreApart}
 use Rattle.av_plain.proofs.JoinedRanges.{run_of, joined, all_joined, longest, on-pages, cover}
 use Rattle.av_kernel.specs.Spaces.{prot_by, range_by, ranges_by, IsAreaOf, AreNumbered}
 use Rattle.av_kernel.specs.Report.{AreRuns}
-use Rattle.av_kernel.proofs.SpacesLaws.{of_area}
 
 -- ---- whether two protections are one
 

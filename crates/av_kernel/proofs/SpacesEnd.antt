@@ -1,16 +1,15 @@
 -- The areas of a process that ends go, and no other.
 use Rattle.std.proofs.Common.{◌≡◌, ◌≢◌, ℕ, ◌+◌, ◌==◌, true, false, cond, Bool, List, [], ◌∷◌, length, Option, Some, None, is_some, option_map, IfSome, refl, sym, ap, subst, ◌∙◌, arith}
 use Rattle.std.proofs.lemmas.Bool.Decides.{nat_tests}
-use Rattle.std.proofs.lemmas.Bool.{eqb-true, false≢true}
+use Rattle.std.proofs.lemmas.Bool.{eqb-true}
 use Rattle.std.proofs.lemmas.List.{length-map}
 use Rattle.std.specs.Prelude.{IsSome}
-use Rattle.std.specs.Ordering.{nat_cmp, is_eq}
+use Rattle.std.specs.Ordering.{nat_cmp}
 use Rattle.std.specs.BTreeMap.{BTreeMap, get, is_at}
 use Rattle.av_vma.specs.declared.area.Area.{Area}
 use Rattle.av_vma.specs.Ranges.{with_at}
 use Rattle.av_vmatree.specs.declared.span.Span.{Span}
 use Rattle.av_vmatree.specs.Spans.{AreDistinct, span_of}
-use Rattle.av_plain.specs.Stands.{AreApart}
 use Rattle.av_kernel.specs.Spaces.{areas_of, ranges_by, spaces_by, prot_by, IsAreaOf, AreNumbered, AreUsed, IsTree, AreTrees, IsEnded, without_areas}
 use Rattle.av_kernel.proofs.SpacesLaws.{areas_are, all_apart, of_area, at_key, not_dead}
 

@@ -1,5 +1,5 @@
 -- The numbers of `stat`, without swap and without active frames.
-use Rattle.std.proofs.Common.{◌≡◌, ℕ, ◌+◌, ◌-◌, ◌<◌, ◌≤◌, ◌==◌, true, List, [], length, Some, None, refl, sym, ap, subst, ◌∙◌, arith}
+use Rattle.std.proofs.Common.{◌≡◌, ℕ, ◌-◌, ◌<◌, ◌≤◌, ◌==◌, true, [], length, refl, sym, ap, ◌∙◌}
 use Rattle.av_vma.specs.Ranges.{how_many}
 use Rattle.av_trace.specs.declared.command.Command.TheVariants.{Stat}
 use Rattle.av_trace.specs.declared.reply.Answer.TheVariants.{Counted}

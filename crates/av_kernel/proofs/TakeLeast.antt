@@ -1,9 +1,8 @@
 -- The entry of a process's least page is taken away, or there is none.
-use Rattle.std.proofs.Common.{◌≡◌, ℕ, ◌+◌, ◌<◌, ◌≤◌, Bool, true, false, ◌&&◌, [], Option, Some, None, refl, sym, ap, subst, ◌∙◌, arith, ◌==◌, nat_lt, is_some, option_map}
+use Rattle.std.proofs.Common.{◌≡◌, ℕ, ◌<◌, ◌≤◌, Bool, true, false, ◌&&◌, [], Option, Some, None, refl, sym, ap, subst, ◌∙◌, arith, ◌==◌, nat_lt, is_some, option_map}
 use Rattle.std.proofs.lemmas.Bool.Decides.{nat_tests}
 use Rattle.std.specs.Ordering.{nat_cmp}
 use Rattle.std.specs.BTreeMap as tree_map
-use Rattle.av_vma.specs.declared.slot.Slot.{Slot}
 use Rattle.av_frames.specs.Store.{is_in, seen}
 use Rattle.av_pagetable.specs.declared.pte.Pte.{Pte}
 use Rattle.av_pagetable.specs.declared.pte.Pte.TheVariants.{Empty, Zero as ZeroPte, Here, Away}
@@ -11,14 +10,14 @@ use Rattle.av_pagetable.specs.declared.tables.Tables.{Tables}
 use Rattle.av_pagetable.specs.declared.table.MapTable.{MapTable}
 use Rattle.av_pagetable.specs.Table.{IsFirst, page_bound, or_empty, entry_in}
 use Rattle.av_pagetable.specs.Entries.{entry_at, at_page, with_entry}
-use Rattle.av_plain.specs.Ledger.{Ledger, Entry, Zero, InFrame, InSlot, entry, mapped, slot_entries, names_frame, names_slot}
+use Rattle.av_plain.specs.Ledger.{Ledger, Zero, InFrame, InSlot, entry, mapped, names_frame, names_slot}
 use Rattle.av_plain.specs.Event.{taken}
 use Rattle.av_plain.specs.Stands.{View, entry_of}
 use Rattle.av_plain.proofs.LedgerLaws.{how_many-found}
 use Rattle.av_plain.proofs.NoSwapLaws.{itself, free_is}
 use Rattle.av_kernel.specs.declared.mem.Mem.{Mem}
 use Rattle.av_kernel.specs.View.{setting, count, plain, view, joined}
-use Rattle.av_kernel.specs.Exit.{LedgerStand, LedgerStands, IsOrderly, released, TakesLeast}
+use Rattle.av_kernel.specs.Exit.{LedgerStand, LedgerStands, released, TakesLeast}
 use Rattle.av_kernel.proofs.PageParts.{no_cache}
 use Rattle.av_kernel.proofs.PageViews.{entry_put_in}
 use Rattle.av_kernel.proofs.Leaving.{zero_left, zero_freed, released_left, released_freed}

@@ -1,5 +1,4 @@
 -- What one command does to the memory system.
-use Rattle.std.specs.Prelude.{◌≡◌}
 use Rattle.av_trace.specs.declared.command.Command.{Command}
 use Rattle.av_trace.specs.declared.reply.Reply.{Reply}
 use Rattle.av_plain.specs.Transcript.{State, IsStep}

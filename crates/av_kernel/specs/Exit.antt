@@ -1,5 +1,5 @@
 -- What stands while the entries of a process go, one by one.
-use Rattle.std.specs.Prelude.{◌≡◌, ◌≢◌, ℕ, ◌+◌, ◌-◌, ◌<◌, ◌≤◌, ◌==◌, true, is_some, if◌then◌else◌, [], ◌∷◌, Option, Some, None}
+use Rattle.std.specs.Prelude.{◌≡◌, ◌≢◌, ℕ, ◌-◌, ◌<◌, ◌≤◌, ◌==◌, true, is_some, if◌then◌else◌, [], ◌∷◌, Option, Some, None}
 use Rattle.av_vma.specs.Ranges.{with_at}
 use Rattle.av_plain.specs.Ledger.{Ledger, Setting, entry}
 use Rattle.av_plain.specs.Event.{taken, after_all, notes_of}

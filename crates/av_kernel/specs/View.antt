@@ -1,9 +1,8 @@
 -- The view of the memory system, put together from what its parts are seen as.
-use Rattle.std.specs.Prelude.{◌≡◌, ℕ, Bool, false, List, [], length, Option, Some, None, is_some, T}
-use Rattle.std.specs.Ordering.{nat_cmp}
+use Rattle.std.specs.Prelude.{◌≡◌, ℕ, false, [], length, Option, Some, None, is_some, T}
 use Rattle.std.specs.FinMap.Entries.{is_sorted}
-use Rattle.av_plain.specs.World.{World, lives}
-use Rattle.av_plain.specs.Ledger.{Ledger, Setting, Entry, Zero as ZeroEntry, InFrame, InSlot, key_cmp}
+use Rattle.av_plain.specs.World.{World}
+use Rattle.av_plain.specs.Ledger.{Ledger, Setting, Zero as ZeroEntry, InFrame, InSlot, key_cmp}
 use Rattle.av_plain.specs.Transcript.{State}
 use Rattle.av_plain.specs.Sound.{AtPages}
 use Rattle.av_plain.specs.Stands.{View, Pte as Plain, Stands, FramesStand, TablesStand, SwapStands, ListsStand, AreasStand, BytesStand}

@@ -1,4 +1,4 @@
-use Rattle.std.proofs.Common.{◌≡◌, ◌∷◌, ◌∙◌, ◌+◌, refl, subst, sym, ap, drop, slice_index_or}
+use Rattle.std.proofs.Common.{◌∙◌, ◌+◌, refl, subst, sym, ap, drop, slice_index_or}
 use Rattle.std.proofs.lemmas.List.{drop_more, at_drop_all}
 use Rattle.av_vma.specs.Areas.{area_of}
 use Rattle.av_kernel.specs.Spaces.{AreUsed, without_areas}

@@ -1,12 +1,12 @@
-use Rattle.std.proofs.Common.{◌≡◌, ◌∷◌, ◌++◌, ◌∙◌, ◌+◌, List, [], refl, subst, sym, ap, drop, slice_index_or}
-use Rattle.std.proofs.lemmas.List.{drop_more, at_drop_more, at_drop_all}
+use Rattle.std.proofs.Common.{◌∷◌, ◌++◌, ◌∙◌, ◌+◌, List, [], subst, sym, ap, drop, slice_index_or}
+use Rattle.std.proofs.lemmas.List.{drop_more, at_drop_all}
 use Rattle.av_vma.specs.Areas.{area_of}
 use Rattle.av_vmatree.specs.declared.span.Span.{Span}
 use Rattle.av_plain.proofs.JoinedRanges.{all_joined}
 use Rattle.av_kernel.specs.Report.{AreRuns}
 use Rattle.av_kernel.specs.Spaces.{ranges_by, AreNumbered}
 use Rattle.av_kernel.proofs.SpacesLaws.{of_area}
-use Rattle.av_kernel.proofs.Runs.{same_prot, runs-are, numbered_rest, is_on, IsOn, IsLeft, left-first, left-grown, left-begun, left-last}
+use Rattle.av_kernel.proofs.Runs.{same_prot, runs-are, numbered_rest, is_on, IsLeft, left-first, left-grown, left-begun, left-last}
 use Rattle.av_kernel.proofs.spaces.runs_of.Goals.{then-goes_on, else-goes_on+in_ok-push}
 use Rattle.av_kernel.proofs.spaces.runs_of.Goals as goal
 

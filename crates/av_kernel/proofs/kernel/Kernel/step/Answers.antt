@@ -1,4 +1,4 @@
-use Rattle.std.proofs.Common.{◌≡◌, ℕ, ◌+◌, ◌≤◌, sym, subst, List}
+use Rattle.std.proofs.Common.{ℕ, ◌+◌, ◌≤◌, sym, subst, List}
 use Rattle.std.specs.Prelude.{slice_index}
 use Rattle.av_kernel.specs.Kernel.{word_of}
 use Rattle.av_kernel.proofs.Counting.{counted-few}

@@ -1,12 +1,10 @@
 use Rattle.std.proofs.lemmas.Bool.Decides.{nat_tests}
-use Rattle.std.proofs.Common.{◌≡◌, ◌≢◌, arith, ℕ, false, true, subst, sym, ap, ◌∙◌, refl, ◌==◌, ◌*◌, Some, None, is_some}
+use Rattle.std.proofs.Common.{◌≡◌, ◌≢◌, arith, ℕ, false, subst, sym, ◌∙◌, ◌==◌, Some, None}
 use Rattle.av_vma.specs.Gap.{IsGap}
 use Rattle.av_plain.specs.World.{pages_of}
-use Rattle.av_plain.specs.Refusal.{is_too_long}
-use Rattle.av_trace.specs.declared.reply.Reply.{Reply}
 use Rattle.av_trace.specs.declared.command.Command.TheVariants.{Mmap}
 use Rattle.av_trace.specs.declared.command.Place.TheVariants.{Auto}
-use Rattle.av_kernel.specs.Spaces.{areas_of, is_taken, IsMapped}
+use Rattle.av_kernel.specs.Spaces.{is_taken, IsMapped}
 use Rattle.av_kernel.specs.Command.{MemSteps}
 use Rattle.av_kernel.proofs.Commands.{full, mapped-steps, moved_on}
 use Rattle.av_kernel.proofs.Parts.{rounded_up}

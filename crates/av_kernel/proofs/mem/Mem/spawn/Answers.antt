@@ -1,4 +1,4 @@
-use Rattle.std.proofs.Common.{◌≡◌, false, subst, sym, ◌∙◌, arith}
+use Rattle.std.proofs.Common.{subst, sym, ◌∙◌, arith}
 use Rattle.av_trace.specs.declared.command.Command.TheVariants.{Spawn}
 use Rattle.av_kernel.specs.Command.{MemSteps}
 use Rattle.av_kernel.proofs.Commands.{spawned-steps, moved_on}

@@ -1,4 +1,4 @@
-use Rattle.std.proofs.Common.{◌≡◌, ◌-◌, ◌≤◌, subst, sym, ap, ◌∙◌, arith}
+use Rattle.std.proofs.Common.{◌-◌, subst, sym, ◌∙◌, arith}
 use Rattle.av_trace.specs.declared.command.Command.TheVariants.{Stat}
 use Rattle.av_kernel.specs.Command.{MemSteps}
 use Rattle.av_kernel.proofs.Stats.{stat-steps, same_reply}

@@ -1,4 +1,4 @@
-use Rattle.std.proofs.Common.{◌≡◌, ◌∙◌, None, refl, subst, sym, ap}
+use Rattle.std.proofs.Common.{◌∙◌, refl, subst, sym}
 use Rattle.av_kernel.specs.Exit.{TakesLeast}
 use Rattle.av_kernel.proofs.TakeLeast.{frame_used, none_taken, zero_taken, frame_taken}
 use Rattle.av_kernel.proofs.mem.Mem.take_least.Goals as goal

@@ -1,4 +1,4 @@
-use Rattle.std.proofs.Common.{◌≡◌, ◌∙◌, is_some, subst, sym, ap}
+use Rattle.std.proofs.Common.{◌∙◌, is_some, subst, sym, ap}
 use Rattle.av_vma.specs.Areas.{area_of}
 use Rattle.av_kernel.specs.Spaces.{areas_of, spaces_by, AreNumbered, AreUsed, IsEnded}
 use Rattle.av_kernel.proofs.SpacesEnd.{tree_spans, used, trees_left, ended, number_left}
