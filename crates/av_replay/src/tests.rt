@@ -80,3 +80,34 @@ fn words_and_faults(rt: HostRuntime) -> Result<(), Fail> {
     );
     Ok(())
 }
+
+#[test]
+fn refusals_and_reports(rt: HostRuntime) -> Result<(), Fail> {
+    let a = rt.alloc();
+    let trace =
+        b"# x\n\nspawn 1\nspawn 1\nmmap 1 0 rw-\nmmap 1 18446744073709551615 rw-\nmmap 2 4096 rw-\nmmap 1 4096 rw-\nwrite 1 7fffffffe000 01\nstat\nmaps 1\nexit 1\nstat\nexit 1";
+    let text =
+        b"ok\nerr EEXIST\nerr EINVAL\nerr ENOMEM\nerr ESRCH\nmap 7fffffffe000\nok\n new 1 7fffffffe000 0\nstat frames=4 free=3 active=0 inactive=1 flight=0 slots=0 freeslots=0 procs=1\nruns 1\n 7fffffffe000-7ffffffff000 rw-\nok\nstat frames=4 free=4 active=0 inactive=0 flight=0 slots=0 freeslots=0 procs=0\nerr ESRCH\n";
+    assert!(rt; gives(a, trace, text, Status::Done)?);
+    Ok(())
+}
+
+#[test]
+fn one_frame(rt: HostRuntime) -> Result<(), Fail> {
+    let trace = b"spawn 1\nmmap 1 8192 rw-\nwrite 1 7fffffffdfff aabb\nread 1 7fffffffdfff 2\n";
+    let text =
+        b"ok\nmap 7fffffffd000\noom 1 pinned=0 noslot=1 fault=0\n new 1 7fffffffd000 0\ndata aa00\n zero 1 7fffffffe000\n";
+    let ran = run_on(rt.alloc(), &["run", "1"], trace, 0, 0)?;
+    assert!(rt; ran.text.bytes() == text.as_slice());
+    Ok(())
+}
+
+#[test]
+fn as_many_lines_as_there_may_be(rt: HostRuntime) -> Result<(), Fail> {
+    let a = rt.alloc();
+    let mut trace = vec![in a; b'\n'; 1 << 24]?;
+    assert!(rt; gives(a, &trace, b"", Status::Done)?);
+    trace.push(b'\n')?;
+    assert!(rt; gives(a, &trace, b"", Status::TooMany)?);
+    Ok(())
+}
