@@ -4,12 +4,33 @@
 mod failure;
 mod help;
 
+ghost use Rattle.std.specs.Prelude.{◌≢◌, length, IsNone};
+
 use crate::failure::{Failure, number};
 use crate::help::{HELP, VERSION};
 use av_replay::{ReadSource, Status, WriteSink, run};
 use std::env;
 use std::io::{self, ErrorKind};
 use std::process::ExitCode;
+
+/// What the program tells about itself, where the only word asks for it.
+fn told(words: &[String]) -> Option<&'static str>
+    ensures { length words.now ≢ 1 → IsNone result }
+{
+    match words {
+        [word] if word.as_str() == "--help" => Some(HELP),
+        [word] if word.as_str() == "--version" => Some(VERSION),
+        _ => None,
+    }
+}
+
+/// Prints a text. It fails as a run does whose output fails.
+fn printed(rt: &HostRuntime, text: &str) -> Status {
+    match print!(rt; "{text}") {
+        Ok(()) => Status::Done,
+        Err(_) => Status::WriteFault,
+    }
+}
 
 /// Runs the program on its words, over standard input and output.
 fn replayed(rt: &HostRuntime) -> Status {
@@ -24,6 +45,9 @@ fn replayed(rt: &HostRuntime) -> Status {
         if words.push(word).is_err() {
             return Status::Memory;
         }
+    }
+    if let Some(text) = told(&words) {
+        return printed(rt, text);
     }
     let mut source = ReadSource::new(rt.reader());
     let Ok(mut sink) = WriteSink::new(rt.alloc(), io::writer(rt)) else {
