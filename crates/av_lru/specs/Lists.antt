@@ -1,0 +1,43 @@
+-- What is seen of `Lru`: how many frames there are, and the two lists, each from its head on.
+use Rattle.std.specs.Prelude.{ℕ, Bool, ◌==◌, not, cond, List, [], ◌∷◌, filter, Option, Some, None}
+use Rattle.std.specs.List.{list_any}
+use Rattle.av_lru.specs.declared.Which.{Which}
+use Rattle.av_lru.specs.declared.Which.TheVariants.{Active, Inactive}
+
+-- the value of `Lru`
+pub record Lists : Type 0 where
+  pub frames : ℕ
+  pub active : List ℕ
+  pub inactive : List ℕ
+
+-- one of the two lists
+abbrev pub listed : Which → Lists → List ℕ
+listed Active ls = ls.active
+listed Inactive ls = ls.inactive
+
+-- the same frames, with one of the two lists replaced
+abbrev pub with_list : Which → List ℕ → Lists → Lists
+with_list Active fs ls = record { frames = ls.frames; active = fs; inactive = ls.inactive }
+with_list Inactive fs ls = record { frames = ls.frames; active = ls.active; inactive = fs }
+
+-- whether a frame is in a list
+abbrev pub is_in : ℕ → List ℕ → Bool
+is_in f fs = list_any (λ g. f == g) fs
+
+-- the other frames of a list, in their order
+abbrev pub without : ℕ → List ℕ → List ℕ
+without f fs = filter (λ g. not (g == f)) fs
+
+-- both lists without a frame
+abbrev pub taken : ℕ → Lists → Lists
+taken f ls = record { frames = ls.frames; active = without f ls.active; inactive = without f ls.inactive }
+
+-- the last frame of a list
+abbrev pub last_of : Option ℕ → List ℕ → Option ℕ
+last_of before [] = before
+last_of before (g ∷ gs) = last_of (Some g) gs
+
+-- the frame just before f in a list; `before` is what stands before the list
+abbrev pub preceding : Option ℕ → ℕ → List ℕ → Option ℕ
+preceding before f [] = None
+preceding before f (g ∷ gs) = cond (g == f) before (preceding (Some g) f gs)

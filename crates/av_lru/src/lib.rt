@@ -1,0 +1,275 @@
+//! The LRU lists: the frames in use that reclaim takes last (active) and those that it looks at first (inactive).
+#![tactic(auto)]
+
+#[cfg(test)]
+mod tests;
+
+ghost use Rattle.std.specs.Prelude.{◌≡◌, ◌≢◌, ◌⊎◌, ℕ, ◌+◌, ◌-◌, ◌<◌, ◌≤◌, ◌^◌, [], ◌∷◌, ◌++◌, length, slice_index, IfOk, true, false, Some, None, nat_lt, replicate, if◌then◌else◌};
+ghost use Rattle.av_lru.specs.Lists.{listed, with_list, is_in, taken, last_of, preceding};
+ghost use Rattle.av_lru.specs.Links.{head_of, len_of, with_len, Joins, Inserts};
+
+use std::alloc::{AllocError, Global};
+use std::marker::Model;
+
+/// Which of the two lists.
+#[derive(Clone, Copy)]
+pub enum Which {
+    Active,
+    Inactive,
+}
+
+// How many frames each list has.
+#[derive(Clone, Copy)]
+struct Lens {
+    active: u32,
+    inactive: u32,
+}
+
+/// The frames of a fixed number that are in the active or the inactive list, each in one of them at most. A list has a
+/// head, where frames join, and a tail. Every call takes constant time but `new`, and only `new` takes memory.
+#[derive(Drop)]
+pub struct Lru {
+    // Each list is a ring through its head, so that no end is a case of its own. The place of a frame is its number,
+    // and the heads stand behind the frames.
+    next: Vec<usize>,
+    prev: Vec<usize>,
+    // The list that each frame is in.
+    places: Vec<Option<Which>>,
+    lens: Lens,
+}
+
+impl Model for Lru {
+    ghost use Rattle.std.specs.Prelude.{length};
+    ghost use Rattle.av_lru.specs.Lists.{Lists};
+    ghost use Rattle.av_lru.specs.Links.{lists_of, IsWhole};
+
+    ghost Value = { Lists };
+
+    ghost view = { λ a. lists_of a.next.items (length a.places.items) a.lens };
+
+    ghost invariant = { λ a. IsWhole a.next.items a.prev.items a.places.items a.lens };
+}
+
+impl Lens {
+    // One more frame in a list.
+    fn up(&mut self, which: Which)
+        requires { len_of which self.old < 2 ^ 32 - 1 }
+        ensures { self.new ≡ with_len which (len_of which self.old + 1) self.old }
+    {
+        match which {
+            Which::Active => self.active += 1,
+            Which::Inactive => self.inactive += 1,
+        }
+    }
+
+    // One frame fewer in a list.
+    fn down(&mut self, which: Which)
+        requires { 0 < len_of which self.old }
+        ensures { self.new ≡ with_len which (len_of which self.old - 1) self.old }
+    {
+        match which {
+            Which::Active => self.active -= 1,
+            Which::Inactive => self.inactive -= 1,
+        }
+    }
+}
+
+impl Lru {
+    /// Two empty lists, for frames with numbers below `frames`.
+    pub fn new(alloc: Global, frames: u32) -> Result<Lru, AllocError>
+        ensures { IfOk result (λ lru. lru ≡ record { frames = frames; active = []; inactive = [] }) }
+    {
+        let frames = frames as usize;
+        Ok(Lru {
+            next: empty_rings(alloc, frames)?,
+            prev: empty_rings(alloc, frames)?,
+            places: no_places(alloc, frames)?,
+            lens: Lens {
+                active: 0,
+                inactive: 0,
+            },
+        })
+    }
+
+    /// Puts a frame that is in no list at the head of the inactive list.
+    pub fn add(&mut self, frame: u32)
+        requires in_range { frame < self.old.frames }
+        requires not_active { is_in frame self.old.active ≡ false }
+        requires not_inactive { is_in frame self.old.inactive ≡ false }
+        ensures { self.new ≡ record self.old { inactive = frame ∷ self.old.inactive } }
+    {
+        self.add_head(Which::Inactive, frame);
+    }
+
+    /// Takes a frame out of its list, if it is in one.
+    pub fn remove(&mut self, frame: u32)
+        requires { frame < self.old.frames }
+        ensures { self.new ≡ taken frame self.old }
+    {
+        let place = frame as usize;
+        if let Some(which) = self.places[place] {
+            skip(&mut self.next, &mut self.prev, place);
+            self.places[place] = None;
+            self.lens.down(which);
+        }
+    }
+
+    /// Moves a frame to the head of the active list, out of its list if it is in one.
+    pub fn to_active(&mut self, frame: u32)
+        requires { frame < self.old.frames }
+        ensures { self.new ≡ record (taken frame self.old) { active = frame ∷ (taken frame self.old).active } }
+    {
+        self.remove(frame);
+        self.add_head(Which::Active, frame);
+    }
+
+    /// Moves a frame to the head of the inactive list, out of its list if it is in one.
+    pub fn to_inactive_head(&mut self, frame: u32)
+        requires { frame < self.old.frames }
+        ensures { self.new ≡ record (taken frame self.old) { inactive = frame ∷ (taken frame self.old).inactive } }
+    {
+        self.remove(frame);
+        self.add_head(Which::Inactive, frame);
+    }
+
+    /// Moves a frame to the tail of the inactive list, out of its list if it is in one.
+    pub fn to_inactive_tail(&mut self, frame: u32)
+        requires { frame < self.old.frames }
+        ensures { self.new ≡ record (taken frame self.old) { inactive = (taken frame self.old).inactive ++ frame ∷ [] } }
+    {
+        self.remove(frame);
+        self.add_tail(Which::Inactive, frame);
+    }
+
+    /// How many frames a list has.
+    pub fn len(&self, which: Which) -> u32
+        ensures { result ≡ length (listed which self.now) }
+    {
+        match which {
+            Which::Active => self.lens.active,
+            Which::Inactive => self.lens.inactive,
+        }
+    }
+
+    /// The frame at the tail of a list. None exactly where the list is empty.
+    pub fn tail(&self, which: Which) -> Option<u32>
+        ensures { result ≡ last_of None (listed which self.now) }
+    {
+        frame_at(self.places.len(), self.prev[head(self.places.len(), which)])
+    }
+
+    /// The frame before one that is in a list. None exactly where that is at the head.
+    pub fn before(&self, frame: u32) -> Option<u32>
+        requires { (is_in frame self.now.active ≡ true) ⊎ (is_in frame self.now.inactive ≡ true) }
+        ensures active { is_in frame self.now.active ≡ true → result ≡ preceding None frame self.now.active }
+        ensures inactive { is_in frame self.now.inactive ≡ true → result ≡ preceding None frame self.now.inactive }
+    {
+        frame_at(self.places.len(), self.prev[frame as usize])
+    }
+
+    // Puts a frame that is in no list at the head of a list.
+    fn add_head(&mut self, which: Which, frame: u32)
+        requires in_range { frame < self.old.frames }
+        requires not_active { is_in frame self.old.active ≡ false }
+        requires not_inactive { is_in frame self.old.inactive ≡ false }
+        ensures { self.new ≡ with_list which (frame ∷ listed which self.old) self.old }
+    {
+        let place = frame as usize;
+        let head = head(self.places.len(), which);
+        let first = self.next[head];
+        splice(&mut self.next, &mut self.prev, head, place, first);
+        self.places[place] = Some(which);
+        self.lens.up(which);
+    }
+
+    // Puts a frame that is in no list at the tail of a list.
+    fn add_tail(&mut self, which: Which, frame: u32)
+        requires in_range { frame < self.old.frames }
+        requires not_active { is_in frame self.old.active ≡ false }
+        requires not_inactive { is_in frame self.old.inactive ≡ false }
+        ensures { self.new ≡ with_list which (listed which self.old ++ frame ∷ []) self.old }
+    {
+        let place = frame as usize;
+        let head = head(self.places.len(), which);
+        let last = self.prev[head];
+        splice(&mut self.next, &mut self.prev, last, place, head);
+        self.places[place] = Some(which);
+        self.lens.up(which);
+    }
+}
+
+// The place of a list's head, behind the frames.
+fn head(frames: usize, which: Which) -> usize
+    requires { frames < 2 ^ 32 }
+    ensures { result ≡ head_of frames which }
+{
+    match which {
+        Which::Active => frames,
+        Which::Inactive => frames + 1,
+    }
+}
+
+// The frame whose place this is. None at a head.
+fn frame_at(frames: usize, place: usize) -> Option<u32>
+    requires { frames < 2 ^ 32 }
+    ensures { result ≡ (if nat_lt place frames then Some place else None) }
+{
+    if place < frames {
+        Some(place as u32)
+    } else {
+        None
+    }
+}
+
+// The links of two empty lists: each head leads to itself.
+fn empty_rings(alloc: Global, frames: usize) -> Result<Vec<usize>, AllocError>
+    requires { frames < 2 ^ 32 }
+    ensures { IfOk result (λ links. (length links.items ≡ frames + 2) × (slice_index links.items frames ≡ frames) × (slice_index links.items (frames + 1) ≡ frames + 1)) }
+{
+    let mut links = Vec::new(alloc);
+    links.resize(frames + 2, 0)?;
+    links[frames] = frames;
+    links[frames + 1] = frames + 1;
+    Ok(links)
+}
+
+// So many frames in no list.
+fn no_places(alloc: Global, frames: usize) -> Result<Vec<Option<Which>>, AllocError>
+    ensures { IfOk result (λ places. places.items ≡ replicate frames None) }
+{
+    let mut places = Vec::new(alloc);
+    places.resize(frames, None)?;
+    Ok(places)
+}
+
+// Joins the two neighbours of a place.
+fn skip(next: &mut Vec<usize>, prev: &mut Vec<usize>, at: usize)
+    requires at_in { (at < length next.old.items) × (at < length prev.old.items) }
+    requires before_in { slice_index prev.old.items at < length next.old.items }
+    requires after_in { slice_index next.old.items at < length prev.old.items }
+    ensures next { Joins (slice_index next.old.items) (slice_index next.new.items) (slice_index prev.old.items at) (slice_index next.old.items at) }
+    ensures prev { Joins (slice_index prev.old.items) (slice_index prev.new.items) (slice_index next.old.items at) (slice_index prev.old.items at) }
+    ensures next_len { length next.new.items ≡ length next.old.items }
+    ensures prev_len { length prev.new.items ≡ length prev.old.items }
+{
+    let before = prev[at];
+    let after = next[at];
+    next[before] = after;
+    prev[after] = before;
+}
+
+// Puts a place between two others.
+fn splice(next: &mut Vec<usize>, prev: &mut Vec<usize>, before: usize, at: usize, after: usize)
+    requires before_in { before < length next.old.items }
+    requires at_in { (at < length next.old.items) × (at < length prev.old.items) }
+    requires after_in { after < length prev.old.items }
+    requires apart { (at ≢ before) × (at ≢ after) }
+    ensures inserts { Inserts (slice_index next.old.items) (slice_index prev.old.items) (slice_index next.new.items) (slice_index prev.new.items) before at after }
+    ensures next_len { length next.new.items ≡ length next.old.items }
+    ensures prev_len { length prev.new.items ≡ length prev.old.items }
+{
+    next[before] = at;
+    next[at] = after;
+    prev[after] = at;
+    prev[at] = before;
+}
