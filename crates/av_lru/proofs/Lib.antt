@@ -1,3 +1,4 @@
 pub mod Paths
 pub mod Whole
 pub mod Steps
+pub mod Tails

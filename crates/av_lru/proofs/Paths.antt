@@ -4,7 +4,7 @@ use Rattle.std.proofs.lemmas.Bool.{cases_eq, cond-true, cond-false, not_from_tru
 use Rattle.std.proofs.lemmas.Option.{none-some, same_Some}
 use Rattle.av_lru.specs.declared.Which.{Which}
 use Rattle.av_lru.specs.Lists.{without, last_of, preceding}
-use Rattle.av_lru.specs.Links.{IsIn, IsApart, Joins, Inserts, walk, IsPath, IsRing}
+use Rattle.av_lru.specs.Links.{IsIn, AreApart, Joins, Inserts, walk, IsPath, IsRing}
 
 -- ---- lists of frames
 
@@ -48,17 +48,17 @@ IsIn-without_kept f other (g ∷ gs) found differs =
           (elim found [ inl here ↦ inl here | inr there ↦ inr (IsIn-without_kept f other gs there differs) ])
     ]
 
-IsApart-without : (f : ℕ) (fs : List ℕ) → IsApart fs → IsApart (without f fs)
-IsApart-without f [] apart = tt
-IsApart-without f (g ∷ gs) apart =
+AreApart-without : (f : ℕ) (fs : List ℕ) → AreApart fs → AreApart (without f fs)
+AreApart-without f [] apart = tt
+AreApart-without f (g ∷ gs) apart =
     elim (cases_eq g f) [
-      | inl same ↦ subst IsApart (sym (without_here f g gs same)) (IsApart-without f gs apart.1)
+      | inl same ↦ subst AreApart (sym (without_here f g gs same)) (AreApart-without f gs apart.1)
       | inr differs ↦
-          subst IsApart (sym (without_past f g gs differs))
-          (λ found. apart.0 (IsIn-without f g gs found).0, IsApart-without f gs apart.1)
+          subst AreApart (sym (without_past f g gs differs))
+          (λ found. apart.0 (IsIn-without f g gs found).0, AreApart-without f gs apart.1)
     ]
 
-pub length-without : (f : ℕ) (fs : List ℕ) → IsApart fs → IsIn f fs → length (without f fs) + 1 ≡ length fs
+pub length-without : (f : ℕ) (fs : List ℕ) → AreApart fs → IsIn f fs → length (without f fs) + 1 ≡ length fs
 length-without f [] apart found = absurd found
 length-without f (g ∷ gs) apart found =
     elim (cases_eq g f) [
@@ -89,11 +89,11 @@ IsIn-push_last : (f : ℕ) (fs : List ℕ) → IsIn f (fs ++ f ∷ [])
 IsIn-push_last f [] = inl refl
 IsIn-push_last f (g ∷ gs) = inr (IsIn-push_last f gs)
 
-IsApart-push : (f : ℕ) (fs : List ℕ) → IsApart fs → ¬ IsIn f fs → IsApart (fs ++ f ∷ [])
-IsApart-push f [] apart absent = (λ nowhere. nowhere, tt)
-IsApart-push f (g ∷ gs) apart absent = (
+AreApart-push : (f : ℕ) (fs : List ℕ) → AreApart fs → ¬ IsIn f fs → AreApart (fs ++ f ∷ [])
+AreApart-push f [] apart absent = (λ nowhere. nowhere, tt)
+AreApart-push f (g ∷ gs) apart absent = (
   λ found. elim (IsIn-push f g gs found) [ inl old ↦ apart.0 old | inr new ↦ absent (inl (sym new)) ],
-  IsApart-push f gs apart.1 (λ there. absent (inr there)),
+  AreApart-push f gs apart.1 (λ there. absent (inr there)),
 )
 
 -- ---- paths
@@ -189,7 +189,7 @@ module _ (next prev next' prev' : ℕ → ℕ) where
   )
 
   -- the first frame leaves, and the start is joined to what followed it
-  IsPath-skip_first : (from f : ℕ) (fs : List ℕ) (to : ℕ) → IsPath next prev f fs to → IsApart fs → ¬ IsIn from fs → ¬ IsIn to fs → Joins next next' from (next f) → Joins prev prev' (next f) from → IsPath next' prev' from fs to
+  IsPath-skip_first : (from f : ℕ) (fs : List ℕ) (to : ℕ) → IsPath next prev f fs to → AreApart fs → ¬ IsIn from fs → ¬ IsIn to fs → Joins next next' from (next f) → Joins prev prev' (next f) from → IsPath next' prev' from fs to
   IsPath-skip_first from f [] to path apart from_off to_off nexts prevs =
       (nexts.here ∙ path.0, ap prev' (sym path.0) ∙ prevs.here)
   IsPath-skip_first from f (g ∷ gs) to path apart from_off to_off nexts prevs = (
@@ -203,7 +203,7 @@ module _ (next prev next' prev' : ℕ → ℕ) where
   )
 
   -- a frame leaves, and its neighbours are joined
-  IsPath-skip : (from : ℕ) (fs : List ℕ) (to f : ℕ) → IsPath next prev from fs to → IsApart fs → ¬ IsIn from fs → ¬ IsIn to fs → IsIn f fs → Joins next next' (prev f) (next f) → Joins prev prev' (next f) (prev f) → IsPath next' prev' from (without f fs) to
+  IsPath-skip : (from : ℕ) (fs : List ℕ) (to f : ℕ) → IsPath next prev from fs to → AreApart fs → ¬ IsIn from fs → ¬ IsIn to fs → IsIn f fs → Joins next next' (prev f) (next f) → Joins prev prev' (next f) (prev f) → IsPath next' prev' from (without f fs) to
   IsPath-skip from [] to f path apart from_off to_off found nexts prevs = absurd found
   IsPath-skip from (g ∷ gs) to f path apart from_off to_off found nexts prevs =
       elim (cases_eq g f) [
@@ -222,7 +222,7 @@ module _ (next prev next' prev' : ℕ → ℕ) where
       ]
 
   -- a frame joins at the end
-  IsPath-push : (from : ℕ) (fs : List ℕ) (to f : ℕ) → IsPath next prev from fs to → IsApart fs → ¬ IsIn from fs → ¬ IsIn to fs → ¬ IsIn f fs → from ≢ f → Inserts next prev next' prev' (prev to) f to → IsPath next' prev' from (fs ++ f ∷ []) to
+  IsPath-push : (from : ℕ) (fs : List ℕ) (to f : ℕ) → IsPath next prev from fs to → AreApart fs → ¬ IsIn from fs → ¬ IsIn to fs → ¬ IsIn f fs → from ≢ f → Inserts next prev next' prev' (prev to) f to → IsPath next' prev' from (fs ++ f ∷ []) to
   IsPath-push from [] to f path apart from_off to_off absent other splices =
       (ap next' (sym path.1) ∙ splices.into, splices.back_out ∙ path.1, (splices.out, splices.back_into))
   IsPath-push from (g ∷ gs) to f path apart from_off to_off absent other splices =
@@ -233,7 +233,7 @@ module _ (next prev next' prev' : ℕ → ℕ) where
       )
 
   -- a frame joins at the start of a ring
-  IsPath-front : (head : ℕ) (fs : List ℕ) (f : ℕ) → IsPath next prev head fs head → IsApart fs → ¬ IsIn head fs → ¬ IsIn f fs → head ≢ f → Inserts next prev next' prev' head f (next head) → IsPath next' prev' head (f ∷ fs) head
+  IsPath-front : (head : ℕ) (fs : List ℕ) (f : ℕ) → IsPath next prev head fs head → AreApart fs → ¬ IsIn head fs → ¬ IsIn f fs → head ≢ f → Inserts next prev next' prev' head f (next head) → IsPath next' prev' head (f ∷ fs) head
   IsPath-front head [] f path apart off absent other splices =
       (splices.into, splices.back_out, (splices.out ∙ path.0, ap prev' (sym path.0) ∙ splices.back_into))
   IsPath-front head (g ∷ gs) f path apart off absent other splices = (
@@ -273,7 +273,7 @@ module _ (next prev next' prev' : ℕ → ℕ) where
         let off : ¬ IsIn head fs = off_ring fs ring in
         record {
           linked = IsPath-skip head fs head f ring.linked ring.apart off off (ring.listed f was) nexts prevs;
-          apart = IsApart-without f fs ring.apart;
+          apart = AreApart-without f fs ring.apart;
           placed = λ other found. let old = IsIn-without f other fs found in others other old.1 ∙ ring.placed other old.0;
           listed = λ other now.
               let differs : other ≢ f = λ same. none-some which (sym left ∙ ap place' (sym same) ∙ now) in
@@ -286,7 +286,7 @@ module _ (next prev next' prev' : ℕ → ℕ) where
         let absent : ¬ IsIn f fs = λ found. none-some which (sym free ∙ ring.placed f found) in
         record {
           linked = IsPath-push head fs head f ring.linked ring.apart off off absent differs splices;
-          apart = IsApart-push f fs ring.apart absent;
+          apart = AreApart-push f fs ring.apart absent;
           placed = λ other found.
               elim (IsIn-push f other fs found) [
                 | inl old ↦ others other (λ same. absent (subst (λ k. IsIn k fs) same old)) ∙ ring.placed other old

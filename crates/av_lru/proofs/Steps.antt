@@ -1,21 +1,23 @@
 -- What the calls of `Lru` show, from the values that the code reads.
-use Rattle.std.proofs.Common.{◌≡◌, ◌≢◌, ◌⊎◌, ℕ, ◌+◌, ◌-◌, ◌<◌, ◌≤◌, ◌^◌, cond, true, false, List, [], ◌∷◌, ◌++◌, length, zero, suc, get_or, slice_set, Option, Some, None, refl, sym, ap, ◌∙◌, subst, arith, inl, inr, replicate, count_by}
+use Rattle.std.proofs.Common.{◌≡◌, ◌≢◌, ◌⊎◌, ℕ, ◌+◌, ◌-◌, ◌<◌, ◌≤◌, ◌^◌, cond, true, false, List, [], ◌∷◌, ◌++◌, length, zero, suc, get_or, slice_set, Option, Some, None, refl, sym, ap, ◌∙◌, subst, arith, inl, inr, replicate, count_by, min, take, reverse}
 use Rattle.std.specs.Prelude.{slice_index}
+use Rattle.std.proofs.lemmas.Bool.{cond-true, cond-false}
 use Rattle.std.proofs.lemmas.Option.{none-some}
 use Rattle.std.proofs.lemmas.List.{length-replicate}
 use Rattle.std.proofs.lemmas.List.Folds.{sum_by-replicate}
 use Rattle.av_lru.specs.declared.Which.{Which}
 use Rattle.av_lru.specs.declared.Which.TheVariants.{Active, Inactive}
-use Rattle.av_lru.specs.declared.Lens.{Lens}
-use Rattle.av_lru.specs.Lists.{Lists, listed, with_list, is_in, without, taken, last_of, preceding}
-use Rattle.av_lru.specs.Links.{head_of, len_of, with_len, Joins, Inserts, lists_of, place_of, IsWhole, is_off, IsIn, IsRing}
+use Rattle.av_lru.specs.declared.Lengths.{Lengths}
+use Rattle.av_lru.specs.Lists.{Lists, listed, with_list, is_in, without, taken, last_of, preceding, place_in, IsApart}
+use Rattle.av_lru.specs.Links.{head_of, len_of, with_len, Joins, Inserts, lists_of, place_of, IsWhole, is_off, IsIn, IsRing, walk, after_links}
 use Rattle.av_lru.proofs.Paths.{IsIn-without, frame_at, frame_past, last_path, prev_path}
-use Rattle.av_lru.proofs.Whole.{read, read_place, head_below, head_past, free_place, first_on, last_on, on_below, off_ring, room, front, push, Shows, before_on, after_on, some, leaves, taken_free, not_in, in_found, ring, placed_below, length-listed, shows}
+use Rattle.av_lru.proofs.Tails.{back_in, tails_path}
+use Rattle.av_lru.proofs.Whole.{found_in, is_apart, read, read_place, head_below, head_past, free_place, first_on, last_on, on_below, off_ring, room, front, push, Shows, before_on, after_on, some, leaves, taken_free, not_in, in_found, ring, placed_below, length-listed, shows}
 
 abbrev pub Reads : List ℕ → ℕ → ℕ → Type 0
 Reads xs i x = x ≡ get_or xs i x
 
-module _ (links back : List ℕ) (places : List (Option Which)) (lens : Lens) (whole : IsWhole links back places lens) (ls : Lists) (seen : lists_of links (length places) lens ≡ ls) where
+module _ (links back : List ℕ) (places : List (Option Which)) (lens : Lengths) (whole : IsWhole links back places lens) (ls : Lists) (seen : lists_of links (length places) lens ≡ ls) where
   pub in_places : (f : ℕ) → f < ls.frames → f < length places
   in_places f h = subst (λ (v : Lists). f < v.frames) (sym seen) h
 
@@ -50,13 +52,13 @@ module _ (links back : List ℕ) (places : List (Option Which)) (lens : Lens) (w
       pub not_first : f ≢ first
       not_first same = off_ring links back places lens whole f below free w _ (first_on links back places lens whole w) (sym first_is ∙ sym same)
 
-      pub fronted : (links' back' : List ℕ) (lens' : Lens) → length links' ≡ length links → length back' ≡ length back
+      pub fronted : (links' back' : List ℕ) (lens' : Lengths) → length links' ≡ length links → length back' ≡ length back
         → Inserts (slice_index links) (slice_index back) (slice_index links') (slice_index back') h f first
         → lens' ≡ with_len w (len_of w lens + 1) lens
         → Shows links' back' (slice_set places f (Some w)) lens' (with_list w (f ∷ listed w ls) ls)
       fronted links' back' lens' next prev splices lengths =
           subst (λ (v : Lists). Shows links' back' (slice_set places f (Some w)) lens' (with_list w (f ∷ listed w v) v)) seen
-          (subst (λ (l : Lens). Shows links' back' (slice_set places f (Some w)) l (with_list w (f ∷ listed w (lists_of links (length places) lens)) (lists_of links (length places) lens))) (sym lengths)
+          (subst (λ (l : Lengths). Shows links' back' (slice_set places f (Some w)) l (with_list w (f ∷ listed w (lists_of links (length places) lens)) (lists_of links (length places) lens))) (sym lengths)
           (front links back places lens whole w f below free links' back' next prev
           (subst (λ m. Inserts (slice_index links) (slice_index back) (slice_index links') (slice_index back') (head_of (length places) w) f m) first_is
           (subst (λ m. Inserts (slice_index links) (slice_index back) (slice_index links') (slice_index back') m f first) head_is splices))))
@@ -71,13 +73,13 @@ module _ (links back : List ℕ) (places : List (Option Which)) (lens : Lens) (w
       pub not_last : f ≢ last
       not_last same = off_ring links back places lens whole f below free w _ (last_on links back places lens whole w) (sym last_is ∙ sym same)
 
-      pub pushed : (links' back' : List ℕ) (lens' : Lens) → length links' ≡ length links → length back' ≡ length back
+      pub pushed : (links' back' : List ℕ) (lens' : Lengths) → length links' ≡ length links → length back' ≡ length back
         → Inserts (slice_index links) (slice_index back) (slice_index links') (slice_index back') last f h
         → lens' ≡ with_len w (len_of w lens + 1) lens
         → Shows links' back' (slice_set places f (Some w)) lens' (with_list w (listed w ls ++ f ∷ []) ls)
       pushed links' back' lens' next prev splices lengths =
           subst (λ (v : Lists). Shows links' back' (slice_set places f (Some w)) lens' (with_list w (listed w v ++ f ∷ []) v)) seen
-          (subst (λ (l : Lens). Shows links' back' (slice_set places f (Some w)) l (with_list w (listed w (lists_of links (length places) lens) ++ f ∷ []) (lists_of links (length places) lens))) (sym lengths)
+          (subst (λ (l : Lengths). Shows links' back' (slice_set places f (Some w)) l (with_list w (listed w (lists_of links (length places) lens) ++ f ∷ []) (lists_of links (length places) lens))) (sym lengths)
           (push links back places lens whole w f below free links' back' next prev
           (subst (λ m. Inserts (slice_index links) (slice_index back) (slice_index links') (slice_index back') m f (head_of (length places) w)) last_is
           (subst (λ m. Inserts (slice_index links) (slice_index back) (slice_index links') (slice_index back') last f m) head_is splices))))
@@ -104,14 +106,14 @@ module _ (links back : List ℕ) (places : List (Option Which)) (lens : Lens) (w
       pub is_some : 0 < len_of w lens
       is_some = some links back places lens whole w f was
 
-      pub left : (links' back' : List ℕ) (lens' : Lens) → length links' ≡ length links → length back' ≡ length back
+      pub left : (links' back' : List ℕ) (lens' : Lengths) → length links' ≡ length links → length back' ≡ length back
         → Joins (slice_index links) (slice_index links') (slice_index back f) (slice_index links f)
         → Joins (slice_index back) (slice_index back') (slice_index links f) (slice_index back f)
         → lens' ≡ with_len w (len_of w lens - 1) lens
         → Shows links' back' (slice_set places f None) lens' (taken f ls)
       left links' back' lens' next prev nexts prevs lengths =
           subst (λ (v : Lists). Shows links' back' (slice_set places f None) lens' (taken f v)) seen
-          (subst (λ (l : Lens). Shows links' back' (slice_set places f None) l (taken f (lists_of links (length places) lens))) (sym lengths)
+          (subst (λ (l : Lengths). Shows links' back' (slice_set places f None) l (taken f (lists_of links (length places) lens))) (sym lengths)
           (leaves links back places lens whole w f was links' back' next prev nexts prevs))
 
   -- ---- what is read
@@ -144,6 +146,73 @@ module _ (links back : List ℕ) (places : List (Option Which)) (lens : Lens) (w
       ∙ subst (λ (v : Lists). frame_at (length places) (slice_index back f) ≡ preceding None f (listed w v)) seen
       (prev_path (slice_index links) (slice_index back) (length places) _ _ _ None f (ring links back places lens whole w).linked
       (λ g inside'. placed_below links back places lens g w ((ring links back places lens whole w).placed g inside')) (frame_past (length places) _ (head_past (length places) w)) there)
+
+  pub within_frames : (w : Which) → len_of w lens ≤ ls.frames
+  within_frames w = subst (λ (v : Lists). len_of w lens ≤ v.frames) seen (by w)
+    where
+      by : (w : Which) → len_of w lens ≤ length places
+      by Active = let t = whole.total in omega (arith, t)
+      by Inactive = let t = whole.total in omega (arith, t)
+
+  pub apart_is : (w : Which) → IsApart (listed w ls)
+  apart_is w = subst (λ (v : Lists). IsApart (listed w v)) seen (is_apart _ (ring links back places lens whole w).apart)
+
+  pub in_frames : (w : Which) (f : ℕ) → is_in f (listed w ls) ≡ true → f < ls.frames
+  in_frames w = subst (λ (v : Lists). (f : ℕ) → is_in f (listed w v) ≡ true → f < v.frames) seen
+    (λ f inside. placed_below links back places lens f w ((ring links back places lens whole w).placed f (in_found f _ inside)))
+
+  -- membership in each list, by the vector of the places
+  module _ (f : ℕ) where
+    inside : (w : Which) → place_of places f ≡ Some w → is_in f (listed w (lists_of links (length places) lens)) ≡ true
+    inside w h = found_in f _ ((ring links back places lens whole w).listed f h)
+
+    outside : (w : Which) → (place_of places f ≡ Some w → ⊥) → is_in f (listed w (lists_of links (length places) lens)) ≡ false
+    outside w h = not_in f _ (λ there. h ((ring links back places lens whole w).placed f there))
+
+    pub never_both : is_in f ls.active ≡ true → is_in f ls.inactive ≡ false
+    never_both = subst (λ (v : Lists). is_in f v.active ≡ true → is_in f v.inactive ≡ false) seen
+      (λ h. outside Inactive (λ other. differ (sym ((ring links back places lens whole Active).placed f (in_found f _ h)) ∙ other)))
+      where
+        differ : Some Active ≡ Some Inactive → ⊥
+        differ e = cc
+
+    pub place_is : (o : Option Which) → f < ls.frames → o ≡ get_or places f o → o ≡ place_in f ls
+    place_is o in_range reads = subst (λ (v : Lists). o ≡ place_in f v) seen (by o (read_place places f o reads (in_places f in_range)))
+      where
+        by : (o : Option Which) → place_of places f ≡ o → o ≡ place_in f (lists_of links (length places) lens)
+        by None e = sym (cond-false _ _ _ (outside Active (λ h. none-some Active (sym e ∙ h))) ∙ cond-false _ _ _ (outside Inactive (λ h. none-some Inactive (sym e ∙ h))))
+        by (Some Active) e = sym (cond-true _ _ _ (inside Active e))
+        by (Some Inactive) e = sym (cond-false _ _ _ (outside Active (λ h. differ (sym h ∙ e))) ∙ cond-true _ _ _ (inside Inactive e))
+          where
+            differ : Some Active ≡ Some Inactive → ⊥
+            differ e = cc
+
+  -- the way back from a list's head
+  module _ (w : Which) (n h count k steps : ℕ) (size : n ≡ length places) (head : h ≡ head_of n w) (len : k ≡ length (listed w ls)) (is : steps ≡ min count k) where
+    head_at : h ≡ head_of (length places) w
+    head_at = head ∙ ap (λ m. head_of m w) size
+
+    len_at : k ≡ length (listed w (lists_of links (length places) lens))
+    len_at = subst (λ (v : Lists). k ≡ length (listed w v)) (sym seen) len
+
+    on_way : (i : ℕ) → i < steps → after_links (slice_index back) (suc i) h < length places
+    on_way i less = subst (λ m. after_links (slice_index back) (suc i) m < length places) (sym head_at)
+      (placed_below links back places lens _ w ((ring links back places lens whole w).placed _
+      (back_in (slice_index links) (slice_index back) _ _ _ i (ring links back places lens whole w).linked (let a = len_at in omega (arith, less, is, a)))))
+
+    pub way_within : (i : ℕ) → i < steps → after_links (slice_index back) i h < length back
+    way_within zero less = let a = subst (λ m. m < length places + 2) (sym head_at) (head_below (length places) w) in let b = whole.prev in omega (arith, a, b)
+    way_within (suc i) less = let a = on_way i (omega (arith, less)) in let b = whole.prev in omega (arith, a, b)
+
+    pub way_small : (i : ℕ) → i < steps → after_links (slice_index back) (i + 1) h < 2 ^ 32
+    way_small i less =
+        let a = on_way i less in let b = whole.few in
+        subst (λ m. after_links (slice_index back) m h < 2 ^ 32) (let e : suc i ≡ i + 1 = omega arith in e) (omega (arith, a, b))
+
+    pub tails_are : walk (slice_index back) steps h ≡ take count (reverse (listed w ls))
+    tails_are = subst (λ (v : Lists). walk (slice_index back) steps h ≡ take count (reverse (listed w v))) seen
+      (ap (walk (slice_index back) steps) head_at
+      ∙ tails_path (slice_index links) (slice_index back) _ (listed w (lists_of links (length places) lens)) _ count steps (ring links back places lens whole w).linked (is ∙ ap (min count) len_at))
 
 -- a frame is not among the others
 pub gone : (f : ℕ) (fs : List ℕ) → is_in f (without f fs) ≡ false

@@ -8,9 +8,9 @@ use Rattle.std.proofs.lemmas.List.Sums.{sum_by-set}
 use Rattle.std.proofs.lemmas.Option.{none-some, same_Some}
 use Rattle.av_lru.specs.declared.Which.{Which}
 use Rattle.av_lru.specs.declared.Which.TheVariants.{Active, Inactive}
-use Rattle.av_lru.specs.declared.Lens.{Lens}
-use Rattle.av_lru.specs.Lists.{Lists, listed, with_list, is_in, without, taken}
-use Rattle.av_lru.specs.Links.{head_of, len_of, with_len, is_off, IsIn, IsApart, Joins, Inserts, walk, frames_of, lists_of, IsPath, IsRing, place_of, IsWhole}
+use Rattle.av_lru.specs.declared.Lengths.{Lengths}
+use Rattle.av_lru.specs.Lists.{Lists, listed, with_list, is_in, without, taken, IsApart}
+use Rattle.av_lru.specs.Links.{head_of, len_of, with_len, is_off, IsIn, AreApart, Joins, Inserts, walk, frames_of, lists_of, IsPath, IsRing, place_of, IsWhole}
 use Rattle.av_lru.proofs.Paths.{IsOn, without_absent, length-without, length-walk, walk_path, prev_end_on, next_start_on, prev_on, next_on, IsRing-kept, IsRing-skip, IsRing-push, IsRing-front}
 
 -- ---- the two lists
@@ -35,11 +35,11 @@ pub head_past : (n : ℕ) (w : Which) → n ≤ head_of n w
 head_past n Active = omega arith
 head_past n Inactive = omega arith
 
-len_same : (w : Which) (n : ℕ) (lens : Lens) → len_of w (with_len w n lens) ≡ n
+len_same : (w : Which) (n : ℕ) (lens : Lengths) → len_of w (with_len w n lens) ≡ n
 len_same Active n lens = refl
 len_same Inactive n lens = refl
 
-len_other : (v w : Which) (n : ℕ) (lens : Lens) → v ≢ w → len_of v (with_len w n lens) ≡ len_of v lens
+len_other : (v w : Which) (n : ℕ) (lens : Lengths) → v ≢ w → len_of v (with_len w n lens) ≡ len_of v lens
 len_other Active Active n lens ne = absurd (ne refl)
 len_other Active Inactive n lens ne = refl
 len_other Inactive Active n lens ne = refl
@@ -90,6 +90,10 @@ found_in f (g ∷ gs) found =
 pub absent_in : (f : ℕ) (fs : List ℕ) → is_in f fs ≡ false → ¬ IsIn f fs
 absent_in f fs h found = false≢true (sym h ∙ found_in f fs found)
 
+pub is_apart : (fs : List ℕ) → AreApart fs → IsApart fs
+is_apart [] apart = tt
+is_apart (g ∷ gs) apart = (not_in g gs apart.0, is_apart gs apart.1)
+
 -- a read whose default is the item itself
 pub read : (xs : List ℕ) (i x : ℕ) → x ≡ get_or xs i x → i < length xs → x ≡ slice_index xs i
 read [] i x h below = absurd (omega arith)
@@ -102,7 +106,7 @@ read_place (y ∷ ys) zero x h below = sym h
 read_place (y ∷ ys) (suc i) x h below = read_place ys i x h (omega arith)
 
 -- the fields are fit, and a contract sees these lists
-pub record Shows (links back : List ℕ) (places : List (Option Which)) (lens : Lens) (ls : Lists) : Type 0 where
+pub record Shows (links back : List ℕ) (places : List (Option Which)) (lens : Lengths) (ls : Lists) : Type 0 where
   pub whole : IsWhole links back places lens
   pub seen : lists_of links (length places) lens ≡ ls
 
@@ -115,7 +119,7 @@ unfolding frames_of
 length-frames_of links n head = length-walk (slice_index links) n head
 
 -- rings of the right lengths are what is seen
-pub shows : (links back : List ℕ) (places : List (Option Which)) (lens : Lens) (ls : Lists) (n : ℕ)
+pub shows : (links back : List ℕ) (places : List (Option Which)) (lens : Lengths) (ls : Lists) (n : ℕ)
   → length places ≡ n → ls.frames ≡ n → n < 2 ^ 32 → length links ≡ n + 2 → length back ≡ n + 2
   → lens.active + lens.inactive + count_by is_off places ≡ n
   → ((v : Which) → IsRing (slice_index links) (slice_index back) (place_of places) v (head_of n v) (listed v ls))
@@ -140,7 +144,7 @@ shows links back places lens ls n size frames few next prev total rings lengths 
     is : (v : Which) → frames_of links (len_of v lens) (head_of n v) ≡ listed v ls
     is v = frames_of_ring links back (len_of v lens) (head_of n v) (listed v ls) (rings v).linked (lengths v)
 
-module _ (links back : List ℕ) (places : List (Option Which)) (lens : Lens) where
+module _ (links back : List ℕ) (places : List (Option Which)) (lens : Lengths) where
   -- a list as it is read off the links
   abbrev pub list_at : Which → List ℕ
   list_at v = frames_of links (len_of v lens) (head_of (length places) v)

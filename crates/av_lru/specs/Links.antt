@@ -1,7 +1,7 @@
 -- How `Lru` lays out its lists: each is a ring of places through its head. The place of a frame is its number, and the heads stand behind the frames.
 use Rattle.std.specs.Prelude.{◌≡◌, ◌≢◌, ◌⊎◌, ℕ, zero, suc, ◌+◌, ◌<◌, ◌^◌, Bool, true, false, List, [], ◌∷◌, length, Option, Some, None, count_by, slice_index, slice_index_or}
 use Rattle.av_lru.specs.Lists.{Lists}
-use Rattle.av_lru.specs.declared.Lens.{Lens}
+use Rattle.av_lru.specs.declared.Lengths.{Lengths}
 use Rattle.av_lru.specs.declared.Which.{Which}
 use Rattle.av_lru.specs.declared.Which.TheVariants.{Active, Inactive}
 
@@ -11,12 +11,12 @@ head_of frames Active = frames
 head_of frames Inactive = frames + 1
 
 -- the length of one of the lists
-abbrev pub len_of : Which → Lens → ℕ
+abbrev pub len_of : Which → Lengths → ℕ
 len_of Active lens = lens.active
 len_of Inactive lens = lens.inactive
 
 -- the lengths, with one of them replaced
-abbrev pub with_len : Which → ℕ → Lens → Lens
+abbrev pub with_len : Which → ℕ → Lengths → Lengths
 with_len Active n lens = record lens { active = n }
 with_len Inactive n lens = record lens { inactive = n }
 
@@ -31,9 +31,9 @@ IsIn f [] = ⊥
 IsIn f (g ∷ gs) = (g ≡ f) ⊎ IsIn f gs
 
 -- no frame is there twice
-abbrev pub IsApart : List ℕ → Type 0
-IsApart [] = Unit {0}
-IsApart (g ∷ gs) = (¬ IsIn g gs) × IsApart gs
+abbrev pub AreApart : List ℕ → Type 0
+AreApart [] = Unit {0}
+AreApart (g ∷ gs) = (¬ IsIn g gs) × AreApart gs
 
 -- the links lead from every place where the old ones do, but from this one to that one
 pub record Joins (old new : ℕ → ℕ) (from to : ℕ) : Type 0 where
@@ -54,12 +54,17 @@ abbrev pub walk : (ℕ → ℕ) → ℕ → ℕ → List ℕ
 walk next zero from = []
 walk next (suc count) from = next from ∷ walk next count (next from)
 
+-- the place that so many links lead to
+abbrev pub after_links : (ℕ → ℕ) → ℕ → ℕ → ℕ
+after_links next zero from = from
+after_links next (suc n) from = next (after_links next n from)
+
 -- the frames of a list
 unfoldable pub frames_of : List ℕ → ℕ → ℕ → List ℕ
 frames_of nexts count head = walk (slice_index nexts) count head
 
 -- what a contract sees
-abbrev pub lists_of : List ℕ → ℕ → Lens → Lists
+abbrev pub lists_of : List ℕ → ℕ → Lengths → Lists
 lists_of nexts frames lens = record { frames = frames; active = frames_of nexts lens.active frames; inactive = frames_of nexts lens.inactive (frames + 1) }
 
 module _ (next prev : ℕ → ℕ) where
@@ -71,7 +76,7 @@ module _ (next prev : ℕ → ℕ) where
   -- the ring through a head has these frames, each once, which are those that are placed in the list
   pub record IsRing (place : ℕ → Option Which) (which : Which) (head : ℕ) (fs : List ℕ) : Type 0 where
     pub linked : IsPath head fs head
-    pub apart : IsApart fs
+    pub apart : AreApart fs
     pub placed : (f : ℕ) → IsIn f fs → place f ≡ Some which
     pub listed : (f : ℕ) → place f ≡ Some which → IsIn f fs
 
@@ -80,7 +85,7 @@ abbrev pub place_of : List (Option Which) → ℕ → Option Which
 place_of places f = slice_index_or places f None
 
 -- the fields of `Lru` fit together
-pub record IsWhole (links back : List ℕ) (places : List (Option Which)) (lens : Lens) : Type 0 where
+pub record IsWhole (links back : List ℕ) (places : List (Option Which)) (lens : Lengths) : Type 0 where
   pub few : length places < 2 ^ 32
   pub next : length links ≡ length places + 2
   pub prev : length back ≡ length places + 2

@@ -1,5 +1,5 @@
 -- What is seen of `Lru`: how many frames there are, and the two lists, each from its head on.
-use Rattle.std.specs.Prelude.{ℕ, Bool, ◌==◌, not, cond, List, [], ◌∷◌, filter, Option, Some, None}
+use Rattle.std.specs.Prelude.{◌≡◌, ℕ, Bool, false, ◌==◌, not, cond, if◌then◌else◌, List, [], ◌∷◌, filter, Option, Some, None}
 use Rattle.std.specs.List.{list_any}
 use Rattle.av_lru.specs.declared.Which.{Which}
 use Rattle.av_lru.specs.declared.Which.TheVariants.{Active, Inactive}
@@ -23,6 +23,15 @@ with_list Inactive fs ls = record { frames = ls.frames; active = ls.active; inac
 -- whether a frame is in a list
 abbrev pub is_in : ℕ → List ℕ → Bool
 is_in f fs = list_any (λ g. f == g) fs
+
+-- no frame is there twice
+abbrev pub IsApart : List ℕ → Type 0
+IsApart [] = Unit {0}
+IsApart (g ∷ gs) = (is_in g gs ≡ false) × IsApart gs
+
+-- the list that a frame is in
+abbrev pub place_in : ℕ → Lists → Option Which
+place_in f ls = if is_in f ls.active then Some Active else (if is_in f ls.inactive then Some Inactive else None)
 
 -- the other frames of a list, in their order
 abbrev pub without : ℕ → List ℕ → List ℕ

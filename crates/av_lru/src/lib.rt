@@ -4,15 +4,15 @@
 #[cfg(test)]
 mod tests;
 
-ghost use Rattle.std.specs.Prelude.{◌≡◌, ◌≢◌, ◌⊎◌, ℕ, ◌+◌, ◌-◌, ◌<◌, ◌≤◌, ◌^◌, [], ◌∷◌, ◌++◌, length, slice_index, IfOk, true, false, Some, None, nat_lt, replicate, if◌then◌else◌};
-ghost use Rattle.av_lru.specs.Lists.{listed, with_list, is_in, taken, last_of, preceding};
-ghost use Rattle.av_lru.specs.Links.{head_of, len_of, with_len, Joins, Inserts};
+ghost use Rattle.std.specs.Prelude.{◌≡◌, ◌≢◌, ◌⊎◌, ℕ, ◌+◌, ◌-◌, ◌<◌, ◌≤◌, ◌^◌, [], ◌∷◌, ◌++◌, length, slice_index, IfOk, true, false, Some, None, nat_lt, replicate, take, reverse, vec_capacity, if◌then◌else◌};
+ghost use Rattle.av_lru.specs.Lists.{listed, with_list, is_in, taken, last_of, preceding, place_in, IsApart};
+ghost use Rattle.av_lru.specs.Links.{head_of, len_of, with_len, Joins, Inserts, walk, after_links};
 
 use std::alloc::{AllocError, Global};
 use std::marker::Model;
 
 /// Which of the two lists.
-#[derive(Clone, Copy)]
+#[derive(Clone, Copy, Drop, Debug, PartialEq, Eq)]
 pub enum Which {
     Active,
     Inactive,
@@ -20,7 +20,7 @@ pub enum Which {
 
 // How many frames each list has.
 #[derive(Clone, Copy)]
-struct Lens {
+struct Lengths {
     active: u32,
     inactive: u32,
 }
@@ -35,7 +35,7 @@ pub struct Lru {
     prev: Vec<usize>,
     // The list that each frame is in.
     places: Vec<Option<Which>>,
-    lens: Lens,
+    lengths: Lengths,
 }
 
 impl Model for Lru {
@@ -45,12 +45,21 @@ impl Model for Lru {
 
     ghost Value = { Lists };
 
-    ghost view = { λ a. lists_of a.next.items (length a.places.items) a.lens };
+    ghost view = { λ a. lists_of a.next.items (length a.places.items) a.lengths };
 
-    ghost invariant = { λ a. IsWhole a.next.items a.prev.items a.places.items a.lens };
+    ghost invariant = { λ a. IsWhole a.next.items a.prev.items a.places.items a.lengths };
 }
 
-impl Lens {
+impl Lengths {
+    fn of(&self, which: Which) -> u32
+        ensures { result ≡ len_of which self.now }
+    {
+        match which {
+            Which::Active => self.active,
+            Which::Inactive => self.inactive,
+        }
+    }
+
     // One more frame in a list.
     fn up(&mut self, which: Which)
         requires { len_of which self.old < 2 ^ 32 - 1 }
@@ -84,7 +93,7 @@ impl Lru {
             next: empty_rings(alloc, frames)?,
             prev: empty_rings(alloc, frames)?,
             places: no_places(alloc, frames)?,
-            lens: Lens {
+            lengths: Lengths {
                 active: 0,
                 inactive: 0,
             },
@@ -110,11 +119,12 @@ impl Lru {
         if let Some(which) = self.places[place] {
             skip(&mut self.next, &mut self.prev, place);
             self.places[place] = None;
-            self.lens.down(which);
+            self.lengths.down(which);
         }
     }
 
     /// Moves a frame to the head of the active list, out of its list if it is in one.
+    #[tactic(auto, using(crate::proofs::Steps::gone))]
     pub fn to_active(&mut self, frame: u32)
         requires { frame < self.old.frames }
         ensures { self.new ≡ record (taken frame self.old) { active = frame ∷ (taken frame self.old).active } }
@@ -124,15 +134,17 @@ impl Lru {
     }
 
     /// Moves a frame to the head of the inactive list, out of its list if it is in one.
+    #[tactic(auto, using(crate::proofs::Steps::gone))]
     pub fn to_inactive_head(&mut self, frame: u32)
         requires { frame < self.old.frames }
         ensures { self.new ≡ record (taken frame self.old) { inactive = frame ∷ (taken frame self.old).inactive } }
     {
         self.remove(frame);
-        self.add_head(Which::Inactive, frame);
+        self.add(frame);
     }
 
     /// Moves a frame to the tail of the inactive list, out of its list if it is in one.
+    #[tactic(auto, using(crate::proofs::Steps::gone))]
     pub fn to_inactive_tail(&mut self, frame: u32)
         requires { frame < self.old.frames }
         ensures { self.new ≡ record (taken frame self.old) { inactive = (taken frame self.old).inactive ++ frame ∷ [] } }
@@ -141,14 +153,23 @@ impl Lru {
         self.add_tail(Which::Inactive, frame);
     }
 
+    /// The list that a frame is in.
+    pub fn place(&self, frame: u32) -> Option<Which>
+        requires { frame < self.now.frames }
+        ensures place { result ≡ place_in frame self.now }
+        ensures never_both { is_in frame self.now.active ≡ true → is_in frame self.now.inactive ≡ false }
+    {
+        self.places[frame as usize]
+    }
+
     /// How many frames a list has.
     pub fn len(&self, which: Which) -> u32
-        ensures { result ≡ length (listed which self.now) }
+        ensures count { result ≡ length (listed which self.now) }
+        ensures within { result ≤ self.now.frames }
+        ensures apart { IsApart (listed which self.now) }
+        ensures in_range { (f : ℕ) → is_in f (listed which self.now) ≡ true → f < self.now.frames }
     {
-        match which {
-            Which::Active => self.lens.active,
-            Which::Inactive => self.lens.inactive,
-        }
+        self.lengths.of(which)
     }
 
     /// The frame at the tail of a list. None exactly where the list is empty.
@@ -167,6 +188,17 @@ impl Lru {
         frame_at(self.places.len(), self.prev[frame as usize])
     }
 
+    /// Appends the last `count` frames of a list, or all where there are fewer, from the tail on. It costs `count` steps.
+    pub fn tails(&self, which: Which, count: u32, found: &mut Vec<u32>)
+        requires { length found.old.items + count ≤ vec_capacity found.old }
+        ensures items { found.new.items ≡ found.old.items ++ take count (reverse (listed which self.now)) }
+        ensures capacity { vec_capacity found.new ≡ vec_capacity found.old }
+    {
+        let head = head(self.places.len(), which);
+        let steps = count.min(self.len(which));
+        follow(&self.prev, head, steps, found);
+    }
+
     // Puts a frame that is in no list at the head of a list.
     fn add_head(&mut self, which: Which, frame: u32)
         requires in_range { frame < self.old.frames }
@@ -179,7 +211,7 @@ impl Lru {
         let first = self.next[head];
         splice(&mut self.next, &mut self.prev, head, place, first);
         self.places[place] = Some(which);
-        self.lens.up(which);
+        self.lengths.up(which);
     }
 
     // Puts a frame that is in no list at the tail of a list.
@@ -194,7 +226,7 @@ impl Lru {
         let last = self.prev[head];
         splice(&mut self.next, &mut self.prev, last, place, head);
         self.places[place] = Some(which);
-        self.lens.up(which);
+        self.lengths.up(which);
     }
 }
 
@@ -256,6 +288,21 @@ fn skip(next: &mut Vec<usize>, prev: &mut Vec<usize>, at: usize)
     let after = next[at];
     next[before] = after;
     prev[after] = before;
+}
+
+// Appends the places that so many links lead to in turn.
+fn follow(links: &Vec<usize>, from: usize, steps: u32, found: &mut Vec<u32>)
+    requires within { (i : ℕ) → i < steps → after_links (slice_index links.now.items) i from < length links.now.items }
+    requires small { (i : ℕ) → i < steps → after_links (slice_index links.now.items) (i + 1) from < 2 ^ 32 }
+    requires room { length found.old.items + steps ≤ vec_capacity found.old }
+    ensures items { found.new.items ≡ found.old.items ++ walk (slice_index links.now.items) steps from }
+    ensures capacity { vec_capacity found.new ≡ vec_capacity found.old }
+{
+    let mut at = from;
+    for _step in 0..steps {
+        at = links[at];
+        found.push_reserved(at as u32);
+    }
 }
 
 // Puts a place between two others.

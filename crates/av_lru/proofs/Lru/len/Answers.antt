@@ -1,10 +1,15 @@
-use Rattle.std.proofs.Common.{sym, ap, ◌∙◌}
-use Rattle.av_lru.specs.Links.{len_of}
-use Rattle.av_lru.proofs.Steps.{long}
+use Rattle.std.proofs.Common.{◌≤◌, sym, ◌∙◌, subst}
+use Rattle.av_lru.proofs.Steps.{long, within_frames, apart_is, in_frames}
 use Rattle.av_lru.proofs.Lru.len.Goals as goal
 
-pub returns-in-Active : goal.returns-in-Active
-returns-in-Active c = sym (long _ _ _ _ c.self.invariant _ c.self.view_is c.args.which ∙ ap (λ w. len_of w c.self.inside.lens) c.in-Active.is)
+pub returns-clause-count : goal.returns-clause-count
+returns-clause-count c = c.of.ensures ∙ sym (long _ _ _ _ c.self.invariant _ c.self.view_is c.args.which)
 
-pub returns-in-Inactive : goal.returns-in-Inactive
-returns-in-Inactive c = sym (long _ _ _ _ c.self.invariant _ c.self.view_is c.args.which ∙ ap (λ w. len_of w c.self.inside.lens) c.in-Inactive.is)
+pub returns-clause-within : goal.returns-clause-within
+returns-clause-within c = subst (λ n. n ≤ c.args.self.now.frames) (sym c.of.ensures) (within_frames _ _ _ _ c.self.invariant _ c.self.view_is c.args.which)
+
+pub returns-clause-apart : goal.returns-clause-apart
+returns-clause-apart c = apart_is _ _ _ _ c.self.invariant _ c.self.view_is c.args.which
+
+pub returns-clause-in_range : goal.returns-clause-in_range
+returns-clause-in_range c = in_frames _ _ _ _ c.self.invariant _ c.self.view_is c.args.which
