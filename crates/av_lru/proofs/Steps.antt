@@ -53,9 +53,9 @@ module _ (links back : List ℕ) (places : List (Option Which)) (lens : Lengths)
       not_first same = off_ring links back places lens whole f below free w _ (first_on links back places lens whole w) (sym first_is ∙ sym same)
 
       pub fronted : (links' back' : List ℕ) (lens' : Lengths) → length links' ≡ length links → length back' ≡ length back
-        → Inserts (slice_index links) (slice_index back) (slice_index links') (slice_index back') h f first
-        → lens' ≡ with_len w (len_of w lens + 1) lens
-        → Shows links' back' (slice_set places f (Some w)) lens' (with_list w (f ∷ listed w ls) ls)
+          → Inserts (slice_index links) (slice_index back) (slice_index links') (slice_index back') h f first
+          → lens' ≡ with_len w (len_of w lens + 1) lens
+          → Shows links' back' (slice_set places f (Some w)) lens' (with_list w (f ∷ listed w ls) ls)
       fronted links' back' lens' next prev splices lengths =
           subst (λ (v : Lists). Shows links' back' (slice_set places f (Some w)) lens' (with_list w (f ∷ listed w v) v)) seen
           (subst (λ (l : Lengths). Shows links' back' (slice_set places f (Some w)) l (with_list w (f ∷ listed w (lists_of links (length places) lens)) (lists_of links (length places) lens))) (sym lengths)
@@ -74,9 +74,9 @@ module _ (links back : List ℕ) (places : List (Option Which)) (lens : Lengths)
       not_last same = off_ring links back places lens whole f below free w _ (last_on links back places lens whole w) (sym last_is ∙ sym same)
 
       pub pushed : (links' back' : List ℕ) (lens' : Lengths) → length links' ≡ length links → length back' ≡ length back
-        → Inserts (slice_index links) (slice_index back) (slice_index links') (slice_index back') last f h
-        → lens' ≡ with_len w (len_of w lens + 1) lens
-        → Shows links' back' (slice_set places f (Some w)) lens' (with_list w (listed w ls ++ f ∷ []) ls)
+          → Inserts (slice_index links) (slice_index back) (slice_index links') (slice_index back') last f h
+          → lens' ≡ with_len w (len_of w lens + 1) lens
+          → Shows links' back' (slice_set places f (Some w)) lens' (with_list w (listed w ls ++ f ∷ []) ls)
       pushed links' back' lens' next prev splices lengths =
           subst (λ (v : Lists). Shows links' back' (slice_set places f (Some w)) lens' (with_list w (listed w v ++ f ∷ []) v)) seen
           (subst (λ (l : Lengths). Shows links' back' (slice_set places f (Some w)) l (with_list w (listed w (lists_of links (length places) lens) ++ f ∷ []) (lists_of links (length places) lens))) (sym lengths)
@@ -107,10 +107,10 @@ module _ (links back : List ℕ) (places : List (Option Which)) (lens : Lengths)
       is_some = some links back places lens whole w f was
 
       pub left : (links' back' : List ℕ) (lens' : Lengths) → length links' ≡ length links → length back' ≡ length back
-        → Joins (slice_index links) (slice_index links') (slice_index back f) (slice_index links f)
-        → Joins (slice_index back) (slice_index back') (slice_index links f) (slice_index back f)
-        → lens' ≡ with_len w (len_of w lens - 1) lens
-        → Shows links' back' (slice_set places f None) lens' (taken f ls)
+          → Joins (slice_index links) (slice_index links') (slice_index back f) (slice_index links f)
+          → Joins (slice_index back) (slice_index back') (slice_index links f) (slice_index back f)
+          → lens' ≡ with_len w (len_of w lens - 1) lens
+          → Shows links' back' (slice_set places f None) lens' (taken f ls)
       left links' back' lens' next prev nexts prevs lengths =
           subst (λ (v : Lists). Shows links' back' (slice_set places f None) lens' (taken f v)) seen
           (subst (λ (l : Lengths). Shows links' back' (slice_set places f None) l (taken f (lists_of links (length places) lens))) (sym lengths)
@@ -159,7 +159,7 @@ module _ (links back : List ℕ) (places : List (Option Which)) (lens : Lengths)
 
   pub in_frames : (w : Which) (f : ℕ) → is_in f (listed w ls) ≡ true → f < ls.frames
   in_frames w = subst (λ (v : Lists). (f : ℕ) → is_in f (listed w v) ≡ true → f < v.frames) seen
-    (λ f inside. placed_below links back places lens f w ((ring links back places lens whole w).placed f (in_found f _ inside)))
+      (λ f inside. placed_below links back places lens f w ((ring links back places lens whole w).placed f (in_found f _ inside)))
 
   -- membership in each list, by the vector of the places
   module _ (f : ℕ) where
@@ -171,7 +171,7 @@ module _ (links back : List ℕ) (places : List (Option Which)) (lens : Lengths)
 
     pub never_both : is_in f ls.active ≡ true → is_in f ls.inactive ≡ false
     never_both = subst (λ (v : Lists). is_in f v.active ≡ true → is_in f v.inactive ≡ false) seen
-      (λ h. outside Inactive (λ other. differ (sym ((ring links back places lens whole Active).placed f (in_found f _ h)) ∙ other)))
+        (λ h. outside Inactive (λ other. differ (sym ((ring links back places lens whole Active).placed f (in_found f _ h)) ∙ other)))
       where
         differ : Some Active ≡ Some Inactive → ⊥
         differ e = cc
@@ -197,8 +197,8 @@ module _ (links back : List ℕ) (places : List (Option Which)) (lens : Lengths)
 
     on_way : (i : ℕ) → i < steps → after_links (slice_index back) (suc i) h < length places
     on_way i less = subst (λ m. after_links (slice_index back) (suc i) m < length places) (sym head_at)
-      (placed_below links back places lens _ w ((ring links back places lens whole w).placed _
-      (back_in (slice_index links) (slice_index back) _ _ _ i (ring links back places lens whole w).linked (let a = len_at in omega (arith, less, is, a)))))
+        (placed_below links back places lens _ w ((ring links back places lens whole w).placed _
+        (back_in (slice_index links) (slice_index back) _ _ _ i (ring links back places lens whole w).linked (let a = len_at in omega (arith, less, is, a)))))
 
     pub way_within : (i : ℕ) → i < steps → after_links (slice_index back) i h < length back
     way_within zero less = let a = subst (λ m. m < length places + 2) (sym head_at) (head_below (length places) w) in let b = whole.prev in omega (arith, a, b)
@@ -211,8 +211,8 @@ module _ (links back : List ℕ) (places : List (Option Which)) (lens : Lengths)
 
     pub tails_are : walk (slice_index back) steps h ≡ take count (reverse (listed w ls))
     tails_are = subst (λ (v : Lists). walk (slice_index back) steps h ≡ take count (reverse (listed w v))) seen
-      (ap (walk (slice_index back) steps) head_at
-      ∙ tails_path (slice_index links) (slice_index back) _ (listed w (lists_of links (length places) lens)) _ count steps (ring links back places lens whole w).linked (is ∙ ap (min count) len_at))
+        (ap (walk (slice_index back) steps) head_at
+        ∙ tails_path (slice_index links) (slice_index back) _ (listed w (lists_of links (length places) lens)) _ count steps (ring links back places lens whole w).linked (is ∙ ap (min count) len_at))
 
 -- a frame is not among the others
 pub gone : (f : ℕ) (fs : List ℕ) → is_in f (without f fs) ≡ false
@@ -221,10 +221,10 @@ gone f fs = not_in f (without f fs) (λ found. (IsIn-without f f fs found).1 ref
 -- ---- two empty lists
 
 pub empty : (links back : List ℕ) (places : List (Option Which)) (n : ℕ) → n < 2 ^ 32
-  → (length links ≡ n + 2) × (slice_index links n ≡ n) × (slice_index links (n + 1) ≡ n + 1)
-  → (length back ≡ n + 2) × (slice_index back n ≡ n) × (slice_index back (n + 1) ≡ n + 1)
-  → places ≡ replicate n None
-  → Shows links back places (record { active = 0; inactive = 0 }) (record { frames = n; active = []; inactive = [] })
+    → (length links ≡ n + 2) × (slice_index links n ≡ n) × (slice_index links (n + 1) ≡ n + 1)
+    → (length back ≡ n + 2) × (slice_index back n ≡ n) × (slice_index back (n + 1) ≡ n + 1)
+    → places ≡ replicate n None
+    → Shows links back places (record { active = 0; inactive = 0 }) (record { frames = n; active = []; inactive = [] })
 empty links back places n few next prev is =
     subst (λ (ps : List (Option Which)). Shows links back ps (record { active = 0; inactive = 0 }) (record { frames = n; active = []; inactive = [] })) (sym is)
     (shows links back (replicate n None) (record { active = 0; inactive = 0 }) (record { frames = n; active = []; inactive = [] }) n

@@ -1,8 +1,7 @@
 -- How the fields of `Lru` stay fit, and what a contract then sees, when a frame joins or leaves a list.
-use Rattle.std.proofs.Common.{◌≡◌, ◌≢◌, ◌⊎◌, ℕ, zero, suc, ◌+◌, ◌-◌, ◌<◌, ◌≤◌, ◌^◌, Bool, true, false, cond, ◌==◌, ◌||◌, List, [], ◌∷◌, ◌++◌, length, get_or, slice_set, Option, Some, None, count_by, refl, sym, ap, ◌∙◌, subst, inl, inr, arith, eq-eqb, ne_eqb, length-set, get_or-set_same, get_or-set_other, length-append}
+use Rattle.std.proofs.Common.{◌≡◌, ◌≢◌, ◌⊎◌, ℕ, zero, suc, ◌+◌, ◌-◌, ◌<◌, ◌≤◌, ◌^◌, true, false, cond, ◌||◌, List, [], ◌∷◌, ◌++◌, length, get_or, slice_set, Option, Some, None, count_by, refl, sym, ap, ◌∙◌, subst, inl, inr, arith, eq-eqb, ne_eqb, length-set, get_or-set_same, get_or-set_other, length-append}
 use Rattle.std.specs.Prelude.{slice_index}
 use Rattle.std.proofs.lemmas.Bool.{cases_eq, cases_lt, false≢true}
-use Rattle.std.proofs.lemmas.Bool.Decides.{nat_tests}
 use Rattle.std.proofs.lemmas.List.{get_or_past}
 use Rattle.std.proofs.lemmas.List.Sums.{sum_by-set}
 use Rattle.std.proofs.lemmas.Option.{none-some, same_Some}
@@ -120,11 +119,11 @@ length-frames_of links n head = length-walk (slice_index links) n head
 
 -- rings of the right lengths are what is seen
 pub shows : (links back : List ℕ) (places : List (Option Which)) (lens : Lengths) (ls : Lists) (n : ℕ)
-  → length places ≡ n → ls.frames ≡ n → n < 2 ^ 32 → length links ≡ n + 2 → length back ≡ n + 2
-  → lens.active + lens.inactive + count_by is_off places ≡ n
-  → ((v : Which) → IsRing (slice_index links) (slice_index back) (place_of places) v (head_of n v) (listed v ls))
-  → ((v : Which) → length (listed v ls) ≡ len_of v lens)
-  → Shows links back places lens ls
+    → length places ≡ n → ls.frames ≡ n → n < 2 ^ 32 → length links ≡ n + 2 → length back ≡ n + 2
+    → lens.active + lens.inactive + count_by is_off places ≡ n
+    → ((v : Which) → IsRing (slice_index links) (slice_index back) (place_of places) v (head_of n v) (listed v ls))
+    → ((v : Which) → length (listed v ls) ≡ len_of v lens)
+    → Shows links back places lens ls
 shows links back places lens ls n size frames few next prev total rings lengths = record {
   whole = record {
     few = subst (λ m. m < 2 ^ 32) (sym size) few;
@@ -248,11 +247,11 @@ module _ (links back : List ℕ) (places : List (Option Which)) (lens : Lengths)
 
       module _ (links' back' : List ℕ) (next : length links' ≡ length links) (prev : length back' ≡ length back) where
         joins : (before after : ℕ) (fs : List ℕ)
-          → Inserts (slice_index links) (slice_index back) (slice_index links') (slice_index back') before f after
-          → IsOn (head_of (length places) w) (listed w seen_lists) before → IsOn (head_of (length places) w) (listed w seen_lists) after
-          → IsRing (slice_index links') (slice_index back') (place_of (slice_set places f (Some w))) w (head_of (length places) w) fs
-          → length fs ≡ len_of w lens + 1
-          → Shows links' back' (slice_set places f (Some w)) (with_len w (len_of w lens + 1) lens) (with_list w fs seen_lists)
+            → Inserts (slice_index links) (slice_index back) (slice_index links') (slice_index back') before f after
+            → IsOn (head_of (length places) w) (listed w seen_lists) before → IsOn (head_of (length places) w) (listed w seen_lists) after
+            → IsRing (slice_index links') (slice_index back') (place_of (slice_set places f (Some w))) w (head_of (length places) w) fs
+            → length fs ≡ len_of w lens + 1
+            → Shows links' back' (slice_set places f (Some w)) (with_len w (len_of w lens + 1) lens) (with_list w fs seen_lists)
         joins before after fs splices before_on after_on changed len =
             shows links' back' (slice_set places f (Some w)) (with_len w (len_of w lens + 1) lens) (with_list w fs seen_lists) (length places)
             (length-set places f (Some w)) (frames_same w fs seen_lists) whole.few (next ∙ whole.next) (prev ∙ whole.prev)
@@ -277,14 +276,14 @@ module _ (links back : List ℕ) (places : List (Option Which)) (lens : Lengths)
             ])
 
         pub front : Inserts (slice_index links) (slice_index back) (slice_index links') (slice_index back') (head_of (length places) w) f (slice_index links (head_of (length places) w))
-          → Shows links' back' (slice_set places f (Some w)) (with_len w (len_of w lens + 1) lens) (with_list w (f ∷ listed w seen_lists) seen_lists)
+            → Shows links' back' (slice_set places f (Some w)) (with_len w (len_of w lens + 1) lens) (with_list w (f ∷ listed w seen_lists) seen_lists)
         front splices = joins _ _ _ splices (inl refl) (first_on w)
             (IsRing-front (slice_index links) (slice_index back) (slice_index links') (slice_index back') (place_of places) (place_of (slice_set places f (Some w))) w (head_of (length places) w) (heads_none w) (listed w seen_lists) f (ring w)
             (off_ring f below free w _ (inl refl)) free splices place_here place_other)
             (let len = length-listed w in omega (arith, len))
 
         pub push : Inserts (slice_index links) (slice_index back) (slice_index links') (slice_index back') (slice_index back (head_of (length places) w)) f (head_of (length places) w)
-          → Shows links' back' (slice_set places f (Some w)) (with_len w (len_of w lens + 1) lens) (with_list w (listed w seen_lists ++ f ∷ []) seen_lists)
+            → Shows links' back' (slice_set places f (Some w)) (with_len w (len_of w lens + 1) lens) (with_list w (listed w seen_lists ++ f ∷ []) seen_lists)
         push splices = joins _ _ _ splices (last_on w) (inl refl)
             (IsRing-push (slice_index links) (slice_index back) (slice_index links') (slice_index back') (place_of places) (place_of (slice_set places f (Some w))) w (head_of (length places) w) (heads_none w) (listed w seen_lists) f (ring w)
             (off_ring f below free w _ (inl refl)) free splices place_here place_other)
@@ -331,15 +330,15 @@ module _ (links back : List ℕ) (places : List (Option Which)) (lens : Lengths)
       place_rest g ne = get_or-set_other places f g None None ne
 
       pub leaves : (links' back' : List ℕ) → length links' ≡ length links → length back' ≡ length back
-        → Joins (slice_index links) (slice_index links') (slice_index back f) (slice_index links f)
-        → Joins (slice_index back) (slice_index back') (slice_index links f) (slice_index back f)
-        → Shows links' back' (slice_set places f None) (with_len w (len_of w lens - 1) lens) (taken f seen_lists)
+          → Joins (slice_index links) (slice_index links') (slice_index back f) (slice_index links f)
+          → Joins (slice_index back) (slice_index back') (slice_index links f) (slice_index back f)
+          → Shows links' back' (slice_set places f None) (with_len w (len_of w lens - 1) lens) (taken f seen_lists)
       leaves links' back' next prev nexts prevs =
           shows links' back' (slice_set places f None) (with_len w (len_of w lens - 1) lens) (taken f seen_lists) (length places)
           (length-set places f None) refl whole.few (next ∙ whole.next) (prev ∙ whole.prev)
           (total_leave w _ some count_leave)
           (λ v. subst (IsRing (slice_index links') (slice_index back') (place_of (slice_set places f None)) v (head_of (length places) v)) (sym (list_taken v f seen_lists))
-            (elim (same_or v w) [
+          (elim (same_or v w) [
             | inl same ↦ subst (λ u. IsRing (slice_index links') (slice_index back') (place_of (slice_set places f None)) u (head_of (length places) u) (without f (listed u seen_lists))) (sym same)
                 (IsRing-skip (slice_index links) (slice_index back) (slice_index links') (slice_index back') (place_of places) (place_of (slice_set places f None)) w (head_of (length places) w) (heads_none w) (listed w seen_lists) f (ring w) was nexts prevs place_none place_rest)
             | inr ne ↦ subst (IsRing (slice_index links') (slice_index back') (place_of (slice_set places f None)) v (head_of (length places) v)) (sym (without_absent f (listed v seen_lists) (absent v ne)))

@@ -92,4 +92,4 @@ pub record IsWhole (links back : List ℕ) (places : List (Option Which)) (lens 
   -- each frame is counted in its list, or is off both
   pub total : lens.active + lens.inactive + count_by is_off places ≡ length places
   pub rings : (which : Which) → IsRing (slice_index links) (slice_index back) (place_of places) which (head_of (length places) which)
-    (frames_of links (len_of which lens) (head_of (length places) which))
+      (frames_of links (len_of which lens) (head_of (length places) which))

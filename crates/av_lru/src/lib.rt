@@ -25,14 +25,20 @@ struct Lengths {
     inactive: u32,
 }
 
+// The place after each place in its ring, and the place before it.
+#[derive(Drop)]
+struct Links {
+    next: Vec<usize>,
+    prev: Vec<usize>,
+}
+
 /// The frames of a fixed number that are in the active or the inactive list, each in one of them at most. A list has a
 /// head, where frames join, and a tail. Every call takes constant time but `new`, and only `new` takes memory.
 #[derive(Drop)]
 pub struct Lru {
     // Each list is a ring through its head, so that no end is a case of its own. The place of a frame is its number,
     // and the heads stand behind the frames.
-    next: Vec<usize>,
-    prev: Vec<usize>,
+    links: Links,
     // The list that each frame is in.
     places: Vec<Option<Which>>,
     lengths: Lengths,
@@ -45,9 +51,9 @@ impl Model for Lru {
 
     ghost Value = { Lists };
 
-    ghost view = { λ a. lists_of a.next.items (length a.places.items) a.lengths };
+    ghost view = { λ a. lists_of a.links.next.items (length a.places.items) a.lengths };
 
-    ghost invariant = { λ a. IsWhole a.next.items a.prev.items a.places.items a.lengths };
+    ghost invariant = { λ a. IsWhole a.links.next.items a.links.prev.items a.places.items a.lengths };
 }
 
 impl Lengths {
@@ -83,6 +89,55 @@ impl Lengths {
     }
 }
 
+impl Links {
+    // Joins the two neighbours of a place.
+    fn skip(&mut self, at: usize)
+        requires at_in { (at < length self.old.next.items) × (at < length self.old.prev.items) }
+        requires before_in { slice_index self.old.prev.items at < length self.old.next.items }
+        requires after_in { slice_index self.old.next.items at < length self.old.prev.items }
+        ensures next { Joins (slice_index self.old.next.items) (slice_index self.new.next.items) (slice_index self.old.prev.items at) (slice_index self.old.next.items at) }
+        ensures prev { Joins (slice_index self.old.prev.items) (slice_index self.new.prev.items) (slice_index self.old.next.items at) (slice_index self.old.prev.items at) }
+        ensures next_len { length self.new.next.items ≡ length self.old.next.items }
+        ensures prev_len { length self.new.prev.items ≡ length self.old.prev.items }
+    {
+        let before = self.prev[at];
+        let after = self.next[at];
+        self.next[before] = after;
+        self.prev[after] = before;
+    }
+
+    // Puts a place between two others.
+    fn splice(&mut self, before: usize, at: usize, after: usize)
+        requires before_in { before < length self.old.next.items }
+        requires at_in { (at < length self.old.next.items) × (at < length self.old.prev.items) }
+        requires after_in { after < length self.old.prev.items }
+        requires apart { (at ≢ before) × (at ≢ after) }
+        ensures inserts { Inserts (slice_index self.old.next.items) (slice_index self.old.prev.items) (slice_index self.new.next.items) (slice_index self.new.prev.items) before at after }
+        ensures next_len { length self.new.next.items ≡ length self.old.next.items }
+        ensures prev_len { length self.new.prev.items ≡ length self.old.prev.items }
+    {
+        self.next[before] = at;
+        self.next[at] = after;
+        self.prev[after] = at;
+        self.prev[at] = before;
+    }
+
+    // Appends the places that so many links back lead to in turn.
+    fn follow_back(&self, from: usize, steps: u32, found: &mut Vec<u32>)
+        requires within { (i : ℕ) → i < steps → after_links (slice_index self.now.prev.items) i from < length self.now.prev.items }
+        requires small { (i : ℕ) → i < steps → after_links (slice_index self.now.prev.items) (i + 1) from < 2 ^ 32 }
+        requires room { length found.old.items + steps ≤ vec_capacity found.old }
+        ensures items { found.new.items ≡ found.old.items ++ walk (slice_index self.now.prev.items) steps from }
+        ensures capacity { vec_capacity found.new ≡ vec_capacity found.old }
+    {
+        let mut at = from;
+        for _step in 0..steps {
+            at = self.prev[at];
+            found.push_reserved(at as u32);
+        }
+    }
+}
+
 impl Lru {
     /// Two empty lists, for frames with numbers below `frames`.
     pub fn new(alloc: Global, frames: u32) -> Result<Lru, AllocError>
@@ -90,8 +145,10 @@ impl Lru {
     {
         let frames = frames as usize;
         Ok(Lru {
-            next: empty_rings(alloc, frames)?,
-            prev: empty_rings(alloc, frames)?,
+            links: Links {
+                next: empty_rings(alloc, frames)?,
+                prev: empty_rings(alloc, frames)?,
+            },
             places: no_places(alloc, frames)?,
             lengths: Lengths {
                 active: 0,
@@ -117,7 +174,7 @@ impl Lru {
     {
         let place = frame as usize;
         if let Some(which) = self.places[place] {
-            skip(&mut self.next, &mut self.prev, place);
+            self.links.skip(place);
             self.places[place] = None;
             self.lengths.down(which);
         }
@@ -176,7 +233,10 @@ impl Lru {
     pub fn tail(&self, which: Which) -> Option<u32>
         ensures { result ≡ last_of None (listed which self.now) }
     {
-        frame_at(self.places.len(), self.prev[head(self.places.len(), which)])
+        frame_at(
+            self.places.len(),
+            self.links.prev[head(self.places.len(), which)],
+        )
     }
 
     /// The frame before one that is in a list. None exactly where that is at the head.
@@ -185,7 +245,7 @@ impl Lru {
         ensures active { is_in frame self.now.active ≡ true → result ≡ preceding None frame self.now.active }
         ensures inactive { is_in frame self.now.inactive ≡ true → result ≡ preceding None frame self.now.inactive }
     {
-        frame_at(self.places.len(), self.prev[frame as usize])
+        frame_at(self.places.len(), self.links.prev[frame as usize])
     }
 
     /// Appends the last `count` frames of a list, or all where there are fewer, from the tail on. It costs `count` steps.
@@ -196,7 +256,7 @@ impl Lru {
     {
         let head = head(self.places.len(), which);
         let steps = count.min(self.len(which));
-        follow(&self.prev, head, steps, found);
+        self.links.follow_back(head, steps, found);
     }
 
     // Puts a frame that is in no list at the head of a list.
@@ -208,8 +268,8 @@ impl Lru {
     {
         let place = frame as usize;
         let head = head(self.places.len(), which);
-        let first = self.next[head];
-        splice(&mut self.next, &mut self.prev, head, place, first);
+        let first = self.links.next[head];
+        self.links.splice(head, place, first);
         self.places[place] = Some(which);
         self.lengths.up(which);
     }
@@ -223,8 +283,8 @@ impl Lru {
     {
         let place = frame as usize;
         let head = head(self.places.len(), which);
-        let last = self.prev[head];
-        splice(&mut self.next, &mut self.prev, last, place, head);
+        let last = self.links.prev[head];
+        self.links.splice(last, place, head);
         self.places[place] = Some(which);
         self.lengths.up(which);
     }
@@ -272,51 +332,4 @@ fn no_places(alloc: Global, frames: usize) -> Result<Vec<Option<Which>>, AllocEr
     let mut places = Vec::new(alloc);
     places.resize(frames, None)?;
     Ok(places)
-}
-
-// Joins the two neighbours of a place.
-fn skip(next: &mut Vec<usize>, prev: &mut Vec<usize>, at: usize)
-    requires at_in { (at < length next.old.items) × (at < length prev.old.items) }
-    requires before_in { slice_index prev.old.items at < length next.old.items }
-    requires after_in { slice_index next.old.items at < length prev.old.items }
-    ensures next { Joins (slice_index next.old.items) (slice_index next.new.items) (slice_index prev.old.items at) (slice_index next.old.items at) }
-    ensures prev { Joins (slice_index prev.old.items) (slice_index prev.new.items) (slice_index next.old.items at) (slice_index prev.old.items at) }
-    ensures next_len { length next.new.items ≡ length next.old.items }
-    ensures prev_len { length prev.new.items ≡ length prev.old.items }
-{
-    let before = prev[at];
-    let after = next[at];
-    next[before] = after;
-    prev[after] = before;
-}
-
-// Appends the places that so many links lead to in turn.
-fn follow(links: &Vec<usize>, from: usize, steps: u32, found: &mut Vec<u32>)
-    requires within { (i : ℕ) → i < steps → after_links (slice_index links.now.items) i from < length links.now.items }
-    requires small { (i : ℕ) → i < steps → after_links (slice_index links.now.items) (i + 1) from < 2 ^ 32 }
-    requires room { length found.old.items + steps ≤ vec_capacity found.old }
-    ensures items { found.new.items ≡ found.old.items ++ walk (slice_index links.now.items) steps from }
-    ensures capacity { vec_capacity found.new ≡ vec_capacity found.old }
-{
-    let mut at = from;
-    for _step in 0..steps {
-        at = links[at];
-        found.push_reserved(at as u32);
-    }
-}
-
-// Puts a place between two others.
-fn splice(next: &mut Vec<usize>, prev: &mut Vec<usize>, before: usize, at: usize, after: usize)
-    requires before_in { before < length next.old.items }
-    requires at_in { (at < length next.old.items) × (at < length prev.old.items) }
-    requires after_in { after < length prev.old.items }
-    requires apart { (at ≢ before) × (at ≢ after) }
-    ensures inserts { Inserts (slice_index next.old.items) (slice_index prev.old.items) (slice_index next.new.items) (slice_index prev.new.items) before at after }
-    ensures next_len { length next.new.items ≡ length next.old.items }
-    ensures prev_len { length prev.new.items ≡ length prev.old.items }
-{
-    next[before] = at;
-    next[at] = after;
-    prev[after] = at;
-    prev[at] = before;
 }

@@ -7,7 +7,7 @@ pub index-requires : goal.index-requires
 index-requires c =
     let a = listed_in _ _ _ _ c.self.invariant _ c.self.view_is c.args.frame c.requires in
     let b = c.self.invariant.prev in
-    let d = c.self.inside.prev.ok.0 in
+    let d = c.self.inside.links.prev.ok.0 in
     omega (arith, a, b, d)
 
 pub returns-clause-active : goal.returns-clause-active
