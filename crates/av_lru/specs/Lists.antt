@@ -41,7 +41,7 @@ without f fs = filter (λ g. not (g == f)) fs
 abbrev pub taken : ℕ → Lists → Lists
 taken f ls = record { frames = ls.frames; active = without f ls.active; inactive = without f ls.inactive }
 
--- the last frame of a list
+-- the last frame of a list; `before` is what stands before the list
 abbrev pub last_of : Option ℕ → List ℕ → Option ℕ
 last_of before [] = before
 last_of before (g ∷ gs) = last_of (Some g) gs

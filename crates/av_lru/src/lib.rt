@@ -25,7 +25,7 @@ struct Lengths {
     inactive: u32,
 }
 
-// The place after each place in its ring, and the place before it.
+// The place after each place in its ring, and the one before it.
 #[derive(Drop)]
 struct Links {
     next: Vec<usize>,
@@ -33,7 +33,8 @@ struct Links {
 }
 
 /// The frames of a fixed number that are in the active or the inactive list, each in one of them at most. A list has a
-/// head, where frames join, and a tail. Every call takes constant time but `new`, and only `new` takes memory.
+/// head, where frames join, and a tail. No call searches: each takes constant time, but `new` and `tails`. Only `new`
+/// takes memory.
 #[derive(Drop)]
 pub struct Lru {
     // Each list is a ring through its head, so that no end is a case of its own. The place of a frame is its number,
@@ -57,6 +58,7 @@ impl Model for Lru {
 }
 
 impl Lengths {
+    // How many frames a list has.
     fn of(&self, which: Which) -> u32
         ensures { result ≡ len_of which self.now }
     {
