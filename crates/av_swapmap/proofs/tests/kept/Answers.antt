@@ -1,0 +1,11 @@
+use Rattle.std.proofs.Common.{ℕ, ◌+◌, ◌<◌, ◌^◌, ◌∙◌, sym, subst}
+use Rattle.av_swapmap.proofs.tests.kept.Goals as goal
+
+pub add-requires-clause-not_bad : goal.add-requires-clause-not_bad
+add-requires-clause-not_bad c = λ i. (c.in_ok-counts.ensures i).bad 0
+
+pub add-requires-clause-room : goal.add-requires-clause-room
+add-requires-clause-room c = subst (λ n. n + c.args.entries < 2 ^ 32) (sym (λ i. (c.in_ok-counts.ensures i).count 0)) c.ranges.entries.fits
+
+pub set_cached-requires-clause-not_bad : goal.set_cached-requires-clause-not_bad
+set_cached-requires-clause-not_bad c = (λ i. (c.in_ok-add.ensures i).bad 0) ∙ (λ i. (c.in_ok-counts.ensures i).bad 0)
