@@ -1,5 +1,5 @@
 // A count as digits: the first to base 63, which leaves the byte 63 for bad slots, and the others to base 128.
-ghost use Rattle.std.specs.Prelude.{◌≡◌, ℕ, ◌+◌, ◌*◌, ◌<◌, ◌^◌, ◌%◌, Bool, ◌∷◌, [], length};
+ghost use Rattle.std.specs.Prelude.{◌≡◌, ℕ, ◌+◌, ◌*◌, ◌<◌, ◌≤◌, ◌^◌, ◌%◌, Bool, ◌∷◌, [], length};
 ghost use Rattle.av_swapmap.specs.Digits.{digit_of, byte_of, first_of, cached_of, value_of, with_more};
 
 /// The byte of a bad slot.
@@ -23,7 +23,7 @@ pub(crate) fn byte_of(count: u32, cached: bool) -> u8
     ensures { result ≡ byte_of count cached }
 {
     let flag = if cached { CACHED } else { 0 };
-    with_more(count, FIRST_BASE as u8) | flag
+    with_more(count, FIRST_BASE) | flag
 }
 
 /// The digits after the first.
@@ -32,20 +32,19 @@ pub(crate) fn further_of(count: u32) -> Further
 {
     let rest = count / FIRST_BASE;
     [
-        with_more(rest, BASE as u8),
-        with_more(rest / 128, BASE as u8),
-        with_more(rest / 16_384, BASE as u8),
-        with_more(rest / 2_097_152, BASE as u8),
+        with_more(rest, BASE),
+        with_more(rest / BASE, BASE),
+        with_more(rest / (BASE * BASE), BASE),
+        with_more(rest / (BASE * BASE * BASE), BASE),
     ]
 }
 
 /// The last digit of a number, with the flag where the number has more.
-fn with_more(number: u32, base: u8) -> u8
+fn with_more(number: u32, base: u32) -> u8
     requires some { 0 < base }
-    requires low { base < 129 }
+    requires low { base ≤ 128 }
     ensures { result ≡ with_more base number }
 {
-    let base = base as u32;
     let digit = (number % base) as u8;
     if number < base { digit } else { digit | CONTINUED }
 }
