@@ -3,11 +3,6 @@ use Rattle.std.proofs.Common.{◌≡◌, ℕ, zero, suc, ◌<◌, ◌^◌, ◌==
 use Rattle.av_swapmap.specs.Digits.{cached_of, count_of}
 use Rattle.av_swapmap.specs.Seen.{Store, seen, fresh, is_in, IsSlot, IsWhole}
 
-pub zeros : (n i : ℕ) → ◌≡◌ {A = ℕ} (get_or (replicate n 0) i 0) 0
-zeros zero i = refl
-zeros (suc n) zero = refl
-zeros (suc n) (suc i) = zeros n i
-
 pub seen_fresh : (n : ℕ) (bytes bad : List ℕ) → length bytes ≡ n → ((p : ℕ) → get_or bytes p 0 ≡ cond (ltb p n && is_in p bad) 63 0) → seen (record { bytes = bytes; more = [] }) ≡ fresh n bad
 seen_fresh n bytes bad long at = λ k. record {
   pages = long k;

@@ -31,18 +31,19 @@ fn counts_are_kept_as_linux_keeps_them(rt: HostRuntime) -> Result<(), AllocError
 
 #[test]
 fn entries_come_and_go(rt: HostRuntime) -> Result<(), AllocError> {
-    let mut counts = Counts::new(rt.alloc(), 4, &[2, 9])?;
-    assert!(rt; counts.bad(2) && !counts.bad(1));
+    let mut counts = Counts::new(rt.alloc(), 3, &[2, 9])?;
+    assert!(rt; counts.bad(2));
     assert_eq!(rt; counts.byte(2), 0x3f);
+    assert!(rt; !counts.bad(1));
+    counts.set_cached(1, true);
+    assert!(rt; counts.cached(1));
     assert!(rt; !counts.bad(1));
     assert_eq!(rt; counts.get(1), 0);
     counts.add(1, 9000)?;
-    counts.set_cached(1, true);
     assert_eq!(rt; counts.get(1), 9000);
     counts.sub(1, 8900);
     assert_eq!(rt; counts.get(1), 100);
     counts.sub(1, 100);
-    assert_eq!(rt; counts.get(1), 0);
-    assert!(rt; counts.cached(1) && !counts.cached(0));
+    assert_eq!(rt; counts.byte(1), 0x40);
     Ok(())
 }
