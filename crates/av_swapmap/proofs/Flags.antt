@@ -1,5 +1,5 @@
 -- Flags as bits: to set one that isn't set adds it, and to test one is to ask for its binary digit.
-use Rattle.std.proofs.Common.{◌≡◌, ℕ, zero, suc, ◌+◌, ◌*◌, ◌/◌, ◌%◌, ◌<◌, ◌==◌, ltb, not, Bool, true, false, cond, bit_and, bit_or, refl, sym, ap, subst, ◌∙◌, arith}
+use Rattle.std.proofs.Common.{◌≡◌, ℕ, zero, suc, ◌+◌, ◌*◌, ◌/◌, ◌%◌, ◌<◌, ◌==◌, ltb, not, Bool, true, false, cond, bit_and, bit_or, refl, ap, ◌∙◌, arith}
 use Rattle.std.proofs.lemmas.Nat.{or_disjoint, and_le_r}
 use Rattle.std.proofs.lemmas.Nat.Bits.{and_pow}
 use Rattle.av_swapmap.specs.Digits.{with_more, byte_of, cached_of}

@@ -1,5 +1,5 @@
 -- The byte and the digits of a count stand for that count.
-use Rattle.std.proofs.Common.{◌≡◌, ℕ, zero, suc, ◌+◌, ◌-◌, ◌*◌, ◌/◌, ◌%◌, ◌^◌, ◌<◌, ◌≤◌, ◌==◌, ltb, Bool, true, false, cond, List, [], ◌∷◌, Option, Some, None, refl, sym, ap, ◌∙◌, arith}
+use Rattle.std.proofs.Common.{◌≡◌, ℕ, ◌+◌, ◌*◌, ◌/◌, ◌%◌, ◌^◌, ◌<◌, ◌==◌, ltb, Bool, true, false, cond, [], ◌∷◌, Some, None, refl, ap, ◌∙◌, arith}
 use Rattle.std.proofs.lemmas.Bool.Decides.{nat_tests}
 use Rattle.av_swapmap.specs.Digits.{with_more, byte_of, digit_of, further_of, first_of, cached_of, value_of, count_of}
 
@@ -61,7 +61,6 @@ count_is n c h = split (ltb n 63) refl
     split true e = let low : n < 63 = grind (arith, nat_tests) in byte_first n c ∙ small n low
     split false e = ap (λ x. x + 63 * value_of (digit_of n 1 ∷ digit_of n 2 ∷ digit_of n 3 ∷ digit_of n 4 ∷ [])) (byte_first n c)
         ∙ ap (λ x. n % 63 + 63 * x) (value_is n h) ∙ whole n
-
 
 -- the digits' worth, whether or not they are kept
 pub worth_is : (n : ℕ) (c : Bool) → n < 2 ^ 32 → byte_of n c % 64 + 63 * value_of (digit_of n 1 ∷ digit_of n 2 ∷ digit_of n 3 ∷ digit_of n 4 ∷ []) ≡ n

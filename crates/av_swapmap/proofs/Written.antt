@@ -1,10 +1,10 @@
 -- The slots after a count and a flag are written at one of them.
-use Rattle.std.proofs.Common.{◌≡◌, ℕ, ◌+◌, ◌-◌, ◌%◌, ◌^◌, ◌<◌, ◌≤◌, ◌==◌, Bool, true, false, cond, List, length, get_or, slice_set, Option, None, Some, refl, sym, ap, subst, ◌∙◌, arith, length-set, get_or-set_same, get_or-set_other, Result, Ok, Err, MatchResult}
+use Rattle.std.proofs.Common.{◌≡◌, ℕ, ◌%◌, ◌^◌, ◌<◌, ◌≤◌, ◌==◌, Bool, true, false, cond, List, length, get_or, slice_set, Option, refl, sym, ap, subst, ◌∙◌, arith, length-set, get_or-set_same, get_or-set_other, Result, Ok, Err, MatchResult}
 use Rattle.std.specs.Result.{IsErr}
 use Rattle.std.proofs.lemmas.Bool.Decides.{nat_tests}
 use Rattle.std.proofs.lemmas.Bool.{false≢true}
 use Rattle.av_swapmap.specs.Digits.{byte_of, further_of, cached_of, count_of}
-use Rattle.av_swapmap.specs.Seen.{Store, Seen, seen, more_at, with_at, IsSlot, IsWhole}
+use Rattle.av_swapmap.specs.Seen.{Store, seen, more_at, with_at, IsSlot, IsWhole}
 use Rattle.av_swapmap.proofs.Numbers.{good_byte, byte_cached, count_is}
 
 -- a count and a flag make a slot
@@ -12,7 +12,7 @@ pub slot_made : (n : ℕ) (c : Bool) → n < 2 ^ 32 → IsSlot (byte_of n c) (fu
 slot_made n c h = let is = count_is n c h in record {
   fits = subst (λ x. x < 2 ^ 32) (sym is) h;
   byte_is = ap (λ b. cond b 63 (byte_of (count_of (byte_of n c) (further_of n)) (cached_of (byte_of n c)))) (good_byte n c)
-    ∙ ap (λ x. byte_of x (cached_of (byte_of n c))) is ∙ ap (λ x. byte_of n x) (byte_cached n c);
+      ∙ ap (λ x. byte_of x (cached_of (byte_of n c))) is ∙ ap (λ x. byte_of n x) (byte_cached n c);
   more_is = ap further_of (sym is);
   bad_has_none = λ e. absurd (false≢true (sym (good_byte n c) ∙ e));
 }
@@ -85,8 +85,7 @@ digits_stay s page n w is q = point (q == page) refl
 -- a bad slot isn't named and isn't cached
 pub bad_unnamed : (s : Store) (page : ℕ) → IsWhole s.bytes s.more → (seen s).bad page ≡ true → ((seen s).count page ≡ 0) × ((seen s).cached page ≡ false)
 bad_unnamed s page w e =
-    let is : get_or s.bytes page 0 ≡ 63 = grind (arith, nat_tests) in
-    (
+    let is : get_or s.bytes page 0 ≡ 63 = grind (arith, nat_tests) in (
       ap (count_of (get_or s.bytes page 0)) ((w.slots page).bad_has_none e) ∙ ap (λ b. cond b 0 (get_or s.bytes page 0 % 64)) e,
       ap cached_of is,
     )
@@ -110,15 +109,15 @@ module _ (s t : Store) (view_is : s ≡ t) (w : IsWhole s.bytes s.more) (page n 
   pub seen_after : (seen t).bad page ≡ false
       → seen (record { bytes = slice_set s.bytes page b; more = new }) ≡ record (seen t) { cached = with_at page c (seen t).cached; count = with_at page n (seen t).count }
   seen_after good = ap (λ x. seen (record { bytes = slice_set s.bytes page x; more = new })) b_is
-    ∙ seen_written s.bytes s.more new page n c below_s now fits (subst (λ (v : Store). (seen v).bad page ≡ false) (sym view_is) good)
-    ∙ ap (λ (v : Store). record (seen v) { cached = with_at page c (seen v).cached; count = with_at page n (seen v).count }) view_is
+      ∙ seen_written s.bytes s.more new page n c below_s now fits (subst (λ (v : Store). (seen v).bad page ≡ false) (sym view_is) good)
+      ∙ ap (λ (v : Store). record (seen v) { cached = with_at page c (seen v).cached; count = with_at page n (seen v).count }) view_is
 
   -- the flag stays
   pub count_after : (seen t).bad page ≡ false → c ≡ (seen t).cached page → (m : ℕ) → n ≡ m
       → seen (record { bytes = slice_set s.bytes page b; more = new }) ≡ record (seen t) { count = with_at page m (seen t).count }
   count_after good same m is = seen_after good
-    ∙ ap (λ f. record (seen t) { cached = f; count = with_at page n (seen t).count }) (ap (λ x. with_at page x (seen t).cached) same ∙ same_again (seen t).cached page)
-    ∙ ap (λ x. record (seen t) { count = with_at page x (seen t).count }) is
+      ∙ ap (λ f. record (seen t) { cached = f; count = with_at page n (seen t).count }) (ap (λ x. with_at page x (seen t).cached) same ∙ same_again (seen t).cached page)
+      ∙ ap (λ x. record (seen t) { count = with_at page x (seen t).count }) is
 
   -- the count stays
   pub cached_after : (seen t).bad page ≡ false → n ≡ (seen t).count page

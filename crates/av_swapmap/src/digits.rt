@@ -46,14 +46,22 @@ fn with_more(number: u32, base: u32) -> u8
     ensures { result ≡ with_more base number }
 {
     let digit = (number % base) as u8;
-    if number < base { digit } else { digit | CONTINUED }
+    if number < base {
+        digit
+    } else {
+        digit | CONTINUED
+    }
 }
 
 /// The first digit that a byte has; none at a bad slot.
 pub(crate) fn first_of(byte: u8) -> u32
     ensures { result ≡ first_of byte }
 {
-    if byte == BAD { 0 } else { (byte & FIRST) as u32 }
+    if byte == BAD {
+        0
+    } else {
+        (byte & FIRST) as u32
+    }
 }
 
 /// Whether a byte has the flag of the swap cache.

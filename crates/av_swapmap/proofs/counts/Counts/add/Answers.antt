@@ -1,5 +1,4 @@
-use Rattle.std.proofs.Common.{ℕ, ◌≡◌, ◌+◌, ◌<◌, ◌^◌, subst, sym, ap}
-use Rattle.av_swapmap.specs.Seen.{seen}
+use Rattle.std.proofs.Common.{◌+◌, ◌<◌, ◌^◌, subst, sym, ap}
 use Rattle.av_swapmap.specs.contracts.counts.Counts.{the_view}
 use Rattle.av_swapmap.proofs.Written.{whole_after, count_after, seen_kept, on_err}
 use Rattle.av_swapmap.proofs.counts.Counts.add.Goals as goal
@@ -16,4 +15,4 @@ pub returns : goal.returns
 returns c =
     let fits : c.get.result + c.args.n < 2 ^ 32 = subst (λ x. x + c.args.n < 2 ^ 32) (sym c.get.ensures) c.requires.room in
     count_after (the_view c.self.inside) c.args.self.now c.self.view_is c.self.invariant c.args.page (c.get.result + c.args.n) _ c.cached.result _ c.requires.in_range fits c.byte_of-byte.ensures c.in_ok-grow.ensures
-        c.requires.not_bad c.cached.ensures _ (ap (λ x. x + c.args.n) c.get.ensures)
+    c.requires.not_bad c.cached.ensures _ (ap (λ x. x + c.args.n) c.get.ensures)

@@ -1,4 +1,4 @@
-use Rattle.std.proofs.Common.{ℕ, ◌≡◌, ◌==◌, ◌<◌, true, false, length, get_or, subst, ◌∙◌, sym, ap}
+use Rattle.std.proofs.Common.{◌≡◌, ◌==◌, ◌<◌, true, false, length, subst, ◌∙◌, sym}
 use Rattle.std.proofs.lemmas.List.{get_or_default}
 use Rattle.av_swapmap.specs.Seen.{Store, seen}
 use Rattle.av_swapmap.specs.contracts.counts.Counts.{the_view}

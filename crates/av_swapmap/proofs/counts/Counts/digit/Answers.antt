@@ -1,7 +1,6 @@
-use Rattle.std.proofs.Common.{ℕ, List, Option, Some, ◌≡◌, ◌<◌, ◌-◌, ◌^◌, get_or, subst, sym, ap, ◌∙◌}
-use Rattle.av_swapmap.specs.Seen.{Store, seen, more_at, IsSlot}
-use Rattle.av_swapmap.specs.Digits.{digit_of, count_of}
-use Rattle.av_swapmap.specs.contracts.counts.Counts.{the_view}
+use Rattle.std.proofs.Common.{◌≡◌, ◌-◌, get_or, subst}
+use Rattle.av_swapmap.specs.Seen.{Store, seen}
+use Rattle.av_swapmap.specs.Digits.{digit_of}
 use Rattle.av_swapmap.proofs.Places.{kept_at, past_is}
 use Rattle.av_swapmap.proofs.counts.Counts.digit.Goals as goal
 
