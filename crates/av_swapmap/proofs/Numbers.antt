@@ -1,5 +1,5 @@
 -- The byte and the digits of a count stand for that count.
-use Rattle.std.proofs.Common.{◌≡◌, ℕ, ◌+◌, ◌*◌, ◌/◌, ◌%◌, ◌^◌, ◌<◌, ◌==◌, ltb, Bool, true, false, cond, [], ◌∷◌, Some, None, refl, ap, ◌∙◌, arith}
+use Rattle.std.proofs.Common.{◌≡◌, ℕ, ◌+◌, ◌*◌, ◌/◌, ◌%◌, ◌^◌, ◌<◌, ◌==◌, ltb, Bool, true, false, cond, List, [], ◌∷◌, Some, None, refl, ap, ◌∙◌, arith}
 use Rattle.std.proofs.lemmas.Bool.Decides.{nat_tests}
 use Rattle.av_swapmap.specs.Digits.{with_more, byte_of, digit_of, further_of, first_of, cached_of, value_of, count_of}
 
@@ -68,3 +68,14 @@ worth_is n c h = ap (λ x. x + 63 * value_of (digit_of n 1 ∷ digit_of n 2 ∷ 
 
 pub never_bad : (n : ℕ) (c : Bool) → byte_of n c ≡ 63 → ⊥
 never_bad n c h = let good = good_byte n c in grind (arith, nat_tests, good)
+
+-- a count that needs no continuation digits
+pub needs_none : (n : ℕ) → None ≡ further_of n → n < 63
+needs_none n is = split (ltb n 63) refl
+  where
+    clash : {xs : List ℕ} → None ≡ Some xs → ⊥
+    clash h = cc
+
+    split : (b : Bool) → ltb n 63 ≡ b → n < 63
+    split true e = grind (arith, nat_tests)
+    split false e = absurd (clash (is ∙ ap (λ t. cond t None (Some (digit_of n 1 ∷ digit_of n 2 ∷ digit_of n 3 ∷ digit_of n 4 ∷ []))) e))

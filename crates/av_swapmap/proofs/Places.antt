@@ -1,6 +1,5 @@
 -- The continuation digits of a slot by their places.
 use Rattle.std.proofs.Common.{◌≡◌, ℕ, zero, suc, ◌-◌, ◌/◌, ◌^◌, ◌<◌, ◌≤◌, ltb, Bool, true, false, cond, List, [], ◌∷◌, get_or, Option, Some, None, refl, sym, ap, subst, ◌∙◌, arith}
-use Rattle.std.proofs.lemmas.Bool.Decides.{nat_tests}
 use Rattle.std.proofs.Math.Nat.{div-eq_of_lt, pow-le-pow_right}
 use Rattle.av_swapmap.specs.Digits.{with_more, digit_of, further_of, count_of}
 use Rattle.av_swapmap.specs.Seen.{IsSlot}
@@ -13,27 +12,6 @@ past_is n i h far =
     let high : 128 ^ 4 ≤ 128 ^ (i - 1) = pow-le-pow_right {n = 128} some {i = 4} {j = i - 1} three in
     let low : n / 63 < 128 ^ (i - 1) = omega (arith, high) in
     sym (ap (with_more 128) (div-eq_of_lt low))
-
--- nor where there are none at all
-pub none_is : (b i : ℕ) → IsSlot b None → 0 ≡ digit_of (count_of b None) i
-none_is b i slot = split (ltb (count_of b None) 63) refl slot.more_is
-  where
-    split : (t : Bool) → ltb (count_of b None) 63 ≡ t → None ≡ further_of (count_of b None) → 0 ≡ digit_of (count_of b None) i
-    split true e is = low (count_of b None) e
-      where
-        low : (n : ℕ) → ltb n 63 ≡ true → 0 ≡ digit_of n i
-        low n e = let none : n / 63 ≡ 0 = grind (arith, nat_tests) in sym (ap (λ x. with_more 128 (x / 128 ^ (i - 1))) none ∙ zero_over (128 ^ (i - 1)))
-          where
-            zero_over : (m : ℕ) → with_more 128 (0 / m) ≡ 0
-            zero_over zero = refl
-            zero_over (suc m) = ap (with_more 128) (div-eq_of_lt (omega arith))
-    split false e is = absurd (clash (count_of b None) e is)
-      where
-        clash : (n : ℕ) → ltb n 63 ≡ false → None ≡ further_of n → ⊥
-        clash n e is = none_some (is ∙ ap (λ t. cond t None (Some (digit_of n 1 ∷ digit_of n 2 ∷ digit_of n 3 ∷ digit_of n 4 ∷ []))) e)
-          where
-            none_some : {xs : List ℕ} → None ≡ Some xs → ⊥
-            none_some h = cc
 
 -- the digits that are kept
 pub kept_is : (b i : ℕ) (ds : List ℕ) → IsSlot b (Some ds) → 1 ≤ i → i ≤ 4 → get_or ds (i - 1) 0 ≡ digit_of (count_of b (Some ds)) i
@@ -62,5 +40,6 @@ kept_is b i ds slot one four = split (count_of b (Some ds)) (ltb (count_of b (So
         let all : ds ≡ digit_of n 1 ∷ digit_of n 2 ∷ digit_of n 3 ∷ digit_of n 4 ∷ [] = inner _ _ (is ∙ ap (λ t. cond t None (Some (digit_of n 1 ∷ digit_of n 2 ∷ digit_of n 3 ∷ digit_of n 4 ∷ []))) e) in
         ap (λ xs. get_or xs (i - 1) 0) all ∙ place n i one four
 
+-- the same of a lookup
 pub kept_at : (b i : ℕ) (ds : List ℕ) (m : Option (List ℕ)) → Some ds ≡ m → IsSlot b m → 1 ≤ i → i ≤ 4 → get_or ds (i - 1) 0 ≡ digit_of (count_of b m) i
 kept_at b i ds m is slot one four = subst (λ m. get_or ds (i - 1) 0 ≡ digit_of (count_of b m) i) is (kept_is b i ds (subst (IsSlot b) (sym is) slot) one four)

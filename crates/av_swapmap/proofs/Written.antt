@@ -1,11 +1,11 @@
 -- The slots after a count and a flag are written at one of them.
-use Rattle.std.proofs.Common.{◌≡◌, ℕ, ◌%◌, ◌^◌, ◌<◌, ◌≤◌, ◌==◌, Bool, true, false, cond, List, length, get_or, slice_set, Option, refl, sym, ap, subst, ◌∙◌, arith, length-set, get_or-set_same, get_or-set_other, Result, Ok, Err, MatchResult}
+use Rattle.std.proofs.Common.{◌≡◌, ℕ, ◌%◌, ◌^◌, ◌<◌, ◌≤◌, ◌==◌, Bool, true, false, cond, List, length, get_or, slice_set, Option, None, refl, sym, ap, subst, ◌∙◌, arith, length-set, get_or-set_same, get_or-set_other, Result, Ok, Err, MatchResult}
 use Rattle.std.specs.Result.{IsErr}
 use Rattle.std.proofs.lemmas.Bool.Decides.{nat_tests}
 use Rattle.std.proofs.lemmas.Bool.{false≢true}
 use Rattle.av_swapmap.specs.Digits.{byte_of, further_of, cached_of, count_of}
 use Rattle.av_swapmap.specs.Seen.{Store, seen, more_at, with_at, IsSlot, IsWhole}
-use Rattle.av_swapmap.proofs.Numbers.{good_byte, byte_cached, count_is}
+use Rattle.av_swapmap.proofs.Numbers.{good_byte, byte_cached, count_is, needs_none}
 
 -- a count and a flag make a slot
 pub slot_made : (n : ℕ) (c : Bool) → n < 2 ^ 32 → IsSlot (byte_of n c) (further_of n)
@@ -132,3 +132,7 @@ seen_kept s t is new now = (λ k. record (seen s) { count = λ q. count_of (get_
 pub on_err : {A E : Type 0} (r : Result A E) (P Q : Type 0) → IsErr r → Q → MatchResult r (λ _. P) (λ _. Q)
 on_err (Ok x) P Q h q = cc
 on_err (Err e) P Q h q = q
+
+-- a slot without continuation digits has a count that needs none
+pub none_small : (s : Store) (page : ℕ) → IsWhole s.bytes s.more → more_at s.more page ≡ None → (seen s).count page < 63
+none_small s page w none = needs_none (count_of (get_or s.bytes page 0) (more_at s.more page)) (sym none ∙ (w.slots page).more_is)

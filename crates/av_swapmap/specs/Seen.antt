@@ -15,13 +15,14 @@ pub record Store : Type 0 where
 abbrev pub more_at : List (ℕ × List ℕ) → ℕ → Option (List ℕ)
 more_at more p = lookup (is_at (nat_cmp p)) more
 
--- what these say: how many slots there are; of each, whether it is bad, whether the swap cache holds it, and how many entries name it
+-- how many slots there are; of each, whether it is bad, whether the swap cache holds it, and how many entries name it
 pub record Seen : Type 0 where
   pub pages : ℕ
   pub bad : ℕ → Bool
   pub cached : ℕ → Bool
   pub count : ℕ → ℕ
 
+-- what bytes and digits say of each slot
 abbrev pub seen : Store → Seen
 seen s = record {
   pages = length s.bytes;

@@ -53,14 +53,14 @@ impl Counts {
         }
     }
 
-    /// So many more entries name the slot. Without memory all stays.
+    /// So many more entries name the slot. Without memory all stays; only a count that grows to 63 or more from below takes memory.
     pub fn add(&mut self, page: u32, n: u32) -> Result<(), AllocError>
         requires in_range { page < (seen self.old).pages }
         requires not_bad { (seen self.old).bad page ≡ false }
         requires room { (seen self.old).count page + n < 2 ^ 32 }
         ensures { MatchResult result
             (λ _. seen self.new ≡ record (seen self.old) { count = with_at page ((seen self.old).count page + n) (seen self.old).count })
-            (λ _. seen self.new ≡ seen self.old) }
+            (λ _. ((seen self.old).count page < 63) × (63 ≤ (seen self.old).count page + n) × (seen self.new ≡ seen self.old)) }
     {
         let count = self.get(page) + n;
         let byte = byte_of(count, self.cached(page));
@@ -151,7 +151,7 @@ fn grow(more: &mut BTreeMap<u32, Further>, page: u32, count: u32) -> Result<(), 
     requires { count < 63 → get nat_cmp more.old page ≡ None }
     ensures { MatchResult result
         (λ _. (q : ℕ) → get nat_cmp more.new q ≡ with_at page (further_of count) (get nat_cmp more.old) q)
-        (λ _. (q : ℕ) → get nat_cmp more.new q ≡ get nat_cmp more.old q) }
+        (λ _. (get nat_cmp more.old page ≡ None) × (63 ≤ count) × ((q : ℕ) → get nat_cmp more.new q ≡ get nat_cmp more.old q)) }
 {
     if count >= FIRST_BASE {
         more.insert(page, further_of(count))?;
