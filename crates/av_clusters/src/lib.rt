@@ -120,6 +120,16 @@ impl Clusters {
         }
     }
 
+    /// Whether a page is a slot that is taken.
+    pub fn is_taken(&self, page: u32) -> bool
+        ensures { result ≡ is_taken (page_at self.now.pages page) }
+    {
+        match self.pages.get(page as usize) {
+            Some(page) => page.is_taken(),
+            None => false,
+        }
+    }
+
     /// How many slots are free.
     pub fn free(&self) -> u32
         ensures { result ≡ count_by is_free self.now.pages }
