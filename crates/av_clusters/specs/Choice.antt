@@ -1,0 +1,135 @@
+-- Which slot of a swap area is given next: what each page of the area is, and the clusters of 256 pages in which slots are given.
+use Rattle.std.specs.Prelude.{◌≡◌, ℕ, ◌+◌, ◌-◌, ◌*◌, ◌/◌, ◌^◌, ◌<◌, ◌≤◌, Bool, true, false, ◌||◌, ◌==◌, if◌then◌else◌, List, [], ◌∷◌, ◌++◌, length, map, filter, take, drop, slice_set, slice_index_or, Option, None, Some, MatchOption, count_by, position}
+use Rattle.std.specs.List.{list_any, range_with_len}
+use Rattle.std.specs.Option.{option_map, is_some}
+use Rattle.av_clusters.specs.declared.Page.{Page}
+use Rattle.av_clusters.specs.declared.Page.TheVariants.{Unusable, Free, Taken}
+
+-- the value of `Clusters`: what each page is; the free clusters, in the order in which they are opened; the cluster that is being filled, and the page from which on
+pub record Choice : Type 0 where
+  pub pages : List Page
+  pub free : List ℕ
+  pub current : Option ℕ
+  pub cursor : ℕ
+
+abbrev pub is_free : Page → Bool
+is_free Unusable = false
+is_free Free = true
+is_free Taken = false
+
+abbrev pub is_taken : Page → Bool
+is_taken Unusable = false
+is_taken Free = false
+is_taken Taken = true
+
+-- what the page of this number is
+abbrev pub page_at : List Page → ℕ → Page
+page_at pages p = slice_index_or pages p Unusable
+
+-- the pages from one on, below another
+abbrev pub pages_between : ℕ → ℕ → List Page → List Page
+pages_between from to pages = take (to - from) (drop from pages)
+
+-- the lowest free slot among them
+abbrev pub lowest : List Page → ℕ → ℕ → Option ℕ
+lowest pages from to = option_map (λ i. from + i) (position is_free (pages_between from to pages))
+
+-- a cluster's first page, and the one after its last
+abbrev pub start_of : ℕ → ℕ
+start_of c = 256 * c
+
+abbrev pub end_of : ℕ → ℕ
+end_of c = 256 * c + 256
+
+abbrev pub has_free : List Page → ℕ → Bool
+has_free pages c = is_some (lowest pages (start_of c) (end_of c))
+
+abbrev pub has_taken : List Page → ℕ → Bool
+has_taken pages c = list_any is_taken (pages_between (start_of c) (end_of c) pages)
+
+-- at first each page is free, except for the header, which is the first, and the bad ones
+abbrev pub at_first : List ℕ → ℕ → Page
+at_first bad p = if p == 0 || list_any (λ b. p == b) bad then Unusable else Free
+
+abbrev pub pages_of : ℕ → List ℕ → List Page
+pages_of n bad = map (at_first bad) (range_with_len 0 n)
+
+-- the clusters with a free slot, rising
+abbrev pub clusters_of : List Page → List ℕ
+clusters_of pages = filter (has_free pages) (range_with_len 0 (length pages / 256 + 1))
+
+-- an area of n pages from which no slot is given yet
+abbrev pub fresh : ℕ → List ℕ → Choice
+fresh n bad = record { pages = pages_of n bad; free = clusters_of (pages_of n bad); current = None; cursor = 0 }
+
+-- a page is taken
+abbrev pub taking : Choice → ℕ → Choice
+taking t p = record t { pages = slice_set t.pages p Taken }
+
+-- it is taken in this cluster, which is filled further behind it
+abbrev pub filling : Choice → ℕ → ℕ → Choice
+filling t c p = record t { pages = slice_set t.pages p Taken; current = Some c; cursor = p + 1 }
+
+-- first, the lowest free slot of the current cluster from the cursor on
+abbrev pub in_current : Choice → Option ℕ → Option (ℕ × Choice)
+in_current t None = None
+in_current t (Some c) = option_map (λ p. (p, filling t c p)) (lowest t.pages t.cursor (end_of c))
+
+-- else, the lowest of the first free cluster, which becomes the current one
+abbrev pub in_next : Choice → List ℕ → Option (ℕ × Choice)
+in_next t [] = None
+in_next t (c ∷ rest) = option_map (λ p. (p, filling (record t { free = rest }) c p)) (lowest t.pages (start_of c) (end_of c))
+
+-- else, the lowest of the area
+abbrev pub anywhere : Choice → Option (ℕ × Choice)
+anywhere t = option_map (λ p. (p, taking t p)) (lowest t.pages 0 (length t.pages))
+
+abbrev pub first_some : {X : Type 0} → Option X → Option X → Option X
+first_some None other = other
+first_some (Some x) other = Some x
+
+-- the page that is given next, and what is left then
+abbrev pub take_slot : Choice → Option (ℕ × Choice)
+take_slot t = first_some (in_current t t.current) (first_some (in_next t t.free) (anywhere t))
+
+-- a call gave what it should, and left all as it was where that is nothing
+abbrev pub Gave : Option (ℕ × Choice) → Choice → Option ℕ → Choice → Type 0
+Gave wanted old result new = MatchOption result ((wanted ≡ None) × (new ≡ old)) (λ p. wanted ≡ Some (p, new))
+
+-- the current cluster, unless it is this one
+abbrev pub unless : ℕ → Option ℕ → Option ℕ
+unless c None = None
+unless c (Some d) = if c == d then None else Some d
+
+-- a cluster from which all slots came back goes to the end of the list
+abbrev pub emptied : Choice → ℕ → Choice
+emptied t c = record t { free = t.free ++ c ∷ []; current = unless c t.current }
+
+-- a slot is given back
+abbrev pub give_slot : Choice → ℕ → Choice
+give_slot t p = let t' = record t { pages = slice_set t.pages p Free } in if has_taken t'.pages (p / 256) then t' else emptied t' (p / 256)
+
+-- the test that a flag stands
+abbrev pub itself : Bool → Bool
+itself b = b
+
+-- a cluster that is being filled isn't free, and the cursor stands in it or at its end
+abbrev pub Fills : List Bool → ℕ → ℕ → Option ℕ → Type 0
+Fills flags count mark None = Unit {0}
+Fills flags count mark (Some c) = (slice_index_or flags c true ≡ true) × (start_of c ≤ mark) × (mark ≤ end_of c) × (mark ≤ count)
+
+-- the parts of `Clusters` fit together: a flag for each cluster that isn't free, room for all in the list, and the number of free slots
+pub record IsWhole (pages : List Page) (spare : ℕ) (frees : List ℕ) (frees_len frees_room : ℕ) (flags : List Bool) (filled : Option ℕ) (mark : ℕ) : Type 0 where
+  pub few : length pages < 2 ^ 32
+  pub left : spare ≡ count_by is_free pages
+  pub busy : length flags ≡ length pages / 256 + 1
+  pub len : frees_len ≡ length frees
+  pub room : length flags ≤ frees_room
+  -- each cluster is flagged or stands once in the list
+  pub total : length frees + count_by itself flags ≡ length flags
+  pub once : (c : ℕ) → count_by (λ d. c == d) frees ≡ (if slice_index_or flags c true then 0 else 1)
+  -- one with a taken slot is flagged
+  pub held : (p : ℕ) → is_taken (page_at pages p) ≡ true → slice_index_or flags (p / 256) true ≡ true
+  -- one without the flag has a free slot
+  pub fit : (c : ℕ) → slice_index_or flags c true ≡ false → (p : ℕ) × (p / 256 ≡ c) × (is_free (page_at pages p) ≡ true)
+  pub fills : Fills flags (length pages) mark filled
