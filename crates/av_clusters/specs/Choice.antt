@@ -118,8 +118,12 @@ abbrev pub Fills : List Bool → ℕ → ℕ → Option ℕ → Type 0
 Fills flags count mark None = Unit {0}
 Fills flags count mark (Some c) = (slice_index_or flags c true ≡ true) × (start_of c ≤ mark) × (mark ≤ end_of c) × (mark ≤ count)
 
+-- no page of a cluster that is marked as full is free
+abbrev pub AreFull : List Page → List Bool → Type 0
+AreFull pages marks = (p : ℕ) → slice_index_or marks (p / 256) false ≡ true → is_free (page_at pages p) ≡ false
+
 -- the parts of `Clusters` fit together: a flag for each cluster that isn't free, room for all in the list, and the number of free slots
-pub record IsWhole (pages : List Page) (spare : ℕ) (frees : List ℕ) (frees_len frees_room : ℕ) (flags : List Bool) (filled : Option ℕ) (mark : ℕ) : Type 0 where
+pub record IsWhole (pages : List Page) (spare : ℕ) (frees : List ℕ) (frees_len frees_room : ℕ) (flags marks : List Bool) (filled : Option ℕ) (mark : ℕ) : Type 0 where
   pub few : length pages < 2 ^ 32
   pub left : spare ≡ count_by is_free pages
   pub busy : length flags ≡ length pages / 256 + 1
@@ -132,4 +136,6 @@ pub record IsWhole (pages : List Page) (spare : ℕ) (frees : List ℕ) (frees_l
   pub held : (p : ℕ) → is_taken (page_at pages p) ≡ true → slice_index_or flags (p / 256) true ≡ true
   -- one without the flag has a free slot
   pub fit : (c : ℕ) → slice_index_or flags c true ≡ false → (p : ℕ) × (p / 256 ≡ c) × (is_free (page_at pages p) ≡ true)
+  pub marked : length marks ≡ length pages / 256 + 1
+  pub full : AreFull pages marks
   pub fills : Fills flags (length pages) mark filled
