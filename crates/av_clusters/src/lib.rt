@@ -96,7 +96,7 @@ impl Clusters {
         })
     }
 
-    /// Takes a slot, and answers its page. None exactly where no slot is free.
+    /// Takes the next slot, and answers its page: from the current cluster, else from the first free one, else the lowest of the area. None exactly where no slot is free.
     pub fn take(&mut self) -> Option<u32>
         ensures gave { Gave (take_slot self.old) self.old result self.new }
         ensures slot { MatchOption result (count_by is_free self.old.pages ≡ 0) (λ p. (page_at self.old.pages p ≡ Free) × (page_at self.new.pages p ≡ Taken)) }
@@ -110,7 +110,7 @@ impl Clusters {
         self.take_anywhere()
     }
 
-    /// Gives a slot back.
+    /// Gives a slot back, which has to be taken. A cluster whose last taken slot it was goes to the end of the free ones.
     pub fn give(&mut self, page: u32)
         requires { is_taken (page_at self.old.pages page) ≡ true }
         ensures { self.new ≡ give_slot self.old page }
@@ -186,12 +186,14 @@ impl Clusters {
     }
 }
 
+// A cluster's first page.
 fn start_of(cluster: u32) -> usize
     ensures { result ≡ start_of cluster }
 {
     cluster as usize * CLUSTER
 }
 
+// The page after its last, which the area may not reach.
 fn end_of(cluster: u32) -> usize
     ensures { result ≡ end_of cluster }
 {
@@ -357,7 +359,7 @@ fn free_clusters(alloc: Global, pages: &[Page]) -> Result<VecDeque<u32>, AllocEr
     Ok(clusters)
 }
 
-// Whether each cluster has none.
+// Whether each cluster has no free page.
 fn busy_clusters(alloc: Global, pages: &[Page]) -> Result<Vec<bool>, AllocError>
     requires { length pages.now < 2 ^ 32 }
     ensures { IfOk result (λ v. v.items ≡ map (λ c. not (has_free pages.now c)) (range_with_len 0 (length pages.now / 256 + 1))) }
