@@ -1,14 +1,14 @@
 -- An area from which no slot is given yet.
 use Rattle.std.proofs.Common.{◌≡◌, ◌≢◌, ℕ, zero, suc, ◌+◌, ◌*◌, ◌/◌, ◌^◌, ◌<◌, ◌≤◌, Bool, true, false, cond, not, ◌||◌, ◌⊎◌, List, [], ◌∷◌, ◌++◌, length, map, filter, get_or, set, take, replicate, Option, Some, None, is_some, count_by, refl, sym, ap, subst, ◌∙◌, arith, inl, inr, ◌==◌, length-append, length-set, get_or-set_same, get_or-set_other}
 use Rattle.std.specs.List.{list_any, range_with_len}
-use Rattle.std.proofs.lemmas.Bool.{cases_lt, cases_eq, cases_Bool, false≢true}
+use Rattle.std.proofs.lemmas.Bool.{cases_lt, false≢true}
 use Rattle.std.proofs.lemmas.Bool.Decides.{nat_tests}
 use Rattle.std.proofs.lemmas.List.{get_or_past, get_or-replicate, length-replicate}
 use Rattle.std.proofs.lemmas.List.Folds.{list_any_more}
-use Rattle.std.proofs.lemmas.List.FromFn.{fill_by_all, get_or-map-range_with_len, length-map-range_with_len, length-range_with_len, filter_of_map_range_with_len_more, map-range_with_len_more}
+use Rattle.std.proofs.lemmas.List.FromFn.{fill_by_all, get_or-map-range_with_len, length-map-range_with_len, filter_of_map_range_with_len_more, map-range_with_len_more}
 use Rattle.std.proofs.lemmas.List.Sums.{sum_by-cons}
 use Rattle.av_clusters.specs.declared.Page.{Page}
-use Rattle.av_clusters.specs.declared.Page.TheVariants.{Unusable, Free, Taken}
+use Rattle.av_clusters.specs.declared.Page.TheVariants.{Unusable, Free}
 use Rattle.av_clusters.specs.Choice.{IsWhole, itself, is_free, is_taken, page_at, lowest, has_free, start_of, end_of, at_first, pages_of, clusters_of}
 use Rattle.av_clusters.proofs.Pages.{found}
 use Rattle.av_clusters.proofs.Whole.{flag_below}
@@ -165,8 +165,13 @@ fit_fresh pages c h = by (lowest pages (start_of c) (end_of c)) refl h
     by None e g = absurd (false≢true g)
     by (Some q) e g = let f = found pages (start_of c) (end_of c) q e in (q, inside q f.0 f.1, f.2)
 
+unmarked : (m c : ℕ) → get_or (replicate m false) c false ≡ false
+unmarked zero c = refl
+unmarked (suc m) zero = refl
+unmarked (suc m) (suc c) = unmarked m c
+
 pub whole_fresh : (n : ℕ) (bad : List ℕ) (len room : ℕ) → n < 2 ^ 32 → len ≡ length (clusters_of (pages_of n bad)) → length (pages_of n bad) / 256 + 1 ≤ room
-    → IsWhole (pages_of n bad) (count_by is_free (pages_of n bad)) (clusters_of (pages_of n bad)) len room (map (λ c. not (has_free (pages_of n bad) c)) (range_with_len 0 (length (pages_of n bad) / 256 + 1))) None 0
+    → IsWhole (pages_of n bad) (count_by is_free (pages_of n bad)) (clusters_of (pages_of n bad)) len room (map (λ c. not (has_free (pages_of n bad) c)) (range_with_len 0 (length (pages_of n bad) / 256 + 1))) (replicate (length (pages_of n bad) / 256 + 1) false) None 0
 whole_fresh n bad len room few same wide =
     let count = length-map-range_with_len (λ c. not (has_free (pages_of n bad) c)) 0 (length (pages_of n bad) / 256 + 1) in
     record {
@@ -179,6 +184,8 @@ whole_fresh n bad len room few same wide =
       once = λ c. once_from (has_free (pages_of n bad)) 0 (length (pages_of n bad) / 256 + 1) c c (sym (none_plus c));
       held = λ q t. absurd (false≢true (sym (never_taken n bad q) ∙ t));
       fit = λ c h. fit_fresh (pages_of n bad) c (flagged (has_free (pages_of n bad)) (length (pages_of n bad) / 256 + 1) c h);
+      marked = length-replicate (length (pages_of n bad) / 256 + 1) false;
+      full = λ q t. absurd (false≢true (sym (unmarked (length (pages_of n bad) / 256 + 1) (q / 256)) ∙ t));
       fills = tt;
     }
 

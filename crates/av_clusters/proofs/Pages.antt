@@ -1,15 +1,16 @@
 -- The pages of an area, and the lowest free one among some of them.
-use Rattle.std.proofs.Common.{◌≡◌, ◌≢◌, ℕ, ◌+◌, ◌-◌, ◌*◌, ◌/◌, ◌^◌, ◌<◌, ◌≤◌, min, Bool, true, false, cond, ◌⊎◌, List, [], ◌∷◌, length, get_or, set, take, drop, Option, Some, None, option_map, position, refl, sym, ap, subst, ◌∙◌, arith, inl, inr, ltb, length-take, length-drop, take_all, get_or-take, get_or-drop, get_or-set_same, get_or-set_other}
-use Rattle.std.proofs.lemmas.Bool.{cases_lt, cases_Bool, false≢true}
+use Rattle.std.proofs.Common.{◌≡◌, ℕ, suc, ◌+◌, ◌-◌, ◌*◌, ◌/◌, ◌<◌, ◌≤◌, min, Bool, true, false, cond, ◌⊎◌, List, [], ◌∷◌, ◌++◌, length, get_or, set, take, drop, Option, Some, None, is_some, option_map, position, count_by, refl, sym, ap, ◌∙◌, arith, inl, inr, ltb, length-take, length-drop, take_all, get_or-take, get_or-drop, get_or-set_same, get_or-set_other}
+use Rattle.std.proofs.Math.Seq.{take-append_seam}
+use Rattle.std.proofs.lemmas.Bool.{cases_lt, cases_eq, cases_order, cases_Bool, false≢true}
 use Rattle.std.proofs.lemmas.Bool.Decides.{nat_tests}
 use Rattle.std.proofs.lemmas.List.{get_or_past, take_rest}
 use Rattle.std.proofs.lemmas.List.Folds.{list_any_at}
 use Rattle.std.proofs.lemmas.List.Quantifiers.{position-Some}
-use Rattle.std.proofs.lemmas.List.Sums.{fails_before_first}
-use Rattle.std.specs.List.{list_any, position_or_len}
+use Rattle.std.proofs.lemmas.List.Sums.{fails_before_first, sum_by-cons}
+use Rattle.std.specs.List.{position_or_len}
 use Rattle.av_clusters.specs.declared.Page.{Page}
 use Rattle.av_clusters.specs.declared.Page.TheVariants.{Unusable, Free, Taken}
-use Rattle.av_clusters.specs.Choice.{is_free, is_taken, page_at, pages_between, lowest, has_taken, start_of, end_of}
+use Rattle.av_clusters.specs.Choice.{is_free, is_taken, page_at, pages_between, lowest, has_taken, start_of, end_of, AreFull}
 
 -- the end may lie past the area's
 pub cut_short : (pages : List Page) (from to : ℕ) → from ≤ to → from ≤ length pages → take (min to (length pages) - from) (drop from pages) ≡ pages_between from to pages
@@ -100,3 +101,112 @@ none_taken pages c p h e = by (cases_Bool (is_taken (page_at pages p)))
 -- what a call answered, at other names of its arguments
 pub answered : (pages pages' : List Page) (from from' to to' : ℕ) (r s : Option ℕ) → pages' ≡ pages → from' ≡ from → to' ≡ to → r ≡ lowest pages' from' to' → r ≡ s → lowest pages from to ≡ s
 answered pages pages' from from' to to' r s a b d e f = sym (e ∙ (λ k. lowest (a k) (b k) (d k))) ∙ f
+
+-- none before it is free
+pub least : (pages : List Page) (from to p k : ℕ) → lowest pages from to ≡ Some p → from ≤ k → k < p → is_free (page_at pages k) ≡ false
+least pages from to p k h low high = by (position is_free (pages_between from to pages)) refl h
+  where
+    by : (r : Option ℕ) → position is_free (pages_between from to pages) ≡ r → option_map (λ i. from + i) r ≡ Some p → is_free (page_at pages k) ≡ false
+    by None e g = absurd (let never : None ≡ Some p = g in cc)
+    by (Some i) e g =
+        let s = position-Some is_free (pages_between from to pages) i Unusable e in
+        let is : from + i ≡ p = cc in
+        let inside : k - from < i = omega (arith, is) in
+        let below = (found pages from to p h).1 in
+        let last : k < to = omega (arith, below) in
+        sym (ap is_free (at_between pages from to k low last)) ∙ s.2 (k - from) inside
+
+pub none_is : (pages : List Page) (from to : ℕ) → ((q : ℕ) → from ≤ q → q < to → is_free (page_at pages q) ≡ false) → lowest pages from to ≡ None
+none_is pages from to h = by (lowest pages from to) refl
+  where
+    by : (r : Option ℕ) → lowest pages from to ≡ r → lowest pages from to ≡ None
+    by None e = e
+    by (Some p) e = let f = found pages from to p e in absurd (false≢true (sym (h p f.0 f.1) ∙ f.2))
+
+-- the lowest of the first cluster that has one is the lowest of the area
+pub lowest_of_all : (pages : List Page) (c : ℕ) (r : Option ℕ) → r ≡ lowest pages (start_of c) (end_of c) → is_some r ≡ true → ((q : ℕ) → q < 256 * c → is_free (page_at pages q) ≡ false) → r ≡ lowest pages 0 (length pages)
+lowest_of_all pages c None e some before = absurd (false≢true some)
+lowest_of_all pages c (Some p) e some before = by (lowest pages 0 (length pages)) refl
+  where
+    f : (start_of c ≤ p) × (p < end_of c) × (is_free (page_at pages p) ≡ true)
+    f = found pages (start_of c) (end_of c) p (sym e)
+
+    by : (r : Option ℕ) → lowest pages 0 (length pages) ≡ r → Some p ≡ lowest pages 0 (length pages)
+    by None n = absurd (false≢true (sym (none_free pages 0 (length pages) p n (omega arith) (free_below pages p f.2)) ∙ f.2))
+    by (Some q) n = order (cases_order p q)
+      where
+        g : (0 ≤ q) × (q < length pages) × (is_free (page_at pages q) ≡ true)
+        g = found pages 0 (length pages) q n
+
+        earlier : q < p → (q < 256 * c) ⊎ (256 * c ≤ q) → is_free (page_at pages q) ≡ false
+        earlier l (inl b) = before q b
+        earlier l (inr b) = least pages (start_of c) (end_of c) p q (sym e) b l
+
+        order : (p ≡ q) ⊎ ((p < q) ⊎ (q < p)) → Some p ≡ lowest pages 0 (length pages)
+        order (inl is) = ap Some is ∙ sym n
+        order (inr (inl l)) = absurd (false≢true (sym (least pages 0 (length pages) q p n (omega arith) l) ∙ f.2))
+        order (inr (inr l)) = absurd (false≢true (sym (earlier l (cases_lt q (256 * c))) ∙ g.2))
+
+-- a marked cluster has none, and one that has none may be marked
+pub none_marked : (pages : List Page) (marks : List Bool) (c : ℕ) → AreFull pages marks → get_or marks c false ≡ true → lowest pages (start_of c) (end_of c) ≡ None
+none_marked pages marks c full is = none_is pages (start_of c) (end_of c) (λ q low high. full q (ap (λ d. get_or marks d false) (inside q low high) ∙ is))
+  where
+    inside : (q : ℕ) → 256 * c ≤ q → q < 256 * c + 256 → q / 256 ≡ c
+    inside q a b = omega (arith, a, b)
+
+pub mark_one : (pages : List Page) (marks : List Bool) (c : ℕ) → AreFull pages marks → lowest pages (start_of c) (end_of c) ≡ None → AreFull pages (set marks c true)
+mark_one pages marks c full none q is = by (cases_eq (q / 256) c)
+  where
+    low : q / 256 ≡ c → 256 * c ≤ q
+    low e = omega (arith, e)
+
+    high : q / 256 ≡ c → q < 256 * c + 256
+    high e = omega (arith, e)
+
+    by : (q / 256 ≡ c) ⊎ (q / 256 ≡ c → ⊥) → is_free (page_at pages q) ≡ false
+    by (inl e) = none_free pages (start_of c) (end_of c) q none (low e) (high e)
+    by (inr n) = full q (sym (get_or-set_other marks c (q / 256) true false n) ∙ is)
+
+pub free_is : (page : Page) → is_free page ≡ true → page ≡ Free
+free_is Unusable h = absurd (false≢true h)
+free_is Free h = refl
+free_is Taken h = absurd (false≢true h)
+
+none_counted : (pages : List Page) → ((p : ℕ) → is_free (page_at pages p) ≡ false) → count_by is_free pages ≡ 0
+none_counted [] h = refl
+none_counted (page ∷ pages) h = sum_by-cons (λ x. cond (is_free x) 1 0) page pages ∙ zero_both _ _ (ap (λ b. cond b 1 0) (h 0)) (none_counted pages (λ p. h (suc p)))
+  where
+    zero_both : (a b : ℕ) → a ≡ 0 → b ≡ 0 → a + b ≡ 0
+    zero_both a b x y = omega (arith, x, y)
+
+pub none_left : (pages : List Page) → lowest pages 0 (length pages) ≡ None → count_by is_free pages ≡ 0
+none_left pages h = none_counted pages (λ p. by p (cases_lt p (length pages)))
+  where
+    by : (p : ℕ) → (p < length pages) ⊎ (length pages ≤ p) → is_free (page_at pages p) ≡ false
+    by p (inl b) = none_free pages 0 (length pages) p h (omega arith) b
+    by p (inr b) = ap is_free (get_or_past pages p Unusable b)
+
+-- a page that was free, and is taken
+pub was_free : (pages : List Page) (p : ℕ) → is_free (page_at pages p) ≡ true → (page_at pages p ≡ Free) × (page_at (set pages p Taken) p ≡ Taken)
+was_free pages p h = (free_is (page_at pages p) h, get_or-set_same pages p Taken Unusable (free_below pages p h))
+
+pub none_of : (r : Option ℕ) → is_some r ≡ false → r ≡ None
+none_of None h = refl
+none_of (Some p) h = absurd (false≢true (sym h))
+
+-- a list that is written over another of its length
+pub written_over : (old new : List Bool) (n : ℕ) → length new ≡ n → take n (new ++ drop (length new) old) ≡ new
+written_over old new n is = ap (λ k. take k (new ++ drop (length new) old)) (sym is) ∙ take-append_seam new (drop (length new) old)
+
+-- a search without a find has passed one more cluster
+pub passed : (pages : List Page) (c : ℕ) (r : Option ℕ) → r ≡ lowest pages (start_of c) (end_of c) → is_some r ≡ false → ((q : ℕ) → q < 256 * c → is_free (page_at pages q) ≡ false)
+    → (q : ℕ) → q < 256 * (c + 1) → is_free (page_at pages q) ≡ false
+passed pages c (Some p) e some before q h = absurd (false≢true (sym some))
+passed pages c None e some before q h = by (cases_lt q (256 * c))
+  where
+    high : q < 256 * c + 256
+    high = omega (arith, h)
+
+    by : (q < 256 * c) ⊎ (256 * c ≤ q) → is_free (page_at pages q) ≡ false
+    by (inl b) = before q b
+    by (inr b) = none_free pages (start_of c) (end_of c) q (sym e) b high

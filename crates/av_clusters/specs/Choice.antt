@@ -12,11 +12,13 @@ pub record Choice : Type 0 where
   pub current : Option ℕ
   pub cursor : ℕ
 
+-- whether a page is a slot that can be given
 abbrev pub is_free : Page → Bool
 is_free Unusable = false
 is_free Free = true
 is_free Taken = false
 
+-- whether it is one that is given
 abbrev pub is_taken : Page → Bool
 is_taken Unusable = false
 is_taken Free = false
@@ -34,16 +36,19 @@ pages_between from to pages = take (to - from) (drop from pages)
 abbrev pub lowest : List Page → ℕ → ℕ → Option ℕ
 lowest pages from to = option_map (λ i. from + i) (position is_free (pages_between from to pages))
 
--- a cluster's first page, and the one after its last
+-- a cluster's first page
 abbrev pub start_of : ℕ → ℕ
 start_of c = 256 * c
 
+-- the page after its last
 abbrev pub end_of : ℕ → ℕ
 end_of c = 256 * c + 256
 
+-- whether a page of the cluster is free
 abbrev pub has_free : List Page → ℕ → Bool
 has_free pages c = is_some (lowest pages (start_of c) (end_of c))
 
+-- whether one is taken
 abbrev pub has_taken : List Page → ℕ → Bool
 has_taken pages c = list_any is_taken (pages_between (start_of c) (end_of c) pages)
 
@@ -51,6 +56,7 @@ has_taken pages c = list_any is_taken (pages_between (start_of c) (end_of c) pag
 abbrev pub at_first : List ℕ → ℕ → Page
 at_first bad p = if p == 0 || list_any (λ b. p == b) bad then Unusable else Free
 
+-- the n pages of an area at first
 abbrev pub pages_of : ℕ → List ℕ → List Page
 pages_of n bad = map (at_first bad) (range_with_len 0 n)
 
@@ -84,6 +90,7 @@ in_next t (c ∷ rest) = option_map (λ p. (p, filling (record t { free = rest }
 abbrev pub anywhere : Choice → Option (ℕ × Choice)
 anywhere t = option_map (λ p. (p, taking t p)) (lowest t.pages 0 (length t.pages))
 
+-- the first of two answers
 abbrev pub first_some : {X : Type 0} → Option X → Option X → Option X
 first_some None other = other
 first_some (Some x) other = Some x
@@ -118,8 +125,12 @@ abbrev pub Fills : List Bool → ℕ → ℕ → Option ℕ → Type 0
 Fills flags count mark None = Unit {0}
 Fills flags count mark (Some c) = (slice_index_or flags c true ≡ true) × (start_of c ≤ mark) × (mark ≤ end_of c) × (mark ≤ count)
 
+-- no page of a cluster that is marked as full is free
+abbrev pub AreFull : List Page → List Bool → Type 0
+AreFull pages marks = (p : ℕ) → slice_index_or marks (p / 256) false ≡ true → is_free (page_at pages p) ≡ false
+
 -- the parts of `Clusters` fit together: a flag for each cluster that isn't free, room for all in the list, and the number of free slots
-pub record IsWhole (pages : List Page) (spare : ℕ) (frees : List ℕ) (frees_len frees_room : ℕ) (flags : List Bool) (filled : Option ℕ) (mark : ℕ) : Type 0 where
+pub record IsWhole (pages : List Page) (spare : ℕ) (frees : List ℕ) (frees_len frees_room : ℕ) (flags marks : List Bool) (filled : Option ℕ) (mark : ℕ) : Type 0 where
   pub few : length pages < 2 ^ 32
   pub left : spare ≡ count_by is_free pages
   pub busy : length flags ≡ length pages / 256 + 1
@@ -132,4 +143,6 @@ pub record IsWhole (pages : List Page) (spare : ℕ) (frees : List ℕ) (frees_l
   pub held : (p : ℕ) → is_taken (page_at pages p) ≡ true → slice_index_or flags (p / 256) true ≡ true
   -- one without the flag has a free slot
   pub fit : (c : ℕ) → slice_index_or flags c true ≡ false → (p : ℕ) × (p / 256 ≡ c) × (is_free (page_at pages p) ≡ true)
+  pub marked : length marks ≡ length pages / 256 + 1
+  pub full : AreFull pages marks
   pub fills : Fills flags (length pages) mark filled

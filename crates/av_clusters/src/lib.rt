@@ -4,10 +4,10 @@
 #[cfg(test)]
 mod tests;
 
-ghost use Rattle.std.specs.Prelude.{◌≡◌, ℕ, ◌+◌, ◌*◌, ◌/◌, ◌^◌, ◌<◌, ◌≤◌, [], length, map, IfOk, IfNone, IfSome, position, count_by, slice_set, replicate, ◌==◌, if◌then◌else◌, true, not};
+ghost use Rattle.std.specs.Prelude.{◌≡◌, ℕ, ◌+◌, ◌*◌, ◌/◌, ◌^◌, ◌<◌, ◌≤◌, [], length, map, IfOk, IfNone, IfSome, MatchOption, position, count_by, slice_set, replicate, ◌==◌, if◌then◌else◌, true, false, not};
 ghost use Rattle.std.specs.List.{range_with_len, list_any};
 ghost use Rattle.std.specs.VecDeque.{deque_len, deque_capacity};
-ghost use Rattle.av_clusters.specs.Choice.{unless, fresh, take_slot, give_slot, Gave, in_current, in_next, anywhere, is_free, is_taken, page_at, pages_between, lowest, has_free, has_taken, start_of, end_of, pages_of, clusters_of};
+ghost use Rattle.av_clusters.specs.Choice.{AreFull, unless, fresh, take_slot, give_slot, Gave, in_current, in_next, anywhere, is_free, is_taken, page_at, pages_between, lowest, has_free, has_taken, start_of, end_of, pages_of, clusters_of};
 ghost use Rattle.av_clusters.specs.declared.Page.TheVariants.{Unusable, Free, Taken};
 
 use std::alloc::{AllocError, Global};
@@ -58,6 +58,8 @@ pub struct Clusters {
     free: VecDeque<u32>,
     // Whether each cluster is out of `free`, so that no one has to search it.
     busy: Vec<bool>,
+    // Clusters that were seen to have no free page, so that a search of the whole area passes them over.
+    full: Vec<bool>,
     current: Option<u32>,
     cursor: u32,
 }
@@ -70,7 +72,7 @@ impl Model for Clusters {
 
     ghost view = { λ a. record { pages = a.pages.items; free = a.free.items; current = a.current; cursor = a.cursor } };
 
-    ghost invariant = { λ a. IsWhole a.pages.items a.left a.free.items (deque_len a.free) (deque_capacity a.free) a.busy.items a.current a.cursor };
+    ghost invariant = { λ a. IsWhole a.pages.items a.left a.free.items (deque_len a.free) (deque_capacity a.free) a.busy.items a.full.items a.current a.cursor };
 }
 
 impl Clusters {
@@ -82,19 +84,22 @@ impl Clusters {
         let left = count_free(&pages);
         let free = free_clusters(alloc, &pages)?;
         let busy = busy_clusters(alloc, &pages)?;
+        let full = none_full(alloc, cluster_count(&pages))?;
         Ok(Clusters {
             pages,
             left,
             free,
             busy,
+            full,
             current: None,
             cursor: 0,
         })
     }
 
-    /// Takes a slot, and answers its page. None exactly where no slot is free.
+    /// Takes the next slot, and answers its page: from the current cluster, else from the first free one, else the lowest of the area. None exactly where no slot is free.
     pub fn take(&mut self) -> Option<u32>
-        ensures { Gave (take_slot self.old) self.old result self.new }
+        ensures gave { Gave (take_slot self.old) self.old result self.new }
+        ensures slot { MatchOption result (count_by is_free self.old.pages ≡ 0) (λ p. (page_at self.old.pages p ≡ Free) × (page_at self.new.pages p ≡ Taken)) }
     {
         if let Some(page) = self.take_in_current() {
             return Some(page);
@@ -105,7 +110,7 @@ impl Clusters {
         self.take_anywhere()
     }
 
-    /// Gives a slot back.
+    /// Gives a slot back, which has to be taken. A cluster whose last taken slot it was goes to the end of the free ones.
     pub fn give(&mut self, page: u32)
         requires { is_taken (page_at self.old.pages page) ≡ true }
         ensures { self.new ≡ give_slot self.old page }
@@ -113,6 +118,7 @@ impl Clusters {
         let cluster = page / 256;
         self.pages[page as usize] = Page::Free;
         self.left += 1;
+        self.full[cluster as usize] = false;
         if !any_taken(&self.pages, cluster) {
             self.busy[cluster as usize] = false;
             self.free.push_back_reserved(cluster);
@@ -139,7 +145,8 @@ impl Clusters {
 
     // Takes the lowest slot of the current cluster from the cursor on.
     fn take_in_current(&mut self) -> Option<u32>
-        ensures { Gave (in_current self.old self.old.current) self.old result self.new }
+        ensures gave { Gave (in_current self.old self.old.current) self.old result self.new }
+        ensures slot { IfSome result (λ p. (page_at self.old.pages p ≡ Free) × (page_at self.new.pages p ≡ Taken)) }
     {
         let cluster = self.current?;
         let page = lowest(&self.pages, self.cursor as usize, end_of(cluster))?;
@@ -152,6 +159,7 @@ impl Clusters {
     // Opens the first free cluster, and takes its lowest slot.
     fn take_in_next(&mut self) -> Option<u32>
         ensures gave { Gave (in_next self.old self.old.free) self.old result self.new }
+        ensures slot { IfSome result (λ p. (page_at self.old.pages p ≡ Free) × (page_at self.new.pages p ≡ Taken)) }
         ensures none { IfNone result (self.old.free ≡ []) }
     {
         let cluster = *self.free.front()?;
@@ -168,21 +176,24 @@ impl Clusters {
     // Takes the lowest slot of the area, once each cluster is in use.
     fn take_anywhere(&mut self) -> Option<u32>
         requires { self.old.free ≡ [] }
-        ensures { Gave (anywhere self.old) self.old result self.new }
+        ensures gave { Gave (anywhere self.old) self.old result self.new }
+        ensures slot { MatchOption result (count_by is_free self.old.pages ≡ 0) (λ p. (page_at self.old.pages p ≡ Free) × (page_at self.new.pages p ≡ Taken)) }
     {
-        let page = lowest(&self.pages, 0, self.pages.len())?;
+        let page = lowest_of_area(&self.pages, &mut self.full)?;
         self.pages[page as usize] = Page::Taken;
         self.left -= 1;
         Some(page)
     }
 }
 
+// A cluster's first page.
 fn start_of(cluster: u32) -> usize
     ensures { result ≡ start_of cluster }
 {
     cluster as usize * CLUSTER
 }
 
+// The page after its last, which the area may not reach.
 fn end_of(cluster: u32) -> usize
     ensures { result ≡ end_of cluster }
 {
@@ -198,6 +209,44 @@ fn lowest(pages: &[Page], from: usize, to: usize) -> Option<u32>
 {
     let at = first_free(between(pages, from, to))?;
     Some((from + at) as u32)
+}
+
+// The lowest free page of the area. It passes over the clusters that are marked as full.
+fn lowest_of_area(pages: &[Page], full: &mut [bool]) -> Option<u32>
+    requires few { length pages.now < 2 ^ 32 }
+    requires count { length full.old ≡ length pages.now / 256 + 1 }
+    requires full { AreFull pages.now full.old }
+    ensures lowest { result ≡ lowest pages.now 0 (length pages.now) }
+    ensures full { AreFull pages.now full.new }
+    ensures count { length full.new ≡ length full.old }
+{
+    for cluster in 0..cluster_count(pages) {
+        let page = lowest_of_cluster(pages, full, cluster);
+        if page.is_some() {
+            return page;
+        }
+    }
+    None
+}
+
+// The lowest free page of the cluster, which is marked as full where it has none.
+fn lowest_of_cluster(pages: &[Page], full: &mut [bool], cluster: u32) -> Option<u32>
+    requires few { length pages.now < 2 ^ 32 }
+    requires within { start_of cluster ≤ length pages.now }
+    requires count { length full.old ≡ length pages.now / 256 + 1 }
+    requires full { AreFull pages.now full.old }
+    ensures lowest { result ≡ lowest pages.now (start_of cluster) (end_of cluster) }
+    ensures full { AreFull pages.now full.new }
+    ensures count { length full.new ≡ length full.old }
+{
+    if full[cluster as usize] {
+        return None;
+    }
+    let page = lowest(pages, start_of(cluster), end_of(cluster));
+    if page.is_none() {
+        full[cluster as usize] = true;
+    }
+    page
 }
 
 fn first_free(pages: &[Page]) -> Option<usize>
@@ -310,7 +359,7 @@ fn free_clusters(alloc: Global, pages: &[Page]) -> Result<VecDeque<u32>, AllocEr
     Ok(clusters)
 }
 
-// Whether each cluster has none.
+// Whether each cluster has no free page.
 fn busy_clusters(alloc: Global, pages: &[Page]) -> Result<Vec<bool>, AllocError>
     requires { length pages.now < 2 ^ 32 }
     ensures { IfOk result (λ v. v.items ≡ map (λ c. not (has_free pages.now c)) (range_with_len 0 (length pages.now / 256 + 1))) }
@@ -320,4 +369,12 @@ fn busy_clusters(alloc: Global, pages: &[Page]) -> Result<Vec<bool>, AllocError>
         busy.push(!has_free(pages, cluster))?;
     }
     Ok(busy)
+}
+
+fn none_full(alloc: Global, count: u32) -> Result<Vec<bool>, AllocError>
+    ensures { IfOk result (λ v. v.items ≡ replicate count false) }
+{
+    let mut full = Vec::new(alloc);
+    full.resize(count as usize, false)?;
+    Ok(full)
 }

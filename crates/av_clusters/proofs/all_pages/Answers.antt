@@ -1,4 +1,4 @@
-use Rattle.std.proofs.Common.{◌≡◌, List, length, set, take, drop, ◌++◌, sym, ap, ◌∙◌, length-set}
+use Rattle.std.proofs.Common.{List, length, set, take, drop, ◌++◌, sym, ap, ◌∙◌, length-set}
 use Rattle.std.proofs.Math.Seq.{take-append_seam}
 use Rattle.av_clusters.specs.declared.Page.{Page}
 use Rattle.av_clusters.specs.declared.Page.TheVariants.{Unusable}
