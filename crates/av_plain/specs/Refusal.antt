@@ -1,11 +1,13 @@
 -- Which commands are refused, and with which error: the first test that holds, in one order for each command.
-use Rattle.std.specs.Prelude.{ℕ, ◌*◌, ◌^◌, Bool, not, ◌||◌, ◌==◌, nat_lt, nat_le, if◌then◌else◌, List, [], ◌∷◌, length, Option, Some, None}
-use Rattle.av_vma.specs.Gap.{top_page}
+use Rattle.std.specs.Prelude.{ℕ, ◌+◌, ◌*◌, ◌^◌, Bool, not, ◌||◌, ◌==◌, nat_lt, nat_le, if◌then◌else◌, List, [], ◌∷◌, ◌++◌, length, Option, Some, None}
+use Rattle.av_vma.specs.Gap.{low_page, top_page}
 use Rattle.av_trace.specs.declared.reply.Errno.{Errno}
-use Rattle.av_trace.specs.declared.reply.Errno.TheVariants.{Esrch, Eagain, Enomem, Eexist, Einval}
+use Rattle.av_trace.specs.declared.reply.Errno.TheVariants.{Eperm, Esrch, Eagain, Enomem, Eexist, Einval}
+use Rattle.av_trace.specs.declared.command.Place.{Place}
+use Rattle.av_trace.specs.declared.command.Place.TheVariants.{Auto, At, Fixed, NoReplace}
 use Rattle.av_trace.specs.declared.command.Command.{Command}
-use Rattle.av_trace.specs.declared.command.Command.TheVariants.{Spawn, Exit, Mmap, Read, Write, Maps, Stat}
-use Rattle.av_plain.specs.World.{World, pages_of, lives}
+use Rattle.av_trace.specs.declared.command.Command.TheVariants.{Spawn, Exit, Mmap, Munmap, Mprotect, Read, Write, Maps, Stat}
+use Rattle.av_plain.specs.World.{World, Process, page_of, pages_of, address_of, is_on_page, lives, pages, meets}
 use Rattle.av_plain.specs.Ledger.{Ledger, Setting}
 
 -- tests in order, each with the error that it leads to
@@ -32,11 +34,35 @@ overflows len = nat_le (2 ^ 64) (4096 * pages_of len)
 abbrev pub is_too_long : ℕ → Bool
 is_too_long len = overflows len || nat_lt top_page (pages_of len)
 
+-- the pages of the length, from an address on, do not end below 2^64
+abbrev pub wraps : ℕ → ℕ → Bool
+wraps a len = nat_le (2 ^ 64) (a + address_of (pages_of len))
+
+-- the first address that no process can have, and the lowest that can be mapped
+abbrev pub top : ℕ
+top = address_of top_page
+
+abbrev pub low : ℕ
+low = address_of low_page
+
+-- the tests of an address that a mapping of n pages has to have
+abbrev pub fixed_tests : ℕ → ℕ → Tests
+fixed_tests n a = (nat_lt top (a + address_of n), Enomem) ∷ (not (is_on_page a), Einval) ∷ (nat_lt a low, Eperm) ∷ []
+
+-- the tests of the place of n pages
+abbrev pub place_tests : Process → ℕ → Place → Tests
+place_tests q n Auto = []
+place_tests q n (At a) = []
+place_tests q n (Fixed a) = fixed_tests n a
+place_tests q n (NoReplace a) = fixed_tests n a ++ (meets q (page_of a) n, Eexist) ∷ []
+
 -- the tests of each command
 abbrev pub tests : Setting → World → Ledger → Command → Tests
 tests m w l (Spawn p) = (lives w p, Eexist) ∷ too_many w ∷ []
 tests m w l (Exit p) = no_process w p ∷ []
-tests m w l (Mmap p len prot place) = no_process w p ∷ (len == 0, Einval) ∷ (is_too_long len, Enomem) ∷ []
+tests m w l (Mmap p len prot place) = no_process w p ∷ (len == 0, Einval) ∷ (is_too_long len, Enomem) ∷ place_tests (pages w p) (pages_of len) place
+tests m w l (Munmap p a len) = no_process w p ∷ (not (is_on_page a) || len == 0 || nat_lt top (a + len), Einval) ∷ []
+tests m w l (Mprotect p a len prot) = no_process w p ∷ (not (is_on_page a), Einval) ∷ (wraps a len, Enomem) ∷ []
 tests m w l (Read p a n) = no_process w p ∷ []
 tests m w l (Write p a bytes) = no_process w p ∷ []
 tests m w l (Maps p) = no_process w p ∷ []

@@ -1,7 +1,8 @@
 -- What one command may answer, and the memories and the ledger after it.
-use Rattle.std.specs.Prelude.{◌≡◌, ℕ, ◌+◌, List, [], ◌∷◌, length, map, take, Option, Some, None, is_some, option_map, MatchOption, if◌then◌else◌, Bool, true, false}
+use Rattle.std.specs.Prelude.{◌≡◌, ℕ, ◌+◌, List, [], ◌∷◌, length, map, take, Option, Some, None, is_some, option_map, MatchOption, MatchBool, if◌then◌else◌, Bool, true, false, not, ◌&&◌, ◌==◌, nat_le}
 use Rattle.av_vma.specs.declared.slot.Slot.{Slot}
-use Rattle.av_vma.specs.Gap.{IsGap}
+use Rattle.av_vma.specs.declared.area.Prot.{Prot}
+use Rattle.av_vma.specs.Gap.{IsGap, low_page, top_page}
 use Rattle.av_trace.specs.declared.reply.Errno.{Errno}
 use Rattle.av_trace.specs.declared.reply.Errno.TheVariants.{Eio, Enomem}
 use Rattle.av_trace.specs.declared.reply.Note.TheVariants.{Loaded}
@@ -10,22 +11,36 @@ use Rattle.av_trace.specs.declared.reply.Reply.{Reply}
 use Rattle.av_trace.specs.declared.reply.Answer.{Answer}
 use Rattle.av_trace.specs.declared.reply.Answer.TheVariants.{Done, MapAt, Data, Refused, Segv, Bus, Oom, Runs, Counted}
 use Rattle.av_trace.specs.declared.command.Place.{Place}
-use Rattle.av_trace.specs.declared.command.Place.TheVariants.{Auto}
+use Rattle.av_trace.specs.declared.command.Place.TheVariants.{Auto, At, Fixed, NoReplace}
 use Rattle.av_trace.specs.declared.command.Command.{Command}
-use Rattle.av_trace.specs.declared.command.Command.TheVariants.{Spawn, Exit, Mmap, Read, Write, Maps, Stat}
-use Rattle.av_plain.specs.World.{World, Process, Page, nothing, zeros, page_of, pages_of, address_of, pages, is_mapped, set_process, end_process, replaced, written, Shows}
+use Rattle.av_trace.specs.declared.command.Command.TheVariants.{Spawn, Exit, Mmap, Munmap, Mprotect, Read, Write, Maps, Stat}
+use Rattle.av_plain.specs.World.{World, Process, Page, nothing, zeros, page_of, pages_of, address_of, pages, is_mapped, meets, leading, set_process, end_process, replaced, protected, written, Shows}
 use Rattle.av_plain.specs.Ledger.{Ledger, Setting, Entry, entry, names_slot}
 use Rattle.av_plain.specs.Event.{Event, Noted, after, notes_of}
 use Rattle.av_plain.specs.Fault.{Accesses, End, Whole, Stopped, Served, Denied, Starved, Lost, served, touched, fails}
-use Rattle.av_plain.specs.Taking.{keys_of_process, taking}
+use Rattle.av_plain.specs.Taking.{keys_of_process, keys_in, taking}
 use Rattle.av_plain.specs.Report.{AreMaps, totals}
-use Rattle.av_plain.specs.Refusal.{tests, refusal}
+use Rattle.av_plain.specs.Refusal.{tests, refusal, wraps}
 
 -- ---- where a mapping goes
 
--- n pages at a place: an automatic one is the greatest gap
+-- whether the n pages from one on are free, and a process may have them
+abbrev pub is_room : Process → ℕ → ℕ → Bool
+is_room q n page = nat_le low_page page && nat_le (page + n) top_page && not (meets q page n)
+
+-- n pages at a place: an automatic one is the greatest gap; a hint is taken where there is room, else it is as if it weren't there
 abbrev pub Goes : Process → ℕ → Place → Option ℕ → Type 0
 Goes q n Auto to = IsGap (is_mapped q) n to
+Goes q n (At a) to = MatchBool (is_room q n (page_of a)) (to ≡ Some (page_of a)) (IsGap (is_mapped q) n to)
+Goes q n (Fixed a) to = to ≡ Some (page_of a)
+Goes q n (NoReplace a) to = to ≡ Some (page_of a)
+
+-- the entries that a mapping of n pages takes away: a fixed place takes away what stands there
+abbrev pub clearing : Ledger → ℕ → ℕ → Place → List Event
+clearing l p n Auto = []
+clearing l p n (At a) = []
+clearing l p n (Fixed a) = taking l (keys_in l p (page_of a) n)
+clearing l p n (NoReplace a) = []
 
 -- the address of a page, or that there is none
 abbrev pub IsMapAt : Answer → Option ℕ → Type 0
@@ -74,11 +89,18 @@ abbrev pub stored : World → ℕ → ℕ → List ℕ → World
 stored w p a [] = w
 stored w p a (b ∷ bytes) = set_process w p (written (pages w p) a (b ∷ bytes))
 
--- what a command changes where it isn't refused
+-- the pages before the first that isn't mapped get the protection
+abbrev pub protected_to_the_hole : World → ℕ → ℕ → ℕ → Prot → World
+protected_to_the_hole w p from n prot = set_process w p (protected (pages w p) from (leading (pages w p) from n) prot)
+
+-- what a command changes; one that is refused changes nothing, but for the protection of the pages before a hole
 abbrev pub next : World → Command → Answer → World
 next w (Spawn p) Done = set_process w p nothing
 next w (Exit p) Done = end_process w p
 next w (Mmap p len prot place) (MapAt a) = set_process w p (replaced (pages w p) (page_of a) (pages_of len) (λ _. Some (zeros prot)))
+next w (Munmap p a len) Done = set_process w p (replaced (pages w p) (page_of a) (pages_of len) nothing)
+next w (Mprotect p a len prot) Done = set_process w p (protected (pages w p) (page_of a) (pages_of len) prot)
+next w (Mprotect p a len prot) (Refused Enomem) = if wraps a len then w else protected_to_the_hole w p (page_of a) (pages_of len) prot
 next w (Write p a bytes) answer = stored w p a (first_bytes answer bytes)
 next w command answer = w
 
@@ -106,7 +128,10 @@ abbrev pub Follows : Setting → World → Ledger → Command → List Event →
 Follows m w l (Spawn p) events answer rows = (answer ≡ Done) × (events ≡ []) × (rows ≡ [])
 Follows m w l (Exit p) events answer rows = (answer ≡ Done) × (events ≡ taking l (keys_of_process l p)) × (rows ≡ [])
 Follows m w l (Mmap p len prot place) events answer rows =
-    (to : Option ℕ) × Goes (pages w p) (pages_of len) place to × IsMapAt answer to × (events ≡ []) × (rows ≡ [])
+    (to : Option ℕ) × Goes (pages w p) (pages_of len) place to × IsMapAt answer to × (events ≡ clearing l p (pages_of len) place) × (rows ≡ [])
+Follows m w l (Munmap p a len) events answer rows = (answer ≡ Done) × (events ≡ taking l (keys_in l p (page_of a) (pages_of len))) × (rows ≡ [])
+Follows m w l (Mprotect p a len prot) events answer rows =
+    (answer ≡ (if leading (pages w p) (page_of a) (pages_of len) == pages_of len then Done else Refused Enomem)) × (events ≡ []) × (rows ≡ [])
 Follows m w l (Read p a n) events answer rows =
     (end : End) × (shown : List ℕ) × Accesses m w l false p (touched a n) events end
     × Reads (pages (with_loads m w l events) p) a (served a n end) shown × Answers false a n end shown answer × (rows ≡ [])

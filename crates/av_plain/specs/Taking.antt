@@ -1,6 +1,7 @@
 -- Entries taken away one by one, as a process goes or a range is unmapped.
 use Rattle.std.specs.Prelude.{ℕ, ◌==◌, List, [], ◌∷◌, ◌++◌, map, filter, Option, Some, None}
 use Rattle.av_vma.specs.declared.slot.Slot.{Slot}
+use Rattle.av_vma.specs.Ranges.{within}
 use Rattle.av_trace.specs.declared.reply.Note.TheVariants.{Dropped}
 use Rattle.av_plain.specs.Ledger.{Ledger, Key, Entry, entry, is_orphan}
 use Rattle.av_plain.specs.Event.{Event, Taken, after, after_all, slot_behind}
@@ -10,6 +11,10 @@ use Rattle.av_plain.specs.Fault.{noting}
 -- the keys of a process's entries, by rising page
 abbrev pub keys_of_process : Ledger → ℕ → List Key
 keys_of_process l p = filter (λ k. k.0 == p) (map (λ e. e.0) l.entries)
+
+-- and those of its n pages from one on
+abbrev pub keys_in : Ledger → ℕ → ℕ → ℕ → List Key
+keys_in l p from n = filter (λ k. within from n k.1) (keys_of_process l p)
 
 -- a slot that is an orphan is dropped
 abbrev pub drops : Ledger → Option Slot → List Event

@@ -1,5 +1,5 @@
 -- What processes see: plain private memories, copied whole at fork. Nothing here knows a frame or a slot.
-use Rattle.std.specs.Prelude.{◌≡◌, ℕ, ◌+◌, ◌-◌, ◌*◌, ◌/◌, ◌%◌, Bool, true, false, not, ◌||◌, ◌==◌, if◌then◌else◌, List, [], ◌∷◌, length, slice_index, Option, Some, None, is_some, option_map, option_and_then, IfSome}
+use Rattle.std.specs.Prelude.{◌≡◌, ℕ, zero, suc, ◌+◌, ◌-◌, ◌*◌, ◌/◌, ◌%◌, Bool, true, false, not, ◌||◌, ◌==◌, if◌then◌else◌, List, [], ◌∷◌, length, slice_index, Option, Some, None, is_some, option_map, option_and_then, IfSome}
 use Rattle.std.specs.Ordering.{nat_cmp}
 use Rattle.std.specs.FinMap.Entries.{find, put, where_key}
 use Rattle.av_vma.specs.declared.area.Prot.{Prot}
@@ -18,6 +18,10 @@ address_of page = 4096 * page
 -- a length rounded up to whole pages
 abbrev pub pages_of : ℕ → ℕ
 pages_of len = (len + 4095) / 4096
+
+-- whether an address is the first of a page
+abbrev pub is_on_page : ℕ → Bool
+is_on_page address = address % 4096 == 0
 
 -- ---- worlds
 
@@ -58,6 +62,16 @@ pages w p page = option_and_then (λ q. q page) (process w p)
 abbrev pub is_mapped : Process → ℕ → Bool
 is_mapped q page = is_some (q page)
 
+-- whether one of the n pages from `from` on is mapped
+abbrev pub meets : Process → ℕ → ℕ → Bool
+meets q from zero = false
+meets q from (suc n) = is_mapped q from || meets q (from + 1) n
+
+-- how many pages from `from` on are mapped before the first that isn't, n at the most
+abbrev pub leading : Process → ℕ → ℕ → ℕ
+leading q from zero = 0
+leading q from (suc n) = if is_mapped q from then leading q (from + 1) n + 1 else 0
+
 -- which accesses a protection allows: a write where it says so, a read unless it says nothing at all
 abbrev pub allows : Bool → Prot → Bool
 allows true prot = prot.write
@@ -68,6 +82,14 @@ allows false prot = prot.read || prot.write || prot.execute
 -- the process has these pages now, and lives
 abbrev pub set_process : World → ℕ → Process → World
 set_process w p q = put nat_cmp p q w
+
+-- a page with another protection
+abbrev pub with_prot : Prot → Page → Page
+with_prot prot p = record p { prot = prot }
+
+-- q with this protection on those of the n pages from `from` on that it has mapped
+abbrev pub protected : Process → ℕ → ℕ → Prot → Process
+protected q from n prot page = if within from n page then option_map (with_prot prot) (q page) else q page
 
 -- the process is gone
 abbrev pub end_process : World → ℕ → World
