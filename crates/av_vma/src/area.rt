@@ -1,4 +1,5 @@
-ghost use Rattle.std.specs.Prelude.{◌≡◌, ◌||◌};
+ghost use Rattle.std.specs.Prelude.{◌≡◌, ◌*◌, ◌<◌, ◌≤◌, ◌^◌, ◌||◌, IsSome};
+ghost use Rattle.av_vma.specs.Join.{are_mergeable, first_of, index_of, past_of, share_anon};
 
 /// What a process may do with a page, as `mmap` and `mprotect` set it.
 #[derive(Clone, Copy, Drop, Debug, PartialEq, Eq)]
@@ -37,4 +38,43 @@ pub struct Area {
     pub flags: u8,
     pub pgoff: u64,
     pub anon: Option<u64>,
+}
+
+/// The linear index of a page of the area: it goes with the page through every cut, join and move.
+///
+/// `page` is a page number, its address over 4096.
+pub fn index(area: &Area, page: u64) -> u64
+    requires first { first_of area.now ≤ page }
+    requires small { index_of area.now page < 2 ^ 64 }
+    ensures { result ≡ index_of area.now page }
+{
+    page - area.start / 4096 + area.pgoff
+}
+
+/// Whether an area goes on in another so that the two may be one.
+///
+/// They adjoin, have the same protection and flags, the offsets run on, and they share an anon_vma: both have the same or none, or one
+/// has none and the other's chain has one node. Each length is that of the area's chain.
+pub fn mergeable(left: &Area, left_len: u64, right: &Area, right_len: u64) -> bool
+    requires forward { first_of left.now ≤ past_of left.now }
+    requires small { index_of left.now (past_of left.now) < 2 ^ 64 }
+    ensures { result ≡ are_mergeable left.now left_len right.now right_len }
+{
+    left.end == right.start
+        && left.prot == right.prot
+        && left.flags == right.flags
+        && index(left, left.end / 4096) == right.pgoff
+        && may_share(left.anon, left_len, right.anon, right_len)
+}
+
+/// Whether two areas, each with its own anon_vma and the length of its chain, may have one anon_vma.
+fn may_share(left: Option<u64>, left_len: u64, right: Option<u64>, right_len: u64) -> bool
+    ensures { result ≡ share_anon left left_len right right_len }
+{
+    match (left, right) {
+        (None, None) => true,
+        (None, Some(_)) => right_len == 1,
+        (Some(_), None) => left_len == 1,
+        (Some(anon), Some(other)) => anon == other,
+    }
 }

@@ -7,7 +7,7 @@ mod limits;
 mod mode;
 mod slot;
 
-pub use area::{Area, Prot};
+pub use area::{Area, Prot, index, mergeable};
 pub use areas::{AreaId, Areas};
 pub use limits::{LOW_PAGE, TOP_PAGE};
 pub use mode::Mode;
