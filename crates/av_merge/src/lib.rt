@@ -1,0 +1,17 @@
+//! The areas of one process: mapped, cut, protected and joined.
+//!
+//! `Areas` holds the areas of all processes by number, and a `Tree` the spans of one process's areas. Every call here
+//! changes the two together. Pages go by number, which is their address over 4096. A call takes time logarithmic in the
+//! number of the process's areas, times the number of areas that it changes.
+//!
+//! A call that answers want of memory may have done a part of its work; the two still go together.
+#![tactic(auto)]
+
+mod changing;
+mod cutting;
+mod joining;
+mod placing;
+
+pub use changing::{map, protect};
+pub use cutting::{clear, cut, split};
+pub use joining::join_around;

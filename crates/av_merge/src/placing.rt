@@ -1,0 +1,58 @@
+//! One area is put, or another is put in its place.
+
+ghost use Rattle.std.specs.Prelude.{◌≡◌, ℕ, None, IsSome, OnOk};
+ghost use Rattle.av_vma.specs.Areas.{area_of};
+ghost use Rattle.av_vma.specs.Join.{first_of, past_of};
+ghost use Rattle.av_vma.specs.Ranges.{with_at};
+ghost use Rattle.av_vmatree.specs.Spans.{IsFree, span_of, taken, without_area};
+ghost use Rattle.av_merge.specs.Pages.{pages_by, placed};
+ghost use Rattle.av_merge.specs.Process.{AreAreasOf, IsWhole, Stays};
+
+use av_vma::{Area, AreaId, Areas};
+use av_vmatree::Tree;
+use std::alloc::AllocError;
+
+/// Puts a new area of a process on pages that are free.
+pub fn add(areas: &mut Areas, tree: &mut Tree, area: Area) -> Result<(), AllocError>
+    requires stands { AreAreasOf area.pid (area_of areas.old) tree.old }
+    requires whole { IsWhole area }
+    requires free { IsFree (taken tree.old) (first_of area) (past_of area) }
+    ensures stands { Stays area.pid (area_of areas.old) (area_of areas.new) tree.new }
+    ensures pages { OnOk result ((page : ℕ) → pages_by (area_of areas.new) tree.new page ≡ placed area (pages_by (area_of areas.old) tree.old) page) }
+{
+    let number = areas.add(area)?;
+    match tree.insert(number, area.start / 4096, area.end / 4096) {
+        Ok(()) => Ok(()),
+        Err(error) => {
+            areas.remove(number);
+            Err(error)
+        }
+    }
+}
+
+/// Puts an area of the same process in the place of one, on pages that are its own or free. Without memory the one is gone.
+pub fn replace(
+    areas: &mut Areas,
+    tree: &mut Tree,
+    number: AreaId,
+    area: Area,
+) -> Result<(), AllocError>
+    requires stands { AreAreasOf area.pid (area_of areas.old) tree.old }
+    requires there { IsSome (span_of tree.old number) }
+    requires whole { IsWhole area }
+    requires free { IsFree (taken (without_area number tree.old)) (first_of area) (past_of area) }
+    ensures stands { Stays area.pid (area_of areas.old) (area_of areas.new) tree.new }
+    ensures pages { OnOk result ((page : ℕ) → pages_by (area_of areas.new) tree.new page ≡ placed area (pages_by (with_at number None (area_of areas.old)) tree.old) page) }
+{
+    tree.remove(number);
+    match tree.insert(number, area.start / 4096, area.end / 4096) {
+        Ok(()) => {
+            areas.change(number, area);
+            Ok(())
+        }
+        Err(error) => {
+            areas.remove(number);
+            Err(error)
+        }
+    }
+}
