@@ -18,13 +18,13 @@ use Rattle.av_trace.specs.declared.reply.Row.TheVariants as rows
 use Rattle.av_trace.specs.declared.reply.Reply.{Reply}
 use Rattle.av_trace.specs.Grammar.{hex, hex_text, prot_text, field, line, IsWide}
 use Rattle.av_trace.specs.Text.{errno_name, cause_name, slot_text, shown_words, out_words, total_words, answer_line, note_line, row_line, ended, text_of}
-use Rattle.av_trace.specs.Reading.{◌>>=◌, hex_of, pairs_of, prot_of}
+use Rattle.av_trace.specs.Reading.{◌>>=◌, hex_of, pairs_of, prot_of, named}
 use Rattle.av_trace.specs.Forms.{AreBytes, AreCauses, AreTotals, IsAnswerTo, IsNote, IsRun, AreRowsOf, MayAnswer}
 use Rattle.av_trace.proofs.Hex.{hex_of-again}
 use Rattle.av_trace.proofs.Pairs.{pairs_of-again}
 use Rattle.av_trace.proofs.FieldLaws.{prots}
 use Rattle.av_trace.proofs.Split.{lacks, lacks-cons, lacks-append, split, split-two, IsPlain, split-line, lacks-line, first_line}
-use Rattle.av_trace.proofs.ReplyWords.{number_of, number_of-again, lacks-hex, plain-decimal, plain-hex, plain-hex_text, plain-labelled, labelled_of, labelled_of-again, slot_of, slot_of-again, plain-slot, plain-prot, named, errno_of, errno-named, cause_of, cause-named, plain_name}
+use Rattle.av_trace.proofs.ReplyWords.{number_of, number_of-again, lacks-hex, plain-decimal, plain-hex, plain-hex_text, plain-labelled, labelled_of, labelled_of-again, slot_of, slot_of-again, plain-slot, plain-prot, errno_of, errno-named, cause_of, cause-named, plain_name}
 
 -- ---- lines that are read back
 
@@ -470,6 +470,8 @@ answer_line-is command (answers.Refused error) h = refused-line error
 answer_line-is (commands.Spawn p) answers.Done h = done-line
 answer_line-is (commands.Exit p) answers.Done h = done-line
 answer_line-is (commands.Mmap p len prot place) (answers.MapAt address) h = map-line address h
+answer_line-is (commands.Munmap p address len) answers.Done h = done-line
+answer_line-is (commands.Mprotect p address len prot) answers.Done h = done-line
 answer_line-is (commands.Read p address len) (answers.«Data» bytes) h = data-line bytes h.1
 answer_line-is (commands.Read p address len) (answers.Segv served shown) h = segv-line served shown h.0 h.2
 answer_line-is (commands.Read p address len) (answers.Bus served shown) h = bus-line served shown h.0 h.2

@@ -1,8 +1,7 @@
 -- The words of replies: each is plain, and is read back.
 use Rattle.std.proofs.Common.{Bool, true, false, ◌≡◌, ℕ, ◌-◌, ◌/◌, ◌%◌, ◌^◌, ◌<◌, List, [], ◌∷◌, length, drop, Option, Some, None, refl, ap, ◌∙◌, arith, lit<}
-use Rattle.std.specs.Prelude.{codes, if◌then◌else◌}
+use Rattle.std.specs.Prelude.{codes}
 use Rattle.std.specs.Int.{IsInRange}
-use Rattle.std.specs.Str.{bytes_eq}
 use Rattle.std.specs.Fmt.{decimal, digit_glyph}
 use Rattle.std.proofs.lemmas.List.{drop_at}
 use Rattle.std.proofs.lemmas.Str.Parse.{not_in_digits}
@@ -15,7 +14,7 @@ use Rattle.av_trace.specs.declared.reply.Cause.{Cause}
 use Rattle.av_trace.specs.declared.reply.Cause.TheVariants as causes
 use Rattle.av_trace.specs.Grammar.{hex, hex_text, letter, prot_text, IsWide}
 use Rattle.av_trace.specs.Text.{errno_name, cause_name, slot_text, labelled}
-use Rattle.av_trace.specs.Reading.{◌>>=◌, decimal_between}
+use Rattle.av_trace.specs.Reading.{◌>>=◌, decimal_between, named}
 use Rattle.av_trace.specs.Forms.{IsSlot}
 use Rattle.av_trace.proofs.Digits.{digits}
 use Rattle.av_trace.proofs.WordLaws.{numbers}
@@ -122,11 +121,6 @@ pub plain-prot : (prot : Prot) → IsPlain (prot_text prot)
 plain-prot prot = record { space = lacks-prot 32 prot (omega arith); newline = lacks-prot 10 prot (omega arith) }
 
 -- ---- names
-
--- what has this name
-abbrev pub named : {A : Type 0} → List (List ℕ × A) → List ℕ → Option A
-named [] w = None
-named (x ∷ xs) w = if bytes_eq w x.0 then Some x.1 else named xs w
 
 unfoldable pub errno_of : List ℕ → Option Errno
 errno_of w =

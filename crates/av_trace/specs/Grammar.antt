@@ -61,11 +61,20 @@ IsByte b = b < 256
 abbrev pub IsData : List ℕ → Type 0
 IsData bytes = IsNumberIn 1 4096 (length bytes) × AllByRecursion IsByte bytes
 
+-- an address, where a place has one
+abbrev pub IsPlace : Place → Type 0
+IsPlace places.Auto = Unit {0}
+IsPlace (places.At address) = IsWide address
+IsPlace (places.Fixed address) = IsWide address
+IsPlace (places.NoReplace address) = IsWide address
+
 -- the values are in range
 abbrev pub IsCommand : Command → Type 0
 IsCommand (commands.Spawn p) = IsProcess p
 IsCommand (commands.Exit p) = IsProcess p
-IsCommand (commands.Mmap p len prot place) = IsProcess p × IsWide len
+IsCommand (commands.Mmap p len prot place) = IsProcess p × IsWide len × IsPlace place
+IsCommand (commands.Munmap p address len) = IsProcess p × IsWide address × IsWide len
+IsCommand (commands.Mprotect p address len prot) = IsProcess p × IsWide address × IsWide len
 IsCommand (commands.Read p address len) = IsProcess p × IsWide address × IsNumberIn 1 4096 len
 IsCommand (commands.Write p address bytes) = IsProcess p × IsWide address × IsData bytes
 IsCommand (commands.Maps p) = IsProcess p
@@ -76,12 +85,17 @@ IsCommand commands.Stat = Unit {0}
 -- where `mmap` puts the pages
 abbrev pub place_words : Place → List (List ℕ)
 place_words places.Auto = []
+place_words (places.At address) = codes "at" ∷ hex address ∷ []
+place_words (places.Fixed address) = codes "fixed" ∷ hex address ∷ []
+place_words (places.NoReplace address) = codes "noreplace" ∷ hex address ∷ []
 
 -- the one line of a command
 abbrev pub line_of : Command → List ℕ
 line_of (commands.Spawn p) = line (codes "spawn") (decimal p ∷ [])
 line_of (commands.Exit p) = line (codes "exit") (decimal p ∷ [])
 line_of (commands.Mmap p len prot place) = line (codes "mmap") (decimal p ∷ decimal len ∷ prot_text prot ∷ place_words place)
+line_of (commands.Munmap p address len) = line (codes "munmap") (decimal p ∷ hex address ∷ decimal len ∷ [])
+line_of (commands.Mprotect p address len prot) = line (codes "mprotect") (decimal p ∷ hex address ∷ decimal len ∷ prot_text prot ∷ [])
 line_of (commands.Read p address len) = line (codes "read") (decimal p ∷ hex address ∷ decimal len ∷ [])
 line_of (commands.Write p address bytes) = line (codes "write") (decimal p ∷ hex address ∷ hex_text bytes ∷ [])
 line_of (commands.Maps p) = line (codes "maps") (decimal p ∷ [])

@@ -8,11 +8,17 @@ use av_vma::Prot;
 pub enum Place {
     /// At the greatest address from which on they fit.
     Auto,
+    /// A hint: at this address if they may go there, else as `Auto`.
+    At(u64),
+    /// At this address, in place of what is mapped there.
+    Fixed(u64),
+    /// At this address, unless something is mapped there.
+    NoReplace(u64),
 }
 
 /// What a line asks for, with the words of the line in order.
 ///
-/// Addresses are in bytes; `len` of `Mmap` is in bytes too, and is rounded up to whole pages.
+/// Addresses and lengths are in bytes; each `len` but that of `Read` is rounded up to whole pages.
 #[derive(Drop)]
 pub enum Command {
     Spawn {
@@ -26,6 +32,17 @@ pub enum Command {
         len: u64,
         prot: Prot,
         place: Place,
+    },
+    Munmap {
+        process: u16,
+        address: u64,
+        len: u64,
+    },
+    Mprotect {
+        process: u16,
+        address: u64,
+        len: u64,
+        prot: Prot,
     },
     Read {
         process: u16,
