@@ -11,7 +11,7 @@ use Rattle.av_trace.specs.declared.command.Command.TheVariants as commands
 use Rattle.av_trace.specs.Grammar.{field, hex, hex_text, prot_text, place_words, IsNumberIn, IsProcess, IsWide, IsData, IsPlace, IsCommand, line, line_of}
 use Rattle.av_trace.specs.Reading.{◌>>=◌, Reader, decimal_between, field_at, finish, process_only_at, mmap_at, munmap_at, mprotect_at, read_at, write_at}
 use Rattle.av_trace.proofs.Steps.{bind_some}
-use Rattle.av_trace.proofs.WordLaws.{IsRest, Reads, field_at-found, field_at-again, numbers}
+use Rattle.av_trace.proofs.WordLaws.{Reads, field_at-found, field_at-again, numbers}
 use Rattle.av_trace.proofs.FieldLaws.{prots, addresses, byte_words, place_at-found, place_at-again, place-rest}
 
 -- a reader gets the commands that have this name, from the rest of their lines

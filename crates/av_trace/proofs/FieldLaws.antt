@@ -1,5 +1,5 @@
 -- Each kind of word: what is read is in range and so spelled, and what is in range is read from its spelling.
-use Rattle.std.proofs.Common.{zero, suc, Bool, true, false, ◌≡◌, ℕ, ◌*◌, ◌/◌, ◌%◌, ◌≤◌, List, [], ◌∷◌, ◌++◌, length, append_assoc, append-nil, Option, Some, refl, sym, ap, subst, ◌∙◌, arith, inl, inr, eqb, leb}
+use Rattle.std.proofs.Common.{zero, suc, Bool, true, false, ◌≡◌, ℕ, ◌*◌, ◌/◌, ◌%◌, ◌≤◌, List, [], ◌∷◌, ◌++◌, length, append_assoc, append-nil, Some, refl, sym, ap, subst, ◌∙◌, arith, inl, inr, eqb, leb}
 use Rattle.std.specs.Prelude.{◌&&◌, codes}
 use Rattle.std.specs.List.{flat_map, AllByRecursion}
 use Rattle.std.specs.Str.{bytes_eq}

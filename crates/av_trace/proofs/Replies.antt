@@ -6,7 +6,6 @@ use Rattle.std.specs.Fmt.{decimal}
 use Rattle.std.proofs.lemmas.Option.{same_Some}
 use Rattle.av_trace.specs.declared.command.Command.{Command}
 use Rattle.av_trace.specs.declared.command.Command.TheVariants as commands
-use Rattle.av_trace.specs.declared.reply.Errno.{Errno}
 use Rattle.av_trace.specs.declared.reply.OutOf.{OutOf}
 use Rattle.av_trace.specs.declared.reply.Totals.{Totals}
 use Rattle.av_trace.specs.declared.reply.Answer.{Answer}
@@ -16,7 +15,7 @@ use Rattle.av_trace.specs.declared.reply.Note.TheVariants as notes
 use Rattle.av_trace.specs.declared.reply.Row.{Row}
 use Rattle.av_trace.specs.declared.reply.Row.TheVariants as rows
 use Rattle.av_trace.specs.declared.reply.Reply.{Reply}
-use Rattle.av_trace.specs.Grammar.{hex, hex_text, prot_text, field, line, IsWide}
+use Rattle.av_trace.specs.Grammar.{hex, prot_text, field, line, IsWide}
 use Rattle.av_trace.specs.Text.{shown_words, labelled, answer_line, note_line, row_line, ended, text_of}
 use Rattle.av_trace.specs.Reading.{◌>>=◌, hex_of, pairs_of, prot_of, named}
 use Rattle.av_trace.specs.Forms.{AreBytes, AreCauses, AreTotals, IsAnswerTo, IsNote, IsRun, AreRowsOf, MayAnswer}
