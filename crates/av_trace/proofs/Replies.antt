@@ -6,7 +6,6 @@ use Rattle.std.specs.Fmt.{decimal}
 use Rattle.std.proofs.lemmas.Option.{same_Some}
 use Rattle.av_trace.specs.declared.command.Command.{Command}
 use Rattle.av_trace.specs.declared.command.Command.TheVariants as commands
-use Rattle.av_trace.specs.declared.reply.Errno.{Errno}
 use Rattle.av_trace.specs.declared.reply.OutOf.{OutOf}
 use Rattle.av_trace.specs.declared.reply.Totals.{Totals}
 use Rattle.av_trace.specs.declared.reply.Answer.{Answer}
@@ -16,15 +15,14 @@ use Rattle.av_trace.specs.declared.reply.Note.TheVariants as notes
 use Rattle.av_trace.specs.declared.reply.Row.{Row}
 use Rattle.av_trace.specs.declared.reply.Row.TheVariants as rows
 use Rattle.av_trace.specs.declared.reply.Reply.{Reply}
-use Rattle.av_trace.specs.Grammar.{hex, hex_text, prot_text, field, line, IsWide}
-use Rattle.av_trace.specs.Text.{errno_name, cause_name, slot_text, shown_words, out_words, total_words, answer_line, note_line, row_line, ended, text_of}
-use Rattle.av_trace.specs.Reading.{◌>>=◌, hex_of, pairs_of, prot_of}
+use Rattle.av_trace.specs.Grammar.{hex, prot_text, field, line, IsWide}
+use Rattle.av_trace.specs.Text.{shown_words, labelled, answer_line, note_line, row_line, ended, text_of}
+use Rattle.av_trace.specs.Reading.{◌>>=◌, hex_of, pairs_of, prot_of, named}
 use Rattle.av_trace.specs.Forms.{AreBytes, AreCauses, AreTotals, IsAnswerTo, IsNote, IsRun, AreRowsOf, MayAnswer}
 use Rattle.av_trace.proofs.Hex.{hex_of-again}
-use Rattle.av_trace.proofs.Pairs.{pairs_of-again}
 use Rattle.av_trace.proofs.FieldLaws.{prots}
 use Rattle.av_trace.proofs.Split.{lacks, lacks-cons, lacks-append, split, split-two, IsPlain, split-line, lacks-line, first_line}
-use Rattle.av_trace.proofs.ReplyWords.{number_of, number_of-again, lacks-hex, plain-decimal, plain-hex, plain-hex_text, plain-labelled, labelled_of, labelled_of-again, slot_of, slot_of-again, plain-slot, plain-prot, named, errno_of, errno-named, cause_of, cause-named, plain_name}
+use Rattle.av_trace.proofs.ReplyWords.{number_of, lacks-hex, plain-hex, plain-labelled, labelled_of, labelled_of-again, slot_of, plain-prot, errno_of, errno-named, cause_of, cause-named, plain_name, Names, number-named, hex-named, bytes-named, slot-named}
 
 -- ---- lines that are read back
 
@@ -65,6 +63,33 @@ one_line {read = read} r s e = same_Some _ _ (sym (reads_back r) ∙ ap (λ (t :
 no_newline : {A : Type 0} {read : LineReader A} {l : List ℕ} {x : A} → IsLineOf read l x → lacks 10 l ≡ true
 no_newline r = ap (lacks 10) r.is ∙ lacks-line r.name r.words r.plain r.all_plain
 
+-- the words are plain, and y is read from them
+record AreRead {B : Type 0} (read : LineReader B) (words : List (List ℕ)) (y : B) : Type 0 where
+  plain : AllByRecursion IsPlain words
+  again : read words ≡ Some y
+
+no_word : {B : Type 0} {y : B} → AreRead (last y) [] y
+no_word = record { plain = tt; again = refl }
+
+-- one word, and the others
+word : {A B : Type 0} {read : List ℕ → Option A} (more : A → LineReader B) {w : List ℕ} {x : A} {words : List (List ℕ)} {y : B} → Names read w x → AreRead (more x) words y →
+    AreRead (next read more) (w ∷ words) y
+word more {words = words} first others = record {
+  plain = (first.plain, others.plain);
+  again = ap (λ o. o >>= λ x. more x words) first.again ∙ others.again;
+}
+
+-- a name that is known by computing, and words
+line_is : {A : Type 0} {read : LineReader A} (name : List ℕ) {words : List (List ℕ)} {x : A} → lacks 32 name ≡ true → lacks 10 name ≡ true → AreRead (λ ws. read (name ∷ ws)) words x → IsLineOf read (line name words) x
+line_is name {words = words} space newline read = record {
+  name = name;
+  words = words;
+  is = refl;
+  plain = plain_name name space newline;
+  all_plain = read.plain;
+  again = read.again;
+}
+
 -- ---- notes
 
 unfoldable note_of : LineReader Note
@@ -87,117 +112,25 @@ note_of words =
     ) words
 
 -- the words of an entry that gets a frame
-all_plain-entry : (p address frame : ℕ) → IsWide p → IsWide address → IsWide frame → AllByRecursion IsPlain (decimal p ∷ hex address ∷ decimal frame ∷ [])
-all_plain-entry p address frame hp ha hf = (plain-decimal p hp, (plain-hex address ha, (plain-decimal frame hf, tt)))
+entry : (note : ℕ → ℕ → ℕ → Note) {p address frame : ℕ} → IsWide p × IsWide address × IsWide frame →
+    AreRead (next number_of (λ p. next hex_of (λ address. next number_of (λ frame. last (note p address frame))))) (decimal p ∷ hex address ∷ decimal frame ∷ []) (note p address frame)
+entry note h = word _ (number-named h.0) (word _ (hex-named h.1) (word _ (number-named h.2) no_word))
 
 note_line-is : (note : Note) → IsNote note → IsLineOf note_of (note_line note) note
 unfolding note_of
-note_line-is (notes.Zeroed p address) h = record {
-  name = codes "zero";
-  words = decimal p ∷ hex address ∷ [];
-  is = refl;
-  plain = plain_name _ refl refl;
-  all_plain = (plain-decimal p h.0, (plain-hex address h.1, tt));
-  again = rw (number_of-again p h.0, hex_of-again address h.1) refl;
-}
-note_line-is (notes.New p address frame) h = record {
-  name = codes "new";
-  words = decimal p ∷ hex address ∷ decimal frame ∷ [];
-  is = refl;
-  plain = plain_name _ refl refl;
-  all_plain = all_plain-entry p address frame h.0 h.1 h.2;
-  again = rw (number_of-again p h.0, hex_of-again address h.1, number_of-again frame h.2) refl;
-}
-note_line-is (notes.Copied p address frame) h = record {
-  name = codes "copy";
-  words = decimal p ∷ hex address ∷ decimal frame ∷ [];
-  is = refl;
-  plain = plain_name _ refl refl;
-  all_plain = all_plain-entry p address frame h.0 h.1 h.2;
-  again = rw (number_of-again p h.0, hex_of-again address h.1, number_of-again frame h.2) refl;
-}
-note_line-is (notes.Loaded slot frame) h = record {
-  name = codes "load";
-  words = slot_text slot ∷ decimal frame ∷ [];
-  is = refl;
-  plain = plain_name _ refl refl;
-  all_plain = (plain-slot slot h.0, (plain-decimal frame h.1, tt));
-  again = rw (slot_of-again slot h.0, number_of-again frame h.1) refl;
-}
-note_line-is (notes.Mapped p address frame) h = record {
-  name = codes "map";
-  words = decimal p ∷ hex address ∷ decimal frame ∷ [];
-  is = refl;
-  plain = plain_name _ refl refl;
-  all_plain = all_plain-entry p address frame h.0 h.1 h.2;
-  again = rw (number_of-again p h.0, hex_of-again address h.1, number_of-again frame h.2) refl;
-}
-note_line-is (notes.Put frame slot) h = record {
-  name = codes "put";
-  words = decimal frame ∷ slot_text slot ∷ [];
-  is = refl;
-  plain = plain_name _ refl refl;
-  all_plain = (plain-decimal frame h.0, (plain-slot slot h.1, tt));
-  again = rw (number_of-again frame h.0, slot_of-again slot h.1) refl;
-}
-note_line-is (notes.Unmapped frame) h = record {
-  name = codes "unmap";
-  words = decimal frame ∷ [];
-  is = refl;
-  plain = plain_name _ refl refl;
-  all_plain = (plain-decimal frame h, tt);
-  again = rw (number_of-again frame h) refl;
-}
-note_line-is (notes.Started slot) h = record {
-  name = codes "start";
-  words = slot_text slot ∷ [];
-  is = refl;
-  plain = plain_name _ refl refl;
-  all_plain = (plain-slot slot h, tt);
-  again = rw (slot_of-again slot h) refl;
-}
-note_line-is (notes.Written slot) h = record {
-  name = codes "done";
-  words = slot_text slot ∷ [];
-  is = refl;
-  plain = plain_name _ refl refl;
-  all_plain = (plain-slot slot h, tt);
-  again = rw (slot_of-again slot h) refl;
-}
-note_line-is (notes.Failed slot) h = record {
-  name = codes "fail";
-  words = slot_text slot ∷ [];
-  is = refl;
-  plain = plain_name _ refl refl;
-  all_plain = (plain-slot slot h, tt);
-  again = rw (slot_of-again slot h) refl;
-}
-note_line-is (notes.Dropped slot) h = record {
-  name = codes "drop";
-  words = slot_text slot ∷ [];
-  is = refl;
-  plain = plain_name _ refl refl;
-  all_plain = (plain-slot slot h, tt);
-  again = rw (slot_of-again slot h) refl;
-}
-note_line-is (notes.Kept frame cause) h =
-    let c = cause-named cause in
-    record {
-      name = codes "keep";
-      words = decimal frame ∷ cause_name cause ∷ [];
-      is = refl;
-      plain = plain_name _ refl refl;
-      all_plain = (plain-decimal frame h, (c.plain, tt));
-      again = rw (number_of-again frame h, c.again) refl;
-    }
-note_line-is (notes.Aged frame) h = record {
-  name = codes "age";
-  words = decimal frame ∷ [];
-  is = refl;
-  plain = plain_name _ refl refl;
-  all_plain = (plain-decimal frame h, tt);
-  again = rw (number_of-again frame h) refl;
-}
+note_line-is (notes.Zeroed p address) h = line_is (codes "zero") refl refl (word _ (number-named h.0) (word _ (hex-named h.1) no_word))
+note_line-is (notes.New p address frame) h = line_is (codes "new") refl refl (entry notes.New h)
+note_line-is (notes.Copied p address frame) h = line_is (codes "copy") refl refl (entry notes.Copied h)
+note_line-is (notes.Loaded slot frame) h = line_is (codes "load") refl refl (word _ (slot-named slot h.0) (word _ (number-named h.1) no_word))
+note_line-is (notes.Mapped p address frame) h = line_is (codes "map") refl refl (entry notes.Mapped h)
+note_line-is (notes.Put frame slot) h = line_is (codes "put") refl refl (word _ (number-named h.0) (word _ (slot-named slot h.1) no_word))
+note_line-is (notes.Unmapped frame) h = line_is (codes "unmap") refl refl (word _ (number-named h) no_word)
+note_line-is (notes.Started slot) h = line_is (codes "start") refl refl (word _ (slot-named slot h) no_word)
+note_line-is (notes.Written slot) h = line_is (codes "done") refl refl (word _ (slot-named slot h) no_word)
+note_line-is (notes.Failed slot) h = line_is (codes "fail") refl refl (word _ (slot-named slot h) no_word)
+note_line-is (notes.Dropped slot) h = line_is (codes "drop") refl refl (word _ (slot-named slot h) no_word)
+note_line-is (notes.Kept frame cause) h = line_is (codes "keep") refl refl (word _ (number-named h) (word _ (cause-named cause) no_word))
+note_line-is (notes.Aged frame) h = line_is (codes "age") refl refl (word _ (number-named h) no_word)
 
 -- ---- rows
 
@@ -305,172 +238,65 @@ answer_of words =
 abbrev IsAnswerLine : Answer → Type 0
 IsAnswerLine answer = IsLineOf answer_of (answer_line answer) answer
 
-done-line : IsAnswerLine answers.Done
-unfolding answer_of
-done-line = record { name = codes "ok"; words = []; is = refl; plain = plain_name _ refl refl; all_plain = tt; again = refl }
-
-map-line : (address : ℕ) → IsWide address → IsAnswerLine (answers.MapAt address)
-unfolding answer_of
-map-line address h = record {
-  name = codes "map";
-  words = hex address ∷ [];
-  is = refl;
-  plain = plain_name _ refl refl;
-  all_plain = (plain-hex address h, tt);
-  again = rw (hex_of-again address h) refl;
-}
-
-data-line : (bytes : List ℕ) → AreBytes bytes → IsAnswerLine (answers.«Data» bytes)
-unfolding answer_of
-data-line bytes h = record {
-  name = codes "data";
-  words = hex_text bytes ∷ [];
-  is = refl;
-  plain = plain_name _ refl refl;
-  all_plain = (plain-hex_text bytes, tt);
-  again = rw (pairs_of-again bytes h) refl;
-}
-
-refused-line : (error : Errno) → IsAnswerLine (answers.Refused error)
-unfolding answer_of
-refused-line error =
-    let e = errno-named error in
-    record {
-      name = codes "err";
-      words = errno_name error ∷ [];
-      is = refl;
-      plain = plain_name _ refl refl;
-      all_plain = (e.plain, tt);
-      again = rw (e.again) refl;
-    }
-
-runs-line : (n : ℕ) → IsWide n → IsAnswerLine (answers.Runs n)
-unfolding answer_of
-runs-line n h = record {
-  name = codes "runs";
-  words = decimal n ∷ [];
-  is = refl;
-  plain = plain_name _ refl refl;
-  all_plain = (plain-decimal n h, tt);
-  again = rw (number_of-again n h) refl;
-}
-
--- the bytes shown are plain words, and are read back
-record Shows (shown : List ℕ) : Type 0 where
-  plain : AllByRecursion IsPlain (shown_words shown)
-  again : (more : List ℕ → Answer) → shown_at more (shown_words shown) ≡ Some (more shown)
-
-shows : (shown : List ℕ) → AreBytes shown → Shows shown
-shows [] h = record { plain = tt; again = λ more. refl }
-shows (b ∷ bytes) h = record {
-  plain = (plain-hex_text (b ∷ bytes), tt);
-  again = λ more. ap (λ o. o >>= λ found. Some (more found)) (pairs_of-again (b ∷ bytes) h);
-}
+-- the bytes that are shown
+shows : (more : List ℕ → Answer) (shown : List ℕ) → AreBytes shown → AreRead (shown_at more) (shown_words shown) (more shown)
+shows more [] h = record { plain = tt; again = refl }
+shows more (b ∷ bytes) h =
+    let w = bytes-named (b ∷ bytes) h in
+    record { plain = (w.plain, tt); again = ap (λ o. o >>= λ found. Some (more found)) w.again }
 
 segv-line : (served : ℕ) (shown : List ℕ) → IsWide served → AreBytes shown → IsAnswerLine (answers.Segv served shown)
 unfolding answer_of
-segv-line served shown hs hb =
-    let s = shows shown hb in
-    record {
-      name = codes "segv";
-      words = decimal served ∷ shown_words shown;
-      is = refl;
-      plain = plain_name _ refl refl;
-      all_plain = (plain-decimal served hs, s.plain);
-      again = rw (number_of-again served hs) (s.again (answers.Segv served));
-    }
+segv-line served shown hs hb = line_is (codes "segv") refl refl (word _ (number-named hs) (shows (answers.Segv served) shown hb))
 
 bus-line : (served : ℕ) (shown : List ℕ) → IsWide served → AreBytes shown → IsAnswerLine (answers.Bus served shown)
 unfolding answer_of
-bus-line served shown hs hb =
-    let s = shows shown hb in
-    record {
-      name = codes "bus";
-      words = decimal served ∷ shown_words shown;
-      is = refl;
-      plain = plain_name _ refl refl;
-      all_plain = (plain-decimal served hs, s.plain);
-      again = rw (number_of-again served hs) (s.again (answers.Bus served));
-    }
+bus-line served shown hs hb = line_is (codes "bus") refl refl (word _ (number-named hs) (shows (answers.Bus served) shown hb))
+
+-- a number after its label, which is known by computing
+labelled-is : (label : List ℕ) {n : ℕ} → lacks 32 label ≡ true → lacks 10 label ≡ true → IsWide n → Names (labelled_of label) (labelled label n) n
+labelled-is label {n = n} space newline small = record { plain = plain-labelled label n (plain_name label space newline) small; again = labelled_of-again label n small }
 
 oom-line : (served : ℕ) (out : OutOf) (shown : List ℕ) → IsWide served → AreCauses out → AreBytes shown → IsAnswerLine (answers.Oom served out shown)
 unfolding answer_of
 oom-line served out shown hs ho hb =
-    let s = shows shown hb in
-    let pinned = labelled_of-again (codes "pinned=") out.pinned ho.0 in
-    let noslot = labelled_of-again (codes "noslot=") out.noslot ho.1 in
-    let fault = labelled_of-again (codes "fault=") out.fault ho.2 in
-    record {
-      name = codes "oom";
-      words = decimal served ∷ out_words out ++ shown_words shown;
-      is = refl;
-      plain = plain_name _ refl refl;
-      all_plain = (
-        plain-decimal served hs,
-        (
-          plain-labelled (codes "pinned=") out.pinned (plain_name _ refl refl) ho.0,
-          (
-            plain-labelled (codes "noslot=") out.noslot (plain_name _ refl refl) ho.1,
-            (plain-labelled (codes "fault=") out.fault (plain_name _ refl refl) ho.2, s.plain),
-          ),
-        ),
-      );
-      again = rw (number_of-again served hs, pinned, noslot, fault) (s.again (answers.Oom served out));
-    }
+    let pinned = labelled-is (codes "pinned=") refl refl ho.0 in
+    let noslot = labelled-is (codes "noslot=") refl refl ho.1 in
+    let fault = labelled-is (codes "fault=") refl refl ho.2 in
+    line_is (codes "oom") refl refl (word _ (number-named hs) (word _ pinned (word _ noslot (word _ fault (shows (answers.Oom served out) shown hb)))))
 
 counted-line : (t : Totals) → AreTotals t → IsAnswerLine (answers.Counted t)
 unfolding answer_of
-counted-line t h = record {
-  name = codes "stat";
-  words = total_words t;
-  is = refl;
-  plain = plain_name _ refl refl;
-  all_plain = (
-    plain-labelled (codes "frames=") t.frames (plain_name _ refl refl) h.frames,
-    (
-      plain-labelled (codes "free=") t.free (plain_name _ refl refl) h.free,
-      (
-        plain-labelled (codes "active=") t.active (plain_name _ refl refl) h.active,
-        (
-          plain-labelled (codes "inactive=") t.inactive (plain_name _ refl refl) h.inactive,
-          (
-            plain-labelled (codes "flight=") t.flight (plain_name _ refl refl) h.flight,
-            (
-              plain-labelled (codes "slots=") t.slots (plain_name _ refl refl) h.slots,
-              (
-                plain-labelled (codes "freeslots=") t.free_slots (plain_name _ refl refl) h.free_slots,
-                (plain-labelled (codes "procs=") t.processes (plain_name _ refl refl) h.processes, tt),
-              ),
-            ),
-          ),
-        ),
-      ),
-    ),
-  );
-  again = rw (
-    labelled_of-again (codes "frames=") t.frames h.frames,
-    labelled_of-again (codes "free=") t.free h.free,
-    labelled_of-again (codes "active=") t.active h.active,
-    labelled_of-again (codes "inactive=") t.inactive h.inactive,
-    labelled_of-again (codes "flight=") t.flight h.flight,
-    labelled_of-again (codes "slots=") t.slots h.slots,
-    labelled_of-again (codes "freeslots=") t.free_slots h.free_slots,
-    labelled_of-again (codes "procs=") t.processes h.processes,
-  ) refl;
-}
+counted-line t h =
+    let frames = labelled-is (codes "frames=") refl refl h.frames in
+    let free = labelled-is (codes "free=") refl refl h.free in
+    let active = labelled-is (codes "active=") refl refl h.active in
+    let inactive = labelled-is (codes "inactive=") refl refl h.inactive in
+    let flight = labelled-is (codes "flight=") refl refl h.flight in
+    let slots = labelled-is (codes "slots=") refl refl h.slots in
+    let free_slots = labelled-is (codes "freeslots=") refl refl h.free_slots in
+    let processes = labelled-is (codes "procs=") refl refl h.processes in
+    line_is (codes "stat") refl refl (word _ frames (word _ free (word _ active (word _ inactive (word _ flight (word _ slots (word _ free_slots (word _ processes no_word))))))))
 
 -- no byte is shown
 none_shown : (shown : List ℕ) → shown ≡ [] → AreBytes shown
 none_shown shown e = subst AreBytes (sym e) tt
 
+done-line : IsAnswerLine answers.Done
+unfolding answer_of
+done-line = line_is (codes "ok") refl refl no_word
+
 answer_line-is : (command : Command) (answer : Answer) → IsAnswerTo command answer → IsAnswerLine answer
+unfolding answer_of
 answer_line-is commands.Stat (answers.Counted t) h = counted-line t h
 answer_line-is commands.Stat answer h = absurd h
-answer_line-is command (answers.Refused error) h = refused-line error
+answer_line-is command (answers.Refused error) h = line_is (codes "err") refl refl (word _ (errno-named error) no_word)
 answer_line-is (commands.Spawn p) answers.Done h = done-line
 answer_line-is (commands.Exit p) answers.Done h = done-line
-answer_line-is (commands.Mmap p len prot place) (answers.MapAt address) h = map-line address h
-answer_line-is (commands.Read p address len) (answers.«Data» bytes) h = data-line bytes h.1
+answer_line-is (commands.Mmap p len prot place) (answers.MapAt address) h = line_is (codes "map") refl refl (word _ (hex-named h) no_word)
+answer_line-is (commands.Munmap p address len) answers.Done h = done-line
+answer_line-is (commands.Mprotect p address len prot) answers.Done h = done-line
+answer_line-is (commands.Read p address len) (answers.«Data» bytes) h = line_is (codes "data") refl refl (word _ (bytes-named bytes h.1) no_word)
 answer_line-is (commands.Read p address len) (answers.Segv served shown) h = segv-line served shown h.0 h.2
 answer_line-is (commands.Read p address len) (answers.Bus served shown) h = bus-line served shown h.0 h.2
 answer_line-is (commands.Read p address len) (answers.Oom served out shown) h = oom-line served out shown h.1.0 h.0 h.1.2
@@ -478,7 +304,7 @@ answer_line-is (commands.Write p address bytes) answers.Done h = done-line
 answer_line-is (commands.Write p address bytes) (answers.Segv served shown) h = segv-line served shown h.0 (none_shown shown h.1)
 answer_line-is (commands.Write p address bytes) (answers.Bus served shown) h = bus-line served shown h.0 (none_shown shown h.1)
 answer_line-is (commands.Write p address bytes) (answers.Oom served out shown) h = oom-line served out shown h.1.0 h.0 (none_shown shown h.1.1)
-answer_line-is (commands.Maps p) (answers.Runs n) h = runs-line n h
+answer_line-is (commands.Maps p) (answers.Runs n) h = line_is (codes "runs") refl refl (word _ (number-named h) no_word)
 answer_line-is command answer h = absurd h
 
 -- ---- the lines after the first

@@ -1,8 +1,7 @@
 -- The words of replies: each is plain, and is read back.
 use Rattle.std.proofs.Common.{Bool, true, false, ◌≡◌, ℕ, ◌-◌, ◌/◌, ◌%◌, ◌^◌, ◌<◌, List, [], ◌∷◌, length, drop, Option, Some, None, refl, ap, ◌∙◌, arith, lit<}
-use Rattle.std.specs.Prelude.{codes, if◌then◌else◌}
+use Rattle.std.specs.Prelude.{codes}
 use Rattle.std.specs.Int.{IsInRange}
-use Rattle.std.specs.Str.{bytes_eq}
 use Rattle.std.specs.Fmt.{decimal, digit_glyph}
 use Rattle.std.proofs.lemmas.List.{drop_at}
 use Rattle.std.proofs.lemmas.Str.Parse.{not_in_digits}
@@ -15,11 +14,12 @@ use Rattle.av_trace.specs.declared.reply.Cause.{Cause}
 use Rattle.av_trace.specs.declared.reply.Cause.TheVariants as causes
 use Rattle.av_trace.specs.Grammar.{hex, hex_text, letter, prot_text, IsWide}
 use Rattle.av_trace.specs.Text.{errno_name, cause_name, slot_text, labelled}
-use Rattle.av_trace.specs.Reading.{◌>>=◌, decimal_between}
-use Rattle.av_trace.specs.Forms.{IsSlot}
+use Rattle.av_trace.specs.Reading.{◌>>=◌, decimal_between, hex_of, pairs_of, named}
+use Rattle.av_trace.specs.Forms.{AreBytes, IsSlot}
 use Rattle.av_trace.proofs.Digits.{digits}
 use Rattle.av_trace.proofs.WordLaws.{numbers}
-use Rattle.av_trace.proofs.Hex.{hex-none_below, glyph_printed}
+use Rattle.av_trace.proofs.Hex.{hex_of-again, hex-none_below, glyph_printed}
+use Rattle.av_trace.proofs.Pairs.{pairs_of-again}
 use Rattle.av_trace.proofs.Split.{lacks, lacks-cons, lacks-from, lacks-append, split, split-two, IsPlain}
 
 -- ---- numbers
@@ -123,11 +123,6 @@ plain-prot prot = record { space = lacks-prot 32 prot (omega arith); newline = l
 
 -- ---- names
 
--- what has this name
-abbrev pub named : {A : Type 0} → List (List ℕ × A) → List ℕ → Option A
-named [] w = None
-named (x ∷ xs) w = if bytes_eq w x.0 then Some x.1 else named xs w
-
 unfoldable pub errno_of : List ℕ → Option Errno
 errno_of w =
     named (
@@ -147,6 +142,18 @@ errno_of w =
 pub record Names {A : Type 0} (read : List ℕ → Option A) (w : List ℕ) (x : A) : Type 0 where
   pub plain : IsPlain w
   pub again : read w ≡ Some x
+
+pub number-named : {n : ℕ} → IsWide n → Names number_of (decimal n) n
+number-named {n = n} small = record { plain = plain-decimal n small; again = number_of-again n small }
+
+pub hex-named : {n : ℕ} → IsWide n → Names hex_of (hex n) n
+hex-named {n = n} small = record { plain = plain-hex n small; again = hex_of-again n small }
+
+pub bytes-named : (bytes : List ℕ) → AreBytes bytes → Names pairs_of (hex_text bytes) bytes
+bytes-named bytes all = record { plain = plain-hex_text bytes; again = pairs_of-again bytes all }
+
+pub slot-named : (slot : Slot) → IsSlot slot → Names slot_of (slot_text slot) slot
+slot-named slot is = record { plain = plain-slot slot is; again = slot_of-again slot is }
 
 -- a word of which both are known by computing
 abbrev pub plain_name : (w : List ℕ) → lacks 32 w ≡ true → lacks 10 w ≡ true → IsPlain w

@@ -1,5 +1,5 @@
 -- A word of a line: where it ends, and how it is read.
-use Rattle.std.proofs.Common.{true, ◌≡◌, ℕ, ◌^◌, ◌<◌, List, [], ◌∷◌, ◌++◌, length, get_or, take, drop, Option, Some, None, refl, sym, ap, subst, ◌∙◌, arith, inl, inr, add-zero, nat_lt, eqb, ltb}
+use Rattle.std.proofs.Common.{zero, suc, true, not, ◌≡◌, ℕ, ◌^◌, ◌<◌, List, [], ◌∷◌, ◌++◌, length, get_or, take, drop, Option, Some, None, refl, sym, ap, subst, ◌∙◌, arith, inl, inr, add-zero, nat_lt, eqb, ltb}
 use Rattle.std.specs.Prelude.{◌==◌, nat_le, ◌&&◌, IfSome, IfNone}
 use Rattle.std.specs.Fmt.{decimal}
 use Rattle.std.specs.Str.{all_ascii_digits}
@@ -13,11 +13,17 @@ use Rattle.std.proofs.lemmas.Fmt.{decimal-digits_value, digits_decimal, digits_v
 use Rattle.av_trace.specs.Grammar.{field, IsNumberIn}
 use Rattle.av_trace.specs.Reading.{word_len, word_at, has_plain_start, value_at, decimal_between, field_at}
 use Rattle.av_trace.proofs.Digits.{digits}
+use Rattle.av_trace.proofs.Split.{lacks}
 use Rattle.av_trace.proofs.Steps.{bind_some, cond_found}
 
 -- a word has no space
 abbrev pub IsWord : List ℕ → Type 0
 IsWord w = (i : ℕ) → i < length w → get_or w i 0 ≡ 32 → ⊥
+
+pub word-lacks : (w : List ℕ) → lacks 32 w ≡ true → IsWord w
+word-lacks [] h i lt e = omega arith
+word-lacks (b ∷ w) h zero lt e = let p = and_parts (not (eqb b 32)) (lacks 32 w) h in absurd (grind (arith, p.0, eq-eqb b 32 e))
+word-lacks (b ∷ w) h (suc i) lt e = let p = and_parts (not (eqb b 32)) (lacks 32 w) h in word-lacks w p.1 i (omega arith) e
 
 -- what may follow a word
 abbrev pub IsRest : List ℕ → Type 0

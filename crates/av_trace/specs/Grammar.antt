@@ -61,12 +61,12 @@ IsByte b = b < 256
 abbrev pub IsData : List ℕ → Type 0
 IsData bytes = IsNumberIn 1 4096 (length bytes) × AllByRecursion IsByte bytes
 
--- the address that a place names, if it names one
+-- an address, where a place has one
 abbrev pub IsPlace : Place → Type 0
 IsPlace places.Auto = Unit {0}
-IsPlace (places.At a) = IsWide a
-IsPlace (places.Fixed a) = IsWide a
-IsPlace (places.NoReplace a) = IsWide a
+IsPlace (places.At address) = IsWide address
+IsPlace (places.Fixed address) = IsWide address
+IsPlace (places.NoReplace address) = IsWide address
 
 -- the values are in range
 abbrev pub IsCommand : Command → Type 0
@@ -85,9 +85,9 @@ IsCommand commands.Stat = Unit {0}
 -- where `mmap` puts the pages
 abbrev pub place_words : Place → List (List ℕ)
 place_words places.Auto = []
-place_words (places.At a) = codes "at" ∷ hex a ∷ []
-place_words (places.Fixed a) = codes "fixed" ∷ hex a ∷ []
-place_words (places.NoReplace a) = codes "noreplace" ∷ hex a ∷ []
+place_words (places.At address) = codes "at" ∷ hex address ∷ []
+place_words (places.Fixed address) = codes "fixed" ∷ hex address ∷ []
+place_words (places.NoReplace address) = codes "noreplace" ∷ hex address ∷ []
 
 -- the one line of a command
 abbrev pub line_of : Command → List ℕ

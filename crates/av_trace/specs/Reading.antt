@@ -4,6 +4,7 @@ use Rattle.std.specs.List.{position_or_len}
 use Rattle.std.specs.Str.{all_ascii_digits, bytes_eq}
 use Rattle.std.specs.Str.Parse.{digits_value}
 use Rattle.av_vma.specs.declared.area.Prot.{Prot}
+use Rattle.av_trace.specs.declared.command.Place.{Place}
 use Rattle.av_trace.specs.declared.command.Place.TheVariants as places
 use Rattle.av_trace.specs.declared.command.Command.{Command}
 use Rattle.av_trace.specs.declared.command.Command.TheVariants as commands
@@ -98,6 +99,34 @@ process_at bytes = number_at 1 32767 bytes
 abbrev pub address_at : List ℕ → Option (ℕ × List ℕ)
 address_at bytes = field_at hex_of bytes
 
+-- a length
+abbrev pub len_at : List ℕ → Option (ℕ × List ℕ)
+len_at bytes = number_at 0 (2 ^ 64 - 1) bytes
+
+-- ---- places
+
+-- what has this name
+abbrev pub named : {A : Type 0} → List (List ℕ × A) → List ℕ → Option A
+named [] w = None
+named (x ∷ xs) w = if bytes_eq w x.0 then Some x.1 else named xs w
+
+-- the places that have an address, by name
+abbrev pub kinds : List (List ℕ × (ℕ → Place))
+kinds = (codes "at", places.At) ∷ (codes "fixed", places.Fixed) ∷ (codes "noreplace", places.NoReplace) ∷ []
+
+-- the place of this name and address
+unfoldable pub place_of : List ℕ → ℕ → Option Place
+place_of name address = named kinds name >>= λ kind. Some (kind address)
+
+-- a name and an address, or nothing
+unfoldable pub place_at : List ℕ → Option (Place × List ℕ)
+place_at [] = Some (places.Auto, [])
+place_at (b ∷ bytes) = do
+  name ← word_at (b ∷ bytes)
+  address ← address_at name.1
+  place ← place_of name.0 address.0
+  Some (place, address.1)
+
 -- ---- commands
 
 -- the command, if nothing is left
@@ -115,9 +144,27 @@ process_only_at command bytes = do
 unfoldable pub mmap_at : List ℕ → Option Command
 mmap_at bytes = do
   p ← process_at bytes
-  len ← number_at 0 (2 ^ 64 - 1) p.1
+  len ← len_at p.1
   prot ← field_at prot_of len.1
-  finish prot.1 (commands.Mmap p.0 len.0 prot.0 places.Auto)
+  place ← place_at prot.1
+  finish place.1 (commands.Mmap p.0 len.0 prot.0 place.0)
+
+-- the words of `munmap`
+unfoldable pub munmap_at : List ℕ → Option Command
+munmap_at bytes = do
+  p ← process_at bytes
+  address ← address_at p.1
+  len ← len_at address.1
+  finish len.1 (commands.Munmap p.0 address.0 len.0)
+
+-- the words of `mprotect`
+unfoldable pub mprotect_at : List ℕ → Option Command
+mprotect_at bytes = do
+  p ← process_at bytes
+  address ← address_at p.1
+  len ← len_at address.1
+  prot ← field_at prot_of len.1
+  finish prot.1 (commands.Mprotect p.0 address.0 len.0 prot.0)
 
 -- the words of `read`
 unfoldable pub read_at : List ℕ → Option Command
@@ -145,20 +192,17 @@ readers =
     (codes "spawn", process_only_at commands.Spawn)
     ∷ (codes "exit", process_only_at commands.Exit)
     ∷ (codes "mmap", mmap_at)
+    ∷ (codes "munmap", munmap_at)
+    ∷ (codes "mprotect", mprotect_at)
     ∷ (codes "read", read_at)
     ∷ (codes "write", write_at)
     ∷ (codes "maps", process_only_at commands.Maps)
     ∷ (codes "stat", λ bytes. finish bytes commands.Stat)
     ∷ []
 
--- what the reader of that name reads
-abbrev pub read_by : List (List ℕ × Reader) → List ℕ → List ℕ → Option Command
-read_by [] name bytes = None
-read_by (reader ∷ others) name bytes = if bytes_eq name reader.0 then reader.1 bytes else read_by others name bytes
-
 -- a command's words after its name
 unfoldable pub command_at : List ℕ → List ℕ → Option Command
-command_at name bytes = read_by readers name bytes
+command_at name bytes = named readers name >>= λ read. read bytes
 
 -- a whole line
 unfoldable pub command_of : List ℕ → Option Command

@@ -8,7 +8,7 @@ use av_vma::Prot;
 pub enum Place {
     /// At the greatest address from which on they fit.
     Auto,
-    /// At the page of this address where they may be there, else as `Auto`.
+    /// A hint: at this address if they may go there, else as `Auto`.
     At(u64),
     /// At this address, in place of what is mapped there.
     Fixed(u64),
@@ -18,7 +18,7 @@ pub enum Place {
 
 /// What a line asks for, with the words of the line in order.
 ///
-/// Addresses are in bytes; `len` is in bytes too, and is rounded up to whole pages but where it counts the bytes of an access.
+/// Addresses and lengths are in bytes; each `len` but that of `Read` is rounded up to whole pages.
 #[derive(Drop)]
 pub enum Command {
     Spawn {

@@ -3,9 +3,10 @@
 ghost use Rattle.std.specs.Prelude.{◌≡◌, ℕ, ◌<◌, ◌≤◌, option_map, take, drop, length, IfSome, IfNone, IfOk};
 ghost use Rattle.std.specs.Fmt.{decimal as digits_of};
 ghost use Rattle.av_trace.specs.Grammar.{IsNumberIn};
-ghost use Rattle.av_trace.specs.Reading.{word_len, word_at, has_plain_start, value_at, decimal_between, hex_digit_of, hex_after, hex_of, pairs_of, data_of, letter_of, prot_of, field_at, number_at, process_at, address_at};
+ghost use Rattle.av_trace.specs.Reading.{word_len, word_at, has_plain_start, value_at, decimal_between, hex_digit_of, hex_after, hex_of, pairs_of, data_of, letter_of, prot_of, field_at, number_at, process_at, address_at, len_at, place_of, place_at};
 
 use crate::bytes::Bytes;
+use crate::command::Place;
 use av_vma::Prot;
 use std::alloc::{AllocError, Global};
 
@@ -223,6 +224,13 @@ pub fn address(bytes: &[u8]) -> Option<(u64, &[u8])>
     Some((n, rest))
 }
 
+/// A length, and the rest.
+pub fn len(bytes: &[u8]) -> Option<(u64, &[u8])>
+    ensures { option_map (λ x. (x.0, x.1.now)) result ≡ len_at bytes.now }
+{
+    number(bytes, 0, u64::MAX)
+}
+
 /// A protection, and the rest.
 #[tactic(auto, unfolding(crate::specs::Reading::field_at))]
 pub fn prot(bytes: &[u8]) -> Option<(Prot, &[u8])>
@@ -231,6 +239,36 @@ pub fn prot(bytes: &[u8]) -> Option<(Prot, &[u8])>
     let (word, rest) = next_word(bytes)?;
     let prot = prot_word(word)?;
     Some((prot, rest))
+}
+
+/// The place of this name and address.
+#[tactic(auto, unfolding(crate::specs::Reading::place_of))]
+fn place_named(name: &[u8], address: u64) -> Option<Place>
+    ensures { result ≡ place_of name.now address }
+{
+    if name == b"at".as_slice() {
+        Some(Place::At(address))
+    } else if name == b"fixed".as_slice() {
+        Some(Place::Fixed(address))
+    } else if name == b"noreplace".as_slice() {
+        Some(Place::NoReplace(address))
+    } else {
+        None
+    }
+}
+
+/// A name and an address, and the rest; at the end of the line, `Auto`.
+#[tactic(auto, unfolding(crate::specs::Reading::place_at))]
+pub fn place(bytes: &[u8]) -> Option<(Place, &[u8])>
+    ensures { option_map (λ x. (x.0, x.1.now)) result ≡ place_at bytes.now }
+{
+    if bytes.is_empty() {
+        return Some((Place::Auto, bytes));
+    }
+    let (name, rest) = next_word(bytes)?;
+    let (address, rest) = address(rest)?;
+    let place = place_named(name, address)?;
+    Some((place, rest))
 }
 
 /// What `write` stores, and the rest.

@@ -3,10 +3,10 @@
 ghost use Rattle.std.specs.Prelude.{◌≡◌, List, ℕ, Option, codes, take, IfOk, OnErr, IsErrOf};
 ghost use Rattle.av_trace.specs.declared.command.Command.{Command as AnyCommand};
 ghost use Rattle.av_trace.specs.Grammar.{BeginsWith, is_blank, Says};
-ghost use Rattle.av_trace.specs.Reading.{word_len, finish, process_only_at, mmap_at, read_at, write_at, command_at, command_of};
+ghost use Rattle.av_trace.specs.Reading.{word_len, finish, process_only_at, mmap_at, munmap_at, mprotect_at, read_at, write_at, command_at, command_of};
 
-use crate::command::{Command, Place};
-use crate::fields::{address, data_field, number, process, prot, split_word};
+use crate::command::Command;
+use crate::fields::{address, data_field, len, number, place, process, prot, split_word};
 use std::alloc::{AllocError, Global};
 
 /// Why a line was not read.
@@ -49,13 +49,46 @@ fn mmap(bytes: &[u8]) -> Option<Command>
     ensures { result ≡ mmap_at bytes.now }
 {
     let (process, rest) = process(bytes)?;
-    let (len, rest) = number(rest, 0, u64::MAX)?;
+    let (len, rest) = len(rest)?;
     let (prot, rest) = prot(rest)?;
+    let (place, rest) = place(rest)?;
     let command = Command::Mmap {
         process,
         len,
         prot,
-        place: Place::Auto,
+        place,
+    };
+    end(rest, command)
+}
+
+#[tactic(auto, unfolding(crate::specs::Reading::munmap_at))]
+fn munmap(bytes: &[u8]) -> Option<Command>
+    ensures { result ≡ munmap_at bytes.now }
+{
+    let (process, rest) = process(bytes)?;
+    let (address, rest) = address(rest)?;
+    let (len, rest) = len(rest)?;
+    let command = Command::Munmap {
+        process,
+        address,
+        len,
+    };
+    end(rest, command)
+}
+
+#[tactic(auto, unfolding(crate::specs::Reading::mprotect_at))]
+fn mprotect(bytes: &[u8]) -> Option<Command>
+    ensures { result ≡ mprotect_at bytes.now }
+{
+    let (process, rest) = process(bytes)?;
+    let (address, rest) = address(rest)?;
+    let (len, rest) = len(rest)?;
+    let (prot, rest) = prot(rest)?;
+    let command = Command::Mprotect {
+        process,
+        address,
+        len,
+        prot,
     };
     end(rest, command)
 }
@@ -115,6 +148,10 @@ fn command(alloc: Global, name: &[u8], bytes: &[u8]) -> Result<Option<Command>, 
         Ok(exit(bytes))
     } else if name == b"mmap".as_slice() {
         Ok(mmap(bytes))
+    } else if name == b"munmap".as_slice() {
+        Ok(munmap(bytes))
+    } else if name == b"mprotect".as_slice() {
+        Ok(mprotect(bytes))
     } else if name == b"read".as_slice() {
         Ok(read(bytes))
     } else if name == b"write".as_slice() {

@@ -22,6 +22,12 @@ fn lines(rt: HostRuntime) {
         "spawn 32767",
         "mmap 1 0 ---",
         "mmap 1 18446744073709551615 rwx",
+        "mmap 1 4096 rw- at 10",
+        "mmap 1 4096 rw- fixed 0",
+        "mmap 1 4096 rw- noreplace ffffffffffffffff",
+        "munmap 1 10000 0",
+        "munmap 1 ffffffffffffffff 18446744073709551615",
+        "mprotect 1 10000 4096 r--",
         "read 1 0 1",
         "read 1 ffffffffffffffff 4096",
         "write 1 10000 0f",
@@ -50,6 +56,18 @@ fn lines(rt: HostRuntime) {
         "mmap 1 18446744073709551616 rw-",
         "mmap 1 4096 rw",
         "mmap 1 4096 wr-",
+        "mmap 1 4096 rw- fixed",
+        "mmap 1 4096 rw- 10000",
+        "mmap 1 4096 rw- Fixed 10000",
+        "mmap 1 4096 rw- at 0x10",
+        "mmap 1 4096 rw- at 10 fixed 20",
+        "mmap 1 4096 rw-  fixed 10000",
+        "mmap 1 4096 rw- noreplace 10000000000000000",
+        "munmap 1 10000",
+        "munmap 1 01 4096",
+        "munmap 1 10000 4096 rw-",
+        "mprotect 1 10000 4096",
+        "mprotect 1 10000 4096 rwz",
         "read 1 10000 0",
         "read 1 10000 4097",
         "read 1 010000 1",
@@ -97,6 +115,67 @@ fn stored_bytes(rt: HostRuntime) {
             assert_eq!(rt; process, 7);
             assert_eq!(rt; address, 0x7fff_ffff_d000);
             assert!(rt; bytes.as_slice() == b"\x00\x41\x7f".as_slice());
+        }
+        _ => assert!(rt; false),
+    }
+}
+
+/// Where the line's `mmap` puts the pages.
+fn place_of(alloc: Global, line: &[u8]) -> Option<Place> {
+    match parse_line(alloc, line) {
+        Ok(Some(Command::Mmap { place, .. })) => Some(place),
+        _ => None,
+    }
+}
+
+#[test]
+fn places(rt: HostRuntime) {
+    let alloc = rt.alloc();
+    assert_eq!(rt; place_of(alloc, b"mmap 1 4096 rw-"), Some(Place::Auto));
+    assert_eq!(rt;
+        place_of(alloc, b"mmap 1 4096 rw- at 1f"),
+        Some(Place::At(0x1f))
+    );
+    assert_eq!(rt;
+        place_of(alloc, b"mmap 1 4096 rw- fixed 1f"),
+        Some(Place::Fixed(0x1f))
+    );
+    assert_eq!(rt;
+        place_of(alloc, b"mmap 1 4096 rw- noreplace 1f"),
+        Some(Place::NoReplace(0x1f))
+    );
+}
+
+#[test]
+fn ranges(rt: HostRuntime) {
+    let alloc = rt.alloc();
+    match parse_line(alloc, b"munmap 1 10 20") {
+        Ok(
+            Some(
+                Command::Munmap {
+                    process,
+                    address,
+                    len,
+                },
+            ),
+        ) => {
+            assert_eq!(rt; (process, address, len), (1, 0x10, 20));
+        }
+        _ => assert!(rt; false),
+    }
+    match parse_line(alloc, b"mprotect 2 10 20 r--") {
+        Ok(
+            Some(
+                Command::Mprotect {
+                    process,
+                    address,
+                    len,
+                    prot,
+                },
+            ),
+        ) => {
+            assert_eq!(rt; (process, address, len), (2, 0x10, 20));
+            assert!(rt; prot.read && !prot.write && !prot.execute);
         }
         _ => assert!(rt; false),
     }
