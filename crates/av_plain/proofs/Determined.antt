@@ -1,32 +1,36 @@
 -- Where devices tell their pages and do not fail, a command has one reply.
 use Rattle.std.proofs.Common.{◌≡◌, ℕ, zero, suc, ◌+◌, ◌-◌, ◌*◌, ◌/◌, ◌%◌, ◌<◌, ◌≤◌, Bool, true, false, cond, if◌then◌else◌, List, [], ◌∷◌, ◌++◌, length, Option, Some, None, is_some, option_map, refl, sym, ap, subst, ◌∙◌, arith, ◌==◌}
 use Rattle.std.proofs.lemmas.Bool.Decides.{nat_tests}
-use Rattle.std.specs.Prelude.{IfSome, MatchOption, option_and_then, slice_index}
+use Rattle.std.specs.Prelude.{IfSome, MatchBool, MatchOption, option_and_then, slice_index}
 use Rattle.std.specs.Ordering.{nat_cmp, eq_by_cmp}
+use Rattle.av_vma.specs.declared.area.Prot.{Prot}
 use Rattle.av_vma.specs.Ranges.{numbers, within}
 use Rattle.av_vma.specs.Gap.{IsGap}
 use Rattle.av_trace.specs.declared.command.Command.{Command}
-use Rattle.av_trace.specs.declared.command.Command.TheVariants.{Spawn, Exit, Mmap, Read, Write, Maps, Stat}
-use Rattle.av_trace.specs.declared.command.Place.TheVariants.{Auto}
+use Rattle.av_trace.specs.declared.command.Command.TheVariants.{Spawn, Exit, Mmap, Munmap, Mprotect, Read, Write, Maps, Stat}
+use Rattle.av_trace.specs.declared.command.Place.{Place}
+use Rattle.av_trace.specs.declared.command.Place.TheVariants.{Auto, At, Fixed, NoReplace}
 use Rattle.av_trace.specs.declared.reply.Errno.{Errno}
+use Rattle.av_trace.specs.declared.reply.Errno.TheVariants.{Enomem}
 use Rattle.av_trace.specs.declared.reply.Note.{Note}
 use Rattle.av_trace.specs.declared.reply.Note.TheVariants.{Zeroed, New, Copied, Loaded, Mapped, Put, Unmapped, Started, Written, Failed, Dropped, Kept, Aged}
 use Rattle.av_trace.specs.declared.reply.Row.{Row}
 use Rattle.av_trace.specs.declared.reply.Reply.{Reply}
 use Rattle.av_trace.specs.declared.reply.Answer.{Answer}
-use Rattle.av_trace.specs.declared.reply.Answer.TheVariants.{Refused, Runs}
-use Rattle.av_plain.specs.World.{World, Process, Page, nothing, zeros, pages, page_of, pages_of, address_of, is_mapped, set_process, end_process, replaced, written, byte_at, Shows}
+use Rattle.av_trace.specs.declared.reply.Answer.TheVariants.{Done, Refused, Runs}
+use Rattle.av_plain.specs.World.{World, Process, Page, nothing, zeros, pages, page_of, pages_of, address_of, is_mapped, set_process, end_process, replaced, leading, protected, with_prot, written, byte_at, Shows}
 use Rattle.av_plain.specs.Ledger.{Ledger, Setting, Key}
 use Rattle.av_plain.specs.Event.{Event, Noted, Taken, Used, Forked, Moved, TurnedOn, TurnedOff, after, after_all, notes_of}
 use Rattle.av_plain.specs.Fault.{Accesses, GoesOn, Touches, How, Served, Denied, Starved, Lost, End, Whole, Stopped, happening, noting, touched, served, is_allowed, permits}
-use Rattle.av_plain.specs.Refusal.{tests, refusal}
-use Rattle.av_plain.specs.Step.{IsLegal, Follows, Refuses, Answers, IsMapAt, Reads, forgotten, with_loads, first_bytes, stored, next, next_world}
+use Rattle.av_plain.specs.Refusal.{tests, refusal, wraps}
+use Rattle.av_plain.specs.Step.{IsLegal, Follows, Refuses, Answers, is_room, Goes, IsMapAt, protected_to_the_hole, Reads, forgotten, with_loads, first_bytes, stored, next, next_world}
 use Rattle.av_plain.specs.Choice.{Chooses, ChoosesAll}
 use Rattle.av_plain.specs.Transcript.{Exchange, State, IsStep, IsRun, at_first}
 use Rattle.av_plain.specs.Determined.{Tells, IsClaimed, is_bus, NoBus, SameCommands}
 use Rattle.av_plain.proofs.WorldLaws.{pages-set}
 use Rattle.av_plain.proofs.MapsLaws.{one-answer}
 use Rattle.av_plain.proofs.SoundTaken.{pages-ended}
+use Rattle.av_plain.proofs.Refusals.{refused-next}
 use Rattle.av_plain.proofs.OnePage.{Chosen, chosen-first, is_lost, touches-outcome}
 
 -- ---- the free frames
@@ -210,6 +214,16 @@ gap-one is_taken n None (Some page) h g = absurd (h page g.0)
 gap-one is_taken n (Some page) None h g = absurd (g page h.0)
 gap-one is_taken n (Some page) (Some other) h g = ap Some (let a = h.1 other g.0 in let b = g.1 page h.0 in omega (arith, a, b))
 
+goes-one : (q : Process) (n : ℕ) (place : Place) (to to' : Option ℕ) → Goes q n place to → Goes q n place to' → to ≡ to'
+goes-one q n Auto to to' h g = gap-one (is_mapped q) n to to' h g
+goes-one q n (At a) to to' h g = by (is_room q n (page_of a)) h g
+  where
+    by : (b : Bool) → MatchBool b (to ≡ Some (page_of a)) (IsGap (is_mapped q) n to) → MatchBool b (to' ≡ Some (page_of a)) (IsGap (is_mapped q) n to') → to ≡ to'
+    by true h g = h ∙ sym g
+    by false h g = gap-one (is_mapped q) n to to' h g
+goes-one q n (Fixed a) to to' h g = h ∙ sym g
+goes-one q n (NoReplace a) to to' h g = h ∙ sym g
+
 map_at-one : (to : Option ℕ) (answer answer' : Answer) → IsMapAt answer to → IsMapAt answer' to → answer ≡ answer'
 map_at-one None answer answer' h g = h ∙ sym g
 map_at-one (Some page) answer answer' h g = h ∙ sym g
@@ -243,11 +257,13 @@ follows-one : (m : Setting) (w : World) (l : Ledger) (command : Command) (es fs 
     → is_bus answer ≡ false → is_bus answer' ≡ false → ChoosesAll l es free a → ChoosesAll l fs free b → Follows m w l command es answer rows → Follows m w l command fs answer' rows' → Same es fs answer answer' rows rows'
 follows-one m w l (Spawn p) es fs answer answer' rows rows' free a b told claimed kept kept' c d h g = record { events = h.1 ∙ sym g.1; answers = h.0 ∙ sym g.0; reports = h.2 ∙ sym g.2 }
 follows-one m w l (Exit p) es fs answer answer' rows rows' free a b told claimed kept kept' c d h g = record { events = h.1 ∙ sym g.1; answers = h.0 ∙ sym g.0; reports = h.2 ∙ sym g.2 }
-follows-one m w l (Mmap p len prot Auto) es fs answer answer' rows rows' free a b told claimed kept kept' c d h g = record {
+follows-one m w l (Mmap p len prot place) es fs answer answer' rows rows' free a b told claimed kept kept' c d h g = record {
   events = h.3 ∙ sym g.3;
-  answers = map_at-one g.0 answer answer' (subst (IsMapAt answer) (gap-one (is_mapped (pages w p)) (pages_of len) h.0 g.0 h.1 g.1) h.2) g.2;
+  answers = map_at-one g.0 answer answer' (subst (IsMapAt answer) (goes-one (pages w p) (pages_of len) place h.0 g.0 h.1 g.1) h.2) g.2;
   reports = h.4 ∙ sym g.4;
 }
+follows-one m w l (Munmap p x len) es fs answer answer' rows rows' free a b told claimed kept kept' c d h g = record { events = h.1 ∙ sym g.1; answers = h.0 ∙ sym g.0; reports = h.2 ∙ sym g.2 }
+follows-one m w l (Mprotect p x len prot) es fs answer answer' rows rows' free a b told claimed kept kept' c d h g = record { events = h.1 ∙ sym g.1; answers = h.0 ∙ sym g.0; reports = h.2 ∙ sym g.2 }
 follows-one m w l (Read p x n) es fs answer answer' rows rows' free a b told claimed kept kept' c d h g =
     let one = accesses-one m w l false p (touched x n) es fs h.0 g.0 free a b h.2 g.2 c d (end-kept false x n h.0 h.1 answer h.4 kept) (end-kept false x n g.0 g.1 answer' g.4 kept') in
     let mine : Reads (pages w p) x (served x n h.0) h.1 = subst (λ v. Reads (pages v p) x (served x n h.0) h.1) (loads-told m w l es told) h.3 in
@@ -321,6 +337,14 @@ claimed-stored w p a (b ∷ bytes) claimed = claimed-set w p (written (pages w p
     over page None h = tt
     over page (Some q) h = λ i below. either (within a (length (b ∷ bytes)) (address_of page + i)) (slice_index (b ∷ bytes) (address_of page + i - a)) (q.bytes i) (h i below)
 
+claimed-protected : (w : World) (p from n : ℕ) (prot : Prot) → IsClaimed w → IsClaimed (set_process w p (protected (pages w p) from n prot))
+claimed-protected w p from n prot claimed = claimed-set w p (protected (pages w p) from n prot) claimed (λ page. by (within from n page) (pages w p page) (claimed p page))
+  where
+    by : (b : Bool) (o : Option Page) → Claims o → Claims (if b then option_map (with_prot prot) o else o)
+    by true None h = h
+    by true (Some q) h = h
+    by false o h = h
+
 claimed-follows : (m : Setting) (w : World) (l : Ledger) (command : Command) (es : List Event) (answer : Answer) (rows : List Row) → Tells m → IsClaimed w → Follows m w l command es answer rows → IsClaimed (next_world m w l es command answer)
 claimed-follows m w l command es answer rows told claimed h = subst (λ v. IsClaimed (next v command answer)) (sym (loads-told m w l es told)) (by command h)
   where
@@ -337,29 +361,35 @@ claimed-follows m w l command es answer rows told claimed h = subst (λ v. IsCla
         at None e = subst (λ x. IsClaimed (next w (Mmap p len prot place) x)) (sym e) claimed
         at (Some page) e = subst (λ x. IsClaimed (next w (Mmap p len prot place) x)) (sym e)
             (claimed-set w p (replaced (pages w p) (page_of (address_of page)) (pages_of len) (λ _. Some (zeros prot))) claimed (λ q. inside (within (page_of (address_of page)) (pages_of len) q) (pages w p q) (claimed p q)))
+    by (Munmap p a len) h = subst (λ x. IsClaimed (next w (Munmap p a len) x)) (sym h.0)
+        (claimed-set w p (replaced (pages w p) (page_of a) (pages_of len) nothing) claimed (λ q. outside (within (page_of a) (pages_of len) q) (pages w p q) (claimed p q)))
+      where
+        outside : (b : Bool) (o : Option Page) → Claims o → Claims (if b then None else o)
+        outside true o h = tt
+        outside false o h = h
+    by (Mprotect p a len prot) h = subst (λ x. IsClaimed (next w (Mprotect p a len prot) x)) (sym h.0) (at (leading (pages w p) (page_of a) (pages_of len) == pages_of len))
+      where
+        at : (b : Bool) → IsClaimed (next w (Mprotect p a len prot) (if b then Done else Refused Enomem))
+        at true = claimed-protected w p (page_of a) (pages_of len) prot claimed
+        at false = stopped (wraps a len)
+          where
+            stopped : (c : Bool) → IsClaimed (if c then w else protected_to_the_hole w p (page_of a) (pages_of len) prot)
+            stopped true = claimed
+            stopped false = claimed-protected w p (page_of a) (leading (pages w p) (page_of a) (pages_of len)) prot claimed
     by (Read p a n) h = claimed
     by (Write p a bytes) h = claimed-stored w p a (first_bytes answer bytes) claimed
     by (Maps p) h = claimed
     by Stat h = claimed
 
-claimed-refused : (m : Setting) (w : World) (l : Ledger) (command : Command) (es : List Event) (error : Errno) → Tells m → IsClaimed w → IsClaimed (next_world m w l es command (Refused error))
-claimed-refused m w l command es error told claimed = subst (λ v. IsClaimed (next v command (Refused error))) (sym (loads-told m w l es told)) (by command)
-  where
-    by : (command : Command) → IsClaimed (next w command (Refused error))
-    by (Spawn p) = claimed
-    by (Exit p) = claimed
-    by (Mmap p len prot place) = claimed
-    by (Read p a n) = claimed
-    by (Write p a bytes) = claimed
-    by (Maps p) = claimed
-    by Stat = claimed
+claimed-refused : (m : Setting) (w : World) (l : Ledger) (command : Command) (es : List Event) (error : Errno) → Tells m → IsClaimed w → refusal (tests m w l command) ≡ Some error → IsClaimed (next_world m w l es command (Refused error))
+claimed-refused m w l command es error told claimed is = subst IsClaimed (sym (refused-next m w (with_loads m w l es) l command error is ∙ loads-told m w l es told)) claimed
 
 claimed-step : (m : Setting) (old new : State) (command : Command) (reply : Reply) → Tells m → IsClaimed old.world → IsStep m old command reply new → IsClaimed new.world
-claimed-step m old new command reply told claimed h = subst IsClaimed (sym h.world) (by (refusal (tests m old.world old.ledger command)) h.legal.answer)
+claimed-step m old new command reply told claimed h = subst IsClaimed (sym h.world) (by (refusal (tests m old.world old.ledger command)) refl h.legal.answer)
   where
-    by : (o : Option Errno) → MatchOption o (Follows m old.world old.ledger command h.events reply.answer reply.rows) (λ error. Refuses error h.events reply.answer reply.rows) → IsClaimed (next_world m old.world old.ledger h.events command reply.answer)
-    by None x = claimed-follows m old.world old.ledger command h.events reply.answer reply.rows told claimed x
-    by (Some error) x = subst (λ a. IsClaimed (next_world m old.world old.ledger h.events command a)) (sym x.0) (claimed-refused m old.world old.ledger command h.events error told claimed)
+    by : (o : Option Errno) → refusal (tests m old.world old.ledger command) ≡ o → MatchOption o (Follows m old.world old.ledger command h.events reply.answer reply.rows) (λ error. Refuses error h.events reply.answer reply.rows) → IsClaimed (next_world m old.world old.ledger h.events command reply.answer)
+    by None e x = claimed-follows m old.world old.ledger command h.events reply.answer reply.rows told claimed x
+    by (Some error) e x = subst (λ a. IsClaimed (next_world m old.world old.ledger h.events command a)) (sym x.0) (claimed-refused m old.world old.ledger command h.events error told claimed e)
 
 -- ---- runs
 

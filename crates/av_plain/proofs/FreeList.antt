@@ -6,18 +6,19 @@ use Rattle.std.specs.FinMap.Entries.{is_sorted}
 use Rattle.av_vma.specs.declared.slot.Slot.{Slot}
 use Rattle.av_vma.specs.Ranges.{how_many, numbers}
 use Rattle.av_trace.specs.declared.command.Command.{Command}
-use Rattle.av_trace.specs.declared.command.Command.TheVariants.{Spawn, Exit, Mmap, Read, Write, Maps, Stat}
+use Rattle.av_trace.specs.declared.command.Command.TheVariants.{Spawn, Exit, Mmap, Munmap, Mprotect, Read, Write, Maps, Stat}
+use Rattle.av_trace.specs.declared.command.Place.TheVariants.{Auto, At, Fixed, NoReplace}
 use Rattle.av_trace.specs.declared.reply.Errno.{Errno}
 use Rattle.av_trace.specs.declared.reply.OutOf.{OutOf}
 use Rattle.av_trace.specs.declared.reply.Note.{Note}
 use Rattle.av_trace.specs.declared.reply.Note.TheVariants.{Zeroed, New, Copied, Loaded, Mapped, Dropped}
 use Rattle.av_trace.specs.declared.reply.Reply.{Reply}
-use Rattle.av_plain.specs.World.{World, address_of}
+use Rattle.av_plain.specs.World.{World, address_of, page_of, pages_of}
 use Rattle.av_plain.specs.Ledger.{Ledger, Setting, Cached, same_slot, Key, key_cmp, Entry, Zero, InFrame, InSlot, entry, mapped, names_frame, slot_of, frame_at, is_free, is_full, in_flight, slot_entries, is_orphan, fresh}
-use Rattle.av_plain.specs.Event.{Event, Used, after_all, place, set_entry, without, mark, at, settle, not_cached, noted, taken, used, used_at}
+use Rattle.av_plain.specs.Event.{Event, Used, after_all, set_entry, without, mark, at, settle, not_cached, noted, taken, used, used_at}
 use Rattle.av_plain.specs.Pass.{nothing_spared, pinning, noted_all, when}
 use Rattle.av_plain.specs.Fault.{is_shared, Ready, Split, held, need, TakesFor, ComesIn, IsMade, spare_slot, spare_of, spare, comes, Serves, RunsOut, How, Served, Denied, Starved, Lost, Touches, End, noting, happening, GoesOn, Accesses, touched}
-use Rattle.av_plain.specs.Taking.{keys_of_process, drops, slot_behind_key, taking_one, taking}
+use Rattle.av_plain.specs.Taking.{keys_of_process, keys_in, drops, slot_behind_key, taking_one, taking}
 use Rattle.av_plain.specs.Refusal.{tests, refusal}
 use Rattle.av_plain.specs.Step.{IsLegal, Follows, Refuses}
 use Rattle.av_plain.specs.Choice.{ChoosesAll, frame_under, freed}
@@ -449,10 +450,18 @@ legal-lists m w l command reply es free free' s legal c h = by (refusal (tests m
     none : es ≡ [] → Lists m (after_all l es) free'
     none e = subst (λ es. Lists m (after_all l es) free') (sym e) (subst (Lists m l) (sym (subst (λ es. ChoosesAll l es free free') e c)) h)
 
+    these : (ks : List Key) → es ≡ taking l ks → Lists m (after_all l es) free'
+    these ks e = subst (λ es. Lists m (after_all l es) free') (sym e) (taking-lists m l ks free free' s (subst (λ es. ChoosesAll l es free free') e c) h)
+
     follows : (command : Command) → Follows m w l command es reply.answer reply.rows → Lists m (after_all l es) free'
     follows (Spawn p) q = none q.1
-    follows (Exit p) q = subst (λ es. Lists m (after_all l es) free') (sym q.1) (taking-lists m l (keys_of_process l p) free free' s (subst (λ es. ChoosesAll l es free free') q.1 c) h)
-    follows (Mmap p len prot place) q = none q.3
+    follows (Exit p) q = these (keys_of_process l p) q.1
+    follows (Mmap p len prot Auto) q = none q.3
+    follows (Mmap p len prot (At a)) q = none q.3
+    follows (Mmap p len prot (Fixed a)) q = these (keys_in l p (page_of a) (pages_of len)) q.3
+    follows (Mmap p len prot (NoReplace a)) q = none q.3
+    follows (Munmap p a len) q = these (keys_in l p (page_of a) (pages_of len)) q.1
+    follows (Mprotect p a len prot) q = none q.1
     follows (Read p a n) q = accesses-lists m w l false p (touched a n) es q.0 free free' s q.2 c h
     follows (Write p a bytes) q = accesses-lists m w l true p (touched a (length bytes)) es q.0 free free' s q.1 c h
     follows (Maps p) q = none q.2

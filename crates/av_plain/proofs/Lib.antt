@@ -8,6 +8,7 @@ pub mod AccessLaws
 pub mod NoSwapLaws
 pub mod TwoWrites
 pub mod SoundLaws
+pub mod RangeLaws
 pub mod TakingLaws
 pub mod SoundEntries
 pub mod SoundChanges
@@ -15,6 +16,7 @@ pub mod SoundAccess
 pub mod SoundPages
 pub mod SoundThere
 pub mod SoundTaken
+pub mod Refusals
 pub mod Soundness
 pub mod SoundBound
 pub mod SoundMeans

@@ -1,19 +1,20 @@
 -- The numbers of an out-of-memory are all frames.
-use Rattle.std.proofs.Common.{◌≡◌, ◌⊎◌, inl, inr, ℕ, zero, suc, ◌+◌, ◌<◌, ◌≤◌, Bool, true, false, cond, not, List, [], ◌∷◌, length, Option, Some, None, is_none, is_some, refl, sym, ap, subst, arith, ◌==◌}
+use Rattle.std.proofs.Common.{◌≡◌, ◌⊎◌, inl, inr, ℕ, zero, suc, ◌+◌, ◌<◌, ◌≤◌, Bool, true, false, cond, not, List, [], ◌∷◌, length, Option, Some, None, is_none, is_some, refl, sym, ap, subst, arith, ◌==◌, if◌then◌else◌}
 use Rattle.std.proofs.lemmas.Bool.Decides.{nat_tests}
 use Rattle.std.specs.Prelude.{IfSome, MatchOption}
 use Rattle.av_vma.specs.declared.slot.Slot.{Slot}
 use Rattle.av_vma.specs.Ranges.{how_many, numbers}
 use Rattle.av_trace.specs.declared.command.Command.{Command}
-use Rattle.av_trace.specs.declared.command.Command.TheVariants.{Spawn, Exit, Mmap, Read, Write, Maps, Stat}
+use Rattle.av_trace.specs.declared.command.Command.TheVariants.{Spawn, Exit, Mmap, Munmap, Mprotect, Read, Write, Maps, Stat}
 use Rattle.av_trace.specs.declared.reply.Errno.{Errno}
+use Rattle.av_trace.specs.declared.reply.Errno.TheVariants.{Enomem}
 use Rattle.av_trace.specs.declared.reply.Note.{Note}
 use Rattle.av_trace.specs.declared.reply.OutOf.{OutOf}
 use Rattle.av_trace.specs.declared.reply.Reply.{Reply}
 use Rattle.av_trace.specs.declared.reply.Row.{Row}
 use Rattle.av_trace.specs.declared.reply.Answer.{Answer}
-use Rattle.av_trace.specs.declared.reply.Answer.TheVariants.{Oom}
-use Rattle.av_plain.specs.World.{World}
+use Rattle.av_trace.specs.declared.reply.Answer.TheVariants.{Done, Refused, Oom}
+use Rattle.av_plain.specs.World.{World, page_of, pages_of, pages, leading}
 use Rattle.av_plain.specs.Ledger.{Ledger, Setting, Key, Entry, Zero, InFrame, InSlot, entry, names_frame, frame_at, slot_of}
 use Rattle.av_plain.specs.Event.{Event, without, after_all}
 use Rattle.av_plain.specs.Pass.{noted_all, out_of}
@@ -143,6 +144,12 @@ follows-add m w l (Mmap p len prot place) events answer rows s h = by h.0 h.2
     by : (to : Option ℕ) → IsMapAt answer to → AnswerAdds m answer
     by None e = subst (AnswerAdds m) (sym e) tt
     by (Some page) e = subst (AnswerAdds m) (sym e) tt
+follows-add m w l (Munmap p a len) events answer rows s h = subst (AnswerAdds m) (sym h.0) tt
+follows-add m w l (Mprotect p a len prot) events answer rows s h = subst (AnswerAdds m) (sym h.0) (by (leading (pages w p) (page_of a) (pages_of len) == pages_of len))
+  where
+    by : (b : Bool) → AnswerAdds m (if b then Done else Refused Enomem)
+    by true = tt
+    by false = tt
 follows-add m w l (Read p a n) events answer rows s h = answers-add m false a n h.0 h.1 answer (accesses-add m w l false p (touched a n) events h.0 s h.2) h.4
 follows-add m w l (Write p a bytes) events answer rows s h = answers-add m true a (length bytes) h.0 [] answer (accesses-add m w l true p (touched a (length bytes)) events h.0 s h.1) h.2
 follows-add m w l (Maps p) events answer rows s h = subst (AnswerAdds m) (sym h.0) tt

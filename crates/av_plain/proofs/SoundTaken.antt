@@ -182,7 +182,7 @@ length-ended (e ∷ w) p = elim (e.0 == p) as (λ b. length (cond (not b) (e ∷
   | false ↦ let h = length-ended w p in omega (arith, h)
 ]
 
-taking-at : (w : World) (l : Ledger) (ks : List Key) → AtPages w l → AtPages w (after_all l (taking l ks))
+pub taking-at : (w : World) (l : Ledger) (ks : List Key) → AtPages w l → AtPages w (after_all l (taking l ks))
 taking-at w l ks all q page h = all q page (was (list_any (same_key (q, page)) ks) (entry l (q, page)) (sym (ap is_some (entry-taking l ks (q, page))) ∙ h))
   where
     was : (b : Bool) (o : Option Entry) → is_some (cond b None o) ≡ true → is_some o ≡ true
@@ -199,14 +199,20 @@ ended-at w l p none there q page h = by (q == p) refl
     by true is = absurd (never (entry l (q, page)) (ap (λ x. entry l (x, page)) (same-is q p is) ∙ none page) h)
     by false is = ap is_some (pages-ended w p q page) ∙ ap (λ b. is_some (cond b None (pages w q page))) is ∙ there q page h
 
+-- entries that go leave a sound ledger, and so with memories in which the rest are at mapped pages
+pub taken-sound : (m : Setting) (w w' : World) (l : Ledger) (ks : List Key) → AllSound m w l → IsTidy w' → AtPages w' (after_all l (taking l ks)) → AllSound m w' (after_all l (taking l ks))
+taken-sound m w w' l ks s tidy at = record {
+  world = tidy;
+  ledger = taking-kept m l ks s.ledger;
+  at_pages = at;
+  in_areas = taking-there m l ks s.ledger s.in_areas;
+}
+
 -- what an exit leaves is sound
 pub exit-sound : (m : Setting) (w w' : World) (l : Ledger) (p : ℕ) → AllSound m w l → IsTidy w' → AtPages w' l → AllSound m (end_process w' p) (after_all l (taking l (keys_of_process l p)))
-exit-sound m w w' l p s tidy at = record {
-  world = record {
-    in_order = is_sorted-where_key nat_cmp (λ q. not (q == p)) w' tidy.in_order;
-    few = let a = length-ended w' p in let b = tidy.few in omega (arith, a, b);
-  };
-  ledger = taking-kept m l (keys_of_process l p) s.ledger;
-  at_pages = ended-at w' (after_all l (taking l (keys_of_process l p))) p (entry-ended l p) (taking-at w' l (keys_of_process l p) at);
-  in_areas = taking-there m l (keys_of_process l p) s.ledger s.in_areas;
-}
+exit-sound m w w' l p s tidy at = taken-sound m w (end_process w' p) l (keys_of_process l p) s
+    (record {
+      in_order = is_sorted-where_key nat_cmp (λ q. not (q == p)) w' tidy.in_order;
+      few = let a = length-ended w' p in let b = tidy.few in omega (arith, a, b);
+    })
+    (ended-at w' (after_all l (taking l (keys_of_process l p))) p (entry-ended l p) (taking-at w' l (keys_of_process l p) at))

@@ -1,5 +1,5 @@
 -- What holds of sound memories and a sound ledger holds after every legal reply, and so in every run.
-use Rattle.std.proofs.Common.{◌≡◌, ℕ, suc, ◌≤◌, Bool, true, false, cond, not, ◌&&◌, T, List, [], ◌∷◌, length, Option, Some, None, is_some, option_map, refl, sym, ap, subst, ◌∙◌, arith, nat_le, if◌then◌else◌}
+use Rattle.std.proofs.Common.{◌≡◌, ℕ, suc, ◌≤◌, Bool, true, false, cond, not, ◌&&◌, T, List, [], ◌∷◌, length, Option, Some, None, is_some, option_map, refl, sym, ap, subst, ◌∙◌, arith, ◌==◌, nat_le, if◌then◌else◌}
 use Rattle.std.proofs.lemmas.Bool.Decides.{nat_tests}
 use Rattle.std.specs.Prelude.{MatchOption, option_and_then}
 use Rattle.std.specs.Ordering.{nat_cmp, is_lt, eq_by_cmp}
@@ -7,28 +7,33 @@ use Rattle.std.specs.FinMap.Entries.{find, is_sorted, below_all}
 use Rattle.av_vma.specs.declared.slot.Slot.{Slot}
 use Rattle.av_vma.specs.Ranges.{within}
 use Rattle.av_trace.specs.declared.command.Command.{Command}
-use Rattle.av_trace.specs.declared.command.Command.TheVariants.{Spawn, Exit, Mmap, Read, Write, Maps, Stat}
-use Rattle.av_trace.specs.declared.command.Place.TheVariants.{Auto}
+use Rattle.av_trace.specs.declared.command.Command.TheVariants.{Spawn, Exit, Mmap, Munmap, Mprotect, Read, Write, Maps, Stat}
+use Rattle.av_trace.specs.declared.command.Place.{Place}
+use Rattle.av_trace.specs.declared.command.Place.TheVariants.{Auto, At, Fixed, NoReplace}
 use Rattle.av_trace.specs.declared.reply.Errno.{Errno}
-use Rattle.av_trace.specs.declared.reply.Errno.TheVariants.{Esrch, Eagain, Eexist}
+use Rattle.av_trace.specs.declared.reply.Errno.TheVariants.{Esrch, Eagain, Enomem, Eexist}
 use Rattle.av_trace.specs.declared.reply.Note.TheVariants.{Zeroed, New, Copied, Loaded, Mapped, Put, Unmapped, Started, Written, Failed, Dropped, Kept, Aged}
 use Rattle.av_trace.specs.declared.reply.Row.{Row}
 use Rattle.av_trace.specs.declared.reply.Reply.{Reply}
 use Rattle.av_trace.specs.declared.reply.Answer.{Answer}
-use Rattle.av_trace.specs.declared.reply.Answer.TheVariants.{Refused}
-use Rattle.av_plain.specs.World.{World, Process, Page, nothing, zeros, process, lives, pages, page_of, pages_of, address_of, set_process, end_process, replaced, written}
+use Rattle.av_trace.specs.declared.reply.Answer.TheVariants.{Done, Refused}
+use Rattle.av_plain.specs.World.{World, Process, Page, nothing, zeros, process, lives, pages, page_of, pages_of, address_of, set_process, end_process, replaced, leading, protected, with_prot, written}
 use Rattle.av_plain.specs.Ledger.{Ledger, Setting, Entry, entry, fresh}
 use Rattle.av_plain.specs.Event.{Event, Noted, Taken, Used, Forked, Moved, TurnedOn, TurnedOff, after, after_all}
 use Rattle.av_plain.specs.Fault.{Accesses, End, touched}
-use Rattle.av_plain.specs.Refusal.{tests, refusal, most_processes}
-use Rattle.av_plain.specs.Step.{IsLegal, Follows, Refuses, IsMapAt, is_of_slot, unknown, unclaimed, told, forgotten, with_loads, first_bytes, stored, next, next_world}
+use Rattle.av_plain.specs.Refusal.{tests, refusal, wraps, most_processes}
+use Rattle.av_plain.specs.Step.{IsLegal, Follows, Refuses, Goes, IsMapAt, clearing, protected_to_the_hole, is_of_slot, unknown, unclaimed, told, forgotten, with_loads, first_bytes, stored, next, next_world}
+use Rattle.av_plain.specs.Taking.{keys_in, taking}
 use Rattle.av_plain.specs.Transcript.{Exchange, IsLegalFrom, State, IsStep, IsRun, at_first}
-use Rattle.av_plain.specs.Sound.{AtPages, AllSound}
+use Rattle.av_plain.specs.Sound.{AtPages, IsTidy, AllSound}
 use Rattle.av_plain.proofs.WorldLaws.{pages-set, length-set_new, length-set_old, is_sorted-set}
 use Rattle.av_plain.proofs.SoundAccess.{accesses-kept}
 use Rattle.av_plain.proofs.SoundPages.{accesses-at}
 use Rattle.av_plain.proofs.SoundThere.{there-accesses}
-use Rattle.av_plain.proofs.SoundTaken.{exit-sound}
+use Rattle.av_plain.proofs.SoundLaws.{same-itself}
+use Rattle.av_plain.proofs.TakingLaws.{entry-range}
+use Rattle.av_plain.proofs.SoundTaken.{taking-at, taken-sound, exit-sound}
+use Rattle.av_plain.proofs.Refusals.{refused-next}
 
 -- ---- loads from a device that doesn't tell its pages leave what is mapped, and the processes
 
@@ -152,17 +157,42 @@ started-sound m w l p s dead room = record {
     never : (o : Option Entry) → o ≡ None → is_some o ≡ true → ⊥
     never o e h = cc
 
+-- the number of processes is as it was
+tidy-set : (w : World) (p : ℕ) (new : Process) → IsTidy w → lives w p ≡ true → IsTidy (set_process w p new)
+tidy-set w p new tidy alive = record { in_order = is_sorted-set w p new tidy.in_order; few = subst (λ n. n ≤ most_processes) (sym (length-set_old w p new tidy.in_order alive)) tidy.few }
+
 -- what was mapped stays so
 changed-sound : (m : Setting) (w : World) (l : Ledger) (p : ℕ) (new : Process) → AllSound m w l → lives w p ≡ true → ((page : ℕ) → is_some (pages w p page) ≡ true → is_some (new page) ≡ true) → AllSound m (set_process w p new) l
 changed-sound m w l p new s alive stays = record {
-  world = record {
-    in_order = is_sorted-set w p new s.world.in_order;
-    few = subst (λ n. n ≤ most_processes) (sym (length-set_old w p new s.world.in_order alive)) s.world.few;
-  };
+  world = tidy-set w p new s.world alive;
   ledger = s.ledger;
   at_pages = at-set w l p new (λ page h. stays page (s.at_pages p page h)) s.at_pages;
   in_areas = s.in_areas;
 }
+
+-- a range loses its entries, and has other pages
+range-sound : (m : Setting) (w w' : World) (l : Ledger) (p from n : ℕ) (new : Process) → AllSound m w l → AllSound m w' l → lives w' p ≡ true
+    → AllSound m (set_process w' p (replaced (pages w' p) from n new)) (after_all l (taking l (keys_in l p from n)))
+range-sound m w w' l p from n new s s' alive = taken-sound m w (set_process w' p (replaced (pages w' p) from n new)) l (keys_in l p from n) s
+    (tidy-set w' p (replaced (pages w' p) from n new) s'.world alive)
+    (at-set w' (after_all l (taking l (keys_in l p from n))) p (replaced (pages w' p) from n new) (λ page h. by page (within from n page) (gone page h) (was page h)) there)
+  where
+    there : AtPages w' (after_all l (taking l (keys_in l p from n)))
+    there = taking-at w' l (keys_in l p from n) s'.at_pages
+
+    was : (page : ℕ) → is_some (entry (after_all l (taking l (keys_in l p from n))) (p, page)) ≡ true → is_some (pages w' p page) ≡ true
+    was page h = there p page h
+
+    outside : (a b : Bool) (o : Option Entry) → a ≡ true → is_some (cond (a && b) None o) ≡ true → b ≡ false
+    outside a true o itself h = cc
+    outside a false o itself h = refl
+
+    gone : (page : ℕ) → is_some (entry (after_all l (taking l (keys_in l p from n))) (p, page)) ≡ true → within from n page ≡ false
+    gone page h = outside (p == p) (within from n page) (entry l (p, page)) (same-itself p) (sym (ap is_some (entry-range l p from n p page)) ∙ h)
+
+    by : (page : ℕ) (b : Bool) → b ≡ false → is_some (pages w' p page) ≡ true → is_some (if b then new page else pages w' p page) ≡ true
+    by page true e h = cc
+    by page false e h = h
 
 stored-sound : (m : Setting) (w : World) (l : Ledger) (p a : ℕ) (bytes : List ℕ) → AllSound m w l → lives w p ≡ true → AllSound m (stored w p a bytes) l
 stored-sound m w l p a [] s alive = s
@@ -211,21 +241,80 @@ follows-sound m w l (Exit p) events answer rows s fine h =
     subst (λ a. AllSound m (next (with_loads m w l events) (Exit p) a) (after_all l events)) (sym h.0)
     (subst (λ es. AllSound m (end_process (with_loads m w l events) p) (after_all l es)) (sym h.1)
     (exit-sound m w (with_loads m w l events) l p s loaded.world loaded.at_pages))
-follows-sound m w l (Mmap p len prot Auto) events answer rows s fine h = by h.0 h.2
+follows-sound m w l (Mmap p len prot place) events answer rows s fine h = by h.0 h.2 place h.1 h.3
   where
-    loaded : AllSound m (with_loads m w l events) (after_all l events)
-    loaded = loads-sound m w l (after_all l events) events (unchanged m w l events h.3 s)
+    here : World
+    here = with_loads m w l events
+
+    loaded : AllSound m here l
+    loaded = loads-sound m w l l events s
+
+    living : lives here p ≡ true
+    living = lives-loads m w l events p ∙ alive (lives w p) _ fine
 
     inside : (b : Bool) (o : Option Page) → is_some o ≡ true → is_some (if b then Some (zeros prot) else o) ≡ true
     inside true o h = refl
     inside false o h = h
 
-    by : (to : Option ℕ) → IsMapAt answer to → AllSound m (next (with_loads m w l events) (Mmap p len prot Auto) answer) (after_all l events)
-    by None e = subst (λ a. AllSound m (next (with_loads m w l events) (Mmap p len prot Auto) a) (after_all l events)) (sym e) loaded
-    by (Some page) e = subst (λ a. AllSound m (next (with_loads m w l events) (Mmap p len prot Auto) a) (after_all l events)) (sym e)
-        (changed-sound m (with_loads m w l events) (after_all l events) p (replaced (pages (with_loads m w l events) p) (page_of (address_of page)) (pages_of len) (λ _. Some (zeros prot))) loaded
-        (lives-loads m w l events p ∙ alive (lives w p) _ fine)
-        (λ q i. inside (within (page_of (address_of page)) (pages_of len) q) (pages (with_loads m w l events) p q) i))
+    zeroed : ℕ → Process
+    zeroed page = replaced (pages here p) (page_of (address_of page)) (pages_of len) (λ _. Some (zeros prot))
+
+    added : (page : ℕ) (es : List Event) → es ≡ [] → AllSound m (set_process here p (zeroed page)) (after_all l es)
+    added page es none = unchanged m (set_process here p (zeroed page)) l es none
+        (changed-sound m here l p (zeroed page) loaded living (λ q i. inside (within (page_of (address_of page)) (pages_of len) q) (pages here p q) i))
+
+    back : (page : ℕ) → page_of (address_of page) ≡ page
+    back page = omega arith
+
+    same_page : {x y : ℕ} → Some x ≡ Some y → x ≡ y
+    same_page e = cc
+
+    placed : (page : ℕ) (place : Place) → Goes (pages w p) (pages_of len) place (Some page) → events ≡ clearing l p (pages_of len) place → AllSound m (set_process here p (zeroed page)) (after_all l events)
+    placed page Auto goes e = added page events e
+    placed page (At a) goes e = added page events e
+    placed page (NoReplace a) goes e = added page events e
+    placed page (Fixed a) goes e = subst (λ es. AllSound m (set_process here p (zeroed page)) (after_all l es)) (sym e)
+        (subst (λ from. AllSound m (set_process here p (replaced (pages here p) from (pages_of len) (λ _. Some (zeros prot)))) (after_all l (taking l (keys_in l p (page_of a) (pages_of len))))) (sym (back page ∙ same_page goes))
+        (range-sound m w here l p (page_of a) (pages_of len) (λ _. Some (zeros prot)) s loaded living))
+
+    refused : (place : Place) → Goes (pages w p) (pages_of len) place None → events ≡ clearing l p (pages_of len) place → AllSound m here (after_all l events)
+    refused Auto goes e = unchanged m here l events e loaded
+    refused (At a) goes e = unchanged m here l events e loaded
+    refused (NoReplace a) goes e = cc
+    refused (Fixed a) goes e = cc
+
+    by : (to : Option ℕ) → IsMapAt answer to → (place : Place) → Goes (pages w p) (pages_of len) place to → events ≡ clearing l p (pages_of len) place → AllSound m (next here (Mmap p len prot place) answer) (after_all l events)
+    by None e place goes es = subst (λ a. AllSound m (next here (Mmap p len prot place) a) (after_all l events)) (sym e) (refused place goes es)
+    by (Some page) e place goes es = subst (λ a. AllSound m (next here (Mmap p len prot place) a) (after_all l events)) (sym e) (placed page place goes es)
+follows-sound m w l (Munmap p a len) events answer rows s fine h =
+    subst (λ x. AllSound m (next (with_loads m w l events) (Munmap p a len) x) (after_all l events)) (sym h.0)
+    (subst (λ es. AllSound m (set_process (with_loads m w l events) p (replaced (pages (with_loads m w l events) p) (page_of a) (pages_of len) nothing)) (after_all l es)) (sym h.1)
+    (range-sound m w (with_loads m w l events) l p (page_of a) (pages_of len) nothing s (loads-sound m w l l events s) (lives-loads m w l events p ∙ alive (lives w p) _ fine)))
+follows-sound m w l (Mprotect p a len prot) events answer rows s fine h =
+    subst (λ x. AllSound m (next (with_loads m w l events) (Mprotect p a len prot) x) (after_all l events)) (sym h.0)
+    (by (leading (pages w p) (page_of a) (pages_of len) == pages_of len))
+  where
+    here : World
+    here = with_loads m w l events
+
+    loaded : AllSound m here (after_all l events)
+    loaded = loads-sound m w l (after_all l events) events (unchanged m w l events h.1 s)
+
+    changed : (n : ℕ) → AllSound m (set_process here p (protected (pages here p) (page_of a) n prot)) (after_all l events)
+    changed n = changed-sound m here (after_all l events) p (protected (pages here p) (page_of a) n prot) loaded (lives-loads m w l events p ∙ alive (lives w p) _ fine) (λ q i. still (within (page_of a) n q) (pages here p q) i)
+      where
+        still : (b : Bool) (o : Option Page) → is_some o ≡ true → is_some (if b then option_map (with_prot prot) o else o) ≡ true
+        still true None h = h
+        still true (Some x) h = refl
+        still false o h = h
+
+    stopped : (b : Bool) → AllSound m (if b then here else protected_to_the_hole here p (page_of a) (pages_of len) prot) (after_all l events)
+    stopped true = loaded
+    stopped false = changed (leading (pages here p) (page_of a) (pages_of len))
+
+    by : (b : Bool) → AllSound m (next here (Mprotect p a len prot) (if b then Done else Refused Enomem)) (after_all l events)
+    by true = changed (pages_of len)
+    by false = stopped (wraps a len)
 follows-sound m w l (Read p a n) events answer rows s fine h = loads-sound m w l (after_all l events) events (accesses-sound m w l false p (touched a n) events h.0 s h.2)
 follows-sound m w l (Write p a bytes) events answer rows s fine h =
     stored-sound m (with_loads m w l events) (after_all l events) p a (first_bytes answer bytes)
@@ -234,17 +323,10 @@ follows-sound m w l (Write p a bytes) events answer rows s fine h =
 follows-sound m w l (Maps p) events answer rows s fine h = loads-sound m w l (after_all l events) events (unchanged m w l events h.2 s)
 follows-sound m w l Stat events answer rows s fine h = loads-sound m w l (after_all l events) events (unchanged m w l events h.1 s)
 
-refused-sound : (m : Setting) (w : World) (l : Ledger) (command : Command) (error : Errno) (events : List Event) → events ≡ [] → AllSound m w l → AllSound m (next_world m w l events command (Refused error)) (after_all l events)
-refused-sound m w l command error events none s = by command (loads-sound m w l (after_all l events) events (unchanged m w l events none s))
-  where
-    by : (command : Command) → AllSound m (with_loads m w l events) (after_all l events) → AllSound m (next_world m w l events command (Refused error)) (after_all l events)
-    by (Spawn p) h = h
-    by (Exit p) h = h
-    by (Mmap p len prot place) h = h
-    by (Read p a n) h = h
-    by (Write p a bytes) h = h
-    by (Maps p) h = h
-    by Stat h = h
+refused-sound : (m : Setting) (w : World) (l : Ledger) (command : Command) (error : Errno) (events : List Event) → refusal (tests m w l command) ≡ Some error → events ≡ [] → AllSound m w l
+    → AllSound m (next_world m w l events command (Refused error)) (after_all l events)
+refused-sound m w l command error events is none s =
+    subst (λ x. AllSound m x (after_all l events)) (sym (refused-next m w (with_loads m w l events) l command error is)) (loads-sound m w l (after_all l events) events (unchanged m w l events none s))
 
 pub soundness-stays : (m : Setting) (w : World) (l : Ledger) (command : Command) (reply : Reply) (events : List Event)
     → AllSound m w l → IsLegal m w l command reply events → AllSound m (next_world m w l events command reply.answer) (after_all l events)
@@ -253,7 +335,7 @@ soundness-stays m w l command reply events s legal = by (refusal (tests m w l co
     by : (o : Option Errno) → refusal (tests m w l command) ≡ o → MatchOption o (Follows m w l command events reply.answer reply.rows) (λ error. Refuses error events reply.answer reply.rows)
         → AllSound m (next_world m w l events command reply.answer) (after_all l events)
     by None is h = follows-sound m w l command events reply.answer reply.rows s is h
-    by (Some error) is h = subst (λ a. AllSound m (next_world m w l events command a) (after_all l events)) (sym h.0) (refused-sound m w l command error events h.1 s)
+    by (Some error) is h = subst (λ a. AllSound m (next_world m w l events command a) (after_all l events)) (sym h.0) (refused-sound m w l command error events is h.1 s)
 
 -- ---- runs
 

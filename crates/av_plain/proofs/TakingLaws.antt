@@ -1,23 +1,24 @@
 -- Entries taken away, from the least key on: what is left, and what goes with an entry.
-use Rattle.std.proofs.Common.{◌≡◌, ℕ, ◌+◌, ◌<◌, Bool, true, false, cond, not, ◌&&◌, ◌||◌, T, List, [], ◌∷◌, ◌++◌, map, filter, Option, Some, None, refl, sym, ap, subst, ◌∙◌, arith, ◌==◌}
+use Rattle.std.proofs.Common.{◌≡◌, ℕ, ◌+◌, ◌<◌, ◌≤◌, Bool, true, false, cond, not, ◌&&◌, ◌||◌, T, List, [], ◌∷◌, ◌++◌, map, filter, Option, Some, None, is_some, refl, sym, ap, subst, ◌∙◌, arith, ◌==◌}
 use Rattle.std.proofs.lemmas.Bool.Decides.{nat_tests}
+use Rattle.std.proofs.lemmas.Bool.{false≢true}
 use Rattle.std.specs.List.{list_any}
 use Rattle.std.specs.declared.cmp.Ordering.TheVariants.{Less}
 use Rattle.std.specs.Ordering.{is_eq}
 use Rattle.std.specs.FinMap.Entries.{find, where_key, is_sorted, find-where_key, is_sorted-where_key}
 use Rattle.av_vma.specs.declared.slot.Slot.{Slot}
-use Rattle.av_vma.specs.Ranges.{how_many}
+use Rattle.av_vma.specs.Ranges.{how_many, within}
 use Rattle.av_trace.specs.declared.reply.Note.TheVariants.{Dropped}
 use Rattle.av_plain.specs.Ledger.{Ledger, Key, key_cmp, Entry, Zero, InFrame, InSlot, entry, mapped, slot_entries, names_frame, names_slot, is_free, is_orphan, frame_at, slot_of}
 use Rattle.av_plain.specs.Event.{Taken, after, after_all, settle, settle_entry, unlisted, not_cached, at, frame_of, taken}
 use Rattle.av_plain.specs.Pass.{when}
 use Rattle.av_plain.specs.Fault.{noting}
-use Rattle.av_plain.specs.Taking.{keys_of_process, drops, slot_behind_key, taking_one, taking}
+use Rattle.av_plain.specs.Taking.{keys_of_process, keys_in, drops, slot_behind_key, taking_one, taking}
 use Rattle.av_plain.proofs.Laws.{keys_total, weight, count-without}
 use Rattle.av_plain.proofs.LedgerLaws.{same_key, same_key-is, same_key-itself, how_many-found}
 use Rattle.av_plain.proofs.MoreLaws.{keys_from_least}
 use Rattle.av_plain.proofs.AccessLaws.{after_all-append}
-use Rattle.av_plain.proofs.SoundLaws.{slot-itself}
+use Rattle.av_plain.proofs.SoundLaws.{same-itself, slot-itself}
 
 -- ---- the ledger without an entry
 
@@ -140,23 +141,32 @@ entry-taking l (k ∷ ks) q =
 abbrev pub keys_that : (Key → Bool) → Ledger → List Key
 keys_that test l = filter test (map (λ (e : Key × Entry). e.0) l.entries)
 
--- no key that passes has an entry: then none goes
-pub none_that : (test : Key → Bool) (l : Ledger) → ((k : Key) → test k ≡ true → entry l k ≡ None) → keys_that test l ≡ []
-none_that test l h = nothing l.entries h
+-- two tests that agree on the keys with entries pass the same ones
+pub same-keys : (test other : Key → Bool) (l : Ledger) → ((k : Key) → is_some (entry l k) ≡ true → test k ≡ other k) → keys_that test l ≡ keys_that other l
+same-keys test other l h = same l.entries h
   where
-    clash : {x : Entry} → Some x ≡ None → ⊥
-    clash e = cc
+    here : (e : Key × Entry) (es : List (Key × Entry)) → is_some (find key_cmp e.0 (e ∷ es)) ≡ true
+    here e es = ap (λ b. is_some (cond b (Some e.1) (find key_cmp e.0 es))) (same_key-itself e.0)
 
-    later : (x : Entry) (o : Option Entry) (b : Bool) → cond b (Some x) o ≡ None → o ≡ None
-    later x o true h = absurd (clash h)
+    later : (x : Entry) (o : Option Entry) (b : Bool) → is_some o ≡ true → is_some (cond b (Some x) o) ≡ true
+    later x o true h = refl
     later x o false h = h
 
-    nothing : (es : List (Key × Entry)) → ((k : Key) → test k ≡ true → find key_cmp k es ≡ None) → filter test (map (λ (e : Key × Entry). e.0) es) ≡ []
-    nothing [] h = refl
-    nothing (e ∷ es) h = elim (test e.0) as (λ b. test e.0 ≡ b → cond b (e.0 ∷ filter test (map (λ (e : Key × Entry). e.0) es)) (filter test (map (λ (e : Key × Entry). e.0) es)) ≡ []) [
-      | true ↦ λ is. absurd (clash (sym (ap (λ b. cond b (Some e.1) (find key_cmp e.0 es)) (same_key-itself e.0)) ∙ h e.0 is))
-      | false ↦ λ is. nothing es (λ k t. later e.1 (find key_cmp k es) (same_key k e.0) (h k t))
-    ] refl
+    same : (es : List (Key × Entry)) → ((k : Key) → is_some (find key_cmp k es) ≡ true → test k ≡ other k) → filter test (map (λ (e : Key × Entry). e.0) es) ≡ filter other (map (λ (e : Key × Entry). e.0) es)
+    same [] h = refl
+    same (e ∷ es) h = λ i. cond (h e.0 (here e es) i) (e.0 ∷ same es (λ k some. h k (later e.1 (find key_cmp k es) (same_key k e.0) some)) i) (same es (λ k some. h k (later e.1 (find key_cmp k es) (same_key k e.0) some)) i)
+
+-- no key that passes has an entry: then none goes
+pub none_that : (test : Key → Bool) (l : Ledger) → ((k : Key) → test k ≡ true → entry l k ≡ None) → keys_that test l ≡ []
+none_that test l h = same-keys test (λ k. false) l (λ k some. fails (test k) (entry l k) some (h k)) ∙ none (map (λ (e : Key × Entry). e.0) l.entries)
+  where
+    fails : (b : Bool) (o : Option Entry) → is_some o ≡ true → (b ≡ true → o ≡ None) → b ≡ false
+    fails true o some h = sym some ∙ ap is_some (h refl)
+    fails false o some h = refl
+
+    none : (ks : List Key) → filter (λ k. false) ks ≡ []
+    none [] = refl
+    none (k ∷ ks) = none ks
 
 -- where k is the least key that passes and has an entry, it goes first, and the rest is the same of what it leaves
 pub taking-least : (test : Key → Bool) (l : Ledger) (k : Key) (e : Entry) → T (is_sorted key_cmp l.entries) → entry l k ≡ Some e → test k ≡ true
@@ -166,26 +176,45 @@ taking-least test l k e sorted is passes least =
     ap (taking l) (keys_from_least keys_total test k e l.entries (λ x y t. same_key-is x y (ap is_eq t)) sorted is passes least)
     ∙ ap (λ es. taking_one l k ++ taking (after_all l (taking_one l k)) (filter test (map (λ (e : Key × Entry). e.0) es))) (sym (entries-taking_one l k))
 
--- a key that passes and has an entry is among those that go
-pub key-listed : (test : Key → Bool) (q : Key) (es : List (Key × Entry)) (e : Entry) → find key_cmp q es ≡ Some e → test q ≡ true → list_any (same_key q) (filter test (map (λ (x : Key × Entry). x.0) es)) ≡ true
-key-listed test q [] e at is = cc
-key-listed test q (x ∷ es) e at is =
-    elim (same_key q x.0) as (λ b. same_key q x.0 ≡ b → cond b (Some x.1) (find key_cmp q es) ≡ Some e → list_any (same_key q) (cond (test x.0) (x.0 ∷ filter test (map (λ (x : Key × Entry). x.0) es)) (filter test (map (λ (x : Key × Entry). x.0) es))) ≡ true) [
-      | true ↦ λ same at'. first (test x.0) (sym (ap test (same_key-is q x.0 same)) ∙ is) same
-      | false ↦ λ other at'. more (test x.0) (key-listed test q es e at' is)
-    ] refl at
+-- afterwards a key that passes has no entry, and the others' entries stay
+pub entry-that : (test : Key → Bool) (l : Ledger) (q : Key) → entry (after_all l (taking l (keys_that test l))) q ≡ cond (test q) None (entry l q)
+entry-that test l q = entry-taking l (keys_that test l) q ∙ by (entry l q) refl
   where
-    first : (b : Bool) → b ≡ true → same_key q x.0 ≡ true → list_any (same_key q) (cond b (x.0 ∷ filter test (map (λ (x : Key × Entry). x.0) es)) (filter test (map (λ (x : Key × Entry). x.0) es))) ≡ true
-    first true h same = ap (λ b. b || list_any (same_key q) (filter test (map (λ (x : Key × Entry). x.0) es))) same
-    first false h same = cc
+    merged : (b c t r : Bool) → (c ≡ true → b ≡ t) → (b && c || t && r) ≡ (t && (c || r))
+    merged true true true r h = refl
+    merged true true false r h = absurd (false≢true (sym (h refl)))
+    merged false true true r h = absurd (false≢true (h refl))
+    merged false true false r h = refl
+    merged true false t r h = refl
+    merged false false t r h = refl
 
-    more : (b : Bool) → list_any (same_key q) (filter test (map (λ (x : Key × Entry). x.0) es)) ≡ true → list_any (same_key q) (cond b (x.0 ∷ filter test (map (λ (x : Key × Entry). x.0) es)) (filter test (map (λ (x : Key × Entry). x.0) es))) ≡ true
-    more true h = or_right (same_key q x.0) _ h
+    passing : (ks : List Key) → list_any (same_key q) (filter test ks) ≡ (test q && list_any (same_key q) ks)
+    passing [] = none (test q)
       where
-        or_right : (a b : Bool) → b ≡ true → (a || b) ≡ true
-        or_right true b h = refl
-        or_right false b h = h
-    more false h = h
+        none : (b : Bool) → false ≡ (b && false)
+        none true = refl
+        none false = refl
+    passing (k ∷ ks) = front (test k) ∙ ap (λ x. test k && same_key q k || x) (passing ks) ∙ merged (test k) (same_key q k) (test q) (list_any (same_key q) ks) (λ is. ap test (sym (same_key-is q k is)))
+      where
+        front : (b : Bool) → list_any (same_key q) (cond b (k ∷ filter test ks) (filter test ks)) ≡ (b && same_key q k || list_any (same_key q) (filter test ks))
+        front true = refl
+        front false = refl
+
+    found : (e : Entry) (es : List (Key × Entry)) → find key_cmp q es ≡ Some e → list_any (same_key q) (map (λ (x : Key × Entry). x.0) es) ≡ true
+    found e [] is = cc
+    found e (x ∷ es) is = elim (same_key q x.0) as (λ b. cond b (Some x.1) (find key_cmp q es) ≡ Some e → (b || list_any (same_key q) (map (λ (x : Key × Entry). x.0) es)) ≡ true) [ true ↦ λ is. refl | false ↦ λ is. found e es is ] is
+
+    nothing : (b : Bool) → ◌≡◌ {A = Option Entry} (cond b None None) None
+    nothing true = refl
+    nothing false = refl
+
+    whole : (b : Bool) → (b && true) ≡ b
+    whole true = refl
+    whole false = refl
+
+    by : (o : Option Entry) → entry l q ≡ o → cond (list_any (same_key q) (keys_that test l)) None (entry l q) ≡ cond (test q) None (entry l q)
+    by None is = ap (cond (list_any (same_key q) (keys_that test l)) None) is ∙ nothing _ ∙ sym (ap (cond (test q) None) is ∙ nothing (test q))
+    by (Some e) is = ap (λ b. cond b None (entry l q)) (passing (map (λ (x : Key × Entry). x.0) l.entries) ∙ ap (λ b. test q && b) (found e l.entries is) ∙ whole (test q))
 
 -- ---- the entries of a process
 
@@ -207,34 +236,76 @@ exit-least l p page e sorted is least = taking-least (λ k. k.0 == p) l (p, page
         let under : q.1 < page = grind (arith, nat_tests) in
         subst (λ x. entry l (x, q.1) ≡ None) (sym same) (least q.1 under)
 
--- and afterwards it has none
+-- afterwards it has none, and the others' entries stay
 pub entry-ended : (l : Ledger) (p page : ℕ) → entry (after_all l (taking l (keys_of_process l p))) (p, page) ≡ None
-entry-ended l p page = entry-taking l (keys_of_process l p) (p, page) ∙ by (entry l (p, page)) refl
-  where
-    none : (b : Bool) → ◌≡◌ {A = Option Entry} (cond b None None) None
-    none true = refl
-    none false = refl
+entry-ended l p page = entry-that (λ k. k.0 == p) l (p, page) ∙ ap (λ b. cond b None (entry l (p, page))) (same-itself p)
 
-    itself : (p : ℕ) → (p == p) ≡ true
-    itself p = grind (arith, nat_tests)
-
-    by : (o : Option Entry) → entry l (p, page) ≡ o → cond (list_any (same_key (p, page)) (keys_of_process l p)) None (entry l (p, page)) ≡ None
-    by None is = ap (cond (list_any (same_key (p, page)) (keys_of_process l p)) None) is ∙ none _
-    by (Some e) is = ap (λ b. cond b None (entry l (p, page))) (key-listed (λ k. k.0 == p) (p, page) l.entries e is (itself p))
-
--- the others' entries stay
 pub entry-others : (l : Ledger) (p q page : ℕ) → (q == p) ≡ false → entry (after_all l (taking l (keys_of_process l p))) (q, page) ≡ entry l (q, page)
-entry-others l p q page other = entry-taking l (keys_of_process l p) (q, page) ∙ ap (λ b. cond b None (entry l (q, page))) (none (map (λ (e : Key × Entry). e.0) l.entries))
-  where
-    apart : (k : Key) → (k.0 == p) ≡ true → same_key (q, page) k ≡ false
-    apart k is = grind (arith, nat_tests, is, other)
+entry-others l p q page other = entry-that (λ k. k.0 == p) l (q, page) ∙ ap (λ b. cond b None (entry l (q, page))) other
 
-    none : (ks : List Key) → list_any (same_key (q, page)) (filter (λ k. k.0 == p) ks) ≡ false
-    none [] = refl
-    none (k ∷ ks) = elim (k.0 == p) as (λ b. (k.0 == p) ≡ b → list_any (same_key (q, page)) (cond b (k ∷ filter (λ k. k.0 == p) ks) (filter (λ k. k.0 == p) ks)) ≡ false) [
-      | true ↦ λ is. ap (λ b. b || list_any (same_key (q, page)) (filter (λ k. k.0 == p) ks)) (apart k is) ∙ none ks
-      | false ↦ λ is. none ks
-    ] refl
+-- ---- the entries of a range
+
+-- whether a key is the process's, at one of the n pages from `from` on
+abbrev pub in_range : ℕ → ℕ → ℕ → Key → Bool
+in_range p from n k = k.0 == p && within from n k.1
+
+-- the keys of a range are those that pass this test
+pub keys_in-is : (l : Ledger) (p from n : ℕ) → keys_in l p from n ≡ keys_that (in_range p from n) l
+keys_in-is l p from n = both (map (λ (e : Key × Entry). e.0) l.entries)
+  where
+    either : (k : Key) (ks fs : List Key) (a : Bool) → filter (λ k. within from n k.1) ks ≡ fs → filter (λ k. within from n k.1) (cond a (k ∷ ks) ks) ≡ cond (a && within from n k.1) (k ∷ fs) fs
+    either k ks fs true h = ap (λ x. cond (within from n k.1) (k ∷ x) x) h
+    either k ks fs false h = h
+
+    both : (ks : List Key) → filter (λ k. within from n k.1) (filter (λ k. k.0 == p) ks) ≡ filter (in_range p from n) ks
+    both [] = refl
+    both (k ∷ ks) = either k (filter (λ k. k.0 == p) ks) (filter (in_range p from n) ks) (k.0 == p) (both ks)
+
+in_range-is : (p from n : ℕ) (k : Key) → in_range p from n k ≡ true → (k.0 ≡ p) × (within from n k.1 ≡ true)
+in_range-is p from n k h = (same, inside)
+  where
+    same : k.0 ≡ p
+    same = grind (arith, nat_tests, h)
+
+    inside : within from n k.1 ≡ true
+    inside = grind (arith, nat_tests, h)
+
+-- a range without entries has none taken
+pub range-done : (l : Ledger) (p from n : ℕ) → ((page : ℕ) → within from n page ≡ true → entry l (p, page) ≡ None) → taking l (keys_in l p from n) ≡ []
+range-done l p from n none = ap (taking l) (keys_in-is l p from n ∙ none_that (in_range p from n) l (λ k t. let is = in_range-is p from n k t in subst (λ x. entry l (x, k.1) ≡ None) (sym is.0) (none k.1 is.1)))
+
+-- the entry of its least page goes first
+pub range-least : (l : Ledger) (p from n page : ℕ) (e : Entry) → T (is_sorted key_cmp l.entries) → entry l (p, page) ≡ Some e → within from n page ≡ true → ((q : ℕ) → from ≤ q → q < page → entry l (p, q) ≡ None)
+    → taking l (keys_in l p from n) ≡ (let now = after_all l (taking_one l (p, page)) in taking_one l (p, page) ++ taking now (keys_in now p from n))
+range-least l p from n page e sorted is inside least =
+    let now = after_all l (taking_one l (p, page)) in
+    ap (taking l) (keys_in-is l p from n) ∙ taking-least (in_range p from n) l (p, page) e sorted is (passes inside) by_page
+    ∙ ap (λ ks. taking_one l (p, page) ++ taking now ks) (sym (keys_in-is now p from n))
+  where
+    passes : within from n page ≡ true → in_range p from n (p, page) ≡ true
+    passes h = grind (arith, nat_tests, h)
+
+    by_page : (q : Key) → key_cmp q (p, page) ≡ Less → in_range p from n q ≡ true → entry l q ≡ None
+    by_page q less t =
+        let ends = in_range-is p from n q t in
+        let under : q.1 < page = grind (arith, nat_tests, less, ends.0) in
+        let above : from ≤ q.1 = grind (arith, nat_tests, ends.1) in
+        subst (λ x. entry l (x, q.1) ≡ None) (sym ends.0) (least q.1 above under)
+
+-- afterwards it has none, and the other entries stay
+pub entry-range : (l : Ledger) (p from n q page : ℕ) → entry (after_all l (taking l (keys_in l p from n))) (q, page) ≡ cond (q == p && within from n page) None (entry l (q, page))
+entry-range l p from n q page = ap (λ ks. entry (after_all l (taking l ks)) (q, page)) (keys_in-is l p from n) ∙ entry-that (in_range p from n) l (q, page)
+
+-- where all its entries lie below a page, a process is the range up to there
+pub exit-is-range : (l : Ledger) (p n : ℕ) → ((page : ℕ) → is_some (entry l (p, page)) ≡ true → page < n) → keys_of_process l p ≡ keys_in l p 0 n
+exit-is-range l p n below = same-keys (λ k. k.0 == p) (in_range p 0 n) l (λ k some. alike k (k.0 == p) refl some) ∙ sym (keys_in-is l p 0 n)
+  where
+    alike : (k : Key) (b : Bool) → (k.0 == p) ≡ b → is_some (entry l k) ≡ true → (k.0 == p) ≡ in_range p 0 n k
+    alike k true is some =
+        let same : k.0 ≡ p = grind (arith, nat_tests, is) in
+        let under = below k.1 (subst (λ x. is_some (entry l (x, k.1)) ≡ true) same some) in
+        grind (arith, nat_tests, is, under)
+    alike k false is some = grind (arith, nat_tests, is)
 
 -- ---- without swap
 

@@ -7,6 +7,7 @@ pub mod Taking
 pub mod Report
 pub mod Refusal
 pub mod Step
+pub mod Refused
 pub mod Choice
 pub mod Transcript
 pub mod Sound

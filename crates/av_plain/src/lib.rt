@@ -6,10 +6,13 @@
 
 mod rows;
 
-ghost use Rattle.std.specs.Prelude.{◌≡◌, ℕ, ◌+◌, false, List, []};
+ghost use Rattle.std.specs.Prelude.{◌≡◌, ◌⊎◌, ℕ, ◌+◌, false, List, []};
+ghost use Rattle.av_vma.specs.declared.area.Prot.{Prot};
 ghost use Rattle.av_trace.specs.declared.command.Command.{Command};
+ghost use Rattle.av_trace.specs.declared.command.Command.TheVariants.{Mprotect};
+ghost use Rattle.av_trace.specs.declared.reply.Errno.{Errno};
 ghost use Rattle.av_trace.specs.declared.reply.OutOf.{OutOf};
-ghost use Rattle.av_trace.specs.declared.reply.Answer.TheVariants.{Oom};
+ghost use Rattle.av_trace.specs.declared.reply.Answer.TheVariants.{Refused, Oom};
 ghost use Rattle.av_trace.specs.declared.reply.Reply.{Reply};
 ghost use Rattle.av_trace.specs.declared.reply.Row.{Row};
 ghost use Rattle.av_plain.specs.World.{World, Process};
@@ -17,6 +20,7 @@ ghost use Rattle.av_plain.specs.Ledger.{Ledger, Setting, fresh};
 ghost use Rattle.av_plain.specs.Event.{Event, after_all};
 ghost use Rattle.av_plain.specs.Report.{AreMaps, totals};
 ghost use Rattle.av_plain.specs.Step.{IsLegal, next_world};
+ghost use Rattle.av_plain.specs.Refused.{is_mprotect, StopsAtHole};
 ghost use Rattle.av_plain.specs.Transcript.{Exchange, State, IsLegalFrom, IsStep, IsRun, at_first};
 ghost use Rattle.av_plain.specs.Sound.{AllSound};
 ghost use Rattle.av_plain.specs.Says.{SaysSound};
@@ -42,6 +46,13 @@ pub fn transcripts_are_sound()
 /// A run, in which also the order of the free frames counts, is a legal transcript.
 pub fn runs_are_legal()
     ensures { (m : Setting) (old : State) (exchanges : List Exchange) (new : State) → IsRun m old exchanges new → IsLegalFrom m old.world old.ledger exchanges new.world new.ledger }
+{}
+
+/// A command that is refused changes neither the memories nor the ledger. An mprotect, which can stop at a page that
+/// isn't mapped, may have changed the protection of the pages before it.
+pub fn refusals_change_nothing()
+    ensures others { (m : Setting) (w : World) (l : Ledger) (command : Command) (reply : Reply) (events : List Event) (error : Errno) → is_mprotect command ≡ false → IsLegal m w l command reply events → reply.answer ≡ Refused error → (next_world m w l events command reply.answer ≡ w) × (after_all l events ≡ l) }
+    ensures mprotect { (m : Setting) (w : World) (l : Ledger) (p a len : ℕ) (prot : Prot) (reply : Reply) (events : List Event) (error : Errno) → IsLegal m w l (Mprotect p a len prot) reply events → reply.answer ≡ Refused error → ((next_world m w l events (Mprotect p a len prot) reply.answer ≡ w) ⊎ StopsAtHole w p a len prot error (next_world m w l events (Mprotect p a len prot) reply.answer)) × (after_all l events ≡ l) }
 {}
 
 /// Soundness is kept by counts. In plain sentences it says this, and so that no more entries name a frame than
