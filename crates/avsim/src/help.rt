@@ -17,7 +17,12 @@ A trace has one command a line. An empty line, or one that begins with #, says n
   spawn P                   process P (1 to 32767) begins without memory
   exit P                    it ends, and its frames are free
   mmap P LEN PROT           map LEN bytes, rounded up to pages, at the greatest address where they fit;
-                            PROT is like rw-, r-- or ---
+                            PROT is like rw-, r-- or ---; the line may end with one of
+         .. at A            at the page of A if they may go there, else as without it
+         .. fixed A         at A, in place of what is mapped there
+         .. noreplace A     at A, unless something is mapped there
+  munmap P A LEN            what is mapped in the range goes
+  mprotect P A LEN PROT     the range gets another protection
   read P A N                read N bytes (1 to 4096) at the hexadecimal address A
   write P A HEX             write the bytes of the hexadecimal digits HEX at A
   maps P                    the longest runs of mapped pages with one protection
