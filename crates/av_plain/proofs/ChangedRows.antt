@@ -4,15 +4,15 @@ use Rattle.std.specs.Prelude.{◌≡◌, ◌==◌, ℕ, zero, suc, ◌+◌, ◌*
 use Rattle.std.proofs.Common.{arith, sym, ap, subst, ◌∙◌}
 use Rattle.av_vma.specs.Gap.{IsGap}
 use Rattle.av_trace.specs.declared.command.Command.TheVariants.{Spawn, Mmap, Read, Write}
-use Rattle.av_trace.specs.declared.command.Place.TheVariants.{Auto}
+use Rattle.av_trace.specs.declared.command.Place.TheVariants.{Auto, Fixed, NoReplace}
 use Rattle.av_trace.specs.declared.reply.Errno.{Errno}
-use Rattle.av_trace.specs.declared.reply.Errno.TheVariants.{Esrch, Eagain, Enomem, Eexist, Einval}
+use Rattle.av_trace.specs.declared.reply.Errno.TheVariants.{Eperm, Esrch, Eagain, Enomem, Eexist, Einval}
 use Rattle.av_trace.specs.declared.reply.Note.{Note}
 use Rattle.av_trace.specs.declared.reply.Note.TheVariants.{Zeroed, New, Copied, Mapped, Dropped}
 use Rattle.av_trace.specs.declared.reply.Row.TheVariants.{Entry}
 use Rattle.av_trace.specs.declared.reply.Reply.{Reply}
 use Rattle.av_trace.specs.declared.reply.Answer.{Answer}
-use Rattle.av_trace.specs.declared.reply.Answer.TheVariants.{Done, MapAt, Data, Refused, Segv, Bus, Oom}
+use Rattle.av_trace.specs.declared.reply.Answer.TheVariants.{Done, MapAt, Data, Refused, Segv, Bus, Oom, Counted}
 use Rattle.av_plain.specs.World.{World, Process, Page, process, nothing, is_mapped}
 use Rattle.av_plain.specs.Ledger.{Ledger, Setting, Key, has_free}
 use Rattle.av_plain.specs.Event.{Event, Used, notes_of}
@@ -22,11 +22,12 @@ use Rattle.av_plain.specs.Refusal.{tests, refusal}
 use Rattle.av_plain.specs.Step.{IsLegal, Follows, Refuses, Answers, IsMapAt}
 use Rattle.av_plain.specs.Transcript.{Exchange, State}
 use Rattle.av_plain.specs.Determined.{Tells, IsClaimed, NoBus, SameCommands, is_bus}
-use Rattle.av_plain.specs.Rows.{Allows, Rejects, copies, leaked, load_when_half_full, wrong_load, page_with, with_byte, machine, crowd, after_fork, with_swap, slot, paged_out, in_writeback, Runs, Refutes, Forbids, answered, read_write, untouched, empty, in_swap_cache, first_run, one_frame, wrong_frame, wrong_place, written_in_vain, refused_write, denied_write}
+use Rattle.av_plain.specs.Rows.{Allows, Rejects, copies, leaked, load_when_half_full, wrong_load, page_with, with_byte, machine, crowd, after_fork, with_swap, slot, paged_out, in_writeback, Runs, Refutes, Forbids, answered, read_write, untouched, empty, in_swap_cache, first_run, one_frame, wrong_frame, wrong_place, written_in_vain, refused_write, denied_write, past_a_hole, fixed_over}
 use Rattle.av_plain.proofs.AccessLaws.{notes_of-append, notes_of-noting}
 use Rattle.av_plain.proofs.OnePage.{Chosen, outcome_of, touches-outcome, is_lost}
 use Rattle.av_plain.proofs.Determined.{runs-determined, runs-one}
 use Rattle.av_plain.proofs.SwapRows.{copies-runs, load_when_half_full-runs}
+use Rattle.av_plain.proofs.RangeRows.{past_a_hole-runs, fixed_over-runs}
 use Rattle.av_plain.proofs.FirstRows.{by_steps, denied_write-runs, first_run-runs, one_frame-runs}
 
 -- ---- runs that differ from one that may be
@@ -40,6 +41,7 @@ abbrev answer_code : Answer → ℕ
 answer_code (MapAt a) = a
 answer_code (Data bytes) = bytes_code bytes
 answer_code (Refused Eexist) = 17
+answer_code (Counted numbers) = numbers.free
 answer_code answer = 0
 
 abbrev notes_code : List Note → ℕ
@@ -296,6 +298,18 @@ wrong_order_in_a_crowd events legal = let e = ap errno_code legal.answer.0 in om
 pub reported_spawn : Forbids (machine 4) empty (Spawn 1) (record { answer = Done; notes = []; rows = Entry 1 0 ∷ [] })
 reported_spawn events legal = let e = ap length legal.answer.2 in omega (arith, e)
 
+-- a page is mapped there
+pub replaced_though_mapped : Forbids (machine 4) untouched (Mmap 1 4096 read_write (NoReplace 0x7fffffffe000)) (answered (MapAt 0x7fffffffe000) [])
+replaced_though_mapped events legal = let e = ap errno_code legal.answer.0 in omega (arith, e)
+
+-- that the range passes the top is found before that it begins within a page
+pub address_before_length : Forbids (machine 4) (crowd 1) (Mmap 1 4096 read_write (Fixed 0x7ffffffff001)) (answered (Refused Einval) [])
+address_before_length events legal = let e = ap errno_code legal.answer.0 in omega (arith, e)
+
+-- and that before that it begins too low
+pub low_before_address : Forbids (machine 4) (crowd 1) (Mmap 1 4096 read_write (Fixed 1)) (answered (Refused Eperm) [])
+low_before_address events legal = let e = ap errno_code legal.answer.0 in omega (arith, e)
+
 -- the greatest place is one page above
 pub mapped_too_low : Forbids (machine 4) (crowd 1) (Mmap 1 4096 read_write Auto) (answered (MapAt 0x7fffffffd000) [])
 mapped_too_low events legal = by legal.answer.0 legal.answer.1 legal.answer.2
@@ -322,6 +336,16 @@ made_by_a_refused_write = same_run 4 (refused_write Done) (refused_write (Refuse
 
 pub lost_by_a_denied_write : Refutes 4 (denied_write 0)
 lost_by_a_denied_write = same_run 4 (denied_write 1) (denied_write 0) 3 denied_write-runs (refl, (refl, (refl, (refl, tt)))) (refl, (refl, (refl, (refl, tt)))) (refl, (refl, (refl, (refl, tt)))) (λ e. omega (arith, e))
+
+pub protected_past_a_hole : Refutes 4 (past_a_hole (Segv 0 []) [])
+protected_past_a_hole = same_run 4 (past_a_hole Done (New 1 0x7fffffffe000 0 ∷ [])) (past_a_hole (Segv 0 []) []) 5 past_a_hole-runs
+    (refl, (refl, (refl, (refl, (refl, (refl, (refl, (refl, (refl, (refl, tt)))))))))) (refl, (refl, (refl, (refl, (refl, (refl, (refl, (refl, (refl, (refl, tt)))))))))) (refl, (refl, (refl, (refl, (refl, (refl, (refl, (refl, (refl, (refl, tt)))))))))) (λ e. omega (arith, e))
+
+pub entry_kept : Refutes 4 (fixed_over 2 0 (Zeroed 1 0x20000 ∷ []))
+entry_kept = same_run 4 (fixed_over 3 0 (Zeroed 1 0x20000 ∷ [])) (fixed_over 2 0 (Zeroed 1 0x20000 ∷ [])) 7 fixed_over-runs (refl, (refl, (refl, (refl, (refl, (refl, (refl, (refl, (refl, (refl, (refl, (refl, (refl, tt))))))))))))) (refl, (refl, (refl, (refl, (refl, (refl, (refl, (refl, (refl, (refl, (refl, (refl, (refl, tt))))))))))))) (refl, (refl, (refl, (refl, (refl, (refl, (refl, (refl, (refl, (refl, (refl, (refl, (refl, tt))))))))))))) (λ e. omega (arith, e))
+
+pub byte_kept : Refutes 4 (fixed_over 3 7 (Zeroed 1 0x20000 ∷ []))
+byte_kept = same_run 4 (fixed_over 3 0 (Zeroed 1 0x20000 ∷ [])) (fixed_over 3 7 (Zeroed 1 0x20000 ∷ [])) 8 fixed_over-runs (refl, (refl, (refl, (refl, (refl, (refl, (refl, (refl, (refl, (refl, (refl, (refl, (refl, tt))))))))))))) (refl, (refl, (refl, (refl, (refl, (refl, (refl, (refl, (refl, (refl, (refl, (refl, (refl, tt))))))))))))) (refl, (refl, (refl, (refl, (refl, (refl, (refl, (refl, (refl, (refl, (refl, (refl, (refl, tt))))))))))))) (λ e. omega (arith, e))
 
 -- ---- runs from other states
 

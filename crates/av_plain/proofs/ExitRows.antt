@@ -1,5 +1,6 @@
 -- The worked rows of exit, maps and stat.
 use Rattle.std.proofs.Common.{◌≡◌, ℕ, ◌+◌, ◌*◌, Bool, true, false, cond, ◌&&◌, ◌||◌, nat_le, nat_lt, [], ◌∷◌, Option, Some, None, is_some, option_map, refl, sym, ap, ◌∙◌, arith}
+use Rattle.std.specs.Prelude.{drop}
 use Rattle.std.proofs.lemmas.Bool.Decides.{nat_tests}
 use Rattle.std.proofs.lemmas.Bool.{false≢true}
 use Rattle.av_vma.specs.declared.area.Prot.{Prot}
@@ -12,39 +13,39 @@ use Rattle.av_plain.specs.Fault.{Served, Denied, Whole, Stopped}
 use Rattle.av_plain.specs.Transcript.{at_first}
 use Rattle.av_plain.specs.Rows.{Allows, Runs, machine, with_swap, slot, after_fork, in_writeback, paged_out, read_write, read_only, exit_frees, exit_and_again, two_runs, exit_shared, in_swap_cache, exit_drops, exit_in_writeback, exit_paged_out}
 use Rattle.av_plain.specs.Rows.{Forbids, two_protections, joined_runs, run_left_out, run_too_long}
-use Rattle.av_plain.proofs.FirstRows.{by_steps, gap_below}
+use Rattle.av_plain.proofs.FirstRows.{by_steps, topmost, gap_below}
 
 pub exit_frees-runs : Runs 4 exit_frees
-exit_frees-runs = by_steps (machine 4) (at_first (machine 4)) exit_frees ((
-  [],
-  0 ∷ 1 ∷ 2 ∷ 3 ∷ [],
-  record { answer = (refl, refl, refl); notes = refl },
-  refl,
+exit_frees-runs = by_steps (machine 4) (at_first (machine 4)) exit_frees (topmost read_write (drop 2 exit_frees) (
+  Noted (New 1 0x7fffffffe000 0) ∷ Used true (1, 0x7fffffffe) ∷ [],
+  1 ∷ 2 ∷ 3 ∷ [],
+  record { answer = (Whole, (New 1 0x7fffffffe000 0 ∷ [], Served, [], (refl, record { coming = []; making = New 1 0x7fffffffe000 0 ∷ []; whole = refl; comes_in = refl; made = record { sought = []; frame = 0; seeks = refl; in_range = omega arith; free = refl; whole = refl } }), refl, (refl, refl)), refl, refl); notes = refl },
+  (1 ∷ 2 ∷ 3 ∷ [], refl, (1 ∷ 2 ∷ 3 ∷ [], refl, refl)),
   (
-    [],
-    0 ∷ 1 ∷ 2 ∷ 3 ∷ [],
-    record { answer = (Some 0x7fffffffe, (record { lowest = omega arith; highest = omega arith; free = λ q a b. refl }, (λ b h. omega (arith, h.highest))), refl, refl, refl); notes = refl },
-    refl,
+    Used false (1, 0x7fffffffe) ∷ [],
+    1 ∷ 2 ∷ 3 ∷ [],
+    record { answer = (Whole, 0 ∷ 65 ∷ 0 ∷ [], ([], Served, [], (refl, record { coming = []; making = []; whole = refl; comes_in = refl; made = refl }), refl, (refl, refl)), (refl, (refl, (refl, (refl, tt)))), refl, refl); notes = refl },
+    (1 ∷ 2 ∷ 3 ∷ [], refl, refl),
     (
-      Noted (New 1 0x7fffffffe000 0) ∷ Used true (1, 0x7fffffffe) ∷ [],
+      [],
       1 ∷ 2 ∷ 3 ∷ [],
-      record { answer = (Whole, (New 1 0x7fffffffe000 0 ∷ [], Served, [], (refl, record { coming = []; making = New 1 0x7fffffffe000 0 ∷ []; whole = refl; comes_in = refl; made = record { sought = []; frame = 0; seeks = refl; in_range = omega arith; free = refl; whole = refl } }), refl, (refl, refl)), refl, refl); notes = refl },
-      (1 ∷ 2 ∷ 3 ∷ [], refl, (1 ∷ 2 ∷ 3 ∷ [], refl, refl)),
+      record { answer = (refl, refl, refl); notes = refl },
+      refl,
       (
-        Used false (1, 0x7fffffffe) ∷ [],
-        1 ∷ 2 ∷ 3 ∷ [],
-        record { answer = (Whole, 0 ∷ 65 ∷ 0 ∷ [], ([], Served, [], (refl, record { coming = []; making = []; whole = refl; comes_in = refl; made = refl }), refl, (refl, refl)), (refl, (refl, (refl, (refl, tt)))), refl, refl); notes = refl },
-        (1 ∷ 2 ∷ 3 ∷ [], refl, refl),
+        Taken (1, 0x7fffffffe) ∷ [],
+        0 ∷ 1 ∷ 2 ∷ 3 ∷ [],
+        record { answer = (refl, refl, refl); notes = refl },
+        (0 ∷ 1 ∷ 2 ∷ 3 ∷ [], refl, refl),
         (
           [],
-          1 ∷ 2 ∷ 3 ∷ [],
+          0 ∷ 1 ∷ 2 ∷ 3 ∷ [],
           record { answer = (refl, refl, refl); notes = refl },
           refl,
           (
-            Taken (1, 0x7fffffffe) ∷ [],
+            [],
             0 ∷ 1 ∷ 2 ∷ 3 ∷ [],
             record { answer = (refl, refl, refl); notes = refl },
-            (0 ∷ 1 ∷ 2 ∷ 3 ∷ [], refl, refl),
+            refl,
             (
               [],
               0 ∷ 1 ∷ 2 ∷ 3 ∷ [],
@@ -58,26 +59,14 @@ exit_frees-runs = by_steps (machine 4) (at_first (machine 4)) exit_frees ((
                 (
                   [],
                   0 ∷ 1 ∷ 2 ∷ 3 ∷ [],
-                  record { answer = (refl, refl, refl); notes = refl },
+                  record { answer = (refl, record { runs = tt; pages = tt; cover = λ page. refl }, refl); notes = refl },
                   refl,
                   (
                     [],
                     0 ∷ 1 ∷ 2 ∷ 3 ∷ [],
-                    record { answer = (refl, refl, refl); notes = refl },
+                    record { answer = (Stopped 0x7fffffffe Denied, [], ([], Denied, [], (refl, refl), refl, (refl, refl)), (refl, tt), refl, refl); notes = refl },
                     refl,
-                    (
-                      [],
-                      0 ∷ 1 ∷ 2 ∷ 3 ∷ [],
-                      record { answer = (refl, record { runs = tt; pages = tt; cover = λ page. refl }, refl); notes = refl },
-                      refl,
-                      (
-                        [],
-                        0 ∷ 1 ∷ 2 ∷ 3 ∷ [],
-                        record { answer = (Stopped 0x7fffffffe Denied, [], ([], Denied, [], (refl, refl), refl, (refl, refl)), (refl, tt), refl, refl); notes = refl },
-                        refl,
-                        tt,
-                      ),
-                    ),
+                    tt,
                   ),
                 ),
               ),
@@ -233,7 +222,7 @@ exit_paged_out-runs = by_steps (with_swap 4 8 7) (paged_out 7 (0 ∷ 1 ∷ 2 ∷
 -- ---- the runs of `maps`
 
 -- a page's address lies in a run of pages where the page is one of them
-in_run : (from n page : ℕ) → (nat_le (4096 * from) (4096 * page) && nat_lt (4096 * page) (4096 * (from + n))) ≡ within from n page
+pub in_run : (from n page : ℕ) → (nat_le (4096 * from) (4096 * page) && nat_lt (4096 * page) (4096 * (from + n))) ≡ within from n page
 in_run from n page = grind (arith, nat_tests)
 
 -- a mapping that adjoins another
@@ -241,39 +230,27 @@ adjoining : (page : ℕ) → within 0x7fffffffb 3 page ≡ (within 0x7fffffffb 1
 adjoining page = grind (arith, nat_tests)
 
 pub two_runs-runs : Runs 4 two_runs
-two_runs-runs = by_steps (machine 4) (at_first (machine 4)) two_runs ((
+two_runs-runs = by_steps (machine 4) (at_first (machine 4)) two_runs (topmost read_only (drop 2 two_runs) (
   [],
   0 ∷ 1 ∷ 2 ∷ 3 ∷ [],
-  record { answer = (refl, refl, refl); notes = refl },
+  record { answer = (Some 0x7fffffffc, (gap_below _ 0x7fffffffe 2 refl (omega arith) (omega arith) (omega arith) (λ q h. grind (arith, nat_tests, h)) (λ q h i. grind (arith, nat_tests, h, i))), refl, refl, refl); notes = refl },
   refl,
   (
     [],
     0 ∷ 1 ∷ 2 ∷ 3 ∷ [],
-    record { answer = (Some 0x7fffffffe, (record { lowest = omega arith; highest = omega arith; free = λ q a b. refl }, (λ b h. omega (arith, h.highest))), refl, refl, refl); notes = refl },
+    record { answer = (refl, record { runs = (omega arith, omega arith, (λ e p. differ p), omega arith); pages = ((0x7fffffffc, refl), (0x7fffffffe, refl), ((0x7fffffffe, refl), (0x7ffffffff, refl), tt)); cover = λ page. (λ i. cond (in_run 0x7fffffffc 2 page i) (Some read_write) (cond (in_run 0x7fffffffe 1 page i) (Some read_only) None)) ∙ two (within 0x7fffffffc 2 page) (within 0x7fffffffe 1 page) }, refl); notes = refl },
     refl,
     (
       [],
       0 ∷ 1 ∷ 2 ∷ 3 ∷ [],
-      record { answer = (Some 0x7fffffffc, (gap_below _ 0x7fffffffe 2 refl (omega arith) (omega arith) (omega arith) (λ q h. grind (arith, nat_tests, h)) (λ q h i. grind (arith, nat_tests, h, i))), refl, refl, refl); notes = refl },
+      record { answer = (Some 0x7fffffffb, (gap_below _ 0x7fffffffc 1 refl (omega arith) (omega arith) (omega arith) (λ q h. grind (arith, nat_tests, h)) (λ q h i. grind (arith, nat_tests, h, i))), refl, refl, refl); notes = refl },
       refl,
       (
         [],
         0 ∷ 1 ∷ 2 ∷ 3 ∷ [],
-        record { answer = (refl, record { runs = (omega arith, omega arith, (λ e p. differ p), omega arith); pages = ((0x7fffffffc, refl), (0x7fffffffe, refl), ((0x7fffffffe, refl), (0x7ffffffff, refl), tt)); cover = λ page. (λ i. cond (in_run 0x7fffffffc 2 page i) (Some read_write) (cond (in_run 0x7fffffffe 1 page i) (Some read_only) None)) ∙ two (within 0x7fffffffc 2 page) (within 0x7fffffffe 1 page) }, refl); notes = refl },
+        record { answer = (refl, record { runs = (omega arith, omega arith, (λ e p. differ p), omega arith); pages = ((0x7fffffffb, refl), (0x7fffffffe, refl), ((0x7fffffffe, refl), (0x7ffffffff, refl), tt)); cover = λ page. (λ i. cond ((in_run 0x7fffffffb 3 page ∙ adjoining page) i) (Some read_write) (cond (in_run 0x7fffffffe 1 page i) (Some read_only) None)) ∙ three (within 0x7fffffffb 1 page) (within 0x7fffffffc 2 page) (within 0x7fffffffe 1 page) }, refl); notes = refl },
         refl,
-        (
-          [],
-          0 ∷ 1 ∷ 2 ∷ 3 ∷ [],
-          record { answer = (Some 0x7fffffffb, (gap_below _ 0x7fffffffc 1 refl (omega arith) (omega arith) (omega arith) (λ q h. grind (arith, nat_tests, h)) (λ q h i. grind (arith, nat_tests, h, i))), refl, refl, refl); notes = refl },
-          refl,
-          (
-            [],
-            0 ∷ 1 ∷ 2 ∷ 3 ∷ [],
-            record { answer = (refl, record { runs = (omega arith, omega arith, (λ e p. differ p), omega arith); pages = ((0x7fffffffb, refl), (0x7fffffffe, refl), ((0x7fffffffe, refl), (0x7ffffffff, refl), tt)); cover = λ page. (λ i. cond ((in_run 0x7fffffffb 3 page ∙ adjoining page) i) (Some read_write) (cond (in_run 0x7fffffffe 1 page i) (Some read_only) None)) ∙ three (within 0x7fffffffb 1 page) (within 0x7fffffffc 2 page) (within 0x7fffffffe 1 page) }, refl); notes = refl },
-            refl,
-            tt,
-          ),
-        ),
+        tt,
       ),
     ),
   ),

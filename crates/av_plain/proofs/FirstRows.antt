@@ -1,17 +1,22 @@
 -- The worked rows from nothing on.
-use Rattle.std.specs.Prelude.{◌≡◌, ℕ, ◌+◌, ◌-◌, ◌<◌, ◌≤◌, Bool, nat_le, true, false, List, [], ◌∷◌, Some, None, refl}
+use Rattle.std.specs.Prelude.{◌≡◌, ℕ, ◌+◌, ◌-◌, ◌<◌, ◌≤◌, Bool, nat_le, true, false, List, [], ◌∷◌, drop, Some, None, refl}
 use Rattle.std.proofs.Common.{arith, inl, sym, ◌∙◌}
 use Rattle.std.proofs.lemmas.Bool.Decides.{nat_tests}
 use Rattle.std.proofs.lemmas.Bool.{false≢true}
+use Rattle.av_vma.specs.declared.area.Prot.{Prot}
 use Rattle.av_vma.specs.Gap.{low_page, top_page, IsRoom, IsGap}
+use Rattle.av_trace.specs.declared.command.Command.TheVariants.{Spawn, Mmap}
+use Rattle.av_trace.specs.declared.command.Place.TheVariants.{Auto}
+use Rattle.av_trace.specs.declared.reply.Answer.TheVariants.{Done, MapAt}
 use Rattle.av_trace.specs.declared.reply.Note.TheVariants.{Zeroed, New}
-use Rattle.av_plain.specs.Ledger.{Setting}
+use Rattle.av_plain.specs.World.{nothing, zeros, replaced}
+use Rattle.av_plain.specs.Ledger.{Setting, fresh}
 use Rattle.av_plain.specs.Event.{Event, Noted, Used, after_all}
 use Rattle.av_plain.specs.Fault.{Served, Denied, Starved, Whole, Stopped}
 use Rattle.av_plain.specs.Step.{IsLegal, next_world}
 use Rattle.av_plain.specs.Choice.{ChoosesAll}
 use Rattle.av_plain.specs.Transcript.{Exchange, State, at_first}
-use Rattle.av_plain.specs.Rows.{Allows, Runs, machine, first_run, zero_first, one_frame, part_denied, two_processes, refusals, all_mapped, readable, denied_write}
+use Rattle.av_plain.specs.Rows.{Allows, Runs, machine, says, read_write, write_only, first_run, zero_first, one_frame, part_denied, two_processes, refusals, all_mapped, readable, denied_write}
 
 -- each exchange by its events, and the frames that are free after it
 abbrev pub Steps : Setting → State → List Exchange → Type 0
@@ -30,10 +35,10 @@ by_steps m old (e ∷ row) h =
 not_free : (b : Bool) → b ≡ false → b ≡ true → ⊥
 not_free b h i = false≢true (sym h ∙ i)
 
--- where all pages from one on are taken and none below, the place ends there
-pub gap_below : (is_taken : ℕ → Bool) (from n : ℕ) {page : ℕ} → page ≡ from - n → 0 < n → low_page + n ≤ from → from ≤ top_page → ((q : ℕ) → q < from → is_taken q ≡ false) → ((q : ℕ) → from ≤ q → q < top_page → is_taken q ≡ true) → IsGap is_taken n (Some page)
-gap_below is_taken from n {page} is some low high below above = (
-  record { lowest = omega (arith, is, low); highest = omega (arith, is, low, high); free = λ q a b. below q (omega (arith, is, a, b, low)) },
+-- where all pages from one on are taken and the n below are not, the place ends there
+pub gap_under : (is_taken : ℕ → Bool) (from n : ℕ) {page : ℕ} → page ≡ from - n → 0 < n → low_page + n ≤ from → from ≤ top_page → ((q : ℕ) → page ≤ q → q < from → is_taken q ≡ false) → ((q : ℕ) → from ≤ q → q < top_page → is_taken q ≡ true) → IsGap is_taken n (Some page)
+gap_under is_taken from n {page} is some low high below above = (
+  record { lowest = omega (arith, is, low); highest = omega (arith, is, low, high); free = λ q a b. below q a (omega (arith, is, b, low)) },
   (λ other room. fits other room),
 )
   where
@@ -50,8 +55,17 @@ gap_below is_taken from n {page} is some low high below above = (
             let top = room.highest in
             absurd (not_free (is_taken (other + n - 1)) (room.free (other + n - 1) (omega (arith, some)) (omega (arith, some))) (above (other + n - 1) (omega (arith, is, low, some, more)) (omega (arith, some, top))))
 
-pub first_run-runs : Runs 4 first_run
-first_run-runs = by_steps (machine 4) (at_first (machine 4)) first_run ((
+-- and so where none is below
+pub gap_below : (is_taken : ℕ → Bool) (from n : ℕ) {page : ℕ} → page ≡ from - n → 0 < n → low_page + n ≤ from → from ≤ top_page → ((q : ℕ) → q < from → is_taken q ≡ false) → ((q : ℕ) → from ≤ q → q < top_page → is_taken q ≡ true) → IsGap is_taken n (Some page)
+gap_below is_taken from n is some low high below above = gap_under is_taken from n is some low high (λ q a b. below q b) above
+
+-- process 1 has the topmost page mapped, and no other
+abbrev pub one_page : Prot → State
+one_page prot = record { world = (1, replaced nothing 0x7fffffffe 1 (λ _. Some (zeros prot))) ∷ []; ledger = fresh; free = 0 ∷ 1 ∷ 2 ∷ 3 ∷ [] }
+
+-- so many rows begin
+pub topmost : (prot : Prot) (row : List Exchange) → Steps (machine 4) (one_page prot) row → Steps (machine 4) (at_first (machine 4)) (says (Spawn 1) Done [] ∷ says (Mmap 1 4096 prot Auto) (MapAt 0x7fffffffe000) [] ∷ row)
+topmost prot row rest = (
   [],
   0 ∷ 1 ∷ 2 ∷ 3 ∷ [],
   record { answer = (refl, refl, refl); notes = refl },
@@ -61,61 +75,52 @@ first_run-runs = by_steps (machine 4) (at_first (machine 4)) first_run ((
     0 ∷ 1 ∷ 2 ∷ 3 ∷ [],
     record { answer = (Some 0x7fffffffe, (record { lowest = omega arith; highest = omega arith; free = λ q a b. refl }, (λ b h. omega (arith, h.highest))), refl, refl, refl); notes = refl },
     refl,
+    rest,
+  ),
+)
+
+pub first_run-runs : Runs 4 first_run
+first_run-runs = by_steps (machine 4) (at_first (machine 4)) first_run (topmost read_write (drop 2 first_run) (
+  Noted (New 1 0x7fffffffe000 0) ∷ Used true (1, 0x7fffffffe) ∷ [],
+  1 ∷ 2 ∷ 3 ∷ [],
+  record { answer = (Whole, (New 1 0x7fffffffe000 0 ∷ [], Served, [], (refl, record { coming = []; making = New 1 0x7fffffffe000 0 ∷ []; whole = refl; comes_in = refl; made = record { sought = []; frame = 0; seeks = refl; in_range = omega arith; free = refl; whole = refl } }), refl, (refl, refl)), refl, refl); notes = refl },
+  (1 ∷ 2 ∷ 3 ∷ [], refl, (1 ∷ 2 ∷ 3 ∷ [], refl, refl)),
+  (
+    Used false (1, 0x7fffffffe) ∷ [],
+    1 ∷ 2 ∷ 3 ∷ [],
+    record { answer = (Whole, 0 ∷ 65 ∷ 0 ∷ [], ([], Served, [], (refl, record { coming = []; making = []; whole = refl; comes_in = refl; made = refl }), refl, (refl, refl)), (refl, (refl, (refl, (refl, tt)))), refl, refl); notes = refl },
+    (1 ∷ 2 ∷ 3 ∷ [], refl, refl),
+    tt,
+  ),
+))
+
+pub zero_first-runs : Runs 4 zero_first
+zero_first-runs = by_steps (machine 4) (at_first (machine 4)) zero_first (topmost read_write (drop 2 zero_first) (
+  Noted (Zeroed 1 0x7fffffffe000) ∷ Used false (1, 0x7fffffffe) ∷ [],
+  0 ∷ 1 ∷ 2 ∷ 3 ∷ [],
+  record { answer = (Whole, 0 ∷ 0 ∷ [], (Zeroed 1 0x7fffffffe000 ∷ [], Served, [], (refl, record { coming = []; making = Zeroed 1 0x7fffffffe000 ∷ []; whole = refl; comes_in = refl; made = refl }), refl, (refl, refl)), (refl, (refl, (refl, tt))), refl, refl); notes = refl },
+  (0 ∷ 1 ∷ 2 ∷ 3 ∷ [], refl, (0 ∷ 1 ∷ 2 ∷ 3 ∷ [], refl, refl)),
+  (
+    Used false (1, 0x7fffffffe) ∷ [],
+    0 ∷ 1 ∷ 2 ∷ 3 ∷ [],
+    record { answer = (Whole, 0 ∷ [], ([], Served, [], (refl, record { coming = []; making = []; whole = refl; comes_in = refl; made = refl }), refl, (refl, refl)), (refl, (refl, tt)), refl, refl); notes = refl },
+    (0 ∷ 1 ∷ 2 ∷ 3 ∷ [], refl, refl),
     (
       Noted (New 1 0x7fffffffe000 0) ∷ Used true (1, 0x7fffffffe) ∷ [],
       1 ∷ 2 ∷ 3 ∷ [],
       record { answer = (Whole, (New 1 0x7fffffffe000 0 ∷ [], Served, [], (refl, record { coming = []; making = New 1 0x7fffffffe000 0 ∷ []; whole = refl; comes_in = refl; made = record { sought = []; frame = 0; seeks = refl; in_range = omega arith; free = refl; whole = refl } }), refl, (refl, refl)), refl, refl); notes = refl },
       (1 ∷ 2 ∷ 3 ∷ [], refl, (1 ∷ 2 ∷ 3 ∷ [], refl, refl)),
       (
-        Used false (1, 0x7fffffffe) ∷ [],
+        Used true (1, 0x7fffffffe) ∷ [],
         1 ∷ 2 ∷ 3 ∷ [],
-        record { answer = (Whole, 0 ∷ 65 ∷ 0 ∷ [], ([], Served, [], (refl, record { coming = []; making = []; whole = refl; comes_in = refl; made = refl }), refl, (refl, refl)), (refl, (refl, (refl, (refl, tt)))), refl, refl); notes = refl },
+        record { answer = (Whole, ([], Served, [], (refl, record { coming = []; making = []; whole = refl; comes_in = refl; made = refl }), refl, (refl, refl)), refl, refl); notes = refl },
         (1 ∷ 2 ∷ 3 ∷ [], refl, refl),
-        tt,
-      ),
-    ),
-  ),
-))
-
-pub zero_first-runs : Runs 4 zero_first
-zero_first-runs = by_steps (machine 4) (at_first (machine 4)) zero_first ((
-  [],
-  0 ∷ 1 ∷ 2 ∷ 3 ∷ [],
-  record { answer = (refl, refl, refl); notes = refl },
-  refl,
-  (
-    [],
-    0 ∷ 1 ∷ 2 ∷ 3 ∷ [],
-    record { answer = (Some 0x7fffffffe, (record { lowest = omega arith; highest = omega arith; free = λ q a b. refl }, (λ b h. omega (arith, h.highest))), refl, refl, refl); notes = refl },
-    refl,
-    (
-      Noted (Zeroed 1 0x7fffffffe000) ∷ Used false (1, 0x7fffffffe) ∷ [],
-      0 ∷ 1 ∷ 2 ∷ 3 ∷ [],
-      record { answer = (Whole, 0 ∷ 0 ∷ [], (Zeroed 1 0x7fffffffe000 ∷ [], Served, [], (refl, record { coming = []; making = Zeroed 1 0x7fffffffe000 ∷ []; whole = refl; comes_in = refl; made = refl }), refl, (refl, refl)), (refl, (refl, (refl, tt))), refl, refl); notes = refl },
-      (0 ∷ 1 ∷ 2 ∷ 3 ∷ [], refl, (0 ∷ 1 ∷ 2 ∷ 3 ∷ [], refl, refl)),
-      (
-        Used false (1, 0x7fffffffe) ∷ [],
-        0 ∷ 1 ∷ 2 ∷ 3 ∷ [],
-        record { answer = (Whole, 0 ∷ [], ([], Served, [], (refl, record { coming = []; making = []; whole = refl; comes_in = refl; made = refl }), refl, (refl, refl)), (refl, (refl, tt)), refl, refl); notes = refl },
-        (0 ∷ 1 ∷ 2 ∷ 3 ∷ [], refl, refl),
         (
-          Noted (New 1 0x7fffffffe000 0) ∷ Used true (1, 0x7fffffffe) ∷ [],
+          Used false (1, 0x7fffffffe) ∷ [],
           1 ∷ 2 ∷ 3 ∷ [],
-          record { answer = (Whole, (New 1 0x7fffffffe000 0 ∷ [], Served, [], (refl, record { coming = []; making = New 1 0x7fffffffe000 0 ∷ []; whole = refl; comes_in = refl; made = record { sought = []; frame = 0; seeks = refl; in_range = omega arith; free = refl; whole = refl } }), refl, (refl, refl)), refl, refl); notes = refl },
-          (1 ∷ 2 ∷ 3 ∷ [], refl, (1 ∷ 2 ∷ 3 ∷ [], refl, refl)),
-          (
-            Used true (1, 0x7fffffffe) ∷ [],
-            1 ∷ 2 ∷ 3 ∷ [],
-            record { answer = (Whole, ([], Served, [], (refl, record { coming = []; making = []; whole = refl; comes_in = refl; made = refl }), refl, (refl, refl)), refl, refl); notes = refl },
-            (1 ∷ 2 ∷ 3 ∷ [], refl, refl),
-            (
-              Used false (1, 0x7fffffffe) ∷ [],
-              1 ∷ 2 ∷ 3 ∷ [],
-              record { answer = (Whole, 1 ∷ 2 ∷ [], ([], Served, [], (refl, record { coming = []; making = []; whole = refl; comes_in = refl; made = refl }), refl, (refl, refl)), (refl, (refl, (refl, tt))), refl, refl); notes = refl },
-              (1 ∷ 2 ∷ 3 ∷ [], refl, refl),
-              tt,
-            ),
-          ),
+          record { answer = (Whole, 1 ∷ 2 ∷ [], ([], Served, [], (refl, record { coming = []; making = []; whole = refl; comes_in = refl; made = refl }), refl, (refl, refl)), (refl, (refl, (refl, tt))), refl, refl); notes = refl },
+          (1 ∷ 2 ∷ 3 ∷ [], refl, refl),
+          tt,
         ),
       ),
     ),
@@ -270,44 +275,32 @@ two_processes-runs = by_steps (machine 4) (at_first (machine 4)) two_processes (
 ))
 
 pub readable-runs : Runs 4 readable
-readable-runs = by_steps (machine 4) (at_first (machine 4)) readable ((
+readable-runs = by_steps (machine 4) (at_first (machine 4)) readable (topmost write_only (drop 2 readable) (
   [],
   0 ∷ 1 ∷ 2 ∷ 3 ∷ [],
-  record { answer = (refl, refl, refl); notes = refl },
+  record { answer = (Some 0x7fffffffd, (gap_below _ 0x7fffffffe 1 refl (omega arith) (omega arith) (omega arith) (λ q h. grind (arith, nat_tests, h)) (λ q h i. grind (arith, nat_tests, h, i))), refl, refl, refl); notes = refl },
   refl,
   (
-    [],
+    Noted (Zeroed 1 0x7fffffffe000) ∷ Used false (1, 0x7fffffffe) ∷ [],
     0 ∷ 1 ∷ 2 ∷ 3 ∷ [],
-    record { answer = (Some 0x7fffffffe, (record { lowest = omega arith; highest = omega arith; free = λ q a b. refl }, (λ b h. omega (arith, h.highest))), refl, refl, refl); notes = refl },
-    refl,
+    record { answer = (Whole, 0 ∷ [], (Zeroed 1 0x7fffffffe000 ∷ [], Served, [], (refl, record { coming = []; making = Zeroed 1 0x7fffffffe000 ∷ []; whole = refl; comes_in = refl; made = refl }), refl, (refl, refl)), (refl, (refl, tt)), refl, refl); notes = refl },
+    (0 ∷ 1 ∷ 2 ∷ 3 ∷ [], refl, (0 ∷ 1 ∷ 2 ∷ 3 ∷ [], refl, refl)),
     (
-      [],
+      Noted (Zeroed 1 0x7fffffffd000) ∷ Used false (1, 0x7fffffffd) ∷ [],
       0 ∷ 1 ∷ 2 ∷ 3 ∷ [],
-      record { answer = (Some 0x7fffffffd, (gap_below _ 0x7fffffffe 1 refl (omega arith) (omega arith) (omega arith) (λ q h. grind (arith, nat_tests, h)) (λ q h i. grind (arith, nat_tests, h, i))), refl, refl, refl); notes = refl },
-      refl,
+      record { answer = (Whole, 0 ∷ [], (Zeroed 1 0x7fffffffd000 ∷ [], Served, [], (refl, record { coming = []; making = Zeroed 1 0x7fffffffd000 ∷ []; whole = refl; comes_in = refl; made = refl }), refl, (refl, refl)), (refl, (refl, tt)), refl, refl); notes = refl },
+      (0 ∷ 1 ∷ 2 ∷ 3 ∷ [], refl, (0 ∷ 1 ∷ 2 ∷ 3 ∷ [], refl, refl)),
       (
-        Noted (Zeroed 1 0x7fffffffe000) ∷ Used false (1, 0x7fffffffe) ∷ [],
+        [],
         0 ∷ 1 ∷ 2 ∷ 3 ∷ [],
-        record { answer = (Whole, 0 ∷ [], (Zeroed 1 0x7fffffffe000 ∷ [], Served, [], (refl, record { coming = []; making = Zeroed 1 0x7fffffffe000 ∷ []; whole = refl; comes_in = refl; made = refl }), refl, (refl, refl)), (refl, (refl, tt)), refl, refl); notes = refl },
-        (0 ∷ 1 ∷ 2 ∷ 3 ∷ [], refl, (0 ∷ 1 ∷ 2 ∷ 3 ∷ [], refl, refl)),
+        record { answer = (Stopped 0x7fffffffd Denied, ([], Denied, [], (refl, refl), refl, (refl, refl)), refl, refl); notes = refl },
+        refl,
         (
-          Noted (Zeroed 1 0x7fffffffd000) ∷ Used false (1, 0x7fffffffd) ∷ [],
-          0 ∷ 1 ∷ 2 ∷ 3 ∷ [],
-          record { answer = (Whole, 0 ∷ [], (Zeroed 1 0x7fffffffd000 ∷ [], Served, [], (refl, record { coming = []; making = Zeroed 1 0x7fffffffd000 ∷ []; whole = refl; comes_in = refl; made = refl }), refl, (refl, refl)), (refl, (refl, tt)), refl, refl); notes = refl },
-          (0 ∷ 1 ∷ 2 ∷ 3 ∷ [], refl, (0 ∷ 1 ∷ 2 ∷ 3 ∷ [], refl, refl)),
-          (
-            [],
-            0 ∷ 1 ∷ 2 ∷ 3 ∷ [],
-            record { answer = (Stopped 0x7fffffffd Denied, ([], Denied, [], (refl, refl), refl, (refl, refl)), refl, refl); notes = refl },
-            refl,
-            (
-              Noted (New 1 0x7fffffffe000 0) ∷ Used true (1, 0x7fffffffe) ∷ [],
-              1 ∷ 2 ∷ 3 ∷ [],
-              record { answer = (Whole, (New 1 0x7fffffffe000 0 ∷ [], Served, [], (refl, record { coming = []; making = New 1 0x7fffffffe000 0 ∷ []; whole = refl; comes_in = refl; made = record { sought = []; frame = 0; seeks = refl; in_range = omega arith; free = refl; whole = refl } }), refl, (refl, refl)), refl, refl); notes = refl },
-              (1 ∷ 2 ∷ 3 ∷ [], refl, (1 ∷ 2 ∷ 3 ∷ [], refl, refl)),
-              tt,
-            ),
-          ),
+          Noted (New 1 0x7fffffffe000 0) ∷ Used true (1, 0x7fffffffe) ∷ [],
+          1 ∷ 2 ∷ 3 ∷ [],
+          record { answer = (Whole, (New 1 0x7fffffffe000 0 ∷ [], Served, [], (refl, record { coming = []; making = New 1 0x7fffffffe000 0 ∷ []; whole = refl; comes_in = refl; made = record { sought = []; frame = 0; seeks = refl; in_range = omega arith; free = refl; whole = refl } }), refl, (refl, refl)), refl, refl); notes = refl },
+          (1 ∷ 2 ∷ 3 ∷ [], refl, (1 ∷ 2 ∷ 3 ∷ [], refl, refl)),
+          tt,
         ),
       ),
     ),
@@ -411,28 +404,16 @@ all_mapped-runs = by_steps (machine 4) (at_first (machine 4)) all_mapped ((
 ))
 
 pub denied_write-runs : Runs 4 (denied_write 1)
-denied_write-runs = by_steps (machine 4) (at_first (machine 4)) (denied_write 1) ((
-  [],
-  0 ∷ 1 ∷ 2 ∷ 3 ∷ [],
-  record { answer = (refl, refl, refl); notes = refl },
-  refl,
+denied_write-runs = by_steps (machine 4) (at_first (machine 4)) (denied_write 1) (topmost read_write (drop 2 (denied_write 1)) (
+  Noted (New 1 0x7fffffffe000 0) ∷ Used true (1, 0x7fffffffe) ∷ [],
+  1 ∷ 2 ∷ 3 ∷ [],
+  record { answer = (Stopped 0x7ffffffff Denied, (New 1 0x7fffffffe000 0 ∷ [], Served, [], (refl, record { coming = []; making = New 1 0x7fffffffe000 0 ∷ []; whole = refl; comes_in = refl; made = record { sought = []; frame = 0; seeks = refl; in_range = omega arith; free = refl; whole = refl } }), refl, ([], Denied, [], (refl, refl), refl, (refl, refl))), refl, refl); notes = refl },
+  (1 ∷ 2 ∷ 3 ∷ [], refl, (1 ∷ 2 ∷ 3 ∷ [], refl, refl)),
   (
-    [],
-    0 ∷ 1 ∷ 2 ∷ 3 ∷ [],
-    record { answer = (Some 0x7fffffffe, (record { lowest = omega arith; highest = omega arith; free = λ q a b. refl }, (λ b h. omega (arith, h.highest))), refl, refl, refl); notes = refl },
-    refl,
-    (
-      Noted (New 1 0x7fffffffe000 0) ∷ Used true (1, 0x7fffffffe) ∷ [],
-      1 ∷ 2 ∷ 3 ∷ [],
-      record { answer = (Stopped 0x7ffffffff Denied, (New 1 0x7fffffffe000 0 ∷ [], Served, [], (refl, record { coming = []; making = New 1 0x7fffffffe000 0 ∷ []; whole = refl; comes_in = refl; made = record { sought = []; frame = 0; seeks = refl; in_range = omega arith; free = refl; whole = refl } }), refl, ([], Denied, [], (refl, refl), refl, (refl, refl))), refl, refl); notes = refl },
-      (1 ∷ 2 ∷ 3 ∷ [], refl, (1 ∷ 2 ∷ 3 ∷ [], refl, refl)),
-      (
-        Used false (1, 0x7fffffffe) ∷ [],
-        1 ∷ 2 ∷ 3 ∷ [],
-        record { answer = (Whole, 1 ∷ [], ([], Served, [], (refl, record { coming = []; making = []; whole = refl; comes_in = refl; made = refl }), refl, (refl, refl)), (refl, (refl, tt)), refl, refl); notes = refl },
-        (1 ∷ 2 ∷ 3 ∷ [], refl, refl),
-        tt,
-      ),
-    ),
+    Used false (1, 0x7fffffffe) ∷ [],
+    1 ∷ 2 ∷ 3 ∷ [],
+    record { answer = (Whole, 1 ∷ [], ([], Served, [], (refl, record { coming = []; making = []; whole = refl; comes_in = refl; made = refl }), refl, (refl, refl)), (refl, (refl, tt)), refl, refl); notes = refl },
+    (1 ∷ 2 ∷ 3 ∷ [], refl, refl),
+    tt,
   ),
 ))

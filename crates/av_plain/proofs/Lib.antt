@@ -8,8 +8,8 @@ pub mod AccessLaws
 pub mod NoSwapLaws
 pub mod TwoWrites
 pub mod SoundLaws
-pub mod RangeLaws
 pub mod TakingLaws
+pub mod RangeLaws
 pub mod SoundEntries
 pub mod SoundChanges
 pub mod SoundAccess
@@ -33,3 +33,4 @@ pub mod ChangedRows
 pub mod FreeList
 pub mod SoundRow
 pub mod ExitRows
+pub mod RangeRows

@@ -1,10 +1,15 @@
 -- Laws of ranges of a process's pages: whether one is mapped, how many are before the first that isn't, and whether there is room.
-use Rattle.std.proofs.Common.{◌≡◌, ◌⊎◌, inl, inr, ℕ, zero, suc, ◌+◌, ◌<◌, ◌≤◌, Bool, true, false, cond, not, ◌&&◌, ◌||◌, nat_le, nat_lt, ◌==◌, refl, sym, ap, ◌∙◌, arith}
+use Rattle.std.proofs.Common.{◌≡◌, ◌⊎◌, inl, inr, ℕ, zero, suc, ◌+◌, ◌<◌, ◌≤◌, Bool, true, false, cond, not, ◌&&◌, ◌||◌, nat_le, nat_lt, ◌==◌, refl, sym, ap, ◌∙◌, arith, [], Option, Some, None, is_some}
 use Rattle.std.proofs.lemmas.Bool.Decides.{nat_tests}
 use Rattle.std.proofs.lemmas.Bool.{false≢true}
 use Rattle.av_vma.specs.Gap.{low_page, top_page, IsRoom}
-use Rattle.av_plain.specs.World.{Process, is_mapped, meets, leading}
+use Rattle.av_vma.specs.Ranges.{within}
+use Rattle.av_plain.specs.World.{World, Process, pages, is_mapped, meets, leading}
+use Rattle.av_plain.specs.Ledger.{Ledger, Entry, entry}
+use Rattle.av_plain.specs.Taking.{keys_in}
 use Rattle.av_plain.specs.Step.{is_room}
+use Rattle.av_plain.specs.Sound.{AtPages}
+use Rattle.av_plain.proofs.TakingLaws.{range-empty}
 
 -- ---- whether a page of a range is mapped
 
@@ -155,3 +160,18 @@ is-no_room q n page never = by (is_room q n page) refl
     by : (b : Bool) → is_room q n page ≡ b → b ≡ false
     by true e = absurd (never (room-is q n page e))
     by false e = refl
+
+-- ---- a range that is not mapped has no entries
+
+pub unmapped-none : (w : World) (l : Ledger) (p from n page : ℕ) → AtPages w l → meets (pages w p) from n ≡ false → within from n page ≡ true → entry l (p, page) ≡ None
+unmapped-none w l p from n page at free inside =
+    let low : from ≤ page = grind (arith, nat_tests, inside) in
+    let high : page < from + n = grind (arith, nat_tests, inside) in
+    by (entry l (p, page)) refl (meets-none (pages w p) from n page free low high)
+  where
+    by : (o : Option Entry) → entry l (p, page) ≡ o → is_mapped (pages w p) page ≡ false → entry l (p, page) ≡ None
+    by None is free = is
+    by (Some e) is free = absurd (false≢true (sym free ∙ at p page (ap is_some is)))
+
+pub unmapped-keys : (w : World) (l : Ledger) (p from n : ℕ) → AtPages w l → meets (pages w p) from n ≡ false → keys_in l p from n ≡ []
+unmapped-keys w l p from n at free = range-empty l p from n (λ page inside. unmapped-none w l p from n page at free inside)

@@ -1,5 +1,5 @@
 -- Entries taken away, from the least key on: what is left, and what goes with an entry.
-use Rattle.std.proofs.Common.{◌≡◌, ℕ, ◌+◌, ◌<◌, ◌≤◌, Bool, true, false, cond, not, ◌&&◌, ◌||◌, T, List, [], ◌∷◌, ◌++◌, map, filter, Option, Some, None, is_some, refl, sym, ap, subst, ◌∙◌, arith, ◌==◌}
+use Rattle.std.proofs.Common.{◌≡◌, ℕ, ◌+◌, ◌-◌, ◌<◌, ◌≤◌, Bool, true, false, cond, not, ◌&&◌, ◌||◌, T, List, [], ◌∷◌, ◌++◌, map, filter, Option, Some, None, is_some, refl, sym, ap, subst, ◌∙◌, arith, ◌==◌}
 use Rattle.std.proofs.lemmas.Bool.Decides.{nat_tests}
 use Rattle.std.proofs.lemmas.Bool.{false≢true}
 use Rattle.std.specs.List.{list_any}
@@ -176,9 +176,9 @@ taking-least test l k e sorted is passes least =
     ap (taking l) (keys_from_least keys_total test k e l.entries (λ x y t. same_key-is x y (ap is_eq t)) sorted is passes least)
     ∙ ap (λ es. taking_one l k ++ taking (after_all l (taking_one l k)) (filter test (map (λ (e : Key × Entry). e.0) es))) (sym (entries-taking_one l k))
 
--- afterwards a key that passes has no entry, and the others' entries stay
-pub entry-that : (test : Key → Bool) (l : Ledger) (q : Key) → entry (after_all l (taking l (keys_that test l))) q ≡ cond (test q) None (entry l q)
-entry-that test l q = entry-taking l (keys_that test l) q ∙ by (entry l q) refl
+-- a key is among those that pass where it passes and has an entry
+pub listed-that : (test : Key → Bool) (l : Ledger) (q : Key) → list_any (same_key q) (keys_that test l) ≡ (test q && is_some (entry l q))
+listed-that test l q = passing (map (λ (e : Key × Entry). e.0) l.entries) ∙ ap (λ b. test q && b) (found l.entries)
   where
     merged : (b c t r : Bool) → (c ≡ true → b ≡ t) → (b && c || t && r) ≡ (t && (c || r))
     merged true true true r h = refl
@@ -188,33 +188,30 @@ entry-that test l q = entry-taking l (keys_that test l) q ∙ by (entry l q) ref
     merged true false t r h = refl
     merged false false t r h = refl
 
+    none : (b : Bool) → false ≡ (b && false)
+    none true = refl
+    none false = refl
+
     passing : (ks : List Key) → list_any (same_key q) (filter test ks) ≡ (test q && list_any (same_key q) ks)
     passing [] = none (test q)
-      where
-        none : (b : Bool) → false ≡ (b && false)
-        none true = refl
-        none false = refl
     passing (k ∷ ks) = front (test k) ∙ ap (λ x. test k && same_key q k || x) (passing ks) ∙ merged (test k) (same_key q k) (test q) (list_any (same_key q) ks) (λ is. ap test (sym (same_key-is q k is)))
       where
         front : (b : Bool) → list_any (same_key q) (cond b (k ∷ filter test ks) (filter test ks)) ≡ (b && same_key q k || list_any (same_key q) (filter test ks))
         front true = refl
         front false = refl
 
-    found : (e : Entry) (es : List (Key × Entry)) → find key_cmp q es ≡ Some e → list_any (same_key q) (map (λ (x : Key × Entry). x.0) es) ≡ true
-    found e [] is = cc
-    found e (x ∷ es) is = elim (same_key q x.0) as (λ b. cond b (Some x.1) (find key_cmp q es) ≡ Some e → (b || list_any (same_key q) (map (λ (x : Key × Entry). x.0) es)) ≡ true) [ true ↦ λ is. refl | false ↦ λ is. found e es is ] is
+    found : (es : List (Key × Entry)) → list_any (same_key q) (map (λ (e : Key × Entry). e.0) es) ≡ is_some (find key_cmp q es)
+    found [] = refl
+    found (e ∷ es) = elim (same_key q e.0) as (λ b. (b || list_any (same_key q) (map (λ (e : Key × Entry). e.0) es)) ≡ is_some (cond b (Some e.1) (find key_cmp q es))) [ true ↦ refl | false ↦ found es ]
 
-    nothing : (b : Bool) → ◌≡◌ {A = Option Entry} (cond b None None) None
-    nothing true = refl
-    nothing false = refl
-
-    whole : (b : Bool) → (b && true) ≡ b
-    whole true = refl
-    whole false = refl
-
-    by : (o : Option Entry) → entry l q ≡ o → cond (list_any (same_key q) (keys_that test l)) None (entry l q) ≡ cond (test q) None (entry l q)
-    by None is = ap (cond (list_any (same_key q) (keys_that test l)) None) is ∙ nothing _ ∙ sym (ap (cond (test q) None) is ∙ nothing (test q))
-    by (Some e) is = ap (λ b. cond b None (entry l q)) (passing (map (λ (x : Key × Entry). x.0) l.entries) ∙ ap (λ b. test q && b) (found e l.entries is) ∙ whole (test q))
+-- afterwards a key that passes has no entry, and the others' entries stay
+pub entry-that : (test : Key → Bool) (l : Ledger) (q : Key) → entry (after_all l (taking l (keys_that test l))) q ≡ cond (test q) None (entry l q)
+entry-that test l q = entry-taking l (keys_that test l) q ∙ ap (λ b. cond b None (entry l q)) (listed-that test l q) ∙ gone (test q) (entry l q)
+  where
+    gone : (b : Bool) (o : Option Entry) → cond (b && is_some o) None o ≡ cond b None o
+    gone true None = refl
+    gone true (Some e) = refl
+    gone false o = refl
 
 -- ---- the entries of a process
 
@@ -261,6 +258,10 @@ keys_in-is l p from n = both (map (λ (e : Key × Entry). e.0) l.entries)
     both [] = refl
     both (k ∷ ks) = either k (filter (λ k. k.0 == p) ks) (filter (in_range p from n) ks) (k.0 == p) (both ks)
 
+-- its members are the process's keys of the range that have an entry
+pub keys_in-has : (l : Ledger) (p from n q page : ℕ) → list_any (same_key (q, page)) (keys_in l p from n) ≡ ((q == p && within from n page) && is_some (entry l (q, page)))
+keys_in-has l p from n q page = ap (list_any (same_key (q, page))) (keys_in-is l p from n) ∙ listed-that (in_range p from n) l (q, page)
+
 in_range-is : (p from n : ℕ) (k : Key) → in_range p from n k ≡ true → (k.0 ≡ p) × (within from n k.1 ≡ true)
 in_range-is p from n k h = (same, inside)
   where
@@ -270,9 +271,12 @@ in_range-is p from n k h = (same, inside)
     inside : within from n k.1 ≡ true
     inside = grind (arith, nat_tests, h)
 
--- a range without entries has none taken
+-- a range without entries has none, and none is taken
+pub range-empty : (l : Ledger) (p from n : ℕ) → ((page : ℕ) → within from n page ≡ true → entry l (p, page) ≡ None) → keys_in l p from n ≡ []
+range-empty l p from n none = keys_in-is l p from n ∙ none_that (in_range p from n) l (λ k t. let is = in_range-is p from n k t in subst (λ x. entry l (x, k.1) ≡ None) (sym is.0) (none k.1 is.1))
+
 pub range-done : (l : Ledger) (p from n : ℕ) → ((page : ℕ) → within from n page ≡ true → entry l (p, page) ≡ None) → taking l (keys_in l p from n) ≡ []
-range-done l p from n none = ap (taking l) (keys_in-is l p from n ∙ none_that (in_range p from n) l (λ k t. let is = in_range-is p from n k t in subst (λ x. entry l (x, k.1) ≡ None) (sym is.0) (none k.1 is.1)))
+range-done l p from n none = ap (taking l) (range-empty l p from n none)
 
 -- the entry of its least page goes first
 pub range-least : (l : Ledger) (p from n page : ℕ) (e : Entry) → T (is_sorted key_cmp l.entries) → entry l (p, page) ≡ Some e → within from n page ≡ true → ((q : ℕ) → from ≤ q → q < page → entry l (p, q) ≡ None)
@@ -295,6 +299,21 @@ range-least l p from n page e sorted is inside least =
 -- afterwards it has none, and the other entries stay
 pub entry-range : (l : Ledger) (p from n q page : ℕ) → entry (after_all l (taking l (keys_in l p from n))) (q, page) ≡ cond (q == p && within from n page) None (entry l (q, page))
 entry-range l p from n q page = ap (λ ks. entry (after_all l (taking l ks)) (q, page)) (keys_in-is l p from n) ∙ entry-that (in_range p from n) l (q, page)
+
+-- where its first k pages have no entry, a range begins behind them
+pub range-behind : (l : Ledger) (p from n k : ℕ) → k ≤ n → ((page : ℕ) → from ≤ page → page < from + k → entry l (p, page) ≡ None) → keys_in l p from n ≡ keys_in l p (from + k) (n - k)
+range-behind l p from n k few none = keys_in-is l p from n ∙ same-keys (in_range p from n) (in_range p (from + k) (n - k)) l (λ q some. alike q (in_range p from k q) refl some) ∙ sym (keys_in-is l p (from + k) (n - k))
+  where
+    never : (o : Option Entry) → o ≡ None → is_some o ≡ true → ⊥
+    never o e h = cc
+
+    alike : (q : Key) (b : Bool) → in_range p from k q ≡ b → is_some (entry l q) ≡ true → in_range p from n q ≡ in_range p (from + k) (n - k) q
+    alike q true is some =
+        let ends = in_range-is p from k q is in
+        let low : from ≤ q.1 = grind (arith, nat_tests, ends.1) in
+        let high : q.1 < from + k = grind (arith, nat_tests, ends.1) in
+        absurd (never (entry l q) (subst (λ x. entry l (x, q.1) ≡ None) (sym ends.0) (none q.1 low high)) some)
+    alike q false is some = grind (arith, nat_tests, is, few)
 
 -- where all its entries lie below a page, a process is the range up to there
 pub exit-is-range : (l : Ledger) (p n : ℕ) → ((page : ℕ) → is_some (entry l (p, page)) ≡ true → page < n) → keys_of_process l p ≡ keys_in l p 0 n

@@ -1,6 +1,8 @@
 -- Worked rows: commands with the replies that they must have, and some that they must not have. Which row would fail if a definition were wrong:
 --   the gap rule: part_denied, all_mapped, mapped_too_low, no_room_though_empty
---   refusals and their order: refusals, crowded, wrong_order, wrong_order_in_a_crowd
+--   a place that is named (`Goes`, `is_room`): places, fixed_over
+--   refusals and their order: refusals, crowded, wrong_order, wrong_order_in_a_crowd, range_refusals, fixed_over, past_a_hole, replaced_though_mapped, address_before_length, low_before_address
+--   a protection changed (`protected`, `leading`): protected_part, past_a_hole, protected_past_a_hole
 --   protections: two_processes, part_denied, readable, denied_though_allowed
 --   what a page needs (`need`, `IsMade`): zero_first, no_note, note_too_many, page_below, unnoted_zero, frame_for_a_read
 --   when a frame is shared (`is_shared`): copies, load_and_copy, no_copy_of_shared, copy_for_a_read
@@ -8,20 +10,21 @@
 --   when a slot is dropped (`spare`, `is_full`): loads, load_to_write, load_when_full, load_when_half_full, maps_again, drop_missing, drop_though_not_full, drop_in_flight
 --   where an access stops (`RunsOut`, `IsLost`, `touched`, `served`): one_frame, no_copy, no_load, load_without_copy, starved_though_free, bus_without_a_frame, bus_at_a_frame
 --   the numbers of an out-of-memory (`out_of`): one_frame, no_copy, wrong_numbers
---   the next memories (`written`, `stored`, `replaced`, `with_loads`): first_run, wrong_place, written_in_vain, denied_write, refused_write, leaked, wrong_load, load_unclaimed
+--   the next memories (`written`, `stored`, `replaced`, `with_loads`): first_run, places, fixed_over, wrong_place, written_in_vain, denied_write, refused_write, leaked, wrong_load, load_unclaimed
+--   entries taken in a range (`keys_in`, `clearing`): fixed_over, entry_kept, byte_kept, munmap, fixed
 --   entries taken at an exit (`taking`, `drops`, `end_process`): exit_frees, exit_shared, exit_drops, exit_in_writeback, exit_paged_out, exit, exit_again
---   the runs of `maps` (`AreMaps`): exit_frees, two_runs, split_run, joined_runs, run_left_out, run_too_long, falling_runs, part_of_page
+--   the runs of `maps` (`AreMaps`): exit_frees, two_runs, protected_part, past_a_hole, split_run, joined_runs, run_left_out, run_too_long, falling_runs, part_of_page
 --   the numbers of `stat` (`totals`): exit_frees, exit_and_again, exit_shared, exit_drops, exit_in_writeback, exit_paged_out, stat
 --   the next ledger (`after`): out_and_back, copied_and_gone
 --   the choice of frames (`Chooses`): wrong_frame, taken_and_freed, dropped_and_freed, exit_and_again
-use Rattle.std.specs.Prelude.{◌≡◌, ℕ, Bool, true, false, ◌==◌, ◌||◌, if◌then◌else◌, List, [], ◌∷◌, map, length, Some, None}
+use Rattle.std.specs.Prelude.{◌≡◌, ℕ, ◌-◌, Bool, true, false, ◌==◌, ◌||◌, if◌then◌else◌, List, [], ◌∷◌, map, length, Some, None}
 use Rattle.av_vma.specs.declared.area.Prot.{Prot}
 use Rattle.av_vma.specs.declared.slot.Slot.{Slot}
 use Rattle.av_vma.specs.Ranges.{numbers}
-use Rattle.av_trace.specs.declared.command.Place.TheVariants.{Auto}
+use Rattle.av_trace.specs.declared.command.Place.TheVariants.{Auto, At, Fixed, NoReplace}
 use Rattle.av_trace.specs.declared.command.Command.{Command}
-use Rattle.av_trace.specs.declared.command.Command.TheVariants.{Spawn, Exit, Mmap, Read, Write, Maps, Stat}
-use Rattle.av_trace.specs.declared.reply.Errno.TheVariants.{Esrch, Eagain, Enomem, Eexist, Einval}
+use Rattle.av_trace.specs.declared.command.Command.TheVariants.{Spawn, Exit, Mmap, Munmap, Mprotect, Read, Write, Maps, Stat}
+use Rattle.av_trace.specs.declared.reply.Errno.TheVariants.{Eperm, Esrch, Eagain, Enomem, Eexist, Einval}
 use Rattle.av_trace.specs.declared.reply.Note.{Note}
 use Rattle.av_trace.specs.declared.reply.Note.TheVariants.{Zeroed, New, Copied, Loaded, Mapped, Put, Unmapped, Started, Written, Failed, Dropped, Kept, Aged}
 use Rattle.av_trace.specs.declared.reply.Cause.TheVariants.{Writeback, Referenced, NoSlot, WriteStarted}
@@ -31,7 +34,7 @@ use Rattle.av_trace.specs.declared.reply.Row.TheVariants.{Run}
 use Rattle.av_trace.specs.declared.reply.Totals.{Totals}
 use Rattle.av_trace.specs.declared.reply.Answer.{Answer}
 use Rattle.av_trace.specs.declared.reply.Answer.TheVariants.{Done, MapAt, Data, Refused, Segv, Bus, Oom, Runs as RunCount, Counted}
-use Rattle.av_plain.specs.World.{Process, Page, nothing, zeros}
+use Rattle.av_plain.specs.World.{Process, Page, nothing, zeros, replaced}
 use Rattle.av_plain.specs.Ledger.{Ledger, Setting, Cached, Entry, Zero, InFrame, InSlot, fresh}
 use Rattle.av_plain.specs.Event.{Event, Noted, Taken, Used, Forked, Moved, TurnedOn, TurnedOff, after}
 use Rattle.av_plain.specs.Step.{IsLegal}
@@ -230,6 +233,81 @@ two_runs =
     ∷ says (Mmap 1 4096 read_write Auto) (MapAt 0x7fffffffb000) []
     ∷ reports (Maps 1) (RunCount 2) (Run 0x7fffffffb000 0x7fffffffe000 read_write ∷ Run 0x7fffffffe000 0x7ffffffff000 read_only ∷ []) ∷ []
 
+-- part of a mapping is protected: a write stops there, and what came before stays
+abbrev pub protected_part : List Exchange
+protected_part =
+    says (Spawn 1) Done []
+    ∷ says (Mmap 1 8192 read_write Auto) (MapAt 0x7fffffffd000) []
+    ∷ says (Mprotect 1 0x7fffffffe000 4096 read_only) Done []
+    ∷ says (Write 1 0x7fffffffdffe (1 ∷ 2 ∷ 3 ∷ 4 ∷ [])) (Segv 2 []) (New 1 0x7fffffffd000 0 ∷ [])
+    ∷ says (Read 1 0x7fffffffdffe 4) (Data (1 ∷ 2 ∷ 0 ∷ 0 ∷ [])) (Zeroed 1 0x7fffffffe000 ∷ [])
+    ∷ reports (Maps 1) (RunCount 2) (Run 0x7fffffffd000 0x7fffffffe000 read_write ∷ Run 0x7fffffffe000 0x7ffffffff000 read_only ∷ []) ∷ []
+
+-- a page in the middle is unmapped. The pages before it are protected and those after it aren't: a write there is answered so.
+-- Where the last page, rounded up, ends at 2^64 nothing is protected
+abbrev pub past_a_hole : Answer → List Note → List Exchange
+past_a_hole answer notes =
+    says (Spawn 1) Done []
+    ∷ says (Mmap 1 12288 read_write Auto) (MapAt 0x7fffffffc000) []
+    ∷ says (Munmap 1 0x7fffffffd000 4096) Done []
+    ∷ says (Mprotect 1 0x7fffffffc000 12288 read_only) (Refused Enomem) []
+    ∷ reports (Maps 1) (RunCount 2) (Run 0x7fffffffc000 0x7fffffffd000 read_only ∷ Run 0x7fffffffe000 0x7ffffffff000 read_write ∷ [])
+    ∷ says (Write 1 0x7fffffffe000 (1 ∷ [])) answer notes
+    ∷ says (Mprotect 1 0x7fffffffc000 18446603336221208577 read_write) (Refused Enomem) []
+    ∷ says (Write 1 0x7fffffffc000 (1 ∷ [])) (Segv 0 []) []
+    ∷ says (Mprotect 1 0x7fffffffc001 0 read_only) (Refused Einval) []
+    ∷ says (Mprotect 1 0 0 read_only) Done [] ∷ []
+
+-- a hint is rounded down and taken where there is room; else the mapping goes where it goes without one. All may be unmapped at once
+abbrev pub places : List Exchange
+places =
+    says (Spawn 1) Done []
+    ∷ says (Mmap 1 8192 read_write (At 0x7fffffffe000)) (MapAt 0x7fffffffd000) []
+    ∷ says (Mmap 1 4096 read_write (Fixed 0x10000)) (MapAt 0x10000) []
+    ∷ says (Mmap 1 8192 read_write (At 0xf000)) (MapAt 0x7fffffffb000) []
+    ∷ says (Mmap 1 4096 read_write (At 0xffff)) (MapAt 0x7fffffffa000) []
+    ∷ says (Mmap 1 8192 read_write (At 0x30fff)) (MapAt 0x30000) []
+    ∷ says (Mmap 1 4096 read_write (NoReplace 0x7fffffffe000)) (Refused Eexist) []
+    ∷ says (Munmap 1 0x7fffffffe000 1) Done []
+    ∷ says (Read 1 0x7fffffffe000 1) (Segv 0 []) []
+    ∷ says (Mmap 1 4096 read_write (NoReplace 0x7fffffffe000)) (MapAt 0x7fffffffe000) []
+    ∷ says (Read 1 0x31000 1) (Data (0 ∷ [])) (Zeroed 1 0x31000 ∷ [])
+    ∷ says (Munmap 1 0 140737488351232) Done []
+    ∷ says (Read 1 0x31000 1) (Segv 0 []) [] ∷ []
+
+-- ranges that are refused, each by the first test that holds
+abbrev pub range_refusals : List Exchange
+range_refusals =
+    says (Spawn 1) Done []
+    ∷ says (Mmap 1 4096 read_write (Fixed 0x7ffffffff001)) (Refused Enomem) []
+    ∷ says (Mmap 1 4096 read_write (NoReplace 0x7ffffffff000)) (Refused Enomem) []
+    ∷ says (Mmap 1 4096 read_write (Fixed 0xf001)) (Refused Einval) []
+    ∷ says (Mmap 1 4096 read_write (Fixed 0xf000)) (Refused Eperm) []
+    ∷ says (Munmap 1 0x10001 4096) (Refused Einval) []
+    ∷ says (Munmap 1 0x10000 0) (Refused Einval) []
+    ∷ says (Munmap 1 0x1000 140737488351232) (Refused Einval) []
+    ∷ says (Mprotect 1 0x10001 18446744073709551615 read_write) (Refused Einval) []
+    ∷ says (Munmap 2 0x10001 0) (Refused Esrch) []
+    ∷ says (Mprotect 2 0x10001 0 read_write) (Refused Esrch) [] ∷ []
+
+-- a fixed place takes away what stood there, its frame too, and leaves the others: so many frames are free, and this byte is read, with
+-- these notes. One that may not replace a page is refused
+abbrev pub fixed_over : ℕ → ℕ → List Note → List Exchange
+fixed_over free b notes =
+    says (Spawn 1) Done []
+    ∷ says (Mmap 1 4096 read_write Auto) (MapAt 0x7fffffffe000) []
+    ∷ says (Write 1 0x7fffffffe000 (9 ∷ [])) Done (New 1 0x7fffffffe000 0 ∷ [])
+    ∷ says (Mmap 1 4096 read_write (NoReplace 0x20000)) (MapAt 0x20000) []
+    ∷ says (Write 1 0x20000 (7 ∷ [])) Done (New 1 0x20000 1 ∷ [])
+    ∷ says (Mmap 1 8192 read_write (NoReplace 0x1f000)) (Refused Eexist) []
+    ∷ says (Mmap 1 8192 read_write (Fixed 0x20000)) (MapAt 0x20000) []
+    ∷ says Stat (Counted (numbers_of 4 free 0 (4 - free) 1)) []
+    ∷ says (Read 1 0x20000 1) (Data (b ∷ [])) notes
+    ∷ says (Write 1 0x21000 (8 ∷ [])) Done (New 1 0x21000 1 ∷ [])
+    ∷ says (Munmap 1 0x20000 4096) Done []
+    ∷ says (Read 1 0x21000 1) (Data (8 ∷ [])) []
+    ∷ says (Read 1 0x7fffffffe000 1) (Data (9 ∷ [])) [] ∷ []
+
 -- ---- from states that later commands lead to
 
 -- a page whose first byte is this one, with zeros behind it
@@ -423,6 +501,13 @@ one_written = record {
 -- nothing lives, and frame 0 was given back last
 abbrev pub all_gone : State
 all_gone = record { world = []; ledger = fresh; free = 0 ∷ 1 ∷ 2 ∷ 3 ∷ [] }
+
+-- the page is unmapped, or another is mapped over it
+abbrev pub page_gone : State
+page_gone = record { world = (1, replaced (with_byte 7) 0x7fffffffe 1 nothing) ∷ []; ledger = fresh; free = 0 ∷ 1 ∷ 2 ∷ 3 ∷ [] }
+
+abbrev pub page_anew : State
+page_anew = record { world = (1, replaced (with_byte 7) 0x7fffffffe 1 (λ _. Some (zeros read_only))) ∷ []; ledger = fresh; free = 0 ∷ 1 ∷ 2 ∷ 3 ∷ [] }
 
 -- the topmost page of process 1 is for reading only, the two below for reading and writing
 abbrev pub two_kinds : Process

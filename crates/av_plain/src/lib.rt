@@ -30,7 +30,7 @@ ghost use Rattle.av_plain.specs.Determined.{Tells, IsClaimed, is_bus, NoBus, Sam
 pub use rows::{
     a_page_in_writeback_is_sound, changed_exits_and_reports_are_refused,
     changed_replies_are_refused, changed_replies_of_swap_are_refused, changed_runs_are_refused,
-    exits_and_reports_run, ledger_rows_lead, rows_run, shared_rows_run, swap_rows_run,
+    exits_and_reports_run, ledger_rows_lead, ranges_run, rows_run, shared_rows_run, swap_rows_run,
 };
 
 /// Sound memories and a sound ledger are so after every legal reply, a refusal too.

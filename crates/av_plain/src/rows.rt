@@ -1,9 +1,9 @@
 //! The worked rows: what the definitions say of single runs. Each contract is a few rows, by name.
 
 ghost use Rattle.std.specs.Prelude.{List, [], ◌∷◌, true};
-ghost use Rattle.av_trace.specs.declared.command.Place.TheVariants.{Auto};
-ghost use Rattle.av_trace.specs.declared.command.Command.TheVariants.{Spawn, Exit, Mmap, Read, Write, Maps, Stat};
-ghost use Rattle.av_trace.specs.declared.reply.Errno.TheVariants.{Esrch, Eagain, Enomem, Eexist, Einval};
+ghost use Rattle.av_trace.specs.declared.command.Place.TheVariants.{Auto, Fixed, NoReplace};
+ghost use Rattle.av_trace.specs.declared.command.Command.TheVariants.{Spawn, Exit, Mmap, Munmap, Read, Write, Maps, Stat};
+ghost use Rattle.av_trace.specs.declared.reply.Errno.TheVariants.{Eperm, Esrch, Eagain, Enomem, Eexist, Einval};
 ghost use Rattle.av_trace.specs.declared.reply.Note.TheVariants.{Zeroed, New, Copied, Mapped, Dropped};
 ghost use Rattle.av_trace.specs.declared.reply.Row.TheVariants.{Entry};
 ghost use Rattle.av_trace.specs.declared.reply.Answer.TheVariants.{Done, MapAt, Data, Refused, Segv, Bus, Oom, Counted};
@@ -20,6 +20,7 @@ ghost use Rattle.av_plain.specs.Rows.{wrong_frame, wrong_place, written_in_vain,
 ghost use Rattle.av_plain.specs.Rows.{ledger_with, out_and_back, copied_and_gone, taken_and_freed, orphan};
 ghost use Rattle.av_plain.specs.Rows.{exit_frees, exit_and_again, two_runs, exit_shared, exit_drops, exit_in_writeback, exit_paged_out};
 ghost use Rattle.av_plain.specs.Rows.{Only, numbers_of, one_written, all_gone, two_protections};
+ghost use Rattle.av_plain.specs.Rows.{protected_part, past_a_hole, places, range_refusals, fixed_over, page_gone, page_anew, read_only};
 ghost use Rattle.av_plain.specs.Rows.{split_run, joined_runs, run_left_out, run_too_long, falling_runs, part_of_page};
 
 /// Runs from nothing on.
@@ -133,4 +134,26 @@ pub fn changed_exits_and_reports_are_refused()
     ensures stat { Only (machine 4) one_written Stat (answered (Counted (numbers_of 4 3 0 1 1)) []) one_written }
     ensures exit { Only (machine 4) one_written (Exit 1) (answered Done []) all_gone }
     ensures exit_again { Only (machine 4) all_gone (Exit 1) (answered (Refused Esrch) []) all_gone }
+{}
+
+/// Parts of mappings that are unmapped or protected, and mappings at an address.
+pub fn ranges_run()
+    ensures protected_part { Runs 4 protected_part }
+    ensures past_a_hole { Runs 4 (past_a_hole Done (New 1 0x7fffffffe000 0 ∷ [])) }
+    ensures places { Runs 4 places }
+    ensures range_refusals { Runs 4 range_refusals }
+    ensures fixed_over { Runs 4 (fixed_over 3 0 (Zeroed 1 0x20000 ∷ [])) }
+{}
+
+/// Runs and replies that differ from these in one place may not be; `munmap` and a fixed `mmap` have one reply, and
+/// leave one state.
+pub fn changed_ranges_are_refused()
+    ensures protected_past_a_hole { Refutes 4 (past_a_hole (Segv 0 []) []) }
+    ensures entry_kept { Refutes 4 (fixed_over 2 0 (Zeroed 1 0x20000 ∷ [])) }
+    ensures byte_kept { Refutes 4 (fixed_over 3 7 (Zeroed 1 0x20000 ∷ [])) }
+    ensures replaced_though_mapped { Forbids (machine 4) untouched (Mmap 1 4096 read_write (NoReplace 0x7fffffffe000)) (answered (MapAt 0x7fffffffe000) []) }
+    ensures address_before_length { Forbids (machine 4) (crowd 1) (Mmap 1 4096 read_write (Fixed 0x7ffffffff001)) (answered (Refused Einval) []) }
+    ensures low_before_address { Forbids (machine 4) (crowd 1) (Mmap 1 4096 read_write (Fixed 1)) (answered (Refused Eperm) []) }
+    ensures munmap { Only (machine 4) one_written (Munmap 1 0x7fffffffe000 1) (answered Done []) page_gone }
+    ensures fixed { Only (machine 4) one_written (Mmap 1 4096 read_only (Fixed 0x7fffffffe000)) (answered (MapAt 0x7fffffffe000) []) page_anew }
 {}
