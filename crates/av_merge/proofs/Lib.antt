@@ -1,3 +1,4 @@
 pub mod Joins
 pub mod Mappings
 pub mod Places
+pub mod Protects
