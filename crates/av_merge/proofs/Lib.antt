@@ -2,3 +2,4 @@ pub mod Joins
 pub mod Mappings
 pub mod Places
 pub mod Protects
+pub mod Reaches

@@ -135,7 +135,7 @@ pub record IsJoin (left right : Area) : Type 0 where
   pub index : index_of left (past_of left) ≡ right.pgoff
   pub anon : left.anon ≡ right.anon
 
-same_bit : (a b : Bool) → beq a b ≡ true → a ≡ b
+pub same_bit : (a b : Bool) → beq a b ≡ true → a ≡ b
 same_bit true true e = refl
 same_bit true false e = absurd (false≢true e)
 same_bit false true e = absurd (false≢true e)
