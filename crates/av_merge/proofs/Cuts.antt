@@ -1,5 +1,5 @@
 -- A cut, over pages alone: what it leaves, and where it changes nothing.
-use Rattle.std.proofs.Common.{◌≡◌, ℕ, ◌+◌, ◌-◌, ◌*◌, ◌/◌, ◌<◌, ◌≤◌, max, min, nat_lt, true, false, cond, if◌then◌else◌, List, ◌⊎◌, inl, inr, Option, Some, None, is_some, option_map, IfSome, IsSomeAnd, refl, sym, ap, subst, ◌∙◌, arith}
+use Rattle.std.proofs.Common.{◌≡◌, ℕ, ◌+◌, ◌-◌, ◌*◌, ◌/◌, ◌<◌, ◌≤◌, max, min, nat_lt, true, false, cond, if◌then◌else◌, List, inl, inr, Option, Some, None, is_some, option_map, IfSome, IsSomeAnd, refl, sym, ap, subst, ◌∙◌, arith}
 use Rattle.std.proofs.lemmas.Bool.{both_ways, false_from_ne_true, ltb-true, ltb-false, cases_lt, lt-ltb, le-ltb}
 use Rattle.av_vma.specs.declared.area.Area.{Area}
 use Rattle.av_vma.specs.Join.{first_of, index_of, past_of}
@@ -7,8 +7,8 @@ use Rattle.av_vma.specs.Ranges.{with_at}
 use Rattle.av_vmatree.specs.declared.span.Span.{Span}
 use Rattle.av_vmatree.specs.Spans.{IsFree, span_of, taken, without_area}
 use Rattle.av_merge.specs.Pages.{Pages, cut_at, has_page, pages_by, part_of, placed}
-use Rattle.av_merge.specs.Process.{AreAreasOf, IsAreaOf, IsWhole}
-use Rattle.av_merge.proofs.Places.{has_from, has_parts, holds_is, is_on, on_span, one_area, pages_without, rest_free, taken_is}
+use Rattle.av_merge.specs.Process.{AreAreasOf, IsAreaOf, IsWhole, NoneCrosses}
+use Rattle.av_merge.proofs.Places.{area_in, has_from, has_parts, holds_is, is_on, on_span, one_area, pages_without, rest_free, taken_is}
 
 -- each area is whole and on exactly its pages
 pub record AreOn (on : Pages) : Type 0 where
@@ -55,8 +55,8 @@ uncut on at are none page = each (on page) refl
     each : (o : Option Area) → on page ≡ o → o ≡ option_map (part_of at page) o
     each None e = refl
     each (Some area) e = ap Some (sym (part_is at page area (are.whole page area e) (are.has page area e) (λ low high.
-      let there = none area (are.one page at area e (has_from area at (omega arith) high)) in
-      omega arith)))
+        let there = none area (are.one page at area e (has_from area at (omega arith) high)) in
+        omega arith)))
 
 -- the two parts of an area that a cut crosses
 abbrev pub lower_of : ℕ → Area → Area
@@ -94,9 +94,9 @@ module _ (on : Pages) (at : ℕ) (area : Area) (are : AreOn on) (there : on at �
   other_stays : has_page area page ≡ false → (o : Option Area) → on page ≡ o → o ≡ option_map (part_of at page) o
   other_stays out None e = refl
   other_stays out (Some other) e = ap Some (sym (part_is at page other (are.whole page other e) (are.has page other e) (λ low high.
-    let there' = are.one page at other e (has_from other at (omega arith) high) in
-    let same : area ≡ other = cc in
-    both_ways _ out (ap (λ a. has_page a page) same ∙ are.has page other e))))
+      let there' = are.one page at other e (has_from other at (omega arith) high) in
+      let same : area ≡ other = cc in
+      both_ways _ out (ap (λ a. has_page a page) same ∙ are.has page other e))))
 
   outside : has_page (upper_of at area) page ≡ false → has_page (lower_of at area) page ≡ false → without area on page ≡ cut_at at on page
   outside h k = elim (has_page area page) as (λ b. has_page area page ≡ b → cond b None (on page) ≡ cut_at at on page) [
@@ -183,3 +183,59 @@ module _ (p n at : ℕ) (areas : ℕ → Option Area) (spans : List Span) (area 
         pages'' page
         ∙ ap (cond (has_page (upper_of at area) page) (Some (upper_of at area))) (lower_is page)
         ∙ cut_through (pages_by areas spans) at area (are_on p areas spans stands) (on_span p areas spans n c.span area at stands c.there used (let e = c.is.from in let low = c.low in omega arith) (let e = c.is.to in let high = c.high in omega arith)) c.low page
+
+-- ---- no area crosses
+
+module _ (p at : ℕ) (areas : ℕ → Option Area) (spans : List Span) (stands : AreAreasOf p areas spans) where
+  -- the area on the page begins with it exactly where none crosses
+  pub none_from : ((area : Area) → pages_by areas spans at ≡ Some area → at ≤ first_of area) → NoneCrosses at spans
+  none_from starts n = each (span_of spans n) refl
+    where
+      each : (o : Option Span) → span_of spans n ≡ o → IfSome o (λ s. s.from < at → s.to ≤ at)
+      each None e = tt
+      each (Some s) e = λ low. elim (cases_lt at s.to) [
+        | inl high ↦
+            let i = area_in p areas spans n s stands e in
+            let first = starts i.area (on_span p areas spans n s i.area at stands e i.area_is (omega arith) high) in
+            let from = i.is.from in
+            absurd (omega arith)
+        | inr past ↦ past
+      ]
+
+  pub none_starts : NoneCrosses at spans → (area : Area) → pages_by areas spans at ≡ Some area → at ≤ first_of area
+  none_starts none area e =
+      let on = is_on p areas spans at area stands e in
+      let past = subst (λ o. IfSome o (λ s. s.from < at → s.to ≤ at)) on.span_is (none on.number) in
+      let high : at < past_of area = (has_parts area at on.has).1 in
+      let from = on.is.from in
+      let to = on.is.to in
+      elim (cases_lt on.span.from at) [ inl low ↦ (let k = past low in absurd (omega arith)) | inr first ↦ omega arith ]
+
+-- after a cut, an area begins with the page
+pub cut_starts : (on : Pages) (at : ℕ) (area : Area) → cut_at at on at ≡ Some area → at ≤ first_of area
+cut_starts on at area e = each (on at) e
+  where
+    each : (o : Option Area) → option_map (part_of at at) o ≡ Some area → at ≤ first_of area
+    each None e = cc
+    each (Some b) e =
+        let same : record b { start = max b.start (4096 * at); pgoff = b.pgoff + (at - first_of b) } ≡ area = (let k : part_of at at b ≡ area = cc in rw (le-ltb at at (omega arith)) at k) in
+        let start : max b.start (4096 * at) ≡ area.start = ap (λ (a : Area). a.start) same in
+        omega arith
+
+-- a cut at another page makes none that crosses
+pub cut_keeps : (on : Pages) (at page : ℕ) → ((area : Area) → on page ≡ Some area → page ≤ first_of area) → (area : Area) → cut_at at on page ≡ Some area → page ≤ first_of area
+cut_keeps on at page starts area e = each (on page) refl e
+  where
+    each : (o : Option Area) → on page ≡ o → option_map (part_of at page) o ≡ Some area → page ≤ first_of area
+    each None is e = cc
+    each (Some b) is e =
+        let first = starts b is in
+        elim (nat_lt page at) as (λ v. cond v (record b { end = min b.end (4096 * at) }) (record b { start = max b.start (4096 * at); pgoff = b.pgoff + (at - first_of b) }) ≡ area → page ≤ first_of area) [
+          | true ↦ λ same. let start : b.start ≡ area.start = ap (λ (a : Area). a.start) same in omega arith
+          | false ↦ λ same. let start : max b.start (4096 * at) ≡ area.start = ap (λ (a : Area). a.start) same in omega arith
+        ] (let k : part_of at page b ≡ area = cc in k)
+
+-- where none crosses, a cut at another page leaves none that crosses
+pub none_after : (p at page : ℕ) (areas areas' : ℕ → Option Area) (spans spans' : List Span) → AreAreasOf p areas spans → AreAreasOf p areas' spans' → NoneCrosses page spans → ((q : ℕ) → pages_by areas' spans' q ≡ cut_at at (pages_by areas spans) q) → NoneCrosses page spans'
+none_after p at page areas areas' spans spans' stands stands' none pages =
+    none_from p page areas' spans' stands' (λ area e. cut_keeps (pages_by areas spans) at page (none_starts p page areas spans stands none) area (sym (pages page) ∙ e))

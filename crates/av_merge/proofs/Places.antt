@@ -1,18 +1,17 @@
 -- Which area is on a page: as the tree and the numbered areas say it, after one of them is put, taken out or changed.
-use Rattle.std.proofs.Common.{◌≡◌, ◌≢◌, ℕ, ◌+◌, ◌-◌, ◌*◌, ◌<◌, ◌≤◌, ◌==◌, nat_lt, nat_le, true, false, cond, ◌&&◌, List, [], ◌∷◌, Option, Some, None, is_some, option_map, IfSome, IsSomeAnd, refl, sym, ap, subst, ◌∙◌, arith}
-use Rattle.std.specs.Prelude.{option_and_then, IsSome}
+use Rattle.std.proofs.Common.{◌≡◌, ◌≢◌, ℕ, ◌+◌, ◌-◌, ◌<◌, ◌≤◌, ◌==◌, true, false, cond, List, [], ◌∷◌, Option, Some, None, is_some, option_map, IfSome, IsSomeAnd, refl, sym, ap, subst, ◌∙◌, arith}
+use Rattle.std.specs.Prelude.{option_and_then}
 use Rattle.std.proofs.lemmas.Bool.Decides.{nat_tests}
 use Rattle.std.proofs.lemmas.Grind.{common_steps}
-use Rattle.std.proofs.lemmas.Bool.{eqb-true, both_ways, false≢true}
+use Rattle.std.proofs.lemmas.Bool.{eqb-true, both_ways}
 use Rattle.av_vma.specs.declared.area.Area.{Area}
 use Rattle.av_vma.specs.Join.{first_of, past_of}
 use Rattle.av_vma.specs.Ranges.{within, with_at}
 use Rattle.av_vmatree.specs.declared.span.Span.{Span}
-use Rattle.av_vmatree.specs.Spans.{start_of, without_area, AreApart, AreDistinct, AreSpans, area_at, holds, span, span_of, taken, unless_area, IsFree}
+use Rattle.av_vmatree.specs.Spans.{start_of, without_area, AreApart, AreDistinct, AreSpans, area_at, holds, span_of, taken, unless_area, IsFree}
 use Rattle.av_vmatree.proofs.Spans.{held, removed}
-use Rattle.av_vmatree.specs.Spans as tree
-use Rattle.av_merge.specs.Pages.{Pages, has_page, pages_by, placed}
-use Rattle.av_merge.specs.Process.{AreAreasOf, IsAreaOf, IsWhole, KeepsOthers, Stays}
+use Rattle.av_merge.specs.Pages.{has_page, pages_by, placed}
+use Rattle.av_merge.specs.Process.{AreAreasOf, IsAreaOf, KeepsOthers, Stays}
 
 -- ---- tests and bounds
 

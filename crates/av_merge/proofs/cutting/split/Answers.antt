@@ -1,11 +1,9 @@
-use Rattle.std.proofs.Common.{◌≡◌, ℕ, refl, sym, ap, subst}
+use Rattle.std.proofs.Common.{◌≡◌, ℕ, sym, ap, subst}
 use Rattle.std.proofs.lemmas.Result.{on_ok_weaker}
 use Rattle.av_vma.specs.declared.area.Area.{Area}
 use Rattle.av_vma.specs.Areas.{area_of}
-use Rattle.av_vma.specs.Join.{first_of, past_of}
-use Rattle.av_vmatree.specs.Spans.{IsFree, taken}
 use Rattle.av_merge.specs.Pages.{pages_by, placed}
-use Rattle.av_merge.proofs.Cuts.{crossed, lower_free, lower_of, split_pages, upper_free, upper_of}
+use Rattle.av_merge.proofs.Cuts.{crossed, lower_free, split_pages, upper_free, upper_of}
 use Rattle.av_merge.proofs.cutting.split.Goals as goal
 
 pub replace-requires-clause-free : goal.replace-requires-clause-free
@@ -39,6 +37,6 @@ returns-clause-pages c =
     let after = c.in_ok-replace.ensures in
     let upper : upper_of c.args.at area ≡ record (upper_of c.args.at area) { pgoff = c.index.result } = ap (λ (n : ℕ). record (upper_of c.args.at area) { pgoff = n }) (sym c.index.ensures) in
     on_ok_weaker c.add.result
-      (λ pages''. split_pages p c.args.area c.args.at areas spans area stands c.get-whole.ensures x (area_of c.replace.new.areas) c.replace.new.tree after.stands.areas after.pages (area_of c.add.new.areas) c.add.new.tree
-        (subst (λ (a : Area). (page : ℕ) → pages_by (area_of c.add.new.areas) c.add.new.tree page ≡ placed a (pages_by (area_of c.replace.new.areas) c.replace.new.tree) page) (sym upper) pages''))
-      c.add.ensures.pages
+    (λ pages''. split_pages p c.args.area c.args.at areas spans area stands c.get-whole.ensures x (area_of c.replace.new.areas) c.replace.new.tree after.stands.areas after.pages (area_of c.add.new.areas) c.add.new.tree
+    (subst (λ (a : Area). (page : ℕ) → pages_by (area_of c.add.new.areas) c.add.new.tree page ≡ placed a (pages_by (area_of c.replace.new.areas) c.replace.new.tree) page) (sym upper) pages''))
+    c.add.ensures.pages
