@@ -1,3 +1,5 @@
+pub mod Cuts
+pub mod Emptying
 pub mod Joins
 pub mod Mappings
 pub mod Places

@@ -1,18 +1,17 @@
 -- Which area is on a page: as the tree and the numbered areas say it, after one of them is put, taken out or changed.
-use Rattle.std.proofs.Common.{◌≡◌, ◌≢◌, ℕ, ◌+◌, ◌-◌, ◌*◌, ◌<◌, ◌≤◌, ◌==◌, nat_lt, nat_le, true, false, cond, ◌&&◌, List, [], ◌∷◌, Option, Some, None, is_some, option_map, IfSome, IsSomeAnd, refl, sym, ap, subst, ◌∙◌, arith}
-use Rattle.std.specs.Prelude.{option_and_then, IsSome}
+use Rattle.std.proofs.Common.{◌≡◌, ◌≢◌, ℕ, ◌+◌, ◌-◌, ◌<◌, ◌≤◌, ◌==◌, true, false, cond, List, [], ◌∷◌, Option, Some, None, is_some, option_map, IfSome, IsSomeAnd, refl, sym, ap, subst, ◌∙◌, arith}
+use Rattle.std.specs.Prelude.{option_and_then}
 use Rattle.std.proofs.lemmas.Bool.Decides.{nat_tests}
 use Rattle.std.proofs.lemmas.Grind.{common_steps}
-use Rattle.std.proofs.lemmas.Bool.{eqb-true, both_ways, false≢true}
+use Rattle.std.proofs.lemmas.Bool.{eqb-true, both_ways}
 use Rattle.av_vma.specs.declared.area.Area.{Area}
 use Rattle.av_vma.specs.Join.{first_of, past_of}
 use Rattle.av_vma.specs.Ranges.{within, with_at}
 use Rattle.av_vmatree.specs.declared.span.Span.{Span}
-use Rattle.av_vmatree.specs.Spans.{AreApart, AreDistinct, AreSpans, area_at, holds, span, span_of, taken, unless_area, IsFree}
-use Rattle.av_vmatree.proofs.Spans.{held}
-use Rattle.av_vmatree.specs.Spans as tree
-use Rattle.av_merge.specs.Pages.{Pages, has_page, pages_by, placed}
-use Rattle.av_merge.specs.Process.{AreAreasOf, IsAreaOf, IsWhole, KeepsOthers, Stays}
+use Rattle.av_vmatree.specs.Spans.{start_of, without_area, AreApart, AreDistinct, AreSpans, area_at, holds, span_of, taken, unless_area, IsFree}
+use Rattle.av_vmatree.proofs.Spans.{held, removed}
+use Rattle.av_merge.specs.Pages.{has_page, pages_by, placed}
+use Rattle.av_merge.specs.Process.{AreAreasOf, IsAreaOf, KeepsOthers, Stays}
 
 -- ---- tests and bounds
 
@@ -171,6 +170,21 @@ taken_is p areas spans page stands = each (area_at spans page) refl
     each : (o : Option ℕ) → area_at spans page ≡ o → is_some (option_and_then areas o) ≡ is_some o
     each None e = refl
     each (Some n) e = let s = span_at spans page n stands.spans_are.distinct e in ap is_some (area_in p areas spans n s.span stands s.span_is).area_is
+
+-- ---- the pages without one area
+
+pub at_rest : (spans : List Span) (n : ℕ) (s : Span) (page : ℕ) → AreSpans spans → span_of spans n ≡ Some s → area_at (without_area n spans) page ≡ unless_area n (area_at spans page)
+at_rest spans n s page good there =
+    let r = removed n s.from spans spans _ refl good (ap (option_map start_of) there) refl in
+    ap (λ l. area_at l page) (sym r.spans) ∙ r.pages page
+
+-- the pages of an area are free without it
+pub rest_free : (spans : List Span) (n : ℕ) (s : Span) → AreSpans spans → span_of spans n ≡ Some s → IsFree (taken (without_area n spans)) s.from s.to
+rest_free spans n s good there page low high =
+    ap is_some (at_rest spans n s page good there ∙ ap (unless_area n) (at_span spans n s page good.apart there low high) ∙ ap (λ b. cond b None (Some n)) (same n))
+  where
+    same : (n : ℕ) → (n == n) ≡ true
+    same n = grind (arith, nat_tests)
 
 -- ---- the same by number
 

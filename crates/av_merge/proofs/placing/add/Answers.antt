@@ -1,4 +1,4 @@
-use Rattle.std.proofs.Common.{◌≡◌, ℕ, refl}
+use Rattle.std.proofs.Common.{refl}
 use Rattle.av_vma.specs.Areas.{area_of}
 use Rattle.av_vma.specs.Join.{first_of, past_of}
 use Rattle.av_vmatree.specs.Spans.{span}
