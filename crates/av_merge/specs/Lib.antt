@@ -1,3 +1,4 @@
+pub mod Laid
 pub mod Mapping
 pub mod Pages
 pub mod Process

@@ -93,6 +93,7 @@ fn protect_part(
     requires inside { IsSomeAnd (pages_by (area_of areas.old) tree.old from) (λ area. past ≤ past_of area) }
     ensures stands { (p : ℕ) → AreAreasOf p (area_of areas.old) tree.old → Stays p (area_of areas.old) (area_of areas.new) tree.new }
     ensures pages { OnOk result ((page : ℕ) → pages_by (area_of areas.new) tree.new page ≡ joined_around from past (protected from past prot (cut_at past (cut_at from (pages_by (area_of areas.old) tree.old)))) page) }
+    ensures mapping { OnOk result ((page : ℕ) → mapping (pages_by (area_of areas.new) tree.new) page ≡ (if within from (past - from) page then option_map (with_prot prot) (mapping (pages_by (area_of areas.old) tree.old) page) else mapping (pages_by (area_of areas.old) tree.old) page)) }
 {
     split_before(areas, tree, from)?;
     split_before(areas, tree, past)?;

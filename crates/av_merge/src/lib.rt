@@ -10,8 +10,10 @@
 mod changing;
 mod cutting;
 mod joining;
+mod laws;
 mod placing;
 
 pub use changing::{map, protect};
 pub use cutting::{clear, cut, split};
 pub use joining::join_around;
+pub use laws::{areas_are_laid, cuts_keep_mappings, joins_keep_mappings};

@@ -1,0 +1,109 @@
+-- A join of two areas of a process, in its tree and by number: the upper one goes, and the two as one are put in the lower one's place.
+use Rattle.std.proofs.Common.{◌≡◌, ◌≢◌, ℕ, ◌+◌, ◌-◌, ◌*◌, ◌<◌, ◌≤◌, ◌==◌, true, false, cond, ◌&&◌, inl, inr, List, Option, Some, None, Result, Ok, Err, OnOk, is_some, option_map, refl, sym, ap, subst, ◌∙◌, arith}
+use Rattle.std.specs.Prelude.{option_and_then}
+use Rattle.std.proofs.lemmas.Bool.{eq-eqb, ne_eqb, eqb-true, both_ways}
+use Rattle.std.proofs.lemmas.Option.{same_Some}
+use Rattle.av_vma.specs.declared.area.Area.{Area}
+use Rattle.av_vma.specs.Join.{first_of, past_of}
+use Rattle.av_vma.specs.Ranges.{with_at}
+use Rattle.av_vmatree.specs.declared.span.Span.{Span}
+use Rattle.av_vmatree.specs.Spans.{start_of, AreSpans, IsFree, area_at, span_of, taken, unless_area, without_area}
+use Rattle.av_vmatree.proofs.Spans.{removed}
+use Rattle.av_merge.specs.Laid.{AreLaid}
+use Rattle.av_merge.specs.Pages.{Pages, has_page, join, joined_at, merged, pages_by, placed, tried}
+use Rattle.av_merge.specs.Process.{AreAreasOf, IsWhole, Stays}
+use Rattle.av_merge.proofs.Places.{IsOn, is_on, at_span, has_from, has_parts, one_area, stays_trans, take_stands, take_others}
+use Rattle.av_merge.proofs.Mappings.{join_is, laid_of, left_pages, right_pages, merged_pages, merged_whole}
+
+at_rest : (spans : List Span) (n : ℕ) (s : Span) (page : ℕ) → AreSpans spans → span_of spans n ≡ Some s → area_at (without_area n spans) page ≡ unless_area n (area_at spans page)
+at_rest spans n s page good there =
+    let r = removed n s.from spans spans _ refl good (ap (option_map start_of) there) refl in
+    ap (λ l. area_at l page) (sym r.spans) ∙ r.pages page
+
+-- what a call leaves on the pages, said in other words
+pub pages_next : {T E : Type 0} (r : Result T E) (new a b : Pages) → ((page : ℕ) → a page ≡ b page) → OnOk r ((page : ℕ) → new page ≡ a page) → OnOk r ((page : ℕ) → new page ≡ b page)
+pages_next (Ok x) new a b same is = λ page. is page ∙ same page
+pages_next (Err e) new a b same is = tt
+
+module _ (p l r at : ℕ) (lower upper : Area) (areas areas' : ℕ → Option Area) (spans spans' : List Span)
+    (stands : AreAreasOf p areas spans)
+    (left_at : area_at spans (at - 1) ≡ Some l) (right_at : area_at spans at ≡ Some r)
+    (lower_is : areas l ≡ Some lower) (upper_is : areas r ≡ Some upper)
+    (joins : join lower upper ≡ true)
+    (now : (k : ℕ) → areas' k ≡ with_at r None areas k)
+    (kept : AreSpans spans') (spans_now : (k : ℕ) → span_of spans' k ≡ with_at r None (span_of spans) k)
+    (pages_now : (page : ℕ) → area_at spans' page ≡ unless_area r (area_at spans page)) where
+  before : pages_by areas spans (at - 1) ≡ Some lower
+  before = ap (option_and_then areas) left_at ∙ lower_is
+
+  after : pages_by areas spans at ≡ Some upper
+  after = ap (option_and_then areas) right_at ∙ upper_is
+
+  on_left : IsOn p areas spans (at - 1) lower
+  on_left = is_on p areas spans (at - 1) lower stands before
+
+  on_right : IsOn p areas spans at upper
+  on_right = is_on p areas spans at upper stands after
+
+  left_span : span_of spans l ≡ Some on_left.span
+  left_span = ap (span_of spans) (same_Some l on_left.number (sym left_at ∙ on_left.at)) ∙ on_left.span_is
+
+  right_span : span_of spans r ≡ Some on_right.span
+  right_span = ap (span_of spans) (same_Some r on_right.number (sym right_at ∙ on_right.at)) ∙ on_right.span_is
+
+  two : l ≢ r
+  two same =
+      let one : lower ≡ upper = same_Some lower upper (sym lower_is ∙ ap areas same ∙ upper_is) in
+      let j = join_is lower upper joins in
+      let whole = on_left.is.whole in
+      let start : upper.start ≡ lower.start = ap (λ (a : Area). a.start) (sym one) in
+      omega arith
+
+  pub join_whole : IsWhole (merged lower upper)
+  join_whole = merged_whole lower upper on_left.is.whole on_right.is.whole joins
+
+  -- where the lower area is, and where the upper one is
+  at_left : (page : ℕ) → has_page lower page ≡ true → area_at spans page ≡ Some l
+  at_left page h =
+      let k = has_parts lower page h in
+      at_span spans l on_left.span page stands.spans_are.apart left_span (subst (λ n. n ≤ page) (sym on_left.is.from) k.0) (subst (λ n. page < n) (sym on_left.is.to) k.1)
+
+  at_right : (page : ℕ) → has_page upper page ≡ true → area_at spans page ≡ Some r
+  at_right page h =
+      let k = has_parts upper page h in
+      at_span spans r on_right.span page stands.spans_are.apart right_span (subst (λ n. n ≤ page) (sym on_right.is.from) k.0) (subst (λ n. page < n) (sym on_right.is.to) k.1)
+
+  pub join_free : IsFree (taken (without_area l spans')) (first_of lower) (past_of upper)
+  join_free page low high =
+      ap is_some (at_rest spans' l on_left.span page kept (spans_now l ∙ ap (λ b. cond b None (span_of spans l)) (ne_eqb l r two) ∙ left_span) ∙ ap (unless_area l) (pages_now page))
+      ∙ elim (merged_pages lower upper on_left.is.whole on_right.is.whole joins page (has_from (merged lower upper) page low high)) [
+        | inl h ↦ rw (at_left page h, ne_eqb l r two, eq-eqb l l refl) refl
+        | inr h ↦ rw (at_right page h, eq-eqb r r refl) refl
+      ]
+
+  -- the pages of neither stay
+  rest : (page : ℕ) → has_page (merged lower upper) page ≡ false → pages_by (with_at l None areas') spans' page ≡ pages_by areas spans page
+  rest page out = ap (option_and_then (with_at l None areas')) (pages_now page) ∙ go (area_at spans page) refl
+    where
+      go : (o : Option ℕ) → area_at spans page ≡ o → option_and_then (with_at l None areas') (unless_area r o) ≡ option_and_then areas o
+      go None e = refl
+      go (Some k) e =
+          let not_left : k ≢ l = λ same. both_ways (has_page (merged lower upper) page) out (left_pages lower upper on_left.is.whole on_right.is.whole joins page ((laid_of p areas spans stands).here page lower (ap (option_and_then areas) e ∙ ap areas same ∙ lower_is))) in
+          let not_right : k ≢ r = λ same. both_ways (has_page (merged lower upper) page) out (right_pages lower upper on_left.is.whole on_right.is.whole joins page ((laid_of p areas spans stands).here page upper (ap (option_and_then areas) e ∙ ap areas same ∙ upper_is))) in
+          rw (ne_eqb k r not_right, ne_eqb k l not_left) (now k ∙ ap (λ b. cond b None (areas k)) (ne_eqb k r not_right))
+
+  pub join_pages : (page : ℕ) → placed (merged lower upper) (pages_by (with_at l None areas') spans') page ≡ joined_at at (pages_by areas spans) page
+  join_pages page =
+      elim (has_page (merged lower upper) page) as (λ b. has_page (merged lower upper) page ≡ b → cond b (Some (merged lower upper)) (pages_by (with_at l None areas') spans' page) ≡ cond b (Some (merged lower upper)) (pages_by areas spans page)) [
+        | true ↦ λ h. refl
+        | false ↦ λ h. rest page h
+      ] refl
+      ∙ ap (λ b. cond (b && has_page (merged lower upper) page) (Some (merged lower upper)) (pages_by areas spans page)) (sym joins)
+      ∙ sym (λ i. tried (before i) (after i) page (pages_by areas spans page))
+
+  pub join_stays : (new : ℕ → Option Area) (spans'' : List Span) → Stays lower.pid areas' new spans'' → Stays p areas new spans''
+  join_stays new spans'' h =
+      stays_trans p areas areas' new spans' spans'' (record {
+        areas = take_stands p r on_right.span areas areas' spans spans' stands right_span now kept spans_now pages_now;
+        others = take_others p r on_right.span areas areas' spans spans' stands right_span now kept spans_now pages_now;
+      }) (subst (λ q. Stays q areas' new spans'') on_left.is.process h)

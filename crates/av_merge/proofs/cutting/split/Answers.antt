@@ -1,0 +1,42 @@
+use Rattle.std.proofs.Common.{◌≡◌, ℕ, sym, ap, subst}
+use Rattle.std.proofs.lemmas.Result.{on_ok_weaker}
+use Rattle.av_vma.specs.declared.area.Area.{Area}
+use Rattle.av_vma.specs.Areas.{area_of}
+use Rattle.av_merge.specs.Pages.{pages_by, placed}
+use Rattle.av_merge.proofs.Cuts.{crossed, lower_free, split_pages, upper_free, upper_of}
+use Rattle.av_merge.proofs.cutting.split.Goals as goal
+
+pub replace-requires-clause-free : goal.replace-requires-clause-free
+replace-requires-clause-free c =
+    let p = c.requires.stands.0 in
+    let stands = c.requires.stands.1 in
+    let areas = area_of c.args.areas.now in
+    let spans = c.args.tree.now in
+    let area = c.get-whole.result in
+    lower_free p c.args.area c.args.at areas spans area stands c.get-whole.ensures (crossed p c.args.area c.args.at areas spans area stands c.requires.inside c.get-whole.ensures)
+
+pub add-requires-clause-free : goal.add-requires-clause-free
+add-requires-clause-free c =
+    let p = c.requires.stands.0 in
+    let stands = c.requires.stands.1 in
+    let areas = area_of c.args.areas.now in
+    let spans = c.args.tree.now in
+    let area = c.get-whole.result in
+    let x = crossed p c.args.area c.args.at areas spans area stands c.requires.inside c.get-whole.ensures in
+    let after = c.in_ok-replace.ensures in
+    upper_free p c.args.area c.args.at areas spans area stands c.get-whole.ensures x (area_of c.replace.new.areas) c.replace.new.tree after.stands.areas after.pages
+
+pub returns-clause-pages : goal.returns-clause-pages
+returns-clause-pages c =
+    let p = c.requires.stands.0 in
+    let stands = c.requires.stands.1 in
+    let areas = area_of c.args.areas.now in
+    let spans = c.args.tree.now in
+    let area = c.get-whole.result in
+    let x = crossed p c.args.area c.args.at areas spans area stands c.requires.inside c.get-whole.ensures in
+    let after = c.in_ok-replace.ensures in
+    let upper : upper_of c.args.at area ≡ record (upper_of c.args.at area) { pgoff = c.index.result } = ap (λ (n : ℕ). record (upper_of c.args.at area) { pgoff = n }) (sym c.index.ensures) in
+    on_ok_weaker c.add.result
+    (λ pages''. split_pages p c.args.area c.args.at areas spans area stands c.get-whole.ensures x (area_of c.replace.new.areas) c.replace.new.tree after.stands.areas after.pages (area_of c.add.new.areas) c.add.new.tree
+    (subst (λ (a : Area). (page : ℕ) → pages_by (area_of c.add.new.areas) c.add.new.tree page ≡ placed a (pages_by (area_of c.replace.new.areas) c.replace.new.tree) page) (sym upper) pages''))
+    c.add.ensures.pages

@@ -1,0 +1,10 @@
+use Rattle.std.proofs.Common.{length}
+use Rattle.av_vma.specs.Areas.{area_of}
+use Rattle.av_merge.proofs.Emptying.{AreTaken}
+use Rattle.av_merge.proofs.cutting.take_out.Given as goal
+
+abbrev pub invariant-loop-area : goal.invariant-loop-area
+invariant-loop-area l = AreTaken l.from l.to (area_of l.fn.areas) l.fn.tree (area_of l.areas) l.tree
+
+abbrev pub decreases-loop-area : goal.decreases-loop-area
+decreases-loop-area l = length l.tree
