@@ -6,22 +6,11 @@ use Rattle.av_vma.specs.Join.{first_of, index_of, past_of}
 use Rattle.av_vma.specs.Ranges.{with_at}
 use Rattle.av_vmatree.specs.declared.span.Span.{Span}
 use Rattle.av_vmatree.specs.Spans.{IsFree, span_of, taken, without_area}
+use Rattle.av_merge.specs.Laid.{AreLaid}
 use Rattle.av_merge.specs.Pages.{Pages, cut_at, has_page, pages_by, part_of, placed}
 use Rattle.av_merge.specs.Process.{AreAreasOf, IsAreaOf, IsWhole, NoneCrosses}
 use Rattle.av_merge.proofs.Places.{area_in, has_from, has_parts, holds_is, is_on, on_span, one_area, pages_without, rest_free, taken_is}
-
--- each area is whole and on exactly its pages
-pub record AreOn (on : Pages) : Type 0 where
-  pub whole : (page : ℕ) (area : Area) → on page ≡ Some area → IsWhole area
-  pub has : (page : ℕ) (area : Area) → on page ≡ Some area → has_page area page ≡ true
-  pub one : (page other : ℕ) (area : Area) → on page ≡ Some area → has_page area other ≡ true → on other ≡ Some area
-
-pub are_on : (p : ℕ) (areas : ℕ → Option Area) (spans : List Span) → AreAreasOf p areas spans → AreOn (pages_by areas spans)
-are_on p areas spans stands = record {
-  whole = λ page area e. (is_on p areas spans page area stands e).is.whole;
-  has = λ page area e. (is_on p areas spans page area stands e).has;
-  one = λ page other area e h. one_area p areas spans page other area stands e h;
-}
+use Rattle.av_merge.proofs.Mappings.{laid_of}
 
 least : (a b : ℕ) → a ≤ b → min a b ≡ a
 least a b h = omega arith
@@ -49,13 +38,13 @@ part_is at page area whole has out =
     ] refl
 
 -- where no area lies on both sides, a cut changes nothing
-pub uncut : (on : Pages) (at : ℕ) → AreOn on → ((area : Area) → on at ≡ Some area → at ≤ first_of area) → (page : ℕ) → on page ≡ cut_at at on page
+pub uncut : (on : Pages) (at : ℕ) → AreLaid on → ((area : Area) → on at ≡ Some area → at ≤ first_of area) → (page : ℕ) → on page ≡ cut_at at on page
 uncut on at are none page = each (on page) refl
   where
     each : (o : Option Area) → on page ≡ o → o ≡ option_map (part_of at page) o
     each None e = refl
-    each (Some area) e = ap Some (sym (part_is at page area (are.whole page area e) (are.has page area e) (λ low high.
-        let there = none area (are.one page at area e (has_from area at (omega arith) high)) in
+    each (Some area) e = ap Some (sym (part_is at page area (are.whole page area e) (are.here page area e) (λ low high.
+        let there = none area (are.all page at area e (has_from area at (omega arith) high)) in
         omega arith)))
 
 -- the two parts of an area that a cut crosses
@@ -73,9 +62,9 @@ abbrev pub without : Area → Pages → Pages
 without area on page = if has_page area page then None else on page
 
 -- where the two parts of an area are put in its place, it is cut
-module _ (on : Pages) (at : ℕ) (area : Area) (are : AreOn on) (there : on at ≡ Some area) (below : first_of area < at) (page : ℕ) where
+module _ (on : Pages) (at : ℕ) (area : Area) (are : AreLaid on) (there : on at ≡ Some area) (below : first_of area < at) (page : ℕ) where
   inside : at < past_of area
-  inside = (has_parts area at (are.has at area there)).1
+  inside = (has_parts area at (are.here at area there)).1
 
   upper_part : at ≤ page → part_of at page area ≡ upper_of at area
   upper_part above =
@@ -93,10 +82,10 @@ module _ (on : Pages) (at : ℕ) (area : Area) (are : AreOn on) (there : on at �
 
   other_stays : has_page area page ≡ false → (o : Option Area) → on page ≡ o → o ≡ option_map (part_of at page) o
   other_stays out None e = refl
-  other_stays out (Some other) e = ap Some (sym (part_is at page other (are.whole page other e) (are.has page other e) (λ low high.
-      let there' = are.one page at other e (has_from other at (omega arith) high) in
+  other_stays out (Some other) e = ap Some (sym (part_is at page other (are.whole page other e) (are.here page other e) (λ low high.
+      let there' = are.all page at other e (has_from other at (omega arith) high) in
       let same : area ≡ other = cc in
-      both_ways _ out (ap (λ a. has_page a page) same ∙ are.has page other e))))
+      both_ways _ out (ap (λ a. has_page a page) same ∙ are.here page other e))))
 
   outside : has_page (upper_of at area) page ≡ false → has_page (lower_of at area) page ≡ false → without area on page ≡ cut_at at on page
   outside h k = elim (has_page area page) as (λ b. has_page area page ≡ b → cond b None (on page) ≡ cut_at at on page) [
@@ -117,7 +106,7 @@ module _ (on : Pages) (at : ℕ) (area : Area) (are : AreOn on) (there : on at �
             let low : first_of (upper_of at area) ≤ page = (has_parts (upper_of at area) page h).0 in
             let high : page < past_of area = (has_parts (upper_of at area) page h).1 in
             let at_page : at ≤ page = (let e = page_of at in omega arith) in
-            let here : on page ≡ Some area = are.one at page area there (has_from area page (omega arith) high) in
+            let here : on page ≡ Some area = are.all at page area there (has_from area page (omega arith) high) in
             rw here (ap Some (sym (upper_part at_page)))
         | false ↦ λ h. elim (has_page (lower_of at area) page) as (λ b. has_page (lower_of at area) page ≡ b → cond b (Some (lower_of at area)) (without area on page) ≡ cut_at at on page) [
           | true ↦ λ k.
@@ -125,7 +114,7 @@ module _ (on : Pages) (at : ℕ) (area : Area) (are : AreOn on) (there : on at �
               let high : page < past_of (lower_of at area) = (has_parts (lower_of at area) page k).1 in
               let at_page : page < at = (let e = page_of at in omega arith) in
               let in_area = inside in
-              let here : on page ≡ Some area = are.one at page area there (has_from area page low (omega arith)) in
+              let here : on page ≡ Some area = are.all at page area there (has_from area page low (omega arith)) in
               rw here (ap Some (sym (lower_part at_page)))
           | false ↦ λ k. outside h k
         ] refl
@@ -182,7 +171,7 @@ module _ (p n at : ℕ) (areas : ℕ → Option Area) (spans : List Span) (area 
     split_pages areas'' spans'' pages'' page =
         pages'' page
         ∙ ap (cond (has_page (upper_of at area) page) (Some (upper_of at area))) (lower_is page)
-        ∙ cut_through (pages_by areas spans) at area (are_on p areas spans stands) (on_span p areas spans n c.span area at stands c.there used (let e = c.is.from in let low = c.low in omega arith) (let e = c.is.to in let high = c.high in omega arith)) c.low page
+        ∙ cut_through (pages_by areas spans) at area (laid_of p areas spans stands) (on_span p areas spans n c.span area at stands c.there used (let e = c.is.from in let low = c.low in omega arith) (let e = c.is.to in let high = c.high in omega arith)) c.low page
 
 -- ---- no area crosses
 

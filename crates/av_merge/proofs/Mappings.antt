@@ -14,7 +14,7 @@ use Rattle.av_merge.specs.Laid.{AreLaid}
 use Rattle.av_merge.specs.Mapping.{Mapping, mapping, mapping_in, with_prot}
 use Rattle.av_merge.specs.Pages.{Pages, pages_by, has_page, part_of, cut_at, emptied, placed, protected, merged, join, tried, joined_at, joined_around}
 use Rattle.av_merge.specs.Process.{AreAreasOf, IsWhole}
-use Rattle.av_merge.proofs.Places.{is_on, one_area}
+use Rattle.av_merge.proofs.Places.{has_from, has_parts, is_on, one_area}
 
 -- the areas of a process are laid
 pub laid_of : (p : ℕ) (areas : ℕ → Option Area) (spans : List Span) → AreAreasOf p areas spans → AreLaid (pages_by areas spans)
@@ -23,18 +23,6 @@ laid_of p areas spans stands = record {
   here = λ page area e. (is_on p areas spans page area stands e).has;
   all = λ page other area e h. one_area p areas spans page other area stands e h;
 }
-
--- ---- pages in a range
-
-pub range_parts : (a b page : ℕ) → within a (b - a) page ≡ true → (a ≤ page) × (page < b)
-range_parts a b page h =
-    let parts = and_parts (nat_le a page) (nat_lt page (a + (b - a))) h in
-    let low : a ≤ page = leb-true a page parts.0 in
-    let high : page < a + (b - a) = ltb-true page (a + (b - a)) parts.1 in
-    (low, omega arith)
-
-pub range_from : (a b page : ℕ) → a ≤ page → page < b → within a (b - a) page ≡ true
-range_from a b page low high = and_from (nat_le a page) (nat_lt page (a + (b - a))) (le-leb a page low) (lt-ltb page (a + (b - a)) (omega arith))
 
 -- ---- a cut
 
@@ -57,7 +45,7 @@ cut_maps at on laid page = go (on page) refl
   where
     go : (o : Option Area) → on page ≡ o → option_map (mapping_in page) (option_map (part_of at page) o) ≡ option_map (mapping_in page) o
     go None is = refl
-    go (Some area) is = ap Some (part_maps at page area (laid.whole page area is) (range_parts (first_of area) (past_of area) page (laid.here page area is)).0)
+    go (Some area) is = ap Some (part_maps at page area (laid.whole page area is) (has_parts area page (laid.here page area is)).0)
 
 -- what is known of the part of an area on the page's side of a cut
 record IsPart (at page : ℕ) (area part : Area) : Type 0 where
@@ -67,7 +55,7 @@ record IsPart (at page : ℕ) (area part : Area) : Type 0 where
 
 part_is : (at page : ℕ) (area : Area) → IsWhole area → has_page area page ≡ true → IsPart at page area (part_of at page area)
 part_is at page area whole here =
-    let on = range_parts (first_of area) (past_of area) page here in
+    let on = has_parts area page here in
     let low : first_of area ≤ page = on.0 in
     let high : page < past_of area = on.1 in
     let lower = record area { end = min area.end (4096 * at) } in
@@ -77,23 +65,23 @@ part_is at page area whole here =
           let below : page < at = ltb-true page at e in
           record {
             whole = record { start = whole.start; end = omega arith; some = omega arith; low = whole.low; high = omega arith; small = omega arith };
-            here = range_from (first_of area) (min area.end (4096 * at) / 4096) page low (omega arith);
+            here = has_from lower page low (omega arith);
             all = λ other h.
-                let parts = range_parts (first_of area) (min area.end (4096 * at) / 4096) other h in
+                let parts = has_parts lower other h in
                 let least : first_of area ≤ other = parts.0 in
                 let most : other < min area.end (4096 * at) / 4096 = parts.1 in
-                (range_from (first_of area) (past_of area) other least (omega arith), rw (lt-ltb other at (omega arith)) refl);
+                (has_from area other least (omega arith), rw (lt-ltb other at (omega arith)) refl);
           }
       | false ↦ λ e.
           let above : at ≤ page = ltb-false page at e in
           record {
             whole = record { start = omega arith; end = whole.end; some = omega arith; low = omega arith; high = whole.high; small = omega arith };
-            here = range_from (max area.start (4096 * at) / 4096) (past_of area) page (omega arith) high;
+            here = has_from upper page (omega arith) high;
             all = λ other h.
-                let parts = range_parts (max area.start (4096 * at) / 4096) (past_of area) other h in
+                let parts = has_parts upper other h in
                 let least : max area.start (4096 * at) / 4096 ≤ other = parts.0 in
                 let most : other < past_of area = parts.1 in
-                (range_from (first_of area) (past_of area) other (omega arith) most, rw (le-ltb other at (omega arith)) refl);
+                (has_from area other (omega arith) most, rw (le-ltb other at (omega arith)) refl);
           }
     ] refl
 
@@ -179,34 +167,34 @@ merged_whole left right l r e =
 pub merged_pages : (left right : Area) → IsWhole left → IsWhole right → join left right ≡ true → (page : ℕ) → has_page (merged left right) page ≡ true → (has_page left page ≡ true) ⊎ (has_page right page ≡ true)
 merged_pages left right l r e page h =
     let j = join_is left right e in
-    let parts = range_parts (first_of left) (past_of right) page h in
+    let parts = has_parts (merged left right) page h in
     let low : first_of left ≤ page = parts.0 in
     let high : page < past_of right = parts.1 in
     elim (cases_lt page (past_of left)) [
-      | inl below ↦ inl (range_from (first_of left) (past_of left) page low below)
-      | inr above ↦ inr (range_from (first_of right) (past_of right) page (omega arith) high)
+      | inl below ↦ inl (has_from left page low below)
+      | inr above ↦ inr (has_from right page (omega arith) high)
     ]
 
 pub left_pages : (left right : Area) → IsWhole left → IsWhole right → join left right ≡ true → (page : ℕ) → has_page left page ≡ true → has_page (merged left right) page ≡ true
 left_pages left right l r e page h =
     let j = join_is left right e in
-    let parts = range_parts (first_of left) (past_of left) page h in
+    let parts = has_parts left page h in
     let low : first_of left ≤ page = parts.0 in
     let high : page < past_of left = parts.1 in
-    range_from (first_of left) (past_of right) page low (omega arith)
+    has_from (merged left right) page low (omega arith)
 
 pub right_pages : (left right : Area) → IsWhole left → IsWhole right → join left right ≡ true → (page : ℕ) → has_page right page ≡ true → has_page (merged left right) page ≡ true
 right_pages left right l r e page h =
     let j = join_is left right e in
-    let parts = range_parts (first_of right) (past_of right) page h in
+    let parts = has_parts right page h in
     let low : first_of right ≤ page = parts.0 in
     let high : page < past_of right = parts.1 in
-    range_from (first_of left) (past_of right) page (omega arith) high
+    has_from (merged left right) page (omega arith) high
 
 right_maps : (left right : Area) → IsWhole left → IsWhole right → join left right ≡ true → (page : ℕ) → has_page right page ≡ true → mapping_in page (merged left right) ≡ mapping_in page right
 right_maps left right l r e page h =
     let j = join_is left right e in
-    let low : first_of right ≤ page = (range_parts (first_of right) (past_of right) page h).0 in
+    let low : first_of right ≤ page = (has_parts right page h).0 in
     let same : (page - left.start / 4096) + left.pgoff ≡ (page - right.start / 4096) + right.pgoff = omega arith in
     λ i. record { prot = j.prot i; flags = j.flags i; index = same i; anon = j.anon i }
 

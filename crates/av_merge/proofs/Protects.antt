@@ -13,8 +13,8 @@ use Rattle.av_merge.specs.Laid.{AreLaid}
 use Rattle.av_merge.specs.Mapping.{mapping, with_prot}
 use Rattle.av_merge.specs.Pages.{Pages, cut_at, has_page, joined_around, pages_by, part_of, placed, protected}
 use Rattle.av_merge.specs.Process.{AreAreasOf, IsAreaOf, IsWhole, Stays}
-use Rattle.av_merge.proofs.Places.{IsOn, change_others, change_pages, change_stands, is_on, one_area, stays_trans}
-use Rattle.av_merge.proofs.Mappings.{laid_of, part_maps_to, range_parts}
+use Rattle.av_merge.proofs.Places.{IsOn, change_others, change_pages, change_stands, has_parts, is_on, one_area, stays_trans}
+use Rattle.av_merge.proofs.Mappings.{laid_of, part_maps_to}
 
 -- what is left of an area that is cut before its part and past it
 record IsExact (from past : ℕ) (area : Area) : Type 0 where
@@ -71,7 +71,7 @@ module _ (p from past number : ℕ) (prot : Prot) (area : Area) (areas one two c
   exact : IsExact from past area
   exact =
       let laid = laid_of p areas spans stands in
-      let low = (range_parts (first_of whole.area) (past_of whole.area) from (laid.here from whole.area whole.is)).0 in
+      let low = (has_parts whole.area from (laid.here from whole.area whole.is)).0 in
       subst (IsExact from past) (same_Some _ area (sym (ap (option_map (part_of past from)) (ap (option_map (part_of from from)) whole.is)) ∙ sym (ap (option_map (part_of past from)) (lower from)) ∙ sym (upper from) ∙ here))
       (part_is_exact from past whole.area (laid.whole from whole.area whole.is) low some whole.far)
 

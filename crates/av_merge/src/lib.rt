@@ -17,3 +17,6 @@ pub use changing::{map, protect};
 pub use cutting::{clear, cut, split};
 pub use joining::join_around;
 pub use laws::{areas_are_laid, cuts_keep_mappings, joins_keep_mappings};
+
+#[cfg(test)]
+mod tests;

@@ -5,7 +5,8 @@ use Rattle.av_vma.specs.declared.area.Area.{Area}
 use Rattle.av_vma.specs.Areas.{area_of}
 use Rattle.av_vma.specs.Join.{first_of}
 use Rattle.av_merge.specs.Pages.{pages_by}
-use Rattle.av_merge.proofs.Cuts.{are_on, cut_starts, none_from, uncut}
+use Rattle.av_merge.proofs.Cuts.{cut_starts, none_from, uncut}
+use Rattle.av_merge.proofs.Mappings.{laid_of}
 use Rattle.av_merge.proofs.cutting.split_before.Goals as goal
 
 pub returns-in-Some-clause-none_crosses : goal.returns-in-Some-clause-none_crosses
@@ -29,7 +30,7 @@ returns-in_default-clause-pages c =
     let areas = area_of c.args.areas.now in
     let spans = c.args.tree.now in
     let here : pages_by areas spans c.args.at ≡ Some c.get.result = ap (option_and_then areas) (sym c.in-Some.ensures.area) ∙ c.get.ensures in
-    uncut (pages_by areas spans) c.args.at (are_on c.requires.stands.0 areas spans c.requires.stands.1) (begins _ c.args.at c.get.result here c.if-get-at.false)
+    uncut (pages_by areas spans) c.args.at (laid_of c.requires.stands.0 areas spans c.requires.stands.1) (begins _ c.args.at c.get.result here c.if-get-at.false)
 
 pub returns-in_default-clause-none_crosses : goal.returns-in_default-clause-none_crosses
 returns-in_default-clause-none_crosses c =
@@ -42,7 +43,7 @@ pub returns-in_default-2-clause-pages : goal.returns-in_default-2-clause-pages
 returns-in_default-2-clause-pages c =
     let areas = area_of c.args.areas.now in
     let spans = c.args.tree.now in
-    uncut (pages_by areas spans) c.args.at (are_on c.requires.stands.0 areas spans c.requires.stands.1) (no_area _ c.args.at (ap (option_and_then areas) (sym c.in_default.ensures.area)))
+    uncut (pages_by areas spans) c.args.at (laid_of c.requires.stands.0 areas spans c.requires.stands.1) (no_area _ c.args.at (ap (option_and_then areas) (sym c.in_default.ensures.area)))
 
 pub returns-in_default-2-clause-none_crosses : goal.returns-in_default-2-clause-none_crosses
 returns-in_default-2-clause-none_crosses c =
