@@ -1,5 +1,5 @@
 -- A process that ends: its entries, its table and its areas have gone, and nothing of the others.
-use Rattle.std.proofs.Common.{◌≡◌, ◌≢◌, ℕ, suc, ◌+◌, Bool, true, false, cond, not, T, List, [], ◌∷◌, length, Option, Some, None, is_some, option_map, refl, sym, ap, subst, ◌∙◌, arith, ◌==◌}
+use Rattle.std.proofs.Common.{◌≡◌, ℕ, suc, ◌+◌, ◌<◌, ◌≤◌, nat_lt, Bool, true, false, cond, not, T, List, [], ◌∷◌, length, Option, Some, None, is_some, option_map, refl, sym, ap, subst, ◌∙◌, arith, ◌==◌}
 use Rattle.std.proofs.lemmas.Bool.Decides.{nat_tests}
 use Rattle.std.proofs.lemmas.Bool.{false≢true}
 use Rattle.std.specs.Prelude.{MatchOption}
@@ -15,11 +15,12 @@ use Rattle.av_pagetable.specs.declared.table.MapTable.{MapTable}
 use Rattle.av_pagetable.specs.declared.pte.Pte.{Pte}
 use Rattle.av_pagetable.specs.declared.pte.Pte.TheVariants.{Empty}
 use Rattle.av_pagetable.specs.Entries.{entry_at, has}
+use Rattle.av_pagetable.specs.Table.{page_bound}
 use Rattle.av_plain.specs.World.{World, Page, lives, pages, end_process}
 use Rattle.av_plain.specs.Ledger.{Ledger, Entry, Zero, InFrame, InSlot, entry, frame_at, names_frame}
 use Rattle.av_plain.specs.Event.{after_all}
 use Rattle.av_plain.specs.Fault.{is_shared}
-use Rattle.av_plain.specs.Taking.{keys_of_process, taking}
+use Rattle.av_plain.specs.Taking.{keys_of_process, keys_in, taking}
 use Rattle.av_plain.specs.Refusal.{tests, refusal}
 use Rattle.av_plain.specs.Step.{Follows, Refuses}
 use Rattle.av_plain.specs.Sound.{AllSound}
@@ -27,18 +28,17 @@ use Rattle.av_plain.specs.Choice.{ChoosesAll}
 use Rattle.av_plain.specs.Stands.{View, Pte as Plain, Range, Holds, IsKept, IsKeptAt, entry_of, prot_of, AreasStand, TablesStand, BytesStand}
 use Rattle.av_plain.specs.Transcript.{State, IsStep}
 use Rattle.av_plain.proofs.Laws.{both_first, both_second}
-use Rattle.av_plain.proofs.TakingLaws.{entry-ended}
+use Rattle.av_plain.proofs.TakingLaws.{entry-ended, entry-others, exit-is-range}
 use Rattle.av_plain.proofs.SoundTaken.{process-ended, pages-ended}
-use Rattle.av_plain.proofs.Soundness.{step-sound}
 use Rattle.av_kernel.specs.declared.mem.Mem.{Mem}
 use Rattle.av_kernel.specs.Spaces.{areas_of, IsEnded}
-use Rattle.av_kernel.specs.View.{setting, plain, view, count, Keeps}
+use Rattle.av_kernel.specs.View.{setting, plain, view, count, HasTables, Keeps}
 use Rattle.av_kernel.specs.Command.{MemSteps}
 use Rattle.av_kernel.specs.Exit.{LedgerStands, HasTaken}
 use Rattle.av_kernel.proofs.Parts.{kept-nothing}
-use Rattle.av_kernel.proofs.PageParts.{no_cache, no_frame_at, no_device}
-use Rattle.av_kernel.proofs.PageSteps.{no_headers}
-use Rattle.av_kernel.proofs.Commands.{bare}
+use Rattle.av_kernel.proofs.PageParts.{no_cache}
+use Rattle.av_kernel.proofs.TakeLeast.{past_pages}
+use Rattle.av_kernel.proofs.Commands.{bare, is_number, kept-on, stepped}
 
 -- ---- the memories
 
@@ -80,23 +80,24 @@ lives-ended w p q = ap is_some (process-ended w p q) ∙ by (q == p)
     by true = refl
     by false = refl
 
--- ---- what the pages keep
-
--- where no slot is cached, a page keeps its bytes with the frames' ones
-kept-on : (v v' : View) (l l' : Ledger) (e : Option Entry) (p : Option Page) → v'.bytes ≡ v.bytes → l'.cache ≡ [] → IsKept v None l e p → IsKept v' None l' e p
-kept-on v v' l l' None p same none h = h
-kept-on v v' l l' (Some Zero) p same none h = h
-kept-on v v' l l' (Some (InFrame f seen)) p same none h = subst (λ (b : ℕ → ℕ → ℕ). Holds p (b f)) (sym same) h
-kept-on v v' l l' (Some (InSlot s)) p same none h = subst (IsKeptAt v' None s p) (sym (no_frame_at l' s none)) tt
-
--- the parts that exit needs at first
-pub orderly : (k : Mem) (s : State) → Keeps k s → LedgerStands k s.ledger
-orderly k s keeps = record { sound = keeps.stands.sound.ledger; frames = keeps.stands.frames; lists = keeps.stands.lists; tables = keeps.stands.tables; swap = keeps.stands.swap }
-
 -- ---- the end
 
+-- no entry lies past the tables' four levels
+pub entries_below : (k : Mem) (l : Ledger) (p page : ℕ) → LedgerStands k l → is_some (entry l (p, page)) ≡ true → page < page_bound
+entries_below k l p page stands some = by (nat_lt page page_bound) refl
+  where
+    by : (b : Bool) → nat_lt page page_bound ≡ b → page < page_bound
+    by true e = grind (arith, nat_tests, e)
+    by false e =
+        let high : page_bound ≤ page = grind (arith, nat_tests, e) in
+        absurd (false≢true (ap (λ t. is_some (entry_of (plain t))) (sym (past_pages k.tables p page high)) ∙ ap is_some (stands.tables.entries p page) ∙ some))
+
+-- the entries that the whole range has taken are all of the process
+pub all_gone : (old mid : Mem) (l : Ledger) (p : ℕ) → LedgerStands old l → HasTaken old mid l (taking l (keys_in l p 0 page_bound)) → HasTaken old mid l (taking l (keys_of_process l p))
+all_gone old mid l p stands = subst (λ ks. HasTaken old mid l (taking l ks)) (sym (exit-is-range l p page_bound (λ page some. entries_below old l p page stands some)))
+
 module _ (old mid : Mem) (tables : Tables MapTable) (spaces : List (ℕ × List Range)) (s : State) (p : ℕ) (keeps : Keeps old s) (alive : is_some (areas_of old.spaces p) ≡ true)
-    (taken : HasTaken old mid p s.ledger) (bytes : (view mid).bytes ≡ (view old).bytes) (same_spaces : mid.spaces ≡ old.spaces) (same_tables : has mid.tables ≡ has old.tables) (same_count : count mid ≡ count old)
+    (taken : HasTaken old mid s.ledger (taking s.ledger (keys_of_process s.ledger p))) (bytes : (view mid).bytes ≡ (view old).bytes) (same_spaces : mid.spaces ≡ old.spaces) (same_tables : has mid.tables ≡ has old.tables) (same_count : count mid ≡ count old)
     (processes : has tables ≡ with_at p false (has mid.tables)) (entries : entry_at tables ≡ with_at p (λ page. Empty) (entry_at mid.tables)) (ended : IsEnded mid.spaces spaces p) where
   alive_now : lives s.world p ≡ true
   alive_now = sym (keeps.stands.areas.alive p) ∙ alive
@@ -125,12 +126,6 @@ module _ (old mid : Mem) (tables : Tables MapTable) (spaces : List (ℕ × List 
       by true = refl
       by false = refl
 
-  same_number : (q : ℕ) → (q == p) ≡ true → q ≡ p
-  same_number q e = grind (arith, nat_tests, e)
-
-  other_number : (q : ℕ) → (q == p) ≡ false → q ≢ p
-  other_number q e = grind (arith, nat_tests, e)
-
   tables_now : TablesStand (view (record { frames = mid.frames; tables = tables; spaces = spaces })) (after_all s.ledger (taking s.ledger (keys_of_process s.ledger p)))
   tables_now = record {
     entries = λ q page. ap (λ e. entry_of (plain e)) (entry_is q page) ∙ kept q page (q == p) refl;
@@ -138,7 +133,7 @@ module _ (old mid : Mem) (tables : Tables MapTable) (spaces : List (ℕ × List 
   }
     where
       kept : (q page : ℕ) (b : Bool) → (q == p) ≡ b → entry_of (plain (cond b Empty (entry_at mid.tables q page))) ≡ entry (after_all s.ledger (taking s.ledger (keys_of_process s.ledger p))) (q, page)
-      kept q page true e = sym (ap (λ n. entry (after_all s.ledger (taking s.ledger (keys_of_process s.ledger p))) (n, page)) (same_number q e) ∙ entry-ended s.ledger p page)
+      kept q page true e = sym (ap (λ n. entry (after_all s.ledger (taking s.ledger (keys_of_process s.ledger p))) (n, page)) (is_number q p e) ∙ entry-ended s.ledger p page)
       kept q page false e = taken.stands.tables.entries q page
 
       clash : {t : Plain} → None ≡ Some t → ⊥
@@ -168,44 +163,32 @@ module _ (old mid : Mem) (tables : Tables MapTable) (spaces : List (ℕ × List 
       covered q page true = refl
       covered q page false = ap (λ x. prot_of (areas_of x q) page) same_spaces ∙ keeps.stands.areas.covers q page
 
-  bytes_now : BytesStand (view (record { frames = mid.frames; tables = tables; spaces = spaces })) None (end_process s.world p) (after_all s.ledger (taking s.ledger (keys_of_process s.ledger p)))
-  bytes_now = record {
-    kept = λ q page. subst (IsKept (view (record { frames = mid.frames; tables = tables; spaces = spaces })) None (after_all s.ledger (taking s.ledger (keys_of_process s.ledger p))) (entry (after_all s.ledger (taking s.ledger (keys_of_process s.ledger p))) (q, page)))
-        (sym (pages-ended s.world p q page)) (by q page (q == p) refl);
-    clean = λ t stale flying. no_device (view (record { frames = mid.frames; tables = tables; spaces = spaces })) t (frame_at (after_all s.ledger (taking s.ledger (keys_of_process s.ledger p))) t);
-  }
-    where
-      by : (q page : ℕ) (b : Bool) → (q == p) ≡ b
-          → IsKept (view (record { frames = mid.frames; tables = tables; spaces = spaces })) None (after_all s.ledger (taking s.ledger (keys_of_process s.ledger p))) (entry (after_all s.ledger (taking s.ledger (keys_of_process s.ledger p))) (q, page)) (cond b None (pages s.world q page))
-      by q page true e = kept-nothing (view (record { frames = mid.frames; tables = tables; spaces = spaces })) (after_all s.ledger (taking s.ledger (keys_of_process s.ledger p))) (entry (after_all s.ledger (taking s.ledger (keys_of_process s.ledger p))) (q, page))
-      by q page false e =
-          subst (λ x. IsKept (view (record { frames = mid.frames; tables = tables; spaces = spaces })) None (after_all s.ledger (taking s.ledger (keys_of_process s.ledger p))) x (pages s.world q page)) (sym (taken.others q page (other_number q e)))
-          (kept-on (view old) (view (record { frames = mid.frames; tables = tables; spaces = spaces })) s.ledger (after_all s.ledger (taking s.ledger (keys_of_process s.ledger p))) (entry s.ledger (q, page)) (pages s.world q page) bytes
-          (no_cache (after_all s.ledger (taking s.ledger (keys_of_process s.ledger p))) taken.stands.swap.finds) (keeps.stands.bytes.kept q page))
-
-  pub exit-steps : MemSteps old (record { frames = mid.frames; tables = tables; spaces = spaces }) s (Exit p) (bare Done)
-  exit-steps =
+  kept_now : (q page : ℕ) → IsKept (view (record { frames = mid.frames; tables = tables; spaces = spaces })) None (after_all s.ledger (taking s.ledger (keys_of_process s.ledger p))) (entry (after_all s.ledger (taking s.ledger (keys_of_process s.ledger p))) (q, page)) (pages (end_process s.world p) q page)
+  kept_now q page =
       let l = after_all s.ledger (taking s.ledger (keys_of_process s.ledger p)) in
-      let next : State = record { world = end_process s.world p; ledger = l; free = (view mid).free } in
-      record {
-        next = next;
-        step = exit-step;
-        keeps = record {
-          stands = record {
-            sound = subst (λ n. AllSound (setting n) next.world next.ledger) (sym same_count) (step-sound (setting (count old)) s (Exit p) (bare Done) next keeps.stands.sound exit-step);
-            frames = record { frames = taken.stands.frames.frames; maps = taken.stands.frames.maps; slots = taken.stands.frames.slots; dirty = taken.stands.frames.dirty; free = taken.stands.frames.free };
-            lists = record { active = taken.stands.lists.active };
-            tables = tables_now;
-            swap = record { finds = taken.stands.swap.finds; counts = taken.stands.swap.counts; flight = taken.stands.swap.flight; on = taken.stands.swap.on };
-            areas = areas_now;
-            bytes = bytes_now;
-            headers = no_headers (setting (count mid)) l taken.stands.swap.on;
-            free = refl;
-          };
-          tables = λ q. ap (λ (h : ℕ → Bool). h q) processes ∙ has_as q (q == p) ∙ sym (ap is_some (ended.areas q));
-        };
-      }
+      subst (IsKept (view (record { frames = mid.frames; tables = tables; spaces = spaces })) None l (entry l (q, page))) (sym (pages-ended s.world p q page))
+      (kept-on (view old) (view (record { frames = mid.frames; tables = tables; spaces = spaces })) s.ledger l (entry l (q, page)) (cond (q == p) None (pages s.world q page)) bytes (no_cache l taken.stands.swap.finds) (by (q == p) refl))
+    where
+      by : (b : Bool) → (q == p) ≡ b → IsKept (view old) None s.ledger (entry (after_all s.ledger (taking s.ledger (keys_of_process s.ledger p))) (q, page)) (cond b None (pages s.world q page))
+      by true e = kept-nothing (view old) s.ledger (entry (after_all s.ledger (taking s.ledger (keys_of_process s.ledger p))) (q, page))
+      by false e = subst (λ x. IsKept (view old) None s.ledger x (pages s.world q page)) (sym (entry-others s.ledger p q page e)) (keeps.stands.bytes.kept q page)
+
+  has_now : HasTables (record { frames = mid.frames; tables = tables; spaces = spaces })
+  has_now q = ap (λ (h : ℕ → Bool). h q) processes ∙ has_as q (q == p) ∙ sym (ap is_some (ended.areas q))
     where
       has_as : (q : ℕ) (b : Bool) → cond b false (has mid.tables q) ≡ is_some (cond b None (areas_of mid.spaces q))
       has_as q true = refl
       has_as q false = ap (λ (h : ℕ → Bool). h q) same_tables ∙ keeps.tables q ∙ sym (ap (λ x. is_some (areas_of x q)) same_spaces)
+
+  stands_now : LedgerStands (record { frames = mid.frames; tables = tables; spaces = spaces }) (after_all s.ledger (taking s.ledger (keys_of_process s.ledger p)))
+  stands_now = record {
+    sound = taken.stands.sound;
+    frames = record { frames = taken.stands.frames.frames; maps = taken.stands.frames.maps; slots = taken.stands.frames.slots; dirty = taken.stands.frames.dirty; free = taken.stands.frames.free };
+    lists = record { active = taken.stands.lists.active };
+    tables = tables_now;
+    swap = record { finds = taken.stands.swap.finds; counts = taken.stands.swap.counts; flight = taken.stands.swap.flight; on = taken.stands.swap.on };
+  }
+
+  pub exit-steps : MemSteps old (record { frames = mid.frames; tables = tables; spaces = spaces }) s (Exit p) (bare Done)
+  exit-steps = stepped old (record { frames = mid.frames; tables = tables; spaces = spaces }) s (record { world = end_process s.world p; ledger = after_all s.ledger (taking s.ledger (keys_of_process s.ledger p)); free = (view mid).free }) (Exit p) (bare Done)
+      keeps exit-step same_count stands_now refl areas_now has_now kept_now

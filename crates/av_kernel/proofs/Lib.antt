@@ -13,13 +13,15 @@ pub mod Fresh
 pub mod Commands
 pub mod Counting
 pub mod SpacesLaws
-pub mod SpacesEnd
+pub mod SpacesChanged
 pub mod Runs
 pub mod Released
 pub mod Leaving
 pub mod TakeLeast
 pub mod TakeEntries
 pub mod Exits
+pub mod Places
+pub mod Ranges
 pub mod AccessPages
 pub mod AccessBytes
 pub mod AccessParts

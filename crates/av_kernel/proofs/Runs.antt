@@ -1,17 +1,20 @@
 -- The rows of `maps` as they are found: the ranges joined so far, the run that may still grow, and the ranges to come.
-use Rattle.std.proofs.Common.{◌≡◌, ℕ, ◌*◌, ◌==◌, true, false, cond, Bool, ◌&&◌, List, [], ◌∷◌, ◌++◌, drop, Option, Some, refl, sym, ap, subst, ◌∙◌, arith, zero, suc}
+use Rattle.std.proofs.Common.{◌≡◌, ℕ, ◌*◌, ◌==◌, true, false, cond, Bool, ◌&&◌, List, [], ◌∷◌, ◌++◌, drop, Option, Some, None, refl, sym, ap, subst, ◌∙◌, arith, zero, suc}
 use Rattle.std.proofs.lemmas.Bool.Decides.{nat_tests}
 use Rattle.std.proofs.lemmas.Bool.{false≢true}
 use Rattle.std.proofs.lemmas.List.{append_assoc}
+use Rattle.std.specs.Prelude.{IsSome, IsSomeAnd}
 use Rattle.av_vma.specs.declared.area.Area.{Area}
 use Rattle.av_vma.specs.declared.area.Prot.{Prot}
 use Rattle.av_vmatree.specs.declared.span.Span.{Span}
+use Rattle.av_merge.specs.Process.{IsAreaOf}
 use Rattle.av_trace.specs.declared.reply.Row.{Row}
 use Rattle.av_trace.specs.declared.reply.Row.TheVariants.{Run}
 use Rattle.av_plain.specs.Stands.{Range, AreApart}
 use Rattle.av_plain.proofs.JoinedRanges.{run_of, joined, all_joined, longest, on-pages, cover}
-use Rattle.av_kernel.specs.Spaces.{prot_by, range_by, ranges_by, IsAreaOf, AreNumbered}
+use Rattle.av_kernel.specs.Spaces.{prot_by, range_by, ranges_by}
 use Rattle.av_kernel.specs.Report.{AreRuns}
+use Rattle.av_kernel.proofs.SpacesLaws.{AreNumbered}
 
 -- ---- whether two protections are one
 
@@ -104,14 +107,19 @@ numbered_rest f p zero spans h = h
 numbered_rest f p (suc i) [] h = tt
 numbered_rest f p (suc i) (s ∷ spans) h = numbered_rest f p i spans h.1
 
+pub is_there : {X : Type 0} (o : Option X) (P : X → Type 0) → IsSomeAnd o P → IsSome o
+is_there None P h = absurd h
+is_there (Some x) P h = refl
+
 -- an area is on the pages of its span
 pub record IsOn (s : Span) (area : Area) (o : Option Area) : Type 0 where
   pub start : area.start ≡ 4096 * s.from
   pub end : area.end ≡ 4096 * s.to
   pub prot : prot_by o ≡ area.prot
 
-pub is_on : (p : ℕ) (s : Span) (o : Option Area) (area : Area) → IsAreaOf p s o → o ≡ Some area → IsOn s area o
-is_on p s o area h is = let a = subst (IsAreaOf p s) is h in record { start = a.1; end = a.2; prot = ap prot_by is }
+pub is_on : (p : ℕ) (s : Span) (o : Option Area) (area : Area) → IsSomeAnd o (IsAreaOf p s) → o ≡ Some area → IsOn s area o
+is_on p s o area h is = let a = subst (λ o. IsSomeAnd o (IsAreaOf p s)) is h in
+    record { start = a.whole.start ∙ ap (λ n. 4096 * n) (sym a.from); end = a.whole.end ∙ ap (λ n. 4096 * n) (sym a.to); prot = ap prot_by is }
 
 -- ---- the loop
 

@@ -1,22 +1,25 @@
 -- Areas by process: what the trees and the numbered areas say of ranges.
-use Rattle.std.proofs.Common.{◌≡◌, ◌≢◌, ℕ, ◌+◌, ◌-◌, ◌*◌, ◌<◌, ◌≤◌, ◌==◌, nat_lt, nat_le, true, false, cond, ◌&&◌, List, [], ◌∷◌, length, Option, Some, None, is_some, option_map, IfSome, Result, Ok, Err, is_ok, OnErr, refl, sym, ap, subst, ◌∙◌, arith}
+use Rattle.std.proofs.Common.{◌≡◌, ◌≢◌, ℕ, ◌+◌, ◌-◌, ◌<◌, ◌≤◌, ◌==◌, nat_lt, nat_le, Bool, true, false, cond, ◌&&◌, List, [], ◌∷◌, length, Option, Some, None, is_some, option_map, IfSome, refl, sym, ap, subst, ◌∙◌, arith}
 use Rattle.std.proofs.lemmas.Bool.Decides.{nat_tests}
 use Rattle.std.proofs.lemmas.Bool.{eqb-true, false≢true}
 use Rattle.std.proofs.lemmas.List.{length-map}
-use Rattle.std.specs.Prelude.{IsSome, IsSomeAnd}
+use Rattle.std.specs.Prelude.{IsSome, IsSomeAnd, MatchOption, option_and_then}
 use Rattle.std.specs.Ordering.{nat_cmp, is_eq}
-use Rattle.std.proofs.lemmas.Map.Steps.{set_value_same}
-use Rattle.std.specs.Map.{lookup, set_value}
-use Rattle.std.specs.BTreeMap.{BTreeMap, get, is_at, Updates}
+use Rattle.std.specs.Map.{lookup}
+use Rattle.std.specs.BTreeMap.{BTreeMap, get, is_at, Updates, UpdatesBy, WritesThrough, IsUnchanged}
 use Rattle.av_vma.specs.declared.area.Area.{Area}
 use Rattle.av_vma.specs.declared.area.Prot.{Prot}
-use Rattle.av_vma.specs.Ranges.{within, with_at}
-use Rattle.av_vma.specs.Gap.{top_page, IsGap}
+use Rattle.av_vma.specs.Join.{past_of}
+use Rattle.av_vma.specs.Ranges.{within}
+use Rattle.av_vma.specs.Gap.{top_page}
 use Rattle.av_vmatree.specs.declared.span.Span.{Span}
-use Rattle.av_vmatree.specs.Spans.{AreSpans, AreWithin, IsFree, area_at, holds, span, span_of, taken, with_span}
+use Rattle.av_vmatree.specs.Spans.{AreDistinct, area_at, holds, span_of, taken}
 use Rattle.av_vmatree.specs.Spans as tree
-use Rattle.av_plain.specs.Stands.{prot_in, prot_of, AreApart}
-use Rattle.av_kernel.specs.Spaces.{areas_of, is_taken, AllApart, IsSpawned, IsMapped, prot_by, ranges_by, spaces_by, IsAreaOf, AreNumbered, IsTree, AreTrees, IsGrown}
+use Rattle.av_vmatree.proofs.Spans.{held}
+use Rattle.av_merge.specs.Pages.{pages_by}
+use Rattle.av_merge.specs.Process.{AreAreasOf, IsAreaOf, KeepsOthers, Stays}
+use Rattle.av_plain.specs.Stands.{Range, prot_in, prot_of, AreApart}
+use Rattle.av_kernel.specs.Spaces.{Spaces, areas_of, is_taken, AllApart, IsSpawned, IsChanged, IsEnded, prot_by, ranges_by, spaces_by, HasNone, AreTrees}
 
 -- ---- one process in the list of all
 
@@ -65,44 +68,79 @@ taken_is f m p spans is page =
     ∙ ap is_some (prot_is f spans page)
     ∙ mapped_some (λ n. prot_by (f n)) (area_at spans page)
 
-pub gap_is : (f : ℕ → Option Area) (m : BTreeMap ℕ (List Span)) (p n : ℕ) (spans : List Span) (r : Option ℕ) → get nat_cmp m p ≡ Some spans → IsGap (taken spans) n r → IsGap (is_taken (spaces_by f m.entries) p) n r
-gap_is f m p n spans r is gap = subst (λ test. IsGap test n r) (λ k page. sym (taken_is f m p spans is page) k) gap
+pub taken_as : (f : ℕ → Option Area) (m : BTreeMap ℕ (List Span)) (p : ℕ) (spans : List Span) (s : Spaces) → Some spans ≡ get nat_cmp m p → spaces_by f m.entries ≡ s → taken spans ≡ is_taken s p
+taken_as f m p spans s is view = (λ i page. sym (taken_is f m p spans (sym is) page) i) ∙ ap (λ s. is_taken s p) view
 
--- what is known of a page that an area holds
-pub record IsHeld (f : ℕ → Option Area) (page n : ℕ) : Type 0 where
-  pub used : IsSome (f n)
+-- the area that holds a page
+pub record IsHeld (p : ℕ) (f : ℕ → Option Area) (page n : ℕ) : Type 0 where
+  pub area : Area
+  pub area_is : f n ≡ Some area
   pub below : page < top_page
 
-pub of_area : (p : ℕ) (s : Span) (o : Option Area) → IsAreaOf p s o → IsSome o
-of_area p s None h = absurd h
-of_area p s (Some area) h = refl
+pub tree_of : (f : ℕ → Option Area) (m : BTreeMap ℕ (List Span)) (p : ℕ) (spans : List Span) → AreTrees f m → get nat_cmp m p ≡ Some spans → AreAreasOf p f spans
+tree_of f m p spans trees is = subst (λ o. MatchOption o (HasNone p f) (AreAreasOf p f)) is (trees p)
 
-below_top : (s : Span) (page : ℕ) → holds s page ≡ true → s.to ≤ top_page → page < top_page
-below_top s page h top = grind (arith, nat_tests)
-
-held : (f : ℕ → Option Area) (p : ℕ) (spans : List Span) (page n : ℕ) → AreWithin spans → AreNumbered f p spans → area_at spans page ≡ Some n → IsHeld f page n
-held f p [] page n within numbered at = absurd (clash at)
+pub held_by : (f : ℕ → Option Area) (p : ℕ) (spans : List Span) (page n : ℕ) → AreAreasOf p f spans → area_at spans page ≡ Some n → IsHeld p f page n
+held_by f p spans page n areas at =
+    in_span (span_of spans n) (subst (λ o. IfSome o (λ n. IsSomeAnd (span_of spans n) (λ s. holds s page ≡ true))) at (held spans page areas.spans_are.distinct)) (areas.used n)
   where
-    clash : None ≡ Some n → ⊥
-    clash e = cc
-held f p (s ∷ spans) page n within numbered at = elim (holds s page) as (λ b. holds s page ≡ b → cond b (Some s.area) (area_at spans page) ≡ Some n → IsHeld f page n) [
-  | true ↦ λ h e. record {
-    used = subst (λ m. IsSome (f m)) (same s.area n e) (of_area p s (f s.area) numbered.0);
-    below = below_top s page h within.0.1;
-  }
-  | false ↦ λ _ e. held f p spans page n within.1 numbered.1 e
-] refl at
+    below_top : (s : Span) (page : ℕ) → holds s page ≡ true → s.to ≤ top_page → page < top_page
+    below_top s page h top = grind (arith, nat_tests)
+
+    of_area : (s : Span) → holds s page ≡ true → (o : Option Area) → f n ≡ o → IsSomeAnd o (IsAreaOf p s) → IsHeld p f page n
+    of_area s holds None is h = absurd h
+    of_area s holds (Some area) is h = let to = h.to in let high = h.whole.high in
+        record { area = area; area_is = is; below = below_top s page holds (let top : s.to ≤ top_page = omega (arith, to, high) in top) }
+
+    in_span : (o : Option Span) → IsSomeAnd o (λ s. holds s page ≡ true) → IfSome o (λ s. IsSomeAnd (f n) (IsAreaOf p s)) → IsHeld p f page n
+    in_span None holds h = absurd holds
+    in_span (Some s) holds h = of_area s holds (f n) refl h
+
+pub found : (f : ℕ → Option Area) (m : BTreeMap ℕ (List Span)) (p : ℕ) (spans : List Span) (page n : ℕ) → AreTrees f m → get nat_cmp m p ≡ Some spans → area_at spans page ≡ Some n → IsHeld p f page n
+found f m p spans page n trees is at = held_by f p spans page n (tree_of f m p spans trees is) at
+
+-- the protection of an area
+abbrev pub prot_on : Area → Prot
+prot_on area = area.prot
+
+-- a page's protection is that of the area on it
+pub prots_are : (f : ℕ → Option Area) (p : ℕ) (spans : List Span) → AreAreasOf p f spans → (page : ℕ) → prot_in (ranges_by f spans) page ≡ option_map prot_on (pages_by f spans page)
+prots_are f p spans areas page = prot_is f spans page ∙ by (area_at spans page) refl
   where
-    same : (x y : ℕ) → Some x ≡ Some y → x ≡ y
-    same x y e = cc
+    by : (o : Option ℕ) → area_at spans page ≡ o → option_map (λ n. prot_by (f n)) o ≡ option_map prot_on (option_and_then f o)
+    by None at = refl
+    by (Some n) at = let h = held_by f p spans page n areas at in ap (λ o. Some (prot_by o)) h.area_is ∙ sym (ap (option_map prot_on) h.area_is)
 
-pub tree_of : (f : ℕ → Option Area) (m : BTreeMap ℕ (List Span)) (p : ℕ) (spans : List Span) → AreTrees f m → get nat_cmp m p ≡ Some spans → IsTree f p spans
-tree_of f m p spans trees is = subst (λ o. IfSome o (IsTree f p)) is (trees p)
+-- each span is that of an area of p
+abbrev pub AreNumbered : (ℕ → Option Area) → ℕ → List Span → Type 0
+AreNumbered f p [] = Unit {0}
+AreNumbered f p (s ∷ spans) = IsSomeAnd (f s.area) (IsAreaOf p s) × AreNumbered f p spans
 
-pub found : (f : ℕ → Option Area) (m : BTreeMap ℕ (List Span)) (p : ℕ) (spans : List Span) (page n : ℕ) → AreTrees f m → get nat_cmp m p ≡ Some spans → area_at spans page ≡ Some n → IsHeld f page n
-found f m p spans page n trees is at =
-    let t = tree_of f m p spans trees is in
-    held f p spans page n t.spans_are.within t.numbered at
+itself : (n : ℕ) → (n == n) ≡ true
+itself n = grind (arith, nat_tests)
+
+numbered_all : (f : ℕ → Option Area) (p : ℕ) (spans : List Span) → AreDistinct spans → ((n : ℕ) → IfSome (span_of spans n) (λ s. IsSomeAnd (f n) (IsAreaOf p s))) → AreNumbered f p spans
+numbered_all f p [] distinct used = tt
+numbered_all f p (s ∷ spans) distinct used = (
+  subst (λ b. IfSome (cond b (Some s) (span_of spans s.area)) (λ t. IsSomeAnd (f s.area) (IsAreaOf p t))) (itself s.area) (used s.area),
+  numbered_all f p spans distinct.1 (λ n. by n (n == s.area) refl (used n)),
+)
+  where
+    by : (n : ℕ) (b : Bool) → (n == s.area) ≡ b → IfSome (cond b (Some s) (span_of spans n)) (λ t. IsSomeAnd (f n) (IsAreaOf p t)) → IfSome (span_of spans n) (λ t. IsSomeAnd (f n) (IsAreaOf p t))
+    by n true e h = subst (λ o. IfSome o (λ t. IsSomeAnd (f n) (IsAreaOf p t))) (sym (ap (span_of spans) (eqb-true n s.area e) ∙ distinct.0)) tt
+    by n false e h = h
+
+pub numbered : (f : ℕ → Option Area) (p : ℕ) (spans : List Span) → AreAreasOf p f spans → AreNumbered f p spans
+numbered f p spans areas = numbered_all f p spans areas.spans_are.distinct areas.used
+
+-- the spans of a process that lives
+pub tree_spans : (f : ℕ → Option Area) (m : BTreeMap ℕ (List Span)) (p : ℕ) (spans : List Span) → AreTrees f m → is_some (areas_of (spaces_by f m.entries) p) ≡ true → IfSome (get nat_cmp m p) (λ tree. spans ≡ tree)
+    → (get nat_cmp m p ≡ Some spans) × AreAreasOf p f spans
+tree_spans f m p spans trees alive same = each (get nat_cmp m p) refl same
+  where
+    each : (o : Option (List Span)) → get nat_cmp m p ≡ o → IfSome o (λ tree. spans ≡ tree) → (get nat_cmp m p ≡ Some spans) × AreAreasOf p f spans
+    each None is same = absurd (not_dead f m p is alive)
+    each (Some t) is same = let there = is ∙ ap Some (sym same) in (there, tree_of f m p spans trees there)
 
 -- ---- the protection of a page
 
@@ -128,169 +166,171 @@ apart_ranges f (s ∷ t ∷ spans) h = (h.0, h.1.0, apart_ranges f (t ∷ spans)
 pub all_apart : (f : ℕ → Option Area) (m : BTreeMap ℕ (List Span)) → AreTrees f m → AllApart (spaces_by f m.entries)
 all_apart f m trees p = subst (λ o. IfSome o AreApart) (sym (areas_are f m.entries p)) (each (get nat_cmp m p) (trees p))
   where
-    each : (o : Option (List Span)) → IfSome o (IsTree f p) → IfSome (option_map (ranges_by f) o) AreApart
+    each : (o : Option (List Span)) → MatchOption o (HasNone p f) (AreAreasOf p f) → IfSome (option_map (ranges_by f) o) AreApart
     each None h = tt
     each (Some spans) h = apart_ranges f spans h.spans_are.apart
 
--- ---- a process without areas
+-- ---- one process changes, or comes, or goes
 
-pub at_key : (p q : ℕ) → is_eq (nat_cmp p q) ≡ (q == p)
+at_key : (p q : ℕ) → is_eq (nat_cmp p q) ≡ (q == p)
 at_key p q = grind (arith, nat_tests)
 
-pub trees_spawned : (f : ℕ → Option Area) (old new : BTreeMap ℕ (List Span)) (p : ℕ) → AreTrees f old → ((q : ℕ) → get nat_cmp new q ≡ cond (is_at (nat_cmp p) q) (Some []) (get nat_cmp old q)) → AreTrees f new
-trees_spawned f old new p trees now q = subst (λ o. IfSome o (IsTree f q)) (sym (now q)) (elim (is_eq (nat_cmp p q)) as (λ b. IfSome (cond b (Some []) (get nat_cmp old q)) (IsTree f q)) [
-  | true ↦ record { spans_are = record { apart = tt; within = tt; distinct = tt }; numbered = tt }
-  | false ↦ trees q
-])
-
-pub spawned : (f : ℕ → Option Area) (old new : BTreeMap ℕ (List Span)) (p : ℕ) → AreTrees f old → ((q : ℕ) → get nat_cmp new q ≡ cond (is_at (nat_cmp p) q) (Some []) (get nat_cmp old q)) → length new.entries ≡ length old.entries + 1 → IsSpawned (spaces_by f old.entries) (spaces_by f new.entries) p
-spawned f old new p trees now number = record {
-  areas = λ q. areas_are f new.entries q
-      ∙ ap (option_map (ranges_by f)) (now q ∙ ap (λ b. cond b (Some []) (get nat_cmp old q)) (at_key p q))
-      ∙ elim (q == p) as (λ b. option_map (ranges_by f) (cond b (Some []) (get nat_cmp old q)) ≡ cond b (Some []) (areas_of (spaces_by f old.entries) q)) [
-        | true ↦ refl
-        | false ↦ sym (areas_are f old.entries q)
-      ];
-  number = length-map new.entries _ ∙ number ∙ ap (λ n. n + 1) (sym (length-map old.entries _));
-  apart = all_apart f new (trees_spawned f old new p trees now);
-}
-
-pub spawns : (f : ℕ → Option Area) (old new : BTreeMap ℕ (List Span)) (p : ℕ) (spans : List Span) (was : Option (List Span)) → AreTrees f old → spans ≡ [] → Updates nat_cmp old new p (Some spans) → was ≡ get nat_cmp old p → length new.entries ≡ length old.entries + cond (is_some was) 0 1 → areas_of (spaces_by f old.entries) p ≡ None → IsSpawned (spaces_by f old.entries) (spaces_by f new.entries) p
-spawns f old new p spans was trees no_spans updates was_is number dead =
-    spawned f old new p trees
-    (λ q. updates.0 q ∙ ap (λ l. cond (is_at (nat_cmp p) q) (Some l) (get nat_cmp old q)) no_spans)
-    (number ∙ ap (λ b. length old.entries + cond b 0 1) (ap is_some was_is ∙ lives_is f old p ∙ ap is_some dead))
-
--- ---- one more area
-
--- what `map` makes
-abbrev pub new_area : ℕ → ℕ → ℕ → Prot → Area
-new_area p from to prot = record { pid = p; start = 4096 * from; end = 4096 * to; prot = prot; flags = 0; pgoff = from; anon = None }
-
--- the free pages that `map` asks for are free in the tree
-pub free_there : (f : ℕ → Option Area) (m : BTreeMap ℕ (List Span)) (p from to : ℕ) → is_some (areas_of (spaces_by f m.entries) p) ≡ true → ((page : ℕ) → from ≤ page → page < to → is_taken (spaces_by f m.entries) p page ≡ false) → IsSomeAnd (get nat_cmp m p) (λ spans. IsFree (taken spans) from to)
-free_there f m p from to alive free = each (get nat_cmp m p) refl
-  where
-    each : (o : Option (List Span)) → get nat_cmp m p ≡ o → IsSomeAnd o (λ spans. IsFree (taken spans) from to)
-    each None is = absurd (not_dead f m p is alive)
-    each (Some spans) is = λ page low high. sym (taken_is f m p spans is page) ∙ free page low high
-
-span_none : (f : ℕ → Option Area) (p : ℕ) (spans : List Span) (n : ℕ) → AreNumbered f p spans → f n ≡ None → span_of spans n ≡ None
-span_none f p [] n numbered unused = refl
-span_none f p (s ∷ spans) n numbered unused = elim (n == s.area) as (λ b. (n == s.area) ≡ b → cond b (Some s) (span_of spans n) ≡ None) [
-  | true ↦ λ h. absurd (subst (IsAreaOf p s) (ap f (sym (eqb-true n s.area h)) ∙ unused) numbered.0)
-  | false ↦ λ _. span_none f p spans n numbered.1 unused
-] refl
-
--- a number that is not in use is in no tree
-pub other_there : (f : ℕ → Option Area) (m : BTreeMap ℕ (List Span)) (p n : ℕ) → AreTrees f m → is_some (areas_of (spaces_by f m.entries) p) ≡ true → f n ≡ None → IsSomeAnd (get nat_cmp m p) (λ spans. span_of spans n ≡ None)
-other_there f m p n trees alive unused = each (get nat_cmp m p) (lives_is f m p ∙ alive) (trees p)
-  where
-    each : (o : Option (List Span)) → is_some o ≡ true → IfSome o (IsTree f p) → IsSomeAnd o (λ spans. span_of spans n ≡ None)
-    each None e h = absurd (false≢true e)
-    each (Some spans) e h = span_none f p spans n h.numbered unused
-
-module _ (f f' : ℕ → Option Area) (n : ℕ) (area : Area) (unused : f n ≡ None) (now : (k : ℕ) → f' k ≡ with_at n (Some area) f k) where
-  -- an area in use stays
-  stays : (p : ℕ) (s : Span) → IsAreaOf p s (f s.area) → f' s.area ≡ f s.area
-  stays p s h = now s.area ∙ elim (s.area == n) as (λ b. (s.area == n) ≡ b → cond b (Some area) (f s.area) ≡ f s.area) [
-    | true ↦ λ e. absurd (subst (IsAreaOf p s) (ap f (eqb-true s.area n e) ∙ unused) h)
-    | false ↦ λ _. refl
-  ] refl
-
-  numbered_stay : (p : ℕ) (spans : List Span) → AreNumbered f p spans → AreNumbered f' p spans
-  numbered_stay p [] h = tt
-  numbered_stay p (s ∷ spans) h = (subst (IsAreaOf p s) (sym (stays p s h.0)) h.0, numbered_stay p spans h.1)
-
-  ranges_stay : (p : ℕ) (spans : List Span) → AreNumbered f p spans → ranges_by f' spans ≡ ranges_by f spans
-  ranges_stay p [] h = refl
-  ranges_stay p (s ∷ spans) h = λ i. record { from = s.from; to = s.to; prot = prot_by (stays p s h.0 i) } ∷ ranges_stay p spans h.1 i
-
-  numbered_with : (p : ℕ) (s : Span) (spans : List Span) → IsAreaOf p s (f' s.area) → AreNumbered f' p spans → AreNumbered f' p (with_span s spans)
-  numbered_with p s [] here h = (here, tt)
-  numbered_with p s (t ∷ spans) here h = elim (nat_lt s.from t.from) as (λ b. AreNumbered f' p (cond b (s ∷ t ∷ spans) (t ∷ cond (nat_lt t.from s.from) (with_span s spans) spans))) [
-    | true ↦ (here, h)
-    | false ↦ (
-      h.0,
-      elim (nat_lt t.from s.from) as (λ b. AreNumbered f' p (cond b (with_span s spans) spans)) [
-        | true ↦ numbered_with p s spans here h.1
-        | false ↦ h.1
-      ],
-    )
-  ]
-
-  here : f' n ≡ Some area
-  here = now n ∙ ap (λ b. cond b (Some area) (f n)) (self n)
+module _ (f f' : ℕ → Option Area) (p : ℕ) (others : KeepsOthers p f f') where
+  -- the areas of another process stay
+  area_stays : (q : ℕ) → q ≢ p → (s : Span) (n : ℕ) → IsSomeAnd (f n) (IsAreaOf q s) → f' n ≡ f n
+  area_stays q apart s n = each (f n) refl
     where
-      self : (n : ℕ) → (n == n) ≡ true
-      self n = grind (arith, nat_tests)
+      each : (o : Option Area) → f n ≡ o → IsSomeAnd o (IsAreaOf q s) → f' n ≡ f n
+      each None is h = absurd h
+      each (Some area) is h = others.stay n area (λ same. apart (sym h.process ∙ same)) is ∙ sym is
 
-  pub trees_grown : (old new : BTreeMap ℕ (List Span)) (p : ℕ) (s : Span) → s.area ≡ n → IsAreaOf p s (Some area) → AreTrees f old → IsGrown old new p s → AreTrees f' new
-  trees_grown old new p s same is trees g q = subst (λ o. IfSome o (IsTree f' q)) (sym (g.now q)) (elim (q == p) as (λ b. (q == p) ≡ b → IfSome (cond b (Some g.after) (get nat_cmp old q)) (IsTree f' q)) [
-    | true ↦ λ e. subst (λ k. IsTree f' k g.after) (sym (eqb-true q p e)) grown
-    | false ↦ λ _. each (get nat_cmp old q) (trees q)
-  ] refl)
+  kept : (q : ℕ) → q ≢ p → (o : Option (List Span)) → MatchOption o (HasNone q f) (AreAreasOf q f) → MatchOption o (HasNone q f') (AreAreasOf q f')
+  kept q apart None none = λ n. each n (f' n) refl
     where
-      grown : IsTree f' p g.after
-      grown = record {
-        spans_are = g.kept;
-        numbered = subst (AreNumbered f' p) (sym g.spans) (numbered_with p s g.before (subst (IsAreaOf p s) (sym (ap f' same ∙ here)) is) (numbered_stay p g.before (tree_of f old p g.before trees g.was).numbered));
-      }
-
-      each : (o : Option (List Span)) → IfSome o (IsTree f q) → IfSome o (IsTree f' q)
-      each None h = tt
-      each (Some spans) h = record { spans_are = h.spans_are; numbered = numbered_stay q spans h.numbered }
-
-  pub mapped : (old new : BTreeMap ℕ (List Span)) (p from pages : ℕ) → IsAreaOf p (span n from (from + pages)) (Some area) → AreTrees f old → IsGrown old new p (span n from (from + pages)) → IsMapped (spaces_by f old.entries) (spaces_by f' new.entries) p from pages area.prot
-  mapped old new p from pages is trees g = record {
-    others = λ q apart. areas_are f' new.entries q
-        ∙ ap (option_map (ranges_by f')) (g.now q ∙ ap (λ b. cond b (Some g.after) (get nat_cmp old q)) (differ q p apart))
-        ∙ each q (get nat_cmp old q) (trees q)
-        ∙ sym (areas_are f old.entries q);
-    alive = ap is_some now_is;
-    pages = λ page. ap (λ o. prot_of o page) now_is
-        ∙ prot_is f' g.after page
-        ∙ ap (option_map (λ k. prot_by (f' k))) (g.pages page ∙ ap (λ k. cond (within from k page) (Some n) (area_at g.before page)) (many from pages))
-        ∙ elim (within from pages page) as (λ b. option_map (λ k. prot_by (f' k)) (cond b (Some n) (area_at g.before page)) ≡ cond b (Some area.prot) (prot_of (areas_of (spaces_by f old.entries) p) page)) [
-          | true ↦ ap (λ o. Some (prot_by o)) here
-          | false ↦ sym (prot_is f' g.before page)
-              ∙ ap (λ l. prot_in l page) (ranges_stay p g.before (tree_of f old p g.before trees g.was).numbered)
-              ∙ sym (ap (λ o. prot_of o page) (areas_are f old.entries p ∙ ap (option_map (ranges_by f)) g.was))
-        ];
-    number = length-map new.entries _ ∙ g.number ∙ sym (length-map old.entries _);
-    apart = all_apart f' new (trees_grown old new p (span n from (from + pages)) refl is trees g);
-  }
+      each : (n : ℕ) (o : Option Area) → f' n ≡ o → IfSome o (λ area. area.pid ≢ q)
+      each n None is = tt
+      each n (Some area) is = λ same. subst (λ o. IfSome o (λ area. area.pid ≢ q)) (others.none_comes n area (λ here. apart (sym same ∙ here)) is) (none n) same
+  kept q apart (Some spans) areas = record { spans_are = areas.spans_are; used = λ n. used n (span_of spans n) (areas.used n); all = λ n. each n (f' n) refl }
     where
-      differ : (q p : ℕ) → q ≢ p → (q == p) ≡ false
-      differ q p apart = grind (arith, nat_tests)
+      used : (n : ℕ) (o : Option Span) → IfSome o (λ s. IsSomeAnd (f n) (IsAreaOf q s)) → IfSome o (λ s. IsSomeAnd (f' n) (IsAreaOf q s))
+      used n None h = tt
+      used n (Some s) h = subst (λ o. IsSomeAnd o (IsAreaOf q s)) (sym (area_stays q apart s n h)) h
 
-      self : (p : ℕ) → (p == p) ≡ true
-      self p = grind (arith, nat_tests)
+      each : (n : ℕ) (o : Option Area) → f' n ≡ o → IfSome o (λ area. area.pid ≡ q → is_some (span_of spans n) ≡ true)
+      each n None is = tt
+      each n (Some area) is = λ same. subst (λ o. IfSome o (λ area. area.pid ≡ q → is_some (span_of spans n) ≡ true)) (others.none_comes n area (λ here. apart (sym same ∙ here)) is) (areas.all n) same
 
-      many : (from pages : ℕ) → (from + pages) - from ≡ pages
-      many from pages = omega arith
+  ranges_stay : (q : ℕ) → q ≢ p → (spans : List Span) → AreNumbered f q spans → ranges_by f' spans ≡ ranges_by f spans
+  ranges_stay q apart [] h = refl
+  ranges_stay q apart (s ∷ spans) h = λ i. record { from = s.from; to = s.to; prot = prot_by (area_stays q apart s s.area h.0 i) } ∷ ranges_stay q apart spans h.1 i
 
-      now_is : areas_of (spaces_by f' new.entries) p ≡ Some (ranges_by f' g.after)
-      now_is = areas_are f' new.entries p ∙ ap (option_map (ranges_by f')) (g.now p ∙ ap (λ b. cond b (Some g.after) (get nat_cmp old p)) (self p))
+  module _ (old new : BTreeMap ℕ (List Span)) (after : Option (List Span)) (trees : AreTrees f old) (areas : MatchOption after (HasNone p f') (AreAreasOf p f'))
+      (now : (q : ℕ) → get nat_cmp new q ≡ cond (is_at (nat_cmp p) q) after (get nat_cmp old q)) where
+    apart_of : (q : ℕ) → (q == p) ≡ false → q ≢ p
+    apart_of q e = grind (arith, nat_tests)
 
-      each : (q : ℕ) (o : Option (List Span)) → IfSome o (IsTree f q) → option_map (ranges_by f') o ≡ option_map (ranges_by f) o
-      each q None h = refl
-      each q (Some spans) h = ap Some (ranges_stay q spans h.numbered)
+    now_is : (q : ℕ) → get nat_cmp new q ≡ cond (q == p) after (get nat_cmp old q)
+    now_is q = now q ∙ ap (λ b. cond b after (get nat_cmp old q)) (at_key p q)
 
--- ---- no memory
+    pub trees_changed : AreTrees f' new
+    trees_changed q = subst (λ o. MatchOption o (HasNone q f') (AreAreasOf q f')) (sym (now_is q)) (by (q == p) refl)
+      where
+        by : (b : Bool) → (q == p) ≡ b → MatchOption (cond b after (get nat_cmp old q)) (HasNone q f') (AreAreasOf q f')
+        by true e = subst (λ q. MatchOption after (HasNone q f') (AreAreasOf q f')) (sym (eqb-true q p e)) areas
+        by false e = kept q (apart_of q e) (get nat_cmp old q) (trees q)
 
--- an area that is taken out again leaves the others as they were
-pub trees_back : (f f' f'' : ℕ → Option Area) (n : ℕ) (area : Area) → f n ≡ None → ((k : ℕ) → f' k ≡ with_at n (Some area) f k) → ((k : ℕ) → f'' k ≡ with_at n None f' k) → (old new : BTreeMap ℕ (List Span)) → new.entries ≡ old.entries → AreTrees f old → AreTrees f'' new
-trees_back f f' f'' n area unused added removed old new same trees p =
-    subst (λ es. IfSome (lookup (is_at (nat_cmp p)) es) (IsTree f'' p)) (sym same) (subst (λ g. IfSome (get nat_cmp old p) (IsTree g p)) (λ i k. sym (back k) i) (trees p))
+    -- each process has its ranges as before, but for the one that changes
+    ranges_are : (q : ℕ) → areas_of (spaces_by f' new.entries) q ≡ cond (q == p) (option_map (ranges_by f') after) (areas_of (spaces_by f old.entries) q)
+    ranges_are q = areas_are f' new.entries q ∙ ap (option_map (ranges_by f')) (now_is q) ∙ by (q == p) refl
+      where
+        each : q ≢ p → (o : Option (List Span)) → MatchOption o (HasNone q f) (AreAreasOf q f) → option_map (ranges_by f') o ≡ option_map (ranges_by f) o
+        each apart None h = refl
+        each apart (Some spans) h = ap Some (ranges_stay q apart spans (numbered f q spans h))
+
+        by : (b : Bool) → (q == p) ≡ b → option_map (ranges_by f') (cond b after (get nat_cmp old q)) ≡ cond b (option_map (ranges_by f') after) (areas_of (spaces_by f old.entries) q)
+        by true e = refl
+        by false e = each (apart_of q e) (get nat_cmp old q) (trees q) ∙ sym (areas_are f old.entries q)
+
+    same_length : length new.entries ≡ length old.entries → length (spaces_by f' new.entries) ≡ length (spaces_by f old.entries)
+    same_length number = length-map new.entries _ ∙ number ∙ sym (length-map old.entries _)
+
+    pub ended : after ≡ None → length new.entries + 1 ≡ length old.entries → IsEnded (spaces_by f old.entries) (spaces_by f' new.entries) p
+    ended none number = record {
+      areas = λ q. ranges_are q ∙ ap (λ o. cond (q == p) (option_map (ranges_by f') o) (areas_of (spaces_by f old.entries) q)) none;
+      number = ap (λ n. n + 1) (length-map new.entries _) ∙ number ∙ sym (length-map old.entries _);
+      apart = all_apart f' new trees_changed;
+    }
+
+    pub spawned : after ≡ Some [] → length new.entries ≡ length old.entries + 1 → IsSpawned (spaces_by f old.entries) (spaces_by f' new.entries) p
+    spawned empty number = record {
+      areas = λ q. ranges_are q ∙ ap (λ o. cond (q == p) (option_map (ranges_by f') o) (areas_of (spaces_by f old.entries) q)) empty;
+      number = length-map new.entries _ ∙ number ∙ ap (λ n. n + 1) (sym (length-map old.entries _));
+      apart = all_apart f' new trees_changed;
+    }
+
+    pub changed : (spans : List Span) → after ≡ Some spans → length new.entries ≡ length old.entries → (prots : ℕ → Option Prot) → ((page : ℕ) → option_map prot_on (pages_by f' spans page) ≡ prots page)
+        → IsChanged (spaces_by f old.entries) (spaces_by f' new.entries) p prots
+    changed spans is number prots pages = record {
+      others = λ q apart. ranges_are q ∙ ap (λ b. cond b (option_map (ranges_by f') after) (areas_of (spaces_by f old.entries) q)) (other q apart);
+      alive = ap is_some here;
+      pages = λ page. ap (λ o. prot_of o page) here ∙ prots_are f' p spans (subst (λ o. MatchOption o (HasNone p f') (AreAreasOf p f')) is areas) page ∙ pages page;
+      number = same_length number;
+      apart = all_apart f' new trees_changed;
+    }
+      where
+        other : (q : ℕ) → q ≢ p → (q == p) ≡ false
+        other q apart = grind (arith, nat_tests)
+
+        here : areas_of (spaces_by f' new.entries) p ≡ Some (ranges_by f' spans)
+        here = ranges_are p ∙ ap (λ b. cond b (option_map (ranges_by f') after) (areas_of (spaces_by f old.entries) p)) (itself p) ∙ ap (option_map (ranges_by f')) is
+
+pub trees_same : (f : ℕ → Option Area) (old new : BTreeMap ℕ (List Span)) → AreTrees f old → IsUnchanged old new → AreTrees f new
+trees_same f old new trees same p = subst (λ (es : List (ℕ × List Span)). MatchOption (lookup (is_at (nat_cmp p)) es) (HasNone p f) (AreAreasOf p f)) (sym same) (trees p)
+
+-- ---- a process without areas
+
+pub empty_areas : (f : ℕ → Option Area) (p : ℕ) → HasNone p f → AreAreasOf p f []
+empty_areas f p none = record { spans_are = record { apart = tt; within = tt; distinct = tt }; used = λ n. tt; all = λ n. each (f n) (none n) }
   where
-    back : (k : ℕ) → f'' k ≡ f k
-    back k = removed k ∙ elim (k == n) as (λ b. (k == n) ≡ b → cond b None (f' k) ≡ f k) [
-      | true ↦ λ e. sym (ap f (eqb-true k n e) ∙ unused)
-      | false ↦ λ e. added k ∙ ap (λ b. cond b (Some area) (f k)) e
-    ] refl
+    each : (o : Option Area) → IfSome o (λ area. area.pid ≢ p) → IfSome o (λ area. area.pid ≡ p → false ≡ true)
+    each None h = tt
+    each (Some area) h = λ same. absurd (h same)
 
--- a tree that is as it was, written back, changes nothing
-pub unchanged : {A E : Type 0} (r : Result A E) (p : ℕ) (es es' : List (ℕ × List Span)) (spans spans' more : List Span) → es' ≡ set_value (is_at (nat_cmp p)) es spans' → Some spans ≡ lookup (is_at (nat_cmp p)) es → spans' ≡ cond (is_ok r) more spans → OnErr r (es' ≡ es)
-unchanged (Ok x) p es es' spans spans' more is was now = tt
-unchanged (Err e) p es es' spans spans' more is was now = is ∙ ap (set_value (is_at (nat_cmp p)) es) now ∙ set_value_same (is_at (nat_cmp p)) es spans (sym was)
+none_left : (f : ℕ → Option Area) (p : ℕ) → AreAreasOf p f [] → HasNone p f
+none_left f p areas = λ n. each (f n) (areas.all n)
+  where
+    each : (o : Option Area) → IfSome o (λ area. area.pid ≡ p → false ≡ true) → IfSome o (λ area. area.pid ≢ p)
+    each None h = tt
+    each (Some area) h = λ same. false≢true (h same)
+
+none_there : (f : ℕ → Option Area) (m : BTreeMap ℕ (List Span)) (p : ℕ) → AreTrees f m → areas_of (spaces_by f m.entries) p ≡ None → HasNone p f
+none_there f m p trees dead = each (get nat_cmp m p) (sym (areas_are f m.entries p) ∙ dead) (trees p)
+  where
+    each : (o : Option (List Span)) → option_map (ranges_by f) o ≡ None → MatchOption o (HasNone p f) (AreAreasOf p f) → HasNone p f
+    each None e h = h
+    each (Some spans) e h = absurd (clash e)
+      where
+        clash : {x : List Range} → Some x ≡ None → ⊥
+        clash e = cc
+
+module _ (f : ℕ → Option Area) (old new : BTreeMap ℕ (List Span)) (p : ℕ) (spans : List Span) (s : Spaces) (trees : AreTrees f old) (empty : spans ≡ []) (view : spaces_by f old.entries ≡ s) (dead : areas_of s p ≡ None) where
+  same_areas : KeepsOthers p f f
+  same_areas = record { stay = λ n area other is. is; none_comes = λ n area other is. is }
+
+  areas_now : AreAreasOf p f spans
+  areas_now = subst (AreAreasOf p f) (sym empty) (empty_areas f p (none_there f old p trees (ap (λ s. areas_of s p) view ∙ dead)))
+
+  pub trees_spawned : Updates nat_cmp old new p (Some spans) → AreTrees f new
+  trees_spawned updates = trees_changed f f p same_areas old new (Some spans) trees areas_now updates.0
+
+  pub spawns : (was : Option (List Span)) → Updates nat_cmp old new p (Some spans) → was ≡ get nat_cmp old p → length new.entries ≡ length old.entries + cond (is_some was) 0 1 → IsSpawned s (spaces_by f new.entries) p
+  spawns was updates was_is number = subst (λ s. IsSpawned s (spaces_by f new.entries) p) view
+      (spawned f f p same_areas old new (Some spans) trees areas_now updates.0 (ap Some empty)
+      (number ∙ ap (λ b. length old.entries + cond b 0 1) (ap is_some was_is ∙ lives_is f old p ∙ ap (λ s. is_some (areas_of s p)) view ∙ ap is_some dead)))
+
+-- the tree of p is emptied, and then goes
+module _ (f f' : ℕ → Option Area) (old mid new : BTreeMap ℕ (List Span)) (p : ℕ) (before after : List Span) (s : Spaces) (trees : AreTrees f old) (view : spaces_by f old.entries ≡ s) (was : Some before ≡ get nat_cmp old p)
+    (stays : AreAreasOf p f before → Stays p f f' after) (empty : after ≡ []) (writes : WritesThrough nat_cmp (nat_cmp p) old after mid) (updates : Updates nat_cmp mid new p None) where
+  stays_now : Stays p f f' after
+  stays_now = stays (tree_of f old p before trees (sym was))
+
+  written : UpdatesBy nat_cmp (nat_cmp p) old mid (Some after)
+  written = writes.3 (ap is_some (sym was))
+
+  gone : (q : ℕ) → get nat_cmp new q ≡ cond (is_at (nat_cmp p) q) None (get nat_cmp old q)
+  gone q = updates.0 q ∙ ap (cond (is_at (nat_cmp p) q) None) (written.0 q) ∙ by (is_at (nat_cmp p) q)
+    where
+      by : (b : Bool) → cond b None (cond b (Some after) (get nat_cmp old q)) ≡ cond b None (get nat_cmp old q)
+      by true = refl
+      by false = refl
+
+  none_now : HasNone p f'
+  none_now = none_left f' p (subst (AreAreasOf p f') empty stays_now.areas)
+
+  pub trees_left : AreTrees f' new
+  trees_left = trees_changed f f' p stays_now.others old new None trees none_now gone
+
+  pub ends : (taken : Option (List Span)) → taken ≡ get nat_cmp mid p → length new.entries + cond (is_some taken) 1 0 ≡ length mid.entries → IsEnded s (spaces_by f' new.entries) p
+  ends taken taken_is number = subst (λ s. IsEnded s (spaces_by f' new.entries) p) view
+      (ended f f' p stays_now.others old new None trees none_now gone refl
+      (ap (λ o. length new.entries + cond (is_some o) 1 0) (sym (taken_is ∙ written.1)) ∙ number ∙ writes.2))

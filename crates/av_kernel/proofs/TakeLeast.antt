@@ -1,4 +1,4 @@
--- The entry of a process's least page is taken away, or there is none.
+-- The entry of the least page of a range is taken away, or there is none.
 use Rattle.std.proofs.Common.{◌≡◌, ℕ, ◌<◌, ◌≤◌, Bool, true, false, ◌&&◌, [], Option, Some, None, refl, sym, ap, subst, ◌∙◌, arith, ◌==◌, nat_lt, is_some, option_map}
 use Rattle.std.proofs.lemmas.Bool.Decides.{nat_tests}
 use Rattle.std.specs.Ordering.{nat_cmp}
@@ -23,19 +23,12 @@ use Rattle.av_kernel.proofs.PageViews.{entry_put_in}
 use Rattle.av_kernel.proofs.Leaving.{zero_left, zero_freed, released_left, released_freed}
 
 -- no table has an entry past its four levels
-past_pages : (tables : Tables MapTable) (p q : ℕ) → page_bound ≤ q → entry_at tables p q ≡ Empty
+pub past_pages : (tables : Tables MapTable) (p q : ℕ) → page_bound ≤ q → entry_at tables p q ≡ Empty
 past_pages tables p q high = by (tree_map.get nat_cmp tables.tables p)
   where
     by : (o : Option MapTable) → at_page (option_map (λ (table : MapTable). entry_in table.entries) o) q ≡ Empty
     by None = refl
     by (Some table) = ap or_empty (table.full.below q high)
-
-none_from : (tables : Tables MapTable) (p from : ℕ) → ((q : ℕ) → from ≤ q → q < page_bound → entry_at tables p q ≡ Empty) → (q : ℕ) → from ≤ q → entry_at tables p q ≡ Empty
-none_from tables p from none q low = by (nat_lt q page_bound) refl
-  where
-    by : (b : Bool) → nat_lt q page_bound ≡ b → entry_at tables p q ≡ Empty
-    by true e = none q low (let less : q < page_bound = grind (arith, nat_tests, e) in less)
-    by false e = past_pages tables p q (let more : page_bound ≤ q = grind (arith, nat_tests, e) in more)
 
 -- tables with the same entries are seen alike
 view_same : (old new : Mem) → entry_at new.tables ≡ entry_at old.tables → new.frames ≡ old.frames → new.spaces ≡ old.spaces → view new ≡ view old
@@ -71,19 +64,19 @@ module _ (old : Mem) (l : Ledger) (stands : LedgerStands old l) where
       let zero = stands.swap.counts s in
       absurd (omega (arith, found, zero))
 
-  module _ (new : Mem) (p from : ℕ) where
-    pub none_taken : ((q : ℕ) → from ≤ q → q < page_bound → entry_at old.tables p q ≡ Empty) → entry_at new.tables ≡ entry_at old.tables → new.frames ≡ old.frames → new.spaces ≡ old.spaces → TakesLeast old new l p from None
+  module _ (new : Mem) (p from past : ℕ) where
+    pub none_taken : ((q : ℕ) → from ≤ q → q < past → entry_at old.tables p q ≡ Empty) → entry_at new.tables ≡ entry_at old.tables → new.frames ≡ old.frames → new.spaces ≡ old.spaces → TakesLeast old new l p from past None
     none_taken none tables frames spaces = (
-      λ q low. nothing_at p q (none_from old.tables p from none q low),
+      λ q low high. nothing_at p q (none q low high),
       ap (λ f. (seen f).free) frames,
       subst (λ n. LedgerStand (setting n) (view new) l) (sym (ap (λ f. (seen f).count) frames)) (subst (λ v. LedgerStand (setting (count old)) v l) (sym (view_same old new tables frames spaces)) stands),
     )
 
-    module _ (page : ℕ) (e : Pte) (first : IsFirst (entry_at old.tables p) from page_bound page) (is : entry_at old.tables p page ≡ e) where
+    module _ (page : ℕ) (e : Pte) (first : IsFirst (entry_at old.tables p) from past page) (is : entry_at old.tables p page ≡ e) where
       least : (q : ℕ) → from ≤ q → q < page → entry l (p, q) ≡ None
       least q low high = nothing_at p q (first.least q low high)
 
-      pub zero_taken : ((f : ℕ) (write was : Bool) → e ≡ Here f write was → ⊥) → entry_at new.tables ≡ with_entry p page Empty (entry_at old.tables) → new.frames ≡ old.frames → new.spaces ≡ old.spaces → TakesLeast old new l p from (Some page)
+      pub zero_taken : ((f : ℕ) (write was : Bool) → e ≡ Here f write was → ⊥) → entry_at new.tables ≡ with_entry p page Empty (entry_at old.tables) → new.frames ≡ old.frames → new.spaces ≡ old.spaces → TakesLeast old new l p from past (Some page)
       zero_taken other tables frames spaces =
           let there = zero_there p page e is (λ none. first.there (is ∙ none)) other in (
             first.from_there,
@@ -96,7 +89,7 @@ module _ (old : Mem) (l : Ledger) (stands : LedgerStands old l) where
           )
 
       pub frame_taken : (mid : Mem) (f : ℕ) (write was : Bool) → e ≡ Here f write was → entry_at mid.tables ≡ with_entry p page Empty (entry_at old.tables) → mid.frames ≡ old.frames → mid.spaces ≡ old.spaces
-          → view new ≡ released f (view mid) → count new ≡ count old → TakesLeast old new l p from (Some page)
+          → view new ≡ released f (view mid) → count new ≡ count old → TakesLeast old new l p from past (Some page)
       frame_taken mid f write was here tables frames spaces same counts =
           let there = frame_there p page f write was (is ∙ here) in
           let seen_so : view new ≡ released f (record (view old) { table = with_entry p page None (view old).table }) = same ∙ ap (released f) (entry_put_in old mid p page Empty tables frames spaces) in (

@@ -1,9 +1,8 @@
--- What stands while the entries of a process go, one by one.
-use Rattle.std.specs.Prelude.{◌≡◌, ◌≢◌, ℕ, ◌-◌, ◌<◌, ◌≤◌, ◌==◌, true, is_some, if◌then◌else◌, [], ◌∷◌, Option, Some, None}
+-- What stands while entries of a process go, one by one.
+use Rattle.std.specs.Prelude.{◌≡◌, ℕ, ◌-◌, ◌<◌, ◌≤◌, ◌==◌, true, is_some, if◌then◌else◌, List, [], ◌∷◌, Option, Some, None}
 use Rattle.av_vma.specs.Ranges.{with_at}
 use Rattle.av_plain.specs.Ledger.{Ledger, Setting, entry}
-use Rattle.av_plain.specs.Event.{taken, after_all, notes_of}
-use Rattle.av_plain.specs.Taking.{keys_of_process, taking}
+use Rattle.av_plain.specs.Event.{Event, taken, after_all, notes_of}
 use Rattle.av_plain.specs.Choice.{ChoosesAll, freed, frame_under}
 use Rattle.av_plain.specs.Sound.{IsSound}
 use Rattle.av_plain.specs.Stands.{View, FramesStand, ListsStand, TablesStand, SwapStands}
@@ -30,16 +29,15 @@ IsOrderly k = (l : Ledger) × LedgerStands k l
 abbrev pub released : ℕ → View → View
 released f v = if v.maps f == 1 then record v { maps = with_at f (v.maps f - 1) v.maps; free = f ∷ v.free } else record v { maps = with_at f (v.maps f - 1) v.maps }
 
--- the entry of the least page from `from` on has gone, and its frame is free where that was the last; or there is none
-abbrev pub TakesLeast : Mem → Mem → Ledger → ℕ → ℕ → Option ℕ → Type 0
-TakesLeast old new l p from None = ((q : ℕ) → from ≤ q → entry l (p, q) ≡ None) × ((view new).free ≡ (view old).free) × LedgerStands new l
-TakesLeast old new l p from (Some page) =
+-- the entry of the least page from `from` to below `past` has gone, and its frame is free where that was the last; or there is none
+abbrev pub TakesLeast : Mem → Mem → Ledger → ℕ → ℕ → ℕ → Option ℕ → Type 0
+TakesLeast old new l p from past None = ((q : ℕ) → from ≤ q → q < past → entry l (p, q) ≡ None) × ((view new).free ≡ (view old).free) × LedgerStands new l
+TakesLeast old new l p from past (Some page) =
     (from ≤ page) × (is_some (entry l (p, page)) ≡ true) × ((q : ℕ) → from ≤ q → q < page → entry l (p, q) ≡ None)
     × ((view new).free ≡ freed l (taken (p, page) l) (frame_under (entry l (p, page))) (view old).free) × LedgerStands new (taken (p, page) l)
 
--- all entries of the process have gone, without a note, and the frames that became free are in front
-pub record HasTaken (old new : Mem) (p : ℕ) (l : Ledger) : Type 0 where
-  pub stands : LedgerStands new (after_all l (taking l (keys_of_process l p)))
-  pub notes : notes_of (taking l (keys_of_process l p)) ≡ []
-  pub others : (q page : ℕ) → q ≢ p → entry (after_all l (taking l (keys_of_process l p))) (q, page) ≡ entry l (q, page)
-  pub free : ChoosesAll l (taking l (keys_of_process l p)) (view old).free (view new).free
+-- these entries have gone, without a note, and the frames that became free are in front
+pub record HasTaken (old new : Mem) (l : Ledger) (events : List Event) : Type 0 where
+  pub stands : LedgerStands new (after_all l events)
+  pub notes : notes_of events ≡ []
+  pub free : ChoosesAll l events (view old).free (view new).free

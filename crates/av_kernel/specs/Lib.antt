@@ -5,6 +5,7 @@ pub mod Exit
 pub mod Report
 pub mod Access
 pub mod Command
+pub mod Range
 pub mod Invariant
 pub mod Machine
 pub mod Kernel

@@ -1,9 +1,10 @@
-//! The end of a process: its entries, its page table and its areas go.
+//! The end of a process: its entries, its page table and its areas go. And how the entries of a range of pages go.
 
-ghost use Rattle.std.specs.Prelude.{◌≡◌, ℕ, ◌<◌, ◌^◌, true, false, IfOk, IfSome};
+ghost use Rattle.std.specs.Prelude.{◌≡◌, ℕ, ◌-◌, ◌<◌, ◌≤◌, true, false, IfOk, IfSome};
 ghost use Rattle.av_frames.specs.Store.{is_in};
 ghost use Rattle.av_pagetable.specs.Entries.{has};
 ghost use Rattle.av_plain.specs.Ledger.{Ledger};
+ghost use Rattle.av_plain.specs.Taking.{keys_in, taking};
 ghost use Rattle.av_plain.specs.Transcript.{State};
 ghost use Rattle.av_kernel.specs.View.{count, view, Keeps, IsSteady};
 ghost use Rattle.av_kernel.specs.Command.{MemSteps};
@@ -29,38 +30,38 @@ impl Mem {
         if !self.spaces.lives(process) {
             return Ok(answered(alloc, Answer::Refused(Errno::Esrch)));
         }
-        self.take_entries(process);
+        self.take_entries(process, 0, PAST_PAGES);
         self.tables.end(process);
-        self.spaces.end(process)?;
+        self.spaces.end(process);
         Ok(answered(alloc, Answer::Done))
     }
 
-    /// Takes away the entries of a process, by rising page.
-    fn take_entries(&mut self, process: u16)
+    /// Takes away the entries of a process's pages from `from` to below `past`, by rising page.
+    pub fn take_entries(&mut self, process: u16, from: u64, past: u64)
         requires orderly { IsOrderly self.old }
-        ensures taken { (l : Ledger) → LedgerStands self.old l → HasTaken self.old self.new process l }
+        ensures taken { (l : Ledger) → LedgerStands self.old l → HasTaken self.old self.new l (taking l (keys_in l process from (past - from))) }
         ensures processes { has self.new.tables ≡ has self.old.tables }
         ensures bytes { (view self.new).bytes ≡ (view self.old).bytes }
         ensures spaces { self.new.spaces ≡ self.old.spaces }
         ensures count { count self.new ≡ count self.old }
     {
-        let mut from = 0;
-        while let Some(page) = self.take_least(process, from) {
-            from = page + 1;
+        let mut next = from;
+        while let Some(page) = self.take_least(process, next, past) {
+            next = page + 1;
         }
     }
 
-    /// Takes away the entry of a process's least page from this one on, and tells the page.
-    fn take_least(&mut self, process: u16, from: u64) -> Option<u64>
+    /// Takes away the entry of a process's least page from `from` to below `past`, and tells the page.
+    fn take_least(&mut self, process: u16, from: u64, past: u64) -> Option<u64>
         requires orderly { IsOrderly self.old }
-        ensures takes { (l : Ledger) → LedgerStands self.old l → TakesLeast self.old self.new l process from result }
-        ensures below { IfSome result (λ page. page < 2 ^ 36) }
+        ensures takes { (l : Ledger) → LedgerStands self.old l → TakesLeast self.old self.new l process from past result }
+        ensures within { IfSome result (λ page. (from ≤ page) × (page < past)) }
         ensures processes { has self.new.tables ≡ has self.old.tables }
         ensures bytes { (view self.new).bytes ≡ (view self.old).bytes }
         ensures spaces { self.new.spaces ≡ self.old.spaces }
         ensures count { count self.new ≡ count self.old }
     {
-        let (page, entry) = self.tables.take_first(process, from, PAST_PAGES)?;
+        let (page, entry) = self.tables.take_first(process, from, past)?;
         if let Pte::Here { frame, .. } = entry {
             self.release(frame);
         }

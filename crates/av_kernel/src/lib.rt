@@ -8,6 +8,8 @@ mod fault;
 mod kernel;
 mod mem;
 mod page;
+mod place;
+mod range;
 mod report;
 mod spaces;
 mod touched;

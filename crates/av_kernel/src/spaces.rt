@@ -1,15 +1,17 @@
 //! The areas of every process that lives.
 
-ghost use Rattle.std.specs.Prelude.{◌≡◌, ℕ, ◌+◌, ◌<◌, ◌≤◌, [], None, true, false, is_some, length, IsSome, IsSomeAnd, OnOk, OnErr, IfOk, IfSome};
+ghost use Rattle.std.specs.Prelude.{◌≡◌, ℕ, ◌+◌, ◌-◌, ◌^◌, ◌<◌, ◌≤◌, [], Some, None, true, false, is_some, length, IsSome, OnOk, OnErr, IfOk, IfSome};
 ghost use Rattle.std.specs.Ordering.{nat_cmp};
-ghost use Rattle.std.specs.BTreeMap.{IsUnchanged, get as tree_of};
+ghost use Rattle.std.specs.BTreeMap.{get as tree_of};
+ghost use Rattle.av_vma.specs.Areas.{area_of};
 ghost use Rattle.av_vma.specs.Gap.{low_page, top_page, IsGap};
-ghost use Rattle.av_vmatree.specs.Spans.{IsFree, span, span_of, taken};
-ghost use Rattle.av_plain.specs.Stands.{AreApart, prot_of};
-ghost use Rattle.av_kernel.specs.Spaces.{areas_of, is_taken, ranges_by, AreNumbered, AreUsed, IsSpawned, IsMapped, IsGrown, IsEnded, without_areas};
+ghost use Rattle.av_vmatree.specs.Spans.{IsFree, IsMet};
+ghost use Rattle.av_merge.specs.Pages.{IsReached};
+ghost use Rattle.av_merge.specs.Process.{AreAreasOf};
+ghost use Rattle.av_plain.specs.Stands.{prot_of};
+ghost use Rattle.av_kernel.specs.Spaces.{areas_of, is_taken, ranges_by, set_on, IsSpawned, IsChanged, IsEnded};
 ghost use Rattle.av_kernel.specs.Report.{AreRuns};
 ghost use Rattle.av_trace.specs.declared.reply.Row.TheVariants as row;
-ghost use Rattle.av_vma.specs.Areas.{area_of};
 
 use av_trace::{Row, Rows};
 use av_vma::{Area, Areas, Prot};
@@ -17,9 +19,6 @@ use av_vmatree::{Span, Tree};
 use std::alloc::{AllocError, Global};
 use std::collections::BTreeMap;
 use std::marker::Model;
-
-/// The bytes of one page.
-const PAGE_SIZE: u64 = 4096;
 
 /// The areas of every process that lives, seen as the list of the processes, rising, each with the ranges of its areas.
 #[derive(Drop)]
@@ -98,45 +97,82 @@ impl Spaces {
         Ok(())
     }
 
-    /// Maps free pages of a process that lives as one area. Without memory all stays.
+    /// Whether none of these pages is mapped in a process that lives.
+    pub fn is_free(&self, process: u16, from: u64, pages: u64) -> bool
+        requires lives { is_some (areas_of self.now process) ≡ true }
+        requires past { from + pages < 2 ^ 64 }
+        ensures free { result ≡ true → IsFree (is_taken self.now process) from (from + pages) }
+        ensures met { result ≡ false → IsMet (is_taken self.now process) from (from + pages) }
+    {
+        let Some(tree) = self.trees.get(&process) else {
+            unreachable!()
+        };
+        tree.is_free(from, from + pages)
+    }
+
+    /// Maps free pages of a process that lives.
+    ///
+    /// Once memory is wanting, the pages of the process may be any.
     pub fn map(&mut self, process: u16, from: u64, pages: u64, prot: Prot) -> Result<(), AllocError>
         requires lives { is_some (areas_of self.old process) ≡ true }
         requires some { 1 ≤ pages }
         requires low { low_page ≤ from }
         requires high { from + pages ≤ top_page }
-        requires free { (page : ℕ) → from ≤ page → page < from + pages → is_taken self.old process page ≡ false }
-        ensures ok { OnOk result (IsMapped self.old self.new process from pages prot) }
-        ensures err { OnErr result (self.new ≡ self.old) }
+        requires free { IsFree (is_taken self.old process) from (from + pages) }
+        ensures ok { OnOk result (IsChanged self.old self.new process (set_on from pages (Some prot) (prot_of (areas_of self.old process)))) }
     {
-        let to = from + pages;
-        let number = self.areas.add(Area {
-            pid: process,
-            start: PAGE_SIZE * from,
-            end: PAGE_SIZE * to,
-            prot,
-            flags: 0,
-            pgoff: from,
-            anon: None,
-        })?;
-        match insert_span(&mut self.trees, process, number, from, to) {
-            Ok(()) => Ok(()),
-            Err(error) => {
-                self.areas.remove(number);
-                Err(error)
-            }
-        }
+        let Some(tree) = self.trees.get_mut(&process) else {
+            unreachable!()
+        };
+        av_merge::map(&mut self.areas, tree, process, from, from + pages, prot)
     }
 
-    /// Takes away a process that lives, with its areas, in time linear in their number. Without memory all stays.
-    pub fn end(&mut self, process: u16) -> Result<(), AllocError>
-        requires { is_some (areas_of self.old process) ≡ true }
-        ensures ok { OnOk result (IsEnded self.old self.new process) }
-        ensures err { OnErr result (self.new ≡ self.old) }
+    /// Takes these pages away from a process that lives, those of them that are mapped.
+    ///
+    /// Once memory is wanting, the pages of the process may be any.
+    pub fn unmap(&mut self, process: u16, from: u64, pages: u64) -> Result<(), AllocError>
+        requires lives { is_some (areas_of self.old process) ≡ true }
+        requires past { from + pages < 2 ^ 64 }
+        ensures ok { OnOk result (IsChanged self.old self.new process (set_on from pages None (prot_of (areas_of self.old process)))) }
     {
-        let spans = spans_of(self.alloc, &self.trees, process)?;
-        remove_areas(&mut self.areas, &spans);
+        let Some(tree) = self.trees.get_mut(&process) else {
+            unreachable!()
+        };
+        av_merge::cut(&mut self.areas, tree, from, from + pages)
+    }
+
+    /// Gives these pages of a process that lives a protection, up to the first one that is not mapped, and tells that one, else the page
+    /// past them.
+    ///
+    /// Once memory is wanting, the pages of the process may be any.
+    pub fn protect(
+        &mut self,
+        process: u16,
+        from: u64,
+        pages: u64,
+        prot: Prot,
+    ) -> Result<u64, AllocError>
+        requires lives { is_some (areas_of self.old process) ≡ true }
+        requires past { from + pages < 2 ^ 64 }
+        ensures reached { IfOk result (λ reached. IsReached (is_taken self.old process) from (from + pages) reached) }
+        ensures ok { IfOk result (λ reached. IsChanged self.old self.new process (set_on from (reached - from) (Some prot) (prot_of (areas_of self.old process)))) }
+    {
+        let Some(tree) = self.trees.get_mut(&process) else {
+            unreachable!()
+        };
+        av_merge::protect(&mut self.areas, tree, from, from + pages, prot)
+    }
+
+    /// Takes away a process that lives, with its areas.
+    pub fn end(&mut self, process: u16)
+        requires { is_some (areas_of self.old process) ≡ true }
+        ensures { IsEnded self.old self.new process }
+    {
+        let Some(tree) = self.trees.get_mut(&process) else {
+            unreachable!()
+        };
+        av_merge::clear(&mut self.areas, tree);
         self.trees.remove(&process);
-        Ok(())
     }
 
     /// The longest runs of pages with one protection of a process that lives, rising, in time linear in its areas.
@@ -164,20 +200,9 @@ fn spans_of(
     Ok(spans)
 }
 
-/// Takes out the areas that these spans name, each once.
-fn remove_areas(areas: &mut Areas, spans: &[Span])
-    requires { AreUsed (area_of areas.old) spans.now }
-    ensures { (number : ℕ) → area_of areas.new number ≡ without_areas spans.now (area_of areas.old) number }
-{
-    for span in spans {
-        areas.remove(span.area);
-    }
-}
-
 /// The longest runs of pages with one protection of these areas of one process.
 fn runs_of(alloc: Global, areas: &Areas, spans: &[Span]) -> Result<Rows, AllocError>
-    requires numbered { (process : ℕ) × AreNumbered (area_of areas.now) process spans.now }
-    requires apart { AreApart (ranges_by (area_of areas.now) spans.now) }
+    requires { (process : ℕ) × AreAreasOf process (area_of areas.now) spans.now }
     ensures { IfOk result (λ rows. AreRuns (ranges_by (area_of areas.now) spans.now) rows) }
 {
     let mut rows = Rows::new(alloc);
@@ -214,27 +239,5 @@ fn row_of(run: &Area) -> Row
         start: run.start,
         end: run.end,
         prot: run.prot,
-    }
-}
-
-/// Puts the pages of an area into the tree of its process. Without memory all stays.
-fn insert_span(
-    trees: &mut BTreeMap<u16, Tree>,
-    process: u16,
-    area: u64,
-    from: u64,
-    to: u64,
-) -> Result<(), AllocError>
-    requires some { from < to }
-    requires low { low_page ≤ from }
-    requires high { to ≤ top_page }
-    requires free { IsSomeAnd (tree_of nat_cmp trees.old process) (λ spans. IsFree (taken spans) from to) }
-    requires other { IsSomeAnd (tree_of nat_cmp trees.old process) (λ spans. span_of spans area ≡ None) }
-    ensures ok { OnOk result (IsGrown trees.old trees.new process (span area from to)) }
-    ensures err { OnErr result (IsUnchanged trees.old trees.new) }
-{
-    match trees.get_mut(&process) {
-        Some(tree) => tree.insert(area, from, to),
-        None => Ok(()),
     }
 }

@@ -1,7 +1,8 @@
 use Rattle.std.proofs.Common.{◌∙◌, subst, sym, ap}
 use Rattle.av_trace.specs.declared.command.Command.TheVariants.{Exit}
 use Rattle.av_kernel.specs.Command.{MemSteps}
-use Rattle.av_kernel.proofs.Exits.{orderly, exit-steps}
+use Rattle.av_kernel.proofs.Commands.{orderly}
+use Rattle.av_kernel.proofs.Exits.{all_gone, exit-steps}
 use Rattle.av_kernel.proofs.mem.Mem.exit.Goals as goal
 
 pub end-requires : goal.end-requires
@@ -12,5 +13,5 @@ returns-clause-step c = λ s keeps.
     let old = c.args.self.now in
     let mid = c.take_entries.new.self in
     subst (MemSteps old (record { frames = mid.frames; tables = c.end.new.self; spaces = c.end-2.new.self }) s (Exit c.args.process)) (sym c.answered-2.ensures)
-    (exit-steps old mid c.end.new.self c.end-2.new.self s c.args.process keeps (sym c.lives.ensures ∙ c.if-not-lives.false) (c.take_entries.ensures.taken s.ledger (orderly old s keeps))
-    c.take_entries.ensures.bytes c.take_entries.ensures.spaces c.take_entries.ensures.processes c.take_entries.ensures.count c.end.ensures.processes c.end.ensures.entries c.in_ok-end.ensures.ok)
+    (exit-steps old mid c.end.new.self c.end-2.new.self s c.args.process keeps (sym c.lives.ensures ∙ c.if-not-lives.false) (all_gone old mid s.ledger c.args.process (orderly old s keeps) (c.take_entries.ensures.taken s.ledger (orderly old s keeps)))
+    c.take_entries.ensures.bytes c.take_entries.ensures.spaces c.take_entries.ensures.processes c.take_entries.ensures.count c.end.ensures.processes c.end.ensures.entries c.end-2.ensures)

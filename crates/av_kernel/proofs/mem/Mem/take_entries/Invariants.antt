@@ -1,4 +1,4 @@
-use Rattle.std.proofs.Common.{◌≡◌, ◌-◌, ◌≤◌, ◌^◌}
+use Rattle.std.proofs.Common.{◌≡◌, ◌-◌}
 use Rattle.av_pagetable.specs.Entries.{has}
 use Rattle.av_plain.specs.Ledger.{Ledger}
 use Rattle.av_kernel.specs.View.{count, view}
@@ -9,8 +9,7 @@ use Rattle.av_kernel.proofs.mem.Mem.take_entries.Given as goal
 abbrev pub invariant-loop-page : goal.invariant-loop-page
 invariant-loop-page l = record {
   orderly : IsOrderly l.self;
-  taking : (first : Ledger) → LedgerStands l.initial.self first → IsTaking l.initial.self l.self l.process l.from first;
-  few : l.from ≤ 2 ^ 36;
+  taking : (first : Ledger) → LedgerStands l.initial.self first → IsTaking l.initial.self l.self l.process l.from l.past l.next first;
   processes : has l.self.tables ≡ has l.initial.self.tables;
   bytes : (view l.self).bytes ≡ (view l.initial.self).bytes;
   spaces : l.self.spaces ≡ l.initial.self.spaces;
@@ -18,4 +17,4 @@ invariant-loop-page l = record {
 }
 
 abbrev pub decreases-loop-page : goal.decreases-loop-page
-decreases-loop-page l = 2 ^ 36 - l.from
+decreases-loop-page l = l.past - l.next

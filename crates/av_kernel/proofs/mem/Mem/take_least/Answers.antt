@@ -8,7 +8,7 @@ returns-in_err-page-clause-takes c = λ l stands.
     let old = c.args.self.now in
     let new = record old { tables = c.take_first.new.self } in
     let t = c.in_err-page.ensures.takes in
-    subst (TakesLeast old new l c.args.process c.args.from) (sym c.from_residual.ensures) (none_taken old l stands new c.args.process c.args.from t.0 t.1 refl refl)
+    subst (TakesLeast old new l c.args.process c.args.from c.args.past) (sym c.from_residual.ensures) (none_taken old l stands new c.args.process c.args.from c.args.past t.0 t.1 refl refl)
 
 pub release-requires-clause-in_range : goal.release-requires-clause-in_range
 release-requires-clause-in_range c =
@@ -30,7 +30,7 @@ returns-in-Here-clause-takes c = λ l stands.
     let old = c.args.self.now in
     let mid = record old { tables = c.take_first.new.self } in
     let t = c.in_ok-page.ensures.takes in
-    frame_taken old l stands c.release.new.self c.args.process c.args.from c.in_ok-page.page c.in_ok-page.entry t.0 t.1 mid c.in-Here.frame c.in-Here.write c.in-Here.seen c.in-Here.is t.2 refl refl
+    frame_taken old l stands c.release.new.self c.args.process c.args.from c.args.past c.in_ok-page.page c.in_ok-page.entry t.0 t.1 mid c.in-Here.frame c.in-Here.write c.in-Here.seen c.in-Here.is t.2 refl refl
     c.release.ensures.view c.release.ensures.count
 
 pub returns-in_default : goal.returns-in_default
@@ -39,8 +39,8 @@ returns-in_default c =
     let new = record old { tables = c.take_first.new.self } in
     let t = c.in_ok-page.ensures.takes in
     record {
-      takes = λ l stands. zero_taken old l stands new c.args.process c.args.from c.in_ok-page.page c.in_ok-page.entry t.0 t.1 c.in_default.not-Here t.2 refl refl;
-      below = t.0.below;
+      takes = λ l stands. zero_taken old l stands new c.args.process c.args.from c.args.past c.in_ok-page.page c.in_ok-page.entry t.0 t.1 c.in_default.not-Here t.2 refl refl;
+      within = (t.0.from_there, t.0.below);
       processes = c.in_ok-page.ensures.processes;
       bytes = refl;
       spaces = refl;

@@ -1,4 +1,4 @@
-use Rattle.std.proofs.Common.{ap, sym, ◌∙◌}
+use Rattle.std.proofs.Common.{is_some, ap, sym, ◌∙◌}
 use Rattle.av_vma.specs.Areas.{area_of}
 use Rattle.av_plain.specs.Stands.{prot_of}
 use Rattle.av_kernel.specs.Spaces.{areas_of}
@@ -19,7 +19,7 @@ returns-in_err-number-clause-prot c =
 
 pub get-requires-2 : goal.get-requires-2
 get-requires-2 c = record {
-  used = (found (area_of c.self.inside.areas) c.self.inside.trees c.args.process c.in_ok-tree.tree.now c.args.page c.in_ok-number.number c.self.invariant (sym c.in_ok-tree.ensures.value) (sym c.in_ok-number.ensures.area)).used;
+  used = ap is_some (found (area_of c.self.inside.areas) c.self.inside.trees c.args.process c.in_ok-tree.tree.now c.args.page c.in_ok-number.number c.self.invariant (sym c.in_ok-tree.ensures.value) (sym c.in_ok-number.ensures.area)).area_is;
 }
 
 pub returns-clause-prot : goal.returns-clause-prot

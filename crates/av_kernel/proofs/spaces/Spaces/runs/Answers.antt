@@ -1,23 +1,16 @@
 use Rattle.std.proofs.Common.{◌≡◌, ◌∙◌, Some, is_some, option_map, IfSome, IfOk, subst, sym, ap}
 use Rattle.av_vma.specs.Areas.{area_of}
-use Rattle.av_plain.specs.Stands.{AreApart}
+use Rattle.av_merge.specs.Process.{AreAreasOf}
 use Rattle.av_kernel.specs.Report.{AreRuns}
-use Rattle.av_kernel.specs.Spaces.{areas_of, ranges_by, AreNumbered}
-use Rattle.av_kernel.proofs.SpacesLaws.{areas_are, apart_ranges}
-use Rattle.av_kernel.proofs.SpacesEnd.{tree_spans}
+use Rattle.av_kernel.specs.Spaces.{areas_of, ranges_by}
+use Rattle.av_kernel.proofs.SpacesLaws.{areas_are, tree_spans}
 use Rattle.av_kernel.proofs.spaces.Spaces.runs.Goals as goal
 
-pub runs_of-requires-clause-numbered : goal.runs_of-requires-clause-numbered
-runs_of-requires-clause-numbered c =
+pub runs_of-requires : goal.runs_of-requires
+runs_of-requires c =
     let f = area_of c.self.inside.areas in
     let t = tree_spans f c.self.inside.trees c.args.process c.in_ok-spans.spans.items c.self.invariant (ap (λ s. is_some (areas_of s c.args.process)) c.self.view_is ∙ c.requires) c.in_ok-spans.ensures in
-    (c.args.process, subst (AreNumbered f c.args.process) (sym c.deref.ensures.value) t.1.numbered)
-
-pub runs_of-requires-clause-apart : goal.runs_of-requires-clause-apart
-runs_of-requires-clause-apart c =
-    let f = area_of c.self.inside.areas in
-    let t = tree_spans f c.self.inside.trees c.args.process c.in_ok-spans.spans.items c.self.invariant (ap (λ s. is_some (areas_of s c.args.process)) c.self.view_is ∙ c.requires) c.in_ok-spans.ensures in
-    subst (λ spans. AreApart (ranges_by f spans)) (sym c.deref.ensures.value) (apart_ranges f c.in_ok-spans.spans.items t.1.spans_are.apart)
+    (c.args.process, subst (AreAreasOf c.args.process f) (sym c.deref.ensures.value) t.1)
 
 pub returns : goal.returns
 returns c =

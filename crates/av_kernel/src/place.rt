@@ -1,0 +1,108 @@
+//! Where `mmap` puts pages, and the tests of addresses and lengths.
+
+ghost use Rattle.std.specs.Prelude.{◌≡◌, ℕ, ◌+◌, ◌≤◌, ◌||◌, ◌==◌, nat_lt, true, false, not, None, Some, is_some, MatchOption, MatchResult};
+ghost use Rattle.av_vma.specs.Gap.{top_page, IsGap};
+ghost use Rattle.av_plain.specs.World.{Process, page_of, is_on_page};
+ghost use Rattle.av_plain.specs.Refusal.{top, fixed_tests, refusal};
+ghost use Rattle.av_plain.specs.Refusal as refusals;
+ghost use Rattle.av_plain.specs.Step.{is_room};
+ghost use Rattle.av_kernel.specs.Spaces.{areas_of, is_taken};
+ghost use Rattle.av_kernel.specs.Range.{IsProcess, IsPlaced};
+ghost use Rattle.av_trace.specs.declared.reply.Errno.TheVariants as errors;
+
+use crate::spaces::Spaces;
+use av_trace::{Errno, Place};
+
+/// The first address that no process can have.
+const TOP: u64 = 0x7fff_ffff_f000;
+
+/// The lowest address that can be mapped.
+const LOW: u64 = 0x1_0000;
+
+/// Whether a length in bytes, rounded up to whole pages, is more than a process can have.
+pub fn is_too_long(len: u64) -> bool
+    ensures { result ≡ refusals.is_too_long len }
+{
+    len > TOP
+}
+
+/// Whether no process can have this range of addresses, or it is empty or begins within a page.
+pub fn is_no_range(address: u64, len: u64) -> bool
+    ensures { result ≡ (not (is_on_page address) || len == 0 || nat_lt top (address + len)) }
+{
+    address % 4096 != 0 || len == 0 || address > TOP || len > TOP - address
+}
+
+/// The page of an address that a mapping has to have, or why it can't have it.
+fn fixed_page(address: u64, pages: u64) -> Result<u64, Errno>
+    requires few { pages ≤ top_page }
+    ensures { MatchResult result
+        (λ page. (refusal (fixed_tests pages address) ≡ None) × (page ≡ page_of address))
+        (λ error. refusal (fixed_tests pages address) ≡ Some error) }
+{
+    if address > TOP - 4096 * pages {
+        return Err(Errno::Enomem);
+    }
+    if address % 4096 != 0 {
+        return Err(Errno::Einval);
+    }
+    if address < LOW {
+        return Err(Errno::Eperm);
+    }
+    Ok(address / 4096)
+}
+
+impl Spaces {
+    /// The page from which on this many go in a process that lives, or why they can't go where they should.
+    pub fn place(&self, process: u16, pages: u64, place: Place) -> Result<u64, Errno>
+        requires lives { is_some (areas_of self.now process) ≡ true }
+        requires some { 1 ≤ pages }
+        requires few { pages ≤ top_page }
+        ensures { (q : Process) → IsProcess self.now process q → IsPlaced q pages place result }
+    {
+        match place {
+            Place::Auto => self.automatic(process, pages),
+            Place::At(address) => match self.hinted(process, pages, address) {
+                Some(page) => Ok(page),
+                None => self.automatic(process, pages),
+            },
+            Place::Fixed(address) => fixed_page(address, pages),
+            Place::NoReplace(address) => {
+                let page = fixed_page(address, pages)?;
+                if !self.is_free(process, page, pages) {
+                    return Err(Errno::Eexist);
+                }
+                Ok(page)
+            }
+        }
+    }
+
+    /// The greatest page from which on there is room for this many.
+    fn automatic(&self, process: u16, pages: u64) -> Result<u64, Errno>
+        requires lives { is_some (areas_of self.now process) ≡ true }
+        requires some { 1 ≤ pages }
+        ensures { MatchResult result
+            (λ page. IsGap (is_taken self.now process) pages (Some page))
+            (λ error. IsGap (is_taken self.now process) pages None × (error ≡ errors.Enomem)) }
+    {
+        match self.gap(process, pages) {
+            Some(page) => Ok(page),
+            None => Err(Errno::Enomem),
+        }
+    }
+
+    /// The page of a hint, where there is room for this many pages from there on.
+    fn hinted(&self, process: u16, pages: u64, address: u64) -> Option<u64>
+        requires lives { is_some (areas_of self.now process) ≡ true }
+        requires few { pages ≤ top_page }
+        ensures { (q : Process) → IsProcess self.now process q → MatchOption result
+            (is_room q pages (page_of address) ≡ false)
+            (λ page. (is_room q pages (page_of address) ≡ true) × (page ≡ page_of address)) }
+    {
+        let page = address / 4096;
+        if page < LOW / 4096 || page + pages > TOP / 4096 || !self.is_free(process, page, pages) {
+            return None;
+        }
+        Some(page)
+    }
+}
