@@ -31,7 +31,7 @@ has_from area page low high = within_from (first_of area) (past_of area - first_
 pub holds_parts : (s : Span) (page : ℕ) → holds s page ≡ true → (s.from ≤ page) × (page < s.to)
 holds_parts s page h = let k = within_parts s.from (s.to - s.from) page h in (k.0, (let low = k.0 in let high = k.1 in omega arith))
 
-pub holds_from : (s : Span) (page : ℕ) → s.from ≤ page → page < s.to → holds s page ≡ true
+holds_from : (s : Span) (page : ℕ) → s.from ≤ page → page < s.to → holds s page ≡ true
 holds_from s page low high = within_from s.from (s.to - s.from) page low (omega arith)
 
 -- the area of a span has the span's pages
@@ -39,13 +39,6 @@ pub holds_is : (p : ℕ) (s : Span) (area : Area) (page : ℕ) → IsAreaOf p s 
 holds_is p s area page is = ap (λ a. within a (s.to - a) page) is.from ∙ ap (λ b. within (first_of area) (b - first_of area) page) is.to
 
 -- ---- a tree's pages and its spans
-
-pub of_number : (spans : List Span) (n : ℕ) (s : Span) → span_of spans n ≡ Some s → s.area ≡ n
-of_number [] n s e = cc
-of_number (t ∷ spans) n s e = elim (n == t.area) as (λ b. (n == t.area) ≡ b → cond b (Some t) (span_of spans n) ≡ Some s → s.area ≡ n) [
-  | true ↦ λ h e. let same : t ≡ s = cc in sym (eqb-true n t.area h ∙ ap (λ (u : Span). u.area) same)
-  | false ↦ λ _ e. of_number spans n s e
-] refl e
 
 -- the spans after one begin past it
 pub later_from : (t : Span) (spans : List Span) (n : ℕ) (s : Span) → AreApart (t ∷ spans) → span_of spans n ≡ Some s → t.to ≤ s.from
@@ -68,13 +61,6 @@ at_span (t ∷ spans) n s page apart e low high = elim (n == t.area) as (λ b. (
       let out : holds t page ≡ false = grind (arith, nat_tests) in
       rw out (at_span spans n s page apart.2 e low high)
 ] refl e
-
-pub wide_of : (spans : List Span) (n : ℕ) (s : Span) → AreApart spans → span_of spans n ≡ Some s → s.from < s.to
-wide_of [] n s apart e = cc
-wide_of (t ∷ spans) n s apart e = elim (n == t.area) as (λ b. cond b (Some t) (span_of spans n) ≡ Some s → s.from < s.to) [
-  | true ↦ λ e. let same : t ≡ s = cc in subst (λ (u : Span). u.from < u.to) same apart.0
-  | false ↦ λ e. wide_of spans n s apart.2 e
-] e
 
 -- ---- the area that is on a page
 
@@ -149,21 +135,7 @@ one_area p areas spans page other area stands e has =
     let k = holds_parts on.span other (holds_is p on.span area other on.is ∙ has) in
     on_span p areas spans on.number on.span area other stands on.span_is on.area_is k.0 k.1
 
--- two areas that are on pages, with a page in common, are one
-pub same_area : (p : ℕ) (areas : ℕ → Option Area) (spans : List Span) (page page' other : ℕ) (area area' : Area) → AreAreasOf p areas spans → pages_by areas spans page ≡ Some area → pages_by areas spans page' ≡ Some area' → has_page area other ≡ true → has_page area' other ≡ true → area ≡ area'
-same_area p areas spans page page' other area area' stands e e' has has' =
-    let a = one_area p areas spans page other area stands e has in
-    let b = one_area p areas spans page' other area' stands e' has' in
-    cc
-
--- a page that is not taken has no area, and back
-pub free_none : (areas : ℕ → Option Area) (spans : List Span) (page : ℕ) → taken spans page ≡ false → pages_by areas spans page ≡ None
-free_none areas spans page h = each (area_at spans page) h
-  where
-    each : (o : Option ℕ) → is_some o ≡ false → option_and_then areas o ≡ None
-    each None h = refl
-    each (Some n) h = absurd (both_ways _ h refl)
-
+-- a page is taken exactly where an area is on it
 pub taken_is : (p : ℕ) (areas : ℕ → Option Area) (spans : List Span) (page : ℕ) → AreAreasOf p areas spans → is_some (pages_by areas spans page) ≡ taken spans page
 taken_is p areas spans page stands = each (area_at spans page) refl
   where
@@ -186,19 +158,12 @@ rest_free spans n s good there page low high =
     same : (n : ℕ) → (n == n) ≡ true
     same n = grind (arith, nat_tests)
 
--- ---- the same by number
-
--- areas that are the same by number are the areas of the process too
-pub stands_same : (p : ℕ) (areas areas' : ℕ → Option Area) (spans : List Span) → ((k : ℕ) → areas' k ≡ areas k) → AreAreasOf p areas spans → AreAreasOf p areas' spans
-stands_same p areas areas' spans same stands = subst (λ f. AreAreasOf p f spans) (λ i k. sym (same k) i) stands
-
-pub others_same : (p : ℕ) (areas areas' : ℕ → Option Area) → ((k : ℕ) → areas' k ≡ areas k) → KeepsOthers p areas areas'
-others_same p areas areas' same = record { stay = λ k area _ e. same k ∙ e; none_comes = λ k area _ e. sym (same k) ∙ e }
+-- ---- the areas of other processes
 
 pub others_refl : (p : ℕ) (areas : ℕ → Option Area) → KeepsOthers p areas areas
 others_refl p areas = record { stay = λ _ _ _ e. e; none_comes = λ _ _ _ e. e }
 
-pub others_trans : (p : ℕ) (a b c : ℕ → Option Area) → KeepsOthers p a b → KeepsOthers p b c → KeepsOthers p a c
+others_trans : (p : ℕ) (a b c : ℕ → Option Area) → KeepsOthers p a b → KeepsOthers p b c → KeepsOthers p a c
 others_trans p a b c h k = record {
   stay = λ number area other e. k.stay number area other (h.stay number area other e);
   none_comes = λ number area other e. h.none_comes number area other (k.none_comes number area other e);
@@ -224,7 +189,7 @@ differ : (f : ℕ → Option Area) (n k : ℕ) (area : Area) → f n ≡ None �
 differ f n k area none some same = let e : f n ≡ f k = ap f (sym same) in cc
 
 -- where a number has another area, or none, the pages of its span have that
-pub pages_changed : (p n : ℕ) (s : Span) (areas : ℕ → Option Area) (spans : List Span) (x : Option Area) → AreAreasOf p areas spans → span_of spans n ≡ Some s → (page : ℕ) → pages_by (with_at n x areas) spans page ≡ cond (holds s page) x (pages_by areas spans page)
+pages_changed : (p n : ℕ) (s : Span) (areas : ℕ → Option Area) (spans : List Span) (x : Option Area) → AreAreasOf p areas spans → span_of spans n ≡ Some s → (page : ℕ) → pages_by (with_at n x areas) spans page ≡ cond (holds s page) x (pages_by areas spans page)
 pages_changed p n s areas spans x stands there page = elim (holds s page) as (λ b. holds s page ≡ b → pages_by (with_at n x areas) spans page ≡ cond b x (pages_by areas spans page)) [
   | true ↦ λ h.
       let k = holds_parts s page h in
