@@ -9,7 +9,7 @@ use Rattle.av_vmatree.specs.Spans.{IsFree, span_of, taken, without_area}
 use Rattle.av_merge.specs.Laid.{AreLaid}
 use Rattle.av_merge.specs.Pages.{Pages, cut_at, has_page, pages_by, part_of, placed}
 use Rattle.av_merge.specs.Process.{AreAreasOf, IsAreaOf, IsWhole, NoneCrosses}
-use Rattle.av_merge.proofs.Places.{area_in, has_from, has_parts, holds_is, is_on, on_span, one_area, pages_without, rest_free, taken_is}
+use Rattle.av_merge.proofs.Places.{area_in, has_from, has_parts, holds_is, is_on, on_span, pages_without, rest_free, taken_is}
 use Rattle.av_merge.proofs.Mappings.{laid_of}
 
 least : (a b : ℕ) → a ≤ b → min a b ≡ a

@@ -1,7 +1,7 @@
 -- A join of two areas of a process, in its tree and by number: the upper one goes, and the two as one are put in the lower one's place.
-use Rattle.std.proofs.Common.{◌≡◌, ◌≢◌, ℕ, ◌+◌, ◌-◌, ◌*◌, ◌<◌, ◌≤◌, ◌==◌, true, false, cond, ◌&&◌, inl, inr, List, Option, Some, None, Result, Ok, Err, OnOk, is_some, option_map, refl, sym, ap, subst, ◌∙◌, arith}
+use Rattle.std.proofs.Common.{◌≡◌, ◌≢◌, ℕ, ◌-◌, ◌<◌, ◌≤◌, true, false, cond, ◌&&◌, inl, inr, List, Option, Some, None, Result, Ok, Err, OnOk, is_some, option_map, refl, sym, ap, subst, ◌∙◌, arith}
 use Rattle.std.specs.Prelude.{option_and_then}
-use Rattle.std.proofs.lemmas.Bool.{eq-eqb, ne_eqb, eqb-true, both_ways}
+use Rattle.std.proofs.lemmas.Bool.{eq-eqb, ne_eqb, both_ways}
 use Rattle.std.proofs.lemmas.Option.{same_Some}
 use Rattle.av_vma.specs.declared.area.Area.{Area}
 use Rattle.av_vma.specs.Join.{first_of, past_of}
@@ -9,10 +9,9 @@ use Rattle.av_vma.specs.Ranges.{with_at}
 use Rattle.av_vmatree.specs.declared.span.Span.{Span}
 use Rattle.av_vmatree.specs.Spans.{start_of, AreSpans, IsFree, area_at, span_of, taken, unless_area, without_area}
 use Rattle.av_vmatree.proofs.Spans.{removed}
-use Rattle.av_merge.specs.Laid.{AreLaid}
 use Rattle.av_merge.specs.Pages.{Pages, has_page, join, joined_at, merged, pages_by, placed, tried}
 use Rattle.av_merge.specs.Process.{AreAreasOf, IsWhole, Stays}
-use Rattle.av_merge.proofs.Places.{IsOn, is_on, at_span, has_from, has_parts, one_area, stays_trans, take_stands, take_others}
+use Rattle.av_merge.proofs.Places.{IsOn, is_on, at_span, has_from, has_parts, stays_trans, take_stands, take_others}
 use Rattle.av_merge.proofs.Mappings.{join_is, laid_of, left_pages, right_pages, merged_pages, merged_whole}
 
 at_rest : (spans : List Span) (n : ℕ) (s : Span) (page : ℕ) → AreSpans spans → span_of spans n ≡ Some s → area_at (without_area n spans) page ≡ unless_area n (area_at spans page)

@@ -1,13 +1,11 @@
 -- What cutting and joining keep: how each page is mapped, and that each area is on all of its pages.
-use Rattle.std.proofs.Common.{◌≡◌, ℕ, ◌+◌, ◌-◌, ◌*◌, ◌/◌, ◌^◌, ◌<◌, ◌≤◌, min, max, ◌⊎◌, inl, inr, Bool, true, false, cond, ◌&&◌, nat_lt, nat_le, ◌==◌, List, Option, Some, None, option_map, refl, sym, ap, subst, ◌∙◌, arith}
+use Rattle.std.proofs.Common.{◌≡◌, ℕ, ◌+◌, ◌-◌, ◌*◌, ◌/◌, ◌<◌, ◌≤◌, min, max, ◌⊎◌, inl, inr, Bool, true, false, cond, ◌&&◌, nat_lt, ◌==◌, List, Option, Some, None, option_map, refl, sym, ap, subst, ◌∙◌, arith}
 use Rattle.std.proofs.Math.Bool.{beq}
-use Rattle.std.proofs.lemmas.Bool.{and_parts, and_from, ltb-true, ltb-false, leb-true, le-leb, lt-ltb, le-ltb, eqb-true, cases_lt, cases_Bool, cond-true, cond-false, false≢true, both_ways, false_from_ne_true}
-use Rattle.std.proofs.lemmas.Bool.Decides.{nat_tests}
+use Rattle.std.proofs.lemmas.Bool.{and_parts, and_from, ltb-true, ltb-false, lt-ltb, le-ltb, eqb-true, cases_lt, cases_Bool, cond-true, cond-false, false≢true, both_ways, false_from_ne_true}
 use Rattle.std.proofs.lemmas.Option.{none-some, same_Some}
 use Rattle.av_vma.specs.declared.area.Area.{Area}
 use Rattle.av_vma.specs.declared.area.Prot.{Prot}
-use Rattle.av_vma.specs.Gap.{low_page, top_page}
-use Rattle.av_vma.specs.Join.{first_of, past_of, index_of, same_prot, share_anon, are_mergeable}
+use Rattle.av_vma.specs.Join.{first_of, past_of, index_of, same_prot, share_anon}
 use Rattle.av_vma.specs.Ranges.{within}
 use Rattle.av_vmatree.specs.declared.span.Span.{Span}
 use Rattle.av_merge.specs.Laid.{AreLaid}
@@ -226,13 +224,13 @@ tried_is at page on = go (on (at - 1)) (on at) refl refl
               let both = and_parts (join left right) (has_page (merged left right) page) met in
               inl (record { left = left; right = right; before = e; after = f; joins = both.0; here = both.1; is = now ∙ cond-true (join left right && has_page (merged left right) page) (Some (merged left right)) (on page) met })
           | inr unmet ↦ inr (record {
-              is = now ∙ cond-false (join left right && has_page (merged left right) page) (Some (merged left right)) (on page) unmet;
-              apart = λ left' right' g h j.
-                  let l : left' ≡ left = same_Some left' left (sym g ∙ e) in
-                  let r : right' ≡ right = same_Some right' right (sym h ∙ f) in
-                  let joins : join left right ≡ true = sym (λ i. join (l i) (r i)) ∙ j in
-                  false_from_ne_true (has_page (merged left' right') page) (λ there. both_ways (join left right && has_page (merged left right) page) unmet (and_from (join left right) (has_page (merged left right) page) joins (sym (λ i. has_page (merged (l i) (r i)) page) ∙ there)));
-            })
+            is = now ∙ cond-false (join left right && has_page (merged left right) page) (Some (merged left right)) (on page) unmet;
+            apart = λ left' right' g h j.
+                let l : left' ≡ left = same_Some left' left (sym g ∙ e) in
+                let r : right' ≡ right = same_Some right' right (sym h ∙ f) in
+                let joins : join left right ≡ true = sym (λ i. join (l i) (r i)) ∙ j in
+                false_from_ne_true (has_page (merged left' right') page) (λ there. both_ways (join left right && has_page (merged left right) page) unmet (and_from (join left right) (has_page (merged left right) page) joins (sym (λ i. has_page (merged (l i) (r i)) page) ∙ there)));
+          })
         ]
 
 -- a join keeps how each page is mapped

@@ -1,5 +1,5 @@
 -- A part of an area gets a protection: it is cut off at both ends, its area is changed, and is joined with its neighbours.
-use Rattle.std.proofs.Common.{◌≡◌, ℕ, ◌+◌, ◌-◌, ◌*◌, ◌/◌, ◌<◌, ◌≤◌, min, max, nat_lt, true, false, cond, List, Option, Some, None, Result, Ok, Err, OnOk, IfSome, IsSomeAnd, option_map, refl, sym, ap, subst, ◌∙◌, arith}
+use Rattle.std.proofs.Common.{◌≡◌, ℕ, ◌-◌, ◌*◌, ◌/◌, ◌<◌, ◌≤◌, min, max, true, false, cond, List, Option, Some, None, Result, Ok, Err, OnOk, IfSome, IsSomeAnd, option_map, refl, sym, ap, subst, ◌∙◌, arith}
 use Rattle.std.specs.Prelude.{option_and_then}
 use Rattle.std.proofs.lemmas.Bool.{lt-ltb, le-ltb}
 use Rattle.std.proofs.lemmas.Option.{same_Some}
@@ -9,9 +9,8 @@ use Rattle.av_vma.specs.Join.{first_of, past_of}
 use Rattle.av_vma.specs.Ranges.{within, with_at}
 use Rattle.av_vmatree.specs.declared.span.Span.{Span}
 use Rattle.av_vmatree.specs.Spans.{area_at, span_of}
-use Rattle.av_merge.specs.Laid.{AreLaid}
 use Rattle.av_merge.specs.Mapping.{mapping, with_prot}
-use Rattle.av_merge.specs.Pages.{Pages, cut_at, has_page, joined_around, pages_by, part_of, placed, protected}
+use Rattle.av_merge.specs.Pages.{Pages, cut_at, has_page, joined_around, pages_by, part_of, protected}
 use Rattle.av_merge.specs.Process.{AreAreasOf, IsAreaOf, IsWhole, Stays}
 use Rattle.av_merge.proofs.Places.{IsOn, change_others, change_pages, change_stands, has_parts, is_on, one_area, stays_trans}
 use Rattle.av_merge.proofs.Mappings.{laid_of, part_maps_to}

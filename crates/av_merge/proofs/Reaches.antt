@@ -1,17 +1,17 @@
 -- How far a change of protection has come: all pages before were mapped, and are as they were but for their protection.
-use Rattle.std.proofs.Common.{◌≡◌, ℕ, ◌+◌, ◌-◌, ◌<◌, ◌≤◌, nat_lt, nat_le, Bool, true, false, cond, ◌&&◌, not, List, Option, Some, None, is_some, IsSomeAnd, option_map, refl, sym, ap, subst, ◌∙◌, inl, inr, arith}
+use Rattle.std.proofs.Common.{◌≡◌, ℕ, ◌-◌, ◌<◌, ◌≤◌, true, false, cond, ◌&&◌, not, List, Option, Some, None, is_some, option_map, refl, sym, ap, subst, ◌∙◌, inl, inr, arith}
 use Rattle.std.specs.Prelude.{option_and_then, IsSome}
 use Rattle.std.proofs.Math.Bool.{beq}
 use Rattle.std.proofs.lemmas.Bool.{cases_lt, and_parts, not-false}
 use Rattle.std.proofs.lemmas.Bool.Decides.{nat_tests}
 use Rattle.av_vma.specs.declared.area.Area.{Area}
 use Rattle.av_vma.specs.declared.area.Prot.{Prot}
-use Rattle.av_vma.specs.Join.{first_of, past_of}
+use Rattle.av_vma.specs.Join.{past_of}
 use Rattle.av_vma.specs.Ranges.{within}
 use Rattle.av_vmatree.specs.declared.span.Span.{Span}
 use Rattle.av_vmatree.specs.Spans.{area_at, taken}
-use Rattle.av_merge.specs.Mapping.{Mapping, mapping, mapping_in, with_prot}
-use Rattle.av_merge.specs.Pages.{IsReached, Pages, has_page, pages_by}
+use Rattle.av_merge.specs.Mapping.{mapping, mapping_in, with_prot}
+use Rattle.av_merge.specs.Pages.{IsReached, Pages, pages_by}
 use Rattle.av_merge.specs.Process.{AreAreasOf, Stays}
 use Rattle.av_merge.proofs.Places.{has_from, has_parts, is_on, one_area, others_refl, stays_trans, taken_is}
 use Rattle.av_merge.proofs.Mappings.{same_bit}

@@ -35,6 +35,26 @@ fn put(areas: &mut Areas, tree: &mut Tree, from: u64, to: u64, prot: Prot) -> Re
     Ok(())
 }
 
+/// Takes away pages of process 1.
+fn take(areas: &mut Areas, tree: &mut Tree, from: u64, to: u64) -> Result<(), Fail>
+    requires stands { AreAreasOf 1 (area_of areas.old) tree.old }
+    requires forward { from ≤ to }
+    ensures { AreAreasOf 1 (area_of areas.new) tree.new }
+{
+    cut(areas, tree, from, to)?;
+    Ok(())
+}
+
+/// Gives pages of process 1 a protection, and tells how far.
+fn set(areas: &mut Areas, tree: &mut Tree, from: u64, to: u64, prot: Prot) -> Result<u64, Fail>
+    requires stands { AreAreasOf 1 (area_of areas.old) tree.old }
+    requires forward { from ≤ to }
+    ensures { AreAreasOf 1 (area_of areas.new) tree.new }
+{
+    let past = protect(areas, tree, from, to, prot)?;
+    Ok(past)
+}
+
 /// The area that holds a page.
 fn held(areas: &Areas, tree: &Tree, page: u64) -> Option<Area>
     requires { AreAreasOf 1 (area_of areas.now) tree.now }
@@ -78,12 +98,12 @@ fn the_offset_runs_on_past_a_cut(rt: HostRuntime) -> Result<(), Fail> {
     let mut areas = Areas::new(rt.alloc());
     let mut tree = Tree::new(rt.alloc());
     put(&mut areas, &mut tree, 16, 26, READ)?;
-    cut(&mut areas, &mut tree, 20, 22)?;
+    take(&mut areas, &mut tree, 20, 22)?;
     assert_eq!(rt; held(&areas, &tree, 19), area(16, 20, READ));
     assert_eq!(rt; held(&areas, &tree, 20), None);
     assert_eq!(rt; held(&areas, &tree, 22), area(22, 26, READ));
     clear(&mut areas, &mut tree);
-    assert_eq!(rt; held(&areas, &tree, 22), None);
+    assert_eq!(rt; tree.find(22), None);
     Ok(())
 }
 
@@ -93,11 +113,11 @@ fn protect_stops_at_a_hole(rt: HostRuntime) -> Result<(), Fail> {
     let mut tree = Tree::new(rt.alloc());
     put(&mut areas, &mut tree, 16, 20, READ)?;
     put(&mut areas, &mut tree, 22, 24, READ)?;
-    assert_eq!(rt; protect(&mut areas, &mut tree, 18, 24, WRITE)?, 20);
+    assert_eq!(rt; set(&mut areas, &mut tree, 18, 24, WRITE)?, 20);
     assert_eq!(rt; held(&areas, &tree, 17), area(16, 18, READ));
     assert_eq!(rt; held(&areas, &tree, 18), area(18, 20, WRITE));
     assert_eq!(rt; held(&areas, &tree, 22), area(22, 24, READ));
-    assert_eq!(rt; protect(&mut areas, &mut tree, 16, 18, WRITE)?, 18);
+    assert_eq!(rt; set(&mut areas, &mut tree, 16, 18, WRITE)?, 18);
     assert_eq!(rt; held(&areas, &tree, 16), area(16, 20, WRITE));
     Ok(())
 }

@@ -18,9 +18,11 @@ returns-in_err-split_before-2-clause-stands c = λ p stands.
 pub join_around-requires-clause-stands : goal.join_around-requires-clause-stands
 join_around-requires-clause-stands c =
     let p = c.requires.stands.0 in
-    let one = c.split_before.ensures.stands p c.requires.stands.1 in
-    (p, changed_stands p c.args.from c.args.past c.in-Some.number c.args.prot c.get-area.result (area_of c.args.areas.now) (area_of c.split_before.new.areas) (area_of c.split_before-2.new.areas) (area_of c.change.new.self) c.args.tree.now c.split_before.new.tree c.split_before-2.new.tree
-    c.requires.some c.requires.inside c.requires.stands.1 one (c.split_before-2.ensures.stands p one.areas) c.in_ok-split_before.ensures.pages c.in_ok-split_before-2.ensures.pages (sym c.in-Some.ensures.area) c.get-area.ensures c.change.ensures)
+    let one = c.split_before.ensures.stands p c.requires.stands.1 in (
+      p,
+      changed_stands p c.args.from c.args.past c.in-Some.number c.args.prot c.get-area.result (area_of c.args.areas.now) (area_of c.split_before.new.areas) (area_of c.split_before-2.new.areas) (area_of c.change.new.self) c.args.tree.now c.split_before.new.tree c.split_before-2.new.tree
+          c.requires.some c.requires.inside c.requires.stands.1 one (c.split_before-2.ensures.stands p one.areas) c.in_ok-split_before.ensures.pages c.in_ok-split_before-2.ensures.pages (sym c.in-Some.ensures.area) c.get-area.ensures c.change.ensures,
+    )
 
 pub returns-clause-stands : goal.returns-clause-stands
 returns-clause-stands c = λ p stands.
