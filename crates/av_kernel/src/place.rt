@@ -12,12 +12,13 @@ ghost use Rattle.av_trace.specs.declared.reply.Errno.TheVariants as errors;
 
 use crate::spaces::Spaces;
 use av_trace::{Errno, Place};
+use av_vma::{LOW_PAGE, TOP_PAGE};
+
+/// The bytes of one page.
+pub const PAGE_SIZE: u64 = 4096;
 
 /// The first address that no process can have.
-const TOP: u64 = 0x7fff_ffff_f000;
-
-/// The lowest address that can be mapped.
-const LOW: u64 = 0x1_0000;
+const TOP: u64 = PAGE_SIZE * TOP_PAGE;
 
 /// Whether a length in bytes, rounded up to whole pages, is more than a process can have.
 pub fn is_too_long(len: u64) -> bool
@@ -30,7 +31,7 @@ pub fn is_too_long(len: u64) -> bool
 pub fn is_no_range(address: u64, len: u64) -> bool
     ensures { result ≡ (not (is_on_page address) || len == 0 || nat_lt top (address + len)) }
 {
-    address % 4096 != 0 || len == 0 || address > TOP || len > TOP - address
+    address % PAGE_SIZE != 0 || len == 0 || address > TOP || len > TOP - address
 }
 
 /// The page of an address that a mapping has to have, or why it can't have it.
@@ -40,16 +41,16 @@ fn fixed_page(address: u64, pages: u64) -> Result<u64, Errno>
         (λ page. (refusal (fixed_tests pages address) ≡ None) × (page ≡ page_of address))
         (λ error. refusal (fixed_tests pages address) ≡ Some error) }
 {
-    if address > TOP - 4096 * pages {
+    if address > TOP - PAGE_SIZE * pages {
         return Err(Errno::Enomem);
     }
-    if address % 4096 != 0 {
+    if address % PAGE_SIZE != 0 {
         return Err(Errno::Einval);
     }
-    if address < LOW {
+    if address < PAGE_SIZE * LOW_PAGE {
         return Err(Errno::Eperm);
     }
-    Ok(address / 4096)
+    Ok(address / PAGE_SIZE)
 }
 
 impl Spaces {
@@ -99,8 +100,8 @@ impl Spaces {
             (is_room q pages (page_of address) ≡ false)
             (λ page. (is_room q pages (page_of address) ≡ true) × (page ≡ page_of address)) }
     {
-        let page = address / 4096;
-        if page < LOW / 4096 || page + pages > TOP / 4096 || !self.is_free(process, page, pages) {
+        let page = address / PAGE_SIZE;
+        if page < LOW_PAGE || page + pages > TOP_PAGE || !self.is_free(process, page, pages) {
             return None;
         }
         Some(page)

@@ -15,13 +15,10 @@ ghost use Rattle.av_trace.specs.declared.command.Command.TheVariants as commands
 
 use crate::command::answered;
 use crate::mem::Mem;
-use crate::place::{is_no_range, is_too_long};
+use crate::place::{PAGE_SIZE, is_no_range, is_too_long};
 use av_trace::{Answer, Errno, Place, Reply};
 use av_vma::Prot;
 use std::alloc::{AllocError, Global};
-
-/// The bytes of one page.
-const PAGE_SIZE: u64 = 4096;
 
 /// How many pages addresses of 64 bits have.
 const ADDRESS_PAGES: u64 = 1 << 52;
