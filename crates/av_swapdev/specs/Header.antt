@@ -1,5 +1,5 @@
 -- What page 0 of a swap area says of it: `mkswap`'s header, version 1.
-use Rattle.std.specs.Prelude.{◌≡◌, ℕ, ◌+◌, ◌-◌, ◌*◌, ◌==◌, Bool, not, ◌||◌, nat_eq, nat_lt, if◌then◌else◌, min, List, [], drop, map, filter, length, codes, Option, Some, None, Result, Ok, Err}
+use Rattle.std.specs.Prelude.{◌≡◌, ℕ, ◌+◌, ◌-◌, ◌*◌, ◌<◌, ◌≤◌, ◌==◌, Bool, not, ◌||◌, nat_eq, nat_lt, if◌then◌else◌, min, List, [], drop, map, filter, length, codes, Option, Some, None, Result, Ok, Err}
 use Rattle.std.specs.List.{list_any, range_with_len, ends_with}
 use Rattle.std.specs.Set.{unique_keys}
 use Rattle.byteorder.specs.Endian.{little_number, big_number}
@@ -71,11 +71,11 @@ with_slots layout = if layout.slots == 0 then Err NoSlot else Ok layout
 -- what the numbers of a header in this order say, on a device with so many pages
 abbrev pub read_in : Order → List ℕ → ℕ → Result Layout HeaderFault
 read_in order page device =
-  if last_page order page == 0 then Err LastPage
-  else if nat_lt device (area_pages order page) then Err Short
-  else if nat_lt 637 (bad_count order page) then Err TooManyBad
-  else if list_any (is_out (last_page order page)) (all_named order page) then Err BadPage
-  else with_slots (layout_of (area_pages order page) (bad_below (area_pages order page) (all_named order page)))
+    if last_page order page == 0 then Err LastPage
+    else if nat_lt device (area_pages order page) then Err Short
+    else if nat_lt 637 (bad_count order page) then Err TooManyBad
+    else if list_any (is_out (last_page order page)) (all_named order page) then Err BadPage
+    else with_slots (layout_of (area_pages order page) (bad_below (area_pages order page) (all_named order page)))
 
 abbrev pub read_by : Option Order → List ℕ → ℕ → Result Layout HeaderFault
 read_by None page device = Err Version
@@ -104,3 +104,7 @@ answer_of (Err fault) = Err fault
 -- the header is what the page says on some device
 abbrev pub IsHeaderOf : List ℕ → Header → Type 0
 IsHeaderOf page header = (device : ℕ) × (answer_of (header_of page device) ≡ Ok header)
+
+-- the header's page, the slots and the bad pages are all pages of the area; the device has them; there are 1,048,576 at most
+abbrev pub AddsUp : Header → ℕ → Type 0
+AddsUp header device = (1 + header.slots + header.bad ≡ header.pages) × (0 < header.slots) × (header.pages ≤ device) × (header.pages ≤ 1048576)

@@ -2,7 +2,7 @@
 
 ghost use Rattle.std.specs.Prelude.{◌≡◌, ◌+◌, ◌-◌, ◌*◌, ◌<◌, ◌≤◌, length, IfOk};
 ghost use Rattle.std.specs.List.{list_any};
-ghost use Rattle.av_swapdev.specs.Header.{number_at, order_of, named, all_named, bad_below, slots_of, is_in, is_out, read_in, header_of, answer_of, bad_pages, IsHeaderOf};
+ghost use Rattle.av_swapdev.specs.Header.{number_at, order_of, named, all_named, bad_below, slots_of, is_in, is_out, read_in, header_of, answer_of, bad_pages, IsHeaderOf, AddsUp};
 
 use byteorder::{BigEndian, ByteOrder, LittleEndian};
 
@@ -17,8 +17,11 @@ const MOST_BAD: u32 = 637;
 
 /// Where the numbers of a header stand, in bytes: the version, the last page, how many bad pages, and the first of those.
 const VERSION: usize = 1024;
+
 const LAST_PAGE: usize = 1028;
+
 const BAD_COUNT: usize = 1032;
+
 const FIRST_BAD: usize = 1536;
 
 /// The order of the bytes in each number of a header.
@@ -140,6 +143,7 @@ pub fn read_header(page: &[u8], device_pages: u32) -> Result<Header, HeaderFault
     requires { length page.now ≡ 4096 }
     ensures exact { result ≡ answer_of (header_of page.now device_pages) }
     ensures of_page { IfOk result (λ header. IsHeaderOf page.now header) }
+    ensures adds_up { IfOk result (λ header. AddsUp header device_pages) }
 {
     if !page.ends_with(SIGNATURE) {
         return Err(HeaderFault::Signature);

@@ -17,3 +17,6 @@ pub use mem_dev::MemDev;
 pub use memory::{MemSink, MemSource};
 pub use outside::{Failed, Sink, SinkErr, Source};
 pub use real::{ReadSource, WriteSink};
+
+#[cfg(test)]
+mod tests;

@@ -78,7 +78,20 @@ impl SwapDev for MemDev {
 
     ghost faults = { λ d. d.faults.count };
 
-    fn attach(&mut self, area: u8, _name: &str) -> Result<u32, AttachErr> {
+    /// The name is not looked at. An area that is not in the list has no page.
+    fn attach(&mut self, area: u8, _name: &str) -> Result<u32, AttachErr>
+        requires { area < 8 }
+        ensures size { IfOk result (λ n. ⟦<MemDev as SwapDev>⟧.sizes self.new ≡ with_at area (Some n) (⟦<MemDev as SwapDev>⟧.sizes self.old)) }
+        ensures most { IfOk result (λ n. n ≤ 1048576) }
+        ensures renewed { OnOk result (IsRenewed area (⟦<MemDev as SwapDev>⟧.pages self.old) (⟦<MemDev as SwapDev>⟧.pages self.new)) }
+        ensures same_sizes { OnErr result (⟦<MemDev as SwapDev>⟧.sizes self.new ≡ ⟦<MemDev as SwapDev>⟧.sizes self.old) }
+        ensures same_pages { OnErr result (⟦<MemDev as SwapDev>⟧.pages self.new ≡ ⟦<MemDev as SwapDev>⟧.pages self.old) }
+        ensures never_falls { ⟦<MemDev as SwapDev>⟧.faults self.old ≤ ⟦<MemDev as SwapDev>⟧.faults self.new }
+        ensures cause { OnErr result (Rose (⟦<MemDev as SwapDev>⟧.faults self.old) (⟦<MemDev as SwapDev>⟧.faults self.new)) }
+        // Beside what the trait says: it is all pages of the area, and they stay.
+        ensures all { IfOk result (λ n. n ≡ size_in self.old.areas.items area) }
+        ensures kept { ⟦<MemDev as SwapDev>⟧.pages self.new ≡ ⟦<MemDev as SwapDev>⟧.pages self.old }
+    {
         if self.faults.fails() {
             return Err(AttachErr::Failed);
         }

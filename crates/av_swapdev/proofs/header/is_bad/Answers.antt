@@ -1,4 +1,4 @@
-use Rattle.std.proofs.Common.{◌≡◌, ℕ, ◌-◌, ◌<◌, ◌≤◌, ltb, ◌&&◌, Bool, false, true, Some, ap, sym, ◌∙◌, arith, refl}
+use Rattle.std.proofs.Common.{◌≡◌, ℕ, ◌-◌, ltb, ◌&&◌, Bool, false, true, Some, ap, sym, ◌∙◌, arith, refl}
 use Rattle.std.proofs.lemmas.Bool.Decides.{nat_tests}
 use Rattle.av_swapdev.specs.Header.{number_at, named, all_named, is_in, order_of, area_pages}
 use Rattle.av_swapdev.proofs.HeaderLemmas.{header_is, in_bad}
