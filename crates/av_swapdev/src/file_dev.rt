@@ -3,6 +3,7 @@
 //! What they hold is not told: of it the contracts say how many pages are used, and when a call failed.
 
 ghost use Rattle.std.specs.Prelude.{◌≡◌, ◌≤◌, ℕ, None, slice_index_or, option_map, IfOk};
+ghost use Rattle.av_swapdev.specs.Outside.{Rose};
 
 use crate::device::{AttachErr, SwapDev};
 use crate::outside::Failed;
@@ -55,6 +56,14 @@ fn open<R: Files<File = File>>(files: &R, name: &str) -> io::Result<Attached>
     })
 }
 
+/// One more fault.
+fn count(faults: &mut u64)
+    ensures never_falls { faults.old ≤ faults.new }
+    ensures rose { Rose faults.old faults.new }
+{
+    *faults = faults.saturating_add(1);
+}
+
 /// Where a page begins in its file.
 fn offset(page: u32) -> u64 {
     u64::from(page) * 4096
@@ -76,7 +85,7 @@ impl<R: Files<File = File> + Drop> SwapDev for FileDev<R> {
             }
             Err(error) if error.kind() == ErrorKind::OutOfMemory => Err(AttachErr::Memory),
             Err(_) => {
-                self.faults = self.faults.saturating_add(1);
+                count(&mut self.faults);
                 Err(AttachErr::Failed)
             }
         }
@@ -89,7 +98,7 @@ impl<R: Files<File = File> + Drop> SwapDev for FileDev<R> {
         match attached.file.read_exact_at(into, offset(page)) {
             Ok(()) => Ok(()),
             Err(_) => {
-                self.faults = self.faults.saturating_add(1);
+                count(&mut self.faults);
                 Err(Failed)
             }
         }
@@ -102,7 +111,7 @@ impl<R: Files<File = File> + Drop> SwapDev for FileDev<R> {
         match attached.file.write_all_at(from, offset(page)) {
             Ok(()) => Ok(()),
             Err(_) => {
-                self.faults = self.faults.saturating_add(1);
+                count(&mut self.faults);
                 Err(Failed)
             }
         }
