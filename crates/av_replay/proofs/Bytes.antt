@@ -1,8 +1,8 @@
 -- Bytes taken and gained, one piece after another.
-use Rattle.std.proofs.Common.{◌≡◌, ℕ, ◌+◌, ◌≤◌, List, [], ◌++◌, Option, Some, None, refl, sym, ap, ◌∙◌, append_assoc, append-nil, arith, take, drop, length}
-use Rattle.std.proofs.lemmas.List.{take-append-drop, take-take, drop-take, take_at, drop-drop}
+use Rattle.std.proofs.Common.{◌≡◌, ℕ, ◌+◌, ◌≤◌, List, [], ◌++◌, Option, Some, None, refl, sym, ap, ◌∙◌, append_assoc, append-nil, arith, take, drop}
+use Rattle.std.proofs.lemmas.List.{take-append-drop, take-take, drop-take}
 use Rattle.std.specs.Prelude.{option_map}
-use Rattle.av_replay.specs.Outside.{Rose, in_front, Took, Gained}
+use Rattle.av_swapdev.specs.Outside.{Rose, in_front, Took, Gained}
 
 pub Took-then : (a b c : Option (List ℕ)) (x y : List ℕ) → Took a b x → Took b c y → Took a c (x ++ y)
 Took-then a b None x y p q = p ∙ ap (option_map (λ (rest : List ℕ). x ++ rest)) q
@@ -46,9 +46,3 @@ pub take-add : (n m : ℕ) (xs : List ℕ) → take (n + m) xs ≡ take n xs ++ 
 take-add n m xs =
     let parts = take-append-drop n (take (n + m) xs) in
     sym parts ∙ ap (λ (t : List ℕ). t ++ drop n (take (n + m) xs)) (take-take n (n + m) xs (omega arith)) ∙ ap (λ (t : List ℕ). take n xs ++ t) (drop-take n m xs)
-
--- what was read is the front of what was left
-pub read_front : (at n : ℕ) (bytes x rest : List ℕ) → x ≡ take n (drop at bytes) → length x ≡ n → drop at bytes ≡ take n (x ++ rest) ++ drop (at + n) bytes
-read_front at n bytes x rest e len =
-    let parts = take-append-drop n (drop at bytes) in
-    sym parts ∙ ap (λ (t : List ℕ). t ++ drop n (drop at bytes)) (sym e ∙ sym (take_at x rest n len)) ∙ ap (λ (t : List ℕ). take n (x ++ rest) ++ t) (drop-drop n at bytes)

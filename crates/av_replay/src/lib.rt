@@ -2,10 +2,7 @@
 #![tactic(auto)]
 
 mod line;
-mod memory;
-mod outside;
 mod pending;
-mod real;
 mod replay;
 mod status;
 mod top_call;
@@ -13,9 +10,6 @@ mod turn;
 mod words;
 mod write;
 
-pub use memory::{MemSink, MemSource};
-pub use outside::{Failed, Sink, SinkErr, Source};
-pub use real::{ReadSource, WriteSink};
 pub use status::Status;
 pub use top_call::{Outcome, run};
 

@@ -1,10 +1,10 @@
 //! Reading a line.
 
 ghost use Rattle.std.specs.Prelude.{true, ◌≡◌, ◌≤◌};
-ghost use Rattle.av_replay.specs.Outside.{Rose, in_front};
+ghost use Rattle.av_swapdev.specs.Outside.{Rose, in_front};
 ghost use Rattle.av_replay.specs.Line.{Finds, ReadsLine};
 
-use crate::outside::{Sink, Source};
+use av_swapdev::{Sink, Source};
 use crate::pending::Pending;
 use memchr::memchr;
 

@@ -1,10 +1,10 @@
 //! What was read of the source and is not yet done.
 
 ghost use Rattle.std.specs.Prelude.{true, ◌≡◌, ◌+◌, ◌-◌, ◌<◌, ◌≤◌, List, [], ℕ, length, take, drop, IfOk, OnErr};
-ghost use Rattle.av_replay.specs.Outside.{Rose, in_front, Took, HasEnded};
+ghost use Rattle.av_swapdev.specs.Outside.{Rose, in_front, Took, HasEnded};
 ghost use Rattle.av_replay.specs.Line.{longest};
 
-use crate::outside::{Failed, Source};
+use av_swapdev::{Failed, Source};
 use std::alloc::{AllocError, Global};
 use std::marker::Model;
 

@@ -4,11 +4,11 @@ ghost use Rattle.std.specs.Prelude.{true, ◌≡◌, ◌≤◌, [], Some, replic
 ghost use Rattle.av_plain.specs.Transcript.{at_first};
 ghost use Rattle.av_kernel.specs.Kernel.{Stands};
 ghost use Rattle.av_kernel.specs.View.{setting};
-ghost use Rattle.av_replay.specs.Outside.{Rose};
+ghost use Rattle.av_swapdev.specs.Outside.{Rose};
 ghost use Rattle.av_replay.specs.Turn.{Waits, Finishes};
 ghost use Rattle.av_replay.specs.Headline.{Headline};
 
-use crate::outside::{Sink, Source};
+use av_swapdev::{Sink, Source};
 use crate::pending::Pending;
 use crate::status::Status;
 use crate::turn::{Turn, take_turn};

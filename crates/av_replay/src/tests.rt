@@ -1,4 +1,5 @@
 use super::*;
+use av_swapdev::{MemSink, MemSource};
 use std::alloc::{AllocError, Global};
 use std::test::*;
 

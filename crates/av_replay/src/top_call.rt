@@ -1,12 +1,12 @@
 //! The top call.
 
 ghost use Rattle.std.specs.Prelude.{true, Some, List, ◌≡◌, ℕ, ◌≢◌, map, string_bytes, None, IsSome, []};
-ghost use Rattle.av_replay.specs.Outside.{Rose};
+ghost use Rattle.av_swapdev.specs.Outside.{Rose};
 ghost use Rattle.av_replay.specs.Headline.{Headline};
 ghost use Rattle.av_replay.specs.Trace.{IsTrace, IsDoneOrMemory};
 ghost use Rattle.av_replay.specs.Words.{IsForm};
 
-use crate::outside::{Sink, Source};
+use av_swapdev::{Sink, Source};
 use crate::replay::replay;
 use crate::status::Status;
 use crate::words::frames_of;

@@ -1,46 +1,10 @@
 //! A source and a sink in memory, which fail at the calls that a list names.
 
-ghost use Rattle.std.specs.Prelude.{◌==◌, ◌≡◌, ◌≤◌, Some, true, drop, length, []};
-ghost use Rattle.av_replay.specs.Outside.{Rose};
+ghost use Rattle.std.specs.Prelude.{◌==◌, ◌≡◌, ◌≤◌, Some, drop, length, []};
 
+use crate::faults::Faults;
 use crate::outside::{Failed, Sink, SinkErr, Source};
 use std::alloc::Global;
-
-/// Which calls fail, counted from 1, and how often one did. Without such calls that is 0 for ever.
-#[derive(Drop)]
-struct Faults {
-    failing: Vec<u64>,
-    calls: u64,
-    count: u64,
-    ghost none: { failing.items ≡ [] → count ≡ 0 },
-}
-
-impl Faults {
-    fn new(failing: Vec<u64>) -> Faults
-        ensures failing { result.failing ≡ failing }
-        ensures count { result.count ≡ 0 }
-    {
-        Faults {
-            failing,
-            calls: 0,
-            count: 0,
-        }
-    }
-
-    /// Whether this call fails.
-    fn fails(&mut self) -> bool
-        ensures failing { self.new.failing ≡ self.old.failing }
-        ensures falls { self.old.count ≤ self.new.count }
-        ensures rises { result ≡ true → Rose self.old.count self.new.count }
-    {
-        self.calls = self.calls.saturating_add(1);
-        if self.failing.contains(&self.calls) {
-            self.count = self.count.saturating_add(1);
-            return true;
-        }
-        false
-    }
-}
 
 /// A source of bytes in memory.
 #[derive(Drop)]

@@ -1,7 +1,7 @@
 //! A source of bytes and a sink for bytes, each with a count of its faults.
 
 ghost use Rattle.std.specs.Prelude.{Bool, true, ◌≡◌, ℕ, ◌<◌, ◌≤◌, List, Option, None, length, take, IfOk, OnErr, IsErrOf, [], OnOk};
-ghost use Rattle.av_replay.specs.Outside.{Rose, Took, Gained, HasEnded};
+ghost use Rattle.av_swapdev.specs.Outside.{Rose, Took, Gained, HasEnded};
 
 /// The source failed, or the sink could not hand on what it kept back.
 #[derive(Clone, Copy, Drop, Debug, PartialEq, Eq)]

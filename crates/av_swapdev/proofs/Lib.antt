@@ -1,0 +1,5 @@
+pub mod Pieces
+pub mod Named
+pub mod Slots
+pub mod HeaderLemmas
+pub mod PageLemmas

@@ -1,0 +1,48 @@
+-- The swap areas of a device: how many pages each has, what the pages hold where that is told, and what a call changes of them.
+use Rattle.std.specs.Prelude.{◌≡◌, ℕ, ◌<◌, ◌==◌, if◌then◌else◌, List, [], map, min, length, slice_index_or, Bool, false, Option, Some, None, option_map, IfSome, IsSomeAnd}
+use Rattle.std.specs.declared.vec.Vec.{Vec}
+use Rattle.std.specs.declared.alloc.Global.{Global}
+
+-- a function with its value at one number changed
+abbrev pub with_at : {X : Type 0} → ℕ → X → (ℕ → X) → ℕ → X
+with_at k x f q = if q == k then x else f q
+
+-- pages by area and number, with the bytes of one changed
+abbrev pub with_page : ℕ → ℕ → List ℕ → (ℕ → ℕ → List ℕ) → ℕ → ℕ → List ℕ
+with_page area page bytes told = with_at area (with_at page bytes (told area)) told
+
+-- the area is attached, and has the page
+abbrev pub HasPage : (ℕ → Option ℕ) → ℕ → ℕ → Type 0
+HasPage sizes area page = IsSomeAnd (sizes area) (λ n. page < n)
+
+-- the page holds these bytes, where that is told
+abbrev pub Holds : Option (ℕ → ℕ → List ℕ) → ℕ → ℕ → List ℕ → Type 0
+Holds pages area page bytes = IfSome pages (λ told. told area page ≡ bytes)
+
+-- the page holds these bytes now, and each other page what it held
+abbrev pub IsWritten : ℕ → ℕ → List ℕ → Option (ℕ → ℕ → List ℕ) → Option (ℕ → ℕ → List ℕ) → Type 0
+IsWritten area page bytes old new = new ≡ option_map (with_page area page bytes) old
+
+-- the page holds some bytes now, and each other page what it held
+abbrev pub IsSpoiled : ℕ → ℕ → Option (ℕ → ℕ → List ℕ) → Option (ℕ → ℕ → List ℕ) → Type 0
+IsSpoiled area page old new = (bytes : List ℕ) × IsWritten area page bytes old new
+
+-- the area has some pages now, and those of each other area hold what they held
+abbrev pub IsRenewed : ℕ → Option (ℕ → ℕ → List ℕ) → Option (ℕ → ℕ → List ℕ) → Type 0
+IsRenewed area old new = (own : ℕ → List ℕ) × (new ≡ option_map (with_at area own) old)
+
+-- the pages of an area, in the list of areas
+abbrev pub area_in : List (Vec (List ℕ) Global) → ℕ → List (List ℕ)
+area_in areas area = slice_index_or (map (λ v. v.items) areas) area []
+
+-- how many of them are used
+abbrev pub size_in : List (Vec (List ℕ) Global) → ℕ → ℕ
+size_in areas area = min (length (area_in areas area)) 1048576
+
+-- the sizes of those that are attached
+abbrev pub sizes_in : List Bool → List (Vec (List ℕ) Global) → ℕ → Option ℕ
+sizes_in attached areas area = if slice_index_or attached area false then Some (size_in areas area) else None
+
+-- what each page holds
+abbrev pub pages_in : List (Vec (List ℕ) Global) → ℕ → ℕ → List ℕ
+pages_in areas area page = slice_index_or (area_in areas area) page []

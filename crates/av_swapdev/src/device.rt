@@ -1,0 +1,57 @@
+//! A device with swap areas.
+
+ghost use Rattle.std.specs.Prelude.{◌≡◌, ℕ, ◌<◌, ◌≤◌, List, Option, Some, length, IfOk, OnOk, OnErr, IsErrOf};
+ghost use Rattle.av_swapdev.specs.Outside.{Rose};
+ghost use Rattle.av_swapdev.specs.Device.{with_at, HasPage, Holds, IsWritten, IsSpoiled, IsRenewed};
+
+use crate::outside::Failed;
+
+/// Why an area was not attached.
+#[derive(Clone, Copy, Drop, Debug, PartialEq, Eq)]
+pub enum AttachErr {
+    Failed,
+    Memory,
+}
+
+/// A device with up to eight swap areas, numbered from 0 to 7, whose pages have 4096 bytes each.
+pub trait SwapDev {
+    /// How many pages each attached area has.
+    ghost sizes: { Self → ℕ → Option ℕ };
+
+    /// What each page of each area holds, where it is told.
+    ghost pages: { Self → Option (ℕ → ℕ → List ℕ) };
+
+    /// How often a call failed.
+    ghost faults: { Self → ℕ };
+
+    /// Attaches what has this name as an area, and says how many of its pages are used: 1,048,576 at most.
+    fn attach(&mut self, area: u8, name: &str) -> Result<u32, AttachErr>
+        requires { area < 8 }
+        ensures size { IfOk result (λ n. sizes self.new ≡ with_at area (Some n) (sizes self.old)) }
+        ensures most { IfOk result (λ n. n ≤ 1048576) }
+        ensures renewed { OnOk result (IsRenewed area (pages self.old) (pages self.new)) }
+        ensures same_sizes { OnErr result (sizes self.new ≡ sizes self.old) }
+        ensures same_pages { OnErr result (pages self.new ≡ pages self.old) }
+        ensures never_falls { faults self.old ≤ faults self.new }
+        ensures cause { IsErrOf result AttachErr.Failed → Rose (faults self.old) (faults self.new) };
+
+    /// Reads a page. After an error `into` has any bytes.
+    fn read(&mut self, area: u8, page: u32, into: &mut [u8]) -> Result<(), Failed>
+        requires there { HasPage (sizes self.old) area page }
+        requires long { length into.old ≡ 4096 }
+        ensures bytes { OnOk result (Holds (pages self.old) area page into.new) }
+        ensures same_pages { pages self.new ≡ pages self.old }
+        ensures same_sizes { sizes self.new ≡ sizes self.old }
+        ensures never_falls { faults self.old ≤ faults self.new }
+        ensures cause { OnErr result (Rose (faults self.old) (faults self.new)) };
+
+    /// Writes a page. After an error it holds any bytes.
+    fn write(&mut self, area: u8, page: u32, from: &[u8]) -> Result<(), Failed>
+        requires there { HasPage (sizes self.old) area page }
+        requires long { length from.now ≡ 4096 }
+        ensures written { OnOk result (IsWritten area page from.now (pages self.old) (pages self.new)) }
+        ensures spoiled { OnErr result (IsSpoiled area page (pages self.old) (pages self.new)) }
+        ensures same_sizes { sizes self.new ≡ sizes self.old }
+        ensures never_falls { faults self.old ≤ faults self.new }
+        ensures cause { OnErr result (Rose (faults self.old) (faults self.new)) };
+}

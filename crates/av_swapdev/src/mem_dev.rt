@@ -1,0 +1,119 @@
+//! A device in memory, which fails at the calls that a list names.
+
+ghost use Rattle.std.specs.Prelude.{◌≡◌, ℕ, ◌-◌, ◌<◌, ◌≤◌, false, map, min, length, slice_index, slice_index_or, if◌then◌else◌, Some, None, MatchOption, IfOk, OnOk, OnErr, IsErrOf};
+ghost use Rattle.av_swapdev.specs.Outside.{Rose};
+ghost use Rattle.av_swapdev.specs.Device.{with_at, with_page, Holds, IsRenewed, area_in, size_in, sizes_in, pages_in};
+
+use crate::device::{AttachErr, SwapDev};
+use crate::faults::Faults;
+use crate::outside::Failed;
+
+/// How many pages of an area are used at most.
+const MOST_PAGES: usize = 1 << 20;
+
+/// A device in memory, which tells what its pages hold.
+#[derive(Drop)]
+pub struct MemDev {
+    areas: Vec<Vec<[u8; 4096]>>,
+    attached: [bool; 8],
+    faults: Faults,
+}
+
+impl MemDev {
+    /// A device with these pages in each area, by its number, of which none is attached yet. The calls of these numbers fail: all calls
+    /// of the device are numbered together, from 1.
+    pub fn new(areas: Vec<Vec<[u8; 4096]>>, failing: Vec<u64>) -> MemDev
+        ensures pages { ⟦<MemDev as SwapDev>⟧.pages result ≡ Some (pages_in areas.items) }
+        ensures sizes { (area : ℕ) → ⟦<MemDev as SwapDev>⟧.sizes result area ≡ None }
+        ensures faults { ⟦<MemDev as SwapDev>⟧.faults result ≡ 0 }
+        ensures failing { result.faults.failing ≡ failing }
+    {
+        MemDev {
+            areas,
+            attached: [false; 8],
+            faults: Faults::new(failing),
+        }
+    }
+
+    /// The bytes of a page, attached or not, where the area has it.
+    pub fn page(&self, area: u8, page: u32) -> Option<&[u8; 4096]>
+        ensures { MatchOption result (length (area_in self.now.areas.items area) ≤ page) (λ bytes. Holds (⟦<MemDev as SwapDev>⟧.pages self.now) area page bytes.now) }
+    {
+        self.areas.get(area as usize)?.get(page as usize)
+    }
+}
+
+/// How many pages of an area are used.
+fn size(areas: &[Vec<[u8; 4096]>], area: usize) -> u32
+    ensures { result ≡ size_in areas.now area }
+{
+    match areas.get(area) {
+        Some(pages) => pages.len().min(MOST_PAGES) as u32,
+        None => 0,
+    }
+}
+
+/// Makes a page these bytes.
+fn replace(page: &mut [u8; 4096], bytes: &[u8])
+    requires { length bytes.now ≡ 4096 }
+    ensures { page.new ≡ bytes.now }
+{
+    page.copy_from_slice(bytes);
+}
+
+/// Inverts each bit of a page.
+fn invert(page: &mut [u8; 4096])
+    ensures inverted { (k : ℕ) → k < 4096 → slice_index page.new k ≡ 255 - slice_index page.old k }
+    ensures long { length page.new ≡ 4096 }
+{
+    for byte in page.iter_mut() {
+        *byte = !*byte;
+    }
+}
+
+impl SwapDev for MemDev {
+    ghost sizes = { λ d. sizes_in d.attached d.areas.items };
+
+    ghost pages = { λ d. Some (pages_in d.areas.items) };
+
+    ghost faults = { λ d. d.faults.count };
+
+    /// The name is not looked at. An area that is not in the list has no page.
+    fn attach(&mut self, area: u8, _name: &str) -> Result<u32, AttachErr>
+        requires { area < 8 }
+        ensures size { IfOk result (λ n. ⟦<MemDev as SwapDev>⟧.sizes self.new ≡ with_at area (Some n) (⟦<MemDev as SwapDev>⟧.sizes self.old)) }
+        ensures most { IfOk result (λ n. n ≤ 1048576) }
+        ensures renewed { OnOk result (IsRenewed area (⟦<MemDev as SwapDev>⟧.pages self.old) (⟦<MemDev as SwapDev>⟧.pages self.new)) }
+        ensures same_sizes { OnErr result (⟦<MemDev as SwapDev>⟧.sizes self.new ≡ ⟦<MemDev as SwapDev>⟧.sizes self.old) }
+        ensures same_pages { OnErr result (⟦<MemDev as SwapDev>⟧.pages self.new ≡ ⟦<MemDev as SwapDev>⟧.pages self.old) }
+        ensures never_falls { ⟦<MemDev as SwapDev>⟧.faults self.old ≤ ⟦<MemDev as SwapDev>⟧.faults self.new }
+        ensures cause { OnErr result (Rose (⟦<MemDev as SwapDev>⟧.faults self.old) (⟦<MemDev as SwapDev>⟧.faults self.new)) }
+        // Beside what the trait says: it is all pages of the area, and they stay.
+        ensures all { IfOk result (λ n. n ≡ size_in self.old.areas.items area) }
+        ensures kept { ⟦<MemDev as SwapDev>⟧.pages self.new ≡ ⟦<MemDev as SwapDev>⟧.pages self.old }
+    {
+        if self.faults.fails() {
+            return Err(AttachErr::Failed);
+        }
+        self.attached[area as usize] = true;
+        Ok(size(&self.areas, area as usize))
+    }
+
+    fn read(&mut self, area: u8, page: u32, into: &mut [u8]) -> Result<(), Failed> {
+        if self.faults.fails() {
+            return Err(Failed);
+        }
+        into.copy_from_slice(&self.areas[area as usize][page as usize]);
+        Ok(())
+    }
+
+    fn write(&mut self, area: u8, page: u32, from: &[u8]) -> Result<(), Failed> {
+        let bytes = &mut self.areas[area as usize][page as usize];
+        if self.faults.fails() {
+            invert(bytes);
+            return Err(Failed);
+        }
+        replace(bytes, from);
+        Ok(())
+    }
+}
