@@ -38,45 +38,29 @@ all_passed (t ∷ ts) us is = by t.0 is (all_passed ts us)
 
 -- ---- room
 
-no_room_low : (q : Process) (n page : ℕ) → page < low_page → is_room q n page ≡ false
-no_room_low q n page h = let below : nat_le low_page page ≡ false = grind (arith, nat_tests, h) in ap (λ b. b && nat_le (page + n) top_page && not (meets q page n)) below
-
-no_room_high : (q : Process) (n page : ℕ) → top_page < page + n → is_room q n page ≡ false
-no_room_high q n page h =
-    let above : nat_le (page + n) top_page ≡ false = grind (arith, nat_tests, h) in
-    ap (λ b. nat_le low_page page && b && not (meets q page n)) above ∙ none (nat_le low_page page) (not (meets q page n))
-  where
-    none : (a b : Bool) → (a && false && b) ≡ false
-    none true b = refl
-    none false b = refl
-
-no_room_met : (q : Process) (n page : ℕ) → meets q page n ≡ true → is_room q n page ≡ false
-no_room_met q n page h = ap (λ b. nat_le low_page page && nat_le (page + n) top_page && not b) h ∙ none (nat_le low_page page) (nat_le (page + n) top_page)
-  where
-    none : (a b : Bool) → (a && b && false) ≡ false
-    none true true = refl
-    none true false = refl
-    none false b = refl
-
 module _ (s : Spaces) (p : ℕ) (q : Process) (same : IsProcess s p q) (n page : ℕ) where
-  free_meets : IsFree (is_taken s p) page (page + n) → meets q page n ≡ false
+  pub free_meets : IsFree (is_taken s p) page (page + n) → meets q page n ≡ false
   free_meets free = none-meets q page n (λ o low high. sym (same o) ∙ free o low high)
 
-  met_meets : IsMet (is_taken s p) page (page + n) → meets q page n ≡ true
+  pub met_meets : IsMet (is_taken s p) page (page + n) → meets q page n ≡ true
   met_meets met = some-meets q page n met.page (record { lowest = met.lowest; highest = met.highest; mapped = sym (same met.page) ∙ met.met })
 
-  -- the page of a hint
-  pub hint_low : page < low_page → is_room q n page ≡ false
-  hint_low = no_room_low q n page
+  -- there is room where no page is taken, among pages that a process may have
+  pub room_by : (b : Bool) → (nat_le low_page page && nat_le (page + n) top_page) ≡ true → (b ≡ true → IsFree (is_taken s p) page (page + n)) → (b ≡ false → IsMet (is_taken s p) page (page + n)) → b ≡ is_room q n page
+  room_by b within free met = by (nat_le low_page page) (nat_le (page + n) top_page) within ∙ ap (λ c. nat_le low_page page && nat_le (page + n) top_page && not c) (sym (either b free met))
+    where
+      either : (b : Bool) → (b ≡ true → IsFree (is_taken s p) page (page + n)) → (b ≡ false → IsMet (is_taken s p) page (page + n)) → meets q page n ≡ not b
+      either true free met = free_meets (free refl)
+      either false free met = met_meets (met refl)
 
-  pub hint_high : top_page < page + n → is_room q n page ≡ false
-  hint_high = no_room_high q n page
-
-  pub hint_met : IsMet (is_taken s p) page (page + n) → is_room q n page ≡ false
-  hint_met met = no_room_met q n page (met_meets met)
-
-  pub hint_free : low_page ≤ page → page + n ≤ top_page → IsFree (is_taken s p) page (page + n) → is_room q n page ≡ true
-  hint_free low high free = is-room q n page (record { lowest = low; highest = high; free = λ o under above. sym (same o) ∙ free o under above })
+      by : (x y : Bool) → (x && y) ≡ true → b ≡ (x && y && not (not b))
+      by true true h = twice b
+        where
+          twice : (b : Bool) → b ≡ not (not b)
+          twice true = refl
+          twice false = refl
+      by true false h = cc
+      by false y h = cc
 
 -- ---- the place
 

@@ -1,5 +1,5 @@
 -- Commands on ranges of pages: what they leave of the pages, the entries and the areas.
-use Rattle.std.proofs.Common.{◌≡◌, inl, inr, Ok, Err, ℕ, ◌+◌, ◌-◌, ◌*◌, ◌/◌, ◌%◌, ◌<◌, ◌≤◌, Bool, true, false, cond, not, ◌&&◌, ◌||◌, List, [], Option, Some, None, is_some, option_map, Result, refl, sym, ap, subst, ◌∙◌, arith, ◌==◌, nat_le, nat_lt}
+use Rattle.std.proofs.Common.{◌≡◌, inl, inr, Ok, Err, ℕ, ◌+◌, ◌-◌, ◌*◌, ◌/◌, ◌%◌, ◌<◌, ◌≤◌, Bool, true, false, cond, not, ◌&&◌, ◌||◌, List, [], ◌∷◌, Option, Some, None, is_some, option_map, Result, refl, sym, ap, subst, ◌∙◌, arith, ◌==◌, nat_le, nat_lt}
 use Rattle.std.proofs.lemmas.Bool.Decides.{nat_tests}
 use Rattle.std.proofs.lemmas.Bool.{false≢true}
 use Rattle.std.specs.Prelude.{MatchOption, OnOk}
@@ -205,11 +205,18 @@ module _ (old : Mem) (s : State) (p len : ℕ) (prot : Prot) (place : Place) (ke
 
 -- ---- mprotect
 
-module _ (old : Mem) (spaces : List (ℕ × List Range)) (s : State) (p a len reached : ℕ) (prot : Prot) (keeps : Keeps old s) (alive : is_some (areas_of old.spaces p) ≡ true) (on_page : is_on_page a ≡ true) (short : wraps a len ≡ false)
+module _ (old : Mem) (spaces : List (ℕ × List Range)) (s : State) (p a len reached : ℕ) (prot : Prot) (keeps : Keeps old s) (alive : is_some (areas_of old.spaces p) ≡ true) (passed : refusal ((not (is_on_page a), Einval) ∷ (wraps a len, Enomem) ∷ []) ≡ None)
     (reaches : IsReached (is_taken old.spaces p) (page_of a) (page_of a + pages_of len) reached) (given : IsChanged old.spaces spaces p (set_on (page_of a) (reached - page_of a) (Some prot) (prot_of (areas_of old.spaces p)))) where
   mprotect-allowed : refusal (tests (setting (count old)) s.world s.ledger (Mprotect p a len prot)) ≡ None
-  mprotect-allowed = ap (λ b. cond (not b) (Some Esrch) (cond (not (is_on_page a)) (Some Einval) (cond (wraps a len) (Some Enomem) None))) (sym (keeps.stands.areas.alive p) ∙ alive)
-      ∙ ap (λ b. cond (not b) (Some Einval) (cond (wraps a len) (Some Enomem) None)) on_page ∙ ap (λ b. cond b (Some Enomem) None) short
+  mprotect-allowed = ap (λ b. cond (not b) (Some Esrch) (refusal ((not (is_on_page a), Einval) ∷ (wraps a len, Enomem) ∷ []))) (sym (keeps.stands.areas.alive p) ∙ alive) ∙ passed
+
+  in_reach : wraps a len ≡ false
+  in_reach = by (is_on_page a) (wraps a len) passed
+    where
+      by : (b c : Bool) → cond (not b) (Some Einval) (cond c (Some Enomem) None) ≡ None → c ≡ false
+      by false c h = cc
+      by true true h = cc
+      by true false h = refl
 
   -- so many pages are mapped before the first that isn't
   leads : leading (pages s.world p) (page_of a) (pages_of len) ≡ reached - page_of a
@@ -293,11 +300,7 @@ module _ (old : Mem) (spaces : List (ℕ × List Range)) (s : State) (p a len re
       let low = reaches.lowest in
       let fewer : reached - page_of a < pages_of len = omega (arith, less, low) in
       protected-steps (Refused Enomem) (sym (ap (λ b. cond b Done (Refused Enomem)) (differ _ _ _ leads fewer)))
-      (ap (λ k. set_process s.world p (protected (pages s.world p) (page_of a) k prot)) (sym leads) ∙ sym (ap (λ b. cond b s.world (protected_to_the_hole s.world p (page_of a) (pages_of len) prot)) short))
+      (ap (λ k. set_process s.world p (protected (pages s.world p) (page_of a) k prot)) (sym leads) ∙ sym (ap (λ b. cond b s.world (protected_to_the_hole s.world p (page_of a) (pages_of len) prot)) in_reach))
     where
       differ : (k m n : ℕ) → k ≡ m → m < n → (k == n) ≡ false
       differ k m n e h = grind (arith, nat_tests, e, h)
-
--- the pages end below 2^64
-pub not_wrapping : (a len : ℕ) → a % 4096 ≡ 0 → a / 4096 + pages_of len < 4503599627370496 → wraps a len ≡ false
-not_wrapping a len start few = let below : a + address_of (pages_of len) < 18446744073709551616 = omega (arith, start, few) in grind (arith, nat_tests, below)

@@ -1,9 +1,9 @@
 //! Where `mmap` puts pages, and the tests of addresses and lengths.
 
-ghost use Rattle.std.specs.Prelude.{◌≡◌, ℕ, ◌+◌, ◌≤◌, ◌||◌, ◌==◌, nat_lt, true, false, not, None, Some, is_some, MatchOption, MatchResult};
-ghost use Rattle.av_vma.specs.Gap.{top_page, IsGap};
+ghost use Rattle.std.specs.Prelude.{◌≡◌, ℕ, ◌+◌, ◌^◌, ◌<◌, ◌≤◌, ◌&&◌, ◌||◌, ◌==◌, nat_le, nat_lt, true, false, not, [], ◌∷◌, None, Some, is_some, MatchResult};
+ghost use Rattle.av_vma.specs.Gap.{low_page, top_page, IsGap};
 ghost use Rattle.av_plain.specs.World.{Process, page_of, is_on_page};
-ghost use Rattle.av_plain.specs.Refusal.{top, fixed_tests, refusal};
+ghost use Rattle.av_plain.specs.Refusal.{top, wraps, fixed_tests, refusal};
 ghost use Rattle.av_plain.specs.Refusal as refusals;
 ghost use Rattle.av_plain.specs.Step.{is_room};
 ghost use Rattle.av_kernel.specs.Spaces.{areas_of, is_taken};
@@ -20,6 +20,9 @@ pub const PAGE_SIZE: u64 = 4096;
 /// The first address that no process can have.
 const TOP: u64 = PAGE_SIZE * TOP_PAGE;
 
+/// How many pages addresses of 64 bits have.
+const ADDRESS_PAGES: u64 = 1 << 52;
+
 /// Whether a length in bytes, rounded up to whole pages, is more than a process can have.
 pub fn is_too_long(len: u64) -> bool
     ensures { result ≡ refusals.is_too_long len }
@@ -32,6 +35,27 @@ pub fn is_no_range(address: u64, len: u64) -> bool
     ensures { result ≡ (not (is_on_page address) || len == 0 || nat_lt top (address + len)) }
 {
     address % PAGE_SIZE != 0 || len == 0 || address > TOP || len > TOP - address
+}
+
+/// Why `mprotect` refuses a range of addresses before it looks at its pages, if it does.
+pub fn protect_error(address: u64, len: u64) -> Option<Errno>
+    ensures { result ≡ refusal ((not (is_on_page address), errors.Einval) ∷ (wraps address len, errors.Enomem) ∷ []) }
+{
+    if address % PAGE_SIZE != 0 {
+        return Some(Errno::Einval);
+    }
+    if address / PAGE_SIZE + len.div_ceil(PAGE_SIZE) >= ADDRESS_PAGES {
+        return Some(Errno::Enomem);
+    }
+    None
+}
+
+/// Whether a process may have this many pages from one on.
+fn may_have(page: u64, pages: u64) -> bool
+    requires reach { page + pages < 2 ^ 64 }
+    ensures { result ≡ (nat_le low_page page && nat_le (page + pages) top_page) }
+{
+    page >= LOW_PAGE && page + pages <= TOP_PAGE
 }
 
 /// The page of an address that a mapping has to have, or why it can't have it.
@@ -63,10 +87,13 @@ impl Spaces {
     {
         match place {
             Place::Auto => self.automatic(process, pages),
-            Place::At(address) => match self.hinted(process, pages, address) {
-                Some(page) => Ok(page),
-                None => self.automatic(process, pages),
-            },
+            Place::At(address) => {
+                let page = address / PAGE_SIZE;
+                if self.has_room(process, pages, page) {
+                    return Ok(page);
+                }
+                self.automatic(process, pages)
+            }
             Place::Fixed(address) => fixed_page(address, pages),
             Place::NoReplace(address) => {
                 let page = fixed_page(address, pages)?;
@@ -92,18 +119,12 @@ impl Spaces {
         }
     }
 
-    /// The page of a hint, where there is room for this many pages from there on.
-    fn hinted(&self, process: u16, pages: u64, address: u64) -> Option<u64>
+    /// Whether this many pages from one on are free in a process that lives, and it may have them.
+    fn has_room(&self, process: u16, pages: u64, page: u64) -> bool
         requires lives { is_some (areas_of self.now process) ≡ true }
-        requires few { pages ≤ top_page }
-        ensures { (q : Process) → IsProcess self.now process q → MatchOption result
-            (is_room q pages (page_of address) ≡ false)
-            (λ page. (is_room q pages (page_of address) ≡ true) × (page ≡ page_of address)) }
+        requires reach { page + pages < 2 ^ 64 }
+        ensures { (q : Process) → IsProcess self.now process q → result ≡ is_room q pages page }
     {
-        let page = address / PAGE_SIZE;
-        if page < LOW_PAGE || page + pages > TOP_PAGE || !self.is_free(process, page, pages) {
-            return None;
-        }
-        Some(page)
+        may_have(page, pages) && self.is_free(process, page, pages)
     }
 }

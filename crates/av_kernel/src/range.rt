@@ -15,13 +15,10 @@ ghost use Rattle.av_trace.specs.declared.command.Command.TheVariants as commands
 
 use crate::command::answered;
 use crate::mem::Mem;
-use crate::place::{PAGE_SIZE, is_no_range, is_too_long};
+use crate::place::{PAGE_SIZE, is_no_range, is_too_long, protect_error};
 use av_trace::{Answer, Errno, Place, Reply};
 use av_vma::Prot;
 use std::alloc::{AllocError, Global};
-
-/// How many pages addresses of 64 bits have.
-const ADDRESS_PAGES: u64 = 1 << 52;
 
 impl Mem {
     /// Answers an `mmap`: the pages are zeros. At a fixed place they replace what stands there.
@@ -95,14 +92,13 @@ impl Mem {
         if !self.spaces.lives(process) {
             return Ok(answered(alloc, Answer::Refused(Errno::Esrch)));
         }
-        if address % PAGE_SIZE != 0 {
-            return Ok(answered(alloc, Answer::Refused(Errno::Einval)));
+        if let Some(error) = protect_error(address, len) {
+            return Ok(answered(alloc, Answer::Refused(error)));
         }
         let (page, pages) = (address / PAGE_SIZE, len.div_ceil(PAGE_SIZE));
-        if page + pages >= ADDRESS_PAGES {
-            return Ok(answered(alloc, Answer::Refused(Errno::Enomem)));
-        }
-        if self.spaces.protect(process, page, pages, prot)? < page + pages {
+        let past = page + pages;
+        let reached = self.spaces.protect(process, page, pages, prot)?;
+        if reached < past {
             return Ok(answered(alloc, Answer::Refused(Errno::Enomem)));
         }
         Ok(answered(alloc, Answer::Done))
