@@ -90,14 +90,14 @@ module _ (s : Spaces) (p : ℕ) (q : Process) (same : IsProcess s p q) (n : ℕ)
   -- an address that it has to have, and that nothing may stand at
   pub placed_taken : (a page : ℕ) → (refusal (fixed_tests n a) ≡ None) × (page ≡ page_of a) → IsMet (is_taken s p) page (page + n) → IsPlaced q n (NoReplace a) (Err Eexist)
   placed_taken a page h met = inl (
-    passed_first (fixed_tests n a) ((meets q (page_of a) n, Eexist) ∷ []) h.0
-    ∙ ap (λ b. cond b (Some Eexist) None) (ap (λ x. meets q x n) (sym h.1) ∙ met_meets s p q same n page met)
-  )
+      passed_first (fixed_tests n a) ((meets q (page_of a) n, Eexist) ∷ []) h.0
+      ∙ ap (λ b. cond b (Some Eexist) None) (ap (λ x. meets q x n) (sym h.1) ∙ met_meets s p q same n page met)
+      )
 
   pub placed_free : (a page : ℕ) → (refusal (fixed_tests n a) ≡ None) × (page ≡ page_of a) → IsFree (is_taken s p) page (page + n) → IsPlaced q n (NoReplace a) (Ok page)
   placed_free a page h free = (
     passed_first (fixed_tests n a) ((meets q (page_of a) n, Eexist) ∷ []) h.0
-    ∙ ap (λ b. cond b (Some Eexist) None) (ap (λ x. meets q x n) (sym h.1) ∙ free_meets s p q same n page free),
+        ∙ ap (λ b. cond b (Some Eexist) None) (ap (λ x. meets q x n) (sym h.1) ∙ free_meets s p q same n page free),
     ap Some h.1,
   )
 

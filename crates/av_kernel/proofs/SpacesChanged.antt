@@ -157,10 +157,10 @@ pub prots_placed : (p : ℕ) (f : ℕ → Option Area) (spans : List Span) (from
 prots_placed p f spans from n prot new areas some low high free is page =
     prots_mapped new page
     ∙ ap (option_map prot_mapped) (
-      ap (option_map (mapping_in page)) (is page)
-      ∙ around_maps from (from + n) (placed fresh (pages_by f spans)) (laid_placed fresh (pages_by f spans) (laid_of p f spans areas) (fresh_whole p from n prot some low high) none) page
-      ∙ placed_maps fresh (pages_by f spans) page
-      ∙ ap (λ b. cond b (Some (mapping_in page fresh)) (mapping (pages_by f spans) page)) (fresh_has p from n prot page)
+    ap (option_map (mapping_in page)) (is page)
+    ∙ around_maps from (from + n) (placed fresh (pages_by f spans)) (laid_placed fresh (pages_by f spans) (laid_of p f spans areas) (fresh_whole p from n prot some low high) none) page
+    ∙ placed_maps fresh (pages_by f spans) page
+    ∙ ap (λ b. cond b (Some (mapping_in page fresh)) (mapping (pages_by f spans) page)) (fresh_has p from n prot page)
     )
     ∙ elim (within from n page) as (λ b. option_map prot_mapped (cond b (Some (mapping_in page fresh)) (mapping (pages_by f spans) page)) ≡ cond b (Some prot) (prots_on (pages_by f spans) page)) [
       | true ↦ refl

@@ -27,7 +27,7 @@ returns c =
     let areas = tree_of f c.self.inside.trees c.args.process c.in-Some.tree.now c.self.invariant (sym c.in-Some.ensures.value) in
     record {
       ok = on_ok c.map.result (λ pages.
-        lent_changed f f' c.self.inside.trees (c.get_mut.follows.lender c.map.new.tree) c.args.process c.in-Some.tree.now c.map.new.tree
-        c.self.invariant c.in-Some.ensures.value (λ _. c.map.ensures.stands) (c.get_mut.follows.holds c.map.new.tree) c.args.self.now c.self.view_is c.args.from c.args.pages (Some c.args.prot)
-        (prots_placed c.args.process f c.in-Some.tree.now c.args.from c.args.pages c.args.prot (pages_by f' c.map.new.tree) areas c.requires.some c.requires.low c.requires.high free pages)) c.map.ensures.pages;
+          lent_changed f f' c.self.inside.trees (c.get_mut.follows.lender c.map.new.tree) c.args.process c.in-Some.tree.now c.map.new.tree
+          c.self.invariant c.in-Some.ensures.value (λ _. c.map.ensures.stands) (c.get_mut.follows.holds c.map.new.tree) c.args.self.now c.self.view_is c.args.from c.args.pages (Some c.args.prot)
+          (prots_placed c.args.process f c.in-Some.tree.now c.args.from c.args.pages c.args.prot (pages_by f' c.map.new.tree) areas c.requires.some c.requires.low c.requires.high free pages)) c.map.ensures.pages;
     }

@@ -35,7 +35,7 @@ returns-clause-ok c =
     (λ past. (page : ℕ) → mapping (pages_by f' c.protect.new.tree) page ≡ cond (within c.args.from (past - c.args.from) page) (option_map (with_prot c.args.prot) (mapping (pages_by f c.in-Some.tree.now) page)) (mapping (pages_by f c.in-Some.tree.now) page))
     (λ past. IsChanged c.args.self.now (spaces_by f' (c.get_mut.follows.lender c.protect.new.tree).entries) c.args.process (set_on c.args.from (past - c.args.from) (Some c.args.prot) (prot_of (areas_of c.args.self.now c.args.process))))
     (λ past reached pages.
-      lent_changed f f' c.self.inside.trees (c.get_mut.follows.lender c.protect.new.tree) c.args.process c.in-Some.tree.now c.protect.new.tree
-      c.self.invariant c.in-Some.ensures.value (c.protect.ensures.stands c.args.process) (c.get_mut.follows.holds c.protect.new.tree) c.args.self.now c.self.view_is c.args.from (past - c.args.from) (Some c.args.prot)
-      (prots_protected c.args.process f c.in-Some.tree.now c.args.from to past c.args.prot (pages_by f' c.protect.new.tree) areas reached pages))
+    lent_changed f f' c.self.inside.trees (c.get_mut.follows.lender c.protect.new.tree) c.args.process c.in-Some.tree.now c.protect.new.tree
+    c.self.invariant c.in-Some.ensures.value (c.protect.ensures.stands c.args.process) (c.get_mut.follows.holds c.protect.new.tree) c.args.self.now c.self.view_is c.args.from (past - c.args.from) (Some c.args.prot)
+    (prots_protected c.args.process f c.in-Some.tree.now c.args.from to past c.args.prot (pages_by f' c.protect.new.tree) areas reached pages))
     c.protect.ensures.reached c.protect.ensures.pages

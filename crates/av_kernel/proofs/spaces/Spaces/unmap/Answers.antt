@@ -21,7 +21,7 @@ returns c =
     let areas = tree_of f c.self.inside.trees c.args.process c.in-Some.tree.now c.self.invariant (sym c.in-Some.ensures.value) in
     record {
       ok = on_ok c.cut.result (λ pages.
-        lent_changed f f' c.self.inside.trees (c.get_mut.follows.lender c.cut.new.tree) c.args.process c.in-Some.tree.now c.cut.new.tree
-        c.self.invariant c.in-Some.ensures.value (c.cut.ensures.stands c.args.process) (c.get_mut.follows.holds c.cut.new.tree) c.args.self.now c.self.view_is c.args.from c.args.pages None
-        (prots_cut c.args.process f c.in-Some.tree.now c.args.from c.args.pages (pages_by f' c.cut.new.tree) areas pages)) c.cut.ensures.pages;
+          lent_changed f f' c.self.inside.trees (c.get_mut.follows.lender c.cut.new.tree) c.args.process c.in-Some.tree.now c.cut.new.tree
+          c.self.invariant c.in-Some.ensures.value (c.cut.ensures.stands c.args.process) (c.get_mut.follows.holds c.cut.new.tree) c.args.self.now c.self.view_is c.args.from c.args.pages None
+          (prots_cut c.args.process f c.in-Some.tree.now c.args.from c.args.pages (pages_by f' c.cut.new.tree) areas pages)) c.cut.ensures.pages;
     }
