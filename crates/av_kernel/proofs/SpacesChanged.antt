@@ -1,5 +1,5 @@
 -- The protections of a process's pages after its areas were mapped, cut or protected.
-use Rattle.std.proofs.Common.{◌≡◌, ℕ, ◌+◌, ◌-◌, ◌*◌, ◌/◌, ◌<◌, ◌≤◌, Bool, true, false, cond, ◌==◌, List, Option, Some, None, is_some, option_map, Result, Ok, Err, refl, sym, ap, subst, ◌∙◌, arith}
+use Rattle.std.proofs.Common.{◌≡◌, ℕ, ◌+◌, ◌-◌, ◌*◌, ◌/◌, ◌<◌, ◌≤◌, Bool, true, false, cond, ◌==◌, List, Option, Some, None, is_some, option_map, option_and_then, Result, Ok, Err, refl, sym, ap, subst, ◌∙◌, arith}
 use Rattle.std.proofs.lemmas.Bool.Decides.{nat_tests}
 use Rattle.std.proofs.lemmas.Bool.{both_ways, false≢true}
 use Rattle.std.proofs.lemmas.Option.{none-some, same_Some}
@@ -11,13 +11,13 @@ use Rattle.av_vma.specs.declared.area.Prot.{Prot}
 use Rattle.av_vma.specs.Gap.{low_page, top_page}
 use Rattle.av_vma.specs.Ranges.{within}
 use Rattle.av_vmatree.specs.declared.span.Span.{Span}
-use Rattle.av_vmatree.specs.Spans.{IsFree, taken}
+use Rattle.av_vmatree.specs.Spans.{IsFree, area_at, taken}
 use Rattle.av_merge.specs.Laid.{AreLaid}
 use Rattle.av_merge.specs.Mapping.{Mapping, mapping, mapping_in, with_prot}
 use Rattle.av_merge.specs.Pages.{Pages, pages_by, has_page, cut_at, emptied, placed, joined_around, fresh_area, IsReached}
 use Rattle.av_merge.specs.Process.{AreAreasOf, IsWhole, Stays}
 use Rattle.av_merge.proofs.Mappings.{around_maps, cut_out_maps, laid_of, placed_maps}
-use Rattle.av_merge.proofs.Places.{free_none, taken_is}
+use Rattle.av_merge.proofs.Places.{taken_is}
 use Rattle.av_plain.specs.Stands.{prot_of}
 use Rattle.av_kernel.specs.Spaces.{Spaces, areas_of, spaces_by, ranges_by, set_on, AreTrees, IsChanged}
 use Rattle.av_kernel.proofs.SpacesLaws.{areas_are, prot_on, prots_are, tree_of, trees_changed, changed}
@@ -25,6 +25,14 @@ use Rattle.av_kernel.proofs.SpacesLaws.{areas_are, prot_on, prots_are, tree_of, 
 -- the protections of pages
 abbrev pub prots_on : Pages → ℕ → Option Prot
 prots_on on page = option_map prot_on (on page)
+
+-- a page that is not taken has no area
+free_none : (areas : ℕ → Option Area) (spans : List Span) (page : ℕ) → taken spans page ≡ false → pages_by areas spans page ≡ None
+free_none areas spans page h = each (area_at spans page) h
+  where
+    each : (o : Option ℕ) → is_some o ≡ false → option_and_then areas o ≡ None
+    each None h = refl
+    each (Some n) h = absurd (both_ways _ h refl)
 
 -- ---- the tree of one process is changed in its place
 

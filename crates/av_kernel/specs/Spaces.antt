@@ -31,7 +31,7 @@ pub record IsSpawned (old new : Spaces) (p : ℕ) : Type 0 where
   pub number : length new ≡ length old + 1
   pub apart : AllApart new
 
--- the n pages from `from` on have this protection, or none where they are not mapped
+-- the n pages from `from` on have this protection, or are not mapped
 abbrev pub set_on : ℕ → ℕ → Option Prot → (ℕ → Option Prot) → ℕ → Option Prot
 set_on from n prot prots page = if within from n page then prot else prots page
 

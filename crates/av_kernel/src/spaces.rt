@@ -97,7 +97,7 @@ impl Spaces {
         Ok(())
     }
 
-    /// Whether none of these pages is mapped in a process that lives.
+    /// Whether none of these pages of a process that lives is mapped.
     pub fn is_free(&self, process: u16, from: u64, pages: u64) -> bool
         requires lives { is_some (areas_of self.now process) ≡ true }
         requires past { from + pages < 2 ^ 64 }
@@ -110,9 +110,7 @@ impl Spaces {
         tree.is_free(from, from + pages)
     }
 
-    /// Maps free pages of a process that lives.
-    ///
-    /// Once memory is wanting, the pages of the process may be any.
+    /// Maps free pages of a process that lives. Once memory is wanting, nothing is promised of any process's pages.
     pub fn map(&mut self, process: u16, from: u64, pages: u64, prot: Prot) -> Result<(), AllocError>
         requires lives { is_some (areas_of self.old process) ≡ true }
         requires some { 1 ≤ pages }
@@ -127,9 +125,7 @@ impl Spaces {
         av_merge::map(&mut self.areas, tree, process, from, from + pages, prot)
     }
 
-    /// Takes these pages away from a process that lives, those of them that are mapped.
-    ///
-    /// Once memory is wanting, the pages of the process may be any.
+    /// Takes these pages away from a process that lives, those of them that are mapped. Without memory as for `map`.
     pub fn unmap(&mut self, process: u16, from: u64, pages: u64) -> Result<(), AllocError>
         requires lives { is_some (areas_of self.old process) ≡ true }
         requires past { from + pages < 2 ^ 64 }
@@ -142,9 +138,7 @@ impl Spaces {
     }
 
     /// Gives these pages of a process that lives a protection, up to the first one that is not mapped, and tells that one, else the page
-    /// past them.
-    ///
-    /// Once memory is wanting, the pages of the process may be any.
+    /// past them. Without memory as for `map`.
     pub fn protect(
         &mut self,
         process: u16,
