@@ -1,5 +1,5 @@
 -- A process that ends: its entries, its table and its areas have gone, and nothing of the others.
-use Rattle.std.proofs.Common.{◌≡◌, ℕ, suc, ◌+◌, ◌<◌, ◌≤◌, nat_lt, Bool, true, false, cond, not, T, List, [], ◌∷◌, length, Option, Some, None, is_some, option_map, refl, sym, ap, subst, ◌∙◌, arith, ◌==◌}
+use Rattle.std.proofs.Common.{◌≡◌, ℕ, suc, ◌+◌, ◌<◌, ◌≤◌, nat_lt, Bool, true, false, cond, not, T, List, [], ◌∷◌, length, Some, None, is_some, option_map, refl, sym, ap, subst, ◌∙◌, arith, ◌==◌}
 use Rattle.std.proofs.lemmas.Bool.Decides.{nat_tests}
 use Rattle.std.proofs.lemmas.Bool.{false≢true}
 use Rattle.std.specs.Prelude.{MatchOption}
@@ -9,7 +9,6 @@ use Rattle.av_vma.specs.Ranges.{with_at}
 use Rattle.av_trace.specs.declared.command.Command.TheVariants.{Exit}
 use Rattle.av_trace.specs.declared.reply.Errno.TheVariants.{Esrch}
 use Rattle.av_trace.specs.declared.reply.Answer.TheVariants.{Done}
-use Rattle.av_frames.specs.Store.{seen}
 use Rattle.av_pagetable.specs.declared.tables.Tables.{Tables}
 use Rattle.av_pagetable.specs.declared.table.MapTable.{MapTable}
 use Rattle.av_pagetable.specs.declared.pte.Pte.{Pte}
@@ -17,15 +16,14 @@ use Rattle.av_pagetable.specs.declared.pte.Pte.TheVariants.{Empty}
 use Rattle.av_pagetable.specs.Entries.{entry_at, has}
 use Rattle.av_pagetable.specs.Table.{page_bound}
 use Rattle.av_plain.specs.World.{World, Page, lives, pages, end_process}
-use Rattle.av_plain.specs.Ledger.{Ledger, Entry, Zero, InFrame, InSlot, entry, frame_at, names_frame}
+use Rattle.av_plain.specs.Ledger.{Ledger, entry, names_frame}
 use Rattle.av_plain.specs.Event.{after_all}
 use Rattle.av_plain.specs.Fault.{is_shared}
 use Rattle.av_plain.specs.Taking.{keys_of_process, keys_in, taking}
 use Rattle.av_plain.specs.Refusal.{tests, refusal}
 use Rattle.av_plain.specs.Step.{Follows, Refuses}
-use Rattle.av_plain.specs.Sound.{AllSound}
 use Rattle.av_plain.specs.Choice.{ChoosesAll}
-use Rattle.av_plain.specs.Stands.{View, Pte as Plain, Range, Holds, IsKept, IsKeptAt, entry_of, prot_of, AreasStand, TablesStand, BytesStand}
+use Rattle.av_plain.specs.Stands.{Pte as Plain, Range, IsKept, entry_of, prot_of, AreasStand, TablesStand}
 use Rattle.av_plain.specs.Transcript.{State, IsStep}
 use Rattle.av_plain.proofs.Laws.{both_first, both_second}
 use Rattle.av_plain.proofs.TakingLaws.{entry-ended, entry-others, exit-is-range}

@@ -1,7 +1,7 @@
 -- Where the pages of a mapping go, and what holds of the pages there.
-use Rattle.std.proofs.Common.{◌≡◌, ◌⊎◌, inl, inr, ℕ, ◌+◌, ◌*◌, ◌<◌, ◌≤◌, Bool, true, false, cond, not, ◌&&◌, List, [], ◌∷◌, ◌++◌, Option, Some, None, Result, Ok, Err, refl, sym, ap, subst, ◌∙◌, arith, ◌==◌, nat_le, nat_lt}
+use Rattle.std.proofs.Common.{◌≡◌, inl, inr, ℕ, ◌+◌, ◌≤◌, Bool, true, false, cond, not, ◌&&◌, [], ◌∷◌, ◌++◌, Option, Some, None, Result, Ok, Err, refl, sym, ap, subst, ◌∙◌, arith, nat_le, nat_lt}
 use Rattle.std.proofs.lemmas.Bool.Decides.{nat_tests}
-use Rattle.std.specs.Prelude.{MatchBool, MatchOption, MatchResult}
+use Rattle.std.specs.Prelude.{MatchBool, MatchResult}
 use Rattle.av_vma.specs.Gap.{low_page, top_page, IsRoom, IsGap}
 use Rattle.av_vmatree.specs.Spans.{IsFree, IsMet}
 use Rattle.av_trace.specs.declared.reply.Errno.{Errno}
@@ -9,9 +9,9 @@ use Rattle.av_trace.specs.declared.reply.Errno.TheVariants.{Eperm, Enomem, Eexis
 use Rattle.av_trace.specs.declared.command.Place.{Place}
 use Rattle.av_trace.specs.declared.command.Place.TheVariants.{Auto, At, Fixed, NoReplace}
 use Rattle.av_plain.specs.World.{Process, page_of, address_of, is_on_page, is_mapped, meets}
-use Rattle.av_plain.specs.Refusal.{Tests, top, low, fixed_tests, place_tests, refusal}
-use Rattle.av_plain.specs.Step.{is_room, Goes}
-use Rattle.av_plain.proofs.RangeLaws.{none-meets, some-meets, meets-none, room-is, is-room}
+use Rattle.av_plain.specs.Refusal.{Tests, top, low, fixed_tests, refusal}
+use Rattle.av_plain.specs.Step.{is_room}
+use Rattle.av_plain.proofs.RangeLaws.{none-meets, some-meets, meets-none, room-is}
 use Rattle.av_kernel.specs.Spaces.{Spaces, is_taken}
 use Rattle.av_kernel.specs.Range.{IsProcess, IsPlaced, AreToClear}
 use Rattle.av_kernel.proofs.Parts.{gap_agrees}

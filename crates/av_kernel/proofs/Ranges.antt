@@ -1,5 +1,5 @@
 -- Commands on ranges of pages: what they leave of the pages, the entries and the areas.
-use Rattle.std.proofs.Common.{◌≡◌, inl, inr, Ok, Err, ℕ, ◌+◌, ◌-◌, ◌*◌, ◌/◌, ◌%◌, ◌<◌, ◌≤◌, Bool, true, false, cond, not, ◌&&◌, ◌||◌, List, [], ◌∷◌, Option, Some, None, is_some, option_map, Result, refl, sym, ap, subst, ◌∙◌, arith, ◌==◌, nat_le, nat_lt}
+use Rattle.std.proofs.Common.{◌≡◌, inl, inr, Ok, Err, ℕ, ◌+◌, ◌-◌, ◌<◌, ◌≤◌, Bool, true, false, cond, not, ◌&&◌, ◌||◌, List, [], ◌∷◌, Option, Some, None, is_some, option_map, Result, refl, sym, ap, subst, ◌∙◌, arith, ◌==◌, nat_lt}
 use Rattle.std.proofs.lemmas.Bool.Decides.{nat_tests}
 use Rattle.std.proofs.lemmas.Bool.{false≢true}
 use Rattle.std.specs.Prelude.{MatchOption, OnOk}
@@ -17,26 +17,26 @@ use Rattle.av_trace.specs.declared.reply.Reply.{Reply}
 use Rattle.av_trace.specs.declared.reply.Answer.{Answer}
 use Rattle.av_trace.specs.declared.reply.Answer.TheVariants.{Done, MapAt, Refused}
 use Rattle.av_pagetable.specs.Entries.{has}
-use Rattle.av_plain.specs.World.{Process, Page, nothing, zeros, lives, pages, page_of, pages_of, address_of, is_on_page, is_mapped, leading, set_process, replaced, protected, with_prot}
+use Rattle.av_plain.specs.World.{Process, Page, zeros, pages, page_of, pages_of, address_of, is_on_page, is_mapped, leading, set_process, replaced, protected, with_prot}
 use Rattle.av_plain.specs.Ledger.{Ledger, Entry, Zero, InFrame, InSlot, entry, frame_at}
 use Rattle.av_plain.specs.Event.{Event, after_all}
 use Rattle.av_plain.specs.Taking.{keys_in, taking}
 use Rattle.av_plain.specs.Refusal.{tests, place_tests, refusal, is_too_long, wraps, top}
 use Rattle.av_plain.specs.Step.{IsLegal, Follows, Refuses, Goes, clearing, next_world, protected_to_the_hole}
 use Rattle.av_plain.specs.Choice.{ChoosesAll}
-use Rattle.av_plain.specs.Transcript.{State, IsStep}
-use Rattle.av_plain.specs.Stands.{View, Holds, IsKept, IsKeptAt, prot_of, Range}
+use Rattle.av_plain.specs.Transcript.{State}
+use Rattle.av_plain.specs.Stands.{Holds, IsKept, IsKeptAt, prot_of, Range}
 use Rattle.av_plain.proofs.RangeLaws.{is-leading}
 use Rattle.av_plain.proofs.TakingLaws.{entry-range}
 use Rattle.av_kernel.specs.declared.mem.Mem.{Mem}
-use Rattle.av_kernel.specs.Spaces.{Spaces, areas_of, is_taken, set_on, AllApart, IsChanged}
+use Rattle.av_kernel.specs.Spaces.{Spaces, areas_of, is_taken, set_on, IsChanged}
 use Rattle.av_kernel.specs.View.{setting, view, count, Keeps, IsSteady}
-use Rattle.av_kernel.specs.Exit.{LedgerStands, HasTaken}
+use Rattle.av_kernel.specs.Exit.{HasTaken}
 use Rattle.av_kernel.specs.Range.{IsProcess, IsPlaced, AreToClear, AreCleared}
 use Rattle.av_kernel.specs.Command.{MemSteps}
 use Rattle.av_kernel.proofs.Parts.{mapped_is, page_back}
 use Rattle.av_kernel.proofs.Places.{IsSuited, suited}
-use Rattle.av_kernel.proofs.Commands.{bare, is_number, moved_on, orderly, refused, stays_orderly, changed, state_after, areas_changed, tables_kept}
+use Rattle.av_kernel.proofs.Commands.{bare, is_number, moved_on, orderly, refused, stays_orderly, changed, areas_changed, tables_kept}
 
 -- ---- pages and their areas
 

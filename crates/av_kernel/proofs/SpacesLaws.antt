@@ -3,13 +3,12 @@ use Rattle.std.proofs.Common.{◌≡◌, ◌≢◌, ℕ, ◌+◌, ◌-◌, ◌<�
 use Rattle.std.proofs.lemmas.Bool.Decides.{nat_tests}
 use Rattle.std.proofs.lemmas.Bool.{eqb-true, false≢true}
 use Rattle.std.proofs.lemmas.List.{length-map}
-use Rattle.std.specs.Prelude.{IsSome, IsSomeAnd, MatchOption, option_and_then}
+use Rattle.std.specs.Prelude.{IsSomeAnd, MatchOption, option_and_then}
 use Rattle.std.specs.Ordering.{nat_cmp, is_eq}
 use Rattle.std.specs.Map.{lookup}
 use Rattle.std.specs.BTreeMap.{BTreeMap, get, is_at, Updates, UpdatesBy, WritesThrough, IsUnchanged}
 use Rattle.av_vma.specs.declared.area.Area.{Area}
 use Rattle.av_vma.specs.declared.area.Prot.{Prot}
-use Rattle.av_vma.specs.Join.{past_of}
 use Rattle.av_vma.specs.Ranges.{within}
 use Rattle.av_vma.specs.Gap.{top_page}
 use Rattle.av_vmatree.specs.declared.span.Span.{Span}

@@ -1,9 +1,9 @@
 -- Where the pages of a mapping go, and how the pages of a range go.
-use Rattle.std.specs.Prelude.{◌≡◌, ◌⊎◌, ℕ, ◌+◌, Bool, List, Option, Some, None, Result, Ok, Err}
+use Rattle.std.specs.Prelude.{◌≡◌, ◌⊎◌, ℕ, ◌+◌, Bool, List, Some, None, Result, Ok, Err}
 use Rattle.av_trace.specs.declared.reply.Errno.{Errno}
 use Rattle.av_trace.specs.declared.reply.Errno.TheVariants.{Enomem}
 use Rattle.av_trace.specs.declared.command.Place.{Place}
-use Rattle.av_trace.specs.declared.command.Place.TheVariants.{Auto, At, Fixed, NoReplace}
+use Rattle.av_trace.specs.declared.command.Place.TheVariants.{Fixed}
 use Rattle.av_vmatree.specs.Spans.{IsFree}
 use Rattle.av_pagetable.specs.Entries.{has}
 use Rattle.av_plain.specs.World.{Process, page_of, is_mapped}

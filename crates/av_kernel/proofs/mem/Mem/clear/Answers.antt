@@ -1,4 +1,3 @@
-use Rattle.std.proofs.Common.{◌≡◌}
 use Rattle.av_kernel.proofs.Ranges.{on_ok, are_cleared}
 use Rattle.av_kernel.proofs.mem.Mem.clear.Goals as goal
 

@@ -1,4 +1,4 @@
-use Rattle.std.proofs.Common.{◌∙◌, refl, arith}
+use Rattle.std.proofs.Common.{◌∙◌, refl}
 use Rattle.av_kernel.proofs.TakeEntries.{none_yet, taken_more, all_taken}
 use Rattle.av_kernel.proofs.mem.Mem.take_entries.Goals as goal
 

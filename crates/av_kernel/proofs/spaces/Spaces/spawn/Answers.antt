@@ -1,4 +1,3 @@
-use Rattle.std.proofs.Common.{◌∙◌}
 use Rattle.av_vma.specs.Areas.{area_of}
 use Rattle.av_kernel.proofs.SpacesLaws.{trees_same, trees_spawned, spawns}
 use Rattle.av_kernel.proofs.spaces.Spaces.spawn.Goals as goal
