@@ -1,13 +1,14 @@
 -- The pages of a device in memory, where one is written.
-use Rattle.std.proofs.Common.{◌≡◌, ℕ, ◌<◌, eqb, Bool, true, false, cond, List, [], length, map, min, get_or, Some, None, refl, sym, ap, ◌∙◌, arith}
+use Rattle.std.proofs.Common.{◌≡◌, ℕ, ◌-◌, ◌<◌, eqb, Bool, true, false, cond, List, [], length, map, min, get_or, Some, None, refl, sym, ap, ◌∙◌, arith}
 use Rattle.std.proofs.Math.ListN.{set, length-set}
 use Rattle.std.proofs.lemmas.Bool.Decides.{nat_tests}
 use Rattle.std.proofs.lemmas.Grind.{common_steps, get_or-set_at}
-use Rattle.std.proofs.lemmas.List.{get_or-map, map-set, get_or-set_other}
+use Rattle.std.proofs.lemmas.List.{get_or_default, get_or-map, map-set, get_or-set_other}
+use Rattle.std.specs.Prelude.{slice_index}
 use Rattle.std.specs.Vec.{with_item}
 use Rattle.std.specs.declared.vec.Vec.{Vec}
 use Rattle.std.specs.declared.alloc.Global.{Global}
-use Rattle.av_swapdev.specs.Device.{with_at, with_page, HasPage, area_in, size_in, sizes_in, pages_in}
+use Rattle.av_swapdev.specs.Device.{with_at, with_page, HasPage, IsInverted, area_in, size_in, sizes_in, pages_in}
 
 get_set : {X : Type 0} (xs : List X) (i j : ℕ) (y d : X) → i < length xs → get_or (set xs i y) j d ≡ cond (eqb j i) y (get_or xs j d)
 get_set xs i j y d h = split (eqb j i) refl
@@ -59,3 +60,21 @@ module _ (areas : List (Vec (List ℕ) Global)) (area page : ℕ) (pages : Vec (
       split : (a : ℕ) (b : Bool) → eqb a area ≡ b → length (cond b (set pages.items page bytes) (area_in areas a)) ≡ length (area_in areas a)
       split a true e = let here : area ≡ a = grind (arith, nat_tests) in length-set pages.items page bytes ∙ ap length own ∙ ap (λ (k : ℕ). length (area_in areas k)) here
       split a false e = refl
+
+  same_number : (n : ℕ) → eqb n n ≡ true
+  same_number n = grind (arith, nat_tests)
+
+  -- the page that is written holds the bytes
+  page_written : page < length (area_in areas area) → pages_in (set areas area (with_item pages page bytes)) area page ≡ bytes
+  page_written within =
+      ap (λ (told : ℕ → ℕ → List ℕ). told area page) (pages_written within)
+      ∙ ap (λ b. cond b (with_at page bytes (pages_in areas area)) (pages_in areas area) page) (same_number area)
+      ∙ ap (λ b. cond b bytes (pages_in areas area page)) (same_number page)
+
+  pub page_inverted : (old : List ℕ) → old ≡ get_or pages.items page old → page < length (area_in areas area) → IsInverted old bytes → IsInverted (pages_in areas area page) (pages_in (set areas area (with_item pages page bytes)) area page)
+  page_inverted old is_old within inverted = λ k below.
+      ap (λ (new : List ℕ). slice_index new k) (page_written within) ∙ inverted k below
+      ∙ ap (λ (l : List ℕ). 255 - slice_index l k) (is_old ∙ get_or_default pages.items page old [] long ∙ ap (λ (l : List (List ℕ)). get_or l page []) own)
+    where
+      long : page < length pages.items
+      long = let same : length pages.items ≡ length (area_in areas area) = ap length own in omega (arith, same, within)

@@ -1,5 +1,5 @@
 -- The swap areas of a device: how many pages each has, what the pages hold where that is told, and what a call changes of them.
-use Rattle.std.specs.Prelude.{◌≡◌, ℕ, ◌<◌, ◌==◌, if◌then◌else◌, List, [], map, min, length, slice_index_or, Bool, false, Option, Some, None, option_map, IfSome, IsSomeAnd}
+use Rattle.std.specs.Prelude.{◌≡◌, ℕ, ◌-◌, ◌<◌, ◌==◌, if◌then◌else◌, List, [], map, min, length, slice_index, slice_index_or, Bool, false, Option, Some, None, option_map, IfSome, IsSomeAnd}
 use Rattle.std.specs.declared.vec.Vec.{Vec}
 use Rattle.std.specs.declared.alloc.Global.{Global}
 
@@ -26,6 +26,10 @@ IsWritten area page bytes old new = new ≡ option_map (with_page area page byte
 -- the page holds some bytes now, and each other page what it held
 abbrev pub IsSpoiled : ℕ → ℕ → Option (ℕ → ℕ → List ℕ) → Option (ℕ → ℕ → List ℕ) → Type 0
 IsSpoiled area page old new = (bytes : List ℕ) × IsWritten area page bytes old new
+
+-- each bit of a page's bytes is inverted
+abbrev pub IsInverted : List ℕ → List ℕ → Type 0
+IsInverted old new = (k : ℕ) → k < 4096 → slice_index new k ≡ 255 - slice_index old k
 
 -- the area has some pages now, and those of each other area hold what they held
 abbrev pub IsRenewed : ℕ → Option (ℕ → ℕ → List ℕ) → Option (ℕ → ℕ → List ℕ) → Type 0

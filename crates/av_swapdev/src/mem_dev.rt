@@ -2,7 +2,7 @@
 
 ghost use Rattle.std.specs.Prelude.{◌≡◌, ℕ, ◌-◌, ◌<◌, ◌≤◌, false, map, min, length, slice_index, slice_index_or, if◌then◌else◌, Some, None, MatchOption, IfOk, OnOk, OnErr, IsErrOf};
 ghost use Rattle.av_swapdev.specs.Outside.{Rose};
-ghost use Rattle.av_swapdev.specs.Device.{with_at, with_page, Holds, IsRenewed, area_in, size_in, sizes_in, pages_in};
+ghost use Rattle.av_swapdev.specs.Device.{with_at, with_page, HasPage, Holds, IsInverted, IsRenewed, IsSpoiled, IsWritten, area_in, size_in, sizes_in, pages_in};
 
 use crate::device::{AttachErr, SwapDev};
 use crate::faults::Faults;
@@ -63,7 +63,7 @@ fn replace(page: &mut [u8; 4096], bytes: &[u8])
 
 /// Inverts each bit of a page.
 fn invert(page: &mut [u8; 4096])
-    ensures inverted { (k : ℕ) → k < 4096 → slice_index page.new k ≡ 255 - slice_index page.old k }
+    ensures inverted { IsInverted page.old page.new }
     ensures long { length page.new ≡ 4096 }
 {
     for byte in page.iter_mut() {
@@ -107,7 +107,17 @@ impl SwapDev for MemDev {
         Ok(())
     }
 
-    fn write(&mut self, area: u8, page: u32, from: &[u8]) -> Result<(), Failed> {
+    fn write(&mut self, area: u8, page: u32, from: &[u8]) -> Result<(), Failed>
+        requires there { HasPage (⟦<MemDev as SwapDev>⟧.sizes self.old) area page }
+        requires long { length from.now ≡ 4096 }
+        ensures written { OnOk result (IsWritten area page from.now (⟦<MemDev as SwapDev>⟧.pages self.old) (⟦<MemDev as SwapDev>⟧.pages self.new)) }
+        ensures spoiled { OnErr result (IsSpoiled area page (⟦<MemDev as SwapDev>⟧.pages self.old) (⟦<MemDev as SwapDev>⟧.pages self.new)) }
+        ensures same_sizes { ⟦<MemDev as SwapDev>⟧.sizes self.new ≡ ⟦<MemDev as SwapDev>⟧.sizes self.old }
+        ensures never_falls { ⟦<MemDev as SwapDev>⟧.faults self.old ≤ ⟦<MemDev as SwapDev>⟧.faults self.new }
+        ensures cause { OnErr result (Rose (⟦<MemDev as SwapDev>⟧.faults self.old) (⟦<MemDev as SwapDev>⟧.faults self.new)) }
+        // Beside what the trait says: where it fails, each bit of the page is inverted.
+        ensures inverted { OnErr result (IsInverted (pages_in self.old.areas.items area page) (pages_in self.new.areas.items area page)) }
+    {
         let bytes = &mut self.areas[area as usize][page as usize];
         if self.faults.fails() {
             invert(bytes);

@@ -1,6 +1,6 @@
 //! A source over any reader, and a sink over any writer, as standard input and output.
 //!
-//! What passes through them is not told. Of them the contract of `run` says when they failed, that the end of the input was reached,
+//! What passes through them is not told. Of them the contract of `av_replay::run` says when they failed, that the end of the input was reached,
 //! and that nothing is kept back in the end.
 
 ghost use Rattle.std.specs.Prelude.{None, ◌≡◌, [], IfOk, IfErr};
