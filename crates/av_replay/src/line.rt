@@ -4,8 +4,8 @@ ghost use Rattle.std.specs.Prelude.{true, ◌≡◌, ◌≤◌};
 ghost use Rattle.av_swapdev.specs.Outside.{Rose, in_front};
 ghost use Rattle.av_replay.specs.Line.{Finds, ReadsLine};
 
-use av_swapdev::{Sink, Source};
 use crate::pending::Pending;
+use av_swapdev::{Sink, Source};
 use memchr::memchr;
 
 /// So many bytes without a newline are no line.

@@ -8,11 +8,11 @@ ghost use Rattle.av_swapdev.specs.Outside.{Rose};
 ghost use Rattle.av_replay.specs.Turn.{Waits, Finishes};
 ghost use Rattle.av_replay.specs.Headline.{Headline};
 
-use av_swapdev::{Sink, Source};
 use crate::pending::Pending;
 use crate::status::Status;
 use crate::turn::{Turn, take_turn};
 use av_kernel::Kernel;
+use av_swapdev::{Sink, Source};
 use av_trace::Bytes;
 use std::alloc::Global;
 

@@ -6,11 +6,11 @@ ghost use Rattle.av_replay.specs.Headline.{Headline};
 ghost use Rattle.av_replay.specs.Trace.{IsTrace, IsDoneOrMemory};
 ghost use Rattle.av_replay.specs.Words.{IsForm};
 
-use av_swapdev::{Sink, Source};
 use crate::replay::replay;
 use crate::status::Status;
 use crate::words::frames_of;
 use av_kernel::Kernel;
+use av_swapdev::{Sink, Source};
 use std::alloc::Global;
 
 /// How a run ended, and the kernel that it leaves.

@@ -5,10 +5,10 @@ ghost use Rattle.av_swapdev.specs.Outside.{Rose};
 ghost use Rattle.av_replay.specs.Turn.{DoesLine, SaysNothing, Did, Turned};
 
 use crate::line::{Ending, read_line};
-use av_swapdev::{Sink, SinkErr, Source};
 use crate::pending::Pending;
 use crate::write::write_all;
 use av_kernel::Kernel;
+use av_swapdev::{Sink, SinkErr, Source};
 use av_trace::{Bytes, LineFault, parse_line, reply_text};
 use std::alloc::Global;
 
