@@ -54,3 +54,18 @@ fn three_rising_keys_make_two_levels(rt: HostRuntime) -> Result<(), Fail> {
     assert!(rt; !tree.sum());
     Ok(())
 }
+
+#[test]
+fn a_replaced_entry_counts_in_the_summary(rt: HostRuntime) -> Result<(), Fail> {
+    let alloc = rt.alloc();
+    let mut tree = Avl::new();
+    tree.insert(alloc, entry(1, false))?;
+    tree.insert(alloc, entry(2, false))?;
+    tree.insert(alloc, entry(3, false))?;
+    tree.replace(entry(3, true));
+    assert_eq!(rt; tree.height(), 2);
+    assert!(rt; tree.sum());
+    tree.replace(entry(3, false));
+    assert!(rt; !tree.sum());
+    Ok(())
+}
