@@ -1,5 +1,5 @@
 -- Lists of spans of which no two meet.
-use Rattle.std.proofs.Common.{◌≡◌, ℕ, ◌+◌, ◌-◌, ◌^◌, ◌<◌, ◌≤◌, max, ◌⊎◌, inl, inr, Bool, true, false, cond, ◌&&◌, eqb, ltb, leb, Option, Some, None, option_map, is_some, IfSome, IsSome, IsSomeAnd, Result, Ok, Err, is_ok, OnOk, List, [], ◌∷◌, ◌++◌, length, refl, sym, ap, subst, ◌∙◌, arith}
+use Rattle.std.proofs.Common.{◌≡◌, ℕ, ◌+◌, ◌-◌, ◌^◌, ◌<◌, ◌≤◌, max, ◌⊎◌, inl, inr, Bool, true, false, cond, ◌&&◌, eqb, ltb, leb, Option, Some, None, is_some, IfSome, IsSome, IsSomeAnd, Result, Ok, Err, is_ok, OnOk, List, [], ◌∷◌, ◌++◌, length, refl, sym, ap, subst, ◌∙◌, arith}
 use Rattle.std.proofs.lemmas.Bool.{leb-true, ltb-true, ltb-false, le-leb, lt-leb, lt-ltb, le-ltb, eq-eqb, ne_eqb, eqb-true, eqb-false, both_ways, cases_lt, and_parts, cond-false}
 use Rattle.av_vma.specs.Gap.{low_page, top_page}
 use Rattle.av_vma.specs.Ranges.{with_at}
@@ -416,12 +416,13 @@ entry_there n first [] there = absurd there
 entry_there n first (b ∷ xs) there =
     elim (eqb b.from first) as (λ v. eqb b.from first ≡ v → IsSome (cond v (Some b) (entry_at start_of first xs))) [
       | true ↦ λ e. refl
-      | false ↦ λ e. entry_there n first xs (
+      | false ↦ λ e.
+          let rest : IsSomeAnd (span_of xs n) (λ a. a.from ≡ first) =
           elim (eqb n b.area) as (λ v. IsSomeAnd (cond v (Some b) (span_of xs n)) (λ a. a.from ≡ first) → IsSomeAnd (span_of xs n) (λ a. a.from ≡ first)) [
             | true ↦ λ h. absurd (eqb-false b.from first e h)
             | false ↦ λ h. h
-          ] there
-        )
+          ] there in
+          entry_there n first xs rest
     ] refl
 
 -- the nearest areas, down the tree

@@ -1,5 +1,5 @@
-use Rattle.std.proofs.Common.{Result, Ok, Err, OnOk, refl, sym, subst}
-use Rattle.av_vmatree.specs.Spans.{AreSpans, span}
+use Rattle.std.proofs.Common.{Result, Ok, Err, OnOk}
+use Rattle.av_vmatree.specs.Spans.{span}
 use Rattle.av_vmatree.proofs.Spans.{IsInserted, inserted_if, room_more}
 use Rattle.av_vmatree.proofs.tree.Tree.insert.Goals as goal
 
