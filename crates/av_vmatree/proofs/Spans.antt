@@ -1,13 +1,11 @@
 -- Lists of spans of which no two meet.
-use Rattle.std.proofs.Common.{◌≡◌, ℕ, ◌+◌, ◌-◌, ◌^◌, ◌<◌, ◌≤◌, max, ◌⊎◌, inl, inr, Bool, true, false, cond, ◌&&◌, eqb, ltb, leb, Option, Some, None, option_map, is_some, IfSome, IsSomeAnd, List, [], ◌∷◌, ◌++◌, length, refl, sym, ap, subst, ◌∙◌, arith}
+use Rattle.std.proofs.Common.{◌≡◌, ℕ, ◌+◌, ◌-◌, ◌^◌, ◌<◌, ◌≤◌, max, ◌⊎◌, inl, inr, Bool, true, false, cond, ◌&&◌, eqb, ltb, leb, Option, Some, None, is_some, IfSome, IsSome, IsSomeAnd, Result, Ok, Err, is_ok, OnOk, List, [], ◌∷◌, ◌++◌, length, refl, sym, ap, subst, ◌∙◌, arith}
 use Rattle.std.proofs.lemmas.Bool.{leb-true, ltb-true, ltb-false, le-leb, lt-leb, lt-ltb, le-ltb, eq-eqb, ne_eqb, eqb-true, eqb-false, both_ways, cases_lt, and_parts, cond-false}
-use Rattle.std.specs.BTreeMap.{BTreeMap, get}
-use Rattle.std.specs.Ordering.{is_eq, nat_cmp}
 use Rattle.av_vma.specs.Gap.{low_page, top_page}
 use Rattle.av_vma.specs.Ranges.{with_at}
-use Rattle.av_tree.specs.Order.{AllOf, with_entry, without_key}
+use Rattle.av_tree.specs.Order.{AllOf, entry_at, with_entry, without_key}
 use Rattle.av_vmatree.specs.declared.span.Span.{Span}
-use Rattle.av_vmatree.specs.Spans.{start_of, holds, area_after, area_at, area_before, or_else, taken, span_of, with_span, unless_area, without_area, IsFree, TellsStarts, AreApart, AreDistinct, AreSpans}
+use Rattle.av_vmatree.specs.Spans.{start_of, holds, area_after, area_at, area_before, or_else, taken, span_of, with_span, unless_area, without_area, IsFree, AreApart, AreDistinct, AreSpans}
 
 -- no span meets the n pages from p on
 abbrev pub AreClear : List Span → ℕ → ℕ → Type 0
@@ -270,6 +268,11 @@ pub inserted_span : (a : Span) (d xs new : List Span) → d ≡ xs → new ≡ w
 inserted_span a d xs new is e good some low high free other =
     subst (IsInserted a xs) (sym (e ∙ ap (with_span a) is)) (inserted a xs (subst AreSpans is good) some low high free other)
 
+-- what an insertion leaves that can lack memory
+pub inserted_if : {E : Type 0} (r : Result Unit E) (a : Span) (d xs new : List Span) → d ≡ xs → new ≡ cond (is_ok r) (with_span a d) d → AreSpans d → a.from < a.to → low_page ≤ a.from → a.to ≤ top_page → IsFree (taken xs) a.from a.to → span_of xs a.area ≡ None → OnOk r (IsInserted a xs new) × AreSpans new
+inserted_if (Ok _) a d xs new is e good some low high free other = let h = inserted_span a d xs new is e good some low high free other in (h, h.good)
+inserted_if (Err _) a d xs new is e good some low high free other = (tt, subst AreSpans (sym e) good)
+
 none_either : (v : Bool) (x : Option Span) → x ≡ None → x ≡ cond v None x
 none_either true x e = e
 none_either false x e = refl
@@ -363,23 +366,64 @@ removed_span n a xs good found =
       pages = λ p. ap (λ t. area_at t p) same ∙ at_without n xs p good.apart good.distinct;
     }
 
-removed_found : (n first : ℕ) (found : Option Span) (xs : List Span) → AreSpans xs → span_of xs n ≡ found → option_map start_of found ≡ Some first → IsRemoved n xs (without_key start_of first xs)
-removed_found n first None xs good is e = cc
-removed_found n first (Some a) xs good is e = let same : a.from ≡ first = cc in subst (λ k. IsRemoved n xs (without_key start_of k xs)) same (removed_span n a xs good is)
+removed_found : (n first : ℕ) (found : Option Span) (xs : List Span) → AreSpans xs → span_of xs n ≡ found → IsSomeAnd found (λ a. a.from ≡ first) → IsRemoved n xs (without_key start_of first xs)
+removed_found n first None xs good is there = absurd there
+removed_found n first (Some a) xs good is there = subst (λ k. IsRemoved n xs (without_key start_of k xs)) there (removed_span n a xs good is)
 
-pub removed : (n first : ℕ) (d xs new : List Span) → d ≡ xs → AreSpans d → option_map start_of (span_of d n) ≡ Some first → new ≡ without_key start_of first d → IsRemoved n xs new
-removed n first d xs new is good found e =
-    subst (λ l. IsRemoved n l new) is (subst (IsRemoved n d) (sym e) (removed_found n first (span_of d n) d good refl found))
+removed_here : (n first : ℕ) (xs : List Span) → AreSpans xs → IsSomeAnd (span_of xs n) (λ a. a.from ≡ first) → IsRemoved n xs (without_key start_of first xs)
+removed_here n first xs good there = removed_found n first (span_of xs n) xs good refl there
 
--- the map of the starts
-same_number : (a b : ℕ) → is_eq (nat_cmp a b) ≡ eqb b a
-same_number a b = grind arith
+pub removed : (n first : ℕ) (d xs new : List Span) → d ≡ xs → AreSpans d → IsSomeAnd (span_of xs n) (λ a. a.from ≡ first) → new ≡ without_key start_of first d → IsRemoved n xs new
+removed n first d xs new is good there e =
+    subst (IsRemoved n xs) (sym (e ∙ ap (without_key start_of first) is)) (removed_here n first xs (subst AreSpans is good) there)
 
-pub tells_insert : (a : Span) (m n : BTreeMap ℕ ℕ) (xs new : List Span) → TellsStarts m xs → ((q : ℕ) → get nat_cmp n q ≡ cond (is_eq (nat_cmp a.area q)) (Some a.from) (get nat_cmp m q)) → ((k : ℕ) → span_of new k ≡ with_at a.area (Some a) (span_of xs) k) → TellsStarts n new
-tells_insert a m n xs new tells put is = λ k. rw (put k, same_number a.area k, is k, tells k) (elim (eqb k a.area) as (λ v. cond v (Some a.from) (option_map start_of (span_of xs k)) ≡ option_map start_of (cond v (Some a) (span_of xs k))) [ true ↦ refl | false ↦ refl ])
+-- what another end of an area leaves
+pub record IsEnded (s : Span) (xs new : List Span) : Type 0 where
+  pub good : AreSpans new
+  pub spans : new ≡ with_span s (without_area s.area xs)
+  pub areas : (k : ℕ) → span_of new k ≡ with_at s.area (Some s) (span_of xs) k
+  pub pages : (p : ℕ) → area_at new p ≡ cond (holds s p) (Some s.area) (unless_area s.area (area_at xs p))
 
-pub tells_remove : (area : ℕ) (m n : BTreeMap ℕ ℕ) (xs new : List Span) → TellsStarts m xs → ((q : ℕ) → get nat_cmp n q ≡ cond (is_eq (nat_cmp area q)) None (get nat_cmp m q)) → ((k : ℕ) → span_of new k ≡ with_at area None (span_of xs) k) → TellsStarts n new
-tells_remove area m n xs new tells cut is = λ k. rw (cut k, same_number area k, is k, tells k) (elim (eqb k area) as (λ v. cond v None (option_map start_of (span_of xs k)) ≡ option_map start_of (cond v None (span_of xs k))) [ true ↦ refl | false ↦ refl ])
+with_at_twice : {X : Type 0} (v : Bool) (x y z : X) → cond v x (cond v y z) ≡ cond v x z
+with_at_twice true x y z = refl
+with_at_twice false x y z = refl
+
+-- an area that is there begins with a page that a process may have
+low_there : (n first : ℕ) (found : Option Span) (xs : List Span) → AreSpans xs → span_of xs n ≡ found → IsSomeAnd found (λ a. a.from ≡ first) → low_page ≤ first
+low_there n first None xs good is there = absurd there
+low_there n first (Some a) xs good is there = subst (λ k. low_page ≤ k) there (all_found (λ b. (low_page ≤ b.from) × (b.to ≤ top_page)) n xs a good.within is).0
+
+ended_here : (s : Span) (xs : List Span) → AreSpans xs → IsSomeAnd (span_of xs s.area) (λ a. a.from ≡ s.from) → s.from < s.to → s.to ≤ top_page → IsFree (taken (without_area s.area xs)) s.from s.to → IsEnded s xs (with_span s (without_key start_of s.from xs))
+ended_here s xs good there some high free =
+    let left = removed_here s.area s.from xs good there in
+    let new = without_key start_of s.from xs in
+    let none : span_of new s.area ≡ None = left.areas s.area ∙ rw (eq-eqb s.area s.area refl) refl in
+    let h = inserted s new left.good some (low_there s.area s.from (span_of xs s.area) xs good refl there) high (subst (λ l. IsFree (taken l) s.from s.to) (sym left.spans) free) none in
+    record {
+      good = h.good;
+      spans = ap (with_span s) left.spans;
+      areas = λ k. h.areas k ∙ ap (cond (eqb k s.area) (Some s)) (left.areas k) ∙ with_at_twice (eqb k s.area) (Some s) None (span_of xs k);
+      pages = λ p. h.pages p ∙ ap (cond (holds s p) (Some s.area)) (left.pages p);
+    }
+
+pub ended : (s : Span) (d xs new : List Span) → d ≡ xs → AreSpans d → IsSomeAnd (span_of xs s.area) (λ a. a.from ≡ s.from) → s.from < s.to → s.to ≤ top_page → IsFree (taken (without_area s.area xs)) s.from s.to → new ≡ with_span s (without_key start_of s.from d) → IsEnded s xs new
+ended s d xs new is good there some high free e =
+    subst (IsEnded s xs) (sym (e ∙ ap (λ l. with_span s (without_key start_of s.from l)) is)) (ended_here s xs (subst AreSpans is good) there some high free)
+
+-- a span of an area is an entry with the key of its start
+pub entry_there : (n first : ℕ) (xs : List Span) → IsSomeAnd (span_of xs n) (λ a. a.from ≡ first) → IsSome (entry_at start_of first xs)
+entry_there n first [] there = absurd there
+entry_there n first (b ∷ xs) there =
+    elim (eqb b.from first) as (λ v. eqb b.from first ≡ v → IsSome (cond v (Some b) (entry_at start_of first xs))) [
+      | true ↦ λ e. refl
+      | false ↦ λ e.
+          let rest : IsSomeAnd (span_of xs n) (λ a. a.from ≡ first) =
+          elim (eqb n b.area) as (λ v. IsSomeAnd (cond v (Some b) (span_of xs n)) (λ a. a.from ≡ first) → IsSomeAnd (span_of xs n) (λ a. a.from ≡ first)) [
+            | true ↦ λ h. absurd (eqb-false b.from first e h)
+            | false ↦ λ h. h
+          ] there in
+          entry_there n first xs rest
+    ] refl
 
 -- the nearest areas, down the tree
 pub or_else_assoc : (x y z : Option ℕ) → or_else (or_else x y) z ≡ or_else x (or_else y z)

@@ -1,4 +1,4 @@
-ghost use Rattle.std.specs.Prelude.{◌≡◌, ℕ, ◌-◌, ◌<◌, ◌≤◌, ◌++◌, [], Some, None, true, false, is_ok, IfSome, IsSome, IsSomeAnd, OnOk, if◌then◌else◌};
+ghost use Rattle.std.specs.Prelude.{◌≡◌, ℕ, ◌-◌, ◌<◌, ◌≤◌, ◌++◌, [], Some, None, true, false, is_ok, IfSome, IsSomeAnd, OnOk, if◌then◌else◌};
 ghost use Rattle.av_vma.specs.Gap.{low_page, top_page, IsGap};
 ghost use Rattle.av_vma.specs.Ranges.{within, with_at};
 ghost use Rattle.av_vmatree.specs.Spans.{AreSpans, IsFree, IsMet, area_after, area_at, area_before, holds, span, span_of, taken, unless_area, with_span, without_area};
@@ -8,7 +8,6 @@ use crate::span::Span;
 use av_tree::Avl;
 use av_vma::AreaId;
 use std::alloc::{AllocError, Global};
-use std::collections::BTreeMap;
 use std::marker::Model;
 
 /// The areas of one process, seen as the list of their spans in the order of their pages.
@@ -18,21 +17,19 @@ use std::marker::Model;
 #[derive(Drop)]
 pub struct Tree {
     spans: Avl<Span>,
-    /// The page that each area begins with.
-    starts: BTreeMap<AreaId, u64>,
     alloc: Global,
 }
 
 impl Model for Tree {
     ghost use Rattle.std.specs.Prelude.{List};
     ghost use Rattle.av_vmatree.specs.declared.span.Span.{Span};
-    ghost use Rattle.av_vmatree.specs.Spans.{AreSpans, TellsStarts};
+    ghost use Rattle.av_vmatree.specs.Spans.{AreSpans};
 
     ghost Value = { List Span };
 
     ghost view = { λ t. t.spans.0 };
 
-    ghost invariant = { λ t. AreSpans t.spans.0 × TellsStarts t.starts t.spans.0 };
+    ghost invariant = { λ t. AreSpans t.spans.0 };
 }
 
 impl Tree {
@@ -42,7 +39,6 @@ impl Tree {
     {
         Tree {
             spans: Avl::new(),
-            starts: BTreeMap::new(alloc),
             alloc,
         }
     }
@@ -61,32 +57,37 @@ impl Tree {
         ensures pages { OnOk result ((page : ℕ) → area_at self.new page ≡ (if within from (to - from) page then Some area else area_at self.old page)) }
         ensures kept { AreSpans self.new }
     {
-        self.starts.insert(area, from)?;
-        match self.spans.insert(self.alloc, Span { from, to, area }) {
-            Ok(()) => Ok(()),
-            Err(error) => {
-                self.starts.remove(&area);
-                Err(error)
-            }
-        }
+        self.spans.insert(self.alloc, Span { from, to, area })
     }
 
-    /// Takes out an area that is there.
-    pub fn remove(&mut self, area: AreaId)
-        requires there { IsSome (span_of self.old area) }
+    /// Takes out an area that is there, and begins with the page `from`.
+    pub fn remove(&mut self, area: AreaId, from: u64)
+        requires there { IsSomeAnd (span_of self.old area) (λ s. s.from ≡ from) }
         ensures spans { self.new ≡ without_area area self.old }
         ensures areas { (number : ℕ) → span_of self.new number ≡ with_at area None (span_of self.old) number }
         ensures pages { (page : ℕ) → area_at self.new page ≡ unless_area area (area_at self.old page) }
         ensures kept { AreSpans self.new }
     {
-        let Some(from) = self.starts.remove(&area) else {
-            unreachable!()
-        };
         self.spans.remove(&Span {
             from,
             to: from,
             area,
         });
+    }
+
+    /// Gives an area that is there, and begins with the page `from`, another end. The pages up to it are its own or
+    /// free. It takes no memory.
+    pub fn set_end(&mut self, area: AreaId, from: u64, to: u64)
+        requires there { IsSomeAnd (span_of self.old area) (λ s. s.from ≡ from) }
+        requires some { from < to }
+        requires high { to ≤ top_page }
+        requires free { IsFree (taken (without_area area self.old)) from to }
+        ensures spans { self.new ≡ with_span (span area from to) (without_area area self.old) }
+        ensures areas { (number : ℕ) → span_of self.new number ≡ with_at area (Some (span area from to)) (span_of self.old) number }
+        ensures pages { (page : ℕ) → area_at self.new page ≡ (if within from (to - from) page then Some area else unless_area area (area_at self.old page)) }
+        ensures kept { AreSpans self.new }
+    {
+        self.spans.replace(Span { from, to, area });
     }
 
     /// The area that holds the page.

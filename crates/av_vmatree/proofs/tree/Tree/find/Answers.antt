@@ -23,5 +23,5 @@ returns-else-span-page c =
     let here = at_here c.args.page c.down.part.now.0 s.left.now.0 s.span.now s.right.now.0 s.ensures.parts.entries c.down.invariant.1 c.if-page-span.false c.if-span-page.false ∙ c.down.invariant.0 in
     record {
       area = here;
-      span = subst (λ o. IfSome o (λ n. IsSomeAnd (span_of c.args.self.now n) (λ s. holds s c.args.page ≡ true))) (sym here) (held c.args.self.now c.args.page (subst AreDistinct c.self.view_is c.self.invariant.0.distinct));
+      span = subst (λ o. IfSome o (λ n. IsSomeAnd (span_of c.args.self.now n) (λ s. holds s c.args.page ≡ true))) (sym here) (held c.args.self.now c.args.page (subst AreDistinct c.self.view_is c.self.invariant.distinct));
     }

@@ -1,27 +1,31 @@
-use Rattle.std.proofs.Common.{refl}
+use Rattle.std.proofs.Common.{Result, Ok, Err, OnOk}
 use Rattle.av_vmatree.specs.Spans.{span}
-use Rattle.av_vmatree.proofs.Spans.{inserted_span, room_more, tells_insert}
+use Rattle.av_vmatree.proofs.Spans.{IsInserted, inserted_if, room_more}
 use Rattle.av_vmatree.proofs.tree.Tree.insert.Goals as goal
 
-pub insert-requires-2 : goal.insert-requires-2
-insert-requires-2 c = record { room = room_more _ c.self.invariant.0 }
+on_ok : {E : Type 0} (r : Result Unit E) (P Q : Type 0) → (P → Q) → OnOk r P → OnOk r Q
+on_ok (Ok _) P Q f p = f p
+on_ok (Err _) P Q f p = tt
 
-pub invariant_of-self-in-Ok : goal.invariant_of-self-in-Ok
-invariant_of-self-in-Ok c =
-    let a = span c.args.area c.args.from c.args.to in
+pub insert-requires : goal.insert-requires
+insert-requires c = record { room = room_more _ c.self.invariant }
+
+pub invariant_of-self : goal.invariant_of-self
+invariant_of-self c =
+    let r = c.requires in
     let d = c.self.inside.spans.0 in
-    let r = c.requires in
-    let h = inserted_span a d d c.insert-2.new.self.0 refl c.in-Ok.ensures.entries c.self.invariant.0 r.some r.low r.high (rw c.self.view_is r.free) (rw c.self.view_is r.other) in
-    (h.good, tells_insert a c.self.inside.starts c.insert.new.self d _ c.self.invariant.1 c.in_ok-insert.ensures.updates.0 h.areas)
+    (inserted_if c.insert.result (span c.args.area c.args.from c.args.to) d c.args.self.now c.insert.new.self.0 c.self.view_is c.insert.ensures.entries c.self.invariant r.some r.low r.high r.free r.other).1
 
-pub returns-in-Ok : goal.returns-in-Ok
-returns-in-Ok c =
+pub returns : goal.returns
+returns c =
     let a = span c.args.area c.args.from c.args.to in
+    let xs = c.args.self.now in
+    let new = c.insert.new.self.0 in
     let r = c.requires in
-    let h = inserted_span a c.self.inside.spans.0 c.args.self.now c.insert-2.new.self.0 c.self.view_is c.in-Ok.ensures.entries c.self.invariant.0 r.some r.low r.high r.free r.other in
+    let h = inserted_if c.insert.result a c.self.inside.spans.0 xs new c.self.view_is c.insert.ensures.entries c.self.invariant r.some r.low r.high r.free r.other in
     record {
-      spans = rw (← c.self.view_is) c.in-Ok.ensures.entries;
-      areas = h.areas;
-      pages = h.pages;
-      kept = h.good;
+      spans = rw (← c.self.view_is) c.insert.ensures.entries;
+      areas = on_ok c.insert.result (IsInserted a xs new) _ (λ i. i.areas) h.0;
+      pages = on_ok c.insert.result (IsInserted a xs new) _ (λ i. i.pages) h.0;
+      kept = h.1;
     }
