@@ -144,6 +144,9 @@ crossed p n at areas spans area stands inside used = each (span_of spans n) refl
         record { span = s; there = e; is = is; low = omega arith; high = omega arith }
 
 module _ (p n at : ℕ) (areas : ℕ → Option Area) (spans : List Span) (area : Area) (stands : AreAreasOf p areas spans) (used : areas n ≡ Some area) (c : IsCrossed p n at spans area) where
+  pub lower_from : IsSomeAnd (span_of spans n) (λ s. s.from ≡ first_of (lower_of at area))
+  lower_from = subst (λ o. IsSomeAnd o (λ s. s.from ≡ first_of (lower_of at area))) (sym c.there) c.is.from
+
   pub lower_free : IsFree (taken (without_area n spans)) (first_of (lower_of at area)) (past_of (lower_of at area))
   lower_free page low high =
       let from = c.is.from in

@@ -1,5 +1,5 @@
 -- A join of two areas of a process, in its tree and by number: the upper one goes, and the two as one are put in the lower one's place.
-use Rattle.std.proofs.Common.{◌≡◌, ◌≢◌, ℕ, ◌-◌, ◌<◌, ◌≤◌, true, false, cond, ◌&&◌, inl, inr, List, Option, Some, None, Result, Ok, Err, OnOk, is_some, option_map, refl, sym, ap, subst, ◌∙◌, arith}
+use Rattle.std.proofs.Common.{◌≡◌, ◌≢◌, ℕ, ◌-◌, ◌<◌, ◌≤◌, IsSomeAnd, true, false, cond, ◌&&◌, inl, inr, List, Option, Some, None, is_some, refl, sym, ap, subst, ◌∙◌, arith}
 use Rattle.std.specs.Prelude.{option_and_then}
 use Rattle.std.proofs.lemmas.Bool.{eq-eqb, ne_eqb, both_ways}
 use Rattle.std.proofs.lemmas.Option.{same_Some}
@@ -7,31 +7,17 @@ use Rattle.av_vma.specs.declared.area.Area.{Area}
 use Rattle.av_vma.specs.Join.{first_of, past_of}
 use Rattle.av_vma.specs.Ranges.{with_at}
 use Rattle.av_vmatree.specs.declared.span.Span.{Span}
-use Rattle.av_vmatree.specs.Spans.{start_of, AreSpans, IsFree, area_at, span_of, taken, unless_area, without_area}
-use Rattle.av_vmatree.proofs.Spans.{removed}
+use Rattle.av_vmatree.specs.Spans.{AreSpans, IsFree, area_at, span_of, taken, unless_area, without_area}
 use Rattle.av_merge.specs.Pages.{Pages, has_page, join, joined_at, merged, pages_by, placed, tried}
 use Rattle.av_merge.specs.Process.{AreAreasOf, IsWhole, Stays}
-use Rattle.av_merge.proofs.Places.{IsOn, is_on, at_span, has_from, has_parts, stays_trans, take_stands, take_others}
+use Rattle.av_merge.proofs.Places.{IsOn, is_on, at_rest, at_span, has_from, has_parts, stays_trans, take_stands, take_others}
 use Rattle.av_merge.proofs.Mappings.{join_is, laid_of, left_pages, right_pages, merged_pages, merged_whole}
 
-at_rest : (spans : List Span) (n : ℕ) (s : Span) (page : ℕ) → AreSpans spans → span_of spans n ≡ Some s → area_at (without_area n spans) page ≡ unless_area n (area_at spans page)
-at_rest spans n s page good there =
-    let r = removed n s.from spans spans _ refl good (ap (option_map start_of) there) refl in
-    ap (λ l. area_at l page) (sym r.spans) ∙ r.pages page
-
--- what a call leaves on the pages, said in other words
-pub pages_next : {T E : Type 0} (r : Result T E) (new a b : Pages) → ((page : ℕ) → a page ≡ b page) → OnOk r ((page : ℕ) → new page ≡ a page) → OnOk r ((page : ℕ) → new page ≡ b page)
-pages_next (Ok x) new a b same is = λ page. is page ∙ same page
-pages_next (Err e) new a b same is = tt
-
-module _ (p l r at : ℕ) (lower upper : Area) (areas areas' : ℕ → Option Area) (spans spans' : List Span)
+module _ (p l r at : ℕ) (lower upper : Area) (areas : ℕ → Option Area) (spans : List Span)
     (stands : AreAreasOf p areas spans)
     (left_at : area_at spans (at - 1) ≡ Some l) (right_at : area_at spans at ≡ Some r)
     (lower_is : areas l ≡ Some lower) (upper_is : areas r ≡ Some upper)
-    (joins : join lower upper ≡ true)
-    (now : (k : ℕ) → areas' k ≡ with_at r None areas k)
-    (kept : AreSpans spans') (spans_now : (k : ℕ) → span_of spans' k ≡ with_at r None (span_of spans) k)
-    (pages_now : (page : ℕ) → area_at spans' page ≡ unless_area r (area_at spans page)) where
+    (joins : join lower upper ≡ true) where
   before : pages_by areas spans (at - 1) ≡ Some lower
   before = ap (option_and_then areas) left_at ∙ lower_is
 
@@ -72,37 +58,60 @@ module _ (p l r at : ℕ) (lower upper : Area) (areas areas' : ℕ → Option Ar
       let k = has_parts upper page h in
       at_span spans r on_right.span page stands.spans_are.apart right_span (subst (λ n. n ≤ page) (sym on_right.is.from) k.0) (subst (λ n. page < n) (sym on_right.is.to) k.1)
 
-  pub join_free : IsFree (taken (without_area l spans')) (first_of lower) (past_of upper)
-  join_free page low high =
-      ap is_some (at_rest spans' l on_left.span page kept (spans_now l ∙ ap (λ b. cond b None (span_of spans l)) (ne_eqb l r two) ∙ left_span) ∙ ap (unless_area l) (pages_now page))
-      ∙ elim (merged_pages lower upper on_left.is.whole on_right.is.whole joins page (has_from (merged lower upper) page low high)) [
-        | inl h ↦ rw (at_left page h, ne_eqb l r two, eq-eqb l l refl) refl
-        | inr h ↦ rw (at_right page h, eq-eqb r r refl) refl
-      ]
+  -- the upper area begins with the page
+  pub right_from : IsSomeAnd (span_of spans r) (λ s. s.from ≡ at)
+  right_from =
+      let left_has = has_parts lower (at - 1) on_left.has in
+      let right_has = has_parts upper at on_right.has in
+      let low : first_of upper ≤ at = right_has.0 in
+      let high : at - 1 < past_of lower = left_has.1 in
+      let j = join_is lower upper joins in
+      let from = on_right.is.from in
+      let is : on_right.span.from ≡ at = omega arith in
+      subst (λ o. IsSomeAnd o (λ s. s.from ≡ at)) (sym right_span) is
 
-  -- the pages of neither stay
-  rest : (page : ℕ) → has_page (merged lower upper) page ≡ false → pages_by (with_at l None areas') spans' page ≡ pages_by areas spans page
-  rest page out = ap (option_and_then (with_at l None areas')) (pages_now page) ∙ go (area_at spans page) refl
-    where
-      go : (o : Option ℕ) → area_at spans page ≡ o → option_and_then (with_at l None areas') (unless_area r o) ≡ option_and_then areas o
-      go None e = refl
-      go (Some k) e =
-          let not_left : k ≢ l = λ same. both_ways (has_page (merged lower upper) page) out (left_pages lower upper on_left.is.whole on_right.is.whole joins page ((laid_of p areas spans stands).here page lower (ap (option_and_then areas) e ∙ ap areas same ∙ lower_is))) in
-          let not_right : k ≢ r = λ same. both_ways (has_page (merged lower upper) page) out (right_pages lower upper on_left.is.whole on_right.is.whole joins page ((laid_of p areas spans stands).here page upper (ap (option_and_then areas) e ∙ ap areas same ∙ upper_is))) in
-          rw (ne_eqb k r not_right, ne_eqb k l not_left) (now k ∙ ap (λ b. cond b None (areas k)) (ne_eqb k r not_right))
+  -- the upper area has been taken out
+  module _ (areas' : ℕ → Option Area) (spans' : List Span)
+      (now : (k : ℕ) → areas' k ≡ with_at r None areas k)
+      (kept : AreSpans spans') (spans_now : (k : ℕ) → span_of spans' k ≡ with_at r None (span_of spans) k)
+      (pages_now : (page : ℕ) → area_at spans' page ≡ unless_area r (area_at spans page)) where
+    left_now : span_of spans' l ≡ Some on_left.span
+    left_now = spans_now l ∙ ap (λ b. cond b None (span_of spans l)) (ne_eqb l r two) ∙ left_span
 
-  pub join_pages : (page : ℕ) → placed (merged lower upper) (pages_by (with_at l None areas') spans') page ≡ joined_at at (pages_by areas spans) page
-  join_pages page =
-      elim (has_page (merged lower upper) page) as (λ b. has_page (merged lower upper) page ≡ b → cond b (Some (merged lower upper)) (pages_by (with_at l None areas') spans' page) ≡ cond b (Some (merged lower upper)) (pages_by areas spans page)) [
-        | true ↦ λ h. refl
-        | false ↦ λ h. rest page h
-      ] refl
-      ∙ ap (λ b. cond (b && has_page (merged lower upper) page) (Some (merged lower upper)) (pages_by areas spans page)) (sym joins)
-      ∙ sym (λ i. tried (before i) (after i) page (pages_by areas spans page))
+    pub left_from : IsSomeAnd (span_of spans' l) (λ s. s.from ≡ first_of (merged lower upper))
+    left_from = subst (λ o. IsSomeAnd o (λ s. s.from ≡ first_of (merged lower upper))) (sym left_now) on_left.is.from
 
-  pub join_stays : (new : ℕ → Option Area) (spans'' : List Span) → Stays lower.pid areas' new spans'' → Stays p areas new spans''
-  join_stays new spans'' h =
-      stays_trans p areas areas' new spans' spans'' (record {
-        areas = take_stands p r on_right.span areas areas' spans spans' stands right_span now kept spans_now pages_now;
-        others = take_others p r on_right.span areas areas' spans spans' stands right_span now kept spans_now pages_now;
-      }) (subst (λ q. Stays q areas' new spans'') on_left.is.process h)
+    pub join_free : IsFree (taken (without_area l spans')) (first_of lower) (past_of upper)
+    join_free page low high =
+        ap is_some (at_rest spans' l on_left.span page kept left_now ∙ ap (unless_area l) (pages_now page))
+        ∙ elim (merged_pages lower upper on_left.is.whole on_right.is.whole joins page (has_from (merged lower upper) page low high)) [
+          | inl h ↦ rw (at_left page h, ne_eqb l r two, eq-eqb l l refl) refl
+          | inr h ↦ rw (at_right page h, eq-eqb r r refl) refl
+        ]
+
+    -- the pages of neither stay
+    rest : (page : ℕ) → has_page (merged lower upper) page ≡ false → pages_by (with_at l None areas') spans' page ≡ pages_by areas spans page
+    rest page out = ap (option_and_then (with_at l None areas')) (pages_now page) ∙ go (area_at spans page) refl
+      where
+        go : (o : Option ℕ) → area_at spans page ≡ o → option_and_then (with_at l None areas') (unless_area r o) ≡ option_and_then areas o
+        go None e = refl
+        go (Some k) e =
+            let not_left : k ≢ l = λ same. both_ways (has_page (merged lower upper) page) out (left_pages lower upper on_left.is.whole on_right.is.whole joins page ((laid_of p areas spans stands).here page lower (ap (option_and_then areas) e ∙ ap areas same ∙ lower_is))) in
+            let not_right : k ≢ r = λ same. both_ways (has_page (merged lower upper) page) out (right_pages lower upper on_left.is.whole on_right.is.whole joins page ((laid_of p areas spans stands).here page upper (ap (option_and_then areas) e ∙ ap areas same ∙ upper_is))) in
+            rw (ne_eqb k r not_right, ne_eqb k l not_left) (now k ∙ ap (λ b. cond b None (areas k)) (ne_eqb k r not_right))
+
+    pub join_pages : (page : ℕ) → placed (merged lower upper) (pages_by (with_at l None areas') spans') page ≡ joined_at at (pages_by areas spans) page
+    join_pages page =
+        elim (has_page (merged lower upper) page) as (λ b. has_page (merged lower upper) page ≡ b → cond b (Some (merged lower upper)) (pages_by (with_at l None areas') spans' page) ≡ cond b (Some (merged lower upper)) (pages_by areas spans page)) [
+          | true ↦ λ h. refl
+          | false ↦ λ h. rest page h
+        ] refl
+        ∙ ap (λ b. cond (b && has_page (merged lower upper) page) (Some (merged lower upper)) (pages_by areas spans page)) (sym joins)
+        ∙ sym (λ i. tried (before i) (after i) page (pages_by areas spans page))
+
+    pub join_stays : (new : ℕ → Option Area) (spans'' : List Span) → Stays lower.pid areas' new spans'' → Stays p areas new spans''
+    join_stays new spans'' h =
+        stays_trans p areas areas' new spans' spans'' (record {
+          areas = take_stands p r on_right.span areas areas' spans spans' stands right_span now kept spans_now pages_now;
+          others = take_others p r on_right.span areas areas' spans spans' stands right_span now kept spans_now pages_now;
+        }) (subst (λ q. Stays q areas' new spans'') on_left.is.process h)

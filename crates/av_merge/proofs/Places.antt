@@ -1,5 +1,5 @@
 -- Which area is on a page: as the tree and the numbered areas say it, after one of them is put, taken out or changed.
-use Rattle.std.proofs.Common.{◌≡◌, ◌≢◌, ℕ, ◌+◌, ◌-◌, ◌<◌, ◌≤◌, ◌==◌, true, false, cond, List, [], ◌∷◌, Option, Some, None, is_some, option_map, IfSome, IsSomeAnd, refl, sym, ap, subst, ◌∙◌, arith}
+use Rattle.std.proofs.Common.{◌≡◌, ◌≢◌, ℕ, ◌+◌, ◌-◌, ◌<◌, ◌≤◌, ◌==◌, true, false, cond, List, [], ◌∷◌, Option, Some, None, is_some, IfSome, IsSomeAnd, refl, sym, ap, subst, ◌∙◌, arith}
 use Rattle.std.specs.Prelude.{option_and_then}
 use Rattle.std.proofs.lemmas.Bool.Decides.{nat_tests}
 use Rattle.std.proofs.lemmas.Grind.{common_steps}
@@ -8,7 +8,7 @@ use Rattle.av_vma.specs.declared.area.Area.{Area}
 use Rattle.av_vma.specs.Join.{first_of, past_of}
 use Rattle.av_vma.specs.Ranges.{within, with_at}
 use Rattle.av_vmatree.specs.declared.span.Span.{Span}
-use Rattle.av_vmatree.specs.Spans.{start_of, without_area, AreApart, AreDistinct, AreSpans, area_at, holds, span_of, taken, unless_area, IsFree}
+use Rattle.av_vmatree.specs.Spans.{without_area, AreApart, AreDistinct, AreSpans, area_at, holds, span_of, taken, unless_area, IsFree}
 use Rattle.av_vmatree.proofs.Spans.{held, removed}
 use Rattle.av_merge.specs.Pages.{has_page, pages_by, placed}
 use Rattle.av_merge.specs.Process.{AreAreasOf, IsAreaOf, KeepsOthers, Stays}
@@ -147,7 +147,7 @@ taken_is p areas spans page stands = each (area_at spans page) refl
 
 pub at_rest : (spans : List Span) (n : ℕ) (s : Span) (page : ℕ) → AreSpans spans → span_of spans n ≡ Some s → area_at (without_area n spans) page ≡ unless_area n (area_at spans page)
 at_rest spans n s page good there =
-    let r = removed n s.from spans spans _ refl good (ap (option_map start_of) there) refl in
+    let r = removed n s.from spans spans _ refl good (subst (λ o. IsSomeAnd o (λ t. t.from ≡ s.from)) (sym there) refl) refl in
     ap (λ l. area_at l page) (sym r.spans) ∙ r.pages page
 
 -- the pages of an area are free without it

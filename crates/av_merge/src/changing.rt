@@ -45,8 +45,9 @@ pub fn map(
         anon: None,
     };
     add(areas, tree, area)?;
-    join_at(areas, tree, from)?;
-    join_at(areas, tree, to)
+    join_at(areas, tree, from);
+    join_at(areas, tree, to);
+    Ok(())
 }
 
 /// Gives the pages from `from` to below `to` a protection, and tells the page that it came to: the first one that isn't mapped, else `to`.

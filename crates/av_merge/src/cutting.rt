@@ -31,7 +31,7 @@ pub fn split(areas: &mut Areas, tree: &mut Tree, area: AreaId, at: u64) -> Resul
         pgoff: index(&whole, at),
         ..whole
     };
-    replace(areas, tree, area, lower)?;
+    replace(areas, tree, area, lower);
     add(areas, tree, upper)
 }
 
@@ -71,10 +71,11 @@ fn take_out(areas: &mut Areas, tree: &mut Tree, from: u64, to: u64)
 {
     // No area begins with page 0.
     while let Some(area) = tree.after(from.saturating_sub(1)) {
-        if to <= areas.get(area).start / 4096 {
+        let start = areas.get(area).start / 4096;
+        if to <= start {
             return;
         }
-        tree.remove(area);
+        tree.remove(area, start);
         areas.remove(area);
     }
 }

@@ -1,6 +1,6 @@
 //! One area is put, or another is put in its place.
 
-ghost use Rattle.std.specs.Prelude.{◌≡◌, ℕ, None, IsSome, OnOk};
+ghost use Rattle.std.specs.Prelude.{◌≡◌, ℕ, None, IsSomeAnd, OnOk};
 ghost use Rattle.av_vma.specs.Areas.{area_of};
 ghost use Rattle.av_vma.specs.Join.{first_of, past_of};
 ghost use Rattle.av_vma.specs.Ranges.{with_at};
@@ -30,29 +30,15 @@ pub fn add(areas: &mut Areas, tree: &mut Tree, area: Area) -> Result<(), AllocEr
     }
 }
 
-/// Puts an area of the same process in the place of one, on pages that are its own or free. Without memory the one is gone.
-pub fn replace(
-    areas: &mut Areas,
-    tree: &mut Tree,
-    number: AreaId,
-    area: Area,
-) -> Result<(), AllocError>
+/// Puts an area of the same process in the place of one that begins with the same page, on pages that are its own or free.
+pub fn replace(areas: &mut Areas, tree: &mut Tree, number: AreaId, area: Area)
     requires stands { AreAreasOf area.pid (area_of areas.old) tree.old }
-    requires there { IsSome (span_of tree.old number) }
+    requires there { IsSomeAnd (span_of tree.old number) (λ s. s.from ≡ first_of area) }
     requires whole { IsWhole area }
     requires free { IsFree (taken (without_area number tree.old)) (first_of area) (past_of area) }
     ensures stands { Stays area.pid (area_of areas.old) (area_of areas.new) tree.new }
-    ensures pages { OnOk result ((page : ℕ) → pages_by (area_of areas.new) tree.new page ≡ placed area (pages_by (with_at number None (area_of areas.old)) tree.old) page) }
+    ensures pages { (page : ℕ) → pages_by (area_of areas.new) tree.new page ≡ placed area (pages_by (with_at number None (area_of areas.old)) tree.old) page }
 {
-    tree.remove(number);
-    match tree.insert(number, area.start / 4096, area.end / 4096) {
-        Ok(()) => {
-            areas.change(number, area);
-            Ok(())
-        }
-        Err(error) => {
-            areas.remove(number);
-            Err(error)
-        }
-    }
+    tree.set_end(number, area.start / 4096, area.end / 4096);
+    areas.change(number, area);
 }

@@ -3,8 +3,17 @@ use Rattle.std.proofs.lemmas.Result.{on_ok_weaker}
 use Rattle.av_vma.specs.declared.area.Area.{Area}
 use Rattle.av_vma.specs.Areas.{area_of}
 use Rattle.av_merge.specs.Pages.{pages_by, placed}
-use Rattle.av_merge.proofs.Cuts.{crossed, lower_free, split_pages, upper_free, upper_of}
+use Rattle.av_merge.proofs.Cuts.{crossed, lower_free, lower_from, split_pages, upper_free, upper_of}
 use Rattle.av_merge.proofs.cutting.split.Goals as goal
+
+pub replace-requires-clause-there : goal.replace-requires-clause-there
+replace-requires-clause-there c =
+    let p = c.requires.stands.0 in
+    let stands = c.requires.stands.1 in
+    let areas = area_of c.args.areas.now in
+    let spans = c.args.tree.now in
+    let area = c.get-whole.result in
+    lower_from p c.args.area c.args.at areas spans area stands c.get-whole.ensures (crossed p c.args.area c.args.at areas spans area stands c.requires.inside c.get-whole.ensures)
 
 pub replace-requires-clause-free : goal.replace-requires-clause-free
 replace-requires-clause-free c =
@@ -23,7 +32,7 @@ add-requires-clause-free c =
     let spans = c.args.tree.now in
     let area = c.get-whole.result in
     let x = crossed p c.args.area c.args.at areas spans area stands c.requires.inside c.get-whole.ensures in
-    let after = c.in_ok-replace.ensures in
+    let after = c.replace.ensures in
     upper_free p c.args.area c.args.at areas spans area stands c.get-whole.ensures x (area_of c.replace.new.areas) c.replace.new.tree after.stands.areas after.pages
 
 pub returns-clause-pages : goal.returns-clause-pages
@@ -34,7 +43,7 @@ returns-clause-pages c =
     let spans = c.args.tree.now in
     let area = c.get-whole.result in
     let x = crossed p c.args.area c.args.at areas spans area stands c.requires.inside c.get-whole.ensures in
-    let after = c.in_ok-replace.ensures in
+    let after = c.replace.ensures in
     let upper : upper_of c.args.at area ≡ record (upper_of c.args.at area) { pgoff = c.index.result } = ap (λ (n : ℕ). record (upper_of c.args.at area) { pgoff = n }) (sym c.index.ensures) in
     on_ok_weaker c.add.result
     (λ pages''. split_pages p c.args.area c.args.at areas spans area stands c.get-whole.ensures x (area_of c.replace.new.areas) c.replace.new.tree after.stands.areas after.pages (area_of c.add.new.areas) c.add.new.tree

@@ -1,5 +1,5 @@
 use Rattle.std.proofs.Common.{◌≡◌, ℕ, ◌-◌, ◌<◌, ◌≤◌, Option, Some, None, List, length, refl, sym, ap, subst, ◌∙◌, arith}
-use Rattle.std.specs.Prelude.{IsSome}
+use Rattle.std.specs.Prelude.{IsSome, IsSomeAnd}
 use Rattle.av_vma.specs.declared.area.Area.{Area}
 use Rattle.av_vma.specs.Areas.{area_of}
 use Rattle.av_vma.specs.Join.{first_of}
@@ -30,8 +30,8 @@ within_range p from to n areas spans area stands next is low = let first = (next
 none_above : (from below : ℕ) (spans : List Span) → below ≡ from - 1 → None ≡ area_after spans below → (to k : ℕ) (t : Span) → span_of spans k ≡ Some t → from - 1 < t.from → to ≤ t.from
 none_above from below spans is none to k t there above = let low = no_next spans below (sym none) k t there in absurd (omega arith)
 
-pub get-requires : goal.get-requires
-get-requires c =
+pub get-start-requires : goal.get-start-requires
+get-start-requires c =
     let p = c.requires.stands.0 in
     let stands = (c.loop-area.invariant.stands p c.requires.stands.1).areas in
     let n = next p c.args.from c.saturating_sub.result (area_of c.loop-area.areas) c.loop-area.tree c.in-Some.area stands c.saturating_sub.ensures c.in-Some.ensures in
@@ -42,7 +42,7 @@ remove-requires c =
     let p = c.requires.stands.0 in
     let stands = (c.loop-area.invariant.stands p c.requires.stands.1).areas in
     let n = next p c.args.from c.saturating_sub.result (area_of c.loop-area.areas) c.loop-area.tree c.in-Some.area stands c.saturating_sub.ensures c.in-Some.ensures in
-    record { there = subst (λ o. IsSome o) (sym n.there) refl }
+    record { there = subst (λ o. IsSomeAnd o (λ s. s.from ≡ first_of c.get-start.result)) (sym n.there) (next_area p (area_of c.loop-area.areas) c.loop-area.tree (c.args.from - 1) c.in-Some.area n c.get-start.result stands c.get-start.ensures).from }
 
 pub loop-area-smaller : goal.loop-area-smaller
 loop-area-smaller c =
@@ -62,11 +62,11 @@ loop-area-preserved c =
     let k = c.in-Some.area in
     let n = next p c.args.from c.saturating_sub.result areas spans k stands c.saturating_sub.ensures c.in-Some.ensures in
     one_more c.args.from c.args.to (area_of c.args.areas.now) c.args.tree.now areas spans p first so_far k (area_of c.remove-in-Some.new.self) c.remove.new.self n
-    (within_range p c.args.from c.args.to k areas spans c.get.result stands n c.get.ensures c.if-to-get.false)
+    (within_range p c.args.from c.args.to k areas spans c.get-start.result stands n c.get-start.ensures c.if-to-start.false)
     c.remove-in-Some.ensures c.remove.ensures.kept c.remove.ensures.areas c.remove.ensures.pages
 
-pub returns-then-to-get-clause-pages : goal.returns-then-to-get-clause-pages
-returns-then-to-get-clause-pages c =
+pub returns-then-to-start-clause-pages : goal.returns-then-to-start-clause-pages
+returns-then-to-start-clause-pages c =
     let p = c.requires.stands.0 in
     let first = c.requires.stands.1 in
     let so_far = c.loop-area.invariant in
@@ -75,7 +75,7 @@ returns-then-to-get-clause-pages c =
     let spans = c.loop-area.tree in
     let k = c.in-Some.area in
     let n = next p c.args.from c.saturating_sub.result areas spans k stands c.saturating_sub.ensures c.in-Some.ensures in
-    all_taken c.args.from c.args.to (area_of c.args.areas.now) c.args.tree.now areas spans p first so_far (past p c.args.from c.args.to k areas spans c.get.result stands n c.get.ensures c.if-to-get.true)
+    all_taken c.args.from c.args.to (area_of c.args.areas.now) c.args.tree.now areas spans p first so_far (past p c.args.from c.args.to k areas spans c.get-start.result stands n c.get-start.ensures c.if-to-start.true)
 
 pub returns-clause-pages : goal.returns-clause-pages
 returns-clause-pages c =

@@ -1,31 +1,41 @@
 use Rattle.std.proofs.Common.{◌∙◌, sym}
 use Rattle.av_vma.specs.Areas.{area_of}
-use Rattle.av_merge.specs.Pages.{pages_by}
-use Rattle.av_merge.proofs.Joins.{join_whole, join_free, join_pages, join_stays, pages_next}
+use Rattle.av_merge.proofs.Joins.{join_whole, join_free, join_pages, join_stays, left_from, right_from}
 use Rattle.av_merge.proofs.joining.join_at.Goals as goal
+
+pub remove-requires : goal.remove-requires
+remove-requires c = record {
+  there = right_from c.requires.stands.0 c.in-Some.left c.in-Some-find.right c.args.at c.get-lower.result c.get-upper.result (area_of c.args.areas.now) c.args.tree.now
+  c.requires.stands.1 (sym c.in-Some.ensures.area) (sym c.in-Some-find.ensures.area) c.get-lower.ensures c.get-upper.ensures (sym c.mergeable.ensures ∙ c.if-not-mergeable.false)
+}
+
+pub replace-requires-clause-there : goal.replace-requires-clause-there
+replace-requires-clause-there c =
+    left_from c.requires.stands.0 c.in-Some.left c.in-Some-find.right c.args.at c.get-lower.result c.get-upper.result (area_of c.args.areas.now) c.args.tree.now
+    c.requires.stands.1 (sym c.in-Some.ensures.area) (sym c.in-Some-find.ensures.area) c.get-lower.ensures c.get-upper.ensures (sym c.mergeable.ensures ∙ c.if-not-mergeable.false)
+    (area_of c.remove-2.new.self) c.remove.new.self c.remove-2.ensures c.remove.ensures.kept c.remove.ensures.areas c.remove.ensures.pages
 
 pub replace-requires-clause-whole : goal.replace-requires-clause-whole
 replace-requires-clause-whole c =
-    join_whole c.requires.stands.0 c.in-Some.left c.in-Some-find.right c.args.at c.get-lower.result c.get-upper.result (area_of c.args.areas.now) (area_of c.remove-2.new.self) c.args.tree.now c.remove.new.self
+    join_whole c.requires.stands.0 c.in-Some.left c.in-Some-find.right c.args.at c.get-lower.result c.get-upper.result (area_of c.args.areas.now) c.args.tree.now
     c.requires.stands.1 (sym c.in-Some.ensures.area) (sym c.in-Some-find.ensures.area) c.get-lower.ensures c.get-upper.ensures (sym c.mergeable.ensures ∙ c.if-not-mergeable.false)
-    c.remove-2.ensures c.remove.ensures.kept c.remove.ensures.areas c.remove.ensures.pages
 
 pub replace-requires-clause-free : goal.replace-requires-clause-free
 replace-requires-clause-free c =
-    join_free c.requires.stands.0 c.in-Some.left c.in-Some-find.right c.args.at c.get-lower.result c.get-upper.result (area_of c.args.areas.now) (area_of c.remove-2.new.self) c.args.tree.now c.remove.new.self
+    join_free c.requires.stands.0 c.in-Some.left c.in-Some-find.right c.args.at c.get-lower.result c.get-upper.result (area_of c.args.areas.now) c.args.tree.now
     c.requires.stands.1 (sym c.in-Some.ensures.area) (sym c.in-Some-find.ensures.area) c.get-lower.ensures c.get-upper.ensures (sym c.mergeable.ensures ∙ c.if-not-mergeable.false)
-    c.remove-2.ensures c.remove.ensures.kept c.remove.ensures.areas c.remove.ensures.pages
+    (area_of c.remove-2.new.self) c.remove.new.self c.remove-2.ensures c.remove.ensures.kept c.remove.ensures.areas c.remove.ensures.pages
 
 pub returns-clause-stands : goal.returns-clause-stands
 returns-clause-stands c = λ p stands.
-    join_stays p c.in-Some.left c.in-Some-find.right c.args.at c.get-lower.result c.get-upper.result (area_of c.args.areas.now) (area_of c.remove-2.new.self) c.args.tree.now c.remove.new.self
+    join_stays p c.in-Some.left c.in-Some-find.right c.args.at c.get-lower.result c.get-upper.result (area_of c.args.areas.now) c.args.tree.now
     stands (sym c.in-Some.ensures.area) (sym c.in-Some-find.ensures.area) c.get-lower.ensures c.get-upper.ensures (sym c.mergeable.ensures ∙ c.if-not-mergeable.false)
-    c.remove-2.ensures c.remove.ensures.kept c.remove.ensures.areas c.remove.ensures.pages
+    (area_of c.remove-2.new.self) c.remove.new.self c.remove-2.ensures c.remove.ensures.kept c.remove.ensures.areas c.remove.ensures.pages
     (area_of c.replace.new.areas) c.replace.new.tree c.replace.ensures.stands
 
 pub returns-clause-pages : goal.returns-clause-pages
-returns-clause-pages c = pages_next c.replace.result (pages_by (area_of c.replace.new.areas) c.replace.new.tree) _ _
-    (join_pages c.requires.stands.0 c.in-Some.left c.in-Some-find.right c.args.at c.get-lower.result c.get-upper.result (area_of c.args.areas.now) (area_of c.remove-2.new.self) c.args.tree.now c.remove.new.self
+returns-clause-pages c = λ page.
+    c.replace.ensures.pages page
+    ∙ join_pages c.requires.stands.0 c.in-Some.left c.in-Some-find.right c.args.at c.get-lower.result c.get-upper.result (area_of c.args.areas.now) c.args.tree.now
     c.requires.stands.1 (sym c.in-Some.ensures.area) (sym c.in-Some-find.ensures.area) c.get-lower.ensures c.get-upper.ensures (sym c.mergeable.ensures ∙ c.if-not-mergeable.false)
-    c.remove-2.ensures c.remove.ensures.kept c.remove.ensures.areas c.remove.ensures.pages)
-    c.replace.ensures.pages
+    (area_of c.remove-2.new.self) c.remove.new.self c.remove-2.ensures c.remove.ensures.kept c.remove.ensures.areas c.remove.ensures.pages page
