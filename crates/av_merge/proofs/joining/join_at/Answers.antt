@@ -6,7 +6,7 @@ use Rattle.av_merge.proofs.joining.join_at.Goals as goal
 pub remove-requires : goal.remove-requires
 remove-requires c = record {
   there = right_from c.requires.stands.0 c.in-Some.left c.in-Some-find.right c.args.at c.get-lower.result c.get-upper.result (area_of c.args.areas.now) c.args.tree.now
-  c.requires.stands.1 (sym c.in-Some.ensures.area) (sym c.in-Some-find.ensures.area) c.get-lower.ensures c.get-upper.ensures (sym c.mergeable.ensures ∙ c.if-not-mergeable.false)
+      c.requires.stands.1 (sym c.in-Some.ensures.area) (sym c.in-Some-find.ensures.area) c.get-lower.ensures c.get-upper.ensures (sym c.mergeable.ensures ∙ c.if-not-mergeable.false);
 }
 
 pub replace-requires-clause-there : goal.replace-requires-clause-there
