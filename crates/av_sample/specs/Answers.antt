@@ -14,4 +14,4 @@ pub record Answers (line : List ℕ) (s : State) (old new : Machine) (text : Lis
   pub reply : Reply
   pub says : Says line (Some command)
   pub steps : Steps old new s command reply
-  pub text : text ≡ text_of reply
+  pub shows : text ≡ text_of reply
