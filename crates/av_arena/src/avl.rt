@@ -6,7 +6,7 @@ ghost use Rattle.av_arena.specs.Monoid.{total};
 use crate::arena::Arena;
 use crate::entry::Entry;
 use crate::link::{Link, Stored};
-use crate::tree::{open, placed, removed, sum};
+use crate::tree::{open, placed, removed, replaced, sum};
 use std::alloc::{AllocError, Global};
 use std::marker::Model;
 
@@ -108,8 +108,7 @@ impl<T: Entry> Avl<T> {
         requires there { IsSome (entry_at T.key (T.key entry) self.old) }
         ensures entries { self.new ≡ with_entry T.key entry (without_key T.key (T.key entry) self.old) }
     {
-        let (number, rest) = removed(&mut self.arena, self.root, entry);
-        let root = placed(&mut self.arena, rest, number, entry);
+        let root = replaced(&mut self.arena, self.root, entry);
         self.root = Some(root);
     }
 }

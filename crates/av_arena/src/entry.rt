@@ -1,4 +1,4 @@
-ghost use Rattle.std.specs.Prelude.{◌≡◌, ℕ, nat_lt};
+ghost use Rattle.std.specs.Prelude.{◌≡◌, ℕ, nat_lt, true};
 ghost use Rattle.av_arena.specs.Monoid.{MonoidLaws};
 
 /// What a tree needs of its entries: a key, by which they are ordered, and a summary of each, which joins to the
@@ -24,6 +24,10 @@ pub trait Entry: Copy + Drop {
     /// The summary of no entry.
     fn empty() -> Self::Sum
         ensures { result ≡ unit };
+
+    /// Whether two summaries are the same. A change stops where a summary stays.
+    fn is_same(left: Self::Sum, right: Self::Sum) -> bool
+        ensures { result ≡ true → left ≡ right };
 
     /// The summary of a row of entries, by those of what stands before and after the one in the middle.
     fn joined(left: Self::Sum, middle: &Self, right: Self::Sum) -> Self::Sum

@@ -39,6 +39,10 @@ impl Entry for Span {
         0
     }
 
+    fn is_same(left: u64, right: u64) -> bool {
+        left == right
+    }
+
     fn joined(left: u64, middle: &Span, right: u64) -> u64 {
         left.max(middle.last.max(right))
     }

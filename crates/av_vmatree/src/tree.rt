@@ -6,7 +6,7 @@ ghost use Rattle.av_vmatree.specs.Spans.{AreSpans, IsFree, IsMet, area_after, ar
 
 use crate::gap::gap_in;
 use crate::span::Span;
-use av_tree::Avl;
+use av_arena::Avl;
 use av_vma::AreaId;
 use std::alloc::{AllocError, Global};
 use std::marker::Model;
@@ -18,7 +18,6 @@ use std::marker::Model;
 #[derive(Drop)]
 pub struct Tree {
     spans: Avl<Span>,
-    alloc: Global,
 }
 
 impl Model for Tree {
@@ -28,9 +27,9 @@ impl Model for Tree {
 
     ghost Value = { List Span };
 
-    ghost view = { λ t. t.spans.0 };
+    ghost view = { λ t. t.spans };
 
-    ghost invariant = { λ t. AreSpans t.spans.0 };
+    ghost invariant = { λ t. AreSpans t.spans };
 }
 
 impl Tree {
@@ -39,8 +38,7 @@ impl Tree {
         ensures { result ≡ [] }
     {
         Tree {
-            spans: Avl::new(),
-            alloc,
+            spans: Avl::new(alloc),
         }
     }
 
@@ -58,7 +56,7 @@ impl Tree {
         ensures pages { OnOk result ((page : ℕ) → area_at self.new page ≡ (if within from (to - from) page then Some area else area_at self.old page)) }
         ensures kept { AreSpans self.new }
     {
-        self.spans.insert(self.alloc, Span { from, to, area })
+        self.spans.insert(Span { from, to, area })
     }
 
     /// Takes out an area that is there, and begins with the page `from`.
@@ -69,7 +67,7 @@ impl Tree {
         ensures pages { (page : ℕ) → area_at self.new page ≡ unless_area area (area_at self.old page) }
         ensures kept { AreSpans self.new }
     {
-        self.spans.remove(&Span {
+        self.spans.remove(Span {
             from,
             to: from,
             area,
@@ -96,7 +94,7 @@ impl Tree {
         ensures area { result ≡ area_at self.now page }
         ensures span { IfSome result (λ area. IsSomeAnd (span_of self.now area) (λ s. holds s page ≡ true)) }
     {
-        let mut part = &self.spans;
+        let mut part = self.spans.part();
         'down: while let Some((left, span, right)) = part.parts() {
             if page < span.from {
                 part = left;
@@ -114,7 +112,7 @@ impl Tree {
         ensures { result ≡ area_before self.now page }
     {
         let mut nearest = None;
-        let mut part = &self.spans;
+        let mut part = self.spans.part();
         'down: while let Some((left, span, right)) = part.parts() {
             if span.to <= page {
                 nearest = Some(span.area);
@@ -131,7 +129,7 @@ impl Tree {
         ensures { result ≡ area_after self.now page }
     {
         let mut nearest = None;
-        let mut part = &self.spans;
+        let mut part = self.spans.part();
         'down: while let Some((left, span, right)) = part.parts() {
             if span.from <= page {
                 part = right;
@@ -152,7 +150,7 @@ impl Tree {
         if from == to {
             return true;
         }
-        let mut part = &self.spans;
+        let mut part = self.spans.part();
         'down: while let Some((left, span, right)) = part.parts() {
             if to <= span.from {
                 part = left;
@@ -166,10 +164,12 @@ impl Tree {
     }
 
     /// Adds the spans of all areas in the order of their pages. It takes time linear in their number.
+    ///
+    /// Without memory none is added.
     pub fn append_to(&self, spans: &mut Vec<Span>) -> Result<(), AllocError>
-        ensures { OnOk result (spans.new.items ≡ spans.old.items ++ self.now) }
+        ensures { spans.new.items ≡ (if is_ok result then spans.old.items ++ self.now else spans.old.items) }
     {
-        self.spans.append_to(spans)
+        self.spans.part().append_to(spans)
     }
 
     /// The greatest page from which on `pages` pages are free, or none where there is no such page.
