@@ -43,7 +43,8 @@ fn close<T: Entry>(
 ) -> Link<T::Sum>
     requires used { IsSome (stored arena.old number) }
     requires low { max (height_of left) (height_of right) < 2 ^ 63 }
-    ensures set { IsSet T.key T.unit T.op T.of (stored arena.old) (stored arena.new) number left entry right result }
+    ensures set { IsSet T.key T.unit T.op T.of (stored arena.old) (stored arena.new) number left
+        entry right result }
     ensures height { result.height ≡ max (height_of left) (height_of right) + 1 }
 {
     let level = height(left).max(height(right)) + 1;
@@ -74,7 +75,8 @@ fn lean_left<T: Entry>(
     requires spot { IsSpot T.key T.unit T.op T.of (stored arena.old) number (Some left) right }
     requires two_higher { left.height ≡ height_of right + 2 }
     requires low { left.height < 2 ^ 62 }
-    ensures joined { IsJoined T.key T.unit T.op T.of (stored arena.old) (stored arena.new) number (Some left) entry right result }
+    ensures joined { IsJoined T.key T.unit T.op T.of (stored arena.old) (stored arena.new) number
+        (Some left) entry right result }
     ensures not_lower { left.height ≤ result.height }
     ensures at_most_one_higher { result.height ≤ left.height + 1 }
 {
@@ -113,7 +115,8 @@ fn lean_right<T: Entry>(
     requires spot { IsSpot T.key T.unit T.op T.of (stored arena.old) number left (Some right) }
     requires two_higher { right.height ≡ height_of left + 2 }
     requires low { right.height < 2 ^ 62 }
-    ensures joined { IsJoined T.key T.unit T.op T.of (stored arena.old) (stored arena.new) number left entry (Some right) result }
+    ensures joined { IsJoined T.key T.unit T.op T.of (stored arena.old) (stored arena.new) number
+        left entry (Some right) result }
     ensures not_lower { right.height ≤ result.height }
     ensures at_most_one_higher { result.height ≤ right.height + 1 }
 {
@@ -152,7 +155,8 @@ fn balance<T: Entry>(
     requires spot { IsSpot T.key T.unit T.op T.of (stored arena.old) number left right }
     requires level { DifferByAtMost 2 (height_of left) (height_of right) }
     requires low { max (height_of left) (height_of right) < 2 ^ 62 }
-    ensures joined { IsJoined T.key T.unit T.op T.of (stored arena.old) (stored arena.new) number left entry right result }
+    ensures joined { IsJoined T.key T.unit T.op T.of (stored arena.old) (stored arena.new) number
+        left entry right result }
     ensures height { IsHeightAfter (height_of left) (height_of right) result.height }
 {
     let (before, after) = (height(left), height(right));
@@ -182,7 +186,8 @@ fn is_same<T: Entry>(left: Option<Link<T::Sum>>, right: Option<Link<T::Sum>>) ->
     }
 }
 
-/// The node of `tree` above another left side than its own. Where that is the same nothing is written.
+/// The node of `tree` above another left side than its own. Where that is the same nothing is
+/// written.
 fn with_left<T: Entry>(
     arena: &mut Arena<T, T::Sum>,
     tree: Link<T::Sum>,
@@ -195,7 +200,8 @@ fn with_left<T: Entry>(
     requires spot { IsSpot T.key T.unit T.op T.of (stored arena.old) tree.number left right }
     requires level { DifferByAtMost 2 (height_of left) (height_of right) }
     requires low { max (height_of left) (height_of right) < 2 ^ 62 }
-    ensures joined { IsJoined T.key T.unit T.op T.of (stored arena.old) (stored arena.new) tree.number left entry right result }
+    ensures joined { IsJoined T.key T.unit T.op T.of (stored arena.old) (stored arena.new)
+        tree.number left entry right result }
     ensures height { IsHeightAfter (height_of left) (height_of right) result.height }
 {
     if is_same::<T>(own, left) {
@@ -204,7 +210,8 @@ fn with_left<T: Entry>(
     balance(arena, tree.number, left, entry, right)
 }
 
-/// The node of `tree` above another right side than its own. Where that is the same nothing is written.
+/// The node of `tree` above another right side than its own. Where that is the same nothing is
+/// written.
 fn with_right<T: Entry>(
     arena: &mut Arena<T, T::Sum>,
     tree: Link<T::Sum>,
@@ -217,7 +224,8 @@ fn with_right<T: Entry>(
     requires spot { IsSpot T.key T.unit T.op T.of (stored arena.old) tree.number left right }
     requires level { DifferByAtMost 2 (height_of left) (height_of right) }
     requires low { max (height_of left) (height_of right) < 2 ^ 62 }
-    ensures joined { IsJoined T.key T.unit T.op T.of (stored arena.old) (stored arena.new) tree.number left entry right result }
+    ensures joined { IsJoined T.key T.unit T.op T.of (stored arena.old) (stored arena.new)
+        tree.number left entry right result }
     ensures height { IsHeightAfter (height_of left) (height_of right) result.height }
 {
     if is_same::<T>(own, right) {
@@ -235,7 +243,8 @@ pub fn placed<T: Entry>(
 ) -> Link<T::Sum>
     requires place { IsPlaceFor T.key T.unit T.op T.of (stored arena.old) tree number entry }
     requires low { height_of tree < 2 ^ 61 }
-    ensures placed { IsPlaced T.key T.unit T.op T.of (stored arena.old) (stored arena.new) tree number entry result }
+    ensures placed { IsPlaced T.key T.unit T.op T.of (stored arena.old) (stored arena.new) tree
+        number entry result }
     ensures not_lower { height_of tree ≤ result.height }
     ensures at_most_one_higher { result.height ≤ height_of tree + 1 }
 {
@@ -263,7 +272,8 @@ fn pop_first<T: Entry>(
 ) -> (u64, T, Option<Link<T::Sum>>)
     requires held { IsHeld T.key T.unit T.op T.of (stored arena.old) (Some tree) }
     requires low { tree.height < 2 ^ 61 }
-    ensures popped { IsPopped T.key T.unit T.op T.of (stored arena.old) (stored arena.new) tree result.0 result.1 result.2 }
+    ensures popped { IsPopped T.key T.unit T.op T.of (stored arena.old) (stored arena.new) tree
+        result.0 result.1 result.2 }
     ensures not_higher { height_of result.2 ≤ tree.height }
     ensures at_most_one_lower { tree.height ≤ height_of result.2 + 1 }
 {
@@ -289,7 +299,9 @@ pub fn removed<T: Entry>(
 ) -> (u64, Option<Link<T::Sum>>)
     requires there { HasKey T.key T.unit T.op T.of (stored arena.old) tree like }
     requires low { height_of tree < 2 ^ 61 }
-    ensures removed { IsWithout T.key T.unit T.op T.of (stored arena.old) (stored arena.new) tree (without_key T.key (T.key like) (entries (tree_at (stored arena.old) tree))) result.0 result.1 }
+    ensures removed { IsWithout T.key T.unit T.op T.of (stored arena.old) (stored arena.new) tree
+        (without_key T.key (T.key like) (entries (tree_at (stored arena.old) tree))) result.0
+        result.1 }
     ensures not_higher { height_of result.1 ≤ height_of tree }
     ensures at_most_one_lower { height_of tree ≤ height_of result.1 + 1 }
 {
@@ -326,7 +338,8 @@ pub fn replaced<T: Entry>(
 ) -> Link<T::Sum>
     requires there { HasKey T.key T.unit T.op T.of (stored arena.old) tree entry }
     requires low { height_of tree < 2 ^ 61 }
-    ensures replaced { IsReplaced T.key T.unit T.op T.of (stored arena.old) (stored arena.new) tree entry result }
+    ensures replaced { IsReplaced T.key T.unit T.op T.of (stored arena.old) (stored arena.new) tree
+        entry result }
     ensures height { result.height ≡ height_of tree }
 {
     let Some(tree) = tree else { unreachable!() };

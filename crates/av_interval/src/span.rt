@@ -4,7 +4,8 @@ ghost use Rattle.av_interval.specs.Span.{key};
 
 use av_arena::Entry;
 
-/// The pages of an area that is linked to an anon_vma, by their linear indices, both ends among them.
+/// The pages of an area that is linked to an anon_vma, by their linear indices, both ends among
+/// them.
 #[derive(Clone, Copy, Drop)]
 pub struct Span {
     pub first: u64,

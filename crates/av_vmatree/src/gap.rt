@@ -7,7 +7,8 @@ use crate::span::{Extent, Span};
 use av_arena::Avl;
 use av_base::{LOW_PAGE, TOP_PAGE};
 
-/// The greatest page from which on `pages` pages are free. The extent of each subtree tells on which side it lies.
+/// The greatest page from which on `pages` pages are free. The extent of each subtree tells on
+/// which side it lies.
 pub fn gap_in(spans: &Avl<Span>, pages: u64) -> Option<u64>
     requires some { 1 ≤ pages }
     requires apart { AreApart spans.now }

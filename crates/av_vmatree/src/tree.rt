@@ -13,7 +13,8 @@ use std::marker::Model;
 
 /// The areas of one process, seen as the list of their spans in the order of their pages.
 ///
-/// Pages go by number, which is their address over 4096. A call takes time logarithmic in the number of areas.
+/// Pages go by number, which is their address over 4096. A call takes time logarithmic in the
+/// number of areas.
 /// No two spans share a page or an area, and each lies from page 16 to below page 0x7ffffffff.
 #[derive(Drop)]
 pub struct Tree {
@@ -42,7 +43,8 @@ impl Tree {
         }
     }
 
-    /// Puts in an area, new to the process, with the pages from `from` to below `to`, all of them free.
+    /// Puts in an area, new to the process, with the pages from `from` to below `to`, all of them
+    /// free.
     ///
     /// Without memory all stays.
     pub fn insert(&mut self, area: AreaId, from: u64, to: u64) -> Result<(), AllocError>
@@ -51,9 +53,14 @@ impl Tree {
         requires high { to ≤ top_page }
         requires free { IsFree (taken self.old) from to }
         requires other { span_of self.old area ≡ None }
-        ensures spans { self.new ≡ (if is_ok result then with_span (span area from to) self.old else self.old) }
-        ensures areas { OnOk result ((number : ℕ) → span_of self.new number ≡ with_at area (Some (span area from to)) (span_of self.old) number) }
-        ensures pages { OnOk result ((page : ℕ) → area_at self.new page ≡ (if within from (to - from) page then Some area else area_at self.old page)) }
+        ensures spans { self.new ≡ (if is_ok result then with_span (span area from to) self.old
+            else self.old) }
+        ensures areas { OnOk result
+            ((number : ℕ) → span_of self.new number ≡ with_at area (Some (span area from to))
+            (span_of self.old) number) }
+        ensures pages { OnOk result
+            ((page : ℕ) → area_at self.new
+            page ≡ (if within from (to - from) page then Some area else area_at self.old page)) }
         ensures kept { AreSpans self.new }
     {
         self.spans.insert(Span { from, to, area })
@@ -63,8 +70,10 @@ impl Tree {
     pub fn remove(&mut self, area: AreaId, from: u64)
         requires there { IsSomeAnd (span_of self.old area) (λ s. s.from ≡ from) }
         ensures spans { self.new ≡ without_area area self.old }
-        ensures areas { (number : ℕ) → span_of self.new number ≡ with_at area None (span_of self.old) number }
-        ensures pages { (page : ℕ) → area_at self.new page ≡ unless_area area (area_at self.old page) }
+        ensures areas { (number : ℕ) → span_of self.new number ≡ with_at area None
+            (span_of self.old) number }
+        ensures pages { (page : ℕ) → area_at self.new page ≡ unless_area area
+            (area_at self.old page) }
         ensures kept { AreSpans self.new }
     {
         self.spans.remove(Span {
@@ -74,7 +83,8 @@ impl Tree {
         });
     }
 
-    /// Gives an area that is there, and begins with the page `from`, another end. The pages up to it are its own or
+    /// Gives an area that is there, and begins with the page `from`, another end. The pages up to
+    /// it are its own or
     /// free. It takes no memory.
     pub fn set_end(&mut self, area: AreaId, from: u64, to: u64)
         requires there { IsSomeAnd (span_of self.old area) (λ s. s.from ≡ from) }
@@ -82,8 +92,11 @@ impl Tree {
         requires high { to ≤ top_page }
         requires free { IsFree (taken (without_area area self.old)) from to }
         ensures spans { self.new ≡ with_span (span area from to) (without_area area self.old) }
-        ensures areas { (number : ℕ) → span_of self.new number ≡ with_at area (Some (span area from to)) (span_of self.old) number }
-        ensures pages { (page : ℕ) → area_at self.new page ≡ (if within from (to - from) page then Some area else unless_area area (area_at self.old page)) }
+        ensures areas { (number : ℕ) → span_of self.new number ≡ with_at area
+            (Some (span area from to)) (span_of self.old) number }
+        ensures pages { (page : ℕ) → area_at self.new
+            page ≡ (if within from (to - from) page then Some area else unless_area area
+            (area_at self.old page)) }
         ensures kept { AreSpans self.new }
     {
         self.spans.replace(Span { from, to, area });
@@ -92,7 +105,8 @@ impl Tree {
     /// The area that holds the page.
     pub fn find(&self, page: u64) -> Option<AreaId>
         ensures area { result ≡ area_at self.now page }
-        ensures span { IfSome result (λ area. IsSomeAnd (span_of self.now area) (λ s. holds s page ≡ true)) }
+        ensures span { IfSome result
+            (λ area. IsSomeAnd (span_of self.now area) (λ s. holds s page ≡ true)) }
     {
         let mut part = self.spans.part();
         'down: while let Some((left, span, right)) = part.parts() {
@@ -163,11 +177,13 @@ impl Tree {
         true
     }
 
-    /// Adds the spans of all areas in the order of their pages. It takes time linear in their number.
+    /// Adds the spans of all areas in the order of their pages. It takes time linear in their
+    /// number.
     ///
     /// Without memory none is added.
     pub fn append_to(&self, spans: &mut Vec<Span>) -> Result<(), AllocError>
-        ensures { spans.new.items ≡ (if is_ok result then spans.old.items ++ self.now else spans.old.items) }
+        ensures { spans.new.items ≡ (if is_ok result then spans.old.items ++ self.now else
+            spans.old.items) }
     {
         self.spans.part().append_to(spans)
     }
