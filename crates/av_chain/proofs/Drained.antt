@@ -27,7 +27,7 @@ in_row area bs b rest e = has_row Area area b.0 bs (ap (has_place b.0) e ∙ has
 
 pub first_removed : (area : ℕ) (bs : List Block) (p : Place) → IsApart bs → Some p ≡ first_or None (row Area area bs) → links_of (removed p.ptr bs) ≡ popped area (links_of bs)
 first_removed area [] p d e = cc
-first_removed area (b ∷ bs) p d e = either (links_of (removed p.ptr (b ∷ bs)) ≡ popped area (links_of (b ∷ bs))) (b.1.area == area)
+first_removed area (b ∷ bs) p d e = either (links_of (removed p.ptr (b ∷ bs)) ≡ popped area (links_of (b ∷ bs))) (area == b.1.area)
     (λ is.
     let here : Some p ≡ Some (at_block b) = e ∙ ap (λ y. first_or None (cond y (b ∷ row Area area bs) (row Area area bs))) is in
     let at : p ≡ at_block b = cc in

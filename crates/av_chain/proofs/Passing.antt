@@ -1,4 +1,5 @@
 -- What is read along a list.
+use Rattle.av_base.specs.Words.{is_in}
 use Rattle.std.proofs.Common.{◌≡◌, ℕ, suc, ◌+◌, ◌<◌, ◌≤◌, true, false, cond, ◌||◌, ◌==◌, List, [], ◌∷◌, ◌++◌, length, refl, sym, ap, ◌∙◌, subst, Option, Some, None, arith, append-nil, append_assoc, length-append}
 use native.Mathlib.Nat.{suc-ne-zero}
 use denote.RawPtr.{Ptr}
@@ -9,7 +10,7 @@ use Rattle.av_chain.specs.declared.node.Way.TheVariants.{Area, Anon}
 use Rattle.av_chain.specs.declared.node.Place.{Place}
 use Rattle.av_chain.specs.Nodes.{Block, same_ptr, IsApart, has_place, found}
 use Rattle.av_chain.specs.Rows.{key_of, sides_of, row, at_block, first_or, IsRun, head_of, IsThreaded, Reaches}
-use Rattle.av_chain.specs.Links.{chain_of, users_of, is_in, first_in, after_in}
+use Rattle.av_chain.specs.Links.{chain_of, users_of, first_in, after_in}
 use Rattle.av_chain.specs.Lists.{links_of, areas_of, anons_of, IsLinkAt, anon_there}
 use Rattle.std.specs.Prelude.{option_map}
 use Rattle.av_chain.proofs.Memory.{node_at}
@@ -22,11 +23,11 @@ use Rattle.av_chain.proofs.Wholes.{is_in_append, or_false}
 
 pub chain_row : (bs : List Block) (a : ℕ) → chain_of (links_of bs) a ≡ anons_of (row Area a bs)
 chain_row [] a = refl
-chain_row (b ∷ bs) a = (λ i. cond (b.1.area == a) (b.1.anon ∷ chain_row bs a i) (chain_row bs a i)) ∙ sym (cond_lift anons_of (b.1.area == a) (b ∷ row Area a bs) (row Area a bs))
+chain_row (b ∷ bs) a = (λ i. cond (a == b.1.area) (b.1.anon ∷ chain_row bs a i) (chain_row bs a i)) ∙ sym (cond_lift anons_of (a == b.1.area) (b ∷ row Area a bs) (row Area a bs))
 
 pub users_row : (bs : List Block) (v : ℕ) → users_of (links_of bs) v ≡ areas_of (row Anon v bs)
 users_row [] v = refl
-users_row (b ∷ bs) v = (λ i. cond (b.1.anon == v) (b.1.area ∷ users_row bs v i) (users_row bs v i)) ∙ sym (cond_lift areas_of (b.1.anon == v) (b ∷ row Anon v bs) (row Anon v bs))
+users_row (b ∷ bs) v = (λ i. cond (v == b.1.anon) (b.1.area ∷ users_row bs v i) (users_row bs v i)) ∙ sym (cond_lift areas_of (v == b.1.anon) (b ∷ row Anon v bs) (row Anon v bs))
 
 pub length_anons : (bs : List Block) → length (anons_of bs) ≡ length bs
 length_anons [] = refl
@@ -53,7 +54,7 @@ found_has p (b ∷ bs) n e = (elim (same_ptr p b.0) as (λ y. cond y (Some b.1) 
 
 found_out : (w : Way) (k : ℕ) (p : Ptr) (bs : List Block) (n : Node) → IsApart bs → found p (row w k bs) ≡ Some n → found p bs ≡ Some n
 found_out w k p [] n d e = cc
-found_out w k p (b ∷ bs) n d e = (elim (key_of w b.1 == k) as (λ y. found p (cond y (b ∷ row w k bs) (row w k bs)) ≡ Some n → cond (same_ptr p b.0) (Some b.1) (found p bs) ≡ Some n) [
+found_out w k p (b ∷ bs) n d e = (elim (k == key_of w b.1) as (λ y. found p (cond y (b ∷ row w k bs) (row w k bs)) ≡ Some n → cond (same_ptr p b.0) (Some b.1) (found p bs) ≡ Some n) [
   | true ↦ λ h. (elim (same_ptr p b.0) as (λ y. cond y (Some b.1) (found p (row w k bs)) ≡ Some n → cond y (Some b.1) (found p bs) ≡ Some n) [
     | true ↦ λ g. g
     | false ↦ λ g. found_out w k p bs n (apart_tail b bs d) g
@@ -137,18 +138,18 @@ past_start w k bs at e = ([], row w k bs, refl, e, refl)
 -- ---- the anon_vmas that have been passed
 
 pub is_in_past : (v : ℕ) (xs : List Block) (b : Block) (ys : List Block) → b.1.anon ≡ v → is_in v (anons_of (xs ++ b ∷ ys)) ≡ true
-is_in_past v [] b ys e = ap (λ y. y || is_in v (anons_of ys)) (ap (λ u. u == v) e ∙ same_number v)
-is_in_past v (x ∷ xs) b ys e = or_right (x.1.anon == v) (is_in v (anons_of (xs ++ b ∷ ys))) (is_in_past v xs b ys e)
+is_in_past v [] b ys e = ap (λ y. y || is_in v (anons_of ys)) (ap (λ u. v == u) e ∙ same_number v)
+is_in_past v (x ∷ xs) b ys e = or_right (v == x.1.anon) (is_in v (anons_of (xs ++ b ∷ ys))) (is_in_past v xs b ys e)
 
-pub is_in_not : (v : ℕ) (xs : List Block) (b : Block) → (b.1.anon == v) ≡ false → is_in v (anons_of xs) ≡ false → is_in v (anons_of (xs ++ b ∷ [])) ≡ false
+pub is_in_not : (v : ℕ) (xs : List Block) (b : Block) → (v == b.1.anon) ≡ false → is_in v (anons_of xs) ≡ false → is_in v (anons_of (xs ++ b ∷ [])) ≡ false
 is_in_not v xs b e n = ap (is_in v) (anons_append xs (b ∷ [])) ∙ is_in_append v (anons_of xs) (b.1.anon ∷ []) ∙ (λ i. n i || (e i || false))
 
 -- the one after an anon_vma that none before it is
 after_past : (v : ℕ) (xs : List Block) (b : Block) (ys : List Block) → b.1.anon ≡ v → is_in v (anons_of xs) ≡ false → after_in v (anons_of (xs ++ b ∷ ys)) ≡ first_in (anons_of ys)
-after_past v [] b ys e n = ap (λ y. cond y (first_in (anons_of ys)) (after_in v (anons_of ys))) (ap (λ u. u == v) e ∙ same_number v)
+after_past v [] b ys e n = ap (λ y. cond y (first_in (anons_of ys)) (after_in v (anons_of ys))) (ap (λ u. v == u) e ∙ same_number v)
 after_past v (x ∷ xs) b ys e n =
-    ap (λ y. cond y (first_in (anons_of (xs ++ b ∷ ys))) (after_in v (anons_of (xs ++ b ∷ ys)))) (or_false (x.1.anon == v) (is_in v (anons_of xs)) n).0
-    ∙ after_past v xs b ys e (or_false (x.1.anon == v) (is_in v (anons_of xs)) n).1
+    ap (λ y. cond y (first_in (anons_of (xs ++ b ∷ ys))) (after_in v (anons_of (xs ++ b ∷ ys)))) (or_false (v == x.1.anon) (is_in v (anons_of xs)) n).0
+    ∙ after_past v xs b ys e (or_false (v == x.1.anon) (is_in v (anons_of xs)) n).1
 
 -- ---- a link that was found
 

@@ -1,7 +1,8 @@
 -- The two maps that a list of links is.
-use Rattle.std.proofs.Common.{◌≡◌, ℕ, suc, true, false, cond, ◌||◌, ◌==◌, List, [], ◌∷◌, ◌++◌, refl, sym, ap, ◌∙◌, Option, Some, None, append-nil}
+use Rattle.av_base.specs.Words.{how_many, is_in, with_at}
+use Rattle.std.proofs.Common.{◌≡◌, ℕ, ◌+◌, arith, true, false, cond, ◌||◌, ◌==◌, List, [], ◌∷◌, ◌++◌, refl, sym, ap, ◌∙◌, Option, Some, None, append-nil}
 use mathlib.Core.Bool.{Bool}
-use Rattle.av_chain.specs.Links.{Link, chain_of, users_of, is_in, how_many, without, first_in, rest_in, with_at, left_by, left_by_all, one_if, AreMutual, AreOnce, popped}
+use Rattle.av_chain.specs.Links.{Link, chain_of, users_of, without, first_in, rest_in, left_by, left_by_all, one_if, AreMutual, AreOnce, popped}
 use Rattle.av_chain.proofs.Altered.{either, cond_lift, cond_same}
 use Rattle.av_chain.proofs.Threads.{number_eq, same_number}
 use Rattle.av_chain.proofs.Wholes.{chain_append, is_in_append, or_false}
@@ -10,10 +11,10 @@ use Rattle.av_chain.proofs.Wholes.{chain_append, is_in_append, or_false}
 
 users_append : (ls ms : List Link) (v : ℕ) → users_of (ls ++ ms) v ≡ users_of ls v ++ users_of ms v
 users_append [] ms v = refl
-users_append (l ∷ ls) ms v = (λ i. cond (l.1 == v) (l.0 ∷ users_append ls ms v i) (users_append ls ms v i)) ∙ sym (cond_lift (λ xs. xs ++ users_of ms v) (l.1 == v) (l.0 ∷ users_of ls v) (users_of ls v))
+users_append (l ∷ ls) ms v = (λ i. cond (v == l.1) (l.0 ∷ users_append ls ms v i) (users_append ls ms v i)) ∙ sym (cond_lift (λ xs. xs ++ users_of ms v) (v == l.1) (l.0 ∷ users_of ls v) (users_of ls v))
 
-at_end : (f : ℕ → List ℕ) (k x j : ℕ) → f j ++ cond (k == j) (x ∷ []) [] ≡ with_at k (f k ++ x ∷ []) f j
-at_end f k x j = either (f j ++ cond (k == j) (x ∷ []) [] ≡ cond (k == j) (f k ++ x ∷ []) (f j)) (k == j)
+at_end : (f : ℕ → List ℕ) (k x j : ℕ) → f j ++ cond (j == k) (x ∷ []) [] ≡ with_at k (f k ++ x ∷ []) f j
+at_end f k x j = either (f j ++ cond (j == k) (x ∷ []) [] ≡ cond (j == k) (f k ++ x ∷ []) (f j)) (j == k)
     (λ e. ap (λ y. f j ++ cond y (x ∷ []) []) e ∙ ap (λ i. f i ++ x ∷ []) (sym (number_eq k j e)) ∙ sym (ap (λ y. cond y (f k ++ x ∷ []) (f j)) e))
     (λ e. ap (λ y. f j ++ cond y (x ∷ []) []) e ∙ append-nil (f j) ∙ sym (ap (λ y. cond y (f k ++ x ∷ []) (f j)) e))
 
@@ -25,7 +26,7 @@ users_push ls a v = λ i u. (users_append ls ((a, v) ∷ []) u ∙ at_end (users
 
 -- ---- each map is the other's inverse
 
-in_chain : (t : Bool) (x v : ℕ) (vs : List ℕ) → is_in v (cond t (x ∷ vs) vs) ≡ (cond t (x == v) false || is_in v vs)
+in_chain : (t : Bool) (x v : ℕ) (vs : List ℕ) → is_in v (cond t (x ∷ vs) vs) ≡ (cond t (v == x) false || is_in v vs)
 in_chain true x v vs = refl
 in_chain false x v vs = refl
 
@@ -37,35 +38,42 @@ swap_tests false false = refl
 
 pub dual : (ls : List Link) (a v : ℕ) → is_in v (chain_of ls a) ≡ is_in a (users_of ls v)
 dual [] a v = refl
-dual (l ∷ ls) a v = in_chain (l.0 == a) l.1 v (chain_of ls a) ∙ (λ i. swap_tests (l.0 == a) (l.1 == v) i || dual ls a v i) ∙ sym (in_chain (l.1 == v) l.0 a (users_of ls v))
+dual (l ∷ ls) a v = in_chain (a == l.0) l.1 v (chain_of ls a) ∙ (λ i. swap_tests (a == l.0) (v == l.1) i || dual ls a v i) ∙ sym (in_chain (v == l.1) l.0 a (users_of ls v))
 
-count_in : (t : Bool) (x v : ℕ) (vs : List ℕ) → how_many v (cond t (x ∷ vs) vs) ≡ cond (cond t (x == v) false) (suc (how_many v vs)) (how_many v vs)
+-- how often a number stands in a list
+abbrev times : ℕ → List ℕ → ℕ
+times x xs = how_many (λ y. x == y) xs
+
+count_in : (t : Bool) (x v : ℕ) (vs : List ℕ) → times v (cond t (x ∷ vs) vs) ≡ one_if (cond t (v == x) false) + times v vs
 count_in true x v vs = refl
-count_in false x v vs = refl
+count_in false x v vs = omega arith
 
-count_dual : (ls : List Link) (a v : ℕ) → how_many v (chain_of ls a) ≡ how_many a (users_of ls v)
+-- a link is counted alike from both sides
+pub count_dual : (ls : List Link) (a v : ℕ) → how_many (λ u. v == u) (chain_of ls a) ≡ how_many (λ b. a == b) (users_of ls v)
 count_dual [] a v = refl
 count_dual (l ∷ ls) a v =
-    count_in (l.0 == a) l.1 v (chain_of ls a) ∙ (λ i. cond (swap_tests (l.0 == a) (l.1 == v) i) (suc (count_dual ls a v i)) (count_dual ls a v i)) ∙ sym (count_in (l.1 == v) l.0 a (users_of ls v))
+    count_in (a == l.0) l.1 v (chain_of ls a) ∙ (λ i. one_if (swap_tests (a == l.0) (v == l.1) i) + count_dual ls a v i) ∙ sym (count_in (v == l.1) l.0 a (users_of ls v))
 
 both_hold : (s t : Bool) → cond s t false ≡ true → (s ≡ true) × (t ≡ true)
 both_hold true t e = (refl, e)
 both_hold false t e = cc
 
-count_once : (ls : List Link) → AreOnce ls → (a v : ℕ) → how_many v (chain_of ls a) ≡ one_if (is_in v (chain_of ls a))
+count_once : (ls : List Link) → AreOnce ls → (a v : ℕ) → times v (chain_of ls a) ≡ one_if (is_in v (chain_of ls a))
 count_once [] o a v = refl
 count_once (l ∷ ls) o a v =
     let rest = count_once ls o.1 a v in
-    let t = cond (l.0 == a) (l.1 == v) false in
-    count_in (l.0 == a) l.1 v (chain_of ls a)
-    ∙ either (cond t (suc (how_many v (chain_of ls a))) (how_many v (chain_of ls a)) ≡ one_if (t || is_in v (chain_of ls a))) t
+    let n = times v (chain_of ls a) in
+    let t = cond (a == l.0) (v == l.1) false in
+    count_in (a == l.0) l.1 v (chain_of ls a)
+    ∙ either (one_if t + n ≡ one_if (t || is_in v (chain_of ls a))) t
     (λ e.
-    let both = both_hold (l.0 == a) (l.1 == v) e in
+    let both = both_hold (a == l.0) (v == l.1) e in
     let absent : is_in v (chain_of ls a) ≡ false = sym (λ i. is_in (number_eq l.1 v both.1 i) (chain_of ls (number_eq l.0 a both.0 i))) ∙ o.0 in
-    let none : how_many v (chain_of ls a) ≡ 0 = rest ∙ ap one_if absent in
-    ap (λ y. cond y (suc (how_many v (chain_of ls a))) (how_many v (chain_of ls a))) e ∙ ap (λ n. suc n) none ∙ sym (ap (λ y. one_if (y || is_in v (chain_of ls a))) e))
-    (λ e. ap (λ y. cond y (suc (how_many v (chain_of ls a))) (how_many v (chain_of ls a))) e ∙ rest ∙ sym (ap (λ y. one_if (y || is_in v (chain_of ls a))) e))
-    ∙ sym (ap one_if (in_chain (l.0 == a) l.1 v (chain_of ls a)))
+    let none : n ≡ 0 = rest ∙ ap one_if absent in
+    let one : 1 + n ≡ 1 = omega (arith, none) in
+    ap (λ y. one_if y + n) e ∙ one ∙ sym (ap (λ y. one_if (y || is_in v (chain_of ls a))) e))
+    (λ e. let same : 0 + n ≡ n = omega arith in ap (λ y. one_if y + n) e ∙ same ∙ rest ∙ sym (ap (λ y. one_if (y || is_in v (chain_of ls a))) e))
+    ∙ sym (ap one_if (in_chain (a == l.0) l.1 v (chain_of ls a)))
 
 pub mutual_once : (ls : List Link) → AreOnce ls → AreMutual (chain_of ls) (users_of ls)
 mutual_once ls o = record { inverse = λ a v. sym (count_dual ls a v) ∙ count_once ls o a v; once = count_once ls o }
@@ -75,61 +83,61 @@ mutual_once ls o = record { inverse = λ a v. sym (count_dual ls a v) ∙ count_
 pub without_none : (x : ℕ) (ys : List ℕ) → is_in x ys ≡ false → without x ys ≡ ys
 without_none x [] e = refl
 without_none x (y ∷ ys) e =
-    let apart = or_false (y == x) (is_in x ys) e in
+    let apart = or_false (x == y) (is_in x ys) e in
     ap (λ t. cond t (without x ys) (y ∷ without x ys)) apart.0 ∙ ap (λ zs. y ∷ zs) (without_none x ys apart.1)
 
 pub without_twice : (x : ℕ) (ys : List ℕ) → without x (without x ys) ≡ without x ys
 without_twice x [] = refl
-without_twice x (y ∷ ys) = either (without x (cond (y == x) (without x ys) (y ∷ without x ys)) ≡ cond (y == x) (without x ys) (y ∷ without x ys)) (y == x)
+without_twice x (y ∷ ys) = either (without x (cond (x == y) (without x ys) (y ∷ without x ys)) ≡ cond (x == y) (without x ys) (y ∷ without x ys)) (x == y)
     (λ e. ap (λ t. without x (cond t (without x ys) (y ∷ without x ys))) e ∙ without_twice x ys ∙ sym (ap (λ t. cond t (without x ys) (y ∷ without x ys)) e))
     (λ e. ap (λ t. without x (cond t (without x ys) (y ∷ without x ys))) e ∙ ap (λ t. cond t (without x (without x ys)) (y ∷ without x (without x ys))) e
     ∙ ap (λ zs. y ∷ zs) (without_twice x ys) ∙ sym (ap (λ t. cond t (without x ys) (y ∷ without x ys)) e))
 
 popped_chain : (a : ℕ) (ls : List Link) (b : ℕ) → chain_of (popped a ls) b ≡ with_at a (rest_in (chain_of ls a)) (chain_of ls) b
-popped_chain a [] b = sym (cond_same (a == b) [])
+popped_chain a [] b = sym (cond_same (b == a) [])
 popped_chain a (l ∷ ls) b =
-    either (chain_of (popped a (l ∷ ls)) b ≡ with_at a (rest_in (chain_of (l ∷ ls) a)) (chain_of (l ∷ ls)) b) (l.0 == a)
+    either (chain_of (popped a (l ∷ ls)) b ≡ with_at a (rest_in (chain_of (l ∷ ls) a)) (chain_of (l ∷ ls)) b) (a == l.0)
     (λ e.
-    let goal : chain_of ls b ≡ cond (a == b) (chain_of ls a) (cond (l.0 == b) (l.1 ∷ chain_of ls b) (chain_of ls b)) =
-    either (chain_of ls b ≡ cond (a == b) (chain_of ls a) (cond (l.0 == b) (l.1 ∷ chain_of ls b) (chain_of ls b))) (a == b)
-    (λ f. ap (chain_of ls) (sym (number_eq a b f)) ∙ sym (ap (λ y. cond y (chain_of ls a) (cond (l.0 == b) (l.1 ∷ chain_of ls b) (chain_of ls b))) f))
-    (λ f. sym (ap (λ y. cond y (chain_of ls a) (cond (l.0 == b) (l.1 ∷ chain_of ls b) (chain_of ls b))) f ∙ ap (λ y. cond y (l.1 ∷ chain_of ls b) (chain_of ls b)) (ap (λ k. k == b) (number_eq l.0 a e) ∙ f))) in
-    ap (λ y. chain_of (cond y ls (l ∷ popped a ls)) b) e ∙ goal ∙ sym (ap (λ y. cond (a == b) (rest_in (cond y (l.1 ∷ chain_of ls a) (chain_of ls a))) (cond (l.0 == b) (l.1 ∷ chain_of ls b) (chain_of ls b))) e))
+    let goal : chain_of ls b ≡ cond (b == a) (chain_of ls a) (cond (b == l.0) (l.1 ∷ chain_of ls b) (chain_of ls b)) =
+    either (chain_of ls b ≡ cond (b == a) (chain_of ls a) (cond (b == l.0) (l.1 ∷ chain_of ls b) (chain_of ls b))) (b == a)
+    (λ f. ap (chain_of ls) (sym (number_eq a b f)) ∙ sym (ap (λ y. cond y (chain_of ls a) (cond (b == l.0) (l.1 ∷ chain_of ls b) (chain_of ls b))) f))
+    (λ f. sym (ap (λ y. cond y (chain_of ls a) (cond (b == l.0) (l.1 ∷ chain_of ls b) (chain_of ls b))) f ∙ ap (λ y. cond y (l.1 ∷ chain_of ls b) (chain_of ls b)) (ap (λ k. b == k) (number_eq l.0 a e) ∙ f))) in
+    ap (λ y. chain_of (cond y ls (l ∷ popped a ls)) b) e ∙ goal ∙ sym (ap (λ y. cond (b == a) (rest_in (cond y (l.1 ∷ chain_of ls a) (chain_of ls a))) (cond (b == l.0) (l.1 ∷ chain_of ls b) (chain_of ls b))) e))
     (λ e.
-    let goal : cond (l.0 == b) (l.1 ∷ chain_of (popped a ls) b) (chain_of (popped a ls) b) ≡ cond (a == b) (rest_in (chain_of ls a)) (cond (l.0 == b) (l.1 ∷ chain_of ls b) (chain_of ls b)) =
-    either (cond (l.0 == b) (l.1 ∷ chain_of (popped a ls) b) (chain_of (popped a ls) b) ≡ cond (a == b) (rest_in (chain_of ls a)) (cond (l.0 == b) (l.1 ∷ chain_of ls b) (chain_of ls b))) (a == b)
-    (λ f. ap (λ y. cond y (l.1 ∷ chain_of (popped a ls) b) (chain_of (popped a ls) b)) (ap (λ k. l.0 == k) (sym (number_eq a b f)) ∙ e) ∙ popped_chain a ls b
-    ∙ ap (λ y. cond y (rest_in (chain_of ls a)) (chain_of ls b)) f ∙ sym (ap (λ y. cond y (rest_in (chain_of ls a)) (cond (l.0 == b) (l.1 ∷ chain_of ls b) (chain_of ls b))) f))
+    let goal : cond (b == l.0) (l.1 ∷ chain_of (popped a ls) b) (chain_of (popped a ls) b) ≡ cond (b == a) (rest_in (chain_of ls a)) (cond (b == l.0) (l.1 ∷ chain_of ls b) (chain_of ls b)) =
+    either (cond (b == l.0) (l.1 ∷ chain_of (popped a ls) b) (chain_of (popped a ls) b) ≡ cond (b == a) (rest_in (chain_of ls a)) (cond (b == l.0) (l.1 ∷ chain_of ls b) (chain_of ls b))) (b == a)
+    (λ f. ap (λ y. cond y (l.1 ∷ chain_of (popped a ls) b) (chain_of (popped a ls) b)) (ap (λ k. k == l.0) (sym (number_eq a b f)) ∙ e) ∙ popped_chain a ls b
+    ∙ ap (λ y. cond y (rest_in (chain_of ls a)) (chain_of ls b)) f ∙ sym (ap (λ y. cond y (rest_in (chain_of ls a)) (cond (b == l.0) (l.1 ∷ chain_of ls b) (chain_of ls b))) f))
     (λ f. let rest : chain_of (popped a ls) b ≡ chain_of ls b = popped_chain a ls b ∙ ap (λ y. cond y (rest_in (chain_of ls a)) (chain_of ls b)) f in
-    (λ i. cond (l.0 == b) (l.1 ∷ rest i) (rest i)) ∙ sym (ap (λ y. cond y (rest_in (chain_of ls a)) (cond (l.0 == b) (l.1 ∷ chain_of ls b) (chain_of ls b))) f)) in
-    ap (λ y. chain_of (cond y ls (l ∷ popped a ls)) b) e ∙ goal ∙ sym (ap (λ y. cond (a == b) (rest_in (cond y (l.1 ∷ chain_of ls a) (chain_of ls a))) (cond (l.0 == b) (l.1 ∷ chain_of ls b) (chain_of ls b))) e))
+    (λ i. cond (b == l.0) (l.1 ∷ rest i) (rest i)) ∙ sym (ap (λ y. cond y (rest_in (chain_of ls a)) (cond (b == l.0) (l.1 ∷ chain_of ls b) (chain_of ls b))) f)) in
+    ap (λ y. chain_of (cond y ls (l ∷ popped a ls)) b) e ∙ goal ∙ sym (ap (λ y. cond (b == a) (rest_in (cond y (l.1 ∷ chain_of ls a) (chain_of ls a))) (cond (b == l.0) (l.1 ∷ chain_of ls b) (chain_of ls b))) e))
 
 pub chain_popped : (a : ℕ) (ls : List Link) → chain_of (popped a ls) ≡ with_at a (rest_in (chain_of ls a)) (chain_of ls)
 chain_popped a ls = λ i b. popped_chain a ls b i
 
 -- of another area's link before it
-passed_by : (a : ℕ) (o : Option ℕ) (l : Link) (ls : List Link) (u : ℕ) → (l.0 == a) ≡ false
-    → cond (l.1 == u) (l.0 ∷ left_by a o (users_of ls) u) (left_by a o (users_of ls) u) ≡ left_by a o (users_of (l ∷ ls)) u
+passed_by : (a : ℕ) (o : Option ℕ) (l : Link) (ls : List Link) (u : ℕ) → (a == l.0) ≡ false
+    → cond (u == l.1) (l.0 ∷ left_by a o (users_of ls) u) (left_by a o (users_of ls) u) ≡ left_by a o (users_of (l ∷ ls)) u
 passed_by a None l ls u e = refl
-passed_by a (Some v) l ls u e = either (cond (l.1 == u) (l.0 ∷ with_at v (without a (users_of ls v)) (users_of ls) u) (with_at v (without a (users_of ls v)) (users_of ls) u) ≡ with_at v (without a (users_of (l ∷ ls) v)) (users_of (l ∷ ls)) u) (v == u)
+passed_by a (Some v) l ls u e = either (cond (u == l.1) (l.0 ∷ with_at v (without a (users_of ls v)) (users_of ls) u) (with_at v (without a (users_of ls v)) (users_of ls) u) ≡ with_at v (without a (users_of (l ∷ ls) v)) (users_of (l ∷ ls)) u) (u == v)
     (λ f.
     let here : with_at v (without a (users_of ls v)) (users_of ls) u ≡ without a (users_of ls v) = ap (λ y. cond y (without a (users_of ls v)) (users_of ls u)) f in
     let past : without a (l.0 ∷ users_of ls v) ≡ l.0 ∷ without a (users_of ls v) = ap (λ y. cond y (without a (users_of ls v)) (l.0 ∷ without a (users_of ls v))) e in
-    (λ i. cond (l.1 == u) (l.0 ∷ here i) (here i)) ∙ ap (λ k. cond (l.1 == k) (l.0 ∷ without a (users_of ls v)) (without a (users_of ls v))) (sym (number_eq v u f))
-    ∙ (λ i. cond (l.1 == v) (sym past i) (without a (users_of ls v))) ∙ sym (cond_lift (without a) (l.1 == v) (l.0 ∷ users_of ls v) (users_of ls v))
+    (λ i. cond (u == l.1) (l.0 ∷ here i) (here i)) ∙ ap (λ k. cond (k == l.1) (l.0 ∷ without a (users_of ls v)) (without a (users_of ls v))) (sym (number_eq v u f))
+    ∙ (λ i. cond (v == l.1) (sym past i) (without a (users_of ls v))) ∙ sym (cond_lift (without a) (v == l.1) (l.0 ∷ users_of ls v) (users_of ls v))
     ∙ sym (ap (λ y. cond y (without a (users_of (l ∷ ls) v)) (users_of (l ∷ ls) u)) f))
     (λ f.
     let here : with_at v (without a (users_of ls v)) (users_of ls) u ≡ users_of ls u = ap (λ y. cond y (without a (users_of ls v)) (users_of ls u)) f in
-    (λ i. cond (l.1 == u) (l.0 ∷ here i) (here i)) ∙ sym (ap (λ y. cond y (without a (users_of (l ∷ ls) v)) (users_of (l ∷ ls) u)) f))
+    (λ i. cond (u == l.1) (l.0 ∷ here i) (here i)) ∙ sym (ap (λ y. cond y (without a (users_of (l ∷ ls) v)) (users_of (l ∷ ls) u)) f))
 
 popped_users : (a : ℕ) (ls : List Link) → AreOnce ls → (u : ℕ) → users_of (popped a ls) u ≡ left_by a (first_in (chain_of ls a)) (users_of ls) u
 popped_users a [] o u = refl
 popped_users a (l ∷ ls) o u =
-    either (users_of (popped a (l ∷ ls)) u ≡ left_by a (first_in (chain_of (l ∷ ls) a)) (users_of (l ∷ ls)) u) (l.0 == a)
+    either (users_of (popped a (l ∷ ls)) u ≡ left_by a (first_in (chain_of (l ∷ ls) a)) (users_of (l ∷ ls)) u) (a == l.0)
     (λ e.
     let absent : is_in a (users_of ls l.1) ≡ false = ap (λ k. is_in k (users_of ls l.1)) (sym (number_eq l.0 a e)) ∙ sym (dual ls l.0 l.1) ∙ o.0 in
     let goal : users_of ls u ≡ with_at l.1 (without a (users_of (l ∷ ls) l.1)) (users_of (l ∷ ls)) u =
-    either (users_of ls u ≡ with_at l.1 (without a (users_of (l ∷ ls) l.1)) (users_of (l ∷ ls)) u) (l.1 == u)
+    either (users_of ls u ≡ with_at l.1 (without a (users_of (l ∷ ls) l.1)) (users_of (l ∷ ls)) u) (u == l.1)
     (λ f.
     let mine : users_of (l ∷ ls) l.1 ≡ l.0 ∷ users_of ls l.1 = ap (λ y. cond y (l.0 ∷ users_of ls l.1) (users_of ls l.1)) (same_number l.1) in
     let gone : without a (l.0 ∷ users_of ls l.1) ≡ users_of ls l.1 = ap (λ y. cond y (without a (users_of ls l.1)) (l.0 ∷ without a (users_of ls l.1))) e ∙ without_none a (users_of ls l.1) absent in
@@ -137,7 +145,7 @@ popped_users a (l ∷ ls) o u =
     (λ f. sym (ap (λ y. cond y (without a (users_of (l ∷ ls) l.1)) (users_of (l ∷ ls) u)) f ∙ ap (λ y. cond y (l.0 ∷ users_of ls u) (users_of ls u)) f)) in
     ap (λ y. users_of (cond y ls (l ∷ popped a ls)) u) e ∙ goal ∙ sym (ap (λ y. left_by a (first_in (cond y (l.1 ∷ chain_of ls a) (chain_of ls a))) (users_of (l ∷ ls)) u) e))
     (λ e.
-    ap (λ y. users_of (cond y ls (l ∷ popped a ls)) u) e ∙ (λ i. cond (l.1 == u) (l.0 ∷ popped_users a ls o.1 u i) (popped_users a ls o.1 u i)) ∙ passed_by a (first_in (chain_of ls a)) l ls u e
+    ap (λ y. users_of (cond y ls (l ∷ popped a ls)) u) e ∙ (λ i. cond (u == l.1) (l.0 ∷ popped_users a ls o.1 u i) (popped_users a ls o.1 u i)) ∙ passed_by a (first_in (chain_of ls a)) l ls u e
     ∙ sym (ap (λ y. left_by a (first_in (cond y (l.1 ∷ chain_of ls a) (chain_of ls a))) (users_of (l ∷ ls)) u) e))
 
 pub users_popped : (a : ℕ) (ls : List Link) → AreOnce ls → users_of (popped a ls) ≡ left_by a (first_in (chain_of ls a)) (users_of ls)
@@ -152,11 +160,11 @@ left_all ls a v = either (cond (is_in v (chain_of ls a)) (without a (users_of ls
 -- ---- one link after another goes
 
 pub with_at_same : (k : ℕ) (f : ℕ → List ℕ) → with_at k (f k) f ≡ f
-with_at_same k f = λ i j. (either (cond (k == j) (f k) (f j) ≡ f j) (k == j) (λ e. ap (λ y. cond y (f k) (f j)) e ∙ ap f (number_eq k j e)) (λ e. ap (λ y. cond y (f k) (f j)) e)) i
+with_at_same k f = λ i j. (either (cond (j == k) (f k) (f j) ≡ f j) (j == k) (λ e. ap (λ y. cond y (f k) (f j)) e ∙ ap f (number_eq k j e)) (λ e. ap (λ y. cond y (f k) (f j)) e)) i
 
 pub with_at_twice : (k : ℕ) (x y : List ℕ) (f : ℕ → List ℕ) → with_at k x (with_at k y f) ≡ with_at k x f
-with_at_twice k x y f = λ i j. (either (cond (k == j) x (cond (k == j) y (f j)) ≡ cond (k == j) x (f j)) (k == j)
-    (λ e. ap (λ t. cond t x (cond (k == j) y (f j))) e ∙ sym (ap (λ t. cond t x (f j)) e))
+with_at_twice k x y f = λ i j. (either (cond (j == k) x (cond (j == k) y (f j)) ≡ cond (j == k) x (f j)) (j == k)
+    (λ e. ap (λ t. cond t x (cond (j == k) y (f j))) e ∙ sym (ap (λ t. cond t x (f j)) e))
     (λ e. ap (λ t. cond t x (cond t y (f j))) e ∙ sym (ap (λ t. cond t x (f j)) e))) i
 
 pub with_at_here : (k : ℕ) (x : List ℕ) (f : ℕ → List ℕ) → with_at k x f k ≡ x
@@ -171,7 +179,7 @@ or_anyway true = refl
 or_anyway false = refl
 
 pub left_one_more : (a : ℕ) (gone : List ℕ) (v : ℕ) (f : ℕ → List ℕ) → left_by a (Some v) (left_by_all a gone f) ≡ left_by_all a (gone ++ v ∷ []) f
-left_one_more a gone v f = λ i u. (either (with_at v (without a (left_by_all a gone f v)) (left_by_all a gone f) u ≡ left_by_all a (gone ++ v ∷ []) f u) (v == u)
+left_one_more a gone v f = λ i u. (either (with_at v (without a (left_by_all a gone f v)) (left_by_all a gone f) u ≡ left_by_all a (gone ++ v ∷ []) f u) (u == v)
     (λ e.
     let mine : without a (left_by_all a gone f v) ≡ without a (f v) = cond_lift (without a) (is_in v gone) (without a (f v)) (f v) ∙ (λ j. cond (is_in v gone) (without_twice a (f v) j) (without a (f v))) ∙ cond_same (is_in v gone) (without a (f v)) in
     let there : is_in u (gone ++ v ∷ []) ≡ true = is_in_append u gone (v ∷ []) ∙ ap (λ y. is_in u gone || (y || false)) e ∙ or_anyway (is_in u gone) in

@@ -1,4 +1,5 @@
 -- The nodes with the heads of their lists, when a link is made or goes.
+use Rattle.av_base.specs.Words.{is_in, with_at}
 use Rattle.std.proofs.Common.{◌≡◌, ℕ, true, false, cond, ◌||◌, ◌==◌, List, [], ◌∷◌, ◌++◌, refl, sym, ap, ◌∙◌, subst, Option, Some, None, IsSome}
 use mathlib.Core.Bool.{Bool}
 use denote.RawPtr.{Ptr}
@@ -9,8 +10,8 @@ use Rattle.av_chain.specs.declared.node.Way.TheVariants.{Area, Anon}
 use Rattle.av_chain.specs.declared.node.Sides.{Sides}
 use Rattle.av_chain.specs.declared.node.Place.{Place}
 use Rattle.av_chain.specs.Nodes.{Block, same_ptr, IsApart, has_place, found, removed}
-use Rattle.av_chain.specs.Rows.{key_of, sides_of, with_before, with_after, altered, changed, leads_on, leads_back, Reaches, row, at_block, head_of, last_of, grown, shrunk, with_head, IsThreaded}
-use Rattle.av_chain.specs.Links.{Link, chain_of, is_in, AreOnce}
+use Rattle.av_chain.specs.Rows.{key_of, sides_of, with_before, with_after, altered, changed, leads_on, leads_back, Reaches, row, at_block, head_of, last_of, grown, shrunk, IsThreaded}
+use Rattle.av_chain.specs.Links.{Link, chain_of, AreOnce}
 use Rattle.av_chain.specs.Lists.{links_of, IsWhole}
 use Rattle.av_chain.proofs.Altered.{either, cond_lift, changed_append, changed_avoids, reaches_avoids, removed_changed, apart_changed, has_changed, reaches_changed, place_cond}
 use Rattle.av_chain.proofs.Runs.{last_head, end_reaches, reaches_front, has_past}
@@ -74,46 +75,46 @@ both_false x y e f = ap (λ z. z || y) e ∙ f
 
 pub chain_append : (ls ms : List Link) (a : ℕ) → chain_of (ls ++ ms) a ≡ chain_of ls a ++ chain_of ms a
 chain_append [] ms a = refl
-chain_append (l ∷ ls) ms a = (λ i. cond (l.0 == a) (l.1 ∷ chain_append ls ms a i) (chain_append ls ms a i)) ∙ sym (cond_lift (λ vs. vs ++ chain_of ms a) (l.0 == a) (l.1 ∷ chain_of ls a) (chain_of ls a))
+chain_append (l ∷ ls) ms a = (λ i. cond (a == l.0) (l.1 ∷ chain_append ls ms a i) (chain_append ls ms a i)) ∙ sym (cond_lift (λ vs. vs ++ chain_of ms a) (a == l.0) (l.1 ∷ chain_of ls a) (chain_of ls a))
 
 pub is_in_append : (x : ℕ) (xs ys : List ℕ) → is_in x (xs ++ ys) ≡ (is_in x xs || is_in x ys)
 is_in_append x [] ys = refl
-is_in_append x (y ∷ xs) ys = ap (λ z. (y == x) || z) (is_in_append x xs ys) ∙ or_assoc (y == x) (is_in x xs) (is_in x ys)
+is_in_append x (y ∷ xs) ys = ap (λ z. (x == y) || z) (is_in_append x xs ys) ∙ or_assoc (x == y) (is_in x xs) (is_in x ys)
 
-number_sym : (x y : ℕ) → (x == y) ≡ false → (y == x) ≡ false
-number_sym x y e = either ((y == x) ≡ false) (y == x) (λ h. let clash = sym (ap (λ z. z == y) (sym (number_eq y x h)) ∙ same_number y) ∙ e in cc) (λ h. h)
+number_sym : (x y : ℕ) → (y == x) ≡ false → (x == y) ≡ false
+number_sym x y e = either ((x == y) ≡ false) (x == y) (λ h. let clash = sym (ap (λ z. y == z) (sym (number_eq y x h)) ∙ same_number y) ∙ e in cc) (λ h. h)
 
-single : (u b a v : ℕ) → (a ≡ b → (u == v) ≡ false) → is_in u (chain_of ((a, v) ∷ []) b) ≡ false
-single u b a v h = either (is_in u (cond (a == b) (v ∷ []) []) ≡ false) (a == b)
-    (λ e. ap (λ y. is_in u (cond y (v ∷ []) [])) e ∙ both_false (v == u) false (number_sym u v (h (number_eq a b e))) refl)
+single : (u b a v : ℕ) → (a ≡ b → (v == u) ≡ false) → is_in u (chain_of ((a, v) ∷ []) b) ≡ false
+single u b a v h = either (is_in u (cond (b == a) (v ∷ []) []) ≡ false) (b == a)
+    (λ e. ap (λ y. is_in u (cond y (v ∷ []) [])) e ∙ both_false (u == v) false (number_sym u v (h (number_eq a b e))) refl)
     (λ e. ap (λ y. is_in u (cond y (v ∷ []) [])) e)
 
-not_that : (y : Bool) (u v : ℕ) (vs : List ℕ) → y ≡ true → is_in v (cond y (u ∷ vs) vs) ≡ false → (u == v) ≡ false
-not_that true u v vs e h = false_left (u == v) (is_in v vs) h
+not_that : (y : Bool) (u v : ℕ) (vs : List ℕ) → y ≡ true → is_in v (cond y (u ∷ vs) vs) ≡ false → (v == u) ≡ false
+not_that true u v vs e h = false_left (v == u) (is_in v vs) h
 not_that false u v vs e h = cc
 
 not_later : (y : Bool) (u v : ℕ) (vs : List ℕ) → is_in v (cond y (u ∷ vs) vs) ≡ false → is_in v vs ≡ false
-not_later true u v vs h = false_right (u == v) (is_in v vs) h
+not_later true u v vs h = false_right (v == u) (is_in v vs) h
 not_later false u v vs h = h
 
 once_push : (ls : List Link) (a v : ℕ) → AreOnce ls → is_in v (chain_of ls a) ≡ false → AreOnce (ls ++ (a, v) ∷ [])
 once_push [] a v o n = (refl, tt)
 once_push (l ∷ ls) a v o n =
-    let apart : a ≡ l.0 → (l.1 == v) ≡ false = λ e. not_that (l.0 == a) l.1 v (chain_of ls a) (ap (λ k. l.0 == k) e ∙ same_number l.0) n in (
+    let apart : a ≡ l.0 → (v == l.1) ≡ false = λ e. not_that (a == l.0) l.1 v (chain_of ls a) (ap (λ k. k == l.0) e ∙ same_number l.0) n in (
       ap (is_in l.1) (chain_append ls ((a, v) ∷ []) l.0) ∙ is_in_append l.1 (chain_of ls l.0) (chain_of ((a, v) ∷ []) l.0)
           ∙ both_false (is_in l.1 (chain_of ls l.0)) (is_in l.1 (chain_of ((a, v) ∷ []) l.0)) o.0 (single l.1 l.0 a v apart),
-      once_push ls a v o.1 (not_later (l.0 == a) l.1 v (chain_of ls a) n),
+      once_push ls a v o.1 (not_later (a == l.0) l.1 v (chain_of ls a) n),
     )
 
 fewer : (p : Ptr) (bs : List Block) (a v : ℕ) → is_in v (chain_of (links_of bs) a) ≡ false → is_in v (chain_of (links_of (removed p bs)) a) ≡ false
 fewer p [] a v n = n
 fewer p (b ∷ bs) a v n =
-    let rest = fewer p bs a v (not_later (b.1.area == a) b.1.anon v (chain_of (links_of bs) a) n) in
+    let rest = fewer p bs a v (not_later (a == b.1.area) b.1.anon v (chain_of (links_of bs) a) n) in
     elim (same_ptr p b.0) as (λ y. is_in v (chain_of (links_of (cond y (removed p bs) (b ∷ removed p bs))) a) ≡ false) [
       | true ↦ rest
-      | false ↦ (elim (b.1.area == a) as (λ y. is_in v (cond y (b.1.anon ∷ chain_of (links_of bs) a) (chain_of (links_of bs) a)) ≡ false
+      | false ↦ (elim (a == b.1.area) as (λ y. is_in v (cond y (b.1.anon ∷ chain_of (links_of bs) a) (chain_of (links_of bs) a)) ≡ false
           → is_in v (cond y (b.1.anon ∷ chain_of (links_of (removed p bs)) a) (chain_of (links_of (removed p bs)) a)) ≡ false) [
-            | true ↦ λ h. both_false (b.1.anon == v) (is_in v (chain_of (links_of (removed p bs)) a)) (false_left (b.1.anon == v) (is_in v (chain_of (links_of bs) a)) h) rest
+            | true ↦ λ h. both_false (v == b.1.anon) (is_in v (chain_of (links_of (removed p bs)) a)) (false_left (v == b.1.anon) (is_in v (chain_of (links_of bs) a)) h) rest
             | false ↦ λ h. rest
           ]) n
     ]
@@ -164,13 +165,13 @@ module _ (areas anons : ℕ → Option Head) (bs : List Block) (p : Ptr) (area a
     links_made = links_on Anon (last_of (anons anon)) at bs1 ∙ links_on Area (last_of (areas area)) at (bs ++ b ∷ []) ∙ links_append bs (b ∷ [])
 
     pub whole_made : is_in anon (chain_of (links_of bs) area) ≡ false
-        → IsWhole (with_head area (Some (grown (at_block b) (areas area))) areas) (with_head anon (Some (grown (at_block b) (anons anon))) anons) bs2
+        → IsWhole (with_at area (Some (grown (at_block b) (areas area))) areas) (with_at anon (Some (grown (at_block b) (anons anon))) anons) bs2
     whole_made n = record {
-      areas_lead = thread_other Area (with_head area (Some (grown (at_block b) (areas area))) areas) bs1 (last_of (anons anon)) (with_after Anon at) (keeps_after Area Anon at) (λ m. refl) (thread_grow Area areas bs b d t.areas_lead refl);
+      areas_lead = thread_other Area (with_at area (Some (grown (at_block b) (areas area))) areas) bs1 (last_of (anons anon)) (with_after Anon at) (keeps_after Area Anon at) (λ m. refl) (thread_grow Area areas bs b d t.areas_lead refl);
       anons_lead =
           let cs = leads_on Area (last_of (areas area)) at bs in
           let d' : IsApart (cs ++ b ∷ []) = subst IsApart pushed (apart_changed (with_after Area at) (last_of (areas area)) (bs ++ b ∷ []) d) in
-          subst (λ es. IsThreaded Anon (with_head anon (Some (grown (at_block b) (anons anon))) anons) (leads_on Anon (last_of (anons anon)) at es)) (sym pushed)
+          subst (λ es. IsThreaded Anon (with_at anon (Some (grown (at_block b) (anons anon))) anons) (leads_on Anon (last_of (anons anon)) at es)) (sym pushed)
           (thread_grow Anon anons cs b d' (thread_other Anon anons bs (last_of (areas area)) (with_after Area at) (keeps_after Anon Area at) (λ m. refl) t.anons_lead) refl);
       once = subst AreOnce (sym links_made) (once_push (links_of bs) area anon t.once n);
     }
@@ -269,14 +270,14 @@ module _ (areas anons : ℕ → Option Head) (bs : List Block) (p : Ptr) (n : No
       ap links_of (anon_past cs1) ∙ links_back Anon sv.after sv.before (leads_on Anon sv.before sv.after (removed p cs1)) ∙ links_on Anon sv.before sv.after (removed p cs1)
       ∙ ap links_of area_past ∙ links_back Area sa.after sa.before (leads_on Area sa.before sa.after (removed p bs)) ∙ links_on Area sa.before sa.after (removed p bs)
 
-  areas_gone : IsThreaded Area (with_head n.area (shrunk sa (areas n.area)) areas) (removed p cs2)
+  areas_gone : IsThreaded Area (with_at n.area (shrunk sa (areas n.area)) areas) (removed p cs2)
   areas_gone =
-      let heads = with_head n.area (shrunk sa (areas n.area)) areas in
+      let heads = with_at n.area (shrunk sa (areas n.area)) areas in
       let one = thread_other Area heads (removed p cs1) sv.before (with_after Anon sv.after) (keeps_after Area Anon sv.after) (λ m. refl) (thread_shrink Area areas bs p n d t.areas_lead e) in
       let two = thread_other Area heads (leads_on Anon sv.before sv.after (removed p cs1)) sv.after (with_before Anon sv.before) (keeps_before Area Anon sv.before) (λ m. refl) one in
       subst (IsThreaded Area heads) (sym (anon_past cs1)) two
 
-  anons_gone : IsThreaded Anon (with_head n.anon (shrunk sv (anons n.anon)) anons) (removed p cs2)
+  anons_gone : IsThreaded Anon (with_at n.anon (shrunk sv (anons n.anon)) anons) (removed p cs2)
   anons_gone =
       let one = thread_other Anon anons bs sa.before (with_after Area sa.after) (keeps_after Anon Area sa.after) (λ m. refl) t.anons_lead in
       let two = thread_other Anon anons cs0 sa.after (with_before Area sa.before) (keeps_before Anon Area sa.before) (λ m. refl) one in
@@ -285,8 +286,8 @@ module _ (areas anons : ℕ → Option Head) (bs : List Block) (p : Ptr) (n : No
       let same : sides_of Anon f1.0 ≡ sv = f1.2 ∙ f0.2 in
       let key : key_of Anon f1.0 ≡ n.anon = f1.3 ∙ f0.3 in
       let d1 = apart_changed (with_before Area sa.before) sa.after cs0 (apart_changed (with_after Area sa.after) sa.before bs d) in
-      subst (λ (q : Sides × ℕ). IsThreaded Anon (with_head q.1 (shrunk q.0 (anons q.1)) anons) (removed p (leads_back Anon q.0.after q.0.before (leads_on Anon q.0.before q.0.after cs1))))
+      subst (λ (q : Sides × ℕ). IsThreaded Anon (with_at q.1 (shrunk q.0 (anons q.1)) anons) (removed p (leads_back Anon q.0.after q.0.before (leads_on Anon q.0.before q.0.after cs1))))
       (λ i. (same i, key i)) (thread_shrink Anon anons cs1 p f1.0 d1 two f1.1)
 
-  pub whole_gone : IsWhole (with_head n.area (shrunk sa (areas n.area)) areas) (with_head n.anon (shrunk sv (anons n.anon)) anons) (removed p cs2)
+  pub whole_gone : IsWhole (with_at n.area (shrunk sa (areas n.area)) areas) (with_at n.anon (shrunk sv (anons n.anon)) anons) (removed p cs2)
   whole_gone = record { areas_lead = areas_gone; anons_lead = anons_gone; once = subst AreOnce (sym links_gone) (once_removed p bs t.once) }

@@ -1,5 +1,6 @@
 -- The links as they were made one after another, and the two maps that they are.
-use Rattle.std.specs.Prelude.{◌≡◌, ℕ, suc, Bool, true, false, ◌||◌, ◌==◌, cond, List, [], ◌∷◌, Option, Some, None}
+use Rattle.std.specs.Prelude.{◌≡◌, ℕ, Bool, false, ◌==◌, cond, if◌then◌else◌, List, [], ◌∷◌, Option, Some, None}
+use Rattle.av_base.specs.Words.{is_in, how_many, with_at}
 
 -- an area, and an anon_vma that it is linked to
 abbrev pub Link : Type 0
@@ -8,25 +9,17 @@ Link = ℕ × ℕ
 -- the anon_vmas of an area
 abbrev pub chain_of : List Link → ℕ → List ℕ
 chain_of [] area = []
-chain_of (l ∷ ls) area = cond (l.0 == area) (l.1 ∷ chain_of ls area) (chain_of ls area)
+chain_of (l ∷ ls) area = cond (area == l.0) (l.1 ∷ chain_of ls area) (chain_of ls area)
 
 -- the areas of an anon_vma
 abbrev pub users_of : List Link → ℕ → List ℕ
 users_of [] anon = []
-users_of (l ∷ ls) anon = cond (l.1 == anon) (l.0 ∷ users_of ls anon) (users_of ls anon)
-
-abbrev pub is_in : ℕ → List ℕ → Bool
-is_in x [] = false
-is_in x (y ∷ ys) = (y == x) || is_in x ys
-
-abbrev pub how_many : ℕ → List ℕ → ℕ
-how_many x [] = 0
-how_many x (y ∷ ys) = cond (y == x) (suc (how_many x ys)) (how_many x ys)
+users_of (l ∷ ls) anon = cond (anon == l.1) (l.0 ∷ users_of ls anon) (users_of ls anon)
 
 -- the others
 abbrev pub without : ℕ → List ℕ → List ℕ
 without x [] = []
-without x (y ∷ ys) = cond (y == x) (without x ys) (y ∷ without x ys)
+without x (y ∷ ys) = cond (x == y) (without x ys) (y ∷ without x ys)
 
 abbrev pub first_in : List ℕ → Option ℕ
 first_in [] = None
@@ -39,11 +32,7 @@ rest_in (x ∷ xs) = xs
 -- what comes after the first x
 abbrev pub after_in : ℕ → List ℕ → Option ℕ
 after_in x [] = None
-after_in x (y ∷ ys) = cond (y == x) (first_in ys) (after_in x ys)
-
--- a function with its value at one number changed
-abbrev pub with_at : {X : Type 0} → ℕ → X → (ℕ → X) → ℕ → X
-with_at k x f j = cond (k == j) x (f j)
+after_in x (y ∷ ys) = cond (x == y) (first_in ys) (after_in x ys)
 
 -- the areas of each anon_vma, once an area is no longer linked to this one
 abbrev pub left_by : ℕ → Option ℕ → (ℕ → List ℕ) → ℕ → List ℕ
@@ -55,14 +44,14 @@ abbrev pub left_by_all : ℕ → List ℕ → (ℕ → List ℕ) → ℕ → Lis
 left_by_all area anons f anon = cond (is_in anon anons) (without area (f anon)) (f anon)
 
 abbrev pub one_if : Bool → ℕ
-one_if true = 1
-one_if false = 0
+one_if b = if b then 1 else 0
 
 -- each map is the other's inverse, and each link stands once in each
 pub record AreMutual (chain_of users_of : ℕ → List ℕ) : Type 0 where
   pub inverse : (area anon : ℕ)
-      → how_many area (users_of anon) ≡ one_if (is_in anon (chain_of area))
-  pub once : (area anon : ℕ) → how_many anon (chain_of area) ≡ one_if (is_in anon (chain_of area))
+      → how_many (λ a. area == a) (users_of anon) ≡ one_if (is_in anon (chain_of area))
+  pub once : (area anon : ℕ)
+      → how_many (λ v. anon == v) (chain_of area) ≡ one_if (is_in anon (chain_of area))
 
 -- no link is made twice
 abbrev pub AreOnce : List Link → Type 0
@@ -72,4 +61,4 @@ AreOnce (l ∷ ls) = (is_in l.1 (chain_of ls l.0) ≡ false) × AreOnce ls
 -- without the first link of an area
 abbrev pub popped : ℕ → List Link → List Link
 popped area [] = []
-popped area (l ∷ ls) = cond (l.0 == area) ls (l ∷ popped area ls)
+popped area (l ∷ ls) = cond (area == l.0) ls (l ∷ popped area ls)

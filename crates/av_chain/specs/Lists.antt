@@ -1,4 +1,5 @@
 -- How `Links` keeps its links in memory.
+use Rattle.av_base.specs.Words.{is_in}
 use Rattle.std.specs.Prelude.{◌≡◌, ℕ, false, List, [], ◌∷◌, ◌++◌, Option, Some, None, option_map, nat_eq}
 use Rattle.std.specs.HashMap.{get}
 use denote.RawPtr.{Ptr}
@@ -9,7 +10,7 @@ use Rattle.av_chain.specs.declared.node.Place.{Place}
 use Rattle.av_chain.specs.declared.lists.Lists.{Lists}
 use Rattle.av_chain.specs.Nodes.{Block, found}
 use Rattle.av_chain.specs.Rows.{row, IsThreaded}
-use Rattle.av_chain.specs.Links.{Link, is_in, AreOnce}
+use Rattle.av_chain.specs.Links.{Link, AreOnce}
 
 -- the links that the nodes are, in the order in which they were made
 abbrev pub links_of : List Block → List Link

@@ -1,6 +1,7 @@
 -- The two lists that each node lies in, as they are laid out in memory.
 use Rattle.std.specs.Prelude.{◌≡◌, ℕ, suc, ◌+◌, ◌-◌, true, ◌==◌, cond, List, [], ◌∷◌, length, Option, Some, None}
 use denote.RawPtr.{Ptr}
+use Rattle.av_base.specs.Words.{with_at}
 use Rattle.av_chain.specs.Nodes.{Block, same_ptr, has_place}
 use Rattle.av_chain.specs.declared.node.Way.{Way}
 use Rattle.av_chain.specs.declared.node.Way.TheVariants.{Area, Anon}
@@ -57,7 +58,7 @@ at_block b = record { ptr = b.0 }
 -- the nodes of one list
 abbrev pub row : Way → ℕ → List Block → List Block
 row w k [] = []
-row w k (b ∷ bs) = cond (key_of w b.1 == k) (b ∷ row w k bs) (row w k bs)
+row w k (b ∷ bs) = cond (k == key_of w b.1) (b ∷ row w k bs) (row w k bs)
 
 -- the place of the first, where `after` comes after all
 abbrev pub first_or : Option Place → List Block → Option Place
@@ -115,13 +116,9 @@ abbrev pub shrunk : Sides → Option Head → Option Head
 shrunk s None = None
 shrunk s (Some h) = kept s h s.before s.after
 
--- the head of one list is changed
-abbrev pub with_head : ℕ → Option Head → (ℕ → Option Head) → ℕ → Option Head
-with_head k h heads j = cond (k == j) h (heads j)
-
 -- the heads, once that of one list is this one
 abbrev pub HaveHead : ℕ → Option Head → (ℕ → Option Head) → (ℕ → Option Head) → Type 0
-HaveHead k h old new = (j : ℕ) → new j ≡ with_head k h old j
+HaveHead k h old new = (j : ℕ) → new j ≡ with_at k h old j
 
 -- the node is the last of the list with this head: the one before it leads on to it
 abbrev pub joined : Way → Place → Option Head → List Block → List Block

@@ -1,10 +1,11 @@
 //! The nodes with the heads of their lists.
+ghost use Rattle.av_base.specs.Words.{is_in};
 ghost use Rattle.std.specs.Prelude.{◌≡◌, ℕ, ◌-◌, ◌<◌, ◌^◌, [], ◌∷◌, ◌++◌, Some, None, true, false, IfOk, OnOk, OnErr, IfSome, IfNone, is_some, length, nat_eq};
 ghost use Rattle.std.specs.HashMap.{get, spare};
 ghost use Rattle.av_chain.specs.declared.node.Way.TheVariants.{Area as AreaWay, Anon as AnonWay};
 ghost use Rattle.av_chain.specs.Nodes.{has_place, removed};
 ghost use Rattle.av_chain.specs.Rows.{Reaches, last_of, first_or, row};
-ghost use Rattle.av_chain.specs.Links.{chain_of, is_in, after_in};
+ghost use Rattle.av_chain.specs.Links.{chain_of, after_in};
 ghost use Rattle.av_chain.specs.Lists.{links_of, links_in, AreKept, IsLinkAt, anon_there};
 
 use crate::node::{Head, Node, Place, Sides, Way};

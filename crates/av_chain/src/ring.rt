@@ -1,6 +1,7 @@
 //! Taking an area out of all its lists, one node after another.
+ghost use Rattle.av_base.specs.Words.{with_at};
 ghost use Rattle.std.specs.Prelude.{◌≡◌, ℕ, ◌+◌, List, [], length, is_some};
-ghost use Rattle.av_chain.specs.Links.{first_in, rest_in, with_at, left_by, left_by_all, one_if};
+ghost use Rattle.av_chain.specs.Links.{first_in, rest_in, left_by, left_by_all, one_if};
 
 use crate::steps::Steps;
 use std::sync::ledger::Ledger;

@@ -1,5 +1,6 @@
+use Rattle.av_base.specs.Words.{with_at}
 use Rattle.std.proofs.Common.{◌≡◌, [], ◌∷◌, ◌++◌, sym, ap, ◌∙◌, Some, append_assoc, length-append, arith}
-use Rattle.av_chain.specs.Links.{with_at, left_by, rest_in}
+use Rattle.av_chain.specs.Links.{left_by, rest_in}
 use Rattle.av_chain.proofs.TwoMaps.{with_at_here, with_at_twice, left_one_more, first_some}
 use Rattle.av_chain.proofs.ring.unlink_from.Goals as goal
 

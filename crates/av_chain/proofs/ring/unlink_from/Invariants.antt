@@ -1,5 +1,6 @@
+use Rattle.av_base.specs.Words.{with_at}
 use Rattle.std.proofs.Common.{◌≡◌, ℕ, ◌+◌, List, ◌++◌, length}
-use Rattle.av_chain.specs.Links.{with_at, left_by_all}
+use Rattle.av_chain.specs.Links.{left_by_all}
 use Rattle.av_chain.proofs.ring.unlink_from.Given as goal
 
 abbrev pub invariant-loop-anon : goal.invariant-loop-anon

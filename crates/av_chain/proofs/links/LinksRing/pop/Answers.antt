@@ -1,5 +1,6 @@
+use Rattle.av_base.specs.Words.{with_at}
 use Rattle.std.proofs.Common.{◌≡◌, sym, ap, ◌∙◌, None}
-use Rattle.av_chain.specs.Links.{chain_of, users_of, first_in, rest_in, with_at, left_by}
+use Rattle.av_chain.specs.Links.{chain_of, users_of, first_in, rest_in, left_by}
 use Rattle.av_chain.specs.Lists.{links_of, anon_there}
 use Rattle.av_chain.proofs.Passing.{first_link}
 use Rattle.av_chain.proofs.Drained.{first_has, first_removed}

@@ -1,7 +1,7 @@
+use Rattle.av_base.specs.Words.{is_in}
 use Rattle.std.proofs.Common.{◌≤◌, length, refl, sym, ap, ◌∙◌, subst, ne_eqb}
 use Rattle.av_chain.specs.declared.node.Way.TheVariants.{Area}
 use Rattle.av_chain.specs.Rows.{row}
-use Rattle.av_chain.specs.Links.{is_in}
 use Rattle.av_chain.specs.Lists.{anons_of}
 use Rattle.av_chain.proofs.Passing.{chain_row, past_start, past_has, past_split, past_next, past_all, cut, is_in_past, is_in_not}
 use Rattle.av_chain.proofs.lists.Lists.find.Goals as goal
@@ -30,7 +30,7 @@ pub loop-step-preserved : goal.loop-step-preserved
 loop-step-preserved c =
     let bs = c.args.self.now.nodes.blocks in
     let next = past_next Area c.args.area bs c.loop-step.at c.loop-step._step c.loop-step.invariant.0 c.in_ok-place.place c.in_ok-place.was c.args.self.now.nodes.apart c.get-node.result.now c.get-node.ensures (c.requires.areas_lead.run c.args.area) in
-    (next, is_in_not c.args.anon c.loop-step.invariant.0.0 (c.in_ok-place.place.ptr, c.get-node.result.now) (ne_eqb c.get-node.result.now.anon c.args.anon c.if-node-anon.false) c.loop-step.invariant.1)
+    (next, is_in_not c.args.anon c.loop-step.invariant.0.0 (c.in_ok-place.place.ptr, c.get-node.result.now) (ne_eqb c.args.anon c.get-node.result.now.anon (λ e. c.if-node-anon.false (sym e))) c.loop-step.invariant.1)
 
 pub returns-clause-variant : goal.returns-clause-variant
 returns-clause-variant c =

@@ -1,6 +1,6 @@
+use Rattle.av_base.specs.Words.{is_in}
 use Rattle.std.proofs.Common.{◌≡◌, false}
 use Rattle.av_chain.specs.declared.node.Way.TheVariants.{Area}
-use Rattle.av_chain.specs.Links.{is_in}
 use Rattle.av_chain.specs.Lists.{anons_of}
 use Rattle.av_chain.proofs.Passing.{IsPast}
 use Rattle.av_chain.proofs.lists.Lists.find.Given as goal
