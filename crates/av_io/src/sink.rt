@@ -1,11 +1,10 @@
 //! Sinks for bytes.
 
-ghost use Rattle.std.specs.Prelude.{◌≡◌, ℕ, ◌<◌, ◌≤◌, List, [], Option, Some, None, length, take, IfOk, IfErr, OnOk, OnErr, IsErrOf};
+ghost use Rattle.std.specs.Prelude.{◌≡◌, [], Some, None, length, IfOk, IfErr, OnOk, OnErr};
 ghost use Rattle.std.specs.Io.Buffered.{writer_buffer};
 ghost use Rattle.std.specs.IoError.{error_kind};
-ghost use Rattle.av_io.specs.Count.{one_more, Rose};
 ghost use Rattle.av_io.specs.Faults.{IsFresh, IsNextCall};
-ghost use Rattle.av_io.specs.Sink.{Gained, is_fault};
+ghost use Rattle.av_io.specs.Sink.{SinkView, Takes, TakesNothing, HandsOn, KeepsBack, is_fault};
 
 use crate::faults::{Failed, Faults};
 use std::alloc::Global;
@@ -23,37 +22,18 @@ pub enum SinkErr {
 
 /// A sink for bytes, which may keep some back until it is flushed.
 pub trait Sink {
-    /// What it holds, where it is told. A sink that tells keeps nothing back.
-    ghost held: { Self → Option (List ℕ) };
-
-    /// What it keeps back.
-    ghost kept_back: { Self → List ℕ };
-
-    /// How often a flush handed on all that was kept back.
-    ghost flushes: { Self → ℕ };
-
-    /// How often it failed.
-    ghost faults: { Self → ℕ };
+    /// What is told of it: what it holds and keeps back, and how often it was flushed and failed.
+    ghost view: { Self → SinkView };
 
     /// Adds a front of `piece`, at least a byte where there is one, and says how long it is.
     fn write(&mut self, piece: &[u8]) -> Result<usize, SinkErr>
-        ensures within { IfOk result (λ n. n ≤ length piece.now) }
-        ensures some { 0 < length piece.now → IfOk result (λ n. 0 < n) }
-        ensures bytes { IfOk result (λ n. Gained (held self.old) (held self.new) (take n piece.now)) }
-        ensures err { OnErr result (held self.new ≡ held self.old) }
-        ensures same_flushes { flushes self.new ≡ flushes self.old }
-        ensures never_falls { faults self.old ≤ faults self.new }
-        ensures cause { IsErrOf result SinkErr.Failed → Rose (faults self.old) (faults self.new) };
+        ensures ok { IfOk result (λ n. Takes (view self.old) (view self.new) n piece.now) }
+        ensures err { IfErr result (λ e. TakesNothing (view self.old) (view self.new) e) };
 
-    /// Hands on what was kept back. A sink that tells what it holds has nothing to hand on, and doesn't fail here.
+    /// Hands on what was kept back.
     fn flush(&mut self) -> Result<(), Failed>
-        ensures same { held self.new ≡ held self.old }
-        ensures handed_on { OnOk result (kept_back self.new ≡ []) }
-        ensures counted { OnOk result (flushes self.new ≡ one_more (flushes self.old)) }
-        ensures failed { OnErr result (held self.old ≡ None) }
-        ensures uncounted { OnErr result (flushes self.new ≡ flushes self.old) }
-        ensures never_falls { faults self.old ≤ faults self.new }
-        ensures cause { OnErr result (Rose (faults self.old) (faults self.new)) };
+        ensures ok { OnOk result (HandsOn (view self.old) (view self.new)) }
+        ensures err { OnErr result (KeepsBack (view self.old) (view self.new)) };
 }
 
 /// A sink in memory, which tells what it holds.
@@ -67,9 +47,12 @@ pub struct MemSink {
 impl MemSink {
     /// An empty sink, whose writes of these numbers fail, from 1.
     pub fn new(alloc: Global, failing: Vec<u64>) -> MemSink
-        ensures held { ⟦<MemSink as Sink>⟧.held result ≡ Some [] }
-        ensures flushes { ⟦<MemSink as Sink>⟧.flushes result ≡ 0 }
-        ensures faults { ⟦<MemSink as Sink>⟧.faults result ≡ 0 }
+        ensures view { ⟦<MemSink as Sink>⟧.view result ≡ record {
+          held = Some [];
+          kept_back = [];
+          flushes = 0;
+          faults = 0;
+        } }
         ensures calls { IsFresh result.faults failing }
     {
         MemSink {
@@ -81,30 +64,26 @@ impl MemSink {
 
     /// What was written.
     pub fn bytes(&self) -> &[u8]
-        ensures { Some result.now ≡ ⟦<MemSink as Sink>⟧.held self.now }
+        ensures { Some result.now ≡ (⟦<MemSink as Sink>⟧.view self.now).held }
     {
         self.bytes.as_slice()
     }
 }
 
 impl Sink for MemSink {
-    ghost held = { λ s. Some s.bytes.items };
+    ghost view = { λ s. record {
+      held = Some s.bytes.items;
+      kept_back = [];
+      flushes = s.flushes;
+      faults = s.faults.count;
+    } };
 
-    ghost kept_back = { λ _. [] };
-
-    ghost flushes = { λ s. s.flushes };
-
-    ghost faults = { λ s. s.faults.count };
-
+    /// Beside what the trait says: exactly the calls that are listed fail, and any other takes the whole piece, or is want of memory.
     fn write(&mut self, piece: &[u8]) -> Result<usize, SinkErr>
-        ensures within { IfOk result (λ n. n ≤ length piece.now) }
-        ensures some { 0 < length piece.now → IfOk result (λ n. 0 < n) }
-        ensures bytes { IfOk result (λ n. Gained (⟦<MemSink as Sink>⟧.held self.old) (⟦<MemSink as Sink>⟧.held self.new) (take n piece.now)) }
-        ensures err { OnErr result (⟦<MemSink as Sink>⟧.held self.new ≡ ⟦<MemSink as Sink>⟧.held self.old) }
-        ensures same_flushes { ⟦<MemSink as Sink>⟧.flushes self.new ≡ ⟦<MemSink as Sink>⟧.flushes self.old }
-        ensures never_falls { ⟦<MemSink as Sink>⟧.faults self.old ≤ ⟦<MemSink as Sink>⟧.faults self.new }
-        ensures cause { IsErrOf result SinkErr.Failed → Rose (⟦<MemSink as Sink>⟧.faults self.old) (⟦<MemSink as Sink>⟧.faults self.new) }
-        // Beside what the trait says: exactly the calls that are listed fail, and any other takes the whole piece, or is want of memory.
+        ensures ok { IfOk result (λ n. Takes (⟦<MemSink as Sink>⟧.view self.old)
+            (⟦<MemSink as Sink>⟧.view self.new) n piece.now) }
+        ensures err { IfErr result (λ e. TakesNothing (⟦<MemSink as Sink>⟧.view self.old)
+            (⟦<MemSink as Sink>⟧.view self.new) e) }
         ensures calls { IsNextCall self.old.faults self.new.faults (is_fault result) }
         ensures whole { IfOk result (λ n. n ≡ length piece.now) }
     {
@@ -134,9 +113,12 @@ pub struct WriteSink<W: Write + Drop> {
 impl<W: Write + Drop> WriteSink<W> {
     /// A sink over this writer, which keeps nothing back yet. The error is want of memory.
     pub fn new(alloc: Global, writer: W) -> io::Result<WriteSink<W>>
-        ensures empty { IfOk result (λ s. ⟦<WriteSink<W> as Sink>⟧.kept_back s ≡ []) }
-        ensures flushes { IfOk result (λ s. ⟦<WriteSink<W> as Sink>⟧.flushes s ≡ 0) }
-        ensures faults { IfOk result (λ s. ⟦<WriteSink<W> as Sink>⟧.faults s ≡ 0) }
+        ensures ok { IfOk result (λ s. ⟦<WriteSink<W> as Sink>⟧.view s ≡ record {
+          held = None;
+          kept_back = [];
+          flushes = 0;
+          faults = 0;
+        }) }
         ensures err { IfErr result (λ e. error_kind e ≡ ErrorKind.OutOfMemory) }
     {
         Ok(WriteSink {
@@ -148,13 +130,12 @@ impl<W: Write + Drop> WriteSink<W> {
 }
 
 impl<W: Write + Drop> Sink for WriteSink<W> {
-    ghost held = { λ _. None };
-
-    ghost kept_back = { λ s. writer_buffer s.writer };
-
-    ghost flushes = { λ s. s.flushes };
-
-    ghost faults = { λ s. s.faults };
+    ghost view = { λ s. record {
+      held = None;
+      kept_back = writer_buffer s.writer;
+      flushes = s.flushes;
+      faults = s.faults;
+    } };
 
     fn write(&mut self, piece: &[u8]) -> Result<usize, SinkErr> {
         match self.writer.write(piece) {
