@@ -8,9 +8,10 @@ use Rattle.std.specs.Prelude.{slice_index}
 use Rattle.std.specs.Vec.{with_item}
 use Rattle.std.specs.declared.vec.Vec.{Vec}
 use Rattle.std.specs.declared.alloc.Global.{Global}
-use Rattle.av_swapdev.specs.Device.{with_at, with_page, HasPage, IsInverted, area_in, size_in, sizes_in, pages_in}
+use Rattle.av_base.specs.Words.{with_at}
+use Rattle.av_swapdev.specs.Device.{most_pages, with_page, HasPage, IsInverted, area_in, size_in, sizes_in, pages_in}
 
-get_set : {X : Type 0} (xs : List X) (i j : ℕ) (y d : X) → i < length xs → get_or (set xs i y) j d ≡ cond (eqb j i) y (get_or xs j d)
+pub get_set : {X : Type 0} (xs : List X) (i j : ℕ) (y d : X) → i < length xs → get_or (set xs i y) j d ≡ cond (eqb j i) y (get_or xs j d)
 get_set xs i j y d h = split (eqb j i) refl
   where
     split : (b : Bool) → eqb j i ≡ b → get_or (set xs i y) j d ≡ cond b y (get_or xs j d)
@@ -55,7 +56,7 @@ module _ (areas : List (Vec (List ℕ) Global)) (area page : ℕ) (pages : Vec (
       split a p false = refl
 
   pub sizes_written : (attached : List Bool) → sizes_in attached (set areas area (with_item pages page bytes)) ≡ sizes_in attached areas
-  sizes_written attached = λ i a. ap (λ (n : ℕ). cond (get_or attached a false) (Some (min n 1048576)) None) (ap length (area_written a) ∙ split a (eqb a area) refl) i
+  sizes_written attached = λ i a. ap (λ (n : ℕ). cond (get_or attached a false) (Some (min n most_pages)) None) (ap length (area_written a) ∙ split a (eqb a area) refl) i
     where
       split : (a : ℕ) (b : Bool) → eqb a area ≡ b → length (cond b (set pages.items page bytes) (area_in areas a)) ≡ length (area_in areas a)
       split a true e = let here : area ≡ a = grind (arith, nat_tests) in length-set pages.items page bytes ∙ ap length own ∙ ap (λ (k : ℕ). length (area_in areas k)) here
