@@ -2,6 +2,7 @@ pub mod Cuts
 pub mod Emptying
 pub mod Joins
 pub mod Mappings
+pub mod PageByPage
+pub mod Parts
 pub mod Places
-pub mod Protects
 pub mod Reaches

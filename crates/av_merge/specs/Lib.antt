@@ -1,3 +1,4 @@
+pub mod Change
 pub mod Laid
 pub mod Mapping
 pub mod Pages

@@ -1,8 +1,9 @@
 -- What a process has on its pages: for each page the area that holds it. And what cutting, joining and emptying make of that.
-use Rattle.std.specs.Prelude.{◌≡◌, ℕ, ◌+◌, ◌-◌, ◌*◌, ◌<◌, ◌≤◌, true, false, min, max, Bool, ◌&&◌, nat_lt, if◌then◌else◌, List, Option, Some, None, option_map, option_and_then}
+use Rattle.std.specs.Prelude.{◌≡◌, ℕ, zero, suc, ◌+◌, ◌-◌, ◌*◌, ◌<◌, ◌≤◌, true, false, not, ◌==◌, min, max, Bool, ◌&&◌, nat_lt, if◌then◌else◌, List, Option, Some, None, option_map, option_and_then}
+use Rattle.std.specs.Option.{option_or}
 use Rattle.av_base.specs.declared.prot.Prot.{Prot}
 use Rattle.av_vma.specs.declared.area.Area.{Area}
-use Rattle.av_vma.specs.Join.{are_mergeable, first_of, past_of}
+use Rattle.av_vma.specs.Join.{are_mergeable, first_of, past_of, same_prot}
 use Rattle.av_base.specs.Words.{within}
 use Rattle.av_vmatree.specs.declared.span.Span.{Span}
 use Rattle.av_vmatree.specs.Spans.{area_at}
@@ -45,10 +46,6 @@ placed area on page = if has_page area page then Some area else on page
 abbrev pub fresh_area : ℕ → ℕ → ℕ → Prot → Area
 fresh_area p from past prot = record { pid = p; start = 4096 * from; end = 4096 * past; prot = prot; flags = 0; pgoff = from; anon = None }
 
--- the areas on the pages from one to below another get a protection
-abbrev pub protected : ℕ → ℕ → Prot → Pages → Pages
-protected from past prot on page = if within from (past - from) page then option_map (λ (area : Area). record area { prot = prot }) (on page) else on page
-
 -- how far a change goes that ends at the first page that isn't taken: all before it are
 pub record IsReached (is_taken : ℕ → Bool) (from to past : ℕ) : Type 0 where
   pub lowest : from ≤ past
@@ -58,9 +55,9 @@ pub record IsReached (is_taken : ℕ → Bool) (from to past : ℕ) : Type 0 whe
 
 -- ---- joined
 
--- two areas that adjoin, as one
+-- two areas that adjoin, as one, with the anon_vma that either has
 abbrev pub merged : Area → Area → Area
-merged left right = record left { end = right.end }
+merged left right = record left { end = right.end; anon = option_or left.anon right.anon }
 
 -- whether two areas join. No area has a chain yet, so its length is 0
 abbrev pub join : Area → Area → Bool
@@ -79,3 +76,50 @@ joined_at at on page = tried (on (at - 1)) (on at) page (on page)
 -- an area is tried with the one before, then with the one after
 abbrev pub joined_around : ℕ → ℕ → Pages → Pages
 joined_around from past on = joined_at past (joined_at from on)
+
+-- ---- changed
+
+-- what a change makes of an area: of its protection, of its flags
+pub record Effect : Type 0 where
+  pub prot : Prot → Prot
+  pub flags : ℕ → ℕ
+
+-- the area with it
+abbrev pub with_effect : Effect → Area → Area
+with_effect effect area =
+    record area { prot = effect.prot area.prot; flags = effect.flags area.flags }
+
+-- whether it makes the area another
+abbrev pub alters : Effect → Area → Bool
+alters effect area =
+    not (same_prot (effect.prot area.prot) area.prot && (effect.flags area.flags == area.flags))
+
+-- whether it makes another of the area on a page
+abbrev pub alters_at : Effect → Option Area → Bool
+alters_at effect None = false
+alters_at effect (Some area) = alters effect area
+
+-- the areas on the pages from one to below another have the effect
+abbrev pub changed : ℕ → ℕ → Effect → Pages → Pages
+changed from past effect on page =
+    if within from (past - from) page then option_map (with_effect effect) (on page) else on page
+
+-- a part of an area is cut out, changed, and joined with what is before it, then with what is after
+abbrev pub part_changed : ℕ → ℕ → Effect → Pages → Pages
+part_changed from past effect on =
+    joined_around from past (changed from past effect (cut_at past (cut_at from on)))
+
+-- so is one page, where its area isn't so already
+abbrev pub page_changed : Effect → ℕ → Pages → Pages
+page_changed effect page on =
+    if alters_at effect (on page) then part_changed page (page + 1) effect on else on
+
+-- n pages from one on, in turn
+abbrev pub pages_changed : Effect → ℕ → ℕ → Pages → Pages
+pages_changed effect from zero on = on
+pages_changed effect from (suc n) on =
+    pages_changed effect (from + 1) n (page_changed effect from on)
+
+-- the effect of giving a protection
+abbrev pub to_prot : Prot → Effect
+to_prot prot = record { prot = λ _. prot; flags = λ flags. flags }

@@ -8,7 +8,7 @@ ghost use Rattle.av_merge.specs.Process.{AreAreasOf, NoneCrosses, Stays};
 
 use crate::placing::{add, replace};
 use av_vma::{Area, AreaId, Areas, index};
-use av_base::{LOW_PAGE, TOP_PAGE};
+use av_base::{LOW_PAGE, PAGE_SIZE, TOP_PAGE};
 use av_vmatree::Tree;
 use std::alloc::AllocError;
 
@@ -22,7 +22,7 @@ pub fn split(areas: &mut Areas, tree: &mut Tree, area: AreaId, at: u64) -> Resul
     ensures pages { OnOk result ((page : ℕ) → pages_by (area_of areas.new) tree.new page ≡ cut_at at (pages_by (area_of areas.old) tree.old) page) }
 {
     let whole = areas.get(area);
-    let middle = 4096 * at;
+    let middle = PAGE_SIZE * at;
     let lower = Area {
         end: middle,
         ..whole
@@ -44,7 +44,7 @@ pub fn split_before(areas: &mut Areas, tree: &mut Tree, at: u64) -> Result<(), A
     ensures none_crosses { OnOk result (NoneCrosses at tree.new) }
 {
     match tree.find(at) {
-        Some(area) if areas.get(area).start / 4096 < at => split(areas, tree, area, at),
+        Some(area) if areas.get(area).start / PAGE_SIZE < at => split(areas, tree, area, at),
         _ => Ok(()),
     }
 }
@@ -72,7 +72,7 @@ fn take_out(areas: &mut Areas, tree: &mut Tree, from: u64, to: u64)
 {
     // No area begins with page 0.
     while let Some(area) = tree.after(from.saturating_sub(1)) {
-        let start = areas.get(area).start / 4096;
+        let start = areas.get(area).start / PAGE_SIZE;
         if to <= start {
             return;
         }

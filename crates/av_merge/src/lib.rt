@@ -13,10 +13,12 @@ mod joining;
 mod laws;
 mod placing;
 
-pub use changing::{map, protect};
+pub use changing::{Change, map, modify};
 pub use cutting::{clear, cut, split};
 pub use joining::join_around;
-pub use laws::{areas_are_laid, cuts_keep_mappings, joins_keep_mappings};
+pub use laws::{
+    areas_are_laid, cuts_keep_mappings, joins_keep_mappings, parts_are_changed_page_by_page,
+};
 
 #[cfg(test)]
 mod tests;

@@ -8,6 +8,7 @@ ghost use Rattle.av_vmatree.specs.Spans.{IsFree, span_of, taken, without_area};
 ghost use Rattle.av_merge.specs.Pages.{pages_by, placed};
 ghost use Rattle.av_merge.specs.Process.{AreAreasOf, IsWhole, Stays};
 
+use av_base::PAGE_SIZE;
 use av_vma::{Area, AreaId, Areas};
 use av_vmatree::Tree;
 use std::alloc::AllocError;
@@ -21,7 +22,7 @@ pub fn add(areas: &mut Areas, tree: &mut Tree, area: Area) -> Result<(), AllocEr
     ensures pages { OnOk result ((page : ℕ) → pages_by (area_of areas.new) tree.new page ≡ placed area (pages_by (area_of areas.old) tree.old) page) }
 {
     let number = areas.add(area)?;
-    match tree.insert(number, area.start / 4096, area.end / 4096) {
+    match tree.insert(number, area.start / PAGE_SIZE, area.end / PAGE_SIZE) {
         Ok(()) => Ok(()),
         Err(error) => {
             areas.remove(number);
@@ -39,6 +40,6 @@ pub fn replace(areas: &mut Areas, tree: &mut Tree, number: AreaId, area: Area)
     ensures stands { Stays area.pid (area_of areas.old) (area_of areas.new) tree.new }
     ensures pages { (page : ℕ) → pages_by (area_of areas.new) tree.new page ≡ placed area (pages_by (with_at number None (area_of areas.old)) tree.old) page }
 {
-    tree.set_end(number, area.start / 4096, area.end / 4096);
+    tree.set_end(number, area.start / PAGE_SIZE, area.end / PAGE_SIZE);
     areas.change(number, area);
 }
