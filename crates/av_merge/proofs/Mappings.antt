@@ -9,10 +9,10 @@ use Rattle.av_base.specs.declared.prot.Prot.{Prot}
 use Rattle.av_vma.specs.Join.{first_of, past_of, index_of, same_prot, share_anon}
 use Rattle.av_base.specs.Words.{within}
 use Rattle.av_vmatree.specs.declared.span.Span.{Span}
-use Rattle.av_merge.specs.Laid.{AreLaid}
+use Rattle.av_vma.specs.Pages.{AreLaid, Pages, has_page, part_of, cut_at, emptied, placed, Effect, with_effect, affected, merged, join, tried, joined_at, joined_around, IsWhole}
 use Rattle.av_merge.specs.Mapping.{Mapping, mapping, mapping_in, remapped}
-use Rattle.av_merge.specs.Pages.{Pages, pages_by, has_page, part_of, cut_at, emptied, placed, Effect, with_effect, changed, merged, join, tried, joined_at, joined_around}
-use Rattle.av_merge.specs.Process.{AreAreasOf, IsWhole}
+use Rattle.av_merge.specs.Pages.{pages_by}
+use Rattle.av_merge.specs.Process.{AreAreasOf}
 use Rattle.av_merge.proofs.Places.{has_from, has_parts, is_on, one_area}
 
 -- the areas of a process are laid
@@ -304,7 +304,7 @@ emptied_maps from past on page = elim (within from (past - from) page) as (λ b.
 pub placed_maps : (area : Area) (on : Pages) (page : ℕ) → mapping (placed area on) page ≡ cond (has_page area page) (Some (mapping_in page area)) (mapping on page)
 placed_maps area on page = elim (has_page area page) as (λ b. option_map (mapping_in page) (cond b (Some area) (on page)) ≡ cond b (Some (mapping_in page area)) (mapping on page)) [ true ↦ refl | false ↦ refl ]
 
-pub changed_maps : (from past : ℕ) (effect : Effect) (on : Pages) (page : ℕ) → mapping (changed from past effect on) page ≡ cond (within from (past - from) page) (option_map (remapped effect) (mapping on page)) (mapping on page)
+pub changed_maps : (from past : ℕ) (effect : Effect) (on : Pages) (page : ℕ) → mapping (affected from past effect on) page ≡ cond (within from (past - from) page) (option_map (remapped effect) (mapping on page)) (mapping on page)
 changed_maps from past effect on page = elim (within from (past - from) page) as (λ b. option_map (mapping_in page) (cond b (option_map (with_effect effect) (on page)) (on page)) ≡ cond b (option_map (remapped effect) (option_map (mapping_in page) (on page))) (option_map (mapping_in page) (on page))) [
   | true ↦ each (on page)
   | false ↦ refl
@@ -321,7 +321,7 @@ cut_out_maps from to on laid page =
     ∙ ap (cond (within from (to - from) page) None) (cut_maps to (cut_at from on) (laid_cut from on laid) page ∙ cut_maps from on laid page)
 
 -- a part of an area gets a protection, and is joined with its neighbours
-pub part_maps_to : (from past : ℕ) (effect : Effect) (on now new : Pages) → AreLaid on → AreLaid now → ((page : ℕ) → now page ≡ changed from past effect (cut_at past (cut_at from on)) page) → ((page : ℕ) → new page ≡ joined_around from past now page) → (page : ℕ) → mapping new page ≡ cond (within from (past - from) page) (option_map (remapped effect) (mapping on page)) (mapping on page)
+pub part_maps_to : (from past : ℕ) (effect : Effect) (on now new : Pages) → AreLaid on → AreLaid now → ((page : ℕ) → now page ≡ affected from past effect (cut_at past (cut_at from on)) page) → ((page : ℕ) → new page ≡ joined_around from past now page) → (page : ℕ) → mapping new page ≡ cond (within from (past - from) page) (option_map (remapped effect) (mapping on page)) (mapping on page)
 part_maps_to from past effect on now new laid laid_after change joins page =
     ap (option_map (mapping_in page)) (joins page)
     ∙ around_maps from past now laid_after page

@@ -1,5 +1,4 @@
 pub mod Change
-pub mod Laid
 pub mod Mapping
 pub mod Pages
 pub mod Process

@@ -4,7 +4,7 @@ use Rattle.av_base.specs.declared.prot.Prot.{Prot}
 use Rattle.av_vma.specs.declared.area.Area.{Area}
 use Rattle.av_base.specs.Words.{within}
 use Rattle.av_vma.specs.Join.{index_of}
-use Rattle.av_merge.specs.Pages.{Pages, Effect}
+use Rattle.av_vma.specs.Pages.{Pages, Effect}
 
 -- the protection, flags and own anon_vma of a page's area, and the page's linear index
 pub record Mapping : Type 0 where
@@ -29,4 +29,4 @@ remapped effect m = record m { prot = effect.prot m.prot; flags = effect.flags m
 abbrev pub IsRemapped : ℕ → ℕ → Effect → Pages → Pages → Type 0
 IsRemapped from past effect old new = (page : ℕ) → mapping new page
     ≡ (if within from (past - from) page then option_map (remapped effect) (mapping old page)
-      else mapping old page)
+    else mapping old page)

@@ -1,4 +1,4 @@
-//! New areas, and areas that get another protection; each is joined with its neighbours where they go on in each other.
+//! New areas, and areas that are changed; each is joined with its neighbours where they go on in each other.
 
 ghost use Rattle.std.specs.Prelude.{◌≡◌, ℕ, ◌-◌, ◌*◌, ◌+◌, ◌<◌, ◌≤◌, ◌⊎◌, true, false, if◌then◌else◌, option_map, IsSomeAnd, IfSome, OnOk, IfOk};
 ghost use Rattle.av_vma.specs.Areas.{area_of};
@@ -8,19 +8,20 @@ ghost use Rattle.av_base.specs.Words.{within};
 ghost use Rattle.av_vmatree.specs.Spans.{IsFree, span_of, taken};
 ghost use Rattle.av_merge.specs.Change.{effect_of};
 ghost use Rattle.av_merge.specs.Mapping.{IsRemapped};
-ghost use Rattle.av_merge.specs.Pages.{IsReached, alters, fresh_area, joined_around, pages_by, pages_changed, part_changed, placed, with_effect};
-ghost use Rattle.av_merge.specs.Process.{AreAreasOf, Stays};
+ghost use Rattle.av_merge.specs.Pages.{IsReached, pages_by};
+ghost use Rattle.av_vma.specs.Pages.{alters, fresh_area, joined_around, pages_changed, part_changed, placed, with_effect, mapped};
+ghost use Rattle.av_merge.specs.Process.{AreAreasOf, Stays, AreOfOne, StayOfOne, Becomes};
 
 use crate::cutting::split_before;
 use crate::joining::{join_around, join_at};
 use crate::placing::add;
-use av_vma::{Area, AreaId, Areas};
 use av_base::{PAGE_SIZE, Prot};
+use av_vma::{Area, AreaId, Areas};
 use av_vmatree::Tree;
 use std::alloc::AllocError;
 
-/// Maps the pages from `from` to below `to`, which are free in the process, as one area without an anon_vma, whose offset is its first
-/// page.
+/// Maps the pages from `from` to below `to`, which are free in the process, as one area without an
+/// anon_vma, whose offset is its first page.
 pub fn map(
     areas: &mut Areas,
     tree: &mut Tree,
@@ -35,7 +36,8 @@ pub fn map(
     requires high { to ≤ top_page }
     requires free { IsFree (taken tree.old) from to }
     ensures stands { Stays process (area_of areas.old) (area_of areas.new) tree.new }
-    ensures pages { OnOk result ((page : ℕ) → pages_by (area_of areas.new) tree.new page ≡ joined_around from to (placed (fresh_area process from to prot) (pages_by (area_of areas.old) tree.old)) page) }
+    ensures pages { OnOk result
+        (Becomes areas.old tree.old areas.new tree.new (mapped process from to prot)) }
 {
     let area = Area {
         pid: process,
@@ -78,9 +80,10 @@ impl Change {
     }
 }
 
-/// Changes the pages from `from` to below `to` up to the first that isn't mapped, and tells that one, else `to`.
+/// Changes the pages from `from` to below `to` up to the first that isn't mapped, and tells that
+/// one, else `to`.
 ///
-/// An area that is so already is neither cut nor joined (Linux's `vma_modify`). Want of memory may leave a part of the work.
+/// An area that is so already is neither cut nor joined (Linux's `vma_modify`).
 pub fn modify(
     areas: &mut Areas,
     tree: &mut Tree,
@@ -88,13 +91,12 @@ pub fn modify(
     to: u64,
     change: Change,
 ) -> Result<u64, AllocError>
-    requires stands { (p : ℕ) × AreAreasOf p (area_of areas.old) tree.old }
+    requires stands { AreOfOne areas.old tree.old }
     requires forward { from ≤ to }
-    ensures stands { (p : ℕ) → AreAreasOf p (area_of areas.old) tree.old
-        → Stays p (area_of areas.old) (area_of areas.new) tree.new }
+    ensures stands { StayOfOne areas.old tree.old areas.new tree.new }
     ensures reached { IfOk result (λ past. IsReached (taken tree.old) from to past) }
-    ensures pages { IfOk result (λ past. pages_by (area_of areas.new) tree.new
-        ≡ pages_changed (effect_of change) from (past - from) (pages_by (area_of areas.old) tree.old)) }
+    ensures pages { IfOk result (λ past. Becomes areas.old tree.old areas.new tree.new
+        (pages_changed (effect_of change) from (past - from))) }
     ensures mapping { IfOk result (λ past. IsRemapped from past (effect_of change)
         (pages_by (area_of areas.old) tree.old) (pages_by (area_of areas.new) tree.new)) }
 {
@@ -113,7 +115,8 @@ pub fn modify(
     Ok(to)
 }
 
-/// Changes the pages from `from` to below `past`, all of one area, and joins them with their neighbours.
+/// Changes the pages from `from` to below `past`, all of one area, and joins them with their
+/// neighbours.
 fn modify_part(
     areas: &mut Areas,
     tree: &mut Tree,
@@ -121,14 +124,13 @@ fn modify_part(
     past: u64,
     change: Change,
 ) -> Result<(), AllocError>
-    requires stands { (p : ℕ) × AreAreasOf p (area_of areas.old) tree.old }
+    requires stands { AreOfOne areas.old tree.old }
     requires some { from < past }
     requires inside { IsSomeAnd (pages_by (area_of areas.old) tree.old from)
         (λ area. past ≤ past_of area) }
-    ensures stands { (p : ℕ) → AreAreasOf p (area_of areas.old) tree.old
-        → Stays p (area_of areas.old) (area_of areas.new) tree.new }
-    ensures pages { OnOk result ((page : ℕ) → pages_by (area_of areas.new) tree.new page
-        ≡ part_changed from past (effect_of change) (pages_by (area_of areas.old) tree.old) page) }
+    ensures stands { StayOfOne areas.old tree.old areas.new tree.new }
+    ensures pages { OnOk result
+        (Becomes areas.old tree.old areas.new tree.new (part_changed from past (effect_of change))) }
     ensures mapping { OnOk result (IsRemapped from past (effect_of change)
         (pages_by (area_of areas.old) tree.old) (pages_by (area_of areas.new) tree.new)) }
 {

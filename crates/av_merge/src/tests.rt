@@ -4,8 +4,8 @@ ghost use Rattle.av_base.specs.Limits.{low_page, top_page};
 ghost use Rattle.av_merge.specs.Process.{AreAreasOf};
 
 use super::*;
-use av_vma::{Area, Areas};
 use av_base::{PAGE_SIZE, Prot};
+use av_vma::{Area, Areas};
 use av_vmatree::Tree;
 use std::test::Fail;
 

@@ -5,7 +5,7 @@ use Rattle.av_vma.specs.Join.{past_of}
 use Rattle.av_merge.specs.Pages.{pages_by}
 use Rattle.av_merge.specs.Change.{effect_of}
 use Rattle.av_merge.proofs.Places.{others_refl, stays_trans}
-use Rattle.av_merge.proofs.Reaches.{done_step, exact_end, part_exact, goes_on, pages_end, reached_end, reached_hole, same_already, same_exact, there, used_here}
+use Rattle.av_merge.proofs.ChangesReach.{done_step, part_exact, goes_on, reached_hole, same_already, same_exact, there, used_here}
 use Rattle.av_merge.proofs.changing.modify.Goals as goal
 
 pub returns-in_default-clause-reached : goal.returns-in_default-clause-reached

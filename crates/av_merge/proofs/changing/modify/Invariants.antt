@@ -1,7 +1,7 @@
 use Rattle.std.proofs.Common.{◌-◌}
 use Rattle.av_vma.specs.Areas.{area_of}
 use Rattle.av_merge.specs.Change.{effect_of}
-use Rattle.av_merge.proofs.Reaches.{IsDone}
+use Rattle.av_merge.proofs.ChangesReach.{IsDone}
 use Rattle.av_merge.proofs.changing.modify.Given as goal
 
 abbrev pub invariant-loop-page : goal.invariant-loop-page

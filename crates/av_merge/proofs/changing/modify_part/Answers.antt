@@ -5,7 +5,7 @@ use Rattle.av_vma.specs.Areas.{area_of}
 use Rattle.av_merge.specs.Change.{effect_of}
 use Rattle.av_merge.specs.Pages.{pages_by}
 use Rattle.av_merge.proofs.Places.{stays_trans}
-use Rattle.av_merge.proofs.Parts.{changed_stands, changed_stays, part_pages, part_mapping}
+use Rattle.av_merge.proofs.ChangesOfParts.{changed_stands, changed_stays, part_pages, part_mapping}
 use Rattle.av_merge.proofs.changing.modify_part.Goals as goal
 
 pub split_before-requires-2 : goal.split_before-requires-2

@@ -4,8 +4,9 @@ use Rattle.av_vma.specs.declared.area.Area.{Area}
 use Rattle.av_vma.specs.Areas.{area_of}
 use Rattle.av_vma.specs.Join.{first_of, past_of}
 use Rattle.av_vmatree.specs.Spans.{IsFree, span_of, taken, without_area}
-use Rattle.av_merge.specs.Pages.{pages_by, placed}
-use Rattle.av_merge.specs.Process.{IsWhole, Stays}
+use Rattle.av_merge.specs.Pages.{pages_by}
+use Rattle.av_vma.specs.Pages.{placed, IsWhole}
+use Rattle.av_merge.specs.Process.{Stays}
 use Rattle.av_merge.proofs.Joins.{join_whole, join_free, join_pages, join_stays, left_from, right_from}
 use Rattle.av_merge.proofs.joining.join_at.Goals as goal
 

@@ -9,8 +9,9 @@ use Rattle.av_base.specs.Words.{within, with_at}
 use Rattle.av_vmatree.specs.declared.span.Span.{Span}
 use Rattle.av_vmatree.specs.Spans.{area_at, span_of}
 use Rattle.av_merge.specs.Mapping.{mapping, remapped}
-use Rattle.av_merge.specs.Pages.{Pages, cut_at, has_page, joined_around, pages_by, part_of, Effect, with_effect, changed as changed_in}
-use Rattle.av_merge.specs.Process.{AreAreasOf, IsAreaOf, IsWhole, Stays}
+use Rattle.av_vma.specs.Pages.{Pages, cut_at, has_page, joined_around, part_of, Effect, with_effect, affected, IsWhole}
+use Rattle.av_merge.specs.Pages.{pages_by}
+use Rattle.av_merge.specs.Process.{AreAreasOf, IsAreaOf, Stays}
 use Rattle.av_merge.proofs.Places.{IsOn, change_others, change_pages, change_stands, has_parts, is_on, one_area, stays_trans}
 use Rattle.av_merge.proofs.Mappings.{laid_of, part_maps_to}
 
@@ -83,7 +84,7 @@ module _ (p from past number : ℕ) (effect : Effect) (area : Area) (areas one t
       (record { areas = changed_stands; others = change_others p number on.span (with_effect effect area) two changed spans'' stays'.areas there is now })
 
   -- the part's area is that of its pages alone, and has the effect
-  changed_pages : (page : ℕ) → pages_by changed spans'' page ≡ changed_in from past effect (cut_at past (cut_at from (pages_by areas spans))) page
+  changed_pages : (page : ℕ) → pages_by changed spans'' page ≡ affected from past effect (cut_at past (cut_at from (pages_by areas spans))) page
   changed_pages page =
       change_pages p number on.span (with_effect effect area) two changed spans'' stays'.areas there is now page
       ∙ ap (λ b. cond b (Some (with_effect effect area)) (pages_by two spans'' page)) bounds
@@ -101,7 +102,7 @@ module _ (p from past number : ℕ) (effect : Effect) (area : Area) (areas one t
       let k = subst (λ o. IfSome o (λ s. (page : ℕ) → new page ≡ joined_around s.from s.to (pages_by changed spans'') page)) there h in
       k page ∙ (λ i. joined_around ((on.is.from ∙ exact.begins) i) ((on.is.to ∙ exact.ends) i) (pages_by changed spans'') page)
 
-  pub part_pages : {T E : Type 0} (r : Result T E) (new : Pages) → OnOk r (IfSome (span_of spans'' number) (λ s. (page : ℕ) → new page ≡ joined_around s.from s.to (pages_by changed spans'') page)) → OnOk r ((page : ℕ) → new page ≡ joined_around from past (changed_in from past effect (cut_at past (cut_at from (pages_by areas spans)))) page)
+  pub part_pages : {T E : Type 0} (r : Result T E) (new : Pages) → OnOk r (IfSome (span_of spans'' number) (λ s. (page : ℕ) → new page ≡ joined_around s.from s.to (pages_by changed spans'') page)) → OnOk r ((page : ℕ) → new page ≡ joined_around from past (affected from past effect (cut_at past (cut_at from (pages_by areas spans)))) page)
   part_pages (Ok x) new h = λ page. joined_to new h page ∙ (λ i. joined_around from past (λ q. changed_pages q i) page)
   part_pages (Err e) new h = tt
 

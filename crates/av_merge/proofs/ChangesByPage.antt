@@ -1,17 +1,14 @@
--- A part of an area that is changed at once is changed as if its pages were, one by one.
-use Rattle.std.proofs.Common.{◌≡◌, ℕ, zero, suc, ◌+◌, ◌-◌, ◌*◌, ◌/◌, ◌<◌, ◌≤◌, min, max, Bool, true, false, not, cond, ◌&&◌, nat_lt, ◌==◌, ◌⊎◌, Option, Some, None, option_map, refl, sym, ap, subst, ◌∙◌, inl, inr, arith}
+-- A part of an area that is affected at once is affected as if its pages were, one by one.
+use Rattle.std.proofs.Common.{◌≡◌, ℕ, zero, suc, ◌+◌, ◌-◌, ◌*◌, ◌/◌, ◌<◌, ◌≤◌, min, max, Bool, true, false, not, cond, ◌&&◌, ◌==◌, ◌⊎◌, Option, Some, None, option_map, refl, sym, ap, ◌∙◌, inl, inr, arith}
 use Rattle.std.proofs.Math.Bool.{beq}
-use Rattle.std.proofs.lemmas.Bool.{and_parts, and_from, ltb-true, ltb-false, lt-ltb, le-ltb, eqb-true, eq-eqb, cases_lt, cases_Bool, cond-true, cond-false, both_ways, false_from_ne_true}
+use Rattle.std.proofs.lemmas.Bool.{and_from, lt-ltb, le-ltb, eq-eqb, cases_lt, cond-true, cond-false, both_ways, false_from_ne_true}
 use Rattle.std.proofs.lemmas.Bool.Decides.{nat_tests}
-use Rattle.std.proofs.lemmas.Option.{none-some, same_Some}
 use Rattle.std.specs.Option.{option_or}
 use Rattle.av_vma.specs.declared.area.Area.{Area}
 use Rattle.av_base.specs.declared.prot.Prot.{Prot}
 use Rattle.av_vma.specs.Join.{first_of, past_of, index_of, same_prot, share_anon}
 use Rattle.av_base.specs.Words.{within}
-use Rattle.av_merge.specs.Laid.{AreLaid}
-use Rattle.av_merge.specs.Pages.{Pages, Effect, with_effect, alters, alters_at, has_page, part_of, cut_at, changed, merged, join, tried, joined_at, part_changed, page_changed, pages_changed}
-use Rattle.av_merge.specs.Process.{IsWhole}
+use Rattle.av_vma.specs.Pages.{AreLaid, Pages, Effect, with_effect, alters, alters_at, has_page, part_of, cut_at, affected, merged, join, tried, joined_at, part_changed, page_changed, pages_changed, IsWhole}
 use Rattle.av_merge.proofs.Places.{has_from, has_parts, within_from}
 use Rattle.av_merge.proofs.Mappings.{either_same, join_is, laid_cut}
 
@@ -70,11 +67,11 @@ module _ (effect : Effect) (on : Pages) (laid : AreLaid on) (a : ℕ) (area : Ar
   abbrev ended : ℕ → Area → Area
   ended b x = record x { end = 4096 * b }
 
-  -- the area from page a on, changed
+  -- the area from page a on, affected
   abbrev part : Area
   part = with_effect effect (upper a)
 
-  -- the changed part up to some page, or it and what it was joined with
+  -- the affected part up to some page, or it and what it was joined with
   record IsGrown (x : Area) : Type 0 where
     pub start : x.start ≡ 4096 * first_of x
     pub low : first_of x ≤ a
@@ -124,15 +121,15 @@ module _ (effect : Effect) (on : Pages) (laid : AreLaid on) (a : ℕ) (area : Ar
       grown_out x b b (false_from_ne_true (has_page (ended b x) b) (λ h. let k = (ended_has b x b h).1 in omega arith))
       ∙ upper_rest b b ab (omega arith) less
 
-  -- ---- at the part's end, nothing joins before the rest is changed
+  -- ---- at the part's end, nothing joins before the rest is affected
 
   apart : (x : Area) → IsGrown x → (b : ℕ) → join (ended b x) (upper b) ≡ false
   apart x g b = false_from_ne_true (join (ended b x) (upper b)) (λ e.
       let j = join_is (ended b x) (upper b) e in
       both_ways (alters effect area)
       (ap not (and_from (same_prot (effect.prot area.prot) area.prot) (effect.flags area.flags == area.flags)
-          (ap (λ p. same_prot p area.prot) (sym g.prot ∙ j.prot) ∙ same_as_itself area.prot)
-          (eq-eqb (effect.flags area.flags) area.flags (sym g.flags ∙ j.flags))))
+      (ap (λ p. same_prot p area.prot) (sym g.prot ∙ j.prot) ∙ same_as_itself area.prot)
+      (eq-eqb (effect.flags area.flags) area.flags (sym g.flags ∙ j.flags))))
       does)
 
   kept : (x : Area) → IsGrown x → (b : ℕ) → a < b → b < past_of area → (q : ℕ) → joined_at b (grown x b) q ≡ grown x b q
@@ -143,7 +140,7 @@ module _ (effect : Effect) (on : Pages) (laid : AreLaid on) (a : ℕ) (area : Ar
       (λ i. tried (last i) (next i) q (grown x b q))
       ∙ ap (λ t. cond (t && has_page (merged (ended b x) (upper b)) q) (Some (merged (ended b x) (upper b))) (grown x b q)) (apart x g b)
 
-  -- ---- one page more is changed, and joins what is before it
+  -- ---- one page more is affected, and joins what is before it
 
   ended_part : (b c q : ℕ) (x : Area) → b ≤ c → q < c → part_of c q (ended b x) ≡ ended b x
   ended_part b c q x le less =
@@ -163,7 +160,7 @@ module _ (effect : Effect) (on : Pages) (laid : AreLaid on) (a : ℕ) (area : Ar
 
   module _ (x : Area) (g : IsGrown x) (b : ℕ) (ab : a < b) (less : b < past_of area) where
     abbrev wider : Pages
-    wider = changed b (b + 1) effect (cut_at (b + 1) (cut_at b (grown x b)))
+    wider = affected b (b + 1) effect (cut_at (b + 1) (cut_at b (grown x b)))
 
     wider_last : wider (b - 1) ≡ Some (ended b x)
     wider_last =
@@ -230,7 +227,7 @@ module _ (effect : Effect) (on : Pages) (laid : AreLaid on) (a : ℕ) (area : Ar
   -- ---- the part joins what is before it, whatever page it ends at
 
   abbrev first_pages : ℕ → Pages
-  first_pages b = changed a b effect (rest b)
+  first_pages b = affected a b effect (rest b)
 
   part_here : (b q : ℕ) → b ≤ past_of area → a ≤ q → q < b → first_pages b q ≡ Some (ended b part)
   part_here b q high from less =

@@ -1,5 +1,5 @@
 -- How far a change has come: all pages before were mapped, and are as the change makes them, page by page.
-use Rattle.std.proofs.Common.{◌≡◌, ℕ, zero, suc, ◌+◌, ◌-◌, ◌<◌, ◌≤◌, ◌==◌, Bool, true, false, cond, ◌&&◌, not, List, Option, Some, None, is_some, option_map, refl, sym, ap, subst, ◌∙◌, inl, inr, arith}
+use Rattle.std.proofs.Common.{◌≡◌, ℕ, zero, suc, ◌+◌, ◌-◌, ◌<◌, ◌≤◌, ◌==◌, Bool, true, false, cond, List, Option, Some, None, is_some, option_map, refl, sym, ap, subst, ◌∙◌, inl, inr, arith}
 use Rattle.std.specs.Prelude.{option_and_then, IsSome}
 use Rattle.std.proofs.lemmas.Bool.{cases_lt, and_parts, not-false, cond-false, eqb-true}
 use Rattle.std.proofs.lemmas.Bool.Decides.{nat_tests}
@@ -9,11 +9,12 @@ use Rattle.av_base.specs.Words.{within}
 use Rattle.av_vmatree.specs.declared.span.Span.{Span}
 use Rattle.av_vmatree.specs.Spans.{area_at, taken}
 use Rattle.av_merge.specs.Mapping.{IsRemapped, mapping, mapping_in, remapped}
-use Rattle.av_merge.specs.Pages.{Effect, IsReached, Pages, alters, alters_at, page_changed, part_changed, pages_by, pages_changed}
+use Rattle.av_vma.specs.Pages.{Effect, Pages, alters, alters_at, page_changed, part_changed, pages_changed}
+use Rattle.av_merge.specs.Pages.{IsReached, pages_by}
 use Rattle.av_merge.specs.Process.{AreAreasOf, Stays}
 use Rattle.av_merge.proofs.Places.{has_from, has_parts, is_on, one_area, others_refl, stays_trans, taken_is}
 use Rattle.av_merge.proofs.Mappings.{laid_of, prot_is}
-use Rattle.av_merge.proofs.PageByPage.{page_by_page}
+use Rattle.av_merge.proofs.ChangesByPage.{page_by_page}
 
 pub record IsDone (from page to : ℕ) (effect : Effect) (old new : ℕ → Option Area) (before spans : List Span) : Type 0 where
   pub stays : (p : ℕ) → AreAreasOf p old before → Stays p old new spans
