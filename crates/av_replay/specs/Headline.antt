@@ -2,7 +2,7 @@
 use Rattle.std.specs.Prelude.{◌≡◌, ◌≢◌, ℕ, ◌+◌, ◌^◌, ◌<◌, ◌≤◌, List, [], ◌∷◌, ◌++◌, ◌⊎◌, length, take, Option, None, IfSome, unwrap_or, replicate}
 use Rattle.std.specs.List.{flat_map, AllByRecursion}
 use Rattle.std.specs.Option.{option_to_list}
-use Rattle.av_trace.specs.Text.{text_of}
+use Rattle.av_trace.specs.Print.{text_of}
 use Rattle.av_plain.specs.Transcript.{Exchange, State, IsRun, at_first}
 use Rattle.av_kernel.specs.Machine.{Machine}
 use Rattle.av_kernel.specs.Kernel.{Stands}
