@@ -4,17 +4,19 @@ ghost use Rattle.std.specs.Prelude.{◌≡◌, ℕ, ◌+◌, ◌-◌, ◌^◌, �
 ghost use Rattle.std.specs.Ordering.{nat_cmp};
 ghost use Rattle.std.specs.BTreeMap.{get as tree_of};
 ghost use Rattle.av_vma.specs.Areas.{area_of};
-ghost use Rattle.av_vma.specs.Gap.{low_page, top_page, IsGap};
+ghost use Rattle.av_base.specs.Limits.{low_page, top_page};
+ghost use Rattle.av_vma.specs.Gap.{IsGap};
 ghost use Rattle.av_vmatree.specs.Spans.{IsFree, IsMet};
 ghost use Rattle.av_merge.specs.Pages.{IsReached};
 ghost use Rattle.av_merge.specs.Process.{AreAreasOf};
 ghost use Rattle.av_plain.specs.Stands.{prot_of};
 ghost use Rattle.av_kernel.specs.Spaces.{areas_of, is_taken, ranges_by, set_on, IsSpawned, IsChanged, IsEnded};
 ghost use Rattle.av_kernel.specs.Report.{AreRuns};
-ghost use Rattle.av_trace.specs.declared.reply.Row.TheVariants as row;
+ghost use Rattle.av_trace.specs.declared.row.Row.TheVariants as row;
 
 use av_trace::{Row, Rows};
-use av_vma::{Area, Areas, Prot};
+use av_vma::{Area, Areas};
+use av_base::{Prot};
 use av_vmatree::{Span, Tree};
 use std::alloc::{AllocError, Global};
 use std::collections::BTreeMap;

@@ -2,8 +2,8 @@
 use Rattle.std.specs.Prelude.{◌≡◌, ℕ, List, Some}
 use Rattle.av_trace.specs.declared.command.Command.{Command}
 use Rattle.av_trace.specs.declared.reply.Reply.{Reply}
-use Rattle.av_trace.specs.Grammar.{Says}
-use Rattle.av_trace.specs.Text.{text_of}
+use Rattle.av_trace.specs.Line.{Says}
+use Rattle.av_trace.specs.Print.{text_of}
 use Rattle.av_plain.specs.Transcript.{State}
 use Rattle.av_kernel.specs.Machine.{Machine}
 use Rattle.av_kernel.specs.Kernel.{Steps}

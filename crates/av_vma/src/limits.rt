@@ -1,5 +1,0 @@
-/// The lowest page that can be mapped.
-pub const LOW_PAGE: u64 = 16;
-
-/// The first page that no process can have.
-pub const TOP_PAGE: u64 = 0x7ffffffff;
