@@ -1,0 +1,31 @@
+use Rattle.std.proofs.Common.{◌≡◌, ◌∙◌, ℕ, ◌+◌, ◌-◌, cond, is_some, option_map, sym, ap, subst}
+use Rattle.std.specs.Prelude.{IfOk}
+use Rattle.av_vma.specs.Areas.{area_of}
+use Rattle.av_vma.specs.Ranges.{within}
+use Rattle.av_vmatree.specs.Spans.{IsFree, taken}
+use Rattle.av_merge.specs.Mapping.{mapping, with_prot}
+use Rattle.av_merge.specs.Pages.{Pages, pages_by, IsReached}
+use Rattle.av_spaces.specs.Spaces.{areas_of, pages_of, mapped, unmapped, AreThese, AreProtected, IsChanged}
+use Rattle.av_spaces.specs.Trees.{spaces_by}
+use Rattle.av_spaces.proofs.Trees.{not_dead, taken_as, lent_trees, lent_changed, on_ok}
+use Rattle.av_spaces.proofs.spaces.Spaces.map.Goals as goal
+
+pub unreachable-requires : goal.unreachable-requires
+unreachable-requires c = not_dead (area_of c.self.inside.areas) c.self.inside.trees c.args.process (sym c.in_default.ensures.value) (ap (λ s. is_some (areas_of s c.args.process)) c.self.view_is ∙ c.requires.lives)
+
+pub invariant_of-self : goal.invariant_of-self
+invariant_of-self c =
+    lent_trees (area_of c.self.inside.areas) (area_of c.map.new.areas) c.self.inside.trees (c.get_mut.follows.lender c.map.new.tree) c.args.process c.in-Some.tree.now c.map.new.tree
+    c.self.invariant c.in-Some.ensures.value (λ _. c.map.ensures.stands) (c.get_mut.follows.holds c.map.new.tree)
+
+pub map-requires-clause-free : goal.map-requires-clause-free
+map-requires-clause-free c =
+    subst (λ test. IsFree test c.args.from (c.args.from + c.args.pages)) (sym (taken_as (area_of c.self.inside.areas) c.self.inside.trees c.args.process c.in-Some.tree.now c.args.self.now c.self.invariant c.in-Some.ensures.value c.self.view_is)) c.requires.free
+
+pub returns : goal.returns
+returns c =
+    on_ok c.map.result (
+        lent_changed (area_of c.self.inside.areas) (area_of c.map.new.areas) c.self.inside.trees (c.get_mut.follows.lender c.map.new.tree) c.args.process c.in-Some.tree.now c.map.new.tree
+        c.self.invariant c.in-Some.ensures.value (λ _. c.map.ensures.stands) (c.get_mut.follows.holds c.map.new.tree) c.args.self.now c.self.view_is 
+        (λ on. AreThese (mapped c.args.process c.args.from (c.args.from + c.args.pages) c.args.prot on))
+    ) c.map.ensures.pages

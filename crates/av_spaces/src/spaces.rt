@@ -1,0 +1,203 @@
+//! The areas of every process that lives.
+
+ghost use Rattle.std.specs.Prelude.{◌≡◌, ℕ, ◌+◌, ◌^◌, ◌<◌, ◌≤◌, [], Some, None, true, false, is_some, length, IsSome, OnOk, OnErr, IfOk};
+ghost use Rattle.av_vma.specs.Areas.{area_of};
+ghost use Rattle.av_vma.specs.Gap.{low_page, top_page, IsGap};
+ghost use Rattle.av_vmatree.specs.Spans.{IsFree, IsMet};
+ghost use Rattle.av_merge.specs.Pages.{IsReached};
+ghost use Rattle.av_merge.specs.Process.{AreAreasOf};
+ghost use Rattle.av_spaces.specs.Spaces.{areas_of, pages_of, is_taken, mapped, unmapped, AreThese, AreProtected, IsSpawned, IsChanged, IsEnded};
+ghost use Rattle.av_spaces.specs.Trees.{areas_by};
+
+use av_vma::{Area, Areas, Prot};
+use av_vmatree::{Span, Tree};
+use std::alloc::{AllocError, Global};
+use std::collections::BTreeMap;
+use std::marker::Model;
+
+/// The areas of every process that lives, seen as the list of the processes, rising, each with its areas in the order of
+/// their pages.
+#[derive(Drop)]
+pub struct Spaces {
+    alloc: Global,
+    areas: Areas,
+    trees: BTreeMap<u16, Tree>,
+}
+
+impl Model for Spaces {
+    ghost use Rattle.std.specs.Prelude.{ℕ, List};
+    ghost use Rattle.av_vma.specs.Areas.{area_of};
+    ghost use Rattle.av_vma.specs.declared.area.Area.{Area};
+    ghost use Rattle.av_spaces.specs.Trees.{spaces_by, AreTrees};
+
+    ghost Value = { List (ℕ × List Area) };
+
+    ghost view = { λ s. spaces_by (area_of s.areas) s.trees.entries };
+
+    ghost invariant = { λ s. AreTrees (area_of s.areas) s.trees };
+}
+
+impl Spaces {
+    /// No process.
+    pub fn new(alloc: Global) -> Self
+        ensures { result ≡ [] }
+    {
+        Spaces {
+            alloc,
+            areas: Areas::new(alloc),
+            trees: BTreeMap::new(alloc),
+        }
+    }
+
+    /// How many processes live.
+    pub fn count(&self) -> usize
+        ensures { result ≡ length self.now }
+    {
+        self.trees.len()
+    }
+
+    /// Whether a process lives.
+    pub fn lives(&self, process: u16) -> bool
+        ensures { result ≡ is_some (areas_of self.now process) }
+    {
+        self.trees.contains_key(&process)
+    }
+
+    /// The area that holds a page, if it is mapped.
+    pub fn area(&self, process: u16, page: u64) -> Option<Area>
+        ensures area { result ≡ pages_of self.now process page }
+        ensures below { IsSome result → page < top_page }
+    {
+        let tree = self.trees.get(&process)?;
+        let number = tree.find(page)?;
+        Some(self.areas.get(number))
+    }
+
+    /// The greatest page from which on this many are free in a process that lives.
+    pub fn gap(&self, process: u16, pages: u64) -> Option<u64>
+        requires lives { is_some (areas_of self.now process) ≡ true }
+        requires some { 1 ≤ pages }
+        ensures { IsGap (is_taken self.now process) pages result }
+    {
+        let tree = self.trees.get(&process)?;
+        tree.gap(pages)
+    }
+
+    /// Gives a process that does not live no areas, so that it lives. Without memory all stays.
+    pub fn spawn(&mut self, process: u16) -> Result<(), AllocError>
+        requires { areas_of self.old process ≡ None }
+        ensures ok { OnOk result (IsSpawned self.old self.new process) }
+        ensures err { OnErr result (self.new ≡ self.old) }
+    {
+        self.trees.insert(process, Tree::new(self.alloc))?;
+        Ok(())
+    }
+
+    /// Whether none of these pages of a process that lives is mapped.
+    pub fn is_free(&self, process: u16, from: u64, pages: u64) -> bool
+        requires lives { is_some (areas_of self.now process) ≡ true }
+        requires past { from + pages < 2 ^ 64 }
+        ensures free { result ≡ true → IsFree (is_taken self.now process) from (from + pages) }
+        ensures met { result ≡ false → IsMet (is_taken self.now process) from (from + pages) }
+    {
+        let Some(tree) = self.trees.get(&process) else {
+            unreachable!()
+        };
+        tree.is_free(from, from + pages)
+    }
+
+    /// Maps free pages of a process that lives, as one area without an anon_vma. Once memory is wanting, nothing is
+    /// promised of any process's pages.
+    pub fn map(
+        &mut self,
+        process: u16,
+        from: u64,
+        pages: u64,
+        prot: Prot,
+    ) -> Result<(), AllocError>
+        requires lives { is_some (areas_of self.old process) ≡ true }
+        requires some { 1 ≤ pages }
+        requires low { low_page ≤ from }
+        requires high { from + pages ≤ top_page }
+        requires free { IsFree (is_taken self.old process) from (from + pages) }
+        ensures { OnOk result (IsChanged self.old self.new process
+            (AreThese (mapped process from (from + pages) prot (pages_of self.old process)))) }
+    {
+        let Some(tree) = self.trees.get_mut(&process) else {
+            unreachable!()
+        };
+        av_merge::map(&mut self.areas, tree, process, from, from + pages, prot)
+    }
+
+    /// Takes these pages away from a process that lives, those of them that are mapped. Without memory as for `map`.
+    pub fn unmap(&mut self, process: u16, from: u64, pages: u64) -> Result<(), AllocError>
+        requires lives { is_some (areas_of self.old process) ≡ true }
+        requires past { from + pages < 2 ^ 64 }
+        ensures { OnOk result (IsChanged self.old self.new process
+            (AreThese (unmapped from (from + pages) (pages_of self.old process)))) }
+    {
+        let Some(tree) = self.trees.get_mut(&process) else {
+            unreachable!()
+        };
+        av_merge::cut(&mut self.areas, tree, from, from + pages)
+    }
+
+    /// Gives these pages of a process that lives a protection, up to the first one that is not mapped, and tells that
+    /// one, else the page past them. Without memory as for `map`.
+    pub fn protect(
+        &mut self,
+        process: u16,
+        from: u64,
+        pages: u64,
+        prot: Prot,
+    ) -> Result<u64, AllocError>
+        requires lives { is_some (areas_of self.old process) ≡ true }
+        requires past { from + pages < 2 ^ 64 }
+        ensures reached { IfOk result (λ reached.
+            IsReached (is_taken self.old process) from (from + pages) reached) }
+        ensures ok { IfOk result (λ reached. IsChanged self.old self.new process
+            (AreProtected from reached prot (pages_of self.old process))) }
+    {
+        let Some(tree) = self.trees.get_mut(&process) else {
+            unreachable!()
+        };
+        av_merge::protect(&mut self.areas, tree, from, from + pages, prot)
+    }
+
+    /// Takes away a process that lives, with its areas.
+    pub fn end(&mut self, process: u16)
+        requires { is_some (areas_of self.old process) ≡ true }
+        ensures { IsEnded self.old self.new process }
+    {
+        let Some(tree) = self.trees.get_mut(&process) else {
+            unreachable!()
+        };
+        av_merge::clear(&mut self.areas, tree);
+        self.trees.remove(&process);
+    }
+
+    /// The areas of a process that lives, in the order of their pages, in time linear in their number.
+    pub fn areas(&self, process: u16) -> Result<Vec<Area>, AllocError>
+        requires { is_some (areas_of self.now process) ≡ true }
+        ensures { IfOk result (λ areas. areas_of self.now process ≡ Some areas.items) }
+    {
+        let Some(tree) = self.trees.get(&process) else {
+            unreachable!()
+        };
+        let mut spans = Vec::new(self.alloc);
+        tree.append_to(&mut spans)?;
+        areas_at(self.alloc, &self.areas, &spans)
+    }
+}
+
+/// The areas of these spans of one process, in their order.
+fn areas_at(alloc: Global, areas: &Areas, spans: &[Span]) -> Result<Vec<Area>, AllocError>
+    requires { (process : ℕ) × AreAreasOf process (area_of areas.now) spans.now }
+    ensures { IfOk result (λ list. list.items ≡ areas_by (area_of areas.now) spans.now) }
+{
+    let mut list = Vec::new(alloc);
+    for span in spans {
+        list.push(areas.get(span.area))?;
+    }
+    Ok(list)
+}
