@@ -6,7 +6,7 @@ use Rattle.std.proofs.lemmas.List.{append_assoc}
 use Rattle.std.specs.Prelude.{IsSome, option_and_then}
 use Rattle.std.specs.List.{cons_option}
 use Rattle.av_vma.specs.declared.area.Area.{Area}
-use Rattle.av_vma.specs.Gap.{top_page}
+use Rattle.av_base.specs.Limits.{top_page}
 use Rattle.av_vma.specs.Join.{first_of, past_of}
 use Rattle.av_vmatree.specs.declared.span.Span.{Span}
 use Rattle.av_vmatree.specs.Spans.{AreApart, AreDistinct, area_at, holds, span_of}

@@ -4,9 +4,9 @@ use Rattle.std.specs.Ordering.{nat_cmp}
 use Rattle.std.specs.FinMap.Entries.{find as find_key}
 use Rattle.std.specs.List.{find}
 use Rattle.av_vma.specs.declared.area.Area.{Area}
-use Rattle.av_vma.specs.declared.area.Prot.{Prot}
+use Rattle.av_base.specs.declared.prot.Prot.{Prot}
 use Rattle.av_vma.specs.Join.{first_of, past_of}
-use Rattle.av_vma.specs.Ranges.{within}
+use Rattle.av_base.specs.Words.{within}
 use Rattle.av_merge.specs.Mapping.{mapping, with_prot}
 use Rattle.av_merge.specs.Pages.{Pages, has_page, cut_at, emptied, placed, joined_around, fresh_area}
 use Rattle.av_merge.specs.Process.{IsWhole}

@@ -2,14 +2,16 @@
 
 ghost use Rattle.std.specs.Prelude.{◌≡◌, ℕ, ◌+◌, ◌^◌, ◌<◌, ◌≤◌, [], Some, None, true, false, is_some, length, IsSome, OnOk, OnErr, IfOk};
 ghost use Rattle.av_vma.specs.Areas.{area_of};
-ghost use Rattle.av_vma.specs.Gap.{low_page, top_page, IsGap};
+ghost use Rattle.av_base.specs.Limits.{low_page, top_page};
+ghost use Rattle.av_vma.specs.Gap.{IsGap};
 ghost use Rattle.av_vmatree.specs.Spans.{IsFree, IsMet};
 ghost use Rattle.av_merge.specs.Pages.{IsReached};
 ghost use Rattle.av_merge.specs.Process.{AreAreasOf};
 ghost use Rattle.av_spaces.specs.Spaces.{areas_of, pages_of, is_taken, mapped, unmapped, AreThese, AreProtected, IsSpawned, IsChanged, IsEnded};
 ghost use Rattle.av_spaces.specs.Trees.{areas_by};
 
-use av_vma::{Area, Areas, Prot};
+use av_base::Prot;
+use av_vma::{Area, Areas};
 use av_vmatree::{Span, Tree};
 use std::alloc::{AllocError, Global};
 use std::collections::BTreeMap;

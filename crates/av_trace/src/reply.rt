@@ -3,7 +3,7 @@
 ghost use Rattle.std.specs.Prelude.{◌≡◌, List, [], ◌∷◌, ◌++◌, length, OnOk, OnErr};
 
 use crate::bytes::Bytes;
-use av_vma::{Prot, Slot};
+use av_base::{Prot, Slot};
 use std::alloc::{AllocError, Global};
 use std::marker::Model;
 
@@ -203,7 +203,6 @@ pub struct Rows {
 }
 
 impl Model for Rows {
-    ghost use Rattle.std.specs.Prelude.{List};
     ghost use Rattle.av_trace.specs.declared.reply.Row.{Row};
 
     ghost Value = { List Row };
