@@ -10,3 +10,6 @@ mod tests;
 pub use pte::Pte;
 pub use table::{MapTable, Table};
 pub use tables::Tables;
+
+/// The page table that each process has. What uses page tables names this one alone.
+pub type PageTable = MapTable;
