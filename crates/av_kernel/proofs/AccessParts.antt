@@ -11,10 +11,10 @@ use Rattle.av_plain.specs.Step.{stored, Reads}
 use Rattle.av_plain.specs.Choice.{ChoosesAll}
 use Rattle.av_plain.specs.Transcript.{State}
 use Rattle.av_plain.proofs.AccessLaws.{after_all-append, notes_of-append, notes_of-noting, chooses-append, accesses-append, alike-all}
-use Rattle.av_kernel.specs.declared.mem.Mem.{Mem}
+use Rattle.av_reclaim.specs.declared.mem.Mem.{Mem}
 use Rattle.av_kernel.specs.declared.touched.Stop.{Stop}
 use Rattle.av_kernel.specs.declared.touched.Stop.TheVariants.{Segv, Oom}
-use Rattle.av_kernel.specs.View.{setting, count}
+use Rattle.av_reclaim.specs.Mem.{setting, count}
 use Rattle.av_kernel.specs.Page.{IsPageStep, ShowsPiece, how_stopped, world_after}
 use Rattle.av_kernel.specs.declared.access.Piece.{Piece}
 use Rattle.av_kernel.specs.Access.{IsAccess, IsPiece, world_served}

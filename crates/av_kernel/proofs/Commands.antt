@@ -27,13 +27,12 @@ use Rattle.av_pagetable.specs.Entries.{entry_at, has}
 use Rattle.av_pagetable.specs.declared.tables.Tables.{Tables}
 use Rattle.av_pagetable.specs.declared.table.MapTable.{MapTable}
 use Rattle.av_pagetable.specs.declared.pte.Pte.{Pte}
-use Rattle.av_kernel.specs.declared.mem.Mem.{Mem}
-use Rattle.av_kernel.specs.Spaces.{areas_of, IsSpawned, IsChanged}
-use Rattle.av_kernel.specs.View.{setting, plain, view, count, HasTables, Keeps}
-use Rattle.av_kernel.specs.Exit.{LedgerStands}
+use Rattle.av_reclaim.specs.declared.mem.Mem.{Mem}
+use Rattle.av_spaces.specs.Spaces.{areas_of, IsSpawned}
+use Rattle.av_kernel.specs.Map.{HasProts}
+use Rattle.av_reclaim.specs.Mem.{setting, plain, view, count, HasTables, Keeps, LedgerStands}
 use Rattle.av_kernel.specs.Command.{MemSteps}
-use Rattle.av_kernel.proofs.Parts.{kept-nothing}
-use Rattle.av_kernel.proofs.PageParts.{no_cache, no_frame_at, no_device}
+use Rattle.av_reclaim.proofs.Mem.{kept-nothing, no_cache, no_frame_at, no_device}
 use Rattle.av_kernel.proofs.PageSteps.{no_headers}
 
 at_number : (q p : ℕ) → eq_by_cmp nat_cmp q p ≡ (q == p)
@@ -124,7 +123,7 @@ module _ (old new : Mem) (s : State) (command : Command) (reply : Reply) (p : �
 
 -- the areas of a process that lives have changed
 module _ (old new : Mem) (s : State) (p : ℕ) (now : Process) (prots : ℕ → Option Prot) (keeps : Keeps old s) (alive : is_some (areas_of old.spaces p) ≡ true)
-    (spaces : IsChanged old.spaces new.spaces p prots) (is : (page : ℕ) → prots page ≡ option_map (λ (x : Page). x.prot) (now page)) where
+    (spaces : HasProts old.spaces new.spaces p prots) (is : (page : ℕ) → prots page ≡ option_map (λ (x : Page). x.prot) (now page)) where
   lives_as : (q : ℕ) → is_some (areas_of new.spaces q) ≡ is_some (areas_of old.spaces q)
   lives_as q = by (q == p) refl
     where
@@ -160,10 +159,10 @@ module _ (old new : Mem) (s : State) (p : ℕ) (now : Process) (prots : ℕ → 
 -- ---- the frames and the entries stay
 
 -- the tables and the areas change, the frames and the entries don't
-abbrev pub moved_on : Mem → Tables MapTable → List (ℕ × List Range) → Mem
+abbrev pub moved_on : Mem → ProcessTables → List (ℕ × List Range) → Mem
 moved_on old tables spaces = record { frames = old.frames; tables = tables; spaces = spaces }
 
-pub stays_orderly : (old : Mem) (tables : Tables MapTable) (spaces : List (ℕ × List Range)) (l : Ledger) → entry_at tables ≡ entry_at old.tables → LedgerStands old l → LedgerStands (moved_on old tables spaces) l
+pub stays_orderly : (old : Mem) (tables : ProcessTables) (spaces : List (ℕ × List Range)) (l : Ledger) → entry_at tables ≡ entry_at old.tables → LedgerStands old l → LedgerStands (moved_on old tables spaces) l
 stays_orderly old tables spaces l entries h = record {
   sound = h.sound;
   frames = record { frames = h.frames.frames; maps = h.frames.maps; slots = h.frames.slots; dirty = h.frames.dirty; free = h.frames.free };
@@ -178,7 +177,7 @@ stays_orderly old tables spaces l entries h = record {
 -- ---- spawn
 
 -- a process that didn't live does now
-module _ (old : Mem) (tables : Tables MapTable) (spaces : List (ℕ × List Range)) (s : State) (p : ℕ) (keeps : Keeps old s)
+module _ (old : Mem) (tables : ProcessTables) (spaces : List (ℕ × List Range)) (s : State) (p : ℕ) (keeps : Keeps old s)
     (absent : is_some (areas_of old.spaces p) ≡ false) (few : length old.spaces < 4096)
     (entries : entry_at tables ≡ entry_at old.tables) (processes : has tables ≡ with_at p true (has old.tables)) (spawned : IsSpawned old.spaces spaces p) where
   dead : lives s.world p ≡ false

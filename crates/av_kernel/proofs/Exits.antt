@@ -28,14 +28,13 @@ use Rattle.av_plain.specs.Transcript.{State, IsStep}
 use Rattle.av_plain.proofs.Laws.{both_first, both_second}
 use Rattle.av_plain.proofs.TakingLaws.{entry-ended, entry-others, exit-is-range}
 use Rattle.av_plain.proofs.SoundTaken.{process-ended, pages-ended}
-use Rattle.av_kernel.specs.declared.mem.Mem.{Mem}
-use Rattle.av_kernel.specs.Spaces.{areas_of, IsEnded}
-use Rattle.av_kernel.specs.View.{setting, plain, view, count, HasTables, Keeps}
+use Rattle.av_reclaim.specs.declared.mem.Mem.{Mem}
+use Rattle.av_spaces.specs.Spaces.{areas_of, IsEnded}
+use Rattle.av_reclaim.specs.Mem.{setting, plain, view, count, HasTables, Keeps, LedgerStands}
 use Rattle.av_kernel.specs.Command.{MemSteps}
-use Rattle.av_kernel.specs.Exit.{LedgerStands, HasTaken}
-use Rattle.av_kernel.proofs.Parts.{kept-nothing}
-use Rattle.av_kernel.proofs.PageParts.{no_cache}
-use Rattle.av_kernel.proofs.TakeLeast.{past_pages}
+use Rattle.av_reclaim.specs.Zap.{HasZapped}
+use Rattle.av_reclaim.proofs.Mem.{kept-nothing, no_cache}
+use Rattle.av_pagetable.proofs.Entries.{past_pages}
 use Rattle.av_kernel.proofs.Commands.{bare, is_number, kept-on, stepped}
 
 -- ---- the memories
@@ -91,11 +90,11 @@ entries_below k l p page stands some = by (nat_lt page page_bound) refl
         absurd (false≢true (ap (λ t. is_some (entry_of (plain t))) (sym (past_pages k.tables p page high)) ∙ ap is_some (stands.tables.entries p page) ∙ some))
 
 -- the entries that the whole range has taken are all of the process
-pub all_gone : (old mid : Mem) (l : Ledger) (p : ℕ) → LedgerStands old l → HasTaken old mid l (taking l (keys_in l p 0 page_bound)) → HasTaken old mid l (taking l (keys_of_process l p))
-all_gone old mid l p stands = subst (λ ks. HasTaken old mid l (taking l ks)) (sym (exit-is-range l p page_bound (λ page some. entries_below old l p page stands some)))
+pub all_gone : (old mid : Mem) (l : Ledger) (p : ℕ) → LedgerStands old l → HasZapped old mid l (taking l (keys_in l p 0 page_bound)) → HasZapped old mid l (taking l (keys_of_process l p))
+all_gone old mid l p stands = subst (λ ks. HasZapped old mid l (taking l ks)) (sym (exit-is-range l p page_bound (λ page some. entries_below old l p page stands some)))
 
-module _ (old mid : Mem) (tables : Tables MapTable) (spaces : List (ℕ × List Range)) (s : State) (p : ℕ) (keeps : Keeps old s) (alive : is_some (areas_of old.spaces p) ≡ true)
-    (taken : HasTaken old mid s.ledger (taking s.ledger (keys_of_process s.ledger p))) (bytes : (view mid).bytes ≡ (view old).bytes) (same_spaces : mid.spaces ≡ old.spaces) (same_tables : has mid.tables ≡ has old.tables) (same_count : count mid ≡ count old)
+module _ (old mid : Mem) (tables : ProcessTables) (spaces : List (ℕ × List Range)) (s : State) (p : ℕ) (keeps : Keeps old s) (alive : is_some (areas_of old.spaces p) ≡ true)
+    (taken : HasZapped old mid s.ledger (taking s.ledger (keys_of_process s.ledger p))) (bytes : (view mid).bytes ≡ (view old).bytes) (same_spaces : mid.spaces ≡ old.spaces) (same_tables : has mid.tables ≡ has old.tables) (same_count : count mid ≡ count old)
     (processes : has tables ≡ with_at p false (has mid.tables)) (entries : entry_at tables ≡ with_at p (λ page. Empty) (entry_at mid.tables)) (ended : IsEnded mid.spaces spaces p) where
   alive_now : lives s.world p ≡ true
   alive_now = sym (keeps.stands.areas.alive p) ∙ alive

@@ -15,13 +15,14 @@ use Rattle.av_plain.specs.Stands.{prot_of, Holds, IsKept}
 use Rattle.av_plain.specs.Transcript.{State}
 use Rattle.av_plain.proofs.Laws.{weight}
 use Rattle.av_plain.proofs.NoSwapLaws.{itself, place-page, free_is, zero_is}
-use Rattle.av_kernel.specs.declared.mem.Mem.{Mem}
+use Rattle.av_reclaim.specs.declared.mem.Mem.{Mem}
 use Rattle.av_kernel.specs.declared.touched.Stop.TheVariants.{Oom}
 use Rattle.av_kernel.specs.declared.touched.Touched.TheVariants.{Ready as ReadyAt, Stopped}
-use Rattle.av_kernel.specs.View.{setting, count, view, Keeps}
+use Rattle.av_reclaim.specs.Mem.{setting, count, view, Keeps}
 use Rattle.av_kernel.specs.Page.{permitted, frame_named, one_more, one_less, IsTouched, IsTaken}
 use Rattle.av_kernel.proofs.PageParts.{of_keeps}
-use Rattle.av_kernel.proofs.PageEntries.{given_to, equal_is}
+use Rattle.av_kernel.proofs.PageEntries.{given_to}
+use Rattle.av_reclaim.proofs.Mem.{equal_is}
 use Rattle.av_kernel.proofs.PageServes.{is_bare, bare_entry, bare_frame, bare_slot, need_fresh, need_split, serves, takes, out_is}
 use Rattle.av_kernel.proofs.PageTouched.{given_now, starved}
 use Rattle.av_kernel.proofs.PageSafe.{named_frame}

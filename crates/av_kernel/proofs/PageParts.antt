@@ -15,8 +15,8 @@ use Rattle.av_plain.specs.Transcript.{State}
 use Rattle.av_plain.proofs.Laws.{keys_total, weight, count-put}
 use Rattle.av_plain.proofs.LedgerLaws.{same_key, same_key-is, entry-set, mapped-set, is_sorted-set}
 use Rattle.av_plain.proofs.NoSwapLaws.{itself, key_is, no_slot, free_is, shared_is}
-use Rattle.av_kernel.specs.declared.mem.Mem.{Mem}
-use Rattle.av_kernel.specs.View.{setting, count, view, Keeps, PartsStand, HasTables}
+use Rattle.av_reclaim.specs.declared.mem.Mem.{Mem}
+use Rattle.av_reclaim.specs.Mem.{setting, count, view, Keeps, PartsStand, HasTables}
 
 pub record Parts (m : Setting) (v : View) (w : World) (l : Ledger) : Type 0 where
   pub in_order : T (is_sorted key_cmp l.entries)

@@ -13,13 +13,13 @@ use Rattle.av_plain.specs.Stands.{Range, entry_of, prot_of}
 use Rattle.av_plain.specs.Transcript.{State}
 use Rattle.av_plain.proofs.LedgerLaws.{how_many-found}
 use Rattle.av_plain.proofs.NoSwapLaws.{itself, free_is, shared_is, zero_is}
-use Rattle.av_kernel.specs.declared.mem.Mem.{Mem}
+use Rattle.av_reclaim.specs.declared.mem.Mem.{Mem}
 use Rattle.av_kernel.specs.declared.touched.Touched.TheVariants.{Ready}
-use Rattle.av_kernel.specs.Spaces.{areas_of}
-use Rattle.av_kernel.specs.View.{setting, count, plain, view, Keeps, IsSteady}
+use Rattle.av_spaces.specs.Spaces.{areas_of}
+use Rattle.av_reclaim.specs.Mem.{setting, count, plain, view, Keeps, IsSteady}
 use Rattle.av_kernel.specs.Page.{permitted, frame_named, IsTouched}
 use Rattle.av_kernel.proofs.PageParts.{of_keeps, as_pte}
-use Rattle.av_kernel.proofs.PageViews.{entry_put_in}
+use Rattle.av_reclaim.proofs.Mem.{entry_put_in}
 use Rattle.av_kernel.proofs.PageTouched.{marked, again}
 use Rattle.av_kernel.proofs.PageServes.{named_entry, not_away}
 

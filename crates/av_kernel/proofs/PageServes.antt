@@ -19,7 +19,7 @@ use Rattle.av_plain.proofs.Laws.{weight}
 use Rattle.av_plain.proofs.LedgerLaws.{how_many-found}
 use Rattle.av_plain.proofs.MoreLaws.{how_many-same, how_many-none}
 use Rattle.av_plain.proofs.NoSwapLaws.{itself, no_slot, shared_is}
-use Rattle.av_kernel.specs.View.{plain}
+use Rattle.av_reclaim.specs.Mem.{plain}
 use Rattle.av_kernel.specs.Page.{permitted, frame_named}
 use Rattle.av_kernel.proofs.PageParts.{Parts}
 

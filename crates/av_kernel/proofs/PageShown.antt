@@ -8,9 +8,9 @@ use Rattle.av_plain.specs.Event.{after_all}
 use Rattle.av_plain.specs.Fault.{Served, happening}
 use Rattle.av_plain.specs.Stands.{Holds, IsKept}
 use Rattle.av_plain.specs.Transcript.{State}
-use Rattle.av_kernel.specs.declared.mem.Mem.{Mem}
+use Rattle.av_reclaim.specs.declared.mem.Mem.{Mem}
 use Rattle.av_kernel.specs.declared.touched.Touched.TheVariants.{Ready, Zeros}
-use Rattle.av_kernel.specs.View.{view}
+use Rattle.av_reclaim.specs.Mem.{view}
 use Rattle.av_kernel.specs.Page.{IsTouched, ShowsPiece}
 
 held_byte : (o : Option Page) (at : ℕ → ℕ) (i : ℕ) → i < 4096 → Holds o at → IfSome (option_and_then (λ (p : Page). p.bytes i) o) (λ claimed. claimed ≡ at i)

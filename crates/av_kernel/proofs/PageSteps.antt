@@ -27,12 +27,12 @@ use Rattle.av_plain.proofs.SoundAccess.{accesses-kept}
 use Rattle.av_plain.proofs.SoundPages.{accesses-at}
 use Rattle.av_plain.proofs.SoundThere.{there-accesses}
 use Rattle.av_plain.proofs.Soundness.{follows-sound}
-use Rattle.av_kernel.specs.declared.mem.Mem.{Mem}
+use Rattle.av_reclaim.specs.declared.mem.Mem.{Mem}
 use Rattle.av_kernel.specs.declared.touched.Stop.{Stop}
 use Rattle.av_kernel.specs.declared.touched.Touched.{Touched}
 use Rattle.av_kernel.specs.declared.touched.Touched.TheVariants.{Ready, Stopped}
-use Rattle.av_kernel.specs.Spaces.{areas_of}
-use Rattle.av_kernel.specs.View.{setting, count, plain, view, joined, Keeps, PartsStand}
+use Rattle.av_spaces.specs.Spaces.{areas_of}
+use Rattle.av_reclaim.specs.Mem.{setting, count, plain, view, joined, Keeps, PartsStand}
 use Rattle.av_kernel.specs.Page.{IsTouched, IsPageStep, how_touched, how_stopped, world_after}
 use Rattle.av_kernel.proofs.PageParts.{Parts, of_stand, to_stand}
 use Rattle.av_kernel.proofs.PageWritten.{over, written_now, stored_is}

@@ -18,10 +18,10 @@ use Rattle.av_plain.specs.Transcript.{State}
 use Rattle.av_plain.proofs.Laws.{weight}
 use Rattle.av_plain.proofs.LedgerLaws.{same_key-is, same_key-itself, entry-set, mapped-set}
 use Rattle.av_plain.proofs.NoSwapLaws.{place-page, key_is, no_slot}
-use Rattle.av_kernel.specs.declared.mem.Mem.{Mem}
+use Rattle.av_reclaim.specs.declared.mem.Mem.{Mem}
 use Rattle.av_kernel.specs.declared.touched.Stop.TheVariants.{Segv, Oom}
 use Rattle.av_kernel.specs.declared.touched.Touched.TheVariants.{Ready as ReadyAt, Zeros, Stopped}
-use Rattle.av_kernel.specs.View.{setting, count, view, Keeps, PartsStand, HasTables}
+use Rattle.av_reclaim.specs.Mem.{setting, count, view, Keeps, PartsStand, HasTables}
 use Rattle.av_kernel.specs.Page.{permitted, IsTouched, IsTaken}
 use Rattle.av_kernel.proofs.PageParts.{Parts, changed, as_pte, of_keeps, to_stand}
 use Rattle.av_kernel.proofs.PageEntries.{zeroed, seen, given, given_to, entry_given, once_named}

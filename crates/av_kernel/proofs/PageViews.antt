@@ -6,8 +6,8 @@ use Rattle.av_pagetable.specs.declared.pte.Pte.{Pte}
 use Rattle.av_pagetable.specs.declared.pte.Pte.TheVariants.{Here}
 use Rattle.av_pagetable.specs.Entries.{entry_at, with_entry}
 use Rattle.av_plain.specs.Stands.{Pte as Plain}
-use Rattle.av_kernel.specs.declared.mem.Mem.{Mem}
-use Rattle.av_kernel.specs.View.{plain, joined, view, count}
+use Rattle.av_reclaim.specs.declared.mem.Mem.{Mem}
+use Rattle.av_reclaim.specs.Mem.{plain, joined, view, count}
 use Rattle.av_kernel.specs.Page.{IsTaken, taken_for}
 
 plain_set : (old new : ℕ → ℕ → Pte) (p page : ℕ) (e : Pte) → new ≡ with_entry p page e old

@@ -14,7 +14,8 @@ use Rattle.av_plain.specs.Stands.{View, Holds, IsKept, IsKeptAt, AreasStand, Byt
 use Rattle.av_plain.proofs.LedgerLaws.{same_key, same_key-is, same_key-itself, only_one}
 use Rattle.av_plain.proofs.WorldLaws.{pages-set, lives-set, length-set_old}
 use Rattle.av_plain.proofs.NoSwapLaws.{itself}
-use Rattle.av_kernel.proofs.PageParts.{Parts, no_frame_at, no_device}
+use Rattle.av_kernel.proofs.PageParts.{Parts}
+use Rattle.av_reclaim.proofs.Mem.{no_frame_at, no_device}
 
 same_number : (q p : ℕ) → eq_by_cmp nat_cmp q p ≡ true → q ≡ p
 same_number q p h = grind (arith, nat_tests)

@@ -14,7 +14,7 @@ use Rattle.av_base.specs.Page.{page_of, address_of, is_on_page}
 use Rattle.av_plain.specs.Refusal.{Tests, top, low, fixed_tests, refusal}
 use Rattle.av_plain.specs.Step.{is_room}
 use Rattle.av_plain.proofs.RangeLaws.{none-meets, some-meets, meets-none, room-is}
-use Rattle.av_kernel.specs.Spaces.{Spaces, is_taken}
+use Rattle.av_spaces.specs.Spaces.{Spaces, is_taken}
 use Rattle.av_kernel.specs.Range.{IsProcess, IsPlaced, AreToClear}
 use Rattle.av_kernel.proofs.Parts.{gap_agrees}
 

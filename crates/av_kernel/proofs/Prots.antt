@@ -19,7 +19,9 @@ use Rattle.av_merge.specs.Process.{AreAreasOf, IsWhole, Stays}
 use Rattle.av_merge.proofs.Mappings.{around_maps, cut_out_maps, laid_of, placed_maps}
 use Rattle.av_merge.proofs.Places.{taken_is}
 use Rattle.av_plain.specs.Stands.{prot_of}
-use Rattle.av_kernel.specs.Spaces.{Spaces, areas_of, spaces_by, ranges_by, set_on, AreTrees, IsChanged}
+use Rattle.av_spaces.specs.Spaces.{Spaces, areas_of}
+use Rattle.av_kernel.specs.Spaces.{spaces_by, ranges_by, AreTrees}
+use Rattle.av_kernel.specs.Map.{set_on, HasProts}
 use Rattle.av_kernel.proofs.SpacesLaws.{areas_are, prot_on, prots_are, tree_of, trees_changed, changed}
 
 -- the protections of pages
@@ -51,9 +53,9 @@ module _ (f f' : ℕ → Option Area) (old new : BTreeMap ℕ (List Span)) (p : 
   prots_before page = sym (ap (λ o. prot_of o page) (areas_are f old.entries p ∙ ap (option_map (ranges_by f)) (sym was)) ∙ prots_are f p before areas_before page)
 
   pub lent_changed : (s : Spaces) → spaces_by f old.entries ≡ s → (from n : ℕ) (prot : Option Prot) → ((page : ℕ) → prots_on (pages_by f' after) page ≡ set_on from n prot (prots_on (pages_by f before)) page)
-      → IsChanged s (spaces_by f' new.entries) p (set_on from n prot (prot_of (areas_of s p)))
+      → HasProts s (spaces_by f' new.entries) p (set_on from n prot (prot_of (areas_of s p)))
   lent_changed s is from n prot pages =
-      subst (λ s. IsChanged s (spaces_by f' new.entries) p (set_on from n prot (prot_of (areas_of s p)))) is
+      subst (λ s. HasProts s (spaces_by f' new.entries) p (set_on from n prot (prot_of (areas_of s p)))) is
       (changed f f' p (stays areas_before).others old new (Some after) trees (stays areas_before).areas now after refl writes.2 (set_on from n prot (prot_of (areas_of (spaces_by f old.entries) p)))
       (λ page. pages page ∙ ap (λ (prots : ℕ → Option Prot). set_on from n prot prots page) (λ i page. prots_before page i)))
 

@@ -29,13 +29,15 @@ use Rattle.av_plain.specs.Transcript.{State}
 use Rattle.av_plain.specs.Stands.{Holds, IsKept, IsKeptAt, prot_of, Range}
 use Rattle.av_plain.proofs.RangeLaws.{is-leading}
 use Rattle.av_plain.proofs.TakingLaws.{entry-range}
-use Rattle.av_kernel.specs.declared.mem.Mem.{Mem}
-use Rattle.av_kernel.specs.Spaces.{Spaces, areas_of, is_taken, set_on, IsChanged}
-use Rattle.av_kernel.specs.View.{setting, view, count, Keeps, IsSteady}
-use Rattle.av_kernel.specs.Exit.{HasTaken}
+use Rattle.av_reclaim.specs.declared.mem.Mem.{Mem}
+use Rattle.av_spaces.specs.Spaces.{Spaces, areas_of, is_taken}
+use Rattle.av_kernel.specs.Map.{set_on, HasProts}
+use Rattle.av_reclaim.specs.Mem.{setting, view, count, Keeps, IsSteady}
+use Rattle.av_reclaim.specs.Zap.{HasZapped}
 use Rattle.av_kernel.specs.Range.{IsProcess, IsPlaced, AreToClear, AreCleared}
 use Rattle.av_kernel.specs.Command.{MemSteps}
-use Rattle.av_kernel.proofs.Parts.{mapped_is, page_back}
+use Rattle.av_reclaim.proofs.Mem.{mapped_is}
+use Rattle.av_kernel.proofs.Parts.{page_back}
 use Rattle.av_kernel.proofs.Places.{IsSuited, suited}
 use Rattle.av_kernel.proofs.Commands.{bare, is_number, moved_on, orderly, refused, stays_orderly, changed, areas_changed, tables_kept}
 
@@ -52,8 +54,8 @@ suits k steady p n page place placed =
     suited k.spaces p (pages steady.0.world p) same n page place (placed (pages steady.0.world p) same)
 
 -- the same pages change twice
-pub twice_changed : (s t u : Spaces) (p page n : ℕ) (x y : Option Prot) → IsChanged s t p (set_on page n x (prot_of (areas_of s p))) → IsChanged t u p (set_on page n y (prot_of (areas_of t p)))
-    → IsChanged s u p (set_on page n y (prot_of (areas_of s p)))
+pub twice_changed : (s t u : Spaces) (p page n : ℕ) (x y : Option Prot) → HasProts s t p (set_on page n x (prot_of (areas_of s p))) → HasProts t u p (set_on page n y (prot_of (areas_of t p)))
+    → HasProts s u p (set_on page n y (prot_of (areas_of s p)))
 twice_changed s t u p page n x y first second = record {
   others = λ q other. second.others q other ∙ first.others q other;
   alive = second.alive;
@@ -73,11 +75,11 @@ on_ok (Ok x) f h = f h
 on_ok (Err e) f h = tt
 
 -- their entries have gone, and then their areas
-pub are_cleared : (old mid : Mem) (spaces : Spaces) (p page n : ℕ) (l : Ledger) → HasTaken old mid l (taking l (keys_in l p page (page + n - page))) → mid.spaces ≡ old.spaces → has mid.tables ≡ has old.tables → (view mid).bytes ≡ (view old).bytes
-    → IsChanged mid.spaces spaces p (set_on page n None (prot_of (areas_of mid.spaces p))) → AreCleared old (moved_on mid mid.tables spaces) p page n l (taking l (keys_in l p page n))
+pub are_cleared : (old mid : Mem) (spaces : Spaces) (p page n : ℕ) (l : Ledger) → HasZapped old mid l (taking l (keys_in l p page (page + n - page))) → mid.spaces ≡ old.spaces → has mid.tables ≡ has old.tables → (view mid).bytes ≡ (view old).bytes
+    → HasProts mid.spaces spaces p (set_on page n None (prot_of (areas_of mid.spaces p))) → AreCleared old (moved_on mid mid.tables spaces) p page n l (taking l (keys_in l p page n))
 are_cleared old mid spaces p page n l t same processes bytes gone = record {
-  taken = subst (λ x. HasTaken old (moved_on mid mid.tables spaces) l (taking l (keys_in l p page x))) (let size : page + n - page ≡ n = omega arith in size) (record { stands = stays_orderly mid mid.tables spaces _ refl t.stands; notes = t.notes; free = t.free });
-  spaces = subst (λ x. IsChanged x spaces p (set_on page n None (prot_of (areas_of x p)))) same gone;
+  taken = subst (λ x. HasZapped old (moved_on mid mid.tables spaces) l (taking l (keys_in l p page x))) (let size : page + n - page ≡ n = omega arith in size) (record { stands = stays_orderly mid mid.tables spaces _ refl t.stands; notes = t.notes; free = t.free });
+  spaces = subst (λ x. HasProts x spaces p (set_on page n None (prot_of (areas_of x p)))) same gone;
   processes = processes;
   bytes = bytes;
 }
@@ -86,8 +88,8 @@ are_cleared old mid spaces p page n l t same processes bytes gone = record {
 
 module _ (old new : Mem) (s : State) (command : Command) (reply : Reply) (p page n : ℕ) (o : Option Page) (events : List Event)
     (keeps : Keeps old s) (alive : is_some (areas_of old.spaces p) ≡ true) (same_count : count new ≡ count old)
-    (taken : HasTaken old new s.ledger events) (entries : (q at : ℕ) → entry (after_all s.ledger events) (q, at) ≡ cond (q == p && within page n at) None (entry s.ledger (q, at)))
-    (blank : Holds o (λ _. 0)) (spaces : IsChanged old.spaces new.spaces p (set_on page n (option_map (λ (x : Page). x.prot) o) (prot_of (areas_of old.spaces p))))
+    (taken : HasZapped old new s.ledger events) (entries : (q at : ℕ) → entry (after_all s.ledger events) (q, at) ≡ cond (q == p && within page n at) None (entry s.ledger (q, at)))
+    (blank : Holds o (λ _. 0)) (spaces : HasProts old.spaces new.spaces p (set_on page n (option_map (λ (x : Page). x.prot) o) (prot_of (areas_of old.spaces p))))
     (processes : has new.tables ≡ has old.tables) (bytes : (view new).bytes ≡ (view old).bytes) where
   covered : (at : ℕ) → set_on page n (option_map (λ (x : Page). x.prot) o) (prot_of (areas_of old.spaces p)) at ≡ option_map (λ (x : Page). x.prot) (replaced (pages s.world p) page n (λ _. o) at)
   covered at = by (within page n at)
@@ -189,7 +191,7 @@ module _ (old : Mem) (s : State) (p len : ℕ) (prot : Prot) (place : Place) (ke
 
   module _ (mid : Mem) (spaces : List (ℕ × List Range)) (page : ℕ) (placed : IsPlaced (pages s.world p) (pages_of len) place (Ok page)) (clear : AreToClear (is_taken old.spaces p) page (pages_of len) place)
       (same_count : count mid ≡ count old) (cleared : AreCleared old mid p page (pages_of len) s.ledger (clearing s.ledger p (pages_of len) place))
-      (mapped : IsChanged mid.spaces spaces p (set_on page (pages_of len) (Some prot) (prot_of (areas_of mid.spaces p)))) where
+      (mapped : HasProts mid.spaces spaces p (set_on page (pages_of len) (Some prot) (prot_of (areas_of mid.spaces p)))) where
     pub mmap-steps : MemSteps old (moved_on mid mid.tables spaces) s (Mmap p len prot place) (bare (MapAt (address_of page)))
     mmap-steps =
         let events = clearing s.ledger p (pages_of len) place in
@@ -207,7 +209,7 @@ module _ (old : Mem) (s : State) (p len : ℕ) (prot : Prot) (place : Place) (ke
 -- ---- mprotect
 
 module _ (old : Mem) (spaces : List (ℕ × List Range)) (s : State) (p a len reached : ℕ) (prot : Prot) (keeps : Keeps old s) (alive : is_some (areas_of old.spaces p) ≡ true) (passed : refusal ((not (is_on_page a), Einval) ∷ (wraps a len, Enomem) ∷ []) ≡ None)
-    (reaches : IsReached (is_taken old.spaces p) (page_of a) (page_of a + pages_of len) reached) (given : IsChanged old.spaces spaces p (set_on (page_of a) (reached - page_of a) (Some prot) (prot_of (areas_of old.spaces p)))) where
+    (reaches : IsReached (is_taken old.spaces p) (page_of a) (page_of a + pages_of len) reached) (given : HasProts old.spaces spaces p (set_on (page_of a) (reached - page_of a) (Some prot) (prot_of (areas_of old.spaces p)))) where
   mprotect-allowed : refusal (tests (setting (count old)) s.world s.ledger (Mprotect p a len prot)) ≡ None
   mprotect-allowed = ap (λ b. cond (not b) (Some Esrch) (refusal ((not (is_on_page a), Einval) ∷ (wraps a len, Enomem) ∷ []))) (sym (keeps.stands.areas.alive p) ∙ alive) ∙ passed
 

@@ -7,8 +7,8 @@ use Rattle.av_trace.specs.declared.reply.Totals.{Totals}
 use Rattle.av_plain.specs.Transcript.{State}
 use Rattle.av_plain.specs.Report.{totals}
 use Rattle.av_plain.proofs.FrameCounts.{free-once, totals-plain}
-use Rattle.av_kernel.specs.declared.mem.Mem.{Mem}
-use Rattle.av_kernel.specs.View.{setting, view, count, Keeps}
+use Rattle.av_reclaim.specs.declared.mem.Mem.{Mem}
+use Rattle.av_reclaim.specs.Mem.{setting, view, count, Keeps}
 use Rattle.av_kernel.specs.Command.{MemSteps}
 use Rattle.av_kernel.proofs.Commands.{bare}
 

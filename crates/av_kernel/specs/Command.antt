@@ -2,8 +2,8 @@
 use Rattle.av_trace.specs.declared.command.Command.{Command}
 use Rattle.av_trace.specs.declared.reply.Reply.{Reply}
 use Rattle.av_plain.specs.Transcript.{State, IsStep}
-use Rattle.av_kernel.specs.declared.mem.Mem.{Mem}
-use Rattle.av_kernel.specs.View.{setting, count, Keeps}
+use Rattle.av_reclaim.specs.declared.mem.Mem.{Mem}
+use Rattle.av_reclaim.specs.Mem.{setting, count, Keeps}
 
 -- a command's reply is a step, and the memory system stands for what it leaves
 pub record MemSteps (old new : Mem) (s : State) (command : Command) (reply : Reply) : Type 0 where

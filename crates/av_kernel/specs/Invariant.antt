@@ -1,7 +1,7 @@
 -- What is true of every kernel.
 use Rattle.std.specs.Prelude.{◌≡◌, ℕ, ◌≤◌, Bool, false, List, length, slice_index}
-use Rattle.av_kernel.specs.declared.mem.Mem.{Mem}
-use Rattle.av_kernel.specs.View.{IsSteady}
+use Rattle.av_reclaim.specs.declared.mem.Mem.{Mem}
+use Rattle.av_reclaim.specs.Mem.{IsSteady}
 
 -- no word of a reply came more often than commands were answered; where memory never ran out, the memory system stands for something
 pub record IsSound (mem : Mem) (steps : ℕ) (tally : List ℕ) (spent : Bool) : Type 0 where

@@ -4,7 +4,7 @@ use Rattle.av_trace.specs.declared.command.Command.{Command}
 use Rattle.av_trace.specs.declared.reply.Reply.{Reply}
 use Rattle.av_trace.specs.declared.reply.Answer.{Answer}
 use Rattle.av_trace.specs.declared.reply.Answer.TheVariants.{Done, MapAt, Data, Refused, Segv, Bus, Oom, On, NoFrame}
-use Rattle.av_kernel.specs.View.{setting, Keeps}
+use Rattle.av_reclaim.specs.Mem.{setting, Keeps}
 use Rattle.av_plain.specs.Transcript.{State, IsStep}
 use Rattle.av_kernel.specs.Machine.{Machine}
 

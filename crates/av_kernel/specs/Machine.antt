@@ -1,7 +1,7 @@
 -- What is seen of a kernel.
 use Rattle.std.specs.Prelude.{ℕ, List, Bool, refl}
 use Rattle.std.specs.Coded.{Coded, code_by, coded×, coded_ℕ, coded_list, coded_bool}
-use Rattle.av_kernel.specs.declared.mem.Mem.{Mem}
+use Rattle.av_reclaim.specs.declared.mem.Mem.{Mem}
 
 pub record Machine : Type 0 where
   -- how many frames there are

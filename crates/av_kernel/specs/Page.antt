@@ -15,12 +15,12 @@ use Rattle.av_plain.specs.Fault.{Touches, How, Served, Denied, Starved, happenin
 use Rattle.av_plain.specs.Step.{stored}
 use Rattle.av_plain.specs.Choice.{ChoosesAll}
 use Rattle.av_plain.specs.Transcript.{State}
-use Rattle.av_kernel.specs.declared.mem.Mem.{Mem}
+use Rattle.av_reclaim.specs.declared.mem.Mem.{Mem}
 use Rattle.av_kernel.specs.declared.touched.Stop.{Stop}
 use Rattle.av_kernel.specs.declared.touched.Stop.TheVariants.{Segv, Oom}
 use Rattle.av_kernel.specs.declared.touched.Touched.{Touched}
 use Rattle.av_kernel.specs.declared.touched.Touched.TheVariants.{Ready, Zeros, Stopped}
-use Rattle.av_kernel.specs.View.{setting, count, plain, view, Keeps, PartsStand}
+use Rattle.av_reclaim.specs.Mem.{setting, count, plain, view, Keeps, PartsStand}
 
 -- ---- the page is made ready
 

@@ -13,10 +13,11 @@ use Rattle.av_plain.specs.Event.{Event}
 use Rattle.av_plain.specs.Refusal.{place_tests, refusal}
 use Rattle.av_plain.specs.Step.{Goes}
 use Rattle.av_plain.specs.Stands.{prot_of}
-use Rattle.av_kernel.specs.declared.mem.Mem.{Mem}
-use Rattle.av_kernel.specs.Spaces.{Spaces, areas_of, is_taken, set_on, IsChanged}
-use Rattle.av_kernel.specs.View.{view}
-use Rattle.av_kernel.specs.Exit.{HasTaken}
+use Rattle.av_reclaim.specs.declared.mem.Mem.{Mem}
+use Rattle.av_spaces.specs.Spaces.{Spaces, areas_of, is_taken}
+use Rattle.av_kernel.specs.Map.{set_on, HasProts}
+use Rattle.av_reclaim.specs.Mem.{view}
+use Rattle.av_reclaim.specs.Zap.{HasZapped}
 
 -- ---- where the pages of a mapping go
 
@@ -38,7 +39,7 @@ AreToClear is_taken page n place = IsFree is_taken page (page + n)
 
 -- the n pages of p from one on have gone, with their entries, by these events
 pub record AreCleared (old new : Mem) (p page n : ℕ) (l : Ledger) (events : List Event) : Type 0 where
-  pub taken : HasTaken old new l events
-  pub spaces : IsChanged old.spaces new.spaces p (set_on page n None (prot_of (areas_of old.spaces p)))
+  pub taken : HasZapped old new l events
+  pub spaces : HasProts old.spaces new.spaces p (set_on page n None (prot_of (areas_of old.spaces p)))
   pub processes : has new.tables ≡ has old.tables
   pub bytes : (view new).bytes ≡ (view old).bytes

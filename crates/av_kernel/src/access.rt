@@ -4,8 +4,8 @@ ghost use Rattle.std.specs.Prelude.{◌≡◌, ◌<◌, [], true, false, is_some
 ghost use Rattle.av_plain.specs.Transcript.{State};
 ghost use Rattle.av_plain.specs.Step.{Reads};
 ghost use Rattle.av_plain.specs.World.{pages};
-ghost use Rattle.av_kernel.specs.Spaces.{areas_of};
-ghost use Rattle.av_kernel.specs.View.{count, Keeps, IsSteady};
+ghost use Rattle.av_spaces.specs.Spaces.{areas_of};
+ghost use Rattle.av_reclaim.specs.Mem.{count, Keeps, IsSteady};
 ghost use Rattle.av_kernel.specs.Command.{MemSteps};
 ghost use Rattle.av_kernel.specs.Access.{IsPiece, IsAccess, answer_of};
 ghost use Rattle.av_trace.specs.declared.command.Command.TheVariants as commands;

@@ -2,7 +2,7 @@
 
 ghost use Rattle.std.specs.Prelude.{◌≡◌, [], IfOk};
 ghost use Rattle.av_plain.specs.Transcript.{State};
-ghost use Rattle.av_kernel.specs.View.{count, Keeps, IsSteady};
+ghost use Rattle.av_reclaim.specs.Mem.{count, Keeps, IsSteady};
 ghost use Rattle.av_kernel.specs.Command.{MemSteps};
 ghost use Rattle.av_trace.specs.declared.command.Command.TheVariants as commands;
 

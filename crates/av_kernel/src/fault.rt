@@ -6,8 +6,8 @@ ghost use Rattle.av_pagetable.specs.Entries.{entry_at, has};
 ghost use Rattle.av_pagetable.specs.declared.pte.Pte.TheVariants as Pte;
 ghost use Rattle.av_plain.specs.Stands.{prot_of};
 ghost use Rattle.av_plain.specs.Transcript.{State};
-ghost use Rattle.av_kernel.specs.Spaces.{areas_of};
-ghost use Rattle.av_kernel.specs.View.{count, view, Keeps, IsSteady};
+ghost use Rattle.av_spaces.specs.Spaces.{areas_of};
+ghost use Rattle.av_reclaim.specs.Mem.{count, view, Keeps, IsSteady};
 ghost use Rattle.av_kernel.specs.Page.{permitted, frame_named, one_more, one_less, IsTaken, IsTouched};
 
 use crate::mem::Mem;

@@ -3,7 +3,7 @@
 ghost use Rattle.std.specs.Prelude.{◌≡◌, ℕ, ◌<◌, ◌^◌, slice_index, length, IfOk, OnOk, OnErr, true, false, replicate};
 ghost use Rattle.av_plain.specs.Transcript.{State, at_first};
 ghost use Rattle.av_kernel.specs.Kernel.{Stands, Steps, Counts, word_of, counted};
-ghost use Rattle.av_kernel.specs.View.{setting};
+ghost use Rattle.av_reclaim.specs.Mem.{setting};
 
 use crate::mem::Mem;
 use crate::spaces::Spaces;
@@ -30,7 +30,7 @@ impl Model for Kernel {
 
     ghost coded = { machine_code the_row.coded };
 
-    ghost use Rattle.av_kernel.specs.View.{count};
+    ghost use Rattle.av_reclaim.specs.Mem.{count};
     ghost use Rattle.av_kernel.specs.Invariant.{IsSound};
 
     ghost view = { λ k. record { frames = count k.mem; mem = k.mem; steps = k.steps; tally = k.tally; spent = k.spent } };

@@ -3,7 +3,7 @@
 ghost use Rattle.std.specs.Prelude.{◌≡◌, ℕ, ◌+◌, ◌<◌, ◌≤◌, [], ◌∷◌, length, true, false, replicate, ◌++◌, IfOk, OnOk};
 ghost use Rattle.av_plain.specs.World.{lives};
 ghost use Rattle.av_plain.specs.Transcript.{State};
-ghost use Rattle.av_kernel.specs.View.{count, Keeps, IsSteady};
+ghost use Rattle.av_reclaim.specs.Mem.{count, Keeps, IsSteady};
 ghost use Rattle.av_kernel.specs.Page.{IsPageStep, ShowsPiece};
 
 use crate::mem::Mem;

@@ -8,7 +8,7 @@ ghost use Rattle.av_base.specs.Page.{page_of, is_on_page};
 ghost use Rattle.av_plain.specs.Refusal.{top, wraps, fixed_tests, refusal};
 ghost use Rattle.av_plain.specs.Refusal as refusals;
 ghost use Rattle.av_plain.specs.Step.{is_room};
-ghost use Rattle.av_kernel.specs.Spaces.{areas_of, is_taken};
+ghost use Rattle.av_spaces.specs.Spaces.{areas_of, is_taken};
 ghost use Rattle.av_kernel.specs.Range.{IsProcess, IsPlaced};
 ghost use Rattle.av_trace.specs.declared.reply.Errno.TheVariants as errors;
 

@@ -1,8 +1,8 @@
 use Rattle.std.proofs.Common.{◌∙◌, sym, ap, refl}
 use Rattle.av_pagetable.specs.declared.pte.Pte.TheVariants.{Zero}
 use Rattle.av_plain.specs.Stands.{entry_of}
-use Rattle.av_kernel.specs.View.{plain}
-use Rattle.av_kernel.proofs.PageViews.{entry_put_in}
+use Rattle.av_reclaim.specs.Mem.{plain}
+use Rattle.av_reclaim.proofs.Mem.{entry_put_in}
 use Rattle.av_kernel.proofs.PageTouched.{zeroed_now}
 use Rattle.av_kernel.proofs.mem.Mem.make_zero.Goals as goal
 

@@ -1,7 +1,7 @@
 use Rattle.std.proofs.Common.{◌+◌, ◌/◌, ◌<◌, ◌≤◌, sym, subst, ◌∙◌}
 use Rattle.av_merge.specs.Pages.{IsReached}
 use Rattle.av_trace.specs.declared.command.Command.TheVariants.{Mprotect}
-use Rattle.av_kernel.specs.Spaces.{is_taken}
+use Rattle.av_spaces.specs.Spaces.{is_taken}
 use Rattle.av_kernel.specs.Command.{MemSteps}
 use Rattle.av_kernel.proofs.Commands.{moved_on}
 use Rattle.av_kernel.proofs.Parts.{rounded_up}

@@ -3,7 +3,7 @@ use Rattle.std.proofs.Common.{◌≡◌, ◌+◌, ◌-◌, ◌%◌, ◌<◌, ◌
 use Rattle.av_plain.specs.World.{pages}
 use Rattle.av_plain.specs.Step.{Reads}
 use Rattle.av_plain.specs.Transcript.{State}
-use Rattle.av_kernel.specs.View.{count, Keeps}
+use Rattle.av_reclaim.specs.Mem.{count, Keeps}
 use Rattle.av_kernel.specs.Access.{IsAccess}
 use Rattle.av_kernel.proofs.mem.Mem.read_pieces.Given as goal
 

@@ -3,7 +3,7 @@ use Rattle.std.proofs.lemmas.Bool.{false≢true}
 use Rattle.av_pagetable.specs.Entries.{entry_at, with_entry}
 use Rattle.av_pagetable.specs.declared.pte.Pte.TheVariants.{Here}
 use Rattle.av_plain.specs.Stands.{entry_of}
-use Rattle.av_kernel.specs.View.{plain}
+use Rattle.av_reclaim.specs.Mem.{plain}
 use Rattle.av_kernel.proofs.PageTouched.{denied, zeros_there}
 use Rattle.av_kernel.proofs.PageSafe.{none_away, process_there, seen_there, seen_now, few_by_bit}
 use Rattle.av_kernel.proofs.mem.Mem.touch_to_read.Goals as goal

@@ -1,7 +1,7 @@
 -- What is done so far is an access of its own, served whole; behind it a page begins, or nothing is left.
 use Rattle.std.proofs.Common.{◌≡◌, ◌+◌, ◌-◌, ◌%◌, ◌<◌, ◌≤◌, true, length, take, None}
 use Rattle.av_plain.specs.Transcript.{State}
-use Rattle.av_kernel.specs.View.{count, Keeps}
+use Rattle.av_reclaim.specs.Mem.{count, Keeps}
 use Rattle.av_kernel.specs.Access.{IsAccess}
 use Rattle.av_kernel.proofs.mem.Mem.write_pieces.Given as goal
 

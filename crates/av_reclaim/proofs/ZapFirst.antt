@@ -2,13 +2,10 @@
 use Rattle.std.proofs.Common.{◌≡◌, ℕ, ◌<◌, ◌≤◌, Bool, false, ◌&&◌, [], Option, Some, None, refl, sym, ap, subst, ◌∙◌, arith, ◌==◌, is_some, option_map}
 use Rattle.std.proofs.lemmas.Bool.Decides.{nat_tests}
 use Rattle.std.specs.Ordering.{nat_cmp}
-use Rattle.std.specs.BTreeMap as tree_map
 use Rattle.av_base.specs.Words.{is_in}
 use Rattle.av_frames.specs.Store.{seen}
 use Rattle.av_pagetable.specs.declared.pte.Pte.{Pte}
 use Rattle.av_pagetable.specs.declared.pte.Pte.TheVariants.{Empty, Zero as ZeroPte, Here, Away}
-use Rattle.av_pagetable.specs.declared.tables.Tables.{Tables}
-use Rattle.av_pagetable.specs.declared.table.MapTable.{MapTable}
 use Rattle.av_pagetable.specs.Table.{IsFirst, page_bound, or_empty, entry_in}
 use Rattle.av_pagetable.specs.Entries.{entry_at, at_page, with_entry}
 use Rattle.av_plain.specs.Ledger.{Ledger, Zero, InFrame, InSlot, entry, mapped, names_frame, names_slot}
@@ -16,24 +13,11 @@ use Rattle.av_plain.specs.Event.{taken}
 use Rattle.av_plain.specs.Stands.{View, entry_of}
 use Rattle.av_plain.proofs.LedgerLaws.{how_many-found}
 use Rattle.av_plain.proofs.NoSwapLaws.{itself, free_is}
-use Rattle.av_kernel.specs.declared.mem.Mem.{Mem}
-use Rattle.av_kernel.specs.View.{setting, count, plain, view, joined}
-use Rattle.av_kernel.specs.Exit.{LedgerStand, LedgerStands, released, TakesLeast}
-use Rattle.av_kernel.proofs.PageParts.{no_cache}
-use Rattle.av_kernel.proofs.PageViews.{entry_put_in}
-use Rattle.av_kernel.proofs.Leaving.{zero_left, zero_freed, released_left, released_freed}
-
--- no table has an entry past its four levels
-pub past_pages : (tables : Tables MapTable) (p q : ℕ) → page_bound ≤ q → entry_at tables p q ≡ Empty
-past_pages tables p q high = by (tree_map.get nat_cmp tables.tables p)
-  where
-    by : (o : Option MapTable) → at_page (option_map (λ (table : MapTable). entry_in table.entries) o) q ≡ Empty
-    by None = refl
-    by (Some table) = ap or_empty (table.full.below q high)
-
--- tables with the same entries are seen alike
-view_same : (old new : Mem) → entry_at new.tables ≡ entry_at old.tables → new.frames ≡ old.frames → new.spaces ≡ old.spaces → view new ≡ view old
-view_same old new tables frames spaces = λ i. joined (seen (frames i)) (λ p page. plain (tables i p page)) (spaces i)
+use Rattle.av_reclaim.specs.declared.mem.Mem.{Mem}
+use Rattle.av_reclaim.specs.Mem.{setting, count, plain, view, joined, LedgerStand, LedgerStands}
+use Rattle.av_reclaim.specs.Zap.{released, ZapsFirst}
+use Rattle.av_reclaim.proofs.Mem.{view_same, no_cache, entry_put_in}
+use Rattle.av_reclaim.proofs.ZapEntry.{zero_left, zero_freed, released_left, released_freed}
 
 module _ (old : Mem) (l : Ledger) (stands : LedgerStands old l) where
   cache : l.cache ≡ []
@@ -66,7 +50,7 @@ module _ (old : Mem) (l : Ledger) (stands : LedgerStands old l) where
       absurd (omega (arith, found, zero))
 
   module _ (new : Mem) (p from past : ℕ) where
-    pub none_taken : ((q : ℕ) → from ≤ q → q < past → entry_at old.tables p q ≡ Empty) → entry_at new.tables ≡ entry_at old.tables → new.frames ≡ old.frames → new.spaces ≡ old.spaces → TakesLeast old new l p from past None
+    pub none_taken : ((q : ℕ) → from ≤ q → q < past → entry_at old.tables p q ≡ Empty) → entry_at new.tables ≡ entry_at old.tables → new.frames ≡ old.frames → new.spaces ≡ old.spaces → ZapsFirst old new l p from past None
     none_taken none tables frames spaces = (
       λ q low high. nothing_at p q (none q low high),
       ap (λ f. (seen f).free) frames,
@@ -77,7 +61,7 @@ module _ (old : Mem) (l : Ledger) (stands : LedgerStands old l) where
       least : (q : ℕ) → from ≤ q → q < page → entry l (p, q) ≡ None
       least q low high = nothing_at p q (first.least q low high)
 
-      pub zero_taken : ((f : ℕ) (write was : Bool) → e ≡ Here f write was → ⊥) → entry_at new.tables ≡ with_entry p page Empty (entry_at old.tables) → new.frames ≡ old.frames → new.spaces ≡ old.spaces → TakesLeast old new l p from past (Some page)
+      pub zero_taken : ((f : ℕ) (write was : Bool) → e ≡ Here f write was → ⊥) → entry_at new.tables ≡ with_entry p page Empty (entry_at old.tables) → new.frames ≡ old.frames → new.spaces ≡ old.spaces → ZapsFirst old new l p from past (Some page)
       zero_taken other tables frames spaces =
           let there = zero_there p page e is (λ none. first.there (is ∙ none)) other in (
             first.from_there,
@@ -90,7 +74,7 @@ module _ (old : Mem) (l : Ledger) (stands : LedgerStands old l) where
           )
 
       pub frame_taken : (mid : Mem) (f : ℕ) (write was : Bool) → e ≡ Here f write was → entry_at mid.tables ≡ with_entry p page Empty (entry_at old.tables) → mid.frames ≡ old.frames → mid.spaces ≡ old.spaces
-          → view new ≡ released f (view mid) → count new ≡ count old → TakesLeast old new l p from past (Some page)
+          → view new ≡ released f (view mid) → count new ≡ count old → ZapsFirst old new l p from past (Some page)
       frame_taken mid f write was here tables frames spaces same counts =
           let there = frame_there p page f write was (is ∙ here) in
           let seen_so : view new ≡ released f (record (view old) { table = with_entry p page None (view old).table }) = same ∙ ap (released f) (entry_put_in old mid p page Empty tables frames spaces) in (

@@ -6,15 +6,18 @@ use Rattle.std.proofs.lemmas.List.{append-nil, append_assoc}
 use Rattle.av_base.specs.Words.{within}
 use Rattle.av_plain.specs.Ledger.{Ledger, Entry, entry}
 use Rattle.av_plain.specs.Event.{Event, Taken, after_all, taken, notes_of}
-use Rattle.av_plain.specs.Taking.{keys_in, taking, taking_one}
+use Rattle.av_pagetable.specs.Table.{page_bound}
+use Rattle.av_pagetable.proofs.Entries.{past_pages}
+use Rattle.av_plain.specs.Taking.{keys_in, keys_of_process, taking, taking_one}
 use Rattle.av_plain.specs.Choice.{ChoosesAll}
 use Rattle.av_plain.proofs.LedgerLaws.{same_key}
 use Rattle.av_plain.proofs.AccessLaws.{after_all-append, notes_of-append, chooses-append}
-use Rattle.av_plain.proofs.TakingLaws.{entry-taken, range-done, range-least, taking_one-alone}
-use Rattle.av_kernel.specs.declared.mem.Mem.{Mem}
-use Rattle.av_kernel.specs.View.{view}
-use Rattle.av_kernel.specs.Exit.{LedgerStands, TakesLeast, HasTaken}
-use Rattle.av_kernel.proofs.PageParts.{no_cache}
+use Rattle.av_plain.proofs.TakingLaws.{entry-taken, range-done, range-least, taking_one-alone, exit-is-range}
+use Rattle.av_reclaim.specs.declared.mem.Mem.{Mem}
+use Rattle.av_plain.specs.Stands.{entry_of}
+use Rattle.av_reclaim.specs.Mem.{plain, view, LedgerStands}
+use Rattle.av_reclaim.specs.Zap.{ZapsFirst, HasZapped, KeepsRest}
+use Rattle.av_reclaim.proofs.Mem.{no_cache}
 
 -- those of a range below a page are gone: the events so far, and what is left to go
 pub record IsTaking (old new : Mem) (p from past next : ℕ) (first : Ledger) : Type 0 where
@@ -31,7 +34,7 @@ pub record IsTaking (old new : Mem) (p from past next : ℕ) (first : Ledger) : 
 pub none_yet : (k : Mem) (p from past : ℕ) (l : Ledger) → LedgerStands k l → IsTaking k k p from past from l
 none_yet k p from past l stands = record { ledger = l; done = []; stands = stands; rest = refl; after = refl; free = refl; notes = refl; low = omega arith; none = λ q low high. absurd (omega (arith, low, high)) }
 
-module _ (old mid new : Mem) (p from past next page : ℕ) (first : Ledger) (t : IsTaking old mid p from past next first) (step : TakesLeast mid new t.ledger p next past (Some page)) (high : page < past) where
+module _ (old mid new : Mem) (p from past next page : ℕ) (first : Ledger) (t : IsTaking old mid p from past next first) (step : ZapsFirst mid new t.ledger p next past (Some page)) (high : page < past) where
   below : (q : ℕ) → from ≤ q → q < page → entry t.ledger (p, q) ≡ None
   below q low h = by (nat_lt q next) refl
     where
@@ -76,7 +79,7 @@ module _ (old mid new : Mem) (p from past next page : ℕ) (first : Ledger) (t :
     none = gone;
   }
 
-pub all_taken : (old mid new : Mem) (p from past next : ℕ) (first : Ledger) (t : IsTaking old mid p from past next first) → TakesLeast mid new t.ledger p next past None → HasTaken old new first (taking first (keys_in first p from (past - from)))
+pub all_taken : (old mid new : Mem) (p from past next : ℕ) (first : Ledger) (t : IsTaking old mid p from past next first) → ZapsFirst mid new t.ledger p next past None → HasZapped old new first (taking first (keys_in first p from (past - from)))
 all_taken old mid new p from past next first t step =
     let whole : taking first (keys_in first p from (past - from)) ≡ t.done = t.rest ∙ ap (λ es. t.done ++ es) (range-done t.ledger p from (past - from) (λ q inside. none q (lower q inside) (upper q inside) (nat_lt q next) refl)) ∙ append-nil t.done in
     record {
@@ -94,3 +97,24 @@ all_taken old mid new p from past next first t step =
     none : (q : ℕ) → from ≤ q → q < past → (b : Bool) → nat_lt q next ≡ b → entry t.ledger (p, q) ≡ None
     none q low high true e = t.none q low (let less : q < next = grind (arith, nat_tests, e) in less)
     none q low high false e = step.0 q (let more : next ≤ q = grind (arith, nat_tests, e) in more) high
+
+-- ---- all entries of a process
+
+-- no entry lies past the tables' four levels
+entries_below : (k : Mem) (l : Ledger) (p page : ℕ) → LedgerStands k l → is_some (entry l (p, page)) ≡ true → page < page_bound
+entries_below k l p page stands some = by (nat_lt page page_bound) refl
+  where
+    by : (b : Bool) → nat_lt page page_bound ≡ b → page < page_bound
+    by true e = grind (arith, nat_tests, e)
+    by false e =
+        let high : page_bound ≤ page = grind (arith, nat_tests, e) in
+        absurd (false≢true (ap (λ t. is_some (entry_of (plain t))) (sym (past_pages k.tables p page high)) ∙ ap is_some (stands.tables.entries p page) ∙ some))
+
+-- the entries that the whole range has lost are all of the process
+pub all_gone : (old new : Mem) (l : Ledger) (p : ℕ) → LedgerStands old l → HasZapped old new l (taking l (keys_in l p 0 page_bound)) → HasZapped old new l (taking l (keys_of_process l p))
+all_gone old new l p stands = subst (λ ks. HasZapped old new l (taking l ks)) (sym (exit-is-range l p page_bound (λ page some. entries_below old l p page stands some)))
+
+-- ---- what stays, over two steps
+
+pub rest_rest : {a b c : Mem} → KeepsRest a b → KeepsRest b c → KeepsRest a c
+rest_rest first second = record { processes = second.processes ∙ first.processes; bytes = second.bytes ∙ first.bytes; spaces = second.spaces ∙ first.spaces; count = second.count ∙ first.count }

@@ -1,17 +1,19 @@
--- The view of the memory system, put together from what its parts are seen as.
-use Rattle.std.specs.Prelude.{◌≡◌, ℕ, false, [], length, Option, Some, None, is_some, T}
+-- The memory system: its view, put together from what its parts are seen as, and what it stands for.
+use Rattle.std.specs.Prelude.{◌≡◌, ℕ, false, List, [], length, map, Option, Some, None, is_some, option_map, T}
 use Rattle.std.specs.FinMap.Entries.{is_sorted}
+use Rattle.av_vma.specs.declared.area.Area.{Area}
+use Rattle.av_vma.specs.Join.{first_of, past_of}
 use Rattle.av_plain.specs.World.{World}
 use Rattle.av_plain.specs.Ledger.{Ledger, Setting, Zero as ZeroEntry, InFrame, InSlot, key_cmp}
 use Rattle.av_plain.specs.Transcript.{State}
-use Rattle.av_plain.specs.Sound.{AtPages}
-use Rattle.av_plain.specs.Stands.{View, Pte as Plain, Stands, FramesStand, TablesStand, SwapStands, ListsStand, AreasStand, BytesStand}
+use Rattle.av_plain.specs.Sound.{IsSound, AtPages}
+use Rattle.av_plain.specs.Stands.{View, Range, Pte as Plain, Stands, FramesStand, TablesStand, SwapStands, ListsStand, AreasStand, BytesStand}
 use Rattle.av_frames.specs.Store.{Seen, seen}
 use Rattle.av_pagetable.specs.declared.pte.Pte.{Pte}
 use Rattle.av_pagetable.specs.declared.pte.Pte.TheVariants.{Empty, Zero, Here, Away}
 use Rattle.av_pagetable.specs.Entries.{entry_at, has}
-use Rattle.av_kernel.specs.Spaces.{Spaces, areas_of}
-use Rattle.av_kernel.specs.declared.mem.Mem.{Mem}
+use Rattle.av_spaces.specs.Spaces.{Spaces, areas_of}
+use Rattle.av_reclaim.specs.declared.mem.Mem.{Mem}
 
 -- so many frames, and no device
 abbrev pub setting : ℕ → Setting
@@ -23,6 +25,14 @@ plain Empty = None
 plain Zero = Some (record { entry = ZeroEntry; write = false })
 plain (Here f write was) = Some (record { entry = InFrame f was; write = write })
 plain (Away s) = Some (record { entry = InSlot s; write = false })
+
+-- the pages of an area, with their protection
+abbrev pub range_of : Area → Range
+range_of area = record { from = first_of area; to = past_of area; prot = area.prot }
+
+-- those of each area of a process
+abbrev pub ranges_of : Spaces → ℕ → Option (List Range)
+ranges_of spaces p = option_map (map range_of) (areas_of spaces p)
 
 -- the view of frames, entries and areas, without swap. No frame is active
 abbrev pub joined : Seen → (ℕ → ℕ → Option Plain) → Spaces → View
@@ -36,7 +46,7 @@ joined frames table spaces = record {
   active = [];
   table = table;
   processes = length spaces;
-  areas = areas_of spaces;
+  areas = ranges_of spaces;
   find = λ s. None;
   entries = λ s. 0;
   flight = [];
@@ -64,6 +74,22 @@ abbrev pub IsSteady : Mem → Type 0
 IsSteady k = (s : State) × Keeps k s
 
 -- ---- within a command
+
+-- the parts that speak of the ledger alone
+pub record LedgerStand (m : Setting) (v : View) (l : Ledger) : Type 0 where
+  pub sound : IsSound m l
+  pub frames : FramesStand m v l
+  pub lists : ListsStand v l
+  pub tables : TablesStand v l
+  pub swap : SwapStands v l
+
+-- the memory system's parts do
+abbrev pub LedgerStands : Mem → Ledger → Type 0
+LedgerStands k l = LedgerStand (setting (count k)) (view k) l
+
+-- they stand for some
+abbrev pub IsOrderly : Mem → Type 0
+IsOrderly k = (l : Ledger) × LedgerStands k l
 
 -- what stands within an access
 pub record PartsStand (k : Mem) (w : World) (l : Ledger) : Type 0 where

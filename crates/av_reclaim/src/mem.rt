@@ -2,18 +2,18 @@
 
 ghost use Rattle.std.specs.Prelude.{◌≡◌, IfOk};
 ghost use Rattle.av_plain.specs.Transcript.{at_first};
-ghost use Rattle.av_kernel.specs.View.{setting, count, Keeps};
+ghost use Rattle.av_reclaim.specs.Mem.{setting, count, Keeps};
 
-use crate::spaces::Spaces;
 use av_frames::Frames;
-use av_pagetable::{MapTable, Tables};
+use av_pagetable::{PageTable, Tables};
+use av_spaces::Spaces;
 use std::alloc::{AllocError, Global};
 
 /// The frames, the page table of each process, and the areas of each.
 #[derive(Drop)]
 pub struct Mem {
     pub frames: Frames,
-    pub tables: Tables<MapTable>,
+    pub tables: Tables<PageTable>,
     pub spaces: Spaces,
 }
 

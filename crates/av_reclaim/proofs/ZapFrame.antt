@@ -5,9 +5,9 @@ use Rattle.av_base.specs.Words.{with_at}
 use Rattle.av_frames.specs.Store.{Store, Seen, seen}
 use Rattle.av_pagetable.specs.Entries.{entry_at}
 use Rattle.av_plain.proofs.NoSwapLaws.{itself}
-use Rattle.av_kernel.specs.declared.mem.Mem.{Mem}
-use Rattle.av_kernel.specs.View.{plain, view, joined}
-use Rattle.av_kernel.specs.Exit.{released}
+use Rattle.av_reclaim.specs.declared.mem.Mem.{Mem}
+use Rattle.av_reclaim.specs.Mem.{plain, view, joined}
+use Rattle.av_reclaim.specs.Zap.{released}
 
 module _ (old : Mem) (mid : Store) (f : ℕ) (down : seen mid ≡ record (seen old.frames) { maps = with_at f ((seen old.frames).maps f - 1) (seen old.frames).maps }) (some : 0 < (seen old.frames).maps f) where
   left : (seen mid).maps f ≡ (seen old.frames).maps f - 1

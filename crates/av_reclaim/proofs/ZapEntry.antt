@@ -16,9 +16,9 @@ use Rattle.av_plain.proofs.LedgerLaws.{same_key, how_many-found}
 use Rattle.av_plain.proofs.NoSwapLaws.{itself, no_slot, free_is, shared_is}
 use Rattle.av_plain.proofs.TakingLaws.{leaving, taken-is, entry-taken, mapped-taken, slot_entries-taken, same_swap-taken, taking_one-alone}
 use Rattle.av_plain.proofs.SoundTaken.{taking_one-kept}
-use Rattle.av_kernel.specs.Exit.{LedgerStand, released}
-use Rattle.av_kernel.proofs.PageParts.{no_frame_at}
-use Rattle.av_kernel.proofs.PageEntries.{equal_is}
+use Rattle.av_reclaim.specs.Mem.{LedgerStand}
+use Rattle.av_reclaim.specs.Zap.{released}
+use Rattle.av_reclaim.proofs.Mem.{no_frame_at, equal_is}
 
 -- ---- the ledger
 

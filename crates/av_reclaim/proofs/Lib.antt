@@ -1,0 +1,5 @@
+pub mod Mem
+pub mod ZapEntry
+pub mod ZapFrame
+pub mod ZapFirst
+pub mod ZapRange
