@@ -12,12 +12,12 @@ use Rattle.av_plain.specs.Choice.{ChoosesAll}
 use Rattle.av_plain.specs.Transcript.{State}
 use Rattle.av_plain.proofs.AccessLaws.{after_all-append, notes_of-append, notes_of-noting, chooses-append, accesses-append, alike-all}
 use Rattle.av_reclaim.specs.declared.mem.Mem.{Mem}
-use Rattle.av_kernel.specs.declared.touched.Stop.{Stop}
-use Rattle.av_kernel.specs.declared.touched.Stop.TheVariants.{Segv, Oom}
+use Rattle.av_fault.specs.declared.fault.Stop.{Stop}
+use Rattle.av_fault.specs.declared.fault.Stop.TheVariants.{Segv, Oom}
 use Rattle.av_reclaim.specs.Mem.{setting, count}
-use Rattle.av_kernel.specs.Page.{IsPageStep, ShowsPiece, how_stopped, world_after}
+use Rattle.av_kernel.specs.Access.{IsPageStep, ShowsPiece, world_after, IsAccess, IsPiece, world_served}
+use Rattle.av_fault.specs.Fault.{how_stopped}
 use Rattle.av_kernel.specs.declared.access.Piece.{Piece}
-use Rattle.av_kernel.specs.Access.{IsAccess, IsPiece, world_served}
 use Rattle.av_kernel.proofs.AccessPages.{touches, touched-one, touched-more}
 use Rattle.av_kernel.proofs.AccessBytes.{reads-more, stored_twice, allowed-stored, lives-stored}
 

@@ -15,10 +15,10 @@ use Rattle.av_plain.specs.Step.{Answers, Reads, stored, next}
 use Rattle.av_plain.specs.Transcript.{State}
 use Rattle.av_plain.specs.Event.{Event, notes_of}
 use Rattle.av_reclaim.specs.declared.mem.Mem.{Mem}
-use Rattle.av_kernel.specs.declared.touched.Stop.{Stop}
-use Rattle.av_kernel.specs.declared.touched.Stop.TheVariants.{Segv, Oom}
+use Rattle.av_fault.specs.declared.fault.Stop.{Stop}
+use Rattle.av_fault.specs.declared.fault.Stop.TheVariants.{Segv, Oom}
 use Rattle.av_reclaim.specs.Mem.{setting, count}
-use Rattle.av_kernel.specs.Page.{how_stopped}
+use Rattle.av_fault.specs.Fault.{how_stopped}
 use Rattle.av_kernel.specs.Command.{MemSteps}
 use Rattle.av_kernel.specs.Access.{IsAccess, answer_of}
 

@@ -28,12 +28,12 @@ use Rattle.av_pagetable.specs.declared.tables.Tables.{Tables}
 use Rattle.av_pagetable.specs.declared.table.MapTable.{MapTable}
 use Rattle.av_pagetable.specs.declared.pte.Pte.{Pte}
 use Rattle.av_reclaim.specs.declared.mem.Mem.{Mem}
-use Rattle.av_spaces.specs.Spaces.{areas_of, IsSpawned}
+use Rattle.av_spaces.specs.Spaces.{IsSpawned}
 use Rattle.av_kernel.specs.Map.{HasProts}
-use Rattle.av_reclaim.specs.Mem.{setting, plain, view, count, HasTables, Keeps, LedgerStands}
+use Rattle.av_reclaim.specs.Mem.{ranges_of, setting, plain, view, count, HasTables, Keeps, LedgerStands}
 use Rattle.av_kernel.specs.Command.{MemSteps}
-use Rattle.av_reclaim.proofs.Mem.{kept-nothing, no_cache, no_frame_at, no_device}
-use Rattle.av_kernel.proofs.PageSteps.{no_headers}
+use Rattle.av_reclaim.proofs.MemLaws.{kept-nothing, no_cache, no_frame_at, no_device}
+use Rattle.av_kernel.proofs.AccessPage.{no_headers}
 
 at_number : (q p : ℕ) → eq_by_cmp nat_cmp q p ≡ (q == p)
 at_number q p = grind (arith, nat_tests)
@@ -122,13 +122,13 @@ module _ (old new : Mem) (s : State) (command : Command) (reply : Reply) (p : �
   changed step areas tables = stepped old new s (state_after s p now l (view new).free) command reply keeps step same_count stands refl areas tables kept-all
 
 -- the areas of a process that lives have changed
-module _ (old new : Mem) (s : State) (p : ℕ) (now : Process) (prots : ℕ → Option Prot) (keeps : Keeps old s) (alive : is_some (areas_of old.spaces p) ≡ true)
+module _ (old new : Mem) (s : State) (p : ℕ) (now : Process) (prots : ℕ → Option Prot) (keeps : Keeps old s) (alive : is_some (ranges_of old.spaces p) ≡ true)
     (spaces : HasProts old.spaces new.spaces p prots) (is : (page : ℕ) → prots page ≡ option_map (λ (x : Page). x.prot) (now page)) where
-  lives_as : (q : ℕ) → is_some (areas_of new.spaces q) ≡ is_some (areas_of old.spaces q)
+  lives_as : (q : ℕ) → is_some (ranges_of new.spaces q) ≡ is_some (ranges_of old.spaces q)
   lives_as q = by (q == p) refl
     where
-      by : (b : Bool) → (q == p) ≡ b → is_some (areas_of new.spaces q) ≡ is_some (areas_of old.spaces q)
-      by true e = ap (λ n. is_some (areas_of new.spaces n)) (is_number q p e) ∙ spaces.alive ∙ sym (ap (λ n. is_some (areas_of old.spaces n)) (is_number q p e) ∙ alive)
+      by : (b : Bool) → (q == p) ≡ b → is_some (ranges_of new.spaces q) ≡ is_some (ranges_of old.spaces q)
+      by true e = ap (λ n. is_some (ranges_of new.spaces n)) (is_number q p e) ∙ spaces.alive ∙ sym (ap (λ n. is_some (ranges_of old.spaces n)) (is_number q p e) ∙ alive)
       by false e = ap is_some (spaces.others q (other_number q p e))
 
   pub tables_kept : has new.tables ≡ has old.tables → HasTables new
@@ -150,8 +150,8 @@ module _ (old new : Mem) (s : State) (p : ℕ) (now : Process) (prots : ℕ → 
       by q true e = ap (lives s.world) (is_number q p e) ∙ lives_now ∙ sym (ap (λ b. cond b true (lives s.world q)) e)
       by q false e = sym (ap (λ b. cond b true (lives s.world q)) e)
 
-      covers_at : (q page : ℕ) (b : Bool) → (q == p) ≡ b → prot_of (areas_of new.spaces q) page ≡ option_map (λ (x : Page). x.prot) (cond (q == p) (now page) (pages s.world q page))
-      covers_at q page true e = ap (λ n. prot_of (areas_of new.spaces n) page) (is_number q p e) ∙ spaces.pages page ∙ is page
+      covers_at : (q page : ℕ) (b : Bool) → (q == p) ≡ b → prot_of (ranges_of new.spaces q) page ≡ option_map (λ (x : Page). x.prot) (cond (q == p) (now page) (pages s.world q page))
+      covers_at q page true e = ap (λ n. prot_of (ranges_of new.spaces n) page) (is_number q p e) ∙ spaces.pages page ∙ is page
           ∙ sym (ap (λ b. option_map (λ (x : Page). x.prot) (cond b (now page) (pages s.world q page))) e)
       covers_at q page false e = ap (λ a. prot_of a page) (spaces.others q (other_number q p e)) ∙ keeps.stands.areas.covers q page
           ∙ sym (ap (λ b. option_map (λ (x : Page). x.prot) (cond b (now page) (pages s.world q page))) e)
@@ -178,7 +178,7 @@ stays_orderly old tables spaces l entries h = record {
 
 -- a process that didn't live does now
 module _ (old : Mem) (tables : ProcessTables) (spaces : List (ℕ × List Range)) (s : State) (p : ℕ) (keeps : Keeps old s)
-    (absent : is_some (areas_of old.spaces p) ≡ false) (few : length old.spaces < 4096)
+    (absent : is_some (ranges_of old.spaces p) ≡ false) (few : length old.spaces < 4096)
     (entries : entry_at tables ≡ entry_at old.tables) (processes : has tables ≡ with_at p true (has old.tables)) (spawned : IsSpawned old.spaces spaces p) where
   dead : lives s.world p ≡ false
   dead = sym (keeps.stands.areas.alive p) ∙ absent
@@ -204,10 +204,10 @@ module _ (old : Mem) (tables : ProcessTables) (spaces : List (ℕ × List Range)
     free = keeps.stands.free;
   }
 
-  alive_now : (q : ℕ) → is_some (areas_of spaces q) ≡ lives (set_process s.world p nothing) q
+  alive_now : (q : ℕ) → is_some (ranges_of spaces q) ≡ lives (set_process s.world p nothing) q
   alive_now q = ap is_some (spawned.areas q) ∙ by (q == p) refl ∙ sym (lives-set s.world p nothing q ∙ ap (λ b. cond b true (lives s.world q)) (at_number q p))
     where
-      by : (b : Bool) → (q == p) ≡ b → is_some (cond b (Some []) (areas_of old.spaces q)) ≡ cond b true (lives s.world q)
+      by : (b : Bool) → (q == p) ≡ b → is_some (cond b (Some []) (ranges_of old.spaces q)) ≡ cond b true (lives s.world q)
       by true e = refl
       by false e = keeps.stands.areas.alive q
 
@@ -220,14 +220,14 @@ module _ (old : Mem) (tables : ProcessTables) (spaces : List (ℕ × List Range)
         ∙ sym (ap (option_map (λ (x : Page). x.prot)) (pages-set s.world p nothing q page ∙ ap (λ b. cond b None (pages s.world q page)) (at_number q p)));
   }
     where
-      by : (q page : ℕ) (b : Bool) → prot_of (cond b (Some []) (areas_of old.spaces q)) page ≡ option_map (λ (x : Page). x.prot) (cond b None (pages s.world q page))
+      by : (q page : ℕ) (b : Bool) → prot_of (cond b (Some []) (ranges_of old.spaces q)) page ≡ option_map (λ (x : Page). x.prot) (cond b None (pages s.world q page))
       by q page true = refl
       by q page false = keeps.stands.areas.covers q page
 
   tables_now : HasTables (moved_on old tables spaces)
   tables_now q = ap (λ (h : ℕ → Bool). h q) processes ∙ by (q == p) ∙ sym (ap is_some (spawned.areas q))
     where
-      by : (b : Bool) → cond b true (has old.tables q) ≡ is_some (cond b (Some []) (areas_of old.spaces q))
+      by : (b : Bool) → cond b true (has old.tables q) ≡ is_some (cond b (Some []) (ranges_of old.spaces q))
       by true = refl
       by false = keeps.tables q
 

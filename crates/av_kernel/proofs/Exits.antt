@@ -29,11 +29,11 @@ use Rattle.av_plain.proofs.Laws.{both_first, both_second}
 use Rattle.av_plain.proofs.TakingLaws.{entry-ended, entry-others, exit-is-range}
 use Rattle.av_plain.proofs.SoundTaken.{process-ended, pages-ended}
 use Rattle.av_reclaim.specs.declared.mem.Mem.{Mem}
-use Rattle.av_spaces.specs.Spaces.{areas_of, IsEnded}
-use Rattle.av_reclaim.specs.Mem.{setting, plain, view, count, HasTables, Keeps, LedgerStands}
+use Rattle.av_spaces.specs.Spaces.{IsEnded}
+use Rattle.av_reclaim.specs.Mem.{ranges_of, setting, plain, view, count, HasTables, Keeps, LedgerStands}
 use Rattle.av_kernel.specs.Command.{MemSteps}
 use Rattle.av_reclaim.specs.Zap.{HasZapped}
-use Rattle.av_reclaim.proofs.Mem.{kept-nothing, no_cache}
+use Rattle.av_reclaim.proofs.MemLaws.{kept-nothing, no_cache}
 use Rattle.av_pagetable.proofs.Entries.{past_pages}
 use Rattle.av_kernel.proofs.Commands.{bare, is_number, kept-on, stepped}
 
@@ -93,7 +93,7 @@ entries_below k l p page stands some = by (nat_lt page page_bound) refl
 pub all_gone : (old mid : Mem) (l : Ledger) (p : ℕ) → LedgerStands old l → HasZapped old mid l (taking l (keys_in l p 0 page_bound)) → HasZapped old mid l (taking l (keys_of_process l p))
 all_gone old mid l p stands = subst (λ ks. HasZapped old mid l (taking l ks)) (sym (exit-is-range l p page_bound (λ page some. entries_below old l p page stands some)))
 
-module _ (old mid : Mem) (tables : ProcessTables) (spaces : List (ℕ × List Range)) (s : State) (p : ℕ) (keeps : Keeps old s) (alive : is_some (areas_of old.spaces p) ≡ true)
+module _ (old mid : Mem) (tables : ProcessTables) (spaces : List (ℕ × List Range)) (s : State) (p : ℕ) (keeps : Keeps old s) (alive : is_some (ranges_of old.spaces p) ≡ true)
     (taken : HasZapped old mid s.ledger (taking s.ledger (keys_of_process s.ledger p))) (bytes : (view mid).bytes ≡ (view old).bytes) (same_spaces : mid.spaces ≡ old.spaces) (same_tables : has mid.tables ≡ has old.tables) (same_count : count mid ≡ count old)
     (processes : has tables ≡ with_at p false (has mid.tables)) (entries : entry_at tables ≡ with_at p (λ page. Empty) (entry_at mid.tables)) (ended : IsEnded mid.spaces spaces p) where
   alive_now : lives s.world p ≡ true
@@ -152,13 +152,13 @@ module _ (old mid : Mem) (tables : ProcessTables) (spaces : List (ℕ × List Ra
       number : (n m w w' : ℕ) → n + 1 ≡ m → m ≡ w → w' + 1 ≡ w → n ≡ w'
       number n m w w' a b c = omega arith
 
-      lives_as : (q : ℕ) (b : Bool) → is_some (cond b None (areas_of mid.spaces q)) ≡ cond b false (lives s.world q)
+      lives_as : (q : ℕ) (b : Bool) → is_some (cond b None (ranges_of mid.spaces q)) ≡ cond b false (lives s.world q)
       lives_as q true = refl
-      lives_as q false = ap (λ x. is_some (areas_of x q)) same_spaces ∙ keeps.stands.areas.alive q
+      lives_as q false = ap (λ x. is_some (ranges_of x q)) same_spaces ∙ keeps.stands.areas.alive q
 
-      covered : (q page : ℕ) (b : Bool) → prot_of (cond b None (areas_of mid.spaces q)) page ≡ option_map (λ (x : Page). x.prot) (cond b None (pages s.world q page))
+      covered : (q page : ℕ) (b : Bool) → prot_of (cond b None (ranges_of mid.spaces q)) page ≡ option_map (λ (x : Page). x.prot) (cond b None (pages s.world q page))
       covered q page true = refl
-      covered q page false = ap (λ x. prot_of (areas_of x q) page) same_spaces ∙ keeps.stands.areas.covers q page
+      covered q page false = ap (λ x. prot_of (ranges_of x q) page) same_spaces ∙ keeps.stands.areas.covers q page
 
   kept_now : (q page : ℕ) → IsKept (view (record { frames = mid.frames; tables = tables; spaces = spaces })) None (after_all s.ledger (taking s.ledger (keys_of_process s.ledger p))) (entry (after_all s.ledger (taking s.ledger (keys_of_process s.ledger p))) (q, page)) (pages (end_process s.world p) q page)
   kept_now q page =
@@ -173,9 +173,9 @@ module _ (old mid : Mem) (tables : ProcessTables) (spaces : List (ℕ × List Ra
   has_now : HasTables (record { frames = mid.frames; tables = tables; spaces = spaces })
   has_now q = ap (λ (h : ℕ → Bool). h q) processes ∙ has_as q (q == p) ∙ sym (ap is_some (ended.areas q))
     where
-      has_as : (q : ℕ) (b : Bool) → cond b false (has mid.tables q) ≡ is_some (cond b None (areas_of mid.spaces q))
+      has_as : (q : ℕ) (b : Bool) → cond b false (has mid.tables q) ≡ is_some (cond b None (ranges_of mid.spaces q))
       has_as q true = refl
-      has_as q false = ap (λ (h : ℕ → Bool). h q) same_tables ∙ keeps.tables q ∙ sym (ap (λ x. is_some (areas_of x q)) same_spaces)
+      has_as q false = ap (λ (h : ℕ → Bool). h q) same_tables ∙ keeps.tables q ∙ sym (ap (λ x. is_some (ranges_of x q)) same_spaces)
 
   stands_now : LedgerStands (record { frames = mid.frames; tables = tables; spaces = spaces }) (after_all s.ledger (taking s.ledger (keys_of_process s.ledger p)))
   stands_now = record {

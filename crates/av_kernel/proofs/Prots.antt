@@ -6,6 +6,7 @@ use Rattle.std.proofs.lemmas.Option.{none-some, same_Some}
 use Rattle.std.specs.Prelude.{OnOk, IfOk}
 use Rattle.std.specs.Ordering.{nat_cmp}
 use Rattle.std.specs.BTreeMap.{BTreeMap, get, is_at, WritesThrough}
+use Rattle.av_reclaim.specs.Mem.{ranges_of}
 use Rattle.av_vma.specs.declared.area.Area.{Area}
 use Rattle.av_base.specs.declared.prot.Prot.{Prot}
 use Rattle.av_base.specs.Limits.{low_page, top_page}
@@ -19,7 +20,7 @@ use Rattle.av_merge.specs.Process.{AreAreasOf, IsWhole, Stays}
 use Rattle.av_merge.proofs.Mappings.{around_maps, cut_out_maps, laid_of, placed_maps}
 use Rattle.av_merge.proofs.Places.{taken_is}
 use Rattle.av_plain.specs.Stands.{prot_of}
-use Rattle.av_spaces.specs.Spaces.{Spaces, areas_of}
+use Rattle.av_spaces.specs.Spaces.{Spaces}
 use Rattle.av_kernel.specs.Spaces.{spaces_by, ranges_by, AreTrees}
 use Rattle.av_kernel.specs.Map.{set_on, HasProts}
 use Rattle.av_kernel.proofs.SpacesLaws.{areas_are, prot_on, prots_are, tree_of, trees_changed, changed}
@@ -49,14 +50,14 @@ module _ (f f' : ℕ → Option Area) (old new : BTreeMap ℕ (List Span)) (p : 
   pub lent_trees : AreTrees f' new
   lent_trees = trees_changed f f' p (stays areas_before).others old new (Some after) trees (stays areas_before).areas now
 
-  prots_before : (page : ℕ) → prots_on (pages_by f before) page ≡ prot_of (areas_of (spaces_by f old.entries) p) page
+  prots_before : (page : ℕ) → prots_on (pages_by f before) page ≡ prot_of (ranges_of (spaces_by f old.entries) p) page
   prots_before page = sym (ap (λ o. prot_of o page) (areas_are f old.entries p ∙ ap (option_map (ranges_by f)) (sym was)) ∙ prots_are f p before areas_before page)
 
   pub lent_changed : (s : Spaces) → spaces_by f old.entries ≡ s → (from n : ℕ) (prot : Option Prot) → ((page : ℕ) → prots_on (pages_by f' after) page ≡ set_on from n prot (prots_on (pages_by f before)) page)
-      → HasProts s (spaces_by f' new.entries) p (set_on from n prot (prot_of (areas_of s p)))
+      → HasProts s (spaces_by f' new.entries) p (set_on from n prot (prot_of (ranges_of s p)))
   lent_changed s is from n prot pages =
-      subst (λ s. HasProts s (spaces_by f' new.entries) p (set_on from n prot (prot_of (areas_of s p)))) is
-      (changed f f' p (stays areas_before).others old new (Some after) trees (stays areas_before).areas now after refl writes.2 (set_on from n prot (prot_of (areas_of (spaces_by f old.entries) p)))
+      subst (λ s. HasProts s (spaces_by f' new.entries) p (set_on from n prot (prot_of (ranges_of s p)))) is
+      (changed f f' p (stays areas_before).others old new (Some after) trees (stays areas_before).areas now after refl writes.2 (set_on from n prot (prot_of (ranges_of (spaces_by f old.entries) p)))
       (λ page. pages page ∙ ap (λ (prots : ℕ → Option Prot). set_on from n prot prots page) (λ i page. prots_before page i)))
 
 pub if_both : {X Y : Type 0} (r : Result X Y) (P Q R : X → Type 0) → ((x : X) → P x → Q x → R x) → IfOk r P → IfOk r Q → IfOk r R

@@ -30,13 +30,13 @@ use Rattle.av_plain.specs.Stands.{Holds, IsKept, IsKeptAt, prot_of, Range}
 use Rattle.av_plain.proofs.RangeLaws.{is-leading}
 use Rattle.av_plain.proofs.TakingLaws.{entry-range}
 use Rattle.av_reclaim.specs.declared.mem.Mem.{Mem}
-use Rattle.av_spaces.specs.Spaces.{Spaces, areas_of, is_taken}
+use Rattle.av_spaces.specs.Spaces.{Spaces, is_taken}
 use Rattle.av_kernel.specs.Map.{set_on, HasProts}
-use Rattle.av_reclaim.specs.Mem.{setting, view, count, Keeps, IsSteady}
+use Rattle.av_reclaim.specs.Mem.{ranges_of, setting, view, count, Keeps, IsSteady}
 use Rattle.av_reclaim.specs.Zap.{HasZapped}
 use Rattle.av_kernel.specs.Range.{IsProcess, IsPlaced, AreToClear, AreCleared}
 use Rattle.av_kernel.specs.Command.{MemSteps}
-use Rattle.av_reclaim.proofs.Mem.{mapped_is}
+use Rattle.av_reclaim.proofs.MemLaws.{mapped_is}
 use Rattle.av_kernel.proofs.Parts.{page_back}
 use Rattle.av_kernel.proofs.Places.{IsSuited, suited}
 use Rattle.av_kernel.proofs.Commands.{bare, is_number, moved_on, orderly, refused, stays_orderly, changed, areas_changed, tables_kept}
@@ -54,8 +54,8 @@ suits k steady p n page place placed =
     suited k.spaces p (pages steady.0.world p) same n page place (placed (pages steady.0.world p) same)
 
 -- the same pages change twice
-pub twice_changed : (s t u : Spaces) (p page n : ℕ) (x y : Option Prot) → HasProts s t p (set_on page n x (prot_of (areas_of s p))) → HasProts t u p (set_on page n y (prot_of (areas_of t p)))
-    → HasProts s u p (set_on page n y (prot_of (areas_of s p)))
+pub twice_changed : (s t u : Spaces) (p page n : ℕ) (x y : Option Prot) → HasProts s t p (set_on page n x (prot_of (ranges_of s p))) → HasProts t u p (set_on page n y (prot_of (ranges_of t p)))
+    → HasProts s u p (set_on page n y (prot_of (ranges_of s p)))
 twice_changed s t u p page n x y first second = record {
   others = λ q other. second.others q other ∙ first.others q other;
   alive = second.alive;
@@ -64,9 +64,9 @@ twice_changed s t u p page n x y first second = record {
   apart = second.apart;
 }
   where
-    by : (o : ℕ) (b : Bool) → within page n o ≡ b → cond b y (prot_of (areas_of t p) o) ≡ cond b y (prot_of (areas_of s p) o)
+    by : (o : ℕ) (b : Bool) → within page n o ≡ b → cond b y (prot_of (ranges_of t p) o) ≡ cond b y (prot_of (ranges_of s p) o)
     by o true e = refl
-    by o false e = first.pages o ∙ ap (λ b. cond b x (prot_of (areas_of s p) o)) e
+    by o false e = first.pages o ∙ ap (λ b. cond b x (prot_of (ranges_of s p) o)) e
 
 -- ---- the pages of a range go
 
@@ -76,10 +76,10 @@ on_ok (Err e) f h = tt
 
 -- their entries have gone, and then their areas
 pub are_cleared : (old mid : Mem) (spaces : Spaces) (p page n : ℕ) (l : Ledger) → HasZapped old mid l (taking l (keys_in l p page (page + n - page))) → mid.spaces ≡ old.spaces → has mid.tables ≡ has old.tables → (view mid).bytes ≡ (view old).bytes
-    → HasProts mid.spaces spaces p (set_on page n None (prot_of (areas_of mid.spaces p))) → AreCleared old (moved_on mid mid.tables spaces) p page n l (taking l (keys_in l p page n))
+    → HasProts mid.spaces spaces p (set_on page n None (prot_of (ranges_of mid.spaces p))) → AreCleared old (moved_on mid mid.tables spaces) p page n l (taking l (keys_in l p page n))
 are_cleared old mid spaces p page n l t same processes bytes gone = record {
   taken = subst (λ x. HasZapped old (moved_on mid mid.tables spaces) l (taking l (keys_in l p page x))) (let size : page + n - page ≡ n = omega arith in size) (record { stands = stays_orderly mid mid.tables spaces _ refl t.stands; notes = t.notes; free = t.free });
-  spaces = subst (λ x. HasProts x spaces p (set_on page n None (prot_of (areas_of x p)))) same gone;
+  spaces = subst (λ x. HasProts x spaces p (set_on page n None (prot_of (ranges_of x p)))) same gone;
   processes = processes;
   bytes = bytes;
 }
@@ -87,14 +87,14 @@ are_cleared old mid spaces p page n l t same processes bytes gone = record {
 -- ---- the pages of a range are replaced
 
 module _ (old new : Mem) (s : State) (command : Command) (reply : Reply) (p page n : ℕ) (o : Option Page) (events : List Event)
-    (keeps : Keeps old s) (alive : is_some (areas_of old.spaces p) ≡ true) (same_count : count new ≡ count old)
+    (keeps : Keeps old s) (alive : is_some (ranges_of old.spaces p) ≡ true) (same_count : count new ≡ count old)
     (taken : HasZapped old new s.ledger events) (entries : (q at : ℕ) → entry (after_all s.ledger events) (q, at) ≡ cond (q == p && within page n at) None (entry s.ledger (q, at)))
-    (blank : Holds o (λ _. 0)) (spaces : HasProts old.spaces new.spaces p (set_on page n (option_map (λ (x : Page). x.prot) o) (prot_of (areas_of old.spaces p))))
+    (blank : Holds o (λ _. 0)) (spaces : HasProts old.spaces new.spaces p (set_on page n (option_map (λ (x : Page). x.prot) o) (prot_of (ranges_of old.spaces p))))
     (processes : has new.tables ≡ has old.tables) (bytes : (view new).bytes ≡ (view old).bytes) where
-  covered : (at : ℕ) → set_on page n (option_map (λ (x : Page). x.prot) o) (prot_of (areas_of old.spaces p)) at ≡ option_map (λ (x : Page). x.prot) (replaced (pages s.world p) page n (λ _. o) at)
+  covered : (at : ℕ) → set_on page n (option_map (λ (x : Page). x.prot) o) (prot_of (ranges_of old.spaces p)) at ≡ option_map (λ (x : Page). x.prot) (replaced (pages s.world p) page n (λ _. o) at)
   covered at = by (within page n at)
     where
-      by : (b : Bool) → cond b (option_map (λ (x : Page). x.prot) o) (prot_of (areas_of old.spaces p) at) ≡ option_map (λ (x : Page). x.prot) (cond b o (pages s.world p at))
+      by : (b : Bool) → cond b (option_map (λ (x : Page). x.prot) o) (prot_of (ranges_of old.spaces p) at) ≡ option_map (λ (x : Page). x.prot) (cond b o (pages s.world p at))
       by true = refl
       by false = keeps.stands.areas.covers p at
 
@@ -115,12 +115,12 @@ module _ (old new : Mem) (s : State) (command : Command) (reply : Reply) (p page
       changed old new s command reply p now (after_all s.ledger events) keeps same_count taken.stands bytes
       (λ q at other. entries q at ∙ ap (λ b. cond (b && within page n at) None (entry s.ledger (q, at))) other) kept
       (record { events = events; legal = legal; world = world; ledger = refl; free = subst (λ free. ChoosesAll s.ledger events free (view new).free) keeps.stands.free taken.free })
-      (areas_changed old new s p now (set_on page n (option_map (λ (x : Page). x.prot) o) (prot_of (areas_of old.spaces p))) keeps alive spaces covered)
-      (tables_kept old new s p now (set_on page n (option_map (λ (x : Page). x.prot) o) (prot_of (areas_of old.spaces p))) keeps alive spaces covered processes)
+      (areas_changed old new s p now (set_on page n (option_map (λ (x : Page). x.prot) o) (prot_of (ranges_of old.spaces p))) keeps alive spaces covered)
+      (tables_kept old new s p now (set_on page n (option_map (λ (x : Page). x.prot) o) (prot_of (ranges_of old.spaces p))) keeps alive spaces covered processes)
 
 -- ---- munmap
 
-module _ (old new : Mem) (s : State) (p a len : ℕ) (keeps : Keeps old s) (alive : is_some (areas_of old.spaces p) ≡ true) (valid : (not (is_on_page a) || len == 0 || nat_lt top (a + len)) ≡ false)
+module _ (old new : Mem) (s : State) (p a len : ℕ) (keeps : Keeps old s) (alive : is_some (ranges_of old.spaces p) ≡ true) (valid : (not (is_on_page a) || len == 0 || nat_lt top (a + len)) ≡ false)
     (same_count : count new ≡ count old) (cleared : AreCleared old new p (page_of a) (pages_of len) s.ledger (taking s.ledger (keys_in s.ledger p (page_of a) (pages_of len)))) where
   munmap-allowed : refusal (tests (setting (count old)) s.world s.ledger (Munmap p a len)) ≡ None
   munmap-allowed = ap (λ b. cond (not b) (Some Esrch) (cond (not (is_on_page a) || len == 0 || nat_lt top (a + len)) (Some Einval) None)) (sym (keeps.stands.areas.alive p) ∙ alive) ∙ ap (λ b. cond b (Some Einval) None) valid
@@ -137,7 +137,7 @@ module _ (old new : Mem) (s : State) (p a len : ℕ) (keeps : Keeps old s) (aliv
 
 -- ---- mmap
 
-module _ (old : Mem) (s : State) (p len : ℕ) (prot : Prot) (place : Place) (keeps : Keeps old s) (alive : is_some (areas_of old.spaces p) ≡ true) (some : (len == 0) ≡ false) (fits : is_too_long len ≡ false) where
+module _ (old : Mem) (s : State) (p len : ℕ) (prot : Prot) (place : Place) (keeps : Keeps old s) (alive : is_some (ranges_of old.spaces p) ≡ true) (some : (len == 0) ≡ false) (fits : is_too_long len ≡ false) where
   -- the tests of its place are left
   mmap-tests : refusal (tests (setting (count old)) s.world s.ledger (Mmap p len prot place)) ≡ refusal (place_tests (pages s.world p) (pages_of len) place)
   mmap-tests = ap (λ b. cond (not b) (Some Esrch) (cond (len == 0) (Some Einval) (cond (is_too_long len) (Some Enomem) (refusal (place_tests (pages s.world p) (pages_of len) place))))) (sym (keeps.stands.areas.alive p) ∙ alive)
@@ -191,7 +191,7 @@ module _ (old : Mem) (s : State) (p len : ℕ) (prot : Prot) (place : Place) (ke
 
   module _ (mid : Mem) (spaces : List (ℕ × List Range)) (page : ℕ) (placed : IsPlaced (pages s.world p) (pages_of len) place (Ok page)) (clear : AreToClear (is_taken old.spaces p) page (pages_of len) place)
       (same_count : count mid ≡ count old) (cleared : AreCleared old mid p page (pages_of len) s.ledger (clearing s.ledger p (pages_of len) place))
-      (mapped : HasProts mid.spaces spaces p (set_on page (pages_of len) (Some prot) (prot_of (areas_of mid.spaces p)))) where
+      (mapped : HasProts mid.spaces spaces p (set_on page (pages_of len) (Some prot) (prot_of (ranges_of mid.spaces p)))) where
     pub mmap-steps : MemSteps old (moved_on mid mid.tables spaces) s (Mmap p len prot place) (bare (MapAt (address_of page)))
     mmap-steps =
         let events = clearing s.ledger p (pages_of len) place in
@@ -208,8 +208,8 @@ module _ (old : Mem) (s : State) (p len : ℕ) (prot : Prot) (place : Place) (ke
 
 -- ---- mprotect
 
-module _ (old : Mem) (spaces : List (ℕ × List Range)) (s : State) (p a len reached : ℕ) (prot : Prot) (keeps : Keeps old s) (alive : is_some (areas_of old.spaces p) ≡ true) (passed : refusal ((not (is_on_page a), Einval) ∷ (wraps a len, Enomem) ∷ []) ≡ None)
-    (reaches : IsReached (is_taken old.spaces p) (page_of a) (page_of a + pages_of len) reached) (given : HasProts old.spaces spaces p (set_on (page_of a) (reached - page_of a) (Some prot) (prot_of (areas_of old.spaces p)))) where
+module _ (old : Mem) (spaces : List (ℕ × List Range)) (s : State) (p a len reached : ℕ) (prot : Prot) (keeps : Keeps old s) (alive : is_some (ranges_of old.spaces p) ≡ true) (passed : refusal ((not (is_on_page a), Einval) ∷ (wraps a len, Enomem) ∷ []) ≡ None)
+    (reaches : IsReached (is_taken old.spaces p) (page_of a) (page_of a + pages_of len) reached) (given : HasProts old.spaces spaces p (set_on (page_of a) (reached - page_of a) (Some prot) (prot_of (ranges_of old.spaces p)))) where
   mprotect-allowed : refusal (tests (setting (count old)) s.world s.ledger (Mprotect p a len prot)) ≡ None
   mprotect-allowed = ap (λ b. cond (not b) (Some Esrch) (refusal ((not (is_on_page a), Einval) ∷ (wraps a len, Enomem) ∷ []))) (sym (keeps.stands.areas.alive p) ∙ alive) ∙ passed
 
@@ -232,14 +232,14 @@ module _ (old : Mem) (spaces : List (ℕ × List Range)) (s : State) (p a len re
   })
 
   -- the protection is that of the pages, and their bytes are as they were
-  covered-protected : (page : ℕ) → set_on (page_of a) (reached - page_of a) (Some prot) (prot_of (areas_of old.spaces p)) page ≡ option_map (λ (x : Page). x.prot) (protected (pages s.world p) (page_of a) (reached - page_of a) prot page)
+  covered-protected : (page : ℕ) → set_on (page_of a) (reached - page_of a) (Some prot) (prot_of (ranges_of old.spaces p)) page ≡ option_map (λ (x : Page). x.prot) (protected (pages s.world p) (page_of a) (reached - page_of a) prot page)
   covered-protected page = by (within (page_of a) (reached - page_of a) page) refl
     where
       there : (o : Option Page) → is_some o ≡ true → Some prot ≡ option_map (λ (x : Page). x.prot) (option_map (with_prot prot) o)
       there None e = cc
       there (Some x) e = refl
 
-      by : (b : Bool) → within (page_of a) (reached - page_of a) page ≡ b → cond b (Some prot) (prot_of (areas_of old.spaces p) page) ≡ option_map (λ (x : Page). x.prot) (cond b (option_map (with_prot prot) (pages s.world p page)) (pages s.world p page))
+      by : (b : Bool) → within (page_of a) (reached - page_of a) page ≡ b → cond b (Some prot) (prot_of (ranges_of old.spaces p) page) ≡ option_map (λ (x : Page). x.prot) (cond b (option_map (with_prot prot) (pages s.world p page)) (pages s.world p page))
       by true e =
           let low : page_of a ≤ page = grind (arith, nat_tests, e) in
           let high : page < page_of a + (reached - page_of a) = grind (arith, nat_tests, e) in
@@ -284,8 +284,8 @@ module _ (old : Mem) (spaces : List (ℕ × List Range)) (s : State) (p a len re
         ledger = refl;
         free = keeps.stands.free;
       })
-      (areas_changed old new s p now (set_on (page_of a) (reached - page_of a) (Some prot) (prot_of (areas_of old.spaces p))) keeps alive given covered-protected)
-      (tables_kept old new s p now (set_on (page_of a) (reached - page_of a) (Some prot) (prot_of (areas_of old.spaces p))) keeps alive given covered-protected refl)
+      (areas_changed old new s p now (set_on (page_of a) (reached - page_of a) (Some prot) (prot_of (ranges_of old.spaces p))) keeps alive given covered-protected)
+      (tables_kept old new s p now (set_on (page_of a) (reached - page_of a) (Some prot) (prot_of (ranges_of old.spaces p))) keeps alive given covered-protected refl)
 
   -- all pages were mapped
   pub mprotect-steps : page_of a + pages_of len ≤ reached → MemSteps old (moved_on old old.tables spaces) s (Mprotect p a len prot) (bare Done)

@@ -12,10 +12,10 @@ use Rattle.av_plain.specs.Choice.{ChoosesAll}
 use Rattle.av_plain.specs.Transcript.{State}
 use Rattle.av_kernel.specs.declared.access.Piece.{Piece}
 use Rattle.av_reclaim.specs.declared.mem.Mem.{Mem}
-use Rattle.av_kernel.specs.declared.touched.Stop.{Stop}
-use Rattle.av_kernel.specs.declared.touched.Stop.TheVariants.{Segv, Oom}
+use Rattle.av_fault.specs.declared.fault.Stop.{Stop}
+use Rattle.av_fault.specs.declared.fault.Stop.TheVariants.{Segv, Oom}
 use Rattle.av_reclaim.specs.Mem.{setting, count, Keeps}
-use Rattle.av_kernel.specs.Page.{how_stopped}
+use Rattle.av_fault.specs.Fault.{how_stopped}
 
 -- it begins behind the first `done` of n bytes, and goes on to the end of its page or of the bytes
 abbrev pub IsPiece : ℕ → ℕ → ℕ → Piece → Type 0

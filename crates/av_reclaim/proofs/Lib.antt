@@ -1,4 +1,4 @@
-pub mod Mem
+pub mod MemLaws
 pub mod ZapEntry
 pub mod ZapFrame
 pub mod ZapFirst

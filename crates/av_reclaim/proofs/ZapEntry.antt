@@ -18,7 +18,7 @@ use Rattle.av_plain.proofs.TakingLaws.{leaving, taken-is, entry-taken, mapped-ta
 use Rattle.av_plain.proofs.SoundTaken.{taking_one-kept}
 use Rattle.av_reclaim.specs.Mem.{LedgerStand}
 use Rattle.av_reclaim.specs.Zap.{released}
-use Rattle.av_reclaim.proofs.Mem.{no_frame_at, equal_is}
+use Rattle.av_reclaim.proofs.MemLaws.{no_frame_at, equal_is}
 
 -- ---- the ledger
 

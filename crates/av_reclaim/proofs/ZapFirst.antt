@@ -16,7 +16,7 @@ use Rattle.av_plain.proofs.NoSwapLaws.{itself, free_is}
 use Rattle.av_reclaim.specs.declared.mem.Mem.{Mem}
 use Rattle.av_reclaim.specs.Mem.{setting, count, plain, view, joined, LedgerStand, LedgerStands}
 use Rattle.av_reclaim.specs.Zap.{released, ZapsFirst}
-use Rattle.av_reclaim.proofs.Mem.{view_same, no_cache, entry_put_in}
+use Rattle.av_reclaim.proofs.MemLaws.{view_same, no_cache, entry_put_in}
 use Rattle.av_reclaim.proofs.ZapEntry.{zero_left, zero_freed, released_left, released_freed}
 
 module _ (old : Mem) (l : Ledger) (stands : LedgerStands old l) where

@@ -17,7 +17,7 @@ use Rattle.av_reclaim.specs.declared.mem.Mem.{Mem}
 use Rattle.av_plain.specs.Stands.{entry_of}
 use Rattle.av_reclaim.specs.Mem.{plain, view, LedgerStands}
 use Rattle.av_reclaim.specs.Zap.{ZapsFirst, HasZapped, KeepsRest}
-use Rattle.av_reclaim.proofs.Mem.{no_cache}
+use Rattle.av_reclaim.proofs.MemLaws.{no_cache}
 
 -- those of a range below a page are gone: the events so far, and what is left to go
 pub record IsTaking (old new : Mem) (p from past next : ℕ) (first : Ledger) : Type 0 where

@@ -60,9 +60,9 @@ view k = joined (seen k.frames) (λ p page. plain (entry_at k.tables p page)) k.
 abbrev pub count : Mem → ℕ
 count k = (seen k.frames).count
 
--- a process has a table exactly where it lives
+-- a process has a table exactly where it has areas
 abbrev pub HasTables : Mem → Type 0
-HasTables k = (p : ℕ) → has k.tables p ≡ is_some (areas_of k.spaces p)
+HasTables k = (p : ℕ) → has k.tables p ≡ is_some (ranges_of k.spaces p)
 
 -- the memory system stands for the memories, the ledger and the free frames; there is no device
 pub record Keeps (k : Mem) (s : State) : Type 0 where

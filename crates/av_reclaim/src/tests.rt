@@ -10,7 +10,7 @@ fn the_last_entry_frees_its_frame(rt: HostRuntime) -> Result<(), Fail> {
     assert_eq!(rt; mem.frames.free(), 2);
     mem.tables.spawn(alloc, 1)?;
     mem.tables.set(1, 100, Pte::Zero)?;
-    zap(&mut mem, 1, 0, 100);
+    zap_range(&mut mem, 1, 0, 100);
     assert_eq!(rt; mem.tables.get(1, 100), Pte::Zero);
     Ok(())
 }

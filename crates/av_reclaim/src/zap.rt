@@ -20,11 +20,11 @@ pub fn zap_all(mem: &mut Mem, process: u16)
         HasZapped mem.old mem.new l (taking l (keys_of_process l process)) }
     ensures rest { KeepsRest mem.old mem.new }
 {
-    zap(mem, process, 0, PAST_PAGES);
+    zap_range(mem, process, 0, PAST_PAGES);
 }
 
 /// Takes away the entries of a process's pages from `from` to below `past`, by rising page.
-pub fn zap(mem: &mut Mem, process: u16, from: u64, past: u64)
+pub fn zap_range(mem: &mut Mem, process: u16, from: u64, past: u64)
     requires orderly { IsOrderly mem.old }
     ensures zapped { (l : Ledger) → LedgerStands mem.old l →
         HasZapped mem.old mem.new l (taking l (keys_in l process from (past - from))) }

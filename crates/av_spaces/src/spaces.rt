@@ -7,7 +7,7 @@ ghost use Rattle.av_vma.specs.Gap.{IsGap};
 ghost use Rattle.av_vmatree.specs.Spans.{IsFree, IsMet};
 ghost use Rattle.av_merge.specs.Pages.{IsReached};
 ghost use Rattle.av_merge.specs.Process.{AreAreasOf};
-ghost use Rattle.av_spaces.specs.Spaces.{areas_of, pages_of, is_taken, mapped, unmapped, AreThese, AreProtected, IsSpawned, IsChanged, IsEnded};
+ghost use Rattle.av_spaces.specs.Spaces.{areas_of, pages_of, is_taken, mapped, unmapped, AreThese, AreProtected, AreRising, IsSpawned, IsChanged, IsEnded};
 ghost use Rattle.av_spaces.specs.Trees.{areas_by};
 
 use av_base::Prot;
@@ -181,7 +181,8 @@ impl Spaces {
     /// The areas of a process that lives, in the order of their pages, in time linear in their number.
     pub fn areas(&self, process: u16) -> Result<Vec<Area>, AllocError>
         requires { is_some (areas_of self.now process) ≡ true }
-        ensures { IfOk result (λ areas. areas_of self.now process ≡ Some areas.items) }
+        ensures areas { IfOk result (λ areas. areas_of self.now process ≡ Some areas.items) }
+        ensures rising { IfOk result (λ areas. AreRising process areas.items) }
     {
         let Some(tree) = self.trees.get(&process) else {
             unreachable!()

@@ -5,7 +5,7 @@ use Rattle.av_base.specs.Page.{pages_of}
 use Rattle.av_plain.specs.Stands.{prot_of}
 use Rattle.av_plain.specs.Step.{clearing}
 use Rattle.av_trace.specs.declared.command.Command.TheVariants.{Mmap}
-use Rattle.av_spaces.specs.Spaces.{areas_of}
+use Rattle.av_reclaim.specs.Mem.{ranges_of}
 use Rattle.av_kernel.specs.Map.{set_on, HasProts}
 use Rattle.av_kernel.specs.Range.{IsPlaced, AreCleared}
 use Rattle.av_kernel.specs.Command.{MemSteps}
@@ -44,7 +44,7 @@ returns-in_ok-map-in-Ok-clause-step c = λ s keeps.
     (mmap-steps k s c.args.process c.args.len c.args.prot c.args.place keeps (sym c.lives.ensures ∙ c.if-not-lives.false) (not_zero c.args.len c.if-len-eq0.false) (sym c.is_too_long.ensures ∙ c.if-is_too_long.false)
     mid c.map.new.self page placed (suited k.spaces c.args.process (pages s.world c.args.process) (taken_is k s c.args.process keeps) (pages_of c.args.len) page c.args.place placed).clear c.make_room.ensures.count
     (subst (λ n. AreCleared k mid c.args.process page n s.ledger (clearing s.ledger c.args.process n c.args.place)) size (c.in_ok-make_room-in-Ok.ensures.cleared s.ledger (orderly k s keeps)))
-    (subst (λ n. HasProts mid.spaces c.map.new.self c.args.process (set_on page n (Some c.args.prot) (prot_of (areas_of mid.spaces c.args.process)))) size c.in_ok-map-in-Ok.ensures.ok))
+    (subst (λ n. HasProts mid.spaces c.map.new.self c.args.process (set_on page n (Some c.args.prot) (prot_of (ranges_of mid.spaces c.args.process)))) size c.in_ok-map-in-Ok.ensures.ok))
 
 pub returns-in-Err-clause-step : goal.returns-in-Err-clause-step
 returns-in-Err-clause-step c = λ s keeps.

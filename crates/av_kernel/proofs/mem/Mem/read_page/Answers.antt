@@ -1,7 +1,7 @@
 use Rattle.std.proofs.Common.{refl, false, []}
-use Rattle.av_kernel.proofs.PageSteps.{frame_below, stopped, read_served}
-use Rattle.av_kernel.specs.declared.touched.Touched.TheVariants.{Ready, Zeros}
-use Rattle.av_kernel.proofs.PageShown.{frame_shown, zeros_shown}
+use Rattle.av_kernel.proofs.AccessPage.{frame_below, stopped, read_served}
+use Rattle.av_fault.specs.declared.fault.Touched.TheVariants.{Ready, Zeros}
+use Rattle.av_kernel.proofs.AccessShown.{frame_shown, zeros_shown}
 use Rattle.av_kernel.proofs.mem.Mem.read_page.Goals as goal
 
 pub bytes-requires : goal.bytes-requires

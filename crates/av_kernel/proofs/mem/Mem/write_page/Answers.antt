@@ -1,6 +1,6 @@
 use Rattle.std.proofs.Common.{sym, refl, true}
 use Rattle.std.proofs.lemmas.Bool.{false≢true}
-use Rattle.av_kernel.proofs.PageSteps.{frame_below, stopped, written_served}
+use Rattle.av_kernel.proofs.AccessPage.{frame_below, stopped, written_served}
 use Rattle.av_kernel.proofs.mem.Mem.write_page.Goals as goal
 
 pub write_at-requires-clause-in_range : goal.write_at-requires-clause-in_range

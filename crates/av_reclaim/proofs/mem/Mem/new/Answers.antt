@@ -1,4 +1,4 @@
-use Rattle.av_reclaim.proofs.Mem.{fresh-keeps}
+use Rattle.av_reclaim.proofs.MemLaws.{fresh-keeps}
 use Rattle.av_reclaim.proofs.mem.Mem.new.Goals as goal
 
 pub returns-clause-keeps : goal.returns-clause-keeps
