@@ -5,12 +5,12 @@ use Rattle.std.proofs.lemmas.Bool.{false≢true}
 use Rattle.av_base.specs.declared.slot.Slot.{Slot}
 use Rattle.av_base.specs.Words.{with_at, is_in}
 use Rattle.av_plain.specs.World.{World, pages}
-use Rattle.av_plain.specs.Ledger.{Ledger, Setting, Entry, Zero, InFrame, entry, mapped, names_frame, names_slot, is_free}
+use Rattle.av_plain.specs.Ledger.{Ledger, Setting, Entry, Zero, InFrame, entry, map_count, names_frame, names_slot, is_free}
 use Rattle.av_plain.specs.Event.{set_entry, to_inactive_head, without}
 use Rattle.av_plain.specs.Stands.{View, Holds, IsKept}
-use Rattle.av_plain.proofs.Laws.{weight}
-use Rattle.av_plain.proofs.LedgerLaws.{entry-set, same_key-itself, how_many-found, mapped-set}
-use Rattle.av_plain.proofs.NoSwapLaws.{itself, free_is, zero_is}
+use Rattle.av_plain.proofs.Ledger.Order.{weight}
+use Rattle.av_plain.proofs.Ledger.{entry-set, same_key-itself, how_many-found, map_count-set}
+use Rattle.av_plain.proofs.Ledger.NoSwap.{itself, free_is, zero_is}
 use Rattle.av_reclaim.proofs.MemLaws.{equal_is}
 use Rattle.av_fault.proofs.FaultParts.{Parts, changed, as_pte, parts_now}
 
@@ -35,7 +35,7 @@ zeroed m v w l p page parts there none =
 -- ---- the same frame, as seen
 
 module _ (m : Setting) (v : View) (w : World) (l : Ledger) (p page f : ℕ) (was write : Bool) (parts : Parts m v w l) (there : is_some (pages w p page) ≡ true)
-    (named : entry l (p, page) ≡ Some (InFrame f was)) (few : write ≡ true → mapped l f ≤ 1) where
+    (named : entry l (p, page) ≡ Some (InFrame f was)) (few : write ≡ true → map_count l f ≤ 1) where
   pub seen : Parts m (changed p page (as_pte (InFrame f true) write) v.bytes v.maps v.free v) w (set_entry (p, page) (InFrame f true) l)
   seen = parts_now m v w l (set_entry (p, page) (InFrame f true) l) p page (InFrame f true) write v.bytes v.maps v.free parts refl parts.cache refl refl parts.active there
       (λ s. ap (weight (names_slot s)) named) (λ s. refl)
@@ -68,12 +68,12 @@ module _ (m : Setting) (v : View) (w : World) (l : Ledger) (p page f : ℕ) (res
   pub was_free : is_free l f ≡ true
   was_free = sym (parts.frames.free f below) ∙ ap (is_in f) first ∙ ap (λ b. b || is_in f rest) (itself f)
 
-  pub unmapped : mapped l f ≡ 0
+  pub unmapped : map_count l f ≡ 0
   unmapped = zero_is _ (sym (free_is l f parts.cache) ∙ was_free)
 
   -- one entry names it then
-  pub once_named : mapped (given_to p page f l) f ≤ 1
-  once_named = at_most _ _ _ _ (mapped-set (p, page) (InFrame f false) l f parts.in_order) unmapped (ap (λ b. cond b 1 0) (itself f))
+  pub once_named : map_count (given_to p page f l) f ≤ 1
+  once_named = at_most _ _ _ _ (map_count-set (p, page) (InFrame f false) l f parts.in_order) unmapped (ap (λ b. cond b 1 0) (itself f))
     where
       at_most : (n w m c : ℕ) → n + w ≡ m + c → m ≡ 0 → c ≡ 1 → n ≤ 1
       at_most n w m c h e f = omega arith
@@ -114,9 +114,9 @@ module _ (m : Setting) (v : View) (w : World) (l : Ledger) (p page f : ℕ) (res
         same_test n zero c h more few = grind (arith, nat_tests)
         same_test n (suc k) c h more few = let two = more (omega arith) in let a : (n == 0) ≡ false = not_zero n (omega (arith, h, two, few)) in let b : (c == 0) ≡ false = not_zero c (omega (arith, two)) in a ∙ sym b
 
-    other_frame : (g : ℕ) → 0 < mapped l g → (b : Bool) → (g == f) ≡ b → (g == f) ≡ false
+    other_frame : (g : ℕ) → 0 < map_count l g → (b : Bool) → (g == f) ≡ b → (g == f) ≡ false
     other_frame g some false e = e
-    other_frame g some true e = let zero = ap (mapped l) (equal_is g f e) ∙ unmapped in absurd (omega (arith, some, zero))
+    other_frame g some true e = let zero = ap (map_count l) (equal_is g f e) ∙ unmapped in absurd (omega (arith, some, zero))
 
     pub given : Parts m (changed p page (as_pte (InFrame f false) true) (with_at f bytes v.bytes) maps rest v) w (given_to p page f l)
     given = parts_now m v w l (given_to p page f l) p page (InFrame f false) true (with_at f bytes v.bytes) maps rest parts refl parts.cache refl refl (ap (without f) parts.active) there no_slot (λ s. refl) counts

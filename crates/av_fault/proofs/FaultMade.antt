@@ -7,14 +7,14 @@ use Rattle.av_trace.specs.declared.reply.Note.TheVariants.{New, Copied}
 use Rattle.av_base.specs.Words.{is_in}
 use Rattle.av_pagetable.specs.Entries.{entry_at, has}
 use Rattle.av_plain.specs.World.{pages}
-use Rattle.av_plain.specs.Ledger.{Ledger, Key, Entry, Zero, InFrame, InSlot, entry, mapped, names_frame, names_slot, is_free}
-use Rattle.av_plain.specs.Event.{noted, set_entry, to_inactive_head}
+use Rattle.av_plain.specs.Ledger.{Ledger, Key, Entry, Zero, InFrame, InSlot, entry, map_count, names_frame, names_slot, is_free}
+use Rattle.av_plain.specs.Event.{after_note, set_entry, to_inactive_head}
 use Rattle.av_plain.specs.Pass.{nothing_spared, pinning}
-use Rattle.av_plain.specs.Fault.{Fresh, Split, need}
+use Rattle.av_plain.specs.Fault.{NewPage, CopyOnWrite, need}
 use Rattle.av_plain.specs.Stands.{prot_of, Holds, IsKept}
 use Rattle.av_plain.specs.Transcript.{State}
-use Rattle.av_plain.proofs.Laws.{weight}
-use Rattle.av_plain.proofs.NoSwapLaws.{itself, place-page, free_is, zero_is}
+use Rattle.av_plain.proofs.Ledger.Order.{weight}
+use Rattle.av_plain.proofs.Ledger.NoSwap.{itself, key_at-page, free_is, zero_is}
 use Rattle.av_reclaim.specs.declared.mem.Mem.{Mem}
 use Rattle.av_fault.specs.declared.fault.Stop.TheVariants.{Oom}
 use Rattle.av_fault.specs.declared.fault.Touched.TheVariants.{Ready as ReadyAt, Stopped}
@@ -28,11 +28,11 @@ use Rattle.av_fault.proofs.FaultTouched.{given_now, starved}
 use Rattle.av_fault.proofs.FaultSafe.{named_frame}
 
 -- the ledger after either note
-new_is : (p page f : ℕ) (l : Ledger) → noted (New p (4096 * page) f) l ≡ given_to p page f l
-new_is p page f l = ap (λ (k : Key). to_inactive_head f (set_entry k (InFrame f false) l)) (place-page p page)
+new_is : (p page f : ℕ) (l : Ledger) → after_note (New p (4096 * page) f) l ≡ given_to p page f l
+new_is p page f l = ap (λ (k : Key). to_inactive_head f (set_entry k (InFrame f false) l)) (key_at-page p page)
 
-copied_is : (p page f : ℕ) (l : Ledger) → noted (Copied p (4096 * page) f) l ≡ given_to p page f l
-copied_is p page f l = ap (λ (k : Key). to_inactive_head f (set_entry k (InFrame f false) l)) (place-page p page)
+copied_is : (p page f : ℕ) (l : Ledger) → after_note (Copied p (4096 * page) f) l ≡ given_to p page f l
+copied_is p page f l = ap (λ (k : Key). to_inactive_head f (set_entry k (InFrame f false) l)) (key_at-page p page)
 
 -- the numbers of an out-of-memory, of so many frames
 abbrev numbers_of : ℕ → ℕ → OutOf
@@ -53,7 +53,7 @@ module _ (s : State) (old new : Mem) (p page : ℕ) (notes : List Note) (keeps :
     is_bare_now = bare_entry (setting (count old)) (view old) s.world s.ledger (p, page) (entry_at old.tables p page) (of_keeps old s keeps) (λ t. refl) bare (keeps.stands.tables.entries p page)
 
     pub new_starved : (out : OutOf) → view new ≡ view old → (view old).free ≡ [] → out ≡ numbers_of 0 (count new) → IsTouched s new true (p, page) notes notes (Stopped (Oom out))
-    new_starved out is empty numbers = starved s old new p page notes keeps processes same Fresh out is allowed (need_fresh s.ledger (entry s.ledger (p, page)) is_bare_now) refl empty
+    new_starved out is empty numbers = starved s old new p page notes keeps processes same NewPage out is allowed (need_fresh s.ledger (entry s.ledger (p, page)) is_bare_now) refl empty
         (numbers ∙ ap (numbers_of 0) same ∙ out_is (setting (count old)) s.ledger None (of_keeps old s keeps).cache (λ g e. absurd (clash e)))
       where
         clash : {g : ℕ} → None ≡ Some g → ⊥
@@ -62,7 +62,7 @@ module _ (s : State) (old new : Mem) (p page : ℕ) (notes : List Note) (keeps :
     pub new_made : (f : ℕ) (now : List Note) → now ≡ notes ++ New p (4096 * page) f ∷ [] → IsTaken old new p page f (λ i. 0) (one_more f (view old).maps) → IsTouched s new true (p, page) notes now (ReadyAt f)
     new_made f now added is = given_now s old new p page notes keeps processes same now (New p (4096 * page) f) f (λ i. 0) (one_more f (view old).maps) added is allowed (new_is p page f s.ledger)
         (sym keeps.stands.free ∙ is.first)
-        (serves (setting (count old)) s.ledger true (p, page) (New p (4096 * page) f ∷ []) Fresh (need_fresh s.ledger (entry s.ledger (p, page)) is_bare_now) refl
+        (serves (setting (count old)) s.ledger true (p, page) (New p (4096 * page) f ∷ []) NewPage (need_fresh s.ledger (entry s.ledger (p, page)) is_bare_now) refl
         (takes (setting (count old)) nothing_spared s.ledger f (New p (4096 * page)) is.below (free_now f is.below is.first)) (of_keeps old s keeps).cache)
         (blank (entry s.ledger (p, page)) is_bare_now (keeps.stands.bytes.kept p page))
         (λ g. counts g (g == f) refl (bare_frame (entry s.ledger (p, page)) is_bare_now g))
@@ -88,14 +88,14 @@ module _ (s : State) (old new : Mem) (p page : ℕ) (notes : List Note) (keeps :
   -- ---- a copy
 
   module _ (from : ℕ) (was : Bool) (named : entry s.ledger (p, page) ≡ Some (InFrame from was)) (shared : 1 < (view old).maps from) where
-    many : 1 < mapped s.ledger from
+    many : 1 < map_count s.ledger from
     many = subst (λ n. 1 < n) (keeps.stands.frames.maps from) shared
 
-    splits : need true s.ledger (entry s.ledger (p, page)) ≡ Split from
+    splits : need true s.ledger (entry s.ledger (p, page)) ≡ CopyOnWrite from
     splits = need_split s.ledger from was (entry s.ledger (p, page)) (of_keeps old s keeps).cache named many
 
     pub copy_starved : (out : OutOf) → view new ≡ view old → (view old).free ≡ [] → out ≡ numbers_of 1 (count new) → IsTouched s new true (p, page) notes notes (Stopped (Oom out))
-    copy_starved out is empty numbers = starved s old new p page notes keeps processes same (Split from) out is allowed splits refl empty
+    copy_starved out is empty numbers = starved s old new p page notes keeps processes same (CopyOnWrite from) out is allowed splits refl empty
         (numbers ∙ ap (numbers_of 1) same ∙ out_is (setting (count old)) s.ledger (Some from) (of_keeps old s keeps).cache (λ g e. subst (λ x. x < count old) (inner e) (named_frame old s p page from was keeps named).0))
       where
         inner : {x y : ℕ} → Some x ≡ Some y → x ≡ y
@@ -104,7 +104,7 @@ module _ (s : State) (old new : Mem) (p page : ℕ) (notes : List Note) (keeps :
     pub copy_made : (f : ℕ) (now : List Note) → now ≡ notes ++ Copied p (4096 * page) f ∷ [] → IsTaken old new p page f ((view old).bytes from) (one_less from (one_more f (view old).maps)) → IsTouched s new true (p, page) notes now (ReadyAt f)
     copy_made f now added is = given_now s old new p page notes keeps processes same now (Copied p (4096 * page) f) f ((view old).bytes from) (one_less from (one_more f (view old).maps)) added is allowed (copied_is p page f s.ledger)
         (sym keeps.stands.free ∙ is.first)
-        (serves (setting (count old)) s.ledger true (p, page) (Copied p (4096 * page) f ∷ []) (Split from) splits refl
+        (serves (setting (count old)) s.ledger true (p, page) (Copied p (4096 * page) f ∷ []) (CopyOnWrite from) splits refl
         (takes (setting (count old)) (pinning (Some from)) s.ledger f (Copied p (4096 * page)) is.below (free_now f is.below is.first)) (of_keeps old s keeps).cache)
         (subst (λ e. IsKept (view old) None s.ledger e (pages s.world p page)) named (keeps.stands.bytes.kept p page))
         (λ g. counts g (g == from) refl (g == f) refl (ap (weight (names_frame g)) named))

@@ -7,14 +7,14 @@ use Rattle.av_base.specs.declared.slot.Slot.{Slot}
 use Rattle.av_base.specs.Words.{how_many, is_in}
 use Rattle.av_pagetable.specs.Entries.{with_entry}
 use Rattle.av_plain.specs.World.{World, Page, pages}
-use Rattle.av_plain.specs.Ledger.{Ledger, Setting, Key, key_cmp, Entry, Zero, InFrame, InSlot, entry, mapped, slot_entries, names_frame, names_slot, frame_at, cached_by, Cached, same_slot, is_stale}
+use Rattle.av_plain.specs.Ledger.{Ledger, Setting, Key, key_cmp, Entry, Zero, InFrame, InSlot, entry, map_count, slot_entries, names_frame, names_slot, frame_at, cached_by, Cached, same_slot, is_stale}
 use Rattle.av_plain.specs.Fault.{is_shared}
 use Rattle.av_plain.specs.Sound.{AtPages}
 use Rattle.av_plain.specs.Stands.{View, Pte as Plain, entry_of, Holds, IsKept, IsKeptAt, IsClean, TablesStand, FramesStand, SwapStands, AreasStand, BytesStand}
 use Rattle.av_plain.specs.Transcript.{State}
-use Rattle.av_plain.proofs.Laws.{keys_total, weight, count-put}
-use Rattle.av_plain.proofs.LedgerLaws.{same_key, same_key-is, entry-set, mapped-set, is_sorted-set}
-use Rattle.av_plain.proofs.NoSwapLaws.{itself, key_is, no_slot, free_is, shared_is}
+use Rattle.av_plain.proofs.Ledger.Order.{keys_total, weight, count-put}
+use Rattle.av_plain.proofs.Ledger.{same_key, same_key-is, entry-set, map_count-set, is_sorted-set}
+use Rattle.av_plain.proofs.Ledger.NoSwap.{itself, key_is, no_slot, free_is, shared_is}
 use Rattle.av_reclaim.specs.declared.mem.Mem.{Mem}
 use Rattle.av_reclaim.proofs.MemLaws.{no_cache, no_frame_at, no_device}
 use Rattle.av_reclaim.specs.Mem.{setting, count, view, Keeps, PartsStand, HasTables}
@@ -75,8 +75,8 @@ module _ (m : Setting) (v : View) (w : World) (l l' : Ledger) (p page : ℕ) (e 
   entry_now : (k : Key) → entry l' k ≡ cond (same_key k (p, page)) (Some e) (entry l k)
   entry_now k = ap (find key_cmp k) entries_is ∙ entry-set (p, page) e l k
 
-  mapped_now : (g : ℕ) → mapped l' g ≡ maps g
-  mapped_now g = equal _ _ _ _ _ _ _ (ap (how_many (λ x. names_frame g x.1)) entries_is) (mapped-set (p, page) e l g parts.in_order) (counts g) (parts.frames.maps g)
+  mapped_now : (g : ℕ) → map_count l' g ≡ maps g
+  mapped_now g = equal _ _ _ _ _ _ _ (ap (how_many (λ x. names_frame g x.1)) entries_is) (map_count-set (p, page) e l g parts.in_order) (counts g) (parts.frames.maps g)
     where
       equal : (x y n k a b c : ℕ) → x ≡ y → y + k ≡ b + c → n + k ≡ a + c → a ≡ b → x ≡ n
       equal x y n k a b e f g h = omega arith
@@ -104,7 +104,7 @@ module _ (m : Setting) (v : View) (w : World) (l l' : Ledger) (p page : ℕ) (e 
       pushed false x y h = h
 
       few_of : (g : ℕ) → is_shared l g ≡ false → v.maps g ≤ 1
-      few_of g h = let lt : nat_lt 1 (mapped l g) ≡ false = sym (shared_is l g parts.cache) ∙ h in subst (λ n. n ≤ 1) (sym (parts.frames.maps g)) (at_most _ lt)
+      few_of g h = let lt : nat_lt 1 (map_count l g) ≡ false = sym (shared_is l g parts.cache) ∙ h in subst (λ n. n ≤ 1) (sym (parts.frames.maps g)) (at_most _ lt)
         where
           at_most : (n : ℕ) → nat_lt 1 n ≡ false → n ≤ 1
           at_most n h = grind (arith, nat_tests)

@@ -8,11 +8,11 @@ use Rattle.av_base.specs.Words.{is_in}
 use Rattle.av_frames.specs.Store.{seen}
 use Rattle.av_pagetable.specs.declared.pte.Pte.TheVariants.{Here, Away}
 use Rattle.av_pagetable.specs.Entries.{entry_at, has, with_entry}
-use Rattle.av_plain.specs.Ledger.{InFrame, entry, mapped, names_frame, is_free}
+use Rattle.av_plain.specs.Ledger.{InFrame, entry, map_count, names_frame, is_free}
 use Rattle.av_plain.specs.Stands.{Range, entry_of, prot_of}
 use Rattle.av_plain.specs.Transcript.{State}
-use Rattle.av_plain.proofs.LedgerLaws.{how_many-found}
-use Rattle.av_plain.proofs.NoSwapLaws.{itself, free_is, shared_is, zero_is}
+use Rattle.av_plain.proofs.Ledger.{how_many-found}
+use Rattle.av_plain.proofs.Ledger.NoSwap.{itself, free_is, shared_is, zero_is}
 use Rattle.av_reclaim.specs.declared.mem.Mem.{Mem}
 use Rattle.av_fault.specs.declared.fault.Touched.TheVariants.{Ready}
 use Rattle.av_reclaim.specs.Mem.{ranges_of, setting, count, plain, view, Keeps, IsSteady}
@@ -30,9 +30,9 @@ free_unmapped k f rest steady first below =
     parts.frames.maps f ∙ zero_is _ (sym (free_is steady.0.ledger f parts.cache) ∙ free)
 
 -- a frame that an entry of the ledger names is one of the machine's, and is counted
-pub named_frame : (k : Mem) (s : State) (p page g : ℕ) (was : Bool) → Keeps k s → entry s.ledger (p, page) ≡ Some (InFrame g was) → (g < count k) × (0 < mapped s.ledger g)
+pub named_frame : (k : Mem) (s : State) (p page g : ℕ) (was : Bool) → Keeps k s → entry s.ledger (p, page) ≡ Some (InFrame g was) → (g < count k) × (0 < map_count s.ledger g)
 named_frame k s p page g was keeps is =
-    let some : 0 < mapped s.ledger g = how_many-found (names_frame g) (p, page) s.ledger.entries (InFrame g was) is (itself g) in
+    let some : 0 < map_count s.ledger g = how_many-found (names_frame g) (p, page) s.ledger.entries (InFrame g was) is (itself g) in
     (keeps.stands.sound.ledger.in_range g (omega (arith, some)), some)
 
 pub entry_frame : (k : Mem) (p page g : ℕ) → IsSteady k → frame_named (entry_at k.tables p page) ≡ Some g → (g < count k) × (0 < (seen k.frames).maps g)
@@ -56,7 +56,7 @@ process_there k p page write steady allowed = steady.1.tables p ∙ by (ranges_o
     by (Some areas) h = refl
 
 -- a frame that may be written in place has one entry at most
-pub few_by_bit : (k : Mem) (s : State) (p page f : ℕ) (bit was : Bool) → Keeps k s → entry_at k.tables p page ≡ Here f bit was → bit ≡ true → mapped s.ledger f ≤ 1
+pub few_by_bit : (k : Mem) (s : State) (p page f : ℕ) (bit was : Bool) → Keeps k s → entry_at k.tables p page ≡ Here f bit was → bit ≡ true → map_count s.ledger f ≤ 1
 few_by_bit k s p page f bit was keeps is writes =
     at_most _ (sym (shared_is s.ledger f (of_keeps k s keeps).cache) ∙ keeps.stands.tables.write_bits p page (record { entry = InFrame f was; write = bit }) f (ap plain is) writes (itself f))
   where
@@ -77,6 +77,6 @@ seen_there k s p page f write bit notes keeps allowed is own =
 -- it is marked as seen
 pub seen_now : (k new : Mem) (s : State) (p page f : ℕ) (write bit bit' was : Bool) (notes : List Note) → Keeps k s → permitted write (prot_of (ranges_of k.spaces p) page) ≡ true → entry_at k.tables p page ≡ Here f bit was
     → entry_at new.tables ≡ with_entry p page (Here f bit' true) (entry_at k.tables) → has new.tables ≡ has k.tables → new.frames ≡ k.frames → new.spaces ≡ k.spaces
-    → (bit' ≡ true → mapped s.ledger f ≤ 1) → (write ≡ true → mapped s.ledger f ≤ 1) → IsTouched s new write (p, page) notes notes (Ready f)
+    → (bit' ≡ true → map_count s.ledger f ≤ 1) → (write ≡ true → map_count s.ledger f ≤ 1) → IsTouched s new write (p, page) notes notes (Ready f)
 seen_now k new s p page f write bit bit' was notes keeps allowed is entries processes frames spaces few own =
     marked s k new p page notes keeps processes (ap (λ f. (seen f).count) frames) write bit' was f (entry_put_in k new p page (Here f bit' true) entries frames spaces) allowed (frame_entry k s p page f bit was keeps is) few own

@@ -10,15 +10,15 @@ use Rattle.av_trace.specs.declared.reply.Note.{Note}
 use Rattle.av_pagetable.specs.declared.pte.Pte.{Pte}
 use Rattle.av_pagetable.specs.declared.pte.Pte.TheVariants.{Empty, Zero as ZeroPte, Here, Away}
 use Rattle.av_plain.specs.World.{World, Page, pages}
-use Rattle.av_plain.specs.Ledger.{Ledger, Setting, Key, Entry, Zero, InFrame, InSlot, entry, mapped, slot_entries, names_frame, names_slot, is_free, has_free, slot_of}
-use Rattle.av_plain.specs.Event.{without}
-use Rattle.av_plain.specs.Pass.{noted_all, out_of, Spared}
-use Rattle.av_plain.specs.Fault.{Serves, need, Need, Ready, Fresh, Split, comes, ComesIn, IsMade, TakesFor, spare_of, spare_slot, permits, RunsOut, pinned_by, wants_frame}
+use Rattle.av_plain.specs.Ledger.{Ledger, Setting, Key, Entry, Zero, InFrame, InSlot, entry, map_count, slot_entries, names_frame, names_slot, is_free, has_free, slot_of}
+use Rattle.av_plain.specs.Event.{without, after_notes}
+use Rattle.av_plain.specs.Pass.{out_of, Spared, TakesFor}
+use Rattle.av_plain.specs.Fault.{Serves, need, Need, Ready, NewPage, CopyOnWrite, was_slot, ComesIn, IsMade, drop_of_entry, drop_of_slot, permits, RunsOut, pinned_by, wants_frame}
 use Rattle.av_plain.specs.Stands.{View, entry_of, AreasStand, prot_of}
-use Rattle.av_plain.proofs.Laws.{weight}
-use Rattle.av_plain.proofs.LedgerLaws.{how_many-found}
-use Rattle.av_plain.proofs.MoreLaws.{how_many-same, how_many-none}
-use Rattle.av_plain.proofs.NoSwapLaws.{itself, no_slot, shared_is}
+use Rattle.av_plain.proofs.Ledger.Order.{weight}
+use Rattle.av_plain.proofs.Ledger.{how_many-found}
+use Rattle.av_plain.proofs.Event.{how_many-same, how_many-none}
+use Rattle.av_plain.proofs.Ledger.NoSwap.{itself, no_slot, shared_is}
 use Rattle.av_reclaim.specs.Mem.{plain}
 use Rattle.av_fault.specs.Fault.{permitted, frame_named}
 use Rattle.av_fault.proofs.FaultParts.{Parts}
@@ -89,38 +89,38 @@ bare_slot (Some (InSlot t)) h s = absurd (false≢true h)
 
 -- ---- what a page needs
 
-pub need_fresh : (l : Ledger) (e : Option Entry) → is_bare e ≡ true → need true l e ≡ Fresh
+pub need_fresh : (l : Ledger) (e : Option Entry) → is_bare e ≡ true → need true l e ≡ NewPage
 need_fresh l None h = refl
 need_fresh l (Some Zero) h = refl
 need_fresh l (Some (InFrame f seen)) h = absurd (false≢true h)
 need_fresh l (Some (InSlot s)) h = absurd (false≢true h)
 
-pub need_ready : (l : Ledger) (f : ℕ) (was : Bool) (e : Option Entry) → l.cache ≡ [] → e ≡ Some (InFrame f was) → mapped l f ≤ 1 → need true l e ≡ Ready
-need_ready l f was e none is few = ap (need true l) is ∙ ap (λ b. cond b (Split f) Ready) (shared_is l f none ∙ not_two _ few)
+pub need_ready : (l : Ledger) (f : ℕ) (was : Bool) (e : Option Entry) → l.cache ≡ [] → e ≡ Some (InFrame f was) → map_count l f ≤ 1 → need true l e ≡ Ready
+need_ready l f was e none is few = ap (need true l) is ∙ ap (λ b. cond b (CopyOnWrite f) Ready) (shared_is l f none ∙ not_two _ few)
   where
     not_two : (n : ℕ) → n ≤ 1 → nat_lt 1 n ≡ false
     not_two n h = grind (arith, nat_tests)
 
-pub need_split : (l : Ledger) (f : ℕ) (was : Bool) (e : Option Entry) → l.cache ≡ [] → e ≡ Some (InFrame f was) → 1 < mapped l f → need true l e ≡ Split f
-need_split l f was e none is many = ap (need true l) is ∙ ap (λ b. cond b (Split f) Ready) (shared_is l f none ∙ two _ many)
+pub need_split : (l : Ledger) (f : ℕ) (was : Bool) (e : Option Entry) → l.cache ≡ [] → e ≡ Some (InFrame f was) → 1 < map_count l f → need true l e ≡ CopyOnWrite f
+need_split l f was e none is many = ap (need true l) is ∙ ap (λ b. cond b (CopyOnWrite f) Ready) (shared_is l f none ∙ two _ many)
   where
     two : (n : ℕ) → 1 < n → nat_lt 1 n ≡ true
     two n h = grind (arith, nat_tests)
 
 -- ---- served
 
-no_spare : (m : Setting) (write came : Bool) (l : Ledger) (e : Option Entry) → l.cache ≡ [] → spare_of m write came l e ≡ []
+no_spare : (m : Setting) (write came : Bool) (l : Ledger) (e : Option Entry) → l.cache ≡ [] → drop_of_entry m write came l e ≡ []
 no_spare m write came l None none = refl
 no_spare m write came l (Some Zero) none = refl
-no_spare m write came l (Some (InFrame f seen)) none = ap (spare_slot m write came l) (no_slot l f none)
+no_spare m write came l (Some (InFrame f seen)) none = ap (drop_of_slot m write came l) (no_slot l f none)
 no_spare m write came l (Some (InSlot s)) none = refl
 
 -- nothing comes in, these notes make the page, and no slot is spare
-pub serves : (m : Setting) (l : Ledger) (write : Bool) (k : Key) (notes : List Note) (n : Need) → need write l (entry l k) ≡ n → ComesIn m l k n [] → IsMade m l k n notes → (noted_all l notes).cache ≡ [] → Serves m l write k notes
+pub serves : (m : Setting) (l : Ledger) (write : Bool) (k : Key) (notes : List Note) (n : Need) → need write l (entry l k) ≡ n → ComesIn m l k n [] → IsMade m l k n notes → (after_notes l notes).cache ≡ [] → Serves m l write k notes
 serves m l write k notes n is comes_in made none = record {
   coming = [];
   making = notes;
-  whole = sym (append-nil notes) ∙ ap (λ ns. notes ++ ns) (sym (no_spare m write (comes (need write l (entry l k))) (noted_all l notes) (entry (noted_all l notes) k) none));
+  whole = sym (append-nil notes) ∙ ap (λ ns. notes ++ ns) (sym (no_spare m write (was_slot (need write l (entry l k))) (after_notes l notes) (entry (after_notes l notes) k) none));
   comes_in = subst (λ n. ComesIn m l k n []) (sym is) comes_in;
   made = subst (λ n. IsMade m l k n notes) (sym is) made;
 }

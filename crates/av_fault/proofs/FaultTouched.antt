@@ -8,16 +8,16 @@ use Rattle.av_trace.specs.declared.reply.Note.{Note}
 use Rattle.av_trace.specs.declared.reply.Note.TheVariants.{Zeroed}
 use Rattle.av_pagetable.specs.Entries.{has}
 use Rattle.av_plain.specs.World.{World, pages}
-use Rattle.av_plain.specs.Ledger.{Ledger, Key, key_cmp, Entry, Zero, InFrame, entry, mapped, names_frame, names_slot}
-use Rattle.av_plain.specs.Event.{Noted, noted, used, used_at, set_entry, at, mark}
+use Rattle.av_plain.specs.Ledger.{Ledger, Key, key_cmp, Entry, Zero, InFrame, entry, map_count, names_frame, names_slot}
+use Rattle.av_plain.specs.Event.{Noted, after_note, after_use, after_use_of, set_entry, if_some, with_stale}
 use Rattle.av_plain.specs.Pass.{out_of}
-use Rattle.av_plain.specs.Fault.{Serves, Touches, Served, Starved, need, Need, Ready, Blank, wants_frame, pinned_by, permits}
+use Rattle.av_plain.specs.Fault.{Serves, Touches, Served, Starved, need, Need, Ready, ZeroPage, wants_frame, pinned_by, permits}
 use Rattle.av_plain.specs.Choice.{Chooses}
 use Rattle.av_plain.specs.Stands.{View, Pte as Plain, prot_of, Holds}
 use Rattle.av_plain.specs.Transcript.{State}
-use Rattle.av_plain.proofs.Laws.{weight}
-use Rattle.av_plain.proofs.LedgerLaws.{same_key-is, same_key-itself, entry-set, mapped-set}
-use Rattle.av_plain.proofs.NoSwapLaws.{place-page, key_is, no_slot}
+use Rattle.av_plain.proofs.Ledger.Order.{weight}
+use Rattle.av_plain.proofs.Ledger.{same_key-is, same_key-itself, entry-set, map_count-set}
+use Rattle.av_plain.proofs.Ledger.NoSwap.{key_at-page, key_is, no_slot}
 use Rattle.av_reclaim.specs.declared.mem.Mem.{Mem}
 use Rattle.av_fault.specs.declared.fault.Stop.TheVariants.{Segv, Oom}
 use Rattle.av_fault.specs.declared.fault.Touched.TheVariants.{Ready as ReadyAt, Zeros, Stopped}
@@ -48,16 +48,16 @@ again p page t v is = λ i. record v { table = λ q o. point q o (q == p && o ==
 
 -- ---- ledgers
 
-pub used_is : (write : Bool) (l : Ledger) (k : Key) (f : ℕ) (was : Bool) → l.cache ≡ [] → entry l k ≡ Some (InFrame f was) → used write k l ≡ set_entry k (InFrame f true) l
-used_is true l k f was none is = ap (used_at true k l) is ∙ ap (λ o. at o (mark true) (set_entry k (InFrame f true) l)) (no_slot l f none)
-used_is false l k f was none is = ap (used_at false k l) is
+pub used_is : (write : Bool) (l : Ledger) (k : Key) (f : ℕ) (was : Bool) → l.cache ≡ [] → entry l k ≡ Some (InFrame f was) → after_use write k l ≡ set_entry k (InFrame f true) l
+used_is true l k f was none is = ap (after_use_of true k l) is ∙ ap (λ o. if_some o (with_stale true) (set_entry k (InFrame f true) l)) (no_slot l f none)
+used_is false l k f was none is = ap (after_use_of false k l) is
 
 entry_put : (l : Ledger) (k : Key) (e : Entry) → entry (set_entry k e l) k ≡ Some e
 entry_put l k e = entry-set k e l k ∙ ap (λ b. cond b (Some e) (entry l k)) (same_key-itself k)
 
 -- a frame that is seen is mapped as often as before
-mapped_still : (l : Ledger) (k : Key) (f g : ℕ) (was : Bool) → T (is_sorted key_cmp l.entries) → entry l k ≡ Some (InFrame f was) → mapped (set_entry k (InFrame f true) l) g ≡ mapped l g
-mapped_still l k f g was sorted is = same_sum _ _ _ _ (mapped-set k (InFrame f true) l g sorted) (ap (weight (names_frame g)) is)
+mapped_still : (l : Ledger) (k : Key) (f g : ℕ) (was : Bool) → T (is_sorted key_cmp l.entries) → entry l k ≡ Some (InFrame f was) → map_count (set_entry k (InFrame f true) l) g ≡ map_count l g
+mapped_still l k f g was sorted is = same_sum _ _ _ _ (map_count-set k (InFrame f true) l g sorted) (ap (weight (names_frame g)) is)
   where
     same_sum : (n w m c : ℕ) → n + w ≡ m + c → w ≡ c → n ≡ m
     same_sum n w m c h e = omega arith
@@ -88,7 +88,7 @@ module _ (s : State) (old new : Mem) (p page : ℕ) (notes : List Note) (keeps :
   -- its entry is zeros, at a read
   pub zeros_there : permitted false (prot_of ((view old).areas p) page) ≡ true → entry s.ledger (p, page) ≡ Some Zero → IsTouched s old false (p, page) notes notes Zeros
   zeros_there allowed is =
-      let still : used false (p, page) s.ledger ≡ s.ledger = ap (used_at false (p, page) s.ledger) is in
+      let still : after_use false (p, page) s.ledger ≡ s.ledger = ap (after_use_of false (p, page) s.ledger) is in
       record {
         added = [];
         notes = sym (append-nil notes);
@@ -114,7 +114,7 @@ module _ (s : State) (old new : Mem) (p page : ℕ) (notes : List Note) (keeps :
 
     -- its entry is a frame, which a write has for itself; it is marked as seen
     pub marked : (write bit was : Bool) (f : ℕ) → view new ≡ changed p page (as_pte (InFrame f true) bit) (view old).bytes (view old).maps (view old).free (view old) → permitted write (prot_of ((view old).areas p) page) ≡ true
-        → entry s.ledger (p, page) ≡ Some (InFrame f was) → (bit ≡ true → mapped s.ledger f ≤ 1) → (write ≡ true → mapped s.ledger f ≤ 1) → IsTouched s new write (p, page) notes notes (ReadyAt f)
+        → entry s.ledger (p, page) ≡ Some (InFrame f was) → (bit ≡ true → map_count s.ledger f ≤ 1) → (write ≡ true → map_count s.ledger f ≤ 1) → IsTouched s new write (p, page) notes notes (ReadyAt f)
     marked write bit was f is allowed named few own =
         let use_is = used_is write s.ledger (p, page) f was (of_keeps old s keeps).cache named in
         let permit : permits write (pages s.world p page) ≡ true = allowed_is (view old) s.world write p page keeps.stands.areas ∙ allowed in
@@ -125,7 +125,7 @@ module _ (s : State) (old new : Mem) (p page : ℕ) (notes : List Note) (keeps :
               (permit, serves (setting (count old)) s.ledger write (p, page) [] Ready (needs write own) refl refl (of_keeps old s keeps).cache);
           ready = (
             ap (λ l. entry l (p, page)) use_is ∙ entry_put s.ledger (p, page) (InFrame f true),
-            λ writes. subst (λ n. n ≤ 1) (sym (ap (λ l. mapped l f) use_is ∙ mapped_still s.ledger (p, page) f f was (of_keeps old s keeps).in_order named)) (own writes),
+            λ writes. subst (λ n. n ≤ 1) (sym (ap (λ l. map_count l f) use_is ∙ mapped_still s.ledger (p, page) f f was (of_keeps old s keeps).in_order named)) (own writes),
           );
           parts = subst (PartsStand new s.world) (sym use_is) (stand_now old new s.world (set_entry (p, page) (InFrame f true) s.ledger) _ is same
               (seen (setting (count old)) (view old) s.world s.ledger p page f was bit (of_keeps old s keeps) (there_is s.world write p page permit) named few)
@@ -133,7 +133,7 @@ module _ (s : State) (old new : Mem) (p page : ℕ) (notes : List Note) (keeps :
           free = (s.free, refl, ap (λ (v : View). v.free) is ∙ keeps.stands.free);
         }
       where
-        needs : (write : Bool) → (write ≡ true → mapped s.ledger f ≤ 1) → need write s.ledger (entry s.ledger (p, page)) ≡ Ready
+        needs : (write : Bool) → (write ≡ true → map_count s.ledger f ≤ 1) → need write s.ledger (entry s.ledger (p, page)) ≡ Ready
         needs true own = need_ready s.ledger f was (entry s.ledger (p, page)) (of_keeps old s keeps).cache named (own refl)
         needs false own = ap (need false s.ledger) named
 
@@ -143,14 +143,14 @@ module _ (s : State) (old new : Mem) (p page : ℕ) (notes : List Note) (keeps :
           → entry s.ledger (p, page) ≡ None → IsTouched s new false (p, page) notes now Zeros
       zeroed_now added is allowed none =
           let permit : permits false (pages s.world p page) ≡ true = allowed_is (view old) s.world false p page keeps.stands.areas ∙ allowed in
-          let put : noted (Zeroed p (4096 * page)) s.ledger ≡ set_entry (p, page) Zero s.ledger = ap (λ (k : Key). set_entry k Zero s.ledger) (place-page p page) in
-          let after : used false (p, page) (noted (Zeroed p (4096 * page)) s.ledger) ≡ set_entry (p, page) Zero s.ledger =
-          ap (used false (p, page)) put ∙ ap (used_at false (p, page) (set_entry (p, page) Zero s.ledger)) (entry_put s.ledger (p, page) Zero) in
+          let put : after_note (Zeroed p (4096 * page)) s.ledger ≡ set_entry (p, page) Zero s.ledger = ap (λ (k : Key). set_entry k Zero s.ledger) (key_at-page p page) in
+          let after : after_use false (p, page) (after_note (Zeroed p (4096 * page)) s.ledger) ≡ set_entry (p, page) Zero s.ledger =
+          ap (after_use false (p, page)) put ∙ ap (after_use_of false (p, page) (set_entry (p, page) Zero s.ledger)) (entry_put s.ledger (p, page) Zero) in
           record {
             added = Zeroed p (4096 * page) ∷ [];
             notes = added;
             touches = subst (λ c. Touches (setting c) s.world s.ledger false (p, page) (Zeroed p (4096 * page) ∷ []) Served) (sym same)
-                (permit, serves (setting (count old)) s.ledger false (p, page) (Zeroed p (4096 * page) ∷ []) Blank (ap (need false s.ledger) none) refl refl (of_keeps old s keeps).cache);
+                (permit, serves (setting (count old)) s.ledger false (p, page) (Zeroed p (4096 * page) ∷ []) ZeroPage (ap (need false s.ledger) none) refl refl (of_keeps old s keeps).cache);
             ready = (ap (λ l. entry l (p, page)) after ∙ entry_put s.ledger (p, page) Zero, refl);
             parts = subst (PartsStand new s.world) (sym after) (stand_now old new s.world (set_entry (p, page) Zero s.ledger) _ is same
                 (zeroed (setting (count old)) (view old) s.world s.ledger p page (of_keeps old s keeps) (there_is s.world false p page permit) none)
@@ -160,7 +160,7 @@ module _ (s : State) (old new : Mem) (p page : ℕ) (notes : List Note) (keeps :
 
       -- it gets a frame that was free
       pub given_now : (note : Note) (f : ℕ) (bytes maps : ℕ → ℕ) → now ≡ notes ++ note ∷ [] → IsTaken old new p page f bytes maps → permitted true (prot_of ((view old).areas p) page) ≡ true
-          → noted note s.ledger ≡ given_to p page f s.ledger → Chooses s.ledger (Noted note) s.free (view new).free → Serves (setting (count old)) s.ledger true (p, page) (note ∷ [])
+          → after_note note s.ledger ≡ given_to p page f s.ledger → Chooses s.ledger (Noted note) s.free (view new).free → Serves (setting (count old)) s.ledger true (p, page) (note ∷ [])
           → Holds (pages s.world p page) bytes
           → ((g : ℕ) → maps g + weight (names_frame g) (entry s.ledger (p, page)) ≡ (view old).maps g + cond (g == f) 1 0)
           → ((g : ℕ) → 0 < weight (names_frame g) (entry s.ledger (p, page)) → 1 < (view old).maps g)
@@ -172,16 +172,16 @@ module _ (s : State) (old new : Mem) (p page : ℕ) (notes : List Note) (keeps :
           let mid = given_to p page f s.ledger in
           let permit : permits true (pages s.world p page) ≡ true = allowed_is (view old) s.world true p page keeps.stands.areas ∙ allowed in
           let mid_parts = given m (view old) s.world s.ledger p page f (view new).free bytes maps old_parts is.first is.gone is.below (there_is s.world true p page permit) holds counts many no_slot in
-          let alone : mapped mid f ≤ 1 = once_named m (view old) s.world s.ledger p page f (view new).free bytes maps old_parts is.first is.gone is.below in
+          let alone : map_count mid f ≤ 1 = once_named m (view old) s.world s.ledger p page f (view new).free bytes maps old_parts is.first is.gone is.below in
           let named : entry mid (p, page) ≡ Some (InFrame f false) = entry_given p page f s.ledger in
-          let after : used true (p, page) (noted note s.ledger) ≡ set_entry (p, page) (InFrame f true) mid = ap (used true (p, page)) note_is ∙ used_is true mid (p, page) f false old_parts.cache named in
+          let after : after_use true (p, page) (after_note note s.ledger) ≡ set_entry (p, page) (InFrame f true) mid = ap (after_use true (p, page)) note_is ∙ used_is true mid (p, page) f false old_parts.cache named in
           record {
             added = note ∷ [];
             notes = added;
             touches = subst (λ c. Touches (setting c) s.world s.ledger true (p, page) (note ∷ []) Served) (sym same) (permit, lawful);
             ready = (
               ap (λ l. entry l (p, page)) after ∙ entry_put mid (p, page) (InFrame f true),
-              λ writes. subst (λ n. n ≤ 1) (sym (ap (λ l. mapped l f) after ∙ mapped_still mid (p, page) f f false mid_parts.in_order named)) alone,
+              λ writes. subst (λ n. n ≤ 1) (sym (ap (λ l. map_count l f) after ∙ mapped_still mid (p, page) f f false mid_parts.in_order named)) alone,
             );
             parts = subst (PartsStand new s.world) (sym after) (stand_now old new s.world (set_entry (p, page) (InFrame f true) mid) _
                 (is.view ∙ sym (twice p page (as_pte (InFrame f false) true) (as_pte (InFrame f true) true) (with_at f bytes (view old).bytes) (with_at f bytes (view old).bytes) maps maps (view new).free (view new).free (view old))) same

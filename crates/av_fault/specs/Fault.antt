@@ -8,9 +8,9 @@ use Rattle.av_pagetable.specs.declared.pte.Pte.{Pte}
 use Rattle.av_pagetable.specs.declared.pte.Pte.TheVariants.{Empty, Zero as ZeroPte, Here, Away}
 use Rattle.av_pagetable.specs.Entries.{with_entry}
 use Rattle.av_plain.specs.World.{allows}
-use Rattle.av_plain.specs.Ledger.{Ledger, Key, Zero, InFrame, entry, mapped}
+use Rattle.av_plain.specs.Ledger.{Ledger, Key, Zero, InFrame, entry, map_count}
 use Rattle.av_plain.specs.Event.{after_all}
-use Rattle.av_plain.specs.Fault.{Touches, How, Served, Denied, Starved, happening}
+use Rattle.av_plain.specs.Fault.{Touches, How, Served, Denied, Starved, page_events}
 use Rattle.av_plain.specs.Choice.{ChoosesAll}
 use Rattle.av_plain.specs.Transcript.{State}
 use Rattle.av_plain.specs.Stands.{View}
@@ -34,7 +34,7 @@ how_touched (Stopped stop) = how_stopped stop
 
 -- the page's entry is this frame, or zeros; no other entry has a frame that is to be written
 abbrev pub IsReady : Bool → Ledger → Key → Touched → Type 0
-IsReady write l k (Ready f) = (entry l k ≡ Some (InFrame f true)) × (write ≡ true → mapped l f ≤ 1)
+IsReady write l k (Ready f) = (entry l k ≡ Some (InFrame f true)) × (write ≡ true → map_count l f ≤ 1)
 IsReady write l k Zeros = (entry l k ≡ Some Zero) × (write ≡ false)
 IsReady write l k (Stopped stop) = Unit {0}
 
@@ -45,9 +45,9 @@ pub record IsTouched (s : State) (new : Mem) (write : Bool) (k : Key) (before no
   pub added : List Note
   pub notes : now ≡ before ++ added
   pub touches : Touches (setting (count new)) s.world s.ledger write k added (how_touched touched)
-  pub ready : IsReady write (after_all s.ledger (happening write k added (how_touched touched))) k touched
-  pub parts : PartsStand new s.world (after_all s.ledger (happening write k added (how_touched touched)))
-  pub free : ChoosesAll s.ledger (happening write k added (how_touched touched)) s.free (view new).free
+  pub ready : IsReady write (after_all s.ledger (page_events write k added (how_touched touched))) k touched
+  pub parts : PartsStand new s.world (after_all s.ledger (page_events write k added (how_touched touched)))
+  pub free : ChoosesAll s.ledger (page_events write k added (how_touched touched)) s.free (view new).free
 
 -- whatever stood before: the page is made ready or not, and there are as many frames
 pub record MakesReady (old new : Mem) (write : Bool) (k : Key) (before now : List Note)

@@ -2,7 +2,7 @@
 
 ghost use Rattle.std.specs.Prelude.{◌≡◌, ◌<◌, [], true, false, is_some, length, take, IfOk};
 ghost use Rattle.av_plain.specs.Transcript.{State};
-ghost use Rattle.av_plain.specs.Step.{Reads};
+ghost use Rattle.av_plain.specs.Access.{Reads};
 ghost use Rattle.av_plain.specs.World.{pages};
 ghost use Rattle.av_spaces.specs.Spaces.{areas_of};
 ghost use Rattle.av_reclaim.specs.Mem.{count, Keeps, IsSteady};

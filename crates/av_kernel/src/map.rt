@@ -3,8 +3,8 @@
 ghost use Rattle.std.specs.Prelude.{◌≡◌, ℕ, ◌+◌, ◌≤◌, true, is_some, OnOk};
 ghost use Rattle.av_base.specs.Limits.{top_page};
 ghost use Rattle.av_plain.specs.Ledger.{Ledger};
-ghost use Rattle.av_plain.specs.Taking.{keys_in, taking};
-ghost use Rattle.av_plain.specs.Step.{clearing};
+ghost use Rattle.av_plain.specs.Zap.{keys_in, zaps_of};
+ghost use Rattle.av_plain.specs.Map.{zaps_for_place};
 ghost use Rattle.av_spaces.specs.Spaces.{areas_of, is_taken};
 ghost use Rattle.av_reclaim.specs.Mem.{count, IsSteady, LedgerStands};
 ghost use Rattle.av_kernel.specs.Place.{AreToClear};
@@ -102,7 +102,7 @@ fn make_room(
     requires high { page + pages ≤ top_page }
     requires there { AreToClear (is_taken mem.old.spaces process) page pages place }
     ensures cleared { (l : Ledger) → LedgerStands mem.old l → OnOk result
-        (AreCleared mem.old mem.new process page pages l (clearing l process pages place)) }
+        (AreCleared mem.old mem.new process page pages l (zaps_for_place l process pages place)) }
     ensures count { count mem.new ≡ count mem.old }
 {
     match place {
@@ -117,7 +117,7 @@ fn clear(mem: &mut Mem, process: u16, page: u64, pages: u64) -> Result<(), Alloc
     requires lives { is_some (areas_of mem.old.spaces process) ≡ true }
     requires high { page + pages ≤ top_page }
     ensures cleared { (l : Ledger) → LedgerStands mem.old l → OnOk result
-        (AreCleared mem.old mem.new process page pages l (taking l (keys_in l process page pages))) }
+        (AreCleared mem.old mem.new process page pages l (zaps_of l (keys_in l process page pages))) }
     ensures count { count mem.new ≡ count mem.old }
 {
     zap_range(mem, process, page, page + pages);

@@ -7,7 +7,7 @@ ghost use Rattle.av_plain.specs.World.{Process};
 ghost use Rattle.av_base.specs.Page.{page_of, is_on_page};
 ghost use Rattle.av_plain.specs.Refusal.{top, fixed_tests, refusal};
 ghost use Rattle.av_plain.specs.Refusal as refusals;
-ghost use Rattle.av_plain.specs.Step.{is_room};
+ghost use Rattle.av_plain.specs.Place.{is_room};
 ghost use Rattle.av_spaces.specs.Spaces.{areas_of, is_taken};
 ghost use Rattle.av_kernel.specs.Place.{protect_tests, IsProcess, IsPlaced};
 ghost use Rattle.av_trace.specs.declared.reply.Errno.TheVariants as errors;

@@ -18,8 +18,8 @@ use Rattle.av_plain.specs.World.{Page, lives, pages}
 use Rattle.av_plain.specs.Ledger.{Ledger, Entry, Zero as ZeroEntry, InFrame, InSlot, frame_at, cached_by, Cached, same_slot}
 use Rattle.av_plain.specs.Stands.{View, Range, Pte as Plain, entry_of, prot_in, prot_of, AreApart, IsKept, IsKeptAt, IsClean}
 use Rattle.av_plain.specs.Transcript.{State, at_first}
-use Rattle.av_plain.proofs.NoSwapLaws.{itself, is_in-numbers}
-use Rattle.av_plain.proofs.Soundness.{first-sound}
+use Rattle.av_plain.proofs.Ledger.NoSwap.{itself, is_in-numbers}
+use Rattle.av_plain.proofs.Sound.{first-sound}
 use Rattle.av_reclaim.specs.declared.mem.Mem.{Mem}
 use Rattle.av_reclaim.specs.Mem.{setting, plain, joined, view, range_of, ranges_of, Keeps}
 

@@ -8,11 +8,11 @@ use Rattle.av_pagetable.specs.declared.pte.Pte.{Pte}
 use Rattle.av_pagetable.specs.declared.pte.Pte.TheVariants.{Empty, Zero as ZeroPte, Here, Away}
 use Rattle.av_pagetable.specs.Table.{IsFirst, page_bound, or_empty, entry_in}
 use Rattle.av_pagetable.specs.Entries.{entry_at, at_page, with_entry}
-use Rattle.av_plain.specs.Ledger.{Ledger, Zero, InFrame, InSlot, entry, mapped, names_frame, names_slot}
-use Rattle.av_plain.specs.Event.{taken}
+use Rattle.av_plain.specs.Ledger.{Ledger, Zero, InFrame, InSlot, entry, map_count, names_frame, names_slot}
+use Rattle.av_plain.specs.Event.{after_zap}
 use Rattle.av_plain.specs.Stands.{View, entry_of}
-use Rattle.av_plain.proofs.LedgerLaws.{how_many-found}
-use Rattle.av_plain.proofs.NoSwapLaws.{itself, free_is}
+use Rattle.av_plain.proofs.Ledger.{how_many-found}
+use Rattle.av_plain.proofs.Ledger.NoSwap.{itself, free_is}
 use Rattle.av_reclaim.specs.declared.mem.Mem.{Mem}
 use Rattle.av_reclaim.specs.Mem.{setting, count, plain, view, joined, LedgerStand, LedgerStands}
 use Rattle.av_reclaim.specs.Zap.{released, ZapsFirst}
@@ -32,7 +32,7 @@ module _ (old : Mem) (l : Ledger) (stands : LedgerStands old l) where
   -- an entry's frame is in use
   pub frame_used : (p page f : ℕ) (write was : Bool) → entry_at old.tables p page ≡ Here f write was → (f < count old) × (0 < (view old).maps f) × (is_in f (view old).free ≡ false)
   frame_used p page f write was e =
-      let some : 0 < mapped l f = how_many-found (names_frame f) (p, page) l.entries (InFrame f was) (frame_there p page f write was e) (itself f) in
+      let some : 0 < map_count l f = how_many-found (names_frame f) (p, page) l.entries (InFrame f was) (frame_there p page f write was e) (itself f) in
       let below : f < count old = stands.sound.in_range f (omega (arith, some)) in
       (below, subst (λ n. 0 < n) (sym (stands.frames.maps f)) some, stands.frames.free f below ∙ free_is l f cache ∙ positive _ some)
     where
@@ -68,8 +68,8 @@ module _ (old : Mem) (l : Ledger) (stands : LedgerStands old l) where
             ap is_some there,
             least,
             ap (λ f. (seen f).free) frames ∙ zero_freed (setting (count old)) (view old) l p page cache stands refl (λ s. refl) there,
-            subst (λ n. LedgerStand (setting n) (view new) (taken (p, page) l)) (sym (ap (λ f. (seen f).count) frames))
-                (subst (λ v. LedgerStand (setting (count old)) v (taken (p, page) l)) (sym (entry_put_in old new p page Empty tables frames spaces))
+            subst (λ n. LedgerStand (setting n) (view new) (after_zap (p, page) l)) (sym (ap (λ f. (seen f).count) frames))
+                (subst (λ v. LedgerStand (setting (count old)) v (after_zap (p, page) l)) (sym (entry_put_in old new p page Empty tables frames spaces))
                 (zero_left (setting (count old)) (view old) l p page cache stands refl (λ s. refl) there)),
           )
 
@@ -82,7 +82,7 @@ module _ (old : Mem) (l : Ledger) (stands : LedgerStands old l) where
             ap is_some there,
             least,
             ap (λ (v : View). v.free) seen_so ∙ released_freed (setting (count old)) (view old) l p page cache stands refl (λ s. refl) f was there,
-            subst (λ n. LedgerStand (setting n) (view new) (taken (p, page) l)) (sym counts)
-                (subst (λ v. LedgerStand (setting (count old)) v (taken (p, page) l)) (sym seen_so)
+            subst (λ n. LedgerStand (setting n) (view new) (after_zap (p, page) l)) (sym counts)
+                (subst (λ v. LedgerStand (setting (count old)) v (after_zap (p, page) l)) (sym seen_so)
                 (released_left (setting (count old)) (view old) l p page cache stands refl (λ s. refl) f was there)),
           )

@@ -4,7 +4,7 @@ use Rattle.std.proofs.lemmas.Bool.Decides.{nat_tests}
 use Rattle.av_base.specs.Words.{with_at}
 use Rattle.av_frames.specs.Store.{Store, Seen, seen}
 use Rattle.av_pagetable.specs.Entries.{entry_at}
-use Rattle.av_plain.proofs.NoSwapLaws.{itself}
+use Rattle.av_plain.proofs.Ledger.NoSwap.{itself}
 use Rattle.av_reclaim.specs.declared.mem.Mem.{Mem}
 use Rattle.av_reclaim.specs.Mem.{plain, view, joined}
 use Rattle.av_reclaim.specs.Zap.{released}

@@ -5,14 +5,14 @@ use Rattle.std.proofs.lemmas.Bool.{false≢true}
 use Rattle.std.proofs.lemmas.List.{append-nil, append_assoc}
 use Rattle.av_base.specs.Words.{within}
 use Rattle.av_plain.specs.Ledger.{Ledger, Entry, entry}
-use Rattle.av_plain.specs.Event.{Event, Taken, after_all, taken, notes_of}
+use Rattle.av_plain.specs.Event.{Event, Zapped, after_all, after_zap, notes_of}
 use Rattle.av_pagetable.specs.Table.{page_bound}
 use Rattle.av_pagetable.proofs.Entries.{past_pages}
-use Rattle.av_plain.specs.Taking.{keys_in, keys_of_process, taking, taking_one}
+use Rattle.av_plain.specs.Zap.{keys_in, keys_of_process, zaps_of, zap_of}
 use Rattle.av_plain.specs.Choice.{ChoosesAll}
-use Rattle.av_plain.proofs.LedgerLaws.{same_key}
-use Rattle.av_plain.proofs.AccessLaws.{after_all-append, notes_of-append, chooses-append}
-use Rattle.av_plain.proofs.TakingLaws.{entry-taken, range-done, range-least, taking_one-alone, exit-is-range}
+use Rattle.av_plain.proofs.Ledger.{same_key}
+use Rattle.av_plain.proofs.Access.{after_all-append, notes_of-append, chooses-append}
+use Rattle.av_plain.proofs.Zap.{entry-after_zap, range-done, range-least, zap_of-alone, exit-is-range}
 use Rattle.av_reclaim.specs.declared.mem.Mem.{Mem}
 use Rattle.av_plain.specs.Stands.{entry_of}
 use Rattle.av_reclaim.specs.Mem.{plain, view, LedgerStands}
@@ -24,7 +24,7 @@ pub record IsTaking (old new : Mem) (p from past next : ℕ) (first : Ledger) : 
   pub ledger : Ledger
   pub done : List Event
   pub stands : LedgerStands new ledger
-  pub rest : taking first (keys_in first p from (past - from)) ≡ done ++ taking ledger (keys_in ledger p from (past - from))
+  pub rest : zaps_of first (keys_in first p from (past - from)) ≡ done ++ zaps_of ledger (keys_in ledger p from (past - from))
   pub after : after_all first done ≡ ledger
   pub free : ChoosesAll first done (view old).free (view new).free
   pub notes : notes_of done ≡ []
@@ -42,15 +42,15 @@ module _ (old mid new : Mem) (p from past next page : ℕ) (first : Ledger) (t :
       by true e = t.none q low (let less : q < next = grind (arith, nat_tests, e) in less)
       by false e = step.2 q (let more : next ≤ q = grind (arith, nat_tests, e) in more) h
 
-  gone : (q : ℕ) → from ≤ q → q < page + 1 → entry (taken (p, page) t.ledger) (p, q) ≡ None
-  gone q low h = entry-taken (p, page) t.ledger (p, q) ∙ by (same_key (p, page) (p, q)) refl
+  gone : (q : ℕ) → from ≤ q → q < page + 1 → entry (after_zap (p, page) t.ledger) (p, q) ≡ None
+  gone q low h = entry-after_zap (p, page) t.ledger (p, q) ∙ by (same_key (p, page) (p, q)) refl
     where
       by : (b : Bool) → same_key (p, page) (p, q) ≡ b → cond b None (entry t.ledger (p, q)) ≡ None
       by true e = refl
       by false e = below q low (let less : q < page = grind (arith, nat_tests, e, h) in less)
 
-  alone : taking_one t.ledger (p, page) ≡ Taken (p, page) ∷ []
-  alone = taking_one-alone t.ledger (p, page) (no_cache t.ledger t.stands.swap.finds) (λ s. sym (t.stands.swap.counts s))
+  alone : zap_of t.ledger (p, page) ≡ Zapped (p, page) ∷ []
+  alone = zap_of-alone t.ledger (p, page) (no_cache t.ledger t.stands.swap.finds) (λ s. sym (t.stands.swap.counts s))
 
   above : from ≤ page
   above = let low = t.low in let more = step.0 in omega (arith, low, more)
@@ -59,29 +59,29 @@ module _ (old mid new : Mem) (p from past next page : ℕ) (first : Ledger) (t :
   inside = let low = above in grind (arith, nat_tests, low, high)
 
   unrolled : (o : Option Entry) → entry t.ledger (p, page) ≡ o → is_some o ≡ true
-      → taking t.ledger (keys_in t.ledger p from (past - from)) ≡ Taken (p, page) ∷ taking (taken (p, page) t.ledger) (keys_in (taken (p, page) t.ledger) p from (past - from))
+      → zaps_of t.ledger (keys_in t.ledger p from (past - from)) ≡ Zapped (p, page) ∷ zaps_of (after_zap (p, page) t.ledger) (keys_in (after_zap (p, page) t.ledger) p from (past - from))
   unrolled None is some = absurd (false≢true some)
   unrolled (Some e) is some = range-least t.ledger p from (past - from) page e t.stands.sound.in_order is inside below
-      ∙ ap (λ es. es ++ taking (after_all t.ledger es) (keys_in (after_all t.ledger es) p from (past - from))) alone
+      ∙ ap (λ es. es ++ zaps_of (after_all t.ledger es) (keys_in (after_all t.ledger es) p from (past - from))) alone
 
   pub taken_more : IsTaking old new p from past (page + 1) first
   taken_more = record {
-    ledger = taken (p, page) t.ledger;
-    done = t.done ++ Taken (p, page) ∷ [];
+    ledger = after_zap (p, page) t.ledger;
+    done = t.done ++ Zapped (p, page) ∷ [];
     stands = step.4;
     rest = t.rest ∙ ap (λ es. t.done ++ es) (unrolled (entry t.ledger (p, page)) refl step.1)
-        ∙ sym (append_assoc t.done (Taken (p, page) ∷ []) (taking (taken (p, page) t.ledger) (keys_in (taken (p, page) t.ledger) p from (past - from))));
-    after = after_all-append first t.done (Taken (p, page) ∷ []) ∙ ap (taken (p, page)) t.after;
-    free = chooses-append first t.done (Taken (p, page) ∷ []) (view old).free (view mid).free (view new).free t.free
-        (subst (λ l. ChoosesAll l (Taken (p, page) ∷ []) (view mid).free (view new).free) (sym t.after) ((view new).free, step.3, refl));
-    notes = notes_of-append t.done (Taken (p, page) ∷ []) ∙ ap (λ ns. ns ++ []) t.notes;
+        ∙ sym (append_assoc t.done (Zapped (p, page) ∷ []) (zaps_of (after_zap (p, page) t.ledger) (keys_in (after_zap (p, page) t.ledger) p from (past - from))));
+    after = after_all-append first t.done (Zapped (p, page) ∷ []) ∙ ap (after_zap (p, page)) t.after;
+    free = chooses-append first t.done (Zapped (p, page) ∷ []) (view old).free (view mid).free (view new).free t.free
+        (subst (λ l. ChoosesAll l (Zapped (p, page) ∷ []) (view mid).free (view new).free) (sym t.after) ((view new).free, step.3, refl));
+    notes = notes_of-append t.done (Zapped (p, page) ∷ []) ∙ ap (λ ns. ns ++ []) t.notes;
     low = let low = above in omega (arith, low);
     none = gone;
   }
 
-pub all_taken : (old mid new : Mem) (p from past next : ℕ) (first : Ledger) (t : IsTaking old mid p from past next first) → ZapsFirst mid new t.ledger p next past None → HasZapped old new first (taking first (keys_in first p from (past - from)))
+pub all_taken : (old mid new : Mem) (p from past next : ℕ) (first : Ledger) (t : IsTaking old mid p from past next first) → ZapsFirst mid new t.ledger p next past None → HasZapped old new first (zaps_of first (keys_in first p from (past - from)))
 all_taken old mid new p from past next first t step =
-    let whole : taking first (keys_in first p from (past - from)) ≡ t.done = t.rest ∙ ap (λ es. t.done ++ es) (range-done t.ledger p from (past - from) (λ q inside. none q (lower q inside) (upper q inside) (nat_lt q next) refl)) ∙ append-nil t.done in
+    let whole : zaps_of first (keys_in first p from (past - from)) ≡ t.done = t.rest ∙ ap (λ es. t.done ++ es) (range-done t.ledger p from (past - from) (λ q inside. none q (lower q inside) (upper q inside) (nat_lt q next) refl)) ∙ append-nil t.done in
     record {
       stands = subst (LedgerStands new) (sym (ap (after_all first) whole ∙ t.after)) step.2;
       notes = ap notes_of whole ∙ t.notes;
@@ -111,8 +111,8 @@ entries_below k l p page stands some = by (nat_lt page page_bound) refl
         absurd (false≢true (ap (λ t. is_some (entry_of (plain t))) (sym (past_pages k.tables p page high)) ∙ ap is_some (stands.tables.entries p page) ∙ some))
 
 -- the entries that the whole range has lost are all of the process
-pub all_gone : (old new : Mem) (l : Ledger) (p : ℕ) → LedgerStands old l → HasZapped old new l (taking l (keys_in l p 0 page_bound)) → HasZapped old new l (taking l (keys_of_process l p))
-all_gone old new l p stands = subst (λ ks. HasZapped old new l (taking l ks)) (sym (exit-is-range l p page_bound (λ page some. entries_below old l p page stands some)))
+pub all_gone : (old new : Mem) (l : Ledger) (p : ℕ) → LedgerStands old l → HasZapped old new l (zaps_of l (keys_in l p 0 page_bound)) → HasZapped old new l (zaps_of l (keys_of_process l p))
+all_gone old new l p stands = subst (λ ks. HasZapped old new l (zaps_of l ks)) (sym (exit-is-range l p page_bound (λ page some. entries_below old l p page stands some)))
 
 -- ---- what stays, over two steps
 

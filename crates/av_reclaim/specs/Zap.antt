@@ -3,8 +3,8 @@ use Rattle.std.specs.Prelude.{◌≡◌, ℕ, ◌-◌, ◌<◌, ◌≤◌, ◌==
 use Rattle.av_base.specs.Words.{with_at}
 use Rattle.av_pagetable.specs.Entries.{has}
 use Rattle.av_plain.specs.Ledger.{Ledger, entry}
-use Rattle.av_plain.specs.Event.{Event, taken, after_all, notes_of}
-use Rattle.av_plain.specs.Choice.{ChoosesAll, freed, frame_under}
+use Rattle.av_plain.specs.Event.{Event, after_zap, after_all, notes_of}
+use Rattle.av_plain.specs.Choice.{ChoosesAll, with_freed, frame_under}
 use Rattle.av_plain.specs.Stands.{View}
 use Rattle.av_reclaim.specs.declared.mem.Mem.{Mem}
 use Rattle.av_reclaim.specs.Mem.{count, view, LedgerStands}
@@ -30,8 +30,8 @@ ZapsFirst old new l p from past None =
 ZapsFirst old new l p from past (Some page) =
     (from ≤ page) × (is_some (entry l (p, page)) ≡ true)
     × ((q : ℕ) → from ≤ q → q < page → entry l (p, q) ≡ None)
-    × ((view new).free ≡ freed l (taken (p, page) l) (frame_under (entry l (p, page))) (view old).free)
-    × LedgerStands new (taken (p, page) l)
+    × ((view new).free ≡ with_freed l (after_zap (p, page) l) (frame_under (entry l (p, page))) (view old).free)
+    × LedgerStands new (after_zap (p, page) l)
 
 -- these entries have gone, without a note, and the frames that became free are in front
 pub record HasZapped (old new : Mem) (l : Ledger) (events : List Event) : Type 0 where

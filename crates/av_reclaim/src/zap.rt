@@ -3,7 +3,7 @@
 ghost use Rattle.std.specs.Prelude.{◌≡◌, ℕ, ◌-◌, ◌<◌, ◌≤◌, true, false, IfSome};
 ghost use Rattle.av_base.specs.Words.{is_in};
 ghost use Rattle.av_plain.specs.Ledger.{Ledger};
-ghost use Rattle.av_plain.specs.Taking.{keys_in, keys_of_process, taking};
+ghost use Rattle.av_plain.specs.Zap.{keys_in, keys_of_process, zaps_of};
 ghost use Rattle.av_reclaim.specs.Mem.{count, view, LedgerStands, IsOrderly};
 ghost use Rattle.av_reclaim.specs.Zap.{released, ZapsFirst, HasZapped, KeepsRest};
 
@@ -17,7 +17,7 @@ const PAST_PAGES: u64 = 1 << 36;
 pub fn zap_all(mem: &mut Mem, process: u16)
     requires orderly { IsOrderly mem.old }
     ensures zapped { (l : Ledger) → LedgerStands mem.old l →
-        HasZapped mem.old mem.new l (taking l (keys_of_process l process)) }
+        HasZapped mem.old mem.new l (zaps_of l (keys_of_process l process)) }
     ensures rest { KeepsRest mem.old mem.new }
 {
     zap_range(mem, process, 0, PAST_PAGES);
@@ -27,7 +27,7 @@ pub fn zap_all(mem: &mut Mem, process: u16)
 pub fn zap_range(mem: &mut Mem, process: u16, from: u64, past: u64)
     requires orderly { IsOrderly mem.old }
     ensures zapped { (l : Ledger) → LedgerStands mem.old l →
-        HasZapped mem.old mem.new l (taking l (keys_in l process from (past - from))) }
+        HasZapped mem.old mem.new l (zaps_of l (keys_in l process from (past - from))) }
     ensures rest { KeepsRest mem.old mem.new }
 {
     let mut next = from;

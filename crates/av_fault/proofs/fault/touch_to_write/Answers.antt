@@ -1,7 +1,7 @@
 use Rattle.std.proofs.Common.{◌≡◌, ◌∙◌, sym, ap, refl, true, subst, ◌≤◌}
 use Rattle.av_pagetable.specs.Entries.{entry_at, with_entry}
 use Rattle.av_pagetable.specs.declared.pte.Pte.TheVariants.{Here}
-use Rattle.av_plain.specs.Ledger.{mapped}
+use Rattle.av_plain.specs.Ledger.{map_count}
 use Rattle.av_fault.specs.Fault.{frame_named}
 use Rattle.av_fault.proofs.FaultSafe.{none_away, entry_frame, seen_there, seen_now}
 use Rattle.av_fault.proofs.fault.touch_to_write.Goals as goal
@@ -20,7 +20,7 @@ returns-else-is_shared c = record {
   step = λ s keeps.
     let h = c.in-Here in
     let old = c.args.mem.now in
-    let few : mapped s.ledger h.frame ≤ 1 = subst (λ n. n ≤ 1) (keeps.stands.frames.maps h.frame) (rw c.if-is_shared.false at c.is_shared.ensures) in
+    let few : map_count s.ledger h.frame ≤ 1 = subst (λ n. n ≤ 1) (keeps.stands.frames.maps h.frame) (rw c.if-is_shared.false at c.is_shared.ensures) in
     seen_now old (record old { tables = c.change.new.self }) s c.args.process c.args.page h.frame true h.write true h.seen c.args.notes.now keeps (c.requires.permitted)
     (sym c.get.ensures ∙ h.is) (subst (λ e. entry_at c.change.new.self ≡ with_entry c.args.process c.args.page e (entry_at old.tables)) c.accessed.ensures c.change.ensures.sets) c.change.ensures.processes refl refl (λ _. few) (λ _. few);
 }

@@ -2,14 +2,14 @@ use Rattle.std.proofs.Common.{◌∷◌, ◌++◌, ◌∙◌, ◌+◌, List, [],
 use Rattle.std.proofs.lemmas.List.{drop_more, at_drop_all}
 use Rattle.av_vma.specs.Areas.{area_of}
 use Rattle.av_vmatree.specs.declared.span.Span.{Span}
-use Rattle.av_plain.proofs.JoinedRanges.{all_joined}
+use Rattle.av_plain.proofs.Report.Runs.{all_joined}
 use Rattle.av_kernel.specs.Report.{AreRuns}
 use Rattle.av_merge.specs.Process.{IsAreaOf}
 use Rattle.av_kernel.specs.Spaces.{ranges_by}
 use Rattle.av_kernel.proofs.SpacesLaws.{AreNumbered, numbered, apart_ranges}
-use Rattle.av_kernel.proofs.Runs.{is_there, same_prot, runs-are, numbered_rest, is_on, IsLeft, left-first, left-grown, left-begun, left-last}
-use Rattle.av_kernel.proofs.spaces.runs_of.Goals.{then-goes_on, else-goes_on+in_ok-push}
-use Rattle.av_kernel.proofs.spaces.runs_of.Goals as goal
+use Rattle.av_kernel.proofs.ReportRuns.{is_there, same_prot, runs-are, numbered_rest, is_on, IsLeft, left-first, left-grown, left-begun, left-last}
+use Rattle.av_kernel.proofs.report.runs_of.Goals.{then-goes_on, else-goes_on+in_ok-push}
+use Rattle.av_kernel.proofs.report.runs_of.Goals as goal
 
 abbrev none : Span
 none = record { from = 0; to = 0; area = 0 }
