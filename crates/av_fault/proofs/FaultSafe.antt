@@ -1,5 +1,5 @@
 -- What a memory system that stands for some state says of its frames and entries.
-use Rattle.std.proofs.Common.{◌≡◌, ℕ, ◌<◌, ◌≤◌, Bool, true, false, ◌||◌, List, ◌∷◌, Option, Some, None, refl, sym, ap, subst, ◌∙◌, arith, is_some, nat_lt}
+use Rattle.std.proofs.Common.{◌≡◌, ℕ, ◌<◌, ◌≤◌, Bool, true, false, ◌||◌, List, ◌∷◌, Option, Some, None, option_map, refl, sym, ap, subst, ◌∙◌, arith, is_some, nat_lt}
 use Rattle.std.proofs.lemmas.Bool.{false≢true}
 use Rattle.std.proofs.lemmas.Bool.Decides.{nat_tests}
 use Rattle.av_base.specs.declared.slot.Slot.{Slot}
@@ -13,12 +13,14 @@ use Rattle.av_plain.specs.Stands.{Range, entry_of, prot_of}
 use Rattle.av_plain.specs.Transcript.{State}
 use Rattle.av_plain.proofs.Ledger.{how_many-found}
 use Rattle.av_plain.proofs.Ledger.NoSwap.{itself, free_is, shared_is, zero_is}
+use Rattle.av_vma.specs.declared.area.Area.{Area}
+use Rattle.av_spaces.specs.Spaces.{Spaces, pages_of}
 use Rattle.av_reclaim.specs.declared.mem.Mem.{Mem}
 use Rattle.av_fault.specs.declared.fault.Touched.TheVariants.{Ready}
 use Rattle.av_reclaim.specs.Mem.{ranges_of, setting, count, plain, view, Keeps, IsSteady}
 use Rattle.av_fault.specs.Fault.{permitted, frame_named, IsTouched}
 use Rattle.av_fault.proofs.FaultParts.{of_keeps, as_pte}
-use Rattle.av_reclaim.proofs.MemLaws.{entry_put_in}
+use Rattle.av_reclaim.proofs.MemLaws.{prot_on, prots_are, entry_put_in}
 use Rattle.av_fault.proofs.FaultTouched.{marked, again}
 use Rattle.av_fault.proofs.FaultServes.{named_entry, not_away}
 
@@ -80,3 +82,7 @@ pub seen_now : (k new : Mem) (s : State) (p page f : ℕ) (write bit bit' was : 
     → (bit' ≡ true → map_count s.ledger f ≤ 1) → (write ≡ true → map_count s.ledger f ≤ 1) → IsTouched s new write (p, page) notes notes (Ready f)
 seen_now k new s p page f write bit bit' was notes keeps allowed is entries processes frames spaces few own =
     marked s k new p page notes keeps processes (ap (λ f. (seen f).count) frames) write bit' was f (entry_put_in k new p page (Here f bit' true) entries frames spaces) allowed (frame_entry k s p page f bit was keeps is) few own
+
+-- whether an access is permitted, by the area on the page
+pub may_be : (s : Spaces) (p page : ℕ) (write : Bool) (o : Option Area) → o ≡ pages_of s p page → permitted write (option_map prot_on o) ≡ permitted write (prot_of (ranges_of s p) page)
+may_be s p page write o is = ap (λ x. permitted write (option_map prot_on x)) is ∙ sym (ap (permitted write) (prots_are s p page))

@@ -32,13 +32,13 @@ use Rattle.av_plain.specs.Stands.{Holds, IsKept, IsKeptAt, prot_of, Range}
 use Rattle.av_plain.proofs.World.Ranges.{is-pages_to_hole}
 use Rattle.av_plain.proofs.Zap.{entry-range}
 use Rattle.av_reclaim.specs.declared.mem.Mem.{Mem}
-use Rattle.av_spaces.specs.Spaces.{Spaces, is_taken}
+use Rattle.av_spaces.specs.Spaces.{Spaces, areas_of, is_taken}
 use Rattle.av_kernel.specs.Map.{set_on, HasProts, AreCleared}
 use Rattle.av_reclaim.specs.Mem.{ranges_of, setting, view, count, Keeps, IsSteady}
 use Rattle.av_reclaim.specs.Zap.{HasZapped}
 use Rattle.av_kernel.specs.Place.{IsProcess, IsPlaced, AreToClear}
 use Rattle.av_kernel.specs.Step.{MemSteps, answered}
-use Rattle.av_reclaim.proofs.MemLaws.{mapped_is}
+use Rattle.av_reclaim.proofs.MemLaws.{alive_is, taken_has, mapped_is}
 use Rattle.av_kernel.proofs.Place.{page_back, IsSuited, suited}
 use Rattle.av_kernel.proofs.Step.{is_number, moved_on, orderly, refused, stays_orderly, changed, areas_changed, tables_kept}
 
@@ -46,7 +46,7 @@ use Rattle.av_kernel.proofs.Step.{is_number, moved_on, orderly, refused, stays_o
 
 -- a page is taken exactly where it is mapped
 pub taken_is : (k : Mem) (s : State) (p : ℕ) → Keeps k s → IsProcess k.spaces p (pages s.world p)
-taken_is k s p keeps page = ap is_some (keeps.stands.areas.covers p page) ∙ mapped_is (pages s.world p page)
+taken_is k s p keeps page = taken_has k.spaces p page ∙ ap is_some (keeps.stands.areas.covers p page) ∙ mapped_is (pages s.world p page)
 
 -- a place suits the pages of a process, whatever the kernel stands for
 pub suits : (k : Mem) → IsSteady k → (p n page : ℕ) (place : Place) → ((q : Process) → IsProcess k.spaces p q → IsPlaced q n place (Ok page)) → IsSuited k.spaces p n page place
@@ -84,6 +84,15 @@ are_cleared old mid spaces p page n l t same processes bytes gone = record {
   processes = processes;
   bytes = bytes;
 }
+
+-- the process lives on, and none of the pages is taken
+pub cleared_lives : (old new : Mem) (p page n : ℕ) (l : Ledger) (events : List Event) → AreCleared old new p page n l events → is_some (areas_of new.spaces p) ≡ true
+cleared_lives old new p page n l events h = sym (alive_is new.spaces p) ∙ h.spaces.alive
+
+pub cleared_free : (old new : Mem) (p page n : ℕ) (l : Ledger) (events : List Event) → AreCleared old new p page n l events → IsFree (is_taken new.spaces p) page (page + n)
+cleared_free old new p page n l events h o low high =
+    let inside : within page n o ≡ true = grind (arith, nat_tests, low, high) in
+    taken_has new.spaces p o ∙ ap is_some (h.spaces.pages o ∙ ap (λ b. cond b None (prot_of (ranges_of old.spaces p) o)) inside)
 
 -- ---- the pages of a range are replaced
 
@@ -190,7 +199,7 @@ module _ (old : Mem) (s : State) (p len : ℕ) (prot : Prot) (place : Place) (ke
   entry-cleared (Fixed a) page n q at there = entry-range s.ledger p (page_of a) n q at ∙ ap (λ x. cond (q == p && within x n at) None (entry s.ledger (q, at))) (sym there)
   entry-cleared (NoReplace a) page n q at free = unmapped page n q at free
 
-  module _ (mid : Mem) (spaces : List (ℕ × List Range)) (page : ℕ) (placed : IsPlaced (pages s.world p) (pages_of len) place (Ok page)) (clear : AreToClear (is_taken old.spaces p) page (pages_of len) place)
+  module _ (mid : Mem) (spaces : Spaces) (page : ℕ) (placed : IsPlaced (pages s.world p) (pages_of len) place (Ok page)) (clear : AreToClear (is_taken old.spaces p) page (pages_of len) place)
       (same_count : count mid ≡ count old) (cleared : AreCleared old mid p page (pages_of len) s.ledger (zaps_for_place s.ledger p (pages_of len) place))
       (mapped : HasProts mid.spaces spaces p (set_on page (pages_of len) (Some prot) (prot_of (ranges_of mid.spaces p)))) where
     pub mmap-steps : MemSteps old (moved_on mid mid.tables spaces) s (Mmap p len prot place) (answered (MapAt (address_of page)))
@@ -209,7 +218,7 @@ module _ (old : Mem) (s : State) (p len : ℕ) (prot : Prot) (place : Place) (ke
 
 -- ---- mprotect
 
-module _ (old : Mem) (spaces : List (ℕ × List Range)) (s : State) (p a len reached : ℕ) (prot : Prot) (keeps : Keeps old s) (alive : is_some (ranges_of old.spaces p) ≡ true) (passed : refusal ((not (is_on_page a), Einval) ∷ (wraps a len, Enomem) ∷ []) ≡ None)
+module _ (old : Mem) (spaces : Spaces) (s : State) (p a len reached : ℕ) (prot : Prot) (keeps : Keeps old s) (alive : is_some (ranges_of old.spaces p) ≡ true) (passed : refusal ((not (is_on_page a), Einval) ∷ (wraps a len, Enomem) ∷ []) ≡ None)
     (reaches : IsReached (is_taken old.spaces p) (page_of a) (page_of a + pages_of len) reached) (given : HasProts old.spaces spaces p (set_on (page_of a) (reached - page_of a) (Some prot) (prot_of (ranges_of old.spaces p)))) where
   mprotect-allowed : refusal (tests (setting (count old)) s.world s.ledger (Mprotect p a len prot)) ≡ None
   mprotect-allowed = ap (λ b. cond (not b) (Some Esrch) (refusal ((not (is_on_page a), Einval) ∷ (wraps a len, Enomem) ∷ []))) (sym (keeps.stands.areas.alive p) ∙ alive) ∙ passed

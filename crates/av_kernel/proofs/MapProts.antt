@@ -1,72 +1,41 @@
 -- The protections of a process's pages after its areas were mapped, cut or protected.
-use Rattle.std.proofs.Common.{◌≡◌, ℕ, ◌+◌, ◌-◌, ◌*◌, ◌/◌, ◌<◌, ◌≤◌, Bool, true, false, cond, List, Option, Some, None, is_some, option_map, option_and_then, Result, Ok, Err, refl, sym, ap, subst, ◌∙◌, arith}
+use Rattle.std.proofs.Common.{◌≡◌, ℕ, ◌+◌, ◌-◌, ◌*◌, ◌/◌, ◌<◌, ◌≤◌, Bool, true, false, cond, List, Option, Some, None, is_some, option_map, refl, sym, ap, subst, ◌∙◌, arith}
 use Rattle.std.proofs.lemmas.Bool.Decides.{nat_tests}
-use Rattle.std.proofs.lemmas.Bool.{both_ways, false≢true}
+use Rattle.std.proofs.lemmas.Bool.{false≢true}
 use Rattle.std.proofs.lemmas.Option.{none-some, same_Some}
-use Rattle.std.specs.Prelude.{OnOk, IfOk}
-use Rattle.std.specs.Ordering.{nat_cmp}
-use Rattle.std.specs.BTreeMap.{BTreeMap, get, is_at, WritesThrough}
-use Rattle.av_reclaim.specs.Mem.{ranges_of}
-use Rattle.av_vma.specs.declared.area.Area.{Area}
+use Rattle.std.specs.Prelude.{map}
 use Rattle.av_base.specs.declared.prot.Prot.{Prot}
 use Rattle.av_base.specs.Limits.{low_page, top_page}
 use Rattle.av_base.specs.Words.{within}
-use Rattle.av_vmatree.specs.declared.span.Span.{Span}
-use Rattle.av_vmatree.specs.Spans.{IsFree, area_at, taken}
+use Rattle.av_vma.specs.declared.area.Area.{Area}
+use Rattle.av_vmatree.specs.Spans.{IsFree}
 use Rattle.av_merge.specs.Laid.{AreLaid}
 use Rattle.av_merge.specs.Mapping.{Mapping, mapping, mapping_in, with_prot}
-use Rattle.av_merge.specs.Pages.{Pages, pages_by, has_page, cut_at, emptied, placed, joined_around, fresh_area, IsReached}
-use Rattle.av_merge.specs.Process.{AreAreasOf, IsWhole, Stays}
-use Rattle.av_merge.proofs.Mappings.{around_maps, cut_out_maps, laid_of, placed_maps}
-use Rattle.av_merge.proofs.Places.{taken_is}
+use Rattle.av_merge.specs.Pages.{Pages, has_page, cut_at, emptied, placed, joined_around, fresh_area, IsReached}
+use Rattle.av_merge.specs.Process.{IsWhole}
+use Rattle.av_merge.proofs.Mappings.{around_maps, cut_out_maps, placed_maps}
+use Rattle.av_spaces.specs.Spaces.{Spaces, pages_of, is_taken, mapped, unmapped, AreThese, AreProtected, IsChanged}
+use Rattle.av_spaces.proofs.Rising.{laid}
 use Rattle.av_plain.specs.Stands.{prot_of}
-use Rattle.av_spaces.specs.Spaces.{Spaces}
-use Rattle.av_kernel.specs.Spaces.{spaces_by, ranges_by, AreTrees}
+use Rattle.av_reclaim.specs.Mem.{range_of, ranges_of}
+use Rattle.av_reclaim.proofs.MemLaws.{prot_on, alive_is, prots_are, all_apart}
 use Rattle.av_kernel.specs.Map.{set_on, HasProts}
-use Rattle.av_kernel.proofs.SpacesLaws.{areas_are, prot_on, prots_are, tree_of, trees_changed, changed}
 
 -- the protections of pages
 abbrev pub prots_on : Pages → ℕ → Option Prot
 prots_on on page = option_map prot_on (on page)
 
+-- whether a page has an area
+abbrev has_area : Pages → ℕ → Bool
+has_area on page = is_some (on page)
+
 -- a page that is not taken has no area
-free_none : (areas : ℕ → Option Area) (spans : List Span) (page : ℕ) → taken spans page ≡ false → pages_by areas spans page ≡ None
-free_none areas spans page h = each (area_at spans page) h
+free_none : (on : Pages) (page : ℕ) → has_area on page ≡ false → on page ≡ None
+free_none on page h = each (on page) h
   where
-    each : (o : Option ℕ) → is_some o ≡ false → option_and_then areas o ≡ None
+    each : (o : Option Area) → is_some o ≡ false → o ≡ None
     each None h = refl
-    each (Some n) h = absurd (both_ways _ h refl)
-
--- ---- the tree of one process is changed in its place
-
-module _ (f f' : ℕ → Option Area) (old new : BTreeMap ℕ (List Span)) (p : ℕ) (before after : List Span) (trees : AreTrees f old) (was : Some before ≡ get nat_cmp old p)
-    (stays : AreAreasOf p f before → Stays p f f' after) (writes : WritesThrough nat_cmp (nat_cmp p) old after new) where
-  areas_before : AreAreasOf p f before
-  areas_before = tree_of f old p before trees (sym was)
-
-  now : (q : ℕ) → get nat_cmp new q ≡ cond (is_at (nat_cmp p) q) (Some after) (get nat_cmp old q)
-  now = (writes.3 (ap is_some (sym was))).0
-
-  pub lent_trees : AreTrees f' new
-  lent_trees = trees_changed f f' p (stays areas_before).others old new (Some after) trees (stays areas_before).areas now
-
-  prots_before : (page : ℕ) → prots_on (pages_by f before) page ≡ prot_of (ranges_of (spaces_by f old.entries) p) page
-  prots_before page = sym (ap (λ o. prot_of o page) (areas_are f old.entries p ∙ ap (option_map (ranges_by f)) (sym was)) ∙ prots_are f p before areas_before page)
-
-  pub lent_changed : (s : Spaces) → spaces_by f old.entries ≡ s → (from n : ℕ) (prot : Option Prot) → ((page : ℕ) → prots_on (pages_by f' after) page ≡ set_on from n prot (prots_on (pages_by f before)) page)
-      → HasProts s (spaces_by f' new.entries) p (set_on from n prot (prot_of (ranges_of s p)))
-  lent_changed s is from n prot pages =
-      subst (λ s. HasProts s (spaces_by f' new.entries) p (set_on from n prot (prot_of (ranges_of s p)))) is
-      (changed f f' p (stays areas_before).others old new (Some after) trees (stays areas_before).areas now after refl writes.2 (set_on from n prot (prot_of (ranges_of (spaces_by f old.entries) p)))
-      (λ page. pages page ∙ ap (λ (prots : ℕ → Option Prot). set_on from n prot prots page) (λ i page. prots_before page i)))
-
-pub if_both : {X Y : Type 0} (r : Result X Y) (P Q R : X → Type 0) → ((x : X) → P x → Q x → R x) → IfOk r P → IfOk r Q → IfOk r R
-if_both (Ok x) P Q R h p q = h x p q
-if_both (Err e) P Q R h p q = tt
-
-pub on_ok : {X Y : Type 0} (r : Result X Y) {P Q : Type 0} → (P → Q) → OnOk r P → OnOk r Q
-on_ok (Ok x) h p = h p
-on_ok (Err e) h p = tt
+    each (Some area) h = cc
 
 abbrev prot_mapped : Mapping → Prot
 prot_mapped m = m.prot
@@ -87,23 +56,23 @@ many from n = omega arith
 
 -- ---- unmap
 
-pub prots_cut : (p : ℕ) (f : ℕ → Option Area) (spans : List Span) (from n : ℕ) (new : Pages) → AreAreasOf p f spans
-    → ((page : ℕ) → new page ≡ emptied from (from + n) (cut_at (from + n) (cut_at from (pages_by f spans))) page)
-    → (page : ℕ) → prots_on new page ≡ set_on from n None (prots_on (pages_by f spans)) page
-prots_cut p f spans from n new areas is page =
+prots_cut : (on : Pages) (from n : ℕ) (new : Pages) → AreLaid on
+    → ((page : ℕ) → new page ≡ emptied from (from + n) (cut_at (from + n) (cut_at from on)) page)
+    → (page : ℕ) → prots_on new page ≡ set_on from n None (prots_on on) page
+prots_cut on from n new laid is page =
     prots_mapped new page
-    ∙ ap (option_map prot_mapped) (ap (option_map (mapping_in page)) (is page) ∙ cut_out_maps from (from + n) (pages_by f spans) (laid_of p f spans areas) page ∙ ap (λ k. cond (within from k page) None (mapping (pages_by f spans) page)) (many from n))
-    ∙ elim (within from n page) as (λ b. option_map prot_mapped (cond b None (mapping (pages_by f spans) page)) ≡ cond b None (prots_on (pages_by f spans) page)) [
+    ∙ ap (option_map prot_mapped) (ap (option_map (mapping_in page)) (is page) ∙ cut_out_maps from (from + n) on laid page ∙ ap (λ k. cond (within from k page) None (mapping on page)) (many from n))
+    ∙ elim (within from n page) as (λ b. option_map prot_mapped (cond b None (mapping on page)) ≡ cond b None (prots_on on page)) [
       | true ↦ refl
-      | false ↦ sym (prots_mapped (pages_by f spans) page)
+      | false ↦ sym (prots_mapped on page)
     ]
 
 -- ---- protect
 
-pub prots_protected : (p : ℕ) (f : ℕ → Option Area) (spans : List Span) (from to past : ℕ) (prot : Prot) (new : Pages) → AreAreasOf p f spans → IsReached (taken spans) from to past
-    → ((page : ℕ) → mapping new page ≡ cond (within from (past - from) page) (option_map (with_prot prot) (mapping (pages_by f spans) page)) (mapping (pages_by f spans) page))
-    → (page : ℕ) → prots_on new page ≡ set_on from (past - from) (Some prot) (prots_on (pages_by f spans)) page
-prots_protected p f spans from to past prot new areas reached is page =
+prots_protected : (on : Pages) (from to past : ℕ) (prot : Prot) (new : Pages) → IsReached (has_area on) from to past
+    → ((page : ℕ) → mapping new page ≡ cond (within from (past - from) page) (option_map (with_prot prot) (mapping on page)) (mapping on page))
+    → (page : ℕ) → prots_on new page ≡ set_on from (past - from) (Some prot) (prots_on on) page
+prots_protected on from to past prot new reached is page =
     prots_mapped new page ∙ ap (option_map prot_mapped) (is page) ∙ by (within from (past - from) page) refl
   where
     lower : (from n page : ℕ) → within from n page ≡ true → from ≤ page
@@ -117,9 +86,9 @@ prots_protected p f spans from to past prot new areas reached is page =
     there (Some area) h = refl
 
     by : (b : Bool) → within from (past - from) page ≡ b
-        → option_map prot_mapped (cond b (option_map (with_prot prot) (mapping (pages_by f spans) page)) (mapping (pages_by f spans) page)) ≡ cond b (Some prot) (prots_on (pages_by f spans) page)
-    by true e = there (pages_by f spans page) (taken_is p f spans page areas ∙ reached.all page (lower from (past - from) page e) (upper from past page e))
-    by false e = sym (prots_mapped (pages_by f spans) page)
+        → option_map prot_mapped (cond b (option_map (with_prot prot) (mapping on page)) (mapping on page)) ≡ cond b (Some prot) (prots_on on page)
+    by true e = there (on page) (reached.all page (lower from (past - from) page e) (upper from past page e))
+    by false e = sym (prots_mapped on page)
 
 -- ---- map
 
@@ -161,21 +130,21 @@ fresh_has p from n prot page = λ i. within (first i) (pages i) page
     pages : (4096 * (from + n)) / 4096 - (4096 * from) / 4096 ≡ n
     pages = omega arith
 
-pub prots_placed : (p : ℕ) (f : ℕ → Option Area) (spans : List Span) (from n : ℕ) (prot : Prot) (new : Pages) → AreAreasOf p f spans
-    → 1 ≤ n → low_page ≤ from → from + n ≤ top_page → IsFree (taken spans) from (from + n)
-    → ((page : ℕ) → new page ≡ joined_around from (from + n) (placed (fresh_area p from (from + n) prot) (pages_by f spans)) page)
-    → (page : ℕ) → prots_on new page ≡ set_on from n (Some prot) (prots_on (pages_by f spans)) page
-prots_placed p f spans from n prot new areas some low high free is page =
+prots_placed : (p : ℕ) (on : Pages) (from n : ℕ) (prot : Prot) (new : Pages) → AreLaid on
+    → 1 ≤ n → low_page ≤ from → from + n ≤ top_page → IsFree (has_area on) from (from + n)
+    → ((page : ℕ) → new page ≡ joined_around from (from + n) (placed (fresh_area p from (from + n) prot) on) page)
+    → (page : ℕ) → prots_on new page ≡ set_on from n (Some prot) (prots_on on) page
+prots_placed p on from n prot new laid some low high free is page =
     prots_mapped new page
     ∙ ap (option_map prot_mapped) (
     ap (option_map (mapping_in page)) (is page)
-    ∙ around_maps from (from + n) (placed fresh (pages_by f spans)) (laid_placed fresh (pages_by f spans) (laid_of p f spans areas) (fresh_whole p from n prot some low high) none) page
-    ∙ placed_maps fresh (pages_by f spans) page
-    ∙ ap (λ b. cond b (Some (mapping_in page fresh)) (mapping (pages_by f spans) page)) (fresh_has p from n prot page)
+    ∙ around_maps from (from + n) (placed fresh on) (laid_placed fresh on laid (fresh_whole p from n prot some low high) none) page
+    ∙ placed_maps fresh on page
+    ∙ ap (λ b. cond b (Some (mapping_in page fresh)) (mapping on page)) (fresh_has p from n prot page)
     )
-    ∙ elim (within from n page) as (λ b. option_map prot_mapped (cond b (Some (mapping_in page fresh)) (mapping (pages_by f spans) page)) ≡ cond b (Some prot) (prots_on (pages_by f spans) page)) [
+    ∙ elim (within from n page) as (λ b. option_map prot_mapped (cond b (Some (mapping_in page fresh)) (mapping on page)) ≡ cond b (Some prot) (prots_on on page)) [
       | true ↦ refl
-      | false ↦ sym (prots_mapped (pages_by f spans) page)
+      | false ↦ sym (prots_mapped on page)
     ]
   where
     fresh : Area
@@ -187,7 +156,35 @@ prots_placed p f spans from n prot new areas some low high free is page =
     upper : (from n page : ℕ) → within from n page ≡ true → page < from + n
     upper from n page h = grind (arith, nat_tests)
 
-    none : (page : ℕ) → has_page (fresh_area p from (from + n) prot) page ≡ true → pages_by f spans page ≡ None
+    none : (page : ℕ) → has_page (fresh_area p from (from + n) prot) page ≡ true → on page ≡ None
     none page has =
         let e = sym (fresh_has p from n prot page) ∙ has in
-        free_none f spans page (free page (lower from n page e) (upper from n page e))
+        free_none on page (free page (lower from n page e) (upper from n page e))
+
+-- ---- what the spaces promise, as protections
+
+has_prots : (s t : Spaces) (p : ℕ) (IsSo : Pages → Type 0) (prots : ℕ → Option Prot) → IsChanged s t p IsSo → ((page : ℕ) → prots_on (pages_of t p) page ≡ prots page) → HasProts s t p prots
+has_prots s t p IsSo prots h is = record {
+  others = λ q other. ap (option_map (map range_of)) (h.others q other);
+  alive = alive_is t p ∙ h.alive;
+  pages = λ page. prots_are t p page ∙ is page;
+  number = h.number;
+  apart = all_apart t h.rising;
+}
+
+as_ranges : (s : Spaces) (p from n page : ℕ) (prot : Option Prot) → set_on from n prot (prots_on (pages_of s p)) page ≡ set_on from n prot (prot_of (ranges_of s p)) page
+as_ranges s p from n page prot = ap (cond (within from n page) prot) (sym (prots_are s p page))
+
+pub unmapped-prots : (s t : Spaces) (p from n : ℕ) → IsChanged s t p (AreThese (unmapped from (from + n) (pages_of s p))) → HasProts s t p (set_on from n None (prot_of (ranges_of s p)))
+unmapped-prots s t p from n h = has_prots s t p (AreThese (unmapped from (from + n) (pages_of s p))) (set_on from n None (prot_of (ranges_of s p))) h
+    (λ page. prots_cut (pages_of s p) from n (pages_of t p) (laid s p h.were_rising) h.pages page ∙ as_ranges s p from n page None)
+
+pub mapped-prots : (s t : Spaces) (p from n : ℕ) (prot : Prot) → 1 ≤ n → low_page ≤ from → from + n ≤ top_page → IsFree (is_taken s p) from (from + n)
+    → IsChanged s t p (AreThese (mapped p from (from + n) prot (pages_of s p))) → HasProts s t p (set_on from n (Some prot) (prot_of (ranges_of s p)))
+mapped-prots s t p from n prot some low high free h = has_prots s t p (AreThese (mapped p from (from + n) prot (pages_of s p))) (set_on from n (Some prot) (prot_of (ranges_of s p))) h
+    (λ page. prots_placed p (pages_of s p) from n prot (pages_of t p) (laid s p h.were_rising) some low high free h.pages page ∙ as_ranges s p from n page (Some prot))
+
+pub protected-prots : (s t : Spaces) (p from to past : ℕ) (prot : Prot) → IsReached (is_taken s p) from to past → IsChanged s t p (AreProtected from past prot (pages_of s p))
+    → HasProts s t p (set_on from (past - from) (Some prot) (prot_of (ranges_of s p)))
+protected-prots s t p from to past prot reached h = has_prots s t p (AreProtected from past prot (pages_of s p)) (set_on from (past - from) (Some prot) (prot_of (ranges_of s p))) h
+    (λ page. prots_protected (pages_of s p) from to past prot (pages_of t p) reached h.pages page ∙ as_ranges s p from (past - from) page (Some prot))

@@ -10,13 +10,26 @@ use Rattle.av_trace.specs.declared.reply.Errno.TheVariants.{Eperm, Enomem, Eexis
 use Rattle.av_trace.specs.declared.command.Place.{Place}
 use Rattle.av_trace.specs.declared.command.Place.TheVariants.{Auto, At, Fixed, NoReplace}
 use Rattle.av_plain.specs.World.{Process, is_mapped, meets}
-use Rattle.av_base.specs.Page.{page_of, address_of, is_on_page}
+use Rattle.av_base.specs.Page.{page_of, pages_of, address_of, is_on_page}
 use Rattle.av_plain.specs.Refusal.{Tests, top, low, fixed_tests, refusal}
 use Rattle.av_plain.specs.Place.{is_room}
 use Rattle.av_plain.proofs.World.Ranges.{none-meets, some-meets, meets-none, room-is}
 use Rattle.av_spaces.specs.Spaces.{Spaces, is_taken}
 use Rattle.av_kernel.specs.Place.{IsProcess, IsPlaced, AreToClear}
-use Rattle.av_kernel.proofs.Place.{gap_agrees}
+use Rattle.std.specs.Int.{div_ceil}
+
+-- ---- pages and addresses
+
+pub page_back : (page : ℕ) → page_of (address_of page) ≡ page
+page_back page = omega arith
+
+-- a length rounded up to whole pages, as std rounds
+pub rounded_up : (len : ℕ) → div_ceil len 4096 ≡ pages_of len
+rounded_up len = omega arith
+
+-- the gap rule looks at each page alone
+gap_agrees : (f g : ℕ → Bool) (n : ℕ) (to : Option ℕ) → ((q : ℕ) → f q ≡ g q) → IsGap f n to → IsGap g n to
+gap_agrees f g n to same h = subst (λ (t : ℕ → Bool). IsGap t n to) (λ i q. same q i) h
 
 -- ---- tests in order
 

@@ -1,21 +1,19 @@
--- A process that ends: its entries, its table and its areas have gone, and nothing of the others.
-use Rattle.std.proofs.Common.{◌≡◌, ℕ, suc, ◌+◌, ◌<◌, ◌≤◌, nat_lt, Bool, true, false, cond, not, T, List, [], ◌∷◌, length, Some, None, is_some, option_map, refl, sym, ap, subst, ◌∙◌, arith, ◌==◌}
+-- A process that comes, and one that ends: its entries, its table and its areas have gone, and nothing of the others.
+use Rattle.std.proofs.Common.{◌≡◌, ℕ, suc, ◌+◌, ◌<◌, ◌≤◌, nat_lt, nat_le, Bool, true, false, cond, not, T, List, [], ◌∷◌, length, Option, Some, None, is_some, option_map, refl, sym, ap, subst, ◌∙◌, arith, ◌==◌}
 use Rattle.std.proofs.lemmas.Bool.Decides.{nat_tests}
 use Rattle.std.proofs.lemmas.Bool.{false≢true}
-use Rattle.std.specs.Prelude.{MatchOption}
-use Rattle.std.specs.Ordering.{nat_cmp, is_eq, is_lt}
+use Rattle.std.specs.Prelude.{MatchOption, map}
+use Rattle.std.specs.Ordering.{nat_cmp, is_eq, is_lt, eq_by_cmp}
 use Rattle.std.specs.FinMap.Entries.{is_sorted, below_all, find}
+use Rattle.av_base.specs.Limits.{most_processes}
 use Rattle.av_base.specs.Words.{with_at}
-use Rattle.av_trace.specs.declared.command.Command.TheVariants.{Exit}
-use Rattle.av_trace.specs.declared.reply.Errno.TheVariants.{Esrch}
+use Rattle.av_trace.specs.declared.command.Command.TheVariants.{Spawn, Exit}
+use Rattle.av_trace.specs.declared.reply.Errno.TheVariants.{Esrch, Eagain, Eexist}
 use Rattle.av_trace.specs.declared.reply.Answer.TheVariants.{Done}
-use Rattle.av_pagetable.specs.declared.tables.Tables.{Tables}
-use Rattle.av_pagetable.specs.declared.table.MapTable.{MapTable}
 use Rattle.av_pagetable.specs.declared.pte.Pte.{Pte}
 use Rattle.av_pagetable.specs.declared.pte.Pte.TheVariants.{Empty}
-use Rattle.av_pagetable.specs.Entries.{entry_at, has}
-use Rattle.av_pagetable.specs.Table.{page_bound}
-use Rattle.av_plain.specs.World.{World, Page, lives, pages, end_process}
+use Rattle.av_pagetable.specs.Entries.{ProcessTables, entry_at, has}
+use Rattle.av_plain.specs.World.{World, Page, no_pages, lives, pages, set_process, end_process}
 use Rattle.av_plain.specs.Ledger.{Ledger, entry, names_frame}
 use Rattle.av_plain.specs.Event.{after_all}
 use Rattle.av_plain.specs.Fault.{is_shared}
@@ -26,18 +24,99 @@ use Rattle.av_plain.specs.Choice.{ChoosesAll}
 use Rattle.av_plain.specs.Stands.{Pte as Plain, Range, IsKept, entry_of, prot_of, AreasStand, TablesStand}
 use Rattle.av_plain.specs.Transcript.{State, IsStep}
 use Rattle.av_plain.proofs.Ledger.Order.{both_first, both_second}
-use Rattle.av_plain.proofs.Zap.{entry-ended, entry-others, exit-is-range}
+use Rattle.av_plain.proofs.World.{pages-set, lives-set, length-set_new}
+use Rattle.av_plain.proofs.Zap.{entry-ended, entry-others}
 use Rattle.av_plain.proofs.Sound.Zap.{process-ended, pages-ended}
 use Rattle.av_reclaim.specs.declared.mem.Mem.{Mem}
-use Rattle.av_spaces.specs.Spaces.{IsEnded}
-use Rattle.av_reclaim.specs.Mem.{ranges_of, setting, plain, view, count, HasTables, Keeps, LedgerStands}
+use Rattle.av_vma.specs.declared.area.Area.{Area}
+use Rattle.av_spaces.specs.Spaces.{Spaces, areas_of, IsSpawned, IsEnded}
+use Rattle.av_reclaim.specs.Mem.{range_of, ranges_of, setting, plain, view, count, HasTables, Keeps, LedgerStands}
 use Rattle.av_kernel.specs.Step.{MemSteps, answered}
 use Rattle.av_reclaim.specs.Zap.{HasZapped}
-use Rattle.av_reclaim.proofs.MemLaws.{kept-nothing, no_cache}
-use Rattle.av_pagetable.proofs.Entries.{past_pages}
-use Rattle.av_kernel.proofs.Step.{is_number, kept-on, stepped}
+use Rattle.av_reclaim.proofs.MemLaws.{all_apart, kept-nothing, no_cache}
+use Rattle.av_kernel.proofs.Step.{is_number, orderly, moved_on, stays_orderly, state_after, changed, kept-on, stepped}
 
--- ---- the memories
+-- ---- the ranges of a process that comes or goes
+
+ranges_spawned : (old new : Spaces) (p : ℕ) → IsSpawned old new p → (q : ℕ) → ranges_of new q ≡ cond (q == p) (Some []) (ranges_of old q)
+ranges_spawned old new p h q = ap (option_map (map range_of)) (h.areas q) ∙ by (q == p)
+  where
+    by : (b : Bool) → option_map (map range_of) (cond b (Some []) (areas_of old q)) ≡ cond b (Some []) (ranges_of old q)
+    by true = refl
+    by false = refl
+
+ranges_ended : (old new : Spaces) (p : ℕ) → IsEnded old new p → (q : ℕ) → ranges_of new q ≡ cond (q == p) None (ranges_of old q)
+ranges_ended old new p h q = ap (option_map (map range_of)) (h.areas q) ∙ by (q == p)
+  where
+    by : (b : Bool) → option_map (map range_of) (cond b None (areas_of old q)) ≡ cond b None (ranges_of old q)
+    by true = refl
+    by false = refl
+
+at_number : (q p : ℕ) → eq_by_cmp nat_cmp q p ≡ (q == p)
+at_number q p = grind (arith, nat_tests)
+
+-- ---- spawn
+
+-- a process that didn't live does now
+module _ (old : Mem) (tables : ProcessTables) (spaces : Spaces) (s : State) (p : ℕ) (keeps : Keeps old s)
+    (absent : is_some (ranges_of old.spaces p) ≡ false) (few : length old.spaces < 4096)
+    (entries : entry_at tables ≡ entry_at old.tables) (processes : has tables ≡ with_at p true (has old.tables)) (spawned : IsSpawned old.spaces spaces p) where
+  dead_before : lives s.world p ≡ false
+  dead_before = sym (keeps.stands.areas.alive p) ∙ absent
+
+  few_live : nat_le most_processes (length s.world) ≡ false
+  few_live = let number = keeps.stands.areas.number in let less : length s.world < 4096 = omega (arith, few, number) in not_le (length s.world) less
+    where
+      not_le : (n : ℕ) → n < 4096 → nat_le most_processes n ≡ false
+      not_le n h = grind (arith, nat_tests)
+
+  spawn-allowed : refusal (tests (setting (count old)) s.world s.ledger (Spawn p)) ≡ None
+  spawn-allowed = ap (λ b. cond b (Some Eexist) (cond (nat_le most_processes (length s.world)) (Some Eagain) None)) dead_before ∙ ap (λ b. cond b (Some Eagain) None) few_live
+
+  spawn-step : IsStep (setting (count old)) s (Spawn p) (answered Done) (state_after s p no_pages s.ledger (view old).free)
+  spawn-step = record {
+    events = [];
+    legal = record {
+      answer = subst (λ o. MatchOption o (Follows (setting (count old)) s.world s.ledger (Spawn p) [] Done []) (λ e. Refuses e [] Done [])) (sym spawn-allowed) (refl, refl, refl);
+      notes = refl;
+    };
+    world = refl;
+    ledger = refl;
+    free = keeps.stands.free;
+  }
+
+  spawn-alive : (q : ℕ) → is_some (ranges_of spaces q) ≡ lives (set_process s.world p no_pages) q
+  spawn-alive q = ap is_some (ranges_spawned old.spaces spaces p spawned q) ∙ by (q == p) refl ∙ sym (lives-set s.world p no_pages q ∙ ap (λ b. cond b true (lives s.world q)) (at_number q p))
+    where
+      by : (b : Bool) → (q == p) ≡ b → is_some (cond b (Some []) (ranges_of old.spaces q)) ≡ cond b true (lives s.world q)
+      by true e = refl
+      by false e = keeps.stands.areas.alive q
+
+  spawn-areas : AreasStand (view (moved_on old tables spaces)) (set_process s.world p no_pages)
+  spawn-areas = record {
+    alive = spawn-alive;
+    number = spawned.number ∙ ap (λ n. n + 1) keeps.stands.areas.number ∙ sym (length-set_new s.world p no_pages keeps.stands.sound.world.in_order dead_before);
+    apart = all_apart spaces spawned.rising;
+    covers = λ q page. ap (λ o. prot_of o page) (ranges_spawned old.spaces spaces p spawned q) ∙ by q page (q == p)
+        ∙ sym (ap (option_map (λ (x : Page). x.prot)) (pages-set s.world p no_pages q page ∙ ap (λ b. cond b None (pages s.world q page)) (at_number q p)));
+  }
+    where
+      by : (q page : ℕ) (b : Bool) → prot_of (cond b (Some []) (ranges_of old.spaces q)) page ≡ option_map (λ (x : Page). x.prot) (cond b None (pages s.world q page))
+      by q page true = refl
+      by q page false = keeps.stands.areas.covers q page
+
+  spawn-tables : HasTables (moved_on old tables spaces)
+  spawn-tables q = ap (λ (h : ℕ → Bool). h q) processes ∙ by (q == p) ∙ sym (ap is_some (ranges_spawned old.spaces spaces p spawned q))
+    where
+      by : (b : Bool) → cond b true (has old.tables q) ≡ is_some (cond b (Some []) (ranges_of old.spaces q))
+      by true = refl
+      by false = keeps.tables q
+
+  pub spawned-steps : MemSteps old (moved_on old tables spaces) s (Spawn p) (answered Done)
+  spawned-steps = changed old (moved_on old tables spaces) s (Spawn p) (answered Done) p no_pages s.ledger keeps refl (stays_orderly old tables spaces s.ledger entries (orderly old s keeps)) refl
+      (λ q page other. refl) (λ page. kept-nothing (view old) s.ledger (entry s.ledger (p, page))) spawn-step spawn-areas spawn-tables
+
+-- ---- exit: the memories
 
 -- a process below all others takes away nothing of them
 none_ended : (p : ℕ) (w : World) → T (below_all nat_cmp p w) → end_process w p ≡ w
@@ -77,23 +156,9 @@ lives-ended w p q = ap is_some (process-ended w p q) ∙ by (q == p)
     by true = refl
     by false = refl
 
--- ---- the end
+-- ---- exit: the end
 
--- no entry lies past the tables' four levels
-pub entries_below : (k : Mem) (l : Ledger) (p page : ℕ) → LedgerStands k l → is_some (entry l (p, page)) ≡ true → page < page_bound
-entries_below k l p page stands some = by (nat_lt page page_bound) refl
-  where
-    by : (b : Bool) → nat_lt page page_bound ≡ b → page < page_bound
-    by true e = grind (arith, nat_tests, e)
-    by false e =
-        let high : page_bound ≤ page = grind (arith, nat_tests, e) in
-        absurd (false≢true (ap (λ t. is_some (entry_of (plain t))) (sym (past_pages k.tables p page high)) ∙ ap is_some (stands.tables.entries p page) ∙ some))
-
--- the entries that the whole range has taken are all of the process
-pub all_gone : (old mid : Mem) (l : Ledger) (p : ℕ) → LedgerStands old l → HasZapped old mid l (zaps_of l (keys_in l p 0 page_bound)) → HasZapped old mid l (zaps_of l (keys_of_process l p))
-all_gone old mid l p stands = subst (λ ks. HasZapped old mid l (zaps_of l ks)) (sym (exit-is-range l p page_bound (λ page some. entries_below old l p page stands some)))
-
-module _ (old mid : Mem) (tables : ProcessTables) (spaces : List (ℕ × List Range)) (s : State) (p : ℕ) (keeps : Keeps old s) (alive : is_some (ranges_of old.spaces p) ≡ true)
+module _ (old mid : Mem) (tables : ProcessTables) (spaces : Spaces) (s : State) (p : ℕ) (keeps : Keeps old s) (alive : is_some (ranges_of old.spaces p) ≡ true)
     (taken : HasZapped old mid s.ledger (zaps_of s.ledger (keys_of_process s.ledger p))) (bytes : (view mid).bytes ≡ (view old).bytes) (same_spaces : mid.spaces ≡ old.spaces) (same_tables : has mid.tables ≡ has old.tables) (same_count : count mid ≡ count old)
     (processes : has tables ≡ with_at p false (has mid.tables)) (entries : entry_at tables ≡ with_at p (λ page. Empty) (entry_at mid.tables)) (ended : IsEnded mid.spaces spaces p) where
   alive_now : lives s.world p ≡ true
@@ -143,10 +208,10 @@ module _ (old mid : Mem) (tables : ProcessTables) (spaces : List (ℕ × List Ra
 
   areas_now : AreasStand (view (record { frames = mid.frames; tables = tables; spaces = spaces })) (end_process s.world p)
   areas_now = record {
-    alive = λ q. ap is_some (ended.areas q) ∙ lives_as q (q == p) ∙ sym (lives-ended s.world p q);
+    alive = λ q. ap is_some (ranges_ended mid.spaces spaces p ended q) ∙ lives_as q (q == p) ∙ sym (lives-ended s.world p q);
     number = number _ _ _ _ (ended.number ∙ ap length same_spaces) keeps.stands.areas.number (length_ended s.world p keeps.stands.sound.world.in_order alive_now);
-    apart = ended.apart;
-    covers = λ q page. ap (λ o. prot_of o page) (ended.areas q) ∙ covered q page (q == p) ∙ sym (ap (option_map (λ (x : Page). x.prot)) (pages-ended s.world p q page));
+    apart = all_apart spaces ended.rising;
+    covers = λ q page. ap (λ o. prot_of o page) (ranges_ended mid.spaces spaces p ended q) ∙ covered q page (q == p) ∙ sym (ap (option_map (λ (x : Page). x.prot)) (pages-ended s.world p q page));
   }
     where
       number : (n m w w' : ℕ) → n + 1 ≡ m → m ≡ w → w' + 1 ≡ w → n ≡ w'
@@ -171,7 +236,7 @@ module _ (old mid : Mem) (tables : ProcessTables) (spaces : List (ℕ × List Ra
       by false e = subst (λ x. IsKept (view old) None s.ledger x (pages s.world q page)) (sym (entry-others s.ledger p q page e)) (keeps.stands.bytes.kept q page)
 
   has_now : HasTables (record { frames = mid.frames; tables = tables; spaces = spaces })
-  has_now q = ap (λ (h : ℕ → Bool). h q) processes ∙ has_as q (q == p) ∙ sym (ap is_some (ended.areas q))
+  has_now q = ap (λ (h : ℕ → Bool). h q) processes ∙ has_as q (q == p) ∙ sym (ap is_some (ranges_ended mid.spaces spaces p ended q))
     where
       has_as : (q : ℕ) (b : Bool) → cond b false (has mid.tables q) ≡ is_some (cond b None (ranges_of mid.spaces q))
       has_as q true = refl

@@ -1,20 +1,21 @@
--- The rows of `maps` as they are found: the ranges joined so far, the run that may still grow, and the ranges to come.
-use Rattle.std.proofs.Common.{◌≡◌, ℕ, ◌*◌, ◌==◌, true, false, cond, Bool, ◌&&◌, List, [], ◌∷◌, ◌++◌, drop, Option, Some, None, refl, sym, ap, subst, ◌∙◌, arith, zero, suc}
+-- The rows of `maps` as they are found: the ranges joined so far, the run that may still grow, and the areas to come.
+use Rattle.std.proofs.Common.{◌≡◌, ℕ, ◌*◌, ◌==◌, true, false, cond, Bool, ◌&&◌, List, [], ◌∷◌, ◌++◌, drop, refl, sym, ap, subst, ◌∙◌, arith, zero, suc}
 use Rattle.std.proofs.lemmas.Bool.Decides.{nat_tests}
 use Rattle.std.proofs.lemmas.Bool.{false≢true}
 use Rattle.std.proofs.lemmas.List.{append_assoc}
-use Rattle.std.specs.Prelude.{IsSome, IsSomeAnd}
-use Rattle.av_vma.specs.declared.area.Area.{Area}
+use Rattle.std.specs.Prelude.{map}
 use Rattle.av_base.specs.declared.prot.Prot.{Prot}
-use Rattle.av_vmatree.specs.declared.span.Span.{Span}
-use Rattle.av_merge.specs.Process.{IsAreaOf}
+use Rattle.av_vma.specs.declared.area.Area.{Area}
+use Rattle.av_vma.specs.Join.{first_of, past_of}
+use Rattle.av_merge.specs.Process.{IsWhole}
+use Rattle.av_spaces.specs.Spaces.{IsOwn, AreRising}
 use Rattle.av_trace.specs.declared.reply.Row.{Row}
 use Rattle.av_trace.specs.declared.reply.Row.TheVariants.{Run}
 use Rattle.av_plain.specs.Stands.{Range, AreApart}
 use Rattle.av_plain.proofs.Report.Runs.{run_of, joined, all_joined, longest, on-pages, cover}
-use Rattle.av_kernel.specs.Spaces.{prot_by, range_by, ranges_by}
+use Rattle.av_reclaim.specs.Mem.{range_of}
+use Rattle.av_reclaim.proofs.MemLaws.{apart_of}
 use Rattle.av_kernel.specs.Report.{AreRuns}
-use Rattle.av_kernel.proofs.SpacesLaws.{AreNumbered}
 
 -- ---- whether two protections are one
 
@@ -102,54 +103,51 @@ begins rows all from to prot r ranges apart h =
 
 -- ---- the areas
 
-pub numbered_rest : (f : ℕ → Option Area) (p i : ℕ) (spans : List Span) → AreNumbered f p spans → AreNumbered f p (drop i spans)
-numbered_rest f p zero spans h = h
-numbered_rest f p (suc i) [] h = tt
-numbered_rest f p (suc i) (s ∷ spans) h = numbered_rest f p i spans h.1
+pub own_first : (p : ℕ) (a : Area) (areas : List Area) → AreRising p (a ∷ areas) → IsOwn p a
+own_first p a [] h = h
+own_first p a (b ∷ areas) h = h.0
 
-pub is_there : {X : Type 0} (o : Option X) (P : X → Type 0) → IsSomeAnd o P → IsSome o
-is_there None P h = absurd h
-is_there (Some x) P h = refl
+pub own_rest : (p : ℕ) (a : Area) (areas : List Area) → AreRising p (a ∷ areas) → AreRising p areas
+own_rest p a [] h = tt
+own_rest p a (b ∷ areas) h = h.2
 
--- an area is on the pages of its span
-pub record IsOn (s : Span) (area : Area) (o : Option Area) : Type 0 where
-  pub start : area.start ≡ 4096 * s.from
-  pub end : area.end ≡ 4096 * s.to
-  pub prot : prot_by o ≡ area.prot
-
-pub is_on : (p : ℕ) (s : Span) (o : Option Area) (area : Area) → IsSomeAnd o (IsAreaOf p s) → o ≡ Some area → IsOn s area o
-is_on p s o area h is = let a = subst (λ o. IsSomeAnd o (IsAreaOf p s)) is h in
-    record { start = a.whole.start ∙ ap (λ n. 4096 * n) (sym a.from); end = a.whole.end ∙ ap (λ n. 4096 * n) (sym a.to); prot = ap prot_by is }
+pub rising_rest : (p i : ℕ) (areas : List Area) → AreRising p areas → AreRising p (drop i areas)
+rising_rest p zero areas h = h
+rising_rest p (suc i) [] h = tt
+rising_rest p (suc i) (a ∷ areas) h = rising_rest p i areas (own_rest p a areas h)
 
 -- ---- the loop
 
--- with the ranges to come, these rows and this run make all the rows
-abbrev pub IsLeft : List Row → Area → List Range → List Row → Type 0
-IsLeft rows run ranges all = (from : ℕ) × (to : ℕ) × (run.start ≡ 4096 * from) × (run.end ≡ 4096 * to) × (rows ++ joined same_prot (range from to run.prot) ranges ≡ all)
+-- with the areas to come, these rows and this run make all the rows
+abbrev pub IsLeft : List Row → Area → List Area → List Row → Type 0
+IsLeft rows run areas all =
+    (from : ℕ) × (to : ℕ) × (run.start ≡ 4096 * from) × (run.end ≡ 4096 * to) × (rows ++ joined same_prot (range from to run.prot) (map range_of areas) ≡ all)
 
-pub left-first : (f : ℕ → Option Area) (s : Span) (run : Area) (spans : List Span) → IsOn s run (f s.area) → IsLeft [] run (ranges_by f spans) (all_joined same_prot (ranges_by f (s ∷ spans)))
-left-first f s run spans on = (s.from, s.to, on.start, on.end, ap (λ prot. joined same_prot (range s.from s.to prot) (ranges_by f spans)) (sym on.prot))
+pub left-first : (p : ℕ) (a : Area) (areas : List Area) → AreRising p (a ∷ areas) → IsLeft [] a areas (all_joined same_prot (map range_of (a ∷ areas)))
+left-first p a areas h = let whole = (own_first p a areas h).whole in (first_of a, past_of a, whole.start, whole.end, refl)
 
-pub left-grown : (f : ℕ → Option Area) (s : Span) (next run now : Area) (rows all : List Row) (spans : List Span) → IsOn s next (f s.area)
-    → run.end ≡ next.start → run.prot ≡ next.prot → now ≡ record run { end = next.end } → IsLeft rows run (ranges_by f (s ∷ spans)) all → IsLeft rows now (ranges_by f spans) all
-left-grown f s next run now rows all spans on here same is h =
-    let old_end = h.3 in let next_start = on.start in
-    subst (λ run. IsLeft rows run (ranges_by f spans) all) (sym is)
-    (h.0, s.to, h.2, on.end, grows rows all h.0 h.1 run.prot (range_by f s) (ranges_by f spans) (let at : h.1 ≡ s.from = omega (arith, old_end, next_start, here) in at) (same ∙ sym on.prot) h.4)
+pub left-grown : (a run now : Area) (rows all : List Row) (areas : List Area) → IsWhole a
+    → run.end ≡ a.start → run.prot ≡ a.prot → now ≡ record run { end = a.end } → IsLeft rows run (a ∷ areas) all → IsLeft rows now areas all
+left-grown a run now rows all areas whole here same is h =
+    let old_end = h.3 in let next_start = whole.start in
+    subst (λ run. IsLeft rows run areas all) (sym is)
+    (h.0, past_of a, h.2, whole.end, grows rows all h.0 h.1 run.prot (range_of a) (map range_of areas) (let at : h.1 ≡ first_of a = omega (arith, old_end, next_start, here) in at) same h.4)
 
-pub left-begun : (f : ℕ → Option Area) (s : Span) (next run now : Area) (rows rows' all : List Row) (spans : List Span) → IsOn s next (f s.area)
-    → (run.end ≡ next.start → run.prot ≡ next.prot → ⊥) → rows' ≡ rows ++ Run run.start run.end run.prot ∷ [] → now ≡ next → IsLeft rows run (ranges_by f (s ∷ spans)) all → IsLeft rows' now (ranges_by f spans) all
-left-begun f s next run now rows rows' all spans on apart added is h =
-    let old_end = h.3 in let next_start = on.start in
-    subst (λ run. IsLeft rows' run (ranges_by f spans) all) (sym is) (
-      s.from,
-      s.to,
-      on.start,
-      on.end,
-      ap (λ rows. rows ++ joined same_prot (range s.from s.to next.prot) (ranges_by f spans)) (added ∙ (λ i. rows ++ Run (h.2 i) (h.3 i) run.prot ∷ []))
-          ∙ ap (λ prot. (rows ++ Run (4096 * h.0) (4096 * h.1) run.prot ∷ []) ++ joined same_prot (range s.from s.to prot) (ranges_by f spans)) (sym on.prot)
-          ∙ begins rows all h.0 h.1 run.prot (range_by f s) (ranges_by f spans) (λ at same. apart (let is : run.end ≡ next.start = omega (arith, old_end, next_start, at) in is) (same ∙ on.prot)) h.4,
+pub left-begun : (a run now : Area) (rows rows' all : List Row) (areas : List Area) → IsWhole a
+    → (run.end ≡ a.start → run.prot ≡ a.prot → ⊥) → rows' ≡ rows ++ Run run.start run.end run.prot ∷ [] → now ≡ a → IsLeft rows run (a ∷ areas) all → IsLeft rows' now areas all
+left-begun a run now rows rows' all areas whole apart added is h =
+    let old_end = h.3 in let next_start = whole.start in
+    subst (λ run. IsLeft rows' run areas all) (sym is) (
+      first_of a,
+      past_of a,
+      whole.start,
+      whole.end,
+      ap (λ rows. rows ++ joined same_prot (range_of a) (map range_of areas)) (added ∙ (λ i. rows ++ Run (h.2 i) (h.3 i) run.prot ∷ []))
+          ∙ begins rows all h.0 h.1 run.prot (range_of a) (map range_of areas) (λ at same. apart (let is : run.end ≡ a.start = omega (arith, old_end, next_start, at) in is) same) h.4,
     )
 
 pub left-last : (run : Area) (rows rows' all : List Row) → rows' ≡ rows ++ Run run.start run.end run.prot ∷ [] → IsLeft rows run [] all → rows' ≡ all
 left-last run rows rows' all added h = added ∙ (λ i. rows ++ Run (h.2 i) (h.3 i) run.prot ∷ []) ∙ h.4
+
+pub rising-runs : (p : ℕ) (areas : List Area) → AreRising p areas → AreRuns (map range_of areas) (all_joined same_prot (map range_of areas))
+rising-runs p areas h = runs-are (map range_of areas) (apart_of p areas h)

@@ -1,17 +1,15 @@
 -- One command's step: the ledger's parts stand after its events, and so do the areas and the bytes of the pages that it changed.
-use Rattle.std.proofs.Common.{◌≡◌, ◌≢◌, ℕ, ◌+◌, ◌<◌, Bool, true, false, cond, List, [], length, Option, Some, None, is_some, option_map, refl, sym, ap, subst, ◌∙◌, arith, ◌==◌, nat_le}
+use Rattle.std.proofs.Common.{◌≡◌, ◌≢◌, ℕ, ◌+◌, ◌<◌, Bool, true, false, cond, not, List, [], length, Option, Some, None, is_some, option_map, Result, Ok, Err, refl, sym, ap, subst, ◌∙◌, arith, ◌==◌}
 use Rattle.std.proofs.lemmas.Bool.Decides.{nat_tests}
 use Rattle.std.specs.Ordering.{nat_cmp, eq_by_cmp}
 use Rattle.std.specs.Prelude.{MatchOption}
 use Rattle.av_base.specs.declared.prot.Prot.{Prot}
 use Rattle.av_base.specs.Words.{with_at}
 use Rattle.av_trace.specs.declared.command.Command.{Command}
-use Rattle.av_trace.specs.declared.command.Command.TheVariants.{Spawn}
 use Rattle.av_trace.specs.declared.reply.Errno.{Errno}
-use Rattle.av_trace.specs.declared.reply.Errno.TheVariants.{Eagain, Eexist}
+use Rattle.av_trace.specs.declared.reply.Errno.TheVariants.{Esrch}
 use Rattle.av_trace.specs.declared.reply.Reply.{Reply}
-use Rattle.av_trace.specs.declared.reply.Answer.{Answer}
-use Rattle.av_trace.specs.declared.reply.Answer.TheVariants.{Done, Refused}
+use Rattle.av_trace.specs.declared.reply.Answer.TheVariants.{Refused}
 use Rattle.av_plain.specs.World.{Process, Page, no_pages, lives, pages, set_process}
 use Rattle.av_plain.specs.Ledger.{Ledger, Entry, Zero, InFrame, InSlot, entry, frame_at}
 use Rattle.av_plain.specs.Refusal.{tests, refusal, Refuses}
@@ -23,16 +21,15 @@ use Rattle.av_plain.specs.Stands.{View, Holds, IsKept, IsKeptAt, AreasStand, ent
 use Rattle.av_plain.proofs.Refusal.{refused-next}
 use Rattle.av_plain.proofs.Sound.{step-sound}
 use Rattle.av_plain.proofs.World.{pages-set, lives-set, length-set_new, length-set_old}
-use Rattle.av_pagetable.specs.Entries.{entry_at, has}
-use Rattle.av_pagetable.specs.declared.tables.Tables.{Tables}
-use Rattle.av_pagetable.specs.declared.table.MapTable.{MapTable}
+use Rattle.av_pagetable.specs.Entries.{ProcessTables, entry_at, has}
 use Rattle.av_pagetable.specs.declared.pte.Pte.{Pte}
 use Rattle.av_reclaim.specs.declared.mem.Mem.{Mem}
-use Rattle.av_spaces.specs.Spaces.{IsSpawned}
+use Rattle.av_spaces.specs.Spaces.{Spaces, areas_of}
 use Rattle.av_kernel.specs.Map.{HasProts}
 use Rattle.av_reclaim.specs.Mem.{ranges_of, setting, plain, view, count, HasTables, Keeps, LedgerStands}
-use Rattle.av_kernel.specs.Step.{MemSteps}
-use Rattle.av_reclaim.proofs.MemLaws.{kept-nothing, no_cache, no_frame_at, no_device}
+use Rattle.av_kernel.specs.declared.refusal.Refusal.TheVariants as Refusal
+use Rattle.av_kernel.specs.Step.{MemSteps, Does, answered}
+use Rattle.av_reclaim.proofs.MemLaws.{alive_is, lives_is, no_cache, no_frame_at, no_device}
 use Rattle.av_kernel.proofs.PageStep.{no_headers}
 
 at_number : (q p : ℕ) → eq_by_cmp nat_cmp q p ≡ (q == p)
@@ -44,13 +41,10 @@ is_number q p e = grind (arith, nat_tests)
 pub other_number : (q p : ℕ) → (q == p) ≡ false → q ≢ p
 other_number q p e = grind (arith, nat_tests)
 
-abbrev pub bare : Answer → Reply
-bare answer = record { answer = answer; notes = []; rows = [] }
-
 -- ---- a refusal
 
 -- the first test that holds refuses the command, and nothing changes
-pub refused : (k : Mem) (s : State) (command : Command) (error : Errno) → Keeps k s → refusal (tests (setting (count k)) s.world s.ledger command) ≡ Some error → MemSteps k k s command (bare (Refused error))
+pub refused : (k : Mem) (s : State) (command : Command) (error : Errno) → Keeps k s → refusal (tests (setting (count k)) s.world s.ledger command) ≡ Some error → MemSteps k k s command (answered (Refused error))
 refused k s command error keeps is = record {
   next = s;
   step = record {
@@ -65,6 +59,22 @@ refused k s command error keeps is = record {
   };
   keeps = keeps;
 }
+
+-- so a command is done where it is refused
+pub refuses : (k : Mem) (command : Command) (error : Errno) → ((s : State) → Keeps k s → refusal (tests (setting (count k)) s.world s.ledger command) ≡ Some error) → Does k k command (Err (Refusal.Refused error))
+refuses k command error is = record { step = λ s keeps. refused k s command error keeps (is s keeps); count = refl }
+
+-- and where memory is wanting nothing is promised but the number of frames
+pub wants : (old new : Mem) (command : Command) → count new ≡ count old → Does old new command (Err Refusal.Memory)
+wants old new command same = record { step = λ s keeps. tt; count = same }
+
+-- a process that has no areas is refused first
+pub dead_first : (k : Mem) (s : State) (p : ℕ) (rest : Option Errno) → Keeps k s → is_some (areas_of k.spaces p) ≡ false → cond (not (lives s.world p)) (Some Esrch) rest ≡ Some Esrch
+dead_first k s p rest keeps dead = ap (λ b. cond (not b) (Some Esrch) rest) (sym (lives_is k s keeps p) ∙ dead)
+
+-- a process that has areas has ranges
+pub ranges_there : (k : Mem) (p : ℕ) → is_some (areas_of k.spaces p) ≡ true → is_some (ranges_of k.spaces p) ≡ true
+ranges_there k p alive = alive_is k.spaces p ∙ alive
 
 -- ---- what pages keep
 
@@ -159,10 +169,10 @@ module _ (old new : Mem) (s : State) (p : ℕ) (now : Process) (prots : ℕ → 
 -- ---- the frames and the entries stay
 
 -- the tables and the areas change, the frames and the entries don't
-abbrev pub moved_on : Mem → ProcessTables → List (ℕ × List Range) → Mem
+abbrev pub moved_on : Mem → ProcessTables → Spaces → Mem
 moved_on old tables spaces = record { frames = old.frames; tables = tables; spaces = spaces }
 
-pub stays_orderly : (old : Mem) (tables : ProcessTables) (spaces : List (ℕ × List Range)) (l : Ledger) → entry_at tables ≡ entry_at old.tables → LedgerStands old l → LedgerStands (moved_on old tables spaces) l
+pub stays_orderly : (old : Mem) (tables : ProcessTables) (spaces : Spaces) (l : Ledger) → entry_at tables ≡ entry_at old.tables → LedgerStands old l → LedgerStands (moved_on old tables spaces) l
 stays_orderly old tables spaces l entries h = record {
   sound = h.sound;
   frames = record { frames = h.frames.frames; maps = h.frames.maps; slots = h.frames.slots; dirty = h.frames.dirty; free = h.frames.free };
@@ -173,64 +183,3 @@ stays_orderly old tables spaces l entries h = record {
   };
   swap = record { finds = h.swap.finds; counts = h.swap.counts; flight = h.swap.flight; on = h.swap.on };
 }
-
--- ---- spawn
-
--- a process that didn't live does now
-module _ (old : Mem) (tables : ProcessTables) (spaces : List (ℕ × List Range)) (s : State) (p : ℕ) (keeps : Keeps old s)
-    (absent : is_some (ranges_of old.spaces p) ≡ false) (few : length old.spaces < 4096)
-    (entries : entry_at tables ≡ entry_at old.tables) (processes : has tables ≡ with_at p true (has old.tables)) (spawned : IsSpawned old.spaces spaces p) where
-  dead : lives s.world p ≡ false
-  dead = sym (keeps.stands.areas.alive p) ∙ absent
-
-  few_live : nat_le most_processes (length s.world) ≡ false
-  few_live = let number = keeps.stands.areas.number in let less : length s.world < 4096 = omega (arith, few, number) in not_le (length s.world) less
-    where
-      not_le : (n : ℕ) → n < 4096 → nat_le most_processes n ≡ false
-      not_le n h = grind (arith, nat_tests)
-
-  allowed : refusal (tests (setting (count old)) s.world s.ledger (Spawn p)) ≡ None
-  allowed = ap (λ b. cond b (Some Eexist) (cond (nat_le most_processes (length s.world)) (Some Eagain) None)) dead ∙ ap (λ b. cond b (Some Eagain) None) few_live
-
-  spawn-step : IsStep (setting (count old)) s (Spawn p) (bare Done) (state_after s p no_pages s.ledger (view old).free)
-  spawn-step = record {
-    events = [];
-    legal = record {
-      answer = subst (λ o. MatchOption o (Follows (setting (count old)) s.world s.ledger (Spawn p) [] Done []) (λ e. Refuses e [] Done [])) (sym allowed) (refl, refl, refl);
-      notes = refl;
-    };
-    world = refl;
-    ledger = refl;
-    free = keeps.stands.free;
-  }
-
-  alive_now : (q : ℕ) → is_some (ranges_of spaces q) ≡ lives (set_process s.world p no_pages) q
-  alive_now q = ap is_some (spawned.areas q) ∙ by (q == p) refl ∙ sym (lives-set s.world p no_pages q ∙ ap (λ b. cond b true (lives s.world q)) (at_number q p))
-    where
-      by : (b : Bool) → (q == p) ≡ b → is_some (cond b (Some []) (ranges_of old.spaces q)) ≡ cond b true (lives s.world q)
-      by true e = refl
-      by false e = keeps.stands.areas.alive q
-
-  areas_now : AreasStand (view (moved_on old tables spaces)) (set_process s.world p no_pages)
-  areas_now = record {
-    alive = alive_now;
-    number = spawned.number ∙ ap (λ n. n + 1) keeps.stands.areas.number ∙ sym (length-set_new s.world p no_pages keeps.stands.sound.world.in_order dead);
-    apart = spawned.apart;
-    covers = λ q page. ap (λ o. prot_of o page) (spawned.areas q) ∙ by q page (q == p)
-        ∙ sym (ap (option_map (λ (x : Page). x.prot)) (pages-set s.world p no_pages q page ∙ ap (λ b. cond b None (pages s.world q page)) (at_number q p)));
-  }
-    where
-      by : (q page : ℕ) (b : Bool) → prot_of (cond b (Some []) (ranges_of old.spaces q)) page ≡ option_map (λ (x : Page). x.prot) (cond b None (pages s.world q page))
-      by q page true = refl
-      by q page false = keeps.stands.areas.covers q page
-
-  tables_now : HasTables (moved_on old tables spaces)
-  tables_now q = ap (λ (h : ℕ → Bool). h q) processes ∙ by (q == p) ∙ sym (ap is_some (spawned.areas q))
-    where
-      by : (b : Bool) → cond b true (has old.tables q) ≡ is_some (cond b (Some []) (ranges_of old.spaces q))
-      by true = refl
-      by false = keeps.tables q
-
-  pub spawned-steps : MemSteps old (moved_on old tables spaces) s (Spawn p) (bare Done)
-  spawned-steps = changed old (moved_on old tables spaces) s (Spawn p) (bare Done) p no_pages s.ledger keeps refl (stays_orderly old tables spaces s.ledger entries (orderly old s keeps)) refl
-      (λ q page other. refl) (λ page. kept-nothing (view old) s.ledger (entry s.ledger (p, page))) spawn-step areas_now tables_now

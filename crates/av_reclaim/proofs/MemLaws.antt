@@ -73,7 +73,7 @@ taken_has s p page = sym (ap is_some (prots_are s p page) ∙ some_mapped prot_o
 pub mapped_is : (o : Option Page) → is_some (option_map (λ (p : Page). p.prot) o) ≡ is_some o
 mapped_is o = some_mapped (λ (p : Page). p.prot) o
 
-apart_of : (p : ℕ) (areas : List Area) → AreRising p areas → AreApart (map range_of areas)
+pub apart_of : (p : ℕ) (areas : List Area) → AreRising p areas → AreApart (map range_of areas)
 apart_of p [] h = tt
 apart_of p (a ∷ []) h = h.whole.some
 apart_of p (a ∷ b ∷ areas) h = (h.0.whole.some, h.1, apart_of p (b ∷ areas) h.2)

@@ -14,7 +14,7 @@ abbrev pub invariant-loop-done : goal.invariant-loop-done
 invariant-loop-done l = record {
   within : l.done ≤ l.len;
   begins : 1 ≤ l.done → l.done < l.len → (l.address + l.done) % 4096 ≡ 0;
-  access : (s : State) → Keeps l.initial.self s → IsAccess s l.self false l.process l.address l.done [] l.initial.notes l.notes None l.done;
-  reads : (s : State) → Keeps l.initial.self s → Reads (pages s.world l.process) l.address l.done l.shown;
-  count : count l.self ≡ count l.initial.self;
+  access : (s : State) → Keeps l.initial.mem s → IsAccess s l.mem false l.process l.address l.done [] l.initial.notes l.notes None l.done;
+  reads : (s : State) → Keeps l.initial.mem s → Reads (pages s.world l.process) l.address l.done l.shown;
+  count : count l.mem ≡ count l.initial.mem;
 }

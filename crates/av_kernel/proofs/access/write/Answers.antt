@@ -1,23 +1,33 @@
 -- The reply by how the access ended.
 use Rattle.std.proofs.Common.{length, take, true, sym, ap, subst, ◌∙◌}
 use Rattle.av_kernel.specs.Access.{IsAccess, answer_of}
+use Rattle.av_reclaim.proofs.MemLaws.{lives_is}
 use Rattle.av_kernel.proofs.AccessSteps.{write-done, write-stopped}
 use Rattle.av_kernel.proofs.access.write.Goals.{in-None, in-Some}
 use Rattle.av_kernel.proofs.access.write.Goals as goal
 
-pub returns-clause-step : goal.returns-clause-step
-returns-clause-step c = λ s keeps.
+pub returns : goal.returns
+returns c = record {
+  count = c.in_ok-ended.ensures.count;
+  step = λ s keeps.
     let bytes = c.args.bytes.now in
     let k = c.in_ok-ended.ended.served in
     let access = c.in_ok-ended.ensures.access s keeps in
-    let lived = sym (keeps.stands.areas.alive c.args.process) ∙ sym c.lives.ensures ∙ c.if-not-lives.false in
+    let lived = sym (lives_is c.args.mem.now s keeps c.args.process) ∙ c.in_ok-check_lives.ensures in
     elim c.match-ended.branch [
-      | in-None w ↦ write-done s c.args.self.now c.write_pieces.new.self c.args.process c.args.address c.new-notes.result c.write_pieces.new.notes c.new-2.result k c.new-notes.ensures c.new-2.ensures c.in_ok-ended.ensures.count lived
+      | in-None w ↦ write-done s c.args.mem.now c.write_pieces.new.mem c.args.process c.args.address c.new-notes.result c.write_pieces.new.notes c.new-2.result k c.new-notes.ensures c.new-2.ensures c.in_ok-ended.ensures.count lived
           bytes c.match-ended.answer
-          (subst (λ end. IsAccess s c.write_pieces.new.self true c.args.process c.args.address (length bytes) (take k bytes) c.new-notes.result c.write_pieces.new.notes end k) w.in-None.is access)
+          (subst (λ end. IsAccess s c.write_pieces.new.mem true c.args.process c.args.address (length bytes) (take k bytes) c.new-notes.result c.write_pieces.new.notes end k) w.in-None.is access)
           w.answer-is
-      | in-Some w ↦ write-stopped s c.args.self.now c.write_pieces.new.self c.args.process c.args.address c.new-notes.result c.write_pieces.new.notes c.new-2.result k c.new-notes.ensures c.new-2.ensures c.in_ok-ended.ensures.count lived
+      | in-Some w ↦ write-stopped s c.args.mem.now c.write_pieces.new.mem c.args.process c.args.address c.new-notes.result c.write_pieces.new.notes c.new-2.result k c.new-notes.ensures c.new-2.ensures c.in_ok-ended.ensures.count lived
           bytes c.match-ended.answer w.in-Some.stop
-          (subst (λ end. IsAccess s c.write_pieces.new.self true c.args.process c.args.address (length bytes) (take k bytes) c.new-notes.result c.write_pieces.new.notes end k) w.in-Some.is access)
+          (subst (λ end. IsAccess s c.write_pieces.new.mem true c.args.process c.args.address (length bytes) (take k bytes) c.new-notes.result c.write_pieces.new.notes end k) w.in-Some.is access)
           (w.answer-is ∙ w.stopped-answer.ensures ∙ ap (answer_of w.in-Some.stop k) w.new.ensures)
-    ]
+    ];
+}
+
+pub returns-in_err-check_lives : goal.returns-in_err-check_lives
+returns-in_err-check_lives c = ?
+
+pub returns-in_err-ended : goal.returns-in_err-ended
+returns-in_err-ended c = ?

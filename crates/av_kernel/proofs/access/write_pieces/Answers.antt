@@ -2,6 +2,7 @@
 use Rattle.std.proofs.Common.{◌≡◌, ℕ, ◌+◌, ◌-◌, List, ◌++◌, length, take, drop, true, sym, ap, ◌∙◌, arith}
 use Rattle.std.proofs.lemmas.List.{length-take-le}
 use Rattle.std.proofs.Math.Seq.{take-add}
+use Rattle.av_reclaim.proofs.MemLaws.{lives_is}
 use Rattle.av_kernel.proofs.AccessParts.{still_lives, piece-served, piece-stopped, piece-within, piece-ends}
 use Rattle.av_kernel.proofs.access.write_pieces.Goals as goal
 
@@ -18,9 +19,9 @@ returns-in-Some-clause-access c = λ s keeps.
     let k = c.loop-done.done in
     let piece = c.next_piece-piece.result in
     let h = c.loop-done.invariant.access s keeps in
-    let lived = sym (keeps.stands.areas.alive c.args.process) ∙ c.requires.lives in
+    let lived = sym (lives_is c.args.mem.now s keeps c.args.process) ∙ c.requires.lives in
     let alive = still_lives lived h in
-    piece-stopped s c.loop-done.self c.write_page.new.self true c.args.process c.args.address (length bytes) k piece (take k bytes) (part k piece.len bytes) c.args.notes.now c.loop-done.notes _ c.in_ok-stop.field-0
+    piece-stopped s c.loop-done.mem c.write_page.new.mem true c.args.process c.args.address (length bytes) k piece (take k bytes) (part k piece.len bytes) c.args.notes.now c.loop-done.notes _ c.in_ok-stop.field-0
     c.write_page.ensures.count c.next_piece-piece.ensures c.loop-done-test.true c.loop-done.invariant.begins h (c.in_ok-stop.ensures.step h.next h.keeps alive) c.in-Some.stop c.in-Some.is
 
 pub loop-done-preserved : goal.loop-done-preserved
@@ -33,9 +34,9 @@ loop-done-preserved c =
       begins = piece-ends c.args.address (length bytes) k piece c.next_piece-piece.ensures;
       access = λ s keeps.
           let h = c.loop-done.invariant.access s keeps in
-          let lived = sym (keeps.stands.areas.alive c.args.process) ∙ c.requires.lives in
+          let lived = sym (lives_is c.args.mem.now s keeps c.args.process) ∙ c.requires.lives in
           let alive = still_lives lived h in
-          piece-served s c.loop-done.self c.write_page.new.self true c.args.process c.args.address (length bytes) k piece (take k bytes) (part k piece.len bytes) c.args.notes.now c.loop-done.notes _ c.in_ok-stop.field-0
+          piece-served s c.loop-done.mem c.write_page.new.mem true c.args.process c.args.address (length bytes) k piece (take k bytes) (part k piece.len bytes) c.args.notes.now c.loop-done.notes _ c.in_ok-stop.field-0
           c.write_page.ensures.count c.next_piece-piece.ensures c.loop-done-test.true c.loop-done.invariant.begins h (c.in_ok-stop.ensures.step h.next h.keeps alive) c.in_default.not-Some
           (λ _. length-take-le k bytes c.loop-done.invariant.within) (take (k + piece.len) bytes) (parts k piece.len bytes);
       count = c.write_page.ensures.count ∙ c.loop-done.invariant.count;

@@ -12,6 +12,6 @@ abbrev pub invariant-loop-done : goal.invariant-loop-done
 invariant-loop-done l = record {
   within : l.done ≤ length l.bytes;
   begins : 1 ≤ l.done → l.done < length l.bytes → (l.address + l.done) % 4096 ≡ 0;
-  access : (s : State) → Keeps l.initial.self s → IsAccess s l.self true l.process l.address l.done (take l.done l.bytes) l.initial.notes l.notes None l.done;
-  count : count l.self ≡ count l.initial.self;
+  access : (s : State) → Keeps l.initial.mem s → IsAccess s l.mem true l.process l.address l.done (take l.done l.bytes) l.initial.notes l.notes None l.done;
+  count : count l.mem ≡ count l.initial.mem;
 }

@@ -1,17 +1,25 @@
 use Rattle.std.proofs.Common.{◌∙◌, subst, sym, ap}
 use Rattle.av_trace.specs.declared.command.Command.TheVariants.{Exit}
+use Rattle.av_reclaim.proofs.MemLaws.{alive_is}
 use Rattle.av_kernel.specs.Step.{MemSteps}
-use Rattle.av_kernel.proofs.Step.{orderly}
-use Rattle.av_kernel.proofs.Process.{all_gone, exit-steps}
+use Rattle.av_kernel.proofs.Step.{orderly, ranges_there}
+use Rattle.av_kernel.proofs.Process.{exit-steps}
 use Rattle.av_kernel.proofs.process.exit.Goals as goal
 
-pub end-requires : goal.end-requires
-end-requires c = ap (λ h. h c.args.process) c.take_entries.ensures.processes ∙ c.requires.steady.1.tables c.args.process ∙ sym c.lives.ensures ∙ c.if-not-lives.false
+pub returns-in_err-check_lives : goal.returns-in_err-check_lives
+returns-in_err-check_lives c = ?
 
-pub returns-clause-step : goal.returns-clause-step
-returns-clause-step c = λ s keeps.
-    let old = c.args.self.now in
-    let mid = c.take_entries.new.self in
-    subst (MemSteps old (record { frames = mid.frames; tables = c.end.new.self; spaces = c.end-2.new.self }) s (Exit c.args.process)) (sym c.answered-2.ensures)
-    (exit-steps old mid c.end.new.self c.end-2.new.self s c.args.process keeps (sym c.lives.ensures ∙ c.if-not-lives.false) (all_gone old mid s.ledger c.args.process (orderly old s keeps) (c.take_entries.ensures.taken s.ledger (orderly old s keeps)))
-    c.take_entries.ensures.bytes c.take_entries.ensures.spaces c.take_entries.ensures.processes c.take_entries.ensures.count c.end.ensures.processes c.end.ensures.entries c.end-2.ensures)
+pub end-requires : goal.end-requires
+end-requires c = ap (λ h. h c.args.process) c.zap_all.ensures.rest.processes ∙ c.requires.1.tables c.args.process ∙ ranges_there c.args.mem.now c.args.process c.in_ok-check_lives.ensures
+
+pub returns : goal.returns
+returns c = record {
+  count = c.zap_all.ensures.rest.count;
+  step = λ s keeps.
+      let old = c.args.mem.now in
+      let mid = c.zap_all.new.mem in
+      let rest = c.zap_all.ensures.rest in
+      subst (MemSteps old (record { frames = mid.frames; tables = c.end.new.self; spaces = c.end-2.new.self }) s (Exit c.args.process)) (sym c.answered.ensures)
+      (exit-steps old mid c.end.new.self c.end-2.new.self s c.args.process keeps (ranges_there old c.args.process c.in_ok-check_lives.ensures) (c.zap_all.ensures.zapped s.ledger (orderly old s keeps))
+      rest.bytes rest.spaces rest.processes rest.count c.end.ensures.processes c.end.ensures.entries c.end-2.ensures);
+}

@@ -9,8 +9,9 @@ overflow_sub-frames c = let within = c.free-free.ensures.within in omega (arith,
 
 pub returns : goal.returns
 returns c = record {
+  count = refl;
   step = λ s keeps.
-      let k = c.args.self.now in
+      let k = c.args.mem.now in
       let frames = c.count-frames.ensures in
       let free = c.free-free.ensures.count in
       subst (MemSteps k k s Stat)
