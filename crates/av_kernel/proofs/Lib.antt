@@ -1,7 +1,7 @@
-pub mod Step
-pub mod Process
-pub mod Place
-pub mod Map
+pub mod StepLaws
+pub mod ProcessLaws
+pub mod PlaceLaws
+pub mod MapLaws
 pub mod MapProts
 pub mod PageWritten
 pub mod PageStep

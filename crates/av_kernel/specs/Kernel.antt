@@ -18,8 +18,8 @@ pub record Steps (old new : Machine) (s : State) (command : Command) (reply : Re
   pub stands : Stands new next
 
 -- so many frames, and no command yet
-pub record IsNew (frames : ℕ) (k : Machine) : Type 0 where
-  pub frames : k.frames ≡ frames
+pub record IsNew (n : ℕ) (k : Machine) : Type 0 where
+  pub frames : k.frames ≡ n
   pub steps : k.steps ≡ 0
   pub tally : k.tally ≡ none_counted
   pub spent : k.spent ≡ false

@@ -10,8 +10,8 @@ returns-in-Some-clause-permitted c =
 
 pub returns-in-Some-2-clause-permitted : goal.returns-in-Some-2-clause-permitted
 returns-in-Some-2-clause-permitted c =
-    c.readable.ensures ∙ ap (λ b. allows b c.in-Some-2.area.prot) (sym c.if-write.false)
-    ∙ may_be c.args.mem.now.spaces c.args.process c.args.page c.args.write (Some c.in-Some-2.area) c.in-Some-2.ensures.area
+    c.readable.ensures ∙ ap (λ b. allows b c.in-Some.area.prot) (sym c.if-write.false)
+    ∙ may_be c.args.mem.now.spaces c.args.process c.args.page c.args.write (Some c.in-Some.area) c.in-Some.ensures.area
 
 pub returns-in-None-clause-permitted : goal.returns-in-None-clause-permitted
 returns-in-None-clause-permitted c = may_be c.args.mem.now.spaces c.args.process c.args.page c.args.write None c.in-None.ensures.area

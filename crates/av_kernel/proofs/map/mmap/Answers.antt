@@ -9,9 +9,9 @@ use Rattle.av_reclaim.specs.Mem.{ranges_of}
 use Rattle.av_kernel.specs.Map.{set_on, HasProts, AreCleared}
 use Rattle.av_kernel.specs.Place.{IsPlaced}
 use Rattle.av_kernel.specs.Step.{MemSteps}
-use Rattle.av_kernel.proofs.Step.{moved_on, orderly, ranges_there}
-use Rattle.av_kernel.proofs.Place.{rounded_up, suited}
-use Rattle.av_kernel.proofs.Map.{taken_is, suits, cleared_lives, cleared_free, mmap-refused, mmap-steps}
+use Rattle.av_kernel.proofs.StepLaws.{moved_on, orderly, ranges_there}
+use Rattle.av_kernel.proofs.PlaceLaws.{rounded_up, suited}
+use Rattle.av_kernel.proofs.MapLaws.{taken_is, suits, cleared_lives, cleared_free, mmap-refused, mmap-steps}
 use Rattle.av_kernel.proofs.MapProts.{mapped-prots}
 use Rattle.av_kernel.proofs.map.mmap.Goals as goal
 

@@ -3,9 +3,9 @@ use Rattle.av_merge.specs.Pages.{IsReached}
 use Rattle.av_trace.specs.declared.command.Command.TheVariants.{Mprotect}
 use Rattle.av_spaces.specs.Spaces.{is_taken}
 use Rattle.av_kernel.specs.Step.{MemSteps}
-use Rattle.av_kernel.proofs.Step.{moved_on, ranges_there}
-use Rattle.av_kernel.proofs.Place.{rounded_up}
-use Rattle.av_kernel.proofs.Map.{mprotect-steps, mprotect-stops}
+use Rattle.av_kernel.proofs.StepLaws.{moved_on, ranges_there}
+use Rattle.av_kernel.proofs.PlaceLaws.{rounded_up}
+use Rattle.av_kernel.proofs.MapLaws.{mprotect-steps, mprotect-stops}
 use Rattle.av_kernel.proofs.MapProts.{protected-prots}
 use Rattle.av_kernel.proofs.map.mprotect.Goals as goal
 

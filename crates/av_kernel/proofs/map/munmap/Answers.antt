@@ -3,9 +3,9 @@ use Rattle.av_plain.specs.Zap.{keys_in, zaps_of}
 use Rattle.av_trace.specs.declared.command.Command.TheVariants.{Munmap}
 use Rattle.av_kernel.specs.Map.{AreCleared}
 use Rattle.av_kernel.specs.Step.{MemSteps}
-use Rattle.av_kernel.proofs.Step.{orderly, ranges_there}
-use Rattle.av_kernel.proofs.Place.{rounded_up}
-use Rattle.av_kernel.proofs.Map.{munmap-steps}
+use Rattle.av_kernel.proofs.StepLaws.{orderly, ranges_there}
+use Rattle.av_kernel.proofs.PlaceLaws.{rounded_up}
+use Rattle.av_kernel.proofs.MapLaws.{munmap-steps}
 use Rattle.av_kernel.proofs.map.munmap.Goals as goal
 
 pub returns-in_err-check_lives : goal.returns-in_err-check_lives

@@ -1,5 +1,5 @@
 use Rattle.std.proofs.Common.{sym, ◌∙◌}
-use Rattle.av_kernel.proofs.Place.{room_by}
+use Rattle.av_kernel.proofs.PlaceLaws.{room_by}
 use Rattle.av_kernel.proofs.place.has_room.Goals as goal
 
 pub returns-then-may_have : goal.returns-then-may_have

@@ -2,8 +2,8 @@ use Rattle.std.proofs.Common.{◌∙◌, subst, sym, ap}
 use Rattle.av_trace.specs.declared.command.Command.TheVariants.{Exit}
 use Rattle.av_reclaim.proofs.MemLaws.{alive_is}
 use Rattle.av_kernel.specs.Step.{MemSteps}
-use Rattle.av_kernel.proofs.Step.{orderly, ranges_there}
-use Rattle.av_kernel.proofs.Process.{exit-steps}
+use Rattle.av_kernel.proofs.StepLaws.{orderly, ranges_there}
+use Rattle.av_kernel.proofs.ProcessLaws.{exit-steps}
 use Rattle.av_kernel.proofs.process.exit.Goals as goal
 
 pub returns-in_err-check_lives : goal.returns-in_err-check_lives

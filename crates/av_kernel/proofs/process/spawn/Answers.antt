@@ -2,8 +2,8 @@ use Rattle.std.proofs.Common.{refl, subst, sym, ◌∙◌, arith}
 use Rattle.av_trace.specs.declared.command.Command.TheVariants.{Spawn}
 use Rattle.av_reclaim.proofs.MemLaws.{alive_is}
 use Rattle.av_kernel.specs.Step.{MemSteps}
-use Rattle.av_kernel.proofs.Step.{moved_on}
-use Rattle.av_kernel.proofs.Process.{spawned-steps}
+use Rattle.av_kernel.proofs.StepLaws.{moved_on}
+use Rattle.av_kernel.proofs.ProcessLaws.{spawned-steps}
 use Rattle.av_kernel.proofs.process.spawn.Goals as goal
 
 pub returns-then-lives : goal.returns-then-lives

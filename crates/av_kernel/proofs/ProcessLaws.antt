@@ -34,7 +34,7 @@ use Rattle.av_reclaim.specs.Mem.{range_of, ranges_of, setting, plain, view, coun
 use Rattle.av_kernel.specs.Step.{MemSteps, answered}
 use Rattle.av_reclaim.specs.Zap.{HasZapped}
 use Rattle.av_reclaim.proofs.MemLaws.{all_apart, kept-nothing, no_cache}
-use Rattle.av_kernel.proofs.Step.{is_number, orderly, moved_on, stays_orderly, state_after, changed, kept-on, stepped}
+use Rattle.av_kernel.proofs.StepLaws.{is_number, orderly, moved_on, stays_orderly, state_after, changed, kept-on, stepped}
 
 -- ---- the ranges of a process that comes or goes
 

@@ -39,8 +39,8 @@ use Rattle.av_reclaim.specs.Zap.{HasZapped}
 use Rattle.av_kernel.specs.Place.{IsProcess, IsPlaced, AreToClear}
 use Rattle.av_kernel.specs.Step.{MemSteps, answered}
 use Rattle.av_reclaim.proofs.MemLaws.{alive_is, taken_has, mapped_is}
-use Rattle.av_kernel.proofs.Place.{page_back, IsSuited, suited}
-use Rattle.av_kernel.proofs.Step.{is_number, moved_on, orderly, refused, stays_orderly, changed, areas_changed, tables_kept}
+use Rattle.av_kernel.proofs.PlaceLaws.{page_back, IsSuited, suited}
+use Rattle.av_kernel.proofs.StepLaws.{is_number, moved_on, orderly, refused, stays_orderly, changed, areas_changed, tables_kept}
 
 -- ---- pages and their areas
 
