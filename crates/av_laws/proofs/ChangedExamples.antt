@@ -4,12 +4,12 @@ use Rattle.std.specs.Prelude.{◌≡◌, ◌==◌, ℕ, zero, suc, ◌+◌, ◌*
 use Rattle.std.proofs.Common.{arith, sym, ap, subst, ◌∙◌}
 use Rattle.av_vma.specs.Gap.{IsGap}
 use Rattle.av_trace.specs.declared.command.Command.TheVariants.{Spawn, Mmap, Read, Write}
-use Rattle.av_trace.specs.declared.command.Place.TheVariants.{Auto, Fixed, NoReplace}
+use Rattle.av_trace.specs.declared.place.Place.TheVariants.{Auto, Fixed, NoReplace}
 use Rattle.av_trace.specs.declared.reply.Errno.{Errno}
 use Rattle.av_trace.specs.declared.reply.Errno.TheVariants.{Eperm, Esrch, Eagain, Enomem, Eexist, Einval}
-use Rattle.av_trace.specs.declared.reply.Note.{Note}
-use Rattle.av_trace.specs.declared.reply.Note.TheVariants.{Zeroed, New, Copied, Mapped, Dropped}
-use Rattle.av_trace.specs.declared.reply.Row.TheVariants.{Entry}
+use Rattle.av_trace.specs.declared.note.Note.{Note}
+use Rattle.av_trace.specs.declared.note.Note.TheVariants.{Zeroed, New, Copied, Mapped, Dropped}
+use Rattle.av_trace.specs.declared.row.Row.TheVariants.{Entry}
 use Rattle.av_trace.specs.declared.reply.Reply.{Reply}
 use Rattle.av_trace.specs.declared.reply.Answer.{Answer}
 use Rattle.av_trace.specs.declared.reply.Answer.TheVariants.{Done, MapAt, Data, Refused, Segv, Bus, Oom, Counted}

@@ -6,7 +6,7 @@ use Rattle.std.proofs.lemmas.Bool.{false≢true}
 use Rattle.av_base.specs.declared.prot.Prot.{Prot}
 use Rattle.av_base.specs.Words.{within}
 use Rattle.av_trace.specs.declared.command.Command.TheVariants.{Maps}
-use Rattle.av_trace.specs.declared.reply.Note.TheVariants.{New, Dropped}
+use Rattle.av_trace.specs.declared.note.Note.TheVariants.{New, Dropped}
 use Rattle.av_plain.specs.World.{Page, zeros}
 use Rattle.av_plain.specs.Event.{Noted, Zapped, Used}
 use Rattle.av_plain.specs.Fault.{Served, Denied}

@@ -8,10 +8,10 @@ use Rattle.av_trace.specs.declared.command.Command.{Command}
 use Rattle.av_trace.specs.declared.command.Command.TheVariants.{Spawn, Exit, Mmap, Munmap, Mprotect, Read, Write, Maps, Stat}
 use Rattle.av_trace.specs.declared.reply.Errno.{Errno}
 use Rattle.av_trace.specs.declared.reply.Errno.TheVariants.{Enomem}
-use Rattle.av_trace.specs.declared.reply.Note.{Note}
+use Rattle.av_trace.specs.declared.note.Note.{Note}
 use Rattle.av_trace.specs.declared.reply.OutOf.{OutOf}
 use Rattle.av_trace.specs.declared.reply.Reply.{Reply}
-use Rattle.av_trace.specs.declared.reply.Row.{Row}
+use Rattle.av_trace.specs.declared.row.Row.{Row}
 use Rattle.av_trace.specs.declared.reply.Answer.{Answer}
 use Rattle.av_trace.specs.declared.reply.Answer.TheVariants.{Done, Refused, Oom}
 use Rattle.av_plain.specs.World.{World, pages, pages_to_hole}

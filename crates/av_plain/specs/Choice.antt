@@ -1,7 +1,7 @@
 -- Which frame is taken: the first of the free ones, whose order follows the events.
 use Rattle.std.specs.Prelude.{ℕ, not, ◌&&◌, ◌==◌, if◌then◌else◌, List, [], ◌∷◌, Option, Some, None, ◌≡◌, nat_lt}
 use Rattle.av_base.specs.Words.{how_many}
-use Rattle.av_trace.specs.declared.reply.Note.TheVariants.{New, Copied, Loaded, Dropped}
+use Rattle.av_trace.specs.declared.note.Note.TheVariants.{New, Copied, Loaded, Dropped}
 use Rattle.av_plain.specs.Event.{Noted, frame_of, Event, after, Zapped}
 use Rattle.av_plain.specs.Ledger.{entry, Entry, Setting, is_free, frame_at, Ledger}
 

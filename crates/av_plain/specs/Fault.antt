@@ -3,8 +3,8 @@ use Rattle.std.specs.Prelude.{ℕ, Bool, true, false, not, ◌&&◌, ◌==◌, i
 use Rattle.av_base.specs.Page.{address_of}
 use Rattle.av_base.specs.Words.{numbers}
 use Rattle.av_base.specs.declared.slot.Slot.{Slot}
-use Rattle.av_trace.specs.declared.reply.Note.{Note}
-use Rattle.av_trace.specs.declared.reply.Note.TheVariants.{Zeroed, New, Copied, Loaded, Mapped, Dropped}
+use Rattle.av_trace.specs.declared.note.Note.{Note}
+use Rattle.av_trace.specs.declared.note.Note.TheVariants.{Zeroed, New, Copied, Loaded, Mapped, Dropped}
 use Rattle.av_trace.specs.declared.reply.OutOf.{OutOf}
 use Rattle.av_plain.specs.Event.{after_notes, when, note_events, Used, Event}
 use Rattle.av_plain.specs.Ledger.{slot_entries, has_free, frame_at, InFrame, slot_of, map_count, Entry, Zero, Setting, in_flight, entry, Key, Ledger, InSlot, is_full}

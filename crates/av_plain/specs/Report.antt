@@ -5,8 +5,8 @@ use Rattle.av_base.specs.declared.prot.Prot.{Prot}
 use Rattle.av_trace.specs.declared.reply.Answer.{Answer}
 use Rattle.av_trace.specs.declared.reply.Answer.TheVariants.{Runs, Counted}
 use Rattle.av_plain.specs.Event.{Event}
-use Rattle.av_trace.specs.declared.reply.Row.{Row}
-use Rattle.av_trace.specs.declared.reply.Row.TheVariants.{Run, Entry}
+use Rattle.av_trace.specs.declared.row.Row.{Row}
+use Rattle.av_trace.specs.declared.row.Row.TheVariants.{Run, Entry}
 use Rattle.av_trace.specs.declared.reply.Totals.{Totals}
 use Rattle.av_plain.specs.Ledger.{SwapArea, free_frames, Setting, free_slots, Ledger}
 use Rattle.av_plain.specs.World.{Process, World, pages, Page}

@@ -3,8 +3,8 @@ use Rattle.std.proofs.Common.{◌≡◌, ◌⊎◌, inl, inr, ℕ, ◌<◌, Bool
 use Rattle.std.proofs.lemmas.Bool.Decides.{nat_tests}
 use Rattle.av_base.specs.declared.slot.Slot.{Slot}
 use Rattle.av_trace.specs.declared.reply.OutOf.{OutOf}
-use Rattle.av_trace.specs.declared.reply.Note.{Note}
-use Rattle.av_trace.specs.declared.reply.Note.TheVariants.{New, Copied, Loaded, Mapped, Dropped}
+use Rattle.av_trace.specs.declared.note.Note.{Note}
+use Rattle.av_trace.specs.declared.note.Note.TheVariants.{New, Copied, Loaded, Mapped, Dropped}
 use Rattle.av_plain.specs.World.{World}
 use Rattle.av_base.specs.Page.{address_of}
 use Rattle.av_plain.specs.Ledger.{Setting, Key, Entry, InFrame, InSlot, Zero, Ledger, entry, map_count, slot_entries, names_slot, same_slot, is_free, slot_of, frame_at, in_flight, is_full}

@@ -4,7 +4,7 @@ use Rattle.std.proofs.lemmas.Bool.Decides.{nat_tests}
 use Rattle.std.specs.List.{list_any}
 use Rattle.std.specs.FinMap.Entries.{is_sorted}
 use Rattle.av_base.specs.declared.slot.Slot.{Slot}
-use Rattle.av_trace.specs.declared.reply.Note.TheVariants.{Dropped}
+use Rattle.av_trace.specs.declared.note.Note.TheVariants.{Dropped}
 use Rattle.av_base.specs.Words.{how_many}
 use Rattle.av_plain.specs.Ledger.{Setting, Key, key_cmp, Entry, InFrame, InSlot, Zero, Ledger, Cached, entry, map_count, slot_entries, names_frame, names_slot, same_slot, is_free, slot_of, frame_at}
 use Rattle.av_plain.specs.Event.{set_entry, to_inactive_head, off_lists, with_stale, into_cache, off_cache, off_flight, settle, if_some, after_use, after_use_of, after_note}

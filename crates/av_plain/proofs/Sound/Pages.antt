@@ -2,9 +2,9 @@
 use Rattle.std.proofs.Common.{◌≡◌, ◌⊎◌, inl, inr, ℕ, Bool, true, false, cond, List, [], ◌∷◌, ◌++◌, Option, Some, None, is_some, option_map, refl, sym, ap, subst, ◌∙◌, ◌==◌}
 use Rattle.av_base.specs.declared.slot.Slot.{Slot}
 use Rattle.av_trace.specs.declared.reply.OutOf.{OutOf}
-use Rattle.av_trace.specs.declared.reply.Note.{Note}
-use Rattle.av_trace.specs.declared.reply.Note.TheVariants.{Zeroed, New, Copied, Loaded, Mapped, Put, Unmapped, Started, Written, Failed, Dropped, Kept, Aged}
-use Rattle.av_trace.specs.declared.reply.Cause.TheVariants.{Writeback, Referenced, NoSlot, WriteStarted}
+use Rattle.av_trace.specs.declared.note.Note.{Note}
+use Rattle.av_trace.specs.declared.note.Note.TheVariants.{Zeroed, New, Copied, Loaded, Mapped, Put, Unmapped, Started, Written, Failed, Dropped, Kept, Aged}
+use Rattle.av_trace.specs.declared.note.Cause.TheVariants.{Writeback, Referenced, NoSlot, WriteStarted}
 use Rattle.av_plain.specs.World.{World, Page, pages}
 use Rattle.av_base.specs.Page.{address_of}
 use Rattle.av_plain.specs.Ledger.{Setting, Key, key_cmp, Entry, InFrame, InSlot, Zero, Ledger, entry, slot_of, frame_at, is_free}
