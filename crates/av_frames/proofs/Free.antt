@@ -3,9 +3,9 @@ use Rattle.std.proofs.Common.{◌≡◌, ℕ, zero, suc, ◌+◌, ◌<◌, ◌�
 use Rattle.std.proofs.lemmas.Grind.{common_steps}
 use Rattle.std.proofs.lemmas.Bool.Decides.{nat_tests}
 use Rattle.std.proofs.lemmas.Bool.{false≢true}
-use Rattle.av_vma.specs.declared.slot.Slot.{Slot}
-use Rattle.av_vma.specs.Ranges.{how_many, with_at}
-use Rattle.av_frames.specs.Store.{IsWhole, is_in, itself, Store, seen}
+use Rattle.av_base.specs.declared.slot.Slot.{Slot}
+use Rattle.av_base.specs.Words.{how_many, with_at, is_in}
+use Rattle.av_frames.specs.Store.{IsWhole, itself, Store, seen}
 
 same_is : (f : ℕ) → (f == f) ≡ true
 same_is f = grind (arith, nat_tests)

@@ -2,7 +2,7 @@
 use Rattle.std.proofs.Common.{◌≡◌, ℕ, zero, suc, ◌+◌, ◌^◌, ◌<◌, ◌≤◌, true, false, cond, List, [], ◌∷◌, ◌++◌, length, get_or, replicate, None, refl, sym, ap, subst, ◌∙◌, arith, ◌==◌}
 use Rattle.std.proofs.lemmas.List.{length-replicate}
 use Rattle.std.proofs.lemmas.Bool.Decides.{nat_tests}
-use Rattle.av_vma.specs.Ranges.{how_many, numbers}
+use Rattle.av_base.specs.Words.{how_many, numbers}
 use Rattle.av_frames.specs.Store.{IsWhole, itself, seen, fresh}
 use Rattle.av_frames.proofs.Free.{zeros}
 

@@ -1,12 +1,7 @@
 -- What is seen of the frames: a free list, and for each frame its bytes, how many entries name it, its home, the slot at which it is cached, and whether it is dirty.
 use Rattle.std.specs.Prelude.{◌≡◌, ℕ, ◌+◌, ◌-◌, ◌^◌, ◌<◌, ◌≤◌, Bool, true, false, ◌==◌, if◌then◌else◌, List, [], length, slice_index, slice_index_or, Option, None}
-use Rattle.std.specs.List.{list_any}
-use Rattle.av_vma.specs.declared.slot.Slot.{Slot}
-use Rattle.av_vma.specs.Ranges.{how_many, within, numbers}
-
--- whether a frame is in a list
-abbrev pub is_in : ℕ → List ℕ → Bool
-is_in f fs = list_any (λ g. f == g) fs
+use Rattle.av_base.specs.declared.slot.Slot.{Slot}
+use Rattle.av_base.specs.Words.{is_in, how_many, within, numbers}
 
 -- the value of `Frames`: a value has to be data, so each is a list by frame
 pub record Store : Type 0 where

@@ -5,11 +5,11 @@
 mod tests;
 
 ghost use Rattle.std.specs.Prelude.{◌≡◌, ℕ, ◌+◌, ◌<◌, ◌≤◌, ◌^◌, ◌-◌, ◌∷◌, ◌==◌, [], length, slice_index, MatchOption, IfOk, true, false, replicate, not};
-ghost use Rattle.av_frames.specs.Store.{seen, fresh, overlaid, is_in};
+ghost use Rattle.av_frames.specs.Store.{seen, fresh, overlaid};
+ghost use Rattle.av_base.specs.Words.{is_in, how_many, numbers, with_at};
 ghost use Rattle.std.specs.VecDeque.{deque_len, deque_capacity};
-ghost use Rattle.av_vma.specs.Ranges.{how_many, numbers, with_at};
 
-use av_vma::Slot;
+use av_base::Slot;
 use std::alloc::{AllocError, Global};
 use std::collections::VecDeque;
 use std::marker::Model;

@@ -1,5 +1,5 @@
 use crate::Frames;
-use av_vma::Slot;
+use av_base::Slot;
 use std::alloc::AllocError;
 
 #[test]

@@ -1,7 +1,7 @@
 -- Which pages an access touches: those of its first bytes, and then those of the rest.
 use Rattle.std.proofs.Common.{◌≡◌, ℕ, ◌+◌, ◌-◌, ◌*◌, ◌/◌, ◌%◌, ◌<◌, ◌≤◌, ◌==◌, suc, zero, false, cond, [], ◌∷◌, ◌++◌, sym, ap, subst, ◌∙◌, arith}
 use Rattle.std.proofs.lemmas.Bool.Decides.{nat_tests}
-use Rattle.av_vma.specs.Ranges.{numbers}
+use Rattle.av_base.specs.Words.{numbers}
 use Rattle.av_plain.specs.Fault.{touched}
 
 pub numbers-append : (a c d : ℕ) → numbers a (c + d) ≡ numbers a c ++ numbers (a + c) d

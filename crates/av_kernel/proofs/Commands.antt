@@ -3,8 +3,8 @@ use Rattle.std.proofs.Common.{◌≡◌, ◌≢◌, ℕ, ◌+◌, ◌<◌, Bool,
 use Rattle.std.proofs.lemmas.Bool.Decides.{nat_tests}
 use Rattle.std.specs.Ordering.{nat_cmp, eq_by_cmp}
 use Rattle.std.specs.Prelude.{MatchOption}
-use Rattle.av_vma.specs.declared.area.Prot.{Prot}
-use Rattle.av_vma.specs.Ranges.{with_at}
+use Rattle.av_base.specs.declared.prot.Prot.{Prot}
+use Rattle.av_base.specs.Words.{with_at}
 use Rattle.av_trace.specs.declared.command.Command.{Command}
 use Rattle.av_trace.specs.declared.command.Command.TheVariants.{Spawn}
 use Rattle.av_trace.specs.declared.reply.Errno.{Errno}
@@ -14,7 +14,8 @@ use Rattle.av_trace.specs.declared.reply.Answer.{Answer}
 use Rattle.av_trace.specs.declared.reply.Answer.TheVariants.{Done, Refused}
 use Rattle.av_plain.specs.World.{Process, Page, nothing, lives, pages, set_process}
 use Rattle.av_plain.specs.Ledger.{Ledger, Entry, Zero, InFrame, InSlot, entry, frame_at}
-use Rattle.av_plain.specs.Refusal.{tests, refusal, most_processes}
+use Rattle.av_plain.specs.Refusal.{tests, refusal}
+use Rattle.av_base.specs.Limits.{most_processes}
 use Rattle.av_plain.specs.Step.{Follows, Refuses}
 use Rattle.av_plain.specs.Transcript.{State, IsStep}
 use Rattle.av_plain.specs.Sound.{AllSound}

@@ -5,7 +5,7 @@ use Rattle.std.proofs.lemmas.Bool.{false≢true}
 use Rattle.std.specs.Prelude.{MatchOption}
 use Rattle.std.specs.Ordering.{nat_cmp, is_eq, is_lt}
 use Rattle.std.specs.FinMap.Entries.{is_sorted, below_all, find}
-use Rattle.av_vma.specs.Ranges.{with_at}
+use Rattle.av_base.specs.Words.{with_at}
 use Rattle.av_trace.specs.declared.command.Command.TheVariants.{Exit}
 use Rattle.av_trace.specs.declared.reply.Errno.TheVariants.{Esrch}
 use Rattle.av_trace.specs.declared.reply.Answer.TheVariants.{Done}

@@ -2,7 +2,8 @@
 use Rattle.std.proofs.Common.{◌≡◌, ℕ, false, List, [], Option, Some, None, refl, sym, ap, subst, ◌∙◌, arith, is_some}
 use Rattle.av_plain.specs.Transcript.{at_first}
 use Rattle.std.specs.Prelude.{IfSome, option_map, length}
-use Rattle.av_plain.specs.Stands.{Range, entry_of, is_in, prot_of, AreApart}
+use Rattle.av_plain.specs.Stands.{Range, entry_of, prot_of, AreApart}
+use Rattle.av_base.specs.Words.{is_in}
 use Rattle.av_plain.proofs.NoSwapLaws.{is_in-numbers}
 use Rattle.av_plain.proofs.Soundness.{first-sound}
 use Rattle.av_frames.specs.Store.{Store, Seen, seen, fresh as fresh_frames}

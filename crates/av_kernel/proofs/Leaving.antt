@@ -2,9 +2,8 @@
 use Rattle.std.proofs.Common.{◌≡◌, ℕ, ◌+◌, ◌-◌, ◌<◌, ◌≤◌, Bool, true, false, cond, not, ◌&&◌, ◌||◌, List, [], ◌∷◌, Option, Some, None, refl, sym, ap, subst, ◌∙◌, arith, ◌==◌, nat_lt}
 use Rattle.std.proofs.lemmas.Bool.Decides.{nat_tests}
 use Rattle.std.specs.Prelude.{IfSome}
-use Rattle.av_vma.specs.declared.slot.Slot.{Slot}
-use Rattle.av_vma.specs.Ranges.{with_at}
-use Rattle.av_frames.specs.Store.{is_in}
+use Rattle.av_base.specs.declared.slot.Slot.{Slot}
+use Rattle.av_base.specs.Words.{with_at, is_in}
 use Rattle.av_pagetable.specs.Entries.{with_entry}
 use Rattle.av_plain.specs.Ledger.{Ledger, Setting, Key, Entry, Zero, InFrame, entry, mapped, slot_entries, names_frame, names_slot, is_free, is_stale}
 use Rattle.av_plain.specs.Event.{after_all, taken, settle_entry, settle, unlisted, without, at, frame_of}

@@ -4,7 +4,7 @@ use Rattle.std.proofs.lemmas.Bool.{false≢true}
 use Rattle.av_trace.specs.declared.reply.OutOf.{OutOf}
 use Rattle.av_trace.specs.declared.reply.Note.{Note}
 use Rattle.av_trace.specs.declared.reply.Note.TheVariants.{New, Copied}
-use Rattle.av_frames.specs.Store.{is_in}
+use Rattle.av_base.specs.Words.{is_in}
 use Rattle.av_pagetable.specs.Entries.{entry_at, has}
 use Rattle.av_plain.specs.World.{pages}
 use Rattle.av_plain.specs.Ledger.{Ledger, Key, Entry, Zero, InFrame, InSlot, entry, mapped, names_frame, names_slot, is_free}

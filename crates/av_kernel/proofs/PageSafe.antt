@@ -2,9 +2,10 @@
 use Rattle.std.proofs.Common.{◌≡◌, ℕ, ◌<◌, ◌≤◌, Bool, true, false, ◌||◌, List, ◌∷◌, Option, Some, None, refl, sym, ap, subst, ◌∙◌, arith, is_some, nat_lt}
 use Rattle.std.proofs.lemmas.Bool.{false≢true}
 use Rattle.std.proofs.lemmas.Bool.Decides.{nat_tests}
-use Rattle.av_vma.specs.declared.slot.Slot.{Slot}
+use Rattle.av_base.specs.declared.slot.Slot.{Slot}
 use Rattle.av_trace.specs.declared.reply.Note.{Note}
-use Rattle.av_frames.specs.Store.{is_in, seen}
+use Rattle.av_base.specs.Words.{is_in}
+use Rattle.av_frames.specs.Store.{seen}
 use Rattle.av_pagetable.specs.declared.pte.Pte.TheVariants.{Here, Away}
 use Rattle.av_pagetable.specs.Entries.{entry_at, has, with_entry}
 use Rattle.av_plain.specs.Ledger.{InFrame, entry, mapped, names_frame, is_free}

@@ -4,14 +4,15 @@ use Rattle.std.proofs.lemmas.Bool.Decides.{nat_tests}
 use Rattle.std.specs.Prelude.{IfSome}
 use Rattle.std.specs.Ordering.{nat_cmp}
 use Rattle.std.specs.FinMap.Entries.{find}
-use Rattle.av_vma.specs.Ranges.{numbers, with_at}
+use Rattle.av_base.specs.Words.{numbers, with_at}
 use Rattle.av_frames.specs.Store.{Seen, seen, overlaid}
 use Rattle.av_trace.specs.declared.reply.Note.{Note}
 use Rattle.av_trace.specs.declared.reply.Errno.TheVariants.{Esrch}
 use Rattle.av_trace.specs.declared.reply.Answer.TheVariants.{Done}
 use Rattle.av_trace.specs.declared.command.Command.TheVariants.{Write}
 use Rattle.av_pagetable.specs.Entries.{entry_at, has}
-use Rattle.av_plain.specs.World.{World, lives, pages, written, set_process, page_of, pages_of}
+use Rattle.av_plain.specs.World.{World, lives, pages, written, set_process}
+use Rattle.av_base.specs.Page.{page_of, pages_of}
 use Rattle.av_plain.specs.Ledger.{Ledger, Setting, Area, InFrame, mapped, names_frame}
 use Rattle.av_plain.specs.Event.{after_all}
 use Rattle.av_plain.specs.Fault.{Accesses, GoesOn, End, Stopped as EndStopped, Touches, How, Served, Denied, Starved, Lost, Whole, happening, touched}

@@ -1,7 +1,7 @@
 -- What the view is after a change of the parts.
 use Rattle.std.proofs.Common.{◌≡◌, ℕ, ◌<◌, Bool, true, false, cond, ◌&&◌, List, ◌∷◌, Option, refl, sym, ap, subst, ◌∙◌, ◌==◌}
-use Rattle.av_vma.specs.Ranges.{with_at}
-use Rattle.av_frames.specs.Store.{is_in, Seen, seen}
+use Rattle.av_base.specs.Words.{with_at, is_in}
+use Rattle.av_frames.specs.Store.{Seen, seen}
 use Rattle.av_pagetable.specs.declared.pte.Pte.{Pte}
 use Rattle.av_pagetable.specs.declared.pte.Pte.TheVariants.{Here}
 use Rattle.av_pagetable.specs.Entries.{entry_at, with_entry}

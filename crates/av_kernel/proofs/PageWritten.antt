@@ -4,7 +4,7 @@ use Rattle.std.proofs.lemmas.Bool.Decides.{nat_tests}
 use Rattle.std.proofs.lemmas.Bool.{false≢true}
 use Rattle.std.specs.Prelude.{IfSome}
 use Rattle.std.specs.Ordering.{nat_cmp, eq_by_cmp}
-use Rattle.av_vma.specs.Ranges.{within, with_at}
+use Rattle.av_base.specs.Words.{within, with_at}
 use Rattle.av_frames.specs.Store.{overlaid}
 use Rattle.av_plain.specs.World.{World, Process, Page, pages, lives, written, set_process}
 use Rattle.av_plain.specs.Ledger.{Ledger, Setting, Key, Entry, Zero, InFrame, InSlot, entry, mapped, frame_at}

@@ -2,7 +2,8 @@
 use Rattle.std.proofs.Common.{◌≡◌, ℕ, Bool, Option, Some, None, is_some, option_map, refl, subst, arith}
 use Rattle.av_vma.specs.Gap.{IsGap}
 use Rattle.std.specs.Int.{div_ceil}
-use Rattle.av_plain.specs.World.{Page, address_of, page_of, pages_of}
+use Rattle.av_plain.specs.World.{Page}
+use Rattle.av_base.specs.Page.{address_of, page_of, pages_of}
 use Rattle.av_plain.specs.Ledger.{Ledger, Entry, Zero as ZeroEntry, InFrame, InSlot, frame_at}
 use Rattle.av_plain.specs.Stands.{View, IsKept, IsKeptAt}
 

@@ -2,13 +2,15 @@
 use Rattle.std.proofs.Common.{◌≡◌, inl, inr, ℕ, ◌+◌, ◌≤◌, Bool, true, false, cond, not, ◌&&◌, [], ◌∷◌, ◌++◌, Option, Some, None, Result, Ok, Err, refl, sym, ap, subst, ◌∙◌, arith, nat_le, nat_lt}
 use Rattle.std.proofs.lemmas.Bool.Decides.{nat_tests}
 use Rattle.std.specs.Prelude.{MatchBool, MatchResult}
-use Rattle.av_vma.specs.Gap.{low_page, top_page, IsRoom, IsGap}
+use Rattle.av_base.specs.Limits.{low_page, top_page}
+use Rattle.av_vma.specs.Gap.{IsRoom, IsGap}
 use Rattle.av_vmatree.specs.Spans.{IsFree, IsMet}
 use Rattle.av_trace.specs.declared.reply.Errno.{Errno}
 use Rattle.av_trace.specs.declared.reply.Errno.TheVariants.{Eperm, Enomem, Eexist, Einval}
 use Rattle.av_trace.specs.declared.command.Place.{Place}
 use Rattle.av_trace.specs.declared.command.Place.TheVariants.{Auto, At, Fixed, NoReplace}
-use Rattle.av_plain.specs.World.{Process, page_of, address_of, is_on_page, is_mapped, meets}
+use Rattle.av_plain.specs.World.{Process, is_mapped, meets}
+use Rattle.av_base.specs.Page.{page_of, address_of, is_on_page}
 use Rattle.av_plain.specs.Refusal.{Tests, top, low, fixed_tests, refusal}
 use Rattle.av_plain.specs.Step.{is_room}
 use Rattle.av_plain.proofs.RangeLaws.{none-meets, some-meets, meets-none, room-is}

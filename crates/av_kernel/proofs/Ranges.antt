@@ -3,8 +3,8 @@ use Rattle.std.proofs.Common.{◌≡◌, inl, inr, Ok, Err, ℕ, ◌+◌, ◌-�
 use Rattle.std.proofs.lemmas.Bool.Decides.{nat_tests}
 use Rattle.std.proofs.lemmas.Bool.{false≢true}
 use Rattle.std.specs.Prelude.{MatchOption, OnOk}
-use Rattle.av_vma.specs.declared.area.Prot.{Prot}
-use Rattle.av_vma.specs.Ranges.{within}
+use Rattle.av_base.specs.declared.prot.Prot.{Prot}
+use Rattle.av_base.specs.Words.{within}
 use Rattle.av_vmatree.specs.Spans.{IsFree}
 use Rattle.av_merge.specs.Pages.{IsReached}
 use Rattle.av_trace.specs.declared.command.Command.{Command}
@@ -17,7 +17,8 @@ use Rattle.av_trace.specs.declared.reply.Reply.{Reply}
 use Rattle.av_trace.specs.declared.reply.Answer.{Answer}
 use Rattle.av_trace.specs.declared.reply.Answer.TheVariants.{Done, MapAt, Refused}
 use Rattle.av_pagetable.specs.Entries.{has}
-use Rattle.av_plain.specs.World.{Process, Page, zeros, pages, page_of, pages_of, address_of, is_on_page, is_mapped, leading, set_process, replaced, protected, with_prot}
+use Rattle.av_plain.specs.World.{Process, Page, zeros, pages, is_mapped, leading, set_process, replaced, protected, with_prot}
+use Rattle.av_base.specs.Page.{page_of, pages_of, address_of, is_on_page}
 use Rattle.av_plain.specs.Ledger.{Ledger, Entry, Zero, InFrame, InSlot, entry, frame_at}
 use Rattle.av_plain.specs.Event.{Event, after_all}
 use Rattle.av_plain.specs.Taking.{keys_in, taking}

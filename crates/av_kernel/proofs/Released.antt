@@ -1,7 +1,7 @@
 -- The view after one entry fewer names a frame.
 use Rattle.std.proofs.Common.{◌≡◌, ◌≢◌, ℕ, ◌-◌, ◌<◌, true, false, cond, ◌∷◌, sym, ap, ◌∙◌, arith, ◌==◌}
 use Rattle.std.proofs.lemmas.Bool.Decides.{nat_tests}
-use Rattle.av_vma.specs.Ranges.{with_at}
+use Rattle.av_base.specs.Words.{with_at}
 use Rattle.av_frames.specs.Store.{Store, Seen, seen}
 use Rattle.av_pagetable.specs.Entries.{entry_at}
 use Rattle.av_plain.proofs.NoSwapLaws.{itself}

@@ -7,9 +7,9 @@ use Rattle.std.specs.Prelude.{OnOk, IfOk}
 use Rattle.std.specs.Ordering.{nat_cmp}
 use Rattle.std.specs.BTreeMap.{BTreeMap, get, is_at, WritesThrough}
 use Rattle.av_vma.specs.declared.area.Area.{Area}
-use Rattle.av_vma.specs.declared.area.Prot.{Prot}
-use Rattle.av_vma.specs.Gap.{low_page, top_page}
-use Rattle.av_vma.specs.Ranges.{within}
+use Rattle.av_base.specs.declared.prot.Prot.{Prot}
+use Rattle.av_base.specs.Limits.{low_page, top_page}
+use Rattle.av_base.specs.Words.{within}
 use Rattle.av_vmatree.specs.declared.span.Span.{Span}
 use Rattle.av_vmatree.specs.Spans.{IsFree, area_at, taken}
 use Rattle.av_merge.specs.Laid.{AreLaid}

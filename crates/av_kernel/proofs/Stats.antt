@@ -1,12 +1,11 @@
 -- The numbers of `stat`, without swap and without active frames.
 use Rattle.std.proofs.Common.{◌≡◌, ℕ, ◌-◌, ◌<◌, ◌≤◌, ◌==◌, true, [], length, refl, sym, ap, ◌∙◌}
-use Rattle.av_vma.specs.Ranges.{how_many}
+use Rattle.av_base.specs.Words.{how_many, is_in}
 use Rattle.av_trace.specs.declared.command.Command.TheVariants.{Stat}
 use Rattle.av_trace.specs.declared.reply.Answer.TheVariants.{Counted}
 use Rattle.av_trace.specs.declared.reply.Totals.{Totals}
 use Rattle.av_plain.specs.Transcript.{State}
 use Rattle.av_plain.specs.Report.{totals}
-use Rattle.av_plain.specs.Stands.{is_in}
 use Rattle.av_plain.proofs.FrameCounts.{free-once, totals-plain}
 use Rattle.av_kernel.specs.declared.mem.Mem.{Mem}
 use Rattle.av_kernel.specs.View.{setting, view, count, Keeps}

@@ -3,7 +3,7 @@ use Rattle.std.proofs.Common.{◌≡◌, ℕ, ◌+◌, ◌-◌, ◌<◌, ◌≤�
 use Rattle.std.proofs.lemmas.Bool.Decides.{nat_tests}
 use Rattle.std.proofs.lemmas.Bool.{false≢true}
 use Rattle.std.proofs.lemmas.List.{append-nil, append_assoc}
-use Rattle.av_vma.specs.Ranges.{within}
+use Rattle.av_base.specs.Words.{within}
 use Rattle.av_plain.specs.Ledger.{Ledger, Entry, entry}
 use Rattle.av_plain.specs.Event.{Event, Taken, after_all, taken, notes_of}
 use Rattle.av_plain.specs.Taking.{keys_in, taking, taking_one}

@@ -3,7 +3,8 @@ use Rattle.std.specs.Prelude.{◌≡◌, ℕ, ◌+◌, ◌-◌, ◌<◌, ◌++�
 use Rattle.av_trace.specs.declared.reply.Note.{Note}
 use Rattle.av_trace.specs.declared.reply.Answer.{Answer}
 use Rattle.av_trace.specs.declared.reply.Answer.TheVariants as answers
-use Rattle.av_plain.specs.World.{World, address_of}
+use Rattle.av_plain.specs.World.{World}
+use Rattle.av_base.specs.Page.{address_of}
 use Rattle.av_plain.specs.Event.{Event, after_all, notes_of}
 use Rattle.av_plain.specs.Fault.{Accesses, End, Whole, Stopped, touched, bytes_before}
 use Rattle.av_plain.specs.Step.{stored}

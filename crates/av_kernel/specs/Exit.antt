@@ -1,6 +1,6 @@
 -- What stands while entries of a process go, one by one.
 use Rattle.std.specs.Prelude.{◌≡◌, ℕ, ◌-◌, ◌<◌, ◌≤◌, ◌==◌, true, is_some, if◌then◌else◌, List, [], ◌∷◌, Option, Some, None}
-use Rattle.av_vma.specs.Ranges.{with_at}
+use Rattle.av_base.specs.Words.{with_at}
 use Rattle.av_plain.specs.Ledger.{Ledger, Setting, entry}
 use Rattle.av_plain.specs.Event.{Event, taken, after_all, notes_of}
 use Rattle.av_plain.specs.Choice.{ChoosesAll, freed, frame_under}

@@ -1,14 +1,14 @@
 -- What a read or write does at one page.
 use Rattle.std.specs.Prelude.{◌≡◌, ℕ, ◌+◌, ◌-◌, ◌<◌, ◌∷◌, ◌≤◌, ◌++◌, Bool, true, false, List, length, Option, Some, None}
 use Rattle.av_trace.specs.declared.reply.Note.{Note}
-use Rattle.av_vma.specs.declared.area.Prot.{Prot}
-use Rattle.av_vma.specs.Ranges.{with_at}
-use Rattle.av_frames.specs.Store.{is_in}
+use Rattle.av_base.specs.declared.prot.Prot.{Prot}
+use Rattle.av_base.specs.Words.{with_at, is_in}
 use Rattle.av_pagetable.specs.declared.pte.Pte.{Pte}
 use Rattle.av_pagetable.specs.declared.pte.Pte.TheVariants.{Empty, Zero as ZeroPte, Here, Away}
 use Rattle.av_pagetable.specs.Entries.{with_entry}
 use Rattle.av_plain.specs.Stands.{View}
-use Rattle.av_plain.specs.World.{World, address_of, allows, pages, Shows}
+use Rattle.av_plain.specs.World.{World, allows, pages, Shows}
+use Rattle.av_base.specs.Page.{address_of}
 use Rattle.av_plain.specs.Ledger.{Ledger, Key, Zero, InFrame, entry, mapped}
 use Rattle.av_plain.specs.Event.{after_all}
 use Rattle.av_plain.specs.Fault.{Touches, How, Served, Denied, Starved, happening}

@@ -6,7 +6,8 @@ use Rattle.av_trace.specs.declared.command.Place.{Place}
 use Rattle.av_trace.specs.declared.command.Place.TheVariants.{Fixed}
 use Rattle.av_vmatree.specs.Spans.{IsFree}
 use Rattle.av_pagetable.specs.Entries.{has}
-use Rattle.av_plain.specs.World.{Process, page_of, is_mapped}
+use Rattle.av_plain.specs.World.{Process, is_mapped}
+use Rattle.av_base.specs.Page.{page_of}
 use Rattle.av_plain.specs.Ledger.{Ledger}
 use Rattle.av_plain.specs.Event.{Event}
 use Rattle.av_plain.specs.Refusal.{place_tests, refusal}

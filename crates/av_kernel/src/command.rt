@@ -7,11 +7,9 @@ ghost use Rattle.av_kernel.specs.Command.{MemSteps};
 ghost use Rattle.av_trace.specs.declared.command.Command.TheVariants as commands;
 
 use crate::mem::Mem;
+use av_base::MOST_PROCESSES;
 use av_trace::{Answer, Command, Errno, Notes, Reply, Rows};
 use std::alloc::{AllocError, Global};
-
-/// At most so many processes live.
-const MOST_PROCESSES: usize = 4096;
 
 /// A reply without notes or rows.
 pub fn answered(alloc: Global, answer: Answer) -> Reply

@@ -1,7 +1,7 @@
 //! The end of a process: its entries, its page table and its areas go. And how the entries of a range of pages go.
 
 ghost use Rattle.std.specs.Prelude.{◌≡◌, ℕ, ◌-◌, ◌<◌, ◌≤◌, true, false, IfOk, IfSome};
-ghost use Rattle.av_frames.specs.Store.{is_in};
+ghost use Rattle.av_base.specs.Words.{is_in};
 ghost use Rattle.av_pagetable.specs.Entries.{has};
 ghost use Rattle.av_plain.specs.Ledger.{Ledger};
 ghost use Rattle.av_plain.specs.Taking.{keys_in, taking};

@@ -1,7 +1,7 @@
 //! Making a page ready for an access: the page fault, and the bit that marks a page as seen.
 
 ghost use Rattle.std.specs.Prelude.{◌≡◌, ◌+◌, ◌-◌, ◌<◌, ◌≤◌, [], true, false, IsTrue, IfOk, MatchOption, MatchBool, Some, None};
-ghost use Rattle.av_vma.specs.Gap.{top_page};
+ghost use Rattle.av_base.specs.Limits.{top_page};
 ghost use Rattle.av_pagetable.specs.Entries.{entry_at, has};
 ghost use Rattle.av_pagetable.specs.declared.pte.Pte.TheVariants as Pte;
 ghost use Rattle.av_plain.specs.Stands.{prot_of};

@@ -1,8 +1,10 @@
 //! Where `mmap` puts pages, and the tests of addresses and lengths.
 
 ghost use Rattle.std.specs.Prelude.{◌≡◌, ℕ, ◌+◌, ◌^◌, ◌<◌, ◌≤◌, ◌&&◌, ◌||◌, ◌==◌, nat_le, nat_lt, true, false, not, [], ◌∷◌, None, Some, is_some, MatchResult};
-ghost use Rattle.av_vma.specs.Gap.{low_page, top_page, IsGap};
-ghost use Rattle.av_plain.specs.World.{Process, page_of, is_on_page};
+ghost use Rattle.av_base.specs.Limits.{low_page, top_page};
+ghost use Rattle.av_vma.specs.Gap.{IsGap};
+ghost use Rattle.av_plain.specs.World.{Process};
+ghost use Rattle.av_base.specs.Page.{page_of, is_on_page};
 ghost use Rattle.av_plain.specs.Refusal.{top, wraps, fixed_tests, refusal};
 ghost use Rattle.av_plain.specs.Refusal as refusals;
 ghost use Rattle.av_plain.specs.Step.{is_room};
@@ -12,10 +14,7 @@ ghost use Rattle.av_trace.specs.declared.reply.Errno.TheVariants as errors;
 
 use crate::spaces::Spaces;
 use av_trace::{Errno, Place};
-use av_vma::{LOW_PAGE, TOP_PAGE};
-
-/// The bytes of one page.
-pub const PAGE_SIZE: u64 = 4096;
+use av_base::{LOW_PAGE, PAGE_SIZE, TOP_PAGE};
 
 /// The first address that no process can have.
 const TOP: u64 = PAGE_SIZE * TOP_PAGE;

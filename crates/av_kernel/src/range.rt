@@ -1,7 +1,7 @@
 //! Commands on ranges of pages: `mmap`, `munmap` and `mprotect`.
 
 ghost use Rattle.std.specs.Prelude.{◌≡◌, ℕ, ◌+◌, ◌≤◌, true, is_some, IfOk, OnOk};
-ghost use Rattle.av_vma.specs.Gap.{top_page};
+ghost use Rattle.av_base.specs.Limits.{top_page};
 ghost use Rattle.av_plain.specs.Ledger.{Ledger};
 ghost use Rattle.av_plain.specs.Taking.{keys_in, taking};
 ghost use Rattle.av_plain.specs.Step.{clearing};
@@ -15,9 +15,9 @@ ghost use Rattle.av_trace.specs.declared.command.Command.TheVariants as commands
 
 use crate::command::answered;
 use crate::mem::Mem;
-use crate::place::{PAGE_SIZE, is_no_range, is_too_long, protect_error};
+use crate::place::{is_no_range, is_too_long, protect_error};
 use av_trace::{Answer, Errno, Place, Reply};
-use av_vma::Prot;
+use av_base::{PAGE_SIZE, Prot};
 use std::alloc::{AllocError, Global};
 
 impl Mem {

@@ -4,7 +4,8 @@ ghost use Rattle.std.specs.Prelude.{◌≡◌, ℕ, ◌+◌, ◌-◌, ◌^◌, �
 ghost use Rattle.std.specs.Ordering.{nat_cmp};
 ghost use Rattle.std.specs.BTreeMap.{get as tree_of};
 ghost use Rattle.av_vma.specs.Areas.{area_of};
-ghost use Rattle.av_vma.specs.Gap.{low_page, top_page, IsGap};
+ghost use Rattle.av_base.specs.Limits.{low_page, top_page};
+ghost use Rattle.av_vma.specs.Gap.{IsGap};
 ghost use Rattle.av_vmatree.specs.Spans.{IsFree, IsMet};
 ghost use Rattle.av_merge.specs.Pages.{IsReached};
 ghost use Rattle.av_merge.specs.Process.{AreAreasOf};
@@ -14,7 +15,8 @@ ghost use Rattle.av_kernel.specs.Report.{AreRuns};
 ghost use Rattle.av_trace.specs.declared.reply.Row.TheVariants as row;
 
 use av_trace::{Row, Rows};
-use av_vma::{Area, Areas, Prot};
+use av_vma::{Area, Areas};
+use av_base::{Prot};
 use av_vmatree::{Span, Tree};
 use std::alloc::{AllocError, Global};
 use std::collections::BTreeMap;

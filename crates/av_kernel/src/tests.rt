@@ -1,6 +1,6 @@
 use super::*;
 use av_trace::{Answer, Bytes, Command, Place};
-use av_vma::Prot;
+use av_base::Prot;
 use std::test::Fail;
 
 #[test]

@@ -3,7 +3,7 @@ use Rattle.std.proofs.Common.{◌≡◌, ℕ, ◌+◌, ◌-◌, ◌*◌, ◌/◌
 use Rattle.std.proofs.lemmas.Bool.{both_ways, false_from_ne_true, ltb-true, ltb-false, cases_lt, lt-ltb, le-ltb}
 use Rattle.av_vma.specs.declared.area.Area.{Area}
 use Rattle.av_vma.specs.Join.{first_of, index_of, past_of}
-use Rattle.av_vma.specs.Ranges.{with_at}
+use Rattle.av_base.specs.Words.{with_at}
 use Rattle.av_vmatree.specs.declared.span.Span.{Span}
 use Rattle.av_vmatree.specs.Spans.{IsFree, span_of, taken, without_area}
 use Rattle.av_merge.specs.Laid.{AreLaid}

@@ -3,8 +3,8 @@ use Rattle.std.proofs.Common.{◌≡◌, ℕ, ◌+◌, ◌-◌, ◌<◌, ◌≤�
 use Rattle.std.proofs.lemmas.Bool.Decides.{nat_tests}
 use Rattle.std.proofs.lemmas.Bool.{both_ways, false_from_ne_true, eqb-true, ltb-true, ltb-false, cases_lt}
 use Rattle.av_vma.specs.declared.area.Area.{Area}
-use Rattle.av_vma.specs.Gap.{low_page, top_page}
-use Rattle.av_vma.specs.Ranges.{within, with_at}
+use Rattle.av_base.specs.Limits.{low_page, top_page}
+use Rattle.av_base.specs.Words.{within, with_at}
 use Rattle.av_vmatree.specs.declared.span.Span.{Span}
 use Rattle.av_vmatree.specs.Spans.{AreApart, AreDistinct, AreSpans, area_after, area_at, holds, span_of, unless_area, without_area}
 use Rattle.av_merge.specs.Pages.{Pages, emptied, pages_by}

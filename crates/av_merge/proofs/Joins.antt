@@ -5,7 +5,7 @@ use Rattle.std.proofs.lemmas.Bool.{eq-eqb, ne_eqb, both_ways}
 use Rattle.std.proofs.lemmas.Option.{same_Some}
 use Rattle.av_vma.specs.declared.area.Area.{Area}
 use Rattle.av_vma.specs.Join.{first_of, past_of}
-use Rattle.av_vma.specs.Ranges.{with_at}
+use Rattle.av_base.specs.Words.{with_at}
 use Rattle.av_vmatree.specs.declared.span.Span.{Span}
 use Rattle.av_vmatree.specs.Spans.{AreSpans, IsFree, area_at, span_of, taken, unless_area, without_area}
 use Rattle.av_merge.specs.Pages.{Pages, has_page, join, joined_at, merged, pages_by, placed, tried}

@@ -1,6 +1,6 @@
 -- How a page is mapped: what its area says of it, whatever the area's bounds are.
 use Rattle.std.specs.Prelude.{ℕ, Option, option_map}
-use Rattle.av_vma.specs.declared.area.Prot.{Prot}
+use Rattle.av_base.specs.declared.prot.Prot.{Prot}
 use Rattle.av_vma.specs.declared.area.Area.{Area}
 use Rattle.av_vma.specs.Join.{index_of}
 use Rattle.av_merge.specs.Pages.{Pages}

@@ -1,9 +1,9 @@
 -- What a process has on its pages: for each page the area that holds it. And what cutting, joining and emptying make of that.
 use Rattle.std.specs.Prelude.{◌≡◌, ℕ, ◌+◌, ◌-◌, ◌*◌, ◌<◌, ◌≤◌, true, false, min, max, Bool, ◌&&◌, nat_lt, if◌then◌else◌, List, Option, Some, None, option_map, option_and_then}
-use Rattle.av_vma.specs.declared.area.Prot.{Prot}
+use Rattle.av_base.specs.declared.prot.Prot.{Prot}
 use Rattle.av_vma.specs.declared.area.Area.{Area}
 use Rattle.av_vma.specs.Join.{are_mergeable, first_of, past_of}
-use Rattle.av_vma.specs.Ranges.{within}
+use Rattle.av_base.specs.Words.{within}
 use Rattle.av_vmatree.specs.declared.span.Span.{Span}
 use Rattle.av_vmatree.specs.Spans.{area_at}
 

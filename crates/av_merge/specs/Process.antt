@@ -1,7 +1,7 @@
 -- The areas of one process: by number among those of all processes, and in a tree of their spans.
 use Rattle.std.specs.Prelude.{◌≡◌, ◌≢◌, ℕ, ◌+◌, ◌-◌, ◌*◌, ◌^◌, ◌<◌, ◌≤◌, true, is_some, List, Option, Some, IfSome, IsSomeAnd}
 use Rattle.av_vma.specs.declared.area.Area.{Area}
-use Rattle.av_vma.specs.Gap.{low_page, top_page}
+use Rattle.av_base.specs.Limits.{low_page, top_page}
 use Rattle.av_vma.specs.Join.{first_of, past_of}
 use Rattle.av_vmatree.specs.declared.span.Span.{Span}
 use Rattle.av_vmatree.specs.Spans.{AreSpans, span_of}

@@ -2,9 +2,9 @@
 
 ghost use Rattle.std.specs.Prelude.{◌≡◌, ℕ, ◌-◌, ◌*◌, ◌+◌, ◌<◌, ◌≤◌, ◌⊎◌, true, false, if◌then◌else◌, option_map, IsSomeAnd, IfSome, OnOk, IfOk};
 ghost use Rattle.av_vma.specs.Areas.{area_of};
-ghost use Rattle.av_vma.specs.Gap.{low_page, top_page};
+ghost use Rattle.av_base.specs.Limits.{low_page, top_page};
 ghost use Rattle.av_vma.specs.Join.{past_of};
-ghost use Rattle.av_vma.specs.Ranges.{within};
+ghost use Rattle.av_base.specs.Words.{within};
 ghost use Rattle.av_vmatree.specs.Spans.{IsFree, span_of, taken};
 ghost use Rattle.av_merge.specs.Mapping.{mapping, with_prot};
 ghost use Rattle.av_merge.specs.Pages.{pages_by, placed, joined_around, cut_at, fresh_area, protected, IsReached};
@@ -13,7 +13,8 @@ ghost use Rattle.av_merge.specs.Process.{AreAreasOf, Stays};
 use crate::cutting::split_before;
 use crate::joining::{join_around, join_at};
 use crate::placing::add;
-use av_vma::{Area, AreaId, Areas, Prot};
+use av_vma::{Area, AreaId, Areas};
+use av_base::{Prot};
 use av_vmatree::Tree;
 use std::alloc::AllocError;
 

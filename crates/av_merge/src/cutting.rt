@@ -7,7 +7,8 @@ ghost use Rattle.av_merge.specs.Pages.{pages_by, cut_at, emptied};
 ghost use Rattle.av_merge.specs.Process.{AreAreasOf, NoneCrosses, Stays};
 
 use crate::placing::{add, replace};
-use av_vma::{Area, AreaId, Areas, LOW_PAGE, TOP_PAGE, index};
+use av_vma::{Area, AreaId, Areas, index};
+use av_base::{LOW_PAGE, TOP_PAGE};
 use av_vmatree::Tree;
 use std::alloc::AllocError;
 

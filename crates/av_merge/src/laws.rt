@@ -2,7 +2,7 @@
 
 ghost use Rattle.std.specs.Prelude.{◌≡◌, ℕ, ◌-◌, List, Option, None, if◌then◌else◌};
 ghost use Rattle.av_vma.specs.declared.area.Area.{Area};
-ghost use Rattle.av_vma.specs.Ranges.{within};
+ghost use Rattle.av_base.specs.Words.{within};
 ghost use Rattle.av_vmatree.specs.declared.span.Span.{Span};
 ghost use Rattle.av_merge.specs.Laid.{AreLaid};
 ghost use Rattle.av_merge.specs.Mapping.{mapping};

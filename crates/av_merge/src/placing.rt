@@ -3,7 +3,7 @@
 ghost use Rattle.std.specs.Prelude.{◌≡◌, ℕ, None, IsSomeAnd, OnOk};
 ghost use Rattle.av_vma.specs.Areas.{area_of};
 ghost use Rattle.av_vma.specs.Join.{first_of, past_of};
-ghost use Rattle.av_vma.specs.Ranges.{with_at};
+ghost use Rattle.av_base.specs.Words.{with_at};
 ghost use Rattle.av_vmatree.specs.Spans.{IsFree, span_of, taken, without_area};
 ghost use Rattle.av_merge.specs.Pages.{pages_by, placed};
 ghost use Rattle.av_merge.specs.Process.{AreAreasOf, IsWhole, Stays};

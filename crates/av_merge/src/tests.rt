@@ -1,10 +1,11 @@
 ghost use Rattle.std.specs.Prelude.{◌<◌, ◌≤◌};
 ghost use Rattle.av_vma.specs.Areas.{area_of};
-ghost use Rattle.av_vma.specs.Gap.{low_page, top_page};
+ghost use Rattle.av_base.specs.Limits.{low_page, top_page};
 ghost use Rattle.av_merge.specs.Process.{AreAreasOf};
 
 use super::*;
-use av_vma::{Area, Areas, Prot};
+use av_vma::{Area, Areas};
+use av_base::{Prot};
 use av_vmatree::Tree;
 use std::test::Fail;
 

@@ -1,5 +1,5 @@
 use crate::{MapTable, Pte, Table, Tables};
-use av_vma::Slot;
+use av_base::Slot;
 use std::alloc::AllocError;
 
 const AWAY: Pte = Pte::Away {

@@ -3,8 +3,8 @@ use Rattle.std.proofs.Common.{◌≡◌, ℕ, zero, suc, ◌+◌, ◌-◌, ◌*�
 use Rattle.std.proofs.lemmas.Bool.Decides.{nat_tests}
 use Rattle.std.specs.Prelude.{IfSome, MatchBool, MatchOption, option_and_then, slice_index}
 use Rattle.std.specs.Ordering.{nat_cmp, eq_by_cmp}
-use Rattle.av_vma.specs.declared.area.Prot.{Prot}
-use Rattle.av_vma.specs.Ranges.{numbers, within}
+use Rattle.av_base.specs.declared.prot.Prot.{Prot}
+use Rattle.av_base.specs.Words.{numbers, within}
 use Rattle.av_vma.specs.Gap.{IsGap}
 use Rattle.av_trace.specs.declared.command.Command.{Command}
 use Rattle.av_trace.specs.declared.command.Command.TheVariants.{Spawn, Exit, Mmap, Munmap, Mprotect, Read, Write, Maps, Stat}
@@ -18,7 +18,8 @@ use Rattle.av_trace.specs.declared.reply.Row.{Row}
 use Rattle.av_trace.specs.declared.reply.Reply.{Reply}
 use Rattle.av_trace.specs.declared.reply.Answer.{Answer}
 use Rattle.av_trace.specs.declared.reply.Answer.TheVariants.{Done, Refused, Runs}
-use Rattle.av_plain.specs.World.{World, Process, Page, nothing, zeros, pages, page_of, pages_of, address_of, is_mapped, set_process, end_process, replaced, leading, protected, with_prot, written, byte_at, Shows}
+use Rattle.av_plain.specs.World.{World, Process, Page, nothing, zeros, pages, is_mapped, set_process, end_process, replaced, leading, protected, with_prot, written, byte_at, Shows}
+use Rattle.av_base.specs.Page.{page_of, pages_of, address_of}
 use Rattle.av_plain.specs.Ledger.{Ledger, Setting, Key}
 use Rattle.av_plain.specs.Event.{Event, Noted, Taken, Used, Forked, Moved, TurnedOn, TurnedOff, after, after_all, notes_of}
 use Rattle.av_plain.specs.Fault.{Accesses, GoesOn, Touches, How, Served, Denied, Starved, Lost, End, Whole, Stopped, happening, noting, touched, served, is_allowed, permits}

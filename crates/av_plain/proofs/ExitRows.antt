@@ -3,16 +3,15 @@ use Rattle.std.proofs.Common.{◌≡◌, ℕ, ◌+◌, ◌*◌, Bool, true, fals
 use Rattle.std.specs.Prelude.{drop}
 use Rattle.std.proofs.lemmas.Bool.Decides.{nat_tests}
 use Rattle.std.proofs.lemmas.Bool.{false≢true}
-use Rattle.av_vma.specs.declared.area.Prot.{Prot}
-use Rattle.av_vma.specs.Ranges.{within}
+use Rattle.av_base.specs.declared.prot.Prot.{Prot}
+use Rattle.av_base.specs.Words.{within}
 use Rattle.av_trace.specs.declared.command.Command.TheVariants.{Maps}
 use Rattle.av_trace.specs.declared.reply.Note.TheVariants.{New, Dropped}
 use Rattle.av_plain.specs.World.{Page, zeros}
 use Rattle.av_plain.specs.Event.{Noted, Taken, Used}
 use Rattle.av_plain.specs.Fault.{Served, Denied, Whole, Stopped}
 use Rattle.av_plain.specs.Transcript.{at_first}
-use Rattle.av_plain.specs.Rows.{Allows, Runs, machine, with_swap, slot, after_fork, in_writeback, paged_out, read_write, read_only, exit_frees, exit_and_again, two_runs, exit_shared, in_swap_cache, exit_drops, exit_in_writeback, exit_paged_out}
-use Rattle.av_plain.specs.Rows.{Forbids, two_protections, joined_runs, run_left_out, run_too_long}
+use Rattle.av_plain.specs.Rows.{Allows, Runs, machine, with_swap, slot, after_fork, in_writeback, paged_out, read_write, read_only, exit_frees, exit_and_again, two_runs, exit_shared, in_swap_cache, exit_drops, exit_in_writeback, exit_paged_out, Forbids, two_protections, joined_runs, run_left_out, run_too_long}
 use Rattle.av_plain.proofs.FirstRows.{by_steps, topmost, gap_below}
 
 pub exit_frees-runs : Runs 4 exit_frees

@@ -1,13 +1,12 @@
 -- Each frame is free or stands once in one of the lists, so the numbers of `stat` add up.
 use Rattle.std.proofs.Common.{◌≡◌, ℕ, zero, suc, ◌+◌, ◌-◌, ◌<◌, ◌≤◌, min, Bool, true, false, cond, ◌&&◌, List, [], ◌∷◌, length, filter, refl, sym, ap, ◌∙◌, arith, ◌==◌, nat_lt}
 use Rattle.std.proofs.lemmas.Bool.Decides.{nat_tests}
-use Rattle.av_vma.specs.Ranges.{how_many, numbers}
+use Rattle.av_base.specs.Words.{how_many, numbers, is_in}
 use Rattle.av_plain.specs.World.{World}
 use Rattle.av_plain.specs.Ledger.{Ledger, Setting, is_free, free_frames}
 use Rattle.av_plain.specs.Report.{totals}
 use Rattle.av_plain.specs.Sound.{listings, uses, IsSound}
 use Rattle.av_plain.proofs.SoundLaws.{same-itself}
-use Rattle.av_plain.specs.Stands.{is_in}
 use Rattle.av_plain.proofs.SoundChanges.{any-counts, free-is}
 
 -- ---- sums over the numbers below one

@@ -3,8 +3,8 @@ use Rattle.std.proofs.Common.{◌≡◌, ◌⊎◌, inl, inr, ℕ, zero, suc, �
 use Rattle.std.proofs.lemmas.Bool.Decides.{nat_tests}
 use Rattle.std.specs.Prelude.{MatchOption}
 use Rattle.std.specs.FinMap.Entries.{is_sorted}
-use Rattle.av_vma.specs.declared.slot.Slot.{Slot}
-use Rattle.av_vma.specs.Ranges.{how_many, numbers}
+use Rattle.av_base.specs.declared.slot.Slot.{Slot}
+use Rattle.av_base.specs.Words.{how_many, numbers, is_in}
 use Rattle.av_trace.specs.declared.command.Command.{Command}
 use Rattle.av_trace.specs.declared.command.Command.TheVariants.{Spawn, Exit, Mmap, Munmap, Mprotect, Read, Write, Maps, Stat}
 use Rattle.av_trace.specs.declared.command.Place.TheVariants.{Auto, At, Fixed, NoReplace}
@@ -13,7 +13,8 @@ use Rattle.av_trace.specs.declared.reply.OutOf.{OutOf}
 use Rattle.av_trace.specs.declared.reply.Note.{Note}
 use Rattle.av_trace.specs.declared.reply.Note.TheVariants.{Zeroed, New, Copied, Loaded, Mapped, Dropped}
 use Rattle.av_trace.specs.declared.reply.Reply.{Reply}
-use Rattle.av_plain.specs.World.{World, address_of, page_of, pages_of}
+use Rattle.av_plain.specs.World.{World}
+use Rattle.av_base.specs.Page.{address_of, page_of, pages_of}
 use Rattle.av_plain.specs.Ledger.{Ledger, Setting, Cached, same_slot, Key, key_cmp, Entry, Zero, InFrame, InSlot, entry, mapped, names_frame, slot_of, frame_at, is_free, is_full, in_flight, slot_entries, is_orphan, fresh}
 use Rattle.av_plain.specs.Event.{Event, Used, after_all, set_entry, without, mark, at, settle, not_cached, noted, taken, used, used_at}
 use Rattle.av_plain.specs.Pass.{nothing_spared, pinning, noted_all, when}
@@ -39,7 +40,6 @@ use Rattle.av_plain.proofs.SoundTaken.{excuse_of, taken-kept, taking_one-kept}
 use Rattle.av_plain.proofs.OnePage.{chosen-first}
 use Rattle.av_plain.proofs.Soundness.{step-sound, first-sound}
 use Rattle.av_plain.specs.FreeList.{ListsFree}
-use Rattle.av_plain.specs.Stands.{is_in}
 
 -- ---- changes of the list
 

@@ -1,10 +1,11 @@
 -- Ranges in order, joined where two touch and have one protection, are the longest runs.
 use Rattle.std.proofs.Common.{◌≡◌, ℕ, ◌<◌, ◌≤◌, Bool, true, false, cond, ◌&&◌, ◌||◌, if◌then◌else◌, nat_le, nat_lt, List, [], ◌∷◌, Option, Some, None, option_map, refl, ap, ◌∙◌, arith, ◌==◌}
 use Rattle.std.proofs.lemmas.Bool.Decides.{nat_tests}
-use Rattle.av_vma.specs.declared.area.Prot.{Prot}
+use Rattle.av_base.specs.declared.prot.Prot.{Prot}
 use Rattle.av_trace.specs.declared.reply.Row.{Row}
 use Rattle.av_trace.specs.declared.reply.Row.TheVariants.{Run}
-use Rattle.av_plain.specs.World.{World, Page, address_of, pages}
+use Rattle.av_plain.specs.World.{World, Page, pages}
+use Rattle.av_base.specs.Page.{address_of}
 use Rattle.av_plain.specs.Report.{prot_in_rows, AreLongestRuns, AreOnPages, AreMaps}
 use Rattle.av_plain.specs.Stands.{Range, AreApart, prot_in}
 

@@ -5,7 +5,7 @@ use Rattle.std.specs.Ordering.{is_lt, is_eq, eq_by_cmp}
 use Rattle.std.specs.Cmp.{IsTotalOrder, nat_cmp_total}
 use Rattle.std.proofs.lemmas.Cmp.{on_total, then_total}
 use Rattle.std.specs.FinMap.Entries.{find, put, where_key, below_all, is_sorted, by_order}
-use Rattle.av_vma.specs.Ranges.{how_many}
+use Rattle.av_base.specs.Words.{how_many}
 use Rattle.av_plain.specs.Ledger.{key_cmp}
 
 pub keys_total : IsTotalOrder key_cmp

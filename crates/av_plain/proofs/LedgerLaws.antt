@@ -4,7 +4,7 @@ use Rattle.std.proofs.lemmas.Bool.Decides.{nat_tests}
 use Rattle.std.specs.Ordering.{is_eq, eq_by_cmp}
 use Rattle.std.specs.Cmp.{eq_by_cmp_equiv}
 use Rattle.std.specs.FinMap.Entries.{find, where_key, is_sorted, find-put, find-where_key, is_sorted-put}
-use Rattle.av_vma.specs.Ranges.{how_many}
+use Rattle.av_base.specs.Words.{how_many}
 use Rattle.av_plain.specs.Ledger.{Key, key_cmp, Entry, Ledger, entry, mapped, names_frame}
 use Rattle.av_plain.specs.Event.{set_entry, without}
 use Rattle.av_plain.proofs.Laws.{keys_total, weight, count-put, count-without}

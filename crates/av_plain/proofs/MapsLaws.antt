@@ -1,10 +1,11 @@
 -- The longest runs of the same pages are the same.
 use Rattle.std.proofs.Common.{◌≡◌, ◌≢◌, ℕ, ◌<◌, ◌≤◌, Bool, true, false, cond, ◌&&◌, nat_le, nat_lt, List, [], ◌∷◌, Some, None, refl, sym, ap, ◌∙◌, arith, ◌==◌}
 use Rattle.std.proofs.lemmas.Bool.Decides.{nat_tests}
-use Rattle.av_vma.specs.declared.area.Prot.{Prot}
+use Rattle.av_base.specs.declared.prot.Prot.{Prot}
 use Rattle.av_trace.specs.declared.reply.Row.{Row}
 use Rattle.av_trace.specs.declared.reply.Row.TheVariants.{Run, Entry}
-use Rattle.av_plain.specs.World.{Process, address_of}
+use Rattle.av_plain.specs.World.{Process}
+use Rattle.av_base.specs.Page.{address_of}
 use Rattle.av_plain.specs.Report.{prot_in_rows, AreLongestRuns, AreOnPages, AreMaps}
 
 covers : (a b x : ℕ) → a ≤ x → x < b → (nat_le a x && nat_lt x b) ≡ true

@@ -5,8 +5,8 @@ use Rattle.std.specs.Ordering.{is_eq, is_lt, eq_by_cmp, ordering_reverse}
 use Rattle.std.specs.declared.cmp.Ordering.TheVariants.{Less, Equal, Greater}
 use Rattle.std.specs.Cmp.{IsTotalOrder, tied_itself}
 use Rattle.std.specs.FinMap.Entries.{find, where_key, is_sorted, below_all}
-use Rattle.av_vma.specs.declared.slot.Slot.{Slot}
-use Rattle.av_vma.specs.Ranges.{how_many}
+use Rattle.av_base.specs.declared.slot.Slot.{Slot}
+use Rattle.av_base.specs.Words.{how_many}
 use Rattle.av_plain.specs.Ledger.{Key, key_cmp, Entry, InFrame, InSlot, Zero, Ledger, entry, mapped, slot_entries, names_frame, names_slot, same_slot}
 use Rattle.av_plain.specs.Event.{set_entry, change_entries, put_all}
 use Rattle.av_plain.proofs.Laws.{keys_total, both_first, both_second, is_less, find_below, below_less}

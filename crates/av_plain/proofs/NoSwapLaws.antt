@@ -3,12 +3,11 @@ use Rattle.std.proofs.Common.{◌≡◌, ◌≢◌, ℕ, zero, suc, ◌+◌, ◌
 use Rattle.std.proofs.lemmas.Bool.Decides.{nat_tests}
 use Rattle.std.proofs.lemmas.Bool.{false≢true}
 use Rattle.std.specs.List.{list_any}
-use Rattle.av_vma.specs.Ranges.{numbers}
-use Rattle.av_plain.specs.World.{address_of}
+use Rattle.av_base.specs.Words.{numbers, is_in}
+use Rattle.av_base.specs.Page.{address_of}
 use Rattle.av_plain.specs.Ledger.{Ledger, Setting, Key, Cached, mapped, is_free, has_free, slot_of, cached_by}
 use Rattle.av_plain.specs.Event.{place}
 use Rattle.av_plain.specs.Fault.{is_shared, is_named}
-use Rattle.av_plain.specs.Stands.{is_in}
 use Rattle.av_plain.proofs.LedgerLaws.{same_key}
 
 pub itself : (f : ℕ) → (f == f) ≡ true

@@ -1,10 +1,11 @@
 -- What a page gets is determined: by its entry, and by the order of the free frames.
 use Rattle.std.proofs.Common.{◌≡◌, ◌⊎◌, inl, inr, ℕ, Bool, true, false, cond, if◌then◌else◌, List, [], ◌∷◌, ◌++◌, Option, Some, None, option_map, refl, sym, ap, subst, ◌∙◌, append-nil}
-use Rattle.av_vma.specs.declared.slot.Slot.{Slot}
+use Rattle.av_base.specs.declared.slot.Slot.{Slot}
 use Rattle.av_trace.specs.declared.reply.OutOf.{OutOf}
 use Rattle.av_trace.specs.declared.reply.Note.{Note}
 use Rattle.av_trace.specs.declared.reply.Note.TheVariants.{Zeroed, New, Copied, Loaded, Mapped}
-use Rattle.av_plain.specs.World.{World, address_of}
+use Rattle.av_plain.specs.World.{World}
+use Rattle.av_base.specs.Page.{address_of}
 use Rattle.av_plain.specs.Ledger.{Ledger, Setting, Key, Cached, entry, frame_at, cached_by, same_slot, is_free, has_free}
 use Rattle.av_plain.specs.Event.{Event, after, after_all, noted}
 use Rattle.av_plain.specs.Pass.{Spared, nothing_spared, pinning, noted_all, out_of}

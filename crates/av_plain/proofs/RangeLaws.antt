@@ -2,8 +2,9 @@
 use Rattle.std.proofs.Common.{◌≡◌, ◌⊎◌, inl, inr, ℕ, zero, suc, ◌+◌, ◌<◌, ◌≤◌, Bool, true, false, cond, not, ◌&&◌, ◌||◌, nat_le, nat_lt, ◌==◌, refl, sym, ap, ◌∙◌, arith, [], Option, Some, None, is_some}
 use Rattle.std.proofs.lemmas.Bool.Decides.{nat_tests}
 use Rattle.std.proofs.lemmas.Bool.{false≢true}
-use Rattle.av_vma.specs.Gap.{low_page, top_page, IsRoom}
-use Rattle.av_vma.specs.Ranges.{within}
+use Rattle.av_base.specs.Limits.{low_page, top_page}
+use Rattle.av_vma.specs.Gap.{IsRoom}
+use Rattle.av_base.specs.Words.{within}
 use Rattle.av_plain.specs.World.{World, Process, pages, is_mapped, meets, leading}
 use Rattle.av_plain.specs.Ledger.{Ledger, Entry, entry}
 use Rattle.av_plain.specs.Taking.{keys_in}

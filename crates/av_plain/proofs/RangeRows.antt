@@ -3,11 +3,12 @@ use Rattle.std.proofs.Common.{◌≡◌, ℕ, ◌+◌, ◌-◌, Bool, true, fals
 use Rattle.std.specs.Prelude.{slice_index, drop}
 use Rattle.std.proofs.lemmas.Bool.Decides.{nat_tests}
 use Rattle.std.proofs.lemmas.Bool.{false≢true}
-use Rattle.av_vma.specs.declared.area.Prot.{Prot}
-use Rattle.av_vma.specs.Ranges.{within}
+use Rattle.av_base.specs.declared.prot.Prot.{Prot}
+use Rattle.av_base.specs.Words.{within}
 use Rattle.av_trace.specs.declared.reply.Answer.TheVariants.{Done}
 use Rattle.av_trace.specs.declared.reply.Note.TheVariants.{Zeroed, New}
-use Rattle.av_plain.specs.World.{Process, Page, nothing, zeros, with_prot, replaced, protected, written, address_of}
+use Rattle.av_plain.specs.World.{Process, Page, nothing, zeros, with_prot, replaced, protected, written}
+use Rattle.av_base.specs.Page.{address_of}
 use Rattle.av_plain.specs.Event.{Noted, Taken, Used}
 use Rattle.av_plain.specs.Fault.{Served, Denied, Whole, Stopped}
 use Rattle.av_plain.specs.Transcript.{at_first}

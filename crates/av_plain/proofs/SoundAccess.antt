@@ -1,11 +1,12 @@
 -- Soundness after a read or write.
 use Rattle.std.proofs.Common.{◌≡◌, ◌⊎◌, inl, inr, ℕ, ◌<◌, Bool, true, false, cond, not, ◌&&◌, ◌||◌, nat_lt, List, [], ◌∷◌, ◌++◌, Option, Some, None, refl, sym, ap, subst, ◌∙◌, arith, ◌==◌}
 use Rattle.std.proofs.lemmas.Bool.Decides.{nat_tests}
-use Rattle.av_vma.specs.declared.slot.Slot.{Slot}
+use Rattle.av_base.specs.declared.slot.Slot.{Slot}
 use Rattle.av_trace.specs.declared.reply.OutOf.{OutOf}
 use Rattle.av_trace.specs.declared.reply.Note.{Note}
 use Rattle.av_trace.specs.declared.reply.Note.TheVariants.{New, Copied, Loaded, Mapped, Dropped}
-use Rattle.av_plain.specs.World.{World, address_of}
+use Rattle.av_plain.specs.World.{World}
+use Rattle.av_base.specs.Page.{address_of}
 use Rattle.av_plain.specs.Ledger.{Setting, Key, Entry, InFrame, InSlot, Zero, Ledger, entry, mapped, slot_entries, names_slot, same_slot, is_free, slot_of, frame_at, in_flight, is_full}
 use Rattle.av_plain.specs.Event.{Event, Used, noted, set_entry, to_inactive_head, after_all, used}
 use Rattle.av_plain.specs.Pass.{noted_all, when, Spared, nothing_spared, pinning}

@@ -3,11 +3,11 @@ use Rattle.std.proofs.Common.{◌≡◌, ℕ, zero, suc, ◌+◌, ◌<◌, ◌�
 use Rattle.std.proofs.lemmas.Bool.Decides.{nat_tests}
 use Rattle.std.specs.Ordering.{nat_cmp, eq_by_cmp}
 use Rattle.std.specs.FinMap.Entries.{find, is_sorted}
-use Rattle.av_vma.specs.declared.slot.Slot.{Slot}
-use Rattle.av_vma.specs.Ranges.{how_many}
+use Rattle.av_base.specs.declared.slot.Slot.{Slot}
+use Rattle.av_base.specs.Words.{how_many}
 use Rattle.av_plain.specs.World.{World, lives}
 use Rattle.av_plain.specs.Ledger.{Ledger, Setting, Key, key_cmp, Entry, Zero, InFrame, InSlot, entry, mapped, slot_entries, names_frame, names_slot, same_slot}
-use Rattle.av_plain.specs.Refusal.{most_processes}
+use Rattle.av_base.specs.Limits.{most_processes}
 use Rattle.av_plain.specs.Sound.{kin, AllSound}
 use Rattle.av_plain.proofs.Laws.{keys_total, both_first, both_second, find_below}
 use Rattle.av_plain.proofs.LedgerLaws.{same_key, same_key-is}

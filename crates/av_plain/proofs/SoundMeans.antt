@@ -2,8 +2,8 @@
 use Rattle.std.proofs.Common.{◌≡◌, ℕ, ◌+◌, ◌<◌, ◌≤◌, min, Bool, true, false, cond, not, ◌&&◌, ◌||◌, nat_lt, List, [], ◌∷◌, Option, Some, None, refl, ap, subst, ◌∙◌, arith, ◌==◌}
 use Rattle.std.proofs.lemmas.Bool.Decides.{nat_tests}
 use Rattle.std.specs.List.{AllByRecursion, IsDistinct}
-use Rattle.av_vma.specs.declared.slot.Slot.{Slot}
-use Rattle.av_vma.specs.Ranges.{how_many}
+use Rattle.av_base.specs.declared.slot.Slot.{Slot}
+use Rattle.av_base.specs.Words.{how_many}
 use Rattle.av_plain.specs.Ledger.{Setting, Entry, InFrame, InSlot, Zero, Ledger, Cached, mapped, slot_entries, names_frame, names_slot, same_slot, slot_of, frame_at, is_cached, is_free, is_orphan, is_unmapped, in_flight}
 use Rattle.av_plain.specs.Sound.{slots, pairs, flights, uses, kin, AllSound}
 use Rattle.av_plain.specs.Says.{same_cached, is_of, is_at_slot, SaysSound}

@@ -1,11 +1,12 @@
 -- Each entry stays at a mapped page.
 use Rattle.std.proofs.Common.{◌≡◌, ◌⊎◌, inl, inr, ℕ, Bool, true, false, cond, List, [], ◌∷◌, ◌++◌, Option, Some, None, is_some, option_map, refl, sym, ap, subst, ◌∙◌, ◌==◌}
-use Rattle.av_vma.specs.declared.slot.Slot.{Slot}
+use Rattle.av_base.specs.declared.slot.Slot.{Slot}
 use Rattle.av_trace.specs.declared.reply.OutOf.{OutOf}
 use Rattle.av_trace.specs.declared.reply.Note.{Note}
 use Rattle.av_trace.specs.declared.reply.Note.TheVariants.{Zeroed, New, Copied, Loaded, Mapped, Put, Unmapped, Started, Written, Failed, Dropped, Kept, Aged}
 use Rattle.av_trace.specs.declared.reply.Cause.TheVariants.{Writeback, Referenced, NoSlot, WriteStarted}
-use Rattle.av_plain.specs.World.{World, Page, pages, address_of}
+use Rattle.av_plain.specs.World.{World, Page, pages}
+use Rattle.av_base.specs.Page.{address_of}
 use Rattle.av_plain.specs.Ledger.{Setting, Key, key_cmp, Entry, InFrame, InSlot, Zero, Ledger, entry, slot_of, frame_at, is_free}
 use Rattle.av_plain.specs.Event.{Event, Used, place, noted, set_entry, change_entries, unseen, at, settle, unlisted, landed, to_inactive_tail, not_cached, used, used_at, mark, after_all}
 use Rattle.av_plain.specs.Pass.{noted_all, when, Spared, nothing_spared, pinning}

@@ -1,7 +1,7 @@
 -- A sound state with swap in use: a page in writeback.
 use Rattle.std.proofs.Common.{◌≡◌, ℕ, ◌+◌, ◌<◌, ◌≤◌, min, Bool, true, false, cond, ◌&&◌, Option, Some, None, is_some, refl, sym, ap, subst, ◌∙◌, arith, ◌==◌}
 use Rattle.std.proofs.lemmas.Bool.Decides.{nat_tests}
-use Rattle.av_vma.specs.declared.slot.Slot.{Slot}
+use Rattle.av_base.specs.declared.slot.Slot.{Slot}
 use Rattle.av_plain.specs.World.{pages}
 use Rattle.av_plain.specs.Ledger.{Ledger, Key, Entry, InSlot, entry, same_slot}
 use Rattle.av_plain.specs.Sound.{is_there, AllSound}

@@ -5,9 +5,9 @@ use Rattle.std.specs.Prelude.{option_and_then}
 use Rattle.std.specs.List.{list_any}
 use Rattle.std.specs.Ordering.{nat_cmp, is_eq, eq_by_cmp}
 use Rattle.std.specs.FinMap.Entries.{is_sorted, find-where_key, is_sorted-where_key}
-use Rattle.av_vma.specs.declared.slot.Slot.{Slot}
+use Rattle.av_base.specs.declared.slot.Slot.{Slot}
 use Rattle.av_trace.specs.declared.reply.Note.TheVariants.{Dropped}
-use Rattle.av_vma.specs.Ranges.{how_many}
+use Rattle.av_base.specs.Words.{how_many}
 use Rattle.av_plain.specs.World.{World, Process, process, pages, end_process}
 use Rattle.av_plain.specs.Ledger.{Setting, Key, key_cmp, Entry, InFrame, InSlot, Zero, Ledger, entry, mapped, slot_entries, names_frame, names_slot, same_slot, slot_of, frame_at, is_orphan, is_unmapped, in_flight}
 use Rattle.av_plain.specs.Event.{settle_entry, taken, after_all}

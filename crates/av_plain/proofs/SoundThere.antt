@@ -1,11 +1,12 @@
 -- Each slot in use stays a slot of an area that is on: an access brings none into use.
 use Rattle.std.proofs.Common.{◌≡◌, ◌⊎◌, inl, inr, ℕ, ◌+◌, ◌<◌, Bool, true, false, cond, not, ◌&&◌, ◌||◌, if◌then◌else◌, T, List, [], ◌∷◌, ◌++◌, Option, Some, None, refl, sym, ap, subst, ◌∙◌, arith, ◌==◌}
 use Rattle.std.specs.FinMap.Entries.{is_sorted}
-use Rattle.av_vma.specs.declared.slot.Slot.{Slot}
+use Rattle.av_base.specs.declared.slot.Slot.{Slot}
 use Rattle.av_trace.specs.declared.reply.Note.{Note}
 use Rattle.av_trace.specs.declared.reply.Note.TheVariants.{Zeroed, New, Copied, Loaded, Mapped, Put, Unmapped, Started, Written, Failed, Dropped, Kept, Aged}
-use Rattle.av_vma.specs.Ranges.{how_many}
-use Rattle.av_plain.specs.World.{World, address_of}
+use Rattle.av_base.specs.Words.{how_many}
+use Rattle.av_plain.specs.World.{World}
+use Rattle.av_base.specs.Page.{address_of}
 use Rattle.av_plain.specs.Ledger.{Ledger, Setting, Key, key_cmp, Entry, Zero, InFrame, InSlot, Cached, entry, slot_entries, names_slot, same_slot, slot_of, frame_at, in_flight, is_free, is_full}
 use Rattle.av_plain.specs.Event.{Event, Used, place, set_entry, unlisted, settle, mark, not_cached, at, noted, used, used_at, after_all}
 use Rattle.av_plain.specs.Pass.{noted_all, when, Spared, nothing_spared, pinning}

@@ -4,8 +4,8 @@ use Rattle.std.proofs.lemmas.Bool.Decides.{nat_tests}
 use Rattle.std.specs.Prelude.{MatchOption, option_and_then}
 use Rattle.std.specs.Ordering.{nat_cmp, is_lt, eq_by_cmp}
 use Rattle.std.specs.FinMap.Entries.{find, is_sorted, below_all}
-use Rattle.av_vma.specs.declared.slot.Slot.{Slot}
-use Rattle.av_vma.specs.Ranges.{within}
+use Rattle.av_base.specs.declared.slot.Slot.{Slot}
+use Rattle.av_base.specs.Words.{within}
 use Rattle.av_trace.specs.declared.command.Command.{Command}
 use Rattle.av_trace.specs.declared.command.Command.TheVariants.{Spawn, Exit, Mmap, Munmap, Mprotect, Read, Write, Maps, Stat}
 use Rattle.av_trace.specs.declared.command.Place.{Place}
@@ -17,11 +17,13 @@ use Rattle.av_trace.specs.declared.reply.Row.{Row}
 use Rattle.av_trace.specs.declared.reply.Reply.{Reply}
 use Rattle.av_trace.specs.declared.reply.Answer.{Answer}
 use Rattle.av_trace.specs.declared.reply.Answer.TheVariants.{Done, Refused}
-use Rattle.av_plain.specs.World.{World, Process, Page, nothing, zeros, process, lives, pages, page_of, pages_of, address_of, set_process, end_process, replaced, leading, protected, with_prot, written}
+use Rattle.av_plain.specs.World.{World, Process, Page, nothing, zeros, process, lives, pages, set_process, end_process, replaced, leading, protected, with_prot, written}
+use Rattle.av_base.specs.Page.{page_of, pages_of, address_of}
 use Rattle.av_plain.specs.Ledger.{Ledger, Setting, Entry, entry, fresh}
 use Rattle.av_plain.specs.Event.{Event, Noted, Taken, Used, Forked, Moved, TurnedOn, TurnedOff, after, after_all}
 use Rattle.av_plain.specs.Fault.{Accesses, End, touched}
-use Rattle.av_plain.specs.Refusal.{tests, refusal, wraps, most_processes}
+use Rattle.av_plain.specs.Refusal.{tests, refusal, wraps}
+use Rattle.av_base.specs.Limits.{most_processes}
 use Rattle.av_plain.specs.Step.{IsLegal, Follows, Refuses, Goes, IsMapAt, clearing, protected_to_the_hole, is_of_slot, unknown, unclaimed, told, forgotten, with_loads, first_bytes, stored, next, next_world}
 use Rattle.av_plain.specs.Taking.{keys_in, taking}
 use Rattle.av_plain.specs.Transcript.{Exchange, IsLegalFrom, State, IsStep, IsRun, at_first}

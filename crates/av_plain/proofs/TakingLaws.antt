@@ -6,8 +6,8 @@ use Rattle.std.specs.List.{list_any}
 use Rattle.std.specs.declared.cmp.Ordering.TheVariants.{Less}
 use Rattle.std.specs.Ordering.{is_eq}
 use Rattle.std.specs.FinMap.Entries.{find, where_key, is_sorted, find-where_key, is_sorted-where_key}
-use Rattle.av_vma.specs.declared.slot.Slot.{Slot}
-use Rattle.av_vma.specs.Ranges.{how_many, within}
+use Rattle.av_base.specs.declared.slot.Slot.{Slot}
+use Rattle.av_base.specs.Words.{how_many, within}
 use Rattle.av_trace.specs.declared.reply.Note.TheVariants.{Dropped}
 use Rattle.av_plain.specs.Ledger.{Ledger, Key, key_cmp, Entry, Zero, InFrame, InSlot, entry, mapped, slot_entries, names_frame, names_slot, is_free, is_orphan, frame_at, slot_of}
 use Rattle.av_plain.specs.Event.{Taken, after, after_all, settle, settle_entry, unlisted, not_cached, at, frame_of, taken}

@@ -3,7 +3,7 @@ use Rattle.std.proofs.Common.{◌≡◌, ℕ, ◌+◌, ◌-◌, ◌*◌, ◌<◌
 use Rattle.std.proofs.lemmas.Bool.Decides.{nat_tests}
 use Rattle.std.proofs.lemmas.List.{get_or_append_left, get_or-append_right}
 use Rattle.av_plain.specs.World.{Process, Page, written}
-use Rattle.av_vma.specs.Ranges.{within}
+use Rattle.av_base.specs.Words.{within}
 
 at_byte : (a x : ℕ) (xs ys : List ℕ) (b : Option ℕ)
     → cond (within (a + length xs) (length ys) x) (Some (get_or ys (x - (a + length xs)) 0)) (cond (within a (length xs) x) (Some (get_or xs (x - a) 0)) b)

@@ -2,7 +2,7 @@
 use Rattle.std.proofs.Common.{◌≡◌, ℕ, suc, ◌+◌, Bool, true, false, cond, ◌||◌, T, List, [], ◌∷◌, map, length, filter, Option, Some, None, refl, ap, ◌∙◌, arith}
 use Rattle.std.specs.List.{list_any}
 use Rattle.std.specs.FinMap.Entries.{find, is_sorted}
-use Rattle.av_vma.specs.Ranges.{how_many}
+use Rattle.av_base.specs.Words.{how_many}
 use Rattle.av_plain.specs.Ledger.{Key, key_cmp, Entry, Ledger, entry, walk, mapped, names_frame}
 use Rattle.av_plain.proofs.Laws.{keys_total, both_first, both_second, find_below}
 use Rattle.av_plain.proofs.LedgerLaws.{same_key, same_key-is}

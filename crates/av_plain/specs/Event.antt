@@ -2,12 +2,12 @@
 use Rattle.std.specs.Prelude.{ℕ, ◌+◌, ◌-◌, Bool, true, false, not, ◌&&◌, ◌==◌, if◌then◌else◌, List, [], ◌∷◌, ◌++◌, map, filter, fold, Option, Some, None}
 use Rattle.std.specs.Ordering.{nat_cmp}
 use Rattle.std.specs.FinMap.Entries.{put, where_key}
-use Rattle.av_vma.specs.declared.slot.Slot.{Slot}
+use Rattle.av_base.specs.declared.slot.Slot.{Slot}
 use Rattle.av_trace.specs.declared.reply.Note.{Note}
 use Rattle.av_trace.specs.declared.reply.Note.TheVariants.{Zeroed, New, Copied, Loaded, Mapped, Put, Unmapped, Started, Written, Failed, Dropped, Kept, Aged}
 use Rattle.av_trace.specs.declared.reply.Cause.TheVariants.{Writeback, Referenced, NoSlot, WriteStarted}
-use Rattle.av_plain.specs.World.{page_of}
-use Rattle.av_vma.specs.Ranges.{within}
+use Rattle.av_base.specs.Page.{page_of}
+use Rattle.av_base.specs.Words.{within}
 use Rattle.av_plain.specs.Ledger.{Ledger, Cached, Key, key_cmp, Entry, Zero, InFrame, InSlot, entry, names_frame, slot_of, frame_at, same_slot, is_free}
 
 -- what may happen to the ledger

@@ -1,11 +1,12 @@
 -- How a read or write is served, page by page: which notes come, and where it stops.
 use Rattle.std.specs.Prelude.{◌≡◌, ◌⊎◌, ℕ, ◌+◌, ◌-◌, ◌*◌, ◌%◌, ◌<◌, Bool, true, false, not, ◌&&◌, ◌||◌, ◌==◌, nat_lt, if◌then◌else◌, IsTrue, List, [], ◌∷◌, ◌++◌, map, Option, Some, None}
-use Rattle.av_vma.specs.declared.slot.Slot.{Slot}
+use Rattle.av_base.specs.declared.slot.Slot.{Slot}
 use Rattle.av_trace.specs.declared.reply.OutOf.{OutOf}
 use Rattle.av_trace.specs.declared.reply.Note.{Note}
 use Rattle.av_trace.specs.declared.reply.Note.TheVariants.{Zeroed, New, Copied, Loaded, Mapped, Failed, Dropped}
-use Rattle.av_vma.specs.Ranges.{how_many, numbers}
-use Rattle.av_plain.specs.World.{World, Page, pages, allows, page_of, pages_of, address_of}
+use Rattle.av_base.specs.Words.{how_many, numbers}
+use Rattle.av_plain.specs.World.{World, Page, pages, allows}
+use Rattle.av_base.specs.Page.{page_of, pages_of, address_of}
 use Rattle.av_plain.specs.Ledger.{Ledger, Setting, Key, Entry, Zero, InFrame, InSlot, entry, mapped, slot_entries, slot_of, frame_at, in_flight, is_free, has_free, is_full}
 use Rattle.av_plain.specs.Event.{Event, Noted, Used, after_all}
 use Rattle.av_plain.specs.Pass.{noted_all, when, Spared, nothing_spared, pinning, Seeks, out_of}

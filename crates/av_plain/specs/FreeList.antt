@@ -1,6 +1,6 @@
 -- The list from which frames are taken.
 use Rattle.std.specs.Prelude.{◌≡◌, ℕ, ◌&&◌, ◌==◌, nat_lt, if◌then◌else◌, List}
-use Rattle.av_vma.specs.Ranges.{how_many}
+use Rattle.av_base.specs.Words.{how_many}
 use Rattle.av_plain.specs.Ledger.{Ledger, Setting, is_free}
 
 -- the list has each free frame of the machine once, and no other number

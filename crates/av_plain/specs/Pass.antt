@@ -1,10 +1,10 @@
 -- What comes before a frame can be had: writes that end, and the pass over all frames where none is free. And what an out-of-memory says.
 use Rattle.std.specs.Prelude.{◌≡◌, ℕ, Bool, true, false, not, ◌&&◌, ◌||◌, ◌==◌, if◌then◌else◌, IsTrue, MatchBool, List, [], ◌∷◌, ◌++◌, reverse, Option, Some, None, is_some, is_none, MatchOption}
-use Rattle.av_vma.specs.declared.slot.Slot.{Slot}
+use Rattle.av_base.specs.declared.slot.Slot.{Slot}
 use Rattle.av_trace.specs.declared.reply.OutOf.{OutOf}
 use Rattle.av_trace.specs.declared.reply.Note.{Note}
 use Rattle.av_trace.specs.declared.reply.Note.TheVariants.{Put, Unmapped, Started, Written, Failed, Dropped}
-use Rattle.av_vma.specs.Ranges.{how_many, numbers}
+use Rattle.av_base.specs.Words.{how_many, numbers}
 use Rattle.av_plain.specs.Ledger.{Ledger, Setting, mapped, slot_of, is_stale, is_orphan, has_free, no_slot, may_give}
 use Rattle.av_plain.specs.Event.{noted, without}
 

@@ -1,22 +1,19 @@
 -- Which commands are refused, and with which error: the first test that holds, in one order for each command.
 use Rattle.std.specs.Prelude.{ℕ, ◌+◌, ◌*◌, ◌^◌, Bool, not, ◌||◌, ◌==◌, nat_lt, nat_le, if◌then◌else◌, List, [], ◌∷◌, ◌++◌, length, Option, Some, None}
-use Rattle.av_vma.specs.Gap.{low_page, top_page}
+use Rattle.av_base.specs.Limits.{low_page, top_page, most_processes}
 use Rattle.av_trace.specs.declared.reply.Errno.{Errno}
 use Rattle.av_trace.specs.declared.reply.Errno.TheVariants.{Eperm, Esrch, Eagain, Enomem, Eexist, Einval}
 use Rattle.av_trace.specs.declared.command.Place.{Place}
 use Rattle.av_trace.specs.declared.command.Place.TheVariants.{Auto, At, Fixed, NoReplace}
 use Rattle.av_trace.specs.declared.command.Command.{Command}
 use Rattle.av_trace.specs.declared.command.Command.TheVariants.{Spawn, Exit, Mmap, Munmap, Mprotect, Read, Write, Maps, Stat}
-use Rattle.av_plain.specs.World.{World, Process, page_of, pages_of, address_of, is_on_page, lives, pages, meets}
+use Rattle.av_plain.specs.World.{World, Process, lives, pages, meets}
+use Rattle.av_base.specs.Page.{page_of, pages_of, address_of, is_on_page}
 use Rattle.av_plain.specs.Ledger.{Ledger, Setting}
 
 -- tests in order, each with the error that it leads to
 abbrev pub Tests : Type 0
 Tests = List (Bool × Errno)
-
--- at most so many processes live
-abbrev pub most_processes : ℕ
-most_processes = 4096
 
 -- the process does not live
 abbrev pub no_process : World → ℕ → Bool × Errno

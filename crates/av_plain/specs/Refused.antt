@@ -1,11 +1,12 @@
 -- What a command that is refused may have changed.
 use Rattle.std.specs.Prelude.{◌≡◌, ℕ, ◌<◌, Bool, true, false}
-use Rattle.av_vma.specs.declared.area.Prot.{Prot}
+use Rattle.av_base.specs.declared.prot.Prot.{Prot}
 use Rattle.av_trace.specs.declared.command.Command.{Command}
 use Rattle.av_trace.specs.declared.command.Command.TheVariants.{Mprotect}
 use Rattle.av_trace.specs.declared.reply.Errno.{Errno}
 use Rattle.av_trace.specs.declared.reply.Errno.TheVariants.{Enomem}
-use Rattle.av_plain.specs.World.{World, page_of, pages_of, pages, leading}
+use Rattle.av_plain.specs.World.{World, pages, leading}
+use Rattle.av_base.specs.Page.{page_of, pages_of}
 use Rattle.av_plain.specs.Refusal.{wraps}
 use Rattle.av_plain.specs.Step.{protected_to_the_hole}
 

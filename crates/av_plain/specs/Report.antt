@@ -1,10 +1,11 @@
 -- Reports: the runs of `maps`, and the numbers of `stat`.
 use Rattle.std.specs.Prelude.{◌≡◌, ℕ, ◌<◌, ◌≤◌, ◌&&◌, nat_lt, nat_le, if◌then◌else◌, List, [], ◌∷◌, length, sum_by, Option, Some, None, option_map}
-use Rattle.av_vma.specs.declared.area.Prot.{Prot}
+use Rattle.av_base.specs.declared.prot.Prot.{Prot}
 use Rattle.av_trace.specs.declared.reply.Row.{Row}
 use Rattle.av_trace.specs.declared.reply.Row.TheVariants.{Run, Entry}
 use Rattle.av_trace.specs.declared.reply.Totals.{Totals}
-use Rattle.av_plain.specs.World.{World, Process, Page, address_of}
+use Rattle.av_plain.specs.World.{World, Process, Page}
+use Rattle.av_base.specs.Page.{address_of}
 use Rattle.av_plain.specs.Ledger.{Ledger, Setting, Area, free_frames, free_slots}
 
 -- ---- maps

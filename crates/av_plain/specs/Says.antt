@@ -3,10 +3,10 @@ use Rattle.std.specs.Prelude.{◌≡◌, ℕ, ◌<◌, ◌≤◌, Bool, true, fa
 use Rattle.std.specs.Ordering.{nat_cmp}
 use Rattle.std.specs.List.{AllByRecursion, IsDistinct}
 use Rattle.std.specs.FinMap.Entries.{is_sorted}
-use Rattle.av_vma.specs.declared.slot.Slot.{Slot}
-use Rattle.av_vma.specs.Ranges.{how_many}
+use Rattle.av_base.specs.declared.slot.Slot.{Slot}
+use Rattle.av_base.specs.Words.{how_many}
 use Rattle.av_plain.specs.World.{World, pages}
-use Rattle.av_plain.specs.Refusal.{most_processes}
+use Rattle.av_base.specs.Limits.{most_processes}
 use Rattle.av_plain.specs.Ledger.{Ledger, Setting, Key, key_cmp, Entry, Cached, entry, mapped, slot_entries, slot_of, is_cached, is_free, is_orphan, names_frame, names_slot, same_slot}
 
 -- an entry names the slot, if there is one

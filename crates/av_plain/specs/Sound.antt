@@ -2,10 +2,10 @@
 use Rattle.std.specs.Prelude.{◌≡◌, ℕ, ◌+◌, ◌<◌, ◌≤◌, min, Bool, true, false, ◌&&◌, ◌==◌, nat_lt, Some, is_some, T, length}
 use Rattle.std.specs.Ordering.{nat_cmp}
 use Rattle.std.specs.FinMap.Entries.{is_sorted}
-use Rattle.av_vma.specs.declared.slot.Slot.{Slot}
-use Rattle.av_vma.specs.Ranges.{how_many}
+use Rattle.av_base.specs.declared.slot.Slot.{Slot}
+use Rattle.av_base.specs.Words.{how_many}
 use Rattle.av_plain.specs.World.{World, pages}
-use Rattle.av_plain.specs.Refusal.{most_processes}
+use Rattle.av_base.specs.Limits.{most_processes}
 use Rattle.av_plain.specs.Ledger.{is_on, size_of, is_usable, Ledger, Setting, key_cmp, Entry, Zero, InFrame, InSlot, Cached, entry, mapped, slot_entries, same_slot}
 
 -- how often a slot is cached

@@ -1,10 +1,10 @@
 -- What the kernel has to do with the memories and the ledger. The kernel is seen by what its parts answer: a view.
 use Rattle.std.specs.Prelude.{◌≡◌, ℕ, ◌<◌, ◌≤◌, Bool, true, false, ◌&&◌, ◌==◌, nat_lt, nat_le, if◌then◌else◌, List, [], ◌∷◌, length, Option, Some, None, is_some, option_map, IfSome}
 use Rattle.std.specs.Ordering.{nat_cmp}
-use Rattle.std.specs.List.{list_any}
+use Rattle.av_base.specs.Words.{is_in}
 use Rattle.std.specs.FinMap.Entries.{find}
-use Rattle.av_vma.specs.declared.area.Prot.{Prot}
-use Rattle.av_vma.specs.declared.slot.Slot.{Slot}
+use Rattle.av_base.specs.declared.prot.Prot.{Prot}
+use Rattle.av_base.specs.declared.slot.Slot.{Slot}
 use Rattle.av_plain.specs.World.{World, Page, lives, pages}
 use Rattle.av_plain.specs.Ledger.{Ledger, Setting, Header, Area, Entry, Zero, InFrame, InSlot, entry, mapped, slot_entries, slot_of, frame_at, is_stale, in_flight, is_free, names_frame}
 use Rattle.av_plain.specs.Fault.{is_shared}
@@ -51,10 +51,6 @@ abbrev pub Device : Type 0
 Device = Option (Slot → ℕ → ℕ)
 
 -- ---- the frames
-
--- whether the frame is in the list
-abbrev pub is_in : ℕ → List ℕ → Bool
-is_in f fs = list_any (λ g. f == g) fs
 
 -- each frame has the counts, the slot and the freeness that the ledger gives it
 pub record FramesStand (m : Setting) (v : View) (l : Ledger) : Type 0 where

@@ -1,8 +1,9 @@
 -- What one command may answer, and the memories and the ledger after it.
 use Rattle.std.specs.Prelude.{◌≡◌, ℕ, ◌+◌, List, [], ◌∷◌, length, map, take, Option, Some, None, is_some, option_map, MatchOption, MatchBool, if◌then◌else◌, Bool, true, false, not, ◌&&◌, ◌==◌, nat_le}
-use Rattle.av_vma.specs.declared.slot.Slot.{Slot}
-use Rattle.av_vma.specs.declared.area.Prot.{Prot}
-use Rattle.av_vma.specs.Gap.{IsGap, low_page, top_page}
+use Rattle.av_base.specs.declared.slot.Slot.{Slot}
+use Rattle.av_base.specs.declared.prot.Prot.{Prot}
+use Rattle.av_vma.specs.Gap.{IsGap}
+use Rattle.av_base.specs.Limits.{low_page, top_page}
 use Rattle.av_trace.specs.declared.reply.Errno.{Errno}
 use Rattle.av_trace.specs.declared.reply.Errno.TheVariants.{Eio, Enomem}
 use Rattle.av_trace.specs.declared.reply.Note.TheVariants.{Loaded}
@@ -14,7 +15,8 @@ use Rattle.av_trace.specs.declared.command.Place.{Place}
 use Rattle.av_trace.specs.declared.command.Place.TheVariants.{Auto, At, Fixed, NoReplace}
 use Rattle.av_trace.specs.declared.command.Command.{Command}
 use Rattle.av_trace.specs.declared.command.Command.TheVariants.{Spawn, Exit, Mmap, Munmap, Mprotect, Read, Write, Maps, Stat}
-use Rattle.av_plain.specs.World.{World, Process, Page, nothing, zeros, page_of, pages_of, address_of, pages, is_mapped, meets, leading, set_process, end_process, replaced, protected, written, Shows}
+use Rattle.av_plain.specs.World.{World, Process, Page, nothing, zeros, pages, is_mapped, meets, leading, set_process, end_process, replaced, protected, written, Shows}
+use Rattle.av_base.specs.Page.{page_of, pages_of, address_of}
 use Rattle.av_plain.specs.Ledger.{Ledger, Setting, Entry, entry, names_slot}
 use Rattle.av_plain.specs.Event.{Event, Noted, after, notes_of}
 use Rattle.av_plain.specs.Fault.{Accesses, End, Whole, Stopped, Served, Denied, Starved, Lost, served, touched, fails}

@@ -1,7 +1,7 @@
 -- Entries taken away one by one, as a process goes or a range is unmapped.
 use Rattle.std.specs.Prelude.{ℕ, ◌==◌, List, [], ◌∷◌, ◌++◌, map, filter, Option, Some, None}
-use Rattle.av_vma.specs.declared.slot.Slot.{Slot}
-use Rattle.av_vma.specs.Ranges.{within}
+use Rattle.av_base.specs.declared.slot.Slot.{Slot}
+use Rattle.av_base.specs.Words.{within}
 use Rattle.av_trace.specs.declared.reply.Note.TheVariants.{Dropped}
 use Rattle.av_plain.specs.Ledger.{Ledger, Key, Entry, entry, is_orphan}
 use Rattle.av_plain.specs.Event.{Event, Taken, after, after_all, slot_behind}

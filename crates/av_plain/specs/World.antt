@@ -2,26 +2,9 @@
 use Rattle.std.specs.Prelude.{◌≡◌, ℕ, zero, suc, ◌+◌, ◌-◌, ◌*◌, ◌/◌, ◌%◌, Bool, true, false, not, ◌||◌, ◌==◌, if◌then◌else◌, List, [], ◌∷◌, length, slice_index, Option, Some, None, is_some, option_map, option_and_then, IfSome}
 use Rattle.std.specs.Ordering.{nat_cmp}
 use Rattle.std.specs.FinMap.Entries.{find, put, where_key}
-use Rattle.av_vma.specs.declared.area.Prot.{Prot}
-use Rattle.av_vma.specs.Ranges.{within}
-
--- ---- addresses and pages of 4096 bytes
-
--- the page of an address
-abbrev pub page_of : ℕ → ℕ
-page_of address = address / 4096
-
--- the first address of a page
-abbrev pub address_of : ℕ → ℕ
-address_of page = 4096 * page
-
--- a length rounded up to whole pages
-abbrev pub pages_of : ℕ → ℕ
-pages_of len = (len + 4095) / 4096
-
--- whether an address is the first of a page
-abbrev pub is_on_page : ℕ → Bool
-is_on_page address = address % 4096 == 0
+use Rattle.av_base.specs.declared.prot.Prot.{Prot}
+use Rattle.av_base.specs.Words.{within}
+use Rattle.av_base.specs.Page.{page_of, address_of}
 
 -- ---- worlds
 

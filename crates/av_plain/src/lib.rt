@@ -7,7 +7,7 @@
 mod rows;
 
 ghost use Rattle.std.specs.Prelude.{◌≡◌, ◌⊎◌, ℕ, ◌+◌, false, List, []};
-ghost use Rattle.av_vma.specs.declared.area.Prot.{Prot};
+ghost use Rattle.av_base.specs.declared.prot.Prot.{Prot};
 ghost use Rattle.av_trace.specs.declared.command.Command.{Command};
 ghost use Rattle.av_trace.specs.declared.command.Command.TheVariants.{Mprotect};
 ghost use Rattle.av_trace.specs.declared.reply.Errno.{Errno};

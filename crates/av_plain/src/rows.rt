@@ -11,17 +11,7 @@ ghost use Rattle.av_plain.specs.Ledger.{InFrame, fresh};
 ghost use Rattle.av_plain.specs.Event.{Noted};
 ghost use Rattle.av_plain.specs.Choice.{ChoosesAll};
 ghost use Rattle.av_plain.specs.Sound.{AllSound};
-ghost use Rattle.av_plain.specs.Rows.{Allows, Runs, Leads, machine, with_swap, untold};
-ghost use Rattle.av_plain.specs.Rows.{first_run, zero_first, one_frame, part_denied, two_processes, readable, refusals, all_mapped};
-ghost use Rattle.av_plain.specs.Rows.{crowd, crowded, after_fork, copies, no_copy};
-ghost use Rattle.av_plain.specs.Rows.{paged_out, loads, load_to_write, load_when_full, load_when_half_full, no_load, in_writeback, maps_again, slot_shared, load_and_copy, load_without_copy, load_unclaimed};
-ghost use Rattle.av_plain.specs.Rows.{Rejects, Refutes, Forbids, answered, read_write, slot, empty, untouched, in_swap_cache};
-ghost use Rattle.av_plain.specs.Rows.{wrong_frame, wrong_place, written_in_vain, refused_write, denied_write, leaked, wrong_load};
-ghost use Rattle.av_plain.specs.Rows.{ledger_with, out_and_back, copied_and_gone, taken_and_freed, orphan};
-ghost use Rattle.av_plain.specs.Rows.{exit_frees, exit_and_again, two_runs, exit_shared, exit_drops, exit_in_writeback, exit_paged_out};
-ghost use Rattle.av_plain.specs.Rows.{Only, numbers_of, one_written, all_gone, two_protections};
-ghost use Rattle.av_plain.specs.Rows.{protected_part, past_a_hole, places, range_refusals, fixed_over, page_gone, page_anew, read_only};
-ghost use Rattle.av_plain.specs.Rows.{split_run, joined_runs, run_left_out, run_too_long, falling_runs, part_of_page};
+ghost use Rattle.av_plain.specs.Rows.{Allows, Runs, Leads, machine, with_swap, untold, first_run, zero_first, one_frame, part_denied, two_processes, readable, refusals, all_mapped, crowd, crowded, after_fork, copies, no_copy, paged_out, loads, load_to_write, load_when_full, load_when_half_full, no_load, in_writeback, maps_again, slot_shared, load_and_copy, load_without_copy, load_unclaimed, Rejects, Refutes, Forbids, answered, read_write, slot, empty, untouched, in_swap_cache, wrong_frame, wrong_place, written_in_vain, refused_write, denied_write, leaked, wrong_load, ledger_with, out_and_back, copied_and_gone, taken_and_freed, orphan, exit_frees, exit_and_again, two_runs, exit_shared, exit_drops, exit_in_writeback, exit_paged_out, Only, numbers_of, one_written, all_gone, two_protections, protected_part, past_a_hole, places, range_refusals, fixed_over, page_gone, page_anew, read_only, split_run, joined_runs, run_left_out, run_too_long, falling_runs, part_of_page};
 
 /// Runs from nothing on.
 pub fn rows_run()

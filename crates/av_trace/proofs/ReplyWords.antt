@@ -6,8 +6,8 @@ use Rattle.std.specs.Fmt.{decimal, digit_glyph}
 use Rattle.std.proofs.lemmas.List.{drop_at}
 use Rattle.std.proofs.lemmas.Str.Parse.{not_in_digits}
 use Rattle.std.proofs.lemmas.Fmt.{digits_decimal}
-use Rattle.av_vma.specs.declared.area.Prot.{Prot}
-use Rattle.av_vma.specs.declared.slot.Slot.{Slot}
+use Rattle.av_base.specs.declared.prot.Prot.{Prot}
+use Rattle.av_base.specs.declared.slot.Slot.{Slot}
 use Rattle.av_trace.specs.declared.reply.Errno.{Errno}
 use Rattle.av_trace.specs.declared.reply.Errno.TheVariants as errors
 use Rattle.av_trace.specs.declared.reply.Cause.{Cause}

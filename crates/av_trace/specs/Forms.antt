@@ -1,7 +1,7 @@
 -- Which replies a command may have. Every number is below 2 ^ 64, and every byte below 256.
 use Rattle.std.specs.Prelude.{◌≡◌, ℕ, ◌≤◌, List, [], length}
 use Rattle.std.specs.List.{AllByRecursion}
-use Rattle.av_vma.specs.declared.slot.Slot.{Slot}
+use Rattle.av_base.specs.declared.slot.Slot.{Slot}
 use Rattle.av_trace.specs.declared.command.Command.{Command}
 use Rattle.av_trace.specs.declared.command.Command.TheVariants as commands
 use Rattle.av_trace.specs.declared.reply.OutOf.{OutOf}

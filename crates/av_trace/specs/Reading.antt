@@ -3,7 +3,7 @@ use Rattle.std.specs.Prelude.{length, ℕ, List, [], ◌∷◌, take, drop, code
 use Rattle.std.specs.List.{position_or_len}
 use Rattle.std.specs.Str.{all_ascii_digits, bytes_eq}
 use Rattle.std.specs.Str.Parse.{digits_value}
-use Rattle.av_vma.specs.declared.area.Prot.{Prot}
+use Rattle.av_base.specs.declared.prot.Prot.{Prot}
 use Rattle.av_trace.specs.declared.command.Place.{Place}
 use Rattle.av_trace.specs.declared.command.Place.TheVariants as places
 use Rattle.av_trace.specs.declared.command.Command.{Command}

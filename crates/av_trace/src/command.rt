@@ -1,7 +1,7 @@
 //! What a line asks for.
 
 use crate::bytes::Bytes;
-use av_vma::Prot;
+use av_base::Prot;
 
 /// Where `mmap` puts the pages.
 #[derive(Clone, Copy, Drop, Debug, PartialEq, Eq)]

@@ -7,7 +7,7 @@ ghost use Rattle.av_trace.specs.Reading.{word_len, word_at, has_plain_start, val
 
 use crate::bytes::Bytes;
 use crate::command::Place;
-use av_vma::Prot;
+use av_base::Prot;
 use std::alloc::{AllocError, Global};
 
 /// How many bytes stand before the first space.

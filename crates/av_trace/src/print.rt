@@ -14,7 +14,7 @@ use crate::reply::{Answer, Cause, Errno, Note, OutOf, Reply, Row, Totals};
 use crate::words::{
     add_address, add_bytes, add_labelled, add_number, add_prot, add_slot, add_word, decimal, hex,
 };
-use av_vma::Slot;
+use av_base::Slot;
 use std::alloc::AllocError;
 
 fn add_errno(text: &mut Bytes, error: Errno) -> Result<(), AllocError>

@@ -3,7 +3,7 @@
 ghost use Rattle.std.specs.Prelude.{◌≡◌, List, [], ◌∷◌, ◌++◌, length, OnOk, OnErr};
 
 use crate::bytes::Bytes;
-use av_vma::{Prot, Slot};
+use av_base::{Prot, Slot};
 use std::alloc::{AllocError, Global};
 use std::marker::Model;
 

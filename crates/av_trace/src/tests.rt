@@ -1,5 +1,5 @@
 use super::*;
-use av_vma::{Prot, Slot};
+use av_base::{Prot, Slot};
 use std::alloc::{AllocError, Global};
 use std::test::*;
 

@@ -6,7 +6,7 @@ ghost use Rattle.av_trace.specs.Grammar.{hex as hex_digits_of, hex_text, prot_te
 ghost use Rattle.av_trace.specs.Text.{slot_text, labelled as labelled_text};
 
 use crate::bytes::Bytes;
-use av_vma::{Prot, Slot};
+use av_base::{Prot, Slot};
 use itoa::Buffer;
 use std::alloc::AllocError;
 

@@ -1,13 +1,6 @@
--- The gap rule: where a mapping goes that names no address. All is in pages of 4096 bytes.
+-- The gap rule: where a mapping goes that names no address. All is in pages.
 use Rattle.std.specs.Prelude.{◌≡◌, ℕ, ◌+◌, ◌<◌, ◌≤◌, Bool, false, Option, Some, None}
-
--- the lowest page that can be mapped
-abbrev pub low_page : ℕ
-low_page = 16
-
--- the first page that no process can have
-abbrev pub top_page : ℕ
-top_page = 0x7ffffffff
+use Rattle.av_base.specs.Limits.{low_page, top_page}
 
 -- the n pages from this one on are free, and a process may have them
 pub record IsRoom (is_taken : ℕ → Bool) (n page : ℕ) : Type 0 where

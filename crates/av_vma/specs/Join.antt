@@ -1,15 +1,16 @@
 -- The linear index of a page, and when two areas are one.
 use Rattle.std.specs.Prelude.{ℕ, ◌+◌, ◌-◌, ◌/◌, Bool, true, ◌&&◌, ◌==◌, Option, Some, None}
 use Rattle.std.proofs.Math.Bool.{beq}
-use Rattle.av_vma.specs.declared.area.Prot.{Prot}
+use Rattle.av_base.specs.Page.{page_of}
+use Rattle.av_base.specs.declared.prot.Prot.{Prot}
 use Rattle.av_vma.specs.declared.area.Area.{Area}
 
 -- the first page of an area, and the first one past it
 abbrev pub first_of : Area → ℕ
-first_of area = area.start / 4096
+first_of area = page_of area.start
 
 abbrev pub past_of : Area → ℕ
-past_of area = area.end / 4096
+past_of area = page_of area.end
 
 -- the linear index of a page: it runs on from the area's offset
 abbrev pub index_of : Area → ℕ → ℕ

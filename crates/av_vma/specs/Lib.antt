@@ -1,4 +1,3 @@
 pub mod Areas
 pub mod Gap
 pub mod Join
-pub mod Ranges

@@ -1,29 +1,7 @@
 ghost use Rattle.std.specs.Prelude.{◌≡◌, ◌*◌, ◌<◌, ◌≤◌, ◌^◌, ◌||◌, IsSome};
 ghost use Rattle.av_vma.specs.Join.{are_mergeable, first_of, index_of, past_of, share_anon};
 
-/// What a process may do with a page, as `mmap` and `mprotect` set it.
-#[derive(Clone, Copy, Drop, Debug, PartialEq, Eq)]
-pub struct Prot {
-    pub read: bool,
-    pub write: bool,
-    pub execute: bool,
-}
-
-impl Prot {
-    /// Whether the page may be read: any protection but none at all, as on x86 without protection keys.
-    pub fn readable(self) -> bool
-        ensures { result ≡ (self.read || self.write || self.execute) }
-    {
-        self.read || self.write || self.execute
-    }
-
-    /// Whether the page may be written.
-    pub fn writable(self) -> bool
-        ensures { result ≡ self.write }
-    {
-        self.write
-    }
-}
+use av_base::{PAGE_SIZE, Prot};
 
 /// A run of pages that one process mapped alike (Linux's `vm_area_struct`).
 ///
@@ -48,7 +26,7 @@ pub fn index(area: &Area, page: u64) -> u64
     requires small { index_of area.now page < 2 ^ 64 }
     ensures { result ≡ index_of area.now page }
 {
-    page - area.start / 4096 + area.pgoff
+    page - area.start / PAGE_SIZE + area.pgoff
 }
 
 /// Whether an area goes on in another so that the two may be one.
@@ -63,7 +41,7 @@ pub fn mergeable(left: &Area, left_len: u64, right: &Area, right_len: u64) -> bo
     left.end == right.start
         && left.prot == right.prot
         && left.flags == right.flags
-        && index(left, left.end / 4096) == right.pgoff
+        && index(left, left.end / PAGE_SIZE) == right.pgoff
         && may_share(left.anon, left_len, right.anon, right_len)
 }
 

@@ -1,6 +1,6 @@
 ghost use Rattle.std.specs.Prelude.{◌≡◌, ℕ, Some, None, IfOk, OnErr, IsSome};
 ghost use Rattle.av_vma.specs.Areas.{area_of};
-ghost use Rattle.av_vma.specs.Ranges.{with_at};
+ghost use Rattle.av_base.specs.Words.{with_at};
 
 use crate::area::Area;
 use slab::Slab;

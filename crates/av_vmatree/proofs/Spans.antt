@@ -1,8 +1,8 @@
 -- Lists of spans of which no two meet.
 use Rattle.std.proofs.Common.{◌≡◌, ℕ, ◌+◌, ◌-◌, ◌^◌, ◌<◌, ◌≤◌, max, ◌⊎◌, inl, inr, Bool, true, false, cond, ◌&&◌, eqb, ltb, leb, Option, Some, None, is_some, IfSome, IsSome, IsSomeAnd, Result, Ok, Err, is_ok, OnOk, List, [], ◌∷◌, ◌++◌, length, refl, sym, ap, subst, ◌∙◌, arith}
 use Rattle.std.proofs.lemmas.Bool.{leb-true, ltb-true, ltb-false, le-leb, lt-leb, lt-ltb, le-ltb, eq-eqb, ne_eqb, eqb-true, eqb-false, both_ways, cases_lt, and_parts, cond-false}
-use Rattle.av_vma.specs.Gap.{low_page, top_page}
-use Rattle.av_vma.specs.Ranges.{with_at}
+use Rattle.av_base.specs.Limits.{low_page, top_page}
+use Rattle.av_base.specs.Words.{with_at}
 use Rattle.av_tree.specs.Order.{AllOf, entry_at, with_entry, without_key}
 use Rattle.av_vmatree.specs.declared.span.Span.{Span}
 use Rattle.av_vmatree.specs.Spans.{start_of, holds, area_after, area_at, area_before, or_else, taken, span_of, with_span, unless_area, without_area, IsFree, AreApart, AreDistinct, AreSpans}

@@ -5,7 +5,7 @@ ghost use Rattle.av_vmatree.specs.Spans.{AreApart, AreWithin, taken};
 
 use crate::span::{Extent, Span};
 use av_tree::Avl;
-use av_vma::{LOW_PAGE, TOP_PAGE};
+use av_base::{LOW_PAGE, TOP_PAGE};
 
 /// The greatest page from which on `pages` pages are free. The extent of each subtree tells on which side it lies.
 pub fn gap_in(spans: &Avl<Span>, pages: u64) -> Option<u64>

@@ -1,6 +1,7 @@
 ghost use Rattle.std.specs.Prelude.{◌≡◌, ℕ, ◌-◌, ◌<◌, ◌≤◌, ◌++◌, [], Some, None, true, false, is_ok, IfSome, IsSomeAnd, OnOk, if◌then◌else◌};
-ghost use Rattle.av_vma.specs.Gap.{low_page, top_page, IsGap};
-ghost use Rattle.av_vma.specs.Ranges.{within, with_at};
+ghost use Rattle.av_base.specs.Limits.{low_page, top_page};
+ghost use Rattle.av_vma.specs.Gap.{IsGap};
+ghost use Rattle.av_base.specs.Words.{within, with_at};
 ghost use Rattle.av_vmatree.specs.Spans.{AreSpans, IsFree, IsMet, area_after, area_at, area_before, holds, span, span_of, taken, unless_area, with_span, without_area};
 
 use crate::gap::gap_in;

@@ -1,6 +1,6 @@
 use Rattle.std.proofs.Common.{◌≡◌, ◌≤◌}
 use Rattle.std.specs.VecDeque.{deque_len, deque_capacity}
-use Rattle.av_vma.specs.Ranges.{numbers}
+use Rattle.av_base.specs.Words.{numbers}
 use Rattle.av_frames.proofs.all_numbers.Given as goal
 
 abbrev pub invariant-loop-i : goal.invariant-loop-i

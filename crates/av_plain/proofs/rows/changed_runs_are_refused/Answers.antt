@@ -1,6 +1,4 @@
-use Rattle.av_plain.proofs.ChangedRows.{wrong_frame-refuted, wrong_place-refuted, written_in_vain-refuted, made_by_a_refused_write, lost_by_a_denied_write}
-use Rattle.av_plain.proofs.ChangedRows.{leaked-rejected}
-use Rattle.av_plain.proofs.ChangedRows.{wrong_load-rejected}
+use Rattle.av_plain.proofs.ChangedRows.{wrong_frame-refuted, wrong_place-refuted, written_in_vain-refuted, made_by_a_refused_write, lost_by_a_denied_write, leaked-rejected, wrong_load-rejected}
 use Rattle.av_plain.proofs.rows.changed_runs_are_refused.Goals as goal
 
 pub returns-clause-wrong_frame : goal.returns-clause-wrong_frame

@@ -1,7 +1,6 @@
-use Rattle.av_plain.proofs.FirstRows.{first_run-runs, zero_first-runs, one_frame-runs, part_denied-runs, two_processes-runs, refusals-runs, all_mapped-runs, denied_write-runs}
+use Rattle.av_plain.proofs.FirstRows.{first_run-runs, zero_first-runs, one_frame-runs, part_denied-runs, two_processes-runs, refusals-runs, all_mapped-runs, denied_write-runs, readable-runs}
 use Rattle.av_plain.proofs.ChangedRows.{refused_write-runs}
 use Rattle.av_plain.proofs.SwapRows.{crowded-runs}
-use Rattle.av_plain.proofs.FirstRows.{readable-runs}
 use Rattle.av_plain.proofs.rows.rows_run.Goals as goal
 
 pub returns-clause-first_run : goal.returns-clause-first_run

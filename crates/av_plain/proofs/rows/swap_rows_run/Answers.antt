@@ -1,5 +1,4 @@
-use Rattle.av_plain.proofs.SwapRows.{loads-runs, load_to_write-runs, load_when_full-runs, no_load-runs, maps_again-runs, load_unclaimed-runs}
-use Rattle.av_plain.proofs.SwapRows.{load_when_half_full-runs}
+use Rattle.av_plain.proofs.SwapRows.{loads-runs, load_to_write-runs, load_when_full-runs, no_load-runs, maps_again-runs, load_unclaimed-runs, load_when_half_full-runs}
 use Rattle.av_plain.proofs.rows.swap_rows_run.Goals as goal
 
 pub returns-clause-loads : goal.returns-clause-loads

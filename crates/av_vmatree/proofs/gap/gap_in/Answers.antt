@@ -1,5 +1,5 @@
 use Rattle.std.proofs.Common.{rules, ◌≡◌, true, false, ◌∙◌, sym, ap, subst}
-use Rattle.av_vma.specs.Gap.{low_page, top_page}
+use Rattle.av_base.specs.Limits.{low_page, top_page}
 use Rattle.av_vmatree.specs.Extent.{fits}
 use Rattle.av_vmatree.proofs.Gaps.{IsGapOf, gap_of, gap_is, gap_by_pages, gap_left, gap_right, row_of}
 use Rattle.av_vmatree.proofs.gap.gap_in.Goals as goal

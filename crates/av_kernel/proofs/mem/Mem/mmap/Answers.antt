@@ -1,6 +1,7 @@
 use Rattle.std.proofs.Common.{◌≡◌, ◌≢◌, ℕ, ◌==◌, Some, Ok, Err, false, sym, subst, ◌∙◌, arith}
 use Rattle.std.proofs.lemmas.Bool.Decides.{nat_tests}
-use Rattle.av_plain.specs.World.{pages, pages_of}
+use Rattle.av_plain.specs.World.{pages}
+use Rattle.av_base.specs.Page.{pages_of}
 use Rattle.av_plain.specs.Stands.{prot_of}
 use Rattle.av_plain.specs.Step.{clearing}
 use Rattle.av_trace.specs.declared.command.Command.TheVariants.{Mmap}

@@ -1,5 +1,5 @@
 use Rattle.std.proofs.Common.{◌≡◌, ◌∙◌, ap, refl, subst, ◌+◌, arith}
-use Rattle.av_vma.specs.Ranges.{with_at}
+use Rattle.av_base.specs.Words.{with_at}
 use Rattle.av_frames.specs.Store.{Seen, seen}
 use Rattle.av_pagetable.specs.Entries.{entry_at, with_entry}
 use Rattle.av_kernel.proofs.PageViews.{frame_taken}

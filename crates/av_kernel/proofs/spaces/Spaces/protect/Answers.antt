@@ -1,7 +1,7 @@
 use Rattle.std.proofs.Common.{◌≡◌, ◌∙◌, ℕ, ◌+◌, ◌-◌, cond, Some, is_some, option_map, sym, ap, subst}
 use Rattle.std.specs.Prelude.{IfOk}
 use Rattle.av_vma.specs.Areas.{area_of}
-use Rattle.av_vma.specs.Ranges.{within}
+use Rattle.av_base.specs.Words.{within}
 use Rattle.av_vmatree.specs.Spans.{taken}
 use Rattle.av_merge.specs.Mapping.{mapping, with_prot}
 use Rattle.av_merge.specs.Pages.{pages_by, IsReached}

@@ -1,5 +1,6 @@
--- Words on ranges of numbers, on counting, and on functions that differ at one place.
+-- Words on ranges of numbers, on lists and counting, and on functions that differ at one place.
 use Rattle.std.specs.Prelude.{ℕ, zero, suc, ◌+◌, Bool, ◌&&◌, ◌==◌, nat_lt, nat_le, if◌then◌else◌, List, [], ◌∷◌}
+use Rattle.std.specs.List.{list_any}
 
 -- whether x is one of the n numbers from a on
 abbrev pub within : ℕ → ℕ → ℕ → Bool
@@ -9,6 +10,10 @@ within a n x = nat_le a x && nat_lt x (a + n)
 abbrev pub numbers : ℕ → ℕ → List ℕ
 numbers a zero = []
 numbers a (suc n) = a ∷ numbers (a + 1) n
+
+-- whether a number is in a list
+abbrev pub is_in : ℕ → List ℕ → Bool
+is_in x xs = list_any (λ y. x == y) xs
 
 -- how many pass the test
 abbrev pub how_many : {X : Type 0} → (X → Bool) → List X → ℕ

@@ -3,3 +3,6 @@ pub const LOW_PAGE: u64 = 16;
 
 /// The first page that no process can have.
 pub const TOP_PAGE: u64 = 0x7ffffffff;
+
+/// At most so many processes live at a time.
+pub const MOST_PROCESSES: usize = 4096;

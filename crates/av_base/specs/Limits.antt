@@ -1,0 +1,14 @@
+-- Limits of the machine, in pages and processes.
+use Rattle.std.specs.Prelude.{ℕ}
+
+-- the lowest page that can be mapped
+abbrev pub low_page : ℕ
+low_page = 16
+
+-- the first page that no process can have
+abbrev pub top_page : ℕ
+top_page = 0x7ffffffff
+
+-- at most so many processes live at a time
+abbrev pub most_processes : ℕ
+most_processes = 4096

@@ -1,0 +1,2 @@
+/// The bytes of one page.
+pub const PAGE_SIZE: u64 = 4096;
