@@ -9,7 +9,7 @@ use Rattle.av_arena.proofs.Order.{AllOf-map, rising_front, rising_back, rising_w
 use Rattle.av_arena.proofs.Shallow.{shallow_entries}
 use Rattle.av_arena.specs.declared.link.Link.{Link}
 use Rattle.av_arena.specs.declared.link.Stored.{Stored}
-use Rattle.av_arena.specs.Tree.{Tree, Leaf, Fork, entries, height, is, none, count, IsLevel, Store, height_of, tree_at, IsHeld, IsOpened, IsPlaceFor, IsPlaced, IsWithout}
+use Rattle.av_arena.specs.Tree.{Tree, Leaf, Fork, entries, height, is, none, count, IsLevel, Store, height_of, tree_at, IsHeld, IsOpened, IsPlaceFor, IsPlaced, IsReplaced, IsWithout}
 use Rattle.av_base.specs.Words.{with_at}
 use Rattle.av_arena.specs.Avl.{IsAvl, IsPart}
 use Rattle.av_arena.proofs.TreeLemmas.{is_same, is_cases, with_at_same, with_at_other, kept, held_height, in_use, stored_used, none_tree, without_used}
@@ -93,29 +93,7 @@ module _ {T S : Type 0} (key : T → ℕ) (unit : S) (op : S → S → S) (of : 
       ] in
       subst P (sym at) ((record { held = g.held; rising = rw d (rising_without key m (entries (tree_at s k)) p.0.rising) }, all), d)
 
-  -- the node of an entry that is taken out is used again
-  absent : (x : T) (t : List T) → IsRising key t → entry_at key (key x) (without_key key (key x) t) ≡ None
-  absent x [] r = refl
-  absent x (y ∷ t) r = elim (eqb (key y) (key x)) as (λ b. eqb (key y) (key x) ≡ b → entry_at key (key x) (cond b t (y ∷ without_key key (key x) t)) ≡ None) [
-    | true ↦ λ e. let d : key y ≡ key x = eqb-true _ _ e in all_later x t (AllOf-map (λ z. key y < key z) (λ z. key x < key z) (λ z h. omega arith) t r.0)
-    | false ↦ λ e. rw e (absent x t r.1)
-  ] refl
-    where
-      all_later : (x : T) (t : List T) → AllOf (λ z. key x < key z) t → entry_at key (key x) t ≡ None
-      all_later x [] a = refl
-      all_later x (y ∷ t) a = let h : key x < key y = a.0 in rw (ne_eqb (key y) (key x) (omega arith)) (all_later x t a.1)
-
-  pub place_again : (s t : Store T S) (k : Option (Link S)) → IsPart key unit op of s k → (x : T) (n : ℕ) (k' : Option (Link S)) → IsWithout key unit op of s t k (without_key key (key x) (entries (tree_at s k))) n k' → IsPlaceFor key unit op of t k' n x
-  place_again s t k p x n k' w = record {
-    held = w.held;
-    rising = rw w.entries (rising_without key (key x) (entries (tree_at s k)) p.rising);
-    used = without_used key unit op of laws s t k _ n k' p.held w;
-    fresh = (let d = w.count n in let e = is_same key unit op of laws n in let o = p.held.once n in omega arith);
-    other = rw w.entries (absent x (entries (tree_at s k)) p.rising);
-  }
-
-  pub replaced : (s t u : Store T S) (k : Option (Link S)) → IsAvl key unit op of s k → (x : T) (n : ℕ) (k' : Option (Link S)) → IsWithout key unit op of s t k (without_key key (key x) (entries (tree_at s k))) n k' → (k'' : Link S) → IsPlaced key unit op of t u k' n x k'' → IsAvl key unit op of u (Some k'') × (entries (tree_at u (Some k'')) ≡ with_entry key x (without_key key (key x) (entries (tree_at s k))))
-  replaced s t u k p x n k' w k'' v =
-      let d : entries (tree_at u (Some k'')) ≡ with_entry key x (without_key key (key x) (entries (tree_at s k))) = v.entries ∙ ap (with_entry key x) w.entries in
-      let all : (j : ℕ) → IsSome (t j) → 1 ≤ is n j + count j (tree_at t k') = λ j i. let h = in_use key unit op of laws s t k' _ _ (is n) w p.1 j i in omega arith in
-      ((record { held = v.held; rising = rw d (rising_with key x _ (rising_without key (key x) (entries (tree_at s k)) p.0.rising)) }, λ j i. let h = in_use key unit op of laws t u (Some k'') _ _ none v all j i in omega arith), d)
+  pub replaced : (s u : Store T S) (k : Option (Link S)) → IsAvl key unit op of s k → (x : T) (k' : Link S) → IsReplaced key unit op of s u k x k' → IsAvl key unit op of u (Some k') × (entries (tree_at u (Some k')) ≡ with_entry key x (without_key key (key x) (entries (tree_at s k))))
+  replaced s u k p x k' v =
+      let up = rising_with key x _ (rising_without key (key x) (entries (tree_at s k)) p.0.rising) in
+      ((record { held = v.held; rising = rw v.entries up }, λ j i. let h = in_use key unit op of laws s u (Some k') _ _ none v p.1 j i in omega arith), v.entries)

@@ -1,12 +1,13 @@
 -- Trees whose nodes stand under numbers: what a change of other nodes keeps, what one node more makes, and what a change on one
 -- side of a node makes of the whole.
 use Rattle.std.proofs.Common.{append_assoc, append-nil, ◌≡◌, ℕ, zero, suc, ◌+◌, ◌<◌, ◌≤◌, max, ◌⊎◌, inl, inr, Bool, true, false, cond, eqb, IsSome, Option, Some, None, List, [], ◌∷◌, ◌++◌, refl, sym, ap, ◌∙◌, subst, arith}
+use Rattle.std.proofs.Math.Path.{fun_ext}
 use Rattle.std.proofs.lemmas.Bool.{cases_lt, eqb-true, eq-eqb, ne_eqb}
-use Rattle.av_arena.specs.Tree.{DifferByAtMost, Tree, Leaf, Fork, entries, height, is, count, IsLevel, link_of, Store, height_of, sum_of, tree_or_leaf, levels, tree_at, IsStored, IsHeld, IsOpened, IsSet, IsSpot, IsTree, IsJoined, IsPlaceFor, IsPlaced, HasKey, IsWithout, IsPopped, none}
+use Rattle.av_arena.specs.Tree.{DifferByAtMost, Tree, Leaf, Fork, entries, height, is, count, IsLevel, link_of, Store, height_of, sum_of, tree_or_leaf, levels, tree_at, IsStored, IsHeld, IsOpened, IsSet, IsSpot, IsTree, IsJoined, IsPlaceFor, IsPlaced, HasKey, IsReplaced, IsRoot, IsWithout, IsPopped, none}
 use Rattle.av_base.specs.Words.{with_at}
 use Rattle.av_arena.specs.Monoid.{MonoidLaws, total}
-use Rattle.av_arena.specs.Order.{IsRising, without_key, entry_at}
-use Rattle.av_arena.proofs.Order.{rising_front, rising_back, at_left, at_right, with_left, with_right, without_left, without_right, without_middle}
+use Rattle.av_arena.specs.Order.{IsRising, with_entry, without_key, entry_at}
+use Rattle.av_arena.proofs.Order.{rising_front, rising_back, rising_without, at_left, at_right, with_left, with_right, with_between, without_left, without_right, without_middle}
 use Rattle.av_arena.proofs.Monoid.{total-append}
 use Rattle.av_arena.specs.declared.link.Link.{Link}
 use Rattle.av_arena.specs.declared.link.Stored.{Stored}
@@ -84,6 +85,11 @@ module _ {T S : Type 0} (key : T → ℕ) (unit : S) (op : S → S → S) (of : 
       let q : k.height ≡ max (height l) (height r) + 1 = ap (λ (m : Link S). m.height) e in
       record {
         used = rw (p, st.0) refl;
+        root = record {
+          stored = rw p st.0;
+          told = rw (height_link l, height_link r, sum_link l, sum_link r) (e ∙ rw (p, total-append laws of (entries l) (x ∷ entries r)) refl);
+          level = rw (height_link l, height_link r) lv.0;
+        };
         tree = rw (a, b) (subst (λ (m : ℕ). tree_at s (Some k) ≡ Fork m l x r) (sym p) t);
         left = held_part s l st.1 (λ j. let h = o j in omega arith) lv.1;
         right = held_part s r st.2 (λ j. let h = o j in omega arith) lv.2;
@@ -156,6 +162,32 @@ module _ {T S : Type 0} (key : T → ℕ) (unit : S) (op : S → S → S) (of : 
   joined_once s s' n a x b k spot set lv =
       let h = shut s s' n a x b k set spot.left spot.right lv spot.once in
       joined_as s s' n a x b k (Fork n (tree_at s a) x (tree_at s b)) (tree_at s a) (tree_at s b) h.held h.tree refl refl refl (λ j. refl) (λ j z. unset s s' n a x b k set j (omega arith)) (still_used s s' n a x b k set)
+
+  -- a number is this one or counts nothing
+  pub is_cases : (n j : ℕ) → (is n j ≡ 0) ⊎ (n ≡ j)
+  is_cases n j = elim (eqb n j) as (λ b. eqb n j ≡ b → (◌≡◌ {A = ℕ} (cond b 1 0) 0) ⊎ (n ≡ j)) [
+    | true ↦ λ e. inr (eqb-true n j e)
+    | false ↦ λ e. inl refl
+  ] refl
+
+  pub is_at_most : (n j : ℕ) → is n j ≤ 1
+  is_at_most n j = elim (eqb n j) as (λ (b : Bool). cond {A = ℕ} b 1 0 ≤ 1) [ true ↦ omega arith | false ↦ omega arith ]
+
+  -- a node whose sides stay
+  pub joined_same : (s : Store T S) (k : Link S) (l : Option (Link S)) (x : T) (r : Option (Link S)) → IsRoot key unit op of s k l x r → IsSpot key unit op of s k.number l r → IsJoined key unit op of s s k.number l x r k
+  joined_same s k l x r root spot =
+      let v : Stored T S = record { left = l; entry = x; right = r } in
+      joined_once s s k.number l x r k spot (record {
+        store = fun_ext (λ j. elim (is_cases k.number j) [
+          | inl e ↦ sym (with_at_other k.number (Some v) s j e)
+          | inr e ↦ subst (λ i. s i ≡ with_at k.number (Some v) s i) e (root.stored ∙ sym (with_at_same k.number (Some v) s))
+        ]);
+        link = root.told;
+      }) root.level
+
+  -- a node stands where one of its sides has changed
+  pub root_kept : (s s' : Store T S) (k : Link S) (l : Option (Link S)) (x : T) (r new : Option (Link S)) (xs : List T) (f g : ℕ → ℕ) → IsRoot key unit op of s k l x r → IsTree key unit op of s s' new xs f g → f k.number ≡ 0 → IsRoot key unit op of s' k l x r
+  root_kept s s' k l x r new xs f g root t z = record { stored = t.kept k.number z ∙ root.stored; told = root.told; level = root.level }
 
   -- one rotation
   pub turned_right : (s s' s'' : Store T S) (n : ℕ) (left : Link S) (x : T) (right : Option (Link S)) (v : Stored T S) (low k : Link S) → IsSpot key unit op of s n (Some left) right → IsOpened key unit op of s left v → IsSet key unit op of s s' n v.right x right low → IsSet key unit op of s' s'' left.number v.left v.entry (Some low) k → DifferByAtMost 1 (height_of v.right) (height_of right) → DifferByAtMost 1 (height_of v.left) low.height → IsJoined key unit op of s s'' n (Some left) x right k
@@ -233,16 +265,6 @@ module _ {T S : Type 0} (key : T → ℕ) (unit : S) (op : S → S → S) (of : 
       let h = three s t u w n mid.number right.number left x i.left i.entry i.right v.entry v.right low high k spot.left oi.left oi.right o.right one two last p q r (λ j. let g = once j in omega arith) in
       joined_as s w n left x (Some right) k (Fork mid.number (Fork n a x b) i.entry (Fork right.number c v.entry d)) a (Fork right.number (Fork mid.number b i.entry c) v.entry d) h.held h.tree refl eq
       (simp append_assoc) (λ j. omega arith) (λ j z. h.kept j (omega arith)) h.used
-
-  -- a number is this one or counts nothing
-  pub is_cases : (n j : ℕ) → (is n j ≡ 0) ⊎ (n ≡ j)
-  is_cases n j = elim (eqb n j) as (λ b. eqb n j ≡ b → (◌≡◌ {A = ℕ} (cond b 1 0) 0) ⊎ (n ≡ j)) [
-    | true ↦ λ e. inr (eqb-true n j e)
-    | false ↦ λ e. inl refl
-  ] refl
-
-  pub is_at_most : (n j : ℕ) → is n j ≤ 1
-  is_at_most n j = elim (eqb n j) as (λ (b : Bool). cond {A = ℕ} b 1 0 ≤ 1) [ true ↦ omega arith | false ↦ omega arith ]
 
   pub retree : (s s' : Store T S) (k : Option (Link S)) (xs ys : List T) (f f' g g' : ℕ → ℕ) → IsTree key unit op of s s' k xs f g → xs ≡ ys → ((j : ℕ) → f j ≡ f' j) → ((j : ℕ) → g j ≡ g' j) → IsTree key unit op of s s' k ys f' g'
   retree s s' k xs ys f f' g g' t e p q = record {
@@ -357,6 +379,12 @@ module _ {T S : Type 0} (key : T → ℕ) (unit : S) (op : S → S → S) (of : 
   placed_right_ready s s' k v n x new p o t =
       ready_right s s' k.number v.left (Some new) _ (λ j. is n j + count j (tree_at s v.right)) none t o.left o.used (λ j. let c = fresh_once s k v n o p.fresh j in omega arith)
 
+  pub placed_left_root : (s s' : Store T S) (k : Link S) (v : Stored T S) (n : ℕ) (x : T) (new : Link S) → IsPlaceFor key unit op of s (Some k) n x → IsOpened key unit op of s k v → IsPlaced key unit op of s s' v.left n x new → IsRoot key unit op of s' k v.left v.entry v.right
+  placed_left_root s s' k v n x new p o t = root_kept s s' k v.left v.entry v.right (Some new) _ (λ j. is n j + count j (tree_at s v.left)) none o.root t (let c = fresh_once s k v n o p.fresh k.number in let d = is_same k.number in omega arith)
+
+  pub placed_right_root : (s s' : Store T S) (k : Link S) (v : Stored T S) (n : ℕ) (x : T) (new : Link S) → IsPlaceFor key unit op of s (Some k) n x → IsOpened key unit op of s k v → IsPlaced key unit op of s s' v.right n x new → IsRoot key unit op of s' k v.left v.entry v.right
+  placed_right_root s s' k v n x new p o t = root_kept s s' k v.left v.entry v.right (Some new) _ (λ j. is n j + count j (tree_at s v.right)) none o.root t (let c = fresh_once s k v n o p.fresh k.number in let d = is_same k.number in omega arith)
+
   pub placed_left : (s s' s'' : Store T S) (k : Link S) (v : Stored T S) (n : ℕ) (x : T) (new k' : Link S) → IsPlaceFor key unit op of s (Some k) n x → IsOpened key unit op of s k v → key x < key v.entry → IsPlaced key unit op of s s' v.left n x new → IsJoined key unit op of s' s'' k.number (Some new) v.entry v.right k' → IsPlaced key unit op of s s'' (Some k) n x k'
   placed_left s s' s'' k v n x new k' p o h t w =
       let a = tree_at s v.left in
@@ -405,6 +433,9 @@ module _ {T S : Type 0} (key : T → ℕ) (unit : S) (op : S → S → S) (of : 
   pub popped_ready : (s s' : Store T S) (k m : Link S) (v : Stored T S) (n : ℕ) (x : T) (rest : Option (Link S)) → IsOpened key unit op of s k v → v.left ≡ Some m → IsPopped key unit op of s s' m n x rest → IsSpot key unit op of s' k.number rest v.right
   popped_ready s s' k m v n x rest o e p = ready_left s s' k.number rest v.right _ (λ j. count j (tree_at s (Some m))) (is n) p.rest o.right o.used (popped_once s k m v o e)
 
+  pub popped_root : (s s' : Store T S) (k m : Link S) (v : Stored T S) (n : ℕ) (x : T) (rest : Option (Link S)) → IsOpened key unit op of s k v → v.left ≡ Some m → IsPopped key unit op of s s' m n x rest → IsRoot key unit op of s' k (Some m) v.entry v.right
+  popped_root s s' k m v n x rest o e p = root_kept s s' k (Some m) v.entry v.right rest _ (λ j. count j (tree_at s (Some m))) (is n) (subst (λ l. IsRoot key unit op of s k l v.entry v.right) e o.root) p.rest (let c = popped_once s k m v o e k.number in let d = is_same k.number in omega arith)
+
   pub popped_later : (s s' s'' : Store T S) (k m : Link S) (v : Stored T S) (n : ℕ) (x : T) (rest : Option (Link S)) (k' : Link S) → IsOpened key unit op of s k v → v.left ≡ Some m → IsPopped key unit op of s s' m n x rest → IsJoined key unit op of s' s'' k.number rest v.entry v.right k' → IsPopped key unit op of s s'' k n x (Some k')
   popped_later s s' s'' k m v n x rest k' o e p w =
       let t : tree_at s (Some k) ≡ Fork k.number (tree_at s (Some m)) v.entry (tree_at s v.right) = o.tree ∙ ap (λ g. Fork k.number (tree_at s g) v.entry (tree_at s v.right)) e in
@@ -436,6 +467,12 @@ module _ {T S : Type 0} (key : T → ℕ) (unit : S) (op : S → S → S) (of : 
 
   pub removed_right_ready : (s s' : Store T S) (k : Link S) (v : Stored T S) (xs : List T) (n : ℕ) (new : Option (Link S)) → IsOpened key unit op of s k v → IsWithout key unit op of s s' v.right xs n new → IsSpot key unit op of s' k.number v.left new
   removed_right_ready s s' k v xs n new o t = ready_right s s' k.number v.left new _ (λ j. count j (tree_at s v.right)) (is n) t o.left o.used o.once
+
+  pub left_root : (s s' : Store T S) (k : Link S) (v : Stored T S) (xs : List T) (g : ℕ → ℕ) (new : Option (Link S)) → IsOpened key unit op of s k v → IsTree key unit op of s s' new xs (λ j. count j (tree_at s v.left)) g → IsRoot key unit op of s' k v.left v.entry v.right
+  left_root s s' k v xs g new o t = root_kept s s' k v.left v.entry v.right new xs (λ j. count j (tree_at s v.left)) g o.root t (let c = o.once k.number in let d = is_same k.number in omega arith)
+
+  pub right_root : (s s' : Store T S) (k : Link S) (v : Stored T S) (xs : List T) (g : ℕ → ℕ) (new : Option (Link S)) → IsOpened key unit op of s k v → IsTree key unit op of s s' new xs (λ j. count j (tree_at s v.right)) g → IsRoot key unit op of s' k v.left v.entry v.right
+  right_root s s' k v xs g new o t = root_kept s s' k v.left v.entry v.right new xs (λ j. count j (tree_at s v.right)) g o.root t (let c = o.once k.number in let d = is_same k.number in omega arith)
 
   pub removed_left : (s s' s'' : Store T S) (k : Link S) (v : Stored T S) (x : T) (n : ℕ) (new : Option (Link S)) (k' : Link S) → HasKey key unit op of s (Some k) x → IsOpened key unit op of s k v → key x < key v.entry → IsWithout key unit op of s s' v.left (without_key key (key x) (entries (tree_at s v.left))) n new → IsJoined key unit op of s' s'' k.number new v.entry v.right k' → IsWithout key unit op of s s'' (Some k) (without_key key (key x) (entries (tree_at s (Some k)))) n (Some k')
   removed_left s s' s'' k v x n new k' p o h t w =
@@ -487,3 +524,39 @@ module _ {T S : Type 0} (key : T → ℕ) (unit : S) (op : S → S → S) (of : 
         kept = λ j z. let y = rw t at z in let d = q.rest.count j in let f = ap (count j) ka.tree in w.kept j (omega arith) ∙ q.rest.kept j (omega arith);
         used = λ j u. w.used j (q.rest.used j u);
       }
+
+  -- replacing
+  pub replaced_left_ready : (s s' : Store T S) (k : Link S) (v : Stored T S) (x : T) (new : Link S) → IsOpened key unit op of s k v → IsReplaced key unit op of s s' v.left x new → IsSpot key unit op of s' k.number (Some new) v.right
+  replaced_left_ready s s' k v x new o t = ready_left s s' k.number (Some new) v.right _ (λ j. count j (tree_at s v.left)) none t o.right o.used o.once
+
+  pub replaced_right_ready : (s s' : Store T S) (k : Link S) (v : Stored T S) (x : T) (new : Link S) → IsOpened key unit op of s k v → IsReplaced key unit op of s s' v.right x new → IsSpot key unit op of s' k.number v.left (Some new)
+  replaced_right_ready s s' k v x new o t = ready_right s s' k.number v.left (Some new) _ (λ j. count j (tree_at s v.right)) none t o.left o.used o.once
+
+  pub replaced_left : (s s' s'' : Store T S) (k : Link S) (v : Stored T S) (x : T) (new k' : Link S) → HasKey key unit op of s (Some k) x → IsOpened key unit op of s k v → key x < key v.entry → IsReplaced key unit op of s s' v.left x new → IsJoined key unit op of s' s'' k.number (Some new) v.entry v.right k' → IsReplaced key unit op of s s'' (Some k) x k'
+  replaced_left s s' s'' k v x new k' p o h t w =
+      let a = entries (tree_at s v.left) in
+      let b = entries (tree_at s v.right) in
+      let up : IsRising key (a ++ v.entry ∷ b) = rw o.tree at p.rising in
+      let u = whole_left s s' s'' k.number (Some new) v.right v.entry k' _ (λ j. count j (tree_at s v.left)) none t o.right o.once w in
+      let is : with_entry key x (without_key key (key x) (a ++ v.entry ∷ b)) ≡ with_entry key x (without_key key (key x) a) ++ v.entry ∷ b = rw (without_left key (key x) v.entry a b h up) (with_left key x v.entry (without_key key (key x) a) b h) in
+      retree s s'' (Some k') _ _ _ _ _ _ u (sym is ∙ rw o.tree refl) (λ j. rw o.tree refl) (λ j. refl)
+
+  pub replaced_right : (s s' s'' : Store T S) (k : Link S) (v : Stored T S) (x : T) (new k' : Link S) → HasKey key unit op of s (Some k) x → IsOpened key unit op of s k v → key v.entry < key x → IsReplaced key unit op of s s' v.right x new → IsJoined key unit op of s' s'' k.number v.left v.entry (Some new) k' → IsReplaced key unit op of s s'' (Some k) x k'
+  replaced_right s s' s'' k v x new k' p o h t w =
+      let a = entries (tree_at s v.left) in
+      let b = entries (tree_at s v.right) in
+      let up : IsRising key (a ++ v.entry ∷ b) = rw o.tree at p.rising in
+      let u = whole_right s s' s'' k.number v.left (Some new) v.entry k' _ (λ j. count j (tree_at s v.right)) none t o.left o.once w in
+      let e = without_right key (key x) v.entry a b h up in
+      let is : with_entry key x (without_key key (key x) (a ++ v.entry ∷ b)) ≡ a ++ v.entry ∷ with_entry key x (without_key key (key x) b) = rw e (with_right key x v.entry a (without_key key (key x) b) h (subst (IsRising key) e (rising_without key (key x) _ up))) in
+      retree s s'' (Some k') _ _ _ _ _ _ u (sym is ∙ rw o.tree refl) (λ j. rw o.tree refl) (λ j. refl)
+
+  pub replaced_here : (s s' : Store T S) (k : Link S) (v : Stored T S) (x : T) (k' : Link S) → HasKey key unit op of s (Some k) x → IsOpened key unit op of s k v → key x ≤ key v.entry → key v.entry ≤ key x → IsSet key unit op of s s' k.number v.left x v.right k' → IsReplaced key unit op of s s' (Some k) x k'
+  replaced_here s s' k v x k' p o h i set =
+      let a = entries (tree_at s v.left) in
+      let b = entries (tree_at s v.right) in
+      let up : IsRising key (a ++ v.entry ∷ b) = rw o.tree at p.rising in
+      let same : key x ≡ key v.entry = omega arith in
+      let u = joined_once s s' k.number v.left x v.right k' (record { used = o.used; left = o.left; right = o.right; once = o.once }) set o.level in
+      let is : with_entry key x (without_key key (key x) (a ++ v.entry ∷ b)) ≡ a ++ x ∷ b = rw (without_middle key (key x) v.entry a b (sym same) up) (with_between key x v.entry a b same up) in
+      retree s s' (Some k') _ _ _ _ _ _ u (sym is ∙ rw o.tree refl) (λ j. rw o.tree refl) (λ j. refl)

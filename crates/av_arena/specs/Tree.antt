@@ -2,7 +2,7 @@
 use Rattle.std.specs.Prelude.{◌≡◌, ℕ, zero, suc, ◌+◌, ◌≤◌, ◌==◌, max, if◌then◌else◌, IsSome, Option, Some, None, List, [], ◌∷◌, ◌++◌}
 use Rattle.av_base.specs.Words.{with_at}
 use Rattle.av_arena.specs.Monoid.{total}
-use Rattle.av_arena.specs.Order.{IsRising, with_entry, entry_at}
+use Rattle.av_arena.specs.Order.{IsRising, with_entry, without_key, entry_at}
 use Rattle.av_arena.specs.declared.link.Link.{Link}
 use Rattle.av_arena.specs.declared.link.Stored.{Stored}
 
@@ -109,9 +109,21 @@ module _ {T S : Type 0} (key : T → ℕ) (unit : S) (op : S → S → S) (of : 
     pub once : (j : ℕ) → count_at s k j ≤ 1
     pub level : IsLevel (tree_at s k)
 
+  -- the link tells the node with the entry x above the sides l and r
+  pub record IsRoot (s : Store T S) (k : Link S) (l : Option (Link S)) (x : T)
+      (r : Option (Link S)) : Type 0 where
+    pub stored : s k.number ≡ Some (record { left = l; entry = x; right = r })
+    pub told : k ≡ record {
+      number = k.number;
+      height = max (height_of l) (height_of r) + 1;
+      sum = op (sum_of unit l) (op (of x) (sum_of unit r));
+    }
+    pub level : DifferByAtMost 1 (height_of l) (height_of r)
+
   -- a tree that is cut at its node
   pub record IsOpened (s : Store T S) (k : Link S) (v : Stored T S) : Type 0 where
     pub used : IsSome (s k.number)
+    pub root : IsRoot s k v.left v.entry v.right
     pub tree : tree_at s (Some k) ≡ Fork k.number (tree_at s v.left) v.entry (tree_at s v.right)
     pub left : IsHeld s v.left
     pub right : IsHeld s v.right
@@ -120,7 +132,8 @@ module _ {T S : Type 0} (key : T → ℕ) (unit : S) (op : S → S → S) (of : 
     pub level : DifferByAtMost 1 (height_of v.left) (height_of v.right)
 
   -- the node n is put above its sides
-  pub record IsSet (old new : Store T S) (n : ℕ) (left : Option (Link S)) (x : T) (right : Option (Link S)) (k : Link S) : Type 0 where
+  pub record IsSet (old new : Store T S) (n : ℕ) (left : Option (Link S)) (x : T)
+      (right : Option (Link S)) (k : Link S) : Type 0 where
     pub store : new ≡ with_at n (Some (record { left = left; entry = x; right = right })) old
     pub link : k ≡ record {
       number = n;
@@ -136,7 +149,8 @@ module _ {T S : Type 0} (key : T → ℕ) (unit : S) (op : S → S → S) (of : 
     pub once : (j : ℕ) → is n j + (count_at s l j + count_at s r j) ≤ 1
 
   -- a tree of these entries, with these numbers but for those that are gone; no other node changed
-  pub record IsTree (old new : Store T S) (k : Option (Link S)) (xs : List T) (numbers gone : ℕ → ℕ) : Type 0 where
+  pub record IsTree (old new : Store T S) (k : Option (Link S)) (xs : List T)
+      (numbers gone : ℕ → ℕ) : Type 0 where
     pub held : IsHeld new k
     pub entries : entries_at new k ≡ xs
     pub count : (j : ℕ) → count_at new k j + gone j ≡ numbers j
@@ -144,7 +158,8 @@ module _ {T S : Type 0} (key : T → ℕ) (unit : S) (op : S → S → S) (of : 
     pub used : (j : ℕ) → IsSome (old j) → IsSome (new j)
 
   -- what the node n above its sides becomes
-  abbrev pub IsJoined : Store T S → Store T S → ℕ → Option (Link S) → T → Option (Link S) → Link S → Type 0
+  abbrev pub IsJoined : Store T S → Store T S → ℕ → Option (Link S) → T →
+      Option (Link S) → Link S → Type 0
   IsJoined old new n left x right k =
       IsTree old new (Some k) (entries_at old left ++ x ∷ entries_at old right)
       (λ j. is n j + (count_at old left j + count_at old right j)) none
@@ -170,10 +185,18 @@ module _ {T S : Type 0} (key : T → ℕ) (unit : S) (op : S → S → S) (of : 
     pub there : IsSome (entry_at key (key x) (entries_at s k))
 
   -- the tree without the node n
-  abbrev pub IsWithout : Store T S → Store T S → Option (Link S) → List T → ℕ → Option (Link S) → Type 0
+  abbrev pub IsWithout : Store T S → Store T S → Option (Link S) → List T → ℕ →
+      Option (Link S) → Type 0
   IsWithout old new k xs n k' = IsTree old new k' xs (count_at old k) (is n)
 
+  -- the tree with x in the node of the entry with its key
+  abbrev pub IsReplaced : Store T S → Store T S → Option (Link S) → T → Link S → Type 0
+  IsReplaced old new k x k' =
+      IsTree old new (Some k') (with_entry key x (without_key key (key x) (entries_at old k)))
+      (count_at old k) none
+
   -- the first entry x and its node n are taken out of the tree k, and k' is left
-  pub record IsPopped (old new : Store T S) (k : Link S) (n : ℕ) (x : T) (k' : Option (Link S)) : Type 0 where
+  pub record IsPopped (old new : Store T S) (k : Link S) (n : ℕ) (x : T) (k' : Option (Link S))
+      : Type 0 where
     pub rest : IsWithout old new (Some k) (entries_at new k') n k'
     pub entries : entries_at old (Some k) ≡ x ∷ entries_at new k'

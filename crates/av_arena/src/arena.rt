@@ -25,7 +25,8 @@ impl<T: Copy + Drop, S: Copy + Drop> Arena<T, S> {
     /// Puts a node under a number that is not in use. Without memory all stays.
     pub fn add(&mut self, node: Stored<T, S>) -> Result<u64, AllocError>
         ensures unused { IfOk result (λ number. stored self.old number ≡ None) }
-        ensures added { IfOk result (λ number. stored self.new ≡ with_at number (Some node) (stored self.old)) }
+        ensures added { IfOk result
+            (λ number. stored self.new ≡ with_at number (Some node) (stored self.old)) }
         ensures kept { OnErr result (stored self.new ≡ stored self.old) }
     {
         let key = self.slab.insert(node)?;

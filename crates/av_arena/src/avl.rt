@@ -6,7 +6,7 @@ ghost use Rattle.av_arena.specs.Monoid.{total};
 use crate::arena::Arena;
 use crate::entry::Entry;
 use crate::link::{Link, Stored};
-use crate::tree::{open, placed, removed, sum};
+use crate::tree::{open, placed, removed, replaced, sum};
 use std::alloc::{AllocError, Global};
 use std::marker::Model;
 
@@ -75,7 +75,8 @@ impl<T: Entry> Avl<T> {
     pub fn insert(&mut self, entry: T) -> Result<(), AllocError>
         requires room { length self.old + 1 < 2 ^ 63 }
         requires other { entry_at T.key (T.key entry) self.old ≡ None }
-        ensures entries { self.new ≡ (if is_ok result then with_entry T.key entry self.old else self.old) }
+        ensures entries { self.new ≡ (if is_ok result then with_entry T.key entry self.old else
+            self.old) }
     {
         let leaf = Stored {
             left: None,
@@ -102,14 +103,15 @@ impl<T: Entry> Avl<T> {
         self.root = root;
     }
 
-    /// Puts `entry` in the place of the one with its key, which is there. It takes no memory: the node is used again.
+    /// Puts `entry` in the place of the one with its key, which is there. It takes no memory: the
+    /// node is used again.
     pub fn replace(&mut self, entry: T)
         requires room { length self.old < 2 ^ 63 }
         requires there { IsSome (entry_at T.key (T.key entry) self.old) }
-        ensures entries { self.new ≡ with_entry T.key entry (without_key T.key (T.key entry) self.old) }
+        ensures entries { self.new ≡ with_entry T.key entry
+            (without_key T.key (T.key entry) self.old) }
     {
-        let (number, rest) = removed(&mut self.arena, self.root, entry);
-        let root = placed(&mut self.arena, rest, number, entry);
+        let root = replaced(&mut self.arena, self.root, entry);
         self.root = Some(root);
     }
 }
@@ -126,7 +128,8 @@ impl<'a, T: Entry> Part<'a, T> {
     ///
     /// Without memory none is added.
     pub fn append_to(&self, entries: &mut Vec<T>) -> Result<(), AllocError>
-        ensures { entries.new.items ≡ (if is_ok result then entries.old.items ++ self.now else entries.old.items) }
+        ensures { entries.new.items ≡ (if is_ok result then entries.old.items ++ self.now else
+            entries.old.items) }
     {
         let before = entries.len();
         let added = self.push_each(entries);
@@ -151,7 +154,8 @@ impl<'a, T: Entry> Part<'a, T> {
 
     /// The entry at the root, with what lies before and after it, or none where the tree is empty.
     pub fn parts(&self) -> Option<(Part<'a, T>, T, Part<'a, T>)>
-        ensures parts { MatchOption result (self.now ≡ []) (λ p. IsParts T.key self.now p.0 p.1 p.2) }
+        ensures parts { MatchOption result (self.now ≡ [])
+            (λ p. IsParts T.key self.now p.0 p.1 p.2) }
     {
         let Some(tree) = self.tree else {
             return None;

@@ -32,6 +32,10 @@ impl Entry for Note {
         false
     }
 
+    fn is_same(left: bool, right: bool) -> bool {
+        left == right
+    }
+
     fn joined(left: bool, middle: &Note, right: bool) -> bool {
         left || middle.marked || right
     }

@@ -1,6 +1,6 @@
-ghost use Rattle.std.specs.Prelude.{◌≡◌, ◌+◌, ◌^◌, ◌<◌, ◌≤◌, max, Some, IsSome};
+ghost use Rattle.std.specs.Prelude.{◌≡◌, ◌+◌, ◌^◌, ◌<◌, ◌≤◌, max, true, Some, IsSome};
 ghost use Rattle.av_arena.specs.Order.{without_key};
-ghost use Rattle.av_arena.specs.Tree.{DifferByAtMost, IsHeightAfter, HasKey, IsHeld, IsJoined, IsOpened, IsPlaceFor, IsPlaced, IsPopped, IsSet, IsSpot, IsWithout, sum_of, height_of, tree_at, entries};
+ghost use Rattle.av_arena.specs.Tree.{DifferByAtMost, IsHeightAfter, HasKey, IsHeld, IsJoined, IsOpened, IsPlaceFor, IsPlaced, IsPopped, IsReplaced, IsRoot, IsSet, IsSpot, IsWithout, sum_of, height_of, tree_at, entries};
 ghost use Rattle.av_arena.specs.Arena.{stored};
 
 use crate::arena::Arena;
@@ -43,7 +43,8 @@ fn close<T: Entry>(
 ) -> Link<T::Sum>
     requires used { IsSome (stored arena.old number) }
     requires low { max (height_of left) (height_of right) < 2 ^ 63 }
-    ensures set { IsSet T.key T.unit T.op T.of (stored arena.old) (stored arena.new) number left entry right result }
+    ensures set { IsSet T.key T.unit T.op T.of (stored arena.old) (stored arena.new) number left
+        entry right result }
     ensures height { result.height ≡ max (height_of left) (height_of right) + 1 }
 {
     let level = height(left).max(height(right)) + 1;
@@ -74,7 +75,8 @@ fn lean_left<T: Entry>(
     requires spot { IsSpot T.key T.unit T.op T.of (stored arena.old) number (Some left) right }
     requires two_higher { left.height ≡ height_of right + 2 }
     requires low { left.height < 2 ^ 62 }
-    ensures joined { IsJoined T.key T.unit T.op T.of (stored arena.old) (stored arena.new) number (Some left) entry right result }
+    ensures joined { IsJoined T.key T.unit T.op T.of (stored arena.old) (stored arena.new) number
+        (Some left) entry right result }
     ensures not_lower { left.height ≤ result.height }
     ensures at_most_one_higher { result.height ≤ left.height + 1 }
 {
@@ -113,7 +115,8 @@ fn lean_right<T: Entry>(
     requires spot { IsSpot T.key T.unit T.op T.of (stored arena.old) number left (Some right) }
     requires two_higher { right.height ≡ height_of left + 2 }
     requires low { right.height < 2 ^ 62 }
-    ensures joined { IsJoined T.key T.unit T.op T.of (stored arena.old) (stored arena.new) number left entry (Some right) result }
+    ensures joined { IsJoined T.key T.unit T.op T.of (stored arena.old) (stored arena.new) number
+        left entry (Some right) result }
     ensures not_lower { right.height ≤ result.height }
     ensures at_most_one_higher { result.height ≤ right.height + 1 }
 {
@@ -152,7 +155,8 @@ fn balance<T: Entry>(
     requires spot { IsSpot T.key T.unit T.op T.of (stored arena.old) number left right }
     requires level { DifferByAtMost 2 (height_of left) (height_of right) }
     requires low { max (height_of left) (height_of right) < 2 ^ 62 }
-    ensures joined { IsJoined T.key T.unit T.op T.of (stored arena.old) (stored arena.new) number left entry right result }
+    ensures joined { IsJoined T.key T.unit T.op T.of (stored arena.old) (stored arena.new) number
+        left entry right result }
     ensures height { IsHeightAfter (height_of left) (height_of right) result.height }
 {
     let (before, after) = (height(left), height(right));
@@ -167,6 +171,69 @@ fn balance<T: Entry>(
     close(arena, number, left, entry, right)
 }
 
+/// Whether two links are the same.
+fn is_same<T: Entry>(left: Option<Link<T::Sum>>, right: Option<Link<T::Sum>>) -> bool
+    ensures { result ≡ true → left ≡ right }
+{
+    match (left, right) {
+        (None, None) => true,
+        (Some(left), Some(right)) => {
+            left.number == right.number
+                && left.height == right.height
+                && T::is_same(left.sum, right.sum)
+        }
+        _ => false,
+    }
+}
+
+/// The node of `tree` above another left side than its own. Where that is the same nothing is
+/// written.
+fn with_left<T: Entry>(
+    arena: &mut Arena<T, T::Sum>,
+    tree: Link<T::Sum>,
+    own: Option<Link<T::Sum>>,
+    left: Option<Link<T::Sum>>,
+    entry: T,
+    right: Option<Link<T::Sum>>,
+) -> Link<T::Sum>
+    requires root { IsRoot T.key T.unit T.op T.of (stored arena.old) tree own entry right }
+    requires spot { IsSpot T.key T.unit T.op T.of (stored arena.old) tree.number left right }
+    requires level { DifferByAtMost 2 (height_of left) (height_of right) }
+    requires low { max (height_of left) (height_of right) < 2 ^ 62 }
+    ensures joined { IsJoined T.key T.unit T.op T.of (stored arena.old) (stored arena.new)
+        tree.number left entry right result }
+    ensures height { IsHeightAfter (height_of left) (height_of right) result.height }
+{
+    if is_same::<T>(own, left) {
+        return tree;
+    }
+    balance(arena, tree.number, left, entry, right)
+}
+
+/// The node of `tree` above another right side than its own. Where that is the same nothing is
+/// written.
+fn with_right<T: Entry>(
+    arena: &mut Arena<T, T::Sum>,
+    tree: Link<T::Sum>,
+    left: Option<Link<T::Sum>>,
+    entry: T,
+    own: Option<Link<T::Sum>>,
+    right: Option<Link<T::Sum>>,
+) -> Link<T::Sum>
+    requires root { IsRoot T.key T.unit T.op T.of (stored arena.old) tree left entry own }
+    requires spot { IsSpot T.key T.unit T.op T.of (stored arena.old) tree.number left right }
+    requires level { DifferByAtMost 2 (height_of left) (height_of right) }
+    requires low { max (height_of left) (height_of right) < 2 ^ 62 }
+    ensures joined { IsJoined T.key T.unit T.op T.of (stored arena.old) (stored arena.new)
+        tree.number left entry right result }
+    ensures height { IsHeightAfter (height_of left) (height_of right) result.height }
+{
+    if is_same::<T>(own, right) {
+        return tree;
+    }
+    balance(arena, tree.number, left, entry, right)
+}
+
 /// The tree with the node `number`, which is in use and not in it, for the entry.
 pub fn placed<T: Entry>(
     arena: &mut Arena<T, T::Sum>,
@@ -176,7 +243,8 @@ pub fn placed<T: Entry>(
 ) -> Link<T::Sum>
     requires place { IsPlaceFor T.key T.unit T.op T.of (stored arena.old) tree number entry }
     requires low { height_of tree < 2 ^ 61 }
-    ensures placed { IsPlaced T.key T.unit T.op T.of (stored arena.old) (stored arena.new) tree number entry result }
+    ensures placed { IsPlaced T.key T.unit T.op T.of (stored arena.old) (stored arena.new) tree
+        number entry result }
     ensures not_lower { height_of tree ≤ result.height }
     ensures at_most_one_higher { result.height ≤ height_of tree + 1 }
 {
@@ -191,10 +259,10 @@ pub fn placed<T: Entry>(
     } = node;
     if entry.is_before(&middle) {
         let left = placed(arena, before, number, entry);
-        return balance(arena, tree.number, Some(left), middle, after);
+        return with_left(arena, tree, before, Some(left), middle, after);
     }
     let right = placed(arena, after, number, entry);
-    balance(arena, tree.number, before, middle, Some(right))
+    with_right(arena, tree, before, middle, after, Some(right))
 }
 
 /// The number and the entry of the first node, and a tree of the others.
@@ -204,7 +272,8 @@ fn pop_first<T: Entry>(
 ) -> (u64, T, Option<Link<T::Sum>>)
     requires held { IsHeld T.key T.unit T.op T.of (stored arena.old) (Some tree) }
     requires low { tree.height < 2 ^ 61 }
-    ensures popped { IsPopped T.key T.unit T.op T.of (stored arena.old) (stored arena.new) tree result.0 result.1 result.2 }
+    ensures popped { IsPopped T.key T.unit T.op T.of (stored arena.old) (stored arena.new) tree
+        result.0 result.1 result.2 }
     ensures not_higher { height_of result.2 ≤ tree.height }
     ensures at_most_one_lower { tree.height ≤ height_of result.2 + 1 }
 {
@@ -218,7 +287,7 @@ fn pop_first<T: Entry>(
         return (tree.number, middle, after);
     };
     let (number, entry, rest) = pop_first(arena, left);
-    let whole = balance(arena, tree.number, rest, middle, after);
+    let whole = with_left(arena, tree, Some(left), rest, middle, after);
     (number, entry, Some(whole))
 }
 
@@ -230,7 +299,9 @@ pub fn removed<T: Entry>(
 ) -> (u64, Option<Link<T::Sum>>)
     requires there { HasKey T.key T.unit T.op T.of (stored arena.old) tree like }
     requires low { height_of tree < 2 ^ 61 }
-    ensures removed { IsWithout T.key T.unit T.op T.of (stored arena.old) (stored arena.new) tree (without_key T.key (T.key like) (entries (tree_at (stored arena.old) tree))) result.0 result.1 }
+    ensures removed { IsWithout T.key T.unit T.op T.of (stored arena.old) (stored arena.new) tree
+        (without_key T.key (T.key like) (entries (tree_at (stored arena.old) tree))) result.0
+        result.1 }
     ensures not_higher { height_of result.1 ≤ height_of tree }
     ensures at_most_one_lower { height_of tree ≤ height_of result.1 + 1 }
 {
@@ -243,12 +314,12 @@ pub fn removed<T: Entry>(
     } = node;
     if like.is_before(&middle) {
         let (number, left) = removed(arena, before, like);
-        let whole = balance(arena, tree.number, left, middle, after);
+        let whole = with_left(arena, tree, before, left, middle, after);
         return (number, Some(whole));
     }
     if middle.is_before(&like) {
         let (number, right) = removed(arena, after, like);
-        let whole = balance(arena, tree.number, before, middle, right);
+        let whole = with_right(arena, tree, before, middle, after, right);
         return (number, Some(whole));
     }
     let Some(right) = after else {
@@ -257,4 +328,34 @@ pub fn removed<T: Entry>(
     let (number, entry, rest) = pop_first(arena, right);
     let whole = balance(arena, number, before, entry, rest);
     (tree.number, Some(whole))
+}
+
+/// The tree with `entry` in the node of the one with its key.
+pub fn replaced<T: Entry>(
+    arena: &mut Arena<T, T::Sum>,
+    tree: Option<Link<T::Sum>>,
+    entry: T,
+) -> Link<T::Sum>
+    requires there { HasKey T.key T.unit T.op T.of (stored arena.old) tree entry }
+    requires low { height_of tree < 2 ^ 61 }
+    ensures replaced { IsReplaced T.key T.unit T.op T.of (stored arena.old) (stored arena.new) tree
+        entry result }
+    ensures height { result.height ≡ height_of tree }
+{
+    let Some(tree) = tree else { unreachable!() };
+    let node = open(arena, tree);
+    let Stored {
+        left: before,
+        entry: middle,
+        right: after,
+    } = node;
+    if entry.is_before(&middle) {
+        let left = replaced(arena, before, entry);
+        return with_left(arena, tree, before, Some(left), middle, after);
+    }
+    if middle.is_before(&entry) {
+        let right = replaced(arena, after, entry);
+        return with_right(arena, tree, before, middle, after, Some(right));
+    }
+    close(arena, tree.number, before, entry, after)
 }

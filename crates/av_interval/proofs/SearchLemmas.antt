@@ -1,5 +1,5 @@
 -- What a visit tells of the first span that reaches an index.
-use Rattle.std.proofs.Common.{◌≡◌, ℕ, ◌+◌, ◌<◌, ◌≤◌, max, ◌⊎◌, inl, inr, Bool, true, false, cond, ◌&&◌, ◌||◌, eqb, ltb, Option, Some, None, List, [], ◌∷◌, ◌++◌, refl, sym, ap, ◌∙◌, subst, arith}
+use Rattle.std.proofs.Common.{◌≡◌, ℕ, ◌+◌, ◌<◌, ◌≤◌, max, ◌⊎◌, inl, inr, Bool, true, false, cond, ◌&&◌, ◌||◌, eqb, ltb, Option, Some, None, List, [], ◌∷◌, ◌++◌, length, refl, sym, ap, ◌∙◌, subst, arith}
 use Rattle.std.specs.Prelude.{nat_le, is_some, MatchOption}
 use Rattle.std.specs.Option.{option_map}
 use Rattle.std.proofs.lemmas.Bool.{leb-true, leb-false, le-leb, lt-leb, ltb-true, lt-ltb, le-ltb, eqb-true, eq-eqb, both_ways}
@@ -8,7 +8,8 @@ use Rattle.av_interval.specs.Span.{top}
 use Rattle.av_arena.specs.Tree.{Leaf, Fork, entries, height}
 use Rattle.av_interval.specs.declared.span.Span.{Span}
 use Rattle.av_interval.specs.Nodes.{IsChild, IsSeen, span_of, reaching_child, tree_at, IsNone_or}
-use Rattle.av_interval.specs.Search.{IsBefore, AllAfter, IsOrdered, is_past, reaching, overlap_of}
+use Rattle.av_base.specs.Words.{how_many}
+use Rattle.av_interval.specs.Search.{IsBefore, AllAfter, IsOrdered, is_past, overlaps, reaching, overlap_of}
 use Rattle.av_interval.specs.declared.nodes.Node.{Node}
 
 abbrev pub first_of_two : Option Span → Option Span → Option Span
@@ -243,3 +244,53 @@ overlap_of_node a i xs o s e = ap (check i) e ∙ sym (overlap_is a i xs s)
 pub root_is : (isn : ℕ → Type 0) (b : ℕ → Tree) (t : Tree) (o : Option ℕ) → MatchOption o (t ≡ Leaf) (λ n. isn n × (b n ≡ t)) → IsNone_or isn o × (tree_at b o ≡ t)
 root_is isn b t None m = (tt, sym m)
 root_is isn b t (Some n) m = m
+
+-- how many overlap past a place
+abbrev pub remaining : Option (ℕ × ℕ) → ℕ → List Span → ℕ
+remaining a i xs = how_many (λ x. is_past a x && overlaps i x) xs
+
+pub none_remain : (a : Option (ℕ × ℕ)) (i : ℕ) (xs : List Span) → overlap_of a i xs ≡ None → remaining a i xs ≡ 0
+none_remain a i [] e = refl
+none_remain a i (x ∷ xs) e = elim (is_past a x && overlaps i x) as (λ (b : Bool). cond b (Some (x.first, x.area)) (overlap_of a i xs) ≡ None → cond {A = ℕ} b 1 0 + remaining a i xs ≡ 0) [
+  | true ↦ λ d. cc
+  | false ↦ λ d. let h = none_remain a i xs d in omega arith
+] e
+
+not_past_itself : (x : Span) → is_past (Some (x.first, x.area)) x ≡ false
+not_past_itself x = rw (le-ltb x.first x.first (omega arith), le-ltb x.area x.area (omega arith)) (and_false (eqb x.first x.first))
+
+-- what stands before the span that is found is not past it
+found_past : (a : Option (ℕ × ℕ)) (i : ℕ) (x : Span) (xs : List Span) (p : ℕ × ℕ) → AllAfter x xs → overlap_of a i xs ≡ Some p → is_past (Some p) x ≡ false
+found_past a i x [] p s e = cc
+found_past a i x (y ∷ xs) p s e = elim (is_past a y && overlaps i y) as (λ (b : Bool). cond b (Some (y.first, y.area)) (overlap_of a i xs) ≡ Some p → is_past (Some p) x ≡ false) [
+  | true ↦ λ d. let q : (y.first, y.area) ≡ p = cc in subst (λ (r : ℕ × ℕ). is_past (Some r) x ≡ false) q (not_past (Some (y.first, y.area)) y x s.0 (not_past_itself y))
+  | false ↦ λ d. found_past a i x xs p s.1 d
+] e
+
+past_all : (a : Option (ℕ × ℕ)) (i : ℕ) (x : Span) (xs : List Span) → AllAfter x xs → is_past a x ≡ true → remaining a i xs ≡ how_many (overlaps i) xs
+past_all a i x [] s e = refl
+past_all a i x (y ∷ xs) s e = rw (true_past a y (past_on a x y s.0 (past_true a x e))) (ap (λ n. cond {A = ℕ} (overlaps i y) 1 0 + n) (past_all a i x xs s.1 e))
+
+past_it : (i : ℕ) (x : Span) (xs : List Span) → AllAfter x xs → remaining (Some (x.first, x.area)) i xs ≡ how_many (overlaps i) xs
+past_it i x [] s = refl
+past_it i x (y ∷ xs) s = rw (true_past (Some (x.first, x.area)) y s.0) (ap (λ n. cond {A = ℕ} (overlaps i y) 1 0 + n) (past_it i x xs s.1))
+
+first_true : (b c : Bool) → (b && c) ≡ true → b ≡ true
+first_true true c e = refl
+first_true false c e = e
+
+pub found_one : (a : Option (ℕ × ℕ)) (i : ℕ) (xs : List Span) (p : ℕ × ℕ) → IsOrdered xs → overlap_of a i xs ≡ Some p → remaining a i xs ≡ 1 + remaining (Some p) i xs
+found_one a i [] p s e = cc
+found_one a i (x ∷ xs) p s e = elim (is_past a x && overlaps i x) as (λ (b : Bool). (is_past a x && overlaps i x) ≡ b → cond b (Some (x.first, x.area)) (overlap_of a i xs) ≡ Some p → cond {A = ℕ} b 1 0 + remaining a i xs ≡ 1 + remaining (Some p) i (x ∷ xs)) [
+  | true ↦ λ q d.
+      let r : (x.first, x.area) ≡ p = cc in
+      subst (λ (w : ℕ × ℕ). 1 + remaining a i xs ≡ 1 + remaining (Some w) i (x ∷ xs)) r (rw (not_past_itself x, past_all a i x xs s.0 (first_true (is_past a x) (overlaps i x) q), past_it i x xs s.0) (omega arith))
+  | false ↦ λ q d. rw (found_past a i x xs p s.0 d) (let h = found_one a i xs p s.1 d in omega arith)
+] refl e
+
+pub at_most_all : (test : Span → Bool) (xs : List Span) → how_many test xs ≤ length xs
+at_most_all test [] = omega arith
+at_most_all test (x ∷ xs) = elim (test x) as (λ (b : Bool). cond {A = ℕ} b 1 0 + how_many test xs ≤ length (x ∷ xs)) [
+  | true ↦ let h = at_most_all test xs in omega arith
+  | false ↦ let h = at_most_all test xs in omega arith
+]

@@ -28,7 +28,8 @@ pub trait Nodes {
     ghost below: { Self → ℕ → Tree };
 
     fn root(&self, anon: u64) -> Option<u64>
-        ensures root { MatchOption result (tree self.now anon ≡ Leaf) (λ n. is_node self.now n × (below self.now n ≡ tree self.now anon)) }
+        ensures root { MatchOption result (tree self.now anon ≡ Leaf)
+            (λ n. is_node self.now n × (below self.now n ≡ tree self.now anon)) }
         ensures ordered { IsOrdered (entries (tree self.now anon)) };
 
     fn visit<L: Ledger>(&self, node: u64, steps: &mut Steps<L>) -> Node

@@ -1,10 +1,11 @@
 // The first overlap past a place.
-ghost use Rattle.std.specs.Prelude.{◌≡◌, ◌+◌, ◌*◌, ◌≤◌, IsTrue, IsSome, Some, None, is_some, MatchOption};
+ghost use Rattle.std.specs.Prelude.{◌≡◌, ◌+◌, ◌*◌, ◌^◌, ◌<◌, ◌≤◌, length, IsTrue, IsSome, Some, None, is_some, MatchOption};
 ghost use Rattle.std.specs.Option.{option_map};
 ghost use Rattle.av_interval.specs.Span.{top};
 ghost use Rattle.av_arena.specs.Tree.{entries, height};
 ghost use Rattle.av_interval.specs.Nodes.{span_of, reaching_child, tree_at, IsNone_or};
-ghost use Rattle.av_interval.specs.Search.{IsOrdered, is_past, reaching, overlap_of};
+ghost use Rattle.av_base.specs.Words.{how_many};
+ghost use Rattle.av_interval.specs.Search.{IsOrdered, is_past, overlaps, reaching, overlap_of};
 
 use crate::nodes::{Node, Nodes};
 use crate::steps::Steps;
@@ -43,7 +44,8 @@ fn first_reaching<N: Nodes, L: Ledger>(
 ) -> Node
     requires node { N.is_node nodes.now number }
     requires reaches { index ≤ top (entries (N.below nodes.now number)) }
-    ensures first { reaching None index (entries (N.below nodes.now number)) ≡ Some (span_of result) }
+    ensures first { reaching None index (entries (N.below nodes.now number)) ≡ Some
+        (span_of result) }
     ensures cost { steps.new ≤ steps.old + height (N.below nodes.now number) }
 {
     let node = nodes.visit(number, steps);
@@ -69,9 +71,11 @@ fn first_past<N: Nodes, L: Ledger>(
 ) -> Option<Node>
     requires node { IsNone_or (N.is_node nodes.now) number }
     requires ordered { IsOrdered (entries (tree_at (N.below nodes.now) number)) }
-    ensures first { option_map span_of result ≡ reaching after index (entries (tree_at (N.below nodes.now) number)) }
+    ensures first { option_map span_of result ≡ reaching after index
+        (entries (tree_at (N.below nodes.now) number)) }
     ensures cost { steps.new ≤ steps.old + 2 * height (tree_at (N.below nodes.now) number) }
-    ensures cost_of_none { result ≡ None → steps.new ≤ steps.old + height (tree_at (N.below nodes.now) number) }
+    ensures cost_of_none { result ≡ None → steps.new ≤ steps.old + height
+        (tree_at (N.below nodes.now) number) }
 {
     let Some(number) = number else {
         return None;
@@ -127,4 +131,20 @@ pub fn search<N: Nodes, L: Ledger>(
         }
         None => None,
     }
+}
+
+/// How many spans overlap `index`. Each is asked for in turn, until there is none.
+pub fn count<N: Nodes, L: Ledger>(nodes: &N, anon: u64, index: u64, steps: &mut Steps<L>) -> u64
+    requires room { length (entries (N.tree nodes.now anon)) < 2 ^ 64 }
+    ensures count { result ≡ how_many (overlaps index) (entries (N.tree nodes.now anon)) }
+    ensures cost { steps.new ≤ steps.old + 2 * ((result + 1) * (height (N.tree nodes.now anon) + 1)) }
+{
+    let _ = nodes.root(anon);
+    let mut many = 0;
+    let mut after = None;
+    'each: while let Some(place) = search(nodes, anon, index, after, steps) {
+        many += 1;
+        after = Some(place);
+    }
+    many
 }

@@ -4,7 +4,8 @@ ghost use Rattle.av_interval.specs.Span.{key};
 
 use av_arena::Entry;
 
-/// The pages of an area that is linked to an anon_vma, by their linear indices, both ends among them.
+/// The pages of an area that is linked to an anon_vma, by their linear indices, both ends among
+/// them.
 #[derive(Clone, Copy, Drop)]
 pub struct Span {
     pub first: u64,
@@ -37,6 +38,10 @@ impl Entry for Span {
 
     fn empty() -> u64 {
         0
+    }
+
+    fn is_same(left: u64, right: u64) -> bool {
+        left == right
     }
 
     fn joined(left: u64, middle: &Span, right: u64) -> u64 {

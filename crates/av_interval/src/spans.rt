@@ -55,7 +55,10 @@ impl Spans {
     /// Links an area, new to the anon_vma, with its first and last index. Without memory all stays.
     pub fn add(&mut self, anon: u64, first: u64, last: u64, area: u64) -> Result<(), AllocError>
         requires other { IsNew area (triples self.old anon) }
-        ensures spans { (a : ℕ) → triples self.new a ≡ (if is_ok result then with_at anon (with_entry key (triple first last area) (triples self.old anon)) (triples self.old) a else triples self.old a) }
+        ensures spans { (a : ℕ) → triples self.new
+            a ≡ (if is_ok result then with_at anon
+            (with_entry key (triple first last area) (triples self.old anon)) (triples self.old) a
+            else triples self.old a) }
         ensures kept { OnErr result ((a : ℕ) → tree_of self.new a ≡ tree_of self.old a) }
     {
         let span = Span { first, last, area };
@@ -87,10 +90,12 @@ impl Spans {
         }
     }
 
-    /// Takes out the span of an area that is there, and begins at the index `first`. It takes no memory.
+    /// Takes out the span of an area that is there, and begins at the index `first`. It takes no
+    /// memory.
     pub fn remove(&mut self, anon: u64, first: u64, area: u64)
         requires there { IsSome (entry_at key (key_of first area) (triples self.old anon)) }
-        ensures { (a : ℕ) → triples self.new a ≡ with_at anon (without_key key (key_of first area) (triples self.old anon)) (triples self.old) a }
+        ensures { (a : ℕ) → triples self.new a ≡ with_at anon
+            (without_key key (key_of first area) (triples self.old anon)) (triples self.old) a }
     {
         let Some(root) = self.roots.get(anon) else {
             unreachable!()
@@ -114,7 +119,8 @@ impl Spans {
         }
     }
 
-    /// First index and area of the first span past `after` that overlaps `index`. It takes no memory.
+    /// First index and area of the first span past `after` that overlaps `index`. It takes no
+    /// memory.
     pub fn overlap<L: Ledger>(
         &self,
         anon: u64,
@@ -124,7 +130,8 @@ impl Spans {
     ) -> Option<(u64, u64)>
         ensures first { result ≡ overlap_of after index (triples self.now anon) }
         ensures cost { steps.new ≤ steps.old + 2 * (height_at self.now anon + 1) }
-        ensures shallow { 2 ^ height_at self.now anon ≤ (length (triples self.now anon) + 1) * (length (triples self.now anon) + 1) }
+        ensures shallow { 2 ^ height_at self.now anon ≤ (length (triples self.now anon) + 1) *
+            (length (triples self.now anon) + 1) }
     {
         let _ = &self.arena;
         search(self, anon, index, after, steps)

@@ -1,11 +1,13 @@
--- What the system keeps of frames and slots, keyed by process and page. Walks and counts are filters of the entries.
-use Rattle.std.specs.Prelude.{ℕ, ◌+◌, ◌-◌, ◌*◌, Bool, true, false, not, ◌&&◌, ◌||◌, ◌==◌, nat_lt, if◌then◌else◌, List, [], ◌∷◌, length, map, filter, sum_by, Option, Some, None, is_some, is_none, option_map}
+-- What the system keeps of frames and slots, keyed by process and page. Walks and counts are
+-- filters of the entries.
+use Rattle.std.specs.FinMap.Entries.{find}
 use Rattle.std.specs.List.{list_any, list_all}
 use Rattle.std.specs.Ordering.{nat_cmp, ordering_then}
+use Rattle.std.specs.Prelude.{ℕ, ◌+◌, ◌-◌, Bool, true, false, not, ◌&&◌, ◌==◌, if◌then◌else◌, List, [], ◌∷◌, map, filter, Option, Some, None, is_some, ◌||◌, length, nat_lt, sum_by, option_map, ◌*◌, is_none}
 use Rattle.std.specs.declared.cmp.Ordering.{Ordering}
-use Rattle.std.specs.FinMap.Entries.{find}
-use Rattle.av_base.specs.declared.slot.Slot.{Slot}
 use Rattle.av_base.specs.Words.{how_many, numbers}
+use Rattle.av_base.specs.declared.slot.Slot.{Slot}
+use Rattle.av_plain.specs.World.{pages}
 
 -- ---- what does not change in a run
 
@@ -15,7 +17,8 @@ pub record Header : Type 0 where
   pub slots : ℕ
   pub bad : List ℕ
 
--- frames: how many there are. sizes: the pages of each device. headers: what page 0 of each device says (nothing at a fault),
+-- frames: how many there are. sizes: the pages of each device. headers: what page 0 of each device
+-- says (nothing at a fault),
 -- where the devices tell their pages
 pub record Setting : Type 0 where
   pub frames : ℕ
@@ -45,7 +48,7 @@ pub record Cached : Type 0 where
   pub stale : Bool
 
 -- an area that is on: its usable slots and bad pages
-pub record Area : Type 0 where
+pub record SwapArea : Type 0 where
   pub slots : ℕ
   pub bad : ℕ
 
@@ -56,11 +59,11 @@ pub record Ledger : Type 0 where
   pub flight : List Slot
   pub active : List ℕ
   pub inactive : List ℕ
-  pub on : List (ℕ × Area)
+  pub on : List (ℕ × SwapArea)
 
 -- no entry, no cached slot, no list and no area
-abbrev pub fresh : Ledger
-fresh = record { entries = []; cache = []; flight = []; active = []; inactive = []; on = [] }
+abbrev pub first_ledger : Ledger
+first_ledger = record { entries = []; cache = []; flight = []; active = []; inactive = []; on = [] }
 
 -- ---- filters
 
@@ -89,8 +92,8 @@ abbrev pub walk : Ledger → ℕ → List Key
 walk l f = map (λ e. e.0) (filter (λ e. names_frame f e.1) l.entries)
 
 -- how many entries name the frame
-abbrev pub mapped : Ledger → ℕ → ℕ
-mapped l f = how_many (λ e. names_frame f e.1) l.entries
+abbrev pub map_count : Ledger → ℕ → ℕ
+map_count l f = how_many (λ e. names_frame f e.1) l.entries
 
 -- and how many the slot
 abbrev pub slot_entries : Ledger → Slot → ℕ
@@ -127,7 +130,7 @@ slot_count l s = slot_entries l s + (if is_cached l s then 1 else 0)
 
 -- no entry and no cached slot names the frame
 abbrev pub is_free : Ledger → ℕ → Bool
-is_free l f = mapped l f == 0 && is_none (slot_of l f)
+is_free l f = map_count l f == 0 && is_none (slot_of l f)
 
 -- the free frames, rising
 abbrev pub free_frames : Setting → Ledger → List ℕ
@@ -140,7 +143,7 @@ has_free m l = list_any (is_free l) (numbers 0 m.frames)
 -- there is a frame, and no entry names it
 abbrev pub is_unmapped : Ledger → Option ℕ → Bool
 is_unmapped l None = false
-is_unmapped l (Some f) = mapped l f == 0
+is_unmapped l (Some f) = map_count l f == 0
 
 -- a cached slot, not in flight, that no entry names and whose frame no entry names
 abbrev pub is_orphan : Ledger → Slot → Bool
@@ -178,10 +181,11 @@ is_free_slot m l s =
 
 -- the slots of an area in use, rising
 abbrev pub slots_in_use : Setting → Ledger → ℕ → List ℕ
-slots_in_use m l k = filter (λ page. nat_lt 0 (slot_count l (record { area = k; page = page }))) (numbers 1 (size_of m.sizes k - 1))
+slots_in_use m l k =
+    filter (λ page. nat_lt 0 (slot_count l (record { area = k; page = page }))) (numbers 1 (size_of m.sizes k - 1))
 
 -- how many slots of the area are free
-abbrev pub free_slots : Setting → Ledger → ℕ × Area → ℕ
+abbrev pub free_slots : Setting → Ledger → ℕ × SwapArea → ℕ
 free_slots m l a = a.1.slots - length (slots_in_use m l a.0)
 
 -- whether an area is another than the one that a swapoff is closing
@@ -199,4 +203,5 @@ may_give m closing l s = is_free_slot m l s && is_open closing s.area
 
 -- swap is full: twice the number of free slots is less than the number of usable ones
 abbrev pub is_full : Setting → Ledger → Bool
-is_full m l = nat_lt (2 * sum_by (free_slots m l) l.on) (sum_by (λ (a : ℕ × Area). a.1.slots) l.on)
+is_full m l =
+    nat_lt (2 * sum_by (free_slots m l) l.on) (sum_by (λ (a : ℕ × SwapArea). a.1.slots) l.on)

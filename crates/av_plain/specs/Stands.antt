@@ -1,15 +1,16 @@
--- What the kernel has to do with the memories and the ledger. The kernel is seen by what its parts answer: a view.
-use Rattle.std.specs.Prelude.{◌≡◌, ℕ, ◌<◌, ◌≤◌, Bool, true, false, ◌&&◌, ◌==◌, nat_lt, nat_le, if◌then◌else◌, List, [], ◌∷◌, length, Option, Some, None, is_some, option_map, IfSome}
-use Rattle.std.specs.Ordering.{nat_cmp}
-use Rattle.av_base.specs.Words.{is_in}
+-- What the kernel has to do with the memories and the ledger. The kernel is seen by what its parts
+-- answer: a view.
 use Rattle.std.specs.FinMap.Entries.{find}
+use Rattle.std.specs.Ordering.{nat_cmp}
+use Rattle.std.specs.Prelude.{ℕ, Bool, true, false, ◌&&◌, if◌then◌else◌, List, [], ◌∷◌, Option, Some, None, ◌≡◌, ◌<◌, IfSome, is_some, ◌≤◌, length, nat_lt, nat_le, option_map}
+use Rattle.av_base.specs.Words.{is_in}
 use Rattle.av_base.specs.declared.prot.Prot.{Prot}
 use Rattle.av_base.specs.declared.slot.Slot.{Slot}
-use Rattle.av_plain.specs.World.{World, Page, lives, pages}
-use Rattle.av_plain.specs.Ledger.{Ledger, Setting, Header, Area, Entry, Zero, InFrame, InSlot, entry, mapped, slot_entries, slot_of, frame_at, is_stale, in_flight, is_free, names_frame}
 use Rattle.av_plain.specs.Fault.{is_shared}
-use Rattle.av_plain.specs.Sound.{AllSound}
+use Rattle.av_plain.specs.Ledger.{SwapArea, names_frame, is_stale, slot_entries, is_free, frame_at, InFrame, slot_of, map_count, Entry, Zero, Setting, in_flight, entry, Header, Ledger, InSlot}
+use Rattle.av_plain.specs.Sound.{AllSound, slots}
 use Rattle.av_plain.specs.Transcript.{State}
+use Rattle.av_plain.specs.World.{World, pages, Page, lives}
 
 -- ---- the view
 
@@ -26,7 +27,8 @@ pub record Range : Type 0 where
 
 -- what the parts of the kernel answer
 pub record View : Type 0 where
-  -- the frames: how many there are, their bytes, how many entries name each, the slot of each and whether it is dirty, and the free ones in the order in which they are taken
+  -- the frames: how many there are, their bytes, how many entries name each, the slot of each and
+  -- whether it is dirty, and the free ones in the order in which they are taken
   pub frames : ℕ
   pub bytes : ℕ → ℕ → ℕ
   pub maps : ℕ → ℕ
@@ -40,11 +42,12 @@ pub record View : Type 0 where
   -- how many processes live, and the areas of one that does
   pub processes : ℕ
   pub areas : ℕ → Option (List Range)
-  -- swap: the frame that caches a slot, how many entries name it, the slots in flight, and the areas that are on
+  -- swap: the frame that caches a slot, how many entries name it, the slots in flight, and the
+  -- areas that are on
   pub find : Slot → Option ℕ
   pub entries : Slot → ℕ
   pub flight : List Slot
-  pub on : List (ℕ × Area)
+  pub on : List (ℕ × SwapArea)
 
 -- the device's pages, where it tells them
 abbrev pub Device : Type 0
@@ -55,14 +58,15 @@ Device = Option (Slot → ℕ → ℕ)
 -- each frame has the counts, the slot and the freeness that the ledger gives it
 pub record FramesStand (m : Setting) (v : View) (l : Ledger) : Type 0 where
   pub frames : v.frames ≡ m.frames
-  pub maps : (f : ℕ) → v.maps f ≡ mapped l f
+  pub maps : (f : ℕ) → v.maps f ≡ map_count l f
   pub slots : (f : ℕ) → v.slot f ≡ slot_of l f
   pub dirty : (f : ℕ) → IfSome (slot_of l f) (λ s. v.dirty f ≡ is_stale l s)
   pub free : (f : ℕ) → f < m.frames → is_in f v.free ≡ is_free l f
 
 -- ---- the lists
 
--- the active frames are these. (That the inactive ones are the kernel's, too, begins where it keeps lists: all others in use are inactive.)
+-- the active frames are these. (That the inactive ones are the kernel's, too, begins where it keeps
+-- lists: all others in use are inactive.)
 pub record ListsStand (v : View) (l : Ledger) : Type 0 where
   pub active : v.active ≡ l.active
 
@@ -76,7 +80,8 @@ entry_of (Some t) = Some t.entry
 -- a write bit stands only where a write asks for no copy
 pub record TablesStand (v : View) (l : Ledger) : Type 0 where
   pub entries : (p page : ℕ) → entry_of (v.table p page) ≡ entry l (p, page)
-  pub write_bits : (p page : ℕ) (t : Pte) (f : ℕ) → v.table p page ≡ Some t → t.write ≡ true → names_frame f t.entry ≡ true → is_shared l f ≡ false
+  pub write_bits : (p page : ℕ) (t : Pte) (f : ℕ) → v.table p page ≡ Some t → t.write ≡ true
+      → names_frame f t.entry ≡ true → is_shared l f ≡ false
 
 -- ---- swap
 
@@ -92,7 +97,8 @@ pub record SwapStands (v : View) (l : Ledger) : Type 0 where
 -- the protection of a page, by the range that holds it
 abbrev pub prot_in : List Range → ℕ → Option Prot
 prot_in [] page = None
-prot_in (a ∷ areas) page = if nat_le a.from page && nat_lt page a.to then Some a.prot else prot_in areas page
+prot_in (a ∷ areas) page =
+    if nat_le a.from page && nat_lt page a.to then Some a.prot else prot_in areas page
 
 -- the ranges rise, none is empty, and no two meet
 abbrev pub AreApart : List Range → Type 0
@@ -105,12 +111,14 @@ abbrev pub prot_of : Option (List Range) → ℕ → Option Prot
 prot_of None page = None
 prot_of (Some areas) page = prot_in areas page
 
--- a process has areas exactly where it lives; they are apart, and cover exactly its pages with their protection
+-- a process has areas exactly where it lives; they are apart, and cover exactly its pages with
+-- their protection
 pub record AreasStand (v : View) (w : World) : Type 0 where
   pub alive : (p : ℕ) → is_some (v.areas p) ≡ lives w p
   pub number : v.processes ≡ length w
   pub apart : (p : ℕ) → IfSome (v.areas p) AreApart
-  pub covers : (p page : ℕ) → prot_of (v.areas p) page ≡ option_map (λ (q : Page). q.prot) (pages w p page)
+  pub covers : (p page : ℕ)
+      → prot_of (v.areas p) page ≡ option_map (λ (q : Page). q.prot) (pages w p page)
 
 -- ---- the bytes
 
@@ -145,18 +153,21 @@ IsClean v (Some at) s (Some f) = (i : ℕ) → i < 4096 → at s i ≡ v.bytes f
 -- frames and devices hold what the pages claim
 pub record BytesStand (v : View) (device : Device) (w : World) (l : Ledger) : Type 0 where
   pub kept : (p page : ℕ) → IsKept v device l (entry l (p, page)) (pages w p page)
-  pub clean : (s : Slot) → is_stale l s ≡ false → in_flight l s ≡ false → IsClean v device s (frame_at l s)
+  pub clean : (s : Slot) → is_stale l s ≡ false → in_flight l s ≡ false
+      → IsClean v device s (frame_at l s)
 
 -- ---- the headers
 
 -- where it is told, page 0 of an area that is on gives its numbers
-abbrev pub HasNumbers : Area → Option Header → Type 0
+abbrev pub HasNumbers : SwapArea → Option Header → Type 0
 HasNumbers area None = ⊥
 HasNumbers area (Some h) = (area.slots ≡ h.slots) × (area.bad ≡ length h.bad)
 
 -- each area that is on has the numbers of its header
 abbrev pub HeadersStand : Setting → Ledger → Type 0
-HeadersStand m l = (k : ℕ) → IfSome (find nat_cmp k l.on) (λ area. IfSome m.headers (λ headers. HasNumbers area (headers k)))
+HeadersStand m l =
+    (k : ℕ)
+    → IfSome (find nat_cmp k l.on) (λ area. IfSome m.headers (λ headers. HasNumbers area (headers k)))
 
 -- ---- the whole
 

@@ -11,7 +11,8 @@ use Rattle.av_kernel.specs.View.{setting}
 use Rattle.av_replay.specs.declared.status.Status.{Status}
 use Rattle.av_replay.specs.declared.status.Status.TheVariants as statuses
 use Rattle.av_replay.specs.declared.turn.Turn.TheVariants as turns
-use Rattle.av_swapdev.specs.Outside.{Took, Gained, HasEnded}
+use Rattle.av_io.specs.Source.{Took, HasEnded}
+use Rattle.av_io.specs.Sink.{Gained}
 use Rattle.av_replay.specs.Line.{IsLine}
 use Rattle.av_replay.specs.Turn.{Moment, undone, texts, IsEnding, IsBad, TakesLine, Waits, IsCutShort, Turned, Finishes}
 use Rattle.av_replay.specs.Headline.{joined, Transcribes, Run, Replays, IsLeft, StopsAt, IsCut, Ends, Headline}

@@ -9,7 +9,8 @@ use Rattle.av_kernel.specs.Kernel.{Stands}
 use Rattle.av_kernel.specs.View.{setting}
 use Rattle.av_replay.specs.declared.status.Status.{Status}
 use Rattle.av_replay.specs.declared.status.Status.TheVariants as statuses
-use Rattle.av_swapdev.specs.Outside.{Took, Gained, HasEnded}
+use Rattle.av_io.specs.Source.{Took, HasEnded}
+use Rattle.av_io.specs.Sink.{Gained}
 use Rattle.av_replay.specs.Line.{IsLine}
 use Rattle.av_replay.specs.Turn.{texts, tallied, Commands, IsBad}
 

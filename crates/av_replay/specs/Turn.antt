@@ -15,7 +15,8 @@ use Rattle.av_replay.specs.declared.turn.Turn.{Turn}
 use Rattle.av_replay.specs.declared.turn.Turn.TheVariants as turns
 use Rattle.av_replay.specs.declared.status.Status.{Status}
 use Rattle.av_replay.specs.declared.status.Status.TheVariants as statuses
-use Rattle.av_swapdev.specs.Outside.{in_front, Took, Gained, HasEnded}
+use Rattle.av_io.specs.Source.{in_front, Took, HasEnded}
+use Rattle.av_io.specs.Sink.{Gained}
 use Rattle.av_replay.specs.Line.{IsLine, IsTooLong}
 
 -- ---- what a line does

@@ -203,6 +203,7 @@ pub struct Rows {
 }
 
 impl Model for Rows {
+    ghost use Rattle.std.specs.Prelude.{List};
     ghost use Rattle.av_trace.specs.declared.reply.Row.{Row};
 
     ghost Value = { List Row };

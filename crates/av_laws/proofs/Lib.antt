@@ -1,0 +1,12 @@
+pub mod Maps
+pub mod OutOfMemory
+pub mod OnePage
+pub mod Determined
+pub mod FreeFrames
+pub mod FirstExamples
+pub mod SwapExamples
+pub mod LedgerExamples
+pub mod ChangedExamples
+pub mod SoundExample
+pub mod ExitExamples
+pub mod RangeExamples

@@ -1,0 +1,11 @@
+use Rattle.av_laws.proofs.ExitExamples.{joined_runs-forbidden, run_left_out-forbidden, run_too_long-forbidden}
+use Rattle.av_laws.proofs.examples.changed_exits_and_reports_are_refused.Goals as goal
+
+pub returns-clause-joined_runs : goal.returns-clause-joined_runs
+returns-clause-joined_runs c = joined_runs-forbidden
+
+pub returns-clause-run_left_out : goal.returns-clause-run_left_out
+returns-clause-run_left_out c = run_left_out-forbidden
+
+pub returns-clause-run_too_long : goal.returns-clause-run_too_long
+returns-clause-run_too_long c = run_too_long-forbidden
