@@ -1,5 +1,6 @@
 -- Which anon_vma an area gets.
-use Rattle.std.proofs.Common.{◌≡◌, ℕ, ◌<◌, Bool, true, false, cond, find, IsSome, Option, Some, None, List, [], ◌∷◌, refl, sym, ap, ◌∙◌}
+use Rattle.std.proofs.Common.{◌≡◌, ℕ, ◌<◌, Bool, true, false, cond, ◌&&◌, ◌==◌, find, length, IsSome, Option, Some, None, List, [], ◌∷◌, refl, sym, ap, ◌∙◌}
+use Rattle.std.proofs.lemmas.Bool.{eqb-true}
 use Rattle.av_base.specs.Words.{is_in}
 use Rattle.av_vma.specs.declared.area.Area.{Area}
 use Rattle.av_vma.specs.Join.{is_reusable}
@@ -21,9 +22,38 @@ lent_is areas chain area (Some n) v h = (n, by_area (areas n) h)
     by_test true o h = h
     by_test false o h = absurd (none_some h)
 
-    by_area : (o : Option Area) → lent_by (Rattle.std.proofs.Common.length (chain n)) area o ≡ Some v → own_of o ≡ Some v
+    by_area : (o : Option Area) → lent_by (length (chain n)) area o ≡ Some v → own_of o ≡ Some v
     by_area None h = absurd (none_some h)
-    by_area (Some other) h = by_test (is_reusable area other (Rattle.std.proofs.Common.length (chain n))) other.anon h
+    by_area (Some other) h = by_test (is_reusable area other (length (chain n))) other.anon h
+
+-- and that area's chain has one node
+one_node : (areas : ℕ → Option Area) (chain : ℕ → List ℕ) (area : Area) (near : Option ℕ) (v : ℕ) → lent areas chain area near ≡ Some v → (n : ℕ) × (own_of (areas n) ≡ Some v) × (length (chain n) ≡ 1)
+one_node areas chain area None v h = absurd (none_some h)
+one_node areas chain area (Some n) v h = by_area (areas n) refl h
+  where
+    one : (k : ℕ) (rest : Bool) → ((k == 1) && rest) ≡ true → k ≡ 1
+    one k rest h = eqb-true k 1 (first (k == 1) h)
+      where
+        first : (b : Bool) → (b && rest) ≡ true → b ≡ true
+        first true h = refl
+        first false h = h
+
+    by_test : (b : Bool) (o : Option ℕ) → cond b o None ≡ Some v → (b ≡ true) × (o ≡ Some v)
+    by_test true o h = (refl, h)
+    by_test false o h = absurd (none_some h)
+
+    by_area : (o : Option Area) → areas n ≡ o → lent_by (length (chain n)) area o ≡ Some v → (m : ℕ) × (own_of (areas m) ≡ Some v) × (length (chain m) ≡ 1)
+    by_area None e h = absurd (none_some h)
+    by_area (Some other) e h =
+        let both = by_test (is_reusable area other (length (chain n))) other.anon h in
+        (n, ap own_of e ∙ both.1, one (length (chain n)) _ both.0)
+
+pub one_node_near : (areas : ℕ → Option Area) (chain : ℕ → List ℕ) (area : Area) (before after : Option ℕ) (v : ℕ) → lent_near areas chain area before after ≡ Some v → (n : ℕ) × (own_of (areas n) ≡ Some v) × (length (chain n) ≡ 1)
+one_node_near areas chain area before after v h = by (lent areas chain area after) refl h
+  where
+    by : (o : Option ℕ) → lent areas chain area after ≡ o → or_else o (lent areas chain area before) ≡ Some v → (n : ℕ) × (own_of (areas n) ≡ Some v) × (length (chain n) ≡ 1)
+    by None e h = one_node areas chain area before v h
+    by (Some u) e h = one_node areas chain area after v (e ∙ h)
 
 pub lent_near_is : (areas : ℕ → Option Area) (chain : ℕ → List ℕ) (area : Area) (before after : Option ℕ) (v : ℕ) → lent_near areas chain area before after ≡ Some v → (n : ℕ) × (own_of (areas n) ≡ Some v)
 lent_near_is areas chain area before after v h = by (lent areas chain area after) refl h

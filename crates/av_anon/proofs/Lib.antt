@@ -1,3 +1,6 @@
+pub mod OrderMade
+pub mod OrderRaised
+pub mod OrderLemmas
 pub mod Choosing
 pub mod Given
 pub mod LeavingLemmas

@@ -55,6 +55,7 @@ pub record IsInOrder (areas : ℕ → Option Area) (f : Family) (spans : ℕ →
   pub counted : (v : ℕ) (i : Info) → f.info v ≡ Some i → IsCounted areas f v i
   -- each link stands once in both maps, and an anon_vma is there while an area is linked to it
   pub inverse : AreMutual f.chain f.users
+  pub below : (v : ℕ) → IsSome (f.info v) → v < f.next
   pub linked : (v : ℕ) → IsSome (f.info v) → f.users v ≡ [] → ⊥
   -- the spans go with the links
   pub spanned : GoWithLinks areas f.chain spans

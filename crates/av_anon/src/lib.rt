@@ -13,6 +13,7 @@ mod anons;
 mod fork;
 mod infos;
 mod links;
+pub mod order;
 mod prepare;
 mod resize;
 mod spans;
