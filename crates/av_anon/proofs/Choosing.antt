@@ -1,6 +1,7 @@
 -- Which anon_vma an area gets.
-use Rattle.std.proofs.Common.{◌≡◌, ℕ, ◌<◌, Bool, true, false, cond, ◌&&◌, ◌==◌, find, length, IsSome, Option, Some, None, List, [], ◌∷◌, refl, sym, ap, ◌∙◌}
-use Rattle.std.proofs.lemmas.Bool.{eqb-true}
+use Rattle.std.proofs.Common.{◌≡◌, ℕ, ◌<◌, Bool, true, false, cond, ◌&&◌, ◌||◌, ◌==◌, find, length, IsSome, Option, Some, None, List, [], ◌∷◌, refl, sym, ap, ◌∙◌}
+use Rattle.std.specs.Prelude.{nat_lt}
+use Rattle.std.proofs.lemmas.Bool.{eqb-true, eq-eqb}
 use Rattle.av_base.specs.Words.{is_in}
 use Rattle.av_vma.specs.declared.area.Area.{Area}
 use Rattle.av_vma.specs.Join.{is_reusable}
@@ -93,3 +94,40 @@ idle_there v (Some i) h = refl
 
 pub reused_there : (info : ℕ → Option Info) (xs : List ℕ) (v : ℕ) → reused info xs ≡ Some v → IsSome (info v)
 reused_there info xs v h = idle_there v (info v) (passes (λ u. is_idle u (info u)) xs v h)
+
+-- what is reused is a member, and idle
+pub found_in : (test : ℕ → Bool) (xs : List ℕ) (v : ℕ) → find test xs ≡ Some v → is_in v xs ≡ true
+found_in test [] v h = absurd (none_some h)
+found_in test (x ∷ xs) v h = by (test x) h (found_in test xs v)
+  where
+    same : ◌≡◌ {A = Option ℕ} (Some x) (Some v) → x ≡ v
+    same e = cc
+
+    later : (a : Bool) {b : Bool} → b ≡ true → (a || b) ≡ true
+    later true h = refl
+    later false h = h
+
+    by : (b : Bool) → cond b (Some x) (find test xs) ≡ Some v → (find test xs ≡ Some v → is_in v xs ≡ true) → is_in v (x ∷ xs) ≡ true
+    by true h rest = ap (λ b. b || is_in v xs) (eq-eqb v x (sym (same h)))
+    by false h rest = later (v == x) (rest h)
+
+idle_inactive : (v : ℕ) (m : Option Info) → is_idle v m ≡ true → (i : Info) × (m ≡ Some i) × (i.active ≡ 0)
+idle_inactive v None h = absurd (no h)
+  where
+    no : false ≡ true → ⊥
+    no e = cc
+idle_inactive v (Some i) h = (i, refl, eqb-true i.active 0 (left (i.active == 0) _ (right (nat_lt i.children 2) _ h)))
+  where
+    right : (a b : Bool) → (a && b) ≡ true → b ≡ true
+    right true b h = h
+    right false b h = absurd (no h)
+      where
+        no : false ≡ true → ⊥
+        no e = cc
+
+    left : (a b : Bool) → (a && b) ≡ true → a ≡ true
+    left true b h = refl
+    left false b h = h
+
+pub found_idle : (info : ℕ → Option Info) (xs : List ℕ) (v : ℕ) → reused info xs ≡ Some v → (i : Info) × (info v ≡ Some i) × (i.active ≡ 0)
+found_idle info xs v h = idle_inactive v (info v) (passes (λ u. is_idle u (info u)) xs v h)

@@ -20,7 +20,7 @@ some_of None h = absurd (no h)
     no e = cc
 some_of (Some x) h = (x, refl)
 
-some_is : {X : Type 0} {x y : X} → ◌≡◌ {A = Option X} (Some x) (Some y) → x ≡ y
+pub some_is : {X : Type 0} {x y : X} → ◌≡◌ {A = Option X} (Some x) (Some y) → x ≡ y
 some_is e = cc
 
 -- ---- anon_vmas stay there, with their roots and parents

@@ -188,3 +188,91 @@ module _ (areas : ℕ → Option Area) (f : Family) (spans : ℕ → List Span) 
           roots = λ u i h e. ap (λ (k : Info). is_in k.root (f.next ∷ [])) (same_some (sym e ∙ at u h)) ∙ itself;
           one_root = λ u w i j h h' e e'. ap (λ (k : Info). k.root) (same_some (sym e ∙ at u h)) ∙ sym (ap (λ (k : Info). k.root) (same_some (sym e' ∙ at w h')));
         }
+
+    -- a new one below the own anon_vma of another area, whose chain it joins
+    pub child_keeps : (src own : ℕ) (I : Info) (spans' : ℕ → List Span) → own_of (areas src) ≡ Some own → f.info own ≡ Some I
+        → GoWithLinks (give_own a (Some f.next) areas) (with_at a (f.chain src ++ f.next ∷ []) f.chain) spans'
+        → IsInOrder (give_own a (Some f.next) areas) (joined a (f.chain src ++ f.next ∷ []) (new_child I.root own f)) spans'
+    child_keeps src own I spans' is own_is spanned =
+        made_keeps (with_info own more_children f.info) (record { root = I.root; parent = own; children = 0; active = 1 }) (f.chain src ++ f.next ∷ []) spans'
+            (λ u w. child_same own f.info u w) x1 back refl (sym (ap flag (ne_eqb own f.next (λ e. absurd (let lt = own_below in omega arith))))) others mine spanned
+      where
+        x1 : Extends f.info (with_info own more_children f.info)
+        x1 = changed_extends own more_children f.info (λ i. refl) (λ i. refl)
+
+        k : IsChain f.info f.next (own_of (areas src)) (f.chain src)
+        k = o.chains src
+
+        own_in : is_in own (f.chain src) ≡ true
+        own_in = (o.chains src).own_in own is
+
+        own_below : own < f.next
+        own_below = (o.chains src).made own own_in
+
+        of_map : (m : Option Info) → IsSome (option_map more_children m) → IsSome m
+        of_map None h = h
+        of_map (Some i) h = refl
+
+        back : (u : ℕ) → IsSome (with_info own more_children f.info u) → IsSome (f.info u)
+        back u h = elim (cases_eq u own) [
+          | inl e ↦ of_map (f.info u) (subst IsSome (ap (λ b. cond b (option_map more_children (f.info own)) (f.info u)) (eq-eqb u own e) ∙ ap (λ w. option_map more_children (f.info w)) (sym e)) h)
+          | inr ne ↦ subst IsSome (with_at-other own (option_map more_children (f.info own)) f.info u ne) h
+        ]
+
+        others : (u : ℕ) (i j : Info) → (u ≡ f.next → ⊥) → f.info u ≡ Some i → with_info own more_children f.info u ≡ Some j → (j.children ≡ i.children + cond (own == u) 1 0) × (j.active ≡ i.active)
+        others u i j ne e e' = elim (cases_eq u own) [
+          | inl h ↦
+              let at : j ≡ more_children i = same_some (sym e' ∙ ap (λ b. cond b (option_map more_children (f.info own)) (f.info u)) (eq-eqb u own h) ∙ ap (λ w. option_map more_children (f.info w)) (sym h) ∙ ap (option_map more_children) e) in
+              let one : cond (own == u) 1 0 ≡ 1 = ap flag (eq-eqb own u (sym h)) in
+              let kids = ap (λ (k : Info). k.children) at in
+              (omega (arith, one, kids), ap (λ (k : Info). k.active) at)
+          | inr other ↦
+              let at : j ≡ i = same_some (sym e' ∙ with_at-other own (option_map more_children (f.info own)) f.info u other ∙ e) in
+              let zero : cond (own == u) 1 0 ≡ 0 = ap flag (ne_eqb own u (λ h. other (sym h))) in
+              let kids = ap (λ (k : Info). k.children) at in
+              (omega (arith, zero, kids), ap (λ (k : Info). k.active) at)
+        ]
+
+        -- the members that were there, with what is kept of them now
+        kept : IsChain (with_at f.next (Some (record { root = I.root; parent = own; children = 0; active = 1 })) (with_info own more_children f.info)) (suc f.next) (Some own) (f.chain src)
+        kept = chain_kept f.info (with_at f.next (Some (record { root = I.root; parent = own; children = 0; active = 1 })) (with_info own more_children f.info)) f.next (suc f.next) (Some own) (f.chain src)
+            (extends_trans f.info (with_info own more_children f.info) (with_at f.next (Some (record { root = I.root; parent = own; children = 0; active = 1 })) (with_info own more_children f.info)) x1
+              (made_extends f.next (record { root = I.root; parent = own; children = 0; active = 1 }) (with_info own more_children f.info) (λ u h. o.below u (back u h))))
+            (omega arith) (subst (λ w. IsChain f.info f.next w (f.chain src)) is (o.chains src))
+
+        at : (u : ℕ) → u ≡ f.next → with_at f.next (Some (record { root = I.root; parent = own; children = 0; active = 1 })) (with_info own more_children f.info) u ≡ Some (record { root = I.root; parent = own; children = 0; active = 1 })
+        at u e = ap (λ b. cond b (Some (record { root = I.root; parent = own; children = 0; active = 1 })) (with_info own more_children f.info u)) (eq-eqb u f.next e)
+
+        old : (u : ℕ) → is_in u (f.chain src ++ f.next ∷ []) ≡ true → (u ≡ f.next → ⊥) → is_in u (f.chain src) ≡ true
+        old u h ne = sym (in_as_before u f.next (f.chain src) ne) ∙ h
+
+        -- the root of each member is that of the own anon_vma
+        root_is : (u : ℕ) (i : Info) → is_in u (f.chain src ++ f.next ∷ []) ≡ true → with_at f.next (Some (record { root = I.root; parent = own; children = 0; active = 1 })) (with_info own more_children f.info) u ≡ Some i → i.root ≡ I.root
+        root_is u i h e = elim (cases_eq u f.next) [
+          | inl n ↦ ap (λ (j : Info). j.root) (same_some (sym e ∙ at u n))
+          | inr ne ↦
+              let new = x1.same own I own_is in
+              let own_now = with_at-other f.next (Some (record { root = I.root; parent = own; children = 0; active = 1 })) (with_info own more_children f.info) own (λ n. absurd (let lt = own_below in omega arith)) ∙ new.1 in
+              kept.one_root u own i new.0 (old u h ne) own_in e own_now ∙ new.2
+        ]
+
+        mine : IsChain (with_at f.next (Some (record { root = I.root; parent = own; children = 0; active = 1 })) (with_info own more_children f.info)) (suc f.next) (Some f.next) (f.chain src ++ f.next ∷ [])
+        mine = record {
+          none = λ e. absurd (some_none e);
+          own_in = λ u e. in_more u f.next (f.chain src) (sym (same_some e));
+          there = λ u h. elim (cases_eq u f.next) [
+            | inl n ↦ subst IsSome (sym (at u n)) refl
+            | inr ne ↦ kept.there u (old u h ne)
+          ];
+          made = λ u h. elim (cases_eq u f.next) [
+            | inl n ↦ omega arith
+            | inr ne ↦ kept.made u (old u h ne)
+          ];
+          rising = rising_more (f.chain src) f.next (o.chains src).rising (o.chains src).made;
+          parents = λ u i h e. elim (cases_eq u f.next) [
+            | inl n ↦ in_before i.parent f.next (f.chain src) (ap (λ (j : Info). is_in j.parent (f.chain src)) (same_some (sym e ∙ at u n)) ∙ own_in)
+            | inr ne ↦ in_before i.parent f.next (f.chain src) (kept.parents u i (old u h ne) e)
+          ];
+          roots = λ u i h e. in_before i.root f.next (f.chain src) (ap (λ r. is_in r (f.chain src)) (root_is u i h e) ∙ (o.chains src).roots own I own_in own_is);
+          one_root = λ u w i j h h' e e'. root_is u i h e ∙ sym (root_is w j h' e');
+        }
