@@ -1,3 +1,4 @@
+pub mod OrderLeft
 pub mod OrderMade
 pub mod OrderRaised
 pub mod OrderLemmas

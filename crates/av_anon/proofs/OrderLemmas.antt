@@ -49,8 +49,10 @@ made_extends n new info below = record {
       (i, with_at-other n (Some new) info u (λ h. absurd (omega arith)) ∙ e, refl, refl);
 }
 
-pub chain_kept : (info info' : ℕ → Option Info) (next next' : ℕ) (own : Option ℕ) (chain : List ℕ) → Extends info info' → next ≤ next' → IsChain info next own chain → IsChain info' next' own chain
-chain_kept info info' next next' own chain x le k = record {
+-- the members of one chain stay
+pub chain_kept_on : (info info' : ℕ → Option Info) (next next' : ℕ) (own : Option ℕ) (chain : List ℕ)
+    → ((u : ℕ) (i : Info) → is_in u chain ≡ true → info u ≡ Some i → (j : Info) × (info' u ≡ Some j) × (j.root ≡ i.root) × (j.parent ≡ i.parent)) → next ≤ next' → IsChain info next own chain → IsChain info' next' own chain
+chain_kept_on info info' next next' own chain same le k = record {
   none = k.none;
   own_in = k.own_in;
   there = λ u h. subst IsSome (sym (new u h).1) refl;
@@ -66,10 +68,13 @@ chain_kept info info' next next' own chain x le k = record {
     old u h = some_of (info u) (k.there u h)
 
     new : (u : ℕ) (h : is_in u chain ≡ true) → (j : Info) × (info' u ≡ Some j) × (j.root ≡ (some_of (info u) (k.there u h)).0.root) × (j.parent ≡ (some_of (info u) (k.there u h)).0.parent)
-    new u h = x.same u (some_of (info u) (k.there u h)).0 (some_of (info u) (k.there u h)).1
+    new u h = same u (some_of (info u) (k.there u h)).0 h (some_of (info u) (k.there u h)).1
 
-    is : (u : ℕ) (h : is_in u chain ≡ true) (j : Info) → info' u ≡ Some j → j ≡ (x.same u (some_of (info u) (k.there u h)).0 (some_of (info u) (k.there u h)).1).0
-    is u h j e = some_is (sym e ∙ (x.same u (some_of (info u) (k.there u h)).0 (some_of (info u) (k.there u h)).1).1)
+    is : (u : ℕ) (h : is_in u chain ≡ true) (j : Info) → info' u ≡ Some j → j ≡ (same u (some_of (info u) (k.there u h)).0 h (some_of (info u) (k.there u h)).1).0
+    is u h j e = some_is (sym e ∙ (same u (some_of (info u) (k.there u h)).0 h (some_of (info u) (k.there u h)).1).1)
+
+pub chain_kept : (info info' : ℕ → Option Info) (next next' : ℕ) (own : Option ℕ) (chain : List ℕ) → Extends info info' → next ≤ next' → IsChain info next own chain → IsChain info' next' own chain
+chain_kept info info' next next' own chain x le k = chain_kept_on info info' next next' own chain (λ u i h e. x.same u i e) le k
 
 -- ---- counting
 
@@ -98,7 +103,7 @@ how_many-others t t' a (x ∷ xs) absent h =
     clash : true ≡ false → ⊥
     clash e = cc
 
-none_in : (a : ℕ) (xs : List ℕ) → how_many (λ b. a == b) xs ≡ 0 → is_in a xs ≡ false
+pub none_in : (a : ℕ) (xs : List ℕ) → how_many (λ b. a == b) xs ≡ 0 → is_in a xs ≡ false
 none_in a [] h = refl
 none_in a (x ∷ xs) h = by (a == x) (none_in a xs) h
   where
@@ -112,6 +117,9 @@ not_a_user chain users m a u empty = none_in a (users u) (m.inverse a u ∙ ap (
 above_absent : (x : ℕ) (xs : List ℕ) → AllOf (λ y. x < y) xs → is_in x xs ≡ false
 above_absent x [] all = refl
 above_absent x (y ∷ ys) all = let lt = all.0 in ap (λ b. b || is_in x ys) (ne_eqb x y (λ e. absurd (omega arith))) ∙ above_absent x ys all.1
+
+pub rising_absent : (x : ℕ) (xs : List ℕ) → IsRising (x ∷ xs) → is_in x xs ≡ false
+rising_absent x xs rising = above_absent x xs rising.0
 
 pub rising_once : (u : ℕ) (xs : List ℕ) → IsRising xs → how_many (λ v. u == v) xs ≡ one_if (is_in u xs)
 rising_once u [] rising = refl

@@ -9,6 +9,7 @@ ghost use Rattle.av_anon.specs.Order.{IsArea, IsInOrder};
 ghost use Rattle.av_anon.specs.Prepare.{lent_to, prepared, prepared_own};
 ghost use Rattle.av_anon.specs.Resize.{resized};
 ghost use Rattle.av_anon.specs.Spans.{GoWithLinks};
+ghost use Rattle.av_anon.specs.Unlink.{unlinked};
 
 /// Without areas and anon_vmas there is chain order.
 pub fn nobody_is_in_order()
@@ -55,4 +56,14 @@ pub fn resize_keeps_order()
         → IsInOrder areas f spans → areas area ≡ Some A → IsArea (resized start end pgoff A)
         → let areas' = with_at area (Some (resized start end pgoff A)) areas in
         GoWithLinks areas' f.chain spans' → IsInOrder areas' f spans' }
+{}
+
+/// `Anons::unlink` keeps chain order.
+pub fn unlink_keeps_order()
+    ensures { (areas : ℕ → Option Area) (f : Family) (spans spans' : ℕ → List Span)
+        (area : ℕ) (A : Area)
+        → IsInOrder areas f spans → areas area ≡ Some A
+        → let areas' = give_own area None areas in
+        let f' = unlinked (own_of (areas area)) area f in
+        GoWithLinks areas' f'.chain spans' → IsInOrder areas' f' spans' }
 {}
