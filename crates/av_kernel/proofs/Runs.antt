@@ -8,8 +8,8 @@ use Rattle.av_vma.specs.declared.area.Area.{Area}
 use Rattle.av_base.specs.declared.prot.Prot.{Prot}
 use Rattle.av_vmatree.specs.declared.span.Span.{Span}
 use Rattle.av_merge.specs.Process.{IsAreaOf}
-use Rattle.av_trace.specs.declared.reply.Row.{Row}
-use Rattle.av_trace.specs.declared.reply.Row.TheVariants.{Run}
+use Rattle.av_trace.specs.declared.row.Row.{Row}
+use Rattle.av_trace.specs.declared.row.Row.TheVariants.{Run}
 use Rattle.av_plain.specs.Stands.{Range, AreApart}
 use Rattle.av_plain.proofs.JoinedRanges.{run_of, joined, all_joined, longest, on-pages, cover}
 use Rattle.av_kernel.specs.Spaces.{prot_by, range_by, ranges_by}

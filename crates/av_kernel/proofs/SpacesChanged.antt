@@ -12,10 +12,10 @@ use Rattle.av_base.specs.Limits.{low_page, top_page}
 use Rattle.av_base.specs.Words.{within}
 use Rattle.av_vmatree.specs.declared.span.Span.{Span}
 use Rattle.av_vmatree.specs.Spans.{IsFree, area_at, taken}
-use Rattle.av_merge.specs.Laid.{AreLaid}
+use Rattle.av_vma.specs.Pages.{AreLaid, Pages, has_page, cut_at, emptied, placed, joined_around, fresh_area, IsWhole}
 use Rattle.av_merge.specs.Mapping.{Mapping, mapping, mapping_in, with_prot}
-use Rattle.av_merge.specs.Pages.{Pages, pages_by, has_page, cut_at, emptied, placed, joined_around, fresh_area, IsReached}
-use Rattle.av_merge.specs.Process.{AreAreasOf, IsWhole, Stays}
+use Rattle.av_merge.specs.Pages.{pages_by, IsReached}
+use Rattle.av_merge.specs.Process.{AreAreasOf, Stays}
 use Rattle.av_merge.proofs.Mappings.{around_maps, cut_out_maps, laid_of, placed_maps}
 use Rattle.av_merge.proofs.Places.{taken_is}
 use Rattle.av_plain.specs.Stands.{prot_of}

@@ -1,6 +1,6 @@
 -- What a read or write does at one page.
 use Rattle.std.specs.Prelude.{◌≡◌, ℕ, ◌+◌, ◌-◌, ◌<◌, ◌∷◌, ◌≤◌, ◌++◌, Bool, true, false, List, length, Option, Some, None}
-use Rattle.av_trace.specs.declared.reply.Note.{Note}
+use Rattle.av_trace.specs.declared.note.Note.{Note}
 use Rattle.av_base.specs.declared.prot.Prot.{Prot}
 use Rattle.av_base.specs.Words.{with_at, is_in}
 use Rattle.av_pagetable.specs.declared.pte.Pte.{Pte}

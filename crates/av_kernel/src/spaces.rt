@@ -12,7 +12,7 @@ ghost use Rattle.av_merge.specs.Process.{AreAreasOf};
 ghost use Rattle.av_plain.specs.Stands.{prot_of};
 ghost use Rattle.av_kernel.specs.Spaces.{areas_of, is_taken, ranges_by, set_on, IsSpawned, IsChanged, IsEnded};
 ghost use Rattle.av_kernel.specs.Report.{AreRuns};
-ghost use Rattle.av_trace.specs.declared.reply.Row.TheVariants as row;
+ghost use Rattle.av_trace.specs.declared.row.Row.TheVariants as row;
 
 use av_trace::{Row, Rows};
 use av_vma::{Area, Areas};
