@@ -5,19 +5,20 @@ use Rattle.av_trace.specs.declared.note.Note.{Note}
 use Rattle.av_base.specs.Words.{numbers}
 use Rattle.av_plain.specs.World.{World, lives, pages}
 use Rattle.av_plain.specs.Ledger.{Ledger, Setting}
-use Rattle.av_plain.specs.Event.{Event, Used, after_all, notes_of}
-use Rattle.av_plain.specs.Fault.{Accesses, End, Whole, Stopped, How, Served, Denied, Starved, Lost, Touches, happening, noting, is_allowed, touched}
-use Rattle.av_plain.specs.Step.{stored, Reads}
+use Rattle.av_plain.specs.Event.{Event, Used, after_all, notes_of, note_events}
+use Rattle.av_plain.specs.Access.{Accesses, End, Whole, Stopped, pages_of_access, after_write, Reads}
+use Rattle.av_plain.specs.Fault.{How, Served, Denied, Starved, Lost, Touches, page_events, is_allowed}
 use Rattle.av_plain.specs.Choice.{ChoosesAll}
 use Rattle.av_plain.specs.Transcript.{State}
-use Rattle.av_plain.proofs.AccessLaws.{after_all-append, notes_of-append, notes_of-noting, chooses-append, accesses-append, alike-all}
-use Rattle.av_kernel.specs.declared.mem.Mem.{Mem}
-use Rattle.av_kernel.specs.declared.touched.Stop.{Stop}
-use Rattle.av_kernel.specs.declared.touched.Stop.TheVariants.{Segv, Oom}
-use Rattle.av_kernel.specs.View.{setting, count}
-use Rattle.av_kernel.specs.Page.{IsPageStep, ShowsPiece, how_stopped, world_after}
-use Rattle.av_kernel.specs.declared.access.Piece.{Piece}
+use Rattle.av_plain.proofs.Access.{after_all-append, notes_of-append, notes_of-note_events, chooses-append, accesses-append, alike-all}
+use Rattle.av_reclaim.specs.declared.mem.Mem.{Mem}
+use Rattle.av_fault.specs.declared.fault.Stop.{Stop}
+use Rattle.av_fault.specs.declared.fault.Stop.TheVariants.{Segv, Oom}
+use Rattle.av_reclaim.specs.Mem.{setting, count}
+use Rattle.av_kernel.specs.Page.{IsPageStep, ShowsPiece, world_after}
 use Rattle.av_kernel.specs.Access.{IsAccess, IsPiece, world_served}
+use Rattle.av_fault.specs.Fault.{how_stopped}
+use Rattle.av_kernel.specs.declared.access.Piece.{Piece}
 use Rattle.av_kernel.proofs.AccessPages.{touches, touched-one, touched-more}
 use Rattle.av_kernel.proofs.AccessBytes.{reads-more, stored_twice, allowed-stored, lives-stored}
 
@@ -33,7 +34,7 @@ lives-served w false p a bytes h = h
 
 pub served_twice : (w : World) (write : Bool) (p a page at : ℕ) (xs ys : List ℕ) → (write ≡ true → 4096 * page + at ≡ a + length xs)
     → world_after write p page at ys None (world_served write p a xs w) ≡ world_served write p a (xs ++ ys) w
-served_twice w true p a page at xs ys is = ap (λ b. stored (stored w p a xs) p b ys) (is refl) ∙ stored_twice w p a xs ys
+served_twice w true p a page at xs ys is = ap (λ b. after_write (after_write w p a xs) p b ys) (is refl) ∙ stored_twice w p a xs ys
 served_twice w false p a page at xs ys is = refl
 
 -- a page that stopped leaves the memories
@@ -47,20 +48,20 @@ still_lives {s} {mid} {write} {p} {a} {k} {xs} lived h = ap (λ w. lives w p) h.
 
 -- ---- what happens at one page
 
-pub notes-happening : (write : Bool) (k : ℕ × ℕ) (added : List Note) (how : How) → notes_of (happening write k added how) ≡ added
-notes-happening write k added Served = notes_of-append (noting added) (Used write k ∷ []) ∙ append-nil _ ∙ notes_of-noting added
-notes-happening write k added Denied = notes_of-noting added
-notes-happening write k added (Starved out) = notes_of-noting added
-notes-happening write k added Lost = notes_of-noting added
+pub notes-happening : (write : Bool) (k : ℕ × ℕ) (added : List Note) (how : How) → notes_of (page_events write k added how) ≡ added
+notes-happening write k added Served = notes_of-append (note_events added) (Used write k ∷ []) ∙ append-nil _ ∙ notes_of-note_events added
+notes-happening write k added Denied = notes_of-note_events added
+notes-happening write k added (Starved out) = notes_of-note_events added
+notes-happening write k added Lost = notes_of-note_events added
 
 -- a page that is served is an access of this page, whole
 one_served : (m : Setting) (w : World) (l : Ledger) (write : Bool) (p page : ℕ) (added : List Note) → Touches m w l write (p, page) added Served
-    → Accesses m w l write p (page ∷ []) (happening write (p, page) added Served) Whole
+    → Accesses m w l write p (page ∷ []) (page_events write (p, page) added Served) Whole
 one_served m w l write p page added h = (added, Served, [], h, sym (append-nil _), (refl, refl))
 
 -- a page that stops an access of it and more
 one_stopped : (m : Setting) (w : World) (l : Ledger) (write : Bool) (p page : ℕ) (rest : List ℕ) (added : List Note) (stop : Stop) → Touches m w l write (p, page) added (how_stopped stop)
-    → Accesses m w l write p (page ∷ rest) (happening write (p, page) added (how_stopped stop)) (Stopped page (how_stopped stop))
+    → Accesses m w l write p (page ∷ rest) (page_events write (p, page) added (how_stopped stop)) (Stopped page (how_stopped stop))
 one_stopped m w l write p page rest added Segv h = (added, Denied, [], h, sym (append-nil _), (refl, refl))
 one_stopped m w l write p page rest added (Oom out) h = (added, Starved out, [], h, sym (append-nil _), (refl, refl))
 
@@ -74,15 +75,15 @@ record Behind (a k page at : ℕ) : Type 0 where
 
 module _ (s : State) (mid new : Mem) (write : Bool) (p a k page at : ℕ) (xs ys : List ℕ) (before now after : List Note)
     (same : count new ≡ count mid) (behind : Behind a k page at) (h : IsAccess s mid write p a k xs before now None k) where
-  notes-both : (how : How) (added : List Note) → after ≡ now ++ added → after ≡ before ++ notes_of (h.events ++ happening write (p, page) added how)
+  notes-both : (how : How) (added : List Note) → after ≡ now ++ added → after ≡ before ++ notes_of (h.events ++ page_events write (p, page) added how)
   notes-both how added is = is ∙ ap (λ ns. ns ++ added) h.notes ∙ append_assoc before (notes_of h.events) added
-      ∙ ap (λ ns. before ++ ns) (ap (λ ns. notes_of h.events ++ ns) (sym (notes-happening write (p, page) added how)) ∙ sym (notes_of-append h.events (happening write (p, page) added how)))
+      ∙ ap (λ ns. before ++ ns) (ap (λ ns. notes_of h.events ++ ns) (sym (notes-happening write (p, page) added how)) ∙ sym (notes_of-append h.events (page_events write (p, page) added how)))
 
   accesses-both : (pages : List ℕ) (more : List Event) (end : End) → Accesses (setting (count new)) h.next.world h.next.ledger write p pages more end
-      → Accesses (setting (count new)) s.world s.ledger write p (touched a k ++ pages) (h.events ++ more) end
-  accesses-both pages more end g = accesses-append (setting (count new)) s.world h.next.world s.ledger write p (touched a k) pages h.events more end
+      → Accesses (setting (count new)) s.world s.ledger write p (pages_of_access a k ++ pages) (h.events ++ more) end
+  accesses-both pages more end g = accesses-append (setting (count new)) s.world h.next.world s.ledger write p (pages_of_access a k) pages h.events more end
       (alike-all s.world h.next.world write p (λ page. allowed-served s.world write p a xs page ∙ ap (λ w. is_allowed w write (p, page)) (sym h.world)) pages)
-      (subst (λ n. Accesses (setting n) s.world s.ledger write p (touched a k) h.events Whole) (sym same) (subst (λ end. Accesses (setting (count mid)) s.world s.ledger write p (touched a k) h.events end) h.is_end.0 h.accesses))
+      (subst (λ n. Accesses (setting n) s.world s.ledger write p (pages_of_access a k) h.events Whole) (sym same) (subst (λ end. Accesses (setting (count mid)) s.world s.ledger write p (pages_of_access a k) h.events end) h.is_end.0 h.accesses))
       (subst (λ l. Accesses (setting (count new)) h.next.world l write p pages more end) h.ledger g)
 
   free-both : (more : List Event) (free : List ℕ) → ChoosesAll h.next.ledger more h.next.free free → ChoosesAll s.ledger (h.events ++ more) s.free free
@@ -95,10 +96,10 @@ module _ (s : State) (mid new : Mem) (write : Bool) (p a k page at : ℕ) (xs ys
   goes_on : (m : ℕ) → at + m ≤ 4096 → 1 ≤ m → (write ≡ true → length xs ≡ k) → IsPageStep h.next new write p page at ys now after None
       → IsAccess s new write p a (k + m) (xs ++ ys) before after None (k + m)
   goes_on m small some long g = record {
-    events = h.events ++ happening write (p, page) g.added Served;
+    events = h.events ++ page_events write (p, page) g.added Served;
     notes = notes-both Served g.added g.notes;
     end = Whole;
-    accesses = subst (λ pages. Accesses (setting (count new)) s.world s.ledger write p pages (h.events ++ happening write (p, page) g.added Served) Whole) (sym (touched-one a k m page at behind.is small some behind.begins))
+    accesses = subst (λ pages. Accesses (setting (count new)) s.world s.ledger write p pages (h.events ++ page_events write (p, page) g.added Served) Whole) (sym (touched-one a k m page at behind.is small some behind.begins))
         (accesses-both (page ∷ []) _ Whole (one_served _ h.next.world h.next.ledger write p page g.added g.touches));
     is_end = (refl, refl);
     next = g.next;
@@ -112,10 +113,10 @@ module _ (s : State) (mid new : Mem) (write : Bool) (p a k page at : ℕ) (xs ys
   stops : (n : ℕ) (stop : Stop) → k < n → IsPageStep h.next new write p page at ys now after (Some stop)
       → IsAccess s new write p a n xs before after (Some stop) k
   stops n stop less g = record {
-    events = h.events ++ happening write (p, page) g.added (how_stopped stop);
+    events = h.events ++ page_events write (p, page) g.added (how_stopped stop);
     notes = notes-both (how_stopped stop) g.added g.notes;
     end = Stopped page (how_stopped stop);
-    accesses = subst (λ pages. Accesses (setting (count new)) s.world s.ledger write p pages (h.events ++ happening write (p, page) g.added (how_stopped stop)) (Stopped page (how_stopped stop))) (sym (touched-more a k n page at behind.is behind.small less behind.begins))
+    accesses = subst (λ pages. Accesses (setting (count new)) s.world s.ledger write p pages (h.events ++ page_events write (p, page) g.added (how_stopped stop)) (Stopped page (how_stopped stop))) (sym (touched-more a k n page at behind.is behind.small less behind.begins))
         (accesses-both (page ∷ numbers (page + 1) (touches a n - (touches a k + 1))) _ _ (one_stopped _ h.next.world h.next.ledger write p page _ g.added stop g.touches));
     is_end = (page, refl, served k behind.is behind.begins, less);
     next = g.next;

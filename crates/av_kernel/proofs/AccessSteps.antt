@@ -10,16 +10,16 @@ use Rattle.av_trace.specs.declared.reply.Answer.{Answer}
 use Rattle.av_trace.specs.declared.reply.Answer.TheVariants as answers
 use Rattle.av_trace.specs.declared.command.Command.TheVariants.{Read, Write}
 use Rattle.av_plain.specs.World.{World, lives, pages}
-use Rattle.av_plain.specs.Fault.{Accesses, Whole, Stopped, touched, bytes_before}
-use Rattle.av_plain.specs.Step.{Answers, Reads, stored, next}
+use Rattle.av_plain.specs.Access.{Accesses, Whole, Stopped, pages_of_access, bytes_before, Answers, Reads, after_write}
+use Rattle.av_plain.specs.Step.{next}
 use Rattle.av_plain.specs.Transcript.{State}
 use Rattle.av_plain.specs.Event.{Event, notes_of}
-use Rattle.av_kernel.specs.declared.mem.Mem.{Mem}
-use Rattle.av_kernel.specs.declared.touched.Stop.{Stop}
-use Rattle.av_kernel.specs.declared.touched.Stop.TheVariants.{Segv, Oom}
-use Rattle.av_kernel.specs.View.{setting, count}
-use Rattle.av_kernel.specs.Page.{how_stopped}
-use Rattle.av_kernel.specs.Command.{MemSteps}
+use Rattle.av_reclaim.specs.declared.mem.Mem.{Mem}
+use Rattle.av_fault.specs.declared.fault.Stop.{Stop}
+use Rattle.av_fault.specs.declared.fault.Stop.TheVariants.{Segv, Oom}
+use Rattle.av_reclaim.specs.Mem.{setting, count}
+use Rattle.av_fault.specs.Fault.{how_stopped}
+use Rattle.av_kernel.specs.Step.{MemSteps}
 use Rattle.av_kernel.specs.Access.{IsAccess, answer_of}
 
 -- the process lives, so that the command is not refused
@@ -38,7 +38,7 @@ answers-stopped false a n k page Segv shown is = ap (λ k. answers.Segv k shown)
 answers-stopped false a n k page (Oom out) shown is = ap (λ k. answers.Oom k out shown) is
 
 -- a write that stopped stored what it says
-world-stopped : (w : World) (p a k : ℕ) (bytes : List ℕ) (stop : Stop) → stored w p a (take k bytes) ≡ next w (Write p a bytes) (answer_of stop k [])
+world-stopped : (w : World) (p a k : ℕ) (bytes : List ℕ) (stop : Stop) → after_write w p a (take k bytes) ≡ next w (Write p a bytes) (answer_of stop k [])
 world-stopped w p a k bytes Segv = refl
 world-stopped w p a k bytes (Oom out) = refl
 
@@ -57,7 +57,7 @@ module _ (s : State) (old new : Mem) (p a : ℕ) (before notes : List Note) (row
         answer = not_refused (lives s.world p) _ _ lived (
           Whole,
           shown,
-          subst (λ end. Accesses (setting (count old)) s.world s.ledger false p (touched a n) h.events end) h.is_end.0 (subst (λ m. Accesses (setting m) s.world s.ledger false p (touched a n) h.events h.end) same h.accesses),
+          subst (λ end. Accesses (setting (count old)) s.world s.ledger false p (pages_of_access a n) h.events end) h.is_end.0 (subst (λ m. Accesses (setting m) s.world s.ledger false p (pages_of_access a n) h.events h.end) same h.accesses),
           subst (λ k. Reads (pages s.world p) a k shown) h.is_end.1 reads,
           is,
           none,
@@ -81,7 +81,7 @@ module _ (s : State) (old new : Mem) (p a : ℕ) (before notes : List Note) (row
         answer = not_refused (lives s.world p) _ _ lived (
           Stopped h.is_end.0 (how_stopped stop),
           shown,
-          subst (λ end. Accesses (setting (count old)) s.world s.ledger false p (touched a n) h.events end) h.is_end.1 (subst (λ m. Accesses (setting m) s.world s.ledger false p (touched a n) h.events h.end) same h.accesses),
+          subst (λ end. Accesses (setting (count old)) s.world s.ledger false p (pages_of_access a n) h.events end) h.is_end.1 (subst (λ m. Accesses (setting m) s.world s.ledger false p (pages_of_access a n) h.events h.end) same h.accesses),
           subst (λ k. Reads (pages s.world p) a k shown) h.is_end.2 reads,
           subst (Answers false a n (Stopped h.is_end.0 (how_stopped stop)) shown) (sym is) (answers-stopped false a n k h.is_end.0 stop shown h.is_end.2),
           none,
@@ -104,13 +104,13 @@ module _ (s : State) (old new : Mem) (p a : ℕ) (before notes : List Note) (row
       legal = record {
         answer = not_refused (lives s.world p) _ _ lived (
           Whole,
-          subst (λ end. Accesses (setting (count old)) s.world s.ledger true p (touched a (length bytes)) h.events end) h.is_end.0 (subst (λ m. Accesses (setting m) s.world s.ledger true p (touched a (length bytes)) h.events h.end) same h.accesses),
+          subst (λ end. Accesses (setting (count old)) s.world s.ledger true p (pages_of_access a (length bytes)) h.events end) h.is_end.0 (subst (λ m. Accesses (setting m) s.world s.ledger true p (pages_of_access a (length bytes)) h.events h.end) same h.accesses),
           is,
           none,
         );
         notes = alone h.events h.notes;
       };
-      world = h.world ∙ ap (stored s.world p a) (ap (λ k. take k bytes) h.is_end.1 ∙ take-length bytes) ∙ ap (next s.world (Write p a bytes)) (sym is);
+      world = h.world ∙ ap (after_write s.world p a) (ap (λ k. take k bytes) h.is_end.1 ∙ take-length bytes) ∙ ap (next s.world (Write p a bytes)) (sym is);
       ledger = h.ledger;
       free = h.free;
     };
@@ -126,7 +126,7 @@ module _ (s : State) (old new : Mem) (p a : ℕ) (before notes : List Note) (row
       legal = record {
         answer = not_refused (lives s.world p) _ _ lived (
           Stopped h.is_end.0 (how_stopped stop),
-          subst (λ end. Accesses (setting (count old)) s.world s.ledger true p (touched a (length bytes)) h.events end) h.is_end.1 (subst (λ m. Accesses (setting m) s.world s.ledger true p (touched a (length bytes)) h.events h.end) same h.accesses),
+          subst (λ end. Accesses (setting (count old)) s.world s.ledger true p (pages_of_access a (length bytes)) h.events end) h.is_end.1 (subst (λ m. Accesses (setting m) s.world s.ledger true p (pages_of_access a (length bytes)) h.events h.end) same h.accesses),
           subst (Answers true a (length bytes) (Stopped h.is_end.0 (how_stopped stop)) []) (sym is) (answers-stopped true a (length bytes) k h.is_end.0 stop [] h.is_end.2),
           none,
         );
