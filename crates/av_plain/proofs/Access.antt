@@ -1,12 +1,12 @@
 -- Accesses, events and choices put together from two parts.
-use Rattle.std.proofs.Common.{◌≡◌, ℕ, Bool, List, [], ◌∷◌, ◌++◌, refl, sym, ap, subst, ◌∙◌}
+use Rattle.std.proofs.Common.{◌≡◌, ◌⊎◌, inl, inr, ℕ, Bool, List, [], ◌∷◌, ◌++◌, Option, Some, None, refl, sym, ap, subst, ◌∙◌}
 use Rattle.std.proofs.lemmas.List.{append_assoc}
 use Rattle.av_trace.specs.declared.reply.Note.{Note}
 use Rattle.av_plain.specs.World.{World}
 use Rattle.av_plain.specs.Ledger.{Ledger, Setting}
-use Rattle.av_plain.specs.Event.{Event, Noted, Zapped, Used, Forked, Moved, TurnedOn, TurnedOff, after, after_all, notes_of, after_notes, note_events}
-use Rattle.av_plain.specs.Access.{Accesses, End, Whole, Stopped, GoesOn}
-use Rattle.av_plain.specs.Fault.{How, Served, Denied, Starved, Lost, Touches, page_events, is_allowed}
+use Rattle.av_plain.specs.Event.{Event, Noted, after, after_all, note_in, notes_of, after_notes, note_events}
+use Rattle.av_plain.specs.Fault.{Stop, Denied, Starved, Lost, Touches, Sparing, sparing, Serves, RunsOut, IsLost, is_allowed}
+use Rattle.av_plain.specs.Access.{Accesses, End, Whole, Stopped, page_events}
 use Rattle.av_plain.specs.Choice.{ChoosesAll}
 
 pub after_all-append : (l : Ledger) (es fs : List Event) → after_all l (es ++ fs) ≡ after_all (after_all l es) fs
@@ -15,13 +15,7 @@ after_all-append l (e ∷ es) fs = after_all-append (after l e) es fs
 
 pub notes_of-append : (es fs : List Event) → notes_of (es ++ fs) ≡ notes_of es ++ notes_of fs
 notes_of-append [] fs = refl
-notes_of-append (Noted note ∷ es) fs = ap (λ ns. note ∷ ns) (notes_of-append es fs)
-notes_of-append (Zapped k ∷ es) fs = notes_of-append es fs
-notes_of-append (Used write k ∷ es) fs = notes_of-append es fs
-notes_of-append (Forked p q ∷ es) fs = notes_of-append es fs
-notes_of-append (Moved p n from to ∷ es) fs = notes_of-append es fs
-notes_of-append (TurnedOn k slots bad ∷ es) fs = notes_of-append es fs
-notes_of-append (TurnedOff k ∷ es) fs = notes_of-append es fs
+notes_of-append (e ∷ es) fs = ap (λ ns. note_in e ++ ns) (notes_of-append es fs) ∙ sym (append_assoc (note_in e) (notes_of es) (notes_of fs))
 
 -- the notes of events that are notes alone
 pub notes_of-note_events : (notes : List Note) → notes_of (note_events notes) ≡ notes
@@ -40,65 +34,57 @@ pub after_notes-append : (l : Ledger) (a b : List Note) → after_notes l (a ++ 
 after_notes-append l [] b = refl
 after_notes-append l (note ∷ a) b = after_notes-append (after l (Noted note)) a b
 
-pub chooses-append : (l : Ledger) (es fs : List Event) (free mid free' : List ℕ) → ChoosesAll l es free mid → ChoosesAll (after_all l es) fs mid free' → ChoosesAll l (es ++ fs) free free'
-chooses-append l [] fs free mid free' a b = subst (λ x. ChoosesAll l fs x free') a b
-chooses-append l (e ∷ es) fs free mid free' a b = (a.0, a.1, chooses-append (after l e) es fs a.0 mid free' a.2 b)
+pub chooses-append : (m : Setting) (l : Ledger) (es fs : List Event) (free mid free' : List ℕ) → ChoosesAll m l es free mid → ChoosesAll m (after_all l es) fs mid free'
+    → ChoosesAll m l (es ++ fs) free free'
+chooses-append m l [] fs free mid free' a b = subst (λ x. ChoosesAll m l fs x free') a b
+chooses-append m l (e ∷ es) fs free mid free' a b = (a.0, a.1, chooses-append m (after l e) es fs a.0 mid free' a.2 b)
 
 -- ---- accesses
 
--- whether each of the pages may be touched is the same in both memories
-abbrev pub AllowAlike : World → World → Bool → ℕ → List ℕ → Type 0
-AllowAlike w w' write p [] = Unit {0}
-AllowAlike w w' write p (page ∷ pages) = (is_allowed w write (p, page) ≡ is_allowed w' write (p, page)) × AllowAlike w w' write p pages
+-- what each page keeps, an access keeps
+pub accesses-keep : (P : Ledger → Type 0) (m : Setting) (w : World) (p : ℕ)
+    → ((l : Ledger) (write : Bool) (page : ℕ) (notes : List Note) (end : Option Stop) → P l → Touches m w l write (p, page) notes end → P (after_all l (page_events write (p, page) notes end)))
+    → (l : Ledger) (pages : List (Bool × ℕ)) (events : List Event) (end : End) → P l → Accesses m w l p pages events end → P (after_all l events)
+accesses-keep P m w p each l [] events end s h = subst (λ es. P (after_all l es)) (sym h.0) s
+accesses-keep P m w p each l (page ∷ rest) events end s (inl h) =
+    let here = page_events page.0 (p, page.1) h.0 None in
+    subst (λ es. P (after_all l es)) (sym h.3) (subst P (sym (after_all-append l here h.1))
+    (accesses-keep P m w p each (after_all l here) rest h.1 end (each l page.0 page.1 h.0 None s h.2) h.4))
+accesses-keep P m w p each l (page ∷ rest) events end s (inr h) = subst (λ es. P (after_all l es)) (sym h.3) (each l page.0 page.1 h.0 (Some h.1) s h.2)
 
-pub alike-all : (w w' : World) (write : Bool) (p : ℕ) → ((page : ℕ) → is_allowed w write (p, page) ≡ is_allowed w' write (p, page)) → (pages : List ℕ) → AllowAlike w w' write p pages
-alike-all w w' write p h [] = tt
-alike-all w w' write p h (page ∷ pages) = (h page, alike-all w w' write p h pages)
+-- an access of p sees both memories alike: pages may be touched alike, and a pass leaves the same alone
+pub record SeenAlike (w w' : World) (p : ℕ) : Type 0 where
+  pub allowed : (write : Bool) (page : ℕ) → is_allowed w write (p, page) ≡ is_allowed w' write (p, page)
+  pub spares : sparing w ≡ sparing w'
 
-touches-alike : (m : Setting) (w w' : World) (l : Ledger) (write : Bool) (p page : ℕ) (notes : List Note) (how : How) → is_allowed w write (p, page) ≡ is_allowed w' write (p, page)
-    → Touches m w' l write (p, page) notes how → Touches m w l write (p, page) notes how
-touches-alike m w w' l write p page notes Served e h = (e ∙ h.0, h.1)
-touches-alike m w w' l write p page notes Denied e h = (e ∙ h.0, h.1)
-touches-alike m w w' l write p page notes (Starved out) e h = (e ∙ h.0, h.1)
-touches-alike m w w' l write p page notes Lost e h = (e ∙ h.0, h.1)
+-- as long as a pass doesn't look at the memories
+pub alike-by-allowed : (w w' : World) (p : ℕ) → ((write : Bool) (page : ℕ) → is_allowed w write (p, page) ≡ is_allowed w' write (p, page)) → SeenAlike w w' p
+alike-by-allowed w w' p h = record { allowed = h; spares = refl }
 
--- an access of the same pages, seen from memories that allow it alike
-pub accesses-alike : (m : Setting) (w w' : World) (l : Ledger) (write : Bool) (p : ℕ) (pages : List ℕ) (events : List Event) (end : End) → AllowAlike w w' write p pages
-    → Accesses m w' l write p pages events end → Accesses m w l write p pages events end
-accesses-alike m w w' l write p [] events end same h = h
-accesses-alike m w w' l write p (page ∷ pages) events end same h =
-    (h.0, h.1, h.2, touches-alike m w w' l write p page h.0 h.1 same.0 h.3, h.4, goes_on h.1 h.0 page h.2 end _ _ (λ l' rest. accesses-alike m w w' l' write p pages h.2 end same.1 rest) h.5)
-  where
-    goes_on : (how : How) (notes : List Note) (page : ℕ) (later : List Event) (end : End) (Old New : Ledger → Type 0) → ((l' : Ledger) → Old l' → New l')
-        → GoesOn how page later end (Old (after_all l (page_events write (p, page) notes how))) → GoesOn how page later end (New (after_all l (page_events write (p, page) notes how)))
-    goes_on Served notes page later end Old New f rest = f (after_all l (page_events write (p, page) notes Served)) rest
-    goes_on Denied notes page later end Old New f rest = rest
-    goes_on (Starved out) notes page later end Old New f rest = rest
-    goes_on Lost notes page later end Old New f rest = rest
+pub touches-alike : (m : Setting) (w w' : World) (l : Ledger) (write : Bool) (p page : ℕ) (notes : List Note) (end : Option Stop) → SeenAlike w w' p
+    → Touches m w' l write (p, page) notes end → Touches m w l write (p, page) notes end
+touches-alike m w w' l write p page notes None same h = (same.allowed write page ∙ h.0, subst (λ sp. Serves m sp l write (p, page) notes) (sym same.spares) h.1)
+touches-alike m w w' l write p page notes (Some Denied) same h = (same.allowed write page ∙ h.0, h.1)
+touches-alike m w w' l write p page notes (Some (Starved out)) same h = (same.allowed write page ∙ h.0, subst (λ sp. RunsOut m sp l write (p, page) notes out) (sym same.spares) h.1)
+touches-alike m w w' l write p page notes (Some Lost) same h = (same.allowed write page ∙ h.0, subst (λ sp. IsLost m sp l write (p, page) notes) (sym same.spares) h.1)
 
-not_whole : (page : ℕ) (how : How) → Whole ≡ Stopped page how → ⊥
-not_whole page how e = cc
+pub accesses-alike : (m : Setting) (w w' : World) (l : Ledger) (p : ℕ) (pages : List (Bool × ℕ)) (events : List Event) (end : End) → SeenAlike w w' p
+    → Accesses m w' l p pages events end → Accesses m w l p pages events end
+accesses-alike m w w' l p [] events end same h = h
+accesses-alike m w w' l p (page ∷ pages) events end same (inl h) =
+    inl (h.0, h.1, touches-alike m w w' l page.0 p page.1 h.0 None same h.2, h.3, accesses-alike m w w' (after_all l (page_events page.0 (p, page.1) h.0 None)) p pages h.1 end same h.4)
+accesses-alike m w w' l p (page ∷ pages) events end same (inr h) = inr (h.0, h.1, touches-alike m w w' l page.0 p page.1 h.0 (Some h.1) same h.2, h.3, h.4)
 
--- an access that was served whole goes on with further pages, which may be seen from memories that allow them alike
-pub accesses-append : (m : Setting) (w w' : World) (l : Ledger) (write : Bool) (p : ℕ) (xs ys : List ℕ) (es fs : List Event) (end : End) → AllowAlike w w' write p ys
-    → Accesses m w l write p xs es Whole → Accesses m w' (after_all l es) write p ys fs end → Accesses m w l write p (xs ++ ys) (es ++ fs) end
-accesses-append m w w' l write p [] ys es fs end same a b =
-    subst (λ x. Accesses m w l write p ys (x ++ fs) end) (sym a.0) (accesses-alike m w w' l write p ys fs end same (subst (λ x. Accesses m w' (after_all l x) write p ys fs end) a.0 b))
-accesses-append m w w' l write p (page ∷ xs) ys es fs end same a b = (
-  a.0,
-  a.1,
-  a.2 ++ fs,
-  a.3,
-  ap (λ x. x ++ fs) a.4 ∙ append_assoc (page_events write (p, page) a.0 a.1) a.2 fs,
-  on a.1 a.4 (λ rest b'. accesses-append m w w' (after_all l (page_events write (p, page) a.0 a.1)) write p xs ys a.2 fs end same rest b') a.5,
-)
-  where
-    on : (how : How) → es ≡ page_events write (p, page) a.0 how ++ a.2
-        → (Accesses m w (after_all l (page_events write (p, page) a.0 how)) write p xs a.2 Whole → Accesses m w' (after_all (after_all l (page_events write (p, page) a.0 how)) a.2) write p ys fs end
-        → Accesses m w (after_all l (page_events write (p, page) a.0 how)) write p (xs ++ ys) (a.2 ++ fs) end)
-        → GoesOn how page a.2 Whole (Accesses m w (after_all l (page_events write (p, page) a.0 how)) write p xs a.2 Whole)
-        → GoesOn how page (a.2 ++ fs) end (Accesses m w (after_all l (page_events write (p, page) a.0 how)) write p (xs ++ ys) (a.2 ++ fs) end)
-    on Served is f rest = f rest (subst (λ x. Accesses m w' x write p ys fs end) (ap (after_all l) is ∙ after_all-append l (page_events write (p, page) a.0 Served) a.2) b)
-    on Denied is f rest = absurd (not_whole page Denied rest.1)
-    on (Starved out) is f rest = absurd (not_whole page (Starved out) rest.1)
-    on Lost is f rest = absurd (not_whole page Lost rest.1)
+not_whole : (page : ℕ) (stop : Stop) → Whole ≡ Stopped page stop → ⊥
+not_whole page stop e = cc
+
+-- an access that was served whole goes on with further pages, which may be seen from memories that it sees alike
+pub accesses-append : (m : Setting) (w w' : World) (l : Ledger) (p : ℕ) (xs ys : List (Bool × ℕ)) (es fs : List Event) (end : End) → SeenAlike w w' p
+    → Accesses m w l p xs es Whole → Accesses m w' (after_all l es) p ys fs end → Accesses m w l p (xs ++ ys) (es ++ fs) end
+accesses-append m w w' l p [] ys es fs end same a b =
+    subst (λ x. Accesses m w l p ys (x ++ fs) end) (sym a.0) (accesses-alike m w w' l p ys fs end same (subst (λ x. Accesses m w' (after_all l x) p ys fs end) a.0 b))
+accesses-append m w w' l p (page ∷ xs) ys es fs end same (inl a) b =
+    let here = page_events page.0 (p, page.1) a.0 None in
+    inl (a.0, a.1 ++ fs, a.2, ap (λ x. x ++ fs) a.3 ∙ append_assoc here a.1 fs,
+    accesses-append m w w' (after_all l here) p xs ys a.1 fs end same a.4 (subst (λ x. Accesses m w' x p ys fs end) (ap (after_all l) a.3 ∙ after_all-append l here a.1) b))
+accesses-append m w w' l p (page ∷ xs) ys es fs end same (inr a) b = absurd (not_whole page.1 a.1 a.4)

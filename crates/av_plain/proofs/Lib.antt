@@ -2,6 +2,8 @@ pub mod World
 pub mod Ledger
 pub mod Event
 pub mod Access
+pub mod Pass
+pub mod Choice
 pub mod Zap
 pub mod Report
 pub mod Refusal

@@ -2,7 +2,6 @@
 use Rattle.std.proofs.Common.{◌≡◌, ◌⊎◌, inl, inr, ℕ, ◌<◌, ◌≤◌, Bool, true, false, cond, not, List, [], length, Option, Some, None, is_some, refl, sym, ap, subst, ◌∙◌, arith, ◌==◌, if◌then◌else◌}
 use Rattle.std.proofs.lemmas.Bool.Decides.{nat_tests}
 use Rattle.std.specs.Prelude.{MatchOption}
-use Rattle.av_base.specs.declared.prot.Prot.{Prot}
 use Rattle.av_trace.specs.declared.command.Command.{Command}
 use Rattle.av_trace.specs.declared.command.Command.TheVariants.{Spawn, Exit, Mmap, Munmap, Mprotect, Read, Write, Maps, Stat}
 use Rattle.av_trace.specs.declared.command.Place.{Place}
@@ -13,17 +12,18 @@ use Rattle.av_trace.specs.declared.reply.Row.{Row}
 use Rattle.av_trace.specs.declared.reply.Reply.{Reply}
 use Rattle.av_trace.specs.declared.reply.Answer.{Answer}
 use Rattle.av_trace.specs.declared.reply.Answer.TheVariants.{Done, Refused}
-use Rattle.av_plain.specs.World.{World, Process, lives, pages, pages_to_hole}
-use Rattle.av_base.specs.Page.{page_of, pages_of, is_on_page}
-use Rattle.av_plain.specs.Ledger.{Ledger, Setting}
+use Rattle.av_base.specs.Page.{is_on_page, page_of, pages_of}
+use Rattle.av_base.specs.declared.prot.Prot.{Prot}
+use Rattle.av_plain.specs.Access.{End, Stopped, Whole, bytes_before, read_answer, stop_answer, write_answer}
 use Rattle.av_plain.specs.Event.{Event, after_all}
-use Rattle.av_plain.specs.Access.{End, Whole, Stopped, Answers}
-use Rattle.av_plain.specs.Fault.{Served, Denied, Starved, Lost}
-use Rattle.av_plain.specs.Refusal.{tests, refusal, wraps, Refuses, is_mprotect}
-use Rattle.av_plain.specs.Step.{IsLegal, Follows, next, next_world}
-use Rattle.av_plain.specs.Place.{Goes, IsMapAt}
-use Rattle.av_plain.specs.Map.{zaps_for_place, with_prot_to_hole, StopsAtHole}
+use Rattle.av_plain.specs.Fault.{Denied, Lost, Starved, Stop}
+use Rattle.av_plain.specs.Ledger.{Ledger, Setting}
 use Rattle.av_plain.specs.Load.{with_loads}
+use Rattle.av_plain.specs.Map.{StopsAtHole, with_prot_to_hole, zaps_for_place}
+use Rattle.av_plain.specs.Place.{Goes, IsMapAt}
+use Rattle.av_plain.specs.Refusal.{Refuses, is_mprotect, refusal, tests, wraps}
+use Rattle.av_plain.specs.Step.{Follows, IsLegal, next, next_world}
+use Rattle.av_plain.specs.World.{Process, World, lives, pages, pages_to_hole}
 use Rattle.av_plain.proofs.World.Ranges.{pages_to_hole-most}
 
 -- without events nothing is loaded
@@ -66,13 +66,18 @@ no-refusal : {e : Errno} {answer : Answer} → answer ≡ Refused e → answer �
 no-refusal e d = cc
 
 -- a read or write that stops is no refusal
-answers-refused : (write : Bool) (a n : ℕ) (end : End) (shown : List ℕ) (error : Errno) → Answers write a n end shown (Refused error) → ⊥
-answers-refused true a n Whole shown error h = cc
-answers-refused false a n Whole shown error h = cc
-answers-refused write a n (Stopped page Served) shown error h = h
-answers-refused write a n (Stopped page Denied) shown error h = cc
-answers-refused write a n (Stopped page (Starved out)) shown error h = cc
-answers-refused write a n (Stopped page Lost) shown error h = cc
+stops-refused : (stop : Stop) (k : ℕ) (shown : List ℕ) (error : Errno) → Refused error ≡ stop_answer stop k shown → ⊥
+stops-refused Denied k shown error h = cc
+stops-refused (Starved out) k shown error h = cc
+stops-refused Lost k shown error h = cc
+
+read-refused : (a : ℕ) (end : End) (shown : List ℕ) (error : Errno) → Refused error ≡ read_answer a end shown → ⊥
+read-refused a Whole shown error h = cc
+read-refused a (Stopped page stop) shown error h = stops-refused stop (bytes_before a page) shown error h
+
+write-refused : (a : ℕ) (end : End) (error : Errno) → Refused error ≡ write_answer a end → ⊥
+write-refused a Whole error h = cc
+write-refused a (Stopped page stop) error h = stops-refused stop (bytes_before a page) [] error h
 
 -- no place is found only where nothing is taken away for one
 no_place-clears : (q : Process) (l : Ledger) (p n : ℕ) (place : Place) → Goes q n place None → zaps_for_place l p n place ≡ []
@@ -93,8 +98,8 @@ follows-refused m w now l (Mmap p len prot place) events error rows other h = (h
     by (Some page) goes e = cc
 follows-refused m w now l (Munmap p a len) events error rows other h = absurd (no-refusal refl h.0)
 follows-refused m w now l (Mprotect p a len prot) events error rows other h = cc
-follows-refused m w now l (Read p a n) events error rows other h = absurd (answers-refused false a n h.0 h.1 error h.4)
-follows-refused m w now l (Write p a bytes) events error rows other h = absurd (answers-refused true a (length bytes) h.0 [] error h.2)
+follows-refused m w now l (Read p a n) events error rows other h = absurd (read-refused a h.0 h.1 error h.4)
+follows-refused m w now l (Write p a bytes) events error rows other h = absurd (write-refused a h.0 error h.2)
 follows-refused m w now l (Maps p) events error rows other h = cc
 follows-refused m w now l Stat events error rows other h = cc
 

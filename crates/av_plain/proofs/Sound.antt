@@ -2,6 +2,10 @@
 pub mod Counts
 pub mod Entries
 pub mod Changes
+pub mod Cache
+pub mod Flight
+pub mod Steps
+pub mod Pass
 pub mod Access
 pub mod Pages
 pub mod There
@@ -13,41 +17,42 @@ use Rattle.std.proofs.lemmas.Bool.Decides.{nat_tests}
 use Rattle.std.specs.Prelude.{MatchOption, option_and_then}
 use Rattle.std.specs.Ordering.{nat_cmp, is_lt, eq_by_cmp}
 use Rattle.std.specs.FinMap.Entries.{find, is_sorted, below_all}
-use Rattle.av_base.specs.declared.slot.Slot.{Slot}
-use Rattle.av_base.specs.Words.{within}
 use Rattle.av_trace.specs.declared.command.Command.{Command}
 use Rattle.av_trace.specs.declared.command.Command.TheVariants.{Spawn, Exit, Mmap, Munmap, Mprotect, Read, Write, Maps, Stat}
 use Rattle.av_trace.specs.declared.command.Place.{Place}
 use Rattle.av_trace.specs.declared.command.Place.TheVariants.{Auto, At, Fixed, NoReplace}
 use Rattle.av_trace.specs.declared.reply.Errno.{Errno}
 use Rattle.av_trace.specs.declared.reply.Errno.TheVariants.{Esrch, Eagain, Enomem, Eexist}
-use Rattle.av_trace.specs.declared.reply.Note.TheVariants.{Zeroed, New, Copied, Loaded, Mapped, Put, Unmapped, Started, Written, Failed, Dropped, Kept, Aged}
 use Rattle.av_trace.specs.declared.reply.Row.{Row}
 use Rattle.av_trace.specs.declared.reply.Reply.{Reply}
 use Rattle.av_trace.specs.declared.reply.Answer.{Answer}
 use Rattle.av_trace.specs.declared.reply.Answer.TheVariants.{Done, Refused}
-use Rattle.av_plain.specs.World.{World, Process, Page, no_pages, zeros, process, lives, pages, set_process, end_process, with_pages, pages_to_hole, with_prot_on, with_prot, with_bytes}
-use Rattle.av_base.specs.Page.{page_of, pages_of, address_of}
-use Rattle.av_plain.specs.Ledger.{Ledger, Setting, Entry, entry, first_ledger}
-use Rattle.av_plain.specs.Event.{Event, Noted, Zapped, Used, Forked, Moved, TurnedOn, TurnedOff, after, after_all}
-use Rattle.av_plain.specs.Access.{Accesses, End, pages_of_access, first_bytes, after_write}
-use Rattle.av_plain.specs.Refusal.{tests, refusal, wraps, Refuses}
 use Rattle.av_base.specs.Limits.{most_processes}
-use Rattle.av_plain.specs.Step.{IsLegal, Follows, next, next_world}
+use Rattle.av_base.specs.Page.{address_of, page_of, pages_of}
+use Rattle.av_base.specs.Words.{within}
+use Rattle.av_base.specs.declared.slot.Slot.{Slot}
+use Rattle.av_trace.specs.declared.reply.Note.TheVariants.{Aged, Copied, Dropped, Failed, Kept, Loaded, Mapped, New, Put, Started, Unmapped, Written, Zeroed}
+use Rattle.av_plain.specs.Access.{Accesses, End, after_write, first_bytes, pages_of_access}
+use Rattle.av_plain.specs.Event.{Event, Forked, Moved, Noted, TurnedOff, TurnedOn, Used, Zapped, after, after_all}
+use Rattle.av_plain.specs.Ledger.{Entry, Ledger, Setting, entry, first_ledger}
+use Rattle.av_plain.specs.Load.{after_load, after_loads, is_of_slot, with_loads, without_bytes, without_claims}
+use Rattle.av_plain.specs.Map.{with_prot_to_hole, zaps_for_place}
 use Rattle.av_plain.specs.Place.{Goes, IsMapAt}
-use Rattle.av_plain.specs.Map.{zaps_for_place, with_prot_to_hole}
-use Rattle.av_plain.specs.Load.{is_of_slot, without_bytes, without_claims, after_load, after_loads, with_loads}
+use Rattle.av_plain.specs.Refusal.{Refuses, refusal, tests, wraps}
+use Rattle.av_plain.specs.Sound.{AllSound, AtPages, IsTidy}
+use Rattle.av_plain.specs.Step.{Follows, IsLegal, next, next_world}
+use Rattle.av_plain.specs.Transcript.{Exchange, IsLegalFrom, IsRun, IsStep, State, at_first}
+use Rattle.av_plain.specs.World.{Page, Process, World, end_process, lives, no_pages, pages, pages_to_hole, process, set_process, with_bytes, with_pages, with_prot, with_prot_on, zeros}
 use Rattle.av_plain.specs.Zap.{keys_in, zaps_of}
-use Rattle.av_plain.specs.Transcript.{Exchange, IsLegalFrom, State, IsStep, IsRun, at_first}
-use Rattle.av_plain.specs.Sound.{AtPages, IsTidy, AllSound}
-use Rattle.av_plain.proofs.World.{pages-set, length-set_new, length-set_old, is_sorted-set}
+use Rattle.av_plain.proofs.Ledger.NoSwap.{itself}
+use Rattle.av_plain.proofs.Refusal.{refused-next}
 use Rattle.av_plain.proofs.Sound.Access.{accesses-kept}
+use Rattle.av_plain.proofs.Sound.Counts.{same-itself}
 use Rattle.av_plain.proofs.Sound.Pages.{accesses-at}
 use Rattle.av_plain.proofs.Sound.There.{there-accesses}
-use Rattle.av_plain.proofs.Sound.Counts.{same-itself}
-use Rattle.av_plain.proofs.Zap.{entry-range}
-use Rattle.av_plain.proofs.Sound.Zap.{zaps_of-at, after_zap-sound, exit-sound}
-use Rattle.av_plain.proofs.Refusal.{refused-next}
+use Rattle.av_plain.proofs.Sound.Zap.{after_zap-sound, exit-sound, zaps_of-at}
+use Rattle.av_plain.proofs.World.{is_sorted-set, length-set_new, length-set_old, pages-set}
+use Rattle.av_plain.proofs.Zap.{entry-range, in_range}
 
 -- ---- loads from a device that doesn't tell its pages leave what is mapped, and the processes
 
@@ -67,7 +72,7 @@ told-same g l (Noted (Kept f c)) w h = refl
 told-same g l (Noted (Aged f)) w h = refl
 told-same g l (Zapped k) w h = refl
 told-same g l (Used b k) w h = refl
-told-same g l (Forked a b) w h = refl
+told-same g l (Forked a b c) w h = refl
 told-same g l (Moved a b c d) w h = refl
 told-same g l (TurnedOn a b c) w h = refl
 told-same g l (TurnedOff a) w h = refl
@@ -218,12 +223,12 @@ stored-sound m w l p a (b ∷ bytes) s alive = changed-sound m w l p (with_bytes
 
 -- ---- a legal reply
 
-accesses-sound : (m : Setting) (w : World) (l : Ledger) (write : Bool) (p : ℕ) (ps : List ℕ) (events : List Event) (end : End) → AllSound m w l → Accesses m w l write p ps events end → AllSound m w (after_all l events)
-accesses-sound m w l write p ps events end s h = record {
+accesses-sound : (m : Setting) (w : World) (l : Ledger) (p : ℕ) (ps : List (Bool × ℕ)) (events : List Event) (end : End) → AllSound m w l → Accesses m w l p ps events end → AllSound m w (after_all l events)
+accesses-sound m w l p ps events end s h = record {
   world = s.world;
-  ledger = accesses-kept m w l write p ps events end s.ledger h;
-  at_pages = λ q page i. accesses-at m w l write p ps events end (λ k j. s.at_pages k.0 k.1 j) h (q, page) i;
-  in_areas = there-accesses m w l write p ps events end s.ledger s.in_areas h;
+  ledger = accesses-kept m w l p ps events end s.ledger h;
+  at_pages = λ q page i. accesses-at m w l p ps events end (λ k j. s.at_pages k.0 k.1 j) h (q, page) i;
+  in_areas = there-accesses m w l p ps events end s.ledger s.in_areas h;
 }
 
 -- without events the ledger stays
@@ -329,10 +334,10 @@ follows-sound m w l (Mprotect p a len prot) events answer rows s fine h =
     by : (b : Bool) → AllSound m (next here (Mprotect p a len prot) (if b then Done else Refused Enomem)) (after_all l events)
     by true = changed (pages_of len)
     by false = stopped (wraps a len)
-follows-sound m w l (Read p a n) events answer rows s fine h = loads-sound m w l (after_all l events) events (accesses-sound m w l false p (pages_of_access a n) events h.0 s h.2)
+follows-sound m w l (Read p a n) events answer rows s fine h = loads-sound m w l (after_all l events) events (accesses-sound m w l p (pages_of_access false a n) events h.0 s h.2)
 follows-sound m w l (Write p a bytes) events answer rows s fine h =
     stored-sound m (with_loads m w l events) (after_all l events) p a (first_bytes answer bytes)
-    (loads-sound m w l (after_all l events) events (accesses-sound m w l true p (pages_of_access a (length bytes)) events h.0 s h.1))
+    (loads-sound m w l (after_all l events) events (accesses-sound m w l p (pages_of_access true a (length bytes)) events h.0 s h.1))
     (lives-loads m w l events p ∙ alive (lives w p) _ fine)
 follows-sound m w l (Maps p) events answer rows s fine h = loads-sound m w l (after_all l events) events (unchanged m w l events h.2 s)
 follows-sound m w l Stat events answer rows s fine h = loads-sound m w l (after_all l events) events (unchanged m w l events h.1 s)

@@ -1,5 +1,6 @@
 -- What happens to the ledger, one event at a time, and what stands after it.
 use Rattle.std.specs.FinMap.Entries.{put, where_key}
+use Rattle.std.specs.List.{list_any}
 use Rattle.std.specs.Ordering.{nat_cmp}
 use Rattle.std.specs.Prelude.{ℕ, ◌+◌, ◌-◌, Bool, true, false, not, ◌&&◌, ◌==◌, if◌then◌else◌, List, [], ◌∷◌, ◌++◌, map, filter, fold, Option, Some, None}
 use Rattle.av_base.specs.Page.{page_of}
@@ -11,6 +12,11 @@ use Rattle.av_trace.specs.declared.reply.Note.TheVariants.{Zeroed, New, Copied, 
 use Rattle.av_plain.specs.Ledger.{names_frame, key_cmp, same_slot, is_free, frame_at, InFrame, slot_of, Entry, Zero, entry, Cached, Key, Ledger, InSlot}
 use Rattle.av_plain.specs.World.{process}
 
+-- a page that goes over at a fork, whole or as zeros
+pub record Inherited : Type 0 where
+  pub page : ℕ
+  pub as_zeros : Bool
+
 -- what may happen to the ledger
 pub data Event : Type 0 where
   -- what a note tells
@@ -19,8 +25,8 @@ pub data Event : Type 0 where
   Zapped : (key : Key) → Event
   -- a read or write has served the page
   Used : (write : Bool) (key : Key) → Event
-  -- the second process gets the first one's entries
-  Forked : (parent child : ℕ) → Event
+  -- the second process gets these pages of the first one
+  Forked : (parent child : ℕ) (pages : List Inherited) → Event
   -- the process's entries of the n pages from one page on go to another
   Moved : (process n from to : ℕ) → Event
   TurnedOn : (area slots bad : ℕ) → Event
@@ -41,7 +47,7 @@ without_seen (InSlot s) = InSlot s
 -- each entry that names the frame becomes what is said
 abbrev pub change_entries : ℕ → (Entry → Entry) → Ledger → Ledger
 change_entries f change l =
-    record l { entries = map (λ e. (e.0, (if names_frame f e.1 then change e.1 else e.1))) l.entries }
+    record l { entries = map (λ e. (e.0, if names_frame f e.1 then change e.1 else e.1)) l.entries }
 
 -- the list without the frame
 abbrev pub without : ℕ → List ℕ → List ℕ
@@ -71,7 +77,8 @@ settle f l = if is_free l f then off_lists f l else l
 -- the cached slot is stale, or is not
 abbrev pub with_stale : Bool → Slot → Ledger → Ledger
 with_stale stale s l =
-    record l { cache = map (λ (c : Cached). if same_slot s c.slot then record c { stale = stale } else c) l.cache }
+    record l { cache = map
+    (λ (c : Cached). if same_slot s c.slot then record c { stale = stale } else c) l.cache }
 
 -- the slot is cached at the frame
 abbrev pub into_cache : Slot → ℕ → Bool → Ledger → Ledger
@@ -149,10 +156,15 @@ abbrev pub settle_entry : Option Entry → Ledger → Ledger
 settle_entry None l = l
 settle_entry (Some e) l = if_some (frame_of e) settle l
 
+-- the entries whose keys pass the test
+abbrev pub entries_where : (Key → Bool) → Ledger → List (Key × Entry)
+entries_where test l = where_key key_cmp test l.entries
+
 -- the ledger after an entry is taken away
 abbrev pub after_zap : Key → Ledger → Ledger
 after_zap k l =
-    settle_entry (entry l k) (record l { entries = where_key key_cmp (λ q. not (k.0 == q.0 && k.1 == q.1)) l.entries })
+    settle_entry (entry l k)
+    (record l { entries = entries_where (λ q. not (k.0 == q.0 && k.1 == q.1)) l })
 
 -- the entry is seen where it is a frame, and a write makes the slot of that frame stale
 abbrev pub after_use_of : Bool → Key → Ledger → Option Entry → Ledger
@@ -171,23 +183,29 @@ after_use write k l = after_use_of write k l (entry l k)
 abbrev pub put_all : List (Key × Entry) → Ledger → Ledger
 put_all es l = fold (λ l e. set_entry e.0 e.1 l) l es
 
--- the child gets the parent's entries, unseen
-abbrev pub after_fork : ℕ → ℕ → Ledger → Ledger
-after_fork p q l =
-    put_all (map (λ e. ((q, e.0.1), without_seen e.1)) (where_key key_cmp (λ k. k.0 == p) l.entries)) l
+-- whether the page goes over with its entry
+abbrev pub is_inherited : List Inherited → ℕ → Bool
+is_inherited pages page = list_any (λ (i : Inherited). i.page == page && not i.as_zeros) pages
+
+-- the child gets the parent's entries of the pages that go over, unseen
+abbrev pub after_fork : ℕ → ℕ → List Inherited → Ledger → Ledger
+after_fork p q pages l =
+    put_all (map (λ e. ((q, e.0.1), without_seen e.1))
+    (entries_where (λ k. k.0 == p && is_inherited pages k.1) l)) l
 
 -- the entries of the n pages from `from` on go to as many pages from `to` on
 abbrev pub after_move : ℕ → ℕ → ℕ → ℕ → Ledger → Ledger
 after_move p n from to l =
-    put_all (map (λ e. ((p, e.0.1 - from + to), e.1)) (where_key key_cmp (λ k. k.0 == p && within from n k.1) l.entries))
-    (record l { entries = where_key key_cmp (λ k. not (k.0 == p && within from n k.1)) l.entries })
+    put_all (map (λ e. ((p, e.0.1 - from + to), e.1))
+    (entries_where (λ k. k.0 == p && within from n k.1) l))
+    (record l { entries = entries_where (λ k. not (k.0 == p && within from n k.1)) l })
 
 -- the ledger after an event
 abbrev pub after : Ledger → Event → Ledger
 after l (Noted note) = after_note note l
 after l (Zapped k) = after_zap k l
 after l (Used write k) = after_use write k l
-after l (Forked p q) = after_fork p q l
+after l (Forked p q pages) = after_fork p q pages l
 after l (Moved p n from to) = after_move p n from to l
 after l (TurnedOn k slots bad) =
     record l { on = put nat_cmp k (record { slots = slots; bad = bad }) l.on }
@@ -198,13 +216,12 @@ abbrev pub after_all : Ledger → List Event → Ledger
 after_all l [] = l
 after_all l (e ∷ es) = after_all (after l e) es
 
+-- the note that an event tells, if it is one
+abbrev pub note_in : Event → List Note
+note_in (Noted note) = note ∷ []
+note_in event = []
+
 -- the notes among the events
 abbrev pub notes_of : List Event → List Note
 notes_of [] = []
-notes_of (Noted note ∷ es) = note ∷ notes_of es
-notes_of (Zapped k ∷ es) = notes_of es
-notes_of (Used write k ∷ es) = notes_of es
-notes_of (Forked p q ∷ es) = notes_of es
-notes_of (Moved p n from to ∷ es) = notes_of es
-notes_of (TurnedOn k slots bad ∷ es) = notes_of es
-notes_of (TurnedOff k ∷ es) = notes_of es
+notes_of (e ∷ es) = note_in e ++ notes_of es

@@ -3,27 +3,20 @@
 use Rattle.std.specs.FinMap.Entries.{find}
 use Rattle.std.specs.List.{list_any, list_all}
 use Rattle.std.specs.Ordering.{nat_cmp, ordering_then}
-use Rattle.std.specs.Prelude.{ℕ, ◌+◌, ◌-◌, Bool, true, false, not, ◌&&◌, ◌==◌, if◌then◌else◌, List, [], ◌∷◌, map, filter, Option, Some, None, is_some, ◌||◌, length, nat_lt, sum_by, option_map, ◌*◌, is_none}
+use Rattle.std.specs.Prelude.{ℕ, ◌+◌, ◌-◌, Bool, true, false, not, ◌&&◌, ◌==◌, if◌then◌else◌, List, [], ◌∷◌, map, filter, Option, Some, None, is_some, ◌||◌, length, nat_lt, sum_by, option_map, ◌*◌, is_none, unwrap_or}
 use Rattle.std.specs.declared.cmp.Ordering.{Ordering}
-use Rattle.av_base.specs.Words.{how_many, numbers}
+use Rattle.av_base.specs.Words.{how_many, is_in, numbers}
 use Rattle.av_base.specs.declared.slot.Slot.{Slot}
-use Rattle.av_plain.specs.World.{pages}
+use Rattle.av_swapdev.specs.Header.{Layout}
 
 -- ---- what does not change in a run
 
--- the numbers of a swap header: its pages, its usable slots, and its bad pages
-pub record Header : Type 0 where
-  pub pages : ℕ
-  pub slots : ℕ
-  pub bad : List ℕ
-
--- frames: how many there are. sizes: the pages of each device. headers: what page 0 of each device
--- says (nothing at a fault),
--- where the devices tell their pages
+-- frames: how many there are. sizes: the pages of each swap area that is attached. headers: what
+-- page 0 of each says (nothing at a fault), where pages are told
 pub record Setting : Type 0 where
   pub frames : ℕ
-  pub sizes : List ℕ
-  pub headers : Option (ℕ → Option Header)
+  pub sizes : ℕ → Option ℕ
+  pub headers : Option (ℕ → Option Layout)
 
 -- ---- the ledger
 
@@ -151,24 +144,23 @@ is_orphan l s = is_unmapped l (frame_at l s) && not (in_flight l s) && slot_entr
 
 -- ---- slots of areas that are on
 
--- the number of a device's pages, 0 where there is no such device
-abbrev pub size_of : List ℕ → ℕ → ℕ
-size_of [] k = 0
-size_of (n ∷ ns) k = if k == 0 then n else size_of ns (k - 1)
+-- the number of an area's pages, 0 where none is attached
+abbrev pub size_of : Setting → ℕ → ℕ
+size_of m k = unwrap_or (m.sizes k) 0
 
 -- whether the area is on
 abbrev pub is_on : Ledger → ℕ → Bool
 is_on l k = is_some (find nat_cmp k l.on)
 
 -- the header has the page as a slot: it is one of its pages, and not bad
-abbrev pub is_header_slot : Slot → Option Header → Bool
+abbrev pub is_header_slot : Slot → Option Layout → Bool
 is_header_slot s None = false
-is_header_slot s (Some h) = nat_lt s.page h.pages && not (list_any (λ b. b == s.page) h.bad)
+is_header_slot s (Some h) = nat_lt s.page h.pages && not (is_in s.page h.bad)
 
 -- where headers are told, the area's header has it as a slot
-abbrev pub may_be_slot : Slot → Option (ℕ → Option Header) → Bool
+abbrev pub may_be_slot : Slot → Option (ℕ → Option Layout) → Bool
 may_be_slot s None = true
-may_be_slot s (Some header) = is_header_slot s (header s.area)
+may_be_slot s (Some headers) = is_header_slot s (headers s.area)
 
 -- what the header says of a page, where it is told: whether it is a slot
 abbrev pub is_usable : Setting → Slot → Bool
@@ -177,12 +169,14 @@ is_usable m s = may_be_slot s m.headers
 -- a slot of an area that is on, which nothing names
 abbrev pub is_free_slot : Setting → Ledger → Slot → Bool
 is_free_slot m l s =
-    is_on l s.area && nat_lt 0 s.page && nat_lt s.page (size_of m.sizes s.area) && slot_count l s == 0 && is_usable m s
+    is_on l s.area && nat_lt 0 s.page && nat_lt s.page (size_of m s.area)
+    && slot_count l s == 0 && is_usable m s
 
 -- the slots of an area in use, rising
 abbrev pub slots_in_use : Setting → Ledger → ℕ → List ℕ
 slots_in_use m l k =
-    filter (λ page. nat_lt 0 (slot_count l (record { area = k; page = page }))) (numbers 1 (size_of m.sizes k - 1))
+    filter (λ page. nat_lt 0 (slot_count l (record { area = k; page = page })))
+    (numbers 1 (size_of m k - 1))
 
 -- how many slots of the area are free
 abbrev pub free_slots : Setting → Ledger → ℕ × SwapArea → ℕ
@@ -197,9 +191,14 @@ is_open (Some closing) k = not (k == closing)
 abbrev pub no_slot : Setting → Option ℕ → Ledger → Bool
 no_slot m closing l = list_all (λ a. not (is_open closing a.0) || free_slots m l a == 0) l.on
 
+-- whether an area has a free slot
+abbrev pub has_free_slot : Setting → Ledger → ℕ → Bool
+has_free_slot m l k = list_any (λ a. a.0 == k && nat_lt 0 (free_slots m l a)) l.on
+
 -- a slot that may be given
 abbrev pub may_give : Setting → Option ℕ → Ledger → Slot → Bool
-may_give m closing l s = is_free_slot m l s && is_open closing s.area
+may_give m closing l s =
+    is_free_slot m l s && is_open closing s.area && has_free_slot m l s.area
 
 -- swap is full: twice the number of free slots is less than the number of usable ones
 abbrev pub is_full : Setting → Ledger → Bool

@@ -52,7 +52,8 @@ with_prot_to_hole w p from n prot =
 -- ---- a refusal that changes something
 
 -- an mprotect met a page that isn't mapped: the pages before it have the protection now
-pub record StopsAtHole (w : World) (p a len : ℕ) (prot : Prot) (error : Errno) (now : World) : Type 0 where
+pub record StopsAtHole (w : World) (p a len : ℕ) (prot : Prot) (error : Errno) (now : World)
+    : Type 0 where
   pub error_is : error ≡ Enomem
   pub in_reach : wraps a len ≡ false
   pub hole : pages_to_hole (pages w p) (page_of a) (pages_of len) < pages_of len

@@ -1,13 +1,13 @@
 -- Eviction: writes to slots that end, and the direct pass over all frames where none is free. And
 -- what an out-of-memory says.
-use Rattle.std.specs.Prelude.{ℕ, Bool, true, false, not, ◌&&◌, ◌==◌, if◌then◌else◌, List, [], ◌∷◌, ◌++◌, Option, Some, None, ◌≡◌, ◌<◌, is_some, ◌||◌, is_none, IsTrue, MatchBool, reverse, MatchOption}
+use Rattle.std.specs.Prelude.{◌≡◌, ℕ, ◌<◌, Bool, true, false, not, ◌&&◌, ◌||◌, ◌==◌, if◌then◌else◌, IsTrue, MatchBool, List, [], ◌∷◌, ◌++◌, filter, reverse, Option, Some, None, is_some, is_none, MatchOption}
 use Rattle.av_base.specs.Words.{how_many, numbers}
 use Rattle.av_base.specs.declared.slot.Slot.{Slot}
+use Rattle.av_trace.specs.declared.reply.OutOf.{OutOf}
 use Rattle.av_trace.specs.declared.reply.Note.{Note}
 use Rattle.av_trace.specs.declared.reply.Note.TheVariants.{Put, Unmapped, Started, Written, Failed, Dropped}
-use Rattle.av_trace.specs.declared.reply.OutOf.{OutOf}
-use Rattle.av_plain.specs.Event.{after_note, after_notes, when, without}
-use Rattle.av_plain.specs.Ledger.{is_stale, may_give, has_free, is_free, slot_of, map_count, Setting, is_orphan, no_slot, Ledger}
+use Rattle.av_plain.specs.Ledger.{Ledger, Setting, map_count, slot_of, is_free, is_stale, is_orphan, has_free, no_slot, may_give}
+use Rattle.av_plain.specs.Event.{after_note, after_notes, when}
 
 -- ---- writes in flight
 
@@ -39,19 +39,10 @@ fails notes = how_many is_fail notes
 
 -- ---- a frame goes to its slot
 
--- what a pass leaves alone: the frame that is about to be copied, and the area that a swapoff is
--- closing
+-- what a pass leaves alone: some frames, and the area that a swapoff is closing
 pub record Spared : Type 0 where
-  pub pinned : Option ℕ
+  pub frame : ℕ → Bool
   pub closing : Option ℕ
-
--- nothing is left alone
-abbrev pub nothing_spared : Spared
-nothing_spared = record { pinned = None; closing = None }
-
--- only the pinned frame is left alone, if there is one
-abbrev pub pinning : Option ℕ → Spared
-pinning pinned = record { pinned = pinned; closing = None }
 
 -- s is where the frame is cached or, where it isn't, a slot that may be given
 abbrev pub IsSlotFor : Setting → Spared → Ledger → ℕ → Slot → Type 0
@@ -87,36 +78,33 @@ abbrev pub Turns : Setting → Spared → Ledger → List ℕ → List Note → 
 Turns m spared l [] notes = notes ≡ []
 Turns m spared l (f ∷ fs) notes = MatchBool (is_stuck m spared l f)
     (Turns m spared l fs notes)
-    ((s : Slot) × (failed : Bool) × IsSlotFor m spared l f s × MatchBool (stays_cached l f s failed)
+    ((s : Slot) × (failed : Bool) × IsSlotFor m spared l f s
+    × MatchBool (stays_cached l f s failed)
     ((rest : List Note) × (notes ≡ turn_notes l f s failed ++ rest)
     × Turns m spared (after_notes l (turn_notes l f s failed)) fs rest)
     (notes ≡ turn_notes l f s failed ++ Dropped s ∷ []))
 
--- the frames but for the pinned one
-abbrev pub without_pinned : Option ℕ → List ℕ → List ℕ
-without_pinned None fs = fs
-without_pinned (Some g) fs = without g fs
+-- the frames that have a turn: inactive from its tail, then active from its tail
+abbrev pub frames_in_turn : Spared → Ledger → List ℕ
+frames_in_turn spared l =
+    filter (λ f. not (spared.frame f)) (reverse l.inactive ++ reverse l.active)
 
--- all of flight is completed; where no frame is free then, the inactive and the active ones have
--- their turns, each list from its tail
+-- all of flight is completed; where no frame is free then, the frames have their turns
 abbrev pub IsPass : Setting → Spared → Ledger → List Note → Type 0
 IsPass m spared l notes =
-    (done : List Note) × (turns : List Note) × (notes ≡ done ++ turns)
-    × Completes l l.flight done × (let now = after_notes l done in
-    MatchBool (has_free m now) (turns ≡ [])
-    (Turns m spared now (without_pinned spared.pinned (reverse now.inactive ++ reverse now.active)) turns))
+    (done : List Note) × (turns : List Note) × (notes ≡ done ++ turns) × Completes l l.flight done
+    × (let now = after_notes l done in
+    MatchBool (has_free m now) (turns ≡ []) (Turns m spared now (frames_in_turn spared now) turns))
 
--- What comes before a frame is taken: nothing, until the kernel has the direct pass.
--- From then on this is `MatchBool (has_free m l) (notes ≡ []) (IsPass m spared l notes)`: a pass
--- exactly where none is free.
+-- what comes before a frame is taken: a pass exactly where none is free
 abbrev pub Seeks : Setting → Spared → Ledger → List Note → Type 0
-Seeks m spared l notes = notes ≡ []
+Seeks m spared l notes = MatchBool (has_free m l) (notes ≡ []) (IsPass m spared l notes)
 
 -- ---- a frame is taken, or there is none
 
 -- a note that names a frame which is free, behind the pass if there is one
-pub record TakesFor (m : Setting) (spared : Spared) (l : Ledger) (notes : List Note) (note : ℕ
-    → Note) : Type 0 where
+pub record TakesFor (m : Setting) (spared : Spared) (l : Ledger) (notes : List Note)
+    (note : ℕ → Note) : Type 0 where
   pub sought : List Note
   pub frame : ℕ
   pub seeks : Seeks m spared l sought
@@ -124,10 +112,14 @@ pub record TakesFor (m : Setting) (spared : Spared) (l : Ledger) (notes : List N
   pub free : IsTrue (is_free (after_notes l sought) frame)
   pub whole : notes ≡ sought ++ note frame ∷ []
 
+-- how many frames of the machine a pass doesn't leave alone, of those that pass the test
+abbrev pub how_many_others : Setting → Spared → (ℕ → Bool) → ℕ
+how_many_others m spared test = how_many (λ f. not (spared.frame f) && test f) (numbers 0 m.frames)
+
 -- the numbers of an out-of-memory: frames that are pinned, not cached, and cached
-abbrev pub out_of : Setting → Option ℕ → Ledger → OutOf
-out_of m pinned l = record {
+abbrev pub out_of : Setting → Option ℕ → Spared → Ledger → OutOf
+out_of m pinned spared l = record {
   pinned = if is_some pinned then 1 else 0;
-  noslot = how_many (λ f. is_none (slot_of l f)) (without_pinned pinned (numbers 0 m.frames));
-  fault = how_many (λ f. is_some (slot_of l f)) (without_pinned pinned (numbers 0 m.frames));
+  noslot = how_many_others m spared (λ f. is_none (slot_of l f));
+  fault = how_many_others m spared (λ f. is_some (slot_of l f));
 }

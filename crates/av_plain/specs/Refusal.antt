@@ -50,7 +50,8 @@ low = address_of low_page
 -- the tests of an address that a mapping of n pages has to have
 abbrev pub fixed_tests : ℕ → ℕ → Tests
 fixed_tests n a =
-    (nat_lt top (a + address_of n), Enomem) ∷ (not (is_on_page a), Einval) ∷ (nat_lt a low, Eperm) ∷ []
+    (nat_lt top (a + address_of n), Enomem) ∷ (not (is_on_page a), Einval) ∷ (nat_lt a low, Eperm)
+    ∷ []
 
 -- the tests of the place of n pages
 abbrev pub place_tests : Process → ℕ → Place → Tests
@@ -64,7 +65,8 @@ abbrev pub tests : Setting → World → Ledger → Command → Tests
 tests m w l (Spawn p) = (lives w p, Eexist) ∷ too_many w ∷ []
 tests m w l (Exit p) = no_process w p ∷ []
 tests m w l (Mmap p len prot place) =
-    no_process w p ∷ (len == 0, Einval) ∷ (is_too_long len, Enomem) ∷ place_tests (pages w p) (pages_of len) place
+    no_process w p ∷ (len == 0, Einval) ∷ (is_too_long len, Enomem)
+    ∷ place_tests (pages w p) (pages_of len) place
 tests m w l (Munmap p a len) =
     no_process w p ∷ (not (is_on_page a) || len == 0 || nat_lt top (a + len), Einval) ∷ []
 tests m w l (Mprotect p a len prot) =

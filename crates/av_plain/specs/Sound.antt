@@ -6,7 +6,7 @@ use Rattle.std.specs.Prelude.{ℕ, ◌+◌, Bool, true, false, ◌&&◌, ◌==�
 use Rattle.av_base.specs.Limits.{most_processes}
 use Rattle.av_base.specs.Words.{how_many}
 use Rattle.av_base.specs.declared.slot.Slot.{Slot}
-use Rattle.av_plain.specs.Ledger.{names_frame, is_usable, slot_entries, size_of, key_cmp, same_slot, is_free, is_on, InFrame, slot_of, map_count, Entry, Zero, Setting, names_slot, is_cached, is_orphan, entry, Cached, Key, Ledger, InSlot}
+use Rattle.av_plain.specs.Ledger.{Cached, Entry, InFrame, InSlot, Key, Ledger, Setting, Zero, entry, is_cached, is_free, is_on, is_orphan, is_usable, key_cmp, map_count, names_frame, names_slot, same_slot, size_of, slot_entries, slot_of}
 use Rattle.av_plain.specs.World.{World, pages}
 
 -- ---- counts
@@ -85,7 +85,7 @@ count l s = slots l s + slot_entries l s
 -- a slot of an area that is on, whether in use or not
 abbrev pub is_there : Setting → Ledger → Slot → Bool
 is_there m l s =
-    is_on l s.area && nat_lt 0 s.page && nat_lt s.page (size_of m.sizes s.area) && is_usable m s
+    is_on l s.area && nat_lt 0 s.page && nat_lt s.page (size_of m s.area) && is_usable m s
 
 -- each slot in use is one
 abbrev pub AreThere : Setting → Ledger → Type 0
@@ -105,7 +105,7 @@ pub record AllSound (m : Setting) (w : World) (l : Ledger) : Type 0 where
   pub at_pages : AtPages w l
   pub in_areas : AreThere m l
 
--- ---- what it says, in plain sentences: it follows from the counts by which soundness is stated and kept
+-- ---- what it says, in plain sentences; this follows from the counts
 
 -- an entry names the slot, if there is one
 abbrev pub is_at_slot : Option Slot → Entry → Bool

@@ -2,15 +2,19 @@
 -- answer: a view.
 use Rattle.std.specs.FinMap.Entries.{find}
 use Rattle.std.specs.Ordering.{nat_cmp}
-use Rattle.std.specs.Prelude.{ℕ, Bool, true, false, ◌&&◌, if◌then◌else◌, List, [], ◌∷◌, Option, Some, None, ◌≡◌, ◌<◌, IfSome, is_some, ◌≤◌, length, nat_lt, nat_le, option_map}
+use Rattle.std.specs.Prelude.{ℕ, Bool, true, false, ◌&&◌, if◌then◌else◌, List, [], ◌∷◌, Option, Some, None, ◌≡◌, ◌<◌, IfSome, is_some, ◌≤◌, length, nat_lt, nat_le, option_map, slice_index}
+use Rattle.av_base.specs.Page.{page_size}
 use Rattle.av_base.specs.Words.{is_in}
-use Rattle.av_base.specs.declared.prot.Prot.{Prot}
 use Rattle.av_base.specs.declared.slot.Slot.{Slot}
+use Rattle.av_plain.specs.Device.{Device, headers_of}
 use Rattle.av_plain.specs.Fault.{is_shared}
-use Rattle.av_plain.specs.Ledger.{SwapArea, names_frame, is_stale, slot_entries, is_free, frame_at, InFrame, slot_of, map_count, Entry, Zero, Setting, in_flight, entry, Header, Ledger, InSlot}
+use Rattle.av_plain.specs.Ledger.{Entry, InFrame, InSlot, Ledger, Setting, SwapArea, Zero, entry, frame_at, in_flight, is_free, is_stale, map_count, names_frame, slot_entries, slot_of}
+use Rattle.av_plain.specs.Report.{Range, prot_in}
 use Rattle.av_plain.specs.Sound.{AllSound, slots}
 use Rattle.av_plain.specs.Transcript.{State}
-use Rattle.av_plain.specs.World.{World, pages, Page, lives}
+use Rattle.av_plain.specs.World.{Page, World, lives, pages}
+use Rattle.av_base.specs.declared.prot.Prot.{Prot}
+use Rattle.av_swapdev.specs.Header.{Layout}
 
 -- ---- the view
 
@@ -18,12 +22,6 @@ use Rattle.av_plain.specs.World.{World, pages, Page, lives}
 pub record Pte : Type 0 where
   pub entry : Entry
   pub write : Bool
-
--- some pages of a process with one protection: from `from` to below `to`
-pub record Range : Type 0 where
-  pub from : ℕ
-  pub to : ℕ
-  pub prot : Prot
 
 -- what the parts of the kernel answer
 pub record View : Type 0 where
@@ -48,10 +46,6 @@ pub record View : Type 0 where
   pub entries : Slot → ℕ
   pub flight : List Slot
   pub on : List (ℕ × SwapArea)
-
--- the device's pages, where it tells them
-abbrev pub Device : Type 0
-Device = Option (Slot → ℕ → ℕ)
 
 -- ---- the frames
 
@@ -94,12 +88,6 @@ pub record SwapStands (v : View) (l : Ledger) : Type 0 where
 
 -- ---- the areas
 
--- the protection of a page, by the range that holds it
-abbrev pub prot_in : List Range → ℕ → Option Prot
-prot_in [] page = None
-prot_in (a ∷ areas) page =
-    if nat_le a.from page && nat_lt page a.to then Some a.prot else prot_in areas page
-
 -- the ranges rise, none is empty, and no two meet
 abbrev pub AreApart : List Range → Type 0
 AreApart [] = Unit {0}
@@ -125,12 +113,11 @@ pub record AreasStand (v : View) (w : World) : Type 0 where
 -- these bytes hold what the page claims
 abbrev pub Holds : Option Page → (ℕ → ℕ) → Type 0
 Holds None at = Unit {0}
-Holds (Some p) at = (i : ℕ) → i < 4096 → IfSome (p.bytes i) (λ b. at i ≡ b)
+Holds (Some p) at = (i : ℕ) → i < page_size → IfSome (p.bytes i) (λ b. at i ≡ b)
 
--- the device's page holds it, where it tells
+-- the device's page of the slot holds it, where pages are told
 abbrev pub HoldsTold : Option Page → Device → Slot → Type 0
-HoldsTold p None s = Unit {0}
-HoldsTold p (Some at) s = Holds p (at s)
+HoldsTold p device s = IfSome device.pages (λ told. Holds p (slice_index (told s.area s.page)))
 
 -- a page whose entry names a slot is in the frame that caches it, else on the device
 abbrev pub IsKeptAt : View → Device → Slot → Option Page → Option ℕ → Type 0
@@ -144,13 +131,12 @@ IsKept v device l (Some Zero) p = Holds p (λ _. 0)
 IsKept v device l (Some (InFrame f seen)) p = Holds p (v.bytes f)
 IsKept v device l (Some (InSlot s)) p = IsKeptAt v device s p (frame_at l s)
 
--- a cached slot neither stale nor in flight has its frame's bytes on the device
+-- the device's page of the slot has the frame's bytes, if there is one and pages are told
 abbrev pub IsClean : View → Device → Slot → Option ℕ → Type 0
-IsClean v device s None = Unit {0}
-IsClean v None s (Some f) = Unit {0}
-IsClean v (Some at) s (Some f) = (i : ℕ) → i < 4096 → at s i ≡ v.bytes f i
+IsClean v device s frame = IfSome frame (λ f. IfSome device.pages (λ told.
+    (i : ℕ) → i < page_size → slice_index (told s.area s.page) i ≡ v.bytes f i))
 
--- frames and devices hold what the pages claim
+-- frames and device hold what the pages claim; a slot neither stale nor in flight is clean
 pub record BytesStand (v : View) (device : Device) (w : World) (l : Ledger) : Type 0 where
   pub kept : (p page : ℕ) → IsKept v device l (entry l (p, page)) (pages w p page)
   pub clean : (s : Slot) → is_stale l s ≡ false → in_flight l s ≡ false
@@ -159,26 +145,40 @@ pub record BytesStand (v : View) (device : Device) (w : World) (l : Ledger) : Ty
 -- ---- the headers
 
 -- where it is told, page 0 of an area that is on gives its numbers
-abbrev pub HasNumbers : SwapArea → Option Header → Type 0
+abbrev pub HasNumbers : SwapArea → Option Layout → Type 0
 HasNumbers area None = ⊥
 HasNumbers area (Some h) = (area.slots ≡ h.slots) × (area.bad ≡ length h.bad)
 
 -- each area that is on has the numbers of its header
 abbrev pub HeadersStand : Setting → Ledger → Type 0
-HeadersStand m l =
-    (k : ℕ)
-    → IfSome (find nat_cmp k l.on) (λ area. IfSome m.headers (λ headers. HasNumbers area (headers k)))
+HeadersStand m l = (k : ℕ) → IfSome (find nat_cmp k l.on)
+    (λ area. IfSome m.headers (λ headers. HasNumbers area (headers k)))
 
 -- ---- the whole
 
--- The kernel and the device stand for the memories and the ledger.
+-- what stands for a ledger
+pub record LedgerStands (m : Setting) (v : View) (l : Ledger) : Type 0 where
+  pub frames : FramesStand m v l
+  pub lists : ListsStand v l
+  pub tables : TablesStand v l
+  pub swap : SwapStands v l
+
+-- and what for the memories with it
+pub record PartsStand (m : Setting) (v : View) (device : Device) (w : World) (l : Ledger)
+    : Type 0 where
+  pub ledger : LedgerStands m v l
+  pub areas : AreasStand v w
+  pub bytes : BytesStand v device w l
+  pub headers : HeadersStand m l
+
+-- the device is the one that the run is over: its sizes and headers don't change
+pub record IsOver (m : Setting) (device : Device) : Type 0 where
+  pub sizes : m.sizes ≡ device.sizes
+  pub headers : m.headers ≡ headers_of device
+
+-- the kernel and the device stand for the memories, the ledger and the free frames in their order
 pub record Stands (m : Setting) (v : View) (device : Device) (s : State) : Type 0 where
+  pub over : IsOver m device
   pub sound : AllSound m s.world s.ledger
-  pub frames : FramesStand m v s.ledger
-  pub lists : ListsStand v s.ledger
-  pub tables : TablesStand v s.ledger
-  pub swap : SwapStands v s.ledger
-  pub areas : AreasStand v s.world
-  pub bytes : BytesStand v device s.world s.ledger
-  pub headers : HeadersStand m s.ledger
+  pub parts : PartsStand m v device s.world s.ledger
   pub free : v.free ≡ s.free

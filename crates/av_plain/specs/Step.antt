@@ -63,8 +63,11 @@ Follows m w l Stat events answer rows = ReportsTotals m w l events answer rows
 
 -- a reply is legal by some events: it is refused by the first test that holds, else the command
 -- does what it does; the notes are those of the events
-pub record IsLegal (m : Setting) (w : World) (l : Ledger) (command : Command) (reply : Reply) (events : List Event) : Type 0 where
-  pub answer : MatchOption (refusal (tests m w l command)) (Follows m w l command events reply.answer reply.rows) (λ error. Refuses error events reply.answer reply.rows)
+pub record IsLegal (m : Setting) (w : World) (l : Ledger) (command : Command) (reply : Reply)
+    (events : List Event) : Type 0 where
+  pub answer : MatchOption (refusal (tests m w l command))
+      (Follows m w l command events reply.answer reply.rows)
+      (λ error. Refuses error events reply.answer reply.rows)
   pub notes : reply.notes ≡ notes_of events
 
 -- ---- what only a fault of the device explains

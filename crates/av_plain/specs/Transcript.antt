@@ -36,12 +36,13 @@ abbrev pub at_first : Setting → State
 at_first m = record { world = []; ledger = first_ledger; free = numbers 0 m.frames }
 
 -- a command is answered so, and leaves this state
-pub record IsStep (m : Setting) (old : State) (command : Command) (reply : Reply) (new : State) : Type 0 where
+pub record IsStep (m : Setting) (old : State) (command : Command) (reply : Reply) (new : State)
+    : Type 0 where
   pub events : List Event
   pub legal : IsLegal m old.world old.ledger command reply events
   pub world : new.world ≡ next_world m old.world old.ledger events command reply.answer
   pub ledger : new.ledger ≡ after_all old.ledger events
-  pub free : ChoosesAll old.ledger events old.free new.free
+  pub free : ChoosesAll m old.ledger events old.free new.free
 
 -- a transcript, each of its replies a step
 abbrev pub IsRun : Setting → State → List Exchange → State → Type 0

@@ -89,8 +89,8 @@ with_pages q from n new page = if within from n page then new page else q page
 -- q with these bytes from an address on; a page that is not mapped stays so
 abbrev pub with_bytes : Process → ℕ → List ℕ → Process
 with_bytes q address bytes page = option_map (λ (p : Page). record p {
-  bytes = λ i.
-      if within address (length bytes) (address_of page + i) then Some (slice_index bytes (address_of page + i - address))
+  bytes = λ i. let here = address_of page + i in
+      if within address (length bytes) here then Some (slice_index bytes (here - address))
       else p.bytes i;
 }) (q page)
 

@@ -3,17 +3,17 @@ use Rattle.std.proofs.Common.{◌≡◌, ℕ, zero, suc, ◌+◌, ◌<◌, ◌�
 use Rattle.std.proofs.lemmas.Bool.Decides.{nat_tests}
 use Rattle.std.specs.Ordering.{nat_cmp, eq_by_cmp}
 use Rattle.std.specs.FinMap.Entries.{find, is_sorted}
-use Rattle.av_base.specs.declared.slot.Slot.{Slot}
-use Rattle.av_base.specs.Words.{how_many}
-use Rattle.av_plain.specs.World.{World, lives}
-use Rattle.av_plain.specs.Ledger.{Ledger, Setting, Key, key_cmp, Entry, Zero, InFrame, InSlot, entry, map_count, slot_entries, names_frame, names_slot, same_slot}
 use Rattle.av_base.specs.Limits.{most_processes}
-use Rattle.av_plain.specs.Sound.{kin, AllSound}
-use Rattle.av_plain.proofs.Ledger.Order.{keys_total, both_first, both_second, find_below}
+use Rattle.av_base.specs.Words.{how_many}
+use Rattle.av_base.specs.declared.slot.Slot.{Slot}
+use Rattle.av_plain.specs.Ledger.{Entry, InFrame, InSlot, Key, Ledger, Setting, Zero, entry, key_cmp, map_count, names_frame, names_slot, same_slot, slot_entries}
+use Rattle.av_plain.specs.Sound.{AllSound, kin}
+use Rattle.av_plain.specs.World.{World, lives}
+use Rattle.av_plain.proofs.Event.{how_many-none, how_many-or}
 use Rattle.av_plain.proofs.Ledger.{same_key, same_key-is}
-use Rattle.av_plain.proofs.Event.{how_many-or, how_many-none}
-use Rattle.av_plain.proofs.Sound.Counts.{same-is, slot-is}
+use Rattle.av_plain.proofs.Ledger.Order.{both_first, both_second, keys_total, find_below}
 use Rattle.av_plain.proofs.Sound.{no_entries}
+use Rattle.av_plain.proofs.Sound.Counts.{same-is, slot-is}
 
 abbrev Entries : Type 0
 Entries = List (Key × Entry)

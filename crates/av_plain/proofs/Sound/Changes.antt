@@ -3,16 +3,16 @@ use Rattle.std.proofs.Common.{◌≡◌, ℕ, ◌+◌, ◌<◌, ◌≤◌, min, 
 use Rattle.std.proofs.lemmas.Bool.Decides.{nat_tests}
 use Rattle.std.specs.List.{list_any}
 use Rattle.std.specs.FinMap.Entries.{is_sorted}
+use Rattle.av_base.specs.Words.{how_many}
 use Rattle.av_base.specs.declared.slot.Slot.{Slot}
 use Rattle.av_trace.specs.declared.reply.Note.TheVariants.{Dropped}
-use Rattle.av_base.specs.Words.{how_many}
-use Rattle.av_plain.specs.Ledger.{Setting, Key, key_cmp, Entry, InFrame, InSlot, Zero, Ledger, Cached, entry, map_count, slot_entries, names_frame, names_slot, same_slot, is_free, slot_of, frame_at}
-use Rattle.av_plain.specs.Event.{set_entry, to_inactive_head, off_lists, with_stale, into_cache, off_cache, off_flight, settle, if_some, after_use, after_use_of, after_note}
-use Rattle.av_plain.specs.Sound.{slots, holders, pairs, flights, listings, uses, kin, IsSoundBut, IsSound, no_excuse}
+use Rattle.av_plain.specs.Event.{after_note, after_use, after_use_of, if_some, into_cache, off_cache, off_flight, off_lists, set_entry, settle, to_inactive_head, with_stale}
+use Rattle.av_plain.specs.Ledger.{Cached, Entry, InFrame, InSlot, Key, Ledger, Setting, Zero, entry, frame_at, is_free, key_cmp, map_count, names_frame, names_slot, same_slot, slot_entries, slot_of}
+use Rattle.av_plain.specs.Sound.{IsSound, IsSoundBut, flights, holders, kin, listings, no_excuse, pairs, slots, uses}
+use Rattle.av_plain.proofs.Event.{how_many-map, how_many-same}
+use Rattle.av_plain.proofs.Ledger.{how_many-found, is_sorted-set, map_count-set}
 use Rattle.av_plain.proofs.Ledger.Order.{weight}
-use Rattle.av_plain.proofs.Ledger.{map_count-set, is_sorted-set, how_many-found}
-use Rattle.av_plain.proofs.Event.{how_many-same, how_many-map}
-use Rattle.av_plain.proofs.Sound.Counts.{same-is, same-itself, slot-is, listings-to_head, listings-off_lists, pair-slot, pair-frame, two_frames, slots-off_cache, pairs-off_cache, holders-off_cache, slot_of-none, slot_of-some, frame_at-none, frame_at-some}
+use Rattle.av_plain.proofs.Sound.Counts.{frame_at-none, frame_at-some, holders-off_cache, listings-off_lists, listings-to_head, pair-frame, pair-slot, pairs-off_cache, same-is, same-itself, slot-is, slot_of-none, slot_of-some, slots-off_cache, two_frames}
 use Rattle.av_plain.proofs.Sound.Entries.{One, flag, listed_of, one-set, slot_entries-set}
 
 pub any-counts : {X : Type 0} (p : X → Bool) (xs : List X) → list_any p xs ≡ nat_lt 0 (how_many p xs)

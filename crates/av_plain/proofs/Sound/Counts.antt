@@ -1,10 +1,10 @@
 -- Counts after each change of the lists, the cache and flight.
 use Rattle.std.proofs.Common.{◌≡◌, ℕ, ◌+◌, ◌<◌, ◌≤◌, Bool, true, false, cond, not, ◌&&◌, List, [], ◌∷◌, filter, Some, None, option_map, refl, ap, ◌∙◌, arith, ◌==◌}
 use Rattle.std.proofs.lemmas.Bool.Decides.{nat_tests}
-use Rattle.av_base.specs.declared.slot.Slot.{Slot}
 use Rattle.av_base.specs.Words.{how_many}
-use Rattle.av_plain.specs.Ledger.{Ledger, Cached, same_slot, cached_by}
-use Rattle.av_plain.specs.Event.{without, to_inactive_head, to_inactive_tail, to_active, off_lists}
+use Rattle.av_base.specs.declared.slot.Slot.{Slot}
+use Rattle.av_plain.specs.Event.{off_lists, to_active, to_inactive_head, to_inactive_tail, without}
+use Rattle.av_plain.specs.Ledger.{Cached, Ledger, cached_by, same_slot}
 use Rattle.av_plain.specs.Sound.{listings}
 use Rattle.av_plain.proofs.Ledger.{how_many-append}
 

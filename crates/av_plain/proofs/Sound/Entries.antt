@@ -3,12 +3,13 @@ use Rattle.std.proofs.Common.{◌≡◌, ℕ, ◌+◌, ◌<◌, ◌≤◌, min, 
 use Rattle.std.proofs.lemmas.Bool.Decides.{nat_tests}
 use Rattle.std.specs.FinMap.Entries.{is_sorted}
 use Rattle.av_base.specs.declared.slot.Slot.{Slot}
-use Rattle.av_plain.specs.Ledger.{Setting, Key, key_cmp, Entry, InFrame, InSlot, Zero, Ledger, entry, map_count, slot_entries, names_frame, names_slot, same_slot}
 use Rattle.av_plain.specs.Event.{set_entry, to_inactive_head}
-use Rattle.av_plain.specs.Sound.{holders, pairs, flights, listings, uses, kin, IsSoundBut}
+use Rattle.av_plain.specs.Ledger.{Entry, InFrame, InSlot, Key, Ledger, Setting, Zero, entry, key_cmp, map_count, names_frame, names_slot, same_slot, slot_entries}
+use Rattle.av_plain.specs.Sound.{IsSoundBut, flights, holders, kin, listings, pairs, uses}
+use Rattle.av_plain.proofs.Ledger.{entry-set, how_many-found, is_sorted-set, map_count-set, same_key, same_key-is}
 use Rattle.av_plain.proofs.Ledger.Order.{keys_total, weight, count-put}
-use Rattle.av_plain.proofs.Ledger.{same_key, same_key-is, entry-set, map_count-set, is_sorted-set, how_many-found}
-use Rattle.av_plain.proofs.Sound.Counts.{same-is, same-turned, slot-is, slot-turned, listings-to_head, pair-frame, two_slots, two_frames}
+use Rattle.av_plain.proofs.Sound.Counts.{listings-to_head, pair-frame, same-is, same-turned, slot-is, slot-turned, two_frames, two_slots}
+use Rattle.av_plain.proofs.Zap.{in_range}
 
 abbrev pub One : Ledger → Type 0
 One l = (p a b : ℕ) (d e : Entry) → entry l (p, a) ≡ Some d → entry l (p, b) ≡ Some e → kin l d e ≡ true → a ≡ b

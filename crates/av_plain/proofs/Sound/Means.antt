@@ -2,16 +2,16 @@
 use Rattle.std.proofs.Common.{◌≡◌, ℕ, ◌+◌, ◌<◌, ◌≤◌, min, Bool, true, false, cond, not, ◌&&◌, ◌||◌, nat_lt, List, [], ◌∷◌, Option, Some, None, refl, ap, subst, ◌∙◌, arith, ◌==◌}
 use Rattle.std.proofs.lemmas.Bool.Decides.{nat_tests}
 use Rattle.std.specs.List.{AllByRecursion, IsDistinct}
-use Rattle.av_base.specs.declared.slot.Slot.{Slot}
 use Rattle.av_base.specs.Words.{how_many}
-use Rattle.av_plain.specs.Ledger.{Setting, Entry, InFrame, InSlot, Zero, Ledger, Cached, map_count, slot_entries, names_frame, names_slot, same_slot, slot_of, frame_at, is_cached, is_free, is_orphan, is_unmapped, in_flight}
-use Rattle.av_plain.specs.Sound.{slots, pairs, flights, uses, kin, AllSound, same_cached, is_of, is_at_slot, SaysSound}
+use Rattle.av_base.specs.declared.slot.Slot.{Slot}
+use Rattle.av_plain.specs.Ledger.{Cached, Entry, InFrame, InSlot, Ledger, Setting, Zero, frame_at, in_flight, is_cached, is_free, is_orphan, is_unmapped, map_count, names_frame, names_slot, same_slot, slot_entries, slot_of}
+use Rattle.av_plain.specs.Sound.{AllSound, SaysSound, flights, is_at_slot, is_of, kin, pairs, same_cached, slots, uses}
 use Rattle.av_plain.specs.World.{World}
-use Rattle.av_plain.proofs.Ledger.{how_many-found, how_many-append}
-use Rattle.av_plain.proofs.Sound.Counts.{same-is, same-itself, slot-is, slot-itself, slot_of-some, frame_at-some}
-use Rattle.av_plain.proofs.Sound.Entries.{flag}
+use Rattle.av_plain.proofs.Ledger.{how_many-append, how_many-found}
 use Rattle.av_plain.proofs.Sound.Bound.{map_count-bound, slot_entries-bound}
 use Rattle.av_plain.proofs.Sound.Changes.{any-counts, free-is}
+use Rattle.av_plain.proofs.Sound.Counts.{frame_at-some, same-is, same-itself, slot-is, slot-itself, slot_of-some}
+use Rattle.av_plain.proofs.Sound.Entries.{flag}
 
 -- none of them is counted: then each fails
 others-differ : (c : Cached) (cs : List Cached) → how_many (λ (d : Cached). same_slot c.slot d.slot) cs ≡ 0 → how_many (λ (d : Cached). c.frame == d.frame) cs ≡ 0 → AllByRecursion (λ d. same_cached c d ≡ false) cs

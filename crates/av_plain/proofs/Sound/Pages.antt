@@ -1,21 +1,22 @@
 -- Each entry stays at a mapped page.
-use Rattle.std.proofs.Common.{◌≡◌, ◌⊎◌, inl, inr, ℕ, Bool, true, false, cond, List, [], ◌∷◌, ◌++◌, Option, Some, None, is_some, option_map, refl, sym, ap, subst, ◌∙◌, ◌==◌}
-use Rattle.av_base.specs.declared.slot.Slot.{Slot}
-use Rattle.av_trace.specs.declared.reply.OutOf.{OutOf}
-use Rattle.av_trace.specs.declared.reply.Note.{Note}
-use Rattle.av_trace.specs.declared.reply.Note.TheVariants.{Zeroed, New, Copied, Loaded, Mapped, Put, Unmapped, Started, Written, Failed, Dropped, Kept, Aged}
-use Rattle.av_trace.specs.declared.reply.Cause.TheVariants.{Writeback, Referenced, NoSlot, WriteStarted}
-use Rattle.av_plain.specs.World.{World, Page, pages}
+use Rattle.std.proofs.Common.{◌≡◌, ◌⊎◌, inl, inr, ℕ, Bool, true, false, cond, List, [], ◌∷◌, ◌++◌, Option, Some, None, is_some, option_map, refl, sym, ap, subst, ◌∙◌, ◌==◌, is_none, not}
 use Rattle.av_base.specs.Page.{address_of}
-use Rattle.av_plain.specs.Ledger.{Setting, Key, key_cmp, Entry, InFrame, InSlot, Zero, Ledger, entry, slot_of, frame_at, is_free}
-use Rattle.av_plain.specs.Event.{Event, Used, key_at, after_note, set_entry, change_entries, without_seen, if_some, settle, off_lists, off_flight, to_inactive_tail, off_cache, after_use, after_use_of, with_stale, after_all, after_notes, when, note_events}
-use Rattle.av_plain.specs.Pass.{Spared, nothing_spared, pinning, TakesFor}
-use Rattle.av_plain.specs.Fault.{Need, Ready, ZeroPage, NewPage, CopyOnWrite, SwapIn, MapCached, need, ComesIn, IsMade, drop_of_slot, drop_of_entry, drop_at, was_slot, Serves, RunsOut, How, Served, Denied, Starved, Lost, Touches, permits, is_allowed, page_events}
-use Rattle.av_plain.specs.Access.{End, GoesOn, Accesses}
-use Rattle.av_plain.proofs.Ledger.{same_key, same_key-is, entry-set}
-use Rattle.av_plain.proofs.Event.{find-map}
-use Rattle.av_plain.proofs.Access.{after_all-append, note_events-all}
+use Rattle.av_base.specs.declared.slot.Slot.{Slot}
+use Rattle.av_trace.specs.declared.reply.Cause.TheVariants.{NoSlot, Referenced, WriteStarted, Writeback}
+use Rattle.av_trace.specs.declared.reply.Note.{Note}
+use Rattle.av_trace.specs.declared.reply.Note.TheVariants.{Aged, Copied, Dropped, Failed, Kept, Loaded, Mapped, New, Put, Started, Unmapped, Written, Zeroed}
+use Rattle.av_trace.specs.declared.reply.OutOf.{OutOf}
+use Rattle.av_plain.specs.Access.{Accesses, End, page_events}
+use Rattle.av_plain.specs.Event.{Event, Used, after_all, after_note, after_notes, after_use, after_use_of, change_entries, if_some, key_at, note_events, off_cache, off_flight, off_lists, set_entry, settle, to_inactive_tail, when, with_stale, without_seen}
+use Rattle.av_plain.specs.Fault.{ComesIn, CopyOnWrite, Denied, IsMade, Lost, MapCached, Need, NewPage, Ready, RunsOut, Serves, Sparing, Starved, Stop, SwapIn, Touches, ZeroPage, drop_at, drop_of_entry, drop_of_slot, is_allowed, need, permits, pinned_by, sparing, was_slot}
+use Rattle.av_plain.specs.Ledger.{Entry, InFrame, InSlot, Key, Ledger, Setting, Zero, entry, frame_at, has_free, is_free, is_orphan, key_cmp, map_count, slot_of}
+use Rattle.av_plain.specs.Pass.{Completes, IsPass, IsSlotFor, Seeks, Spared, TakesFor, Turns, end_note, end_notes, frames_in_turn, is_dirty, is_stuck, stays_cached, turn_notes, unmap_notes}
+use Rattle.av_plain.specs.World.{Page, World, pages}
+use Rattle.av_plain.proofs.Access.{accesses-keep, after_all-append, note_events-all}
+use Rattle.av_plain.proofs.Ledger.{entry-set, same_key, same_key-is}
 use Rattle.av_plain.proofs.Ledger.NoSwap.{key_at-address}
+use Rattle.av_plain.proofs.Event.{find-map}
+use Rattle.std.specs.Prelude.{MatchBool}
 
 -- settling leaves the entries, and so does a write that ends well
 pub settle-entries : (o : Option ℕ) (l : Ledger) → (if_some o settle l).entries ≡ l.entries
@@ -115,30 +116,74 @@ module _ (test : Key → Bool) where
   pub bring-is : (a b : List Note) → a ≡ b → AllBring test b → AllBring test a
   bring-is a b e h = subst (AllBring test) (sym e) h
 
+  -- ---- a pass brings none
+
+  bring-end : (failed : Bool) (t : Slot) → Brings test (end_note failed t)
+  bring-end true t = tt
+  bring-end false t = tt
+
+  bring-completes : (l : Ledger) (ts : List Slot) (notes : List Note) → Completes l ts notes → AllBring test notes
+  bring-completes l [] notes c = bring-is notes [] c tt
+  bring-completes l (t ∷ ts) notes c = bring-is notes _ c.2
+      (bring-append (end_notes l t c.0) c.1 (bring-end c.0 t, bring-when (is_orphan (after_note (end_note c.0 t) l) t) (Dropped t) tt) (bring-completes (after_notes l (end_notes l t c.0)) ts c.1 c.3))
+
+  bring-turn : (l : Ledger) (f : ℕ) (t : Slot) (failed : Bool) → AllBring test (turn_notes l f t failed)
+  bring-turn l f t failed =
+      bring-append (unmap_notes l f t) _ (bring-append (when (is_none (slot_of l f)) (Put f t)) _ (bring-when (is_none (slot_of l f)) (Put f t) tt) (bring-when (not (map_count l f == 0)) (Unmapped f) tt)) (by (is_dirty l f t))
+    where
+      by : (b : Bool) → AllBring test (cond b (Started t ∷ end_note failed t ∷ []) [])
+      by true = (tt, (bring-end failed t, tt))
+      by false = tt
+
+  bring-turns : (m : Setting) (sp : Spared) (l : Ledger) (fs : List ℕ) (notes : List Note) → Turns m sp l fs notes → AllBring test notes
+  bring-turns m sp l [] notes r = bring-is notes [] r tt
+  bring-turns m sp l (f ∷ fs) notes r = stuck (λ l' ns q. bring-turns m sp l' fs ns q) (is_stuck m sp l f) r
+    where
+      stuck : ((l' : Ledger) (ns : List Note) → Turns m sp l' fs ns → AllBring test ns) → (b : Bool) → MatchBool b (Turns m sp l fs notes) ((t : Slot) × (failed : Bool) × IsSlotFor m sp l f t × MatchBool (stays_cached l f t failed)
+          ((rest : List Note) × (notes ≡ turn_notes l f t failed ++ rest) × Turns m sp (after_notes l (turn_notes l f t failed)) fs rest) (notes ≡ turn_notes l f t failed ++ Dropped t ∷ []))
+          → AllBring test notes
+      stuck again true r = again l notes r
+      stuck again false r = goes (stays_cached l f r.0 r.1) r.3
+        where
+          goes : (b : Bool) → MatchBool b ((rest : List Note) × (notes ≡ turn_notes l f r.0 r.1 ++ rest) × Turns m sp (after_notes l (turn_notes l f r.0 r.1)) fs rest) (notes ≡ turn_notes l f r.0 r.1 ++ Dropped r.0 ∷ []) → AllBring test notes
+          goes true q = bring-is notes _ q.1 (bring-append (turn_notes l f r.0 r.1) q.0 (bring-turn l f r.0 r.1) (again (after_notes l (turn_notes l f r.0 r.1)) q.0 q.2))
+          goes false q = bring-is notes _ q (bring-append (turn_notes l f r.0 r.1) (Dropped r.0 ∷ []) (bring-turn l f r.0 r.1) (tt, tt))
+
+  pub bring-seeks : (m : Setting) (sp : Spared) (l : Ledger) (notes : List Note) → Seeks m sp l notes → AllBring test notes
+  bring-seeks m sp l notes r = by (has_free m l) r
+    where
+      pass : (b : Bool) (now : Ledger) (fs : List ℕ) (ns : List Note) → MatchBool b (ns ≡ []) (Turns m sp now fs ns) → AllBring test ns
+      pass true now fs ns q = bring-is ns [] q tt
+      pass false now fs ns q = bring-turns m sp now fs ns q
+
+      by : (b : Bool) → MatchBool b (notes ≡ []) (IsPass m sp l notes) → AllBring test notes
+      by true q = bring-is notes [] q tt
+      by false q = bring-is notes _ q.2 (bring-append q.0 q.1 (bring-completes l l.flight q.0 q.3) (pass (has_free m (after_notes l q.0)) (after_notes l q.0) (frames_in_turn sp (after_notes l q.0)) q.1 q.4))
+
   -- ---- accesses bring one at their page
 
-  pub bring-takes : (m : Setting) (spared : Spared) (l : Ledger) (notes : List Note) (note : ℕ → Note) → ((f : ℕ) → Brings test (note f)) → TakesFor m spared l notes note → AllBring test notes
-  bring-takes m spared l notes note h takes = bring-is notes _ takes.whole (subst (λ ns. AllBring test (ns ++ note takes.frame ∷ [])) (sym takes.seeks) (h takes.frame, tt))
+  pub bring-takes : (m : Setting) (sp : Spared) (l : Ledger) (notes : List Note) (note : ℕ → Note) → ((f : ℕ) → Brings test (note f)) → TakesFor m sp l notes note → AllBring test notes
+  bring-takes m sp l notes note h takes = bring-is notes _ takes.whole (bring-append takes.sought _ (bring-seeks m sp l takes.sought takes.seeks) (h takes.frame, tt))
 
   module _ (k : Key) (here : test k ≡ true) where
     at_key : test (key_at k.0 (address_of k.1)) ≡ true
     at_key = ap test (key_at-address k) ∙ here
 
-    bring-comes : (m : Setting) (l : Ledger) (n : Need) (notes : List Note) → ComesIn m l k n notes → AllBring test notes
-    bring-comes m l (SwapIn s) notes q = bring-is notes _ q.4 (bring-append q.0 _ (bring-takes m nothing_spared l q.0 (Loaded s) (λ f. tt) q.2) (at_key, tt))
-    bring-comes m l (MapCached f) notes q = bring-is notes _ q (at_key, tt)
-    bring-comes m l Ready notes q = bring-is notes [] q tt
-    bring-comes m l ZeroPage notes q = bring-is notes [] q tt
-    bring-comes m l NewPage notes q = bring-is notes [] q tt
-    bring-comes m l (CopyOnWrite g) notes q = bring-is notes [] q tt
+    bring-comes : (m : Setting) (sp : Sparing) (l : Ledger) (n : Need) (notes : List Note) → ComesIn m sp l k n notes → AllBring test notes
+    bring-comes m sp l (SwapIn s) notes q = bring-is notes _ q.4 (bring-append q.0 _ (bring-takes m (sp l None) l q.0 (Loaded s) (λ f. tt) q.2) (at_key, tt))
+    bring-comes m sp l (MapCached f) notes q = bring-is notes _ q (at_key, tt)
+    bring-comes m sp l Ready notes q = bring-is notes [] q tt
+    bring-comes m sp l ZeroPage notes q = bring-is notes [] q tt
+    bring-comes m sp l NewPage notes q = bring-is notes [] q tt
+    bring-comes m sp l (CopyOnWrite g) notes q = bring-is notes [] q tt
 
-    bring-made : (m : Setting) (l : Ledger) (n : Need) (notes : List Note) → IsMade m l k n notes → AllBring test notes
-    bring-made m l Ready notes q = bring-is notes [] q tt
-    bring-made m l ZeroPage notes q = bring-is notes _ q (at_key, tt)
-    bring-made m l NewPage notes q = bring-takes m nothing_spared l notes (New k.0 (address_of k.1)) (λ f. at_key) q
-    bring-made m l (CopyOnWrite g) notes q = bring-takes m (pinning (Some g)) l notes (Copied k.0 (address_of k.1)) (λ f. at_key) q
-    bring-made m l (SwapIn s) notes q = absurd q
-    bring-made m l (MapCached f) notes q = absurd q
+    bring-made : (m : Setting) (sp : Sparing) (l : Ledger) (n : Need) (notes : List Note) → IsMade m sp l k n notes → AllBring test notes
+    bring-made m sp l Ready notes q = bring-is notes [] q tt
+    bring-made m sp l ZeroPage notes q = bring-is notes _ q (at_key, tt)
+    bring-made m sp l NewPage notes q = bring-takes m (sp l None) l notes (New k.0 (address_of k.1)) (λ f. at_key) q
+    bring-made m sp l (CopyOnWrite g) notes q = bring-takes m (sp l (Some g)) l notes (Copied k.0 (address_of k.1)) (λ f. at_key) q
+    bring-made m sp l (SwapIn s) notes q = absurd q
+    bring-made m sp l (MapCached f) notes q = absurd q
 
     bring-spare : (m : Setting) (write came : Bool) (l : Ledger) → AllBring test (drop_at m write came l k)
     bring-spare m write came l = by (entry l k)
@@ -153,40 +198,33 @@ module _ (test : Key → Bool) where
         by (Some (InFrame f seen)) = slot_one (slot_of l f)
         by (Some (InSlot t)) = tt
 
-    bring-serves : (m : Setting) (l : Ledger) (write : Bool) (notes : List Note) → Serves m l write k notes → AllBring test notes
-    bring-serves m l write notes h = bring-is notes _ h.whole (bring-append (h.coming ++ h.making) _ (bring-append h.coming h.making (bring-comes m l (need write l (entry l k)) h.coming h.comes_in) (bring-made m (after_notes l h.coming) (need write (after_notes l h.coming) (entry (after_notes l h.coming) k)) h.making h.made)) (bring-spare m write (was_slot (need write l (entry l k))) (after_notes l (h.coming ++ h.making))))
+    bring-serves : (m : Setting) (sp : Sparing) (l : Ledger) (write : Bool) (notes : List Note) → Serves m sp l write k notes → AllBring test notes
+    bring-serves m sp l write notes h = bring-is notes _ h.whole (bring-append (h.coming ++ h.making) _ (bring-append h.coming h.making (bring-comes m sp l (need write l (entry l k)) h.coming h.comes_in) (bring-made m sp (after_notes l h.coming) (need write (after_notes l h.coming) (entry (after_notes l h.coming) k)) h.making h.made)) (bring-spare m write (was_slot (need write l (entry l k))) (after_notes l (h.coming ++ h.making))))
 
-    bring-runs_out : (m : Setting) (l : Ledger) (write : Bool) (notes : List Note) (out : OutOf) → RunsOut m l write k notes out → AllBring test notes
-    bring-runs_out m l write notes out h = bring-is notes _ h.whole (bring-append h.coming h.sought (by h.before) (bring-is h.sought [] h.seeks tt))
+    bring-runs_out : (m : Setting) (sp : Sparing) (l : Ledger) (write : Bool) (notes : List Note) (out : OutOf) → RunsOut m sp l write k notes out → AllBring test notes
+    bring-runs_out m sp l write notes out h = bring-is notes _ h.whole (bring-append h.coming h.sought (by h.before) (bring-seeks m (sp (after_notes l h.coming) (pinned_by (need write (after_notes l h.coming) (entry (after_notes l h.coming) k)))) (after_notes l h.coming) h.sought h.finds.seeks))
       where
-        by : (h.coming ≡ []) ⊎ ComesIn m l k (need write l (entry l k)) h.coming → AllBring test h.coming
+        by : (h.coming ≡ []) ⊎ ComesIn m sp l k (need write l (entry l k)) h.coming → AllBring test h.coming
         by (inl e) = bring-is h.coming [] e tt
-        by (inr q) = bring-comes m l (need write l (entry l k)) h.coming q
+        by (inr q) = bring-comes m sp l (need write l (entry l k)) h.coming q
 
 -- ---- a page that is there
 
 abbrev pub at_page : World → Key → Bool
 at_page w k = is_some (pages w k.0 k.1)
 
-pub touches-bring : (m : Setting) (w : World) (l : Ledger) (write : Bool) (k : Key) (notes : List Note) (how : How) → Touches m w l write k notes how → AllBring (at_page w) notes
-touches-bring m w l write k notes Served h = bring-serves (at_page w) k (there w write k h.0) m l write notes h.1
+allowed-there : (w : World) (write : Bool) (k : Key) → is_allowed w write k ≡ true → at_page w k ≡ true
+allowed-there w write k h = by (pages w k.0 k.1) h
   where
-    there : (w : World) (write : Bool) (k : Key) → is_allowed w write k ≡ true → at_page w k ≡ true
-    there w write k h = by (pages w k.0 k.1) h
-      where
-        by : (o : Option Page) → permits write o ≡ true → is_some o ≡ true
-        by None h = cc
-        by (Some q) h = refl
-touches-bring m w l write k notes Denied h = bring-is (at_page w) notes [] h.1 tt
-touches-bring m w l write k notes (Starved out) h = bring-runs_out (at_page w) k (there w write k h.0) m l write notes out h.1
-  where
-    there : (w : World) (write : Bool) (k : Key) → is_allowed w write k ≡ true → at_page w k ≡ true
-    there w write k h = by (pages w k.0 k.1) h
-      where
-        by : (o : Option Page) → permits write o ≡ true → is_some o ≡ true
-        by None h = cc
-        by (Some q) h = refl
-touches-bring m w l write k notes Lost h = bring-is (at_page w) notes [] h.1.seeks tt
+    by : (o : Option Page) → permits write o ≡ true → is_some o ≡ true
+    by None h = cc
+    by (Some q) h = refl
+
+pub touches-bring : (m : Setting) (w : World) (l : Ledger) (write : Bool) (k : Key) (notes : List Note) (end : Option Stop) → Touches m w l write k notes end → AllBring (at_page w) notes
+touches-bring m w l write k notes None h = bring-serves (at_page w) k (allowed-there w write k h.0) m (sparing w) l write notes h.1
+touches-bring m w l write k notes (Some Denied) h = bring-is (at_page w) notes [] h.1 tt
+touches-bring m w l write k notes (Some (Starved out)) h = bring-runs_out (at_page w) k (allowed-there w write k h.0) m (sparing w) l write notes out h.1
+touches-bring m w l write k notes (Some Lost) h = bring-seeks (at_page w) m (sparing w l None) l notes h.1.seeks
 
 used-at : (w : World) (l : Ledger) (write : Bool) (k : Key) → AllAt (at_page w) l → AllAt (at_page w) (after_use write k l)
 used-at w l write k all = by write (entry l k) refl
@@ -205,23 +243,9 @@ used-at w l write k all = by write (entry l k) refl
     by false (Some (InFrame f seen)) is = set_here f seen is
     by true (Some (InFrame f seen)) is = stale (slot_of l f) _ (set_here f seen is)
 
-pub page_events-at : (w : World) (l : Ledger) (write : Bool) (k : Key) (notes : List Note) (how : How) → AllAt (at_page w) (after_notes l notes) → AllAt (at_page w) (after_all l (page_events write k notes how))
-page_events-at w l write k notes Served s = subst (AllAt (at_page w)) (sym (after_all-append l (note_events notes) (Used write k ∷ []) ∙ ap (after_use write k) (note_events-all l notes))) (used-at w (after_notes l notes) write k s)
-page_events-at w l write k notes Denied s = subst (AllAt (at_page w)) (sym (note_events-all l notes)) s
-page_events-at w l write k notes (Starved out) s = subst (AllAt (at_page w)) (sym (note_events-all l notes)) s
-page_events-at w l write k notes Lost s = subst (AllAt (at_page w)) (sym (note_events-all l notes)) s
+pub page_events-at : (w : World) (l : Ledger) (write : Bool) (k : Key) (notes : List Note) (end : Option Stop) → AllAt (at_page w) (after_notes l notes) → AllAt (at_page w) (after_all l (page_events write k notes end))
+page_events-at w l write k notes None s = subst (AllAt (at_page w)) (sym (after_all-append l (note_events notes) (Used write k ∷ []) ∙ ap (after_use write k) (note_events-all l notes))) (used-at w (after_notes l notes) write k s)
+page_events-at w l write k notes (Some stop) s = subst (AllAt (at_page w)) (sym (note_events-all l notes)) s
 
-pub accesses-at : (m : Setting) (w : World) (l : Ledger) (write : Bool) (p : ℕ) (ps : List ℕ) (events : List Event) (end : End) → AllAt (at_page w) l → Accesses m w l write p ps events end → AllAt (at_page w) (after_all l events)
-accesses-at m w l write p [] events end s h = subst (λ es. AllAt (at_page w) (after_all l es)) (sym h.0) s
-accesses-at m w l write p (page ∷ rest) events end s h =
-    let here = page_events-at w l write (p, page) h.0 h.1 (notes-at (at_page w) l h.0 (touches-bring m w l write (p, page) h.0 h.1 h.3) s) in
-    let now = after_all l (page_events write (p, page) h.0 h.1) in
-    subst (λ es. AllAt (at_page w) (after_all l es)) (sym h.4) (subst (AllAt (at_page w)) (sym (after_all-append l (page_events write (p, page) h.0 h.1) h.2))
-    (goes_on h.1 here (λ q. accesses-at m w now write p rest h.2 end here q) h.5))
-  where
-    goes_on : (how : How) → AllAt (at_page w) (after_all l (page_events write (p, page) h.0 h.1)) → (Accesses m w (after_all l (page_events write (p, page) h.0 h.1)) write p rest h.2 end → AllAt (at_page w) (after_all (after_all l (page_events write (p, page) h.0 h.1)) h.2))
-        → GoesOn how page h.2 end (Accesses m w (after_all l (page_events write (p, page) h.0 h.1)) write p rest h.2 end) → AllAt (at_page w) (after_all (after_all l (page_events write (p, page) h.0 h.1)) h.2)
-    goes_on Served here then_ q = then_ q
-    goes_on Denied here then_ q = subst (λ es. AllAt (at_page w) (after_all (after_all l (page_events write (p, page) h.0 h.1)) es)) (sym q.0) here
-    goes_on (Starved out) here then_ q = subst (λ es. AllAt (at_page w) (after_all (after_all l (page_events write (p, page) h.0 h.1)) es)) (sym q.0) here
-    goes_on Lost here then_ q = subst (λ es. AllAt (at_page w) (after_all (after_all l (page_events write (p, page) h.0 h.1)) es)) (sym q.0) here
+pub accesses-at : (m : Setting) (w : World) (l : Ledger) (p : ℕ) (ps : List (Bool × ℕ)) (events : List Event) (end : End) → AllAt (at_page w) l → Accesses m w l p ps events end → AllAt (at_page w) (after_all l events)
+accesses-at m w l p ps events end s h = accesses-keep (AllAt (at_page w)) m w p (λ l write page notes end s t. page_events-at w l write (p, page) notes end (notes-at (at_page w) l notes (touches-bring m w l write (p, page) notes end t) s)) l ps events end s h

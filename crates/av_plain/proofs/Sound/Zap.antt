@@ -5,72 +5,23 @@ use Rattle.std.specs.Prelude.{option_and_then}
 use Rattle.std.specs.List.{list_any}
 use Rattle.std.specs.Ordering.{nat_cmp, is_eq, eq_by_cmp}
 use Rattle.std.specs.FinMap.Entries.{is_sorted, find-where_key, is_sorted-where_key}
+use Rattle.av_base.specs.Words.{how_many}
 use Rattle.av_base.specs.declared.slot.Slot.{Slot}
 use Rattle.av_trace.specs.declared.reply.Note.TheVariants.{Dropped}
-use Rattle.av_base.specs.Words.{how_many}
-use Rattle.av_plain.specs.World.{World, Process, process, pages, end_process}
-use Rattle.av_plain.specs.Ledger.{Setting, Key, key_cmp, Entry, InFrame, InSlot, Zero, Ledger, entry, map_count, slot_entries, names_frame, names_slot, same_slot, slot_of, frame_at, is_orphan, is_unmapped, in_flight}
-use Rattle.av_plain.specs.Event.{settle_entry, after_zap, after_all, when, note_events}
+use Rattle.av_plain.specs.Event.{after_all, after_zap, note_events, settle_entry, when}
+use Rattle.av_plain.specs.Ledger.{Entry, InFrame, InSlot, Key, Ledger, Setting, Zero, entry, is_orphan, key_cmp, map_count, names_frame, names_slot, same_slot, slot_of}
+use Rattle.av_plain.specs.Sound.{AllSound, AreThere, AtPages, IsSound, IsSoundBut, IsTidy, flights, holders, pairs}
+use Rattle.av_plain.specs.World.{Process, World, end_process, pages, process}
 use Rattle.av_plain.specs.Zap.{keys_of_process, orphan_drop, slot_behind_key, zap_of, zaps_of}
-use Rattle.av_plain.specs.Sound.{holders, pairs, flights, IsSoundBut, IsSound, no_excuse, AreThere, AtPages, IsTidy, AllSound}
-use Rattle.av_plain.proofs.Ledger.Order.{weight}
-use Rattle.av_plain.proofs.Ledger.{same_key, how_many-found}
 use Rattle.av_plain.proofs.Access.{after_all-append}
-use Rattle.av_plain.proofs.Zap.{leaving, after_zap-is, entry-leaving, map_count-leaving, slot_entries-leaving, slot_entries-after_zap, in_order-after_zap, same_swap-after_zap, entry-zaps_of, entry-ended}
-use Rattle.av_plain.proofs.Sound.Counts.{same-is, same-itself, slot-is, pair-slot, pair-frame, two_slots, two_frames, slot_of-none, slot_of-some, frame_at-none, frame_at-some}
+use Rattle.av_plain.proofs.Ledger.{how_many-found, same_key}
+use Rattle.av_plain.proofs.Ledger.Order.{weight}
+use Rattle.av_plain.proofs.Sound.Changes.{Others, settle-kept}
+use Rattle.av_plain.proofs.Sound.Counts.{pair-frame, same-is, same-itself, slot_of-none, slot_of-some, two_slots}
 use Rattle.av_plain.proofs.Sound.Entries.{flag}
-use Rattle.av_plain.proofs.Sound.Changes.{any-counts, excused, Others, settle-kept, dropped-kept}
-use Rattle.av_plain.proofs.Sound.There.{NoNew, no_new-then, lawful-no_new, there-by}
-
--- the slot that may be without a use, until it is dropped
-abbrev pub excuse_of : Option Slot → Slot → ℕ
-excuse_of None r = 0
-excuse_of (Some t) r = cond (same_slot r t) 1 0
-
--- ---- the excuse ends: the slot is dropped where it is an orphan, and else has a use
-
-unexcused : (m : Setting) (l : Ledger) (t : Slot) → IsSoundBut m (excuse_of (Some t)) l → is_orphan l t ≡ false → IsSound m l
-unexcused m l t s kept = record { in_order = s.in_order; slots_once = s.slots_once; frames_once = s.frames_once; in_range = s.in_range; listed = s.listed; flying = s.flying; used = λ r g h. by r g h (same_slot r t) refl (s.used r g h); one = s.one }
-  where
-    by : (r : Slot) (g : ℕ) → 0 < pairs l r g → (b : Bool) → same_slot r t ≡ b → 0 < flights l r + slot_entries l r + map_count l g + cond b 1 0 → 0 < flights l r + slot_entries l r + map_count l g + 0
-    by r g h true is u = subst (λ z. 0 < flights l z + slot_entries l z + map_count l g + 0) (sym (slot-is r t is)) (has (frame_at l t) refl)
-      where
-        h' : 0 < pairs l t g
-        h' = subst (λ z. 0 < pairs l z g) (slot-is r t is) h
-
-        counted : (a b c : ℕ) → ((a == 0) && not (nat_lt 0 b) && c == 0) ≡ false → 0 < b + c + a + 0
-        counted a b c e = grind (arith, nat_tests, e)
-
-        has : (o : Option ℕ) → frame_at l t ≡ o → 0 < flights l t + slot_entries l t + map_count l g + 0
-        has None at = let z = frame_at-none t l.cache at in let p = pair-slot t g l.cache in absurd (omega (arith, z, p, h'))
-        has (Some f) at = same (g == f) refl
-          where
-            same : (c : Bool) → (g == f) ≡ c → 0 < flights l t + slot_entries l t + map_count l g + 0
-            same true e = counted (map_count l g) (flights l t) (slot_entries l t)
-                (ap (λ y. (map_count l y == 0) && not (nat_lt 0 (flights l t)) && slot_entries l t == 0) (same-is g f e)
-                ∙ ap (λ y. (map_count l f == 0) && not y && slot_entries l t == 0) (sym (any-counts (same_slot t) l.flight))
-                ∙ ap (λ o. is_unmapped l o && not (in_flight l t) && slot_entries l t == 0) (sym at) ∙ kept)
-            same false e = let p = frame_at-some f t l.cache at in let two = two_frames t g f l.cache e in let once = s.slots_once t in absurd (omega (arith, p, two, once, h'))
-    by r g h false is u = u
-
-orphan-landed : (l : Ledger) (t : Slot) → is_orphan l t ≡ true → flights l t ≡ 0
-orphan-landed l t is = zero_is (flights l t) (is_unmapped l (frame_at l t)) (slot_entries l t == 0) (ap (λ y. is_unmapped l (frame_at l t) && not y && slot_entries l t == 0) (sym (any-counts (same_slot t) l.flight)) ∙ is)
-  where
-    zero_is : (n : ℕ) (a c : Bool) → (a && not (nat_lt 0 n) && c) ≡ true → n ≡ 0
-    zero_is n true c h = grind (arith, nat_tests, h)
-    zero_is n false c h = cc
-
-drops-kept : (m : Setting) (l : Ledger) (o : Option Slot) → IsSoundBut m (excuse_of o) l → IsSound m (after_all l (orphan_drop l o))
-drops-kept m l None s = s
-drops-kept m l (Some t) s = by (is_orphan l t) refl
-  where
-    by : (b : Bool) → is_orphan l t ≡ b → IsSound m (after_all l (note_events (when b (Dropped t))))
-    by true is = excused m _ no_excuse _ (dropped-kept m (excuse_of (Some t)) l t s (orphan-landed l t is)) (λ r f h. none (same_slot r t))
-      where
-        none : (b : Bool) → cond b 0 (cond b 1 0) ≤ 0
-        none true = omega arith
-        none false = omega arith
-    by false is = unexcused m l t s is
+use Rattle.av_plain.proofs.Sound.Flight.{drops-kept, excuse_of}
+use Rattle.av_plain.proofs.Sound.There.{NoNew, lawful-no_new, less, no_new-then, there-by}
+use Rattle.av_plain.proofs.Zap.{after_zap-is, entry-ended, entry-leaving, entry-zaps_of, in_order-after_zap, in_range, leaving, map_count-leaving, same_swap-after_zap, slot_entries-after_zap, slot_entries-leaving}
 
 -- ---- an entry goes
 
@@ -134,22 +85,22 @@ zaps_of-kept m l (k ∷ ks) s = subst (IsSound m) (sym (after_all-append l (zap_
 
 -- ---- no slot comes into use
 
-no_new-taken : (k : Key) (l : Ledger) → T (is_sorted key_cmp l.entries) → NoNew l (after_zap k l)
-no_new-taken k l h =
+no_new-taken : (m : Setting) (k : Key) (l : Ledger) → T (is_sorted key_cmp l.entries) → NoNew m l (after_zap k l)
+no_new-taken m k l h =
     let same = same_swap-after_zap k l in
-    record { on_same = same.on; was = λ t i. let a = slot_entries-after_zap k l t h in let b = ap (how_many (λ c. same_slot t c.slot)) same.cache in omega (arith, a, b, i) }
+    less m l (after_zap k l) same.on (λ t i. let a = slot_entries-after_zap k l t h in let b = ap (how_many (λ c. same_slot t c.slot)) same.cache in omega (arith, a, b, i))
 
-no_new-drops : (l : Ledger) (o : Option Slot) → T (is_sorted key_cmp l.entries) → NoNew l (after_all l (orphan_drop l o))
-no_new-drops l None h = record { on_same = refl; was = λ t i. i }
-no_new-drops l (Some t) h = by (is_orphan l t)
+no_new-drops : (m : Setting) (l : Ledger) (o : Option Slot) → T (is_sorted key_cmp l.entries) → NoNew m l (after_all l (orphan_drop l o))
+no_new-drops m l None h = less m l l refl (λ t i. i)
+no_new-drops m l (Some t) h = by (is_orphan l t)
   where
-    by : (b : Bool) → NoNew l (after_all l (note_events (when b (Dropped t))))
-    by true = lawful-no_new l (Dropped t) h tt
-    by false = record { on_same = refl; was = λ r i. i }
+    by : (b : Bool) → NoNew m l (after_all l (note_events (when b (Dropped t))))
+    by true = lawful-no_new m None l (Dropped t) h tt
+    by false = less m l l refl (λ r i. i)
 
 taking_one-there : (m : Setting) (l : Ledger) (k : Key) → IsSound m l → AreThere m l → AreThere m (after_all l (zap_of l k))
-taking_one-there m l k s all = there-by m l (after_all l (zap_of l k)) (no_new-then l (after_zap k l) (after_all l (zap_of l k))
-    (no_new-taken k l s.in_order) (no_new-drops (after_zap k l) (slot_behind_key l (entry l k)) (in_order-after_zap k l s.in_order))) all
+taking_one-there m l k s all = there-by m l (after_all l (zap_of l k)) (no_new-then m l (after_zap k l) (after_all l (zap_of l k))
+    (no_new-taken m k l s.in_order) (no_new-drops m (after_zap k l) (slot_behind_key l (entry l k)) (in_order-after_zap k l s.in_order))) all
 
 pub zaps_of-there : (m : Setting) (l : Ledger) (ks : List Key) → IsSound m l → AreThere m l → AreThere m (after_all l (zaps_of l ks))
 zaps_of-there m l [] s all = all
