@@ -17,7 +17,7 @@ use Rattle.av_trace.specs.declared.reply.Reply.{Reply}
 use Rattle.av_trace.specs.declared.reply.Answer.{Answer}
 use Rattle.av_trace.specs.declared.reply.Answer.TheVariants.{Done, MapAt, Refused}
 use Rattle.av_pagetable.specs.Entries.{has}
-use Rattle.av_plain.specs.World.{Process, Page, zeros, pages, is_mapped, pages_to_hole, set_process, with_pages, with_prot_on, with_prot}
+use Rattle.av_plain.specs.World.{lives, Process, Page, zeros, pages, is_mapped, pages_to_hole, set_process, with_pages, with_prot_on, with_prot}
 use Rattle.av_base.specs.Page.{page_of, pages_of, address_of, is_on_page}
 use Rattle.av_plain.specs.Ledger.{Ledger, Entry, Zero, InFrame, InSlot, entry, frame_at}
 use Rattle.av_plain.specs.Event.{Event, after_all}
@@ -34,11 +34,11 @@ use Rattle.av_plain.proofs.Zap.{entry-range}
 use Rattle.av_reclaim.specs.declared.mem.Mem.{Mem}
 use Rattle.av_spaces.specs.Spaces.{Spaces, areas_of, is_taken}
 use Rattle.av_kernel.specs.Map.{set_on, HasProts, AreCleared}
-use Rattle.av_reclaim.specs.Mem.{ranges_of, setting, view, count, Keeps, IsSteady}
+use Rattle.av_reclaim.specs.Mem.{ranges_of, setting, view, count, Keeps, IsSteady, LedgerStands}
 use Rattle.av_reclaim.specs.Zap.{HasZapped}
-use Rattle.av_kernel.specs.Place.{IsProcess, IsPlaced, AreToClear}
+use Rattle.av_kernel.specs.Place.{protect_tests, IsProcess, IsPlaced, AreToClear}
 use Rattle.av_kernel.specs.Step.{MemSteps, answered}
-use Rattle.av_reclaim.proofs.MemLaws.{alive_is, taken_has, mapped_is}
+use Rattle.av_reclaim.proofs.MemLaws.{lives_is, alive_is, taken_has, mapped_is}
 use Rattle.av_kernel.proofs.PlaceLaws.{page_back, IsSuited, suited}
 use Rattle.av_kernel.proofs.StepLaws.{is_number, moved_on, orderly, refused, stays_orderly, changed, areas_changed, tables_kept}
 
@@ -85,6 +85,39 @@ are_cleared old mid spaces p page n l t same processes bytes gone = record {
   bytes = bytes;
 }
 
+left_alone : (k : Mem) → IsSteady k → (p page n : ℕ) (l : Ledger) → LedgerStands k l → is_some (areas_of k.spaces p) ≡ true → IsFree (is_taken k.spaces p) page (page + n) → AreCleared k k p page n l []
+left_alone k steady p page n l stands alive free = record {
+  taken = record { stands = stands; notes = refl; free = refl };
+  spaces = record {
+    others = λ q other. refl;
+    alive = alive_is k.spaces p ∙ alive;
+    pages = λ o. by o (within page n o) refl;
+    number = refl;
+    apart = steady.1.stands.areas.apart;
+  };
+  processes = refl;
+  bytes = refl;
+}
+  where
+    none : (o : Option Prot) → is_some o ≡ false → o ≡ None
+    none None e = refl
+    none (Some x) e = cc
+
+    by : (o : ℕ) (b : Bool) → within page n o ≡ b → prot_of (ranges_of k.spaces p) o ≡ cond b None (prot_of (ranges_of k.spaces p) o)
+    by o true e =
+        let low : page ≤ o = grind (arith, nat_tests, e) in
+        let high : o < page + n = grind (arith, nat_tests, e) in
+        none (prot_of (ranges_of k.spaces p) o) (sym (taken_has k.spaces p o) ∙ free o low high)
+    by o false e = refl
+
+-- where a mapping isn't to be at a fixed place, its pages are free, and nothing goes
+pub nothing_there : (k : Mem) → IsSteady k → (p page n : ℕ) (place : Place) (l : Ledger) → LedgerStands k l → is_some (areas_of k.spaces p) ≡ true → AreToClear (is_taken k.spaces p) page n place → ((a : ℕ) → place ≡ Fixed a → ⊥)
+    → AreCleared k k p page n l (zaps_for_place l p n place)
+nothing_there k steady p page n Auto l stands alive free other = left_alone k steady p page n l stands alive free
+nothing_there k steady p page n (At a) l stands alive free other = left_alone k steady p page n l stands alive free
+nothing_there k steady p page n (Fixed a) l stands alive free other = absurd (other a refl)
+nothing_there k steady p page n (NoReplace a) l stands alive free other = left_alone k steady p page n l stands alive free
+
 -- the process lives on, and none of the pages is taken
 pub cleared_lives : (old new : Mem) (p page n : ℕ) (l : Ledger) (events : List Event) → AreCleared old new p page n l events → is_some (areas_of new.spaces p) ≡ true
 cleared_lives old new p page n l events h = sym (alive_is new.spaces p) ∙ h.spaces.alive
@@ -127,6 +160,26 @@ module _ (old new : Mem) (s : State) (command : Command) (reply : Reply) (p page
       (record { events = events; legal = legal; world = world; ledger = refl; free = subst (λ free. ChoosesAll s.ledger events free (view new).free) keeps.stands.free taken.free })
       (areas_changed old new s p now (set_on page n (option_map (λ (x : Page). x.prot) o) (prot_of (ranges_of old.spaces p))) keeps alive spaces covered)
       (tables_kept old new s p now (set_on page n (option_map (λ (x : Page). x.prot) o) (prot_of (ranges_of old.spaces p))) keeps alive spaces covered processes)
+
+-- ---- what is refused
+
+-- the process lives
+lived : (k : Mem) (s : State) (p : ℕ) → Keeps k s → is_some (areas_of k.spaces p) ≡ true → (rest : Option Errno) → cond (not (lives s.world p)) (Some Esrch) rest ≡ rest
+lived k s p keeps alive rest = ap (λ b. cond (not b) (Some Esrch) rest) (sym (lives_is k s keeps p) ∙ alive)
+
+pub munmap-refused : (k : Mem) (s : State) (p a len : ℕ) → Keeps k s → is_some (areas_of k.spaces p) ≡ true → (not (is_on_page a) || len == 0 || nat_lt top (a + len)) ≡ true → refusal (tests (setting (count k)) s.world s.ledger (Munmap p a len)) ≡ Some Einval
+munmap-refused k s p a len keeps alive none = lived k s p keeps alive (cond (not (is_on_page a) || len == 0 || nat_lt top (a + len)) (Some Einval) None) ∙ ap (λ b. cond b (Some Einval) None) none
+
+pub mprotect-refused : (k : Mem) (s : State) (p a len : ℕ) (prot : Prot) (error : Errno) → Keeps k s → is_some (areas_of k.spaces p) ≡ true → refusal (protect_tests a len) ≡ Some error → refusal (tests (setting (count k)) s.world s.ledger (Mprotect p a len prot)) ≡ Some error
+mprotect-refused k s p a len prot error keeps alive is = lived k s p keeps alive (refusal (protect_tests a len)) ∙ is
+
+module _ (k : Mem) (s : State) (p len : ℕ) (prot : Prot) (place : Place) (keeps : Keeps k s) (alive : is_some (areas_of k.spaces p) ≡ true) where
+  pub mmap-tests-first : (len == 0) ≡ true → refusal (tests (setting (count k)) s.world s.ledger (Mmap p len prot place)) ≡ Some Einval
+  mmap-tests-first none = lived k s p keeps alive _ ∙ ap (λ b. cond b (Some Einval) (cond (is_too_long len) (Some Enomem) (refusal (place_tests (pages s.world p) (pages_of len) place)))) none
+
+  pub mmap-tests-second : (len == 0) ≡ false → is_too_long len ≡ true → refusal (tests (setting (count k)) s.world s.ledger (Mmap p len prot place)) ≡ Some Enomem
+  mmap-tests-second some long = lived k s p keeps alive _ ∙ ap (λ b. cond b (Some Einval) (cond (is_too_long len) (Some Enomem) (refusal (place_tests (pages s.world p) (pages_of len) place)))) some
+      ∙ ap (λ b. cond b (Some Enomem) (refusal (place_tests (pages s.world p) (pages_of len) place))) long
 
 -- ---- munmap
 

@@ -33,7 +33,7 @@ use Rattle.av_spaces.specs.Spaces.{Spaces, areas_of, IsSpawned, IsEnded}
 use Rattle.av_reclaim.specs.Mem.{range_of, ranges_of, setting, plain, view, count, HasTables, Keeps, LedgerStands}
 use Rattle.av_kernel.specs.Step.{MemSteps, answered}
 use Rattle.av_reclaim.specs.Zap.{HasZapped}
-use Rattle.av_reclaim.proofs.MemLaws.{all_apart, kept-nothing, no_cache}
+use Rattle.av_reclaim.proofs.MemLaws.{lives_is, all_apart, kept-nothing, no_cache}
 use Rattle.av_kernel.proofs.StepLaws.{is_number, orderly, moved_on, stays_orderly, state_after, changed, kept-on, stepped}
 
 -- ---- the ranges of a process that comes or goes
@@ -56,6 +56,18 @@ at_number : (q p : ℕ) → eq_by_cmp nat_cmp q p ≡ (q == p)
 at_number q p = grind (arith, nat_tests)
 
 -- ---- spawn
+
+-- a process that lives is refused, and so is one more than may live
+pub there_already : (k : Mem) (s : State) (p : ℕ) → Keeps k s → is_some (areas_of k.spaces p) ≡ true → refusal (tests (setting (count k)) s.world s.ledger (Spawn p)) ≡ Some Eexist
+there_already k s p keeps alive = ap (λ b. cond b (Some Eexist) (cond (nat_le most_processes (length s.world)) (Some Eagain) None)) (sym (lives_is k s keeps p) ∙ alive)
+
+pub too_many : (k : Mem) (s : State) (p : ℕ) → Keeps k s → is_some (areas_of k.spaces p) ≡ false → 4096 ≤ length k.spaces → refusal (tests (setting (count k)) s.world s.ledger (Spawn p)) ≡ Some Eagain
+too_many k s p keeps dead many =
+    ap (λ b. cond b (Some Eexist) (cond (nat_le most_processes (length s.world)) (Some Eagain) None)) (sym (lives_is k s keeps p) ∙ dead)
+    ∙ ap (λ b. cond b (Some Eagain) None) (at_least (length s.world) (let number = keeps.stands.areas.number in omega (arith, many, number)))
+  where
+    at_least : (n : ℕ) → 4096 ≤ n → nat_le most_processes n ≡ true
+    at_least n h = grind (arith, nat_tests, h)
 
 -- a process that didn't live does now
 module _ (old : Mem) (tables : ProcessTables) (spaces : Spaces) (s : State) (p : ℕ) (keeps : Keeps old s)

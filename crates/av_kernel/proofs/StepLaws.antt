@@ -2,7 +2,7 @@
 use Rattle.std.proofs.Common.{◌≡◌, ◌≢◌, ℕ, ◌+◌, ◌<◌, Bool, true, false, cond, not, List, [], length, Option, Some, None, is_some, option_map, Result, Ok, Err, refl, sym, ap, subst, ◌∙◌, arith, ◌==◌}
 use Rattle.std.proofs.lemmas.Bool.Decides.{nat_tests}
 use Rattle.std.specs.Ordering.{nat_cmp, eq_by_cmp}
-use Rattle.std.specs.Prelude.{MatchOption}
+use Rattle.std.specs.Prelude.{MatchOption, IsErr, IsErrAnd}
 use Rattle.av_base.specs.declared.prot.Prot.{Prot}
 use Rattle.av_base.specs.Words.{with_at}
 use Rattle.av_trace.specs.declared.command.Command.{Command}
@@ -27,7 +27,8 @@ use Rattle.av_reclaim.specs.declared.mem.Mem.{Mem}
 use Rattle.av_spaces.specs.Spaces.{Spaces, areas_of}
 use Rattle.av_kernel.specs.Map.{HasProts}
 use Rattle.av_reclaim.specs.Mem.{ranges_of, setting, plain, view, count, HasTables, Keeps, LedgerStands}
-use Rattle.av_kernel.specs.declared.refusal.Refusal.TheVariants as Refusal
+use Rattle.av_kernel.specs.declared.refusal.Refusal.{Refusal}
+use Rattle.av_kernel.specs.declared.refusal.Refusal.TheVariants as refusals
 use Rattle.av_kernel.specs.Step.{MemSteps, Does, answered}
 use Rattle.av_reclaim.proofs.MemLaws.{alive_is, lives_is, no_cache, no_frame_at, no_device}
 use Rattle.av_kernel.proofs.PageStep.{no_headers}
@@ -61,12 +62,24 @@ refused k s command error keeps is = record {
 }
 
 -- so a command is done where it is refused
-pub refuses : (k : Mem) (command : Command) (error : Errno) → ((s : State) → Keeps k s → refusal (tests (setting (count k)) s.world s.ledger command) ≡ Some error) → Does k k command (Err (Refusal.Refused error))
+pub refuses : (k : Mem) (command : Command) (error : Errno) → ((s : State) → Keeps k s → refusal (tests (setting (count k)) s.world s.ledger command) ≡ Some error) → Does k k command (Err (refusals.Refused error))
 refuses k command error is = record { step = λ s keeps. refused k s command error keeps (is s keeps); count = refl }
 
 -- and where memory is wanting nothing is promised but the number of frames
-pub wants : (old new : Mem) (command : Command) → count new ≡ count old → Does old new command (Err Refusal.Memory)
+pub wants : (old new : Mem) (command : Command) → count new ≡ count old → Does old new command (Err refusals.Memory)
 wants old new command same = record { step = λ s keeps. tt; count = same }
+
+-- as `?` hands it out
+pub wants-by : (old new : Mem) (command : Command) (r : Result Reply Refusal) → IsErr r × IsErrAnd r (λ e. e ≡ refusals.Memory) → count new ≡ count old → Does old new command r
+wants-by old new command (Ok reply) is same = absurd is.1
+wants-by old new command (Err e) is same = subst (λ e. Does old new command (Err e)) (sym is.1) (wants old new command same)
+
+pub refuses-by : (old new : Mem) (command : Command) (error : Errno) (r : Result Reply Refusal) → IsErr r × IsErrAnd r (λ e. e ≡ refusals.Refused error) → Does old new command (Err (refusals.Refused error)) → Does old new command r
+refuses-by old new command error (Ok reply) is does = absurd is.1
+refuses-by old new command error (Err e) is does = subst (λ e. Does old new command (Err e)) (sym is.1) does
+
+pub refuses-as : (old new : Mem) (command : Command) (error : Errno) (r : Result Reply Refusal) (x : Refusal) → IsErr r × IsErrAnd r (λ e. e ≡ x) → x ≡ refusals.Refused error → Does old new command (Err (refusals.Refused error)) → Does old new command r
+refuses-as old new command error r x is same does = refuses-by old new command error r (is.0, subst (λ (y : Refusal). IsErrAnd r (λ e. e ≡ y)) same is.1) does
 
 -- a process that has no areas is refused first
 pub dead_first : (k : Mem) (s : State) (p : ℕ) (rest : Option Errno) → Keeps k s → is_some (areas_of k.spaces p) ≡ false → cond (not (lives s.world p)) (Some Esrch) rest ≡ Some Esrch

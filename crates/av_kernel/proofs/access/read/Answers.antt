@@ -2,6 +2,9 @@
 use Rattle.std.proofs.Common.{[], false, sym, subst, ◌∙◌}
 use Rattle.av_kernel.specs.Access.{IsAccess}
 use Rattle.av_reclaim.proofs.MemLaws.{lives_is}
+use Rattle.av_trace.specs.declared.command.Command.TheVariants.{Read}
+use Rattle.av_trace.specs.declared.reply.Errno.TheVariants.{Esrch}
+use Rattle.av_kernel.proofs.StepLaws.{refuses, refuses-as, dead_first, wants-by}
 use Rattle.av_kernel.proofs.AccessSteps.{read-done, read-stopped}
 use Rattle.av_kernel.proofs.access.read.Goals.{in-None, in-Some}
 use Rattle.av_kernel.proofs.access.read.Goals as goal
@@ -28,7 +31,9 @@ returns c = record {
 }
 
 pub returns-in_err-check_lives : goal.returns-in_err-check_lives
-returns-in_err-check_lives c = ?
+returns-in_err-check_lives c =
+    refuses-as c.args.mem.now c.args.mem.now (Read c.args.process c.args.address c.args.len) Esrch c.from_residual.result c.in_err-check_lives.field-0.0 c.from_residual.ensures c.in_err-check_lives.ensures.1
+    (refuses c.args.mem.now (Read c.args.process c.args.address c.args.len) Esrch (λ s keeps. dead_first c.args.mem.now s c.args.process _ keeps c.in_err-check_lives.ensures.0))
 
 pub returns-in_err-ended : goal.returns-in_err-ended
-returns-in_err-ended c = ?
+returns-in_err-ended c = wants-by c.args.mem.now c.read_pieces.new.mem (Read c.args.process c.args.address c.args.len) c.from_residual-in_err-ended.result c.from_residual-in_err-ended.ensures c.read_pieces.ensures.count

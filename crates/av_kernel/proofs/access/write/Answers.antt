@@ -2,6 +2,9 @@
 use Rattle.std.proofs.Common.{length, take, true, sym, ap, subst, ◌∙◌}
 use Rattle.av_kernel.specs.Access.{IsAccess, answer_of}
 use Rattle.av_reclaim.proofs.MemLaws.{lives_is}
+use Rattle.av_trace.specs.declared.command.Command.TheVariants.{Write}
+use Rattle.av_trace.specs.declared.reply.Errno.TheVariants.{Esrch}
+use Rattle.av_kernel.proofs.StepLaws.{refuses, refuses-as, dead_first, wants-by}
 use Rattle.av_kernel.proofs.AccessSteps.{write-done, write-stopped}
 use Rattle.av_kernel.proofs.access.write.Goals.{in-None, in-Some}
 use Rattle.av_kernel.proofs.access.write.Goals as goal
@@ -27,7 +30,9 @@ returns c = record {
 }
 
 pub returns-in_err-check_lives : goal.returns-in_err-check_lives
-returns-in_err-check_lives c = ?
+returns-in_err-check_lives c =
+    refuses-as c.args.mem.now c.args.mem.now (Write c.args.process c.args.address c.args.bytes.now) Esrch c.from_residual.result c.in_err-check_lives.field-0.0 c.from_residual.ensures c.in_err-check_lives.ensures.1
+    (refuses c.args.mem.now (Write c.args.process c.args.address c.args.bytes.now) Esrch (λ s keeps. dead_first c.args.mem.now s c.args.process _ keeps c.in_err-check_lives.ensures.0))
 
 pub returns-in_err-ended : goal.returns-in_err-ended
-returns-in_err-ended c = ?
+returns-in_err-ended c = wants-by c.args.mem.now c.write_pieces.new.mem (Write c.args.process c.args.address c.args.bytes.now) c.from_residual-in_err-ended.result c.from_residual-in_err-ended.ensures c.write_pieces.ensures.count

@@ -3,20 +3,24 @@ use Rattle.av_merge.specs.Pages.{IsReached}
 use Rattle.av_trace.specs.declared.command.Command.TheVariants.{Mprotect}
 use Rattle.av_spaces.specs.Spaces.{is_taken}
 use Rattle.av_kernel.specs.Step.{MemSteps}
-use Rattle.av_kernel.proofs.StepLaws.{moved_on, ranges_there}
+use Rattle.av_trace.specs.declared.reply.Errno.TheVariants.{Esrch}
+use Rattle.av_kernel.proofs.StepLaws.{moved_on, ranges_there, refuses, refuses-as, refuses-by, dead_first, wants-by}
 use Rattle.av_kernel.proofs.PlaceLaws.{rounded_up}
-use Rattle.av_kernel.proofs.MapLaws.{mprotect-steps, mprotect-stops}
+use Rattle.av_kernel.proofs.MapLaws.{mprotect-steps, mprotect-stops, mprotect-refused}
 use Rattle.av_kernel.proofs.MapProts.{protected-prots}
 use Rattle.av_kernel.proofs.map.mprotect.Goals as goal
 
 pub returns-in_err-check_lives : goal.returns-in_err-check_lives
-returns-in_err-check_lives c = ?
+returns-in_err-check_lives c =
+    refuses-as c.args.mem.now c.args.mem.now (Mprotect c.args.process c.args.address c.args.len c.args.prot) Esrch c.from_residual.result c.in_err-check_lives.field-0.0 c.from_residual.ensures c.in_err-check_lives.ensures.1
+    (refuses c.args.mem.now (Mprotect c.args.process c.args.address c.args.len c.args.prot) Esrch (λ s keeps. dead_first c.args.mem.now s c.args.process _ keeps c.in_err-check_lives.ensures.0))
 
 pub returns-in_err-check_protect : goal.returns-in_err-check_protect
-returns-in_err-check_protect c = ?
+returns-in_err-check_protect c = refuses-by c.args.mem.now c.args.mem.now (Mprotect c.args.process c.args.address c.args.len c.args.prot) c.in_err-check_protect.field-0.0 c.from_residual-in_err-check_protect.result c.from_residual-in_err-check_protect.ensures
+    (refuses c.args.mem.now (Mprotect c.args.process c.args.address c.args.len c.args.prot) c.in_err-check_protect.field-0.0 (λ s keeps. mprotect-refused c.args.mem.now s c.args.process c.args.address c.args.len c.args.prot _ keeps c.in_ok-check_lives.ensures c.in_err-check_protect.ensures))
 
 pub returns-in_err-reached : goal.returns-in_err-reached
-returns-in_err-reached c = ?
+returns-in_err-reached c = wants-by c.args.mem.now (record c.args.mem.now { spaces = c.protect.new.self }) (Mprotect c.args.process c.args.address c.args.len c.args.prot) c.from_residual-in_err-reached.result c.from_residual-in_err-reached.ensures refl
 
 pub returns : goal.returns
 returns c = record {

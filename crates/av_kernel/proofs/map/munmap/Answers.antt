@@ -3,19 +3,22 @@ use Rattle.av_plain.specs.Zap.{keys_in, zaps_of}
 use Rattle.av_trace.specs.declared.command.Command.TheVariants.{Munmap}
 use Rattle.av_kernel.specs.Map.{AreCleared}
 use Rattle.av_kernel.specs.Step.{MemSteps}
-use Rattle.av_kernel.proofs.StepLaws.{orderly, ranges_there}
+use Rattle.av_trace.specs.declared.reply.Errno.TheVariants.{Esrch, Einval}
+use Rattle.av_kernel.proofs.StepLaws.{orderly, ranges_there, refuses, refuses-as, dead_first, wants-by}
 use Rattle.av_kernel.proofs.PlaceLaws.{rounded_up}
-use Rattle.av_kernel.proofs.MapLaws.{munmap-steps}
+use Rattle.av_kernel.proofs.MapLaws.{munmap-steps, munmap-refused}
 use Rattle.av_kernel.proofs.map.munmap.Goals as goal
 
 pub returns-in_err-check_lives : goal.returns-in_err-check_lives
-returns-in_err-check_lives c = ?
+returns-in_err-check_lives c =
+    refuses-as c.args.mem.now c.args.mem.now (Munmap c.args.process c.args.address c.args.len) Esrch c.from_residual.result c.in_err-check_lives.field-0.0 c.from_residual.ensures c.in_err-check_lives.ensures.1
+    (refuses c.args.mem.now (Munmap c.args.process c.args.address c.args.len) Esrch (λ s keeps. dead_first c.args.mem.now s c.args.process _ keeps c.in_err-check_lives.ensures.0))
 
 pub returns-then-is_no_range : goal.returns-then-is_no_range
-returns-then-is_no_range c = ?
+returns-then-is_no_range c = refuses c.args.mem.now (Munmap c.args.process c.args.address c.args.len) Einval (λ s keeps. munmap-refused c.args.mem.now s c.args.process c.args.address c.args.len keeps c.in_ok-check_lives.ensures (sym c.is_no_range.ensures ∙ c.if-is_no_range.true))
 
 pub returns-in_err-clear : goal.returns-in_err-clear
-returns-in_err-clear c = ?
+returns-in_err-clear c = wants-by c.args.mem.now c.clear.new.mem (Munmap c.args.process c.args.address c.args.len) c.from_residual-in_err-clear.result c.from_residual-in_err-clear.ensures c.clear.ensures.count
 
 pub returns : goal.returns
 returns c = record {

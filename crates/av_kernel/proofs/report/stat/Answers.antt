@@ -1,4 +1,4 @@
-use Rattle.std.proofs.Common.{◌-◌, subst, sym, ◌∙◌, arith}
+use Rattle.std.proofs.Common.{◌-◌, subst, sym, ◌∙◌, arith, refl}
 use Rattle.av_trace.specs.declared.command.Command.TheVariants.{Stat}
 use Rattle.av_kernel.specs.Step.{MemSteps}
 use Rattle.av_kernel.proofs.ReportStat.{stat-steps, same_reply}

@@ -1,10 +1,11 @@
-use Rattle.std.proofs.Common.{ℕ, ◌+◌, ◌≤◌, sym, subst, arith}
+use Rattle.std.proofs.Common.{ℕ, ◌+◌, ◌<◌, ◌≤◌, ◌^◌, sym, subst, arith}
+use Rattle.av_kernel.specs.Machine.{Machine}
 use Rattle.av_kernel.specs.Tally.{IsAtMost}
 use Rattle.av_kernel.proofs.TallyCounts.{counted-few, few-enough}
 use Rattle.av_kernel.proofs.kernel.Kernel.step.Goals as goal
 
 pub count-requires : goal.count-requires
-count-requires c = few-enough c.self.inside.tally c.self.inside.steps (2 ^ 24) ? c.self.invariant.few
+count-requires c = few-enough c.self.inside.tally c.self.inside.steps (2 ^ 24) (let few = subst (λ (k : Machine). k.steps < 2 ^ 24) (sym c.self.view_is) c.requires in omega (arith, few)) c.self.invariant.few
 
 pub invariant_of-self : goal.invariant_of-self
 invariant_of-self c =
