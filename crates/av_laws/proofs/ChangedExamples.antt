@@ -1,35 +1,41 @@
 -- Changed rows: replies that may not come.
+use Rattle.std.specs.List.{list_all}
+use Rattle.std.proofs.lemmas.Bool.Decides.{nat_tests}
 use Rattle.std.specs.Ordering.{nat_cmp, eq_by_cmp}
-use Rattle.std.specs.Prelude.{◌≡◌, ◌==◌, ℕ, zero, suc, ◌+◌, ◌*◌, ◌<◌, cond, if◌then◌else◌, IfSome, option_and_then, is_some, Bool, true, false, List, [], ◌∷◌, ◌++◌, length, Option, Some, None, refl, MatchOption}
-use Rattle.std.proofs.Common.{arith, sym, ap, subst, ◌∙◌}
+use Rattle.std.specs.Prelude.{◌≡◌, ◌==◌, ℕ, zero, suc, ◌+◌, ◌*◌, ◌<◌, cond, if◌then◌else◌, IfSome, option_and_then, is_some, Bool, true, false, List, [], ◌∷◌, ◌++◌, length, Option, Some, None, refl, MatchOption, ◌&&◌}
+use Rattle.std.proofs.Common.{arith, sym, ap, subst, ◌∙◌, inl, inr, append-nil}
 use Rattle.av_vma.specs.Gap.{IsGap}
 use Rattle.av_trace.specs.declared.command.Command.TheVariants.{Spawn, Mmap, Read, Write}
 use Rattle.av_trace.specs.declared.command.Place.TheVariants.{Auto, Fixed, NoReplace}
 use Rattle.av_trace.specs.declared.reply.Errno.{Errno}
 use Rattle.av_trace.specs.declared.reply.Errno.TheVariants.{Eperm, Esrch, Eagain, Enomem, Eexist, Einval}
-use Rattle.av_trace.specs.declared.reply.Note.{Note}
-use Rattle.av_trace.specs.declared.reply.Note.TheVariants.{Zeroed, New, Copied, Mapped, Dropped}
 use Rattle.av_trace.specs.declared.reply.Row.TheVariants.{Entry}
 use Rattle.av_trace.specs.declared.reply.Reply.{Reply}
 use Rattle.av_trace.specs.declared.reply.Answer.{Answer}
 use Rattle.av_trace.specs.declared.reply.Answer.TheVariants.{Done, MapAt, Data, Refused, Segv, Bus, Oom, Counted}
-use Rattle.av_plain.specs.World.{World, Process, Page, process, no_pages, is_mapped}
-use Rattle.av_plain.specs.Ledger.{Ledger, Setting, Key, has_free}
-use Rattle.av_plain.specs.Event.{Event, Used, notes_of, after_notes, note_events}
-use Rattle.av_plain.specs.Fault.{Need, SwapIn, IsLost, Touches, How, Served, Denied, Starved, Lost, page_events}
-use Rattle.av_plain.specs.Access.{Accesses, GoesOn, End, Whole, Stopped, pages_of_access, Answers}
-use Rattle.av_plain.specs.Refusal.{tests, refusal, Refuses}
-use Rattle.av_plain.specs.Step.{IsLegal, Follows}
+use Rattle.av_base.specs.Page.{page_size}
+use Rattle.av_base.specs.Words.{numbers}
+use Rattle.av_trace.specs.declared.reply.Note.{Note}
+use Rattle.av_trace.specs.declared.reply.Note.TheVariants.{Aged, Copied, Dropped, Failed, Kept, Loaded, Mapped, New, Put, Started, Unmapped, Written, Zeroed}
+use Rattle.av_laws.specs.Determined.{AreExact, FollowRule, IsClaimed, PutsAt, SameCommands, SlotRule, Tells}
+use Rattle.av_laws.specs.Examples.{Allows, Forbids, Refutes, Rejects, Runs, after_fork, answered, copies, crowd, denied_write, empty, first_run, fixed_over, in_swap_cache, in_writeback, leaked, load_when_half_full, machine, one_frame, page_with, paged_out, past_a_hole, read_write, refused_write, slot, untouched, with_byte, with_swap, written_in_vain, wrong_frame, wrong_load, wrong_place}
+use Rattle.av_plain.specs.Access.{Accesses, End, Stopped, Whole, page_events, pages_of_access, read_answer, write_answer}
+use Rattle.av_plain.specs.Choice.{ChoosesAll, frame_in, new_free}
+use Rattle.av_plain.specs.Event.{Event, Used, after, note_events, notes_of}
+use Rattle.av_plain.specs.Fault.{Denied, IsLost, Lost, Need, Starved, Stop, SwapIn, Touches, sparing}
+use Rattle.av_plain.specs.Ledger.{Key, Ledger, Setting}
 use Rattle.av_plain.specs.Place.{IsMapAt}
+use Rattle.av_plain.specs.Refusal.{Refuses, refusal, tests}
+use Rattle.av_plain.specs.Step.{Follows, IsLegal, causes, fault_answers}
 use Rattle.av_plain.specs.Transcript.{Exchange, State}
-use Rattle.av_laws.specs.Determined.{Tells, IsClaimed, NoBus, SameCommands, is_bus}
-use Rattle.av_laws.specs.Examples.{Allows, Rejects, copies, leaked, load_when_half_full, wrong_load, page_with, with_byte, machine, crowd, after_fork, with_swap, slot, paged_out, in_writeback, Runs, Refutes, Forbids, answered, read_write, untouched, empty, in_swap_cache, first_run, one_frame, wrong_frame, wrong_place, written_in_vain, refused_write, denied_write, past_a_hole, fixed_over}
-use Rattle.av_plain.proofs.Access.{notes_of-append, notes_of-note_events}
-use Rattle.av_laws.proofs.OnePage.{Chosen, outcome_of, touches-outcome, is_lost}
+use Rattle.av_plain.specs.World.{Page, Process, World, is_mapped, no_pages, process}
 use Rattle.av_laws.proofs.Determined.{runs-determined, runs-one}
-use Rattle.av_laws.proofs.SwapExamples.{copies-runs, load_when_half_full-runs}
-use Rattle.av_laws.proofs.RangeExamples.{past_a_hole-runs, fixed_over-runs}
 use Rattle.av_laws.proofs.FirstExamples.{by_steps, denied_write-runs, first_run-runs, one_frame-runs}
+use Rattle.av_laws.proofs.OnePage.{is_lost, touches-one}
+use Rattle.av_laws.proofs.OnePass.{Exact, Given, IsExactNote}
+use Rattle.av_laws.proofs.RangeExamples.{fixed_over-runs, past_a_hole-runs}
+use Rattle.av_laws.proofs.SwapExamples.{copies-runs, load_when_half_full-runs}
+use Rattle.av_plain.proofs.Access.{notes_of-append, notes_of-note_events}
 
 -- ---- runs that differ from one that may be
 
@@ -54,126 +60,221 @@ code n [] = 0
 code zero (e ∷ es) = answer_code e.reply.answer + notes_code e.reply.notes
 code (suc n) (e ∷ es) = code n es
 
+-- ---- notes that give no slot and tell of no fault
+
+abbrev is_plain : Note → Bool
+is_plain (Put f s) = false
+is_plain (Failed s) = false
+is_plain note = true
+
+exact-plain : (rule : SlotRule) (before notes : List Note) → list_all is_plain notes ≡ true → Exact rule before notes
+exact-plain rule before [] h = tt
+exact-plain rule before (note ∷ notes) h = (first note (both (is_plain note) (list_all is_plain notes) h).0, exact-plain rule (before ++ note ∷ []) notes (both (is_plain note) (list_all is_plain notes) h).1)
+  where
+    both : (a b : Bool) → (a && b) ≡ true → (a ≡ true) × (b ≡ true)
+    both true b h = (refl, h)
+    both false b h = cc
+
+    first : (note : Note) → is_plain note ≡ true → IsExactNote (rule before) note
+    first (Zeroed p a) h = tt
+    first (New p a g) h = tt
+    first (Copied p a g) h = tt
+    first (Loaded s g) h = tt
+    first (Mapped p a g) h = tt
+    first (Put g s) h = cc
+    first (Unmapped g) h = tt
+    first (Started s) h = tt
+    first (Written s) h = tt
+    first (Failed s) h = cc
+    first (Dropped s) h = tt
+    first (Kept g c) h = tt
+    first (Aged g) h = tt
+
+follow-plain : (rule : SlotRule) (before notes : List Note) → list_all is_plain notes ≡ true → FollowRule rule before notes
+follow-plain rule before [] h = tt
+follow-plain rule before (note ∷ notes) h = (first note (both (is_plain note) (list_all is_plain notes) h).0, follow-plain rule (before ++ note ∷ []) notes (both (is_plain note) (list_all is_plain notes) h).1)
+  where
+    both : (a b : Bool) → (a && b) ≡ true → (a ≡ true) × (b ≡ true)
+    both true b h = (refl, h)
+    both false b h = cc
+
+    first : (note : Note) → is_plain note ≡ true → PutsAt (rule before) note
+    first (Zeroed p a) h = tt
+    first (New p a g) h = tt
+    first (Copied p a g) h = tt
+    first (Loaded s g) h = tt
+    first (Mapped p a g) h = tt
+    first (Put g s) h = cc
+    first (Unmapped g) h = tt
+    first (Started s) h = tt
+    first (Written s) h = tt
+    first (Failed s) h = tt
+    first (Dropped s) h = tt
+    first (Kept g c) h = tt
+    first (Aged g) h = tt
+
+-- any rule: no slot is given
+abbrev some_rule : SlotRule
+some_rule notes = slot 1
+
+abbrev are_plain : List Exchange → Bool
+are_plain [] = true
+are_plain (e ∷ es) = list_all is_plain e.reply.notes && causes e.reply == 0 && are_plain es
+
+exact-rows : (n : ℕ) (es : List Exchange) → are_plain es ≡ true → AreExact (λ n. some_rule) n es
+exact-rows n [] h = tt
+exact-rows n (e ∷ es) h =
+    let three = all (list_all is_plain e.reply.notes) (causes e.reply == 0) (are_plain es) h in
+    (record { faultless = none (causes e.reply) three.1; slots = follow-plain some_rule [] e.reply.notes three.0 }, exact-rows (n + 1) es three.2)
+  where
+    all : (a b c : Bool) → (a && b && c) ≡ true → (a ≡ true) × (b ≡ true) × (c ≡ true)
+    all true true c h = (refl, refl, h)
+    all true false c h = cc
+    all false b c h = cc
+
+    none : (n : ℕ) → (n == 0) ≡ true → n ≡ 0
+    none n h = grind (arith, nat_tests)
+
+-- ---- frames that are chosen, computed
+
+abbrev take_first : Option ℕ → List ℕ → Option (List ℕ)
+take_first None free = Some free
+take_first (Some f) [] = None
+take_first (Some f) (g ∷ free) = if f == g then Some free else None
+
+abbrev choose : Setting → Ledger → List Event → List ℕ → Option (List ℕ)
+choose m l [] free = Some free
+choose m l (e ∷ es) free = option_and_then (λ rest. choose m (after l e) es (new_free m l (after l e) ++ rest)) (take_first (frame_in e) free)
+
+chosen-by : (m : Setting) (l : Ledger) (es : List Event) (free left : List ℕ) → choose m l es free ≡ Some left → ChoosesAll m l es free left
+chosen-by m l [] free left h = inner (sym h)
+  where
+    inner : {x y : List ℕ} → Some x ≡ Some y → x ≡ y
+    inner e = cc
+chosen-by m l (e ∷ es) free left h = by (take_first (frame_in e) free) refl h (λ rest i. chosen-by m (after l e) es (new_free m l (after l e) ++ rest) left i)
+  where
+    first : (o : Option ℕ) (free rest : List ℕ) → take_first o free ≡ Some rest → MatchOption o (free ≡ rest) (λ f. free ≡ f ∷ rest)
+    first None free rest h = inner h
+      where
+        inner : {x y : List ℕ} → Some x ≡ Some y → x ≡ y
+        inner e = cc
+    first (Some f) [] rest h = cc
+    first (Some f) (g ∷ free) rest h = same (f == g) refl h
+      where
+        same : (b : Bool) → (f == g) ≡ b → (if b then Some free else None) ≡ Some rest → (g ∷ free) ≡ f ∷ rest
+        same true is h = let e : f ≡ g = grind (arith, nat_tests, is) in let r : free ≡ rest = cc in λ i. sym e i ∷ r i
+        same false is h = cc
+
+    by : (o : Option (List ℕ)) → take_first (frame_in e) free ≡ o → option_and_then (λ rest. choose m (after l e) es (new_free m l (after l e) ++ rest)) o ≡ Some left
+        → ((rest : List ℕ) → choose m (after l e) es (new_free m l (after l e) ++ rest) ≡ Some left → ChoosesAll m (after l e) es (new_free m l (after l e) ++ rest) left) → ChoosesAll m l (e ∷ es) free left
+    by None is h again = cc
+    by (Some rest) is h again = (new_free m l (after l e) ++ rest, (rest, first (frame_in e) free rest is, refl), again rest h)
+
+given-by : (m : Setting) (l : Ledger) (free : List ℕ) (ns : List Note) (left : List ℕ) → list_all is_plain ns ≡ true → choose m l (note_events ns) free ≡ Some left → Given m some_rule [] l free ns
+given-by m l free ns left plain h = record { exact = exact-plain some_rule [] ns plain; left = left; chosen = chosen-by m l (note_events ns) free left h }
+
+-- ---- runs that differ from one that may be
+
 -- a run with the same commands as one that may be is that one
-same_run_from : (m : Setting) (old : State) (row changed : List Exchange) (n : ℕ) → Tells m → IsClaimed old.world → Allows m old row → SameCommands row changed → NoBus row → NoBus changed → (code n row ≡ code n changed → ⊥) → Rejects m old changed
-same_run_from m old row changed n told claimed runs same kept kept' differ new h = differ (ap (code n) (runs-one m old row changed runs.0 new told claimed same kept kept' runs.1 h).0)
+same_run_from : (m : Setting) (old : State) (row changed : List Exchange) (n : ℕ) → Tells m → IsClaimed old.world → Allows m old row → SameCommands row changed → are_plain row ≡ true → are_plain changed ≡ true → (code n row ≡ code n changed → ⊥) → Rejects m old changed
+same_run_from m old row changed n told claimed runs same kept kept' differ new h =
+    differ (ap (code n) (runs-one m (λ n. some_rule) 0 old row changed runs.0 new told claimed same (exact-rows 0 row kept) (exact-rows 0 changed kept') runs.1 h).0)
 
 -- and so from nothing on
-same_run : (frames : ℕ) (row changed : List Exchange) (n : ℕ) → Runs frames row → SameCommands row changed → NoBus row → NoBus changed → (code n row ≡ code n changed → ⊥) → Refutes frames changed
-same_run frames row changed n runs same kept kept' differ new h = differ (ap (code n) (runs-determined (machine frames) row changed runs.0 new refl same kept kept' runs.1 h).0)
+same_run : (frames : ℕ) (row changed : List Exchange) (n : ℕ) → Runs frames row → SameCommands row changed → are_plain row ≡ true → are_plain changed ≡ true → (code n row ≡ code n changed → ⊥) → Refutes frames changed
+same_run frames row changed n runs same kept kept' differ new h =
+    differ (ap (code n) (runs-determined (machine frames) (λ n. some_rule) row changed runs.0 new refl same (exact-rows 0 row kept) (exact-rows 0 changed kept') runs.1 h).0)
 
 pub wrong_frame-refuted : Refutes 4 wrong_frame
-wrong_frame-refuted = same_run 4 first_run wrong_frame 2 first_run-runs (refl, (refl, (refl, (refl, tt)))) (refl, (refl, (refl, (refl, tt)))) (refl, (refl, (refl, (refl, tt)))) (λ e. omega (arith, e))
+wrong_frame-refuted = same_run 4 first_run wrong_frame 2 first_run-runs (refl, (refl, (refl, (refl, tt)))) refl refl (λ e. omega (arith, e))
 
 pub wrong_place-refuted : Refutes 4 wrong_place
-wrong_place-refuted = same_run 4 first_run wrong_place 3 first_run-runs (refl, (refl, (refl, (refl, tt)))) (refl, (refl, (refl, (refl, tt)))) (refl, (refl, (refl, (refl, tt)))) (λ e. omega (arith, e))
+wrong_place-refuted = same_run 4 first_run wrong_place 3 first_run-runs (refl, (refl, (refl, (refl, tt)))) refl refl (λ e. omega (arith, e))
 
 pub written_in_vain-refuted : Refutes 1 written_in_vain
-written_in_vain-refuted = same_run 1 one_frame written_in_vain 3 one_frame-runs (refl, (refl, (refl, (refl, (refl, tt))))) (refl, (refl, (refl, (refl, (refl, tt))))) (refl, (refl, (refl, (refl, (refl, tt))))) (λ e. omega (arith, e))
+written_in_vain-refuted = same_run 1 one_frame written_in_vain 3 one_frame-runs (refl, (refl, (refl, (refl, (refl, tt))))) refl refl (λ e. omega (arith, e))
 
 -- ---- single replies
 
 -- where an access of one page ends
-abbrev end_of : How → ℕ → End
-end_of Served page = Whole
-end_of Denied page = Stopped page Denied
-end_of (Starved out) page = Stopped page (Starved out)
-end_of Lost page = Stopped page Lost
+abbrev end_of : Option Stop → ℕ → End
+end_of None page = Whole
+end_of (Some stop) page = Stopped page stop
 
+-- what an access of one page is made of
 record OnePage (m : Setting) (w : World) (l : Ledger) (write : Bool) (p page : ℕ) (es : List Event) (end : End) : Type 0 where
   notes : List Note
-  how : How
-  touches : Touches m w l write (p, page) notes how
-  noted : notes_of es ≡ notes
-  ending : end ≡ end_of how page
+  stop : Option Stop
+  touches : Touches m w l write (p, page) notes stop
+  told : notes_of es ≡ notes
+  ending : end ≡ end_of stop page
 
-one_page : (m : Setting) (w : World) (l : Ledger) (write : Bool) (p page : ℕ) (es : List Event) (end : End) → Accesses m w l write p (page ∷ []) es end → OnePage m w l write p page es end
-one_page m w l write p page es end h = record { notes = h.0; how = h.1; touches = h.3; noted = ap notes_of h.4 ∙ notes_of-append (page_events write (p, page) h.0 h.1) h.2 ∙ later h.1 h.5; ending = ends h.1 h.5 }
-  where
-    no_more : (notes : List Note) → notes ++ [] ≡ notes
-    no_more [] = refl
-    no_more (note ∷ notes) = ap (λ ns. note ∷ ns) (no_more notes)
+one_page : (m : Setting) (w : World) (l : Ledger) (write : Bool) (p page : ℕ) (es : List Event) (end : End) → Accesses m w l p ((write, page) ∷ []) es end → OnePage m w l write p page es end
+one_page m w l write p page es end (inl h) = record {
+  notes = h.0;
+  stop = None;
+  touches = h.2;
+  told = ap notes_of (h.3 ∙ ap (λ later. page_events write (p, page) h.0 None ++ later) h.4.0 ∙ append-nil (page_events write (p, page) h.0 None))
+      ∙ notes_of-append (note_events h.0) (Used write (p, page) ∷ []) ∙ append-nil (notes_of (note_events h.0)) ∙ notes_of-note_events h.0;
+  ending = h.4.1;
+}
+one_page m w l write p page es end (inr h) = record { notes = h.0; stop = Some h.1; touches = h.2; told = ap notes_of h.3 ∙ notes_of-note_events h.0; ending = h.4 }
 
-    here : (how : How) → notes_of (page_events write (p, page) h.0 how) ++ [] ≡ h.0
-    here Served = no_more _ ∙ notes_of-append (note_events h.0) (Used write (p, page) ∷ []) ∙ no_more _ ∙ notes_of-note_events h.0
-    here Denied = no_more _ ∙ notes_of-note_events h.0
-    here (Starved out) = no_more _ ∙ notes_of-note_events h.0
-    here Lost = no_more _ ∙ notes_of-note_events h.0
-
-    later : (how : How) → GoesOn how page h.2 end ((h.2 ≡ []) × (end ≡ Whole)) → notes_of (page_events write (p, page) h.0 how) ++ notes_of h.2 ≡ h.0
-    later Served q = ap (λ es. notes_of (page_events write (p, page) h.0 Served) ++ notes_of es) q.0 ∙ here Served
-    later Denied q = ap (λ es. notes_of (page_events write (p, page) h.0 Denied) ++ notes_of es) q.0 ∙ here Denied
-    later (Starved out) q = ap (λ es. notes_of (page_events write (p, page) h.0 (Starved out)) ++ notes_of es) q.0 ∙ here (Starved out)
-    later Lost q = ap (λ es. notes_of (page_events write (p, page) h.0 Lost) ++ notes_of es) q.0 ∙ here Lost
-
-    ends : (how : How) → GoesOn how page h.2 end ((h.2 ≡ []) × (end ≡ Whole)) → end ≡ end_of how page
-    ends Served q = q.1
-    ends Denied q = q.1
-    ends (Starved out) q = q.1
-    ends Lost q = q.1
-
-page_outcome : (m : Setting) (w : World) (l : Ledger) (write : Bool) (k : Key) (notes noted : List Note) (how : How) (free : List ℕ) → Touches m w l write k noted how → notes ≡ noted → Chosen l notes free → is_lost how ≡ false → outcome_of m w l write k free ≡ (notes, how)
-page_outcome m w l write k notes noted how free touches same chosen sound = touches-outcome m w l write k notes how free (subst (λ ns. Touches m w l write k ns how) (sym same) touches) chosen sound
-
-answer_at : (write : Bool) (a n : ℕ) (end end' : End) (shown : List ℕ) (answer : Answer) → end ≡ end' → Answers write a n end shown answer → Answers write a n end' shown answer
-answer_at write a n end end' shown answer same h = subst (λ e. Answers write a n e shown answer) same h
-
--- what a legal reply to an access of one page is made of, where the device didn't fail: the page's outcome, for frames of which its notes take the first
-record Legal (m : Setting) (s : State) (write : Bool) (p page a n : ℕ) (reply : Reply) (free : List ℕ) : Type 0 where
-  how : How
-  shown : List ℕ
-  outcome : is_lost how ≡ false → outcome_of m s.world s.ledger write (p, page) free ≡ (reply.notes, how)
-  answer : Answers write a n (end_of how page) shown reply.answer
-
-write_legal : (m : Setting) (s : State) (p page a : ℕ) (bytes : List ℕ) (reply : Reply) (free : List ℕ) → refusal (tests m s.world s.ledger (Write p a bytes)) ≡ None → pages_of_access a (length bytes) ≡ page ∷ [] → Chosen s.ledger reply.notes free
-    → (events : List Event) → IsLegal m s.world s.ledger (Write p a bytes) reply events → Legal m s true p page a (length bytes) reply free
-write_legal m s p page a bytes reply free fine one chosen events legal =
+-- A reply to such an access is refused directly: what may come instead, with the same free frames, has other notes or another answer.
+write_legal : (m : Setting) (s : State) (p page a : ℕ) (bytes : List ℕ) (reply : Reply) → refusal (tests m s.world s.ledger (Write p a bytes)) ≡ None → pages_of_access true a (length bytes) ≡ (true, page) ∷ []
+    → (events : List Event) → IsLegal m s.world s.ledger (Write p a bytes) reply events → (stop : Option Stop) × Touches m s.world s.ledger true (p, page) reply.notes stop × (reply.answer ≡ write_answer a (end_of stop page))
+write_legal m s p page a bytes reply fine one events legal =
     let h = follows (refusal (tests m s.world s.ledger (Write p a bytes))) fine legal.answer in
-    let o = one_page m s.world s.ledger true p page events h.0 (subst (λ ps. Accesses m s.world s.ledger true p ps events h.0) one h.1) in
-    record {
-      how = o.how;
-      shown = [];
-      outcome = page_outcome m s.world s.ledger true (p, page) reply.notes o.notes o.how free o.touches (legal.notes ∙ o.noted) chosen;
-      answer = answer_at true a (length bytes) h.0 (end_of o.how page) [] reply.answer o.ending h.2;
-    }
+    let o = one_page m s.world s.ledger true p page events h.0 (subst (λ ps. Accesses m s.world s.ledger p ps events h.0) one h.1) in
+    (o.stop, subst (λ ns. Touches m s.world s.ledger true (p, page) ns o.stop) (sym (legal.notes ∙ o.told)) o.touches, h.2 ∙ ap (write_answer a) o.ending)
   where
     follows : (o : Option Errno) → o ≡ None → MatchOption o (Follows m s.world s.ledger (Write p a bytes) events reply.answer reply.rows) (λ error. Refuses error events reply.answer reply.rows) → Follows m s.world s.ledger (Write p a bytes) events reply.answer reply.rows
     follows None e h = h
     follows (Some x) e h = cc
 
-read_legal : (m : Setting) (s : State) (p page a n : ℕ) (reply : Reply) (free : List ℕ) → refusal (tests m s.world s.ledger (Read p a n)) ≡ None → pages_of_access a n ≡ page ∷ [] → Chosen s.ledger reply.notes free
-    → (events : List Event) → IsLegal m s.world s.ledger (Read p a n) reply events → Legal m s false p page a n reply free
-read_legal m s p page a n reply free fine one chosen events legal =
+read_legal : (m : Setting) (s : State) (p page a n : ℕ) (reply : Reply) → refusal (tests m s.world s.ledger (Read p a n)) ≡ None → pages_of_access false a n ≡ (false, page) ∷ []
+    → (events : List Event) → IsLegal m s.world s.ledger (Read p a n) reply events → (stop : Option Stop) × Touches m s.world s.ledger false (p, page) reply.notes stop × ((shown : List ℕ) × (reply.answer ≡ read_answer a (end_of stop page) shown))
+read_legal m s p page a n reply fine one events legal =
     let h = follows (refusal (tests m s.world s.ledger (Read p a n))) fine legal.answer in
-    let o = one_page m s.world s.ledger false p page events h.0 (subst (λ ps. Accesses m s.world s.ledger false p ps events h.0) one h.2) in
-    record {
-      how = o.how;
-      shown = h.1;
-      outcome = page_outcome m s.world s.ledger false (p, page) reply.notes o.notes o.how free o.touches (legal.notes ∙ o.noted) chosen;
-      answer = answer_at false a n h.0 (end_of o.how page) h.1 reply.answer o.ending h.4;
-    }
+    let o = one_page m s.world s.ledger false p page events h.0 (subst (λ ps. Accesses m s.world s.ledger p ps events h.0) one h.2) in
+    (o.stop, subst (λ ns. Touches m s.world s.ledger false (p, page) ns o.stop) (sym (legal.notes ∙ o.told)) o.touches, (h.1, h.4 ∙ ap (λ e. read_answer a e h.1) o.ending))
   where
     follows : (o : Option Errno) → o ≡ None → MatchOption o (Follows m s.world s.ledger (Read p a n) events reply.answer reply.rows) (λ error. Refuses error events reply.answer reply.rows) → Follows m s.world s.ledger (Read p a n) events reply.answer reply.rows
     follows None e h = h
     follows (Some x) e h = cc
 
 -- only a lost page is answered by `bus`
-kept : (write : Bool) (a n page : ℕ) (how : How) (shown : List ℕ) (answer : Answer) → Answers write a n (end_of how page) shown answer → is_bus answer ≡ false → is_lost how ≡ false
-kept write a n page Served shown answer h sound = refl
-kept write a n page Denied shown answer h sound = refl
-kept write a n page (Starved out) shown answer h sound = refl
-kept write a n page Lost shown answer h sound = ap is_bus (sym h) ∙ sound
+write-lost : (a page : ℕ) (stop : Option Stop) (answer : Answer) → answer ≡ write_answer a (end_of stop page) → fault_answers answer ≡ 0 → is_lost stop ≡ false
+write-lost a page None answer h none = refl
+write-lost a page (Some Denied) answer h none = refl
+write-lost a page (Some (Starved out)) answer h none = refl
+write-lost a page (Some Lost) answer h none = absurd (let e = ap fault_answers h in omega (arith, e, none))
 
--- the notes are told apart from those of the outcome by a number
-by_notes : (m : Setting) (s : State) (write : Bool) (p page a n : ℕ) (reply : Reply) (free : List ℕ) (mark : List Note → ℕ) → is_bus reply.answer ≡ false
-    → (mark (outcome_of m s.world s.ledger write (p, page) free).0 ≡ mark reply.notes → ⊥) → Legal m s write p page a n reply free → ⊥
-by_notes m s write p page a n reply free mark sound differ h = differ (ap (λ (o : List Note × How). mark o.0) (h.outcome (kept write a n page h.how h.shown reply.answer h.answer sound)))
+read-lost : (a page : ℕ) (stop : Option Stop) (shown : List ℕ) (answer : Answer) → answer ≡ read_answer a (end_of stop page) shown → fault_answers answer ≡ 0 → is_lost stop ≡ false
+read-lost a page None shown answer h none = refl
+read-lost a page (Some Denied) shown answer h none = refl
+read-lost a page (Some (Starved out)) shown answer h none = refl
+read-lost a page (Some Lost) shown answer h none = absurd (let e = ap fault_answers h in omega (arith, e, none))
 
--- the answer isn't that of the outcome
-by_answer : (m : Setting) (s : State) (write : Bool) (p page a n : ℕ) (reply : Reply) (free : List ℕ) → is_bus reply.answer ≡ false
-    → ((shown : List ℕ) → Answers write a n (end_of (outcome_of m s.world s.ledger write (p, page) free).1 page) shown reply.answer → ⊥) → Legal m s write p page a n reply free → ⊥
-by_answer m s write p page a n reply free sound differ h =
-    differ h.shown (subst (λ (o : List Note × How). Answers write a n (end_of o.1 page) h.shown reply.answer) (sym (h.outcome (kept write a n page h.how h.shown reply.answer h.answer sound))) h.answer)
+-- these notes and this end may come; a reply with the same free frames has them
+by_write : (m : Setting) (s : State) (p page a : ℕ) (bytes : List ℕ) (reply : Reply) (notes : List Note) (end : Option Stop) (free left left' : List ℕ) → Touches m s.world s.ledger true (p, page) notes end → is_lost end ≡ false
+    → list_all is_plain notes ≡ true → choose m s.ledger (note_events notes) free ≡ Some left → list_all is_plain reply.notes ≡ true → choose m s.ledger (note_events reply.notes) free ≡ Some left' → fault_answers reply.answer ≡ 0
+    → refusal (tests m s.world s.ledger (Write p a bytes)) ≡ None → pages_of_access true a (length bytes) ≡ (true, page) ∷ []
+    → (reply.notes ≡ notes → reply.answer ≡ write_answer a (end_of end page) → ⊥) → (events : List Event) → IsLegal m s.world s.ledger (Write p a bytes) reply events → ⊥
+by_write m s p page a bytes reply notes end free left left' t lost plain chosen plain' chosen' none fine one differ events legal =
+    let h = write_legal m s p page a bytes reply fine one events legal in
+    let same = touches-one m some_rule [] s.world s.ledger true (p, page) free reply.notes notes h.0 end h.1 t (given-by m s.ledger free reply.notes left' plain' chosen') (given-by m s.ledger free notes left plain chosen)
+    (write-lost a page h.0 reply.answer h.2 none) lost in
+    differ same.0 (h.2 ∙ ap (λ e. write_answer a (end_of e page)) same.1)
+
+by_read : (m : Setting) (s : State) (p page a n : ℕ) (reply : Reply) (notes : List Note) (end : Option Stop) (free left left' : List ℕ) → Touches m s.world s.ledger false (p, page) notes end → is_lost end ≡ false
+    → list_all is_plain notes ≡ true → choose m s.ledger (note_events notes) free ≡ Some left → list_all is_plain reply.notes ≡ true → choose m s.ledger (note_events reply.notes) free ≡ Some left' → fault_answers reply.answer ≡ 0
+    → refusal (tests m s.world s.ledger (Read p a n)) ≡ None → pages_of_access false a n ≡ (false, page) ∷ []
+    → (reply.notes ≡ notes → ⊥) → (events : List Event) → IsLegal m s.world s.ledger (Read p a n) reply events → ⊥
+by_read m s p page a n reply notes end free left left' t lost plain chosen plain' chosen' none fine one differ events legal =
+    let h = read_legal m s p page a n reply fine one events legal in
+    differ (touches-one m some_rule [] s.world s.ledger false (p, page) free reply.notes notes h.0 end h.1 t (given-by m s.ledger free reply.notes left' plain' chosen') (given-by m s.ledger free notes left plain chosen)
+    (read-lost a page h.0 h.2.0 reply.answer h.2.1 none) lost).0
 
 -- the address of the first note, and the frames of an out-of-memory that are pinned
 abbrev first_address : List Note → ℕ
@@ -185,10 +286,6 @@ abbrev pinned_in : Answer → ℕ
 pinned_in (Oom k out shown) = out.pinned
 pinned_in answer = 9
 
-abbrev bus_code : Answer → ℕ
-bus_code (Bus k shown) = 1
-bus_code answer = 0
-
 abbrev need_code : Need → ℕ
 need_code (SwapIn s) = 1
 need_code n = 0
@@ -199,82 +296,111 @@ top = 0x7fffffffe000
 abbrev top_number : ℕ
 top_number = 0x7fffffffe
 
+-- what may come in these states: a new page, the zero page, a copy, none, a drop, and a page that comes in
+new_page : Touches (machine 4) untouched.world untouched.ledger true (1, top_number) (New 1 top 0 ∷ []) None
+new_page = (refl, record { coming = []; making = New 1 top 0 ∷ []; whole = refl; comes_in = refl; made = record { sought = []; frame = 0; seeks = refl; in_range = omega arith; free = refl; whole = refl } })
+
+zero_page : Touches (machine 4) untouched.world untouched.ledger false (1, top_number) (Zeroed 1 top ∷ []) None
+zero_page = (refl, record { coming = []; making = Zeroed 1 top ∷ []; whole = refl; comes_in = refl; made = refl })
+
+copied_page : Touches (machine 4) (after_fork (1 ∷ 2 ∷ 3 ∷ [])).world (after_fork (1 ∷ 2 ∷ 3 ∷ [])).ledger true (1, top_number) (Copied 1 top 1 ∷ []) None
+copied_page = (refl, record { coming = []; making = Copied 1 top 1 ∷ []; whole = refl; comes_in = refl; made = record { sought = []; frame = 1; seeks = refl; in_range = omega arith; free = refl; whole = refl } })
+
+read_page : Touches (machine 4) (after_fork (1 ∷ 2 ∷ 3 ∷ [])).world (after_fork (1 ∷ 2 ∷ 3 ∷ [])).ledger false (2, top_number) [] None
+read_page = (refl, record { coming = []; making = []; whole = refl; comes_in = refl; made = refl })
+
+no_frame : Touches (machine 1) (after_fork []).world (after_fork []).ledger true (2, top_number) [] (Some (Starved (record { pinned = 1; noslot = 0; fault = 0 })))
+no_frame = (refl, record { coming = []; sought = []; whole = refl; before = inl refl; finds = record { wants = refl; seeks = ([], [], refl, refl, refl); none = refl; numbers = refl } })
+
+cached_write : Touches (with_swap 4 8 7) in_swap_cache.world in_swap_cache.ledger true (1, top_number) (Dropped (slot 1) ∷ []) None
+cached_write = (refl, record { coming = []; making = []; whole = refl; comes_in = refl; made = refl })
+
+cached_read : Touches (with_swap 4 8 7) in_swap_cache.world in_swap_cache.ledger false (1, top_number) [] None
+cached_read = (refl, record { coming = []; making = []; whole = refl; comes_in = refl; made = refl })
+
+written_back : Touches (with_swap 4 8 7) in_writeback.world in_writeback.ledger true (1, top_number) (Mapped 1 top 0 ∷ []) None
+written_back = (refl, record { coming = Mapped 1 top 0 ∷ []; making = []; whole = refl; comes_in = refl; made = refl })
+
+abbrev swapped_out : State
+swapped_out = paged_out 7 (0 ∷ 1 ∷ 2 ∷ 3 ∷ [])
+
+loaded_page : Touches (with_swap 4 8 7) swapped_out.world swapped_out.ledger false (1, top_number) (Loaded (slot 1) 0 ∷ Mapped 1 top 0 ∷ []) None
+loaded_page = (
+  refl,
+  record {
+    coming = Loaded (slot 1) 0 ∷ Mapped 1 top 0 ∷ [];
+    making = [];
+    whole = refl;
+    comes_in = (Loaded (slot 1) 0 ∷ [], 0, record { sought = []; frame = 0; seeks = refl; in_range = omega arith; free = refl; whole = refl }, refl, refl);
+    made = refl;
+  },
+)
+
 pub no_note : Forbids (machine 4) untouched (Write 1 0x7fffffffe000 (1 ∷ [])) (answered Done [])
-no_note events legal = by_notes (machine 4) untouched true 1 top_number top 1 (answered Done []) (0 ∷ 1 ∷ 2 ∷ 3 ∷ []) length refl (λ e. omega (arith, e)) (write_legal (machine 4) untouched 1 top_number top (1 ∷ []) (answered Done []) (0 ∷ 1 ∷ 2 ∷ 3 ∷ []) refl refl (0 ∷ 1 ∷ 2 ∷ 3 ∷ [], refl) events legal)
+no_note = by_write (machine 4) untouched 1 top_number top (1 ∷ []) (answered Done []) (New 1 top 0 ∷ []) None (0 ∷ 1 ∷ 2 ∷ 3 ∷ []) (1 ∷ 2 ∷ 3 ∷ []) (0 ∷ 1 ∷ 2 ∷ 3 ∷ []) new_page refl refl refl refl refl refl refl refl (λ e a. let d = ap length e in omega (arith, d))
 
 pub note_too_many : Forbids (machine 4) untouched (Write 1 0x7fffffffe000 (1 ∷ [])) (answered Done (Zeroed 1 0x7fffffffe000 ∷ New 1 0x7fffffffe000 0 ∷ []))
-note_too_many events legal = by_notes (machine 4) untouched true 1 top_number top 1 (answered Done (Zeroed 1 0x7fffffffe000 ∷ New 1 0x7fffffffe000 0 ∷ [])) (0 ∷ 1 ∷ 2 ∷ 3 ∷ []) length refl (λ e. omega (arith, e)) (write_legal (machine 4) untouched 1 top_number top (1 ∷ []) (answered Done (Zeroed 1 0x7fffffffe000 ∷ New 1 0x7fffffffe000 0 ∷ [])) (0 ∷ 1 ∷ 2 ∷ 3 ∷ []) refl refl (1 ∷ 2 ∷ 3 ∷ [], (0 ∷ 1 ∷ 2 ∷ 3 ∷ [], refl, (1 ∷ 2 ∷ 3 ∷ [], refl, refl))) events legal)
+note_too_many = by_write (machine 4) untouched 1 top_number top (1 ∷ []) (answered Done (Zeroed 1 0x7fffffffe000 ∷ New 1 0x7fffffffe000 0 ∷ [])) (New 1 top 0 ∷ []) None (0 ∷ 1 ∷ 2 ∷ 3 ∷ []) (1 ∷ 2 ∷ 3 ∷ []) (1 ∷ 2 ∷ 3 ∷ []) new_page refl refl refl refl refl refl refl refl (λ e a. let d = ap length e in omega (arith, d))
 
 pub page_below : Forbids (machine 4) untouched (Write 1 0x7fffffffe000 (1 ∷ [])) (answered Done (New 1 0x7fffffffd000 0 ∷ []))
-page_below events legal = by_notes (machine 4) untouched true 1 top_number top 1 (answered Done (New 1 0x7fffffffd000 0 ∷ [])) (0 ∷ 1 ∷ 2 ∷ 3 ∷ []) first_address refl (λ e. omega (arith, e)) (write_legal (machine 4) untouched 1 top_number top (1 ∷ []) (answered Done (New 1 0x7fffffffd000 0 ∷ [])) (0 ∷ 1 ∷ 2 ∷ 3 ∷ []) refl refl (1 ∷ 2 ∷ 3 ∷ [], (1 ∷ 2 ∷ 3 ∷ [], refl, refl)) events legal)
+page_below = by_write (machine 4) untouched 1 top_number top (1 ∷ []) (answered Done (New 1 0x7fffffffd000 0 ∷ [])) (New 1 top 0 ∷ []) None (0 ∷ 1 ∷ 2 ∷ 3 ∷ []) (1 ∷ 2 ∷ 3 ∷ []) (1 ∷ 2 ∷ 3 ∷ []) new_page refl refl refl refl refl refl refl refl (λ e a. let d = ap first_address e in omega (arith, d))
 
 pub unnoted_zero : Forbids (machine 4) untouched (Read 1 0x7fffffffe000 1) (answered (Data (0 ∷ [])) [])
-unnoted_zero events legal = by_notes (machine 4) untouched false 1 top_number top 1 (answered (Data (0 ∷ [])) []) (0 ∷ 1 ∷ 2 ∷ 3 ∷ []) length refl (λ e. omega (arith, e)) (read_legal (machine 4) untouched 1 top_number top 1 (answered (Data (0 ∷ [])) []) (0 ∷ 1 ∷ 2 ∷ 3 ∷ []) refl refl (0 ∷ 1 ∷ 2 ∷ 3 ∷ [], refl) events legal)
+unnoted_zero = by_read (machine 4) untouched 1 top_number top 1 (answered (Data (0 ∷ [])) []) (Zeroed 1 top ∷ []) None (0 ∷ 1 ∷ 2 ∷ 3 ∷ []) (0 ∷ 1 ∷ 2 ∷ 3 ∷ []) (0 ∷ 1 ∷ 2 ∷ 3 ∷ []) zero_page refl refl refl refl refl refl refl refl (λ e. let d = ap length e in omega (arith, d))
 
 pub frame_for_a_read : Forbids (machine 4) untouched (Read 1 0x7fffffffe000 1) (answered (Data (0 ∷ [])) (New 1 0x7fffffffe000 0 ∷ []))
-frame_for_a_read events legal = by_notes (machine 4) untouched false 1 top_number top 1 (answered (Data (0 ∷ [])) (New 1 0x7fffffffe000 0 ∷ [])) (0 ∷ 1 ∷ 2 ∷ 3 ∷ []) first_address refl (λ e. omega (arith, e)) (read_legal (machine 4) untouched 1 top_number top 1 (answered (Data (0 ∷ [])) (New 1 0x7fffffffe000 0 ∷ [])) (0 ∷ 1 ∷ 2 ∷ 3 ∷ []) refl refl (1 ∷ 2 ∷ 3 ∷ [], (1 ∷ 2 ∷ 3 ∷ [], refl, refl)) events legal)
+frame_for_a_read = by_read (machine 4) untouched 1 top_number top 1 (answered (Data (0 ∷ [])) (New 1 0x7fffffffe000 0 ∷ [])) (Zeroed 1 top ∷ []) None (0 ∷ 1 ∷ 2 ∷ 3 ∷ []) (0 ∷ 1 ∷ 2 ∷ 3 ∷ []) (1 ∷ 2 ∷ 3 ∷ []) zero_page refl refl refl refl refl refl refl refl (λ e. let d = ap first_address e in omega (arith, d))
 
 pub denied_though_allowed : Forbids (machine 4) untouched (Write 1 0x7fffffffe000 (1 ∷ [])) (answered (Segv 0 []) [])
-denied_though_allowed events legal = by_notes (machine 4) untouched true 1 top_number top 1 (answered (Segv 0 []) []) (0 ∷ 1 ∷ 2 ∷ 3 ∷ []) length refl (λ e. omega (arith, e)) (write_legal (machine 4) untouched 1 top_number top (1 ∷ []) (answered (Segv 0 []) []) (0 ∷ 1 ∷ 2 ∷ 3 ∷ []) refl refl (0 ∷ 1 ∷ 2 ∷ 3 ∷ [], refl) events legal)
+denied_though_allowed = by_write (machine 4) untouched 1 top_number top (1 ∷ []) (answered (Segv 0 []) []) (New 1 top 0 ∷ []) None (0 ∷ 1 ∷ 2 ∷ 3 ∷ []) (1 ∷ 2 ∷ 3 ∷ []) (0 ∷ 1 ∷ 2 ∷ 3 ∷ []) new_page refl refl refl refl refl refl refl refl (λ e a. let d = ap length e in omega (arith, d))
 
 pub starved_though_free : Forbids (machine 4) untouched (Write 1 0x7fffffffe000 (1 ∷ [])) (answered (Oom 0 (record { pinned = 0; noslot = 4; fault = 0 }) []) [])
-starved_though_free events legal = by_notes (machine 4) untouched true 1 top_number top 1 (answered (Oom 0 (record { pinned = 0; noslot = 4; fault = 0 }) []) []) (0 ∷ 1 ∷ 2 ∷ 3 ∷ []) length refl (λ e. omega (arith, e)) (write_legal (machine 4) untouched 1 top_number top (1 ∷ []) (answered (Oom 0 (record { pinned = 0; noslot = 4; fault = 0 }) []) []) (0 ∷ 1 ∷ 2 ∷ 3 ∷ []) refl refl (0 ∷ 1 ∷ 2 ∷ 3 ∷ [], refl) events legal)
+starved_though_free = by_write (machine 4) untouched 1 top_number top (1 ∷ []) (answered (Oom 0 (record { pinned = 0; noslot = 4; fault = 0 }) []) []) (New 1 top 0 ∷ []) None (0 ∷ 1 ∷ 2 ∷ 3 ∷ []) (1 ∷ 2 ∷ 3 ∷ []) (0 ∷ 1 ∷ 2 ∷ 3 ∷ []) new_page refl refl refl refl refl refl refl refl (λ e a. let d = ap length e in omega (arith, d))
 
 pub no_copy_of_shared : Forbids (machine 4) (after_fork (1 ∷ 2 ∷ 3 ∷ [])) (Write 1 0x7fffffffe000 (8 ∷ [])) (answered Done [])
-no_copy_of_shared events legal = by_notes (machine 4) (after_fork (1 ∷ 2 ∷ 3 ∷ [])) true 1 top_number top 1 (answered Done []) (1 ∷ 2 ∷ 3 ∷ []) length refl (λ e. omega (arith, e)) (write_legal (machine 4) (after_fork (1 ∷ 2 ∷ 3 ∷ [])) 1 top_number top (8 ∷ []) (answered Done []) (1 ∷ 2 ∷ 3 ∷ []) refl refl (1 ∷ 2 ∷ 3 ∷ [], refl) events legal)
+no_copy_of_shared = by_write (machine 4) (after_fork (1 ∷ 2 ∷ 3 ∷ [])) 1 top_number top (8 ∷ []) (answered Done []) (Copied 1 top 1 ∷ []) None (1 ∷ 2 ∷ 3 ∷ []) (2 ∷ 3 ∷ []) (1 ∷ 2 ∷ 3 ∷ []) copied_page refl refl refl refl refl refl refl refl (λ e a. let d = ap length e in omega (arith, d))
 
 pub copy_for_a_read : Forbids (machine 4) (after_fork (1 ∷ 2 ∷ 3 ∷ [])) (Read 2 0x7fffffffe000 1) (answered (Data (7 ∷ [])) (Copied 2 0x7fffffffe000 1 ∷ []))
-copy_for_a_read events legal = by_notes (machine 4) (after_fork (1 ∷ 2 ∷ 3 ∷ [])) false 2 top_number top 1 (answered (Data (7 ∷ [])) (Copied 2 0x7fffffffe000 1 ∷ [])) (1 ∷ 2 ∷ 3 ∷ []) length refl (λ e. omega (arith, e)) (read_legal (machine 4) (after_fork (1 ∷ 2 ∷ 3 ∷ [])) 2 top_number top 1 (answered (Data (7 ∷ [])) (Copied 2 0x7fffffffe000 1 ∷ [])) (1 ∷ 2 ∷ 3 ∷ []) refl refl (2 ∷ 3 ∷ [], (2 ∷ 3 ∷ [], refl, refl)) events legal)
+copy_for_a_read = by_read (machine 4) (after_fork (1 ∷ 2 ∷ 3 ∷ [])) 2 top_number top 1 (answered (Data (7 ∷ [])) (Copied 2 0x7fffffffe000 1 ∷ [])) [] None (1 ∷ 2 ∷ 3 ∷ []) (1 ∷ 2 ∷ 3 ∷ []) (2 ∷ 3 ∷ []) read_page refl refl refl refl refl refl refl refl (λ e. let d = ap length e in omega (arith, d))
 
 pub wrong_numbers : Forbids (machine 1) (after_fork []) (Write 2 0x7fffffffe000 (6 ∷ [])) (answered (Oom 0 (record { pinned = 0; noslot = 1; fault = 0 }) []) [])
-wrong_numbers events legal = by_answer (machine 1) (after_fork []) true 2 top_number top 1 (answered (Oom 0 (record { pinned = 0; noslot = 1; fault = 0 }) []) []) [] refl (λ shown h. let e = ap pinned_in h in omega (arith, e)) (write_legal (machine 1) (after_fork []) 2 top_number top (6 ∷ []) (answered (Oom 0 (record { pinned = 0; noslot = 1; fault = 0 }) []) []) [] refl refl ([], refl) events legal)
+wrong_numbers = by_write (machine 1) (after_fork []) 2 top_number top (6 ∷ []) (answered (Oom 0 (record { pinned = 0; noslot = 1; fault = 0 }) []) []) [] (Some (Starved (record { pinned = 1; noslot = 0; fault = 0 }))) [] [] [] no_frame refl refl refl refl refl refl refl refl (λ e a. let d = ap pinned_in a in omega (arith, d))
 
 pub drop_missing : Forbids (with_swap 4 8 7) in_swap_cache (Write 1 0x7fffffffe000 (8 ∷ [])) (answered Done [])
-drop_missing events legal = by_notes (with_swap 4 8 7) in_swap_cache true 1 top_number top 1 (answered Done []) (1 ∷ 2 ∷ 3 ∷ []) length refl (λ e. omega (arith, e)) (write_legal (with_swap 4 8 7) in_swap_cache 1 top_number top (8 ∷ []) (answered Done []) (1 ∷ 2 ∷ 3 ∷ []) refl refl (1 ∷ 2 ∷ 3 ∷ [], refl) events legal)
+drop_missing = by_write (with_swap 4 8 7) in_swap_cache 1 top_number top (8 ∷ []) (answered Done []) (Dropped (slot 1) ∷ []) None (1 ∷ 2 ∷ 3 ∷ []) (1 ∷ 2 ∷ 3 ∷ []) (1 ∷ 2 ∷ 3 ∷ []) cached_write refl refl refl refl refl refl refl refl (λ e a. let d = ap length e in omega (arith, d))
 
 pub drop_though_not_full : Forbids (with_swap 4 8 7) in_swap_cache (Read 1 0x7fffffffe000 1) (answered (Data (7 ∷ [])) (Dropped (slot 1) ∷ []))
-drop_though_not_full events legal = by_notes (with_swap 4 8 7) in_swap_cache false 1 top_number top 1 (answered (Data (7 ∷ [])) (Dropped (slot 1) ∷ [])) (1 ∷ 2 ∷ 3 ∷ []) length refl (λ e. omega (arith, e)) (read_legal (with_swap 4 8 7) in_swap_cache 1 top_number top 1 (answered (Data (7 ∷ [])) (Dropped (slot 1) ∷ [])) (1 ∷ 2 ∷ 3 ∷ []) refl refl (1 ∷ 2 ∷ 3 ∷ [], (1 ∷ 2 ∷ 3 ∷ [], refl, refl)) events legal)
+drop_though_not_full = by_read (with_swap 4 8 7) in_swap_cache 1 top_number top 1 (answered (Data (7 ∷ [])) (Dropped (slot 1) ∷ [])) [] None (1 ∷ 2 ∷ 3 ∷ []) (1 ∷ 2 ∷ 3 ∷ []) (1 ∷ 2 ∷ 3 ∷ []) cached_read refl refl refl refl refl refl refl refl (λ e. let d = ap length e in omega (arith, d))
 
 pub drop_in_flight : Forbids (with_swap 4 8 7) in_writeback (Write 1 0x7fffffffe000 (8 ∷ [])) (answered Done (Mapped 1 0x7fffffffe000 0 ∷ Dropped (slot 1) ∷ []))
-drop_in_flight events legal = by_notes (with_swap 4 8 7) in_writeback true 1 top_number top 1 (answered Done (Mapped 1 0x7fffffffe000 0 ∷ Dropped (slot 1) ∷ [])) (1 ∷ 2 ∷ 3 ∷ []) length refl (λ e. omega (arith, e)) (write_legal (with_swap 4 8 7) in_writeback 1 top_number top (8 ∷ []) (answered Done (Mapped 1 0x7fffffffe000 0 ∷ Dropped (slot 1) ∷ [])) (1 ∷ 2 ∷ 3 ∷ []) refl refl (1 ∷ 2 ∷ 3 ∷ [], (1 ∷ 2 ∷ 3 ∷ [], refl, (1 ∷ 2 ∷ 3 ∷ [], refl, refl))) events legal)
+drop_in_flight = by_write (with_swap 4 8 7) in_writeback 1 top_number top (8 ∷ []) (answered Done (Mapped 1 0x7fffffffe000 0 ∷ Dropped (slot 1) ∷ [])) (Mapped 1 top 0 ∷ []) None (1 ∷ 2 ∷ 3 ∷ []) (1 ∷ 2 ∷ 3 ∷ []) (1 ∷ 2 ∷ 3 ∷ []) written_back refl refl refl refl refl refl refl refl (λ e a. let d = ap length e in omega (arith, d))
 
 pub map_without_load : Forbids (with_swap 4 8 7) (paged_out 7 (0 ∷ 1 ∷ 2 ∷ 3 ∷ [])) (Read 1 0x7fffffffe000 1) (answered (Data (7 ∷ [])) (Mapped 1 0x7fffffffe000 0 ∷ []))
-map_without_load events legal = by_notes (with_swap 4 8 7) (paged_out 7 (0 ∷ 1 ∷ 2 ∷ 3 ∷ [])) false 1 top_number top 1 (answered (Data (7 ∷ [])) (Mapped 1 0x7fffffffe000 0 ∷ [])) (0 ∷ 1 ∷ 2 ∷ 3 ∷ []) length refl (λ e. omega (arith, e)) (read_legal (with_swap 4 8 7) (paged_out 7 (0 ∷ 1 ∷ 2 ∷ 3 ∷ [])) 1 top_number top 1 (answered (Data (7 ∷ [])) (Mapped 1 0x7fffffffe000 0 ∷ [])) (0 ∷ 1 ∷ 2 ∷ 3 ∷ []) refl refl (0 ∷ 1 ∷ 2 ∷ 3 ∷ [], (0 ∷ 1 ∷ 2 ∷ 3 ∷ [], refl, refl)) events legal)
+map_without_load = by_read (with_swap 4 8 7) (paged_out 7 (0 ∷ 1 ∷ 2 ∷ 3 ∷ [])) 1 top_number top 1 (answered (Data (7 ∷ [])) (Mapped 1 0x7fffffffe000 0 ∷ [])) (Loaded (slot 1) 0 ∷ Mapped 1 top 0 ∷ []) None (0 ∷ 1 ∷ 2 ∷ 3 ∷ []) (1 ∷ 2 ∷ 3 ∷ []) (0 ∷ 1 ∷ 2 ∷ 3 ∷ []) loaded_page refl refl refl refl refl refl refl refl (λ e. let d = ap length e in omega (arith, d))
 
 -- ---- a device's fault
 
 -- `bus` comes only where the page is on the device alone and a frame is free for it
-lost_only : (m : Setting) (s : State) (write : Bool) (p page a n : ℕ) (notes : List Note) (how : How) (shown : List ℕ) (k : ℕ) (before : List ℕ) → Touches m s.world s.ledger write (p, page) notes how
-    → Answers write a n (end_of how page) shown (Bus k before) → IsLost m s.ledger write (p, page) notes
-lost_only m s true p page a n notes Served shown k before touches h = absurd (let e = ap bus_code h in omega (arith, e))
-lost_only m s false p page a n notes Served shown k before touches h = absurd (let e = ap bus_code h in omega (arith, e))
-lost_only m s write p page a n notes Denied shown k before touches h = absurd (let e = ap bus_code h in omega (arith, e))
-lost_only m s write p page a n notes (Starved out) shown k before touches h = absurd (let e = ap bus_code h in omega (arith, e))
-lost_only m s write p page a n notes Lost shown k before touches h = touches.1
-
-read_lost : (m : Setting) (s : State) (p page a n k : ℕ) (before : List ℕ) (notes : List Note) → refusal (tests m s.world s.ledger (Read p a n)) ≡ None → pages_of_access a n ≡ page ∷ []
-    → (events : List Event) → IsLegal m s.world s.ledger (Read p a n) (answered (Bus k before) notes) events → (noted : List Note) × IsLost m s.ledger false (p, page) noted
-read_lost m s p page a n k before notes fine one events legal =
-    let h = follows (refusal (tests m s.world s.ledger (Read p a n))) fine legal.answer in
-    let o = one_page m s.world s.ledger false p page events h.0 (subst (λ ps. Accesses m s.world s.ledger false p ps events h.0) one h.2) in
-    (o.notes, lost_only m s false p page a n o.notes o.how h.1 k before o.touches (answer_at false a n h.0 (end_of o.how page) h.1 (Bus k before) o.ending h.4))
-  where
-    follows : (o : Option Errno) → o ≡ None → MatchOption o (Follows m s.world s.ledger (Read p a n) events (Bus k before) []) (λ error. Refuses error events (Bus k before) []) → Follows m s.world s.ledger (Read p a n) events (Bus k before) []
-    follows None e h = h
-    follows (Some x) e h = cc
+lost_only : (m : Setting) (w : World) (l : Ledger) (k : Key) (notes : List Note) (stop : Option Stop) (a page n : ℕ) (before shown : List ℕ) → Touches m w l false k notes stop → Bus n before ≡ read_answer a (end_of stop page) shown → IsLost m (sparing w) l false k notes
+lost_only m w l k notes None a page n before shown t h = absurd (let e = ap fault_answers h in omega (arith, e))
+lost_only m w l k notes (Some Denied) a page n before shown t h = absurd (let e = ap fault_answers h in omega (arith, e))
+lost_only m w l k notes (Some (Starved out)) a page n before shown t h = absurd (let e = ap fault_answers h in omega (arith, e))
+lost_only m w l k notes (Some Lost) a page n before shown t h = t.1
 
 pub bus_without_a_frame : Forbids (with_swap 0 8 7) (paged_out 7 []) (Read 1 0x7fffffffe000 1) (answered (Bus 0 []) [])
 bus_without_a_frame events legal =
-    let h = read_lost (with_swap 0 8 7) (paged_out 7 []) 1 top_number top 1 0 [] [] refl refl events legal in
-    never (subst (λ ns. has_free (with_swap 0 8 7) (after_notes (paged_out 7 []).ledger ns) ≡ true) h.1.seeks h.1.frame)
+    let h = read_legal (with_swap 0 8 7) (paged_out 7 []) 1 top_number top 1 (answered (Bus 0 []) []) refl refl events legal in
+    let lost = lost_only (with_swap 0 8 7) (paged_out 7 []).world (paged_out 7 []).ledger (1, top_number) [] h.0 top top_number 0 [] h.2.0 h.1 h.2.1 in
+    never lost.frame
   where
     never : ◌≡◌ {A = Bool} false true → ⊥
     never e = cc
 
 pub bus_at_a_frame : Forbids (machine 4) (after_fork (1 ∷ 2 ∷ 3 ∷ [])) (Read 1 0x7fffffffe000 1) (answered (Bus 0 []) [])
 bus_at_a_frame events legal =
-    let h = read_lost (machine 4) (after_fork (1 ∷ 2 ∷ 3 ∷ [])) 1 top_number top 1 0 [] [] refl refl events legal in
-    never (ap need_code h.1.absent)
+    let h = read_legal (machine 4) (after_fork (1 ∷ 2 ∷ 3 ∷ [])) 1 top_number top 1 (answered (Bus 0 []) []) refl refl events legal in
+    let lost = lost_only (machine 4) (after_fork (1 ∷ 2 ∷ 3 ∷ [])).world (after_fork (1 ∷ 2 ∷ 3 ∷ [])).ledger (1, top_number) [] h.0 top top_number 0 [] h.2.0 h.1 h.2.1 in
+    never (ap need_code lost.absent)
   where
     never : ◌≡◌ {A = ℕ} 0 1 → ⊥
     never e = omega (arith, e)
@@ -333,41 +459,41 @@ pub refused_write-runs : Runs 4 (refused_write Done)
 refused_write-runs = by_steps (machine 4) empty (refused_write Done) ([], 0 ∷ 1 ∷ 2 ∷ 3 ∷ [], record { answer = (refl, refl, refl); notes = refl }, refl, ([], 0 ∷ 1 ∷ 2 ∷ 3 ∷ [], record { answer = (refl, refl, refl); notes = refl }, refl, tt))
 
 pub made_by_a_refused_write : Refutes 4 (refused_write (Refused Eexist))
-made_by_a_refused_write = same_run 4 (refused_write Done) (refused_write (Refused Eexist)) 1 refused_write-runs (refl, (refl, tt)) (refl, (refl, tt)) (refl, (refl, tt)) (λ e. omega (arith, e))
+made_by_a_refused_write = same_run 4 (refused_write Done) (refused_write (Refused Eexist)) 1 refused_write-runs (refl, (refl, tt)) refl refl (λ e. omega (arith, e))
 
 pub lost_by_a_denied_write : Refutes 4 (denied_write 0)
-lost_by_a_denied_write = same_run 4 (denied_write 1) (denied_write 0) 3 denied_write-runs (refl, (refl, (refl, (refl, tt)))) (refl, (refl, (refl, (refl, tt)))) (refl, (refl, (refl, (refl, tt)))) (λ e. omega (arith, e))
+lost_by_a_denied_write = same_run 4 (denied_write 1) (denied_write 0) 3 denied_write-runs (refl, (refl, (refl, (refl, tt)))) refl refl (λ e. omega (arith, e))
 
 pub protected_past_a_hole : Refutes 4 (past_a_hole (Segv 0 []) [])
 protected_past_a_hole = same_run 4 (past_a_hole Done (New 1 0x7fffffffe000 0 ∷ [])) (past_a_hole (Segv 0 []) []) 5 past_a_hole-runs
-    (refl, (refl, (refl, (refl, (refl, (refl, (refl, (refl, (refl, (refl, tt)))))))))) (refl, (refl, (refl, (refl, (refl, (refl, (refl, (refl, (refl, (refl, tt)))))))))) (refl, (refl, (refl, (refl, (refl, (refl, (refl, (refl, (refl, (refl, tt)))))))))) (λ e. omega (arith, e))
+    (refl, (refl, (refl, (refl, (refl, (refl, (refl, (refl, (refl, (refl, tt)))))))))) refl refl (λ e. omega (arith, e))
 
 pub entry_kept : Refutes 4 (fixed_over 2 0 (Zeroed 1 0x20000 ∷ []))
-entry_kept = same_run 4 (fixed_over 3 0 (Zeroed 1 0x20000 ∷ [])) (fixed_over 2 0 (Zeroed 1 0x20000 ∷ [])) 7 fixed_over-runs (refl, (refl, (refl, (refl, (refl, (refl, (refl, (refl, (refl, (refl, (refl, (refl, (refl, tt))))))))))))) (refl, (refl, (refl, (refl, (refl, (refl, (refl, (refl, (refl, (refl, (refl, (refl, (refl, tt))))))))))))) (refl, (refl, (refl, (refl, (refl, (refl, (refl, (refl, (refl, (refl, (refl, (refl, (refl, tt))))))))))))) (λ e. omega (arith, e))
+entry_kept = same_run 4 (fixed_over 3 0 (Zeroed 1 0x20000 ∷ [])) (fixed_over 2 0 (Zeroed 1 0x20000 ∷ [])) 7 fixed_over-runs (refl, (refl, (refl, (refl, (refl, (refl, (refl, (refl, (refl, (refl, (refl, (refl, (refl, tt))))))))))))) refl refl (λ e. omega (arith, e))
 
 pub byte_kept : Refutes 4 (fixed_over 3 7 (Zeroed 1 0x20000 ∷ []))
-byte_kept = same_run 4 (fixed_over 3 0 (Zeroed 1 0x20000 ∷ [])) (fixed_over 3 7 (Zeroed 1 0x20000 ∷ [])) 8 fixed_over-runs (refl, (refl, (refl, (refl, (refl, (refl, (refl, (refl, (refl, (refl, (refl, (refl, (refl, tt))))))))))))) (refl, (refl, (refl, (refl, (refl, (refl, (refl, (refl, (refl, (refl, (refl, (refl, (refl, tt))))))))))))) (refl, (refl, (refl, (refl, (refl, (refl, (refl, (refl, (refl, (refl, (refl, (refl, (refl, tt))))))))))))) (λ e. omega (arith, e))
+byte_kept = same_run 4 (fixed_over 3 0 (Zeroed 1 0x20000 ∷ [])) (fixed_over 3 7 (Zeroed 1 0x20000 ∷ [])) 8 fixed_over-runs (refl, (refl, (refl, (refl, (refl, (refl, (refl, (refl, (refl, (refl, (refl, (refl, (refl, tt))))))))))))) refl refl (λ e. omega (arith, e))
 
 -- ---- runs from other states
 
-claimed : (b : ℕ) (page : ℕ) → IfSome (with_byte b page) (λ (q : Page). (i : ℕ) → i < 4096 → is_some (q.bytes i) ≡ true)
+claimed : (b : ℕ) (page : ℕ) → IfSome (with_byte b page) (λ (q : Page). (i : ℕ) → i < page_size → is_some (q.bytes i) ≡ true)
 claimed b page = by (page == 0x7fffffffe)
   where
-    by : (c : Bool) → IfSome (if c then Some (page_with b) else None) (λ (q : Page). (i : ℕ) → i < 4096 → is_some (q.bytes i) ≡ true)
+    by : (c : Bool) → IfSome (if c then Some (page_with b) else None) (λ (q : Page). (i : ℕ) → i < page_size → is_some (q.bytes i) ≡ true)
     by true = λ i below. refl
     by false = tt
 
 claimed_first : (p b : ℕ) (w : World) → IsClaimed w → IsClaimed ((p, with_byte b) ∷ w)
 claimed_first p b w rest q page = by (eq_by_cmp nat_cmp q p)
   where
-    by : (c : Bool) → IfSome (option_and_then (λ (m : Process). m page) (cond c (Some (with_byte b)) (process w q))) (λ (q : Page). (i : ℕ) → i < 4096 → is_some (q.bytes i) ≡ true)
+    by : (c : Bool) → IfSome (option_and_then (λ (m : Process). m page) (cond c (Some (with_byte b)) (process w q))) (λ (q : Page). (i : ℕ) → i < page_size → is_some (q.bytes i) ≡ true)
     by true = claimed b page
     by false = rest q page
 
 pub leaked-rejected : Rejects (machine 4) (after_fork (1 ∷ 2 ∷ 3 ∷ [])) leaked
 leaked-rejected = same_run_from (machine 4) (after_fork (1 ∷ 2 ∷ 3 ∷ [])) copies leaked 2 refl (claimed_first 1 7 ((2, with_byte 7) ∷ []) (claimed_first 2 7 [] (λ p page. tt))) copies-runs
-    (refl, (refl, (refl, (refl, (refl, (refl, tt)))))) (refl, (refl, (refl, (refl, (refl, (refl, tt)))))) (refl, (refl, (refl, (refl, (refl, (refl, tt)))))) (λ e. omega (arith, e))
+    (refl, (refl, (refl, (refl, (refl, (refl, tt)))))) refl refl (λ e. omega (arith, e))
 
 pub wrong_load-rejected : Rejects (with_swap 4 3 2) (paged_out 2 (0 ∷ 1 ∷ 2 ∷ 3 ∷ [])) wrong_load
 wrong_load-rejected = same_run_from (with_swap 4 3 2) (paged_out 2 (0 ∷ 1 ∷ 2 ∷ 3 ∷ [])) load_when_half_full wrong_load 0 refl (claimed_first 1 7 [] (λ p page. tt)) load_when_half_full-runs
-    (refl, tt) (refl, tt) (refl, tt) (λ e. omega (arith, e))
+    (refl, tt) refl refl (λ e. omega (arith, e))

@@ -1,6 +1,6 @@
 -- The worked rows from nothing on.
 use Rattle.std.specs.Prelude.{◌≡◌, ℕ, ◌+◌, ◌-◌, ◌<◌, ◌≤◌, Bool, nat_le, true, false, List, [], ◌∷◌, drop, Some, None, refl}
-use Rattle.std.proofs.Common.{arith, inl, sym, ◌∙◌}
+use Rattle.std.proofs.Common.{arith, inl, sym, ◌∙◌, inr}
 use Rattle.std.proofs.lemmas.Bool.Decides.{nat_tests}
 use Rattle.std.proofs.lemmas.Bool.{false≢true}
 use Rattle.av_base.specs.declared.prot.Prot.{Prot}
@@ -13,7 +13,7 @@ use Rattle.av_trace.specs.declared.reply.Note.TheVariants.{Zeroed, New}
 use Rattle.av_plain.specs.World.{no_pages, zeros, with_pages}
 use Rattle.av_plain.specs.Ledger.{Setting, first_ledger}
 use Rattle.av_plain.specs.Event.{Event, Noted, Used, after_all}
-use Rattle.av_plain.specs.Fault.{Served, Denied, Starved}
+use Rattle.av_plain.specs.Fault.{Denied, Starved}
 use Rattle.av_plain.specs.Access.{Whole, Stopped}
 use Rattle.av_plain.specs.Step.{IsLegal, next_world}
 use Rattle.av_plain.specs.Choice.{ChoosesAll}
@@ -24,7 +24,7 @@ use Rattle.av_laws.specs.Examples.{Allows, Runs, machine, says, read_write, writ
 abbrev pub Steps : Setting → State → List Exchange → Type 0
 Steps m old [] = Unit {0}
 Steps m old (e ∷ row) =
-    (events : List Event) × (free : List ℕ) × IsLegal m old.world old.ledger e.command e.reply events × ChoosesAll old.ledger events old.free free
+    (events : List Event) × (free : List ℕ) × IsLegal m old.world old.ledger e.command e.reply events × ChoosesAll m old.ledger events old.free free
     × Steps m (record { world = next_world m old.world old.ledger events e.command e.reply.answer; ledger = after_all old.ledger events; free = free }) row
 
 pub by_steps : (m : Setting) (old : State) (row : List Exchange) → Steps m old row → Allows m old row
@@ -85,13 +85,13 @@ pub first_run-runs : Runs 4 first_run
 first_run-runs = by_steps (machine 4) (at_first (machine 4)) first_run (topmost read_write (drop 2 first_run) (
   Noted (New 1 0x7fffffffe000 0) ∷ Used true (1, 0x7fffffffe) ∷ [],
   1 ∷ 2 ∷ 3 ∷ [],
-  record { answer = (Whole, (New 1 0x7fffffffe000 0 ∷ [], Served, [], (refl, record { coming = []; making = New 1 0x7fffffffe000 0 ∷ []; whole = refl; comes_in = refl; made = record { sought = []; frame = 0; seeks = refl; in_range = omega arith; free = refl; whole = refl } }), refl, (refl, refl)), refl, refl); notes = refl },
-  (1 ∷ 2 ∷ 3 ∷ [], refl, (1 ∷ 2 ∷ 3 ∷ [], refl, refl)),
+  record { answer = (Whole, inl (New 1 0x7fffffffe000 0 ∷ [], [], (refl, record { coming = []; making = New 1 0x7fffffffe000 0 ∷ []; whole = refl; comes_in = refl; made = record { sought = []; frame = 0; seeks = refl; in_range = omega arith; free = refl; whole = refl } }), refl, (refl, refl)), refl, refl); notes = refl },
+  (1 ∷ 2 ∷ 3 ∷ [], (1 ∷ 2 ∷ 3 ∷ [], refl, refl), (1 ∷ 2 ∷ 3 ∷ [], (1 ∷ 2 ∷ 3 ∷ [], refl, refl), refl)),
   (
     Used false (1, 0x7fffffffe) ∷ [],
     1 ∷ 2 ∷ 3 ∷ [],
-    record { answer = (Whole, 0 ∷ 65 ∷ 0 ∷ [], ([], Served, [], (refl, record { coming = []; making = []; whole = refl; comes_in = refl; made = refl }), refl, (refl, refl)), (refl, (refl, (refl, (refl, tt)))), refl, refl); notes = refl },
-    (1 ∷ 2 ∷ 3 ∷ [], refl, refl),
+    record { answer = (Whole, 0 ∷ 65 ∷ 0 ∷ [], inl ([], [], (refl, record { coming = []; making = []; whole = refl; comes_in = refl; made = refl }), refl, (refl, refl)), (refl, (refl, (refl, (refl, tt))), (omega arith, (omega arith, (omega arith, tt)))), refl, refl); notes = refl },
+    (1 ∷ 2 ∷ 3 ∷ [], (1 ∷ 2 ∷ 3 ∷ [], refl, refl), refl),
     tt,
   ),
 ))
@@ -100,28 +100,28 @@ pub zero_first-runs : Runs 4 zero_first
 zero_first-runs = by_steps (machine 4) (at_first (machine 4)) zero_first (topmost read_write (drop 2 zero_first) (
   Noted (Zeroed 1 0x7fffffffe000) ∷ Used false (1, 0x7fffffffe) ∷ [],
   0 ∷ 1 ∷ 2 ∷ 3 ∷ [],
-  record { answer = (Whole, 0 ∷ 0 ∷ [], (Zeroed 1 0x7fffffffe000 ∷ [], Served, [], (refl, record { coming = []; making = Zeroed 1 0x7fffffffe000 ∷ []; whole = refl; comes_in = refl; made = refl }), refl, (refl, refl)), (refl, (refl, (refl, tt))), refl, refl); notes = refl },
-  (0 ∷ 1 ∷ 2 ∷ 3 ∷ [], refl, (0 ∷ 1 ∷ 2 ∷ 3 ∷ [], refl, refl)),
+  record { answer = (Whole, 0 ∷ 0 ∷ [], inl (Zeroed 1 0x7fffffffe000 ∷ [], [], (refl, record { coming = []; making = Zeroed 1 0x7fffffffe000 ∷ []; whole = refl; comes_in = refl; made = refl }), refl, (refl, refl)), (refl, (refl, (refl, tt)), (omega arith, (omega arith, tt))), refl, refl); notes = refl },
+  (0 ∷ 1 ∷ 2 ∷ 3 ∷ [], (0 ∷ 1 ∷ 2 ∷ 3 ∷ [], refl, refl), (0 ∷ 1 ∷ 2 ∷ 3 ∷ [], (0 ∷ 1 ∷ 2 ∷ 3 ∷ [], refl, refl), refl)),
   (
     Used false (1, 0x7fffffffe) ∷ [],
     0 ∷ 1 ∷ 2 ∷ 3 ∷ [],
-    record { answer = (Whole, 0 ∷ [], ([], Served, [], (refl, record { coming = []; making = []; whole = refl; comes_in = refl; made = refl }), refl, (refl, refl)), (refl, (refl, tt)), refl, refl); notes = refl },
-    (0 ∷ 1 ∷ 2 ∷ 3 ∷ [], refl, refl),
+    record { answer = (Whole, 0 ∷ [], inl ([], [], (refl, record { coming = []; making = []; whole = refl; comes_in = refl; made = refl }), refl, (refl, refl)), (refl, (refl, tt), (omega arith, tt)), refl, refl); notes = refl },
+    (0 ∷ 1 ∷ 2 ∷ 3 ∷ [], (0 ∷ 1 ∷ 2 ∷ 3 ∷ [], refl, refl), refl),
     (
       Noted (New 1 0x7fffffffe000 0) ∷ Used true (1, 0x7fffffffe) ∷ [],
       1 ∷ 2 ∷ 3 ∷ [],
-      record { answer = (Whole, (New 1 0x7fffffffe000 0 ∷ [], Served, [], (refl, record { coming = []; making = New 1 0x7fffffffe000 0 ∷ []; whole = refl; comes_in = refl; made = record { sought = []; frame = 0; seeks = refl; in_range = omega arith; free = refl; whole = refl } }), refl, (refl, refl)), refl, refl); notes = refl },
-      (1 ∷ 2 ∷ 3 ∷ [], refl, (1 ∷ 2 ∷ 3 ∷ [], refl, refl)),
+      record { answer = (Whole, inl (New 1 0x7fffffffe000 0 ∷ [], [], (refl, record { coming = []; making = New 1 0x7fffffffe000 0 ∷ []; whole = refl; comes_in = refl; made = record { sought = []; frame = 0; seeks = refl; in_range = omega arith; free = refl; whole = refl } }), refl, (refl, refl)), refl, refl); notes = refl },
+      (1 ∷ 2 ∷ 3 ∷ [], (1 ∷ 2 ∷ 3 ∷ [], refl, refl), (1 ∷ 2 ∷ 3 ∷ [], (1 ∷ 2 ∷ 3 ∷ [], refl, refl), refl)),
       (
         Used true (1, 0x7fffffffe) ∷ [],
         1 ∷ 2 ∷ 3 ∷ [],
-        record { answer = (Whole, ([], Served, [], (refl, record { coming = []; making = []; whole = refl; comes_in = refl; made = refl }), refl, (refl, refl)), refl, refl); notes = refl },
-        (1 ∷ 2 ∷ 3 ∷ [], refl, refl),
+        record { answer = (Whole, inl ([], [], (refl, record { coming = []; making = []; whole = refl; comes_in = refl; made = refl }), refl, (refl, refl)), refl, refl); notes = refl },
+        (1 ∷ 2 ∷ 3 ∷ [], (1 ∷ 2 ∷ 3 ∷ [], refl, refl), refl),
         (
           Used false (1, 0x7fffffffe) ∷ [],
           1 ∷ 2 ∷ 3 ∷ [],
-          record { answer = (Whole, 1 ∷ 2 ∷ [], ([], Served, [], (refl, record { coming = []; making = []; whole = refl; comes_in = refl; made = refl }), refl, (refl, refl)), (refl, (refl, (refl, tt))), refl, refl); notes = refl },
-          (1 ∷ 2 ∷ 3 ∷ [], refl, refl),
+          record { answer = (Whole, 1 ∷ 2 ∷ [], inl ([], [], (refl, record { coming = []; making = []; whole = refl; comes_in = refl; made = refl }), refl, (refl, refl)), (refl, (refl, (refl, tt)), (omega arith, (omega arith, tt))), refl, refl); notes = refl },
+          (1 ∷ 2 ∷ 3 ∷ [], (1 ∷ 2 ∷ 3 ∷ [], refl, refl), refl),
           tt,
         ),
       ),
@@ -143,17 +143,17 @@ one_frame-runs = by_steps (machine 1) (at_first (machine 1)) one_frame ((
     (
       Noted (New 1 0x7fffffffd000 0) ∷ Used true (1, 0x7fffffffd) ∷ [],
       [],
-      record { answer = (Stopped 0x7fffffffe (Starved (record { pinned = 0; noslot = 1; fault = 0 })), (New 1 0x7fffffffd000 0 ∷ [], Served, [], (refl, record { coming = []; making = New 1 0x7fffffffd000 0 ∷ []; whole = refl; comes_in = refl; made = record { sought = []; frame = 0; seeks = refl; in_range = omega arith; free = refl; whole = refl } }), refl, ([], Starved (record { pinned = 0; noslot = 1; fault = 0 }), [], (refl, record { coming = []; sought = []; whole = refl; before = inl refl; wants = refl; seeks = refl; none = refl; numbers = refl }), refl, (refl, refl))), refl, refl); notes = refl },
-      ([], refl, ([], refl, refl)),
+      record { answer = (Stopped 0x7fffffffe (Starved (record { pinned = 0; noslot = 1; fault = 0 })), inl (New 1 0x7fffffffd000 0 ∷ [], [], (refl, record { coming = []; making = New 1 0x7fffffffd000 0 ∷ []; whole = refl; comes_in = refl; made = record { sought = []; frame = 0; seeks = refl; in_range = omega arith; free = refl; whole = refl } }), refl, inr ([], Starved (record { pinned = 0; noslot = 1; fault = 0 }), (refl, record { coming = []; sought = []; whole = refl; before = inl refl; finds = record { wants = refl; seeks = ([], [], refl, refl, refl); none = refl; numbers = refl } }), refl, refl)), refl, refl); notes = refl },
+      ([], ([], refl, refl), ([], ([], refl, refl), refl)),
       (
         Used false (1, 0x7fffffffd) ∷ Noted (Zeroed 1 0x7fffffffe000) ∷ Used false (1, 0x7fffffffe) ∷ [],
         [],
-        record { answer = (Whole, 170 ∷ 0 ∷ [], ([], Served, Noted (Zeroed 1 0x7fffffffe000) ∷ Used false (1, 0x7fffffffe) ∷ [], (refl, record { coming = []; making = []; whole = refl; comes_in = refl; made = refl }), refl, (Zeroed 1 0x7fffffffe000 ∷ [], Served, [], (refl, record { coming = []; making = Zeroed 1 0x7fffffffe000 ∷ []; whole = refl; comes_in = refl; made = refl }), refl, (refl, refl))), (refl, (refl, (refl, tt))), refl, refl); notes = refl },
-        ([], refl, ([], refl, ([], refl, refl))),
+        record { answer = (Whole, 170 ∷ 0 ∷ [], inl ([], Noted (Zeroed 1 0x7fffffffe000) ∷ Used false (1, 0x7fffffffe) ∷ [], (refl, record { coming = []; making = []; whole = refl; comes_in = refl; made = refl }), refl, inl (Zeroed 1 0x7fffffffe000 ∷ [], [], (refl, record { coming = []; making = Zeroed 1 0x7fffffffe000 ∷ []; whole = refl; comes_in = refl; made = refl }), refl, (refl, refl))), (refl, (refl, (refl, tt)), (omega arith, (omega arith, tt))), refl, refl); notes = refl },
+        ([], ([], refl, refl), ([], ([], refl, refl), ([], ([], refl, refl), refl))),
         (
           [],
           [],
-          record { answer = (Stopped 0x7fffffffe (Starved (record { pinned = 0; noslot = 1; fault = 0 })), ([], Starved (record { pinned = 0; noslot = 1; fault = 0 }), [], (refl, record { coming = []; sought = []; whole = refl; before = inl refl; wants = refl; seeks = refl; none = refl; numbers = refl }), refl, (refl, refl)), refl, refl); notes = refl },
+          record { answer = (Stopped 0x7fffffffe (Starved (record { pinned = 0; noslot = 1; fault = 0 })), inr ([], Starved (record { pinned = 0; noslot = 1; fault = 0 }), (refl, record { coming = []; sought = []; whole = refl; before = inl refl; finds = record { wants = refl; seeks = ([], [], refl, refl, refl); none = refl; numbers = refl } }), refl, refl), refl, refl); notes = refl },
           refl,
           tt,
         ),
@@ -181,27 +181,27 @@ part_denied-runs = by_steps (machine 4) (at_first (machine 4)) part_denied ((
       (
         Noted (New 1 0x7fffffffd000 0) ∷ Used true (1, 0x7fffffffd) ∷ [],
         1 ∷ 2 ∷ 3 ∷ [],
-        record { answer = (Stopped 0x7fffffffe Denied, (New 1 0x7fffffffd000 0 ∷ [], Served, [], (refl, record { coming = []; making = New 1 0x7fffffffd000 0 ∷ []; whole = refl; comes_in = refl; made = record { sought = []; frame = 0; seeks = refl; in_range = omega arith; free = refl; whole = refl } }), refl, ([], Denied, [], (refl, refl), refl, (refl, refl))), refl, refl); notes = refl },
-        (1 ∷ 2 ∷ 3 ∷ [], refl, (1 ∷ 2 ∷ 3 ∷ [], refl, refl)),
+        record { answer = (Stopped 0x7fffffffe Denied, inl (New 1 0x7fffffffd000 0 ∷ [], [], (refl, record { coming = []; making = New 1 0x7fffffffd000 0 ∷ []; whole = refl; comes_in = refl; made = record { sought = []; frame = 0; seeks = refl; in_range = omega arith; free = refl; whole = refl } }), refl, inr ([], Denied, (refl, refl), refl, refl)), refl, refl); notes = refl },
+        (1 ∷ 2 ∷ 3 ∷ [], (1 ∷ 2 ∷ 3 ∷ [], refl, refl), (1 ∷ 2 ∷ 3 ∷ [], (1 ∷ 2 ∷ 3 ∷ [], refl, refl), refl)),
         (
           Used false (1, 0x7fffffffd) ∷ Noted (Zeroed 1 0x7fffffffe000) ∷ Used false (1, 0x7fffffffe) ∷ [],
           1 ∷ 2 ∷ 3 ∷ [],
-          record { answer = (Whole, 1 ∷ 2 ∷ 0 ∷ 0 ∷ [], ([], Served, Noted (Zeroed 1 0x7fffffffe000) ∷ Used false (1, 0x7fffffffe) ∷ [], (refl, record { coming = []; making = []; whole = refl; comes_in = refl; made = refl }), refl, (Zeroed 1 0x7fffffffe000 ∷ [], Served, [], (refl, record { coming = []; making = Zeroed 1 0x7fffffffe000 ∷ []; whole = refl; comes_in = refl; made = refl }), refl, (refl, refl))), (refl, (refl, (refl, (refl, (refl, tt))))), refl, refl); notes = refl },
-          (1 ∷ 2 ∷ 3 ∷ [], refl, (1 ∷ 2 ∷ 3 ∷ [], refl, (1 ∷ 2 ∷ 3 ∷ [], refl, refl))),
+          record { answer = (Whole, 1 ∷ 2 ∷ 0 ∷ 0 ∷ [], inl ([], Noted (Zeroed 1 0x7fffffffe000) ∷ Used false (1, 0x7fffffffe) ∷ [], (refl, record { coming = []; making = []; whole = refl; comes_in = refl; made = refl }), refl, inl (Zeroed 1 0x7fffffffe000 ∷ [], [], (refl, record { coming = []; making = Zeroed 1 0x7fffffffe000 ∷ []; whole = refl; comes_in = refl; made = refl }), refl, (refl, refl))), (refl, (refl, (refl, (refl, (refl, tt)))), (omega arith, (omega arith, (omega arith, (omega arith, tt))))), refl, refl); notes = refl },
+          (1 ∷ 2 ∷ 3 ∷ [], (1 ∷ 2 ∷ 3 ∷ [], refl, refl), (1 ∷ 2 ∷ 3 ∷ [], (1 ∷ 2 ∷ 3 ∷ [], refl, refl), (1 ∷ 2 ∷ 3 ∷ [], (1 ∷ 2 ∷ 3 ∷ [], refl, refl), refl))),
           (
             Used false (1, 0x7fffffffe) ∷ [],
             1 ∷ 2 ∷ 3 ∷ [],
-            record { answer = (Stopped 0x7ffffffff Denied, 0 ∷ [], ([], Served, [], (refl, record { coming = []; making = []; whole = refl; comes_in = refl; made = refl }), refl, ([], Denied, [], (refl, refl), refl, (refl, refl))), (refl, (refl, tt)), refl, refl); notes = refl },
-            (1 ∷ 2 ∷ 3 ∷ [], refl, refl),
+            record { answer = (Stopped 0x7ffffffff Denied, 0 ∷ [], inl ([], [], (refl, record { coming = []; making = []; whole = refl; comes_in = refl; made = refl }), refl, inr ([], Denied, (refl, refl), refl, refl)), (refl, (refl, tt), (omega arith, tt)), refl, refl); notes = refl },
+            (1 ∷ 2 ∷ 3 ∷ [], (1 ∷ 2 ∷ 3 ∷ [], refl, refl), refl),
             (
               [],
               1 ∷ 2 ∷ 3 ∷ [],
-              record { answer = (Stopped 0x7fffffffe Denied, ([], Denied, [], (refl, refl), refl, (refl, refl)), refl, refl); notes = refl },
+              record { answer = (Stopped 0x7fffffffe Denied, inr ([], Denied, (refl, refl), refl, refl), refl, refl); notes = refl },
               refl,
               (
                 [],
                 1 ∷ 2 ∷ 3 ∷ [],
-                record { answer = (Stopped 0x7fffffffc Denied, [], ([], Denied, [], (refl, refl), refl, (refl, refl)), (refl, tt), refl, refl); notes = refl },
+                record { answer = (Stopped 0x7fffffffc Denied, [], inr ([], Denied, (refl, refl), refl, refl), (refl, tt, tt), refl, refl); notes = refl },
                 refl,
                 tt,
               ),
@@ -242,28 +242,28 @@ two_processes-runs = by_steps (machine 4) (at_first (machine 4)) two_processes (
           (
             [],
             0 ∷ 1 ∷ 2 ∷ 3 ∷ [],
-            record { answer = (Stopped 0x7fffffffe Denied, [], ([], Denied, [], (refl, refl), refl, (refl, refl)), (refl, tt), refl, refl); notes = refl },
+            record { answer = (Stopped 0x7fffffffe Denied, [], inr ([], Denied, (refl, refl), refl, refl), (refl, tt, tt), refl, refl); notes = refl },
             refl,
             (
               Noted (New 7 0x7fffffffc000 0) ∷ Used true (7, 0x7fffffffc) ∷ [],
               1 ∷ 2 ∷ 3 ∷ [],
-              record { answer = (Whole, (New 7 0x7fffffffc000 0 ∷ [], Served, [], (refl, record { coming = []; making = New 7 0x7fffffffc000 0 ∷ []; whole = refl; comes_in = refl; made = record { sought = []; frame = 0; seeks = refl; in_range = omega arith; free = refl; whole = refl } }), refl, (refl, refl)), refl, refl); notes = refl },
-              (1 ∷ 2 ∷ 3 ∷ [], refl, (1 ∷ 2 ∷ 3 ∷ [], refl, refl)),
+              record { answer = (Whole, inl (New 7 0x7fffffffc000 0 ∷ [], [], (refl, record { coming = []; making = New 7 0x7fffffffc000 0 ∷ []; whole = refl; comes_in = refl; made = record { sought = []; frame = 0; seeks = refl; in_range = omega arith; free = refl; whole = refl } }), refl, (refl, refl)), refl, refl); notes = refl },
+              (1 ∷ 2 ∷ 3 ∷ [], (1 ∷ 2 ∷ 3 ∷ [], refl, refl), (1 ∷ 2 ∷ 3 ∷ [], (1 ∷ 2 ∷ 3 ∷ [], refl, refl), refl)),
               (
                 Noted (New 3 0x7fffffffe000 1) ∷ Used true (3, 0x7fffffffe) ∷ [],
                 2 ∷ 3 ∷ [],
-                record { answer = (Whole, (New 3 0x7fffffffe000 1 ∷ [], Served, [], (refl, record { coming = []; making = New 3 0x7fffffffe000 1 ∷ []; whole = refl; comes_in = refl; made = record { sought = []; frame = 1; seeks = refl; in_range = omega arith; free = refl; whole = refl } }), refl, (refl, refl)), refl, refl); notes = refl },
-                (2 ∷ 3 ∷ [], refl, (2 ∷ 3 ∷ [], refl, refl)),
+                record { answer = (Whole, inl (New 3 0x7fffffffe000 1 ∷ [], [], (refl, record { coming = []; making = New 3 0x7fffffffe000 1 ∷ []; whole = refl; comes_in = refl; made = record { sought = []; frame = 1; seeks = refl; in_range = omega arith; free = refl; whole = refl } }), refl, (refl, refl)), refl, refl); notes = refl },
+                (2 ∷ 3 ∷ [], (2 ∷ 3 ∷ [], refl, refl), (2 ∷ 3 ∷ [], (2 ∷ 3 ∷ [], refl, refl), refl)),
                 (
                   Used false (7, 0x7fffffffc) ∷ [],
                   2 ∷ 3 ∷ [],
-                  record { answer = (Whole, 5 ∷ [], ([], Served, [], (refl, record { coming = []; making = []; whole = refl; comes_in = refl; made = refl }), refl, (refl, refl)), (refl, (refl, tt)), refl, refl); notes = refl },
-                  (2 ∷ 3 ∷ [], refl, refl),
+                  record { answer = (Whole, 5 ∷ [], inl ([], [], (refl, record { coming = []; making = []; whole = refl; comes_in = refl; made = refl }), refl, (refl, refl)), (refl, (refl, tt), (omega arith, tt)), refl, refl); notes = refl },
+                  (2 ∷ 3 ∷ [], (2 ∷ 3 ∷ [], refl, refl), refl),
                   (
                     Used false (3, 0x7fffffffe) ∷ [],
                     2 ∷ 3 ∷ [],
-                    record { answer = (Whole, 6 ∷ [], ([], Served, [], (refl, record { coming = []; making = []; whole = refl; comes_in = refl; made = refl }), refl, (refl, refl)), (refl, (refl, tt)), refl, refl); notes = refl },
-                    (2 ∷ 3 ∷ [], refl, refl),
+                    record { answer = (Whole, 6 ∷ [], inl ([], [], (refl, record { coming = []; making = []; whole = refl; comes_in = refl; made = refl }), refl, (refl, refl)), (refl, (refl, tt), (omega arith, tt)), refl, refl); notes = refl },
+                    (2 ∷ 3 ∷ [], (2 ∷ 3 ∷ [], refl, refl), refl),
                     tt,
                   ),
                 ),
@@ -285,23 +285,23 @@ readable-runs = by_steps (machine 4) (at_first (machine 4)) readable (topmost wr
   (
     Noted (Zeroed 1 0x7fffffffe000) ∷ Used false (1, 0x7fffffffe) ∷ [],
     0 ∷ 1 ∷ 2 ∷ 3 ∷ [],
-    record { answer = (Whole, 0 ∷ [], (Zeroed 1 0x7fffffffe000 ∷ [], Served, [], (refl, record { coming = []; making = Zeroed 1 0x7fffffffe000 ∷ []; whole = refl; comes_in = refl; made = refl }), refl, (refl, refl)), (refl, (refl, tt)), refl, refl); notes = refl },
-    (0 ∷ 1 ∷ 2 ∷ 3 ∷ [], refl, (0 ∷ 1 ∷ 2 ∷ 3 ∷ [], refl, refl)),
+    record { answer = (Whole, 0 ∷ [], inl (Zeroed 1 0x7fffffffe000 ∷ [], [], (refl, record { coming = []; making = Zeroed 1 0x7fffffffe000 ∷ []; whole = refl; comes_in = refl; made = refl }), refl, (refl, refl)), (refl, (refl, tt), (omega arith, tt)), refl, refl); notes = refl },
+    (0 ∷ 1 ∷ 2 ∷ 3 ∷ [], (0 ∷ 1 ∷ 2 ∷ 3 ∷ [], refl, refl), (0 ∷ 1 ∷ 2 ∷ 3 ∷ [], (0 ∷ 1 ∷ 2 ∷ 3 ∷ [], refl, refl), refl)),
     (
       Noted (Zeroed 1 0x7fffffffd000) ∷ Used false (1, 0x7fffffffd) ∷ [],
       0 ∷ 1 ∷ 2 ∷ 3 ∷ [],
-      record { answer = (Whole, 0 ∷ [], (Zeroed 1 0x7fffffffd000 ∷ [], Served, [], (refl, record { coming = []; making = Zeroed 1 0x7fffffffd000 ∷ []; whole = refl; comes_in = refl; made = refl }), refl, (refl, refl)), (refl, (refl, tt)), refl, refl); notes = refl },
-      (0 ∷ 1 ∷ 2 ∷ 3 ∷ [], refl, (0 ∷ 1 ∷ 2 ∷ 3 ∷ [], refl, refl)),
+      record { answer = (Whole, 0 ∷ [], inl (Zeroed 1 0x7fffffffd000 ∷ [], [], (refl, record { coming = []; making = Zeroed 1 0x7fffffffd000 ∷ []; whole = refl; comes_in = refl; made = refl }), refl, (refl, refl)), (refl, (refl, tt), (omega arith, tt)), refl, refl); notes = refl },
+      (0 ∷ 1 ∷ 2 ∷ 3 ∷ [], (0 ∷ 1 ∷ 2 ∷ 3 ∷ [], refl, refl), (0 ∷ 1 ∷ 2 ∷ 3 ∷ [], (0 ∷ 1 ∷ 2 ∷ 3 ∷ [], refl, refl), refl)),
       (
         [],
         0 ∷ 1 ∷ 2 ∷ 3 ∷ [],
-        record { answer = (Stopped 0x7fffffffd Denied, ([], Denied, [], (refl, refl), refl, (refl, refl)), refl, refl); notes = refl },
+        record { answer = (Stopped 0x7fffffffd Denied, inr ([], Denied, (refl, refl), refl, refl), refl, refl); notes = refl },
         refl,
         (
           Noted (New 1 0x7fffffffe000 0) ∷ Used true (1, 0x7fffffffe) ∷ [],
           1 ∷ 2 ∷ 3 ∷ [],
-          record { answer = (Whole, (New 1 0x7fffffffe000 0 ∷ [], Served, [], (refl, record { coming = []; making = New 1 0x7fffffffe000 0 ∷ []; whole = refl; comes_in = refl; made = record { sought = []; frame = 0; seeks = refl; in_range = omega arith; free = refl; whole = refl } }), refl, (refl, refl)), refl, refl); notes = refl },
-          (1 ∷ 2 ∷ 3 ∷ [], refl, (1 ∷ 2 ∷ 3 ∷ [], refl, refl)),
+          record { answer = (Whole, inl (New 1 0x7fffffffe000 0 ∷ [], [], (refl, record { coming = []; making = New 1 0x7fffffffe000 0 ∷ []; whole = refl; comes_in = refl; made = record { sought = []; frame = 0; seeks = refl; in_range = omega arith; free = refl; whole = refl } }), refl, (refl, refl)), refl, refl); notes = refl },
+          (1 ∷ 2 ∷ 3 ∷ [], (1 ∷ 2 ∷ 3 ∷ [], refl, refl), (1 ∷ 2 ∷ 3 ∷ [], (1 ∷ 2 ∷ 3 ∷ [], refl, refl), refl)),
           tt,
         ),
       ),
@@ -363,7 +363,7 @@ refusals-runs = by_steps (machine 4) (at_first (machine 4)) refusals ((
                     (
                       [],
                       0 ∷ 1 ∷ 2 ∷ 3 ∷ [],
-                      record { answer = (Stopped 0x10 Denied, [], ([], Denied, [], (refl, refl), refl, (refl, refl)), (refl, tt), refl, refl); notes = refl },
+                      record { answer = (Stopped 0x10 Denied, [], inr ([], Denied, (refl, refl), refl, refl), (refl, tt, tt), refl, refl); notes = refl },
                       refl,
                       tt,
                     ),
@@ -397,8 +397,8 @@ all_mapped-runs = by_steps (machine 4) (at_first (machine 4)) all_mapped ((
       (
         Noted (New 1 0x10000 0) ∷ Used true (1, 0x10) ∷ [],
         1 ∷ 2 ∷ 3 ∷ [],
-        record { answer = (Whole, (New 1 0x10000 0 ∷ [], Served, [], (refl, record { coming = []; making = New 1 0x10000 0 ∷ []; whole = refl; comes_in = refl; made = record { sought = []; frame = 0; seeks = refl; in_range = omega arith; free = refl; whole = refl } }), refl, (refl, refl)), refl, refl); notes = refl },
-        (1 ∷ 2 ∷ 3 ∷ [], refl, (1 ∷ 2 ∷ 3 ∷ [], refl, refl)),
+        record { answer = (Whole, inl (New 1 0x10000 0 ∷ [], [], (refl, record { coming = []; making = New 1 0x10000 0 ∷ []; whole = refl; comes_in = refl; made = record { sought = []; frame = 0; seeks = refl; in_range = omega arith; free = refl; whole = refl } }), refl, (refl, refl)), refl, refl); notes = refl },
+        (1 ∷ 2 ∷ 3 ∷ [], (1 ∷ 2 ∷ 3 ∷ [], refl, refl), (1 ∷ 2 ∷ 3 ∷ [], (1 ∷ 2 ∷ 3 ∷ [], refl, refl), refl)),
         tt,
       ),
     ),
@@ -409,13 +409,13 @@ pub denied_write-runs : Runs 4 (denied_write 1)
 denied_write-runs = by_steps (machine 4) (at_first (machine 4)) (denied_write 1) (topmost read_write (drop 2 (denied_write 1)) (
   Noted (New 1 0x7fffffffe000 0) ∷ Used true (1, 0x7fffffffe) ∷ [],
   1 ∷ 2 ∷ 3 ∷ [],
-  record { answer = (Stopped 0x7ffffffff Denied, (New 1 0x7fffffffe000 0 ∷ [], Served, [], (refl, record { coming = []; making = New 1 0x7fffffffe000 0 ∷ []; whole = refl; comes_in = refl; made = record { sought = []; frame = 0; seeks = refl; in_range = omega arith; free = refl; whole = refl } }), refl, ([], Denied, [], (refl, refl), refl, (refl, refl))), refl, refl); notes = refl },
-  (1 ∷ 2 ∷ 3 ∷ [], refl, (1 ∷ 2 ∷ 3 ∷ [], refl, refl)),
+  record { answer = (Stopped 0x7ffffffff Denied, inl (New 1 0x7fffffffe000 0 ∷ [], [], (refl, record { coming = []; making = New 1 0x7fffffffe000 0 ∷ []; whole = refl; comes_in = refl; made = record { sought = []; frame = 0; seeks = refl; in_range = omega arith; free = refl; whole = refl } }), refl, inr ([], Denied, (refl, refl), refl, refl)), refl, refl); notes = refl },
+  (1 ∷ 2 ∷ 3 ∷ [], (1 ∷ 2 ∷ 3 ∷ [], refl, refl), (1 ∷ 2 ∷ 3 ∷ [], (1 ∷ 2 ∷ 3 ∷ [], refl, refl), refl)),
   (
     Used false (1, 0x7fffffffe) ∷ [],
     1 ∷ 2 ∷ 3 ∷ [],
-    record { answer = (Whole, 1 ∷ [], ([], Served, [], (refl, record { coming = []; making = []; whole = refl; comes_in = refl; made = refl }), refl, (refl, refl)), (refl, (refl, tt)), refl, refl); notes = refl },
-    (1 ∷ 2 ∷ 3 ∷ [], refl, refl),
+    record { answer = (Whole, 1 ∷ [], inl ([], [], (refl, record { coming = []; making = []; whole = refl; comes_in = refl; made = refl }), refl, (refl, refl)), (refl, (refl, tt), (omega arith, tt)), refl, refl); notes = refl },
+    (1 ∷ 2 ∷ 3 ∷ [], (1 ∷ 2 ∷ 3 ∷ [], refl, refl), refl),
     tt,
   ),
 ))

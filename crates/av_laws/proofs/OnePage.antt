@@ -1,268 +1,206 @@
--- What a page gets is determined: by its entry, and by the order of the free frames.
-use Rattle.std.proofs.Common.{◌≡◌, ◌⊎◌, inl, inr, ℕ, Bool, true, false, cond, if◌then◌else◌, List, [], ◌∷◌, ◌++◌, Option, Some, None, option_map, refl, sym, ap, subst, ◌∙◌, append-nil}
-use Rattle.av_base.specs.declared.slot.Slot.{Slot}
+-- What a page gets is determined: by its entry, the order of the free frames, and the exact choice of slots.
+use Rattle.std.proofs.Common.{◌≡◌, ◌⊎◌, inl, inr, ℕ, Bool, true, false, List, [], ◌∷◌, ◌++◌, Option, Some, None, refl, sym, ap, subst, ◌∙◌}
+use Rattle.av_base.specs.Page.{address_of}
 use Rattle.av_trace.specs.declared.reply.OutOf.{OutOf}
 use Rattle.av_trace.specs.declared.reply.Note.{Note}
-use Rattle.av_trace.specs.declared.reply.Note.TheVariants.{Zeroed, New, Copied, Loaded, Mapped}
+use Rattle.av_trace.specs.declared.reply.Note.TheVariants.{New, Copied, Loaded, Mapped}
 use Rattle.av_plain.specs.World.{World}
-use Rattle.av_base.specs.Page.{address_of}
-use Rattle.av_plain.specs.Ledger.{Ledger, Setting, Key, Cached, entry, frame_at, cached_by, same_slot, is_free, has_free}
-use Rattle.av_plain.specs.Event.{Event, after, after_all, after_note, after_notes, note_events}
-use Rattle.av_plain.specs.Pass.{Spared, nothing_spared, pinning, out_of, TakesFor}
-use Rattle.av_plain.specs.Fault.{Need, Ready, ZeroPage, NewPage, CopyOnWrite, SwapIn, MapCached, need, ComesIn, IsMade, drop_at, was_slot, pinned_by, wants_frame, is_allowed, How, Served, Denied, Starved, Lost, Touches}
+use Rattle.av_plain.specs.Ledger.{Ledger, Setting, Key, entry, frame_at, has_free}
+use Rattle.av_plain.specs.Event.{after_notes, note_events}
+use Rattle.av_plain.specs.Pass.{Seeks, out_of}
+use Rattle.av_plain.specs.Fault.{Need, Ready, ZeroPage, NewPage, CopyOnWrite, SwapIn, MapCached, need, Sparing, sparing, ComesIn, IsMade, drop_at, was_slot, Serves, pinned_by, wants_frame, FindsNone, RunsOut, is_allowed, Stop, Denied, Starved, Lost, Touches}
 use Rattle.av_plain.specs.Choice.{ChoosesAll}
-use Rattle.av_plain.proofs.Access.{note_events-append}
-use Rattle.av_plain.proofs.Ledger.NoSwap.{has_free-some}
-use Rattle.av_plain.proofs.Sound.Counts.{slot-itself}
+use Rattle.av_laws.specs.Determined.{SlotRule}
+use Rattle.av_laws.proofs.OnePass.{Exact, Given, given-is, given-parts, exact-append, chooses-one, seeks-one, takes-one, none-taken}
 
--- ---- choices
+module _ (m : Setting) (sp : Sparing) (rule : SlotRule) (before : List Note) where
+  -- what comes in
+  pub comes-one : (l : Ledger) (k : Key) (free : List ℕ) (n : Need) (a b : List Note) → ComesIn m sp l k n a → ComesIn m sp l k n b → Given m rule before l free a → Given m rule before l free b → a ≡ b
+  comes-one l k free (SwapIn s) a b h g x y =
+      let xs = given-parts m rule before l free h.0 (Mapped k.0 (address_of k.1) h.1 ∷ []) (given-is m rule before l free a _ h.4 x) in
+      let ys = given-parts m rule before l free g.0 (Mapped k.0 (address_of k.1) g.1 ∷ []) (given-is m rule before l free b _ g.4 y) in
+      let same = takes-one m (sp l None) rule before l free h.0 g.0 (Loaded s) (λ f. refl) h.2 g.2 xs.1 ys.1 in
+      let frame : h.1 ≡ g.1 = inner (sym h.3 ∙ ap (λ ns. frame_at (after_notes l ns) s) same ∙ g.3) in
+      h.4 ∙ (λ i. same i ++ Mapped k.0 (address_of k.1) (frame i) ∷ []) ∙ sym g.4
+    where
+      inner : {x y : ℕ} → Some x ≡ Some y → x ≡ y
+      inner e = cc
+  comes-one l k free (MapCached f) a b h g x y = h ∙ sym g
+  comes-one l k free Ready a b h g x y = h ∙ sym g
+  comes-one l k free ZeroPage a b h g x y = h ∙ sym g
+  comes-one l k free NewPage a b h g x y = h ∙ sym g
+  comes-one l k free (CopyOnWrite f) a b h g x y = h ∙ sym g
 
--- these notes take their frames from the head of the free ones
-abbrev pub Chosen : Ledger → List Note → List ℕ → Type 0
-Chosen l notes free = (mid : List ℕ) × ChoosesAll l (note_events notes) free mid
+  -- what is made
+  made-one : (l : Ledger) (k : Key) (free : List ℕ) (n : Need) (a b : List Note) → IsMade m sp l k n a → IsMade m sp l k n b → Given m rule before l free a → Given m rule before l free b → a ≡ b
+  made-one l k free Ready a b h g x y = h ∙ sym g
+  made-one l k free ZeroPage a b h g x y = h ∙ sym g
+  made-one l k free NewPage a b h g x y = takes-one m (sp l None) rule before l free a b (New k.0 (address_of k.1)) (λ f. refl) h g x y
+  made-one l k free (CopyOnWrite f) a b h g x y = takes-one m (sp l (Some f)) rule before l free a b (Copied k.0 (address_of k.1)) (λ f. refl) h g x y
+  made-one l k free (SwapIn s) a b h g x y = absurd h
+  made-one l k free (MapCached f) a b h g x y = absurd h
 
-pub chosen-first : (l : Ledger) (es fs : List Event) (free free' : List ℕ) → ChoosesAll l (es ++ fs) free free' → (mid : List ℕ) × ChoosesAll l es free mid × ChoosesAll (after_all l es) fs mid free'
-chosen-first l [] fs free free' h = (free, refl, h)
-chosen-first l (e ∷ es) fs free free' h = let rest = chosen-first (after l e) es fs h.0 free' h.2 in (rest.0, (h.0, h.1, rest.1), rest.2)
+  -- where something is made that wants a frame, none is not found
+  made-never : (l : Ledger) (k : Key) (n : Need) (a b : List Note) → wants_frame n ≡ true → IsMade m sp l k n a → Seeks m (sp l (pinned_by n)) l b → has_free m (after_notes l b) ≡ false → Exact rule before a → Exact rule before b → ⊥
+  made-never l k Ready a b wants h s none x y = cc
+  made-never l k ZeroPage a b wants h s none x y = cc
+  made-never l k NewPage a b wants h s none x y = none-taken m (sp l None) rule before l a b (New k.0 (address_of k.1)) h s none x y
+  made-never l k (CopyOnWrite f) a b wants h s none x y = none-taken m (sp l (Some f)) rule before l a b (Copied k.0 (address_of k.1)) h s none x y
+  made-never l k (SwapIn s') a b wants h s none x y = absurd h
+  made-never l k (MapCached f) a b wants h s none x y = cc
 
-chosen-notes : (l : Ledger) (a b : List Note) (free free' : List ℕ) → ChoosesAll l (note_events (a ++ b)) free free' → Chosen l a free
-chosen-notes l a b free free' h = let parts = chosen-first l (note_events a) (note_events b) free free' (subst (λ es. ChoosesAll l es free free') (note_events-append a b) h) in (parts.0, parts.1)
-
-abbrev first_of : List ℕ → ℕ
-first_of [] = 0
-first_of (f ∷ fs) = f
-
-abbrev rest_of : List ℕ → List ℕ
-rest_of [] = []
-rest_of (f ∷ fs) = fs
-
--- ---- what a page gets, computed
-
-abbrev Outcome : Type 0
-Outcome = List Note × How
-
--- the page is served, after what came in, with what is made
-abbrev ends : Setting → Ledger → Bool → Bool → Key → List Note → List Note → Outcome
-ends m now write came k coming making = (coming ++ making ++ drop_at m write came (after_notes now making) k, Served)
-
-abbrev takes_frame : Setting → Ledger → Outcome → List Note → Option ℕ → Outcome
-takes_frame m now served coming pinned = if has_free m now then served else (coming, Starved (out_of m pinned now))
-
-abbrev making : Setting → Ledger → Bool → Bool → Key → List Note → List ℕ → Need → Outcome
-making m now write came k coming free Ready = ends m now write came k coming []
-making m now write came k coming free ZeroPage = ends m now write came k coming (Zeroed k.0 (address_of k.1) ∷ [])
-making m now write came k coming free NewPage = takes_frame m now (ends m now write came k coming (New k.0 (address_of k.1) (first_of free) ∷ [])) coming None
-making m now write came k coming free (CopyOnWrite g) = takes_frame m now (ends m now write came k coming (Copied k.0 (address_of k.1) (first_of free) ∷ [])) coming (Some g)
-making m now write came k coming free (SwapIn s) = (coming, Starved (out_of m None now))
-making m now write came k coming free (MapCached f) = (coming, Lost)
-
--- after these notes the page is in a frame, and what is still to be made is made
-abbrev then_making : Setting → Ledger → Bool → Key → List Note → List ℕ → Outcome
-then_making m l write k coming free = making m (after_notes l coming) write true k coming free (need write (after_notes l coming) (entry (after_notes l coming) k))
-
-abbrev loading : Key → Slot → ℕ → List Note
-loading k s f = Loaded s f ∷ Mapped k.0 (address_of k.1) f ∷ []
-
-abbrev outcome : Setting → Ledger → Bool → Key → List ℕ → Need → Outcome
-outcome m l write k free (SwapIn s) = takes_frame m l (then_making m l write k (loading k s (first_of free)) (rest_of free)) [] None
-outcome m l write k free (MapCached f) = then_making m l write k (Mapped k.0 (address_of k.1) f ∷ []) free
-outcome m l write k free Ready = making m l write false k [] free Ready
-outcome m l write k free ZeroPage = making m l write false k [] free ZeroPage
-outcome m l write k free NewPage = making m l write false k [] free NewPage
-outcome m l write k free (CopyOnWrite g) = making m l write false k [] free (CopyOnWrite g)
-
-abbrev pub outcome_of : Setting → World → Ledger → Bool → Key → List ℕ → Outcome
-outcome_of m w l write k free = if is_allowed w write k then outcome m l write k free (need write l (entry l k)) else ([], Denied)
-
--- ---- what is made
-
-record Taken (m : Setting) (l : Ledger) (notes : List Note) (note : ℕ → Note) : Type 0 where
-  frame : ℕ
-  alone : notes ≡ note frame ∷ []
-  some : has_free m l ≡ true
-
-taken : (m : Setting) (spared : Spared) (l : Ledger) (notes : List Note) (note : ℕ → Note) → TakesFor m spared l notes note → Taken m l notes note
-taken m spared l notes note h = record {
-  frame = h.frame;
-  alone = h.whole ∙ ap (λ ns. ns ++ note h.frame ∷ []) h.seeks;
-  some = has_free-some m l h.frame h.in_range (ap (λ ns. is_free (after_notes l ns) h.frame) (sym h.seeks) ∙ h.free);
-}
-
-making-served : (m : Setting) (now : Ledger) (write came : Bool) (k : Key) (coming : List Note) (free : List ℕ) (n : Need) (made : List Note) → IsMade m now k n made → Chosen now made free
-    → making m now write came k coming free n ≡ ends m now write came k coming made
-making-served m now write came k coming free n made h chosen = by n h
-  where
-    same : (a b : List Note) → a ≡ b → ends m now write came k coming b ≡ ends m now write came k coming a
-    same a b e = ap (ends m now write came k coming) (sym e)
-
-    frame_is : (note : ℕ → Note) (pinned : Option ℕ) → Taken m now made note → ((f : ℕ) → Chosen now (note f ∷ []) free → first_of free ≡ f)
-        → takes_frame m now (ends m now write came k coming (note (first_of free) ∷ [])) coming pinned ≡ ends m now write came k coming made
-    frame_is note pinned t first =
-        ap (λ b. if b then ends m now write came k coming (note (first_of free) ∷ []) else (coming, Starved (out_of m pinned now))) t.some
-        ∙ ap (λ f. ends m now write came k coming (note f ∷ [])) (first t.frame (subst (λ ns. Chosen now ns free) t.alone chosen))
-        ∙ same made (note t.frame ∷ []) t.alone
-
-    by : (n : Need) → IsMade m now k n made → making m now write came k coming free n ≡ ends m now write came k coming made
-    by Ready e = same made [] e
-    by ZeroPage e = same made _ e
-    by NewPage q = frame_is (New k.0 (address_of k.1)) None (taken m nothing_spared now made _ q) (λ f c. ap first_of c.1.1)
-    by (CopyOnWrite g) q = frame_is (Copied k.0 (address_of k.1)) (Some g) (taken m (pinning (Some g)) now made _ q) (λ f c. ap first_of c.1.1)
-    by (SwapIn s) q = absurd q
-    by (MapCached f) q = absurd q
-
-making-starved : (m : Setting) (now : Ledger) (write came : Bool) (k : Key) (coming : List Note) (free : List ℕ) (n : Need) → wants_frame n ≡ true → has_free m now ≡ false
-    → making m now write came k coming free n ≡ (coming, Starved (out_of m (pinned_by n) now))
-making-starved m now write came k coming free Ready h none = cc
-making-starved m now write came k coming free ZeroPage h none = cc
-making-starved m now write came k coming free NewPage h none = ap (λ b. if b then ends m now write came k coming (New k.0 (address_of k.1) (first_of free) ∷ []) else (coming, Starved (out_of m None now))) none
-making-starved m now write came k coming free (CopyOnWrite g) h none = ap (λ b. if b then ends m now write came k coming (Copied k.0 (address_of k.1) (first_of free) ∷ []) else (coming, Starved (out_of m (Some g) now))) none
-making-starved m now write came k coming free (SwapIn s) h none = refl
-making-starved m now write came k coming free (MapCached f) h none = cc
-
--- ---- what comes in
-
--- the frame that a load takes is the one that is mapped
-record Loading (m : Setting) (l : Ledger) (k : Key) (s : Slot) (coming : List Note) : Type 0 where
-  frame : ℕ
-  is : coming ≡ loading k s frame
-  some : has_free m l ≡ true
-
-loads : (m : Setting) (l : Ledger) (k : Key) (s : Slot) (coming : List Note) → ComesIn m l k (SwapIn s) coming → Loading m l k s coming
-loads m l k s coming h =
-    let t = taken m nothing_spared l h.0 (Loaded s) h.2 in
-    let at : frame_at (after_note (Loaded s t.frame) l) s ≡ Some h.1 = subst (λ ns. frame_at (after_notes l ns) s ≡ Some h.1) t.alone h.3 in
-    let here : frame_at (after_note (Loaded s t.frame) l) s ≡ Some t.frame = newest (same_slot s s) (slot-itself s) t.frame in
-    let same : t.frame ≡ h.1 = inner (sym here ∙ at) in
-    record { frame = t.frame; is = h.4 ∙ (λ i. t.alone i ++ Mapped k.0 (address_of k.1) (sym same i) ∷ []); some = t.some }
-  where
-    inner : {x y : ℕ} → Some x ≡ Some y → x ≡ y
-    inner e = cc
-
-    newest : (b : Bool) → b ≡ true → (f : ℕ) → option_map (λ (c : Cached). c.frame) (cond b (Some (record { slot = s; frame = f; stale = false })) (cached_by (λ c. same_slot s c.slot) l.cache)) ≡ Some f
-    newest true h f = refl
-    newest false h f = cc
+  -- and so where the page comes in: or nothing does
+  comes-never : (l : Ledger) (k : Key) (n : Need) (a b : List Note) → wants_frame n ≡ true → ComesIn m sp l k n a → Seeks m (sp l (pinned_by n)) l b → has_free m (after_notes l b) ≡ false → Exact rule before a → Exact rule before b → a ≡ []
+  comes-never l k (SwapIn s) a b wants h seeks none x y =
+      absurd (none-taken m (sp l None) rule before l h.0 b (Loaded s) h.2 seeks none (exact-append rule before h.0 _ (subst (Exact rule before) h.4 x)).0 y)
+  comes-never l k (MapCached f) a b wants h s none x y = cc
+  comes-never l k Ready a b wants h s none x y = cc
+  comes-never l k ZeroPage a b wants h s none x y = cc
+  comes-never l k NewPage a b wants h s none x y = h
+  comes-never l k (CopyOnWrite f) a b wants h s none x y = h
 
 -- ---- a page that is served
 
--- what comes in, and then what is made
-then-served : (m : Setting) (l : Ledger) (write : Bool) (k : Key) (coming made notes : List Note) (free mid : List ℕ)
-    → IsMade m (after_notes l coming) k (need write (after_notes l coming) (entry (after_notes l coming) k)) made → Chosen (after_notes l coming) made free
-    → notes ≡ coming ++ made ++ drop_at m write true (after_notes (after_notes l coming) made) k → then_making m l write k coming free ≡ (notes, Served)
-then-served m l write k coming made notes free mid is chosen whole = making-served m (after_notes l coming) write true k coming free _ made is chosen ∙ (λ i. (sym whole i, Served))
+abbrev need_at : Bool → Ledger → Key → Need
+need_at write l k = need write l (entry l k)
 
-served-outcome : (m : Setting) (l : Ledger) (write : Bool) (k : Key) (n : Need) (coming made notes : List Note) (free : List ℕ)
-    → need write l (entry l k) ≡ n → ComesIn m l k n coming → IsMade m (after_notes l coming) k (need write (after_notes l coming) (entry (after_notes l coming) k)) made
-    → notes ≡ coming ++ made ++ drop_at m write (was_slot n) (after_notes l (coming ++ made)) k → Chosen l notes free → outcome m l write k free n ≡ (notes, Served)
-served-outcome m l write k n coming made notes free needs comes_in is whole chosen = by n needs comes_in whole
+serves-one : (m : Setting) (sp : Sparing) (rule : SlotRule) (before : List Note) (l : Ledger) (write : Bool) (k : Key) (free : List ℕ) (a b : List Note) → Serves m sp l write k a → Serves m sp l write k b
+    → Given m rule before l free a → Given m rule before l free b → a ≡ b
+serves-one m sp rule before l write k free a b h g x y =
+    let dh = drop_at m write (was_slot (need_at write l k)) (after_notes l (h.coming ++ h.making)) k in
+    let dg = drop_at m write (was_slot (need_at write l k)) (after_notes l (g.coming ++ g.making)) k in
+    let xs = given-parts m rule before l free h.coming h.making (given-parts m rule before l free (h.coming ++ h.making) dh (given-is m rule before l free a _ h.whole x)).1 in
+    let ys = given-parts m rule before l free g.coming g.making (given-parts m rule before l free (g.coming ++ g.making) dg (given-is m rule before l free b _ g.whole y)).1 in
+    let c = comes-one m sp rule before l k free (need_at write l k) h.coming g.coming h.comes_in g.comes_in xs.1 ys.1 in
+    let now = after_notes l h.coming in
+    let mids : ys.0 ≡ xs.0 = chooses-one m l (note_events h.coming) free ys.0 xs.0 (subst (λ s. ChoosesAll m l (note_events s) free ys.0) (sym c) ys.2) xs.2 in
+    let there : Given m rule (before ++ h.coming) now ys.0 g.making = subst (λ s. Given m rule (before ++ s) (after_notes l s) ys.0 g.making) (sym c) ys.3 in
+    let made = subst (λ s. IsMade m sp (after_notes l s) k (need_at write (after_notes l s) k) g.making) (sym c) g.made in
+    let n = made-one m sp rule (before ++ h.coming) now k xs.0 (need_at write now k) h.making g.making h.made made xs.3 (subst (λ f. Given m rule (before ++ h.coming) now f g.making) mids there) in
+    h.whole ∙ (λ i. (c i ++ n i) ++ drop_at m write (was_slot (need_at write l k)) (after_notes l (c i ++ n i)) k) ∙ sym g.whole
+
+-- ---- a page that is served is not without a frame
+
+serves-never : (m : Setting) (sp : Sparing) (rule : SlotRule) (before : List Note) (l : Ledger) (write : Bool) (k : Key) (free : List ℕ) (a b : List Note) (out : OutOf) → Serves m sp l write k a → RunsOut m sp l write k b out
+    → Given m rule before l free a → Given m rule before l free b → ⊥
+serves-never m sp rule before l write k free a b out h r x y =
+    finds (by r.before)
   where
-    -- nothing comes in
-    plain : (n : Need) → need write l (entry l k) ≡ n → coming ≡ [] → notes ≡ coming ++ made ++ drop_at m write false (after_notes l (coming ++ made)) k → making m l write false k [] free n ≡ (notes, Served)
-    plain n needs none whole =
-        let is' = subst (λ n. IsMade m l k n made) needs (subst (λ c. IsMade m (after_notes l c) k (need write (after_notes l c) (entry (after_notes l c) k)) made) none is) in
-        let whole' = subst (λ c. notes ≡ c ++ made ++ drop_at m write false (after_notes l (c ++ made)) k) none whole in
-        let chosen' = chosen-notes l made (drop_at m write false (after_notes l made) k) free chosen.0 (subst (λ ns. ChoosesAll l (note_events ns) free chosen.0) whole' chosen.1) in
-        making-served m l write false k [] free n made is' chosen' ∙ (λ i. (sym whole' i, Served))
+    dh : List Note
+    dh = drop_at m write (was_slot (need_at write l k)) (after_notes l (h.coming ++ h.making)) k
 
-    by : (n : Need) → need write l (entry l k) ≡ n → ComesIn m l k n coming → notes ≡ coming ++ made ++ drop_at m write (was_slot n) (after_notes l (coming ++ made)) k → outcome m l write k free n ≡ (notes, Served)
-    by Ready needs e whole = plain Ready needs e whole
-    by ZeroPage needs e whole = plain ZeroPage needs e whole
-    by NewPage needs e whole = plain NewPage needs e whole
-    by (CopyOnWrite g) needs e whole = plain (CopyOnWrite g) needs e whole
-    by (MapCached f) needs e whole =
-        let come = Mapped k.0 (address_of k.1) f ∷ [] in
-        let now = after_notes l come in
-        let whole' = subst (λ c. notes ≡ c ++ made ++ drop_at m write true (after_notes l (c ++ made)) k) e whole in
-        let is' = subst (λ c. IsMade m (after_notes l c) k (need write (after_notes l c) (entry (after_notes l c) k)) made) e is in
-        let all = subst (λ ns. ChoosesAll l (note_events ns) free chosen.0) whole' chosen.1 in
-        let rest = chosen-notes now made (drop_at m write true (after_notes now made) k) all.0 chosen.0 all.2 in
-        then-served m l write k come made notes free free is' (subst (λ x. Chosen now made x) all.1 rest) whole'
-    by (SwapIn s) needs e whole =
-        let load = loads m l k s coming e in
-        let come = loading k s load.frame in
-        let now = after_notes l come in
-        let whole' = subst (λ c. notes ≡ c ++ made ++ drop_at m write true (after_notes l (c ++ made)) k) load.is whole in
-        let is' = subst (λ c. IsMade m (after_notes l c) k (need write (after_notes l c) (entry (after_notes l c) k)) made) load.is is in
-        let all = subst (λ ns. ChoosesAll l (note_events ns) free chosen.0) whole' chosen.1 in
-        let rest = chosen-notes now made (drop_at m write true (after_notes now made) k) all.2.0 chosen.0 all.2.2 in
-        ap (λ b. if b then then_making m l write k (loading k s (first_of free)) (rest_of free) else ([], Starved (out_of m None l))) load.some
-        ∙ (λ i. then_making m l write k (loading k s (first_of (all.1 i))) (rest_of (all.1 i)))
-        ∙ then-served m l write k come made notes all.0 all.0 is' (subst (λ x. Chosen now made x) all.2.1 rest) whole'
+    xs : (mid : List ℕ) × Given m rule before l free h.coming × ChoosesAll m l (note_events h.coming) free mid × Given m rule (before ++ h.coming) (after_notes l h.coming) mid h.making
+    xs = given-parts m rule before l free h.coming h.making (given-parts m rule before l free (h.coming ++ h.making) dh (given-is m rule before l free a _ h.whole x)).1
 
--- ---- a page that finds no frame
+    ys : (mid : List ℕ) × Given m rule before l free r.coming × ChoosesAll m l (note_events r.coming) free mid × Given m rule (before ++ r.coming) (after_notes l r.coming) mid r.sought
+    ys = given-parts m rule before l free r.coming r.sought (given-is m rule before l free b _ r.whole y)
 
-then-starved : (m : Setting) (l : Ledger) (write : Bool) (k : Key) (coming notes : List Note) (free : List ℕ) (out : OutOf)
-    → wants_frame (need write (after_notes l coming) (entry (after_notes l coming) k)) ≡ true → notes ≡ coming → has_free m (after_notes l notes) ≡ false
-    → out ≡ out_of m (pinned_by (need write (after_notes l coming) (entry (after_notes l coming) k))) (after_notes l notes) → then_making m l write k coming free ≡ (notes, Starved out)
-then-starved m l write k coming notes free out wants whole none numbers =
-    making-starved m (after_notes l coming) write true k coming free (need write (after_notes l coming) (entry (after_notes l coming) k)) wants (subst (λ ns. has_free m (after_notes l ns) ≡ false) whole none)
-    ∙ (λ i. (sym whole i, Starved (sym (numbers ∙ ap (λ ns. out_of m (pinned_by (need write (after_notes l coming) (entry (after_notes l coming) k))) (after_notes l ns)) whole) i)))
+    none : has_free m (after_notes (after_notes l r.coming) r.sought) ≡ false
+    none = r.finds.none
 
-starved-outcome : (m : Setting) (l : Ledger) (write : Bool) (k : Key) (n : Need) (coming notes : List Note) (free : List ℕ) (out : OutOf)
-    → need write l (entry l k) ≡ n → (coming ≡ []) ⊎ ComesIn m l k n coming → wants_frame (need write (after_notes l coming) (entry (after_notes l coming) k)) ≡ true
-    → notes ≡ coming → has_free m (after_notes l notes) ≡ false → out ≡ out_of m (pinned_by (need write (after_notes l coming) (entry (after_notes l coming) k))) (after_notes l notes)
-    → Chosen l notes free → outcome m l write k free n ≡ (notes, Starved out)
-starved-outcome m l write k n coming notes free out needs before wants whole none numbers chosen = by n needs before
+    by : (r.coming ≡ []) ⊎ ComesIn m sp l k (need_at write l k) r.coming → h.coming ≡ r.coming
+    by (inr q) = comes-one m sp rule before l k free (need_at write l k) h.coming r.coming h.comes_in q xs.1 ys.1
+    by (inl e) =
+        comes-never m sp rule before l k (need_at write l k) h.coming r.sought
+        (subst (λ s. wants_frame (need_at write (after_notes l s) k) ≡ true) e r.finds.wants) h.comes_in
+        (subst (λ s. Seeks m (sp (after_notes l s) (pinned_by (need_at write (after_notes l s) k))) (after_notes l s) r.sought) e r.finds.seeks)
+        (subst (λ s. has_free m (after_notes (after_notes l s) r.sought) ≡ false) e r.finds.none)
+        xs.1.exact (unprefixed r.coming e ys.3.exact) ∙ sym e
+      where
+        unprefixed : (c : List Note) → c ≡ [] → Exact rule (before ++ c) r.sought → Exact rule before r.sought
+        unprefixed c e x = subst (λ p. Exact rule p r.sought) (ap (λ s. before ++ s) e ∙ nothing_more before) x
+          where
+            nothing_more : (xs : List Note) → xs ++ [] ≡ xs
+            nothing_more [] = refl
+            nothing_more (x ∷ xs) = ap (λ ys. x ∷ ys) (nothing_more xs)
+
+    finds : h.coming ≡ r.coming → ⊥
+    finds c =
+        let made = subst (λ s. IsMade m sp (after_notes l s) k (need_at write (after_notes l s) k) h.making) c h.made in
+        made-never m sp rule (before ++ r.coming) (after_notes l r.coming) k (need_at write (after_notes l r.coming) k) h.making r.sought r.finds.wants made r.finds.seeks none
+        (subst (λ s. Exact rule (before ++ s) h.making) c xs.3.exact) ys.3.exact
+
+-- ---- two that are without a frame
+
+record Alone (m : Setting) (sp : Sparing) (rule : SlotRule) (before : List Note) (l : Ledger) (write : Bool) (k : Key) (free : List ℕ) (coming sought : List Note) (out : OutOf) : Type 0 where
+  finds : FindsNone m sp (after_notes l coming) (need_at write (after_notes l coming) k) sought out
+  first : Given m rule before l free coming
+  exact : Exact rule (before ++ coming) sought
+
+alone : (m : Setting) (sp : Sparing) (rule : SlotRule) (before : List Note) (l : Ledger) (write : Bool) (k : Key) (free : List ℕ) (a : List Note) (out : OutOf) (r : RunsOut m sp l write k a out) → Given m rule before l free a
+    → Alone m sp rule before l write k free r.coming r.sought out
+alone m sp rule before l write k free a out r x =
+    let xs = given-parts m rule before l free r.coming r.sought (given-is m rule before l free a _ r.whole x) in
+    record { finds = r.finds; first = xs.1; exact = xs.3.exact }
+
+alone-one : (m : Setting) (sp : Sparing) (rule : SlotRule) (before : List Note) (l : Ledger) (write : Bool) (k : Key) (free : List ℕ) (coming sought sought' : List Note) (out out' : OutOf)
+    → Alone m sp rule before l write k free coming sought out → Alone m sp rule before l write k free coming sought' out' → (sought ≡ sought') × (out ≡ out')
+alone-one m sp rule before l write k free coming sought sought' out out' h g =
+    let now = after_notes l coming in
+    let pinned = pinned_by (need_at write now k) in
+    let same = seeks-one m (sp now pinned) rule (before ++ coming) now sought sought' h.finds.seeks g.finds.seeks h.exact g.exact in
+    (same, h.finds.numbers ∙ ap (λ s. out_of m pinned (sp now pinned) (after_notes now s)) same ∙ sym g.finds.numbers)
+
+nothing_more : (xs : List Note) → xs ++ [] ≡ xs
+nothing_more [] = refl
+nothing_more (x ∷ xs) = ap (λ ys. x ∷ ys) (nothing_more xs)
+
+-- nothing came in for one: then nothing did for the other
+comes-nothing : (m : Setting) (sp : Sparing) (rule : SlotRule) (before : List Note) (l : Ledger) (write : Bool) (k : Key) (free : List ℕ) (coming sought coming' sought' : List Note) (out out' : OutOf)
+    → coming ≡ [] → Alone m sp rule before l write k free coming sought out → ComesIn m sp l k (need_at write l k) coming' → Alone m sp rule before l write k free coming' sought' out' → coming' ≡ []
+comes-nothing m sp rule before l write k free coming sought coming' sought' out out' e h q g =
+    let h' = subst (λ c. Alone m sp rule before l write k free c sought out) e h in
+    comes-never m sp rule before l k (need_at write l k) coming' sought h'.finds.wants q h'.finds.seeks h'.finds.none g.first.exact (subst (λ p. Exact rule p sought) (nothing_more before) h'.exact)
+
+runs_out-one : (m : Setting) (sp : Sparing) (rule : SlotRule) (before : List Note) (l : Ledger) (write : Bool) (k : Key) (free : List ℕ) (a b : List Note) (out out' : OutOf) → RunsOut m sp l write k a out → RunsOut m sp l write k b out'
+    → Given m rule before l free a → Given m rule before l free b → (a ≡ b) × (out ≡ out')
+runs_out-one m sp rule before l write k free a b out out' r q x y =
+    let h = alone m sp rule before l write k free a out r x in
+    let g = alone m sp rule before l write k free b out' q y in
+    let c = both h g r.before q.before in
+    let rest = alone-one m sp rule before l write k free r.coming r.sought q.sought out out' h (subst (λ s. Alone m sp rule before l write k free s q.sought out') (sym c) g) in
+    (r.whole ∙ (λ i. c i ++ rest.0 i) ∙ sym q.whole, rest.1)
   where
-    false_true : ◌≡◌ {A = Bool} false true → ⊥
-    false_true e = cc
+    both : Alone m sp rule before l write k free r.coming r.sought out → Alone m sp rule before l write k free q.coming q.sought out'
+        → (r.coming ≡ []) ⊎ ComesIn m sp l k (need_at write l k) r.coming → (q.coming ≡ []) ⊎ ComesIn m sp l k (need_at write l k) q.coming → r.coming ≡ q.coming
+    both h g (inl e) (inl f) = e ∙ sym f
+    both h g (inl e) (inr f) = e ∙ sym (comes-nothing m sp rule before l write k free r.coming r.sought q.coming q.sought out out' e h f g)
+    both h g (inr e) (inl f) = comes-nothing m sp rule before l write k free q.coming q.sought r.coming r.sought out' out f g e h ∙ sym f
+    both h g (inr e) (inr f) = comes-one m sp rule before l k free (need_at write l k) r.coming q.coming e f h.first g.first
 
-    -- nothing came in
-    at_once : (n : Need) → need write l (entry l k) ≡ n → coming ≡ [] → wants_frame n ≡ true → making m l write false k [] free n ≡ (notes, Starved out)
-    at_once n needs e wants' =
-        let whole' : notes ≡ [] = whole ∙ e in
-        making-starved m l write false k [] free n wants' (subst (λ ns. has_free m (after_notes l ns) ≡ false) whole' none)
-        ∙ (λ i. (sym whole' i, Starved (sym (numbers ∙ (λ j. out_of m (pinned_by (need write (after_notes l (e j)) (entry (after_notes l (e j)) k))) (after_notes l (whole' j))) ∙ ap (λ n. out_of m (pinned_by n) l) needs) i)))
+-- ---- a page, served or not
 
-    wanted : (n : Need) → need write l (entry l k) ≡ n → coming ≡ [] → wants_frame n ≡ true
-    wanted n needs e = ap wants_frame (sym needs) ∙ ap (λ c. wants_frame (need write (after_notes l c) (entry (after_notes l c) k))) (sym e) ∙ wants
+abbrev pub is_lost : Option Stop → Bool
+is_lost None = false
+is_lost (Some Denied) = false
+is_lost (Some (Starved out)) = false
+is_lost (Some Lost) = true
 
-    plain : (n : Need) → need write l (entry l k) ≡ n → coming ≡ [] → making m l write false k [] free n ≡ (notes, Starved out)
-    plain n needs e = at_once n needs e (wanted n needs e)
-
-    either : (n : Need) → (coming ≡ []) ⊎ (coming ≡ []) → coming ≡ []
-    either n (inl e) = e
-    either n (inr e) = e
-
-    by : (n : Need) → need write l (entry l k) ≡ n → (coming ≡ []) ⊎ ComesIn m l k n coming → outcome m l write k free n ≡ (notes, Starved out)
-    by Ready needs b = plain Ready needs (either Ready b)
-    by ZeroPage needs b = plain ZeroPage needs (either ZeroPage b)
-    by NewPage needs b = plain NewPage needs (either NewPage b)
-    by (CopyOnWrite g) needs b = plain (CopyOnWrite g) needs (either (CopyOnWrite g) b)
-    by (MapCached f) needs (inl e) = absurd (false_true (wanted (MapCached f) needs e))
-    by (MapCached f) needs (inr e) =
-        let come = Mapped k.0 (address_of k.1) f ∷ [] in
-        then-starved m l write k come notes free out (subst (λ c. wants_frame (need write (after_notes l c) (entry (after_notes l c) k)) ≡ true) e wants) (whole ∙ e) none
-        (numbers ∙ ap (λ c. out_of m (pinned_by (need write (after_notes l c) (entry (after_notes l c) k))) (after_notes l notes)) e)
-    by (SwapIn s) needs (inl e) =
-        let whole' : notes ≡ [] = whole ∙ e in
-        ap (λ b. if b then then_making m l write k (loading k s (first_of free)) (rest_of free) else ([], Starved (out_of m None l))) (subst (λ ns. has_free m (after_notes l ns) ≡ false) whole' none)
-        ∙ at_once (SwapIn s) needs e refl
-    by (SwapIn s) needs (inr q) =
-        let load = loads m l k s coming q in
-        let come = loading k s load.frame in
-        let all = subst (λ ns. ChoosesAll l (note_events ns) free chosen.0) (whole ∙ load.is) chosen.1 in
-        ap (λ b. if b then then_making m l write k (loading k s (first_of free)) (rest_of free) else ([], Starved (out_of m None l))) load.some
-        ∙ (λ i. then_making m l write k (loading k s (first_of (all.1 i))) (rest_of (all.1 i)))
-        ∙ then-starved m l write k come notes all.0 out (subst (λ c. wants_frame (need write (after_notes l c) (entry (after_notes l c) k)) ≡ true) load.is wants) (whole ∙ load.is) none
-        (numbers ∙ ap (λ c. out_of m (pinned_by (need write (after_notes l c) (entry (after_notes l c) k))) (after_notes l notes)) load.is)
-
--- ---- a page
-
-abbrev pub is_lost : How → Bool
-is_lost Served = false
-is_lost Denied = false
-is_lost (Starved out) = false
-is_lost Lost = true
-
--- whatever the page gets, it is this
-pub touches-outcome : (m : Setting) (w : World) (l : Ledger) (write : Bool) (k : Key) (notes : List Note) (how : How) (free : List ℕ)
-    → Touches m w l write k notes how → Chosen l notes free → is_lost how ≡ false → outcome_of m w l write k free ≡ (notes, how)
-touches-outcome m w l write k notes Served free h chosen kept =
-    ap (λ b. if b then outcome m l write k free (need write l (entry l k)) else ([], Denied)) h.0
-    ∙ served-outcome m l write k (need write l (entry l k)) h.1.coming h.1.making notes free refl h.1.comes_in h.1.made h.1.whole chosen
-touches-outcome m w l write k notes Denied free h chosen kept =
-    ap (λ b. if b then outcome m l write k free (need write l (entry l k)) else ([], Denied)) h.0 ∙ (λ i. (sym h.1 i, Denied))
-touches-outcome m w l write k notes (Starved out) free h chosen kept =
-    ap (λ b. if b then outcome m l write k free (need write l (entry l k)) else ([], Denied)) h.0
-    ∙ starved-outcome m l write k (need write l (entry l k)) h.1.coming notes free out refl h.1.before h.1.wants (h.1.whole ∙ ap (λ s. h.1.coming ++ s) h.1.seeks ∙ append-nil h.1.coming) h.1.none h.1.numbers chosen
-touches-outcome m w l write k notes Lost free h chosen kept = cc
+pub touches-one : (m : Setting) (rule : SlotRule) (before : List Note) (w : World) (l : Ledger) (write : Bool) (k : Key) (free : List ℕ) (a b : List Note) (end end' : Option Stop) → Touches m w l write k a end → Touches m w l write k b end'
+    → Given m rule before l free a → Given m rule before l free b → is_lost end ≡ false → is_lost end' ≡ false → (a ≡ b) × (end ≡ end')
+touches-one m rule before w l write k free a b None None h g x y kept kept' = (serves-one m (sparing w) rule before l write k free a b h.1 g.1 x y, refl)
+touches-one m rule before w l write k free a b None (Some Denied) h g x y kept kept' = absurd (differ (is_allowed w write k) h.0 g.0)
+  where
+    differ : (b : Bool) → b ≡ true → b ≡ false → ⊥
+    differ b h g = cc
+touches-one m rule before w l write k free a b None (Some (Starved out)) h g x y kept kept' = absurd (serves-never m (sparing w) rule before l write k free a b out h.1 g.1 x y)
+touches-one m rule before w l write k free a b None (Some Lost) h g x y kept kept' = cc
+touches-one m rule before w l write k free a b (Some Denied) None h g x y kept kept' = absurd (differ (is_allowed w write k) g.0 h.0)
+  where
+    differ : (b : Bool) → b ≡ true → b ≡ false → ⊥
+    differ b h g = cc
+touches-one m rule before w l write k free a b (Some Denied) (Some Denied) h g x y kept kept' = (h.1 ∙ sym g.1, refl)
+touches-one m rule before w l write k free a b (Some Denied) (Some (Starved out)) h g x y kept kept' = absurd (differ (is_allowed w write k) g.0 h.0)
+  where
+    differ : (b : Bool) → b ≡ true → b ≡ false → ⊥
+    differ b h g = cc
+touches-one m rule before w l write k free a b (Some Denied) (Some Lost) h g x y kept kept' = cc
+touches-one m rule before w l write k free a b (Some (Starved out)) None h g x y kept kept' = absurd (serves-never m (sparing w) rule before l write k free b a out g.1 h.1 y x)
+touches-one m rule before w l write k free a b (Some (Starved out)) (Some Denied) h g x y kept kept' = absurd (differ (is_allowed w write k) h.0 g.0)
+  where
+    differ : (b : Bool) → b ≡ true → b ≡ false → ⊥
+    differ b h g = cc
+touches-one m rule before w l write k free a b (Some (Starved out)) (Some (Starved out')) h g x y kept kept' =
+    let same = runs_out-one m (sparing w) rule before l write k free a b out out' h.1 g.1 x y in (same.0, ap (λ o. Some (Starved o)) same.1)
+touches-one m rule before w l write k free a b (Some (Starved out)) (Some Lost) h g x y kept kept' = cc
+touches-one m rule before w l write k free a b (Some Lost) end' h g x y kept kept' = cc

@@ -1,5 +1,5 @@
 -- The worked rows of munmap, mprotect and mmap at an address.
-use Rattle.std.proofs.Common.{◌≡◌, ℕ, ◌+◌, ◌-◌, Bool, true, false, cond, ◌&&◌, ◌||◌, List, [], ◌∷◌, length, Option, Some, None, option_map, refl, sym, ap, ◌∙◌, arith, if◌then◌else◌}
+use Rattle.std.proofs.Common.{◌≡◌, ℕ, ◌+◌, ◌-◌, Bool, true, false, cond, ◌&&◌, ◌||◌, List, [], ◌∷◌, length, Option, Some, None, option_map, refl, sym, ap, ◌∙◌, arith, if◌then◌else◌, inl, inr}
 use Rattle.std.specs.Prelude.{slice_index, drop}
 use Rattle.std.proofs.lemmas.Bool.Decides.{nat_tests}
 use Rattle.std.proofs.lemmas.Bool.{false≢true}
@@ -10,7 +10,7 @@ use Rattle.av_trace.specs.declared.reply.Note.TheVariants.{Zeroed, New}
 use Rattle.av_plain.specs.World.{Process, Page, no_pages, zeros, with_prot, with_pages, with_prot_on, with_bytes}
 use Rattle.av_base.specs.Page.{address_of}
 use Rattle.av_plain.specs.Event.{Noted, Zapped, Used}
-use Rattle.av_plain.specs.Fault.{Served, Denied}
+use Rattle.av_plain.specs.Fault.{Denied}
 use Rattle.av_plain.specs.Access.{Whole, Stopped}
 use Rattle.av_plain.specs.Transcript.{at_first}
 use Rattle.av_laws.specs.Examples.{Runs, machine, read_write, read_only, protected_part, past_a_hole, places, range_refusals, fixed_over}
@@ -51,17 +51,17 @@ protected_part-runs = by_steps (machine 4) (at_first (machine 4)) protected_part
       (
         Noted (New 1 0x7fffffffd000 0) ∷ Used true (1, 0x7fffffffd) ∷ [],
         1 ∷ 2 ∷ 3 ∷ [],
-        record { answer = (Stopped 0x7fffffffe Denied, (New 1 0x7fffffffd000 0 ∷ [], Served, [], (refl, record { coming = []; making = New 1 0x7fffffffd000 0 ∷ []; whole = refl; comes_in = refl; made = record { sought = []; frame = 0; seeks = refl; in_range = omega arith; free = refl; whole = refl } }), refl, ([], Denied, [], (refl, refl), refl, (refl, refl))), refl, refl); notes = refl },
-        (1 ∷ 2 ∷ 3 ∷ [], refl, (1 ∷ 2 ∷ 3 ∷ [], refl, refl)),
+        record { answer = (Stopped 0x7fffffffe Denied, inl (New 1 0x7fffffffd000 0 ∷ [], [], (refl, record { coming = []; making = New 1 0x7fffffffd000 0 ∷ []; whole = refl; comes_in = refl; made = record { sought = []; frame = 0; seeks = refl; in_range = omega arith; free = refl; whole = refl } }), refl, inr ([], Denied, (refl, refl), refl, refl)), refl, refl); notes = refl },
+        (1 ∷ 2 ∷ 3 ∷ [], (1 ∷ 2 ∷ 3 ∷ [], refl, refl), (1 ∷ 2 ∷ 3 ∷ [], (1 ∷ 2 ∷ 3 ∷ [], refl, refl), refl)),
         (
           Used false (1, 0x7fffffffd) ∷ Noted (Zeroed 1 0x7fffffffe000) ∷ Used false (1, 0x7fffffffe) ∷ [],
           1 ∷ 2 ∷ 3 ∷ [],
-          record { answer = (Whole, 1 ∷ 2 ∷ 0 ∷ 0 ∷ [], ([], Served, Noted (Zeroed 1 0x7fffffffe000) ∷ Used false (1, 0x7fffffffe) ∷ [], (refl, record { coming = []; making = []; whole = refl; comes_in = refl; made = refl }), refl, (Zeroed 1 0x7fffffffe000 ∷ [], Served, [], (refl, record { coming = []; making = Zeroed 1 0x7fffffffe000 ∷ []; whole = refl; comes_in = refl; made = refl }), refl, (refl, refl))), (refl, (refl, (refl, (refl, (refl, tt))))), refl, refl); notes = refl },
-          (1 ∷ 2 ∷ 3 ∷ [], refl, (1 ∷ 2 ∷ 3 ∷ [], refl, (1 ∷ 2 ∷ 3 ∷ [], refl, refl))),
+          record { answer = (Whole, 1 ∷ 2 ∷ 0 ∷ 0 ∷ [], inl ([], Noted (Zeroed 1 0x7fffffffe000) ∷ Used false (1, 0x7fffffffe) ∷ [], (refl, record { coming = []; making = []; whole = refl; comes_in = refl; made = refl }), refl, inl (Zeroed 1 0x7fffffffe000 ∷ [], [], (refl, record { coming = []; making = Zeroed 1 0x7fffffffe000 ∷ []; whole = refl; comes_in = refl; made = refl }), refl, (refl, refl))), (refl, (refl, (refl, (refl, (refl, tt)))), (omega arith, (omega arith, (omega arith, (omega arith, tt))))), refl, refl); notes = refl },
+          (1 ∷ 2 ∷ 3 ∷ [], (1 ∷ 2 ∷ 3 ∷ [], refl, refl), (1 ∷ 2 ∷ 3 ∷ [], (1 ∷ 2 ∷ 3 ∷ [], refl, refl), (1 ∷ 2 ∷ 3 ∷ [], (1 ∷ 2 ∷ 3 ∷ [], refl, refl), refl))),
           (
             [],
             1 ∷ 2 ∷ 3 ∷ [],
-            record { answer = (refl, record { runs = (omega arith, omega arith, (λ e p. differ p), omega arith); pages = ((0x7fffffffd, refl), (0x7fffffffe, refl), ((0x7fffffffe, refl), (0x7ffffffff, refl), tt)); cover = λ page. (λ i. cond (in_run 0x7fffffffd 1 page i) (Some read_write) (cond (in_run 0x7fffffffe 1 page i) (Some read_only) None)) ∙ parts (within 0x7fffffffd 1 page) (within 0x7fffffffe 1 page) (within 0x7fffffffd 2 page) (apart page) (whole page) ∙ written-prot (with_prot_on (with_pages no_pages 0x7fffffffd 2 (λ _. Some (zeros read_write))) 0x7fffffffe 1 read_only) 0x7fffffffdffe (1 ∷ 2 ∷ []) page }, refl); notes = refl },
+            record { answer = (refl, (record { from = 0x7fffffffd; to = 0x7fffffffe; prot = read_write } ∷ record { from = 0x7fffffffe; to = 0x7ffffffff; prot = read_only } ∷ [], refl, (omega arith, omega arith, (λ e p. differ p), omega arith), λ page. (λ i. cond (in_run 0x7fffffffd 1 page i) (Some read_write) (cond (in_run 0x7fffffffe 1 page i) (Some read_only) None)) ∙ parts (within 0x7fffffffd 1 page) (within 0x7fffffffe 1 page) (within 0x7fffffffd 2 page) (apart page) (whole page) ∙ written-prot (with_prot_on (with_pages no_pages 0x7fffffffd 2 (λ _. Some (zeros read_write))) 0x7fffffffe 1 read_only) 0x7fffffffdffe (1 ∷ 2 ∷ []) page), refl); notes = refl },
             refl,
             tt,
           ),
@@ -111,13 +111,13 @@ past_a_hole-runs = by_steps (machine 4) (at_first (machine 4)) (past_a_hole Done
         (
           [],
           0 ∷ 1 ∷ 2 ∷ 3 ∷ [],
-          record { answer = (refl, record { runs = (omega arith, omega arith, (λ e p. differ (sym p)), omega arith); pages = ((0x7fffffffc, refl), (0x7fffffffd, refl), ((0x7fffffffe, refl), (0x7ffffffff, refl), tt)); cover = λ page. (λ i. cond (in_run 0x7fffffffc 1 page i) (Some read_only) (cond (in_run 0x7fffffffe 1 page i) (Some read_write) None)) ∙ parts (within 0x7fffffffc 1 page) (within 0x7fffffffd 1 page) (within 0x7fffffffe 1 page) (within 0x7fffffffc 3 page) (apart page) (whole page) }, refl); notes = refl },
+          record { answer = (refl, (record { from = 0x7fffffffc; to = 0x7fffffffd; prot = read_only } ∷ record { from = 0x7fffffffe; to = 0x7ffffffff; prot = read_write } ∷ [], refl, (omega arith, omega arith, (λ e p. differ (sym p)), omega arith), λ page. (λ i. cond (in_run 0x7fffffffc 1 page i) (Some read_only) (cond (in_run 0x7fffffffe 1 page i) (Some read_write) None)) ∙ parts (within 0x7fffffffc 1 page) (within 0x7fffffffd 1 page) (within 0x7fffffffe 1 page) (within 0x7fffffffc 3 page) (apart page) (whole page)), refl); notes = refl },
           refl,
           (
             Noted (New 1 0x7fffffffe000 0) ∷ Used true (1, 0x7fffffffe) ∷ [],
             1 ∷ 2 ∷ 3 ∷ [],
-            record { answer = (Whole, (New 1 0x7fffffffe000 0 ∷ [], Served, [], (refl, record { coming = []; making = New 1 0x7fffffffe000 0 ∷ []; whole = refl; comes_in = refl; made = record { sought = []; frame = 0; seeks = refl; in_range = omega arith; free = refl; whole = refl } }), refl, (refl, refl)), refl, refl); notes = refl },
-            (1 ∷ 2 ∷ 3 ∷ [], refl, (1 ∷ 2 ∷ 3 ∷ [], refl, refl)),
+            record { answer = (Whole, inl (New 1 0x7fffffffe000 0 ∷ [], [], (refl, record { coming = []; making = New 1 0x7fffffffe000 0 ∷ []; whole = refl; comes_in = refl; made = record { sought = []; frame = 0; seeks = refl; in_range = omega arith; free = refl; whole = refl } }), refl, (refl, refl)), refl, refl); notes = refl },
+            (1 ∷ 2 ∷ 3 ∷ [], (1 ∷ 2 ∷ 3 ∷ [], refl, refl), (1 ∷ 2 ∷ 3 ∷ [], (1 ∷ 2 ∷ 3 ∷ [], refl, refl), refl)),
             (
               [],
               1 ∷ 2 ∷ 3 ∷ [],
@@ -126,7 +126,7 @@ past_a_hole-runs = by_steps (machine 4) (at_first (machine 4)) (past_a_hole Done
               (
                 [],
                 1 ∷ 2 ∷ 3 ∷ [],
-                record { answer = (Stopped 0x7fffffffc Denied, ([], Denied, [], (refl, refl), refl, (refl, refl)), refl, refl); notes = refl },
+                record { answer = (Stopped 0x7fffffffc Denied, inr ([], Denied, (refl, refl), refl, refl), refl, refl); notes = refl },
                 refl,
                 (
                   [],
@@ -212,7 +212,7 @@ places-runs = by_steps (machine 4) (at_first (machine 4)) places ((
                 (
                   [],
                   0 ∷ 1 ∷ 2 ∷ 3 ∷ [],
-                  record { answer = (Stopped 0x7fffffffe Denied, [], ([], Denied, [], (refl, refl), refl, (refl, refl)), (refl, tt), refl, refl); notes = refl },
+                  record { answer = (Stopped 0x7fffffffe Denied, [], inr ([], Denied, (refl, refl), refl, refl), (refl, tt, tt), refl, refl); notes = refl },
                   refl,
                   (
                     [],
@@ -222,17 +222,17 @@ places-runs = by_steps (machine 4) (at_first (machine 4)) places ((
                     (
                       Noted (Zeroed 1 0x31000) ∷ Used false (1, 0x31) ∷ [],
                       0 ∷ 1 ∷ 2 ∷ 3 ∷ [],
-                      record { answer = (Whole, 0 ∷ [], (Zeroed 1 0x31000 ∷ [], Served, [], (refl, record { coming = []; making = Zeroed 1 0x31000 ∷ []; whole = refl; comes_in = refl; made = refl }), refl, (refl, refl)), (refl, (refl, tt)), refl, refl); notes = refl },
-                      (0 ∷ 1 ∷ 2 ∷ 3 ∷ [], refl, (0 ∷ 1 ∷ 2 ∷ 3 ∷ [], refl, refl)),
+                      record { answer = (Whole, 0 ∷ [], inl (Zeroed 1 0x31000 ∷ [], [], (refl, record { coming = []; making = Zeroed 1 0x31000 ∷ []; whole = refl; comes_in = refl; made = refl }), refl, (refl, refl)), (refl, (refl, tt), (omega arith, tt)), refl, refl); notes = refl },
+                      (0 ∷ 1 ∷ 2 ∷ 3 ∷ [], (0 ∷ 1 ∷ 2 ∷ 3 ∷ [], refl, refl), (0 ∷ 1 ∷ 2 ∷ 3 ∷ [], (0 ∷ 1 ∷ 2 ∷ 3 ∷ [], refl, refl), refl)),
                       (
                         Zapped (1, 0x31) ∷ [],
                         0 ∷ 1 ∷ 2 ∷ 3 ∷ [],
                         record { answer = (refl, refl, refl); notes = refl },
-                        (0 ∷ 1 ∷ 2 ∷ 3 ∷ [], refl, refl),
+                        (0 ∷ 1 ∷ 2 ∷ 3 ∷ [], (0 ∷ 1 ∷ 2 ∷ 3 ∷ [], refl, refl), refl),
                         (
                           [],
                           0 ∷ 1 ∷ 2 ∷ 3 ∷ [],
-                          record { answer = (Stopped 0x31 Denied, [], ([], Denied, [], (refl, refl), refl, (refl, refl)), (refl, tt), refl, refl); notes = refl },
+                          record { answer = (Stopped 0x31 Denied, [], inr ([], Denied, (refl, refl), refl, refl), (refl, tt, tt), refl, refl); notes = refl },
                           refl,
                           tt,
                         ),
@@ -322,8 +322,8 @@ pub fixed_over-runs : Runs 4 (fixed_over 3 0 (Zeroed 1 0x20000 ∷ []))
 fixed_over-runs = by_steps (machine 4) (at_first (machine 4)) (fixed_over 3 0 (Zeroed 1 0x20000 ∷ [])) (topmost read_write (drop 2 (fixed_over 3 0 (Zeroed 1 0x20000 ∷ []))) (
   Noted (New 1 0x7fffffffe000 0) ∷ Used true (1, 0x7fffffffe) ∷ [],
   1 ∷ 2 ∷ 3 ∷ [],
-  record { answer = (Whole, (New 1 0x7fffffffe000 0 ∷ [], Served, [], (refl, record { coming = []; making = New 1 0x7fffffffe000 0 ∷ []; whole = refl; comes_in = refl; made = record { sought = []; frame = 0; seeks = refl; in_range = omega arith; free = refl; whole = refl } }), refl, (refl, refl)), refl, refl); notes = refl },
-  (1 ∷ 2 ∷ 3 ∷ [], refl, (1 ∷ 2 ∷ 3 ∷ [], refl, refl)),
+  record { answer = (Whole, inl (New 1 0x7fffffffe000 0 ∷ [], [], (refl, record { coming = []; making = New 1 0x7fffffffe000 0 ∷ []; whole = refl; comes_in = refl; made = record { sought = []; frame = 0; seeks = refl; in_range = omega arith; free = refl; whole = refl } }), refl, (refl, refl)), refl, refl); notes = refl },
+  (1 ∷ 2 ∷ 3 ∷ [], (1 ∷ 2 ∷ 3 ∷ [], refl, refl), (1 ∷ 2 ∷ 3 ∷ [], (1 ∷ 2 ∷ 3 ∷ [], refl, refl), refl)),
   (
     [],
     1 ∷ 2 ∷ 3 ∷ [],
@@ -332,8 +332,8 @@ fixed_over-runs = by_steps (machine 4) (at_first (machine 4)) (fixed_over 3 0 (Z
     (
       Noted (New 1 0x20000 1) ∷ Used true (1, 0x20) ∷ [],
       2 ∷ 3 ∷ [],
-      record { answer = (Whole, (New 1 0x20000 1 ∷ [], Served, [], (refl, record { coming = []; making = New 1 0x20000 1 ∷ []; whole = refl; comes_in = refl; made = record { sought = []; frame = 1; seeks = refl; in_range = omega arith; free = refl; whole = refl } }), refl, (refl, refl)), refl, refl); notes = refl },
-      (2 ∷ 3 ∷ [], refl, (2 ∷ 3 ∷ [], refl, refl)),
+      record { answer = (Whole, inl (New 1 0x20000 1 ∷ [], [], (refl, record { coming = []; making = New 1 0x20000 1 ∷ []; whole = refl; comes_in = refl; made = record { sought = []; frame = 1; seeks = refl; in_range = omega arith; free = refl; whole = refl } }), refl, (refl, refl)), refl, refl); notes = refl },
+      (2 ∷ 3 ∷ [], (2 ∷ 3 ∷ [], refl, refl), (2 ∷ 3 ∷ [], (2 ∷ 3 ∷ [], refl, refl), refl)),
       (
         [],
         2 ∷ 3 ∷ [],
@@ -343,7 +343,7 @@ fixed_over-runs = by_steps (machine 4) (at_first (machine 4)) (fixed_over 3 0 (Z
           Zapped (1, 0x20) ∷ [],
           1 ∷ 2 ∷ 3 ∷ [],
           record { answer = (Some 0x20, refl, refl, refl, refl); notes = refl },
-          (1 ∷ 2 ∷ 3 ∷ [], refl, refl),
+          (1 ∷ 2 ∷ 3 ∷ [], (2 ∷ 3 ∷ [], refl, refl), refl),
           (
             [],
             1 ∷ 2 ∷ 3 ∷ [],
@@ -352,28 +352,28 @@ fixed_over-runs = by_steps (machine 4) (at_first (machine 4)) (fixed_over 3 0 (Z
             (
               Noted (Zeroed 1 0x20000) ∷ Used false (1, 0x20) ∷ [],
               1 ∷ 2 ∷ 3 ∷ [],
-              record { answer = (Whole, 0 ∷ [], (Zeroed 1 0x20000 ∷ [], Served, [], (refl, record { coming = []; making = Zeroed 1 0x20000 ∷ []; whole = refl; comes_in = refl; made = refl }), refl, (refl, refl)), (refl, (refl, tt)), refl, refl); notes = refl },
-              (1 ∷ 2 ∷ 3 ∷ [], refl, (1 ∷ 2 ∷ 3 ∷ [], refl, refl)),
+              record { answer = (Whole, 0 ∷ [], inl (Zeroed 1 0x20000 ∷ [], [], (refl, record { coming = []; making = Zeroed 1 0x20000 ∷ []; whole = refl; comes_in = refl; made = refl }), refl, (refl, refl)), (refl, (refl, tt), (omega arith, tt)), refl, refl); notes = refl },
+              (1 ∷ 2 ∷ 3 ∷ [], (1 ∷ 2 ∷ 3 ∷ [], refl, refl), (1 ∷ 2 ∷ 3 ∷ [], (1 ∷ 2 ∷ 3 ∷ [], refl, refl), refl)),
               (
                 Noted (New 1 0x21000 1) ∷ Used true (1, 0x21) ∷ [],
                 2 ∷ 3 ∷ [],
-                record { answer = (Whole, (New 1 0x21000 1 ∷ [], Served, [], (refl, record { coming = []; making = New 1 0x21000 1 ∷ []; whole = refl; comes_in = refl; made = record { sought = []; frame = 1; seeks = refl; in_range = omega arith; free = refl; whole = refl } }), refl, (refl, refl)), refl, refl); notes = refl },
-                (2 ∷ 3 ∷ [], refl, (2 ∷ 3 ∷ [], refl, refl)),
+                record { answer = (Whole, inl (New 1 0x21000 1 ∷ [], [], (refl, record { coming = []; making = New 1 0x21000 1 ∷ []; whole = refl; comes_in = refl; made = record { sought = []; frame = 1; seeks = refl; in_range = omega arith; free = refl; whole = refl } }), refl, (refl, refl)), refl, refl); notes = refl },
+                (2 ∷ 3 ∷ [], (2 ∷ 3 ∷ [], refl, refl), (2 ∷ 3 ∷ [], (2 ∷ 3 ∷ [], refl, refl), refl)),
                 (
                   Zapped (1, 0x20) ∷ [],
                   2 ∷ 3 ∷ [],
                   record { answer = (refl, refl, refl); notes = refl },
-                  (2 ∷ 3 ∷ [], refl, refl),
+                  (2 ∷ 3 ∷ [], (2 ∷ 3 ∷ [], refl, refl), refl),
                   (
                     Used false (1, 0x21) ∷ [],
                     2 ∷ 3 ∷ [],
-                    record { answer = (Whole, 8 ∷ [], ([], Served, [], (refl, record { coming = []; making = []; whole = refl; comes_in = refl; made = refl }), refl, (refl, refl)), (refl, (refl, tt)), refl, refl); notes = refl },
-                    (2 ∷ 3 ∷ [], refl, refl),
+                    record { answer = (Whole, 8 ∷ [], inl ([], [], (refl, record { coming = []; making = []; whole = refl; comes_in = refl; made = refl }), refl, (refl, refl)), (refl, (refl, tt), (omega arith, tt)), refl, refl); notes = refl },
+                    (2 ∷ 3 ∷ [], (2 ∷ 3 ∷ [], refl, refl), refl),
                     (
                       Used false (1, 0x7fffffffe) ∷ [],
                       2 ∷ 3 ∷ [],
-                      record { answer = (Whole, 9 ∷ [], ([], Served, [], (refl, record { coming = []; making = []; whole = refl; comes_in = refl; made = refl }), refl, (refl, refl)), (refl, (refl, tt)), refl, refl); notes = refl },
-                      (2 ∷ 3 ∷ [], refl, refl),
+                      record { answer = (Whole, 9 ∷ [], inl ([], [], (refl, record { coming = []; making = []; whole = refl; comes_in = refl; made = refl }), refl, (refl, refl)), (refl, (refl, tt), (omega arith, tt)), refl, refl); notes = refl },
+                      (2 ∷ 3 ∷ [], (2 ∷ 3 ∷ [], refl, refl), refl),
                       tt,
                     ),
                   ),

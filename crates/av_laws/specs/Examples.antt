@@ -37,6 +37,7 @@ use Rattle.av_trace.specs.declared.reply.Answer.{Answer}
 use Rattle.av_trace.specs.declared.reply.Answer.TheVariants.{Done, MapAt, Data, Refused, Segv, Bus, Oom, Runs as RunCount, Counted}
 use Rattle.av_plain.specs.World.{Process, Page, no_pages, zeros, with_pages}
 use Rattle.av_plain.specs.Ledger.{Ledger, Setting, Cached, Entry, Zero, InFrame, InSlot, first_ledger}
+use Rattle.av_plain.specs.Device.{no_device, setting_of}
 use Rattle.av_plain.specs.Event.{Event, Noted, Zapped, Used, Forked, Moved, TurnedOn, TurnedOff, after}
 use Rattle.av_plain.specs.Step.{IsLegal}
 use Rattle.av_plain.specs.Transcript.{Exchange, State, IsStep, IsRun, at_first}
@@ -49,7 +50,7 @@ Allows m old row = (new : State) × IsRun m old row new
 
 -- a machine with so many frames and no device
 abbrev pub machine : ℕ → Setting
-machine frames = record { frames = frames; sizes = []; headers = Some (λ _. None) }
+machine frames = setting_of frames no_device
 
 -- and so from the first state of such a machine on
 abbrev pub Runs : ℕ → List Exchange → Type 0
@@ -367,7 +368,11 @@ exit_shared =
 
 -- a machine with so many frames, and a device whose header tells its pages and slots
 abbrev pub with_swap : ℕ → ℕ → ℕ → Setting
-with_swap frames pages slots = record { frames = frames; sizes = pages ∷ []; headers = Some (λ _. Some (record { pages = pages; slots = slots; bad = [] })) }
+with_swap frames pages slots = record {
+  frames = frames;
+  sizes = λ k. if k == 0 then Some pages else None;
+  headers = Some (λ k. if k == 0 then Some (record { pages = pages; slots = slots; bad = [] }) else None);
+}
 
 -- a slot of the one area
 abbrev pub slot : ℕ → Slot
@@ -479,7 +484,7 @@ load_without_copy =
 
 -- a machine whose device doesn't tell its pages
 abbrev pub untold : Setting
-untold = record { frames = 4; sizes = 8 ∷ []; headers = None }
+untold = record { frames = 4; sizes = λ k. if k == 0 then Some 8 else None; headers = None }
 
 -- it may give any bytes, until they are written
 abbrev pub load_unclaimed : List Exchange
@@ -597,7 +602,7 @@ copied_and_gone =
     ∷ (Used false (1, 0x10), record first_ledger { entries = ((1, 0x10), Zero) ∷ [] })
     ∷ (Noted (New 1 0x10000 2), record first_ledger { entries = ((1, 0x10), InFrame 2 false) ∷ []; inactive = 2 ∷ [] })
     ∷ (Used false (1, 0x10), record first_ledger { entries = ((1, 0x10), InFrame 2 true) ∷ []; inactive = 2 ∷ [] })
-    ∷ (Forked 1 4, record first_ledger { entries = ((1, 0x10), InFrame 2 true) ∷ ((4, 0x10), InFrame 2 false) ∷ []; inactive = 2 ∷ [] })
+    ∷ (Forked 1 4 (record { page = 0x10; as_zeros = false } ∷ []), record first_ledger { entries = ((1, 0x10), InFrame 2 true) ∷ ((4, 0x10), InFrame 2 false) ∷ []; inactive = 2 ∷ [] })
     ∷ (Noted (Copied 1 0x10000 3), record first_ledger { entries = ((1, 0x10), InFrame 3 false) ∷ ((4, 0x10), InFrame 2 false) ∷ []; inactive = 3 ∷ 2 ∷ [] })
     ∷ (Moved 4 1 0x10 0x20, record first_ledger { entries = ((1, 0x10), InFrame 3 false) ∷ ((4, 0x20), InFrame 2 false) ∷ []; inactive = 3 ∷ 2 ∷ [] })
     ∷ (Zapped (1, 0x10), record first_ledger { entries = ((4, 0x20), InFrame 2 false) ∷ []; inactive = 2 ∷ [] })

@@ -51,8 +51,8 @@ pub fn swap_rows_run()
 pub fn ledger_rows_lead()
     ensures out_and_back { Leads (ledger_with (InFrame 5 true) [] [] (5 ∷ []) (6 ∷ [])) out_and_back }
     ensures copied_and_gone { Leads first_ledger copied_and_gone }
-    ensures taken_and_freed { ChoosesAll first_ledger taken_and_freed (0 ∷ 1 ∷ 2 ∷ []) (1 ∷ 0 ∷ 2 ∷ []) }
-    ensures dropped_and_freed { ChoosesAll orphan (Noted (Dropped (slot 1)) ∷ []) (2 ∷ []) (5 ∷ 2 ∷ []) }
+    ensures taken_and_freed { ChoosesAll (machine 3) first_ledger taken_and_freed (0 ∷ 1 ∷ 2 ∷ []) (1 ∷ 0 ∷ 2 ∷ []) }
+    ensures dropped_and_freed { ChoosesAll (machine 6) orphan (Noted (Dropped (slot 1)) ∷ []) (2 ∷ []) (5 ∷ 2 ∷ []) }
 {}
 
 /// Runs that differ from these in one place may not be.

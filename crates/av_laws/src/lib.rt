@@ -26,7 +26,7 @@ ghost use Rattle.av_plain.specs.Map.{StopsAtHole};
 ghost use Rattle.av_plain.specs.Transcript.{Exchange, State, IsStep, IsRun, at_first};
 ghost use Rattle.av_plain.specs.Sound.{AllSound};
 ghost use Rattle.av_plain.specs.Choice.{ListsFree};
-ghost use Rattle.av_laws.specs.Determined.{Tells, IsClaimed, is_bus, NoBus, SameCommands};
+ghost use Rattle.av_laws.specs.Determined.{Tells, IsClaimed, SlotRule, IsExact, AreExact, SameCommands};
 
 pub use examples::{
     a_page_in_writeback_is_sound, changed_exits_and_reports_are_refused,
@@ -54,19 +54,23 @@ pub fn numbers_add_up()
         → out.pinned + out.noslot + out.fault ≡ m.frames }
 {}
 
-/// Where the devices tell their pages, each byte of the memories is claimed, and no fault of a device is reported, a
-/// command has one reply, and leaves one state: nothing is left to the kernel's choice.
+/// Where the devices tell their pages, each byte of the memories is claimed, no fault of a device
+/// shows, and slots are chosen by one rule, a command has one reply, and leaves one state: nothing is
+/// left to the kernel's choice.
 pub fn replies_are_determined()
-    ensures { (m : Setting) (old new other : State) (command : Command) (reply reply' : Reply) → Tells m
-        → IsClaimed old.world → is_bus reply.answer ≡ false → is_bus reply'.answer ≡ false
+    ensures { (m : Setting) (old new other : State) (command : Command) (reply reply' : Reply)
+        (rule : SlotRule) → Tells m → IsClaimed old.world
+        → IsExact rule (record { command = command; reply = reply })
+        → IsExact rule (record { command = command; reply = reply' })
         → IsStep m old command reply new → IsStep m old command reply' other
         → (reply ≡ reply') × (new ≡ other) }
 {}
 
 /// So there is one run of some commands, from nothing on.
 pub fn runs_are_determined()
-    ensures { (m : Setting) (exchanges exchanges' : List Exchange) (new other : State) → Tells m
-        → SameCommands exchanges exchanges' → NoBus exchanges → NoBus exchanges'
+    ensures { (m : Setting) (rules : ℕ → SlotRule) (exchanges exchanges' : List Exchange)
+        (new other : State) → Tells m → SameCommands exchanges exchanges'
+        → AreExact rules 0 exchanges → AreExact rules 0 exchanges'
         → IsRun m (at_first m) exchanges new → IsRun m (at_first m) exchanges' other
         → (exchanges ≡ exchanges') × (new ≡ other) }
 {}

@@ -85,6 +85,11 @@ accesses-append m w w' l p [] ys es fs end same a b =
     subst (λ x. Accesses m w l p ys (x ++ fs) end) (sym a.0) (accesses-alike m w w' l p ys fs end same (subst (λ x. Accesses m w' (after_all l x) p ys fs end) a.0 b))
 accesses-append m w w' l p (page ∷ xs) ys es fs end same (inl a) b =
     let here = page_events page.0 (p, page.1) a.0 None in
-    inl (a.0, a.1 ++ fs, a.2, ap (λ x. x ++ fs) a.3 ∙ append_assoc here a.1 fs,
-    accesses-append m w w' (after_all l here) p xs ys a.1 fs end same a.4 (subst (λ x. Accesses m w' x p ys fs end) (ap (after_all l) a.3 ∙ after_all-append l here a.1) b))
+    inl (
+      a.0,
+      a.1 ++ fs,
+      a.2,
+      ap (λ x. x ++ fs) a.3 ∙ append_assoc here a.1 fs,
+      accesses-append m w w' (after_all l here) p xs ys a.1 fs end same a.4 (subst (λ x. Accesses m w' x p ys fs end) (ap (after_all l) a.3 ∙ after_all-append l here a.1) b),
+    )
 accesses-append m w w' l p (page ∷ xs) ys es fs end same (inr a) b = absurd (not_whole page.1 a.1 a.4)

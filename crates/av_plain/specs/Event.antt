@@ -77,8 +77,10 @@ settle f l = if is_free l f then off_lists f l else l
 -- the cached slot is stale, or is not
 abbrev pub with_stale : Bool → Slot → Ledger → Ledger
 with_stale stale s l =
-    record l { cache = map
-    (λ (c : Cached). if same_slot s c.slot then record c { stale = stale } else c) l.cache }
+    record l {
+      cache = map
+          (λ (c : Cached). if same_slot s c.slot then record c { stale = stale } else c) l.cache;
+    }
 
 -- the slot is cached at the frame
 abbrev pub into_cache : Slot → ℕ → Bool → Ledger → Ledger

@@ -18,8 +18,11 @@ without_bytes p = record p { bytes = λ _. None }
 
 -- the pages whose entry names the slot lose what they claimed
 abbrev pub without_claims : Ledger → Slot → World → World
-without_claims l s w = map (λ (q : ℕ × Process). (q.0, λ page.
-    if is_of_slot s (entry l (q.0, page)) then option_map without_bytes (q.1 page) else q.1 page)) w
+without_claims l s w = map (λ (q : ℕ × Process). (
+  q.0,
+  λ page.
+      if is_of_slot s (entry l (q.0, page)) then option_map without_bytes (q.1 page) else q.1 page,
+)) w
 
 -- what an event makes unclaimed: a load does, the others do not
 abbrev pub after_load : Ledger → Event → World → World

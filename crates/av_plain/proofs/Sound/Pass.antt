@@ -24,7 +24,6 @@ use Rattle.av_plain.proofs.Sound.Pages.{settle-entries}
 use Rattle.av_plain.proofs.Sound.Steps.{Alike, Completed, Keeps, UnmapKept, alike-by, alike-end_note, alike-started, alike-then, all_landed, completes-kept, ended, flights-end_note, flights-started, holders-dropped, keeps-alike, keeps-dropped, keeps-then, settle-flight, slots-dropped, unmap_notes-kept}
 use Rattle.av_plain.proofs.Zap.{in_range}
 
-
 -- ---- lists of frames that have their turn
 
 pub count-reverse : {X : Type 0} (p : X → Bool) (xs ys : List X) → how_many p (reverse_aux xs ys) ≡ how_many p xs + how_many p ys
@@ -192,7 +191,7 @@ turns-kept m sp l (f ∷ fs) notes s grounded ready out r = stuck (λ l' ns s' g
                 by true is = let e = sym h ∙ ap sp.frame (same-is g f is) ∙ apart in cc
                 by false is = refl
 
-count-filter : (q : ℕ → Bool) (g : ℕ) (fs : List ℕ) → how_many (λ y. g == y) (filter q fs) ≡ cond (q g) (how_many (λ y. g == y) fs) 0
+pub count-filter : (q : ℕ → Bool) (g : ℕ) (fs : List ℕ) → how_many (λ y. g == y) (filter q fs) ≡ cond (q g) (how_many (λ y. g == y) fs) 0
 count-filter q g [] = elim (q g) as (λ b. ◌≡◌ {A = ℕ} 0 (cond b 0 0)) [ true ↦ refl | false ↦ refl ]
 count-filter q g (f ∷ fs) = by (q f) refl (g == f) refl (q g) refl (count-filter q g fs)
   where
@@ -212,6 +211,16 @@ less_filter q g fs = by (q g) (count-filter q g fs)
     by true e = omega (arith, e)
     by false e = omega (arith, e)
 
+-- each frame that has its turn is in use, and has one
+pub all-ready : (m : Setting) (sp : Spared) (l : Ledger) → IsSound m l → AreReady l (frames_in_turn sp l)
+all-ready m sp l s g =
+    let a = how_many-append (λ y. g == y) (reverse l.inactive) (reverse l.active) in
+    let b = count-reverse (λ y. g == y) l.inactive [] in
+    let c = count-reverse (λ y. g == y) l.active [] in
+    let d = s.listed g in
+    let e = less_filter (λ f. not (sp.frame f)) g (reverse l.inactive ++ reverse l.active) in
+    omega (arith, a, b, c, d, e)
+
 pub pass-kept : (m : Setting) (sp : Spared) (l : Ledger) (notes : List Note) → IsSound m l → IsPass m sp l notes → Passed m sp.frame l (after_notes l notes)
 pass-kept m sp l notes s r =
     subst (λ ns. Passed m sp.frame l (after_notes l ns)) (sym r.2) (subst (Passed m sp.frame l) (sym (after_notes-append l r.0 r.1)) (goes (has_free m (after_notes l r.0)) r.4))
@@ -223,13 +232,7 @@ pass-kept m sp l notes s r =
     done = completes-kept m l l.flight r.0 s r.3
 
     ready : AreReady (after_notes l r.0) (frames_in_turn sp (after_notes l r.0))
-    ready g =
-        let a = how_many-append (λ y. g == y) (reverse (after_notes l r.0).inactive) (reverse (after_notes l r.0).active) in
-        let b = count-reverse (λ y. g == y) (after_notes l r.0).inactive [] in
-        let c = count-reverse (λ y. g == y) (after_notes l r.0).active [] in
-        let d = done.sound.listed g in
-        let e = less_filter (λ f. not (sp.frame f)) g (reverse (after_notes l r.0).inactive ++ reverse (after_notes l r.0).active) in
-        omega (arith, a, b, c, d, e)
+    ready = all-ready m sp (after_notes l r.0) done.sound
 
     out : (fs : List ℕ) → LeavesOut sp.frame (filter (λ f. not (sp.frame f)) fs)
     out fs g h = count-filter (λ f. not (sp.frame f)) g fs ∙ ap (λ b. cond (not b) (how_many (λ y. g == y) fs) 0) h
@@ -249,8 +252,11 @@ pass-kept m sp l notes s r =
     goes true q = subst (λ ns. Passed m sp.frame l (after_notes (after_notes l r.0) ns)) (sym q) (record { sound = done.sound; keeps = done.keeps sp.frame; calm = λ g. record { grounded = all_landed m l (after_notes l r.0) done; counts = counted g } })
     goes false q =
         let later = turns-kept m sp (after_notes l r.0) (frames_in_turn sp (after_notes l r.0)) r.1 done.sound (all_landed m l (after_notes l r.0) done) ready (out (reverse (after_notes l r.0).inactive ++ reverse (after_notes l r.0).active)) q in
-        record { sound = later.sound; keeps = keeps-then sp.frame l (after_notes l r.0) _ (done.keeps sp.frame) later.keeps;
-          calm = λ g. let c = later.calm (all_landed m l (after_notes l r.0) done) in record { grounded = c.grounded; counts = λ x h. c.counts x (counted g x h) } }
+        record {
+          sound = later.sound;
+          keeps = keeps-then sp.frame l (after_notes l r.0) _ (done.keeps sp.frame) later.keeps;
+          calm = λ g. let c = later.calm (all_landed m l (after_notes l r.0) done) in record { grounded = c.grounded; counts = λ x h. c.counts x (counted g x h) };
+        }
 
 pub seeks-kept : (m : Setting) (sp : Spared) (l : Ledger) (notes : List Note) → IsSound m l → Seeks m sp l notes → Passed m sp.frame l (after_notes l notes)
 seeks-kept m sp l notes s r = by (has_free m l) r
