@@ -5,8 +5,8 @@ use Rattle.av_base.specs.declared.slot.Slot.{Slot}
 use Rattle.std.proofs.lemmas.Bool.Decides.{nat_tests}
 use Rattle.av_base.specs.Words.{with_at, numbers}
 use Rattle.av_trace.specs.declared.reply.OutOf.{OutOf}
-use Rattle.av_trace.specs.declared.reply.Note.{Note}
-use Rattle.av_trace.specs.declared.reply.Note.TheVariants.{Zeroed}
+use Rattle.av_trace.specs.declared.note.Note.{Note}
+use Rattle.av_trace.specs.declared.note.Note.TheVariants.{Zeroed}
 use Rattle.av_pagetable.specs.Entries.{has}
 use Rattle.av_plain.specs.World.{World, pages}
 use Rattle.av_plain.specs.Ledger.{Ledger, Setting, is_free, Key, key_cmp, Entry, Zero, InFrame, entry, map_count, names_frame, names_slot}

@@ -3,7 +3,7 @@ use Rattle.std.specs.Prelude.{◌≡◌, ℕ, ◌+◌, ◌-◌, ◌<◌, ◌∷�
 use Rattle.std.specs.declared.alloc.AllocError.{AllocError}
 use Rattle.av_base.specs.declared.prot.Prot.{Prot}
 use Rattle.av_base.specs.Words.{with_at, is_in}
-use Rattle.av_trace.specs.declared.reply.Note.{Note}
+use Rattle.av_trace.specs.declared.note.Note.{Note}
 use Rattle.av_pagetable.specs.declared.pte.Pte.{Pte}
 use Rattle.av_pagetable.specs.declared.pte.Pte.TheVariants.{Empty, Zero as ZeroPte, Here, Away}
 use Rattle.av_pagetable.specs.Entries.{with_entry}

@@ -9,8 +9,8 @@ use Rattle.av_vmatree.specs.Spans.{IsFree}
 use Rattle.av_merge.specs.Pages.{IsReached}
 use Rattle.av_trace.specs.declared.command.Command.{Command}
 use Rattle.av_trace.specs.declared.command.Command.TheVariants.{Mmap, Munmap, Mprotect}
-use Rattle.av_trace.specs.declared.command.Place.{Place}
-use Rattle.av_trace.specs.declared.command.Place.TheVariants.{Auto, At, Fixed, NoReplace}
+use Rattle.av_trace.specs.declared.place.Place.{Place}
+use Rattle.av_trace.specs.declared.place.Place.TheVariants.{Auto, At, Fixed, NoReplace}
 use Rattle.av_trace.specs.declared.reply.Errno.{Errno}
 use Rattle.av_trace.specs.declared.reply.Errno.TheVariants.{Esrch, Enomem, Einval}
 use Rattle.av_trace.specs.declared.reply.Reply.{Reply}

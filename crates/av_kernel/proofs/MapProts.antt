@@ -9,12 +9,11 @@ use Rattle.av_base.specs.Limits.{low_page, top_page}
 use Rattle.av_base.specs.Words.{within}
 use Rattle.av_vma.specs.declared.area.Area.{Area}
 use Rattle.av_vmatree.specs.Spans.{IsFree}
-use Rattle.av_merge.specs.Laid.{AreLaid}
-use Rattle.av_merge.specs.Mapping.{Mapping, mapping, mapping_in, with_prot}
-use Rattle.av_merge.specs.Pages.{Pages, has_page, cut_at, emptied, placed, joined_around, fresh_area, IsReached}
-use Rattle.av_merge.specs.Process.{IsWhole}
+use Rattle.av_vma.specs.Pages.{AreLaid, Pages, has_page, cut_at, emptied, placed, joined_around, fresh_area, IsWhole, mapped, unmapped, pages_changed, to_prot}
+use Rattle.av_merge.specs.Mapping.{Mapping, mapping, mapping_in, remapped, IsRemapped}
+use Rattle.av_merge.specs.Pages.{IsReached}
 use Rattle.av_merge.proofs.Mappings.{around_maps, cut_out_maps, placed_maps}
-use Rattle.av_spaces.specs.Spaces.{Spaces, pages_of, is_taken, mapped, unmapped, AreThese, AreProtected, IsChanged}
+use Rattle.av_spaces.specs.Spaces.{Spaces, pages_of, is_taken, AreThese, IsChanged}
 use Rattle.av_spaces.proofs.Rising.{laid}
 use Rattle.av_plain.specs.Stands.{prot_of}
 use Rattle.av_reclaim.specs.Mem.{range_of, ranges_of}
@@ -70,7 +69,7 @@ prots_cut on from n new laid is page =
 -- ---- protect
 
 prots_protected : (on : Pages) (from to past : ℕ) (prot : Prot) (new : Pages) → IsReached (has_area on) from to past
-    → ((page : ℕ) → mapping new page ≡ cond (within from (past - from) page) (option_map (with_prot prot) (mapping on page)) (mapping on page))
+    → IsRemapped from past (to_prot prot) on new
     → (page : ℕ) → prots_on new page ≡ set_on from (past - from) (Some prot) (prots_on on) page
 prots_protected on from to past prot new reached is page =
     prots_mapped new page ∙ ap (option_map prot_mapped) (is page) ∙ by (within from (past - from) page) refl
@@ -81,12 +80,12 @@ prots_protected on from to past prot new reached is page =
     upper : (from past page : ℕ) → within from (past - from) page ≡ true → page < past
     upper from past page h = grind (arith, nat_tests)
 
-    there : (o : Option Area) → is_some o ≡ true → option_map prot_mapped (option_map (with_prot prot) (option_map (mapping_in page) o)) ≡ Some prot
+    there : (o : Option Area) → is_some o ≡ true → option_map prot_mapped (option_map (remapped (to_prot prot)) (option_map (mapping_in page) o)) ≡ Some prot
     there None h = absurd (false≢true h)
     there (Some area) h = refl
 
     by : (b : Bool) → within from (past - from) page ≡ b
-        → option_map prot_mapped (cond b (option_map (with_prot prot) (mapping on page)) (mapping on page)) ≡ cond b (Some prot) (prots_on on page)
+        → option_map prot_mapped (cond b (option_map (remapped (to_prot prot)) (mapping on page)) (mapping on page)) ≡ cond b (Some prot) (prots_on on page)
     by true e = there (on page) (reached.all page (lower from (past - from) page e) (upper from past page e))
     by false e = sym (prots_mapped on page)
 
@@ -184,7 +183,7 @@ pub mapped-prots : (s t : Spaces) (p from n : ℕ) (prot : Prot) → 1 ≤ n →
 mapped-prots s t p from n prot some low high free h = has_prots s t p (AreThese (mapped p from (from + n) prot (pages_of s p))) (set_on from n (Some prot) (prot_of (ranges_of s p))) h
     (λ page. prots_placed p (pages_of s p) from n prot (pages_of t p) (laid s p h.were_rising) some low high free h.pages page ∙ as_ranges s p from n page (Some prot))
 
-pub protected-prots : (s t : Spaces) (p from to past : ℕ) (prot : Prot) → IsReached (is_taken s p) from to past → IsChanged s t p (AreProtected from past prot (pages_of s p))
+pub protected-prots : (s t : Spaces) (p from to past : ℕ) (prot : Prot) → IsReached (is_taken s p) from to past → IsChanged s t p (AreThese (pages_changed (to_prot prot) from (past - from) (pages_of s p))) → IsRemapped from past (to_prot prot) (pages_of s p) (pages_of t p)
     → HasProts s t p (set_on from (past - from) (Some prot) (prot_of (ranges_of s p)))
-protected-prots s t p from to past prot reached h = has_prots s t p (AreProtected from past prot (pages_of s p)) (set_on from (past - from) (Some prot) (prot_of (ranges_of s p))) h
-    (λ page. prots_protected (pages_of s p) from to past prot (pages_of t p) reached h.pages page ∙ as_ranges s p from (past - from) page (Some prot))
+protected-prots s t p from to past prot reached h mapped = has_prots s t p (AreThese (pages_changed (to_prot prot) from (past - from) (pages_of s p))) (set_on from (past - from) (Some prot) (prot_of (ranges_of s p))) h
+    (λ page. prots_protected (pages_of s p) from to past prot (pages_of t p) reached mapped page ∙ as_ranges s p from (past - from) page (Some prot))

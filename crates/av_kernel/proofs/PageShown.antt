@@ -2,7 +2,7 @@
 use Rattle.std.proofs.Common.{◌≡◌, ℕ, suc, ◌+◌, ◌-◌, ◌*◌, ◌/◌, ◌%◌, ◌<◌, ◌≤◌, false, List, [], ◌∷◌, ◌++◌, length, get_or, take, drop, replicate, Option, Some, None, sym, ap, subst, ◌∙◌, arith}
 use Rattle.std.proofs.lemmas.List.{get_or-take, get_or-drop, get_or-replicate, length-take-le, length-drop, length-replicate}
 use Rattle.std.specs.Prelude.{IfSome, option_and_then}
-use Rattle.av_trace.specs.declared.reply.Note.{Note}
+use Rattle.av_trace.specs.declared.note.Note.{Note}
 use Rattle.av_plain.specs.World.{Process, Page, pages, byte_at, Shows}
 use Rattle.av_plain.specs.Event.{after_all}
 use Rattle.av_plain.specs.Fault.{Served, page_events}

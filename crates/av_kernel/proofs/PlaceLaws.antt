@@ -7,8 +7,8 @@ use Rattle.av_vma.specs.Gap.{IsRoom, IsGap}
 use Rattle.av_vmatree.specs.Spans.{IsFree, IsMet}
 use Rattle.av_trace.specs.declared.reply.Errno.{Errno}
 use Rattle.av_trace.specs.declared.reply.Errno.TheVariants.{Eperm, Enomem, Eexist, Einval}
-use Rattle.av_trace.specs.declared.command.Place.{Place}
-use Rattle.av_trace.specs.declared.command.Place.TheVariants.{Auto, At, Fixed, NoReplace}
+use Rattle.av_trace.specs.declared.place.Place.{Place}
+use Rattle.av_trace.specs.declared.place.Place.TheVariants.{Auto, At, Fixed, NoReplace}
 use Rattle.av_plain.specs.World.{Process, is_mapped, meets}
 use Rattle.av_base.specs.Page.{page_of, pages_of, address_of, is_on_page}
 use Rattle.av_plain.specs.Refusal.{Tests, top, low, fixed_tests, refusal}

@@ -5,7 +5,7 @@ use Rattle.av_vma.specs.declared.area.Area.{Area}
 use Rattle.av_trace.specs.declared.command.Command.TheVariants.{Maps}
 use Rattle.av_trace.specs.declared.reply.Answer.TheVariants.{Runs}
 use Rattle.av_trace.specs.declared.reply.Errno.TheVariants.{Esrch}
-use Rattle.av_trace.specs.declared.reply.Row.{Row}
+use Rattle.av_trace.specs.declared.row.Row.{Row}
 use Rattle.av_spaces.specs.Spaces.{areas_of}
 use Rattle.av_plain.specs.World.{lives}
 use Rattle.av_plain.specs.Refusal.{tests, refusal, Refuses}

@@ -7,10 +7,10 @@ use Rattle.std.specs.Prelude.{map}
 use Rattle.av_base.specs.declared.prot.Prot.{Prot}
 use Rattle.av_vma.specs.declared.area.Area.{Area}
 use Rattle.av_vma.specs.Join.{first_of, past_of}
-use Rattle.av_merge.specs.Process.{IsWhole}
+use Rattle.av_vma.specs.Pages.{IsWhole}
 use Rattle.av_spaces.specs.Spaces.{IsOwn, AreRising}
-use Rattle.av_trace.specs.declared.reply.Row.{Row}
-use Rattle.av_trace.specs.declared.reply.Row.TheVariants.{Run}
+use Rattle.av_trace.specs.declared.row.Row.{Row}
+use Rattle.av_trace.specs.declared.row.Row.TheVariants.{Run}
 use Rattle.av_plain.specs.Stands.{Range, AreApart}
 use Rattle.av_plain.proofs.Report.Runs.{run_of, joined, all_joined, longest, on-pages, cover}
 use Rattle.av_reclaim.specs.Mem.{range_of}

@@ -1,7 +1,7 @@
 -- What a read or write does at one page.
 use Rattle.std.specs.Prelude.{◌≡◌, ℕ, ◌+◌, ◌++◌, Bool, true, List, length, Option, Some, None}
 use Rattle.av_base.specs.Page.{address_of}
-use Rattle.av_trace.specs.declared.reply.Note.{Note}
+use Rattle.av_trace.specs.declared.note.Note.{Note}
 use Rattle.av_plain.specs.World.{World, pages, Shows}
 use Rattle.av_plain.specs.Event.{after_all}
 use Rattle.av_plain.specs.Fault.{Touches, How, Served, page_events}

@@ -3,8 +3,8 @@ use Rattle.std.specs.Prelude.{◌≡◌, ◌⊎◌, ℕ, ◌+◌, Bool, not, [],
 use Rattle.av_base.specs.Page.{page_of, is_on_page}
 use Rattle.av_trace.specs.declared.reply.Errno.{Errno}
 use Rattle.av_trace.specs.declared.reply.Errno.TheVariants.{Einval, Enomem}
-use Rattle.av_trace.specs.declared.command.Place.{Place}
-use Rattle.av_trace.specs.declared.command.Place.TheVariants.{Fixed}
+use Rattle.av_trace.specs.declared.place.Place.{Place}
+use Rattle.av_trace.specs.declared.place.Place.TheVariants.{Fixed}
 use Rattle.av_vmatree.specs.Spans.{IsFree}
 use Rattle.av_spaces.specs.Spaces.{Spaces, is_taken}
 use Rattle.av_plain.specs.World.{Process, is_mapped}

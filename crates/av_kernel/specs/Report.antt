@@ -1,6 +1,6 @@
 -- What `maps` shows of the areas of a process.
 use Rattle.std.specs.Prelude.{◌≡◌, ℕ, List}
-use Rattle.av_trace.specs.declared.reply.Row.{Row}
+use Rattle.av_trace.specs.declared.row.Row.{Row}
 use Rattle.av_plain.specs.Report.{AreLongestRuns, AreOnPages, prot_in_rows}
 use Rattle.av_plain.specs.Stands.{Range, prot_in}
 

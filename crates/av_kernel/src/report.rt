@@ -6,7 +6,7 @@ ghost use Rattle.av_reclaim.specs.Mem.{range_of, IsSteady};
 ghost use Rattle.av_kernel.specs.Step.{Does};
 ghost use Rattle.av_kernel.specs.Report.{AreRuns};
 ghost use Rattle.av_trace.specs.declared.command.Command.TheVariants as commands;
-ghost use Rattle.av_trace.specs.declared.reply.Row.TheVariants as row;
+ghost use Rattle.av_trace.specs.declared.row.Row.TheVariants as row;
 
 use crate::process::check_lives;
 use crate::refusal::Refusal;

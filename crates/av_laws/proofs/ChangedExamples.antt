@@ -6,17 +6,17 @@ use Rattle.std.specs.Prelude.{◌≡◌, ◌==◌, ℕ, zero, suc, ◌+◌, ◌*
 use Rattle.std.proofs.Common.{arith, sym, ap, subst, ◌∙◌, inl, inr, append-nil}
 use Rattle.av_vma.specs.Gap.{IsGap}
 use Rattle.av_trace.specs.declared.command.Command.TheVariants.{Spawn, Mmap, Read, Write}
-use Rattle.av_trace.specs.declared.command.Place.TheVariants.{Auto, Fixed, NoReplace}
+use Rattle.av_trace.specs.declared.place.Place.TheVariants.{Auto, Fixed, NoReplace}
 use Rattle.av_trace.specs.declared.reply.Errno.{Errno}
 use Rattle.av_trace.specs.declared.reply.Errno.TheVariants.{Eperm, Esrch, Eagain, Enomem, Eexist, Einval}
-use Rattle.av_trace.specs.declared.reply.Row.TheVariants.{Entry}
+use Rattle.av_trace.specs.declared.row.Row.TheVariants.{Entry}
 use Rattle.av_trace.specs.declared.reply.Reply.{Reply}
 use Rattle.av_trace.specs.declared.reply.Answer.{Answer}
 use Rattle.av_trace.specs.declared.reply.Answer.TheVariants.{Done, MapAt, Data, Refused, Segv, Bus, Oom, Counted}
 use Rattle.av_base.specs.Page.{page_size}
 use Rattle.av_base.specs.Words.{numbers}
-use Rattle.av_trace.specs.declared.reply.Note.{Note}
-use Rattle.av_trace.specs.declared.reply.Note.TheVariants.{Aged, Copied, Dropped, Failed, Kept, Loaded, Mapped, New, Put, Started, Unmapped, Written, Zeroed}
+use Rattle.av_trace.specs.declared.note.Note.{Note}
+use Rattle.av_trace.specs.declared.note.Note.TheVariants.{Aged, Copied, Dropped, Failed, Kept, Loaded, Mapped, New, Put, Started, Unmapped, Written, Zeroed}
 use Rattle.av_laws.specs.Determined.{AreExact, FollowRule, IsClaimed, PutsAt, SameCommands, SlotRule, Tells}
 use Rattle.av_laws.specs.Examples.{Allows, Forbids, Refutes, Rejects, Runs, after_fork, answered, copies, crowd, denied_write, empty, first_run, fixed_over, in_swap_cache, in_writeback, leaked, load_when_half_full, machine, one_frame, page_with, paged_out, past_a_hole, read_write, refused_write, slot, untouched, with_byte, with_swap, written_in_vain, wrong_frame, wrong_load, wrong_place}
 use Rattle.av_plain.specs.Access.{Accesses, End, Stopped, Whole, page_events, pages_of_access, read_answer, write_answer}

@@ -6,18 +6,18 @@ use Rattle.std.specs.Ordering.{nat_cmp, eq_by_cmp}
 use Rattle.av_vma.specs.Gap.{IsGap}
 use Rattle.av_trace.specs.declared.command.Command.{Command}
 use Rattle.av_trace.specs.declared.command.Command.TheVariants.{Spawn, Exit, Mmap, Munmap, Mprotect, Read, Write, Maps, Stat}
-use Rattle.av_trace.specs.declared.command.Place.{Place}
-use Rattle.av_trace.specs.declared.command.Place.TheVariants.{Auto, At, Fixed, NoReplace}
+use Rattle.av_trace.specs.declared.place.Place.{Place}
+use Rattle.av_trace.specs.declared.place.Place.TheVariants.{Auto, At, Fixed, NoReplace}
 use Rattle.av_trace.specs.declared.reply.Errno.{Errno}
 use Rattle.av_trace.specs.declared.reply.Errno.TheVariants.{Enomem}
-use Rattle.av_trace.specs.declared.reply.Row.{Row}
+use Rattle.av_trace.specs.declared.row.Row.{Row}
 use Rattle.av_trace.specs.declared.reply.Reply.{Reply}
 use Rattle.av_trace.specs.declared.reply.Answer.{Answer}
 use Rattle.av_trace.specs.declared.reply.Answer.TheVariants.{Done, Refused, Runs}
 use Rattle.av_base.specs.Page.{address_of, page_of, page_size, pages_of}
 use Rattle.av_base.specs.Words.{numbers, within}
 use Rattle.av_base.specs.declared.prot.Prot.{Prot}
-use Rattle.av_trace.specs.declared.reply.Note.{Note}
+use Rattle.av_trace.specs.declared.note.Note.{Note}
 use Rattle.av_laws.specs.Determined.{AreExact, IsClaimed, IsExact, SameCommands, SlotRule, Tells}
 use Rattle.av_plain.specs.Access.{Accesses, End, Reads, Stopped, Whole, after_write, bytes_before, bytes_served, first_bytes, page_events, pages_of_access, read_answer, stop_answer, write_answer}
 use Rattle.av_plain.specs.Choice.{ChoosesAll}

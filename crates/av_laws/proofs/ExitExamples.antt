@@ -1,6 +1,6 @@
 -- The worked rows of exit, maps and stat.
-use Rattle.av_trace.specs.declared.reply.Row.TheVariants.{Run, Entry}
-use Rattle.av_trace.specs.declared.reply.Row.{Row}
+use Rattle.av_trace.specs.declared.row.Row.TheVariants.{Run, Entry}
+use Rattle.av_trace.specs.declared.row.Row.{Row}
 use Rattle.std.proofs.Common.{◌≡◌, ℕ, ◌+◌, Bool, true, false, cond, ◌&&◌, ◌||◌, nat_le, nat_lt, [], ◌∷◌, Option, Some, None, is_some, option_map, refl, sym, ap, ◌∙◌, arith, inl, inr, List, length, map, if◌then◌else◌, ◌==◌}
 use Rattle.std.specs.Prelude.{drop}
 use Rattle.std.proofs.lemmas.Bool.Decides.{nat_tests}
@@ -9,7 +9,7 @@ use Rattle.av_trace.specs.declared.command.Command.TheVariants.{Maps}
 use Rattle.av_base.specs.Page.{address_of}
 use Rattle.av_base.specs.Words.{within}
 use Rattle.av_base.specs.declared.prot.Prot.{Prot}
-use Rattle.av_trace.specs.declared.reply.Note.TheVariants.{Dropped, New}
+use Rattle.av_trace.specs.declared.note.Note.TheVariants.{Dropped, New}
 use Rattle.av_laws.specs.Examples.{Allows, Forbids, Runs, after_fork, exit_and_again, exit_drops, exit_frees, exit_in_writeback, exit_paged_out, exit_shared, falling_runs, in_swap_cache, in_writeback, joined_runs, machine, paged_out, part_of_page, read_only, read_write, run_left_out, run_too_long, slot, split_run, two_kinds, two_protections, two_runs, with_swap}
 use Rattle.av_plain.specs.Access.{Stopped, Whole}
 use Rattle.av_plain.specs.Event.{Noted, Used, Zapped}

@@ -7,9 +7,9 @@ use Rattle.av_base.specs.declared.prot.Prot.{Prot}
 use Rattle.av_base.specs.Limits.{low_page, top_page}
 use Rattle.av_vma.specs.Gap.{IsRoom, IsGap}
 use Rattle.av_trace.specs.declared.command.Command.TheVariants.{Spawn, Mmap}
-use Rattle.av_trace.specs.declared.command.Place.TheVariants.{Auto}
+use Rattle.av_trace.specs.declared.place.Place.TheVariants.{Auto}
 use Rattle.av_trace.specs.declared.reply.Answer.TheVariants.{Done, MapAt}
-use Rattle.av_trace.specs.declared.reply.Note.TheVariants.{Zeroed, New}
+use Rattle.av_trace.specs.declared.note.Note.TheVariants.{Zeroed, New}
 use Rattle.av_plain.specs.World.{no_pages, zeros, with_pages}
 use Rattle.av_plain.specs.Ledger.{Setting, first_ledger}
 use Rattle.av_plain.specs.Event.{Event, Noted, Used, after_all}

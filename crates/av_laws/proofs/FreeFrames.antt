@@ -5,15 +5,15 @@ use Rattle.std.specs.Prelude.{MatchBool, MatchOption}
 use Rattle.std.specs.FinMap.Entries.{is_sorted}
 use Rattle.av_trace.specs.declared.command.Command.{Command}
 use Rattle.av_trace.specs.declared.command.Command.TheVariants.{Spawn, Exit, Mmap, Munmap, Mprotect, Read, Write, Maps, Stat}
-use Rattle.av_trace.specs.declared.command.Place.TheVariants.{Auto, At, Fixed, NoReplace}
+use Rattle.av_trace.specs.declared.place.Place.TheVariants.{Auto, At, Fixed, NoReplace}
 use Rattle.av_trace.specs.declared.reply.Errno.{Errno}
 use Rattle.av_trace.specs.declared.reply.Reply.{Reply}
 use Rattle.av_base.specs.Page.{address_of, page_of, pages_of}
 use Rattle.av_base.specs.Words.{how_many, is_in, numbers}
 use Rattle.av_base.specs.declared.slot.Slot.{Slot}
-use Rattle.av_trace.specs.declared.reply.Cause.TheVariants.{NoSlot, Referenced, WriteStarted, Writeback}
-use Rattle.av_trace.specs.declared.reply.Note.{Note}
-use Rattle.av_trace.specs.declared.reply.Note.TheVariants.{Aged, Copied, Dropped, Failed, Kept, Loaded, Mapped, New, Put, Started, Unmapped, Written, Zeroed}
+use Rattle.av_trace.specs.declared.note.Cause.TheVariants.{NoSlot, Referenced, WriteStarted, Writeback}
+use Rattle.av_trace.specs.declared.note.Note.{Note}
+use Rattle.av_trace.specs.declared.note.Note.TheVariants.{Aged, Copied, Dropped, Failed, Kept, Loaded, Mapped, New, Put, Started, Unmapped, Written, Zeroed}
 use Rattle.av_plain.specs.Access.{Accesses, End, page_events, pages_of_access}
 use Rattle.av_plain.specs.Choice.{ChoosesAll, ListsFree, frame_in_note, new_free}
 use Rattle.av_plain.specs.Event.{Event, Used, after_all, after_note, after_notes, after_use, after_use_of, after_zap, change_entries, if_some, key_at, note_events, off_cache, set_entry, when, with_stale, without_seen}

@@ -1,6 +1,6 @@
 -- The ledger, event by event.
 use Rattle.std.specs.Prelude.{true, [], ◌∷◌, refl}
-use Rattle.av_trace.specs.declared.reply.Note.TheVariants.{Dropped}
+use Rattle.av_trace.specs.declared.note.Note.TheVariants.{Dropped}
 use Rattle.av_plain.specs.Ledger.{InFrame, first_ledger}
 use Rattle.av_plain.specs.Event.{Noted}
 use Rattle.av_plain.specs.Choice.{ChoosesAll}

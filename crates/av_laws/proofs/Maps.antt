@@ -2,7 +2,7 @@
 use Rattle.std.proofs.Common.{◌≡◌, ℕ, ◌<◌, ◌≤◌, Bool, true, false, cond, ◌&&◌, nat_le, nat_lt, List, [], ◌∷◌, map, Some, None, refl, sym, ap, ◌∙◌, arith, ◌==◌}
 use Rattle.std.proofs.lemmas.Bool.Decides.{nat_tests}
 use Rattle.av_base.specs.declared.prot.Prot.{Prot}
-use Rattle.av_trace.specs.declared.reply.Row.{Row}
+use Rattle.av_trace.specs.declared.row.Row.{Row}
 use Rattle.av_plain.specs.World.{Process}
 use Rattle.av_plain.specs.Report.{Range, prot_in, AreLongest, row_of, AreMaps}
 

@@ -2,8 +2,8 @@
 use Rattle.std.proofs.Common.{◌≡◌, ◌⊎◌, inl, inr, ℕ, Bool, true, false, List, [], ◌∷◌, ◌++◌, Option, Some, None, refl, sym, ap, subst, ◌∙◌}
 use Rattle.av_base.specs.Page.{address_of}
 use Rattle.av_trace.specs.declared.reply.OutOf.{OutOf}
-use Rattle.av_trace.specs.declared.reply.Note.{Note}
-use Rattle.av_trace.specs.declared.reply.Note.TheVariants.{New, Copied, Loaded, Mapped}
+use Rattle.av_trace.specs.declared.note.Note.{Note}
+use Rattle.av_trace.specs.declared.note.Note.TheVariants.{New, Copied, Loaded, Mapped}
 use Rattle.av_plain.specs.World.{World}
 use Rattle.av_plain.specs.Ledger.{Ledger, Setting, Key, entry, frame_at, has_free}
 use Rattle.av_plain.specs.Event.{after_notes, note_events}

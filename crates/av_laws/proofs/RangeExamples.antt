@@ -6,7 +6,7 @@ use Rattle.std.proofs.lemmas.Bool.{false≢true}
 use Rattle.av_base.specs.declared.prot.Prot.{Prot}
 use Rattle.av_base.specs.Words.{within}
 use Rattle.av_trace.specs.declared.reply.Answer.TheVariants.{Done}
-use Rattle.av_trace.specs.declared.reply.Note.TheVariants.{Zeroed, New}
+use Rattle.av_trace.specs.declared.note.Note.TheVariants.{Zeroed, New}
 use Rattle.av_plain.specs.World.{Process, Page, no_pages, zeros, with_prot, with_pages, with_prot_on, with_bytes}
 use Rattle.av_base.specs.Page.{address_of}
 use Rattle.av_plain.specs.Event.{Noted, Zapped, Used}

@@ -1,7 +1,7 @@
 -- The worked rows from states with shared frames and swap.
 use Rattle.std.specs.Prelude.{true, false, [], ◌∷◌, Some, refl}
 use Rattle.std.proofs.Common.{arith, inl, inr}
-use Rattle.av_trace.specs.declared.reply.Note.TheVariants.{Copied, Loaded, Mapped, Dropped}
+use Rattle.av_trace.specs.declared.note.Note.TheVariants.{Copied, Loaded, Mapped, Dropped}
 use Rattle.av_plain.specs.Event.{Noted, Used}
 use Rattle.av_plain.specs.Fault.{Starved, Lost}
 use Rattle.av_plain.specs.Access.{Whole, Stopped}

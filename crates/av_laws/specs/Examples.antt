@@ -22,16 +22,16 @@ use Rattle.std.specs.Prelude.{◌≡◌, ℕ, ◌-◌, Bool, true, false, ◌==�
 use Rattle.av_base.specs.declared.prot.Prot.{Prot}
 use Rattle.av_base.specs.declared.slot.Slot.{Slot}
 use Rattle.av_base.specs.Words.{numbers}
-use Rattle.av_trace.specs.declared.command.Place.TheVariants.{Auto, At, Fixed, NoReplace}
+use Rattle.av_trace.specs.declared.place.Place.TheVariants.{Auto, At, Fixed, NoReplace}
 use Rattle.av_trace.specs.declared.command.Command.{Command}
 use Rattle.av_trace.specs.declared.command.Command.TheVariants.{Spawn, Exit, Mmap, Munmap, Mprotect, Read, Write, Maps, Stat}
 use Rattle.av_trace.specs.declared.reply.Errno.TheVariants.{Eperm, Esrch, Eagain, Enomem, Eexist, Einval}
-use Rattle.av_trace.specs.declared.reply.Note.{Note}
-use Rattle.av_trace.specs.declared.reply.Note.TheVariants.{Zeroed, New, Copied, Loaded, Mapped, Put, Unmapped, Started, Written, Failed, Dropped, Kept, Aged}
-use Rattle.av_trace.specs.declared.reply.Cause.TheVariants.{Writeback, Referenced, NoSlot, WriteStarted}
+use Rattle.av_trace.specs.declared.note.Note.{Note}
+use Rattle.av_trace.specs.declared.note.Note.TheVariants.{Zeroed, New, Copied, Loaded, Mapped, Put, Unmapped, Started, Written, Failed, Dropped, Kept, Aged}
+use Rattle.av_trace.specs.declared.note.Cause.TheVariants.{Writeback, Referenced, NoSlot, WriteStarted}
 use Rattle.av_trace.specs.declared.reply.Reply.{Reply}
-use Rattle.av_trace.specs.declared.reply.Row.{Row}
-use Rattle.av_trace.specs.declared.reply.Row.TheVariants.{Run}
+use Rattle.av_trace.specs.declared.row.Row.{Row}
+use Rattle.av_trace.specs.declared.row.Row.TheVariants.{Run}
 use Rattle.av_trace.specs.declared.reply.Totals.{Totals}
 use Rattle.av_trace.specs.declared.reply.Answer.{Answer}
 use Rattle.av_trace.specs.declared.reply.Answer.TheVariants.{Done, MapAt, Data, Refused, Segv, Bus, Oom, Runs as RunCount, Counted}

@@ -1,11 +1,11 @@
 //! Worked examples: what the definitions say of single runs. Each contract is a few of them, by name.
 
 ghost use Rattle.std.specs.Prelude.{List, [], ◌∷◌, true};
-ghost use Rattle.av_trace.specs.declared.command.Place.TheVariants.{Auto, Fixed, NoReplace};
+ghost use Rattle.av_trace.specs.declared.place.Place.TheVariants.{Auto, Fixed, NoReplace};
 ghost use Rattle.av_trace.specs.declared.command.Command.TheVariants.{Spawn, Exit, Mmap, Munmap, Read, Write, Maps, Stat};
 ghost use Rattle.av_trace.specs.declared.reply.Errno.TheVariants.{Eperm, Esrch, Eagain, Enomem, Eexist, Einval};
-ghost use Rattle.av_trace.specs.declared.reply.Note.TheVariants.{Zeroed, New, Copied, Mapped, Dropped};
-ghost use Rattle.av_trace.specs.declared.reply.Row.TheVariants.{Entry};
+ghost use Rattle.av_trace.specs.declared.note.Note.TheVariants.{Zeroed, New, Copied, Mapped, Dropped};
+ghost use Rattle.av_trace.specs.declared.row.Row.TheVariants.{Entry};
 ghost use Rattle.av_trace.specs.declared.reply.Answer.TheVariants.{Done, MapAt, Data, Refused, Segv, Bus, Oom, Counted};
 ghost use Rattle.av_plain.specs.Ledger.{InFrame, first_ledger};
 ghost use Rattle.av_plain.specs.Event.{Noted};

@@ -15,7 +15,7 @@ ghost use Rattle.av_trace.specs.declared.reply.Errno.{Errno};
 ghost use Rattle.av_trace.specs.declared.reply.OutOf.{OutOf};
 ghost use Rattle.av_trace.specs.declared.reply.Answer.TheVariants.{Refused, Oom};
 ghost use Rattle.av_trace.specs.declared.reply.Reply.{Reply};
-ghost use Rattle.av_trace.specs.declared.reply.Row.{Row};
+ghost use Rattle.av_trace.specs.declared.row.Row.{Row};
 ghost use Rattle.av_plain.specs.World.{World, Process};
 ghost use Rattle.av_plain.specs.Ledger.{Ledger, Setting};
 ghost use Rattle.av_plain.specs.Event.{Event, after_all};

@@ -3,8 +3,8 @@ use Rattle.std.proofs.Common.{◌≡◌, ℕ, ◌+◌, ◌<◌, Bool, true, fals
 use Rattle.std.specs.Prelude.{MatchBool, MatchOption, IsTrue}
 use Rattle.std.specs.List.{list_all}
 use Rattle.av_base.specs.declared.slot.Slot.{Slot}
-use Rattle.av_trace.specs.declared.reply.Note.{Note}
-use Rattle.av_trace.specs.declared.reply.Note.TheVariants.{Dropped}
+use Rattle.av_trace.specs.declared.note.Note.{Note}
+use Rattle.av_trace.specs.declared.note.Note.TheVariants.{Dropped}
 use Rattle.av_base.specs.Words.{how_many, numbers}
 use Rattle.av_plain.specs.Ledger.{Ledger, Setting, SwapArea, Cached, slot_of, cached_by, has_free, no_slot, is_free, is_open, free_slots}
 use Rattle.av_plain.specs.Event.{after_notes}

@@ -19,11 +19,11 @@ use Rattle.std.specs.Ordering.{nat_cmp, is_lt, eq_by_cmp}
 use Rattle.std.specs.FinMap.Entries.{find, is_sorted, below_all}
 use Rattle.av_trace.specs.declared.command.Command.{Command}
 use Rattle.av_trace.specs.declared.command.Command.TheVariants.{Spawn, Exit, Mmap, Munmap, Mprotect, Read, Write, Maps, Stat}
-use Rattle.av_trace.specs.declared.command.Place.{Place}
-use Rattle.av_trace.specs.declared.command.Place.TheVariants.{Auto, At, Fixed, NoReplace}
+use Rattle.av_trace.specs.declared.place.Place.{Place}
+use Rattle.av_trace.specs.declared.place.Place.TheVariants.{Auto, At, Fixed, NoReplace}
 use Rattle.av_trace.specs.declared.reply.Errno.{Errno}
 use Rattle.av_trace.specs.declared.reply.Errno.TheVariants.{Esrch, Eagain, Enomem, Eexist}
-use Rattle.av_trace.specs.declared.reply.Row.{Row}
+use Rattle.av_trace.specs.declared.row.Row.{Row}
 use Rattle.av_trace.specs.declared.reply.Reply.{Reply}
 use Rattle.av_trace.specs.declared.reply.Answer.{Answer}
 use Rattle.av_trace.specs.declared.reply.Answer.TheVariants.{Done, Refused}
@@ -31,7 +31,7 @@ use Rattle.av_base.specs.Limits.{most_processes}
 use Rattle.av_base.specs.Page.{address_of, page_of, pages_of}
 use Rattle.av_base.specs.Words.{within}
 use Rattle.av_base.specs.declared.slot.Slot.{Slot}
-use Rattle.av_trace.specs.declared.reply.Note.TheVariants.{Aged, Copied, Dropped, Failed, Kept, Loaded, Mapped, New, Put, Started, Unmapped, Written, Zeroed}
+use Rattle.av_trace.specs.declared.note.Note.TheVariants.{Aged, Copied, Dropped, Failed, Kept, Loaded, Mapped, New, Put, Started, Unmapped, Written, Zeroed}
 use Rattle.av_plain.specs.Access.{Accesses, End, after_write, first_bytes, pages_of_access}
 use Rattle.av_plain.specs.Event.{Event, Forked, Moved, Noted, TurnedOff, TurnedOn, Used, Zapped, after, after_all}
 use Rattle.av_plain.specs.Ledger.{Entry, Ledger, Setting, entry, first_ledger}

@@ -8,7 +8,7 @@ use Rattle.std.specs.Ordering.{is_eq}
 use Rattle.std.specs.FinMap.Entries.{find, where_key, is_sorted, find-where_key, is_sorted-where_key}
 use Rattle.av_base.specs.declared.slot.Slot.{Slot}
 use Rattle.av_base.specs.Words.{how_many, within}
-use Rattle.av_trace.specs.declared.reply.Note.TheVariants.{Dropped}
+use Rattle.av_trace.specs.declared.note.Note.TheVariants.{Dropped}
 use Rattle.av_plain.specs.Ledger.{Ledger, Key, key_cmp, Entry, Zero, InFrame, InSlot, entry, map_count, slot_entries, names_frame, names_slot, is_free, is_orphan, frame_at, slot_of}
 use Rattle.av_plain.specs.Event.{Zapped, after, after_all, settle, settle_entry, off_lists, off_cache, if_some, frame_of, after_zap, when, note_events}
 use Rattle.av_plain.specs.Zap.{keys_of_process, keys_in, orphan_drop, slot_behind_key, zap_of, zaps_of}

@@ -5,8 +5,8 @@ use Rattle.av_base.specs.Page.{page_of, place_in_page, address_of, pages_of}
 use Rattle.av_base.specs.Words.{numbers}
 use Rattle.av_trace.specs.declared.reply.Answer.{Answer}
 use Rattle.av_trace.specs.declared.reply.Answer.TheVariants.{Done, Data, Segv, Bus, Oom}
-use Rattle.av_trace.specs.declared.reply.Note.{Note}
-use Rattle.av_trace.specs.declared.reply.Row.{Row}
+use Rattle.av_trace.specs.declared.note.Note.{Note}
+use Rattle.av_trace.specs.declared.row.Row.{Row}
 use Rattle.av_plain.specs.World.{Process, World, pages, with_bytes, Shows, set_process}
 use Rattle.av_plain.specs.Ledger.{Setting, Ledger, Key}
 use Rattle.av_plain.specs.Event.{Event, Used, note_events, after_all}

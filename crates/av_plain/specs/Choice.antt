@@ -2,8 +2,8 @@
 -- not part of what makes a reply legal.
 use Rattle.std.specs.Prelude.{◌≡◌, ℕ, not, ◌&&◌, ◌==◌, nat_lt, if◌then◌else◌, List, [], ◌∷◌, ◌++◌, filter, Option, Some, None, MatchOption}
 use Rattle.av_base.specs.Words.{how_many, numbers}
-use Rattle.av_trace.specs.declared.reply.Note.{Note}
-use Rattle.av_trace.specs.declared.reply.Note.TheVariants.{New, Copied, Loaded}
+use Rattle.av_trace.specs.declared.note.Note.{Note}
+use Rattle.av_trace.specs.declared.note.Note.TheVariants.{New, Copied, Loaded}
 use Rattle.av_plain.specs.Ledger.{Ledger, Setting, is_free}
 use Rattle.av_plain.specs.Event.{Event, Noted, after}
 

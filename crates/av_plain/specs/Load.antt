@@ -2,7 +2,7 @@
 -- not known any more.
 use Rattle.std.specs.Prelude.{ℕ, Bool, false, if◌then◌else◌, List, [], ◌∷◌, map, Option, Some, None, is_some, option_map}
 use Rattle.av_base.specs.declared.slot.Slot.{Slot}
-use Rattle.av_trace.specs.declared.reply.Note.TheVariants.{Loaded}
+use Rattle.av_trace.specs.declared.note.Note.TheVariants.{Loaded}
 use Rattle.av_plain.specs.Event.{Noted, Event, after}
 use Rattle.av_plain.specs.Ledger.{entry, Entry, Setting, names_slot, Ledger}
 use Rattle.av_plain.specs.World.{Process, World, Page}

@@ -4,8 +4,8 @@ use Rattle.std.specs.Prelude.{◌≡◌, ℕ, ◌<◌, Bool, true, false, not, �
 use Rattle.av_base.specs.Words.{how_many, numbers}
 use Rattle.av_base.specs.declared.slot.Slot.{Slot}
 use Rattle.av_trace.specs.declared.reply.OutOf.{OutOf}
-use Rattle.av_trace.specs.declared.reply.Note.{Note}
-use Rattle.av_trace.specs.declared.reply.Note.TheVariants.{Put, Unmapped, Started, Written, Failed, Dropped}
+use Rattle.av_trace.specs.declared.note.Note.{Note}
+use Rattle.av_trace.specs.declared.note.Note.TheVariants.{Put, Unmapped, Started, Written, Failed, Dropped}
 use Rattle.av_plain.specs.Ledger.{Ledger, Setting, map_count, slot_of, is_free, is_stale, is_orphan, has_free, no_slot, may_give}
 use Rattle.av_plain.specs.Event.{after_note, after_notes, when}
 

@@ -7,7 +7,7 @@ use Rattle.av_trace.specs.declared.reply.Answer.{Answer}
 use Rattle.av_trace.specs.declared.reply.Answer.TheVariants.{Bus, Done, MapAt, Refused, Counted}
 use Rattle.av_trace.specs.declared.reply.Errno.TheVariants.{Enomem, Eio}
 use Rattle.av_trace.specs.declared.reply.Reply.{Reply}
-use Rattle.av_trace.specs.declared.reply.Row.{Row}
+use Rattle.av_trace.specs.declared.row.Row.{Row}
 use Rattle.av_plain.specs.Access.{WritesPages, ReadsPages, after_write, first_bytes}
 use Rattle.av_plain.specs.Event.{notes_of, Event}
 use Rattle.av_plain.specs.Ledger.{Setting, Ledger}

@@ -8,7 +8,7 @@ use Rattle.av_base.specs.declared.prot.Prot.{Prot}
 use Rattle.av_base.specs.Words.{is_in, within}
 use Rattle.av_vma.specs.declared.area.Area.{Area}
 use Rattle.av_vma.specs.Join.{first_of, past_of}
-use Rattle.av_merge.specs.Pages.{has_page}
+use Rattle.av_vma.specs.Pages.{has_page}
 use Rattle.av_frames.specs.Store.{Store, Seen, seen, fresh as fresh_frames}
 use Rattle.av_pagetable.specs.declared.pte.Pte.{Pte}
 use Rattle.av_pagetable.specs.Entries.{ProcessTables, entry_at, has, with_entry}

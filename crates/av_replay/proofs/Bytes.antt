@@ -2,7 +2,9 @@
 use Rattle.std.proofs.Common.{◌≡◌, ℕ, ◌+◌, ◌≤◌, List, [], ◌++◌, Option, Some, None, refl, sym, ap, ◌∙◌, append_assoc, append-nil, arith, take, drop}
 use Rattle.std.proofs.lemmas.List.{take-append-drop, take-take, drop-take}
 use Rattle.std.specs.Prelude.{option_map}
-use Rattle.av_swapdev.specs.Outside.{Rose, in_front, Took, Gained}
+use Rattle.av_io.specs.Count.{Rose}
+use Rattle.av_io.specs.Source.{in_front, Took}
+use Rattle.av_io.specs.Sink.{Gained}
 
 pub Took-then : (a b c : Option (List ℕ)) (x y : List ℕ) → Took a b x → Took b c y → Took a c (x ++ y)
 Took-then a b None x y p q = p ∙ ap (option_map (λ (rest : List ℕ). x ++ rest)) q

@@ -4,14 +4,15 @@ use Rattle.std.specs.Option.{option_to_list}
 use Rattle.std.proofs.lemmas.List.{take_all, take_at, drop_at}
 use Rattle.std.proofs.lemmas.List.Elements.{All-nil}
 use Rattle.std.proofs.lemmas.List.Concat.{flat_map-append}
-use Rattle.av_trace.specs.Text.{text_of}
+use Rattle.av_trace.specs.Print.{text_of}
 use Rattle.av_plain.specs.Transcript.{Exchange, State, at_first}
 use Rattle.av_kernel.specs.Machine.{Machine}
 use Rattle.av_kernel.specs.View.{setting}
 use Rattle.av_replay.specs.declared.status.Status.{Status}
 use Rattle.av_replay.specs.declared.status.Status.TheVariants as statuses
 use Rattle.av_replay.specs.declared.turn.Turn.TheVariants as turns
-use Rattle.av_swapdev.specs.Outside.{Took, Gained, HasEnded}
+use Rattle.av_io.specs.Source.{Took, HasEnded}
+use Rattle.av_io.specs.Sink.{Gained}
 use Rattle.av_replay.specs.Line.{IsLine}
 use Rattle.av_replay.specs.Turn.{Moment, undone, texts, IsEnding, IsBad, TakesLine, Waits, IsCutShort, Turned, Finishes}
 use Rattle.av_replay.specs.Headline.{joined, Transcribes, Run, Replays, IsLeft, StopsAt, IsCut, Ends, Headline}

@@ -1,7 +1,7 @@
 -- The bytes from one place to another in a longer list, where the list or the places change.
 use Rattle.std.proofs.Common.{◌≡◌, ℕ, ◌+◌, ◌-◌, ◌≤◌, List, ◌++◌, Option, length, take, drop, sym, ap, ◌∙◌, arith, length-take-le, length-drop}
 use Rattle.std.proofs.lemmas.List.{drop-take, drop-drop}
-use Rattle.av_swapdev.specs.Outside.{in_front, Took}
+use Rattle.av_io.specs.Source.{in_front, Took}
 use Rattle.av_replay.proofs.Bytes.{in_front-then, take-add}
 
 -- more was read behind them

@@ -4,12 +4,13 @@ use Rattle.std.specs.Prelude.{replicate}
 use Rattle.std.specs.List.{AllByRecursion}
 use Rattle.std.specs.Option.{option_to_list}
 use Rattle.std.proofs.lemmas.List.Concat.{flat_map-append}
-use Rattle.av_trace.specs.Text.{text_of}
+use Rattle.av_trace.specs.Print.{text_of}
 use Rattle.av_plain.specs.Ledger.{Setting}
 use Rattle.av_plain.specs.Transcript.{Exchange, State, IsRun, at_first}
 use Rattle.av_kernel.specs.Kernel.{Stands}
 use Rattle.av_kernel.specs.View.{setting}
-use Rattle.av_swapdev.specs.Outside.{in_front, Took, Gained}
+use Rattle.av_io.specs.Source.{in_front, Took}
+use Rattle.av_io.specs.Sink.{Gained}
 use Rattle.av_replay.specs.Line.{IsLine}
 use Rattle.av_replay.specs.Turn.{Moment, undone, texts, tallied, Commands, Answers, TakesLine}
 use Rattle.av_replay.specs.Headline.{joined, Transcribes, Run, IsLeft}

@@ -3,7 +3,8 @@ use Rattle.std.proofs.Common.{◌≡◌, ℕ, ◌+◌, ◌<◌, List, [], ◌∷
 use Rattle.std.proofs.lemmas.List.{take_all, drop_all}
 use Rattle.av_replay.specs.declared.turn.Doing.TheVariants as doings
 use Rattle.av_replay.specs.declared.turn.Turn.TheVariants as turns
-use Rattle.av_swapdev.specs.Outside.{in_front, Took, Gained, HasEnded}
+use Rattle.av_io.specs.Source.{in_front, Took, HasEnded}
+use Rattle.av_io.specs.Sink.{Gained}
 use Rattle.av_replay.specs.Line.{IsLine, HasLine}
 use Rattle.av_replay.specs.Turn.{Moment, undone, Did, IsEnding, IsCutShort, Turned}
 use Rattle.av_replay.proofs.Bytes.{in_front-then}

@@ -2,14 +2,15 @@
 use Rattle.std.specs.Prelude.{◌≡◌, ◌≢◌, ℕ, ◌+◌, ◌^◌, ◌<◌, ◌≤◌, List, [], ◌∷◌, ◌++◌, ◌⊎◌, length, take, Option, None, IfSome, unwrap_or, replicate}
 use Rattle.std.specs.List.{flat_map, AllByRecursion}
 use Rattle.std.specs.Option.{option_to_list}
-use Rattle.av_trace.specs.Text.{text_of}
+use Rattle.av_trace.specs.Print.{text_of}
 use Rattle.av_plain.specs.Transcript.{Exchange, State, IsRun, at_first}
 use Rattle.av_kernel.specs.Machine.{Machine}
 use Rattle.av_kernel.specs.Kernel.{Stands}
 use Rattle.av_kernel.specs.View.{setting}
 use Rattle.av_replay.specs.declared.status.Status.{Status}
 use Rattle.av_replay.specs.declared.status.Status.TheVariants as statuses
-use Rattle.av_swapdev.specs.Outside.{Took, Gained, HasEnded}
+use Rattle.av_io.specs.Source.{Took, HasEnded}
+use Rattle.av_io.specs.Sink.{Gained}
 use Rattle.av_replay.specs.Line.{IsLine}
 use Rattle.av_replay.specs.Turn.{texts, tallied, Commands, IsBad}
 

@@ -4,7 +4,7 @@ use Rattle.av_replay.specs.declared.line.Found.{Found}
 use Rattle.av_replay.specs.declared.line.Found.TheVariants as founds
 use Rattle.av_replay.specs.declared.line.Ending.{Ending}
 use Rattle.av_replay.specs.declared.line.Ending.TheVariants as endings
-use Rattle.av_swapdev.specs.Outside.{HasEnded}
+use Rattle.av_io.specs.Source.{HasEnded}
 
 -- a line has at most so many bytes
 abbrev pub longest : ℕ

@@ -3,8 +3,8 @@ use Rattle.std.specs.Prelude.{◌≡◌, ℕ, ◌+◌, ◌<◌, List, [], ◌∷
 use Rattle.std.specs.List.{flat_map}
 use Rattle.std.specs.Option.{option_to_list}
 use Rattle.av_trace.specs.declared.command.Command.{Command}
-use Rattle.av_trace.specs.Grammar.{Says}
-use Rattle.av_trace.specs.Text.{text_of}
+use Rattle.av_trace.specs.Line.{Says}
+use Rattle.av_trace.specs.Print.{text_of}
 use Rattle.av_plain.specs.Transcript.{Exchange, State, IsRun}
 use Rattle.av_kernel.specs.Machine.{Machine}
 use Rattle.av_kernel.specs.Kernel.{Stands, word_of, counted}
@@ -15,7 +15,8 @@ use Rattle.av_replay.specs.declared.turn.Turn.{Turn}
 use Rattle.av_replay.specs.declared.turn.Turn.TheVariants as turns
 use Rattle.av_replay.specs.declared.status.Status.{Status}
 use Rattle.av_replay.specs.declared.status.Status.TheVariants as statuses
-use Rattle.av_swapdev.specs.Outside.{in_front, Took, Gained, HasEnded}
+use Rattle.av_io.specs.Source.{in_front, Took, HasEnded}
+use Rattle.av_io.specs.Sink.{Gained}
 use Rattle.av_replay.specs.Line.{IsLine, IsTooLong}
 
 -- ---- what a line does

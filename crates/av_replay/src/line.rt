@@ -1,11 +1,12 @@
 //! Reading a line.
 
 ghost use Rattle.std.specs.Prelude.{true, ◌≡◌, ◌≤◌};
-ghost use Rattle.av_swapdev.specs.Outside.{Rose, in_front};
+ghost use Rattle.av_io.specs.Count.{Rose};
+ghost use Rattle.av_io.specs.Source.{in_front};
 ghost use Rattle.av_replay.specs.Line.{Finds, ReadsLine};
 
 use crate::pending::Pending;
-use av_swapdev::{Sink, Source};
+use av_io::{Sink, Source};
 use memchr::memchr;
 
 /// So many bytes without a newline are no line.

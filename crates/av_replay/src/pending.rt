@@ -1,10 +1,11 @@
 //! What was read of the source and is not yet done.
 
 ghost use Rattle.std.specs.Prelude.{true, ◌≡◌, ◌+◌, ◌-◌, ◌<◌, ◌≤◌, List, [], ℕ, length, take, drop, IfOk, OnErr};
-ghost use Rattle.av_swapdev.specs.Outside.{Rose, in_front, Took, HasEnded};
+ghost use Rattle.av_io.specs.Count.{Rose};
+ghost use Rattle.av_io.specs.Source.{in_front, Took, HasEnded};
 ghost use Rattle.av_replay.specs.Line.{longest};
 
-use av_swapdev::{Failed, Source};
+use av_io::{Failed, Source};
 use std::alloc::{AllocError, Global};
 use std::marker::Model;
 

@@ -4,7 +4,7 @@ ghost use Rattle.std.specs.Prelude.{true, ◌≡◌, ◌≤◌, [], Some, replic
 ghost use Rattle.av_plain.specs.Transcript.{at_first};
 ghost use Rattle.av_kernel.specs.Kernel.{Stands};
 ghost use Rattle.av_kernel.specs.View.{setting};
-ghost use Rattle.av_swapdev.specs.Outside.{Rose};
+ghost use Rattle.av_io.specs.Count.{Rose};
 ghost use Rattle.av_replay.specs.Turn.{Waits, Finishes};
 ghost use Rattle.av_replay.specs.Headline.{Headline};
 
@@ -12,7 +12,7 @@ use crate::pending::Pending;
 use crate::status::Status;
 use crate::turn::{Turn, take_turn};
 use av_kernel::Kernel;
-use av_swapdev::{Sink, Source};
+use av_io::{Sink, Source};
 use av_trace::Bytes;
 use std::alloc::Global;
 

@@ -1,5 +1,5 @@
 use super::*;
-use av_swapdev::{MemSink, MemSource};
+use av_io::{MemSink, MemSource};
 use std::alloc::{AllocError, Global};
 use std::test::*;
 

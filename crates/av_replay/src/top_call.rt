@@ -1,7 +1,7 @@
 //! The top call.
 
 ghost use Rattle.std.specs.Prelude.{true, Some, List, ◌≡◌, ℕ, ◌≢◌, map, string_bytes, None, IsSome, []};
-ghost use Rattle.av_swapdev.specs.Outside.{Rose};
+ghost use Rattle.av_io.specs.Count.{Rose};
 ghost use Rattle.av_replay.specs.Headline.{Headline};
 ghost use Rattle.av_replay.specs.Trace.{IsTrace, IsDoneOrMemory};
 ghost use Rattle.av_replay.specs.Words.{IsForm};
@@ -10,7 +10,7 @@ use crate::replay::replay;
 use crate::status::Status;
 use crate::words::frames_of;
 use av_kernel::Kernel;
-use av_swapdev::{Sink, Source};
+use av_io::{Sink, Source};
 use std::alloc::Global;
 
 /// How a run ended, and the kernel that it leaves.

@@ -1,14 +1,14 @@
 //! One turn of the loop over the lines: a line is read and done, and its text written.
 
 ghost use Rattle.std.specs.Prelude.{true, ◌≡◌, ◌≢◌, ◌+◌, ◌^◌, ◌<◌, ◌≤◌, OnOk, IsErrOf, take, drop, length};
-ghost use Rattle.av_swapdev.specs.Outside.{Rose};
+ghost use Rattle.av_io.specs.Count.{Rose};
 ghost use Rattle.av_replay.specs.Turn.{DoesLine, SaysNothing, Did, Turned};
 
 use crate::line::{Ending, read_line};
 use crate::pending::Pending;
 use crate::write::write_all;
 use av_kernel::Kernel;
-use av_swapdev::{Sink, SinkErr, Source};
+use av_io::{Sink, SinkErr, Source};
 use av_trace::{Bytes, LineFault, parse_line, reply_text};
 use std::alloc::Global;
 

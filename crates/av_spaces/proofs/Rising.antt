@@ -4,9 +4,7 @@ use Rattle.std.proofs.lemmas.Bool.{false≢true, false_from_ne_true}
 use Rattle.std.proofs.lemmas.Option.{none-some, same_Some}
 use Rattle.av_vma.specs.declared.area.Area.{Area}
 use Rattle.av_vma.specs.Join.{first_of, past_of}
-use Rattle.av_merge.specs.Laid.{AreLaid}
-use Rattle.av_merge.specs.Pages.{has_page}
-use Rattle.av_merge.specs.Process.{IsWhole}
+use Rattle.av_vma.specs.Pages.{AreLaid, has_page, IsWhole}
 use Rattle.av_merge.proofs.Places.{has_parts}
 use Rattle.av_spaces.specs.Spaces.{Spaces, IsOwn, AreRising, AllRising, areas_of, pages_in, pages_of}
 

@@ -4,12 +4,8 @@ use Rattle.std.specs.Ordering.{nat_cmp}
 use Rattle.std.specs.FinMap.Entries.{find as find_key}
 use Rattle.std.specs.List.{find}
 use Rattle.av_vma.specs.declared.area.Area.{Area}
-use Rattle.av_base.specs.declared.prot.Prot.{Prot}
 use Rattle.av_vma.specs.Join.{first_of, past_of}
-use Rattle.av_base.specs.Words.{within}
-use Rattle.av_merge.specs.Mapping.{mapping, with_prot}
-use Rattle.av_merge.specs.Pages.{Pages, has_page, cut_at, emptied, placed, joined_around, fresh_area}
-use Rattle.av_merge.specs.Process.{IsWhole}
+use Rattle.av_vma.specs.Pages.{Pages, IsWhole, has_page}
 
 -- the processes that live, rising, each with its areas
 abbrev pub Spaces : Type 0
@@ -74,16 +70,3 @@ pub record IsChanged (old new : Spaces) (p : ℕ) (IsSo : Pages → Type 0) : Ty
 -- each page has the area that these have on it
 abbrev pub AreThese : Pages → Pages → Type 0
 AreThese on now = (page : ℕ) → now page ≡ on page
-
--- a new area from one page to below another, joined with its neighbours
-abbrev pub mapped : ℕ → ℕ → ℕ → Prot → Pages → Pages
-mapped p from past prot on = joined_around from past (placed (fresh_area p from past prot) on)
-
--- no area from one page to below another; those that went past an end are cut there
-abbrev pub unmapped : ℕ → ℕ → Pages → Pages
-unmapped from past on = emptied from past (cut_at past (cut_at from on))
-
--- the pages from one to below another are mapped as they were but for their protection, and all others as they were
-abbrev pub AreProtected : ℕ → ℕ → Prot → Pages → Pages → Type 0
-AreProtected from past prot on now = (page : ℕ) → mapping now page
-    ≡ (if within from (past - from) page then option_map (with_prot prot) (mapping on page) else mapping on page)

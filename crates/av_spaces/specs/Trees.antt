@@ -36,7 +36,7 @@ abbrev pub AreTrees : (ℕ → Option Area) → Trees → Type 0
 AreTrees areas trees = (p : ℕ) → MatchOption (tree_at trees p) (HasNone p areas) (AreAreasOf p areas)
 
 -- so are these, of so many processes that live
-pub record IsWhole (areas : ℕ → Option Area) (ts : Trees) (n : ℕ) : Type 0 where
+pub record HasTrees (areas : ℕ → Option Area) (ts : Trees) (n : ℕ) : Type 0 where
   pub trees : AreTrees areas ts
   pub alive : how_many is_some ts ≡ n
   pub few : length ts ≤ 2 ^ 16

@@ -1,16 +1,19 @@
 //! The areas of every process that lives.
 
-ghost use Rattle.std.specs.Prelude.{◌≡◌, ℕ, ◌+◌, ◌^◌, ◌<◌, ◌≤◌, [], Some, None, true, false, is_some, option_map, slice_set, length, IsSome, OnOk, OnErr, IfOk};
+ghost use Rattle.std.specs.Prelude.{◌≡◌, ℕ, ◌+◌, ◌-◌, ◌^◌, ◌<◌, ◌≤◌, [], Some, None, true, false, is_some, option_map, slice_set, length, IsSome, OnOk, OnErr, IfOk};
 ghost use Rattle.av_vma.specs.Areas.{area_of};
 ghost use Rattle.av_base.specs.Limits.{low_page, top_page};
 ghost use Rattle.av_vma.specs.Gap.{IsGap};
 ghost use Rattle.av_vmatree.specs.Spans.{IsFree, IsMet};
+ghost use Rattle.av_merge.specs.Mapping.{IsRemapped};
 ghost use Rattle.av_merge.specs.Pages.{IsReached};
 ghost use Rattle.av_merge.specs.Process.{AreAreasOf};
-ghost use Rattle.av_spaces.specs.Spaces.{areas_of, pages_of, is_taken, mapped, unmapped, AreThese, AreProtected, AreRising, IsSpawned, IsChanged, IsEnded};
+ghost use Rattle.av_spaces.specs.Spaces.{areas_of, pages_of, is_taken, AreThese, AreRising, IsSpawned, IsChanged, IsEnded};
+ghost use Rattle.av_vma.specs.Pages.{mapped, unmapped, pages_changed, to_prot};
 ghost use Rattle.av_spaces.specs.Trees.{areas_by, tree_at, IsGrown};
 
 use av_base::Prot;
+use av_merge::Change;
 use av_vma::{Area, Areas};
 use av_vmatree::{Span, Tree};
 use std::alloc::{AllocError, Global};
@@ -31,13 +34,13 @@ impl Model for Spaces {
     ghost use Rattle.std.specs.Prelude.{ℕ, List};
     ghost use Rattle.av_vma.specs.Areas.{area_of};
     ghost use Rattle.av_vma.specs.declared.area.Area.{Area};
-    ghost use Rattle.av_spaces.specs.Trees.{spaces_by, IsWhole};
+    ghost use Rattle.av_spaces.specs.Trees.{spaces_by, HasTrees};
 
     ghost Value = { List (ℕ × List Area) };
 
     ghost view = { λ s. spaces_by (area_of s.areas) s.trees.items };
 
-    ghost invariant = { λ s. IsWhole (area_of s.areas) s.trees.items s.alive };
+    ghost invariant = { λ s. HasTrees (area_of s.areas) s.trees.items s.alive };
 }
 
 impl Spaces {
@@ -163,10 +166,13 @@ impl Spaces {
         ensures reached { IfOk result (λ reached.
             IsReached (is_taken self.old process) from (from + pages) reached) }
         ensures ok { IfOk result (λ reached. IsChanged self.old self.new process
-            (AreProtected from reached prot (pages_of self.old process))) }
+            (AreThese (pages_changed (to_prot prot) from (reached - from) (pages_of self.old process)))) }
+        ensures mapping { IfOk result (λ reached. IsRemapped from reached (to_prot prot)
+            (pages_of self.old process) (pages_of self.new process)) }
     {
         let mut tree = take_tree(&mut self.trees, process);
-        let result = av_merge::protect(&mut self.areas, &mut tree, from, from + pages, prot);
+        let change = Change::Prot(prot);
+        let result = av_merge::modify(&mut self.areas, &mut tree, from, from + pages, change);
         put_tree(&mut self.trees, process, tree);
         result
     }

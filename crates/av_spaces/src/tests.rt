@@ -1,5 +1,5 @@
 use super::*;
-use av_vma::Prot;
+use av_base::Prot;
 use std::test::Fail;
 
 const READ: Prot = Prot {

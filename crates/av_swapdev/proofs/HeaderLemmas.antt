@@ -6,9 +6,9 @@ use Rattle.av_swapdev.specs.declared.header.Order.{Order}
 use Rattle.av_swapdev.specs.declared.header.Header.{Header}
 use Rattle.av_swapdev.specs.declared.header.HeaderFault.{HeaderFault}
 use Rattle.av_swapdev.specs.declared.header.HeaderFault.TheVariants.{Signature, LastPage, Short, TooManyBad, BadPage, NoSlot}
-use Rattle.av_swapdev.specs.Header.{Layout, number_at, order_of, last_page, bad_count, named, all_named, area_pages, bad_below, slots_of, layout_of, is_in, is_out, with_slots, read_in, read_by, header_of, bad_pages, bad_by, in_numbers, answer_of, IsHeaderOf, AddsUp}
-use Rattle.av_swapdev.proofs.Named.{in_filter, in_unique}
-use Rattle.av_swapdev.proofs.Slots.{slots_and_bad}
+use Rattle.av_base.specs.Words.{is_in, within}
+use Rattle.av_swapdev.specs.Header.{Layout, number_at, order_of, last_page, bad_count, named, all_named, area_pages, bad_of, slots_of, layout_of, is_out, with_slots, read_in, read_by, header_of, in_numbers, answer_of, IsHeaderOf, AddsUp}
+use Rattle.av_swapdev.proofs.HeaderSlots.{in_bad, slots_and_bad}
 
 passed : (b : Bool) (fault : HeaderFault) (rest : Result Layout HeaderFault) (header : Header) → answer_of (cond b (Err fault) rest) ≡ Ok header → (b ≡ false) × (answer_of rest ≡ Ok header)
 passed true fault rest header e = absurd (cc)
@@ -26,7 +26,7 @@ record IsRead (order : Order) (page : List ℕ) (device : ℕ) (header : Header)
 read_in_ok : (order : Order) (page : List ℕ) (device : ℕ) (header : Header) → answer_of (read_in order page device) ≡ Ok header → IsRead order page device header
 read_in_ok order page device header e =
     let named = all_named order page in
-    let layout = layout_of (area_pages order page) (bad_below (area_pages order page) named) in
+    let layout = layout_of (area_pages order page) named in
     let bad = cond (list_any (is_out (last_page order page)) named) (Err BadPage) (with_slots layout) in
     let many = cond (ltb 637 (bad_count order page)) (Err TooManyBad) bad in
     let short = cond (ltb device (area_pages order page)) (Err Short) many in
@@ -36,7 +36,7 @@ read_in_ok order page device header e =
     let behind_bad = passed (list_any (is_out (last_page order page)) named) BadPage (with_slots layout) header behind_many.1 in
     let behind_slots = passed (eqb layout.slots 0) NoSlot (Ok layout) header behind_bad.1 in
     let same = of_ok layout header behind_slots.1 in
-    let all = slots_and_bad (area_pages order page) (last_page order page) named behind_bad.0 in
+    let all = slots_and_bad (area_pages order page) named in
     record {
       pages = sym (ap (λ (h : Header). h.pages) same);
       few = few (bad_count order page) behind_many.0;
@@ -53,7 +53,7 @@ read_in_ok order page device header e =
         let bad_are = ap (λ (h : Header). h.bad) same in
         let has_slot : 0 < slots = grind (arith, nat_tests) in
         let fits : pages ≤ device = grind (arith, nat_tests) in
-        (omega (arith, pages_are, slots_are, bad_are), omega (arith, slots_are), omega (arith, pages_are), omega (arith, pages_are))
+        record { all = omega (arith, pages_are, slots_are, bad_are); some = omega (arith, slots_are); fits = omega (arith, pages_are); most = omega (arith, pages_are) }
 
 -- so does one that a page has on some device
 read_ok : (page : List ℕ) (device : ℕ) (header : Header) → answer_of (header_of page device) ≡ Ok header → (order : Order) × (order_of page ≡ Some order) × IsRead order page device header
@@ -77,23 +77,55 @@ header_is order page header found of_page =
     inside : (a b : Order) → Some a ≡ Some b → a ≡ b
     inside a b e = cc
 
--- the bad pages of an area are those that are named, below its pages
-pub in_bad : (m : ℕ) (order : Order) (page : List ℕ) → order_of page ≡ Some order → is_in m (bad_pages page) ≡ (is_in m (all_named order page) && ltb m (area_pages order page))
-in_bad m order page found =
-    ap (λ o. is_in m (bad_by o page)) found ∙ in_unique m _ ∙ in_filter (λ b. ltb b (area_pages order page)) m (all_named order page)
+-- what a page says on a device is the area of its numbers
+kept : (b : Bool) (fault : HeaderFault) (rest : Result Layout HeaderFault) (layout : Layout) → cond b (Err fault) rest ≡ Ok layout → rest ≡ Ok layout
+kept true fault rest layout e = absurd (cc)
+kept false fault rest layout e = e
+
+same_layout : (a b : Layout) (x y : Result Layout HeaderFault) → x ≡ Ok a → y ≡ Ok b → x ≡ y → b ≡ a
+same_layout a b x y is_a is_b same = cc
+
+pub layout_is : (order : Order) (page : List ℕ) (device : ℕ) (layout : Layout) → order_of page ≡ Some order → header_of page device ≡ Ok layout → layout ≡ layout_of (area_pages order page) (all_named order page)
+layout_is order page device layout found e = signed (ends_with eqb page (codes "SWAPSPACE2")) e
+  where
+    read : read_in order page device ≡ Ok layout → layout ≡ layout_of (area_pages order page) (all_named order page)
+    read h =
+        let named = all_named order page in
+        let it = layout_of (area_pages order page) named in
+        let bad = cond (list_any (is_out (last_page order page)) named) (Err BadPage) (with_slots it) in
+        let many = cond (ltb 637 (bad_count order page)) (Err TooManyBad) bad in
+        let short = cond (ltb device (area_pages order page)) (Err Short) many in
+        let behind_last = kept (eqb (last_page order page) 0) LastPage short layout h in
+        let behind_short = kept (ltb device (area_pages order page)) Short many layout behind_last in
+        let behind_many = kept (ltb 637 (bad_count order page)) TooManyBad bad layout behind_short in
+        let behind_bad = kept (list_any (is_out (last_page order page)) named) BadPage (with_slots it) layout behind_many in
+        same_layout it layout (Ok it) (Ok layout) refl refl (kept (eqb it.slots 0) NoSlot (Ok it) layout behind_bad)
+
+    signed : (b : Bool) → cond b (read_by (order_of page) page device) (Err Signature) ≡ Ok layout → layout ≡ layout_of (area_pages order page) (all_named order page)
+    signed true h = read (sym (ap (λ o. read_by o page device) found) ∙ h)
+    signed false h = absurd (cc)
+
+-- the bad pages of what a page says, by the numbers of a header that it has
+pub bad_is : (order : Order) (page : List ℕ) (header : Header) (device : ℕ) (layout : Layout) → order_of page ≡ Some order → IsHeaderOf page header → header_of page device ≡ Ok layout → layout.bad ≡ bad_of header.pages (all_named order page)
+bad_is order page header device layout found of_page ok =
+    ap (λ (l : Layout). l.bad) (layout_is order page device layout found ok) ∙ ap (λ (n : ℕ). bad_of n (all_named order page)) (sym (header_is order page header found of_page).0)
+
+pub is_in_bad : (m : ℕ) (order : Order) (page : List ℕ) (header : Header) (device : ℕ) (layout : Layout) → order_of page ≡ Some order → IsHeaderOf page header → header_of page device ≡ Ok layout → is_in m layout.bad ≡ (within 1 (header.pages - 1) m && is_in m (all_named order page))
+is_in_bad m order page header device layout found of_page ok =
+    ap (is_in m) (bad_is order page header device layout found of_page ok) ∙ in_bad header.pages (all_named order page) m
 
 skipped : (b : Bool) (x y : Result Layout HeaderFault) → b ≡ false → cond b x y ≡ y
 skipped true x y e = absurd (cc)
 skipped false x y e = refl
 
 -- what is read where no test but the last finds a fault
-read_in_is : (order : Order) (page : List ℕ) (device pages : ℕ) → pages ≡ area_pages order page → (last_page order page ≡ 0 → ⊥) → pages ≤ device → bad_count order page ≤ 637 → list_any (is_out (last_page order page)) (all_named order page) ≡ false → read_in order page device ≡ with_slots (layout_of pages (bad_below pages (all_named order page)))
+read_in_is : (order : Order) (page : List ℕ) (device pages : ℕ) → pages ≡ area_pages order page → (last_page order page ≡ 0 → ⊥) → pages ≤ device → bad_count order page ≤ 637 → list_any (is_out (last_page order page)) (all_named order page) ≡ false → read_in order page device ≡ with_slots (layout_of pages (all_named order page))
 read_in_is order page device pages e some long few inside =
     let not_zero : eqb (last_page order page) 0 ≡ false = grind (arith, nat_tests) in
     let not_short : ltb device (area_pages order page) ≡ false = grind (arith, nat_tests) in
     let not_many : ltb 637 (bad_count order page) ≡ false = grind (arith, nat_tests) in
     skipped _ _ _ not_zero ∙ skipped _ _ _ not_short ∙ skipped _ _ _ not_many ∙ skipped _ _ _ inside
-    ∙ sym (ap (λ (p : ℕ). with_slots (layout_of p (bad_below p (all_named order page)))) e)
+    ∙ sym (ap (λ (p : ℕ). with_slots (layout_of p (all_named order page))) e)
 
 -- the answer without a slot, and with some
 no_slot : (layout : Layout) → layout.slots ≡ 0 → answer_of (with_slots layout) ≡ Err NoSlot
@@ -116,26 +148,26 @@ header_read order page device signed found = ap (λ (b : Bool). cond b (read_by 
 module _ (order : Order) (page : List ℕ) (device last pages count bad : ℕ)
     (last_is : last ≡ number_at order page 1028) (pages_is : pages ≡ min last 1048575 + 1) (count_is : count ≡ number_at order page 1032)
     (some : last ≡ 0 → ⊥) (long : pages ≤ device) (few : count ≤ 637) (inside : list_any (is_out last) (named order page 0 count) ≡ false)
-    (bad_is : bad ≡ length (bad_below pages (named order page 0 count))) where
-  pub together : bad + length (slots_of pages (bad_below pages (named order page 0 count))) ≡ pages - 1
-  together = let all = slots_and_bad pages last (named order page 0 count) inside in omega arith
+    (bad_is : bad ≡ length (bad_of pages (named order page 0 count))) where
+  pub together : bad + length (slots_of pages (named order page 0 count)) ≡ pages - 1
+  together = let all = slots_and_bad pages (named order page 0 count) in omega arith
 
-  read : answer_of (read_in order page device) ≡ answer_of (with_slots (layout_of pages (bad_below pages (named order page 0 count))))
+  read : answer_of (read_in order page device) ≡ answer_of (with_slots (layout_of pages (named order page 0 count)))
   read =
       let pages_are : pages ≡ area_pages order page = omega arith in
       let inside_all = sym (ap (λ (l : ℕ). list_any (is_out l) (named order page 0 count)) last_is ∙ ap (λ (n : ℕ). list_any (is_out (last_page order page)) (named order page 0 n)) count_is) ∙ inside in
       ap answer_of (read_in_is order page device pages pages_are (λ none. some (last_is ∙ none)) long (omega arith) inside_all
-      ∙ sym (ap (λ (n : ℕ). with_slots (layout_of pages (bad_below pages (named order page 0 n)))) count_is))
+      ∙ sym (ap (λ (n : ℕ). with_slots (layout_of pages (named order page 0 n))) count_is))
 
   pub has_none : pages - 1 - bad ≡ 0 → Err NoSlot ≡ answer_of (read_in order page device)
   has_none none =
       let all = together in
-      sym (read ∙ no_slot (layout_of pages (bad_below pages (named order page 0 count))) (omega arith))
+      sym (read ∙ no_slot (layout_of pages (named order page 0 count)) (omega arith))
 
   pub has_some : (pages - 1 - bad ≡ 0 → ⊥) → Ok (record { pages = pages; slots = pages - 1 - bad; bad = bad }) ≡ answer_of (read_in order page device)
   has_some some =
       let all = together in
-      let slots_are : length (slots_of pages (bad_below pages (named order page 0 count))) ≡ pages - 1 - bad = omega arith in
-      let numbers : in_numbers (layout_of pages (bad_below pages (named order page 0 count))) ≡ record { pages = pages; slots = pages - 1 - bad; bad = bad } =
+      let slots_are : length (slots_of pages (named order page 0 count)) ≡ pages - 1 - bad = omega arith in
+      let numbers : in_numbers (layout_of pages (named order page 0 count)) ≡ record { pages = pages; slots = pages - 1 - bad; bad = bad } =
       λ i. record { pages = pages; slots = slots_are i; bad = sym bad_is i } in
-      sym (read ∙ some_slots (layout_of pages (bad_below pages (named order page 0 count))) (λ none. some (sym slots_are ∙ none)) ∙ ap (λ (h : Header). Ok h) numbers)
+      sym (read ∙ some_slots (layout_of pages (named order page 0 count)) (λ none. some (sym slots_are ∙ none)) ∙ ap (λ (h : Header). Ok h) numbers)

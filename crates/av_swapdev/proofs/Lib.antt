@@ -1,5 +1,4 @@
-pub mod Pieces
-pub mod Named
-pub mod Slots
+pub mod HeaderNamed
+pub mod HeaderSlots
 pub mod HeaderLemmas
-pub mod PageLemmas
+pub mod DevicePages

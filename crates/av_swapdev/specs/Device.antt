@@ -1,11 +1,14 @@
--- The swap areas of a device: how many pages each has, what the pages hold where that is told, and what a call changes of them.
+-- The swap areas of a device: how many pages each has, what the pages hold where that is told, and what
+-- a call changes of them.
 use Rattle.std.specs.Prelude.{◌≡◌, ℕ, ◌-◌, ◌<◌, ◌==◌, if◌then◌else◌, List, [], map, min, length, slice_index, slice_index_or, Bool, false, Option, Some, None, option_map, IfSome, IsSomeAnd}
+use Rattle.av_base.specs.Words.{with_at}
+use Rattle.av_base.specs.Page.{page_size}
 use Rattle.std.specs.declared.vec.Vec.{Vec}
 use Rattle.std.specs.declared.alloc.Global.{Global}
 
--- a function with its value at one number changed
-abbrev pub with_at : {X : Type 0} → ℕ → X → (ℕ → X) → ℕ → X
-with_at k x f q = if q == k then x else f q
+-- of an area so many pages are used at most, so that the number of a slot fits twenty bits
+abbrev pub most_pages : ℕ
+most_pages = 1048576
 
 -- pages by area and number, with the bytes of one changed
 abbrev pub with_page : ℕ → ℕ → List ℕ → (ℕ → ℕ → List ℕ) → ℕ → ℕ → List ℕ
@@ -20,7 +23,8 @@ abbrev pub Holds : Option (ℕ → ℕ → List ℕ) → ℕ → ℕ → List �
 Holds pages area page bytes = IfSome pages (λ told. told area page ≡ bytes)
 
 -- the page holds these bytes now, and each other page what it held
-abbrev pub IsWritten : ℕ → ℕ → List ℕ → Option (ℕ → ℕ → List ℕ) → Option (ℕ → ℕ → List ℕ) → Type 0
+abbrev pub IsWritten :
+    ℕ → ℕ → List ℕ → Option (ℕ → ℕ → List ℕ) → Option (ℕ → ℕ → List ℕ) → Type 0
 IsWritten area page bytes old new = new ≡ option_map (with_page area page bytes) old
 
 -- the page holds some bytes now, and each other page what it held
@@ -29,7 +33,7 @@ IsSpoiled area page old new = (bytes : List ℕ) × IsWritten area page bytes ol
 
 -- each bit of a page's bytes is inverted
 abbrev pub IsInverted : List ℕ → List ℕ → Type 0
-IsInverted old new = (k : ℕ) → k < 4096 → slice_index new k ≡ 255 - slice_index old k
+IsInverted old new = (k : ℕ) → k < page_size → slice_index new k ≡ 255 - slice_index old k
 
 -- the area has some pages now, and those of each other area hold what they held
 abbrev pub IsRenewed : ℕ → Option (ℕ → ℕ → List ℕ) → Option (ℕ → ℕ → List ℕ) → Type 0
@@ -41,11 +45,12 @@ area_in areas area = slice_index_or (map (λ v. v.items) areas) area []
 
 -- how many of them are used
 abbrev pub size_in : List (Vec (List ℕ) Global) → ℕ → ℕ
-size_in areas area = min (length (area_in areas area)) 1048576
+size_in areas area = min (length (area_in areas area)) most_pages
 
 -- the sizes of those that are attached
 abbrev pub sizes_in : List Bool → List (Vec (List ℕ) Global) → ℕ → Option ℕ
-sizes_in attached areas area = if slice_index_or attached area false then Some (size_in areas area) else None
+sizes_in attached areas area =
+    if slice_index_or attached area false then Some (size_in areas area) else None
 
 -- what each page holds
 abbrev pub pages_in : List (Vec (List ℕ) Global) → ℕ → ℕ → List ℕ

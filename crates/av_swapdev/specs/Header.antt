@@ -1,7 +1,8 @@
 -- What page 0 of a swap area says of it: `mkswap`'s header, version 1.
 use Rattle.std.specs.Prelude.{◌≡◌, ℕ, ◌+◌, ◌-◌, ◌*◌, ◌<◌, ◌≤◌, ◌==◌, Bool, not, ◌||◌, nat_eq, nat_lt, if◌then◌else◌, min, List, [], drop, map, filter, length, codes, Option, Some, None, Result, Ok, Err}
 use Rattle.std.specs.List.{list_any, range_with_len, ends_with}
-use Rattle.std.specs.Set.{unique_keys}
+use Rattle.av_base.specs.Words.{is_in}
+use Rattle.av_swapdev.specs.Device.{most_pages}
 use Rattle.byteorder.specs.Endian.{little_number, big_number}
 use Rattle.av_swapdev.specs.declared.header.Order.{Order}
 use Rattle.av_swapdev.specs.declared.header.Order.TheVariants.{Little, Big}
@@ -9,15 +10,12 @@ use Rattle.av_swapdev.specs.declared.header.Header.{Header}
 use Rattle.av_swapdev.specs.declared.header.HeaderFault.{HeaderFault}
 use Rattle.av_swapdev.specs.declared.header.HeaderFault.TheVariants.{Signature, Version, LastPage, Short, TooManyBad, BadPage, NoSlot}
 
--- what a header says of its area: how many pages it has, the header's among them; how many of them are slots; which are bad
+-- what a header says of its area: how many pages it has, the header's among them; how many of them
+-- are slots; which are bad
 pub record Layout : Type 0 where
   pub pages : ℕ
   pub slots : ℕ
   pub bad : List ℕ
-
--- whether a number is in a list
-abbrev pub is_in : ℕ → List ℕ → Bool
-is_in m ms = list_any (λ q. m == q) ms
 
 -- the 32-bit number at a byte of the page
 unfoldable pub number_at : Order → List ℕ → ℕ → ℕ
@@ -26,7 +24,10 @@ number_at Big page at = big_number 4 (drop at page)
 
 -- the order of the header's numbers: the one in which the version is 1
 abbrev pub order_of : List ℕ → Option Order
-order_of page = if number_at Little page 1024 == 1 then Some Little else if number_at Big page 1024 == 1 then Some Big else None
+order_of page =
+    if number_at Little page 1024 == 1 then Some Little
+    else if number_at Big page 1024 == 1 then Some Big
+    else None
 
 -- the last page of the area, as the header has it
 abbrev pub last_page : Order → List ℕ → ℕ
@@ -46,19 +47,24 @@ all_named order page = named order page 0 (bad_count order page)
 
 -- the area's pages: those up to the last page, 1,048,576 at most
 abbrev pub area_pages : Order → List ℕ → ℕ
-area_pages order page = min (last_page order page + 1) 1048576
+area_pages order page = min (last_page order page + 1) most_pages
 
--- the bad pages of an area of so many pages, each once
-abbrev pub bad_below : ℕ → List ℕ → List ℕ
-bad_below pages bad = unique_keys nat_eq (filter (λ b. nat_lt b pages) bad)
+-- the pages of an area behind its header
+abbrev pub behind_header : ℕ → List ℕ
+behind_header pages = range_with_len 1 (pages - 1)
 
--- its slots: the pages behind the header that aren't bad
+-- those that are named as bad, rising
+abbrev pub bad_of : ℕ → List ℕ → List ℕ
+bad_of pages named = filter (λ m. is_in m named) (behind_header pages)
+
+-- its slots: the others
 abbrev pub slots_of : ℕ → List ℕ → List ℕ
-slots_of pages bad = filter (λ m. not (is_in m bad)) (range_with_len 1 (pages - 1))
+slots_of pages named = filter (λ m. not (is_in m named)) (behind_header pages)
 
--- an area of so many pages with these bad ones
+-- an area of so many pages, where these are named as bad
 abbrev pub layout_of : ℕ → List ℕ → Layout
-layout_of pages bad = record { pages = pages; slots = length (slots_of pages bad); bad = bad }
+layout_of pages named =
+    record { pages = pages; slots = length (slots_of pages named); bad = bad_of pages named }
 
 -- whether a page can't be named as bad in an area with this last page
 abbrev pub is_out : ℕ → ℕ → Bool
@@ -75,7 +81,7 @@ read_in order page device =
     else if nat_lt device (area_pages order page) then Err Short
     else if nat_lt 637 (bad_count order page) then Err TooManyBad
     else if list_any (is_out (last_page order page)) (all_named order page) then Err BadPage
-    else with_slots (layout_of (area_pages order page) (bad_below (area_pages order page) (all_named order page)))
+    else with_slots (layout_of (area_pages order page) (all_named order page))
 
 abbrev pub read_by : Option Order → List ℕ → ℕ → Result Layout HeaderFault
 read_by None page device = Err Version
@@ -83,15 +89,9 @@ read_by (Some order) page device = read_in order page device
 
 -- what page 0 of an area says, on a device with so many pages: the area, or the first fault
 abbrev pub header_of : List ℕ → ℕ → Result Layout HeaderFault
-header_of page device = if ends_with nat_eq page (codes "SWAPSPACE2") then read_by (order_of page) page device else Err Signature
-
--- the bad pages that it names, each once
-abbrev pub bad_by : Option Order → List ℕ → List ℕ
-bad_by None page = []
-bad_by (Some order) page = bad_below (area_pages order page) (all_named order page)
-
-abbrev pub bad_pages : List ℕ → List ℕ
-bad_pages page = bad_by (order_of page) page
+header_of page device =
+    if ends_with nat_eq page (codes "SWAPSPACE2") then read_by (order_of page) page device
+    else Err Signature
 
 -- a layout in three numbers
 abbrev pub in_numbers : Layout → Header
@@ -105,6 +105,9 @@ answer_of (Err fault) = Err fault
 abbrev pub IsHeaderOf : List ℕ → Header → Type 0
 IsHeaderOf page header = (device : ℕ) × (answer_of (header_of page device) ≡ Ok header)
 
--- the header's page, the slots and the bad pages are all pages of the area; the device has them; there are 1,048,576 at most
-abbrev pub AddsUp : Header → ℕ → Type 0
-AddsUp header device = (1 + header.slots + header.bad ≡ header.pages) × (0 < header.slots) × (header.pages ≤ device) × (header.pages ≤ 1048576)
+-- the header's page, the slots and the bad pages are all pages of the area; the device has them
+pub record AddsUp (header : Header) (device : ℕ) : Type 0 where
+  pub all : 1 + header.slots + header.bad ≡ header.pages
+  pub some : 0 < header.slots
+  pub fits : header.pages ≤ device
+  pub most : header.pages ≤ most_pages

@@ -1,3 +1,2 @@
-pub mod Outside
 pub mod Device
 pub mod Header

@@ -1,10 +1,19 @@
 //! A device with swap areas.
 
 ghost use Rattle.std.specs.Prelude.{◌≡◌, ℕ, ◌<◌, ◌≤◌, List, Option, Some, length, IfOk, OnOk, OnErr, IsErrOf};
-ghost use Rattle.av_swapdev.specs.Outside.{Rose};
-ghost use Rattle.av_swapdev.specs.Device.{with_at, HasPage, Holds, IsWritten, IsSpoiled, IsRenewed};
+ghost use Rattle.av_base.specs.Page.{page_size};
+ghost use Rattle.av_base.specs.Words.{with_at};
+ghost use Rattle.av_io.specs.Count.{Rose};
+ghost use Rattle.av_swapdev.specs.Device.{HasPage, Holds, IsWritten, IsSpoiled, IsRenewed, most_pages};
 
-use crate::outside::Failed;
+use av_base::PAGE_SIZE;
+use av_io::Failed;
+
+/// The bytes of one page.
+pub const PAGE_LEN: usize = PAGE_SIZE as usize;
+
+/// How many pages of an area are used at most.
+pub const MOST_PAGES: u32 = 1 << 20;
 
 /// Why an area was not attached.
 #[derive(Clone, Copy, Drop, Debug, PartialEq, Eq)]
@@ -13,7 +22,7 @@ pub enum AttachErr {
     Memory,
 }
 
-/// A device with up to eight swap areas, numbered from 0 to 7, whose pages have 4096 bytes each.
+/// A device with up to eight swap areas, numbered from 0 to 7, whose pages have `PAGE_LEN` bytes each.
 pub trait SwapDev {
     /// How many pages each attached area has.
     ghost sizes: { Self → ℕ → Option ℕ };
@@ -28,7 +37,7 @@ pub trait SwapDev {
     fn attach(&mut self, area: u8, name: &str) -> Result<u32, AttachErr>
         requires { area < 8 }
         ensures size { IfOk result (λ n. sizes self.new ≡ with_at area (Some n) (sizes self.old)) }
-        ensures most { IfOk result (λ n. n ≤ 1048576) }
+        ensures most { IfOk result (λ n. n ≤ most_pages) }
         ensures renewed { OnOk result (IsRenewed area (pages self.old) (pages self.new)) }
         ensures same_sizes { OnErr result (sizes self.new ≡ sizes self.old) }
         ensures same_pages { OnErr result (pages self.new ≡ pages self.old) }
@@ -38,7 +47,7 @@ pub trait SwapDev {
     /// Reads a page. After an error `into` has any bytes.
     fn read(&mut self, area: u8, page: u32, into: &mut [u8]) -> Result<(), Failed>
         requires there { HasPage (sizes self.old) area page }
-        requires long { length into.old ≡ 4096 }
+        requires long { length into.old ≡ page_size }
         ensures bytes { OnOk result (Holds (pages self.old) area page into.new) }
         ensures same_pages { pages self.new ≡ pages self.old }
         ensures same_sizes { sizes self.new ≡ sizes self.old }
@@ -48,7 +57,7 @@ pub trait SwapDev {
     /// Writes a page. After an error it holds any bytes.
     fn write(&mut self, area: u8, page: u32, from: &[u8]) -> Result<(), Failed>
         requires there { HasPage (sizes self.old) area page }
-        requires long { length from.now ≡ 4096 }
+        requires long { length from.now ≡ page_size }
         ensures written { OnOk result (IsWritten area page from.now (pages self.old) (pages self.new)) }
         ensures spoiled { OnErr result (IsSpoiled area page (pages self.old) (pages self.new)) }
         ensures same_sizes { sizes self.new ≡ sizes self.old }

@@ -3,17 +3,16 @@
 //! What they hold is not told: of it the contracts say how many pages are used, and when a call failed.
 
 ghost use Rattle.std.specs.Prelude.{◌≡◌, ◌≤◌, ℕ, None, slice_index_or, option_map, IfOk};
-ghost use Rattle.av_swapdev.specs.Outside.{Rose};
+ghost use Rattle.av_io.specs.Count.{Rose};
+ghost use Rattle.av_swapdev.specs.Device.{most_pages};
 
-use crate::device::{AttachErr, SwapDev};
-use crate::outside::Failed;
+use crate::device::{AttachErr, MOST_PAGES, SwapDev};
+use av_base::PAGE_SIZE;
+use av_io::Failed;
 use std::fs::{File, OpenOptions};
 use std::io::{self, ErrorKind, Seek, SeekFrom};
 use std::os::unix::fs::FileExt;
 use std::rt::Files;
-
-/// How many pages of an area are used at most.
-const MOST_PAGES: u64 = 1 << 20;
 
 /// A file that is attached, and how many of its pages are used.
 #[derive(Drop)]
@@ -46,13 +45,13 @@ impl<R: Files<File = File> + Drop> FileDev<R> {
 
 /// Opens a file to read and write its pages.
 fn open<R: Files<File = File>>(files: &R, name: &str) -> io::Result<Attached>
-    ensures { IfOk result (λ a. a.pages ≤ 1048576) }
+    ensures { IfOk result (λ a. a.pages ≤ most_pages) }
 {
     let mut file = OpenOptions::new().read(true).write(true).open(files, name)?;
-    let pages = file.seek(SeekFrom::End(0))? / 4096;
+    let pages = file.seek(SeekFrom::End(0))? / PAGE_SIZE;
     Ok(Attached {
         file,
-        pages: pages.min(MOST_PAGES) as u32,
+        pages: pages.min(u64::from(MOST_PAGES)) as u32,
     })
 }
 
@@ -66,7 +65,7 @@ fn count(faults: &mut u64)
 
 /// Where a page begins in its file.
 fn offset(page: u32) -> u64 {
-    u64::from(page) * 4096
+    u64::from(page) * PAGE_SIZE
 }
 
 impl<R: Files<File = File> + Drop> SwapDev for FileDev<R> {

@@ -1,16 +1,18 @@
 //! The header of a swap area, as `mkswap` writes it to page 0.
 
-ghost use Rattle.std.specs.Prelude.{◌≡◌, ◌+◌, ◌-◌, ◌*◌, ◌<◌, ◌≤◌, length, IfOk};
+ghost use Rattle.std.specs.Prelude.{◌≡◌, ℕ, ◌+◌, ◌-◌, ◌*◌, ◌<◌, ◌≤◌, false, length, slice_index_or, IfOk, Ok};
 ghost use Rattle.std.specs.List.{list_any};
-ghost use Rattle.av_swapdev.specs.Header.{number_at, order_of, named, all_named, bad_below, slots_of, is_in, is_out, read_in, header_of, answer_of, bad_pages, IsHeaderOf, AddsUp};
+ghost use Rattle.av_base.specs.Page.{page_size};
+ghost use Rattle.av_base.specs.Words.{is_in, within};
+ghost use Rattle.av_swapdev.specs.Device.{most_pages};
+ghost use Rattle.av_swapdev.specs.Header.{Layout, number_at, order_of, named, all_named, bad_of, slots_of, is_out, read_in, header_of, answer_of, IsHeaderOf, AddsUp};
 
+use crate::device::MOST_PAGES;
 use byteorder::{BigEndian, ByteOrder, LittleEndian};
+use std::alloc::{AllocError, Global};
 
 /// What a page 0 ends with.
 const SIGNATURE: &[u8] = b"SWAPSPACE2";
-
-/// How many pages of an area are used at most.
-const MOST_PAGES: u32 = 1 << 20;
 
 /// How many bad pages a header has room for.
 const MOST_BAD: u32 = 637;
@@ -31,7 +33,7 @@ pub enum Order {
     Big,
 }
 
-/// An area: its pages of 4096 bytes, with the header's; how many of them are slots; how many are bad.
+/// An area: how many pages it has, with the header's; how many of them are slots; how many are bad.
 #[derive(Clone, Copy, Drop, Debug, PartialEq, Eq)]
 pub struct Header {
     pub pages: u32,
@@ -72,7 +74,7 @@ fn number(page: &[u8], order: Order, at: usize) -> u32
 
 /// The order in which the version is 1.
 fn byte_order(page: &[u8]) -> Option<Order>
-    requires { length page.now ≡ 4096 }
+    requires { length page.now ≡ page_size }
     ensures { result ≡ order_of page.now }
 {
     if number(page, Order::Little, VERSION) == 1 {
@@ -86,7 +88,7 @@ fn byte_order(page: &[u8]) -> Option<Order>
 
 /// The bad page that the header names at a place, from 0.
 fn bad_at(page: &[u8], order: Order, place: u32) -> u32
-    requires long { length page.now ≡ 4096 }
+    requires long { length page.now ≡ page_size }
     requires room { place < 637 }
     ensures { result ≡ number_at order page.now (1536 + 4 * place) }
 {
@@ -95,7 +97,7 @@ fn bad_at(page: &[u8], order: Order, place: u32) -> u32
 
 /// Whether one that is named is 0, or behind the last page.
 fn has_wrong(page: &[u8], order: Order, count: u32, last: u32) -> bool
-    requires long { length page.now ≡ 4096 }
+    requires long { length page.now ≡ page_size }
     requires room { count ≤ 637 }
     ensures { result ≡ list_any (is_out last) (named order page.now 0 count) }
 {
@@ -110,7 +112,7 @@ fn has_wrong(page: &[u8], order: Order, count: u32, last: u32) -> bool
 
 /// Whether a page is named at this place or behind it.
 fn is_named(page: &[u8], order: Order, from: u32, count: u32, m: u32) -> bool
-    requires long { length page.now ≡ 4096 }
+    requires long { length page.now ≡ page_size }
     requires room { count ≤ 637 }
     ensures { result ≡ is_in m (named order page.now from (count - from)) }
 {
@@ -122,16 +124,23 @@ fn is_named(page: &[u8], order: Order, from: u32, count: u32, m: u32) -> bool
     false
 }
 
+/// Whether a page of the area lies behind its header.
+fn is_behind_header(m: u32, pages: u32) -> bool
+    ensures { result ≡ within 1 (pages - 1) m }
+{
+    m > 0 && m < pages
+}
+
 /// How many bad pages of the area are named. Of a page that is named twice, the last place counts.
 fn count_bad(page: &[u8], order: Order, count: u32, pages: u32) -> u32
-    requires long { length page.now ≡ 4096 }
+    requires long { length page.now ≡ page_size }
     requires room { count ≤ 637 }
-    ensures { result ≡ length (bad_below pages (named order page.now 0 count)) }
+    ensures { result ≡ length (bad_of pages (named order page.now 0 count)) }
 {
     let mut distinct = 0;
     for place in 0..count {
         let bad = bad_at(page, order, place);
-        if bad < pages && !is_named(page, order, place + 1, count, bad) {
+        if is_behind_header(bad, pages) && !is_named(page, order, place + 1, count, bad) {
             distinct += 1;
         }
     }
@@ -140,7 +149,7 @@ fn count_bad(page: &[u8], order: Order, count: u32, pages: u32) -> u32
 
 /// The header that a page 0 has, on a device with so many pages.
 pub fn read_header(page: &[u8], device_pages: u32) -> Result<Header, HeaderFault>
-    requires { length page.now ≡ 4096 }
+    requires { length page.now ≡ page_size }
     ensures exact { result ≡ answer_of (header_of page.now device_pages) }
     ensures of_page { IfOk result (λ header. IsHeaderOf page.now header) }
     ensures adds_up { IfOk result (λ header. AddsUp header device_pages) }
@@ -156,7 +165,7 @@ pub fn read_header(page: &[u8], device_pages: u32) -> Result<Header, HeaderFault
 
 /// What the numbers in this order say, on a device with so many pages.
 fn read_numbers(page: &[u8], order: Order, device_pages: u32) -> Result<Header, HeaderFault>
-    requires { length page.now ≡ 4096 }
+    requires { length page.now ≡ page_size }
     ensures { result ≡ answer_of (read_in order page.now device_pages) }
 {
     let last = number(page, order, LAST_PAGE);
@@ -184,12 +193,63 @@ fn read_numbers(page: &[u8], order: Order, device_pages: u32) -> Result<Header, 
 
 /// Whether a page of the area is bad, by page 0 and the header that it has.
 pub fn is_bad(page: &[u8], header: &Header, m: u32) -> bool
-    requires long { length page.now ≡ 4096 }
+    requires long { length page.now ≡ page_size }
     requires of_page { IsHeaderOf page.now header.now }
-    ensures { result ≡ is_in m (bad_pages page.now) }
+    ensures { (device : ℕ) (layout : Layout) → header_of page.now device ≡ Ok layout
+        → result ≡ is_in m layout.bad }
 {
     let Some(order) = byte_order(page) else {
         return false;
     };
-    m < header.pages && is_named(page, order, 0, number(page, order, BAD_COUNT), m)
+    is_behind_header(m, header.pages) && is_named(page, order, 0, number(page, order, BAD_COUNT), m)
+}
+
+/// The pages below `pages`, each with whether it is named as bad.
+fn marks(
+    alloc: Global,
+    page: &[u8],
+    order: Order,
+    count: u32,
+    pages: u32,
+) -> Result<Vec<bool>, AllocError>
+    requires long { length page.now ≡ page_size }
+    requires room { count ≤ 637 }
+    ensures len { IfOk result (λ marks. length marks.items ≡ pages) }
+    ensures named { IfOk result (λ marks. (m : ℕ) → m < pages
+        → slice_index_or marks.items m false ≡ is_in m (named order page.now 0 count)) }
+{
+    let mut marks = vec![in alloc; false; pages as usize]?;
+    for place in 0..count {
+        let bad = bad_at(page, order, place);
+        if bad < pages {
+            marks[bad as usize] = true;
+        }
+    }
+    Ok(marks)
+}
+
+/// The bad pages of the area, rising, each once, by page 0 and the header that it has. The time is that of the area's pages.
+pub fn bad_pages(alloc: Global, page: &[u8], header: &Header) -> Result<Vec<u32>, AllocError>
+    requires long { length page.now ≡ page_size }
+    requires of_page { IsHeaderOf page.now header.now }
+    ensures { IfOk result (λ bad. (device : ℕ) (layout : Layout)
+        → header_of page.now device ≡ Ok layout → bad.items ≡ layout.bad) }
+{
+    let mut bad = Vec::new(alloc);
+    let Some(order) = byte_order(page) else {
+        return Ok(bad);
+    };
+    let marks = marks(
+        alloc,
+        page,
+        order,
+        number(page, order, BAD_COUNT),
+        header.pages,
+    )?;
+    for m in 1..header.pages {
+        if marks[m as usize] {
+            bad.push(m)?;
+        }
+    }
+    Ok(bad)
 }

@@ -1,22 +1,19 @@
-//! What the program meets outside of itself: sources and sinks of bytes, devices with swap areas, and the header of an area.
+//! Devices with swap areas, and the header of an area.
+//!
+//! Proved: what a call of a device reads and writes, which pages change and which stay, and that each failure is counted; of the device
+//! in memory also which calls fail, exactly. Of a header: exactly its numbers and bad pages, or the first fault in a stated order.
+//! What real files hold is not told: that `FileDev` reads and writes them is only tested.
 #![tactic(auto)]
 
 mod device;
-mod faults;
 mod file_dev;
 mod header;
 mod mem_dev;
-mod memory;
-mod outside;
-mod real;
 
-pub use device::{AttachErr, SwapDev};
+pub use device::{AttachErr, PAGE_LEN, SwapDev};
 pub use file_dev::FileDev;
-pub use header::{Header, HeaderFault, is_bad, read_header};
+pub use header::{Header, HeaderFault, bad_pages, is_bad, read_header};
 pub use mem_dev::MemDev;
-pub use memory::{MemSink, MemSource};
-pub use outside::{Failed, Sink, SinkErr, Source};
-pub use real::{ReadSource, WriteSink};
 
 #[cfg(test)]
 mod tests;

@@ -1,20 +1,19 @@
 //! A device in memory, which fails at the calls that a list names.
 
-ghost use Rattle.std.specs.Prelude.{◌≡◌, ℕ, ◌-◌, ◌<◌, ◌≤◌, false, map, min, length, slice_index, slice_index_or, if◌then◌else◌, Some, None, MatchOption, IfOk, OnOk, OnErr, IsErrOf};
-ghost use Rattle.av_swapdev.specs.Outside.{Rose};
-ghost use Rattle.av_swapdev.specs.Device.{with_at, with_page, HasPage, Holds, IsInverted, IsRenewed, IsSpoiled, IsWritten, area_in, size_in, sizes_in, pages_in};
+ghost use Rattle.std.specs.Prelude.{◌≡◌, ℕ, ◌-◌, ◌<◌, ◌≤◌, false, map, min, length, slice_index, slice_index_or, if◌then◌else◌, Some, None, MatchOption, IfOk, OnOk, OnErr, IsErrOf, is_err};
+ghost use Rattle.av_base.specs.Page.{page_size};
+ghost use Rattle.av_base.specs.Words.{with_at};
+ghost use Rattle.av_io.specs.Count.{Rose};
+ghost use Rattle.av_io.specs.Faults.{IsFresh, IsNextCall};
+ghost use Rattle.av_swapdev.specs.Device.{with_page, most_pages, HasPage, Holds, IsInverted, IsRenewed, IsSpoiled, IsWritten, area_in, size_in, sizes_in, pages_in};
 
-use crate::device::{AttachErr, SwapDev};
-use crate::faults::Faults;
-use crate::outside::Failed;
-
-/// How many pages of an area are used at most.
-const MOST_PAGES: usize = 1 << 20;
+use crate::device::{AttachErr, MOST_PAGES, PAGE_LEN, SwapDev};
+use av_io::{Failed, Faults};
 
 /// A device in memory, which tells what its pages hold.
 #[derive(Drop)]
 pub struct MemDev {
-    areas: Vec<Vec<[u8; 4096]>>,
+    areas: Vec<Vec<[u8; PAGE_LEN]>>,
     attached: [bool; 8],
     faults: Faults,
 }
@@ -22,11 +21,11 @@ pub struct MemDev {
 impl MemDev {
     /// A device with these pages in each area, by its number, of which none is attached yet. The calls of these numbers fail: all calls
     /// of the device are numbered together, from 1.
-    pub fn new(areas: Vec<Vec<[u8; 4096]>>, failing: Vec<u64>) -> MemDev
+    pub fn new(areas: Vec<Vec<[u8; PAGE_LEN]>>, failing: Vec<u64>) -> MemDev
         ensures pages { ⟦<MemDev as SwapDev>⟧.pages result ≡ Some (pages_in areas.items) }
         ensures sizes { (area : ℕ) → ⟦<MemDev as SwapDev>⟧.sizes result area ≡ None }
         ensures faults { ⟦<MemDev as SwapDev>⟧.faults result ≡ 0 }
-        ensures failing { result.faults.failing ≡ failing }
+        ensures calls { IsFresh result.faults failing }
     {
         MemDev {
             areas,
@@ -36,7 +35,7 @@ impl MemDev {
     }
 
     /// The bytes of a page, attached or not, where the area has it.
-    pub fn page(&self, area: u8, page: u32) -> Option<&[u8; 4096]>
+    pub fn page(&self, area: u8, page: u32) -> Option<&[u8; PAGE_LEN]>
         ensures { MatchOption result (length (area_in self.now.areas.items area) ≤ page) (λ bytes. Holds (⟦<MemDev as SwapDev>⟧.pages self.now) area page bytes.now) }
     {
         self.areas.get(area as usize)?.get(page as usize)
@@ -44,27 +43,27 @@ impl MemDev {
 }
 
 /// How many pages of an area are used.
-fn size(areas: &[Vec<[u8; 4096]>], area: usize) -> u32
+fn size(areas: &[Vec<[u8; PAGE_LEN]>], area: usize) -> u32
     ensures { result ≡ size_in areas.now area }
 {
     match areas.get(area) {
-        Some(pages) => pages.len().min(MOST_PAGES) as u32,
+        Some(pages) => pages.len().min(MOST_PAGES as usize) as u32,
         None => 0,
     }
 }
 
 /// Makes a page these bytes.
-fn replace(page: &mut [u8; 4096], bytes: &[u8])
-    requires { length bytes.now ≡ 4096 }
+fn replace(page: &mut [u8; PAGE_LEN], bytes: &[u8])
+    requires { length bytes.now ≡ page_size }
     ensures { page.new ≡ bytes.now }
 {
     page.copy_from_slice(bytes);
 }
 
 /// Inverts each bit of a page.
-fn invert(page: &mut [u8; 4096])
+fn invert(page: &mut [u8; PAGE_LEN])
     ensures inverted { IsInverted page.old page.new }
-    ensures long { length page.new ≡ 4096 }
+    ensures long { length page.new ≡ page_size }
 {
     for byte in page.iter_mut() {
         *byte = !*byte;
@@ -82,25 +81,36 @@ impl SwapDev for MemDev {
     fn attach(&mut self, area: u8, _name: &str) -> Result<u32, AttachErr>
         requires { area < 8 }
         ensures size { IfOk result (λ n. ⟦<MemDev as SwapDev>⟧.sizes self.new ≡ with_at area (Some n) (⟦<MemDev as SwapDev>⟧.sizes self.old)) }
-        ensures most { IfOk result (λ n. n ≤ 1048576) }
+        ensures most { IfOk result (λ n. n ≤ most_pages) }
         ensures renewed { OnOk result (IsRenewed area (⟦<MemDev as SwapDev>⟧.pages self.old) (⟦<MemDev as SwapDev>⟧.pages self.new)) }
         ensures same_sizes { OnErr result (⟦<MemDev as SwapDev>⟧.sizes self.new ≡ ⟦<MemDev as SwapDev>⟧.sizes self.old) }
         ensures same_pages { OnErr result (⟦<MemDev as SwapDev>⟧.pages self.new ≡ ⟦<MemDev as SwapDev>⟧.pages self.old) }
         ensures never_falls { ⟦<MemDev as SwapDev>⟧.faults self.old ≤ ⟦<MemDev as SwapDev>⟧.faults self.new }
         ensures cause { OnErr result (Rose (⟦<MemDev as SwapDev>⟧.faults self.old) (⟦<MemDev as SwapDev>⟧.faults self.new)) }
-        // Beside what the trait says: it is all pages of the area, and they stay.
+        // Beside what the trait says: exactly the calls that are listed fail; all pages of the area are used, and they stay.
+        ensures calls { IsNextCall self.old.faults self.new.faults (is_err result) }
         ensures all { IfOk result (λ n. n ≡ size_in self.old.areas.items area) }
         ensures kept { ⟦<MemDev as SwapDev>⟧.pages self.new ≡ ⟦<MemDev as SwapDev>⟧.pages self.old }
     {
-        if self.faults.fails() {
+        if self.faults.next_fails() {
             return Err(AttachErr::Failed);
         }
         self.attached[area as usize] = true;
         Ok(size(&self.areas, area as usize))
     }
 
-    fn read(&mut self, area: u8, page: u32, into: &mut [u8]) -> Result<(), Failed> {
-        if self.faults.fails() {
+    fn read(&mut self, area: u8, page: u32, into: &mut [u8]) -> Result<(), Failed>
+        requires there { HasPage (⟦<MemDev as SwapDev>⟧.sizes self.old) area page }
+        requires long { length into.old ≡ page_size }
+        ensures bytes { OnOk result (Holds (⟦<MemDev as SwapDev>⟧.pages self.old) area page into.new) }
+        ensures same_pages { ⟦<MemDev as SwapDev>⟧.pages self.new ≡ ⟦<MemDev as SwapDev>⟧.pages self.old }
+        ensures same_sizes { ⟦<MemDev as SwapDev>⟧.sizes self.new ≡ ⟦<MemDev as SwapDev>⟧.sizes self.old }
+        ensures never_falls { ⟦<MemDev as SwapDev>⟧.faults self.old ≤ ⟦<MemDev as SwapDev>⟧.faults self.new }
+        ensures cause { OnErr result (Rose (⟦<MemDev as SwapDev>⟧.faults self.old) (⟦<MemDev as SwapDev>⟧.faults self.new)) }
+        // Beside what the trait says: exactly the calls that are listed fail.
+        ensures calls { IsNextCall self.old.faults self.new.faults (is_err result) }
+    {
+        if self.faults.next_fails() {
             return Err(Failed);
         }
         into.copy_from_slice(&self.areas[area as usize][page as usize]);
@@ -109,17 +119,18 @@ impl SwapDev for MemDev {
 
     fn write(&mut self, area: u8, page: u32, from: &[u8]) -> Result<(), Failed>
         requires there { HasPage (⟦<MemDev as SwapDev>⟧.sizes self.old) area page }
-        requires long { length from.now ≡ 4096 }
+        requires long { length from.now ≡ page_size }
         ensures written { OnOk result (IsWritten area page from.now (⟦<MemDev as SwapDev>⟧.pages self.old) (⟦<MemDev as SwapDev>⟧.pages self.new)) }
         ensures spoiled { OnErr result (IsSpoiled area page (⟦<MemDev as SwapDev>⟧.pages self.old) (⟦<MemDev as SwapDev>⟧.pages self.new)) }
         ensures same_sizes { ⟦<MemDev as SwapDev>⟧.sizes self.new ≡ ⟦<MemDev as SwapDev>⟧.sizes self.old }
         ensures never_falls { ⟦<MemDev as SwapDev>⟧.faults self.old ≤ ⟦<MemDev as SwapDev>⟧.faults self.new }
         ensures cause { OnErr result (Rose (⟦<MemDev as SwapDev>⟧.faults self.old) (⟦<MemDev as SwapDev>⟧.faults self.new)) }
-        // Beside what the trait says: where it fails, each bit of the page is inverted.
+        // Beside what the trait says: exactly the calls that are listed fail, and then each bit of the page is inverted.
+        ensures calls { IsNextCall self.old.faults self.new.faults (is_err result) }
         ensures inverted { OnErr result (IsInverted (pages_in self.old.areas.items area page) (pages_in self.new.areas.items area page)) }
     {
         let bytes = &mut self.areas[area as usize][page as usize];
-        if self.faults.fails() {
+        if self.faults.next_fails() {
             invert(bytes);
             return Err(Failed);
         }

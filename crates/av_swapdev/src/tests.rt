@@ -1,6 +1,7 @@
 ghost use Rattle.std.specs.Prelude.{◌≡◌, ◌+◌, ◌<◌, ◌≤◌, Some, true, length};
 
 use super::*;
+use av_io::Failed;
 use byteorder::{BigEndian, ByteOrder, LittleEndian};
 use std::env;
 use std::fs::{self, OpenOptions};
@@ -9,11 +10,11 @@ use std::test::*;
 use std::time::{Duration, SystemTime, UNIX_EPOCH};
 
 /// A header in this order, of a device of 8 pages.
-fn header<T: ByteOrder>(last: u32, bad: &[u32]) -> [u8; 4096]
+fn header<T: ByteOrder>(last: u32, bad: &[u32]) -> [u8; PAGE_LEN]
     requires { length bad.now ≤ 637 }
 {
-    let mut page = [0; 4096];
-    page[4086..].copy_from_slice(b"SWAPSPACE2");
+    let mut page = [0; PAGE_LEN];
+    page[PAGE_LEN - 10..].copy_from_slice(b"SWAPSPACE2");
     T::write_u32(&mut page[1024..], 1);
     T::write_u32(&mut page[1028..], last);
     T::write_u32(&mut page[1032..], bad.len() as u32);
@@ -32,7 +33,7 @@ fn little(last: u32, bad: &[u32]) -> Result<Header, HeaderFault>
 
 /// A header with one number changed.
 fn changed(at: usize, number: u32) -> Result<Header, HeaderFault>
-    requires { at + 4 ≤ 4096 }
+    requires { at + 4 ≤ PAGE_LEN }
 {
     let mut page = header::<LittleEndian>(7, &[]);
     LittleEndian::write_u32(&mut page[at..], number);
@@ -58,7 +59,7 @@ fn headers(rt: HostRuntime) {
 #[test]
 fn faults(rt: HostRuntime) {
     let mut page = header::<LittleEndian>(7, &[]);
-    page[4095] = b'1';
+    page[PAGE_LEN - 1] = b'1';
     assert!(rt; read_header(&page, 8) == Err(HeaderFault::Signature));
     assert!(rt; changed(1024, 2) == Err(HeaderFault::Version));
     assert!(rt; changed(1024, 1 << 16) == Err(HeaderFault::Version));
@@ -72,14 +73,17 @@ fn faults(rt: HostRuntime) {
 }
 
 #[test]
-fn bad_pages_of_a_header(rt: HostRuntime) {
-    let page = header::<LittleEndian>(7, &[3, 3, 5]);
-    if let Ok(found) = read_header(&page, 8) {
-        assert!(rt; is_bad(&page, &found, 3) && is_bad(&page, &found, 5));
-        assert!(rt;
-            !is_bad(&page, &found, 0) && !is_bad(&page, &found, 4) && !is_bad(&page, &found, 8)
-        );
-    }
+fn bad_pages_of_a_header(rt: HostRuntime) -> Result<(), Fail> {
+    let page = header::<LittleEndian>(7, &[5, 3, 3]);
+    let Ok(found) = read_header(&page, 8) else {
+        return Err(Fail::new("the header is not read"));
+    };
+    assert!(rt; is_bad(&page, &found, 3) && is_bad(&page, &found, 5));
+    assert!(rt;
+        !is_bad(&page, &found, 0) && !is_bad(&page, &found, 4) && !is_bad(&page, &found, 8)
+    );
+    assert!(rt; bad_pages(rt.alloc(), &page, &found)?.as_slice() == [3, 5].as_slice());
+    Ok(())
 }
 
 /// Whether what has this name is attached as area 0, with so many pages.
@@ -95,7 +99,7 @@ fn copied<D: SwapDev>(
     pages: u32,
     from: u32,
     to: u32,
-    buffer: &mut [u8; 4096],
+    buffer: &mut [u8; PAGE_LEN],
 ) -> Result<(), Failed>
     requires pages { D.sizes device.old 0 ≡ Some pages }
     requires there { (from < pages) × (to < pages) }
@@ -108,17 +112,19 @@ fn copied<D: SwapDev>(
 #[test]
 fn memory(rt: HostRuntime) -> Result<(), Fail> {
     let a = rt.alloc();
-    let pages = vec![in a; [7; 4096], [8; 4096], [9; 4096]]?;
+    let pages = vec![in a; [7; PAGE_LEN], [8; PAGE_LEN], [9; PAGE_LEN]]?;
     let mut device = MemDev::new(vec![in a; pages]?, vec![in a; 4, 7]?);
-    let mut buffer = [0; 4096];
+    let mut buffer = [0; PAGE_LEN];
     assert!(rt; device.attach(3, "none") == Ok(0));
     assert!(rt; attached(&mut device, "some", 3));
     // The third call reads, and the fourth fails to write.
     assert!(rt; copied(&mut device, 3, 2, 1, &mut buffer) == Err(Failed));
-    assert!(rt; device.page(0, 1) == Some(&[!8; 4096]));
+    assert!(rt; device.page(0, 1) == Some(&[!8; PAGE_LEN]));
     assert!(rt; copied(&mut device, 3, 2, 0, &mut buffer) == Ok(()));
     assert!(rt; copied(&mut device, 3, 1, 2, &mut buffer) == Err(Failed));
-    assert!(rt; device.page(0, 0) == Some(&[9; 4096]) && device.page(0, 2) == Some(&[9; 4096]));
+    assert!(rt;
+        device.page(0, 0) == Some(&[9; PAGE_LEN]) && device.page(0, 2) == Some(&[9; PAGE_LEN])
+    );
     assert!(rt; device.page(0, 3).is_none() && device.page(1, 0).is_none());
     Ok(())
 }
@@ -137,26 +143,28 @@ fn path_of_test(rt: &HostRuntime) -> Result<PathBuf, Fail> {
 fn files(rt: HostRuntime) -> Result<(), Fail> {
     let a = rt.alloc();
     let path = path_of_test(&rt)?;
-    let mut bytes = vec![in a; 1; 4096]?;
-    bytes.extend_from_slice(&[2; 4096])?;
-    bytes.extend_from_slice(&[3; 4095])?;
+    let mut bytes = vec![in a; 1; PAGE_LEN]?;
+    bytes.extend_from_slice(&[2; PAGE_LEN])?;
+    bytes.extend_from_slice(&[3; PAGE_LEN - 1])?;
     fs::write(&rt, path.as_path(), bytes.as_slice())?;
 
     let mut device = FileDev::new(rt.clone()?);
-    let mut buffer = [0; 4096];
+    let mut buffer = [0; PAGE_LEN];
     assert!(rt; attached(&mut device, path.as_str(), 2));
     assert!(rt; copied(&mut device, 2, 1, 0, &mut buffer) == Ok(()));
-    assert!(rt; buffer == [2; 4096]);
+    assert!(rt; buffer == [2; PAGE_LEN]);
     let now = fs::read(&rt, path.as_path())?;
     assert!(rt;
-        now.len() == 3 * 4096 - 1 && now.starts_with(&[2; 8192]) && now.ends_with(&[3; 4095])
+        now.len() == 3 * PAGE_LEN - 1
+            && now.starts_with(&[2; 2 * PAGE_LEN])
+            && now.ends_with(&[3; PAGE_LEN - 1])
     );
 
     // A file that was cut short.
     OpenOptions::new()
         .write(true)
         .open(&rt, path.as_path())?
-        .set_len(4096)?;
+        .set_len(PAGE_LEN as u64)?;
     assert!(rt; copied(&mut device, 2, 1, 0, &mut buffer) == Err(Failed));
     fs::remove_file(&rt, path.as_path())?;
     assert!(rt; !attached(&mut device, path.as_str(), 1));

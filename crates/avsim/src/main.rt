@@ -9,7 +9,7 @@ ghost use Rattle.std.specs.Prelude.{◌≢◌, length, IsNone};
 use crate::failure::{Failure, number};
 use crate::help::{HELP, VERSION};
 use av_replay::{Status, run};
-use av_swapdev::{ReadSource, WriteSink};
+use av_io::{ReadSource, WriteSink};
 use std::env;
 use std::io::{self, ErrorKind};
 use std::process::ExitCode;

@@ -8,7 +8,7 @@ use mathlib.Core.List.{reverse_aux}
 use Rattle.std.proofs.Common.{◌≡◌, ◌⊎◌, inl, inr, ℕ, ◌+◌, ◌<◌, ◌≤◌, min, Bool, true, false, cond, not, ◌&&◌, ◌||◌, if◌then◌else◌, nat_lt, T, List, [], ◌∷◌, ◌++◌, map, filter, Option, Some, None, is_none, is_some, option_map, refl, sym, ap, subst, ◌∙◌, arith, ◌==◌}
 use Rattle.av_base.specs.Words.{how_many}
 use Rattle.av_base.specs.declared.slot.Slot.{Slot}
-use Rattle.av_trace.specs.declared.reply.Note.TheVariants.{Dropped, Failed, Started, Written}
+use Rattle.av_trace.specs.declared.note.Note.TheVariants.{Dropped, Failed, Started, Written}
 use Rattle.av_plain.specs.Event.{after_all, after_note, if_some, note_events, off_flight, to_inactive_tail, when}
 use Rattle.av_plain.specs.Ledger.{Ledger, Setting, frame_at, in_flight, is_orphan, is_unmapped, map_count, same_slot, slot_entries}
 use Rattle.av_plain.specs.Sound.{IsSound, IsSoundBut, flights, no_excuse, pairs, slots}

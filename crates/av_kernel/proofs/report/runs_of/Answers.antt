@@ -2,7 +2,7 @@ use Rattle.std.proofs.Common.{◌∷◌, ◌++◌, ◌∙◌, ◌+◌, List, [],
 use Rattle.std.proofs.lemmas.List.{drop_more, at_drop_all}
 use Rattle.std.specs.Prelude.{map}
 use Rattle.av_vma.specs.declared.area.Area.{Area}
-use Rattle.av_trace.specs.declared.reply.Row.{Row}
+use Rattle.av_trace.specs.declared.row.Row.{Row}
 use Rattle.av_plain.proofs.Report.Runs.{all_joined}
 use Rattle.av_spaces.specs.Spaces.{AreRising}
 use Rattle.av_reclaim.specs.Mem.{range_of}

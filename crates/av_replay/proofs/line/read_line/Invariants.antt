@@ -1,5 +1,5 @@
 use Rattle.std.proofs.Common.{◌≡◌, ◌≤◌, ◌-◌, length}
-use Rattle.av_swapdev.specs.Outside.{in_front}
+use Rattle.av_io.specs.Source.{in_front}
 use Rattle.av_replay.proofs.line.read_line.Given as goal
 
 abbrev pub invariant-loop-size : goal.invariant-loop-size

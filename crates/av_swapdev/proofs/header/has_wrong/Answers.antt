@@ -1,6 +1,6 @@
 use Rattle.std.proofs.Common.{ℕ, ◌+◌, ◌*◌, ap, ◌∙◌, sym}
 use Rattle.av_swapdev.specs.Header.{number_at, is_out}
-use Rattle.av_swapdev.proofs.Named.{any_passed, is_inside}
+use Rattle.av_swapdev.proofs.HeaderNamed.{any_passed, is_inside}
 use Rattle.av_swapdev.proofs.header.has_wrong.Goals as goal
 
 pub loop-place-preserved : goal.loop-place-preserved

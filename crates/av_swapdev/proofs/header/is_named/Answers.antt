@@ -1,6 +1,6 @@
 use Rattle.std.proofs.Common.{ℕ, ◌+◌, ◌*◌, eqb, ap, ◌∙◌, sym}
 use Rattle.av_swapdev.specs.Header.{number_at}
-use Rattle.av_swapdev.proofs.Named.{any_passed, is_other}
+use Rattle.av_swapdev.proofs.HeaderNamed.{any_passed, is_other}
 use Rattle.av_swapdev.proofs.header.is_named.Goals as goal
 
 pub loop-place-preserved : goal.loop-place-preserved

@@ -1,5 +1,6 @@
 use Rattle.std.proofs.Common.{◌≡◌, ◌-◌}
-use Rattle.av_swapdev.specs.Header.{named, is_in}
+use Rattle.av_base.specs.Words.{is_in}
+use Rattle.av_swapdev.specs.Header.{named}
 use Rattle.av_swapdev.proofs.header.is_named.Given as goal
 
 abbrev pub invariant-loop-place : goal.invariant-loop-place

@@ -4,9 +4,10 @@ use Rattle.av_vma.specs.Areas.{area_of}
 use Rattle.av_vma.specs.Gap.{IsGap}
 use Rattle.av_vmatree.specs.declared.span.Span.{Span}
 use Rattle.av_vmatree.specs.Spans.{IsFree, IsMet, taken}
-use Rattle.av_merge.specs.Pages.{Pages, pages_by, IsReached}
+use Rattle.av_vma.specs.Pages.{Pages, mapped, unmapped}
+use Rattle.av_merge.specs.Pages.{pages_by, IsReached}
 use Rattle.av_merge.specs.Process.{AreAreasOf}
-use Rattle.av_spaces.specs.Spaces.{areas_of, pages_of, AreRising, mapped, unmapped, AreThese, AreProtected, IsChanged}
+use Rattle.av_spaces.specs.Spaces.{areas_of, pages_of, AreRising, AreThese, IsChanged}
 use Rattle.av_spaces.specs.Trees.{tree_at, areas_by, spaces_by}
 use Rattle.av_spaces.proofs.Areas.{held_by, rising_of}
 use Rattle.av_spaces.proofs.Trees.{areas_are, not_dead, lives_is, tree_of, pages_there, none_dead, taken_as, place_there, trees_same, trees_spawned, count_spawned, spawns, trees_left, count_left, ends, place_still, trees_lent, count_lent, changes, if_each, on_ok}

@@ -5,10 +5,11 @@ use Rattle.av_vma.specs.Areas.{area_of}
 use Rattle.av_vma.specs.Gap.{IsGap}
 use Rattle.av_vmatree.specs.declared.span.Span.{Span}
 use Rattle.av_vmatree.specs.Spans.{IsFree, IsMet, taken}
-use Rattle.av_merge.specs.Pages.{Pages, pages_by, IsReached}
+use Rattle.av_vma.specs.Pages.{Pages, mapped, unmapped}
+use Rattle.av_merge.specs.Pages.{pages_by, IsReached}
 use Rattle.av_merge.specs.Process.{AreAreasOf}
-use Rattle.av_spaces.specs.Spaces.{IsSpawned, IsEnded, areas_of, pages_of, AreRising, mapped, unmapped, AreThese, AreProtected, IsChanged}
-use Rattle.av_spaces.specs.Trees.{Trees, IsWhole, tree_at, areas_by, spaces_by}
+use Rattle.av_spaces.specs.Spaces.{IsSpawned, IsEnded, areas_of, pages_of, AreRising, AreThese, IsChanged}
+use Rattle.av_spaces.specs.Trees.{Trees, HasTrees, tree_at, areas_by, spaces_by}
 use Rattle.av_spaces.proofs.Areas.{held_by, rising_of}
 use Rattle.av_spaces.proofs.Trees.{some_mapped, count_is, areas_are, not_dead, tree_of, pages_there, none_dead, taken_as, place_there, trees_same, trees_spawned, count_spawned, spawns, trees_left, count_left, ends, place_still, trees_lent, count_lent, changes, count_below, some_alive, lives_is, if_each, on_ok}
 use Rattle.av_spaces.proofs.spaces.Spaces.map.Goals as goal
@@ -22,7 +23,7 @@ put_tree-requires c = subst (λ (ts : Trees). c.args.process < length ts) (sym c
 pub invariant_of-self : goal.invariant_of-self
 invariant_of-self c =
     let set = c.put_tree.ensures ∙ ap (λ (ts : Trees). slice_set ts c.args.process (Some c.map-result.new.tree)) c.take_tree-tree.ensures.trees in
-    subst (λ (ts : Trees). IsWhole (area_of c.map-result.new.areas) ts c.self.inside.alive) (sym set) (record {
+    subst (λ (ts : Trees). HasTrees (area_of c.map-result.new.areas) ts c.self.inside.alive) (sym set) (record {
       trees = trees_lent (area_of c.self.inside.areas) (area_of c.map-result.new.areas) c.self.inside.trees.items c.args.process c.take_tree-tree.result c.map-result.new.tree c.self.invariant.trees c.take_tree-tree.ensures.tree (λ _. c.map-result.ensures.stands);
       alive = count_lent (area_of c.self.inside.areas) (area_of c.map-result.new.areas) c.self.inside.trees.items c.args.process c.take_tree-tree.result c.map-result.new.tree c.self.invariant.trees c.take_tree-tree.ensures.tree (λ _. c.map-result.ensures.stands) ∙ c.self.invariant.alive;
       few = simp length-set c.self.invariant.few;

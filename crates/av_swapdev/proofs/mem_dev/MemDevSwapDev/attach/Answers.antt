@@ -1,6 +1,6 @@
 use Rattle.std.proofs.Common.{ap, Some}
 use Rattle.av_swapdev.specs.Device.{pages_in}
-use Rattle.av_swapdev.proofs.PageLemmas.{same_at}
+use Rattle.av_swapdev.proofs.DevicePages.{same_at}
 use Rattle.av_swapdev.proofs.mem_dev.MemDevSwapDev.attach.Goals as goal
 
 pub returns-clause-renewed : goal.returns-clause-renewed

@@ -1,0 +1,4 @@
+pub mod Count
+pub mod Faults
+pub mod Source
+pub mod Sink

@@ -1,0 +1,53 @@
+-- What is told of a sink, and what a write and a flush change.
+use Rattle.std.specs.Prelude.{◌≡◌, ℕ, ◌<◌, ◌≤◌, List, [], ◌++◌, length, take, Option, None, option_map, Bool, true, false, Result, Ok, Err}
+use Rattle.av_io.specs.declared.sink.SinkErr.{SinkErr}
+use Rattle.av_io.specs.declared.sink.SinkErr.TheVariants.{Failed, Memory}
+use Rattle.av_io.specs.Count.{one_more, Rose}
+
+-- what the sink holds, where it is told; what it keeps back; how often a flush handed that on; how
+-- often a call failed. A sink that tells what it holds keeps nothing back.
+pub record SinkView : Type 0 where
+  pub held : Option (List ℕ)
+  pub kept_back : List ℕ
+  pub flushes : ℕ
+  pub faults : ℕ
+
+-- these bytes were added at the end of what was held
+abbrev pub Gained : Option (List ℕ) → Option (List ℕ) → List ℕ → Type 0
+Gained before now bytes = now ≡ option_map (λ text. text ++ bytes) before
+
+-- a write added the first n bytes of a piece, at least one where there is one
+pub record Takes (old new : SinkView) (n : ℕ) (piece : List ℕ) : Type 0 where
+  pub within : n ≤ length piece
+  pub some : 0 < length piece → 0 < n
+  pub bytes : Gained old.held new.held (take n piece)
+  pub flushes : new.flushes ≡ old.flushes
+  pub never_falls : old.faults ≤ new.faults
+
+-- a write added nothing: the sink failed, and that was counted, or memory ran out
+pub record TakesNothing (old new : SinkView) (error : SinkErr) : Type 0 where
+  pub held : new.held ≡ old.held
+  pub flushes : new.flushes ≡ old.flushes
+  pub never_falls : old.faults ≤ new.faults
+  pub cause : error ≡ Failed → Rose old.faults new.faults
+
+-- a flush handed on all that was kept back
+pub record HandsOn (old new : SinkView) : Type 0 where
+  pub held : new.held ≡ old.held
+  pub all : new.kept_back ≡ []
+  pub flushes : new.flushes ≡ one_more old.flushes
+  pub never_falls : old.faults ≤ new.faults
+
+-- a flush failed, and that was counted. A sink that tells what it holds doesn't fail so.
+pub record KeepsBack (old new : SinkView) : Type 0 where
+  pub held : new.held ≡ old.held
+  pub untold : old.held ≡ None
+  pub flushes : new.flushes ≡ old.flushes
+  pub never_falls : old.faults ≤ new.faults
+  pub cause : Rose old.faults new.faults
+
+-- whether a write failed: want of memory is no fault of the sink
+abbrev pub is_fault : Result ℕ SinkErr → Bool
+is_fault (Ok n) = false
+is_fault (Err Failed) = true
+is_fault (Err Memory) = false

@@ -1,0 +1,158 @@
+//! Sinks for bytes.
+
+ghost use Rattle.std.specs.Prelude.{◌≡◌, [], Some, None, length, IfOk, IfErr, OnOk, OnErr};
+ghost use Rattle.std.specs.Io.Buffered.{writer_buffer};
+ghost use Rattle.std.specs.IoError.{error_kind};
+ghost use Rattle.av_io.specs.Faults.{IsFresh, IsNextCall};
+ghost use Rattle.av_io.specs.Sink.{SinkView, Takes, TakesNothing, HandsOn, KeepsBack, is_fault};
+
+use crate::faults::{Failed, Faults};
+use std::alloc::Global;
+use std::io::{self, BufWriter, ErrorKind, Write};
+
+/// How many bytes a sink over a writer keeps back at most.
+const ROOM: usize = 1 << 16;
+
+/// Why a sink took nothing.
+#[derive(Clone, Copy, Drop, Debug, PartialEq, Eq)]
+pub enum SinkErr {
+    Failed,
+    Memory,
+}
+
+/// A sink for bytes, which may keep some back until it is flushed.
+pub trait Sink {
+    /// What is told of it: what it holds and keeps back, and how often it was flushed and failed.
+    ghost view: { Self → SinkView };
+
+    /// Adds a front of `piece`, at least a byte where there is one, and says how long it is.
+    fn write(&mut self, piece: &[u8]) -> Result<usize, SinkErr>
+        ensures ok { IfOk result (λ n. Takes (view self.old) (view self.new) n piece.now) }
+        ensures err { IfErr result (λ e. TakesNothing (view self.old) (view self.new) e) };
+
+    /// Hands on what was kept back.
+    fn flush(&mut self) -> Result<(), Failed>
+        ensures ok { OnOk result (HandsOn (view self.old) (view self.new)) }
+        ensures err { OnErr result (KeepsBack (view self.old) (view self.new)) };
+}
+
+/// A sink in memory, which tells what it holds.
+#[derive(Drop)]
+pub struct MemSink {
+    bytes: Vec<u8>,
+    flushes: u64,
+    faults: Faults,
+}
+
+impl MemSink {
+    /// An empty sink, whose writes of these numbers fail, from 1.
+    pub fn new(alloc: Global, failing: Vec<u64>) -> MemSink
+        ensures view { ⟦<MemSink as Sink>⟧.view result ≡ record {
+          held = Some [];
+          kept_back = [];
+          flushes = 0;
+          faults = 0;
+        } }
+        ensures calls { IsFresh result.faults failing }
+    {
+        MemSink {
+            bytes: Vec::new(alloc),
+            flushes: 0,
+            faults: Faults::new(failing),
+        }
+    }
+
+    /// What was written.
+    pub fn bytes(&self) -> &[u8]
+        ensures { Some result.now ≡ (⟦<MemSink as Sink>⟧.view self.now).held }
+    {
+        self.bytes.as_slice()
+    }
+}
+
+impl Sink for MemSink {
+    ghost view = { λ s. record {
+      held = Some s.bytes.items;
+      kept_back = [];
+      flushes = s.flushes;
+      faults = s.faults.count;
+    } };
+
+    /// Beside what the trait says: exactly the calls that are listed fail, and any other takes the whole piece, or is want of memory.
+    fn write(&mut self, piece: &[u8]) -> Result<usize, SinkErr>
+        ensures ok { IfOk result (λ n. Takes (⟦<MemSink as Sink>⟧.view self.old)
+            (⟦<MemSink as Sink>⟧.view self.new) n piece.now) }
+        ensures err { IfErr result (λ e. TakesNothing (⟦<MemSink as Sink>⟧.view self.old)
+            (⟦<MemSink as Sink>⟧.view self.new) e) }
+        ensures calls { IsNextCall self.old.faults self.new.faults (is_fault result) }
+        ensures whole { IfOk result (λ n. n ≡ length piece.now) }
+    {
+        if self.faults.next_fails() {
+            return Err(SinkErr::Failed);
+        }
+        if self.bytes.extend_from_slice(piece).is_err() {
+            return Err(SinkErr::Memory);
+        }
+        Ok(piece.len())
+    }
+
+    fn flush(&mut self) -> Result<(), Failed> {
+        self.flushes = self.flushes.saturating_add(1);
+        Ok(())
+    }
+}
+
+/// A sink over a writer. It keeps bytes back until there are many, or until it is flushed. What passes through it is not told.
+#[derive(Drop)]
+pub struct WriteSink<W: Write + Drop> {
+    writer: BufWriter<W>,
+    flushes: u64,
+    faults: u64,
+}
+
+impl<W: Write + Drop> WriteSink<W> {
+    /// A sink over this writer, which keeps nothing back yet. The error is want of memory.
+    pub fn new(alloc: Global, writer: W) -> io::Result<WriteSink<W>>
+        ensures ok { IfOk result (λ s. ⟦<WriteSink<W> as Sink>⟧.view s ≡ record {
+          held = None;
+          kept_back = [];
+          flushes = 0;
+          faults = 0;
+        }) }
+        ensures err { IfErr result (λ e. error_kind e ≡ ErrorKind.OutOfMemory) }
+    {
+        Ok(WriteSink {
+            writer: BufWriter::with_capacity(alloc, ROOM, writer)?,
+            flushes: 0,
+            faults: 0,
+        })
+    }
+}
+
+impl<W: Write + Drop> Sink for WriteSink<W> {
+    ghost view = { λ s. record {
+      held = None;
+      kept_back = writer_buffer s.writer;
+      flushes = s.flushes;
+      faults = s.faults;
+    } };
+
+    fn write(&mut self, piece: &[u8]) -> Result<usize, SinkErr> {
+        match self.writer.write(piece) {
+            Ok(count) if count > 0 || piece.is_empty() => Ok(count),
+            _ => {
+                self.faults = self.faults.saturating_add(1);
+                Err(SinkErr::Failed)
+            }
+        }
+    }
+
+    fn flush(&mut self) -> Result<(), Failed> {
+        if self.writer.flush().is_err() {
+            self.faults = self.faults.saturating_add(1);
+            return Err(Failed);
+        }
+        self.flushes = self.flushes.saturating_add(1);
+        Ok(())
+    }
+}

@@ -1,0 +1,132 @@
+//! Sources of bytes.
+
+ghost use Rattle.std.specs.Prelude.{Bool, false, ◌≡◌, ◌-◌, ◌≤◌, Some, None, length, drop, min, IfOk, OnErr, is_err};
+ghost use Rattle.av_io.specs.Source.{SourceView, Gives, GivesNothing};
+
+use crate::faults::{Failed, Faults};
+use std::io::Read;
+
+/// A source of bytes.
+pub trait Source {
+    /// What is told of it: what is left, whether it has told its end, and how often it was read and failed.
+    ghost view: { Self → SourceView };
+
+    /// Puts the next bytes into the front of `into`, and says how many. 0 is the end of the input, where `into` has room.
+    fn read(&mut self, into: &mut [u8]) -> Result<usize, Failed>
+        ensures ok { IfOk result (λ n. Gives (view self.old) (view self.new) n into.new) }
+        ensures err { OnErr result (GivesNothing (view self.old) (view self.new)) };
+}
+
+/// A source of bytes in memory, which tells what is left.
+#[derive(Drop)]
+pub struct MemSource {
+    bytes: Vec<u8>,
+    at: usize,
+    has_told_end: bool,
+    faults: Faults,
+    ghost within: { at ≤ length bytes.items },
+}
+
+impl MemSource {
+    ghost use Rattle.av_io.specs.Faults.{IsFresh};
+
+    /// A source of these bytes, which fails at the calls of these numbers, from 1.
+    pub fn new(bytes: Vec<u8>, failing: Vec<u64>) -> MemSource
+        ensures view { ⟦<MemSource as Source>⟧.view result ≡ record {
+          left = Some bytes.items;
+          has_told_end = false;
+          reads = 0;
+          faults = 0;
+        } }
+        ensures calls { IsFresh result.faults failing }
+    {
+        MemSource {
+            bytes,
+            at: 0,
+            has_told_end: false,
+            faults: Faults::new(failing),
+        }
+    }
+}
+
+impl Source for MemSource {
+    ghost use Rattle.av_io.specs.Faults.{IsNextCall};
+
+    ghost view = { λ s. record {
+      left = Some (drop s.at s.bytes.items);
+      has_told_end = s.has_told_end;
+      reads = s.faults.calls;
+      faults = s.faults.count;
+    } };
+
+    /// Beside what the trait says: exactly the calls that are listed fail, and any other gives as much as there is room for.
+    fn read(&mut self, into: &mut [u8]) -> Result<usize, Failed>
+        ensures ok { IfOk result (λ n. Gives (⟦<MemSource as Source>⟧.view self.old)
+            (⟦<MemSource as Source>⟧.view self.new) n into.new) }
+        ensures err { OnErr result (GivesNothing (⟦<MemSource as Source>⟧.view self.old)
+            (⟦<MemSource as Source>⟧.view self.new)) }
+        ensures calls { IsNextCall self.old.faults self.new.faults (is_err result) }
+        ensures most { IfOk result (λ n. n ≡ min (length into.old)
+            (length self.old.bytes.items - self.old.at)) }
+    {
+        if self.faults.next_fails() {
+            return Err(Failed);
+        }
+        let count = into.len().min(self.bytes.len() - self.at);
+        into[..count].copy_from_slice(&self.bytes[self.at..self.at + count]);
+        self.at += count;
+        if !into.is_empty() {
+            self.has_told_end = count == 0;
+        }
+        Ok(count)
+    }
+}
+
+/// A source over a reader, each of whose reads is one of the reader. What passes through it is not told.
+#[derive(Drop)]
+pub struct ReadSource<R: Read + Drop> {
+    reader: R,
+    has_told_end: bool,
+    reads: u64,
+    faults: u64,
+}
+
+impl<R: Read + Drop> ReadSource<R> {
+    /// A source over this reader, which was not read yet.
+    pub fn new(reader: R) -> ReadSource<R>
+        ensures { ⟦<ReadSource<R> as Source>⟧.view result ≡ record {
+          left = None;
+          has_told_end = false;
+          reads = 0;
+          faults = 0;
+        } }
+    {
+        ReadSource {
+            reader,
+            has_told_end: false,
+            reads: 0,
+            faults: 0,
+        }
+    }
+}
+
+impl<R: Read + Drop> Source for ReadSource<R> {
+    ghost view = { λ s. record {
+      left = None;
+      has_told_end = s.has_told_end;
+      reads = s.reads;
+      faults = s.faults;
+    } };
+
+    fn read(&mut self, into: &mut [u8]) -> Result<usize, Failed> {
+        self.reads = self.reads.saturating_add(1);
+        let Ok(given) = self.reader.read(into) else {
+            self.faults = self.faults.saturating_add(1);
+            return Err(Failed);
+        };
+        if !into.is_empty() {
+            self.has_told_end = given == 0;
+        }
+        Ok(given)
+    }
+}

@@ -1,0 +1,45 @@
+//! A program that uses the crates as a library: it gives a kernel a few lines, and prints each reply with how many frames are free then.
+//!
+//! What is proved: `ask` answers a line with the text of a legal reply to what the line commands, and the kernel stands for the state that
+//! this leaves. What is printed is only tested, by the file `stdout` beside `src/`.
+#![tactic(auto)]
+
+mod ask;
+
+use crate::ask::{Unanswered, ask};
+use av_kernel::Kernel;
+use std::process::ExitCode;
+
+/// A page fault, two frames, and their end.
+const LINES: [&str; 5] = [
+    "spawn 1",
+    "mmap 1 8192 rw-",
+    "read 1 7fffffffd000 2",
+    "write 1 7fffffffdfff 4142",
+    "exit 1",
+];
+
+/// Gives the lines to a machine of four frames.
+fn show(rt: &HostRuntime) -> Result<(), Unanswered> {
+    let Ok(mut kernel) = Kernel::new(rt.alloc(), 4) else {
+        return Err(Unanswered::Memory);
+    };
+    for line in LINES {
+        let text = ask(rt.alloc(), &mut kernel, line.as_bytes())?;
+        let Ok(reply) = str::from_utf8(text.as_slice()) else {
+            return Err(Unanswered::NoCommand);
+        };
+        let free = kernel.frames().free();
+        if print!(rt; "{line}: {free} frames free\n{reply}").is_err() {
+            return Err(Unanswered::Memory);
+        }
+    }
+    Ok(())
+}
+
+fn main(rt: HostRuntime) -> ExitCode {
+    match show(&rt) {
+        Ok(()) => ExitCode::from(0),
+        Err(_) => ExitCode::from(1),
+    }
+}
