@@ -1,18 +1,18 @@
 -- One tree in an arena of its own.
-use Rattle.std.proofs.Common.{◌≡◌, ℕ, ◌+◌, ◌*◌, ◌^◌, ◌<◌, ◌≤◌, inl, inr, true, false, cond, eqb, IsSome, Option, Some, None, List, [], ◌∷◌, length, refl, sym, ap, ◌∙◌, subst, arith}
-use Rattle.std.proofs.lemmas.Bool.{cases_lt, eqb-true, ne_eqb}
+use Rattle.std.proofs.Common.{◌≡◌, ℕ, ◌+◌, ◌*◌, ◌^◌, ◌<◌, ◌≤◌, inl, inr, IsSome, Option, Some, None, [], ◌∷◌, length, refl, sym, ap, ◌∙◌, subst, arith}
+use Rattle.std.proofs.lemmas.Bool.{cases_lt}
 use Rattle.std.proofs.Math.Pow.{pow_mono}
 use Rattle.std.proofs.Math.Nat.{mul-le-mul}
 use Rattle.av_arena.specs.Monoid.{MonoidLaws}
-use Rattle.av_arena.specs.Order.{AllOf, IsRising, with_entry, without_key, entry_at}
-use Rattle.av_arena.proofs.Order.{AllOf-map, rising_front, rising_back, rising_with, rising_without}
+use Rattle.av_arena.specs.Order.{with_entry, without_key, entry_at}
+use Rattle.av_arena.proofs.Order.{rising_front, rising_back, rising_with, rising_without}
 use Rattle.av_arena.proofs.Shallow.{shallow_entries}
 use Rattle.av_arena.specs.declared.link.Link.{Link}
 use Rattle.av_arena.specs.declared.link.Stored.{Stored}
 use Rattle.av_arena.specs.Tree.{Tree, Leaf, Fork, entries, height, is, none, count, IsLevel, Store, height_of, tree_at, IsHeld, IsOpened, IsPlaceFor, IsPlaced, IsReplaced, IsWithout}
 use Rattle.av_base.specs.Words.{with_at}
 use Rattle.av_arena.specs.Avl.{IsAvl, IsPart}
-use Rattle.av_arena.proofs.TreeLemmas.{is_same, is_cases, with_at_same, with_at_other, kept, held_height, in_use, stored_used, none_tree, without_used}
+use Rattle.av_arena.proofs.TreeLemmas.{is_same, is_cases, with_at_same, with_at_other, kept, held_height, in_use, stored_used, none_tree}
 
 pub shallow : {T : Type 0} (t : Tree T) → IsLevel t → 2 ^ height t ≤ (length (entries t) + 1) * (length (entries t) + 1)
 shallow Leaf lv = omega arith

@@ -1,6 +1,8 @@
 //! One line for a kernel.
 
-ghost use Rattle.std.specs.Prelude.{IfOk};
+ghost use Rattle.std.specs.Prelude.{◌≡◌, ◌≤◌, ◌^◌, Option, None, IfOk, IsErrOf};
+ghost use Rattle.av_trace.specs.declared.command.Command.{Command as AnyCommand};
+ghost use Rattle.av_trace.specs.Grammar.{Says};
 ghost use Rattle.av_plain.specs.Transcript.{State};
 ghost use Rattle.av_kernel.specs.Kernel.{Stands};
 ghost use Rattle.av_sample.specs.Answers.{Answers};
@@ -15,25 +17,35 @@ const MOST_COMMANDS: u32 = 1 << 24;
 /// Why a line has no reply.
 #[derive(Clone, Copy, Drop, Debug, PartialEq, Eq)]
 pub enum Unanswered {
-    /// The line is no command, is empty, or is a comment. The kernel is as before.
+    /// The line is empty, or a comment.
+    Blank,
+    /// The line is no command.
     NoCommand,
-    /// The kernel has done as many commands as it may, and is as before.
+    /// The kernel has done as many commands as it may.
     TooMany,
-    /// Memory ran out. The kernel answers nothing more.
+    /// Memory ran out; the command may be done.
     Memory,
 }
 
 /// Does what a line commands, and gives the reply's text, newlines included.
+///
+/// Where it refuses a line, or the kernel has done enough, the kernel is as before.
 pub fn ask(alloc: Global, kernel: &mut Kernel, line: &[u8]) -> Result<Bytes, Unanswered>
-    ensures { (s : State) → Stands kernel.old s
+    ensures answers { (s : State) → Stands kernel.old s
         → IfOk result (λ text. Answers line.now s kernel.old kernel.new text) }
+    ensures blank { IsErrOf result Unanswered.Blank → Says line.now None × (kernel.new ≡ kernel.old) }
+    ensures bad { IsErrOf result Unanswered.NoCommand
+        → ((said : Option AnyCommand) → Says line.now said → ⊥) × (kernel.new ≡ kernel.old) }
+    ensures enough { IsErrOf result Unanswered.TooMany
+        → (2 ^ 24 ≤ kernel.old.steps) × (kernel.new ≡ kernel.old) }
 {
     if MOST_COMMANDS <= kernel.steps_done() {
         return Err(Unanswered::TooMany);
     }
     let command = match parse_line(alloc, line) {
         Ok(Some(command)) => command,
-        Ok(None) | Err(LineFault::Bad) => return Err(Unanswered::NoCommand),
+        Ok(None) => return Err(Unanswered::Blank),
+        Err(LineFault::Bad) => return Err(Unanswered::NoCommand),
         Err(LineFault::Memory) => return Err(Unanswered::Memory),
     };
     let Ok(reply) = kernel.step(alloc, &command) else {

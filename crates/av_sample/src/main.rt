@@ -6,7 +6,7 @@
 
 mod ask;
 
-use crate::ask::{Unanswered, ask};
+use crate::ask::ask;
 use av_kernel::Kernel;
 use std::process::ExitCode;
 
@@ -19,27 +19,21 @@ const LINES: [&str; 5] = [
     "exit 1",
 ];
 
-/// Gives the lines to a machine of four frames.
-fn show(rt: &HostRuntime) -> Result<(), Unanswered> {
-    let Ok(mut kernel) = Kernel::new(rt.alloc(), 4) else {
-        return Err(Unanswered::Memory);
-    };
+/// Gives the lines to a machine of four frames. None where something fails.
+fn show(rt: &HostRuntime) -> Option<()> {
+    let mut kernel = Kernel::new(rt.alloc(), 4).ok()?;
     for line in LINES {
-        let text = ask(rt.alloc(), &mut kernel, line.as_bytes())?;
-        let Ok(reply) = str::from_utf8(text.as_slice()) else {
-            return Err(Unanswered::NoCommand);
-        };
+        let text = ask(rt.alloc(), &mut kernel, line.as_bytes()).ok()?;
+        let reply = str::from_utf8(text.as_slice()).ok()?;
         let free = kernel.frames().free();
-        if print!(rt; "{line}: {free} frames free\n{reply}").is_err() {
-            return Err(Unanswered::Memory);
-        }
+        print!(rt; "{line}: {free} frames free\n{reply}").ok()?;
     }
-    Ok(())
+    Some(())
 }
 
 fn main(rt: HostRuntime) -> ExitCode {
     match show(&rt) {
-        Ok(()) => ExitCode::from(0),
-        Err(_) => ExitCode::from(1),
+        Some(()) => ExitCode::from(0),
+        None => ExitCode::from(1),
     }
 }

@@ -14,7 +14,7 @@ use Rattle.av_trace.specs.Hex.{hex, hex_text, IsData}
 use Rattle.av_trace.specs.Number.{IsNumberIn, IsProcess, IsWide, process_at}
 use Rattle.av_trace.specs.Place.{IsPlace, place_words}
 use Rattle.av_trace.specs.Prot.{prot_text}
-use Rattle.av_trace.specs.Word.{field, line, ◌>>=◌, BeginsWith, Reader, after, named}
+use Rattle.av_trace.specs.Word.{field, line, ◌>>=◌, BeginsWith, Reader, after}
 use Rattle.av_trace.proofs.HexLaws.{stored}
 use Rattle.av_trace.proofs.NumberLaws.{processes, lengths, entries, reads_decimal}
 use Rattle.av_trace.proofs.PlaceLaws.{last_place}

@@ -1,17 +1,16 @@
 -- Pairs of digits: what is read is spelled so, and what is spelled is read; and the loops over them.
-use Rattle.std.proofs.Common.{◌≡◌, ℕ, suc, ◌+◌, ◌-◌, ◌*◌, ◌/◌, ◌%◌, ◌^◌, ◌<◌, ◌≤◌, zero, Bool, true, false, cond, ltb, leb, List, [], ◌∷◌, ◌++◌, length, get_or, set, take, drop, Option, Some, None, refl, sym, ap, subst, ◌∙◌, append_assoc, append-nil, arith, inl, inr}
+use Rattle.std.proofs.Common.{◌≡◌, ℕ, suc, ◌+◌, ◌-◌, ◌*◌, ◌/◌, ◌%◌, ◌^◌, ◌<◌, ◌≤◌, zero, Bool, true, false, ltb, leb, List, [], ◌∷◌, ◌++◌, length, get_or, set, take, drop, Option, Some, None, refl, sym, ap, subst, ◌∙◌, append_assoc, append-nil, arith, inl, inr}
 use Rattle.std.specs.Prelude.{◌&&◌, if◌then◌else◌}
 use Rattle.std.specs.Fmt.{digit_glyph}
-use Rattle.std.specs.List.{flat_map}
 use Rattle.std.proofs.Math.Nat.{pow-suc}
 use Rattle.std.proofs.lemmas.Bool.{cases_Bool, cond-true, cond-false, and_parts, and_from, leb-true, le-leb, lt-ltb, ltb-true}
 use Rattle.std.proofs.lemmas.List.{drop_more, drop_all, drop-set, take_more, take_more_set, take_all, length-set, length-drop}
 use Rattle.std.proofs.lemmas.Grind.{flat_map-append}
 use Rattle.std.proofs.lemmas.Option.{same_Some}
 use Rattle.av_base.specs.Page.{page_size}
-use Rattle.av_trace.specs.Hex.{hex, byte_text, hex_text, IsByte, AreBytes, IsData, is_pair, pair, pairs_of, data_of, data_at}
+use Rattle.av_trace.specs.Hex.{hex, byte_text, hex_text, AreBytes, IsData, is_pair, pair, pairs_of, data_of, data_at}
 use Rattle.av_trace.specs.Number.{worth}
-use Rattle.av_trace.specs.Word.{◌>>=◌, after}
+use Rattle.av_trace.specs.Word.{◌>>=◌}
 use Rattle.av_trace.proofs.NumberLaws.{sixteen, spell-digit, spell-more, worth-found, worth-again, one_word, word_onto}
 use Rattle.av_trace.proofs.WordLaws.{bind_some, cond_found, after-found, after-again, IsEnd, IsRest, words_onto, Reads}
 
@@ -97,7 +96,7 @@ stored = record {
       let same : (d.value, []) ≡ x = same_Some _ _ d.second in
       let whole : bytes ≡ words_onto (one_word hex_text d.value) [] =
       after-found (32 ∷ []) bytes w.value w.first ∙ ap (λ (t : List ℕ). 32 ∷ t) (is.0 ∙ sym (append-nil (hex_text d.value)))
-          ∙ sym (word_onto (hex_text d.value) []) in
+      ∙ sym (word_onto (hex_text d.value) []) in
       subst (λ (y : List ℕ × List ℕ). (bytes ≡ words_onto (one_word hex_text y.0) y.1) × IsData y.0) same (whole, is.1);
   again = λ bytes rest is end.
       let text : words_onto (one_word hex_text bytes) rest ≡ (32 ∷ []) ++ hex_text bytes =
@@ -150,7 +149,7 @@ told_next word found true spelled' i v w lt within high low is t =
     let parts : drop (2 * i) word ≡ h ∷ l ∷ drop (2 * (i + 1)) word =
     drop_more word (2 * i) 0 (omega arith) ∙ ap (λ (t : List ℕ). h ∷ t) (drop_more word (2 * i + 1) 0 within ∙ ap (λ (k : ℕ). l ∷ drop k word) next) in
     let so_far : pairs_of word ≡ with_front (take i found) (pairs_of (h ∷ l ∷ drop (2 * (i + 1)) word)) = t
-        ∙ ap (λ (w : List ℕ). with_front (take i found) (pairs_of w)) parts in
+    ∙ ap (λ (w : List ℕ). with_front (take i found) (pairs_of w)) parts in
     elim (cases_Bool (is_pair h l)) [
       | inl p ↦
           let both = and_parts (ltb (worth h) 16) (ltb (worth l) 16) p in
@@ -159,7 +158,7 @@ told_next word found true spelled' i v w lt within high low is t =
           let byte : b ≡ pair h l = omega arith in
           let front : take (i + 1) (set found i b) ≡ take i found ++ pair h l ∷ [] = take_more_set found i b lt ∙ ap (λ (x : ℕ). take i found ++ x ∷ []) byte in
           so_far ∙ two_digits h l (drop (2 * (i + 1)) word) (take i found) p
-              ∙ ap (λ (f : List ℕ). with_front f (pairs_of (drop (2 * (i + 1)) word))) (sym front)
+          ∙ ap (λ (f : List ℕ). with_front f (pairs_of (drop (2 * (i + 1)) word))) (sym front)
           ∙ sym (cond-true spelled' _ _ (same ∙ p))
       | inr p ↦ so_far ∙ no_digits h l (drop (2 * (i + 1)) word) (take i found) p ∙ sym (cond-false spelled' _ _ (same ∙ p))
     ]
@@ -198,7 +197,7 @@ encoded_next old digits bytes start i b x y lt within is high low e =
     let written = two_writes digits (start + 2 * i) x y within in
     let more : hex_text (take (i + 1) bytes) ≡ hex_text (take i bytes) ++ byte_text b =
     ap hex_text (take_more bytes i 0 lt) ∙ flat_map-append byte_text (take i bytes) (get_or bytes i 0 ∷ [])
-        ∙ ap (λ (c : ℕ). hex_text (take i bytes) ++ byte_text c) (sym is) in
+    ∙ ap (λ (c : ℕ). hex_text (take i bytes) ++ byte_text c) (sym is) in
     ap (λ (n : ℕ). take n (set (set digits (start + 2 * i) x) (start + 2 * i + 1) y)) next ∙ written ∙ (λ j. e j ++ (high j ∷ low j ∷ []))
     ∙ append_assoc (take start old) (hex_text (take i bytes)) (byte_text b) ∙ ap (λ (t : List ℕ). take start old ++ t) (sym more)
 
@@ -225,14 +224,14 @@ pub written_next : (n rest at at' : ℕ) (digits : List ℕ) (g : ℕ) → 16 �
 written_next n rest at at' digits g large small down glyph w =
     let up : at + 1 ≡ suc at = omega arith in
     let place : drop (suc at') (set digits at g) ≡ g ∷ drop (suc at) digits = ap (λ (k : ℕ). drop k (set digits at g)) (sym down)
-        ∙ drop-set digits at g (omega (arith, w.within, w.full)) ∙ ap (λ (k : ℕ). g ∷ drop k digits) up in
+    ∙ drop-set digits at g (omega (arith, w.within, w.full)) ∙ ap (λ (k : ℕ). g ∷ drop k digits) up in
     record {
       room = omega (arith, w.room, pow-suc 16 at, ap (λ (k : ℕ). 16 ^ k) down);
       within = omega (arith, w.within);
       full = length-set digits at g ∙ w.full;
       spelled = w.spelled ∙ ap (λ (t : List ℕ). t ++ drop (suc at) digits) (spell-more 16 rest sixteen large small)
           ∙ append_assoc (hex (rest / 16)) (digit_glyph false (rest % 16) ∷ []) (drop (suc at) digits)
-      ∙ ap (λ (d : ℕ). hex (rest / 16) ++ d ∷ drop (suc at) digits) (sym glyph) ∙ ap (λ (t : List ℕ). hex (rest / 16) ++ t) (sym place);
+          ∙ ap (λ (d : ℕ). hex (rest / 16) ++ d ∷ drop (suc at) digits) (sym glyph) ∙ ap (λ (t : List ℕ). hex (rest / 16) ++ t) (sym place);
     }
 
 pub written_last : (n rest at : ℕ) (digits : List ℕ) (g : ℕ) → rest < 16 → g ≡ digit_glyph false rest → IsWritten n rest at digits →

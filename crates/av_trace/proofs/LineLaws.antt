@@ -1,11 +1,11 @@
 -- A line says what is read of it, and one thing only.
-use Rattle.std.proofs.Common.{true, false, ◌≡◌, ℕ, List, [], ◌∷◌, Option, Some, None, refl, sym, ap, ◌∙◌, arith, inl, inr, eqb}
-use Rattle.std.proofs.lemmas.Bool.{cases_Bool, eqb-true}
+use Rattle.std.proofs.Common.{true, false, ◌≡◌, ℕ, List, [], ◌∷◌, Option, Some, None, refl, ap, ◌∙◌}
+use Rattle.std.proofs.lemmas.Bool.{eqb-true}
 use Rattle.av_trace.specs.declared.command.Command.{Command}
-use Rattle.av_trace.specs.Command.{IsCommand, line_of, command_of}
+use Rattle.av_trace.specs.Command.{command_of}
 use Rattle.av_trace.specs.Line.{is_blank, Says}
 use Rattle.av_trace.specs.Word.{after}
-use Rattle.av_trace.proofs.CommandLaws.{command_of-found, command_of-again}
+use Rattle.av_trace.proofs.CommandLaws.{command_of-again}
 
 -- a line that says something is read
 pub says_is : (line : List ℕ) (said : Option Command) → Says line said → is_blank line ≡ false → command_of line ≡ None → ⊥

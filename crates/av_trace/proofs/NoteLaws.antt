@@ -1,5 +1,5 @@
 -- The line of a note is read back.
-use Rattle.std.proofs.Common.{◌≡◌, ℕ, List, [], ◌∷◌, refl}
+use Rattle.std.proofs.Common.{ℕ, List, [], ◌∷◌, refl}
 use Rattle.std.specs.Prelude.{codes, Option}
 use Rattle.std.specs.Fmt.{decimal}
 use Rattle.av_trace.specs.declared.note.Cause.{Cause}
@@ -50,7 +50,7 @@ note_of words =
 -- the words of an entry that gets a frame
 entry : (note : ℕ → ℕ → ℕ → Note) {p address frame : ℕ} → IsWide p × IsWide address × IsWide frame →
     AreRead (next number_of (λ p. next hex_of (λ address. next number_of (λ frame. last (note p address frame)))))
-        (decimal p ∷ hex address ∷ decimal frame ∷ []) (note p address frame)
+    (decimal p ∷ hex address ∷ decimal frame ∷ []) (note p address frame)
 entry note h = word _ (number-named h.0) (word _ (hex-named h.1) (word _ (number-named h.2) no_word))
 
 pub note_line-is : (note : Note) → IsNote note → IsLineOf note_of (note_line note) note
@@ -68,4 +68,3 @@ note_line-is (notes.Failed slot) h = line_is (codes "fail") refl refl (word _ (s
 note_line-is (notes.Dropped slot) h = line_is (codes "drop") refl refl (word _ (slot-named slot h) no_word)
 note_line-is (notes.Kept frame cause) h = line_is (codes "keep") refl refl (word _ (number-named h) (word _ (cause-named cause) no_word))
 note_line-is (notes.Aged frame) h = line_is (codes "age") refl refl (word _ (number-named h) no_word)
-

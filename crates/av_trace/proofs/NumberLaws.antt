@@ -1,10 +1,10 @@
 -- Numbers in digits: what is read is spelled so, and what is spelled is read.
 use Rattle.std.proofs.Common.{◌≡◌, ℕ, zero, suc, not, ◌+◌, ◌*◌, ◌/◌, ◌-◌, ◌%◌, ◌^◌, ◌<◌, ◌≤◌, Bool, true, false, eqb, leb, ltb, List, [], ◌∷◌, ◌++◌, length, get_or, take, drop, Option, Some, None, refl, sym, ap, subst, ◌∙◌, append_assoc, append-nil, arith, inl, inr, lit<}
-use Rattle.std.specs.Prelude.{◌&&◌, ◌||◌, IfSome, IfNone}
+use Rattle.std.specs.Prelude.{◌&&◌, ◌||◌}
 use Rattle.std.specs.Fmt.{decimal, digits, digits_onto, digit_glyph}
 use Rattle.std.proofs.Math.Nat.{pow-suc}
 use Rattle.std.proofs.lemmas.List.{take_all}
-use Rattle.std.proofs.lemmas.Bool.{cases_Bool, cases_eq, cases_lt, cond-true, cond-false, eqb-true, eqb-false, eq-eqb, ne_eqb, and_parts, and_from, leb-true, le-leb, lt-leb, lt-ltb, le-ltb, ltb-true, ltb-false}
+use Rattle.std.proofs.lemmas.Bool.{cases_Bool, cases_eq, cases_lt, cond-true, cond-false, eqb-true, eq-eqb, ne_eqb, and_parts, and_from, leb-true, le-leb, lt-leb, lt-ltb, le-ltb, ltb-true}
 use Rattle.std.proofs.lemmas.Option.{cond_some, same_Some}
 use Rattle.av_trace.specs.Hex.{hex}
 use Rattle.av_trace.specs.Number.{IsNumberIn, IsProcess, IsWide, worth, is_digit, starts_number, digits_from, number_from, number_at, decimal_at, process_at, len_at, address_at, entry_at}
@@ -29,14 +29,32 @@ pub record IsBase (base : ℕ) : Type 0 where
 
 pub ten : IsBase 10
 ten = record {
-  most = omega arith; some = omega arith; half = λ n. omega arith; none = λ n h. omega arith; left = λ n h. omega arith; low = λ n h. omega arith; small = λ n. omega arith;
-  whole = λ n. omega arith; front = λ n d h. omega arith; last = λ n d h. omega arith; large = λ n d h. omega arith;
+  most = omega arith;
+  some = omega arith;
+  half = λ n. omega arith;
+  none = λ n h. omega arith;
+  left = λ n h. omega arith;
+  low = λ n h. omega arith;
+  small = λ n. omega arith;
+  whole = λ n. omega arith;
+  front = λ n d h. omega arith;
+  last = λ n d h. omega arith;
+  large = λ n d h. omega arith;
 }
 
 pub sixteen : IsBase 16
 sixteen = record {
-  most = omega arith; some = omega arith; half = λ n. omega arith; none = λ n h. omega arith; left = λ n h. omega arith; low = λ n h. omega arith; small = λ n. omega arith;
-  whole = λ n. omega arith; front = λ n d h. omega arith; last = λ n d h. omega arith; large = λ n d h. omega arith;
+  most = omega arith;
+  some = omega arith;
+  half = λ n. omega arith;
+  none = λ n h. omega arith;
+  left = λ n h. omega arith;
+  low = λ n h. omega arith;
+  small = λ n. omega arith;
+  whole = λ n. omega arith;
+  front = λ n d h. omega arith;
+  last = λ n d h. omega arith;
+  large = λ n d h. omega arith;
 }
 
 -- ---- digits
@@ -285,7 +303,7 @@ is_read (suc k) base n b h small =
           record {
             again = λ bytes.
                 ap (λ (s : List ℕ). digits_from base 0 (s ++ bytes)) step
-                    ∙ ap (digits_from base 0) (append_assoc (spell base (n / base)) (glyph base n ∷ []) bytes)
+                ∙ ap (digits_from base 0) (append_assoc (spell base (n / base)) (glyph base n ∷ []) bytes)
                 ∙ r.again (glyph base n ∷ bytes) ∙ one_more base (n / base) n (n % base) bytes (b.small n) b.most (b.whole n) small;
             first = r.first;
             others = r.others ++ glyph base n ∷ [];

@@ -1,5 +1,5 @@
 -- Places: what is read is spelled so, and what is spelled is read.
-use Rattle.std.proofs.Common.{◌≡◌, ℕ, List, [], ◌∷◌, ◌++◌, append_assoc, append-nil, Option, Some, refl, sym, ap, subst, ◌∙◌}
+use Rattle.std.proofs.Common.{◌≡◌, ℕ, List, [], ◌∷◌, ◌++◌, append_assoc, append-nil, Some, refl, sym, ap, subst, ◌∙◌}
 use Rattle.std.specs.Prelude.{codes}
 use Rattle.std.specs.List.{flat_map, AllByRecursion}
 use Rattle.std.proofs.lemmas.Option.{same_Some}
@@ -8,8 +8,8 @@ use Rattle.av_trace.specs.declared.place.Place.TheVariants as places
 use Rattle.av_trace.specs.Hex.{hex}
 use Rattle.av_trace.specs.Number.{IsWide, address_at}
 use Rattle.av_trace.specs.Place.{IsPlace, place_words, kinds, place_at}
-use Rattle.av_trace.specs.Word.{field, after, named}
-use Rattle.av_trace.proofs.NumberLaws.{addresses, one_word}
+use Rattle.av_trace.specs.Word.{field, after}
+use Rattle.av_trace.proofs.NumberLaws.{addresses}
 use Rattle.av_trace.proofs.WordLaws.{bind_some, named-found, IsEnd, IsRest, words_onto, Reads}
 
 -- a place of this kind is spelled by the name and the address
@@ -56,7 +56,7 @@ last_place = record {
   found = place_at-found;
   again = λ place rest fits end.
       let text : words_onto (place_words place) rest ≡ flat_map field (place_words place) = ap (words_onto (place_words place)) end
-          ∙ append-nil (flat_map field (place_words place)) in
+      ∙ append-nil (flat_map field (place_words place)) in
       ap place_at text ∙ place_at-again place fits ∙ ap (λ (r : List ℕ). Some (place, r)) (sym end);
   ends = λ rest end. subst IsRest (sym end) tt;
 }

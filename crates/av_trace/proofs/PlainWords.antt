@@ -1,6 +1,5 @@
 -- Words of printed lines: each has no space and no newline, and is read back.
-use Rattle.std.proofs.Common.{Bool, true, false, ◌≡◌, ℕ, zero, suc, ◌-◌, ◌*◌, ◌/◌, ◌%◌, ◌^◌, ◌<◌, ◌≤◌, List, [], ◌∷◌, ◌++◌, length, drop, Option, Some, None, refl, sym, ap, ◌∙◌, append-nil, arith, inl, inr}
-use Rattle.std.specs.Prelude.{codes}
+use Rattle.std.proofs.Common.{Bool, true, false, ◌≡◌, ℕ, zero, suc, ◌/◌, ◌%◌, ◌^◌, ◌<◌, List, [], ◌∷◌, length, drop, Option, Some, None, refl, sym, ap, ◌∙◌, append-nil, arith, inl, inr}
 use Rattle.std.specs.List.{AllByRecursion}
 use Rattle.std.specs.Str.{bytes_eq}
 use Rattle.std.specs.Fmt.{decimal, digit_glyph}
@@ -64,7 +63,7 @@ pub word_of-again : (base n : ℕ) → IsBase base → IsWide n → word_of base
 unfolding word_of
 word_of-again base n b small =
     let read : number_from base (spell base n) ≡ Some (n, []) = ap (number_from base) (sym (append-nil (spell base n)))
-        ∙ number_from-again base n [] b small tt in
+    ∙ number_from-again base n [] b small tt in
     rw read refl
 
 abbrev pub number_of : List ℕ → Option ℕ
@@ -118,7 +117,7 @@ pub slot_of-again : (slot : Slot) → IsSlot slot → slot_of (slot_text slot) �
 unfolding slot_of
 slot_of-again slot is =
     ap slot_from (split-two 58 (decimal slot.area) (decimal slot.page) (lacks-high 58 slot.area (omega arith) is.0)
-        (lacks-high 58 slot.page (omega arith) is.1))
+    (lacks-high 58 slot.page (omega arith) is.1))
     ∙ rw (word_of-again 10 slot.area ten is.0, word_of-again 10 slot.page ten is.1) refl
 
 lacks-slot : (c : ℕ) (slot : Slot) → c < 48 → IsSlot slot → lacks c (slot_text slot) ≡ true
@@ -214,8 +213,11 @@ beside (x ∷ xs) w = if bytes_eq w x.0 then Some x.1 else beside xs w
 
 -- a number after its label, which is known by computing
 pub labelled-named : (label : List ℕ) {n : ℕ} → lacks 32 label ≡ true → lacks 10 label ≡ true → IsWide n → Names (labelled_of label) (labelled label n) n
-labelled-named label {n = n} space newline small = record { plain = plain-labelled label n
-    (plain_name label space newline) small; again = labelled_of-again label n small }
+labelled-named label {n = n} space newline small = record {
+  plain = plain-labelled label n
+      (plain_name label space newline) small;
+  again = labelled_of-again label n small;
+}
 
 -- ---- lines that are read back
 
@@ -284,7 +286,6 @@ line_is name {words = words} space newline read = record {
   all_plain = read.plain;
   again = read.again;
 }
-
 
 -- a line that begins with a word like the others
 pub line_from : {A : Type 0} {read : LineReader A} {name : List ℕ} {words : List (List ℕ)} {x : A} → AreRead read (name ∷ words) x →

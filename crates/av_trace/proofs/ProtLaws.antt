@@ -1,11 +1,11 @@
 -- Protections: what is read is spelled so, and what is spelled is read.
-use Rattle.std.proofs.Common.{◌≡◌, ℕ, Bool, true, false, eqb, List, [], ◌∷◌, ◌++◌, append-nil, Some, refl, sym, ap, subst, ◌∙◌, arith, inl, inr}
+use Rattle.std.proofs.Common.{◌≡◌, ℕ, Bool, true, false, eqb, List, [], ◌∷◌, ◌++◌, Some, refl, sym, ap, subst, ◌∙◌, arith, inl, inr}
 use Rattle.std.proofs.lemmas.Bool.{cases_Bool, cond-true, cond-false, ne_eqb, eq-eqb, eqb-true}
 use Rattle.std.proofs.lemmas.Option.{same_Some}
 use Rattle.av_base.specs.declared.prot.Prot.{Prot}
 use Rattle.av_trace.specs.Prot.{letter, prot_text, letter_of, prot_of, prot_at}
 use Rattle.av_trace.proofs.NumberLaws.{one_word, word_onto}
-use Rattle.av_trace.proofs.WordLaws.{bind_some, cond_found, IsRest, words_onto, Reads}
+use Rattle.av_trace.proofs.WordLaws.{bind_some, cond_found, IsRest, Reads}
 
 letter_of-found : (c b : ℕ) (x : Bool) → letter_of c b ≡ Some x → b ≡ letter x c
 unfolding letter_of
@@ -54,8 +54,12 @@ prot_at-found (b ∷ r ∷ w ∷ y ∷ rest) x e =
 pub prot_at-again : (prot : Prot) (rest : List ℕ) → prot_at (32 ∷ (prot_text prot ++ rest)) ≡ Some (prot, rest)
 unfolding prot_at prot_of
 prot_at-again prot rest =
-    rw (letter_of-again 114 prot.read (λ e. omega arith), letter_of-again 119 prot.write (λ e. omega arith), letter_of-again 120 prot.execute
-        (λ e. omega arith)) refl
+    rw (
+      letter_of-again 114 prot.read (λ e. omega arith),
+      letter_of-again 119 prot.write (λ e. omega arith),
+      letter_of-again 120 prot.execute
+          (λ e. omega arith),
+    ) refl
 
 pub prots : Reads prot_at (λ prot. Unit {0}) (one_word prot_text) IsRest
 prots = record {

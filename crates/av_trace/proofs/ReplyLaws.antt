@@ -1,5 +1,5 @@
 -- The line of an answer is read back.
-use Rattle.std.proofs.Common.{true, false, Bool, ◌≡◌, ℕ, List, [], ◌∷◌, ◌++◌, Option, Some, None, refl, ap, ◌∙◌}
+use Rattle.std.proofs.Common.{true, false, ◌≡◌, ℕ, List, [], ◌∷◌, ◌++◌, Option, Some, None, refl, ap}
 use Rattle.std.specs.Prelude.{codes}
 use Rattle.std.specs.Fmt.{decimal}
 use Rattle.av_base.specs.declared.slot.Slot.{Slot}
@@ -10,7 +10,6 @@ use Rattle.av_trace.specs.declared.reply.Totals.{Totals}
 use Rattle.av_trace.specs.declared.reply.Answer.{Answer}
 use Rattle.av_trace.specs.declared.reply.Answer.TheVariants as answers
 use Rattle.av_trace.specs.Hex.{AreBytes, pairs_of}
-use Rattle.av_trace.specs.Note.{slot_text, IsSlot}
 use Rattle.av_trace.specs.Number.{IsWide}
 use Rattle.av_trace.specs.Reply.{errno_name, shown_words, out_words, cached_words, answer_line, AreCauses, AreTotals, IfThere, IsAnswer}
 use Rattle.av_trace.specs.Word.{◌>>=◌}
@@ -57,7 +56,7 @@ abbrev causes_at : {B : Type 0} → (OutOf → LineReader B) → LineReader B
 causes_at more words =
     next (labelled_of (codes "pinned=")) (
     λ pinned. next (labelled_of (codes "noslot="))
-        (λ noslot. next (labelled_of (codes "fault=")) (λ fault. more (record { pinned = pinned; noslot = noslot; fault = fault })))
+    (λ noslot. next (labelled_of (codes "fault=")) (λ fault. more (record { pinned = pinned; noslot = noslot; fault = fault })))
     ) words
 
 abbrev totals_at : LineReader Answer
@@ -170,7 +169,7 @@ counted-line t h =
     let free_slots = labelled-named (codes "freeslots=") refl refl h.free_slots in
     let processes = labelled-named (codes "procs=") refl refl h.processes in
     line_is (codes "stat") refl refl
-        (word _ frames (word _ free (word _ active (word _ inactive (word _ flight (word _ slots (word _ free_slots (word _ processes no_word))))))))
+    (word _ frames (word _ free (word _ active (word _ inactive (word _ flight (word _ slots (word _ free_slots (word _ processes no_word))))))))
 
 -- a name that is known by computing, before other words
 name_word : (name : List ℕ) {words : List (List ℕ)} {x : Answer} {read : LineReader Answer} → lacks 32 name ≡ true → lacks 10 name ≡ true →
@@ -190,7 +189,7 @@ causes-named : (out : OutOf) {B : Type 0} (more : OutOf → LineReader B) {words
     AreRead (causes_at more) (out_words out ++ words) y
 causes-named out more h others =
     word _ (labelled-named (codes "pinned=") refl refl h.0)
-        (word _ (labelled-named (codes "noslot=") refl refl h.1) (word _ (labelled-named (codes "fault=") refl refl h.2) others))
+    (word _ (labelled-named (codes "noslot=") refl refl h.1) (word _ (labelled-named (codes "fault=") refl refl h.2) others))
 
 -- a refusal
 alone : (error : Errno) → AreRead (refused_at error) [] (answers.Refused error)
@@ -217,7 +216,7 @@ answer_line-is (answers.Segv served shown) h = line_is (codes "segv") refl refl 
 answer_line-is (answers.Bus served shown) h = line_is (codes "bus") refl refl (word _ (number-named h.0) (shows (answers.Bus served) shown h.1))
 answer_line-is (answers.Oom served out shown) h =
     line_is (codes "oom") refl refl
-        (word _ (number-named h.0) (causes-named out (λ x. shown_at (answers.Oom served x)) h.1 (shows (answers.Oom served out) shown h.2)))
+    (word _ (number-named h.0) (causes-named out (λ x. shown_at (answers.Oom served x)) h.1 (shows (answers.Oom served out) shown h.2)))
 answer_line-is (answers.On slots bad) h = line_is (codes "on") refl refl (word _ (number-named h.0) (word _ (number-named h.1) no_word))
 answer_line-is (answers.NoFrame out) h = line_is (codes "err") refl refl (word _ (errno-named errors.Enomem) (no_frame out h))
 answer_line-is (answers.Runs n) h = line_is (codes "runs") refl refl (word _ (number-named h) no_word)
@@ -229,14 +228,14 @@ answer_line-is answers.EntryEmpty h = line_is (codes "empty") refl refl no_word
 answer_line-is answers.EntryZero h = line_is (codes "zero") refl refl no_word
 answer_line-is (answers.EntryFrame frame true slot) h =
     line_is (codes "frame") refl refl
-        (word _ (number-named h.0) (name_word (codes "seen") refl refl (caches (answers.EntryFrame frame true) slot-named slot h.1)))
+    (word _ (number-named h.0) (name_word (codes "seen") refl refl (caches (answers.EntryFrame frame true) slot-named slot h.1)))
 answer_line-is (answers.EntryFrame frame false slot) h =
     line_is (codes "frame") refl refl
-        (word _ (number-named h.0) (name_word (codes "old") refl refl (caches (answers.EntryFrame frame false) slot-named slot h.1)))
+    (word _ (number-named h.0) (name_word (codes "old") refl refl (caches (answers.EntryFrame frame false) slot-named slot h.1)))
 answer_line-is (answers.EntrySlot slot frame) h = line_is (codes "slot") refl refl (word _ (slot-named slot h.0) (entry_slot slot frame h.1))
 answer_line-is (answers.SlotBad slot) h = line_is (codes "slot") refl refl (word _ (slot-named slot h) (name_word (codes "bad") refl refl no_word))
 answer_line-is (answers.SlotCount slot count frame) h =
     line_is (codes "slot") refl refl
-        (word _ (slot-named slot h.0)
-        (name_word (codes "count") refl refl (word _ (number-named h.1) (caches (answers.SlotCount slot count) (λ n. number-named {n = n}) frame h.2))))
+    (word _ (slot-named slot h.0)
+    (name_word (codes "count") refl refl (word _ (number-named h.1) (caches (answers.SlotCount slot count) (λ n. number-named {n = n}) frame h.2))))
 answer_line-is (answers.Counted t) h = counted-line t h

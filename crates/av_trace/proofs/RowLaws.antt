@@ -1,9 +1,8 @@
 -- The line of a row is read back.
-use Rattle.std.proofs.Common.{◌≡◌, ℕ, List, [], ◌∷◌, refl}
 use Rattle.av_trace.specs.declared.row.Row.{Row}
 use Rattle.av_trace.specs.declared.row.Row.TheVariants as rows
 use Rattle.av_trace.specs.Row.{row_line, IsRun, IsEntry}
-use Rattle.av_trace.proofs.PlainWords.{number_of, hex_of, range_of, prot_of_word, number-named, hex-named, prot-named, range-named, next, last, LineReader, IsLineOf, AreRead, no_word, word, line_from}
+use Rattle.av_trace.proofs.PlainWords.{number_of, hex_of, range_of, prot_of_word, number-named, hex-named, prot-named, range-named, next, last, LineReader, IsLineOf, no_word, word, line_from}
 
 pub run_of : LineReader Row
 run_of words = next range_of (λ range. next prot_of_word (λ prot. last (rows.Run range.0 range.1 prot))) words

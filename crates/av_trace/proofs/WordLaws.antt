@@ -1,5 +1,5 @@
 -- How words are read: what a reader finds stands in front, and what stands in front is found.
-use Rattle.std.proofs.Common.{◌≡◌, ◌≢◌, ℕ, Bool, true, false, cond, eqb, List, [], ◌∷◌, ◌++◌, append_assoc, append-nil, Option, Some, None, refl, sym, ap, subst, ◌∙◌}
+use Rattle.std.proofs.Common.{◌≡◌, ◌≢◌, ℕ, Bool, true, false, cond, eqb, List, [], ◌∷◌, ◌++◌, append_assoc, Option, Some, None, refl, sym, ap, subst, ◌∙◌}
 use Rattle.std.specs.Prelude.{option_map}
 use Rattle.std.specs.Option.{MatchOption}
 use Rattle.std.specs.List.{flat_map, AllByRecursion}
@@ -63,7 +63,7 @@ pub record IsNamed {A : Type 0} (Fits : List ℕ × A → Type 0) (bytes : List 
 
 first_of-found : {A : Type 0} (Fits : List ℕ × A → Type 0) (name bytes : List ℕ) (a : A) (o : Option (List ℕ)) (others : Option (A × List ℕ)) (x : A × List ℕ) →
     ((rest : List ℕ) → o ≡ Some rest → bytes ≡ name ++ rest) → Fits (name, a) → (others ≡ Some x → IsNamed Fits bytes x) → first_of a o others ≡ Some x →
-        IsNamed Fits bytes x
+    IsNamed Fits bytes x
 first_of-found Fits name bytes a None others x is fits next e = next e
 first_of-found Fits name bytes a (Some rest) others x is fits next e =
     subst (IsNamed Fits bytes) (same_Some _ _ e) (record { name = name; is = is rest refl; fits = fits })

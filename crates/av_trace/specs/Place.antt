@@ -1,5 +1,5 @@
 -- Where `mmap` puts the pages.
-use Rattle.std.specs.Prelude.{ℕ, List, [], ◌∷◌, codes, Option, Some, None}
+use Rattle.std.specs.Prelude.{ℕ, List, [], ◌∷◌, codes, Some}
 use Rattle.av_trace.specs.declared.place.Place.{Place}
 use Rattle.av_trace.specs.declared.place.Place.TheVariants as places
 use Rattle.av_trace.specs.Word.{◌>>=◌, Reader, named}

@@ -76,7 +76,11 @@ impl Bytes {
         ensures err { OnErr result (self.new ≡ self.old) }
     {
         let start = self.items.len();
-        let Some(end) = bytes.len().checked_mul(2).and_then(|n| n.checked_add(start)) else {
+        let Some(end) = bytes
+            .len()
+            .checked_mul(2)
+            .and_then(|n| n.checked_add(start))
+        else {
             return Err(AllocError);
         };
         self.items.resize(end, 0)?;

@@ -154,10 +154,7 @@ fn read(bytes: &[u8]) -> Option<Command>
     end(command, rest)
 }
 
-#[tactic(
-    auto,
-    unfolding(crate::specs::Command::whole, crate::specs::Command::at_end, crate::specs::Word::both)
-)]
+#[tactic(auto, unfolding(crate::specs::Command::whole, crate::specs::Command::at_end, crate::specs::Word::both))]
 fn write(alloc: Global, bytes: &[u8]) -> Result<Option<Command>, AllocError>
     ensures { IfOk result (λ found. found ≡ write_at bytes.now) }
 {

@@ -36,11 +36,7 @@ fn decode(word: &[u8], found: &mut [u8]) -> bool
 }
 
 /// The bytes of a word: 1 to 4096, two digits each. A longer word costs no memory.
-#[tactic(
-    auto,
-    using(crate::proofs::HexLaws::odd_none),
-    unfolding(crate::specs::Hex::data_of)
-)]
+#[tactic(auto, using(crate::proofs::HexLaws::odd_none), unfolding(crate::specs::Hex::data_of))]
 fn data_word(alloc: Global, word: &[u8]) -> Result<Option<Bytes>, AllocError>
     ensures { IfOk result (λ found. found ≡ data_of word.now) }
 {

@@ -210,4 +210,3 @@ pub fn note_line(text: &mut Bytes, note: Note) -> Result<(), AllocError>
         Note::Aged(frame) => number_line(text, b"age", u64::from(frame)),
     }
 }
-

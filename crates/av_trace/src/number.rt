@@ -50,7 +50,9 @@ fn digits(bytes: &[u8], base: u8) -> Option<(u64, &[u8])>
         if base <= digit {
             return Some((value, rest));
         }
-        value = value.checked_mul(u64::from(base))?.checked_add(u64::from(digit))?;
+        value = value
+            .checked_mul(u64::from(base))?
+            .checked_add(u64::from(digit))?;
         rest = tail;
     }
     Some((value, rest))

@@ -329,4 +329,3 @@ pub fn answer_line(text: &mut Bytes, answer: &Answer) -> Result<(), AllocError>
         Answer::Counted(totals) => total_line(text, totals),
     }
 }
-

@@ -77,4 +77,3 @@ pub fn row_line(text: &mut Bytes, row: Row) -> Result<(), AllocError>
         }
     }
 }
-

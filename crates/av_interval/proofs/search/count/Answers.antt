@@ -1,9 +1,8 @@
-use Rattle.std.proofs.Common.{◌≡◌, ◌+◌, ◌*◌, ◌≤◌, ◌<◌, ◌^◌, length, sym, ◌∙◌, arith}
+use Rattle.std.proofs.Common.{◌+◌, sym, ◌∙◌, arith}
 use Rattle.std.proofs.Math.Nat.{add-mul}
 use Rattle.av_arena.specs.Tree.{entries, height}
-use Rattle.av_base.specs.Words.{how_many}
 use Rattle.av_interval.specs.Search.{overlaps}
-use Rattle.av_interval.proofs.SearchLemmas.{at_most_all, found_one, none_remain, remaining}
+use Rattle.av_interval.proofs.SearchLemmas.{at_most_all, found_one, none_remain}
 use Rattle.av_interval.proofs.search.count.Goals as goal
 
 pub overflow_add-many : goal.overflow_add-many

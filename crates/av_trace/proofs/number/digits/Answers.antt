@@ -1,4 +1,4 @@
-use Rattle.std.proofs.Common.{◌≡◌, ℕ, ◌*◌, ◌+◌, ◌^◌, ◌<◌, ◌≤◌, None, get_or, sym, ap, ◌∙◌, arith, rules}
+use Rattle.std.proofs.Common.{◌≡◌, ℕ, ◌*◌, ◌+◌, ◌^◌, ◌≤◌, None, get_or, sym, ◌∙◌, arith, rules}
 use Rattle.av_trace.specs.Number.{worth, digits_from}
 use Rattle.av_trace.proofs.NumberLaws.{at_no_digit, at_too_large, at_digit, at_no_byte, product_large, sum_large, sum_is}
 use Rattle.av_trace.proofs.number.digits.Goals as goal
