@@ -6,7 +6,7 @@ ghost use Rattle.av_plain.specs.Ledger.{Ledger};
 ghost use Rattle.av_plain.specs.Zap.{keys_in, zaps_of};
 ghost use Rattle.av_plain.specs.Map.{zaps_for_place};
 ghost use Rattle.av_spaces.specs.Spaces.{areas_of, is_taken};
-ghost use Rattle.av_reclaim.specs.Mem.{count, IsSteady, LedgerStands};
+ghost use Rattle.av_reclaim.specs.Mem.{count, IsSteady, HasLedger};
 ghost use Rattle.av_kernel.specs.Place.{AreToClear};
 ghost use Rattle.av_kernel.specs.Map.{AreCleared};
 ghost use Rattle.av_kernel.specs.Step.{Does};
@@ -101,7 +101,7 @@ fn make_room(
     requires lives { is_some (areas_of mem.old.spaces process) ≡ true }
     requires high { page + pages ≤ top_page }
     requires there { AreToClear (is_taken mem.old.spaces process) page pages place }
-    ensures cleared { (l : Ledger) → LedgerStands mem.old l → OnOk result
+    ensures cleared { (l : Ledger) → HasLedger mem.old l → OnOk result
         (AreCleared mem.old mem.new process page pages l (zaps_for_place l process pages place)) }
     ensures count { count mem.new ≡ count mem.old }
 {
@@ -116,7 +116,7 @@ fn clear(mem: &mut Mem, process: u16, page: u64, pages: u64) -> Result<(), Alloc
     requires steady { IsSteady mem.old }
     requires lives { is_some (areas_of mem.old.spaces process) ≡ true }
     requires high { page + pages ≤ top_page }
-    ensures cleared { (l : Ledger) → LedgerStands mem.old l → OnOk result
+    ensures cleared { (l : Ledger) → HasLedger mem.old l → OnOk result
         (AreCleared mem.old mem.new process page pages l (zaps_of l (keys_in l process page pages))) }
     ensures count { count mem.new ≡ count mem.old }
 {
