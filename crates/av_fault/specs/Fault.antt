@@ -37,20 +37,24 @@ end_of (Stopped stop) = Some (stop_of stop)
 
 -- the page's entry is this frame, or zeros; no other entry has a frame that is to be written
 abbrev pub IsReady : Bool → Ledger → Key → Touched → Type 0
-IsReady write l k (Ready f) = (entry l k ≡ Some (InFrame f true)) × (write ≡ true → map_count l f ≤ 1)
+IsReady write l k (Ready f) =
+    (entry l k ≡ Some (InFrame f true)) × (write ≡ true → map_count l f ≤ 1)
 IsReady write l k Zeros = (entry l k ≡ Some Zero) × (write ≡ false)
 IsReady write l k (Stopped stop) = Unit {0}
 
--- these notes were added, and they make the page ready or say why not; the kernel's parts stand after them and the
--- page's use, but that a write has stored no byte yet
+-- these notes were added, and they make the page ready or say why not; the kernel's parts stand
+-- after them and the page's use, but that a write has stored no byte yet
 pub record IsTouched (s : State) (new : Mem) (write : Bool) (k : Key) (before now : List Note)
     (touched : Touched) : Type 0 where
   pub added : List Note
   pub notes : now ≡ before ++ added
   pub touches : Touches (setting (count new)) s.world s.ledger write k added (end_of touched)
-  pub ready : IsReady write (after_all s.ledger (page_events write k added (end_of touched))) k touched
-  pub parts : KeepsWithin new s.world (after_all s.ledger (page_events write k added (end_of touched)))
-  pub free : ChoosesAll (setting (count new)) s.ledger (page_events write k added (end_of touched)) s.free (view new).free
+  pub ready : IsReady write (after_all s.ledger (page_events write k added (end_of touched))) k
+      touched
+  pub parts : KeepsWithin new s.world
+      (after_all s.ledger (page_events write k added (end_of touched)))
+  pub free : ChoosesAll (setting (count new)) s.ledger
+      (page_events write k added (end_of touched)) s.free (view new).free
 
 -- whatever stood before: the page is made ready or not, and there are as many frames
 pub record MakesReady (old new : Mem) (write : Bool) (k : Key) (before now : List Note)
@@ -79,8 +83,8 @@ one_more f maps = with_at f (maps f + 1) maps
 abbrev pub one_less : ℕ → (ℕ → ℕ) → ℕ → ℕ
 one_less g maps = with_at g (maps g - 1) maps
 
--- a frame has been taken for a page, which may write it in place; then these are its bytes, the counts of entries,
--- and the free frames
+-- a frame has been taken for a page, which may write it in place; then these are its bytes, the
+-- counts of entries, and the free frames
 abbrev pub taken_for : ℕ → ℕ → ℕ → (ℕ → ℕ) → (ℕ → ℕ) → List ℕ → View → View
 taken_for p page f bytes maps rest v = record v {
   table = with_entry p page (plain (Here f true true)) v.table;

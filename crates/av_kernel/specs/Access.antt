@@ -33,14 +33,15 @@ abbrev pub world_served : Bool → ℕ → ℕ → List ℕ → World → World
 world_served true p a bytes w = after_write w p a bytes
 world_served false p a bytes w = w
 
--- an access of n bytes, k of them served, and those of a write stored: its events, its notes, where it ended, and
--- what the kernel stands for then
+-- an access of n bytes, k of them served, and those of a write stored: its events, its notes, where
+-- it ended, and what the kernel stands for then
 pub record IsAccess (s : State) (new : Mem) (write : Bool) (p a n : ℕ) (bytes : List ℕ)
     (before now : List Note) (stop : Option Stop) (k : ℕ) : Type 0 where
   pub events : List Event
   pub notes : now ≡ before ++ notes_of events
   pub end : End
-  pub accesses : Accesses (setting (count new)) s.world s.ledger p (pages_of_access write a n) events end
+  pub accesses : Accesses (setting (count new)) s.world s.ledger p (pages_of_access write a n)
+      events end
   pub is_end : IsEnd a n stop k end
   pub next : State
   pub world : next.world ≡ world_served write p a bytes s.world

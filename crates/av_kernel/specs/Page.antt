@@ -24,7 +24,8 @@ pub record IsPageStep (s : State) (new : Mem) (write : Bool) (p page at : ℕ) (
     (before now : List Note) (end : Option Stop) : Type 0 where
   pub added : List Note
   pub notes : now ≡ before ++ added
-  pub touches : Touches (setting (count new)) s.world s.ledger write (p, page) added (option_map stop_of end)
+  pub touches : Touches (setting (count new)) s.world s.ledger write (p, page) added
+      (option_map stop_of end)
   pub next : State
   pub world : next.world ≡ world_after write p page at piece end s.world
   pub ledger : next.ledger

@@ -47,7 +47,8 @@ pub fn mmap(
     Ok(answered(alloc, Answer::MapAt(PAGE_SIZE * page)))
 }
 
-/// Does a `munmap`: the pages go, with their entries. The frames that no other page has become free.
+/// Does a `munmap`: the pages go, with their entries. The frames that no other page has become
+/// free.
 pub fn munmap(
     mem: &mut Mem,
     alloc: Global,
@@ -89,7 +90,8 @@ pub fn mprotect(
     Ok(answered(alloc, Answer::Done))
 }
 
-/// Takes away what stands where a mapping goes: all at a fixed place, and at another there is nothing.
+/// Takes away what stands where a mapping goes: all at a fixed place, and at another there is
+/// nothing.
 fn make_room(
     mem: &mut Mem,
     process: u16,
@@ -117,7 +119,8 @@ fn clear(mem: &mut Mem, process: u16, page: u64, pages: u64) -> Result<(), Alloc
     requires lives { is_some (areas_of mem.old.spaces process) ≡ true }
     requires high { page + pages ≤ top_page }
     ensures cleared { (l : Ledger) → HasLedger mem.old l → OnOk result
-        (AreCleared mem.old mem.new process page pages l (zaps_of l (keys_in l process page pages))) }
+        (AreCleared mem.old mem.new process page pages l
+            (zaps_of l (keys_in l process page pages))) }
     ensures count { count mem.new ≡ count mem.old }
 {
     zap_range(mem, process, page, page + pages);

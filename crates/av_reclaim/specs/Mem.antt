@@ -1,4 +1,5 @@
--- The memory system: its view, put together from what its parts are seen as, and what it stands for.
+-- The memory system: its view, put together from what its parts are seen as, and what it stands
+-- for.
 use Rattle.std.specs.Prelude.{◌≡◌, ℕ, false, List, [], length, map, Option, Some, None, is_some, option_map, T}
 use Rattle.std.specs.FinMap.Entries.{is_sorted}
 use Rattle.av_vma.specs.declared.area.Area.{Area}

@@ -22,7 +22,8 @@ released f v =
     if v.maps f == 1 then record v { maps = with_at f (v.maps f - 1) v.maps; free = f ∷ v.free }
     else record v { maps = with_at f (v.maps f - 1) v.maps }
 
--- the entry of the least page from `from` to below `past` has gone, and its frame is free where that was the last; or there is none
+-- the entry of the least page from `from` to below `past` has gone, and its frame is free where
+-- that was the last; or there is none
 abbrev pub ZapsFirst : Mem → Mem → Ledger → ℕ → ℕ → ℕ → Option ℕ → Type 0
 ZapsFirst old new l p from past None =
     ((q : ℕ) → from ≤ q → q < past → entry l (p, q) ≡ None)
