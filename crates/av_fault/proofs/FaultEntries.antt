@@ -7,6 +7,7 @@ use Rattle.av_base.specs.Words.{with_at, is_in}
 use Rattle.av_plain.specs.World.{World, pages}
 use Rattle.av_plain.specs.Ledger.{Ledger, Setting, Entry, Zero, InFrame, entry, map_count, names_frame, names_slot, is_free}
 use Rattle.av_plain.specs.Event.{set_entry, to_inactive_head, without}
+use Rattle.av_plain.specs.Device.{no_device}
 use Rattle.av_plain.specs.Stands.{View, Holds, IsKept}
 use Rattle.av_plain.proofs.Ledger.Order.{weight}
 use Rattle.av_plain.proofs.Ledger.{entry-set, same_key-itself, how_many-found, map_count-set}
@@ -30,7 +31,7 @@ zeroed m v w l p page parts there none =
     (λ s. ap (weight (names_slot s)) none) (λ s. refl)
     (λ g. ap (λ o. v.maps g + weight (names_frame g) o) none)
     (frees m v w l parts) (λ g few. few) (λ t g names. absurd (false≢true names)) (λ q o g was is other. refl)
-    (subst (λ o. IsKept v None l o (pages w p page)) none (parts.bytes.kept p page))
+    (subst (λ o. IsKept v no_device l o (pages w p page)) none (parts.bytes.kept p page))
 
 -- ---- the same frame, as seen
 
@@ -43,7 +44,7 @@ module _ (m : Setting) (v : View) (w : World) (l : Ledger) (p page f : ℕ) (was
       (frees m v w l parts) (λ g few. few)
       (λ writes g names. subst (λ x. v.maps x ≤ 1) (sym (equal_is g f names)) (subst (λ n. n ≤ 1) (sym (parts.frames.maps f)) (few writes)))
       (λ q o g was is other. refl)
-      (subst (λ o. IsKept v None l o (pages w p page)) named (parts.bytes.kept p page))
+      (subst (λ o. IsKept v no_device l o (pages w p page)) named (parts.bytes.kept p page))
 
 -- ---- a frame that was free
 
@@ -54,7 +55,7 @@ given_to p page f l = to_inactive_head f (set_entry (p, page) (InFrame f false) 
 pub entry_given : (p page f : ℕ) (l : Ledger) → entry (given_to p page f l) (p, page) ≡ Some (InFrame f false)
 entry_given p page f l = entry-set (p, page) (InFrame f false) l (p, page) ∙ ap (λ b. cond b (Some (InFrame f false)) (entry l (p, page))) (same_key-itself (p, page))
 
-at_most_one : (test : Entry → Bool) (e : Option Entry) → weight test e ≤ 1
+pub at_most_one : (test : Entry → Bool) (e : Option Entry) → weight test e ≤ 1
 at_most_one test None = omega arith
 at_most_one test (Some e) = bit (test e)
   where

@@ -9,8 +9,9 @@ use Rattle.av_pagetable.specs.Entries.{entry_at, has}
 use Rattle.av_plain.specs.World.{pages}
 use Rattle.av_plain.specs.Ledger.{Ledger, Key, Entry, Zero, InFrame, InSlot, entry, map_count, names_frame, names_slot, is_free}
 use Rattle.av_plain.specs.Event.{after_note, set_entry, to_inactive_head}
-use Rattle.av_plain.specs.Pass.{nothing_spared, pinning}
-use Rattle.av_plain.specs.Fault.{NewPage, CopyOnWrite, need}
+use Rattle.av_plain.specs.Device.{no_device}
+use Rattle.av_plain.proofs.Pass.{takes-alone}
+use Rattle.av_plain.specs.Fault.{sparing, NewPage, CopyOnWrite, need}
 use Rattle.av_plain.specs.Stands.{prot_of, Holds, IsKept}
 use Rattle.av_plain.specs.Transcript.{State}
 use Rattle.av_plain.proofs.Ledger.Order.{weight}
@@ -20,10 +21,10 @@ use Rattle.av_fault.specs.declared.fault.Stop.TheVariants.{Oom}
 use Rattle.av_fault.specs.declared.fault.Touched.TheVariants.{Ready as ReadyAt, Stopped}
 use Rattle.av_reclaim.specs.Mem.{setting, count, view, Keeps}
 use Rattle.av_fault.specs.Fault.{permitted, frame_named, one_more, one_less, IsTouched, IsTaken}
-use Rattle.av_fault.proofs.FaultParts.{of_keeps}
+use Rattle.av_fault.proofs.FaultParts.{of_keeps, no_swap}
 use Rattle.av_fault.proofs.FaultEntries.{given_to}
 use Rattle.av_reclaim.proofs.MemLaws.{equal_is}
-use Rattle.av_fault.proofs.FaultServes.{is_bare, bare_entry, bare_frame, bare_slot, need_fresh, need_split, serves, takes, out_is}
+use Rattle.av_fault.proofs.FaultServes.{is_bare, bare_entry, bare_frame, bare_slot, need_fresh, need_split, serves, out_is}
 use Rattle.av_fault.proofs.FaultTouched.{given_now, starved}
 use Rattle.av_fault.proofs.FaultSafe.{named_frame}
 
@@ -41,16 +42,16 @@ numbers_of pinned n = record { pinned = pinned; noslot = n - pinned; fault = 0 }
 module _ (s : State) (old new : Mem) (p page : ℕ) (notes : List Note) (keeps : Keeps old s) (processes : has new.tables ≡ has old.tables) (same : count new ≡ count old)
     (allowed : permitted true (prot_of ((view old).areas p) page) ≡ true) where
   free_now : (f : ℕ) → f < count old → (view old).free ≡ f ∷ (view new).free → is_free s.ledger f ≡ true
-  free_now f below first = sym (keeps.stands.frames.free f below) ∙ ap (is_in f) first ∙ ap (λ b. b || is_in f (view new).free) (itself f)
+  free_now f below first = sym (keeps.stands.parts.ledger.frames.free f below) ∙ ap (is_in f) first ∙ ap (λ b. b || is_in f (view new).free) (itself f)
 
   none_yet : (f : ℕ) → f < count old → (view old).free ≡ f ∷ (view new).free → (view old).maps f ≡ 0
-  none_yet f below first = keeps.stands.frames.maps f ∙ zero_is _ (sym (free_is s.ledger f (of_keeps old s keeps).cache) ∙ free_now f below first)
+  none_yet f below first = keeps.stands.parts.ledger.frames.maps f ∙ zero_is _ (sym (free_is s.ledger f (of_keeps old s keeps).cache) ∙ free_now f below first)
 
   -- ---- zeros
 
   module _ (bare : frame_named (entry_at old.tables p page) ≡ None) where
     is_bare_now : is_bare (entry s.ledger (p, page)) ≡ true
-    is_bare_now = bare_entry (setting (count old)) (view old) s.world s.ledger (p, page) (entry_at old.tables p page) (of_keeps old s keeps) (λ t. refl) bare (keeps.stands.tables.entries p page)
+    is_bare_now = bare_entry (setting (count old)) (view old) s.world s.ledger (p, page) (entry_at old.tables p page) (of_keeps old s keeps) (λ t. refl) bare (keeps.stands.parts.ledger.tables.entries p page)
 
     pub new_starved : (out : OutOf) → view new ≡ view old → (view old).free ≡ [] → out ≡ numbers_of 0 (count new) → IsTouched s new true (p, page) notes notes (Stopped (Oom out))
     new_starved out is empty numbers = starved s old new p page notes keeps processes same NewPage out is allowed (need_fresh s.ledger (entry s.ledger (p, page)) is_bare_now) refl empty
@@ -60,16 +61,16 @@ module _ (s : State) (old new : Mem) (p page : ℕ) (notes : List Note) (keeps :
         clash e = cc
 
     pub new_made : (f : ℕ) (now : List Note) → now ≡ notes ++ New p (4096 * page) f ∷ [] → IsTaken old new p page f (λ i. 0) (one_more f (view old).maps) → IsTouched s new true (p, page) notes now (ReadyAt f)
-    new_made f now added is = given_now s old new p page notes keeps processes same now (New p (4096 * page) f) f (λ i. 0) (one_more f (view old).maps) added is allowed (new_is p page f s.ledger)
+    new_made f now added is = given_now s old new p page notes keeps processes same now (New p (4096 * page) f) f (λ i. 0) (one_more f (view old).maps) added is allowed (new_is p page f s.ledger) refl
         (sym keeps.stands.free ∙ is.first)
-        (serves (setting (count old)) s.ledger true (p, page) (New p (4096 * page) f ∷ []) NewPage (need_fresh s.ledger (entry s.ledger (p, page)) is_bare_now) refl
-        (takes (setting (count old)) nothing_spared s.ledger f (New p (4096 * page)) is.below (free_now f is.below is.first)) (of_keeps old s keeps).cache)
-        (blank (entry s.ledger (p, page)) is_bare_now (keeps.stands.bytes.kept p page))
+        (serves (setting (count old)) (sparing s.world) s.ledger true (p, page) (New p (4096 * page) f ∷ []) NewPage (need_fresh s.ledger (entry s.ledger (p, page)) is_bare_now) refl
+        (takes-alone (setting (count old)) (sparing s.world s.ledger None) s.ledger f (New p (4096 * page)) (no_swap (setting (count old)) (view old) s.world s.ledger (of_keeps old s keeps)) is.below (free_now f is.below is.first)) (of_keeps old s keeps).cache)
+        (blank (entry s.ledger (p, page)) is_bare_now (keeps.stands.parts.bytes.kept p page))
         (λ g. counts g (g == f) refl (bare_frame (entry s.ledger (p, page)) is_bare_now g))
         (λ g some. absurd (let none = bare_frame (entry s.ledger (p, page)) is_bare_now g in omega (arith, some, none)))
         (bare_slot (entry s.ledger (p, page)) is_bare_now)
       where
-        blank : (e : Option Entry) → is_bare e ≡ true → IsKept (view old) None s.ledger e (pages s.world p page) → Holds (pages s.world p page) (λ i. 0)
+        blank : (e : Option Entry) → is_bare e ≡ true → IsKept (view old) no_device s.ledger e (pages s.world p page) → Holds (pages s.world p page) (λ i. 0)
         blank None h k = k
         blank (Some Zero) h k = k
         blank (Some (InFrame g seen)) h k = absurd (false≢true h)
@@ -89,7 +90,7 @@ module _ (s : State) (old new : Mem) (p page : ℕ) (notes : List Note) (keeps :
 
   module _ (from : ℕ) (was : Bool) (named : entry s.ledger (p, page) ≡ Some (InFrame from was)) (shared : 1 < (view old).maps from) where
     many : 1 < map_count s.ledger from
-    many = subst (λ n. 1 < n) (keeps.stands.frames.maps from) shared
+    many = subst (λ n. 1 < n) (keeps.stands.parts.ledger.frames.maps from) shared
 
     splits : need true s.ledger (entry s.ledger (p, page)) ≡ CopyOnWrite from
     splits = need_split s.ledger from was (entry s.ledger (p, page)) (of_keeps old s keeps).cache named many
@@ -102,11 +103,11 @@ module _ (s : State) (old new : Mem) (p page : ℕ) (notes : List Note) (keeps :
         inner e = cc
 
     pub copy_made : (f : ℕ) (now : List Note) → now ≡ notes ++ Copied p (4096 * page) f ∷ [] → IsTaken old new p page f ((view old).bytes from) (one_less from (one_more f (view old).maps)) → IsTouched s new true (p, page) notes now (ReadyAt f)
-    copy_made f now added is = given_now s old new p page notes keeps processes same now (Copied p (4096 * page) f) f ((view old).bytes from) (one_less from (one_more f (view old).maps)) added is allowed (copied_is p page f s.ledger)
+    copy_made f now added is = given_now s old new p page notes keeps processes same now (Copied p (4096 * page) f) f ((view old).bytes from) (one_less from (one_more f (view old).maps)) added is allowed (copied_is p page f s.ledger) refl
         (sym keeps.stands.free ∙ is.first)
-        (serves (setting (count old)) s.ledger true (p, page) (Copied p (4096 * page) f ∷ []) (CopyOnWrite from) splits refl
-        (takes (setting (count old)) (pinning (Some from)) s.ledger f (Copied p (4096 * page)) is.below (free_now f is.below is.first)) (of_keeps old s keeps).cache)
-        (subst (λ e. IsKept (view old) None s.ledger e (pages s.world p page)) named (keeps.stands.bytes.kept p page))
+        (serves (setting (count old)) (sparing s.world) s.ledger true (p, page) (Copied p (4096 * page) f ∷ []) (CopyOnWrite from) splits refl
+        (takes-alone (setting (count old)) (sparing s.world s.ledger (Some from)) s.ledger f (Copied p (4096 * page)) (no_swap (setting (count old)) (view old) s.world s.ledger (of_keeps old s keeps)) is.below (free_now f is.below is.first)) (of_keeps old s keeps).cache)
+        (subst (λ e. IsKept (view old) no_device s.ledger e (pages s.world p page)) named (keeps.stands.parts.bytes.kept p page))
         (λ g. counts g (g == from) refl (g == f) refl (ap (weight (names_frame g)) named))
         (λ g some. kept g (g == from) refl (subst (λ n. 0 < n) (ap (weight (names_frame g)) named) some))
         (λ t. ap (weight (names_slot t)) named)

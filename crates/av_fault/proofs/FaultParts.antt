@@ -2,54 +2,81 @@
 use Rattle.std.proofs.Common.{◌≡◌, ℕ, ◌+◌, ◌<◌, ◌≤◌, Bool, true, false, cond, ◌&&◌, T, List, [], ◌∷◌, Option, Some, None, refl, sym, ap, subst, ◌∙◌, arith, ◌==◌, nat_lt, is_some}
 use Rattle.std.proofs.lemmas.Bool.Decides.{nat_tests}
 use Rattle.std.specs.Prelude.{IfSome, option_map}
+use Rattle.std.specs.Ordering.{nat_cmp}
 use Rattle.std.specs.FinMap.Entries.{find, put, is_sorted}
 use Rattle.av_base.specs.declared.slot.Slot.{Slot}
 use Rattle.av_base.specs.Words.{how_many, is_in}
 use Rattle.av_pagetable.specs.Entries.{with_entry}
 use Rattle.av_plain.specs.World.{World, Page, pages}
-use Rattle.av_plain.specs.Ledger.{Ledger, Setting, Key, key_cmp, Entry, Zero, InFrame, InSlot, entry, map_count, slot_entries, names_frame, names_slot, frame_at, cached_by, Cached, same_slot, is_stale}
+use Rattle.av_plain.specs.Ledger.{Ledger, Setting, SwapArea, Key, key_cmp, Entry, Zero, InFrame, InSlot, entry, map_count, slot_entries, names_frame, names_slot, frame_at, cached_by, Cached, same_slot, is_stale}
 use Rattle.av_plain.specs.Fault.{is_shared}
 use Rattle.av_plain.specs.Sound.{AtPages}
-use Rattle.av_plain.specs.Stands.{View, Pte as Plain, entry_of, Holds, IsKept, IsKeptAt, IsClean, TablesStand, FramesStand, SwapStands, AreasStand, BytesStand}
+use Rattle.av_plain.specs.Device.{no_device}
+use Rattle.av_plain.specs.Stands.{View, Pte as Plain, entry_of, Holds, IsKept, TablesStand, FramesStand, SwapStands, AreasStand, BytesStand, HasNumbers, HeadersStand}
+use Rattle.av_plain.proofs.Pass.{HasNoSwap}
 use Rattle.av_plain.specs.Transcript.{State}
 use Rattle.av_plain.proofs.Ledger.Order.{keys_total, weight, count-put}
 use Rattle.av_plain.proofs.Ledger.{same_key, same_key-is, entry-set, map_count-set, is_sorted-set}
 use Rattle.av_plain.proofs.Ledger.NoSwap.{itself, key_is, no_slot, free_is, shared_is}
 use Rattle.av_reclaim.specs.declared.mem.Mem.{Mem}
-use Rattle.av_reclaim.proofs.MemLaws.{no_cache, no_frame_at, no_device}
-use Rattle.av_reclaim.specs.Mem.{setting, count, view, Keeps, PartsStand, HasTables}
+use Rattle.av_reclaim.proofs.MemLaws.{no_cache, no_frame_at, slot_kept, nothing_clean}
+use Rattle.av_reclaim.specs.Mem.{setting, count, view, Keeps, KeepsWithin, HasTables}
 
 pub record Parts (m : Setting) (v : View) (w : World) (l : Ledger) : Type 0 where
   pub in_order : T (is_sorted key_cmp l.entries)
   pub cache : l.cache ≡ []
+  pub flight : l.flight ≡ []
+  pub on : l.on ≡ []
   pub active : l.active ≡ []
   pub at_pages : AtPages w l
   pub frames : FramesStand m v l
   pub tables : TablesStand v l
   pub swap : SwapStands v l
   pub areas : AreasStand v w
-  pub bytes : BytesStand v None w l
+  pub bytes : BytesStand v no_device w l
 
 -- ---- to and from the kernel
 
-pub of_stand : (k : Mem) (w : World) (l : Ledger) → PartsStand k w l → Parts (setting (count k)) (view k) w l
-of_stand k w l h = record { in_order = h.in_order; cache = no_cache l h.swap.finds; active = sym h.lists.active; at_pages = h.at_pages; frames = h.frames; tables = h.tables; swap = h.swap; areas = h.areas; bytes = h.bytes }
+-- no swap area is on, so no header is asked for
+pub no_headers : (m : Setting) (l : Ledger) → l.on ≡ [] → HeadersStand m l
+no_headers m l none k = subst (λ (on : List (ℕ × SwapArea)). IfSome (find nat_cmp k on) (λ area. IfSome m.headers (λ headers. HasNumbers area (headers k)))) (sym none) tt
 
-pub to_stand : (k : Mem) (w : World) (l : Ledger) → Parts (setting (count k)) (view k) w l → HasTables k → PartsStand k w l
-to_stand k w l h tables = record { in_order = h.in_order; at_pages = h.at_pages; frames = h.frames; lists = record { active = sym h.active }; tables = h.tables; swap = h.swap; areas = h.areas; bytes = h.bytes; has_tables = tables }
+pub of_stand : (k : Mem) (w : World) (l : Ledger) → KeepsWithin k w l → Parts (setting (count k)) (view k) w l
+of_stand k w l h =
+    let ledger = h.parts.ledger in
+    record {
+      in_order = h.in_order;
+      cache = no_cache l ledger.swap.finds;
+      flight = sym ledger.swap.flight;
+      on = sym ledger.swap.on;
+      active = sym ledger.lists.active;
+      at_pages = h.at_pages;
+      frames = ledger.frames;
+      tables = ledger.tables;
+      swap = ledger.swap;
+      areas = h.parts.areas;
+      bytes = h.parts.bytes;
+    }
+
+pub to_stand : (k : Mem) (w : World) (l : Ledger) → Parts (setting (count k)) (view k) w l → HasTables k → KeepsWithin k w l
+to_stand k w l h tables = record {
+  in_order = h.in_order;
+  at_pages = h.at_pages;
+  parts = record {
+    ledger = record { frames = h.frames; lists = record { active = sym h.active }; tables = h.tables; swap = h.swap };
+    areas = h.areas;
+    bytes = h.bytes;
+    headers = no_headers (setting (count k)) l h.on;
+  };
+  tables = tables;
+}
 
 pub of_keeps : (k : Mem) (s : State) → Keeps k s → Parts (setting (count k)) (view k) s.world s.ledger
-of_keeps k s h = record {
-  in_order = h.stands.sound.ledger.in_order;
-  cache = no_cache s.ledger h.stands.swap.finds;
-  active = sym h.stands.lists.active;
-  at_pages = h.stands.sound.at_pages;
-  frames = h.stands.frames;
-  tables = h.stands.tables;
-  swap = h.stands.swap;
-  areas = h.stands.areas;
-  bytes = h.stands.bytes;
-}
+of_keeps k s h = of_stand k s.world s.ledger (record { in_order = h.stands.sound.ledger.in_order; at_pages = h.stands.sound.at_pages; parts = h.stands.parts; tables = h.tables })
+
+-- nothing of the ledger is of swap
+pub no_swap : (m : Setting) (v : View) (w : World) (l : Ledger) → Parts m v w l → HasNoSwap l
+no_swap m v w l h = record { cache = h.cache; flight = h.flight; on = h.on }
 
 -- ---- an entry is put in
 
@@ -71,7 +98,7 @@ module _ (m : Setting) (v : View) (w : World) (l l' : Ledger) (p page : ℕ) (e 
     (few : (g : ℕ) → v.maps g ≤ 1 → maps g ≤ 1)
     (own : write ≡ true → (g : ℕ) → names_frame g e ≡ true → maps g ≤ 1)
     (kept : (q o g : ℕ) (was : Bool) → entry l (q, o) ≡ Some (InFrame g was) → same_key (q, o) (p, page) ≡ false → bytes g ≡ v.bytes g)
-    (holds : IsKept (changed p page (as_pte e write) bytes maps rest v) None l' (Some e) (pages w p page)) where
+    (holds : IsKept (changed p page (as_pte e write) bytes maps rest v) no_device l' (Some e) (pages w p page)) where
   entry_now : (k : Key) → entry l' k ≡ cond (same_key k (p, page)) (Some e) (entry l k)
   entry_now k = ap (find key_cmp k) entries_is ∙ entry-set (p, page) e l k
 
@@ -142,29 +169,28 @@ module _ (m : Setting) (v : View) (w : World) (l l' : Ledger) (p page : ℕ) (e 
       at_key true same h = ap (λ (k : Key). is_some (pages w k.0 k.1)) (same_key-is (q, o) (p, page) same) ∙ there
       at_key false same h = parts.at_pages q o h
 
-  bytes_now : BytesStand (changed p page (as_pte e write) bytes maps rest v) None w l'
+  bytes_now : BytesStand (changed p page (as_pte e write) bytes maps rest v) no_device w l'
   bytes_now = record {
-    kept = λ q o. subst (λ x. IsKept (changed p page (as_pte e write) bytes maps rest v) None l' x (pages w q o)) (sym (entry_now (q, o))) (at_key q o (same_key (q, o) (p, page)) refl);
-    clean = λ s stale flying. no_device (changed p page (as_pte e write) bytes maps rest v) s (frame_at l' s);
+    kept = λ q o. subst (λ x. IsKept (changed p page (as_pte e write) bytes maps rest v) no_device l' x (pages w q o)) (sym (entry_now (q, o))) (at_key q o (same_key (q, o) (p, page)) refl);
+    clean = λ s stale flying. nothing_clean (changed p page (as_pte e write) bytes maps rest v) s (frame_at l' s) (no_frame_at l' s cache_is);
   }
     where
-      at_slot : (s : Slot) (x : Option Page) (a b : Option ℕ) → a ≡ None → b ≡ None → IsKeptAt v None s x a → IsKeptAt (changed p page (as_pte e write) bytes maps rest v) None s x b
-      at_slot s x a b none none' h = subst (IsKeptAt (changed p page (as_pte e write) bytes maps rest v) None s x) (sym none') tt
-
-      others : (q o : ℕ) (x : Option Entry) → entry l (q, o) ≡ x → same_key (q, o) (p, page) ≡ false → IsKept v None l x (pages w q o) → IsKept (changed p page (as_pte e write) bytes maps rest v) None l' x (pages w q o)
+      others : (q o : ℕ) (x : Option Entry) → entry l (q, o) ≡ x → same_key (q, o) (p, page) ≡ false → IsKept v no_device l x (pages w q o) → IsKept (changed p page (as_pte e write) bytes maps rest v) no_device l' x (pages w q o)
       others q o None is other h = h
       others q o (Some Zero) is other h = h
       others q o (Some (InFrame g was)) is other h = subst (Holds (pages w q o)) (sym (kept q o g was is other)) h
-      others q o (Some (InSlot s)) is other h = at_slot s (pages w q o) (frame_at l s) (frame_at l' s) (no_frame_at l s parts.cache) (no_frame_at l' s cache_is) h
+      others q o (Some (InSlot s)) is other h = slot_kept v (changed p page (as_pte e write) bytes maps rest v) s (pages w q o) (frame_at l s) (frame_at l' s) (no_frame_at l s parts.cache) (no_frame_at l' s cache_is) h
 
-      at_key : (q o : ℕ) (b : Bool) → same_key (q, o) (p, page) ≡ b → IsKept (changed p page (as_pte e write) bytes maps rest v) None l' (cond b (Some e) (entry l (q, o))) (pages w q o)
-      at_key q o true same = subst (λ (k : Key). IsKept (changed p page (as_pte e write) bytes maps rest v) None l' (Some e) (pages w k.0 k.1)) (sym (same_key-is (q, o) (p, page) same)) holds
+      at_key : (q o : ℕ) (b : Bool) → same_key (q, o) (p, page) ≡ b → IsKept (changed p page (as_pte e write) bytes maps rest v) no_device l' (cond b (Some e) (entry l (q, o))) (pages w q o)
+      at_key q o true same = subst (λ (k : Key). IsKept (changed p page (as_pte e write) bytes maps rest v) no_device l' (Some e) (pages w k.0 k.1)) (sym (same_key-is (q, o) (p, page) same)) holds
       at_key q o false same = others q o (entry l (q, o)) refl same (parts.bytes.kept q o)
 
   pub parts_now : Parts m (changed p page (as_pte e write) bytes maps rest v) w l'
   parts_now = record {
     in_order = subst (λ es. T (is_sorted key_cmp es)) (sym entries_is) (is_sorted-set (p, page) e l parts.in_order);
     cache = cache_is;
+    flight = flight_is ∙ parts.flight;
+    on = on_is ∙ parts.on;
     active = active_is;
     at_pages = at_pages_now;
     frames = frames_now;

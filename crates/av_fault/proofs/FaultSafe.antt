@@ -9,7 +9,8 @@ use Rattle.av_frames.specs.Store.{seen}
 use Rattle.av_pagetable.specs.declared.pte.Pte.TheVariants.{Here, Away}
 use Rattle.av_pagetable.specs.Entries.{entry_at, has, with_entry}
 use Rattle.av_plain.specs.Ledger.{InFrame, entry, map_count, names_frame, is_free}
-use Rattle.av_plain.specs.Stands.{Range, entry_of, prot_of}
+use Rattle.av_plain.specs.Report.{Range}
+use Rattle.av_plain.specs.Stands.{entry_of, prot_of}
 use Rattle.av_plain.specs.Transcript.{State}
 use Rattle.av_plain.proofs.Ledger.{how_many-found}
 use Rattle.av_plain.proofs.Ledger.NoSwap.{itself, free_is, shared_is, zero_is}
@@ -39,15 +40,15 @@ named_frame k s p page g was keeps is =
 
 pub entry_frame : (k : Mem) (p page g : ℕ) → IsSteady k → frame_named (entry_at k.tables p page) ≡ Some g → (g < count k) × (0 < (seen k.frames).maps g)
 entry_frame k p page g steady named =
-    let both = named_entry g (entry_at k.tables p page) (entry steady.0.ledger (p, page)) named (steady.1.stands.tables.entries p page) in
+    let both = named_entry g (entry_at k.tables p page) (entry steady.0.ledger (p, page)) named (steady.1.stands.parts.ledger.tables.entries p page) in
     let frame = named_frame k steady.0 p page g both.0 steady.1 both.1 in
-    (frame.0, subst (λ n. 0 < n) (sym (steady.1.stands.frames.maps g)) frame.1)
+    (frame.0, subst (λ n. 0 < n) (sym (steady.1.stands.parts.ledger.frames.maps g)) frame.1)
 
 -- no entry is a slot
 pub none_away : (k : Mem) (p page : ℕ) (t : Slot) → IsSteady k → entry_at k.tables p page ≡ Away t → ⊥
 none_away k p page t steady is =
     not_away (setting (count k)) (view k) steady.0.world steady.0.ledger (p, page) t (of_keeps k steady.0 steady.1) (λ s. refl)
-    (sym (steady.1.stands.tables.entries p page) ∙ ap (λ e. entry_of (plain e)) is)
+    (sym (steady.1.stands.parts.ledger.tables.entries p page) ∙ ap (λ e. entry_of (plain e)) is)
 
 -- a process that may access a page has a table
 pub process_there : (k : Mem) (p page : ℕ) (write : Bool) → IsSteady k → permitted write (prot_of (ranges_of k.spaces p) page) ≡ true → has k.tables p ≡ true
@@ -60,14 +61,14 @@ process_there k p page write steady allowed = steady.1.tables p ∙ by (ranges_o
 -- a frame that may be written in place has one entry at most
 pub few_by_bit : (k : Mem) (s : State) (p page f : ℕ) (bit was : Bool) → Keeps k s → entry_at k.tables p page ≡ Here f bit was → bit ≡ true → map_count s.ledger f ≤ 1
 few_by_bit k s p page f bit was keeps is writes =
-    at_most _ (sym (shared_is s.ledger f (of_keeps k s keeps).cache) ∙ keeps.stands.tables.write_bits p page (record { entry = InFrame f was; write = bit }) f (ap plain is) writes (itself f))
+    at_most _ (sym (shared_is s.ledger f (of_keeps k s keeps).cache) ∙ keeps.stands.parts.ledger.tables.write_bits p page (record { entry = InFrame f was; write = bit }) f (ap plain is) writes (itself f))
   where
     at_most : (n : ℕ) → nat_lt 1 n ≡ false → n ≤ 1
     at_most n h = grind (arith, nat_tests)
 
 -- an entry that is a frame, in the ledger's words
 pub frame_entry : (k : Mem) (s : State) (p page f : ℕ) (bit was : Bool) → Keeps k s → entry_at k.tables p page ≡ Here f bit was → entry s.ledger (p, page) ≡ Some (InFrame f was)
-frame_entry k s p page f bit was keeps is = sym (keeps.stands.tables.entries p page) ∙ ap (λ e. entry_of (plain e)) is
+frame_entry k s p page f bit was keeps is = sym (keeps.stands.parts.ledger.tables.entries p page) ∙ ap (λ e. entry_of (plain e)) is
 
 -- where it is marked as seen already, the page is ready
 pub seen_there : (k : Mem) (s : State) (p page f : ℕ) (write bit : Bool) (notes : List Note) → Keeps k s → permitted write (prot_of (ranges_of k.spaces p) page) ≡ true → entry_at k.tables p page ≡ Here f bit true

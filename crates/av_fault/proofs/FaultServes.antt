@@ -12,8 +12,9 @@ use Rattle.av_pagetable.specs.declared.pte.Pte.TheVariants.{Empty, Zero as ZeroP
 use Rattle.av_plain.specs.World.{World, Page, pages}
 use Rattle.av_plain.specs.Ledger.{Ledger, Setting, Key, Entry, Zero, InFrame, InSlot, entry, map_count, slot_entries, names_frame, names_slot, is_free, has_free, slot_of}
 use Rattle.av_plain.specs.Event.{without, after_notes}
-use Rattle.av_plain.specs.Pass.{out_of, Spared, TakesFor}
-use Rattle.av_plain.specs.Fault.{Serves, need, Need, Ready, NewPage, CopyOnWrite, was_slot, ComesIn, IsMade, drop_of_entry, drop_of_slot, permits, RunsOut, pinned_by, wants_frame}
+use Rattle.av_plain.specs.Pass.{Spared, out_of}
+use Rattle.av_plain.proofs.Pass.{HasNoSwap, none-seeks}
+use Rattle.av_plain.specs.Fault.{Sparing, sparing, is_pinned, FindsNone, Serves, need, Need, Ready, NewPage, CopyOnWrite, was_slot, ComesIn, IsMade, drop_of_entry, drop_of_slot, permits, RunsOut, pinned_by, wants_frame}
 use Rattle.av_plain.specs.Stands.{View, entry_of, AreasStand, prot_of}
 use Rattle.av_plain.proofs.Ledger.Order.{weight}
 use Rattle.av_plain.proofs.Ledger.{how_many-found}
@@ -116,17 +117,14 @@ no_spare m write came l (Some (InFrame f seen)) none = ap (drop_of_slot m write 
 no_spare m write came l (Some (InSlot s)) none = refl
 
 -- nothing comes in, these notes make the page, and no slot is spare
-pub serves : (m : Setting) (l : Ledger) (write : Bool) (k : Key) (notes : List Note) (n : Need) → need write l (entry l k) ≡ n → ComesIn m l k n [] → IsMade m l k n notes → (after_notes l notes).cache ≡ [] → Serves m l write k notes
-serves m l write k notes n is comes_in made none = record {
+pub serves : (m : Setting) (spares : Sparing) (l : Ledger) (write : Bool) (k : Key) (notes : List Note) (n : Need) → need write l (entry l k) ≡ n → ComesIn m spares l k n [] → IsMade m spares l k n notes → (after_notes l notes).cache ≡ [] → Serves m spares l write k notes
+serves m spares l write k notes n is comes_in made none = record {
   coming = [];
   making = notes;
   whole = sym (append-nil notes) ∙ ap (λ ns. notes ++ ns) (sym (no_spare m write (was_slot (need write l (entry l k))) (after_notes l notes) (entry (after_notes l notes) k) none));
-  comes_in = subst (λ n. ComesIn m l k n []) (sym is) comes_in;
-  made = subst (λ n. IsMade m l k n notes) (sym is) made;
+  comes_in = subst (λ n. ComesIn m spares l k n []) (sym is) comes_in;
+  made = subst (λ n. IsMade m spares l k n notes) (sym is) made;
 }
-
-pub takes : (m : Setting) (spared : Spared) (l : Ledger) (f : ℕ) (note : ℕ → Note) → f < m.frames → is_free l f ≡ true → TakesFor m spared l (note f ∷ []) note
-takes m spared l f note below free = record { sought = []; frame = f; seeks = refl; in_range = below; free = free; whole = refl }
 
 -- ---- no frame is free
 
@@ -147,38 +145,49 @@ all_count a zero = refl
 all_count a (suc n) = let rest = all_count (a + 1) n in omega (arith, rest)
 
 -- a number outside the range takes nothing away, one inside takes one
-count_above : (g a n : ℕ) → g < a → how_many (λ (f : ℕ). true) (without g (numbers a n)) ≡ n
+count_above : (g a n : ℕ) → g < a → how_many (λ f. not (g == f)) (numbers a n) ≡ n
 count_above g a zero low = refl
 count_above g a (suc n) low =
-    let rest = count_above g (a + 1) n (omega (arith, low)) in
     let other : (g == a) ≡ false = grind (arith, nat_tests) in
-    ap (λ b. how_many (λ (f : ℕ). true) (cond (not b) (a ∷ without g (numbers (a + 1) n)) (without g (numbers (a + 1) n)))) other ∙ more _ _ rest
+    ap (λ b. cond (not b) 1 0 + how_many (λ f. not (g == f)) (numbers (a + 1) n)) other ∙ more _ _ (count_above g (a + 1) n (omega (arith, low)))
   where
     more : (x y : ℕ) → x ≡ y → 1 + x ≡ suc y
     more x y e = omega arith
 
-count_but : (g a n : ℕ) → a ≤ g → g < a + n → how_many (λ (f : ℕ). true) (without g (numbers a n)) + 1 ≡ n
+count_but : (g a n : ℕ) → a ≤ g → g < a + n → how_many (λ f. not (g == f)) (numbers a n) + 1 ≡ n
 count_but g a zero low high = absurd (omega (arith, low, high))
 count_but g a (suc n) low high = by (g == a) refl (λ other. count_but g (a + 1) n (omega (arith, low, other)) (omega (arith, high)))
   where
     more : (x y : ℕ) → x + 1 ≡ y → (1 + x) + 1 ≡ suc y
     more x y e = omega arith
 
-    one : (x y : ℕ) → x ≡ y → x + 1 ≡ suc y
+    one : (x y : ℕ) → x ≡ y → (0 + x) + 1 ≡ suc y
     one x y e = omega arith
 
-    by : (b : Bool) → (g == a) ≡ b → (g ≢ a → how_many (λ (f : ℕ). true) (without g (numbers (a + 1) n)) + 1 ≡ n)
-        → how_many (λ (f : ℕ). true) (cond (not (g == a)) (a ∷ without g (numbers (a + 1) n)) (without g (numbers (a + 1) n))) + 1 ≡ suc n
+    by : (b : Bool) → (g == a) ≡ b → (g ≢ a → how_many (λ f. not (g == f)) (numbers (a + 1) n) + 1 ≡ n)
+        → (cond (not (g == a)) 1 0 + how_many (λ f. not (g == f)) (numbers (a + 1) n)) + 1 ≡ suc n
     by true e rest =
         let same : g ≡ a = grind (arith, nat_tests) in
-        ap (λ b. how_many (λ (f : ℕ). true) (cond (not b) (a ∷ without g (numbers (a + 1) n)) (without g (numbers (a + 1) n))) + 1) e ∙ one _ _ (count_above g (a + 1) n (omega (arith, same)))
+        ap (λ b. (cond (not b) 1 0 + how_many (λ f. not (g == f)) (numbers (a + 1) n)) + 1) e ∙ one _ _ (count_above g (a + 1) n (omega (arith, same)))
     by false e rest =
         let other : g ≢ a = grind (arith, nat_tests) in
-        ap (λ b. how_many (λ (f : ℕ). true) (cond (not b) (a ∷ without g (numbers (a + 1) n)) (without g (numbers (a + 1) n))) + 1) e ∙ more _ _ (rest other)
+        ap (λ b. (cond (not b) 1 0 + how_many (λ f. not (g == f)) (numbers (a + 1) n)) + 1) e ∙ more _ _ (rest other)
+
+never : (a b : Bool) → b ≡ false → (a && b) ≡ false
+never true b e = e
+never false b e = refl
+
+kept : (a b : Bool) → b ≡ true → (a && b) ≡ a
+kept true b e = e
+kept false b e = refl
+
+-- what is left alone while a page gets a frame
+abbrev sparing_of : Option ℕ → Spared
+sparing_of pinned = record { frame = is_pinned pinned; closing = None }
 
 -- the numbers: all frames but the pinned one, which is one of them, have no slot
 pub out_is : (m : Setting) (l : Ledger) (pinned : Option ℕ) → l.cache ≡ [] → ((g : ℕ) → pinned ≡ Some g → g < m.frames)
-    → ◌≡◌ {A = OutOf} (record { pinned = how_pinned pinned; noslot = m.frames - how_pinned pinned; fault = 0 }) (out_of m pinned l)
+    → ◌≡◌ {A = OutOf} (record { pinned = how_pinned pinned; noslot = m.frames - how_pinned pinned; fault = 0 }) (out_of m pinned (sparing_of pinned) l)
 out_is m l None none below = λ i. record {
   pinned = 0;
   noslot = sym (how_many-same (λ f. is_none (slot_of l f)) (λ f. true) (numbers 0 m.frames) (λ f. ap is_none (no_slot l f none)) ∙ all_count 0 m.frames ∙ none_less m.frames) i;
@@ -189,8 +198,8 @@ out_is m l None none below = λ i. record {
     none_less n = omega arith
 out_is m l (Some g) none below = λ i. record {
   pinned = 1;
-  noslot = sym (how_many-same (λ f. is_none (slot_of l f)) (λ f. true) (without g (numbers 0 m.frames)) (λ f. ap is_none (no_slot l f none)) ∙ less _ _ (count_but g 0 m.frames (omega arith) (from_zero _ (below g refl)))) i;
-  fault = sym (how_many-none (λ f. is_some (slot_of l f)) (without g (numbers 0 m.frames)) (λ f. ap is_some (no_slot l f none))) i;
+  noslot = sym (how_many-same (λ f. not (g == f) && is_none (slot_of l f)) (λ f. not (g == f)) (numbers 0 m.frames) (λ f. kept (not (g == f)) (is_none (slot_of l f)) (ap is_none (no_slot l f none))) ∙ less _ _ (count_but g 0 m.frames (omega arith) (from_zero _ (below g refl)))) i;
+  fault = sym (how_many-none (λ f. not (g == f) && is_some (slot_of l f)) (numbers 0 m.frames) (λ f. never (not (g == f)) (is_some (slot_of l f)) (ap is_some (no_slot l f none)))) i;
 }
   where
     less : (x n : ℕ) → x + 1 ≡ n → x ≡ n - 1
@@ -200,14 +209,11 @@ out_is m l (Some g) none below = λ i. record {
     from_zero n h = omega arith
 
 -- the page needs a frame, and none is free
-pub runs_out : (m : Setting) (l : Ledger) (k : Key) (n : Need) (out : OutOf) → need true l (entry l k) ≡ n → wants_frame n ≡ true → has_free m l ≡ false → out ≡ out_of m (pinned_by n) l → RunsOut m l true k [] out
-runs_out m l k n out is wants none same = record {
+pub runs_out : (m : Setting) (w : World) (l : Ledger) (k : Key) (n : Need) (out : OutOf) → HasNoSwap l → need true l (entry l k) ≡ n → wants_frame n ≡ true → has_free m l ≡ false → out ≡ out_of m (pinned_by n) (sparing w l (pinned_by n)) l → RunsOut m (sparing w) l true k [] out
+runs_out m w l k n out swap is wants none same = record {
   coming = [];
   sought = [];
   whole = refl;
   before = inl refl;
-  wants = ap wants_frame is ∙ wants;
-  seeks = refl;
-  none = none;
-  numbers = same ∙ ap (λ n. out_of m (pinned_by n) l) (sym is);
+  finds = subst (λ n. FindsNone m (sparing w) l n [] out) (sym is) (record { wants = wants; seeks = none-seeks m (sparing w l (pinned_by n)) l swap; none = none; numbers = same });
 }

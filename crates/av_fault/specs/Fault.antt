@@ -10,12 +10,14 @@ use Rattle.av_pagetable.specs.Entries.{with_entry}
 use Rattle.av_plain.specs.World.{allows}
 use Rattle.av_plain.specs.Ledger.{Ledger, Key, Zero, InFrame, entry, map_count}
 use Rattle.av_plain.specs.Event.{after_all}
-use Rattle.av_plain.specs.Fault.{Touches, How, Served, Denied, Starved, page_events}
+use Rattle.av_plain.specs.Fault as faults
+use Rattle.av_plain.specs.Fault.{Touches, Denied, Starved}
+use Rattle.av_plain.specs.Access.{page_events}
 use Rattle.av_plain.specs.Choice.{ChoosesAll}
 use Rattle.av_plain.specs.Transcript.{State}
 use Rattle.av_plain.specs.Stands.{View}
 use Rattle.av_reclaim.specs.declared.mem.Mem.{Mem}
-use Rattle.av_reclaim.specs.Mem.{setting, count, plain, view, Keeps, PartsStand}
+use Rattle.av_reclaim.specs.Mem.{setting, count, plain, view, Keeps, KeepsWithin}
 use Rattle.av_fault.specs.declared.fault.Stop.{Stop}
 use Rattle.av_fault.specs.declared.fault.Stop.TheVariants.{Segv, Oom}
 use Rattle.av_fault.specs.declared.fault.Touched.{Touched}
@@ -23,31 +25,36 @@ use Rattle.av_fault.specs.declared.fault.Touched.TheVariants.{Ready, Zeros, Stop
 
 -- ---- the page is made ready
 
-abbrev pub how_stopped : Stop → How
-how_stopped Segv = Denied
-how_stopped (Oom out) = Starved out
+-- why a page is not served, in the definitions' words
+abbrev pub stop_of : Stop → faults.Stop
+stop_of Segv = Denied
+stop_of (Oom out) = Starved out
 
-abbrev pub how_touched : Touched → How
-how_touched (Ready f) = Served
-how_touched Zeros = Served
-how_touched (Stopped stop) = how_stopped stop
+abbrev pub end_of : Touched → Option faults.Stop
+end_of (Ready f) = None
+end_of Zeros = None
+end_of (Stopped stop) = Some (stop_of stop)
 
 -- the page's entry is this frame, or zeros; no other entry has a frame that is to be written
 abbrev pub IsReady : Bool → Ledger → Key → Touched → Type 0
-IsReady write l k (Ready f) = (entry l k ≡ Some (InFrame f true)) × (write ≡ true → map_count l f ≤ 1)
+IsReady write l k (Ready f) =
+    (entry l k ≡ Some (InFrame f true)) × (write ≡ true → map_count l f ≤ 1)
 IsReady write l k Zeros = (entry l k ≡ Some Zero) × (write ≡ false)
 IsReady write l k (Stopped stop) = Unit {0}
 
--- these notes were added, and they make the page ready or say why not; the kernel's parts stand after them and the
--- page's use, but that a write has stored no byte yet
+-- these notes were added, and they make the page ready or say why not; the kernel's parts stand
+-- after them and the page's use, but that a write has stored no byte yet
 pub record IsTouched (s : State) (new : Mem) (write : Bool) (k : Key) (before now : List Note)
     (touched : Touched) : Type 0 where
   pub added : List Note
   pub notes : now ≡ before ++ added
-  pub touches : Touches (setting (count new)) s.world s.ledger write k added (how_touched touched)
-  pub ready : IsReady write (after_all s.ledger (page_events write k added (how_touched touched))) k touched
-  pub parts : PartsStand new s.world (after_all s.ledger (page_events write k added (how_touched touched)))
-  pub free : ChoosesAll s.ledger (page_events write k added (how_touched touched)) s.free (view new).free
+  pub touches : Touches (setting (count new)) s.world s.ledger write k added (end_of touched)
+  pub ready : IsReady write (after_all s.ledger (page_events write k added (end_of touched))) k
+      touched
+  pub parts : KeepsWithin new s.world
+      (after_all s.ledger (page_events write k added (end_of touched)))
+  pub free : ChoosesAll (setting (count new)) s.ledger
+      (page_events write k added (end_of touched)) s.free (view new).free
 
 -- whatever stood before: the page is made ready or not, and there are as many frames
 pub record MakesReady (old new : Mem) (write : Bool) (k : Key) (before now : List Note)
@@ -76,8 +83,8 @@ one_more f maps = with_at f (maps f + 1) maps
 abbrev pub one_less : ℕ → (ℕ → ℕ) → ℕ → ℕ
 one_less g maps = with_at g (maps g - 1) maps
 
--- a frame has been taken for a page, which may write it in place; then these are its bytes, the counts of entries,
--- and the free frames
+-- a frame has been taken for a page, which may write it in place; then these are its bytes, the
+-- counts of entries, and the free frames
 abbrev pub taken_for : ℕ → ℕ → ℕ → (ℕ → ℕ) → (ℕ → ℕ) → List ℕ → View → View
 taken_for p page f bytes maps rest v = record v {
   table = with_entry p page (plain (Here f true true)) v.table;

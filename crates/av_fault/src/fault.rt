@@ -34,7 +34,8 @@ pub enum Touched {
     Stopped(Stop),
 }
 
-/// Makes a page ready for a read or a write, marks it as accessed, and adds the notes of what it took.
+/// Makes a page ready for a read or a write, marks it as accessed, and adds the notes of what it
+/// took.
 pub fn touch(
     mem: &mut Mem,
     process: u16,
@@ -93,7 +94,8 @@ fn touch_to_read(
     }
 }
 
-/// Makes a page ready that may be written: a frame of zeros, a copy where others have its frame, else its own frame.
+/// Makes a page ready that may be written: a frame of zeros, a copy where others have its frame,
+/// else its own frame.
 fn touch_to_write(
     mem: &mut Mem,
     process: u16,
@@ -244,7 +246,8 @@ fn take_zeros(mem: &mut Mem, process: u16, page: u64) -> Result<Option<u32>, All
     Ok(Some(frame))
 }
 
-/// Takes a frame for a page and copies the page's present one to it. None exactly where no frame is free.
+/// Takes a frame for a page and copies the page's present one to it. None exactly where no frame is
+/// free.
 fn take_copy(
     mem: &mut Mem,
     process: u16,

@@ -1,5 +1,6 @@
 -- The bytes of an access piece by piece are those of the whole.
-use Rattle.std.proofs.Common.{◌≡◌, ℕ, ◌+◌, suc, Bool, true, cond, List, [], ◌∷◌, ◌++◌, length, Option, Some, None, refl, sym, ap, subst, ◌∙◌, arith}
+use Rattle.std.proofs.Common.{◌≡◌, ℕ, ◌+◌, ◌^◌, ◌<◌, suc, Bool, true, cond, List, [], ◌∷◌, ◌++◌, length, Option, Some, None, refl, sym, ap, subst, ◌∙◌, arith}
+use Rattle.std.specs.List.{AllByRecursion}
 use Rattle.std.specs.Ordering.{nat_cmp, is_eq, eq_by_cmp}
 use Rattle.std.specs.declared.cmp.Ordering.TheVariants.{Less, Equal, Greater}
 use Rattle.std.specs.Cmp.{nat_cmp_total, tied_itself}
@@ -17,11 +18,17 @@ pub shows-append : (q : Process) (a : ℕ) (xs ys : List ℕ) → Shows q a xs �
 shows-append q a [] ys h g = subst (λ b. Shows q b ys) (let same : a + 0 ≡ a = omega arith in same) g
 shows-append q a (x ∷ xs) ys h g = (h.0, shows-append q (a + 1) xs ys h.1 (subst (λ b. Shows q b ys) (let same : a + suc (length xs) ≡ (a + 1) + length xs = omega arith in same) g))
 
+-- and each of them is a byte
+all-append : (xs ys : List ℕ) → AllByRecursion (λ b. b < 2 ^ 8) xs → AllByRecursion (λ b. b < 2 ^ 8) ys → AllByRecursion (λ b. b < 2 ^ 8) (xs ++ ys)
+all-append [] ys h g = g
+all-append (x ∷ xs) ys h g = (h.0, all-append xs ys h.1 g)
+
 -- a read shows a piece more
-pub reads-more : (q : Process) (a k m at : ℕ) (shown now piece : List ℕ) → at ≡ a + k → now ≡ shown ++ piece → length piece ≡ m → Shows q at piece → Reads q a k shown → Reads q a (k + m) now
-reads-more q a k m at shown now piece begins is long h g = (
+pub reads-more : (q : Process) (a k m at : ℕ) (shown now piece : List ℕ) → at ≡ a + k → now ≡ shown ++ piece → length piece ≡ m → Shows q at piece → AllByRecursion (λ b. b < 2 ^ 8) piece → Reads q a k shown → Reads q a (k + m) now
+reads-more q a k m at shown now piece begins is long h below g = (
   ap length is ∙ length-append shown piece ∙ (λ i. g.0 i + long i),
   subst (Shows q a) (sym is) (shows-append q a shown piece g.1 (subst (λ b. Shows q b piece) (begins ∙ ap (λ n. a + n) (sym g.0)) h)),
+  subst (AllByRecursion (λ b. b < 2 ^ 8)) (sym is) (all-append shown piece g.2 below),
 )
 
 -- ---- stored

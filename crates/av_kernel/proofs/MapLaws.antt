@@ -1,5 +1,5 @@
 -- Commands on ranges of pages: what they leave of the pages, the entries and the areas.
-use Rattle.std.proofs.Common.{◌≡◌, inl, inr, Ok, Err, ℕ, ◌+◌, ◌-◌, ◌<◌, ◌≤◌, Bool, true, false, cond, not, ◌&&◌, ◌||◌, List, [], ◌∷◌, Option, Some, None, is_some, option_map, Result, refl, sym, ap, subst, ◌∙◌, arith, ◌==◌, nat_lt}
+use Rattle.std.proofs.Common.{◌≡◌, inl, inr, Ok, Err, ℕ, ◌+◌, ◌-◌, ◌<◌, ◌≤◌, Bool, true, false, cond, not, ◌&&◌, ◌||◌, List, [], ◌∷◌, slice_index, Option, Some, None, is_some, option_map, Result, refl, sym, ap, subst, ◌∙◌, arith, ◌==◌, nat_lt}
 use Rattle.std.proofs.lemmas.Bool.Decides.{nat_tests}
 use Rattle.std.proofs.lemmas.Bool.{false≢true}
 use Rattle.std.specs.Prelude.{MatchOption, OnOk}
@@ -28,13 +28,14 @@ use Rattle.av_plain.specs.Place.{Goes}
 use Rattle.av_plain.specs.Map.{zaps_for_place, with_prot_to_hole}
 use Rattle.av_plain.specs.Choice.{ChoosesAll}
 use Rattle.av_plain.specs.Transcript.{State}
-use Rattle.av_plain.specs.Stands.{Holds, IsKept, IsKeptAt, prot_of, Range}
+use Rattle.av_plain.specs.Device.{no_device}
+use Rattle.av_plain.specs.Stands.{Holds, IsKept, IsKeptAt, prot_of}
 use Rattle.av_plain.proofs.World.Ranges.{is-pages_to_hole}
 use Rattle.av_plain.proofs.Zap.{entry-range}
 use Rattle.av_reclaim.specs.declared.mem.Mem.{Mem}
 use Rattle.av_spaces.specs.Spaces.{Spaces, areas_of, is_taken}
 use Rattle.av_kernel.specs.Map.{set_on, HasProts, AreCleared}
-use Rattle.av_reclaim.specs.Mem.{ranges_of, setting, view, count, Keeps, IsSteady, LedgerStands}
+use Rattle.av_reclaim.specs.Mem.{ranges_of, setting, view, count, Keeps, IsSteady, HasLedger}
 use Rattle.av_reclaim.specs.Zap.{HasZapped}
 use Rattle.av_kernel.specs.Place.{protect_tests, IsProcess, IsPlaced, AreToClear}
 use Rattle.av_kernel.specs.Step.{MemSteps, answered}
@@ -46,7 +47,7 @@ use Rattle.av_kernel.proofs.StepLaws.{is_number, moved_on, orderly, refused, sta
 
 -- a page is taken exactly where it is mapped
 pub taken_is : (k : Mem) (s : State) (p : ℕ) → Keeps k s → IsProcess k.spaces p (pages s.world p)
-taken_is k s p keeps page = taken_has k.spaces p page ∙ ap is_some (keeps.stands.areas.covers p page) ∙ mapped_is (pages s.world p page)
+taken_is k s p keeps page = taken_has k.spaces p page ∙ ap is_some (keeps.stands.parts.areas.covers p page) ∙ mapped_is (pages s.world p page)
 
 -- a place suits the pages of a process, whatever the kernel stands for
 pub suits : (k : Mem) → IsSteady k → (p n page : ℕ) (place : Place) → ((q : Process) → IsProcess k.spaces p q → IsPlaced q n place (Ok page)) → IsSuited k.spaces p n page place
@@ -85,7 +86,7 @@ are_cleared old mid spaces p page n l t same processes bytes gone = record {
   bytes = bytes;
 }
 
-left_alone : (k : Mem) → IsSteady k → (p page n : ℕ) (l : Ledger) → LedgerStands k l → is_some (areas_of k.spaces p) ≡ true → IsFree (is_taken k.spaces p) page (page + n) → AreCleared k k p page n l []
+left_alone : (k : Mem) → IsSteady k → (p page n : ℕ) (l : Ledger) → HasLedger k l → is_some (areas_of k.spaces p) ≡ true → IsFree (is_taken k.spaces p) page (page + n) → AreCleared k k p page n l []
 left_alone k steady p page n l stands alive free = record {
   taken = record { stands = stands; notes = refl; free = refl };
   spaces = record {
@@ -93,7 +94,7 @@ left_alone k steady p page n l stands alive free = record {
     alive = alive_is k.spaces p ∙ alive;
     pages = λ o. by o (within page n o) refl;
     number = refl;
-    apart = steady.1.stands.areas.apart;
+    apart = steady.1.stands.parts.areas.apart;
   };
   processes = refl;
   bytes = refl;
@@ -111,7 +112,7 @@ left_alone k steady p page n l stands alive free = record {
     by o false e = refl
 
 -- where a mapping isn't to be at a fixed place, its pages are free, and nothing goes
-pub nothing_there : (k : Mem) → IsSteady k → (p page n : ℕ) (place : Place) (l : Ledger) → LedgerStands k l → is_some (areas_of k.spaces p) ≡ true → AreToClear (is_taken k.spaces p) page n place → ((a : ℕ) → place ≡ Fixed a → ⊥)
+pub nothing_there : (k : Mem) → IsSteady k → (p page n : ℕ) (place : Place) (l : Ledger) → HasLedger k l → is_some (areas_of k.spaces p) ≡ true → AreToClear (is_taken k.spaces p) page n place → ((a : ℕ) → place ≡ Fixed a → ⊥)
     → AreCleared k k p page n l (zaps_for_place l p n place)
 nothing_there k steady p page n Auto l stands alive free other = left_alone k steady p page n l stands alive free
 nothing_there k steady p page n (At a) l stands alive free other = left_alone k steady p page n l stands alive free
@@ -139,17 +140,17 @@ module _ (old new : Mem) (s : State) (command : Command) (reply : Reply) (p page
     where
       by : (b : Bool) → cond b (option_map (λ (x : Page). x.prot) o) (prot_of (ranges_of old.spaces p) at) ≡ option_map (λ (x : Page). x.prot) (cond b o (pages s.world p at))
       by true = refl
-      by false = keeps.stands.areas.covers p at
+      by false = keeps.stands.parts.areas.covers p at
 
-  kept : (at : ℕ) → IsKept (view old) None s.ledger (entry (after_all s.ledger events) (p, at)) (with_pages (pages s.world p) page n (λ _. o) at)
-  kept at = subst (λ e. IsKept (view old) None s.ledger e (with_pages (pages s.world p) page n (λ _. o) at)) (sym (entries p at ∙ ap (λ b. cond (b && within page n at) None (entry s.ledger (p, at))) (itself p))) (by (within page n at))
+  kept : (at : ℕ) → IsKept (view old) no_device s.ledger (entry (after_all s.ledger events) (p, at)) (with_pages (pages s.world p) page n (λ _. o) at)
+  kept at = subst (λ e. IsKept (view old) no_device s.ledger e (with_pages (pages s.world p) page n (λ _. o) at)) (sym (entries p at ∙ ap (λ b. cond (b && within page n at) None (entry s.ledger (p, at))) (itself p))) (by (within page n at))
     where
       itself : (p : ℕ) → (p == p) ≡ true
       itself p = grind (arith, nat_tests)
 
-      by : (b : Bool) → IsKept (view old) None s.ledger (cond b None (entry s.ledger (p, at))) (cond b o (pages s.world p at))
+      by : (b : Bool) → IsKept (view old) no_device s.ledger (cond b None (entry s.ledger (p, at))) (cond b o (pages s.world p at))
       by true = blank
-      by false = keeps.stands.bytes.kept p at
+      by false = keeps.stands.parts.bytes.kept p at
 
   pub replaced-steps : IsLegal (setting (count old)) s.world s.ledger command reply events
       → set_process s.world p (with_pages (pages s.world p) page n (λ _. o)) ≡ next_world (setting (count old)) s.world s.ledger events command reply.answer → MemSteps old new s command reply
@@ -157,7 +158,7 @@ module _ (old new : Mem) (s : State) (command : Command) (reply : Reply) (p page
       let now : Process = with_pages (pages s.world p) page n (λ _. o) in
       changed old new s command reply p now (after_all s.ledger events) keeps same_count taken.stands bytes
       (λ q at other. entries q at ∙ ap (λ b. cond (b && within page n at) None (entry s.ledger (q, at))) other) kept
-      (record { events = events; legal = legal; world = world; ledger = refl; free = subst (λ free. ChoosesAll s.ledger events free (view new).free) keeps.stands.free taken.free })
+      (record { events = events; legal = legal; world = world; ledger = refl; free = subst (λ free. ChoosesAll (setting (count old)) s.ledger events free (view new).free) keeps.stands.free taken.free })
       (areas_changed old new s p now (set_on page n (option_map (λ (x : Page). x.prot) o) (prot_of (ranges_of old.spaces p))) keeps alive spaces covered)
       (tables_kept old new s p now (set_on page n (option_map (λ (x : Page). x.prot) o) (prot_of (ranges_of old.spaces p))) keeps alive spaces covered processes)
 
@@ -186,7 +187,7 @@ module _ (k : Mem) (s : State) (p len : ℕ) (prot : Prot) (place : Place) (keep
 module _ (old new : Mem) (s : State) (p a len : ℕ) (keeps : Keeps old s) (alive : is_some (ranges_of old.spaces p) ≡ true) (valid : (not (is_on_page a) || len == 0 || nat_lt top (a + len)) ≡ false)
     (same_count : count new ≡ count old) (cleared : AreCleared old new p (page_of a) (pages_of len) s.ledger (zaps_of s.ledger (keys_in s.ledger p (page_of a) (pages_of len)))) where
   munmap-allowed : refusal (tests (setting (count old)) s.world s.ledger (Munmap p a len)) ≡ None
-  munmap-allowed = ap (λ b. cond (not b) (Some Esrch) (cond (not (is_on_page a) || len == 0 || nat_lt top (a + len)) (Some Einval) None)) (sym (keeps.stands.areas.alive p) ∙ alive) ∙ ap (λ b. cond b (Some Einval) None) valid
+  munmap-allowed = ap (λ b. cond (not b) (Some Esrch) (cond (not (is_on_page a) || len == 0 || nat_lt top (a + len)) (Some Einval) None)) (sym (keeps.stands.parts.areas.alive p) ∙ alive) ∙ ap (λ b. cond b (Some Einval) None) valid
 
   pub munmap-steps : MemSteps old new s (Munmap p a len) (answered Done)
   munmap-steps =
@@ -203,7 +204,7 @@ module _ (old new : Mem) (s : State) (p a len : ℕ) (keeps : Keeps old s) (aliv
 module _ (old : Mem) (s : State) (p len : ℕ) (prot : Prot) (place : Place) (keeps : Keeps old s) (alive : is_some (ranges_of old.spaces p) ≡ true) (some : (len == 0) ≡ false) (fits : is_too_long len ≡ false) where
   -- the tests of its place are left
   mmap-tests : refusal (tests (setting (count old)) s.world s.ledger (Mmap p len prot place)) ≡ refusal (place_tests (pages s.world p) (pages_of len) place)
-  mmap-tests = ap (λ b. cond (not b) (Some Esrch) (cond (len == 0) (Some Einval) (cond (is_too_long len) (Some Enomem) (refusal (place_tests (pages s.world p) (pages_of len) place))))) (sym (keeps.stands.areas.alive p) ∙ alive)
+  mmap-tests = ap (λ b. cond (not b) (Some Esrch) (cond (len == 0) (Some Einval) (cond (is_too_long len) (Some Enomem) (refusal (place_tests (pages s.world p) (pages_of len) place))))) (sym (keeps.stands.parts.areas.alive p) ∙ alive)
       ∙ ap (λ b. cond b (Some Einval) (cond (is_too_long len) (Some Enomem) (refusal (place_tests (pages s.world p) (pages_of len) place)))) some ∙ ap (λ b. cond b (Some Enomem) (refusal (place_tests (pages s.world p) (pages_of len) place))) fits
 
   -- the pages go nowhere
@@ -274,7 +275,7 @@ module _ (old : Mem) (s : State) (p len : ℕ) (prot : Prot) (place : Place) (ke
 module _ (old : Mem) (spaces : Spaces) (s : State) (p a len reached : ℕ) (prot : Prot) (keeps : Keeps old s) (alive : is_some (ranges_of old.spaces p) ≡ true) (passed : refusal ((not (is_on_page a), Einval) ∷ (wraps a len, Enomem) ∷ []) ≡ None)
     (reaches : IsReached (is_taken old.spaces p) (page_of a) (page_of a + pages_of len) reached) (given : HasProts old.spaces spaces p (set_on (page_of a) (reached - page_of a) (Some prot) (prot_of (ranges_of old.spaces p)))) where
   mprotect-allowed : refusal (tests (setting (count old)) s.world s.ledger (Mprotect p a len prot)) ≡ None
-  mprotect-allowed = ap (λ b. cond (not b) (Some Esrch) (refusal ((not (is_on_page a), Einval) ∷ (wraps a len, Enomem) ∷ []))) (sym (keeps.stands.areas.alive p) ∙ alive) ∙ passed
+  mprotect-allowed = ap (λ b. cond (not b) (Some Esrch) (refusal ((not (is_on_page a), Einval) ∷ (wraps a len, Enomem) ∷ []))) (sym (keeps.stands.parts.areas.alive p) ∙ alive) ∙ passed
 
   in_reach : wraps a len ≡ false
   in_reach = by (is_on_page a) (wraps a len) passed
@@ -307,28 +308,28 @@ module _ (old : Mem) (spaces : Spaces) (s : State) (p a len reached : ℕ) (prot
           let low : page_of a ≤ page = grind (arith, nat_tests, e) in
           let high : page < page_of a + (reached - page_of a) = grind (arith, nat_tests, e) in
           there (pages s.world p page) (sym (taken_is old s p keeps page) ∙ reaches.all page low (let least = reaches.lowest in omega (arith, high, least)))
-      by false e = keeps.stands.areas.covers p page
+      by false e = keeps.stands.parts.areas.covers p page
 
-  kept-protected : (page : ℕ) → IsKept (view old) None s.ledger (entry s.ledger (p, page)) (with_prot_on (pages s.world p) (page_of a) (reached - page_of a) prot page)
+  kept-protected : (page : ℕ) → IsKept (view old) no_device s.ledger (entry s.ledger (p, page)) (with_prot_on (pages s.world p) (page_of a) (reached - page_of a) prot page)
   kept-protected page = by (within (page_of a) (reached - page_of a) page)
     where
       held : (o : Option Page) (at : ℕ → ℕ) → Holds o at → Holds (option_map (with_prot prot) o) at
       held None at h = h
       held (Some x) at h = h
 
-      kept : (e : Option Entry) (o : Option Page) → IsKept (view old) None s.ledger e o → IsKept (view old) None s.ledger e (option_map (with_prot prot) o)
+      kept : (e : Option Entry) (o : Option Page) → IsKept (view old) no_device s.ledger e o → IsKept (view old) no_device s.ledger e (option_map (with_prot prot) o)
       kept None o h = held o (λ _. 0) h
       kept (Some Zero) o h = held o (λ _. 0) h
       kept (Some (InFrame f seen)) o h = held o ((view old).bytes f) h
       kept (Some (InSlot t)) o h = at (frame_at s.ledger t) h
         where
-          at : (f : Option ℕ) → IsKeptAt (view old) None t o f → IsKeptAt (view old) None t (option_map (with_prot prot) o) f
-          at None h = h
+          at : (f : Option ℕ) → IsKeptAt (view old) no_device t o f → IsKeptAt (view old) no_device t (option_map (with_prot prot) o) f
+          at None h = held o (slice_index []) h
           at (Some f) h = held o ((view old).bytes f) h
 
-      by : (b : Bool) → IsKept (view old) None s.ledger (entry s.ledger (p, page)) (cond b (option_map (with_prot prot) (pages s.world p page)) (pages s.world p page))
-      by true = kept (entry s.ledger (p, page)) (pages s.world p page) (keeps.stands.bytes.kept p page)
-      by false = keeps.stands.bytes.kept p page
+      by : (b : Bool) → IsKept (view old) no_device s.ledger (entry s.ledger (p, page)) (cond b (option_map (with_prot prot) (pages s.world p page)) (pages s.world p page))
+      by true = kept (entry s.ledger (p, page)) (pages s.world p page) (keeps.stands.parts.bytes.kept p page)
+      by false = keeps.stands.parts.bytes.kept p page
 
   protected-steps : (answer : Answer) → answer ≡ (cond (pages_to_hole (pages s.world p) (page_of a) (pages_of len) == pages_of len) Done (Refused Enomem))
       → set_process s.world p (with_prot_on (pages s.world p) (page_of a) (reached - page_of a) prot) ≡ next_world (setting (count old)) s.world s.ledger [] (Mprotect p a len prot) answer

@@ -1,9 +1,6 @@
 -- A page that has been touched, and then read or written, or not served: what the kernel stands for after it.
-use Rattle.std.proofs.Common.{◌≡◌, ℕ, ◌+◌, ◌*◌, ◌/◌, ◌%◌, ◌<◌, ◌≤◌, Bool, true, false, cond, not, List, [], ◌∷◌, length, Some, None, refl, sym, ap, subst, ◌∙◌, arith, ◌==◌, is_some, append-nil, if◌then◌else◌}
+use Rattle.std.proofs.Common.{◌≡◌, ℕ, ◌+◌, ◌*◌, ◌/◌, ◌%◌, ◌<◌, ◌≤◌, Bool, true, false, cond, not, List, [], ◌∷◌, map, length, Option, Some, None, inl, inr, refl, sym, ap, subst, ◌∙◌, arith, ◌==◌, is_some, append-nil, if◌then◌else◌}
 use Rattle.std.proofs.lemmas.Bool.Decides.{nat_tests}
-use Rattle.std.specs.Prelude.{IfSome}
-use Rattle.std.specs.Ordering.{nat_cmp}
-use Rattle.std.specs.FinMap.Entries.{find}
 use Rattle.av_base.specs.Words.{numbers, with_at}
 use Rattle.av_frames.specs.Store.{Seen, seen, overlaid}
 use Rattle.av_trace.specs.declared.note.Note.{Note}
@@ -15,10 +12,10 @@ use Rattle.av_plain.specs.World.{World, lives, pages, with_bytes, set_process}
 use Rattle.av_base.specs.Page.{page_of, pages_of}
 use Rattle.av_plain.specs.Ledger.{Ledger, Setting, SwapArea, InFrame, map_count, names_frame}
 use Rattle.av_plain.specs.Event.{after_all}
-use Rattle.av_plain.specs.Access.{Accesses, GoesOn, End, Stopped as EndStopped, Whole, pages_of_access, after_write}
-use Rattle.av_plain.specs.Fault.{Touches, How, Served, Denied, Starved, Lost, page_events}
+use Rattle.av_plain.specs.Access.{Accesses, End, Stopped as EndStopped, Whole, page_events, pages_of_access, after_write}
+use Rattle.av_plain.specs.Fault as faults
+use Rattle.av_plain.specs.Fault.{Touches}
 use Rattle.av_plain.specs.Sound.{AllSound}
-use Rattle.av_plain.specs.Stands.{HeadersStand, HasNumbers}
 use Rattle.av_plain.specs.Choice.{ChoosesAll}
 use Rattle.av_plain.specs.Transcript.{State}
 use Rattle.av_plain.proofs.Ledger.{how_many-found}
@@ -31,8 +28,8 @@ use Rattle.av_reclaim.specs.declared.mem.Mem.{Mem}
 use Rattle.av_fault.specs.declared.fault.Stop.{Stop}
 use Rattle.av_fault.specs.declared.fault.Touched.{Touched}
 use Rattle.av_fault.specs.declared.fault.Touched.TheVariants.{Ready, Stopped}
-use Rattle.av_reclaim.specs.Mem.{ranges_of, setting, count, plain, view, joined, Keeps, PartsStand}
-use Rattle.av_fault.specs.Fault.{IsTouched, how_touched, how_stopped}
+use Rattle.av_reclaim.specs.Mem.{ranges_of, setting, count, plain, view, joined, Keeps, KeepsWithin}
+use Rattle.av_fault.specs.Fault.{IsTouched, end_of, stop_of}
 use Rattle.av_kernel.specs.Page.{IsPageStep, world_after}
 use Rattle.av_fault.proofs.FaultParts.{Parts, of_stand, to_stand}
 use Rattle.av_kernel.proofs.PageWritten.{over, written_now, stored_is}
@@ -40,9 +37,9 @@ use Rattle.av_kernel.proofs.PageWritten.{over, written_now, stored_is}
 -- ---- soundness
 
 -- the page of a piece that ends within it
-one_page : (page at n : ℕ) → 1 ≤ n → at + n ≤ 4096 → pages_of_access (4096 * page + at) n ≡ page ∷ []
-one_page page at n some fits =
-    ap (λ k. numbers (page_of (4096 * page + at)) k) (not_none ∙ one) ∙ ap (λ q. q ∷ []) (let q : (4096 * page + at) / 4096 ≡ page = omega (arith, some, fits) in q)
+one_page : (write : Bool) (page at n : ℕ) → 1 ≤ n → at + n ≤ 4096 → pages_of_access write (4096 * page + at) n ≡ (write, page) ∷ []
+one_page write page at n some fits =
+    ap (λ k. map (λ page. (write, page)) (numbers (page_of (4096 * page + at)) k)) (not_none ∙ one) ∙ ap (λ q. (write, q) ∷ []) (let q : (4096 * page + at) / 4096 ≡ page = omega (arith, some, fits) in q)
   where
     not_none : (if n == 0 then 0 else pages_of ((4096 * page + at) % 4096 + n)) ≡ pages_of ((4096 * page + at) % 4096 + n)
     not_none = let other : (n == 0) ≡ false = grind (arith, nat_tests) in ap (λ b. cond b 0 (pages_of ((4096 * page + at) % 4096 + n))) other
@@ -51,59 +48,48 @@ one_page page at n some fits =
     one = omega (arith, some, fits)
 
 -- where an access of one page ends
-abbrev end_at : ℕ → How → End
-end_at page Served = Whole
-end_at page Denied = EndStopped page Denied
-end_at page (Starved out) = EndStopped page (Starved out)
-end_at page Lost = EndStopped page Lost
+abbrev end_at : ℕ → Option faults.Stop → End
+end_at page None = Whole
+end_at page (Some stop) = EndStopped page stop
 
 -- one page is a whole access
-accessed : (m : Setting) (w : World) (l : Ledger) (write : Bool) (p page : ℕ) (notes : List Note) (how : How) → Touches m w l write (p, page) notes how
-    → Accesses m w l write p (page ∷ []) (page_events write (p, page) notes how) (end_at page how)
-accessed m w l write p page notes how h = (notes, how, [], h, sym (append-nil (page_events write (p, page) notes how)), goes_on how)
-  where
-    goes_on : (how : How) → GoesOn how page [] (end_at page how) (Accesses m w (after_all l (page_events write (p, page) notes how)) write p [] [] (end_at page how))
-    goes_on Served = (refl, refl)
-    goes_on Denied = (refl, refl)
-    goes_on (Starved out) = (refl, refl)
-    goes_on Lost = (refl, refl)
+accessed : (m : Setting) (w : World) (l : Ledger) (write : Bool) (p page : ℕ) (notes : List Note) (end : Option faults.Stop) → Touches m w l write (p, page) notes end
+    → Accesses m w l p ((write, page) ∷ []) (page_events write (p, page) notes end) (end_at page end)
+accessed m w l write p page notes None h = inl (notes, [], h, sym (append-nil (page_events write (p, page) notes None)), (refl, refl))
+accessed m w l write p page notes (Some stop) h = inr (notes, stop, h, refl, refl)
 
-pub sound_touched : (m : Setting) (w : World) (l : Ledger) (write : Bool) (p page : ℕ) (notes : List Note) (how : How) → AllSound m w l → Touches m w l write (p, page) notes how
-    → AllSound m w (after_all l (page_events write (p, page) notes how))
-sound_touched m w l write p page notes how s h =
-    let access = accessed m w l write p page notes how h in
-    let events = page_events write (p, page) notes how in
+pub sound_touched : (m : Setting) (w : World) (l : Ledger) (write : Bool) (p page : ℕ) (notes : List Note) (end : Option faults.Stop) → AllSound m w l → Touches m w l write (p, page) notes end
+    → AllSound m w (after_all l (page_events write (p, page) notes end))
+sound_touched m w l write p page notes end s h =
+    let access = accessed m w l write p page notes end h in
+    let events = page_events write (p, page) notes end in
     record {
       world = s.world;
-      ledger = accesses-kept m w l write p (page ∷ []) events (end_at page how) s.ledger access;
-      at_pages = λ q o i. accesses-at m w l write p (page ∷ []) events (end_at page how) (λ k j. s.at_pages k.0 k.1 j) access (q, o) i;
-      in_areas = there-accesses m w l write p (page ∷ []) events (end_at page how) s.ledger s.in_areas access;
+      ledger = accesses-kept m w l p ((write, page) ∷ []) events (end_at page end) s.ledger access;
+      at_pages = λ q o i. accesses-at m w l p ((write, page) ∷ []) events (end_at page end) (λ k j. s.at_pages k.0 k.1 j) access (q, o) i;
+      in_areas = there-accesses m w l p ((write, page) ∷ []) events (end_at page end) s.ledger s.in_areas access;
     }
 
 sound_written : (n : ℕ) (w : World) (l : Ledger) (p page at : ℕ) (piece : List ℕ) (notes : List Note) → AllSound (setting n) w l → lives w p ≡ true → 1 ≤ length piece → at + length piece ≤ 4096
-    → Touches (setting n) w l true (p, page) notes Served → AllSound (setting n) (after_write w p (4096 * page + at) piece) (after_all l (page_events true (p, page) notes Served))
+    → Touches (setting n) w l true (p, page) notes None → AllSound (setting n) (after_write w p (4096 * page + at) piece) (after_all l (page_events true (p, page) notes None))
 sound_written n w l p page at piece notes s alive some fits h =
-    follows-sound (setting n) w l (Write p (4096 * page + at) piece) (page_events true (p, page) notes Served) Done [] s (ap (λ b. cond (not b) (Some Esrch) None) alive)
-    (Whole, subst (λ ps. Accesses (setting n) w l true p ps (page_events true (p, page) notes Served) Whole) (sym (one_page page at (length piece) some fits)) (accessed (setting n) w l true p page notes Served h), refl, refl)
+    follows-sound (setting n) w l (Write p (4096 * page + at) piece) (page_events true (p, page) notes None) Done [] s (ap (λ b. cond (not b) (Some Esrch) None) alive)
+    (Whole, subst (λ ps. Accesses (setting n) w l p ps (page_events true (p, page) notes None) Whole) (sym (one_page true page at (length piece) some fits)) (accessed (setting n) w l true p page notes None h), refl, refl)
 
 -- ---- the kernel
 
--- no area is on, so no header is asked for
-pub no_headers : (m : Setting) (l : Ledger) → [] ≡ l.on → HeadersStand m l
-no_headers m l none k = subst (λ (on : List (ℕ × SwapArea)). IfSome (find nat_cmp k on) (λ area. IfSome m.headers (λ headers. HasNumbers area (headers k)))) none tt
-
-pub keeps_now : (k : Mem) (w : World) (l : Ledger) → PartsStand k w l → AllSound (setting (count k)) w l → Keeps k (record { world = w; ledger = l; free = (view k).free })
+pub keeps_now : (k : Mem) (w : World) (l : Ledger) → KeepsWithin k w l → AllSound (setting (count k)) w l → Keeps k (record { world = w; ledger = l; free = (view k).free })
 keeps_now k w l h sound = record {
-  stands = record { sound = sound; frames = h.frames; lists = h.lists; tables = h.tables; swap = h.swap; areas = h.areas; bytes = h.bytes; headers = no_headers (setting (count k)) l h.swap.on; free = refl };
-  tables = h.has_tables;
+  stands = record { over = record { sizes = refl; headers = refl }; sound = sound; parts = h.parts; free = refl };
+  tables = h.tables;
 }
 
 module _ (s : State) (old : Mem) (p page at : ℕ) (piece : List ℕ) (before now : List Note) (keeps : Keeps old s) where
   -- the frame of a page that is ready is one of the machine's
   pub frame_below : (new : Mem) (write : Bool) (f : ℕ) → count new ≡ count old → IsTouched s new write (p, page) before now (Ready f) → f < count new
   frame_below new write f same t =
-      let l = after_all s.ledger (page_events write (p, page) t.added Served) in
-      let sound = sound_touched (setting (count new)) s.world s.ledger write p page t.added Served (subst (λ n. AllSound (setting n) s.world s.ledger) (sym same) keeps.stands.sound) t.touches in
+      let l = after_all s.ledger (page_events write (p, page) t.added None) in
+      let sound = sound_touched (setting (count new)) s.world s.ledger write p page t.added None (subst (λ n. AllSound (setting n) s.world s.ledger) (sym same) keeps.stands.sound) t.touches in
       let some : 0 < map_count l f = how_many-found (names_frame f) (p, page) l.entries (InFrame f true) t.ready.0 (itself f) in
       sound.ledger.in_range f (omega (arith, some))
 
@@ -113,12 +99,12 @@ module _ (s : State) (old : Mem) (p page at : ℕ) (piece : List ℕ) (before no
     added = t.added;
     notes = t.notes;
     touches = t.touches;
-    next = record { world = s.world; ledger = after_all s.ledger (page_events write (p, page) t.added (how_stopped stop)); free = (view new).free };
+    next = record { world = s.world; ledger = after_all s.ledger (page_events write (p, page) t.added (Some (stop_of stop))); free = (view new).free };
     world = world_is write;
     ledger = refl;
     free = t.free;
-    keeps = keeps_now new s.world (after_all s.ledger (page_events write (p, page) t.added (how_stopped stop))) t.parts
-        (sound_touched (setting (count new)) s.world s.ledger write p page t.added (how_stopped stop) (subst (λ n. AllSound (setting n) s.world s.ledger) (sym same) keeps.stands.sound) t.touches);
+    keeps = keeps_now new s.world (after_all s.ledger (page_events write (p, page) t.added (Some (stop_of stop)))) t.parts
+        (sound_touched (setting (count new)) s.world s.ledger write p page t.added (Some (stop_of stop)) (subst (λ n. AllSound (setting n) s.world s.ledger) (sym same) keeps.stands.sound) t.touches);
   }
     where
       world_is : (write : Bool) → s.world ≡ world_after write p page at piece (Some stop) s.world
@@ -126,20 +112,20 @@ module _ (s : State) (old : Mem) (p page at : ℕ) (piece : List ℕ) (before no
       world_is false = refl
 
   -- it was served to a read
-  pub read_served : (new : Mem) (ready : Touched) → count new ≡ count old → how_touched ready ≡ Served → IsTouched s new false (p, page) before now ready → IsPageStep s new false p page at piece before now None
+  pub read_served : (new : Mem) (ready : Touched) → count new ≡ count old → end_of ready ≡ None → IsTouched s new false (p, page) before now ready → IsPageStep s new false p page at piece before now None
   read_served new ready same served t =
-      let touches : Touches (setting (count new)) s.world s.ledger false (p, page) t.added Served = subst (Touches (setting (count new)) s.world s.ledger false (p, page) t.added) served t.touches in
-      let after = ap (λ how. after_all s.ledger (page_events false (p, page) t.added how)) served in
+      let touches : Touches (setting (count new)) s.world s.ledger false (p, page) t.added None = subst (Touches (setting (count new)) s.world s.ledger false (p, page) t.added) served t.touches in
+      let after = ap (λ end. after_all s.ledger (page_events false (p, page) t.added end)) served in
       record {
         added = t.added;
         notes = t.notes;
         touches = touches;
-        next = record { world = s.world; ledger = after_all s.ledger (page_events false (p, page) t.added Served); free = (view new).free };
+        next = record { world = s.world; ledger = after_all s.ledger (page_events false (p, page) t.added None); free = (view new).free };
         world = refl;
         ledger = refl;
-        free = subst (λ how. ChoosesAll s.ledger (page_events false (p, page) t.added how) s.free (view new).free) served t.free;
-        keeps = keeps_now new s.world (after_all s.ledger (page_events false (p, page) t.added Served)) (subst (PartsStand new s.world) after t.parts)
-            (sound_touched (setting (count new)) s.world s.ledger false p page t.added Served (subst (λ n. AllSound (setting n) s.world s.ledger) (sym same) keeps.stands.sound) touches);
+        free = subst (λ end. ChoosesAll (setting (count new)) s.ledger (page_events false (p, page) t.added end) s.free (view new).free) served t.free;
+        keeps = keeps_now new s.world (after_all s.ledger (page_events false (p, page) t.added None)) (subst (KeepsWithin new s.world) after t.parts)
+            (sound_touched (setting (count new)) s.world s.ledger false p page t.added None (subst (λ n. AllSound (setting n) s.world s.ledger) (sym same) keeps.stands.sound) touches);
       }
 
   -- it was served to a write, and then the piece was laid over the frame's bytes
@@ -147,7 +133,7 @@ module _ (s : State) (old : Mem) (p page at : ℕ) (piece : List ℕ) (before no
       → seen new.frames ≡ record (seen mid.frames) { bytes = with_at f (overlaid at piece ((seen mid.frames).bytes f)) (seen mid.frames).bytes } → new.tables ≡ mid.tables → new.spaces ≡ mid.spaces
       → IsPageStep s new true p page at piece before now None
   written_served mid new f same alive some fits t frames tables spaces =
-      let l = after_all s.ledger (page_events true (p, page) t.added Served) in
+      let l = after_all s.ledger (page_events true (p, page) t.added None) in
       let m = setting (count mid) in
       let view_is : view new ≡ over f at piece (view mid) = λ i. joined (frames i) (λ q o. plain (entry_at (tables i) q o)) (spaces i) in
       let sound = sound_written (count mid) s.world s.ledger p page at piece t.added (subst (λ n. AllSound (setting n) s.world s.ledger) (sym same) keeps.stands.sound) alive some fits t.touches in
@@ -157,13 +143,14 @@ module _ (s : State) (old : Mem) (p page at : ℕ) (piece : List ℕ) (before no
       record {
         added = t.added;
         notes = t.notes;
-        touches = subst (λ n. Touches (setting n) s.world s.ledger true (p, page) t.added Served) count_is t.touches;
+        touches = subst (λ n. Touches (setting n) s.world s.ledger true (p, page) t.added None) count_is t.touches;
         next = record { world = after_write s.world p (4096 * page + at) piece; ledger = l; free = (view new).free };
         world = refl;
         ledger = refl;
-        free = subst (ChoosesAll s.ledger (page_events true (p, page) t.added Served) s.free) (sym (ap (λ (s : Seen). s.free) frames)) t.free;
+        free = subst (λ n. ChoosesAll (setting n) s.ledger (page_events true (p, page) t.added None) s.free (view new).free) count_is
+            (subst (ChoosesAll (setting (count mid)) s.ledger (page_events true (p, page) t.added None) s.free) (sym (ap (λ (s : Seen). s.free) frames)) t.free);
         keeps = keeps_now new (after_write s.world p (4096 * page + at) piece) l
             (to_stand new (after_write s.world p (4096 * page + at) piece) l (subst (λ n. Parts (setting n) (view new) (after_write s.world p (4096 * page + at) piece) l) count_is parts')
-            (λ q. ap (λ t. has t q) tables ∙ t.parts.has_tables q ∙ sym (ap (λ x. is_some (ranges_of x q)) spaces)))
+            (λ q. ap (λ t. has t q) tables ∙ t.parts.tables q ∙ sym (ap (λ x. is_some (ranges_of x q)) spaces)))
             (subst (λ n. AllSound (setting n) (after_write s.world p (4096 * page + at) piece) l) count_is sound);
       }

@@ -21,7 +21,8 @@ use Rattle.av_plain.specs.Zap.{keys_of_process, keys_in, zaps_of}
 use Rattle.av_plain.specs.Refusal.{tests, refusal, Refuses}
 use Rattle.av_plain.specs.Step.{Follows}
 use Rattle.av_plain.specs.Choice.{ChoosesAll}
-use Rattle.av_plain.specs.Stands.{Pte as Plain, Range, IsKept, entry_of, prot_of, AreasStand, TablesStand}
+use Rattle.av_plain.specs.Device.{no_device}
+use Rattle.av_plain.specs.Stands.{Pte as Plain, IsKept, entry_of, prot_of, AreasStand, TablesStand}
 use Rattle.av_plain.specs.Transcript.{State, IsStep}
 use Rattle.av_plain.proofs.Ledger.Order.{both_first, both_second}
 use Rattle.av_plain.proofs.World.{pages-set, lives-set, length-set_new}
@@ -30,7 +31,7 @@ use Rattle.av_plain.proofs.Sound.Zap.{process-ended, pages-ended}
 use Rattle.av_reclaim.specs.declared.mem.Mem.{Mem}
 use Rattle.av_vma.specs.declared.area.Area.{Area}
 use Rattle.av_spaces.specs.Spaces.{Spaces, areas_of, IsSpawned, IsEnded}
-use Rattle.av_reclaim.specs.Mem.{range_of, ranges_of, setting, plain, view, count, HasTables, Keeps, LedgerStands}
+use Rattle.av_reclaim.specs.Mem.{range_of, ranges_of, setting, plain, view, count, HasTables, Keeps, HasLedger}
 use Rattle.av_kernel.specs.Step.{MemSteps, answered}
 use Rattle.av_reclaim.specs.Zap.{HasZapped}
 use Rattle.av_reclaim.proofs.MemLaws.{lives_is, all_apart, kept-nothing, no_cache}
@@ -64,7 +65,7 @@ there_already k s p keeps alive = ap (λ b. cond b (Some Eexist) (cond (nat_le m
 pub too_many : (k : Mem) (s : State) (p : ℕ) → Keeps k s → is_some (areas_of k.spaces p) ≡ false → 4096 ≤ length k.spaces → refusal (tests (setting (count k)) s.world s.ledger (Spawn p)) ≡ Some Eagain
 too_many k s p keeps dead many =
     ap (λ b. cond b (Some Eexist) (cond (nat_le most_processes (length s.world)) (Some Eagain) None)) (sym (lives_is k s keeps p) ∙ dead)
-    ∙ ap (λ b. cond b (Some Eagain) None) (at_least (length s.world) (let number = keeps.stands.areas.number in omega (arith, many, number)))
+    ∙ ap (λ b. cond b (Some Eagain) None) (at_least (length s.world) (let number = keeps.stands.parts.areas.number in omega (arith, many, number)))
   where
     at_least : (n : ℕ) → 4096 ≤ n → nat_le most_processes n ≡ true
     at_least n h = grind (arith, nat_tests, h)
@@ -74,10 +75,10 @@ module _ (old : Mem) (tables : ProcessTables) (spaces : Spaces) (s : State) (p :
     (absent : is_some (ranges_of old.spaces p) ≡ false) (few : length old.spaces < 4096)
     (entries : entry_at tables ≡ entry_at old.tables) (processes : has tables ≡ with_at p true (has old.tables)) (spawned : IsSpawned old.spaces spaces p) where
   dead_before : lives s.world p ≡ false
-  dead_before = sym (keeps.stands.areas.alive p) ∙ absent
+  dead_before = sym (keeps.stands.parts.areas.alive p) ∙ absent
 
   few_live : nat_le most_processes (length s.world) ≡ false
-  few_live = let number = keeps.stands.areas.number in let less : length s.world < 4096 = omega (arith, few, number) in not_le (length s.world) less
+  few_live = let number = keeps.stands.parts.areas.number in let less : length s.world < 4096 = omega (arith, few, number) in not_le (length s.world) less
     where
       not_le : (n : ℕ) → n < 4096 → nat_le most_processes n ≡ false
       not_le n h = grind (arith, nat_tests)
@@ -102,12 +103,12 @@ module _ (old : Mem) (tables : ProcessTables) (spaces : Spaces) (s : State) (p :
     where
       by : (b : Bool) → (q == p) ≡ b → is_some (cond b (Some []) (ranges_of old.spaces q)) ≡ cond b true (lives s.world q)
       by true e = refl
-      by false e = keeps.stands.areas.alive q
+      by false e = keeps.stands.parts.areas.alive q
 
   spawn-areas : AreasStand (view (moved_on old tables spaces)) (set_process s.world p no_pages)
   spawn-areas = record {
     alive = spawn-alive;
-    number = spawned.number ∙ ap (λ n. n + 1) keeps.stands.areas.number ∙ sym (length-set_new s.world p no_pages keeps.stands.sound.world.in_order dead_before);
+    number = spawned.number ∙ ap (λ n. n + 1) keeps.stands.parts.areas.number ∙ sym (length-set_new s.world p no_pages keeps.stands.sound.world.in_order dead_before);
     apart = all_apart spaces spawned.rising;
     covers = λ q page. ap (λ o. prot_of o page) (ranges_spawned old.spaces spaces p spawned q) ∙ by q page (q == p)
         ∙ sym (ap (option_map (λ (x : Page). x.prot)) (pages-set s.world p no_pages q page ∙ ap (λ b. cond b None (pages s.world q page)) (at_number q p)));
@@ -115,7 +116,7 @@ module _ (old : Mem) (tables : ProcessTables) (spaces : Spaces) (s : State) (p :
     where
       by : (q page : ℕ) (b : Bool) → prot_of (cond b (Some []) (ranges_of old.spaces q)) page ≡ option_map (λ (x : Page). x.prot) (cond b None (pages s.world q page))
       by q page true = refl
-      by q page false = keeps.stands.areas.covers q page
+      by q page false = keeps.stands.parts.areas.covers q page
 
   spawn-tables : HasTables (moved_on old tables spaces)
   spawn-tables q = ap (λ (h : ℕ → Bool). h q) processes ∙ by (q == p) ∙ sym (ap is_some (ranges_spawned old.spaces spaces p spawned q))
@@ -174,7 +175,7 @@ module _ (old mid : Mem) (tables : ProcessTables) (spaces : Spaces) (s : State) 
     (taken : HasZapped old mid s.ledger (zaps_of s.ledger (keys_of_process s.ledger p))) (bytes : (view mid).bytes ≡ (view old).bytes) (same_spaces : mid.spaces ≡ old.spaces) (same_tables : has mid.tables ≡ has old.tables) (same_count : count mid ≡ count old)
     (processes : has tables ≡ with_at p false (has mid.tables)) (entries : entry_at tables ≡ with_at p (λ page. Empty) (entry_at mid.tables)) (ended : IsEnded mid.spaces spaces p) where
   alive_now : lives s.world p ≡ true
-  alive_now = sym (keeps.stands.areas.alive p) ∙ alive
+  alive_now = sym (keeps.stands.parts.areas.alive p) ∙ alive
 
   allowed : refusal (tests (setting (count old)) s.world s.ledger (Exit p)) ≡ None
   allowed = ap (λ b. cond (not b) (Some Esrch) None) alive_now
@@ -188,7 +189,7 @@ module _ (old mid : Mem) (tables : ProcessTables) (spaces : Spaces) (s : State) 
     };
     world = refl;
     ledger = refl;
-    free = subst (λ free. ChoosesAll s.ledger (zaps_of s.ledger (keys_of_process s.ledger p)) free (view mid).free) keeps.stands.free taken.free;
+    free = subst (λ free. ChoosesAll (setting (count old)) s.ledger (zaps_of s.ledger (keys_of_process s.ledger p)) free (view mid).free) keeps.stands.free taken.free;
   }
 
   -- ---- what stands then
@@ -208,7 +209,7 @@ module _ (old mid : Mem) (tables : ProcessTables) (spaces : Spaces) (s : State) 
     where
       kept : (q page : ℕ) (b : Bool) → (q == p) ≡ b → entry_of (plain (cond b Empty (entry_at mid.tables q page))) ≡ entry (after_all s.ledger (zaps_of s.ledger (keys_of_process s.ledger p))) (q, page)
       kept q page true e = sym (ap (λ n. entry (after_all s.ledger (zaps_of s.ledger (keys_of_process s.ledger p))) (n, page)) (is_number q p e) ∙ entry-ended s.ledger p page)
-      kept q page false e = taken.stands.tables.entries q page
+      kept q page false e = taken.stands.parts.tables.entries q page
 
       clash : {t : Plain} → None ≡ Some t → ⊥
       clash e = cc
@@ -216,12 +217,12 @@ module _ (old mid : Mem) (tables : ProcessTables) (spaces : Spaces) (s : State) 
       bits : (b : Bool) (q page : ℕ) (t : Plain) (f : ℕ) → plain (cond b Empty (entry_at mid.tables q page)) ≡ Some t → t.write ≡ true → names_frame f t.entry ≡ true
           → is_shared (after_all s.ledger (zaps_of s.ledger (keys_of_process s.ledger p))) f ≡ false
       bits true q page t f is writes names = absurd (clash is)
-      bits false q page t f is writes names = taken.stands.tables.write_bits q page t f is writes names
+      bits false q page t f is writes names = taken.stands.parts.tables.write_bits q page t f is writes names
 
   areas_now : AreasStand (view (record { frames = mid.frames; tables = tables; spaces = spaces })) (end_process s.world p)
   areas_now = record {
     alive = λ q. ap is_some (ranges_ended mid.spaces spaces p ended q) ∙ lives_as q (q == p) ∙ sym (lives-ended s.world p q);
-    number = number _ _ _ _ (ended.number ∙ ap length same_spaces) keeps.stands.areas.number (length_ended s.world p keeps.stands.sound.world.in_order alive_now);
+    number = number _ _ _ _ (ended.number ∙ ap length same_spaces) keeps.stands.parts.areas.number (length_ended s.world p keeps.stands.sound.world.in_order alive_now);
     apart = all_apart spaces ended.rising;
     covers = λ q page. ap (λ o. prot_of o page) (ranges_ended mid.spaces spaces p ended q) ∙ covered q page (q == p) ∙ sym (ap (option_map (λ (x : Page). x.prot)) (pages-ended s.world p q page));
   }
@@ -231,21 +232,21 @@ module _ (old mid : Mem) (tables : ProcessTables) (spaces : Spaces) (s : State) 
 
       lives_as : (q : ℕ) (b : Bool) → is_some (cond b None (ranges_of mid.spaces q)) ≡ cond b false (lives s.world q)
       lives_as q true = refl
-      lives_as q false = ap (λ x. is_some (ranges_of x q)) same_spaces ∙ keeps.stands.areas.alive q
+      lives_as q false = ap (λ x. is_some (ranges_of x q)) same_spaces ∙ keeps.stands.parts.areas.alive q
 
       covered : (q page : ℕ) (b : Bool) → prot_of (cond b None (ranges_of mid.spaces q)) page ≡ option_map (λ (x : Page). x.prot) (cond b None (pages s.world q page))
       covered q page true = refl
-      covered q page false = ap (λ x. prot_of (ranges_of x q) page) same_spaces ∙ keeps.stands.areas.covers q page
+      covered q page false = ap (λ x. prot_of (ranges_of x q) page) same_spaces ∙ keeps.stands.parts.areas.covers q page
 
-  kept_now : (q page : ℕ) → IsKept (view (record { frames = mid.frames; tables = tables; spaces = spaces })) None (after_all s.ledger (zaps_of s.ledger (keys_of_process s.ledger p))) (entry (after_all s.ledger (zaps_of s.ledger (keys_of_process s.ledger p))) (q, page)) (pages (end_process s.world p) q page)
+  kept_now : (q page : ℕ) → IsKept (view (record { frames = mid.frames; tables = tables; spaces = spaces })) no_device (after_all s.ledger (zaps_of s.ledger (keys_of_process s.ledger p))) (entry (after_all s.ledger (zaps_of s.ledger (keys_of_process s.ledger p))) (q, page)) (pages (end_process s.world p) q page)
   kept_now q page =
       let l = after_all s.ledger (zaps_of s.ledger (keys_of_process s.ledger p)) in
-      subst (IsKept (view (record { frames = mid.frames; tables = tables; spaces = spaces })) None l (entry l (q, page))) (sym (pages-ended s.world p q page))
-      (kept-on (view old) (view (record { frames = mid.frames; tables = tables; spaces = spaces })) s.ledger l (entry l (q, page)) (cond (q == p) None (pages s.world q page)) bytes (no_cache l taken.stands.swap.finds) (by (q == p) refl))
+      subst (IsKept (view (record { frames = mid.frames; tables = tables; spaces = spaces })) no_device l (entry l (q, page))) (sym (pages-ended s.world p q page))
+      (kept-on (view old) (view (record { frames = mid.frames; tables = tables; spaces = spaces })) s.ledger l (entry l (q, page)) (cond (q == p) None (pages s.world q page)) bytes (no_cache s.ledger keeps.stands.parts.ledger.swap.finds) (no_cache l taken.stands.parts.swap.finds) (by (q == p) refl))
     where
-      by : (b : Bool) → (q == p) ≡ b → IsKept (view old) None s.ledger (entry (after_all s.ledger (zaps_of s.ledger (keys_of_process s.ledger p))) (q, page)) (cond b None (pages s.world q page))
+      by : (b : Bool) → (q == p) ≡ b → IsKept (view old) no_device s.ledger (entry (after_all s.ledger (zaps_of s.ledger (keys_of_process s.ledger p))) (q, page)) (cond b None (pages s.world q page))
       by true e = kept-nothing (view old) s.ledger (entry (after_all s.ledger (zaps_of s.ledger (keys_of_process s.ledger p))) (q, page))
-      by false e = subst (λ x. IsKept (view old) None s.ledger x (pages s.world q page)) (sym (entry-others s.ledger p q page e)) (keeps.stands.bytes.kept q page)
+      by false e = subst (λ x. IsKept (view old) no_device s.ledger x (pages s.world q page)) (sym (entry-others s.ledger p q page e)) (keeps.stands.parts.bytes.kept q page)
 
   has_now : HasTables (record { frames = mid.frames; tables = tables; spaces = spaces })
   has_now q = ap (λ (h : ℕ → Bool). h q) processes ∙ has_as q (q == p) ∙ sym (ap is_some (ranges_ended mid.spaces spaces p ended q))
@@ -254,13 +255,17 @@ module _ (old mid : Mem) (tables : ProcessTables) (spaces : Spaces) (s : State) 
       has_as q true = refl
       has_as q false = ap (λ (h : ℕ → Bool). h q) same_tables ∙ keeps.tables q ∙ sym (ap (λ x. is_some (ranges_of x q)) same_spaces)
 
-  stands_now : LedgerStands (record { frames = mid.frames; tables = tables; spaces = spaces }) (after_all s.ledger (zaps_of s.ledger (keys_of_process s.ledger p)))
+  stands_now : HasLedger (record { frames = mid.frames; tables = tables; spaces = spaces }) (after_all s.ledger (zaps_of s.ledger (keys_of_process s.ledger p)))
   stands_now = record {
     sound = taken.stands.sound;
-    frames = record { frames = taken.stands.frames.frames; maps = taken.stands.frames.maps; slots = taken.stands.frames.slots; dirty = taken.stands.frames.dirty; free = taken.stands.frames.free };
-    lists = record { active = taken.stands.lists.active };
-    tables = tables_now;
-    swap = record { finds = taken.stands.swap.finds; counts = taken.stands.swap.counts; flight = taken.stands.swap.flight; on = taken.stands.swap.on };
+    parts =
+        let had = taken.stands.parts in
+        record {
+          frames = record { frames = had.frames.frames; maps = had.frames.maps; slots = had.frames.slots; dirty = had.frames.dirty; free = had.frames.free };
+          lists = record { active = had.lists.active };
+          tables = tables_now;
+          swap = record { finds = had.swap.finds; counts = had.swap.counts; flight = had.swap.flight; on = had.swap.on };
+        };
   }
 
   pub exit-steps : MemSteps old (record { frames = mid.frames; tables = tables; spaces = spaces }) s (Exit p) (answered Done)

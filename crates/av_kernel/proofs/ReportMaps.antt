@@ -30,11 +30,12 @@ module _ (k : Mem) (s : State) (p : ℕ) (areas : List Area) (rows : List Row) (
       legal = record {
         answer = subst (λ o. MatchOption o (Follows (setting (count k)) s.world s.ledger (Maps p) [] (Runs (length rows)) rows) (λ e. Refuses e [] (Runs (length rows)) rows)) (sym allowed) (
           refl,
-          record {
-            runs = runs.runs;
-            pages = runs.pages;
-            cover = λ page. runs.cover page ∙ sym (ap (λ o. prot_of (option_map (map range_of) o) page) are) ∙ keeps.stands.areas.covers p page;
-          },
+          (
+            runs.runs,
+            runs.of_runs,
+            runs.longest,
+            λ page. runs.cover page ∙ sym (ap (λ o. prot_of (option_map (map range_of) o) page) are) ∙ keeps.stands.parts.areas.covers p page,
+          ),
           refl,
         );
         notes = refl;

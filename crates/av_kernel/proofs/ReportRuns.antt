@@ -11,8 +11,9 @@ use Rattle.av_vma.specs.Pages.{IsWhole}
 use Rattle.av_spaces.specs.Spaces.{IsOwn, AreRising}
 use Rattle.av_trace.specs.declared.row.Row.{Row}
 use Rattle.av_trace.specs.declared.row.Row.TheVariants.{Run}
-use Rattle.av_plain.specs.Stands.{Range, AreApart}
-use Rattle.av_plain.proofs.Report.Runs.{run_of, joined, all_joined, longest, on-pages, cover}
+use Rattle.av_plain.specs.Report.{Range, row_of}
+use Rattle.av_plain.specs.Stands.{AreApart}
+use Rattle.av_plain.proofs.Report.Runs.{joined, all_joined, longest, cover}
 use Rattle.av_reclaim.specs.Mem.{range_of}
 use Rattle.av_reclaim.proofs.MemLaws.{apart_of}
 use Rattle.av_kernel.specs.Report.{AreRuns}
@@ -61,11 +62,19 @@ prot_itself p = λ i. bit_itself p.read i && bit_itself p.write i && bit_itself 
 
 -- ---- the joined ranges are the longest runs
 
-pub runs-are : (ranges : List Range) → AreApart ranges → AreRuns ranges (all_joined same_prot ranges)
-runs-are [] h = record { runs = tt; pages = tt; cover = λ page. refl }
+-- the rows of these ranges, where `a` may still grow
+abbrev pub joined_rows : Range → List Range → List Row
+joined_rows a ranges = map row_of (joined same_prot a ranges)
+
+abbrev pub all_rows : List Range → List Row
+all_rows ranges = map row_of (all_joined same_prot ranges)
+
+pub runs-are : (ranges : List Range) → AreApart ranges → AreRuns ranges (all_rows ranges)
+runs-are [] h = record { runs = []; of_runs = refl; longest = tt; cover = λ page. refl }
 runs-are (a ∷ ranges) h = record {
-  runs = longest same_prot prot_is prot_itself a ranges h;
-  pages = on-pages same_prot prot_is prot_itself a ranges;
+  runs = joined same_prot a ranges;
+  of_runs = refl;
+  longest = longest same_prot prot_is prot_itself a ranges h;
   cover = cover same_prot prot_is prot_itself a ranges h;
 }
 
@@ -91,15 +100,15 @@ abbrev pub range : ℕ → ℕ → Prot → Range
 range from to prot = record { from = from; to = to; prot = prot }
 
 pub grows : (rows all : List Row) (from to : ℕ) (prot : Prot) (r : Range) (ranges : List Range) → to ≡ r.from → prot ≡ r.prot
-    → rows ++ joined same_prot (range from to prot) (r ∷ ranges) ≡ all → rows ++ joined same_prot (range from r.to prot) ranges ≡ all
+    → rows ++ joined_rows (range from to prot) (r ∷ ranges) ≡ all → rows ++ joined_rows (range from r.to prot) ranges ≡ all
 grows rows all from to prot r ranges here same h =
-    sym (ap (λ b. rows ++ cond b (joined same_prot (range from r.to prot) ranges) (run_of (range from to prot) ∷ joined same_prot r ranges)) (joins-yes to r.from prot r.prot here same)) ∙ h
+    sym (ap (λ b. rows ++ map row_of (cond b (joined same_prot (range from r.to prot) ranges) (range from to prot ∷ joined same_prot r ranges))) (joins-yes to r.from prot r.prot here same)) ∙ h
 
 pub begins : (rows all : List Row) (from to : ℕ) (prot : Prot) (r : Range) (ranges : List Range) → (to ≡ r.from → prot ≡ r.prot → ⊥)
-    → rows ++ joined same_prot (range from to prot) (r ∷ ranges) ≡ all → (rows ++ Run (4096 * from) (4096 * to) prot ∷ []) ++ joined same_prot r ranges ≡ all
+    → rows ++ joined_rows (range from to prot) (r ∷ ranges) ≡ all → (rows ++ Run (4096 * from) (4096 * to) prot ∷ []) ++ joined_rows r ranges ≡ all
 begins rows all from to prot r ranges apart h =
-    append_assoc rows (Run (4096 * from) (4096 * to) prot ∷ []) (joined same_prot r ranges)
-    ∙ sym (ap (λ b. rows ++ cond b (joined same_prot (range from r.to prot) ranges) (run_of (range from to prot) ∷ joined same_prot r ranges)) (joins-no to r.from prot r.prot apart)) ∙ h
+    append_assoc rows (Run (4096 * from) (4096 * to) prot ∷ []) (joined_rows r ranges)
+    ∙ sym (ap (λ b. rows ++ map row_of (cond b (joined same_prot (range from r.to prot) ranges) (range from to prot ∷ joined same_prot r ranges))) (joins-no to r.from prot r.prot apart)) ∙ h
 
 -- ---- the areas
 
@@ -121,9 +130,9 @@ rising_rest p (suc i) (a ∷ areas) h = rising_rest p i areas (own_rest p a area
 -- with the areas to come, these rows and this run make all the rows
 abbrev pub IsLeft : List Row → Area → List Area → List Row → Type 0
 IsLeft rows run areas all =
-    (from : ℕ) × (to : ℕ) × (run.start ≡ 4096 * from) × (run.end ≡ 4096 * to) × (rows ++ joined same_prot (range from to run.prot) (map range_of areas) ≡ all)
+    (from : ℕ) × (to : ℕ) × (run.start ≡ 4096 * from) × (run.end ≡ 4096 * to) × (rows ++ joined_rows (range from to run.prot) (map range_of areas) ≡ all)
 
-pub left-first : (p : ℕ) (a : Area) (areas : List Area) → AreRising p (a ∷ areas) → IsLeft [] a areas (all_joined same_prot (map range_of (a ∷ areas)))
+pub left-first : (p : ℕ) (a : Area) (areas : List Area) → AreRising p (a ∷ areas) → IsLeft [] a areas (all_rows (map range_of (a ∷ areas)))
 left-first p a areas h = let whole = (own_first p a areas h).whole in (first_of a, past_of a, whole.start, whole.end, refl)
 
 pub left-grown : (a run now : Area) (rows all : List Row) (areas : List Area) → IsWhole a
@@ -142,12 +151,12 @@ left-begun a run now rows rows' all areas whole apart added is h =
       past_of a,
       whole.start,
       whole.end,
-      ap (λ rows. rows ++ joined same_prot (range_of a) (map range_of areas)) (added ∙ (λ i. rows ++ Run (h.2 i) (h.3 i) run.prot ∷ []))
+      ap (λ rows. rows ++ joined_rows (range_of a) (map range_of areas)) (added ∙ (λ i. rows ++ Run (h.2 i) (h.3 i) run.prot ∷ []))
           ∙ begins rows all h.0 h.1 run.prot (range_of a) (map range_of areas) (λ at same. apart (let is : run.end ≡ a.start = omega (arith, old_end, next_start, at) in is) same) h.4,
     )
 
 pub left-last : (run : Area) (rows rows' all : List Row) → rows' ≡ rows ++ Run run.start run.end run.prot ∷ [] → IsLeft rows run [] all → rows' ≡ all
 left-last run rows rows' all added h = added ∙ (λ i. rows ++ Run (h.2 i) (h.3 i) run.prot ∷ []) ∙ h.4
 
-pub rising-runs : (p : ℕ) (areas : List Area) → AreRising p areas → AreRuns (map range_of areas) (all_joined same_prot (map range_of areas))
+pub rising-runs : (p : ℕ) (areas : List Area) → AreRising p areas → AreRuns (map range_of areas) (all_rows (map range_of areas))
 rising-runs p areas h = runs-are (map range_of areas) (apart_of p areas h)

@@ -16,8 +16,8 @@ pub counted : (k : Mem) (s : State) (processes : ℕ) → Keeps k s → ((f : �
     → record { frames = count k; free = length (view k).free; active = 0; inactive = count k - length (view k).free; flight = 0; slots = 0; free_slots = 0; processes = processes } ≡ totals (setting (count k)) s.world s.ledger
 counted k s processes keeps once below number =
     let st = keeps.stands in
-    ap (λ (n : ℕ). with_number n) (number ∙ st.areas.number)
-    ∙ sym (totals-plain (setting (count k)) s.world s.ledger (view k).free st.sound.ledger (sym st.lists.active) (sym st.swap.flight) (sym st.swap.on) (free-once (setting (count k)) s.ledger (view k).free once below st.frames.free))
+    ap (λ (n : ℕ). with_number n) (number ∙ st.parts.areas.number)
+    ∙ sym (totals-plain (setting (count k)) s.world s.ledger (view k).free st.sound.ledger (sym st.parts.ledger.lists.active) (sym st.parts.ledger.swap.flight) (sym st.parts.ledger.swap.on) (free-once (setting (count k)) s.ledger (view k).free once below st.parts.ledger.frames.free))
   where
     with_number : ℕ → Totals
     with_number n = record { frames = count k; free = length (view k).free; active = 0; inactive = count k - length (view k).free; flight = 0; slots = 0; free_slots = 0; processes = n }

@@ -18,12 +18,20 @@ pub record Machine : Type 0 where
 
 abbrev pub machine_code : Coded Mem → Coded Tally → Coded Machine
 machine_code mem tally =
-    code_by (ℕ × (Mem × (ℕ × (Tally × Bool)))) (coded× coded_ℕ (coded× mem (coded× coded_ℕ (coded× tally coded_bool))))
+    code_by (ℕ × (Mem × (ℕ × (Tally × Bool))))
+    (coded× coded_ℕ (coded× mem (coded× coded_ℕ (coded× tally coded_bool))))
     (λ s. (s.frames, (s.mem, (s.steps, (s.tally, s.spent)))))
-    (λ p. record { frames = p.0; mem = p.1.0; steps = p.1.1.0; tally = p.1.1.1.0; spent = p.1.1.1.1 }) (λ _. refl)
+    (λ p. record {
+      frames = p.0;
+      mem = p.1.0;
+      steps = p.1.1.0;
+      tally = p.1.1.1.0;
+      spent = p.1.1.1.1;
+    })
+    (λ _. refl)
 
--- no word of a reply came more often than commands were answered; where memory never ran out, the memory system stands
--- for something
+-- no word of a reply came more often than commands were answered; where memory never ran out, the
+-- memory system stands for something
 pub record IsSound (mem : Mem) (steps : ℕ) (tally : Tally) (spent : Bool) : Type 0 where
   pub few : IsAtMost steps tally
   pub steady : spent ≡ false → IsSteady mem

@@ -24,8 +24,10 @@ pub record HasProts (old new : Spaces) (p : ℕ) (prots : ℕ → Option Prot) :
   pub apart : (q : ℕ) → IfSome (ranges_of new q) AreApart
 
 -- the n pages of p from one on have gone, with their entries, by these events
-pub record AreCleared (old new : Mem) (p page n : ℕ) (l : Ledger) (events : List Event) : Type 0 where
+pub record AreCleared (old new : Mem) (p page n : ℕ) (l : Ledger) (events : List Event)
+    : Type 0 where
   pub taken : HasZapped old new l events
-  pub spaces : HasProts old.spaces new.spaces p (set_on page n None (prot_of (ranges_of old.spaces p)))
+  pub spaces : HasProts old.spaces new.spaces p
+      (set_on page n None (prot_of (ranges_of old.spaces p)))
   pub processes : has new.tables ≡ has old.tables
   pub bytes : (view new).bytes ≡ (view old).bytes

@@ -1,21 +1,18 @@
 -- What a read or write does at one page.
-use Rattle.std.specs.Prelude.{◌≡◌, ℕ, ◌+◌, ◌++◌, Bool, true, List, length, Option, Some, None}
+use Rattle.std.specs.Prelude.{◌≡◌, ℕ, ◌+◌, ◌^◌, ◌<◌, ◌++◌, Bool, true, List, length, Option, Some, None, option_map}
+use Rattle.std.specs.List.{AllByRecursion}
 use Rattle.av_base.specs.Page.{address_of}
 use Rattle.av_trace.specs.declared.note.Note.{Note}
 use Rattle.av_plain.specs.World.{World, pages, Shows}
 use Rattle.av_plain.specs.Event.{after_all}
-use Rattle.av_plain.specs.Fault.{Touches, How, Served, page_events}
-use Rattle.av_plain.specs.Access.{after_write}
+use Rattle.av_plain.specs.Fault.{Touches}
+use Rattle.av_plain.specs.Access.{page_events, after_write}
 use Rattle.av_plain.specs.Choice.{ChoosesAll}
 use Rattle.av_plain.specs.Transcript.{State}
 use Rattle.av_reclaim.specs.declared.mem.Mem.{Mem}
 use Rattle.av_reclaim.specs.Mem.{setting, count, Keeps}
 use Rattle.av_fault.specs.declared.fault.Stop.{Stop}
-use Rattle.av_fault.specs.Fault.{how_stopped}
-
-abbrev pub how_ended : Option Stop → How
-how_ended None = Served
-how_ended (Some stop) = how_stopped stop
+use Rattle.av_fault.specs.Fault.{stop_of}
 
 -- the memories after a write that was served, and after all else
 abbrev pub world_after : Bool → ℕ → ℕ → ℕ → List ℕ → Option Stop → World → World
@@ -27,16 +24,19 @@ pub record IsPageStep (s : State) (new : Mem) (write : Bool) (p page at : ℕ) (
     (before now : List Note) (end : Option Stop) : Type 0 where
   pub added : List Note
   pub notes : now ≡ before ++ added
-  pub touches : Touches (setting (count new)) s.world s.ledger write (p, page) added (how_ended end)
+  pub touches : Touches (setting (count new)) s.world s.ledger write (p, page) added
+      (option_map stop_of end)
   pub next : State
   pub world : next.world ≡ world_after write p page at piece end s.world
-  pub ledger : next.ledger ≡ after_all s.ledger (page_events write (p, page) added (how_ended end))
-  pub free : ChoosesAll s.ledger (page_events write (p, page) added (how_ended end)) s.free next.free
+  pub ledger : next.ledger
+      ≡ after_all s.ledger (page_events write (p, page) added (option_map stop_of end))
+  pub free : ChoosesAll (setting (count new)) s.ledger
+      (page_events write (p, page) added (option_map stop_of end)) s.free next.free
   pub keeps : Keeps new next
 
 -- what a read of n bytes shows of a page that was served
 abbrev pub ShowsPiece : World → ℕ → ℕ → ℕ → ℕ → List ℕ → List ℕ → Option Stop → Type 0
 ShowsPiece w p page at n before now None =
     (piece : List ℕ) × (now ≡ before ++ piece) × (length piece ≡ n)
-    × Shows (pages w p) (address_of page + at) piece
+    × Shows (pages w p) (address_of page + at) piece × AllByRecursion (λ b. b < 2 ^ 8) piece
 ShowsPiece w p page at n before now (Some stop) = now ≡ before

@@ -19,7 +19,8 @@ protect_tests a len = (not (is_on_page a), Einval) ∷ (wraps a len, Enomem) ∷
 abbrev pub IsProcess : Spaces → ℕ → Process → Type 0
 IsProcess s p q = (page : ℕ) → is_taken s p page ≡ is_mapped q page
 
--- n pages go to this one, past all tests of their place; or the first test that holds refuses them, or there is no room
+-- n pages go to this one, past all tests of their place; or the first test that holds refuses them,
+-- or there is no room
 abbrev pub IsPlaced : Process → ℕ → Place → Result ℕ Errno → Type 0
 IsPlaced q n place (Ok page) = (refusal (place_tests q n place) ≡ None) × Goes q n place (Some page)
 IsPlaced q n place (Err error) =

@@ -26,8 +26,8 @@ pub record MemSteps (old new : Mem) (s : State) (command : Command) (reply : Rep
   pub step : IsStep (setting (count old)) s command reply next
   pub keeps : Keeps new next
 
--- What every command promises: whatever the memory system stood for, the reply is a step, and it stands for what that
--- leaves. There are as many frames as before
+-- What every command promises: whatever the memory system stood for, the reply is a step, and it
+-- stands for what that leaves. There are as many frames as before
 pub record Does (old new : Mem) (command : Command) (result : Result Reply Refusal) : Type 0 where
   pub step : (s : State) → Keeps old s → IfSome (reply_of result) (MemSteps old new s command)
   pub count : count new ≡ count old

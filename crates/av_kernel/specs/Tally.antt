@@ -6,7 +6,16 @@ use Rattle.av_kernel.specs.declared.tally.Tally.{Tally}
 
 -- no reply came
 abbrev pub none_counted : Tally
-none_counted = record { done = 0; mapped = 0; shown = 0; on = 0; refused = 0; segv = 0; bus = 0; oom = 0 }
+none_counted = record {
+  done = 0;
+  mapped = 0;
+  shown = 0;
+  on = 0;
+  refused = 0;
+  segv = 0;
+  bus = 0;
+  oom = 0;
+}
 
 -- one more reply with this answer; reports are not counted
 abbrev pub counted : Answer → Tally → Tally

@@ -101,7 +101,8 @@ fn read_pieces(
     requires lives { is_some (areas_of mem.old.spaces process) ≡ true }
     requires fresh { shown.old ≡ [] }
     ensures access { (s : State) → Keeps mem.old s → IfOk result (λ ended.
-        IsAccess s mem.new false process address len [] notes.old notes.new ended.stop ended.served) }
+        IsAccess s mem.new false process address len [] notes.old notes.new
+            ended.stop ended.served) }
     ensures reads { (s : State) → Keeps mem.old s → IfOk result (λ ended.
         Reads (pages s.world process) address ended.served shown.new) }
     ensures count { count mem.new ≡ count mem.old }

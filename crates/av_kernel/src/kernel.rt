@@ -25,6 +25,7 @@ pub struct Kernel {
 }
 
 impl Model for Kernel {
+    ghost use Rattle.av_reclaim.specs.Mem.{count};
     ghost use Rattle.av_reclaim.specs.contracts.mem.Mem.{the_row};
     ghost use Rattle.av_kernel.specs.contracts.tally.Tally.{the_row as tally_row};
     ghost use Rattle.av_kernel.specs.Machine.{Machine, machine_code, IsSound};
@@ -33,9 +34,9 @@ impl Model for Kernel {
 
     ghost coded = { machine_code the_row.coded tally_row.coded };
 
-    ghost use Rattle.av_reclaim.specs.Mem.{count};
-
-    ghost view = { λ k. record { frames = count k.mem; mem = k.mem; steps = k.steps; tally = k.tally; spent = k.spent } };
+    ghost view = { λ k. record {
+        frames = count k.mem; mem = k.mem; steps = k.steps; tally = k.tally; spent = k.spent
+    } };
 
     ghost invariant = { λ k. IsSound k.mem k.steps k.tally k.spent };
 }

@@ -1,8 +1,9 @@
 //! The kernel: one command at a time over the memory system.
 //!
-//! Each command is a function of the memory system, in the file of its topic; what each promises is one word, `Does`:
-//! an answer is a legal step of the definitions, whatever state the memory system stood for, and it stands for the next
-//! one. `Kernel` counts the replies, and after want of memory does nothing more. All of this is proved.
+//! Each command is a function of the memory system, in the file of its topic; what each promises is
+//! one word, `Does`: an answer is a legal step of the definitions, whatever state the memory system
+//! stood for, and it stands for the next one. `Kernel` counts the replies, and after want of memory
+//! does nothing more. All of this is proved.
 #![tactic(auto)]
 
 mod access;

@@ -6,7 +6,7 @@ ghost use Rattle.av_plain.specs.Ledger.{Ledger};
 ghost use Rattle.av_plain.specs.Zap.{keys_in, zaps_of};
 ghost use Rattle.av_plain.specs.Map.{zaps_for_place};
 ghost use Rattle.av_spaces.specs.Spaces.{areas_of, is_taken};
-ghost use Rattle.av_reclaim.specs.Mem.{count, IsSteady, LedgerStands};
+ghost use Rattle.av_reclaim.specs.Mem.{count, IsSteady, HasLedger};
 ghost use Rattle.av_kernel.specs.Place.{AreToClear};
 ghost use Rattle.av_kernel.specs.Map.{AreCleared};
 ghost use Rattle.av_kernel.specs.Step.{Does};
@@ -47,7 +47,8 @@ pub fn mmap(
     Ok(answered(alloc, Answer::MapAt(PAGE_SIZE * page)))
 }
 
-/// Does a `munmap`: the pages go, with their entries. The frames that no other page has become free.
+/// Does a `munmap`: the pages go, with their entries. The frames that no other page has become
+/// free.
 pub fn munmap(
     mem: &mut Mem,
     alloc: Global,
@@ -89,7 +90,8 @@ pub fn mprotect(
     Ok(answered(alloc, Answer::Done))
 }
 
-/// Takes away what stands where a mapping goes: all at a fixed place, and at another there is nothing.
+/// Takes away what stands where a mapping goes: all at a fixed place, and at another there is
+/// nothing.
 fn make_room(
     mem: &mut Mem,
     process: u16,
@@ -101,7 +103,7 @@ fn make_room(
     requires lives { is_some (areas_of mem.old.spaces process) ≡ true }
     requires high { page + pages ≤ top_page }
     requires there { AreToClear (is_taken mem.old.spaces process) page pages place }
-    ensures cleared { (l : Ledger) → LedgerStands mem.old l → OnOk result
+    ensures cleared { (l : Ledger) → HasLedger mem.old l → OnOk result
         (AreCleared mem.old mem.new process page pages l (zaps_for_place l process pages place)) }
     ensures count { count mem.new ≡ count mem.old }
 {
@@ -116,8 +118,9 @@ fn clear(mem: &mut Mem, process: u16, page: u64, pages: u64) -> Result<(), Alloc
     requires steady { IsSteady mem.old }
     requires lives { is_some (areas_of mem.old.spaces process) ≡ true }
     requires high { page + pages ≤ top_page }
-    ensures cleared { (l : Ledger) → LedgerStands mem.old l → OnOk result
-        (AreCleared mem.old mem.new process page pages l (zaps_of l (keys_in l process page pages))) }
+    ensures cleared { (l : Ledger) → HasLedger mem.old l → OnOk result
+        (AreCleared mem.old mem.new process page pages l
+            (zaps_of l (keys_in l process page pages))) }
     ensures count { count mem.new ≡ count mem.old }
 {
     zap_range(mem, process, page, page + pages);

@@ -1,6 +1,7 @@
 //! Reads and writes of a piece of one page.
 
-ghost use Rattle.std.specs.Prelude.{◌≡◌, ◌+◌, ◌≤◌, [], length, true, false, replicate, ◌++◌, IfOk, OnOk};
+ghost use Rattle.std.specs.Prelude.{◌≡◌, ◌+◌, ◌^◌, ◌<◌, ◌≤◌, [], length, true, false, replicate, ◌++◌, IfOk, OnOk};
+ghost use Rattle.std.specs.List.{AllByRecursion};
 ghost use Rattle.av_base.specs.Page.{page_size};
 ghost use Rattle.av_plain.specs.World.{lives};
 ghost use Rattle.av_plain.specs.Transcript.{State};
@@ -60,7 +61,7 @@ pub fn read_page(
 {
     match touch(mem, process, page, false, notes)? {
         Touched::Ready(frame) => {
-            shown.append(&mem.frames.bytes(frame)[at..at + len])?;
+            append_piece(shown, &mem.frames.bytes(frame)[at..at + len])?;
             Ok(None)
         }
         Touched::Zeros => {
@@ -69,6 +70,14 @@ pub fn read_page(
         }
         Touched::Stopped(stop) => Ok(Some(stop)),
     }
+}
+
+/// Adds a piece of a page.
+fn append_piece(shown: &mut Bytes, piece: &[u8]) -> Result<(), AllocError>
+    ensures shown { OnOk result (shown.new ≡ shown.old ++ piece.now) }
+    ensures bytes { AllByRecursion (λ b. b < 2 ^ 8) piece.now }
+{
+    shown.append(piece)
 }
 
 /// Adds this many zeros.

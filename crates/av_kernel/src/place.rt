@@ -78,7 +78,8 @@ fn fixed_page(address: u64, pages: u64) -> Result<u64, Errno>
     Ok(address / PAGE_SIZE)
 }
 
-/// The page from which on this many go in a process that lives, or why they can't go where they should.
+/// The page from which on this many go in a process that lives, or why they can't go where they
+/// should.
 pub fn find_place(spaces: &Spaces, process: u16, pages: u64, place: Place) -> Result<u64, Errno>
     requires lives { is_some (areas_of spaces.now process) ≡ true }
     requires some { 1 ≤ pages }

@@ -44,7 +44,8 @@ pub fn spawn(mem: &mut Mem, alloc: Global, process: u16) -> Result<Reply, Refusa
     Ok(answered(alloc, Answer::Done))
 }
 
-/// Does an `exit`: its entries, its page table and its areas go. The frames that no other process has become free.
+/// Does an `exit`: its entries, its page table and its areas go. The frames that no other process
+/// has become free.
 pub fn exit(mem: &mut Mem, alloc: Global, process: u16) -> Result<Reply, Refusal>
     requires { IsSteady mem.old }
     ensures { Does mem.old mem.new (commands.Exit process) result }

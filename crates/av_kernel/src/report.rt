@@ -31,7 +31,8 @@ pub fn maps(mem: &Mem, alloc: Global, process: u16) -> Result<Reply, Refusal>
     })
 }
 
-/// Does a `stat`: how many frames and processes there are. No frame is active, and there is no slot.
+/// Does a `stat`: how many frames and processes there are. No frame is active, and there is no
+/// slot.
 pub fn stat(mem: &Mem, alloc: Global) -> Reply
     requires { IsSteady mem.now }
     ensures { Does mem.now mem.now commands.Stat (Ok result) }

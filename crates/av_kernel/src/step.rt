@@ -26,7 +26,8 @@ pub fn answered(alloc: Global, answer: Answer) -> Reply
     }
 }
 
-/// Replies to a command. Memory may be wanting; then nothing is promised of the memory system but its frames' number.
+/// Replies to a command. Memory may be wanting; then nothing is promised of the memory system but
+/// its frames' number.
 pub fn perform(mem: &mut Mem, alloc: Global, command: &Command) -> Result<Reply, AllocError>
     requires { IsSteady mem.old }
     ensures step { (s : State) → Keeps mem.old s →

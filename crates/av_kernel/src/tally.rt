@@ -5,7 +5,8 @@ ghost use Rattle.av_kernel.specs.Tally.{counted, none_counted, IsAtMost};
 
 use av_trace::Answer;
 
-/// How often each first word of a reply came, by the word: `ok`, `map`, `data`, `on`, `err`, `segv`, `bus`, `oom`.
+/// How often each first word of a reply came, by the word: `ok`, `map`, `data`, `on`, `err`,
+/// `segv`, `bus`, `oom`.
 #[derive(Clone, Copy, Drop, Debug, PartialEq, Eq)]
 pub struct Tally {
     pub done: u32,

@@ -16,7 +16,9 @@ use Rattle.av_pagetable.proofs.Entries.{none_there}
 use Rattle.av_spaces.specs.Spaces.{Spaces, areas_of, pages_in, pages_of, is_taken, AreRising, AllRising, IsOwn}
 use Rattle.av_plain.specs.World.{Page, lives, pages}
 use Rattle.av_plain.specs.Ledger.{Ledger, Entry, Zero as ZeroEntry, InFrame, InSlot, frame_at, cached_by, Cached, same_slot}
-use Rattle.av_plain.specs.Stands.{View, Range, Pte as Plain, entry_of, prot_in, prot_of, AreApart, IsKept, IsKeptAt, IsClean}
+use Rattle.av_plain.specs.Device.{no_device}
+use Rattle.av_plain.specs.Report.{Range, prot_in}
+use Rattle.av_plain.specs.Stands.{View, Pte as Plain, entry_of, prot_of, AreApart, IsKept, IsKeptAt, IsClean}
 use Rattle.av_plain.specs.Transcript.{State, at_first}
 use Rattle.av_plain.proofs.Ledger.NoSwap.{itself, is_in-numbers}
 use Rattle.av_plain.proofs.Sound.{first-sound}
@@ -39,7 +41,7 @@ alive_is s p = by (areas_of s p)
 
 -- a process has areas exactly where it lives
 pub lives_is : (k : Mem) (s : State) → Keeps k s → (p : ℕ) → is_some (areas_of k.spaces p) ≡ lives s.world p
-lives_is k s keeps p = sym (alive_is k.spaces p) ∙ keeps.stands.areas.alive p
+lives_is k s keeps p = sym (alive_is k.spaces p) ∙ keeps.stands.parts.areas.alive p
 
 in_range : (a b page : ℕ) → (nat_le a page && nat_lt page b) ≡ within a (b - a) page
 in_range a b page = grind (arith, nat_tests)
@@ -126,18 +128,25 @@ no_cache l none = by l.cache refl
 pub no_frame_at : (l : Ledger) (s : Slot) → l.cache ≡ [] → frame_at l s ≡ None
 no_frame_at l s none = ap (λ (c : List Cached). option_map (λ (c : Cached). c.frame) (cached_by (λ c. same_slot s c.slot) c)) none
 
-pub no_device : (v : View) (s : Slot) (o : Option ℕ) → IsClean v None s o
-no_device v s None = tt
-no_device v s (Some f) = tt
+-- where no frame caches a slot, its page is kept as it was
+pub slot_kept : (v v' : View) (s : Slot) (p : Option Page) (o o' : Option ℕ) → o ≡ None → o' ≡ None → IsKeptAt v no_device s p o → IsKeptAt v' no_device s p o'
+slot_kept v v' s p None None e e' h = h
+slot_kept v v' s p None (Some f) e e' h = absurd (clash (sym e'))
+slot_kept v v' s p (Some f) o' e e' h = absurd (clash (sym e))
+
+-- and it has nothing to be clean
+pub nothing_clean : (v : View) (s : Slot) (o : Option ℕ) → o ≡ None → IsClean v no_device s o
+nothing_clean v s None e = tt
+nothing_clean v s (Some f) e = absurd (clash (sym e))
 
 -- a place that isn't mapped keeps nothing, whatever its entry is
-pub kept-nothing : (v : View) (l : Ledger) (e : Option Entry) → IsKept v None l e None
+pub kept-nothing : (v : View) (l : Ledger) (e : Option Entry) → IsKept v no_device l e None
 kept-nothing v l None = tt
 kept-nothing v l (Some ZeroEntry) = tt
 kept-nothing v l (Some (InFrame f seen)) = tt
 kept-nothing v l (Some (InSlot s)) = at (frame_at l s)
   where
-    at : (o : Option ℕ) → IsKeptAt v None s None o
+    at : (o : Option ℕ) → IsKeptAt v no_device s None o
     at None = tt
     at (Some f) = tt
 
@@ -150,28 +159,33 @@ pub fresh-keeps : (frames : Store) (tables : ProcessTables) (spaces : Spaces) (n
     → Keeps (record { frames = frames; tables = tables; spaces = spaces }) (at_first (setting n))
 fresh-keeps frames tables spaces n is none empty = record {
   stands = record {
+    over = record { sizes = refl; headers = refl };
     sound = first-sound (setting (seen frames).count);
-    frames = record {
-      frames = refl;
-      maps = λ f. ap (λ (s : Seen). s.maps f) is;
-      slots = λ f. ap (λ (s : Seen). s.slot f) is;
-      dirty = λ f. tt;
-      free = λ f below. ap (λ (s : Seen). is_in f s.free) is ∙ is_in-numbers 0 n f (omega arith) (let same = ap (λ (s : Seen). s.count) is in omega (arith, below, same));
+    parts = record {
+      ledger = record {
+        frames = record {
+          frames = refl;
+          maps = λ f. ap (λ (s : Seen). s.maps f) is;
+          slots = λ f. ap (λ (s : Seen). s.slot f) is;
+          dirty = λ f. tt;
+          free = λ f below. ap (λ (s : Seen). is_in f s.free) is ∙ is_in-numbers 0 n f (omega arith) (let same = ap (λ (s : Seen). s.count) is in omega (arith, below, same));
+        };
+        lists = record { active = refl };
+        tables = record {
+          entries = λ p page. ap (λ t. entry_of (plain t)) (none_there tables p page (none p));
+          write_bits = λ p page t f there write names. absurd (nothing (ap plain (sym (none_there tables p page (none p))) ∙ there));
+        };
+        swap = record { finds = λ s. refl; counts = λ s. refl; flight = refl; on = refl };
+      };
+      areas = record {
+        alive = λ p. ap (λ (s : Spaces). is_some (ranges_of s p)) empty;
+        number = ap (length) empty;
+        apart = λ p. subst (λ (s : Spaces). IfSome (ranges_of s p) AreApart) (sym empty) tt;
+        covers = λ p page. ap (λ (s : Spaces). prot_of (ranges_of s p) page) empty;
+      };
+      bytes = record { kept = λ p page. tt; clean = λ s a b. tt };
+      headers = λ k. tt;
     };
-    lists = record { active = refl };
-    tables = record {
-      entries = λ p page. ap (λ t. entry_of (plain t)) (none_there tables p page (none p));
-      write_bits = λ p page t f there write names. absurd (nothing (ap plain (sym (none_there tables p page (none p))) ∙ there));
-    };
-    swap = record { finds = λ s. refl; counts = λ s. refl; flight = refl; on = refl };
-    areas = record {
-      alive = λ p. ap (λ (s : Spaces). is_some (ranges_of s p)) empty;
-      number = ap (length) empty;
-      apart = λ p. subst (λ (s : Spaces). IfSome (ranges_of s p) AreApart) (sym empty) tt;
-      covers = λ p page. ap (λ (s : Spaces). prot_of (ranges_of s p) page) empty;
-    };
-    bytes = record { kept = λ p page. tt; clean = λ s a b. tt };
-    headers = λ k. tt;
     free = ap (λ (s : Seen). s.free) is;
   };
   tables = λ p. none p ∙ sym (ap (λ (s : Spaces). is_some (ranges_of s p)) empty);

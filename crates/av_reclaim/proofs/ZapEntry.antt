@@ -1,22 +1,23 @@
 -- An entry goes: what the kernel's parts stand for after it.
-use Rattle.std.proofs.Common.{◌≡◌, ℕ, ◌+◌, ◌-◌, ◌<◌, ◌≤◌, Bool, true, false, cond, not, ◌&&◌, ◌||◌, List, [], ◌∷◌, Option, Some, None, refl, sym, ap, subst, ◌∙◌, arith, ◌==◌, nat_lt}
+use Rattle.std.proofs.Common.{◌≡◌, ℕ, ◌+◌, ◌-◌, ◌<◌, ◌≤◌, Bool, true, false, cond, not, ◌&&◌, ◌||◌, List, [], ◌∷◌, ◌++◌, Option, Some, None, refl, sym, ap, subst, ◌∙◌, arith, ◌==◌, nat_lt}
 use Rattle.std.proofs.lemmas.Bool.Decides.{nat_tests}
 use Rattle.std.specs.Prelude.{IfSome}
 use Rattle.av_base.specs.declared.slot.Slot.{Slot}
-use Rattle.av_base.specs.Words.{with_at, is_in}
+use Rattle.av_base.specs.Words.{how_many, with_at, is_in}
 use Rattle.av_pagetable.specs.Entries.{with_entry}
-use Rattle.av_plain.specs.Ledger.{Ledger, Setting, Key, Entry, Zero, InFrame, entry, map_count, slot_entries, names_frame, names_slot, is_free, is_stale}
-use Rattle.av_plain.specs.Event.{after_all, after_zap, settle_entry, settle, off_lists, without, if_some, frame_of}
+use Rattle.av_plain.specs.Ledger.{Ledger, Cached, Setting, Key, Entry, Zero, InFrame, entry, map_count, slot_entries, names_frame, names_slot, is_free, is_stale}
+use Rattle.av_plain.specs.Event.{Zapped, after_all, after_zap, settle_entry, settle, off_lists, without, if_some, frame_of}
 use Rattle.av_plain.specs.Fault.{is_shared}
-use Rattle.av_plain.specs.Choice.{with_freed, frame_under}
-use Rattle.av_plain.specs.Sound.{IsSound}
+use Rattle.av_plain.specs.Choice.{Chooses}
+use Rattle.av_plain.proofs.Choice.{chooses-kept, new_free-zap_none, new_free-zap_more, new_free-zap_last}
+use Rattle.av_plain.specs.Sound.{IsSound, uses}
 use Rattle.av_plain.specs.Stands.{View, Pte as Plain, entry_of, TablesStand}
 use Rattle.av_plain.proofs.Ledger.Order.{weight}
 use Rattle.av_plain.proofs.Ledger.{same_key, how_many-found}
 use Rattle.av_plain.proofs.Ledger.NoSwap.{itself, no_slot, free_is, shared_is}
 use Rattle.av_plain.proofs.Zap.{leaving, after_zap-is, entry-after_zap, map_count-after_zap, slot_entries-after_zap, same_swap-after_zap, zap_of-alone}
 use Rattle.av_plain.proofs.Sound.Zap.{zap_of-kept}
-use Rattle.av_reclaim.specs.Mem.{LedgerStand}
+use Rattle.av_reclaim.specs.Mem.{SoundLedger}
 use Rattle.av_reclaim.specs.Zap.{released}
 use Rattle.av_reclaim.proofs.MemLaws.{no_frame_at, equal_is}
 
@@ -44,7 +45,7 @@ key_is p page q o = grind (arith, nat_tests)
 -- ---- an entry that is no slot goes
 
 module _ (m : Setting) (v : View) (l : Ledger) (p page : ℕ) (e : Entry) (maps : ℕ → ℕ) (rest : List ℕ)
-    (cache : l.cache ≡ []) (parts : LedgerStand m v l) (no_active : v.active ≡ []) (no_entries : (s : Slot) → v.entries s ≡ 0)
+    (cache : l.cache ≡ []) (parts : SoundLedger m v l) (no_active : v.active ≡ []) (no_entries : (s : Slot) → v.entries s ≡ 0)
     (is : entry l (p, page) ≡ Some e) (no_slots : (s : Slot) → names_slot s e ≡ false)
     (counts : (g : ℕ) → maps g + cond (names_frame g e) 1 0 ≡ v.maps g)
     (free : (g : ℕ) → g < m.frames → is_in g rest ≡ (maps g == 0)) where
@@ -52,7 +53,7 @@ module _ (m : Setting) (v : View) (l : Ledger) (p page : ℕ) (e : Entry) (maps 
   cache_now = (same_swap-after_zap (p, page) l).cache ∙ cache
 
   pub mapped_now : (g : ℕ) → map_count (after_zap (p, page) l) g ≡ maps g
-  mapped_now g = equal _ _ _ _ _ (map_count-after_zap (p, page) l g parts.sound.in_order) (ap (weight (names_frame g)) is) (counts g) (parts.frames.maps g)
+  mapped_now g = equal _ _ _ _ _ (map_count-after_zap (p, page) l g parts.sound.in_order) (ap (weight (names_frame g)) is) (counts g) (parts.parts.frames.maps g)
     where
       equal : (n x y k c : ℕ) {w : ℕ} → n ≡ x + k → k ≡ c → y + c ≡ w → w ≡ n → x ≡ y
       equal n x y k c a b d f = omega arith
@@ -65,7 +66,7 @@ module _ (m : Setting) (v : View) (l : Ledger) (p page : ℕ) (e : Entry) (maps 
 
   tables_now : TablesStand (record v { table = with_entry p page None v.table; maps = maps; free = rest }) (after_zap (p, page) l)
   tables_now = record {
-    entries = λ q o. pushed (q == p && o == page) (v.table q o) (entry l (q, o)) (parts.tables.entries q o)
+    entries = λ q o. pushed (q == p && o == page) (v.table q o) (entry l (q, o)) (parts.parts.tables.entries q o)
         ∙ sym (entry-after_zap (p, page) l (q, o) ∙ ap (λ b. cond b None (entry l (q, o))) (key_is p page q o));
     write_bits = λ q o t g there writes names. by (q == p && o == page) q o t g there writes names;
   }
@@ -84,47 +85,53 @@ module _ (m : Setting) (v : View) (l : Ledger) (p page : ℕ) (e : Entry) (maps 
       by true q o t g there writes names = absurd (clash there)
       by false q o t g there writes names =
           shared_is (after_zap (p, page) l) g cache_now
-          ∙ fewer (map_count l g) (maps g) (map_count (after_zap (p, page) l) g) (cond (names_frame g e) 1 0) (sym (shared_is l g cache) ∙ parts.tables.write_bits q o t g there writes names) (counts g ∙ parts.frames.maps g) (mapped_now g)
+          ∙ fewer (map_count l g) (maps g) (map_count (after_zap (p, page) l) g) (cond (names_frame g e) 1 0) (sym (shared_is l g cache) ∙ parts.parts.tables.write_bits q o t g there writes names) (counts g ∙ parts.parts.frames.maps g) (mapped_now g)
 
-  pub stands_now : LedgerStand m (record v { table = with_entry p page None v.table; maps = maps; free = rest }) (after_zap (p, page) l)
+  pub stands_now : SoundLedger m (record v { table = with_entry p page None v.table; maps = maps; free = rest }) (after_zap (p, page) l)
   stands_now = record {
-    sound = subst (IsSound m) (ap (after_all l) (zap_of-alone l (p, page) cache (λ s. sym (parts.swap.counts s) ∙ no_entries s))) (zap_of-kept m l (p, page) parts.sound);
-    frames = record {
-      frames = parts.frames.frames;
-      maps = λ g. sym (mapped_now g);
-      slots = λ g. parts.frames.slots g ∙ no_slot l g cache ∙ sym (no_slot (after_zap (p, page) l) g cache_now);
-      dirty = λ g. subst (λ o. IfSome o (λ s. v.dirty g ≡ is_stale (after_zap (p, page) l) s)) (sym (no_slot (after_zap (p, page) l) g cache_now)) tt;
-      free = λ g below. free g below ∙ ap (λ n. n == 0) (sym (mapped_now g)) ∙ sym (free_is (after_zap (p, page) l) g cache_now);
-    };
-    lists = record { active = no_active ∙ sym (active-taken (p, page) l (sym parts.lists.active ∙ no_active)) };
-    tables = tables_now;
-    swap = record {
-      finds = λ s. parts.swap.finds s ∙ no_frame_at l s cache ∙ sym (no_frame_at (after_zap (p, page) l) s cache_now);
-      counts = λ s. parts.swap.counts s ∙ slots_now s;
-      flight = parts.swap.flight ∙ sym (same_swap-after_zap (p, page) l).flight;
-      on = parts.swap.on ∙ sym (same_swap-after_zap (p, page) l).on;
+    sound = subst (IsSound m) (ap (after_all l) (zap_of-alone l (p, page) cache (λ s. sym (parts.parts.swap.counts s) ∙ no_entries s))) (zap_of-kept m l (p, page) parts.sound);
+    parts = record {
+      frames = record {
+        frames = parts.parts.frames.frames;
+        maps = λ g. sym (mapped_now g);
+        slots = λ g. parts.parts.frames.slots g ∙ no_slot l g cache ∙ sym (no_slot (after_zap (p, page) l) g cache_now);
+        dirty = λ g. subst (λ o. IfSome o (λ s. v.dirty g ≡ is_stale (after_zap (p, page) l) s)) (sym (no_slot (after_zap (p, page) l) g cache_now)) tt;
+        free = λ g below. free g below ∙ ap (λ n. n == 0) (sym (mapped_now g)) ∙ sym (free_is (after_zap (p, page) l) g cache_now);
+      };
+      lists = record { active = no_active ∙ sym (active-taken (p, page) l (sym parts.parts.lists.active ∙ no_active)) };
+      tables = tables_now;
+      swap = record {
+        finds = λ s. parts.parts.swap.finds s ∙ no_frame_at l s cache ∙ sym (no_frame_at (after_zap (p, page) l) s cache_now);
+        counts = λ s. parts.parts.swap.counts s ∙ slots_now s;
+        flight = parts.parts.swap.flight ∙ sym (same_swap-after_zap (p, page) l).flight;
+        on = parts.parts.swap.on ∙ sym (same_swap-after_zap (p, page) l).on;
+      };
     };
   }
 
 -- ---- the page of zeros, and a frame
 
 module _ (m : Setting) (v : View) (l : Ledger) (p page : ℕ)
-    (cache : l.cache ≡ []) (parts : LedgerStand m v l) (no_active : v.active ≡ []) (no_entries : (s : Slot) → v.entries s ≡ 0) where
+    (cache : l.cache ≡ []) (parts : SoundLedger m v l) (no_active : v.active ≡ []) (no_entries : (s : Slot) → v.entries s ≡ 0) where
   frees : (g : ℕ) → g < m.frames → is_in g v.free ≡ (v.maps g == 0)
-  frees g below = parts.frames.free g below ∙ free_is l g cache ∙ ap (λ n. n == 0) (sym (parts.frames.maps g))
+  frees g below = parts.parts.frames.free g below ∙ free_is l g cache ∙ ap (λ n. n == 0) (sym (parts.parts.frames.maps g))
 
-  pub zero_left : entry l (p, page) ≡ Some Zero → LedgerStand m (record v { table = with_entry p page None v.table }) (after_zap (p, page) l)
+  pub zero_left : entry l (p, page) ≡ Some Zero → SoundLedger m (record v { table = with_entry p page None v.table }) (after_zap (p, page) l)
   zero_left is = stands_now m v l p page Zero v.maps v.free cache parts no_active no_entries is (λ s. refl) (λ g. same (v.maps g)) frees
     where
       same : (n : ℕ) → n + 0 ≡ n
       same n = omega arith
 
-  pub zero_freed : entry l (p, page) ≡ Some Zero → v.free ≡ with_freed l (after_zap (p, page) l) (frame_under (entry l (p, page))) v.free
-  zero_freed is = sym (ap (λ o. with_freed l (after_zap (p, page) l) (frame_under o) v.free) is)
+  pub zero_freed : entry l (p, page) ≡ Some Zero → Chooses m l (Zapped (p, page)) v.free v.free
+  zero_freed is = chooses-kept m l (Zapped (p, page)) v.free refl (new_free-zap_none m (p, page) l parts.sound.in_order (λ g. ap (weight (names_frame g)) is))
+
+  -- without a slot the uses of a frame are its entries
+  uses_are : (g : ℕ) → uses l g ≡ v.maps g
+  uses_are g = let none = ap (how_many (λ (c : Cached). g == c.frame)) cache in let maps = parts.parts.frames.maps g in omega (arith, none, maps)
 
   module _ (f : ℕ) (was : Bool) (is : entry l (p, page) ≡ Some (InFrame f was)) where
     some : 0 < v.maps f
-    some = subst (λ n. 0 < n) (sym (parts.frames.maps f)) (how_many-found (names_frame f) (p, page) l.entries (InFrame f was) is (itself f))
+    some = subst (λ n. 0 < n) (sym (parts.parts.frames.maps f)) (how_many-found (names_frame f) (p, page) l.entries (InFrame f was) is (itself f))
 
     fewer : (g : ℕ) → with_at f (v.maps f - 1) v.maps g + cond (g == f) 1 0 ≡ v.maps g
     fewer g = by (g == f) refl
@@ -134,7 +141,7 @@ module _ (m : Setting) (v : View) (l : Ledger) (p page : ℕ)
         by false e = omega arith
 
     was_used : is_free l f ≡ false
-    was_used = free_is l f cache ∙ ap (λ n. n == 0) (sym (parts.frames.maps f)) ∙ positive (v.maps f) some
+    was_used = free_is l f cache ∙ ap (λ n. n == 0) (sym (parts.parts.frames.maps f)) ∙ positive (v.maps f) some
       where
         positive : (n : ℕ) → 0 < n → (n == 0) ≡ false
         positive n h = grind (arith, nat_tests, h)
@@ -160,17 +167,11 @@ module _ (m : Setting) (v : View) (l : Ledger) (p page : ℕ)
           by true e = both _ _ (ap v.maps (equal_is g f e)) two
           by false e = refl
 
-      pub shared_left : LedgerStand m (record v { table = with_entry p page None v.table; maps = with_at f (v.maps f - 1) v.maps }) (after_zap (p, page) l)
+      pub shared_left : SoundLedger m (record v { table = with_entry p page None v.table; maps = with_at f (v.maps f - 1) v.maps }) (after_zap (p, page) l)
       shared_left = stands_now m v l p page (InFrame f was) (with_at f (v.maps f - 1) v.maps) v.free cache parts no_active no_entries is (λ s. refl) fewer shared_free
 
-      pub shared_freed : v.free ≡ with_freed l (after_zap (p, page) l) (frame_under (entry l (p, page))) v.free
-      shared_freed =
-          let now = mapped_now m v l p page (InFrame f was) (with_at f (v.maps f - 1) v.maps) v.free cache parts no_active no_entries is (λ s. refl) fewer shared_free f in
-          sym (ap (λ o. with_freed l (after_zap (p, page) l) (frame_under o) v.free) is
-          ∙ ap (λ b. cond (b && not (is_free l f)) (f ∷ v.free) v.free) (free_is (after_zap (p, page) l) f ((same_swap-after_zap (p, page) l).cache ∙ cache) ∙ ap (λ n. n == 0) (now ∙ at_f) ∙ used (v.maps f) two))
-        where
-          used : (n : ℕ) → 1 < n → (n - 1 == 0) ≡ false
-          used n h = grind (arith, nat_tests, h)
+      pub shared_freed : Chooses m l (Zapped (p, page)) v.free v.free
+      shared_freed = chooses-kept m l (Zapped (p, page)) v.free refl (new_free-zap_more m (p, page) l f was parts.sound.in_order is (subst (λ n. 1 < n) (sym (uses_are f)) two))
 
     -- no other does
     module _ (one : (v.maps f == 1) ≡ true) where
@@ -184,32 +185,31 @@ module _ (m : Setting) (v : View) (l : Ledger) (p page : ℕ)
           by true e = gone (v.maps f) one
           by false e = refl
 
-      pub last_left : LedgerStand m (record v { table = with_entry p page None v.table; maps = with_at f (v.maps f - 1) v.maps; free = f ∷ v.free }) (after_zap (p, page) l)
+      pub last_left : SoundLedger m (record v { table = with_entry p page None v.table; maps = with_at f (v.maps f - 1) v.maps; free = f ∷ v.free }) (after_zap (p, page) l)
       last_left = stands_now m v l p page (InFrame f was) (with_at f (v.maps f - 1) v.maps) (f ∷ v.free) cache parts no_active no_entries is (λ s. refl) fewer last_free
 
-      pub last_freed : ◌≡◌ {A = List ℕ} (f ∷ v.free) (with_freed l (after_zap (p, page) l) (frame_under (entry l (p, page))) v.free)
-      last_freed =
-          let now = mapped_now m v l p page (InFrame f was) (with_at f (v.maps f - 1) v.maps) (f ∷ v.free) cache parts no_active no_entries is (λ s. refl) fewer last_free f in
-          let free = free_is (after_zap (p, page) l) f ((same_swap-after_zap (p, page) l).cache ∙ cache) ∙ ap (λ n. n == 0) (now ∙ at_f) ∙ gone (v.maps f) one in
-          sym (ap (λ o. with_freed l (after_zap (p, page) l) (frame_under o) v.free) is ∙ (λ i. cond (free i && not (was_used i)) (f ∷ v.free) v.free))
+      pub last_freed : Chooses m l (Zapped (p, page)) v.free (f ∷ v.free)
+      last_freed = (v.free, refl, ap (λ fs. fs ++ v.free) (sym (new_free-zap_last m (p, page) l f was parts.sound.in_order is below (uses_are f ∙ once (v.maps f) one))))
         where
-          gone : (n : ℕ) → (n == 1) ≡ true → (n - 1 == 0) ≡ true
-          gone n e = grind (arith, nat_tests, e)
+          once : (n : ℕ) → (n == 1) ≡ true → n ≡ 1
+          once n e = grind (arith, nat_tests, e)
+
+          below : f < m.frames
+          below = parts.sound.in_range f (let used = uses_are f in let some_maps = some in omega (arith, used, some_maps))
 
     -- released, it is one or the other
-    pub released_left : LedgerStand m (released f (record v { table = with_entry p page None v.table })) (after_zap (p, page) l)
+    pub released_left : SoundLedger m (released f (record v { table = with_entry p page None v.table })) (after_zap (p, page) l)
     released_left = by (v.maps f == 1) refl
       where
         by : (b : Bool) → (v.maps f == 1) ≡ b
-            → LedgerStand m (cond b (record v { table = with_entry p page None v.table; maps = with_at f (v.maps f - 1) v.maps; free = f ∷ v.free }) (record v { table = with_entry p page None v.table; maps = with_at f (v.maps f - 1) v.maps })) (after_zap (p, page) l)
+            → SoundLedger m (cond b (record v { table = with_entry p page None v.table; maps = with_at f (v.maps f - 1) v.maps; free = f ∷ v.free }) (record v { table = with_entry p page None v.table; maps = with_at f (v.maps f - 1) v.maps })) (after_zap (p, page) l)
         by true e = last_left e
         by false e = shared_left e
 
-    pub released_freed : (released f (record v { table = with_entry p page None v.table })).free ≡ with_freed l (after_zap (p, page) l) (frame_under (entry l (p, page))) v.free
+    pub released_freed : Chooses m l (Zapped (p, page)) v.free (released f (record v { table = with_entry p page None v.table })).free
     released_freed = by (v.maps f == 1) refl
       where
         by : (b : Bool) → (v.maps f == 1) ≡ b
-            → (cond b (record v { table = with_entry p page None v.table; maps = with_at f (v.maps f - 1) v.maps; free = f ∷ v.free }) (record v { table = with_entry p page None v.table; maps = with_at f (v.maps f - 1) v.maps })).free
-            ≡ with_freed l (after_zap (p, page) l) (frame_under (entry l (p, page))) v.free
+            → Chooses m l (Zapped (p, page)) v.free (cond b (record v { table = with_entry p page None v.table; maps = with_at f (v.maps f - 1) v.maps; free = f ∷ v.free }) (record v { table = with_entry p page None v.table; maps = with_at f (v.maps f - 1) v.maps })).free
         by true e = last_freed e
         by false e = shared_freed e

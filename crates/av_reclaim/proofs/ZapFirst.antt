@@ -9,32 +9,33 @@ use Rattle.av_pagetable.specs.declared.pte.Pte.TheVariants.{Empty, Zero as ZeroP
 use Rattle.av_pagetable.specs.Table.{IsFirst, page_bound, or_empty, entry_in}
 use Rattle.av_pagetable.specs.Entries.{entry_at, at_page, with_entry}
 use Rattle.av_plain.specs.Ledger.{Ledger, Zero, InFrame, InSlot, entry, map_count, names_frame, names_slot}
-use Rattle.av_plain.specs.Event.{after_zap}
+use Rattle.av_plain.specs.Choice.{Chooses}
+use Rattle.av_plain.specs.Event.{Zapped, after_zap}
 use Rattle.av_plain.specs.Stands.{View, entry_of}
 use Rattle.av_plain.proofs.Ledger.{how_many-found}
 use Rattle.av_plain.proofs.Ledger.NoSwap.{itself, free_is}
 use Rattle.av_reclaim.specs.declared.mem.Mem.{Mem}
-use Rattle.av_reclaim.specs.Mem.{setting, count, plain, view, joined, LedgerStand, LedgerStands}
+use Rattle.av_reclaim.specs.Mem.{setting, count, plain, view, joined, SoundLedger, HasLedger}
 use Rattle.av_reclaim.specs.Zap.{released, ZapsFirst}
 use Rattle.av_reclaim.proofs.MemLaws.{view_same, no_cache, entry_put_in}
 use Rattle.av_reclaim.proofs.ZapEntry.{zero_left, zero_freed, released_left, released_freed}
 
-module _ (old : Mem) (l : Ledger) (stands : LedgerStands old l) where
+module _ (old : Mem) (l : Ledger) (stands : HasLedger old l) where
   cache : l.cache ≡ []
-  cache = no_cache l stands.swap.finds
+  cache = no_cache l stands.parts.swap.finds
 
   nothing_at : (p q : ℕ) → entry_at old.tables p q ≡ Empty → entry l (p, q) ≡ None
-  nothing_at p q e = sym (stands.tables.entries p q) ∙ ap (λ t. entry_of (plain t)) e
+  nothing_at p q e = sym (stands.parts.tables.entries p q) ∙ ap (λ t. entry_of (plain t)) e
 
   frame_there : (p page f : ℕ) (write was : Bool) → entry_at old.tables p page ≡ Here f write was → entry l (p, page) ≡ Some (InFrame f was)
-  frame_there p page f write was e = sym (stands.tables.entries p page) ∙ ap (λ t. entry_of (plain t)) e
+  frame_there p page f write was e = sym (stands.parts.tables.entries p page) ∙ ap (λ t. entry_of (plain t)) e
 
   -- an entry's frame is in use
   pub frame_used : (p page f : ℕ) (write was : Bool) → entry_at old.tables p page ≡ Here f write was → (f < count old) × (0 < (view old).maps f) × (is_in f (view old).free ≡ false)
   frame_used p page f write was e =
       let some : 0 < map_count l f = how_many-found (names_frame f) (p, page) l.entries (InFrame f was) (frame_there p page f write was e) (itself f) in
       let below : f < count old = stands.sound.in_range f (omega (arith, some)) in
-      (below, subst (λ n. 0 < n) (sym (stands.frames.maps f)) some, stands.frames.free f below ∙ free_is l f cache ∙ positive _ some)
+      (below, subst (λ n. 0 < n) (sym (stands.parts.frames.maps f)) some, stands.parts.frames.free f below ∙ free_is l f cache ∙ positive _ some)
     where
       positive : (n : ℕ) → 0 < n → (n == 0) ≡ false
       positive n h = grind (arith, nat_tests, h)
@@ -42,11 +43,11 @@ module _ (old : Mem) (l : Ledger) (stands : LedgerStands old l) where
   -- an entry that is neither a frame nor empty is the page of zeros
   zero_there : (p page : ℕ) (e : Pte) → entry_at old.tables p page ≡ e → (e ≡ Empty → ⊥) → ((f : ℕ) (write was : Bool) → e ≡ Here f write was → ⊥) → entry l (p, page) ≡ Some Zero
   zero_there p page Empty is some other = absurd (some refl)
-  zero_there p page ZeroPte is some other = sym (stands.tables.entries p page) ∙ ap (λ t. entry_of (plain t)) is
+  zero_there p page ZeroPte is some other = sym (stands.parts.tables.entries p page) ∙ ap (λ t. entry_of (plain t)) is
   zero_there p page (Here f write was) is some other = absurd (other f write was refl)
   zero_there p page (Away s) is some other =
-      let found = how_many-found (names_slot s) (p, page) l.entries (InSlot s) (sym (stands.tables.entries p page) ∙ ap (λ t. entry_of (plain t)) is) (λ i. itself s.area i && itself s.page i) in
-      let zero = stands.swap.counts s in
+      let found = how_many-found (names_slot s) (p, page) l.entries (InSlot s) (sym (stands.parts.tables.entries p page) ∙ ap (λ t. entry_of (plain t)) is) (λ i. itself s.area i && itself s.page i) in
+      let zero = stands.parts.swap.counts s in
       absurd (omega (arith, found, zero))
 
   module _ (new : Mem) (p from past : ℕ) where
@@ -54,7 +55,7 @@ module _ (old : Mem) (l : Ledger) (stands : LedgerStands old l) where
     none_taken none tables frames spaces = (
       λ q low high. nothing_at p q (none q low high),
       ap (λ f. (seen f).free) frames,
-      subst (λ n. LedgerStand (setting n) (view new) l) (sym (ap (λ f. (seen f).count) frames)) (subst (λ v. LedgerStand (setting (count old)) v l) (sym (view_same old new tables frames spaces)) stands),
+      subst (λ n. SoundLedger (setting n) (view new) l) (sym (ap (λ f. (seen f).count) frames)) (subst (λ v. SoundLedger (setting (count old)) v l) (sym (view_same old new tables frames spaces)) stands),
     )
 
     module _ (page : ℕ) (e : Pte) (first : IsFirst (entry_at old.tables p) from past page) (is : entry_at old.tables p page ≡ e) where
@@ -67,9 +68,9 @@ module _ (old : Mem) (l : Ledger) (stands : LedgerStands old l) where
             first.from_there,
             ap is_some there,
             least,
-            ap (λ f. (seen f).free) frames ∙ zero_freed (setting (count old)) (view old) l p page cache stands refl (λ s. refl) there,
-            subst (λ n. LedgerStand (setting n) (view new) (after_zap (p, page) l)) (sym (ap (λ f. (seen f).count) frames))
-                (subst (λ v. LedgerStand (setting (count old)) v (after_zap (p, page) l)) (sym (entry_put_in old new p page Empty tables frames spaces))
+            subst (Chooses (setting (count old)) l (Zapped (p, page)) (view old).free) (sym (ap (λ f. (seen f).free) frames)) (zero_freed (setting (count old)) (view old) l p page cache stands refl (λ s. refl) there),
+            subst (λ n. SoundLedger (setting n) (view new) (after_zap (p, page) l)) (sym (ap (λ f. (seen f).count) frames))
+                (subst (λ v. SoundLedger (setting (count old)) v (after_zap (p, page) l)) (sym (entry_put_in old new p page Empty tables frames spaces))
                 (zero_left (setting (count old)) (view old) l p page cache stands refl (λ s. refl) there)),
           )
 
@@ -81,8 +82,8 @@ module _ (old : Mem) (l : Ledger) (stands : LedgerStands old l) where
             first.from_there,
             ap is_some there,
             least,
-            ap (λ (v : View). v.free) seen_so ∙ released_freed (setting (count old)) (view old) l p page cache stands refl (λ s. refl) f was there,
-            subst (λ n. LedgerStand (setting n) (view new) (after_zap (p, page) l)) (sym counts)
-                (subst (λ v. LedgerStand (setting (count old)) v (after_zap (p, page) l)) (sym seen_so)
+            subst (Chooses (setting (count old)) l (Zapped (p, page)) (view old).free) (sym (ap (λ (v : View). v.free) seen_so)) (released_freed (setting (count old)) (view old) l p page cache stands refl (λ s. refl) f was there),
+            subst (λ n. SoundLedger (setting n) (view new) (after_zap (p, page) l)) (sym counts)
+                (subst (λ v. SoundLedger (setting (count old)) v (after_zap (p, page) l)) (sym seen_so)
                 (released_left (setting (count old)) (view old) l p page cache stands refl (λ s. refl) f was there)),
           )

@@ -1,4 +1,5 @@
--- The memory system: its view, put together from what its parts are seen as, and what it stands for.
+-- The memory system: its view, put together from what its parts are seen as, and what it stands
+-- for.
 use Rattle.std.specs.Prelude.{◌≡◌, ℕ, false, List, [], length, map, Option, Some, None, is_some, option_map, T}
 use Rattle.std.specs.FinMap.Entries.{is_sorted}
 use Rattle.av_vma.specs.declared.area.Area.{Area}
@@ -7,7 +8,9 @@ use Rattle.av_plain.specs.World.{World}
 use Rattle.av_plain.specs.Ledger.{Ledger, Setting, Zero as ZeroEntry, InFrame, InSlot, key_cmp}
 use Rattle.av_plain.specs.Transcript.{State}
 use Rattle.av_plain.specs.Sound.{IsSound, AtPages}
-use Rattle.av_plain.specs.Stands.{View, Range, Pte as Plain, Stands, FramesStand, TablesStand, SwapStands, ListsStand, AreasStand, BytesStand}
+use Rattle.av_plain.specs.Device.{no_device, setting_of}
+use Rattle.av_plain.specs.Report.{Range}
+use Rattle.av_plain.specs.Stands.{View, Pte as Plain, Stands, LedgerStands, PartsStand}
 use Rattle.av_frames.specs.Store.{Seen, seen}
 use Rattle.av_pagetable.specs.declared.pte.Pte.{Pte}
 use Rattle.av_pagetable.specs.declared.pte.Pte.TheVariants.{Empty, Zero, Here, Away}
@@ -15,9 +18,9 @@ use Rattle.av_pagetable.specs.Entries.{entry_at, has}
 use Rattle.av_spaces.specs.Spaces.{Spaces, areas_of}
 use Rattle.av_reclaim.specs.declared.mem.Mem.{Mem}
 
--- so many frames, and no device
+-- so many frames, and a device that has no area
 abbrev pub setting : ℕ → Setting
-setting frames = record { frames = frames; sizes = []; headers = Some (λ _. None) }
+setting frames = setting_of frames no_device
 
 -- an entry in the words of the ledger
 abbrev pub plain : Pte → Option Plain
@@ -66,7 +69,7 @@ HasTables k = (p : ℕ) → has k.tables p ≡ is_some (ranges_of k.spaces p)
 
 -- the memory system stands for the memories, the ledger and the free frames; there is no device
 pub record Keeps (k : Mem) (s : State) : Type 0 where
-  pub stands : Stands (setting (count k)) (view k) None s
+  pub stands : Stands (setting (count k)) (view k) no_device s
   pub tables : HasTables k
 
 -- it stands for some
@@ -75,30 +78,22 @@ IsSteady k = (s : State) × Keeps k s
 
 -- ---- within a command
 
--- the parts that speak of the ledger alone
-pub record LedgerStand (m : Setting) (v : View) (l : Ledger) : Type 0 where
+-- the ledger is sound, and the parts that speak of it alone stand for it
+pub record SoundLedger (m : Setting) (v : View) (l : Ledger) : Type 0 where
   pub sound : IsSound m l
-  pub frames : FramesStand m v l
-  pub lists : ListsStand v l
-  pub tables : TablesStand v l
-  pub swap : SwapStands v l
+  pub parts : LedgerStands m v l
 
 -- the memory system's parts do
-abbrev pub LedgerStands : Mem → Ledger → Type 0
-LedgerStands k l = LedgerStand (setting (count k)) (view k) l
+abbrev pub HasLedger : Mem → Ledger → Type 0
+HasLedger k l = SoundLedger (setting (count k)) (view k) l
 
 -- they stand for some
 abbrev pub IsOrderly : Mem → Type 0
-IsOrderly k = (l : Ledger) × LedgerStands k l
+IsOrderly k = (l : Ledger) × HasLedger k l
 
 -- what stands within an access
-pub record PartsStand (k : Mem) (w : World) (l : Ledger) : Type 0 where
+pub record KeepsWithin (k : Mem) (w : World) (l : Ledger) : Type 0 where
   pub in_order : T (is_sorted key_cmp l.entries)
   pub at_pages : AtPages w l
-  pub frames : FramesStand (setting (count k)) (view k) l
-  pub lists : ListsStand (view k) l
-  pub tables : TablesStand (view k) l
-  pub swap : SwapStands (view k) l
-  pub areas : AreasStand (view k) w
-  pub bytes : BytesStand (view k) None w l
-  pub has_tables : HasTables k
+  pub parts : PartsStand (setting (count k)) (view k) no_device w l
+  pub tables : HasTables k

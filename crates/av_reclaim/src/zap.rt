@@ -4,7 +4,7 @@ ghost use Rattle.std.specs.Prelude.{◌≡◌, ℕ, ◌-◌, ◌<◌, ◌≤◌,
 ghost use Rattle.av_base.specs.Words.{is_in};
 ghost use Rattle.av_plain.specs.Ledger.{Ledger};
 ghost use Rattle.av_plain.specs.Zap.{keys_in, keys_of_process, zaps_of};
-ghost use Rattle.av_reclaim.specs.Mem.{count, view, LedgerStands, IsOrderly};
+ghost use Rattle.av_reclaim.specs.Mem.{count, view, HasLedger, IsOrderly};
 ghost use Rattle.av_reclaim.specs.Zap.{released, ZapsFirst, HasZapped, KeepsRest};
 
 use crate::mem::Mem;
@@ -16,7 +16,7 @@ const PAST_PAGES: u64 = 1 << 36;
 /// Takes away all entries of a process, by rising page.
 pub fn zap_all(mem: &mut Mem, process: u16)
     requires orderly { IsOrderly mem.old }
-    ensures zapped { (l : Ledger) → LedgerStands mem.old l →
+    ensures zapped { (l : Ledger) → HasLedger mem.old l →
         HasZapped mem.old mem.new l (zaps_of l (keys_of_process l process)) }
     ensures rest { KeepsRest mem.old mem.new }
 {
@@ -26,7 +26,7 @@ pub fn zap_all(mem: &mut Mem, process: u16)
 /// Takes away the entries of a process's pages from `from` to below `past`, by rising page.
 pub fn zap_range(mem: &mut Mem, process: u16, from: u64, past: u64)
     requires orderly { IsOrderly mem.old }
-    ensures zapped { (l : Ledger) → LedgerStands mem.old l →
+    ensures zapped { (l : Ledger) → HasLedger mem.old l →
         HasZapped mem.old mem.new l (zaps_of l (keys_in l process from (past - from))) }
     ensures rest { KeepsRest mem.old mem.new }
 {
@@ -39,7 +39,7 @@ pub fn zap_range(mem: &mut Mem, process: u16, from: u64, past: u64)
 /// Takes away the entry of a process's least page from `from` to below `past`, and tells the page.
 fn zap_first(mem: &mut Mem, process: u16, from: u64, past: u64) -> Option<u64>
     requires orderly { IsOrderly mem.old }
-    ensures zapped { (l : Ledger) → LedgerStands mem.old l →
+    ensures zapped { (l : Ledger) → HasLedger mem.old l →
         ZapsFirst mem.old mem.new l process from past result }
     ensures within { IfSome result (λ page. (from ≤ page) × (page < past)) }
     ensures rest { KeepsRest mem.old mem.new }

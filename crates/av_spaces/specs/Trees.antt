@@ -1,4 +1,5 @@
--- The processes seen through the areas by number and a tree of spans for each process, by its number.
+-- The processes seen through the areas by number and a tree of spans for each process, by its
+-- number.
 use Rattle.std.specs.Prelude.{◌≡◌, ◌≢◌, ℕ, ◌≤◌, ◌^◌, List, length, Option, None, is_some, option_map, slice_index_or, IfSome, MatchOption}
 use Rattle.std.specs.List.{filter_map, enumerate_from}
 use Rattle.av_base.specs.Words.{how_many}
@@ -31,9 +32,11 @@ spaces_by areas trees = filter_map (space_by areas) (enumerate_from 0 trees)
 abbrev pub HasNone : ℕ → (ℕ → Option Area) → Type 0
 HasNone p areas = (number : ℕ) → IfSome (areas number) (λ area. area.pid ≢ p)
 
--- a tree has the areas of its process, and a process without a tree has none: so each area in use is in a tree
+-- a tree has the areas of its process, and a process without a tree has none: so each area in use
+-- is in a tree
 abbrev pub AreTrees : (ℕ → Option Area) → Trees → Type 0
-AreTrees areas trees = (p : ℕ) → MatchOption (tree_at trees p) (HasNone p areas) (AreAreasOf p areas)
+AreTrees areas trees =
+    (p : ℕ) → MatchOption (tree_at trees p) (HasNone p areas) (AreAreasOf p areas)
 
 -- so are these, of so many processes that live
 pub record HasTrees (areas : ℕ → Option Area) (ts : Trees) (n : ℕ) : Type 0 where

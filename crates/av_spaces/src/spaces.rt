@@ -19,8 +19,8 @@ use av_vmatree::{Span, Tree};
 use std::alloc::{AllocError, Global};
 use std::marker::Model;
 
-/// The areas of every process that lives, seen as the list of the processes, rising, each with its areas in the order of
-/// their pages.
+/// The areas of every process that lives, seen as the list of the processes, rising, each with its
+/// areas in the order of their pages.
 #[derive(Drop)]
 pub struct Spaces {
     alloc: Global,
@@ -115,8 +115,8 @@ impl Spaces {
         tree.is_free(from, from + pages)
     }
 
-    /// Maps free pages of a process that lives, as one area without an anon_vma. Once memory is wanting, nothing is
-    /// promised of any process's pages.
+    /// Maps free pages of a process that lives, as one area without an anon_vma. Once memory is
+    /// wanting, nothing is promised of any process's pages.
     pub fn map(&mut self, process: u16, from: u64, pages: u64, prot: Prot) -> Result<(), AllocError>
         requires lives { is_some (areas_of self.old process) ≡ true }
         requires some { 1 ≤ pages }
@@ -139,7 +139,8 @@ impl Spaces {
         result
     }
 
-    /// Takes these pages away from a process that lives, those of them that are mapped. Without memory as for `map`.
+    /// Takes these pages away from a process that lives, those of them that are mapped. Without
+    /// memory as for `map`.
     pub fn unmap(&mut self, process: u16, from: u64, pages: u64) -> Result<(), AllocError>
         requires lives { is_some (areas_of self.old process) ≡ true }
         requires past { from + pages < 2 ^ 64 }
@@ -152,8 +153,8 @@ impl Spaces {
         result
     }
 
-    /// Gives these pages of a process that lives a protection, up to the first one that is not mapped, and tells that
-    /// one, else the page past them. Without memory as for `map`.
+    /// Gives these pages of a process that lives a protection, up to the first one that is not
+    /// mapped, and tells that one, else the page past them. Without memory as for `map`.
     pub fn protect(
         &mut self,
         process: u16,
@@ -166,7 +167,8 @@ impl Spaces {
         ensures reached { IfOk result (λ reached.
             IsReached (is_taken self.old process) from (from + pages) reached) }
         ensures ok { IfOk result (λ reached. IsChanged self.old self.new process
-            (AreThese (pages_changed (to_prot prot) from (reached - from) (pages_of self.old process)))) }
+            (AreThese
+                (pages_changed (to_prot prot) from (reached - from) (pages_of self.old process)))) }
         ensures mapping { IfOk result (λ reached. IsRemapped from reached (to_prot prot)
             (pages_of self.old process) (pages_of self.new process)) }
     {
@@ -187,7 +189,8 @@ impl Spaces {
         self.alive -= 1;
     }
 
-    /// The areas of a process that lives, in the order of their pages, in time linear in their number.
+    /// The areas of a process that lives, in the order of their pages, in time linear in their
+    /// number.
     pub fn areas(&self, process: u16) -> Result<Vec<Area>, AllocError>
         requires { is_some (areas_of self.now process) ≡ true }
         ensures areas { IfOk result (λ areas. areas_of self.now process ≡ Some areas.items) }

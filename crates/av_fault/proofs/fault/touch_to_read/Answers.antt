@@ -21,7 +21,7 @@ returns-in-Zero c = record {
   count = refl;
   step = λ s keeps.
     zeros_there s c.args.mem.now c.args.mem.now c.args.process c.args.page c.args.notes.now keeps (c.requires.permitted)
-    (sym (keeps.stands.tables.entries c.args.process c.args.page) ∙ ap (λ e. entry_of (plain e)) (sym c.get.ensures ∙ c.in-Zero.is));
+    (sym (keeps.stands.parts.ledger.tables.entries c.args.process c.args.page) ∙ ap (λ e. entry_of (plain e)) (sym c.get.ensures ∙ c.in-Zero.is));
 }
 
 

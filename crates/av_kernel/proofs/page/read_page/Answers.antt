@@ -10,15 +10,15 @@ bytes-requires c =
     frame_below s.0 c.args.mem.now c.args.process c.args.page c.args.at [] c.args.notes.now c.touch.new.notes s.1 c.touch.new.mem false c.in-Ready.frame c.touch.ensures.count
     (rw c.in-Ready.is at (c.in_ok-frame.ensures.step s.0 s.1))
 
-pub returns-in_ok-append-in-Ready-clause-step : goal.returns-in_ok-append-in-Ready-clause-step
-returns-in_ok-append-in-Ready-clause-step c = λ s keeps alive.
+pub returns-in_ok-append_piece-in-Ready-clause-step : goal.returns-in_ok-append_piece-in-Ready-clause-step
+returns-in_ok-append_piece-in-Ready-clause-step c = λ s keeps alive.
     read_served s c.args.mem.now c.args.process c.args.page c.args.at [] c.args.notes.now c.touch.new.notes keeps c.touch.new.mem (Ready c.in-Ready.frame) c.touch.ensures.count refl
     (rw c.in-Ready.is at (c.in_ok-frame.ensures.step s keeps))
 
-pub returns-in_ok-append-in-Ready-clause-shown : goal.returns-in_ok-append-in-Ready-clause-shown
-returns-in_ok-append-in-Ready-clause-shown c = λ s keeps alive.
-    frame_shown s c.touch.new.mem c.args.process c.args.page c.args.at c.args.len c.args.notes.now c.touch.new.notes c.requires.fits c.in-Ready.frame c.bytes.result.now c.args.shown.now c.append.new.self
-    (rw c.in-Ready.is at (c.in_ok-frame.ensures.step s keeps)) c.bytes.ensures.long c.bytes.ensures.bytes c.in_ok-append-in-Ready.ensures.ok
+pub returns-in_ok-append_piece-in-Ready-clause-shown : goal.returns-in_ok-append_piece-in-Ready-clause-shown
+returns-in_ok-append_piece-in-Ready-clause-shown c = λ s keeps alive.
+    frame_shown s c.touch.new.mem c.args.process c.args.page c.args.at c.args.len c.args.notes.now c.touch.new.notes c.requires.fits c.in-Ready.frame c.bytes.result.now c.args.shown.now c.append_piece.new.shown
+    (rw c.in-Ready.is at (c.in_ok-frame.ensures.step s keeps)) c.bytes.ensures.long c.bytes.ensures.bytes c.in_ok-append_piece-in-Ready.ensures.shown c.append_piece.ensures.bytes
 
 pub returns-in_ok-append_zeros-in-Zeros-clause-step : goal.returns-in_ok-append_zeros-in-Zeros-clause-step
 returns-in_ok-append_zeros-in-Zeros-clause-step c = λ s keeps alive.

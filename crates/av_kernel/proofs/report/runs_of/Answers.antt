@@ -3,11 +3,10 @@ use Rattle.std.proofs.lemmas.List.{drop_more, at_drop_all}
 use Rattle.std.specs.Prelude.{map}
 use Rattle.av_vma.specs.declared.area.Area.{Area}
 use Rattle.av_trace.specs.declared.row.Row.{Row}
-use Rattle.av_plain.proofs.Report.Runs.{all_joined}
 use Rattle.av_spaces.specs.Spaces.{AreRising}
 use Rattle.av_reclaim.specs.Mem.{range_of}
 use Rattle.av_kernel.specs.Report.{AreRuns}
-use Rattle.av_kernel.proofs.ReportRuns.{same_prot, own_first, own_rest, rising_rest, IsLeft, left-first, left-grown, left-begun, left-last, rising-runs}
+use Rattle.av_kernel.proofs.ReportRuns.{all_rows, own_first, own_rest, rising_rest, IsLeft, left-first, left-grown, left-begun, left-last, rising-runs}
 use Rattle.av_kernel.proofs.report.runs_of.Goals.{then-goes_on, else-goes_on+in_ok-push}
 use Rattle.av_kernel.proofs.report.runs_of.Goals as goal
 
@@ -20,8 +19,8 @@ loop-next-init c =
     let rest = c.in-Some.rest.now in
     let whole = c.in-Some.ensures.cases.0 in
     let rising = subst (AreRising c.requires.0) whole c.requires.1 in
-    subst (λ (rows : List Row). IsLeft rows first rest (all_joined same_prot (map range_of c.args.areas.now))) (sym c.new-rows.ensures)
-    (subst (λ (areas : List Area). IsLeft [] first rest (all_joined same_prot (map range_of areas))) (sym whole) (left-first c.requires.0 first rest rising))
+    subst (λ (rows : List Row). IsLeft rows first rest (all_rows (map range_of c.args.areas.now))) (sym c.new-rows.ensures)
+    (subst (λ (areas : List Area). IsLeft [] first rest (all_rows (map range_of areas))) (sym whole) (left-first c.requires.0 first rest rising))
 
 pub loop-next-preserved : goal.loop-next-preserved
 loop-next-preserved c =
@@ -30,7 +29,7 @@ loop-next-preserved c =
     let rest = c.in-Some.rest.now in
     let a = slice_index_or rest i none in
     let later = drop (i + 1) rest in
-    let all = all_joined same_prot (map range_of c.args.areas.now) in
+    let all = all_rows (map range_of c.args.areas.now) in
     let more = drop_more rest i none c.loop-next-test.true in
     let rising = subst (AreRising p) more (rising_rest p i rest (own_rest p c.in-Some.first.now rest (subst (AreRising p) c.in-Some.ensures.cases.0 c.requires.1))) in
     let whole = (own_first p a later rising).whole in
@@ -47,7 +46,7 @@ loop-next-preserved c =
 
 pub returns : goal.returns
 returns c =
-    let all = all_joined same_prot (map range_of c.args.areas.now) in
+    let all = all_rows (map range_of c.args.areas.now) in
     let left = subst (λ (areas : List Area). IsLeft c.loop-next.rows c.loop-next.run areas all) (at_drop_all (λ (areas : List Area). areas) c.in-Some.rest.now c.loop-next.next-index c.loop-next-test.false) c.loop-next.invariant in
     subst (AreRuns (map range_of c.args.areas.now))
     (sym (left-last c.loop-next.run c.loop-next.rows c.push-2.new.self all (c.in_ok-push-2.ensures.ok ∙ ap (λ row. c.loop-next.rows ++ row ∷ []) c.row_of-2.ensures) left))

@@ -18,7 +18,7 @@ loop-page-preserved c =
     record {
       orderly = let o = i.orderly in let step = c.in-Some.ensures.zapped o.0 o.1 in (_, step.4);
       taking = λ first stands. let t = i.taking first stands in
-          taken_more c.args.mem.now mid new c.args.process c.args.from c.args.past c.loop-page.next page first t (c.in-Some.ensures.zapped t.ledger t.stands) c.in-Some.ensures.within.1;
+          taken_more c.args.mem.now mid new c.args.process c.args.from c.args.past c.loop-page.next page first t (c.in-Some.ensures.zapped t.ledger t.stands) c.in-Some.ensures.within.1 c.in-Some.ensures.rest.count;
       rest = rest_rest i.rest c.in-Some.ensures.rest;
     }
 
