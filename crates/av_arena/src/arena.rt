@@ -34,6 +34,7 @@ impl<T: Copy + Drop, S: Copy + Drop> Arena<T, S> {
     }
 
     /// The node with a number that is in use.
+    #[inline]
     pub fn get(&self, number: u64) -> Stored<T, S>
         requires { IsSome (stored self.now number) }
         ensures { stored self.now number ≡ Some result }
@@ -43,6 +44,7 @@ impl<T: Copy + Drop, S: Copy + Drop> Arena<T, S> {
     }
 
     /// Puts a node in place of the one with this number, which is in use.
+    #[inline]
     pub fn set(&mut self, number: u64, node: Stored<T, S>)
         requires { IsSome (stored self.old number) }
         ensures { stored self.new ≡ with_at number (Some node) (stored self.old) }
