@@ -1,8 +1,8 @@
 ghost use Rattle.std.specs.Prelude.{◌≡◌, ℕ, Some, None, IfOk, OnErr, IsSome};
-ghost use Rattle.av_arena.specs.Arena.{stored};
+ghost use Rattle.av_arena.specs.Arena.{left_put, right_put, stored};
 ghost use Rattle.av_base.specs.Words.{with_at};
 
-use crate::link::Stored;
+use crate::link::{Link, Stored};
 use slab::Slab;
 use std::alloc::{AllocError, Global};
 
@@ -50,6 +50,26 @@ impl<T: Copy + Drop, S: Copy + Drop> Arena<T, S> {
         ensures { stored self.new ≡ with_at number (Some node) (stored self.old) }
     {
         self.slab[number as usize] = node;
+    }
+
+    /// Puts another left side into the node with this number, which is in use.
+    #[inline]
+    pub fn set_left(&mut self, number: u64, left: Option<Link<S>>)
+        requires { IsSome (stored self.old number) }
+        ensures { stored self.new ≡ with_at number (left_put left (stored self.old number)) (stored self.old) }
+    {
+        let node = &mut self.slab[number as usize];
+        node.left = left;
+    }
+
+    /// Puts another right side into the node with this number, which is in use.
+    #[inline]
+    pub fn set_right(&mut self, number: u64, right: Option<Link<S>>)
+        requires { IsSome (stored self.old number) }
+        ensures { stored self.new ≡ with_at number (right_put right (stored self.old number)) (stored self.old) }
+    {
+        let node = &mut self.slab[number as usize];
+        node.right = right;
     }
 
     /// Takes out the node with this number, which is in use until now.

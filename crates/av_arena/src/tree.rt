@@ -153,7 +153,7 @@ fn lean_right<T: Entry>(
 }
 
 /// A node, whose sides differ by two levels at most, is put above them.
-#[inline]
+#[inline(never)]
 fn balance<T: Entry>(
     arena: &mut Arena<T, T::Sum>,
     number: u64,
@@ -197,8 +197,11 @@ fn is_same<T: Entry>(left: Option<Link<T::Sum>>, right: Option<Link<T::Sum>>) ->
 }
 
 /// The node of `tree` above another left side than its own. Where that is the same nothing is
-/// written.
-#[inline]
+/// written, and where it is as high only that side and the summary are.
+///
+/// The node is read again, since to keep its parts over a call below costs more than that: what it
+/// has is told here for the contract alone.
+#[inline(always)]
 fn with_left<T: Entry>(
     arena: &mut Arena<T, T::Sum>,
     tree: Link<T::Sum>,
@@ -215,15 +218,29 @@ fn with_left<T: Entry>(
         tree.number left entry right result }
     ensures height { IsHeightAfter (height_of left) (height_of right) result.height }
 {
-    if is_same::<T>(own, left) {
+    let node = arena.get(tree.number);
+    let Stored {
+        left: before,
+        entry: middle,
+        right: after,
+    } = node;
+    if is_same::<T>(before, left) {
         return tree;
     }
-    balance(arena, tree.number, left, entry, right)
+    if height(before) != height(left) {
+        return balance(arena, tree.number, left, middle, after);
+    }
+    let total = T::joined(sum::<T>(left), &middle, sum::<T>(after));
+    arena.set_left(tree.number, left);
+    Link {
+        number: tree.number,
+        height: tree.height,
+        sum: total,
+    }
 }
 
-/// The node of `tree` above another right side than its own. Where that is the same nothing is
-/// written.
-#[inline]
+/// The node of `tree` above another right side than its own, as `with_left`.
+#[inline(always)]
 fn with_right<T: Entry>(
     arena: &mut Arena<T, T::Sum>,
     tree: Link<T::Sum>,
@@ -240,10 +257,25 @@ fn with_right<T: Entry>(
         tree.number left entry right result }
     ensures height { IsHeightAfter (height_of left) (height_of right) result.height }
 {
-    if is_same::<T>(own, right) {
+    let node = arena.get(tree.number);
+    let Stored {
+        left: before,
+        entry: middle,
+        right: after,
+    } = node;
+    if is_same::<T>(after, right) {
         return tree;
     }
-    balance(arena, tree.number, left, entry, right)
+    if height(after) != height(right) {
+        return balance(arena, tree.number, before, middle, right);
+    }
+    let total = T::joined(sum::<T>(before), &middle, sum::<T>(right));
+    arena.set_right(tree.number, right);
+    Link {
+        number: tree.number,
+        height: tree.height,
+        sum: total,
+    }
 }
 
 /// The tree with the node `number`, which is in use and not in it, for the entry.
