@@ -3,6 +3,7 @@
 use Rattle.std.proofs.Common.{append_assoc, append-nil, ◌≡◌, ℕ, zero, suc, ◌+◌, ◌<◌, ◌≤◌, max, ◌⊎◌, inl, inr, Bool, true, false, cond, eqb, IsSome, Option, Some, None, List, [], ◌∷◌, ◌++◌, refl, sym, ap, ◌∙◌, subst, arith}
 use Rattle.std.proofs.Math.Path.{fun_ext}
 use Rattle.std.proofs.lemmas.Bool.{cases_lt, eqb-true, eq-eqb, ne_eqb}
+use Rattle.av_arena.specs.Arena.{left_put, right_put}
 use Rattle.av_arena.specs.Tree.{DifferByAtMost, Tree, Leaf, Fork, entries, height, is, count, IsLevel, link_of, Store, height_of, sum_of, tree_or_leaf, levels, tree_at, IsStored, IsHeld, IsOpened, IsSet, IsSpot, IsTree, IsJoined, IsPlaceFor, IsPlaced, HasKey, IsReplaced, IsRoot, IsWithout, IsPopped, none}
 use Rattle.av_base.specs.Words.{with_at}
 use Rattle.av_arena.specs.Monoid.{MonoidLaws, total}
@@ -184,6 +185,24 @@ module _ {T S : Type 0} (key : T → ℕ) (unit : S) (op : S → S → S) (of : 
         ]);
         link = root.told;
       }) root.level
+
+  -- the node that is read is the one that is told
+  pub node_is : (s : Store T S) (k : Link S) (l : Option (Link S)) (x : T) (r : Option (Link S)) (v : Stored T S) → IsRoot key unit op of s k l x r → s k.number ≡ Some v → v ≡ record { left = l; entry = x; right = r }
+  node_is s k l x r v root e = let d : Some v ≡ Some (record { left = l; entry = x; right = r }) = sym e ∙ root.stored in cc
+
+  pub root_height : (s : Store T S) (k : Link S) (l : Option (Link S)) (x : T) (r : Option (Link S)) → IsRoot key unit op of s k l x r → k.height ≡ max (height_of l) (height_of r) + 1
+  root_height s k l x r root = ap (λ (m : Link S). m.height) root.told
+
+  -- a side as high as the one before is put in its place
+  pub left_set : (s s' : Store T S) (k : Link S) (own left : Option (Link S)) (x : T) (right : Option (Link S)) (sum : S) → IsRoot key unit op of s k own x right → IsSpot key unit op of s k.number left right → s' ≡ with_at k.number (left_put left (s k.number)) s → height_of own ≡ height_of left → sum ≡ op (sum_of unit left) (op (of x) (sum_of unit right)) → IsJoined key unit op of s s' k.number left x right (record { number = k.number; height = k.height; sum = sum })
+  left_set s s' k own left x right sum root spot e h p =
+      let high : k.height ≡ max (height_of left) (height_of right) + 1 = rw h at (root_height s k own x right root) in
+      joined_once s s' k.number left x right _ spot (record { store = e ∙ ap (λ o. with_at k.number (left_put left o) s) root.stored; link = rw (high, p) refl }) (rw h at root.level)
+
+  pub right_set : (s s' : Store T S) (k : Link S) (left : Option (Link S)) (x : T) (own right : Option (Link S)) (sum : S) → IsRoot key unit op of s k left x own → IsSpot key unit op of s k.number left right → s' ≡ with_at k.number (right_put right (s k.number)) s → height_of own ≡ height_of right → sum ≡ op (sum_of unit left) (op (of x) (sum_of unit right)) → IsJoined key unit op of s s' k.number left x right (record { number = k.number; height = k.height; sum = sum })
+  right_set s s' k left x own right sum root spot e h p =
+      let high : k.height ≡ max (height_of left) (height_of right) + 1 = rw h at (root_height s k left x own root) in
+      joined_once s s' k.number left x right _ spot (record { store = e ∙ ap (λ o. with_at k.number (right_put right o) s) root.stored; link = rw (high, p) refl }) (rw h at root.level)
 
   -- a node stands where one of its sides has changed
   pub root_kept : (s s' : Store T S) (k : Link S) (l : Option (Link S)) (x : T) (r new : Option (Link S)) (xs : List T) (f g : ℕ → ℕ) → IsRoot key unit op of s k l x r → IsTree key unit op of s s' new xs f g → f k.number ≡ 0 → IsRoot key unit op of s' k l x r

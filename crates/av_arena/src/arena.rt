@@ -1,8 +1,8 @@
 ghost use Rattle.std.specs.Prelude.{◌≡◌, ℕ, Some, None, IfOk, OnErr, IsSome};
-ghost use Rattle.av_arena.specs.Arena.{stored};
+ghost use Rattle.av_arena.specs.Arena.{left_put, right_put, stored};
 ghost use Rattle.av_base.specs.Words.{with_at};
 
-use crate::link::Stored;
+use crate::link::{Link, Stored};
 use slab::Slab;
 use std::alloc::{AllocError, Global};
 
@@ -34,6 +34,7 @@ impl<T: Copy + Drop, S: Copy + Drop> Arena<T, S> {
     }
 
     /// The node with a number that is in use.
+    #[inline]
     pub fn get(&self, number: u64) -> Stored<T, S>
         requires { IsSome (stored self.now number) }
         ensures { stored self.now number ≡ Some result }
@@ -43,11 +44,32 @@ impl<T: Copy + Drop, S: Copy + Drop> Arena<T, S> {
     }
 
     /// Puts a node in place of the one with this number, which is in use.
+    #[inline]
     pub fn set(&mut self, number: u64, node: Stored<T, S>)
         requires { IsSome (stored self.old number) }
         ensures { stored self.new ≡ with_at number (Some node) (stored self.old) }
     {
         self.slab[number as usize] = node;
+    }
+
+    /// Puts another left side into the node with this number, which is in use.
+    #[inline]
+    pub fn set_left(&mut self, number: u64, left: Option<Link<S>>)
+        requires { IsSome (stored self.old number) }
+        ensures { stored self.new ≡ with_at number (left_put left (stored self.old number)) (stored self.old) }
+    {
+        let node = &mut self.slab[number as usize];
+        node.left = left;
+    }
+
+    /// Puts another right side into the node with this number, which is in use.
+    #[inline]
+    pub fn set_right(&mut self, number: u64, right: Option<Link<S>>)
+        requires { IsSome (stored self.old number) }
+        ensures { stored self.new ≡ with_at number (right_put right (stored self.old number)) (stored self.old) }
+    {
+        let node = &mut self.slab[number as usize];
+        node.right = right;
     }
 
     /// Takes out the node with this number, which is in use until now.

@@ -62,6 +62,7 @@ impl<T: Entry> Avl<T> {
     }
 
     /// The whole tree, to be read.
+    #[inline]
     pub fn part(&self) -> Part<'_, T>
         ensures { result ≡ self.now }
     {
@@ -118,6 +119,7 @@ impl<T: Entry> Avl<T> {
 
 impl<'a, T: Entry> Part<'a, T> {
     /// The summary of all entries.
+    #[inline]
     pub fn sum(&self) -> T::Sum
         ensures { result ≡ total T.unit T.op T.of self.now }
     {
@@ -153,6 +155,7 @@ impl<'a, T: Entry> Part<'a, T> {
     }
 
     /// The entry at the root, with what lies before and after it, or none where the tree is empty.
+    #[inline]
     pub fn parts(&self) -> Option<(Part<'a, T>, T, Part<'a, T>)>
         ensures parts { MatchOption result (self.now ≡ [])
             (λ p. IsParts T.key self.now p.0 p.1 p.2) }

@@ -7,6 +7,7 @@ use crate::arena::Arena;
 use crate::entry::Entry;
 use crate::link::{Link, Stored};
 
+#[inline]
 fn height<S: Copy + Drop>(tree: Option<Link<S>>) -> u64
     ensures { result ≡ height_of tree }
 {
@@ -16,6 +17,7 @@ fn height<S: Copy + Drop>(tree: Option<Link<S>>) -> u64
     }
 }
 
+#[inline]
 pub fn sum<T: Entry>(tree: Option<Link<T::Sum>>) -> T::Sum
     ensures { result ≡ sum_of T.unit tree }
 {
@@ -26,6 +28,7 @@ pub fn sum<T: Entry>(tree: Option<Link<T::Sum>>) -> T::Sum
 }
 
 /// The node at the root of a tree.
+#[inline]
 pub fn open<T: Entry>(arena: &Arena<T, T::Sum>, tree: Link<T::Sum>) -> Stored<T, T::Sum>
     requires { IsHeld T.key T.unit T.op T.of (stored arena.now) (Some tree) }
     ensures { IsOpened T.key T.unit T.op T.of (stored arena.now) tree result }
@@ -34,6 +37,7 @@ pub fn open<T: Entry>(arena: &Arena<T, T::Sum>, tree: Link<T::Sum>) -> Stored<T,
 }
 
 /// Puts a node above its sides.
+#[inline]
 fn close<T: Entry>(
     arena: &mut Arena<T, T::Sum>,
     number: u64,
@@ -65,6 +69,8 @@ fn close<T: Entry>(
 }
 
 /// A node, whose left side is two levels too high: one rotation, or two.
+#[cold]
+#[inline(never)]
 fn lean_left<T: Entry>(
     arena: &mut Arena<T, T::Sum>,
     number: u64,
@@ -105,6 +111,8 @@ fn lean_left<T: Entry>(
 }
 
 /// A node, whose right side is two levels too high: one rotation, or two.
+#[cold]
+#[inline(never)]
 fn lean_right<T: Entry>(
     arena: &mut Arena<T, T::Sum>,
     number: u64,
@@ -145,6 +153,7 @@ fn lean_right<T: Entry>(
 }
 
 /// A node, whose sides differ by two levels at most, is put above them.
+#[inline(never)]
 fn balance<T: Entry>(
     arena: &mut Arena<T, T::Sum>,
     number: u64,
@@ -172,6 +181,7 @@ fn balance<T: Entry>(
 }
 
 /// Whether two links are the same.
+#[inline]
 fn is_same<T: Entry>(left: Option<Link<T::Sum>>, right: Option<Link<T::Sum>>) -> bool
     ensures { result ≡ true → left ≡ right }
 {
@@ -187,7 +197,11 @@ fn is_same<T: Entry>(left: Option<Link<T::Sum>>, right: Option<Link<T::Sum>>) ->
 }
 
 /// The node of `tree` above another left side than its own. Where that is the same nothing is
-/// written.
+/// written, and where it is as high only that side and the summary are.
+///
+/// The node is read again, since to keep its parts over a call below costs more than that: what it
+/// has is told here for the contract alone.
+#[inline(always)]
 fn with_left<T: Entry>(
     arena: &mut Arena<T, T::Sum>,
     tree: Link<T::Sum>,
@@ -204,14 +218,29 @@ fn with_left<T: Entry>(
         tree.number left entry right result }
     ensures height { IsHeightAfter (height_of left) (height_of right) result.height }
 {
-    if is_same::<T>(own, left) {
+    let node = arena.get(tree.number);
+    let Stored {
+        left: before,
+        entry: middle,
+        right: after,
+    } = node;
+    if is_same::<T>(before, left) {
         return tree;
     }
-    balance(arena, tree.number, left, entry, right)
+    if height(before) != height(left) {
+        return balance(arena, tree.number, left, middle, after);
+    }
+    let total = T::joined(sum::<T>(left), &middle, sum::<T>(after));
+    arena.set_left(tree.number, left);
+    Link {
+        number: tree.number,
+        height: tree.height,
+        sum: total,
+    }
 }
 
-/// The node of `tree` above another right side than its own. Where that is the same nothing is
-/// written.
+/// The node of `tree` above another right side than its own, as `with_left`.
+#[inline(always)]
 fn with_right<T: Entry>(
     arena: &mut Arena<T, T::Sum>,
     tree: Link<T::Sum>,
@@ -228,10 +257,25 @@ fn with_right<T: Entry>(
         tree.number left entry right result }
     ensures height { IsHeightAfter (height_of left) (height_of right) result.height }
 {
-    if is_same::<T>(own, right) {
+    let node = arena.get(tree.number);
+    let Stored {
+        left: before,
+        entry: middle,
+        right: after,
+    } = node;
+    if is_same::<T>(after, right) {
         return tree;
     }
-    balance(arena, tree.number, left, entry, right)
+    if height(after) != height(right) {
+        return balance(arena, tree.number, before, middle, right);
+    }
+    let total = T::joined(sum::<T>(before), &middle, sum::<T>(right));
+    arena.set_right(tree.number, right);
+    Link {
+        number: tree.number,
+        height: tree.height,
+        sum: total,
+    }
 }
 
 /// The tree with the node `number`, which is in use and not in it, for the entry.

@@ -1,13 +1,28 @@
-use Rattle.std.proofs.Common.{rules, ◌≡◌, subst}
+use Rattle.std.proofs.Common.{rules, ◌≡◌, sym, ap, ◌∙◌, subst}
 use Rattle.av_arena.specs.Arena.{stored}
-use Rattle.av_arena.specs.Tree.{IsRoot}
-use Rattle.av_arena.proofs.TreeLemmas.{joined_same}
+use Rattle.av_arena.specs.Tree.{height_of, sum_of, IsRoot}
+use Rattle.av_arena.specs.declared.link.Stored.{Stored}
+use Rattle.av_arena.proofs.TreeLemmas.{joined_same, right_set, node_is}
 use Rattle.av_arena.proofs.tree.with_right.Goals as goal
 
 pub returns-then-is_same-clause-joined : goal.returns-then-is_same-clause-joined
 returns-then-is_same-clause-joined g c =
     let m = g.T.Entry in
     let s = stored c.args.arena.now in
-    let is : c.args.own ≡ c.args.right = c.is_same.ensures (search rules) in
+    let e = node_is m.key m.unit m.op m.of g.met.T.Entry.laws s c.args.tree c.args.left c.args.entry c.args.own c.get-node.result c.requires.root c.get-node.ensures in
+    let same : c.get-node.result.right ≡ c.args.right = c.is_same.ensures (search rules) in
+    let is : c.args.own ≡ c.args.right = sym (ap (λ (w : Stored g.row.T.Denot g.row.T-Sum.Denot). w.right) e) ∙ same in
     let root : IsRoot m.key m.unit m.op m.of s c.args.tree c.args.left c.args.entry c.args.right = subst (λ k. IsRoot m.key m.unit m.op m.of s c.args.tree c.args.left c.args.entry k) is c.requires.root in
     joined_same m.key m.unit m.op m.of g.met.T.Entry.laws s c.args.tree c.args.left c.args.entry c.args.right root c.requires.spot
+
+pub returns-clause-joined : goal.returns-clause-joined
+returns-clause-joined g c =
+    let m = g.T.Entry in
+    let s = stored c.args.arena.now in
+    let v = c.get-node.result in
+    let e = node_is m.key m.unit m.op m.of g.met.T.Entry.laws s c.args.tree c.args.left c.args.entry c.args.own v c.requires.root c.get-node.ensures in
+    let high : height_of v.right ≡ height_of c.args.right = search rules in
+    let own : height_of c.args.own ≡ height_of c.args.right = sym (ap (λ (w : Stored g.row.T.Denot g.row.T-Sum.Denot). height_of w.right) e) ∙ high in
+    let sum : c.joined-total.result ≡ m.op (sum_of m.unit v.left) (m.op (m.of v.entry) (sum_of m.unit c.args.right)) = search rules in
+    let total = subst (λ (w : Stored g.row.T.Denot g.row.T-Sum.Denot). c.joined-total.result ≡ m.op (sum_of m.unit w.left) (m.op (m.of w.entry) (sum_of m.unit c.args.right))) e sum in
+    right_set m.key m.unit m.op m.of g.met.T.Entry.laws s (stored c.set_right.new.self) c.args.tree c.args.left c.args.entry c.args.own c.args.right c.joined-total.result c.requires.root c.requires.spot c.set_right.ensures own total
