@@ -1,7 +1,7 @@
 -- What is seen of the frames: a free list, and for each frame its bytes, how many entries name it, its home, the slot at which it is cached, and whether it is dirty.
 use Rattle.std.specs.Prelude.{◌≡◌, ℕ, ◌+◌, ◌-◌, ◌^◌, ◌<◌, ◌≤◌, Bool, true, false, ◌==◌, if◌then◌else◌, List, [], length, slice_index, slice_index_or, Option, None}
 use Rattle.av_base.specs.declared.slot.Slot.{Slot}
-use Rattle.av_base.specs.Words.{is_in, how_many, within, numbers}
+use Rattle.av_base.specs.Words.{how_many, within, numbers}
 
 -- the value of `Frames`: a value has to be data, so each is a list by frame
 pub record Store : Type 0 where

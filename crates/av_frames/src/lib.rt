@@ -1,25 +1,28 @@
 //! The frames of physical memory: which are free, their bytes, and what is kept of each (Linux's `struct page`).
 #![tactic(auto)]
 
+mod pages;
 #[cfg(test)]
 mod tests;
 
 ghost use Rattle.std.specs.Prelude.{◌≡◌, ℕ, ◌+◌, ◌<◌, ◌≤◌, ◌^◌, ◌-◌, ◌∷◌, ◌==◌, [], length, slice_index, MatchOption, IfOk, true, false, replicate, not};
 ghost use Rattle.av_frames.specs.Store.{seen, fresh, overlaid};
+ghost use Rattle.av_base.specs.Page.{page_size};
 ghost use Rattle.av_base.specs.Words.{is_in, how_many, numbers, with_at};
 ghost use Rattle.std.specs.VecDeque.{deque_len, deque_capacity};
 
+use crate::pages::{Pages, SIZE};
 use av_base::Slot;
 use std::alloc::{AllocError, Global};
 use std::collections::VecDeque;
 use std::marker::Model;
 
-/// A fixed number of frames of 4096 bytes, numbered from 0. Only `new` takes memory.
+/// A fixed number of frames of a page each, numbered from 0. Only `new` takes memory.
 #[derive(Drop)]
 pub struct Frames {
     // The first is taken next. There is room for every frame, so that giving one back takes no memory.
     free: VecDeque<u32>,
-    bytes: Vec<[u8; 4096]>,
+    bytes: Pages,
     // Whether each frame is out of `free`, so that no one has to search it.
     used: Vec<bool>,
     maps: Vec<u64>,
@@ -35,9 +38,9 @@ impl Model for Frames {
 
     ghost Value = { Store };
 
-    ghost view = { λ a. record { free = a.free.items; bytes = a.bytes.items; maps = a.maps.items; homes = a.homes.items; dirty = a.dirty.items; slots = a.slots.items } };
+    ghost view = { λ a. record { free = a.free.items; bytes = a.bytes; maps = a.maps.items; homes = a.homes.items; dirty = a.dirty.items; slots = a.slots.items } };
 
-    ghost invariant = { λ a. IsWhole a.free.items (deque_len a.free) (deque_capacity a.free) a.bytes.items a.used.items a.maps.items a.homes.items a.dirty.items a.slots.items };
+    ghost invariant = { λ a. IsWhole a.free.items (deque_len a.free) (deque_capacity a.free) a.bytes a.used.items a.maps.items a.homes.items a.dirty.items a.slots.items };
 }
 
 impl Frames {
@@ -48,7 +51,7 @@ impl Frames {
         let len = count as usize;
         Ok(Frames {
             free: all_numbers(alloc, count)?,
-            bytes: filled(alloc, blank(), len)?,
+            bytes: Pages::new(alloc, len)?,
             used: filled(alloc, false, len)?,
             maps: filled(alloc, 0, len)?,
             homes: filled(alloc, None, len)?,
@@ -82,7 +85,7 @@ impl Frames {
     pub fn count(&self) -> u32
         ensures { result ≡ length self.now.bytes }
     {
-        self.bytes.len() as u32
+        self.bytes.count() as u32
     }
 
     /// How many entries name the frame.
@@ -178,22 +181,22 @@ impl Frames {
         !self.used[frame as usize]
     }
 
-    /// The 4096 bytes of a frame.
+    /// The bytes of a frame.
     pub fn bytes(&self, frame: u32) -> &[u8]
         requires { frame < (seen self.now).count }
-        ensures long { length result.now ≡ 4096 }
+        ensures long { length result.now ≡ page_size }
         ensures bytes { (i : ℕ) → slice_index result.now i ≡ (seen self.now).bytes frame i }
     {
-        &self.bytes[frame as usize]
+        self.bytes.get(frame as usize)
     }
 
     /// Writes a piece over a frame's bytes from `at` on.
     pub fn write_at(&mut self, frame: u32, at: usize, piece: &[u8])
         requires in_range { frame < (seen self.old).count }
-        requires fits { at + length piece.now ≤ 4096 }
+        requires fits { at + length piece.now ≤ page_size }
         ensures { seen self.new ≡ record (seen self.old) { bytes = with_at frame (overlaid at piece.now ((seen self.old).bytes frame)) (seen self.old).bytes } }
     {
-        overlay(&mut self.bytes[frame as usize], at, piece);
+        self.bytes.write_at(frame as usize, at, piece);
     }
 
     /// Copies the bytes of one frame to another.
@@ -201,7 +204,7 @@ impl Frames {
         requires { (from < (seen self.old).count) × (to < (seen self.old).count) }
         ensures { seen self.new ≡ record (seen self.old) { bytes = with_at to ((seen self.old).bytes from) (seen self.old).bytes } }
     {
-        self.bytes[to as usize] = self.bytes[from as usize];
+        self.bytes.put(to as usize, *self.bytes.get(from as usize));
     }
 
     /// Makes each byte of a frame zero.
@@ -209,41 +212,27 @@ impl Frames {
         requires { frame < (seen self.old).count }
         ensures { seen self.new ≡ record (seen self.old) { bytes = with_at frame (λ i. 0) (seen self.old).bytes } }
     {
-        self.bytes[frame as usize] = blank();
+        self.bytes.put(frame as usize, [0; SIZE]);
     }
 
     /// Makes a frame's bytes those of a page, as it was read from a device.
     pub fn load(&mut self, frame: u32, page: &[u8])
         requires in_range { frame < (seen self.old).count }
-        requires long { length page.now ≡ 4096 }
+        requires long { length page.now ≡ page_size }
         ensures { seen self.new ≡ record (seen self.old) { bytes = with_at frame (slice_index page.now) (seen self.old).bytes } }
     {
-        replace(&mut self.bytes[frame as usize], page);
+        self.bytes.put(frame as usize, page_of(page));
     }
 }
 
-/// A page of zeros.
-fn blank() -> [u8; 4096]
-    ensures { result ≡ replicate 4096 0 }
+/// The same bytes as a page.
+fn page_of(bytes: &[u8]) -> [u8; SIZE]
+    requires { length bytes.now ≡ page_size }
+    ensures { result ≡ bytes.now }
 {
-    [0; 4096]
-}
-
-/// Writes a piece over a page from `at` on.
-fn overlay(page: &mut [u8; 4096], at: usize, piece: &[u8])
-    requires { at + length piece.now ≤ 4096 }
-    ensures over { (i : ℕ) → slice_index page.new i ≡ overlaid at piece.now (slice_index page.old) i }
-    ensures long { length page.new ≡ 4096 }
-{
-    page[at..at + piece.len()].copy_from_slice(piece);
-}
-
-/// Makes a page the given bytes.
-fn replace(page: &mut [u8; 4096], bytes: &[u8])
-    requires { length bytes.now ≡ 4096 }
-    ensures { page.new ≡ bytes.now }
-{
+    let mut page = [0; SIZE];
     page.copy_from_slice(bytes);
+    page
 }
 
 /// The same value, this many times.

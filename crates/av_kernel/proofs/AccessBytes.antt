@@ -1,15 +1,16 @@
 -- The bytes of an access piece by piece are those of the whole.
-use Rattle.std.proofs.Common.{◌≡◌, ℕ, ◌+◌, suc, Bool, true, cond, List, [], ◌∷◌, ◌++◌, length, Option, Some, None, refl, sym, ap, subst, ◌∙◌, arith}
+use Rattle.std.proofs.Common.{◌≡◌, ℕ, ◌+◌, ◌^◌, ◌<◌, suc, Bool, true, cond, List, [], ◌∷◌, ◌++◌, length, Option, Some, None, refl, sym, ap, subst, ◌∙◌, arith}
+use Rattle.std.specs.List.{AllByRecursion}
 use Rattle.std.specs.Ordering.{nat_cmp, is_eq, eq_by_cmp}
 use Rattle.std.specs.declared.cmp.Ordering.TheVariants.{Less, Equal, Greater}
 use Rattle.std.specs.Cmp.{nat_cmp_total, tied_itself}
 use Rattle.std.specs.FinMap.Entries.{put, by_order}
 use Rattle.std.proofs.lemmas.List.{append-nil, length-append}
-use Rattle.av_plain.specs.World.{World, Process, Page, pages, lives, set_process, written, Shows}
+use Rattle.av_plain.specs.World.{World, Process, Page, pages, lives, set_process, with_bytes, Shows}
 use Rattle.av_plain.specs.Fault.{is_allowed, permits}
-use Rattle.av_plain.specs.Step.{stored, Reads}
-use Rattle.av_plain.proofs.WorldLaws.{lives-set, pages-set}
-use Rattle.av_plain.proofs.TwoWrites.{written_twice}
+use Rattle.av_plain.specs.Access.{after_write, Reads}
+use Rattle.av_plain.proofs.World.{lives-set, pages-set}
+use Rattle.av_plain.proofs.World.TwoWrites.{with_bytes_twice}
 
 -- ---- shown
 
@@ -17,11 +18,17 @@ pub shows-append : (q : Process) (a : ℕ) (xs ys : List ℕ) → Shows q a xs �
 shows-append q a [] ys h g = subst (λ b. Shows q b ys) (let same : a + 0 ≡ a = omega arith in same) g
 shows-append q a (x ∷ xs) ys h g = (h.0, shows-append q (a + 1) xs ys h.1 (subst (λ b. Shows q b ys) (let same : a + suc (length xs) ≡ (a + 1) + length xs = omega arith in same) g))
 
+-- and each of them is a byte
+all-append : (xs ys : List ℕ) → AllByRecursion (λ b. b < 2 ^ 8) xs → AllByRecursion (λ b. b < 2 ^ 8) ys → AllByRecursion (λ b. b < 2 ^ 8) (xs ++ ys)
+all-append [] ys h g = g
+all-append (x ∷ xs) ys h g = (h.0, all-append xs ys h.1 g)
+
 -- a read shows a piece more
-pub reads-more : (q : Process) (a k m at : ℕ) (shown now piece : List ℕ) → at ≡ a + k → now ≡ shown ++ piece → length piece ≡ m → Shows q at piece → Reads q a k shown → Reads q a (k + m) now
-reads-more q a k m at shown now piece begins is long h g = (
+pub reads-more : (q : Process) (a k m at : ℕ) (shown now piece : List ℕ) → at ≡ a + k → now ≡ shown ++ piece → length piece ≡ m → Shows q at piece → AllByRecursion (λ b. b < 2 ^ 8) piece → Reads q a k shown → Reads q a (k + m) now
+reads-more q a k m at shown now piece begins is long h below g = (
   ap length is ∙ length-append shown piece ∙ (λ i. g.0 i + long i),
   subst (Shows q a) (sym is) (shows-append q a shown piece g.1 (subst (λ b. Shows q b piece) (begins ∙ ap (λ n. a + n) (sym g.0)) h)),
+  subst (AllByRecursion (λ b. b < 2 ^ 8)) (sym is) (all-append shown piece g.2 below),
 )
 
 -- ---- stored
@@ -42,23 +49,23 @@ itself p = ap is_eq (tied_itself nat_cmp_total p)
 pub pages-given : (w : World) (p : ℕ) (m : Process) → pages (set_process w p m) p ≡ m
 pages-given w p m = λ i page. (pages-set w p m p page ∙ ap (λ b. cond b (m page) (pages w p page)) (itself p)) i
 
-pub stored_twice : (w : World) (p a : ℕ) (xs ys : List ℕ) → stored (stored w p a xs) p (a + length xs) ys ≡ stored w p a (xs ++ ys)
-stored_twice w p a [] ys = ap (λ b. stored w p b ys) (let same : a + 0 ≡ a = omega arith in same)
-stored_twice w p a (x ∷ xs) [] = ap (λ zs. stored w p a (x ∷ zs)) (sym (append-nil xs))
+pub stored_twice : (w : World) (p a : ℕ) (xs ys : List ℕ) → after_write (after_write w p a xs) p (a + length xs) ys ≡ after_write w p a (xs ++ ys)
+stored_twice w p a [] ys = ap (λ b. after_write w p b ys) (let same : a + 0 ≡ a = omega arith in same)
+stored_twice w p a (x ∷ xs) [] = ap (λ zs. after_write w p a (x ∷ zs)) (sym (append-nil xs))
 stored_twice w p a (x ∷ xs) (y ∷ ys) =
-    ap (λ (m : Process). set_process (stored w p a (x ∷ xs)) p (written m (a + length (x ∷ xs)) (y ∷ ys))) (pages-given w p (written (pages w p) a (x ∷ xs)))
+    ap (λ (m : Process). set_process (after_write w p a (x ∷ xs)) p (with_bytes m (a + length (x ∷ xs)) (y ∷ ys))) (pages-given w p (with_bytes (pages w p) a (x ∷ xs)))
     ∙ put_twice p _ _ w
-    ∙ ap (set_process w p) (written_twice (pages w p) a (x ∷ xs) (y ∷ ys))
+    ∙ ap (set_process w p) (with_bytes_twice (pages w p) a (x ∷ xs) (y ∷ ys))
 
-pub lives-stored : (w : World) (p a : ℕ) (bytes : List ℕ) → lives w p ≡ true → lives (stored w p a bytes) p ≡ true
+pub lives-stored : (w : World) (p a : ℕ) (bytes : List ℕ) → lives w p ≡ true → lives (after_write w p a bytes) p ≡ true
 lives-stored w p a [] h = h
 lives-stored w p a (b ∷ bytes) h = lives-set w p _ p ∙ ap (λ t. cond t true (lives w p)) (itself p)
 
 -- what is written leaves the protections
-pub allowed-stored : (w : World) (write : Bool) (p a : ℕ) (bytes : List ℕ) (page : ℕ) → is_allowed w write (p, page) ≡ is_allowed (stored w p a bytes) write (p, page)
+pub allowed-stored : (w : World) (write : Bool) (p a : ℕ) (bytes : List ℕ) (page : ℕ) → is_allowed w write (p, page) ≡ is_allowed (after_write w p a bytes) write (p, page)
 allowed-stored w write p a [] page = refl
-allowed-stored w write p a (b ∷ bytes) page = same (pages w p page) ∙ ap (permits write) (sym (λ i. pages-given w p (written (pages w p) a (b ∷ bytes)) i page))
+allowed-stored w write p a (b ∷ bytes) page = same (pages w p page) ∙ ap (permits write) (sym (λ i. pages-given w p (with_bytes (pages w p) a (b ∷ bytes)) i page))
   where
-    same : (o : Option Page) → permits write o ≡ permits write (written (λ _. o) a (b ∷ bytes) page)
+    same : (o : Option Page) → permits write o ≡ permits write (with_bytes (λ _. o) a (b ∷ bytes) page)
     same None = refl
     same (Some q) = refl

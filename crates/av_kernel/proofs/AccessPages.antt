@@ -1,8 +1,9 @@
 -- Which pages an access touches: those of its first bytes, and then those of the rest.
-use Rattle.std.proofs.Common.{◌≡◌, ℕ, ◌+◌, ◌-◌, ◌*◌, ◌/◌, ◌%◌, ◌<◌, ◌≤◌, ◌==◌, suc, zero, false, cond, [], ◌∷◌, ◌++◌, sym, ap, subst, ◌∙◌, arith}
+use Rattle.std.proofs.Common.{◌≡◌, ℕ, ◌+◌, ◌-◌, ◌*◌, ◌/◌, ◌%◌, ◌<◌, ◌≤◌, ◌==◌, suc, zero, Bool, false, cond, [], ◌∷◌, ◌++◌, map, sym, ap, subst, ◌∙◌, arith}
 use Rattle.std.proofs.lemmas.Bool.Decides.{nat_tests}
+use Rattle.std.proofs.lemmas.List.{map-append}
 use Rattle.av_base.specs.Words.{numbers}
-use Rattle.av_plain.specs.Fault.{touched}
+use Rattle.av_plain.specs.Access.{pages_of_access}
 
 pub numbers-append : (a c d : ℕ) → numbers a (c + d) ≡ numbers a c ++ numbers (a + c) d
 numbers-append a zero d = (λ i. numbers a (none d i)) ∙ ap (λ b. numbers b d) (let same : a ≡ a + 0 = omega arith in same)
@@ -43,15 +44,21 @@ some_more a (suc k) m page at is small some begins =
     let all = touches-some a (suc k + m) (omega arith) in
     omega (arith, is, small, some, none, first, all)
 
-pub touched-one : (a k m page at : ℕ) → 4096 * page + at ≡ a + k → at + m ≤ 4096 → 1 ≤ m → (1 ≤ k → at ≡ 0) → touched a (k + m) ≡ touched a k ++ page ∷ []
-touched-one a k m page at is small some begins =
-    ap (numbers (a / 4096)) (one_more a k m page at is small some begins) ∙ numbers-append (a / 4096) (touches a k) 1
-    ∙ ap (λ b. touched a k ++ b ∷ []) (sym (pages_before a k page at is (omega (arith, small, some)) begins))
+-- the pages of an access are the numbers of its pages, each read or each written
+pub touched-one : (write : Bool) (a k m page at : ℕ) → 4096 * page + at ≡ a + k → at + m ≤ 4096 → 1 ≤ m → (1 ≤ k → at ≡ 0)
+    → pages_of_access write a (k + m) ≡ pages_of_access write a k ++ (write, page) ∷ []
+touched-one write a k m page at is small some begins =
+    ap (map (λ page. (write, page)))
+        (ap (numbers (a / 4096)) (one_more a k m page at is small some begins) ∙ numbers-append (a / 4096) (touches a k) 1
+        ∙ ap (λ b. numbers (a / 4096) (touches a k) ++ b ∷ []) (sym (pages_before a k page at is (omega (arith, small, some)) begins)))
+    ∙ map-append (λ page. (write, page)) (numbers (a / 4096) (touches a k)) (page ∷ [])
 
-pub touched-more : (a k n page at : ℕ) → 4096 * page + at ≡ a + k → at < 4096 → k < n → (1 ≤ k → at ≡ 0)
-    → touched a n ≡ touched a k ++ page ∷ numbers (page + 1) (touches a n - (touches a k + 1))
-touched-more a k n page at is small less begins =
+pub touched-more : (write : Bool) (a k n page at : ℕ) → 4096 * page + at ≡ a + k → at < 4096 → k < n → (1 ≤ k → at ≡ 0)
+    → pages_of_access write a n ≡ pages_of_access write a k ++ (write, page) ∷ map (λ page. (write, page)) (numbers (page + 1) (touches a n - (touches a k + 1)))
+touched-more write a k n page at is small less begins =
     let at_least : touches a k + 1 ≤ touches a n = subst (λ x. touches a k + 1 ≤ touches a x) (let same : k + (n - k) ≡ n = omega (arith, less) in same) (some_more a k (n - k) page at is small (omega (arith, less)) begins) in
     let split : touches a n ≡ touches a k + suc (touches a n - (touches a k + 1)) = omega (arith, at_least) in
-    ap (numbers (a / 4096)) split ∙ numbers-append (a / 4096) (touches a k) (suc (touches a n - (touches a k + 1)))
-    ∙ ap (λ b. touched a k ++ b ∷ numbers (b + 1) (touches a n - (touches a k + 1))) (sym (pages_before a k page at is small begins))
+    ap (map (λ page. (write, page)))
+        (ap (numbers (a / 4096)) split ∙ numbers-append (a / 4096) (touches a k) (suc (touches a n - (touches a k + 1)))
+        ∙ ap (λ b. numbers (a / 4096) (touches a k) ++ b ∷ numbers (b + 1) (touches a n - (touches a k + 1))) (sym (pages_before a k page at is small begins)))
+    ∙ map-append (λ page. (write, page)) (numbers (a / 4096) (touches a k)) (page ∷ numbers (page + 1) (touches a n - (touches a k + 1)))

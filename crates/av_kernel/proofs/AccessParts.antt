@@ -1,31 +1,32 @@
 -- An access goes on by one page, or stops at it.
-use Rattle.std.proofs.Common.{◌≡◌, ℕ, ◌+◌, ◌-◌, ◌*◌, ◌%◌, ◌<◌, ◌≤◌, Bool, true, false, List, [], ◌∷◌, ◌++◌, length, Option, Some, None, zero, suc, refl, sym, ap, subst, ◌∙◌, arith}
+use Rattle.std.proofs.Common.{◌≡◌, ℕ, ◌+◌, ◌-◌, ◌*◌, ◌%◌, ◌<◌, ◌≤◌, Bool, true, false, List, [], ◌∷◌, ◌++◌, map, length, Option, Some, None, inl, inr, zero, suc, refl, sym, ap, subst, ◌∙◌, arith}
 use Rattle.std.proofs.lemmas.List.{append-nil, append_assoc}
-use Rattle.av_trace.specs.declared.reply.Note.{Note}
+use Rattle.av_trace.specs.declared.note.Note.{Note}
 use Rattle.av_base.specs.Words.{numbers}
 use Rattle.av_plain.specs.World.{World, lives, pages}
 use Rattle.av_plain.specs.Ledger.{Ledger, Setting}
-use Rattle.av_plain.specs.Event.{Event, Used, after_all, notes_of}
-use Rattle.av_plain.specs.Fault.{Accesses, End, Whole, Stopped, How, Served, Denied, Starved, Lost, Touches, happening, noting, is_allowed, touched}
-use Rattle.av_plain.specs.Step.{stored, Reads}
+use Rattle.av_plain.specs.Event.{Event, Used, after_all, notes_of, note_events}
+use Rattle.av_plain.specs.Access.{Accesses, End, Whole, Stopped, page_events, pages_of_access, after_write, Reads}
+use Rattle.av_plain.specs.Fault as faults
+use Rattle.av_plain.specs.Fault.{Touches, is_allowed}
 use Rattle.av_plain.specs.Choice.{ChoosesAll}
 use Rattle.av_plain.specs.Transcript.{State}
-use Rattle.av_plain.proofs.AccessLaws.{after_all-append, notes_of-append, notes_of-noting, chooses-append, accesses-append, alike-all}
-use Rattle.av_kernel.specs.declared.mem.Mem.{Mem}
-use Rattle.av_kernel.specs.declared.touched.Stop.{Stop}
-use Rattle.av_kernel.specs.declared.touched.Stop.TheVariants.{Segv, Oom}
-use Rattle.av_kernel.specs.View.{setting, count}
-use Rattle.av_kernel.specs.Page.{IsPageStep, ShowsPiece, how_stopped, world_after}
-use Rattle.av_kernel.specs.declared.access.Piece.{Piece}
+use Rattle.av_plain.proofs.Access.{after_all-append, notes_of-append, notes_of-note_events, chooses-append, accesses-append, alike-by-allowed}
+use Rattle.av_reclaim.specs.declared.mem.Mem.{Mem}
+use Rattle.av_fault.specs.declared.fault.Stop.{Stop}
+use Rattle.av_reclaim.specs.Mem.{setting, count}
+use Rattle.av_kernel.specs.Page.{IsPageStep, ShowsPiece, world_after}
 use Rattle.av_kernel.specs.Access.{IsAccess, IsPiece, world_served}
+use Rattle.av_fault.specs.Fault.{stop_of}
+use Rattle.av_kernel.specs.declared.access.Piece.{Piece}
 use Rattle.av_kernel.proofs.AccessPages.{touches, touched-one, touched-more}
 use Rattle.av_kernel.proofs.AccessBytes.{reads-more, stored_twice, allowed-stored, lives-stored}
 
 -- ---- the memories after a part of an access
 
-pub allowed-served : (w : World) (write : Bool) (p a : ℕ) (bytes : List ℕ) (page : ℕ) → is_allowed w write (p, page) ≡ is_allowed (world_served write p a bytes w) write (p, page)
-allowed-served w true p a bytes page = allowed-stored w true p a bytes page
-allowed-served w false p a bytes page = refl
+pub allowed-served : (w : World) (write wants : Bool) (p a : ℕ) (bytes : List ℕ) (page : ℕ) → is_allowed w wants (p, page) ≡ is_allowed (world_served write p a bytes w) wants (p, page)
+allowed-served w true wants p a bytes page = allowed-stored w wants p a bytes page
+allowed-served w false wants p a bytes page = refl
 
 pub lives-served : (w : World) (write : Bool) (p a : ℕ) (bytes : List ℕ) → lives w p ≡ true → lives (world_served write p a bytes w) p ≡ true
 lives-served w true p a bytes h = lives-stored w p a bytes h
@@ -33,7 +34,7 @@ lives-served w false p a bytes h = h
 
 pub served_twice : (w : World) (write : Bool) (p a page at : ℕ) (xs ys : List ℕ) → (write ≡ true → 4096 * page + at ≡ a + length xs)
     → world_after write p page at ys None (world_served write p a xs w) ≡ world_served write p a (xs ++ ys) w
-served_twice w true p a page at xs ys is = ap (λ b. stored (stored w p a xs) p b ys) (is refl) ∙ stored_twice w p a xs ys
+served_twice w true p a page at xs ys is = ap (λ b. after_write (after_write w p a xs) p b ys) (is refl) ∙ stored_twice w p a xs ys
 served_twice w false p a page at xs ys is = refl
 
 -- a page that stopped leaves the memories
@@ -47,22 +48,19 @@ still_lives {s} {mid} {write} {p} {a} {k} {xs} lived h = ap (λ w. lives w p) h.
 
 -- ---- what happens at one page
 
-pub notes-happening : (write : Bool) (k : ℕ × ℕ) (added : List Note) (how : How) → notes_of (happening write k added how) ≡ added
-notes-happening write k added Served = notes_of-append (noting added) (Used write k ∷ []) ∙ append-nil _ ∙ notes_of-noting added
-notes-happening write k added Denied = notes_of-noting added
-notes-happening write k added (Starved out) = notes_of-noting added
-notes-happening write k added Lost = notes_of-noting added
+pub notes-happening : (write : Bool) (k : ℕ × ℕ) (added : List Note) (end : Option faults.Stop) → notes_of (page_events write k added end) ≡ added
+notes-happening write k added None = notes_of-append (note_events added) (Used write k ∷ []) ∙ append-nil _ ∙ notes_of-note_events added
+notes-happening write k added (Some stop) = notes_of-note_events added
 
 -- a page that is served is an access of this page, whole
-one_served : (m : Setting) (w : World) (l : Ledger) (write : Bool) (p page : ℕ) (added : List Note) → Touches m w l write (p, page) added Served
-    → Accesses m w l write p (page ∷ []) (happening write (p, page) added Served) Whole
-one_served m w l write p page added h = (added, Served, [], h, sym (append-nil _), (refl, refl))
+one_served : (m : Setting) (w : World) (l : Ledger) (write : Bool) (p page : ℕ) (added : List Note) → Touches m w l write (p, page) added None
+    → Accesses m w l p ((write, page) ∷ []) (page_events write (p, page) added None) Whole
+one_served m w l write p page added h = inl (added, [], h, sym (append-nil _), (refl, refl))
 
 -- a page that stops an access of it and more
-one_stopped : (m : Setting) (w : World) (l : Ledger) (write : Bool) (p page : ℕ) (rest : List ℕ) (added : List Note) (stop : Stop) → Touches m w l write (p, page) added (how_stopped stop)
-    → Accesses m w l write p (page ∷ rest) (happening write (p, page) added (how_stopped stop)) (Stopped page (how_stopped stop))
-one_stopped m w l write p page rest added Segv h = (added, Denied, [], h, sym (append-nil _), (refl, refl))
-one_stopped m w l write p page rest added (Oom out) h = (added, Starved out, [], h, sym (append-nil _), (refl, refl))
+one_stopped : (m : Setting) (w : World) (l : Ledger) (write : Bool) (p page : ℕ) (rest : List (Bool × ℕ)) (added : List Note) (stop : faults.Stop) → Touches m w l write (p, page) added (Some stop)
+    → Accesses m w l p ((write, page) ∷ rest) (page_events write (p, page) added (Some stop)) (Stopped page stop)
+one_stopped m w l write p page rest added stop h = inr (added, stop, h, refl, refl)
 
 -- ---- the access goes on
 
@@ -74,19 +72,20 @@ record Behind (a k page at : ℕ) : Type 0 where
 
 module _ (s : State) (mid new : Mem) (write : Bool) (p a k page at : ℕ) (xs ys : List ℕ) (before now after : List Note)
     (same : count new ≡ count mid) (behind : Behind a k page at) (h : IsAccess s mid write p a k xs before now None k) where
-  notes-both : (how : How) (added : List Note) → after ≡ now ++ added → after ≡ before ++ notes_of (h.events ++ happening write (p, page) added how)
-  notes-both how added is = is ∙ ap (λ ns. ns ++ added) h.notes ∙ append_assoc before (notes_of h.events) added
-      ∙ ap (λ ns. before ++ ns) (ap (λ ns. notes_of h.events ++ ns) (sym (notes-happening write (p, page) added how)) ∙ sym (notes_of-append h.events (happening write (p, page) added how)))
+  notes-both : (end : Option faults.Stop) (added : List Note) → after ≡ now ++ added → after ≡ before ++ notes_of (h.events ++ page_events write (p, page) added end)
+  notes-both end added is = is ∙ ap (λ ns. ns ++ added) h.notes ∙ append_assoc before (notes_of h.events) added
+      ∙ ap (λ ns. before ++ ns) (ap (λ ns. notes_of h.events ++ ns) (sym (notes-happening write (p, page) added end)) ∙ sym (notes_of-append h.events (page_events write (p, page) added end)))
 
-  accesses-both : (pages : List ℕ) (more : List Event) (end : End) → Accesses (setting (count new)) h.next.world h.next.ledger write p pages more end
-      → Accesses (setting (count new)) s.world s.ledger write p (touched a k ++ pages) (h.events ++ more) end
-  accesses-both pages more end g = accesses-append (setting (count new)) s.world h.next.world s.ledger write p (touched a k) pages h.events more end
-      (alike-all s.world h.next.world write p (λ page. allowed-served s.world write p a xs page ∙ ap (λ w. is_allowed w write (p, page)) (sym h.world)) pages)
-      (subst (λ n. Accesses (setting n) s.world s.ledger write p (touched a k) h.events Whole) (sym same) (subst (λ end. Accesses (setting (count mid)) s.world s.ledger write p (touched a k) h.events end) h.is_end.0 h.accesses))
-      (subst (λ l. Accesses (setting (count new)) h.next.world l write p pages more end) h.ledger g)
+  accesses-both : (pages : List (Bool × ℕ)) (more : List Event) (end : End) → Accesses (setting (count new)) h.next.world h.next.ledger p pages more end
+      → Accesses (setting (count new)) s.world s.ledger p (pages_of_access write a k ++ pages) (h.events ++ more) end
+  accesses-both pages more end g = accesses-append (setting (count new)) s.world h.next.world s.ledger p (pages_of_access write a k) pages h.events more end
+      (alike-by-allowed s.world h.next.world p (λ wants page. allowed-served s.world write wants p a xs page ∙ ap (λ w. is_allowed w wants (p, page)) (sym h.world)))
+      (subst (λ n. Accesses (setting n) s.world s.ledger p (pages_of_access write a k) h.events Whole) (sym same) (subst (λ end. Accesses (setting (count mid)) s.world s.ledger p (pages_of_access write a k) h.events end) h.is_end.0 h.accesses))
+      (subst (λ l. Accesses (setting (count new)) h.next.world l p pages more end) h.ledger g)
 
-  free-both : (more : List Event) (free : List ℕ) → ChoosesAll h.next.ledger more h.next.free free → ChoosesAll s.ledger (h.events ++ more) s.free free
-  free-both more free g = chooses-append s.ledger h.events more s.free h.next.free free h.free (subst (λ l. ChoosesAll l more h.next.free free) h.ledger g)
+  free-both : (more : List Event) (free : List ℕ) → ChoosesAll (setting (count new)) h.next.ledger more h.next.free free → ChoosesAll (setting (count new)) s.ledger (h.events ++ more) s.free free
+  free-both more free g = chooses-append (setting (count new)) s.ledger h.events more s.free h.next.free free (subst (λ n. ChoosesAll (setting n) s.ledger h.events s.free h.next.free) (sym same) h.free)
+      (subst (λ l. ChoosesAll (setting (count new)) l more h.next.free free) h.ledger g)
 
   ledger-both : (more : List Event) (l : Ledger) → l ≡ after_all h.next.ledger more → l ≡ after_all s.ledger (h.events ++ more)
   ledger-both more l is = is ∙ ap (λ x. after_all x more) h.ledger ∙ sym (after_all-append s.ledger h.events more)
@@ -95,11 +94,11 @@ module _ (s : State) (mid new : Mem) (write : Bool) (p a k page at : ℕ) (xs ys
   goes_on : (m : ℕ) → at + m ≤ 4096 → 1 ≤ m → (write ≡ true → length xs ≡ k) → IsPageStep h.next new write p page at ys now after None
       → IsAccess s new write p a (k + m) (xs ++ ys) before after None (k + m)
   goes_on m small some long g = record {
-    events = h.events ++ happening write (p, page) g.added Served;
-    notes = notes-both Served g.added g.notes;
+    events = h.events ++ page_events write (p, page) g.added None;
+    notes = notes-both None g.added g.notes;
     end = Whole;
-    accesses = subst (λ pages. Accesses (setting (count new)) s.world s.ledger write p pages (h.events ++ happening write (p, page) g.added Served) Whole) (sym (touched-one a k m page at behind.is small some behind.begins))
-        (accesses-both (page ∷ []) _ Whole (one_served _ h.next.world h.next.ledger write p page g.added g.touches));
+    accesses = subst (λ pages. Accesses (setting (count new)) s.world s.ledger p pages (h.events ++ page_events write (p, page) g.added None) Whole) (sym (touched-one write a k m page at behind.is small some behind.begins))
+        (accesses-both ((write, page) ∷ []) _ Whole (one_served _ h.next.world h.next.ledger write p page g.added g.touches));
     is_end = (refl, refl);
     next = g.next;
     world = g.world ∙ ap (world_after write p page at ys None) h.world ∙ served_twice s.world write p a page at xs ys (λ is. behind.is ∙ ap (λ n. a + n) (sym (long is)));
@@ -112,11 +111,11 @@ module _ (s : State) (mid new : Mem) (write : Bool) (p a k page at : ℕ) (xs ys
   stops : (n : ℕ) (stop : Stop) → k < n → IsPageStep h.next new write p page at ys now after (Some stop)
       → IsAccess s new write p a n xs before after (Some stop) k
   stops n stop less g = record {
-    events = h.events ++ happening write (p, page) g.added (how_stopped stop);
-    notes = notes-both (how_stopped stop) g.added g.notes;
-    end = Stopped page (how_stopped stop);
-    accesses = subst (λ pages. Accesses (setting (count new)) s.world s.ledger write p pages (h.events ++ happening write (p, page) g.added (how_stopped stop)) (Stopped page (how_stopped stop))) (sym (touched-more a k n page at behind.is behind.small less behind.begins))
-        (accesses-both (page ∷ numbers (page + 1) (touches a n - (touches a k + 1))) _ _ (one_stopped _ h.next.world h.next.ledger write p page _ g.added stop g.touches));
+    events = h.events ++ page_events write (p, page) g.added (Some (stop_of stop));
+    notes = notes-both (Some (stop_of stop)) g.added g.notes;
+    end = Stopped page (stop_of stop);
+    accesses = subst (λ pages. Accesses (setting (count new)) s.world s.ledger p pages (h.events ++ page_events write (p, page) g.added (Some (stop_of stop))) (Stopped page (stop_of stop))) (sym (touched-more write a k n page at behind.is behind.small less behind.begins))
+        (accesses-both ((write, page) ∷ map (λ page. (write, page)) (numbers (page + 1) (touches a n - (touches a k + 1)))) _ _ (one_stopped _ h.next.world h.next.ledger write p page _ g.added (stop_of stop) g.touches));
     is_end = (page, refl, served k behind.is behind.begins, less);
     next = g.next;
     world = g.world ∙ stopped-world write p page at ys stop h.next.world ∙ h.world;
@@ -177,4 +176,4 @@ pub piece-shown : (w w' : World) (p a n k : ℕ) (piece : Piece) (shown now : Li
     → ShowsPiece w' p piece.page piece.at piece.len shown now end → Reads (pages w p) a k shown → Reads (pages w p) a (k + piece.len) now
 piece-shown w w' p a n k piece shown now end same is none g h =
     let shows = subst (λ w. ShowsPiece w p piece.page piece.at piece.len shown now None) same (subst (λ end. ShowsPiece w' p piece.page piece.at piece.len shown now end) (none_left end none) g) in
-    reads-more (pages w p) a k piece.len (4096 * piece.page + piece.at) shown now shows.0 is.0 shows.1 shows.2 shows.3 h
+    reads-more (pages w p) a k piece.len (4096 * piece.page + piece.at) shown now shows.0 is.0 shows.1 shows.2 shows.3 shows.4 h

@@ -2,24 +2,25 @@
 use Rattle.std.proofs.Common.{◌≡◌, ℕ, Bool, true, false, not, cond, List, [], length, take, ◌++◌, Some, None, refl, sym, ap, subst, ◌∙◌}
 use Rattle.std.specs.Prelude.{MatchOption}
 use Rattle.std.proofs.Math.Seq.{take-length}
-use Rattle.av_trace.specs.declared.reply.Note.{Note}
-use Rattle.av_trace.specs.declared.reply.Row.{Row}
+use Rattle.av_trace.specs.declared.note.Note.{Note}
+use Rattle.av_trace.specs.declared.row.Row.{Row}
 use Rattle.av_trace.specs.declared.reply.Errno.{Errno}
 use Rattle.av_trace.specs.declared.reply.Errno.TheVariants.{Esrch}
 use Rattle.av_trace.specs.declared.reply.Answer.{Answer}
 use Rattle.av_trace.specs.declared.reply.Answer.TheVariants as answers
 use Rattle.av_trace.specs.declared.command.Command.TheVariants.{Read, Write}
 use Rattle.av_plain.specs.World.{World, lives, pages}
-use Rattle.av_plain.specs.Fault.{Accesses, Whole, Stopped, touched, bytes_before}
-use Rattle.av_plain.specs.Step.{Answers, Reads, stored, next}
+use Rattle.av_plain.specs.Access.{Accesses, Whole, Stopped, pages_of_access, bytes_before, stop_answer, Reads, after_write}
+use Rattle.av_plain.specs.Step.{next}
+use Rattle.av_plain.specs.Choice.{ChoosesAll}
 use Rattle.av_plain.specs.Transcript.{State}
 use Rattle.av_plain.specs.Event.{Event, notes_of}
-use Rattle.av_kernel.specs.declared.mem.Mem.{Mem}
-use Rattle.av_kernel.specs.declared.touched.Stop.{Stop}
-use Rattle.av_kernel.specs.declared.touched.Stop.TheVariants.{Segv, Oom}
-use Rattle.av_kernel.specs.View.{setting, count}
-use Rattle.av_kernel.specs.Page.{how_stopped}
-use Rattle.av_kernel.specs.Command.{MemSteps}
+use Rattle.av_reclaim.specs.declared.mem.Mem.{Mem}
+use Rattle.av_fault.specs.declared.fault.Stop.{Stop}
+use Rattle.av_fault.specs.declared.fault.Stop.TheVariants.{Segv, Oom}
+use Rattle.av_reclaim.specs.Mem.{setting, count}
+use Rattle.av_fault.specs.Fault.{stop_of}
+use Rattle.av_kernel.specs.Step.{MemSteps}
 use Rattle.av_kernel.specs.Access.{IsAccess, answer_of}
 
 -- the process lives, so that the command is not refused
@@ -31,14 +32,12 @@ not_refused false Follow Refuse is h = absurd (no is)
     no e = cc
 
 -- the answer of an access that stopped
-answers-stopped : (write : Bool) (a n k page : ℕ) (stop : Stop) (shown : List ℕ) → k ≡ bytes_before a page → Answers write a n (Stopped page (how_stopped stop)) shown (answer_of stop k shown)
-answers-stopped true a n k page Segv shown is = ap (λ k. answers.Segv k shown) is
-answers-stopped true a n k page (Oom out) shown is = ap (λ k. answers.Oom k out shown) is
-answers-stopped false a n k page Segv shown is = ap (λ k. answers.Segv k shown) is
-answers-stopped false a n k page (Oom out) shown is = ap (λ k. answers.Oom k out shown) is
+answers-stopped : (a k page : ℕ) (stop : Stop) (shown : List ℕ) → k ≡ bytes_before a page → answer_of stop k shown ≡ stop_answer (stop_of stop) (bytes_before a page) shown
+answers-stopped a k page Segv shown is = ap (λ k. answers.Segv k shown) is
+answers-stopped a k page (Oom out) shown is = ap (λ k. answers.Oom k out shown) is
 
 -- a write that stopped stored what it says
-world-stopped : (w : World) (p a k : ℕ) (bytes : List ℕ) (stop : Stop) → stored w p a (take k bytes) ≡ next w (Write p a bytes) (answer_of stop k [])
+world-stopped : (w : World) (p a k : ℕ) (bytes : List ℕ) (stop : Stop) → after_write w p a (take k bytes) ≡ next w (Write p a bytes) (answer_of stop k [])
 world-stopped w p a k bytes Segv = refl
 world-stopped w p a k bytes (Oom out) = refl
 
@@ -57,7 +56,7 @@ module _ (s : State) (old new : Mem) (p a : ℕ) (before notes : List Note) (row
         answer = not_refused (lives s.world p) _ _ lived (
           Whole,
           shown,
-          subst (λ end. Accesses (setting (count old)) s.world s.ledger false p (touched a n) h.events end) h.is_end.0 (subst (λ m. Accesses (setting m) s.world s.ledger false p (touched a n) h.events h.end) same h.accesses),
+          subst (λ end. Accesses (setting (count old)) s.world s.ledger p (pages_of_access false a n) h.events end) h.is_end.0 (subst (λ m. Accesses (setting m) s.world s.ledger p (pages_of_access false a n) h.events h.end) same h.accesses),
           subst (λ k. Reads (pages s.world p) a k shown) h.is_end.1 reads,
           is,
           none,
@@ -66,7 +65,7 @@ module _ (s : State) (old new : Mem) (p a : ℕ) (before notes : List Note) (row
       };
       world = h.world;
       ledger = h.ledger;
-      free = h.free;
+      free = subst (λ m. ChoosesAll (setting m) s.ledger h.events s.free h.next.free) same h.free;
     };
     keeps = h.keeps;
   }
@@ -79,18 +78,18 @@ module _ (s : State) (old new : Mem) (p a : ℕ) (before notes : List Note) (row
       events = h.events;
       legal = record {
         answer = not_refused (lives s.world p) _ _ lived (
-          Stopped h.is_end.0 (how_stopped stop),
+          Stopped h.is_end.0 (stop_of stop),
           shown,
-          subst (λ end. Accesses (setting (count old)) s.world s.ledger false p (touched a n) h.events end) h.is_end.1 (subst (λ m. Accesses (setting m) s.world s.ledger false p (touched a n) h.events h.end) same h.accesses),
+          subst (λ end. Accesses (setting (count old)) s.world s.ledger p (pages_of_access false a n) h.events end) h.is_end.1 (subst (λ m. Accesses (setting m) s.world s.ledger p (pages_of_access false a n) h.events h.end) same h.accesses),
           subst (λ k. Reads (pages s.world p) a k shown) h.is_end.2 reads,
-          subst (Answers false a n (Stopped h.is_end.0 (how_stopped stop)) shown) (sym is) (answers-stopped false a n k h.is_end.0 stop shown h.is_end.2),
+          is ∙ answers-stopped a k h.is_end.0 stop shown h.is_end.2,
           none,
         );
         notes = alone h.events h.notes;
       };
       world = h.world;
       ledger = h.ledger;
-      free = h.free;
+      free = subst (λ m. ChoosesAll (setting m) s.ledger h.events s.free h.next.free) same h.free;
     };
     keeps = h.keeps;
   }
@@ -104,15 +103,15 @@ module _ (s : State) (old new : Mem) (p a : ℕ) (before notes : List Note) (row
       legal = record {
         answer = not_refused (lives s.world p) _ _ lived (
           Whole,
-          subst (λ end. Accesses (setting (count old)) s.world s.ledger true p (touched a (length bytes)) h.events end) h.is_end.0 (subst (λ m. Accesses (setting m) s.world s.ledger true p (touched a (length bytes)) h.events h.end) same h.accesses),
+          subst (λ end. Accesses (setting (count old)) s.world s.ledger p (pages_of_access true a (length bytes)) h.events end) h.is_end.0 (subst (λ m. Accesses (setting m) s.world s.ledger p (pages_of_access true a (length bytes)) h.events h.end) same h.accesses),
           is,
           none,
         );
         notes = alone h.events h.notes;
       };
-      world = h.world ∙ ap (stored s.world p a) (ap (λ k. take k bytes) h.is_end.1 ∙ take-length bytes) ∙ ap (next s.world (Write p a bytes)) (sym is);
+      world = h.world ∙ ap (after_write s.world p a) (ap (λ k. take k bytes) h.is_end.1 ∙ take-length bytes) ∙ ap (next s.world (Write p a bytes)) (sym is);
       ledger = h.ledger;
-      free = h.free;
+      free = subst (λ m. ChoosesAll (setting m) s.ledger h.events s.free h.next.free) same h.free;
     };
     keeps = h.keeps;
   }
@@ -125,16 +124,16 @@ module _ (s : State) (old new : Mem) (p a : ℕ) (before notes : List Note) (row
       events = h.events;
       legal = record {
         answer = not_refused (lives s.world p) _ _ lived (
-          Stopped h.is_end.0 (how_stopped stop),
-          subst (λ end. Accesses (setting (count old)) s.world s.ledger true p (touched a (length bytes)) h.events end) h.is_end.1 (subst (λ m. Accesses (setting m) s.world s.ledger true p (touched a (length bytes)) h.events h.end) same h.accesses),
-          subst (Answers true a (length bytes) (Stopped h.is_end.0 (how_stopped stop)) []) (sym is) (answers-stopped true a (length bytes) k h.is_end.0 stop [] h.is_end.2),
+          Stopped h.is_end.0 (stop_of stop),
+          subst (λ end. Accesses (setting (count old)) s.world s.ledger p (pages_of_access true a (length bytes)) h.events end) h.is_end.1 (subst (λ m. Accesses (setting m) s.world s.ledger p (pages_of_access true a (length bytes)) h.events h.end) same h.accesses),
+          is ∙ answers-stopped a k h.is_end.0 stop [] h.is_end.2,
           none,
         );
         notes = alone h.events h.notes;
       };
       world = h.world ∙ world-stopped s.world p a k bytes stop ∙ ap (next s.world (Write p a bytes)) (sym is);
       ledger = h.ledger;
-      free = h.free;
+      free = subst (λ m. ChoosesAll (setting m) s.ledger h.events s.free h.next.free) same h.free;
     };
     keeps = h.keeps;
   }

@@ -1,17 +1,20 @@
 -- What a read shows of a page is what the page claims.
-use Rattle.std.proofs.Common.{◌≡◌, ℕ, suc, ◌+◌, ◌-◌, ◌*◌, ◌/◌, ◌%◌, ◌<◌, ◌≤◌, false, List, [], ◌∷◌, ◌++◌, length, get_or, take, drop, replicate, Option, Some, None, sym, ap, subst, ◌∙◌, arith}
+use Rattle.std.proofs.Common.{◌≡◌, ℕ, zero, suc, ◌+◌, ◌^◌, ◌-◌, ◌*◌, ◌/◌, ◌%◌, ◌<◌, ◌≤◌, false, List, [], ◌∷◌, ◌++◌, length, get_or, take, drop, replicate, Option, Some, None, sym, ap, subst, ◌∙◌, arith}
 use Rattle.std.proofs.lemmas.List.{get_or-take, get_or-drop, get_or-replicate, length-take-le, length-drop, length-replicate}
 use Rattle.std.specs.Prelude.{IfSome, option_and_then}
-use Rattle.av_trace.specs.declared.reply.Note.{Note}
+use Rattle.std.specs.List.{AllByRecursion}
+use Rattle.av_trace.specs.declared.note.Note.{Note}
 use Rattle.av_plain.specs.World.{Process, Page, pages, byte_at, Shows}
 use Rattle.av_plain.specs.Event.{after_all}
-use Rattle.av_plain.specs.Fault.{Served, happening}
+use Rattle.av_plain.specs.Access.{page_events}
+use Rattle.av_plain.specs.Device.{no_device}
 use Rattle.av_plain.specs.Stands.{Holds, IsKept}
 use Rattle.av_plain.specs.Transcript.{State}
-use Rattle.av_kernel.specs.declared.mem.Mem.{Mem}
-use Rattle.av_kernel.specs.declared.touched.Touched.TheVariants.{Ready, Zeros}
-use Rattle.av_kernel.specs.View.{view}
-use Rattle.av_kernel.specs.Page.{IsTouched, ShowsPiece}
+use Rattle.av_reclaim.specs.declared.mem.Mem.{Mem}
+use Rattle.av_fault.specs.declared.fault.Touched.TheVariants.{Ready, Zeros}
+use Rattle.av_reclaim.specs.Mem.{view}
+use Rattle.av_fault.specs.Fault.{IsTouched}
+use Rattle.av_kernel.specs.Page.{ShowsPiece}
 
 held_byte : (o : Option Page) (at : ℕ → ℕ) (i : ℕ) → i < 4096 → Holds o at → IfSome (option_and_then (λ (p : Page). p.bytes i) o) (λ claimed. claimed ≡ at i)
 held_byte None at i below h = tt
@@ -45,19 +48,24 @@ shown_from q page at bytes (b ∷ piece) h fits same = (
     number : (4096 * page + at) / 4096 ≡ page
     number = omega (arith, fits)
 
+all_zeros : (n : ℕ) → AllByRecursion (λ b. b < 2 ^ 8) (replicate n 0)
+all_zeros zero = tt
+all_zeros (suc n) = (omega arith, all_zeros n)
+
 module _ (s : State) (new : Mem) (p page at n : ℕ) (before now : List Note) (fits : at + n ≤ 4096) where
   -- from a frame's bytes
   pub frame_shown : (f : ℕ) (bytes shown shown' : List ℕ) → IsTouched s new false (p, page) before now (Ready f) → length bytes ≡ 4096 → ((i : ℕ) → get_or bytes i 0 ≡ (view new).bytes f i)
-      → shown' ≡ shown ++ take (at + n - at) (drop at bytes) → ShowsPiece s.world p page at n shown shown' None
-  frame_shown f bytes shown shown' t long are is =
-      let l = after_all s.ledger (happening false (p, page) t.added Served) in
-      let holds : Holds (pages s.world p page) ((view new).bytes f) = subst (λ e. IsKept (view new) None l e (pages s.world p page)) t.ready.0 (t.parts.bytes.kept p page) in
+      → shown' ≡ shown ++ take (at + n - at) (drop at bytes) → AllByRecursion (λ b. b < 2 ^ 8) (take (at + n - at) (drop at bytes)) → ShowsPiece s.world p page at n shown shown' None
+  frame_shown f bytes shown shown' t long are is below =
+      let l = after_all s.ledger (page_events false (p, page) t.added None) in
+      let holds : Holds (pages s.world p page) ((view new).bytes f) = subst (λ e. IsKept (view new) no_device l e (pages s.world p page)) t.ready.0 (t.parts.parts.bytes.kept p page) in
       let size : length (take (at + n - at) (drop at bytes)) ≡ n = length-take-le (at + n - at) (drop at bytes) (enough (length (drop at bytes)) (length-drop at bytes) long) ∙ rest in (
         take (at + n - at) (drop at bytes),
         is,
         size,
         shown_from (pages s.world p) page at ((view new).bytes f) (take (at + n - at) (drop at bytes)) holds (omega (arith, size, fits))
             (λ j below. get_or-take (at + n - at) (drop at bytes) j 0 (omega (arith, size, below)) ∙ get_or-drop at bytes j 0 ∙ are (at + j)),
+        below,
       )
     where
       rest : at + n - at ≡ n
@@ -69,11 +77,12 @@ module _ (s : State) (new : Mem) (p page at n : ℕ) (before now : List Note) (f
   -- from the page of zeros
   pub zeros_shown : (shown shown' : List ℕ) → IsTouched s new false (p, page) before now Zeros → shown' ≡ shown ++ replicate n 0 → ShowsPiece s.world p page at n shown shown' None
   zeros_shown shown shown' t is =
-      let l = after_all s.ledger (happening false (p, page) t.added Served) in
-      let holds : Holds (pages s.world p page) (λ _. 0) = subst (λ e. IsKept (view new) None l e (pages s.world p page)) t.ready.0 (t.parts.bytes.kept p page) in
+      let l = after_all s.ledger (page_events false (p, page) t.added None) in
+      let holds : Holds (pages s.world p page) (λ _. 0) = subst (λ e. IsKept (view new) no_device l e (pages s.world p page)) t.ready.0 (t.parts.parts.bytes.kept p page) in
       let size : length (replicate {A = ℕ} n 0) ≡ n = length-replicate n 0 in (
         replicate n 0,
         is,
         size,
         shown_from (pages s.world p) page at (λ _. 0) (replicate n 0) holds (omega (arith, size, fits)) (λ j below. get_or-replicate n j 0 0 (omega (arith, size, below))),
+        all_zeros n,
       )

@@ -1,47 +1,52 @@
 -- What a whole read or write does.
 use Rattle.std.specs.Prelude.{◌≡◌, ℕ, ◌+◌, ◌-◌, ◌<◌, ◌++◌, Bool, true, false, List, min, Option, Some, None}
-use Rattle.av_trace.specs.declared.reply.Note.{Note}
+use Rattle.av_trace.specs.declared.note.Note.{Note}
 use Rattle.av_trace.specs.declared.reply.Answer.{Answer}
 use Rattle.av_trace.specs.declared.reply.Answer.TheVariants as answers
 use Rattle.av_plain.specs.World.{World}
-use Rattle.av_base.specs.Page.{address_of}
+use Rattle.av_base.specs.Page.{address_of, page_size}
 use Rattle.av_plain.specs.Event.{Event, after_all, notes_of}
-use Rattle.av_plain.specs.Fault.{Accesses, End, Whole, Stopped, touched, bytes_before}
-use Rattle.av_plain.specs.Step.{stored}
+use Rattle.av_plain.specs.Access.{Accesses, End, Whole, Stopped, pages_of_access, bytes_before, after_write}
 use Rattle.av_plain.specs.Choice.{ChoosesAll}
 use Rattle.av_plain.specs.Transcript.{State}
 use Rattle.av_kernel.specs.declared.access.Piece.{Piece}
-use Rattle.av_kernel.specs.declared.mem.Mem.{Mem}
-use Rattle.av_kernel.specs.declared.touched.Stop.{Stop}
-use Rattle.av_kernel.specs.declared.touched.Stop.TheVariants.{Segv, Oom}
-use Rattle.av_kernel.specs.View.{setting, count, Keeps}
-use Rattle.av_kernel.specs.Page.{how_stopped}
+use Rattle.av_reclaim.specs.declared.mem.Mem.{Mem}
+use Rattle.av_fault.specs.declared.fault.Stop.{Stop}
+use Rattle.av_fault.specs.declared.fault.Stop.TheVariants.{Segv, Oom}
+use Rattle.av_reclaim.specs.Mem.{setting, count, Keeps}
+use Rattle.av_fault.specs.Fault.{stop_of}
 
 -- it begins behind the first `done` of n bytes, and goes on to the end of its page or of the bytes
 abbrev pub IsPiece : ℕ → ℕ → ℕ → Piece → Type 0
-IsPiece a n done piece = (address_of piece.page + piece.at ≡ a + done) × (piece.at < 4096) × (piece.len ≡ min (n - done) (4096 - piece.at))
+IsPiece a n done piece =
+    (address_of piece.page + piece.at ≡ a + done) × (piece.at < page_size)
+    × (piece.len ≡ min (n - done) (page_size - piece.at))
 
 -- the access was whole, or stopped at a page; k of the n bytes were served
 abbrev pub IsEnd : ℕ → ℕ → Option Stop → ℕ → End → Type 0
 IsEnd a n None k end = (end ≡ Whole) × (k ≡ n)
-IsEnd a n (Some stop) k end = (page : ℕ) × (end ≡ Stopped page (how_stopped stop)) × (k ≡ bytes_before a page) × (k < n)
+IsEnd a n (Some stop) k end =
+    (page : ℕ) × (end ≡ Stopped page (stop_of stop)) × (k ≡ bytes_before a page) × (k < n)
 
 -- the memories after a write of these bytes, and after a read
 abbrev pub world_served : Bool → ℕ → ℕ → List ℕ → World → World
-world_served true p a bytes w = stored w p a bytes
+world_served true p a bytes w = after_write w p a bytes
 world_served false p a bytes w = w
 
--- an access of n bytes, k of them served, and those of a write stored: its events, its notes, where it ended, and what the kernel stands for then
-pub record IsAccess (s : State) (new : Mem) (write : Bool) (p a n : ℕ) (bytes : List ℕ) (before now : List Note) (stop : Option Stop) (k : ℕ) : Type 0 where
+-- an access of n bytes, k of them served, and those of a write stored: its events, its notes, where
+-- it ended, and what the kernel stands for then
+pub record IsAccess (s : State) (new : Mem) (write : Bool) (p a n : ℕ) (bytes : List ℕ)
+    (before now : List Note) (stop : Option Stop) (k : ℕ) : Type 0 where
   pub events : List Event
   pub notes : now ≡ before ++ notes_of events
   pub end : End
-  pub accesses : Accesses (setting (count new)) s.world s.ledger write p (touched a n) events end
+  pub accesses : Accesses (setting (count new)) s.world s.ledger p (pages_of_access write a n)
+      events end
   pub is_end : IsEnd a n stop k end
   pub next : State
   pub world : next.world ≡ world_served write p a bytes s.world
   pub ledger : next.ledger ≡ after_all s.ledger events
-  pub free : ChoosesAll s.ledger events s.free next.free
+  pub free : ChoosesAll (setting (count new)) s.ledger events s.free next.free
   pub keeps : Keeps new next
 
 -- the answer of an access that stopped

@@ -1,11 +1,9 @@
-pub mod Spaces
-pub mod View
+pub mod Step
+pub mod Place
+pub mod Map
 pub mod Page
-pub mod Exit
-pub mod Report
 pub mod Access
-pub mod Command
-pub mod Range
-pub mod Invariant
+pub mod Report
+pub mod Tally
 pub mod Machine
 pub mod Kernel

@@ -1,7 +1,10 @@
--- What is seen of a kernel.
-use Rattle.std.specs.Prelude.{ℕ, List, Bool, refl}
-use Rattle.std.specs.Coded.{Coded, code_by, coded×, coded_ℕ, coded_list, coded_bool}
-use Rattle.av_kernel.specs.declared.mem.Mem.{Mem}
+-- What is seen of a kernel, and what is true of every one.
+use Rattle.std.specs.Prelude.{◌≡◌, ℕ, Bool, false, refl}
+use Rattle.std.specs.Coded.{Coded, code_by, coded×, coded_ℕ, coded_bool}
+use Rattle.av_reclaim.specs.declared.mem.Mem.{Mem}
+use Rattle.av_reclaim.specs.Mem.{IsSteady}
+use Rattle.av_kernel.specs.declared.tally.Tally.{Tally}
+use Rattle.av_kernel.specs.Tally.{IsAtMost}
 
 pub record Machine : Type 0 where
   -- how many frames there are
@@ -9,12 +12,26 @@ pub record Machine : Type 0 where
   pub mem : Mem
   -- how many commands were answered, and how often each first word of a reply
   pub steps : ℕ
-  pub tally : List ℕ
+  pub tally : Tally
   -- memory ran out within a command
   pub spent : Bool
 
-abbrev pub machine_code : Coded Mem → Coded Machine
-machine_code mem =
-    code_by (ℕ × (Mem × (ℕ × (List ℕ × Bool)))) (coded× coded_ℕ (coded× mem (coded× coded_ℕ (coded× (coded_list coded_ℕ) coded_bool))))
+abbrev pub machine_code : Coded Mem → Coded Tally → Coded Machine
+machine_code mem tally =
+    code_by (ℕ × (Mem × (ℕ × (Tally × Bool))))
+    (coded× coded_ℕ (coded× mem (coded× coded_ℕ (coded× tally coded_bool))))
     (λ s. (s.frames, (s.mem, (s.steps, (s.tally, s.spent)))))
-    (λ p. record { frames = p.0; mem = p.1.0; steps = p.1.1.0; tally = p.1.1.1.0; spent = p.1.1.1.1 }) (λ _. refl)
+    (λ p. record {
+      frames = p.0;
+      mem = p.1.0;
+      steps = p.1.1.0;
+      tally = p.1.1.1.0;
+      spent = p.1.1.1.1;
+    })
+    (λ _. refl)
+
+-- no word of a reply came more often than commands were answered; where memory never ran out, the
+-- memory system stands for something
+pub record IsSound (mem : Mem) (steps : ℕ) (tally : Tally) (spent : Bool) : Type 0 where
+  pub few : IsAtMost steps tally
+  pub steady : spent ≡ false → IsSteady mem

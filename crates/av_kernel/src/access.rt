@@ -2,20 +2,21 @@
 
 ghost use Rattle.std.specs.Prelude.{◌≡◌, ◌<◌, [], true, false, is_some, length, take, IfOk};
 ghost use Rattle.av_plain.specs.Transcript.{State};
-ghost use Rattle.av_plain.specs.Step.{Reads};
+ghost use Rattle.av_plain.specs.Access.{Reads};
 ghost use Rattle.av_plain.specs.World.{pages};
-ghost use Rattle.av_kernel.specs.Spaces.{areas_of};
-ghost use Rattle.av_kernel.specs.View.{count, Keeps, IsSteady};
-ghost use Rattle.av_kernel.specs.Command.{MemSteps};
+ghost use Rattle.av_spaces.specs.Spaces.{areas_of};
+ghost use Rattle.av_reclaim.specs.Mem.{count, Keeps, IsSteady};
+ghost use Rattle.av_kernel.specs.Step.{Does};
 ghost use Rattle.av_kernel.specs.Access.{IsPiece, IsAccess, answer_of};
 ghost use Rattle.av_trace.specs.declared.command.Command.TheVariants as commands;
-ghost use Rattle.av_trace.specs.declared.reply.Answer.TheVariants as answers;
-ghost use Rattle.av_trace.specs.declared.reply.Errno.TheVariants as errors;
 
-use crate::command::answered;
-use crate::mem::Mem;
-use crate::touched::Stop;
-use av_trace::{Answer, Bytes, Errno, Notes, Reply, Rows};
+use crate::page::{read_page, write_page};
+use crate::process::check_lives;
+use crate::refusal::Refusal;
+use av_base::PAGE_SIZE;
+use av_fault::Stop;
+use av_reclaim::Mem;
+use av_trace::{Answer, Bytes, Notes, Reply, Rows};
 use std::alloc::{AllocError, Global};
 
 /// The part of an access that lies in one page.
@@ -36,129 +37,126 @@ struct Ended {
     served: usize,
 }
 
-impl Mem {
-    /// Answers a `read`: the bytes, or those before the page at which it stops.
-    pub fn read(
-        &mut self,
-        alloc: Global,
-        process: u16,
-        address: u64,
-        len: u16,
-    ) -> Result<Reply, AllocError>
-        requires steady { IsSteady self.old }
-        ensures step { (s : State) → Keeps self.old s → IfOk result (MemSteps self.old self.new s (commands.Read process address len)) }
-        ensures count { count self.new ≡ count self.old }
-    {
-        if !self.spaces.lives(process) {
-            return Ok(no_process(alloc));
-        }
-        let mut shown = Bytes::new(alloc);
-        let mut notes = Notes::new(alloc);
-        let ended = self.read_pieces(process, address, len as usize, &mut shown, &mut notes)?;
-        let answer = match ended.stop {
-            None => Answer::Data(shown),
-            Some(stop) => stopped(stop, ended.served, shown),
-        };
-        Ok(Reply {
-            answer,
-            notes,
-            rows: Rows::new(alloc),
-        })
-    }
+/// Does a `read`: the bytes, or those before the page at which it stops.
+pub fn read(
+    mem: &mut Mem,
+    alloc: Global,
+    process: u16,
+    address: u64,
+    len: u16,
+) -> Result<Reply, Refusal>
+    requires { IsSteady mem.old }
+    ensures { Does mem.old mem.new (commands.Read process address len) result }
+{
+    check_lives(mem, process)?;
+    let mut shown = Bytes::new(alloc);
+    let mut notes = Notes::new(alloc);
+    let ended = read_pieces(mem, process, address, len as usize, &mut shown, &mut notes)?;
+    let answer = match ended.stop {
+        None => Answer::Data(shown),
+        Some(stop) => stopped(stop, ended.served, shown),
+    };
+    Ok(Reply {
+        answer,
+        notes,
+        rows: Rows::new(alloc),
+    })
+}
 
-    /// Answers a `write`: done, or how many bytes are stored before the page at which it stops.
-    pub fn write(
-        &mut self,
-        alloc: Global,
-        process: u16,
-        address: u64,
-        bytes: &[u8],
-    ) -> Result<Reply, AllocError>
-        requires steady { IsSteady self.old }
-        ensures step { (s : State) → Keeps self.old s → IfOk result (MemSteps self.old self.new s (commands.Write process address bytes.now)) }
-        ensures count { count self.new ≡ count self.old }
-    {
-        if !self.spaces.lives(process) {
-            return Ok(no_process(alloc));
-        }
-        let mut notes = Notes::new(alloc);
-        let ended = self.write_pieces(process, address, bytes, &mut notes)?;
-        let answer = match ended.stop {
-            None => Answer::Done,
-            Some(stop) => stopped(stop, ended.served, Bytes::new(alloc)),
-        };
-        Ok(Reply {
-            answer,
-            notes,
-            rows: Rows::new(alloc),
-        })
-    }
+/// Does a `write`, or tells how many bytes are stored before the page at which it stops.
+pub fn write(
+    mem: &mut Mem,
+    alloc: Global,
+    process: u16,
+    address: u64,
+    bytes: &[u8],
+) -> Result<Reply, Refusal>
+    requires { IsSteady mem.old }
+    ensures { Does mem.old mem.new (commands.Write process address bytes.now) result }
+{
+    check_lives(mem, process)?;
+    let mut notes = Notes::new(alloc);
+    let ended = write_pieces(mem, process, address, bytes, &mut notes)?;
+    let answer = match ended.stop {
+        None => Answer::Done,
+        Some(stop) => stopped(stop, ended.served, Bytes::new(alloc)),
+    };
+    Ok(Reply {
+        answer,
+        notes,
+        rows: Rows::new(alloc),
+    })
+}
 
-    /// Reads the pages in turn, up to the first that is not served.
-    fn read_pieces(
-        &mut self,
-        process: u16,
-        address: u64,
-        len: usize,
-        shown: &mut Bytes,
-        notes: &mut Notes,
-    ) -> Result<Ended, AllocError>
-        requires steady { IsSteady self.old }
-        requires lives { is_some (areas_of self.old.spaces process) ≡ true }
-        requires fresh { shown.old ≡ [] }
-        ensures access { (s : State) → Keeps self.old s → IfOk result (λ ended. IsAccess s self.new false process address len [] notes.old notes.new ended.stop ended.served) }
-        ensures reads { (s : State) → Keeps self.old s → IfOk result (λ ended. Reads (pages s.world process) address ended.served shown.new) }
-        ensures count { count self.new ≡ count self.old }
-    {
-        let mut done = 0;
-        while done < len {
-            let piece = next_piece(address, len, done);
-            if let Some(stop) = self.read_page(
-                process, piece.page, piece.at, piece.len, shown, notes,
-            )? {
-                return Ok(Ended {
-                    stop: Some(stop),
-                    served: done,
-                });
-            }
-            done += piece.len;
+/// Reads the pages in turn, up to the first that is not served.
+fn read_pieces(
+    mem: &mut Mem,
+    process: u16,
+    address: u64,
+    len: usize,
+    shown: &mut Bytes,
+    notes: &mut Notes,
+) -> Result<Ended, AllocError>
+    requires steady { IsSteady mem.old }
+    requires lives { is_some (areas_of mem.old.spaces process) ≡ true }
+    requires fresh { shown.old ≡ [] }
+    ensures access { (s : State) → Keeps mem.old s → IfOk result (λ ended.
+        IsAccess s mem.new false process address len [] notes.old notes.new
+            ended.stop ended.served) }
+    ensures reads { (s : State) → Keeps mem.old s → IfOk result (λ ended.
+        Reads (pages s.world process) address ended.served shown.new) }
+    ensures count { count mem.new ≡ count mem.old }
+{
+    let mut done = 0;
+    while done < len {
+        let piece = next_piece(address, len, done);
+        if let Some(stop) = read_page(
+            mem, process, piece.page, piece.at, piece.len, shown, notes,
+        )? {
+            return Ok(Ended {
+                stop: Some(stop),
+                served: done,
+            });
         }
-        Ok(Ended {
-            stop: None,
-            served: done,
-        })
+        done += piece.len;
     }
+    Ok(Ended {
+        stop: None,
+        served: done,
+    })
+}
 
-    /// Writes the pages in turn, up to the first that is not served.
-    fn write_pieces(
-        &mut self,
-        process: u16,
-        address: u64,
-        bytes: &[u8],
-        notes: &mut Notes,
-    ) -> Result<Ended, AllocError>
-        requires steady { IsSteady self.old }
-        requires lives { is_some (areas_of self.old.spaces process) ≡ true }
-        ensures access { (s : State) → Keeps self.old s → IfOk result (λ ended. IsAccess s self.new true process address (length bytes.now) (take ended.served bytes.now) notes.old notes.new ended.stop ended.served) }
-        ensures count { count self.new ≡ count self.old }
-    {
-        let mut done = 0;
-        while done < bytes.len() {
-            let piece = next_piece(address, bytes.len(), done);
-            let part = &bytes[done..done + piece.len];
-            if let Some(stop) = self.write_page(process, piece.page, piece.at, part, notes)? {
-                return Ok(Ended {
-                    stop: Some(stop),
-                    served: done,
-                });
-            }
-            done += piece.len;
+/// Writes the pages in turn, up to the first that is not served.
+fn write_pieces(
+    mem: &mut Mem,
+    process: u16,
+    address: u64,
+    bytes: &[u8],
+    notes: &mut Notes,
+) -> Result<Ended, AllocError>
+    requires steady { IsSteady mem.old }
+    requires lives { is_some (areas_of mem.old.spaces process) ≡ true }
+    ensures access { (s : State) → Keeps mem.old s → IfOk result (λ ended.
+        IsAccess s mem.new true process address (length bytes.now) (take ended.served bytes.now)
+            notes.old notes.new ended.stop ended.served) }
+    ensures count { count mem.new ≡ count mem.old }
+{
+    let mut done = 0;
+    while done < bytes.len() {
+        let piece = next_piece(address, bytes.len(), done);
+        let part = &bytes[done..done + piece.len];
+        if let Some(stop) = write_page(mem, process, piece.page, piece.at, part, notes)? {
+            return Ok(Ended {
+                stop: Some(stop),
+                served: done,
+            });
         }
-        Ok(Ended {
-            stop: None,
-            served: done,
-        })
+        done += piece.len;
     }
+    Ok(Ended {
+        stop: None,
+        served: done,
+    })
 }
 
 /// The piece that follows the first `done` bytes of an access of `len` bytes.
@@ -166,20 +164,14 @@ fn next_piece(address: u64, len: usize, done: usize) -> Piece
     requires rest { done < len }
     ensures { IsPiece address len done result }
 {
-    let from = (address % 4096) as usize + done % 4096;
-    let at = from % 4096;
+    const SIZE: usize = PAGE_SIZE as usize;
+    let from = (address % PAGE_SIZE) as usize + done % SIZE;
+    let at = from % SIZE;
     Piece {
-        page: address / 4096 + (done / 4096 + from / 4096) as u64,
+        page: address / PAGE_SIZE + (done / SIZE + from / SIZE) as u64,
         at,
-        len: (len - done).min(4096 - at),
+        len: (len - done).min(SIZE - at),
     }
-}
-
-/// The reply where the process does not live.
-fn no_process(alloc: Global) -> Reply
-    ensures { result ≡ record { answer = answers.Refused errors.Esrch; notes = []; rows = [] } }
-{
-    answered(alloc, Answer::Refused(Errno::Esrch))
 }
 
 /// The answer of an access that stopped, with the bytes that a read has shown.

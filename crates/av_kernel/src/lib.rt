@@ -1,22 +1,24 @@
-//! The kernel: frames, page tables and areas, and one command at a time.
+//! The kernel: one command at a time over the memory system.
+//!
+//! Each command is a function of the memory system, in the file of its topic; what each promises is
+//! one word, `Does`: an answer is a legal step of the definitions, whatever state the memory system
+//! stood for, and it stands for the next one. `Kernel` counts the replies, and after want of memory
+//! does nothing more. All of this is proved.
 #![tactic(auto)]
 
 mod access;
-mod command;
-mod exit;
-mod fault;
 mod kernel;
-mod mem;
+mod map;
 mod page;
 mod place;
-mod range;
+mod process;
+mod refusal;
 mod report;
-mod spaces;
-mod touched;
+mod step;
+mod tally;
 
 pub use kernel::Kernel;
-pub use mem::Mem;
-pub use spaces::Spaces;
+pub use tally::Tally;
 
 #[cfg(test)]
 mod tests;

@@ -5,16 +5,16 @@ ghost use Rattle.av_base.specs.Limits.{low_page, top_page};
 ghost use Rattle.av_vma.specs.Gap.{IsGap};
 ghost use Rattle.av_plain.specs.World.{Process};
 ghost use Rattle.av_base.specs.Page.{page_of, is_on_page};
-ghost use Rattle.av_plain.specs.Refusal.{top, wraps, fixed_tests, refusal};
+ghost use Rattle.av_plain.specs.Refusal.{top, fixed_tests, refusal};
 ghost use Rattle.av_plain.specs.Refusal as refusals;
-ghost use Rattle.av_plain.specs.Step.{is_room};
-ghost use Rattle.av_kernel.specs.Spaces.{areas_of, is_taken};
-ghost use Rattle.av_kernel.specs.Range.{IsProcess, IsPlaced};
+ghost use Rattle.av_plain.specs.Place.{is_room};
+ghost use Rattle.av_spaces.specs.Spaces.{areas_of, is_taken};
+ghost use Rattle.av_kernel.specs.Place.{protect_tests, IsProcess, IsPlaced};
 ghost use Rattle.av_trace.specs.declared.reply.Errno.TheVariants as errors;
 
-use crate::spaces::Spaces;
-use av_trace::{Errno, Place};
 use av_base::{LOW_PAGE, PAGE_SIZE, TOP_PAGE};
+use av_spaces::Spaces;
+use av_trace::{Errno, Place};
 
 /// The first address that no process can have.
 const TOP: u64 = PAGE_SIZE * TOP_PAGE;
@@ -36,17 +36,19 @@ pub fn is_no_range(address: u64, len: u64) -> bool
     address % PAGE_SIZE != 0 || len == 0 || address > TOP || len > TOP - address
 }
 
-/// Why `mprotect` refuses a range of addresses before it looks at its pages, if it does.
-pub fn protect_error(address: u64, len: u64) -> Option<Errno>
-    ensures { result ≡ refusal ((not (is_on_page address), errors.Einval) ∷ (wraps address len, errors.Enomem) ∷ []) }
+/// Refuses a range of addresses that `mprotect` refuses before it looks at its pages.
+pub fn check_protect(address: u64, len: u64) -> Result<(), Errno>
+    ensures { MatchResult result
+        (λ _. refusal (protect_tests address len) ≡ None)
+        (λ error. refusal (protect_tests address len) ≡ Some error) }
 {
     if address % PAGE_SIZE != 0 {
-        return Some(Errno::Einval);
+        return Err(Errno::Einval);
     }
     if address / PAGE_SIZE + len.div_ceil(PAGE_SIZE) >= ADDRESS_PAGES {
-        return Some(Errno::Enomem);
+        return Err(Errno::Enomem);
     }
-    None
+    Ok(())
 }
 
 /// Whether a process may have this many pages from one on.
@@ -76,54 +78,53 @@ fn fixed_page(address: u64, pages: u64) -> Result<u64, Errno>
     Ok(address / PAGE_SIZE)
 }
 
-impl Spaces {
-    /// The page from which on this many go in a process that lives, or why they can't go where they should.
-    pub fn place(&self, process: u16, pages: u64, place: Place) -> Result<u64, Errno>
-        requires lives { is_some (areas_of self.now process) ≡ true }
-        requires some { 1 ≤ pages }
-        requires few { pages ≤ top_page }
-        ensures { (q : Process) → IsProcess self.now process q → IsPlaced q pages place result }
-    {
-        match place {
-            Place::Auto => self.automatic(process, pages),
-            Place::At(address) => {
-                let page = address / PAGE_SIZE;
-                if self.has_room(process, pages, page) {
-                    return Ok(page);
-                }
-                self.automatic(process, pages)
+/// The page from which on this many go in a process that lives, or why they can't go where they
+/// should.
+pub fn find_place(spaces: &Spaces, process: u16, pages: u64, place: Place) -> Result<u64, Errno>
+    requires lives { is_some (areas_of spaces.now process) ≡ true }
+    requires some { 1 ≤ pages }
+    requires few { pages ≤ top_page }
+    ensures { (q : Process) → IsProcess spaces.now process q → IsPlaced q pages place result }
+{
+    match place {
+        Place::Auto => find_gap(spaces, process, pages),
+        Place::At(address) => {
+            let page = address / PAGE_SIZE;
+            if has_room(spaces, process, pages, page) {
+                return Ok(page);
             }
-            Place::Fixed(address) => fixed_page(address, pages),
-            Place::NoReplace(address) => {
-                let page = fixed_page(address, pages)?;
-                if !self.is_free(process, page, pages) {
-                    return Err(Errno::Eexist);
-                }
-                Ok(page)
+            find_gap(spaces, process, pages)
+        }
+        Place::Fixed(address) => fixed_page(address, pages),
+        Place::NoReplace(address) => {
+            let page = fixed_page(address, pages)?;
+            if !spaces.is_free(process, page, pages) {
+                return Err(Errno::Eexist);
             }
+            Ok(page)
         }
     }
+}
 
-    /// The greatest page from which on there is room for this many.
-    fn automatic(&self, process: u16, pages: u64) -> Result<u64, Errno>
-        requires lives { is_some (areas_of self.now process) ≡ true }
-        requires some { 1 ≤ pages }
-        ensures { MatchResult result
-            (λ page. IsGap (is_taken self.now process) pages (Some page))
-            (λ error. IsGap (is_taken self.now process) pages None × (error ≡ errors.Enomem)) }
-    {
-        match self.gap(process, pages) {
-            Some(page) => Ok(page),
-            None => Err(Errno::Enomem),
-        }
+/// The greatest page from which on there is room for this many.
+fn find_gap(spaces: &Spaces, process: u16, pages: u64) -> Result<u64, Errno>
+    requires lives { is_some (areas_of spaces.now process) ≡ true }
+    requires some { 1 ≤ pages }
+    ensures { MatchResult result
+        (λ page. IsGap (is_taken spaces.now process) pages (Some page))
+        (λ error. IsGap (is_taken spaces.now process) pages None × (error ≡ errors.Enomem)) }
+{
+    match spaces.gap(process, pages) {
+        Some(page) => Ok(page),
+        None => Err(Errno::Enomem),
     }
+}
 
-    /// Whether this many pages from one on are free in a process that lives, and it may have them.
-    fn has_room(&self, process: u16, pages: u64, page: u64) -> bool
-        requires lives { is_some (areas_of self.now process) ≡ true }
-        requires reach { page + pages < 2 ^ 64 }
-        ensures { (q : Process) → IsProcess self.now process q → result ≡ is_room q pages page }
-    {
-        may_have(page, pages) && self.is_free(process, page, pages)
-    }
+/// Whether this many pages from one on are free in a process that lives, and it may have them.
+fn has_room(spaces: &Spaces, process: u16, pages: u64, page: u64) -> bool
+    requires lives { is_some (areas_of spaces.now process) ≡ true }
+    requires reach { page + pages < 2 ^ 64 }
+    ensures { (q : Process) → IsProcess spaces.now process q → result ≡ is_room q pages page }
+{
+    may_have(page, pages) && spaces.is_free(process, page, pages)
 }

@@ -1,49 +1,93 @@
 //! Reports: `maps` and `stat`. They change nothing.
 
-ghost use Rattle.std.specs.Prelude.{◌≡◌, IfOk};
-ghost use Rattle.av_plain.specs.Transcript.{State};
-ghost use Rattle.av_kernel.specs.View.{Keeps, IsSteady};
-ghost use Rattle.av_kernel.specs.Command.{MemSteps};
+ghost use Rattle.std.specs.Prelude.{◌≡◌, ℕ, true, false, map, Ok, IfOk};
+ghost use Rattle.av_spaces.specs.Spaces.{AreRising};
+ghost use Rattle.av_reclaim.specs.Mem.{range_of, IsSteady};
+ghost use Rattle.av_kernel.specs.Step.{Does};
+ghost use Rattle.av_kernel.specs.Report.{AreRuns};
 ghost use Rattle.av_trace.specs.declared.command.Command.TheVariants as commands;
+ghost use Rattle.av_trace.specs.declared.row.Row.TheVariants as row;
 
-use crate::command::answered;
-use crate::mem::Mem;
-use av_trace::{Answer, Errno, Notes, Reply, Totals};
+use crate::process::check_lives;
+use crate::refusal::Refusal;
+use crate::step::answered;
+use av_reclaim::Mem;
+use av_trace::{Answer, Notes, Reply, Row, Rows, Totals};
+use av_vma::Area;
 use std::alloc::{AllocError, Global};
 
-impl Mem {
-    /// Answers a `maps`: the longest runs of mapped pages with one protection, rising.
-    pub fn maps(&self, alloc: Global, process: u16) -> Result<Reply, AllocError>
-        requires steady { IsSteady self.now }
-        ensures step { (s : State) → Keeps self.now s → IfOk result (MemSteps self.now self.now s (commands.Maps process)) }
-    {
-        if !self.spaces.lives(process) {
-            return Ok(answered(alloc, Answer::Refused(Errno::Esrch)));
-        }
-        let rows = self.spaces.runs(process)?;
-        Ok(Reply {
-            answer: Answer::Runs(rows.as_slice().len() as u64),
-            notes: Notes::new(alloc),
-            rows,
-        })
-    }
+/// Does a `maps`: the longest runs of mapped pages with one protection, rising.
+pub fn maps(mem: &Mem, alloc: Global, process: u16) -> Result<Reply, Refusal>
+    requires { IsSteady mem.now }
+    ensures { Does mem.now mem.now (commands.Maps process) result }
+{
+    check_lives(mem, process)?;
+    let areas = mem.spaces.areas(process)?;
+    let rows = runs_of(alloc, &areas)?;
+    Ok(Reply {
+        answer: Answer::Runs(rows.as_slice().len() as u64),
+        notes: Notes::new(alloc),
+        rows,
+    })
+}
 
-    /// Answers a `stat`: how many frames and processes there are. No frame is active, and there is no slot.
-    pub fn stat(&self, alloc: Global) -> Reply
-        requires steady { IsSteady self.now }
-        ensures step { (s : State) → Keeps self.now s → MemSteps self.now self.now s commands.Stat result }
-    {
-        let (frames, free) = (self.frames.count(), self.frames.free());
-        let totals = Totals {
-            frames: u64::from(frames),
-            free: u64::from(free),
-            active: 0,
-            inactive: u64::from(frames - free),
-            flight: 0,
-            slots: 0,
-            free_slots: 0,
-            processes: self.spaces.count() as u64,
-        };
-        answered(alloc, Answer::Counted(totals))
+/// Does a `stat`: how many frames and processes there are. No frame is active, and there is no
+/// slot.
+pub fn stat(mem: &Mem, alloc: Global) -> Reply
+    requires { IsSteady mem.now }
+    ensures { Does mem.now mem.now commands.Stat (Ok result) }
+{
+    let (frames, free) = (mem.frames.count(), mem.frames.free());
+    let totals = Totals {
+        frames: u64::from(frames),
+        free: u64::from(free),
+        active: 0,
+        inactive: u64::from(frames - free),
+        flight: 0,
+        slots: 0,
+        free_slots: 0,
+        processes: mem.spaces.count() as u64,
+    };
+    answered(alloc, Answer::Counted(totals))
+}
+
+/// The longest runs of pages with one protection of these areas of one process.
+fn runs_of(alloc: Global, areas: &[Area]) -> Result<Rows, AllocError>
+    requires { (process : ℕ) × AreRising process areas.now }
+    ensures { IfOk result (AreRuns (map range_of areas.now)) }
+{
+    let mut rows = Rows::new(alloc);
+    let Some((first, rest)) = areas.split_first() else {
+        return Ok(rows);
+    };
+    let mut run = *first;
+    for next in rest {
+        if goes_on(&run, next) {
+            run.end = next.end;
+        } else {
+            rows.push(row_of(&run))?;
+            run = *next;
+        }
+    }
+    rows.push(row_of(&run))?;
+    Ok(rows)
+}
+
+/// Whether an area begins where a run ends, with its protection.
+fn goes_on(run: &Area, next: &Area) -> bool
+    ensures yes { result ≡ true → (run.now.end ≡ next.now.start) × (run.now.prot ≡ next.now.prot) }
+    ensures no { result ≡ false → run.now.end ≡ next.now.start → run.now.prot ≡ next.now.prot → ⊥ }
+{
+    run.end == next.start && run.prot == next.prot
+}
+
+/// The row of `maps` for one run.
+fn row_of(run: &Area) -> Row
+    ensures { result ≡ row.Run run.now.start run.now.end run.now.prot }
+{
+    Row::Run {
+        start: run.start,
+        end: run.end,
+        prot: run.prot,
     }
 }

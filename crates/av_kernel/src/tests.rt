@@ -38,7 +38,8 @@ fn a_write_and_its_tally(rt: HostRuntime) -> Result<(), Fail> {
     let reply = kernel.step(alloc, &command)?;
     assert!(rt; matches!(reply.answer, Answer::Refused(_)));
     assert_eq!(rt; kernel.steps_done(), 1);
-    assert_eq!(rt; kernel.tally()[4], 1);
+    assert_eq!(rt; kernel.tally().refused, 1);
+    assert!(rt; !kernel.is_spent());
     assert_eq!(rt; kernel.frames().free(), 4);
     assert_eq!(rt; kernel.areas().count(), 0);
     Ok(())

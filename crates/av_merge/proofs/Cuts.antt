@@ -6,9 +6,9 @@ use Rattle.av_vma.specs.Join.{first_of, index_of, past_of}
 use Rattle.av_base.specs.Words.{with_at}
 use Rattle.av_vmatree.specs.declared.span.Span.{Span}
 use Rattle.av_vmatree.specs.Spans.{IsFree, span_of, taken, without_area}
-use Rattle.av_merge.specs.Laid.{AreLaid}
-use Rattle.av_merge.specs.Pages.{Pages, cut_at, has_page, pages_by, part_of, placed}
-use Rattle.av_merge.specs.Process.{AreAreasOf, IsAreaOf, IsWhole, NoneCrosses}
+use Rattle.av_vma.specs.Pages.{AreLaid, Pages, cut_at, has_page, part_of, placed, IsWhole}
+use Rattle.av_merge.specs.Pages.{pages_by}
+use Rattle.av_merge.specs.Process.{AreAreasOf, IsAreaOf, NoneCrosses}
 use Rattle.av_merge.proofs.Places.{area_in, has_from, has_parts, holds_is, is_on, on_span, pages_without, rest_free, taken_is}
 use Rattle.av_merge.proofs.Mappings.{laid_of}
 

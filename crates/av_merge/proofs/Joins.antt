@@ -8,8 +8,9 @@ use Rattle.av_vma.specs.Join.{first_of, past_of}
 use Rattle.av_base.specs.Words.{with_at}
 use Rattle.av_vmatree.specs.declared.span.Span.{Span}
 use Rattle.av_vmatree.specs.Spans.{AreSpans, IsFree, area_at, span_of, taken, unless_area, without_area}
-use Rattle.av_merge.specs.Pages.{Pages, has_page, join, joined_at, merged, pages_by, placed, tried}
-use Rattle.av_merge.specs.Process.{AreAreasOf, IsWhole, Stays}
+use Rattle.av_vma.specs.Pages.{has_page, join, joined_at, merged, placed, tried, IsWhole}
+use Rattle.av_merge.specs.Pages.{pages_by}
+use Rattle.av_merge.specs.Process.{AreAreasOf, Stays}
 use Rattle.av_merge.proofs.Places.{IsOn, is_on, at_rest, at_span, has_from, has_parts, stays_trans, take_stands, take_others}
 use Rattle.av_merge.proofs.Mappings.{join_is, laid_of, left_pages, right_pages, merged_pages, merged_whole}
 

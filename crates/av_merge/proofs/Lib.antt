@@ -1,7 +1,8 @@
+pub mod ChangesByPage
+pub mod ChangesOfParts
+pub mod ChangesReach
 pub mod Cuts
-pub mod Emptying
+pub mod CutsEmpty
 pub mod Joins
 pub mod Mappings
 pub mod Places
-pub mod Protects
-pub mod Reaches

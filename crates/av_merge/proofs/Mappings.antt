@@ -3,15 +3,16 @@ use Rattle.std.proofs.Common.{◌≡◌, ℕ, ◌+◌, ◌-◌, ◌*◌, ◌/◌
 use Rattle.std.proofs.Math.Bool.{beq}
 use Rattle.std.proofs.lemmas.Bool.{and_parts, and_from, ltb-true, ltb-false, lt-ltb, le-ltb, eqb-true, cases_lt, cases_Bool, cond-true, cond-false, false≢true, both_ways, false_from_ne_true}
 use Rattle.std.proofs.lemmas.Option.{none-some, same_Some}
+use Rattle.std.specs.Option.{option_or}
 use Rattle.av_vma.specs.declared.area.Area.{Area}
 use Rattle.av_base.specs.declared.prot.Prot.{Prot}
 use Rattle.av_vma.specs.Join.{first_of, past_of, index_of, same_prot, share_anon}
 use Rattle.av_base.specs.Words.{within}
 use Rattle.av_vmatree.specs.declared.span.Span.{Span}
-use Rattle.av_merge.specs.Laid.{AreLaid}
-use Rattle.av_merge.specs.Mapping.{Mapping, mapping, mapping_in, with_prot}
-use Rattle.av_merge.specs.Pages.{Pages, pages_by, has_page, part_of, cut_at, emptied, placed, protected, merged, join, tried, joined_at, joined_around}
-use Rattle.av_merge.specs.Process.{AreAreasOf, IsWhole}
+use Rattle.av_vma.specs.Pages.{AreLaid, Pages, has_page, part_of, cut_at, emptied, placed, Effect, with_effect, affected, merged, join, tried, joined_at, joined_around, IsWhole}
+use Rattle.av_merge.specs.Mapping.{Mapping, mapping, mapping_in, remapped}
+use Rattle.av_merge.specs.Pages.{pages_by}
+use Rattle.av_merge.specs.Process.{AreAreasOf}
 use Rattle.av_merge.proofs.Places.{has_from, has_parts, is_on, one_area}
 
 -- the areas of a process are laid
@@ -120,6 +121,11 @@ pub record IsJoin (left right : Area) : Type 0 where
   pub flags : left.flags ≡ right.flags
   pub index : index_of left (past_of left) ≡ right.pgoff
   pub anon : left.anon ≡ right.anon
+  pub one_anon : option_or left.anon right.anon ≡ left.anon
+
+pub either_same : (a b : Option ℕ) → a ≡ b → option_or a b ≡ a
+either_same None b e = sym e
+either_same (Some n) b e = refl
 
 pub same_bit : (a b : Bool) → beq a b ≡ true → a ≡ b
 same_bit true true e = refl
@@ -127,7 +133,7 @@ same_bit true false e = absurd (false≢true e)
 same_bit false true e = absurd (false≢true e)
 same_bit false false e = refl
 
-prot_is : (p q : Prot) → same_prot p q ≡ true → p ≡ q
+pub prot_is : (p q : Prot) → same_prot p q ≡ true → p ≡ q
 prot_is p q e =
     let both = and_parts (beq p.read q.read && beq p.write q.write) (beq p.execute q.execute) e in
     let first = and_parts (beq p.read q.read) (beq p.write q.write) both.0 in
@@ -154,6 +160,7 @@ join_is left right e =
       flags = eqb-true left.flags right.flags p2.1;
       index = eqb-true (index_of left (past_of left)) right.pgoff p3.1;
       anon = anon_is left.anon right.anon p4.1;
+      one_anon = either_same left.anon right.anon (anon_is left.anon right.anon p4.1);
     }
 
 pub merged_whole : (left right : Area) → IsWhole left → IsWhole right → join left right ≡ true → IsWhole (merged left right)
@@ -189,12 +196,15 @@ right_pages left right l r e page h =
     let high : page < past_of right = parts.1 in
     has_from (merged left right) page (omega arith) high
 
+left_maps : (left right : Area) → join left right ≡ true → (page : ℕ) → mapping_in page (merged left right) ≡ mapping_in page left
+left_maps left right e page = λ i. record { prot = left.prot; flags = left.flags; index = index_of left page; anon = (join_is left right e).one_anon i }
+
 right_maps : (left right : Area) → IsWhole left → IsWhole right → join left right ≡ true → (page : ℕ) → has_page right page ≡ true → mapping_in page (merged left right) ≡ mapping_in page right
 right_maps left right l r e page h =
     let j = join_is left right e in
     let low : first_of right ≤ page = (has_parts right page h).0 in
     let same : (page - left.start / 4096) + left.pgoff ≡ (page - right.start / 4096) + right.pgoff = omega arith in
-    λ i. record { prot = j.prot i; flags = j.flags i; index = same i; anon = j.anon i }
+    λ i. record { prot = j.prot i; flags = j.flags i; index = same i; anon = (j.one_anon ∙ j.anon) i }
 
 -- what a boundary that is tried leaves on a page: what was there, or the two areas as one
 record IsTried (at page : ℕ) (on : Pages) : Type 0 where
@@ -241,7 +251,7 @@ joined_maps at on laid page = elim (tried_is at page on) [
       let l = laid.whole (at - 1) t.left t.before in
       let r = laid.whole at t.right t.after in
       elim (merged_pages t.left t.right l r t.joins page t.here) [
-        | inl h ↦ ap (option_map (mapping_in page)) t.is ∙ sym (ap (option_map (mapping_in page)) (laid.all (at - 1) page t.left t.before h))
+        | inl h ↦ ap (option_map (mapping_in page)) t.is ∙ ap Some (left_maps t.left t.right t.joins page) ∙ sym (ap (option_map (mapping_in page)) (laid.all (at - 1) page t.left t.before h))
         | inr h ↦ ap (option_map (mapping_in page)) t.is ∙ ap Some (right_maps t.left t.right l r t.joins page h) ∙ sym (ap (option_map (mapping_in page)) (laid.all at page t.right t.after h))
       ]
 ]
@@ -294,13 +304,13 @@ emptied_maps from past on page = elim (within from (past - from) page) as (λ b.
 pub placed_maps : (area : Area) (on : Pages) (page : ℕ) → mapping (placed area on) page ≡ cond (has_page area page) (Some (mapping_in page area)) (mapping on page)
 placed_maps area on page = elim (has_page area page) as (λ b. option_map (mapping_in page) (cond b (Some area) (on page)) ≡ cond b (Some (mapping_in page area)) (mapping on page)) [ true ↦ refl | false ↦ refl ]
 
-pub protected_maps : (from past : ℕ) (prot : Prot) (on : Pages) (page : ℕ) → mapping (protected from past prot on) page ≡ cond (within from (past - from) page) (option_map (with_prot prot) (mapping on page)) (mapping on page)
-protected_maps from past prot on page = elim (within from (past - from) page) as (λ b. option_map (mapping_in page) (cond b (option_map (λ (area : Area). record area { prot = prot }) (on page)) (on page)) ≡ cond b (option_map (with_prot prot) (option_map (mapping_in page) (on page))) (option_map (mapping_in page) (on page))) [
+pub changed_maps : (from past : ℕ) (effect : Effect) (on : Pages) (page : ℕ) → mapping (affected from past effect on) page ≡ cond (within from (past - from) page) (option_map (remapped effect) (mapping on page)) (mapping on page)
+changed_maps from past effect on page = elim (within from (past - from) page) as (λ b. option_map (mapping_in page) (cond b (option_map (with_effect effect) (on page)) (on page)) ≡ cond b (option_map (remapped effect) (option_map (mapping_in page) (on page))) (option_map (mapping_in page) (on page))) [
   | true ↦ each (on page)
   | false ↦ refl
 ]
   where
-    each : (o : Option Area) → option_map (mapping_in page) (option_map (λ (area : Area). record area { prot = prot }) o) ≡ option_map (with_prot prot) (option_map (mapping_in page) o)
+    each : (o : Option Area) → option_map (mapping_in page) (option_map (with_effect effect) o) ≡ option_map (remapped effect) (option_map (mapping_in page) o)
     each None = refl
     each (Some area) = refl
 
@@ -311,10 +321,10 @@ cut_out_maps from to on laid page =
     ∙ ap (cond (within from (to - from) page) None) (cut_maps to (cut_at from on) (laid_cut from on laid) page ∙ cut_maps from on laid page)
 
 -- a part of an area gets a protection, and is joined with its neighbours
-pub part_maps_to : (from past : ℕ) (prot : Prot) (on changed new : Pages) → AreLaid on → AreLaid changed → ((page : ℕ) → changed page ≡ protected from past prot (cut_at past (cut_at from on)) page) → ((page : ℕ) → new page ≡ joined_around from past changed page) → (page : ℕ) → mapping new page ≡ cond (within from (past - from) page) (option_map (with_prot prot) (mapping on page)) (mapping on page)
-part_maps_to from past prot on changed new laid laid_after change joins page =
+pub part_maps_to : (from past : ℕ) (effect : Effect) (on now new : Pages) → AreLaid on → AreLaid now → ((page : ℕ) → now page ≡ affected from past effect (cut_at past (cut_at from on)) page) → ((page : ℕ) → new page ≡ joined_around from past now page) → (page : ℕ) → mapping new page ≡ cond (within from (past - from) page) (option_map (remapped effect) (mapping on page)) (mapping on page)
+part_maps_to from past effect on now new laid laid_after change joins page =
     ap (option_map (mapping_in page)) (joins page)
-    ∙ around_maps from past changed laid_after page
+    ∙ around_maps from past now laid_after page
     ∙ ap (option_map (mapping_in page)) (change page)
-    ∙ protected_maps from past prot (cut_at past (cut_at from on)) page
-    ∙ ap (λ (m : Option Mapping). cond (within from (past - from) page) (option_map (with_prot prot) m) m) (cut_maps past (cut_at from on) (laid_cut from on laid) page ∙ cut_maps from on laid page)
+    ∙ changed_maps from past effect (cut_at past (cut_at from on)) page
+    ∙ ap (λ (m : Option Mapping). cond (within from (past - from) page) (option_map (remapped effect) m) m) (cut_maps past (cut_at from on) (laid_cut from on laid) page ∙ cut_maps from on laid page)

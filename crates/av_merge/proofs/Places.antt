@@ -10,7 +10,8 @@ use Rattle.av_base.specs.Words.{within, with_at}
 use Rattle.av_vmatree.specs.declared.span.Span.{Span}
 use Rattle.av_vmatree.specs.Spans.{without_area, AreApart, AreDistinct, AreSpans, area_at, holds, span_of, taken, unless_area, IsFree}
 use Rattle.av_vmatree.proofs.Spans.{held, removed}
-use Rattle.av_merge.specs.Pages.{has_page, pages_by, placed}
+use Rattle.av_vma.specs.Pages.{has_page, placed}
+use Rattle.av_merge.specs.Pages.{pages_by}
 use Rattle.av_merge.specs.Process.{AreAreasOf, IsAreaOf, KeepsOthers, Stays}
 
 -- ---- tests and bounds

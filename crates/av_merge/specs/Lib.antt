@@ -1,4 +1,4 @@
-pub mod Laid
+pub mod Change
 pub mod Mapping
 pub mod Pages
 pub mod Process

@@ -1,9 +1,10 @@
 -- How a page is mapped: what its area says of it, whatever the area's bounds are.
-use Rattle.std.specs.Prelude.{ℕ, Option, option_map}
+use Rattle.std.specs.Prelude.{◌≡◌, ℕ, ◌-◌, if◌then◌else◌, Option, option_map}
 use Rattle.av_base.specs.declared.prot.Prot.{Prot}
 use Rattle.av_vma.specs.declared.area.Area.{Area}
+use Rattle.av_base.specs.Words.{within}
 use Rattle.av_vma.specs.Join.{index_of}
-use Rattle.av_merge.specs.Pages.{Pages}
+use Rattle.av_vma.specs.Pages.{Pages, Effect}
 
 -- the protection, flags and own anon_vma of a page's area, and the page's linear index
 pub record Mapping : Type 0 where
@@ -20,6 +21,12 @@ mapping_in page area = record { prot = area.prot; flags = area.flags; index = in
 abbrev pub mapping : Pages → ℕ → Option Mapping
 mapping on page = option_map (mapping_in page) (on page)
 
--- with another protection
-abbrev pub with_prot : Prot → Mapping → Mapping
-with_prot prot m = record m { prot = prot }
+-- with the effect of a change
+abbrev pub remapped : Effect → Mapping → Mapping
+remapped effect m = record m { prot = effect.prot m.prot; flags = effect.flags m.flags }
+
+-- the pages from one to below another are mapped with the effect, and the others as they were
+abbrev pub IsRemapped : ℕ → ℕ → Effect → Pages → Pages → Type 0
+IsRemapped from past effect old new = (page : ℕ) → mapping new page
+    ≡ (if within from (past - from) page then option_map (remapped effect) (mapping old page)
+    else mapping old page)

@@ -1,4 +1,4 @@
-//! New areas, and areas that get another protection; each is joined with its neighbours where they go on in each other.
+//! New areas, and areas that are changed; each is joined with its neighbours where they go on in each other.
 
 ghost use Rattle.std.specs.Prelude.{◌≡◌, ℕ, ◌-◌, ◌*◌, ◌+◌, ◌<◌, ◌≤◌, ◌⊎◌, true, false, if◌then◌else◌, option_map, IsSomeAnd, IfSome, OnOk, IfOk};
 ghost use Rattle.av_vma.specs.Areas.{area_of};
@@ -6,20 +6,22 @@ ghost use Rattle.av_base.specs.Limits.{low_page, top_page};
 ghost use Rattle.av_vma.specs.Join.{past_of};
 ghost use Rattle.av_base.specs.Words.{within};
 ghost use Rattle.av_vmatree.specs.Spans.{IsFree, span_of, taken};
-ghost use Rattle.av_merge.specs.Mapping.{mapping, with_prot};
-ghost use Rattle.av_merge.specs.Pages.{pages_by, placed, joined_around, cut_at, fresh_area, protected, IsReached};
-ghost use Rattle.av_merge.specs.Process.{AreAreasOf, Stays};
+ghost use Rattle.av_merge.specs.Change.{effect_of};
+ghost use Rattle.av_merge.specs.Mapping.{IsRemapped};
+ghost use Rattle.av_merge.specs.Pages.{IsReached, pages_by};
+ghost use Rattle.av_vma.specs.Pages.{alters, fresh_area, joined_around, pages_changed, part_changed, placed, with_effect, mapped};
+ghost use Rattle.av_merge.specs.Process.{AreAreasOf, Stays, AreOfOne, StayOfOne, Becomes};
 
 use crate::cutting::split_before;
 use crate::joining::{join_around, join_at};
 use crate::placing::add;
+use av_base::{PAGE_SIZE, Prot};
 use av_vma::{Area, AreaId, Areas};
-use av_base::{Prot};
 use av_vmatree::Tree;
 use std::alloc::AllocError;
 
-/// Maps the pages from `from` to below `to`, which are free in the process, as one area without an anon_vma, whose offset is its first
-/// page.
+/// Maps the pages from `from` to below `to`, which are free in the process, as one area without an
+/// anon_vma, whose offset is its first page.
 pub fn map(
     areas: &mut Areas,
     tree: &mut Tree,
@@ -34,68 +36,103 @@ pub fn map(
     requires high { to ≤ top_page }
     requires free { IsFree (taken tree.old) from to }
     ensures stands { Stays process (area_of areas.old) (area_of areas.new) tree.new }
-    ensures pages { OnOk result ((page : ℕ) → pages_by (area_of areas.new) tree.new page ≡ joined_around from to (placed (fresh_area process from to prot) (pages_by (area_of areas.old) tree.old)) page) }
+    ensures pages { OnOk result
+        (Becomes areas.old tree.old areas.new tree.new (mapped process from to prot)) }
 {
     let area = Area {
         pid: process,
-        start: 4096 * from,
-        end: 4096 * to,
+        start: PAGE_SIZE * from,
+        end: PAGE_SIZE * to,
         prot,
         flags: 0,
         pgoff: from,
         anon: None,
     };
     add(areas, tree, area)?;
-    join_at(areas, tree, from);
-    join_at(areas, tree, to);
-    Ok(())
+    join_at(areas, tree, from)?;
+    join_at(areas, tree, to)
 }
 
-/// Gives the pages from `from` to below `to` a protection, and tells the page that it came to: the first one that isn't mapped, else `to`.
+/// What is said of an area's pages that can be changed.
+#[derive(Clone, Copy, Drop, Debug, PartialEq, Eq)]
+pub enum Change {
+    /// The pages get this protection.
+    Prot(Prot),
+}
+
+impl Change {
+    /// Whether it makes the area another.
+    fn alters(self, area: &Area) -> bool
+        ensures { result ≡ alters (effect_of self) area.now }
+    {
+        match self {
+            Change::Prot(prot) => prot != area.prot,
+        }
+    }
+
+    /// The area with the change.
+    fn apply(self, area: Area) -> Area
+        ensures { result ≡ with_effect (effect_of self) area }
+    {
+        match self {
+            Change::Prot(prot) => Area { prot, ..area },
+        }
+    }
+}
+
+/// Changes the pages from `from` to below `to` up to the first that isn't mapped, and tells that
+/// one, else `to`.
 ///
-/// An area that has the protection already isn't cut.
-pub fn protect(
+/// An area that is so already is neither cut nor joined (Linux's `vma_modify`).
+pub fn modify(
     areas: &mut Areas,
     tree: &mut Tree,
     from: u64,
     to: u64,
-    prot: Prot,
+    change: Change,
 ) -> Result<u64, AllocError>
-    requires stands { (p : ℕ) × AreAreasOf p (area_of areas.old) tree.old }
+    requires stands { AreOfOne areas.old tree.old }
     requires forward { from ≤ to }
-    ensures stands { (p : ℕ) → AreAreasOf p (area_of areas.old) tree.old → Stays p (area_of areas.old) (area_of areas.new) tree.new }
+    ensures stands { StayOfOne areas.old tree.old areas.new tree.new }
     ensures reached { IfOk result (λ past. IsReached (taken tree.old) from to past) }
-    ensures pages { IfOk result (λ past. (page : ℕ) → mapping (pages_by (area_of areas.new) tree.new) page ≡ (if within from (past - from) page then option_map (with_prot prot) (mapping (pages_by (area_of areas.old) tree.old) page) else mapping (pages_by (area_of areas.old) tree.old) page)) }
+    ensures pages { IfOk result (λ past. Becomes areas.old tree.old areas.new tree.new
+        (pages_changed (effect_of change) from (past - from))) }
+    ensures mapping { IfOk result (λ past. IsRemapped from past (effect_of change)
+        (pages_by (area_of areas.old) tree.old) (pages_by (area_of areas.new) tree.new)) }
 {
     let mut page = from;
     while page < to {
-        let Some(area) = tree.find(page) else {
+        let Some(number) = tree.find(page) else {
             return Ok(page);
         };
-        let Area { end, prot: old, .. } = areas.get(area);
-        let past = to.min(end / 4096);
-        if old != prot {
-            protect_part(areas, tree, page, past, prot)?;
+        let area = areas.get(number);
+        let past = to.min(area.end / PAGE_SIZE);
+        if change.alters(&area) {
+            modify_part(areas, tree, page, past, change)?;
         }
         page = past;
     }
     Ok(to)
 }
 
-/// Gives the pages from `from` to below `past`, all of one area, another protection, and joins them with their neighbours.
-fn protect_part(
+/// Changes the pages from `from` to below `past`, all of one area, and joins them with their
+/// neighbours.
+fn modify_part(
     areas: &mut Areas,
     tree: &mut Tree,
     from: u64,
     past: u64,
-    prot: Prot,
+    change: Change,
 ) -> Result<(), AllocError>
-    requires stands { (p : ℕ) × AreAreasOf p (area_of areas.old) tree.old }
+    requires stands { AreOfOne areas.old tree.old }
     requires some { from < past }
-    requires inside { IsSomeAnd (pages_by (area_of areas.old) tree.old from) (λ area. past ≤ past_of area) }
-    ensures stands { (p : ℕ) → AreAreasOf p (area_of areas.old) tree.old → Stays p (area_of areas.old) (area_of areas.new) tree.new }
-    ensures pages { OnOk result ((page : ℕ) → pages_by (area_of areas.new) tree.new page ≡ joined_around from past (protected from past prot (cut_at past (cut_at from (pages_by (area_of areas.old) tree.old)))) page) }
-    ensures mapping { OnOk result ((page : ℕ) → mapping (pages_by (area_of areas.new) tree.new) page ≡ (if within from (past - from) page then option_map (with_prot prot) (mapping (pages_by (area_of areas.old) tree.old) page) else mapping (pages_by (area_of areas.old) tree.old) page)) }
+    requires inside { IsSomeAnd (pages_by (area_of areas.old) tree.old from)
+        (λ area. past ≤ past_of area) }
+    ensures stands { StayOfOne areas.old tree.old areas.new tree.new }
+    ensures pages { OnOk result
+        (Becomes areas.old tree.old areas.new tree.new (part_changed from past (effect_of change))) }
+    ensures mapping { OnOk result (IsRemapped from past (effect_of change)
+        (pages_by (area_of areas.old) tree.old) (pages_by (area_of areas.new) tree.new)) }
 {
     split_before(areas, tree, from)?;
     split_before(areas, tree, past)?;
@@ -103,6 +140,6 @@ fn protect_part(
         unreachable!()
     };
     let area = areas.get(number);
-    areas.change(number, Area { prot, ..area });
+    areas.change(number, change.apply(area));
     join_around(areas, tree, number)
 }

@@ -5,9 +5,11 @@ ghost use Rattle.av_vma.specs.Areas.{area_of};
 ghost use Rattle.av_vma.specs.Join.{first_of, past_of};
 ghost use Rattle.av_base.specs.Words.{with_at};
 ghost use Rattle.av_vmatree.specs.Spans.{IsFree, span_of, taken, without_area};
-ghost use Rattle.av_merge.specs.Pages.{pages_by, placed};
-ghost use Rattle.av_merge.specs.Process.{AreAreasOf, IsWhole, Stays};
+ghost use Rattle.av_merge.specs.Pages.{pages_by};
+ghost use Rattle.av_vma.specs.Pages.{placed, IsWhole};
+ghost use Rattle.av_merge.specs.Process.{AreAreasOf, Stays, AreOfOne, StayOfOne, Becomes};
 
+use av_base::PAGE_SIZE;
 use av_vma::{Area, AreaId, Areas};
 use av_vmatree::Tree;
 use std::alloc::AllocError;
@@ -18,10 +20,11 @@ pub fn add(areas: &mut Areas, tree: &mut Tree, area: Area) -> Result<(), AllocEr
     requires whole { IsWhole area }
     requires free { IsFree (taken tree.old) (first_of area) (past_of area) }
     ensures stands { Stays area.pid (area_of areas.old) (area_of areas.new) tree.new }
-    ensures pages { OnOk result ((page : ℕ) → pages_by (area_of areas.new) tree.new page ≡ placed area (pages_by (area_of areas.old) tree.old) page) }
+    ensures pages { OnOk result
+        (Becomes areas.old tree.old areas.new tree.new (placed area)) }
 {
     let number = areas.add(area)?;
-    match tree.insert(number, area.start / 4096, area.end / 4096) {
+    match tree.insert(number, area.start / PAGE_SIZE, area.end / PAGE_SIZE) {
         Ok(()) => Ok(()),
         Err(error) => {
             areas.remove(number);
@@ -30,15 +33,17 @@ pub fn add(areas: &mut Areas, tree: &mut Tree, area: Area) -> Result<(), AllocEr
     }
 }
 
-/// Puts an area of the same process in the place of one that begins with the same page, on pages that are its own or free.
+/// Puts an area of the same process in the place of one that begins with the same page, on pages
+/// that are its own or free.
 pub fn replace(areas: &mut Areas, tree: &mut Tree, number: AreaId, area: Area)
     requires stands { AreAreasOf area.pid (area_of areas.old) tree.old }
     requires there { IsSomeAnd (span_of tree.old number) (λ s. s.from ≡ first_of area) }
     requires whole { IsWhole area }
     requires free { IsFree (taken (without_area number tree.old)) (first_of area) (past_of area) }
     ensures stands { Stays area.pid (area_of areas.old) (area_of areas.new) tree.new }
-    ensures pages { (page : ℕ) → pages_by (area_of areas.new) tree.new page ≡ placed area (pages_by (with_at number None (area_of areas.old)) tree.old) page }
+    ensures pages { (page : ℕ) → pages_by (area_of areas.new) tree.new page
+        ≡ placed area (pages_by (with_at number None (area_of areas.old)) tree.old) page }
 {
-    tree.set_end(number, area.start / 4096, area.end / 4096);
+    tree.set_end(number, area.start / PAGE_SIZE, area.end / PAGE_SIZE);
     areas.change(number, area);
 }

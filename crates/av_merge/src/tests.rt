@@ -4,8 +4,8 @@ ghost use Rattle.av_base.specs.Limits.{low_page, top_page};
 ghost use Rattle.av_merge.specs.Process.{AreAreasOf};
 
 use super::*;
+use av_base::{PAGE_SIZE, Prot};
 use av_vma::{Area, Areas};
-use av_base::{Prot};
 use av_vmatree::Tree;
 use std::test::Fail;
 
@@ -52,7 +52,7 @@ fn set(areas: &mut Areas, tree: &mut Tree, from: u64, to: u64, prot: Prot) -> Re
     requires forward { from ≤ to }
     ensures { AreAreasOf 1 (area_of areas.new) tree.new }
 {
-    let past = protect(areas, tree, from, to, prot)?;
+    let past = modify(areas, tree, from, to, Change::Prot(prot))?;
     Ok(past)
 }
 
@@ -71,8 +71,8 @@ fn area(from: u64, to: u64, prot: Prot) -> Option<Area>
 {
     Some(Area {
         pid: 1,
-        start: 4096 * from,
-        end: 4096 * to,
+        start: PAGE_SIZE * from,
+        end: PAGE_SIZE * to,
         prot,
         flags: 0,
         pgoff: from,
@@ -109,7 +109,7 @@ fn the_offset_runs_on_past_a_cut(rt: HostRuntime) -> Result<(), Fail> {
 }
 
 #[test]
-fn protect_stops_at_a_hole(rt: HostRuntime) -> Result<(), Fail> {
+fn a_change_stops_at_a_hole(rt: HostRuntime) -> Result<(), Fail> {
     let mut areas = Areas::new(rt.alloc());
     let mut tree = Tree::new(rt.alloc());
     put(&mut areas, &mut tree, 16, 20, READ)?;

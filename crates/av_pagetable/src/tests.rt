@@ -1,4 +1,4 @@
-use crate::{MapTable, Pte, Table, Tables};
+use crate::{MapTable, Pte, RadixTable, Table, Tables};
 use av_base::Slot;
 use std::alloc::AllocError;
 
@@ -37,5 +37,26 @@ fn processes_come_and_go(rt: HostRuntime) -> Result<(), AllocError> {
         table.set(1, Pte::Zero)?;
     }
     assert!(rt; tables.of(4).is_some_and(|table| table.get(1) == Pte::Zero));
+    Ok(())
+}
+
+#[test]
+fn tables_are_given_back(rt: HostRuntime) -> Result<(), AllocError> {
+    let mut table = RadixTable::new(rt.alloc())?;
+    assert_eq!(rt; table.held(), 1);
+    table.set(0x10000, Pte::Zero)?;
+    table.change(0x10000, AWAY);
+    table.set(0x7fffffffe, AWAY)?;
+    assert_eq!(rt; table.held(), 7);
+    assert_eq!(rt; table.next_from(0x10001), Some(0x7fffffffe));
+    assert_eq!(rt;
+        table.take_first(0x10001, 0x7ffffffff),
+        Some((0x7fffffffe, AWAY))
+    );
+    assert_eq!(rt; table.held(), 4);
+    assert_eq!(rt; table.get(0x10000), AWAY);
+    assert_eq!(rt; table.take_first(0, 0x1000000000), Some((0x10000, AWAY)));
+    assert_eq!(rt; table.held(), 1);
+    assert_eq!(rt; table.next_from(0), None);
     Ok(())
 }

@@ -1,29 +1,42 @@
--- Which frame is taken: the first of the free ones, whose order follows the events.
-use Rattle.std.specs.Prelude.{◌≡◌, ℕ, not, ◌&&◌, if◌then◌else◌, List, [], ◌∷◌, Option, Some, None}
-use Rattle.av_trace.specs.declared.reply.Note.TheVariants.{New, Copied, Loaded, Dropped}
-use Rattle.av_plain.specs.Ledger.{Ledger, Entry, entry, frame_at, is_free}
-use Rattle.av_plain.specs.Event.{Event, Noted, Taken, after, frame_of}
+-- Which frame is taken: the first of the free ones, in an order that follows the events. This is
+-- not part of what makes a reply legal.
+use Rattle.std.specs.Prelude.{◌≡◌, ℕ, not, ◌&&◌, ◌==◌, nat_lt, if◌then◌else◌, List, [], ◌∷◌, ◌++◌, filter, Option, Some, None, MatchOption}
+use Rattle.av_base.specs.Words.{how_many, numbers}
+use Rattle.av_trace.specs.declared.note.Note.{Note}
+use Rattle.av_trace.specs.declared.note.Note.TheVariants.{New, Copied, Loaded}
+use Rattle.av_plain.specs.Ledger.{Ledger, Setting, is_free}
+use Rattle.av_plain.specs.Event.{Event, Noted, after}
 
--- the frame that an entry names, if there is an entry
-abbrev pub frame_under : Option Entry → Option ℕ
-frame_under None = None
-frame_under (Some e) = frame_of e
+-- the frame that a note takes
+abbrev pub frame_in_note : Note → Option ℕ
+frame_in_note (New p a f) = Some f
+frame_in_note (Copied p a f) = Some f
+frame_in_note (Loaded s f) = Some f
+frame_in_note note = None
 
--- a frame that has become free goes in front
-abbrev pub freed : Ledger → Ledger → Option ℕ → List ℕ → List ℕ
-freed old new None free = free
-freed old new (Some f) free = if is_free new f && not (is_free old f) then f ∷ free else free
+-- and so an event, if it is a note
+abbrev pub frame_in : Event → Option ℕ
+frame_in (Noted note) = frame_in_note note
+frame_in event = None
 
--- the free frames before and after one event
-abbrev pub Chooses : Ledger → Event → List ℕ → List ℕ → Type 0
-Chooses l (Noted (New p a f)) free free' = free ≡ f ∷ free'
-Chooses l (Noted (Copied p a f)) free free' = free ≡ f ∷ free'
-Chooses l (Noted (Loaded s f)) free free' = free ≡ f ∷ free'
-Chooses l (Noted (Dropped s)) free free' = free' ≡ freed l (after l (Noted (Dropped s))) (frame_at l s) free
-Chooses l (Taken k) free free' = free' ≡ freed l (after l (Taken k)) (frame_under (entry l k)) free
-Chooses l event free free' = free' ≡ free
+-- the frames of the machine that are free now and weren't, rising
+abbrev pub new_free : Setting → Ledger → Ledger → List ℕ
+new_free m old new = filter (λ f. is_free new f && not (is_free old f)) (numbers 0 m.frames)
+
+-- the free frames before and after one event: a frame that it takes is the first, and what has
+-- become free goes in front
+abbrev pub Chooses : Setting → Ledger → Event → List ℕ → List ℕ → Type 0
+Chooses m l e free free' =
+    (rest : List ℕ) × MatchOption (frame_in e) (free ≡ rest) (λ f. free ≡ f ∷ rest)
+    × (free' ≡ new_free m l (after l e) ++ rest)
 
 -- and after several
-abbrev pub ChoosesAll : Ledger → List Event → List ℕ → List ℕ → Type 0
-ChoosesAll l [] free free' = free' ≡ free
-ChoosesAll l (e ∷ es) free free' = (mid : List ℕ) × Chooses l e free mid × ChoosesAll (after l e) es mid free'
+abbrev pub ChoosesAll : Setting → Ledger → List Event → List ℕ → List ℕ → Type 0
+ChoosesAll m l [] free free' = free' ≡ free
+ChoosesAll m l (e ∷ es) free free' =
+    (mid : List ℕ) × Chooses m l e free mid × ChoosesAll m (after l e) es mid free'
+
+-- the list has each free frame of the machine once, and no other number
+abbrev pub ListsFree : Setting → Ledger → List ℕ → Type 0
+ListsFree m l free = (f : ℕ) →
+    how_many (λ g. f == g) free ≡ (if is_free l f && nat_lt f m.frames then 1 else 0)

@@ -1,25 +1,32 @@
 -- What happens to the ledger, one event at a time, and what stands after it.
-use Rattle.std.specs.Prelude.{ℕ, ◌+◌, ◌-◌, Bool, true, false, not, ◌&&◌, ◌==◌, if◌then◌else◌, List, [], ◌∷◌, ◌++◌, map, filter, fold, Option, Some, None}
-use Rattle.std.specs.Ordering.{nat_cmp}
 use Rattle.std.specs.FinMap.Entries.{put, where_key}
-use Rattle.av_base.specs.declared.slot.Slot.{Slot}
-use Rattle.av_trace.specs.declared.reply.Note.{Note}
-use Rattle.av_trace.specs.declared.reply.Note.TheVariants.{Zeroed, New, Copied, Loaded, Mapped, Put, Unmapped, Started, Written, Failed, Dropped, Kept, Aged}
-use Rattle.av_trace.specs.declared.reply.Cause.TheVariants.{Writeback, Referenced, NoSlot, WriteStarted}
+use Rattle.std.specs.List.{list_any}
+use Rattle.std.specs.Ordering.{nat_cmp}
+use Rattle.std.specs.Prelude.{ℕ, ◌+◌, ◌-◌, Bool, true, false, not, ◌&&◌, ◌==◌, if◌then◌else◌, List, [], ◌∷◌, ◌++◌, map, filter, fold, Option, Some, None}
 use Rattle.av_base.specs.Page.{page_of}
 use Rattle.av_base.specs.Words.{within}
-use Rattle.av_plain.specs.Ledger.{Ledger, Cached, Key, key_cmp, Entry, Zero, InFrame, InSlot, entry, names_frame, slot_of, frame_at, same_slot, is_free}
+use Rattle.av_base.specs.declared.slot.Slot.{Slot}
+use Rattle.av_trace.specs.declared.note.Cause.TheVariants.{Writeback, Referenced, NoSlot, WriteStarted}
+use Rattle.av_trace.specs.declared.note.Note.{Note}
+use Rattle.av_trace.specs.declared.note.Note.TheVariants.{Zeroed, New, Copied, Loaded, Mapped, Put, Unmapped, Started, Written, Failed, Dropped, Kept, Aged}
+use Rattle.av_plain.specs.Ledger.{names_frame, key_cmp, same_slot, is_free, frame_at, InFrame, slot_of, Entry, Zero, entry, Cached, Key, Ledger, InSlot}
+use Rattle.av_plain.specs.World.{process}
+
+-- a page that goes over at a fork, whole or as zeros
+pub record Inherited : Type 0 where
+  pub page : ℕ
+  pub as_zeros : Bool
 
 -- what may happen to the ledger
 pub data Event : Type 0 where
   -- what a note tells
   Noted : (note : Note) → Event
   -- the entry at the key goes
-  Taken : (key : Key) → Event
+  Zapped : (key : Key) → Event
   -- a read or write has served the page
   Used : (write : Bool) (key : Key) → Event
-  -- the second process gets the first one's entries
-  Forked : (parent child : ℕ) → Event
+  -- the second process gets these pages of the first one
+  Forked : (parent child : ℕ) (pages : List Inherited) → Event
   -- the process's entries of the n pages from one page on go to another
   Moved : (process n from to : ℕ) → Event
   TurnedOn : (area slots bad : ℕ) → Event
@@ -32,22 +39,23 @@ abbrev pub set_entry : Key → Entry → Ledger → Ledger
 set_entry k e l = record l { entries = put key_cmp k e l.entries }
 
 -- the entry with its seen bit cleared
-abbrev pub unseen : Entry → Entry
-unseen Zero = Zero
-unseen (InFrame f seen) = InFrame f false
-unseen (InSlot s) = InSlot s
+abbrev pub without_seen : Entry → Entry
+without_seen Zero = Zero
+without_seen (InFrame f seen) = InFrame f false
+without_seen (InSlot s) = InSlot s
 
 -- each entry that names the frame becomes what is said
 abbrev pub change_entries : ℕ → (Entry → Entry) → Ledger → Ledger
-change_entries f change l = record l { entries = map (λ e. (e.0, (if names_frame f e.1 then change e.1 else e.1))) l.entries }
+change_entries f change l =
+    record l { entries = map (λ e. (e.0, if names_frame f e.1 then change e.1 else e.1)) l.entries }
 
 -- the list without the frame
 abbrev pub without : ℕ → List ℕ → List ℕ
 without f fs = filter (λ g. not (f == g)) fs
 
 -- the frame leaves its list
-abbrev pub unlisted : ℕ → Ledger → Ledger
-unlisted f l = record l { active = without f l.active; inactive = without f l.inactive }
+abbrev pub off_lists : ℕ → Ledger → Ledger
+off_lists f l = record l { active = without f l.active; inactive = without f l.inactive }
 
 -- the frame goes to the head of inactive, from whichever list it was in
 abbrev pub to_inactive_head : ℕ → Ledger → Ledger
@@ -55,7 +63,8 @@ to_inactive_head f l = record l { active = without f l.active; inactive = f ∷ 
 
 -- or to its tail
 abbrev pub to_inactive_tail : ℕ → Ledger → Ledger
-to_inactive_tail f l = record l { active = without f l.active; inactive = without f l.inactive ++ f ∷ [] }
+to_inactive_tail f l =
+    record l { active = without f l.active; inactive = without f l.inactive ++ f ∷ [] }
 
 -- or to the head of active
 abbrev pub to_active : ℕ → Ledger → Ledger
@@ -63,53 +72,72 @@ to_active f l = record l { active = f ∷ without f l.active; inactive = without
 
 -- a frame that is free leaves its list
 abbrev pub settle : ℕ → Ledger → Ledger
-settle f l = if is_free l f then unlisted f l else l
+settle f l = if is_free l f then off_lists f l else l
 
 -- the cached slot is stale, or is not
-abbrev pub mark : Bool → Slot → Ledger → Ledger
-mark stale s l = record l { cache = map (λ (c : Cached). if same_slot s c.slot then record c { stale = stale } else c) l.cache }
+abbrev pub with_stale : Bool → Slot → Ledger → Ledger
+with_stale stale s l =
+    record l {
+      cache = map
+          (λ (c : Cached). if same_slot s c.slot then record c { stale = stale } else c) l.cache;
+    }
 
 -- the slot is cached at the frame
-abbrev pub cached_at : Slot → ℕ → Bool → Ledger → Ledger
-cached_at s f stale l = record l { cache = record { slot = s; frame = f; stale = stale } ∷ l.cache }
+abbrev pub into_cache : Slot → ℕ → Bool → Ledger → Ledger
+into_cache s f stale l =
+    record l { cache = record { slot = s; frame = f; stale = stale } ∷ l.cache }
 
 -- the slot is cached no longer
-abbrev pub not_cached : Slot → Ledger → Ledger
-not_cached s l = record l { cache = filter (λ (c : Cached). not (same_slot s c.slot)) l.cache }
+abbrev pub off_cache : Slot → Ledger → Ledger
+off_cache s l = record l { cache = filter (λ (c : Cached). not (same_slot s c.slot)) l.cache }
 
 -- the slot is in flight no longer
-abbrev pub landed : Slot → Ledger → Ledger
-landed s l = record l { flight = filter (λ t. not (same_slot s t)) l.flight }
+abbrev pub off_flight : Slot → Ledger → Ledger
+off_flight s l = record l { flight = filter (λ t. not (same_slot s t)) l.flight }
 
 -- what is done with the frame or slot, where there is one
-abbrev pub at : {A : Type 0} → Option A → (A → Ledger → Ledger) → Ledger → Ledger
-at None change l = l
-at (Some x) change l = change x l
+abbrev pub if_some : {A : Type 0} → Option A → (A → Ledger → Ledger) → Ledger → Ledger
+if_some None change l = l
+if_some (Some x) change l = change x l
 
 -- ---- what a note changes
 
 -- the key of an address
-abbrev pub place : ℕ → ℕ → Key
-place process address = (process, page_of address)
+abbrev pub key_at : ℕ → ℕ → Key
+key_at process address = (process, page_of address)
 
 -- the ledger after a note
-abbrev pub noted : Note → Ledger → Ledger
-noted (Zeroed p a) l = set_entry (place p a) Zero l
-noted (New p a f) l = to_inactive_head f (set_entry (place p a) (InFrame f false) l)
-noted (Copied p a f) l = to_inactive_head f (set_entry (place p a) (InFrame f false) l)
-noted (Loaded s f) l = to_inactive_head f (cached_at s f false l)
-noted (Mapped p a f) l = set_entry (place p a) (InFrame f false) l
-noted (Put f s) l = cached_at s f true l
-noted (Unmapped f) l = at (slot_of l f) (λ s. change_entries f (λ _. InSlot s)) l
-noted (Started s) l = mark false s (record l { flight = l.flight ++ s ∷ [] })
-noted (Written s) l = at (frame_at l s) to_inactive_tail (landed s l)
-noted (Failed s) l = mark true s (landed s l)
-noted (Dropped s) l = at (frame_at l s) settle (not_cached s l)
-noted (Kept f Writeback) l = to_inactive_head f l
-noted (Kept f WriteStarted) l = to_inactive_head f l
-noted (Kept f Referenced) l = to_active f (change_entries f unseen l)
-noted (Kept f NoSlot) l = to_active f l
-noted (Aged f) l = to_inactive_head f (change_entries f unseen l)
+abbrev pub after_note : Note → Ledger → Ledger
+after_note (Zeroed p a) l = set_entry (key_at p a) Zero l
+after_note (New p a f) l = to_inactive_head f (set_entry (key_at p a) (InFrame f false) l)
+after_note (Copied p a f) l = to_inactive_head f (set_entry (key_at p a) (InFrame f false) l)
+after_note (Loaded s f) l = to_inactive_head f (into_cache s f false l)
+after_note (Mapped p a f) l = set_entry (key_at p a) (InFrame f false) l
+after_note (Put f s) l = into_cache s f true l
+after_note (Unmapped f) l = if_some (slot_of l f) (λ s. change_entries f (λ _. InSlot s)) l
+after_note (Started s) l = with_stale false s (record l { flight = l.flight ++ s ∷ [] })
+after_note (Written s) l = if_some (frame_at l s) to_inactive_tail (off_flight s l)
+after_note (Failed s) l = with_stale true s (off_flight s l)
+after_note (Dropped s) l = if_some (frame_at l s) settle (off_cache s l)
+after_note (Kept f Writeback) l = to_inactive_head f l
+after_note (Kept f WriteStarted) l = to_inactive_head f l
+after_note (Kept f Referenced) l = to_active f (change_entries f without_seen l)
+after_note (Kept f NoSlot) l = to_active f l
+after_note (Aged f) l = to_inactive_head f (change_entries f without_seen l)
+
+-- the ledger after some notes
+abbrev pub after_notes : Ledger → List Note → Ledger
+after_notes l [] = l
+after_notes l (note ∷ notes) = after_notes (after_note note l) notes
+
+-- a note that stands under a condition
+abbrev pub when : Bool → Note → List Note
+when true note = note ∷ []
+when false note = []
+
+-- notes as events
+abbrev pub note_events : List Note → List Event
+note_events notes = map Noted notes
 
 -- ---- the other events
 
@@ -128,46 +156,61 @@ slot_behind l (InSlot s) = Some s
 -- the frame of an entry that has gone leaves its list where it is free now
 abbrev pub settle_entry : Option Entry → Ledger → Ledger
 settle_entry None l = l
-settle_entry (Some e) l = at (frame_of e) settle l
+settle_entry (Some e) l = if_some (frame_of e) settle l
+
+-- the entries whose keys pass the test
+abbrev pub entries_where : (Key → Bool) → Ledger → List (Key × Entry)
+entries_where test l = where_key key_cmp test l.entries
 
 -- the ledger after an entry is taken away
-abbrev pub taken : Key → Ledger → Ledger
-taken k l = settle_entry (entry l k) (record l { entries = where_key key_cmp (λ q. not (k.0 == q.0 && k.1 == q.1)) l.entries })
+abbrev pub after_zap : Key → Ledger → Ledger
+after_zap k l =
+    settle_entry (entry l k)
+    (record l { entries = entries_where (λ q. not (k.0 == q.0 && k.1 == q.1)) l })
 
 -- the entry is seen where it is a frame, and a write makes the slot of that frame stale
-abbrev pub used_at : Bool → Key → Ledger → Option Entry → Ledger
-used_at write k l None = l
-used_at write k l (Some Zero) = l
-used_at write k l (Some (InSlot s)) = l
-used_at false k l (Some (InFrame f seen)) = set_entry k (InFrame f true) l
-used_at true k l (Some (InFrame f seen)) = at (slot_of l f) (mark true) (set_entry k (InFrame f true) l)
+abbrev pub after_use_of : Bool → Key → Ledger → Option Entry → Ledger
+after_use_of write k l None = l
+after_use_of write k l (Some Zero) = l
+after_use_of write k l (Some (InSlot s)) = l
+after_use_of false k l (Some (InFrame f seen)) = set_entry k (InFrame f true) l
+after_use_of true k l (Some (InFrame f seen)) =
+    if_some (slot_of l f) (with_stale true) (set_entry k (InFrame f true) l)
 
 -- the ledger after a page was read or written
-abbrev pub used : Bool → Key → Ledger → Ledger
-used write k l = used_at write k l (entry l k)
+abbrev pub after_use : Bool → Key → Ledger → Ledger
+after_use write k l = after_use_of write k l (entry l k)
 
 -- the entries of some keys put in, one by one
 abbrev pub put_all : List (Key × Entry) → Ledger → Ledger
 put_all es l = fold (λ l e. set_entry e.0 e.1 l) l es
 
--- the child gets the parent's entries, unseen
-abbrev pub forked : ℕ → ℕ → Ledger → Ledger
-forked p q l = put_all (map (λ e. ((q, e.0.1), unseen e.1)) (where_key key_cmp (λ k. k.0 == p) l.entries)) l
+-- whether the page goes over with its entry
+abbrev pub is_inherited : List Inherited → ℕ → Bool
+is_inherited pages page = list_any (λ (i : Inherited). i.page == page && not i.as_zeros) pages
+
+-- the child gets the parent's entries of the pages that go over, unseen
+abbrev pub after_fork : ℕ → ℕ → List Inherited → Ledger → Ledger
+after_fork p q pages l =
+    put_all (map (λ e. ((q, e.0.1), without_seen e.1))
+    (entries_where (λ k. k.0 == p && is_inherited pages k.1) l)) l
 
 -- the entries of the n pages from `from` on go to as many pages from `to` on
-abbrev pub moved : ℕ → ℕ → ℕ → ℕ → Ledger → Ledger
-moved p n from to l =
-    put_all (map (λ e. ((p, e.0.1 - from + to), e.1)) (where_key key_cmp (λ k. k.0 == p && within from n k.1) l.entries))
-    (record l { entries = where_key key_cmp (λ k. not (k.0 == p && within from n k.1)) l.entries })
+abbrev pub after_move : ℕ → ℕ → ℕ → ℕ → Ledger → Ledger
+after_move p n from to l =
+    put_all (map (λ e. ((p, e.0.1 - from + to), e.1))
+    (entries_where (λ k. k.0 == p && within from n k.1) l))
+    (record l { entries = entries_where (λ k. not (k.0 == p && within from n k.1)) l })
 
 -- the ledger after an event
 abbrev pub after : Ledger → Event → Ledger
-after l (Noted note) = noted note l
-after l (Taken k) = taken k l
-after l (Used write k) = used write k l
-after l (Forked p q) = forked p q l
-after l (Moved p n from to) = moved p n from to l
-after l (TurnedOn k slots bad) = record l { on = put nat_cmp k (record { slots = slots; bad = bad }) l.on }
+after l (Noted note) = after_note note l
+after l (Zapped k) = after_zap k l
+after l (Used write k) = after_use write k l
+after l (Forked p q pages) = after_fork p q pages l
+after l (Moved p n from to) = after_move p n from to l
+after l (TurnedOn k slots bad) =
+    record l { on = put nat_cmp k (record { slots = slots; bad = bad }) l.on }
 after l (TurnedOff k) = record l { on = where_key nat_cmp (λ q. not (q == k)) l.on }
 
 -- and after several
@@ -175,13 +218,12 @@ abbrev pub after_all : Ledger → List Event → Ledger
 after_all l [] = l
 after_all l (e ∷ es) = after_all (after l e) es
 
+-- the note that an event tells, if it is one
+abbrev pub note_in : Event → List Note
+note_in (Noted note) = note ∷ []
+note_in event = []
+
 -- the notes among the events
 abbrev pub notes_of : List Event → List Note
 notes_of [] = []
-notes_of (Noted note ∷ es) = note ∷ notes_of es
-notes_of (Taken k ∷ es) = notes_of es
-notes_of (Used write k ∷ es) = notes_of es
-notes_of (Forked p q ∷ es) = notes_of es
-notes_of (Moved p n from to ∷ es) = notes_of es
-notes_of (TurnedOn k slots bad ∷ es) = notes_of es
-notes_of (TurnedOff k ∷ es) = notes_of es
+notes_of (e ∷ es) = note_in e ++ notes_of es

@@ -1,26 +1,22 @@
--- What the system keeps of frames and slots, keyed by process and page. Walks and counts are filters of the entries.
-use Rattle.std.specs.Prelude.{ℕ, ◌+◌, ◌-◌, ◌*◌, Bool, true, false, not, ◌&&◌, ◌||◌, ◌==◌, nat_lt, if◌then◌else◌, List, [], ◌∷◌, length, map, filter, sum_by, Option, Some, None, is_some, is_none, option_map}
+-- What the system keeps of frames and slots, keyed by process and page. Walks and counts are
+-- filters of the entries.
+use Rattle.std.specs.FinMap.Entries.{find}
 use Rattle.std.specs.List.{list_any, list_all}
 use Rattle.std.specs.Ordering.{nat_cmp, ordering_then}
+use Rattle.std.specs.Prelude.{ℕ, ◌+◌, ◌-◌, Bool, true, false, not, ◌&&◌, ◌==◌, if◌then◌else◌, List, [], ◌∷◌, map, filter, Option, Some, None, is_some, ◌||◌, length, nat_lt, sum_by, option_map, ◌*◌, is_none, unwrap_or}
 use Rattle.std.specs.declared.cmp.Ordering.{Ordering}
-use Rattle.std.specs.FinMap.Entries.{find}
+use Rattle.av_base.specs.Words.{how_many, is_in, numbers}
 use Rattle.av_base.specs.declared.slot.Slot.{Slot}
-use Rattle.av_base.specs.Words.{how_many, numbers}
+use Rattle.av_swapdev.specs.Header.{Layout}
 
 -- ---- what does not change in a run
 
--- the numbers of a swap header: its pages, its usable slots, and its bad pages
-pub record Header : Type 0 where
-  pub pages : ℕ
-  pub slots : ℕ
-  pub bad : List ℕ
-
--- frames: how many there are. sizes: the pages of each device. headers: what page 0 of each device says (nothing at a fault),
--- where the devices tell their pages
+-- frames: how many there are. sizes: the pages of each swap area that is attached. headers: what
+-- page 0 of each says (nothing at a fault), where pages are told
 pub record Setting : Type 0 where
   pub frames : ℕ
-  pub sizes : List ℕ
-  pub headers : Option (ℕ → Option Header)
+  pub sizes : ℕ → Option ℕ
+  pub headers : Option (ℕ → Option Layout)
 
 -- ---- the ledger
 
@@ -45,7 +41,7 @@ pub record Cached : Type 0 where
   pub stale : Bool
 
 -- an area that is on: its usable slots and bad pages
-pub record Area : Type 0 where
+pub record SwapArea : Type 0 where
   pub slots : ℕ
   pub bad : ℕ
 
@@ -56,11 +52,11 @@ pub record Ledger : Type 0 where
   pub flight : List Slot
   pub active : List ℕ
   pub inactive : List ℕ
-  pub on : List (ℕ × Area)
+  pub on : List (ℕ × SwapArea)
 
 -- no entry, no cached slot, no list and no area
-abbrev pub fresh : Ledger
-fresh = record { entries = []; cache = []; flight = []; active = []; inactive = []; on = [] }
+abbrev pub first_ledger : Ledger
+first_ledger = record { entries = []; cache = []; flight = []; active = []; inactive = []; on = [] }
 
 -- ---- filters
 
@@ -89,8 +85,8 @@ abbrev pub walk : Ledger → ℕ → List Key
 walk l f = map (λ e. e.0) (filter (λ e. names_frame f e.1) l.entries)
 
 -- how many entries name the frame
-abbrev pub mapped : Ledger → ℕ → ℕ
-mapped l f = how_many (λ e. names_frame f e.1) l.entries
+abbrev pub map_count : Ledger → ℕ → ℕ
+map_count l f = how_many (λ e. names_frame f e.1) l.entries
 
 -- and how many the slot
 abbrev pub slot_entries : Ledger → Slot → ℕ
@@ -127,7 +123,7 @@ slot_count l s = slot_entries l s + (if is_cached l s then 1 else 0)
 
 -- no entry and no cached slot names the frame
 abbrev pub is_free : Ledger → ℕ → Bool
-is_free l f = mapped l f == 0 && is_none (slot_of l f)
+is_free l f = map_count l f == 0 && is_none (slot_of l f)
 
 -- the free frames, rising
 abbrev pub free_frames : Setting → Ledger → List ℕ
@@ -140,7 +136,7 @@ has_free m l = list_any (is_free l) (numbers 0 m.frames)
 -- there is a frame, and no entry names it
 abbrev pub is_unmapped : Ledger → Option ℕ → Bool
 is_unmapped l None = false
-is_unmapped l (Some f) = mapped l f == 0
+is_unmapped l (Some f) = map_count l f == 0
 
 -- a cached slot, not in flight, that no entry names and whose frame no entry names
 abbrev pub is_orphan : Ledger → Slot → Bool
@@ -148,24 +144,23 @@ is_orphan l s = is_unmapped l (frame_at l s) && not (in_flight l s) && slot_entr
 
 -- ---- slots of areas that are on
 
--- the number of a device's pages, 0 where there is no such device
-abbrev pub size_of : List ℕ → ℕ → ℕ
-size_of [] k = 0
-size_of (n ∷ ns) k = if k == 0 then n else size_of ns (k - 1)
+-- the number of an area's pages, 0 where none is attached
+abbrev pub size_of : Setting → ℕ → ℕ
+size_of m k = unwrap_or (m.sizes k) 0
 
 -- whether the area is on
 abbrev pub is_on : Ledger → ℕ → Bool
 is_on l k = is_some (find nat_cmp k l.on)
 
 -- the header has the page as a slot: it is one of its pages, and not bad
-abbrev pub is_header_slot : Slot → Option Header → Bool
+abbrev pub is_header_slot : Slot → Option Layout → Bool
 is_header_slot s None = false
-is_header_slot s (Some h) = nat_lt s.page h.pages && not (list_any (λ b. b == s.page) h.bad)
+is_header_slot s (Some h) = nat_lt s.page h.pages && not (is_in s.page h.bad)
 
 -- where headers are told, the area's header has it as a slot
-abbrev pub may_be_slot : Slot → Option (ℕ → Option Header) → Bool
+abbrev pub may_be_slot : Slot → Option (ℕ → Option Layout) → Bool
 may_be_slot s None = true
-may_be_slot s (Some header) = is_header_slot s (header s.area)
+may_be_slot s (Some headers) = is_header_slot s (headers s.area)
 
 -- what the header says of a page, where it is told: whether it is a slot
 abbrev pub is_usable : Setting → Slot → Bool
@@ -174,14 +169,17 @@ is_usable m s = may_be_slot s m.headers
 -- a slot of an area that is on, which nothing names
 abbrev pub is_free_slot : Setting → Ledger → Slot → Bool
 is_free_slot m l s =
-    is_on l s.area && nat_lt 0 s.page && nat_lt s.page (size_of m.sizes s.area) && slot_count l s == 0 && is_usable m s
+    is_on l s.area && nat_lt 0 s.page && nat_lt s.page (size_of m s.area)
+    && slot_count l s == 0 && is_usable m s
 
 -- the slots of an area in use, rising
 abbrev pub slots_in_use : Setting → Ledger → ℕ → List ℕ
-slots_in_use m l k = filter (λ page. nat_lt 0 (slot_count l (record { area = k; page = page }))) (numbers 1 (size_of m.sizes k - 1))
+slots_in_use m l k =
+    filter (λ page. nat_lt 0 (slot_count l (record { area = k; page = page })))
+    (numbers 1 (size_of m k - 1))
 
 -- how many slots of the area are free
-abbrev pub free_slots : Setting → Ledger → ℕ × Area → ℕ
+abbrev pub free_slots : Setting → Ledger → ℕ × SwapArea → ℕ
 free_slots m l a = a.1.slots - length (slots_in_use m l a.0)
 
 -- whether an area is another than the one that a swapoff is closing
@@ -193,10 +191,16 @@ is_open (Some closing) k = not (k == closing)
 abbrev pub no_slot : Setting → Option ℕ → Ledger → Bool
 no_slot m closing l = list_all (λ a. not (is_open closing a.0) || free_slots m l a == 0) l.on
 
+-- whether an area has a free slot
+abbrev pub has_free_slot : Setting → Ledger → ℕ → Bool
+has_free_slot m l k = list_any (λ a. a.0 == k && nat_lt 0 (free_slots m l a)) l.on
+
 -- a slot that may be given
 abbrev pub may_give : Setting → Option ℕ → Ledger → Slot → Bool
-may_give m closing l s = is_free_slot m l s && is_open closing s.area
+may_give m closing l s =
+    is_free_slot m l s && is_open closing s.area && has_free_slot m l s.area
 
 -- swap is full: twice the number of free slots is less than the number of usable ones
 abbrev pub is_full : Setting → Ledger → Bool
-is_full m l = nat_lt (2 * sum_by (free_slots m l) l.on) (sum_by (λ (a : ℕ × Area). a.1.slots) l.on)
+is_full m l =
+    nat_lt (2 * sum_by (free_slots m l) l.on) (sum_by (λ (a : ℕ × SwapArea). a.1.slots) l.on)

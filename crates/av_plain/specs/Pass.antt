@@ -1,62 +1,58 @@
--- What comes before a frame can be had: writes that end, and the pass over all frames where none is free. And what an out-of-memory says.
-use Rattle.std.specs.Prelude.{◌≡◌, ℕ, Bool, true, false, not, ◌&&◌, ◌||◌, ◌==◌, if◌then◌else◌, IsTrue, MatchBool, List, [], ◌∷◌, ◌++◌, reverse, Option, Some, None, is_some, is_none, MatchOption}
+-- Eviction: writes to slots that end, and the direct pass over all frames where none is free. And
+-- what an out-of-memory says.
+use Rattle.std.specs.Prelude.{◌≡◌, ℕ, ◌<◌, Bool, true, false, not, ◌&&◌, ◌||◌, ◌==◌, if◌then◌else◌, IsTrue, MatchBool, List, [], ◌∷◌, ◌++◌, filter, reverse, Option, Some, None, is_some, is_none, MatchOption}
+use Rattle.av_base.specs.Words.{how_many, numbers}
 use Rattle.av_base.specs.declared.slot.Slot.{Slot}
 use Rattle.av_trace.specs.declared.reply.OutOf.{OutOf}
-use Rattle.av_trace.specs.declared.reply.Note.{Note}
-use Rattle.av_trace.specs.declared.reply.Note.TheVariants.{Put, Unmapped, Started, Written, Failed, Dropped}
-use Rattle.av_base.specs.Words.{how_many, numbers}
-use Rattle.av_plain.specs.Ledger.{Ledger, Setting, mapped, slot_of, is_stale, is_orphan, has_free, no_slot, may_give}
-use Rattle.av_plain.specs.Event.{noted, without}
-
--- the ledger after some notes
-abbrev pub noted_all : Ledger → List Note → Ledger
-noted_all l [] = l
-noted_all l (note ∷ notes) = noted_all (noted note l) notes
-
--- a note that stands under a condition
-abbrev pub when : Bool → Note → List Note
-when true note = note ∷ []
-when false note = []
+use Rattle.av_trace.specs.declared.note.Note.{Note}
+use Rattle.av_trace.specs.declared.note.Note.TheVariants.{Put, Unmapped, Started, Written, Failed, Dropped}
+use Rattle.av_plain.specs.Ledger.{Ledger, Setting, map_count, slot_of, is_free, is_stale, is_orphan, has_free, no_slot, may_give}
+use Rattle.av_plain.specs.Event.{after_note, after_notes, when}
 
 -- ---- writes in flight
 
 -- how the write of a slot ends
-abbrev pub ending : Bool → Slot → Note
-ending true s = Failed s
-ending false s = Written s
+abbrev pub end_note : Bool → Slot → Note
+end_note true s = Failed s
+end_note false s = Written s
 
 -- it ends, well or not, and a slot that it leaves as an orphan is dropped
-abbrev pub finishing : Ledger → Slot → Bool → List Note
-finishing l s failed = ending failed s ∷ when (is_orphan (noted (ending failed s) l) s) (Dropped s)
+abbrev pub end_notes : Ledger → Slot → Bool → List Note
+end_notes l s failed =
+    end_note failed s ∷ when (is_orphan (after_note (end_note failed s) l) s) (Dropped s)
 
 -- completion: the writes of these slots end, in order
 abbrev pub Completes : Ledger → List Slot → List Note → Type 0
 Completes l [] notes = notes ≡ []
 Completes l (s ∷ slots) notes =
-    (failed : Bool) × (rest : List Note) × (notes ≡ finishing l s failed ++ rest) × Completes (noted_all l (finishing l s failed)) slots rest
+    (failed : Bool) × (rest : List Note) × (notes ≡ end_notes l s failed ++ rest)
+    × Completes (after_notes l (end_notes l s failed)) slots rest
+
+-- a write to a slot that failed
+abbrev pub is_fail : Note → Bool
+is_fail (Failed s) = true
+is_fail _ = false
+
+-- how many writes to slots failed
+abbrev pub fails : List Note → ℕ
+fails notes = how_many is_fail notes
 
 -- ---- a frame goes to its slot
 
--- what a pass leaves alone: the frame that is about to be copied, and the area that a swapoff is closing
+-- what a pass leaves alone: some frames, and the area that a swapoff is closing
 pub record Spared : Type 0 where
-  pub pinned : Option ℕ
+  pub frame : ℕ → Bool
   pub closing : Option ℕ
-
--- nothing is left alone
-abbrev pub nothing_spared : Spared
-nothing_spared = record { pinned = None; closing = None }
-
--- only the pinned frame is left alone, if there is one
-abbrev pub pinning : Option ℕ → Spared
-pinning pinned = record { pinned = pinned; closing = None }
 
 -- s is where the frame is cached or, where it isn't, a slot that may be given
 abbrev pub IsSlotFor : Setting → Spared → Ledger → ℕ → Slot → Type 0
-IsSlotFor m spared l f s = MatchOption (slot_of l f) (IsTrue (may_give m spared.closing l s)) (λ t. s ≡ t)
+IsSlotFor m spared l f s =
+    MatchOption (slot_of l f) (IsTrue (may_give m spared.closing l s)) (λ t. s ≡ t)
 
 -- the frame is cached at s, and has no entry any more
-abbrev pub unmapping : Ledger → ℕ → Slot → List Note
-unmapping l f s = when (is_none (slot_of l f)) (Put f s) ++ when (not (mapped l f == 0)) (Unmapped f)
+abbrev pub unmap_notes : Ledger → ℕ → Slot → List Note
+unmap_notes l f s =
+    when (is_none (slot_of l f)) (Put f s) ++ when (not (map_count l f == 0)) (Unmapped f)
 
 -- it isn't cached, and there is no slot for it
 abbrev pub is_stuck : Setting → Spared → Ledger → ℕ → Bool
@@ -69,43 +65,61 @@ is_dirty l f s = is_none (slot_of l f) || is_stale l s
 -- ---- the direct pass
 
 -- a frame's turn: it is unmapped, and written at once where it is dirty
-abbrev pub turn : Ledger → ℕ → Slot → Bool → List Note
-turn l f s failed = unmapping l f s ++ (if is_dirty l f s then Started s ∷ ending failed s ∷ [] else [])
+abbrev pub turn_notes : Ledger → ℕ → Slot → Bool → List Note
+turn_notes l f s failed =
+    unmap_notes l f s ++ (if is_dirty l f s then Started s ∷ end_note failed s ∷ [] else [])
 
 -- it stays cached only where it was dirty and its write failed
-abbrev pub stays : Ledger → ℕ → Slot → Bool → Bool
-stays l f s failed = is_dirty l f s && failed
+abbrev pub stays_cached : Ledger → ℕ → Slot → Bool → Bool
+stays_cached l f s failed = is_dirty l f s && failed
 
 -- the frames in turn, up to the first that becomes free
 abbrev pub Turns : Setting → Spared → Ledger → List ℕ → List Note → Type 0
 Turns m spared l [] notes = notes ≡ []
 Turns m spared l (f ∷ fs) notes = MatchBool (is_stuck m spared l f)
     (Turns m spared l fs notes)
-    ((s : Slot) × (failed : Bool) × IsSlotFor m spared l f s × MatchBool (stays l f s failed)
-    ((rest : List Note) × (notes ≡ turn l f s failed ++ rest) × Turns m spared (noted_all l (turn l f s failed)) fs rest)
-    (notes ≡ turn l f s failed ++ Dropped s ∷ []))
+    ((s : Slot) × (failed : Bool) × IsSlotFor m spared l f s
+    × MatchBool (stays_cached l f s failed)
+    ((rest : List Note) × (notes ≡ turn_notes l f s failed ++ rest)
+    × Turns m spared (after_notes l (turn_notes l f s failed)) fs rest)
+    (notes ≡ turn_notes l f s failed ++ Dropped s ∷ []))
 
--- the frames but for the pinned one
-abbrev pub unpinned : Option ℕ → List ℕ → List ℕ
-unpinned None fs = fs
-unpinned (Some g) fs = without g fs
+-- the frames that have a turn: inactive from its tail, then active from its tail
+abbrev pub frames_in_turn : Spared → Ledger → List ℕ
+frames_in_turn spared l =
+    filter (λ f. not (spared.frame f)) (reverse l.inactive ++ reverse l.active)
 
--- all of flight is completed; where no frame is free then, the inactive and the active ones have their turns, each list from its tail
+-- all of flight is completed; where no frame is free then, the frames have their turns
 abbrev pub IsPass : Setting → Spared → Ledger → List Note → Type 0
 IsPass m spared l notes =
-    (done : List Note) × (turns : List Note) × (notes ≡ done ++ turns) × Completes l l.flight done × (let now = noted_all l done in
-    MatchBool (has_free m now) (turns ≡ [])
-    (Turns m spared now (unpinned spared.pinned (reverse now.inactive ++ reverse now.active)) turns))
+    (done : List Note) × (turns : List Note) × (notes ≡ done ++ turns) × Completes l l.flight done
+    × (let now = after_notes l done in
+    MatchBool (has_free m now) (turns ≡ []) (Turns m spared now (frames_in_turn spared now) turns))
 
--- What comes before a frame is taken: nothing, until the kernel has the direct pass.
--- From then on this is `MatchBool (has_free m l) (notes ≡ []) (IsPass m spared l notes)`: a pass exactly where none is free.
+-- what comes before a frame is taken: a pass exactly where none is free
 abbrev pub Seeks : Setting → Spared → Ledger → List Note → Type 0
-Seeks m spared l notes = notes ≡ []
+Seeks m spared l notes = MatchBool (has_free m l) (notes ≡ []) (IsPass m spared l notes)
+
+-- ---- a frame is taken, or there is none
+
+-- a note that names a frame which is free, behind the pass if there is one
+pub record TakesFor (m : Setting) (spared : Spared) (l : Ledger) (notes : List Note)
+    (note : ℕ → Note) : Type 0 where
+  pub sought : List Note
+  pub frame : ℕ
+  pub seeks : Seeks m spared l sought
+  pub in_range : frame < m.frames
+  pub free : IsTrue (is_free (after_notes l sought) frame)
+  pub whole : notes ≡ sought ++ note frame ∷ []
+
+-- how many frames of the machine a pass doesn't leave alone, of those that pass the test
+abbrev pub how_many_others : Setting → Spared → (ℕ → Bool) → ℕ
+how_many_others m spared test = how_many (λ f. not (spared.frame f) && test f) (numbers 0 m.frames)
 
 -- the numbers of an out-of-memory: frames that are pinned, not cached, and cached
-abbrev pub out_of : Setting → Option ℕ → Ledger → OutOf
-out_of m pinned l = record {
+abbrev pub out_of : Setting → Option ℕ → Spared → Ledger → OutOf
+out_of m pinned spared l = record {
   pinned = if is_some pinned then 1 else 0;
-  noslot = how_many (λ f. is_none (slot_of l f)) (unpinned pinned (numbers 0 m.frames));
-  fault = how_many (λ f. is_some (slot_of l f)) (unpinned pinned (numbers 0 m.frames));
+  noslot = how_many_others m spared (λ f. is_none (slot_of l f));
+  fault = how_many_others m spared (λ f. is_some (slot_of l f));
 }

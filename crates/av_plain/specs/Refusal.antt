@@ -1,15 +1,20 @@
--- Which commands are refused, and with which error: the first test that holds, in one order for each command.
-use Rattle.std.specs.Prelude.{ℕ, ◌+◌, ◌*◌, ◌^◌, Bool, not, ◌||◌, ◌==◌, nat_lt, nat_le, if◌then◌else◌, List, [], ◌∷◌, ◌++◌, length, Option, Some, None}
-use Rattle.av_base.specs.Limits.{low_page, top_page, most_processes}
-use Rattle.av_trace.specs.declared.reply.Errno.{Errno}
-use Rattle.av_trace.specs.declared.reply.Errno.TheVariants.{Eperm, Esrch, Eagain, Enomem, Eexist, Einval}
-use Rattle.av_trace.specs.declared.command.Place.{Place}
-use Rattle.av_trace.specs.declared.command.Place.TheVariants.{Auto, At, Fixed, NoReplace}
+-- Which commands are refused, and with which error: the first test that holds, in one order for
+-- each command.
+use Rattle.std.specs.Prelude.{ℕ, ◌+◌, Bool, true, false, not, ◌==◌, if◌then◌else◌, List, [], ◌∷◌, ◌++◌, Option, Some, None, ◌≡◌, ◌||◌, length, nat_lt, nat_le, ◌*◌, ◌^◌}
+use Rattle.av_base.specs.Limits.{most_processes, low_page, top_page}
+use Rattle.av_base.specs.Page.{page_of, address_of, pages_of, is_on_page}
 use Rattle.av_trace.specs.declared.command.Command.{Command}
-use Rattle.av_trace.specs.declared.command.Command.TheVariants.{Spawn, Exit, Mmap, Munmap, Mprotect, Read, Write, Maps, Stat}
-use Rattle.av_plain.specs.World.{World, Process, lives, pages, meets}
-use Rattle.av_base.specs.Page.{page_of, pages_of, address_of, is_on_page}
-use Rattle.av_plain.specs.Ledger.{Ledger, Setting}
+use Rattle.av_trace.specs.declared.command.Command.TheVariants.{Mprotect, Spawn, Exit, Mmap, Munmap, Read, Write, Maps, Stat}
+use Rattle.av_trace.specs.declared.place.Place.{Place}
+use Rattle.av_trace.specs.declared.place.Place.TheVariants.{Auto, At, Fixed, NoReplace}
+use Rattle.av_trace.specs.declared.reply.Answer.{Answer}
+use Rattle.av_trace.specs.declared.reply.Answer.TheVariants.{Refused}
+use Rattle.av_trace.specs.declared.reply.Errno.{Errno}
+use Rattle.av_trace.specs.declared.reply.Errno.TheVariants.{Enomem, Eperm, Esrch, Eagain, Eexist, Einval}
+use Rattle.av_trace.specs.declared.row.Row.{Row}
+use Rattle.av_plain.specs.Event.{Event}
+use Rattle.av_plain.specs.Ledger.{Setting, Ledger}
+use Rattle.av_plain.specs.World.{Process, World, pages, lives, meets}
 
 -- tests in order, each with the error that it leads to
 abbrev pub Tests : Type 0
@@ -44,7 +49,9 @@ low = address_of low_page
 
 -- the tests of an address that a mapping of n pages has to have
 abbrev pub fixed_tests : ℕ → ℕ → Tests
-fixed_tests n a = (nat_lt top (a + address_of n), Enomem) ∷ (not (is_on_page a), Einval) ∷ (nat_lt a low, Eperm) ∷ []
+fixed_tests n a =
+    (nat_lt top (a + address_of n), Enomem) ∷ (not (is_on_page a), Einval) ∷ (nat_lt a low, Eperm)
+    ∷ []
 
 -- the tests of the place of n pages
 abbrev pub place_tests : Process → ℕ → Place → Tests
@@ -57,9 +64,13 @@ place_tests q n (NoReplace a) = fixed_tests n a ++ (meets q (page_of a) n, Eexis
 abbrev pub tests : Setting → World → Ledger → Command → Tests
 tests m w l (Spawn p) = (lives w p, Eexist) ∷ too_many w ∷ []
 tests m w l (Exit p) = no_process w p ∷ []
-tests m w l (Mmap p len prot place) = no_process w p ∷ (len == 0, Einval) ∷ (is_too_long len, Enomem) ∷ place_tests (pages w p) (pages_of len) place
-tests m w l (Munmap p a len) = no_process w p ∷ (not (is_on_page a) || len == 0 || nat_lt top (a + len), Einval) ∷ []
-tests m w l (Mprotect p a len prot) = no_process w p ∷ (not (is_on_page a), Einval) ∷ (wraps a len, Enomem) ∷ []
+tests m w l (Mmap p len prot place) =
+    no_process w p ∷ (len == 0, Einval) ∷ (is_too_long len, Enomem)
+    ∷ place_tests (pages w p) (pages_of len) place
+tests m w l (Munmap p a len) =
+    no_process w p ∷ (not (is_on_page a) || len == 0 || nat_lt top (a + len), Einval) ∷ []
+tests m w l (Mprotect p a len prot) =
+    no_process w p ∷ (not (is_on_page a), Einval) ∷ (wraps a len, Enomem) ∷ []
 tests m w l (Read p a n) = no_process w p ∷ []
 tests m w l (Write p a bytes) = no_process w p ∷ []
 tests m w l (Maps p) = no_process w p ∷ []
@@ -69,3 +80,12 @@ tests m w l Stat = []
 abbrev pub refusal : Tests → Option Errno
 refusal [] = None
 refusal (t ∷ ts) = if t.0 then Some t.1 else refusal ts
+
+-- a refusal changes nothing, and has neither notes nor rows
+abbrev pub Refuses : Errno → List Event → Answer → List Row → Type 0
+Refuses error events answer rows = (answer ≡ Refused error) × (events ≡ []) × (rows ≡ [])
+
+-- the one command that may change something and be refused
+abbrev pub is_mprotect : Command → Bool
+is_mprotect (Mprotect p a len prot) = true
+is_mprotect command = false

@@ -1,48 +1,59 @@
 -- Reports: the runs of `maps`, and the numbers of `stat`.
-use Rattle.std.specs.Prelude.{◌≡◌, ℕ, ◌<◌, ◌≤◌, ◌&&◌, nat_lt, nat_le, if◌then◌else◌, List, [], ◌∷◌, length, sum_by, Option, Some, None, option_map}
+use Rattle.std.specs.Prelude.{◌≡◌, ℕ, ◌<◌, ◌≤◌, ◌&&◌, nat_lt, nat_le, if◌then◌else◌, List, [], ◌∷◌, map, length, sum_by, Option, Some, None, option_map}
+use Rattle.av_base.specs.Page.{address_of}
 use Rattle.av_base.specs.declared.prot.Prot.{Prot}
-use Rattle.av_trace.specs.declared.reply.Row.{Row}
-use Rattle.av_trace.specs.declared.reply.Row.TheVariants.{Run, Entry}
+use Rattle.av_trace.specs.declared.reply.Answer.{Answer}
+use Rattle.av_trace.specs.declared.reply.Answer.TheVariants.{Runs, Counted}
+use Rattle.av_trace.specs.declared.row.Row.{Row}
+use Rattle.av_trace.specs.declared.row.Row.TheVariants.{Run}
 use Rattle.av_trace.specs.declared.reply.Totals.{Totals}
 use Rattle.av_plain.specs.World.{World, Process, Page}
-use Rattle.av_base.specs.Page.{address_of}
-use Rattle.av_plain.specs.Ledger.{Ledger, Setting, Area, free_frames, free_slots}
+use Rattle.av_plain.specs.Event.{Event}
+use Rattle.av_plain.specs.Ledger.{Ledger, Setting, SwapArea, free_frames, free_slots}
+
+-- ---- ranges of pages
+
+-- some pages with one protection: from `from` to below `to`
+pub record Range : Type 0 where
+  pub from : ℕ
+  pub to : ℕ
+  pub prot : Prot
+
+-- the protection of a page, by the range that holds it
+abbrev pub prot_in : List Range → ℕ → Option Prot
+prot_in [] page = None
+prot_in (r ∷ rs) page =
+    if nat_le r.from page && nat_lt page r.to then Some r.prot else prot_in rs page
+
+-- the ranges hold the pages that are mapped, with their protection, and no others
+abbrev pub Cover : Process → List Range → Type 0
+Cover q rs = (page : ℕ) → prot_in rs page ≡ option_map (λ (p : Page). p.prot) (q page)
 
 -- ---- maps
 
--- the protection of the run that holds the page
-abbrev pub prot_in_rows : List Row → ℕ → Option Prot
-prot_in_rows [] page = None
-prot_in_rows (Run start end prot ∷ rows) page = if nat_le start (address_of page) && nat_lt (address_of page) end then Some prot else prot_in_rows rows page
-prot_in_rows (Entry p a ∷ rows) page = prot_in_rows rows page
+-- no range is empty, they rise, and none begins where the one before ends with the same protection
+abbrev pub AreLongest : List Range → Type 0
+AreLongest [] = Unit {0}
+AreLongest (a ∷ []) = a.from < a.to
+AreLongest (a ∷ b ∷ rs) =
+    (a.from < a.to) × (a.to ≤ b.from) × (a.to ≡ b.from → a.prot ≡ b.prot → ⊥) × AreLongest (b ∷ rs)
 
--- the rows are runs, none is empty, they rise, and none begins where the one before ends with the same protection
-abbrev pub AreLongestRuns : List Row → Type 0
-AreLongestRuns [] = Unit {0}
-AreLongestRuns (Entry p a ∷ rows) = ⊥
-AreLongestRuns (Run a b p ∷ []) = a < b
-AreLongestRuns (Run a b p ∷ Entry q x ∷ rows) = ⊥
-AreLongestRuns (Run a b p ∷ Run c d q ∷ rows) = (a < b) × (b ≤ c) × (b ≡ c → p ≡ q → ⊥) × AreLongestRuns (Run c d q ∷ rows)
+-- the row of a range
+abbrev pub row_of : Range → Row
+row_of r = Run (address_of r.from) (address_of r.to) r.prot
 
--- a page is in a run exactly where it is mapped, and with its protection
-abbrev pub Cover : Process → List Row → Type 0
-Cover q rows = (page : ℕ) → prot_in_rows rows page ≡ option_map (λ (p : Page). p.prot) (q page)
+-- the rows are the longest runs of mapped pages with one protection
+abbrev pub AreMaps : Process → List Row → Type 0
+AreMaps q rows = (runs : List Range) × (rows ≡ map row_of runs) × AreLongest runs × Cover q runs
 
--- each run begins and ends on pages
-abbrev pub AreOnPages : List Row → Type 0
-AreOnPages [] = Unit {0}
-AreOnPages (Run a b p ∷ rows) = ((from : ℕ) × (a ≡ address_of from)) × ((to : ℕ) × (b ≡ address_of to)) × AreOnPages rows
-AreOnPages (Entry p a ∷ rows) = AreOnPages rows
-
--- the longest runs of mapped pages with one protection
-pub record AreMaps (q : Process) (rows : List Row) : Type 0 where
-  pub runs : AreLongestRuns rows
-  pub pages : AreOnPages rows
-  pub cover : Cover q rows
+-- the answer to `maps`: how many runs there are
+abbrev pub ReportsRuns : Process → List Event → Answer → List Row → Type 0
+ReportsRuns q events answer rows =
+    (answer ≡ Runs (length rows)) × AreMaps q rows × (events ≡ [])
 
 -- ---- stat
 
--- the numbers of `stat`; its slots are the usable ones of the areas that are on
+-- the numbers of `stat`; its slots are the usable ones of the swap areas that are on
 abbrev pub totals : Setting → World → Ledger → Totals
 totals m w l = record {
   frames = m.frames;
@@ -50,7 +61,12 @@ totals m w l = record {
   active = length l.active;
   inactive = length l.inactive;
   flight = length l.flight;
-  slots = sum_by (λ (a : ℕ × Area). a.1.slots) l.on;
+  slots = sum_by (λ (a : ℕ × SwapArea). a.1.slots) l.on;
   free_slots = sum_by (free_slots m l) l.on;
   processes = length w;
 }
+
+-- the answer to `stat`
+abbrev pub ReportsTotals : Setting → World → Ledger → List Event → Answer → List Row → Type 0
+ReportsTotals m w l events answer rows =
+    (answer ≡ Counted (totals m w l)) × (events ≡ []) × (rows ≡ [])

@@ -1,12 +1,15 @@
--- When a ledger is sound. All is said by counts and by what a key has.
-use Rattle.std.specs.Prelude.{◌≡◌, ℕ, ◌+◌, ◌<◌, ◌≤◌, min, Bool, true, false, ◌&&◌, ◌==◌, nat_lt, Some, is_some, T, length}
-use Rattle.std.specs.Ordering.{nat_cmp}
+-- When a ledger is sound, and what that says.
 use Rattle.std.specs.FinMap.Entries.{is_sorted}
-use Rattle.av_base.specs.declared.slot.Slot.{Slot}
-use Rattle.av_base.specs.Words.{how_many}
-use Rattle.av_plain.specs.World.{World, pages}
+use Rattle.std.specs.List.{AllByRecursion, IsDistinct}
+use Rattle.std.specs.Ordering.{nat_cmp}
+use Rattle.std.specs.Prelude.{ℕ, ◌+◌, Bool, true, false, ◌&&◌, ◌==◌, if◌then◌else◌, ◌++◌, Option, Some, None, ◌≡◌, ◌<◌, is_some, ◌≤◌, ◌||◌, length, T, nat_lt, min}
 use Rattle.av_base.specs.Limits.{most_processes}
-use Rattle.av_plain.specs.Ledger.{is_on, size_of, is_usable, Ledger, Setting, key_cmp, Entry, Zero, InFrame, InSlot, Cached, entry, mapped, slot_entries, same_slot}
+use Rattle.av_base.specs.Words.{how_many}
+use Rattle.av_base.specs.declared.slot.Slot.{Slot}
+use Rattle.av_plain.specs.Ledger.{Cached, Entry, InFrame, InSlot, Key, Ledger, Setting, Zero, entry, is_cached, is_free, is_on, is_orphan, is_usable, key_cmp, map_count, names_frame, names_slot, same_slot, size_of, slot_entries, slot_of}
+use Rattle.av_plain.specs.World.{World, pages}
+
+-- ---- counts
 
 -- how often a slot is cached
 abbrev pub slots : Ledger → Slot → ℕ
@@ -30,7 +33,7 @@ listings l f = how_many (λ g. f == g) l.active + how_many (λ g. f == g) l.inac
 
 -- what names a frame: it is free where this is 0
 abbrev pub uses : Ledger → ℕ → ℕ
-uses l f = mapped l f + holders l f
+uses l f = map_count l f + holders l f
 
 -- two entries name one memory: one frame, a slot and the frame that caches it, or one slot
 abbrev pub kin : Ledger → Entry → Entry → Bool
@@ -41,6 +44,8 @@ kin l (InFrame f seen) (InSlot s) = nat_lt 0 (pairs l s f)
 kin l (InSlot s) Zero = false
 kin l (InSlot s) (InFrame f seen) = nat_lt 0 (pairs l s f)
 kin l (InSlot s) (InSlot t) = same_slot s t
+
+-- ---- the ledger
 
 -- what holds after each event. excuse: the slots that may be without a use until their drop
 pub record IsSoundBut (m : Setting) (excuse : Slot → ℕ) (l : Ledger) : Type 0 where
@@ -55,9 +60,11 @@ pub record IsSoundBut (m : Setting) (excuse : Slot → ℕ) (l : Ledger) : Type 
   -- a slot in flight is cached, and stands there once
   pub flying : (s : Slot) → flights l s ≤ slots l s
   -- a cached slot is in flight, or an entry names it or its frame
-  pub used : (s : Slot) (f : ℕ) → 0 < pairs l s f → 0 < flights l s + slot_entries l s + mapped l f + excuse s
+  pub used : (s : Slot) (f : ℕ) → 0 < pairs l s f
+      → 0 < flights l s + slot_entries l s + map_count l f + excuse s
   -- two entries of one process name different memories
-  pub one : (p a b : ℕ) (d e : Entry) → entry l (p, a) ≡ Some d → entry l (p, b) ≡ Some e → kin l d e ≡ true → a ≡ b
+  pub one : (p a b : ℕ) (d e : Entry) → entry l (p, a) ≡ Some d → entry l (p, b) ≡ Some e
+      → kin l d e ≡ true → a ≡ b
 
 -- no slot is excused
 abbrev pub no_excuse : Slot → ℕ
@@ -77,7 +84,8 @@ count l s = slots l s + slot_entries l s
 
 -- a slot of an area that is on, whether in use or not
 abbrev pub is_there : Setting → Ledger → Slot → Bool
-is_there m l s = is_on l s.area && nat_lt 0 s.page && nat_lt s.page (size_of m.sizes s.area) && is_usable m s
+is_there m l s =
+    is_on l s.area && nat_lt 0 s.page && nat_lt s.page (size_of m s.area) && is_usable m s
 
 -- each slot in use is one
 abbrev pub AreThere : Setting → Ledger → Type 0
@@ -96,3 +104,49 @@ pub record AllSound (m : Setting) (w : World) (l : Ledger) : Type 0 where
   pub ledger : IsSound m l
   pub at_pages : AtPages w l
   pub in_areas : AreThere m l
+
+-- ---- what it says, in plain sentences; this follows from the counts
+
+-- an entry names the slot, if there is one
+abbrev pub is_at_slot : Option Slot → Entry → Bool
+is_at_slot None e = false
+is_at_slot (Some s) e = names_slot s e
+
+-- an entry names the frame, or the slot at which the frame is cached
+abbrev pub is_of : Ledger → ℕ → Entry → Bool
+is_of l f e = names_frame f e || is_at_slot (slot_of l f) e
+
+-- two cached pairs with one slot, or with one frame
+abbrev pub same_cached : Cached → Cached → Bool
+same_cached a b = same_slot a.slot b.slot || a.frame == b.frame
+
+-- what is true of memories and a ledger that are sound
+pub record SaysSound (m : Setting) (w : World) (l : Ledger) : Type 0 where
+  -- processes rise by number, and there are at most 4096
+  pub processes : T (is_sorted nat_cmp w)
+  pub few : length w ≤ most_processes
+  -- entries rise by key, and each is at a page that its process has mapped
+  pub entries : T (is_sorted key_cmp l.entries)
+  pub at_pages : (p page : ℕ) → is_some (entry l (p, page)) ≡ true → is_some (pages w p page) ≡ true
+  -- each frame that an entry names, or that caches a slot, is one of the machine's
+  pub frames : (k : Key) (e : Entry) (f : ℕ) → entry l k ≡ Some e → names_frame f e ≡ true
+      → f < m.frames
+  pub cached_frames : AllByRecursion (λ (c : Cached). c.frame < m.frames) l.cache
+  -- each slot is cached once at most, and so is each frame
+  pub cached_once : IsDistinct same_cached l.cache
+  -- a frame stands once in one of the two lists, unless it is free
+  pub listed : (f : ℕ)
+      → how_many (λ g. f == g) (l.active ++ l.inactive) ≡ (if is_free l f then 0 else 1)
+  -- a slot in flight is cached, and stands there once
+  pub flying : (s : Slot) → how_many (same_slot s) l.flight ≤ (if is_cached l s then 1 else 0)
+  -- each cached slot is in flight, or an entry names it or its frame
+  pub used : (s : Slot) → is_orphan l s ≡ false
+  -- a process has at most one entry of a frame and the slot at which it is cached, and at most one
+  -- of a slot
+  pub one_frame : (f p page other : ℕ) (d e : Entry) → entry l (p, page) ≡ Some d
+      → is_of l f d ≡ true → entry l (p, other) ≡ Some e → is_of l f e ≡ true → page ≡ other
+  pub one_slot : (s : Slot) (p page other : ℕ) (d e : Entry) → entry l (p, page) ≡ Some d
+      → names_slot s d ≡ true → entry l (p, other) ≡ Some e → names_slot s e ≡ true → page ≡ other
+  -- so no more entries name a frame, or a slot, than processes live
+  pub mapped_few : (f : ℕ) → map_count l f ≤ length w
+  pub slot_entries_few : (s : Slot) → slot_entries l s ≤ length w

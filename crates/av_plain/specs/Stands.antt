@@ -1,15 +1,20 @@
--- What the kernel has to do with the memories and the ledger. The kernel is seen by what its parts answer: a view.
-use Rattle.std.specs.Prelude.{◌≡◌, ℕ, ◌<◌, ◌≤◌, Bool, true, false, ◌&&◌, ◌==◌, nat_lt, nat_le, if◌then◌else◌, List, [], ◌∷◌, length, Option, Some, None, is_some, option_map, IfSome}
-use Rattle.std.specs.Ordering.{nat_cmp}
-use Rattle.av_base.specs.Words.{is_in}
+-- What the kernel has to do with the memories and the ledger. The kernel is seen by what its parts
+-- answer: a view.
 use Rattle.std.specs.FinMap.Entries.{find}
-use Rattle.av_base.specs.declared.prot.Prot.{Prot}
+use Rattle.std.specs.Ordering.{nat_cmp}
+use Rattle.std.specs.Prelude.{ℕ, Bool, true, false, ◌&&◌, if◌then◌else◌, List, [], ◌∷◌, Option, Some, None, ◌≡◌, ◌<◌, IfSome, is_some, ◌≤◌, length, nat_lt, nat_le, option_map, slice_index}
+use Rattle.av_base.specs.Page.{page_size}
+use Rattle.av_base.specs.Words.{is_in}
 use Rattle.av_base.specs.declared.slot.Slot.{Slot}
-use Rattle.av_plain.specs.World.{World, Page, lives, pages}
-use Rattle.av_plain.specs.Ledger.{Ledger, Setting, Header, Area, Entry, Zero, InFrame, InSlot, entry, mapped, slot_entries, slot_of, frame_at, is_stale, in_flight, is_free, names_frame}
+use Rattle.av_plain.specs.Device.{Device, headers_of}
 use Rattle.av_plain.specs.Fault.{is_shared}
-use Rattle.av_plain.specs.Sound.{AllSound}
+use Rattle.av_plain.specs.Ledger.{Entry, InFrame, InSlot, Ledger, Setting, SwapArea, Zero, entry, frame_at, in_flight, is_free, is_stale, map_count, names_frame, slot_entries, slot_of}
+use Rattle.av_plain.specs.Report.{Range, prot_in}
+use Rattle.av_plain.specs.Sound.{AllSound, slots}
 use Rattle.av_plain.specs.Transcript.{State}
+use Rattle.av_plain.specs.World.{Page, World, lives, pages}
+use Rattle.av_base.specs.declared.prot.Prot.{Prot}
+use Rattle.av_swapdev.specs.Header.{Layout}
 
 -- ---- the view
 
@@ -18,15 +23,10 @@ pub record Pte : Type 0 where
   pub entry : Entry
   pub write : Bool
 
--- some pages of a process with one protection: from `from` to below `to`
-pub record Range : Type 0 where
-  pub from : ℕ
-  pub to : ℕ
-  pub prot : Prot
-
 -- what the parts of the kernel answer
 pub record View : Type 0 where
-  -- the frames: how many there are, their bytes, how many entries name each, the slot of each and whether it is dirty, and the free ones in the order in which they are taken
+  -- the frames: how many there are, their bytes, how many entries name each, the slot of each and
+  -- whether it is dirty, and the free ones in the order in which they are taken
   pub frames : ℕ
   pub bytes : ℕ → ℕ → ℕ
   pub maps : ℕ → ℕ
@@ -40,29 +40,27 @@ pub record View : Type 0 where
   -- how many processes live, and the areas of one that does
   pub processes : ℕ
   pub areas : ℕ → Option (List Range)
-  -- swap: the frame that caches a slot, how many entries name it, the slots in flight, and the areas that are on
+  -- swap: the frame that caches a slot, how many entries name it, the slots in flight, and the
+  -- areas that are on
   pub find : Slot → Option ℕ
   pub entries : Slot → ℕ
   pub flight : List Slot
-  pub on : List (ℕ × Area)
-
--- the device's pages, where it tells them
-abbrev pub Device : Type 0
-Device = Option (Slot → ℕ → ℕ)
+  pub on : List (ℕ × SwapArea)
 
 -- ---- the frames
 
 -- each frame has the counts, the slot and the freeness that the ledger gives it
 pub record FramesStand (m : Setting) (v : View) (l : Ledger) : Type 0 where
   pub frames : v.frames ≡ m.frames
-  pub maps : (f : ℕ) → v.maps f ≡ mapped l f
+  pub maps : (f : ℕ) → v.maps f ≡ map_count l f
   pub slots : (f : ℕ) → v.slot f ≡ slot_of l f
   pub dirty : (f : ℕ) → IfSome (slot_of l f) (λ s. v.dirty f ≡ is_stale l s)
   pub free : (f : ℕ) → f < m.frames → is_in f v.free ≡ is_free l f
 
 -- ---- the lists
 
--- the active frames are these. (That the inactive ones are the kernel's, too, begins where it keeps lists: all others in use are inactive.)
+-- the active frames are these. (That the inactive ones are the kernel's, too, begins where it keeps
+-- lists: all others in use are inactive.)
 pub record ListsStand (v : View) (l : Ledger) : Type 0 where
   pub active : v.active ≡ l.active
 
@@ -76,7 +74,8 @@ entry_of (Some t) = Some t.entry
 -- a write bit stands only where a write asks for no copy
 pub record TablesStand (v : View) (l : Ledger) : Type 0 where
   pub entries : (p page : ℕ) → entry_of (v.table p page) ≡ entry l (p, page)
-  pub write_bits : (p page : ℕ) (t : Pte) (f : ℕ) → v.table p page ≡ Some t → t.write ≡ true → names_frame f t.entry ≡ true → is_shared l f ≡ false
+  pub write_bits : (p page : ℕ) (t : Pte) (f : ℕ) → v.table p page ≡ Some t → t.write ≡ true
+      → names_frame f t.entry ≡ true → is_shared l f ≡ false
 
 -- ---- swap
 
@@ -89,11 +88,6 @@ pub record SwapStands (v : View) (l : Ledger) : Type 0 where
 
 -- ---- the areas
 
--- the protection of a page, by the range that holds it
-abbrev pub prot_in : List Range → ℕ → Option Prot
-prot_in [] page = None
-prot_in (a ∷ areas) page = if nat_le a.from page && nat_lt page a.to then Some a.prot else prot_in areas page
-
 -- the ranges rise, none is empty, and no two meet
 abbrev pub AreApart : List Range → Type 0
 AreApart [] = Unit {0}
@@ -105,24 +99,25 @@ abbrev pub prot_of : Option (List Range) → ℕ → Option Prot
 prot_of None page = None
 prot_of (Some areas) page = prot_in areas page
 
--- a process has areas exactly where it lives; they are apart, and cover exactly its pages with their protection
+-- a process has areas exactly where it lives; they are apart, and cover exactly its pages with
+-- their protection
 pub record AreasStand (v : View) (w : World) : Type 0 where
   pub alive : (p : ℕ) → is_some (v.areas p) ≡ lives w p
   pub number : v.processes ≡ length w
   pub apart : (p : ℕ) → IfSome (v.areas p) AreApart
-  pub covers : (p page : ℕ) → prot_of (v.areas p) page ≡ option_map (λ (q : Page). q.prot) (pages w p page)
+  pub covers : (p page : ℕ)
+      → prot_of (v.areas p) page ≡ option_map (λ (q : Page). q.prot) (pages w p page)
 
 -- ---- the bytes
 
 -- these bytes hold what the page claims
 abbrev pub Holds : Option Page → (ℕ → ℕ) → Type 0
 Holds None at = Unit {0}
-Holds (Some p) at = (i : ℕ) → i < 4096 → IfSome (p.bytes i) (λ b. at i ≡ b)
+Holds (Some p) at = (i : ℕ) → i < page_size → IfSome (p.bytes i) (λ b. at i ≡ b)
 
--- the device's page holds it, where it tells
+-- the device's page of the slot holds it, where pages are told
 abbrev pub HoldsTold : Option Page → Device → Slot → Type 0
-HoldsTold p None s = Unit {0}
-HoldsTold p (Some at) s = Holds p (at s)
+HoldsTold p device s = IfSome device.pages (λ told. Holds p (slice_index (told s.area s.page)))
 
 -- a page whose entry names a slot is in the frame that caches it, else on the device
 abbrev pub IsKeptAt : View → Device → Slot → Option Page → Option ℕ → Type 0
@@ -136,38 +131,54 @@ IsKept v device l (Some Zero) p = Holds p (λ _. 0)
 IsKept v device l (Some (InFrame f seen)) p = Holds p (v.bytes f)
 IsKept v device l (Some (InSlot s)) p = IsKeptAt v device s p (frame_at l s)
 
--- a cached slot neither stale nor in flight has its frame's bytes on the device
+-- the device's page of the slot has the frame's bytes, if there is one and pages are told
 abbrev pub IsClean : View → Device → Slot → Option ℕ → Type 0
-IsClean v device s None = Unit {0}
-IsClean v None s (Some f) = Unit {0}
-IsClean v (Some at) s (Some f) = (i : ℕ) → i < 4096 → at s i ≡ v.bytes f i
+IsClean v device s frame = IfSome frame (λ f. IfSome device.pages (λ told.
+    (i : ℕ) → i < page_size → slice_index (told s.area s.page) i ≡ v.bytes f i))
 
--- frames and devices hold what the pages claim
+-- frames and device hold what the pages claim; a slot neither stale nor in flight is clean
 pub record BytesStand (v : View) (device : Device) (w : World) (l : Ledger) : Type 0 where
   pub kept : (p page : ℕ) → IsKept v device l (entry l (p, page)) (pages w p page)
-  pub clean : (s : Slot) → is_stale l s ≡ false → in_flight l s ≡ false → IsClean v device s (frame_at l s)
+  pub clean : (s : Slot) → is_stale l s ≡ false → in_flight l s ≡ false
+      → IsClean v device s (frame_at l s)
 
 -- ---- the headers
 
 -- where it is told, page 0 of an area that is on gives its numbers
-abbrev pub HasNumbers : Area → Option Header → Type 0
+abbrev pub HasNumbers : SwapArea → Option Layout → Type 0
 HasNumbers area None = ⊥
 HasNumbers area (Some h) = (area.slots ≡ h.slots) × (area.bad ≡ length h.bad)
 
 -- each area that is on has the numbers of its header
 abbrev pub HeadersStand : Setting → Ledger → Type 0
-HeadersStand m l = (k : ℕ) → IfSome (find nat_cmp k l.on) (λ area. IfSome m.headers (λ headers. HasNumbers area (headers k)))
+HeadersStand m l = (k : ℕ) → IfSome (find nat_cmp k l.on)
+    (λ area. IfSome m.headers (λ headers. HasNumbers area (headers k)))
 
 -- ---- the whole
 
--- The kernel and the device stand for the memories and the ledger.
+-- what stands for a ledger
+pub record LedgerStands (m : Setting) (v : View) (l : Ledger) : Type 0 where
+  pub frames : FramesStand m v l
+  pub lists : ListsStand v l
+  pub tables : TablesStand v l
+  pub swap : SwapStands v l
+
+-- and what for the memories with it
+pub record PartsStand (m : Setting) (v : View) (device : Device) (w : World) (l : Ledger)
+    : Type 0 where
+  pub ledger : LedgerStands m v l
+  pub areas : AreasStand v w
+  pub bytes : BytesStand v device w l
+  pub headers : HeadersStand m l
+
+-- the device is the one that the run is over: its sizes and headers don't change
+pub record IsOver (m : Setting) (device : Device) : Type 0 where
+  pub sizes : m.sizes ≡ device.sizes
+  pub headers : m.headers ≡ headers_of device
+
+-- the kernel and the device stand for the memories, the ledger and the free frames in their order
 pub record Stands (m : Setting) (v : View) (device : Device) (s : State) : Type 0 where
+  pub over : IsOver m device
   pub sound : AllSound m s.world s.ledger
-  pub frames : FramesStand m v s.ledger
-  pub lists : ListsStand v s.ledger
-  pub tables : TablesStand v s.ledger
-  pub swap : SwapStands v s.ledger
-  pub areas : AreasStand v s.world
-  pub bytes : BytesStand v device s.world s.ledger
-  pub headers : HeadersStand m s.ledger
+  pub parts : PartsStand m v device s.world s.ledger
   pub free : v.free ≡ s.free

@@ -1,13 +1,13 @@
 -- Transcripts: commands with their replies, in order.
-use Rattle.std.specs.Prelude.{◌≡◌, ℕ, List, [], ◌∷◌}
+use Rattle.std.specs.Prelude.{ℕ, List, [], ◌∷◌, ◌≡◌}
 use Rattle.av_base.specs.Words.{numbers}
 use Rattle.av_trace.specs.declared.command.Command.{Command}
 use Rattle.av_trace.specs.declared.reply.Reply.{Reply}
-use Rattle.av_plain.specs.World.{World}
-use Rattle.av_plain.specs.Ledger.{Ledger, Setting, fresh}
-use Rattle.av_plain.specs.Event.{Event, after_all}
-use Rattle.av_plain.specs.Step.{IsLegal, next_world}
 use Rattle.av_plain.specs.Choice.{ChoosesAll}
+use Rattle.av_plain.specs.Event.{Event, after_all}
+use Rattle.av_plain.specs.Ledger.{Setting, first_ledger, Ledger}
+use Rattle.av_plain.specs.Step.{IsLegal, next_world}
+use Rattle.av_plain.specs.World.{World}
 
 -- a command and its reply
 pub record Exchange : Type 0 where
@@ -33,15 +33,16 @@ pub record State : Type 0 where
 
 -- no process lives, and all frames are free, rising
 abbrev pub at_first : Setting → State
-at_first m = record { world = []; ledger = fresh; free = numbers 0 m.frames }
+at_first m = record { world = []; ledger = first_ledger; free = numbers 0 m.frames }
 
 -- a command is answered so, and leaves this state
-pub record IsStep (m : Setting) (old : State) (command : Command) (reply : Reply) (new : State) : Type 0 where
+pub record IsStep (m : Setting) (old : State) (command : Command) (reply : Reply) (new : State)
+    : Type 0 where
   pub events : List Event
   pub legal : IsLegal m old.world old.ledger command reply events
   pub world : new.world ≡ next_world m old.world old.ledger events command reply.answer
   pub ledger : new.ledger ≡ after_all old.ledger events
-  pub free : ChoosesAll old.ledger events old.free new.free
+  pub free : ChoosesAll m old.ledger events old.free new.free
 
 -- a transcript, each of its replies a step
 abbrev pub IsRun : Setting → State → List Exchange → State → Type 0

@@ -1,14 +1,16 @@
--- What processes see: plain private memories, copied whole at fork. Nothing here knows a frame or a slot.
-use Rattle.std.specs.Prelude.{◌≡◌, ℕ, zero, suc, ◌+◌, ◌-◌, ◌*◌, ◌/◌, ◌%◌, Bool, true, false, not, ◌||◌, ◌==◌, if◌then◌else◌, List, [], ◌∷◌, length, slice_index, Option, Some, None, is_some, option_map, option_and_then, IfSome}
+-- What processes see: plain private memories, copied whole at fork. Nothing here knows a frame or a
+-- slot.
+use Rattle.std.specs.FinMap.Entries.{put, where_key, find}
 use Rattle.std.specs.Ordering.{nat_cmp}
-use Rattle.std.specs.FinMap.Entries.{find, put, where_key}
-use Rattle.av_base.specs.declared.prot.Prot.{Prot}
-use Rattle.av_base.specs.Words.{within}
+use Rattle.std.specs.Prelude.{ℕ, ◌+◌, ◌-◌, Bool, true, false, not, ◌==◌, if◌then◌else◌, List, [], ◌∷◌, Option, Some, None, ◌≡◌, IfSome, is_some, ◌||◌, length, option_map, zero, suc, ◌%◌, slice_index, option_and_then}
 use Rattle.av_base.specs.Page.{page_of, address_of}
+use Rattle.av_base.specs.Words.{within}
+use Rattle.av_base.specs.declared.prot.Prot.{Prot}
 
 -- ---- worlds
 
--- a page: its protection, and its bytes by their place in it. None is a byte that nobody claims: it may be read as anything
+-- a page: its protection, and its bytes by their place in it. None is a byte that nobody claims: it
+-- may be read as anything
 pub record Page : Type 0 where
   pub prot : Prot
   pub bytes : ℕ → Option ℕ
@@ -22,8 +24,8 @@ abbrev pub World : Type 0
 World = List (ℕ × Process)
 
 -- a process without any page
-abbrev pub nothing : Process
-nothing page = None
+abbrev pub no_pages : Process
+no_pages page = None
 
 -- a page of zeros
 abbrev pub zeros : Prot → Page
@@ -51,11 +53,12 @@ meets q from zero = false
 meets q from (suc n) = is_mapped q from || meets q (from + 1) n
 
 -- how many pages from `from` on are mapped before the first that isn't, n at the most
-abbrev pub leading : Process → ℕ → ℕ → ℕ
-leading q from zero = 0
-leading q from (suc n) = if is_mapped q from then leading q (from + 1) n + 1 else 0
+abbrev pub pages_to_hole : Process → ℕ → ℕ → ℕ
+pages_to_hole q from zero = 0
+pages_to_hole q from (suc n) = if is_mapped q from then pages_to_hole q (from + 1) n + 1 else 0
 
--- which accesses a protection allows: a write where it says so, a read unless it says nothing at all
+-- which accesses a protection allows: a write where it says so, a read unless it says nothing at
+-- all
 abbrev pub allows : Bool → Prot → Bool
 allows true prot = prot.write
 allows false prot = prot.read || prot.write || prot.execute
@@ -71,22 +74,23 @@ abbrev pub with_prot : Prot → Page → Page
 with_prot prot p = record p { prot = prot }
 
 -- q with this protection on those of the n pages from `from` on that it has mapped
-abbrev pub protected : Process → ℕ → ℕ → Prot → Process
-protected q from n prot page = if within from n page then option_map (with_prot prot) (q page) else q page
+abbrev pub with_prot_on : Process → ℕ → ℕ → Prot → Process
+with_prot_on q from n prot page =
+    if within from n page then option_map (with_prot prot) (q page) else q page
 
 -- the process is gone
 abbrev pub end_process : World → ℕ → World
 end_process w p = where_key nat_cmp (λ q. not (q == p)) w
 
 -- q with the n pages from `from` on taken from `new`
-abbrev pub replaced : Process → ℕ → ℕ → Process → Process
-replaced q from n new page = if within from n page then new page else q page
+abbrev pub with_pages : Process → ℕ → ℕ → Process → Process
+with_pages q from n new page = if within from n page then new page else q page
 
 -- q with these bytes from an address on; a page that is not mapped stays so
-abbrev pub written : Process → ℕ → List ℕ → Process
-written q address bytes page = option_map (λ (p : Page). record p {
-  bytes = λ i.
-      if within address (length bytes) (address_of page + i) then Some (slice_index bytes (address_of page + i - address))
+abbrev pub with_bytes : Process → ℕ → List ℕ → Process
+with_bytes q address bytes page = option_map (λ (p : Page). record p {
+  bytes = λ i. let here = address_of page + i in
+      if within address (length bytes) here then Some (slice_index bytes (here - address))
       else p.bytes i;
 }) (q page)
 
@@ -99,4 +103,5 @@ byte_at q address = option_and_then (λ (p : Page). p.bytes (address % 4096)) (q
 -- these are the bytes from an address on, where they are claimed
 abbrev pub Shows : Process → ℕ → List ℕ → Type 0
 Shows q address [] = Unit {0}
-Shows q address (b ∷ bytes) = IfSome (byte_at q address) (λ claimed. claimed ≡ b) × Shows q (address + 1) bytes
+Shows q address (b ∷ bytes) =
+    IfSome (byte_at q address) (λ claimed. claimed ≡ b) × Shows q (address + 1) bytes

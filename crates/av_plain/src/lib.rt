@@ -1,93 +1,43 @@
-//! The definitions that every other crate is judged by: the plain memories, the ledger of frames and slots, and
-//! what a legal reply is. They stand in `specs`, from `World` to `Stands`; here are the laws that they keep.
+//! The definitions that every other crate is judged by: the plain memories, the ledger of frames and
+//! slots, and what a legal reply is. They stand in `specs`, a file for each topic, from `World` to
+//! `Stands`; here are the laws that what is built on them uses. Worked examples, and laws that
+//! nothing else uses, are in `av_laws`.
 //!
 //! No function does anything. Each one's contract is a law, proved of the definitions alone.
 #![tactic(auto)]
 
-mod rows;
-
-ghost use Rattle.std.specs.Prelude.{◌≡◌, ◌⊎◌, ℕ, ◌+◌, false, List, []};
-ghost use Rattle.av_base.specs.declared.prot.Prot.{Prot};
+ghost use Rattle.std.specs.Prelude.{List, []};
 ghost use Rattle.av_trace.specs.declared.command.Command.{Command};
-ghost use Rattle.av_trace.specs.declared.command.Command.TheVariants.{Mprotect};
-ghost use Rattle.av_trace.specs.declared.reply.Errno.{Errno};
-ghost use Rattle.av_trace.specs.declared.reply.OutOf.{OutOf};
-ghost use Rattle.av_trace.specs.declared.reply.Answer.TheVariants.{Refused, Oom};
 ghost use Rattle.av_trace.specs.declared.reply.Reply.{Reply};
-ghost use Rattle.av_trace.specs.declared.reply.Row.{Row};
-ghost use Rattle.av_plain.specs.World.{World, Process};
-ghost use Rattle.av_plain.specs.Ledger.{Ledger, Setting, fresh};
+ghost use Rattle.av_plain.specs.World.{World};
+ghost use Rattle.av_plain.specs.Ledger.{Ledger, Setting, first_ledger};
 ghost use Rattle.av_plain.specs.Event.{Event, after_all};
-ghost use Rattle.av_plain.specs.Report.{AreMaps, totals};
 ghost use Rattle.av_plain.specs.Step.{IsLegal, next_world};
-ghost use Rattle.av_plain.specs.Refused.{is_mprotect, StopsAtHole};
-ghost use Rattle.av_plain.specs.Transcript.{Exchange, State, IsLegalFrom, IsStep, IsRun, at_first};
-ghost use Rattle.av_plain.specs.Sound.{AllSound};
-ghost use Rattle.av_plain.specs.Says.{SaysSound};
-ghost use Rattle.av_plain.specs.FreeList.{ListsFree};
-ghost use Rattle.av_plain.specs.Determined.{Tells, IsClaimed, is_bus, NoBus, SameCommands};
-
-pub use rows::{
-    a_page_in_writeback_is_sound, changed_exits_and_reports_are_refused,
-    changed_replies_are_refused, changed_replies_of_swap_are_refused, changed_runs_are_refused,
-    exits_and_reports_run, ledger_rows_lead, ranges_run, rows_run, shared_rows_run, swap_rows_run,
-};
+ghost use Rattle.av_plain.specs.Transcript.{Exchange, State, IsLegalFrom, IsRun};
+ghost use Rattle.av_plain.specs.Sound.{AllSound, SaysSound};
 
 /// Sound memories and a sound ledger are so after every legal reply, a refusal too.
 pub fn soundness_stays()
-    ensures { (m : Setting) (w : World) (l : Ledger) (command : Command) (reply : Reply) (events : List Event) → AllSound m w l → IsLegal m w l command reply events → AllSound m (next_world m w l events command reply.answer) (after_all l events) }
+    ensures { (m : Setting) (w : World) (l : Ledger) (command : Command) (reply : Reply) (events : List Event)
+        → AllSound m w l → IsLegal m w l command reply events
+        → AllSound m (next_world m w l events command reply.answer) (after_all l events) }
 {}
 
 /// What a legal transcript leaves, from no process on, is sound.
 pub fn transcripts_are_sound()
-    ensures { (m : Setting) (exchanges : List Exchange) (w : World) (l : Ledger) → IsLegalFrom m [] fresh exchanges w l → AllSound m w l }
+    ensures { (m : Setting) (exchanges : List Exchange) (w : World) (l : Ledger)
+        → IsLegalFrom m [] first_ledger exchanges w l → AllSound m w l }
 {}
 
-/// A run, in which also the order of the free frames counts, is a legal transcript.
-pub fn runs_are_legal()
-    ensures { (m : Setting) (old : State) (exchanges : List Exchange) (new : State) → IsRun m old exchanges new → IsLegalFrom m old.world old.ledger exchanges new.world new.ledger }
-{}
-
-/// A command that is refused changes neither the memories nor the ledger. An mprotect, which can stop at a page that
-/// isn't mapped, may have changed the protection of the pages before it.
-pub fn refusals_change_nothing()
-    ensures others { (m : Setting) (w : World) (l : Ledger) (command : Command) (reply : Reply) (events : List Event) (error : Errno) → is_mprotect command ≡ false → IsLegal m w l command reply events → reply.answer ≡ Refused error → (next_world m w l events command reply.answer ≡ w) × (after_all l events ≡ l) }
-    ensures mprotect { (m : Setting) (w : World) (l : Ledger) (p a len : ℕ) (prot : Prot) (reply : Reply) (events : List Event) (error : Errno) → IsLegal m w l (Mprotect p a len prot) reply events → reply.answer ≡ Refused error → ((next_world m w l events (Mprotect p a len prot) reply.answer ≡ w) ⊎ StopsAtHole w p a len prot error (next_world m w l events (Mprotect p a len prot) reply.answer)) × (after_all l events ≡ l) }
-{}
-
-/// Soundness is kept by counts. In plain sentences it says this, and so that no more entries name a frame than
-/// processes live.
+/// Soundness is kept by counts. In plain sentences it says this, and so that no more entries name a
+/// frame than processes live.
 pub fn what_sound_says()
     ensures { (m : Setting) (w : World) (l : Ledger) → AllSound m w l → SaysSound m w l }
 {}
 
-/// The three numbers of an out-of-memory are all frames: pinned, not cached, and cached.
-pub fn numbers_add_up()
-    ensures { (m : Setting) (w : World) (l : Ledger) (command : Command) (reply : Reply) (events : List Event) (k : ℕ) (out : OutOf) (shown : List ℕ) → AllSound m w l → IsLegal m w l command reply events → reply.answer ≡ Oom k out shown → out.pinned + out.noslot + out.fault ≡ m.frames }
-{}
-
-/// Where the devices tell their pages, each byte of the memories is claimed, and no fault of a device is reported, a
-/// command has one reply, and leaves one state: nothing is left to the kernel's choice.
-pub fn replies_are_determined()
-    ensures { (m : Setting) (old new other : State) (command : Command) (reply reply' : Reply) → Tells m → IsClaimed old.world → is_bus reply.answer ≡ false → is_bus reply'.answer ≡ false → IsStep m old command reply new → IsStep m old command reply' other → (reply ≡ reply') × (new ≡ other) }
-{}
-
-/// So there is one run of some commands, from nothing on.
-pub fn runs_are_determined()
-    ensures { (m : Setting) (exchanges exchanges' : List Exchange) (new other : State) → Tells m → SameCommands exchanges exchanges' → NoBus exchanges → NoBus exchanges' → IsRun m (at_first m) exchanges new → IsRun m (at_first m) exchanges' other → (exchanges ≡ exchanges') × (new ≡ other) }
-{}
-
-/// In a run the list of free frames has each free frame of the machine once, and no other number.
-pub fn runs_list_free_frames()
-    ensures { (m : Setting) (exchanges : List Exchange) (new : State) → IsRun m (at_first m) exchanges new → ListsFree m new.ledger new.free }
-{}
-
-/// Each frame is free, active or inactive, and so the numbers of `stat` add up.
-pub fn totals_add_up()
-    ensures { (m : Setting) (w : World) (l : Ledger) → AllSound m w l → (totals m w l).free + (totals m w l).active + (totals m w l).inactive ≡ (totals m w l).frames }
-{}
-
-/// The longest runs of a process's pages are one list: `maps` has one answer.
-pub fn maps_has_one_answer()
-    ensures { (q : Process) (rows others : List Row) → AreMaps q rows → AreMaps q others → rows ≡ others }
+/// A run, in which also the order of the free frames counts, is a legal transcript.
+pub fn runs_are_legal()
+    ensures { (m : Setting) (old : State) (exchanges : List Exchange) (new : State)
+        → IsRun m old exchanges new
+        → IsLegalFrom m old.world old.ledger exchanges new.world new.ledger }
 {}

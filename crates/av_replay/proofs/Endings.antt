@@ -5,10 +5,10 @@ use Rattle.std.specs.Option.{option_to_list}
 use Rattle.std.proofs.lemmas.List.{take_all, take_at, drop_at}
 use Rattle.std.proofs.lemmas.List.Elements.{All-nil}
 use Rattle.std.proofs.lemmas.List.Concat.{flat_map-append}
-use Rattle.av_trace.specs.Text.{text_of}
+use Rattle.av_trace.specs.Print.{text_of}
 use Rattle.av_plain.specs.Transcript.{Exchange, State, at_first}
 use Rattle.av_kernel.specs.Machine.{Machine}
-use Rattle.av_kernel.specs.View.{setting}
+use Rattle.av_reclaim.specs.Mem.{setting}
 use Rattle.av_io.specs.Count.{Rose}
 use Rattle.av_io.specs.Source.{SourceView, Took}
 use Rattle.av_io.specs.Sink.{Gained}

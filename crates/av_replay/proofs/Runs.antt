@@ -1,14 +1,15 @@
 -- A run that goes on by a turn.
 use Rattle.std.proofs.Common.{◌≡◌, ℕ, ◌≤◌, List, [], ◌∷◌, ◌++◌, Option, None, length, length-append, refl, sym, ap, subst, ◌∙◌, append_assoc, append-nil, arith}
-use Rattle.std.specs.Prelude.{replicate}
+use Rattle.av_kernel.specs.Tally.{none_counted}
+use Rattle.av_kernel.specs.declared.tally.Tally.{Tally}
 use Rattle.std.specs.List.{AllByRecursion}
 use Rattle.std.specs.Option.{option_to_list}
 use Rattle.std.proofs.lemmas.List.Concat.{flat_map-append}
-use Rattle.av_trace.specs.Text.{text_of}
+use Rattle.av_trace.specs.Print.{text_of}
 use Rattle.av_plain.specs.Ledger.{Setting}
 use Rattle.av_plain.specs.Transcript.{Exchange, State, IsRun, at_first}
 use Rattle.av_kernel.specs.Machine.{Machine}
-use Rattle.av_kernel.specs.View.{setting}
+use Rattle.av_reclaim.specs.Mem.{setting}
 use Rattle.av_io.specs.Source.{in_front, Took}
 use Rattle.av_io.specs.Sink.{Gained}
 use Rattle.av_replay.specs.Streams.{Streams, undone, room, IsLater}
@@ -37,7 +38,7 @@ pub IsRun-append : (m : Setting) (a b c : State) (es more : List Exchange) → I
 IsRun-append m a b c [] more run then = subst (λ (s : State). IsRun m s more c) run then
 IsRun-append m a b c (e ∷ es) more run then = (run.0, run.1, IsRun-append m run.0 b c es more run.2 then)
 
-pub tally_of-append : (es more : List Exchange) (tally : List ℕ) → tally_of (es ++ more) tally ≡ tally_of more (tally_of es tally)
+pub tally_of-append : (es more : List Exchange) (tally : Tally) → tally_of (es ++ more) tally ≡ tally_of more (tally_of es tally)
 tally_of-append [] more tally = refl
 tally_of-append (e ∷ es) more tally = tally_of-append es more _
 
@@ -111,7 +112,7 @@ module _ (n : ℕ) (past : Past) (ahead : List ℕ) (old now new : Streams) (k k
         stands = a.stands;
         frames = a.counts.frames ∙ kept.frames;
         steps = omega (arith, a.counts.steps, kept.steps, length-append past.transcript (option_to_list a.did));
-        tally = a.counts.tally ∙ ap (tally_of (option_to_list a.did)) kept.tally ∙ sym (tally_of-append past.transcript (option_to_list a.did) (replicate 8 0));
+        tally = a.counts.tally ∙ ap (tally_of (option_to_list a.did)) kept.tally ∙ sym (tally_of-append past.transcript (option_to_list a.did) none_counted);
         unspent = a.counts.spent kept.unspent;
       }
 

@@ -1,12 +1,13 @@
 -- What a replay leaves, by its status.
-use Rattle.std.specs.Prelude.{◌≡◌, ◌≢◌, ℕ, ◌+◌, ◌^◌, ◌<◌, ◌≤◌, List, [], ◌∷◌, ◌++◌, ◌⊎◌, false, length, take, Option, Some, None, IfSome, IsSomeAnd, unwrap_or, replicate}
+use Rattle.std.specs.Prelude.{◌≡◌, ◌≢◌, ℕ, ◌+◌, ◌^◌, ◌<◌, ◌≤◌, List, [], ◌∷◌, ◌++◌, ◌⊎◌, false, length, take, Option, Some, None, IfSome, IsSomeAnd, unwrap_or}
 use Rattle.std.specs.List.{flat_map, AllByRecursion}
 use Rattle.std.specs.Option.{option_to_list}
-use Rattle.av_trace.specs.Text.{text_of}
+use Rattle.av_trace.specs.Print.{text_of}
 use Rattle.av_plain.specs.Transcript.{Exchange, State, IsRun, at_first}
 use Rattle.av_kernel.specs.Machine.{Machine}
 use Rattle.av_kernel.specs.Kernel.{Stands}
-use Rattle.av_kernel.specs.View.{setting}
+use Rattle.av_kernel.specs.Tally.{none_counted}
+use Rattle.av_reclaim.specs.Mem.{setting}
 use Rattle.av_io.specs.Count.{Rose}
 use Rattle.av_io.specs.Source.{Took}
 use Rattle.av_io.specs.Sink.{Gained}
@@ -67,14 +68,14 @@ pub record IsLeft (kernel : Machine) (n : ℕ) (run : Run) : Type 0 where
   pub stands : Stands kernel run.state
   pub frames : kernel.frames ≡ n
   pub steps : kernel.steps ≡ length run.transcript
-  pub tally : kernel.tally ≡ tally_of run.transcript (replicate 8 0)
+  pub tally : kernel.tally ≡ tally_of run.transcript none_counted
   pub unspent : kernel.spent ≡ false
 
 -- no command was done yet, and no process lives
 pub record IsAtStart (kernel : Machine) : Type 0 where
   pub stands : Stands kernel (at_first (setting kernel.frames))
   pub steps : kernel.steps ≡ 0
-  pub tally : kernel.tally ≡ replicate 8 0
+  pub tally : kernel.tally ≡ none_counted
   pub unspent : kernel.spent ≡ false
 
 -- ---- where a run ends

@@ -1,7 +1,7 @@
 -- A whole trace, line by line.
 use Rattle.std.specs.Prelude.{◌≡◌, ℕ, ◌≤◌, List, [], ◌∷◌, length, Option, Some, All, ◌==◌, if◌then◌else◌}
 use Rattle.av_trace.specs.declared.command.Command.{Command}
-use Rattle.av_trace.specs.Grammar.{Says}
+use Rattle.av_trace.specs.Line.{Says}
 use Rattle.av_replay.specs.declared.status.Status.{Status}
 use Rattle.av_replay.specs.declared.status.Status.TheVariants as statuses
 use Rattle.av_io.specs.Count.{Rose}

@@ -3,12 +3,14 @@ use Rattle.std.specs.Prelude.{◌≡◌, ℕ, ◌+◌, ◌<◌, ◌≤◌, List,
 use Rattle.std.specs.List.{flat_map}
 use Rattle.std.specs.Option.{option_to_list}
 use Rattle.av_trace.specs.declared.command.Command.{Command}
-use Rattle.av_trace.specs.Grammar.{Says}
-use Rattle.av_trace.specs.Text.{text_of}
+use Rattle.av_trace.specs.Line.{Says}
+use Rattle.av_trace.specs.Print.{text_of}
 use Rattle.av_plain.specs.Transcript.{Exchange, State, IsRun}
 use Rattle.av_kernel.specs.Machine.{Machine}
-use Rattle.av_kernel.specs.Kernel.{Stands, word_of, counted}
-use Rattle.av_kernel.specs.View.{setting}
+use Rattle.av_kernel.specs.Kernel.{Stands}
+use Rattle.av_kernel.specs.Tally.{counted}
+use Rattle.av_kernel.specs.declared.tally.Tally.{Tally}
+use Rattle.av_reclaim.specs.Mem.{setting}
 use Rattle.av_io.specs.Count.{Rose}
 use Rattle.av_io.specs.Source.{SourceView, in_front, Took, HasEnded}
 use Rattle.av_io.specs.Sink.{SinkView, Gained}
@@ -31,10 +33,10 @@ Commands line did = Says line (option_map (λ e. e.command) did)
 abbrev pub SaysNothing : List ℕ → Type 0
 SaysNothing line = (said : Option Command) → Says line said → ⊥
 
--- the first words of these replies, counted onto others
-abbrev pub tally_of : List Exchange → List ℕ → List ℕ
+-- these replies, counted onto others
+abbrev pub tally_of : List Exchange → Tally → Tally
 tally_of [] tally = tally
-tally_of (e ∷ es) tally = tally_of es (counted (word_of e.reply.answer) tally)
+tally_of (e ∷ es) tally = tally_of es (counted e.reply.answer tally)
 
 -- the kernel counted these replies, and is no more spent than it was
 pub record Counted (old new : Machine) (es : List Exchange) : Type 0 where

@@ -4,8 +4,8 @@ use Rattle.std.specs.Prelude.{◌==◌, ◌&&◌, if◌then◌else◌}
 use Rattle.std.specs.List.{flat_map, AllByRecursion}
 use Rattle.std.proofs.lemmas.Bool.{eq-eqb, ne_eqb, cond-true, cond-false, and_parts, and_from}
 use Rattle.std.proofs.lemmas.List.{append_cancel_left}
-use Rattle.av_trace.specs.Grammar.{field, line}
-use Rattle.av_trace.specs.Text.{ended}
+use Rattle.av_trace.specs.Print.{ended}
+use Rattle.av_trace.specs.Word.{field, line}
 
 -- no byte of the text is c
 abbrev pub lacks : ℕ → List ℕ → Bool

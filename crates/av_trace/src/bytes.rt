@@ -1,7 +1,9 @@
 //! A list of bytes, which contracts see as the list.
 
-ghost use Rattle.std.specs.Prelude.{◌≡◌, ℕ, List, [], ◌∷◌, ◌++◌, length, OnOk, OnErr};
+ghost use Rattle.std.specs.Prelude.{◌≡◌, ℕ, List, [], ◌++◌, length, OnOk, OnErr};
+ghost use Rattle.av_trace.specs.Hex.{hex_text};
 
+use crate::hex::encode;
 use std::alloc::{AllocError, Global};
 use std::marker::Model;
 
@@ -65,6 +67,24 @@ impl Bytes {
         ensures err { OnErr result (self.new ≡ self.old) }
     {
         self.items.extend_from_slice(piece)?;
+        Ok(())
+    }
+
+    /// Adds bytes at the end as lower-case digits, two each. Without memory all stays.
+    pub fn append_hex(&mut self, bytes: &[u8]) -> Result<(), AllocError>
+        ensures ok { OnOk result (self.new ≡ self.old ++ hex_text bytes.now) }
+        ensures err { OnErr result (self.new ≡ self.old) }
+    {
+        let start = self.items.len();
+        let Some(end) = bytes
+            .len()
+            .checked_mul(2)
+            .and_then(|n| n.checked_add(start))
+        else {
+            return Err(AllocError);
+        };
+        self.items.resize(end, 0)?;
+        encode(bytes, self.items.as_mut_slice(), start);
         Ok(())
     }
 }

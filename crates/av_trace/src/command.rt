@@ -1,20 +1,18 @@
 //! What a line asks for.
 
-use crate::bytes::Bytes;
-use av_base::Prot;
+ghost use Rattle.std.specs.Prelude.{◌≡◌, codes, option_map, IfOk, OnErr};
+ghost use Rattle.av_trace.specs.Command.{at_end, whole, no_words, mmap_at, munmap_at, mprotect_at, read_at, write_at, command_of, range_words};
+ghost use Rattle.av_trace.specs.Number.{process_at};
+ghost use Rattle.av_trace.specs.Word.{BeginsWith};
 
-/// Where `mmap` puts the pages.
-#[derive(Clone, Copy, Drop, Debug, PartialEq, Eq)]
-pub enum Place {
-    /// At the greatest address from which on they fit.
-    Auto,
-    /// A hint: at this address if they may go there, else as `Auto`.
-    At(u64),
-    /// At this address, in place of what is mapped there.
-    Fixed(u64),
-    /// At this address, unless something is mapped there.
-    NoReplace(u64),
-}
+use crate::bytes::Bytes;
+use crate::hex::data_field;
+use crate::number::{address, decimal, entry, len, process};
+use crate::place::{Place, place_field};
+use crate::prot::prot;
+use crate::word::after;
+use av_base::{PAGE_SIZE, Prot};
+use std::alloc::{AllocError, Global};
 
 /// What a line asks for, with the words of the line in order.
 ///
@@ -58,4 +56,161 @@ pub enum Command {
         process: u16,
     },
     Stat,
+}
+
+/// The command, if nothing is left.
+#[tactic(auto, unfolding(crate::specs::Command::at_end))]
+fn end(command: Command, bytes: &[u8]) -> Option<Command>
+    ensures { result ≡ at_end command bytes.now }
+{
+    match bytes {
+        [] => Some(command),
+        [_, ..] => None,
+    }
+}
+
+#[tactic(auto, unfolding(crate::specs::Command::whole))]
+fn spawn(bytes: &[u8]) -> Option<Command>
+    ensures { result ≡ whole process_at Command.Spawn bytes.now }
+{
+    let (process, rest) = process(bytes)?;
+    end(Command::Spawn { process }, rest)
+}
+
+#[tactic(auto, unfolding(crate::specs::Command::whole))]
+fn exit(bytes: &[u8]) -> Option<Command>
+    ensures { result ≡ whole process_at Command.Exit bytes.now }
+{
+    let (process, rest) = process(bytes)?;
+    end(Command::Exit { process }, rest)
+}
+
+#[tactic(auto, unfolding(crate::specs::Command::whole, crate::specs::Word::both))]
+fn mmap(bytes: &[u8]) -> Option<Command>
+    ensures { result ≡ mmap_at bytes.now }
+{
+    let (process, rest) = process(bytes)?;
+    let (len, rest) = len(rest)?;
+    let (prot, rest) = prot(rest)?;
+    let (place, rest) = place_field(rest)?;
+    let command = Command::Mmap {
+        process,
+        len,
+        prot,
+        place,
+    };
+    end(command, rest)
+}
+
+/// A process, an address and a length, and the rest.
+#[tactic(auto, unfolding(crate::specs::Word::both))]
+fn range(bytes: &[u8]) -> Option<(((u16, u64), u64), &[u8])>
+    ensures { option_map (λ x. (x.0, x.1.now)) result ≡ range_words bytes.now }
+{
+    let (entry, rest) = entry(bytes)?;
+    let (len, rest) = len(rest)?;
+    Some(((entry, len), rest))
+}
+
+#[tactic(auto, unfolding(crate::specs::Command::whole))]
+fn munmap(bytes: &[u8]) -> Option<Command>
+    ensures { result ≡ munmap_at bytes.now }
+{
+    let (((process, address), len), rest) = range(bytes)?;
+    let command = Command::Munmap {
+        process,
+        address,
+        len,
+    };
+    end(command, rest)
+}
+
+#[tactic(auto, unfolding(crate::specs::Command::whole, crate::specs::Word::both))]
+fn mprotect(bytes: &[u8]) -> Option<Command>
+    ensures { result ≡ mprotect_at bytes.now }
+{
+    let (((process, address), len), rest) = range(bytes)?;
+    let (prot, rest) = prot(rest)?;
+    let command = Command::Mprotect {
+        process,
+        address,
+        len,
+        prot,
+    };
+    end(command, rest)
+}
+
+#[tactic(auto, unfolding(crate::specs::Command::whole, crate::specs::Word::both))]
+fn read(bytes: &[u8]) -> Option<Command>
+    ensures { result ≡ read_at bytes.now }
+{
+    let ((process, address), rest) = entry(bytes)?;
+    let (len, rest) = decimal(rest, 1, PAGE_SIZE)?;
+    let command = Command::Read {
+        process,
+        address,
+        len: len as u16,
+    };
+    end(command, rest)
+}
+
+#[tactic(auto, unfolding(crate::specs::Command::whole, crate::specs::Command::at_end, crate::specs::Word::both))]
+fn write(alloc: Global, bytes: &[u8]) -> Result<Option<Command>, AllocError>
+    ensures { IfOk result (λ found. found ≡ write_at bytes.now) }
+{
+    let Some(((process, address), rest)) = entry(bytes) else {
+        return Ok(None);
+    };
+    match data_field(alloc, rest)? {
+        Some(bytes) => Ok(Some(Command::Write {
+            process,
+            address,
+            bytes,
+        })),
+        None => Ok(None),
+    }
+}
+
+#[tactic(auto, unfolding(crate::specs::Command::whole))]
+fn maps(bytes: &[u8]) -> Option<Command>
+    ensures { result ≡ whole process_at Command.Maps bytes.now }
+{
+    let (process, rest) = process(bytes)?;
+    end(Command::Maps { process }, rest)
+}
+
+#[tactic(auto, unfolding(crate::specs::Command::whole))]
+fn stat(bytes: &[u8]) -> Option<Command>
+    ensures { result ≡ whole no_words (λ x. Command.Stat) bytes.now }
+{
+    end(Command::Stat, bytes)
+}
+
+/// The command of a whole line. Only a write takes memory.
+#[tactic(auto, unfolding(crate::specs::Command::command_of))]
+pub fn whole_command(alloc: Global, line: &[u8]) -> Result<Option<Command>, AllocError>
+    ensures found { IfOk result (λ found. found ≡ command_of line.now) }
+    ensures memory { OnErr result (BeginsWith (codes "write") line.now) }
+{
+    if let Some(rest) = after(line, b"write") {
+        write(alloc, rest)
+    } else if let Some(rest) = after(line, b"read") {
+        Ok(read(rest))
+    } else if let Some(rest) = after(line, b"spawn") {
+        Ok(spawn(rest))
+    } else if let Some(rest) = after(line, b"exit") {
+        Ok(exit(rest))
+    } else if let Some(rest) = after(line, b"mmap") {
+        Ok(mmap(rest))
+    } else if let Some(rest) = after(line, b"munmap") {
+        Ok(munmap(rest))
+    } else if let Some(rest) = after(line, b"mprotect") {
+        Ok(mprotect(rest))
+    } else if let Some(rest) = after(line, b"maps") {
+        Ok(maps(rest))
+    } else if let Some(rest) = after(line, b"stat") {
+        Ok(stat(rest))
+    } else {
+        Ok(None)
+    }
 }

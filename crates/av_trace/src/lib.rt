@@ -1,19 +1,37 @@
 //! A trace: what its lines command, and the text of each reply.
+//!
+//! Proved: a line is accepted exactly where it is one of the grammar (`specs/Command.antt`), and
+//! says one thing (`parse_line`, `one_meaning`); the text of every reply, exactly (`reply_text`);
+//! two replies with one text are equal, whatever the commands (`one_reply`). Without memory
+//! `parse_line` fails only at a write, and `reply_text` may have added a part of the text.
+//!
+//! Only tested: nothing. Which reply a command has is no matter of this crate.
+//!
+//! Notes, answers and rows of commands that don't exist yet are declared, printed and proved
+//! already; where that is so, they say it.
 #![tactic(auto)]
 
 mod bytes;
 mod command;
-mod fields;
-mod parse;
+mod hex;
+mod line;
+mod note;
+mod number;
+mod place;
 mod print;
+mod prot;
 mod reply;
+mod row;
 #[cfg(test)]
 mod tests;
-mod words;
+mod word;
 
 pub use bytes::Bytes;
-pub use command::{Command, Place};
-pub use fields::number_in;
-pub use parse::{LineFault, one_meaning, parse_line};
+pub use command::Command;
+pub use line::{LineFault, one_meaning, parse_line};
+pub use note::{Cause, Note, Notes};
+pub use number::number_in;
+pub use place::Place;
 pub use print::{one_reply, reply_text};
-pub use reply::{Answer, Cause, Errno, Note, Notes, OutOf, Reply, Row, Rows, Totals};
+pub use reply::{Answer, Errno, OutOf, Reply, Totals};
+pub use row::{Row, Rows};

@@ -1,13 +1,24 @@
 //! What a command is answered: one answer, and then notes of what happened or the rows of a report.
 
-ghost use Rattle.std.specs.Prelude.{◌≡◌, List, [], ◌∷◌, ◌++◌, length, OnOk, OnErr};
+ghost use Rattle.std.specs.Prelude.{◌∷◌, take};
+ghost use Rattle.std.specs.List.{flat_map};
+ghost use Rattle.std.specs.Fmt.{decimal as digits_of};
+ghost use Rattle.av_trace.specs.Note.{slot_text};
+ghost use Rattle.av_trace.specs.Reply.{errno_name, labelled as labelled_text, shown_words, out_words, cached_words, total_words, answer_line as line_of_answer};
+ghost use Rattle.av_trace.specs.Word.{Adds, field, line};
 
 use crate::bytes::Bytes;
-use av_base::{Prot, Slot};
-use std::alloc::{AllocError, Global};
-use std::marker::Model;
+use crate::hex::{add_address, add_bytes};
+use crate::note::{Notes, add_slot, number_line, slot_line};
+use crate::number::{add_decimal, add_number};
+use crate::row::Rows;
+use crate::word::add_word;
+use av_base::Slot;
+use std::alloc::AllocError;
 
 /// Why a command was refused, by the kernel's error numbers.
+///
+/// `Eio`, `Efault` and `Ebusy` are declared ahead of the commands that give them: swap and reports.
 #[derive(Clone, Copy, Drop, Debug, PartialEq, Eq)]
 pub enum Errno {
     Eperm,
@@ -21,8 +32,8 @@ pub enum Errno {
     Einval,
 }
 
-/// Why no frame could be had: each frame is pinned, or has no slot to go to, or its write to a slot failed.
-/// The three add up to the number of frames.
+/// Why no frame could be had: each frame is pinned, or has no slot to go to, or its write to a
+/// slot failed. The three add up to the number of frames.
 #[derive(Clone, Copy, Drop, Debug, PartialEq, Eq)]
 pub struct OutOf {
     pub pinned: u32,
@@ -45,7 +56,11 @@ pub struct Totals {
 
 /// The first line of a reply.
 ///
-/// Where an access stops before its end, `served` counts the bytes before the stop, and `shown` are those of a read.
+/// Where an access stops before its end, `served` counts the bytes before the stop, and `shown`
+/// are those of a read.
+///
+/// Declared ahead of the commands that give them: `Bus`, `On` and `NoFrame` (swap), `AreaList`,
+/// `Walk`, `NoWalk`, and those of entries and slots (reports). `AreaList` has no rows yet.
 #[derive(Drop)]
 pub enum Answer {
     Done,
@@ -97,150 +112,220 @@ pub enum Answer {
     Counted(Totals),
 }
 
-/// Why `reclaim` kept a frame.
-#[derive(Clone, Copy, Drop, Debug, PartialEq, Eq)]
-pub enum Cause {
-    Referenced,
-    Writeback,
-    NoSlot,
-    WriteStarted,
-}
-
-/// What happened to an entry, a frame or a slot. Each is printed as a line of its own.
-#[derive(Clone, Copy, Drop, Debug, PartialEq, Eq)]
-pub enum Note {
-    Zeroed {
-        process: u16,
-        address: u64,
-    },
-    New {
-        process: u16,
-        address: u64,
-        frame: u32,
-    },
-    Copied {
-        process: u16,
-        address: u64,
-        frame: u32,
-    },
-    Loaded {
-        slot: Slot,
-        frame: u32,
-    },
-    Mapped {
-        process: u16,
-        address: u64,
-        frame: u32,
-    },
-    Put {
-        frame: u32,
-        slot: Slot,
-    },
-    Unmapped(u32),
-    Started(Slot),
-    Written(Slot),
-    Failed(Slot),
-    Dropped(Slot),
-    Kept {
-        frame: u32,
-        cause: Cause,
-    },
-    Aged(u32),
-}
-
-/// Notes in the order of happening.
-#[derive(Drop)]
-pub struct Notes {
-    items: Vec<Note>,
-}
-
-impl Model for Notes {
-    ghost use Rattle.std.specs.Prelude.{List};
-    ghost use Rattle.av_trace.specs.declared.reply.Note.{Note};
-
-    ghost Value = { List Note };
-
-    ghost view = { λ n. n.items.items };
-}
-
-impl Notes {
-    /// No notes.
-    pub fn new(alloc: Global) -> Self
-        ensures { result ≡ [] }
-    {
-        Notes {
-            items: Vec::new(alloc),
-        }
-    }
-
-    /// Adds a note at the end. Without memory all stays.
-    pub fn push(&mut self, note: Note) -> Result<(), AllocError>
-        ensures ok { OnOk result (self.new ≡ self.old ++ note ∷ []) }
-        ensures err { OnErr result (self.new ≡ self.old) }
-    {
-        self.items.push(note)?;
-        Ok(())
-    }
-
-    pub fn as_slice(&self) -> &[Note]
-        ensures { result.now ≡ self.now }
-    {
-        self.items.as_slice()
-    }
-}
-
-/// A row of a report: a run of `maps`, an area of `areas`, or an entry of `rmap`.
-#[derive(Clone, Copy, Drop, Debug, PartialEq, Eq)]
-pub enum Row {
-    Run { start: u64, end: u64, prot: Prot },
-    Entry { process: u16, address: u64 },
-}
-
-/// The rows of a report, in order.
-#[derive(Drop)]
-pub struct Rows {
-    items: Vec<Row>,
-}
-
-impl Model for Rows {
-    ghost use Rattle.std.specs.Prelude.{List};
-    ghost use Rattle.av_trace.specs.declared.reply.Row.{Row};
-
-    ghost Value = { List Row };
-
-    ghost view = { λ r. r.items.items };
-}
-
-impl Rows {
-    /// No rows.
-    pub fn new(alloc: Global) -> Self
-        ensures { result ≡ [] }
-    {
-        Rows {
-            items: Vec::new(alloc),
-        }
-    }
-
-    /// Adds a row at the end. Without memory all stays.
-    pub fn push(&mut self, row: Row) -> Result<(), AllocError>
-        ensures ok { OnOk result (self.new ≡ self.old ++ row ∷ []) }
-        ensures err { OnErr result (self.new ≡ self.old) }
-    {
-        self.items.push(row)?;
-        Ok(())
-    }
-
-    pub fn as_slice(&self) -> &[Row]
-        ensures { result.now ≡ self.now }
-    {
-        self.items.as_slice()
-    }
-}
-
 /// The reply to one command.
 #[derive(Drop)]
 pub struct Reply {
     pub answer: Answer,
     pub notes: Notes,
     pub rows: Rows,
+}
+
+fn add_errno(text: &mut Bytes, error: Errno) -> Result<(), AllocError>
+    ensures { Adds result text.old text.new (field (errno_name error)) }
+{
+    match error {
+        Errno::Eperm => add_word(text, b"EPERM"),
+        Errno::Esrch => add_word(text, b"ESRCH"),
+        Errno::Eio => add_word(text, b"EIO"),
+        Errno::Eagain => add_word(text, b"EAGAIN"),
+        Errno::Enomem => add_word(text, b"ENOMEM"),
+        Errno::Efault => add_word(text, b"EFAULT"),
+        Errno::Ebusy => add_word(text, b"EBUSY"),
+        Errno::Eexist => add_word(text, b"EEXIST"),
+        Errno::Einval => add_word(text, b"EINVAL"),
+    }
+}
+
+/// Adds a space, a label such as `free=`, and its number.
+#[tactic(auto, unfolding(crate::specs::Reply::labelled))]
+fn add_labelled(text: &mut Bytes, label: &[u8], n: u64) -> Result<(), AllocError>
+    ensures { Adds result text.old text.new (field (labelled_text label.now n)) }
+{
+    add_word(text, label)?;
+    add_decimal(text, n)
+}
+
+fn add_shown(text: &mut Bytes, shown: &[u8]) -> Result<(), AllocError>
+    ensures { Adds result text.old text.new (flat_map field (shown_words shown.now)) }
+{
+    if shown.is_empty() {
+        Ok(())
+    } else {
+        add_bytes(text, shown)
+    }
+}
+
+fn add_out(text: &mut Bytes, out: OutOf) -> Result<(), AllocError>
+    ensures { Adds result text.old text.new (flat_map field (out_words out)) }
+{
+    add_labelled(text, b"pinned=", u64::from(out.pinned))?;
+    add_labelled(text, b"noslot=", u64::from(out.noslot))?;
+    add_labelled(text, b"fault=", u64::from(out.fault))
+}
+
+fn add_cached_slot(text: &mut Bytes, cached: Option<Slot>) -> Result<(), AllocError>
+    ensures { Adds result text.old text.new (flat_map field (cached_words slot_text cached)) }
+{
+    match cached {
+        None => Ok(()),
+        Some(slot) => {
+            add_word(text, b"cached")?;
+            add_slot(text, slot)
+        }
+    }
+}
+
+fn add_cached_frame(text: &mut Bytes, cached: Option<u32>) -> Result<(), AllocError>
+    ensures { Adds result text.old text.new (flat_map field (cached_words digits_of cached)) }
+{
+    match cached {
+        None => Ok(()),
+        Some(frame) => {
+            add_word(text, b"cached")?;
+            add_number(text, u64::from(frame))
+        }
+    }
+}
+
+/// An access that stopped: the first byte that was not served, and the bytes read before it.
+fn stop_line(text: &mut Bytes, name: &[u8], served: u64, shown: &[u8]) -> Result<(), AllocError>
+    ensures { Adds result text.old text.new
+        (line name.now (digits_of served ∷ shown_words shown.now)) }
+{
+    text.append(name)?;
+    add_number(text, served)?;
+    add_shown(text, shown)
+}
+
+fn oom_line(text: &mut Bytes, served: u64, out: OutOf, shown: &[u8]) -> Result<(), AllocError>
+    ensures { Adds result text.old text.new (line_of_answer (Answer.Oom served out shown.now)) }
+{
+    number_line(text, b"oom", served)?;
+    add_out(text, out)?;
+    add_shown(text, shown)
+}
+
+fn no_frame_line(text: &mut Bytes, out: OutOf) -> Result<(), AllocError>
+    ensures { Adds result text.old text.new (line_of_answer (Answer.NoFrame out)) }
+{
+    text.append(b"err ENOMEM")?;
+    add_out(text, out)
+}
+
+/// The numbers of frames, which come first.
+fn add_frame_totals(text: &mut Bytes, totals: &Totals) -> Result<(), AllocError>
+    ensures { Adds result text.old text.new (flat_map field (take 5 (total_words totals.now))) }
+{
+    add_labelled(text, b"frames=", totals.frames)?;
+    add_labelled(text, b"free=", totals.free)?;
+    add_labelled(text, b"active=", totals.active)?;
+    add_labelled(text, b"inactive=", totals.inactive)?;
+    add_labelled(text, b"flight=", totals.flight)
+}
+
+fn total_line(text: &mut Bytes, totals: &Totals) -> Result<(), AllocError>
+    ensures { Adds result text.old text.new (line_of_answer (Answer.Counted totals.now)) }
+{
+    text.append(b"stat")?;
+    add_frame_totals(text, totals)?;
+    add_labelled(text, b"slots=", totals.slots)?;
+    add_labelled(text, b"freeslots=", totals.free_slots)?;
+    add_labelled(text, b"procs=", totals.processes)
+}
+
+fn walk_line(text: &mut Bytes, frame: u32, maps: u64) -> Result<(), AllocError>
+    ensures { Adds result text.old text.new (line_of_answer (Answer.Walk frame maps)) }
+{
+    number_line(text, b"frame", u64::from(frame))?;
+    add_word(text, b"maps")?;
+    add_number(text, maps)
+}
+
+fn entry_frame_line(
+    text: &mut Bytes,
+    frame: u32,
+    seen: bool,
+    cached: Option<Slot>,
+) -> Result<(), AllocError>
+    ensures { Adds result text.old text.new (line_of_answer (Answer.EntryFrame frame seen cached)) }
+{
+    number_line(text, b"frame", u64::from(frame))?;
+    if seen {
+        add_word(text, b"seen")?;
+    } else {
+        add_word(text, b"old")?;
+    }
+    add_cached_slot(text, cached)
+}
+
+fn entry_slot_line(text: &mut Bytes, slot: Slot, cached: Option<u32>) -> Result<(), AllocError>
+    ensures { Adds result text.old text.new (line_of_answer (Answer.EntrySlot slot cached)) }
+{
+    slot_line(text, b"slot", slot)?;
+    add_cached_frame(text, cached)
+}
+
+fn slot_count_line(
+    text: &mut Bytes,
+    slot: Slot,
+    count: u64,
+    cached: Option<u32>,
+) -> Result<(), AllocError>
+    ensures { Adds result text.old text.new (line_of_answer (Answer.SlotCount slot count cached)) }
+{
+    slot_line(text, b"slot", slot)?;
+    add_word(text, b"count")?;
+    add_number(text, count)?;
+    add_cached_frame(text, cached)
+}
+
+/// Adds the line of an answer, without its newline.
+pub fn answer_line(text: &mut Bytes, answer: &Answer) -> Result<(), AllocError>
+    ensures { Adds result text.old text.new (line_of_answer answer.now) }
+{
+    match answer {
+        Answer::Done => text.append(b"ok"),
+        Answer::MapAt(address) => {
+            text.append(b"map")?;
+            add_address(text, *address)
+        }
+        Answer::Data(bytes) => {
+            text.append(b"data")?;
+            add_bytes(text, bytes.as_slice())
+        }
+        Answer::Refused(error) => {
+            text.append(b"err")?;
+            add_errno(text, *error)
+        }
+        Answer::Segv { served, shown } => stop_line(text, b"segv", *served, shown.as_slice()),
+        Answer::Bus { served, shown } => stop_line(text, b"bus", *served, shown.as_slice()),
+        Answer::Oom { served, out, shown } => oom_line(text, *served, *out, shown.as_slice()),
+        Answer::On { slots, bad } => {
+            number_line(text, b"on", u64::from(*slots))?;
+            add_number(text, u64::from(*bad))
+        }
+        Answer::NoFrame(out) => no_frame_line(text, *out),
+        Answer::Runs(n) => number_line(text, b"runs", *n),
+        Answer::AreaList(n) => number_line(text, b"areas", *n),
+        Answer::Walk { frame, maps } => walk_line(text, *frame, *maps),
+        Answer::NoWalk => text.append(b"none"),
+        Answer::EntryEmpty => text.append(b"empty"),
+        Answer::EntryZero => text.append(b"zero"),
+        Answer::EntryFrame {
+            frame,
+            seen,
+            cached,
+        } => entry_frame_line(text, *frame, *seen, *cached),
+        Answer::EntrySlot { slot, cached } => entry_slot_line(text, *slot, *cached),
+        Answer::SlotBad(slot) => {
+            slot_line(text, b"slot", *slot)?;
+            add_word(text, b"bad")
+        }
+        Answer::SlotCount {
+            slot,
+            count,
+            cached,
+        } => slot_count_line(text, *slot, *count, *cached),
+        Answer::Counted(totals) => total_line(text, totals),
+    }
 }

@@ -15,9 +15,18 @@ fn says_nothing(alloc: Global, line: &[u8]) -> bool {
     matches!(parse_line(alloc, line), Ok(None))
 }
 
+/// Whether each line is no command, no comment and not empty.
+fn all_bad(alloc: Global, lines: &[&str]) -> bool {
+    let mut bad = true;
+    for line in lines {
+        bad = bad && is_bad(alloc, line.as_bytes());
+    }
+    bad
+}
+
 #[test]
-fn lines(rt: HostRuntime) {
-    let good = [
+fn commands(rt: HostRuntime) {
+    let lines = [
         "spawn 1",
         "spawn 32767",
         "mmap 1 0 ---",
@@ -35,25 +44,59 @@ fn lines(rt: HostRuntime) {
         "maps 1",
         "stat",
     ];
-    for line in good {
+    for line in lines {
         assert!(rt; is_command(rt.alloc(), line.as_bytes()), "{line}");
     }
+}
+
+#[test]
+fn blank_lines(rt: HostRuntime) {
     for line in ["", "#", "# spawn 1"] {
         assert!(rt; says_nothing(rt.alloc(), line.as_bytes()), "{line}");
     }
-    let bad = [
+}
+
+#[test]
+fn bad_words(rt: HostRuntime) {
+    let lines = [
         " ",
         " # spawn 1",
         "spawn",
-        "spawn 0",
-        "spawn 01",
-        "spawn 32768",
         "spawn  1",
         "spawn 1 ",
         " spawn 1",
         "spawn 1 2",
         "spawns 1",
+        "exit",
+        "exit 1 2",
+        "stat ",
+        "stat x",
+    ];
+    assert!(rt; all_bad(rt.alloc(), &lines));
+}
+
+#[test]
+fn bad_numbers(rt: HostRuntime) {
+    let lines = [
+        "spawn 0",
+        "spawn 01",
+        "spawn 32768",
+        "maps 0",
         "mmap 1 18446744073709551616 rw-",
+        "munmap 1 10000",
+        "munmap 1 01 4096",
+        "read 1 10000 0",
+        "read 1 10000 4097",
+        "read 1 010000 1",
+        "read 1 1000A 1",
+        "read 1 10000000000000000 1",
+    ];
+    assert!(rt; all_bad(rt.alloc(), &lines));
+}
+
+#[test]
+fn bad_places_and_protections(rt: HostRuntime) {
+    let lines = [
         "mmap 1 4096 rw",
         "mmap 1 4096 wr-",
         "mmap 1 4096 rw- fixed",
@@ -63,29 +106,23 @@ fn lines(rt: HostRuntime) {
         "mmap 1 4096 rw- at 10 fixed 20",
         "mmap 1 4096 rw-  fixed 10000",
         "mmap 1 4096 rw- noreplace 10000000000000000",
-        "munmap 1 10000",
-        "munmap 1 01 4096",
         "munmap 1 10000 4096 rw-",
         "mprotect 1 10000 4096",
         "mprotect 1 10000 4096 rwz",
-        "read 1 10000 0",
-        "read 1 10000 4097",
-        "read 1 010000 1",
-        "read 1 1000A 1",
-        "read 1 10000000000000000 1",
+    ];
+    assert!(rt; all_bad(rt.alloc(), &lines));
+}
+
+#[test]
+fn bad_bytes(rt: HostRuntime) {
+    let lines = [
         "write 1 10000",
         "write 1 10000 0",
         "write 1 10000 000",
         "write 1 10000 0F",
-        "exit",
-        "exit 1 2",
-        "maps 0",
-        "stat ",
-        "stat x",
+        "write 1 10000 00 00",
     ];
-    for line in bad {
-        assert!(rt; is_bad(rt.alloc(), line.as_bytes()), "{line}");
-    }
+    assert!(rt; all_bad(rt.alloc(), &lines));
 }
 
 #[test]
@@ -194,7 +231,7 @@ fn has_text(alloc: Global, reply: &Reply, wanted: &str) -> Result<bool, AllocErr
     Ok(text.as_slice() == wanted.as_bytes())
 }
 
-fn answered(alloc: Global, answer: Answer) -> Reply {
+fn reply_of(alloc: Global, answer: Answer) -> Reply {
     Reply {
         answer,
         notes: Notes::new(alloc),
@@ -209,12 +246,12 @@ fn stops_and_bytes(rt: HostRuntime) -> Result<(), Fail> {
         served: 2,
         shown: Bytes::new(alloc),
     };
-    assert!(rt; has_text(alloc, &answered(alloc, segv), "segv 2\n")?);
+    assert!(rt; has_text(alloc, &reply_of(alloc, segv), "segv 2\n")?);
     let bytes = Bytes::from_vec(Vec::from_slice(alloc, b"\x00\x41\x00")?);
     assert!(rt;
         has_text(
             alloc,
-            &answered(alloc, Answer::Data(bytes)),
+            &reply_of(alloc, Answer::Data(bytes)),
             "data 004100\n"
         )?
     );
@@ -225,13 +262,13 @@ fn stops_and_bytes(rt: HostRuntime) -> Result<(), Fail> {
 fn refusals_and_entries(rt: HostRuntime) -> Result<(), Fail> {
     let alloc = rt.alloc();
     let refused = Answer::Refused(Errno::Eagain);
-    assert!(rt; has_text(alloc, &answered(alloc, refused), "err EAGAIN\n")?);
+    assert!(rt; has_text(alloc, &reply_of(alloc, refused), "err EAGAIN\n")?);
     let entry = Answer::EntryFrame {
         frame: 5,
         seen: false,
         cached: Some(Slot { area: 3, page: 70 }),
     };
-    assert!(rt; has_text(alloc, &answered(alloc, entry), "frame 5 old cached 3:70\n")?);
+    assert!(rt; has_text(alloc, &reply_of(alloc, entry), "frame 5 old cached 3:70\n")?);
     Ok(())
 }
 
@@ -247,7 +284,7 @@ fn totals(rt: HostRuntime) -> Result<(), Fail> {
         free_slots: 0,
         processes: 1,
     };
-    let reply = answered(rt.alloc(), Answer::Counted(totals));
+    let reply = reply_of(rt.alloc(), Answer::Counted(totals));
     let wanted = "stat frames=4 free=3 active=0 inactive=1 flight=0 slots=0 freeslots=0 procs=1\n";
     assert!(rt; has_text(rt.alloc(), &reply, wanted)?);
     Ok(())
@@ -265,7 +302,7 @@ fn notes(rt: HostRuntime) -> Result<(), Fail> {
         },
         shown: Bytes::new(alloc),
     };
-    let mut reply = answered(alloc, oom);
+    let mut reply = reply_of(alloc, oom);
     reply.notes.push(Note::New {
         process: 1,
         address: 0x7fff_ffff_d000,
@@ -292,7 +329,7 @@ fn run(start: u64, end: u64, write: bool) -> Row {
 #[test]
 fn rows(rt: HostRuntime) -> Result<(), Fail> {
     let alloc = rt.alloc();
-    let mut reply = answered(alloc, Answer::Runs(2));
+    let mut reply = reply_of(alloc, Answer::Runs(2));
     reply.rows.push(run(0x10000, 0x12000, true))?;
     reply.rows.push(run(0x12000, 0x13000, false))?;
     let wanted = "runs 2\n 10000-12000 rw-\n 12000-13000 r--\n";

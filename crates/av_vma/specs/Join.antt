@@ -1,5 +1,5 @@
 -- The linear index of a page, and when two areas are one.
-use Rattle.std.specs.Prelude.{ℕ, ◌+◌, ◌-◌, ◌/◌, Bool, true, ◌&&◌, ◌==◌, Option, Some, None}
+use Rattle.std.specs.Prelude.{ℕ, ◌+◌, ◌-◌, ◌/◌, Bool, true, ◌&&◌, ◌||◌, ◌==◌, Option, Some, None}
 use Rattle.std.proofs.Math.Bool.{beq}
 use Rattle.av_base.specs.Page.{page_of}
 use Rattle.av_base.specs.declared.prot.Prot.{Prot}
@@ -32,3 +32,13 @@ abbrev pub are_mergeable : Area → ℕ → Area → ℕ → Bool
 are_mergeable left left_len right right_len =
     (left.end == right.start) && same_prot left.prot right.prot && (left.flags == right.flags)
     && (index_of left (past_of left) == right.pgoff) && share_anon left.anon left_len right.anon right_len
+
+-- the second area begins where the first ends, and the offsets run on
+abbrev pub do_run_on : Area → Area → Bool
+do_run_on left right = (right.start == left.end) && (right.pgoff == index_of left (past_of left))
+
+-- an area may take the anon_vma of a neighbour: its chain has one node, the flags are equal,
+-- the two adjoin and the offsets run on
+abbrev pub is_reusable : Area → Area → ℕ → Bool
+is_reusable area near near_len =
+    (near_len == 1) && ((area.flags == near.flags) && (do_run_on area near || do_run_on near area))

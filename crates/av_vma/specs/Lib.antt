@@ -1,3 +1,4 @@
 pub mod Areas
 pub mod Gap
 pub mod Join
+pub mod Pages

@@ -1,5 +1,5 @@
 ghost use Rattle.std.specs.Prelude.{◌≡◌, ◌*◌, ◌<◌, ◌≤◌, ◌^◌, ◌||◌, IsSome};
-ghost use Rattle.av_vma.specs.Join.{are_mergeable, first_of, index_of, past_of, share_anon};
+ghost use Rattle.av_vma.specs.Join.{are_mergeable, do_run_on, first_of, index_of, is_reusable, past_of, share_anon};
 
 use av_base::{PAGE_SIZE, Prot};
 
@@ -43,6 +43,29 @@ pub fn mergeable(left: &Area, left_len: u64, right: &Area, right_len: u64) -> bo
         && left.flags == right.flags
         && index(left, left.end / PAGE_SIZE) == right.pgoff
         && may_share(left.anon, left_len, right.anon, right_len)
+}
+
+/// Whether an area without anon_vma may take that of its neighbour `near`.
+///
+/// They adjoin, the offsets run on, the flags are equal, and the neighbour's chain has one node: its
+/// length is `near_len`.
+pub fn reusable(area: &Area, near: &Area, near_len: u64) -> bool
+    requires forward { first_of area.now ≤ past_of area.now }
+    requires small { index_of area.now (past_of area.now) < 2 ^ 64 }
+    requires near_forward { first_of near.now ≤ past_of near.now }
+    requires near_small { index_of near.now (past_of near.now) < 2 ^ 64 }
+    ensures { result ≡ is_reusable area.now near.now near_len }
+{
+    near_len == 1 && area.flags == near.flags && (runs_on(area, near) || runs_on(near, area))
+}
+
+/// Whether an area ends where another begins, and the offsets run on.
+fn runs_on(left: &Area, right: &Area) -> bool
+    requires forward { first_of left.now ≤ past_of left.now }
+    requires small { index_of left.now (past_of left.now) < 2 ^ 64 }
+    ensures { result ≡ do_run_on left.now right.now }
+{
+    right.start == left.end && right.pgoff == index(left, left.end / PAGE_SIZE)
 }
 
 /// Whether two areas, each with its own anon_vma and the length of its chain, may have one anon_vma.

@@ -4,7 +4,7 @@
 mod area;
 mod areas;
 
-pub use area::{Area, index, mergeable};
+pub use area::{Area, index, mergeable, reusable};
 pub use areas::{AreaId, Areas};
 
 #[cfg(test)]

@@ -3,7 +3,7 @@ use Rattle.std.proofs.Common.{◌≡◌, ℕ, ◌+◌, ◌-◌, ◌^◌, ◌<◌
 use Rattle.std.proofs.lemmas.Bool.{leb-true, ltb-true, ltb-false, le-leb, lt-leb, lt-ltb, le-ltb, eq-eqb, ne_eqb, eqb-true, eqb-false, both_ways, cases_lt, and_parts, cond-false}
 use Rattle.av_base.specs.Limits.{low_page, top_page}
 use Rattle.av_base.specs.Words.{with_at}
-use Rattle.av_tree.specs.Order.{AllOf, entry_at, with_entry, without_key}
+use Rattle.av_arena.specs.Order.{AllOf, entry_at, with_entry, without_key}
 use Rattle.av_vmatree.specs.declared.span.Span.{Span}
 use Rattle.av_vmatree.specs.Spans.{start_of, holds, area_after, area_at, area_before, or_else, taken, span_of, with_span, unless_area, without_area, IsFree, AreApart, AreDistinct, AreSpans}
 
@@ -475,3 +475,14 @@ after_right p d l a r near is s h =
 
 pub room_here : (xs : List Span) → AreSpans xs → length xs < 2 ^ 63
 room_here xs g = let h = room_more xs g in omega (arith, h)
+
+-- no span begins at a page that is free
+holds_start : (s : Span) (page : ℕ) → s.from < s.to → s.from ≡ page → holds s page ≡ false → ⊥
+holds_start s page h e q = let d : holds s page ≡ true = holds_here s page (omega arith) (omega arith) in cc
+
+pub no_start : (spans : List Span) → AreApart spans → (page : ℕ) → taken spans page ≡ false → entry_at start_of page spans ≡ None
+no_start [] a page e = refl
+no_start (s ∷ t) a page e = elim (holds s page) as (λ b. holds s page ≡ b → is_some (cond b (Some s.area) (area_at t page)) ≡ false → entry_at start_of page (s ∷ t) ≡ None) [
+  | true ↦ λ q d. cc
+  | false ↦ λ q d. rw (ne_eqb s.from page (λ p. holds_start s page a.0 p q)) (no_start t a.2 page d)
+] refl e

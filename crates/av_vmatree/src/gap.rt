@@ -4,19 +4,20 @@ ghost use Rattle.av_vmatree.specs.Extent.{last_between, fits};
 ghost use Rattle.av_vmatree.specs.Spans.{AreApart, AreWithin, taken};
 
 use crate::span::{Extent, Span};
-use av_tree::Avl;
+use av_arena::Avl;
 use av_base::{LOW_PAGE, TOP_PAGE};
 
-/// The greatest page from which on `pages` pages are free. The extent of each subtree tells on which side it lies.
+/// The greatest page from which on `pages` pages are free. The extent of each subtree tells on
+/// which side it lies.
 pub fn gap_in(spans: &Avl<Span>, pages: u64) -> Option<u64>
     requires some { 1 ≤ pages }
-    requires apart { AreApart spans.now.0 }
-    requires within { AreWithin spans.now.0 }
-    ensures { IsGap (taken spans.now.0) pages result }
+    requires apart { AreApart spans.now }
+    requires within { AreWithin spans.now }
+    ensures { IsGap (taken spans.now) pages result }
 {
     let mut low = LOW_PAGE;
     let mut high = TOP_PAGE;
-    let mut part = spans;
+    let mut part = spans.part();
     'down: while let Some((left, span, right)) = part.parts() {
         if is_room(right.sum(), span.to, high, pages) {
             low = span.to;

@@ -6,19 +6,19 @@ ghost use Rattle.av_vmatree.specs.Spans.{AreSpans, IsFree, IsMet, area_after, ar
 
 use crate::gap::gap_in;
 use crate::span::Span;
-use av_tree::Avl;
+use av_arena::Avl;
 use av_vma::AreaId;
 use std::alloc::{AllocError, Global};
 use std::marker::Model;
 
 /// The areas of one process, seen as the list of their spans in the order of their pages.
 ///
-/// Pages go by number, which is their address over 4096. A call takes time logarithmic in the number of areas.
+/// Pages go by number, which is their address over 4096. A call takes time logarithmic in the
+/// number of areas.
 /// No two spans share a page or an area, and each lies from page 16 to below page 0x7ffffffff.
 #[derive(Drop)]
 pub struct Tree {
     spans: Avl<Span>,
-    alloc: Global,
 }
 
 impl Model for Tree {
@@ -28,9 +28,9 @@ impl Model for Tree {
 
     ghost Value = { List Span };
 
-    ghost view = { λ t. t.spans.0 };
+    ghost view = { λ t. t.spans };
 
-    ghost invariant = { λ t. AreSpans t.spans.0 };
+    ghost invariant = { λ t. AreSpans t.spans };
 }
 
 impl Tree {
@@ -39,12 +39,12 @@ impl Tree {
         ensures { result ≡ [] }
     {
         Tree {
-            spans: Avl::new(),
-            alloc,
+            spans: Avl::new(alloc),
         }
     }
 
-    /// Puts in an area, new to the process, with the pages from `from` to below `to`, all of them free.
+    /// Puts in an area, new to the process, with the pages from `from` to below `to`, all of them
+    /// free.
     ///
     /// Without memory all stays.
     pub fn insert(&mut self, area: AreaId, from: u64, to: u64) -> Result<(), AllocError>
@@ -53,30 +53,38 @@ impl Tree {
         requires high { to ≤ top_page }
         requires free { IsFree (taken self.old) from to }
         requires other { span_of self.old area ≡ None }
-        ensures spans { self.new ≡ (if is_ok result then with_span (span area from to) self.old else self.old) }
-        ensures areas { OnOk result ((number : ℕ) → span_of self.new number ≡ with_at area (Some (span area from to)) (span_of self.old) number) }
-        ensures pages { OnOk result ((page : ℕ) → area_at self.new page ≡ (if within from (to - from) page then Some area else area_at self.old page)) }
+        ensures spans { self.new ≡ (if is_ok result then with_span (span area from to) self.old
+            else self.old) }
+        ensures areas { OnOk result
+            ((number : ℕ) → span_of self.new number ≡ with_at area (Some (span area from to))
+            (span_of self.old) number) }
+        ensures pages { OnOk result
+            ((page : ℕ) → area_at self.new
+            page ≡ (if within from (to - from) page then Some area else area_at self.old page)) }
         ensures kept { AreSpans self.new }
     {
-        self.spans.insert(self.alloc, Span { from, to, area })
+        self.spans.insert(Span { from, to, area })
     }
 
     /// Takes out an area that is there, and begins with the page `from`.
     pub fn remove(&mut self, area: AreaId, from: u64)
         requires there { IsSomeAnd (span_of self.old area) (λ s. s.from ≡ from) }
         ensures spans { self.new ≡ without_area area self.old }
-        ensures areas { (number : ℕ) → span_of self.new number ≡ with_at area None (span_of self.old) number }
-        ensures pages { (page : ℕ) → area_at self.new page ≡ unless_area area (area_at self.old page) }
+        ensures areas { (number : ℕ) → span_of self.new number ≡ with_at area None
+            (span_of self.old) number }
+        ensures pages { (page : ℕ) → area_at self.new page ≡ unless_area area
+            (area_at self.old page) }
         ensures kept { AreSpans self.new }
     {
-        self.spans.remove(&Span {
+        self.spans.remove(Span {
             from,
             to: from,
             area,
         });
     }
 
-    /// Gives an area that is there, and begins with the page `from`, another end. The pages up to it are its own or
+    /// Gives an area that is there, and begins with the page `from`, another end. The pages up to
+    /// it are its own or
     /// free. It takes no memory.
     pub fn set_end(&mut self, area: AreaId, from: u64, to: u64)
         requires there { IsSomeAnd (span_of self.old area) (λ s. s.from ≡ from) }
@@ -84,8 +92,11 @@ impl Tree {
         requires high { to ≤ top_page }
         requires free { IsFree (taken (without_area area self.old)) from to }
         ensures spans { self.new ≡ with_span (span area from to) (without_area area self.old) }
-        ensures areas { (number : ℕ) → span_of self.new number ≡ with_at area (Some (span area from to)) (span_of self.old) number }
-        ensures pages { (page : ℕ) → area_at self.new page ≡ (if within from (to - from) page then Some area else unless_area area (area_at self.old page)) }
+        ensures areas { (number : ℕ) → span_of self.new number ≡ with_at area
+            (Some (span area from to)) (span_of self.old) number }
+        ensures pages { (page : ℕ) → area_at self.new
+            page ≡ (if within from (to - from) page then Some area else unless_area area
+            (area_at self.old page)) }
         ensures kept { AreSpans self.new }
     {
         self.spans.replace(Span { from, to, area });
@@ -94,9 +105,10 @@ impl Tree {
     /// The area that holds the page.
     pub fn find(&self, page: u64) -> Option<AreaId>
         ensures area { result ≡ area_at self.now page }
-        ensures span { IfSome result (λ area. IsSomeAnd (span_of self.now area) (λ s. holds s page ≡ true)) }
+        ensures span { IfSome result
+            (λ area. IsSomeAnd (span_of self.now area) (λ s. holds s page ≡ true)) }
     {
-        let mut part = &self.spans;
+        let mut part = self.spans.part();
         'down: while let Some((left, span, right)) = part.parts() {
             if page < span.from {
                 part = left;
@@ -114,7 +126,7 @@ impl Tree {
         ensures { result ≡ area_before self.now page }
     {
         let mut nearest = None;
-        let mut part = &self.spans;
+        let mut part = self.spans.part();
         'down: while let Some((left, span, right)) = part.parts() {
             if span.to <= page {
                 nearest = Some(span.area);
@@ -131,7 +143,7 @@ impl Tree {
         ensures { result ≡ area_after self.now page }
     {
         let mut nearest = None;
-        let mut part = &self.spans;
+        let mut part = self.spans.part();
         'down: while let Some((left, span, right)) = part.parts() {
             if span.from <= page {
                 part = right;
@@ -152,7 +164,7 @@ impl Tree {
         if from == to {
             return true;
         }
-        let mut part = &self.spans;
+        let mut part = self.spans.part();
         'down: while let Some((left, span, right)) = part.parts() {
             if to <= span.from {
                 part = left;
@@ -165,11 +177,15 @@ impl Tree {
         true
     }
 
-    /// Adds the spans of all areas in the order of their pages. It takes time linear in their number.
+    /// Adds the spans of all areas in the order of their pages. It takes time linear in their
+    /// number.
+    ///
+    /// Without memory none is added.
     pub fn append_to(&self, spans: &mut Vec<Span>) -> Result<(), AllocError>
-        ensures { OnOk result (spans.new.items ≡ spans.old.items ++ self.now) }
+        ensures { spans.new.items ≡ (if is_ok result then spans.old.items ++ self.now else
+            spans.old.items) }
     {
-        self.spans.append_to(spans)
+        self.spans.part().append_to(spans)
     }
 
     /// The greatest page from which on `pages` pages are free, or none where there is no such page.

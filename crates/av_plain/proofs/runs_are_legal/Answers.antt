@@ -1,4 +1,4 @@
-use Rattle.av_plain.proofs.Soundness.{run-legal}
+use Rattle.av_plain.proofs.Sound.{run-legal}
 use Rattle.av_plain.proofs.runs_are_legal.Goals as goal
 
 pub returns : goal.returns

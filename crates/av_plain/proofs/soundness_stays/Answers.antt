@@ -1,4 +1,4 @@
-use Rattle.av_plain.proofs.Soundness.{soundness-stays}
+use Rattle.av_plain.proofs.Sound.{soundness-stays}
 use Rattle.av_plain.proofs.soundness_stays.Goals as goal
 
 pub returns : goal.returns

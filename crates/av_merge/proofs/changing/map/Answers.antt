@@ -14,3 +14,9 @@ returns-clause-stands c =
     let one = c.join_at.ensures.stands p added.areas in
     let both = stays_trans p (area_of c.args.areas.now) (area_of c.add.new.areas) (area_of c.join_at.new.areas) c.add.new.tree c.join_at.new.tree added one in
     stays_trans p (area_of c.args.areas.now) (area_of c.join_at.new.areas) (area_of c.join_at-2.new.areas) c.join_at.new.tree c.join_at-2.new.tree both (c.join_at-2.ensures.stands p one.areas)
+
+pub returns-in_err-join_at-clause-stands : goal.returns-in_err-join_at-clause-stands
+returns-in_err-join_at-clause-stands c =
+    let p = c.args.process in
+    let added = c.add.ensures.stands in
+    stays_trans p (area_of c.args.areas.now) (area_of c.add.new.areas) (area_of c.join_at.new.areas) c.add.new.tree c.join_at.new.tree added (c.join_at.ensures.stands p added.areas)

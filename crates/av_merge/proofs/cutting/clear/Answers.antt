@@ -1,6 +1,6 @@
 use Rattle.av_vma.specs.Areas.{area_of}
 use Rattle.av_merge.specs.Pages.{pages_by}
-use Rattle.av_merge.proofs.Emptying.{all_empty}
+use Rattle.av_merge.proofs.CutsEmpty.{all_empty}
 use Rattle.av_merge.proofs.cutting.clear.Goals as goal
 
 pub returns-clause-empty : goal.returns-clause-empty

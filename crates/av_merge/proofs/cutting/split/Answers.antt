@@ -2,7 +2,8 @@ use Rattle.std.proofs.Common.{◌≡◌, ℕ, sym, ap, subst}
 use Rattle.std.proofs.lemmas.Result.{on_ok_weaker}
 use Rattle.av_vma.specs.declared.area.Area.{Area}
 use Rattle.av_vma.specs.Areas.{area_of}
-use Rattle.av_merge.specs.Pages.{pages_by, placed}
+use Rattle.av_merge.specs.Pages.{pages_by}
+use Rattle.av_vma.specs.Pages.{placed}
 use Rattle.av_merge.proofs.Cuts.{crossed, lower_free, lower_from, split_pages, upper_free, upper_of}
 use Rattle.av_merge.proofs.cutting.split.Goals as goal
 

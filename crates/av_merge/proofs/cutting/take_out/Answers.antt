@@ -7,7 +7,7 @@ use Rattle.av_vmatree.specs.declared.span.Span.{Span}
 use Rattle.av_vmatree.specs.Spans.{area_after, span_of}
 use Rattle.av_merge.specs.Process.{AreAreasOf}
 use Rattle.av_merge.proofs.Places.{area_in}
-use Rattle.av_merge.proofs.Emptying.{IsNext, all_taken, fewer, next_area, next_of, no_next, one_more}
+use Rattle.av_merge.proofs.CutsEmpty.{IsNext, all_taken, fewer, next_area, next_of, no_next, one_more}
 use Rattle.av_merge.proofs.cutting.take_out.Goals as goal
 
 -- the next area at or above the page

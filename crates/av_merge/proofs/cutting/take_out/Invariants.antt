@@ -1,6 +1,6 @@
 use Rattle.std.proofs.Common.{length}
 use Rattle.av_vma.specs.Areas.{area_of}
-use Rattle.av_merge.proofs.Emptying.{AreTaken}
+use Rattle.av_merge.proofs.CutsEmpty.{AreTaken}
 use Rattle.av_merge.proofs.cutting.take_out.Given as goal
 
 abbrev pub invariant-loop-area : goal.invariant-loop-area

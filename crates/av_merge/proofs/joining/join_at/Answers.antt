@@ -1,5 +1,12 @@
-use Rattle.std.proofs.Common.{◌∙◌, sym}
+use Rattle.std.proofs.Common.{◌≡◌, ◌∙◌, None, IsSomeAnd, sym, ap, subst}
+use Rattle.av_base.specs.Words.{with_at}
+use Rattle.av_vma.specs.declared.area.Area.{Area}
 use Rattle.av_vma.specs.Areas.{area_of}
+use Rattle.av_vma.specs.Join.{first_of, past_of}
+use Rattle.av_vmatree.specs.Spans.{IsFree, span_of, taken, without_area}
+use Rattle.av_merge.specs.Pages.{pages_by}
+use Rattle.av_vma.specs.Pages.{placed, IsWhole}
+use Rattle.av_merge.specs.Process.{Stays}
 use Rattle.av_merge.proofs.Joins.{join_whole, join_free, join_pages, join_stays, left_from, right_from}
 use Rattle.av_merge.proofs.joining.join_at.Goals as goal
 
@@ -11,31 +18,36 @@ remove-requires c = record {
 
 pub replace-requires-clause-there : goal.replace-requires-clause-there
 replace-requires-clause-there c =
-    left_from c.requires.stands.0 c.in-Some.left c.in-Some-find.right c.args.at c.get-lower.result c.get-upper.result (area_of c.args.areas.now) c.args.tree.now
+    subst (λ (a : Area). IsSomeAnd (span_of c.remove.new.self c.in-Some.left) (λ s. s.from ≡ first_of a)) (sym c.merge.ensures)
+    (left_from c.requires.stands.0 c.in-Some.left c.in-Some-find.right c.args.at c.get-lower.result c.get-upper.result (area_of c.args.areas.now) c.args.tree.now
     c.requires.stands.1 (sym c.in-Some.ensures.area) (sym c.in-Some-find.ensures.area) c.get-lower.ensures c.get-upper.ensures (sym c.mergeable.ensures ∙ c.if-not-mergeable.false)
-    (area_of c.remove-2.new.self) c.remove.new.self c.remove-2.ensures c.remove.ensures.kept c.remove.ensures.areas c.remove.ensures.pages
+    (area_of c.remove-2.new.self) c.remove.new.self c.remove-2.ensures c.remove.ensures.kept c.remove.ensures.areas c.remove.ensures.pages)
 
 pub replace-requires-clause-whole : goal.replace-requires-clause-whole
 replace-requires-clause-whole c =
-    join_whole c.requires.stands.0 c.in-Some.left c.in-Some-find.right c.args.at c.get-lower.result c.get-upper.result (area_of c.args.areas.now) c.args.tree.now
-    c.requires.stands.1 (sym c.in-Some.ensures.area) (sym c.in-Some-find.ensures.area) c.get-lower.ensures c.get-upper.ensures (sym c.mergeable.ensures ∙ c.if-not-mergeable.false)
+    subst IsWhole (sym c.merge.ensures)
+    (join_whole c.requires.stands.0 c.in-Some.left c.in-Some-find.right c.args.at c.get-lower.result c.get-upper.result (area_of c.args.areas.now) c.args.tree.now
+    c.requires.stands.1 (sym c.in-Some.ensures.area) (sym c.in-Some-find.ensures.area) c.get-lower.ensures c.get-upper.ensures (sym c.mergeable.ensures ∙ c.if-not-mergeable.false))
 
 pub replace-requires-clause-free : goal.replace-requires-clause-free
 replace-requires-clause-free c =
-    join_free c.requires.stands.0 c.in-Some.left c.in-Some-find.right c.args.at c.get-lower.result c.get-upper.result (area_of c.args.areas.now) c.args.tree.now
+    subst (λ (a : Area). IsFree (taken (without_area c.in-Some.left c.remove.new.self)) (first_of a) (past_of a)) (sym c.merge.ensures)
+    (join_free c.requires.stands.0 c.in-Some.left c.in-Some-find.right c.args.at c.get-lower.result c.get-upper.result (area_of c.args.areas.now) c.args.tree.now
     c.requires.stands.1 (sym c.in-Some.ensures.area) (sym c.in-Some-find.ensures.area) c.get-lower.ensures c.get-upper.ensures (sym c.mergeable.ensures ∙ c.if-not-mergeable.false)
-    (area_of c.remove-2.new.self) c.remove.new.self c.remove-2.ensures c.remove.ensures.kept c.remove.ensures.areas c.remove.ensures.pages
+    (area_of c.remove-2.new.self) c.remove.new.self c.remove-2.ensures c.remove.ensures.kept c.remove.ensures.areas c.remove.ensures.pages)
 
 pub returns-clause-stands : goal.returns-clause-stands
 returns-clause-stands c = λ p stands.
     join_stays p c.in-Some.left c.in-Some-find.right c.args.at c.get-lower.result c.get-upper.result (area_of c.args.areas.now) c.args.tree.now
     stands (sym c.in-Some.ensures.area) (sym c.in-Some-find.ensures.area) c.get-lower.ensures c.get-upper.ensures (sym c.mergeable.ensures ∙ c.if-not-mergeable.false)
     (area_of c.remove-2.new.self) c.remove.new.self c.remove-2.ensures c.remove.ensures.kept c.remove.ensures.areas c.remove.ensures.pages
-    (area_of c.replace.new.areas) c.replace.new.tree c.replace.ensures.stands
+    (area_of c.replace.new.areas) c.replace.new.tree
+    (subst (λ (a : Area). Stays a.pid (area_of c.remove-2.new.self) (area_of c.replace.new.areas) c.replace.new.tree) c.merge.ensures c.replace.ensures.stands)
 
 pub returns-clause-pages : goal.returns-clause-pages
 returns-clause-pages c = λ page.
     c.replace.ensures.pages page
+    ∙ ap (λ (a : Area). placed a (pages_by (with_at c.in-Some.left None (area_of c.remove-2.new.self)) c.remove.new.self) page) c.merge.ensures
     ∙ join_pages c.requires.stands.0 c.in-Some.left c.in-Some-find.right c.args.at c.get-lower.result c.get-upper.result (area_of c.args.areas.now) c.args.tree.now
     c.requires.stands.1 (sym c.in-Some.ensures.area) (sym c.in-Some-find.ensures.area) c.get-lower.ensures c.get-upper.ensures (sym c.mergeable.ensures ∙ c.if-not-mergeable.false)
     (area_of c.remove-2.new.self) c.remove.new.self c.remove-2.ensures c.remove.ensures.kept c.remove.ensures.areas c.remove.ensures.pages page

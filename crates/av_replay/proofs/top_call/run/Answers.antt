@@ -17,7 +17,7 @@ returns-in_default-replay g c =
     let h = c.replay.ensures.headline in
     let never = no_usage _ _ _ _ _ h in
     record {
-      headline = λ _. (c.in-Some.frames, c.in-Some.ensures.found, same_frames _ _ _ _ _ _ c.in-Ok.ensures.frames h);
+      headline = λ _. (c.in-Some.frames, c.in-Some.ensures.found, same_frames _ _ _ _ _ _ c.in-Ok.ensures.new.frames h);
       usage = record { only = λ e. absurd (never e); always = λ no_form. absurd (no_form c.in-Some.frames c.in-Some.ensures.found) };
       nothing = λ e. absurd (never e);
       no_kernel = λ e. absurd (never e);

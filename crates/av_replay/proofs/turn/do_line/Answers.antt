@@ -3,7 +3,7 @@ use Rattle.av_replay.proofs.turn.do_line.Goals as goal
 
 pub returns-clause-ok : goal.returns-clause-ok
 returns-clause-ok c =
-    let counted = c.in_ok-reply.ensures.counted in
+    let counted = c.in_ok-reply.ensures.counts in
     record {
       answers = λ s stands.
           let says = rw c.in-Some.is at c.in-Ok.ensures.found in
@@ -15,7 +15,7 @@ returns-clause-ok c =
             run = (steps.next, steps.step, refl);
             said = rw (append-nil, c.in_ok-reply_text.ensures, c.clear.ensures) refl;
             stands = steps.stands;
-            counts = record { steps = counted.steps; tally = counted.tally; frames = c.in_ok-reply.ensures.frames; spent = λ _. counted.spent };
+            counts = record { steps = counted.steps; tally = counted.tally; frames = counted.frames; spent = λ _. counted.spent };
           };
       steps = omega (arith, counted.steps);
     }

@@ -7,18 +7,18 @@ use Rattle.av_vmatree.proofs.gap.gap_in.Goals as goal
 pub returns : goal.returns
 returns c =
     let a = c.args in
-    let xs = a.spans.now.0 in
-    let e = ap (λ d. gap_of a.pages c.down.low c.down.high d.0) c.in_default.ensures.parts in
+    let xs = a.spans.now in
+    let e = ap (λ d. gap_of a.pages c.down.low c.down.high d) c.in_default.ensures.parts in
     gap_by_pages a.pages xs _ c.requires.some c.requires.apart (subst (IsGapOf a.pages low_page top_page xs) (sym c.down.invariant ∙ e ∙ sym c.last_start.ensures) (gap_is a.pages low_page top_page xs c.requires.some c.requires.apart c.requires.within))
 
 pub down-preserved-then-is_room : goal.down-preserved-then-is_room
 down-preserved-then-is_room c =
     let s = c.in-Some in
-    let e : fits c.args.pages s.span.now.to c.down.high (row_of s.right.now.0) ≡ true = search rules in
-    gap_right c.args.pages c.down.low c.down.high c.down.part.now.0 s.left.now.0 s.span.now s.right.now.0 s.ensures.parts.entries c.requires.some e ∙ c.down.invariant
+    let e : fits c.args.pages s.span.to c.down.high (row_of s.right) ≡ true = search rules in
+    gap_right c.args.pages c.down.low c.down.high c.down.part s.left s.span s.right s.ensures.parts.entries c.requires.some e ∙ c.down.invariant
 
 pub down-preserved : goal.down-preserved
 down-preserved c =
     let s = c.in-Some in
-    let e : fits c.args.pages s.span.now.to c.down.high (row_of s.right.now.0) ≡ false = search rules in
-    gap_left c.args.pages c.down.low c.down.high c.down.part.now.0 s.left.now.0 s.span.now s.right.now.0 s.ensures.parts.entries c.requires.some e ∙ c.down.invariant
+    let e : fits c.args.pages s.span.to c.down.high (row_of s.right) ≡ false = search rules in
+    gap_left c.args.pages c.down.low c.down.high c.down.part s.left s.span s.right s.ensures.parts.entries c.requires.some e ∙ c.down.invariant

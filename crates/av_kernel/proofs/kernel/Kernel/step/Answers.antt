@@ -1,13 +1,26 @@
-use Rattle.std.proofs.Common.{ℕ, ◌+◌, ◌≤◌, sym, subst, List}
-use Rattle.std.specs.Prelude.{slice_index}
-use Rattle.av_kernel.specs.Kernel.{word_of}
-use Rattle.av_kernel.proofs.Counting.{counted-few}
+use Rattle.std.proofs.Common.{ℕ, ◌+◌, ◌<◌, ◌≤◌, ◌^◌, sym, subst, arith}
+use Rattle.av_plain.specs.Transcript.{IsStep}
+use Rattle.av_reclaim.specs.Mem.{setting, Keeps}
+use Rattle.av_kernel.specs.Machine.{Machine}
+use Rattle.av_kernel.specs.Tally.{IsAtMost}
+use Rattle.av_kernel.proofs.TallyCounts.{counted-few, few-enough}
 use Rattle.av_kernel.proofs.kernel.Kernel.step.Goals as goal
+
+pub count-requires : goal.count-requires
+count-requires c = few-enough c.self.inside.tally c.self.inside.steps (2 ^ 24) (let few = subst (λ (k : Machine). k.steps < 2 ^ 24) (sym c.self.view_is) c.requires in omega (arith, few)) c.self.invariant.few
 
 pub invariant_of-self : goal.invariant_of-self
 invariant_of-self c =
     let steady = c.self.invariant.steady c.if-self.false in record {
-      words = c.count_word.ensures.words;
-      few = λ i. subst (λ (t : List ℕ). slice_index t i ≤ c.self.inside.steps + 1) (sym c.count_word.ensures.counted) (counted-few (word_of c.in-Ok.reply.answer) c.self.inside.tally c.self.inside.steps c.self.invariant.few i);
+      few = subst (IsAtMost (c.self.inside.steps + 1)) (sym c.count.ensures) (counted-few c.in-Ok.reply.answer c.self.inside.tally c.self.inside.steps c.self.invariant.few);
       steady = λ _. let after = c.in-Ok.ensures.step steady.0 steady.1 in (after.next, after.keeps);
+    }
+
+pub returns-in-Ok-clause-stands : goal.returns-in-Ok-clause-stands
+returns-in-Ok-clause-stands c = λ s stands.
+    let after = c.in-Ok.ensures.step s (subst (λ (k : Machine). Keeps k.mem s) (sym c.self.view_is) stands) in
+    record {
+      next = after.next;
+      step = subst (λ (k : Machine). IsStep (setting k.frames) s c.args.command.now c.in-Ok.reply after.next) c.self.view_is after.step;
+      stands = after.keeps;
     }

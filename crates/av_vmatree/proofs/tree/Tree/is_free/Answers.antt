@@ -8,8 +8,8 @@ down-preserved-then-to-span c =
     let s = c.in-Some in
     let e = s.ensures.parts.entries in
     let apart = c.down.invariant.1 in (
-      λ page low high. at_left page c.down.part.now.0 s.left.now.0 s.span.now s.right.now.0 e apart (omega arith) ∙ c.down.invariant.0 page low high,
-      apart_left s.left.now.0 s.span.now s.right.now.0 (subst AreApart e apart),
+      λ page low high. at_left page c.down.part s.left s.span s.right e apart (omega arith) ∙ c.down.invariant.0 page low high,
+      apart_left s.left s.span s.right (subst AreApart e apart),
     )
 
 pub down-preserved : goal.down-preserved
@@ -17,20 +17,20 @@ down-preserved c =
     let s = c.in-Some in
     let e = s.ensures.parts.entries in
     let apart = c.down.invariant.1 in (
-      λ page low high. at_right page c.down.part.now.0 s.left.now.0 s.span.now s.right.now.0 e apart (omega arith) ∙ c.down.invariant.0 page low high,
-      apart_right s.left.now.0 s.span.now s.right.now.0 (subst AreApart e apart),
+      λ page low high. at_right page c.down.part s.left s.span s.right e apart (omega arith) ∙ c.down.invariant.0 page low high,
+      apart_right s.left s.span s.right (subst AreApart e apart),
     )
 
 pub returns-else-span-from-clause-met : goal.returns-else-span-from-clause-met
 returns-else-span-from-clause-met c _ =
     let s = c.in-Some in
-    let wide : s.span.now.from < s.span.now.to = wide_at s.left.now.0 s.span.now s.right.now.0 (subst AreApart s.ensures.parts.entries c.down.invariant.1) in
-    let page = max c.args.from s.span.now.from in
+    let wide : s.span.from < s.span.to = wide_at s.left s.span s.right (subst AreApart s.ensures.parts.entries c.down.invariant.1) in
+    let page = max c.args.from s.span.from in
     let low : c.args.from ≤ page = omega arith in
     let high : page < c.args.to = omega arith in
     record {
       page = page;
       lowest = low;
       highest = high;
-      met = ap is_some (sym (at_here page c.down.part.now.0 s.left.now.0 s.span.now s.right.now.0 s.ensures.parts.entries c.down.invariant.1 (omega arith) (omega arith) ∙ c.down.invariant.0 page low high));
+      met = ap is_some (sym (at_here page c.down.part s.left s.span s.right s.ensures.parts.entries c.down.invariant.1 (omega arith) (omega arith) ∙ c.down.invariant.0 page low high));
     }

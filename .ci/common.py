@@ -1,0 +1,117 @@
+"""What the gate's own checks share: the program, a run of it, what documents show, and how a
+failure is told.
+
+Each check is called as `.ci/NAME [PROGRAM]`; the program is the proved one that `rt ci` left,
+unless another is named.
+"""
+import difflib
+import os
+import re
+import subprocess
+import sys
+
+ROOT = os.path.dirname(os.path.dirname(os.path.abspath(__file__)))
+
+
+class Check:
+    """The results of one check: a line for each thing that failed, and how many passed."""
+
+    def __init__(self, name):
+        self.name, self.passed, self.failed = name, 0, 0
+        os.chdir(ROOT)
+        self.program = (
+            os.path.abspath(sys.argv[1]) if len(sys.argv) > 1 else f"{ROOT}/crates/avsim/out/avsim"
+        )
+        if not os.access(self.program, os.X_OK):
+            print(
+                f"{name}: FAILED: there is no program {self.program}: "
+                "`rt ci` or `./avsim build` makes it"
+            )
+            sys.exit(1)
+
+    def expect(self, what, given, wanted):
+        """Passes where the two are equal; else shows where they differ."""
+        if given == wanted:
+            self.passed += 1
+            return
+        self.failed += 1
+        print(f"{self.name}: FAILED: {what}")
+        lines = [it if isinstance(it, str) else repr(it) for it in (wanted, given)]
+        for line in difflib.unified_diff(
+            *(it.splitlines() for it in lines), "wanted", "given", lineterm="", n=2
+        ):
+            print(f"    {line}")
+        if lines[0].splitlines() == lines[1].splitlines():
+            print("    they differ only in how a line ends")
+
+    def end(self):
+        """Says how it went, and ends the check."""
+        print(f"{self.name}: {self.passed} passed, {self.failed} failed")
+        sys.exit(1 if self.failed or not self.passed else 0)
+
+
+def run(program, words, given=b"", **how):
+    """Runs the program: its status, standard output and standard error. `given` are the bytes of
+    standard input.
+    """
+    how.setdefault("stdout", subprocess.PIPE)
+    if "stdin" not in how:
+        how["input"] = given
+    ran = subprocess.run([program, *words], stderr=subprocess.PIPE, timeout=120, **how)
+    text = lambda it: (it or b"").decode(errors="replace")
+    return ran.returncode, text(ran.stdout), text(ran.stderr)
+
+
+def replies_of(transcript):
+    """A transcript cut into replies: each begins with the line that has no space in front."""
+    return re.findall(r"^(?! ).*\n(?:^ .*\n)*", transcript, re.M)
+
+
+class Session:
+    """A session as the documents show it, in a block of code: `$ avsim run FRAMES`, lines behind
+    `> `, and each one's reply below it.
+
+    A later block that begins with `> ` goes on with it.
+    """
+
+    def __init__(self, frames, place):
+        self.frames, self.place, self.lines, self.text = frames, place, [], ""
+
+    def trace(self):
+        return "".join(f"{it}\n" for it in self.lines)
+
+    def add(self, block):
+        for line in block:
+            if line.startswith("> "):
+                self.lines.append(line[2:])
+            else:
+                self.text += f"{line}\n"
+
+
+def blocks_of(text):
+    """The indented blocks of code of a Markdown text, each with the number of its first line."""
+    block, first = [], 0
+    for number, line in enumerate([*text.split("\n"), "end"], 1):
+        if line.startswith("    "):
+            block.append(line[4:])
+            first = first or number
+        elif block and not line.strip():
+            block.append("")
+        elif block:
+            yield first, "\n".join(block).rstrip("\n").split("\n")
+            block, first = [], 0
+
+
+def sessions_of(file):
+    """The sessions that a document shows."""
+    found = []
+    with open(f"{ROOT}/{file}", encoding="utf-8") as it:
+        text = it.read()
+    for number, block in blocks_of(text):
+        begins = re.fullmatch(r"\$ (?:\./)?avsim run (\d+)", block[0])
+        if begins:
+            found.append(Session(begins[1], f"{file}, line {number}"))
+            found[-1].add(block[1:])
+        elif block[0].startswith("> ") and found:
+            found[-1].add(block)
+    return found

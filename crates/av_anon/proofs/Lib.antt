@@ -1,0 +1,10 @@
+pub mod OrderLeft
+pub mod OrderMade
+pub mod OrderRaised
+pub mod OrderLemmas
+pub mod Choosing
+pub mod Given
+pub mod LeavingLemmas
+pub mod SpanLemmas
+pub mod Spanned
+pub mod Words

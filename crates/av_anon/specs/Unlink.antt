@@ -1,0 +1,42 @@
+-- What an area that goes leaves.
+use Rattle.std.specs.Prelude.{ℕ, Bool, ◌&&◌, List, [], if◌then◌else◌, Option, Some, None, option_map}
+use Rattle.av_base.specs.Words.{how_many, is_in, with_at}
+use Rattle.av_chain.specs.Links.{left_by_all, without}
+use Rattle.av_anon.specs.declared.infos.Info.{Info}
+use Rattle.av_anon.specs.Infos.{less_active, less_children, with_info, without_children}
+use Rattle.av_anon.specs.Anons.{Family, is_empty}
+use Rattle.av_anon.specs.Order.{is_child}
+
+-- an anon_vma goes, and its parent, if it is there, has a child less
+abbrev pub destroyed_by : Option Info → ℕ → (ℕ → Option Info) → ℕ → Option Info
+destroyed_by None v info = info
+destroyed_by (Some i) v info = with_at v None (with_info i.parent less_children info)
+
+abbrev pub destroyed : ℕ → (ℕ → Option Info) → ℕ → Option Info
+destroyed v info = destroyed_by (info v) v info
+
+-- no other area is linked to it
+abbrev pub has_no_other : ℕ → (ℕ → List ℕ) → ℕ → Bool
+has_no_other area users v = is_empty (without area (users v))
+
+-- once the area has left these: one that no other area is linked to is destroyed, and its parent's
+-- children fall by one
+abbrev pub info_without : ℕ → (ℕ → List ℕ) → List ℕ → (ℕ → Option Info) → ℕ → Option Info
+info_without area users anons info v =
+    if is_in v anons && has_no_other area users v then None
+    else option_map
+    (without_children (how_many (λ u. has_no_other area users u && is_child v (info u)) anons))
+    (info v)
+
+-- the area leaves all its anon_vmas
+abbrev pub left_all : ℕ → Family → Family
+left_all area f = record f {
+  info = info_without area f.users (f.chain area) f.info;
+  chain = with_at area [] f.chain;
+  users = left_by_all area (f.chain area) f.users;
+}
+
+abbrev pub unlinked : Option ℕ → ℕ → Family → Family
+unlinked None area f = f
+unlinked (Some own) area f =
+    left_all area (record f { info = with_info own less_active f.info })

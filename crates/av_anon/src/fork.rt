@@ -1,0 +1,157 @@
+//! The chain of a child's area at fork (Linux's anon_vma_fork), and of a copy (anon_vma_clone).
+ghost use Rattle.std.specs.Prelude.{◌≡◌, ℕ, ◌<◌, ◌^◌, Some, None, IsSome, IfOk, OnOk};
+ghost use Rattle.av_vma.specs.Areas.{area_of};
+ghost use Rattle.av_anon.specs.Anons.{family, own_of};
+ghost use Rattle.av_anon.specs.Fork.{child_chain, child_family, child_own, cloned, forked, forked_own, gets_own, is_idle, reused};
+ghost use Rattle.av_anon.specs.Infos.{info_in};
+ghost use Rattle.av_anon.specs.Order.{IsInOrder};
+ghost use Rattle.av_anon.specs.Spans.{spans_of, GoWithLinks};
+
+use crate::anons::Anons;
+use crate::infos::{Info, Infos};
+use av_vma::{Area, AreaId, Areas};
+use std::alloc::AllocError;
+
+impl Anons {
+    /// Gives an area without anon_vma another's chain and own anon_vma; where that one has none it
+    /// gets none.
+    pub fn clone_chain(
+        &mut self,
+        areas: &mut Areas,
+        src: AreaId,
+        dst: AreaId,
+    ) -> Result<(), AllocError>
+        requires order { IsInOrder (area_of areas.old) (family self.old) (spans_of self.old) }
+        requires src { IsSome (area_of areas.old src) }
+        requires dst { IsSome (area_of areas.old dst) }
+        requires none { own_of (area_of areas.old dst) ≡ None }
+        ensures family { OnOk result (family self.new
+            ≡ cloned (own_of (area_of areas.old src)) src dst (family self.old)) }
+        ensures areas { let own = own_of (area_of areas.old src) in
+            OnOk result ((number : ℕ)
+            → area_of areas.new number ≡ gets_own dst own (area_of areas.old) number) }
+        ensures spans { OnOk result (GoWithLinks
+            (area_of areas.new) (family self.new).chain (spans_of self.new)) }
+    {
+        let Some(own) = areas.get(src).anon else {
+            return Ok(());
+        };
+        let this = areas.get(dst);
+        let chain = self.links.chain(self.alloc, src)?;
+        self.infos.count_active_up(own)?;
+        self.join(dst, &this, &chain)?;
+        areas.change(
+            dst,
+            Area {
+                anon: Some(own),
+                ..this
+            },
+        );
+        Ok(())
+    }
+
+    /// Gives the child's area `dst`, without anon_vma, its chain and own anon_vma at a fork of
+    /// `src`: the parent's chain, with its lowest idle member as own, else with a new one below the
+    /// parent's own. Where the parent's area has no anon_vma the child's gets none.
+    pub fn fork(&mut self, areas: &mut Areas, src: AreaId, dst: AreaId) -> Result<(), AllocError>
+        requires order { IsInOrder (area_of areas.old) (family self.old) (spans_of self.old) }
+        requires src { IsSome (area_of areas.old src) }
+        requires dst { IsSome (area_of areas.old dst) }
+        requires none { own_of (area_of areas.old dst) ≡ None }
+        requires room { self.old.next < 2 ^ 60 }
+        ensures family { OnOk result (family self.new
+            ≡ forked (own_of (area_of areas.old src)) src dst (family self.old)) }
+        ensures areas { let f = family self.old in
+            let own = forked_own (own_of (area_of areas.old src)) src f in
+            OnOk result ((number : ℕ)
+            → area_of areas.new number ≡ gets_own dst own (area_of areas.old) number) }
+        ensures spans { OnOk result (GoWithLinks
+            (area_of areas.new) (family self.new).chain (spans_of self.new)) }
+    {
+        let Some(own) = areas.get(src).anon else {
+            return Ok(());
+        };
+        let this = areas.get(dst);
+        let mut chain = self.links.chain(self.alloc, src)?;
+        let anon = self.own_for_child(own, &mut chain)?;
+        self.join(dst, &this, &chain)?;
+        areas.change(
+            dst,
+            Area {
+                anon: Some(anon),
+                ..this
+            },
+        );
+        Ok(())
+    }
+
+    // The child's own anon_vma: the lowest idle member of the chain, else a new one, which joins
+    // it.
+    fn own_for_child(&mut self, own: u64, chain: &mut Vec<u64>) -> Result<u64, AllocError>
+        requires there { IsSome (info_in self.old.infos own) }
+        requires room { self.old.next < 2 ^ 60 }
+        ensures anon { let reuse = reused (info_in self.old.infos) chain.old.items in
+            IfOk result (λ v. v ≡ child_own reuse self.old.next) }
+        ensures chain { let reuse = reused (info_in self.old.infos) chain.old.items in
+            OnOk result (chain.new.items ≡ child_chain reuse self.old.next chain.old.items) }
+        ensures family { let reuse = reused (info_in self.old.infos) chain.old.items in
+            OnOk result (family self.new ≡ child_family reuse own (family self.old)) }
+        ensures spans { self.new.spans ≡ self.old.spans }
+    {
+        match lowest_idle(&self.infos, chain) {
+            Some(anon) => {
+                self.infos.count_active_up(anon)?;
+                Ok(anon)
+            }
+            None => {
+                let anon = self.make_child(own)?;
+                chain.push(anon)?;
+                Ok(anon)
+            }
+        }
+    }
+
+    // Makes an anon_vma below another one, with that one's root and one active area.
+    fn make_child(&mut self, parent: u64) -> Result<u64, AllocError>
+        requires there { IsSome (info_in self.old.infos parent) }
+        requires room { self.old.next < 2 ^ 60 }
+        ensures anon { IfOk result (λ v. v ≡ self.old.next) }
+        ensures family { OnOk result (family self.new
+            ≡ child_family None parent (family self.old)) }
+        ensures spans { self.new.spans ≡ self.old.spans }
+    {
+        let root = self.info(parent).root;
+        self.infos.count_children_up(parent)?;
+        let anon = self.next;
+        let info = Info {
+            root,
+            parent,
+            children: 0,
+            active: 1,
+        };
+        self.infos.put(anon, info)?;
+        self.next = anon + 1;
+        Ok(anon)
+    }
+}
+
+/// The first of these anon_vmas that is idle: fewer than two children, no active area, and no root.
+fn lowest_idle(infos: &Infos, anons: &[u64]) -> Option<u64>
+    ensures { result ≡ reused (info_in infos.now) anons.now }
+{
+    for anon in anons {
+        if may_be_reused(infos, *anon) {
+            return Some(*anon);
+        }
+    }
+    None
+}
+
+fn may_be_reused(infos: &Infos, anon: u64) -> bool
+    ensures { result ≡ is_idle anon (info_in infos.now anon) }
+{
+    match infos.get(anon) {
+        Some(info) => info.children < 2 && (info.active == 0 && info.root != anon),
+        None => false,
+    }
+}

@@ -1,0 +1,23 @@
+//! anon_vmas: which areas are linked to which, their spans, and their numbers (Linux's anon_vma).
+//!
+//! An area's chain is the list of the anon_vmas that it is linked to, its own among them; an
+//! anon_vma's users are the areas that are linked to it, and for each its tree of spans holds the
+//! linear indices of that area's pages.
+//!
+//! Proved: what each call makes of root, parent, children and active of each anon_vma, of the next
+//! number, and of each chain and list of users, by one equation; that the spans go with the links
+//! after each call; that a number is never used again. A call that wants memory promises nothing.
+#![tactic(auto)]
+
+mod anons;
+mod fork;
+mod infos;
+mod links;
+pub mod order;
+mod prepare;
+mod resize;
+mod spans;
+mod unlink;
+
+pub use anons::Anons;
+pub use infos::Info;

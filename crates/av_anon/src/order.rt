@@ -1,0 +1,87 @@
+//! Chain order is kept by each call: laws on what the calls make of areas, links and spans.
+ghost use Rattle.std.specs.Prelude.{◌≡◌, ℕ, List, [], Option, Some, None};
+ghost use Rattle.av_base.specs.Words.{with_at};
+ghost use Rattle.av_interval.specs.declared.span.Span.{Span};
+ghost use Rattle.av_vma.specs.declared.area.Area.{Area};
+ghost use Rattle.av_anon.specs.Anons.{give_own, nobody, own_of, Family};
+ghost use Rattle.av_anon.specs.Fork.{cloned, forked, forked_own, gets_own};
+ghost use Rattle.av_anon.specs.Order.{IsArea, IsInOrder};
+ghost use Rattle.av_anon.specs.Prepare.{lent_to, prepared, prepared_own};
+ghost use Rattle.av_anon.specs.Resize.{resized};
+ghost use Rattle.av_anon.specs.Spans.{span_at, GoWithLinks};
+ghost use Rattle.av_anon.specs.Unlink.{unlinked};
+
+/// Without areas and anon_vmas there is chain order.
+pub fn nobody_is_in_order()
+    ensures { IsInOrder (λ _. None) nobody (λ _. []) }
+{}
+
+/// `Anons::prepare` keeps chain order.
+pub fn prepare_keeps_order()
+    ensures { (areas : ℕ → Option Area) (f : Family) (spans spans' : ℕ → List Span)
+        (area : ℕ) (A : Area) (before after : Option ℕ)
+        → IsInOrder areas f spans → areas area ≡ Some A → A.anon ≡ None
+        → let lent = lent_to areas f.chain area before after in
+        let areas' = give_own area (Some (prepared_own lent f)) areas in
+        let f' = prepared area lent f in
+        GoWithLinks areas' f'.chain spans' → IsInOrder areas' f' spans' }
+{}
+
+/// `Anons::clone_chain` keeps chain order.
+pub fn clone_keeps_order()
+    ensures { (areas : ℕ → Option Area) (f : Family) (spans spans' : ℕ → List Span)
+        (src dst : ℕ) (A : Area)
+        → IsInOrder areas f spans → areas dst ≡ Some A → A.anon ≡ None
+        → let own = own_of (areas src) in
+        let areas' = gets_own dst own areas in
+        let f' = cloned own src dst f in
+        GoWithLinks areas' f'.chain spans' → IsInOrder areas' f' spans' }
+{}
+
+/// `Anons::fork` keeps chain order.
+pub fn fork_keeps_order()
+    ensures { (areas : ℕ → Option Area) (f : Family) (spans spans' : ℕ → List Span)
+        (src dst : ℕ) (A : Area)
+        → IsInOrder areas f spans → areas dst ≡ Some A → A.anon ≡ None
+        → let own = own_of (areas src) in
+        let areas' = gets_own dst (forked_own own src f) areas in
+        let f' = forked own src dst f in
+        GoWithLinks areas' f'.chain spans' → IsInOrder areas' f' spans' }
+{}
+
+/// `Anons::resize` keeps chain order.
+pub fn resize_keeps_order()
+    ensures { (areas : ℕ → Option Area) (f : Family) (spans spans' : ℕ → List Span)
+        (area start end pgoff : ℕ) (A : Area)
+        → IsInOrder areas f spans → areas area ≡ Some A → IsArea (resized start end pgoff A)
+        → let areas' = with_at area (Some (resized start end pgoff A)) areas in
+        GoWithLinks areas' f.chain spans' → IsInOrder areas' f spans' }
+{}
+
+/// `Anons::unlink` keeps chain order.
+pub fn unlink_keeps_order()
+    ensures { (areas : ℕ → Option Area) (f : Family) (spans spans' : ℕ → List Span)
+        (area : ℕ) (A : Area)
+        → IsInOrder areas f spans → areas area ≡ Some A
+        → let areas' = give_own area None areas in
+        let f' = unlinked (own_of (areas area)) area f in
+        GoWithLinks areas' f'.chain spans' → IsInOrder areas' f' spans' }
+{}
+
+/// An area without anon_vma comes, changes or goes: chain order stays.
+pub fn bare_areas_keep_order()
+    ensures { (areas : ℕ → Option Area) (f : Family) (spans : ℕ → List Span)
+        (area : ℕ) (new : Option Area)
+        → IsInOrder areas f spans → own_of (areas area) ≡ None → own_of new ≡ None
+        → ((A : Area) → new ≡ Some A → IsArea A)
+        → IsInOrder (with_at area new areas) f spans }
+{}
+
+/// An area changes but in its own anon_vma and its linear indices: chain order stays.
+pub fn other_fields_keep_order()
+    ensures { (areas : ℕ → Option Area) (f : Family) (spans : ℕ → List Span)
+        (area : ℕ) (A B : Area)
+        → IsInOrder areas f spans → areas area ≡ Some A → B.anon ≡ A.anon
+        → span_at area B ≡ span_at area A → IsArea B
+        → IsInOrder (with_at area (Some B) areas) f spans }
+{}

@@ -1,0 +1,5 @@
+pub mod AvlLemmas
+pub mod Monoid
+pub mod Order
+pub mod Shallow
+pub mod TreeLemmas

@@ -1,0 +1,6 @@
+pub mod Any
+pub mod Arena
+pub mod Avl
+pub mod Monoid
+pub mod Order
+pub mod Tree

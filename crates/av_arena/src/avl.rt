@@ -1,0 +1,174 @@
+ghost use Rattle.std.specs.Prelude.{◌≡◌, ◌+◌, ◌^◌, ◌<◌, [], None, is_ok, length, IsSome, MatchOption, OnOk, ◌++◌, if◌then◌else◌};
+ghost use Rattle.av_arena.specs.Order.{entry_at, with_entry, without_key};
+ghost use Rattle.av_arena.specs.Avl.{IsLonger, IsParts};
+ghost use Rattle.av_arena.specs.Monoid.{total};
+
+use crate::arena::Arena;
+use crate::entry::Entry;
+use crate::link::{Link, Stored};
+use crate::tree::{open, placed, removed, replaced, sum};
+use std::alloc::{AllocError, Global};
+use std::marker::Model;
+
+/// Entries in the order of their keys, no key twice, in one tree with an arena of its own.
+#[derive(Drop)]
+pub struct Avl<T: Entry> {
+    arena: Arena<T, T::Sum>,
+    root: Option<Link<T::Sum>>,
+}
+
+impl<T: Entry> Model for Avl<T> {
+    ghost use Rattle.std.specs.Prelude.{List};
+    ghost use Rattle.av_arena.specs.Arena.{stored};
+    ghost use Rattle.av_arena.specs.Avl.{IsAvl};
+    ghost use Rattle.av_arena.specs.Tree.{entries_at};
+
+    ghost Value = { List T };
+
+    ghost view = { λ a. entries_at (stored a.arena) a.root };
+
+    ghost invariant = { λ a. IsAvl T.key T.unit T.op T.of (stored a.arena) a.root };
+}
+
+/// A tree or one side of a node, to be read.
+#[derive(Drop)]
+pub struct Part<'a, T: Entry> {
+    arena: &'a Arena<T, T::Sum>,
+    tree: Option<Link<T::Sum>>,
+}
+
+impl<'a, T: Entry> Model for Part<'a, T> {
+    ghost use Rattle.std.specs.Prelude.{List};
+    ghost use Rattle.av_arena.specs.Arena.{stored};
+    ghost use Rattle.av_arena.specs.Avl.{IsPart};
+    ghost use Rattle.av_arena.specs.Tree.{entries_at};
+
+    ghost Value = { List T };
+
+    ghost view = { λ p. entries_at (stored p.arena.now) p.tree };
+
+    ghost invariant = { λ p. IsPart T.key T.unit T.op T.of (stored p.arena.now) p.tree };
+}
+
+impl<T: Entry> Avl<T> {
+    /// A tree with no entry.
+    pub fn new(alloc: Global) -> Avl<T>
+        ensures empty { result ≡ [] }
+    {
+        Avl {
+            arena: Arena::new(alloc),
+            root: None,
+        }
+    }
+
+    /// The whole tree, to be read.
+    pub fn part(&self) -> Part<'_, T>
+        ensures { result ≡ self.now }
+    {
+        Part {
+            arena: &self.arena,
+            tree: self.root,
+        }
+    }
+
+    /// Puts `entry` in, whose key is not there. Without memory all stays.
+    pub fn insert(&mut self, entry: T) -> Result<(), AllocError>
+        requires room { length self.old + 1 < 2 ^ 63 }
+        requires other { entry_at T.key (T.key entry) self.old ≡ None }
+        ensures entries { self.new ≡ (if is_ok result then with_entry T.key entry self.old else
+            self.old) }
+    {
+        let leaf = Stored {
+            left: None,
+            entry,
+            right: None,
+        };
+        let number = match self.arena.add(leaf) {
+            Ok(number) => number,
+            Err(error) => return Err(error),
+        };
+        let root = placed(&mut self.arena, self.root, number, entry);
+        self.root = Some(root);
+        Ok(())
+    }
+
+    /// Takes out the entry with the key of `like`, which is there. It takes no memory.
+    pub fn remove(&mut self, like: T)
+        requires room { length self.old < 2 ^ 63 }
+        requires there { IsSome (entry_at T.key (T.key like) self.old) }
+        ensures entries { self.new ≡ without_key T.key (T.key like) self.old }
+    {
+        let (number, root) = removed(&mut self.arena, self.root, like);
+        self.arena.free(number);
+        self.root = root;
+    }
+
+    /// Puts `entry` in the place of the one with its key, which is there. It takes no memory: the
+    /// node is used again.
+    pub fn replace(&mut self, entry: T)
+        requires room { length self.old < 2 ^ 63 }
+        requires there { IsSome (entry_at T.key (T.key entry) self.old) }
+        ensures entries { self.new ≡ with_entry T.key entry
+            (without_key T.key (T.key entry) self.old) }
+    {
+        let root = replaced(&mut self.arena, self.root, entry);
+        self.root = Some(root);
+    }
+}
+
+impl<'a, T: Entry> Part<'a, T> {
+    /// The summary of all entries.
+    pub fn sum(&self) -> T::Sum
+        ensures { result ≡ total T.unit T.op T.of self.now }
+    {
+        sum::<T>(self.tree)
+    }
+
+    /// Adds the entries in the order of their keys. It takes time linear in their number.
+    ///
+    /// Without memory none is added.
+    pub fn append_to(&self, entries: &mut Vec<T>) -> Result<(), AllocError>
+        ensures { entries.new.items ≡ (if is_ok result then entries.old.items ++ self.now else
+            entries.old.items) }
+    {
+        let before = entries.len();
+        let added = self.push_each(entries);
+        if added.is_err() {
+            entries.truncate(before);
+        }
+        added
+    }
+
+    /// Without memory those that were pushed until then stay at the end.
+    fn push_each(&self, entries: &mut Vec<T>) -> Result<(), AllocError>
+        ensures all { OnOk result (entries.new.items ≡ entries.old.items ++ self.now) }
+        ensures longer { IsLonger entries.old.items entries.new.items }
+    {
+        if let Some((left, entry, right)) = self.parts() {
+            left.push_each(entries)?;
+            entries.push(entry)?;
+            right.push_each(entries)?;
+        }
+        Ok(())
+    }
+
+    /// The entry at the root, with what lies before and after it, or none where the tree is empty.
+    pub fn parts(&self) -> Option<(Part<'a, T>, T, Part<'a, T>)>
+        ensures parts { MatchOption result (self.now ≡ [])
+            (λ p. IsParts T.key self.now p.0 p.1 p.2) }
+    {
+        let Some(tree) = self.tree else {
+            return None;
+        };
+        let Stored { left, entry, right } = open(self.arena, tree);
+        let before = Part {
+            arena: self.arena,
+            tree: left,
+        };
+        let after = Part {
+            arena: self.arena,
+            tree: right,
+        };
+        Some((before, entry, after))
+    }
+}

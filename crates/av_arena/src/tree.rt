@@ -1,0 +1,361 @@
+ghost use Rattle.std.specs.Prelude.{◌≡◌, ◌+◌, ◌^◌, ◌<◌, ◌≤◌, max, true, Some, IsSome};
+ghost use Rattle.av_arena.specs.Order.{without_key};
+ghost use Rattle.av_arena.specs.Tree.{DifferByAtMost, IsHeightAfter, HasKey, IsHeld, IsJoined, IsOpened, IsPlaceFor, IsPlaced, IsPopped, IsReplaced, IsRoot, IsSet, IsSpot, IsWithout, sum_of, height_of, tree_at, entries};
+ghost use Rattle.av_arena.specs.Arena.{stored};
+
+use crate::arena::Arena;
+use crate::entry::Entry;
+use crate::link::{Link, Stored};
+
+fn height<S: Copy + Drop>(tree: Option<Link<S>>) -> u64
+    ensures { result ≡ height_of tree }
+{
+    match tree {
+        None => 0,
+        Some(link) => link.height,
+    }
+}
+
+pub fn sum<T: Entry>(tree: Option<Link<T::Sum>>) -> T::Sum
+    ensures { result ≡ sum_of T.unit tree }
+{
+    match tree {
+        None => T::empty(),
+        Some(link) => link.sum,
+    }
+}
+
+/// The node at the root of a tree.
+pub fn open<T: Entry>(arena: &Arena<T, T::Sum>, tree: Link<T::Sum>) -> Stored<T, T::Sum>
+    requires { IsHeld T.key T.unit T.op T.of (stored arena.now) (Some tree) }
+    ensures { IsOpened T.key T.unit T.op T.of (stored arena.now) tree result }
+{
+    arena.get(tree.number)
+}
+
+/// Puts a node above its sides.
+fn close<T: Entry>(
+    arena: &mut Arena<T, T::Sum>,
+    number: u64,
+    left: Option<Link<T::Sum>>,
+    entry: T,
+    right: Option<Link<T::Sum>>,
+) -> Link<T::Sum>
+    requires used { IsSome (stored arena.old number) }
+    requires low { max (height_of left) (height_of right) < 2 ^ 63 }
+    ensures set { IsSet T.key T.unit T.op T.of (stored arena.old) (stored arena.new) number left
+        entry right result }
+    ensures height { result.height ≡ max (height_of left) (height_of right) + 1 }
+{
+    let level = height(left).max(height(right)) + 1;
+    let total = T::joined(sum::<T>(left), &entry, sum::<T>(right));
+    arena.set(
+        number,
+        Stored {
+            left,
+            entry: entry,
+            right,
+        },
+    );
+    Link {
+        number,
+        height: level,
+        sum: total,
+    }
+}
+
+/// A node, whose left side is two levels too high: one rotation, or two.
+fn lean_left<T: Entry>(
+    arena: &mut Arena<T, T::Sum>,
+    number: u64,
+    left: Link<T::Sum>,
+    entry: T,
+    right: Option<Link<T::Sum>>,
+) -> Link<T::Sum>
+    requires spot { IsSpot T.key T.unit T.op T.of (stored arena.old) number (Some left) right }
+    requires two_higher { left.height ≡ height_of right + 2 }
+    requires low { left.height < 2 ^ 62 }
+    ensures joined { IsJoined T.key T.unit T.op T.of (stored arena.old) (stored arena.new) number
+        (Some left) entry right result }
+    ensures not_lower { left.height ≤ result.height }
+    ensures at_most_one_higher { result.height ≤ left.height + 1 }
+{
+    let side = open(arena, left);
+    let Stored {
+        left: outer,
+        entry: below,
+        right: between,
+    } = side;
+    if height(between) <= height(outer) {
+        let low = close(arena, number, between, entry, right);
+        return close(arena, left.number, outer, below, Some(low));
+    }
+    let Some(middle) = between else {
+        unreachable!()
+    };
+    let inner = open(arena, middle);
+    let Stored {
+        left: lower,
+        entry: top,
+        right: upper,
+    } = inner;
+    let before = close(arena, left.number, outer, below, lower);
+    let after = close(arena, number, upper, entry, right);
+    close(arena, middle.number, Some(before), top, Some(after))
+}
+
+/// A node, whose right side is two levels too high: one rotation, or two.
+fn lean_right<T: Entry>(
+    arena: &mut Arena<T, T::Sum>,
+    number: u64,
+    left: Option<Link<T::Sum>>,
+    entry: T,
+    right: Link<T::Sum>,
+) -> Link<T::Sum>
+    requires spot { IsSpot T.key T.unit T.op T.of (stored arena.old) number left (Some right) }
+    requires two_higher { right.height ≡ height_of left + 2 }
+    requires low { right.height < 2 ^ 62 }
+    ensures joined { IsJoined T.key T.unit T.op T.of (stored arena.old) (stored arena.new) number
+        left entry (Some right) result }
+    ensures not_lower { right.height ≤ result.height }
+    ensures at_most_one_higher { result.height ≤ right.height + 1 }
+{
+    let side = open(arena, right);
+    let Stored {
+        left: between,
+        entry: above,
+        right: outer,
+    } = side;
+    if height(between) <= height(outer) {
+        let low = close(arena, number, left, entry, between);
+        return close(arena, right.number, Some(low), above, outer);
+    }
+    let Some(middle) = between else {
+        unreachable!()
+    };
+    let inner = open(arena, middle);
+    let Stored {
+        left: lower,
+        entry: top,
+        right: upper,
+    } = inner;
+    let before = close(arena, number, left, entry, lower);
+    let after = close(arena, right.number, upper, above, outer);
+    close(arena, middle.number, Some(before), top, Some(after))
+}
+
+/// A node, whose sides differ by two levels at most, is put above them.
+fn balance<T: Entry>(
+    arena: &mut Arena<T, T::Sum>,
+    number: u64,
+    left: Option<Link<T::Sum>>,
+    entry: T,
+    right: Option<Link<T::Sum>>,
+) -> Link<T::Sum>
+    requires spot { IsSpot T.key T.unit T.op T.of (stored arena.old) number left right }
+    requires level { DifferByAtMost 2 (height_of left) (height_of right) }
+    requires low { max (height_of left) (height_of right) < 2 ^ 62 }
+    ensures joined { IsJoined T.key T.unit T.op T.of (stored arena.old) (stored arena.new) number
+        left entry right result }
+    ensures height { IsHeightAfter (height_of left) (height_of right) result.height }
+{
+    let (before, after) = (height(left), height(right));
+    if before > after + 1 {
+        let Some(left) = left else { unreachable!() };
+        return lean_left(arena, number, left, entry, right);
+    }
+    if after > before + 1 {
+        let Some(right) = right else { unreachable!() };
+        return lean_right(arena, number, left, entry, right);
+    }
+    close(arena, number, left, entry, right)
+}
+
+/// Whether two links are the same.
+fn is_same<T: Entry>(left: Option<Link<T::Sum>>, right: Option<Link<T::Sum>>) -> bool
+    ensures { result ≡ true → left ≡ right }
+{
+    match (left, right) {
+        (None, None) => true,
+        (Some(left), Some(right)) => {
+            left.number == right.number
+                && left.height == right.height
+                && T::is_same(left.sum, right.sum)
+        }
+        _ => false,
+    }
+}
+
+/// The node of `tree` above another left side than its own. Where that is the same nothing is
+/// written.
+fn with_left<T: Entry>(
+    arena: &mut Arena<T, T::Sum>,
+    tree: Link<T::Sum>,
+    own: Option<Link<T::Sum>>,
+    left: Option<Link<T::Sum>>,
+    entry: T,
+    right: Option<Link<T::Sum>>,
+) -> Link<T::Sum>
+    requires root { IsRoot T.key T.unit T.op T.of (stored arena.old) tree own entry right }
+    requires spot { IsSpot T.key T.unit T.op T.of (stored arena.old) tree.number left right }
+    requires level { DifferByAtMost 2 (height_of left) (height_of right) }
+    requires low { max (height_of left) (height_of right) < 2 ^ 62 }
+    ensures joined { IsJoined T.key T.unit T.op T.of (stored arena.old) (stored arena.new)
+        tree.number left entry right result }
+    ensures height { IsHeightAfter (height_of left) (height_of right) result.height }
+{
+    if is_same::<T>(own, left) {
+        return tree;
+    }
+    balance(arena, tree.number, left, entry, right)
+}
+
+/// The node of `tree` above another right side than its own. Where that is the same nothing is
+/// written.
+fn with_right<T: Entry>(
+    arena: &mut Arena<T, T::Sum>,
+    tree: Link<T::Sum>,
+    left: Option<Link<T::Sum>>,
+    entry: T,
+    own: Option<Link<T::Sum>>,
+    right: Option<Link<T::Sum>>,
+) -> Link<T::Sum>
+    requires root { IsRoot T.key T.unit T.op T.of (stored arena.old) tree left entry own }
+    requires spot { IsSpot T.key T.unit T.op T.of (stored arena.old) tree.number left right }
+    requires level { DifferByAtMost 2 (height_of left) (height_of right) }
+    requires low { max (height_of left) (height_of right) < 2 ^ 62 }
+    ensures joined { IsJoined T.key T.unit T.op T.of (stored arena.old) (stored arena.new)
+        tree.number left entry right result }
+    ensures height { IsHeightAfter (height_of left) (height_of right) result.height }
+{
+    if is_same::<T>(own, right) {
+        return tree;
+    }
+    balance(arena, tree.number, left, entry, right)
+}
+
+/// The tree with the node `number`, which is in use and not in it, for the entry.
+pub fn placed<T: Entry>(
+    arena: &mut Arena<T, T::Sum>,
+    tree: Option<Link<T::Sum>>,
+    number: u64,
+    entry: T,
+) -> Link<T::Sum>
+    requires place { IsPlaceFor T.key T.unit T.op T.of (stored arena.old) tree number entry }
+    requires low { height_of tree < 2 ^ 61 }
+    ensures placed { IsPlaced T.key T.unit T.op T.of (stored arena.old) (stored arena.new) tree
+        number entry result }
+    ensures not_lower { height_of tree ≤ result.height }
+    ensures at_most_one_higher { result.height ≤ height_of tree + 1 }
+{
+    let Some(tree) = tree else {
+        return close(arena, number, None, entry, None);
+    };
+    let node = open(arena, tree);
+    let Stored {
+        left: before,
+        entry: middle,
+        right: after,
+    } = node;
+    if entry.is_before(&middle) {
+        let left = placed(arena, before, number, entry);
+        return with_left(arena, tree, before, Some(left), middle, after);
+    }
+    let right = placed(arena, after, number, entry);
+    with_right(arena, tree, before, middle, after, Some(right))
+}
+
+/// The number and the entry of the first node, and a tree of the others.
+fn pop_first<T: Entry>(
+    arena: &mut Arena<T, T::Sum>,
+    tree: Link<T::Sum>,
+) -> (u64, T, Option<Link<T::Sum>>)
+    requires held { IsHeld T.key T.unit T.op T.of (stored arena.old) (Some tree) }
+    requires low { tree.height < 2 ^ 61 }
+    ensures popped { IsPopped T.key T.unit T.op T.of (stored arena.old) (stored arena.new) tree
+        result.0 result.1 result.2 }
+    ensures not_higher { height_of result.2 ≤ tree.height }
+    ensures at_most_one_lower { tree.height ≤ height_of result.2 + 1 }
+{
+    let node = open(arena, tree);
+    let Stored {
+        left: before,
+        entry: middle,
+        right: after,
+    } = node;
+    let Some(left) = before else {
+        return (tree.number, middle, after);
+    };
+    let (number, entry, rest) = pop_first(arena, left);
+    let whole = with_left(arena, tree, Some(left), rest, middle, after);
+    (number, entry, Some(whole))
+}
+
+/// The number of the node with the key of `like`, and a tree of the others.
+pub fn removed<T: Entry>(
+    arena: &mut Arena<T, T::Sum>,
+    tree: Option<Link<T::Sum>>,
+    like: T,
+) -> (u64, Option<Link<T::Sum>>)
+    requires there { HasKey T.key T.unit T.op T.of (stored arena.old) tree like }
+    requires low { height_of tree < 2 ^ 61 }
+    ensures removed { IsWithout T.key T.unit T.op T.of (stored arena.old) (stored arena.new) tree
+        (without_key T.key (T.key like) (entries (tree_at (stored arena.old) tree))) result.0
+        result.1 }
+    ensures not_higher { height_of result.1 ≤ height_of tree }
+    ensures at_most_one_lower { height_of tree ≤ height_of result.1 + 1 }
+{
+    let Some(tree) = tree else { unreachable!() };
+    let node = open(arena, tree);
+    let Stored {
+        left: before,
+        entry: middle,
+        right: after,
+    } = node;
+    if like.is_before(&middle) {
+        let (number, left) = removed(arena, before, like);
+        let whole = with_left(arena, tree, before, left, middle, after);
+        return (number, Some(whole));
+    }
+    if middle.is_before(&like) {
+        let (number, right) = removed(arena, after, like);
+        let whole = with_right(arena, tree, before, middle, after, right);
+        return (number, Some(whole));
+    }
+    let Some(right) = after else {
+        return (tree.number, before);
+    };
+    let (number, entry, rest) = pop_first(arena, right);
+    let whole = balance(arena, number, before, entry, rest);
+    (tree.number, Some(whole))
+}
+
+/// The tree with `entry` in the node of the one with its key.
+pub fn replaced<T: Entry>(
+    arena: &mut Arena<T, T::Sum>,
+    tree: Option<Link<T::Sum>>,
+    entry: T,
+) -> Link<T::Sum>
+    requires there { HasKey T.key T.unit T.op T.of (stored arena.old) tree entry }
+    requires low { height_of tree < 2 ^ 61 }
+    ensures replaced { IsReplaced T.key T.unit T.op T.of (stored arena.old) (stored arena.new) tree
+        entry result }
+    ensures height { result.height ≡ height_of tree }
+{
+    let Some(tree) = tree else { unreachable!() };
+    let node = open(arena, tree);
+    let Stored {
+        left: before,
+        entry: middle,
+        right: after,
+    } = node;
+    if entry.is_before(&middle) {
+        let left = replaced(arena, before, entry);
+        return with_left(arena, tree, before, Some(left), middle, after);
+    }
+    if middle.is_before(&entry) {
+        let right = replaced(arena, after, entry);
+        return with_right(arena, tree, before, middle, after, Some(right));
+    }
+    close(arena, tree.number, before, entry, after)
+}

@@ -1,0 +1,64 @@
+-- The links as they were made one after another, and the two maps that they are.
+use Rattle.std.specs.Prelude.{◌≡◌, ℕ, Bool, false, ◌==◌, cond, if◌then◌else◌, List, [], ◌∷◌, Option, Some, None}
+use Rattle.av_base.specs.Words.{is_in, how_many, with_at}
+
+-- an area, and an anon_vma that it is linked to
+abbrev pub Link : Type 0
+Link = ℕ × ℕ
+
+-- the anon_vmas of an area
+abbrev pub chain_of : List Link → ℕ → List ℕ
+chain_of [] area = []
+chain_of (l ∷ ls) area = cond (area == l.0) (l.1 ∷ chain_of ls area) (chain_of ls area)
+
+-- the areas of an anon_vma
+abbrev pub users_of : List Link → ℕ → List ℕ
+users_of [] anon = []
+users_of (l ∷ ls) anon = cond (anon == l.1) (l.0 ∷ users_of ls anon) (users_of ls anon)
+
+-- the others
+abbrev pub without : ℕ → List ℕ → List ℕ
+without x [] = []
+without x (y ∷ ys) = cond (x == y) (without x ys) (y ∷ without x ys)
+
+abbrev pub first_in : List ℕ → Option ℕ
+first_in [] = None
+first_in (x ∷ xs) = Some x
+
+abbrev pub rest_in : List ℕ → List ℕ
+rest_in [] = []
+rest_in (x ∷ xs) = xs
+
+-- what comes after the first x
+abbrev pub after_in : ℕ → List ℕ → Option ℕ
+after_in x [] = None
+after_in x (y ∷ ys) = cond (x == y) (first_in ys) (after_in x ys)
+
+-- the areas of each anon_vma, once an area is no longer linked to this one
+abbrev pub left_by : ℕ → Option ℕ → (ℕ → List ℕ) → ℕ → List ℕ
+left_by area None f = f
+left_by area (Some anon) f = with_at anon (without area (f anon)) f
+
+-- the areas of each anon_vma, once an area is no longer linked to any of these
+abbrev pub left_by_all : ℕ → List ℕ → (ℕ → List ℕ) → ℕ → List ℕ
+left_by_all area anons f anon = cond (is_in anon anons) (without area (f anon)) (f anon)
+
+abbrev pub one_if : Bool → ℕ
+one_if b = if b then 1 else 0
+
+-- each map is the other's inverse, and each link stands once in each
+pub record AreMutual (chain_of users_of : ℕ → List ℕ) : Type 0 where
+  pub inverse : (area anon : ℕ)
+      → how_many (λ a. area == a) (users_of anon) ≡ one_if (is_in anon (chain_of area))
+  pub once : (area anon : ℕ)
+      → how_many (λ v. anon == v) (chain_of area) ≡ one_if (is_in anon (chain_of area))
+
+-- no link is made twice
+abbrev pub AreOnce : List Link → Type 0
+AreOnce [] = Unit {0}
+AreOnce (l ∷ ls) = (is_in l.1 (chain_of ls l.0) ≡ false) × AreOnce ls
+
+-- without the first link of an area
+abbrev pub popped : ℕ → List Link → List Link
+popped area [] = []
+popped area (l ∷ ls) = cond (area == l.0) ls (l ∷ popped area ls)

@@ -1,0 +1,134 @@
+-- The two lists that each node lies in, as they are laid out in memory.
+use Rattle.std.specs.Prelude.{◌≡◌, ℕ, suc, ◌+◌, ◌-◌, true, ◌==◌, cond, List, [], ◌∷◌, length, Option, Some, None}
+use denote.RawPtr.{Ptr}
+use Rattle.av_base.specs.Words.{with_at}
+use Rattle.av_chain.specs.Nodes.{Block, same_ptr, has_place}
+use Rattle.av_chain.specs.declared.node.Way.{Way}
+use Rattle.av_chain.specs.declared.node.Way.TheVariants.{Area, Anon}
+use Rattle.av_chain.specs.declared.node.Place.{Place}
+use Rattle.av_chain.specs.declared.node.Sides.{Sides}
+use Rattle.av_chain.specs.declared.node.Node.{Node}
+use Rattle.av_chain.specs.declared.node.Head.{Head}
+
+-- whose list it is
+abbrev pub key_of : Way → Node → ℕ
+key_of Area n = n.area
+key_of Anon n = n.anon
+
+abbrev pub sides_of : Way → Node → Sides
+sides_of Area n = n.in_area
+sides_of Anon n = n.in_anon
+
+abbrev pub with_sides : Way → Sides → Node → Node
+with_sides Area s n = record { area = n.area; anon = n.anon; in_area = s; in_anon = n.in_anon }
+with_sides Anon s n = record { area = n.area; anon = n.anon; in_area = n.in_area; in_anon = s }
+
+abbrev pub with_before : Way → Option Place → Node → Node
+with_before w p n = with_sides w (record { before = p; after = (sides_of w n).after }) n
+
+abbrev pub with_after : Way → Option Place → Node → Node
+with_after w p n = with_sides w (record { before = (sides_of w n).before; after = p }) n
+
+-- the node at a place is changed
+abbrev pub altered : Ptr → (Node → Node) → List Block → List Block
+altered p f [] = []
+altered p f (b ∷ bs) = cond (same_ptr p b.0) (b.0, f b.1) b ∷ altered p f bs
+
+-- the same, if there is a place
+abbrev pub changed : Option Place → (Node → Node) → List Block → List Block
+changed None f bs = bs
+changed (Some p) f bs = altered p.ptr f bs
+
+-- the node at the first place, if there is one, leads on to the other place
+abbrev pub leads_on : Way → Option Place → Option Place → List Block → List Block
+leads_on w at to bs = changed at (with_after w to) bs
+
+-- the node at the first place, if there is one, leads back to the other place
+abbrev pub leads_back : Way → Option Place → Option Place → List Block → List Block
+leads_back w at to bs = changed at (with_before w to) bs
+
+-- a node lies at the place, if there is one
+abbrev pub Reaches : Option Place → List Block → Type 0
+Reaches None bs = Unit {0}
+Reaches (Some p) bs = has_place p.ptr bs ≡ true
+
+abbrev pub at_block : Block → Place
+at_block b = record { ptr = b.0 }
+
+-- the nodes of one list
+abbrev pub row : Way → ℕ → List Block → List Block
+row w k [] = []
+row w k (b ∷ bs) = cond (k == key_of w b.1) (b ∷ row w k bs) (row w k bs)
+
+-- the place of the first, where `after` comes after all
+abbrev pub first_or : Option Place → List Block → Option Place
+first_or after [] = after
+first_or after (b ∷ bs) = Some (at_block b)
+
+-- the place of the last, where `before` comes before all
+abbrev pub last_from : Option Place → List Block → Option Place
+last_from before [] = before
+last_from before (b ∷ bs) = last_from (Some (at_block b)) bs
+
+-- from what comes before these nodes to what comes after them,
+-- each leads on to the next one and back to the one before it
+abbrev pub IsRun : Way → Option Place → List Block → Option Place → Type 0
+IsRun w before [] after = Unit {0}
+IsRun w before (b ∷ bs) after =
+    ((sides_of w b.1).before ≡ before) × ((sides_of w b.1).after ≡ first_or after bs)
+    × IsRun w (Some (at_block b)) bs after
+
+-- the last of the rest, after this place
+abbrev pub end_of : Place → List Block → Place
+end_of p [] = p
+end_of p (b ∷ bs) = end_of (at_block b) bs
+
+abbrev pub head_of : List Block → Option Head
+head_of [] = None
+head_of (b ∷ bs) = Some (record {
+  first = at_block b;
+  last = end_of (at_block b) bs;
+  count = suc (length bs);
+})
+
+-- the last node of a list
+abbrev pub last_of : Option Head → Option Place
+last_of None = None
+last_of (Some h) = Some h.last
+
+-- one more node at the end of a list
+abbrev pub grown : Place → Option Head → Head
+grown p None = record { first = p; last = p; count = 1 }
+grown p (Some h) = record { first = h.first; last = p; count = h.count + 1 }
+
+abbrev pub or_place : Place → Option Place → Place
+or_place p None = p
+or_place p (Some q) = q
+
+-- a list without a node that had these neighbours
+abbrev pub kept : Sides → Head → Option Place → Option Place → Option Head
+kept s h None None = None
+kept s h None (Some q) = Some (record { first = q; last = h.last; count = h.count - 1 })
+kept s h (Some p) None = Some (record { first = h.first; last = p; count = h.count - 1 })
+kept s h (Some p) (Some q) = Some (record { first = h.first; last = h.last; count = h.count - 1 })
+
+abbrev pub shrunk : Sides → Option Head → Option Head
+shrunk s None = None
+shrunk s (Some h) = kept s h s.before s.after
+
+-- the heads, once that of one list is this one
+abbrev pub HaveHead : ℕ → Option Head → (ℕ → Option Head) → (ℕ → Option Head) → Type 0
+HaveHead k h old new = (j : ℕ) → new j ≡ with_at k h old j
+
+-- the node is the last of the list with this head: the one before it leads on to it
+abbrev pub joined : Way → Place → Option Head → List Block → List Block
+joined w p h bs = leads_on w (last_of h) (Some p) bs
+
+-- the neighbours of a node lead past it
+abbrev pub parted : Way → Sides → List Block → List Block
+parted w s bs = leads_back w s.after s.before (leads_on w s.before s.after bs)
+
+-- each list leads through its nodes, and its head knows its ends
+pub record IsThreaded (w : Way) (heads : ℕ → Option Head) (bs : List Block) : Type 0 where
+  pub run : (k : ℕ) → IsRun w None (row w k bs) None
+  pub head : (k : ℕ) → heads k ≡ head_of (row w k bs)

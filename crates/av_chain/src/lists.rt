@@ -1,0 +1,225 @@
+//! The nodes with the heads of their lists.
+ghost use Rattle.av_base.specs.Words.{is_in};
+ghost use Rattle.std.specs.Prelude.{◌≡◌, ℕ, ◌-◌, ◌<◌, ◌^◌, [], ◌∷◌, ◌++◌, Some, None, true, false, IfOk, OnOk, OnErr, IfSome, IfNone, is_some, length, nat_eq};
+ghost use Rattle.std.specs.HashMap.{get, spare};
+ghost use Rattle.av_chain.specs.declared.node.Way.TheVariants.{Area as AreaWay, Anon as AnonWay};
+ghost use Rattle.av_chain.specs.Nodes.{has_place, removed};
+ghost use Rattle.av_chain.specs.Rows.{Reaches, last_of, first_or, row};
+ghost use Rattle.av_chain.specs.Links.{chain_of, after_in};
+ghost use Rattle.av_chain.specs.Lists.{links_of, links_in, AreKept, IsLinkAt, anon_there};
+
+use crate::node::{Head, Node, Place, Sides, Way};
+use crate::nodes::Nodes;
+use crate::parts::Parts;
+use std::alloc::{AllocError, Global};
+use std::collections::HashMap;
+
+/// All nodes, and where the list of each area and of each anon_vma that has one begins and ends.
+pub(crate) struct Lists {
+    pub(crate) nodes: Nodes,
+    pub(crate) areas: HashMap<u64, Head>,
+    pub(crate) anons: HashMap<u64, Head>,
+}
+
+impl Lists {
+    pub(crate) fn new(alloc: Global) -> Lists
+        ensures kept { AreKept result }
+        ensures empty { result.nodes.blocks ≡ [] }
+    {
+        Lists {
+            nodes: Nodes::new(),
+            areas: HashMap::new(alloc),
+            anons: HashMap::new(alloc),
+        }
+    }
+
+    /// Links an area to an anon_vma. The room for both heads and for the node is made first.
+    pub(crate) fn add(&mut self, alloc: Global, area: u64, anon: u64) -> Result<(), AllocError>
+        requires kept { AreKept self.old }
+        requires new { is_in anon (chain_of (links_in self.old) area) ≡ false }
+        ensures kept { AreKept self.new }
+        ensures links { OnOk result (links_in self.new ≡ links_in self.old ++ (area, anon) ∷ []) }
+        ensures err { OnErr result (self.new.nodes.blocks ≡ self.old.nodes.blocks) }
+    {
+        reserve(&mut self.areas)?;
+        reserve(&mut self.anons)?;
+        let in_area = Sides {
+            before: end(&self.areas, area)?,
+            after: None,
+        };
+        let in_anon = Sides {
+            before: end(&self.anons, anon)?,
+            after: None,
+        };
+        let node = Box::new(
+            alloc,
+            Node {
+                area,
+                anon,
+                in_area,
+                in_anon,
+            },
+        )?;
+        let place = self.nodes.put(Parts::of(node));
+        self.nodes.join(&mut self.areas, Way::Area, area, place);
+        self.nodes.join(&mut self.anons, Way::Anon, anon, place);
+        Ok(())
+    }
+
+    /// Takes a node out of both its lists, and frees it. Answers its anon_vma.
+    pub(crate) fn take_out(&mut self, alloc: Global, place: Place) -> u64
+        requires kept { AreKept self.old }
+        requires there { has_place place.ptr self.old.nodes.blocks ≡ true }
+        ensures kept { AreKept self.new }
+        ensures anon { anon_there (Some place) self.old.nodes.blocks ≡ Some result }
+        ensures links { links_in self.new ≡ links_of (removed place.ptr self.old.nodes.blocks) }
+    {
+        let node = *self.nodes.get(place);
+        self.nodes
+            .part(&mut self.areas, Way::Area, node.area, node.in_area);
+        self.nodes
+            .part(&mut self.anons, Way::Anon, node.anon, node.in_anon);
+        self.nodes.free(alloc, place);
+        node.anon
+    }
+
+    /// Frees every node.
+    pub(crate) fn free_all(self, alloc: Global)
+        requires { AreKept self }
+    {
+        let mut lists = self;
+        while let Some(place) = lists.any() {
+            lists.take_out(alloc, place);
+        }
+        let Lists {
+            nodes,
+            areas: _,
+            anons: _,
+        } = lists;
+        nodes.end();
+    }
+
+    // A node, if there is one.
+    fn any(&self) -> Option<Place>
+        requires { AreKept self.now }
+        ensures none { IfNone result (self.now.nodes.blocks ≡ []) }
+        ensures some { IfSome result (λ p. has_place p.ptr self.now.nodes.blocks ≡ true) }
+    {
+        match self.areas.values().next() {
+            Some(head) => Some(head.first),
+            None => None,
+        }
+    }
+
+    /// How many nodes an area's list has.
+    pub(crate) fn len(&self, area: u64) -> u64
+        requires { AreKept self.now }
+        ensures { result ≡ length (row AreaWay area self.now.nodes.blocks) }
+    {
+        match self.areas.get(&area) {
+            Some(head) => head.count,
+            None => 0,
+        }
+    }
+
+    /// The first node of an area's list.
+    pub(crate) fn first(&self, area: u64) -> Option<Place>
+        requires { AreKept self.now }
+        ensures { result ≡ first_or None (row AreaWay area self.now.nodes.blocks) }
+    {
+        match self.areas.get(&area) {
+            Some(head) => Some(head.first),
+            None => None,
+        }
+    }
+
+    /// The node of an area's list that leads to an anon_vma.
+    pub(crate) fn find(&self, area: u64, anon: u64) -> Option<Place>
+        requires { AreKept self.now }
+        ensures variant { is_some result ≡ is_in anon (chain_of (links_in self.now) area) }
+        ensures place { IfSome result (λ p. IsLinkAt p.ptr area anon self.now.nodes.blocks) }
+    {
+        let mut at = self.first(area);
+        for _step in 0..self.len(area) {
+            let place = at?;
+            let node = *self.nodes.get(place);
+            if node.anon == anon {
+                return Some(place);
+            }
+            at = node.in_area.after;
+        }
+        None
+    }
+
+    /// The anon_vmas of an area's list, in its order.
+    pub(crate) fn chain(&self, alloc: Global, area: u64) -> Result<Vec<u64>, AllocError>
+        requires { AreKept self.now }
+        ensures { IfOk result (λ chain. chain.items ≡ chain_of (links_in self.now) area) }
+    {
+        let mut chain = Vec::new(alloc);
+        let mut at = self.first(area);
+        while let Some(place) = at {
+            let node = *self.nodes.get(place);
+            chain.push(node.anon)?;
+            at = node.in_area.after;
+        }
+        Ok(chain)
+    }
+
+    /// The anon_vma of the node at a place, if there is one.
+    pub(crate) fn anon_at(&self, at: Option<Place>) -> Option<u64>
+        requires { Reaches at self.now.nodes.blocks }
+        ensures { result ≡ anon_there at self.now.nodes.blocks }
+    {
+        match at {
+            Some(place) => Some(self.nodes.get(place).anon),
+            None => None,
+        }
+    }
+
+    /// The anon_vma after this one in an area's list.
+    pub(crate) fn next(&self, area: u64, anon: u64) -> Option<u64>
+        requires kept { AreKept self.now }
+        requires linked { is_in anon (chain_of (links_in self.now) area) ≡ true }
+        ensures { result ≡ after_in anon (chain_of (links_in self.now) area) }
+    {
+        let place = self.find(area, anon)?;
+        self.anon_at(self.nodes.get(place).in_area.after)
+    }
+
+    /// The first node of an anon_vma's list.
+    pub(crate) fn first_user(&self, anon: u64) -> Option<Place>
+        requires { AreKept self.now }
+        ensures { result ≡ first_or None (row AnonWay anon self.now.nodes.blocks) }
+    {
+        match self.anons.get(&anon) {
+            Some(head) => Some(head.first),
+            None => None,
+        }
+    }
+}
+
+// Makes room for one more list.
+fn reserve(heads: &mut HashMap<u64, Head>) -> Result<(), AllocError>
+    ensures same { (k : ℕ) → get nat_eq heads.new k ≡ get nat_eq heads.old k }
+    ensures room { OnOk result (0 < spare heads.new) }
+{
+    heads.reserve(1)
+}
+
+// The last node of a list, if it has one. A list as long as can be counted takes no more.
+fn end(heads: &HashMap<u64, Head>, key: u64) -> Result<Option<Place>, AllocError>
+    ensures last { IfOk result (λ last. last ≡ last_of (get nat_eq heads.now key)) }
+    ensures few { OnOk result (IfSome (get nat_eq heads.now key) (λ h. h.count < 2 ^ 64 - 1)) }
+{
+    match heads.get(&key) {
+        None => Ok(None),
+        Some(head) => {
+            if head.count < u64::MAX {
+                Ok(Some(head.last))
+            } else {
+                Err(AllocError)
+            }
+        }
+    }
+}

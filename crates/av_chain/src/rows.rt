@@ -1,0 +1,134 @@
+//! Lists of nodes. A node lies in two at once, and leaves both in constant time.
+ghost use Rattle.std.specs.Prelude.{◌≡◌, ℕ, ◌-◌, ◌<◌, ◌^◌, ◌⊎◌, Some, IfSome, IsSome, nat_eq};
+ghost use Rattle.std.specs.HashMap.{get, spare};
+ghost use Rattle.av_chain.specs.Rows.{leads_on, leads_back, Reaches, last_of, grown, shrunk, joined, parted, HaveHead};
+
+use crate::node::{Head, Node, Place, Sides, Way};
+use crate::nodes::Nodes;
+use std::collections::HashMap;
+
+impl Nodes {
+    // The node at a place, if there is one, is to lead on to another.
+    fn lead_on(&mut self, way: Way, at: Option<Place>, to: Option<Place>)
+        requires { Reaches at self.old.blocks }
+        ensures { self.new.blocks ≡ leads_on way at to self.old.blocks }
+    {
+        if let Some(place) = at {
+            let node = *self.get(place);
+            let before = node.sides(way).before;
+            self.set(place, node.with_sides(way, Sides { before, after: to }));
+        }
+    }
+
+    // The node at a place, if there is one, is to lead back to another.
+    fn lead_back(&mut self, way: Way, at: Option<Place>, to: Option<Place>)
+        requires { Reaches at self.old.blocks }
+        ensures { self.new.blocks ≡ leads_back way at to self.old.blocks }
+    {
+        if let Some(place) = at {
+            let node = *self.get(place);
+            let after = node.sides(way).after;
+            self.set(place, node.with_sides(way, Sides { before: to, after }));
+        }
+    }
+
+    /// Puts the node at a place at the end of a list.
+    pub(crate) fn join(&mut self, heads: &mut HashMap<u64, Head>, way: Way, key: u64, place: Place)
+        requires room { 0 < spare heads.old }
+        requires reaches { Reaches (last_of (get nat_eq heads.old key)) self.old.blocks }
+        requires few { IfSome (get nat_eq heads.old key) (λ h. h.count < 2 ^ 64 - 1) }
+        ensures blocks { self.new.blocks
+            ≡ joined way place (get nat_eq heads.old key) self.old.blocks }
+        ensures heads { HaveHead key (Some (grown place (get nat_eq heads.old key)))
+            (get nat_eq heads.old) (get nat_eq heads.new) }
+    {
+        let head = match heads.get(&key) {
+            Some(head) => Some(*head),
+            None => None,
+        };
+        match head {
+            None => set_head(
+                heads,
+                key,
+                Head {
+                    first: place,
+                    last: place,
+                    count: 1,
+                },
+            ),
+            Some(head) => {
+                self.lead_on(way, Some(head.last), Some(place));
+                set_head(
+                    heads,
+                    key,
+                    Head {
+                        first: head.first,
+                        last: place,
+                        count: head.count + 1,
+                    },
+                );
+            }
+        }
+    }
+
+    /// Takes a node with these neighbours out of its list.
+    pub(crate) fn part(&mut self, heads: &mut HashMap<u64, Head>, way: Way, key: u64, sides: Sides)
+        requires before { Reaches sides.before self.old.blocks }
+        requires after { Reaches sides.after self.old.blocks }
+        requires some { IsSome (get nat_eq heads.old key) }
+        requires few { IfSome (get nat_eq heads.old key) (λ h. 0 < h.count) }
+        ensures blocks { self.new.blocks ≡ parted way sides self.old.blocks }
+        ensures heads { HaveHead key (shrunk sides (get nat_eq heads.old key))
+            (get nat_eq heads.old) (get nat_eq heads.new) }
+    {
+        self.lead_on(way, sides.before, sides.after);
+        self.lead_back(way, sides.after, sides.before);
+        let head = match heads.get(&key) {
+            Some(head) => *head,
+            None => return,
+        };
+        match left(sides, head) {
+            None => {
+                heads.remove(&key);
+            }
+            Some(left) => set_head(heads, key, left),
+        }
+    }
+}
+
+// What a list's head is without a node that had these neighbours.
+fn left(sides: Sides, head: Head) -> Option<Head>
+    requires { 0 < head.count }
+    ensures { result ≡ shrunk sides (Some head) }
+{
+    let count = head.count - 1;
+    match (sides.before, sides.after) {
+        (None, None) => None,
+        (None, Some(first)) => Some(Head {
+            first,
+            last: head.last,
+            count,
+        }),
+        (Some(last), None) => Some(Head {
+            first: head.first,
+            last,
+            count,
+        }),
+        (Some(_), Some(_)) => Some(Head {
+            first: head.first,
+            last: head.last,
+            count,
+        }),
+    }
+}
+
+// The head of a list that there is, or for which there is room.
+fn set_head(heads: &mut HashMap<u64, Head>, key: u64, head: Head)
+    requires { (0 < spare heads.old) ⊎ IsSome (get nat_eq heads.old key) }
+    ensures { HaveHead key (Some head) (get nat_eq heads.old) (get nat_eq heads.new) }
+{
+    match heads.insert(key, head) {
+        Ok(_) => {}
+        Err(_) => unreachable!(),
+    }
+}

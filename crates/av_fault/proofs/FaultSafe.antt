@@ -1,0 +1,89 @@
+-- What a memory system that stands for some state says of its frames and entries.
+use Rattle.std.proofs.Common.{◌≡◌, ℕ, ◌<◌, ◌≤◌, Bool, true, false, ◌||◌, List, ◌∷◌, Option, Some, None, option_map, refl, sym, ap, subst, ◌∙◌, arith, is_some, nat_lt}
+use Rattle.std.proofs.lemmas.Bool.{false≢true}
+use Rattle.std.proofs.lemmas.Bool.Decides.{nat_tests}
+use Rattle.av_base.specs.declared.slot.Slot.{Slot}
+use Rattle.av_trace.specs.declared.note.Note.{Note}
+use Rattle.av_base.specs.Words.{is_in}
+use Rattle.av_frames.specs.Store.{seen}
+use Rattle.av_pagetable.specs.declared.pte.Pte.TheVariants.{Here, Away}
+use Rattle.av_pagetable.specs.Entries.{entry_at, has, with_entry}
+use Rattle.av_plain.specs.Ledger.{InFrame, entry, map_count, names_frame, is_free}
+use Rattle.av_plain.specs.Report.{Range}
+use Rattle.av_plain.specs.Stands.{entry_of, prot_of}
+use Rattle.av_plain.specs.Transcript.{State}
+use Rattle.av_plain.proofs.Ledger.{how_many-found}
+use Rattle.av_plain.proofs.Ledger.NoSwap.{itself, free_is, shared_is, zero_is}
+use Rattle.av_vma.specs.declared.area.Area.{Area}
+use Rattle.av_spaces.specs.Spaces.{Spaces, pages_of}
+use Rattle.av_reclaim.specs.declared.mem.Mem.{Mem}
+use Rattle.av_fault.specs.declared.fault.Touched.TheVariants.{Ready}
+use Rattle.av_reclaim.specs.Mem.{ranges_of, setting, count, plain, view, Keeps, IsSteady}
+use Rattle.av_fault.specs.Fault.{permitted, frame_named, IsTouched}
+use Rattle.av_fault.proofs.FaultParts.{of_keeps, as_pte}
+use Rattle.av_reclaim.proofs.MemLaws.{prot_on, prots_are, entry_put_in}
+use Rattle.av_fault.proofs.FaultTouched.{marked, again}
+use Rattle.av_fault.proofs.FaultServes.{named_entry, not_away}
+
+-- a frame that is free is named by no entry
+pub free_unmapped : (k : Mem) (f : ℕ) (rest : List ℕ) → IsSteady k → (seen k.frames).free ≡ f ∷ rest → f < count k → (seen k.frames).maps f ≡ 0
+free_unmapped k f rest steady first below =
+    let parts = of_keeps k steady.0 steady.1 in
+    let free : is_free steady.0.ledger f ≡ true = sym (parts.frames.free f below) ∙ ap (is_in f) first ∙ ap (λ b. b || is_in f rest) (itself f) in
+    parts.frames.maps f ∙ zero_is _ (sym (free_is steady.0.ledger f parts.cache) ∙ free)
+
+-- a frame that an entry of the ledger names is one of the machine's, and is counted
+pub named_frame : (k : Mem) (s : State) (p page g : ℕ) (was : Bool) → Keeps k s → entry s.ledger (p, page) ≡ Some (InFrame g was) → (g < count k) × (0 < map_count s.ledger g)
+named_frame k s p page g was keeps is =
+    let some : 0 < map_count s.ledger g = how_many-found (names_frame g) (p, page) s.ledger.entries (InFrame g was) is (itself g) in
+    (keeps.stands.sound.ledger.in_range g (omega (arith, some)), some)
+
+pub entry_frame : (k : Mem) (p page g : ℕ) → IsSteady k → frame_named (entry_at k.tables p page) ≡ Some g → (g < count k) × (0 < (seen k.frames).maps g)
+entry_frame k p page g steady named =
+    let both = named_entry g (entry_at k.tables p page) (entry steady.0.ledger (p, page)) named (steady.1.stands.parts.ledger.tables.entries p page) in
+    let frame = named_frame k steady.0 p page g both.0 steady.1 both.1 in
+    (frame.0, subst (λ n. 0 < n) (sym (steady.1.stands.parts.ledger.frames.maps g)) frame.1)
+
+-- no entry is a slot
+pub none_away : (k : Mem) (p page : ℕ) (t : Slot) → IsSteady k → entry_at k.tables p page ≡ Away t → ⊥
+none_away k p page t steady is =
+    not_away (setting (count k)) (view k) steady.0.world steady.0.ledger (p, page) t (of_keeps k steady.0 steady.1) (λ s. refl)
+    (sym (steady.1.stands.parts.ledger.tables.entries p page) ∙ ap (λ e. entry_of (plain e)) is)
+
+-- a process that may access a page has a table
+pub process_there : (k : Mem) (p page : ℕ) (write : Bool) → IsSteady k → permitted write (prot_of (ranges_of k.spaces p) page) ≡ true → has k.tables p ≡ true
+process_there k p page write steady allowed = steady.1.tables p ∙ by (ranges_of k.spaces p) allowed
+  where
+    by : (o : Option (List Range)) → permitted write (prot_of o page) ≡ true → is_some o ≡ true
+    by None h = absurd (false≢true h)
+    by (Some areas) h = refl
+
+-- a frame that may be written in place has one entry at most
+pub few_by_bit : (k : Mem) (s : State) (p page f : ℕ) (bit was : Bool) → Keeps k s → entry_at k.tables p page ≡ Here f bit was → bit ≡ true → map_count s.ledger f ≤ 1
+few_by_bit k s p page f bit was keeps is writes =
+    at_most _ (sym (shared_is s.ledger f (of_keeps k s keeps).cache) ∙ keeps.stands.parts.ledger.tables.write_bits p page (record { entry = InFrame f was; write = bit }) f (ap plain is) writes (itself f))
+  where
+    at_most : (n : ℕ) → nat_lt 1 n ≡ false → n ≤ 1
+    at_most n h = grind (arith, nat_tests)
+
+-- an entry that is a frame, in the ledger's words
+pub frame_entry : (k : Mem) (s : State) (p page f : ℕ) (bit was : Bool) → Keeps k s → entry_at k.tables p page ≡ Here f bit was → entry s.ledger (p, page) ≡ Some (InFrame f was)
+frame_entry k s p page f bit was keeps is = sym (keeps.stands.parts.ledger.tables.entries p page) ∙ ap (λ e. entry_of (plain e)) is
+
+-- where it is marked as seen already, the page is ready
+pub seen_there : (k : Mem) (s : State) (p page f : ℕ) (write bit : Bool) (notes : List Note) → Keeps k s → permitted write (prot_of (ranges_of k.spaces p) page) ≡ true → entry_at k.tables p page ≡ Here f bit true
+    → (write ≡ true → bit ≡ true) → IsTouched s k write (p, page) notes notes (Ready f)
+seen_there k s p page f write bit notes keeps allowed is own =
+    marked s k k p page notes keeps refl refl write bit true f (again p page (as_pte (InFrame f true) bit) (view k) (ap plain is)) allowed (frame_entry k s p page f bit true keeps is)
+    (few_by_bit k s p page f bit true keeps is) (λ writes. few_by_bit k s p page f bit true keeps is (own writes))
+
+-- it is marked as seen
+pub seen_now : (k new : Mem) (s : State) (p page f : ℕ) (write bit bit' was : Bool) (notes : List Note) → Keeps k s → permitted write (prot_of (ranges_of k.spaces p) page) ≡ true → entry_at k.tables p page ≡ Here f bit was
+    → entry_at new.tables ≡ with_entry p page (Here f bit' true) (entry_at k.tables) → has new.tables ≡ has k.tables → new.frames ≡ k.frames → new.spaces ≡ k.spaces
+    → (bit' ≡ true → map_count s.ledger f ≤ 1) → (write ≡ true → map_count s.ledger f ≤ 1) → IsTouched s new write (p, page) notes notes (Ready f)
+seen_now k new s p page f write bit bit' was notes keeps allowed is entries processes frames spaces few own =
+    marked s k new p page notes keeps processes (ap (λ f. (seen f).count) frames) write bit' was f (entry_put_in k new p page (Here f bit' true) entries frames spaces) allowed (frame_entry k s p page f bit was keeps is) few own
+
+-- whether an access is permitted, by the area on the page
+pub may_be : (s : Spaces) (p page : ℕ) (write : Bool) (o : Option Area) → o ≡ pages_of s p page → permitted write (option_map prot_on o) ≡ permitted write (prot_of (ranges_of s p) page)
+may_be s p page write o is = ap (λ x. permitted write (option_map prot_on x)) is ∙ sym (ap (permitted write) (prots_are s p page))

@@ -1,0 +1,106 @@
+-- The page fault: a page is made ready for a read or a write, or not.
+use Rattle.std.specs.Prelude.{◌≡◌, ℕ, ◌+◌, ◌-◌, ◌<◌, ◌∷◌, ◌≤◌, ◌++◌, Bool, true, false, List, [], Option, Some, None, Result, IfOk}
+use Rattle.std.specs.declared.alloc.AllocError.{AllocError}
+use Rattle.av_base.specs.declared.prot.Prot.{Prot}
+use Rattle.av_base.specs.Words.{with_at, is_in}
+use Rattle.av_trace.specs.declared.note.Note.{Note}
+use Rattle.av_pagetable.specs.declared.pte.Pte.{Pte}
+use Rattle.av_pagetable.specs.declared.pte.Pte.TheVariants.{Empty, Zero as ZeroPte, Here, Away}
+use Rattle.av_pagetable.specs.Entries.{with_entry}
+use Rattle.av_plain.specs.World.{allows}
+use Rattle.av_plain.specs.Ledger.{Ledger, Key, Zero, InFrame, entry, map_count}
+use Rattle.av_plain.specs.Event.{after_all}
+use Rattle.av_plain.specs.Fault as faults
+use Rattle.av_plain.specs.Fault.{Touches, Denied, Starved}
+use Rattle.av_plain.specs.Access.{page_events}
+use Rattle.av_plain.specs.Choice.{ChoosesAll}
+use Rattle.av_plain.specs.Transcript.{State}
+use Rattle.av_plain.specs.Stands.{View}
+use Rattle.av_reclaim.specs.declared.mem.Mem.{Mem}
+use Rattle.av_reclaim.specs.Mem.{setting, count, plain, view, Keeps, KeepsWithin}
+use Rattle.av_fault.specs.declared.fault.Stop.{Stop}
+use Rattle.av_fault.specs.declared.fault.Stop.TheVariants.{Segv, Oom}
+use Rattle.av_fault.specs.declared.fault.Touched.{Touched}
+use Rattle.av_fault.specs.declared.fault.Touched.TheVariants.{Ready, Zeros, Stopped}
+
+-- ---- the page is made ready
+
+-- why a page is not served, in the definitions' words
+abbrev pub stop_of : Stop → faults.Stop
+stop_of Segv = Denied
+stop_of (Oom out) = Starved out
+
+abbrev pub end_of : Touched → Option faults.Stop
+end_of (Ready f) = None
+end_of Zeros = None
+end_of (Stopped stop) = Some (stop_of stop)
+
+-- the page's entry is this frame, or zeros; no other entry has a frame that is to be written
+abbrev pub IsReady : Bool → Ledger → Key → Touched → Type 0
+IsReady write l k (Ready f) =
+    (entry l k ≡ Some (InFrame f true)) × (write ≡ true → map_count l f ≤ 1)
+IsReady write l k Zeros = (entry l k ≡ Some Zero) × (write ≡ false)
+IsReady write l k (Stopped stop) = Unit {0}
+
+-- these notes were added, and they make the page ready or say why not; the kernel's parts stand
+-- after them and the page's use, but that a write has stored no byte yet
+pub record IsTouched (s : State) (new : Mem) (write : Bool) (k : Key) (before now : List Note)
+    (touched : Touched) : Type 0 where
+  pub added : List Note
+  pub notes : now ≡ before ++ added
+  pub touches : Touches (setting (count new)) s.world s.ledger write k added (end_of touched)
+  pub ready : IsReady write (after_all s.ledger (page_events write k added (end_of touched))) k
+      touched
+  pub parts : KeepsWithin new s.world
+      (after_all s.ledger (page_events write k added (end_of touched)))
+  pub free : ChoosesAll (setting (count new)) s.ledger
+      (page_events write k added (end_of touched)) s.free (view new).free
+
+-- whatever stood before: the page is made ready or not, and there are as many frames
+pub record MakesReady (old new : Mem) (write : Bool) (k : Key) (before now : List Note)
+    (result : Result Touched AllocError) : Type 0 where
+  pub step : (s : State) → Keeps old s → IfOk result (IsTouched s new write k before now)
+  pub count : count new ≡ count old
+
+-- ---- the parts of a fault
+
+-- whether a protection, if the page has one, allows the access
+abbrev pub permitted : Bool → Option Prot → Bool
+permitted write None = false
+permitted write (Some prot) = allows write prot
+
+-- the frame that an entry names
+abbrev pub frame_named : Pte → Option ℕ
+frame_named Empty = None
+frame_named ZeroPte = None
+frame_named (Here f write was) = Some f
+frame_named (Away s) = None
+
+-- one more entry names f, and one less g
+abbrev pub one_more : ℕ → (ℕ → ℕ) → ℕ → ℕ
+one_more f maps = with_at f (maps f + 1) maps
+
+abbrev pub one_less : ℕ → (ℕ → ℕ) → ℕ → ℕ
+one_less g maps = with_at g (maps g - 1) maps
+
+-- a frame has been taken for a page, which may write it in place; then these are its bytes, the
+-- counts of entries, and the free frames
+abbrev pub taken_for : ℕ → ℕ → ℕ → (ℕ → ℕ) → (ℕ → ℕ) → List ℕ → View → View
+taken_for p page f bytes maps rest v = record v {
+  table = with_entry p page (plain (Here f true true)) v.table;
+  bytes = with_at f bytes v.bytes;
+  maps = maps;
+  free = rest;
+}
+
+-- it was the first of the free ones
+pub record IsTaken (old new : Mem) (p page f : ℕ) (bytes maps : ℕ → ℕ) : Type 0 where
+  pub first : (view old).free ≡ f ∷ (view new).free
+  pub gone : is_in f (view new).free ≡ false
+  pub below : f < count old
+  pub view : view new ≡ taken_for p page f bytes maps (view new).free (view old)
+
+-- a frame has been taken with these bytes and counts, or none is free and all is as it was
+abbrev pub AreTaken : Mem → Mem → ℕ → ℕ → (ℕ → ℕ) → (ℕ → ℕ → ℕ) → Option ℕ → Type 0
+AreTaken old new p page bytes maps None = ((view old).free ≡ []) × (view new ≡ view old)
+AreTaken old new p page bytes maps (Some f) = IsTaken old new p page f bytes (maps f)

@@ -1,0 +1,274 @@
+//! Making a page ready for an access, and the bit that marks it as accessed.
+
+ghost use Rattle.std.specs.Prelude.{◌≡◌, ◌+◌, ◌-◌, ◌<◌, ◌≤◌, true, false, IsTrue, IfOk, MatchBool, Some, None};
+ghost use Rattle.av_base.specs.Limits.{top_page};
+ghost use Rattle.av_pagetable.specs.Entries.{entry_at, has};
+ghost use Rattle.av_pagetable.specs.declared.pte.Pte.TheVariants as Pte;
+ghost use Rattle.av_plain.specs.Stands.{prot_of};
+ghost use Rattle.av_reclaim.specs.Mem.{count, view, ranges_of, IsSteady};
+ghost use Rattle.av_fault.specs.Fault.{permitted, frame_named, one_more, one_less, AreTaken, MakesReady};
+
+use av_base::PAGE_SIZE;
+use av_pagetable::Pte;
+use av_reclaim::Mem;
+use av_trace::{Note, Notes, OutOf};
+use std::alloc::AllocError;
+
+/// Why an access stopped at a page.
+#[derive(Clone, Copy, Drop, Debug, PartialEq, Eq)]
+pub enum Stop {
+    /// The page is not mapped, or its protection does not allow the access.
+    Segv,
+    /// No frame is free.
+    Oom(OutOf),
+}
+
+/// What a page has for an access.
+#[derive(Clone, Copy, Drop, Debug, PartialEq, Eq)]
+pub enum Touched {
+    /// A frame, which a write has for itself.
+    Ready(u32),
+    /// The page of zeros, at a read.
+    Zeros,
+    /// Nothing: the access ends before it.
+    Stopped(Stop),
+}
+
+/// Makes a page ready for a read or a write, marks it as accessed, and adds the notes of what it
+/// took.
+pub fn touch(
+    mem: &mut Mem,
+    process: u16,
+    page: u64,
+    write: bool,
+    notes: &mut Notes,
+) -> Result<Touched, AllocError>
+    requires { IsSteady mem.old }
+    ensures { MakesReady mem.old mem.new write (process, page) notes.old notes.new result }
+{
+    if !may_access(mem, process, page, write) {
+        return Ok(Touched::Stopped(Stop::Segv));
+    }
+    if write {
+        touch_to_write(mem, process, page, notes)
+    } else {
+        touch_to_read(mem, process, page, notes)
+    }
+}
+
+/// Whether a page is mapped with a protection that allows the access.
+fn may_access(mem: &Mem, process: u16, page: u64, write: bool) -> bool
+    ensures permitted { result ≡ permitted write (prot_of (ranges_of mem.now.spaces process) page) }
+    ensures below { IsTrue result → page < top_page }
+{
+    match mem.spaces.area(process, page) {
+        Some(area) if write => area.prot.writable(),
+        Some(area) => area.prot.readable(),
+        None => false,
+    }
+}
+
+/// Makes a page ready that may be read: the page of zeros where it has no entry, else what it has.
+fn touch_to_read(
+    mem: &mut Mem,
+    process: u16,
+    page: u64,
+    notes: &mut Notes,
+) -> Result<Touched, AllocError>
+    requires steady { IsSteady mem.old }
+    requires below { page < top_page }
+    requires permitted { permitted false (prot_of (ranges_of mem.old.spaces process) page) ≡ true }
+    ensures { MakesReady mem.old mem.new false (process, page) notes.old notes.new result }
+{
+    match mem.tables.get(process, page) {
+        Pte::Empty => make_zero(mem, process, page, notes),
+        Pte::Zero => Ok(Touched::Zeros),
+        Pte::Here { frame, write, seen } => {
+            if seen {
+                return Ok(Touched::Ready(frame));
+            }
+            mem.tables.change(process, page, accessed(frame, write));
+            Ok(Touched::Ready(frame))
+        }
+        Pte::Away { .. } => unreachable!(),
+    }
+}
+
+/// Makes a page ready that may be written: a frame of zeros, a copy where others have its frame,
+/// else its own frame.
+fn touch_to_write(
+    mem: &mut Mem,
+    process: u16,
+    page: u64,
+    notes: &mut Notes,
+) -> Result<Touched, AllocError>
+    requires steady { IsSteady mem.old }
+    requires below { page < top_page }
+    requires permitted { permitted true (prot_of (ranges_of mem.old.spaces process) page) ≡ true }
+    ensures { MakesReady mem.old mem.new true (process, page) notes.old notes.new result }
+{
+    match mem.tables.get(process, page) {
+        Pte::Empty | Pte::Zero => make_new(mem, process, page, notes),
+        Pte::Here { frame, write, seen } => {
+            if write && seen {
+                return Ok(Touched::Ready(frame));
+            }
+            if is_shared(mem, frame) {
+                return make_copy(mem, process, page, frame, notes);
+            }
+            mem.tables.change(process, page, accessed(frame, true));
+            Ok(Touched::Ready(frame))
+        }
+        Pte::Away { .. } => unreachable!(),
+    }
+}
+
+/// The entry of a frame that a page has and that was accessed.
+fn accessed(frame: u32, write: bool) -> Pte
+    ensures { result ≡ Pte.Here frame write true }
+{
+    Pte::Here {
+        frame,
+        write,
+        seen: true,
+    }
+}
+
+/// Whether more than one entry names the frame.
+fn is_shared(mem: &Mem, frame: u32) -> bool
+    requires { frame < count mem.now }
+    ensures { MatchBool result (1 < (view mem.now).maps frame) ((view mem.now).maps frame ≤ 1) }
+{
+    mem.frames.maps(frame) > 1
+}
+
+/// The numbers of an out-of-memory: the pinned frames, and all others, none of which has a slot.
+fn out_of(mem: &Mem, pinned: u32) -> OutOf
+    requires { pinned ≤ count mem.now }
+    ensures { result ≡ record { pinned = pinned; noslot = count mem.now - pinned; fault = 0 } }
+{
+    OutOf {
+        pinned,
+        noslot: mem.frames.count() - pinned,
+        fault: 0,
+    }
+}
+
+/// Gives a page without an entry the page of zeros.
+fn make_zero(
+    mem: &mut Mem,
+    process: u16,
+    page: u64,
+    notes: &mut Notes,
+) -> Result<Touched, AllocError>
+    requires below { page < top_page }
+    requires there { has mem.old.tables process ≡ true }
+    requires permitted { permitted false (prot_of (ranges_of mem.old.spaces process) page) ≡ true }
+    requires bare { entry_at mem.old.tables process page ≡ Pte.Empty }
+    ensures { MakesReady mem.old mem.new false (process, page) notes.old notes.new result }
+{
+    mem.tables.set(process, page, Pte::Zero)?;
+    notes.push(Note::Zeroed {
+        process,
+        address: PAGE_SIZE * page,
+    })?;
+    Ok(Touched::Zeros)
+}
+
+/// Gives a page without a frame one of zeros.
+fn make_new(
+    mem: &mut Mem,
+    process: u16,
+    page: u64,
+    notes: &mut Notes,
+) -> Result<Touched, AllocError>
+    requires steady { IsSteady mem.old }
+    requires below { page < top_page }
+    requires there { has mem.old.tables process ≡ true }
+    requires permitted { permitted true (prot_of (ranges_of mem.old.spaces process) page) ≡ true }
+    requires bare { frame_named (entry_at mem.old.tables process page) ≡ None }
+    ensures { MakesReady mem.old mem.new true (process, page) notes.old notes.new result }
+{
+    let Some(frame) = take_zeros(mem, process, page)? else {
+        return Ok(Touched::Stopped(Stop::Oom(out_of(mem, 0))));
+    };
+    notes.push(Note::New {
+        process,
+        address: PAGE_SIZE * page,
+        frame,
+    })?;
+    Ok(Touched::Ready(frame))
+}
+
+/// Gives a page whose frame others have too a copy of its own.
+fn make_copy(
+    mem: &mut Mem,
+    process: u16,
+    page: u64,
+    from: u32,
+    notes: &mut Notes,
+) -> Result<Touched, AllocError>
+    requires steady { IsSteady mem.old }
+    requires below { page < top_page }
+    requires there { has mem.old.tables process ≡ true }
+    requires permitted { permitted true (prot_of (ranges_of mem.old.spaces process) page) ≡ true }
+    requires named { frame_named (entry_at mem.old.tables process page) ≡ Some from }
+    requires shared { 1 < (view mem.old).maps from }
+    ensures { MakesReady mem.old mem.new true (process, page) notes.old notes.new result }
+{
+    let Some(frame) = take_copy(mem, process, page, from)? else {
+        return Ok(Touched::Stopped(Stop::Oom(out_of(mem, 1))));
+    };
+    notes.push(Note::Copied {
+        process,
+        address: PAGE_SIZE * page,
+        frame,
+    })?;
+    Ok(Touched::Ready(frame))
+}
+
+/// Takes a frame of zeros for a page. None exactly where no frame is free.
+fn take_zeros(mem: &mut Mem, process: u16, page: u64) -> Result<Option<u32>, AllocError>
+    requires steady { IsSteady mem.old }
+    requires there { has mem.old.tables process ≡ true }
+    requires below { page < top_page }
+    ensures taken { IfOk result (AreTaken mem.old mem.new process page (λ i. 0)
+        (λ f. one_more f (view mem.old).maps)) }
+    ensures processes { has mem.new.tables ≡ has mem.old.tables }
+    ensures count { count mem.new ≡ count mem.old }
+{
+    let Some(frame) = mem.frames.take() else {
+        return Ok(None);
+    };
+    mem.tables.set(process, page, accessed(frame, true))?;
+    mem.frames.zero(frame);
+    mem.frames.map_up(frame);
+    Ok(Some(frame))
+}
+
+/// Takes a frame for a page and copies the page's present one to it. None exactly where no frame is
+/// free.
+fn take_copy(
+    mem: &mut Mem,
+    process: u16,
+    page: u64,
+    from: u32,
+) -> Result<Option<u32>, AllocError>
+    requires steady { IsSteady mem.old }
+    requires there { has mem.old.tables process ≡ true }
+    requires below { page < top_page }
+    requires named { frame_named (entry_at mem.old.tables process page) ≡ Some from }
+    ensures taken { IfOk result (AreTaken mem.old mem.new process page ((view mem.old).bytes from)
+        (λ f. one_less from (one_more f (view mem.old).maps))) }
+    ensures processes { has mem.new.tables ≡ has mem.old.tables }
+    ensures count { count mem.new ≡ count mem.old }
+{
+    let Some(frame) = mem.frames.take() else {
+        return Ok(None);
+    };
+    mem.tables.set(process, page, accessed(frame, true))?;
+    mem.frames.copy(from, frame);
+    mem.frames.map_up(frame);
+    mem.frames.map_down(from);
+    Ok(Some(frame))
+}

@@ -1,0 +1,14 @@
+//! The page fault.
+//!
+//! `touch` makes a page ready for a read or a write, and marks it as accessed: the page of zeros, a
+//! new frame, a copy, or the frame that it has; else it says why not. Proved for whatever the
+//! memory system stands for: the notes that it adds are lawful, and the parts stand for the ledger
+//! after them.
+#![tactic(auto)]
+
+mod fault;
+
+pub use fault::{Stop, Touched, touch};
+
+#[cfg(test)]
+mod tests;

@@ -1,0 +1,5 @@
+pub mod EntriesLemmas
+pub mod NodesLemmas
+pub mod SearchLemmas
+pub mod SpanLemmas
+pub mod SpansLemmas

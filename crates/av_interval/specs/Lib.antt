@@ -1,0 +1,5 @@
+pub mod Nodes
+pub mod Roots
+pub mod Search
+pub mod Span
+pub mod Spans

@@ -1,0 +1,202 @@
+ghost use Rattle.std.specs.Prelude.{◌≡◌, ℕ, ◌+◌, ◌*◌, ◌^◌, ◌<◌, ◌≤◌, [], is_ok, length, IsSome, OnErr, if◌then◌else◌};
+ghost use Rattle.av_arena.specs.Order.{entry_at, with_entry, without_key};
+ghost use Rattle.av_interval.specs.Spans.{IsNew, height_at, tree_of, triples};
+ghost use Rattle.av_interval.specs.Span.{triple};
+ghost use Rattle.av_interval.specs.Search.{overlap_of};
+ghost use Rattle.av_interval.specs.Roots.{len_of, top_of};
+ghost use Rattle.av_interval.specs.Nodes.{child_of};
+ghost use Rattle.av_base.specs.Words.{with_at};
+ghost use Rattle.av_interval.specs.Span.{key, key_of};
+
+use crate::nodes::{Node, Nodes};
+use crate::roots::{Root, Roots};
+use crate::search::search;
+use crate::span::Span;
+use crate::steps::Steps;
+use av_arena::{Arena, Link, Stored, placed, removed};
+use std::alloc::{AllocError, Global};
+use std::marker::Model;
+use std::sync::ledger::Ledger;
+
+/// For each anon_vma the spans of the areas that are linked to it, in a tree balanced by height.
+#[derive(Drop)]
+pub struct Spans {
+    arena: Arena<Span, u64>,
+    roots: Roots,
+}
+
+impl Model for Spans {
+    ghost use Rattle.std.specs.Prelude.{ℕ, List, Option};
+    ghost use Rattle.av_arena.specs.declared.link.Stored.{Stored};
+    ghost use Rattle.av_interval.specs.declared.roots.Root.{Root};
+    ghost use Rattle.av_interval.specs.declared.span.Span.{Span};
+    ghost use Rattle.av_arena.specs.Arena.{stored};
+    ghost use Rattle.av_interval.specs.Roots.{root_of};
+    ghost use Rattle.av_interval.specs.Spans.{IsForest};
+
+    ghost Value = { List (Option (Stored Span ℕ)) × List (ℕ × Root) };
+
+    ghost view = { λ s. (s.arena.slab.slots, s.roots.map.entries) };
+
+    ghost invariant = { λ s. IsForest (stored s.arena) (root_of s.roots) };
+}
+
+impl Spans {
+    /// No span at all.
+    pub fn new(alloc: Global) -> Spans
+        ensures { (anon : ℕ) → triples result anon ≡ [] }
+    {
+        Spans {
+            arena: Arena::new(alloc),
+            roots: Roots::new(alloc),
+        }
+    }
+
+    /// Links an area, new to the anon_vma, with its first and last index. Without memory all stays.
+    pub fn add(&mut self, anon: u64, first: u64, last: u64, area: u64) -> Result<(), AllocError>
+        requires other { IsNew area (triples self.old anon) }
+        ensures spans { (a : ℕ) → triples self.new
+            a ≡ (if is_ok result then with_at anon
+            (with_entry key (triple first last area) (triples self.old anon)) (triples self.old) a
+            else triples self.old a) }
+        ensures kept { OnErr result ((a : ℕ) → tree_of self.new a ≡ tree_of self.old a) }
+    {
+        let span = Span { first, last, area };
+        let root = self.roots.get(anon);
+        let Some(len) = len(root).checked_add(1) else {
+            return Err(AllocError);
+        };
+        let leaf = Stored {
+            left: None,
+            entry: span,
+            right: None,
+        };
+        let number = match self.arena.add(leaf) {
+            Ok(number) => number,
+            Err(error) => return Err(error),
+        };
+        let tree = placed(&mut self.arena, top(root), number, span);
+        let new = Root { tree, len };
+        if root.is_some() {
+            self.roots.change(anon, new);
+            return Ok(());
+        }
+        match self.roots.add(anon, new) {
+            Ok(()) => Ok(()),
+            Err(error) => {
+                self.arena.free(number);
+                Err(error)
+            }
+        }
+    }
+
+    /// Takes out the span of an area that is there, and begins at the index `first`. It takes no
+    /// memory.
+    pub fn remove(&mut self, anon: u64, first: u64, area: u64)
+        requires there { IsSome (entry_at key (key_of first area) (triples self.old anon)) }
+        ensures { (a : ℕ) → triples self.new a ≡ with_at anon
+            (without_key key (key_of first area) (triples self.old anon)) (triples self.old) a }
+    {
+        let Some(root) = self.roots.get(anon) else {
+            unreachable!()
+        };
+        let like = Span {
+            first,
+            last: first,
+            area,
+        };
+        let (number, rest) = removed(&mut self.arena, Some(root.tree), like);
+        self.arena.free(number);
+        match rest {
+            None => self.roots.remove(anon),
+            Some(tree) => self.roots.change(
+                anon,
+                Root {
+                    tree,
+                    len: root.len - 1,
+                },
+            ),
+        }
+    }
+
+    /// First index and area of the first span past `after` that overlaps `index`. It takes no
+    /// memory.
+    pub fn overlap<L: Ledger>(
+        &self,
+        anon: u64,
+        index: u64,
+        after: Option<(u64, u64)>,
+        steps: &mut Steps<L>,
+    ) -> Option<(u64, u64)>
+        ensures first { result ≡ overlap_of after index (triples self.now anon) }
+        ensures cost { steps.new ≤ steps.old + 2 * (height_at self.now anon + 1) }
+        ensures shallow { 2 ^ height_at self.now anon ≤ (length (triples self.now anon) + 1) *
+            (length (triples self.now anon) + 1) }
+    {
+        let _ = &self.arena;
+        search(self, anon, index, after, steps)
+    }
+
+    /// How many spans an anon_vma has.
+    pub fn len(&self, anon: u64) -> u64
+        ensures { result ≡ length (triples self.now anon) }
+    {
+        len(self.roots.get(anon))
+    }
+}
+
+fn top(root: Option<Root>) -> Option<Link<u64>>
+    ensures { result ≡ top_of root }
+{
+    match root {
+        None => None,
+        Some(root) => Some(root.tree),
+    }
+}
+
+fn len(root: Option<Root>) -> u64
+    ensures { result ≡ len_of root }
+{
+    match root {
+        None => 0,
+        Some(root) => root.len,
+    }
+}
+
+fn child(tree: Option<Link<u64>>) -> Option<(u64, u64)>
+    ensures { result ≡ child_of tree }
+{
+    match tree {
+        None => None,
+        Some(link) => Some((link.number, link.sum)),
+    }
+}
+
+impl Nodes for Spans {
+    ghost use Rattle.av_interval.specs.Spans.{IsNode, below, tree_of};
+
+    ghost tree = { tree_of };
+
+    ghost is_node = { IsNode };
+
+    ghost below = { below };
+
+    fn root(&self, anon: u64) -> Option<u64> {
+        match top(self.roots.get(anon)) {
+            None => None,
+            Some(tree) => Some(tree.number),
+        }
+    }
+
+    fn visit<L: Ledger>(&self, node: u64, steps: &mut Steps<L>) -> Node {
+        steps.tick();
+        let stored = self.arena.get(node);
+        Node {
+            first: stored.entry.first,
+            last: stored.entry.last,
+            area: stored.entry.area,
+            left: child(stored.left),
+            right: child(stored.right),
+        }
+    }
+}

@@ -1,0 +1,373 @@
+-- Commands on ranges of pages: what they leave of the pages, the entries and the areas.
+use Rattle.std.proofs.Common.{◌≡◌, inl, inr, Ok, Err, ℕ, ◌+◌, ◌-◌, ◌<◌, ◌≤◌, Bool, true, false, cond, not, ◌&&◌, ◌||◌, List, [], ◌∷◌, slice_index, Option, Some, None, is_some, option_map, Result, refl, sym, ap, subst, ◌∙◌, arith, ◌==◌, nat_lt}
+use Rattle.std.proofs.lemmas.Bool.Decides.{nat_tests}
+use Rattle.std.proofs.lemmas.Bool.{false≢true}
+use Rattle.std.specs.Prelude.{MatchOption, OnOk}
+use Rattle.av_base.specs.declared.prot.Prot.{Prot}
+use Rattle.av_base.specs.Words.{within}
+use Rattle.av_vmatree.specs.Spans.{IsFree}
+use Rattle.av_merge.specs.Pages.{IsReached}
+use Rattle.av_trace.specs.declared.command.Command.{Command}
+use Rattle.av_trace.specs.declared.command.Command.TheVariants.{Mmap, Munmap, Mprotect}
+use Rattle.av_trace.specs.declared.place.Place.{Place}
+use Rattle.av_trace.specs.declared.place.Place.TheVariants.{Auto, At, Fixed, NoReplace}
+use Rattle.av_trace.specs.declared.reply.Errno.{Errno}
+use Rattle.av_trace.specs.declared.reply.Errno.TheVariants.{Esrch, Enomem, Einval}
+use Rattle.av_trace.specs.declared.reply.Reply.{Reply}
+use Rattle.av_trace.specs.declared.reply.Answer.{Answer}
+use Rattle.av_trace.specs.declared.reply.Answer.TheVariants.{Done, MapAt, Refused}
+use Rattle.av_pagetable.specs.Entries.{has}
+use Rattle.av_plain.specs.World.{lives, Process, Page, zeros, pages, is_mapped, pages_to_hole, set_process, with_pages, with_prot_on, with_prot}
+use Rattle.av_base.specs.Page.{page_of, pages_of, address_of, is_on_page}
+use Rattle.av_plain.specs.Ledger.{Ledger, Entry, Zero, InFrame, InSlot, entry, frame_at}
+use Rattle.av_plain.specs.Event.{Event, after_all}
+use Rattle.av_plain.specs.Zap.{keys_in, zaps_of}
+use Rattle.av_plain.specs.Refusal.{tests, place_tests, refusal, is_too_long, wraps, top, Refuses}
+use Rattle.av_plain.specs.Step.{IsLegal, Follows, next_world}
+use Rattle.av_plain.specs.Place.{Goes}
+use Rattle.av_plain.specs.Map.{zaps_for_place, with_prot_to_hole}
+use Rattle.av_plain.specs.Choice.{ChoosesAll}
+use Rattle.av_plain.specs.Transcript.{State}
+use Rattle.av_plain.specs.Device.{no_device}
+use Rattle.av_plain.specs.Stands.{Holds, IsKept, IsKeptAt, prot_of}
+use Rattle.av_plain.proofs.World.Ranges.{is-pages_to_hole}
+use Rattle.av_plain.proofs.Zap.{entry-range}
+use Rattle.av_reclaim.specs.declared.mem.Mem.{Mem}
+use Rattle.av_spaces.specs.Spaces.{Spaces, areas_of, is_taken}
+use Rattle.av_kernel.specs.Map.{set_on, HasProts, AreCleared}
+use Rattle.av_reclaim.specs.Mem.{ranges_of, setting, view, count, Keeps, IsSteady, HasLedger}
+use Rattle.av_reclaim.specs.Zap.{HasZapped}
+use Rattle.av_kernel.specs.Place.{protect_tests, IsProcess, IsPlaced, AreToClear}
+use Rattle.av_kernel.specs.Step.{MemSteps, answered}
+use Rattle.av_reclaim.proofs.MemLaws.{lives_is, alive_is, taken_has, mapped_is}
+use Rattle.av_kernel.proofs.PlaceLaws.{page_back, IsSuited, suited}
+use Rattle.av_kernel.proofs.StepLaws.{is_number, moved_on, orderly, refused, stays_orderly, changed, areas_changed, tables_kept}
+
+-- ---- pages and their areas
+
+-- a page is taken exactly where it is mapped
+pub taken_is : (k : Mem) (s : State) (p : ℕ) → Keeps k s → IsProcess k.spaces p (pages s.world p)
+taken_is k s p keeps page = taken_has k.spaces p page ∙ ap is_some (keeps.stands.parts.areas.covers p page) ∙ mapped_is (pages s.world p page)
+
+-- a place suits the pages of a process, whatever the kernel stands for
+pub suits : (k : Mem) → IsSteady k → (p n page : ℕ) (place : Place) → ((q : Process) → IsProcess k.spaces p q → IsPlaced q n place (Ok page)) → IsSuited k.spaces p n page place
+suits k steady p n page place placed =
+    let same = taken_is k steady.0 p steady.1 in
+    suited k.spaces p (pages steady.0.world p) same n page place (placed (pages steady.0.world p) same)
+
+-- the same pages change twice
+pub twice_changed : (s t u : Spaces) (p page n : ℕ) (x y : Option Prot) → HasProts s t p (set_on page n x (prot_of (ranges_of s p))) → HasProts t u p (set_on page n y (prot_of (ranges_of t p)))
+    → HasProts s u p (set_on page n y (prot_of (ranges_of s p)))
+twice_changed s t u p page n x y first second = record {
+  others = λ q other. second.others q other ∙ first.others q other;
+  alive = second.alive;
+  pages = λ o. second.pages o ∙ by o (within page n o) refl;
+  number = second.number ∙ first.number;
+  apart = second.apart;
+}
+  where
+    by : (o : ℕ) (b : Bool) → within page n o ≡ b → cond b y (prot_of (ranges_of t p) o) ≡ cond b y (prot_of (ranges_of s p) o)
+    by o true e = refl
+    by o false e = first.pages o ∙ ap (λ b. cond b x (prot_of (ranges_of s p) o)) e
+
+-- ---- the pages of a range go
+
+pub on_ok : {A E : Type 0} {P Q : Type 0} (r : Result A E) → (P → Q) → OnOk r P → OnOk r Q
+on_ok (Ok x) f h = f h
+on_ok (Err e) f h = tt
+
+-- their entries have gone, and then their areas
+pub are_cleared : (old mid : Mem) (spaces : Spaces) (p page n : ℕ) (l : Ledger) → HasZapped old mid l (zaps_of l (keys_in l p page (page + n - page))) → mid.spaces ≡ old.spaces → has mid.tables ≡ has old.tables → (view mid).bytes ≡ (view old).bytes
+    → HasProts mid.spaces spaces p (set_on page n None (prot_of (ranges_of mid.spaces p))) → AreCleared old (moved_on mid mid.tables spaces) p page n l (zaps_of l (keys_in l p page n))
+are_cleared old mid spaces p page n l t same processes bytes gone = record {
+  taken = subst (λ x. HasZapped old (moved_on mid mid.tables spaces) l (zaps_of l (keys_in l p page x))) (let size : page + n - page ≡ n = omega arith in size) (record { stands = stays_orderly mid mid.tables spaces _ refl t.stands; notes = t.notes; free = t.free });
+  spaces = subst (λ x. HasProts x spaces p (set_on page n None (prot_of (ranges_of x p)))) same gone;
+  processes = processes;
+  bytes = bytes;
+}
+
+left_alone : (k : Mem) → IsSteady k → (p page n : ℕ) (l : Ledger) → HasLedger k l → is_some (areas_of k.spaces p) ≡ true → IsFree (is_taken k.spaces p) page (page + n) → AreCleared k k p page n l []
+left_alone k steady p page n l stands alive free = record {
+  taken = record { stands = stands; notes = refl; free = refl };
+  spaces = record {
+    others = λ q other. refl;
+    alive = alive_is k.spaces p ∙ alive;
+    pages = λ o. by o (within page n o) refl;
+    number = refl;
+    apart = steady.1.stands.parts.areas.apart;
+  };
+  processes = refl;
+  bytes = refl;
+}
+  where
+    none : (o : Option Prot) → is_some o ≡ false → o ≡ None
+    none None e = refl
+    none (Some x) e = cc
+
+    by : (o : ℕ) (b : Bool) → within page n o ≡ b → prot_of (ranges_of k.spaces p) o ≡ cond b None (prot_of (ranges_of k.spaces p) o)
+    by o true e =
+        let low : page ≤ o = grind (arith, nat_tests, e) in
+        let high : o < page + n = grind (arith, nat_tests, e) in
+        none (prot_of (ranges_of k.spaces p) o) (sym (taken_has k.spaces p o) ∙ free o low high)
+    by o false e = refl
+
+-- where a mapping isn't to be at a fixed place, its pages are free, and nothing goes
+pub nothing_there : (k : Mem) → IsSteady k → (p page n : ℕ) (place : Place) (l : Ledger) → HasLedger k l → is_some (areas_of k.spaces p) ≡ true → AreToClear (is_taken k.spaces p) page n place → ((a : ℕ) → place ≡ Fixed a → ⊥)
+    → AreCleared k k p page n l (zaps_for_place l p n place)
+nothing_there k steady p page n Auto l stands alive free other = left_alone k steady p page n l stands alive free
+nothing_there k steady p page n (At a) l stands alive free other = left_alone k steady p page n l stands alive free
+nothing_there k steady p page n (Fixed a) l stands alive free other = absurd (other a refl)
+nothing_there k steady p page n (NoReplace a) l stands alive free other = left_alone k steady p page n l stands alive free
+
+-- the process lives on, and none of the pages is taken
+pub cleared_lives : (old new : Mem) (p page n : ℕ) (l : Ledger) (events : List Event) → AreCleared old new p page n l events → is_some (areas_of new.spaces p) ≡ true
+cleared_lives old new p page n l events h = sym (alive_is new.spaces p) ∙ h.spaces.alive
+
+pub cleared_free : (old new : Mem) (p page n : ℕ) (l : Ledger) (events : List Event) → AreCleared old new p page n l events → IsFree (is_taken new.spaces p) page (page + n)
+cleared_free old new p page n l events h o low high =
+    let inside : within page n o ≡ true = grind (arith, nat_tests, low, high) in
+    taken_has new.spaces p o ∙ ap is_some (h.spaces.pages o ∙ ap (λ b. cond b None (prot_of (ranges_of old.spaces p) o)) inside)
+
+-- ---- the pages of a range are replaced
+
+module _ (old new : Mem) (s : State) (command : Command) (reply : Reply) (p page n : ℕ) (o : Option Page) (events : List Event)
+    (keeps : Keeps old s) (alive : is_some (ranges_of old.spaces p) ≡ true) (same_count : count new ≡ count old)
+    (taken : HasZapped old new s.ledger events) (entries : (q at : ℕ) → entry (after_all s.ledger events) (q, at) ≡ cond (q == p && within page n at) None (entry s.ledger (q, at)))
+    (blank : Holds o (λ _. 0)) (spaces : HasProts old.spaces new.spaces p (set_on page n (option_map (λ (x : Page). x.prot) o) (prot_of (ranges_of old.spaces p))))
+    (processes : has new.tables ≡ has old.tables) (bytes : (view new).bytes ≡ (view old).bytes) where
+  covered : (at : ℕ) → set_on page n (option_map (λ (x : Page). x.prot) o) (prot_of (ranges_of old.spaces p)) at ≡ option_map (λ (x : Page). x.prot) (with_pages (pages s.world p) page n (λ _. o) at)
+  covered at = by (within page n at)
+    where
+      by : (b : Bool) → cond b (option_map (λ (x : Page). x.prot) o) (prot_of (ranges_of old.spaces p) at) ≡ option_map (λ (x : Page). x.prot) (cond b o (pages s.world p at))
+      by true = refl
+      by false = keeps.stands.parts.areas.covers p at
+
+  kept : (at : ℕ) → IsKept (view old) no_device s.ledger (entry (after_all s.ledger events) (p, at)) (with_pages (pages s.world p) page n (λ _. o) at)
+  kept at = subst (λ e. IsKept (view old) no_device s.ledger e (with_pages (pages s.world p) page n (λ _. o) at)) (sym (entries p at ∙ ap (λ b. cond (b && within page n at) None (entry s.ledger (p, at))) (itself p))) (by (within page n at))
+    where
+      itself : (p : ℕ) → (p == p) ≡ true
+      itself p = grind (arith, nat_tests)
+
+      by : (b : Bool) → IsKept (view old) no_device s.ledger (cond b None (entry s.ledger (p, at))) (cond b o (pages s.world p at))
+      by true = blank
+      by false = keeps.stands.parts.bytes.kept p at
+
+  pub replaced-steps : IsLegal (setting (count old)) s.world s.ledger command reply events
+      → set_process s.world p (with_pages (pages s.world p) page n (λ _. o)) ≡ next_world (setting (count old)) s.world s.ledger events command reply.answer → MemSteps old new s command reply
+  replaced-steps legal world =
+      let now : Process = with_pages (pages s.world p) page n (λ _. o) in
+      changed old new s command reply p now (after_all s.ledger events) keeps same_count taken.stands bytes
+      (λ q at other. entries q at ∙ ap (λ b. cond (b && within page n at) None (entry s.ledger (q, at))) other) kept
+      (record { events = events; legal = legal; world = world; ledger = refl; free = subst (λ free. ChoosesAll (setting (count old)) s.ledger events free (view new).free) keeps.stands.free taken.free })
+      (areas_changed old new s p now (set_on page n (option_map (λ (x : Page). x.prot) o) (prot_of (ranges_of old.spaces p))) keeps alive spaces covered)
+      (tables_kept old new s p now (set_on page n (option_map (λ (x : Page). x.prot) o) (prot_of (ranges_of old.spaces p))) keeps alive spaces covered processes)
+
+-- ---- what is refused
+
+-- the process lives
+lived : (k : Mem) (s : State) (p : ℕ) → Keeps k s → is_some (areas_of k.spaces p) ≡ true → (rest : Option Errno) → cond (not (lives s.world p)) (Some Esrch) rest ≡ rest
+lived k s p keeps alive rest = ap (λ b. cond (not b) (Some Esrch) rest) (sym (lives_is k s keeps p) ∙ alive)
+
+pub munmap-refused : (k : Mem) (s : State) (p a len : ℕ) → Keeps k s → is_some (areas_of k.spaces p) ≡ true → (not (is_on_page a) || len == 0 || nat_lt top (a + len)) ≡ true → refusal (tests (setting (count k)) s.world s.ledger (Munmap p a len)) ≡ Some Einval
+munmap-refused k s p a len keeps alive none = lived k s p keeps alive (cond (not (is_on_page a) || len == 0 || nat_lt top (a + len)) (Some Einval) None) ∙ ap (λ b. cond b (Some Einval) None) none
+
+pub mprotect-refused : (k : Mem) (s : State) (p a len : ℕ) (prot : Prot) (error : Errno) → Keeps k s → is_some (areas_of k.spaces p) ≡ true → refusal (protect_tests a len) ≡ Some error → refusal (tests (setting (count k)) s.world s.ledger (Mprotect p a len prot)) ≡ Some error
+mprotect-refused k s p a len prot error keeps alive is = lived k s p keeps alive (refusal (protect_tests a len)) ∙ is
+
+module _ (k : Mem) (s : State) (p len : ℕ) (prot : Prot) (place : Place) (keeps : Keeps k s) (alive : is_some (areas_of k.spaces p) ≡ true) where
+  pub mmap-tests-first : (len == 0) ≡ true → refusal (tests (setting (count k)) s.world s.ledger (Mmap p len prot place)) ≡ Some Einval
+  mmap-tests-first none = lived k s p keeps alive _ ∙ ap (λ b. cond b (Some Einval) (cond (is_too_long len) (Some Enomem) (refusal (place_tests (pages s.world p) (pages_of len) place)))) none
+
+  pub mmap-tests-second : (len == 0) ≡ false → is_too_long len ≡ true → refusal (tests (setting (count k)) s.world s.ledger (Mmap p len prot place)) ≡ Some Enomem
+  mmap-tests-second some long = lived k s p keeps alive _ ∙ ap (λ b. cond b (Some Einval) (cond (is_too_long len) (Some Enomem) (refusal (place_tests (pages s.world p) (pages_of len) place)))) some
+      ∙ ap (λ b. cond b (Some Enomem) (refusal (place_tests (pages s.world p) (pages_of len) place))) long
+
+-- ---- munmap
+
+module _ (old new : Mem) (s : State) (p a len : ℕ) (keeps : Keeps old s) (alive : is_some (ranges_of old.spaces p) ≡ true) (valid : (not (is_on_page a) || len == 0 || nat_lt top (a + len)) ≡ false)
+    (same_count : count new ≡ count old) (cleared : AreCleared old new p (page_of a) (pages_of len) s.ledger (zaps_of s.ledger (keys_in s.ledger p (page_of a) (pages_of len)))) where
+  munmap-allowed : refusal (tests (setting (count old)) s.world s.ledger (Munmap p a len)) ≡ None
+  munmap-allowed = ap (λ b. cond (not b) (Some Esrch) (cond (not (is_on_page a) || len == 0 || nat_lt top (a + len)) (Some Einval) None)) (sym (keeps.stands.parts.areas.alive p) ∙ alive) ∙ ap (λ b. cond b (Some Einval) None) valid
+
+  pub munmap-steps : MemSteps old new s (Munmap p a len) (answered Done)
+  munmap-steps =
+      let events = zaps_of s.ledger (keys_in s.ledger p (page_of a) (pages_of len)) in
+      replaced-steps old new s (Munmap p a len) (answered Done) p (page_of a) (pages_of len) None events keeps alive same_count cleared.taken (λ q at. entry-range s.ledger p (page_of a) (pages_of len) q at) tt cleared.spaces cleared.processes cleared.bytes
+      (record {
+        answer = subst (λ o. MatchOption o (Follows (setting (count old)) s.world s.ledger (Munmap p a len) events Done []) (λ e. Refuses e events Done [])) (sym munmap-allowed) (refl, refl, refl);
+        notes = sym cleared.taken.notes;
+      })
+      refl
+
+-- ---- mmap
+
+module _ (old : Mem) (s : State) (p len : ℕ) (prot : Prot) (place : Place) (keeps : Keeps old s) (alive : is_some (ranges_of old.spaces p) ≡ true) (some : (len == 0) ≡ false) (fits : is_too_long len ≡ false) where
+  -- the tests of its place are left
+  mmap-tests : refusal (tests (setting (count old)) s.world s.ledger (Mmap p len prot place)) ≡ refusal (place_tests (pages s.world p) (pages_of len) place)
+  mmap-tests = ap (λ b. cond (not b) (Some Esrch) (cond (len == 0) (Some Einval) (cond (is_too_long len) (Some Enomem) (refusal (place_tests (pages s.world p) (pages_of len) place))))) (sym (keeps.stands.parts.areas.alive p) ∙ alive)
+      ∙ ap (λ b. cond b (Some Einval) (cond (is_too_long len) (Some Enomem) (refusal (place_tests (pages s.world p) (pages_of len) place)))) some ∙ ap (λ b. cond b (Some Enomem) (refusal (place_tests (pages s.world p) (pages_of len) place))) fits
+
+  -- the pages go nowhere
+  pub mmap-refused : (error : Errno) → IsPlaced (pages s.world p) (pages_of len) place (Err error) → MemSteps old old s (Mmap p len prot place) (answered (Refused error))
+  mmap-refused error (inl is) = refused old s (Mmap p len prot place) error keeps (mmap-tests ∙ is)
+  mmap-refused error (inr h) = record {
+    next = s;
+    step = record {
+      events = [];
+      legal = record {
+        answer = subst (λ o. MatchOption o (Follows (setting (count old)) s.world s.ledger (Mmap p len prot place) [] (Refused error) []) (λ e. Refuses e [] (Refused error) [])) (sym (mmap-tests ∙ h.0))
+            (None, h.1, ap Refused h.2, sym (none_cleared_for place h.1), refl);
+        notes = refl;
+      };
+      world = refl;
+      ledger = refl;
+      free = refl;
+    };
+    keeps = keeps;
+  }
+    where
+      none_cleared_for : (x : Place) → Goes (pages s.world p) (pages_of len) x None → zaps_for_place s.ledger p (pages_of len) x ≡ []
+      none_cleared_for Auto goes = refl
+      none_cleared_for (At a) goes = refl
+      none_cleared_for (Fixed a) goes = cc
+      none_cleared_for (NoReplace a) goes = cc
+
+  -- pages that are not mapped have no entries
+  unmapped : (page n q at : ℕ) → IsFree (is_taken old.spaces p) page (page + n) → entry s.ledger (q, at) ≡ cond (q == p && within page n at) None (entry s.ledger (q, at))
+  unmapped page n q at free = by (q == p) (within page n at) refl refl (entry s.ledger (q, at)) refl
+    where
+      by : (b c : Bool) → (q == p) ≡ b → within page n at ≡ c → (o : Option Entry) → entry s.ledger (q, at) ≡ o → o ≡ cond (b && c) None o
+      by false c e f o is = refl
+      by true false e f o is = refl
+      by true true e f None is = refl
+      by true true e f (Some x) is =
+          let there = keeps.stands.sound.at_pages p at (ap is_some (ap (λ n. entry s.ledger (n, at)) (sym (is_number q p e)) ∙ is)) in
+          let low : page ≤ at = grind (arith, nat_tests, f) in
+          let high : at < page + n = grind (arith, nat_tests, f) in
+          absurd (false≢true (sym (free at low high) ∙ taken_is old s p keeps at ∙ there))
+
+  -- what is cleared are the entries of the pages
+  entry-cleared : (x : Place) (page n q at : ℕ) → AreToClear (is_taken old.spaces p) page n x → entry (after_all s.ledger (zaps_for_place s.ledger p n x)) (q, at) ≡ cond (q == p && within page n at) None (entry s.ledger (q, at))
+  entry-cleared Auto page n q at free = unmapped page n q at free
+  entry-cleared (At a) page n q at free = unmapped page n q at free
+  entry-cleared (Fixed a) page n q at there = entry-range s.ledger p (page_of a) n q at ∙ ap (λ x. cond (q == p && within x n at) None (entry s.ledger (q, at))) (sym there)
+  entry-cleared (NoReplace a) page n q at free = unmapped page n q at free
+
+  module _ (mid : Mem) (spaces : Spaces) (page : ℕ) (placed : IsPlaced (pages s.world p) (pages_of len) place (Ok page)) (clear : AreToClear (is_taken old.spaces p) page (pages_of len) place)
+      (same_count : count mid ≡ count old) (cleared : AreCleared old mid p page (pages_of len) s.ledger (zaps_for_place s.ledger p (pages_of len) place))
+      (mapped : HasProts mid.spaces spaces p (set_on page (pages_of len) (Some prot) (prot_of (ranges_of mid.spaces p)))) where
+    pub mmap-steps : MemSteps old (moved_on mid mid.tables spaces) s (Mmap p len prot place) (answered (MapAt (address_of page)))
+    mmap-steps =
+        let events = zaps_for_place s.ledger p (pages_of len) place in
+        let t = cleared.taken in
+        replaced-steps old (moved_on mid mid.tables spaces) s (Mmap p len prot place) (answered (MapAt (address_of page))) p page (pages_of len) (Some (zeros prot)) events keeps alive same_count
+        (record { stands = stays_orderly mid mid.tables spaces (after_all s.ledger events) refl t.stands; notes = t.notes; free = t.free })
+        (λ q at. entry-cleared place page (pages_of len) q at clear) (λ i below. refl) (twice_changed old.spaces mid.spaces spaces p page (pages_of len) None (Some prot) cleared.spaces mapped) cleared.processes cleared.bytes
+        (record {
+          answer = subst (λ o. MatchOption o (Follows (setting (count old)) s.world s.ledger (Mmap p len prot place) events (MapAt (address_of page)) []) (λ e. Refuses e events (MapAt (address_of page)) [])) (sym (mmap-tests ∙ placed.0))
+              (Some page, placed.1, refl, refl, refl);
+          notes = sym t.notes;
+        })
+        (ap (λ x. set_process s.world p (with_pages (pages s.world p) x (pages_of len) (λ _. Some (zeros prot)))) (sym (page_back page)))
+
+-- ---- mprotect
+
+module _ (old : Mem) (spaces : Spaces) (s : State) (p a len reached : ℕ) (prot : Prot) (keeps : Keeps old s) (alive : is_some (ranges_of old.spaces p) ≡ true) (passed : refusal ((not (is_on_page a), Einval) ∷ (wraps a len, Enomem) ∷ []) ≡ None)
+    (reaches : IsReached (is_taken old.spaces p) (page_of a) (page_of a + pages_of len) reached) (given : HasProts old.spaces spaces p (set_on (page_of a) (reached - page_of a) (Some prot) (prot_of (ranges_of old.spaces p)))) where
+  mprotect-allowed : refusal (tests (setting (count old)) s.world s.ledger (Mprotect p a len prot)) ≡ None
+  mprotect-allowed = ap (λ b. cond (not b) (Some Esrch) (refusal ((not (is_on_page a), Einval) ∷ (wraps a len, Enomem) ∷ []))) (sym (keeps.stands.parts.areas.alive p) ∙ alive) ∙ passed
+
+  in_reach : wraps a len ≡ false
+  in_reach = by (is_on_page a) (wraps a len) passed
+    where
+      by : (b c : Bool) → cond (not b) (Some Einval) (cond c (Some Enomem) None) ≡ None → c ≡ false
+      by false c h = cc
+      by true true h = cc
+      by true false h = refl
+
+  -- so many pages are mapped before the first that isn't
+  leads : pages_to_hole (pages s.world p) (page_of a) (pages_of len) ≡ reached - page_of a
+  leads = is-pages_to_hole (pages s.world p) (page_of a) (pages_of len) (reached - page_of a) (record {
+    most = let high = reaches.highest in omega (arith, high);
+    mapped = λ page low high. sym (taken_is old s p keeps page) ∙ reaches.all page low (let least = reaches.lowest in omega (arith, high, least));
+    ends = λ less. let least = reaches.lowest in
+        let end : page_of a + (reached - page_of a) ≡ reached = omega (arith, least) in
+        ap (is_mapped (pages s.world p)) end ∙ sym (taken_is old s p keeps reached) ∙ reaches.end (omega (arith, less, least));
+  })
+
+  -- the protection is that of the pages, and their bytes are as they were
+  covered-protected : (page : ℕ) → set_on (page_of a) (reached - page_of a) (Some prot) (prot_of (ranges_of old.spaces p)) page ≡ option_map (λ (x : Page). x.prot) (with_prot_on (pages s.world p) (page_of a) (reached - page_of a) prot page)
+  covered-protected page = by (within (page_of a) (reached - page_of a) page) refl
+    where
+      there : (o : Option Page) → is_some o ≡ true → Some prot ≡ option_map (λ (x : Page). x.prot) (option_map (with_prot prot) o)
+      there None e = cc
+      there (Some x) e = refl
+
+      by : (b : Bool) → within (page_of a) (reached - page_of a) page ≡ b → cond b (Some prot) (prot_of (ranges_of old.spaces p) page) ≡ option_map (λ (x : Page). x.prot) (cond b (option_map (with_prot prot) (pages s.world p page)) (pages s.world p page))
+      by true e =
+          let low : page_of a ≤ page = grind (arith, nat_tests, e) in
+          let high : page < page_of a + (reached - page_of a) = grind (arith, nat_tests, e) in
+          there (pages s.world p page) (sym (taken_is old s p keeps page) ∙ reaches.all page low (let least = reaches.lowest in omega (arith, high, least)))
+      by false e = keeps.stands.parts.areas.covers p page
+
+  kept-protected : (page : ℕ) → IsKept (view old) no_device s.ledger (entry s.ledger (p, page)) (with_prot_on (pages s.world p) (page_of a) (reached - page_of a) prot page)
+  kept-protected page = by (within (page_of a) (reached - page_of a) page)
+    where
+      held : (o : Option Page) (at : ℕ → ℕ) → Holds o at → Holds (option_map (with_prot prot) o) at
+      held None at h = h
+      held (Some x) at h = h
+
+      kept : (e : Option Entry) (o : Option Page) → IsKept (view old) no_device s.ledger e o → IsKept (view old) no_device s.ledger e (option_map (with_prot prot) o)
+      kept None o h = held o (λ _. 0) h
+      kept (Some Zero) o h = held o (λ _. 0) h
+      kept (Some (InFrame f seen)) o h = held o ((view old).bytes f) h
+      kept (Some (InSlot t)) o h = at (frame_at s.ledger t) h
+        where
+          at : (f : Option ℕ) → IsKeptAt (view old) no_device t o f → IsKeptAt (view old) no_device t (option_map (with_prot prot) o) f
+          at None h = held o (slice_index []) h
+          at (Some f) h = held o ((view old).bytes f) h
+
+      by : (b : Bool) → IsKept (view old) no_device s.ledger (entry s.ledger (p, page)) (cond b (option_map (with_prot prot) (pages s.world p page)) (pages s.world p page))
+      by true = kept (entry s.ledger (p, page)) (pages s.world p page) (keeps.stands.parts.bytes.kept p page)
+      by false = keeps.stands.parts.bytes.kept p page
+
+  protected-steps : (answer : Answer) → answer ≡ (cond (pages_to_hole (pages s.world p) (page_of a) (pages_of len) == pages_of len) Done (Refused Enomem))
+      → set_process s.world p (with_prot_on (pages s.world p) (page_of a) (reached - page_of a) prot) ≡ next_world (setting (count old)) s.world s.ledger [] (Mprotect p a len prot) answer
+      → MemSteps old (moved_on old old.tables spaces) s (Mprotect p a len prot) (answered answer)
+  protected-steps answer is world =
+      let now : Process = with_prot_on (pages s.world p) (page_of a) (reached - page_of a) prot in
+      let new = moved_on old old.tables spaces in
+      changed old new s (Mprotect p a len prot) (answered answer) p now s.ledger keeps refl (stays_orderly old old.tables spaces s.ledger refl (orderly old s keeps)) refl (λ q page other. refl) kept-protected
+      (record {
+        events = [];
+        legal = record {
+          answer = subst (λ o. MatchOption o (Follows (setting (count old)) s.world s.ledger (Mprotect p a len prot) [] answer []) (λ e. Refuses e [] answer [])) (sym mprotect-allowed) (is, refl, refl);
+          notes = refl;
+        };
+        world = world;
+        ledger = refl;
+        free = keeps.stands.free;
+      })
+      (areas_changed old new s p now (set_on (page_of a) (reached - page_of a) (Some prot) (prot_of (ranges_of old.spaces p))) keeps alive given covered-protected)
+      (tables_kept old new s p now (set_on (page_of a) (reached - page_of a) (Some prot) (prot_of (ranges_of old.spaces p))) keeps alive given covered-protected refl)
+
+  -- all pages were mapped
+  pub mprotect-steps : page_of a + pages_of len ≤ reached → MemSteps old (moved_on old old.tables spaces) s (Mprotect p a len prot) (answered Done)
+  mprotect-steps whole =
+      let high = reaches.highest in
+      let size : reached - page_of a ≡ pages_of len = omega (arith, whole, high) in
+      protected-steps Done (sym (ap (λ b. cond b Done (Refused Enomem)) (equal _ _ (leads ∙ size)))) (ap (λ k. set_process s.world p (with_prot_on (pages s.world p) (page_of a) k prot)) size)
+    where
+      equal : (k n : ℕ) → k ≡ n → (k == n) ≡ true
+      equal k n e = grind (arith, nat_tests, e)
+
+  -- a page before the end was not
+  pub mprotect-stops : reached < page_of a + pages_of len → MemSteps old (moved_on old old.tables spaces) s (Mprotect p a len prot) (answered (Refused Enomem))
+  mprotect-stops less =
+      let low = reaches.lowest in
+      let fewer : reached - page_of a < pages_of len = omega (arith, less, low) in
+      protected-steps (Refused Enomem) (sym (ap (λ b. cond b Done (Refused Enomem)) (differ _ _ _ leads fewer)))
+      (ap (λ k. set_process s.world p (with_prot_on (pages s.world p) (page_of a) k prot)) (sym leads) ∙ sym (ap (λ b. cond b s.world (with_prot_to_hole s.world p (page_of a) (pages_of len) prot)) in_reach))
+    where
+      differ : (k m n : ℕ) → k ≡ m → m < n → (k == n) ≡ false
+      differ k m n e h = grind (arith, nat_tests, e, h)

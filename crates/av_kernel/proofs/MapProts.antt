@@ -1,0 +1,189 @@
+-- The protections of a process's pages after its areas were mapped, cut or protected.
+use Rattle.std.proofs.Common.{◌≡◌, ℕ, ◌+◌, ◌-◌, ◌*◌, ◌/◌, ◌<◌, ◌≤◌, Bool, true, false, cond, List, Option, Some, None, is_some, option_map, refl, sym, ap, subst, ◌∙◌, arith}
+use Rattle.std.proofs.lemmas.Bool.Decides.{nat_tests}
+use Rattle.std.proofs.lemmas.Bool.{false≢true}
+use Rattle.std.proofs.lemmas.Option.{none-some, same_Some}
+use Rattle.std.specs.Prelude.{map}
+use Rattle.av_base.specs.declared.prot.Prot.{Prot}
+use Rattle.av_base.specs.Limits.{low_page, top_page}
+use Rattle.av_base.specs.Words.{within}
+use Rattle.av_vma.specs.declared.area.Area.{Area}
+use Rattle.av_vmatree.specs.Spans.{IsFree}
+use Rattle.av_vma.specs.Pages.{AreLaid, Pages, has_page, cut_at, emptied, placed, joined_around, fresh_area, IsWhole, mapped, unmapped, pages_changed, to_prot}
+use Rattle.av_merge.specs.Mapping.{Mapping, mapping, mapping_in, remapped, IsRemapped}
+use Rattle.av_merge.specs.Pages.{IsReached}
+use Rattle.av_merge.proofs.Mappings.{around_maps, cut_out_maps, placed_maps}
+use Rattle.av_spaces.specs.Spaces.{Spaces, pages_of, is_taken, AreThese, IsChanged}
+use Rattle.av_spaces.proofs.Rising.{laid}
+use Rattle.av_plain.specs.Stands.{prot_of}
+use Rattle.av_reclaim.specs.Mem.{range_of, ranges_of}
+use Rattle.av_reclaim.proofs.MemLaws.{prot_on, alive_is, prots_are, all_apart}
+use Rattle.av_kernel.specs.Map.{set_on, HasProts}
+
+-- the protections of pages
+abbrev pub prots_on : Pages → ℕ → Option Prot
+prots_on on page = option_map prot_on (on page)
+
+-- whether a page has an area
+abbrev has_area : Pages → ℕ → Bool
+has_area on page = is_some (on page)
+
+-- a page that is not taken has no area
+free_none : (on : Pages) (page : ℕ) → has_area on page ≡ false → on page ≡ None
+free_none on page h = each (on page) h
+  where
+    each : (o : Option Area) → is_some o ≡ false → o ≡ None
+    each None h = refl
+    each (Some area) h = cc
+
+abbrev prot_mapped : Mapping → Prot
+prot_mapped m = m.prot
+
+-- a page's protection is part of how it is mapped
+prots_mapped : (on : Pages) (page : ℕ) → prots_on on page ≡ option_map prot_mapped (mapping on page)
+prots_mapped on page = by (on page)
+  where
+    by : (o : Option Area) → option_map prot_on o ≡ option_map prot_mapped (option_map (mapping_in page) o)
+    by None = refl
+    by (Some area) = refl
+
+same_mapping : (on on' : Pages) (page : ℕ) → mapping on page ≡ mapping on' page → prots_on on page ≡ prots_on on' page
+same_mapping on on' page same = prots_mapped on page ∙ ap (option_map prot_mapped) same ∙ sym (prots_mapped on' page)
+
+many : (from n : ℕ) → (from + n) - from ≡ n
+many from n = omega arith
+
+-- ---- unmap
+
+prots_cut : (on : Pages) (from n : ℕ) (new : Pages) → AreLaid on
+    → ((page : ℕ) → new page ≡ emptied from (from + n) (cut_at (from + n) (cut_at from on)) page)
+    → (page : ℕ) → prots_on new page ≡ set_on from n None (prots_on on) page
+prots_cut on from n new laid is page =
+    prots_mapped new page
+    ∙ ap (option_map prot_mapped) (ap (option_map (mapping_in page)) (is page) ∙ cut_out_maps from (from + n) on laid page ∙ ap (λ k. cond (within from k page) None (mapping on page)) (many from n))
+    ∙ elim (within from n page) as (λ b. option_map prot_mapped (cond b None (mapping on page)) ≡ cond b None (prots_on on page)) [
+      | true ↦ refl
+      | false ↦ sym (prots_mapped on page)
+    ]
+
+-- ---- protect
+
+prots_protected : (on : Pages) (from to past : ℕ) (prot : Prot) (new : Pages) → IsReached (has_area on) from to past
+    → IsRemapped from past (to_prot prot) on new
+    → (page : ℕ) → prots_on new page ≡ set_on from (past - from) (Some prot) (prots_on on) page
+prots_protected on from to past prot new reached is page =
+    prots_mapped new page ∙ ap (option_map prot_mapped) (is page) ∙ by (within from (past - from) page) refl
+  where
+    lower : (from n page : ℕ) → within from n page ≡ true → from ≤ page
+    lower from n page h = grind (arith, nat_tests)
+
+    upper : (from past page : ℕ) → within from (past - from) page ≡ true → page < past
+    upper from past page h = grind (arith, nat_tests)
+
+    there : (o : Option Area) → is_some o ≡ true → option_map prot_mapped (option_map (remapped (to_prot prot)) (option_map (mapping_in page) o)) ≡ Some prot
+    there None h = absurd (false≢true h)
+    there (Some area) h = refl
+
+    by : (b : Bool) → within from (past - from) page ≡ b
+        → option_map prot_mapped (cond b (option_map (remapped (to_prot prot)) (mapping on page)) (mapping on page)) ≡ cond b (Some prot) (prots_on on page)
+    by true e = there (on page) (reached.all page (lower from (past - from) page e) (upper from past page e))
+    by false e = sym (prots_mapped on page)
+
+-- ---- map
+
+-- an area on pages that were free
+laid_placed : (area : Area) (on : Pages) → AreLaid on → IsWhole area → ((page : ℕ) → has_page area page ≡ true → on page ≡ None) → AreLaid (placed area on)
+laid_placed area on laid whole free = record {
+  whole = λ page a. by_whole page a (has_page area page);
+  here = λ page a. by_here page a (has_page area page) refl;
+  all = λ page other a. by_all page other a (has_page area page) refl;
+}
+  where
+    by_whole : (page : ℕ) (a : Area) (b : Bool) → cond b (Some area) (on page) ≡ Some a → IsWhole a
+    by_whole page a true is = subst IsWhole (same_Some area a is) whole
+    by_whole page a false is = laid.whole page a is
+
+    by_here : (page : ℕ) (a : Area) (b : Bool) → has_page area page ≡ b → cond b (Some area) (on page) ≡ Some a → has_page a page ≡ true
+    by_here page a true e is = subst (λ (a : Area). has_page a page ≡ true) (same_Some area a is) e
+    by_here page a false e is = laid.here page a is
+
+    of_other : (other : ℕ) (a : Area) (b : Bool) → has_page area other ≡ b → on other ≡ Some a → cond b (Some area) (on other) ≡ Some a
+    of_other other a true e is = absurd (none-some a (sym (free other e) ∙ is))
+    of_other other a false e is = is
+
+    by_all : (page other : ℕ) (a : Area) (b : Bool) → has_page area page ≡ b → cond b (Some area) (on page) ≡ Some a → has_page a other ≡ true → placed area on other ≡ Some a
+    by_all page other a true e is has =
+        let same = same_Some area a is in
+        ap (λ b. cond b (Some area) (on other)) (subst (λ (a : Area). has_page a other ≡ true) (sym same) has) ∙ ap Some same
+    by_all page other a false e is has = of_other other a (has_page area other) refl (laid.all page other a is has)
+
+fresh_whole : (p from n : ℕ) (prot : Prot) → 1 ≤ n → low_page ≤ from → from + n ≤ top_page → IsWhole (fresh_area p from (from + n) prot)
+fresh_whole p from n prot some low high = record { start = omega arith; end = omega arith; some = omega arith; low = omega arith; high = omega arith; small = omega arith }
+
+fresh_has : (p from n : ℕ) (prot : Prot) (page : ℕ) → has_page (fresh_area p from (from + n) prot) page ≡ within from n page
+fresh_has p from n prot page = λ i. within (first i) (pages i) page
+  where
+    first : (4096 * from) / 4096 ≡ from
+    first = omega arith
+
+    pages : (4096 * (from + n)) / 4096 - (4096 * from) / 4096 ≡ n
+    pages = omega arith
+
+prots_placed : (p : ℕ) (on : Pages) (from n : ℕ) (prot : Prot) (new : Pages) → AreLaid on
+    → 1 ≤ n → low_page ≤ from → from + n ≤ top_page → IsFree (has_area on) from (from + n)
+    → ((page : ℕ) → new page ≡ joined_around from (from + n) (placed (fresh_area p from (from + n) prot) on) page)
+    → (page : ℕ) → prots_on new page ≡ set_on from n (Some prot) (prots_on on) page
+prots_placed p on from n prot new laid some low high free is page =
+    prots_mapped new page
+    ∙ ap (option_map prot_mapped) (
+    ap (option_map (mapping_in page)) (is page)
+    ∙ around_maps from (from + n) (placed fresh on) (laid_placed fresh on laid (fresh_whole p from n prot some low high) none) page
+    ∙ placed_maps fresh on page
+    ∙ ap (λ b. cond b (Some (mapping_in page fresh)) (mapping on page)) (fresh_has p from n prot page)
+    )
+    ∙ elim (within from n page) as (λ b. option_map prot_mapped (cond b (Some (mapping_in page fresh)) (mapping on page)) ≡ cond b (Some prot) (prots_on on page)) [
+      | true ↦ refl
+      | false ↦ sym (prots_mapped on page)
+    ]
+  where
+    fresh : Area
+    fresh = fresh_area p from (from + n) prot
+
+    lower : (from n page : ℕ) → within from n page ≡ true → from ≤ page
+    lower from n page h = grind (arith, nat_tests)
+
+    upper : (from n page : ℕ) → within from n page ≡ true → page < from + n
+    upper from n page h = grind (arith, nat_tests)
+
+    none : (page : ℕ) → has_page (fresh_area p from (from + n) prot) page ≡ true → on page ≡ None
+    none page has =
+        let e = sym (fresh_has p from n prot page) ∙ has in
+        free_none on page (free page (lower from n page e) (upper from n page e))
+
+-- ---- what the spaces promise, as protections
+
+has_prots : (s t : Spaces) (p : ℕ) (IsSo : Pages → Type 0) (prots : ℕ → Option Prot) → IsChanged s t p IsSo → ((page : ℕ) → prots_on (pages_of t p) page ≡ prots page) → HasProts s t p prots
+has_prots s t p IsSo prots h is = record {
+  others = λ q other. ap (option_map (map range_of)) (h.others q other);
+  alive = alive_is t p ∙ h.alive;
+  pages = λ page. prots_are t p page ∙ is page;
+  number = h.number;
+  apart = all_apart t h.rising;
+}
+
+as_ranges : (s : Spaces) (p from n page : ℕ) (prot : Option Prot) → set_on from n prot (prots_on (pages_of s p)) page ≡ set_on from n prot (prot_of (ranges_of s p)) page
+as_ranges s p from n page prot = ap (cond (within from n page) prot) (sym (prots_are s p page))
+
+pub unmapped-prots : (s t : Spaces) (p from n : ℕ) → IsChanged s t p (AreThese (unmapped from (from + n) (pages_of s p))) → HasProts s t p (set_on from n None (prot_of (ranges_of s p)))
+unmapped-prots s t p from n h = has_prots s t p (AreThese (unmapped from (from + n) (pages_of s p))) (set_on from n None (prot_of (ranges_of s p))) h
+    (λ page. prots_cut (pages_of s p) from n (pages_of t p) (laid s p h.were_rising) h.pages page ∙ as_ranges s p from n page None)
+
+pub mapped-prots : (s t : Spaces) (p from n : ℕ) (prot : Prot) → 1 ≤ n → low_page ≤ from → from + n ≤ top_page → IsFree (is_taken s p) from (from + n)
+    → IsChanged s t p (AreThese (mapped p from (from + n) prot (pages_of s p))) → HasProts s t p (set_on from n (Some prot) (prot_of (ranges_of s p)))
+mapped-prots s t p from n prot some low high free h = has_prots s t p (AreThese (mapped p from (from + n) prot (pages_of s p))) (set_on from n (Some prot) (prot_of (ranges_of s p))) h
+    (λ page. prots_placed p (pages_of s p) from n prot (pages_of t p) (laid s p h.were_rising) some low high free h.pages page ∙ as_ranges s p from n page (Some prot))
+
+pub protected-prots : (s t : Spaces) (p from to past : ℕ) (prot : Prot) → IsReached (is_taken s p) from to past → IsChanged s t p (AreThese (pages_changed (to_prot prot) from (past - from) (pages_of s p))) → IsRemapped from past (to_prot prot) (pages_of s p) (pages_of t p)
+    → HasProts s t p (set_on from (past - from) (Some prot) (prot_of (ranges_of s p)))
+protected-prots s t p from to past prot reached h mapped = has_prots s t p (AreThese (pages_changed (to_prot prot) from (past - from) (pages_of s p))) (set_on from (past - from) (Some prot) (prot_of (ranges_of s p))) h
+    (λ page. prots_protected (pages_of s p) from to past prot (pages_of t p) reached mapped page ∙ as_ranges s p from (past - from) page (Some prot))

@@ -1,0 +1,156 @@
+-- A page that has been touched, and then read or written, or not served: what the kernel stands for after it.
+use Rattle.std.proofs.Common.{◌≡◌, ℕ, ◌+◌, ◌*◌, ◌/◌, ◌%◌, ◌<◌, ◌≤◌, Bool, true, false, cond, not, List, [], ◌∷◌, map, length, Option, Some, None, inl, inr, refl, sym, ap, subst, ◌∙◌, arith, ◌==◌, is_some, append-nil, if◌then◌else◌}
+use Rattle.std.proofs.lemmas.Bool.Decides.{nat_tests}
+use Rattle.av_base.specs.Words.{numbers, with_at}
+use Rattle.av_frames.specs.Store.{Seen, seen, overlaid}
+use Rattle.av_trace.specs.declared.note.Note.{Note}
+use Rattle.av_trace.specs.declared.reply.Errno.TheVariants.{Esrch}
+use Rattle.av_trace.specs.declared.reply.Answer.TheVariants.{Done}
+use Rattle.av_trace.specs.declared.command.Command.TheVariants.{Write}
+use Rattle.av_pagetable.specs.Entries.{entry_at, has}
+use Rattle.av_plain.specs.World.{World, lives, pages, with_bytes, set_process}
+use Rattle.av_base.specs.Page.{page_of, pages_of}
+use Rattle.av_plain.specs.Ledger.{Ledger, Setting, SwapArea, InFrame, map_count, names_frame}
+use Rattle.av_plain.specs.Event.{after_all}
+use Rattle.av_plain.specs.Access.{Accesses, End, Stopped as EndStopped, Whole, page_events, pages_of_access, after_write}
+use Rattle.av_plain.specs.Fault as faults
+use Rattle.av_plain.specs.Fault.{Touches}
+use Rattle.av_plain.specs.Sound.{AllSound}
+use Rattle.av_plain.specs.Choice.{ChoosesAll}
+use Rattle.av_plain.specs.Transcript.{State}
+use Rattle.av_plain.proofs.Ledger.{how_many-found}
+use Rattle.av_plain.proofs.Ledger.NoSwap.{itself}
+use Rattle.av_plain.proofs.Sound.Access.{accesses-kept}
+use Rattle.av_plain.proofs.Sound.Pages.{accesses-at}
+use Rattle.av_plain.proofs.Sound.There.{there-accesses}
+use Rattle.av_plain.proofs.Sound.{follows-sound}
+use Rattle.av_reclaim.specs.declared.mem.Mem.{Mem}
+use Rattle.av_fault.specs.declared.fault.Stop.{Stop}
+use Rattle.av_fault.specs.declared.fault.Touched.{Touched}
+use Rattle.av_fault.specs.declared.fault.Touched.TheVariants.{Ready, Stopped}
+use Rattle.av_reclaim.specs.Mem.{ranges_of, setting, count, plain, view, joined, Keeps, KeepsWithin}
+use Rattle.av_fault.specs.Fault.{IsTouched, end_of, stop_of}
+use Rattle.av_kernel.specs.Page.{IsPageStep, world_after}
+use Rattle.av_fault.proofs.FaultParts.{Parts, of_stand, to_stand}
+use Rattle.av_kernel.proofs.PageWritten.{over, written_now, stored_is}
+
+-- ---- soundness
+
+-- the page of a piece that ends within it
+one_page : (write : Bool) (page at n : ℕ) → 1 ≤ n → at + n ≤ 4096 → pages_of_access write (4096 * page + at) n ≡ (write, page) ∷ []
+one_page write page at n some fits =
+    ap (λ k. map (λ page. (write, page)) (numbers (page_of (4096 * page + at)) k)) (not_none ∙ one) ∙ ap (λ q. (write, q) ∷ []) (let q : (4096 * page + at) / 4096 ≡ page = omega (arith, some, fits) in q)
+  where
+    not_none : (if n == 0 then 0 else pages_of ((4096 * page + at) % 4096 + n)) ≡ pages_of ((4096 * page + at) % 4096 + n)
+    not_none = let other : (n == 0) ≡ false = grind (arith, nat_tests) in ap (λ b. cond b 0 (pages_of ((4096 * page + at) % 4096 + n))) other
+
+    one : pages_of ((4096 * page + at) % 4096 + n) ≡ 1
+    one = omega (arith, some, fits)
+
+-- where an access of one page ends
+abbrev end_at : ℕ → Option faults.Stop → End
+end_at page None = Whole
+end_at page (Some stop) = EndStopped page stop
+
+-- one page is a whole access
+accessed : (m : Setting) (w : World) (l : Ledger) (write : Bool) (p page : ℕ) (notes : List Note) (end : Option faults.Stop) → Touches m w l write (p, page) notes end
+    → Accesses m w l p ((write, page) ∷ []) (page_events write (p, page) notes end) (end_at page end)
+accessed m w l write p page notes None h = inl (notes, [], h, sym (append-nil (page_events write (p, page) notes None)), (refl, refl))
+accessed m w l write p page notes (Some stop) h = inr (notes, stop, h, refl, refl)
+
+pub sound_touched : (m : Setting) (w : World) (l : Ledger) (write : Bool) (p page : ℕ) (notes : List Note) (end : Option faults.Stop) → AllSound m w l → Touches m w l write (p, page) notes end
+    → AllSound m w (after_all l (page_events write (p, page) notes end))
+sound_touched m w l write p page notes end s h =
+    let access = accessed m w l write p page notes end h in
+    let events = page_events write (p, page) notes end in
+    record {
+      world = s.world;
+      ledger = accesses-kept m w l p ((write, page) ∷ []) events (end_at page end) s.ledger access;
+      at_pages = λ q o i. accesses-at m w l p ((write, page) ∷ []) events (end_at page end) (λ k j. s.at_pages k.0 k.1 j) access (q, o) i;
+      in_areas = there-accesses m w l p ((write, page) ∷ []) events (end_at page end) s.ledger s.in_areas access;
+    }
+
+sound_written : (n : ℕ) (w : World) (l : Ledger) (p page at : ℕ) (piece : List ℕ) (notes : List Note) → AllSound (setting n) w l → lives w p ≡ true → 1 ≤ length piece → at + length piece ≤ 4096
+    → Touches (setting n) w l true (p, page) notes None → AllSound (setting n) (after_write w p (4096 * page + at) piece) (after_all l (page_events true (p, page) notes None))
+sound_written n w l p page at piece notes s alive some fits h =
+    follows-sound (setting n) w l (Write p (4096 * page + at) piece) (page_events true (p, page) notes None) Done [] s (ap (λ b. cond (not b) (Some Esrch) None) alive)
+    (Whole, subst (λ ps. Accesses (setting n) w l p ps (page_events true (p, page) notes None) Whole) (sym (one_page true page at (length piece) some fits)) (accessed (setting n) w l true p page notes None h), refl, refl)
+
+-- ---- the kernel
+
+pub keeps_now : (k : Mem) (w : World) (l : Ledger) → KeepsWithin k w l → AllSound (setting (count k)) w l → Keeps k (record { world = w; ledger = l; free = (view k).free })
+keeps_now k w l h sound = record {
+  stands = record { over = record { sizes = refl; headers = refl }; sound = sound; parts = h.parts; free = refl };
+  tables = h.tables;
+}
+
+module _ (s : State) (old : Mem) (p page at : ℕ) (piece : List ℕ) (before now : List Note) (keeps : Keeps old s) where
+  -- the frame of a page that is ready is one of the machine's
+  pub frame_below : (new : Mem) (write : Bool) (f : ℕ) → count new ≡ count old → IsTouched s new write (p, page) before now (Ready f) → f < count new
+  frame_below new write f same t =
+      let l = after_all s.ledger (page_events write (p, page) t.added None) in
+      let sound = sound_touched (setting (count new)) s.world s.ledger write p page t.added None (subst (λ n. AllSound (setting n) s.world s.ledger) (sym same) keeps.stands.sound) t.touches in
+      let some : 0 < map_count l f = how_many-found (names_frame f) (p, page) l.entries (InFrame f true) t.ready.0 (itself f) in
+      sound.ledger.in_range f (omega (arith, some))
+
+  -- it was not served
+  pub stopped : (new : Mem) (write : Bool) (stop : Stop) → count new ≡ count old → IsTouched s new write (p, page) before now (Stopped stop) → IsPageStep s new write p page at piece before now (Some stop)
+  stopped new write stop same t = record {
+    added = t.added;
+    notes = t.notes;
+    touches = t.touches;
+    next = record { world = s.world; ledger = after_all s.ledger (page_events write (p, page) t.added (Some (stop_of stop))); free = (view new).free };
+    world = world_is write;
+    ledger = refl;
+    free = t.free;
+    keeps = keeps_now new s.world (after_all s.ledger (page_events write (p, page) t.added (Some (stop_of stop)))) t.parts
+        (sound_touched (setting (count new)) s.world s.ledger write p page t.added (Some (stop_of stop)) (subst (λ n. AllSound (setting n) s.world s.ledger) (sym same) keeps.stands.sound) t.touches);
+  }
+    where
+      world_is : (write : Bool) → s.world ≡ world_after write p page at piece (Some stop) s.world
+      world_is true = refl
+      world_is false = refl
+
+  -- it was served to a read
+  pub read_served : (new : Mem) (ready : Touched) → count new ≡ count old → end_of ready ≡ None → IsTouched s new false (p, page) before now ready → IsPageStep s new false p page at piece before now None
+  read_served new ready same served t =
+      let touches : Touches (setting (count new)) s.world s.ledger false (p, page) t.added None = subst (Touches (setting (count new)) s.world s.ledger false (p, page) t.added) served t.touches in
+      let after = ap (λ end. after_all s.ledger (page_events false (p, page) t.added end)) served in
+      record {
+        added = t.added;
+        notes = t.notes;
+        touches = touches;
+        next = record { world = s.world; ledger = after_all s.ledger (page_events false (p, page) t.added None); free = (view new).free };
+        world = refl;
+        ledger = refl;
+        free = subst (λ end. ChoosesAll (setting (count new)) s.ledger (page_events false (p, page) t.added end) s.free (view new).free) served t.free;
+        keeps = keeps_now new s.world (after_all s.ledger (page_events false (p, page) t.added None)) (subst (KeepsWithin new s.world) after t.parts)
+            (sound_touched (setting (count new)) s.world s.ledger false p page t.added None (subst (λ n. AllSound (setting n) s.world s.ledger) (sym same) keeps.stands.sound) touches);
+      }
+
+  -- it was served to a write, and then the piece was laid over the frame's bytes
+  pub written_served : (mid new : Mem) (f : ℕ) → count mid ≡ count old → lives s.world p ≡ true → 1 ≤ length piece → at + length piece ≤ 4096 → IsTouched s mid true (p, page) before now (Ready f)
+      → seen new.frames ≡ record (seen mid.frames) { bytes = with_at f (overlaid at piece ((seen mid.frames).bytes f)) (seen mid.frames).bytes } → new.tables ≡ mid.tables → new.spaces ≡ mid.spaces
+      → IsPageStep s new true p page at piece before now None
+  written_served mid new f same alive some fits t frames tables spaces =
+      let l = after_all s.ledger (page_events true (p, page) t.added None) in
+      let m = setting (count mid) in
+      let view_is : view new ≡ over f at piece (view mid) = λ i. joined (frames i) (λ q o. plain (entry_at (tables i) q o)) (spaces i) in
+      let sound = sound_written (count mid) s.world s.ledger p page at piece t.added (subst (λ n. AllSound (setting n) s.world s.ledger) (sym same) keeps.stands.sound) alive some fits t.touches in
+      let parts = written_now m (view mid) s.world l p page f true at piece (of_stand mid s.world l t.parts) keeps.stands.sound.world alive t.ready.0 (t.ready.1 refl) fits in
+      let parts' : Parts m (view new) (after_write s.world p (4096 * page + at) piece) l = subst (λ w. Parts m (view new) w l) (sym (stored_is s.world p (4096 * page + at) piece some)) (subst (λ v. Parts m v (set_process s.world p (with_bytes (pages s.world p) (4096 * page + at) piece)) l) (sym view_is) parts) in
+      let count_is : count mid ≡ count new = sym (ap (λ (s : Seen). s.count) frames) in
+      record {
+        added = t.added;
+        notes = t.notes;
+        touches = subst (λ n. Touches (setting n) s.world s.ledger true (p, page) t.added None) count_is t.touches;
+        next = record { world = after_write s.world p (4096 * page + at) piece; ledger = l; free = (view new).free };
+        world = refl;
+        ledger = refl;
+        free = subst (λ n. ChoosesAll (setting n) s.ledger (page_events true (p, page) t.added None) s.free (view new).free) count_is
+            (subst (ChoosesAll (setting (count mid)) s.ledger (page_events true (p, page) t.added None) s.free) (sym (ap (λ (s : Seen). s.free) frames)) t.free);
+        keeps = keeps_now new (after_write s.world p (4096 * page + at) piece) l
+            (to_stand new (after_write s.world p (4096 * page + at) piece) l (subst (λ n. Parts (setting n) (view new) (after_write s.world p (4096 * page + at) piece) l) count_is parts')
+            (λ q. ap (λ t. has t q) tables ∙ t.parts.tables q ∙ sym (ap (λ x. is_some (ranges_of x q)) spaces)))
+            (subst (λ n. AllSound (setting n) (after_write s.world p (4096 * page + at) piece) l) count_is sound);
+      }

@@ -1,0 +1,273 @@
+-- A process that comes, and one that ends: its entries, its table and its areas have gone, and nothing of the others.
+use Rattle.std.proofs.Common.{◌≡◌, ℕ, suc, ◌+◌, ◌<◌, ◌≤◌, nat_lt, nat_le, Bool, true, false, cond, not, T, List, [], ◌∷◌, length, Option, Some, None, is_some, option_map, refl, sym, ap, subst, ◌∙◌, arith, ◌==◌}
+use Rattle.std.proofs.lemmas.Bool.Decides.{nat_tests}
+use Rattle.std.proofs.lemmas.Bool.{false≢true}
+use Rattle.std.specs.Prelude.{MatchOption, map}
+use Rattle.std.specs.Ordering.{nat_cmp, is_eq, is_lt, eq_by_cmp}
+use Rattle.std.specs.FinMap.Entries.{is_sorted, below_all, find}
+use Rattle.av_base.specs.Limits.{most_processes}
+use Rattle.av_base.specs.Words.{with_at}
+use Rattle.av_trace.specs.declared.command.Command.TheVariants.{Spawn, Exit}
+use Rattle.av_trace.specs.declared.reply.Errno.TheVariants.{Esrch, Eagain, Eexist}
+use Rattle.av_trace.specs.declared.reply.Answer.TheVariants.{Done}
+use Rattle.av_pagetable.specs.declared.pte.Pte.{Pte}
+use Rattle.av_pagetable.specs.declared.pte.Pte.TheVariants.{Empty}
+use Rattle.av_pagetable.specs.Entries.{ProcessTables, entry_at, has}
+use Rattle.av_plain.specs.World.{World, Page, no_pages, lives, pages, set_process, end_process}
+use Rattle.av_plain.specs.Ledger.{Ledger, entry, names_frame}
+use Rattle.av_plain.specs.Event.{after_all}
+use Rattle.av_plain.specs.Fault.{is_shared}
+use Rattle.av_plain.specs.Zap.{keys_of_process, keys_in, zaps_of}
+use Rattle.av_plain.specs.Refusal.{tests, refusal, Refuses}
+use Rattle.av_plain.specs.Step.{Follows}
+use Rattle.av_plain.specs.Choice.{ChoosesAll}
+use Rattle.av_plain.specs.Device.{no_device}
+use Rattle.av_plain.specs.Stands.{Pte as Plain, IsKept, entry_of, prot_of, AreasStand, TablesStand}
+use Rattle.av_plain.specs.Transcript.{State, IsStep}
+use Rattle.av_plain.proofs.Ledger.Order.{both_first, both_second}
+use Rattle.av_plain.proofs.World.{pages-set, lives-set, length-set_new}
+use Rattle.av_plain.proofs.Zap.{entry-ended, entry-others}
+use Rattle.av_plain.proofs.Sound.Zap.{process-ended, pages-ended}
+use Rattle.av_reclaim.specs.declared.mem.Mem.{Mem}
+use Rattle.av_vma.specs.declared.area.Area.{Area}
+use Rattle.av_spaces.specs.Spaces.{Spaces, areas_of, IsSpawned, IsEnded}
+use Rattle.av_reclaim.specs.Mem.{range_of, ranges_of, setting, plain, view, count, HasTables, Keeps, HasLedger}
+use Rattle.av_kernel.specs.Step.{MemSteps, answered}
+use Rattle.av_reclaim.specs.Zap.{HasZapped}
+use Rattle.av_reclaim.proofs.MemLaws.{lives_is, all_apart, kept-nothing, no_cache}
+use Rattle.av_kernel.proofs.StepLaws.{is_number, orderly, moved_on, stays_orderly, state_after, changed, kept-on, stepped}
+
+-- ---- the ranges of a process that comes or goes
+
+ranges_spawned : (old new : Spaces) (p : ℕ) → IsSpawned old new p → (q : ℕ) → ranges_of new q ≡ cond (q == p) (Some []) (ranges_of old q)
+ranges_spawned old new p h q = ap (option_map (map range_of)) (h.areas q) ∙ by (q == p)
+  where
+    by : (b : Bool) → option_map (map range_of) (cond b (Some []) (areas_of old q)) ≡ cond b (Some []) (ranges_of old q)
+    by true = refl
+    by false = refl
+
+ranges_ended : (old new : Spaces) (p : ℕ) → IsEnded old new p → (q : ℕ) → ranges_of new q ≡ cond (q == p) None (ranges_of old q)
+ranges_ended old new p h q = ap (option_map (map range_of)) (h.areas q) ∙ by (q == p)
+  where
+    by : (b : Bool) → option_map (map range_of) (cond b None (areas_of old q)) ≡ cond b None (ranges_of old q)
+    by true = refl
+    by false = refl
+
+at_number : (q p : ℕ) → eq_by_cmp nat_cmp q p ≡ (q == p)
+at_number q p = grind (arith, nat_tests)
+
+-- ---- spawn
+
+-- a process that lives is refused, and so is one more than may live
+pub there_already : (k : Mem) (s : State) (p : ℕ) → Keeps k s → is_some (areas_of k.spaces p) ≡ true → refusal (tests (setting (count k)) s.world s.ledger (Spawn p)) ≡ Some Eexist
+there_already k s p keeps alive = ap (λ b. cond b (Some Eexist) (cond (nat_le most_processes (length s.world)) (Some Eagain) None)) (sym (lives_is k s keeps p) ∙ alive)
+
+pub too_many : (k : Mem) (s : State) (p : ℕ) → Keeps k s → is_some (areas_of k.spaces p) ≡ false → 4096 ≤ length k.spaces → refusal (tests (setting (count k)) s.world s.ledger (Spawn p)) ≡ Some Eagain
+too_many k s p keeps dead many =
+    ap (λ b. cond b (Some Eexist) (cond (nat_le most_processes (length s.world)) (Some Eagain) None)) (sym (lives_is k s keeps p) ∙ dead)
+    ∙ ap (λ b. cond b (Some Eagain) None) (at_least (length s.world) (let number = keeps.stands.parts.areas.number in omega (arith, many, number)))
+  where
+    at_least : (n : ℕ) → 4096 ≤ n → nat_le most_processes n ≡ true
+    at_least n h = grind (arith, nat_tests, h)
+
+-- a process that didn't live does now
+module _ (old : Mem) (tables : ProcessTables) (spaces : Spaces) (s : State) (p : ℕ) (keeps : Keeps old s)
+    (absent : is_some (ranges_of old.spaces p) ≡ false) (few : length old.spaces < 4096)
+    (entries : entry_at tables ≡ entry_at old.tables) (processes : has tables ≡ with_at p true (has old.tables)) (spawned : IsSpawned old.spaces spaces p) where
+  dead_before : lives s.world p ≡ false
+  dead_before = sym (keeps.stands.parts.areas.alive p) ∙ absent
+
+  few_live : nat_le most_processes (length s.world) ≡ false
+  few_live = let number = keeps.stands.parts.areas.number in let less : length s.world < 4096 = omega (arith, few, number) in not_le (length s.world) less
+    where
+      not_le : (n : ℕ) → n < 4096 → nat_le most_processes n ≡ false
+      not_le n h = grind (arith, nat_tests)
+
+  spawn-allowed : refusal (tests (setting (count old)) s.world s.ledger (Spawn p)) ≡ None
+  spawn-allowed = ap (λ b. cond b (Some Eexist) (cond (nat_le most_processes (length s.world)) (Some Eagain) None)) dead_before ∙ ap (λ b. cond b (Some Eagain) None) few_live
+
+  spawn-step : IsStep (setting (count old)) s (Spawn p) (answered Done) (state_after s p no_pages s.ledger (view old).free)
+  spawn-step = record {
+    events = [];
+    legal = record {
+      answer = subst (λ o. MatchOption o (Follows (setting (count old)) s.world s.ledger (Spawn p) [] Done []) (λ e. Refuses e [] Done [])) (sym spawn-allowed) (refl, refl, refl);
+      notes = refl;
+    };
+    world = refl;
+    ledger = refl;
+    free = keeps.stands.free;
+  }
+
+  spawn-alive : (q : ℕ) → is_some (ranges_of spaces q) ≡ lives (set_process s.world p no_pages) q
+  spawn-alive q = ap is_some (ranges_spawned old.spaces spaces p spawned q) ∙ by (q == p) refl ∙ sym (lives-set s.world p no_pages q ∙ ap (λ b. cond b true (lives s.world q)) (at_number q p))
+    where
+      by : (b : Bool) → (q == p) ≡ b → is_some (cond b (Some []) (ranges_of old.spaces q)) ≡ cond b true (lives s.world q)
+      by true e = refl
+      by false e = keeps.stands.parts.areas.alive q
+
+  spawn-areas : AreasStand (view (moved_on old tables spaces)) (set_process s.world p no_pages)
+  spawn-areas = record {
+    alive = spawn-alive;
+    number = spawned.number ∙ ap (λ n. n + 1) keeps.stands.parts.areas.number ∙ sym (length-set_new s.world p no_pages keeps.stands.sound.world.in_order dead_before);
+    apart = all_apart spaces spawned.rising;
+    covers = λ q page. ap (λ o. prot_of o page) (ranges_spawned old.spaces spaces p spawned q) ∙ by q page (q == p)
+        ∙ sym (ap (option_map (λ (x : Page). x.prot)) (pages-set s.world p no_pages q page ∙ ap (λ b. cond b None (pages s.world q page)) (at_number q p)));
+  }
+    where
+      by : (q page : ℕ) (b : Bool) → prot_of (cond b (Some []) (ranges_of old.spaces q)) page ≡ option_map (λ (x : Page). x.prot) (cond b None (pages s.world q page))
+      by q page true = refl
+      by q page false = keeps.stands.parts.areas.covers q page
+
+  spawn-tables : HasTables (moved_on old tables spaces)
+  spawn-tables q = ap (λ (h : ℕ → Bool). h q) processes ∙ by (q == p) ∙ sym (ap is_some (ranges_spawned old.spaces spaces p spawned q))
+    where
+      by : (b : Bool) → cond b true (has old.tables q) ≡ is_some (cond b (Some []) (ranges_of old.spaces q))
+      by true = refl
+      by false = keeps.tables q
+
+  pub spawned-steps : MemSteps old (moved_on old tables spaces) s (Spawn p) (answered Done)
+  spawned-steps = changed old (moved_on old tables spaces) s (Spawn p) (answered Done) p no_pages s.ledger keeps refl (stays_orderly old tables spaces s.ledger entries (orderly old s keeps)) refl
+      (λ q page other. refl) (λ page. kept-nothing (view old) s.ledger (entry s.ledger (p, page))) spawn-step spawn-areas spawn-tables
+
+-- ---- exit: the memories
+
+-- a process below all others takes away nothing of them
+none_ended : (p : ℕ) (w : World) → T (below_all nat_cmp p w) → end_process w p ≡ w
+none_ended p [] h = refl
+none_ended p (e ∷ w) h = ap (λ b. cond (not b) (e ∷ end_process w p) (end_process w p)) (other p e.0 (both_first (is_lt (nat_cmp p e.0)) (below_all nat_cmp p w) h)) ∙ ap (λ w. e ∷ w) (none_ended p w (both_second (is_lt (nat_cmp p e.0)) (below_all nat_cmp p w) h))
+  where
+    other : (p q : ℕ) → T (is_lt (nat_cmp p q)) → (q == p) ≡ false
+    other p q h = grind (arith, nat_tests, h)
+
+-- one process fewer lives
+length_ended : (w : World) (p : ℕ) → T (is_sorted nat_cmp w) → lives w p ≡ true → length (end_process w p) + 1 ≡ length w
+length_ended [] p sorted alive = absurd (false≢true alive)
+length_ended (e ∷ w) p sorted alive = by (e.0 == p) refl alive (λ alive. length_ended w p (both_second (below_all nat_cmp e.0 w) (is_sorted nat_cmp w) sorted) alive)
+  where
+    same : (q p : ℕ) → (q == p) ≡ true → q ≡ p
+    same q p h = grind (arith, nat_tests, h)
+
+    apart : (q p : ℕ) → (q == p) ≡ false → is_eq (nat_cmp p q) ≡ false
+    apart q p h = grind (arith, nat_tests, h)
+
+    longer : (n : ℕ) → n + 1 ≡ suc n
+    longer n = omega arith
+
+    one_more : (n m : ℕ) → n + 1 ≡ m → suc n + 1 ≡ suc m
+    one_more n m h = omega arith
+
+    by : (b : Bool) → (e.0 == p) ≡ b → lives (e ∷ w) p ≡ true → (lives w p ≡ true → length (end_process w p) + 1 ≡ length w)
+        → length (cond (not b) (e ∷ end_process w p) (end_process w p)) + 1 ≡ suc (length w)
+    by true is alive rest =
+        ap (λ w. length w + 1) (none_ended p w (subst (λ q. T (below_all nat_cmp q w)) (same e.0 p is) (both_first (below_all nat_cmp e.0 w) (is_sorted nat_cmp w) sorted))) ∙ longer (length w)
+    by false is alive rest = one_more (length (end_process w p)) (length w) (rest (sym (ap (λ b. is_some (cond b (Some e.1) (find nat_cmp p w))) (apart e.0 p is)) ∙ alive))
+
+lives-ended : (w : World) (p q : ℕ) → lives (end_process w p) q ≡ cond (q == p) false (lives w q)
+lives-ended w p q = ap is_some (process-ended w p q) ∙ by (q == p)
+  where
+    by : (b : Bool) → is_some (cond b None (find nat_cmp q w)) ≡ cond b false (is_some (find nat_cmp q w))
+    by true = refl
+    by false = refl
+
+-- ---- exit: the end
+
+module _ (old mid : Mem) (tables : ProcessTables) (spaces : Spaces) (s : State) (p : ℕ) (keeps : Keeps old s) (alive : is_some (ranges_of old.spaces p) ≡ true)
+    (taken : HasZapped old mid s.ledger (zaps_of s.ledger (keys_of_process s.ledger p))) (bytes : (view mid).bytes ≡ (view old).bytes) (same_spaces : mid.spaces ≡ old.spaces) (same_tables : has mid.tables ≡ has old.tables) (same_count : count mid ≡ count old)
+    (processes : has tables ≡ with_at p false (has mid.tables)) (entries : entry_at tables ≡ with_at p (λ page. Empty) (entry_at mid.tables)) (ended : IsEnded mid.spaces spaces p) where
+  alive_now : lives s.world p ≡ true
+  alive_now = sym (keeps.stands.parts.areas.alive p) ∙ alive
+
+  allowed : refusal (tests (setting (count old)) s.world s.ledger (Exit p)) ≡ None
+  allowed = ap (λ b. cond (not b) (Some Esrch) None) alive_now
+
+  exit-step : IsStep (setting (count old)) s (Exit p) (answered Done) (record { world = end_process s.world p; ledger = after_all s.ledger (zaps_of s.ledger (keys_of_process s.ledger p)); free = (view mid).free })
+  exit-step = record {
+    events = zaps_of s.ledger (keys_of_process s.ledger p);
+    legal = record {
+      answer = subst (λ o. MatchOption o (Follows (setting (count old)) s.world s.ledger (Exit p) (zaps_of s.ledger (keys_of_process s.ledger p)) Done []) (λ e. Refuses e (zaps_of s.ledger (keys_of_process s.ledger p)) Done [])) (sym allowed) (refl, refl, refl);
+      notes = sym taken.notes;
+    };
+    world = refl;
+    ledger = refl;
+    free = subst (λ free. ChoosesAll (setting (count old)) s.ledger (zaps_of s.ledger (keys_of_process s.ledger p)) free (view mid).free) keeps.stands.free taken.free;
+  }
+
+  -- ---- what stands then
+
+  entry_is : (q page : ℕ) → entry_at tables q page ≡ cond (q == p) Empty (entry_at mid.tables q page)
+  entry_is q page = ap (λ (t : ℕ → ℕ → Pte). t q page) entries ∙ by (q == p)
+    where
+      by : (b : Bool) → cond b (λ page. Empty) (entry_at mid.tables q) page ≡ cond b Empty (entry_at mid.tables q page)
+      by true = refl
+      by false = refl
+
+  tables_now : TablesStand (view (record { frames = mid.frames; tables = tables; spaces = spaces })) (after_all s.ledger (zaps_of s.ledger (keys_of_process s.ledger p)))
+  tables_now = record {
+    entries = λ q page. ap (λ e. entry_of (plain e)) (entry_is q page) ∙ kept q page (q == p) refl;
+    write_bits = λ q page t f is writes names. bits (q == p) q page t f (sym (ap plain (entry_is q page)) ∙ is) writes names;
+  }
+    where
+      kept : (q page : ℕ) (b : Bool) → (q == p) ≡ b → entry_of (plain (cond b Empty (entry_at mid.tables q page))) ≡ entry (after_all s.ledger (zaps_of s.ledger (keys_of_process s.ledger p))) (q, page)
+      kept q page true e = sym (ap (λ n. entry (after_all s.ledger (zaps_of s.ledger (keys_of_process s.ledger p))) (n, page)) (is_number q p e) ∙ entry-ended s.ledger p page)
+      kept q page false e = taken.stands.parts.tables.entries q page
+
+      clash : {t : Plain} → None ≡ Some t → ⊥
+      clash e = cc
+
+      bits : (b : Bool) (q page : ℕ) (t : Plain) (f : ℕ) → plain (cond b Empty (entry_at mid.tables q page)) ≡ Some t → t.write ≡ true → names_frame f t.entry ≡ true
+          → is_shared (after_all s.ledger (zaps_of s.ledger (keys_of_process s.ledger p))) f ≡ false
+      bits true q page t f is writes names = absurd (clash is)
+      bits false q page t f is writes names = taken.stands.parts.tables.write_bits q page t f is writes names
+
+  areas_now : AreasStand (view (record { frames = mid.frames; tables = tables; spaces = spaces })) (end_process s.world p)
+  areas_now = record {
+    alive = λ q. ap is_some (ranges_ended mid.spaces spaces p ended q) ∙ lives_as q (q == p) ∙ sym (lives-ended s.world p q);
+    number = number _ _ _ _ (ended.number ∙ ap length same_spaces) keeps.stands.parts.areas.number (length_ended s.world p keeps.stands.sound.world.in_order alive_now);
+    apart = all_apart spaces ended.rising;
+    covers = λ q page. ap (λ o. prot_of o page) (ranges_ended mid.spaces spaces p ended q) ∙ covered q page (q == p) ∙ sym (ap (option_map (λ (x : Page). x.prot)) (pages-ended s.world p q page));
+  }
+    where
+      number : (n m w w' : ℕ) → n + 1 ≡ m → m ≡ w → w' + 1 ≡ w → n ≡ w'
+      number n m w w' a b c = omega arith
+
+      lives_as : (q : ℕ) (b : Bool) → is_some (cond b None (ranges_of mid.spaces q)) ≡ cond b false (lives s.world q)
+      lives_as q true = refl
+      lives_as q false = ap (λ x. is_some (ranges_of x q)) same_spaces ∙ keeps.stands.parts.areas.alive q
+
+      covered : (q page : ℕ) (b : Bool) → prot_of (cond b None (ranges_of mid.spaces q)) page ≡ option_map (λ (x : Page). x.prot) (cond b None (pages s.world q page))
+      covered q page true = refl
+      covered q page false = ap (λ x. prot_of (ranges_of x q) page) same_spaces ∙ keeps.stands.parts.areas.covers q page
+
+  kept_now : (q page : ℕ) → IsKept (view (record { frames = mid.frames; tables = tables; spaces = spaces })) no_device (after_all s.ledger (zaps_of s.ledger (keys_of_process s.ledger p))) (entry (after_all s.ledger (zaps_of s.ledger (keys_of_process s.ledger p))) (q, page)) (pages (end_process s.world p) q page)
+  kept_now q page =
+      let l = after_all s.ledger (zaps_of s.ledger (keys_of_process s.ledger p)) in
+      subst (IsKept (view (record { frames = mid.frames; tables = tables; spaces = spaces })) no_device l (entry l (q, page))) (sym (pages-ended s.world p q page))
+      (kept-on (view old) (view (record { frames = mid.frames; tables = tables; spaces = spaces })) s.ledger l (entry l (q, page)) (cond (q == p) None (pages s.world q page)) bytes (no_cache s.ledger keeps.stands.parts.ledger.swap.finds) (no_cache l taken.stands.parts.swap.finds) (by (q == p) refl))
+    where
+      by : (b : Bool) → (q == p) ≡ b → IsKept (view old) no_device s.ledger (entry (after_all s.ledger (zaps_of s.ledger (keys_of_process s.ledger p))) (q, page)) (cond b None (pages s.world q page))
+      by true e = kept-nothing (view old) s.ledger (entry (after_all s.ledger (zaps_of s.ledger (keys_of_process s.ledger p))) (q, page))
+      by false e = subst (λ x. IsKept (view old) no_device s.ledger x (pages s.world q page)) (sym (entry-others s.ledger p q page e)) (keeps.stands.parts.bytes.kept q page)
+
+  has_now : HasTables (record { frames = mid.frames; tables = tables; spaces = spaces })
+  has_now q = ap (λ (h : ℕ → Bool). h q) processes ∙ has_as q (q == p) ∙ sym (ap is_some (ranges_ended mid.spaces spaces p ended q))
+    where
+      has_as : (q : ℕ) (b : Bool) → cond b false (has mid.tables q) ≡ is_some (cond b None (ranges_of mid.spaces q))
+      has_as q true = refl
+      has_as q false = ap (λ (h : ℕ → Bool). h q) same_tables ∙ keeps.tables q ∙ sym (ap (λ x. is_some (ranges_of x q)) same_spaces)
+
+  stands_now : HasLedger (record { frames = mid.frames; tables = tables; spaces = spaces }) (after_all s.ledger (zaps_of s.ledger (keys_of_process s.ledger p)))
+  stands_now = record {
+    sound = taken.stands.sound;
+    parts =
+        let had = taken.stands.parts in
+        record {
+          frames = record { frames = had.frames.frames; maps = had.frames.maps; slots = had.frames.slots; dirty = had.frames.dirty; free = had.frames.free };
+          lists = record { active = had.lists.active };
+          tables = tables_now;
+          swap = record { finds = had.swap.finds; counts = had.swap.counts; flight = had.swap.flight; on = had.swap.on };
+        };
+  }
+
+  pub exit-steps : MemSteps old (record { frames = mid.frames; tables = tables; spaces = spaces }) s (Exit p) (answered Done)
+  exit-steps = stepped old (record { frames = mid.frames; tables = tables; spaces = spaces }) s (record { world = end_process s.world p; ledger = after_all s.ledger (zaps_of s.ledger (keys_of_process s.ledger p)); free = (view mid).free }) (Exit p) (answered Done)
+      keeps exit-step same_count stands_now refl areas_now has_now kept_now

@@ -1,0 +1,48 @@
+-- The reply of `maps`.
+use Rattle.std.proofs.Common.{◌≡◌, ℕ, Bool, true, false, cond, not, List, [], length, Option, Some, None, is_some, option_map, refl, sym, ap, subst, ◌∙◌}
+use Rattle.std.specs.Prelude.{MatchOption, map}
+use Rattle.av_vma.specs.declared.area.Area.{Area}
+use Rattle.av_trace.specs.declared.command.Command.TheVariants.{Maps}
+use Rattle.av_trace.specs.declared.reply.Answer.TheVariants.{Runs}
+use Rattle.av_trace.specs.declared.reply.Errno.TheVariants.{Esrch}
+use Rattle.av_trace.specs.declared.row.Row.{Row}
+use Rattle.av_spaces.specs.Spaces.{areas_of}
+use Rattle.av_plain.specs.World.{lives}
+use Rattle.av_plain.specs.Refusal.{tests, refusal, Refuses}
+use Rattle.av_plain.specs.Step.{Follows}
+use Rattle.av_plain.specs.Stands.{prot_of}
+use Rattle.av_plain.specs.Transcript.{State}
+use Rattle.av_reclaim.specs.declared.mem.Mem.{Mem}
+use Rattle.av_reclaim.specs.Mem.{range_of, ranges_of, setting, count, Keeps}
+use Rattle.av_reclaim.proofs.MemLaws.{lives_is}
+use Rattle.av_kernel.specs.Report.{AreRuns}
+use Rattle.av_kernel.specs.Step.{MemSteps}
+
+module _ (k : Mem) (s : State) (p : ℕ) (areas : List Area) (rows : List Row) (keeps : Keeps k s) (alive : is_some (areas_of k.spaces p) ≡ true) (are : areas_of k.spaces p ≡ Some areas) (runs : AreRuns (map range_of areas) rows) where
+  allowed : refusal (tests (setting (count k)) s.world s.ledger (Maps p)) ≡ None
+  allowed = ap (λ b. cond (not b) (Some Esrch) None) (sym (lives_is k s keeps p) ∙ alive)
+
+  pub maps-steps : MemSteps k k s (Maps p) (record { answer = Runs (length rows); notes = []; rows = rows })
+  maps-steps = record {
+    next = s;
+    step = record {
+      events = [];
+      legal = record {
+        answer = subst (λ o. MatchOption o (Follows (setting (count k)) s.world s.ledger (Maps p) [] (Runs (length rows)) rows) (λ e. Refuses e [] (Runs (length rows)) rows)) (sym allowed) (
+          refl,
+          (
+            runs.runs,
+            runs.of_runs,
+            runs.longest,
+            λ page. runs.cover page ∙ sym (ap (λ o. prot_of (option_map (map range_of) o) page) are) ∙ keeps.stands.parts.areas.covers p page,
+          ),
+          refl,
+        );
+        notes = refl;
+      };
+      world = refl;
+      ledger = refl;
+      free = refl;
+    };
+    keeps = keeps;
+  }

@@ -1,0 +1,43 @@
+-- The numbers of `stat`, without swap and without active frames.
+use Rattle.std.proofs.Common.{◌≡◌, ℕ, ◌-◌, ◌<◌, ◌≤◌, ◌==◌, true, [], length, refl, sym, ap, ◌∙◌}
+use Rattle.av_base.specs.Words.{how_many, is_in}
+use Rattle.av_trace.specs.declared.command.Command.TheVariants.{Stat}
+use Rattle.av_trace.specs.declared.reply.Answer.TheVariants.{Counted}
+use Rattle.av_trace.specs.declared.reply.Totals.{Totals}
+use Rattle.av_plain.specs.Transcript.{State}
+use Rattle.av_plain.specs.Report.{totals}
+use Rattle.av_plain.proofs.Report.Totals.{free-once, totals-plain}
+use Rattle.av_reclaim.specs.declared.mem.Mem.{Mem}
+use Rattle.av_reclaim.specs.Mem.{setting, view, count, Keeps}
+use Rattle.av_kernel.specs.Step.{MemSteps, answered}
+
+-- what the kernel counts is what the ledger has
+pub counted : (k : Mem) (s : State) (processes : ℕ) → Keeps k s → ((f : ℕ) → how_many (λ g. f == g) (view k).free ≤ 1) → ((f : ℕ) → is_in f (view k).free ≡ true → f < count k) → processes ≡ length k.spaces
+    → record { frames = count k; free = length (view k).free; active = 0; inactive = count k - length (view k).free; flight = 0; slots = 0; free_slots = 0; processes = processes } ≡ totals (setting (count k)) s.world s.ledger
+counted k s processes keeps once below number =
+    let st = keeps.stands in
+    ap (λ (n : ℕ). with_number n) (number ∙ st.parts.areas.number)
+    ∙ sym (totals-plain (setting (count k)) s.world s.ledger (view k).free st.sound.ledger (sym st.parts.ledger.lists.active) (sym st.parts.ledger.swap.flight) (sym st.parts.ledger.swap.on) (free-once (setting (count k)) s.ledger (view k).free once below st.parts.ledger.frames.free))
+  where
+    with_number : ℕ → Totals
+    with_number n = record { frames = count k; free = length (view k).free; active = 0; inactive = count k - length (view k).free; flight = 0; slots = 0; free_slots = 0; processes = n }
+
+pub stat-steps : (k : Mem) (s : State) (processes : ℕ) → Keeps k s → ((f : ℕ) → how_many (λ g. f == g) (view k).free ≤ 1) → ((f : ℕ) → is_in f (view k).free ≡ true → f < count k) → processes ≡ length k.spaces
+    → MemSteps k k s Stat (answered (Counted (record { frames = count k; free = length (view k).free; active = 0; inactive = count k - length (view k).free; flight = 0; slots = 0; free_slots = 0; processes = processes })))
+stat-steps k s processes keeps once below number = record {
+  next = s;
+  step = record {
+    events = [];
+    legal = record { answer = (ap Counted (counted k s processes keeps once below number), refl, refl); notes = refl };
+    world = refl;
+    ledger = refl;
+    free = refl;
+  };
+  keeps = keeps;
+}
+
+-- the same reply, by equal numbers
+pub same_reply : (a a' f f' i i' n : ℕ) → a ≡ a' → f ≡ f' → i ≡ i'
+    → answered (Counted (record { frames = a; free = f; active = 0; inactive = i; flight = 0; slots = 0; free_slots = 0; processes = n }))
+    ≡ answered (Counted (record { frames = a'; free = f'; active = 0; inactive = i'; flight = 0; slots = 0; free_slots = 0; processes = n }))
+same_reply a a' f f' i i' n p q r = λ j. answered (Counted (record { frames = p j; free = q j; active = 0; inactive = r j; flight = 0; slots = 0; free_slots = 0; processes = n }))

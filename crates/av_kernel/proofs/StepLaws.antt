@@ -1,0 +1,203 @@
+-- One command's step: the ledger's parts stand after its events, and so do the areas and the bytes of the pages that it changed.
+use Rattle.std.proofs.Common.{◌≡◌, ◌≢◌, ℕ, ◌+◌, ◌<◌, Bool, true, false, cond, not, List, [], length, Option, Some, None, is_some, option_map, Result, Ok, Err, refl, sym, ap, subst, ◌∙◌, arith, ◌==◌}
+use Rattle.std.proofs.lemmas.Bool.Decides.{nat_tests}
+use Rattle.std.specs.Ordering.{nat_cmp, eq_by_cmp}
+use Rattle.std.specs.Prelude.{MatchOption, IsErr, IsErrAnd}
+use Rattle.av_base.specs.declared.prot.Prot.{Prot}
+use Rattle.av_base.specs.Words.{with_at}
+use Rattle.av_trace.specs.declared.command.Command.{Command}
+use Rattle.av_trace.specs.declared.reply.Errno.{Errno}
+use Rattle.av_trace.specs.declared.reply.Errno.TheVariants.{Esrch}
+use Rattle.av_trace.specs.declared.reply.Reply.{Reply}
+use Rattle.av_trace.specs.declared.reply.Answer.TheVariants.{Refused}
+use Rattle.av_plain.specs.World.{Process, Page, no_pages, lives, pages, set_process}
+use Rattle.av_plain.specs.Ledger.{Ledger, Entry, Zero, InFrame, InSlot, entry, frame_at}
+use Rattle.av_plain.specs.Refusal.{tests, refusal, Refuses}
+use Rattle.av_base.specs.Limits.{most_processes}
+use Rattle.av_plain.specs.Step.{Follows}
+use Rattle.av_plain.specs.Transcript.{State, IsStep}
+use Rattle.av_plain.specs.Sound.{AllSound}
+use Rattle.av_plain.specs.Device.{no_device}
+use Rattle.av_plain.specs.Stands.{View, Holds, IsKept, AreasStand, entry_of, prot_of}
+use Rattle.av_plain.proofs.Refusal.{refused-next}
+use Rattle.av_plain.proofs.Sound.{step-sound}
+use Rattle.av_plain.proofs.World.{pages-set, lives-set, length-set_new, length-set_old}
+use Rattle.av_pagetable.specs.Entries.{ProcessTables, entry_at, has}
+use Rattle.av_pagetable.specs.declared.pte.Pte.{Pte}
+use Rattle.av_reclaim.specs.declared.mem.Mem.{Mem}
+use Rattle.av_spaces.specs.Spaces.{Spaces, areas_of}
+use Rattle.av_kernel.specs.Map.{HasProts}
+use Rattle.av_reclaim.specs.Mem.{ranges_of, setting, plain, view, count, HasTables, Keeps, HasLedger}
+use Rattle.av_kernel.specs.declared.refusal.Refusal.{Refusal}
+use Rattle.av_kernel.specs.declared.refusal.Refusal.TheVariants as refusals
+use Rattle.av_kernel.specs.Step.{MemSteps, Does, answered}
+use Rattle.av_reclaim.proofs.MemLaws.{alive_is, lives_is, no_cache, no_frame_at, slot_kept, nothing_clean}
+use Rattle.av_fault.proofs.FaultParts.{no_headers}
+
+at_number : (q p : ℕ) → eq_by_cmp nat_cmp q p ≡ (q == p)
+at_number q p = grind (arith, nat_tests)
+
+pub is_number : (q p : ℕ) → (q == p) ≡ true → q ≡ p
+is_number q p e = grind (arith, nat_tests)
+
+pub other_number : (q p : ℕ) → (q == p) ≡ false → q ≢ p
+other_number q p e = grind (arith, nat_tests)
+
+-- ---- a refusal
+
+-- the first test that holds refuses the command, and nothing changes
+pub refused : (k : Mem) (s : State) (command : Command) (error : Errno) → Keeps k s → refusal (tests (setting (count k)) s.world s.ledger command) ≡ Some error → MemSteps k k s command (answered (Refused error))
+refused k s command error keeps is = record {
+  next = s;
+  step = record {
+    events = [];
+    legal = record {
+      answer = subst (λ o. MatchOption o (Follows (setting (count k)) s.world s.ledger command [] (Refused error) []) (λ e. Refuses e [] (Refused error) [])) (sym is) (refl, refl, refl);
+      notes = refl;
+    };
+    world = sym (refused-next (setting (count k)) s.world s.world s.ledger command error is);
+    ledger = refl;
+    free = refl;
+  };
+  keeps = keeps;
+}
+
+-- so a command is done where it is refused
+pub refuses : (k : Mem) (command : Command) (error : Errno) → ((s : State) → Keeps k s → refusal (tests (setting (count k)) s.world s.ledger command) ≡ Some error) → Does k k command (Err (refusals.Refused error))
+refuses k command error is = record { step = λ s keeps. refused k s command error keeps (is s keeps); count = refl }
+
+-- and where memory is wanting nothing is promised but the number of frames
+pub wants : (old new : Mem) (command : Command) → count new ≡ count old → Does old new command (Err refusals.Memory)
+wants old new command same = record { step = λ s keeps. tt; count = same }
+
+-- as `?` hands it out
+pub wants-by : (old new : Mem) (command : Command) (r : Result Reply Refusal) → IsErr r × IsErrAnd r (λ e. e ≡ refusals.Memory) → count new ≡ count old → Does old new command r
+wants-by old new command (Ok reply) is same = absurd is.1
+wants-by old new command (Err e) is same = subst (λ e. Does old new command (Err e)) (sym is.1) (wants old new command same)
+
+pub refuses-by : (old new : Mem) (command : Command) (error : Errno) (r : Result Reply Refusal) → IsErr r × IsErrAnd r (λ e. e ≡ refusals.Refused error) → Does old new command (Err (refusals.Refused error)) → Does old new command r
+refuses-by old new command error (Ok reply) is does = absurd is.1
+refuses-by old new command error (Err e) is does = subst (λ e. Does old new command (Err e)) (sym is.1) does
+
+pub refuses-as : (old new : Mem) (command : Command) (error : Errno) (r : Result Reply Refusal) (x : Refusal) → IsErr r × IsErrAnd r (λ e. e ≡ x) → x ≡ refusals.Refused error → Does old new command (Err (refusals.Refused error)) → Does old new command r
+refuses-as old new command error r x is same does = refuses-by old new command error r (is.0, subst (λ (y : Refusal). IsErrAnd r (λ e. e ≡ y)) same is.1) does
+
+-- a process that has no areas is refused first
+pub dead_first : (k : Mem) (s : State) (p : ℕ) (rest : Option Errno) → Keeps k s → is_some (areas_of k.spaces p) ≡ false → cond (not (lives s.world p)) (Some Esrch) rest ≡ Some Esrch
+dead_first k s p rest keeps dead = ap (λ b. cond (not b) (Some Esrch) rest) (sym (lives_is k s keeps p) ∙ dead)
+
+-- a process that has areas has ranges
+pub ranges_there : (k : Mem) (p : ℕ) → is_some (areas_of k.spaces p) ≡ true → is_some (ranges_of k.spaces p) ≡ true
+ranges_there k p alive = alive_is k.spaces p ∙ alive
+
+-- ---- what pages keep
+
+-- where no slot is cached, a page keeps its bytes with the frames' ones
+pub kept-on : (v v' : View) (l l' : Ledger) (e : Option Entry) (p : Option Page) → v'.bytes ≡ v.bytes → l.cache ≡ [] → l'.cache ≡ [] → IsKept v no_device l e p → IsKept v' no_device l' e p
+kept-on v v' l l' None p same was none h = h
+kept-on v v' l l' (Some Zero) p same was none h = h
+kept-on v v' l l' (Some (InFrame f seen)) p same was none h = subst (λ (b : ℕ → ℕ → ℕ). Holds p (b f)) (sym same) h
+kept-on v v' l l' (Some (InSlot s)) p same was none h = slot_kept v v' s p (frame_at l s) (frame_at l' s) (no_frame_at l s was) (no_frame_at l' s none) h
+
+-- ---- a step, from its parts
+
+-- the parts that speak of the ledger alone
+pub orderly : (k : Mem) (s : State) → Keeps k s → HasLedger k s.ledger
+orderly k s keeps = record { sound = keeps.stands.sound.ledger; parts = keeps.stands.parts.ledger }
+
+pub stepped : (old new : Mem) (s next : State) (command : Command) (reply : Reply) → Keeps old s → IsStep (setting (count old)) s command reply next → count new ≡ count old → HasLedger new next.ledger → (view new).free ≡ next.free
+    → AreasStand (view new) next.world → HasTables new → ((q page : ℕ) → IsKept (view new) no_device next.ledger (entry next.ledger (q, page)) (pages next.world q page)) → MemSteps old new s command reply
+stepped old new s next command reply keeps step same_count stands free areas tables kept = record {
+  next = next;
+  step = step;
+  keeps = record {
+    stands = record {
+      over = record { sizes = refl; headers = refl };
+      sound = subst (λ n. AllSound (setting n) next.world next.ledger) (sym same_count) (step-sound (setting (count old)) s command reply next keeps.stands.sound step);
+      parts = record {
+        ledger = stands.parts;
+        areas = areas;
+        bytes = record { kept = kept; clean = λ t stale flying. nothing_clean (view new) t (frame_at next.ledger t) (no_frame_at next.ledger t (no_cache next.ledger stands.parts.swap.finds)) };
+        headers = no_headers (setting (count new)) next.ledger (sym stands.parts.swap.on);
+      };
+      free = free;
+    };
+    tables = tables;
+  };
+}
+
+-- ---- a step that changes one process
+
+abbrev pub state_after : State → ℕ → Process → Ledger → List ℕ → State
+state_after s p now l free = record { world = set_process s.world p now; ledger = l; free = free }
+
+module _ (old new : Mem) (s : State) (command : Command) (reply : Reply) (p : ℕ) (now : Process) (l : Ledger)
+    (keeps : Keeps old s) (same_count : count new ≡ count old) (stands : HasLedger new l) (bytes : (view new).bytes ≡ (view old).bytes)
+    (others : (q page : ℕ) → (q == p) ≡ false → entry l (q, page) ≡ entry s.ledger (q, page)) (kept : (page : ℕ) → IsKept (view old) no_device s.ledger (entry l (p, page)) (now page)) where
+  kept-all : (q page : ℕ) → IsKept (view new) no_device l (entry l (q, page)) (pages (set_process s.world p now) q page)
+  kept-all q page = subst (IsKept (view new) no_device l (entry l (q, page))) (sym (pages-set s.world p now q page ∙ ap (λ b. cond b (now page) (pages s.world q page)) (at_number q p)))
+      (kept-on (view old) (view new) s.ledger l (entry l (q, page)) (cond (q == p) (now page) (pages s.world q page)) bytes (no_cache s.ledger keeps.stands.parts.ledger.swap.finds) (no_cache l stands.parts.swap.finds) (by (q == p) refl))
+    where
+      by : (b : Bool) → (q == p) ≡ b → IsKept (view old) no_device s.ledger (entry l (q, page)) (cond b (now page) (pages s.world q page))
+      by true e = subst (λ n. IsKept (view old) no_device s.ledger (entry l (n, page)) (now page)) (sym (is_number q p e)) (kept page)
+      by false e = subst (λ x. IsKept (view old) no_device s.ledger x (pages s.world q page)) (sym (others q page e)) (keeps.stands.parts.bytes.kept q page)
+
+  pub changed : IsStep (setting (count old)) s command reply (state_after s p now l (view new).free) → AreasStand (view new) (set_process s.world p now) → HasTables new → MemSteps old new s command reply
+  changed step areas tables = stepped old new s (state_after s p now l (view new).free) command reply keeps step same_count stands refl areas tables kept-all
+
+-- the areas of a process that lives have changed
+module _ (old new : Mem) (s : State) (p : ℕ) (now : Process) (prots : ℕ → Option Prot) (keeps : Keeps old s) (alive : is_some (ranges_of old.spaces p) ≡ true)
+    (spaces : HasProts old.spaces new.spaces p prots) (is : (page : ℕ) → prots page ≡ option_map (λ (x : Page). x.prot) (now page)) where
+  lives_as : (q : ℕ) → is_some (ranges_of new.spaces q) ≡ is_some (ranges_of old.spaces q)
+  lives_as q = by (q == p) refl
+    where
+      by : (b : Bool) → (q == p) ≡ b → is_some (ranges_of new.spaces q) ≡ is_some (ranges_of old.spaces q)
+      by true e = ap (λ n. is_some (ranges_of new.spaces n)) (is_number q p e) ∙ spaces.alive ∙ sym (ap (λ n. is_some (ranges_of old.spaces n)) (is_number q p e) ∙ alive)
+      by false e = ap is_some (spaces.others q (other_number q p e))
+
+  pub tables_kept : has new.tables ≡ has old.tables → HasTables new
+  tables_kept same q = ap (λ (h : ℕ → Bool). h q) same ∙ keeps.tables q ∙ sym (lives_as q)
+
+  pub areas_changed : AreasStand (view new) (set_process s.world p now)
+  areas_changed = record {
+    alive = λ q. lives_as q ∙ keeps.stands.parts.areas.alive q ∙ by q (q == p) refl ∙ sym (lives-set s.world p now q ∙ ap (λ b. cond b true (lives s.world q)) (at_number q p));
+    number = spaces.number ∙ keeps.stands.parts.areas.number ∙ sym (length-set_old s.world p now keeps.stands.sound.world.in_order lives_now);
+    apart = spaces.apart;
+    covers = λ q page. covers_at q page (q == p) refl
+        ∙ sym (ap (option_map (λ (x : Page). x.prot)) (pages-set s.world p now q page ∙ ap (λ b. cond b (now page) (pages s.world q page)) (at_number q p)));
+  }
+    where
+      lives_now : lives s.world p ≡ true
+      lives_now = sym (keeps.stands.parts.areas.alive p) ∙ alive
+
+      by : (q : ℕ) (b : Bool) → (q == p) ≡ b → lives s.world q ≡ cond (q == p) true (lives s.world q)
+      by q true e = ap (lives s.world) (is_number q p e) ∙ lives_now ∙ sym (ap (λ b. cond b true (lives s.world q)) e)
+      by q false e = sym (ap (λ b. cond b true (lives s.world q)) e)
+
+      covers_at : (q page : ℕ) (b : Bool) → (q == p) ≡ b → prot_of (ranges_of new.spaces q) page ≡ option_map (λ (x : Page). x.prot) (cond (q == p) (now page) (pages s.world q page))
+      covers_at q page true e = ap (λ n. prot_of (ranges_of new.spaces n) page) (is_number q p e) ∙ spaces.pages page ∙ is page
+          ∙ sym (ap (λ b. option_map (λ (x : Page). x.prot) (cond b (now page) (pages s.world q page))) e)
+      covers_at q page false e = ap (λ a. prot_of a page) (spaces.others q (other_number q p e)) ∙ keeps.stands.parts.areas.covers q page
+          ∙ sym (ap (λ b. option_map (λ (x : Page). x.prot) (cond b (now page) (pages s.world q page))) e)
+
+-- ---- the frames and the entries stay
+
+-- the tables and the areas change, the frames and the entries don't
+abbrev pub moved_on : Mem → ProcessTables → Spaces → Mem
+moved_on old tables spaces = record { frames = old.frames; tables = tables; spaces = spaces }
+
+pub stays_orderly : (old : Mem) (tables : ProcessTables) (spaces : Spaces) (l : Ledger) → entry_at tables ≡ entry_at old.tables → HasLedger old l → HasLedger (moved_on old tables spaces) l
+stays_orderly old tables spaces l entries h = record {
+  sound = h.sound;
+  parts =
+      let had = h.parts in
+      record {
+        frames = record { frames = had.frames.frames; maps = had.frames.maps; slots = had.frames.slots; dirty = had.frames.dirty; free = had.frames.free };
+        lists = record { active = had.lists.active };
+        tables = record {
+          entries = λ q page. ap (λ (t : ℕ → ℕ → Pte). entry_of (plain (t q page))) entries ∙ had.tables.entries q page;
+          write_bits = λ q page t f is. had.tables.write_bits q page t f (sym (ap (λ (t : ℕ → ℕ → Pte). plain (t q page)) entries) ∙ is);
+        };
+        swap = record { finds = had.swap.finds; counts = had.swap.counts; flight = had.swap.flight; on = had.swap.on };
+      };
+}

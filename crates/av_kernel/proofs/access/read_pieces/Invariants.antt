@@ -1,0 +1,20 @@
+-- What is done so far is an access of its own, served whole and shown; behind it a page begins, or nothing is left.
+use Rattle.std.proofs.Common.{◌≡◌, ◌+◌, ◌-◌, ◌%◌, ◌<◌, ◌≤◌, false, [], None}
+use Rattle.av_plain.specs.World.{pages}
+use Rattle.av_plain.specs.Access.{Reads}
+use Rattle.av_plain.specs.Transcript.{State}
+use Rattle.av_reclaim.specs.Mem.{count, Keeps}
+use Rattle.av_kernel.specs.Access.{IsAccess}
+use Rattle.av_kernel.proofs.access.read_pieces.Given as goal
+
+abbrev pub decreases-loop-done : goal.decreases-loop-done
+decreases-loop-done l = l.len - l.done
+
+abbrev pub invariant-loop-done : goal.invariant-loop-done
+invariant-loop-done l = record {
+  within : l.done ≤ l.len;
+  begins : 1 ≤ l.done → l.done < l.len → (l.address + l.done) % 4096 ≡ 0;
+  access : (s : State) → Keeps l.initial.mem s → IsAccess s l.mem false l.process l.address l.done [] l.initial.notes l.notes None l.done;
+  reads : (s : State) → Keeps l.initial.mem s → Reads (pages s.world l.process) l.address l.done l.shown;
+  count : count l.mem ≡ count l.initial.mem;
+}

@@ -1,0 +1,28 @@
+use Rattle.std.proofs.Common.{◌∙◌, subst, sym, ap}
+use Rattle.av_trace.specs.declared.command.Command.TheVariants.{Exit}
+use Rattle.av_reclaim.proofs.MemLaws.{alive_is}
+use Rattle.av_kernel.specs.Step.{MemSteps}
+use Rattle.av_trace.specs.declared.reply.Errno.TheVariants.{Esrch}
+use Rattle.av_kernel.proofs.StepLaws.{orderly, ranges_there, refuses, refuses-as, dead_first}
+use Rattle.av_kernel.proofs.ProcessLaws.{exit-steps}
+use Rattle.av_kernel.proofs.process.exit.Goals as goal
+
+pub returns-in_err-check_lives : goal.returns-in_err-check_lives
+returns-in_err-check_lives c =
+    refuses-as c.args.mem.now c.args.mem.now (Exit c.args.process) Esrch c.from_residual.result c.in_err-check_lives.field-0.0 c.from_residual.ensures c.in_err-check_lives.ensures.1
+    (refuses c.args.mem.now (Exit c.args.process) Esrch (λ s keeps. dead_first c.args.mem.now s c.args.process _ keeps c.in_err-check_lives.ensures.0))
+
+pub end-requires : goal.end-requires
+end-requires c = ap (λ h. h c.args.process) c.zap_all.ensures.rest.processes ∙ c.requires.1.tables c.args.process ∙ ranges_there c.args.mem.now c.args.process c.in_ok-check_lives.ensures
+
+pub returns : goal.returns
+returns c = record {
+  count = c.zap_all.ensures.rest.count;
+  step = λ s keeps.
+      let old = c.args.mem.now in
+      let mid = c.zap_all.new.mem in
+      let rest = c.zap_all.ensures.rest in
+      subst (MemSteps old (record { frames = mid.frames; tables = c.end.new.self; spaces = c.end-2.new.self }) s (Exit c.args.process)) (sym c.answered.ensures)
+      (exit-steps old mid c.end.new.self c.end-2.new.self s c.args.process keeps (ranges_there old c.args.process c.in_ok-check_lives.ensures) (c.zap_all.ensures.zapped s.ledger (orderly old s keeps))
+      rest.bytes rest.spaces rest.processes rest.count c.end.ensures.processes c.end.ensures.entries c.end-2.ensures);
+}

@@ -1,0 +1,38 @@
+use Rattle.std.proofs.Common.{refl, sym, subst, List, length}
+use Rattle.std.specs.Prelude.{map}
+use Rattle.av_vma.specs.declared.area.Area.{Area}
+use Rattle.av_trace.specs.declared.command.Command.TheVariants.{Maps}
+use Rattle.av_trace.specs.declared.reply.Answer.TheVariants.{Runs}
+use Rattle.av_trace.specs.declared.reply.Errno.TheVariants.{Esrch}
+use Rattle.av_reclaim.specs.Mem.{range_of}
+use Rattle.av_spaces.specs.Spaces.{AreRising}
+use Rattle.av_kernel.specs.Report.{AreRuns}
+use Rattle.av_kernel.specs.Step.{MemSteps}
+use Rattle.av_kernel.proofs.StepLaws.{refuses, refuses-as, dead_first, wants-by}
+use Rattle.av_kernel.proofs.ReportMaps.{maps-steps}
+use Rattle.av_kernel.proofs.report.maps.Goals as goal
+
+pub returns-in_err-check_lives : goal.returns-in_err-check_lives
+returns-in_err-check_lives c =
+    refuses-as c.args.mem.now c.args.mem.now (Maps c.args.process) Esrch c.from_residual.result c.in_err-check_lives.field-0.0 c.from_residual.ensures c.in_err-check_lives.ensures.1
+    (refuses c.args.mem.now (Maps c.args.process) Esrch (λ s keeps. dead_first c.args.mem.now s c.args.process _ keeps c.in_err-check_lives.ensures.0))
+
+pub returns-in_err-areas : goal.returns-in_err-areas
+returns-in_err-areas c = wants-by c.args.mem.now c.args.mem.now (Maps c.args.process) c.from_residual-in_err-areas.result c.from_residual-in_err-areas.ensures refl
+
+pub returns-in_err-rows : goal.returns-in_err-rows
+returns-in_err-rows c = wants-by c.args.mem.now c.args.mem.now (Maps c.args.process) c.from_residual-in_err-rows.result c.from_residual-in_err-rows.ensures refl
+
+pub returns : goal.returns
+returns c = record {
+  count = refl;
+  step = λ s keeps.
+      let k = c.args.mem.now in
+      let areas = c.in_ok-areas.ensures.areas in
+      let runs = subst (λ (areas : List Area). AreRuns (map range_of areas) c.in_ok-rows.rows) c.deref.ensures.value c.in_ok-rows.ensures in
+      subst (MemSteps k k s (Maps c.args.process)) (λ i. record { answer = Runs (length (sym c.as_slice.ensures i)); notes = sym c.new.ensures i; rows = c.in_ok-rows.rows })
+      (maps-steps k s c.args.process c.in_ok-areas.areas.items c.in_ok-rows.rows keeps c.in_ok-check_lives.ensures areas runs);
+}
+
+pub runs_of-requires : goal.runs_of-requires
+runs_of-requires c = (c.args.process, subst (AreRising c.args.process) (sym c.deref.ensures.value) c.in_ok-areas.ensures.rising)

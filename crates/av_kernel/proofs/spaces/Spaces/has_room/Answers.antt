@@ -1,7 +1,0 @@
-use Rattle.std.proofs.Common.{sym, ◌∙◌}
-use Rattle.av_kernel.proofs.Places.{room_by}
-use Rattle.av_kernel.proofs.spaces.Spaces.has_room.Goals as goal
-
-pub returns-then-may_have : goal.returns-then-may_have
-returns-then-may_have c = λ q same.
-    room_by c.args.self.now c.args.process q same c.args.pages c.args.page c.is_free.result (sym c.may_have.ensures ∙ c.if-may_have.true) c.is_free.ensures.free c.is_free.ensures.met

@@ -1,0 +1,33 @@
+-- What one command does to the memory system.
+use Rattle.std.specs.Prelude.{◌≡◌, [], Option, Some, None, Result, Ok, Err, IfSome}
+use Rattle.av_trace.specs.declared.command.Command.{Command}
+use Rattle.av_trace.specs.declared.reply.Answer.{Answer}
+use Rattle.av_trace.specs.declared.reply.Answer.TheVariants as answers
+use Rattle.av_trace.specs.declared.reply.Reply.{Reply}
+use Rattle.av_plain.specs.Transcript.{State, IsStep}
+use Rattle.av_reclaim.specs.declared.mem.Mem.{Mem}
+use Rattle.av_reclaim.specs.Mem.{setting, count, Keeps}
+use Rattle.av_kernel.specs.declared.refusal.Refusal.{Refusal}
+use Rattle.av_kernel.specs.declared.refusal.Refusal.TheVariants.{Refused, Memory}
+
+-- a reply without notes or rows
+abbrev pub answered : Answer → Reply
+answered answer = record { answer = answer; notes = []; rows = [] }
+
+-- the reply of a command that was done or refused, or none where memory was wanting
+abbrev pub reply_of : Result Reply Refusal → Option Reply
+reply_of (Ok reply) = Some reply
+reply_of (Err (Refused error)) = Some (answered (answers.Refused error))
+reply_of (Err Memory) = None
+
+-- a command's reply is a step, and the memory system stands for what it leaves
+pub record MemSteps (old new : Mem) (s : State) (command : Command) (reply : Reply) : Type 0 where
+  pub next : State
+  pub step : IsStep (setting (count old)) s command reply next
+  pub keeps : Keeps new next
+
+-- What every command promises: whatever the memory system stood for, the reply is a step, and it
+-- stands for what that leaves. There are as many frames as before
+pub record Does (old new : Mem) (command : Command) (result : Result Reply Refusal) : Type 0 where
+  pub step : (s : State) → Keeps old s → IfSome (reply_of result) (MemSteps old new s command)
+  pub count : count new ≡ count old

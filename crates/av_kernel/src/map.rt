@@ -1,0 +1,128 @@
+//! Commands on ranges of pages: `mmap`, `munmap` and `mprotect`.
+
+ghost use Rattle.std.specs.Prelude.{◌≡◌, ℕ, ◌+◌, ◌≤◌, true, is_some, OnOk};
+ghost use Rattle.av_base.specs.Limits.{top_page};
+ghost use Rattle.av_plain.specs.Ledger.{Ledger};
+ghost use Rattle.av_plain.specs.Zap.{keys_in, zaps_of};
+ghost use Rattle.av_plain.specs.Map.{zaps_for_place};
+ghost use Rattle.av_spaces.specs.Spaces.{areas_of, is_taken};
+ghost use Rattle.av_reclaim.specs.Mem.{count, IsSteady, HasLedger};
+ghost use Rattle.av_kernel.specs.Place.{AreToClear};
+ghost use Rattle.av_kernel.specs.Map.{AreCleared};
+ghost use Rattle.av_kernel.specs.Step.{Does};
+ghost use Rattle.av_trace.specs.declared.command.Command.TheVariants as commands;
+
+use crate::place::{check_protect, find_place, is_no_range, is_too_long};
+use crate::process::check_lives;
+use crate::refusal::Refusal;
+use crate::step::answered;
+use av_base::{PAGE_SIZE, Prot};
+use av_reclaim::{Mem, zap_range};
+use av_trace::{Answer, Errno, Place, Reply};
+use std::alloc::{AllocError, Global};
+
+/// Does an `mmap`: the pages are zeros. At a fixed place they replace what stands there.
+pub fn mmap(
+    mem: &mut Mem,
+    alloc: Global,
+    process: u16,
+    len: u64,
+    prot: Prot,
+    place: Place,
+) -> Result<Reply, Refusal>
+    requires { IsSteady mem.old }
+    ensures { Does mem.old mem.new (commands.Mmap process len prot place) result }
+{
+    check_lives(mem, process)?;
+    if len == 0 {
+        return Err(Refusal::Refused(Errno::Einval));
+    }
+    if is_too_long(len) {
+        return Err(Refusal::Refused(Errno::Enomem));
+    }
+    let pages = len.div_ceil(PAGE_SIZE);
+    let page = find_place(&mem.spaces, process, pages, place)?;
+    make_room(mem, process, page, pages, place)?;
+    mem.spaces.map(process, page, pages, prot)?;
+    Ok(answered(alloc, Answer::MapAt(PAGE_SIZE * page)))
+}
+
+/// Does a `munmap`: the pages go, with their entries. The frames that no other page has become
+/// free.
+pub fn munmap(
+    mem: &mut Mem,
+    alloc: Global,
+    process: u16,
+    address: u64,
+    len: u64,
+) -> Result<Reply, Refusal>
+    requires { IsSteady mem.old }
+    ensures { Does mem.old mem.new (commands.Munmap process address len) result }
+{
+    check_lives(mem, process)?;
+    if is_no_range(address, len) {
+        return Err(Refusal::Refused(Errno::Einval));
+    }
+    clear(mem, process, address / PAGE_SIZE, len.div_ceil(PAGE_SIZE))?;
+    Ok(answered(alloc, Answer::Done))
+}
+
+/// Does an `mprotect`: the pages before the first that isn't mapped get the protection.
+pub fn mprotect(
+    mem: &mut Mem,
+    alloc: Global,
+    process: u16,
+    address: u64,
+    len: u64,
+    prot: Prot,
+) -> Result<Reply, Refusal>
+    requires { IsSteady mem.old }
+    ensures { Does mem.old mem.new (commands.Mprotect process address len prot) result }
+{
+    check_lives(mem, process)?;
+    check_protect(address, len)?;
+    let (page, pages) = (address / PAGE_SIZE, len.div_ceil(PAGE_SIZE));
+    let past = page + pages;
+    let reached = mem.spaces.protect(process, page, pages, prot)?;
+    if reached < past {
+        return Err(Refusal::Refused(Errno::Enomem));
+    }
+    Ok(answered(alloc, Answer::Done))
+}
+
+/// Takes away what stands where a mapping goes: all at a fixed place, and at another there is
+/// nothing.
+fn make_room(
+    mem: &mut Mem,
+    process: u16,
+    page: u64,
+    pages: u64,
+    place: Place,
+) -> Result<(), AllocError>
+    requires steady { IsSteady mem.old }
+    requires lives { is_some (areas_of mem.old.spaces process) ≡ true }
+    requires high { page + pages ≤ top_page }
+    requires there { AreToClear (is_taken mem.old.spaces process) page pages place }
+    ensures cleared { (l : Ledger) → HasLedger mem.old l → OnOk result
+        (AreCleared mem.old mem.new process page pages l (zaps_for_place l process pages place)) }
+    ensures count { count mem.new ≡ count mem.old }
+{
+    match place {
+        Place::Fixed(_) => clear(mem, process, page, pages),
+        _ => Ok(()),
+    }
+}
+
+/// Takes away pages of a process that lives, with their entries.
+fn clear(mem: &mut Mem, process: u16, page: u64, pages: u64) -> Result<(), AllocError>
+    requires steady { IsSteady mem.old }
+    requires lives { is_some (areas_of mem.old.spaces process) ≡ true }
+    requires high { page + pages ≤ top_page }
+    ensures cleared { (l : Ledger) → HasLedger mem.old l → OnOk result
+        (AreCleared mem.old mem.new process page pages l
+            (zaps_of l (keys_in l process page pages))) }
+    ensures count { count mem.new ≡ count mem.old }
+{
+    zap_range(mem, process, page, page + pages);
+    mem.spaces.unmap(process, page, pages)
+}

@@ -1,0 +1,421 @@
+-- The worked rows from nothing on.
+use Rattle.std.specs.Prelude.{◌≡◌, ℕ, ◌+◌, ◌-◌, ◌<◌, ◌≤◌, Bool, nat_le, true, false, List, [], ◌∷◌, drop, Some, None, refl}
+use Rattle.std.proofs.Common.{arith, inl, sym, ◌∙◌, inr}
+use Rattle.std.proofs.lemmas.Bool.Decides.{nat_tests}
+use Rattle.std.proofs.lemmas.Bool.{false≢true}
+use Rattle.av_base.specs.declared.prot.Prot.{Prot}
+use Rattle.av_base.specs.Limits.{low_page, top_page}
+use Rattle.av_vma.specs.Gap.{IsRoom, IsGap}
+use Rattle.av_trace.specs.declared.command.Command.TheVariants.{Spawn, Mmap}
+use Rattle.av_trace.specs.declared.place.Place.TheVariants.{Auto}
+use Rattle.av_trace.specs.declared.reply.Answer.TheVariants.{Done, MapAt}
+use Rattle.av_trace.specs.declared.note.Note.TheVariants.{Zeroed, New}
+use Rattle.av_plain.specs.World.{no_pages, zeros, with_pages}
+use Rattle.av_plain.specs.Ledger.{Setting, first_ledger}
+use Rattle.av_plain.specs.Event.{Event, Noted, Used, after_all}
+use Rattle.av_plain.specs.Fault.{Denied, Starved}
+use Rattle.av_plain.specs.Access.{Whole, Stopped}
+use Rattle.av_plain.specs.Step.{IsLegal, next_world}
+use Rattle.av_plain.specs.Choice.{ChoosesAll}
+use Rattle.av_plain.specs.Transcript.{Exchange, State, at_first}
+use Rattle.av_laws.specs.Examples.{Allows, Runs, machine, says, read_write, write_only, first_run, zero_first, one_frame, part_denied, two_processes, refusals, all_mapped, readable, denied_write}
+
+-- each exchange by its events, and the frames that are free after it
+abbrev pub Steps : Setting → State → List Exchange → Type 0
+Steps m old [] = Unit {0}
+Steps m old (e ∷ row) =
+    (events : List Event) × (free : List ℕ) × IsLegal m old.world old.ledger e.command e.reply events × ChoosesAll m old.ledger events old.free free
+    × Steps m (record { world = next_world m old.world old.ledger events e.command e.reply.answer; ledger = after_all old.ledger events; free = free }) row
+
+pub by_steps : (m : Setting) (old : State) (row : List Exchange) → Steps m old row → Allows m old row
+by_steps m old [] h = (old, refl)
+by_steps m old (e ∷ row) h =
+    let mid : State = record { world = next_world m old.world old.ledger h.0 e.command e.reply.answer; ledger = after_all old.ledger h.0; free = h.1 } in
+    let rest = by_steps m mid row h.4 in
+    (rest.0, (mid, record { events = h.0; legal = h.2; world = refl; ledger = refl; free = h.3 }, rest.1))
+
+not_free : (b : Bool) → b ≡ false → b ≡ true → ⊥
+not_free b h i = false≢true (sym h ∙ i)
+
+-- where all pages from one on are taken and the n below are not, the place ends there
+pub gap_under : (is_taken : ℕ → Bool) (from n : ℕ) {page : ℕ} → page ≡ from - n → 0 < n → low_page + n ≤ from → from ≤ top_page → ((q : ℕ) → page ≤ q → q < from → is_taken q ≡ false) → ((q : ℕ) → from ≤ q → q < top_page → is_taken q ≡ true) → IsGap is_taken n (Some page)
+gap_under is_taken from n {page} is some low high below above = (
+  record { lowest = omega (arith, is, low); highest = omega (arith, is, low, high); free = λ q a b. below q a (omega (arith, is, b, low)) },
+  (λ other room. fits other room),
+)
+  where
+    fits : (other : ℕ) → IsRoom is_taken n other → other ≤ page
+    fits other room = by (nat_le other page) refl
+      where
+        last : ℕ
+        last = other + n - 1
+
+        by : (b : Bool) → nat_le other page ≡ b → other ≤ page
+        by true h = grind (arith, nat_tests, h)
+        by false h =
+            let more : page < other = grind (arith, nat_tests, h) in
+            let top = room.highest in
+            absurd (not_free (is_taken (other + n - 1)) (room.free (other + n - 1) (omega (arith, some)) (omega (arith, some))) (above (other + n - 1) (omega (arith, is, low, some, more)) (omega (arith, some, top))))
+
+-- and so where none is below
+pub gap_below : (is_taken : ℕ → Bool) (from n : ℕ) {page : ℕ} → page ≡ from - n → 0 < n → low_page + n ≤ from → from ≤ top_page → ((q : ℕ) → q < from → is_taken q ≡ false) → ((q : ℕ) → from ≤ q → q < top_page → is_taken q ≡ true) → IsGap is_taken n (Some page)
+gap_below is_taken from n is some low high below above = gap_under is_taken from n is some low high (λ q a b. below q b) above
+
+-- process 1 has the topmost page mapped, and no other
+abbrev pub one_page : Prot → State
+one_page prot = record { world = (1, with_pages no_pages 0x7fffffffe 1 (λ _. Some (zeros prot))) ∷ []; ledger = first_ledger; free = 0 ∷ 1 ∷ 2 ∷ 3 ∷ [] }
+
+-- so many rows begin
+pub topmost : (prot : Prot) (row : List Exchange) → Steps (machine 4) (one_page prot) row → Steps (machine 4) (at_first (machine 4)) (says (Spawn 1) Done [] ∷ says (Mmap 1 4096 prot Auto) (MapAt 0x7fffffffe000) [] ∷ row)
+topmost prot row rest = (
+  [],
+  0 ∷ 1 ∷ 2 ∷ 3 ∷ [],
+  record { answer = (refl, refl, refl); notes = refl },
+  refl,
+  (
+    [],
+    0 ∷ 1 ∷ 2 ∷ 3 ∷ [],
+    record { answer = (Some 0x7fffffffe, (record { lowest = omega arith; highest = omega arith; free = λ q a b. refl }, (λ b h. omega (arith, h.highest))), refl, refl, refl); notes = refl },
+    refl,
+    rest,
+  ),
+)
+
+pub first_run-runs : Runs 4 first_run
+first_run-runs = by_steps (machine 4) (at_first (machine 4)) first_run (topmost read_write (drop 2 first_run) (
+  Noted (New 1 0x7fffffffe000 0) ∷ Used true (1, 0x7fffffffe) ∷ [],
+  1 ∷ 2 ∷ 3 ∷ [],
+  record { answer = (Whole, inl (New 1 0x7fffffffe000 0 ∷ [], [], (refl, record { coming = []; making = New 1 0x7fffffffe000 0 ∷ []; whole = refl; comes_in = refl; made = record { sought = []; frame = 0; seeks = refl; in_range = omega arith; free = refl; whole = refl } }), refl, (refl, refl)), refl, refl); notes = refl },
+  (1 ∷ 2 ∷ 3 ∷ [], (1 ∷ 2 ∷ 3 ∷ [], refl, refl), (1 ∷ 2 ∷ 3 ∷ [], (1 ∷ 2 ∷ 3 ∷ [], refl, refl), refl)),
+  (
+    Used false (1, 0x7fffffffe) ∷ [],
+    1 ∷ 2 ∷ 3 ∷ [],
+    record { answer = (Whole, 0 ∷ 65 ∷ 0 ∷ [], inl ([], [], (refl, record { coming = []; making = []; whole = refl; comes_in = refl; made = refl }), refl, (refl, refl)), (refl, (refl, (refl, (refl, tt))), (omega arith, (omega arith, (omega arith, tt)))), refl, refl); notes = refl },
+    (1 ∷ 2 ∷ 3 ∷ [], (1 ∷ 2 ∷ 3 ∷ [], refl, refl), refl),
+    tt,
+  ),
+))
+
+pub zero_first-runs : Runs 4 zero_first
+zero_first-runs = by_steps (machine 4) (at_first (machine 4)) zero_first (topmost read_write (drop 2 zero_first) (
+  Noted (Zeroed 1 0x7fffffffe000) ∷ Used false (1, 0x7fffffffe) ∷ [],
+  0 ∷ 1 ∷ 2 ∷ 3 ∷ [],
+  record { answer = (Whole, 0 ∷ 0 ∷ [], inl (Zeroed 1 0x7fffffffe000 ∷ [], [], (refl, record { coming = []; making = Zeroed 1 0x7fffffffe000 ∷ []; whole = refl; comes_in = refl; made = refl }), refl, (refl, refl)), (refl, (refl, (refl, tt)), (omega arith, (omega arith, tt))), refl, refl); notes = refl },
+  (0 ∷ 1 ∷ 2 ∷ 3 ∷ [], (0 ∷ 1 ∷ 2 ∷ 3 ∷ [], refl, refl), (0 ∷ 1 ∷ 2 ∷ 3 ∷ [], (0 ∷ 1 ∷ 2 ∷ 3 ∷ [], refl, refl), refl)),
+  (
+    Used false (1, 0x7fffffffe) ∷ [],
+    0 ∷ 1 ∷ 2 ∷ 3 ∷ [],
+    record { answer = (Whole, 0 ∷ [], inl ([], [], (refl, record { coming = []; making = []; whole = refl; comes_in = refl; made = refl }), refl, (refl, refl)), (refl, (refl, tt), (omega arith, tt)), refl, refl); notes = refl },
+    (0 ∷ 1 ∷ 2 ∷ 3 ∷ [], (0 ∷ 1 ∷ 2 ∷ 3 ∷ [], refl, refl), refl),
+    (
+      Noted (New 1 0x7fffffffe000 0) ∷ Used true (1, 0x7fffffffe) ∷ [],
+      1 ∷ 2 ∷ 3 ∷ [],
+      record { answer = (Whole, inl (New 1 0x7fffffffe000 0 ∷ [], [], (refl, record { coming = []; making = New 1 0x7fffffffe000 0 ∷ []; whole = refl; comes_in = refl; made = record { sought = []; frame = 0; seeks = refl; in_range = omega arith; free = refl; whole = refl } }), refl, (refl, refl)), refl, refl); notes = refl },
+      (1 ∷ 2 ∷ 3 ∷ [], (1 ∷ 2 ∷ 3 ∷ [], refl, refl), (1 ∷ 2 ∷ 3 ∷ [], (1 ∷ 2 ∷ 3 ∷ [], refl, refl), refl)),
+      (
+        Used true (1, 0x7fffffffe) ∷ [],
+        1 ∷ 2 ∷ 3 ∷ [],
+        record { answer = (Whole, inl ([], [], (refl, record { coming = []; making = []; whole = refl; comes_in = refl; made = refl }), refl, (refl, refl)), refl, refl); notes = refl },
+        (1 ∷ 2 ∷ 3 ∷ [], (1 ∷ 2 ∷ 3 ∷ [], refl, refl), refl),
+        (
+          Used false (1, 0x7fffffffe) ∷ [],
+          1 ∷ 2 ∷ 3 ∷ [],
+          record { answer = (Whole, 1 ∷ 2 ∷ [], inl ([], [], (refl, record { coming = []; making = []; whole = refl; comes_in = refl; made = refl }), refl, (refl, refl)), (refl, (refl, (refl, tt)), (omega arith, (omega arith, tt))), refl, refl); notes = refl },
+          (1 ∷ 2 ∷ 3 ∷ [], (1 ∷ 2 ∷ 3 ∷ [], refl, refl), refl),
+          tt,
+        ),
+      ),
+    ),
+  ),
+))
+
+pub one_frame-runs : Runs 1 one_frame
+one_frame-runs = by_steps (machine 1) (at_first (machine 1)) one_frame ((
+  [],
+  0 ∷ [],
+  record { answer = (refl, refl, refl); notes = refl },
+  refl,
+  (
+    [],
+    0 ∷ [],
+    record { answer = (Some 0x7fffffffd, (record { lowest = omega arith; highest = omega arith; free = λ q a b. refl }, (λ b h. omega (arith, h.highest))), refl, refl, refl); notes = refl },
+    refl,
+    (
+      Noted (New 1 0x7fffffffd000 0) ∷ Used true (1, 0x7fffffffd) ∷ [],
+      [],
+      record { answer = (Stopped 0x7fffffffe (Starved (record { pinned = 0; noslot = 1; fault = 0 })), inl (New 1 0x7fffffffd000 0 ∷ [], [], (refl, record { coming = []; making = New 1 0x7fffffffd000 0 ∷ []; whole = refl; comes_in = refl; made = record { sought = []; frame = 0; seeks = refl; in_range = omega arith; free = refl; whole = refl } }), refl, inr ([], Starved (record { pinned = 0; noslot = 1; fault = 0 }), (refl, record { coming = []; sought = []; whole = refl; before = inl refl; finds = record { wants = refl; seeks = ([], [], refl, refl, refl); none = refl; numbers = refl } }), refl, refl)), refl, refl); notes = refl },
+      ([], ([], refl, refl), ([], ([], refl, refl), refl)),
+      (
+        Used false (1, 0x7fffffffd) ∷ Noted (Zeroed 1 0x7fffffffe000) ∷ Used false (1, 0x7fffffffe) ∷ [],
+        [],
+        record { answer = (Whole, 170 ∷ 0 ∷ [], inl ([], Noted (Zeroed 1 0x7fffffffe000) ∷ Used false (1, 0x7fffffffe) ∷ [], (refl, record { coming = []; making = []; whole = refl; comes_in = refl; made = refl }), refl, inl (Zeroed 1 0x7fffffffe000 ∷ [], [], (refl, record { coming = []; making = Zeroed 1 0x7fffffffe000 ∷ []; whole = refl; comes_in = refl; made = refl }), refl, (refl, refl))), (refl, (refl, (refl, tt)), (omega arith, (omega arith, tt))), refl, refl); notes = refl },
+        ([], ([], refl, refl), ([], ([], refl, refl), ([], ([], refl, refl), refl))),
+        (
+          [],
+          [],
+          record { answer = (Stopped 0x7fffffffe (Starved (record { pinned = 0; noslot = 1; fault = 0 })), inr ([], Starved (record { pinned = 0; noslot = 1; fault = 0 }), (refl, record { coming = []; sought = []; whole = refl; before = inl refl; finds = record { wants = refl; seeks = ([], [], refl, refl, refl); none = refl; numbers = refl } }), refl, refl), refl, refl); notes = refl },
+          refl,
+          tt,
+        ),
+      ),
+    ),
+  ),
+))
+
+pub part_denied-runs : Runs 4 part_denied
+part_denied-runs = by_steps (machine 4) (at_first (machine 4)) part_denied ((
+  [],
+  0 ∷ 1 ∷ 2 ∷ 3 ∷ [],
+  record { answer = (refl, refl, refl); notes = refl },
+  refl,
+  (
+    [],
+    0 ∷ 1 ∷ 2 ∷ 3 ∷ [],
+    record { answer = (Some 0x7fffffffe, (record { lowest = omega arith; highest = omega arith; free = λ q a b. refl }, (λ b h. omega (arith, h.highest))), refl, refl, refl); notes = refl },
+    refl,
+    (
+      [],
+      0 ∷ 1 ∷ 2 ∷ 3 ∷ [],
+      record { answer = (Some 0x7fffffffd, (gap_below _ 0x7fffffffe 1 refl (omega arith) (omega arith) (omega arith) (λ q h. grind (arith, nat_tests, h)) (λ q h i. grind (arith, nat_tests, h, i))), refl, refl, refl); notes = refl },
+      refl,
+      (
+        Noted (New 1 0x7fffffffd000 0) ∷ Used true (1, 0x7fffffffd) ∷ [],
+        1 ∷ 2 ∷ 3 ∷ [],
+        record { answer = (Stopped 0x7fffffffe Denied, inl (New 1 0x7fffffffd000 0 ∷ [], [], (refl, record { coming = []; making = New 1 0x7fffffffd000 0 ∷ []; whole = refl; comes_in = refl; made = record { sought = []; frame = 0; seeks = refl; in_range = omega arith; free = refl; whole = refl } }), refl, inr ([], Denied, (refl, refl), refl, refl)), refl, refl); notes = refl },
+        (1 ∷ 2 ∷ 3 ∷ [], (1 ∷ 2 ∷ 3 ∷ [], refl, refl), (1 ∷ 2 ∷ 3 ∷ [], (1 ∷ 2 ∷ 3 ∷ [], refl, refl), refl)),
+        (
+          Used false (1, 0x7fffffffd) ∷ Noted (Zeroed 1 0x7fffffffe000) ∷ Used false (1, 0x7fffffffe) ∷ [],
+          1 ∷ 2 ∷ 3 ∷ [],
+          record { answer = (Whole, 1 ∷ 2 ∷ 0 ∷ 0 ∷ [], inl ([], Noted (Zeroed 1 0x7fffffffe000) ∷ Used false (1, 0x7fffffffe) ∷ [], (refl, record { coming = []; making = []; whole = refl; comes_in = refl; made = refl }), refl, inl (Zeroed 1 0x7fffffffe000 ∷ [], [], (refl, record { coming = []; making = Zeroed 1 0x7fffffffe000 ∷ []; whole = refl; comes_in = refl; made = refl }), refl, (refl, refl))), (refl, (refl, (refl, (refl, (refl, tt)))), (omega arith, (omega arith, (omega arith, (omega arith, tt))))), refl, refl); notes = refl },
+          (1 ∷ 2 ∷ 3 ∷ [], (1 ∷ 2 ∷ 3 ∷ [], refl, refl), (1 ∷ 2 ∷ 3 ∷ [], (1 ∷ 2 ∷ 3 ∷ [], refl, refl), (1 ∷ 2 ∷ 3 ∷ [], (1 ∷ 2 ∷ 3 ∷ [], refl, refl), refl))),
+          (
+            Used false (1, 0x7fffffffe) ∷ [],
+            1 ∷ 2 ∷ 3 ∷ [],
+            record { answer = (Stopped 0x7ffffffff Denied, 0 ∷ [], inl ([], [], (refl, record { coming = []; making = []; whole = refl; comes_in = refl; made = refl }), refl, inr ([], Denied, (refl, refl), refl, refl)), (refl, (refl, tt), (omega arith, tt)), refl, refl); notes = refl },
+            (1 ∷ 2 ∷ 3 ∷ [], (1 ∷ 2 ∷ 3 ∷ [], refl, refl), refl),
+            (
+              [],
+              1 ∷ 2 ∷ 3 ∷ [],
+              record { answer = (Stopped 0x7fffffffe Denied, inr ([], Denied, (refl, refl), refl, refl), refl, refl); notes = refl },
+              refl,
+              (
+                [],
+                1 ∷ 2 ∷ 3 ∷ [],
+                record { answer = (Stopped 0x7fffffffc Denied, [], inr ([], Denied, (refl, refl), refl, refl), (refl, tt, tt), refl, refl); notes = refl },
+                refl,
+                tt,
+              ),
+            ),
+          ),
+        ),
+      ),
+    ),
+  ),
+))
+
+pub two_processes-runs : Runs 4 two_processes
+two_processes-runs = by_steps (machine 4) (at_first (machine 4)) two_processes ((
+  [],
+  0 ∷ 1 ∷ 2 ∷ 3 ∷ [],
+  record { answer = (refl, refl, refl); notes = refl },
+  refl,
+  (
+    [],
+    0 ∷ 1 ∷ 2 ∷ 3 ∷ [],
+    record { answer = (refl, refl, refl); notes = refl },
+    refl,
+    (
+      [],
+      0 ∷ 1 ∷ 2 ∷ 3 ∷ [],
+      record { answer = (Some 0x7fffffffe, (record { lowest = omega arith; highest = omega arith; free = λ q a b. refl }, (λ b h. omega (arith, h.highest))), refl, refl, refl); notes = refl },
+      refl,
+      (
+        [],
+        0 ∷ 1 ∷ 2 ∷ 3 ∷ [],
+        record { answer = (Some 0x7fffffffe, (record { lowest = omega arith; highest = omega arith; free = λ q a b. refl }, (λ b h. omega (arith, h.highest))), refl, refl, refl); notes = refl },
+        refl,
+        (
+          [],
+          0 ∷ 1 ∷ 2 ∷ 3 ∷ [],
+          record { answer = (Some 0x7fffffffc, (gap_below _ 0x7fffffffe 2 refl (omega arith) (omega arith) (omega arith) (λ q h. grind (arith, nat_tests, h)) (λ q h i. grind (arith, nat_tests, h, i))), refl, refl, refl); notes = refl },
+          refl,
+          (
+            [],
+            0 ∷ 1 ∷ 2 ∷ 3 ∷ [],
+            record { answer = (Stopped 0x7fffffffe Denied, [], inr ([], Denied, (refl, refl), refl, refl), (refl, tt, tt), refl, refl); notes = refl },
+            refl,
+            (
+              Noted (New 7 0x7fffffffc000 0) ∷ Used true (7, 0x7fffffffc) ∷ [],
+              1 ∷ 2 ∷ 3 ∷ [],
+              record { answer = (Whole, inl (New 7 0x7fffffffc000 0 ∷ [], [], (refl, record { coming = []; making = New 7 0x7fffffffc000 0 ∷ []; whole = refl; comes_in = refl; made = record { sought = []; frame = 0; seeks = refl; in_range = omega arith; free = refl; whole = refl } }), refl, (refl, refl)), refl, refl); notes = refl },
+              (1 ∷ 2 ∷ 3 ∷ [], (1 ∷ 2 ∷ 3 ∷ [], refl, refl), (1 ∷ 2 ∷ 3 ∷ [], (1 ∷ 2 ∷ 3 ∷ [], refl, refl), refl)),
+              (
+                Noted (New 3 0x7fffffffe000 1) ∷ Used true (3, 0x7fffffffe) ∷ [],
+                2 ∷ 3 ∷ [],
+                record { answer = (Whole, inl (New 3 0x7fffffffe000 1 ∷ [], [], (refl, record { coming = []; making = New 3 0x7fffffffe000 1 ∷ []; whole = refl; comes_in = refl; made = record { sought = []; frame = 1; seeks = refl; in_range = omega arith; free = refl; whole = refl } }), refl, (refl, refl)), refl, refl); notes = refl },
+                (2 ∷ 3 ∷ [], (2 ∷ 3 ∷ [], refl, refl), (2 ∷ 3 ∷ [], (2 ∷ 3 ∷ [], refl, refl), refl)),
+                (
+                  Used false (7, 0x7fffffffc) ∷ [],
+                  2 ∷ 3 ∷ [],
+                  record { answer = (Whole, 5 ∷ [], inl ([], [], (refl, record { coming = []; making = []; whole = refl; comes_in = refl; made = refl }), refl, (refl, refl)), (refl, (refl, tt), (omega arith, tt)), refl, refl); notes = refl },
+                  (2 ∷ 3 ∷ [], (2 ∷ 3 ∷ [], refl, refl), refl),
+                  (
+                    Used false (3, 0x7fffffffe) ∷ [],
+                    2 ∷ 3 ∷ [],
+                    record { answer = (Whole, 6 ∷ [], inl ([], [], (refl, record { coming = []; making = []; whole = refl; comes_in = refl; made = refl }), refl, (refl, refl)), (refl, (refl, tt), (omega arith, tt)), refl, refl); notes = refl },
+                    (2 ∷ 3 ∷ [], (2 ∷ 3 ∷ [], refl, refl), refl),
+                    tt,
+                  ),
+                ),
+              ),
+            ),
+          ),
+        ),
+      ),
+    ),
+  ),
+))
+
+pub readable-runs : Runs 4 readable
+readable-runs = by_steps (machine 4) (at_first (machine 4)) readable (topmost write_only (drop 2 readable) (
+  [],
+  0 ∷ 1 ∷ 2 ∷ 3 ∷ [],
+  record { answer = (Some 0x7fffffffd, (gap_below _ 0x7fffffffe 1 refl (omega arith) (omega arith) (omega arith) (λ q h. grind (arith, nat_tests, h)) (λ q h i. grind (arith, nat_tests, h, i))), refl, refl, refl); notes = refl },
+  refl,
+  (
+    Noted (Zeroed 1 0x7fffffffe000) ∷ Used false (1, 0x7fffffffe) ∷ [],
+    0 ∷ 1 ∷ 2 ∷ 3 ∷ [],
+    record { answer = (Whole, 0 ∷ [], inl (Zeroed 1 0x7fffffffe000 ∷ [], [], (refl, record { coming = []; making = Zeroed 1 0x7fffffffe000 ∷ []; whole = refl; comes_in = refl; made = refl }), refl, (refl, refl)), (refl, (refl, tt), (omega arith, tt)), refl, refl); notes = refl },
+    (0 ∷ 1 ∷ 2 ∷ 3 ∷ [], (0 ∷ 1 ∷ 2 ∷ 3 ∷ [], refl, refl), (0 ∷ 1 ∷ 2 ∷ 3 ∷ [], (0 ∷ 1 ∷ 2 ∷ 3 ∷ [], refl, refl), refl)),
+    (
+      Noted (Zeroed 1 0x7fffffffd000) ∷ Used false (1, 0x7fffffffd) ∷ [],
+      0 ∷ 1 ∷ 2 ∷ 3 ∷ [],
+      record { answer = (Whole, 0 ∷ [], inl (Zeroed 1 0x7fffffffd000 ∷ [], [], (refl, record { coming = []; making = Zeroed 1 0x7fffffffd000 ∷ []; whole = refl; comes_in = refl; made = refl }), refl, (refl, refl)), (refl, (refl, tt), (omega arith, tt)), refl, refl); notes = refl },
+      (0 ∷ 1 ∷ 2 ∷ 3 ∷ [], (0 ∷ 1 ∷ 2 ∷ 3 ∷ [], refl, refl), (0 ∷ 1 ∷ 2 ∷ 3 ∷ [], (0 ∷ 1 ∷ 2 ∷ 3 ∷ [], refl, refl), refl)),
+      (
+        [],
+        0 ∷ 1 ∷ 2 ∷ 3 ∷ [],
+        record { answer = (Stopped 0x7fffffffd Denied, inr ([], Denied, (refl, refl), refl, refl), refl, refl); notes = refl },
+        refl,
+        (
+          Noted (New 1 0x7fffffffe000 0) ∷ Used true (1, 0x7fffffffe) ∷ [],
+          1 ∷ 2 ∷ 3 ∷ [],
+          record { answer = (Whole, inl (New 1 0x7fffffffe000 0 ∷ [], [], (refl, record { coming = []; making = New 1 0x7fffffffe000 0 ∷ []; whole = refl; comes_in = refl; made = record { sought = []; frame = 0; seeks = refl; in_range = omega arith; free = refl; whole = refl } }), refl, (refl, refl)), refl, refl); notes = refl },
+          (1 ∷ 2 ∷ 3 ∷ [], (1 ∷ 2 ∷ 3 ∷ [], refl, refl), (1 ∷ 2 ∷ 3 ∷ [], (1 ∷ 2 ∷ 3 ∷ [], refl, refl), refl)),
+          tt,
+        ),
+      ),
+    ),
+  ),
+))
+
+pub refusals-runs : Runs 4 refusals
+refusals-runs = by_steps (machine 4) (at_first (machine 4)) refusals ((
+  [],
+  0 ∷ 1 ∷ 2 ∷ 3 ∷ [],
+  record { answer = (refl, refl, refl); notes = refl },
+  refl,
+  (
+    [],
+    0 ∷ 1 ∷ 2 ∷ 3 ∷ [],
+    record { answer = (refl, refl, refl); notes = refl },
+    refl,
+    (
+      [],
+      0 ∷ 1 ∷ 2 ∷ 3 ∷ [],
+      record { answer = (refl, refl, refl); notes = refl },
+      refl,
+      (
+        [],
+        0 ∷ 1 ∷ 2 ∷ 3 ∷ [],
+        record { answer = (refl, refl, refl); notes = refl },
+        refl,
+        (
+          [],
+          0 ∷ 1 ∷ 2 ∷ 3 ∷ [],
+          record { answer = (refl, refl, refl); notes = refl },
+          refl,
+          (
+            [],
+            0 ∷ 1 ∷ 2 ∷ 3 ∷ [],
+            record { answer = (None, (λ page room. let low = room.lowest in let high = room.highest in absurd (omega (arith, low, high))), refl, refl, refl); notes = refl },
+            refl,
+            (
+              [],
+              0 ∷ 1 ∷ 2 ∷ 3 ∷ [],
+              record { answer = (refl, refl, refl); notes = refl },
+              refl,
+              (
+                [],
+                0 ∷ 1 ∷ 2 ∷ 3 ∷ [],
+                record { answer = (refl, refl, refl); notes = refl },
+                refl,
+                (
+                  [],
+                  0 ∷ 1 ∷ 2 ∷ 3 ∷ [],
+                  record { answer = (refl, refl, refl); notes = refl },
+                  refl,
+                  (
+                    [],
+                    0 ∷ 1 ∷ 2 ∷ 3 ∷ [],
+                    record { answer = (refl, refl, refl); notes = refl },
+                    refl,
+                    (
+                      [],
+                      0 ∷ 1 ∷ 2 ∷ 3 ∷ [],
+                      record { answer = (Stopped 0x10 Denied, [], inr ([], Denied, (refl, refl), refl, refl), (refl, tt, tt), refl, refl); notes = refl },
+                      refl,
+                      tt,
+                    ),
+                  ),
+                ),
+              ),
+            ),
+          ),
+        ),
+      ),
+    ),
+  ),
+))
+
+pub all_mapped-runs : Runs 4 all_mapped
+all_mapped-runs = by_steps (machine 4) (at_first (machine 4)) all_mapped ((
+  [],
+  0 ∷ 1 ∷ 2 ∷ 3 ∷ [],
+  record { answer = (refl, refl, refl); notes = refl },
+  refl,
+  (
+    [],
+    0 ∷ 1 ∷ 2 ∷ 3 ∷ [],
+    record { answer = (Some 0x10, (record { lowest = omega arith; highest = omega arith; free = λ q a b. refl }, (λ b h. omega (arith, h.highest))), refl, refl, refl); notes = refl },
+    refl,
+    (
+      [],
+      0 ∷ 1 ∷ 2 ∷ 3 ∷ [],
+      record { answer = (None, (λ page room. not_free _ (room.free page (omega arith) (omega arith)) (let low = room.lowest in let high = room.highest in grind (arith, nat_tests, low, high))), refl, refl, refl); notes = refl },
+      refl,
+      (
+        Noted (New 1 0x10000 0) ∷ Used true (1, 0x10) ∷ [],
+        1 ∷ 2 ∷ 3 ∷ [],
+        record { answer = (Whole, inl (New 1 0x10000 0 ∷ [], [], (refl, record { coming = []; making = New 1 0x10000 0 ∷ []; whole = refl; comes_in = refl; made = record { sought = []; frame = 0; seeks = refl; in_range = omega arith; free = refl; whole = refl } }), refl, (refl, refl)), refl, refl); notes = refl },
+        (1 ∷ 2 ∷ 3 ∷ [], (1 ∷ 2 ∷ 3 ∷ [], refl, refl), (1 ∷ 2 ∷ 3 ∷ [], (1 ∷ 2 ∷ 3 ∷ [], refl, refl), refl)),
+        tt,
+      ),
+    ),
+  ),
+))
+
+pub denied_write-runs : Runs 4 (denied_write 1)
+denied_write-runs = by_steps (machine 4) (at_first (machine 4)) (denied_write 1) (topmost read_write (drop 2 (denied_write 1)) (
+  Noted (New 1 0x7fffffffe000 0) ∷ Used true (1, 0x7fffffffe) ∷ [],
+  1 ∷ 2 ∷ 3 ∷ [],
+  record { answer = (Stopped 0x7ffffffff Denied, inl (New 1 0x7fffffffe000 0 ∷ [], [], (refl, record { coming = []; making = New 1 0x7fffffffe000 0 ∷ []; whole = refl; comes_in = refl; made = record { sought = []; frame = 0; seeks = refl; in_range = omega arith; free = refl; whole = refl } }), refl, inr ([], Denied, (refl, refl), refl, refl)), refl, refl); notes = refl },
+  (1 ∷ 2 ∷ 3 ∷ [], (1 ∷ 2 ∷ 3 ∷ [], refl, refl), (1 ∷ 2 ∷ 3 ∷ [], (1 ∷ 2 ∷ 3 ∷ [], refl, refl), refl)),
+  (
+    Used false (1, 0x7fffffffe) ∷ [],
+    1 ∷ 2 ∷ 3 ∷ [],
+    record { answer = (Whole, 1 ∷ [], inl ([], [], (refl, record { coming = []; making = []; whole = refl; comes_in = refl; made = refl }), refl, (refl, refl)), (refl, (refl, tt), (omega arith, tt)), refl, refl); notes = refl },
+    (1 ∷ 2 ∷ 3 ∷ [], (1 ∷ 2 ∷ 3 ∷ [], refl, refl), refl),
+    tt,
+  ),
+))

@@ -1,0 +1,504 @@
+-- In a run the list of free frames has each free frame of the machine once: a frame comes into use only where a note takes it.
+use Rattle.std.proofs.Common.{◌≡◌, ◌⊎◌, inl, inr, ℕ, zero, suc, ◌+◌, ◌<◌, ◌≤◌, Bool, true, false, cond, not, ◌&&◌, if◌then◌else◌, nat_lt, nat_le, T, List, [], ◌∷◌, ◌++◌, length, Option, Some, None, is_none, refl, sym, ap, subst, ◌∙◌, arith, ◌==◌}
+use Rattle.std.proofs.lemmas.Bool.Decides.{nat_tests}
+use Rattle.std.specs.Prelude.{MatchBool, MatchOption}
+use Rattle.std.specs.FinMap.Entries.{is_sorted}
+use Rattle.av_trace.specs.declared.command.Command.{Command}
+use Rattle.av_trace.specs.declared.command.Command.TheVariants.{Spawn, Exit, Mmap, Munmap, Mprotect, Read, Write, Maps, Stat}
+use Rattle.av_trace.specs.declared.place.Place.TheVariants.{Auto, At, Fixed, NoReplace}
+use Rattle.av_trace.specs.declared.reply.Errno.{Errno}
+use Rattle.av_trace.specs.declared.reply.Reply.{Reply}
+use Rattle.av_base.specs.Page.{address_of, page_of, pages_of}
+use Rattle.av_base.specs.Words.{how_many, is_in, numbers}
+use Rattle.av_base.specs.declared.slot.Slot.{Slot}
+use Rattle.av_trace.specs.declared.note.Cause.TheVariants.{NoSlot, Referenced, WriteStarted, Writeback}
+use Rattle.av_trace.specs.declared.note.Note.{Note}
+use Rattle.av_trace.specs.declared.note.Note.TheVariants.{Aged, Copied, Dropped, Failed, Kept, Loaded, Mapped, New, Put, Started, Unmapped, Written, Zeroed}
+use Rattle.av_plain.specs.Access.{Accesses, End, page_events, pages_of_access}
+use Rattle.av_plain.specs.Choice.{ChoosesAll, ListsFree, frame_in_note, new_free}
+use Rattle.av_plain.specs.Event.{Event, Used, after_all, after_note, after_notes, after_use, after_use_of, after_zap, change_entries, if_some, key_at, note_events, off_cache, set_entry, when, with_stale, without_seen}
+use Rattle.av_plain.specs.Fault.{ComesIn, CopyOnWrite, Denied, IsMade, Lost, MapCached, Need, NewPage, Ready, RunsOut, Serves, Sparing, Starved, Stop, SwapIn, Touches, ZeroPage, drop_at, drop_of_entry, drop_of_slot, is_shared, is_unneeded, need, need_of_slot, pinned_by, sparing, was_slot}
+use Rattle.av_plain.specs.Ledger.{Cached, Entry, InFrame, InSlot, Key, Ledger, Setting, Zero, entry, first_ledger, frame_at, has_free, is_free, is_orphan, key_cmp, map_count, names_frame, slot_of}
+use Rattle.av_plain.specs.Pass.{Completes, IsPass, IsSlotFor, Seeks, Spared, TakesFor, Turns, end_note, end_notes, frames_in_turn, is_dirty, is_stuck, stays_cached, turn_notes, unmap_notes}
+use Rattle.av_plain.specs.Refusal.{Refuses, refusal, tests}
+use Rattle.av_plain.specs.Sound.{AllSound, IsSound, count, flights, holders, uses}
+use Rattle.av_plain.specs.Step.{Follows, IsLegal}
+use Rattle.av_plain.specs.Transcript.{Exchange, IsRun, IsStep, State, at_first}
+use Rattle.av_plain.specs.World.{World}
+use Rattle.av_plain.specs.Zap.{keys_in, keys_of_process, orphan_drop, slot_behind_key, zap_of, zaps_of}
+use Rattle.av_laws.proofs.OnePass.{chosen-first}
+use Rattle.av_plain.proofs.Access.{after_all-append, note_events-all}
+use Rattle.av_plain.proofs.Event.{how_many-map, how_many-same}
+use Rattle.av_plain.proofs.Ledger.{entry-set, how_many-append, how_many-found, map_count-set, same_key-itself}
+use Rattle.av_plain.proofs.Ledger.Order.{weight}
+use Rattle.av_plain.proofs.Sound.{first-sound, step-sound}
+use Rattle.av_plain.proofs.Sound.Access.{comes-kept, page_events-kept, touches-kept}
+use Rattle.av_plain.proofs.Sound.Cache.{frames_left}
+use Rattle.av_plain.proofs.Sound.Changes.{any-counts, free-is}
+use Rattle.av_plain.proofs.Sound.Counts.{frame_at-some, pair-frame, same-is}
+use Rattle.av_plain.proofs.Sound.Pages.{settle-entries}
+use Rattle.av_plain.proofs.Sound.Pass.{AreReady, TurnKept, alike-uses, all-ready, count-filter, ready-first, ready-rest, turn-kept}
+use Rattle.av_plain.proofs.Sound.Steps.{alike-end_note, alike-started, alike-with_stale, all_landed, completes-kept, holders-dropped}
+use Rattle.av_plain.proofs.Sound.There.{sorted-note}
+use Rattle.av_plain.proofs.Sound.Zap.{zap_of-kept}
+use Rattle.av_plain.proofs.Zap.{in_order-after_zap, map_count-after_zap, same_swap-after_zap}
+
+-- ---- the numbers of a range, each once
+
+once : (g a n : ℕ) → how_many (λ x. g == x) (numbers a n) ≡ cond (nat_le a g && nat_lt g (a + n)) 1 0
+once g a zero = out (nat_le a g && nat_lt g (a + 0)) (grind (arith, nat_tests))
+  where
+    out : (b : Bool) → b ≡ false → ◌≡◌ {A = ℕ} 0 (cond b 1 0)
+    out true e = cc
+    out false e = refl
+once g a (suc n) = by (g == a) refl _ (once g (a + 1) n)
+  where
+    ends : (b c d : Bool) → c ≡ (not b && d) → (b ≡ true → d ≡ true) → (k : ℕ) → k ≡ cond c 1 0 → cond b 1 0 + k ≡ cond d 1 0
+    ends true c true e h k z = let z' = z ∙ ap (λ x. cond x 1 0) e in omega (arith, z')
+    ends true c false e h k z = absurd (never (h refl))
+      where
+        never : ◌≡◌ {A = Bool} false true → ⊥
+        never e = cc
+    ends false c d e h k z = plus k ∙ z ∙ ap (λ x. cond x 1 0) e
+      where
+        plus : (n : ℕ) → 0 + n ≡ n
+        plus n = omega arith
+
+    by : (b : Bool) → (g == a) ≡ b → (k : ℕ) → k ≡ cond (nat_le (a + 1) g && nat_lt g ((a + 1) + n)) 1 0 → cond b 1 0 + k ≡ cond (nat_le a g && nat_lt g (a + suc n)) 1 0
+    by true is k e = ends true (nat_le (a + 1) g && nat_lt g ((a + 1) + n)) (nat_le a g && nat_lt g (a + suc n)) (grind (arith, nat_tests, is)) (λ _. grind (arith, nat_tests, is)) k e
+    by false is k e = ends false (nat_le (a + 1) g && nat_lt g ((a + 1) + n)) (nat_le a g && nat_lt g (a + suc n)) (grind (arith, nat_tests, is)) (λ i. grind (arith, nat_tests, is, i)) k e
+
+-- ---- the list after one event
+
+abbrev is_listed : Setting → Ledger → ℕ → Bool
+is_listed m l g = (uses l g == 0) && nat_lt g m.frames
+
+abbrev Lists : Setting → Ledger → List ℕ → Type 0
+Lists m l free = (g : ℕ) → how_many (λ x. g == x) free ≡ cond (is_listed m l g) 1 0
+
+abbrev is_that : Option ℕ → ℕ → Bool
+is_that None g = false
+is_that (Some f) g = g == f
+
+-- a frame without uses stays so, unless it is taken; and then it has one
+record Steady (l l' : Ledger) (taken : Option ℕ) : Type 0 where
+  stays : (g : ℕ) → uses l g ≡ 0 → is_that taken g ≡ false → uses l' g ≡ 0
+  taken_used : (g : ℕ) → is_that taken g ≡ true → 0 < uses l' g
+
+not_zero : (n : ℕ) → 0 < n → (n == 0) ≡ false
+not_zero n h = grind (arith, nat_tests, h)
+
+at_most : (b : Bool) → cond b 1 0 ≤ 1
+at_most true = omega arith
+at_most false = omega arith
+
+differ : {x : Bool} → false ≡ x → x ≡ true → ⊥
+differ h i = cc
+
+lists-event : (m : Setting) (l l' : Ledger) (taken : Option ℕ) (free rest : List ℕ) → MatchOption taken (free ≡ rest) (λ f. free ≡ f ∷ rest) → Steady l l' taken → Lists m l free → Lists m l' (new_free m l l' ++ rest)
+lists-event m l l' taken free rest first steady h g =
+    let a = how_many-append (λ x. g == x) (new_free m l l') rest in
+    let b = count-filter (λ f. is_free l' f && not (is_free l f)) g (numbers 0 m.frames) in
+    let c = once g 0 m.frames in
+    let d = h g in
+    by (is_free l' g) (is_free l g) (nat_lt g m.frames) (is_that taken g) _ _ _ _ _ (uses l g) (uses l' g) (free-is l' g) (free-is l g) a b (c ∙ ap {B = ℕ} (λ x. cond x 1 0) (plain g m.frames)) d (left taken first) (steady.stays g) (steady.taken_used g)
+  where
+    plain : (g n : ℕ) → (nat_le 0 g && nat_lt g (0 + n)) ≡ nat_lt g n
+    plain g n = grind (arith, nat_tests)
+
+    left : (o : Option ℕ) → MatchOption o (free ≡ rest) (λ f. free ≡ f ∷ rest) → how_many (λ x. g == x) free ≡ cond (is_that o g) 1 0 + how_many (λ x. g == x) rest
+    left None e = ap (how_many (λ x. g == x)) e ∙ omega arith
+    left (Some f) e = ap (how_many (λ x. g == x)) e
+
+    by : (v u n t : Bool) (all new nums old k : ℕ) (count count' : ℕ) → v ≡ (count' == 0) → u ≡ (count == 0) → all ≡ new + k → new ≡ cond (v && not u) nums 0 → nums ≡ cond n 1 0 → old ≡ cond ((count == 0) && n) 1 0 → old ≡ cond t 1 0 + k
+        → (count ≡ 0 → t ≡ false → count' ≡ 0) → (t ≡ true → 0 < count') → all ≡ cond ((count' == 0) && n) 1 0
+    by v u n true all new nums old k count count' hv hu a b c d e stays used =
+        let z = used refl in
+        let w = ap {B = ℕ} (λ x. cond (x && n) 1 0) (not_zero count' z) in
+        let v0 : v ≡ false = hv ∙ not_zero count' z in
+        let new0 : new ≡ 0 = b ∙ ap {B = ℕ} (λ x. cond (x && not u) nums 0) v0 in
+        let most = at_most ((count == 0) && n) in
+        omega (arith, a, d, e, new0, w, most)
+    by true true n false all new nums old k count count' hv hu a b c d e stays used =
+        let w = ap {B = ℕ} (λ x. cond (x && n) 1 0) (sym hv) in
+        let y = ap {B = ℕ} (λ x. cond (x && n) 1 0) (sym hu) in
+        omega (arith, a, b, d, e, w, y)
+    by true false n false all new nums old k count count' hv hu a b c d e stays used =
+        let w = ap {B = ℕ} (λ x. cond (x && n) 1 0) (sym hv) in
+        let y = ap {B = ℕ} (λ x. cond (x && n) 1 0) (sym hu) in
+        omega (arith, a, b, c, d, e, w, y)
+    by false true n false all new nums old k count count' hv hu a b c d e stays used =
+        let z : count ≡ 0 = grind (arith, nat_tests, hu) in
+        let z' = stays z refl in
+        absurd (differ hv (grind (arith, nat_tests, z')))
+    by false false n false all new nums old k count count' hv hu a b c d e stays used =
+        let w = ap {B = ℕ} (λ x. cond (x && n) 1 0) (sym hv) in
+        let y = ap {B = ℕ} (λ x. cond (x && n) 1 0) (sym hu) in
+        omega (arith, a, b, d, e, w, y)
+
+-- ---- what each note does to the uses of frames
+
+-- the condition at each note: a frame that an entry or a slot comes to name without being taken is in use
+abbrev IsHeld : Ledger → Note → Type 0
+IsHeld l (Mapped p a f) = 0 < uses l f
+IsHeld l (Put f s) = 0 < uses l f
+IsHeld l note = Unit {0}
+
+abbrev AreHeld : Ledger → List Note → Type 0
+AreHeld l [] = Unit {0}
+AreHeld l (note ∷ notes) = IsHeld l note × AreHeld (after_note note l) notes
+
+set-steady : (l l' : Ledger) (k : Key) (f : ℕ) (seen : Bool) → T (is_sorted key_cmp l.entries) → ((g : ℕ) → uses l' g ≡ uses (set_entry k (InFrame f seen) l) g) → Steady l l' (Some f)
+set-steady l l' k f seen sorted same = record {
+  stays = λ g gone other. let e = same g in let a = map_count-set k (InFrame f seen) l g sorted in let b = flag (g == f) other in omega (arith, gone, e, a, b);
+  taken_used = λ g is. let e = same g in let n = how_many-found (names_frame g) k (set_entry k (InFrame f seen) l).entries (InFrame f seen) (entry-set k (InFrame f seen) l k ∙ ap (λ b. cond b (Some (InFrame f seen)) (entry l k)) (same_key-itself k)) is in omega (arith, e, n);
+}
+  where
+    flag : (b : Bool) → b ≡ false → ◌≡◌ {A = ℕ} (cond b 1 0) 0
+    flag true e = cc
+    flag false e = refl
+
+-- no frame is taken, and none comes into use
+fewer-steady : (l l' : Ledger) → ((g : ℕ) → uses l g ≡ 0 → uses l' g ≡ 0) → Steady l l' None
+fewer-steady l l' h = record { stays = λ g gone other. h g gone; taken_used = λ g is. cc }
+
+unseen-frames : (f : ℕ) (l : Ledger) (j : ℕ) → map_count (change_entries f without_seen l) j ≡ map_count l j
+unseen-frames f l j = how_many-map (λ e. names_frame j e.1) (λ e. (e.0, if names_frame f e.1 then without_seen e.1 else e.1)) l.entries ∙ how_many-same _ _ l.entries (λ e. each e.1)
+  where
+    each : (e : Entry) → names_frame j (if names_frame f e then without_seen e else e) ≡ names_frame j e
+    each Zero = refl
+    each (InFrame g seen) = elim (f == g) as (λ b. names_frame j (if b then without_seen (InFrame g seen) else InFrame g seen) ≡ (j == g)) [ true ↦ refl | false ↦ refl ]
+    each (InSlot t) = refl
+
+note-steady : (l : Ledger) (note : Note) → T (is_sorted key_cmp l.entries) → IsHeld l note → Steady l (after_note note l) (frame_in_note note)
+note-steady l (Zeroed p a) sorted h = fewer-steady l _ (λ g gone. let e = map_count-set (key_at p a) Zero l g sorted in omega (arith, gone, e))
+note-steady l (New p a f) sorted h = set-steady l (after_note (New p a f) l) (key_at p a) f false sorted (λ g. refl)
+note-steady l (Copied p a f) sorted h = set-steady l (after_note (Copied p a f) l) (key_at p a) f false sorted (λ g. refl)
+note-steady l (Loaded s f) sorted h = record { stays = λ g gone other. by (g == f) other g gone; taken_used = λ g is. some (g == f) is g }
+  where
+    by : (b : Bool) → b ≡ false → (g : ℕ) → uses l g ≡ 0 → map_count l g + (cond b 1 0 + holders l g) ≡ 0
+    by true e g gone = cc
+    by false e g gone = omega (arith, gone)
+
+    some : (b : Bool) → b ≡ true → (g : ℕ) → 0 < map_count l g + (cond b 1 0 + holders l g)
+    some true e g = omega arith
+    some false e g = cc
+note-steady l (Mapped p a f) sorted h = fewer-steady l _ (λ g gone. let e = map_count-set (key_at p a) (InFrame f false) l g sorted in by g _ _ (g == f) refl gone e)
+  where
+    by : (g n w : ℕ) (b : Bool) → (g == f) ≡ b → uses l g ≡ 0 → n + w ≡ map_count l g + cond b 1 0 → n + holders l g ≡ 0
+    by g n w true is gone e = let z = ap (uses l) (same-is g f is) in absurd (omega (arith, gone, z, h))
+    by g n w false is gone e = omega (arith, gone, e)
+note-steady l (Put f s) sorted h = fewer-steady l _ (λ g gone. by g (g == f) refl gone)
+  where
+    by : (g : ℕ) (b : Bool) → (g == f) ≡ b → uses l g ≡ 0 → map_count l g + (cond b 1 0 + holders l g) ≡ 0
+    by g true is gone = let z = ap (uses l) (same-is g f is) in absurd (omega (arith, gone, z, h))
+    by g false is gone = omega (arith, gone)
+note-steady l (Unmapped f) sorted h = fewer-steady l _ (by (slot_of l f))
+  where
+    by : (o : Option Slot) → (g : ℕ) → uses l g ≡ 0 → uses (if_some o (λ s. change_entries f (λ _. InSlot s)) l) g ≡ 0
+    by None g gone = gone
+    by (Some t) g gone = less (g == f) _ (frames_left t f l g (g == f) refl)
+      where
+        less : (b : Bool) (n : ℕ) → n ≡ cond b 0 (map_count l g) → n + holders l g ≡ 0
+        less true n e = omega (arith, gone, e)
+        less false n e = omega (arith, gone, e)
+note-steady l (Started s) sorted h = fewer-steady l _ (λ g gone. alike-uses l (after_note (Started s) l) (alike-started l s) g ∙ gone)
+note-steady l (Written s) sorted h = fewer-steady l _ (λ g gone. alike-uses l (after_note (Written s) l) (alike-end_note l false s) g ∙ gone)
+note-steady l (Failed s) sorted h = fewer-steady l _ (λ g gone. alike-uses l (after_note (Failed s) l) (alike-end_note l true s) g ∙ gone)
+note-steady l (Dropped s) sorted h = fewer-steady l _ (λ g gone. let a = ap (λ es. map_count (record l { entries = es }) g) (settle-entries (frame_at l s) (off_cache s l)) in let b = holders-dropped l s g in omega (arith, gone, a, b))
+note-steady l (Kept f Writeback) sorted h = fewer-steady l _ (λ g gone. gone)
+note-steady l (Kept f WriteStarted) sorted h = fewer-steady l _ (λ g gone. gone)
+note-steady l (Kept f Referenced) sorted h = fewer-steady l _ (λ g gone. let e = unseen-frames f l g in omega (arith, e, gone))
+note-steady l (Kept f NoSlot) sorted h = fewer-steady l _ (λ g gone. gone)
+note-steady l (Aged f) sorted h = fewer-steady l _ (λ g gone. let e = unseen-frames f l g in omega (arith, e, gone))
+
+-- ---- several notes
+
+notes-lists : (m : Setting) (l : Ledger) (notes : List Note) (free free' : List ℕ) → T (is_sorted key_cmp l.entries) → AreHeld l notes → ChoosesAll m l (note_events notes) free free' → Lists m l free → Lists m (after_notes l notes) free'
+notes-lists m l [] free free' sorted held c h = subst (Lists m l) (sym c) h
+notes-lists m l (note ∷ notes) free free' sorted held c h =
+    notes-lists m (after_note note l) notes c.0 free' (sorted-note l note sorted) held.1 c.2
+    (subst (Lists m (after_note note l)) (sym c.1.2) (lists-event m l (after_note note l) (frame_in_note note) free c.1.0 c.1.1 (note-steady l note sorted held.0) h))
+
+held-append : (l : Ledger) (a b : List Note) → AreHeld l a → AreHeld (after_notes l a) b → AreHeld l (a ++ b)
+held-append l [] b x y = y
+held-append l (note ∷ a) b x y = (x.0, held-append (after_note note l) a b x.1 y)
+
+held-is : (l : Ledger) (a b : List Note) → a ≡ b → AreHeld l b → AreHeld l a
+held-is l a b e h = subst (AreHeld l) (sym e) h
+
+-- ---- a pass
+
+held-completes : (l : Ledger) (ts : List Slot) (notes : List Note) → Completes l ts notes → AreHeld l notes
+held-completes l [] notes c = held-is l notes [] c tt
+held-completes l (t ∷ ts) notes c = held-is l notes _ c.2 (held-append l (end_notes l t c.0) c.1 (one l c.0 (is_orphan (after_note (end_note c.0 t) l) t)) (held-completes (after_notes l (end_notes l t c.0)) ts c.1 c.3))
+  where
+    one : (l : Ledger) (failed b : Bool) → AreHeld l (end_note failed t ∷ when b (Dropped t))
+    one l true true = (tt, (tt, tt))
+    one l true false = (tt, tt)
+    one l false true = (tt, (tt, tt))
+    one l false false = (tt, tt)
+
+held-turn : (l : Ledger) (f : ℕ) (t : Slot) (failed : Bool) → 0 < uses l f → AreHeld l (turn_notes l f t failed)
+held-turn l f t failed count = held-append l (unmap_notes l f t) _ (held-append l (when (is_none (slot_of l f)) (Put f t)) _ (put (is_none (slot_of l f))) (unmaps _ (not (map_count l f == 0)))) (writes _ (is_dirty l f t))
+  where
+    put : (b : Bool) → AreHeld l (when b (Put f t))
+    put true = (count, tt)
+    put false = tt
+
+    unmaps : (l : Ledger) (b : Bool) → AreHeld l (when b (Unmapped f))
+    unmaps l true = (tt, tt)
+    unmaps l false = tt
+
+    ends : (l : Ledger) (failed : Bool) → IsHeld l (end_note failed t)
+    ends l true = tt
+    ends l false = tt
+
+    writes : (l : Ledger) (b : Bool) → AreHeld l (if b then Started t ∷ end_note failed t ∷ [] else [])
+    writes l true = (tt, (ends (after_note (Started t) l) failed, tt))
+    writes l false = tt
+
+held-turns : (m : Setting) (sp : Spared) (l : Ledger) (fs : List ℕ) (notes : List Note) → IsSound m l → ((r : Slot) → flights l r ≡ 0) → AreReady l fs → Turns m sp l fs notes → AreHeld l notes
+held-turns m sp l [] notes s grounded ready r = held-is l notes [] r tt
+held-turns m sp l (f ∷ fs) notes s grounded ready r = stuck (λ l' ns s' g' r' t'. held-turns m sp l' fs ns s' g' r' t') (is_stuck m sp l f) r
+  where
+    stuck : ((l' : Ledger) (ns : List Note) → IsSound m l' → ((r : Slot) → flights l' r ≡ 0) → AreReady l' fs → Turns m sp l' fs ns → AreHeld l' ns)
+        → (b : Bool) → MatchBool b (Turns m sp l fs notes) ((t : Slot) × (failed : Bool) × IsSlotFor m sp l f t × MatchBool (stays_cached l f t failed)
+        ((rest : List Note) × (notes ≡ turn_notes l f t failed ++ rest) × Turns m sp (after_notes l (turn_notes l f t failed)) fs rest) (notes ≡ turn_notes l f t failed ++ Dropped t ∷ [])) → AreHeld l notes
+    stuck again true r = again l notes s grounded (ready-rest l l f fs (λ g other. refl) ready) r
+    stuck again false r = goes (stays_cached l f r.0 r.1) r.3
+      where
+        here : TurnKept m l f r.0 (after_notes l (turn_notes l f r.0 r.1))
+        here = turn-kept m sp l f r.0 r.1 s grounded r.2 (ready-first l f fs ready)
+
+        goes : (b : Bool) → MatchBool b ((rest : List Note) × (notes ≡ turn_notes l f r.0 r.1 ++ rest) × Turns m sp (after_notes l (turn_notes l f r.0 r.1)) fs rest) (notes ≡ turn_notes l f r.0 r.1 ++ Dropped r.0 ∷ []) → AreHeld l notes
+        goes true q = held-is l notes _ q.1 (held-append l (turn_notes l f r.0 r.1) q.0 (held-turn l f r.0 r.1 (ready-first l f fs ready))
+            (again (after_notes l (turn_notes l f r.0 r.1)) q.0 here.sound here.grounded (ready-rest l (after_notes l (turn_notes l f r.0 r.1)) f fs here.others ready) q.2))
+        goes false q = held-is l notes _ q (held-append l (turn_notes l f r.0 r.1) (Dropped r.0 ∷ []) (held-turn l f r.0 r.1 (ready-first l f fs ready)) (tt, tt))
+
+held-seeks : (m : Setting) (sp : Spared) (l : Ledger) (notes : List Note) → IsSound m l → Seeks m sp l notes → AreHeld l notes
+held-seeks m sp l notes s r = by (has_free m l) r
+  where
+    pass : (b : Bool) (now : Ledger) (ns : List Note) → IsSound m now → ((r : Slot) → flights now r ≡ 0) → MatchBool b (ns ≡ []) (Turns m sp now (frames_in_turn sp now) ns) → AreHeld now ns
+    pass true now ns s g q = held-is now ns [] q tt
+    pass false now ns s g q = held-turns m sp now (frames_in_turn sp now) ns s g (all-ready m sp now s) q
+
+    by : (b : Bool) → MatchBool b (notes ≡ []) (IsPass m sp l notes) → AreHeld l notes
+    by true q = held-is l notes [] q tt
+    by false q =
+        let now = after_notes l q.0 in
+        let done = completes-kept m l l.flight q.0 s q.3 in
+        held-is l notes (q.0 ++ q.1) q.2 (held-append l q.0 q.1 (held-completes l l.flight q.0 q.3) (pass (has_free m now) now q.1 done.sound (all_landed m l now done) q.4))
+
+-- ---- a page
+
+held-takes : (m : Setting) (sp : Spared) (l : Ledger) (notes : List Note) (note : ℕ → Note) → IsSound m l → ((l : Ledger) (f : ℕ) → IsHeld l (note f)) → TakesFor m sp l notes note → AreHeld l notes
+held-takes m sp l notes note s h t = held-is l notes _ t.whole (held-append l t.sought (note t.frame ∷ []) (held-seeks m sp l t.sought s t.seeks) (h (after_notes l t.sought) t.frame, tt))
+
+held-comes : (m : Setting) (sp : Sparing) (l : Ledger) (write : Bool) (k : Key) (notes : List Note) → IsSound m l → ComesIn m sp l k (need write l (entry l k)) notes → AreHeld l notes
+held-comes m sp l write k notes s h = by write (entry l k) h
+  where
+    cached : (l : Ledger) (t : Slot) (f : ℕ) → frame_at l t ≡ Some f → 0 < uses l f
+    cached l t f is = let p = frame_at-some f t l.cache is in let q = pair-frame t f l.cache in omega (arith, p, q)
+
+    none : notes ≡ [] → AreHeld l notes
+    none e = held-is l notes [] e tt
+
+    slot_in : (t : Slot) (o : Option ℕ) → frame_at l t ≡ o → ComesIn m sp l k (need_of_slot t o) notes → AreHeld l notes
+    slot_in t None is q = held-is l notes _ q.4 (held-append l q.0 _ (held-takes m (sp l None) l q.0 (Loaded t) s (λ l f. tt) q.2) (cached (after_notes l q.0) t q.1 q.3, tt))
+    slot_in t (Some f) is q = held-is l notes _ q (cached l t f is, tt)
+
+    ready : (b : Bool) (g : ℕ) → ComesIn m sp l k (cond b (CopyOnWrite g) Ready) notes → notes ≡ []
+    ready true g q = q
+    ready false g q = q
+
+    by : (write : Bool) (o : Option Entry) → ComesIn m sp l k (need write l o) notes → AreHeld l notes
+    by false None q = none q
+    by true None q = none q
+    by false (Some Zero) q = none q
+    by true (Some Zero) q = none q
+    by false (Some (InFrame g seen)) q = none q
+    by true (Some (InFrame g seen)) q = none (ready (is_shared l g) g q)
+    by false (Some (InSlot t)) q = slot_in t (frame_at l t) refl q
+    by true (Some (InSlot t)) q = slot_in t (frame_at l t) refl q
+
+held-made : (m : Setting) (sp : Sparing) (l : Ledger) (k : Key) (n : Need) (notes : List Note) → IsSound m l → IsMade m sp l k n notes → AreHeld l notes
+held-made m sp l k Ready notes s q = held-is l notes [] q tt
+held-made m sp l k ZeroPage notes s q = held-is l notes _ q (tt, tt)
+held-made m sp l k NewPage notes s q = held-takes m (sp l None) l notes (New k.0 (address_of k.1)) s (λ l f. tt) q
+held-made m sp l k (CopyOnWrite g) notes s q = held-takes m (sp l (Some g)) l notes (Copied k.0 (address_of k.1)) s (λ l f. tt) q
+held-made m sp l k (SwapIn t) notes s q = absurd q
+held-made m sp l k (MapCached f) notes s q = absurd q
+
+held-drop_at : (m : Setting) (l : Ledger) (write came : Bool) (k : Key) → AreHeld l (drop_at m write came l k)
+held-drop_at m l write came k = by (entry l k)
+  where
+    dropped : (b : Bool) (t : Slot) → AreHeld l (when b (Dropped t))
+    dropped true t = (tt, tt)
+    dropped false t = tt
+
+    one : (o : Option Slot) → AreHeld l (drop_of_slot m write came l o)
+    one None = tt
+    one (Some t) = dropped (is_unneeded m write came l t) t
+
+    by : (o : Option Entry) → AreHeld l (drop_of_entry m write came l o)
+    by None = tt
+    by (Some Zero) = tt
+    by (Some (InFrame f seen)) = one (slot_of l f)
+    by (Some (InSlot t)) = tt
+
+held-touches : (m : Setting) (w : World) (l : Ledger) (write : Bool) (k : Key) (notes : List Note) (end : Option Stop) → IsSound m l → Touches m w l write k notes end → AreHeld l notes
+held-touches m w l write k notes None s q = serves q.1
+  where
+    serves : Serves m (sparing w) l write k notes → AreHeld l notes
+    serves h =
+        let l1 = after_notes l h.coming in
+        let s1 = comes-kept m (sparing w) l write k h.coming s h.comes_in in
+        let l2 = after_notes l (h.coming ++ h.making) in
+        held-is l notes _ h.whole (held-append l (h.coming ++ h.making) _
+        (held-append l h.coming h.making (held-comes m (sparing w) l write k h.coming s h.comes_in) (held-made m (sparing w) l1 k (need write l1 (entry l1 k)) h.making s1 h.made))
+        (held-drop_at m l2 write (was_slot (need write l (entry l k))) k))
+held-touches m w l write k notes (Some Denied) s q = held-is l notes [] q.1 tt
+held-touches m w l write k notes (Some (Starved out)) s q = runs_out q.1
+  where
+    runs_out : RunsOut m (sparing w) l write k notes out → AreHeld l notes
+    runs_out h = held-is l notes _ h.whole (by h.before)
+      where
+        by : (h.coming ≡ []) ⊎ ComesIn m (sparing w) l k (need write l (entry l k)) h.coming → AreHeld l (h.coming ++ h.sought)
+        by (inl e) = held-append l h.coming h.sought (held-is l h.coming [] e tt) (held-seeks m (sparing w (after_notes l h.coming) (pinned_by (need write (after_notes l h.coming) (entry (after_notes l h.coming) k)))) (after_notes l h.coming) h.sought (subst (λ ns. IsSound m (after_notes l ns)) (sym e) s) h.finds.seeks)
+        by (inr x) = held-append l h.coming h.sought (held-comes m (sparing w) l write k h.coming s x) (held-seeks m (sparing w (after_notes l h.coming) (pinned_by (need write (after_notes l h.coming) (entry (after_notes l h.coming) k)))) (after_notes l h.coming) h.sought (comes-kept m (sparing w) l write k h.coming s x) h.finds.seeks)
+held-touches m w l write k notes (Some Lost) s q = held-seeks m (sparing w l None) l notes s q.1.seeks
+
+-- ---- a use, and an access
+
+used-steady : (m : Setting) (l : Ledger) (write : Bool) (k : Key) → IsSound m l → Steady l (after_use write k l) None
+used-steady m l write k s = by write (entry l k) refl
+  where
+    seen : (f : ℕ) (was : Bool) → entry l k ≡ Some (InFrame f was) → (g : ℕ) → uses l g ≡ 0 → uses (set_entry k (InFrame f true) l) g ≡ 0
+    seen f was here g gone = let a = ap (λ o. map_count (set_entry k (InFrame f true) l) g + weight (names_frame g) o) (sym here) ∙ map_count-set k (InFrame f true) l g s.in_order in omega (arith, gone, a)
+
+    stale : (f : ℕ) (was : Bool) → entry l k ≡ Some (InFrame f was) → (o : Option Slot) → Steady l (if_some o (with_stale true) (set_entry k (InFrame f true) l)) None
+    stale f was here None = fewer-steady l _ (seen f was here)
+    stale f was here (Some t) = fewer-steady l _ (λ g gone. alike-uses (set_entry k (InFrame f true) l) (with_stale true t (set_entry k (InFrame f true) l)) (alike-with_stale (set_entry k (InFrame f true) l) true t) g ∙ seen f was here g gone)
+
+    by : (write : Bool) (o : Option Entry) → entry l k ≡ o → Steady l (after_use_of write k l o) None
+    by write None is = fewer-steady l l (λ g gone. gone)
+    by write (Some Zero) is = fewer-steady l l (λ g gone. gone)
+    by write (Some (InSlot t)) is = fewer-steady l l (λ g gone. gone)
+    by false (Some (InFrame f was)) is = stale f was is None
+    by true (Some (InFrame f was)) is = stale f was is (slot_of l f)
+
+page-lists : (m : Setting) (w : World) (l : Ledger) (write : Bool) (k : Key) (notes : List Note) (end : Option Stop) (free free' : List ℕ) → IsSound m l → Touches m w l write k notes end → ChoosesAll m l (page_events write k notes end) free free'
+    → Lists m l free → Lists m (after_all l (page_events write k notes end)) free'
+page-lists m w l write k notes (Some stop) free free' s q c h = subst (λ x. Lists m x free') (sym (note_events-all l notes)) (notes-lists m l notes free free' s.in_order (held-touches m w l write k notes (Some stop) s q) c h)
+page-lists m w l write k notes None free free' s q c h =
+    let p = chosen-first m l (note_events notes) (Used write k ∷ []) free free' c in
+    let now = after_notes l notes in
+    let first = notes-lists m l notes free p.0 s.in_order (held-touches m w l write k notes None s q) p.1 h in
+    let last = subst (λ x. ChoosesAll m x (Used write k ∷ []) p.0 free') (note_events-all l notes) p.2 in
+    subst (λ x. Lists m x free') (sym (after_all-append l (note_events notes) (Used write k ∷ []) ∙ ap (after_use write k) (note_events-all l notes)))
+    (subst (Lists m (after_use write k now)) (sym (last.2 ∙ last.1.2)) (lists-event m now (after_use write k now) None p.0 last.1.0 last.1.1 (used-steady m now write k (touches-kept m w l write k notes None s q)) first))
+
+accesses-lists : (m : Setting) (w : World) (l : Ledger) (p : ℕ) (ps : List (Bool × ℕ)) (es : List Event) (end : End) (free free' : List ℕ) → IsSound m l → Accesses m w l p ps es end → ChoosesAll m l es free free' → Lists m l free → Lists m (after_all l es) free'
+accesses-lists m w l p [] es end free free' s q c h = subst (λ es. Lists m (after_all l es) free') (sym q.0) (subst (Lists m l) (sym (subst (λ es. ChoosesAll m l es free free') q.0 c)) h)
+accesses-lists m w l p (page ∷ ps) es end free free' s (inl q) c h =
+    let here = page_events page.0 (p, page.1) q.0 None in
+    let both = chosen-first m l here q.1 free free' (subst (λ es. ChoosesAll m l es free free') q.3 c) in
+    let s1 = page_events-kept m l page.0 (p, page.1) q.0 None (touches-kept m w l page.0 (p, page.1) q.0 None s q.2) in
+    let first = page-lists m w l page.0 (p, page.1) q.0 None free both.0 s q.2 both.1 h in
+    subst (λ es. Lists m (after_all l es) free') (sym q.3) (subst (λ x. Lists m x free') (sym (after_all-append l here q.1)) (accesses-lists m w (after_all l here) p ps q.1 end both.0 free' s1 q.4 both.2 first))
+accesses-lists m w l p (page ∷ ps) es end free free' s (inr q) c h =
+    subst (λ es. Lists m (after_all l es) free') (sym q.3) (page-lists m w l page.0 (p, page.1) q.0 (Some q.1) free free' s q.2 (subst (λ es. ChoosesAll m l es free free') q.3 c) h)
+
+-- ---- entries taken away
+
+zap-steady : (m : Setting) (l : Ledger) (k : Key) → T (is_sorted key_cmp l.entries) → Steady l (after_zap k l) None
+zap-steady m l k sorted = fewer-steady l _ (λ g gone. let a = map_count-after_zap k l g sorted in let b = ap (how_many (λ (c : Cached). g == c.frame)) (same_swap-after_zap k l).cache in omega (arith, gone, a, b))
+
+zap-lists : (m : Setting) (l : Ledger) (k : Key) (free free' : List ℕ) → IsSound m l → ChoosesAll m l (zap_of l k) free free' → Lists m l free → Lists m (after_all l (zap_of l k)) free'
+zap-lists m l k free free' s c h =
+    let now = after_zap k l in
+    let first = subst (Lists m now) (sym c.1.2) (lists-event m l now None free c.1.0 c.1.1 (zap-steady m l k s.in_order) h) in
+    drop (slot_behind_key l (entry l k)) c.2 first
+  where
+    dropped : (t : Slot) (b : Bool) → ChoosesAll m (after_zap k l) (note_events (when b (Dropped t))) c.0 free' → Lists m (after_zap k l) c.0 → Lists m (after_all (after_zap k l) (note_events (when b (Dropped t)))) free'
+    dropped t true d f = notes-lists m (after_zap k l) (Dropped t ∷ []) c.0 free' (in_order-after_zap k l s.in_order) (tt, tt) d f
+    dropped t false d f = subst (Lists m (after_zap k l)) (sym d) f
+
+    drop : (o : Option Slot) → ChoosesAll m (after_zap k l) (orphan_drop (after_zap k l) o) c.0 free' → Lists m (after_zap k l) c.0 → Lists m (after_all (after_zap k l) (orphan_drop (after_zap k l) o)) free'
+    drop None d f = subst (Lists m (after_zap k l)) (sym d) f
+    drop (Some t) d f = dropped t (is_orphan (after_zap k l) t) d f
+
+zaps-lists : (m : Setting) (l : Ledger) (ks : List Key) (free free' : List ℕ) → IsSound m l → ChoosesAll m l (zaps_of l ks) free free' → Lists m l free → Lists m (after_all l (zaps_of l ks)) free'
+zaps-lists m l [] free free' s c h = subst (Lists m l) (sym c) h
+zaps-lists m l (k ∷ ks) free free' s c h =
+    let both = chosen-first m l (zap_of l k) (zaps_of (after_all l (zap_of l k)) ks) free free' c in
+    subst (λ x. Lists m x free') (sym (after_all-append l (zap_of l k) (zaps_of (after_all l (zap_of l k)) ks)))
+    (zaps-lists m (after_all l (zap_of l k)) ks both.0 free' (zap_of-kept m l k s) both.2 (zap-lists m l k free both.0 s both.1 h))
+
+-- ---- a step, and a run
+
+legal-lists : (m : Setting) (w : World) (l : Ledger) (command : Command) (reply : Reply) (es : List Event) (free free' : List ℕ) → IsSound m l → IsLegal m w l command reply es → ChoosesAll m l es free free' → Lists m l free → Lists m (after_all l es) free'
+legal-lists m w l command reply es free free' s legal c h = by (refusal (tests m w l command)) legal.answer
+  where
+    none : es ≡ [] → Lists m (after_all l es) free'
+    none e = subst (λ es. Lists m (after_all l es) free') (sym e) (subst (Lists m l) (sym (subst (λ es. ChoosesAll m l es free free') e c)) h)
+
+    these : (ks : List Key) → es ≡ zaps_of l ks → Lists m (after_all l es) free'
+    these ks e = subst (λ es. Lists m (after_all l es) free') (sym e) (zaps-lists m l ks free free' s (subst (λ es. ChoosesAll m l es free free') e c) h)
+
+    follows : (command : Command) → Follows m w l command es reply.answer reply.rows → Lists m (after_all l es) free'
+    follows (Spawn p) q = none q.1
+    follows (Exit p) q = these (keys_of_process l p) q.1
+    follows (Mmap p len prot Auto) q = none q.3
+    follows (Mmap p len prot (At a)) q = none q.3
+    follows (Mmap p len prot (Fixed a)) q = these (keys_in l p (page_of a) (pages_of len)) q.3
+    follows (Mmap p len prot (NoReplace a)) q = none q.3
+    follows (Munmap p a len) q = these (keys_in l p (page_of a) (pages_of len)) q.1
+    follows (Mprotect p a len prot) q = none q.1
+    follows (Read p a n) q = accesses-lists m w l p (pages_of_access false a n) es q.0 free free' s q.2 c h
+    follows (Write p a bytes) q = accesses-lists m w l p (pages_of_access true a (length bytes)) es q.0 free free' s q.1 c h
+    follows (Maps p) q = none q.2
+    follows Stat q = none q.1
+
+    by : (o : Option Errno) → MatchOption o (Follows m w l command es reply.answer reply.rows) (λ error. Refuses error es reply.answer reply.rows) → Lists m (after_all l es) free'
+    by None q = follows command q
+    by (Some error) q = none q.1
+
+run-lists : (m : Setting) (old : State) (es : List Exchange) (new : State) → AllSound m old.world old.ledger → Lists m old.ledger old.free → IsRun m old es new → Lists m new.ledger new.free
+run-lists m old [] new s h q = subst (λ (x : State). Lists m x.ledger x.free) (sym q) h
+run-lists m old (e ∷ es) new s h q =
+    let step = q.1 in
+    let next = subst (λ x. Lists m x q.0.free) (sym step.ledger) (legal-lists m old.world old.ledger e.command e.reply step.events old.free q.0.free s.ledger step.legal step.free h) in
+    run-lists m q.0 es new (step-sound m old e.command e.reply q.0 s step) next q.2
+
+first-lists : (m : Setting) → Lists m first_ledger (numbers 0 m.frames)
+first-lists m g = once g 0 m.frames ∙ ap (λ b. cond b 1 0) (plain g m.frames)
+  where
+    plain : (g n : ℕ) → (nat_le 0 g && nat_lt g (0 + n)) ≡ nat_lt g n
+    plain g n = grind (arith, nat_tests)
+
+to_lists : (m : Setting) (l : Ledger) (free : List ℕ) → ListsFree m l free → Lists m l free
+to_lists m l free h f = h f ∙ ap (λ b. cond (b && nat_lt f m.frames) 1 0) (free-is l f)
+
+from_lists : (m : Setting) (l : Ledger) (free : List ℕ) → Lists m l free → ListsFree m l free
+from_lists m l free h f = h f ∙ ap (λ b. cond (b && nat_lt f m.frames) 1 0) (sym (free-is l f))
+
+pub first-lists_free : (m : Setting) → ListsFree m first_ledger (numbers 0 m.frames)
+first-lists_free m = from_lists m first_ledger (numbers 0 m.frames) (first-lists m)
+
+pub step-lists_free : (m : Setting) (old : State) (command : Command) (reply : Reply) (new : State) → AllSound m old.world old.ledger → ListsFree m old.ledger old.free → IsStep m old command reply new → ListsFree m new.ledger new.free
+step-lists_free m old command reply new s h step = subst (λ l. ListsFree m l new.free) (sym step.ledger)
+    (from_lists m (after_all old.ledger step.events) new.free (legal-lists m old.world old.ledger command reply step.events old.free new.free s.ledger step.legal step.free (to_lists m old.ledger old.free h)))
+
+pub run-lists_free : (m : Setting) (es : List Exchange) (new : State) → IsRun m (at_first m) es new → ListsFree m new.ledger new.free
+run-lists_free m es new q = from_lists m new.ledger new.free (run-lists m (at_first m) es new (first-sound m) (first-lists m) q)
+
+-- so a frame of the machine is in the list where it is free
+pub lists-is_in : (m : Setting) (l : Ledger) (free : List ℕ) (f : ℕ) → ListsFree m l free → f < m.frames → is_in f free ≡ is_free l f
+lists-is_in m l free f h below = any-counts (λ g. f == g) free ∙ by (is_free l f) (nat_lt f m.frames) (grind (arith, nat_tests, below)) _ (h f)
+  where
+    by : (a b : Bool) → b ≡ true → (n : ℕ) → n ≡ cond (a && b) 1 0 → nat_lt 0 n ≡ a
+    by true true e n h = grind (arith, nat_tests, h)
+    by true false e n h = cc
+    by false b e n h = grind (arith, nat_tests, h)

@@ -1,0 +1,13 @@
+pub mod Maps
+pub mod OutOfMemory
+pub mod OnePass
+pub mod OnePage
+pub mod Determined
+pub mod FreeFrames
+pub mod FirstExamples
+pub mod SwapExamples
+pub mod LedgerExamples
+pub mod ChangedExamples
+pub mod SoundExample
+pub mod ExitExamples
+pub mod RangeExamples

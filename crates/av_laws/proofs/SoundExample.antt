@@ -1,0 +1,68 @@
+-- A sound state with swap in use: a page in writeback.
+use Rattle.std.proofs.Common.{◌≡◌, ℕ, ◌+◌, ◌<◌, ◌≤◌, min, Bool, true, false, cond, ◌&&◌, Option, Some, None, is_some, refl, sym, ap, subst, ◌∙◌, arith, ◌==◌}
+use Rattle.std.proofs.lemmas.Bool.Decides.{nat_tests}
+use Rattle.av_base.specs.declared.slot.Slot.{Slot}
+use Rattle.av_plain.specs.World.{pages}
+use Rattle.av_plain.specs.Ledger.{Ledger, Key, Entry, InSlot, entry, same_slot}
+use Rattle.av_plain.specs.Sound.{is_there, AllSound}
+use Rattle.av_laws.specs.Examples.{with_swap, slot, in_writeback}
+use Rattle.av_plain.proofs.Ledger.{same_key, same_key-is}
+use Rattle.av_plain.proofs.Sound.Counts.{slot-is}
+
+abbrev here : Key
+here = (1, 0x7fffffffe)
+
+abbrev ledger : Ledger
+ledger = in_writeback.ledger
+
+-- the one key that has an entry
+only : (q : Key) (d : Entry) → entry ledger q ≡ Some d → q ≡ here
+only q d at = by (same_key q here) refl at
+  where
+    by : (b : Bool) → same_key q here ≡ b → cond b (Some (InSlot (slot 1))) None ≡ Some d → q ≡ here
+    by true is e = same_key-is q here is
+    by false is e = cc
+
+some-only : (q : Key) → is_some (entry ledger q) ≡ true → q ≡ here
+some-only q h = by (entry ledger q) refl h
+  where
+    by : (o : Option Entry) → entry ledger q ≡ o → is_some o ≡ true → q ≡ here
+    by None is h = cc
+    by (Some d) is h = only q d is
+
+flag : (b : Bool) → cond b 1 0 + 0 ≤ 1
+flag true = omega arith
+flag false = omega arith
+
+pub in_writeback-sound : AllSound (with_swap 4 8 7) in_writeback.world in_writeback.ledger
+in_writeback-sound = record {
+  world = record { in_order = tt; few = omega arith };
+  ledger = record {
+    in_order = tt;
+    slots_once = λ s. flag (same_slot s (slot 1));
+    frames_once = λ f. flag (f == 0);
+    in_range = λ f h. range f (f == 0) refl h;
+    listed = λ f. listed (f == 0);
+    flying = λ s. omega arith;
+    used = λ s f h. flies (same_slot s (slot 1)) (f == 0) h;
+    one = λ p a b d e at at' related. ap (λ (k : Key). k.1) (only (p, a) d at ∙ sym (only (p, b) e at'));
+  };
+  at_pages = λ p page h. subst (λ (k : Key). is_some (pages in_writeback.world k.0 k.1) ≡ true) (sym (some-only (p, page) h)) refl;
+  in_areas = λ s h. there s (same_slot s (slot 1)) refl h;
+}
+  where
+    range : (f : ℕ) (b : Bool) → (f == 0) ≡ b → 0 < (0 + 0) + (cond b 1 0 + 0) → f < 4
+    range f true is h = grind (arith, nat_tests, is)
+    range f false is h = absurd (omega (arith, h))
+
+    listed : (b : Bool) → 0 + (cond b 1 0 + 0) ≡ min 1 ((0 + 0) + (cond b 1 0 + 0))
+    listed true = refl
+    listed false = refl
+
+    flies : (a b : Bool) → 0 < cond (a && b) 1 0 + 0 → 0 < (cond a 1 0 + 0) + (cond a 1 0 + 0) + (0 + 0) + 0
+    flies true b h = omega arith
+    flies false b h = absurd (omega (arith, h))
+
+    there : (s : Slot) (b : Bool) → same_slot s (slot 1) ≡ b → 0 < (cond b 1 0 + 0) + (cond b 1 0 + 0) → is_there (with_swap 4 8 7) in_writeback.ledger s ≡ true
+    there s true is h = subst (λ t. is_there (with_swap 4 8 7) in_writeback.ledger t ≡ true) (sym (slot-is s (slot 1) is)) refl
+    there s false is h = absurd (omega (arith, h))

@@ -1,0 +1,8 @@
+use Rattle.av_plain.proofs.Refusal.{refused-nothing, refused-mprotect}
+use Rattle.av_laws.proofs.refusals_change_nothing.Goals as goal
+
+pub returns-clause-others : goal.returns-clause-others
+returns-clause-others c = refused-nothing
+
+pub returns-clause-mprotect : goal.returns-clause-mprotect
+returns-clause-mprotect c = refused-mprotect

@@ -1,0 +1,93 @@
+//! What follows from the definitions of `av_plain`, beside what the kernel needs of them: replies are
+//! determined, numbers add up, a refusal changes nothing; and worked examples, legal ones and such as
+//! may not be.
+//!
+//! No function does anything. Each one's contract is a law, proved of the definitions alone.
+#![tactic(auto)]
+
+mod examples;
+
+ghost use Rattle.std.specs.Prelude.{◌≡◌, ◌⊎◌, ℕ, ◌+◌, false, List, []};
+ghost use Rattle.av_base.specs.declared.prot.Prot.{Prot};
+ghost use Rattle.av_trace.specs.declared.command.Command.{Command};
+ghost use Rattle.av_trace.specs.declared.command.Command.TheVariants.{Mprotect};
+ghost use Rattle.av_trace.specs.declared.reply.Errno.{Errno};
+ghost use Rattle.av_trace.specs.declared.reply.OutOf.{OutOf};
+ghost use Rattle.av_trace.specs.declared.reply.Answer.TheVariants.{Refused, Oom};
+ghost use Rattle.av_trace.specs.declared.reply.Reply.{Reply};
+ghost use Rattle.av_trace.specs.declared.row.Row.{Row};
+ghost use Rattle.av_plain.specs.World.{World, Process};
+ghost use Rattle.av_plain.specs.Ledger.{Ledger, Setting};
+ghost use Rattle.av_plain.specs.Event.{Event, after_all};
+ghost use Rattle.av_plain.specs.Report.{AreMaps, totals};
+ghost use Rattle.av_plain.specs.Step.{IsLegal, next_world};
+ghost use Rattle.av_plain.specs.Refusal.{is_mprotect};
+ghost use Rattle.av_plain.specs.Map.{StopsAtHole};
+ghost use Rattle.av_plain.specs.Transcript.{Exchange, State, IsStep, IsRun, at_first};
+ghost use Rattle.av_plain.specs.Sound.{AllSound};
+ghost use Rattle.av_plain.specs.Choice.{ListsFree};
+ghost use Rattle.av_laws.specs.Determined.{Tells, IsClaimed, SlotRule, IsExact, AreExact, SameCommands};
+
+pub use examples::{
+    a_page_in_writeback_is_sound, changed_exits_and_reports_are_refused,
+    changed_ranges_are_refused, changed_replies_are_refused, changed_replies_of_swap_are_refused,
+    changed_runs_are_refused, exits_and_reports_run, ledgers_follow, ranges_run, first_examples_run,
+    shared_examples_run, swap_examples_run,
+};
+
+/// A command that is refused changes neither the memories nor the ledger. An mprotect, which can stop at a page that
+/// isn't mapped, may have changed the protection of the pages before it.
+pub fn refusals_change_nothing()
+    ensures others { (m : Setting) (w : World) (l : Ledger) (command : Command) (reply : Reply) (events : List Event) (error : Errno)
+        → is_mprotect command ≡ false → IsLegal m w l command reply events
+        → reply.answer ≡ Refused error
+        → (next_world m w l events command reply.answer ≡ w) × (after_all l events ≡ l) }
+    ensures mprotect { (m : Setting) (w : World) (l : Ledger) (p a len : ℕ) (prot : Prot) (reply : Reply) (events : List Event) (error : Errno)
+        → IsLegal m w l (Mprotect p a len prot) reply events → reply.answer ≡ Refused error
+        → ((next_world m w l events (Mprotect p a len prot) reply.answer ≡ w) ⊎ StopsAtHole w p a len prot error (next_world m w l events (Mprotect p a len prot) reply.answer)) × (after_all l events ≡ l) }
+{}
+
+/// The three numbers of an out-of-memory are all frames: pinned, not cached, and cached.
+pub fn numbers_add_up()
+    ensures { (m : Setting) (w : World) (l : Ledger) (command : Command) (reply : Reply) (events : List Event) (k : ℕ) (out : OutOf) (shown : List ℕ)
+        → AllSound m w l → IsLegal m w l command reply events → reply.answer ≡ Oom k out shown
+        → out.pinned + out.noslot + out.fault ≡ m.frames }
+{}
+
+/// Where the devices tell their pages, each byte of the memories is claimed, no fault of a device
+/// shows, and slots are chosen by one rule, a command has one reply, and leaves one state: nothing is
+/// left to the kernel's choice.
+pub fn replies_are_determined()
+    ensures { (m : Setting) (old new other : State) (command : Command) (reply reply' : Reply)
+        (rule : SlotRule) → Tells m → IsClaimed old.world
+        → IsExact rule (record { command = command; reply = reply })
+        → IsExact rule (record { command = command; reply = reply' })
+        → IsStep m old command reply new → IsStep m old command reply' other
+        → (reply ≡ reply') × (new ≡ other) }
+{}
+
+/// So there is one run of some commands, from nothing on.
+pub fn runs_are_determined()
+    ensures { (m : Setting) (rules : ℕ → SlotRule) (exchanges exchanges' : List Exchange)
+        (new other : State) → Tells m → SameCommands exchanges exchanges'
+        → AreExact rules 0 exchanges → AreExact rules 0 exchanges'
+        → IsRun m (at_first m) exchanges new → IsRun m (at_first m) exchanges' other
+        → (exchanges ≡ exchanges') × (new ≡ other) }
+{}
+
+/// In a run the list of free frames has each free frame of the machine once, and no other number.
+pub fn runs_list_free_frames()
+    ensures { (m : Setting) (exchanges : List Exchange) (new : State) → IsRun m (at_first m) exchanges new
+        → ListsFree m new.ledger new.free }
+{}
+
+/// Each frame is free, active or inactive, and so the numbers of `stat` add up.
+pub fn totals_add_up()
+    ensures { (m : Setting) (w : World) (l : Ledger) → AllSound m w l
+        → (totals m w l).free + (totals m w l).active + (totals m w l).inactive ≡ (totals m w l).frames }
+{}
+
+/// The longest runs of a process's pages are one list: `maps` has one answer.
+pub fn maps_has_one_answer()
+    ensures { (q : Process) (rows others : List Row) → AreMaps q rows → AreMaps q others → rows ≡ others }
+{}

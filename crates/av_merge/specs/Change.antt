@@ -1,0 +1,8 @@
+-- What the changes of areas that there are make of an area.
+use Rattle.av_merge.specs.declared.changing.Change.{Change}
+use Rattle.av_merge.specs.declared.changing.Change.TheVariants.{Prot}
+use Rattle.av_vma.specs.Pages.{Effect, to_prot}
+
+-- the effect of a change
+abbrev pub effect_of : Change → Effect
+effect_of (Prot prot) = to_prot prot

@@ -1,0 +1,22 @@
+use Rattle.std.proofs.Common.{arith, rules, ◌≡◌, ◌<◌, ◌≤◌, ◌*◌, ◌/◌, ◌%◌, ◌∙◌, sym, ap, subst, refl, length, get_or, slice_set, ℕ}
+use Rattle.std.specs.List.{AllWithin}
+use Rattle.std.proofs.lemmas.Nat.{mod_below, div_below}
+use Rattle.av_base.specs.Words.{with_at}
+use Rattle.av_pagetable.specs.declared.pte.Pte.TheVariants.{Empty}
+use Rattle.av_pagetable.specs.Dir.{entries, AreParts, HasSome}
+use Rattle.std.proofs.Common.{Bool, true, false, MatchBool, ◌==◌}
+use Rattle.std.proofs.lemmas.Bool.Decides.{nat_tests}
+use Rattle.av_pagetable.proofs.DirEntries.{no_entries, some_entry}
+use Rattle.av_pagetable.proofs.dir.DirLevel.is_empty.Goals as goal
+
+by_test : (n : ℕ) (b : Bool) (P Q : Type 0) → b ≡ (n == 0) → (n ≡ 0 → P) → (0 < n → Q) → MatchBool b P Q
+by_test n true P Q is when0 when1 = when0 (grind (arith, nat_tests))
+by_test n false P Q is when0 when1 = when1 (grind (arith, nat_tests))
+
+pub returns : goal.returns
+returns g c =
+    let d = c.self.inside in
+    let C = g.C.Level in
+    by_test d.parts.len c.is_empty.result _ _ c.is_empty.ensures
+    (λ none q. ap (λ v. entries C.at C.span v q) (sym c.self.view_is) ∙ no_entries C.at C.span d.parts.items (omega (arith, none, d.parts.ok.0)) q)
+    (λ more. subst (λ v. HasSome (C.span * 512) (entries C.at C.span v)) c.self.view_is (some_entry C.at C.span d.parts.items c.self.invariant (omega (arith, more, d.parts.ok.0))))

@@ -1,0 +1,174 @@
+use crate::level::Level;
+use crate::pte::Pte;
+use std::alloc::{AllocError, Global};
+use std::marker::Model;
+
+/// A table of 512 parts: of a page table's tables below, or of its entries. It keeps the parts that have an entry,
+/// by rising number, and gives back the others.
+///
+/// It is seen as the list of these parts with their numbers.
+#[derive(Drop)]
+pub struct Dir<C: Level> {
+    alloc: Global,
+    parts: Vec<(u16, C)>,
+}
+
+impl<C: Level> Model for Dir<C> {
+    ghost use Rattle.std.specs.Prelude.{ℕ, List};
+
+    ghost Value = { List (ℕ × C) };
+
+    ghost use Rattle.av_pagetable.specs.Dir.{AreParts};
+
+    ghost view = { λ d. d.parts.items };
+
+    ghost invariant = { λ d. AreParts C.at C.span d.parts.items };
+}
+
+impl<C: Level> Level for Dir<C> {
+    ghost use Rattle.std.specs.Prelude.{ℕ, ◌*◌, ◌∷◌};
+    ghost use Rattle.av_pagetable.specs.Dir.{entries};
+
+    ghost at = { entries C.at C.span };
+
+    ghost span = { C.span * 512 };
+
+    ghost own = { (C.span * 512) ∷ C.own };
+
+    fn span() -> u64 {
+        C::span() * 512
+    }
+
+    fn new(alloc: Global) -> Result<Self, AllocError> {
+        Ok(Dir {
+            alloc,
+            parts: Vec::new(alloc),
+        })
+    }
+
+    fn is_empty(&self) -> bool {
+        self.parts.is_empty()
+    }
+
+    fn get(&self, page: u64) -> Pte {
+        let span = C::span();
+        match self.place(page / span) {
+            Ok(place) => self.parts[place].1.get(page % span),
+            Err(_) => Pte::Empty,
+        }
+    }
+
+    fn set(&mut self, page: u64, entry: Pte) -> Result<(), AllocError> {
+        let span = C::span();
+        match self.place(page / span) {
+            Ok(place) => {
+                let part = &mut self.parts[place];
+                part.1.set(page % span, entry)
+            }
+            Err(place) => {
+                let mut part = C::new(self.alloc)?;
+                part.set(page % span, entry)?;
+                self.parts.insert(place, ((page / span) as u16, part))?;
+                Ok(())
+            }
+        }
+    }
+
+    fn change(&mut self, page: u64, entry: Pte) {
+        let span = C::span();
+        match self.place(page / span) {
+            Ok(place) => {
+                let part = &mut self.parts[place];
+                part.1.change(page % span, entry);
+            }
+            Err(_) => {}
+        }
+    }
+
+    fn take(&mut self, page: u64) -> Pte {
+        let span = C::span();
+        match self.place(page / span) {
+            Ok(place) => {
+                let part = &mut self.parts[place];
+                let entry = part.1.take(page % span);
+                if part.1.is_empty() {
+                    let _ = self.parts.remove(place);
+                }
+                entry
+            }
+            Err(_) => Pte::Empty,
+        }
+    }
+
+    fn next_from(&self, page: u64) -> Option<u64> {
+        if self.parts.is_empty() {
+            return None;
+        }
+        let span = C::span();
+        match self.place(page / span) {
+            Ok(place) => match self.next_in(place, page % span) {
+                Some(found) => Some(found),
+                None => self.next_in(place + 1, 0),
+            },
+            Err(place) => self.next_in(place, 0),
+        }
+    }
+
+    fn held(&self) -> u64 {
+        self.below() + 1
+    }
+}
+
+impl<C: Level> Dir<C> {
+    ghost use Rattle.std.specs.Prelude.{◌≡◌, ℕ, ◌+◌, ◌*◌, ◌<◌, ◌≤◌, MatchOption, length};
+    ghost use Rattle.av_pagetable.specs.Table.{page_bound};
+    ghost use Rattle.av_pagetable.specs.Dir.{entries, entries_at, IsPlace, IsFirstIn};
+    ghost use Rattle.av_pagetable.specs.Held.{AreHeld};
+    ghost use Rattle.av_pagetable.specs.declared.pte.Pte.{Pte};
+
+    // The place of the part of this number, or where it would stand.
+    fn place(&self, number: u64) -> Result<usize, usize>
+        ensures { IsPlace number self.now result }
+    {
+        let parts = &self.parts;
+        let len = parts.len();
+        if len == 0 {
+            return Err(0);
+        }
+        if u64::from(parts[len - 1].0) < number {
+            return Err(len);
+        }
+        // Where no number between is missing, the place is known.
+        let guess = number.wrapping_sub(u64::from(parts[0].0));
+        if guess < len as u64 && u64::from(parts[guess as usize].0) == number {
+            return Ok(guess as usize);
+        }
+        parts.binary_search_by_key(&(number as u16), |part| part.0)
+    }
+
+    // The least page that has an entry among those of the part at a place, from this one of the part on.
+    fn next_in(&self, place: usize, from: u64) -> Option<u64>
+        requires fits { C.span * 512 ≤ page_bound }
+        ensures { MatchOption result
+            ((q : ℕ) → from ≤ q → entries_at C.at self.now place q ≡ Pte.Empty)
+            (λ page. IsFirstIn C.at C.span self.now place from page) }
+    {
+        let part = self.parts.get(place)?;
+        let found = part.1.next_from(from)?;
+        Some(u64::from(part.0) * C::span() + found)
+    }
+
+    /// How many tables its parts are made of.
+    pub fn below(&self) -> u64
+        requires fits { C.span * 512 ≤ page_bound }
+        ensures few { result + 1 < 2 * (C.span * 512) }
+        ensures counts { AreHeld (entries C.at C.span self.now) (C.span * 512) C.own result }
+    {
+        let _span = C::span();
+        let mut total = 0;
+        for part in &self.parts {
+            total += part.1.held();
+        }
+        total
+    }
+}

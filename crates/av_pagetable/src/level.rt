@@ -1,0 +1,74 @@
+use crate::pte::Pte;
+use std::alloc::{AllocError, Global};
+
+/// A part of a page table: a function from page to entry, where the pages that it spans are counted from 0.
+pub trait Level: Drop {
+    ghost use Rattle.std.specs.Prelude.{◌≡◌, ℕ, ◌<◌, ◌≤◌, ◌*◌, List, MatchBool, MatchOption, MatchResult, IfOk};
+    ghost use Rattle.av_base.specs.Words.{with_at};
+    ghost use Rattle.av_pagetable.specs.Table.{IsFirst, page_bound};
+    ghost use Rattle.av_pagetable.specs.Held.{AreHeld, AllDivide};
+    ghost use Rattle.av_pagetable.specs.declared.pte.Pte.{Pte};
+
+    ghost at: { Self → ℕ → Pte };
+
+    ghost span: { ℕ };
+
+    // How many pages each kind of table spans that the part is made of, itself first.
+    ghost own: { List ℕ };
+
+    /// How many pages the part spans.
+    fn span() -> u64
+        requires fits { span ≤ page_bound }
+        ensures is { result ≡ span }
+        ensures some { 0 < span }
+        ensures whole { AllDivide span own };
+
+    /// The part without entries.
+    fn new(alloc: Global) -> Result<Self, AllocError>
+        ensures { IfOk result (λ t. (page : ℕ) → at t page ≡ Pte.Empty) };
+
+    /// Whether no page has an entry.
+    fn is_empty(&self) -> bool
+        ensures { MatchBool result ((q : ℕ) → at self.now q ≡ Pte.Empty) (((q : ℕ) → q < span → at self.now q ≡ Pte.Empty) → ⊥) };
+
+    /// The entry of a page.
+    fn get(&self, page: u64) -> Pte
+        requires fits { span ≤ page_bound }
+        ensures { result ≡ at self.now page };
+
+    /// Gives a page an entry, in place of the one that it has. Without memory all stays.
+    fn set(&mut self, page: u64, entry: Pte) -> Result<(), AllocError>
+        requires fits { span ≤ page_bound }
+        requires some { entry ≡ Pte.Empty → ⊥ }
+        requires below { page < span }
+        ensures { MatchResult result
+            (λ _. at self.new ≡ with_at page entry (at self.old))
+            (λ _. at self.new ≡ at self.old) };
+
+    /// Changes an entry that is there, and takes no memory.
+    fn change(&mut self, page: u64, entry: Pte)
+        requires fits { span ≤ page_bound }
+        requires some { entry ≡ Pte.Empty → ⊥ }
+        requires there { at self.old page ≡ Pte.Empty → ⊥ }
+        ensures { at self.new ≡ with_at page entry (at self.old) };
+
+    /// Takes out an entry that is there, and gives back what no longer holds any.
+    fn take(&mut self, page: u64) -> Pte
+        requires fits { span ≤ page_bound }
+        requires there { at self.old page ≡ Pte.Empty → ⊥ }
+        ensures gives { result ≡ at self.old page }
+        ensures takes { at self.new ≡ with_at page Pte.Empty (at self.old) };
+
+    /// The least page from this one on that has an entry.
+    fn next_from(&self, page: u64) -> Option<u64>
+        requires fits { span ≤ page_bound }
+        ensures { MatchOption result
+            ((q : ℕ) → page ≤ q → at self.now q ≡ Pte.Empty)
+            (λ q. IsFirst (at self.now) page span q) };
+
+    /// How many tables the part is made of.
+    fn held(&self) -> u64
+        requires fits { span ≤ page_bound }
+        ensures few { result < 2 * span }
+        ensures counts { (((q : ℕ) → q < span → at self.now q ≡ Pte.Empty) → ⊥) → AreHeld (at self.now) span own result };
+}

@@ -1,0 +1,118 @@
+use crate::dir::Dir;
+use crate::level::Level;
+use crate::pte::Pte;
+use crate::table::Table;
+use std::alloc::{AllocError, Global};
+
+// An entry is the part that spans one page.
+impl Level for Pte {
+    ghost use Rattle.std.specs.Prelude.{[]};
+    ghost use Rattle.av_pagetable.specs.Dir.{alone};
+
+    ghost at = { alone };
+
+    ghost span = { 1 };
+
+    ghost own = { [] };
+
+    fn span() -> u64 {
+        1
+    }
+
+    fn new(_alloc: Global) -> Result<Self, AllocError> {
+        Ok(Pte::Empty)
+    }
+
+    fn is_empty(&self) -> bool {
+        match *self {
+            Pte::Empty => true,
+            Pte::Zero | Pte::Here { .. } | Pte::Away { .. } => false,
+        }
+    }
+
+    fn get(&self, page: u64) -> Pte {
+        if page == 0 { *self } else { Pte::Empty }
+    }
+
+    fn set(&mut self, _page: u64, entry: Pte) -> Result<(), AllocError> {
+        *self = entry;
+        Ok(())
+    }
+
+    fn change(&mut self, _page: u64, entry: Pte) {
+        *self = entry;
+    }
+
+    fn take(&mut self, _page: u64) -> Pte {
+        let entry = *self;
+        *self = Pte::Empty;
+        entry
+    }
+
+    fn next_from(&self, page: u64) -> Option<u64> {
+        if page == 0 && !self.is_empty() {
+            Some(0)
+        } else {
+            None
+        }
+    }
+
+    fn held(&self) -> u64 {
+        0
+    }
+}
+
+/// A page table of four levels of 512 (Linux's PGD, PUD, PMD and PTE tables).
+#[derive(Drop)]
+pub struct RadixTable {
+    top: Dir<Dir<Dir<Dir<Pte>>>>,
+}
+
+impl Table for RadixTable {
+    ghost at = { λ table. ⟦<Dir<Dir<Dir<Dir<Pte>>>> as Level>⟧.at table.top };
+
+    ghost use Rattle.std.proofs.Common.{arith};
+    ghost use Rattle.av_pagetable.specs.Dir.{none_past};
+
+    ghost ends = { λ table page above. none_past _ 134217728 table.top page (Prim.omega arith) above };
+
+    fn new(alloc: Global) -> Result<Self, AllocError> {
+        let top = Dir::new(alloc)?;
+        Ok(RadixTable { top })
+    }
+
+    fn get(&self, page: u64) -> Pte {
+        self.top.get(page)
+    }
+
+    fn set(&mut self, page: u64, entry: Pte) -> Result<(), AllocError> {
+        self.top.set(page, entry)
+    }
+
+    fn change(&mut self, page: u64, entry: Pte) {
+        self.top.change(page, entry);
+    }
+
+    fn take_first(&mut self, from: u64, to: u64) -> Option<(u64, Pte)> {
+        let page = self.top.next_from(from)?;
+        if page >= to {
+            return None;
+        }
+        Some((page, self.top.take(page)))
+    }
+
+    fn next_from(&self, page: u64) -> Option<u64> {
+        self.top.next_from(page)
+    }
+}
+
+impl RadixTable {
+    ghost use Rattle.av_pagetable.specs.Held.{IsHeld};
+
+    /// How many tables there are: 1, and one more for each part of a level that has an entry. It takes no memory.
+    pub fn held(&self) -> u64
+        ensures { IsHeld (⟦<RadixTable as Table>⟧.at self.now) result }
+    {
+        self.top.below() + 1
+    }
+}

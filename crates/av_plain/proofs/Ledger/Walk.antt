@@ -1,0 +1,51 @@
+-- The walk of a frame has exactly the keys whose entry names it, each once.
+use Rattle.std.proofs.Common.{◌≡◌, ℕ, suc, ◌+◌, Bool, true, false, cond, ◌||◌, T, List, [], ◌∷◌, map, length, filter, Option, Some, None, refl, ap, ◌∙◌, arith}
+use Rattle.std.specs.List.{list_any}
+use Rattle.std.specs.FinMap.Entries.{find, is_sorted}
+use Rattle.av_base.specs.Words.{how_many}
+use Rattle.av_plain.specs.Ledger.{Key, key_cmp, Entry, Ledger, entry, walk, map_count, names_frame}
+use Rattle.av_plain.proofs.Ledger.Order.{keys_total, both_first, both_second, find_below}
+use Rattle.av_plain.proofs.Ledger.{same_key, same_key-is}
+
+-- what a key has passes
+abbrev pub passes : (Entry → Bool) → Option Entry → Bool
+passes p None = false
+passes p (Some e) = p e
+
+pub keys-filter : (p : Entry → Bool) (es : List (Key × Entry)) (q : Key) → T (is_sorted key_cmp es)
+    → list_any (same_key q) (map (λ e. e.0) (filter (λ e. p e.1) es)) ≡ passes p (find key_cmp q es)
+keys-filter p [] q h = refl
+keys-filter p (e ∷ es) q h =
+    let rest = keys-filter p es q (both_second _ _ h) in
+    elim (same_key q e.0) as (λ b. same_key q e.0 ≡ b → list_any (same_key q) (map (λ e. e.0) (cond (p e.1) (e ∷ filter (λ e. p e.1) es) (filter (λ e. p e.1) es))) ≡ passes p (cond b (Some e.1) (find key_cmp q es))) [
+      | true ↦ λ is.
+          let none : find key_cmp q es ≡ None = ap (λ k. find key_cmp k es) (same_key-is q e.0 is) ∙ find_below keys_total p e.0 es (both_first _ _ h) in
+          elim (p e.1) as (λ b. list_any (same_key q) (map (λ e. e.0) (cond b (e ∷ filter (λ e. p e.1) es) (filter (λ e. p e.1) es))) ≡ b) [
+            | true ↦ ap (λ b. b || list_any (same_key q) (map (λ e. e.0) (filter (λ e. p e.1) es))) is
+            | false ↦ rest ∙ ap (passes p) none
+          ]
+      | false ↦ λ is. elim (p e.1) as (λ b. list_any (same_key q) (map (λ e. e.0) (cond b (e ∷ filter (λ e. p e.1) es) (filter (λ e. p e.1) es))) ≡ passes p (find key_cmp q es)) [
+        | true ↦ ap (λ b. b || list_any (same_key q) (map (λ e. e.0) (filter (λ e. p e.1) es))) is ∙ rest
+        | false ↦ rest
+      ]
+    ] refl
+
+pub walk-has : (l : Ledger) (f : ℕ) (q : Key) → T (is_sorted key_cmp l.entries) → list_any (same_key q) (walk l f) ≡ passes (names_frame f) (entry l q)
+walk-has l f q h = keys-filter (names_frame f) l.entries q h
+
+-- the walk is as long as the count says
+pub length-walk : (l : Ledger) (f : ℕ) → length (walk l f) ≡ map_count l f
+length-walk l f = counted (names_frame f) l.entries
+  where
+    one_more : (n m : ℕ) → n ≡ m → suc n ≡ 1 + m
+    one_more n m e = omega arith
+
+    same : (n m : ℕ) → n ≡ m → n ≡ 0 + m
+    same n m e = omega arith
+
+    counted : (p : Entry → Bool) (es : List (Key × Entry)) → length (map (λ e. e.0) (filter (λ e. p e.1) es)) ≡ how_many (λ e. p e.1) es
+    counted p [] = refl
+    counted p (e ∷ es) = elim (p e.1) as (λ b. length (map (λ e. e.0) (cond b (e ∷ filter (λ e. p e.1) es) (filter (λ e. p e.1) es))) ≡ cond b 1 0 + how_many (λ e. p e.1) es) [
+      | true ↦ one_more _ _ (counted p es)
+      | false ↦ same _ _ (counted p es)
+    ]

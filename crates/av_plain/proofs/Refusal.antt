@@ -1,0 +1,154 @@
+-- A command that is refused changes nothing, but for the protection of the pages before a hole.
+use Rattle.std.proofs.Common.{◌≡◌, ◌⊎◌, inl, inr, ℕ, ◌<◌, ◌≤◌, Bool, true, false, cond, not, List, [], length, Option, Some, None, is_some, refl, sym, ap, subst, ◌∙◌, arith, ◌==◌, if◌then◌else◌}
+use Rattle.std.proofs.lemmas.Bool.Decides.{nat_tests}
+use Rattle.std.specs.Prelude.{MatchOption}
+use Rattle.av_trace.specs.declared.command.Command.{Command}
+use Rattle.av_trace.specs.declared.command.Command.TheVariants.{Spawn, Exit, Mmap, Munmap, Mprotect, Read, Write, Maps, Stat}
+use Rattle.av_trace.specs.declared.place.Place.{Place}
+use Rattle.av_trace.specs.declared.place.Place.TheVariants.{Auto, At, Fixed, NoReplace}
+use Rattle.av_trace.specs.declared.reply.Errno.{Errno}
+use Rattle.av_trace.specs.declared.reply.Errno.TheVariants.{Eperm, Esrch, Eio, Eagain, Enomem, Efault, Ebusy, Eexist, Einval}
+use Rattle.av_trace.specs.declared.row.Row.{Row}
+use Rattle.av_trace.specs.declared.reply.Reply.{Reply}
+use Rattle.av_trace.specs.declared.reply.Answer.{Answer}
+use Rattle.av_trace.specs.declared.reply.Answer.TheVariants.{Done, Refused}
+use Rattle.av_base.specs.Page.{is_on_page, page_of, pages_of}
+use Rattle.av_base.specs.declared.prot.Prot.{Prot}
+use Rattle.av_plain.specs.Access.{End, Stopped, Whole, bytes_before, read_answer, stop_answer, write_answer}
+use Rattle.av_plain.specs.Event.{Event, after_all}
+use Rattle.av_plain.specs.Fault.{Denied, Lost, Starved, Stop}
+use Rattle.av_plain.specs.Ledger.{Ledger, Setting}
+use Rattle.av_plain.specs.Load.{with_loads}
+use Rattle.av_plain.specs.Map.{StopsAtHole, with_prot_to_hole, zaps_for_place}
+use Rattle.av_plain.specs.Place.{Goes, IsMapAt}
+use Rattle.av_plain.specs.Refusal.{Refuses, is_mprotect, refusal, tests, wraps}
+use Rattle.av_plain.specs.Step.{Follows, IsLegal, next, next_world}
+use Rattle.av_plain.specs.World.{Process, World, lives, pages, pages_to_hole}
+use Rattle.av_plain.proofs.World.Ranges.{pages_to_hole-most}
+
+-- without events nothing is loaded
+pub loads-none : (m : Setting) (w : World) (l : Ledger) (events : List Event) → events ≡ [] → with_loads m w l events ≡ w
+loads-none m w l events none = ap (with_loads m w l) none ∙ elim (is_some m.headers) as (λ b. (if b then w else w) ≡ w) [ true ↦ refl | false ↦ refl ]
+
+-- an mprotect is refused with ENOMEM by its tests only where its pages do not end below 2^64
+wraps-told : (m : Setting) (w : World) (l : Ledger) (p a len : ℕ) (prot : Prot) → refusal (tests m w l (Mprotect p a len prot)) ≡ Some Enomem → wraps a len ≡ true
+wraps-told m w l p a len prot is = by (lives w p) (is_on_page a) (wraps a len) is
+  where
+    by : (b c d : Bool) → cond (not b) (Some Esrch) (cond (not c) (Some Einval) (cond d (Some Enomem) None)) ≡ Some Enomem → d ≡ true
+    by false c d is = cc
+    by true false d is = cc
+    by true true true is = refl
+    by true true false is = cc
+
+-- a command that is refused by its tests leaves any memories as they are
+pub refused-next : (m : Setting) (w now : World) (l : Ledger) (command : Command) (error : Errno) → refusal (tests m w l command) ≡ Some error → next now command (Refused error) ≡ now
+refused-next m w now l (Spawn p) error is = refl
+refused-next m w now l (Exit p) error is = refl
+refused-next m w now l (Mmap p len prot place) error is = refl
+refused-next m w now l (Munmap p a len) error is = refl
+refused-next m w now l (Mprotect p a len prot) Enomem is = ap (λ b. if b then now else with_prot_to_hole now p (page_of a) (pages_of len) prot) (wraps-told m w l p a len prot is)
+refused-next m w now l (Mprotect p a len prot) Eperm is = refl
+refused-next m w now l (Mprotect p a len prot) Esrch is = refl
+refused-next m w now l (Mprotect p a len prot) Eio is = refl
+refused-next m w now l (Mprotect p a len prot) Eagain is = refl
+refused-next m w now l (Mprotect p a len prot) Efault is = refl
+refused-next m w now l (Mprotect p a len prot) Ebusy is = refl
+refused-next m w now l (Mprotect p a len prot) Eexist is = refl
+refused-next m w now l (Mprotect p a len prot) Einval is = refl
+refused-next m w now l (Read p a n) error is = refl
+refused-next m w now l (Write p a bytes) error is = refl
+refused-next m w now l (Maps p) error is = refl
+refused-next m w now l Stat error is = refl
+
+-- ---- a refusal that no test gives
+
+no-refusal : {e : Errno} {answer : Answer} → answer ≡ Refused e → answer ≡ Done → ⊥
+no-refusal e d = cc
+
+-- a read or write that stops is no refusal
+stops-refused : (stop : Stop) (k : ℕ) (shown : List ℕ) (error : Errno) → Refused error ≡ stop_answer stop k shown → ⊥
+stops-refused Denied k shown error h = cc
+stops-refused (Starved out) k shown error h = cc
+stops-refused Lost k shown error h = cc
+
+read-refused : (a : ℕ) (end : End) (shown : List ℕ) (error : Errno) → Refused error ≡ read_answer a end shown → ⊥
+read-refused a Whole shown error h = cc
+read-refused a (Stopped page stop) shown error h = stops-refused stop (bytes_before a page) shown error h
+
+write-refused : (a : ℕ) (end : End) (error : Errno) → Refused error ≡ write_answer a end → ⊥
+write-refused a Whole error h = cc
+write-refused a (Stopped page stop) error h = stops-refused stop (bytes_before a page) [] error h
+
+-- no place is found only where nothing is taken away for one
+no_place-clears : (q : Process) (l : Ledger) (p n : ℕ) (place : Place) → Goes q n place None → zaps_for_place l p n place ≡ []
+no_place-clears q l p n Auto goes = refl
+no_place-clears q l p n (At a) goes = refl
+no_place-clears q l p n (Fixed a) goes = cc
+no_place-clears q l p n (NoReplace a) goes = cc
+
+-- any other command than an mprotect has no events then, and leaves any memories as they are
+follows-refused : (m : Setting) (w now : World) (l : Ledger) (command : Command) (events : List Event) (error : Errno) (rows : List Row) → is_mprotect command ≡ false
+    → Follows m w l command events (Refused error) rows → (events ≡ []) × (next now command (Refused error) ≡ now)
+follows-refused m w now l (Spawn p) events error rows other h = absurd (no-refusal refl h.0)
+follows-refused m w now l (Exit p) events error rows other h = absurd (no-refusal refl h.0)
+follows-refused m w now l (Mmap p len prot place) events error rows other h = (h.3 ∙ by h.0 h.1 h.2, refl)
+  where
+    by : (to : Option ℕ) → Goes (pages w p) (pages_of len) place to → IsMapAt (Refused error) to → zaps_for_place l p (pages_of len) place ≡ []
+    by None goes e = no_place-clears (pages w p) l p (pages_of len) place goes
+    by (Some page) goes e = cc
+follows-refused m w now l (Munmap p a len) events error rows other h = absurd (no-refusal refl h.0)
+follows-refused m w now l (Mprotect p a len prot) events error rows other h = cc
+follows-refused m w now l (Read p a n) events error rows other h = absurd (read-refused a h.0 h.1 error h.4)
+follows-refused m w now l (Write p a bytes) events error rows other h = absurd (write-refused a h.0 error h.2)
+follows-refused m w now l (Maps p) events error rows other h = cc
+follows-refused m w now l Stat events error rows other h = cc
+
+-- ---- the law
+
+-- what is legal and refused
+refused-by : (m : Setting) (w : World) (l : Ledger) (command : Command) (reply : Reply) (events : List Event) (error : Errno) (P : Type 0) → IsLegal m w l command reply events → reply.answer ≡ Refused error
+    → (refusal (tests m w l command) ≡ Some error → events ≡ [] → P) → (refusal (tests m w l command) ≡ None → Follows m w l command events (Refused error) reply.rows → P) → P
+refused-by m w l command reply events error P legal is told met = by (refusal (tests m w l command)) refl legal.answer
+  where
+    by : (o : Option Errno) → refusal (tests m w l command) ≡ o → MatchOption o (Follows m w l command events reply.answer reply.rows) (λ error. Refuses error events reply.answer reply.rows) → P
+    by None e h = met e (subst (λ a. Follows m w l command events a reply.rows) is h)
+    by (Some other) e h = let same : other ≡ error = (let both = sym h.0 ∙ is in cc) in told (e ∙ ap Some same) h.1
+
+-- the memories and the ledger stay
+pub refused-nothing : (m : Setting) (w : World) (l : Ledger) (command : Command) (reply : Reply) (events : List Event) (error : Errno) → is_mprotect command ≡ false → IsLegal m w l command reply events → reply.answer ≡ Refused error
+    → (next_world m w l events command reply.answer ≡ w) × (after_all l events ≡ l)
+refused-nothing m w l command reply events error other legal is =
+    let both = refused-by m w l command reply events error ((events ≡ []) × (next (with_loads m w l events) command (Refused error) ≡ with_loads m w l events)) legal is
+    (λ e none. (none, refused-next m w (with_loads m w l events) l command error e))
+    (λ e h. follows-refused m w (with_loads m w l events) l command events error reply.rows other h) in
+    (ap (next (with_loads m w l events) command) is ∙ both.1 ∙ loads-none m w l events both.0, ap (after_all l) both.0)
+
+-- and after an mprotect, but for the pages before a hole
+pub refused-mprotect : (m : Setting) (w : World) (l : Ledger) (p a len : ℕ) (prot : Prot) (reply : Reply) (events : List Event) (error : Errno) → IsLegal m w l (Mprotect p a len prot) reply events → reply.answer ≡ Refused error
+    → ((next_world m w l events (Mprotect p a len prot) reply.answer ≡ w) ⊎ StopsAtHole w p a len prot error (next_world m w l events (Mprotect p a len prot) reply.answer)) × (after_all l events ≡ l)
+refused-mprotect m w l p a len prot reply events error legal is = refused-by m w l (Mprotect p a len prot) reply events error _ legal is
+    (λ e none. (inl (ap (next (with_loads m w l events) (Mprotect p a len prot)) is ∙ refused-next m w (with_loads m w l events) l (Mprotect p a len prot) error e ∙ loads-none m w l events none), ap (after_all l) none))
+    (λ e h. (inr (stopped e h.0 (loads-none m w l events h.1)), ap (after_all l) h.1))
+  where
+    in_reach : (b c d : Bool) → cond (not b) (Some Esrch) (cond (not c) (Some Einval) (cond d (Some Enomem) None)) ≡ None → d ≡ false
+    in_reach false c d h = cc
+    in_reach true false d h = cc
+    in_reach true true true h = cc
+    in_reach true true false h = refl
+
+    -- fewer than all are mapped, and the error is ENOMEM
+    short : (k n : ℕ) → k ≤ n → (b : Bool) → (k == n) ≡ b → Refused error ≡ (if b then Done else Refused Enomem) → (error ≡ Enomem) × (k < n)
+    short k n most true e h = cc
+    short k n most false e h = ((let same : error ≡ Enomem = cc in same), grind (arith, nat_tests, e, most))
+
+    stopped : refusal (tests m w l (Mprotect p a len prot)) ≡ None → Refused error ≡ (if pages_to_hole (pages w p) (page_of a) (pages_of len) == pages_of len then Done else Refused Enomem) → with_loads m w l events ≡ w
+        → StopsAtHole w p a len prot error (next_world m w l events (Mprotect p a len prot) reply.answer)
+    stopped e h none =
+        let hole = short (pages_to_hole (pages w p) (page_of a) (pages_of len)) (pages_of len) (pages_to_hole-most (pages w p) (page_of a) (pages_of len)) (pages_to_hole (pages w p) (page_of a) (pages_of len) == pages_of len) refl h in
+        let reach = in_reach (lives w p) (is_on_page a) (wraps a len) e in
+        record {
+          error_is = hole.0;
+          in_reach = reach;
+          hole = hole.1;
+          before = (λ i. next (none i) (Mprotect p a len prot) ((is ∙ ap Refused hole.0) i)) ∙ ap (λ b. if b then w else with_prot_to_hole w p (page_of a) (pages_of len) prot) reach;
+        }

@@ -1,0 +1,3 @@
+-- Laws of reports.
+pub mod Runs
+pub mod Totals

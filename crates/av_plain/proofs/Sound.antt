@@ -1,0 +1,395 @@
+-- What holds of sound memories and a sound ledger holds after every legal reply, and so in every run.
+pub mod Counts
+pub mod Entries
+pub mod Changes
+pub mod Cache
+pub mod Flight
+pub mod Steps
+pub mod Pass
+pub mod Access
+pub mod Pages
+pub mod There
+pub mod Zap
+pub mod Bound
+pub mod Means
+use Rattle.std.proofs.Common.{◌≡◌, ℕ, suc, ◌≤◌, Bool, true, false, cond, not, ◌&&◌, T, List, [], ◌∷◌, length, Option, Some, None, is_some, option_map, refl, sym, ap, subst, ◌∙◌, arith, ◌==◌, nat_le, if◌then◌else◌}
+use Rattle.std.proofs.lemmas.Bool.Decides.{nat_tests}
+use Rattle.std.specs.Prelude.{MatchOption, option_and_then}
+use Rattle.std.specs.Ordering.{nat_cmp, is_lt, eq_by_cmp}
+use Rattle.std.specs.FinMap.Entries.{find, is_sorted, below_all}
+use Rattle.av_trace.specs.declared.command.Command.{Command}
+use Rattle.av_trace.specs.declared.command.Command.TheVariants.{Spawn, Exit, Mmap, Munmap, Mprotect, Read, Write, Maps, Stat}
+use Rattle.av_trace.specs.declared.place.Place.{Place}
+use Rattle.av_trace.specs.declared.place.Place.TheVariants.{Auto, At, Fixed, NoReplace}
+use Rattle.av_trace.specs.declared.reply.Errno.{Errno}
+use Rattle.av_trace.specs.declared.reply.Errno.TheVariants.{Esrch, Eagain, Enomem, Eexist}
+use Rattle.av_trace.specs.declared.row.Row.{Row}
+use Rattle.av_trace.specs.declared.reply.Reply.{Reply}
+use Rattle.av_trace.specs.declared.reply.Answer.{Answer}
+use Rattle.av_trace.specs.declared.reply.Answer.TheVariants.{Done, Refused}
+use Rattle.av_base.specs.Limits.{most_processes}
+use Rattle.av_base.specs.Page.{address_of, page_of, pages_of}
+use Rattle.av_base.specs.Words.{within}
+use Rattle.av_base.specs.declared.slot.Slot.{Slot}
+use Rattle.av_trace.specs.declared.note.Note.TheVariants.{Aged, Copied, Dropped, Failed, Kept, Loaded, Mapped, New, Put, Started, Unmapped, Written, Zeroed}
+use Rattle.av_plain.specs.Access.{Accesses, End, after_write, first_bytes, pages_of_access}
+use Rattle.av_plain.specs.Event.{Event, Forked, Moved, Noted, TurnedOff, TurnedOn, Used, Zapped, after, after_all}
+use Rattle.av_plain.specs.Ledger.{Entry, Ledger, Setting, entry, first_ledger}
+use Rattle.av_plain.specs.Load.{after_load, after_loads, is_of_slot, with_loads, without_bytes, without_claims}
+use Rattle.av_plain.specs.Map.{with_prot_to_hole, zaps_for_place}
+use Rattle.av_plain.specs.Place.{Goes, IsMapAt}
+use Rattle.av_plain.specs.Refusal.{Refuses, refusal, tests, wraps}
+use Rattle.av_plain.specs.Sound.{AllSound, AtPages, IsTidy}
+use Rattle.av_plain.specs.Step.{Follows, IsLegal, next, next_world}
+use Rattle.av_plain.specs.Transcript.{Exchange, IsLegalFrom, IsRun, IsStep, State, at_first}
+use Rattle.av_plain.specs.World.{Page, Process, World, end_process, lives, no_pages, pages, pages_to_hole, process, set_process, with_bytes, with_pages, with_prot, with_prot_on, zeros}
+use Rattle.av_plain.specs.Zap.{keys_in, zaps_of}
+use Rattle.av_plain.proofs.Ledger.NoSwap.{itself}
+use Rattle.av_plain.proofs.Refusal.{refused-next}
+use Rattle.av_plain.proofs.Sound.Access.{accesses-kept}
+use Rattle.av_plain.proofs.Sound.Counts.{same-itself}
+use Rattle.av_plain.proofs.Sound.Pages.{accesses-at}
+use Rattle.av_plain.proofs.Sound.There.{there-accesses}
+use Rattle.av_plain.proofs.Sound.Zap.{after_zap-sound, exit-sound, zaps_of-at}
+use Rattle.av_plain.proofs.World.{is_sorted-set, length-set_new, length-set_old, pages-set}
+use Rattle.av_plain.proofs.Zap.{entry-range, in_range}
+
+-- ---- loads from a device that doesn't tell its pages leave what is mapped, and the processes
+
+told-same : {A : Type 0} (g : World → A) (l : Ledger) (e : Event) (w : World) → ((s : Slot) → g (without_claims l s w) ≡ g w) → g (after_load l e w) ≡ g w
+told-same g l (Noted (Loaded s f)) w h = h s
+told-same g l (Noted (Zeroed q a)) w h = refl
+told-same g l (Noted (New q a f)) w h = refl
+told-same g l (Noted (Copied q a f)) w h = refl
+told-same g l (Noted (Mapped q a f)) w h = refl
+told-same g l (Noted (Put f s)) w h = refl
+told-same g l (Noted (Unmapped f)) w h = refl
+told-same g l (Noted (Started s)) w h = refl
+told-same g l (Noted (Written s)) w h = refl
+told-same g l (Noted (Failed s)) w h = refl
+told-same g l (Noted (Dropped s)) w h = refl
+told-same g l (Noted (Kept f c)) w h = refl
+told-same g l (Noted (Aged f)) w h = refl
+told-same g l (Zapped k) w h = refl
+told-same g l (Used b k) w h = refl
+told-same g l (Forked a b c) w h = refl
+told-same g l (Moved a b c d) w h = refl
+told-same g l (TurnedOn a b c) w h = refl
+told-same g l (TurnedOff a) w h = refl
+
+forgotten-same : {A : Type 0} (g : World → A) (w : World) (l : Ledger) (es : List Event) → ((l : Ledger) (s : Slot) (w : World) → g (without_claims l s w) ≡ g w) → g (after_loads w l es) ≡ g w
+forgotten-same g w l [] h = refl
+forgotten-same g w l (e ∷ es) h = forgotten-same g (after_load l e w) (after l e) es h ∙ told-same g l e w (λ s. h l s w)
+
+-- whatever an unclaiming leaves as it is, loads do
+pub loads-same : {A : Type 0} (g : World → A) (m : Setting) (w : World) (l : Ledger) (es : List Event) → ((l : Ledger) (s : Slot) (w : World) → g (without_claims l s w) ≡ g w) → g (with_loads m w l es) ≡ g w
+loads-same g m w l es h = elim (is_some m.headers) as (λ b. g (if b then w else after_loads w l es) ≡ g w) [ true ↦ refl | false ↦ forgotten-same g w l es h ]
+
+unclaimed-pages : (p page : ℕ) (l : Ledger) (s : Slot) (w : World) → is_some (pages (without_claims l s w) p page) ≡ is_some (pages w p page)
+unclaimed-pages p page l s [] = refl
+unclaimed-pages p page l s (e ∷ w) =
+    elim (eq_by_cmp nat_cmp p e.0) as (λ b. is_some (option_and_then (λ (m : Process). m page) (cond b (Some (λ page. if is_of_slot s (entry l (e.0, page)) then option_map without_bytes (e.1 page) else e.1 page)) (find nat_cmp p (without_claims l s w)))) ≡ is_some (option_and_then (λ (m : Process). m page) (cond b (Some e.1) (find nat_cmp p w)))) [
+      | true ↦ one (is_of_slot s (entry l (e.0, page))) (e.1 page)
+      | false ↦ unclaimed-pages p page l s w
+    ]
+  where
+    one : (b : Bool) (o : Option Page) → is_some (if b then option_map without_bytes o else o) ≡ is_some o
+    one true None = refl
+    one true (Some q) = refl
+    one false o = refl
+
+unclaimed-lives : (p : ℕ) (l : Ledger) (s : Slot) (w : World) → lives (without_claims l s w) p ≡ lives w p
+unclaimed-lives p l s [] = refl
+unclaimed-lives p l s (e ∷ w) =
+    elim (eq_by_cmp nat_cmp p e.0) as (λ b. is_some (cond b (Some (λ page. if is_of_slot s (entry l (e.0, page)) then option_map without_bytes (e.1 page) else e.1 page)) (find nat_cmp p (without_claims l s w))) ≡ is_some (cond b (Some e.1) (find nat_cmp p w))) [
+      | true ↦ refl
+      | false ↦ unclaimed-lives p l s w
+    ]
+
+unclaimed-below : (x : ℕ) (l : Ledger) (s : Slot) (w : World) → below_all nat_cmp x (without_claims l s w) ≡ below_all nat_cmp x w
+unclaimed-below x l s [] = refl
+unclaimed-below x l s (e ∷ w) = ap (λ b. is_lt (nat_cmp x e.0) && b) (unclaimed-below x l s w)
+
+unclaimed-sorted : (l : Ledger) (s : Slot) (w : World) → is_sorted nat_cmp (without_claims l s w) ≡ is_sorted nat_cmp w
+unclaimed-sorted l s [] = refl
+unclaimed-sorted l s (e ∷ w) = λ i. unclaimed-below e.0 l s w i && unclaimed-sorted l s w i
+
+unclaimed-length : (l : Ledger) (s : Slot) (w : World) → length (without_claims l s w) ≡ length w
+unclaimed-length l s [] = refl
+unclaimed-length l s (e ∷ w) = ap suc (unclaimed-length l s w)
+
+pub lives-loads : (m : Setting) (w : World) (l : Ledger) (es : List Event) (p : ℕ) → lives (with_loads m w l es) p ≡ lives w p
+lives-loads m w l es p = loads-same (λ w. lives w p) m w l es (unclaimed-lives p)
+
+pub length-loads : (m : Setting) (w : World) (l : Ledger) (es : List Event) → length (with_loads m w l es) ≡ length w
+length-loads m w l es = loads-same length m w l es unclaimed-length
+
+pub map_count-loads : (m : Setting) (w : World) (l : Ledger) (es : List Event) (p page : ℕ) → is_some (pages (with_loads m w l es) p page) ≡ is_some (pages w p page)
+map_count-loads m w l es p page = loads-same (λ w. is_some (pages w p page)) m w l es (unclaimed-pages p page)
+
+loads-sound : (m : Setting) (w : World) (l l' : Ledger) (es : List Event) → AllSound m w l' → AllSound m (with_loads m w l es) l'
+loads-sound m w l l' es s = record {
+  world = record {
+    in_order = subst T (sym (loads-same (is_sorted nat_cmp) m w l es unclaimed-sorted)) s.world.in_order;
+    few = subst (λ n. n ≤ most_processes) (sym (length-loads m w l es)) s.world.few;
+  };
+  ledger = s.ledger;
+  at_pages = λ p page h. map_count-loads m w l es p page ∙ s.at_pages p page h;
+  in_areas = s.in_areas;
+}
+
+-- ---- one process changes
+
+cmp-is : (q p : ℕ) → eq_by_cmp nat_cmp q p ≡ true → q ≡ p
+cmp-is q p h = grind (arith, nat_tests, h)
+
+at-set : (w : World) (l : Ledger) (p : ℕ) (new : Process) → ((page : ℕ) → is_some (entry l (p, page)) ≡ true → is_some (new page) ≡ true) → AtPages w l → AtPages (set_process w p new) l
+at-set w l p new here there q page h = by (eq_by_cmp nat_cmp q p) refl (pages-set w p new q page)
+  where
+    by : (b : Bool) → eq_by_cmp nat_cmp q p ≡ b → pages (set_process w p new) q page ≡ cond b (new page) (pages w q page) → is_some (pages (set_process w p new) q page) ≡ true
+    by true is e = ap is_some e ∙ here page (ap (λ x. is_some (entry l (x, page))) (sym (cmp-is q p is)) ∙ h)
+    by false is e = ap is_some e ∙ there q page h
+
+-- a process that does not live has no entry
+pub no_entries : (w : World) (l : Ledger) (p : ℕ) → AtPages w l → lives w p ≡ false → (page : ℕ) → entry l (p, page) ≡ None
+no_entries w l p at_pages dead page = by (entry l (p, page)) refl
+  where
+    unmapped : (o : Option (ℕ → Option Page)) → is_some o ≡ false → is_some (option_and_then (λ m. m page) o) ≡ true → ⊥
+    unmapped None h i = cc
+    unmapped (Some q) h i = cc
+
+    by : (o : Option Entry) → entry l (p, page) ≡ o → entry l (p, page) ≡ None
+    by None is = is
+    by (Some e) is = absurd (unmapped (process w p) dead (at_pages p page (ap is_some is)))
+
+started-sound : (m : Setting) (w : World) (l : Ledger) (p : ℕ) → AllSound m w l → lives w p ≡ false → nat_le most_processes (length w) ≡ false → AllSound m (set_process w p no_pages) l
+started-sound m w l p s dead room = record {
+  world = record {
+    in_order = is_sorted-set w p no_pages s.world.in_order;
+    few = subst (λ n. n ≤ most_processes) (sym (length-set_new w p no_pages s.world.in_order dead)) (grind (arith, nat_tests, room));
+  };
+  ledger = s.ledger;
+  at_pages = at-set w l p no_pages (λ page h. absurd (never (entry l (p, page)) (no_entries w l p s.at_pages dead page) h)) s.at_pages;
+  in_areas = s.in_areas;
+}
+  where
+    never : (o : Option Entry) → o ≡ None → is_some o ≡ true → ⊥
+    never o e h = cc
+
+-- the number of processes is as it was
+tidy-set : (w : World) (p : ℕ) (new : Process) → IsTidy w → lives w p ≡ true → IsTidy (set_process w p new)
+tidy-set w p new tidy alive = record { in_order = is_sorted-set w p new tidy.in_order; few = subst (λ n. n ≤ most_processes) (sym (length-set_old w p new tidy.in_order alive)) tidy.few }
+
+-- what was mapped stays so
+changed-sound : (m : Setting) (w : World) (l : Ledger) (p : ℕ) (new : Process) → AllSound m w l → lives w p ≡ true → ((page : ℕ) → is_some (pages w p page) ≡ true → is_some (new page) ≡ true) → AllSound m (set_process w p new) l
+changed-sound m w l p new s alive stays = record {
+  world = tidy-set w p new s.world alive;
+  ledger = s.ledger;
+  at_pages = at-set w l p new (λ page h. stays page (s.at_pages p page h)) s.at_pages;
+  in_areas = s.in_areas;
+}
+
+-- a range loses its entries, and has other pages
+range-sound : (m : Setting) (w w' : World) (l : Ledger) (p from n : ℕ) (new : Process) → AllSound m w l → AllSound m w' l → lives w' p ≡ true
+    → AllSound m (set_process w' p (with_pages (pages w' p) from n new)) (after_all l (zaps_of l (keys_in l p from n)))
+range-sound m w w' l p from n new s s' alive = after_zap-sound m w (set_process w' p (with_pages (pages w' p) from n new)) l (keys_in l p from n) s
+    (tidy-set w' p (with_pages (pages w' p) from n new) s'.world alive)
+    (at-set w' (after_all l (zaps_of l (keys_in l p from n))) p (with_pages (pages w' p) from n new) (λ page h. by page (within from n page) (gone page h) (was page h)) there)
+  where
+    there : AtPages w' (after_all l (zaps_of l (keys_in l p from n)))
+    there = zaps_of-at w' l (keys_in l p from n) s'.at_pages
+
+    was : (page : ℕ) → is_some (entry (after_all l (zaps_of l (keys_in l p from n))) (p, page)) ≡ true → is_some (pages w' p page) ≡ true
+    was page h = there p page h
+
+    outside : (a b : Bool) (o : Option Entry) → a ≡ true → is_some (cond (a && b) None o) ≡ true → b ≡ false
+    outside a true o itself h = cc
+    outside a false o itself h = refl
+
+    gone : (page : ℕ) → is_some (entry (after_all l (zaps_of l (keys_in l p from n))) (p, page)) ≡ true → within from n page ≡ false
+    gone page h = outside (p == p) (within from n page) (entry l (p, page)) (same-itself p) (sym (ap is_some (entry-range l p from n p page)) ∙ h)
+
+    by : (page : ℕ) (b : Bool) → b ≡ false → is_some (pages w' p page) ≡ true → is_some (if b then new page else pages w' p page) ≡ true
+    by page true e h = cc
+    by page false e h = h
+
+stored-sound : (m : Setting) (w : World) (l : Ledger) (p a : ℕ) (bytes : List ℕ) → AllSound m w l → lives w p ≡ true → AllSound m (after_write w p a bytes) l
+stored-sound m w l p a [] s alive = s
+stored-sound m w l p a (b ∷ bytes) s alive = changed-sound m w l p (with_bytes (pages w p) a (b ∷ bytes)) s alive (λ page h. kept _ (pages w p page) h)
+  where
+    kept : (f : Page → Page) (o : Option Page) → is_some o ≡ true → is_some (option_map f o) ≡ true
+    kept f None h = cc
+    kept f (Some x) h = refl
+
+-- ---- a legal reply
+
+accesses-sound : (m : Setting) (w : World) (l : Ledger) (p : ℕ) (ps : List (Bool × ℕ)) (events : List Event) (end : End) → AllSound m w l → Accesses m w l p ps events end → AllSound m w (after_all l events)
+accesses-sound m w l p ps events end s h = record {
+  world = s.world;
+  ledger = accesses-kept m w l p ps events end s.ledger h;
+  at_pages = λ q page i. accesses-at m w l p ps events end (λ k j. s.at_pages k.0 k.1 j) h (q, page) i;
+  in_areas = there-accesses m w l p ps events end s.ledger s.in_areas h;
+}
+
+-- without events the ledger stays
+unchanged : (m : Setting) (w : World) (l : Ledger) (events : List Event) → events ≡ [] → AllSound m w l → AllSound m w (after_all l events)
+unchanged m w l events none s = subst (λ es. AllSound m w (after_all l es)) (sym none) s
+
+alive : (b : Bool) (o : Option Errno) → cond (not b) (Some Esrch) o ≡ None → b ≡ true
+alive true o h = refl
+alive false o h = cc
+
+pub follows-sound : (m : Setting) (w : World) (l : Ledger) (command : Command) (events : List Event) (answer : Answer) (rows : List Row) → AllSound m w l → refusal (tests m w l command) ≡ None
+    → Follows m w l command events answer rows → AllSound m (next_world m w l events command answer) (after_all l events)
+follows-sound m w l (Spawn p) events answer rows s fine h =
+    subst (λ a. AllSound m (next (with_loads m w l events) (Spawn p) a) (after_all l events)) (sym h.0)
+    (started-sound m (with_loads m w l events) (after_all l events) p (loads-sound m w l (after_all l events) events (unchanged m w l events h.1 s))
+    (lives-loads m w l events p ∙ first (lives w p) (nat_le most_processes (length w)) fine)
+    (ap (nat_le most_processes) (length-loads m w l events) ∙ second (lives w p) (nat_le most_processes (length w)) fine))
+  where
+    first : (a b : Bool) → cond a (Some Eexist) (cond b (Some Eagain) None) ≡ None → a ≡ false
+    first true b h = cc
+    first false b h = refl
+
+    second : (a b : Bool) → cond a (Some Eexist) (cond b (Some Eagain) None) ≡ None → b ≡ false
+    second true b h = cc
+    second false true h = cc
+    second false false h = refl
+follows-sound m w l (Exit p) events answer rows s fine h =
+    let loaded = loads-sound m w l l events s in
+    subst (λ a. AllSound m (next (with_loads m w l events) (Exit p) a) (after_all l events)) (sym h.0)
+    (subst (λ es. AllSound m (end_process (with_loads m w l events) p) (after_all l es)) (sym h.1)
+    (exit-sound m w (with_loads m w l events) l p s loaded.world loaded.at_pages))
+follows-sound m w l (Mmap p len prot place) events answer rows s fine h = by h.0 h.2 place h.1 h.3
+  where
+    here : World
+    here = with_loads m w l events
+
+    loaded : AllSound m here l
+    loaded = loads-sound m w l l events s
+
+    living : lives here p ≡ true
+    living = lives-loads m w l events p ∙ alive (lives w p) _ fine
+
+    inside : (b : Bool) (o : Option Page) → is_some o ≡ true → is_some (if b then Some (zeros prot) else o) ≡ true
+    inside true o h = refl
+    inside false o h = h
+
+    zeroed : ℕ → Process
+    zeroed page = with_pages (pages here p) (page_of (address_of page)) (pages_of len) (λ _. Some (zeros prot))
+
+    added : (page : ℕ) (es : List Event) → es ≡ [] → AllSound m (set_process here p (zeroed page)) (after_all l es)
+    added page es none = unchanged m (set_process here p (zeroed page)) l es none
+        (changed-sound m here l p (zeroed page) loaded living (λ q i. inside (within (page_of (address_of page)) (pages_of len) q) (pages here p q) i))
+
+    back : (page : ℕ) → page_of (address_of page) ≡ page
+    back page = omega arith
+
+    same_page : {x y : ℕ} → Some x ≡ Some y → x ≡ y
+    same_page e = cc
+
+    placed : (page : ℕ) (place : Place) → Goes (pages w p) (pages_of len) place (Some page) → events ≡ zaps_for_place l p (pages_of len) place → AllSound m (set_process here p (zeroed page)) (after_all l events)
+    placed page Auto goes e = added page events e
+    placed page (At a) goes e = added page events e
+    placed page (NoReplace a) goes e = added page events e
+    placed page (Fixed a) goes e = subst (λ es. AllSound m (set_process here p (zeroed page)) (after_all l es)) (sym e)
+        (subst (λ from. AllSound m (set_process here p (with_pages (pages here p) from (pages_of len) (λ _. Some (zeros prot)))) (after_all l (zaps_of l (keys_in l p (page_of a) (pages_of len))))) (sym (back page ∙ same_page goes))
+        (range-sound m w here l p (page_of a) (pages_of len) (λ _. Some (zeros prot)) s loaded living))
+
+    refused : (place : Place) → Goes (pages w p) (pages_of len) place None → events ≡ zaps_for_place l p (pages_of len) place → AllSound m here (after_all l events)
+    refused Auto goes e = unchanged m here l events e loaded
+    refused (At a) goes e = unchanged m here l events e loaded
+    refused (NoReplace a) goes e = cc
+    refused (Fixed a) goes e = cc
+
+    by : (to : Option ℕ) → IsMapAt answer to → (place : Place) → Goes (pages w p) (pages_of len) place to → events ≡ zaps_for_place l p (pages_of len) place → AllSound m (next here (Mmap p len prot place) answer) (after_all l events)
+    by None e place goes es = subst (λ a. AllSound m (next here (Mmap p len prot place) a) (after_all l events)) (sym e) (refused place goes es)
+    by (Some page) e place goes es = subst (λ a. AllSound m (next here (Mmap p len prot place) a) (after_all l events)) (sym e) (placed page place goes es)
+follows-sound m w l (Munmap p a len) events answer rows s fine h =
+    subst (λ x. AllSound m (next (with_loads m w l events) (Munmap p a len) x) (after_all l events)) (sym h.0)
+    (subst (λ es. AllSound m (set_process (with_loads m w l events) p (with_pages (pages (with_loads m w l events) p) (page_of a) (pages_of len) no_pages)) (after_all l es)) (sym h.1)
+    (range-sound m w (with_loads m w l events) l p (page_of a) (pages_of len) no_pages s (loads-sound m w l l events s) (lives-loads m w l events p ∙ alive (lives w p) _ fine)))
+follows-sound m w l (Mprotect p a len prot) events answer rows s fine h =
+    subst (λ x. AllSound m (next (with_loads m w l events) (Mprotect p a len prot) x) (after_all l events)) (sym h.0)
+    (by (pages_to_hole (pages w p) (page_of a) (pages_of len) == pages_of len))
+  where
+    here : World
+    here = with_loads m w l events
+
+    loaded : AllSound m here (after_all l events)
+    loaded = loads-sound m w l (after_all l events) events (unchanged m w l events h.1 s)
+
+    changed : (n : ℕ) → AllSound m (set_process here p (with_prot_on (pages here p) (page_of a) n prot)) (after_all l events)
+    changed n = changed-sound m here (after_all l events) p (with_prot_on (pages here p) (page_of a) n prot) loaded (lives-loads m w l events p ∙ alive (lives w p) _ fine) (λ q i. still (within (page_of a) n q) (pages here p q) i)
+      where
+        still : (b : Bool) (o : Option Page) → is_some o ≡ true → is_some (if b then option_map (with_prot prot) o else o) ≡ true
+        still true None h = h
+        still true (Some x) h = refl
+        still false o h = h
+
+    stopped : (b : Bool) → AllSound m (if b then here else with_prot_to_hole here p (page_of a) (pages_of len) prot) (after_all l events)
+    stopped true = loaded
+    stopped false = changed (pages_to_hole (pages here p) (page_of a) (pages_of len))
+
+    by : (b : Bool) → AllSound m (next here (Mprotect p a len prot) (if b then Done else Refused Enomem)) (after_all l events)
+    by true = changed (pages_of len)
+    by false = stopped (wraps a len)
+follows-sound m w l (Read p a n) events answer rows s fine h = loads-sound m w l (after_all l events) events (accesses-sound m w l p (pages_of_access false a n) events h.0 s h.2)
+follows-sound m w l (Write p a bytes) events answer rows s fine h =
+    stored-sound m (with_loads m w l events) (after_all l events) p a (first_bytes answer bytes)
+    (loads-sound m w l (after_all l events) events (accesses-sound m w l p (pages_of_access true a (length bytes)) events h.0 s h.1))
+    (lives-loads m w l events p ∙ alive (lives w p) _ fine)
+follows-sound m w l (Maps p) events answer rows s fine h = loads-sound m w l (after_all l events) events (unchanged m w l events h.2 s)
+follows-sound m w l Stat events answer rows s fine h = loads-sound m w l (after_all l events) events (unchanged m w l events h.1 s)
+
+refused-sound : (m : Setting) (w : World) (l : Ledger) (command : Command) (error : Errno) (events : List Event) → refusal (tests m w l command) ≡ Some error → events ≡ [] → AllSound m w l
+    → AllSound m (next_world m w l events command (Refused error)) (after_all l events)
+refused-sound m w l command error events is none s =
+    subst (λ x. AllSound m x (after_all l events)) (sym (refused-next m w (with_loads m w l events) l command error is)) (loads-sound m w l (after_all l events) events (unchanged m w l events none s))
+
+pub soundness-stays : (m : Setting) (w : World) (l : Ledger) (command : Command) (reply : Reply) (events : List Event)
+    → AllSound m w l → IsLegal m w l command reply events → AllSound m (next_world m w l events command reply.answer) (after_all l events)
+soundness-stays m w l command reply events s legal = by (refusal (tests m w l command)) refl legal.answer
+  where
+    by : (o : Option Errno) → refusal (tests m w l command) ≡ o → MatchOption o (Follows m w l command events reply.answer reply.rows) (λ error. Refuses error events reply.answer reply.rows)
+        → AllSound m (next_world m w l events command reply.answer) (after_all l events)
+    by None is h = follows-sound m w l command events reply.answer reply.rows s is h
+    by (Some error) is h = subst (λ a. AllSound m (next_world m w l events command a) (after_all l events)) (sym h.0) (refused-sound m w l command error events is h.1 s)
+
+-- ---- runs
+
+pub first-sound : (m : Setting) → AllSound m [] first_ledger
+first-sound m = record {
+  world = record { in_order = tt; few = omega arith };
+  ledger = record {
+    in_order = tt;
+    slots_once = λ s. omega arith;
+    frames_once = λ f. omega arith;
+    in_range = λ f h. absurd (omega (arith, h));
+    listed = λ f. refl;
+    flying = λ s. omega arith;
+    used = λ s f h. absurd (omega (arith, h));
+    one = λ p a b d e at at' related. cc;
+  };
+  at_pages = λ p page h. cc;
+  in_areas = λ s h. absurd (omega (arith, h));
+}
+
+pub transcript-sound : (m : Setting) (w : World) (l : Ledger) (es : List Exchange) (w' : World) (l' : Ledger) → AllSound m w l → IsLegalFrom m w l es w' l' → AllSound m w' l'
+transcript-sound m w l [] w' l' s h = subst (λ x. AllSound m x l') (sym h.0) (subst (AllSound m w) (sym h.1) s)
+transcript-sound m w l (e ∷ es) w' l' s h =
+    transcript-sound m (next_world m w l h.0 e.command e.reply.answer) (after_all l h.0) es w' l' (soundness-stays m w l e.command e.reply h.0 s h.1) h.2
+
+-- a run is a legal transcript
+pub run-legal : (m : Setting) (old : State) (es : List Exchange) (new : State) → IsRun m old es new → IsLegalFrom m old.world old.ledger es new.world new.ledger
+run-legal m old [] new h = (ap (λ (s : State). s.world) h, ap (λ (s : State). s.ledger) h)
+run-legal m old (e ∷ es) new h =
+    let rest = run-legal m h.0 es new h.2 in
+    (h.1.events, h.1.legal, subst (λ w. IsLegalFrom m w (after_all old.ledger h.1.events) es new.world new.ledger) h.1.world (subst (λ l. IsLegalFrom m h.0.world l es new.world new.ledger) h.1.ledger rest))
+
+pub step-sound : (m : Setting) (old : State) (command : Command) (reply : Reply) (new : State) → AllSound m old.world old.ledger → IsStep m old command reply new → AllSound m new.world new.ledger
+step-sound m old command reply new s h =
+    subst (λ w. AllSound m w new.ledger) (sym h.world) (subst (AllSound m (next_world m old.world old.ledger h.events command reply.answer)) (sym h.ledger) (soundness-stays m old.world old.ledger command reply h.events s h.legal))
+
+pub run-sound : (m : Setting) (es : List Exchange) (new : State) → IsRun m (at_first m) es new → AllSound m new.world new.ledger
+run-sound m es new h = transcript-sound m [] first_ledger es new.world new.ledger (first-sound m) (run-legal m (at_first m) es new h)

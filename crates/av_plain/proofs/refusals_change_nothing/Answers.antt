@@ -1,8 +1,0 @@
-use Rattle.av_plain.proofs.Refusals.{refused-nothing, refused-mprotect}
-use Rattle.av_plain.proofs.refusals_change_nothing.Goals as goal
-
-pub returns-clause-others : goal.returns-clause-others
-returns-clause-others c = refused-nothing
-
-pub returns-clause-mprotect : goal.returns-clause-mprotect
-returns-clause-mprotect c = refused-mprotect

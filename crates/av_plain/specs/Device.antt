@@ -1,0 +1,29 @@
+-- Devices with swap areas, as a run sees them: what is told of them before it begins.
+use Rattle.std.specs.Prelude.{ℕ, List, [], Option, Some, None, option_map, option_and_then, Result, Ok, Err}
+use Rattle.av_swapdev.specs.declared.header.HeaderFault.{HeaderFault}
+use Rattle.av_swapdev.specs.Header.{Layout, header_of}
+use Rattle.av_plain.specs.Ledger.{Setting}
+
+-- the number of pages of each area that is attached, and what the pages hold, where that is told
+pub record Device : Type 0 where
+  pub sizes : ℕ → Option ℕ
+  pub pages : Option (ℕ → ℕ → List ℕ)
+
+-- the device that has no area
+abbrev pub no_device : Device
+no_device = record { sizes = λ k. None; pages = Some (λ k page. []) }
+
+-- what a header says, if it has no fault
+abbrev pub without_fault : Result Layout HeaderFault → Option Layout
+without_fault (Ok layout) = Some layout
+without_fault (Err fault) = None
+
+-- what page 0 of each area says, where the pages are told
+abbrev pub headers_of : Device → Option (ℕ → Option Layout)
+headers_of d =
+    option_map (λ told k. option_and_then (λ n. without_fault (header_of (told k 0) n)) (d.sizes k))
+    d.pages
+
+-- what does not change in a run with so many frames over this device
+abbrev pub setting_of : ℕ → Device → Setting
+setting_of frames d = record { frames = frames; sizes = d.sizes; headers = headers_of d }

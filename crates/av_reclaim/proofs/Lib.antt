@@ -1,0 +1,5 @@
+pub mod MemLaws
+pub mod ZapEntry
+pub mod ZapFrame
+pub mod ZapFirst
+pub mod ZapRange

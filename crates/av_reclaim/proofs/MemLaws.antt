@@ -1,0 +1,192 @@
+-- The memory system: its view and its areas, with no slot cached; and one with nothing in it stands for no memories.
+use Rattle.std.proofs.Common.{◌≡◌, ◌≢◌, ℕ, ◌-◌, ◌<◌, ◌≤◌, Bool, true, false, cond, ◌&&◌, ◌==◌, nat_lt, nat_le, List, [], ◌∷◌, Option, Some, None, refl, sym, ap, subst, ◌∙◌, arith, is_some}
+use Rattle.std.proofs.lemmas.Bool.Decides.{nat_tests}
+use Rattle.std.specs.Prelude.{IfSome, option_map, length, map}
+use Rattle.std.specs.List.{find}
+use Rattle.av_base.specs.declared.slot.Slot.{Slot}
+use Rattle.av_base.specs.declared.prot.Prot.{Prot}
+use Rattle.av_base.specs.Words.{is_in, within}
+use Rattle.av_vma.specs.declared.area.Area.{Area}
+use Rattle.av_vma.specs.Join.{first_of, past_of}
+use Rattle.av_vma.specs.Pages.{has_page}
+use Rattle.av_frames.specs.Store.{Store, Seen, seen, fresh as fresh_frames}
+use Rattle.av_pagetable.specs.declared.pte.Pte.{Pte}
+use Rattle.av_pagetable.specs.Entries.{ProcessTables, entry_at, has, with_entry}
+use Rattle.av_pagetable.proofs.Entries.{none_there}
+use Rattle.av_spaces.specs.Spaces.{Spaces, areas_of, pages_in, pages_of, is_taken, AreRising, AllRising, IsOwn}
+use Rattle.av_plain.specs.World.{Page, lives, pages}
+use Rattle.av_plain.specs.Ledger.{Ledger, Entry, Zero as ZeroEntry, InFrame, InSlot, frame_at, cached_by, Cached, same_slot}
+use Rattle.av_plain.specs.Device.{no_device}
+use Rattle.av_plain.specs.Report.{Range, prot_in}
+use Rattle.av_plain.specs.Stands.{View, Pte as Plain, entry_of, prot_of, AreApart, IsKept, IsKeptAt, IsClean}
+use Rattle.av_plain.specs.Transcript.{State, at_first}
+use Rattle.av_plain.proofs.Ledger.NoSwap.{itself, is_in-numbers}
+use Rattle.av_plain.proofs.Sound.{first-sound}
+use Rattle.av_reclaim.specs.declared.mem.Mem.{Mem}
+use Rattle.av_reclaim.specs.Mem.{setting, plain, joined, view, range_of, ranges_of, Keeps}
+
+-- ---- the areas, seen as ranges
+
+-- the protection of an area
+abbrev pub prot_on : Area → Prot
+prot_on area = area.prot
+
+-- a process has ranges exactly where it lives
+pub alive_is : (s : Spaces) (p : ℕ) → is_some (ranges_of s p) ≡ is_some (areas_of s p)
+alive_is s p = by (areas_of s p)
+  where
+    by : (o : Option (List Area)) → is_some (option_map (map range_of) o) ≡ is_some o
+    by None = refl
+    by (Some areas) = refl
+
+-- a process has areas exactly where it lives
+pub lives_is : (k : Mem) (s : State) → Keeps k s → (p : ℕ) → is_some (areas_of k.spaces p) ≡ lives s.world p
+lives_is k s keeps p = sym (alive_is k.spaces p) ∙ keeps.stands.parts.areas.alive p
+
+in_range : (a b page : ℕ) → (nat_le a page && nat_lt page b) ≡ within a (b - a) page
+in_range a b page = grind (arith, nat_tests)
+
+prots_in : (areas : List Area) (page : ℕ) → prot_in (map range_of areas) page ≡ option_map prot_on (find (λ area. has_page area page) areas)
+prots_in [] page = refl
+prots_in (a ∷ areas) page =
+    ap (λ b. cond b (Some a.prot) (prot_in (map range_of areas) page)) (in_range (first_of a) (past_of a) page)
+    ∙ elim (has_page a page) as (λ b. cond b (Some a.prot) (prot_in (map range_of areas) page) ≡ option_map prot_on (cond b (Some a) (find (λ area. has_page area page) areas))) [
+      | true ↦ refl
+      | false ↦ prots_in areas page
+    ]
+
+-- a page's protection is that of the area on it
+pub prots_are : (s : Spaces) (p page : ℕ) → prot_of (ranges_of s p) page ≡ option_map prot_on (pages_of s p page)
+prots_are s p page = by (areas_of s p)
+  where
+    by : (o : Option (List Area)) → prot_of (option_map (map range_of) o) page ≡ option_map prot_on (pages_in o page)
+    by None = refl
+    by (Some areas) = prots_in areas page
+
+some_mapped : {X Y : Type 0} (f : X → Y) (o : Option X) → is_some (option_map f o) ≡ is_some o
+some_mapped f None = refl
+some_mapped f (Some x) = refl
+
+-- a page is taken exactly where it has a protection
+pub taken_has : (s : Spaces) (p page : ℕ) → is_taken s p page ≡ is_some (prot_of (ranges_of s p) page)
+taken_has s p page = sym (ap is_some (prots_are s p page) ∙ some_mapped prot_on (pages_of s p page))
+
+-- whether a page has a protection, and whether it is mapped
+pub mapped_is : (o : Option Page) → is_some (option_map (λ (p : Page). p.prot) o) ≡ is_some o
+mapped_is o = some_mapped (λ (p : Page). p.prot) o
+
+pub apart_of : (p : ℕ) (areas : List Area) → AreRising p areas → AreApart (map range_of areas)
+apart_of p [] h = tt
+apart_of p (a ∷ []) h = h.whole.some
+apart_of p (a ∷ b ∷ areas) h = (h.0.whole.some, h.1, apart_of p (b ∷ areas) h.2)
+
+-- the ranges of each process are apart
+pub all_apart : (s : Spaces) → AllRising s → (p : ℕ) → IfSome (ranges_of s p) AreApart
+all_apart s rising p = by (areas_of s p) (rising p)
+  where
+    by : (o : Option (List Area)) → IfSome o (AreRising p) → IfSome (option_map (map range_of) o) AreApart
+    by None h = tt
+    by (Some areas) h = apart_of p areas h
+
+-- ---- the view
+
+-- tables with the same entries are seen alike
+pub view_same : (old new : Mem) → entry_at new.tables ≡ entry_at old.tables → new.frames ≡ old.frames → new.spaces ≡ old.spaces → view new ≡ view old
+view_same old new tables frames spaces = λ i. joined (seen (frames i)) (λ p page. plain (tables i p page)) (spaces i)
+
+pub plain_set : (old new : ℕ → ℕ → Pte) (p page : ℕ) (e : Pte) → new ≡ with_entry p page e old
+    → ◌≡◌ {A = ℕ → ℕ → Option Plain} (λ q o. plain (new q o)) (with_entry p page (plain e) (λ q o. plain (old q o)))
+plain_set old new p page e is = λ k q o. (ap (λ f. plain (f q o)) is ∙ pushed (q == p && o == page) e (old q o)) k
+  where
+    pushed : (b : Bool) (e x : Pte) → plain (cond b e x) ≡ cond b (plain e) (plain x)
+    pushed true e x = refl
+    pushed false e x = refl
+
+-- an entry has been set
+pub entry_put_in : (old new : Mem) (p page : ℕ) (e : Pte) → entry_at new.tables ≡ with_entry p page e (entry_at old.tables) → new.frames ≡ old.frames → new.spaces ≡ old.spaces
+    → view new ≡ record (view old) { table = with_entry p page (plain e) (view old).table }
+entry_put_in old new p page e is frames spaces = λ i. joined (seen (frames i)) (plain_set (entry_at old.tables) (entry_at new.tables) p page e is i) (spaces i)
+
+-- ---- no slot is cached
+
+pub equal_is : (a b : ℕ) → (a == b) ≡ true → a ≡ b
+equal_is a b h = grind (arith, nat_tests)
+
+clash : {A : Type 0} {x : A} → None ≡ Some x → ⊥
+clash e = cc
+
+-- where no slot is found, none is cached
+pub no_cache : (l : Ledger) → ((s : Slot) → None ≡ frame_at l s) → l.cache ≡ []
+no_cache l none = by l.cache refl
+  where
+    by : (c : List Cached) → l.cache ≡ c → l.cache ≡ []
+    by [] e = e
+    by (c ∷ cs) e =
+        let same : same_slot c.slot c.slot ≡ true = λ i. itself c.slot.area i && itself c.slot.page i in
+        absurd (clash (none c.slot ∙ ap (λ (c' : List Cached). option_map (λ (c : Cached). c.frame) (cached_by (λ d. same_slot c.slot d.slot) c')) e ∙ ap (λ b. option_map (λ (c : Cached). c.frame) (cond b (Some c) (cached_by (λ d. same_slot c.slot d.slot) cs))) same))
+
+pub no_frame_at : (l : Ledger) (s : Slot) → l.cache ≡ [] → frame_at l s ≡ None
+no_frame_at l s none = ap (λ (c : List Cached). option_map (λ (c : Cached). c.frame) (cached_by (λ c. same_slot s c.slot) c)) none
+
+-- where no frame caches a slot, its page is kept as it was
+pub slot_kept : (v v' : View) (s : Slot) (p : Option Page) (o o' : Option ℕ) → o ≡ None → o' ≡ None → IsKeptAt v no_device s p o → IsKeptAt v' no_device s p o'
+slot_kept v v' s p None None e e' h = h
+slot_kept v v' s p None (Some f) e e' h = absurd (clash (sym e'))
+slot_kept v v' s p (Some f) o' e e' h = absurd (clash (sym e))
+
+-- and it has nothing to be clean
+pub nothing_clean : (v : View) (s : Slot) (o : Option ℕ) → o ≡ None → IsClean v no_device s o
+nothing_clean v s None e = tt
+nothing_clean v s (Some f) e = absurd (clash (sym e))
+
+-- a place that isn't mapped keeps nothing, whatever its entry is
+pub kept-nothing : (v : View) (l : Ledger) (e : Option Entry) → IsKept v no_device l e None
+kept-nothing v l None = tt
+kept-nothing v l (Some ZeroEntry) = tt
+kept-nothing v l (Some (InFrame f seen)) = tt
+kept-nothing v l (Some (InSlot s)) = at (frame_at l s)
+  where
+    at : (o : Option ℕ) → IsKeptAt v no_device s None o
+    at None = tt
+    at (Some f) = tt
+
+-- ---- nothing in it
+
+nothing : {A : Type 0} {x : A} → None ≡ Some x → ⊥
+nothing e = cc
+
+pub fresh-keeps : (frames : Store) (tables : ProcessTables) (spaces : Spaces) (n : ℕ) → seen frames ≡ fresh_frames n → ((p : ℕ) → has tables p ≡ false) → spaces ≡ []
+    → Keeps (record { frames = frames; tables = tables; spaces = spaces }) (at_first (setting n))
+fresh-keeps frames tables spaces n is none empty = record {
+  stands = record {
+    over = record { sizes = refl; headers = refl };
+    sound = first-sound (setting (seen frames).count);
+    parts = record {
+      ledger = record {
+        frames = record {
+          frames = refl;
+          maps = λ f. ap (λ (s : Seen). s.maps f) is;
+          slots = λ f. ap (λ (s : Seen). s.slot f) is;
+          dirty = λ f. tt;
+          free = λ f below. ap (λ (s : Seen). is_in f s.free) is ∙ is_in-numbers 0 n f (omega arith) (let same = ap (λ (s : Seen). s.count) is in omega (arith, below, same));
+        };
+        lists = record { active = refl };
+        tables = record {
+          entries = λ p page. ap (λ t. entry_of (plain t)) (none_there tables p page (none p));
+          write_bits = λ p page t f there write names. absurd (nothing (ap plain (sym (none_there tables p page (none p))) ∙ there));
+        };
+        swap = record { finds = λ s. refl; counts = λ s. refl; flight = refl; on = refl };
+      };
+      areas = record {
+        alive = λ p. ap (λ (s : Spaces). is_some (ranges_of s p)) empty;
+        number = ap (length) empty;
+        apart = λ p. subst (λ (s : Spaces). IfSome (ranges_of s p) AreApart) (sym empty) tt;
+        covers = λ p page. ap (λ (s : Spaces). prot_of (ranges_of s p) page) empty;
+      };
+      bytes = record { kept = λ p page. tt; clean = λ s a b. tt };
+      headers = λ k. tt;
+    };
+    free = ap (λ (s : Seen). s.free) is;
+  };
+  tables = λ p. none p ∙ sym (ap (λ (s : Spaces). is_some (ranges_of s p)) empty);
+}

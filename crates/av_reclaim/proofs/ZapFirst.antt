@@ -1,0 +1,89 @@
+-- The entry of the least page of a range is taken away, or there is none.
+use Rattle.std.proofs.Common.{◌≡◌, ℕ, ◌<◌, ◌≤◌, Bool, false, ◌&&◌, [], Option, Some, None, refl, sym, ap, subst, ◌∙◌, arith, ◌==◌, is_some, option_map}
+use Rattle.std.proofs.lemmas.Bool.Decides.{nat_tests}
+use Rattle.std.specs.Ordering.{nat_cmp}
+use Rattle.av_base.specs.Words.{is_in}
+use Rattle.av_frames.specs.Store.{seen}
+use Rattle.av_pagetable.specs.declared.pte.Pte.{Pte}
+use Rattle.av_pagetable.specs.declared.pte.Pte.TheVariants.{Empty, Zero as ZeroPte, Here, Away}
+use Rattle.av_pagetable.specs.Table.{IsFirst, page_bound, or_empty, entry_in}
+use Rattle.av_pagetable.specs.Entries.{entry_at, at_page, with_entry}
+use Rattle.av_plain.specs.Ledger.{Ledger, Zero, InFrame, InSlot, entry, map_count, names_frame, names_slot}
+use Rattle.av_plain.specs.Choice.{Chooses}
+use Rattle.av_plain.specs.Event.{Zapped, after_zap}
+use Rattle.av_plain.specs.Stands.{View, entry_of}
+use Rattle.av_plain.proofs.Ledger.{how_many-found}
+use Rattle.av_plain.proofs.Ledger.NoSwap.{itself, free_is}
+use Rattle.av_reclaim.specs.declared.mem.Mem.{Mem}
+use Rattle.av_reclaim.specs.Mem.{setting, count, plain, view, joined, SoundLedger, HasLedger}
+use Rattle.av_reclaim.specs.Zap.{released, ZapsFirst}
+use Rattle.av_reclaim.proofs.MemLaws.{view_same, no_cache, entry_put_in}
+use Rattle.av_reclaim.proofs.ZapEntry.{zero_left, zero_freed, released_left, released_freed}
+
+module _ (old : Mem) (l : Ledger) (stands : HasLedger old l) where
+  cache : l.cache ≡ []
+  cache = no_cache l stands.parts.swap.finds
+
+  nothing_at : (p q : ℕ) → entry_at old.tables p q ≡ Empty → entry l (p, q) ≡ None
+  nothing_at p q e = sym (stands.parts.tables.entries p q) ∙ ap (λ t. entry_of (plain t)) e
+
+  frame_there : (p page f : ℕ) (write was : Bool) → entry_at old.tables p page ≡ Here f write was → entry l (p, page) ≡ Some (InFrame f was)
+  frame_there p page f write was e = sym (stands.parts.tables.entries p page) ∙ ap (λ t. entry_of (plain t)) e
+
+  -- an entry's frame is in use
+  pub frame_used : (p page f : ℕ) (write was : Bool) → entry_at old.tables p page ≡ Here f write was → (f < count old) × (0 < (view old).maps f) × (is_in f (view old).free ≡ false)
+  frame_used p page f write was e =
+      let some : 0 < map_count l f = how_many-found (names_frame f) (p, page) l.entries (InFrame f was) (frame_there p page f write was e) (itself f) in
+      let below : f < count old = stands.sound.in_range f (omega (arith, some)) in
+      (below, subst (λ n. 0 < n) (sym (stands.parts.frames.maps f)) some, stands.parts.frames.free f below ∙ free_is l f cache ∙ positive _ some)
+    where
+      positive : (n : ℕ) → 0 < n → (n == 0) ≡ false
+      positive n h = grind (arith, nat_tests, h)
+
+  -- an entry that is neither a frame nor empty is the page of zeros
+  zero_there : (p page : ℕ) (e : Pte) → entry_at old.tables p page ≡ e → (e ≡ Empty → ⊥) → ((f : ℕ) (write was : Bool) → e ≡ Here f write was → ⊥) → entry l (p, page) ≡ Some Zero
+  zero_there p page Empty is some other = absurd (some refl)
+  zero_there p page ZeroPte is some other = sym (stands.parts.tables.entries p page) ∙ ap (λ t. entry_of (plain t)) is
+  zero_there p page (Here f write was) is some other = absurd (other f write was refl)
+  zero_there p page (Away s) is some other =
+      let found = how_many-found (names_slot s) (p, page) l.entries (InSlot s) (sym (stands.parts.tables.entries p page) ∙ ap (λ t. entry_of (plain t)) is) (λ i. itself s.area i && itself s.page i) in
+      let zero = stands.parts.swap.counts s in
+      absurd (omega (arith, found, zero))
+
+  module _ (new : Mem) (p from past : ℕ) where
+    pub none_taken : ((q : ℕ) → from ≤ q → q < past → entry_at old.tables p q ≡ Empty) → entry_at new.tables ≡ entry_at old.tables → new.frames ≡ old.frames → new.spaces ≡ old.spaces → ZapsFirst old new l p from past None
+    none_taken none tables frames spaces = (
+      λ q low high. nothing_at p q (none q low high),
+      ap (λ f. (seen f).free) frames,
+      subst (λ n. SoundLedger (setting n) (view new) l) (sym (ap (λ f. (seen f).count) frames)) (subst (λ v. SoundLedger (setting (count old)) v l) (sym (view_same old new tables frames spaces)) stands),
+    )
+
+    module _ (page : ℕ) (e : Pte) (first : IsFirst (entry_at old.tables p) from past page) (is : entry_at old.tables p page ≡ e) where
+      least : (q : ℕ) → from ≤ q → q < page → entry l (p, q) ≡ None
+      least q low high = nothing_at p q (first.least q low high)
+
+      pub zero_taken : ((f : ℕ) (write was : Bool) → e ≡ Here f write was → ⊥) → entry_at new.tables ≡ with_entry p page Empty (entry_at old.tables) → new.frames ≡ old.frames → new.spaces ≡ old.spaces → ZapsFirst old new l p from past (Some page)
+      zero_taken other tables frames spaces =
+          let there = zero_there p page e is (λ none. first.there (is ∙ none)) other in (
+            first.from_there,
+            ap is_some there,
+            least,
+            subst (Chooses (setting (count old)) l (Zapped (p, page)) (view old).free) (sym (ap (λ f. (seen f).free) frames)) (zero_freed (setting (count old)) (view old) l p page cache stands refl (λ s. refl) there),
+            subst (λ n. SoundLedger (setting n) (view new) (after_zap (p, page) l)) (sym (ap (λ f. (seen f).count) frames))
+                (subst (λ v. SoundLedger (setting (count old)) v (after_zap (p, page) l)) (sym (entry_put_in old new p page Empty tables frames spaces))
+                (zero_left (setting (count old)) (view old) l p page cache stands refl (λ s. refl) there)),
+          )
+
+      pub frame_taken : (mid : Mem) (f : ℕ) (write was : Bool) → e ≡ Here f write was → entry_at mid.tables ≡ with_entry p page Empty (entry_at old.tables) → mid.frames ≡ old.frames → mid.spaces ≡ old.spaces
+          → view new ≡ released f (view mid) → count new ≡ count old → ZapsFirst old new l p from past (Some page)
+      frame_taken mid f write was here tables frames spaces same counts =
+          let there = frame_there p page f write was (is ∙ here) in
+          let seen_so : view new ≡ released f (record (view old) { table = with_entry p page None (view old).table }) = same ∙ ap (released f) (entry_put_in old mid p page Empty tables frames spaces) in (
+            first.from_there,
+            ap is_some there,
+            least,
+            subst (Chooses (setting (count old)) l (Zapped (p, page)) (view old).free) (sym (ap (λ (v : View). v.free) seen_so)) (released_freed (setting (count old)) (view old) l p page cache stands refl (λ s. refl) f was there),
+            subst (λ n. SoundLedger (setting n) (view new) (after_zap (p, page) l)) (sym counts)
+                (subst (λ v. SoundLedger (setting (count old)) v (after_zap (p, page) l)) (sym seen_so)
+                (released_left (setting (count old)) (view old) l p page cache stands refl (λ s. refl) f was there)),
+          )

@@ -1,0 +1,28 @@
+use Rattle.std.proofs.Common.{◌∙◌, refl}
+use Rattle.av_reclaim.proofs.ZapRange.{none_yet, taken_more, all_taken, rest_rest}
+use Rattle.av_reclaim.proofs.zap.zap_range.Goals as goal
+
+pub loop-page-init : goal.loop-page-init
+loop-page-init c = record {
+  orderly = c.requires.orderly;
+  taking = λ first stands. none_yet c.args.mem.now c.args.process c.args.from c.args.past first stands;
+  rest = record { processes = refl; bytes = refl; spaces = refl; count = refl };
+}
+
+pub loop-page-preserved : goal.loop-page-preserved
+loop-page-preserved c =
+    let i = c.loop-page.invariant in
+    let mid = c.loop-page.mem in
+    let new = c.zap_first.new.mem in
+    let page = c.in-Some.page in
+    record {
+      orderly = let o = i.orderly in let step = c.in-Some.ensures.zapped o.0 o.1 in (_, step.4);
+      taking = λ first stands. let t = i.taking first stands in
+          taken_more c.args.mem.now mid new c.args.process c.args.from c.args.past c.loop-page.next page first t (c.in-Some.ensures.zapped t.ledger t.stands) c.in-Some.ensures.within.1 c.in-Some.ensures.rest.count;
+      rest = rest_rest i.rest c.in-Some.ensures.rest;
+    }
+
+pub returns-clause-zapped : goal.returns-clause-zapped
+returns-clause-zapped c = λ first stands.
+    let t = c.loop-page.invariant.taking first stands in
+    all_taken c.args.mem.now c.loop-page.mem c.zap_first.new.mem c.args.process c.args.from c.args.past c.loop-page.next first t (c.in_default.ensures.zapped t.ledger t.stands)

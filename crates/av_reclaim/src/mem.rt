@@ -1,0 +1,32 @@
+//! The memory system: frames, page tables and areas.
+
+ghost use Rattle.std.specs.Prelude.{◌≡◌, IfOk};
+ghost use Rattle.av_plain.specs.Transcript.{at_first};
+ghost use Rattle.av_reclaim.specs.Mem.{setting, count, Keeps};
+
+use av_frames::Frames;
+use av_pagetable::{PageTable, Tables};
+use av_spaces::Spaces;
+use std::alloc::{AllocError, Global};
+
+/// The frames, the page table of each process, and the areas of each.
+#[derive(Drop)]
+pub struct Mem {
+    pub frames: Frames,
+    pub tables: Tables<PageTable>,
+    pub spaces: Spaces,
+}
+
+impl Mem {
+    /// This many frames, all free, and no process.
+    pub fn new(alloc: Global, frames: u32) -> Result<Mem, AllocError>
+        ensures keeps { IfOk result (λ k. Keeps k (at_first (setting frames))) }
+        ensures count { IfOk result (λ k. count k ≡ frames) }
+    {
+        Ok(Mem {
+            frames: Frames::new(alloc, frames)?,
+            tables: Tables::new(alloc),
+            spaces: Spaces::new(alloc),
+        })
+    }
+}

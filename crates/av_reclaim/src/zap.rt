@@ -1,0 +1,68 @@
+//! How the entries of a range of pages go: each frame that no other entry names becomes free.
+
+ghost use Rattle.std.specs.Prelude.{◌≡◌, ℕ, ◌-◌, ◌<◌, ◌≤◌, true, false, IfSome};
+ghost use Rattle.av_base.specs.Words.{is_in};
+ghost use Rattle.av_plain.specs.Ledger.{Ledger};
+ghost use Rattle.av_plain.specs.Zap.{keys_in, keys_of_process, zaps_of};
+ghost use Rattle.av_reclaim.specs.Mem.{count, view, HasLedger, IsOrderly};
+ghost use Rattle.av_reclaim.specs.Zap.{released, ZapsFirst, HasZapped, KeepsRest};
+
+use crate::mem::Mem;
+use av_pagetable::Pte;
+
+/// The first page that no page table has: four levels of 512 entries.
+const PAST_PAGES: u64 = 1 << 36;
+
+/// Takes away all entries of a process, by rising page.
+pub fn zap_all(mem: &mut Mem, process: u16)
+    requires orderly { IsOrderly mem.old }
+    ensures zapped { (l : Ledger) → HasLedger mem.old l →
+        HasZapped mem.old mem.new l (zaps_of l (keys_of_process l process)) }
+    ensures rest { KeepsRest mem.old mem.new }
+{
+    zap_range(mem, process, 0, PAST_PAGES);
+}
+
+/// Takes away the entries of a process's pages from `from` to below `past`, by rising page.
+pub fn zap_range(mem: &mut Mem, process: u16, from: u64, past: u64)
+    requires orderly { IsOrderly mem.old }
+    ensures zapped { (l : Ledger) → HasLedger mem.old l →
+        HasZapped mem.old mem.new l (zaps_of l (keys_in l process from (past - from))) }
+    ensures rest { KeepsRest mem.old mem.new }
+{
+    let mut next = from;
+    while let Some(page) = zap_first(mem, process, next, past) {
+        next = page + 1;
+    }
+}
+
+/// Takes away the entry of a process's least page from `from` to below `past`, and tells the page.
+fn zap_first(mem: &mut Mem, process: u16, from: u64, past: u64) -> Option<u64>
+    requires orderly { IsOrderly mem.old }
+    ensures zapped { (l : Ledger) → HasLedger mem.old l →
+        ZapsFirst mem.old mem.new l process from past result }
+    ensures within { IfSome result (λ page. (from ≤ page) × (page < past)) }
+    ensures rest { KeepsRest mem.old mem.new }
+{
+    let (page, entry) = mem.tables.take_first(process, from, past)?;
+    if let Pte::Here { frame, .. } = entry {
+        unmap_frame(mem, frame);
+    }
+    Some(page)
+}
+
+/// One entry fewer names the frame, which becomes free where that was the last.
+fn unmap_frame(mem: &mut Mem, frame: u32)
+    requires in_range { frame < count mem.old }
+    requires named { 0 < (view mem.old).maps frame }
+    requires not_free { is_in frame (view mem.old).free ≡ false }
+    ensures view { view mem.new ≡ released frame (view mem.old) }
+    ensures tables { mem.new.tables ≡ mem.old.tables }
+    ensures spaces { mem.new.spaces ≡ mem.old.spaces }
+    ensures count { count mem.new ≡ count mem.old }
+{
+    mem.frames.map_down(frame);
+    if mem.frames.maps(frame) == 0 {
+        mem.frames.give(frame);
+    }
+}

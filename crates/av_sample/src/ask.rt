@@ -1,0 +1,60 @@
+//! One line for a kernel.
+
+ghost use Rattle.std.specs.Prelude.{◌≡◌, ◌≤◌, ◌^◌, Option, None, IfOk, IsErrOf};
+ghost use Rattle.av_trace.specs.declared.command.Command.{Command as AnyCommand};
+ghost use Rattle.av_trace.specs.Line.{Says};
+ghost use Rattle.av_plain.specs.Transcript.{State};
+ghost use Rattle.av_kernel.specs.Kernel.{Stands};
+ghost use Rattle.av_sample.specs.Answers.{Answers};
+
+use av_kernel::Kernel;
+use av_trace::{Bytes, LineFault, parse_line, reply_text};
+use std::alloc::Global;
+
+/// A kernel does so many commands at most.
+const MOST_COMMANDS: u32 = 1 << 24;
+
+/// Why a line has no reply.
+#[derive(Clone, Copy, Drop, Debug, PartialEq, Eq)]
+pub enum Unanswered {
+    /// The line is empty, or a comment.
+    Blank,
+    /// The line is no command.
+    NoCommand,
+    /// The kernel has done as many commands as it may.
+    TooMany,
+    /// Memory ran out; the command may be done.
+    Memory,
+}
+
+/// Does what a line commands, and gives the reply's text, newlines included.
+///
+/// Where it refuses a line, or the kernel has done enough, the kernel is as before.
+pub fn ask(alloc: Global, kernel: &mut Kernel, line: &[u8]) -> Result<Bytes, Unanswered>
+    ensures answers { (s : State) → Stands kernel.old s
+        → IfOk result (λ text. Answers line.now s kernel.old kernel.new text) }
+    ensures blank { IsErrOf result Unanswered.Blank
+        → Says line.now None × (kernel.new ≡ kernel.old) }
+    ensures bad { IsErrOf result Unanswered.NoCommand
+        → ((said : Option AnyCommand) → Says line.now said → ⊥) × (kernel.new ≡ kernel.old) }
+    ensures enough { IsErrOf result Unanswered.TooMany
+        → (2 ^ 24 ≤ kernel.old.steps) × (kernel.new ≡ kernel.old) }
+{
+    if MOST_COMMANDS <= kernel.steps_done() {
+        return Err(Unanswered::TooMany);
+    }
+    let command = match parse_line(alloc, line) {
+        Ok(Some(command)) => command,
+        Ok(None) => return Err(Unanswered::Blank),
+        Err(LineFault::Bad) => return Err(Unanswered::NoCommand),
+        Err(LineFault::Memory) => return Err(Unanswered::Memory),
+    };
+    let Ok(reply) = kernel.step(alloc, &command) else {
+        return Err(Unanswered::Memory);
+    };
+    let mut text = Bytes::new(alloc);
+    match reply_text(&reply, &mut text) {
+        Ok(()) => Ok(text),
+        Err(_) => Err(Unanswered::Memory),
+    }
+}

@@ -1,0 +1,3 @@
+pub mod Areas
+pub mod Rising
+pub mod Trees

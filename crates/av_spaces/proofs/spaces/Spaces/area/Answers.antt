@@ -1,0 +1,36 @@
+use Rattle.std.proofs.Common.{◌≡◌, ◌∙◌, ℕ, ◌+◌, List, ◌++◌, Some, None, is_some, option_map, length, slice_set, Result, Ok, Err, subst, sym, ap, refl}
+use Rattle.std.specs.Prelude.{IfOk, option_and_then}
+use Rattle.av_vma.specs.Areas.{area_of}
+use Rattle.av_vma.specs.Gap.{IsGap}
+use Rattle.av_vmatree.specs.declared.span.Span.{Span}
+use Rattle.av_vmatree.specs.Spans.{IsFree, IsMet, taken}
+use Rattle.av_vma.specs.Pages.{Pages, mapped, unmapped}
+use Rattle.av_merge.specs.Pages.{pages_by, IsReached}
+use Rattle.av_merge.specs.Process.{AreAreasOf}
+use Rattle.av_spaces.specs.Spaces.{areas_of, pages_of, AreRising, AreThese, IsChanged}
+use Rattle.av_spaces.specs.Trees.{tree_at, areas_by, spaces_by}
+use Rattle.av_spaces.proofs.Areas.{held_by, rising_of}
+use Rattle.av_spaces.proofs.Trees.{areas_are, not_dead, lives_is, tree_of, pages_there, none_dead, taken_as, place_there, trees_same, trees_spawned, count_spawned, spawns, trees_left, count_left, ends, place_still, trees_lent, count_lent, changes, if_each, on_ok}
+use Rattle.av_spaces.proofs.spaces.Spaces.area.Goals as goal
+
+pub returns-in_err-tree-clause-area : goal.returns-in_err-tree-clause-area
+returns-in_err-tree-clause-area c = c.from_residual.ensures ∙ none_dead (area_of c.self.inside.areas) c.self.inside.trees.items c.args.process c.args.self.now (sym (ap (λ ts. tree_at ts c.args.process) (sym c.deref.ensures.value) ∙ sym c.in_err-tree.ensures)) c.self.view_is c.args.page
+
+pub returns-in_err-number-clause-area : goal.returns-in_err-number-clause-area
+returns-in_err-number-clause-area c =
+    c.from_residual-in_err-number.ensures ∙ ap (option_and_then (area_of c.self.inside.areas)) c.in_err-number.ensures.area
+    ∙ sym (pages_there (area_of c.self.inside.areas) c.self.inside.trees.items c.args.process c.in_ok-tree.tree.now c.args.self.now c.self.invariant.trees (sym (ap (λ ts. tree_at ts c.args.process) (sym c.deref.ensures.value) ∙ sym c.in_ok-tree.ensures)) c.self.view_is c.args.page)
+
+pub get-requires : goal.get-requires
+get-requires c = record {
+  used = ap is_some (held_by (area_of c.self.inside.areas) c.args.process c.in_ok-tree.tree.now c.args.page c.in_ok-number.number (tree_of (area_of c.self.inside.areas) c.self.inside.trees.items c.args.process c.in_ok-tree.tree.now c.self.invariant.trees (ap (λ ts. tree_at ts c.args.process) (sym c.deref.ensures.value) ∙ sym c.in_ok-tree.ensures)) (sym c.in_ok-number.ensures.area)).area_is;
+}
+
+pub returns-clause-area : goal.returns-clause-area
+returns-clause-area c =
+    sym c.get.ensures ∙ ap (option_and_then (area_of c.self.inside.areas)) c.in_ok-number.ensures.area
+    ∙ sym (pages_there (area_of c.self.inside.areas) c.self.inside.trees.items c.args.process c.in_ok-tree.tree.now c.args.self.now c.self.invariant.trees (sym (ap (λ ts. tree_at ts c.args.process) (sym c.deref.ensures.value) ∙ sym c.in_ok-tree.ensures)) c.self.view_is c.args.page)
+
+pub returns-clause-below : goal.returns-clause-below
+returns-clause-below c _ =
+    (held_by (area_of c.self.inside.areas) c.args.process c.in_ok-tree.tree.now c.args.page c.in_ok-number.number (tree_of (area_of c.self.inside.areas) c.self.inside.trees.items c.args.process c.in_ok-tree.tree.now c.self.invariant.trees (ap (λ ts. tree_at ts c.args.process) (sym c.deref.ensures.value) ∙ sym c.in_ok-tree.ensures)) (sym c.in_ok-number.ensures.area)).below

@@ -1,0 +1,41 @@
+use Rattle.std.proofs.Common.{◌-◌, ◌<◌, arith, true, ◌≤◌, ◌≡◌, ◌∙◌, ℕ, ◌+◌, List, ◌++◌, Some, None, is_some, option_map, length, slice_set, Result, Ok, Err, subst, sym, ap, refl}
+use Rattle.std.proofs.Math.ListN.{length-set}
+use Rattle.std.specs.Prelude.{IfOk, option_and_then}
+use Rattle.av_vma.specs.Areas.{area_of}
+use Rattle.av_vma.specs.Gap.{IsGap}
+use Rattle.av_vmatree.specs.declared.span.Span.{Span}
+use Rattle.av_vmatree.specs.Spans.{IsFree, IsMet, taken}
+use Rattle.av_vma.specs.Pages.{Pages, mapped, unmapped}
+use Rattle.av_merge.specs.Pages.{pages_by, IsReached}
+use Rattle.av_merge.specs.Process.{AreAreasOf}
+use Rattle.av_spaces.specs.Spaces.{IsSpawned, IsEnded, areas_of, pages_of, AreRising, AreThese, IsChanged}
+use Rattle.av_spaces.specs.Trees.{Trees, HasTrees, tree_at, areas_by, spaces_by}
+use Rattle.av_spaces.proofs.Areas.{held_by, rising_of}
+use Rattle.av_spaces.proofs.Trees.{some_mapped, count_is, areas_are, not_dead, tree_of, pages_there, none_dead, taken_as, place_there, trees_same, trees_spawned, count_spawned, spawns, trees_left, count_left, ends, place_still, trees_lent, count_lent, changes, count_below, some_alive, lives_is, if_each, on_ok}
+use Rattle.av_spaces.proofs.spaces.Spaces.map.Goals as goal
+
+pub take_tree-tree-requires : goal.take_tree-tree-requires
+take_tree-tree-requires c = (lives_is (area_of c.self.inside.areas) c.self.inside.trees.items c.args.process ∙ ap (λ s. is_some (areas_of s c.args.process)) c.self.view_is ∙ c.requires.lives)
+
+pub put_tree-requires : goal.put_tree-requires
+put_tree-requires c = subst (λ (ts : Trees). c.args.process < length ts) (sym c.take_tree-tree.ensures.trees) (place_still (area_of c.self.inside.areas) (area_of c.map-result.new.areas) c.self.inside.trees.items c.args.process c.take_tree-tree.result c.map-result.new.tree c.self.invariant.trees c.take_tree-tree.ensures.tree (λ _. c.map-result.ensures.stands))
+
+pub invariant_of-self : goal.invariant_of-self
+invariant_of-self c =
+    let set = c.put_tree.ensures ∙ ap (λ (ts : Trees). slice_set ts c.args.process (Some c.map-result.new.tree)) c.take_tree-tree.ensures.trees in
+    subst (λ (ts : Trees). HasTrees (area_of c.map-result.new.areas) ts c.self.inside.alive) (sym set) (record {
+      trees = trees_lent (area_of c.self.inside.areas) (area_of c.map-result.new.areas) c.self.inside.trees.items c.args.process c.take_tree-tree.result c.map-result.new.tree c.self.invariant.trees c.take_tree-tree.ensures.tree (λ _. c.map-result.ensures.stands);
+      alive = count_lent (area_of c.self.inside.areas) (area_of c.map-result.new.areas) c.self.inside.trees.items c.args.process c.take_tree-tree.result c.map-result.new.tree c.self.invariant.trees c.take_tree-tree.ensures.tree (λ _. c.map-result.ensures.stands) ∙ c.self.invariant.alive;
+      few = simp length-set c.self.invariant.few;
+    })
+
+pub map-result-requires-clause-stands : goal.map-result-requires-clause-stands
+map-result-requires-clause-stands c = tree_of (area_of c.self.inside.areas) c.self.inside.trees.items c.args.process c.take_tree-tree.result c.self.invariant.trees c.take_tree-tree.ensures.tree
+
+pub map-result-requires-clause-free : goal.map-result-requires-clause-free
+map-result-requires-clause-free c = subst (λ test. IsFree test c.args.from (c.args.from + c.args.pages)) (sym (taken_as (area_of c.self.inside.areas) c.self.inside.trees.items c.args.process c.take_tree-tree.result c.args.self.now c.self.invariant.trees (sym c.take_tree-tree.ensures.tree) c.self.view_is)) c.requires.free
+
+pub returns : goal.returns
+returns c =
+    on_ok c.map-result.result (λ pages. subst (λ (ts : Trees). IsChanged c.args.self.now (spaces_by (area_of c.map-result.new.areas) ts) c.args.process (AreThese (mapped c.args.process c.args.from (c.args.from + c.args.pages) c.args.prot (pages_of c.args.self.now c.args.process)))) (sym (c.put_tree.ensures ∙ ap (λ (ts : Trees). slice_set ts c.args.process (Some c.map-result.new.tree)) c.take_tree-tree.ensures.trees))
+    (changes (area_of c.self.inside.areas) (area_of c.map-result.new.areas) c.self.inside.trees.items c.args.process c.take_tree-tree.result c.map-result.new.tree c.self.invariant.trees c.take_tree-tree.ensures.tree (λ _. c.map-result.ensures.stands) c.args.self.now c.self.view_is (λ on. AreThese (mapped c.args.process c.args.from (c.args.from + c.args.pages) c.args.prot on)) pages)) c.map-result.ensures.pages

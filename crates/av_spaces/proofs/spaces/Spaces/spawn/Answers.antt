@@ -1,0 +1,45 @@
+use Rattle.std.proofs.Common.{◌-◌, ◌<◌, arith, true, ◌≤◌, ◌≡◌, ◌∙◌, ℕ, ◌+◌, List, ◌++◌, Some, None, is_some, option_map, length, slice_set, Result, Ok, Err, subst, sym, ap, refl}
+use Rattle.std.proofs.Math.ListN.{length-set}
+use Rattle.std.specs.Prelude.{IfOk, option_and_then}
+use Rattle.av_vma.specs.Areas.{area_of}
+use Rattle.av_vma.specs.Gap.{IsGap}
+use Rattle.av_vmatree.specs.declared.span.Span.{Span}
+use Rattle.av_vmatree.specs.Spans.{IsFree, IsMet, taken}
+use Rattle.av_vma.specs.Pages.{Pages, mapped, unmapped}
+use Rattle.av_merge.specs.Pages.{pages_by, IsReached}
+use Rattle.av_merge.specs.Process.{AreAreasOf}
+use Rattle.av_spaces.specs.Spaces.{IsSpawned, IsEnded, areas_of, pages_of, AreRising, AreThese, IsChanged}
+use Rattle.av_spaces.specs.Trees.{Trees, HasTrees, tree_at, areas_by, spaces_by}
+use Rattle.av_spaces.proofs.Areas.{held_by, rising_of}
+use Rattle.av_spaces.proofs.Trees.{some_mapped, count_is, areas_are, not_dead, tree_of, pages_there, none_dead, taken_as, place_there, trees_same, trees_spawned, count_spawned, spawns, trees_left, count_left, ends, place_still, trees_lent, count_lent, changes, count_below, some_alive, lives_is, if_each, on_ok, on_err}
+use Rattle.av_spaces.proofs.spaces.Spaces.spawn.Goals as goal
+
+pub overflow_add-self : goal.overflow_add-self
+overflow_add-self c = let few = c.self.invariant.few in let alive = c.self.invariant.alive in let below = count_below c.self.inside.trees.items in omega (arith, few, alive, below)
+
+pub put_tree-requires : goal.put_tree-requires
+put_tree-requires c = c.in_ok-make_place.ensures.place
+
+pub invariant_of-self : goal.invariant_of-self
+invariant_of-self c = let g = c.make_place.ensures.grown in record {
+  trees = trees_same (area_of c.self.inside.areas) c.self.inside.trees.items c.make_place.new.trees.items c.self.invariant.trees g.trees;
+  alive = g.alive ∙ c.self.invariant.alive;
+  few = g.few c.self.invariant.few;
+}
+
+pub invariant_of-self-2 : goal.invariant_of-self-2
+invariant_of-self-2 c =
+    let g = c.make_place.ensures.grown in
+    subst (λ (ts : Trees). HasTrees (area_of c.self.inside.areas) ts (c.self.inside.alive + 1)) (sym c.put_tree.ensures) (record {
+      trees = trees_spawned (area_of c.self.inside.areas) c.self.inside.trees.items c.make_place.new.trees.items c.args.process c.new.result c.args.self.now c.self.invariant.trees c.new.ensures c.self.view_is c.requires g c.in_ok-make_place.ensures.place;
+      alive = count_spawned (area_of c.self.inside.areas) c.self.inside.trees.items c.make_place.new.trees.items c.args.process c.new.result c.args.self.now c.self.invariant.trees c.new.ensures c.self.view_is c.requires g c.in_ok-make_place.ensures.place ∙ ap (λ n. n + 1) c.self.invariant.alive;
+      few = simp length-set (g.few c.self.invariant.few);
+    })
+
+pub returns-clause-ok : goal.returns-clause-ok
+returns-clause-ok c =
+    subst (λ (ts : Trees). IsSpawned c.args.self.now (spaces_by (area_of c.self.inside.areas) ts) c.args.process) (sym c.put_tree.ensures)
+    (spawns (area_of c.self.inside.areas) c.self.inside.trees.items c.make_place.new.trees.items c.args.process c.new.result c.args.self.now c.self.invariant.trees c.new.ensures c.self.view_is c.requires c.make_place.ensures.grown c.in_ok-make_place.ensures.place)
+
+pub returns-in_err-make_place-clause-err : goal.returns-in_err-make_place-clause-err
+returns-in_err-make_place-clause-err c = on_err c.from_residual.result (c.make_place.ensures.grown.same (area_of c.self.inside.areas) ∙ c.self.view_is)

@@ -1,0 +1,72 @@
+-- The areas of every process, by process number.
+use Rattle.std.specs.Prelude.{◌≡◌, ◌≢◌, ℕ, ◌+◌, ◌-◌, ◌≤◌, ◌==◌, Bool, true, is_some, if◌then◌else◌, List, [], ◌∷◌, length, Option, Some, None, option_map, IfSome}
+use Rattle.std.specs.Ordering.{nat_cmp}
+use Rattle.std.specs.FinMap.Entries.{find as find_key}
+use Rattle.std.specs.List.{find}
+use Rattle.av_vma.specs.declared.area.Area.{Area}
+use Rattle.av_vma.specs.Join.{first_of, past_of}
+use Rattle.av_vma.specs.Pages.{Pages, IsWhole, has_page}
+
+-- the processes that live, rising, each with its areas
+abbrev pub Spaces : Type 0
+Spaces = List (ℕ × List Area)
+
+-- the areas of a process, or none where it does not live
+abbrev pub areas_of : Spaces → ℕ → Option (List Area)
+areas_of s p = find_key nat_cmp p s
+
+-- the area that holds each page
+abbrev pub pages_in : Option (List Area) → Pages
+pages_in None page = None
+pages_in (Some areas) page = find (λ area. has_page area page) areas
+
+abbrev pub pages_of : Spaces → ℕ → Pages
+pages_of s p = pages_in (areas_of s p)
+
+-- whether an area of the process holds the page
+abbrev pub is_taken : Spaces → ℕ → ℕ → Bool
+is_taken s p page = is_some (pages_of s p page)
+
+-- ---- what holds of the areas of a process
+
+-- an area of p, of whole pages
+pub record IsOwn (p : ℕ) (area : Area) : Type 0 where
+  pub process : area.pid ≡ p
+  pub whole : IsWhole area
+
+-- areas of p in the order of their pages, and no two meet
+abbrev pub AreRising : ℕ → List Area → Type 0
+AreRising p [] = Unit {0}
+AreRising p (a ∷ []) = IsOwn p a
+AreRising p (a ∷ b ∷ areas) = IsOwn p a × (past_of a ≤ first_of b) × AreRising p (b ∷ areas)
+
+-- so are those of each process
+abbrev pub AllRising : Spaces → Type 0
+AllRising s = (p : ℕ) → IfSome (areas_of s p) (AreRising p)
+
+-- ---- what changes
+
+-- p lives now, without any area
+pub record IsSpawned (old new : Spaces) (p : ℕ) : Type 0 where
+  pub areas : (q : ℕ) → areas_of new q ≡ (if q == p then Some [] else areas_of old q)
+  pub number : length new ≡ length old + 1
+  pub rising : AllRising new
+
+-- p does not live any more
+pub record IsEnded (old new : Spaces) (p : ℕ) : Type 0 where
+  pub areas : (q : ℕ) → areas_of new q ≡ (if q == p then None else areas_of old q)
+  pub number : length new + 1 ≡ length old
+  pub rising : AllRising new
+
+-- p lives on, and what it has on its pages is so now; the others have the areas that they had
+pub record IsChanged (old new : Spaces) (p : ℕ) (IsSo : Pages → Type 0) : Type 0 where
+  pub others : (q : ℕ) → q ≢ p → areas_of new q ≡ areas_of old q
+  pub alive : is_some (areas_of new p) ≡ true
+  pub pages : IsSo (pages_of new p)
+  pub number : length new ≡ length old
+  pub were_rising : AllRising old
+  pub rising : AllRising new
+
+-- each page has the area that these have on it
+abbrev pub AreThese : Pages → Pages → Type 0
+AreThese on now = (page : ℕ) → now page ≡ on page

@@ -1,0 +1,256 @@
+//! The areas of every process that lives.
+
+ghost use Rattle.std.specs.Prelude.{◌≡◌, ℕ, ◌+◌, ◌-◌, ◌^◌, ◌<◌, ◌≤◌, [], Some, None, true, false, is_some, option_map, slice_set, length, IsSome, OnOk, OnErr, IfOk};
+ghost use Rattle.av_vma.specs.Areas.{area_of};
+ghost use Rattle.av_base.specs.Limits.{low_page, top_page};
+ghost use Rattle.av_vma.specs.Gap.{IsGap};
+ghost use Rattle.av_vmatree.specs.Spans.{IsFree, IsMet};
+ghost use Rattle.av_merge.specs.Mapping.{IsRemapped};
+ghost use Rattle.av_merge.specs.Pages.{IsReached};
+ghost use Rattle.av_merge.specs.Process.{AreAreasOf};
+ghost use Rattle.av_spaces.specs.Spaces.{areas_of, pages_of, is_taken, AreThese, AreRising, IsSpawned, IsChanged, IsEnded};
+ghost use Rattle.av_vma.specs.Pages.{mapped, unmapped, pages_changed, to_prot};
+ghost use Rattle.av_spaces.specs.Trees.{areas_by, tree_at, IsGrown};
+
+use av_base::Prot;
+use av_merge::Change;
+use av_vma::{Area, Areas};
+use av_vmatree::{Span, Tree};
+use std::alloc::{AllocError, Global};
+use std::marker::Model;
+
+/// The areas of every process that lives, seen as the list of the processes, rising, each with its
+/// areas in the order of their pages.
+#[derive(Drop)]
+pub struct Spaces {
+    alloc: Global,
+    areas: Areas,
+    // The tree of each process, by its number.
+    trees: Vec<Option<Tree>>,
+    alive: usize,
+}
+
+impl Model for Spaces {
+    ghost use Rattle.std.specs.Prelude.{ℕ, List};
+    ghost use Rattle.av_vma.specs.Areas.{area_of};
+    ghost use Rattle.av_vma.specs.declared.area.Area.{Area};
+    ghost use Rattle.av_spaces.specs.Trees.{spaces_by, HasTrees};
+
+    ghost Value = { List (ℕ × List Area) };
+
+    ghost view = { λ s. spaces_by (area_of s.areas) s.trees.items };
+
+    ghost invariant = { λ s. HasTrees (area_of s.areas) s.trees.items s.alive };
+}
+
+impl Spaces {
+    /// No process.
+    pub fn new(alloc: Global) -> Self
+        ensures { result ≡ [] }
+    {
+        Spaces {
+            alloc,
+            areas: Areas::new(alloc),
+            trees: Vec::new(alloc),
+            alive: 0,
+        }
+    }
+
+    /// How many processes live.
+    pub fn count(&self) -> usize
+        ensures { result ≡ length self.now }
+    {
+        self.alive
+    }
+
+    /// Whether a process lives.
+    pub fn lives(&self, process: u16) -> bool
+        ensures { result ≡ is_some (areas_of self.now process) }
+    {
+        tree_of(&self.trees, process).is_some()
+    }
+
+    /// The area that holds a page, if it is mapped.
+    pub fn area(&self, process: u16, page: u64) -> Option<Area>
+        ensures area { result ≡ pages_of self.now process page }
+        ensures below { IsSome result → page < top_page }
+    {
+        let tree = tree_of(&self.trees, process)?;
+        let number = tree.find(page)?;
+        Some(self.areas.get(number))
+    }
+
+    /// The greatest page from which on this many are free in a process that lives.
+    pub fn gap(&self, process: u16, pages: u64) -> Option<u64>
+        requires lives { is_some (areas_of self.now process) ≡ true }
+        requires some { 1 ≤ pages }
+        ensures { IsGap (is_taken self.now process) pages result }
+    {
+        let tree = tree_of(&self.trees, process)?;
+        tree.gap(pages)
+    }
+
+    /// Gives a process that does not live no areas, so that it lives. Without memory all stays.
+    pub fn spawn(&mut self, process: u16) -> Result<(), AllocError>
+        requires { areas_of self.old process ≡ None }
+        ensures ok { OnOk result (IsSpawned self.old self.new process) }
+        ensures err { OnErr result (self.new ≡ self.old) }
+    {
+        make_place(&mut self.trees, process)?;
+        put_tree(&mut self.trees, process, Tree::new(self.alloc));
+        self.alive += 1;
+        Ok(())
+    }
+
+    /// Whether none of these pages of a process that lives is mapped.
+    pub fn is_free(&self, process: u16, from: u64, pages: u64) -> bool
+        requires lives { is_some (areas_of self.now process) ≡ true }
+        requires past { from + pages < 2 ^ 64 }
+        ensures free { result ≡ true → IsFree (is_taken self.now process) from (from + pages) }
+        ensures met { result ≡ false → IsMet (is_taken self.now process) from (from + pages) }
+    {
+        let Some(tree) = tree_of(&self.trees, process) else {
+            unreachable!()
+        };
+        tree.is_free(from, from + pages)
+    }
+
+    /// Maps free pages of a process that lives, as one area without an anon_vma. Once memory is
+    /// wanting, nothing is promised of any process's pages.
+    pub fn map(&mut self, process: u16, from: u64, pages: u64, prot: Prot) -> Result<(), AllocError>
+        requires lives { is_some (areas_of self.old process) ≡ true }
+        requires some { 1 ≤ pages }
+        requires low { low_page ≤ from }
+        requires high { from + pages ≤ top_page }
+        requires free { IsFree (is_taken self.old process) from (from + pages) }
+        ensures { OnOk result (IsChanged self.old self.new process
+            (AreThese (mapped process from (from + pages) prot (pages_of self.old process)))) }
+    {
+        let mut tree = take_tree(&mut self.trees, process);
+        let result = av_merge::map(
+            &mut self.areas,
+            &mut tree,
+            process,
+            from,
+            from + pages,
+            prot,
+        );
+        put_tree(&mut self.trees, process, tree);
+        result
+    }
+
+    /// Takes these pages away from a process that lives, those of them that are mapped. Without
+    /// memory as for `map`.
+    pub fn unmap(&mut self, process: u16, from: u64, pages: u64) -> Result<(), AllocError>
+        requires lives { is_some (areas_of self.old process) ≡ true }
+        requires past { from + pages < 2 ^ 64 }
+        ensures { OnOk result (IsChanged self.old self.new process
+            (AreThese (unmapped from (from + pages) (pages_of self.old process)))) }
+    {
+        let mut tree = take_tree(&mut self.trees, process);
+        let result = av_merge::cut(&mut self.areas, &mut tree, from, from + pages);
+        put_tree(&mut self.trees, process, tree);
+        result
+    }
+
+    /// Gives these pages of a process that lives a protection, up to the first one that is not
+    /// mapped, and tells that one, else the page past them. Without memory as for `map`.
+    pub fn protect(
+        &mut self,
+        process: u16,
+        from: u64,
+        pages: u64,
+        prot: Prot,
+    ) -> Result<u64, AllocError>
+        requires lives { is_some (areas_of self.old process) ≡ true }
+        requires past { from + pages < 2 ^ 64 }
+        ensures reached { IfOk result (λ reached.
+            IsReached (is_taken self.old process) from (from + pages) reached) }
+        ensures ok { IfOk result (λ reached. IsChanged self.old self.new process
+            (AreThese
+                (pages_changed (to_prot prot) from (reached - from) (pages_of self.old process)))) }
+        ensures mapping { IfOk result (λ reached. IsRemapped from reached (to_prot prot)
+            (pages_of self.old process) (pages_of self.new process)) }
+    {
+        let mut tree = take_tree(&mut self.trees, process);
+        let change = Change::Prot(prot);
+        let result = av_merge::modify(&mut self.areas, &mut tree, from, from + pages, change);
+        put_tree(&mut self.trees, process, tree);
+        result
+    }
+
+    /// Takes away a process that lives, with its areas.
+    pub fn end(&mut self, process: u16)
+        requires { is_some (areas_of self.old process) ≡ true }
+        ensures { IsEnded self.old self.new process }
+    {
+        let mut tree = take_tree(&mut self.trees, process);
+        av_merge::clear(&mut self.areas, &mut tree);
+        self.alive -= 1;
+    }
+
+    /// The areas of a process that lives, in the order of their pages, in time linear in their
+    /// number.
+    pub fn areas(&self, process: u16) -> Result<Vec<Area>, AllocError>
+        requires { is_some (areas_of self.now process) ≡ true }
+        ensures areas { IfOk result (λ areas. areas_of self.now process ≡ Some areas.items) }
+        ensures rising { IfOk result (λ areas. AreRising process areas.items) }
+    {
+        let Some(tree) = tree_of(&self.trees, process) else {
+            unreachable!()
+        };
+        let mut spans = Vec::new(self.alloc);
+        tree.append_to(&mut spans)?;
+        areas_at(self.alloc, &self.areas, &spans)
+    }
+}
+
+/// The tree of a process, if it lives.
+fn tree_of(trees: &[Option<Tree>], process: u16) -> Option<&Tree>
+    ensures { option_map (λ tree. tree.now) result ≡ tree_at trees.now process }
+{
+    trees.get(process as usize)?.as_ref()
+}
+
+/// Makes a place for the tree of a process, if there is none.
+fn make_place(trees: &mut Vec<Option<Tree>>, process: u16) -> Result<(), AllocError>
+    ensures grown { IsGrown trees.old.items trees.new.items }
+    ensures place { OnOk result (process < length trees.new.items) }
+{
+    while trees.len() <= process as usize {
+        trees.push(None)?;
+    }
+    Ok(())
+}
+
+/// Takes the tree of a process that lives out of its place.
+fn take_tree(trees: &mut Vec<Option<Tree>>, process: u16) -> Tree
+    requires { is_some (tree_at trees.old.items process) ≡ true }
+    ensures tree { tree_at trees.old.items process ≡ Some result }
+    ensures trees { trees.new.items ≡ slice_set trees.old.items process None }
+{
+    let Some(tree) = trees[process as usize].take() else {
+        unreachable!()
+    };
+    tree
+}
+
+/// Puts a tree into the place of a process.
+fn put_tree(trees: &mut Vec<Option<Tree>>, process: u16, tree: Tree)
+    requires { process < length trees.old.items }
+    ensures { trees.new.items ≡ slice_set trees.old.items process (Some tree) }
+{
+    trees[process as usize] = Some(tree);
+}
+
+/// The areas of these spans of one process, in their order.
+fn areas_at(alloc: Global, areas: &Areas, spans: &[Span]) -> Result<Vec<Area>, AllocError>
+    requires { (process : ℕ) × AreAreasOf process (area_of areas.now) spans.now }
+    ensures { IfOk result (λ list. list.items ≡ areas_by (area_of areas.now) spans.now) }
+{
+    let mut list = Vec::new(alloc);
+    for span in spans {
+        list.push(areas.get(span.area))?;
+    }
+    Ok(list)
+}

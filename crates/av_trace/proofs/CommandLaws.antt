@@ -1,0 +1,144 @@
+-- Each command: what is read is in range and on its line, and what is in range is read from its line.
+use Rattle.std.proofs.Common.{◌≡◌, ℕ, List, [], ◌∷◌, ◌++◌, append-nil, Option, Some, refl, sym, ap, subst, ◌∙◌, lit<}
+use Rattle.std.specs.Prelude.{codes, Result, Ok, Err, OnErr}
+use Rattle.std.specs.List.{flat_map, AllByRecursion}
+use Rattle.std.specs.Fmt.{decimal}
+use Rattle.std.proofs.lemmas.Option.{same_Some}
+use Rattle.av_base.specs.Page.{page_size}
+use Rattle.av_base.specs.declared.prot.Prot.{Prot}
+use Rattle.av_trace.specs.declared.command.Command.{Command}
+use Rattle.av_trace.specs.declared.command.Command.TheVariants as commands
+use Rattle.av_trace.specs.declared.place.Place.{Place}
+use Rattle.av_trace.specs.Command.{IsCommand, line_of, at_end, whole, no_words, range_words, mmap_words, mprotect_words, read_words, write_words, CommandReader, mmap_at, munmap_at, mprotect_at, read_at, write_at, readers, command_of}
+use Rattle.av_trace.specs.Hex.{hex, hex_text, IsData}
+use Rattle.av_trace.specs.Number.{IsNumberIn, IsProcess, IsWide, process_at}
+use Rattle.av_trace.specs.Place.{IsPlace, place_words}
+use Rattle.av_trace.specs.Prot.{prot_text}
+use Rattle.av_trace.specs.Word.{field, line, ◌>>=◌, BeginsWith, Reader, after}
+use Rattle.av_trace.proofs.HexLaws.{stored}
+use Rattle.av_trace.proofs.NumberLaws.{processes, lengths, entries, reads_decimal}
+use Rattle.av_trace.proofs.PlaceLaws.{last_place}
+use Rattle.av_trace.proofs.ProtLaws.{prots}
+use Rattle.av_trace.proofs.WordLaws.{bind_some, after-found, named-found, IsEnd, IsRest, words_onto, Reads, reads_both}
+
+-- ---- the words of each command
+
+nothing : Reads no_words (λ x. Unit {0}) (λ x. []) IsRest
+nothing = record {
+  found = λ bytes x e. (ap (λ (y : Unit {0} × List ℕ). y.1) (same_Some (tt, bytes) x e), tt);
+  again = λ x rest _ h. refl;
+  ends = λ rest h. h;
+}
+
+ranges : Reads range_words (λ (x : (ℕ × ℕ) × ℕ). (IsProcess x.0.0 × IsWide x.0.1) × IsWide x.1)
+    (λ (x : (ℕ × ℕ) × ℕ). decimal x.0.0 ∷ hex x.0.1 ∷ decimal x.1 ∷ []) IsRest
+ranges = reads_both entries lengths
+
+mmaps : Reads mmap_words (λ (x : ((ℕ × ℕ) × Prot) × Place). ((IsProcess x.0.0.0 × IsWide x.0.0.1) × Unit {0}) × IsPlace x.1)
+    (λ (x : ((ℕ × ℕ) × Prot) × Place). decimal x.0.0.0 ∷ decimal x.0.0.1 ∷ prot_text x.0.1 ∷ place_words x.1) IsEnd
+mmaps = reads_both (reads_both (reads_both processes lengths) prots) last_place
+
+mprotects : Reads mprotect_words (λ (x : ((ℕ × ℕ) × ℕ) × Prot). ((IsProcess x.0.0.0 × IsWide x.0.0.1) × IsWide x.0.1) × Unit {0})
+    (λ (x : ((ℕ × ℕ) × ℕ) × Prot). decimal x.0.0.0 ∷ hex x.0.0.1 ∷ decimal x.0.1 ∷ prot_text x.1 ∷ []) IsRest
+mprotects = reads_both ranges prots
+
+reads : Reads read_words (λ (x : (ℕ × ℕ) × ℕ). (IsProcess x.0.0 × IsWide x.0.1) × IsNumberIn 1 page_size x.1)
+    (λ (x : (ℕ × ℕ) × ℕ). decimal x.0.0 ∷ hex x.0.1 ∷ decimal x.1 ∷ []) IsRest
+reads = reads_both entries (reads_decimal 1 page_size (lit< tt))
+
+writes : Reads write_words (λ (x : (ℕ × ℕ) × List ℕ). (IsProcess x.0.0 × IsWide x.0.1) × IsData x.1)
+    (λ (x : (ℕ × ℕ) × List ℕ). decimal x.0.0 ∷ hex x.0.1 ∷ hex_text x.1 ∷ []) IsEnd
+writes = reads_both entries stored
+
+-- ---- what is read
+
+-- a reader gets the commands that have this name, from the rest of their lines
+abbrev IsReader : List ℕ × CommandReader → Type 0
+IsReader r = (bytes : List ℕ) (c : Command) → r.1 bytes ≡ Some c → IsCommand c × (r.0 ++ bytes ≡ line_of c)
+
+at_end-found : (c : Command) (bytes : List ℕ) (d : Command) → at_end c bytes ≡ Some d → (bytes ≡ []) × (c ≡ d)
+unfolding at_end
+at_end-found c [] d e = (refl, same_Some _ _ e)
+at_end-found c (b ∷ bytes) d e = absurd cc
+
+whole-found : {A : Type 0} {read : Reader A} {Fits : A → Type 0} {words : A → List (List ℕ)} {Rest : List ℕ → Type 0} → Reads read Fits words Rest →
+    (name : List ℕ) (command : A → Command) →
+    ((x : A) → Fits x → IsCommand (command x)) → ((x : A) → line name (words x) ≡ line_of (command x)) → IsReader (name, whole read command)
+unfolding whole
+whole-found {A = A} {words = words} reads name command fits spelled bytes c e =
+    let x = bind_some {A = A × List ℕ} _ _ _ e in
+    let is = reads.found bytes x.value x.first in
+    let end = at_end-found (command x.value.0) x.value.1 c x.second in
+    let text : name ++ bytes ≡ line_of (command x.value.0) =
+    ap (λ (t : List ℕ). name ++ t) (is.0 ∙ ap (words_onto (words x.value.0)) end.0 ∙ append-nil (flat_map field (words x.value.0))) ∙ spelled x.value.0 in
+    subst (λ (d : Command). IsCommand d × (name ++ bytes ≡ line_of d)) end.1 (fits x.value.0 is.1, text)
+
+writes-found : IsReader (codes "write", write_at)
+writes-found = whole-found writes (codes "write") _ (λ x h. (h.0.0, h.0.1, h.1)) (λ _. refl)
+
+reads-found : IsReader (codes "read", read_at)
+reads-found = whole-found reads (codes "read") _ (λ x h. (h.0.0, h.0.1, h.1)) (λ _. refl)
+
+mmaps-found : IsReader (codes "mmap", mmap_at)
+mmaps-found = whole-found mmaps (codes "mmap") _ (λ x h. (h.0.0.0, h.0.0.1, h.1)) (λ _. refl)
+
+ranges-found : IsReader (codes "munmap", munmap_at)
+ranges-found = whole-found ranges (codes "munmap") _ (λ x h. (h.0.0, h.0.1, h.1)) (λ _. refl)
+
+mprotects-found : IsReader (codes "mprotect", mprotect_at)
+mprotects-found = whole-found mprotects (codes "mprotect") _ (λ x h. (h.0.0.0, h.0.0.1, h.0.1)) (λ _. refl)
+
+spawns-found : IsReader (codes "spawn", whole process_at commands.Spawn)
+spawns-found = whole-found processes (codes "spawn") commands.Spawn (λ _ h. h) (λ _. refl)
+
+exits-found : IsReader (codes "exit", whole process_at commands.Exit)
+exits-found = whole-found processes (codes "exit") commands.Exit (λ _ h. h) (λ _. refl)
+
+maps-found : IsReader (codes "maps", whole process_at commands.Maps)
+maps-found = whole-found processes (codes "maps") commands.Maps (λ _ h. h) (λ _. refl)
+
+stats-found : IsReader (codes "stat", whole no_words (λ x. commands.Stat))
+stats-found = whole-found nothing (codes "stat") _ (λ _ _. tt) (λ _. refl)
+
+each_reads : AllByRecursion IsReader readers
+each_reads = (writes-found, (reads-found, (spawns-found, (exits-found, (mmaps-found, (ranges-found, (mprotects-found, (maps-found, (stats-found, tt)))))))))
+
+pub command_of-found : (bytes : List ℕ) (c : Command) → command_of bytes ≡ Some c → IsCommand c × (bytes ≡ line_of c)
+unfolding command_of
+command_of-found bytes c e =
+    let reader = bind_some {A = CommandReader × List ℕ} _ _ _ e in
+    let is = named-found IsReader readers bytes reader.value each_reads reader.first in
+    let s = is.fits reader.value.1 c reader.second in
+    (s.0, is.is ∙ s.1)
+
+-- ---- what is read again
+
+whole-again : {A : Type 0} {read : Reader A} {Fits : A → Type 0} {words : A → List (List ℕ)} {Rest : List ℕ → Type 0} → Reads read Fits words Rest → Rest [] →
+    (command : A → Command) → (x : A) → Fits x →
+    whole read command (flat_map field (words x)) ≡ Some (command x)
+unfolding whole at_end
+whole-again {A = A} {read = read} {words = words} reads end command x fits =
+    let found : read (flat_map field (words x)) ≡ Some (x, []) = ap read (sym (append-nil (flat_map field (words x)))) ∙ reads.again x [] fits end in
+    ap (λ (o : Option (A × List ℕ)). o >>= λ y. at_end (command y.0) y.1) found
+
+pub command_of-again : (c : Command) → IsCommand c → command_of (line_of c) ≡ Some c
+unfolding command_of after
+command_of-again (commands.Spawn p) h = whole-again processes tt commands.Spawn p h
+command_of-again (commands.Exit p) h = whole-again processes tt commands.Exit p h
+command_of-again (commands.Mmap p len prot place) h = whole-again mmaps refl _ (((p, len), prot), place) (((h.0, h.1), tt), h.2)
+command_of-again (commands.Munmap p address len) h = whole-again ranges tt _ ((p, address), len) ((h.0, h.1), h.2)
+command_of-again (commands.Mprotect p address len prot) h = whole-again mprotects tt _ (((p, address), len), prot) (((h.0, h.1), h.2), tt)
+command_of-again (commands.Read p address len) h = whole-again reads tt _ ((p, address), len) ((h.0, h.1), h.2)
+command_of-again (commands.Write p address bytes) h = whole-again writes refl _ ((p, address), bytes) ((h.0, h.1), h.2)
+command_of-again (commands.Maps p) h = whole-again processes tt commands.Maps p h
+command_of-again commands.Stat h = whole-again nothing tt (λ x. commands.Stat) tt tt
+
+-- ---- want of memory
+
+on_error : {T E P : Type 0} (r : Result T E) → P → OnErr r P
+on_error (Ok x) p = tt
+on_error (Err e) p = p
+
+-- what follows this front begins with it, whatever comes of it
+pub begins : {T E : Type 0} (front bytes rest : List ℕ) (r : Result T E) → Some rest ≡ after front bytes → OnErr r (BeginsWith front bytes)
+begins front bytes rest r e = on_error r (rest, after-found front bytes rest (sym e))

@@ -1,0 +1,241 @@
+-- The line of an answer is read back.
+use Rattle.std.proofs.Common.{true, false, ◌≡◌, ℕ, List, [], ◌∷◌, ◌++◌, Option, Some, None, refl, ap}
+use Rattle.std.specs.Prelude.{codes}
+use Rattle.std.specs.Fmt.{decimal}
+use Rattle.av_base.specs.declared.slot.Slot.{Slot}
+use Rattle.av_trace.specs.declared.reply.Errno.{Errno}
+use Rattle.av_trace.specs.declared.reply.Errno.TheVariants as errors
+use Rattle.av_trace.specs.declared.reply.OutOf.{OutOf}
+use Rattle.av_trace.specs.declared.reply.Totals.{Totals}
+use Rattle.av_trace.specs.declared.reply.Answer.{Answer}
+use Rattle.av_trace.specs.declared.reply.Answer.TheVariants as answers
+use Rattle.av_trace.specs.Hex.{AreBytes, pairs_of}
+use Rattle.av_trace.specs.Number.{IsWide}
+use Rattle.av_trace.specs.Reply.{errno_name, shown_words, out_words, cached_words, answer_line, AreCauses, AreTotals, IfThere, IsAnswer}
+use Rattle.av_trace.specs.Word.{◌>>=◌}
+use Rattle.av_trace.proofs.Split.{lacks}
+use Rattle.av_trace.proofs.PlainWords.{number_of, hex_of, slot_of, labelled_of, plain_name, Names, number-named, hex-named, bytes-named, slot-named, labelled-named, beside, next, last, LineReader, by_name, IsLineOf, AreRead, no_word, word, line_is}
+
+-- ---- errors
+
+unfoldable pub errno_of : List ℕ → Option Errno
+errno_of w =
+    beside (
+    (codes "EPERM", errors.Eperm)
+    ∷ (codes "ESRCH", errors.Esrch)
+    ∷ (codes "EIO", errors.Eio)
+    ∷ (codes "EAGAIN", errors.Eagain)
+    ∷ (codes "ENOMEM", errors.Enomem)
+    ∷ (codes "EFAULT", errors.Efault)
+    ∷ (codes "EBUSY", errors.Ebusy)
+    ∷ (codes "EEXIST", errors.Eexist)
+    ∷ (codes "EINVAL", errors.Einval)
+    ∷ []
+    ) w
+
+pub errno-named : (error : Errno) → Names errno_of (errno_name error) error
+unfolding errno_of
+errno-named errors.Eperm = record { plain = plain_name _ refl refl; again = refl }
+errno-named errors.Esrch = record { plain = plain_name _ refl refl; again = refl }
+errno-named errors.Eio = record { plain = plain_name _ refl refl; again = refl }
+errno-named errors.Eagain = record { plain = plain_name _ refl refl; again = refl }
+errno-named errors.Enomem = record { plain = plain_name _ refl refl; again = refl }
+errno-named errors.Efault = record { plain = plain_name _ refl refl; again = refl }
+errno-named errors.Ebusy = record { plain = plain_name _ refl refl; again = refl }
+errno-named errors.Eexist = record { plain = plain_name _ refl refl; again = refl }
+errno-named errors.Einval = record { plain = plain_name _ refl refl; again = refl }
+
+-- ---- words that may be missing
+
+-- the bytes that are shown, if any
+abbrev shown_at : {B : Type 0} → (List ℕ → B) → LineReader B
+shown_at more [] = Some (more [])
+shown_at more (w ∷ words) = pairs_of w >>= λ bytes. last (more bytes) words
+
+abbrev causes_at : {B : Type 0} → (OutOf → LineReader B) → LineReader B
+causes_at more words =
+    next (labelled_of (codes "pinned=")) (
+    λ pinned. next (labelled_of (codes "noslot="))
+    (λ noslot. next (labelled_of (codes "fault=")) (λ fault. more (record { pinned = pinned; noslot = noslot; fault = fault })))
+    ) words
+
+abbrev totals_at : LineReader Answer
+totals_at words =
+    next (labelled_of (codes "frames=")) (
+    λ frames. next (labelled_of (codes "free=")) (
+    λ free. next (labelled_of (codes "active=")) (
+    λ active. next (labelled_of (codes "inactive=")) (
+    λ inactive. next (labelled_of (codes "flight=")) (
+    λ flight. next (labelled_of (codes "slots=")) (
+    λ slots. next (labelled_of (codes "freeslots=")) (
+    λ free_slots. next (labelled_of (codes "procs=")) (
+    λ processes. last (
+    answers.Counted (
+    record {
+      frames = frames;
+      free = free;
+      active = active;
+      inactive = inactive;
+      flight = flight;
+      slots = slots;
+      free_slots = free_slots;
+      processes = processes;
+    }
+    )
+    )
+    )
+    )
+    )
+    )
+    )
+    )
+    )
+    ) words
+
+-- what a cached frame or slot goes with, if anything
+abbrev cached_at : {A B : Type 0} → (List ℕ → Option A) → (Option A → B) → LineReader B
+cached_at read more [] = Some (more None)
+cached_at read more (w ∷ words) = by_name ((codes "cached", next read (λ x. last (more (Some x)))) ∷ []) (w ∷ words)
+
+-- a refusal, or want of frames with its causes
+abbrev refused_at : Errno → LineReader Answer
+refused_at error [] = Some (answers.Refused error)
+refused_at error (w ∷ words) = causes_at (λ out. last (answers.NoFrame out)) (w ∷ words)
+
+-- the words after a frame
+abbrev frame_at : ℕ → LineReader Answer
+frame_at frame words =
+    by_name (
+    (codes "maps", next number_of (λ maps. last (answers.Walk frame maps)))
+    ∷ (codes "seen", cached_at slot_of (answers.EntryFrame frame true))
+    ∷ (codes "old", cached_at slot_of (answers.EntryFrame frame false))
+    ∷ []
+    ) words
+
+-- the words after a slot
+abbrev slot_at : Slot → LineReader Answer
+slot_at slot [] = Some (answers.EntrySlot slot None)
+slot_at slot (w ∷ words) =
+    by_name (
+    (codes "cached", next number_of (λ frame. last (answers.EntrySlot slot (Some frame))))
+    ∷ (codes "bad", last (answers.SlotBad slot))
+    ∷ (codes "count", next number_of (λ count. cached_at number_of (answers.SlotCount slot count)))
+    ∷ []
+    ) (w ∷ words)
+
+-- ---- lines
+
+unfoldable pub answer_of : LineReader Answer
+answer_of words =
+    by_name (
+    (codes "ok", last answers.Done)
+    ∷ (codes "map", next hex_of (λ address. last (answers.MapAt address)))
+    ∷ (codes "data", next pairs_of (λ bytes. last (answers.«Data» bytes)))
+    ∷ (codes "err", next errno_of refused_at)
+    ∷ (codes "segv", next number_of (λ served. shown_at (answers.Segv served)))
+    ∷ (codes "bus", next number_of (λ served. shown_at (answers.Bus served)))
+    ∷ (codes "oom", next number_of (λ served. causes_at (λ out. shown_at (answers.Oom served out))))
+    ∷ (codes "on", next number_of (λ slots. next number_of (λ bad. last (answers.On slots bad))))
+    ∷ (codes "runs", next number_of (λ n. last (answers.Runs n)))
+    ∷ (codes "areas", next number_of (λ n. last (answers.AreaList n)))
+    ∷ (codes "frame", next number_of frame_at)
+    ∷ (codes "none", last answers.NoWalk)
+    ∷ (codes "empty", last answers.EntryEmpty)
+    ∷ (codes "zero", last answers.EntryZero)
+    ∷ (codes "slot", next slot_of slot_at)
+    ∷ (codes "stat", totals_at)
+    ∷ []
+    ) words
+
+abbrev pub IsAnswerLine : Answer → Type 0
+IsAnswerLine answer = IsLineOf answer_of (answer_line answer) answer
+
+-- the bytes that are shown
+shows : (more : List ℕ → Answer) (shown : List ℕ) → AreBytes shown → AreRead (shown_at more) (shown_words shown) (more shown)
+shows more [] h = record { plain = tt; again = refl }
+shows more (b ∷ bytes) h =
+    let w = bytes-named (b ∷ bytes) h in
+    record { plain = (w.plain, tt); again = ap (λ o. o >>= λ found. Some (more found)) w.again }
+
+counted-line : (t : Totals) → AreTotals t → IsAnswerLine (answers.Counted t)
+unfolding answer_of
+counted-line t h =
+    let frames = labelled-named (codes "frames=") refl refl h.frames in
+    let free = labelled-named (codes "free=") refl refl h.free in
+    let active = labelled-named (codes "active=") refl refl h.active in
+    let inactive = labelled-named (codes "inactive=") refl refl h.inactive in
+    let flight = labelled-named (codes "flight=") refl refl h.flight in
+    let slots = labelled-named (codes "slots=") refl refl h.slots in
+    let free_slots = labelled-named (codes "freeslots=") refl refl h.free_slots in
+    let processes = labelled-named (codes "procs=") refl refl h.processes in
+    line_is (codes "stat") refl refl
+    (word _ frames (word _ free (word _ active (word _ inactive (word _ flight (word _ slots (word _ free_slots (word _ processes no_word))))))))
+
+-- a name that is known by computing, before other words
+name_word : (name : List ℕ) {words : List (List ℕ)} {x : Answer} {read : LineReader Answer} → lacks 32 name ≡ true → lacks 10 name ≡ true →
+    AreRead (λ ws. read (name ∷ ws)) words x → AreRead read (name ∷ words) x
+name_word name space newline r = record { plain = (plain_name name space newline, r.plain); again = r.again }
+
+-- what may be cached
+caches : {A : Type 0} {read : List ℕ → Option A} {Fits : A → Type 0} {text : A → List ℕ} (more : Option A → Answer) →
+    ((x : A) → Fits x → Names read (text x) x) → (cached : Option A) → IfThere Fits cached →
+    AreRead (cached_at read more) (cached_words text cached) (more cached)
+caches more reads None h = record { plain = tt; again = refl }
+caches more reads (Some x) h =
+    let w = reads x h in
+    record { plain = (plain_name (codes "cached") refl refl, (w.plain, tt)); again = ap (λ o. o >>= λ found. Some (more (Some found))) w.again }
+
+causes-named : (out : OutOf) {B : Type 0} (more : OutOf → LineReader B) {words : List (List ℕ)} {y : B} → AreCauses out → AreRead (more out) words y →
+    AreRead (causes_at more) (out_words out ++ words) y
+causes-named out more h others =
+    word _ (labelled-named (codes "pinned=") refl refl h.0)
+    (word _ (labelled-named (codes "noslot=") refl refl h.1) (word _ (labelled-named (codes "fault=") refl refl h.2) others))
+
+-- a refusal
+alone : (error : Errno) → AreRead (refused_at error) [] (answers.Refused error)
+alone error = record { plain = tt; again = refl }
+
+-- want of frames
+no_frame : (out : OutOf) → AreCauses out → AreRead (refused_at errors.Enomem) (out_words out) (answers.NoFrame out)
+no_frame out h =
+    let r = causes-named out (λ out. last (answers.NoFrame out)) h no_word in
+    record { plain = r.plain; again = r.again }
+
+-- an entry of a slot
+entry_slot : (slot : Slot) (frame : Option ℕ) → IfThere IsWide frame → AreRead (slot_at slot) (cached_words decimal frame) (answers.EntrySlot slot frame)
+entry_slot slot None h = record { plain = tt; again = refl }
+entry_slot slot (Some frame) h = name_word (codes "cached") refl refl (word _ (number-named h) no_word)
+
+pub answer_line-is : (answer : Answer) → IsAnswer answer → IsAnswerLine answer
+unfolding answer_of
+answer_line-is answers.Done h = line_is (codes "ok") refl refl no_word
+answer_line-is (answers.MapAt address) h = line_is (codes "map") refl refl (word _ (hex-named h) no_word)
+answer_line-is (answers.«Data» bytes) h = line_is (codes "data") refl refl (word _ (bytes-named bytes h) no_word)
+answer_line-is (answers.Refused error) h = line_is (codes "err") refl refl (word _ (errno-named error) (alone error))
+answer_line-is (answers.Segv served shown) h = line_is (codes "segv") refl refl (word _ (number-named h.0) (shows (answers.Segv served) shown h.1))
+answer_line-is (answers.Bus served shown) h = line_is (codes "bus") refl refl (word _ (number-named h.0) (shows (answers.Bus served) shown h.1))
+answer_line-is (answers.Oom served out shown) h =
+    line_is (codes "oom") refl refl
+    (word _ (number-named h.0) (causes-named out (λ x. shown_at (answers.Oom served x)) h.1 (shows (answers.Oom served out) shown h.2)))
+answer_line-is (answers.On slots bad) h = line_is (codes "on") refl refl (word _ (number-named h.0) (word _ (number-named h.1) no_word))
+answer_line-is (answers.NoFrame out) h = line_is (codes "err") refl refl (word _ (errno-named errors.Enomem) (no_frame out h))
+answer_line-is (answers.Runs n) h = line_is (codes "runs") refl refl (word _ (number-named h) no_word)
+answer_line-is (answers.AreaList n) h = line_is (codes "areas") refl refl (word _ (number-named h) no_word)
+answer_line-is (answers.Walk frame maps) h = line_is (codes "frame") refl refl
+    (word _ (number-named h.0) (name_word (codes "maps") refl refl (word _ (number-named h.1) no_word)))
+answer_line-is answers.NoWalk h = line_is (codes "none") refl refl no_word
+answer_line-is answers.EntryEmpty h = line_is (codes "empty") refl refl no_word
+answer_line-is answers.EntryZero h = line_is (codes "zero") refl refl no_word
+answer_line-is (answers.EntryFrame frame true slot) h =
+    line_is (codes "frame") refl refl
+    (word _ (number-named h.0) (name_word (codes "seen") refl refl (caches (answers.EntryFrame frame true) slot-named slot h.1)))
+answer_line-is (answers.EntryFrame frame false slot) h =
+    line_is (codes "frame") refl refl
+    (word _ (number-named h.0) (name_word (codes "old") refl refl (caches (answers.EntryFrame frame false) slot-named slot h.1)))
+answer_line-is (answers.EntrySlot slot frame) h = line_is (codes "slot") refl refl (word _ (slot-named slot h.0) (entry_slot slot frame h.1))
+answer_line-is (answers.SlotBad slot) h = line_is (codes "slot") refl refl (word _ (slot-named slot h) (name_word (codes "bad") refl refl no_word))
+answer_line-is (answers.SlotCount slot count frame) h =
+    line_is (codes "slot") refl refl
+    (word _ (slot-named slot h.0)
+    (name_word (codes "count") refl refl (word _ (number-named h.1) (caches (answers.SlotCount slot count) (λ n. number-named {n = n}) frame h.2))))
+answer_line-is (answers.Counted t) h = counted-line t h

@@ -1,0 +1,115 @@
+-- The lines that are commands. Each command has one line.
+use Rattle.std.specs.Prelude.{ℕ, List, [], ◌∷◌, codes, Option, Some, None}
+use Rattle.std.specs.Fmt.{decimal}
+use Rattle.av_base.specs.Page.{page_size}
+use Rattle.av_base.specs.declared.prot.Prot.{Prot}
+use Rattle.av_trace.specs.declared.place.Place.{Place}
+use Rattle.av_trace.specs.declared.command.Command.{Command}
+use Rattle.av_trace.specs.declared.command.Command.TheVariants as commands
+use Rattle.av_trace.specs.Word.{line, ◌>>=◌, Reader, both, named}
+use Rattle.av_trace.specs.Number.{IsNumberIn, IsProcess, IsWide, decimal_at, process_at, len_at, entry_at}
+use Rattle.av_trace.specs.Hex.{hex, hex_text, IsData, data_at}
+use Rattle.av_trace.specs.Prot.{prot_text, prot_at}
+use Rattle.av_trace.specs.Place.{IsPlace, place_words, place_at}
+
+-- the values are in range
+abbrev pub IsCommand : Command → Type 0
+IsCommand (commands.Spawn p) = IsProcess p
+IsCommand (commands.Exit p) = IsProcess p
+IsCommand (commands.Mmap p len prot place) = IsProcess p × IsWide len × IsPlace place
+IsCommand (commands.Munmap p address len) = IsProcess p × IsWide address × IsWide len
+IsCommand (commands.Mprotect p address len prot) = IsProcess p × IsWide address × IsWide len
+IsCommand (commands.Read p address len) =
+    IsProcess p × IsWide address × IsNumberIn 1 page_size len
+IsCommand (commands.Write p address bytes) = IsProcess p × IsWide address × IsData bytes
+IsCommand (commands.Maps p) = IsProcess p
+IsCommand commands.Stat = Unit {0}
+
+-- the one line of a command
+abbrev pub line_of : Command → List ℕ
+line_of (commands.Spawn p) = line (codes "spawn") (decimal p ∷ [])
+line_of (commands.Exit p) = line (codes "exit") (decimal p ∷ [])
+line_of (commands.Mmap p len prot place) =
+    line (codes "mmap") (decimal p ∷ decimal len ∷ prot_text prot ∷ place_words place)
+line_of (commands.Munmap p address len) =
+    line (codes "munmap") (decimal p ∷ hex address ∷ decimal len ∷ [])
+line_of (commands.Mprotect p address len prot) =
+    line (codes "mprotect") (decimal p ∷ hex address ∷ decimal len ∷ prot_text prot ∷ [])
+line_of (commands.Read p address len) =
+    line (codes "read") (decimal p ∷ hex address ∷ decimal len ∷ [])
+line_of (commands.Write p address bytes) =
+    line (codes "write") (decimal p ∷ hex address ∷ hex_text bytes ∷ [])
+line_of (commands.Maps p) = line (codes "maps") (decimal p ∷ [])
+line_of commands.Stat = codes "stat"
+
+-- ---- reading: each command has the words that a reader finds, and then the line ends
+
+-- the command, if nothing is left
+unfoldable pub at_end : Command → List ℕ → Option Command
+at_end c [] = Some c
+at_end c (b ∷ bytes) = None
+
+-- the command of what a reader finds in all the bytes
+unfoldable pub whole : {A : Type 0} → Reader A → (A → Command) → List ℕ → Option Command
+whole read command bytes = read bytes >>= λ x. at_end (command x.0) x.1
+
+-- no words
+abbrev pub no_words : Reader (Unit {0})
+no_words bytes = Some (tt, bytes)
+
+-- the words of `munmap`, and the first of `mprotect`: a process, an address and a length
+abbrev pub range_words : Reader ((ℕ × ℕ) × ℕ)
+range_words bytes = both entry_at len_at bytes
+
+-- the words of `mmap`
+abbrev pub mmap_words : Reader (((ℕ × ℕ) × Prot) × Place)
+mmap_words bytes = both (both (both process_at len_at) prot_at) place_at bytes
+
+-- the words of `mprotect`
+abbrev pub mprotect_words : Reader (((ℕ × ℕ) × ℕ) × Prot)
+mprotect_words bytes = both range_words prot_at bytes
+
+-- the words of `read`
+abbrev pub read_words : Reader ((ℕ × ℕ) × ℕ)
+read_words bytes = both entry_at (decimal_at 1 page_size) bytes
+
+-- the words of `write`
+abbrev pub write_words : Reader ((ℕ × ℕ) × List ℕ)
+write_words bytes = both entry_at data_at bytes
+
+-- what reads a command's words after its name
+abbrev pub CommandReader : Type 0
+CommandReader = List ℕ → Option Command
+
+abbrev pub mmap_at : CommandReader
+mmap_at = whole mmap_words (λ x. commands.Mmap x.0.0.0 x.0.0.1 x.0.1 x.1)
+
+abbrev pub munmap_at : CommandReader
+munmap_at = whole range_words (λ x. commands.Munmap x.0.0 x.0.1 x.1)
+
+abbrev pub mprotect_at : CommandReader
+mprotect_at = whole mprotect_words (λ x. commands.Mprotect x.0.0.0 x.0.0.1 x.0.1 x.1)
+
+abbrev pub read_at : CommandReader
+read_at = whole read_words (λ x. commands.Read x.0.0 x.0.1 x.1)
+
+abbrev pub write_at : CommandReader
+write_at = whole write_words (λ x. commands.Write x.0.0 x.0.1 x.1)
+
+-- the commands, by name
+abbrev pub readers : List (List ℕ × CommandReader)
+readers =
+    (codes "write", write_at)
+    ∷ (codes "read", read_at)
+    ∷ (codes "spawn", whole process_at commands.Spawn)
+    ∷ (codes "exit", whole process_at commands.Exit)
+    ∷ (codes "mmap", mmap_at)
+    ∷ (codes "munmap", munmap_at)
+    ∷ (codes "mprotect", mprotect_at)
+    ∷ (codes "maps", whole process_at commands.Maps)
+    ∷ (codes "stat", whole no_words (λ x. commands.Stat))
+    ∷ []
+
+-- the command of a whole line
+unfoldable pub command_of : List ℕ → Option Command
+command_of line = named readers line >>= λ found. found.0 found.1

@@ -1,0 +1,54 @@
+//! What a line says.
+
+ghost use Rattle.std.specs.Prelude.{◌≡◌, List, ℕ, Option, codes, IfOk, IsErrOf};
+ghost use Rattle.av_trace.specs.declared.command.Command.{Command as AnyCommand};
+ghost use Rattle.av_trace.specs.Line.{is_blank, Says};
+ghost use Rattle.av_trace.specs.Word.{BeginsWith};
+
+use crate::command::{Command, whole_command};
+use std::alloc::Global;
+
+/// Why a line was not read.
+#[derive(Clone, Copy, Drop, Debug, PartialEq, Eq)]
+pub enum LineFault {
+    /// It is no command, no comment, and not empty.
+    Bad,
+    /// There was no memory for the bytes of a write.
+    Memory,
+}
+
+/// Whether a line is empty or a comment.
+fn says_nothing(line: &[u8]) -> bool
+    ensures { result ≡ is_blank line.now }
+{
+    match line {
+        [] => true,
+        [first, ..] => *first == b'#',
+    }
+}
+
+/// What a line says, its newline left out: a command, or nothing where it is empty or begins
+/// with `#`.
+pub fn parse_line(alloc: Global, line: &[u8]) -> Result<Option<Command>, LineFault>
+    // What is read is what the line says.
+    ensures found { IfOk result (λ said. Says line.now said) }
+    // A line is bad only if it says neither a command nor nothing.
+    ensures bad { IsErrOf result LineFault.Bad →
+        (said : Option AnyCommand) → Says line.now said → ⊥ }
+    // Only what begins as a write takes memory.
+    ensures memory { IsErrOf result LineFault.Memory → BeginsWith (codes "write") line.now }
+{
+    if says_nothing(line) {
+        return Ok(None);
+    }
+    match whole_command(alloc, line) {
+        Ok(Some(command)) => Ok(Some(command)),
+        Ok(None) => Err(LineFault::Bad),
+        Err(_) => Err(LineFault::Memory),
+    }
+}
+
+/// A line says one thing at most.
+pub fn one_meaning()
+    ensures { (line : List ℕ) (a b : Option AnyCommand) → Says line a → Says line b → a ≡ b }
+{}
