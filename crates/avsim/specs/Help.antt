@@ -1,6 +1,6 @@
 -- What the program tells about itself.
 use Rattle.std.specs.Prelude.{◌≡◌, ℕ, List, [], ◌∷◌, ◌⊎◌, codes}
-use Rattle.avsim.specs.declared.TheConstants.{HELP, VERSION}
+use Rattle.avsim.specs.declared.help.TheConstants.{HELP, VERSION}
 
 -- the words ask for this text, and for nothing else
 abbrev pub AskFor : List (List ℕ) → List ℕ → Type 0
