@@ -103,6 +103,16 @@ take_slot t = first_some (in_current t t.current) (first_some (in_next t t.free)
 abbrev pub Gave : Option (ℕ × Choice) → Choice → Option ℕ → Choice → Type 0
 Gave wanted old result new = MatchOption result ((wanted ≡ None) × (new ≡ old)) (λ p. wanted ≡ Some (p, new))
 
+-- a slot that was free is taken now: one fewer is free, and no other page changes
+abbrev pub Takes : List Page → ℕ → List Page → Type 0
+Takes old p new =
+    (page_at old p ≡ Free) × (page_at new p ≡ Taken)
+    × (new ≡ slice_set old p Taken) × (count_by is_free new + 1 ≡ count_by is_free old)
+
+-- a slot is free now: one more is free, and no other page changes
+abbrev pub Returns : List Page → ℕ → List Page → Type 0
+Returns old p new = (new ≡ slice_set old p Free) × (count_by is_free new ≡ count_by is_free old + 1)
+
 -- the current cluster, unless it is this one
 abbrev pub unless : ℕ → Option ℕ → Option ℕ
 unless c None = None

@@ -7,7 +7,7 @@ mod tests;
 ghost use Rattle.std.specs.Prelude.{◌≡◌, ℕ, ◌+◌, ◌*◌, ◌/◌, ◌^◌, ◌<◌, ◌≤◌, [], length, map, IfOk, IfNone, IfSome, MatchOption, position, count_by, slice_set, replicate, ◌==◌, if◌then◌else◌, true, false, not};
 ghost use Rattle.std.specs.List.{range_with_len, list_any};
 ghost use Rattle.std.specs.VecDeque.{deque_len, deque_capacity};
-ghost use Rattle.av_clusters.specs.Choice.{AreFull, unless, fresh, take_slot, give_slot, Gave, in_current, in_next, anywhere, is_free, is_taken, page_at, pages_between, lowest, has_free, has_taken, start_of, end_of, pages_of, clusters_of};
+ghost use Rattle.av_clusters.specs.Choice.{AreFull, unless, fresh, take_slot, give_slot, Gave, Takes, Returns, in_current, in_next, anywhere, is_free, is_taken, page_at, pages_between, lowest, has_free, has_taken, start_of, end_of, pages_of, clusters_of};
 ghost use Rattle.av_clusters.specs.declared.Page.TheVariants.{Unusable, Free, Taken};
 
 use std::alloc::{AllocError, Global};
@@ -99,7 +99,7 @@ impl Clusters {
     /// Takes the next slot, and answers its page: from the current cluster, else from the first free one, else the lowest of the area. None exactly where no slot is free.
     pub fn take(&mut self) -> Option<u32>
         ensures gave { Gave (take_slot self.old) self.old result self.new }
-        ensures slot { MatchOption result (count_by is_free self.old.pages ≡ 0) (λ p. (page_at self.old.pages p ≡ Free) × (page_at self.new.pages p ≡ Taken)) }
+        ensures slot { MatchOption result (count_by is_free self.old.pages ≡ 0) (λ p. Takes self.old.pages p self.new.pages) }
     {
         if let Some(page) = self.take_in_current() {
             return Some(page);
@@ -113,7 +113,8 @@ impl Clusters {
     /// Gives a slot back, which has to be taken. A cluster whose last taken slot it was goes to the end of the free ones.
     pub fn give(&mut self, page: u32)
         requires { is_taken (page_at self.old.pages page) ≡ true }
-        ensures { self.new ≡ give_slot self.old page }
+        ensures gave { self.new ≡ give_slot self.old page }
+        ensures slot { Returns self.old.pages page self.new.pages }
     {
         let cluster = page / 256;
         self.pages[page as usize] = Page::Free;
@@ -146,7 +147,7 @@ impl Clusters {
     // Takes the lowest slot of the current cluster from the cursor on.
     fn take_in_current(&mut self) -> Option<u32>
         ensures gave { Gave (in_current self.old self.old.current) self.old result self.new }
-        ensures slot { IfSome result (λ p. (page_at self.old.pages p ≡ Free) × (page_at self.new.pages p ≡ Taken)) }
+        ensures slot { IfSome result (λ p. Takes self.old.pages p self.new.pages) }
     {
         let cluster = self.current?;
         let page = lowest(&self.pages, self.cursor as usize, end_of(cluster))?;
@@ -159,7 +160,7 @@ impl Clusters {
     // Opens the first free cluster, and takes its lowest slot.
     fn take_in_next(&mut self) -> Option<u32>
         ensures gave { Gave (in_next self.old self.old.free) self.old result self.new }
-        ensures slot { IfSome result (λ p. (page_at self.old.pages p ≡ Free) × (page_at self.new.pages p ≡ Taken)) }
+        ensures slot { IfSome result (λ p. Takes self.old.pages p self.new.pages) }
         ensures none { IfNone result (self.old.free ≡ []) }
     {
         let cluster = *self.free.front()?;
@@ -177,7 +178,7 @@ impl Clusters {
     fn take_anywhere(&mut self) -> Option<u32>
         requires { self.old.free ≡ [] }
         ensures gave { Gave (anywhere self.old) self.old result self.new }
-        ensures slot { MatchOption result (count_by is_free self.old.pages ≡ 0) (λ p. (page_at self.old.pages p ≡ Free) × (page_at self.new.pages p ≡ Taken)) }
+        ensures slot { MatchOption result (count_by is_free self.old.pages ≡ 0) (λ p. Takes self.old.pages p self.new.pages) }
     {
         let page = lowest_of_area(&self.pages, &mut self.full)?;
         self.pages[page as usize] = Page::Taken;

@@ -1,8 +1,8 @@
 use Rattle.std.proofs.Common.{◌≡◌, List, [], length, count_by, refl, sym, ap, subst, ◌∙◌}
 use Rattle.av_clusters.specs.declared.Page.{Page}
 use Rattle.av_clusters.specs.Choice.{Choice, AreFull, is_free}
-use Rattle.av_clusters.proofs.Pages.{found, answered, none_left, was_free, written_over}
-use Rattle.av_clusters.proofs.Whole.{some_left, whole_anywhere}
+use Rattle.av_clusters.proofs.Pages.{found, answered, none_left, written_over}
+use Rattle.av_clusters.proofs.Whole.{some_left, takes, whole_anywhere}
 use Rattle.av_clusters.proofs.Clusters.take_anywhere.Goals as goal
 
 pub overflow_sub-self : goal.overflow_sub-self
@@ -22,5 +22,5 @@ returns-in_err-page-clause-slot c = rw c.from_residual.ensures (subst (λ (v : C
     (none_left c.self.inside.pages.items (answered _ _ _ _ _ _ _ _ c.deref.ensures.value refl (ap length c.deref.ensures.value) c.lowest_of_area.ensures.lowest c.in_err-page.was)))
 
 pub returns-clause-slot : goal.returns-clause-slot
-returns-clause-slot c = rw (← c.self.view_is) (was_free c.self.inside.pages.items c.in_ok-page.page
+returns-clause-slot c = rw (← c.self.view_is) (takes c.self.inside.pages.items c.in_ok-page.page
     (found c.self.inside.pages.items _ _ _ (answered _ _ _ _ _ _ _ _ c.deref.ensures.value refl (ap length c.deref.ensures.value) c.in_ok-page.ensures.lowest refl)).2)
