@@ -1,16 +1,18 @@
 use crate::level::Level;
 use crate::pte::Pte;
 use std::alloc::{AllocError, Global};
+use std::collections::VecDeque;
 use std::marker::Model;
 
-/// A table of 512 parts: of a page table's tables below, or of its entries. It keeps the parts that have an entry,
-/// by rising number, and gives back the others.
+/// A table of 512 parts: of a page table's tables below, or of its entries. It keeps the parts that
+/// have an entry, by rising number, and gives back the others.
 ///
 /// It is seen as the list of these parts with their numbers.
 #[derive(Drop)]
 pub struct Dir<C: Level> {
     alloc: Global,
-    parts: Vec<(u16, C)>,
+    // Parts go from the front where a process ends, and come at the end where it starts.
+    parts: VecDeque<(u16, C)>,
 }
 
 impl<C: Level> Model for Dir<C> {
@@ -42,7 +44,7 @@ impl<C: Level> Level for Dir<C> {
     fn new(alloc: Global) -> Result<Self, AllocError> {
         Ok(Dir {
             alloc,
-            parts: Vec::new(alloc),
+            parts: VecDeque::new(alloc),
         })
     }
 
@@ -146,14 +148,17 @@ impl<C: Level> Dir<C> {
         parts.binary_search_by_key(&(number as u16), |part| part.0)
     }
 
-    // The least page that has an entry among those of the part at a place, from this one of the part on.
+    // The least page with an entry in the part at a place, from this one of the part on.
     fn next_in(&self, place: usize, from: u64) -> Option<u64>
         requires fits { C.span * 512 ≤ page_bound }
         ensures { MatchOption result
             ((q : ℕ) → from ≤ q → entries_at C.at self.now place q ≡ Pte.Empty)
             (λ page. IsFirstIn C.at C.span self.now place from page) }
     {
-        let part = self.parts.get(place)?;
+        if place >= self.parts.len() {
+            return None;
+        }
+        let part = &self.parts[place];
         let found = part.1.next_from(from)?;
         Some(u64::from(part.0) * C::span() + found)
     }
@@ -166,8 +171,8 @@ impl<C: Level> Dir<C> {
     {
         let _span = C::span();
         let mut total = 0;
-        for part in &self.parts {
-            total += part.1.held();
+        for place in 0..self.parts.len() {
+            total += self.parts[place].1.held();
         }
         total
     }
