@@ -37,21 +37,23 @@ impl<C: Level> Level for Dir<C> {
 
     ghost own = { (C.span * 512) ∷ C.own };
 
+    #[inline]
     fn span() -> u64 {
         C::span() * 512
     }
 
     fn new(alloc: Global) -> Result<Self, AllocError> {
-        Ok(Dir {
-            alloc,
-            parts: VecDeque::new(alloc),
-        })
+        // Where pages stand far apart, each part has one below it.
+        let parts = VecDeque::with_capacity(alloc, 1)?;
+        Ok(Dir { alloc, parts })
     }
 
+    #[inline]
     fn is_empty(&self) -> bool {
         self.parts.is_empty()
     }
 
+    #[inline]
     fn get(&self, page: u64) -> Pte {
         let span = C::span();
         match self.place(page / span) {
@@ -60,6 +62,7 @@ impl<C: Level> Level for Dir<C> {
         }
     }
 
+    #[inline]
     fn set(&mut self, page: u64, entry: Pte) -> Result<(), AllocError> {
         let span = C::span();
         match self.place(page / span) {
@@ -76,6 +79,7 @@ impl<C: Level> Level for Dir<C> {
         }
     }
 
+    #[inline]
     fn change(&mut self, page: u64, entry: Pte) {
         let span = C::span();
         match self.place(page / span) {
@@ -87,6 +91,7 @@ impl<C: Level> Level for Dir<C> {
         }
     }
 
+    #[inline]
     fn take(&mut self, page: u64) -> Pte {
         let span = C::span();
         match self.place(page / span) {
@@ -102,6 +107,7 @@ impl<C: Level> Level for Dir<C> {
         }
     }
 
+    #[inline]
     fn next_from(&self, page: u64) -> Option<u64> {
         if self.parts.is_empty() {
             return None;
@@ -129,6 +135,7 @@ impl<C: Level> Dir<C> {
     ghost use Rattle.av_pagetable.specs.declared.pte.Pte.{Pte};
 
     // The place of the part of this number, or where it would stand.
+    #[inline]
     fn place(&self, number: u64) -> Result<usize, usize>
         ensures { IsPlace number self.now result }
     {
@@ -149,6 +156,7 @@ impl<C: Level> Dir<C> {
     }
 
     // The least page with an entry in the part at a place, from this one of the part on.
+    #[inline]
     fn next_in(&self, place: usize, from: u64) -> Option<u64>
         requires fits { C.span * 512 ≤ page_bound }
         ensures { MatchOption result
