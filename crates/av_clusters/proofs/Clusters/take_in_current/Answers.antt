@@ -1,5 +1,5 @@
 use Rattle.std.proofs.Common.{refl}
-use Rattle.av_clusters.specs.Choice.{end_of}
+use Rattle.av_clusters.specs.Clusters.{end_of}
 use Rattle.av_clusters.proofs.Pages.{found, answered}
 use Rattle.av_clusters.proofs.Whole.{some_left, takes, whole_in_current}
 use Rattle.av_clusters.proofs.Clusters.take_in_current.Goals as goal

@@ -9,7 +9,7 @@ use Rattle.av_clusters.specs.declared.Page.TheVariants.{Unusable, Free, Taken}
 
 -- the value of `Clusters`: what each page is; the free clusters, in the order in which they are
 -- opened; the cluster that is being filled, and the page from which on
-pub record Choice : Type 0 where
+pub record Slots : Type 0 where
   pub pages : List Page
   pub free : List ℕ
   pub current : Option ℕ
@@ -76,7 +76,7 @@ abbrev pub clusters_of : List Page → List ℕ
 clusters_of pages = filter (has_free pages) (range_with_len 0 (cluster_count (length pages)))
 
 -- an area of n pages from which no slot is given yet
-abbrev pub fresh : ℕ → List ℕ → Choice
+abbrev pub fresh : ℕ → List ℕ → Slots
 fresh n bad = record {
   pages = pages_of n bad;
   free = clusters_of (pages_of n bad);
@@ -85,26 +85,27 @@ fresh n bad = record {
 }
 
 -- a page is taken
-abbrev pub taking : Choice → ℕ → Choice
+abbrev pub taking : Slots → ℕ → Slots
 taking t p = record t { pages = slice_set t.pages p Taken }
 
 -- it is taken in this cluster, which is filled further behind it
-abbrev pub filling : Choice → ℕ → ℕ → Choice
+abbrev pub filling : Slots → ℕ → ℕ → Slots
 filling t c p = record t { pages = slice_set t.pages p Taken; current = Some c; cursor = p + 1 }
 
 -- first, the lowest free slot of the current cluster from the cursor on
-abbrev pub in_current : Choice → Option ℕ → Option (ℕ × Choice)
+abbrev pub in_current : Slots → Option ℕ → Option (ℕ × Slots)
 in_current t None = None
 in_current t (Some c) = option_map (λ p. (p, filling t c p)) (lowest t.pages t.cursor (end_of c))
 
 -- else, the lowest of the first free cluster, which becomes the current one
-abbrev pub in_next : Choice → List ℕ → Option (ℕ × Choice)
+abbrev pub in_next : Slots → List ℕ → Option (ℕ × Slots)
 in_next t [] = None
 in_next t (c ∷ rest) =
-    option_map (λ p. (p, filling (record t { free = rest }) c p)) (lowest t.pages (start_of c) (end_of c))
+    option_map (λ p. (p, filling (record t { free = rest }) c p))
+    (lowest t.pages (start_of c) (end_of c))
 
 -- else, the lowest of the area
-abbrev pub anywhere : Choice → Option (ℕ × Choice)
+abbrev pub anywhere : Slots → Option (ℕ × Slots)
 anywhere t = option_map (λ p. (p, taking t p)) (lowest t.pages 0 (length t.pages))
 
 -- the first of two answers
@@ -113,11 +114,11 @@ first_some None other = other
 first_some (Some x) other = Some x
 
 -- the page that is given next, and what is left then
-abbrev pub take_slot : Choice → Option (ℕ × Choice)
+abbrev pub take_slot : Slots → Option (ℕ × Slots)
 take_slot t = first_some (in_current t t.current) (first_some (in_next t t.free) (anywhere t))
 
 -- a call gave what it should, and left all as it was where that is nothing
-abbrev pub Gave : Option (ℕ × Choice) → Choice → Option ℕ → Choice → Type 0
+abbrev pub Gave : Option (ℕ × Slots) → Slots → Option ℕ → Slots → Type 0
 Gave wanted old result new =
     MatchOption result ((wanted ≡ None) × (new ≡ old)) (λ p. wanted ≡ Some (p, new))
 
@@ -138,11 +139,11 @@ unless c None = None
 unless c (Some d) = if c == d then None else Some d
 
 -- a cluster from which all slots came back goes to the end of the list
-abbrev pub emptied : Choice → ℕ → Choice
+abbrev pub emptied : Slots → ℕ → Slots
 emptied t c = record t { free = t.free ++ c ∷ []; current = unless c t.current }
 
 -- a slot is given back
-abbrev pub give_slot : Choice → ℕ → Choice
+abbrev pub give_slot : Slots → ℕ → Slots
 give_slot t p =
     let t' = record t { pages = slice_set t.pages p Free } in
     if has_taken t'.pages (p / cluster_size) then t' else emptied t' (p / cluster_size)
@@ -160,10 +161,11 @@ Fills flags count mark (Some c) =
 -- no page of a cluster that is marked as full is free
 abbrev pub AreFull : List Page → List Bool → Type 0
 AreFull pages marks =
-    (p : ℕ) → slice_index_or marks (p / cluster_size) false ≡ true → is_free (page_at pages p) ≡ false
+    (p : ℕ) → slice_index_or marks (p / cluster_size) false ≡ true
+    → is_free (page_at pages p) ≡ false
 
--- the parts of `Clusters` fit together: a flag for each cluster that isn't free, room for all in the
--- list, and the number of free slots
+-- the parts of `Clusters` fit together: a flag for each cluster that isn't free, room for all in
+-- the list, and the number of free slots
 pub record IsWhole (pages : List Page) (spare : ℕ) (frees : List ℕ) (frees_len frees_room : ℕ)
     (flags marks : List Bool) (filled : Option ℕ) (mark : ℕ) : Type 0 where
   pub few : length pages < 2 ^ 32
@@ -176,10 +178,10 @@ pub record IsWhole (pages : List Page) (spare : ℕ) (frees : List ℕ) (frees_l
   pub once : (c : ℕ) → count_by (λ d. c == d) frees ≡ (if slice_index_or flags c true then 0 else 1)
   -- one with a taken slot is flagged
   pub held : (p : ℕ) → is_taken (page_at pages p) ≡ true
-    → slice_index_or flags (p / cluster_size) true ≡ true
+      → slice_index_or flags (p / cluster_size) true ≡ true
   -- one without the flag has a free slot
   pub fit : (c : ℕ) → slice_index_or flags c true ≡ false
-    → (p : ℕ) × (p / cluster_size ≡ c) × (is_free (page_at pages p) ≡ true)
+      → (p : ℕ) × (p / cluster_size ≡ c) × (is_free (page_at pages p) ≡ true)
   pub marked : length marks ≡ cluster_count (length pages)
   pub full : AreFull pages marks
   pub fills : Fills flags (length pages) mark filled
