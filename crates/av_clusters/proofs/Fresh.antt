@@ -9,7 +9,7 @@ use Rattle.std.proofs.lemmas.List.FromFn.{fill_by_all, get_or-map-range_with_len
 use Rattle.std.proofs.lemmas.List.Sums.{sum_by-cons}
 use Rattle.av_clusters.specs.declared.Page.{Page}
 use Rattle.av_clusters.specs.declared.Page.TheVariants.{Unusable, Free}
-use Rattle.av_clusters.specs.Choice.{IsWhole, itself, is_free, is_taken, page_at, lowest, has_free, start_of, end_of, at_first, pages_of, clusters_of}
+use Rattle.av_clusters.specs.Clusters.{IsWhole, itself, is_free, is_taken, page_at, lowest, has_free, start_of, end_of, at_first, pages_of, clusters_of}
 use Rattle.av_clusters.proofs.Pages.{found}
 use Rattle.av_clusters.proofs.Whole.{flag_below}
 

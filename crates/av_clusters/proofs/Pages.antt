@@ -10,7 +10,7 @@ use Rattle.std.proofs.lemmas.List.Sums.{fails_before_first, sum_by-cons}
 use Rattle.std.specs.List.{position_or_len}
 use Rattle.av_clusters.specs.declared.Page.{Page}
 use Rattle.av_clusters.specs.declared.Page.TheVariants.{Unusable, Free, Taken}
-use Rattle.av_clusters.specs.Choice.{is_free, is_taken, page_at, pages_between, lowest, has_taken, start_of, end_of, AreFull}
+use Rattle.av_clusters.specs.Clusters.{is_free, is_taken, page_at, pages_between, lowest, has_taken, start_of, end_of, AreFull}
 
 -- the end may lie past the area's
 pub cut_short : (pages : List Page) (from to : ℕ) → from ≤ to → from ≤ length pages → take (min to (length pages) - from) (drop from pages) ≡ pages_between from to pages

@@ -6,8 +6,8 @@ use Rattle.std.proofs.lemmas.List.{get_or_past}
 use Rattle.std.proofs.lemmas.List.Sums.{sum_by-set, sum_by-cons, sum_by_push, count_by-le-length}
 use Rattle.av_clusters.specs.declared.Page.{Page}
 use Rattle.av_clusters.specs.declared.Page.TheVariants.{Unusable, Free, Taken}
-use Rattle.av_clusters.specs.Choice.{IsWhole, Fills, itself, is_free, is_taken, page_at, lowest, has_taken, start_of, end_of, unless, AreFull}
-use Rattle.av_clusters.proofs.Pages.{found, none_free, none_taken, free_below, taken_below, taken_not_free}
+use Rattle.av_clusters.specs.Clusters.{IsWhole, Fills, itself, is_free, is_taken, page_at, lowest, has_taken, start_of, end_of, unless, AreFull, Takes, Returns}
+use Rattle.av_clusters.proofs.Pages.{found, none_free, none_taken, free_below, taken_below, taken_not_free, was_free}
 
 -- ---- the number of free pages
 
@@ -22,6 +22,12 @@ one_fewer pages p free = sum_fewer _ _ _ (ap (λ b. cond b 1 0) free) (sum_by-se
 
 pub one_more : (pages : List Page) (p : ℕ) → is_taken (page_at pages p) ≡ true → count_by is_free (set pages p Free) ≡ count_by is_free pages + 1
 one_more pages p taken = sum_more _ _ _ (ap (λ b. cond b 1 0) (taken_not_free (page_at pages p) taken)) (sum_by-set (λ x. cond (is_free x) 1 0) pages p Free Unusable (taken_below pages p taken))
+
+pub takes : (pages : List Page) (p : ℕ) → is_free (page_at pages p) ≡ true → Takes pages p (set pages p Taken)
+takes pages p free = let was = was_free pages p free in (was.0, was.1, refl, one_fewer pages p free)
+
+pub returns_one : (pages : List Page) (p : ℕ) → is_taken (page_at pages p) ≡ true → Returns pages p (set pages p Free)
+returns_one pages p taken = (refl, one_more pages p taken)
 
 -- ---- the flags
 

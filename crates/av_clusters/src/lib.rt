@@ -1,13 +1,18 @@
-//! Which slot of a swap area is given next: slots are given cluster by cluster (Linux's `swap_cluster_info` and its list of free clusters).
+//! Which slot of a swap area is given next: slots are given cluster by cluster (Linux's
+//! `swap_cluster_info` and its list of free clusters).
+//!
+//! Proved: which slot `take` gives, exactly; that each call changes one page and counts it; that
+//! only `new` can want memory.
 #![tactic(auto)]
 
 #[cfg(test)]
 mod tests;
 
 ghost use Rattle.std.specs.Prelude.{◌≡◌, ℕ, ◌+◌, ◌*◌, ◌/◌, ◌^◌, ◌<◌, ◌≤◌, [], length, map, IfOk, IfNone, IfSome, MatchOption, position, count_by, slice_set, replicate, ◌==◌, if◌then◌else◌, true, false, not};
-ghost use Rattle.std.specs.List.{range_with_len, list_any};
+ghost use Rattle.std.specs.List.{range_with_len};
+ghost use Rattle.av_base.specs.Words.{is_in};
 ghost use Rattle.std.specs.VecDeque.{deque_len, deque_capacity};
-ghost use Rattle.av_clusters.specs.Choice.{AreFull, unless, fresh, take_slot, give_slot, Gave, in_current, in_next, anywhere, is_free, is_taken, page_at, pages_between, lowest, has_free, has_taken, start_of, end_of, pages_of, clusters_of};
+ghost use Rattle.av_clusters.specs.Clusters.{AreFull, unless, fresh, take_slot, give_slot, Gave, Takes, Returns, in_current, in_next, anywhere, is_free, is_taken, page_at, pages_between, lowest, has_free, has_taken, start_of, end_of, pages_of, clusters_of, cluster_count};
 ghost use Rattle.av_clusters.specs.declared.Page.TheVariants.{Unusable, Free, Taken};
 
 use std::alloc::{AllocError, Global};
@@ -48,17 +53,17 @@ impl Page {
     }
 }
 
-/// The slots of one swap area, in clusters of 256 pages. Only `new` takes memory.
+/// The slots of one swap area, in clusters. Only `new` takes memory.
 #[derive(Drop)]
 pub struct Clusters {
     pages: Vec<Page>,
     // How many pages are free.
     left: u32,
-    // The free clusters. There is room for every cluster, so that giving a slot back takes no memory.
+    // The free clusters. There is room for every cluster, so that giving back takes no memory.
     free: VecDeque<u32>,
     // Whether each cluster is out of `free`, so that no one has to search it.
     busy: Vec<bool>,
-    // Clusters that were seen to have no free page, so that a search of the whole area passes them over.
+    // Clusters seen to have no free page, so that a search of the whole area passes them over.
     full: Vec<bool>,
     current: Option<u32>,
     cursor: u32,
@@ -66,17 +71,24 @@ pub struct Clusters {
 
 impl Model for Clusters {
     ghost use Rattle.std.specs.VecDeque.{deque_len, deque_capacity};
-    ghost use Rattle.av_clusters.specs.Choice.{Choice, IsWhole};
+    ghost use Rattle.av_clusters.specs.Clusters.{Slots, IsWhole};
 
-    ghost Value = { Choice };
+    ghost Value = { Slots };
 
-    ghost view = { λ a. record { pages = a.pages.items; free = a.free.items; current = a.current; cursor = a.cursor } };
+    ghost view = { λ a. record {
+      pages = a.pages.items;
+      free = a.free.items;
+      current = a.current;
+      cursor = a.cursor;
+    } };
 
-    ghost invariant = { λ a. IsWhole a.pages.items a.left a.free.items (deque_len a.free) (deque_capacity a.free) a.busy.items a.full.items a.current a.cursor };
+    ghost invariant = { λ a. IsWhole a.pages.items a.left a.free.items (deque_len a.free)
+        (deque_capacity a.free) a.busy.items a.full.items a.current a.cursor };
 }
 
 impl Clusters {
-    /// The slots of an area of this many pages: all but page 0, the header, and the bad pages. A bad page past the area's end is passed over.
+    /// The slots of an area of this many pages: all but page 0, the header, and the bad pages. A
+    /// bad page past the area's end is passed over.
     pub fn new(alloc: Global, pages: u32, bad: &[u32]) -> Result<Clusters, AllocError>
         ensures { IfOk result (λ clusters. clusters ≡ fresh pages bad.now) }
     {
@@ -96,10 +108,13 @@ impl Clusters {
         })
     }
 
-    /// Takes the next slot, and answers its page: from the current cluster, else from the first free one, else the lowest of the area. None exactly where no slot is free.
+    /// Takes the next slot, and answers its page: from the current cluster, else from the first
+    /// free one, else the lowest of the area. None exactly where no slot is free.
     pub fn take(&mut self) -> Option<u32>
         ensures gave { Gave (take_slot self.old) self.old result self.new }
-        ensures slot { MatchOption result (count_by is_free self.old.pages ≡ 0) (λ p. (page_at self.old.pages p ≡ Free) × (page_at self.new.pages p ≡ Taken)) }
+        ensures slot { MatchOption result
+            (count_by is_free self.old.pages ≡ 0)
+            (λ p. Takes self.old.pages p self.new.pages) }
     {
         if let Some(page) = self.take_in_current() {
             return Some(page);
@@ -110,12 +125,14 @@ impl Clusters {
         self.take_anywhere()
     }
 
-    /// Gives a slot back, which has to be taken. A cluster whose last taken slot it was goes to the end of the free ones.
+    /// Gives a slot back, which has to be taken. A cluster whose last taken slot it was goes to the
+    /// end of the free ones.
     pub fn give(&mut self, page: u32)
         requires { is_taken (page_at self.old.pages page) ≡ true }
-        ensures { self.new ≡ give_slot self.old page }
+        ensures gave { self.new ≡ give_slot self.old page }
+        ensures slot { Returns self.old.pages page self.new.pages }
     {
-        let cluster = page / 256;
+        let cluster = page / CLUSTER as u32;
         self.pages[page as usize] = Page::Free;
         self.left += 1;
         self.full[cluster as usize] = false;
@@ -146,7 +163,7 @@ impl Clusters {
     // Takes the lowest slot of the current cluster from the cursor on.
     fn take_in_current(&mut self) -> Option<u32>
         ensures gave { Gave (in_current self.old self.old.current) self.old result self.new }
-        ensures slot { IfSome result (λ p. (page_at self.old.pages p ≡ Free) × (page_at self.new.pages p ≡ Taken)) }
+        ensures slot { IfSome result (λ p. Takes self.old.pages p self.new.pages) }
     {
         let cluster = self.current?;
         let page = lowest(&self.pages, self.cursor as usize, end_of(cluster))?;
@@ -159,7 +176,7 @@ impl Clusters {
     // Opens the first free cluster, and takes its lowest slot.
     fn take_in_next(&mut self) -> Option<u32>
         ensures gave { Gave (in_next self.old self.old.free) self.old result self.new }
-        ensures slot { IfSome result (λ p. (page_at self.old.pages p ≡ Free) × (page_at self.new.pages p ≡ Taken)) }
+        ensures slot { IfSome result (λ p. Takes self.old.pages p self.new.pages) }
         ensures none { IfNone result (self.old.free ≡ []) }
     {
         let cluster = *self.free.front()?;
@@ -177,7 +194,9 @@ impl Clusters {
     fn take_anywhere(&mut self) -> Option<u32>
         requires { self.old.free ≡ [] }
         ensures gave { Gave (anywhere self.old) self.old result self.new }
-        ensures slot { MatchOption result (count_by is_free self.old.pages ≡ 0) (λ p. (page_at self.old.pages p ≡ Free) × (page_at self.new.pages p ≡ Taken)) }
+        ensures slot { MatchOption result
+            (count_by is_free self.old.pages ≡ 0)
+            (λ p. Takes self.old.pages p self.new.pages) }
     {
         let page = lowest_of_area(&self.pages, &mut self.full)?;
         self.pages[page as usize] = Page::Taken;
@@ -214,7 +233,7 @@ fn lowest(pages: &[Page], from: usize, to: usize) -> Option<u32>
 // The lowest free page of the area. It passes over the clusters that are marked as full.
 fn lowest_of_area(pages: &[Page], full: &mut [bool]) -> Option<u32>
     requires few { length pages.now < 2 ^ 32 }
-    requires count { length full.old ≡ length pages.now / 256 + 1 }
+    requires count { length full.old ≡ cluster_count (length pages.now) }
     requires full { AreFull pages.now full.old }
     ensures lowest { result ≡ lowest pages.now 0 (length pages.now) }
     ensures full { AreFull pages.now full.new }
@@ -233,7 +252,7 @@ fn lowest_of_area(pages: &[Page], full: &mut [bool]) -> Option<u32>
 fn lowest_of_cluster(pages: &[Page], full: &mut [bool], cluster: u32) -> Option<u32>
     requires few { length pages.now < 2 ^ 32 }
     requires within { start_of cluster ≤ length pages.now }
-    requires count { length full.old ≡ length pages.now / 256 + 1 }
+    requires count { length full.old ≡ cluster_count (length pages.now) }
     requires full { AreFull pages.now full.old }
     ensures lowest { result ≡ lowest pages.now (start_of cluster) (end_of cluster) }
     ensures full { AreFull pages.now full.new }
@@ -311,7 +330,8 @@ fn all_free(alloc: Global, count: u32) -> Result<Vec<Page>, AllocError>
 
 // The header and the bad pages are never given.
 fn set_aside(pages: &mut [Page], bad: &[u32])
-    ensures page { (p : ℕ) → page_at pages.new p ≡ (if list_any (λ b. p == b) bad.now then Unusable else page_at (slice_set pages.old 0 Unusable) p) }
+    ensures page { (p : ℕ) → page_at pages.new p
+        ≡ (if is_in p bad.now then Unusable else page_at (slice_set pages.old 0 Unusable) p) }
     ensures len { length pages.new ≡ length pages.old }
 {
     set_unusable(pages, 0);
@@ -331,7 +351,7 @@ fn set_unusable(pages: &mut [Page], page: u32)
 
 fn cluster_count(pages: &[Page]) -> u32
     requires { length pages.now < 2 ^ 32 }
-    ensures { result ≡ length pages.now / 256 + 1 }
+    ensures { result ≡ cluster_count (length pages.now) }
 {
     (pages.len() / CLUSTER + 1) as u32
 }
@@ -347,7 +367,9 @@ fn has_free(pages: &[Page], cluster: u32) -> bool
 // The clusters with a free page, with the room that all would take.
 fn free_clusters(alloc: Global, pages: &[Page]) -> Result<VecDeque<u32>, AllocError>
     requires { length pages.now < 2 ^ 32 }
-    ensures { IfOk result (λ q. (q.items ≡ clusters_of pages.now) × (deque_len q ≡ length q.items) × (length pages.now / 256 + 1 ≤ deque_capacity q)) }
+    ensures { IfOk result (λ q. (q.items ≡ clusters_of pages.now)
+        × (deque_len q ≡ length q.items)
+        × (cluster_count (length pages.now) ≤ deque_capacity q)) }
 {
     let count = cluster_count(pages);
     let mut clusters = VecDeque::with_capacity(alloc, count as usize)?;
@@ -362,7 +384,9 @@ fn free_clusters(alloc: Global, pages: &[Page]) -> Result<VecDeque<u32>, AllocEr
 // Whether each cluster has no free page.
 fn busy_clusters(alloc: Global, pages: &[Page]) -> Result<Vec<bool>, AllocError>
     requires { length pages.now < 2 ^ 32 }
-    ensures { IfOk result (λ v. v.items ≡ map (λ c. not (has_free pages.now c)) (range_with_len 0 (length pages.now / 256 + 1))) }
+    ensures { IfOk result (λ v. v.items
+        ≡ map (λ c. not (has_free pages.now c))
+        (range_with_len 0 (cluster_count (length pages.now)))) }
 {
     let mut busy = Vec::new(alloc);
     for cluster in 0..cluster_count(pages) {

@@ -12,4 +12,5 @@ all_pages filled count = filled ++ replicate (count - length filled) zeros
 
 -- one page has these bytes now, and no other page changes
 abbrev pub WritesOver : ℕ → (ℕ → ℕ) → List (List ℕ) → List (List ℕ) → Type 0
-WritesOver frame bytes old new = (page : List ℕ) × (new ≡ slice_set old frame page) × ((i : ℕ) → slice_index page i ≡ bytes i)
+WritesOver frame bytes old new =
+    (page : List ℕ) × (new ≡ slice_set old frame page) × ((i : ℕ) → slice_index page i ≡ bytes i)

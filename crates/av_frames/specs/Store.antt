@@ -1,7 +1,8 @@
--- What is seen of the frames: a free list, and for each frame its bytes, how many entries name it, its home, the slot at which it is cached, and whether it is dirty.
+-- What is seen of the frames: a free list, and for each frame its bytes, how many entries name it,
+-- its home, the slot at which it is cached, and whether it is dirty.
 use Rattle.std.specs.Prelude.{◌≡◌, ℕ, ◌+◌, ◌-◌, ◌^◌, ◌<◌, ◌≤◌, Bool, true, false, ◌==◌, if◌then◌else◌, List, [], length, slice_index, slice_index_or, Option, None}
 use Rattle.av_base.specs.declared.slot.Slot.{Slot}
-use Rattle.av_base.specs.Words.{how_many, within, numbers}
+use Rattle.av_base.specs.Words.{how_many, within, numbers, with_at}
 
 -- the value of `Frames`: a value has to be data, so each is a list by frame
 pub record Store : Type 0 where
@@ -48,14 +49,34 @@ fresh n = record {
 
 -- bytes with a piece laid over them
 abbrev pub overlaid : ℕ → List ℕ → (ℕ → ℕ) → ℕ → ℕ
-overlaid at piece bytes i = if within at (length piece) i then slice_index piece (i - at) else bytes i
+overlaid at piece bytes i =
+    if within at (length piece) i then slice_index piece (i - at) else bytes i
+
+-- what is seen, with one field of one frame changed
+abbrev pub with_bytes : ℕ → (ℕ → ℕ) → Seen → Seen
+with_bytes f bytes s = record s { bytes = with_at f bytes s.bytes }
+
+abbrev pub with_maps : ℕ → ℕ → Seen → Seen
+with_maps f maps s = record s { maps = with_at f maps s.maps }
+
+abbrev pub with_home : ℕ → Option (ℕ × ℕ) → Seen → Seen
+with_home f home s = record s { home = with_at f home s.home }
+
+abbrev pub with_dirty : ℕ → Bool → Seen → Seen
+with_dirty f dirty s = record s { dirty = with_at f dirty s.dirty }
+
+abbrev pub with_slot : ℕ → Option Slot → Seen → Seen
+with_slot f slot s = record s { slot = with_at f slot s.slot }
 
 -- the test that a flag stands
 abbrev pub itself : Bool → Bool
 itself b = b
 
--- the lists of `Frames` fit together: one item for each frame, room in the free list for all, and a flag for each frame in use
-pub record IsWhole (frees : List ℕ) (frees_len frees_room : ℕ) (pages : List (List ℕ)) (flags : List Bool) (counts : List ℕ) (owners : List (Option (ℕ × ℕ))) (marks : List Bool) (places : List (Option Slot)) : Type 0 where
+-- the lists of `Frames` fit together: one item for each frame, room in the free list for all, and a
+-- flag for each frame in use
+pub record IsWhole (frees : List ℕ) (frees_len frees_room : ℕ) (pages : List (List ℕ))
+    (flags : List Bool) (counts : List ℕ) (owners : List (Option (ℕ × ℕ))) (marks : List Bool)
+    (places : List (Option Slot)) : Type 0 where
   pub few : length pages < 2 ^ 32
   pub used : length flags ≡ length pages
   pub maps : length counts ≡ length pages

@@ -1,4 +1,9 @@
-//! The frames of physical memory: which are free, their bytes, and what is kept of each (Linux's `struct page`).
+//! The frames of physical memory: which are free, their bytes, and what is kept of each (Linux's
+//! `struct page`).
+//!
+//! Proved: each call changes the field of one frame that it names and nothing else; a frame that
+//! was never written is zeros; the free list has each free frame once, `take` gives its first and
+//! `give` puts in front; no call but `new` can want memory.
 #![tactic(auto)]
 
 mod pages;
@@ -6,7 +11,7 @@ mod pages;
 mod tests;
 
 ghost use Rattle.std.specs.Prelude.{◌≡◌, ℕ, ◌+◌, ◌<◌, ◌≤◌, ◌^◌, ◌-◌, ◌∷◌, ◌==◌, [], length, slice_index, MatchOption, IfOk, true, false, replicate, not};
-ghost use Rattle.av_frames.specs.Store.{seen, fresh, overlaid};
+ghost use Rattle.av_frames.specs.Store.{seen, fresh, overlaid, with_bytes, with_maps, with_home, with_dirty, with_slot};
 ghost use Rattle.av_base.specs.Page.{page_size};
 ghost use Rattle.av_base.specs.Words.{is_in, how_many, numbers, with_at};
 ghost use Rattle.std.specs.VecDeque.{deque_len, deque_capacity};
@@ -20,7 +25,7 @@ use std::marker::Model;
 /// A fixed number of frames of a page each, numbered from 0. Only `new` takes memory.
 #[derive(Drop)]
 pub struct Frames {
-    // The first is taken next. There is room for every frame, so that giving one back takes no memory.
+    // The first is taken next. There is room for every frame, so that giving back takes no memory.
     free: VecDeque<u32>,
     bytes: Pages,
     // Whether each frame is out of `free`, so that no one has to search it.
@@ -38,9 +43,17 @@ impl Model for Frames {
 
     ghost Value = { Store };
 
-    ghost view = { λ a. record { free = a.free.items; bytes = a.bytes; maps = a.maps.items; homes = a.homes.items; dirty = a.dirty.items; slots = a.slots.items } };
+    ghost view = { λ a. record {
+      free = a.free.items;
+      bytes = a.bytes;
+      maps = a.maps.items;
+      homes = a.homes.items;
+      dirty = a.dirty.items;
+      slots = a.slots.items;
+    } };
 
-    ghost invariant = { λ a. IsWhole a.free.items (deque_len a.free) (deque_capacity a.free) a.bytes a.used.items a.maps.items a.homes.items a.dirty.items a.slots.items };
+    ghost invariant = { λ a. IsWhole a.free.items (deque_len a.free) (deque_capacity a.free) a.bytes
+        a.used.items a.maps.items a.homes.items a.dirty.items a.slots.items };
 }
 
 impl Frames {
@@ -64,7 +77,9 @@ impl Frames {
     pub fn take(&mut self) -> Option<u32>
         ensures { MatchOption result
             ((self.old.free ≡ []) × (seen self.new ≡ seen self.old))
-            (λ f. (self.old.free ≡ f ∷ self.new.free) × (f < (seen self.old).count) × (is_in f self.new.free ≡ false) × (seen self.new ≡ record (seen self.old) { free = self.new.free })) }
+            (λ f. (self.old.free ≡ f ∷ self.new.free)
+            × (f < (seen self.old).count) × (is_in f self.new.free ≡ false)
+            × (seen self.new ≡ record (seen self.old) { free = self.new.free })) }
     {
         let frame = self.free.pop_front()?;
         self.used[frame as usize] = true;
@@ -100,7 +115,7 @@ impl Frames {
     pub fn map_up(&mut self, frame: u32)
         requires in_range { frame < (seen self.old).count }
         requires room { (seen self.old).maps frame < 2 ^ 64 - 1 }
-        ensures { seen self.new ≡ record (seen self.old) { maps = with_at frame ((seen self.old).maps frame + 1) (seen self.old).maps } }
+        ensures { seen self.new ≡ with_maps frame ((seen self.old).maps frame + 1) (seen self.old) }
     {
         self.maps[frame as usize] += 1;
     }
@@ -109,12 +124,12 @@ impl Frames {
     pub fn map_down(&mut self, frame: u32)
         requires in_range { frame < (seen self.old).count }
         requires some { 0 < (seen self.old).maps frame }
-        ensures { seen self.new ≡ record (seen self.old) { maps = with_at frame ((seen self.old).maps frame - 1) (seen self.old).maps } }
+        ensures { seen self.new ≡ with_maps frame ((seen self.old).maps frame - 1) (seen self.old) }
     {
         self.maps[frame as usize] -= 1;
     }
 
-    /// Where the entries of the frame are found: an anon_vma's number, and the page's linear index there.
+    /// Where the entries of the frame are found: an anon_vma's number, and the linear index there.
     pub fn home(&self, frame: u32) -> Option<(u64, u64)>
         requires { frame < (seen self.now).count }
         ensures { result ≡ (seen self.now).home frame }
@@ -125,7 +140,7 @@ impl Frames {
     /// Sets the frame's home.
     pub fn set_home(&mut self, frame: u32, home: Option<(u64, u64)>)
         requires { frame < (seen self.old).count }
-        ensures { seen self.new ≡ record (seen self.old) { home = with_at frame home (seen self.old).home } }
+        ensures { seen self.new ≡ with_home frame home (seen self.old) }
     {
         self.homes[frame as usize] = home;
     }
@@ -141,7 +156,7 @@ impl Frames {
     /// Sets whether they may differ.
     pub fn set_dirty(&mut self, frame: u32, dirty: bool)
         requires { frame < (seen self.old).count }
-        ensures { seen self.new ≡ record (seen self.old) { dirty = with_at frame dirty (seen self.old).dirty } }
+        ensures { seen self.new ≡ with_dirty frame dirty (seen self.old) }
     {
         self.dirty[frame as usize] = dirty;
     }
@@ -157,7 +172,7 @@ impl Frames {
     /// Sets that slot.
     pub fn set_slot(&mut self, frame: u32, slot: Option<Slot>)
         requires { frame < (seen self.old).count }
-        ensures { seen self.new ≡ record (seen self.old) { slot = with_at frame slot (seen self.old).slot } }
+        ensures { seen self.new ≡ with_slot frame slot (seen self.old) }
     {
         self.slots[frame as usize] = slot;
     }
@@ -194,7 +209,9 @@ impl Frames {
     pub fn write_at(&mut self, frame: u32, at: usize, piece: &[u8])
         requires in_range { frame < (seen self.old).count }
         requires fits { at + length piece.now ≤ page_size }
-        ensures { seen self.new ≡ record (seen self.old) { bytes = with_at frame (overlaid at piece.now ((seen self.old).bytes frame)) (seen self.old).bytes } }
+        ensures { seen self.new
+            ≡ with_bytes frame
+            (overlaid at piece.now ((seen self.old).bytes frame)) (seen self.old) }
     {
         self.bytes.write_at(frame as usize, at, piece);
     }
@@ -202,7 +219,7 @@ impl Frames {
     /// Copies the bytes of one frame to another.
     pub fn copy(&mut self, from: u32, to: u32)
         requires { (from < (seen self.old).count) × (to < (seen self.old).count) }
-        ensures { seen self.new ≡ record (seen self.old) { bytes = with_at to ((seen self.old).bytes from) (seen self.old).bytes } }
+        ensures { seen self.new ≡ with_bytes to ((seen self.old).bytes from) (seen self.old) }
     {
         self.bytes.put(to as usize, *self.bytes.get(from as usize));
     }
@@ -210,7 +227,7 @@ impl Frames {
     /// Makes each byte of a frame zero.
     pub fn zero(&mut self, frame: u32)
         requires { frame < (seen self.old).count }
-        ensures { seen self.new ≡ record (seen self.old) { bytes = with_at frame (λ i. 0) (seen self.old).bytes } }
+        ensures { seen self.new ≡ with_bytes frame (λ i. 0) (seen self.old) }
     {
         self.bytes.put(frame as usize, [0; SIZE]);
     }
@@ -219,7 +236,7 @@ impl Frames {
     pub fn load(&mut self, frame: u32, page: &[u8])
         requires in_range { frame < (seen self.old).count }
         requires long { length page.now ≡ page_size }
-        ensures { seen self.new ≡ record (seen self.old) { bytes = with_at frame (slice_index page.now) (seen self.old).bytes } }
+        ensures { seen self.new ≡ with_bytes frame (slice_index page.now) (seen self.old) }
     {
         self.bytes.put(frame as usize, page_of(page));
     }
@@ -247,7 +264,8 @@ fn filled<T: Copy>(alloc: Global, value: T, count: usize) -> Result<Vec<T>, Allo
 /// The numbers below the count, with the room that they take.
 #[tactic(auto, using(crate::proofs::Fresh::numbers_next))]
 fn all_numbers(alloc: Global, count: u32) -> Result<VecDeque<u32>, AllocError>
-    ensures { IfOk result (λ q. (q.items ≡ numbers 0 count) × (deque_len q ≡ count) × (count ≤ deque_capacity q)) }
+    ensures { IfOk result (λ q.
+        (q.items ≡ numbers 0 count) × (deque_len q ≡ count) × (count ≤ deque_capacity q)) }
 {
     let mut numbers = VecDeque::with_capacity(alloc, count as usize)?;
     for i in 0..count {

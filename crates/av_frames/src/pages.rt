@@ -12,7 +12,8 @@ pub const SIZE: usize = PAGE_SIZE as usize;
 
 static ZEROS: [u8; SIZE] = [0; SIZE];
 
-/// The bytes of a fixed number of frames, zeros at first. Only `new` asks for memory, which is touched when it is first written.
+/// The bytes of a fixed number of frames, zeros at first. Only `new` asks for memory, and a page's
+/// is touched when it is first written.
 #[derive(Drop)]
 pub struct Pages {
     // The pages of the first frames, with room for those of all. What is not there is zeros.
@@ -73,7 +74,9 @@ impl Pages {
     pub fn write_at(&mut self, frame: usize, at: usize, piece: &[u8])
         requires in_range { frame < length self.old }
         requires fits { at + length piece.now ≤ page_size }
-        ensures { WritesOver frame (overlaid at piece.now (slice_index (slice_index_or self.old frame []))) self.old self.new }
+        ensures { WritesOver frame
+            (overlaid at piece.now (slice_index (slice_index_or self.old frame [])))
+            self.old self.new }
     {
         fill(&mut self.filled, frame + 1);
         overlay(&mut self.filled[frame], at, piece);
@@ -83,7 +86,8 @@ impl Pages {
 // Adds pages of zeros until there are so many.
 fn fill(pages: &mut Vec<[u8; SIZE]>, count: usize)
     requires { count ≤ vec_capacity pages.old }
-    ensures items { pages.new.items ≡ pages.old.items ++ replicate (count - length pages.old.items) zeros }
+    ensures items { pages.new.items
+        ≡ pages.old.items ++ replicate (count - length pages.old.items) zeros }
     ensures capacity { vec_capacity pages.new ≡ vec_capacity pages.old }
 {
     for _ in pages.len()..count {
@@ -94,7 +98,8 @@ fn fill(pages: &mut Vec<[u8; SIZE]>, count: usize)
 // Writes a piece over a page from `at` on.
 fn overlay(page: &mut [u8; SIZE], at: usize, piece: &[u8])
     requires { at + length piece.now ≤ page_size }
-    ensures over { (i : ℕ) → slice_index page.new i ≡ overlaid at piece.now (slice_index page.old) i }
+    ensures over { (i : ℕ) →
+        slice_index page.new i ≡ overlaid at piece.now (slice_index page.old) i }
     ensures long { length page.new ≡ page_size }
 {
     page[at..at + piece.len()].copy_from_slice(piece);

@@ -1,19 +1,19 @@
 -- The entries of a directory: after a change of one part, and the first from a page on.
-use Rattle.std.proofs.Common.{◌≡◌, ◌≢◌, ℕ, zero, suc, ◌+◌, ◌*◌, ◌/◌, ◌%◌, ◌<◌, ◌≤◌, List, [], ◌∷◌, ◌++◌, length, take, drop, slice_set, get_or, refl, sym, ap, subst, ◌∙◌, arith, inl, inr, cond, true, false, Bool, ◌==◌, Option, Some, None, MatchOption, Result, Ok, Err, MatchResult}
-use Rattle.std.specs.Prelude.{nat_lt, nat_eq, slice_get, option_map}
+use Rattle.std.proofs.Common.{◌≡◌, ◌≢◌, ℕ, ◌+◌, ◌*◌, ◌/◌, ◌%◌, ◌<◌, ◌≤◌, List, [], ◌∷◌, length, slice_set, get_or, refl, sym, ap, subst, ◌∙◌, arith, inl, inr, cond, true, false, Bool, ◌==◌, Option, Some, None, MatchOption, Result, Ok, Err, MatchResult}
+use Rattle.std.specs.Prelude.{nat_lt, nat_eq, option_map}
 use Rattle.std.specs.List.{AllWithin, HoldsAt, insert, remove}
 use Rattle.std.specs.Map.{lookup}
 use Rattle.std.proofs.lemmas.Bool.{cases_eq, cases_lt}
 use Rattle.std.proofs.lemmas.Bool.Decides.{nat_tests}
 use Rattle.std.proofs.lemmas.List.{get_or_default}
-use Rattle.std.proofs.lemmas.Nat.{div-add-mod', div-mul-add, mod-mul-add, mod_below, mul-add-lt, div_below, le-div}
+use Rattle.std.proofs.lemmas.Nat.{div-add-mod', div-mul-add, mod-mul-add, mul-add-lt, div_below, le-div}
 use Rattle.std.proofs.lemmas.Option.{slice_get_cases, slice_get_within, get_or_from_slice_get}
 use Rattle.av_base.specs.Words.{with_at}
 use Rattle.av_pagetable.specs.declared.pte.Pte.{Pte}
 use Rattle.av_pagetable.specs.declared.pte.Pte.TheVariants.{Empty}
-use Rattle.av_pagetable.specs.Table.{IsFirst}
-use Rattle.av_pagetable.specs.Dir.{no_entry, part_of, in_part, entries, entries_at, AreParts, HasSome, IsFirstIn}
-use Rattle.av_pagetable.proofs.DirParts.{found, set_here, set_others, remove_here, remove_others, insert_here, insert_others, gap, set_good}
+use Rattle.av_pagetable.specs.Table.{IsFirst, HasSome}
+use Rattle.av_pagetable.specs.Dir.{part_of, in_part, entries, entries_at, AreParts, IsFirstIn}
+use Rattle.av_pagetable.proofs.DirParts.{found, set_here, set_others, remove_here, remove_others, insert_here, insert_others, gap}
 
 test_true : (q k : ℕ) → q ≡ k → (q == k) ≡ true
 test_true q k h = grind (arith, nat_tests)

@@ -1,5 +1,6 @@
 -- Lists of parts with their numbers: what a part that is written, put in or taken out leaves.
-use Rattle.std.proofs.Common.{◌≡◌, ◌≢◌, ℕ, zero, suc, ◌+◌, ◌-◌, ◌<◌, ◌≤◌, List, [], ◌∷◌, ◌++◌, length, take, drop, slice_set, get_or, refl, sym, ap, subst, ◌∙◌, arith, inl, inr, ◌⊎◌, cond, true, false, Bool, Option, Some, None, length-set, get_or-set_same, get_or-set_other}
+use Rattle.av_pagetable.specs.Table.{HasSome}
+use Rattle.std.proofs.Common.{◌≡◌, ◌≢◌, ℕ, zero, suc, ◌+◌, ◌-◌, ◌<◌, ◌≤◌, List, [], ◌∷◌, ◌++◌, length, take, drop, slice_set, get_or, refl, sym, ap, subst, ◌∙◌, arith, inl, inr, cond, true, false, Some, None, length-set, get_or-set_same, get_or-set_other}
 use Rattle.std.proofs.lemmas.List.{get_or_default}
 use Rattle.std.specs.Prelude.{nat_lt, nat_eq, Result, Ok, Err}
 use Rattle.std.proofs.Common.{Ordering}
@@ -7,15 +8,15 @@ use Rattle.std.specs.declared.cmp.Ordering.TheVariants.{Less, Equal, Greater}
 use Rattle.std.specs.Cmp.{ranks}
 use Rattle.std.specs.Ordering.{nat_cmp, ordering_index, MatchOrdering}
 use Rattle.std.specs.List.Sorted.{IsBinarySearchResult, IsSearchInRange}
-use Rattle.std.specs.List.{All, AllPairs, AllWithin, HoldsAt, insert, remove}
+use Rattle.std.specs.List.{All, AllPairs, AllWithin, insert, remove}
 use Rattle.std.specs.Map.{lookup}
-use Rattle.std.proofs.lemmas.Bool.{cases_eq, cases_lt, cases_Bool}
+use Rattle.std.proofs.lemmas.Bool.{cases_eq, cases_lt}
 use Rattle.std.proofs.lemmas.Bool.Decides.{nat_tests}
 use Rattle.std.proofs.lemmas.List.{take-append-drop, append-nil, take-set, drop-set-lt}
 use Rattle.std.proofs.lemmas.List.Edits.{length-insert, get_or-insert_below, get_or-insert_at, get_or-insert_above, length-remove, get_or-remove_below, get_or-remove_above}
 use Rattle.std.proofs.lemmas.List.Elements.{All-set}
 use Rattle.std.proofs.lemmas.List.Quantifiers.{all_pairs_remove}
-use Rattle.av_pagetable.specs.Dir.{AreParts, HasSome, IsPlace}
+use Rattle.av_pagetable.specs.Dir.{AreParts, IsPlace}
 use Rattle.av_pagetable.specs.declared.pte.Pte.{Pte}
 
 same : (n m : ℕ) → n ≡ m → nat_eq n m ≡ true

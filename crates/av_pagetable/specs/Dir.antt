@@ -7,7 +7,7 @@ use Rattle.std.specs.List.{All, AllPairs, AllWithin, HoldsAt}
 use Rattle.std.specs.Map.{lookup}
 use Rattle.av_pagetable.specs.declared.pte.Pte.{Pte}
 use Rattle.av_pagetable.specs.declared.pte.Pte.TheVariants.{Empty}
-use Rattle.av_pagetable.specs.Table.{IsFirst}
+use Rattle.av_pagetable.specs.Table.{IsFirst, HasSome}
 
 -- no page has an entry
 abbrev pub no_entry : ℕ → Pte
@@ -16,10 +16,6 @@ no_entry page = Empty
 -- an entry as the part that spans one page
 abbrev pub alone : Pte → ℕ → Pte
 alone entry page = if page == 0 then entry else Empty
-
--- some page of the span has an entry
-abbrev pub HasSome : ℕ → (ℕ → Pte) → Type 0
-HasSome span table = ((page : ℕ) → page < span → table page ≡ Empty) → ⊥
 
 -- the part of this number, which is below 512
 abbrev pub part_of : {C : Type 0} → List (ℕ × C) → ℕ → Option C
@@ -44,7 +40,9 @@ pub record AreParts {C : Type 0} (at : C → ℕ → Pte) (span : ℕ) (parts : 
 abbrev pub IsPlace : {C : Type 0} → ℕ → List (ℕ × C) → Result ℕ ℕ → Type 0
 IsPlace number parts result = MatchResult result
     (λ k. (k < length parts) × HoldsAt (λ part. part.0 ≡ number) parts k)
-    (λ k. (k ≤ length parts) × AllWithin (λ part. part.0 < number) parts 0 k × AllWithin (λ part. number < part.0) parts k (length parts))
+    (λ k. (k ≤ length parts)
+    × AllWithin (λ part. part.0 < number) parts 0 k
+    × AllWithin (λ part. number < part.0) parts k (length parts))
 
 -- the entries of the part at a place
 abbrev pub entries_at : {C : Type 0} → (C → ℕ → Pte) → List (ℕ × C) → ℕ → ℕ → Pte
@@ -53,12 +51,16 @@ entries_at at parts k = in_part at (option_map (λ part. part.1) (slice_get part
 -- the least page with an entry, from a page of the part at a place on
 abbrev pub IsFirstIn : {C : Type 0} → (C → ℕ → Pte) → ℕ → List (ℕ × C) → ℕ → ℕ → ℕ → Type 0
 IsFirstIn {C} at span parts k from page =
-    (part : ℕ × C) × (q : ℕ) × (slice_get parts k ≡ Some part) × (page ≡ part.0 * span + q) × IsFirst (at part.1) from span q
+    (part : ℕ × C) × (q : ℕ)
+    × (slice_get parts k ≡ Some part) × (page ≡ part.0 * span + q) × IsFirst (at part.1) from span q
 
 -- ---- a law of each directory
 not_less : (n m : ℕ) → m ≤ n → nat_lt n m ≡ false
 not_less n m h = grind (arith, nat_tests)
 
 -- no page past those of 512 parts has an entry
-pub none_past : {C : Type 0} (at : C → ℕ → Pte) (span : ℕ) (parts : List (ℕ × C)) (page : ℕ) → 0 < span → 512 * span ≤ page → entries at span parts page ≡ Empty
-none_past at span parts page some past = ap (λ b. in_part at (if b then lookup (nat_eq (page / span)) parts else None) (page % span)) (not_less (page / span) 512 (le-div 512 page span some past))
+pub none_past : {C : Type 0} (at : C → ℕ → Pte) (span : ℕ) (parts : List (ℕ × C)) (page : ℕ)
+    → 0 < span → 512 * span ≤ page → entries at span parts page ≡ Empty
+none_past at span parts page some past =
+    ap (λ b. in_part at (if b then lookup (nat_eq (page / span)) parts else None) (page % span))
+    (not_less (page / span) 512 (le-div 512 page span some past))

@@ -1,16 +1,18 @@
 use crate::level::Level;
 use crate::pte::Pte;
 use std::alloc::{AllocError, Global};
+use std::collections::VecDeque;
 use std::marker::Model;
 
-/// A table of 512 parts: of a page table's tables below, or of its entries. It keeps the parts that have an entry,
-/// by rising number, and gives back the others.
+/// A table of 512 parts: of a page table's tables below, or of its entries. It keeps the parts that
+/// have an entry, by rising number, and gives back the others.
 ///
 /// It is seen as the list of these parts with their numbers.
 #[derive(Drop)]
 pub struct Dir<C: Level> {
     alloc: Global,
-    parts: Vec<(u16, C)>,
+    // Parts go from the front where a process ends, and come at the end where it starts.
+    parts: VecDeque<(u16, C)>,
 }
 
 impl<C: Level> Model for Dir<C> {
@@ -35,21 +37,23 @@ impl<C: Level> Level for Dir<C> {
 
     ghost own = { (C.span * 512) ∷ C.own };
 
+    #[inline]
     fn span() -> u64 {
         C::span() * 512
     }
 
     fn new(alloc: Global) -> Result<Self, AllocError> {
-        Ok(Dir {
-            alloc,
-            parts: Vec::new(alloc),
-        })
+        // Where pages stand far apart, each part has one below it.
+        let parts = VecDeque::with_capacity(alloc, 1)?;
+        Ok(Dir { alloc, parts })
     }
 
+    #[inline]
     fn is_empty(&self) -> bool {
         self.parts.is_empty()
     }
 
+    #[inline]
     fn get(&self, page: u64) -> Pte {
         let span = C::span();
         match self.place(page / span) {
@@ -58,6 +62,7 @@ impl<C: Level> Level for Dir<C> {
         }
     }
 
+    #[inline]
     fn set(&mut self, page: u64, entry: Pte) -> Result<(), AllocError> {
         let span = C::span();
         match self.place(page / span) {
@@ -74,6 +79,7 @@ impl<C: Level> Level for Dir<C> {
         }
     }
 
+    #[inline]
     fn change(&mut self, page: u64, entry: Pte) {
         let span = C::span();
         match self.place(page / span) {
@@ -85,6 +91,7 @@ impl<C: Level> Level for Dir<C> {
         }
     }
 
+    #[inline]
     fn take(&mut self, page: u64) -> Pte {
         let span = C::span();
         match self.place(page / span) {
@@ -100,6 +107,7 @@ impl<C: Level> Level for Dir<C> {
         }
     }
 
+    #[inline]
     fn next_from(&self, page: u64) -> Option<u64> {
         if self.parts.is_empty() {
             return None;
@@ -127,6 +135,7 @@ impl<C: Level> Dir<C> {
     ghost use Rattle.av_pagetable.specs.declared.pte.Pte.{Pte};
 
     // The place of the part of this number, or where it would stand.
+    #[inline]
     fn place(&self, number: u64) -> Result<usize, usize>
         ensures { IsPlace number self.now result }
     {
@@ -146,14 +155,18 @@ impl<C: Level> Dir<C> {
         parts.binary_search_by_key(&(number as u16), |part| part.0)
     }
 
-    // The least page that has an entry among those of the part at a place, from this one of the part on.
+    // The least page with an entry in the part at a place, from this one of the part on.
+    #[inline]
     fn next_in(&self, place: usize, from: u64) -> Option<u64>
         requires fits { C.span * 512 ≤ page_bound }
         ensures { MatchOption result
             ((q : ℕ) → from ≤ q → entries_at C.at self.now place q ≡ Pte.Empty)
             (λ page. IsFirstIn C.at C.span self.now place from page) }
     {
-        let part = self.parts.get(place)?;
+        if place >= self.parts.len() {
+            return None;
+        }
+        let part = &self.parts[place];
         let found = part.1.next_from(from)?;
         Some(u64::from(part.0) * C::span() + found)
     }
@@ -166,8 +179,8 @@ impl<C: Level> Dir<C> {
     {
         let _span = C::span();
         let mut total = 0;
-        for part in &self.parts {
-            total += part.1.held();
+        for place in 0..self.parts.len() {
+            total += self.parts[place].1.held();
         }
         total
     }

@@ -1,11 +1,11 @@
 use crate::pte::Pte;
 use std::alloc::{AllocError, Global};
 
-/// A part of a page table: a function from page to entry, where the pages that it spans are counted from 0.
+/// A part of a page table: a function from page to entry, its pages counted from 0.
 pub trait Level: Drop {
     ghost use Rattle.std.specs.Prelude.{◌≡◌, ℕ, ◌<◌, ◌≤◌, ◌*◌, List, MatchBool, MatchOption, MatchResult, IfOk};
     ghost use Rattle.av_base.specs.Words.{with_at};
-    ghost use Rattle.av_pagetable.specs.Table.{IsFirst, page_bound};
+    ghost use Rattle.av_pagetable.specs.Table.{IsFirst, HasSome, page_bound};
     ghost use Rattle.av_pagetable.specs.Held.{AreHeld, AllDivide};
     ghost use Rattle.av_pagetable.specs.declared.pte.Pte.{Pte};
 
@@ -29,7 +29,9 @@ pub trait Level: Drop {
 
     /// Whether no page has an entry.
     fn is_empty(&self) -> bool
-        ensures { MatchBool result ((q : ℕ) → at self.now q ≡ Pte.Empty) (((q : ℕ) → q < span → at self.now q ≡ Pte.Empty) → ⊥) };
+        ensures { MatchBool result
+            ((q : ℕ) → at self.now q ≡ Pte.Empty)
+            (HasSome span (at self.now)) };
 
     /// The entry of a page.
     fn get(&self, page: u64) -> Pte
@@ -70,5 +72,5 @@ pub trait Level: Drop {
     fn held(&self) -> u64
         requires fits { span ≤ page_bound }
         ensures few { result < 2 * span }
-        ensures counts { (((q : ℕ) → q < span → at self.now q ≡ Pte.Empty) → ⊥) → AreHeld (at self.now) span own result };
+        ensures counts { HasSome span (at self.now) → AreHeld (at self.now) span own result };
 }

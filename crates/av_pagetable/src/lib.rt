@@ -1,4 +1,10 @@
-//! Page tables: what each page of each process has.
+//! Page tables: what each page of each process has (Linux's `mm->pgd` and what hangs on it).
+//!
+//! A page table is a trait, `Table`, seen as a function from page to entry. It has two bodies under
+//! one contract: `MapTable`, an ordered map, and `RadixTable`, four levels of 512, which is the
+//! `PageTable` that all above uses. `Tables` keeps one table for each process. Proved: what each
+//! call answers and changes, that nothing else changes, that want of memory changes nothing, and
+//! how many tables a `RadixTable` holds.
 #![tactic(auto)]
 
 mod dir;

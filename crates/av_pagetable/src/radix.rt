@@ -74,7 +74,8 @@ impl Table for RadixTable {
     ghost use Rattle.std.proofs.Common.{arith};
     ghost use Rattle.av_pagetable.specs.Dir.{none_past};
 
-    ghost ends = { λ table page above. none_past _ 134217728 table.top page (Prim.omega arith) above };
+    ghost ends = { λ table page above.
+        none_past _ 134217728 table.top page (Prim.omega arith) above };
 
     fn new(alloc: Global) -> Result<Self, AllocError> {
         let top = Dir::new(alloc)?;
@@ -109,7 +110,7 @@ impl Table for RadixTable {
 impl RadixTable {
     ghost use Rattle.av_pagetable.specs.Held.{IsHeld};
 
-    /// How many tables there are: 1, and one more for each part of a level that has an entry. It takes no memory.
+    /// How many tables there are: 1, and one more for each part of a level that has an entry.
     pub fn held(&self) -> u64
         ensures { IsHeld (⟦<RadixTable as Table>⟧.at self.now) result }
     {

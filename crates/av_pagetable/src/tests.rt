@@ -1,4 +1,4 @@
-use crate::{MapTable, Pte, RadixTable, Table, Tables};
+use crate::{MapTable, PageTable, Pte, RadixTable, Table, Tables};
 use av_base::Slot;
 use std::alloc::AllocError;
 
@@ -8,7 +8,7 @@ const AWAY: Pte = Pte::Away {
 
 #[test]
 fn entries_of_a_process(rt: HostRuntime) -> Result<(), AllocError> {
-    let mut tables: Tables<MapTable> = Tables::new(rt.alloc());
+    let mut tables: Tables<PageTable> = Tables::new(rt.alloc());
     tables.spawn(rt.alloc(), 4)?;
     tables.set(4, 16, Pte::Zero)?;
     tables.set(4, 20, Pte::Zero)?;
@@ -58,5 +58,17 @@ fn tables_are_given_back(rt: HostRuntime) -> Result<(), AllocError> {
     assert_eq!(rt; table.take_first(0, 0x1000000000), Some((0x10000, AWAY)));
     assert_eq!(rt; table.held(), 1);
     assert_eq!(rt; table.next_from(0), None);
+    Ok(())
+}
+
+#[test]
+fn pages_of_all_levels_stay_apart(rt: HostRuntime) -> Result<(), AllocError> {
+    let mut table = RadixTable::new(rt.alloc())?;
+    table.set(0xfffffffff, AWAY)?;
+    table.set(0xff7ffffff, Pte::Zero)?;
+    assert_eq!(rt; table.get(0xfffffffff), AWAY);
+    assert_eq!(rt; table.get(0xff7ffffff), Pte::Zero);
+    assert_eq!(rt; table.get(0x7ffffff), Pte::Empty);
+    assert_eq!(rt; table.next_from(0xff8000000), Some(0xfffffffff));
     Ok(())
 }

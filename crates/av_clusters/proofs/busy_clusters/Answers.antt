@@ -1,4 +1,4 @@
-use Rattle.av_clusters.specs.Choice.{has_free}
+use Rattle.av_clusters.specs.Clusters.{has_free}
 use Rattle.av_clusters.proofs.Fresh.{next_flag}
 use Rattle.av_clusters.proofs.busy_clusters.Goals as goal
 

@@ -1,6 +1,6 @@
 use Rattle.std.proofs.Common.{◌≡◌, map, not}
 use Rattle.std.specs.List.{range_with_len}
-use Rattle.av_clusters.specs.Choice.{has_free}
+use Rattle.av_clusters.specs.Clusters.{has_free}
 use Rattle.av_clusters.proofs.busy_clusters.Given as goal
 
 abbrev pub invariant-loop-cluster : goal.invariant-loop-cluster

@@ -1,5 +1,5 @@
 use Rattle.std.proofs.Common.{sym, ◌∙◌, arith}
-use Rattle.av_clusters.specs.Choice.{has_free}
+use Rattle.av_clusters.specs.Clusters.{has_free}
 use Rattle.av_clusters.proofs.Fresh.{next_free, next_passed}
 use Rattle.av_clusters.proofs.free_clusters.Goals as goal
 use Rattle.av_clusters.proofs.free_clusters.Goals.{then-has_free+in_ok-push_back, else-has_free}

@@ -1,7 +1,7 @@
 use Rattle.std.proofs.Common.{◌≡◌, ◌≤◌, length, filter}
 use Rattle.std.specs.List.{range_with_len}
 use Rattle.std.specs.VecDeque.{deque_len, deque_capacity}
-use Rattle.av_clusters.specs.Choice.{has_free}
+use Rattle.av_clusters.specs.Clusters.{has_free}
 use Rattle.av_clusters.proofs.free_clusters.Given as goal
 
 abbrev pub invariant-loop-cluster : goal.invariant-loop-cluster

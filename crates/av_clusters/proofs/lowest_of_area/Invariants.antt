@@ -1,5 +1,5 @@
 use Rattle.std.proofs.Common.{◌≡◌, ℕ, ◌*◌, ◌<◌, false}
-use Rattle.av_clusters.specs.Choice.{is_free, page_at, AreFull}
+use Rattle.av_clusters.specs.Clusters.{is_free, page_at, AreFull}
 use Rattle.av_clusters.proofs.lowest_of_area.Given as goal
 
 abbrev pub invariant-loop-cluster : goal.invariant-loop-cluster

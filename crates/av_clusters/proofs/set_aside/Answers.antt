@@ -2,7 +2,7 @@ use Rattle.std.proofs.Common.{◌≡◌, ◌+◌, ◌==◌, if◌then◌else◌,
 use Rattle.std.specs.List.{list_any}
 use Rattle.av_clusters.specs.declared.Page.{Page}
 use Rattle.av_clusters.specs.declared.Page.TheVariants.{Unusable}
-use Rattle.av_clusters.specs.Choice.{page_at}
+use Rattle.av_clusters.specs.Clusters.{page_at}
 use Rattle.av_clusters.proofs.Fresh.{one_more_aside}
 use Rattle.av_clusters.proofs.set_aside.Goals as goal
 

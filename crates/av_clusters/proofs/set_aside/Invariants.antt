@@ -1,7 +1,7 @@
 use Rattle.std.proofs.Common.{◌≡◌, ℕ, ◌==◌, if◌then◌else◌, take}
 use Rattle.std.specs.List.{list_any}
 use Rattle.av_clusters.specs.declared.Page.TheVariants.{Unusable}
-use Rattle.av_clusters.specs.Choice.{page_at}
+use Rattle.av_clusters.specs.Clusters.{page_at}
 use Rattle.av_clusters.proofs.set_aside.Given as goal
 
 abbrev pub invariant-loop-page : goal.invariant-loop-page

@@ -1,21 +1,21 @@
 use Rattle.std.proofs.Common.{◌≡◌, ◌/◌, true, false, List, set, sym, ap, subst, arith, ◌∙◌}
 use Rattle.av_clusters.specs.declared.Page.{Page}
 use Rattle.av_clusters.specs.declared.Page.TheVariants.{Free}
-use Rattle.av_clusters.specs.Choice.{Choice, is_taken, page_at, has_taken}
+use Rattle.av_clusters.specs.Clusters.{Slots, is_taken, page_at, has_taken}
 use Rattle.av_clusters.proofs.Whole.{room_for_one, whole_back, whole_emptied, fills_unless}
 use Rattle.av_clusters.proofs.Clusters.give.Goals as goal
 
 pub overflow_add-self : goal.overflow_add-self
 overflow_add-self c =
-    let room = room_for_one _ _ _ _ _ _ _ _ _ c.args.page c.self.invariant (subst (λ (v : Choice). is_taken (page_at v.pages c.args.page) ≡ true) (sym c.self.view_is) c.requires) in
+    let room = room_for_one _ _ _ _ _ _ _ _ _ c.args.page c.self.invariant (subst (λ (v : Slots). is_taken (page_at v.pages c.args.page) ≡ true) (sym c.self.view_is) c.requires) in
     omega (arith, room)
 
 pub invariant_of-self-else-not-any_taken : goal.invariant_of-self-else-not-any_taken
-invariant_of-self-else-not-any_taken c = whole_back _ _ _ _ _ _ _ _ _ c.args.page c.self.invariant (subst (λ (v : Choice). is_taken (page_at v.pages c.args.page) ≡ true) (sym c.self.view_is) c.requires)
+invariant_of-self-else-not-any_taken c = whole_back _ _ _ _ _ _ _ _ _ c.args.page c.self.invariant (subst (λ (v : Slots). is_taken (page_at v.pages c.args.page) ≡ true) (sym c.self.view_is) c.requires)
 
 pub invariant_of-self : goal.invariant_of-self
 invariant_of-self c =
-    let taken = subst (λ (v : Choice). is_taken (page_at v.pages c.args.page) ≡ true) (sym c.self.view_is) c.requires in
+    let taken = subst (λ (v : Slots). is_taken (page_at v.pages c.args.page) ≡ true) (sym c.self.view_is) c.requires in
     let none : has_taken (set c.self.inside.pages.items c.args.page Free) (c.args.page / 256) ≡ false =
     sym (c.any_taken.ensures ∙ ap (λ (ps : List Page). has_taken ps (c.args.page / 256)) c.deref.ensures.value) ∙ c.if-not-any_taken.true in
     rw (c.push_back_reserved.ensures.items, c.unless-self-inside.ensures) (whole_emptied _ _ _ _ _ _ _ _ _ c.args.page _ _ _ c.self.invariant taken none

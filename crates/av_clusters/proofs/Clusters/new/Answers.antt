@@ -1,7 +1,7 @@
 use Rattle.std.proofs.Common.{◌+◌, ◌/◌, ◌≤◌, List, length, subst, ap, ◌∙◌, arith}
 use Rattle.std.specs.VecDeque.{deque_capacity}
 use Rattle.av_clusters.specs.declared.Page.{Page}
-use Rattle.av_clusters.specs.Choice.{clusters_of}
+use Rattle.av_clusters.specs.Clusters.{clusters_of}
 use Rattle.av_clusters.proofs.Fresh.{whole_fresh, few_pages}
 use Rattle.av_clusters.proofs.Clusters.new.Goals as goal
 

@@ -1,7 +1,7 @@
 use Rattle.std.proofs.Common.{refl}
-use Rattle.av_clusters.specs.Choice.{end_of}
-use Rattle.av_clusters.proofs.Pages.{found, answered, was_free}
-use Rattle.av_clusters.proofs.Whole.{some_left, whole_in_current}
+use Rattle.av_clusters.specs.Clusters.{end_of}
+use Rattle.av_clusters.proofs.Pages.{found, answered}
+use Rattle.av_clusters.proofs.Whole.{some_left, takes, whole_in_current}
 use Rattle.av_clusters.proofs.Clusters.take_in_current.Goals as goal
 
 pub overflow_sub-self : goal.overflow_sub-self
@@ -12,5 +12,5 @@ invariant_of-self c = whole_in_current _ _ _ _ _ _ _ _ _ c.in_ok-cluster.cluster
     (answered c.self.inside.pages.items _ c.self.inside.cursor _ (end_of c.in_ok-cluster.cluster) _ _ _ c.deref.ensures.value refl c.end_of.ensures c.lowest.ensures c.in_ok-page.was)
 
 pub returns-clause-slot : goal.returns-clause-slot
-returns-clause-slot c = rw (← c.self.view_is) (was_free c.self.inside.pages.items c.in_ok-page.page
+returns-clause-slot c = rw (← c.self.view_is) (takes c.self.inside.pages.items c.in_ok-page.page
     (found c.self.inside.pages.items _ _ _ (answered _ _ _ _ _ _ _ _ c.deref.ensures.value refl refl c.lowest.ensures c.in_ok-page.was)).2)

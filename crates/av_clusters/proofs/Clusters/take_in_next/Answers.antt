@@ -1,6 +1,6 @@
 use Rattle.std.proofs.Common.{refl, drop}
-use Rattle.av_clusters.proofs.Pages.{found, answered, was_free}
-use Rattle.av_clusters.proofs.Whole.{some_left, whole_in_next, first_is, one_shorter, one_popped, in_range, has_one}
+use Rattle.av_clusters.proofs.Pages.{found, answered}
+use Rattle.av_clusters.proofs.Whole.{some_left, takes, whole_in_next, first_is, one_shorter, one_popped, in_range, has_one}
 use Rattle.av_clusters.proofs.Clusters.take_in_next.Goals as goal
 
 pub lowest-requires-clause-within : goal.lowest-requires-clause-within
@@ -26,5 +26,5 @@ invariant_of-self c =
     (one_popped _ _ _ _ _ _ is c.pop_front.ensures.items c.pop_front.ensures.rest c.pop_front.ensures.len)) c.pop_front.ensures.capacity)
 
 pub returns-clause-slot : goal.returns-clause-slot
-returns-clause-slot c = rw (← c.self.view_is) (was_free c.self.inside.pages.items c.in_ok-page.page
+returns-clause-slot c = rw (← c.self.view_is) (takes c.self.inside.pages.items c.in_ok-page.page
     (found c.self.inside.pages.items _ _ _ (answered _ _ _ _ _ _ _ _ c.deref.ensures.value refl refl c.lowest.ensures c.in_ok-page.was)).2)

@@ -1,7 +1,8 @@
-use Rattle.std.proofs.Common.{arith, rules, ◌≡◌, ◌≤◌, ◌<◌, ◌∙◌, ◌+◌, ◌*◌, sym, ap, subst, take, length, get_or, List, ℕ}
+use Rattle.av_pagetable.specs.Table.{HasSome}
+use Rattle.std.proofs.Common.{arith, ◌≡◌, ◌≤◌, ◌<◌, ◌+◌, ◌*◌, sym, subst, take, length, get_or}
 use Rattle.std.proofs.lemmas.List.{take_all}
 use Rattle.av_pagetable.specs.Held.{AreHeld}
-use Rattle.av_pagetable.specs.Dir.{entries, HasSome}
+use Rattle.av_pagetable.specs.Dir.{entries}
 use Rattle.av_pagetable.proofs.DirParts.{few}
 use Rattle.av_pagetable.proofs.Held.{few_some, few_all, none_held, joined_all, none_first, next_adds}
 use Rattle.av_pagetable.proofs.dir.Dir.below.Goals as goal
@@ -10,45 +11,43 @@ pub overflow_add-total : goal.overflow_add-total
 overflow_add-total g c =
     let d = c.self.inside in
     let C = g.C.Level in
-    let small : c.loop-part.part-index ≤ 512 = omega (arith, c.loop-part-test.true, c.deref-part-items.ensures.len, d.parts.ok.0, few C.at C.span d.parts.items c.self.invariant) in
-    let total = few_some c.loop-part.part-index c.loop-part.total C.span small c.requires.fits c.loop-part.invariant.few in
+    let small : c.loop-place.place ≤ 512 = omega (arith, c.loop-place-test.true, c.len-place-end.ensures, d.parts.ok.0, few C.at C.span d.parts.items c.self.invariant) in
+    let total = few_some c.loop-place.place c.loop-place.total C.span small c.requires.fits c.loop-place.invariant.few in
     omega (arith, total, c.held-total.ensures.few, c.requires.fits)
 
-pub loop-part-init : goal.loop-part-init
-loop-part-init g c =
+pub loop-place-init : goal.loop-place-init
+loop-place-init g c =
     let C = g.C.Level in
     record {
       held = none_held (entries C.at C.span (take 0 c.args.self.now)) (C.span * 512) C.own (none_first C.at C.span c.args.self.now);
       few = omega arith;
     }
 
-pub loop-part-preserved : goal.loop-part-preserved
-loop-part-preserved g c =
+pub loop-place-preserved : goal.loop-place-preserved
+loop-place-preserved g c =
     let d = c.self.inside in
     let C = g.C.Level in
-    let j = c.loop-part.part-index in
-    let p = c.part-item.result in
-    let same = c.deref-part-items.ensures.value in
-    let under : j < length d.parts.items = subst (λ l. j < length l) same c.loop-part-test.true in
-    let is : p ≡ get_or d.parts.items j p = c.part-item.is ∙ ap (λ l. get_or l j p) same in
+    let j = c.loop-place.place in
+    let p = c.index.result.now in
+    let under : j < length d.parts.items = omega (arith, c.loop-place-test.true, c.len-place-end.ensures, d.parts.ok.0) in
+    let is : p ≡ get_or d.parts.items j p = c.index.ensures in
     let adds = next_adds C.at C.span d.parts.items j p c.self.invariant c.span-span.ensures.some under is in
     let some : HasSome C.span (C.at p.1) = subst (λ part. HasSome C.span (C.at part.1)) (sym is) (c.self.invariant.full j p under) in
-    let before = subst (λ v. AreHeld (entries C.at C.span (take j v)) (C.span * 512) C.own c.loop-part.total) (sym c.self.view_is) c.loop-part.invariant.held in
+    let before = subst (λ v. AreHeld (entries C.at C.span (take j v)) (C.span * 512) C.own c.loop-place.total) (sym c.self.view_is) c.loop-place.invariant.held in
     record {
-      held = subst (λ v. AreHeld (entries C.at C.span (take (j + 1) v)) (C.span * 512) C.own (c.loop-part.total + c.held-total.result)) c.self.view_is
-          (joined_all (entries C.at C.span (take j d.parts.items)) (entries C.at C.span (take (j + 1) d.parts.items)) (C.at p.1) C.span (C.span * 512) p.0 C.own c.held-total.result c.loop-part.total adds c.span-span.ensures.whole (c.held-total.ensures.counts some) before);
-      few = omega (arith, c.loop-part.invariant.few, c.held-total.ensures.few);
+      held = subst (λ v. AreHeld (entries C.at C.span (take (j + 1) v)) (C.span * 512) C.own (c.loop-place.total + c.held-total.result)) c.self.view_is
+          (joined_all (entries C.at C.span (take j d.parts.items)) (entries C.at C.span (take (j + 1) d.parts.items)) (C.at p.1) C.span (C.span * 512) p.0 C.own c.held-total.result c.loop-place.total adds c.span-span.ensures.whole (c.held-total.ensures.counts some) before);
+      few = omega (arith, c.loop-place.invariant.few, c.held-total.ensures.few);
     }
 
 pub returns : goal.returns
 returns g c =
     let d = c.self.inside in
     let C = g.C.Level in
-    let j = c.loop-part.part-index in
-    let whole : length c.deref-part-items.result.now ≡ length d.parts.items = ap (λ l. length l) c.deref-part-items.ensures.value in
-    let all : length d.parts.items ≤ j = omega (arith, c.loop-part-test.false, c.loop-part.auto.part-index-end, whole) in
-    let small : j ≤ 512 = omega (arith, c.loop-part-test.false, c.loop-part.auto.part-index-end, whole, few C.at C.span d.parts.items c.self.invariant) in
+    let j = c.loop-place.place in
+    let all : length d.parts.items ≤ j = omega (arith, c.loop-place-test.false, c.loop-place.auto.place-end, c.len-place-end.ensures, d.parts.ok.0) in
+    let small : j ≤ 512 = omega (arith, c.loop-place-test.false, c.loop-place.auto.place-end, c.len-place-end.ensures, d.parts.ok.0, few C.at C.span d.parts.items c.self.invariant) in
     record {
-      few = few_all j c.loop-part.total C.span c.span-span.ensures.some small c.loop-part.invariant.few;
-      counts = subst (λ v. AreHeld (entries C.at C.span v) (C.span * 512) C.own c.loop-part.total) (take_all j c.args.self.now (rw (← c.self.view_is) all)) c.loop-part.invariant.held;
+      few = few_all j c.loop-place.total C.span c.span-span.ensures.some small c.loop-place.invariant.few;
+      counts = subst (λ v. AreHeld (entries C.at C.span v) (C.span * 512) C.own c.loop-place.total) (take_all j c.args.self.now (rw (← c.self.view_is) all)) c.loop-place.invariant.held;
     }

@@ -1,9 +1,8 @@
-use Rattle.std.proofs.Common.{arith, rules, ◌≡◌, ◌<◌, ◌≤◌, ◌*◌, ◌/◌, ◌%◌, ◌∙◌, sym, ap, subst, refl, length, get_or, slice_set, ℕ}
+use Rattle.std.proofs.Common.{◌≡◌, ◌<◌, ◌≤◌, ◌/◌, ◌%◌, ◌∙◌, sym, ap, refl, length}
 use Rattle.std.specs.List.{AllWithin}
-use Rattle.std.proofs.lemmas.Nat.{mod_below, div_below}
+use Rattle.std.proofs.lemmas.Nat.{mod_below}
 use Rattle.av_base.specs.Words.{with_at}
-use Rattle.av_pagetable.specs.declared.pte.Pte.TheVariants.{Empty}
-use Rattle.av_pagetable.specs.Dir.{entries, AreParts, HasSome}
+use Rattle.av_pagetable.specs.Dir.{entries}
 use Rattle.av_pagetable.proofs.DirParts.{set_good}
 use Rattle.av_pagetable.proofs.DirEntries.{written, absent, some_written, entry_there}
 use Rattle.av_pagetable.proofs.dir.DirLevel.change.Goals as goal

@@ -1,9 +1,6 @@
-use Rattle.std.proofs.Common.{arith, rules, ◌≡◌, ◌<◌, ◌≤◌, ◌*◌, ◌/◌, ◌%◌, ◌∙◌, sym, ap, subst, refl, length, get_or, slice_set, ℕ}
-use Rattle.std.specs.List.{AllWithin}
-use Rattle.std.proofs.lemmas.Nat.{mod_below, div_below}
-use Rattle.av_base.specs.Words.{with_at}
-use Rattle.av_pagetable.specs.declared.pte.Pte.TheVariants.{Empty}
-use Rattle.av_pagetable.specs.Dir.{entries, AreParts, HasSome}
+use Rattle.av_pagetable.specs.Table.{HasSome}
+use Rattle.std.proofs.Common.{arith, ◌≡◌, ◌<◌, ◌*◌, ◌∙◌, sym, ap, subst, ℕ}
+use Rattle.av_pagetable.specs.Dir.{entries}
 use Rattle.std.proofs.Common.{Bool, true, false, MatchBool, ◌==◌}
 use Rattle.std.proofs.lemmas.Bool.Decides.{nat_tests}
 use Rattle.av_pagetable.proofs.DirEntries.{no_entries, some_entry}

@@ -1,10 +1,9 @@
-use Rattle.std.proofs.Common.{arith, rules, ◌≡◌, ◌<◌, ◌≤◌, ◌*◌, ◌/◌, ◌%◌, ◌∙◌, sym, ap, subst, refl, length, get_or, slice_set, ℕ}
+use Rattle.av_pagetable.specs.Table.{HasSome}
+use Rattle.std.proofs.Common.{arith, ◌≡◌, ◌<◌, ◌≤◌, ◌/◌, ◌%◌, ◌∙◌, sym, ap, subst, refl, length}
 use Rattle.std.specs.List.{AllWithin}
 use Rattle.std.proofs.lemmas.Nat.{mod_below, div_below}
 use Rattle.av_base.specs.Words.{with_at}
-use Rattle.av_pagetable.specs.declared.pte.Pte.TheVariants.{Empty}
-use Rattle.av_pagetable.specs.Dir.{entries, AreParts, HasSome}
-use Rattle.std.specs.List.{insert}
+use Rattle.av_pagetable.specs.Dir.{entries}
 use Rattle.av_pagetable.proofs.Entries.{both_ways}
 use Rattle.av_pagetable.proofs.DirParts.{set_good, insert_good}
 use Rattle.av_pagetable.proofs.DirEntries.{written, stays, added, some_written, some_either}

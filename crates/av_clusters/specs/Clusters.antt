@@ -1,12 +1,15 @@
--- Which slot of a swap area is given next: what each page of the area is, and the clusters of 256 pages in which slots are given.
+-- Which slot of a swap area is given next: what each page of the area is, and the clusters of pages
+-- in which slots are given.
 use Rattle.std.specs.Prelude.{◌≡◌, ℕ, ◌+◌, ◌-◌, ◌*◌, ◌/◌, ◌^◌, ◌<◌, ◌≤◌, Bool, true, false, ◌||◌, ◌==◌, if◌then◌else◌, List, [], ◌∷◌, ◌++◌, length, map, filter, take, drop, slice_set, slice_index_or, Option, None, Some, MatchOption, count_by, position}
 use Rattle.std.specs.List.{list_any, range_with_len}
 use Rattle.std.specs.Option.{option_map, is_some}
+use Rattle.av_base.specs.Words.{is_in}
 use Rattle.av_clusters.specs.declared.Page.{Page}
 use Rattle.av_clusters.specs.declared.Page.TheVariants.{Unusable, Free, Taken}
 
--- the value of `Clusters`: what each page is; the free clusters, in the order in which they are opened; the cluster that is being filled, and the page from which on
-pub record Choice : Type 0 where
+-- the value of `Clusters`: what each page is; the free clusters, in the order in which they are
+-- opened; the cluster that is being filled, and the page from which on
+pub record Slots : Type 0 where
   pub pages : List Page
   pub free : List ℕ
   pub current : Option ℕ
@@ -36,13 +39,17 @@ pages_between from to pages = take (to - from) (drop from pages)
 abbrev pub lowest : List Page → ℕ → ℕ → Option ℕ
 lowest pages from to = option_map (λ i. from + i) (position is_free (pages_between from to pages))
 
+-- how many pages a cluster has; the last one of an area may be cut short
+abbrev pub cluster_size : ℕ
+cluster_size = 256
+
 -- a cluster's first page
 abbrev pub start_of : ℕ → ℕ
-start_of c = 256 * c
+start_of c = cluster_size * c
 
 -- the page after its last
 abbrev pub end_of : ℕ → ℕ
-end_of c = 256 * c + 256
+end_of c = cluster_size * c + cluster_size
 
 -- whether a page of the cluster is free
 abbrev pub has_free : List Page → ℕ → Bool
@@ -54,40 +61,51 @@ has_taken pages c = list_any is_taken (pages_between (start_of c) (end_of c) pag
 
 -- at first each page is free, except for the header, which is the first, and the bad ones
 abbrev pub at_first : List ℕ → ℕ → Page
-at_first bad p = if p == 0 || list_any (λ b. p == b) bad then Unusable else Free
+at_first bad p = if p == 0 || is_in p bad then Unusable else Free
 
 -- the n pages of an area at first
 abbrev pub pages_of : ℕ → List ℕ → List Page
 pages_of n bad = map (at_first bad) (range_with_len 0 n)
 
+-- how many clusters an area of n pages has; one more where the last would be empty
+abbrev pub cluster_count : ℕ → ℕ
+cluster_count n = n / cluster_size + 1
+
 -- the clusters with a free slot, rising
 abbrev pub clusters_of : List Page → List ℕ
-clusters_of pages = filter (has_free pages) (range_with_len 0 (length pages / 256 + 1))
+clusters_of pages = filter (has_free pages) (range_with_len 0 (cluster_count (length pages)))
 
 -- an area of n pages from which no slot is given yet
-abbrev pub fresh : ℕ → List ℕ → Choice
-fresh n bad = record { pages = pages_of n bad; free = clusters_of (pages_of n bad); current = None; cursor = 0 }
+abbrev pub fresh : ℕ → List ℕ → Slots
+fresh n bad = record {
+  pages = pages_of n bad;
+  free = clusters_of (pages_of n bad);
+  current = None;
+  cursor = 0;
+}
 
 -- a page is taken
-abbrev pub taking : Choice → ℕ → Choice
+abbrev pub taking : Slots → ℕ → Slots
 taking t p = record t { pages = slice_set t.pages p Taken }
 
 -- it is taken in this cluster, which is filled further behind it
-abbrev pub filling : Choice → ℕ → ℕ → Choice
+abbrev pub filling : Slots → ℕ → ℕ → Slots
 filling t c p = record t { pages = slice_set t.pages p Taken; current = Some c; cursor = p + 1 }
 
 -- first, the lowest free slot of the current cluster from the cursor on
-abbrev pub in_current : Choice → Option ℕ → Option (ℕ × Choice)
+abbrev pub in_current : Slots → Option ℕ → Option (ℕ × Slots)
 in_current t None = None
 in_current t (Some c) = option_map (λ p. (p, filling t c p)) (lowest t.pages t.cursor (end_of c))
 
 -- else, the lowest of the first free cluster, which becomes the current one
-abbrev pub in_next : Choice → List ℕ → Option (ℕ × Choice)
+abbrev pub in_next : Slots → List ℕ → Option (ℕ × Slots)
 in_next t [] = None
-in_next t (c ∷ rest) = option_map (λ p. (p, filling (record t { free = rest }) c p)) (lowest t.pages (start_of c) (end_of c))
+in_next t (c ∷ rest) =
+    option_map (λ p. (p, filling (record t { free = rest }) c p))
+    (lowest t.pages (start_of c) (end_of c))
 
 -- else, the lowest of the area
-abbrev pub anywhere : Choice → Option (ℕ × Choice)
+abbrev pub anywhere : Slots → Option (ℕ × Slots)
 anywhere t = option_map (λ p. (p, taking t p)) (lowest t.pages 0 (length t.pages))
 
 -- the first of two answers
@@ -96,12 +114,24 @@ first_some None other = other
 first_some (Some x) other = Some x
 
 -- the page that is given next, and what is left then
-abbrev pub take_slot : Choice → Option (ℕ × Choice)
+abbrev pub take_slot : Slots → Option (ℕ × Slots)
 take_slot t = first_some (in_current t t.current) (first_some (in_next t t.free) (anywhere t))
 
 -- a call gave what it should, and left all as it was where that is nothing
-abbrev pub Gave : Option (ℕ × Choice) → Choice → Option ℕ → Choice → Type 0
-Gave wanted old result new = MatchOption result ((wanted ≡ None) × (new ≡ old)) (λ p. wanted ≡ Some (p, new))
+abbrev pub Gave : Option (ℕ × Slots) → Slots → Option ℕ → Slots → Type 0
+Gave wanted old result new =
+    MatchOption result ((wanted ≡ None) × (new ≡ old)) (λ p. wanted ≡ Some (p, new))
+
+-- a slot that was free is taken now: one fewer is free, and no other page changes
+abbrev pub Takes : List Page → ℕ → List Page → Type 0
+Takes old p new =
+    (page_at old p ≡ Free) × (page_at new p ≡ Taken)
+    × (new ≡ slice_set old p Taken) × (count_by is_free new + 1 ≡ count_by is_free old)
+
+-- a slot is free now: one more is free, and no other page changes
+abbrev pub Returns : List Page → ℕ → List Page → Type 0
+Returns old p new =
+    (new ≡ slice_set old p Free) × (count_by is_free new ≡ count_by is_free old + 1)
 
 -- the current cluster, unless it is this one
 abbrev pub unless : ℕ → Option ℕ → Option ℕ
@@ -109,12 +139,14 @@ unless c None = None
 unless c (Some d) = if c == d then None else Some d
 
 -- a cluster from which all slots came back goes to the end of the list
-abbrev pub emptied : Choice → ℕ → Choice
+abbrev pub emptied : Slots → ℕ → Slots
 emptied t c = record t { free = t.free ++ c ∷ []; current = unless c t.current }
 
 -- a slot is given back
-abbrev pub give_slot : Choice → ℕ → Choice
-give_slot t p = let t' = record t { pages = slice_set t.pages p Free } in if has_taken t'.pages (p / 256) then t' else emptied t' (p / 256)
+abbrev pub give_slot : Slots → ℕ → Slots
+give_slot t p =
+    let t' = record t { pages = slice_set t.pages p Free } in
+    if has_taken t'.pages (p / cluster_size) then t' else emptied t' (p / cluster_size)
 
 -- the test that a flag stands
 abbrev pub itself : Bool → Bool
@@ -123,26 +155,33 @@ itself b = b
 -- a cluster that is being filled isn't free, and the cursor stands in it or at its end
 abbrev pub Fills : List Bool → ℕ → ℕ → Option ℕ → Type 0
 Fills flags count mark None = Unit {0}
-Fills flags count mark (Some c) = (slice_index_or flags c true ≡ true) × (start_of c ≤ mark) × (mark ≤ end_of c) × (mark ≤ count)
+Fills flags count mark (Some c) =
+    (slice_index_or flags c true ≡ true) × (start_of c ≤ mark) × (mark ≤ end_of c) × (mark ≤ count)
 
 -- no page of a cluster that is marked as full is free
 abbrev pub AreFull : List Page → List Bool → Type 0
-AreFull pages marks = (p : ℕ) → slice_index_or marks (p / 256) false ≡ true → is_free (page_at pages p) ≡ false
+AreFull pages marks =
+    (p : ℕ) → slice_index_or marks (p / cluster_size) false ≡ true
+    → is_free (page_at pages p) ≡ false
 
--- the parts of `Clusters` fit together: a flag for each cluster that isn't free, room for all in the list, and the number of free slots
-pub record IsWhole (pages : List Page) (spare : ℕ) (frees : List ℕ) (frees_len frees_room : ℕ) (flags marks : List Bool) (filled : Option ℕ) (mark : ℕ) : Type 0 where
+-- the parts of `Clusters` fit together: a flag for each cluster that isn't free, room for all in
+-- the list, and the number of free slots
+pub record IsWhole (pages : List Page) (spare : ℕ) (frees : List ℕ) (frees_len frees_room : ℕ)
+    (flags marks : List Bool) (filled : Option ℕ) (mark : ℕ) : Type 0 where
   pub few : length pages < 2 ^ 32
   pub left : spare ≡ count_by is_free pages
-  pub busy : length flags ≡ length pages / 256 + 1
+  pub busy : length flags ≡ cluster_count (length pages)
   pub len : frees_len ≡ length frees
   pub room : length flags ≤ frees_room
   -- each cluster is flagged or stands once in the list
   pub total : length frees + count_by itself flags ≡ length flags
   pub once : (c : ℕ) → count_by (λ d. c == d) frees ≡ (if slice_index_or flags c true then 0 else 1)
   -- one with a taken slot is flagged
-  pub held : (p : ℕ) → is_taken (page_at pages p) ≡ true → slice_index_or flags (p / 256) true ≡ true
+  pub held : (p : ℕ) → is_taken (page_at pages p) ≡ true
+      → slice_index_or flags (p / cluster_size) true ≡ true
   -- one without the flag has a free slot
-  pub fit : (c : ℕ) → slice_index_or flags c true ≡ false → (p : ℕ) × (p / 256 ≡ c) × (is_free (page_at pages p) ≡ true)
-  pub marked : length marks ≡ length pages / 256 + 1
+  pub fit : (c : ℕ) → slice_index_or flags c true ≡ false
+      → (p : ℕ) × (p / cluster_size ≡ c) × (is_free (page_at pages p) ≡ true)
+  pub marked : length marks ≡ cluster_count (length pages)
   pub full : AreFull pages marks
   pub fills : Fills flags (length pages) mark filled
