@@ -1,6 +1,8 @@
-"""What the gate's own checks share: the program, a run of it, what documents show, and how a failure is told.
+"""What the gate's own checks share: the program, a run of it, what documents show, and how a
+failure is told.
 
-Each check is called as `.ci/NAME [PROGRAM]`; the program is the proved one that `rt ci` left, unless another is named.
+Each check is called as `.ci/NAME [PROGRAM]`; the program is the proved one that `rt ci` left,
+unless another is named.
 """
 import difflib
 import os
@@ -17,9 +19,14 @@ class Check:
     def __init__(self, name):
         self.name, self.passed, self.failed = name, 0, 0
         os.chdir(ROOT)
-        self.program = os.path.abspath(sys.argv[1]) if len(sys.argv) > 1 else f"{ROOT}/crates/avsim/out/avsim"
+        self.program = (
+            os.path.abspath(sys.argv[1]) if len(sys.argv) > 1 else f"{ROOT}/crates/avsim/out/avsim"
+        )
         if not os.access(self.program, os.X_OK):
-            print(f"{name}: FAILED: there is no program {self.program}: `rt ci` or `./avsim build` makes it")
+            print(
+                f"{name}: FAILED: there is no program {self.program}: "
+                "`rt ci` or `./avsim build` makes it"
+            )
             sys.exit(1)
 
     def expect(self, what, given, wanted):
@@ -30,7 +37,9 @@ class Check:
         self.failed += 1
         print(f"{self.name}: FAILED: {what}")
         lines = [it if isinstance(it, str) else repr(it) for it in (wanted, given)]
-        for line in difflib.unified_diff(*(it.splitlines() for it in lines), "wanted", "given", lineterm="", n=2):
+        for line in difflib.unified_diff(
+            *(it.splitlines() for it in lines), "wanted", "given", lineterm="", n=2
+        ):
             print(f"    {line}")
         if lines[0].splitlines() == lines[1].splitlines():
             print("    they differ only in how a line ends")
@@ -42,7 +51,9 @@ class Check:
 
 
 def run(program, words, given=b"", **how):
-    """Runs the program: its status, standard output and standard error. `given` are the bytes of standard input."""
+    """Runs the program: its status, standard output and standard error. `given` are the bytes of
+    standard input.
+    """
     how.setdefault("stdout", subprocess.PIPE)
     if "stdin" not in how:
         how["input"] = given
@@ -57,7 +68,8 @@ def replies_of(transcript):
 
 
 class Session:
-    """A session as the documents show it, in a block of code: `$ avsim run FRAMES`, lines behind `> `, and each one's reply below it.
+    """A session as the documents show it, in a block of code: `$ avsim run FRAMES`, lines behind
+    `> `, and each one's reply below it.
 
     A later block that begins with `> ` goes on with it.
     """

@@ -14,21 +14,9 @@ use Rattle.av_anon.proofs.Words.{rising_more}
 none_some : {v : ℕ} → ◌≡◌ {A = Option ℕ} None (Some v) → ⊥
 none_some e = cc
 
--- what is lent is some area's own
-lent_is : (areas : ℕ → Option Area) (chain : ℕ → List ℕ) (area : Area) (near : Option ℕ) (v : ℕ) → lent areas chain area near ≡ Some v → (n : ℕ) × (own_of (areas n) ≡ Some v)
-lent_is areas chain area None v h = absurd (none_some h)
-lent_is areas chain area (Some n) v h = (n, by_area (areas n) h)
-  where
-    by_test : (b : Bool) (o : Option ℕ) → cond b o None ≡ Some v → o ≡ Some v
-    by_test true o h = h
-    by_test false o h = absurd (none_some h)
-
-    by_area : (o : Option Area) → lent_by (length (chain n)) area o ≡ Some v → own_of o ≡ Some v
-    by_area None h = absurd (none_some h)
-    by_area (Some other) h = by_test (is_reusable area other (length (chain n))) other.anon h
-
--- and that area's chain has one node
-one_node : (areas : ℕ → Option Area) (chain : ℕ → List ℕ) (area : Area) (near : Option ℕ) (v : ℕ) → lent areas chain area near ≡ Some v → (n : ℕ) × (own_of (areas n) ≡ Some v) × (length (chain n) ≡ 1)
+-- what is lent is the own anon_vma of an area whose chain has one node
+one_node : (areas : ℕ → Option Area) (chain : ℕ → List ℕ) (area : Area) (near : Option ℕ) (v : ℕ) → lent areas chain area near ≡ Some v
+    → (n : ℕ) × (own_of (areas n) ≡ Some v) × (length (chain n) ≡ 1)
 one_node areas chain area None v h = absurd (none_some h)
 one_node areas chain area (Some n) v h = by_area (areas n) refl h
   where
@@ -49,19 +37,14 @@ one_node areas chain area (Some n) v h = by_area (areas n) refl h
         let both = by_test (is_reusable area other (length (chain n))) other.anon h in
         (n, ap own_of e ∙ both.1, one (length (chain n)) _ both.0)
 
-pub one_node_near : (areas : ℕ → Option Area) (chain : ℕ → List ℕ) (area : Area) (before after : Option ℕ) (v : ℕ) → lent_near areas chain area before after ≡ Some v → (n : ℕ) × (own_of (areas n) ≡ Some v) × (length (chain n) ≡ 1)
+pub one_node_near : (areas : ℕ → Option Area) (chain : ℕ → List ℕ) (area : Area) (before after : Option ℕ) (v : ℕ)
+    → lent_near areas chain area before after ≡ Some v → (n : ℕ) × (own_of (areas n) ≡ Some v) × (length (chain n) ≡ 1)
 one_node_near areas chain area before after v h = by (lent areas chain area after) refl h
   where
-    by : (o : Option ℕ) → lent areas chain area after ≡ o → or_else o (lent areas chain area before) ≡ Some v → (n : ℕ) × (own_of (areas n) ≡ Some v) × (length (chain n) ≡ 1)
+    by : (o : Option ℕ) → lent areas chain area after ≡ o → or_else o (lent areas chain area before) ≡ Some v
+        → (n : ℕ) × (own_of (areas n) ≡ Some v) × (length (chain n) ≡ 1)
     by None e h = one_node areas chain area before v h
     by (Some u) e h = one_node areas chain area after v (e ∙ h)
-
-pub lent_near_is : (areas : ℕ → Option Area) (chain : ℕ → List ℕ) (area : Area) (before after : Option ℕ) (v : ℕ) → lent_near areas chain area before after ≡ Some v → (n : ℕ) × (own_of (areas n) ≡ Some v)
-lent_near_is areas chain area before after v h = by (lent areas chain area after) refl h
-  where
-    by : (o : Option ℕ) → lent areas chain area after ≡ o → or_else o (lent areas chain area before) ≡ Some v → (n : ℕ) × (own_of (areas n) ≡ Some v)
-    by None e h = lent_is areas chain area before v h
-    by (Some u) e h = lent_is areas chain area after v (e ∙ h)
 
 pub kin_chain : (o : Option ℕ) (f : Family) → (prepared_kin o f).chain ≡ f.chain
 kin_chain None f = refl

@@ -1,13 +1,13 @@
 -- An area leaves its anon_vmas one after another.
-use Rattle.std.proofs.Common.{◌≡◌, ℕ, ◌+◌, ◌-◌, Bool, true, false, cond, ◌&&◌, ◌==◌, Option, Some, None, List, [], ◌∷◌, ◌++◌, refl, sym, ap, ◌∙◌, arith, inl, inr, eq-eqb, ne_eqb}
+use Rattle.std.proofs.Common.{◌≡◌, ℕ, ◌+◌, ◌-◌, Bool, true, false, cond, ◌&&◌, Option, Some, None, List, [], ◌∷◌, ◌++◌, refl, sym, ap, ◌∙◌, arith, inl, inr, eq-eqb, ne_eqb}
 use Rattle.std.specs.Prelude.{option_map}
 use Rattle.std.proofs.lemmas.Bool.{cases_eq}
-use Rattle.av_base.specs.Words.{is_in, how_many, with_at}
+use Rattle.av_base.specs.Words.{is_in, how_many}
 use Rattle.av_anon.specs.declared.infos.Info.{Info}
 use Rattle.av_anon.specs.Infos.{less_children, with_info, without_children}
 use Rattle.av_anon.specs.Order.{is_child}
 use Rattle.av_anon.specs.Unlink.{destroyed, destroyed_by, has_no_other, info_without}
-use Rattle.av_anon.proofs.Words.{with_at-here, with_at-other, in_more, in_as_before, how_many-more}
+use Rattle.av_anon.proofs.Words.{with_at-other, in_more, in_as_before, how_many-more}
 
 -- what is left of one
 abbrev left : Bool → ℕ → Option Info → Option Info
@@ -29,7 +29,8 @@ one_less false n (Some i) =
 none_less : (b : Bool) (n : ℕ) (o : Option Info) → left b n o ≡ left b (n + 0) o
 none_less b n o = let e : n ≡ n + 0 = omega arith in ap (λ k. left b k o) e
 
-module _ (a v : ℕ) (users : ℕ → List ℕ) (gone : List ℕ) (info now : ℕ → Option Info) (absent : is_in v gone ≡ false) (now_is : (w : ℕ) → now w ≡ info_without a users gone info w) where
+module _ (a v : ℕ) (users : ℕ → List ℕ) (gone : List ℕ) (info now : ℕ → Option Info) (absent : is_in v gone ≡ false) (now_is : (w : ℕ)
+    → now w ≡ info_without a users gone info w) where
   -- u goes with the area and is a child of w
   abbrev falls : ℕ → ℕ → Bool
   falls w u = has_no_other a users u && is_child w (info u)
@@ -37,19 +38,22 @@ module _ (a v : ℕ) (users : ℕ → List ℕ) (gone : List ℕ) (info now : �
   count : (w : ℕ) (b : Bool) → falls w v ≡ b → how_many (falls w) (gone ++ v ∷ []) ≡ how_many (falls w) gone + cond b 1 0
   count w b e = how_many-more (falls w) gone v ∙ ap (λ t. how_many (falls w) gone + cond t 1 0) e
 
-  after_other : (w : ℕ) (b : Bool) → falls w v ≡ b → (w ≡ v → ⊥) → left (is_in w gone && has_no_other a users w) (how_many (falls w) gone + cond b 1 0) (info w) ≡ info_without a users (gone ++ v ∷ []) info w
+  after_other : (w : ℕ) (b : Bool) → falls w v ≡ b → (w ≡ v → ⊥)
+      → left (is_in w gone && has_no_other a users w) (how_many (falls w) gone + cond b 1 0) (info w) ≡ info_without a users (gone ++ v ∷ []) info w
   after_other w b e ne = sym (
-    ap (λ t. left (t && has_no_other a users w) (how_many (falls w) (gone ++ v ∷ [])) (info w)) (in_as_before w v gone ne)
-    ∙ ap (λ n. left (is_in w gone && has_no_other a users w) n (info w)) (count w b e))
+      ap (λ t. left (t && has_no_other a users w) (how_many (falls w) (gone ++ v ∷ [])) (info w)) (in_as_before w v gone ne)
+      ∙ ap (λ n. left (is_in w gone && has_no_other a users w) n (info w)) (count w b e))
 
   -- it has another user: nothing is destroyed
   pub one_stays : has_no_other a users v ≡ false → (w : ℕ) → now w ≡ info_without a users (gone ++ v ∷ []) info w
   one_stays stays w = elim (cases_eq w v) [
     | inl e ↦
         let here : has_no_other a users w ≡ false = ap (has_no_other a users) e ∙ stays in
-        now_is w ∙ ap (λ t. left (is_in w gone && t) (how_many (falls w) gone) (info w)) here ∙ ap (λ t. left t (how_many (falls w) gone) (info w)) (never (is_in w gone))
+        now_is w ∙ ap (λ t. left (is_in w gone && t) (how_many (falls w) gone) (info w)) here
+        ∙ ap (λ t. left t (how_many (falls w) gone) (info w)) (never (is_in w gone))
         ∙ none_less false (how_many (falls w) gone) (info w) ∙ ap (λ n. left false n (info w)) (sym (count w false (no_fall w)))
-        ∙ sym (ap (λ t. left (is_in w (gone ++ v ∷ []) && t) (how_many (falls w) (gone ++ v ∷ [])) (info w)) here ∙ ap (λ t. left t (how_many (falls w) (gone ++ v ∷ [])) (info w)) (never (is_in w (gone ++ v ∷ []))))
+        ∙ sym (ap (λ t. left (is_in w (gone ++ v ∷ []) && t) (how_many (falls w) (gone ++ v ∷ [])) (info w)) here
+        ∙ ap (λ t. left t (how_many (falls w) (gone ++ v ∷ [])) (info w)) (never (is_in w (gone ++ v ∷ []))))
     | inr ne ↦ now_is w ∙ none_less (is_in w gone && has_no_other a users w) (how_many (falls w) gone) (info w) ∙ after_other w false (no_fall w) ne
   ]
     where
@@ -90,7 +94,8 @@ module _ (a v : ℕ) (users : ℕ → List ℕ) (gone : List ℕ) (info now : �
             | inr ne ↦ with_at-other v None (with_info i.parent less_children now) w ne ∙ elim (cases_eq w i.parent) [
               | inl h ↦
                   let child : falls w v ≡ true = fall (Some i) e ∙ eq-eqb i.parent w (sym h) in
-                  ap (λ b. cond b (option_map less_children (now i.parent)) (now w)) (eq-eqb w i.parent h) ∙ ap (λ p. option_map less_children (now p)) (sym h) ∙ ap (option_map less_children) (now_is w)
+                  ap (λ b. cond b (option_map less_children (now i.parent)) (now w)) (eq-eqb w i.parent h)
+                  ∙ ap (λ p. option_map less_children (now p)) (sym h) ∙ ap (option_map less_children) (now_is w)
                   ∙ one_less (is_in w gone && has_no_other a users w) (how_many (falls w) gone) (info w) ∙ after_other w true child ne
               | inr other ↦
                   let child : falls w v ≡ false = fall (Some i) e ∙ ne_eqb i.parent w (λ h. other (sym h)) in

@@ -1,18 +1,17 @@
 -- Chain order where an area leaves its anon_vmas.
-use Rattle.std.proofs.Common.{◌≡◌, ℕ, zero, suc, ◌+◌, ◌-◌, ◌<◌, ◌≤◌, Bool, true, false, cond, ◌&&◌, ◌||◌, ◌==◌, IsSome, Option, Some, None, List, [], ◌∷◌, ◌++◌, refl, sym, ap, ◌∙◌, subst, arith, inl, inr, eq-eqb, ne_eqb}
+use Rattle.std.proofs.Common.{◌≡◌, ℕ, zero, suc, ◌+◌, ◌-◌, ◌<◌, Bool, true, false, cond, ◌&&◌, ◌||◌, ◌==◌, IsSome, Option, Some, None, List, [], ◌∷◌, refl, sym, ap, ◌∙◌, subst, arith, inl, inr, eq-eqb, ne_eqb}
 use Rattle.std.specs.Prelude.{option_map}
 use Rattle.std.proofs.lemmas.Bool.{cases_eq, eqb-true}
 use Rattle.av_base.specs.Words.{is_in, how_many, numbers, with_at}
-use Rattle.av_chain.specs.Links.{left_by_all, one_if, without, AreMutual}
-use Rattle.av_arena.specs.Order.{AllOf}
+use Rattle.av_chain.specs.Links.{left_by_all, one_if, without}
 use Rattle.av_interval.specs.declared.span.Span.{Span}
 use Rattle.av_vma.specs.declared.area.Area.{Area}
 use Rattle.av_anon.specs.declared.infos.Info.{Info}
 use Rattle.av_anon.specs.Infos.{less_active, with_info, without_children}
 use Rattle.av_anon.specs.Anons.{give_own, is_empty, own_of, with_own, Family, IsRising}
-use Rattle.av_anon.specs.Order.{IsArea, IsChain, IsCounted, IsInOrder, is_child, owns}
+use Rattle.av_anon.specs.Order.{IsArea, IsChain, IsInOrder, is_child, owns}
 use Rattle.av_anon.specs.Spans.{GoWithLinks}
-use Rattle.av_anon.specs.Unlink.{has_no_other, info_without, left_all, unlinked}
+use Rattle.av_anon.specs.Unlink.{has_no_other, info_without, unlinked}
 use Rattle.av_chain.proofs.TwoMaps.{without_none}
 use Rattle.av_anon.proofs.Words.{with_at-here, with_at-other, how_many-more}
 use Rattle.av_anon.proofs.OrderLemmas.{some_of, some_is, chain_kept_on, how_many-below, none_in, numbers_more, rising_absent}
@@ -35,7 +34,8 @@ how_many-without t a (x ∷ xs) h = elim (cases_eq a x) [
 ]
 
 -- two tests that agree but at a, where the second fails
-how_many-but : (t t' : ℕ → Bool) (a : ℕ) (xs : List ℕ) → ((b : ℕ) → (b ≡ a → ⊥) → t b ≡ t' b) → t' a ≡ false → how_many t xs ≡ how_many t' xs + cond (t a) (how_many (λ b. a == b) xs) 0
+how_many-but : (t t' : ℕ → Bool) (a : ℕ) (xs : List ℕ) → ((b : ℕ) → (b ≡ a → ⊥) → t b ≡ t' b) → t' a ≡ false
+    → how_many t xs ≡ how_many t' xs + cond (t a) (how_many (λ b. a == b) xs) 0
 how_many-but t t' a [] same h = by (t a)
   where
     by : (b : Bool) → how_many t [] ≡ how_many t' [] + cond b (how_many (λ b. a == b) []) 0
@@ -43,10 +43,12 @@ how_many-but t t' a [] same h = by (t a)
     by false = omega arith
 how_many-but t t' a (x ∷ xs) same h = by (t a) refl (how_many-but t t' a xs same h)
   where
-    by : (b : Bool) → t a ≡ b → how_many t xs ≡ how_many t' xs + cond b (how_many (λ c. a == c) xs) 0 → how_many t (x ∷ xs) ≡ how_many t' (x ∷ xs) + cond b (how_many (λ c. a == c) (x ∷ xs)) 0
+    by : (b : Bool) → t a ≡ b → how_many t xs ≡ how_many t' xs + cond b (how_many (λ c. a == c) xs) 0
+        → how_many t (x ∷ xs) ≡ how_many t' (x ∷ xs) + cond b (how_many (λ c. a == c) (x ∷ xs)) 0
     by true e rest = elim (cases_eq x a) [
       | inl i ↦
-          let one : flag (t x) ≡ 1 = ap flag (ap t i ∙ e) in let none : flag (t' x) ≡ 0 = ap flag (ap t' i ∙ h) in let here : flag (a == x) ≡ 1 = ap flag (eq-eqb a x (sym i)) in
+          let one : flag (t x) ≡ 1 = ap flag (ap t i ∙ e) in let none : flag (t' x) ≡ 0 = ap flag (ap t' i
+          ∙ h) in let here : flag (a == x) ≡ 1 = ap flag (eq-eqb a x (sym i)) in
           omega (arith, rest, one, none, here)
       | inr ne ↦
           let eq : flag (t x) ≡ flag (t' x) = ap flag (same x ne) in let other : flag (a == x) ≡ 0 = ap flag (ne_eqb a x (λ i. ne (sym i))) in
@@ -70,7 +72,8 @@ how_many-point t x (suc n) lt =
     ap (how_many test) (numbers_more 0 n) ∙ how_many-more test (numbers 0 n) (0 + n) ∙ ap (λ m. how_many test (numbers 0 n) + flag (test m)) e
     ∙ elim (cases_eq n x) [
       | inl i ↦
-          let none : how_many test (numbers 0 n) ≡ 0 = how_many-below test (λ _. false) 0 n (λ w lt'. ap (λ b. b && t w) (ne_eqb w x (λ h. absurd (omega arith)))) ∙ nothing (numbers 0 n) in
+          let none : how_many test (numbers 0 n) ≡ 0 = how_many-below test (λ _. false) 0 n (λ w lt'. ap (λ b. b && t w) (ne_eqb w x (λ h. absurd
+          (omega arith)))) ∙ nothing (numbers 0 n) in
           let here : flag (test n) ≡ flag (t x) = ap (λ b. flag (b && t n)) (eq-eqb n x i) ∙ ap (λ m. flag (t m)) i in
           omega (arith, none, here)
       | inr ne ↦
@@ -84,7 +87,8 @@ how_many-point t x (suc n) lt =
     nothing (x ∷ xs) = let rest = nothing xs in omega arith
 
 -- the members of a rising list, counted one by one
-members-counted : (t : ℕ → Bool) (xs : List ℕ) (n : ℕ) → IsRising xs → ((u : ℕ) → is_in u xs ≡ true → u < n) → how_many t xs ≡ how_many (λ u. is_in u xs && t u) (numbers 0 n)
+members-counted : (t : ℕ → Bool) (xs : List ℕ) (n : ℕ) → IsRising xs → ((u : ℕ) → is_in u xs ≡ true → u < n)
+    → how_many t xs ≡ how_many (λ u. is_in u xs && t u) (numbers 0 n)
 members-counted t [] n rising below = sym (nothing (numbers 0 n))
   where
     nothing : (xs : List ℕ) → how_many (λ _. false) xs ≡ 0
@@ -106,7 +110,8 @@ members-counted t (x ∷ xs) n rising below =
     parts : (u : ℕ) → flag (is_in u (x ∷ xs) && t u) ≡ flag ((u == x) && t u) + flag (is_in u xs && t u)
     parts u = elim (cases_eq u x) [
       | inl e ↦
-          let a = ap (λ b. flag ((b || is_in u xs) && t u)) (eq-eqb u x e) in let b = ap (λ b. flag (b && t u)) (eq-eqb u x e) in let c = ap (λ b. flag (b && t u)) (absent u e) in
+          let a = ap (λ b. flag ((b || is_in u xs) && t u)) (eq-eqb u x e) in let b = ap (λ b. flag (b && t u)) (eq-eqb u x e) in let c = ap
+          (λ b. flag (b && t u)) (absent u e) in
           omega (arith, a, b, c)
       | inr ne ↦
           let a = ap (λ b. flag ((b || is_in u xs) && t u)) (ne_eqb u x ne) in let b = ap (λ b. flag (b && t u)) (ne_eqb u x ne) in
@@ -143,7 +148,8 @@ some_left : (b : ℕ) (xs : List ℕ) → how_many (λ c. b == c) xs ≡ 1 → i
 some_left b [] h = absurd (omega arith)
 some_left b (x ∷ xs) h = refl
 
-module _ (areas : ℕ → Option Area) (f : Family) (spans : ℕ → List Span) (o : IsInOrder areas f spans) (a own : ℕ) (A : Area) (isA : areas a ≡ Some A) (is_own : A.anon ≡ Some own) where
+module _ (areas : ℕ → Option Area) (f : Family) (spans : ℕ
+    → List Span) (o : IsInOrder areas f spans) (a own : ℕ) (A : Area) (isA : areas a ≡ Some A) (is_own : A.anon ≡ Some own) where
   abbrev info0 : ℕ → Option Info
   info0 = with_info own less_active f.info
 
@@ -163,11 +169,19 @@ module _ (areas : ℕ → Option Area) (f : Family) (spans : ℕ → List Span) 
   own_there b ne = ap own_of (with_at-other a (with_own None (areas a)) areas b ne)
 
   -- what is kept of one before, but for the own one's count
-  before : (u : ℕ) (i : Info) → f.info u ≡ Some i → (j : Info) × (info0 u ≡ Some j) × (j.root ≡ i.root) × (j.parent ≡ i.parent) × (j.children ≡ i.children) × (j.active ≡ i.active - flag (own == u))
+  before : (u : ℕ) (i : Info) → f.info u ≡ Some i
+      → (j : Info) × (info0 u ≡ Some j) × (j.root ≡ i.root) × (j.parent ≡ i.parent) × (j.children ≡ i.children) × (j.active ≡ i.active - flag (own == u))
   before u i e = elim (cases_eq u own) [
     | inl h ↦
-        let one : i.active - 1 ≡ i.active - flag (own == u) = (let f1 : flag (own == u) ≡ 1 = ap flag (eq-eqb own u (sym h)) in omega (arith, f1)) in
-        (less_active i, ap (λ b. cond b (option_map less_active (f.info own)) (f.info u)) (eq-eqb u own h) ∙ ap (λ w. option_map less_active (f.info w)) (sym h) ∙ ap (option_map less_active) e, refl, refl, refl, one)
+        let one : i.active - 1 ≡ i.active - flag (own == u) = (let f1 : flag (own == u) ≡ 1 = ap flag (eq-eqb own u (sym h)) in omega (arith, f1)) in (
+          less_active i,
+          ap (λ b. cond b (option_map less_active (f.info own)) (f.info u)) (eq-eqb u own h)
+              ∙ ap (λ w. option_map less_active (f.info w)) (sym h) ∙ ap (option_map less_active) e,
+          refl,
+          refl,
+          refl,
+          one,
+        )
     | inr ne ↦
         let none : i.active ≡ i.active - flag (own == u) = (let f0 : flag (own == u) ≡ 0 = ap flag (ne_eqb own u (λ h. ne (sym h))) in omega (arith, f0)) in
         (i, with_at-other own (option_map less_active (f.info own)) f.info u ne ∙ e, refl, refl, refl, none)
@@ -175,7 +189,8 @@ module _ (areas : ℕ → Option Area) (f : Family) (spans : ℕ → List Span) 
 
   was : (u : ℕ) → IsSome (info0 u) → IsSome (f.info u)
   was u h = elim (cases_eq u own) [
-    | inl e ↦ of_map (f.info u) (subst IsSome (ap (λ b. cond b (option_map less_active (f.info own)) (f.info u)) (eq-eqb u own e) ∙ ap (λ w. option_map less_active (f.info w)) (sym e)) h)
+    | inl e ↦ of_map (f.info u) (subst IsSome (ap (λ b. cond b (option_map less_active (f.info own)) (f.info u)) (eq-eqb u own e)
+        ∙ ap (λ w. option_map less_active (f.info w)) (sym e)) h)
     | inr ne ↦ subst IsSome (with_at-other own (option_map less_active (f.info own)) f.info u ne) h
   ]
     where
@@ -209,10 +224,19 @@ module _ (areas : ℕ → Option Area) (f : Family) (spans : ℕ → List Span) 
       of_map None h = h
       of_map (Some i) h = refl
 
-  kept_of : (u : ℕ) → goes u ≡ false → (m : Info) → f.info u ≡ Some m → (i : Info) × (info' u ≡ Some i) × (i.root ≡ m.root) × (i.parent ≡ m.parent) × (i.children ≡ m.children - n_of u) × (i.active ≡ m.active - flag (own == u))
+  kept_of : (u : ℕ) → goes u ≡ false → (m : Info) → f.info u ≡ Some m
+      → (i : Info) × (info' u ≡ Some i) × (i.root ≡ m.root) × (i.parent ≡ m.parent) × (i.children ≡ m.children - n_of u) ×
+      (i.active ≡ m.active - flag (own == u))
   kept_of u g m e =
-      let j = before u m e in
-      (without_children (n_of u) j.0, ap (λ b. cond b None (option_map (without_children (n_of u)) (info0 u))) g ∙ ap (option_map (without_children (n_of u))) j.1, j.2, j.3, ap (λ k. k - n_of u) j.4, j.5)
+      let j = before u m e in (
+        without_children (n_of u) j.0,
+        ap (λ b. cond b None (option_map (without_children (n_of u)) (info0 u))) g
+            ∙ ap (option_map (without_children (n_of u))) j.1,
+        j.2,
+        j.3,
+        ap (λ k. k - n_of u) j.4,
+        j.5,
+      )
 
   -- a member of another area's chain stays
   member_stays : (b u : ℕ) → (b ≡ a → ⊥) → is_in u (f.chain b) ≡ true → goes u ≡ false
@@ -237,10 +261,12 @@ module _ (areas : ℕ → Option Area) (f : Family) (spans : ℕ → List Span) 
   children_left : (u : ℕ) → how_many (λ w. is_child u (f.info w)) (numbers 0 f.next) ≡ how_many (λ w. is_child u (info' w)) (numbers 0 f.next) + n_of u
   children_left u =
       how_many-split (λ w. is_child u (f.info w)) (λ w. is_child u (info' w)) (λ w. is_in w (f.chain a) && falls u w) (numbers 0 f.next) (λ w.
-        ap flag (sym (child_same own f.info u w)) ∙ parts (is_in w (f.chain a)) (has_no_other a f.users w) (n_of w) (info0 w))
-      ∙ ap (λ k. how_many (λ w. is_child u (info' w)) (numbers 0 f.next) + k) (sym (members-counted (falls u) (f.chain a) f.next (o.chains a).rising (o.chains a).made))
+      ap flag (sym (child_same own f.info u w)) ∙ parts (is_in w (f.chain a)) (has_no_other a f.users w) (n_of w) (info0 w))
+      ∙ ap (λ k. how_many (λ w. is_child u (info' w)) (numbers 0 f.next) + k) (sym (members-counted (falls u) (f.chain a) f.next (o.chains a).rising
+      (o.chains a).made))
     where
-      parts : (x y : Bool) (n : ℕ) (m : Option Info) → flag (is_child u m) ≡ flag (is_child u (cond (x && y) None (option_map (without_children n) m))) + flag (x && (y && is_child u m))
+      parts : (x y : Bool) (n : ℕ) (m : Option Info)
+          → flag (is_child u m) ≡ flag (is_child u (cond (x && y) None (option_map (without_children n) m))) + flag (x && (y && is_child u m))
       parts true true n None = omega arith
       parts true true n (Some i) = omega arith
       parts true false n None = omega arith
@@ -254,27 +280,32 @@ module _ (areas : ℕ → Option Area) (f : Family) (spans : ℕ → List Span) 
       let t' : ℕ → Bool = λ b. owns u (own_of (areas' b)) in
       let fails : t' a ≡ false = ap (owns u) own_here in
       how_many-but t t' a (f.users u) (λ b ne. ap (owns u) (sym (own_there b ne))) fails
-      ∙ ap (λ k. how_many t' (f.users u) + k) (ap (λ c. cond c (how_many (λ b. a == b) (f.users u)) 0) (ap (owns u) (ap own_of isA ∙ is_own)) ∙ once (own == u) refl)
+      ∙ ap (λ k. how_many t' (f.users u) + k) (ap (λ c. cond c (how_many (λ b. a == b) (f.users u)) 0) (ap (owns u) (ap own_of isA ∙ is_own))
+      ∙ once (own == u) refl)
       ∙ ap (λ k. k + flag (own == u)) (sym (how_many-without t' a (f.users u) fails) ∙ ap (how_many t') (sym (users_is u)))
     where
       once : (b : Bool) → (own == u) ≡ b → cond b (how_many (λ c. a == c) (f.users u)) 0 ≡ flag b
       once true h = o.inverse.inverse a u ∙ ap flag (ap (λ w. is_in w (f.chain a)) (sym (eqb-true own u h)) ∙ own_in)
       once false h = refl
 
-  pub left_keeps : (spans' : ℕ → List Span) → GoWithLinks (give_own a None areas) (with_at a [] f.chain) spans' → IsInOrder (give_own a None areas) (unlinked (Some own) a f) spans'
+  pub left_keeps : (spans' : ℕ → List Span) → GoWithLinks (give_own a None areas) (with_at a [] f.chain) spans'
+      → IsInOrder (give_own a None areas) (unlinked (Some own) a f) spans'
   left_keeps spans' spanned = record {
     chains = λ b. elim (cases_eq b a) [
       | inl e ↦ subst (λ m. IsChain info' f.next (own_of (areas' m)) (with_at a [] f.chain m)) (sym e)
-          (subst (λ w. IsChain info' f.next w (with_at a [] f.chain a)) (sym own_here) (subst (λ c. IsChain info' f.next None c) (sym (with_at-here a [] f.chain)) bare))
+          (subst (λ w. IsChain info' f.next w (with_at a [] f.chain a)) (sym own_here) (subst (λ c. IsChain info' f.next None c) (sym
+          (with_at-here a [] f.chain)) bare))
       | inr ne ↦ subst (λ w. IsChain info' f.next w (with_at a [] f.chain b)) (sym (own_there b ne))
           (subst (λ c. IsChain info' f.next (own_of (areas b)) c) (sym (with_at-other a [] f.chain b ne))
-            (chain_kept_on f.info info' f.next f.next (own_of (areas b)) (f.chain b) (λ u i h e. let k = kept_of u (member_stays b u ne h) i e in (k.0, k.1, k.2, k.3)) (omega arith) (o.chains b)))
+          (chain_kept_on f.info info' f.next f.next (own_of (areas b)) (f.chain b) (λ u i h e. let k = kept_of u (member_stays b u ne h) i e in
+          (k.0, k.1, k.2, k.3)) (omega arith) (o.chains b)))
     ];
     alike = λ b d v eb ed. elim (cases_eq b a) [
       | inl e ↦ absurd (gone (sym own_here ∙ ap (λ m. own_of (areas' m)) (sym e) ∙ eb))
       | inr nb ↦ elim (cases_eq d a) [
         | inl e ↦ absurd (gone (sym own_here ∙ ap (λ m. own_of (areas' m)) (sym e) ∙ ed))
-        | inr nd ↦ with_at-other a [] f.chain b nb ∙ o.alike b d v (sym (own_there b nb) ∙ eb) (sym (own_there d nd) ∙ ed) ∙ sym (with_at-other a [] f.chain d nd)
+        | inr nd ↦ with_at-other a [] f.chain b nb ∙ o.alike b d v (sym (own_there b nb) ∙ eb) (sym (own_there d nd) ∙ ed)
+            ∙ sym (with_at-other a [] f.chain d nd)
       ]
     ];
     counted = λ u i e.
@@ -291,7 +322,8 @@ module _ (areas : ℕ → Option Area) (f : Family) (spans : ℕ → List Span) 
         record { children = omega (arith, kids, all, left); active = omega (arith, acts, both, less) };
     inverse = record {
       inverse = λ b u. ap (how_many (λ c. b == c)) (users_is u) ∙ elim (cases_eq b a) [
-        | inl e ↦ ap (λ m. how_many (λ c. m == c) (without a (f.users u))) e ∙ none_without a (f.users u) ∙ sym (ap (λ m. one_if (is_in u (with_at a [] f.chain m))) e ∙ ap (λ c. one_if (is_in u c)) (with_at-here a [] f.chain))
+        | inl e ↦ ap (λ m. how_many (λ c. m == c) (without a (f.users u))) e ∙ none_without a (f.users u)
+            ∙ sym (ap (λ m. one_if (is_in u (with_at a [] f.chain m))) e ∙ ap (λ c. one_if (is_in u c)) (with_at-here a [] f.chain))
         | inr ne ↦ in_without a b (f.users u) ne ∙ o.inverse.inverse b u ∙ sym (ap (λ c. one_if (is_in u c)) (with_at-other a [] f.chain b ne))
       ];
       once = λ b u. elim (cases_eq b a) [
@@ -304,7 +336,8 @@ module _ (areas : ℕ → Option Area) (f : Family) (spans : ℕ → List Span) 
     spanned = spanned;
     areas_fit = λ b B e. elim (cases_eq b a) [
       | inl h ↦
-          let same : Some B ≡ Some (record A { anon = None }) = sym e ∙ ap (λ m. areas' m) h ∙ with_at-here a (with_own None (areas a)) areas ∙ ap (with_own None) isA in
+          let same : Some B ≡ Some (record A { anon = None }) = sym e ∙ ap (λ m. areas' m) h ∙ with_at-here a (with_own None (areas a)) areas
+          ∙ ap (with_own None) isA in
           subst IsArea (sym (some_is same)) (record { forward = (o.areas_fit a A isA).forward; small = (o.areas_fit a A isA).small })
       | inr ne ↦ o.areas_fit b B (sym (with_at-other a (with_own None (areas a)) areas b ne) ∙ e)
     ];

@@ -1,5 +1,5 @@
 -- Chain order where an anon_vma is made for an area.
-use Rattle.std.proofs.Common.{◌≡◌, ◌⊎◌, ℕ, suc, ◌+◌, ◌<◌, ◌≤◌, Bool, true, false, cond, ◌||◌, ◌==◌, IsSome, Option, Some, None, List, [], ◌∷◌, ◌++◌, refl, sym, ap, ◌∙◌, subst, arith, inl, inr, eq-eqb, ne_eqb}
+use Rattle.std.proofs.Common.{◌≡◌, ℕ, suc, ◌+◌, ◌<◌, Bool, true, false, cond, ◌||◌, ◌==◌, IsSome, Option, Some, None, List, [], ◌∷◌, ◌++◌, refl, sym, ap, ◌∙◌, subst, arith, inl, inr, eq-eqb, ne_eqb}
 use Rattle.std.specs.Prelude.{option_map}
 use Rattle.std.proofs.lemmas.Bool.{cases_eq}
 use Rattle.std.proofs.lemmas.List.Folds.{list_any-append}
@@ -85,29 +85,40 @@ module _ (areas : ℕ → Option Area) (f : Family) (spans : ℕ → List Span) 
       by (b ∷ bs) e = let lt = (o.chains b).made f.next (linked_to f.next b bs e) in absurd (omega arith)
 
   module _ (info1 : ℕ → Option Info) (R : Info) (alike1 : (u w : ℕ) → is_child u (info1 w) ≡ is_child u (f.info w)) where
-    children_made : (u : ℕ) → how_many (λ w. is_child u (with_at f.next (Some R) info1 w)) (numbers 0 (suc f.next)) ≡ how_many (λ w. is_child u (f.info w)) (numbers 0 f.next) + cond (R.parent == u) 1 0
+    children_made : (u : ℕ) → how_many (λ w. is_child u (with_at f.next (Some R) info1 w)) (numbers 0 (suc f.next)) ≡ how_many (λ w. is_child u
+        (f.info w)) (numbers 0 f.next) + cond (R.parent == u) 1 0
     children_made u =
         let t : ℕ → Bool = λ w. is_child u (with_at f.next (Some R) info1 w) in
         let e : 0 + f.next ≡ f.next = omega arith in
         ap (how_many t) (numbers_more 0 f.next) ∙ how_many-more t (numbers 0 f.next) (0 + f.next)
-        ∙ ap (λ k. k + cond (t (0 + f.next)) 1 0) (how_many-below t (λ w. is_child u (f.info w)) 0 f.next (λ w lt. ap (is_child u) (with_at-other f.next (Some R) info1 w (λ h. absurd (omega arith))) ∙ alike1 u w))
+        ∙ ap (λ k. k + cond (t (0 + f.next)) 1 0) (how_many-below t (λ w. is_child u (f.info w)) 0 f.next (λ w lt. ap (is_child u)
+        (with_at-other f.next (Some R) info1 w (λ h. absurd (omega arith))) ∙ alike1 u w))
         ∙ ap (λ n. how_many (λ w. is_child u (f.info w)) (numbers 0 f.next) + cond (t n) 1 0) e
         ∙ ap (λ m. how_many (λ w. is_child u (f.info w)) (numbers 0 f.next) + cond (is_child u m) 1 0) (with_at-here f.next (Some R) info1)
 
   module _ (a : ℕ) (A : Area) (isA : areas a ≡ Some A) (none : A.anon ≡ None) where
     -- what is the same for a root and for a child
-    made_keeps : (info1 : ℕ → Option Info) (R : Info) (vs : List ℕ) (spans' : ℕ → List Span) → ((u w : ℕ) → is_child u (info1 w) ≡ is_child u (f.info w)) → Extends f.info info1 → ((u : ℕ) → IsSome (info1 u) → IsSome (f.info u))
+    made_keeps : (info1 : ℕ → Option Info) (R : Info) (vs : List ℕ) (spans' : ℕ → List Span) → ((u w : ℕ)
+        → is_child u (info1 w) ≡ is_child u (f.info w)) → Extends f.info info1 → ((u : ℕ) → IsSome (info1 u) → IsSome (f.info u))
         → R.active ≡ 1 → R.children ≡ cond (R.parent == f.next) 1 0
-        → ((u : ℕ) (i j : Info) → (u ≡ f.next → ⊥) → f.info u ≡ Some i → info1 u ≡ Some j → (j.children ≡ i.children + cond (R.parent == u) 1 0) × (j.active ≡ i.active))
+        → ((u : ℕ) (i j : Info) → (u ≡ f.next → ⊥) → f.info u ≡ Some i → info1 u ≡ Some j
+        → (j.children ≡ i.children + cond (R.parent == u) 1 0) × (j.active ≡ i.active))
         → IsChain (with_at f.next (Some R) info1) (suc f.next) (Some f.next) vs
         → GoWithLinks (give_own a (Some f.next) areas) (with_at a vs f.chain) spans'
-        → IsInOrder (give_own a (Some f.next) areas) (joined a vs (record { next = suc f.next; info = with_at f.next (Some R) info1; chain = f.chain; users = f.users })) spans'
+        → IsInOrder (give_own a (Some f.next) areas) (joined a vs (record {
+          next = suc f.next;
+          info = with_at f.next
+              (Some R) info1;
+          chain = f.chain;
+          users = f.users;
+        })) spans'
     made_keeps info1 R vs spans' alike1 x1 back active children others mine spanned =
         joined_keeps areas f spans o a A isA none f.next vs (suc f.next) (with_at f.next (Some R) info1) spans' x (omega arith) mine
-            (λ b h. absurd (let lt = (o.chains b).made f.next ((o.chains b).own_in f.next h) in omega arith))
-            counted
-            (λ u h out. back u (subst IsSome (with_at-other f.next (Some R) info1 u (λ e. no (sym (mine.own_in f.next refl) ∙ ap (λ w. is_in w vs) (sym e) ∙ out))) h))
-            below spanned
+        (λ b h. absurd (let lt = (o.chains b).made f.next ((o.chains b).own_in f.next h) in omega arith))
+        counted
+        (λ u h out. back u (subst IsSome (with_at-other f.next (Some R) info1 u (λ e. no (sym (mine.own_in f.next refl)
+        ∙ ap (λ w. is_in w vs) (sym e) ∙ out))) h))
+        below spanned
       where
         no : true ≡ false → ⊥
         no e = cc
@@ -121,17 +132,26 @@ module _ (areas : ℕ → Option Area) (f : Family) (spans : ℕ → List Span) 
           | inr ne ↦ let lt = o.below u (back u (subst IsSome (with_at-other f.next (Some R) info1 u ne) h)) in omega arith
         ]
 
-        counted : (u : ℕ) (i : Info) → with_at f.next (Some R) info1 u ≡ Some i → IsCounted (give_own a (Some f.next) areas) (joined a vs (record { next = suc f.next; info = with_at f.next (Some R) info1; chain = f.chain; users = f.users })) u i
+        counted : (u : ℕ) (i : Info) → with_at f.next (Some R) info1 u ≡ Some i
+            → IsCounted (give_own a (Some f.next) areas) (joined a vs (record {
+              next = suc f.next;
+              info = with_at f.next
+                  (Some R) info1;
+              chain = f.chain;
+              users = f.users;
+            })) u i
         counted u i e = elim (cases_eq u f.next) [
           | inl h ↦
               let is : i ≡ R = same_some (sym e ∙ ap (λ b. cond b (Some R) (info1 u)) (eq-eqb u f.next h)) in
               let made = children_made info1 R alike1 u in
-              let zero : how_many (λ w. is_child u (f.info w)) (numbers 0 f.next) ≡ 0 = ap (λ n. how_many (λ w. is_child n (f.info w)) (numbers 0 f.next)) h ∙ childless in
+              let zero : how_many (λ w. is_child u (f.info w)) (numbers 0 f.next) ≡ 0 = ap (λ n. how_many (λ w. is_child n (f.info w))
+              (numbers 0 f.next)) h ∙ childless in
               let kin : cond (R.parent == u) 1 0 ≡ cond (R.parent == f.next) 1 0 = ap (λ n. flag (R.parent == n)) h in
               let kids : i.children ≡ R.children = ap (λ (j : Info). j.children) is in
               let acts : i.active ≡ R.active = ap (λ (j : Info). j.active) is in
               let act = active_of areas f spans o a A isA none f.next vs u (mine.own_in f.next refl) in
-              let nobody : how_many (λ b. owns u (own_of (areas b))) (f.users u) ≡ 0 = ap (λ n. how_many (λ b. owns u (own_of (areas b))) (f.users n)) h ∙ ap (how_many (λ b. owns u (own_of (areas b)))) unused in
+              let nobody : how_many (λ b. owns u (own_of (areas b))) (f.users u) ≡ 0 = ap (λ n. how_many (λ b. owns u (own_of (areas b)))
+              (f.users n)) h ∙ ap (how_many (λ b. owns u (own_of (areas b)))) unused in
               let one : cond (f.next == u) 1 0 ≡ 1 = ap flag (eq-eqb f.next u (sym h)) in
               record { children = omega (arith, kids, children, made, zero, kin); active = omega (arith, acts, active, act, nobody, one) }
           | inr ne ↦
@@ -153,9 +173,11 @@ module _ (areas : ℕ → Option Area) (f : Family) (spans : ℕ → List Span) 
     pub root_keeps : (spans' : ℕ → List Span) → GoWithLinks (give_own a (Some f.next) areas) (with_at a (f.next ∷ []) f.chain) spans'
         → IsInOrder (give_own a (Some f.next) areas) (joined a (f.next ∷ []) (new_root f)) spans'
     root_keeps spans' spanned =
-        made_keeps f.info (record { root = f.next; parent = f.next; children = 1; active = 1 }) (f.next ∷ []) spans' (λ u w. refl) (record { same = λ u i e. (i, e, refl, refl) }) (λ u h. h) refl (sym (ap flag (eq-eqb f.next f.next refl))) others mine spanned
+        made_keeps f.info (record { root = f.next; parent = f.next; children = 1; active = 1 }) (f.next ∷ []) spans' (λ u w. refl)
+        (record { same = λ u i e. (i, e, refl, refl) }) (λ u h. h) refl (sym (ap flag (eq-eqb f.next f.next refl))) others mine spanned
       where
-        others : (u : ℕ) (i j : Info) → (u ≡ f.next → ⊥) → f.info u ≡ Some i → f.info u ≡ Some j → (j.children ≡ i.children + cond (f.next == u) 1 0) × (j.active ≡ i.active)
+        others : (u : ℕ) (i j : Info) → (u ≡ f.next → ⊥) → f.info u ≡ Some i → f.info u ≡ Some j
+            → (j.children ≡ i.children + cond (f.next == u) 1 0) × (j.active ≡ i.active)
         others u i j ne e e' =
             let is : j ≡ i = same_some (sym e' ∙ e) in
             let zero : cond (f.next == u) 1 0 ≡ 0 = ap flag (ne_eqb f.next u (λ h. ne (sym h))) in
@@ -174,10 +196,13 @@ module _ (areas : ℕ → Option Area) (f : Family) (spans : ℕ → List Span) 
         itself : is_in f.next (f.next ∷ []) ≡ true
         itself = ap (λ t. t || false) (eq-eqb f.next f.next refl)
 
-        at : (u : ℕ) → is_in u (f.next ∷ []) ≡ true → with_at f.next (Some (record { root = f.next; parent = f.next; children = 1; active = 1 })) f.info u ≡ Some (record { root = f.next; parent = f.next; children = 1; active = 1 })
+        at : (u : ℕ) → is_in u (f.next ∷ []) ≡ true
+            → with_at f.next (Some (record { root = f.next; parent = f.next; children = 1; active = 1 })) f.info u ≡ Some
+            (record { root = f.next; parent = f.next; children = 1; active = 1 })
         at u h = ap (λ b. cond b (Some (record { root = f.next; parent = f.next; children = 1; active = 1 })) (f.info u)) (eq-eqb u f.next (only u h))
 
-        mine : IsChain (with_at f.next (Some (record { root = f.next; parent = f.next; children = 1; active = 1 })) f.info) (suc f.next) (Some f.next) (f.next ∷ [])
+        mine : IsChain (with_at f.next (Some (record { root = f.next; parent = f.next; children = 1; active = 1 })) f.info) (suc f.next)
+            (Some f.next) (f.next ∷ [])
         mine = record {
           none = λ e. absurd (some_none e);
           own_in = λ u e. ap (λ w. is_in w (f.next ∷ [])) (sym (same_some e)) ∙ itself;
@@ -186,7 +211,8 @@ module _ (areas : ℕ → Option Area) (f : Family) (spans : ℕ → List Span) 
           rising = (tt, tt);
           parents = λ u i h e. ap (λ (k : Info). is_in k.parent (f.next ∷ [])) (same_some (sym e ∙ at u h)) ∙ itself;
           roots = λ u i h e. ap (λ (k : Info). is_in k.root (f.next ∷ [])) (same_some (sym e ∙ at u h)) ∙ itself;
-          one_root = λ u w i j h h' e e'. ap (λ (k : Info). k.root) (same_some (sym e ∙ at u h)) ∙ sym (ap (λ (k : Info). k.root) (same_some (sym e' ∙ at w h')));
+          one_root = λ u w i j h h' e e'. ap (λ (k : Info). k.root) (same_some (sym e ∙ at u h))
+              ∙ sym (ap (λ (k : Info). k.root) (same_some (sym e' ∙ at w h')));
         }
 
     -- a new one below the own anon_vma of another area, whose chain it joins
@@ -195,7 +221,8 @@ module _ (areas : ℕ → Option Area) (f : Family) (spans : ℕ → List Span) 
         → IsInOrder (give_own a (Some f.next) areas) (joined a (f.chain src ++ f.next ∷ []) (new_child I.root own f)) spans'
     child_keeps src own I spans' is own_is spanned =
         made_keeps (with_info own more_children f.info) (record { root = I.root; parent = own; children = 0; active = 1 }) (f.chain src ++ f.next ∷ []) spans'
-            (λ u w. child_same own f.info u w) x1 back refl (sym (ap flag (ne_eqb own f.next (λ e. absurd (let lt = own_below in omega arith))))) others mine spanned
+        (λ u w. child_same own f.info u w) x1 back refl (sym (ap flag (ne_eqb own f.next (λ e. absurd
+        (let lt = own_below in omega arith))))) others mine spanned
       where
         x1 : Extends f.info (with_info own more_children f.info)
         x1 = changed_extends own more_children f.info (λ i. refl) (λ i. refl)
@@ -215,14 +242,18 @@ module _ (areas : ℕ → Option Area) (f : Family) (spans : ℕ → List Span) 
 
         back : (u : ℕ) → IsSome (with_info own more_children f.info u) → IsSome (f.info u)
         back u h = elim (cases_eq u own) [
-          | inl e ↦ of_map (f.info u) (subst IsSome (ap (λ b. cond b (option_map more_children (f.info own)) (f.info u)) (eq-eqb u own e) ∙ ap (λ w. option_map more_children (f.info w)) (sym e)) h)
+          | inl e ↦ of_map (f.info u) (subst IsSome (ap (λ b. cond b (option_map more_children (f.info own)) (f.info u)) (eq-eqb u own e)
+              ∙ ap (λ w. option_map more_children (f.info w)) (sym e)) h)
           | inr ne ↦ subst IsSome (with_at-other own (option_map more_children (f.info own)) f.info u ne) h
         ]
 
-        others : (u : ℕ) (i j : Info) → (u ≡ f.next → ⊥) → f.info u ≡ Some i → with_info own more_children f.info u ≡ Some j → (j.children ≡ i.children + cond (own == u) 1 0) × (j.active ≡ i.active)
+        others : (u : ℕ) (i j : Info) → (u ≡ f.next → ⊥) → f.info u ≡ Some i → with_info own more_children f.info u ≡ Some j
+            → (j.children ≡ i.children + cond (own == u) 1 0) × (j.active ≡ i.active)
         others u i j ne e e' = elim (cases_eq u own) [
           | inl h ↦
-              let at : j ≡ more_children i = same_some (sym e' ∙ ap (λ b. cond b (option_map more_children (f.info own)) (f.info u)) (eq-eqb u own h) ∙ ap (λ w. option_map more_children (f.info w)) (sym h) ∙ ap (option_map more_children) e) in
+              let at : j ≡ more_children i = same_some (sym e'
+              ∙ ap (λ b. cond b (option_map more_children (f.info own)) (f.info u)) (eq-eqb u own h)
+              ∙ ap (λ w. option_map more_children (f.info w)) (sym h) ∙ ap (option_map more_children) e) in
               let one : cond (own == u) 1 0 ≡ 1 = ap flag (eq-eqb own u (sym h)) in
               let kids = ap (λ (k : Info). k.children) at in
               (omega (arith, one, kids), ap (λ (k : Info). k.active) at)
@@ -234,29 +265,39 @@ module _ (areas : ℕ → Option Area) (f : Family) (spans : ℕ → List Span) 
         ]
 
         -- the members that were there, with what is kept of them now
-        kept : IsChain (with_at f.next (Some (record { root = I.root; parent = own; children = 0; active = 1 })) (with_info own more_children f.info)) (suc f.next) (Some own) (f.chain src)
-        kept = chain_kept f.info (with_at f.next (Some (record { root = I.root; parent = own; children = 0; active = 1 })) (with_info own more_children f.info)) f.next (suc f.next) (Some own) (f.chain src)
-            (extends_trans f.info (with_info own more_children f.info) (with_at f.next (Some (record { root = I.root; parent = own; children = 0; active = 1 })) (with_info own more_children f.info)) x1
-              (made_extends f.next (record { root = I.root; parent = own; children = 0; active = 1 }) (with_info own more_children f.info) (λ u h. o.below u (back u h))))
+        kept : IsChain (with_at f.next (Some (record { root = I.root; parent = own; children = 0; active = 1 }))
+            (with_info own more_children f.info)) (suc f.next) (Some own) (f.chain src)
+        kept = chain_kept f.info (with_at f.next (Some (record { root = I.root; parent = own; children = 0; active = 1 }))
+            (with_info own more_children f.info)) f.next (suc f.next) (Some own) (f.chain src)
+            (extends_trans f.info (with_info own more_children f.info) (with_at f.next (Some
+            (record { root = I.root; parent = own; children = 0; active = 1 })) (with_info own more_children f.info)) x1
+            (made_extends f.next (record { root = I.root; parent = own; children = 0; active = 1 }) (with_info own more_children f.info)
+            (λ u h. o.below u (back u h))))
             (omega arith) (subst (λ w. IsChain f.info f.next w (f.chain src)) is (o.chains src))
 
-        at : (u : ℕ) → u ≡ f.next → with_at f.next (Some (record { root = I.root; parent = own; children = 0; active = 1 })) (with_info own more_children f.info) u ≡ Some (record { root = I.root; parent = own; children = 0; active = 1 })
-        at u e = ap (λ b. cond b (Some (record { root = I.root; parent = own; children = 0; active = 1 })) (with_info own more_children f.info u)) (eq-eqb u f.next e)
+        at : (u : ℕ) → u ≡ f.next → with_at f.next (Some (record { root = I.root; parent = own; children = 0; active = 1 }))
+            (with_info own more_children f.info) u ≡ Some (record { root = I.root; parent = own; children = 0; active = 1 })
+        at u e = ap (λ b. cond b (Some (record { root = I.root; parent = own; children = 0; active = 1 })) (with_info own more_children f.info u))
+            (eq-eqb u f.next e)
 
         old : (u : ℕ) → is_in u (f.chain src ++ f.next ∷ []) ≡ true → (u ≡ f.next → ⊥) → is_in u (f.chain src) ≡ true
         old u h ne = sym (in_as_before u f.next (f.chain src) ne) ∙ h
 
         -- the root of each member is that of the own anon_vma
-        root_is : (u : ℕ) (i : Info) → is_in u (f.chain src ++ f.next ∷ []) ≡ true → with_at f.next (Some (record { root = I.root; parent = own; children = 0; active = 1 })) (with_info own more_children f.info) u ≡ Some i → i.root ≡ I.root
+        root_is : (u : ℕ) (i : Info) → is_in u (f.chain src ++ f.next ∷ []) ≡ true
+            → with_at f.next (Some (record { root = I.root; parent = own; children = 0; active = 1 }))
+            (with_info own more_children f.info) u ≡ Some i → i.root ≡ I.root
         root_is u i h e = elim (cases_eq u f.next) [
           | inl n ↦ ap (λ (j : Info). j.root) (same_some (sym e ∙ at u n))
           | inr ne ↦
               let new = x1.same own I own_is in
-              let own_now = with_at-other f.next (Some (record { root = I.root; parent = own; children = 0; active = 1 })) (with_info own more_children f.info) own (λ n. absurd (let lt = own_below in omega arith)) ∙ new.1 in
+              let own_now = with_at-other f.next (Some (record { root = I.root; parent = own; children = 0; active = 1 }))
+              (with_info own more_children f.info) own (λ n. absurd (let lt = own_below in omega arith)) ∙ new.1 in
               kept.one_root u own i new.0 (old u h ne) own_in e own_now ∙ new.2
         ]
 
-        mine : IsChain (with_at f.next (Some (record { root = I.root; parent = own; children = 0; active = 1 })) (with_info own more_children f.info)) (suc f.next) (Some f.next) (f.chain src ++ f.next ∷ [])
+        mine : IsChain (with_at f.next (Some (record { root = I.root; parent = own; children = 0; active = 1 }))
+            (with_info own more_children f.info)) (suc f.next) (Some f.next) (f.chain src ++ f.next ∷ [])
         mine = record {
           none = λ e. absurd (some_none e);
           own_in = λ u e. in_more u f.next (f.chain src) (sym (same_some e));
@@ -273,6 +314,7 @@ module _ (areas : ℕ → Option Area) (f : Family) (spans : ℕ → List Span) 
             | inl n ↦ in_before i.parent f.next (f.chain src) (ap (λ (j : Info). is_in j.parent (f.chain src)) (same_some (sym e ∙ at u n)) ∙ own_in)
             | inr ne ↦ in_before i.parent f.next (f.chain src) (kept.parents u i (old u h ne) e)
           ];
-          roots = λ u i h e. in_before i.root f.next (f.chain src) (ap (λ r. is_in r (f.chain src)) (root_is u i h e) ∙ (o.chains src).roots own I own_in own_is);
+          roots = λ u i h e. in_before i.root f.next (f.chain src) (ap (λ r. is_in r (f.chain src)) (root_is u i h e)
+              ∙ (o.chains src).roots own I own_in own_is);
           one_root = λ u w i j h h' e e'. root_is u i h e ∙ sym (root_is w j h' e');
         }

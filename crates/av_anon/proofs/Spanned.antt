@@ -18,7 +18,8 @@ module _ (areas : ℕ → Option Area) (chain : ℕ → List ℕ) (spans : ℕ �
   new_to_all a empty v = none_of a (spans v) (g.each v a ∙ ap (λ vs. cond (is_in v vs) (present a (areas a)) []) empty)
 
   -- other areas that have the same spans where they are linked
-  pub areas_changed : (areas' : ℕ → Option Area) → ((v n : ℕ) → is_in v (chain n) ≡ true → present n (areas' n) ≡ present n (areas n)) → GoWithLinks areas' chain spans
+  pub areas_changed : (areas' : ℕ → Option Area) → ((v n : ℕ) → is_in v (chain n) ≡ true → present n (areas' n) ≡ present n (areas n))
+      → GoWithLinks areas' chain spans
   areas_changed areas' same = record {
     each = λ v n. g.each v n ∙ pick v n (is_in v (chain n)) refl;
     numbers = g.numbers;
@@ -51,11 +52,13 @@ module _ (areas : ℕ → Option Area) (chain : ℕ → List ℕ) (spans : ℕ �
     there_in_all v h = found_of a (spans v) (span_at a A) [] (only v h)
 
     -- an area without links is linked to these, and its span put in
-    pub joined-spans : a < 2 ^ 64 → chain a ≡ [] → (anons : List ℕ) (new : ℕ → List Span) → ((v : ℕ) → new v ≡ spans_with anons (span_at a A) spans v) → GoWithLinks areas (with_at a anons chain) new
+    pub joined-spans : a < 2 ^ 64 → chain a ≡ [] → (anons : List ℕ) (new : ℕ → List Span) → ((v : ℕ)
+        → new v ≡ spans_with anons (span_at a A) spans v) → GoWithLinks areas (with_at a anons chain) new
     joined-spans fit empty anons new new_is = record {
       each = λ v n. elim (cases_eq n a) [
         | inl e ↦ subst (λ m. filter (is_of m) (new v) ≡ cond (is_in v (with_at a anons chain m)) (present m (areas m)) []) (sym e) (at_a v)
-        | inr ne ↦ ap (filter (is_of n)) (new_is v) ∙ other n ne (is_in v anons) v ∙ g.each v n ∙ sym (ap (λ vs. cond (is_in v vs) (present n (areas n)) []) (with_at-other a anons chain n ne))
+        | inr ne ↦ ap (filter (is_of n)) (new_is v) ∙ other n ne (is_in v anons) v ∙ g.each v n
+            ∙ sym (ap (λ vs. cond (is_in v vs) (present n (areas n)) []) (with_at-other a anons chain n ne))
       ];
       numbers = λ v. subst Fits (sym (new_is v)) (fits v (is_in v anons));
     }
@@ -65,9 +68,11 @@ module _ (areas : ℕ → Option Area) (chain : ℕ → List ℕ) (spans : ℕ �
         mine false v = new_none a (spans v) (new_to_all a empty v)
 
         at_a : (v : ℕ) → filter (is_of a) (new v) ≡ cond (is_in v (with_at a anons chain a)) (present a (areas a)) []
-        at_a v = ap (filter (is_of a)) (new_is v) ∙ mine (is_in v anons) v ∙ sym (ap (λ vs. cond (is_in v vs) (present a (areas a)) []) (with_at-here a anons chain))
+        at_a v = ap (filter (is_of a)) (new_is v) ∙ mine (is_in v anons) v
+            ∙ sym (ap (λ vs. cond (is_in v vs) (present a (areas a)) []) (with_at-here a anons chain))
 
-        other : (n : ℕ) → (n ≡ a → ⊥) → (b : Bool) (v : ℕ) → filter (is_of n) (cond b (with_entry key (span_at a A) (spans v)) (spans v)) ≡ filter (is_of n) (spans v)
+        other : (n : ℕ) → (n ≡ a → ⊥) → (b : Bool) (v : ℕ)
+            → filter (is_of n) (cond b (with_entry key (span_at a A) (spans v)) (spans v)) ≡ filter (is_of n) (spans v)
         other n ne true v = with_other n (span_at a A) (spans v) (λ e. ne (sym e))
         other n ne false v = refl
 
@@ -76,11 +81,13 @@ module _ (areas : ℕ → Option Area) (chain : ℕ → List ℕ) (spans : ℕ �
         fits v false = g.numbers v
 
     -- an area leaves all its links, and its spans are taken out
-    pub left-spans : a < 2 ^ 64 → (new : ℕ → List Span) → ((v : ℕ) → new v ≡ spans_without (chain a) (key_of A.pgoff a) spans v) → GoWithLinks areas (with_at a [] chain) new
+    pub left-spans : a < 2 ^ 64 → (new : ℕ → List Span) → ((v : ℕ) → new v ≡ spans_without (chain a) (key_of A.pgoff a) spans v)
+        → GoWithLinks areas (with_at a [] chain) new
     left-spans fit new new_is = record {
       each = λ v n. elim (cases_eq n a) [
         | inl e ↦ subst (λ m. filter (is_of m) (new v) ≡ cond (is_in v (with_at a [] chain m)) (present m (areas m)) []) (sym e) (at_a v)
-        | inr ne ↦ ap (filter (is_of n)) (new_is v) ∙ other n ne (is_in v (chain a)) v ∙ g.each v n ∙ sym (ap (λ vs. cond (is_in v vs) (present n (areas n)) []) (with_at-other a [] chain n ne))
+        | inr ne ↦ ap (filter (is_of n)) (new_is v) ∙ other n ne (is_in v (chain a)) v ∙ g.each v n
+            ∙ sym (ap (λ vs. cond (is_in v vs) (present n (areas n)) []) (with_at-other a [] chain n ne))
       ];
       numbers = λ v. subst Fits (sym (new_is v)) (fits v (is_in v (chain a)));
     }
@@ -90,9 +97,11 @@ module _ (areas : ℕ → Option Area) (chain : ℕ → List ℕ) (spans : ℕ �
         mine v false h = g.each v a ∙ ap (λ b. cond b (present a (areas a)) []) h
 
         at_a : (v : ℕ) → filter (is_of a) (new v) ≡ cond (is_in v (with_at a [] chain a)) (present a (areas a)) []
-        at_a v = ap (filter (is_of a)) (new_is v) ∙ mine v (is_in v (chain a)) refl ∙ sym (ap (λ vs. cond (is_in v vs) (present a (areas a)) []) (with_at-here a [] chain))
+        at_a v = ap (filter (is_of a)) (new_is v) ∙ mine v (is_in v (chain a)) refl
+            ∙ sym (ap (λ vs. cond (is_in v vs) (present a (areas a)) []) (with_at-here a [] chain))
 
-        other : (n : ℕ) → (n ≡ a → ⊥) → (b : Bool) (v : ℕ) → filter (is_of n) (cond b (without_key key (key_of A.pgoff a) (spans v)) (spans v)) ≡ filter (is_of n) (spans v)
+        other : (n : ℕ) → (n ≡ a → ⊥) → (b : Bool) (v : ℕ)
+            → filter (is_of n) (cond b (without_key key (key_of A.pgoff a) (spans v)) (spans v)) ≡ filter (is_of n) (spans v)
         other n ne true v = without_other n (span_at a A) (spans v) fit (g.numbers v) (λ e. ne (sym e))
         other n ne false v = refl
 

@@ -1,5 +1,5 @@
 -- Laws of the base words, of rising lists, and of functions changed at the members of a list.
-use Rattle.std.proofs.Common.{◌≡◌, ℕ, zero, suc, ◌+◌, ◌<◌, ◌≤◌, Bool, true, false, cond, ◌||◌, ◌==◌, List, [], ◌∷◌, ◌++◌, length, take, drop, get_or, refl, sym, ap, ◌∙◌, subst, arith, inl, inr, eq-eqb, ne_eqb}
+use Rattle.std.proofs.Common.{◌≡◌, ℕ, zero, suc, ◌+◌, ◌<◌, ◌≤◌, Bool, true, false, cond, ◌||◌, ◌==◌, List, [], ◌∷◌, ◌++◌, length, take, drop, get_or, refl, sym, ap, ◌∙◌, arith, inl, inr, eq-eqb, ne_eqb}
 use Rattle.std.proofs.lemmas.Bool.{cases_eq}
 use Rattle.std.proofs.lemmas.List.Folds.{list_any-append}
 use Rattle.av_base.specs.Words.{is_in, how_many, with_at}
@@ -45,7 +45,8 @@ how_many-more test [] x = omega arith
 how_many-more test (p ∷ ps) x = let rest = how_many-more test ps x in omega (arith, rest)
 
 -- a change at each member of a list, and at one more
-pub each_more : {X : Type 0} (change : X → X) (old now new : ℕ → X) (ps : List ℕ) (x : ℕ) → is_in x ps ≡ false → ((v : ℕ) → now v ≡ cond (is_in v ps) (change (old v)) (old v))
+pub each_more : {X : Type 0} (change : X → X) (old now new : ℕ → X) (ps : List ℕ) (x : ℕ) → is_in x ps ≡ false → ((v : ℕ)
+    → now v ≡ cond (is_in v ps) (change (old v)) (old v))
     → ((v : ℕ) → new v ≡ with_at x (change (now x)) now v) → (v : ℕ) → new v ≡ cond (is_in v (ps ++ x ∷ [])) (change (old v)) (old v)
 each_more change old now new ps x absent now_is new_is v = elim (cases_eq v x) [
   | inl e ↦

@@ -1,5 +1,5 @@
 -- Chain order: how the areas' chains of anon_vmas hang together.
-use Rattle.std.specs.Prelude.{◌≡◌, ℕ, ◌<◌, ◌^◌, Bool, true, false, ◌&&◌, ◌==◌, List, [], Option, Some, None, IsSome}
+use Rattle.std.specs.Prelude.{◌≡◌, ℕ, ◌<◌, ◌^◌, Bool, true, false, ◌==◌, List, [], Option, Some, None, IsSome}
 use Rattle.av_base.specs.Words.{how_many, is_in, numbers}
 use Rattle.av_chain.specs.Links.{AreMutual}
 use Rattle.av_vma.specs.declared.area.Area.{Area}
@@ -20,7 +20,8 @@ owns v None = false
 owns v (Some own) = own == v
 
 -- the members of a chain
-pub record IsChain (info : ℕ → Option Info) (next : ℕ) (own : Option ℕ) (chain : List ℕ) : Type 0 where
+pub record IsChain (info : ℕ → Option Info) (next : ℕ) (own : Option ℕ) (chain : List ℕ)
+    : Type 0 where
   -- it is empty exactly where the area has no own anon_vma, else it holds that one
   pub none : own ≡ None → chain ≡ []
   pub own_in : (v : ℕ) → own ≡ Some v → is_in v chain ≡ true

@@ -1,5 +1,5 @@
 -- Which anon_vma an area gets at its first fault.
-use Rattle.std.specs.Prelude.{◌≡◌, ℕ, List, [], ◌∷◌, length, if◌then◌else◌, Option, Some, None, IsSome, option_and_then}
+use Rattle.std.specs.Prelude.{ℕ, List, [], ◌∷◌, length, if◌then◌else◌, Option, Some, None, IsSome, option_and_then}
 use Rattle.av_vma.specs.declared.area.Area.{Area}
 use Rattle.av_vma.specs.Join.{is_reusable}
 use Rattle.av_anon.specs.Anons.{Family, joined, new_root, raised}

@@ -1,5 +1,5 @@
 -- An area with other bounds.
-use Rattle.std.specs.Prelude.{ℕ, Option, option_map}
+use Rattle.std.specs.Prelude.{ℕ}
 use Rattle.av_vma.specs.declared.area.Area.{Area}
 
 abbrev pub resized : ℕ → ℕ → ℕ → Area → Area

@@ -1,9 +1,9 @@
 -- The spans go with the links.
-use Rattle.std.specs.Prelude.{◌≡◌, ℕ, ◌+◌, ◌-◌, ◌^◌, ◌<◌, Bool, ◌==◌, if◌then◌else◌, List, [], ◌∷◌, filter, Option, Some, None}
+use Rattle.std.specs.Prelude.{◌≡◌, ℕ, ◌-◌, ◌^◌, ◌<◌, Bool, ◌==◌, if◌then◌else◌, List, [], ◌∷◌, filter, Option, Some, None}
 use Rattle.av_base.specs.Words.{is_in}
 use Rattle.av_arena.specs.Order.{AllOf, with_entry, without_key}
 use Rattle.av_vma.specs.declared.area.Area.{Area}
-use Rattle.av_vma.specs.Join.{first_of, past_of, index_of}
+use Rattle.av_vma.specs.Join.{past_of, index_of}
 use Rattle.av_interval.specs.declared.span.Span.{Span}
 use Rattle.av_interval.specs.Span.{key}
 use Rattle.av_interval.specs.Spans.{triples}
@@ -30,7 +30,8 @@ present number None = []
 present number (Some area) = span_at number area ∷ []
 
 -- of each area each anon_vma has exactly the present span where the area is linked to it
-pub record GoWithLinks (areas : ℕ → Option Area) (chain : ℕ → List ℕ) (spans : ℕ → List Span) : Type 0 where
+pub record GoWithLinks (areas : ℕ → Option Area) (chain : ℕ → List ℕ) (spans : ℕ → List Span)
+    : Type 0 where
   pub each : (v number : ℕ) → filter (is_of number) (spans v)
       ≡ (if is_in v (chain number) then present number (areas number) else [])
   pub numbers : (v : ℕ) → AllOf (λ x. x.area < 2 ^ 64) (spans v)

@@ -1,5 +1,5 @@
 -- What an area that goes leaves.
-use Rattle.std.specs.Prelude.{ℕ, Bool, false, ◌&&◌, List, [], if◌then◌else◌, Option, Some, None, option_map}
+use Rattle.std.specs.Prelude.{ℕ, Bool, ◌&&◌, List, [], if◌then◌else◌, Option, Some, None, option_map}
 use Rattle.av_base.specs.Words.{how_many, is_in, with_at}
 use Rattle.av_chain.specs.Links.{left_by_all, without}
 use Rattle.av_anon.specs.declared.infos.Info.{Info}
@@ -25,8 +25,8 @@ abbrev pub info_without : ℕ → (ℕ → List ℕ) → List ℕ → (ℕ → O
 info_without area users anons info v =
     if is_in v anons && has_no_other area users v then None
     else option_map
-      (without_children (how_many (λ u. has_no_other area users u && is_child v (info u)) anons))
-      (info v)
+    (without_children (how_many (λ u. has_no_other area users u && is_child v (info u)) anons))
+    (info v)
 
 -- the area leaves all its anon_vmas
 abbrev pub left_all : ℕ → Family → Family

@@ -50,8 +50,8 @@ impl Anons {
         Ok(())
     }
 
-    /// Gives the child's area `dst`, without anon_vma, its chain and own anon_vma at a fork of `src`:
-    /// the parent's chain, with its lowest idle member as own, else with a new one below the
+    /// Gives the child's area `dst`, without anon_vma, its chain and own anon_vma at a fork of
+    /// `src`: the parent's chain, with its lowest idle member as own, else with a new one below the
     /// parent's own. Where the parent's area has no anon_vma the child's gets none.
     pub fn fork(&mut self, areas: &mut Areas, src: AreaId, dst: AreaId) -> Result<(), AllocError>
         requires order { IsInOrder (area_of areas.old) (family self.old) (spans_of self.old) }
@@ -85,7 +85,8 @@ impl Anons {
         Ok(())
     }
 
-    // The child's own anon_vma: the lowest idle member of the chain, else a new one, which joins it.
+    // The child's own anon_vma: the lowest idle member of the chain, else a new one, which joins
+    // it.
     fn own_for_child(&mut self, own: u64, chain: &mut Vec<u64>) -> Result<u64, AllocError>
         requires there { IsSome (info_in self.old.infos own) }
         requires room { self.old.next < 2 ^ 60 }

@@ -21,4 +21,3 @@ mod unlink;
 
 pub use anons::Anons;
 pub use infos::Info;
-

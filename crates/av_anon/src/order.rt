@@ -8,7 +8,7 @@ ghost use Rattle.av_anon.specs.Fork.{cloned, forked, forked_own, gets_own};
 ghost use Rattle.av_anon.specs.Order.{IsArea, IsInOrder};
 ghost use Rattle.av_anon.specs.Prepare.{lent_to, prepared, prepared_own};
 ghost use Rattle.av_anon.specs.Resize.{resized};
-ghost use Rattle.av_anon.specs.Spans.{GoWithLinks};
+ghost use Rattle.av_anon.specs.Spans.{span_at, GoWithLinks};
 ghost use Rattle.av_anon.specs.Unlink.{unlinked};
 
 /// Without areas and anon_vmas there is chain order.
@@ -66,4 +66,22 @@ pub fn unlink_keeps_order()
         → let areas' = give_own area None areas in
         let f' = unlinked (own_of (areas area)) area f in
         GoWithLinks areas' f'.chain spans' → IsInOrder areas' f' spans' }
+{}
+
+/// An area without anon_vma comes, changes or goes: chain order stays.
+pub fn bare_areas_keep_order()
+    ensures { (areas : ℕ → Option Area) (f : Family) (spans : ℕ → List Span)
+        (area : ℕ) (new : Option Area)
+        → IsInOrder areas f spans → own_of (areas area) ≡ None → own_of new ≡ None
+        → ((A : Area) → new ≡ Some A → IsArea A)
+        → IsInOrder (with_at area new areas) f spans }
+{}
+
+/// An area changes but in its own anon_vma and its linear indices: chain order stays.
+pub fn other_fields_keep_order()
+    ensures { (areas : ℕ → Option Area) (f : Family) (spans : ℕ → List Span)
+        (area : ℕ) (A B : Area)
+        → IsInOrder areas f spans → areas area ≡ Some A → B.anon ≡ A.anon
+        → span_at area B ≡ span_at area A → IsArea B
+        → IsInOrder (with_at area (Some B) areas) f spans }
 {}

@@ -17,8 +17,8 @@ use std::alloc::AllocError;
 impl Anons {
     /// Gives an area other bounds and another offset: its spans go with it, its links stay.
     ///
-    /// `start` and `end` are addresses on pages, `start` below `end`; `pgoff` is the linear index of
-    /// the first page.
+    /// `start` and `end` are addresses on pages, `start` below `end`; `pgoff` is the linear index
+    /// of the first page.
     pub fn resize(
         &mut self,
         areas: &mut Areas,

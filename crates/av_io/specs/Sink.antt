@@ -36,6 +36,7 @@ pub record HandsOn (old new : SinkView) : Type 0 where
   pub held : new.held ≡ old.held
   pub all : new.kept_back ≡ []
   pub flushes : new.flushes ≡ one_more old.flushes
+  pub rises : old.flushes ≤ new.flushes
   pub never_falls : old.faults ≤ new.faults
 
 -- a flush failed, and that was counted. A sink that tells what it holds doesn't fail so.

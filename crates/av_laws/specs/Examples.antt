@@ -2,22 +2,33 @@
 -- Which example would fail if a definition were wrong:
 --   the gap rule: part_denied, all_mapped, mapped_too_low, no_room_though_empty
 --   a place that is named (`Goes`, `is_room`): places, fixed_over
---   refusals and their order: refusals, crowded, wrong_order, wrong_order_in_a_crowd, range_refusals, fixed_over, past_a_hole, replaced_though_mapped, address_before_length, low_before_address
---   a protection changed (`protected`, `leading`): protected_part, past_a_hole, protected_past_a_hole
+--   refusals and their order: refusals, crowded, wrong_order, wrong_order_in_a_crowd,
+--     range_refusals, fixed_over, past_a_hole, replaced_though_mapped, address_before_length,
+--     low_before_address
+--   a protection changed (`with_prot_to_hole`): protected_part, past_a_hole, protected_past_a_hole
 --   protections: two_processes, part_denied, readable, denied_though_allowed
---   what a page needs (`need`, `IsMade`): zero_first, no_note, note_too_many, page_below, unnoted_zero, frame_for_a_read
+--   what a page needs (`need`, `IsMade`): zero_first, no_note, note_too_many, page_below,
+--     unnoted_zero, frame_for_a_read
 --   when a frame is shared (`is_shared`): copies, load_and_copy, no_copy_of_shared, copy_for_a_read
 --   what comes in (`ComesIn`): loads, maps_again, map_without_load
---   when a slot is dropped (`spare`, `is_full`): loads, load_to_write, load_when_full, load_when_half_full, maps_again, drop_missing, drop_though_not_full, drop_in_flight
---   where an access stops (`RunsOut`, `IsLost`, `touched`, `served`): one_frame, no_copy, no_load, load_without_copy, starved_though_free, bus_without_a_frame, bus_at_a_frame
+--   when a slot is dropped (`is_unneeded`, `is_full`): loads, load_to_write, load_when_full,
+--     load_when_half_full, maps_again, drop_missing, drop_though_not_full, drop_in_flight
+--   where an access stops (`RunsOut`, `IsLost`, `bytes_served`): one_frame, no_copy, no_load,
+--     load_without_copy, starved_though_free, bus_without_a_frame, bus_at_a_frame
 --   the numbers of an out-of-memory (`out_of`): one_frame, no_copy, wrong_numbers
---   the next memories (`written`, `stored`, `replaced`, `with_loads`): first_run, places, fixed_over, wrong_place, written_in_vain, denied_write, refused_write, leaked, wrong_load, load_unclaimed
---   entries taken in a range (`keys_in`, `clearing`): fixed_over, entry_kept, byte_kept, munmap, fixed
---   entries taken at an exit (`taking`, `drops`, `end_process`): exit_frees, exit_shared, exit_drops, exit_in_writeback, exit_paged_out, exit, exit_again
---   the runs of `maps` (`AreMaps`): exit_frees, two_runs, protected_part, past_a_hole, split_run, joined_runs, run_left_out, run_too_long, falling_runs, part_of_page
---   the numbers of `stat` (`totals`): exit_frees, exit_and_again, exit_shared, exit_drops, exit_in_writeback, exit_paged_out, stat
+--   the next memories (`after_write`, `with_loads`): first_run, places, fixed_over, wrong_place,
+--     written_in_vain, denied_write, refused_write, leaked, wrong_load, load_unclaimed
+--   entries taken in a range (`keys_in`, `zaps_of`): fixed_over, entry_kept, byte_kept, munmap,
+--     fixed
+--   entries taken at an exit (`zaps_of`, `orphan_drop`, `end_process`): exit_frees, exit_shared,
+--     exit_drops, exit_in_writeback, exit_paged_out, exit, exit_again
+--   the runs of `maps` (`AreMaps`): exit_frees, two_runs, protected_part, past_a_hole, split_run,
+--     joined_runs, run_left_out, run_too_long, falling_runs, part_of_page
+--   the numbers of `stat` (`totals`): exit_frees, exit_and_again, exit_shared, exit_drops,
+--     exit_in_writeback, exit_paged_out, stat
 --   the next ledger (`after`): out_and_back, copied_and_gone
---   the choice of frames (`Chooses`): wrong_frame, taken_and_freed, dropped_and_freed, exit_and_again
+--   the choice of frames (`Chooses`): wrong_frame, taken_and_freed, dropped_and_freed,
+--     exit_and_again
 use Rattle.std.specs.Prelude.{◌≡◌, ℕ, ◌-◌, Bool, true, false, ◌==◌, ◌||◌, if◌then◌else◌, List, [], ◌∷◌, map, length, Some, None}
 use Rattle.av_base.specs.declared.prot.Prot.{Prot}
 use Rattle.av_base.specs.declared.slot.Slot.{Slot}

@@ -2,19 +2,37 @@
 
 ghost use Rattle.std.specs.Prelude.{List, [], ◌∷◌, true};
 ghost use Rattle.av_trace.specs.declared.place.Place.TheVariants.{Auto, Fixed, NoReplace};
-ghost use Rattle.av_trace.specs.declared.command.Command.TheVariants.{Spawn, Exit, Mmap, Munmap, Read, Write, Maps, Stat};
-ghost use Rattle.av_trace.specs.declared.reply.Errno.TheVariants.{Eperm, Esrch, Eagain, Enomem, Eexist, Einval};
+ghost use Rattle.av_trace.specs.declared.command.Command.TheVariants.{
+    Spawn, Exit, Mmap, Munmap, Read, Write, Maps, Stat,
+};
+ghost use Rattle.av_trace.specs.declared.reply.Errno.TheVariants.{
+    Eperm, Esrch, Eagain, Enomem, Eexist, Einval,
+};
 ghost use Rattle.av_trace.specs.declared.note.Note.TheVariants.{Zeroed, New, Copied, Mapped, Dropped};
 ghost use Rattle.av_trace.specs.declared.row.Row.TheVariants.{Entry};
-ghost use Rattle.av_trace.specs.declared.reply.Answer.TheVariants.{Done, MapAt, Data, Refused, Segv, Bus, Oom, Counted};
+ghost use Rattle.av_trace.specs.declared.reply.Answer.TheVariants.{
+    Done, MapAt, Data, Refused, Segv, Bus, Oom, Counted,
+};
 ghost use Rattle.av_plain.specs.Ledger.{InFrame, first_ledger};
 ghost use Rattle.av_plain.specs.Event.{Noted};
 ghost use Rattle.av_plain.specs.Choice.{ChoosesAll};
 ghost use Rattle.av_plain.specs.Sound.{AllSound};
-ghost use Rattle.av_laws.specs.Examples.{Allows, Runs, Leads, machine, with_swap, untold, first_run, zero_first, one_frame, part_denied, two_processes, readable, refusals, all_mapped, crowd, crowded, after_fork, copies, no_copy, paged_out, loads, load_to_write, load_when_full, load_when_half_full, no_load, in_writeback, maps_again, slot_shared, load_and_copy, load_without_copy, load_unclaimed, Rejects, Refutes, Forbids, answered, read_write, slot, empty, untouched, in_swap_cache, wrong_frame, wrong_place, written_in_vain, refused_write, denied_write, leaked, wrong_load, ledger_with, out_and_back, copied_and_gone, taken_and_freed, orphan, exit_frees, exit_and_again, two_runs, exit_shared, exit_drops, exit_in_writeback, exit_paged_out, Only, numbers_of, one_written, all_gone, two_protections, protected_part, past_a_hole, places, range_refusals, fixed_over, page_gone, page_anew, read_only, split_run, joined_runs, run_left_out, run_too_long, falling_runs, part_of_page};
+ghost use Rattle.av_laws.specs.Examples.{
+    Allows, Runs, Leads, machine, with_swap, untold, first_run, zero_first, one_frame,
+    part_denied, two_processes, readable, refusals, all_mapped, crowd, crowded, after_fork,
+    copies, no_copy, paged_out, loads, load_to_write, load_when_full, load_when_half_full,
+    no_load, in_writeback, maps_again, slot_shared, load_and_copy, load_without_copy,
+    load_unclaimed, Rejects, Refutes, Forbids, answered, read_write, slot, empty, untouched,
+    in_swap_cache, wrong_frame, wrong_place, written_in_vain, refused_write, denied_write,
+    leaked, wrong_load, ledger_with, out_and_back, copied_and_gone, taken_and_freed, orphan,
+    exit_frees, exit_and_again, two_runs, exit_shared, exit_drops, exit_in_writeback,
+    exit_paged_out, Only, numbers_of, one_written, all_gone, two_protections, protected_part,
+    past_a_hole, places, range_refusals, fixed_over, page_gone, page_anew, read_only, split_run,
+    joined_runs, run_left_out, run_too_long, falling_runs, part_of_page,
+};
 
 /// Runs from nothing on.
-pub fn rows_run()
+pub fn first_examples_run()
     ensures first_run { Runs 4 first_run }
     ensures zero_first { Runs 4 zero_first }
     ensures one_frame { Runs 1 one_frame }
@@ -29,7 +47,7 @@ pub fn rows_run()
 {}
 
 /// Frames and slots that two processes share, as after a fork.
-pub fn shared_rows_run()
+pub fn shared_examples_run()
     ensures copies { Allows (machine 4) (after_fork (1 ∷ 2 ∷ 3 ∷ [])) copies }
     ensures no_copy { Allows (machine 1) (after_fork []) no_copy }
     ensures load_and_copy { Allows (with_swap 4 8 7) (slot_shared (0 ∷ 1 ∷ 2 ∷ 3 ∷ [])) load_and_copy }
@@ -37,7 +55,7 @@ pub fn shared_rows_run()
 {}
 
 /// Pages that are on a device, or cached.
-pub fn swap_rows_run()
+pub fn swap_examples_run()
     ensures loads { Allows (with_swap 4 8 7) (paged_out 7 (0 ∷ 1 ∷ 2 ∷ 3 ∷ [])) loads }
     ensures load_to_write { Allows (with_swap 4 8 7) (paged_out 7 (0 ∷ 1 ∷ 2 ∷ 3 ∷ [])) load_to_write }
     ensures load_when_full { Allows (with_swap 4 2 1) (paged_out 1 (0 ∷ 1 ∷ 2 ∷ 3 ∷ [])) load_when_full }
@@ -48,7 +66,7 @@ pub fn swap_rows_run()
 {}
 
 /// The ledger after each event, in a row of events, and the free frames after some.
-pub fn ledger_rows_lead()
+pub fn ledgers_follow()
     ensures out_and_back { Leads (ledger_with (InFrame 5 true) [] [] (5 ∷ []) (6 ∷ [])) out_and_back }
     ensures copied_and_gone { Leads first_ledger copied_and_gone }
     ensures taken_and_freed { ChoosesAll (machine 3) first_ledger taken_and_freed (0 ∷ 1 ∷ 2 ∷ []) (1 ∷ 0 ∷ 2 ∷ []) }

@@ -1,20 +1,23 @@
 -- A run that goes on by a turn.
-use Rattle.std.proofs.Common.{◌≡◌, ℕ, List, [], ◌∷◌, ◌++◌, Option, None, length, length-append, refl, sym, ap, subst, ◌∙◌, append_assoc, append-nil, arith}
-use Rattle.std.specs.Prelude.{replicate}
+use Rattle.std.proofs.Common.{◌≡◌, ℕ, ◌≤◌, List, [], ◌∷◌, ◌++◌, Option, None, length, length-append, refl, sym, ap, subst, ◌∙◌, append_assoc, append-nil, arith}
+use Rattle.av_kernel.specs.Tally.{none_counted}
+use Rattle.av_kernel.specs.declared.tally.Tally.{Tally}
 use Rattle.std.specs.List.{AllByRecursion}
 use Rattle.std.specs.Option.{option_to_list}
 use Rattle.std.proofs.lemmas.List.Concat.{flat_map-append}
 use Rattle.av_trace.specs.Print.{text_of}
 use Rattle.av_plain.specs.Ledger.{Setting}
 use Rattle.av_plain.specs.Transcript.{Exchange, State, IsRun, at_first}
-use Rattle.av_kernel.specs.Kernel.{Stands}
-use Rattle.av_kernel.specs.View.{setting}
+use Rattle.av_kernel.specs.Machine.{Machine}
+use Rattle.av_reclaim.specs.Mem.{setting}
 use Rattle.av_io.specs.Source.{in_front, Took}
 use Rattle.av_io.specs.Sink.{Gained}
+use Rattle.av_replay.specs.Streams.{Streams, undone, room, IsLater}
 use Rattle.av_replay.specs.Line.{IsLine}
-use Rattle.av_replay.specs.Turn.{Moment, undone, texts, tallied, Commands, Answers, TakesLine}
-use Rattle.av_replay.specs.Headline.{joined, Transcribes, Run, IsLeft}
+use Rattle.av_replay.specs.Turn.{texts, tally_of, Commands, Answers, TakesLine}
+use Rattle.av_replay.specs.Replay.{joined, Transcribes, Run, IsLeft, IsAtStart}
 use Rattle.av_replay.proofs.Bytes.{Took-then, Took-none, Gained-then, Gained-none}
+use Rattle.av_replay.proofs.Times.{later_same, later_then}
 
 -- ---- lists that grow at the end
 
@@ -35,9 +38,9 @@ pub IsRun-append : (m : Setting) (a b c : State) (es more : List Exchange) → I
 IsRun-append m a b c [] more run then = subst (λ (s : State). IsRun m s more c) run then
 IsRun-append m a b c (e ∷ es) more run then = (run.0, run.1, IsRun-append m run.0 b c es more run.2 then)
 
-pub tallied-append : (es more : List Exchange) (tally : List ℕ) → tallied (es ++ more) tally ≡ tallied more (tallied es tally)
-tallied-append [] more tally = refl
-tallied-append (e ∷ es) more tally = tallied-append es more _
+pub tally_of-append : (es more : List Exchange) (tally : Tally) → tally_of (es ++ more) tally ≡ tally_of more (tally_of es tally)
+tally_of-append [] more tally = refl
+tally_of-append (e ∷ es) more tally = tally_of-append es more _
 
 -- ---- the run so far
 
@@ -51,23 +54,30 @@ pub record Past : Type 0 where
 abbrev pub whole : Past → Run
 whole past = record { lines = past.lines; last = None; transcript = past.transcript; state = past.state }
 
--- the lines so far were done, and their texts written
-pub record SoFar (n : ℕ) (past : Past) (left held : Option (List ℕ)) (now : Moment) : Type 0 where
-  pub read : Took left (undone now) (joined past.lines)
+-- the lines so far were done, and their texts written; these bytes were read beyond them
+pub record SoFar (n : ℕ) (past : Past) (ahead : List ℕ) (old now : Streams) (kernel : Machine) : Type 0 where
+  pub read : Took old.source.left (undone ahead now) (joined past.lines)
+  pub near : length ahead ≤ room
   pub lines : AllByRecursion IsLine past.lines
   pub commands : Transcribes past.lines past.transcript
   pub legal : IsRun (setting n) (at_first (setting n)) past.transcript past.state
-  pub wrote : Gained held now.held (texts past.transcript)
-  pub kernel : IsLeft now.kernel n (whole past)
+  pub wrote : Gained old.sink.held now.sink.held (texts past.transcript)
+  pub kernel_left : IsLeft kernel n (whole past)
+  pub later : IsLater old now
 
-pub starts : (n : ℕ) (now : Moment) → now.ahead ≡ [] → now.kernel.frames ≡ n → Stands now.kernel (at_first (setting n)) → now.kernel.steps ≡ 0 → now.kernel.tally ≡ replicate 8 0 → SoFar n (record { lines = []; transcript = []; state = at_first (setting n) }) now.left now.held now
-starts n now none frames stands steps tally = record {
-  read = Took-none now.left ∙ ap (in_front []) (Took-none now.left ∙ ap (λ (ahead : List ℕ). in_front ahead now.left) (sym none));
+abbrev pub no_past : ℕ → Past
+no_past n = record { lines = []; transcript = []; state = at_first (setting n) }
+
+pub starts : (ahead : List ℕ) (now : Streams) (kernel : Machine) → ahead ≡ [] → IsAtStart kernel → SoFar kernel.frames (no_past kernel.frames) ahead now now kernel
+starts ahead now kernel none start = record {
+  read = Took-none now.source.left ∙ ap (in_front []) (Took-none now.source.left ∙ ap (λ (bytes : List ℕ). in_front bytes now.source.left) (sym none));
+  near = omega (arith, ap length none);
   lines = tt;
   commands = refl;
   legal = refl;
-  wrote = Gained-none now.held;
-  kernel = record { stands = stands; frames = frames; steps = steps; tally = tally };
+  wrote = Gained-none now.sink.held;
+  kernel_left = record { stands = start.stands; frames = refl; steps = start.steps; tally = start.tally; unspent = start.unspent };
+  later = later_same now;
 }
 
 -- ---- one line more
@@ -75,41 +85,51 @@ starts n now none frames stands steps tally = record {
 abbrev pub longer : Past → List ℕ → Option Exchange → State → Past
 longer past line did next = record { lines = past.lines ++ line ∷ []; transcript = past.transcript ++ option_to_list did; state = next }
 
--- the answers to the next line
-abbrev pub next_answers : (n : ℕ) (past : Past) (left held : Option (List ℕ)) (old new : Moment) (line ending text written : List ℕ) → SoFar n past left held old → TakesLine old new line ending text written → Answers line past.state old.kernel new.kernel text
-next_answers n past left held old new line ending text written so_far takes = takes.does.answers past.state so_far.kernel.stands
+module _ (n : ℕ) (past : Past) (ahead : List ℕ) (old now new : Streams) (k k' : Machine) (line ending rest text written : List ℕ) (so_far : SoFar n past ahead old now k) (takes : TakesLine ahead now new k k' line ending rest text written) where
+  -- the answers to the next line
+  abbrev pub next_answers : Answers line past.state k k' text
+  next_answers = takes.does.answers past.state so_far.kernel_left.stands
 
--- what holds once more of the transcript and the kernel after a line
-pub record Adds (n : ℕ) (past : Past) (held : Option (List ℕ)) (new : Moment) (did : Option Exchange) (next : State) (written : List ℕ) : Type 0 where
-  pub legal : IsRun (setting n) (at_first (setting n)) (past.transcript ++ option_to_list did) next
-  pub wrote : Gained held new.held (texts past.transcript ++ written)
-  pub stands : Stands new.kernel next
-  pub frames : new.kernel.frames ≡ n
-  pub steps : new.kernel.steps ≡ length (past.transcript ++ option_to_list did)
-  pub tally : new.kernel.tally ≡ tallied (past.transcript ++ option_to_list did) (replicate 8 0)
+  -- what was read, with the line
+  pub read_more : Took old.source.left (undone rest new) (joined past.lines ++ (line ++ ending))
+  read_more = Took-then _ _ _ _ _ so_far.read takes.took
 
-pub adds : (n : ℕ) (past : Past) (left held : Option (List ℕ)) (old new : Moment) (line ending text written : List ℕ) (so_far : SoFar n past left held old) (takes : TakesLine old new line ending text written) → Adds n past held new (next_answers n past left held old new line ending text written so_far takes).did (next_answers n past left held old new line ending text written so_far takes).next written
-adds n past left held old new line ending text written so_far takes =
-    let a = next_answers n past left held old new line ending text written so_far takes in
-    let k = so_far.kernel in
+  pub wrote_more : Gained old.sink.held new.sink.held (texts past.transcript ++ written)
+  wrote_more = Gained-then _ _ _ _ _ so_far.wrote takes.gained
+
+  pub later_more : IsLater old new
+  later_more = later_then old now new so_far.later takes.later
+
+  pub legal_more : IsRun (setting n) (at_first (setting n)) (past.transcript ++ option_to_list next_answers.did) next_answers.next
+  legal_more = IsRun-append (setting n) (at_first (setting n)) past.state next_answers.next past.transcript (option_to_list next_answers.did) so_far.legal (subst (λ (m : ℕ). IsRun (setting m) past.state (option_to_list next_answers.did) next_answers.next) so_far.kernel_left.frames next_answers.run)
+
+  -- the kernel after the line
+  pub kernel_more : (lines : List (List ℕ)) (last : Option (List ℕ)) → IsLeft k' n (record { lines = lines; last = last; transcript = past.transcript ++ option_to_list next_answers.did; state = next_answers.next })
+  kernel_more lines last =
+      let a = next_answers in
+      let kept = so_far.kernel_left in
+      record {
+        stands = a.stands;
+        frames = a.counts.frames ∙ kept.frames;
+        steps = omega (arith, a.counts.steps, kept.steps, length-append past.transcript (option_to_list a.did));
+        tally = a.counts.tally ∙ ap (tally_of (option_to_list a.did)) kept.tally ∙ sym (tally_of-append past.transcript (option_to_list a.did) none_counted);
+        unspent = a.counts.spent kept.unspent;
+      }
+
+  -- the texts with the next one
+  pub texts_more : texts past.transcript ++ text ≡ texts (past.transcript ++ option_to_list next_answers.did)
+  texts_more = ap (λ (t : List ℕ). texts past.transcript ++ t) next_answers.said ∙ sym (flat_map-append (λ (e : Exchange). text_of e.reply) past.transcript (option_to_list next_answers.did))
+
+pub goes_on : (n : ℕ) (past : Past) (ahead rest : List ℕ) (old now new : Streams) (k k' : Machine) (line text : List ℕ) (so_far : SoFar n past ahead old now k) (takes : TakesLine ahead now new k k' line (10 ∷ []) rest text text) → SoFar n (longer past line (next_answers n past ahead old now new k k' line (10 ∷ []) rest text text so_far takes).did (next_answers n past ahead old now new k k' line (10 ∷ []) rest text text so_far takes).next) rest old new k'
+goes_on n past ahead rest old now new k k' line text so_far takes =
+    let a = next_answers n past ahead old now new k k' line (10 ∷ []) rest text text so_far takes in
     record {
-      legal = IsRun-append (setting n) (at_first (setting n)) past.state a.next past.transcript (option_to_list a.did) so_far.legal (subst (λ (m : ℕ). IsRun (setting m) past.state (option_to_list a.did) a.next) k.frames a.run);
-      wrote = Gained-then _ _ _ _ _ so_far.wrote takes.gained;
-      stands = a.stands;
-      frames = a.counts.frames ∙ k.frames;
-      steps = omega (arith, a.counts.steps, k.steps, length-append past.transcript (option_to_list a.did));
-      tally = a.counts.tally ∙ ap (tallied (option_to_list a.did)) k.tally ∙ sym (tallied-append past.transcript (option_to_list a.did) (replicate 8 0));
-    }
-
-pub goes_on : (n : ℕ) (past : Past) (left held : Option (List ℕ)) (old new : Moment) (line text : List ℕ) (so_far : SoFar n past left held old) (takes : TakesLine old new line (10 ∷ []) text text) → SoFar n (longer past line (next_answers n past left held old new line (10 ∷ []) text text so_far takes).did (next_answers n past left held old new line (10 ∷ []) text text so_far takes).next) left held new
-goes_on n past left held old new line text so_far takes =
-    let a = next_answers n past left held old new line (10 ∷ []) text text so_far takes in
-    let s = adds n past left held old new line (10 ∷ []) text text so_far takes in
-    record {
-      read = subst (Took left (undone new)) (sym (joined-push past.lines line)) (Took-then _ _ _ _ _ so_far.read takes.took);
+      read = subst (Took old.source.left (undone rest new)) (sym (joined-push past.lines line)) (read_more n past ahead old now new k k' line (10 ∷ []) rest text text so_far takes);
+      near = takes.near;
       lines = all_push IsLine past.lines line so_far.lines takes.is_line;
       commands = Transcribes-push past.lines past.transcript line a.did so_far.commands a.commands;
-      legal = s.legal;
-      wrote = subst (Gained held new.held) (ap (λ (t : List ℕ). texts past.transcript ++ t) a.said ∙ sym (flat_map-append (λ (e : Exchange). text_of e.reply) past.transcript (option_to_list a.did))) s.wrote;
-      kernel = record { stands = s.stands; frames = s.frames; steps = s.steps; tally = s.tally };
+      legal = legal_more n past ahead old now new k k' line (10 ∷ []) rest text text so_far takes;
+      wrote = subst (Gained old.sink.held new.sink.held) (texts_more n past ahead old now new k k' line (10 ∷ []) rest text text so_far takes) (wrote_more n past ahead old now new k k' line (10 ∷ []) rest text text so_far takes);
+      kernel_left = kernel_more n past ahead old now new k k' line (10 ∷ []) rest text text so_far takes (past.lines ++ line ∷ []) None;
+      later = later_more n past ahead old now new k k' line (10 ∷ []) rest text text so_far takes;
     }

@@ -12,8 +12,9 @@ use Rattle.av_replay.specs.declared.status.Status.TheVariants as statuses
 use Rattle.av_io.specs.Source.{Took, HasEnded}
 use Rattle.av_replay.specs.Line.{IsLine, IsNoNewline, HasNoNewline}
 use Rattle.av_replay.specs.Turn.{IsBad}
-use Rattle.av_replay.specs.Headline.{joined, Headline}
-use Rattle.av_replay.specs.Trace.{onto_first, lines_of, IsGood, IsTrace, IsDoneOrMemory}
+use Rattle.av_replay.specs.Streams.{Streams}
+use Rattle.av_replay.specs.Replay.{most_lines, joined, Headline}
+use Rattle.av_replay.specs.Trace.{onto_first, lines_of, IsGood, IsTrace, IsDoneOrMemory, IsComplete}
 
 lines_of-other : (b : ℕ) (bytes : List ℕ) → b ≢ 10 → lines_of (b ∷ bytes) ≡ onto_first b (lines_of bytes)
 lines_of-other b bytes ne = cond-false _ _ _ (ne_eqb b 10 ne)
@@ -114,7 +115,7 @@ not_bad lines rest content left' all took good (inr bad) =
     ] in
     bad.2 is_good.said is_good.says
 
-pub not_many : (lines : List (List ℕ)) (rest content : List ℕ) (left' : Option (List ℕ)) → AllByRecursion IsLine lines → Took (Some content) left' (joined lines ++ rest) → length (lines_of content) ≤ 2 ^ 24 → length lines ≡ 2 ^ 24 → 0 < length rest → ⊥
+pub not_many : (lines : List (List ℕ)) (rest content : List ℕ) (left' : Option (List ℕ)) → AllByRecursion IsLine lines → Took (Some content) left' (joined lines ++ rest) → length (lines_of content) ≤ most_lines → length lines ≡ most_lines → 0 < length rest → ⊥
 not_many lines rest content left' all took few many one =
     let t = told content (joined lines ++ rest) left' took in
     let some = some_line (rest ++ t.more) (omega (arith, length-append rest t.more)) in
@@ -125,15 +126,15 @@ read_is : (left left' : Option (List ℕ)) (content taken rest : List ℕ) (last
 read_is left left' content taken rest last e none took =
     subst (λ (l : Option (List ℕ)). Took l left' (taken ++ rest)) e (subst (λ (o : Option (List ℕ)). Took left left' (taken ++ (unwrap_or o [] ++ rest))) none took)
 
-pub complete : (n : ℕ) (status : Status) (left left' held held' : Option (List ℕ)) (kernel : Option Machine) (content : List ℕ) → Headline n status left left' held held' kernel → left ≡ Some content → IsTrace content → status ≢ statuses.ReadFault → status ≢ statuses.WriteFault → IsDoneOrMemory status
-complete n statuses.Done left left' held held' kernel content h e trace no_read no_write = tt
-complete n statuses.Memory left left' held held' kernel content h e trace no_read no_write = tt
-complete n statuses.Usage left left' held held' kernel content h e trace no_read no_write = h.ends
-complete n statuses.ReadFault left left' held held' kernel content h e trace no_read no_write = no_read refl
-complete n statuses.WriteFault left left' held held' kernel content h e trace no_read no_write = no_write refl
-complete n (statuses.BadLine number) left left' held held' kernel content h e trace no_read no_write =
+pub complete : (n : ℕ) (status : Status) (old new : Streams) (kernel : Option Machine) → Headline n status old new kernel → IsComplete status old new
+complete n statuses.Done old new kernel h content e trace no_read no_write = tt
+complete n statuses.Memory old new kernel h content e trace no_read no_write = tt
+complete n statuses.Usage old new kernel h content e trace no_read no_write = h.ends
+complete n statuses.ReadFault old new kernel h content e trace no_read no_write = no_read h.ends.2
+complete n statuses.WriteFault old new kernel h content e trace no_read no_write = no_write h.ends.1
+complete n (statuses.BadLine number) old new kernel h content e trace no_read no_write =
     let stops = h.ends.0 in
-    not_bad h.run.lines h.rest content left' h.replays.lines (read_is left left' content (joined h.run.lines) h.rest h.run.last e stops.0 h.replays.read) trace.good stops.2
-complete n statuses.TooMany left left' held held' kernel content h e trace no_read no_write =
+    not_bad h.run.lines h.rest content new.source.left h.replays.lines (read_is old.source.left new.source.left content (joined h.run.lines) h.rest h.run.last e stops.0 h.replays.read) trace.good stops.3
+complete n statuses.TooMany old new kernel h content e trace no_read no_write =
     let stops = h.ends.0 in
-    not_many h.run.lines h.rest content left' h.replays.lines (read_is left left' content (joined h.run.lines) h.rest h.run.last e stops.0 h.replays.read) trace.few stops.1 stops.2
+    not_many h.run.lines h.rest content new.source.left h.replays.lines (read_is old.source.left new.source.left content (joined h.run.lines) h.rest h.run.last e stops.0 h.replays.read) trace.few stops.1 stops.2

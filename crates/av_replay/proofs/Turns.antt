@@ -1,46 +1,100 @@
--- A line that a turn takes, and what it leaves where its text is cut short.
-use Rattle.std.proofs.Common.{◌≡◌, ℕ, ◌+◌, ◌<◌, List, [], ◌∷◌, ◌++◌, length, take, drop, Option, refl, sym, ap, subst, ◌∙◌, append_assoc, append-nil, arith, inl, inr}
+-- A line that a turn takes, and why a turn halts.
+use Rattle.std.proofs.Common.{◌≡◌, ◌≢◌, ℕ, ◌+◌, ◌<◌, ◌≤◌, List, [], ◌∷◌, ◌++◌, ◌⊎◌, length, take, drop, Option, refl, sym, ap, subst, ◌∙◌, append_assoc, append-nil, arith, inl, inr, length-drop}
+use Rattle.std.specs.Prelude.{option_map}
 use Rattle.std.proofs.lemmas.List.{take_all, drop_all}
-use Rattle.av_replay.specs.declared.turn.Doing.TheVariants as doings
-use Rattle.av_replay.specs.declared.turn.Turn.TheVariants as turns
-use Rattle.av_io.specs.Source.{in_front, Took, HasEnded}
-use Rattle.av_io.specs.Sink.{Gained}
-use Rattle.av_replay.specs.Line.{IsLine, HasLine}
-use Rattle.av_replay.specs.Turn.{Moment, undone, Did, IsEnding, IsCutShort, Turned}
-use Rattle.av_replay.proofs.Bytes.{in_front-then}
+use Rattle.av_kernel.specs.Machine.{Machine}
+use Rattle.av_io.specs.Count.{Rose}
+use Rattle.av_io.specs.Source.{in_front, Took}
+use Rattle.av_io.specs.Sink.{SinkView, Gained}
+use Rattle.av_replay.specs.declared.line.Line.{Line}
+use Rattle.av_replay.specs.declared.status.RunErr.{RunErr}
+use Rattle.av_replay.specs.declared.status.RunErr.TheVariants as errors
+use Rattle.av_replay.specs.Streams.{Streams, streams, undone, room, IsLater, ReadsOn, IsAtEnd, Writes}
+use Rattle.av_replay.specs.Line.{IsLine, HasLine, IsNext, StopsReading}
+use Rattle.av_replay.specs.Turn.{DoesLine, SaysNothing, IsCut, IsNotAnswered, StandsNext, IsBad, IsEnding, TakesLine, Waits, CutsShort, Halts, DoesNext}
+use Rattle.av_replay.proofs.Bytes.{in_front-then, Rose-earlier}
+use Rattle.av_replay.proofs.Times.{later_writes}
 
--- a line was taken, and how it ended
-pub record Taken (old new : Moment) (line ending : List ℕ) : Type 0 where
-  pub is_line : IsLine line
-  pub took : Took (undone old) (undone new) (line ++ ending)
-  pub ends : IsEnding line ending new
+-- how the line in front ends
+pub record EndsBy (line : Line) (ahead ending : List ℕ) (now : Streams) : Type 0 where
+  pub is_line : IsLine (take line.size ahead)
+  pub parts : ahead ≡ (take line.size ahead ++ ending) ++ drop line.whole ahead
+  pub ends : IsEnding (take line.size ahead) ending (drop line.whole ahead) now.source
+  pub next : StandsNext (take line.size ahead) ahead now.source.left
 
-pub taken_line : (old new : Moment) (ahead : List ℕ) (size : ℕ) → in_front ahead new.left ≡ undone old → HasLine size ahead → new.ahead ≡ drop (size + 1) ahead → Taken old new (take size ahead) (10 ∷ [])
-taken_line old new ahead size same has rest =
-    let line = take size ahead in
-    let parts : ahead ≡ (line ++ 10 ∷ []) ++ drop (size + 1) ahead = has.newline ∙ sym (append_assoc line (10 ∷ []) (drop (size + 1) ahead)) in
+ends_line : (line : Line) (ahead : List ℕ) (now : Streams) → HasLine line.size ahead → line.whole ≡ line.size + 1 → EndsBy line ahead (10 ∷ []) now
+ends_line line ahead now has whole =
+    let front = take line.size ahead in
     record {
       is_line = has.line;
-      took = sym same ∙ ap (λ (l : List ℕ). in_front l new.left) (parts ∙ ap (λ (l : List ℕ). (line ++ 10 ∷ []) ++ l) (sym rest)) ∙ in_front-then (line ++ 10 ∷ []) new.ahead new.left;
+      parts = has.newline ∙ sym (append_assoc front (10 ∷ []) (drop (line.size + 1) ahead)) ∙ ap (λ (k : ℕ). (front ++ 10 ∷ []) ++ drop k ahead) (sym whole);
       ends = inl refl;
+      next = inl (drop (line.size + 1) ahead, has.newline);
     }
 
-pub taken_last : (old new : Moment) (ahead : List ℕ) (size : ℕ) → in_front ahead new.left ≡ undone old → IsLine ahead → HasEnded new.left → size ≡ length ahead → 0 < size → new.ahead ≡ drop size ahead → Taken old new (take size ahead) []
-taken_last old new ahead size same is_line ended whole some rest =
-    let all : take size ahead ≡ ahead = take_all size ahead (omega arith) in
-    let none : new.ahead ≡ [] = rest ∙ drop_all size ahead (omega arith) in
-    let parts : ahead ≡ (take size ahead ++ []) ++ new.ahead = sym (ap (λ (l : List ℕ). (take size ahead ++ []) ++ l) none ∙ append-nil (take size ahead ++ []) ∙ append-nil (take size ahead) ∙ all) in
+ends_last : (line : Line) (ahead : List ℕ) (now : Streams) → IsLine ahead → line.size ≡ length ahead → 0 < line.size → line.whole ≡ line.size → IsAtEnd now.source → EndsBy line ahead [] now
+ends_last line ahead now is_line size some whole end =
+    let front = take line.size ahead in
+    let all : front ≡ ahead = take_all line.size ahead (omega arith) in
+    let none : drop line.whole ahead ≡ [] = drop_all line.whole ahead (omega arith) in
+    let long : 0 < length front = subst (λ (l : List ℕ). 0 < length l) (sym all) (omega arith) in
     record {
       is_line = subst IsLine (sym all) is_line;
-      took = sym same ∙ ap (λ (l : List ℕ). in_front l new.left) parts ∙ in_front-then (take size ahead ++ []) new.ahead new.left;
-      ends = inr (refl, none, subst (λ (l : List ℕ). 0 < length l) (sym all) (omega arith), ended);
+      parts = sym (ap (λ (l : List ℕ). (front ++ []) ++ l) none ∙ append-nil (front ++ []) ∙ append-nil front ∙ all);
+      ends = inr (refl, none, long, end);
+      next = inr (sym all, long, end.ended);
     }
 
-pub cut_short : (old new : Moment) (line ending : List ℕ) (held : Option (List ℕ)) → Taken old new line ending → held ≡ old.held → Did doings.WriteFault line old.kernel new.kernel held new.held → IsCutShort old new
-cut_short old new line ending held taken same did =
-    let gained = subst (λ (h : Option (List ℕ)). Gained h new.held (take did.1 did.0)) same did.4 in
-    (line, ending, did.0, did.1, did.2, record { is_line = taken.is_line; took = taken.took; does = did.3; gained = gained }, taken.ends)
+module _ (ahead mid : List ℕ) (old now : Streams) (k k' : Machine) (line : Line) (sink : SinkView) (reads : ReadsOn ahead mid old now) where
+  -- the line is done, and this was written
+  pub takes : (ending text written : List ℕ) → EndsBy line mid ending now → DoesLine (take line.size mid) k k' text → Writes now.sink sink written
+      → TakesLine ahead old (streams now.source sink) k k' (take line.size mid) ending (drop line.whole mid) text written
+  takes ending text written by does writes = record {
+    is_line = by.is_line;
+    took = sym reads.same ∙ ap (λ (l : List ℕ). in_front l now.source.left) by.parts ∙ in_front-then (take line.size mid ++ ending) (drop line.whole mid) now.source.left;
+    ends = by.ends;
+    near = omega (arith, length-drop line.whole mid, reads.near);
+    does = does;
+    gained = writes.gained ∙ ap (λ (h : Option (List ℕ)). option_map (λ (t : List ℕ). t ++ written) h) reads.held;
+    later = later_writes old now sink written reads.later writes;
+  }
 
-pub out_of_memory : (old new : Moment) (line ending : List ℕ) (held : Option (List ℕ)) → Taken old new line ending → held ≡ old.held → Did doings.Memory line old.kernel new.kernel held new.held → Turned turns.Memory old new
-out_of_memory old new line ending held taken same (inl gained) = inl (line ++ ending, taken.took, subst (λ (h : Option (List ℕ)). Gained h new.held []) same gained)
-out_of_memory old new line ending held taken same (inr did) = inr (cut_short old new line ending held taken same did)
+  cuts : (ending : List ℕ) → EndsBy line mid ending now → IsCut (take line.size mid) k k' now.sink sink → CutsShort ahead old (streams now.source sink) k k'
+  cuts ending by cut = record {
+    line = take line.size mid;
+    ending = ending;
+    rest = drop line.whole mid;
+    text = cut.text;
+    size = cut.size;
+    short = cut.short;
+    takes = takes ending cut.text (take cut.size cut.text) by cut.does cut.writes;
+  }
+
+  same_sink : sink ≡ now.sink → ReadsOn ahead mid old (streams now.source sink)
+  same_sink e = subst (λ (s : SinkView). ReadsOn ahead mid old (streams now.source s)) (sym e) reads
+
+  halts_by : (ending : List ℕ) (error : RunErr) → EndsBy line mid ending now → IsNotAnswered error (take line.size mid) k k' now.sink sink → Halts error ahead mid old (streams now.source sink) k k'
+  halts_by ending errors.BadLine by not = (record { reads = same_sink not.2; kernel = not.1 }, inr (take line.size mid, by.is_line, not.0, by.next))
+  halts_by ending errors.Memory by (inl same) = inl (same_sink same)
+  halts_by ending errors.Memory by (inr cut) = inr (cuts ending by cut)
+  halts_by ending errors.Write by not = (inl (cuts ending by not.0), Rose-earlier old.sink.faults now.sink.faults sink.faults reads.later.sink not.1)
+  halts_by ending errors.Read by not = absurd not
+
+  -- a line stood in front, and was not done, or its text not written
+  pub halts : (error : RunErr) → IsNext line mid now.source → IsNotAnswered error (take line.size mid) k k' now.sink sink → Halts error ahead mid old (streams now.source sink) k k'
+  halts error (inl next) not = halts_by (10 ∷ []) error (ends_line line mid now next.0 next.1) not
+  halts error (inr next) not = halts_by [] error (ends_last line mid now next.0 next.1 next.2 next.3 next.4) not
+
+  -- it was done, and its text written
+  pub does_line : (text : List ℕ) → HasLine line.size mid → line.whole ≡ line.size + 1 → DoesLine (take line.size mid) k k' text → Writes now.sink sink text → DoesNext ahead (drop line.whole mid) old (streams now.source sink) k k' (10 ∷ [])
+  does_line text has whole does writes = record { line = take line.size mid; text = text; takes = takes (10 ∷ []) text text (ends_line line mid now has whole) does writes }
+
+  pub does_last : (text : List ℕ) → IsLine mid → line.size ≡ length mid → 0 < line.size → line.whole ≡ line.size → IsAtEnd now.source → DoesLine (take line.size mid) k k' text → Writes now.sink sink text → DoesNext ahead (drop line.whole mid) old (streams now.source sink) k k' []
+  does_last text is_line size some whole end does writes = record { line = take line.size mid; text = text; takes = takes [] text text (ends_last line mid now is_line size some whole end) does writes }
+
+-- no line could be read
+pub unread : (error : RunErr) (ahead mid : List ℕ) (old now : Streams) (k : Machine) → ReadsOn ahead mid old now → StopsReading error mid old now → Halts error ahead mid old now k k
+unread errors.BadLine ahead mid old now k reads stops = (record { reads = reads; kernel = refl }, inl stops)
+unread errors.Read ahead mid old now k reads stops = (record { reads = reads; kernel = refl }, stops.0, stops.1)
+unread errors.Write ahead mid old now k reads stops = (inr (record { waits = record { reads = reads; kernel = refl }; part = stops.0; untold = stops.1.0 }), stops.1.1)
+unread errors.Memory ahead mid old now k reads stops = absurd stops.1

@@ -1,10 +1,13 @@
--- A line of input, and how it is found in what was read.
-use Rattle.std.specs.Prelude.{◌≡◌, ◌≢◌, ℕ, ◌+◌, ◌<◌, ◌≤◌, List, ◌∷◌, ◌++◌, length, take, drop, Option, None, All}
+-- A line of input: how it is found in what was read, and what reading on for one leaves.
+use Rattle.std.specs.Prelude.{◌≡◌, ◌≢◌, ℕ, ◌+◌, ◌<◌, ◌≤◌, List, [], ◌∷◌, ◌++◌, ◌⊎◌, length, take, drop, Option, Some, None, Result, Ok, Err, All}
+use Rattle.av_io.specs.Count.{Rose}
+use Rattle.av_io.specs.Source.{SourceView}
 use Rattle.av_replay.specs.declared.line.Found.{Found}
 use Rattle.av_replay.specs.declared.line.Found.TheVariants as founds
-use Rattle.av_replay.specs.declared.line.Ending.{Ending}
-use Rattle.av_replay.specs.declared.line.Ending.TheVariants as endings
-use Rattle.av_io.specs.Source.{HasEnded}
+use Rattle.av_replay.specs.declared.line.Line.{Line}
+use Rattle.av_replay.specs.declared.status.RunErr.{RunErr}
+use Rattle.av_replay.specs.declared.status.RunErr.TheVariants as errors
+use Rattle.av_replay.specs.Streams.{Streams, ReadsOn, IsAtEnd}
 
 -- a line has at most so many bytes
 abbrev pub longest : ℕ
@@ -40,10 +43,26 @@ Finds (founds.Line size) bytes = HasLine size bytes
 Finds founds.TooLong bytes = IsTooLong bytes
 Finds founds.Part bytes = IsLine bytes
 
--- what was read and not done when the reading of a line ended
-abbrev pub ReadsLine : Ending → List ℕ → Option (List ℕ) → Option (List ℕ) → Type 0
-ReadsLine (endings.Newline size) ahead left held = HasLine size ahead
-ReadsLine endings.End ahead left held = IsLine ahead × HasEnded left
-ReadsLine endings.TooLong ahead left held = IsTooLong ahead
-ReadsLine endings.ReadFault ahead left held = IsLine ahead
-ReadsLine endings.WriteFault ahead left held = IsLine ahead × (held ≡ None)
+-- the next line stands in front of what was read, to its newline; the last line may end with the input
+abbrev pub IsNext : Line → List ℕ → SourceView → Type 0
+IsNext line ahead source =
+    (HasLine line.size ahead × (line.whole ≡ line.size + 1))
+    ⊎ (IsLine ahead × (line.size ≡ length ahead) × (0 < line.size) × (line.whole ≡ line.size) × IsAtEnd source)
+
+-- why no more could be read: the source failed, or the sink could not hand on what it kept back
+abbrev pub IsUnread : RunErr → Streams → Streams → Type 0
+IsUnread errors.Read old new = Rose old.source.faults new.source.faults
+IsUnread errors.Write old new = (new.sink.held ≡ None) × Rose old.sink.faults new.sink.faults
+IsUnread errors.BadLine old new = ⊥
+IsUnread errors.Memory old new = ⊥
+
+-- why no further line can be had
+abbrev pub StopsReading : RunErr → List ℕ → Streams → Streams → Type 0
+StopsReading errors.BadLine ahead old new = IsTooLong ahead
+StopsReading error ahead old new = IsLine ahead × IsUnread error old new
+
+-- how the reading of a line ended, or of none at the end of the input
+abbrev pub LineRead : Result (Option Line) RunErr → List ℕ → Streams → Streams → Type 0
+LineRead (Ok (Some line)) ahead old new = IsNext line ahead new.source
+LineRead (Ok None) ahead old new = (ahead ≡ []) × IsAtEnd new.source
+LineRead (Err error) ahead old new = StopsReading error ahead old new

@@ -1,10 +1,13 @@
 -- A whole trace, line by line.
-use Rattle.std.specs.Prelude.{ℕ, ◌^◌, ◌≤◌, List, [], ◌∷◌, length, Option, All, ◌==◌, if◌then◌else◌}
+use Rattle.std.specs.Prelude.{◌≡◌, ℕ, ◌≤◌, List, [], ◌∷◌, length, Option, Some, All, ◌==◌, if◌then◌else◌}
 use Rattle.av_trace.specs.declared.command.Command.{Command}
 use Rattle.av_trace.specs.Line.{Says}
 use Rattle.av_replay.specs.declared.status.Status.{Status}
 use Rattle.av_replay.specs.declared.status.Status.TheVariants as statuses
+use Rattle.av_io.specs.Count.{Rose}
+use Rattle.av_replay.specs.Streams.{Streams}
 use Rattle.av_replay.specs.Line.{IsLine}
+use Rattle.av_replay.specs.Replay.{most_lines}
 
 -- a byte goes onto the first line
 abbrev pub onto_first : ℕ → List (List ℕ) → List (List ℕ)
@@ -14,7 +17,8 @@ onto_first b (line ∷ lines) = (b ∷ line) ∷ lines
 -- the lines of a text, without their newlines; the last one may have none
 abbrev pub lines_of : List ℕ → List (List ℕ)
 lines_of [] = []
-lines_of (b ∷ bytes) = if b == 10 then [] ∷ lines_of bytes else onto_first b (lines_of bytes)
+lines_of (b ∷ bytes) =
+    if b == 10 then [] ∷ lines_of bytes else onto_first b (lines_of bytes)
 
 -- a line that is short enough, and in the grammar
 pub record IsGood (line : List ℕ) : Type 0 where
@@ -25,7 +29,7 @@ pub record IsGood (line : List ℕ) : Type 0 where
 -- each line is good, and there are not too many
 pub record IsTrace (content : List ℕ) : Type 0 where
   pub good : All IsGood (lines_of content)
-  pub few : length (lines_of content) ≤ 2 ^ 24
+  pub few : length (lines_of content) ≤ most_lines
 
 -- the status is Done, or memory ran out
 abbrev pub IsDoneOrMemory : Status → Type 0
@@ -36,3 +40,9 @@ IsDoneOrMemory (statuses.BadLine n) = ⊥
 IsDoneOrMemory statuses.ReadFault = ⊥
 IsDoneOrMemory statuses.WriteFault = ⊥
 IsDoneOrMemory statuses.TooMany = ⊥
+
+-- a trace of good lines is done, or memory ran out, where neither source nor sink failed
+abbrev pub IsComplete : Status → Streams → Streams → Type 0
+IsComplete status old new = (content : List ℕ) → old.source.left ≡ Some content → IsTrace content
+    → (Rose old.source.faults new.source.faults → ⊥) → (Rose old.sink.faults new.sink.faults → ⊥)
+    → IsDoneOrMemory status

@@ -1,5 +1,5 @@
 -- One turn of the loop over the lines.
-use Rattle.std.specs.Prelude.{◌≡◌, ℕ, ◌+◌, ◌<◌, List, [], ◌∷◌, ◌++◌, ◌⊎◌, length, take, Option, None, option_map}
+use Rattle.std.specs.Prelude.{◌≡◌, ℕ, ◌+◌, ◌<◌, ◌≤◌, List, [], ◌∷◌, ◌++◌, ◌⊎◌, length, take, Option, None, option_map, Bool, true, false, Result, Ok, Err}
 use Rattle.std.specs.List.{flat_map}
 use Rattle.std.specs.Option.{option_to_list}
 use Rattle.av_trace.specs.declared.command.Command.{Command}
@@ -7,16 +7,16 @@ use Rattle.av_trace.specs.Line.{Says}
 use Rattle.av_trace.specs.Print.{text_of}
 use Rattle.av_plain.specs.Transcript.{Exchange, State, IsRun}
 use Rattle.av_kernel.specs.Machine.{Machine}
-use Rattle.av_kernel.specs.Kernel.{Stands, word_of, counted}
-use Rattle.av_kernel.specs.View.{setting}
-use Rattle.av_replay.specs.declared.turn.Doing.{Doing}
-use Rattle.av_replay.specs.declared.turn.Doing.TheVariants as doings
-use Rattle.av_replay.specs.declared.turn.Turn.{Turn}
-use Rattle.av_replay.specs.declared.turn.Turn.TheVariants as turns
-use Rattle.av_replay.specs.declared.status.Status.{Status}
-use Rattle.av_replay.specs.declared.status.Status.TheVariants as statuses
-use Rattle.av_io.specs.Source.{in_front, Took, HasEnded}
-use Rattle.av_io.specs.Sink.{Gained}
+use Rattle.av_kernel.specs.Kernel.{Stands}
+use Rattle.av_kernel.specs.Tally.{counted}
+use Rattle.av_kernel.specs.declared.tally.Tally.{Tally}
+use Rattle.av_reclaim.specs.Mem.{setting}
+use Rattle.av_io.specs.Count.{Rose}
+use Rattle.av_io.specs.Source.{SourceView, in_front, Took, HasEnded}
+use Rattle.av_io.specs.Sink.{SinkView, Gained}
+use Rattle.av_replay.specs.declared.status.RunErr.{RunErr}
+use Rattle.av_replay.specs.declared.status.RunErr.TheVariants as errors
+use Rattle.av_replay.specs.Streams.{Streams, undone, room, IsLater, ReadsOn, IsAtEnd, Writes}
 use Rattle.av_replay.specs.Line.{IsLine, IsTooLong}
 
 -- ---- what a line does
@@ -33,16 +33,17 @@ Commands line did = Says line (option_map (λ e. e.command) did)
 abbrev pub SaysNothing : List ℕ → Type 0
 SaysNothing line = (said : Option Command) → Says line said → ⊥
 
--- the first words of these replies, counted onto others
-abbrev pub tallied : List Exchange → List ℕ → List ℕ
-tallied [] tally = tally
-tallied (e ∷ es) tally = tallied es (counted (word_of e.reply.answer) tally)
+-- these replies, counted onto others
+abbrev pub tally_of : List Exchange → Tally → Tally
+tally_of [] tally = tally
+tally_of (e ∷ es) tally = tally_of es (counted e.reply.answer tally)
 
--- the kernel counted these replies
+-- the kernel counted these replies, and is no more spent than it was
 pub record Counted (old new : Machine) (es : List Exchange) : Type 0 where
   pub steps : new.steps ≡ old.steps + length es
-  pub tally : new.tally ≡ tallied es old.tally
+  pub tally : new.tally ≡ tally_of es old.tally
   pub frames : new.frames ≡ old.frames
+  pub spent : old.spent ≡ false → new.spent ≡ false
 
 -- what a line does in a state
 pub record Answers (line : List ℕ) (s : State) (old new : Machine) (text : List ℕ) : Type 0 where
@@ -57,75 +58,118 @@ pub record Answers (line : List ℕ) (s : State) (old new : Machine) (text : Lis
 -- the kernel does a line, and this is the text of the reply
 pub record DoesLine (line : List ℕ) (old new : Machine) (text : List ℕ) : Type 0 where
   pub answers : (s : State) → Stands old s → Answers line s old new text
+  pub steps : new.steps ≤ old.steps + 1
 
--- how a line that was read was done
-abbrev pub Did : Doing → List ℕ → Machine → Machine → Option (List ℕ) → Option (List ℕ) → Type 0
-Did doings.Done line old new held held' = (text : List ℕ) × DoesLine line old new text × Gained held held' text
-Did doings.Bad line old new held held' = SaysNothing line × (new ≡ old) × Gained held held' []
-Did doings.WriteFault line old new held held' = (text : List ℕ) × (n : ℕ) × (n < length text) × DoesLine line old new text × Gained held held' (take n text)
-Did doings.Memory line old new held held' = Gained held held' [] ⊎ ((text : List ℕ) × (n : ℕ) × (n < length text) × DoesLine line old new text × Gained held held' (take n text))
+-- why a line is not done
+abbrev pub IsNotDone : RunErr → List ℕ → Machine → Machine → Type 0
+IsNotDone errors.BadLine line old new = SaysNothing line × (new ≡ old)
+IsNotDone errors.Memory line old new = Unit {0}
+IsNotDone errors.Read line old new = ⊥
+IsNotDone errors.Write line old new = ⊥
+
+-- a line was done, and its text cut short
+pub record IsCut (line : List ℕ) (old new : Machine) (sink sink' : SinkView) : Type 0 where
+  pub text : List ℕ
+  pub size : ℕ
+  pub short : size < length text
+  pub does : DoesLine line old new text
+  pub writes : Writes sink sink' (take size text)
+
+-- why a line is not done, or its text not written
+abbrev pub IsNotAnswered : RunErr → List ℕ → Machine → Machine → SinkView → SinkView → Type 0
+IsNotAnswered errors.BadLine line old new sink sink' = SaysNothing line × (new ≡ old) × (sink' ≡ sink)
+IsNotAnswered errors.Memory line old new sink sink' = (sink' ≡ sink) ⊎ IsCut line old new sink sink'
+IsNotAnswered errors.Write line old new sink sink' =
+    IsCut line old new sink sink' × Rose sink.faults sink'.faults
+IsNotAnswered errors.Read line old new sink sink' = ⊥
 
 -- ---- a turn
 
--- what was read and not done, what the source has left, what the sink holds, and the kernel
-pub record Moment : Type 0 where
-  pub ahead : List ℕ
-  pub left : Option (List ℕ)
-  pub held : Option (List ℕ)
-  pub kernel : Machine
-
--- all that is not done
-abbrev pub undone : Moment → Option (List ℕ)
-undone m = in_front m.ahead m.left
-
 -- the line in front of what was read, which ends at its newline or with the input
-abbrev pub IsNext : List ℕ → List ℕ → Option (List ℕ) → Type 0
-IsNext line bytes left = ((more : List ℕ) × (bytes ≡ line ++ 10 ∷ more)) ⊎ ((bytes ≡ line) × (0 < length line) × HasEnded left)
+abbrev pub StandsNext : List ℕ → List ℕ → Option (List ℕ) → Type 0
+StandsNext line bytes left =
+    ((more : List ℕ) × (bytes ≡ line ++ 10 ∷ more)) ⊎ ((bytes ≡ line) × (0 < length line) × HasEnded left)
 
 -- the next line is not to be done: it is outside the grammar, or too long
 abbrev pub IsBad : List ℕ → Option (List ℕ) → Type 0
-IsBad bytes left = IsTooLong bytes ⊎ ((line : List ℕ) × IsLine line × SaysNothing line × IsNext line bytes left)
+IsBad bytes left =
+    IsTooLong bytes ⊎ ((line : List ℕ) × IsLine line × SaysNothing line × StandsNext line bytes left)
 
 -- how a line that was taken ended: at its newline, or with the input
-abbrev pub IsEnding : List ℕ → List ℕ → Moment → Type 0
-IsEnding line ending now = (ending ≡ 10 ∷ []) ⊎ ((ending ≡ []) × (now.ahead ≡ []) × (0 < length line) × HasEnded now.left)
+abbrev pub IsEnding : List ℕ → List ℕ → List ℕ → SourceView → Type 0
+IsEnding line ending rest source =
+    (ending ≡ 10 ∷ []) ⊎ ((ending ≡ []) × (rest ≡ []) × (0 < length line) × IsAtEnd source)
 
--- a line was taken and done, and this was written
-pub record TakesLine (old new : Moment) (line ending text written : List ℕ) : Type 0 where
+-- a line was taken and done, this was written, and these bytes were read beyond it
+pub record TakesLine
+    (ahead : List ℕ) (old new : Streams) (k k' : Machine) (line ending rest text written : List ℕ) : Type 0 where
   pub is_line : IsLine line
-  pub took : Took (undone old) (undone new) (line ++ ending)
-  pub does : DoesLine line old.kernel new.kernel text
-  pub gained : Gained old.held new.held written
+  pub took : Took (undone ahead old) (undone rest new) (line ++ ending)
+  pub ends : IsEnding line ending rest new.source
+  pub near : length rest ≤ room
+  pub does : DoesLine line k k' text
+  pub gained : Gained old.sink.held new.sink.held written
+  pub later : IsLater old new
 
--- nothing was done, though more may have been read
-pub record Waits (old new : Moment) : Type 0 where
-  pub undone : undone new ≡ undone old
-  pub held : new.held ≡ old.held
-  pub kernel : new.kernel ≡ old.kernel
+-- nothing was done
+pub record Waits (ahead ahead' : List ℕ) (old new : Streams) (k k' : Machine) : Type 0 where
+  pub reads : ReadsOn ahead ahead' old new
+  pub kernel : k' ≡ k
 
 -- a line was done, and its text cut short
-abbrev pub IsCutShort : Moment → Moment → Type 0
-IsCutShort old new =
-    (line ending text : List ℕ) × (n : ℕ) × (n < length text) × TakesLine old new line ending text (take n text) × IsEnding line ending new
+pub record CutsShort (ahead : List ℕ) (old new : Streams) (k k' : Machine) : Type 0 where
+  pub line : List ℕ
+  pub ending : List ℕ
+  pub rest : List ℕ
+  pub text : List ℕ
+  pub size : ℕ
+  pub short : size < length text
+  pub takes : TakesLine ahead old new k k' line ending rest text (take size text)
 
--- what a turn did
-abbrev pub Turned : Turn → Moment → Moment → Type 0
-Turned turns.Done old new = (line text : List ℕ) × TakesLine old new line (10 ∷ []) text text
-Turned turns.Last old new = (line text : List ℕ) × TakesLine old new line [] text text × (new.ahead ≡ []) × (0 < length line) × HasEnded new.left
-Turned turns.End old new = Waits old new × (new.ahead ≡ []) × HasEnded new.left
-Turned turns.BadLine old new = Waits old new × IsBad new.ahead new.left
-Turned turns.ReadFault old new = Waits old new × IsLine new.ahead
-Turned turns.WriteFault old new = IsCutShort old new ⊎ (Waits old new × IsLine new.ahead × (new.held ≡ None))
-Turned turns.Memory old new = ((bytes : List ℕ) × Took (undone old) (undone new) bytes × Gained old.held new.held []) ⊎ IsCutShort old new
+-- the sink could not hand on what it kept back, before more of a line was read
+pub record IsUnflushed (ahead ahead' : List ℕ) (old new : Streams) (k k' : Machine) : Type 0 where
+  pub waits : Waits ahead ahead' old new k k'
+  pub part : IsLine ahead'
+  pub untold : new.sink.held ≡ None
 
--- ---- after the last line that may be done
+-- why a turn did not end well
+abbrev pub Halts : RunErr → List ℕ → List ℕ → Streams → Streams → Machine → Machine → Type 0
+Halts errors.BadLine ahead ahead' old new k k' =
+    Waits ahead ahead' old new k k' × IsBad ahead' new.source.left
+Halts errors.Read ahead ahead' old new k k' =
+    Waits ahead ahead' old new k k' × IsLine ahead' × Rose old.source.faults new.source.faults
+Halts errors.Write ahead ahead' old new k k' =
+    (CutsShort ahead old new k k' ⊎ IsUnflushed ahead ahead' old new k k')
+    × Rose old.sink.faults new.sink.faults
+Halts errors.Memory ahead ahead' old new k k' =
+    ReadsOn ahead ahead' old new ⊎ CutsShort ahead old new k k'
 
--- the input ended there, or a byte of one more line came, or that could not be found out
-abbrev pub Finishes : Status → Moment → Type 0
-Finishes statuses.Done now = (now.ahead ≡ []) × HasEnded now.left
-Finishes statuses.TooMany now = 0 < length now.ahead
-Finishes statuses.ReadFault now = now.ahead ≡ []
-Finishes statuses.WriteFault now = (now.ahead ≡ []) × (now.held ≡ None)
-Finishes statuses.Usage now = ⊥
-Finishes (statuses.BadLine n) now = ⊥
-Finishes statuses.Memory now = ⊥
+-- a line was done, with its newline or as the last one
+pub record DoesNext (ahead ahead' : List ℕ) (old new : Streams) (k k' : Machine) (ending : List ℕ) : Type 0 where
+  pub line : List ℕ
+  pub text : List ℕ
+  pub takes : TakesLine ahead old new k k' line ending ahead' text text
+
+-- nothing was left to be done
+pub record FindsEnd (ahead ahead' : List ℕ) (old new : Streams) (k k' : Machine) : Type 0 where
+  pub waits : Waits ahead ahead' old new k k'
+  pub none : ahead' ≡ []
+  pub end : IsAtEnd new.source
+
+-- what a turn did, and whether the input goes on
+abbrev pub Turned :
+    Result Bool RunErr → List ℕ → List ℕ → Streams → Streams → Machine → Machine → Type 0
+Turned (Ok true) ahead ahead' old new k k' = DoesNext ahead ahead' old new k k' (10 ∷ [])
+Turned (Ok false) ahead ahead' old new k k' =
+    FindsEnd ahead ahead' old new k k' ⊎ DoesNext ahead ahead' old new k k' []
+Turned (Err error) ahead ahead' old new k k' = Halts error ahead ahead' old new k k'
+
+-- after the last line that may be done: whether a byte of one more came
+abbrev pub Finished : Result Bool RunErr → List ℕ → Streams → Streams → Type 0
+Finished (Ok true) ahead' old new = 0 < length ahead'
+Finished (Ok false) ahead' old new = (ahead' ≡ []) × IsAtEnd new.source
+Finished (Err errors.Read) ahead' old new = (ahead' ≡ []) × Rose old.source.faults new.source.faults
+Finished (Err errors.Write) ahead' old new =
+    (ahead' ≡ []) × (new.sink.held ≡ None) × Rose old.sink.faults new.sink.faults
+Finished (Err errors.BadLine) ahead' old new = ⊥
+Finished (Err errors.Memory) ahead' old new = ⊥

@@ -1,11 +1,11 @@
 //! Reading a line.
 
-ghost use Rattle.std.specs.Prelude.{true, ◌≡◌, ◌≤◌};
-ghost use Rattle.av_io.specs.Count.{Rose};
-ghost use Rattle.av_io.specs.Source.{in_front};
-ghost use Rattle.av_replay.specs.Line.{Finds, ReadsLine};
+ghost use Rattle.std.specs.Prelude.{◌≡◌, ◌+◌, ◌<◌, ◌≤◌, length, IfOk, IfErr, IfSome, IfNone};
+ghost use Rattle.av_replay.specs.Streams.{streams, ReadsOn, IsAtEnd};
+ghost use Rattle.av_replay.specs.Line.{longest, Finds, LineRead, IsUnread};
 
 use crate::pending::Pending;
+use crate::status::RunErr;
 use av_io::{Sink, Source};
 use memchr::memchr;
 
@@ -32,42 +32,74 @@ pub fn find_line(bytes: &[u8]) -> Found
     }
 }
 
-/// How the reading of a line ended.
+/// A line in front of some bytes: how many it has, and how many with its newline. The last one may have none.
 #[derive(Clone, Copy, Drop, Debug, PartialEq, Eq)]
-pub enum Ending {
-    Newline(usize),
-    End,
-    TooLong,
-    ReadFault,
-    WriteFault,
+pub struct Line {
+    pub size: usize,
+    pub whole: usize,
 }
 
-/// Reads on until a line has come, or the input has ended.
+/// Reads on, and says how many bytes came. 0 is the end of the input.
 ///
-/// The sink is flushed before each read: who waits for the replies to the lines so far, before going on, sees them.
-pub fn read_line<S: Source, K: Sink>(source: &mut S, sink: &mut K, pending: &mut Pending) -> Ending
-    ensures reads { ReadsLine result pending.new (S.left source.new) (K.held sink.new) }
-    ensures undone { in_front pending.new (S.left source.new) ≡ in_front pending.old (S.left source.old) }
-    ensures held { K.held sink.new ≡ K.held sink.old }
-    ensures told { result ≡ Ending.End → S.has_told_end source.new ≡ true }
-    ensures source_never_falls { S.faults source.old ≤ S.faults source.new }
-    ensures sink_never_falls { K.faults sink.old ≤ K.faults sink.new }
-    ensures read_cause { result ≡ Ending.ReadFault → Rose (S.faults source.old) (S.faults source.new) }
-    ensures write_cause { result ≡ Ending.WriteFault → Rose (K.faults sink.old) (K.faults sink.new) }
+/// The sink is flushed first: who waits for the replies so far, before going on, sees them.
+pub fn read_on<S: Source, K: Sink>(
+    source: &mut S,
+    sink: &mut K,
+    pending: &mut Pending,
+) -> Result<usize, RunErr>
+    requires { length pending.old ≤ longest }
+    ensures reads { ReadsOn pending.old pending.new (streams (S.view source.old) (K.view sink.old))
+        (streams (S.view source.new) (K.view sink.new)) }
+    ensures more { IfOk result (λ n. length pending.new ≡ length pending.old + n) }
+    ensures ended { IfOk result (λ n. n ≡ 0 → (pending.new ≡ pending.old) × IsAtEnd (S.view source.new)) }
+    ensures err { IfErr result (λ e. (pending.new ≡ pending.old)
+        × IsUnread e (streams (S.view source.old) (K.view sink.old))
+        (streams (S.view source.new) (K.view sink.new))) }
+{
+    if sink.flush().is_err() {
+        return Err(RunErr::Write);
+    }
+    match pending.fill(source) {
+        Ok(count) => Ok(count),
+        Err(_) => Err(RunErr::Read),
+    }
+}
+
+/// Reads on until a line has come, and says where it ends; or None, where the input has ended before another.
+pub fn read_line<S: Source, K: Sink>(
+    source: &mut S,
+    sink: &mut K,
+    pending: &mut Pending,
+) -> Result<Option<Line>, RunErr>
+    ensures reads { ReadsOn pending.old pending.new (streams (S.view source.old) (K.view sink.old))
+        (streams (S.view source.new) (K.view sink.new)) }
+    ensures line { LineRead result pending.new (streams (S.view source.old) (K.view sink.old))
+        (streams (S.view source.new) (K.view sink.new)) }
 {
     loop {
         match find_line(pending.as_slice()) {
-            Found::Line(size) => return Ending::Newline(size),
-            Found::TooLong => return Ending::TooLong,
+            Found::Line(size) => {
+                return Ok(Some(Line {
+                    size,
+                    whole: size + 1,
+                }));
+            }
+            Found::TooLong => return Err(RunErr::BadLine),
             Found::Part => {}
         }
-        if sink.flush().is_err() {
-            return Ending::WriteFault;
-        }
-        match pending.fill(source) {
-            Ok(0) => return Ending::End,
-            Ok(_) => {}
-            Err(_) => return Ending::ReadFault,
+        if read_on(source, sink, pending)? == 0 {
+            return Ok(last_line(pending.as_slice().len()));
         }
     }
+}
+
+/// What is left at the end of the input, so many bytes: a last line without newline, or none.
+fn last_line(size: usize) -> Option<Line>
+    ensures none { IfNone result (size ≡ 0) }
+    ensures some { IfSome result (λ line. (0 < size) × (line ≡ record { size = size; whole = size })) }
+{
+    if size == 0 {
+        return None;
+    }
+    Some(Line { size, whole: size })
 }

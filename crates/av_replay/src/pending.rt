@@ -1,8 +1,9 @@
 //! What was read of the source and is not yet done.
 
-ghost use Rattle.std.specs.Prelude.{true, ◌≡◌, ◌+◌, ◌-◌, ◌<◌, ◌≤◌, List, [], ℕ, length, take, drop, IfOk, OnErr};
-ghost use Rattle.av_io.specs.Count.{Rose};
-ghost use Rattle.av_io.specs.Source.{in_front, Took, HasEnded};
+ghost use Rattle.std.specs.Prelude.{◌≡◌, ◌+◌, ◌-◌, ◌<◌, ◌≤◌, [], length, take, drop, IfOk, OnErr};
+ghost use Rattle.av_io.specs.Count.{one_more, Rose};
+ghost use Rattle.av_io.specs.Source.{in_front, Took, GivesNothing};
+ghost use Rattle.av_replay.specs.Streams.{room, IsAtEnd};
 ghost use Rattle.av_replay.specs.Line.{longest};
 
 use av_io::{Failed, Source};
@@ -48,14 +49,17 @@ fn read_behind<S: Source>(source: &mut S, bytes: &mut [u8], kept: usize) -> Resu
     requires { kept < length bytes.old }
     ensures kept { take kept bytes.new ≡ take kept bytes.old }
     ensures within { IfOk result (λ n. kept + n ≤ length bytes.new) }
-    ensures taken { IfOk result (λ n. Took (S.left source.old) (S.left source.new) (take n (drop kept bytes.new))) }
-    ensures ended { IfOk result (λ n. n ≡ 0 → HasEnded (S.left source.new)) }
-    ensures told { IfOk result (λ n. n ≡ 0 → S.has_told_end source.new ≡ true) }
-    ensures failed { OnErr result (S.left source.new ≡ S.left source.old) }
-    ensures never_falls { S.faults source.old ≤ S.faults source.new }
-    ensures cause { OnErr result (Rose (S.faults source.old) (S.faults source.new)) }
+    ensures taken { IfOk result (λ n. Took (S.view source.old).left (S.view source.new).left
+        (take n (drop kept bytes.new))) }
+    ensures ended { IfOk result (λ n. n ≡ 0 → IsAtEnd (S.view source.new)) }
+    ensures reads { (S.view source.new).reads ≡ one_more (S.view source.old).reads }
+    ensures never_falls { (S.view source.old).faults ≤ (S.view source.new).faults }
+    ensures err { OnErr result (GivesNothing (S.view source.old) (S.view source.new)) }
 {
-    source.read(&mut bytes[kept..])
+    match source.read(&mut bytes[kept..]) {
+        Ok(count) => Ok(count),
+        Err(error) => Err(error),
+    }
 }
 
 impl Pending {
@@ -70,8 +74,10 @@ impl Pending {
         })
     }
 
+    /// The bytes, which are never more than the room for them.
     pub fn as_slice(&self) -> &[u8]
-        ensures { result.now ≡ self.now }
+        ensures is { result.now ≡ self.now }
+        ensures few { length self.now ≤ room }
     {
         &self.bytes[self.start..self.end]
     }
@@ -87,13 +93,14 @@ impl Pending {
     /// Reads more, and says how many bytes came. 0 is the end of the input.
     pub fn fill<S: Source>(&mut self, source: &mut S) -> Result<usize, Failed>
         requires { length self.old ≤ longest }
-        ensures undone { in_front self.new (S.left source.new) ≡ in_front self.old (S.left source.old) }
+        ensures undone { in_front self.new (S.view source.new).left ≡ in_front self.old (S.view source.old).left }
+        ensures few { length self.new ≤ room }
         ensures more { IfOk result (λ n. length self.new ≡ length self.old + n) }
-        ensures ended { IfOk result (λ n. n ≡ 0 → (self.new ≡ self.old) × HasEnded (S.left source.new)) }
-        ensures told { IfOk result (λ n. n ≡ 0 → S.has_told_end source.new ≡ true) }
+        ensures ended { IfOk result (λ n. n ≡ 0 → (self.new ≡ self.old) × IsAtEnd (S.view source.new)) }
+        ensures reads { (S.view source.new).reads ≡ one_more (S.view source.old).reads }
+        ensures never_falls { (S.view source.old).faults ≤ (S.view source.new).faults }
         ensures failed { OnErr result (self.new ≡ self.old) }
-        ensures never_falls { S.faults source.old ≤ S.faults source.new }
-        ensures cause { OnErr result (Rose (S.faults source.old) (S.faults source.new)) }
+        ensures cause { OnErr result (Rose (S.view source.old).faults (S.view source.new).faults) }
     {
         move_to_front(&mut self.bytes, self.start, self.end);
         self.end -= self.start;

@@ -1,3 +1,10 @@
+//! How a run ends.
+
+ghost use Rattle.std.specs.Prelude.{◌≡◌};
+ghost use Rattle.av_replay.specs.declared.status.RunErr.TheVariants.{Memory};
+
+use std::alloc::AllocError;
+
 /// How a run ended.
 #[derive(Clone, Copy, Drop, Debug, PartialEq, Eq)]
 pub enum Status {
@@ -15,4 +22,24 @@ pub enum Status {
     Memory,
     /// The first byte of line 2^24 + 1 came. The lines before it are done.
     TooMany,
+}
+
+/// Why no further line is done.
+#[derive(Clone, Copy, Drop, Debug, PartialEq, Eq)]
+pub enum RunErr {
+    /// The next line is no command, or too long.
+    BadLine,
+    /// The source failed.
+    Read,
+    /// The sink failed.
+    Write,
+    Memory,
+}
+
+impl From<AllocError> for RunErr {
+    ghost from_gives = { λ _ e. e ≡ Memory };
+
+    fn from(_error: AllocError) -> RunErr {
+        RunErr::Memory
+    }
 }

@@ -8,7 +8,8 @@ use Rattle.av_plain.specs.Transcript.{State}
 use Rattle.av_kernel.specs.Machine.{Machine}
 use Rattle.av_kernel.specs.Kernel.{Steps}
 
--- The line says a command; its reply is a legal step from the state, and the kernel stands for the next one; the text is that of the reply.
+-- The line says a command; its reply is a legal step from the state, and the kernel stands for the
+-- next one; the text is that of the reply.
 pub record Answers (line : List ℕ) (s : State) (old new : Machine) (text : List ℕ) : Type 0 where
   pub command : Command
   pub reply : Reply

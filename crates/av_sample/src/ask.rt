@@ -2,7 +2,7 @@
 
 ghost use Rattle.std.specs.Prelude.{◌≡◌, ◌≤◌, ◌^◌, Option, None, IfOk, IsErrOf};
 ghost use Rattle.av_trace.specs.declared.command.Command.{Command as AnyCommand};
-ghost use Rattle.av_trace.specs.Grammar.{Says};
+ghost use Rattle.av_trace.specs.Line.{Says};
 ghost use Rattle.av_plain.specs.Transcript.{State};
 ghost use Rattle.av_kernel.specs.Kernel.{Stands};
 ghost use Rattle.av_sample.specs.Answers.{Answers};
@@ -33,7 +33,8 @@ pub enum Unanswered {
 pub fn ask(alloc: Global, kernel: &mut Kernel, line: &[u8]) -> Result<Bytes, Unanswered>
     ensures answers { (s : State) → Stands kernel.old s
         → IfOk result (λ text. Answers line.now s kernel.old kernel.new text) }
-    ensures blank { IsErrOf result Unanswered.Blank → Says line.now None × (kernel.new ≡ kernel.old) }
+    ensures blank { IsErrOf result Unanswered.Blank
+        → Says line.now None × (kernel.new ≡ kernel.old) }
     ensures bad { IsErrOf result Unanswered.NoCommand
         → ((said : Option AnyCommand) → Says line.now said → ⊥) × (kernel.new ≡ kernel.old) }
     ensures enough { IsErrOf result Unanswered.TooMany

@@ -1,7 +1,9 @@
-//! A program that uses the crates as a library: it gives a kernel a few lines, and prints each reply with how many frames are free then.
+//! A program that uses the crates as a library: it gives a kernel a few lines, and prints each
+//! reply with how many frames are free then.
 //!
-//! What is proved: `ask` answers a line with the text of a legal reply to what the line commands, and the kernel stands for the state that
-//! this leaves. What is printed is only tested, by the file `stdout` beside `src/`.
+//! What is proved: `ask` answers a line with the text of a legal reply to what the line commands,
+//! the kernel stands for the state that this leaves, and each refusal comes only where it is due.
+//! What is printed is only tested, by the file `stdout` beside `src/`.
 #![tactic(auto)]
 
 mod ask;

@@ -1,7 +1,7 @@
 //! What the program says and answers when it fails.
 
 ghost use Rattle.std.specs.Prelude.{◌≡◌};
-ghost use Rattle.avsim.specs.Endings.{number_of, failure_of};
+ghost use Rattle.avsim.specs.Failure.{number_of, failure_of};
 
 use av_replay::Status;
 use thiserror::Error;
@@ -9,7 +9,7 @@ use thiserror::Error;
 /// Why the program failed, in the words that it prints.
 #[derive(Debug, Drop, Error)]
 pub enum Failure {
-    #[error("usage: avsim run FRAMES [SWAP..] | avsim work SEED LINES FRAMES [SWAP..]")]
+    #[error("usage: avsim run FRAMES | avsim --help | avsim --version")]
     Usage,
     #[error("line {0}: not a command")]
     BadLine(u32),
@@ -41,7 +41,7 @@ impl Failure {
 }
 
 /// The number with which the program ends.
-pub fn number(status: Status) -> u8
+pub fn exit_number(status: Status) -> u8
     ensures { result ≡ number_of status }
 {
     match status {

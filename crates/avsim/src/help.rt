@@ -1,5 +1,8 @@
 //! What the program tells about itself.
 
+ghost use Rattle.std.specs.Prelude.{ℕ, List, map, string_bytes, IfSome, IfNone};
+ghost use Rattle.avsim.specs.Help.{AskFor};
+
 /// The text of `--version`.
 pub const VERSION: &str = "avsim 0.1.0\n";
 
@@ -43,3 +46,15 @@ A reply is followed by notes of what happened, each on a line that begins with a
 exit status: 0, or 2 usage, 3 a line that is no command, 4 a failed read, 5 a failed write,
              6 out of memory, 7 too many lines
 ";
+
+/// The text that the words ask for, where they ask for one and nothing else.
+pub fn text_for(words: &[String]) -> Option<&'static str>
+    ensures some { IfSome result (λ text. AskFor (map string_bytes words.now) text.now) }
+    ensures none { IfNone result ((text : List ℕ) → AskFor (map string_bytes words.now) text → ⊥) }
+{
+    match words {
+        [word] if word.as_str() == "--help" => Some(HELP),
+        [word] if word.as_str() == "--version" => Some(VERSION),
+        _ => None,
+    }
+}

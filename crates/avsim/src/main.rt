@@ -1,32 +1,38 @@
 //! Replays a trace on standard input, and writes its transcript to standard output.
+//!
+//! Proved: which text the words ask for, and by the status of a run the number with which the program ends and the failure that it prints.
+//! The texts themselves are only tested, and that they reach standard output and standard error.
 #![tactic(auto)]
 
 mod failure;
 mod help;
 
-ghost use Rattle.std.specs.Prelude.{◌≢◌, length, IsNone};
-
-use crate::failure::{Failure, number};
-use crate::help::{HELP, VERSION};
-use av_replay::{Status, run};
+use crate::failure::{Failure, exit_number};
+use crate::help::text_for;
 use av_io::{ReadSource, WriteSink};
+use av_replay::{Status, run};
 use std::env;
 use std::io::{self, ErrorKind};
 use std::process::ExitCode;
 
-/// What the program tells about itself, where the only word asks for it.
-fn told(words: &[String]) -> Option<&'static str>
-    ensures { length words.now ≢ 1 → IsNone result }
-{
-    match words {
-        [word] if word.as_str() == "--help" => Some(HELP),
-        [word] if word.as_str() == "--version" => Some(VERSION),
-        _ => None,
+/// The words of the command line, without the program's name. A word that is no text is a usage error.
+fn read_words(rt: &HostRuntime) -> Result<Vec<String>, Status> {
+    let args = match env::args(rt) {
+        Ok(args) => args,
+        Err(error) if error.kind() == ErrorKind::OutOfMemory => return Err(Status::Memory),
+        Err(_) => return Err(Status::Usage),
+    };
+    let mut words = Vec::new(rt.alloc());
+    for word in args.skip(1) {
+        if words.push(word).is_err() {
+            return Err(Status::Memory);
+        }
     }
+    Ok(words)
 }
 
 /// Prints a text. It fails as a run does whose output fails.
-fn printed(rt: &HostRuntime, text: &str) -> Status {
+fn print_text(rt: &HostRuntime, text: &str) -> Status {
     match print!(rt; "{text}") {
         Ok(()) => Status::Done,
         Err(_) => Status::WriteFault,
@@ -34,21 +40,13 @@ fn printed(rt: &HostRuntime, text: &str) -> Status {
 }
 
 /// Runs the program on its words, over standard input and output.
-fn replayed(rt: &HostRuntime) -> Status {
-    let args = match env::args(rt) {
-        Ok(args) => args,
-        Err(error) if error.kind() == ErrorKind::OutOfMemory => return Status::Memory,
-        // A word that is no text.
-        Err(_) => return Status::Usage,
+fn run_program(rt: &HostRuntime) -> Status {
+    let words = match read_words(rt) {
+        Ok(words) => words,
+        Err(status) => return status,
     };
-    let mut words = Vec::new(rt.alloc());
-    for word in args.skip(1) {
-        if words.push(word).is_err() {
-            return Status::Memory;
-        }
-    }
-    if let Some(text) = told(&words) {
-        return printed(rt, text);
+    if let Some(text) = text_for(&words) {
+        return print_text(rt, text);
     }
     let mut source = ReadSource::new(rt.reader());
     let Ok(mut sink) = WriteSink::new(rt.alloc(), io::writer(rt)) else {
@@ -58,10 +56,13 @@ fn replayed(rt: &HostRuntime) -> Status {
 }
 
 fn main(rt: HostRuntime) -> ExitCode {
-    let status = replayed(&rt);
+    let status = run_program(&rt);
     if let Some(failure) = Failure::of(status) {
         // Nothing is left to be done where standard error takes nothing.
         let _ = eprintln!(rt; "avsim: {failure}");
     }
-    ExitCode::from(number(status))
+    ExitCode::from(exit_number(status))
 }
+
+#[cfg(test)]
+mod tests;

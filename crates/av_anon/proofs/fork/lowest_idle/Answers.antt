@@ -1,4 +1,4 @@
-use Rattle.std.proofs.Common.{◌≡◌, ℕ, suc, ◌+◌, ◌<◌, ◌∷◌, [], cond, true, false, length, drop, get_or, refl, sym, ap, ◌∙◌, Some, arith, drop-cons, add-one}
+use Rattle.std.proofs.Common.{◌≡◌, suc, ◌+◌, ◌<◌, cond, true, false, length, drop, get_or, sym, ap, ◌∙◌, Some, arith, drop-cons}
 use Rattle.av_anon.specs.Fork.{is_idle, reused}
 use Rattle.av_anon.specs.Infos.{info_in}
 use Rattle.av_anon.proofs.Words.{drop_all}
@@ -13,7 +13,8 @@ loop-anon-preserved c =
     let lt : k < length xs = omega arith in
     let one : suc k ≡ k + 1 = omega arith in
     let busy : is_idle x (info x) ≡ false = sym c.may_be_reused.ensures ∙ c.if-may_be_reused.false in
-    c.loop-anon.invariant ∙ ap (reused info) (drop-cons xs k 0 lt) ∙ ap (λ b. cond b (Some x) (reused info (drop (suc k) xs))) busy ∙ ap (λ n. reused info (drop n xs)) one
+    c.loop-anon.invariant ∙ ap (reused info) (drop-cons xs k 0 lt) ∙ ap (λ b. cond b (Some x) (reused info (drop (suc k) xs))) busy
+    ∙ ap (λ n. reused info (drop n xs)) one
 
 pub returns-then-may_be_reused : goal.returns-then-may_be_reused
 returns-then-may_be_reused c =

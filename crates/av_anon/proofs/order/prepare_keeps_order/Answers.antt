@@ -4,7 +4,7 @@ use Rattle.std.proofs.lemmas.Bool.{eqb-true}
 use Rattle.av_base.specs.Words.{is_in}
 use Rattle.av_interval.specs.declared.span.Span.{Span}
 use Rattle.av_vma.specs.declared.area.Area.{Area}
-use Rattle.av_anon.specs.Anons.{give_own, own_of, Family}
+use Rattle.av_anon.specs.Anons.{give_own, Family}
 use Rattle.av_anon.specs.Order.{IsChain, IsInOrder}
 use Rattle.av_anon.specs.Prepare.{lent_near, lent_to, prepared, prepared_own}
 use Rattle.av_anon.specs.Spans.{GoWithLinks}
@@ -23,18 +23,21 @@ single v (x ∷ []) one h = ap (λ y. y ∷ []) (sym (eqb-true v x (last (Rattle
     last false h = h
 single v (x ∷ (y ∷ ys)) one h = absurd (omega arith)
 
-by_lent : (areas : ℕ → Option Area) (f : Family) (spans spans' : ℕ → List Span) (area : ℕ) (A : Area) (before after : Option ℕ) → IsInOrder areas f spans → areas area ≡ Some A → A.anon ≡ None
+by_lent : (areas : ℕ → Option Area) (f : Family) (spans spans' : ℕ → List Span) (area : ℕ) (A : Area) (before after : Option ℕ)
+    → IsInOrder areas f spans → areas area ≡ Some A → A.anon ≡ None
     → (lent : Option ℕ) → lent_near areas f.chain A before after ≡ lent
-    → GoWithLinks (give_own area (Some (prepared_own lent f)) areas) (prepared area lent f).chain spans' → IsInOrder (give_own area (Some (prepared_own lent f)) areas) (prepared area lent f) spans'
+    → GoWithLinks (give_own area (Some (prepared_own lent f)) areas) (prepared area lent f).chain spans'
+    → IsInOrder (give_own area (Some (prepared_own lent f)) areas) (prepared area lent f) spans'
 by_lent areas f spans spans' area A before after o is none None e g = root_keeps areas f spans o area A is none spans' g
 by_lent areas f spans spans' area A before after o is none (Some v) e g =
     let near = one_node_near areas f.chain A before after v e in
     let n = near.0 in
     let one : f.chain n ≡ v ∷ [] = single v (f.chain n) near.2 ((o.chains n).own_in v near.1) in
     raised_keeps areas f spans o area A is none v (v ∷ []) spans'
-        (subst (λ c. IsChain f.info f.next (Some v) c) one (subst (λ w. IsChain f.info f.next w (f.chain n)) near.1 (o.chains n)))
-        (λ b h. o.alike b n v h near.1 ∙ one) g
+    (subst (λ c. IsChain f.info f.next (Some v) c) one (subst (λ w. IsChain f.info f.next w (f.chain n)) near.1 (o.chains n)))
+    (λ b h. o.alike b n v h near.1 ∙ one) g
 
 pub returns : goal.returns
 returns c = λ areas f spans spans' area A before after o is none.
-    by_lent areas f spans spans' area A before after o is none (lent_to areas f.chain area before after) (ap (λ m. option_and_then (λ (b : Area). lent_near areas f.chain b before after) m) (sym is))
+    by_lent areas f spans spans' area A before after o is none (lent_to areas f.chain area before after) (ap (λ m. option_and_then (λ
+    (b : Area). lent_near areas f.chain b before after) m) (sym is))

@@ -16,11 +16,13 @@ module _ (areas : ℕ → Option Area) (f : Family) (spans spans' : ℕ → List
   -- an area without anon_vma keeps none
   same_own : A.anon ≡ None → (b : ℕ) → own_of (give_own a None areas b) ≡ own_of (areas b)
   same_own none b = elim (cases_eq b a) [
-    | inl e ↦ ap (λ m. own_of (give_own a None areas m)) e ∙ ap own_of (with_at-here a (with_own None (areas a)) areas) ∙ ap (λ m. own_of (with_own None m)) is ∙ sym none ∙ sym (ap own_of is) ∙ ap (λ m. own_of (areas m)) (sym e)
+    | inl e ↦ ap (λ m. own_of (give_own a None areas m)) e ∙ ap own_of (with_at-here a (with_own None (areas a)) areas)
+        ∙ ap (λ m. own_of (with_own None m)) is ∙ sym none ∙ sym (ap own_of is) ∙ ap (λ m. own_of (areas m)) (sym e)
     | inr ne ↦ ap own_of (with_at-other a (with_own None (areas a)) areas b ne)
   ]
 
-  by_own : (own : Option ℕ) → A.anon ≡ own → GoWithLinks (give_own a None areas) (unlinked own a f).chain spans' → IsInOrder (give_own a None areas) (unlinked own a f) spans'
+  by_own : (own : Option ℕ) → A.anon ≡ own → GoWithLinks (give_own a None areas) (unlinked own a f).chain spans'
+      → IsInOrder (give_own a None areas) (unlinked own a f) spans'
   by_own (Some own) e g = left_keeps areas f spans o a own A is e spans' g
   by_own None e g = record {
     chains = λ b. subst (λ w. IsChain f.info f.next w (f.chain b)) (sym (same_own e b)) (o.chains b);
@@ -35,7 +37,8 @@ module _ (areas : ℕ → Option Area) (f : Family) (spans spans' : ℕ → List
     spanned = g;
     areas_fit = λ b B h. elim (cases_eq b a) [
       | inl n ↦
-          let same : Some B ≡ Some (record A { anon = None }) = sym h ∙ ap (λ m. give_own a None areas m) n ∙ with_at-here a (with_own None (areas a)) areas ∙ ap (with_own None) is in
+          let same : Some B ≡ Some (record A { anon = None }) = sym h ∙ ap (λ m. give_own a None areas m) n
+          ∙ with_at-here a (with_own None (areas a)) areas ∙ ap (with_own None) is in
           subst IsArea (sym (some_is same)) (record { forward = (o.areas_fit a A is).forward; small = (o.areas_fit a A is).small })
       | inr ne ↦ o.areas_fit b B (sym (with_at-other a (with_own None (areas a)) areas b ne) ∙ h)
     ];
@@ -43,4 +46,6 @@ module _ (areas : ℕ → Option Area) (f : Family) (spans spans' : ℕ → List
 
 pub returns : goal.returns
 returns c = λ areas f spans spans' a A o is.
-    subst (λ m. GoWithLinks (give_own a None areas) (unlinked m a f).chain spans' → IsInOrder (give_own a None areas) (unlinked m a f) spans') (sym (ap own_of is)) (by_own areas f spans spans' a A o is A.anon Rattle.std.proofs.Common.refl)
+    subst (λ m. GoWithLinks (give_own a None areas) (unlinked m a f).chain spans'
+    → IsInOrder (give_own a None areas) (unlinked m a f) spans') (sym (ap own_of is))
+    (by_own areas f spans spans' a A o is A.anon Rattle.std.proofs.Common.refl)

@@ -1,4 +1,4 @@
-use Rattle.std.proofs.Common.{None, sym, ap, ◌∙◌}
+use Rattle.std.proofs.Common.{None, ap, ◌∙◌}
 use Rattle.av_base.specs.Words.{with_at}
 use Rattle.av_anon.specs.Infos.{info_in}
 use Rattle.av_anon.specs.Unlink.{destroyed_by}

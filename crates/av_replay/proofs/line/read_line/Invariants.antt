@@ -1,13 +1,12 @@
-use Rattle.std.proofs.Common.{◌≡◌, ◌≤◌, ◌-◌, length}
-use Rattle.av_io.specs.Source.{in_front}
+use Rattle.std.proofs.Common.{◌≡◌, ◌-◌, length}
+use Rattle.av_replay.specs.Streams.{streams, undone, IsLater}
 use Rattle.av_replay.proofs.line.read_line.Given as goal
 
 abbrev pub invariant-loop-size : goal.invariant-loop-size
 invariant-loop-size g l = record {
-  undone : in_front l.pending (g.S.Source.left l.source) ≡ in_front l.fn.pending (g.S.Source.left l.fn.source);
-  held : g.K.Sink.held l.sink ≡ g.K.Sink.held l.fn.sink;
-  source_later : g.S.Source.faults l.fn.source ≤ g.S.Source.faults l.source;
-  sink_later : g.K.Sink.faults l.fn.sink ≤ g.K.Sink.faults l.sink;
+  same : undone l.pending (streams (g.S.Source.view l.source) (g.K.Sink.view l.sink)) ≡ undone l.fn.pending (streams (g.S.Source.view l.fn.source) (g.K.Sink.view l.fn.sink));
+  held : (g.K.Sink.view l.sink).held ≡ (g.K.Sink.view l.fn.sink).held;
+  later : IsLater (streams (g.S.Source.view l.fn.source) (g.K.Sink.view l.fn.sink)) (streams (g.S.Source.view l.source) (g.K.Sink.view l.sink));
 }
 
 abbrev pub decreases-loop-size : goal.decreases-loop-size

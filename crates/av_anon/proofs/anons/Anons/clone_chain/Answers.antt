@@ -1,4 +1,4 @@
-use Rattle.std.proofs.Common.{◌≡◌, ◌^◌, ◌<◌, [], Some, ap, arith}
+use Rattle.std.proofs.Common.{◌^◌, ◌<◌, Some, ap, arith}
 use Rattle.av_chain.specs.Links.{chain_of}
 use Rattle.av_vma.specs.Areas.{area_of}
 use Rattle.av_anon.specs.Spans.{spans_of}
@@ -18,6 +18,7 @@ returns-clause-spans c =
     let chain = chain_of c.args.self.now.links in
     let fit : c.args.dst < 2 ^ 64 = omega arith in
     let empty = (c.requires.order.chains c.args.dst).none c.requires.none in
-    given-spans areas areas' chain (chain_of c.join.new.self.links) (spans_of c.args.self.now) c.requires.order.spanned c.args.dst c.get-this.result c.get-this.ensures fit
-        (Some c.in-Some.own) c.deref.result.now (spans_of c.join.new.self) empty c.in_ok-join.ensures.spans (ap (λ f. f.chain) c.in_ok-join.ensures.family)
-        (own-given areas areas' c.args.dst c.get-this.result (Some c.in-Some.own) c.get-this.ensures c.change.ensures)
+    given-spans areas areas' chain (chain_of c.join.new.self.links)
+    (spans_of c.args.self.now) c.requires.order.spanned c.args.dst c.get-this.result c.get-this.ensures fit
+    (Some c.in-Some.own) c.deref.result.now (spans_of c.join.new.self) empty c.in_ok-join.ensures.spans (ap (λ f. f.chain) c.in_ok-join.ensures.family)
+    (own-given areas areas' c.args.dst c.get-this.result (Some c.in-Some.own) c.get-this.ensures c.change.ensures)

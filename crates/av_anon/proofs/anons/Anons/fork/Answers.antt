@@ -1,11 +1,10 @@
-use Rattle.std.proofs.Common.{◌≡◌, ◌^◌, ◌<◌, ℕ, List, true, [], Some, sym, ap, ◌∙◌, subst, arith}
+use Rattle.std.proofs.Common.{◌≡◌, ◌^◌, ◌<◌, ℕ, true, Some, sym, ap, ◌∙◌, subst, arith}
 use Rattle.av_base.specs.Words.{is_in, with_at}
 use Rattle.av_chain.specs.Links.{chain_of}
 use Rattle.av_interval.specs.Spans.{IsNew, triples}
 use Rattle.av_vma.specs.Areas.{area_of}
 use Rattle.av_anon.specs.Anons.{family, IsRising}
-use Rattle.av_anon.specs.Fork.{child_chain, reused}
-use Rattle.av_anon.specs.Infos.{info_in}
+use Rattle.av_anon.specs.Fork.{reused}
 use Rattle.av_anon.specs.Spans.{span_at, spans_of, spans_with}
 use Rattle.av_anon.proofs.Choosing.{child_family_chain, child_rising}
 use Rattle.av_anon.proofs.Given.{given-spans, own-given}
@@ -15,7 +14,9 @@ use Rattle.av_anon.proofs.anons.Anons.fork.Goals as goal
 pub join-requires-clause-empty : goal.join-requires-clause-empty
 join-requires-clause-empty c =
     let f = family c.args.self.now in
-    ap (λ g. g.chain c.args.dst) c.in_ok-anon.ensures.family ∙ ap (λ g. g c.args.dst) (child_family_chain (reused f.info c.in_ok-chain.chain.items) c.in-Some.own f) ∙ (c.requires.order.chains c.args.dst).none c.requires.none
+    ap (λ g. g.chain c.args.dst) c.in_ok-anon.ensures.family
+    ∙ ap (λ g. g c.args.dst) (child_family_chain (reused f.info c.in_ok-chain.chain.items) c.in-Some.own f)
+    ∙ (c.requires.order.chains c.args.dst).none c.requires.none
 
 pub join-requires-clause-rising : goal.join-requires-clause-rising
 join-requires-clause-rising c =
@@ -30,7 +31,7 @@ pub join-requires-clause-new : goal.join-requires-clause-new
 join-requires-clause-new c = λ v h.
     let empty = (c.requires.order.chains c.args.dst).none c.requires.none in
     subst (IsNew c.args.dst) (ap (λ s. triples s v) (sym c.own_for_child.ensures.spans))
-        (new_to_all (area_of c.args.areas.now) (chain_of c.args.self.now.links) (spans_of c.args.self.now) c.requires.order.spanned c.args.dst empty v)
+    (new_to_all (area_of c.args.areas.now) (chain_of c.args.self.now.links) (spans_of c.args.self.now) c.requires.order.spanned c.args.dst empty v)
 
 pub returns-clause-spans : goal.returns-clause-spans
 returns-clause-spans c =
@@ -42,9 +43,10 @@ returns-clause-spans c =
     let this = c.get-this.result in
     let fit : dst < 2 ^ 64 = omega arith in
     let empty = (c.requires.order.chains dst).none c.requires.none in
-    let same : chain_of c.own_for_child.new.self.links ≡ f.chain = ap (λ g. g.chain) c.in_ok-anon.ensures.family ∙ child_family_chain (reused f.info c.in_ok-chain.chain.items) c.in-Some.own f in
+    let same : chain_of c.own_for_child.new.self.links ≡ f.chain = ap (λ g. g.chain) c.in_ok-anon.ensures.family
+    ∙ child_family_chain (reused f.info c.in_ok-chain.chain.items) c.in-Some.own f in
     given-spans areas areas' f.chain (chain_of c.join.new.self.links) (spans_of c.args.self.now) c.requires.order.spanned dst this c.get-this.ensures fit
-        (Some c.in_ok-anon.anon) xs (spans_of c.join.new.self) empty
-        (λ v. c.in_ok-join.ensures.spans v ∙ ap (λ s. spans_with xs (span_at dst this) (triples s) v) c.own_for_child.ensures.spans)
-        (ap (λ g. g.chain) c.in_ok-join.ensures.family ∙ ap (with_at dst xs) same)
-        (own-given areas areas' dst this (Some c.in_ok-anon.anon) c.get-this.ensures c.change.ensures)
+    (Some c.in_ok-anon.anon) xs (spans_of c.join.new.self) empty
+    (λ v. c.in_ok-join.ensures.spans v ∙ ap (λ s. spans_with xs (span_at dst this) (triples s) v) c.own_for_child.ensures.spans)
+    (ap (λ g. g.chain) c.in_ok-join.ensures.family ∙ ap (with_at dst xs) same)
+    (own-given areas areas' dst this (Some c.in_ok-anon.anon) c.get-this.ensures c.change.ensures)

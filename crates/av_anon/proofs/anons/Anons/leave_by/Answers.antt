@@ -1,4 +1,4 @@
-use Rattle.std.proofs.Common.{◌≡◌, ℕ, List, [], ◌∷◌, ◌++◌, false, true, cond, IsSome, Some, refl, sym, ap, ◌∙◌, subst, append_assoc, append-nil, length, arith}
+use Rattle.std.proofs.Common.{◌≡◌, ℕ, [], ◌∷◌, ◌++◌, false, true, cond, IsSome, Some, refl, sym, ap, ◌∙◌, subst, append_assoc, append-nil, length, arith}
 use Rattle.av_base.specs.Words.{is_in, with_at}
 use Rattle.av_chain.specs.Links.{chain_of, users_of, left_by, left_by_all, first_in, rest_in, without}
 use Rattle.av_chain.proofs.TwoMaps.{with_at_here, with_at_twice, left_one_more, first_none, first_some}
@@ -7,16 +7,22 @@ use Rattle.av_interval.specs.Span.{key, key_of}
 use Rattle.av_interval.specs.Spans.{triples}
 use Rattle.av_anon.specs.Anons.{is_empty, IsRising}
 use Rattle.av_anon.specs.Infos.{info_in}
-use Rattle.av_anon.specs.Spans.{spans_without}
-use Rattle.av_anon.specs.Unlink.{destroyed, has_no_other, info_without}
+use Rattle.av_anon.specs.Unlink.{has_no_other, info_without}
 use Rattle.av_anon.proofs.Words.{with_at-same, each_more, absent_mid, in_mid, in_more}
 use Rattle.av_anon.proofs.LeavingLemmas.{none_gone, one_left}
 use Rattle.av_anon.proofs.anons.Anons.leave_by.Goals as goal
 
 pub loop-anon-init : goal.loop-anon-init
 loop-anon-init g c =
-    let chain = chain_of c.args.self.now.links in
-    ([], refl, (λ i n. sym (with_at-same c.args.area (chain c.args.area) chain refl n) i), refl, (λ w. none_gone (info_in c.args.self.now.infos w)), (λ v. refl), refl)
+    let chain = chain_of c.args.self.now.links in (
+      [],
+      refl,
+      (λ i n. sym (with_at-same c.args.area (chain c.args.area) chain refl n) i),
+      refl,
+      (λ w. none_gone (info_in c.args.self.now.infos w)),
+      (λ v. refl),
+      refl,
+    )
 
 pub remove-requires : goal.remove-requires
 remove-requires g c =
@@ -51,14 +57,17 @@ loop-anon-preserved g c =
     let whole : chain a ≡ gone ++ v ∷ rest = c.loop-anon.invariant.1 ∙ ap (λ vs. gone ++ vs) first in
     let absent : is_in v gone ≡ false = absent_mid gone v rest (subst IsRising whole c.requires.rising) in
     let left : users_of c.pop.new.self ≡ left_by_all a (gone ++ v ∷ []) users =
-      c.pop.ensures.users ∙ ap (λ o. left_by a o (users_of c.loop-anon.self.links)) (sym c.in-Some.ensures.first) ∙ ap (λ f. left_by a (Some v) f) c.loop-anon.invariant.3 ∙ left_one_more a gone v users in
+    c.pop.ensures.users ∙ ap (λ o. left_by a o (users_of c.loop-anon.self.links)) (sym c.in-Some.ensures.first)
+    ∙ ap (λ f. left_by a (Some v) f) c.loop-anon.invariant.3 ∙ left_one_more a gone v users in
     let alone : is_empty (users_of c.pop.new.self v) ≡ has_no_other a users v =
-      ap (λ f. is_empty (f v)) left ∙ ap (λ b. is_empty (cond b (without a (users v)) (users v))) (in_more v v gone refl) in (
+    ap (λ f. is_empty (f v)) left ∙ ap (λ b. is_empty (cond b (without a (users v)) (users v))) (in_more v v gone refl) in (
       gone ++ v ∷ [],
       whole ∙ ap (λ vs. gone ++ v ∷ vs) (sym here) ∙ sym (append_assoc gone (v ∷ []) (chain_of c.pop.new.self a)),
-      c.pop.ensures.chain ∙ ap (λ f. with_at a rest f) c.loop-anon.invariant.2 ∙ with_at_twice a rest (now a) chain ∙ ap (λ vs. with_at a vs chain) (sym here),
+      c.pop.ensures.chain ∙ ap (λ f. with_at a rest f) c.loop-anon.invariant.2 ∙ with_at_twice a rest (now a) chain
+          ∙ ap (λ vs. with_at a vs chain) (sym here),
       left,
-      (λ w. ap (λ f. f w) c.destroy_unused.ensures ∙ one_left a v users gone info (info_in c.loop-anon.self.infos) absent c.loop-anon.invariant.4 (is_empty (users_of c.pop.new.self v)) alone w),
+      (λ w. ap (λ f. f w) c.destroy_unused.ensures
+          ∙ one_left a v users gone info (info_in c.loop-anon.self.infos) absent c.loop-anon.invariant.4 (is_empty (users_of c.pop.new.self v)) alone w),
       each_more (without_key key k) old (triples c.loop-anon.self.spans) (triples c.remove.new.self) gone v absent c.loop-anon.invariant.5 c.remove.ensures,
       c.loop-anon.invariant.6,
     )
@@ -83,8 +92,11 @@ returns-clause-family g c =
     let empty : now a ≡ [] = first_none (now a) c.in_default.ensures.first in
     let all : gone ≡ chain a = sym (c.loop-anon.invariant.1 ∙ ap (λ vs. gone ++ vs) empty ∙ append-nil gone) in
     let chain_is : chain_of c.pop.new.self ≡ with_at a [] chain =
-      c.pop.ensures.chain ∙ ap (λ vs. with_at a (rest_in vs) now) empty ∙ ap (λ f. with_at a [] f) c.loop-anon.invariant.2 ∙ with_at_twice a [] (now a) chain in
+    c.pop.ensures.chain ∙ ap (λ vs. with_at a (rest_in vs) now) empty ∙ ap (λ f. with_at a [] f) c.loop-anon.invariant.2
+    ∙ with_at_twice a [] (now a) chain in
     let users_is : users_of c.pop.new.self ≡ left_by_all a (chain a) users =
-      c.pop.ensures.users ∙ ap (λ vs. left_by a (first_in vs) (users_of c.loop-anon.self.links)) empty ∙ c.loop-anon.invariant.3 ∙ ap (λ vs. left_by_all a vs users) all in
-    let info_is : (w : ℕ) → info_in c.loop-anon.self.infos w ≡ info_without a users (chain a) info w = λ w. c.loop-anon.invariant.4 w ∙ ap (λ vs. info_without a users vs info w) all in
+    c.pop.ensures.users ∙ ap (λ vs. left_by a (first_in vs) (users_of c.loop-anon.self.links)) empty ∙ c.loop-anon.invariant.3
+    ∙ ap (λ vs. left_by_all a vs users) all in
+    let info_is : (w : ℕ) → info_in c.loop-anon.self.infos w ≡ info_without a users (chain a) info w = λ w. c.loop-anon.invariant.4 w
+    ∙ ap (λ vs. info_without a users vs info w) all in
     λ i. record { next = c.loop-anon.invariant.6 i; info = λ w. info_is w i; chain = chain_is i; users = users_is i }

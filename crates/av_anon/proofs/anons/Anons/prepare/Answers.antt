@@ -1,11 +1,11 @@
-use Rattle.std.proofs.Common.{◌≡◌, ◌^◌, ◌<◌, ℕ, [], ◌∷◌, Some, sym, ap, ◌∙◌, subst, arith}
+use Rattle.std.proofs.Common.{◌≡◌, ◌^◌, ◌<◌, [], ◌∷◌, Some, sym, ap, ◌∙◌, subst, arith}
 use Rattle.av_base.specs.Words.{with_at}
 use Rattle.av_chain.specs.Links.{chain_of}
 use Rattle.av_interval.specs.Spans.{IsNew, triples}
 use Rattle.av_vma.specs.Areas.{area_of}
 use Rattle.av_anon.specs.Anons.{family}
 use Rattle.av_anon.specs.Spans.{span_at, spans_of, spans_with}
-use Rattle.av_anon.proofs.Choosing.{kin_chain, lent_near_is}
+use Rattle.av_anon.proofs.Choosing.{kin_chain, one_node_near}
 use Rattle.av_anon.proofs.Given.{given-spans, own-given}
 use Rattle.av_anon.proofs.Spanned.{new_to_all}
 use Rattle.av_anon.proofs.anons.Anons.prepare.Goals as goal
@@ -13,20 +13,21 @@ use Rattle.av_anon.proofs.anons.Anons.prepare.Goals as goal
 pub own_from-requires-clause-there : goal.own_from-requires-clause-there
 own_from-requires-clause-there c = λ v h.
     let f = family c.args.self.now in
-    let lender = lent_near_is (area_of c.args.areas.now) f.chain c.get-this.result c.args.before c.args.after v (sym c.lent_anon-lent.ensures ∙ h) in
+    let lender = one_node_near (area_of c.args.areas.now) f.chain c.get-this.result c.args.before c.args.after v (sym c.lent_anon-lent.ensures ∙ h) in
     let chain = c.requires.order.chains lender.0 in
     chain.there v (chain.own_in v lender.1)
 
 pub join-requires-clause-empty : goal.join-requires-clause-empty
 join-requires-clause-empty c =
     let f = family c.args.self.now in
-    ap (λ g. g.chain c.args.area) c.in_ok-anon.ensures.family ∙ ap (λ g. g c.args.area) (kin_chain c.lent_anon-lent.result f) ∙ (c.requires.order.chains c.args.area).none c.requires.none
+    ap (λ g. g.chain c.args.area) c.in_ok-anon.ensures.family ∙ ap (λ g. g c.args.area) (kin_chain c.lent_anon-lent.result f)
+    ∙ (c.requires.order.chains c.args.area).none c.requires.none
 
 pub join-requires-clause-new : goal.join-requires-clause-new
 join-requires-clause-new c = λ v h.
     let empty = (c.requires.order.chains c.args.area).none c.requires.none in
     subst (IsNew c.args.area) (ap (λ s. triples s v) (sym c.own_from.ensures.spans))
-        (new_to_all (area_of c.args.areas.now) (chain_of c.args.self.now.links) (spans_of c.args.self.now) c.requires.order.spanned c.args.area empty v)
+    (new_to_all (area_of c.args.areas.now) (chain_of c.args.self.now.links) (spans_of c.args.self.now) c.requires.order.spanned c.args.area empty v)
 
 pub returns-clause-spans : goal.returns-clause-spans
 returns-clause-spans c =
@@ -40,7 +41,7 @@ returns-clause-spans c =
     let empty = (c.requires.order.chains a).none c.requires.none in
     let same : chain_of c.own_from.new.self.links ≡ f.chain = ap (λ g. g.chain) c.in_ok-anon.ensures.family ∙ kin_chain c.lent_anon-lent.result f in
     given-spans areas areas' f.chain (chain_of c.join.new.self.links) (spans_of c.args.self.now) c.requires.order.spanned a this c.get-this.ensures fit
-        (Some v) (v ∷ []) (spans_of c.join.new.self) empty
-        (λ w. c.in_ok-join.ensures.spans w ∙ ap (λ s. spans_with (v ∷ []) (span_at a this) (triples s) w) c.own_from.ensures.spans)
-        (ap (λ g. g.chain) c.in_ok-join.ensures.family ∙ ap (with_at a (v ∷ [])) same)
-        (own-given areas areas' a this (Some v) c.get-this.ensures c.change.ensures)
+    (Some v) (v ∷ []) (spans_of c.join.new.self) empty
+    (λ w. c.in_ok-join.ensures.spans w ∙ ap (λ s. spans_with (v ∷ []) (span_at a this) (triples s) w) c.own_from.ensures.spans)
+    (ap (λ g. g.chain) c.in_ok-join.ensures.family ∙ ap (with_at a (v ∷ [])) same)
+    (own-given areas areas' a this (Some v) c.get-this.ensures c.change.ensures)

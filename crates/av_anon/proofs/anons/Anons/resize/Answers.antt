@@ -1,4 +1,4 @@
-use Rattle.std.proofs.Common.{◌≡◌, ◌-◌, ◌^◌, ◌<◌, ℕ, List, true, [], Some, sym, ap, ◌∙◌, subst, arith}
+use Rattle.std.proofs.Common.{◌≡◌, ◌-◌, ◌^◌, ◌<◌, [], sym, ap, ◌∙◌, arith}
 use Rattle.av_base.specs.Words.{is_in, with_at}
 use Rattle.av_chain.specs.Links.{chain_of}
 use Rattle.av_interval.specs.Span.{key_of, triple}
@@ -15,8 +15,9 @@ use Rattle.av_anon.proofs.anons.Anons.resize.Goals as goal
 
 pub unspan_each-requires-clause-there : goal.unspan_each-requires-clause-there
 unspan_each-requires-clause-there c = λ v h.
-    there_in_all (area_of c.args.areas.now) (chain_of c.args.self.now.links) (spans_of c.args.self.now) c.requires.order.spanned c.args.area c.get-old.result c.get-old.ensures v
-        (ap (is_in v) (sym (c.deref.ensures.value ∙ c.in_ok-chain.ensures)) ∙ h)
+    there_in_all (area_of c.args.areas.now) (chain_of c.args.self.now.links)
+    (spans_of c.args.self.now) c.requires.order.spanned c.args.area c.get-old.result c.get-old.ensures v
+    (ap (is_in v) (sym (c.deref.ensures.value ∙ c.in_ok-chain.ensures)) ∙ h)
 
 pub span_each-requires-clause-new : goal.span_each-requires-clause-new
 span_each-requires-clause-new c = λ v h.
@@ -29,8 +30,9 @@ span_each-requires-clause-new c = λ v h.
     let is : c.deref.result.now ≡ chain a = c.deref.ensures.value ∙ c.in_ok-chain.ensures in
     let left = triples c.unspan_each.new.spans in
     new_to_all areas (with_at a [] chain) left
-        (left-spans areas chain spans c.requires.order.spanned a c.get-old.result c.get-old.ensures fit left (λ w. c.unspan_each.ensures w ∙ ap (λ xs. spans_without xs k spans w) is))
-        a (with_at-here a [] chain) v
+    (left-spans areas chain spans c.requires.order.spanned a c.get-old.result c.get-old.ensures fit left (λ w. c.unspan_each.ensures w
+    ∙ ap (λ xs. spans_without xs k spans w) is))
+    a (with_at-here a [] chain) v
 
 pub returns-clause-spans : goal.returns-clause-spans
 returns-clause-spans c =
@@ -45,7 +47,9 @@ returns-clause-spans c =
     let is' : c.deref-2.result.now ≡ chain a = c.deref-2.ensures.value ∙ c.in_ok-chain.ensures in
     let left = triples c.unspan_each.new.spans in
     let last : c.index-last.result - 1 ≡ index_of B (past_of B) - 1 = ap (λ n. n - 1) c.index-last.ensures in
-    resized-spans areas (area_of c.change.new.self) chain chain spans c.requires.order.spanned a c.get-old.result c.get-old.ensures fit B left (triples c.span_each.new.spans)
-        (λ w. c.unspan_each.ensures w ∙ ap (λ xs. spans_without xs k spans w) is)
-        (λ w. c.in_ok-span_each.ensures w ∙ ap (λ n. spans_with c.deref-2.result.now (triple c.args.pgoff n a) left w) last ∙ ap (λ xs. spans_with xs (span_at a B) left w) is')
-        c.change.ensures
+    resized-spans areas (area_of c.change.new.self) chain chain spans c.requires.order.spanned a c.get-old.result c.get-old.ensures fit B left
+    (triples c.span_each.new.spans)
+    (λ w. c.unspan_each.ensures w ∙ ap (λ xs. spans_without xs k spans w) is)
+    (λ w. c.in_ok-span_each.ensures w ∙ ap (λ n. spans_with c.deref-2.result.now (triple c.args.pgoff n a) left w) last
+    ∙ ap (λ xs. spans_with xs (span_at a B) left w) is')
+    c.change.ensures

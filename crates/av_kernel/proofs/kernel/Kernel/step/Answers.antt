@@ -1,11 +1,7 @@
-use Rattle.std.proofs.Common.{◌≡◌, ◌+◌, ◌<◌, ◌^◌, refl, sym, subst, arith}
-use Rattle.av_trace.specs.declared.command.Command.{Command}
-use Rattle.av_trace.specs.declared.reply.Reply.{Reply}
-use Rattle.av_plain.specs.Transcript.{State, IsStep}
-use Rattle.av_reclaim.specs.Mem.{setting, count, Keeps}
-use Rattle.av_kernel.specs.Kernel.{Stands, Steps}
+use Rattle.std.proofs.Common.{ℕ, ◌+◌, ◌<◌, ◌≤◌, ◌^◌, sym, subst, arith}
+use Rattle.av_plain.specs.Transcript.{IsStep}
+use Rattle.av_reclaim.specs.Mem.{setting, Keeps}
 use Rattle.av_kernel.specs.Machine.{Machine}
-use Rattle.av_kernel.specs.Step.{MemSteps}
 use Rattle.av_kernel.specs.Tally.{IsAtMost}
 use Rattle.av_kernel.proofs.TallyCounts.{counted-few, few-enough}
 use Rattle.av_kernel.proofs.kernel.Kernel.step.Goals as goal
@@ -20,11 +16,11 @@ invariant_of-self c =
       steady = λ _. let after = c.in-Ok.ensures.step steady.0 steady.1 in (after.next, after.keeps);
     }
 
--- what the memory system does, the kernel does
-done : (was old new : Machine) (command : Command) (reply : Reply) → was ≡ old → was.frames ≡ count was.mem → ((s : State) → Keeps was.mem s → MemSteps was.mem new.mem s command reply)
-    → (s : State) → Stands old s → Steps old new s command reply
-done was old new command reply same frames each = subst (λ (k : Machine). (s : State) → Stands k s → Steps k new s command reply) same
-    (λ s stands. let h = each s stands in record { next = h.next; step = subst (λ n. IsStep (setting n) s command reply h.next) (sym frames) h.step; stands = h.keeps })
-
 pub returns-in-Ok-clause-stands : goal.returns-in-Ok-clause-stands
-returns-in-Ok-clause-stands c = done _ c.args.self.now _ c.args.command.now _ c.self.view_is refl c.in-Ok.ensures.step
+returns-in-Ok-clause-stands c = λ s stands.
+    let after = c.in-Ok.ensures.step s (subst (λ (k : Machine). Keeps k.mem s) (sym c.self.view_is) stands) in
+    record {
+      next = after.next;
+      step = subst (λ (k : Machine). IsStep (setting k.frames) s c.args.command.now c.in-Ok.reply after.next) c.self.view_is after.step;
+      stands = after.keeps;
+    }

@@ -1,7 +1,7 @@
 use Rattle.av_laws.proofs.FirstExamples.{first_run-runs, zero_first-runs, one_frame-runs, part_denied-runs, two_processes-runs, refusals-runs, all_mapped-runs, denied_write-runs, readable-runs}
 use Rattle.av_laws.proofs.ChangedExamples.{refused_write-runs}
 use Rattle.av_laws.proofs.SwapExamples.{crowded-runs}
-use Rattle.av_laws.proofs.examples.rows_run.Goals as goal
+use Rattle.av_laws.proofs.examples.first_examples_run.Goals as goal
 
 pub returns-clause-first_run : goal.returns-clause-first_run
 returns-clause-first_run c = first_run-runs

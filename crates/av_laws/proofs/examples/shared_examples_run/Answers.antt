@@ -1,5 +1,5 @@
 use Rattle.av_laws.proofs.SwapExamples.{copies-runs, no_copy-runs, load_and_copy-runs, load_without_copy-runs}
-use Rattle.av_laws.proofs.examples.shared_rows_run.Goals as goal
+use Rattle.av_laws.proofs.examples.shared_examples_run.Goals as goal
 
 pub returns-clause-copies : goal.returns-clause-copies
 returns-clause-copies c = copies-runs

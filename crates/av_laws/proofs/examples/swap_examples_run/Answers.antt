@@ -1,5 +1,5 @@
 use Rattle.av_laws.proofs.SwapExamples.{loads-runs, load_to_write-runs, load_when_full-runs, no_load-runs, maps_again-runs, load_unclaimed-runs, load_when_half_full-runs}
-use Rattle.av_laws.proofs.examples.swap_rows_run.Goals as goal
+use Rattle.av_laws.proofs.examples.swap_examples_run.Goals as goal
 
 pub returns-clause-loads : goal.returns-clause-loads
 returns-clause-loads c = loads-runs

@@ -1,5 +1,5 @@
 use Rattle.av_laws.proofs.LedgerExamples.{out_and_back-leads, copied_and_gone-leads, taken_and_freed-chosen, dropped_and_freed-chosen}
-use Rattle.av_laws.proofs.examples.ledger_rows_lead.Goals as goal
+use Rattle.av_laws.proofs.examples.ledgers_follow.Goals as goal
 
 pub returns-clause-out_and_back : goal.returns-clause-out_and_back
 returns-clause-out_and_back c = out_and_back-leads

@@ -1,4 +1,4 @@
--- How the program ends.
+-- How the program ends: by the status of a run.
 use Rattle.std.specs.Prelude.{ℕ, Option, None, Some}
 use Rattle.av_replay.specs.declared.status.Status.{Status}
 use Rattle.av_replay.specs.declared.status.Status.TheVariants as statuses

@@ -1,0 +1,152 @@
+-- What a replay leaves, by its status.
+use Rattle.std.specs.Prelude.{◌≡◌, ◌≢◌, ℕ, ◌+◌, ◌^◌, ◌<◌, ◌≤◌, List, [], ◌∷◌, ◌++◌, ◌⊎◌, false, length, take, Option, Some, None, IfSome, IsSomeAnd, unwrap_or}
+use Rattle.std.specs.List.{flat_map, AllByRecursion}
+use Rattle.std.specs.Option.{option_to_list}
+use Rattle.av_trace.specs.Print.{text_of}
+use Rattle.av_plain.specs.Transcript.{Exchange, State, IsRun, at_first}
+use Rattle.av_kernel.specs.Machine.{Machine}
+use Rattle.av_kernel.specs.Kernel.{Stands}
+use Rattle.av_kernel.specs.Tally.{none_counted}
+use Rattle.av_reclaim.specs.Mem.{setting}
+use Rattle.av_io.specs.Count.{Rose}
+use Rattle.av_io.specs.Source.{Took}
+use Rattle.av_io.specs.Sink.{Gained}
+use Rattle.av_replay.specs.declared.status.Status.{Status}
+use Rattle.av_replay.specs.declared.status.Status.TheVariants as statuses
+use Rattle.av_replay.specs.declared.status.RunErr.{RunErr}
+use Rattle.av_replay.specs.declared.status.RunErr.TheVariants as errors
+use Rattle.av_replay.specs.Streams.{Streams, room, IsLater, IsAtEnd}
+use Rattle.av_replay.specs.Line.{IsLine}
+use Rattle.av_replay.specs.Turn.{texts, tally_of, Commands, IsBad}
+
+-- ---- the lines that were done, and their transcript
+
+-- at most so many lines are done
+abbrev pub most_lines : ℕ
+most_lines = 2 ^ 24
+
+-- the lines with their newlines
+abbrev pub joined : List (List ℕ) → List ℕ
+joined lines = flat_map (λ line. line ++ 10 ∷ []) lines
+
+-- the lines command these, in order, and nothing else
+abbrev pub Transcribes : List (List ℕ) → List Exchange → Type 0
+Transcribes [] es = es ≡ []
+Transcribes (line ∷ lines) es =
+    (did : Option Exchange) × (others : List Exchange) × (es ≡ option_to_list did ++ others)
+    × Commands line did × Transcribes lines others
+
+-- the lines that were done, a last one that had no newline, their transcript, and the state that it leaves
+pub record Run : Type 0 where
+  pub lines : List (List ℕ)
+  pub last : Option (List ℕ)
+  pub transcript : List Exchange
+  pub state : State
+
+-- all lines that were done
+abbrev pub done_lines : Run → List (List ℕ)
+done_lines run = run.lines ++ option_to_list run.last
+
+-- The lines are what was read, up to these further bytes, which are no more than one read gives. Their
+-- transcript is legal, each frame chosen exactly, from the empty state on. What was written is this. A last
+-- line without newline stands at the end of the input.
+pub record Replays (frames : ℕ) (old new : Streams) (run : Run) (rest written : List ℕ) : Type 0 where
+  pub read : Took old.source.left new.source.left (joined run.lines ++ (unwrap_or run.last [] ++ rest))
+  pub near : length rest ≤ room
+  pub lines : AllByRecursion IsLine run.lines
+  pub few : length (done_lines run) ≤ most_lines
+  pub last : IfSome run.last (λ line. IsLine line × (0 < length line) × (rest ≡ []) × IsAtEnd new.source)
+  pub commands : Transcribes (done_lines run) run.transcript
+  pub legal : IsRun (setting frames) (at_first (setting frames)) run.transcript run.state
+  pub wrote : Gained old.sink.held new.sink.held written
+  pub later : IsLater old new
+
+-- ---- the kernel that is handed back
+
+-- it stands for the state that the transcript leaves, counted its replies, and can go on
+pub record IsLeft (kernel : Machine) (n : ℕ) (run : Run) : Type 0 where
+  pub stands : Stands kernel run.state
+  pub frames : kernel.frames ≡ n
+  pub steps : kernel.steps ≡ length run.transcript
+  pub tally : kernel.tally ≡ tally_of run.transcript none_counted
+  pub unspent : kernel.spent ≡ false
+
+-- no command was done yet, and no process lives
+pub record IsAtStart (kernel : Machine) : Type 0 where
+  pub stands : Stands kernel (at_first (setting kernel.frames))
+  pub steps : kernel.steps ≡ 0
+  pub tally : kernel.tally ≡ none_counted
+  pub unspent : kernel.spent ≡ false
+
+-- ---- where a run ends
+
+-- the status where a line of this number could not be done
+abbrev pub status_at : RunErr → ℕ → Status
+status_at errors.BadLine number = statuses.BadLine number
+status_at errors.Read number = statuses.ReadFault
+status_at errors.Write number = statuses.WriteFault
+status_at errors.Memory number = statuses.Memory
+
+-- where a byte of one more line came, that line may still be done
+abbrev pub MayGoOn : Run → List ℕ → Type 0
+MayGoOn run rest = 0 < length rest → length run.lines < most_lines
+
+-- The place at which a run of this status stops: at the end of the input, before line n, within a line,
+-- or after the last line that is done, with a byte of one more.
+abbrev pub StopsAt : Status → Streams → Run → List ℕ → Type 0
+StopsAt statuses.Done new run rest = (rest ≡ []) × IsAtEnd new.source
+StopsAt (statuses.BadLine n) new run rest =
+    (run.last ≡ None) × (n ≡ length run.lines + 1) × (n ≤ most_lines) × IsBad rest new.source.left
+StopsAt statuses.ReadFault new run rest = (run.last ≡ None) × MayGoOn run rest × IsLine rest
+StopsAt statuses.TooMany new run rest =
+    (run.last ≡ None) × (length run.lines ≡ most_lines) × (0 < length rest)
+StopsAt statuses.Usage new run rest = ⊥
+StopsAt statuses.WriteFault new run rest = ⊥
+StopsAt statuses.Memory new run rest = ⊥
+
+-- the text of the last line's reply was cut short, and those before it are whole
+pub record IsCutOff (run : Run) (written : List ℕ) : Type 0 where
+  pub before : List (List ℕ)
+  pub line : List ℕ
+  pub lines : done_lines run ≡ before ++ line ∷ []
+  pub others : List Exchange
+  pub last : Exchange
+  pub transcript : run.transcript ≡ others ++ last ∷ []
+  pub commands : Commands line (Some last)
+  pub size : ℕ
+  pub short : size < length (text_of last.reply)
+  pub is : written ≡ texts others ++ take size (text_of last.reply)
+
+-- The sink took every text, but it doesn't tell what it holds, and could not hand on what it kept back.
+-- That was found where another status would have ended the run, or where the run would have read on
+-- within a line.
+pub record IsKeptBack (new : Streams) (run : Run) (rest written : List ℕ) : Type 0 where
+  pub untold : new.sink.held ≡ None
+  pub whole : written ≡ texts run.transcript
+  pub status : Status
+  pub stops : StopsAt status new run rest
+
+-- how each status ends: what was read beyond the lines done, what was written, and which fault was counted
+abbrev pub Ends : Status → Streams → Streams → Run → List ℕ → List ℕ → Type 0
+Ends statuses.Done old new run rest written =
+    StopsAt statuses.Done new run rest × (written ≡ texts run.transcript)
+Ends (statuses.BadLine n) old new run rest written =
+    StopsAt (statuses.BadLine n) new run rest × (written ≡ texts run.transcript)
+Ends statuses.ReadFault old new run rest written =
+    StopsAt statuses.ReadFault new run rest × (written ≡ texts run.transcript)
+    × Rose old.source.faults new.source.faults
+Ends statuses.TooMany old new run rest written =
+    StopsAt statuses.TooMany new run rest × (written ≡ texts run.transcript)
+Ends statuses.WriteFault old new run rest written =
+    (IsCutOff run written ⊎ IsKeptBack new run rest written) × Rose old.sink.faults new.sink.faults
+Ends statuses.Memory old new run rest written = (n : ℕ) × (written ≡ take n (texts run.transcript))
+Ends statuses.Usage old new run rest written = ⊥
+
+-- The headline, for a status at which the trace was begun.
+pub record Headline (frames : ℕ) (status : Status) (old new : Streams) (kernel : Option Machine) : Type 0 where
+  pub run : Run
+  pub rest : List ℕ
+  pub written : List ℕ
+  pub replays : Replays frames old new run rest written
+  pub ends : Ends status old new run rest written
+  pub handed_back : status ≢ statuses.Memory → IsSomeAnd kernel (λ k. IsLeft k frames run)

@@ -1,0 +1,44 @@
+-- A source and a sink, side by side.
+use Rattle.std.specs.Prelude.{◌≡◌, ℕ, ◌≤◌, List, length, Option, true}
+use Rattle.av_io.specs.Source.{SourceView, in_front, HasEnded}
+use Rattle.av_io.specs.Sink.{SinkView, Gained}
+
+-- what is told of a source and a sink at one time
+pub record Streams : Type 0 where
+  pub source : SourceView
+  pub sink : SinkView
+
+abbrev pub streams : SourceView → SinkView → Streams
+streams source sink = record { source = source; sink = sink }
+
+-- so many bytes are read at once, at most, and no more are ever kept of what was read
+abbrev pub room : ℕ
+room = 65536
+
+-- all that is not done: what was read ahead, and what the source has left
+abbrev pub undone : List ℕ → Streams → Option (List ℕ)
+undone ahead io = in_front ahead io.source.left
+
+-- from one time to a later one: counts of faults never fall, and each read came after a flush
+pub record IsLater (old new : Streams) : Type 0 where
+  pub source : old.source.faults ≤ new.source.faults
+  pub sink : old.sink.faults ≤ new.sink.faults
+  pub flushed : old.source.reads ≤ old.sink.flushes → new.source.reads ≤ new.sink.flushes
+
+-- nothing was done of what was read, though more may have been read
+pub record ReadsOn (ahead ahead' : List ℕ) (old new : Streams) : Type 0 where
+  pub same : undone ahead' new ≡ undone ahead old
+  pub held : new.sink.held ≡ old.sink.held
+  pub near : length ahead' ≤ room
+  pub later : IsLater old new
+
+-- the input has ended, and the source told so
+pub record IsAtEnd (source : SourceView) : Type 0 where
+  pub ended : HasEnded source.left
+  pub told : source.has_told_end ≡ true
+
+-- a text was written, and nothing flushed
+pub record Writes (old new : SinkView) (text : List ℕ) : Type 0 where
+  pub gained : Gained old.held new.held text
+  pub flushes : new.flushes ≡ old.flushes
+  pub never_falls : old.faults ≤ new.faults

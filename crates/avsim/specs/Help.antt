@@ -1,0 +1,8 @@
+-- What the program tells about itself.
+use Rattle.std.specs.Prelude.{◌≡◌, ℕ, List, [], ◌∷◌, ◌⊎◌, codes}
+use Rattle.avsim.specs.declared.TheConstants.{HELP, VERSION}
+
+-- the words ask for this text, and for nothing else
+abbrev pub AskFor : List (List ℕ) → List ℕ → Type 0
+AskFor words text =
+    ((words ≡ codes "--help" ∷ []) × (text ≡ HELP.now)) ⊎ ((words ≡ codes "--version" ∷ []) × (text ≡ VERSION.now))
