@@ -10,7 +10,7 @@ use Rattle.av_trace.specs.declared.command.Command.TheVariants.{Write}
 use Rattle.av_pagetable.specs.Entries.{entry_at, has}
 use Rattle.av_plain.specs.World.{World, lives, pages, with_bytes, set_process}
 use Rattle.av_base.specs.Page.{page_of, pages_of}
-use Rattle.av_plain.specs.Ledger.{Ledger, Setting, SwapArea, InFrame, map_count, names_frame}
+use Rattle.av_plain.specs.Ledger.{Ledger, Setting, InFrame, map_count, names_frame}
 use Rattle.av_plain.specs.Event.{after_all}
 use Rattle.av_plain.specs.Access.{Accesses, End, Stopped as EndStopped, Whole, page_events, pages_of_access, after_write}
 use Rattle.av_plain.specs.Fault as faults

@@ -1,5 +1,5 @@
 -- A process that comes, and one that ends: its entries, its table and its areas have gone, and nothing of the others.
-use Rattle.std.proofs.Common.{◌≡◌, ℕ, suc, ◌+◌, ◌<◌, ◌≤◌, nat_lt, nat_le, Bool, true, false, cond, not, T, List, [], ◌∷◌, length, Option, Some, None, is_some, option_map, refl, sym, ap, subst, ◌∙◌, arith, ◌==◌}
+use Rattle.std.proofs.Common.{◌≡◌, ℕ, suc, ◌+◌, ◌<◌, ◌≤◌, nat_le, Bool, true, false, cond, not, T, [], ◌∷◌, length, Some, None, is_some, option_map, refl, sym, ap, subst, ◌∙◌, arith, ◌==◌}
 use Rattle.std.proofs.lemmas.Bool.Decides.{nat_tests}
 use Rattle.std.proofs.lemmas.Bool.{false≢true}
 use Rattle.std.specs.Prelude.{MatchOption, map}
@@ -14,10 +14,10 @@ use Rattle.av_pagetable.specs.declared.pte.Pte.{Pte}
 use Rattle.av_pagetable.specs.declared.pte.Pte.TheVariants.{Empty}
 use Rattle.av_pagetable.specs.Entries.{ProcessTables, entry_at, has}
 use Rattle.av_plain.specs.World.{World, Page, no_pages, lives, pages, set_process, end_process}
-use Rattle.av_plain.specs.Ledger.{Ledger, entry, names_frame}
+use Rattle.av_plain.specs.Ledger.{entry, names_frame}
 use Rattle.av_plain.specs.Event.{after_all}
 use Rattle.av_plain.specs.Fault.{is_shared}
-use Rattle.av_plain.specs.Zap.{keys_of_process, keys_in, zaps_of}
+use Rattle.av_plain.specs.Zap.{keys_of_process, zaps_of}
 use Rattle.av_plain.specs.Refusal.{tests, refusal, Refuses}
 use Rattle.av_plain.specs.Step.{Follows}
 use Rattle.av_plain.specs.Choice.{ChoosesAll}
@@ -29,7 +29,6 @@ use Rattle.av_plain.proofs.World.{pages-set, lives-set, length-set_new}
 use Rattle.av_plain.proofs.Zap.{entry-ended, entry-others}
 use Rattle.av_plain.proofs.Sound.Zap.{process-ended, pages-ended}
 use Rattle.av_reclaim.specs.declared.mem.Mem.{Mem}
-use Rattle.av_vma.specs.declared.area.Area.{Area}
 use Rattle.av_spaces.specs.Spaces.{Spaces, areas_of, IsSpawned, IsEnded}
 use Rattle.av_reclaim.specs.Mem.{range_of, ranges_of, setting, plain, view, count, HasTables, Keeps, HasLedger}
 use Rattle.av_kernel.specs.Step.{MemSteps, answered}

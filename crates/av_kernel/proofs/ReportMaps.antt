@@ -1,5 +1,5 @@
 -- The reply of `maps`.
-use Rattle.std.proofs.Common.{◌≡◌, ℕ, Bool, true, false, cond, not, List, [], length, Option, Some, None, is_some, option_map, refl, sym, ap, subst, ◌∙◌}
+use Rattle.std.proofs.Common.{◌≡◌, ℕ, true, cond, not, List, [], length, Some, None, is_some, option_map, refl, sym, ap, subst, ◌∙◌}
 use Rattle.std.specs.Prelude.{MatchOption, map}
 use Rattle.av_vma.specs.declared.area.Area.{Area}
 use Rattle.av_trace.specs.declared.command.Command.TheVariants.{Maps}
@@ -7,13 +7,12 @@ use Rattle.av_trace.specs.declared.reply.Answer.TheVariants.{Runs}
 use Rattle.av_trace.specs.declared.reply.Errno.TheVariants.{Esrch}
 use Rattle.av_trace.specs.declared.row.Row.{Row}
 use Rattle.av_spaces.specs.Spaces.{areas_of}
-use Rattle.av_plain.specs.World.{lives}
 use Rattle.av_plain.specs.Refusal.{tests, refusal, Refuses}
 use Rattle.av_plain.specs.Step.{Follows}
 use Rattle.av_plain.specs.Stands.{prot_of}
 use Rattle.av_plain.specs.Transcript.{State}
 use Rattle.av_reclaim.specs.declared.mem.Mem.{Mem}
-use Rattle.av_reclaim.specs.Mem.{range_of, ranges_of, setting, count, Keeps}
+use Rattle.av_reclaim.specs.Mem.{range_of, setting, count, Keeps}
 use Rattle.av_reclaim.proofs.MemLaws.{lives_is}
 use Rattle.av_kernel.specs.Report.{AreRuns}
 use Rattle.av_kernel.specs.Step.{MemSteps}

@@ -1,19 +1,17 @@
 -- One command's step: the ledger's parts stand after its events, and so do the areas and the bytes of the pages that it changed.
-use Rattle.std.proofs.Common.{◌≡◌, ◌≢◌, ℕ, ◌+◌, ◌<◌, Bool, true, false, cond, not, List, [], length, Option, Some, None, is_some, option_map, Result, Ok, Err, refl, sym, ap, subst, ◌∙◌, arith, ◌==◌}
+use Rattle.std.proofs.Common.{◌≡◌, ◌≢◌, ℕ, Bool, true, false, cond, not, List, [], Option, Some, None, is_some, option_map, Result, Ok, Err, refl, sym, ap, subst, ◌∙◌, arith, ◌==◌}
 use Rattle.std.proofs.lemmas.Bool.Decides.{nat_tests}
 use Rattle.std.specs.Ordering.{nat_cmp, eq_by_cmp}
 use Rattle.std.specs.Prelude.{MatchOption, IsErr, IsErrAnd}
 use Rattle.av_base.specs.declared.prot.Prot.{Prot}
-use Rattle.av_base.specs.Words.{with_at}
 use Rattle.av_trace.specs.declared.command.Command.{Command}
 use Rattle.av_trace.specs.declared.reply.Errno.{Errno}
 use Rattle.av_trace.specs.declared.reply.Errno.TheVariants.{Esrch}
 use Rattle.av_trace.specs.declared.reply.Reply.{Reply}
 use Rattle.av_trace.specs.declared.reply.Answer.TheVariants.{Refused}
-use Rattle.av_plain.specs.World.{Process, Page, no_pages, lives, pages, set_process}
+use Rattle.av_plain.specs.World.{Process, Page, lives, pages, set_process}
 use Rattle.av_plain.specs.Ledger.{Ledger, Entry, Zero, InFrame, InSlot, entry, frame_at}
 use Rattle.av_plain.specs.Refusal.{tests, refusal, Refuses}
-use Rattle.av_base.specs.Limits.{most_processes}
 use Rattle.av_plain.specs.Step.{Follows}
 use Rattle.av_plain.specs.Transcript.{State, IsStep}
 use Rattle.av_plain.specs.Sound.{AllSound}
@@ -21,7 +19,7 @@ use Rattle.av_plain.specs.Device.{no_device}
 use Rattle.av_plain.specs.Stands.{View, Holds, IsKept, AreasStand, entry_of, prot_of}
 use Rattle.av_plain.proofs.Refusal.{refused-next}
 use Rattle.av_plain.proofs.Sound.{step-sound}
-use Rattle.av_plain.proofs.World.{pages-set, lives-set, length-set_new, length-set_old}
+use Rattle.av_plain.proofs.World.{pages-set, lives-set, length-set_old}
 use Rattle.av_pagetable.specs.Entries.{ProcessTables, entry_at, has}
 use Rattle.av_pagetable.specs.declared.pte.Pte.{Pte}
 use Rattle.av_reclaim.specs.declared.mem.Mem.{Mem}

@@ -1,4 +1,3 @@
-use Rattle.std.proofs.Common.{arith}
 use Rattle.av_kernel.proofs.MapLaws.{on_ok, are_cleared}
 use Rattle.av_kernel.proofs.MapProts.{unmapped-prots}
 use Rattle.av_kernel.proofs.map.clear.Goals as goal

@@ -1,5 +1,4 @@
 use Rattle.std.proofs.Common.{refl}
-use Rattle.av_trace.specs.declared.place.Place.TheVariants.{Fixed}
 use Rattle.av_kernel.proofs.MapLaws.{nothing_there}
 use Rattle.av_kernel.proofs.map.make_room.Goals as goal
 
