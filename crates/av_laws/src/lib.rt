@@ -31,8 +31,8 @@ ghost use Rattle.av_laws.specs.Determined.{Tells, IsClaimed, SlotRule, IsExact, 
 pub use examples::{
     a_page_in_writeback_is_sound, changed_exits_and_reports_are_refused,
     changed_ranges_are_refused, changed_replies_are_refused, changed_replies_of_swap_are_refused,
-    changed_runs_are_refused, exits_and_reports_run, ledgers_follow, ranges_run, first_examples_run,
-    shared_examples_run, swap_examples_run,
+    changed_runs_are_refused, exits_and_reports_run, first_examples_run, ledgers_follow,
+    ranges_run, shared_examples_run, swap_examples_run,
 };
 
 /// A command that is refused changes neither the memories nor the ledger. An mprotect, which can stop at a page that
