@@ -11,3 +11,5 @@ pub mod ChangedExamples
 pub mod SoundExample
 pub mod ExitExamples
 pub mod RangeExamples
+pub mod PairExamples
+pub mod UnsoundExamples

@@ -1,9 +1,11 @@
 -- A sound state with swap in use: a page in writeback.
-use Rattle.std.proofs.Common.{◌≡◌, ℕ, ◌+◌, ◌<◌, ◌≤◌, min, Bool, true, false, cond, ◌&&◌, Option, Some, None, is_some, refl, sym, ap, subst, ◌∙◌, arith, ◌==◌}
+use Rattle.std.proofs.Common.{IfSome, length, ◌≡◌, ℕ, ◌+◌, ◌<◌, ◌≤◌, min, Bool, true, false, cond, ◌&&◌, Option, Some, None, is_some, refl, sym, ap, subst, ◌∙◌, arith, ◌==◌}
 use Rattle.std.proofs.lemmas.Bool.Decides.{nat_tests}
+use Rattle.std.specs.FinMap.Entries.{find}
+use Rattle.std.specs.Ordering.{nat_cmp, eq_by_cmp}
 use Rattle.av_base.specs.declared.slot.Slot.{Slot}
 use Rattle.av_plain.specs.World.{pages}
-use Rattle.av_plain.specs.Ledger.{Ledger, Key, Entry, InSlot, entry, same_slot}
+use Rattle.av_plain.specs.Ledger.{SwapArea, slots_in_use, Ledger, Key, Entry, InSlot, entry, same_slot}
 use Rattle.av_plain.specs.Sound.{is_there, AllSound}
 use Rattle.av_laws.specs.Examples.{with_swap, slot, in_writeback}
 use Rattle.av_plain.proofs.Ledger.{same_key, same_key-is}
@@ -49,8 +51,22 @@ in_writeback-sound = record {
   };
   at_pages = λ p page h. subst (λ (k : Key). is_some (pages in_writeback.world k.0 k.1) ≡ true) (sym (some-only (p, page) h)) refl;
   in_areas = λ s h. there s (same_slot s (slot 1)) refl h;
+  areas_fit = record { rising = tt; fit = fits };
 }
   where
+    cmp-is : (q p : ℕ) → eq_by_cmp nat_cmp q p ≡ true → q ≡ p
+    cmp-is q p h = grind (arith, nat_tests, h)
+
+    fits : (k : ℕ) → IfSome (find nat_cmp k in_writeback.ledger.on) (λ area. length (slots_in_use (with_swap 4 8 7) in_writeback.ledger k) ≤ area.slots)
+    fits k = by (eq_by_cmp nat_cmp k 0) refl
+      where
+        at_first : length (slots_in_use (with_swap 4 8 7) in_writeback.ledger 0) ≤ 7
+        at_first = omega arith
+
+        by : (b : Bool) → eq_by_cmp nat_cmp k 0 ≡ b → IfSome (cond b (Some (record { slots = 7; bad = 0 })) None) (λ (area : SwapArea). length (slots_in_use (with_swap 4 8 7) in_writeback.ledger k) ≤ area.slots)
+        by true is = subst (λ x. length (slots_in_use (with_swap 4 8 7) in_writeback.ledger x) ≤ 7) (sym (cmp-is k 0 is)) at_first
+        by false is = tt
+
     range : (f : ℕ) (b : Bool) → (f == 0) ≡ b → 0 < (0 + 0) + (cond b 1 0 + 0) → f < 4
     range f true is h = grind (arith, nat_tests, is)
     range f false is h = absurd (omega (arith, h))

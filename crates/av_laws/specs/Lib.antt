@@ -1,2 +1,4 @@
 pub mod Determined
 pub mod Examples
+pub mod Pairs
+pub mod Unsound

@@ -6,6 +6,8 @@
 #![tactic(auto)]
 
 mod examples;
+mod pairs;
+mod unsound;
 
 ghost use Rattle.std.specs.Prelude.{◌≡◌, ◌⊎◌, ℕ, ◌+◌, false, List, []};
 ghost use Rattle.av_base.specs.declared.prot.Prot.{Prot};
@@ -31,8 +33,15 @@ ghost use Rattle.av_laws.specs.Determined.{Tells, IsClaimed, SlotRule, IsExact, 
 pub use examples::{
     a_page_in_writeback_is_sound, changed_exits_and_reports_are_refused,
     changed_ranges_are_refused, changed_replies_are_refused, changed_replies_of_swap_are_refused,
-    changed_runs_are_refused, exits_and_reports_run, ledgers_follow, ranges_run, first_examples_run,
-    shared_examples_run, swap_examples_run,
+    changed_runs_are_refused, exits_and_reports_run, first_examples_run, ledgers_follow,
+    ranges_run, shared_examples_run, swap_examples_run,
+};
+pub use pairs::{
+    changed_pairs_are_refused, faults_are_counted, ledgers_of_two_follow, loads_make_unclaimed,
+    passes_run, two_pages_run,
+};
+pub use unsound::{
+    changed_ledgers_are_unsound, changed_memories_are_unsound, entries_of_one_memory_are_unsound,
 };
 
 /// A command that is refused changes neither the memories nor the ledger. An mprotect, which can stop at a page that

@@ -27,11 +27,11 @@ use Rattle.av_trace.specs.declared.row.Row.{Row}
 use Rattle.av_trace.specs.declared.reply.Reply.{Reply}
 use Rattle.av_trace.specs.declared.reply.Answer.{Answer}
 use Rattle.av_trace.specs.declared.reply.Answer.TheVariants.{Done, Refused}
+use Rattle.av_trace.specs.declared.note.Note.TheVariants.{Aged, Copied, Dropped, Failed, Kept, Loaded, Mapped, New, Put, Started, Unmapped, Written, Zeroed}
 use Rattle.av_base.specs.Limits.{most_processes}
 use Rattle.av_base.specs.Page.{address_of, page_of, pages_of}
 use Rattle.av_base.specs.Words.{within}
 use Rattle.av_base.specs.declared.slot.Slot.{Slot}
-use Rattle.av_trace.specs.declared.note.Note.TheVariants.{Aged, Copied, Dropped, Failed, Kept, Loaded, Mapped, New, Put, Started, Unmapped, Written, Zeroed}
 use Rattle.av_plain.specs.Access.{Accesses, End, after_write, first_bytes, pages_of_access}
 use Rattle.av_plain.specs.Event.{Event, Forked, Moved, Noted, TurnedOff, TurnedOn, Used, Zapped, after, after_all}
 use Rattle.av_plain.specs.Ledger.{Entry, Ledger, Setting, entry, first_ledger}
@@ -49,7 +49,7 @@ use Rattle.av_plain.proofs.Refusal.{refused-next}
 use Rattle.av_plain.proofs.Sound.Access.{accesses-kept}
 use Rattle.av_plain.proofs.Sound.Counts.{same-itself}
 use Rattle.av_plain.proofs.Sound.Pages.{accesses-at}
-use Rattle.av_plain.proofs.Sound.There.{there-accesses}
+use Rattle.av_plain.proofs.Sound.There.{InAreas, accesses-in}
 use Rattle.av_plain.proofs.Sound.Zap.{after_zap-sound, exit-sound, zaps_of-at}
 use Rattle.av_plain.proofs.World.{is_sorted-set, length-set_new, length-set_old, pages-set}
 use Rattle.av_plain.proofs.Zap.{entry-range, in_range}
@@ -136,6 +136,7 @@ loads-sound m w l l' es s = record {
   ledger = s.ledger;
   at_pages = λ p page h. map_count-loads m w l es p page ∙ s.at_pages p page h;
   in_areas = s.in_areas;
+  areas_fit = s.areas_fit;
 }
 
 -- ---- one process changes
@@ -171,6 +172,7 @@ started-sound m w l p s dead room = record {
   ledger = s.ledger;
   at_pages = at-set w l p no_pages (λ page h. absurd (never (entry l (p, page)) (no_entries w l p s.at_pages dead page) h)) s.at_pages;
   in_areas = s.in_areas;
+  areas_fit = s.areas_fit;
 }
   where
     never : (o : Option Entry) → o ≡ None → is_some o ≡ true → ⊥
@@ -187,6 +189,7 @@ changed-sound m w l p new s alive stays = record {
   ledger = s.ledger;
   at_pages = at-set w l p new (λ page h. stays page (s.at_pages p page h)) s.at_pages;
   in_areas = s.in_areas;
+  areas_fit = s.areas_fit;
 }
 
 -- a range loses its entries, and has other pages
@@ -228,8 +231,12 @@ accesses-sound m w l p ps events end s h = record {
   world = s.world;
   ledger = accesses-kept m w l p ps events end s.ledger h;
   at_pages = λ q page i. accesses-at m w l p ps events end (λ k j. s.at_pages k.0 k.1 j) h (q, page) i;
-  in_areas = there-accesses m w l p ps events end s.ledger s.in_areas h;
+  in_areas = accesses-areas.there;
+  areas_fit = accesses-areas.fits;
 }
+  where
+    accesses-areas : InAreas m (after_all l events)
+    accesses-areas = accesses-in m w l p ps events end (record { sound = s.ledger; there = s.in_areas; fits = s.areas_fit }) h
 
 -- without events the ledger stays
 unchanged : (m : Setting) (w : World) (l : Ledger) (events : List Event) → events ≡ [] → AllSound m w l → AllSound m w (after_all l events)
@@ -373,6 +380,7 @@ first-sound m = record {
   };
   at_pages = λ p page h. cc;
   in_areas = λ s h. absurd (omega (arith, h));
+  areas_fit = record { rising = tt; fit = λ k. tt };
 }
 
 pub transcript-sound : (m : Setting) (w : World) (l : Ledger) (es : List Exchange) (w' : World) (l' : Ledger) → AllSound m w l → IsLegalFrom m w l es w' l' → AllSound m w' l'

@@ -2,12 +2,13 @@
 -- filters of the entries.
 use Rattle.std.specs.FinMap.Entries.{find}
 use Rattle.std.specs.List.{list_any, list_all}
+use Rattle.std.specs.Option.{option_map_or}
 use Rattle.std.specs.Ordering.{nat_cmp, ordering_then}
 use Rattle.std.specs.Prelude.{ℕ, ◌+◌, ◌-◌, Bool, true, false, not, ◌&&◌, ◌==◌, if◌then◌else◌, List, [], ◌∷◌, map, filter, Option, Some, None, is_some, ◌||◌, length, nat_lt, sum_by, option_map, ◌*◌, is_none, unwrap_or}
 use Rattle.std.specs.declared.cmp.Ordering.{Ordering}
+use Rattle.av_swapdev.specs.Header.{Layout}
 use Rattle.av_base.specs.Words.{how_many, is_in, numbers}
 use Rattle.av_base.specs.declared.slot.Slot.{Slot}
-use Rattle.av_swapdev.specs.Header.{Layout}
 
 -- ---- what does not change in a run
 
@@ -191,9 +192,10 @@ is_open (Some closing) k = not (k == closing)
 abbrev pub no_slot : Setting → Option ℕ → Ledger → Bool
 no_slot m closing l = list_all (λ a. not (is_open closing a.0) || free_slots m l a == 0) l.on
 
--- whether an area has a free slot
+-- whether an area is on and has a free slot
 abbrev pub has_free_slot : Setting → Ledger → ℕ → Bool
-has_free_slot m l k = list_any (λ a. a.0 == k && nat_lt 0 (free_slots m l a)) l.on
+has_free_slot m l k =
+    option_map_or (λ area. nat_lt 0 (free_slots m l (k, area))) (find nat_cmp k l.on) false
 
 -- a slot that may be given
 abbrev pub may_give : Setting → Option ℕ → Ledger → Slot → Bool

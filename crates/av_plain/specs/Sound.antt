@@ -1,12 +1,12 @@
 -- When a ledger is sound, and what that says.
-use Rattle.std.specs.FinMap.Entries.{is_sorted}
+use Rattle.std.specs.FinMap.Entries.{is_sorted, find}
 use Rattle.std.specs.List.{AllByRecursion, IsDistinct}
 use Rattle.std.specs.Ordering.{nat_cmp}
-use Rattle.std.specs.Prelude.{ℕ, ◌+◌, Bool, true, false, ◌&&◌, ◌==◌, if◌then◌else◌, ◌++◌, Option, Some, None, ◌≡◌, ◌<◌, is_some, ◌≤◌, ◌||◌, length, T, nat_lt, min}
+use Rattle.std.specs.Prelude.{ℕ, ◌+◌, Bool, true, false, ◌&&◌, ◌==◌, if◌then◌else◌, ◌++◌, Option, Some, None, ◌≡◌, ◌<◌, is_some, ◌≤◌, ◌||◌, length, T, nat_lt, min, IfSome}
 use Rattle.av_base.specs.Limits.{most_processes}
 use Rattle.av_base.specs.Words.{how_many}
 use Rattle.av_base.specs.declared.slot.Slot.{Slot}
-use Rattle.av_plain.specs.Ledger.{Cached, Entry, InFrame, InSlot, Key, Ledger, Setting, Zero, entry, is_cached, is_free, is_on, is_orphan, is_usable, key_cmp, map_count, names_frame, names_slot, same_slot, size_of, slot_entries, slot_of}
+use Rattle.av_plain.specs.Ledger.{Cached, Entry, InFrame, InSlot, Key, Ledger, Setting, Zero, entry, is_cached, is_free, is_on, is_orphan, is_usable, key_cmp, map_count, names_frame, names_slot, same_slot, size_of, slot_entries, slot_of, slots_in_use}
 use Rattle.av_plain.specs.World.{World, pages}
 
 -- ---- counts
@@ -91,6 +91,12 @@ is_there m l s =
 abbrev pub AreThere : Setting → Ledger → Type 0
 AreThere m l = (s : Slot) → 0 < count l s → is_there m l s ≡ true
 
+-- the areas that are on rise, and none has more slots in use than it has slots
+pub record AreasFit (m : Setting) (l : Ledger) : Type 0 where
+  pub rising : T (is_sorted nat_cmp l.on)
+  pub fit : (k : ℕ) → IfSome (find nat_cmp k l.on)
+      (λ area. length (slots_in_use m l k) ≤ area.slots)
+
 -- ---- the memories
 
 -- the processes rise, and are not too many
@@ -104,6 +110,7 @@ pub record AllSound (m : Setting) (w : World) (l : Ledger) : Type 0 where
   pub ledger : IsSound m l
   pub at_pages : AtPages w l
   pub in_areas : AreThere m l
+  pub areas_fit : AreasFit m l
 
 -- ---- what it says, in plain sentences; this follows from the counts
 

@@ -1,30 +1,34 @@
--- Each slot in use is a slot of an area that is on: only a `put` brings one into use.
-use Rattle.std.proofs.Common.{◌≡◌, ◌⊎◌, inl, inr, ℕ, ◌+◌, ◌<◌, Bool, true, false, cond, not, ◌&&◌, ◌||◌, if◌then◌else◌, T, List, [], ◌∷◌, ◌++◌, Option, Some, None, refl, sym, ap, subst, ◌∙◌, arith, ◌==◌, nat_lt, is_none}
-use Rattle.std.specs.FinMap.Entries.{is_sorted}
-use Rattle.av_base.specs.Page.{address_of}
-use Rattle.av_base.specs.declared.slot.Slot.{Slot}
+-- Each slot in use is a slot of an area that is on, and no area has more in use than it has: only a `put` brings one into use.
+use Rattle.std.proofs.Common.{◌≡◌, ◌⊎◌, inl, inr, ℕ, ◌+◌, ◌<◌, Bool, true, false, cond, not, ◌&&◌, ◌||◌, if◌then◌else◌, T, List, [], ◌∷◌, ◌++◌, Option, Some, None, refl, sym, ap, subst, ◌∙◌, arith, ◌==◌, nat_lt, is_none, length, filter, ◌≤◌, ◌-◌, IfSome, nat_cmp, zero, suc}
+use Rattle.std.proofs.lemmas.Bool.Decides.{nat_tests}
+use Rattle.std.specs.Option.{option_map_or}
+use Rattle.std.specs.FinMap.Entries.{find, is_sorted}
 use Rattle.av_trace.specs.declared.note.Cause.TheVariants.{NoSlot, Referenced, WriteStarted, Writeback}
 use Rattle.av_trace.specs.declared.note.Note.{Note}
 use Rattle.av_trace.specs.declared.note.Note.TheVariants.{Aged, Copied, Dropped, Failed, Kept, Loaded, Mapped, New, Put, Started, Unmapped, Written, Zeroed}
+use Rattle.std.specs.Prelude.{MatchOption, MatchBool, IsTrue}
+use Rattle.av_base.specs.Page.{address_of}
+use Rattle.av_base.specs.Words.{numbers}
+use Rattle.av_base.specs.declared.slot.Slot.{Slot}
 use Rattle.av_trace.specs.declared.reply.OutOf.{OutOf}
 use Rattle.av_plain.specs.Access.{Accesses, End, page_events}
 use Rattle.av_plain.specs.Event.{Event, Used, after_all, after_note, after_notes, after_use, after_use_of, change_entries, if_some, key_at, note_events, off_cache, off_flight, off_lists, set_entry, settle, to_inactive_tail, when, with_stale, without_seen}
 use Rattle.av_plain.specs.Fault.{ComesIn, CopyOnWrite, Denied, IsMade, Lost, MapCached, Need, NewPage, Ready, RunsOut, Serves, Sparing, Starved, Stop, SwapIn, Takes, Touches, ZeroPage, drop_at, drop_of_entry, drop_of_slot, is_shared, is_unneeded, need, need_of_slot, pinned_by, sparing, was_slot}
-use Rattle.av_plain.specs.Ledger.{Cached, Entry, InFrame, InSlot, Key, Ledger, Setting, Zero, entry, frame_at, has_free, has_free_slot, is_free, is_on, is_open, is_orphan, is_usable, key_cmp, map_count, may_give, names_frame, names_slot, same_slot, size_of, slot_count, slot_entries, slot_of}
+use Rattle.av_plain.specs.Ledger.{is_free_slot, Cached, Entry, InFrame, InSlot, Key, Ledger, Setting, SwapArea, Zero, entry, frame_at, has_free, has_free_slot, is_cached, is_free, is_on, is_open, is_orphan, is_usable, key_cmp, map_count, may_give, names_frame, names_slot, same_slot, size_of, slot_count, slot_entries, slot_of, slots_in_use}
 use Rattle.av_plain.specs.Pass.{Completes, IsPass, IsSlotFor, Seeks, Spared, TakesFor, Turns, end_note, end_notes, frames_in_turn, is_dirty, is_stuck, stays_cached, turn_notes, unmap_notes}
-use Rattle.av_plain.specs.Sound.{AreThere, IsSound, count, is_there, slots}
+use Rattle.av_plain.specs.Sound.{AreThere, AreasFit, IsSound, count, is_there, slots}
 use Rattle.av_plain.specs.World.{World}
 use Rattle.av_plain.proofs.Access.{accesses-keep, after_all-append, note_events-all}
-use Rattle.av_plain.proofs.Event.{how_many-map, how_many-same, to_slot, is_sorted-map}
+use Rattle.av_plain.proofs.Event.{how_many-map, how_many-same, is_sorted-map, to_slot}
 use Rattle.av_plain.proofs.Ledger.{how_many-found, is_sorted-set}
 use Rattle.av_plain.proofs.Sound.Access.{page_events-kept, touches-kept}
 use Rattle.av_plain.proofs.Sound.Cache.{slots_more}
-use Rattle.av_plain.proofs.Sound.Counts.{pair-slot, slot-is, slot-itself, slot_of-some}
+use Rattle.av_plain.proofs.Sound.Changes.{any-counts}
+use Rattle.av_plain.proofs.Sound.Counts.{pair-slot, same-is, slot-is, slot-itself, slot_of-some}
 use Rattle.av_plain.proofs.Sound.Entries.{flag, slot_entries-set}
 use Rattle.av_plain.proofs.Sound.Pages.{settle-entries}
 use Rattle.av_plain.proofs.Sound.Pass.{seeks-kept}
 use Rattle.av_plain.proofs.Sound.Steps.{Alike, alike-end_note, alike-started, slots-dropped}
-use Rattle.std.specs.Prelude.{MatchOption, MatchBool, IsTrue}
 
 -- the condition at each note: a `put` names a slot that may be given, a `load` one that an entry names
 abbrev pub IsLawful : Setting → Option ℕ → Ledger → Note → Type 0
@@ -36,20 +40,136 @@ abbrev pub AreLawful : Setting → Option ℕ → Ledger → List Note → Type 
 AreLawful m closing l [] = Unit {0}
 AreLawful m closing l (note ∷ notes) = IsLawful m closing l note × AreLawful m closing (after_note note l) notes
 
+-- ---- how many slots of an area are in use
+
+counted-slot : (l : Ledger) (s : Slot) → nat_lt 0 (slot_count l s) ≡ nat_lt 0 (count l s)
+counted-slot l s = by (is_cached l s) (slots l s) (slot_entries l s) (any-counts (λ (c : Cached). same_slot s c.slot) l.cache)
+  where
+    by : (b : Bool) (n e : ℕ) → b ≡ nat_lt 0 n → nat_lt 0 (e + cond b 1 0) ≡ nat_lt 0 (n + e)
+    by true n e h = grind (arith, nat_tests, h)
+    by false n e h = grind (arith, nat_tests, h)
+
+fewer-pass : (p q : ℕ → Bool) (a n : ℕ) → ((x : ℕ) → p x ≡ true → q x ≡ true) → length (filter p (numbers a n)) ≤ length (filter q (numbers a n))
+fewer-pass p q a zero h = omega arith
+fewer-pass p q a (suc n) h = by (p a) (q a) refl refl (fewer-pass p q (a + 1) n h)
+  where
+    by : (b c : Bool) → p a ≡ b → q a ≡ c → length (filter p (numbers (a + 1) n)) ≤ length (filter q (numbers (a + 1) n))
+        → length (cond b (a ∷ filter p (numbers (a + 1) n)) (filter p (numbers (a + 1) n))) ≤ length (cond c (a ∷ filter q (numbers (a + 1) n)) (filter q (numbers (a + 1) n)))
+    by true true is is' k = omega (arith, k)
+    by true false is is' k = let e = sym is' ∙ h a is in cc
+    by false true is is' k = omega (arith, k)
+    by false false is is' k = k
+
+-- one number more passes, at most once
+above-pass : (p q : ℕ → Bool) (t a n : ℕ) → t < a → ((x : ℕ) → p x ≡ true → (x == t) ≡ false → q x ≡ true) → length (filter p (numbers a n)) ≤ length (filter q (numbers a n))
+above-pass p q t a zero less h = omega arith
+above-pass p q t a (suc n) less h = by (p a) (q a) refl refl (above-pass p q t (a + 1) n (omega (arith, less)) h)
+  where
+    by : (b c : Bool) → p a ≡ b → q a ≡ c → length (filter p (numbers (a + 1) n)) ≤ length (filter q (numbers (a + 1) n))
+        → length (cond b (a ∷ filter p (numbers (a + 1) n)) (filter p (numbers (a + 1) n))) ≤ length (cond c (a ∷ filter q (numbers (a + 1) n)) (filter q (numbers (a + 1) n)))
+    by true true is is' k = omega (arith, k)
+    by true false is is' k = let e = sym is' ∙ h a is (grind (arith, nat_tests, less)) in cc
+    by false true is is' k = omega (arith, k)
+    by false false is is' k = k
+
+one-more-passes : (p q : ℕ → Bool) (t a n : ℕ) → ((x : ℕ) → p x ≡ true → (x == t) ≡ false → q x ≡ true) → length (filter p (numbers a n)) ≤ 1 + length (filter q (numbers a n))
+one-more-passes p q t a zero h = omega arith
+one-more-passes p q t a (suc n) h = at (a == t) refl (one-more-passes p q t (a + 1) n h)
+  where
+    more : (b c : Bool) (k k' : ℕ) (xs ys : List ℕ) → length xs ≡ k → length ys ≡ k' → k ≤ k' → length (cond b (a ∷ xs) xs) ≤ 1 + length (cond c (a ∷ ys) ys)
+    more true true k k' xs ys e f less = omega (arith, e, f, less)
+    more true false k k' xs ys e f less = omega (arith, e, f, less)
+    more false true k k' xs ys e f less = omega (arith, e, f, less)
+    more false false k k' xs ys e f less = omega (arith, e, f, less)
+
+    by : (b c : Bool) → p a ≡ b → q a ≡ c → (a == t) ≡ false → length (filter p (numbers (a + 1) n)) ≤ 1 + length (filter q (numbers (a + 1) n))
+        → length (cond b (a ∷ filter p (numbers (a + 1) n)) (filter p (numbers (a + 1) n))) ≤ 1 + length (cond c (a ∷ filter q (numbers (a + 1) n)) (filter q (numbers (a + 1) n)))
+    by true true is is' other k = omega (arith, k)
+    by true false is is' other k = let e = sym is' ∙ h a is other in cc
+    by false true is is' other k = omega (arith, k)
+    by false false is is' other k = k
+
+    at : (b : Bool) → (a == t) ≡ b → length (filter p (numbers (a + 1) n)) ≤ 1 + length (filter q (numbers (a + 1) n)) → length (filter p (numbers a (suc n))) ≤ 1 + length (filter q (numbers a (suc n)))
+    at true is k = more (p a) (q a) _ _ (filter p (numbers (a + 1) n)) (filter q (numbers (a + 1) n)) refl refl (above-pass p q t (a + 1) n (grind (arith, nat_tests, is)) h)
+    at false is k = by (p a) (q a) refl refl is k
+
+-- fewer slots come into use
+fits-less : (m : Setting) (l l' : Ledger) → l'.on ≡ l.on → ((s : Slot) → 0 < count l' s → 0 < count l s) → AreasFit m l → AreasFit m l'
+fits-less m l l' on h f = record { rising = subst (λ o. T (is_sorted nat_cmp o)) (sym on) f.rising; fit = λ k. subst (λ o. IfSome (find nat_cmp k o) (λ area. length (slots_in_use m l' k) ≤ area.slots)) (sym on) (by k (find nat_cmp k l.on) (f.fit k)) }
+  where
+    fewer : (k : ℕ) → length (slots_in_use m l' k) ≤ length (slots_in_use m l k)
+    fewer k = fewer-pass (λ page. nat_lt 0 (slot_count l' (record { area = k; page = page }))) (λ page. nat_lt 0 (slot_count l (record { area = k; page = page }))) 1 (size_of m k - 1)
+        (λ page is. let s : Slot = record { area = k; page = page } in let pos : 0 < count l' s = positive _ (sym (counted-slot l' s) ∙ is) in counted-slot l s ∙ is-positive _ (h s pos))
+      where
+        positive : (n : ℕ) → nat_lt 0 n ≡ true → 0 < n
+        positive n e = grind (arith, nat_tests, e)
+
+        is-positive : (n : ℕ) → 0 < n → nat_lt 0 n ≡ true
+        is-positive n e = grind (arith, nat_tests, e)
+
+    by : (k : ℕ) (o : Option SwapArea) → IfSome o (λ area. length (slots_in_use m l k) ≤ area.slots) → IfSome o (λ area. length (slots_in_use m l' k) ≤ area.slots)
+    by k None i = i
+    by k (Some area) i = let e = fewer k in omega (arith, i, e)
+
+-- one slot more comes into use, of an area that has a free one
+fits-put : (m : Setting) (l : Ledger) (f : ℕ) (t : Slot) → has_free_slot m l t.area ≡ true → AreasFit m l → AreasFit m (after_note (Put f t) l)
+fits-put m l f t free fits = record { rising = fits.rising; fit = λ k. by k (k == t.area) refl (find nat_cmp k l.on) refl (fits.fit k) }
+  where
+    l' : Ledger
+    l' = after_note (Put f t) l
+
+    positive : (n : ℕ) → nat_lt 0 n ≡ true → 0 < n
+    positive n e = grind (arith, nat_tests, e)
+
+    is-positive : (n : ℕ) → 0 < n → nat_lt 0 n ≡ true
+    is-positive n e = grind (arith, nat_tests, e)
+
+    others : (s : Slot) → same_slot s t ≡ false → nat_lt 0 (slot_count (after_note (Put f t) l) s) ≡ true → nat_lt 0 (slot_count l s) ≡ true
+    others s apart is = counted-slot l s ∙ is-positive _ (same (same_slot s t) apart (positive _ (sym (counted-slot (after_note (Put f t) l) s) ∙ is)))
+      where
+        same : (b : Bool) → b ≡ false → 0 < (cond b 1 0 + slots l s) + slot_entries l s → 0 < count l s
+        same true e i = cc
+        same false e i = omega (arith, i)
+
+    more : (k : ℕ) → length (slots_in_use m (after_note (Put f t) l) k) ≤ 1 + length (slots_in_use m l k)
+    more k = one-more-passes (λ page. nat_lt 0 (slot_count (after_note (Put f t) l) (record { area = k; page = page }))) (λ page. nat_lt 0 (slot_count l (record { area = k; page = page }))) t.page 1 (size_of m k - 1)
+        (λ page is other. others (record { area = k; page = page }) (apart (k == t.area) (page == t.page) other) is)
+      where
+        apart : (a b : Bool) → b ≡ false → (a && b) ≡ false
+        apart true b e = e
+        apart false b e = refl
+
+    still : (k : ℕ) → (k == t.area) ≡ false → length (slots_in_use m (after_note (Put f t) l) k) ≤ length (slots_in_use m l k)
+    still k other = fewer-pass (λ page. nat_lt 0 (slot_count (after_note (Put f t) l) (record { area = k; page = page }))) (λ page. nat_lt 0 (slot_count l (record { area = k; page = page }))) 1 (size_of m k - 1)
+        (λ page is. others (record { area = k; page = page }) (ap (λ b. b && page == t.page) other) is)
+
+    by : (k : ℕ) (b : Bool) → (k == t.area) ≡ b → (o : Option SwapArea) → find nat_cmp k l.on ≡ o → IfSome o (λ area. length (slots_in_use m l k) ≤ area.slots) → IfSome o (λ area. length (slots_in_use m (after_note (Put f t) l) k) ≤ area.slots)
+    by k b is None at i = tt
+    by k false is (Some area) at i = let e = still k is in omega (arith, i, e)
+    by k true is (Some area) at i =
+        let e = more k in
+        let same = same-is k t.area is in
+        let room : nat_lt 0 (area.slots - length (slots_in_use m l k)) ≡ true = ap (λ o. option_map_or (λ (a : SwapArea). nat_lt 0 (a.slots - length (slots_in_use m l k))) o false) (sym at) ∙ ap (has_free_slot m l) same ∙ free in
+        some area.slots (length (slots_in_use m l k)) _ room e
+      where
+        some : (s n k : ℕ) → nat_lt 0 (s - n) ≡ true → k ≤ 1 + n → k ≤ s
+        some s n k r e = let p : 0 < s - n = grind (arith, nat_tests, r) in omega (arith, p, e)
+
 -- the same areas are on, and a slot in use afterwards was so before or is one of theirs
 pub record NoNew (m : Setting) (l l' : Ledger) : Type 0 where
   pub on_same : l'.on ≡ l.on
+  pub fits : AreasFit m l → AreasFit m l'
   pub came : (s : Slot) → 0 < count l' s → (0 < count l s) ⊎ (is_there m l s ≡ true)
 
 pub no_new-then : (m : Setting) (l l' l'' : Ledger) → NoNew m l l' → NoNew m l' l'' → NoNew m l l''
-no_new-then m l l' l'' a b = record { on_same = b.on_same ∙ a.on_same; came = λ s h. by s (b.came s h) }
+no_new-then m l l' l'' a b = record { on_same = b.on_same ∙ a.on_same; fits = λ f. b.fits (a.fits f); came = λ s h. by s (b.came s h) }
   where
     by : (s : Slot) → (0 < count l' s) ⊎ (is_there m l' s ≡ true) → (0 < count l s) ⊎ (is_there m l s ≡ true)
     by s (inl h) = a.came s h
     by s (inr h) = inr (ap (λ o. is_there m (record l { on = o }) s) (sym a.on_same) ∙ h)
 
 pub less : (m : Setting) (l l' : Ledger) → l'.on ≡ l.on → ((s : Slot) → 0 < count l' s → 0 < count l s) → NoNew m l l'
-less m l l' on h = record { on_same = on; came = λ s i. inl (h s i) }
+less m l l' on h = record { on_same = on; fits = fits-less m l l' on h; came = λ s i. inl (h s i) }
 
 -- notes leave `on`
 pub settle-on : (o : Option ℕ) (l : Ledger) → (if_some o settle l).on ≡ l.on
@@ -82,16 +202,21 @@ lawful-no_new m closing l note sorted lawful = go note lawful
 
     go : (note : Note) → IsLawful m closing l note → NoNew m l (after_note note l)
     go (Zeroed p a) h = fewer (key_at p a) Zero (λ s. refl)
-    go (New p a f) h = let r = fewer (key_at p a) (InFrame f false) (λ s. refl) in record { on_same = r.on_same; came = r.came }
-    go (Copied p a f) h = let r = fewer (key_at p a) (InFrame f false) (λ s. refl) in record { on_same = r.on_same; came = r.came }
+    go (New p a f) h = let r = fewer (key_at p a) (InFrame f false) (λ s. refl) in record { on_same = r.on_same; fits = λ x. record { rising = (r.fits x).rising; fit = (r.fits x).fit }; came = r.came }
+    go (Copied p a f) h = let r = fewer (key_at p a) (InFrame f false) (λ s. refl) in record { on_same = r.on_same; fits = λ x. record { rising = (r.fits x).rising; fit = (r.fits x).fit }; came = r.came }
     go (Mapped p a f) h = fewer (key_at p a) (InFrame f false) (λ s. refl)
     go (Loaded t f) h = less m l (after_note (Loaded t f) l) refl (λ s i. by s (same_slot s t) refl i)
       where
         by : (s : Slot) (b : Bool) → same_slot s t ≡ b → 0 < (cond b 1 0 + slots l s) + slot_entries l s → 0 < count l s
         by s true is i = let n = subst (λ y. 0 < slot_entries l y) (sym (slot-is s t is)) h in omega (arith, n)
         by s false is i = omega (arith, i)
-    go (Put f t) h = record { on_same = refl; came = λ s i. by s (same_slot s t) refl i }
+    go (Put f t) h = record { on_same = refl; fits = fits-put m l f t (last_of (is_free_slot m l t) (is_open closing t.area) (has_free_slot m l t.area) h); came = λ s i. by s (same_slot s t) refl i }
       where
+        last_of : (a b c : Bool) → (a && b && c) ≡ true → c ≡ true
+        last_of true true c h = h
+        last_of true false c h = cc
+        last_of false b c h = cc
+
         all_of : (a b c d e o r : Bool) → ((a && b && c && d && e) && o && r) ≡ true → (a && b && c && e) ≡ true
         all_of true true true true true o r h = refl
         all_of true true true true false o r h = cc
@@ -232,6 +357,9 @@ there-by m l l' n all s h = ap (λ o. is_there m (record l { on = o }) s) n.on_s
     by (inl i) = all s i
     by (inr i) = i
 
+pub fits-notes : (m : Setting) (closing : Option ℕ) (l : Ledger) (notes : List Note) → IsSound m l → AreLawful m closing l notes → AreasFit m l → AreasFit m (after_notes l notes)
+fits-notes m closing l notes s h = (all_lawful-no_new m closing l notes s.in_order h).fits
+
 pub there-notes : (m : Setting) (closing : Option ℕ) (l : Ledger) (notes : List Note) → IsSound m l → AreLawful m closing l notes → AreThere m l → AreThere m (after_notes l notes)
 there-notes m closing l notes s h = there-by m l (after_notes l notes) (all_lawful-no_new m closing l notes s.in_order h)
 
@@ -325,32 +453,41 @@ lawful-touches m w l write k notes (Some Lost) s q = lawful-seeks m (sparing w l
 slots-marked : (l : Ledger) (t r : Slot) → slots (with_stale true t l) r ≡ slots l r
 slots-marked l t r = how_many-map (λ (c : Cached). same_slot r c.slot) (λ (c : Cached). if same_slot t c.slot then record c { stale = true } else c) l.cache ∙ how_many-same _ _ l.cache (λ c. elim (same_slot t c.slot) as (λ (v : Bool). same_slot r (if v then record c { stale = true } else c).slot ≡ same_slot r c.slot) [ true ↦ refl | false ↦ refl ])
 
-there-used : (m : Setting) (l : Ledger) (write : Bool) (k : Key) → IsSound m l → AreThere m l → AreThere m (after_use write k l)
-there-used m l write k s all = by write (entry l k)
+pub used-no_new : (m : Setting) (l : Ledger) (write : Bool) (k : Key) → IsSound m l → NoNew m l (after_use write k l)
+used-no_new m l write k s = by write (entry l k)
   where
     set : (f : ℕ) → NoNew m l (set_entry k (InFrame f true) l)
     set f = less m l (set_entry k (InFrame f true) l) refl (λ t h. let a = slot_entries-set k (InFrame f true) l t s.in_order in omega (arith, a, h))
 
-    stale : (o : Option Slot) (l' : Ledger) → NoNew m l l' → AreThere m (if_some o (with_stale true) l')
-    stale None l' n = there-by m l l' n all
-    stale (Some t) l' n = there-by m l (with_stale true t l') (no_new-then m l l' (with_stale true t l') n (less m l' (with_stale true t l') refl (λ r h. let a = slots-marked l' t r in omega (arith, a, h)))) all
+    stale : (o : Option Slot) (l' : Ledger) → NoNew m l l' → NoNew m l (if_some o (with_stale true) l')
+    stale None l' n = n
+    stale (Some t) l' n = no_new-then m l l' (with_stale true t l') n (less m l' (with_stale true t l') refl (λ r h. let a = slots-marked l' t r in omega (arith, a, h)))
 
-    by : (write : Bool) (o : Option Entry) → AreThere m (after_use_of write k l o)
-    by write None = all
-    by write (Some Zero) = all
-    by write (Some (InSlot t)) = all
-    by false (Some (InFrame f seen)) = there-by m l (set_entry k (InFrame f true) l) (set f) all
+    by : (write : Bool) (o : Option Entry) → NoNew m l (after_use_of write k l o)
+    by write None = less m l l refl (λ t h. h)
+    by write (Some Zero) = less m l l refl (λ t h. h)
+    by write (Some (InSlot t)) = less m l l refl (λ t h. h)
+    by false (Some (InFrame f seen)) = set f
     by true (Some (InFrame f seen)) = stale (slot_of l f) (set_entry k (InFrame f true) l) (set f)
 
-there-events : (m : Setting) (l : Ledger) (write : Bool) (k : Key) (notes : List Note) (end : Option Stop) → IsSound m (after_notes l notes) → AreThere m (after_notes l notes) → AreThere m (after_all l (page_events write k notes end))
-there-events m l write k notes None s all = subst (AreThere m) (sym (after_all-append l (note_events notes) (Used write k ∷ []) ∙ ap (after_use write k) (note_events-all l notes))) (there-used m (after_notes l notes) write k s all)
-there-events m l write k notes (Some stop) s all = subst (AreThere m) (sym (note_events-all l notes)) all
-
-pub there-accesses : (m : Setting) (w : World) (l : Ledger) (p : ℕ) (ps : List (Bool × ℕ)) (events : List Event) (end : End) → IsSound m l → AreThere m l → Accesses m w l p ps events end → AreThere m (after_all l events)
-there-accesses m w l p ps events end s all h = (accesses-keep (λ l. IsSound m l × AreThere m l) m w p each l ps events end (s, all) h).1
+-- what a page of an access brings into use
+touches-no_new : (m : Setting) (w : World) (l : Ledger) (write : Bool) (k : Key) (notes : List Note) (end : Option Stop) → IsSound m l → Touches m w l write k notes end → NoNew m l (after_all l (page_events write k notes end))
+touches-no_new m w l write k notes end s t = by end (all_lawful-no_new m None l notes s.in_order (lawful-touches m w l write k notes end s t)) (touches-kept m w l write k notes end s t)
   where
-    each : (l : Ledger) (write : Bool) (page : ℕ) (notes : List Note) (end : Option Stop) → IsSound m l × AreThere m l → Touches m w l write (p, page) notes end
-        → IsSound m (after_all l (page_events write (p, page) notes end)) × AreThere m (after_all l (page_events write (p, page) notes end))
-    each l write page notes end h t =
-        let s' = touches-kept m w l write (p, page) notes end h.0 t in
-        (page_events-kept m l write (p, page) notes end s', there-events m l write (p, page) notes end s' (there-notes m None l notes h.0 (lawful-touches m w l write (p, page) notes end h.0 t) h.1))
+    by : (end : Option Stop) → NoNew m l (after_notes l notes) → IsSound m (after_notes l notes) → NoNew m l (after_all l (page_events write k notes end))
+    by None n s' = subst (NoNew m l) (sym (after_all-append l (note_events notes) (Used write k ∷ []) ∙ ap (after_use write k) (note_events-all l notes))) (no_new-then m l (after_notes l notes) (after_use write k (after_notes l notes)) n (used-no_new m (after_notes l notes) write k s'))
+    by (Some stop) n s' = subst (NoNew m l) (sym (note_events-all l notes)) n
+
+-- an access
+pub record InAreas (m : Setting) (l : Ledger) : Type 0 where
+  pub sound : IsSound m l
+  pub there : AreThere m l
+  pub fits : AreasFit m l
+
+pub accesses-in : (m : Setting) (w : World) (l : Ledger) (p : ℕ) (ps : List (Bool × ℕ)) (events : List Event) (end : End) → InAreas m l → Accesses m w l p ps events end → InAreas m (after_all l events)
+accesses-in m w l p ps events end s h = accesses-keep (InAreas m) m w p each l ps events end s h
+  where
+    each : (l : Ledger) (write : Bool) (page : ℕ) (notes : List Note) (end : Option Stop) → InAreas m l → Touches m w l write (p, page) notes end → InAreas m (after_all l (page_events write (p, page) notes end))
+    each l write page notes end s t =
+        let n = touches-no_new m w l write (p, page) notes end s.sound t in
+        record { sound = page_events-kept m l write (p, page) notes end (touches-kept m w l write (p, page) notes end s.sound t); there = there-by m l (after_all l (page_events write (p, page) notes end)) n s.there; fits = n.fits s.fits }

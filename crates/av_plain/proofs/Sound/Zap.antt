@@ -5,9 +5,9 @@ use Rattle.std.specs.Prelude.{option_and_then}
 use Rattle.std.specs.List.{list_any}
 use Rattle.std.specs.Ordering.{nat_cmp, is_eq, eq_by_cmp}
 use Rattle.std.specs.FinMap.Entries.{is_sorted, find-where_key, is_sorted-where_key}
+use Rattle.av_trace.specs.declared.note.Note.TheVariants.{Dropped}
 use Rattle.av_base.specs.Words.{how_many}
 use Rattle.av_base.specs.declared.slot.Slot.{Slot}
-use Rattle.av_trace.specs.declared.note.Note.TheVariants.{Dropped}
 use Rattle.av_plain.specs.Event.{after_all, after_zap, note_events, settle_entry, when}
 use Rattle.av_plain.specs.Ledger.{Entry, InFrame, InSlot, Key, Ledger, Setting, Zero, entry, is_orphan, key_cmp, map_count, names_frame, names_slot, same_slot, slot_of}
 use Rattle.av_plain.specs.Sound.{AllSound, AreThere, AtPages, IsSound, IsSoundBut, IsTidy, flights, holders, pairs}
@@ -98,14 +98,16 @@ no_new-drops m l (Some t) h = by (is_orphan l t)
     by true = lawful-no_new m None l (Dropped t) h tt
     by false = less m l l refl (λ r i. i)
 
-taking_one-there : (m : Setting) (l : Ledger) (k : Key) → IsSound m l → AreThere m l → AreThere m (after_all l (zap_of l k))
-taking_one-there m l k s all = there-by m l (after_all l (zap_of l k)) (no_new-then m l (after_zap k l) (after_all l (zap_of l k))
-    (no_new-taken m k l s.in_order) (no_new-drops m (after_zap k l) (slot_behind_key l (entry l k)) (in_order-after_zap k l s.in_order))) all
+zap_of-no_new : (m : Setting) (l : Ledger) (k : Key) → IsSound m l → NoNew m l (after_all l (zap_of l k))
+zap_of-no_new m l k s = no_new-then m l (after_zap k l) (after_all l (zap_of l k)) (no_new-taken m k l s.in_order) (no_new-drops m (after_zap k l) (slot_behind_key l (entry l k)) (in_order-after_zap k l s.in_order))
+
+pub zaps_of-no_new : (m : Setting) (l : Ledger) (ks : List Key) → IsSound m l → NoNew m l (after_all l (zaps_of l ks))
+zaps_of-no_new m l [] s = less m l l refl (λ t i. i)
+zaps_of-no_new m l (k ∷ ks) s = subst (NoNew m l) (sym (after_all-append l (zap_of l k) (zaps_of (after_all l (zap_of l k)) ks)))
+    (no_new-then m l (after_all l (zap_of l k)) _ (zap_of-no_new m l k s) (zaps_of-no_new m (after_all l (zap_of l k)) ks (zap_of-kept m l k s)))
 
 pub zaps_of-there : (m : Setting) (l : Ledger) (ks : List Key) → IsSound m l → AreThere m l → AreThere m (after_all l (zaps_of l ks))
-zaps_of-there m l [] s all = all
-zaps_of-there m l (k ∷ ks) s all = subst (AreThere m) (sym (after_all-append l (zap_of l k) (zaps_of (after_all l (zap_of l k)) ks)))
-    (zaps_of-there m (after_all l (zap_of l k)) ks (zap_of-kept m l k s) (taking_one-there m l k s all))
+zaps_of-there m l ks s all = there-by m l (after_all l (zaps_of l ks)) (zaps_of-no_new m l ks s) all
 
 -- ---- a process goes
 
@@ -155,6 +157,7 @@ after_zap-sound m w w' l ks s tidy at = record {
   ledger = zaps_of-kept m l ks s.ledger;
   at_pages = at;
   in_areas = zaps_of-there m l ks s.ledger s.in_areas;
+  areas_fit = (zaps_of-no_new m l ks s.ledger).fits s.areas_fit;
 }
 
 -- what an exit leaves is sound
