@@ -22,7 +22,7 @@ use Rattle.av_plain.proofs.Ledger.{how_many-found}
 use Rattle.av_plain.proofs.Ledger.NoSwap.{itself}
 use Rattle.av_plain.proofs.Sound.Access.{accesses-kept}
 use Rattle.av_plain.proofs.Sound.Pages.{accesses-at}
-use Rattle.av_plain.proofs.Sound.There.{there-accesses}
+use Rattle.av_plain.proofs.Sound.There.{accesses-in}
 use Rattle.av_plain.proofs.Sound.{follows-sound}
 use Rattle.av_reclaim.specs.declared.mem.Mem.{Mem}
 use Rattle.av_fault.specs.declared.fault.Stop.{Stop}
@@ -63,11 +63,13 @@ pub sound_touched : (m : Setting) (w : World) (l : Ledger) (write : Bool) (p pag
 sound_touched m w l write p page notes end s h =
     let access = accessed m w l write p page notes end h in
     let events = page_events write (p, page) notes end in
+    let areas = accesses-in m w l p ((write, page) ∷ []) events (end_at page end) (record { sound = s.ledger; there = s.in_areas; fits = s.areas_fit }) access in
     record {
       world = s.world;
       ledger = accesses-kept m w l p ((write, page) ∷ []) events (end_at page end) s.ledger access;
       at_pages = λ q o i. accesses-at m w l p ((write, page) ∷ []) events (end_at page end) (λ k j. s.at_pages k.0 k.1 j) access (q, o) i;
-      in_areas = there-accesses m w l p ((write, page) ∷ []) events (end_at page end) s.ledger s.in_areas access;
+      in_areas = areas.there;
+      areas_fit = areas.fits;
     }
 
 sound_written : (n : ℕ) (w : World) (l : Ledger) (p page at : ℕ) (piece : List ℕ) (notes : List Note) → AllSound (setting n) w l → lives w p ≡ true → 1 ≤ length piece → at + length piece ≤ 4096
