@@ -8,7 +8,8 @@ use Rattle.std.proofs.lemmas.List.Folds.{sum_by-replicate}
 use Rattle.av_lru.specs.declared.Which.{Which}
 use Rattle.av_lru.specs.declared.Which.TheVariants.{Active, Inactive}
 use Rattle.av_lru.specs.declared.Lengths.{Lengths}
-use Rattle.av_lru.specs.Lists.{Lists, listed, with_list, is_in, without, taken, last_of, preceding, place_in, IsApart}
+use Rattle.av_lru.specs.Lists.{Lists, listed, with_list, without, taken, last_of, preceding, place_in, IsApart}
+use Rattle.av_base.specs.Words.{is_in}
 use Rattle.av_lru.specs.Links.{head_of, len_of, with_len, Joins, Inserts, lists_of, place_of, IsWhole, is_off, IsIn, IsRing, walk, after_links}
 use Rattle.av_lru.proofs.Paths.{IsIn-without, frame_at, frame_past, last_path, prev_path}
 use Rattle.av_lru.proofs.Tails.{back_in, tails_path}

@@ -1,4 +1,5 @@
--- How `Lru` lays out its lists: each is a ring of places through its head. The place of a frame is its number, and the heads stand behind the frames.
+-- How `Lru` lays out its lists: each is a ring of places through its head. The place of a frame
+-- is its number, and the heads stand behind the frames.
 use Rattle.std.specs.Prelude.{◌≡◌, ◌≢◌, ◌⊎◌, ℕ, zero, suc, ◌+◌, ◌<◌, ◌^◌, Bool, true, false, List, [], ◌∷◌, length, Option, Some, None, count_by, slice_index, slice_index_or}
 use Rattle.av_lru.specs.Lists.{Lists}
 use Rattle.av_lru.specs.declared.Lengths.{Lengths}
@@ -40,7 +41,8 @@ pub record Joins (old new : ℕ → ℕ) (from to : ℕ) : Type 0 where
   pub here : new from ≡ to
   pub others : (at : ℕ) → at ≢ from → new at ≡ old at
 
--- the new links put a place between two others, and lead from every other place where the old ones do
+-- the new links put a place between two others, and lead from every other place where the old
+-- ones do
 pub record Inserts (next prev next' prev' : ℕ → ℕ) (before at after : ℕ) : Type 0 where
   pub into : next' before ≡ at
   pub out : next' at ≡ after
@@ -65,7 +67,12 @@ frames_of nexts count head = walk (slice_index nexts) count head
 
 -- what a contract sees
 abbrev pub lists_of : List ℕ → ℕ → Lengths → Lists
-lists_of nexts frames lens = record { frames = frames; active = frames_of nexts lens.active frames; inactive = frames_of nexts lens.inactive (frames + 1) }
+lists_of nexts frames lens =
+    record {
+      frames = frames;
+      active = frames_of nexts lens.active frames;
+      inactive = frames_of nexts lens.inactive (frames + 1);
+    }
 
 module _ (next prev : ℕ → ℕ) where
   -- the links lead from one place through these to the other place, and back
@@ -73,8 +80,10 @@ module _ (next prev : ℕ → ℕ) where
   IsPath from [] to = (next from ≡ to) × (prev to ≡ from)
   IsPath from (f ∷ fs) to = (next from ≡ f) × (prev f ≡ from) × IsPath f fs to
 
-  -- the ring through a head has these frames, each once, which are those that are placed in the list
-  pub record IsRing (place : ℕ → Option Which) (which : Which) (head : ℕ) (fs : List ℕ) : Type 0 where
+  -- the ring through a head has these frames, each once, which are those that are placed in the
+  -- list
+  pub record IsRing (place : ℕ
+      → Option Which) (which : Which) (head : ℕ) (fs : List ℕ) : Type 0 where
     pub linked : IsPath head fs head
     pub apart : AreApart fs
     pub placed : (f : ℕ) → IsIn f fs → place f ≡ Some which
@@ -85,11 +94,13 @@ abbrev pub place_of : List (Option Which) → ℕ → Option Which
 place_of places f = slice_index_or places f None
 
 -- the fields of `Lru` fit together
-pub record IsWhole (links back : List ℕ) (places : List (Option Which)) (lens : Lengths) : Type 0 where
+pub record IsWhole (links back : List ℕ) (places : List (Option Which)) (lens : Lengths)
+    : Type 0 where
   pub few : length places < 2 ^ 32
   pub next : length links ≡ length places + 2
   pub prev : length back ≡ length places + 2
   -- each frame is counted in its list, or is off both
   pub total : lens.active + lens.inactive + count_by is_off places ≡ length places
-  pub rings : (which : Which) → IsRing (slice_index links) (slice_index back) (place_of places) which (head_of (length places) which)
+  pub rings : (which : Which) → IsRing (slice_index links)
+      (slice_index back) (place_of places) which (head_of (length places) which)
       (frames_of links (len_of which lens) (head_of (length places) which))

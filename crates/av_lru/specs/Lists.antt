@@ -1,6 +1,6 @@
 -- What is seen of `Lru`: how many frames there are, and the two lists, each from its head on.
 use Rattle.std.specs.Prelude.{◌≡◌, ℕ, Bool, false, ◌==◌, not, cond, if◌then◌else◌, List, [], ◌∷◌, filter, Option, Some, None}
-use Rattle.std.specs.List.{list_any}
+use Rattle.av_base.specs.Words.{is_in}
 use Rattle.av_lru.specs.declared.Which.{Which}
 use Rattle.av_lru.specs.declared.Which.TheVariants.{Active, Inactive}
 
@@ -20,10 +20,6 @@ abbrev pub with_list : Which → List ℕ → Lists → Lists
 with_list Active fs ls = record { frames = ls.frames; active = fs; inactive = ls.inactive }
 with_list Inactive fs ls = record { frames = ls.frames; active = ls.active; inactive = fs }
 
--- whether a frame is in a list
-abbrev pub is_in : ℕ → List ℕ → Bool
-is_in f fs = list_any (λ g. f == g) fs
-
 -- no frame is there twice
 abbrev pub IsApart : List ℕ → Type 0
 IsApart [] = Unit {0}
@@ -31,7 +27,8 @@ IsApart (g ∷ gs) = (is_in g gs ≡ false) × IsApart gs
 
 -- the list that a frame is in
 abbrev pub place_in : ℕ → Lists → Option Which
-place_in f ls = if is_in f ls.active then Some Active else (if is_in f ls.inactive then Some Inactive else None)
+place_in f ls = if is_in f ls.active then Some Active else (if is_in f ls.inactive
+    then Some Inactive else None)
 
 -- the other frames of a list, in their order
 abbrev pub without : ℕ → List ℕ → List ℕ
@@ -39,7 +36,8 @@ without f fs = filter (λ g. not (g == f)) fs
 
 -- both lists without a frame
 abbrev pub taken : ℕ → Lists → Lists
-taken f ls = record { frames = ls.frames; active = without f ls.active; inactive = without f ls.inactive }
+taken f ls =
+    record { frames = ls.frames; active = without f ls.active; inactive = without f ls.inactive }
 
 -- the last frame of a list; `before` is what stands before the list
 abbrev pub last_of : Option ℕ → List ℕ → Option ℕ

@@ -1,11 +1,13 @@
-//! The LRU lists: the frames in use that reclaim takes last (active) and those that it looks at first (inactive).
+//! The LRU lists: the frames in use that reclaim takes last (active) and those that it looks at
+//! first (inactive).
 #![tactic(auto)]
 
 #[cfg(test)]
 mod tests;
 
 ghost use Rattle.std.specs.Prelude.{◌≡◌, ◌≢◌, ◌⊎◌, ℕ, ◌+◌, ◌-◌, ◌<◌, ◌≤◌, ◌^◌, [], ◌∷◌, ◌++◌, length, slice_index, IfOk, true, false, Some, None, nat_lt, replicate, take, reverse, vec_capacity, if◌then◌else◌};
-ghost use Rattle.av_lru.specs.Lists.{listed, with_list, is_in, taken, last_of, preceding, place_in, IsApart};
+ghost use Rattle.av_lru.specs.Lists.{listed, with_list, taken, last_of, preceding, place_in, IsApart};
+ghost use Rattle.av_base.specs.Words.{is_in};
 ghost use Rattle.av_lru.specs.Links.{head_of, len_of, with_len, Joins, Inserts, walk, after_links};
 
 use std::alloc::{AllocError, Global};
@@ -32,13 +34,13 @@ struct Links {
     prev: Vec<usize>,
 }
 
-/// The frames of a fixed number that are in the active or the inactive list, each in one of them at most. A list has a
-/// head, where frames join, and a tail. No call searches: each takes constant time, but `new` and `tails`. Only `new`
-/// takes memory.
+/// The frames of a fixed number that are in the active or the inactive list, each in one of them
+/// at most. A list has a head, where frames join, and a tail. No call searches: each takes
+/// constant time, but `new` and `tails`. Only `new` takes memory.
 #[derive(Drop)]
 pub struct Lru {
-    // Each list is a ring through its head, so that no end is a case of its own. The place of a frame is its number,
-    // and the heads stand behind the frames.
+    // Each list is a ring through its head, so that no end is a case of its own. The place of a
+    // frame is its number, and the heads stand behind the frames.
     links: Links,
     // The list that each frame is in.
     places: Vec<Option<Which>>,
@@ -54,7 +56,8 @@ impl Model for Lru {
 
     ghost view = { λ a. lists_of a.links.next.items (length a.places.items) a.lengths };
 
-    ghost invariant = { λ a. IsWhole a.links.next.items a.links.prev.items a.places.items a.lengths };
+    ghost invariant = { λ a.
+        IsWhole a.links.next.items a.links.prev.items a.places.items a.lengths };
 }
 
 impl Lengths {
@@ -97,8 +100,12 @@ impl Links {
         requires at_in { (at < length self.old.next.items) × (at < length self.old.prev.items) }
         requires before_in { slice_index self.old.prev.items at < length self.old.next.items }
         requires after_in { slice_index self.old.next.items at < length self.old.prev.items }
-        ensures next { Joins (slice_index self.old.next.items) (slice_index self.new.next.items) (slice_index self.old.prev.items at) (slice_index self.old.next.items at) }
-        ensures prev { Joins (slice_index self.old.prev.items) (slice_index self.new.prev.items) (slice_index self.old.next.items at) (slice_index self.old.prev.items at) }
+        ensures next { Joins (slice_index self.old.next.items)
+            (slice_index self.new.next.items) (slice_index self.old.prev.items at)
+            (slice_index self.old.next.items at) }
+        ensures prev { Joins (slice_index self.old.prev.items)
+            (slice_index self.new.prev.items) (slice_index self.old.next.items at)
+            (slice_index self.old.prev.items at) }
         ensures next_len { length self.new.next.items ≡ length self.old.next.items }
         ensures prev_len { length self.new.prev.items ≡ length self.old.prev.items }
     {
@@ -114,7 +121,9 @@ impl Links {
         requires at_in { (at < length self.old.next.items) × (at < length self.old.prev.items) }
         requires after_in { after < length self.old.prev.items }
         requires apart { (at ≢ before) × (at ≢ after) }
-        ensures inserts { Inserts (slice_index self.old.next.items) (slice_index self.old.prev.items) (slice_index self.new.next.items) (slice_index self.new.prev.items) before at after }
+        ensures inserts { Inserts (slice_index self.old.next.items)
+            (slice_index self.old.prev.items) (slice_index self.new.next.items)
+            (slice_index self.new.prev.items) before at after }
         ensures next_len { length self.new.next.items ≡ length self.old.next.items }
         ensures prev_len { length self.new.prev.items ≡ length self.old.prev.items }
     {
@@ -126,10 +135,13 @@ impl Links {
 
     // Appends the places that so many links back lead to in turn.
     fn follow_back(&self, from: usize, steps: u32, found: &mut Vec<u32>)
-        requires within { (i : ℕ) → i < steps → after_links (slice_index self.now.prev.items) i from < length self.now.prev.items }
-        requires small { (i : ℕ) → i < steps → after_links (slice_index self.now.prev.items) (i + 1) from < 2 ^ 32 }
+        requires within { (i : ℕ) → i < steps
+            → after_links (slice_index self.now.prev.items) i from < length self.now.prev.items }
+        requires small { (i : ℕ) → i < steps
+            → after_links (slice_index self.now.prev.items) (i + 1) from < 2 ^ 32 }
         requires room { length found.old.items + steps ≤ vec_capacity found.old }
-        ensures items { found.new.items ≡ found.old.items ++ walk (slice_index self.now.prev.items) steps from }
+        ensures items { found.new.items
+            ≡ found.old.items ++ walk (slice_index self.now.prev.items) steps from }
         ensures capacity { vec_capacity found.new ≡ vec_capacity found.old }
     {
         let mut at = from;
@@ -143,7 +155,8 @@ impl Links {
 impl Lru {
     /// Two empty lists, for frames with numbers below `frames`.
     pub fn new(alloc: Global, frames: u32) -> Result<Lru, AllocError>
-        ensures { IfOk result (λ lru. lru ≡ record { frames = frames; active = []; inactive = [] }) }
+        ensures { IfOk result (λ lru. lru ≡
+            record { frames = frames; active = []; inactive = [] }) }
     {
         let frames = frames as usize;
         Ok(Lru {
@@ -186,7 +199,8 @@ impl Lru {
     #[tactic(auto, using(crate::proofs::Steps::gone))]
     pub fn to_active(&mut self, frame: u32)
         requires { frame < self.old.frames }
-        ensures { self.new ≡ record (taken frame self.old) { active = frame ∷ (taken frame self.old).active } }
+        ensures { self.new
+            ≡ record (taken frame self.old) { active = frame ∷ (taken frame self.old).active } }
     {
         self.remove(frame);
         self.add_head(Which::Active, frame);
@@ -196,7 +210,9 @@ impl Lru {
     #[tactic(auto, using(crate::proofs::Steps::gone))]
     pub fn to_inactive_head(&mut self, frame: u32)
         requires { frame < self.old.frames }
-        ensures { self.new ≡ record (taken frame self.old) { inactive = frame ∷ (taken frame self.old).inactive } }
+        ensures { self.new ≡ record (taken frame self.old) {
+            inactive = frame ∷ (taken frame self.old).inactive
+        } }
     {
         self.remove(frame);
         self.add(frame);
@@ -206,7 +222,9 @@ impl Lru {
     #[tactic(auto, using(crate::proofs::Steps::gone))]
     pub fn to_inactive_tail(&mut self, frame: u32)
         requires { frame < self.old.frames }
-        ensures { self.new ≡ record (taken frame self.old) { inactive = (taken frame self.old).inactive ++ frame ∷ [] } }
+        ensures { self.new ≡ record (taken frame self.old) {
+            inactive = (taken frame self.old).inactive ++ frame ∷ []
+        } }
     {
         self.remove(frame);
         self.add_tail(Which::Inactive, frame);
@@ -216,7 +234,8 @@ impl Lru {
     pub fn place(&self, frame: u32) -> Option<Which>
         requires { frame < self.now.frames }
         ensures place { result ≡ place_in frame self.now }
-        ensures never_both { is_in frame self.now.active ≡ true → is_in frame self.now.inactive ≡ false }
+        ensures never_both { is_in frame self.now.active ≡ true
+            → is_in frame self.now.inactive ≡ false }
     {
         self.places[frame as usize]
     }
@@ -244,16 +263,20 @@ impl Lru {
     /// The frame before one that is in a list. None exactly where that is at the head.
     pub fn before(&self, frame: u32) -> Option<u32>
         requires { (is_in frame self.now.active ≡ true) ⊎ (is_in frame self.now.inactive ≡ true) }
-        ensures active { is_in frame self.now.active ≡ true → result ≡ preceding None frame self.now.active }
-        ensures inactive { is_in frame self.now.inactive ≡ true → result ≡ preceding None frame self.now.inactive }
+        ensures active { is_in frame self.now.active ≡ true
+            → result ≡ preceding None frame self.now.active }
+        ensures inactive { is_in frame self.now.inactive ≡ true
+            → result ≡ preceding None frame self.now.inactive }
     {
         frame_at(self.places.len(), self.links.prev[frame as usize])
     }
 
-    /// Appends the last `count` frames of a list, or all where there are fewer, from the tail on. It costs `count` steps.
+    /// Appends the last `count` frames of a list, or all where there are fewer, from the tail on.
+    /// It costs `count` steps.
     pub fn tails(&self, which: Which, count: u32, found: &mut Vec<u32>)
         requires { length found.old.items + count ≤ vec_capacity found.old }
-        ensures items { found.new.items ≡ found.old.items ++ take count (reverse (listed which self.now)) }
+        ensures items { found.new.items
+            ≡ found.old.items ++ take count (reverse (listed which self.now)) }
         ensures capacity { vec_capacity found.new ≡ vec_capacity found.old }
     {
         let head = head(self.places.len(), which);
@@ -318,7 +341,10 @@ fn frame_at(frames: usize, place: usize) -> Option<u32>
 // The links of two empty lists: each head leads to itself.
 fn empty_rings(alloc: Global, frames: usize) -> Result<Vec<usize>, AllocError>
     requires { frames < 2 ^ 32 }
-    ensures { IfOk result (λ links. (length links.items ≡ frames + 2) × (slice_index links.items frames ≡ frames) × (slice_index links.items (frames + 1) ≡ frames + 1)) }
+    ensures { IfOk result (λ links.
+        (length links.items ≡ frames + 2)
+        × (slice_index links.items frames ≡ frames)
+        × (slice_index links.items (frames + 1) ≡ frames + 1)) }
 {
     let mut links = Vec::new(alloc);
     links.resize(frames + 2, 0)?;

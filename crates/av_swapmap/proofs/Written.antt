@@ -4,7 +4,8 @@ use Rattle.std.specs.Result.{IsErr}
 use Rattle.std.proofs.lemmas.Bool.Decides.{nat_tests}
 use Rattle.std.proofs.lemmas.Bool.{false≢true}
 use Rattle.av_swapmap.specs.Digits.{byte_of, further_of, cached_of, count_of}
-use Rattle.av_swapmap.specs.Seen.{Store, seen, more_at, with_at, IsSlot, IsWhole}
+use Rattle.av_swapmap.specs.Seen.{Store, seen, more_at, IsSlot, IsWhole}
+use Rattle.av_base.specs.Words.{with_at}
 use Rattle.av_swapmap.proofs.Numbers.{good_byte, byte_cached, count_is, needs_none}
 
 -- a count and a flag make a slot

@@ -1,6 +1,6 @@
 -- What is seen of the counts of a swap area.
 use Rattle.std.specs.Prelude.{◌≡◌, ℕ, ◌<◌, ◌^◌, Bool, true, false, ◌&&◌, ◌==◌, nat_lt, if◌then◌else◌, List, length, slice_index, Option, None}
-use Rattle.std.specs.List.{list_any}
+use Rattle.av_base.specs.Words.{is_in, with_at}
 use Rattle.std.specs.Ordering.{nat_cmp}
 use Rattle.std.specs.Map.{lookup}
 use Rattle.std.specs.BTreeMap.{is_at}
@@ -15,7 +15,8 @@ pub record Store : Type 0 where
 abbrev pub more_at : List (ℕ × List ℕ) → ℕ → Option (List ℕ)
 more_at more p = lookup (is_at (nat_cmp p)) more
 
--- how many slots there are; of each, whether it is bad, whether the swap cache holds it, and how many entries name it
+-- how many slots there are; of each, whether it is bad, whether the swap cache holds it, and how
+-- many entries name it
 pub record Seen : Type 0 where
   pub pages : ℕ
   pub bad : ℕ → Bool
@@ -31,10 +32,6 @@ seen s = record {
   count = λ p. count_of (slice_index s.bytes p) (more_at s.more p);
 }
 
--- whether a number is in a list
-abbrev pub is_in : ℕ → List ℕ → Bool
-is_in p ps = list_any (λ q. p == q) ps
-
 -- slots that no entry names and the swap cache doesn't hold, some of them bad
 abbrev pub fresh : ℕ → List ℕ → Seen
 fresh pages bad = record {
@@ -44,9 +41,12 @@ fresh pages bad = record {
   count = λ p. 0;
 }
 
--- a function with its value at one number changed
-abbrev pub with_at : {X : Type 0} → ℕ → X → (ℕ → X) → ℕ → X
-with_at k x f q = if q == k then x else f q
+-- what is seen, with the count or the flag of one slot changed
+abbrev pub with_count : ℕ → ℕ → Seen → Seen
+with_count p n s = record s { count = with_at p n s.count }
+
+abbrev pub with_cached : ℕ → Bool → Seen → Seen
+with_cached p cached s = record s { cached = with_at p cached s.cached }
 
 -- the byte of a slot
 abbrev pub byte_at : Seen → ℕ → ℕ

@@ -1,5 +1,6 @@
 ghost use Rattle.std.specs.Prelude.{◌≡◌, ℕ, ◌+◌, ◌-◌, ◌<◌, ◌≤◌, ◌^◌, MatchResult, IfOk, None, true, false, length, slice_index, ◌&&◌, nat_lt, if◌then◌else◌};
-ghost use Rattle.av_swapmap.specs.Seen.{seen, fresh, with_at, byte_at, is_in};
+ghost use Rattle.av_swapmap.specs.Seen.{seen, fresh, with_count, with_cached, byte_at};
+ghost use Rattle.av_base.specs.Words.{with_at, is_in};
 ghost use Rattle.av_swapmap.specs.Digits.{digit_of, further_of};
 ghost use Rattle.std.specs.Ordering.{nat_cmp};
 ghost use Rattle.std.specs.BTreeMap.{get};
@@ -11,7 +12,8 @@ use std::marker::Model;
 
 /// How many entries name each slot of a swap area, and whether the swap cache holds it.
 ///
-/// Slots are numbered from 0. A bad slot is never named and never cached. Only `new` and `add` take memory.
+/// Slots are numbered from 0. A bad slot is never named and never cached. Only `new` and `add`
+/// take memory.
 #[derive(Drop)]
 pub struct Counts {
     // Of each slot the first digit of its count, with flags.
@@ -31,7 +33,8 @@ impl Model for Counts {
 }
 
 impl Counts {
-    /// This many slots that no entry names. Those listed are bad; a listed number past the last slot says nothing.
+    /// This many slots that no entry names. Those listed are bad; a listed number past the last
+    /// slot says nothing.
     pub fn new(alloc: Global, pages: u32, bad: &[u32]) -> Result<Counts, AllocError>
         ensures { IfOk result (λ counts. seen counts ≡ fresh pages bad.now) }
     {
@@ -53,14 +56,17 @@ impl Counts {
         }
     }
 
-    /// So many more entries name the slot. Without memory all stays; only a count that grows to 63 or more from below takes memory.
+    /// So many more entries name the slot. Without memory all stays; only a count that grows to
+    /// 63 or more from below takes memory.
     pub fn add(&mut self, page: u32, n: u32) -> Result<(), AllocError>
         requires in_range { page < (seen self.old).pages }
         requires not_bad { (seen self.old).bad page ≡ false }
         requires room { (seen self.old).count page + n < 2 ^ 32 }
         ensures { MatchResult result
-            (λ _. seen self.new ≡ record (seen self.old) { count = with_at page ((seen self.old).count page + n) (seen self.old).count })
-            (λ _. ((seen self.old).count page < 63) × (63 ≤ (seen self.old).count page + n) × (seen self.new ≡ seen self.old)) }
+            (λ _. seen self.new ≡
+                with_count page ((seen self.old).count page + n) (seen self.old))
+            (λ _. ((seen self.old).count page < 63) × (63 ≤ (seen self.old).count page + n)
+                × (seen self.new ≡ seen self.old)) }
     {
         let count = self.get(page) + n;
         let byte = byte_of(count, self.cached(page));
@@ -73,7 +79,8 @@ impl Counts {
     pub fn sub(&mut self, page: u32, n: u32)
         requires in_range { page < (seen self.old).pages }
         requires some { n ≤ (seen self.old).count page }
-        ensures { seen self.new ≡ record (seen self.old) { count = with_at page ((seen self.old).count page - n) (seen self.old).count } }
+        ensures { seen self.new ≡
+            with_count page ((seen self.old).count page - n) (seen self.old) }
     {
         if n == 0 {
             // A bad slot stays bad.
@@ -97,7 +104,8 @@ impl Counts {
     pub fn set_cached(&mut self, page: u32, cached: bool)
         requires in_range { page < (seen self.old).pages }
         requires not_bad { (seen self.old).bad page ≡ false }
-        ensures { seen self.new ≡ record (seen self.old) { cached = with_at page cached (seen self.old).cached } }
+        ensures { seen self.new ≡
+            with_cached page cached (seen self.old) }
     {
         self.bytes[page as usize] = byte_of(self.get(page), cached);
     }
@@ -106,7 +114,8 @@ impl Counts {
     pub fn bad(&self, page: u32) -> bool
         requires { page < (seen self.now).pages }
         ensures is { result ≡ (seen self.now).bad page }
-        ensures unnamed { result ≡ true → ((seen self.now).count page ≡ 0) × ((seen self.now).cached page ≡ false) }
+        ensures unnamed { result ≡ true → ((seen self.now).count page ≡ 0)
+            × ((seen self.now).cached page ≡ false) }
     {
         self.bytes[page as usize] == BAD
     }
@@ -134,7 +143,8 @@ impl Counts {
 
 /// The bytes of slots that no entry names, some of them bad.
 fn unnamed(alloc: Global, pages: u32, bad: &[u32]) -> Result<Vec<u8>, AllocError>
-    ensures { IfOk result (λ v. (length v.items ≡ pages) × ((p : ℕ) → slice_index v.items p ≡ (if nat_lt p pages && is_in p bad.now then 63 else 0))) }
+    ensures { IfOk result (λ v. (length v.items ≡ pages) × ((p : ℕ)
+        → slice_index v.items p ≡ (if nat_lt p pages && is_in p bad.now then 63 else 0))) }
 {
     let mut bytes = vec![in alloc; 0; pages as usize]?;
     for page in bad {
@@ -146,12 +156,15 @@ fn unnamed(alloc: Global, pages: u32, bad: &[u32]) -> Result<Vec<u8>, AllocError
     Ok(bytes)
 }
 
-/// Gives a slot the continuation digits of a count that is not below the one it has. Without memory all stays.
+/// Gives a slot the continuation digits of a count that is not below the one it has. Without
+/// memory all stays.
 fn grow(more: &mut BTreeMap<u32, Further>, page: u32, count: u32) -> Result<(), AllocError>
     requires { count < 63 → get nat_cmp more.old page ≡ None }
     ensures { MatchResult result
-        (λ _. (q : ℕ) → get nat_cmp more.new q ≡ with_at page (further_of count) (get nat_cmp more.old) q)
-        (λ _. (get nat_cmp more.old page ≡ None) × (63 ≤ count) × ((q : ℕ) → get nat_cmp more.new q ≡ get nat_cmp more.old q)) }
+        (λ _. (q : ℕ) → get nat_cmp more.new q
+            ≡ with_at page (further_of count) (get nat_cmp more.old) q)
+        (λ _. (get nat_cmp more.old page ≡ None) × (63 ≤ count) × ((q : ℕ)
+            → get nat_cmp more.new q ≡ get nat_cmp more.old q)) }
 {
     if count >= FIRST_BASE {
         more.insert(page, further_of(count))?;
@@ -162,7 +175,8 @@ fn grow(more: &mut BTreeMap<u32, Further>, page: u32, count: u32) -> Result<(), 
 /// Gives a slot the continuation digits of a count that is not above the one it has.
 fn shrink(more: &mut BTreeMap<u32, Further>, page: u32, count: u32)
     requires { get nat_cmp more.old page ≡ None → count < 63 }
-    ensures { (q : ℕ) → get nat_cmp more.new q ≡ with_at page (further_of count) (get nat_cmp more.old) q }
+    ensures { (q : ℕ) → get nat_cmp more.new q
+        ≡ with_at page (further_of count) (get nat_cmp more.old) q }
 {
     if count < FIRST_BASE {
         let _ = more.remove(&page);

@@ -1,4 +1,5 @@
-// A count as digits: the first to base 63, which leaves the byte 63 for bad slots, and the others to base 128.
+// A count as digits: the first to base 63, which leaves the byte 63 for bad slots, and the others
+// to base 128.
 ghost use Rattle.std.specs.Prelude.{◌≡◌, ℕ, ◌+◌, ◌*◌, ◌<◌, ◌≤◌, ◌^◌, ◌%◌, Bool, ◌∷◌, [], length};
 ghost use Rattle.av_swapmap.specs.Digits.{digit_of, byte_of, first_of, cached_of, value_of, with_more};
 
@@ -28,7 +29,8 @@ pub(crate) fn byte_of(count: u32, cached: bool) -> u8
 
 /// The digits after the first.
 pub(crate) fn further_of(count: u32) -> Further
-    ensures { result ≡ digit_of count 1 ∷ digit_of count 2 ∷ digit_of count 3 ∷ digit_of count 4 ∷ [] }
+    ensures { result ≡ digit_of count 1 ∷ digit_of count 2 ∷ digit_of count 3
+        ∷ digit_of count 4 ∷ [] }
 {
     let rest = count / FIRST_BASE;
     [
@@ -87,9 +89,12 @@ fn plain(digit: u8) -> u32
     (digit & !CONTINUED) as u32
 }
 
-/// The byte and the digits of a count are worth that count, and tell the flag; no such byte is that of a bad slot.
+/// The byte and the digits of a count are worth that count, and tell the flag; no such byte is
+/// that of a bad slot.
 pub fn digits_are_worth_the_count()
-    ensures worth { (count : ℕ) (cached : Bool) → count < 2 ^ 32 → byte_of count cached % 64 + 63 * value_of (digit_of count 1 ∷ digit_of count 2 ∷ digit_of count 3 ∷ digit_of count 4 ∷ []) ≡ count }
+    ensures worth { (count : ℕ) (cached : Bool) → count < 2 ^ 32
+        → byte_of count cached % 64 + 63 * value_of (digit_of count 1 ∷ digit_of count 2
+        ∷ digit_of count 3 ∷ digit_of count 4 ∷ []) ≡ count }
     ensures no_more { (count : ℕ) (i : ℕ) → count < 2 ^ 32 → 4 < i → digit_of count i ≡ 0 }
     ensures flag { (count : ℕ) (cached : Bool) → cached_of (byte_of count cached) ≡ cached }
     ensures not_bad { (count : ℕ) (cached : Bool) → byte_of count cached ≡ 63 → ⊥ }

@@ -1,4 +1,5 @@
-//! How many entries name each slot of a swap area, kept in bytes with continuation digits (Linux's `swap_map`).
+//! How many entries name each slot of a swap area, kept in bytes with continuation digits
+//! (Linux's `swap_map`).
 #![tactic(auto)]
 
 mod counts;

@@ -1,5 +1,5 @@
 use Rattle.std.proofs.Common.{◌≡◌, ℕ, length, get_or, take, ◌&&◌, ltb, cond}
-use Rattle.av_swapmap.specs.Seen.{is_in}
+use Rattle.av_base.specs.Words.{is_in}
 use Rattle.av_swapmap.proofs.counts.unnamed.Given as goal
 
 abbrev pub invariant-loop-page : goal.invariant-loop-page
