@@ -1,4 +1,5 @@
 use super::*;
+use av_base::Prot;
 use std::test::Fail;
 
 fn area(pid: u16) -> Area {
