@@ -13,3 +13,4 @@ pub mod ExitExamples
 pub mod RangeExamples
 pub mod PairExamples
 pub mod UnsoundExamples
+pub mod NoDevice

@@ -2,3 +2,4 @@ pub mod Determined
 pub mod Examples
 pub mod Pairs
 pub mod Unsound
+pub mod NoDevice

@@ -28,6 +28,8 @@ ghost use Rattle.av_plain.specs.Map.{StopsAtHole};
 ghost use Rattle.av_plain.specs.Transcript.{Exchange, State, IsStep, IsRun, at_first};
 ghost use Rattle.av_plain.specs.Sound.{AllSound};
 ghost use Rattle.av_plain.specs.Choice.{ListsFree};
+ghost use Rattle.av_plain.specs.Step.{causes};
+ghost use Rattle.av_laws.specs.NoDevice.{HasNoDevice};
 ghost use Rattle.av_laws.specs.Determined.{Tells, IsClaimed, SlotRule, IsExact, AreExact, SameCommands};
 
 pub use examples::{
@@ -99,4 +101,12 @@ pub fn totals_add_up()
 /// The longest runs of a process's pages are one list: `maps` has one answer.
 pub fn maps_has_one_answer()
     ensures { (q : Process) (rows others : List Row) → AreMaps q rows → AreMaps q others → rows ≡ others }
+{}
+
+/// Where no swap area is attached, a reply has nothing that only a fault of a device explains: no
+/// `bus`, no EIO and no `fail`.
+pub fn no_device_has_no_faults()
+    ensures { (m : Setting) (w : World) (l : Ledger) (command : Command) (reply : Reply)
+        (events : List Event) → HasNoDevice m → AllSound m w l
+        → IsLegal m w l command reply events → causes reply ≡ 0 }
 {}
