@@ -14,3 +14,4 @@ pub mod RangeExamples
 pub mod PairExamples
 pub mod UnsoundExamples
 pub mod NoDevice
+pub mod ReadBack

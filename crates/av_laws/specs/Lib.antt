@@ -3,3 +3,4 @@ pub mod Examples
 pub mod Pairs
 pub mod Unsound
 pub mod NoDevice
+pub mod ReadBack

@@ -29,7 +29,10 @@ ghost use Rattle.av_plain.specs.Transcript.{Exchange, State, IsStep, IsRun, at_f
 ghost use Rattle.av_plain.specs.Sound.{AllSound};
 ghost use Rattle.av_plain.specs.Choice.{ListsFree};
 ghost use Rattle.av_plain.specs.Step.{causes};
+ghost use Rattle.av_trace.specs.Command.{IsCommand};
+ghost use Rattle.av_trace.specs.Reply.{IsReply};
 ghost use Rattle.av_laws.specs.NoDevice.{HasNoDevice};
+ghost use Rattle.av_laws.specs.ReadBack.{IsSmall};
 ghost use Rattle.av_laws.specs.Determined.{Tells, IsClaimed, SlotRule, IsExact, AreExact, SameCommands};
 
 pub use examples::{
@@ -109,4 +112,12 @@ pub fn no_device_has_no_faults()
     ensures { (m : Setting) (w : World) (l : Ledger) (command : Command) (reply : Reply)
         (events : List Event) → HasNoDevice m → AllSound m w l
         → IsLegal m w l command reply events → causes reply ≡ 0 }
+{}
+
+/// A legal reply to a command of the grammar is one that is read back from its text: its numbers are
+/// of 64 bits, its bytes below 256, and its rows as many as it says.
+pub fn replies_are_read_back()
+    ensures { (m : Setting) (w : World) (l : Ledger) (command : Command) (reply : Reply)
+        (events : List Event) → HasNoDevice m → AllSound m w l → IsSmall m w l
+        → IsCommand command → IsLegal m w l command reply events → IsReply reply }
 {}
