@@ -13,3 +13,5 @@ pub mod ExitExamples
 pub mod RangeExamples
 pub mod PairExamples
 pub mod UnsoundExamples
+pub mod NoDevice
+pub mod ReadBack

@@ -69,11 +69,13 @@ Runs frames row = Allows (machine frames) (at_first (machine frames)) row
 
 -- no other reply may come to the command, and no other state be left
 abbrev pub Only : Setting → State → Command → Reply → State → Type 0
-Only m old command reply new = (other : Reply) (state : State) → IsStep m old command other state → (other ≡ reply) × (state ≡ new)
+Only m old command reply new = (other : Reply) (state : State) → IsStep m old command other state
+    → (other ≡ reply) × (state ≡ new)
 
 -- the reply may not come to the command, whichever frames the kernel chooses
 abbrev pub Forbids : Setting → State → Command → Reply → Type 0
-Forbids m old command reply = (events : List Event) → IsLegal m old.world old.ledger command reply events → ⊥
+Forbids m old command reply = (events : List Event)
+    → IsLegal m old.world old.ledger command reply events → ⊥
 
 -- ---- how a row is written
 
@@ -87,7 +89,10 @@ says command answer notes = record { command = command; reply = answered answer 
 
 -- a command that lists, what it is answered, and its rows
 abbrev pub reports : Command → Answer → List Row → Exchange
-reports command answer rows = record { command = command; reply = record { answer = answer; notes = []; rows = rows } }
+reports command answer rows = record {
+  command = command;
+  reply = record { answer = answer; notes = []; rows = rows };
+}
 
 -- the numbers of `stat` without swap: frames, free ones, active and inactive ones, and processes
 abbrev pub numbers_of : ℕ → ℕ → ℕ → ℕ → ℕ → Totals
@@ -144,11 +149,14 @@ abbrev pub one_frame : List Exchange
 one_frame =
     says (Spawn 1) Done []
     ∷ says (Mmap 1 8192 read_write Auto) (MapAt 0x7fffffffd000) []
-    ∷ says (Write 1 0x7fffffffdfff (0xaa ∷ 0xbb ∷ [])) (Oom 1 (record { pinned = 0; noslot = 1; fault = 0 }) []) (New 1 0x7fffffffd000 0 ∷ [])
+    ∷ says (Write 1 0x7fffffffdfff (0xaa ∷ 0xbb ∷ []))
+        (Oom 1 (record { pinned = 0; noslot = 1; fault = 0 }) []) (New 1 0x7fffffffd000 0 ∷ [])
     ∷ says (Read 1 0x7fffffffdfff 2) (Data (0xaa ∷ 0 ∷ [])) (Zeroed 1 0x7fffffffe000 ∷ [])
-    ∷ says (Write 1 0x7fffffffe000 (1 ∷ [])) (Oom 0 (record { pinned = 0; noslot = 1; fault = 0 }) []) [] ∷ []
+    ∷ says (Write 1 0x7fffffffe000 (1 ∷ []))
+        (Oom 0 (record { pinned = 0; noslot = 1; fault = 0 }) []) [] ∷ []
 
--- a second mapping goes below the first. A write over both stops where it isn't allowed, and what came before stays
+-- a second mapping goes below the first. A write over both stops where it isn't allowed, and what
+-- came before stays
 abbrev pub part_denied : List Exchange
 part_denied =
     says (Spawn 1) Done []
@@ -208,7 +216,8 @@ all_mapped =
     ∷ says (Mmap 1 4096 read_write Auto) (Refused Enomem) []
     ∷ says (Write 1 0x10000 (9 ∷ [])) Done (New 1 0x10000 0 ∷ []) ∷ []
 
--- a page that is written takes a frame, and the exit of its process gives it back. A process that is gone is not there
+-- a page that is written takes a frame, and the exit of its process gives it back. A process that
+-- is gone is not there
 abbrev pub exit_frees : List Exchange
 exit_frees =
     says (Spawn 1) Done []
@@ -231,9 +240,11 @@ exit_and_again =
     ∷ says (Spawn 2) Done []
     ∷ says (Mmap 1 8192 read_write Auto) (MapAt 0x7fffffffd000) []
     ∷ says (Mmap 2 8192 read_write Auto) (MapAt 0x7fffffffd000) []
-    ∷ says (Write 1 0x7fffffffdfff (1 ∷ 2 ∷ [])) Done (New 1 0x7fffffffd000 0 ∷ New 1 0x7fffffffe000 1 ∷ [])
+    ∷ says (Write 1 0x7fffffffdfff (1 ∷ 2 ∷ [])) Done
+        (New 1 0x7fffffffd000 0 ∷ New 1 0x7fffffffe000 1 ∷ [])
     ∷ says (Exit 1) Done []
-    ∷ says (Write 2 0x7fffffffdfff (3 ∷ 4 ∷ [])) Done (New 2 0x7fffffffd000 1 ∷ New 2 0x7fffffffe000 0 ∷ [])
+    ∷ says (Write 2 0x7fffffffdfff (3 ∷ 4 ∷ [])) Done
+        (New 2 0x7fffffffd000 1 ∷ New 2 0x7fffffffe000 0 ∷ [])
     ∷ says Stat (Counted (numbers_of 4 2 0 2 1)) [] ∷ []
 
 -- a run ends where the protection changes, and goes on where a further mapping has the same
@@ -242,9 +253,13 @@ two_runs =
     says (Spawn 1) Done []
     ∷ says (Mmap 1 4096 read_only Auto) (MapAt 0x7fffffffe000) []
     ∷ says (Mmap 1 8192 read_write Auto) (MapAt 0x7fffffffc000) []
-    ∷ reports (Maps 1) (RunCount 2) (Run 0x7fffffffc000 0x7fffffffe000 read_write ∷ Run 0x7fffffffe000 0x7ffffffff000 read_only ∷ [])
+    ∷ reports (Maps 1) (RunCount 2)
+        (Run 0x7fffffffc000 0x7fffffffe000 read_write ∷ Run 0x7fffffffe000 0x7ffffffff000 read_only
+        ∷ [])
     ∷ says (Mmap 1 4096 read_write Auto) (MapAt 0x7fffffffb000) []
-    ∷ reports (Maps 1) (RunCount 2) (Run 0x7fffffffb000 0x7fffffffe000 read_write ∷ Run 0x7fffffffe000 0x7ffffffff000 read_only ∷ []) ∷ []
+    ∷ reports (Maps 1) (RunCount 2)
+        (Run 0x7fffffffb000 0x7fffffffe000 read_write ∷ Run 0x7fffffffe000 0x7ffffffff000 read_only
+        ∷ []) ∷ []
 
 -- part of a mapping is protected: a write stops there, and what came before stays
 abbrev pub protected_part : List Exchange
@@ -254,24 +269,29 @@ protected_part =
     ∷ says (Mprotect 1 0x7fffffffe000 4096 read_only) Done []
     ∷ says (Write 1 0x7fffffffdffe (1 ∷ 2 ∷ 3 ∷ 4 ∷ [])) (Segv 2 []) (New 1 0x7fffffffd000 0 ∷ [])
     ∷ says (Read 1 0x7fffffffdffe 4) (Data (1 ∷ 2 ∷ 0 ∷ 0 ∷ [])) (Zeroed 1 0x7fffffffe000 ∷ [])
-    ∷ reports (Maps 1) (RunCount 2) (Run 0x7fffffffd000 0x7fffffffe000 read_write ∷ Run 0x7fffffffe000 0x7ffffffff000 read_only ∷ []) ∷ []
+    ∷ reports (Maps 1) (RunCount 2)
+        (Run 0x7fffffffd000 0x7fffffffe000 read_write ∷ Run 0x7fffffffe000 0x7ffffffff000 read_only
+        ∷ []) ∷ []
 
--- a page in the middle is unmapped. The pages before it are protected and those after it aren't: a write there is answered so.
--- Where the last page, rounded up, ends at 2^64 nothing is protected
+-- a page in the middle is unmapped. The pages before it are protected and those after it aren't: a
+-- write there is answered so. Where the last page, rounded up, ends at 2^64 nothing is protected
 abbrev pub past_a_hole : Answer → List Note → List Exchange
 past_a_hole answer notes =
     says (Spawn 1) Done []
     ∷ says (Mmap 1 12288 read_write Auto) (MapAt 0x7fffffffc000) []
     ∷ says (Munmap 1 0x7fffffffd000 4096) Done []
     ∷ says (Mprotect 1 0x7fffffffc000 12288 read_only) (Refused Enomem) []
-    ∷ reports (Maps 1) (RunCount 2) (Run 0x7fffffffc000 0x7fffffffd000 read_only ∷ Run 0x7fffffffe000 0x7ffffffff000 read_write ∷ [])
+    ∷ reports (Maps 1) (RunCount 2)
+        (Run 0x7fffffffc000 0x7fffffffd000 read_only ∷ Run 0x7fffffffe000 0x7ffffffff000 read_write
+        ∷ [])
     ∷ says (Write 1 0x7fffffffe000 (1 ∷ [])) answer notes
     ∷ says (Mprotect 1 0x7fffffffc000 18446603336221208577 read_write) (Refused Enomem) []
     ∷ says (Write 1 0x7fffffffc000 (1 ∷ [])) (Segv 0 []) []
     ∷ says (Mprotect 1 0x7fffffffc001 0 read_only) (Refused Einval) []
     ∷ says (Mprotect 1 0 0 read_only) Done [] ∷ []
 
--- a hint is rounded down and taken where there is room; else the mapping goes where it goes without one. All may be unmapped at once
+-- a hint is rounded down and taken where there is room; else the mapping goes where it goes without
+-- one. All may be unmapped at once
 abbrev pub places : List Exchange
 places =
     says (Spawn 1) Done []
@@ -303,8 +323,8 @@ range_refusals =
     ∷ says (Munmap 2 0x10001 0) (Refused Esrch) []
     ∷ says (Mprotect 2 0x10001 0 read_write) (Refused Esrch) [] ∷ []
 
--- a fixed place takes away what stood there, its frame too, and leaves the others: so many frames are free, and this byte is read, with
--- these notes. One that may not replace a page is refused
+-- a fixed place takes away what stood there, its frame too, and leaves the others: so many frames
+-- are free, and this byte is read, with these notes. One that may not replace a page is refused
 abbrev pub fixed_over : ℕ → ℕ → List Note → List Exchange
 fixed_over free b notes =
     says (Spawn 1) Done []
@@ -333,9 +353,14 @@ with_byte b page = if page == 0x7fffffffe then Some (page_with b) else None
 
 -- the processes 1 to n, without a page
 abbrev pub crowd : ℕ → State
-crowd n = record { world = map (λ p. (p, no_pages)) (numbers 1 n); ledger = first_ledger; free = 0 ∷ 1 ∷ 2 ∷ 3 ∷ [] }
+crowd n = record {
+  world = map (λ p. (p, no_pages)) (numbers 1 n);
+  ledger = first_ledger;
+  free = 0 ∷ 1 ∷ 2 ∷ 3 ∷ [];
+}
 
--- the last process that may live, and one more. That a process lives is found before that too many do
+-- the last process that may live, and one more. That a process lives is found before that too many
+-- do
 abbrev pub crowded : List Exchange
 crowded =
     says (Spawn 4096) Done []
@@ -347,11 +372,15 @@ crowded =
 abbrev pub after_fork : List ℕ → State
 after_fork free = record {
   world = (1, with_byte 7) ∷ (2, with_byte 7) ∷ [];
-  ledger = record first_ledger { entries = ((1, 0x7fffffffe), InFrame 0 true) ∷ ((2, 0x7fffffffe), InFrame 0 false) ∷ []; inactive = 0 ∷ [] };
+  ledger = record first_ledger {
+    entries = ((1, 0x7fffffffe), InFrame 0 true) ∷ ((2, 0x7fffffffe), InFrame 0 false) ∷ [];
+    inactive = 0 ∷ [];
+  };
   free = free;
 }
 
--- a write to a shared frame copies it, a read doesn't. The other process is then alone with its frame
+-- a write to a shared frame copies it, a read doesn't. The other process is then alone with its
+-- frame
 abbrev pub copies : List Exchange
 copies =
     says (Read 2 0x7fffffffe000 1) (Data (7 ∷ [])) []
@@ -364,7 +393,8 @@ copies =
 -- without a free frame there is no copy: the frame to be copied is the pinned one
 abbrev pub no_copy : List Exchange
 no_copy =
-    says (Write 2 0x7fffffffe000 (6 ∷ [])) (Oom 0 (record { pinned = 1; noslot = 0; fault = 0 }) []) []
+    says (Write 2 0x7fffffffe000 (6 ∷ [])) (Oom 0 (record { pinned = 1; noslot = 0; fault = 0 }) [])
+        []
     ∷ says (Read 1 0x7fffffffe000 1) (Data (7 ∷ [])) []
     ∷ says (Read 2 0x7fffffffe000 1) (Data (7 ∷ [])) [] ∷ []
 
@@ -382,7 +412,8 @@ abbrev pub with_swap : ℕ → ℕ → ℕ → Setting
 with_swap frames pages slots = record {
   frames = frames;
   sizes = λ k. if k == 0 then Some pages else None;
-  headers = Some (λ k. if k == 0 then Some (record { pages = pages; slots = slots; bad = [] }) else None);
+  headers = Some
+      (λ k. if k == 0 then Some (record { pages = pages; slots = slots; bad = [] }) else None);
 }
 
 -- a slot of the one area
@@ -393,7 +424,10 @@ slot page = record { area = 0; page = page }
 abbrev pub paged_out : ℕ → List ℕ → State
 paged_out slots free = record {
   world = (1, with_byte 7) ∷ [];
-  ledger = record first_ledger { entries = ((1, 0x7fffffffe), InSlot (slot 1)) ∷ []; on = (0, record { slots = slots; bad = 0 }) ∷ [] };
+  ledger = record first_ledger {
+    entries = ((1, 0x7fffffffe), InSlot (slot 1)) ∷ [];
+    on = (0, record { slots = slots; bad = 0 }) ∷ [];
+  };
   free = free;
 }
 
@@ -401,7 +435,8 @@ paged_out slots free = record {
 abbrev pub loads : List Exchange
 loads =
     says (Read 1 0x7fffffffe000 1) (Bus 0 []) []
-    ∷ says (Read 1 0x7fffffffe000 1) (Data (7 ∷ [])) (Loaded (slot 1) 0 ∷ Mapped 1 0x7fffffffe000 0 ∷ [])
+    ∷ says (Read 1 0x7fffffffe000 1) (Data (7 ∷ []))
+        (Loaded (slot 1) 0 ∷ Mapped 1 0x7fffffffe000 0 ∷ [])
     ∷ says (Read 1 0x7fffffffe000 1) (Data (7 ∷ [])) []
     ∷ says (Write 1 0x7fffffffe000 (8 ∷ [])) Done (Dropped (slot 1) ∷ [])
     ∷ says (Read 1 0x7fffffffe000 1) (Data (8 ∷ [])) [] ∷ []
@@ -409,27 +444,37 @@ loads =
 -- a write loads, maps and drops at once
 abbrev pub load_to_write : List Exchange
 load_to_write =
-    says (Write 1 0x7fffffffe000 (8 ∷ [])) Done (Loaded (slot 1) 0 ∷ Mapped 1 0x7fffffffe000 0 ∷ Dropped (slot 1) ∷ [])
+    says (Write 1 0x7fffffffe000 (8 ∷ [])) Done
+        (Loaded (slot 1) 0 ∷ Mapped 1 0x7fffffffe000 0 ∷ Dropped (slot 1) ∷ [])
     ∷ says (Write 1 0x7fffffffe001 (9 ∷ [])) Done []
     ∷ says (Read 1 0x7fffffffe000 2) (Data (8 ∷ 9 ∷ [])) [] ∷ []
 
 -- where all slots are in use swap is full, and a read drops what it brought in
 abbrev pub load_when_full : List Exchange
-load_when_full = says (Read 1 0x7fffffffe000 1) (Data (7 ∷ [])) (Loaded (slot 1) 0 ∷ Mapped 1 0x7fffffffe000 0 ∷ Dropped (slot 1) ∷ []) ∷ []
+load_when_full = says (Read 1 0x7fffffffe000 1) (Data (7 ∷ []))
+    (Loaded (slot 1) 0 ∷ Mapped 1 0x7fffffffe000 0 ∷ Dropped (slot 1) ∷ []) ∷ []
 
 -- with half of the slots free it isn't
 abbrev pub load_when_half_full : List Exchange
-load_when_half_full = says (Read 1 0x7fffffffe000 1) (Data (7 ∷ [])) (Loaded (slot 1) 0 ∷ Mapped 1 0x7fffffffe000 0 ∷ []) ∷ []
+load_when_half_full = says (Read 1 0x7fffffffe000 1) (Data (7 ∷ []))
+    (Loaded (slot 1) 0 ∷ Mapped 1 0x7fffffffe000 0 ∷ []) ∷ []
 
 -- no frame is free for the load
 abbrev pub no_load : List Exchange
-no_load = says (Read 1 0x7fffffffe000 1) (Oom 0 (record { pinned = 0; noslot = 0; fault = 0 }) []) [] ∷ []
+no_load = says (Read 1 0x7fffffffe000 1) (Oom 0 (record { pinned = 0; noslot = 0; fault = 0 }) [])
+    [] ∷ []
 
 -- the page's frame is cached at slot 1, unmapped, and its write is in flight
 abbrev pub in_writeback : State
 in_writeback = record {
   world = (1, with_byte 7) ∷ [];
-  ledger = record first_ledger { entries = ((1, 0x7fffffffe), InSlot (slot 1)) ∷ []; cache = record { slot = slot 1; frame = 0; stale = false } ∷ []; flight = slot 1 ∷ []; inactive = 0 ∷ []; on = (0, record { slots = 7; bad = 0 }) ∷ [] };
+  ledger = record first_ledger {
+    entries = ((1, 0x7fffffffe), InSlot (slot 1)) ∷ [];
+    cache = record { slot = slot 1; frame = 0; stale = false } ∷ [];
+    flight = slot 1 ∷ [];
+    inactive = 0 ∷ [];
+    on = (0, record { slots = 7; bad = 0 }) ∷ [];
+  };
   free = 1 ∷ 2 ∷ 3 ∷ [];
 }
 
@@ -440,7 +485,8 @@ maps_again =
     ∷ says (Write 1 0x7fffffffe000 (9 ∷ [])) Done []
     ∷ says (Read 1 0x7fffffffe000 1) (Data (9 ∷ [])) [] ∷ []
 
--- the numbers of `stat` with seven slots: free frames, inactive ones, writes in flight, free slots and processes
+-- the numbers of `stat` with seven slots: free frames, inactive ones, writes in flight, free slots
+-- and processes
 abbrev pub swap_numbers : ℕ → ℕ → ℕ → ℕ → ℕ → Totals
 swap_numbers free inactive flight free_slots processes = record {
   frames = 4;
@@ -477,20 +523,26 @@ exit_paged_out =
 abbrev pub slot_shared : List ℕ → State
 slot_shared free = record {
   world = (1, with_byte 7) ∷ (2, with_byte 7) ∷ [];
-  ledger = record first_ledger { entries = ((1, 0x7fffffffe), InSlot (slot 1)) ∷ ((2, 0x7fffffffe), InSlot (slot 1)) ∷ []; on = (0, record { slots = 7; bad = 0 }) ∷ [] };
+  ledger = record first_ledger {
+    entries = ((1, 0x7fffffffe), InSlot (slot 1)) ∷ ((2, 0x7fffffffe), InSlot (slot 1)) ∷ [];
+    on = (0, record { slots = 7; bad = 0 }) ∷ [];
+  };
   free = free;
 }
 
--- what a write loads it copies, since the other entry names the slot; then the other one maps the cached frame
+-- what a write loads it copies, since the other entry names the slot; then the other one maps the
+-- cached frame
 abbrev pub load_and_copy : List Exchange
 load_and_copy =
-    says (Write 2 0x7fffffffe000 (2 ∷ [])) Done (Loaded (slot 1) 0 ∷ Mapped 2 0x7fffffffe000 0 ∷ Copied 2 0x7fffffffe000 1 ∷ [])
+    says (Write 2 0x7fffffffe000 (2 ∷ [])) Done
+        (Loaded (slot 1) 0 ∷ Mapped 2 0x7fffffffe000 0 ∷ Copied 2 0x7fffffffe000 1 ∷ [])
     ∷ says (Read 1 0x7fffffffe000 1) (Data (7 ∷ [])) (Mapped 1 0x7fffffffe000 0 ∷ []) ∷ []
 
 -- with one frame the load has it, and the copy has none
 abbrev pub load_without_copy : List Exchange
 load_without_copy =
-    says (Write 2 0x7fffffffe000 (2 ∷ [])) (Oom 0 (record { pinned = 1; noslot = 0; fault = 0 }) []) (Loaded (slot 1) 0 ∷ Mapped 2 0x7fffffffe000 0 ∷ [])
+    says (Write 2 0x7fffffffe000 (2 ∷ [])) (Oom 0 (record { pinned = 1; noslot = 0; fault = 0 }) [])
+        (Loaded (slot 1) 0 ∷ Mapped 2 0x7fffffffe000 0 ∷ [])
     ∷ says (Read 2 0x7fffffffe000 1) (Data (7 ∷ [])) [] ∷ []
 
 -- a machine whose device doesn't tell its pages
@@ -500,7 +552,8 @@ untold = record { frames = 4; sizes = λ k. if k == 0 then Some 8 else None; hea
 -- it may give any bytes, until they are written
 abbrev pub load_unclaimed : List Exchange
 load_unclaimed =
-    says (Read 1 0x7fffffffe000 1) (Data (0x63 ∷ [])) (Loaded (slot 1) 0 ∷ Mapped 1 0x7fffffffe000 0 ∷ [])
+    says (Read 1 0x7fffffffe000 1) (Data (0x63 ∷ []))
+        (Loaded (slot 1) 0 ∷ Mapped 1 0x7fffffffe000 0 ∷ [])
     ∷ says (Read 1 0x7fffffffe000 1) (Data (0x2a ∷ [])) []
     ∷ says (Write 1 0x7fffffffe000 (8 ∷ [])) Done (Dropped (slot 1) ∷ [])
     ∷ says (Read 1 0x7fffffffe000 2) (Data (8 ∷ 0x11 ∷ [])) [] ∷ []
@@ -511,7 +564,10 @@ load_unclaimed =
 abbrev pub one_written : State
 one_written = record {
   world = (1, with_byte 7) ∷ [];
-  ledger = record first_ledger { entries = ((1, 0x7fffffffe), InFrame 0 true) ∷ []; inactive = 0 ∷ [] };
+  ledger = record first_ledger {
+    entries = ((1, 0x7fffffffe), InFrame 0 true) ∷ [];
+    inactive = 0 ∷ [];
+  };
   free = 1 ∷ 2 ∷ 3 ∷ [];
 }
 
@@ -521,17 +577,30 @@ all_gone = record { world = []; ledger = first_ledger; free = 0 ∷ 1 ∷ 2 ∷ 
 
 -- the page is unmapped, or another is mapped over it
 abbrev pub page_gone : State
-page_gone = record { world = (1, with_pages (with_byte 7) 0x7fffffffe 1 no_pages) ∷ []; ledger = first_ledger; free = 0 ∷ 1 ∷ 2 ∷ 3 ∷ [] }
+page_gone = record {
+  world = (1, with_pages (with_byte 7) 0x7fffffffe 1 no_pages) ∷ [];
+  ledger = first_ledger;
+  free = 0 ∷ 1 ∷ 2 ∷ 3 ∷ [];
+}
 
 abbrev pub page_anew : State
-page_anew = record { world = (1, with_pages (with_byte 7) 0x7fffffffe 1 (λ _. Some (zeros read_only))) ∷ []; ledger = first_ledger; free = 0 ∷ 1 ∷ 2 ∷ 3 ∷ [] }
+page_anew = record {
+  world = (1, with_pages (with_byte 7) 0x7fffffffe 1 (λ _. Some (zeros read_only))) ∷ [];
+  ledger = first_ledger;
+  free = 0 ∷ 1 ∷ 2 ∷ 3 ∷ [];
+}
 
 -- the topmost page of process 1 is for reading only, the two below for reading and writing
 abbrev pub two_kinds : Process
-two_kinds page = if page == 0x7fffffffe then Some (zeros read_only) else (if page == 0x7fffffffd || page == 0x7fffffffc then Some (zeros read_write) else None)
+two_kinds page = if page == 0x7fffffffe then Some (zeros read_only)
+    else (if page == 0x7fffffffd || page == 0x7fffffffc then Some (zeros read_write) else None)
 
 abbrev pub two_protections : State
-two_protections = record { world = (1, two_kinds) ∷ []; ledger = first_ledger; free = 0 ∷ 1 ∷ 2 ∷ 3 ∷ [] }
+two_protections = record {
+  world = (1, two_kinds) ∷ [];
+  ledger = first_ledger;
+  free = 0 ∷ 1 ∷ 2 ∷ 3 ∷ [];
+}
 
 -- a reply to `maps` with these rows
 abbrev pub with_runs : List Row → Reply
@@ -539,7 +608,9 @@ with_runs rows = record { answer = RunCount (length rows); notes = []; rows = ro
 
 -- the lower run cut in two, though the protection is the same
 abbrev pub split_run : Reply
-split_run = with_runs (Run 0x7fffffffc000 0x7fffffffd000 read_write ∷ Run 0x7fffffffd000 0x7fffffffe000 read_write ∷ Run 0x7fffffffe000 0x7ffffffff000 read_only ∷ [])
+split_run = with_runs
+    (Run 0x7fffffffc000 0x7fffffffd000 read_write ∷ Run 0x7fffffffd000 0x7fffffffe000 read_write
+    ∷ Run 0x7fffffffe000 0x7ffffffff000 read_only ∷ [])
 
 -- one run over both, though the protections differ
 abbrev pub joined_runs : Reply
@@ -551,15 +622,21 @@ run_left_out = with_runs (Run 0x7fffffffc000 0x7fffffffe000 read_write ∷ [])
 
 -- a page that is not mapped
 abbrev pub run_too_long : Reply
-run_too_long = with_runs (Run 0x7fffffffb000 0x7fffffffe000 read_write ∷ Run 0x7fffffffe000 0x7ffffffff000 read_only ∷ [])
+run_too_long = with_runs
+    (Run 0x7fffffffb000 0x7fffffffe000 read_write ∷ Run 0x7fffffffe000 0x7ffffffff000 read_only
+    ∷ [])
 
 -- the runs falling
 abbrev pub falling_runs : Reply
-falling_runs = with_runs (Run 0x7fffffffe000 0x7ffffffff000 read_only ∷ Run 0x7fffffffc000 0x7fffffffe000 read_write ∷ [])
+falling_runs = with_runs
+    (Run 0x7fffffffe000 0x7ffffffff000 read_only ∷ Run 0x7fffffffc000 0x7fffffffe000 read_write
+    ∷ [])
 
 -- a run of part of a page
 abbrev pub part_of_page : Reply
-part_of_page = with_runs (Run 0x7fffffffc000 0x7fffffffe000 read_write ∷ Run 0x7fffffffe000 0x7fffffffe001 read_only ∷ [])
+part_of_page = with_runs
+    (Run 0x7fffffffc000 0x7fffffffe000 read_write ∷ Run 0x7fffffffe000 0x7fffffffe001 read_only
+    ∷ [])
 
 -- ---- the ledger, event by event
 
@@ -583,24 +660,32 @@ ledger_with e cache flight active inactive = record {
 abbrev pub cached : ℕ → Bool → List Cached
 cached frame stale = record { slot = slot 1; frame = frame; stale = stale } ∷ []
 
--- frame 5 has a second chance, ages, goes to its slot at the second try and leaves memory; its page comes back in frame 7 and is written
+-- frame 5 has a second chance, ages, goes to its slot at the second try and leaves memory; its page
+-- comes back in frame 7 and is written
 abbrev pub out_and_back : List (Event × Ledger)
 out_and_back =
     (Noted (Kept 5 Referenced), ledger_with (InFrame 5 false) [] [] (5 ∷ []) (6 ∷ []))
     ∷ (Noted (Aged 5), ledger_with (InFrame 5 false) [] [] [] (5 ∷ 6 ∷ []))
     ∷ (Noted (Put 5 (slot 1)), ledger_with (InFrame 5 false) (cached 5 true) [] [] (5 ∷ 6 ∷ []))
     ∷ (Noted (Unmapped 5), ledger_with (InSlot (slot 1)) (cached 5 true) [] [] (5 ∷ 6 ∷ []))
-    ∷ (Noted (Started (slot 1)), ledger_with (InSlot (slot 1)) (cached 5 false) (slot 1 ∷ []) [] (5 ∷ 6 ∷ []))
-    ∷ (Noted (Kept 5 WriteStarted), ledger_with (InSlot (slot 1)) (cached 5 false) (slot 1 ∷ []) [] (5 ∷ 6 ∷ []))
+    ∷ (Noted (Started (slot 1)), ledger_with (InSlot (slot 1)) (cached 5 false) (slot 1 ∷ []) []
+        (5 ∷ 6 ∷ []))
+    ∷ (Noted (Kept 5 WriteStarted), ledger_with (InSlot (slot 1)) (cached 5 false) (slot 1 ∷ []) []
+        (5 ∷ 6 ∷ []))
     ∷ (Noted (Failed (slot 1)), ledger_with (InSlot (slot 1)) (cached 5 true) [] [] (5 ∷ 6 ∷ []))
-    ∷ (Noted (Started (slot 1)), ledger_with (InSlot (slot 1)) (cached 5 false) (slot 1 ∷ []) [] (5 ∷ 6 ∷ []))
-    ∷ (Noted (Kept 6 Writeback), ledger_with (InSlot (slot 1)) (cached 5 false) (slot 1 ∷ []) [] (6 ∷ 5 ∷ []))
-    ∷ (Noted (Kept 5 Writeback), ledger_with (InSlot (slot 1)) (cached 5 false) (slot 1 ∷ []) [] (5 ∷ 6 ∷ []))
+    ∷ (Noted (Started (slot 1)), ledger_with (InSlot (slot 1)) (cached 5 false) (slot 1 ∷ []) []
+        (5 ∷ 6 ∷ []))
+    ∷ (Noted (Kept 6 Writeback), ledger_with (InSlot (slot 1)) (cached 5 false) (slot 1 ∷ []) []
+        (6 ∷ 5 ∷ []))
+    ∷ (Noted (Kept 5 Writeback), ledger_with (InSlot (slot 1)) (cached 5 false) (slot 1 ∷ []) []
+        (5 ∷ 6 ∷ []))
     ∷ (Noted (Written (slot 1)), ledger_with (InSlot (slot 1)) (cached 5 false) [] [] (6 ∷ 5 ∷ []))
     ∷ (Noted (Dropped (slot 1)), ledger_with (InSlot (slot 1)) [] [] [] (6 ∷ []))
     ∷ (Noted (Loaded (slot 1) 7), ledger_with (InSlot (slot 1)) (cached 7 false) [] [] (7 ∷ 6 ∷ []))
-    ∷ (Noted (Mapped 1 0x7fffffffe000 7), ledger_with (InFrame 7 false) (cached 7 false) [] [] (7 ∷ 6 ∷ []))
-    ∷ (Used false (1, 0x7fffffffe), ledger_with (InFrame 7 true) (cached 7 false) [] [] (7 ∷ 6 ∷ []))
+    ∷ (Noted (Mapped 1 0x7fffffffe000 7), ledger_with (InFrame 7 false) (cached 7 false) [] []
+        (7 ∷ 6 ∷ []))
+    ∷ (Used false (1, 0x7fffffffe), ledger_with (InFrame 7 true) (cached 7 false) [] []
+        (7 ∷ 6 ∷ []))
     ∷ (Used true (1, 0x7fffffffe), ledger_with (InFrame 7 true) (cached 7 true) [] [] (7 ∷ 6 ∷ []))
     ∷ (Noted (Kept 7 NoSlot), ledger_with (InFrame 7 true) (cached 7 true) [] (7 ∷ []) (6 ∷ []))
     ∷ (Noted (Dropped (slot 1)), ledger_with (InFrame 7 true) [] [] (7 ∷ []) (6 ∷ []))
@@ -611,21 +696,37 @@ abbrev pub copied_and_gone : List (Event × Ledger)
 copied_and_gone =
     (Noted (Zeroed 1 0x10000), record first_ledger { entries = ((1, 0x10), Zero) ∷ [] })
     ∷ (Used false (1, 0x10), record first_ledger { entries = ((1, 0x10), Zero) ∷ [] })
-    ∷ (Noted (New 1 0x10000 2), record first_ledger { entries = ((1, 0x10), InFrame 2 false) ∷ []; inactive = 2 ∷ [] })
-    ∷ (Used false (1, 0x10), record first_ledger { entries = ((1, 0x10), InFrame 2 true) ∷ []; inactive = 2 ∷ [] })
-    ∷ (Forked 1 4 (record { page = 0x10; as_zeros = false } ∷ []), record first_ledger { entries = ((1, 0x10), InFrame 2 true) ∷ ((4, 0x10), InFrame 2 false) ∷ []; inactive = 2 ∷ [] })
-    ∷ (Noted (Copied 1 0x10000 3), record first_ledger { entries = ((1, 0x10), InFrame 3 false) ∷ ((4, 0x10), InFrame 2 false) ∷ []; inactive = 3 ∷ 2 ∷ [] })
-    ∷ (Moved 4 1 0x10 0x20, record first_ledger { entries = ((1, 0x10), InFrame 3 false) ∷ ((4, 0x20), InFrame 2 false) ∷ []; inactive = 3 ∷ 2 ∷ [] })
-    ∷ (Zapped (1, 0x10), record first_ledger { entries = ((4, 0x20), InFrame 2 false) ∷ []; inactive = 2 ∷ [] })
-    ∷ (TurnedOn 0 7 1, record first_ledger { entries = ((4, 0x20), InFrame 2 false) ∷ []; inactive = 2 ∷ []; on = (0, record { slots = 7; bad = 1 }) ∷ [] })
-    ∷ (TurnedOff 0, record first_ledger { entries = ((4, 0x20), InFrame 2 false) ∷ []; inactive = 2 ∷ [] })
+    ∷ (Noted (New 1 0x10000 2), record
+        first_ledger { entries = ((1, 0x10), InFrame 2 false) ∷ []; inactive = 2 ∷ [] })
+    ∷ (Used false (1, 0x10), record
+        first_ledger { entries = ((1, 0x10), InFrame 2 true) ∷ []; inactive = 2 ∷ [] })
+    ∷ (Forked 1 4 (record { page = 0x10; as_zeros = false } ∷ []), record
+        first_ledger { entries = ((1, 0x10), InFrame 2 true) ∷ ((4, 0x10), InFrame 2 false) ∷ [];
+        inactive = 2 ∷ [] })
+    ∷ (Noted (Copied 1 0x10000 3), record
+        first_ledger { entries = ((1, 0x10), InFrame 3 false) ∷ ((4, 0x10), InFrame 2 false) ∷ [];
+        inactive = 3 ∷ 2 ∷ [] })
+    ∷ (Moved 4 1 0x10 0x20, record
+        first_ledger { entries = ((1, 0x10), InFrame 3 false) ∷ ((4, 0x20), InFrame 2 false) ∷ [];
+        inactive = 3 ∷ 2 ∷ [] })
+    ∷ (Zapped (1, 0x10), record
+        first_ledger { entries = ((4, 0x20), InFrame 2 false) ∷ []; inactive = 2 ∷ [] })
+    ∷ (TurnedOn 0 7 1, record
+        first_ledger { entries = ((4, 0x20), InFrame 2 false) ∷ []; inactive = 2 ∷ [];
+        on = (0, record { slots = 7; bad = 1 }) ∷ [] })
+    ∷ (TurnedOff 0, record
+        first_ledger { entries = ((4, 0x20), InFrame 2 false) ∷ []; inactive = 2 ∷ [] })
     ∷ []
 
 -- ---- replies that may not come
 
 -- process 1 has the topmost page mapped and not yet touched
 abbrev pub untouched : State
-untouched = record { world = (1, λ page. if page == 0x7fffffffe then Some (zeros read_write) else None) ∷ []; ledger = first_ledger; free = 0 ∷ 1 ∷ 2 ∷ 3 ∷ [] }
+untouched = record {
+  world = (1, λ page. if page == 0x7fffffffe then Some (zeros read_write) else None) ∷ [];
+  ledger = first_ledger;
+  free = 0 ∷ 1 ∷ 2 ∷ 3 ∷ [];
+}
 
 -- no process lives
 abbrev pub empty : State
@@ -635,7 +736,12 @@ empty = at_first (machine 4)
 abbrev pub in_swap_cache : State
 in_swap_cache = record {
   world = (1, with_byte 7) ∷ [];
-  ledger = record first_ledger { entries = ((1, 0x7fffffffe), InFrame 0 true) ∷ []; cache = record { slot = slot 1; frame = 0; stale = false } ∷ []; inactive = 0 ∷ []; on = (0, record { slots = 7; bad = 0 }) ∷ [] };
+  ledger = record first_ledger {
+    entries = ((1, 0x7fffffffe), InFrame 0 true) ∷ [];
+    cache = record { slot = slot 1; frame = 0; stale = false } ∷ [];
+    inactive = 0 ∷ [];
+    on = (0, record { slots = 7; bad = 0 }) ∷ [];
+  };
   free = 1 ∷ 2 ∷ 3 ∷ [];
 }
 
@@ -659,7 +765,8 @@ leaked =
 
 -- a load from a device that tells its pages brings in other bytes
 abbrev pub wrong_load : List Exchange
-wrong_load = says (Read 1 0x7fffffffe000 1) (Data (8 ∷ [])) (Loaded (slot 1) 0 ∷ Mapped 1 0x7fffffffe000 0 ∷ []) ∷ []
+wrong_load = says (Read 1 0x7fffffffe000 1) (Data (8 ∷ []))
+    (Loaded (slot 1) 0 ∷ Mapped 1 0x7fffffffe000 0 ∷ []) ∷ []
 
 -- the first frame is 0, not 1
 abbrev pub wrong_frame : List Exchange
@@ -682,13 +789,16 @@ abbrev pub written_in_vain : List Exchange
 written_in_vain =
     says (Spawn 1) Done []
     ∷ says (Mmap 1 8192 read_write Auto) (MapAt 0x7fffffffd000) []
-    ∷ says (Write 1 0x7fffffffdfff (0xaa ∷ 0xbb ∷ [])) (Oom 1 (record { pinned = 0; noslot = 1; fault = 0 }) []) (New 1 0x7fffffffd000 0 ∷ [])
+    ∷ says (Write 1 0x7fffffffdfff (0xaa ∷ 0xbb ∷ []))
+        (Oom 1 (record { pinned = 0; noslot = 1; fault = 0 }) []) (New 1 0x7fffffffd000 0 ∷ [])
     ∷ says (Read 1 0x7fffffffdfff 2) (Data (0xaa ∷ 0xbb ∷ [])) (Zeroed 1 0x7fffffffe000 ∷ [])
-    ∷ says (Write 1 0x7fffffffe000 (1 ∷ [])) (Oom 0 (record { pinned = 0; noslot = 1; fault = 0 }) []) [] ∷ []
+    ∷ says (Write 1 0x7fffffffe000 (1 ∷ []))
+        (Oom 0 (record { pinned = 0; noslot = 1; fault = 0 }) []) [] ∷ []
 
 -- a refused write makes no process: one can be spawned, and it isn't there already
 abbrev pub refused_write : Answer → List Exchange
-refused_write answer = says (Write 2 0x10000 (1 ∷ [])) (Refused Esrch) [] ∷ says (Spawn 2) answer [] ∷ []
+refused_write answer = says (Write 2 0x10000 (1 ∷ [])) (Refused Esrch) [] ∷ says (Spawn 2) answer []
+    ∷ []
 
 -- a denied write stores what came before the stop: this byte is read then
 abbrev pub denied_write : ℕ → List Exchange
@@ -700,7 +810,8 @@ denied_write b =
 
 -- two frames are taken and become free, one by one, each going in front
 abbrev pub taken_and_freed : List Event
-taken_and_freed = Noted (New 1 0x10000 0) ∷ Noted (New 1 0x11000 1) ∷ Used true (1, 0x11) ∷ Zapped (1, 0x10) ∷ Zapped (1, 0x11) ∷ []
+taken_and_freed = Noted (New 1 0x10000 0) ∷ Noted (New 1 0x11000 1) ∷ Used true (1, 0x11)
+    ∷ Zapped (1, 0x10) ∷ Zapped (1, 0x11) ∷ []
 
 -- a cached frame that nothing else names becomes free when its slot is dropped
 abbrev pub orphan : Ledger

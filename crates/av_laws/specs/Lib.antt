@@ -2,3 +2,5 @@ pub mod Determined
 pub mod Examples
 pub mod Pairs
 pub mod Unsound
+pub mod NoDevice
+pub mod ReadBack

@@ -1,18 +1,15 @@
--- Worked examples with two of a kind: two entries of one frame or slot, two cached slots, two writes
--- in flight, two pages of one access, a bad page beside good ones. A definition that looks at the
--- first one alone, or at all of them, fails here. Which example would fail:
---   a hint (`Goes`, `is_room`): hint_over, hint_taken
---   where an access stops (`stop_answer`, `bytes_before`): second_lost, second_starved
---   a fork and a move (`after_fork`, `after_move`): forks_and_moves
---   notes over entries, cache and flight (`after_note`): two_of_each
---   a pass (`IsPass`, `Turns`, `Completes`): evicts, evicts_by_access, completes, second_fails
---   what a bad page is (`is_usable`, `may_give`): evicts, bad_page
---   the numbers of an out-of-memory (`out_of`): no_slot_written
---   faults (`causes`): bus_and_fails, eio, no_fault
---   when a slot is dropped (`is_unneeded`, `is_orphan`): named_by_other, orphan_of_two
---   what a load makes unclaimed (`without_claims`): its_page, its_other_page, page_of_other
---   entries of a range (`keys_in`): fixed_over_two, unmapped_two
---   lengths that are no whole pages (`pages_of`): protected_two
+-- Worked examples with two of a kind: two entries of one frame or slot, two cached slots, two
+-- writes in flight, two pages of one access, a bad page beside good ones. A definition that looks
+-- at the first one alone, or at all of them, fails here. Which example would fail: a hint (`Goes`,
+-- `is_room`): hint_over, hint_taken where an access stops (`stop_answer`, `bytes_before`):
+-- second_lost, second_starved a fork and a move (`after_fork`, `after_move`): forks_and_moves notes
+-- over entries, cache and flight (`after_note`): two_of_each a pass (`IsPass`, `Turns`,
+-- `Completes`): evicts, evicts_by_access, completes, second_fails what a bad page is (`is_usable`,
+-- `may_give`): evicts, bad_page the numbers of an out-of-memory (`out_of`): no_slot_written faults
+-- (`causes`): bus_and_fails, eio, no_fault when a slot is dropped (`is_unneeded`, `is_orphan`):
+-- named_by_other, orphan_of_two what a load makes unclaimed (`without_claims`): its_page,
+-- its_other_page, page_of_other entries of a range (`keys_in`): fixed_over_two, unmapped_two
+-- lengths that are no whole pages (`pages_of`): protected_two
 use Rattle.std.specs.Prelude.{◌≡◌, ℕ, Bool, true, false, ◌==◌, if◌then◌else◌, List, [], ◌∷◌, Option, Some, None}
 use Rattle.av_base.specs.declared.slot.Slot.{Slot}
 use Rattle.av_trace.specs.declared.place.Place.TheVariants.{At, Fixed}

@@ -1,5 +1,5 @@
--- Ledgers that are not sound. Each is a sound one, whose page is in frame 0 and cached at slot 1 with
--- a write in flight, but for one thing: one clause of soundness alone refuses it.
+-- Ledgers that are not sound. Each is a sound one, whose page is in frame 0 and cached at slot 1
+-- with a write in flight, but for one thing: one clause of soundness alone refuses it.
 use Rattle.std.specs.Prelude.{ℕ, true, false, List, [], ◌∷◌}
 use Rattle.av_base.specs.declared.slot.Slot.{Slot}
 use Rattle.av_plain.specs.World.{World}

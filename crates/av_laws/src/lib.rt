@@ -1,8 +1,7 @@
-//! What follows from the definitions of `av_plain`, beside what the kernel needs of them: replies are
-//! determined, numbers add up, a refusal changes nothing; and worked examples, legal ones and such as
-//! may not be.
-//!
-//! No function does anything. Each one's contract is a law, proved of the definitions alone.
+//! What follows from the definitions of `av_plain`, beside what the kernel needs of them: replies
+//! are determined, numbers add up, a refusal changes nothing; and worked examples, legal ones and
+//! such as may not be.  No function does anything. Each one's contract is a law, proved of the
+//! definitions alone.
 #![tactic(auto)]
 
 mod examples;
@@ -28,7 +27,19 @@ ghost use Rattle.av_plain.specs.Map.{StopsAtHole};
 ghost use Rattle.av_plain.specs.Transcript.{Exchange, State, IsStep, IsRun, at_first};
 ghost use Rattle.av_plain.specs.Sound.{AllSound};
 ghost use Rattle.av_plain.specs.Choice.{ListsFree};
-ghost use Rattle.av_laws.specs.Determined.{Tells, IsClaimed, SlotRule, IsExact, AreExact, SameCommands};
+ghost use Rattle.av_plain.specs.Step.{causes};
+ghost use Rattle.av_trace.specs.Command.{IsCommand};
+ghost use Rattle.av_trace.specs.Reply.{IsReply};
+ghost use Rattle.av_laws.specs.NoDevice.{HasNoDevice};
+ghost use Rattle.av_laws.specs.ReadBack.{IsSmall};
+ghost use Rattle.av_laws.specs.Determined.{
+  Tells,
+  IsClaimed,
+  SlotRule,
+  IsExact,
+  AreExact,
+  SameCommands,
+};
 
 pub use examples::{
     a_page_in_writeback_is_sound, changed_exits_and_reports_are_refused,
@@ -44,28 +55,37 @@ pub use unsound::{
     changed_ledgers_are_unsound, changed_memories_are_unsound, entries_of_one_memory_are_unsound,
 };
 
-/// A command that is refused changes neither the memories nor the ledger. An mprotect, which can stop at a page that
-/// isn't mapped, may have changed the protection of the pages before it.
+/// A command that is refused changes neither the memories nor the ledger. An mprotect, which can
+/// stop at a page that isn't mapped, may have changed the protection of the pages before it.
 pub fn refusals_change_nothing()
-    ensures others { (m : Setting) (w : World) (l : Ledger) (command : Command) (reply : Reply) (events : List Event) (error : Errno)
+    ensures others {
+        (m : Setting) (w : World) (l : Ledger) (command : Command) (reply : Reply)
+            (events : List Event) (error : Errno)
         → is_mprotect command ≡ false → IsLegal m w l command reply events
         → reply.answer ≡ Refused error
         → (next_world m w l events command reply.answer ≡ w) × (after_all l events ≡ l) }
-    ensures mprotect { (m : Setting) (w : World) (l : Ledger) (p a len : ℕ) (prot : Prot) (reply : Reply) (events : List Event) (error : Errno)
+    ensures mprotect {
+        (m : Setting) (w : World) (l : Ledger) (p a len : ℕ) (prot : Prot) (reply : Reply)
+            (events : List Event) (error : Errno)
         → IsLegal m w l (Mprotect p a len prot) reply events → reply.answer ≡ Refused error
-        → ((next_world m w l events (Mprotect p a len prot) reply.answer ≡ w) ⊎ StopsAtHole w p a len prot error (next_world m w l events (Mprotect p a len prot) reply.answer)) × (after_all l events ≡ l) }
+        → ((next_world m w l events (Mprotect p a len prot) reply.answer ≡ w)
+            ⊎ StopsAtHole w p a len prot error
+            (next_world m w l events (Mprotect p a len prot) reply.answer))
+            × (after_all l events ≡ l) }
 {}
 
 /// The three numbers of an out-of-memory are all frames: pinned, not cached, and cached.
 pub fn numbers_add_up()
-    ensures { (m : Setting) (w : World) (l : Ledger) (command : Command) (reply : Reply) (events : List Event) (k : ℕ) (out : OutOf) (shown : List ℕ)
+    ensures {
+        (m : Setting) (w : World) (l : Ledger) (command : Command) (reply : Reply)
+            (events : List Event) (k : ℕ) (out : OutOf) (shown : List ℕ)
         → AllSound m w l → IsLegal m w l command reply events → reply.answer ≡ Oom k out shown
         → out.pinned + out.noslot + out.fault ≡ m.frames }
 {}
 
 /// Where the devices tell their pages, each byte of the memories is claimed, no fault of a device
-/// shows, and slots are chosen by one rule, a command has one reply, and leaves one state: nothing is
-/// left to the kernel's choice.
+/// shows, and slots are chosen by one rule, a command has one reply, and leaves one state: nothing
+/// is left to the kernel's choice.
 pub fn replies_are_determined()
     ensures { (m : Setting) (old new other : State) (command : Command) (reply reply' : Reply)
         (rule : SlotRule) → Tells m → IsClaimed old.world
@@ -86,17 +106,36 @@ pub fn runs_are_determined()
 
 /// In a run the list of free frames has each free frame of the machine once, and no other number.
 pub fn runs_list_free_frames()
-    ensures { (m : Setting) (exchanges : List Exchange) (new : State) → IsRun m (at_first m) exchanges new
+    ensures {
+        (m : Setting) (exchanges : List Exchange) (new : State) → IsRun m (at_first m) exchanges new
         → ListsFree m new.ledger new.free }
 {}
 
 /// Each frame is free, active or inactive, and so the numbers of `stat` add up.
 pub fn totals_add_up()
     ensures { (m : Setting) (w : World) (l : Ledger) → AllSound m w l
-        → (totals m w l).free + (totals m w l).active + (totals m w l).inactive ≡ (totals m w l).frames }
+        → (totals m w l).free + (totals m w l).active + (totals m w l).inactive
+            ≡ (totals m w l).frames }
 {}
 
 /// The longest runs of a process's pages are one list: `maps` has one answer.
 pub fn maps_has_one_answer()
-    ensures { (q : Process) (rows others : List Row) → AreMaps q rows → AreMaps q others → rows ≡ others }
+    ensures {
+        (q : Process) (rows others : List Row) → AreMaps q rows → AreMaps q others → rows ≡ others }
+{}
+
+/// Where no swap area is attached, a reply has nothing that only a fault of a device explains: no
+/// `bus`, no EIO and no `fail`.
+pub fn no_device_has_no_faults()
+    ensures { (m : Setting) (w : World) (l : Ledger) (command : Command) (reply : Reply)
+        (events : List Event) → HasNoDevice m → AllSound m w l
+        → IsLegal m w l command reply events → causes reply ≡ 0 }
+{}
+
+/// A legal reply to a command of the grammar is one that is read back from its text: its numbers
+/// are of 64 bits, its bytes below 256, and its rows as many as it says.
+pub fn replies_are_read_back()
+    ensures { (m : Setting) (w : World) (l : Ledger) (command : Command) (reply : Reply)
+        (events : List Event) → HasNoDevice m → AllSound m w l → IsSmall m w l
+        → IsCommand command → IsLegal m w l command reply events → IsReply reply }
 {}

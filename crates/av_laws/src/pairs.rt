@@ -53,8 +53,8 @@ ghost use Rattle.av_laws.specs.Pairs.{
   ClaimsAfterLoad,
 };
 
-/// The ledger after each event: a fork and a move of all kinds of entries, notes over two entries of
-/// a frame, two cached slots and two writes in flight, and two areas.
+/// The ledger after each event: a fork and a move of all kinds of entries, notes over two entries
+/// of a frame, two cached slots and two writes in flight, and two areas.
 pub fn ledgers_of_two_follow()
     ensures forks_and_moves { Leads (with_entries one_of_each) forks_and_moves }
     ensures two_of_each {

@@ -30,9 +30,9 @@ ghost use Rattle.av_laws.specs.Unsound.{
   falling_areas,
 };
 
-/// Entries that fall; a slot at two frames and a frame of two slots; a frame that the machine has not;
-/// one that stands in no list, in both, or though it is free; a write in flight of a slot that isn't
-/// cached, or twice; a cached slot without a use.
+/// Entries that fall; a slot at two frames and a frame of two slots; a frame that the machine has
+/// not; one that stands in no list, in both, or though it is free; a write in flight of a slot that
+/// isn't cached, or twice; a cached slot without a use.
 pub fn changed_ledgers_are_unsound()
     ensures falling_entries { Unsound four one_process falling_entries }
     ensures slot_at_two_frames { Unsound four one_process slot_at_two_frames }
@@ -54,9 +54,9 @@ pub fn entries_of_one_memory_are_unsound()
     ensures slot_twice { Unsound four one_process slot_twice }
 {}
 
-/// An entry without a page or without a process; a slot of an area that is off, at the header's page,
-/// behind the area, or bad; more slots in use than there are; areas or processes that fall; too many
-/// processes.
+/// An entry without a page or without a process; a slot of an area that is off, at the header's
+/// page, behind the area, or bad; more slots in use than there are; areas or processes that fall;
+/// too many processes.
 pub fn changed_memories_are_unsound()
     ensures unmapped { Unsound four one_process unmapped }
     ensures of_nobody { Unsound four one_process of_nobody }

@@ -1,0 +1,477 @@
+-- Without a device no slot is in use: a page has at most one note, and is never lost.
+use Rattle.std.specs.List.{AllByRecursion}
+use Rattle.std.specs.Prelude.{MatchBool, MatchOption, IsTrue, unwrap_or}
+use Rattle.std.proofs.Common.{◌≡◌, ◌⊎◌, inl, inr, ℕ, zero, suc, ◌+◌, ◌<◌, ◌≤◌, Bool, true, false, cond, not, ◌&&◌, List, [], ◌∷◌, ◌++◌, Option, Some, None, is_some, refl, sym, ap, subst, ◌∙◌, arith, ◌==◌, nat_lt, append-nil}
+use Rattle.std.proofs.lemmas.Bool.Decides.{nat_tests}
+use Rattle.av_base.specs.Page.{address_of}
+use Rattle.av_base.specs.Words.{how_many}
+use Rattle.av_base.specs.declared.slot.Slot.{Slot}
+use Rattle.av_trace.specs.declared.note.Note.{Note}
+use Rattle.av_trace.specs.declared.reply.OutOf.{OutOf}
+use Rattle.av_trace.specs.declared.note.Note.TheVariants.{Aged, Copied, Dropped, Failed, Kept, Loaded, Mapped, New, Put, Started, Unmapped, Written, Zeroed}
+use Rattle.av_plain.specs.World.{Page, World, pages}
+use Rattle.av_plain.specs.Ledger.{has_free_slot, is_open, slot_count, Cached, Entry, InFrame, InSlot, Key, Ledger, Setting, Zero, entry, frame_at, has_free, in_flight, is_on, is_usable, may_give, names_slot, same_slot, size_of, slot_entries, slot_of}
+use Rattle.av_plain.specs.Event.{Event, Used, after_all, after_note, after_notes, note_events, notes_of}
+use Rattle.av_plain.specs.Pass.{Completes, IsPass, IsSlotFor, Seeks, Spared, Turns, frames_in_turn, is_stuck, stays_cached, turn_notes}
+use Rattle.av_plain.specs.Fault.{drop_of_slot, ComesIn, CopyOnWrite, Denied, IsLost, IsMade, Lost, MapCached, Need, NewPage, Ready, RunsOut, Serves, Sparing, Starved, Stop, SwapIn, Takes, Touches, ZeroPage, drop_at, drop_of_entry, is_allowed, is_shared, need, need_of_slot, permits, sparing, was_slot}
+use Rattle.av_plain.specs.Access.{Accesses, End, Stopped, Whole, page_events}
+use Rattle.av_plain.specs.Sound.{count, flights, is_there, slots}
+use Rattle.av_plain.proofs.Ledger.{how_many-found}
+use Rattle.av_plain.proofs.Ledger.NoSwap.{no_slot}
+use Rattle.av_plain.proofs.Access.{notes_of-append, notes_of-note_events}
+use Rattle.av_plain.proofs.Sound.Counts.{slot-itself}
+use Rattle.av_plain.proofs.Sound.There.{InAreas, accesses-in}
+use Rattle.std.specs.FinMap.Entries.{is_sorted}
+use Rattle.std.specs.Prelude.{if◌then◌else◌, length, T}
+use Rattle.av_base.specs.Page.{page_of, pages_of}
+use Rattle.av_trace.specs.declared.command.Command.{Command}
+use Rattle.av_trace.specs.declared.command.Command.TheVariants.{Spawn, Exit, Mmap, Munmap, Mprotect, Read, Write, Maps, Stat}
+use Rattle.av_trace.specs.declared.place.Place.{Place}
+use Rattle.av_trace.specs.declared.place.Place.TheVariants.{Auto, At, Fixed, NoReplace}
+use Rattle.av_trace.specs.declared.reply.Errno.{Errno}
+use Rattle.av_trace.specs.declared.reply.Errno.TheVariants.{Enomem, Eperm}
+use Rattle.av_trace.specs.declared.reply.Reply.{Reply}
+use Rattle.av_trace.specs.declared.row.Row.{Row}
+use Rattle.av_trace.specs.declared.reply.Answer.{Answer}
+use Rattle.av_trace.specs.declared.reply.Answer.TheVariants.{Done, Refused}
+use Rattle.av_plain.specs.Access.{bytes_before, pages_of_access, read_answer, stop_answer, write_answer}
+use Rattle.av_plain.specs.Ledger.{key_cmp}
+use Rattle.av_plain.specs.Event.{after_zap}
+use Rattle.av_plain.specs.Map.{zaps_for_place}
+use Rattle.av_plain.specs.Pass.{fails, is_fail}
+use Rattle.av_plain.specs.Place.{IsMapAt}
+use Rattle.av_plain.specs.Refusal.{Refuses, Tests, refusal, tests}
+use Rattle.av_plain.specs.Sound.{AllSound}
+use Rattle.av_plain.specs.Step.{Follows, IsLegal, causes, fault_answers}
+use Rattle.av_plain.specs.World.{pages_to_hole}
+use Rattle.av_plain.specs.Zap.{keys_in, keys_of_process, zap_of, zaps_of}
+use Rattle.av_plain.proofs.Zap.{in_order-after_zap, same_swap-after_zap, slot_entries-after_zap, zap_of-alone}
+use Rattle.av_laws.specs.NoDevice.{HasNoDevice}
+
+-- nothing is cached or in flight, and no entry names a slot
+pub record HasNoSlots (l : Ledger) : Type 0 where
+  pub cache : l.cache ≡ []
+  pub flight : l.flight ≡ []
+  pub entries : (s : Slot) → slot_entries l s ≡ 0
+
+never : ◌≡◌ {A = Bool} false true → ⊥
+never e = cc
+
+-- ---- no slot is there
+
+not-there : (m : Setting) (l : Ledger) (s : Slot) → HasNoDevice m → is_there m l s ≡ true → ⊥
+not-there m l s none h = by (is_on l s.area) (nat_lt 0 s.page) (nat_lt s.page (size_of m s.area)) (is_usable m s) small h
+  where
+    below : (n : ℕ) → nat_lt n 0 ≡ false
+    below n = grind (arith, nat_tests)
+
+    small : nat_lt s.page (size_of m s.area) ≡ false
+    small = ap (λ o. nat_lt s.page (unwrap_or o 0)) (none s.area) ∙ below s.page
+
+    by : (a b c d : Bool) → c ≡ false → (a && b && c && d) ≡ true → ⊥
+    by true true true d e h = cc
+    by true true false d e h = never h
+    by true false c d e h = never h
+    by false b c d e h = never h
+
+zero-of : (n : ℕ) → (0 < n → ⊥) → n ≡ 0
+zero-of zero h = refl
+zero-of (suc n) h = absurd (h (omega arith))
+
+nothing-cached : (cs : List Cached) → ((s : Slot) → how_many (λ (c : Cached). same_slot s c.slot) cs ≡ 0) → cs ≡ []
+nothing-cached [] h = refl
+nothing-cached (c ∷ cs) h = absurd (by (same_slot c.slot c.slot) (slot-itself c.slot) (h c.slot))
+  where
+    by : (b : Bool) → b ≡ true → cond b 1 0 + how_many (λ (d : Cached). same_slot c.slot d.slot) cs ≡ 0 → ⊥
+    by true is e = omega (arith, e)
+    by false is e = never is
+
+nothing-flying : (ss : List Slot) → ((s : Slot) → how_many (same_slot s) ss ≡ 0) → ss ≡ []
+nothing-flying [] h = refl
+nothing-flying (t ∷ ss) h = absurd (by (same_slot t t) (slot-itself t) (h t))
+  where
+    by : (b : Bool) → b ≡ true → cond b 1 0 + how_many (same_slot t) ss ≡ 0 → ⊥
+    by true is e = omega (arith, e)
+    by false is e = never is
+
+pub no-slots : (m : Setting) (l : Ledger) → HasNoDevice m → InAreas m l → HasNoSlots l
+no-slots m l none h = record {
+  cache = nothing-cached l.cache (λ s. let z = counted s in let e : slots l s ≡ 0 = omega (arith, z) in e);
+  flight = nothing-flying l.flight (λ s. let z = counted s in let f = h.sound.flying s in let e : flights l s ≡ 0 = omega (arith, z, f) in e);
+  entries = λ s. let z = counted s in omega (arith, z);
+}
+  where
+    counted : (s : Slot) → slots l s + slot_entries l s ≡ 0
+    counted s = zero-of (count l s) (λ some. not-there m l s none (h.there s some))
+
+-- ---- a pass has no notes
+
+ungiven : (m : Setting) (closing : Option ℕ) (l : Ledger) (s : Slot) → HasNoDevice m → IsTrue (may_give m closing l s) → ⊥
+ungiven m closing l s none h = by (is_on l s.area) (nat_lt 0 s.page) (nat_lt s.page (size_of m s.area)) (slot_count l s == 0) (is_usable m s) (is_open closing s.area) (has_free_slot m l s.area) small h
+  where
+    below : (n : ℕ) → nat_lt n 0 ≡ false
+    below n = grind (arith, nat_tests)
+
+    small : nat_lt s.page (size_of m s.area) ≡ false
+    small = ap (λ o. nat_lt s.page (unwrap_or o 0)) (none s.area) ∙ below s.page
+
+    by : (a b c d e f g : Bool) → c ≡ false → IsTrue (a && b && c && d && e && f && g) → ⊥
+    by true true true d e f g is h = never (sym is)
+    by true true false d e f g is h = never h
+    by true false c d e f g is h = never h
+    by false b c d e f g is h = never h
+
+turns-nothing : (m : Setting) (sp : Spared) (l : Ledger) (fs : List ℕ) (notes : List Note) → HasNoDevice m → l.cache ≡ [] → Turns m sp l fs notes → notes ≡ []
+turns-nothing m sp l [] notes none cache h = h
+turns-nothing m sp l (f ∷ fs) notes none cache h = by (is_stuck m sp l f) (turns-nothing m sp l fs notes none cache) h
+  where
+    for_it : (s : Slot) (o : Option Slot) → o ≡ None → MatchOption o (IsTrue (may_give m sp.closing l s)) (λ t. s ≡ t) → ⊥
+    for_it s None e q = ungiven m sp.closing l s none q
+    for_it s (Some t) e q = cc
+
+    by : (b : Bool) → (Turns m sp l fs notes → notes ≡ []) → MatchBool b (Turns m sp l fs notes) ((s : Slot) × (failed : Bool) × IsSlotFor m sp l f s × MatchBool (stays_cached l f s failed)
+        ((rest : List Note) × (notes ≡ turn_notes l f s failed ++ rest) × Turns m sp (after_notes l (turn_notes l f s failed)) fs rest) (notes ≡ turn_notes l f s failed ++ Dropped s ∷ [])) → notes ≡ []
+    by true rest q = rest q
+    by false rest q = absurd (for_it q.0 (slot_of l f) (no_slot l f cache) q.2)
+
+pub seeks-nothing : (m : Setting) (sp : Spared) (l : Ledger) (notes : List Note) → HasNoDevice m → HasNoSlots l → Seeks m sp l notes → notes ≡ []
+seeks-nothing m sp l notes none h s = by (has_free m l) s
+  where
+    completed : (ts : List Slot) (ns : List Note) → ts ≡ [] → Completes l ts ns → ns ≡ []
+    completed [] ns e c = c
+    completed (t ∷ ts) ns e c = cc
+
+    turned : (b : Bool) (done turns : List Note) → done ≡ [] → MatchBool b (turns ≡ []) (Turns m sp (after_notes l done) (frames_in_turn sp (after_notes l done)) turns) → turns ≡ []
+    turned true done turns e q = q
+    turned false done turns e q = turns-nothing m sp (after_notes l done) (frames_in_turn sp (after_notes l done)) turns none (ap (λ ns. (after_notes l ns).cache) e ∙ h.cache) q
+
+    by : (b : Bool) → MatchBool b (notes ≡ []) (IsPass m sp l notes) → notes ≡ []
+    by true q = q
+    by false (done, turns, all, completes, later) =
+        let e = completed l.flight done h.flight completes in
+        all ∙ ap (λ ns. ns ++ turns) e ∙ turned (has_free m (after_notes l done)) done turns e later
+
+-- ---- a page
+
+-- a need without a slot
+abbrev IsPlain : Need → Type 0
+IsPlain (SwapIn s) = ⊥
+IsPlain (MapCached f) = ⊥
+IsPlain Ready = Unit {0}
+IsPlain ZeroPage = Unit {0}
+IsPlain NewPage = Unit {0}
+IsPlain (CopyOnWrite g) = Unit {0}
+
+plain-need : (l : Ledger) (write : Bool) (k : Key) → HasNoSlots l → IsPlain (need write l (entry l k))
+plain-need l write k h = by write (entry l k) refl
+  where
+    slot : (s : Slot) → entry l k ≡ Some (InSlot s) → ⊥
+    slot s is = let some = how_many-found (names_slot s) k l.entries (InSlot s) is (slot-itself s) in let z = h.entries s in omega (arith, some, z)
+
+    shared : (b : Bool) (g : ℕ) → IsPlain (cond b (CopyOnWrite g) Ready)
+    shared true g = tt
+    shared false g = tt
+
+    by : (write : Bool) (o : Option Entry) → entry l k ≡ o → IsPlain (need write l o)
+    by false None is = tt
+    by true None is = tt
+    by false (Some Zero) is = tt
+    by true (Some Zero) is = tt
+    by false (Some (InFrame g seen)) is = tt
+    by true (Some (InFrame g seen)) is = shared (is_shared l g) g
+    by false (Some (InSlot s)) is = absurd (slot s is)
+    by true (Some (InSlot s)) is = absurd (slot s is)
+
+-- the notes that a page may have
+abbrev pub IsPlainAt : Setting → Key → Note → Type 0
+IsPlainAt m k (Zeroed p a) = (p ≡ k.0) × (a ≡ address_of k.1)
+IsPlainAt m k (New p a f) = (p ≡ k.0) × (a ≡ address_of k.1) × f < m.frames
+IsPlainAt m k (Copied p a f) = (p ≡ k.0) × (a ≡ address_of k.1) × f < m.frames
+IsPlainAt m k (Loaded s f) = ⊥
+IsPlainAt m k (Mapped p a f) = ⊥
+IsPlainAt m k (Put f s) = ⊥
+IsPlainAt m k (Unmapped f) = ⊥
+IsPlainAt m k (Started s) = ⊥
+IsPlainAt m k (Written s) = ⊥
+IsPlainAt m k (Failed s) = ⊥
+IsPlainAt m k (Dropped s) = ⊥
+IsPlainAt m k (Kept f c) = ⊥
+IsPlainAt m k (Aged f) = ⊥
+
+abbrev pub ArePlainAt : Setting → Key → List Note → Type 0
+ArePlainAt m k notes = AllByRecursion (IsPlainAt m k) notes
+
+nothing-comes : (m : Setting) (sp : Sparing) (l : Ledger) (k : Key) (n : Need) (notes : List Note) → IsPlain n → ComesIn m sp l k n notes → notes ≡ []
+nothing-comes m sp l k Ready notes p h = h
+nothing-comes m sp l k ZeroPage notes p h = h
+nothing-comes m sp l k NewPage notes p h = h
+nothing-comes m sp l k (CopyOnWrite g) notes p h = h
+nothing-comes m sp l k (SwapIn s) notes p h = absurd p
+nothing-comes m sp l k (MapCached f) notes p h = absurd p
+
+made-plain : (m : Setting) (sp : Sparing) (l : Ledger) (k : Key) (n : Need) (notes : List Note) → HasNoDevice m → HasNoSlots l → IsMade m sp l k n notes → ArePlainAt m k notes
+made-plain m sp l k Ready notes none q h = subst (ArePlainAt m k) (sym h) tt
+made-plain m sp l k ZeroPage notes none q h = subst (ArePlainAt m k) (sym h) ((refl, refl), tt)
+made-plain m sp l k NewPage notes none q h =
+    subst (ArePlainAt m k) (sym (h.whole ∙ ap (λ ns. ns ++ New k.0 (address_of k.1) h.frame ∷ []) (seeks-nothing m (sp l None) l h.sought none q h.seeks))) ((refl, refl, h.in_range), tt)
+made-plain m sp l k (CopyOnWrite g) notes none q h =
+    subst (ArePlainAt m k) (sym (h.whole ∙ ap (λ ns. ns ++ Copied k.0 (address_of k.1) h.frame ∷ []) (seeks-nothing m (sp l (Some g)) l h.sought none q h.seeks))) ((refl, refl, h.in_range), tt)
+made-plain m sp l k (SwapIn s) notes none q h = absurd h
+made-plain m sp l k (MapCached f) notes none q h = absurd h
+
+plain-cache : (m : Setting) (k : Key) (l : Ledger) (notes : List Note) → ArePlainAt m k notes → (after_notes l notes).cache ≡ l.cache
+plain-cache m k l [] h = refl
+plain-cache m k l (note ∷ notes) h = plain-cache m k (after_note note l) notes h.1 ∙ one note h.0
+  where
+    one : (note : Note) → IsPlainAt m k note → (after_note note l).cache ≡ l.cache
+    one (Zeroed p a) h = refl
+    one (New p a f) h = refl
+    one (Copied p a f) h = refl
+    one (Loaded s f) h = absurd h
+    one (Mapped p a f) h = absurd h
+    one (Put f s) h = absurd h
+    one (Unmapped f) h = absurd h
+    one (Started s) h = absurd h
+    one (Written s) h = absurd h
+    one (Failed s) h = absurd h
+    one (Dropped s) h = absurd h
+    one (Kept f c) h = absurd h
+    one (Aged f) h = absurd h
+
+nothing-dropped : (m : Setting) (write came : Bool) (l : Ledger) (k : Key) → l.cache ≡ [] → drop_at m write came l k ≡ []
+nothing-dropped m write came l k cache = by (entry l k)
+  where
+    by : (o : Option Entry) → drop_of_entry m write came l o ≡ []
+    by None = refl
+    by (Some Zero) = refl
+    by (Some (InFrame f seen)) = ap (λ o. drop_of_slot m write came l o) (no_slot l f cache)
+    by (Some (InSlot s)) = refl
+
+-- what stops an access is no lost page
+abbrev pub IsKept : Option Stop → Type 0
+IsKept None = Unit {0}
+IsKept (Some Denied) = Unit {0}
+IsKept (Some (Starved out)) = Unit {0}
+IsKept (Some Lost) = ⊥
+
+serves-plain : (m : Setting) (sp : Sparing) (l : Ledger) (write : Bool) (k : Key) (notes : List Note) → HasNoDevice m → HasNoSlots l → Serves m sp l write k notes → ArePlainAt m k notes
+serves-plain m sp l write k notes none q h =
+    let e = nothing-comes m sp l k (need write l (entry l k)) h.coming (plain-need l write k q) h.comes_in in
+    let made = subst (λ ns. IsMade m sp (after_notes l ns) k (need write (after_notes l ns) (entry (after_notes l ns) k)) h.making) e h.made in
+    let plain = made-plain m sp l k (need write l (entry l k)) h.making none q made in
+    let now = after_notes l (h.coming ++ h.making) in
+    let clean : now.cache ≡ [] = ap (λ ns. (after_notes l (ns ++ h.making)).cache) e ∙ plain-cache m k l h.making plain ∙ q.cache in
+    let drops = drop_at m write (was_slot (need write l (entry l k))) now k in
+    let all : notes ≡ h.making = h.whole ∙ ap (λ ns. ns ++ h.making ++ drops) e
+        ∙ ap (λ ns. h.making ++ ns) (nothing-dropped m write (was_slot (need write l (entry l k))) now k clean) ∙ append-nil h.making in
+    subst (ArePlainAt m k) (sym all) plain
+
+runs_out-nothing : (m : Setting) (sp : Sparing) (l : Ledger) (write : Bool) (k : Key) (notes : List Note) {out : OutOf} → HasNoDevice m → HasNoSlots l → RunsOut m sp l write k notes out → notes ≡ []
+runs_out-nothing m sp l write k notes none q h =
+    let e = before h.before in
+    h.whole ∙ ap (λ ns. ns ++ h.sought) e
+    ∙ seeks-nothing m _ (after_notes l h.coming) h.sought none (subst (λ ns. HasNoSlots (after_notes l ns)) (sym e) q) h.finds.seeks
+  where
+    before : (h.coming ≡ []) ⊎ ComesIn m sp l k (need write l (entry l k)) h.coming → h.coming ≡ []
+    before (inl e) = e
+    before (inr c) = nothing-comes m sp l k (need write l (entry l k)) h.coming (plain-need l write k q) c
+
+-- what is so at a page: it is mapped where it has a note
+pub record PlainPage (m : Setting) (w : World) (k : Key) (notes : List Note) (stop : Option Stop) : Type 0 where
+  pub plain : ArePlainAt m k notes
+  pub mapped : (notes ≡ []) ⊎ (is_some (pages w k.0 k.1) ≡ true)
+  pub kept : IsKept stop
+
+pub touches-plain : (m : Setting) (w : World) (l : Ledger) (write : Bool) (k : Key) (notes : List Note) (stop : Option Stop) → HasNoDevice m → HasNoSlots l → Touches m w l write k notes stop → PlainPage m w k notes stop
+touches-plain m w l write k notes stop none q = by stop
+  where
+    mapped : (o : Option Page) → IsTrue (permits write o) → is_some o ≡ true
+    mapped None h = cc
+    mapped (Some page) h = refl
+
+    by : (stop : Option Stop) → Touches m w l write k notes stop → PlainPage m w k notes stop
+    by None (allowed, served) = record { plain = serves-plain m (sparing w) l write k notes none q served; mapped = inr (mapped (pages w k.0 k.1) allowed); kept = tt }
+    by (Some Denied) (denied, e) = record { plain = subst (ArePlainAt m k) (sym e) tt; mapped = inl e; kept = tt }
+    by (Some (Starved out)) (allowed, h) = let e = runs_out-nothing m (sparing w) l write k notes none q h in record { plain = subst (ArePlainAt m k) (sym e) tt; mapped = inl e; kept = tt }
+    by (Some Lost) (allowed, h) = absurd (subst IsPlain h.absent (plain-need l write k q))
+
+-- ---- an access
+
+-- an access doesn't end at a lost page
+abbrev pub Ends : End → Type 0
+Ends Whole = Unit {0}
+Ends (Stopped page stop) = IsKept (Some stop)
+
+-- each note is that of a mapped page of the process
+pub record PlainAccess (P : Note → Type 0) (events : List Event) (end : End) : Type 0 where
+  pub notes : AllByRecursion P (notes_of events)
+  pub ends : Ends end
+
+all-append : (P : Note → Type 0) (xs ys : List Note) → AllByRecursion P xs → AllByRecursion P ys → AllByRecursion P (xs ++ ys)
+all-append P [] ys a b = b
+all-append P (x ∷ xs) ys a b = (a.0, all-append P xs ys a.1 b)
+
+all-by : (P Q : Note → Type 0) → ((note : Note) → P note → Q note) → (notes : List Note) → AllByRecursion P notes → AllByRecursion Q notes
+all-by P Q f [] h = tt
+all-by P Q f (note ∷ notes) h = (f note h.0, all-by P Q f notes h.1)
+
+pub accesses-plain : (P : Note → Type 0) (m : Setting) (w : World) (p : ℕ) → HasNoDevice m
+    → ((page : ℕ) (note : Note) → is_some (pages w p page) ≡ true → IsPlainAt m (p, page) note → P note)
+    → (l : Ledger) (pages : List (Bool × ℕ)) (events : List Event) (end : End) → InAreas m l → Accesses m w l p pages events end → PlainAccess P events end
+accesses-plain P m w p none each l [] events end s h = record { notes = subst (λ es. AllByRecursion P (notes_of es)) (sym h.0) tt; ends = subst Ends (sym h.1) tt }
+accesses-plain P m w p none each l (page ∷ rest) events end s (inl h) =
+    let here = page_events page.0 (p, page.1) h.0 None in
+    let t = touches-plain m w l page.0 (p, page.1) h.0 None none (no-slots m l none s) h.2 in
+    let s' = accesses-in m w l p (page ∷ []) here Whole s (inl (h.0, [], h.2, sym (append-nil here), (refl, refl))) in
+    let more = accesses-plain P m w p none each (after_all l here) rest h.1 end s' h.4 in
+    record {
+      notes = subst (λ es. AllByRecursion P (notes_of es)) (sym h.3) (subst (AllByRecursion P) (sym (notes_of-append here h.1)) (all-append P (notes_of here) (notes_of h.1)
+      (subst (AllByRecursion P) (sym (notes_of-append (note_events h.0) (Used page.0 (p, page.1) ∷ []) ∙ append-nil (notes_of (note_events h.0)) ∙ notes_of-note_events h.0)) (all_at page.1 h.0 t.plain t.mapped)) more.notes));
+      ends = more.ends;
+    }
+  where
+    all_at : (page : ℕ) (notes : List Note) → ArePlainAt m (p, page) notes → (notes ≡ []) ⊎ (is_some (pages w p page) ≡ true) → AllByRecursion P notes
+    all_at page notes a (inl e) = subst (AllByRecursion P) (sym e) tt
+    all_at page notes a (inr is) = all-by (IsPlainAt m (p, page)) P (λ note. each page note is) notes a
+accesses-plain P m w p none each l (page ∷ rest) events end s (inr h) =
+    let t = touches-plain m w l page.0 (p, page.1) h.0 (Some h.1) none (no-slots m l none s) h.2 in
+    record { notes = subst (λ es. AllByRecursion P (notes_of es)) (sym h.3) (subst (AllByRecursion P) (sym (notes_of-note_events h.0)) (all_at page.1 h.0 t.plain t.mapped)); ends = subst Ends (sym h.4) t.kept }
+  where
+    all_at : (page : ℕ) (notes : List Note) → ArePlainAt m (p, page) notes → (notes ≡ []) ⊎ (is_some (pages w p page) ≡ true) → AllByRecursion P notes
+    all_at page notes a (inl e) = subst (AllByRecursion P) (sym e) tt
+    all_at page notes a (inr is) = all-by (IsPlainAt m (p, page)) P (λ note. each page note is) notes a
+
+-- ---- entries that go
+
+-- what lets entries go without a note
+record IsQuiet (l : Ledger) : Type 0 where
+  cache : l.cache ≡ []
+  entries : (s : Slot) → slot_entries l s ≡ 0
+  in_order : T (is_sorted key_cmp l.entries)
+
+zaps-quiet : (l : Ledger) (ks : List Key) → IsQuiet l → notes_of (zaps_of l ks) ≡ []
+zaps-quiet l [] q = refl
+zaps-quiet l (k ∷ ks) q =
+    let alone = zap_of-alone l k q.cache q.entries in
+    let quiet : IsQuiet (after_zap k l) = record {
+      cache = (same_swap-after_zap k l).cache ∙ q.cache;
+      entries = λ s. let e = slot_entries-after_zap k l s q.in_order in let z = q.entries s in omega (arith, e, z);
+      in_order = in_order-after_zap k l q.in_order;
+    } in
+    notes_of-append (zap_of l k) (zaps_of (after_all l (zap_of l k)) ks)
+    ∙ ap (λ es. notes_of es ++ notes_of (zaps_of (after_all l es) ks)) alone ∙ zaps-quiet (after_zap k l) ks quiet
+
+pub no-zap-notes : (m : Setting) (l : Ledger) (ks : List Key) → HasNoDevice m → InAreas m l → notes_of (zaps_of l ks) ≡ []
+no-zap-notes m l ks none s = let q = no-slots m l none s in zaps-quiet l ks (record { cache = q.cache; entries = q.entries; in_order = s.sound.in_order })
+
+-- ---- a command
+
+-- no note tells of a fault, and the answer doesn't
+record Faultless (events : List Event) (answer : Answer) : Type 0 where
+  notes : fails (notes_of events) ≡ 0
+  answered : fault_answers answer ≡ 0
+
+no-fails : (notes : List Note) → AllByRecursion (λ note. is_fail note ≡ false) notes → fails notes ≡ 0
+no-fails [] h = refl
+no-fails (note ∷ notes) h = let rest = no-fails notes h.1 in by (is_fail note) h.0 rest
+  where
+    by : (b : Bool) → b ≡ false → fails notes ≡ 0 → cond b 1 0 + fails notes ≡ 0
+    by true e rest = absurd (never (sym e))
+    by false e rest = omega (arith, rest)
+
+plain-fails : (m : Setting) (k : Key) (note : Note) → IsPlainAt m k note → is_fail note ≡ false
+plain-fails m k (Zeroed p a) h = refl
+plain-fails m k (New p a f) h = refl
+plain-fails m k (Copied p a f) h = refl
+plain-fails m k (Loaded s f) h = absurd h
+plain-fails m k (Mapped p a f) h = absurd h
+plain-fails m k (Put f s) h = absurd h
+plain-fails m k (Unmapped f) h = absurd h
+plain-fails m k (Started s) h = absurd h
+plain-fails m k (Written s) h = absurd h
+plain-fails m k (Failed s) h = absurd h
+plain-fails m k (Dropped s) h = absurd h
+plain-fails m k (Kept f c) h = absurd h
+plain-fails m k (Aged f) h = absurd h
+
+stop-faultless : (stop : Stop) (k : ℕ) (shown : List ℕ) → IsKept (Some stop) → fault_answers (stop_answer stop k shown) ≡ 0
+stop-faultless Denied k shown h = refl
+stop-faultless (Starved out) k shown h = refl
+stop-faultless Lost k shown h = absurd h
+
+read-faultless : (a : ℕ) (end : End) (shown : List ℕ) → Ends end → fault_answers (read_answer a end shown) ≡ 0
+read-faultless a Whole shown h = refl
+read-faultless a (Stopped page stop) shown h = stop-faultless stop (bytes_before a page) shown h
+
+write-faultless : (a : ℕ) (end : End) → Ends end → fault_answers (write_answer a end) ≡ 0
+write-faultless a Whole h = refl
+write-faultless a (Stopped page stop) h = stop-faultless stop (bytes_before a page) [] h
+
+follows-faultless : (m : Setting) (w : World) (l : Ledger) (command : Command) (events : List Event) (answer : Answer) (rows : List Row) → HasNoDevice m → InAreas m l → Follows m w l command events answer rows → Faultless events answer
+follows-faultless m w l (Spawn p) events answer rows none s h = record { notes = ap (λ es. fails (notes_of es)) h.1; answered = ap fault_answers h.0 }
+follows-faultless m w l (Exit p) events answer rows none s h = record { notes = ap (λ es. fails (notes_of es)) h.1 ∙ ap fails (no-zap-notes m l (keys_of_process l p) none s); answered = ap fault_answers h.0 }
+follows-faultless m w l (Mmap p len prot place) events answer rows none s h = record { notes = ap (λ es. fails (notes_of es)) h.3 ∙ ap fails (no-place-notes place); answered = by h.0 h.2 }
+  where
+    by : (to : Option ℕ) → IsMapAt answer to → fault_answers answer ≡ 0
+    by None e = ap fault_answers e
+    by (Some page) e = ap fault_answers e
+
+    no-place-notes : (place : Place) → notes_of (zaps_for_place l p (pages_of len) place) ≡ []
+    no-place-notes Auto = refl
+    no-place-notes (At a) = refl
+    no-place-notes (Fixed a) = no-zap-notes m l (keys_in l p (page_of a) (pages_of len)) none s
+    no-place-notes (NoReplace a) = refl
+follows-faultless m w l (Munmap p a len) events answer rows none s h = record { notes = ap (λ es. fails (notes_of es)) h.1 ∙ ap fails (no-zap-notes m l (keys_in l p (page_of a) (pages_of len)) none s); answered = ap fault_answers h.0 }
+follows-faultless m w l (Mprotect p a len prot) events answer rows none s h = record { notes = ap (λ es. fails (notes_of es)) h.1; answered = ap fault_answers h.0 ∙ by (pages_to_hole (pages w p) (page_of a) (pages_of len) == pages_of len) }
+  where
+    by : (b : Bool) → fault_answers (if b then Done else Refused Enomem) ≡ 0
+    by true = refl
+    by false = refl
+follows-faultless m w l (Read p a n) events answer rows none s h =
+    let plain = accesses-plain (λ note. is_fail note ≡ false) m w p none (λ page note is. plain-fails m (p, page) note) l (pages_of_access false a n) events h.0 s h.2 in
+    record { notes = no-fails (notes_of events) plain.notes; answered = ap fault_answers h.4 ∙ read-faultless a h.0 h.1 plain.ends }
+follows-faultless m w l (Write p a bytes) events answer rows none s h =
+    let plain = accesses-plain (λ note. is_fail note ≡ false) m w p none (λ page note is. plain-fails m (p, page) note) l (pages_of_access true a (length bytes)) events h.0 s h.1 in
+    record { notes = no-fails (notes_of events) plain.notes; answered = ap fault_answers h.2 ∙ write-faultless a h.0 plain.ends }
+follows-faultless m w l (Maps p) events answer rows none s h = record { notes = ap (λ es. fails (notes_of es)) h.2; answered = ap fault_answers h.0 }
+follows-faultless m w l Stat events answer rows none s h = record { notes = ap (λ es. fails (notes_of es)) h.1; answered = ap fault_answers h.0 }
+
+-- no test leads to EIO
+abbrev AreMild : Tests → Type 0
+AreMild tests = AllByRecursion (λ (t : Bool × Errno). fault_answers (Refused t.1) ≡ 0) tests
+
+mild-refusal : (ts : Tests) (error : Errno) → AreMild ts → refusal ts ≡ Some error → fault_answers (Refused error) ≡ 0
+mild-refusal [] error h e = cc
+mild-refusal (t ∷ ts) error h e = by t.0 e (mild-refusal ts error h.1)
+  where
+    by : (b : Bool) → (if b then Some t.1 else refusal ts) ≡ Some error → (refusal ts ≡ Some error → fault_answers (Refused error) ≡ 0) → fault_answers (Refused error) ≡ 0
+    by true e rest = ap (λ o. fault_answers (Refused (unwrap_or o Eperm))) (sym e) ∙ h.0
+    by false e rest = rest e
+
+tests-mild : (m : Setting) (w : World) (l : Ledger) (command : Command) → AreMild (tests m w l command)
+tests-mild m w l (Spawn p) = (refl, (refl, tt))
+tests-mild m w l (Exit p) = (refl, tt)
+tests-mild m w l (Mmap p len prot Auto) = (refl, (refl, (refl, tt)))
+tests-mild m w l (Mmap p len prot (At a)) = (refl, (refl, (refl, tt)))
+tests-mild m w l (Mmap p len prot (Fixed a)) = (refl, (refl, (refl, (refl, (refl, (refl, tt))))))
+tests-mild m w l (Mmap p len prot (NoReplace a)) = (refl, (refl, (refl, (refl, (refl, (refl, (refl, tt)))))))
+tests-mild m w l (Munmap p a len) = (refl, (refl, tt))
+tests-mild m w l (Mprotect p a len prot) = (refl, (refl, (refl, tt)))
+tests-mild m w l (Read p a n) = (refl, tt)
+tests-mild m w l (Write p a bytes) = (refl, tt)
+tests-mild m w l (Maps p) = (refl, tt)
+tests-mild m w l Stat = tt
+
+pub in-areas : (m : Setting) (w : World) (l : Ledger) → AllSound m w l → InAreas m l
+in-areas m w l s = record { sound = s.ledger; there = s.in_areas; fits = s.areas_fit }
+
+pub no-causes : (m : Setting) (w : World) (l : Ledger) (command : Command) (reply : Reply) (events : List Event) → HasNoDevice m → AllSound m w l → IsLegal m w l command reply events → causes reply ≡ 0
+no-causes m w l command reply events none s legal =
+    let f = by (refusal (tests m w l command)) refl legal.answer in
+    let a = ap fails legal.notes ∙ f.notes in
+    let b = f.answered in
+    omega (arith, a, b)
+  where
+    by : (o : Option Errno) → refusal (tests m w l command) ≡ o → MatchOption o (Follows m w l command events reply.answer reply.rows) (λ error. Refuses error events reply.answer reply.rows) → Faultless events reply.answer
+    by None is h = follows-faultless m w l command events reply.answer reply.rows none (in-areas m w l s) h
+    by (Some error) is h = record { notes = ap (λ es. fails (notes_of es)) h.1; answered = ap fault_answers h.0 ∙ mild-refusal (tests m w l command) error (tests-mild m w l command) is }
