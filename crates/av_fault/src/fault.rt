@@ -248,12 +248,7 @@ fn take_zeros(mem: &mut Mem, process: u16, page: u64) -> Result<Option<u32>, All
 
 /// Takes a frame for a page and copies the page's present one to it. None exactly where no frame is
 /// free.
-fn take_copy(
-    mem: &mut Mem,
-    process: u16,
-    page: u64,
-    from: u32,
-) -> Result<Option<u32>, AllocError>
+fn take_copy(mem: &mut Mem, process: u16, page: u64, from: u32) -> Result<Option<u32>, AllocError>
     requires steady { IsSteady mem.old }
     requires there { has mem.old.tables process ≡ true }
     requires below { page < top_page }

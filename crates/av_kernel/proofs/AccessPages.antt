@@ -49,8 +49,8 @@ pub touched-one : (write : Bool) (a k m page at : ℕ) → 4096 * page + at ≡ 
     → pages_of_access write a (k + m) ≡ pages_of_access write a k ++ (write, page) ∷ []
 touched-one write a k m page at is small some begins =
     ap (map (λ page. (write, page)))
-        (ap (numbers (a / 4096)) (one_more a k m page at is small some begins) ∙ numbers-append (a / 4096) (touches a k) 1
-        ∙ ap (λ b. numbers (a / 4096) (touches a k) ++ b ∷ []) (sym (pages_before a k page at is (omega (arith, small, some)) begins)))
+    (ap (numbers (a / 4096)) (one_more a k m page at is small some begins) ∙ numbers-append (a / 4096) (touches a k) 1
+    ∙ ap (λ b. numbers (a / 4096) (touches a k) ++ b ∷ []) (sym (pages_before a k page at is (omega (arith, small, some)) begins)))
     ∙ map-append (λ page. (write, page)) (numbers (a / 4096) (touches a k)) (page ∷ [])
 
 pub touched-more : (write : Bool) (a k n page at : ℕ) → 4096 * page + at ≡ a + k → at < 4096 → k < n → (1 ≤ k → at ≡ 0)
@@ -59,6 +59,6 @@ touched-more write a k n page at is small less begins =
     let at_least : touches a k + 1 ≤ touches a n = subst (λ x. touches a k + 1 ≤ touches a x) (let same : k + (n - k) ≡ n = omega (arith, less) in same) (some_more a k (n - k) page at is small (omega (arith, less)) begins) in
     let split : touches a n ≡ touches a k + suc (touches a n - (touches a k + 1)) = omega (arith, at_least) in
     ap (map (λ page. (write, page)))
-        (ap (numbers (a / 4096)) split ∙ numbers-append (a / 4096) (touches a k) (suc (touches a n - (touches a k + 1)))
-        ∙ ap (λ b. numbers (a / 4096) (touches a k) ++ b ∷ numbers (b + 1) (touches a n - (touches a k + 1))) (sym (pages_before a k page at is small begins)))
+    (ap (numbers (a / 4096)) split ∙ numbers-append (a / 4096) (touches a k) (suc (touches a n - (touches a k + 1)))
+    ∙ ap (λ b. numbers (a / 4096) (touches a k) ++ b ∷ numbers (b + 1) (touches a n - (touches a k + 1))) (sym (pages_before a k page at is small begins)))
     ∙ map-append (λ page. (write, page)) (numbers (a / 4096) (touches a k)) (page ∷ numbers (page + 1) (touches a n - (touches a k + 1)))

@@ -102,7 +102,7 @@ fn read_pieces(
     requires fresh { shown.old ≡ [] }
     ensures access { (s : State) → Keeps mem.old s → IfOk result (λ ended.
         IsAccess s mem.new false process address len [] notes.old notes.new
-            ended.stop ended.served) }
+        ended.stop ended.served) }
     ensures reads { (s : State) → Keeps mem.old s → IfOk result (λ ended.
         Reads (pages s.world process) address ended.served shown.new) }
     ensures count { count mem.new ≡ count mem.old }
@@ -138,7 +138,7 @@ fn write_pieces(
     requires lives { is_some (areas_of mem.old.spaces process) ≡ true }
     ensures access { (s : State) → Keeps mem.old s → IfOk result (λ ended.
         IsAccess s mem.new true process address (length bytes.now) (take ended.served bytes.now)
-            notes.old notes.new ended.stop ended.served) }
+        notes.old notes.new ended.stop ended.served) }
     ensures count { count mem.new ≡ count mem.old }
 {
     let mut done = 0;

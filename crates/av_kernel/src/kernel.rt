@@ -35,7 +35,11 @@ impl Model for Kernel {
     ghost coded = { machine_code the_row.coded tally_row.coded };
 
     ghost view = { λ k. record {
-        frames = count k.mem; mem = k.mem; steps = k.steps; tally = k.tally; spent = k.spent
+      frames = count k.mem;
+      mem = k.mem;
+      steps = k.steps;
+      tally = k.tally;
+      spent = k.spent;
     } };
 
     ghost invariant = { λ k. IsSound k.mem k.steps k.tally k.spent };

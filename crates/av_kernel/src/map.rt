@@ -120,7 +120,7 @@ fn clear(mem: &mut Mem, process: u16, page: u64, pages: u64) -> Result<(), Alloc
     requires high { page + pages ≤ top_page }
     ensures cleared { (l : Ledger) → HasLedger mem.old l → OnOk result
         (AreCleared mem.old mem.new process page pages l
-            (zaps_of l (keys_in l process page pages))) }
+        (zaps_of l (keys_in l process page pages))) }
     ensures count { count mem.new ≡ count mem.old }
 {
     zap_range(mem, process, page, page + pages);

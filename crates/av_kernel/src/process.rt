@@ -20,7 +20,7 @@ pub fn check_lives(mem: &Mem, process: u16) -> Result<(), Refusal>
     ensures { MatchResult result
         (λ _. is_some (areas_of mem.now.spaces process) ≡ true)
         (λ refusal. (is_some (areas_of mem.now.spaces process) ≡ false)
-            × (refusal ≡ refusals.Refused errors.Esrch)) }
+        × (refusal ≡ refusals.Refused errors.Esrch)) }
 {
     if !mem.spaces.lives(process) {
         return Err(Refusal::Refused(Errno::Esrch));

@@ -1,6 +1,6 @@
 use super::*;
-use av_trace::{Answer, Bytes, Command, Place};
 use av_base::Prot;
+use av_trace::{Answer, Bytes, Command, Place};
 use std::test::Fail;
 
 #[test]

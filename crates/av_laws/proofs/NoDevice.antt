@@ -263,7 +263,7 @@ serves-plain m sp l write k notes none q h =
     let clean : now.cache ≡ [] = ap (λ ns. (after_notes l (ns ++ h.making)).cache) e ∙ plain-cache m k l h.making plain ∙ q.cache in
     let drops = drop_at m write (was_slot (need write l (entry l k))) now k in
     let all : notes ≡ h.making = h.whole ∙ ap (λ ns. ns ++ h.making ++ drops) e
-        ∙ ap (λ ns. h.making ++ ns) (nothing-dropped m write (was_slot (need write l (entry l k))) now k clean) ∙ append-nil h.making in
+    ∙ ap (λ ns. h.making ++ ns) (nothing-dropped m write (was_slot (need write l (entry l k))) now k clean) ∙ append-nil h.making in
     subst (ArePlainAt m k) (sym all) plain
 
 runs_out-nothing : (m : Setting) (sp : Sparing) (l : Ledger) (write : Bool) (k : Key) (notes : List Note) {out : OutOf} → HasNoDevice m → HasNoSlots l → RunsOut m sp l write k notes out → notes ≡ []
@@ -326,7 +326,7 @@ accesses-plain P m w p none each l (page ∷ rest) events end s (inl h) =
     let more = accesses-plain P m w p none each (after_all l here) rest h.1 end s' h.4 in
     record {
       notes = subst (λ es. AllByRecursion P (notes_of es)) (sym h.3) (subst (AllByRecursion P) (sym (notes_of-append here h.1)) (all-append P (notes_of here) (notes_of h.1)
-      (subst (AllByRecursion P) (sym (notes_of-append (note_events h.0) (Used page.0 (p, page.1) ∷ []) ∙ append-nil (notes_of (note_events h.0)) ∙ notes_of-note_events h.0)) (all_at page.1 h.0 t.plain t.mapped)) more.notes));
+          (subst (AllByRecursion P) (sym (notes_of-append (note_events h.0) (Used page.0 (p, page.1) ∷ []) ∙ append-nil (notes_of (note_events h.0)) ∙ notes_of-note_events h.0)) (all_at page.1 h.0 t.plain t.mapped)) more.notes));
       ends = more.ends;
     }
   where

@@ -225,7 +225,6 @@ hint_over-runs = by_steps (machine 4) untouched hint_over ((
   tt,
 ))
 
-
 -- ---- what may not be
 
 abbrev page_in : Answer → ℕ

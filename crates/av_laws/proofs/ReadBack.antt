@@ -246,16 +246,19 @@ follows-fit m w l (Maps p) events answer rows none s small fit out h =
     let high = covered (pages w p) runs h.1.3 (small.below p) in
     fits-by events [] answer (Runs (length (map row_of runs))) rows (map row_of runs) h.2 (h.0 ∙ ap (λ rs. Runs (length rs)) h.1.1) h.1.1
     (few-rows runs h.1.2 high, (refl, refl, runs-wide runs h.1.2 high))
-follows-fit m w l Stat events answer rows none s small fit out h = fits-by events [] answer (Counted (totals m w l)) rows [] h.1 h.0 h.2 (record {
-  frames = frames;
-  free = omega (arith, sums, frames);
-  active = omega (arith, sums, frames);
-  inactive = omega (arith, sums, frames);
-  flight = subst IsWide (sym (ap length (no-slots m l none (in-areas m w l s)).flight)) (omega arith);
-  slots = subst IsWide (sym (ap (sum_by (λ (a : ℕ × SwapArea). a.1.slots)) small.off)) (omega arith);
-  free_slots = subst IsWide (sym (ap (sum_by (free_slots m l)) small.off)) (omega arith);
-  processes = omega (arith, few);
-}, (tt, refl))
+follows-fit m w l Stat events answer rows none s small fit out h = fits-by events [] answer (Counted (totals m w l)) rows [] h.1 h.0 h.2 (
+  record {
+    frames = frames;
+    free = omega (arith, sums, frames);
+    active = omega (arith, sums, frames);
+    inactive = omega (arith, sums, frames);
+    flight = subst IsWide (sym (ap length (no-slots m l none (in-areas m w l s)).flight)) (omega arith);
+    slots = subst IsWide (sym (ap (sum_by (λ (a : ℕ × SwapArea). a.1.slots)) small.off)) (omega arith);
+    free_slots = subst IsWide (sym (ap (sum_by (free_slots m l)) small.off)) (omega arith);
+    processes = omega (arith, few);
+  },
+  (tt, refl),
+)
   where
     frames : m.frames < 2 ^ 64
     frames = small.frames

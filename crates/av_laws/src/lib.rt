@@ -58,27 +58,24 @@ pub use unsound::{
 /// A command that is refused changes neither the memories nor the ledger. An mprotect, which can
 /// stop at a page that isn't mapped, may have changed the protection of the pages before it.
 pub fn refusals_change_nothing()
-    ensures others {
-        (m : Setting) (w : World) (l : Ledger) (command : Command) (reply : Reply)
-            (events : List Event) (error : Errno)
+    ensures others { (m : Setting) (w : World) (l : Ledger) (command : Command) (reply : Reply)
+        (events : List Event) (error : Errno)
         → is_mprotect command ≡ false → IsLegal m w l command reply events
         → reply.answer ≡ Refused error
         → (next_world m w l events command reply.answer ≡ w) × (after_all l events ≡ l) }
-    ensures mprotect {
-        (m : Setting) (w : World) (l : Ledger) (p a len : ℕ) (prot : Prot) (reply : Reply)
-            (events : List Event) (error : Errno)
+    ensures mprotect { (m : Setting) (w : World) (l : Ledger) (p a len : ℕ) (prot : Prot) (reply : Reply)
+        (events : List Event) (error : Errno)
         → IsLegal m w l (Mprotect p a len prot) reply events → reply.answer ≡ Refused error
         → ((next_world m w l events (Mprotect p a len prot) reply.answer ≡ w)
-            ⊎ StopsAtHole w p a len prot error
-            (next_world m w l events (Mprotect p a len prot) reply.answer))
-            × (after_all l events ≡ l) }
+        ⊎ StopsAtHole w p a len prot error
+        (next_world m w l events (Mprotect p a len prot) reply.answer))
+        × (after_all l events ≡ l) }
 {}
 
 /// The three numbers of an out-of-memory are all frames: pinned, not cached, and cached.
 pub fn numbers_add_up()
-    ensures {
-        (m : Setting) (w : World) (l : Ledger) (command : Command) (reply : Reply)
-            (events : List Event) (k : ℕ) (out : OutOf) (shown : List ℕ)
+    ensures { (m : Setting) (w : World) (l : Ledger) (command : Command) (reply : Reply)
+        (events : List Event) (k : ℕ) (out : OutOf) (shown : List ℕ)
         → AllSound m w l → IsLegal m w l command reply events → reply.answer ≡ Oom k out shown
         → out.pinned + out.noslot + out.fault ≡ m.frames }
 {}
@@ -106,8 +103,7 @@ pub fn runs_are_determined()
 
 /// In a run the list of free frames has each free frame of the machine once, and no other number.
 pub fn runs_list_free_frames()
-    ensures {
-        (m : Setting) (exchanges : List Exchange) (new : State) → IsRun m (at_first m) exchanges new
+    ensures { (m : Setting) (exchanges : List Exchange) (new : State) → IsRun m (at_first m) exchanges new
         → ListsFree m new.ledger new.free }
 {}
 
@@ -115,13 +111,12 @@ pub fn runs_list_free_frames()
 pub fn totals_add_up()
     ensures { (m : Setting) (w : World) (l : Ledger) → AllSound m w l
         → (totals m w l).free + (totals m w l).active + (totals m w l).inactive
-            ≡ (totals m w l).frames }
+        ≡ (totals m w l).frames }
 {}
 
 /// The longest runs of a process's pages are one list: `maps` has one answer.
 pub fn maps_has_one_answer()
-    ensures {
-        (q : Process) (rows others : List Row) → AreMaps q rows → AreMaps q others → rows ≡ others }
+    ensures { (q : Process) (rows others : List Row) → AreMaps q rows → AreMaps q others → rows ≡ others }
 {}
 
 /// Where no swap area is attached, a reply has nothing that only a fault of a device explains: no

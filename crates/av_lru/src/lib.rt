@@ -211,7 +211,7 @@ impl Lru {
     pub fn to_inactive_head(&mut self, frame: u32)
         requires { frame < self.old.frames }
         ensures { self.new ≡ record (taken frame self.old) {
-            inactive = frame ∷ (taken frame self.old).inactive
+          inactive = frame ∷ (taken frame self.old).inactive;
         } }
     {
         self.remove(frame);
@@ -223,7 +223,7 @@ impl Lru {
     pub fn to_inactive_tail(&mut self, frame: u32)
         requires { frame < self.old.frames }
         ensures { self.new ≡ record (taken frame self.old) {
-            inactive = (taken frame self.old).inactive ++ frame ∷ []
+          inactive = (taken frame self.old).inactive ++ frame ∷ [];
         } }
     {
         self.remove(frame);

@@ -168,7 +168,7 @@ impl Spaces {
             IsReached (is_taken self.old process) from (from + pages) reached) }
         ensures ok { IfOk result (λ reached. IsChanged self.old self.new process
             (AreThese
-                (pages_changed (to_prot prot) from (reached - from) (pages_of self.old process)))) }
+            (pages_changed (to_prot prot) from (reached - from) (pages_of self.old process)))) }
         ensures mapping { IfOk result (λ reached. IsRemapped from reached (to_prot prot)
             (pages_of self.old process) (pages_of self.new process)) }
     {

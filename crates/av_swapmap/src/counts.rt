@@ -64,9 +64,9 @@ impl Counts {
         requires room { (seen self.old).count page + n < 2 ^ 32 }
         ensures { MatchResult result
             (λ _. seen self.new ≡
-                with_count page ((seen self.old).count page + n) (seen self.old))
+            with_count page ((seen self.old).count page + n) (seen self.old))
             (λ _. ((seen self.old).count page < 63) × (63 ≤ (seen self.old).count page + n)
-                × (seen self.new ≡ seen self.old)) }
+            × (seen self.new ≡ seen self.old)) }
     {
         let count = self.get(page) + n;
         let byte = byte_of(count, self.cached(page));
@@ -162,9 +162,9 @@ fn grow(more: &mut BTreeMap<u32, Further>, page: u32, count: u32) -> Result<(), 
     requires { count < 63 → get nat_cmp more.old page ≡ None }
     ensures { MatchResult result
         (λ _. (q : ℕ) → get nat_cmp more.new q
-            ≡ with_at page (further_of count) (get nat_cmp more.old) q)
+        ≡ with_at page (further_of count) (get nat_cmp more.old) q)
         (λ _. (get nat_cmp more.old page ≡ None) × (63 ≤ count) × ((q : ℕ)
-            → get nat_cmp more.new q ≡ get nat_cmp more.old q)) }
+        → get nat_cmp more.new q ≡ get nat_cmp more.old q)) }
 {
     if count >= FIRST_BASE {
         more.insert(page, further_of(count))?;

@@ -5,17 +5,15 @@ pub returns-in_default : goal.returns-in_default
 returns-in_default c = record {
   count = c.take_zeros.ensures.count;
   step = λ s keeps.
-    let none = rw c.in_default.is at c.in_ok-frame.ensures.taken in
-    new_starved s c.args.mem.now c.take_zeros.new.mem c.args.process c.args.page c.args.notes.now keeps c.take_zeros.ensures.processes c.take_zeros.ensures.count c.requires.permitted c.requires.bare
-    c.out_of.result none.1 none.0 c.out_of.ensures;
+      let none = rw c.in_default.is at c.in_ok-frame.ensures.taken in
+      new_starved s c.args.mem.now c.take_zeros.new.mem c.args.process c.args.page c.args.notes.now keeps c.take_zeros.ensures.processes c.take_zeros.ensures.count c.requires.permitted c.requires.bare
+      c.out_of.result none.1 none.0 c.out_of.ensures;
 }
-
-
 
 pub returns : goal.returns
 returns c = record {
   count = c.take_zeros.ensures.count;
   step = λ s keeps.
-    new_made s c.args.mem.now c.take_zeros.new.mem c.args.process c.args.page c.args.notes.now keeps c.take_zeros.ensures.processes c.take_zeros.ensures.count c.requires.permitted c.requires.bare
-    c.in-Some.frame c.push.new.self c.in_ok-push.ensures.ok (rw c.in-Some.is at c.in_ok-frame.ensures.taken);
+      new_made s c.args.mem.now c.take_zeros.new.mem c.args.process c.args.page c.args.notes.now keeps c.take_zeros.ensures.processes c.take_zeros.ensures.count c.requires.permitted c.requires.bare
+      c.in-Some.frame c.push.new.self c.in_ok-push.ensures.ok (rw c.in-Some.is at c.in_ok-frame.ensures.taken);
 }

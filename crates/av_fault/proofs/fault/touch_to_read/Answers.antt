@@ -14,36 +14,30 @@ make_zero-requires-clause-there c = process_there c.args.mem.now c.args.process 
 pub unreachable-requires : goal.unreachable-requires
 unreachable-requires c = none_away c.args.mem.now c.args.process c.args.page c.in-Away.slot c.requires.steady (sym c.get.ensures ∙ c.in-Away.is)
 
-
-
 pub returns-in-Zero : goal.returns-in-Zero
 returns-in-Zero c = record {
   count = refl;
   step = λ s keeps.
-    zeros_there s c.args.mem.now c.args.mem.now c.args.process c.args.page c.args.notes.now keeps (c.requires.permitted)
-    (sym (keeps.stands.parts.ledger.tables.entries c.args.process c.args.page) ∙ ap (λ e. entry_of (plain e)) (sym c.get.ensures ∙ c.in-Zero.is));
+      zeros_there s c.args.mem.now c.args.mem.now c.args.process c.args.page c.args.notes.now keeps (c.requires.permitted)
+      (sym (keeps.stands.parts.ledger.tables.entries c.args.process c.args.page) ∙ ap (λ e. entry_of (plain e)) (sym c.get.ensures ∙ c.in-Zero.is));
 }
-
-
 
 pub returns-then-seen : goal.returns-then-seen
 returns-then-seen c = record {
   count = refl;
   step = λ s keeps.
-    let h = c.in-Here in
-    seen_there c.args.mem.now s c.args.process c.args.page h.frame false h.write c.args.notes.now keeps (c.requires.permitted)
-    (sym c.get.ensures ∙ h.is ∙ ap (Here h.frame h.write) c.if-seen.true) (λ e. absurd (false≢true e));
+      let h = c.in-Here in
+      seen_there c.args.mem.now s c.args.process c.args.page h.frame false h.write c.args.notes.now keeps (c.requires.permitted)
+      (sym c.get.ensures ∙ h.is ∙ ap (Here h.frame h.write) c.if-seen.true) (λ e. absurd (false≢true e));
 }
-
-
 
 pub returns-else-seen : goal.returns-else-seen
 returns-else-seen c = record {
   count = refl;
   step = λ s keeps.
-    let h = c.in-Here in
-    let old = c.args.mem.now in
-    let is = sym c.get.ensures ∙ h.is in
-    seen_now old (record old { tables = c.change.new.self }) s c.args.process c.args.page h.frame false h.write h.write h.seen c.args.notes.now keeps (c.requires.permitted)
-    is (subst (λ e. entry_at c.change.new.self ≡ with_entry c.args.process c.args.page e (entry_at old.tables)) c.accessed.ensures c.change.ensures.sets) c.change.ensures.processes refl refl (few_by_bit old s c.args.process c.args.page h.frame h.write h.seen keeps is) (λ e. absurd (false≢true e));
+      let h = c.in-Here in
+      let old = c.args.mem.now in
+      let is = sym c.get.ensures ∙ h.is in
+      seen_now old (record old { tables = c.change.new.self }) s c.args.process c.args.page h.frame false h.write h.write h.seen c.args.notes.now keeps (c.requires.permitted)
+      is (subst (λ e. entry_at c.change.new.self ≡ with_entry c.args.process c.args.page e (entry_at old.tables)) c.accessed.ensures c.change.ensures.sets) c.change.ensures.processes refl refl (few_by_bit old s c.args.process c.args.page h.frame h.write h.seen keeps is) (λ e. absurd (false≢true e));
 }

@@ -42,9 +42,9 @@ returns-clause-ok c =
     (λ past. AreThese (pages_changed (to_prot c.args.prot) c.args.from (past - c.args.from) (pages_by (area_of c.self.inside.areas) c.take_tree-tree.result)) (pages_by (area_of c.modify-result.new.areas) c.modify-result.new.tree))
     (λ past. IsChanged c.args.self.now (spaces_by (area_of c.modify-result.new.areas) c.put_tree.new.trees.items) c.args.process (AreThese (pages_changed (to_prot c.args.prot) c.args.from (past - c.args.from) (pages_of c.args.self.now c.args.process))))
     (λ past pages. subst (λ (ts : Trees). IsChanged c.args.self.now (spaces_by (area_of c.modify-result.new.areas) ts) c.args.process (AreThese (pages_changed (to_prot c.args.prot) c.args.from (past - c.args.from) (pages_of c.args.self.now c.args.process))))
-        (sym (c.put_tree.ensures ∙ ap (λ (ts : Trees). slice_set ts c.args.process (Some c.modify-result.new.tree)) c.take_tree-tree.ensures.trees))
-        (changes (area_of c.self.inside.areas) (area_of c.modify-result.new.areas) c.self.inside.trees.items c.args.process c.take_tree-tree.result c.modify-result.new.tree c.self.invariant.trees c.take_tree-tree.ensures.tree (c.modify-result.ensures.stands c.args.process) c.args.self.now c.self.view_is
-        (λ on. AreThese (pages_changed (to_prot c.args.prot) c.args.from (past - c.args.from) on)) pages)) c.modify-result.ensures.pages
+    (sym (c.put_tree.ensures ∙ ap (λ (ts : Trees). slice_set ts c.args.process (Some c.modify-result.new.tree)) c.take_tree-tree.ensures.trees))
+    (changes (area_of c.self.inside.areas) (area_of c.modify-result.new.areas) c.self.inside.trees.items c.args.process c.take_tree-tree.result c.modify-result.new.tree c.self.invariant.trees c.take_tree-tree.ensures.tree (c.modify-result.ensures.stands c.args.process) c.args.self.now c.self.view_is
+    (λ on. AreThese (pages_changed (to_prot c.args.prot) c.args.from (past - c.args.from) on)) pages)) c.modify-result.ensures.pages
 
 pub returns-clause-mapping : goal.returns-clause-mapping
 returns-clause-mapping c =
@@ -52,6 +52,6 @@ returns-clause-mapping c =
     (λ past. IsRemapped c.args.from past (to_prot c.args.prot) (pages_by (area_of c.self.inside.areas) c.take_tree-tree.result) (pages_by (area_of c.modify-result.new.areas) c.modify-result.new.tree))
     (λ past. IsRemapped c.args.from past (to_prot c.args.prot) (pages_of c.args.self.now c.args.process) (pages_of (spaces_by (area_of c.modify-result.new.areas) c.put_tree.new.trees.items) c.args.process))
     (λ past mapping. subst (λ (ts : Trees). IsRemapped c.args.from past (to_prot c.args.prot) (pages_of c.args.self.now c.args.process) (pages_of (spaces_by (area_of c.modify-result.new.areas) ts) c.args.process))
-        (sym (c.put_tree.ensures ∙ ap (λ (ts : Trees). slice_set ts c.args.process (Some c.modify-result.new.tree)) c.take_tree-tree.ensures.trees))
-        (changes (area_of c.self.inside.areas) (area_of c.modify-result.new.areas) c.self.inside.trees.items c.args.process c.take_tree-tree.result c.modify-result.new.tree c.self.invariant.trees c.take_tree-tree.ensures.tree (c.modify-result.ensures.stands c.args.process) c.args.self.now c.self.view_is
-        (IsRemapped c.args.from past (to_prot c.args.prot)) mapping).pages) c.modify-result.ensures.mapping
+    (sym (c.put_tree.ensures ∙ ap (λ (ts : Trees). slice_set ts c.args.process (Some c.modify-result.new.tree)) c.take_tree-tree.ensures.trees))
+    (changes (area_of c.self.inside.areas) (area_of c.modify-result.new.areas) c.self.inside.trees.items c.args.process c.take_tree-tree.result c.modify-result.new.tree c.self.invariant.trees c.take_tree-tree.ensures.tree (c.modify-result.ensures.stands c.args.process) c.args.self.now c.self.view_is
+    (IsRemapped c.args.from past (to_prot c.args.prot)) mapping).pages) c.modify-result.ensures.mapping
