@@ -15,3 +15,4 @@ pub mod PairExamples
 pub mod UnsoundExamples
 pub mod NoDevice
 pub mod ReadBack
+pub mod NeedsFrame

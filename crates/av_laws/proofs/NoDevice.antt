@@ -54,7 +54,7 @@ pub record HasNoSlots (l : Ledger) : Type 0 where
   pub flight : l.flight ≡ []
   pub entries : (s : Slot) → slot_entries l s ≡ 0
 
-never : ◌≡◌ {A = Bool} false true → ⊥
+pub never : ◌≡◌ {A = Bool} false true → ⊥
 never e = cc
 
 -- ---- no slot is there

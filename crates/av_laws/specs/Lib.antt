@@ -4,3 +4,4 @@ pub mod Pairs
 pub mod Unsound
 pub mod NoDevice
 pub mod ReadBack
+pub mod NeedsFrame

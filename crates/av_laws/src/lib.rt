@@ -11,7 +11,7 @@ mod unsound;
 ghost use Rattle.std.specs.Prelude.{◌≡◌, ◌⊎◌, ℕ, ◌+◌, false, List, []};
 ghost use Rattle.av_base.specs.declared.prot.Prot.{Prot};
 ghost use Rattle.av_trace.specs.declared.command.Command.{Command};
-ghost use Rattle.av_trace.specs.declared.command.Command.TheVariants.{Mprotect};
+ghost use Rattle.av_trace.specs.declared.command.Command.TheVariants.{Mprotect, Read};
 ghost use Rattle.av_trace.specs.declared.reply.Errno.{Errno};
 ghost use Rattle.av_trace.specs.declared.reply.OutOf.{OutOf};
 ghost use Rattle.av_trace.specs.declared.reply.Answer.TheVariants.{Refused, Oom};
@@ -30,6 +30,7 @@ ghost use Rattle.av_plain.specs.Choice.{ListsFree};
 ghost use Rattle.av_plain.specs.Step.{causes};
 ghost use Rattle.av_trace.specs.Command.{IsCommand};
 ghost use Rattle.av_trace.specs.Reply.{IsReply};
+ghost use Rattle.av_laws.specs.NeedsFrame.{NoneWantsFrame};
 ghost use Rattle.av_laws.specs.NoDevice.{HasNoDevice};
 ghost use Rattle.av_laws.specs.ReadBack.{IsSmall};
 ghost use Rattle.av_laws.specs.Determined.{
@@ -138,4 +139,11 @@ pub fn replies_are_read_back()
     ensures { (m : Setting) (w : World) (l : Ledger) (command : Command) (reply : Reply)
         (events : List Event) → HasNoDevice m → AllSound m w l → IsSmall m w l
         → IsCommand command → IsLegal m w l command reply events → IsReply reply }
+{}
+
+/// A read whose pages need no frame, none of them being on the device alone, is never out of memory.
+pub fn reads_in_memory_are_served()
+    ensures { (m : Setting) (w : World) (l : Ledger) (p a n : ℕ) (reply : Reply)
+        (events : List Event) (k : ℕ) (out : OutOf) (shown : List ℕ) → NoneWantsFrame l p a n
+        → IsLegal m w l (Read p a n) reply events → reply.answer ≡ Oom k out shown → ⊥ }
 {}
