@@ -16,3 +16,4 @@ pub mod UnsoundExamples
 pub mod NoDevice
 pub mod ReadBack
 pub mod NeedsFrame
+pub mod ViewExamples

@@ -5,3 +5,4 @@ pub mod Unsound
 pub mod NoDevice
 pub mod ReadBack
 pub mod NeedsFrame
+pub mod Views
