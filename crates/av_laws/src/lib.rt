@@ -56,7 +56,7 @@ pub use pairs::{
 pub use unsound::{
     changed_ledgers_are_unsound, changed_memories_are_unsound, entries_of_one_memory_are_unsound,
 };
-pub use views::changed_views_do_not_stand;
+pub use views::{changed_views_do_not_stand, the_right_view_stands};
 
 /// A command that is refused changes neither the memories nor the ledger. An mprotect, which can
 /// stop at a page that isn't mapped, may have changed the protection of the pages before it.

@@ -1,7 +1,15 @@
 //! Views of a kernel that don't stand for a state.
 
 ghost use Rattle.std.specs.Prelude.{[], ◌∷◌, true, false, Some, None};
-ghost use Rattle.av_laws.specs.Views.{Refused, range, right, view_with};
+ghost use Rattle.av_plain.specs.Device.{no_device};
+ghost use Rattle.av_plain.specs.Stands.{Stands};
+ghost use Rattle.av_laws.specs.Examples.{machine};
+ghost use Rattle.av_laws.specs.Views.{Refused, forked, range, right, view_with};
+
+/// The right view stands for the state after a fork.
+pub fn the_right_view_stands()
+    ensures { Stands (machine 4) right no_device forked }
+{}
 
 /// After a fork, a view stands for the state only where it has the bytes of the shared frame, no
 /// write bit over it, all entries and counts, the free frames in their order, no other active ones,
