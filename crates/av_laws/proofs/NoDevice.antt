@@ -1,7 +1,7 @@
 -- Without a device no slot is in use: a page has at most one note, and is never lost.
 use Rattle.std.specs.List.{AllByRecursion}
 use Rattle.std.specs.Prelude.{MatchBool, MatchOption, IsTrue, unwrap_or}
-use Rattle.std.proofs.Common.{◌≡◌, ◌⊎◌, inl, inr, ℕ, zero, suc, ◌+◌, ◌<◌, ◌≤◌, Bool, true, false, cond, not, ◌&&◌, List, [], ◌∷◌, ◌++◌, Option, Some, None, is_some, refl, sym, ap, subst, ◌∙◌, arith, ◌==◌, nat_lt, append-nil}
+use Rattle.std.proofs.Common.{◌≡◌, ◌⊎◌, inl, inr, ℕ, zero, suc, ◌+◌, ◌<◌, Bool, true, false, cond, ◌&&◌, List, [], ◌∷◌, ◌++◌, Option, Some, None, is_some, refl, sym, ap, subst, ◌∙◌, arith, ◌==◌, nat_lt, append-nil}
 use Rattle.std.proofs.lemmas.Bool.Decides.{nat_tests}
 use Rattle.av_base.specs.Page.{address_of}
 use Rattle.av_base.specs.Words.{how_many}
@@ -10,10 +10,10 @@ use Rattle.av_trace.specs.declared.note.Note.{Note}
 use Rattle.av_trace.specs.declared.reply.OutOf.{OutOf}
 use Rattle.av_trace.specs.declared.note.Note.TheVariants.{Aged, Copied, Dropped, Failed, Kept, Loaded, Mapped, New, Put, Started, Unmapped, Written, Zeroed}
 use Rattle.av_plain.specs.World.{Page, World, pages}
-use Rattle.av_plain.specs.Ledger.{has_free_slot, is_open, slot_count, Cached, Entry, InFrame, InSlot, Key, Ledger, Setting, Zero, entry, frame_at, has_free, in_flight, is_on, is_usable, may_give, names_slot, same_slot, size_of, slot_entries, slot_of}
+use Rattle.av_plain.specs.Ledger.{has_free_slot, is_open, slot_count, Cached, Entry, InFrame, InSlot, Key, Ledger, Setting, Zero, entry, has_free, is_on, is_usable, may_give, names_slot, same_slot, size_of, slot_entries, slot_of}
 use Rattle.av_plain.specs.Event.{Event, Used, after_all, after_note, after_notes, note_events, notes_of}
 use Rattle.av_plain.specs.Pass.{Completes, IsPass, IsSlotFor, Seeks, Spared, Turns, frames_in_turn, is_stuck, stays_cached, turn_notes}
-use Rattle.av_plain.specs.Fault.{drop_of_slot, ComesIn, CopyOnWrite, Denied, IsLost, IsMade, Lost, MapCached, Need, NewPage, Ready, RunsOut, Serves, Sparing, Starved, Stop, SwapIn, Takes, Touches, ZeroPage, drop_at, drop_of_entry, is_allowed, is_shared, need, need_of_slot, permits, sparing, was_slot}
+use Rattle.av_plain.specs.Fault.{drop_of_slot, ComesIn, CopyOnWrite, Denied, IsMade, Lost, MapCached, Need, NewPage, Ready, RunsOut, Serves, Sparing, Starved, Stop, SwapIn, Touches, ZeroPage, drop_at, drop_of_entry, is_shared, need, permits, sparing, was_slot}
 use Rattle.av_plain.specs.Access.{Accesses, End, Stopped, Whole, page_events}
 use Rattle.av_plain.specs.Sound.{count, flights, is_there, slots}
 use Rattle.av_plain.proofs.Ledger.{how_many-found}
@@ -263,7 +263,7 @@ serves-plain m sp l write k notes none q h =
     let clean : now.cache ≡ [] = ap (λ ns. (after_notes l (ns ++ h.making)).cache) e ∙ plain-cache m k l h.making plain ∙ q.cache in
     let drops = drop_at m write (was_slot (need write l (entry l k))) now k in
     let all : notes ≡ h.making = h.whole ∙ ap (λ ns. ns ++ h.making ++ drops) e
-        ∙ ap (λ ns. h.making ++ ns) (nothing-dropped m write (was_slot (need write l (entry l k))) now k clean) ∙ append-nil h.making in
+    ∙ ap (λ ns. h.making ++ ns) (nothing-dropped m write (was_slot (need write l (entry l k))) now k clean) ∙ append-nil h.making in
     subst (ArePlainAt m k) (sym all) plain
 
 runs_out-nothing : (m : Setting) (sp : Sparing) (l : Ledger) (write : Bool) (k : Key) (notes : List Note) {out : OutOf} → HasNoDevice m → HasNoSlots l → RunsOut m sp l write k notes out → notes ≡ []
@@ -326,7 +326,7 @@ accesses-plain P m w p none each l (page ∷ rest) events end s (inl h) =
     let more = accesses-plain P m w p none each (after_all l here) rest h.1 end s' h.4 in
     record {
       notes = subst (λ es. AllByRecursion P (notes_of es)) (sym h.3) (subst (AllByRecursion P) (sym (notes_of-append here h.1)) (all-append P (notes_of here) (notes_of h.1)
-      (subst (AllByRecursion P) (sym (notes_of-append (note_events h.0) (Used page.0 (p, page.1) ∷ []) ∙ append-nil (notes_of (note_events h.0)) ∙ notes_of-note_events h.0)) (all_at page.1 h.0 t.plain t.mapped)) more.notes));
+          (subst (AllByRecursion P) (sym (notes_of-append (note_events h.0) (Used page.0 (p, page.1) ∷ []) ∙ append-nil (notes_of (note_events h.0)) ∙ notes_of-note_events h.0)) (all_at page.1 h.0 t.plain t.mapped)) more.notes));
       ends = more.ends;
     }
   where

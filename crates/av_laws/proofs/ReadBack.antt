@@ -1,12 +1,11 @@
 -- The numbers of a legal reply are of 64 bits, and its bytes below 256.
 use Rattle.std.specs.List.{AllByRecursion}
-use Rattle.std.specs.Prelude.{MatchBool, MatchOption, IsTrue, IfSome, sum_by}
-use Rattle.std.proofs.Common.{◌≡◌, ◌⊎◌, inl, inr, ℕ, zero, suc, ◌+◌, ◌-◌, ◌*◌, ◌/◌, ◌%◌, ◌^◌, ◌<◌, ◌≤◌, Bool, true, false, cond, not, ◌&&◌, List, [], ◌∷◌, ◌++◌, map, length, Option, Some, None, is_some, option_map, refl, sym, ap, subst, ◌∙◌, arith, ◌==◌, nat_lt, nat_le, if◌then◌else◌}
+use Rattle.std.specs.Prelude.{MatchBool, MatchOption, sum_by}
+use Rattle.std.proofs.Common.{◌≡◌, inl, inr, ℕ, zero, suc, ◌+◌, ◌-◌, ◌^◌, ◌<◌, ◌≤◌, Bool, true, false, cond, ◌&&◌, List, [], ◌∷◌, map, length, Option, Some, None, is_some, option_map, refl, sym, ap, subst, ◌∙◌, arith, ◌==◌, nat_lt, nat_le, if◌then◌else◌}
 use Rattle.std.proofs.lemmas.Bool.Decides.{nat_tests}
-use Rattle.av_base.specs.Limits.{low_page, top_page}
+use Rattle.av_base.specs.Limits.{top_page}
 use Rattle.av_base.specs.Page.{address_of, page_of, pages_of, page_size, place_in_page}
 use Rattle.av_base.specs.Words.{numbers}
-use Rattle.av_base.specs.declared.prot.Prot.{Prot}
 use Rattle.av_vma.specs.Gap.{IsGap}
 use Rattle.av_trace.specs.declared.command.Command.{Command}
 use Rattle.av_trace.specs.declared.command.Command.TheVariants.{Spawn, Exit, Mmap, Munmap, Mprotect, Read, Write, Maps, Stat}
@@ -20,7 +19,7 @@ use Rattle.av_trace.specs.declared.reply.OutOf.{OutOf}
 use Rattle.av_trace.specs.declared.reply.Reply.{Reply}
 use Rattle.av_trace.specs.declared.row.Row.{Row}
 use Rattle.av_trace.specs.declared.reply.Answer.{Answer}
-use Rattle.av_trace.specs.declared.reply.Answer.TheVariants.{Done, MapAt, Data, Refused, Oom, Runs, Counted}
+use Rattle.av_trace.specs.declared.reply.Answer.TheVariants.{Done, MapAt, Refused, Oom, Runs, Counted}
 use Rattle.av_trace.specs.Command.{IsCommand}
 use Rattle.av_trace.specs.Note.{IsNote}
 use Rattle.av_trace.specs.Number.{IsWide}
@@ -42,7 +41,7 @@ use Rattle.av_plain.specs.Zap.{keys_in, keys_of_process, zaps_of}
 use Rattle.av_plain.proofs.Report.Totals.{frames-add}
 use Rattle.av_laws.specs.NoDevice.{HasNoDevice}
 use Rattle.av_laws.specs.ReadBack.{IsSmall}
-use Rattle.av_laws.proofs.NoDevice.{HasNoSlots, IsPlainAt, accesses-plain, in-areas, no-slots, no-zap-notes}
+use Rattle.av_laws.proofs.NoDevice.{IsPlainAt, accesses-plain, in-areas, no-slots, no-zap-notes}
 use Rattle.av_laws.proofs.OutOfMemory.{legal-adds}
 
 -- what a reply has beside its notes
@@ -246,16 +245,19 @@ follows-fit m w l (Maps p) events answer rows none s small fit out h =
     let high = covered (pages w p) runs h.1.3 (small.below p) in
     fits-by events [] answer (Runs (length (map row_of runs))) rows (map row_of runs) h.2 (h.0 ∙ ap (λ rs. Runs (length rs)) h.1.1) h.1.1
     (few-rows runs h.1.2 high, (refl, refl, runs-wide runs h.1.2 high))
-follows-fit m w l Stat events answer rows none s small fit out h = fits-by events [] answer (Counted (totals m w l)) rows [] h.1 h.0 h.2 (record {
-  frames = frames;
-  free = omega (arith, sums, frames);
-  active = omega (arith, sums, frames);
-  inactive = omega (arith, sums, frames);
-  flight = subst IsWide (sym (ap length (no-slots m l none (in-areas m w l s)).flight)) (omega arith);
-  slots = subst IsWide (sym (ap (sum_by (λ (a : ℕ × SwapArea). a.1.slots)) small.off)) (omega arith);
-  free_slots = subst IsWide (sym (ap (sum_by (free_slots m l)) small.off)) (omega arith);
-  processes = omega (arith, few);
-}, (tt, refl))
+follows-fit m w l Stat events answer rows none s small fit out h = fits-by events [] answer (Counted (totals m w l)) rows [] h.1 h.0 h.2 (
+  record {
+    frames = frames;
+    free = omega (arith, sums, frames);
+    active = omega (arith, sums, frames);
+    inactive = omega (arith, sums, frames);
+    flight = subst IsWide (sym (ap length (no-slots m l none (in-areas m w l s)).flight)) (omega arith);
+    slots = subst IsWide (sym (ap (sum_by (λ (a : ℕ × SwapArea). a.1.slots)) small.off)) (omega arith);
+    free_slots = subst IsWide (sym (ap (sum_by (free_slots m l)) small.off)) (omega arith);
+    processes = omega (arith, few);
+  },
+  (tt, refl),
+)
   where
     frames : m.frames < 2 ^ 64
     frames = small.frames

@@ -1,5 +1,4 @@
 -- Views that don't stand for a state.
-use Rattle.std.specs.FinMap.Entries.{is_sorted}
 use Rattle.std.specs.Ordering.{nat_cmp, eq_by_cmp}
 use Rattle.std.specs.Prelude.{IfSome, cond, zero, suc, ◌+◌, ◌<◌, ◌==◌, ◌&&◌, ◌||◌, min, nat_le, nat_lt, if◌then◌else◌, Option, option_map, option_and_then}
 use Rattle.std.proofs.Common.{subst, ◌∙◌}

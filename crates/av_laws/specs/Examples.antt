@@ -150,10 +150,10 @@ one_frame =
     says (Spawn 1) Done []
     ∷ says (Mmap 1 8192 read_write Auto) (MapAt 0x7fffffffd000) []
     ∷ says (Write 1 0x7fffffffdfff (0xaa ∷ 0xbb ∷ []))
-        (Oom 1 (record { pinned = 0; noslot = 1; fault = 0 }) []) (New 1 0x7fffffffd000 0 ∷ [])
+    (Oom 1 (record { pinned = 0; noslot = 1; fault = 0 }) []) (New 1 0x7fffffffd000 0 ∷ [])
     ∷ says (Read 1 0x7fffffffdfff 2) (Data (0xaa ∷ 0 ∷ [])) (Zeroed 1 0x7fffffffe000 ∷ [])
     ∷ says (Write 1 0x7fffffffe000 (1 ∷ []))
-        (Oom 0 (record { pinned = 0; noslot = 1; fault = 0 }) []) [] ∷ []
+    (Oom 0 (record { pinned = 0; noslot = 1; fault = 0 }) []) [] ∷ []
 
 -- a second mapping goes below the first. A write over both stops where it isn't allowed, and what
 -- came before stays
@@ -241,10 +241,10 @@ exit_and_again =
     ∷ says (Mmap 1 8192 read_write Auto) (MapAt 0x7fffffffd000) []
     ∷ says (Mmap 2 8192 read_write Auto) (MapAt 0x7fffffffd000) []
     ∷ says (Write 1 0x7fffffffdfff (1 ∷ 2 ∷ [])) Done
-        (New 1 0x7fffffffd000 0 ∷ New 1 0x7fffffffe000 1 ∷ [])
+    (New 1 0x7fffffffd000 0 ∷ New 1 0x7fffffffe000 1 ∷ [])
     ∷ says (Exit 1) Done []
     ∷ says (Write 2 0x7fffffffdfff (3 ∷ 4 ∷ [])) Done
-        (New 2 0x7fffffffd000 1 ∷ New 2 0x7fffffffe000 0 ∷ [])
+    (New 2 0x7fffffffd000 1 ∷ New 2 0x7fffffffe000 0 ∷ [])
     ∷ says Stat (Counted (numbers_of 4 2 0 2 1)) [] ∷ []
 
 -- a run ends where the protection changes, and goes on where a further mapping has the same
@@ -254,12 +254,12 @@ two_runs =
     ∷ says (Mmap 1 4096 read_only Auto) (MapAt 0x7fffffffe000) []
     ∷ says (Mmap 1 8192 read_write Auto) (MapAt 0x7fffffffc000) []
     ∷ reports (Maps 1) (RunCount 2)
-        (Run 0x7fffffffc000 0x7fffffffe000 read_write ∷ Run 0x7fffffffe000 0x7ffffffff000 read_only
-        ∷ [])
+    (Run 0x7fffffffc000 0x7fffffffe000 read_write ∷ Run 0x7fffffffe000 0x7ffffffff000 read_only
+    ∷ [])
     ∷ says (Mmap 1 4096 read_write Auto) (MapAt 0x7fffffffb000) []
     ∷ reports (Maps 1) (RunCount 2)
-        (Run 0x7fffffffb000 0x7fffffffe000 read_write ∷ Run 0x7fffffffe000 0x7ffffffff000 read_only
-        ∷ []) ∷ []
+    (Run 0x7fffffffb000 0x7fffffffe000 read_write ∷ Run 0x7fffffffe000 0x7ffffffff000 read_only
+    ∷ []) ∷ []
 
 -- part of a mapping is protected: a write stops there, and what came before stays
 abbrev pub protected_part : List Exchange
@@ -270,8 +270,8 @@ protected_part =
     ∷ says (Write 1 0x7fffffffdffe (1 ∷ 2 ∷ 3 ∷ 4 ∷ [])) (Segv 2 []) (New 1 0x7fffffffd000 0 ∷ [])
     ∷ says (Read 1 0x7fffffffdffe 4) (Data (1 ∷ 2 ∷ 0 ∷ 0 ∷ [])) (Zeroed 1 0x7fffffffe000 ∷ [])
     ∷ reports (Maps 1) (RunCount 2)
-        (Run 0x7fffffffd000 0x7fffffffe000 read_write ∷ Run 0x7fffffffe000 0x7ffffffff000 read_only
-        ∷ []) ∷ []
+    (Run 0x7fffffffd000 0x7fffffffe000 read_write ∷ Run 0x7fffffffe000 0x7ffffffff000 read_only
+    ∷ []) ∷ []
 
 -- a page in the middle is unmapped. The pages before it are protected and those after it aren't: a
 -- write there is answered so. Where the last page, rounded up, ends at 2^64 nothing is protected
@@ -282,8 +282,8 @@ past_a_hole answer notes =
     ∷ says (Munmap 1 0x7fffffffd000 4096) Done []
     ∷ says (Mprotect 1 0x7fffffffc000 12288 read_only) (Refused Enomem) []
     ∷ reports (Maps 1) (RunCount 2)
-        (Run 0x7fffffffc000 0x7fffffffd000 read_only ∷ Run 0x7fffffffe000 0x7ffffffff000 read_write
-        ∷ [])
+    (Run 0x7fffffffc000 0x7fffffffd000 read_only ∷ Run 0x7fffffffe000 0x7ffffffff000 read_write
+    ∷ [])
     ∷ says (Write 1 0x7fffffffe000 (1 ∷ [])) answer notes
     ∷ says (Mprotect 1 0x7fffffffc000 18446603336221208577 read_write) (Refused Enomem) []
     ∷ says (Write 1 0x7fffffffc000 (1 ∷ [])) (Segv 0 []) []
@@ -394,7 +394,7 @@ copies =
 abbrev pub no_copy : List Exchange
 no_copy =
     says (Write 2 0x7fffffffe000 (6 ∷ [])) (Oom 0 (record { pinned = 1; noslot = 0; fault = 0 }) [])
-        []
+    []
     ∷ says (Read 1 0x7fffffffe000 1) (Data (7 ∷ [])) []
     ∷ says (Read 2 0x7fffffffe000 1) (Data (7 ∷ [])) [] ∷ []
 
@@ -436,7 +436,7 @@ abbrev pub loads : List Exchange
 loads =
     says (Read 1 0x7fffffffe000 1) (Bus 0 []) []
     ∷ says (Read 1 0x7fffffffe000 1) (Data (7 ∷ []))
-        (Loaded (slot 1) 0 ∷ Mapped 1 0x7fffffffe000 0 ∷ [])
+    (Loaded (slot 1) 0 ∷ Mapped 1 0x7fffffffe000 0 ∷ [])
     ∷ says (Read 1 0x7fffffffe000 1) (Data (7 ∷ [])) []
     ∷ says (Write 1 0x7fffffffe000 (8 ∷ [])) Done (Dropped (slot 1) ∷ [])
     ∷ says (Read 1 0x7fffffffe000 1) (Data (8 ∷ [])) [] ∷ []
@@ -445,7 +445,7 @@ loads =
 abbrev pub load_to_write : List Exchange
 load_to_write =
     says (Write 1 0x7fffffffe000 (8 ∷ [])) Done
-        (Loaded (slot 1) 0 ∷ Mapped 1 0x7fffffffe000 0 ∷ Dropped (slot 1) ∷ [])
+    (Loaded (slot 1) 0 ∷ Mapped 1 0x7fffffffe000 0 ∷ Dropped (slot 1) ∷ [])
     ∷ says (Write 1 0x7fffffffe001 (9 ∷ [])) Done []
     ∷ says (Read 1 0x7fffffffe000 2) (Data (8 ∷ 9 ∷ [])) [] ∷ []
 
@@ -535,14 +535,14 @@ slot_shared free = record {
 abbrev pub load_and_copy : List Exchange
 load_and_copy =
     says (Write 2 0x7fffffffe000 (2 ∷ [])) Done
-        (Loaded (slot 1) 0 ∷ Mapped 2 0x7fffffffe000 0 ∷ Copied 2 0x7fffffffe000 1 ∷ [])
+    (Loaded (slot 1) 0 ∷ Mapped 2 0x7fffffffe000 0 ∷ Copied 2 0x7fffffffe000 1 ∷ [])
     ∷ says (Read 1 0x7fffffffe000 1) (Data (7 ∷ [])) (Mapped 1 0x7fffffffe000 0 ∷ []) ∷ []
 
 -- with one frame the load has it, and the copy has none
 abbrev pub load_without_copy : List Exchange
 load_without_copy =
     says (Write 2 0x7fffffffe000 (2 ∷ [])) (Oom 0 (record { pinned = 1; noslot = 0; fault = 0 }) [])
-        (Loaded (slot 1) 0 ∷ Mapped 2 0x7fffffffe000 0 ∷ [])
+    (Loaded (slot 1) 0 ∷ Mapped 2 0x7fffffffe000 0 ∷ [])
     ∷ says (Read 2 0x7fffffffe000 1) (Data (7 ∷ [])) [] ∷ []
 
 -- a machine whose device doesn't tell its pages
@@ -553,7 +553,7 @@ untold = record { frames = 4; sizes = λ k. if k == 0 then Some 8 else None; hea
 abbrev pub load_unclaimed : List Exchange
 load_unclaimed =
     says (Read 1 0x7fffffffe000 1) (Data (0x63 ∷ []))
-        (Loaded (slot 1) 0 ∷ Mapped 1 0x7fffffffe000 0 ∷ [])
+    (Loaded (slot 1) 0 ∷ Mapped 1 0x7fffffffe000 0 ∷ [])
     ∷ says (Read 1 0x7fffffffe000 1) (Data (0x2a ∷ [])) []
     ∷ says (Write 1 0x7fffffffe000 (8 ∷ [])) Done (Dropped (slot 1) ∷ [])
     ∷ says (Read 1 0x7fffffffe000 2) (Data (8 ∷ 0x11 ∷ [])) [] ∷ []
@@ -668,24 +668,45 @@ out_and_back =
     ∷ (Noted (Aged 5), ledger_with (InFrame 5 false) [] [] [] (5 ∷ 6 ∷ []))
     ∷ (Noted (Put 5 (slot 1)), ledger_with (InFrame 5 false) (cached 5 true) [] [] (5 ∷ 6 ∷ []))
     ∷ (Noted (Unmapped 5), ledger_with (InSlot (slot 1)) (cached 5 true) [] [] (5 ∷ 6 ∷ []))
-    ∷ (Noted (Started (slot 1)), ledger_with (InSlot (slot 1)) (cached 5 false) (slot 1 ∷ []) []
-        (5 ∷ 6 ∷ []))
-    ∷ (Noted (Kept 5 WriteStarted), ledger_with (InSlot (slot 1)) (cached 5 false) (slot 1 ∷ []) []
-        (5 ∷ 6 ∷ []))
+    ∷ (
+      Noted (Started (slot 1)),
+      ledger_with (InSlot (slot 1)) (cached 5 false) (slot 1 ∷ []) []
+          (5 ∷ 6 ∷ []),
+    )
+    ∷ (
+      Noted (Kept 5 WriteStarted),
+      ledger_with (InSlot (slot 1)) (cached 5 false) (slot 1 ∷ []) []
+          (5 ∷ 6 ∷ []),
+    )
     ∷ (Noted (Failed (slot 1)), ledger_with (InSlot (slot 1)) (cached 5 true) [] [] (5 ∷ 6 ∷ []))
-    ∷ (Noted (Started (slot 1)), ledger_with (InSlot (slot 1)) (cached 5 false) (slot 1 ∷ []) []
-        (5 ∷ 6 ∷ []))
-    ∷ (Noted (Kept 6 Writeback), ledger_with (InSlot (slot 1)) (cached 5 false) (slot 1 ∷ []) []
-        (6 ∷ 5 ∷ []))
-    ∷ (Noted (Kept 5 Writeback), ledger_with (InSlot (slot 1)) (cached 5 false) (slot 1 ∷ []) []
-        (5 ∷ 6 ∷ []))
+    ∷ (
+      Noted (Started (slot 1)),
+      ledger_with (InSlot (slot 1)) (cached 5 false) (slot 1 ∷ []) []
+          (5 ∷ 6 ∷ []),
+    )
+    ∷ (
+      Noted (Kept 6 Writeback),
+      ledger_with (InSlot (slot 1)) (cached 5 false) (slot 1 ∷ []) []
+          (6 ∷ 5 ∷ []),
+    )
+    ∷ (
+      Noted (Kept 5 Writeback),
+      ledger_with (InSlot (slot 1)) (cached 5 false) (slot 1 ∷ []) []
+          (5 ∷ 6 ∷ []),
+    )
     ∷ (Noted (Written (slot 1)), ledger_with (InSlot (slot 1)) (cached 5 false) [] [] (6 ∷ 5 ∷ []))
     ∷ (Noted (Dropped (slot 1)), ledger_with (InSlot (slot 1)) [] [] [] (6 ∷ []))
     ∷ (Noted (Loaded (slot 1) 7), ledger_with (InSlot (slot 1)) (cached 7 false) [] [] (7 ∷ 6 ∷ []))
-    ∷ (Noted (Mapped 1 0x7fffffffe000 7), ledger_with (InFrame 7 false) (cached 7 false) [] []
-        (7 ∷ 6 ∷ []))
-    ∷ (Used false (1, 0x7fffffffe), ledger_with (InFrame 7 true) (cached 7 false) [] []
-        (7 ∷ 6 ∷ []))
+    ∷ (
+      Noted (Mapped 1 0x7fffffffe000 7),
+      ledger_with (InFrame 7 false) (cached 7 false) [] []
+          (7 ∷ 6 ∷ []),
+    )
+    ∷ (
+      Used false (1, 0x7fffffffe),
+      ledger_with (InFrame 7 true) (cached 7 false) [] []
+          (7 ∷ 6 ∷ []),
+    )
     ∷ (Used true (1, 0x7fffffffe), ledger_with (InFrame 7 true) (cached 7 true) [] [] (7 ∷ 6 ∷ []))
     ∷ (Noted (Kept 7 NoSlot), ledger_with (InFrame 7 true) (cached 7 true) [] (7 ∷ []) (6 ∷ []))
     ∷ (Noted (Dropped (slot 1)), ledger_with (InFrame 7 true) [] [] (7 ∷ []) (6 ∷ []))
@@ -696,26 +717,59 @@ abbrev pub copied_and_gone : List (Event × Ledger)
 copied_and_gone =
     (Noted (Zeroed 1 0x10000), record first_ledger { entries = ((1, 0x10), Zero) ∷ [] })
     ∷ (Used false (1, 0x10), record first_ledger { entries = ((1, 0x10), Zero) ∷ [] })
-    ∷ (Noted (New 1 0x10000 2), record
-        first_ledger { entries = ((1, 0x10), InFrame 2 false) ∷ []; inactive = 2 ∷ [] })
-    ∷ (Used false (1, 0x10), record
-        first_ledger { entries = ((1, 0x10), InFrame 2 true) ∷ []; inactive = 2 ∷ [] })
-    ∷ (Forked 1 4 (record { page = 0x10; as_zeros = false } ∷ []), record
-        first_ledger { entries = ((1, 0x10), InFrame 2 true) ∷ ((4, 0x10), InFrame 2 false) ∷ [];
-        inactive = 2 ∷ [] })
-    ∷ (Noted (Copied 1 0x10000 3), record
-        first_ledger { entries = ((1, 0x10), InFrame 3 false) ∷ ((4, 0x10), InFrame 2 false) ∷ [];
-        inactive = 3 ∷ 2 ∷ [] })
-    ∷ (Moved 4 1 0x10 0x20, record
-        first_ledger { entries = ((1, 0x10), InFrame 3 false) ∷ ((4, 0x20), InFrame 2 false) ∷ [];
-        inactive = 3 ∷ 2 ∷ [] })
-    ∷ (Zapped (1, 0x10), record
-        first_ledger { entries = ((4, 0x20), InFrame 2 false) ∷ []; inactive = 2 ∷ [] })
-    ∷ (TurnedOn 0 7 1, record
-        first_ledger { entries = ((4, 0x20), InFrame 2 false) ∷ []; inactive = 2 ∷ [];
-        on = (0, record { slots = 7; bad = 1 }) ∷ [] })
-    ∷ (TurnedOff 0, record
-        first_ledger { entries = ((4, 0x20), InFrame 2 false) ∷ []; inactive = 2 ∷ [] })
+    ∷ (
+      Noted (New 1 0x10000 2),
+      record
+          first_ledger { entries = ((1, 0x10), InFrame 2 false) ∷ []; inactive = 2 ∷ [] },
+    )
+    ∷ (
+      Used false (1, 0x10),
+      record
+          first_ledger { entries = ((1, 0x10), InFrame 2 true) ∷ []; inactive = 2 ∷ [] },
+    )
+    ∷ (
+      Forked 1 4 (record { page = 0x10; as_zeros = false } ∷ []),
+      record
+          first_ledger {
+            entries = ((1, 0x10), InFrame 2 true) ∷ ((4, 0x10), InFrame 2 false) ∷ [];
+            inactive = 2 ∷ [];
+          },
+    )
+    ∷ (
+      Noted (Copied 1 0x10000 3),
+      record
+          first_ledger {
+            entries = ((1, 0x10), InFrame 3 false) ∷ ((4, 0x10), InFrame 2 false) ∷ [];
+            inactive = 3 ∷ 2 ∷ [];
+          },
+    )
+    ∷ (
+      Moved 4 1 0x10 0x20,
+      record
+          first_ledger {
+            entries = ((1, 0x10), InFrame 3 false) ∷ ((4, 0x20), InFrame 2 false) ∷ [];
+            inactive = 3 ∷ 2 ∷ [];
+          },
+    )
+    ∷ (
+      Zapped (1, 0x10),
+      record
+          first_ledger { entries = ((4, 0x20), InFrame 2 false) ∷ []; inactive = 2 ∷ [] },
+    )
+    ∷ (
+      TurnedOn 0 7 1,
+      record
+          first_ledger {
+            entries = ((4, 0x20), InFrame 2 false) ∷ [];
+            inactive = 2 ∷ [];
+            on = (0, record { slots = 7; bad = 1 }) ∷ [];
+          },
+    )
+    ∷ (
+      TurnedOff 0,
+      record
+          first_ledger { entries = ((4, 0x20), InFrame 2 false) ∷ []; inactive = 2 ∷ [] },
+    )
     ∷ []
 
 -- ---- replies that may not come
@@ -790,10 +844,10 @@ written_in_vain =
     says (Spawn 1) Done []
     ∷ says (Mmap 1 8192 read_write Auto) (MapAt 0x7fffffffd000) []
     ∷ says (Write 1 0x7fffffffdfff (0xaa ∷ 0xbb ∷ []))
-        (Oom 1 (record { pinned = 0; noslot = 1; fault = 0 }) []) (New 1 0x7fffffffd000 0 ∷ [])
+    (Oom 1 (record { pinned = 0; noslot = 1; fault = 0 }) []) (New 1 0x7fffffffd000 0 ∷ [])
     ∷ says (Read 1 0x7fffffffdfff 2) (Data (0xaa ∷ 0xbb ∷ [])) (Zeroed 1 0x7fffffffe000 ∷ [])
     ∷ says (Write 1 0x7fffffffe000 (1 ∷ []))
-        (Oom 0 (record { pinned = 0; noslot = 1; fault = 0 }) []) [] ∷ []
+    (Oom 0 (record { pinned = 0; noslot = 1; fault = 0 }) []) [] ∷ []
 
 -- a refused write makes no process: one can be spawned, and it isn't there already
 abbrev pub refused_write : Answer → List Exchange

@@ -50,22 +50,33 @@ zeroed page = record { page = page; as_zeros = true }
 -- a child gets all three kinds of entries; another one only what goes over whole; a move takes each
 -- page to its own
 abbrev pub forks_and_moves : List (Event × Ledger)
-forks_and_moves =
-    (Forked 1 4 (whole 0x10 ∷ whole 0x11 ∷ whole 0x12 ∷ whole 0x13 ∷ []), with_entries
-        (((1, 0x10), InFrame 0 true) ∷ ((1, 0x11), Zero) ∷ ((1, 0x12), InSlot (slot 1))
-        ∷ ((4, 0x10), InFrame 0 false) ∷ ((4, 0x11), Zero) ∷ ((4, 0x12), InSlot (slot 1)) ∷ []))
-    ∷ (Forked 1 3 (zeroed 0x10 ∷ whole 0x12 ∷ []), with_entries
-        (((1, 0x10), InFrame 0 true) ∷ ((1, 0x11), Zero) ∷ ((1, 0x12), InSlot (slot 1))
-        ∷ ((3, 0x12), InSlot (slot 1))
-        ∷ ((4, 0x10), InFrame 0 false) ∷ ((4, 0x11), Zero) ∷ ((4, 0x12), InSlot (slot 1)) ∷ []))
-    ∷ (Moved 4 2 0x11 0x21, with_entries
-        (((1, 0x10), InFrame 0 true) ∷ ((1, 0x11), Zero) ∷ ((1, 0x12), InSlot (slot 1))
-        ∷ ((3, 0x12), InSlot (slot 1))
-        ∷ ((4, 0x10), InFrame 0 false) ∷ ((4, 0x21), Zero) ∷ ((4, 0x22), InSlot (slot 1)) ∷ []))
-    ∷ (Moved 1 3 0x10 0x11, with_entries
-        (((1, 0x11), InFrame 0 true) ∷ ((1, 0x12), Zero) ∷ ((1, 0x13), InSlot (slot 1))
-        ∷ ((3, 0x12), InSlot (slot 1))
-        ∷ ((4, 0x10), InFrame 0 false) ∷ ((4, 0x21), Zero) ∷ ((4, 0x22), InSlot (slot 1)) ∷ []))
+forks_and_moves = (
+  Forked 1 4 (whole 0x10 ∷ whole 0x11 ∷ whole 0x12 ∷ whole 0x13 ∷ []),
+  with_entries
+      (((1, 0x10), InFrame 0 true) ∷ ((1, 0x11), Zero) ∷ ((1, 0x12), InSlot (slot 1))
+      ∷ ((4, 0x10), InFrame 0 false) ∷ ((4, 0x11), Zero) ∷ ((4, 0x12), InSlot (slot 1)) ∷ []),
+)
+    ∷ (
+      Forked 1 3 (zeroed 0x10 ∷ whole 0x12 ∷ []),
+      with_entries
+          (((1, 0x10), InFrame 0 true) ∷ ((1, 0x11), Zero) ∷ ((1, 0x12), InSlot (slot 1))
+          ∷ ((3, 0x12), InSlot (slot 1))
+          ∷ ((4, 0x10), InFrame 0 false) ∷ ((4, 0x11), Zero) ∷ ((4, 0x12), InSlot (slot 1)) ∷ []),
+    )
+    ∷ (
+      Moved 4 2 0x11 0x21,
+      with_entries
+          (((1, 0x10), InFrame 0 true) ∷ ((1, 0x11), Zero) ∷ ((1, 0x12), InSlot (slot 1))
+          ∷ ((3, 0x12), InSlot (slot 1))
+          ∷ ((4, 0x10), InFrame 0 false) ∷ ((4, 0x21), Zero) ∷ ((4, 0x22), InSlot (slot 1)) ∷ []),
+    )
+    ∷ (
+      Moved 1 3 0x10 0x11,
+      with_entries
+          (((1, 0x11), InFrame 0 true) ∷ ((1, 0x12), Zero) ∷ ((1, 0x13), InSlot (slot 1))
+          ∷ ((3, 0x12), InSlot (slot 1))
+          ∷ ((4, 0x10), InFrame 0 false) ∷ ((4, 0x21), Zero) ∷ ((4, 0x22), InSlot (slot 1)) ∷ []),
+    )
     ∷ []
 
 -- processes 1 and 2 have these entries at their topmost page, and process 3 this one
@@ -82,41 +93,88 @@ three_with a b c cache flight active inactive = record {
 -- frame 5 has two entries and then slot 1; frame 6 is cached at slot 2. A note changes all entries
 -- of its frame, and its own slot alone
 abbrev pub two_of_each : List (Event × Ledger)
-two_of_each =
-    (Noted (Kept 5 Referenced), three_with (InFrame 5 false) (InFrame 5 false) (InFrame 6 true)
-        (cached_at 2 6 false ∷ []) [] (5 ∷ []) (6 ∷ []))
-    ∷ (Used true (1, 0x7fffffffe), three_with (InFrame 5 true) (InFrame 5 false) (InFrame 6 true)
-        (cached_at 2 6 false ∷ []) [] (5 ∷ []) (6 ∷ []))
-    ∷ (Used false (2, 0x7fffffffe), three_with (InFrame 5 true) (InFrame 5 true) (InFrame 6 true)
-        (cached_at 2 6 false ∷ []) [] (5 ∷ []) (6 ∷ []))
-    ∷ (Noted (Aged 5), three_with (InFrame 5 false) (InFrame 5 false) (InFrame 6 true)
-        (cached_at 2 6 false ∷ []) [] [] (5 ∷ 6 ∷ []))
-    ∷ (Noted (Put 5 (slot 1)), three_with (InFrame 5 false) (InFrame 5 false) (InFrame 6 true)
-        (cached_at 1 5 true ∷ cached_at 2 6 false ∷ []) [] [] (5 ∷ 6 ∷ []))
-    ∷ (Noted (Unmapped 5), three_with (InSlot (slot 1)) (InSlot (slot 1)) (InFrame 6 true)
-        (cached_at 1 5 true ∷ cached_at 2 6 false ∷ []) [] [] (5 ∷ 6 ∷ []))
-    ∷ (Used true (3, 0x7fffffffe), three_with (InSlot (slot 1)) (InSlot (slot 1)) (InFrame 6 true)
-        (cached_at 1 5 true ∷ cached_at 2 6 true ∷ []) [] [] (5 ∷ 6 ∷ []))
-    ∷ (Noted (Started (slot 2)), three_with (InSlot (slot 1)) (InSlot (slot 1)) (InFrame 6 true)
-        (cached_at 1 5 true ∷ cached_at 2 6 false ∷ []) (slot 2 ∷ []) [] (5 ∷ 6 ∷ []))
-    ∷ (Noted (Started (slot 1)), three_with (InSlot (slot 1)) (InSlot (slot 1)) (InFrame 6 true)
-        (cached_at 1 5 false ∷ cached_at 2 6 false ∷ []) (slot 2 ∷ slot 1 ∷ []) [] (5 ∷ 6 ∷ []))
-    ∷ (Noted (Kept 6 NoSlot), three_with (InSlot (slot 1)) (InSlot (slot 1)) (InFrame 6 true)
-        (cached_at 1 5 false ∷ cached_at 2 6 false ∷ []) (slot 2 ∷ slot 1 ∷ []) (6 ∷ []) (5 ∷ []))
-    ∷ (Noted (Written (slot 2)), three_with (InSlot (slot 1)) (InSlot (slot 1)) (InFrame 6 true)
-        (cached_at 1 5 false ∷ cached_at 2 6 false ∷ []) (slot 1 ∷ []) [] (5 ∷ 6 ∷ []))
-    ∷ (Noted (Started (slot 2)), three_with (InSlot (slot 1)) (InSlot (slot 1)) (InFrame 6 true)
-        (cached_at 1 5 false ∷ cached_at 2 6 false ∷ []) (slot 1 ∷ slot 2 ∷ []) [] (5 ∷ 6 ∷ []))
-    ∷ (Noted (Failed (slot 1)), three_with (InSlot (slot 1)) (InSlot (slot 1)) (InFrame 6 true)
-        (cached_at 1 5 true ∷ cached_at 2 6 false ∷ []) (slot 2 ∷ []) [] (5 ∷ 6 ∷ []))
-    ∷ (Noted (Loaded (slot 3) 7), three_with (InSlot (slot 1)) (InSlot (slot 1)) (InFrame 6 true)
-        (cached_at 3 7 false ∷ cached_at 1 5 true ∷ cached_at 2 6 false ∷ []) (slot 2 ∷ []) []
-        (7 ∷ 5 ∷ 6 ∷ []))
-    ∷ (Noted (Dropped (slot 3)), three_with (InSlot (slot 1)) (InSlot (slot 1)) (InFrame 6 true)
-        (cached_at 1 5 true ∷ cached_at 2 6 false ∷ []) (slot 2 ∷ []) [] (5 ∷ 6 ∷ []))
-    ∷ (Noted (Mapped 2 0x7fffffffe000 5), three_with (InSlot (slot 1)) (InFrame 5 false)
-        (InFrame 6 true) (cached_at 1 5 true ∷ cached_at 2 6 false ∷ []) (slot 2 ∷ []) []
-        (5 ∷ 6 ∷ []))
+two_of_each = (
+  Noted (Kept 5 Referenced),
+  three_with (InFrame 5 false) (InFrame 5 false) (InFrame 6 true)
+      (cached_at 2 6 false ∷ []) [] (5 ∷ []) (6 ∷ []),
+)
+    ∷ (
+      Used true (1, 0x7fffffffe),
+      three_with (InFrame 5 true) (InFrame 5 false) (InFrame 6 true)
+          (cached_at 2 6 false ∷ []) [] (5 ∷ []) (6 ∷ []),
+    )
+    ∷ (
+      Used false (2, 0x7fffffffe),
+      three_with (InFrame 5 true) (InFrame 5 true) (InFrame 6 true)
+          (cached_at 2 6 false ∷ []) [] (5 ∷ []) (6 ∷ []),
+    )
+    ∷ (
+      Noted (Aged 5),
+      three_with (InFrame 5 false) (InFrame 5 false) (InFrame 6 true)
+          (cached_at 2 6 false ∷ []) [] [] (5 ∷ 6 ∷ []),
+    )
+    ∷ (
+      Noted (Put 5 (slot 1)),
+      three_with (InFrame 5 false) (InFrame 5 false) (InFrame 6 true)
+          (cached_at 1 5 true ∷ cached_at 2 6 false ∷ []) [] [] (5 ∷ 6 ∷ []),
+    )
+    ∷ (
+      Noted (Unmapped 5),
+      three_with (InSlot (slot 1)) (InSlot (slot 1)) (InFrame 6 true)
+          (cached_at 1 5 true ∷ cached_at 2 6 false ∷ []) [] [] (5 ∷ 6 ∷ []),
+    )
+    ∷ (
+      Used true (3, 0x7fffffffe),
+      three_with (InSlot (slot 1)) (InSlot (slot 1)) (InFrame 6 true)
+          (cached_at 1 5 true ∷ cached_at 2 6 true ∷ []) [] [] (5 ∷ 6 ∷ []),
+    )
+    ∷ (
+      Noted (Started (slot 2)),
+      three_with (InSlot (slot 1)) (InSlot (slot 1)) (InFrame 6 true)
+          (cached_at 1 5 true ∷ cached_at 2 6 false ∷ []) (slot 2 ∷ []) [] (5 ∷ 6 ∷ []),
+    )
+    ∷ (
+      Noted (Started (slot 1)),
+      three_with (InSlot (slot 1)) (InSlot (slot 1)) (InFrame 6 true)
+          (cached_at 1 5 false ∷ cached_at 2 6 false ∷ []) (slot 2 ∷ slot 1 ∷ []) [] (5 ∷ 6 ∷ []),
+    )
+    ∷ (
+      Noted (Kept 6 NoSlot),
+      three_with (InSlot (slot 1)) (InSlot (slot 1)) (InFrame 6 true)
+          (cached_at 1 5 false ∷ cached_at 2 6 false ∷ []) (slot 2 ∷ slot 1 ∷ []) (6 ∷ []) (5 ∷ []),
+    )
+    ∷ (
+      Noted (Written (slot 2)),
+      three_with (InSlot (slot 1)) (InSlot (slot 1)) (InFrame 6 true)
+          (cached_at 1 5 false ∷ cached_at 2 6 false ∷ []) (slot 1 ∷ []) [] (5 ∷ 6 ∷ []),
+    )
+    ∷ (
+      Noted (Started (slot 2)),
+      three_with (InSlot (slot 1)) (InSlot (slot 1)) (InFrame 6 true)
+          (cached_at 1 5 false ∷ cached_at 2 6 false ∷ []) (slot 1 ∷ slot 2 ∷ []) [] (5 ∷ 6 ∷ []),
+    )
+    ∷ (
+      Noted (Failed (slot 1)),
+      three_with (InSlot (slot 1)) (InSlot (slot 1)) (InFrame 6 true)
+          (cached_at 1 5 true ∷ cached_at 2 6 false ∷ []) (slot 2 ∷ []) [] (5 ∷ 6 ∷ []),
+    )
+    ∷ (
+      Noted (Loaded (slot 3) 7),
+      three_with (InSlot (slot 1)) (InSlot (slot 1)) (InFrame 6 true)
+          (cached_at 3 7 false ∷ cached_at 1 5 true ∷ cached_at 2 6 false ∷ []) (slot 2 ∷ []) []
+          (7 ∷ 5 ∷ 6 ∷ []),
+    )
+    ∷ (
+      Noted (Dropped (slot 3)),
+      three_with (InSlot (slot 1)) (InSlot (slot 1)) (InFrame 6 true)
+          (cached_at 1 5 true ∷ cached_at 2 6 false ∷ []) (slot 2 ∷ []) [] (5 ∷ 6 ∷ []),
+    )
+    ∷ (
+      Noted (Mapped 2 0x7fffffffe000 5),
+      three_with (InSlot (slot 1)) (InFrame 5 false)
+          (InFrame 6 true) (cached_at 1 5 true ∷ cached_at 2 6 false ∷ []) (slot 2 ∷ []) []
+          (5 ∷ 6 ∷ []),
+    )
     ∷ []
 
 -- no entry, and these areas are on
@@ -127,8 +185,11 @@ with_areas on = record first_ledger { on = on }
 abbrev pub two_areas : List (Event × Ledger)
 two_areas =
     (TurnedOn 1 5 0, with_areas ((1, record { slots = 5; bad = 0 }) ∷ []))
-    ∷ (TurnedOn 0 7 2, with_areas
-        ((0, record { slots = 7; bad = 2 }) ∷ (1, record { slots = 5; bad = 0 }) ∷ []))
+    ∷ (
+      TurnedOn 0 7 2,
+      with_areas
+          ((0, record { slots = 7; bad = 2 }) ∷ (1, record { slots = 5; bad = 0 }) ∷ []),
+    )
     ∷ (TurnedOff 1, with_areas ((0, record { slots = 7; bad = 2 }) ∷ []))
     ∷ []
 

@@ -1,8 +1,8 @@
--- Views of a kernel that don't stand for the state after a fork, in which two processes have frame 0.
--- Each is the right view but for one thing.
-use Rattle.std.specs.Prelude.{ℕ, Bool, true, false, ◌==◌, ◌&&◌, ◌||◌, if◌then◌else◌, List, [], ◌∷◌, Some, None, option_map}
+-- Views of a kernel that don't stand for the state after a fork, in which two processes have frame
+-- 0. Each is the right view but for one thing.
+use Rattle.std.specs.Prelude.{ℕ, Bool, false, ◌==◌, ◌&&◌, ◌||◌, if◌then◌else◌, List, [], ◌∷◌, Some, None, option_map}
 use Rattle.av_plain.specs.Device.{no_device}
-use Rattle.av_plain.specs.Ledger.{Ledger, entry, map_count}
+use Rattle.av_plain.specs.Ledger.{entry, map_count}
 use Rattle.av_plain.specs.Report.{Range}
 use Rattle.av_plain.specs.Stands.{Stands, View}
 use Rattle.av_plain.specs.Transcript.{State}

@@ -1,7 +1,9 @@
 //! What follows from the definitions of `av_plain`, beside what the kernel needs of them: replies
-//! are determined, numbers add up, a refusal changes nothing; and worked examples, legal ones and
-//! such as may not be.  No function does anything. Each one's contract is a law, proved of the
-//! definitions alone.
+//! are determined, numbers add up, a refusal changes nothing, a reply is read back from its text,
+//! nothing fails without a device; and worked examples, legal ones and such as may not be, sound
+//! states and unsound ones, views that stand for a state and such as don't.
+//!
+//! No function does anything. Each one's contract is a law, proved of the definitions alone.
 #![tactic(auto)]
 
 mod examples;
@@ -61,27 +63,25 @@ pub use views::{changed_views_do_not_stand, the_right_view_stands};
 /// A command that is refused changes neither the memories nor the ledger. An mprotect, which can
 /// stop at a page that isn't mapped, may have changed the protection of the pages before it.
 pub fn refusals_change_nothing()
-    ensures others {
-        (m : Setting) (w : World) (l : Ledger) (command : Command) (reply : Reply)
-            (events : List Event) (error : Errno)
+    ensures others { (m : Setting) (w : World) (l : Ledger) (command : Command) (reply : Reply)
+        (events : List Event) (error : Errno)
         → is_mprotect command ≡ false → IsLegal m w l command reply events
         → reply.answer ≡ Refused error
         → (next_world m w l events command reply.answer ≡ w) × (after_all l events ≡ l) }
-    ensures mprotect {
-        (m : Setting) (w : World) (l : Ledger) (p a len : ℕ) (prot : Prot) (reply : Reply)
-            (events : List Event) (error : Errno)
+    ensures mprotect { (m : Setting) (w : World) (l : Ledger) (p a len : ℕ) (prot : Prot)
+        (reply : Reply)
+        (events : List Event) (error : Errno)
         → IsLegal m w l (Mprotect p a len prot) reply events → reply.answer ≡ Refused error
         → ((next_world m w l events (Mprotect p a len prot) reply.answer ≡ w)
-            ⊎ StopsAtHole w p a len prot error
-            (next_world m w l events (Mprotect p a len prot) reply.answer))
-            × (after_all l events ≡ l) }
+        ⊎ StopsAtHole w p a len prot error
+        (next_world m w l events (Mprotect p a len prot) reply.answer))
+        × (after_all l events ≡ l) }
 {}
 
 /// The three numbers of an out-of-memory are all frames: pinned, not cached, and cached.
 pub fn numbers_add_up()
-    ensures {
-        (m : Setting) (w : World) (l : Ledger) (command : Command) (reply : Reply)
-            (events : List Event) (k : ℕ) (out : OutOf) (shown : List ℕ)
+    ensures { (m : Setting) (w : World) (l : Ledger) (command : Command) (reply : Reply)
+        (events : List Event) (k : ℕ) (out : OutOf) (shown : List ℕ)
         → AllSound m w l → IsLegal m w l command reply events → reply.answer ≡ Oom k out shown
         → out.pinned + out.noslot + out.fault ≡ m.frames }
 {}
@@ -109,8 +109,8 @@ pub fn runs_are_determined()
 
 /// In a run the list of free frames has each free frame of the machine once, and no other number.
 pub fn runs_list_free_frames()
-    ensures {
-        (m : Setting) (exchanges : List Exchange) (new : State) → IsRun m (at_first m) exchanges new
+    ensures { (m : Setting) (exchanges : List Exchange) (new : State)
+        → IsRun m (at_first m) exchanges new
         → ListsFree m new.ledger new.free }
 {}
 
@@ -118,13 +118,13 @@ pub fn runs_list_free_frames()
 pub fn totals_add_up()
     ensures { (m : Setting) (w : World) (l : Ledger) → AllSound m w l
         → (totals m w l).free + (totals m w l).active + (totals m w l).inactive
-            ≡ (totals m w l).frames }
+        ≡ (totals m w l).frames }
 {}
 
 /// The longest runs of a process's pages are one list: `maps` has one answer.
 pub fn maps_has_one_answer()
-    ensures {
-        (q : Process) (rows others : List Row) → AreMaps q rows → AreMaps q others → rows ≡ others }
+    ensures { (q : Process) (rows others : List Row) → AreMaps q rows → AreMaps q others → rows
+        ≡ others }
 {}
 
 /// Where no swap area is attached, a reply has nothing that only a fault of a device explains: no
@@ -136,14 +136,16 @@ pub fn no_device_has_no_faults()
 {}
 
 /// A legal reply to a command of the grammar is one that is read back from its text: its numbers
-/// are of 64 bits, its bytes below 256, and its rows as many as it says.
+/// are of 64 bits, its bytes below 256, and its rows as many as it says. This is so where no device
+/// is attached and no area is on.
 pub fn replies_are_read_back()
     ensures { (m : Setting) (w : World) (l : Ledger) (command : Command) (reply : Reply)
         (events : List Event) → HasNoDevice m → AllSound m w l → IsSmall m w l
         → IsCommand command → IsLegal m w l command reply events → IsReply reply }
 {}
 
-/// A read whose pages need no frame, none of them being on the device alone, is never out of memory.
+/// A read whose pages need no frame, none of them being on the device alone, is never out of
+/// memory.
 pub fn reads_in_memory_are_served()
     ensures { (m : Setting) (w : World) (l : Ledger) (p a n : ℕ) (reply : Reply)
         (events : List Event) (k : ℕ) (out : OutOf) (shown : List ℕ) → NoneWantsFrame l p a n

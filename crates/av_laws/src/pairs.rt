@@ -57,16 +57,14 @@ ghost use Rattle.av_laws.specs.Pairs.{
 /// of a frame, two cached slots and two writes in flight, and two areas.
 pub fn ledgers_of_two_follow()
     ensures forks_and_moves { Leads (with_entries one_of_each) forks_and_moves }
-    ensures two_of_each {
-        Leads (three_with (InFrame 5 true) (InFrame 5 true) (InFrame 6 true)
-            (cached_at 2 6 false ∷ []) [] [] (5 ∷ 6 ∷ [])) two_of_each }
+    ensures two_of_each { Leads (three_with (InFrame 5 true) (InFrame 5 true) (InFrame 6 true)
+        (cached_at 2 6 false ∷ []) [] [] (5 ∷ 6 ∷ [])) two_of_each }
     ensures two_areas { Leads (with_areas []) two_areas }
 {}
 
 /// Accesses that stop at their second page, and ranges of two pages.
 pub fn two_pages_run()
-    ensures second_lost {
-        Allows (with_swap 4 8 7) (second_out (0 ∷ 1 ∷ 2 ∷ 3 ∷ [])) second_lost }
+    ensures second_lost { Allows (with_swap 4 8 7) (second_out (0 ∷ 1 ∷ 2 ∷ 3 ∷ [])) second_lost }
     ensures second_starved { Allows (with_swap 0 8 7) (second_out []) second_starved }
     ensures fixed_over_two { Allows (machine 4) two_written fixed_over_two }
     ensures unmapped_two { Allows (machine 4) two_written unmapped_two }
@@ -80,19 +78,18 @@ pub fn passes_run()
     ensures no_slot_written { Allows bad_first full no_slot_written }
     ensures completes { Allows (with_swap 2 8 7) two_in_flight completes }
     ensures second_fails { Allows (with_swap 2 8 7) two_in_flight second_fails }
-    ensures named_by_other {
-        Allows (with_swap 4 2 1) (cached_for_two 1 (InSlot (slot 1))) named_by_other }
-    ensures orphan_of_two {
-        Allows (with_swap 4 8 7) (cached_for_two 7 (InFrame 0 true)) orphan_of_two }
+    ensures named_by_other { Allows (with_swap 4 2 1) (cached_for_two 1 (InSlot (slot 1)))
+        named_by_other }
+    ensures orphan_of_two { Allows (with_swap 4 8 7) (cached_for_two 7 (InFrame 0 true))
+        orphan_of_two }
 {}
 
 /// A mapping over a page that a hint names, and a pass that puts a frame at a bad page, may not be.
 pub fn changed_pairs_are_refused()
-    ensures hint_taken {
-        Forbids (machine 4) untouched (Mmap 1 4096 read_write (At 0x7fffffffe000))
-            (answered (MapAt 0x7fffffffe000) []) }
-    ensures bad_page {
-        IsPass bad_first (sparing full.world full.ledger None) full.ledger to_bad_page → ⊥ }
+    ensures hint_taken { Forbids (machine 4) untouched (Mmap 1 4096 read_write (At 0x7fffffffe000))
+        (answered (MapAt 0x7fffffffe000) []) }
+    ensures bad_page { IsPass bad_first (sparing full.world full.ledger None) full.ledger
+        to_bad_page → ⊥ }
 {}
 
 /// A load from a device that doesn't tell its pages makes unclaimed what the slot's pages held, in
@@ -107,8 +104,8 @@ pub fn loads_make_unclaimed()
 
 /// What only faults of the device explain is counted: each `fail`, `bus` and EIO.
 pub fn faults_are_counted()
-    ensures bus_and_fails {
-        causes (answered (Bus 0 []) (Failed (slot 1) ∷ Written (slot 2) ∷ Failed (slot 3) ∷ []))
+    ensures bus_and_fails { causes
+        (answered (Bus 0 []) (Failed (slot 1) ∷ Written (slot 2) ∷ Failed (slot 3) ∷ []))
         ≡ 3 }
     ensures eio { causes (answered (Refused Eio) []) ≡ 1 }
     ensures no_fault { causes (answered (Refused Enomem) (Written (slot 1) ∷ [])) ≡ 0 }

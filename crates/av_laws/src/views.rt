@@ -22,10 +22,10 @@ pub fn changed_views_do_not_stand()
     ensures other_order { Refused (record right { free = 2 ∷ 1 ∷ 3 ∷ [] }) }
     ensures made_active { Refused (record right { active = 0 ∷ [] }) }
     ensures area_too_long { Refused (view_with (range 0x7fffffffd 0x7ffffffff ∷ []) false) }
-    ensures area_twice {
-        Refused (view_with (range 0x7fffffffe 0x7ffffffff ∷ range 0x7fffffffe 0x7ffffffff ∷ [])
-            false) }
-    ensures areas_of_nobody {
-        Refused (record right { areas = λ p. Some (range 0x7fffffffe 0x7ffffffff ∷ []) }) }
+    ensures area_twice { Refused
+        (view_with (range 0x7fffffffe 0x7ffffffff ∷ range 0x7fffffffe 0x7ffffffff ∷ [])
+        false) }
+    ensures areas_of_nobody { Refused
+        (record right { areas = λ p. Some (range 0x7fffffffe 0x7ffffffff ∷ []) }) }
     ensures too_few_processes { Refused (record right { processes = 1 }) }
 {}
