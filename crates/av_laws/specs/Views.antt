@@ -1,5 +1,5 @@
--- Views of a kernel that don't stand for the state after a fork, in which two processes have frame
--- 0. Each is the right view but for one thing.
+-- Views of a kernel after a fork, when two processes have frame 0: the right one, which stands for
+-- the state, and some that don't. Each of these is the right one but for one thing.
 use Rattle.std.specs.Prelude.{ℕ, Bool, false, ◌==◌, ◌&&◌, ◌||◌, if◌then◌else◌, List, [], ◌∷◌, Some, None, option_map}
 use Rattle.av_plain.specs.Device.{no_device}
 use Rattle.av_plain.specs.Ledger.{entry, map_count}
