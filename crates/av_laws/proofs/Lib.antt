@@ -15,3 +15,5 @@ pub mod PairExamples
 pub mod UnsoundExamples
 pub mod NoDevice
 pub mod ReadBack
+pub mod NeedsFrame
+pub mod ViewExamples

@@ -1,7 +1,7 @@
 -- Without a device no slot is in use: a page has at most one note, and is never lost.
 use Rattle.std.specs.List.{AllByRecursion}
 use Rattle.std.specs.Prelude.{MatchBool, MatchOption, IsTrue, unwrap_or}
-use Rattle.std.proofs.Common.{◌≡◌, ◌⊎◌, inl, inr, ℕ, zero, suc, ◌+◌, ◌<◌, ◌≤◌, Bool, true, false, cond, not, ◌&&◌, List, [], ◌∷◌, ◌++◌, Option, Some, None, is_some, refl, sym, ap, subst, ◌∙◌, arith, ◌==◌, nat_lt, append-nil}
+use Rattle.std.proofs.Common.{◌≡◌, ◌⊎◌, inl, inr, ℕ, zero, suc, ◌+◌, ◌<◌, Bool, true, false, cond, ◌&&◌, List, [], ◌∷◌, ◌++◌, Option, Some, None, is_some, refl, sym, ap, subst, ◌∙◌, arith, ◌==◌, nat_lt, append-nil}
 use Rattle.std.proofs.lemmas.Bool.Decides.{nat_tests}
 use Rattle.av_base.specs.Page.{address_of}
 use Rattle.av_base.specs.Words.{how_many}
@@ -10,10 +10,10 @@ use Rattle.av_trace.specs.declared.note.Note.{Note}
 use Rattle.av_trace.specs.declared.reply.OutOf.{OutOf}
 use Rattle.av_trace.specs.declared.note.Note.TheVariants.{Aged, Copied, Dropped, Failed, Kept, Loaded, Mapped, New, Put, Started, Unmapped, Written, Zeroed}
 use Rattle.av_plain.specs.World.{Page, World, pages}
-use Rattle.av_plain.specs.Ledger.{has_free_slot, is_open, slot_count, Cached, Entry, InFrame, InSlot, Key, Ledger, Setting, Zero, entry, frame_at, has_free, in_flight, is_on, is_usable, may_give, names_slot, same_slot, size_of, slot_entries, slot_of}
+use Rattle.av_plain.specs.Ledger.{has_free_slot, is_open, slot_count, Cached, Entry, InFrame, InSlot, Key, Ledger, Setting, Zero, entry, has_free, is_on, is_usable, may_give, names_slot, same_slot, size_of, slot_entries, slot_of}
 use Rattle.av_plain.specs.Event.{Event, Used, after_all, after_note, after_notes, note_events, notes_of}
 use Rattle.av_plain.specs.Pass.{Completes, IsPass, IsSlotFor, Seeks, Spared, Turns, frames_in_turn, is_stuck, stays_cached, turn_notes}
-use Rattle.av_plain.specs.Fault.{drop_of_slot, ComesIn, CopyOnWrite, Denied, IsLost, IsMade, Lost, MapCached, Need, NewPage, Ready, RunsOut, Serves, Sparing, Starved, Stop, SwapIn, Takes, Touches, ZeroPage, drop_at, drop_of_entry, is_allowed, is_shared, need, need_of_slot, permits, sparing, was_slot}
+use Rattle.av_plain.specs.Fault.{drop_of_slot, ComesIn, CopyOnWrite, Denied, IsMade, Lost, MapCached, Need, NewPage, Ready, RunsOut, Serves, Sparing, Starved, Stop, SwapIn, Touches, ZeroPage, drop_at, drop_of_entry, is_shared, need, permits, sparing, was_slot}
 use Rattle.av_plain.specs.Access.{Accesses, End, Stopped, Whole, page_events}
 use Rattle.av_plain.specs.Sound.{count, flights, is_there, slots}
 use Rattle.av_plain.proofs.Ledger.{how_many-found}
@@ -54,7 +54,7 @@ pub record HasNoSlots (l : Ledger) : Type 0 where
   pub flight : l.flight ≡ []
   pub entries : (s : Slot) → slot_entries l s ≡ 0
 
-never : ◌≡◌ {A = Bool} false true → ⊥
+pub never : ◌≡◌ {A = Bool} false true → ⊥
 never e = cc
 
 -- ---- no slot is there

@@ -1,5 +1,5 @@
 -- Worked examples with two of a kind.
-use Rattle.std.specs.Prelude.{◌≡◌, ◌==◌, ℕ, ◌<◌, cond, is_some, Bool, true, false, List, [], ◌∷◌, ◌++◌, if◌then◌else◌, Option, Some, None, refl, MatchBool, IsTrue}
+use Rattle.std.specs.Prelude.{◌≡◌, ◌==◌, ℕ, ◌<◌, is_some, Bool, true, false, List, [], ◌∷◌, ◌++◌, if◌then◌else◌, Option, Some, None, refl, MatchBool, IsTrue}
 use Rattle.std.proofs.Common.{arith, inl, inr, ap, subst, sym, ◌∙◌, ◌≤◌}
 use Rattle.std.proofs.lemmas.Bool.Decides.{nat_tests}
 use Rattle.av_vma.specs.Gap.{IsGap}
@@ -11,7 +11,7 @@ use Rattle.av_trace.specs.declared.note.Note.{Note}
 use Rattle.av_trace.specs.declared.note.Note.TheVariants.{Zeroed, New, Loaded, Mapped, Put, Unmapped, Started, Written, Failed, Dropped}
 use Rattle.av_trace.specs.declared.reply.Answer.{Answer}
 use Rattle.av_trace.specs.declared.reply.Answer.TheVariants.{MapAt}
-use Rattle.av_plain.specs.World.{Page, is_mapped, pages, zeros}
+use Rattle.av_plain.specs.World.{is_mapped, pages, zeros}
 use Rattle.av_plain.specs.Ledger.{InFrame, InSlot, has_free, may_give}
 use Rattle.av_plain.specs.Event.{Noted, Zapped, Used, after_notes}
 use Rattle.av_plain.specs.Fault.{Denied, Starved, Lost, sparing}

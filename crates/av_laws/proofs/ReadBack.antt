@@ -1,12 +1,11 @@
 -- The numbers of a legal reply are of 64 bits, and its bytes below 256.
 use Rattle.std.specs.List.{AllByRecursion}
-use Rattle.std.specs.Prelude.{MatchBool, MatchOption, IsTrue, IfSome, sum_by}
-use Rattle.std.proofs.Common.{◌≡◌, ◌⊎◌, inl, inr, ℕ, zero, suc, ◌+◌, ◌-◌, ◌*◌, ◌/◌, ◌%◌, ◌^◌, ◌<◌, ◌≤◌, Bool, true, false, cond, not, ◌&&◌, List, [], ◌∷◌, ◌++◌, map, length, Option, Some, None, is_some, option_map, refl, sym, ap, subst, ◌∙◌, arith, ◌==◌, nat_lt, nat_le, if◌then◌else◌}
+use Rattle.std.specs.Prelude.{MatchBool, MatchOption, sum_by}
+use Rattle.std.proofs.Common.{◌≡◌, inl, inr, ℕ, zero, suc, ◌+◌, ◌-◌, ◌^◌, ◌<◌, ◌≤◌, Bool, true, false, cond, ◌&&◌, List, [], ◌∷◌, map, length, Option, Some, None, is_some, option_map, refl, sym, ap, subst, ◌∙◌, arith, ◌==◌, nat_lt, nat_le, if◌then◌else◌}
 use Rattle.std.proofs.lemmas.Bool.Decides.{nat_tests}
-use Rattle.av_base.specs.Limits.{low_page, top_page}
+use Rattle.av_base.specs.Limits.{top_page}
 use Rattle.av_base.specs.Page.{address_of, page_of, pages_of, page_size, place_in_page}
 use Rattle.av_base.specs.Words.{numbers}
-use Rattle.av_base.specs.declared.prot.Prot.{Prot}
 use Rattle.av_vma.specs.Gap.{IsGap}
 use Rattle.av_trace.specs.declared.command.Command.{Command}
 use Rattle.av_trace.specs.declared.command.Command.TheVariants.{Spawn, Exit, Mmap, Munmap, Mprotect, Read, Write, Maps, Stat}
@@ -20,7 +19,7 @@ use Rattle.av_trace.specs.declared.reply.OutOf.{OutOf}
 use Rattle.av_trace.specs.declared.reply.Reply.{Reply}
 use Rattle.av_trace.specs.declared.row.Row.{Row}
 use Rattle.av_trace.specs.declared.reply.Answer.{Answer}
-use Rattle.av_trace.specs.declared.reply.Answer.TheVariants.{Done, MapAt, Data, Refused, Oom, Runs, Counted}
+use Rattle.av_trace.specs.declared.reply.Answer.TheVariants.{Done, MapAt, Refused, Oom, Runs, Counted}
 use Rattle.av_trace.specs.Command.{IsCommand}
 use Rattle.av_trace.specs.Note.{IsNote}
 use Rattle.av_trace.specs.Number.{IsWide}
@@ -42,7 +41,7 @@ use Rattle.av_plain.specs.Zap.{keys_in, keys_of_process, zaps_of}
 use Rattle.av_plain.proofs.Report.Totals.{frames-add}
 use Rattle.av_laws.specs.NoDevice.{HasNoDevice}
 use Rattle.av_laws.specs.ReadBack.{IsSmall}
-use Rattle.av_laws.proofs.NoDevice.{HasNoSlots, IsPlainAt, accesses-plain, in-areas, no-slots, no-zap-notes}
+use Rattle.av_laws.proofs.NoDevice.{IsPlainAt, accesses-plain, in-areas, no-slots, no-zap-notes}
 use Rattle.av_laws.proofs.OutOfMemory.{legal-adds}
 
 -- what a reply has beside its notes

@@ -1,7 +1,7 @@
 -- Ledgers that are not sound.
 use Rattle.std.specs.Prelude.{◌≡◌, ℕ, Bool, true, false}
 use Rattle.std.proofs.Common.{arith, refl, ◌≤◌, ◌<◌}
-use Rattle.av_plain.specs.Ledger.{InFrame, InSlot, Zero, first_ledger}
+use Rattle.av_plain.specs.Ledger.{InFrame, InSlot, first_ledger}
 use Rattle.av_laws.specs.Examples.{crowd, machine, slot}
 use Rattle.av_laws.specs.Pairs.{bad_first}
 use Rattle.av_laws.specs.Unsound.{Unsound, four, one_process, falling_entries, slot_at_two_frames, frame_of_two_slots, no_such_frame, not_listed, in_both_lists, free_but_listed, in_flight_uncached, in_flight_twice, left_over, frame_twice, frame_and_its_slot, slot_and_its_frame, slot_twice, unmapped, of_nobody, area_off, at_page, too_few_slots, falling_areas, falling_processes}

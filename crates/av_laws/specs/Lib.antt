@@ -4,3 +4,5 @@ pub mod Pairs
 pub mod Unsound
 pub mod NoDevice
 pub mod ReadBack
+pub mod NeedsFrame
+pub mod Views

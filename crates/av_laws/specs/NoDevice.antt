@@ -1,5 +1,5 @@
 -- A run without a device: no swap area is attached.
-use Rattle.std.specs.Prelude.{◌≡◌, ℕ, Option, None}
+use Rattle.std.specs.Prelude.{◌≡◌, ℕ, None}
 use Rattle.av_plain.specs.Ledger.{Setting}
 
 -- no area is attached

@@ -1,17 +1,20 @@
 //! What follows from the definitions of `av_plain`, beside what the kernel needs of them: replies
-//! are determined, numbers add up, a refusal changes nothing; and worked examples, legal ones and
-//! such as may not be.  No function does anything. Each one's contract is a law, proved of the
-//! definitions alone.
+//! are determined, numbers add up, a refusal changes nothing, a reply is read back from its text,
+//! nothing fails without a device; and worked examples, legal ones and such as may not be, sound
+//! states and unsound ones, views that stand for a state and such as don't.
+//!
+//! No function does anything. Each one's contract is a law, proved of the definitions alone.
 #![tactic(auto)]
 
 mod examples;
 mod pairs;
 mod unsound;
+mod views;
 
 ghost use Rattle.std.specs.Prelude.{◌≡◌, ◌⊎◌, ℕ, ◌+◌, false, List, []};
 ghost use Rattle.av_base.specs.declared.prot.Prot.{Prot};
 ghost use Rattle.av_trace.specs.declared.command.Command.{Command};
-ghost use Rattle.av_trace.specs.declared.command.Command.TheVariants.{Mprotect};
+ghost use Rattle.av_trace.specs.declared.command.Command.TheVariants.{Mprotect, Read};
 ghost use Rattle.av_trace.specs.declared.reply.Errno.{Errno};
 ghost use Rattle.av_trace.specs.declared.reply.OutOf.{OutOf};
 ghost use Rattle.av_trace.specs.declared.reply.Answer.TheVariants.{Refused, Oom};
@@ -30,6 +33,7 @@ ghost use Rattle.av_plain.specs.Choice.{ListsFree};
 ghost use Rattle.av_plain.specs.Step.{causes};
 ghost use Rattle.av_trace.specs.Command.{IsCommand};
 ghost use Rattle.av_trace.specs.Reply.{IsReply};
+ghost use Rattle.av_laws.specs.NeedsFrame.{NoneWantsFrame};
 ghost use Rattle.av_laws.specs.NoDevice.{HasNoDevice};
 ghost use Rattle.av_laws.specs.ReadBack.{IsSmall};
 ghost use Rattle.av_laws.specs.Determined.{
@@ -54,6 +58,7 @@ pub use pairs::{
 pub use unsound::{
     changed_ledgers_are_unsound, changed_memories_are_unsound, entries_of_one_memory_are_unsound,
 };
+pub use views::{changed_views_do_not_stand, the_right_view_stands};
 
 /// A command that is refused changes neither the memories nor the ledger. An mprotect, which can
 /// stop at a page that isn't mapped, may have changed the protection of the pages before it.
@@ -63,7 +68,12 @@ pub fn refusals_change_nothing()
         → is_mprotect command ≡ false → IsLegal m w l command reply events
         → reply.answer ≡ Refused error
         → (next_world m w l events command reply.answer ≡ w) × (after_all l events ≡ l) }
+<<<<<<< HEAD
     ensures mprotect { (m : Setting) (w : World) (l : Ledger) (p a len : ℕ) (prot : Prot) (reply : Reply)
+=======
+    ensures mprotect { (m : Setting) (w : World) (l : Ledger) (p a len : ℕ) (prot : Prot)
+        (reply : Reply)
+>>>>>>> ad137dcf9f9591e2227938e50a799bd28e195cca
         (events : List Event) (error : Errno)
         → IsLegal m w l (Mprotect p a len prot) reply events → reply.answer ≡ Refused error
         → ((next_world m w l events (Mprotect p a len prot) reply.answer ≡ w)
@@ -103,7 +113,12 @@ pub fn runs_are_determined()
 
 /// In a run the list of free frames has each free frame of the machine once, and no other number.
 pub fn runs_list_free_frames()
+<<<<<<< HEAD
     ensures { (m : Setting) (exchanges : List Exchange) (new : State) → IsRun m (at_first m) exchanges new
+=======
+    ensures { (m : Setting) (exchanges : List Exchange) (new : State)
+        → IsRun m (at_first m) exchanges new
+>>>>>>> ad137dcf9f9591e2227938e50a799bd28e195cca
         → ListsFree m new.ledger new.free }
 {}
 
@@ -116,7 +131,12 @@ pub fn totals_add_up()
 
 /// The longest runs of a process's pages are one list: `maps` has one answer.
 pub fn maps_has_one_answer()
+<<<<<<< HEAD
     ensures { (q : Process) (rows others : List Row) → AreMaps q rows → AreMaps q others → rows ≡ others }
+=======
+    ensures { (q : Process) (rows others : List Row) → AreMaps q rows → AreMaps q others → rows
+        ≡ others }
+>>>>>>> ad137dcf9f9591e2227938e50a799bd28e195cca
 {}
 
 /// Where no swap area is attached, a reply has nothing that only a fault of a device explains: no
@@ -128,9 +148,18 @@ pub fn no_device_has_no_faults()
 {}
 
 /// A legal reply to a command of the grammar is one that is read back from its text: its numbers
-/// are of 64 bits, its bytes below 256, and its rows as many as it says.
+/// are of 64 bits, its bytes below 256, and its rows as many as it says. This is so where no device
+/// is attached and no area is on.
 pub fn replies_are_read_back()
     ensures { (m : Setting) (w : World) (l : Ledger) (command : Command) (reply : Reply)
         (events : List Event) → HasNoDevice m → AllSound m w l → IsSmall m w l
         → IsCommand command → IsLegal m w l command reply events → IsReply reply }
+{}
+
+/// A read whose pages need no frame, none of them being on the device alone, is never out of
+/// memory.
+pub fn reads_in_memory_are_served()
+    ensures { (m : Setting) (w : World) (l : Ledger) (p a n : ℕ) (reply : Reply)
+        (events : List Event) (k : ℕ) (out : OutOf) (shown : List ℕ) → NoneWantsFrame l p a n
+        → IsLegal m w l (Read p a n) reply events → reply.answer ≡ Oom k out shown → ⊥ }
 {}

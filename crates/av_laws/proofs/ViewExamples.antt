@@ -1,0 +1,202 @@
+-- Views that don't stand for a state.
+use Rattle.std.specs.Ordering.{nat_cmp, eq_by_cmp}
+use Rattle.std.specs.Prelude.{IfSome, cond, zero, suc, ◌+◌, ◌<◌, ◌==◌, ◌&&◌, ◌||◌, min, nat_le, nat_lt, if◌then◌else◌, Option, option_map, option_and_then}
+use Rattle.std.proofs.Common.{subst, ◌∙◌}
+use Rattle.std.proofs.lemmas.Bool.Decides.{nat_tests}
+use Rattle.av_base.specs.Words.{is_in}
+use Rattle.av_plain.specs.Device.{no_device}
+use Rattle.av_plain.specs.Ledger.{Entry, Key, entry, is_free}
+use Rattle.av_plain.specs.Report.{Range, prot_in}
+use Rattle.av_plain.specs.Sound.{AllSound}
+use Rattle.av_plain.specs.Stands.{AreApart, Holds, IsKept, Pte, Stands, entry_of, prot_of}
+use Rattle.av_plain.specs.World.{Page, Process, lives, pages, process}
+use Rattle.av_laws.specs.Examples.{machine, page_with, read_write, with_byte}
+use Rattle.av_laws.specs.Views.{forked}
+use Rattle.av_plain.proofs.Ledger.{same_key, same_key-is}
+use Rattle.av_plain.proofs.Ledger.NoSwap.{key_is}
+use Rattle.std.specs.Prelude.{◌≡◌, ℕ, Bool, true, false, List, [], ◌∷◌, length, Some, None, is_some, refl}
+use Rattle.std.proofs.Common.{arith, sym, ap, ◌≤◌}
+use Rattle.av_plain.specs.Ledger.{InFrame}
+use Rattle.av_laws.specs.Views.{Refused, range, right, view_with}
+use Rattle.av_laws.proofs.NoDevice.{never}
+
+first : List ℕ → ℕ
+first [] = 0
+first (x ∷ xs) = x
+
+pub other_byte-not : Refused (record right { bytes = λ f i. 0 })
+other_byte-not h = let e : ◌≡◌ {A = ℕ} 0 7 = h.parts.bytes.kept 1 0x7fffffffe 0 (omega arith) in omega (arith, e)
+
+pub write_bit-not : Refused (view_with (range 0x7fffffffe 0x7ffffffff ∷ []) true)
+write_bit-not h = never (sym (h.parts.ledger.tables.write_bits 1 0x7fffffffe (record { entry = InFrame 0 true; write = true }) 0 refl refl refl))
+
+pub no_entry-not : Refused (record right { table = λ p page. None })
+no_entry-not h = never (ap is_some (h.parts.ledger.tables.entries 1 0x7fffffffe))
+
+pub other_count-not : Refused (record right { maps = λ f. 1 })
+other_count-not h = let e : ◌≡◌ {A = ℕ} 1 2 = h.parts.ledger.frames.maps 0 in omega (arith, e)
+
+pub other_order-not : Refused (record right { free = 2 ∷ 1 ∷ 3 ∷ [] })
+unfolding first
+other_order-not h = let e : ◌≡◌ {A = ℕ} 2 1 = ap first h.free in omega (arith, e)
+
+pub made_active-not : Refused (record right { active = 0 ∷ [] })
+made_active-not h = let e : ◌≡◌ {A = ℕ} 1 0 = ap length h.parts.ledger.lists.active in omega (arith, e)
+
+pub area_too_long-not : Refused (view_with (range 0x7fffffffd 0x7ffffffff ∷ []) false)
+area_too_long-not h = never (sym (ap is_some (h.parts.areas.covers 1 0x7fffffffd)))
+
+pub area_twice-not : Refused (view_with (range 0x7fffffffe 0x7ffffffff ∷ range 0x7fffffffe 0x7ffffffff ∷ []) false)
+area_twice-not h = let e : 0x7ffffffff ≤ 0x7fffffffe = (h.parts.areas.apart 1).1 in omega (arith, e)
+
+pub areas_of_nobody-not : Refused (record right { areas = λ p. Some (range 0x7fffffffe 0x7ffffffff ∷ []) })
+areas_of_nobody-not h = never (sym (h.parts.areas.alive 3))
+
+pub too_few_processes-not : Refused (record right { processes = 1 })
+too_few_processes-not h = let e : ◌≡◌ {A = ℕ} 1 2 = h.parts.areas.number in omega (arith, e)
+
+-- ---- the right one stands
+
+only-page : (q : Key) (d : Entry) → entry forked.ledger q ≡ Some d → q.1 ≡ 0x7fffffffe
+only-page q d at = by (same_key q (1, 0x7fffffffe)) (same_key q (2, 0x7fffffffe)) refl refl at
+  where
+    by : (b c : Bool) → same_key q (1, 0x7fffffffe) ≡ b → same_key q (2, 0x7fffffffe) ≡ c → cond b (Some (InFrame 0 true)) (cond c (Some (InFrame 0 false)) None) ≡ Some d → q.1 ≡ 0x7fffffffe
+    by true c is is' e = ap (λ (k : Key). k.1) (same_key-is q (1, 0x7fffffffe) is)
+    by false true is is' e = ap (λ (k : Key). k.1) (same_key-is q (2, 0x7fffffffe) is')
+    by false false is is' e = cc
+
+at_page : (q : Key) → is_some (entry forked.ledger q) ≡ true → is_some (pages forked.world q.0 q.1) ≡ true
+at_page q h = by (same_key q (1, 0x7fffffffe)) (same_key q (2, 0x7fffffffe)) refl refl h
+  where
+    by : (b c : Bool) → same_key q (1, 0x7fffffffe) ≡ b → same_key q (2, 0x7fffffffe) ≡ c → is_some (cond b (Some (InFrame 0 true)) (cond c (Some (InFrame 0 false)) None)) ≡ true → is_some (pages forked.world q.0 q.1) ≡ true
+    by true c is is' e = subst (λ (k : Key). is_some (pages forked.world k.0 k.1) ≡ true) (sym (same_key-is q (1, 0x7fffffffe) is)) refl
+    by false true is is' e = subst (λ (k : Key). is_some (pages forked.world k.0 k.1) ≡ true) (sym (same_key-is q (2, 0x7fffffffe) is')) refl
+    by false false is is' e = absurd (never e)
+
+forked-sound : AllSound (machine 4) forked.world forked.ledger
+forked-sound = record {
+  world = record { in_order = tt; few = omega arith };
+  ledger = record {
+    in_order = tt;
+    slots_once = λ s. omega arith;
+    frames_once = λ f. omega arith;
+    in_range = λ f h. range_of f (f == 0) refl h;
+    listed = λ f. listed (f == 0);
+    flying = λ s. omega arith;
+    used = λ s f h. absurd (omega (arith, h));
+    one = λ p a b d e at at' related. only-page (p, a) d at ∙ sym (only-page (p, b) e at');
+  };
+  at_pages = λ p page h. at_page (p, page) h;
+  in_areas = λ s h. absurd (omega (arith, h));
+  areas_fit = record { rising = tt; fit = λ k. tt };
+}
+  where
+    range_of : (f : ℕ) (b : Bool) → (f == 0) ≡ b → 0 < (cond b 1 0 + (cond b 1 0 + 0)) + 0 → f < 4
+    range_of f true is h = grind (arith, nat_tests, is)
+    range_of f false is h = absurd (omega (arith, h))
+
+    listed : (b : Bool) → 0 + (cond b 1 0 + 0) ≡ min 1 ((cond b 1 0 + (cond b 1 0 + 0)) + 0)
+    listed true = refl
+    listed false = refl
+
+-- two processes are found as two numbers are
+same_number : (p n : ℕ) → eq_by_cmp nat_cmp p n ≡ (p == n)
+same_number p n = grind (arith, nat_tests)
+
+found : (p : ℕ) → process forked.world p ≡ cond (p == 1) (Some (with_byte 7)) (cond (p == 2) (Some (with_byte 7)) None)
+found p i = cond (same_number p 1 i) (Some (with_byte 7)) (cond (same_number p 2 i) (Some (with_byte 7)) None)
+
+in_range : (page : ℕ) → (nat_le 0x7fffffffe page && nat_lt page 0x7ffffffff) ≡ (page == 0x7fffffffe)
+in_range page = grind (arith, nat_tests)
+
+abbrev one_range : List Range
+one_range = range 0x7fffffffe 0x7ffffffff ∷ []
+
+alive : (p : ℕ) → is_some (right.areas p) ≡ lives forked.world p
+alive p = by (p == 1) (p == 2) ∙ ap is_some (sym (found p))
+  where
+    by : (a b : Bool) → is_some (if a || b then Some one_range else None) ≡ is_some (cond a (Some (with_byte 7)) (cond b (Some (with_byte 7)) None))
+    by true b = refl
+    by false true = refl
+    by false false = refl
+
+apart : (p : ℕ) → IfSome (right.areas p) AreApart
+apart p = by (p == 1 || p == 2)
+  where
+    by : (b : Bool) → IfSome (if b then Some one_range else None) AreApart
+    by true = omega arith
+    by false = tt
+
+covers : (p page : ℕ) → prot_of (right.areas p) page ≡ option_map (λ (q : Page). q.prot) (pages forked.world p page)
+covers p page = by (p == 1) (p == 2) ∙ ap (λ o. option_map (λ (q : Page). q.prot) (option_and_then (λ (q : Process). q page) o)) (sym (found p))
+  where
+    one : (c : Bool) → (nat_le 0x7fffffffe page && nat_lt page 0x7ffffffff) ≡ c → prot_in one_range page ≡ option_map (λ (q : Page). q.prot) (if c then Some (page_with 7) else None)
+    one true is = ap (λ b. if b then Some read_write else None) is
+    one false is = ap (λ b. if b then Some read_write else None) is
+
+    by : (a b : Bool) → prot_of (if a || b then Some one_range else None) page ≡ option_map (λ (q : Page). q.prot) (option_and_then (λ (q : Process). q page) (cond a (Some (with_byte 7)) (cond b (Some (with_byte 7)) None)))
+    by true b = one (page == 0x7fffffffe) (in_range page)
+    by false true = one (page == 0x7fffffffe) (in_range page)
+    by false false = refl
+
+kept : (p page : ℕ) → IsKept right no_device forked.ledger (entry forked.ledger (p, page)) (pages forked.world p page)
+kept p page = subst (λ o. IsKept right no_device forked.ledger o (pages forked.world p page)) (sym at)
+    (subst (λ o. IsKept right no_device forked.ledger (cond (p == 1 && page == 0x7fffffffe) (Some (InFrame 0 true)) (cond (p == 2 && page == 0x7fffffffe) (Some (InFrame 0 false)) None)) (option_and_then (λ (q : Process). q page) o)) (sym (found p))
+    (by (p == 1) (p == 2) (page == 0x7fffffffe) (with_byte 7) refl))
+  where
+    at : entry forked.ledger (p, page) ≡ cond (p == 1 && page == 0x7fffffffe) (Some (InFrame 0 true)) (cond (p == 2 && page == 0x7fffffffe) (Some (InFrame 0 false)) None)
+    at i = cond (key_is p page 1 0x7fffffffe i) (Some (InFrame 0 true)) (cond (key_is p page 2 0x7fffffffe i) (Some (InFrame 0 false)) None)
+
+    holds : (q : Process) → q page ≡ Some (page_with 7) → Holds (q page) (right.bytes 0)
+    holds q is = subst (λ o. Holds o (right.bytes 0)) (sym is) (λ i h. refl)
+
+    nothing : (q : Process) → q page ≡ None → Holds (q page) (λ _. 0)
+    nothing q is = subst (λ o. Holds o (λ _. 0)) (sym is) tt
+
+    by : (a b c : Bool) (q : Process) → q page ≡ (if c then Some (page_with 7) else None)
+        → IsKept right no_device forked.ledger (cond (a && c) (Some (InFrame 0 true)) (cond (b && c) (Some (InFrame 0 false)) None)) (option_and_then (λ (q : Process). q page) (cond a (Some q) (cond b (Some q) None)))
+    by true b true q is = holds q is
+    by true true false q is = nothing q is
+    by true false false q is = nothing q is
+    by false true true q is = holds q is
+    by false true false q is = nothing q is
+    by false false c q is = tt
+
+pub right-stands : Stands (machine 4) right no_device forked
+right-stands = record {
+  over = record { sizes = refl; headers = refl };
+  sound = forked-sound;
+  parts = record {
+    ledger = record {
+      frames = record { frames = refl; maps = λ f. refl; slots = λ f. refl; dirty = λ f. tt; free = free };
+      lists = record { active = refl };
+      tables = record { entries = λ p page. entries (entry forked.ledger (p, page)); write_bits = λ p page t f is write named. absurd (no_bit (entry forked.ledger (p, page)) t is write) };
+      swap = record { finds = λ s. refl; counts = λ s. refl; flight = refl; on = refl };
+    };
+    areas = record { alive = alive; number = refl; apart = apart; covers = covers };
+    bytes = record { kept = kept; clean = λ s a b. tt };
+    headers = λ k. tt;
+  };
+  free = refl;
+}
+  where
+    free : (f : ℕ) → f < 4 → is_in f (1 ∷ 2 ∷ 3 ∷ []) ≡ is_free forked.ledger f
+    free zero h = refl
+    free (suc zero) h = refl
+    free (suc (suc zero)) h = refl
+    free (suc (suc (suc zero))) h = refl
+    free (suc (suc (suc (suc f)))) h = absurd (omega (arith, h))
+
+    entries : (o : Option Entry) → entry_of (option_map (λ e. record { entry = e; write = false }) o) ≡ o
+    entries None = refl
+    entries (Some e) = refl
+
+    no_bit : (o : Option Entry) (t : Pte) → option_map (λ e. record { entry = e; write = false }) o ≡ Some t → t.write ≡ true → ⊥
+    no_bit None t is write = cc
+    no_bit (Some e) t is write = never (bit is ∙ write)
+      where
+        bit : {x y : Pte} → Some x ≡ Some y → x.write ≡ y.write
+        bit e = ap (λ (p : Pte). p.write) (inner e)
+          where
+            inner : {x y : Pte} → Some x ≡ Some y → x ≡ y
+            inner e = cc

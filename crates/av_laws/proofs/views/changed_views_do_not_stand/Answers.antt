@@ -1,0 +1,32 @@
+use Rattle.av_laws.proofs.ViewExamples.{other_byte-not, write_bit-not, no_entry-not, other_count-not, other_order-not, made_active-not, area_too_long-not, area_twice-not, areas_of_nobody-not, too_few_processes-not}
+use Rattle.av_laws.proofs.views.changed_views_do_not_stand.Goals as goal
+
+pub returns-clause-other_byte : goal.returns-clause-other_byte
+returns-clause-other_byte c = other_byte-not
+
+pub returns-clause-write_bit : goal.returns-clause-write_bit
+returns-clause-write_bit c = write_bit-not
+
+pub returns-clause-no_entry : goal.returns-clause-no_entry
+returns-clause-no_entry c = no_entry-not
+
+pub returns-clause-other_count : goal.returns-clause-other_count
+returns-clause-other_count c = other_count-not
+
+pub returns-clause-other_order : goal.returns-clause-other_order
+returns-clause-other_order c = other_order-not
+
+pub returns-clause-made_active : goal.returns-clause-made_active
+returns-clause-made_active c = made_active-not
+
+pub returns-clause-area_too_long : goal.returns-clause-area_too_long
+returns-clause-area_too_long c = area_too_long-not
+
+pub returns-clause-area_twice : goal.returns-clause-area_twice
+returns-clause-area_twice c = area_twice-not
+
+pub returns-clause-areas_of_nobody : goal.returns-clause-areas_of_nobody
+returns-clause-areas_of_nobody c = areas_of_nobody-not
+
+pub returns-clause-too_few_processes : goal.returns-clause-too_few_processes
+returns-clause-too_few_processes c = too_few_processes-not
