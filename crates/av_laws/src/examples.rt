@@ -143,30 +143,20 @@ pub fn first_examples_run()
 pub fn shared_examples_run()
     ensures copies { Allows (machine 4) (after_fork (1 ∷ 2 ∷ 3 ∷ [])) copies }
     ensures no_copy { Allows (machine 1) (after_fork []) no_copy }
-<<<<<<< HEAD
-    ensures load_and_copy { Allows (with_swap 4 8 7) (slot_shared (0 ∷ 1 ∷ 2 ∷ 3 ∷ [])) load_and_copy }
-=======
     ensures load_and_copy { Allows (with_swap 4 8 7) (slot_shared (0 ∷ 1 ∷ 2 ∷ 3 ∷ []))
         load_and_copy }
->>>>>>> ad137dcf9f9591e2227938e50a799bd28e195cca
     ensures load_without_copy { Allows (with_swap 1 8 7) (slot_shared (0 ∷ [])) load_without_copy }
 {}
 
 /// Pages that are on a device, or cached.
 pub fn swap_examples_run()
     ensures loads { Allows (with_swap 4 8 7) (paged_out 7 (0 ∷ 1 ∷ 2 ∷ 3 ∷ [])) loads }
-<<<<<<< HEAD
-    ensures load_to_write { Allows (with_swap 4 8 7) (paged_out 7 (0 ∷ 1 ∷ 2 ∷ 3 ∷ [])) load_to_write }
-    ensures load_when_full { Allows (with_swap 4 2 1) (paged_out 1 (0 ∷ 1 ∷ 2 ∷ 3 ∷ [])) load_when_full }
-    ensures load_when_half_full { Allows (with_swap 4 3 2) (paged_out 2 (0 ∷ 1 ∷ 2 ∷ 3 ∷ [])) load_when_half_full }
-=======
     ensures load_to_write { Allows (with_swap 4 8 7) (paged_out 7 (0 ∷ 1 ∷ 2 ∷ 3 ∷ []))
         load_to_write }
     ensures load_when_full { Allows (with_swap 4 2 1) (paged_out 1 (0 ∷ 1 ∷ 2 ∷ 3 ∷ []))
         load_when_full }
     ensures load_when_half_full { Allows (with_swap 4 3 2) (paged_out 2 (0 ∷ 1 ∷ 2 ∷ 3 ∷ []))
         load_when_half_full }
->>>>>>> ad137dcf9f9591e2227938e50a799bd28e195cca
     ensures no_load { Allows (with_swap 0 8 7) (paged_out 7 []) no_load }
     ensures maps_again { Allows (with_swap 4 8 7) in_writeback maps_again }
     ensures load_unclaimed { Allows untold (paged_out 7 (0 ∷ 1 ∷ 2 ∷ 3 ∷ [])) load_unclaimed }
@@ -174,12 +164,6 @@ pub fn swap_examples_run()
 
 /// The ledger after each event, in a row of events, and the free frames after some.
 pub fn ledgers_follow()
-<<<<<<< HEAD
-    ensures out_and_back { Leads (ledger_with (InFrame 5 true) [] [] (5 ∷ []) (6 ∷ [])) out_and_back }
-    ensures copied_and_gone { Leads first_ledger copied_and_gone }
-    ensures taken_and_freed { ChoosesAll (machine 3) first_ledger taken_and_freed (0 ∷ 1 ∷ 2 ∷ []) (1 ∷ 0 ∷ 2 ∷ []) }
-    ensures dropped_and_freed { ChoosesAll (machine 6) orphan (Noted (Dropped (slot 1)) ∷ []) (2 ∷ []) (5 ∷ 2 ∷ []) }
-=======
     ensures out_and_back { Leads (ledger_with (InFrame 5 true) [] [] (5 ∷ []) (6 ∷ []))
         out_and_back }
     ensures copied_and_gone { Leads first_ledger copied_and_gone }
@@ -187,7 +171,6 @@ pub fn ledgers_follow()
         (1 ∷ 0 ∷ 2 ∷ []) }
     ensures dropped_and_freed { ChoosesAll (machine 6) orphan (Noted (Dropped (slot 1)) ∷ [])
         (2 ∷ []) (5 ∷ 2 ∷ []) }
->>>>>>> ad137dcf9f9591e2227938e50a799bd28e195cca
 {}
 
 /// Runs that differ from these in one place may not be.
@@ -204,26 +187,12 @@ pub fn changed_runs_are_refused()
 /// Replies to one command that may not come, whichever frames the kernel takes: a note too few or
 /// too many, or of another page; a refusal, a stop or a place that the rules don't give.
 pub fn changed_replies_are_refused()
-<<<<<<< HEAD
-    ensures no_note { Forbids (machine 4) untouched (Write 1 0x7fffffffe000 (1 ∷ [])) (answered Done []) }
-=======
     ensures no_note { Forbids (machine 4) untouched (Write 1 0x7fffffffe000 (1 ∷ []))
         (answered Done []) }
->>>>>>> ad137dcf9f9591e2227938e50a799bd28e195cca
     ensures note_too_many { Forbids (machine 4) untouched (Write 1 0x7fffffffe000 (1 ∷ []))
         (answered Done (Zeroed 1 0x7fffffffe000 ∷ New 1 0x7fffffffe000 0 ∷ [])) }
     ensures page_below { Forbids (machine 4) untouched (Write 1 0x7fffffffe000 (1 ∷ []))
         (answered Done (New 1 0x7fffffffd000 0 ∷ [])) }
-<<<<<<< HEAD
-    ensures unnoted_zero { Forbids (machine 4) untouched (Read 1 0x7fffffffe000 1) (answered (Data (0 ∷ [])) []) }
-    ensures frame_for_a_read { Forbids (machine 4) untouched (Read 1 0x7fffffffe000 1)
-        (answered (Data (0 ∷ [])) (New 1 0x7fffffffe000 0 ∷ [])) }
-    ensures denied_though_allowed { Forbids (machine 4) untouched (Write 1 0x7fffffffe000 (1 ∷ [])) (answered (Segv 0 []) []) }
-    ensures starved_though_free { Forbids (machine 4) untouched (Write 1 0x7fffffffe000 (1 ∷ []))
-        (answered (Oom 0 (record { pinned = 0; noslot = 4; fault = 0 }) []) []) }
-    ensures wrong_order { Forbids (machine 4) empty (Mmap 2 0 read_write Auto) (answered (Refused Einval) []) }
-    ensures wrong_order_in_a_crowd { Forbids (machine 4) (crowd 4096) (Spawn 1) (answered (Refused Eagain) []) }
-=======
     ensures unnoted_zero { Forbids (machine 4) untouched (Read 1 0x7fffffffe000 1)
         (answered (Data (0 ∷ [])) []) }
     ensures frame_for_a_read { Forbids (machine 4) untouched (Read 1 0x7fffffffe000 1)
@@ -236,32 +205,21 @@ pub fn changed_replies_are_refused()
         (answered (Refused Einval) []) }
     ensures wrong_order_in_a_crowd { Forbids (machine 4) (crowd 4096) (Spawn 1)
         (answered (Refused Eagain) []) }
->>>>>>> ad137dcf9f9591e2227938e50a799bd28e195cca
     ensures reported_spawn { Forbids (machine 4) empty (Spawn 1)
         (record { answer = Done; notes = []; rows = Entry 1 0 ∷ [] }) }
     ensures mapped_too_low { Forbids (machine 4) (crowd 1) (Mmap 1 4096 read_write Auto)
         (answered (MapAt 0x7fffffffd000) []) }
-<<<<<<< HEAD
-    ensures no_room_though_empty { Forbids (machine 4) (crowd 1) (Mmap 1 4096 read_write Auto) (answered (Refused Enomem) []) }
-=======
     ensures no_room_though_empty { Forbids (machine 4) (crowd 1) (Mmap 1 4096 read_write Auto)
         (answered (Refused Enomem) []) }
->>>>>>> ad137dcf9f9591e2227938e50a799bd28e195cca
 {}
 
 /// And so with shared frames and swap.
 pub fn changed_replies_of_swap_are_refused()
-<<<<<<< HEAD
-    ensures no_copy_of_shared { Forbids (machine 4) (after_fork (1 ∷ 2 ∷ 3 ∷ [])) (Write 1 0x7fffffffe000 (8 ∷ []))
-        (answered Done []) }
-    ensures copy_for_a_read { Forbids (machine 4) (after_fork (1 ∷ 2 ∷ 3 ∷ [])) (Read 2 0x7fffffffe000 1)
-=======
     ensures no_copy_of_shared { Forbids (machine 4) (after_fork (1 ∷ 2 ∷ 3 ∷ []))
         (Write 1 0x7fffffffe000 (8 ∷ []))
         (answered Done []) }
     ensures copy_for_a_read { Forbids (machine 4) (after_fork (1 ∷ 2 ∷ 3 ∷ []))
         (Read 2 0x7fffffffe000 1)
->>>>>>> ad137dcf9f9591e2227938e50a799bd28e195cca
         (answered (Data (7 ∷ [])) (Copied 2 0x7fffffffe000 1 ∷ [])) }
     ensures wrong_numbers { Forbids (machine 1) (after_fork []) (Write 2 0x7fffffffe000 (6 ∷ []))
         (answered (Oom 0 (record { pinned = 0; noslot = 1; fault = 0 }) []) []) }
@@ -269,15 +227,6 @@ pub fn changed_replies_of_swap_are_refused()
         (answered Done []) }
     ensures drop_though_not_full { Forbids (with_swap 4 8 7) in_swap_cache (Read 1 0x7fffffffe000 1)
         (answered (Data (7 ∷ [])) (Dropped (slot 1) ∷ [])) }
-<<<<<<< HEAD
-    ensures drop_in_flight { Forbids (with_swap 4 8 7) in_writeback (Write 1 0x7fffffffe000 (8 ∷ []))
-        (answered Done (Mapped 1 0x7fffffffe000 0 ∷ Dropped (slot 1) ∷ [])) }
-    ensures map_without_load { Forbids (with_swap 4 8 7) (paged_out 7 (0 ∷ 1 ∷ 2 ∷ 3 ∷ [])) (Read 1 0x7fffffffe000 1)
-        (answered (Data (7 ∷ [])) (Mapped 1 0x7fffffffe000 0 ∷ [])) }
-    ensures bus_without_a_frame { Forbids (with_swap 0 8 7) (paged_out 7 []) (Read 1 0x7fffffffe000 1)
-        (answered (Bus 0 []) []) }
-    ensures bus_at_a_frame { Forbids (machine 4) (after_fork (1 ∷ 2 ∷ 3 ∷ [])) (Read 1 0x7fffffffe000 1)
-=======
     ensures drop_in_flight { Forbids (with_swap 4 8 7) in_writeback
         (Write 1 0x7fffffffe000 (8 ∷ []))
         (answered Done (Mapped 1 0x7fffffffe000 0 ∷ Dropped (slot 1) ∷ [])) }
@@ -289,7 +238,6 @@ pub fn changed_replies_of_swap_are_refused()
         (answered (Bus 0 []) []) }
     ensures bus_at_a_frame { Forbids (machine 4) (after_fork (1 ∷ 2 ∷ 3 ∷ []))
         (Read 1 0x7fffffffe000 1)
->>>>>>> ad137dcf9f9591e2227938e50a799bd28e195cca
         (answered (Bus 0 []) []) }
 {}
 
@@ -306,12 +254,8 @@ pub fn exits_and_reports_run()
     ensures exit_shared { Allows (machine 4) (after_fork (1 ∷ 2 ∷ 3 ∷ [])) exit_shared }
     ensures exit_drops { Allows (with_swap 4 8 7) in_swap_cache exit_drops }
     ensures exit_in_writeback { Allows (with_swap 4 8 7) in_writeback exit_in_writeback }
-<<<<<<< HEAD
-    ensures exit_paged_out { Allows (with_swap 4 8 7) (paged_out 7 (0 ∷ 1 ∷ 2 ∷ 3 ∷ [])) exit_paged_out }
-=======
     ensures exit_paged_out { Allows (with_swap 4 8 7) (paged_out 7 (0 ∷ 1 ∷ 2 ∷ 3 ∷ []))
         exit_paged_out }
->>>>>>> ad137dcf9f9591e2227938e50a799bd28e195cca
 {}
 
 /// Reports and exits that differ from these in one place may not come: none of these lists is an
@@ -344,15 +288,6 @@ pub fn changed_ranges_are_refused()
     ensures protected_past_a_hole { Refutes 4 (past_a_hole (Segv 0 []) []) }
     ensures entry_kept { Refutes 4 (fixed_over 2 0 (Zeroed 1 0x20000 ∷ [])) }
     ensures byte_kept { Refutes 4 (fixed_over 3 7 (Zeroed 1 0x20000 ∷ [])) }
-<<<<<<< HEAD
-    ensures replaced_though_mapped { Forbids (machine 4) untouched (Mmap 1 4096 read_write (NoReplace 0x7fffffffe000))
-        (answered (MapAt 0x7fffffffe000) []) }
-    ensures address_before_length { Forbids (machine 4) (crowd 1) (Mmap 1 4096 read_write (Fixed 0x7ffffffff001))
-        (answered (Refused Einval) []) }
-    ensures low_before_address { Forbids (machine 4) (crowd 1) (Mmap 1 4096 read_write (Fixed 1))
-        (answered (Refused Eperm) []) }
-    ensures munmap { Only (machine 4) one_written (Munmap 1 0x7fffffffe000 1) (answered Done []) page_gone }
-=======
     ensures replaced_though_mapped { Forbids (machine 4) untouched
         (Mmap 1 4096 read_write (NoReplace 0x7fffffffe000))
         (answered (MapAt 0x7fffffffe000) []) }
@@ -363,7 +298,6 @@ pub fn changed_ranges_are_refused()
         (answered (Refused Eperm) []) }
     ensures munmap { Only (machine 4) one_written (Munmap 1 0x7fffffffe000 1) (answered Done [])
         page_gone }
->>>>>>> ad137dcf9f9591e2227938e50a799bd28e195cca
     ensures fixed { Only (machine 4) one_written (Mmap 1 4096 read_only (Fixed 0x7fffffffe000))
         (answered (MapAt 0x7fffffffe000) []) page_anew }
 {}

@@ -68,12 +68,8 @@ pub fn refusals_change_nothing()
         → is_mprotect command ≡ false → IsLegal m w l command reply events
         → reply.answer ≡ Refused error
         → (next_world m w l events command reply.answer ≡ w) × (after_all l events ≡ l) }
-<<<<<<< HEAD
-    ensures mprotect { (m : Setting) (w : World) (l : Ledger) (p a len : ℕ) (prot : Prot) (reply : Reply)
-=======
     ensures mprotect { (m : Setting) (w : World) (l : Ledger) (p a len : ℕ) (prot : Prot)
         (reply : Reply)
->>>>>>> ad137dcf9f9591e2227938e50a799bd28e195cca
         (events : List Event) (error : Errno)
         → IsLegal m w l (Mprotect p a len prot) reply events → reply.answer ≡ Refused error
         → ((next_world m w l events (Mprotect p a len prot) reply.answer ≡ w)
@@ -113,12 +109,8 @@ pub fn runs_are_determined()
 
 /// In a run the list of free frames has each free frame of the machine once, and no other number.
 pub fn runs_list_free_frames()
-<<<<<<< HEAD
-    ensures { (m : Setting) (exchanges : List Exchange) (new : State) → IsRun m (at_first m) exchanges new
-=======
     ensures { (m : Setting) (exchanges : List Exchange) (new : State)
         → IsRun m (at_first m) exchanges new
->>>>>>> ad137dcf9f9591e2227938e50a799bd28e195cca
         → ListsFree m new.ledger new.free }
 {}
 
@@ -131,12 +123,8 @@ pub fn totals_add_up()
 
 /// The longest runs of a process's pages are one list: `maps` has one answer.
 pub fn maps_has_one_answer()
-<<<<<<< HEAD
-    ensures { (q : Process) (rows others : List Row) → AreMaps q rows → AreMaps q others → rows ≡ others }
-=======
     ensures { (q : Process) (rows others : List Row) → AreMaps q rows → AreMaps q others → rows
         ≡ others }
->>>>>>> ad137dcf9f9591e2227938e50a799bd28e195cca
 {}
 
 /// Where no swap area is attached, a reply has nothing that only a fault of a device explains: no

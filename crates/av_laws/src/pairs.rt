@@ -78,27 +78,18 @@ pub fn passes_run()
     ensures no_slot_written { Allows bad_first full no_slot_written }
     ensures completes { Allows (with_swap 2 8 7) two_in_flight completes }
     ensures second_fails { Allows (with_swap 2 8 7) two_in_flight second_fails }
-<<<<<<< HEAD
-    ensures named_by_other { Allows (with_swap 4 2 1) (cached_for_two 1 (InSlot (slot 1))) named_by_other }
-    ensures orphan_of_two { Allows (with_swap 4 8 7) (cached_for_two 7 (InFrame 0 true)) orphan_of_two }
-=======
     ensures named_by_other { Allows (with_swap 4 2 1) (cached_for_two 1 (InSlot (slot 1)))
         named_by_other }
     ensures orphan_of_two { Allows (with_swap 4 8 7) (cached_for_two 7 (InFrame 0 true))
         orphan_of_two }
->>>>>>> ad137dcf9f9591e2227938e50a799bd28e195cca
 {}
 
 /// A mapping over a page that a hint names, and a pass that puts a frame at a bad page, may not be.
 pub fn changed_pairs_are_refused()
     ensures hint_taken { Forbids (machine 4) untouched (Mmap 1 4096 read_write (At 0x7fffffffe000))
         (answered (MapAt 0x7fffffffe000) []) }
-<<<<<<< HEAD
-    ensures bad_page { IsPass bad_first (sparing full.world full.ledger None) full.ledger to_bad_page → ⊥ }
-=======
     ensures bad_page { IsPass bad_first (sparing full.world full.ledger None) full.ledger
         to_bad_page → ⊥ }
->>>>>>> ad137dcf9f9591e2227938e50a799bd28e195cca
 {}
 
 /// A load from a device that doesn't tell its pages makes unclaimed what the slot's pages held, in
@@ -113,12 +104,8 @@ pub fn loads_make_unclaimed()
 
 /// What only faults of the device explain is counted: each `fail`, `bus` and EIO.
 pub fn faults_are_counted()
-<<<<<<< HEAD
-    ensures bus_and_fails { causes (answered (Bus 0 []) (Failed (slot 1) ∷ Written (slot 2) ∷ Failed (slot 3) ∷ []))
-=======
     ensures bus_and_fails { causes
         (answered (Bus 0 []) (Failed (slot 1) ∷ Written (slot 2) ∷ Failed (slot 3) ∷ []))
->>>>>>> ad137dcf9f9591e2227938e50a799bd28e195cca
         ≡ 3 }
     ensures eio { causes (answered (Refused Eio) []) ≡ 1 }
     ensures no_fault { causes (answered (Refused Enomem) (Written (slot 1) ∷ [])) ≡ 0 }
