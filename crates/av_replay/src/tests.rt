@@ -1,7 +1,6 @@
 use super::*;
-use av_io::{Failed, MemSink, MemSource, Sink, SinkErr, Source};
+use av_io::{MemSink, MemSource};
 use std::alloc::{AllocError, Global};
-use std::cell::Cell;
 use std::test::*;
 
 /// What a trace in memory gives under these words: what was written, and how the run ended.
@@ -80,65 +79,6 @@ fn words_and_faults(rt: HostRuntime) -> Result<(), Fail> {
     assert!(rt;
         half.outcome.status == Status::WriteFault && half.text.bytes() == b"ok\n".as_slice()
     );
-    Ok(())
-}
-
-/// A source that notes whether it was read while a sink kept something back.
-#[derive(Drop)]
-struct Asker<'a> {
-    source: MemSource,
-    kept: &'a Cell<usize>,
-    waited: bool,
-}
-
-impl Source for Asker<'_> {
-    ghost view = { λ s. ⟦<MemSource as Source>⟧.view s.source };
-
-    fn read(&mut self, into: &mut [u8]) -> Result<usize, Failed> {
-        self.waited = self.waited || self.kept.get() > 0;
-        self.source.read(into)
-    }
-}
-
-/// A sink that tells what it holds, and counts what was not handed on yet.
-#[derive(Drop)]
-struct Answerer<'a> {
-    sink: MemSink,
-    kept: &'a Cell<usize>,
-}
-
-impl Sink for Answerer<'_> {
-    ghost view = { λ s. ⟦<MemSink as Sink>⟧.view s.sink };
-
-    fn write(&mut self, piece: &[u8]) -> Result<usize, SinkErr> {
-        self.kept.set(self.kept.get().saturating_add(piece.len()));
-        self.sink.write(piece)
-    }
-
-    fn flush(&mut self) -> Result<(), Failed> {
-        self.kept.set(0);
-        self.sink.flush()
-    }
-}
-
-#[test]
-fn a_flush_before_each_read(rt: HostRuntime) -> Result<(), Fail> {
-    let a = rt.alloc();
-    let kept = Cell::new(0);
-    let bytes = Vec::from_slice(a, b"spawn 1\nspawn 2")?;
-    let mut source = Asker {
-        source: MemSource::new(bytes, Vec::new(a)),
-        kept: &kept,
-        waited: false,
-    };
-    let mut sink = Answerer {
-        sink: MemSink::new(a, Vec::new(a)),
-        kept: &kept,
-    };
-    let words = vec![in a; String::from_str(a, "run")?, String::from_str(a, "4")?]?;
-    assert!(rt; run(a, &words, &mut source, &mut sink).status == Status::Done);
-    assert!(rt; !source.waited && kept.get() == 0);
-    assert!(rt; sink.sink.bytes() == b"ok\nok\n".as_slice());
     Ok(())
 }
 
