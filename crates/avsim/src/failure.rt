@@ -9,7 +9,7 @@ use thiserror::Error;
 /// Why the program failed, in the words that it prints.
 #[derive(Debug, Drop, Error)]
 pub enum Failure {
-    #[error("usage: avsim run FRAMES | avsim --help | avsim --version")]
+    #[error("usage: avsim run FRAMES [SWAP..] | avsim work SEED LINES FRAMES [SWAP..]")]
     Usage,
     #[error("line {0}: not a command")]
     BadLine(u32),

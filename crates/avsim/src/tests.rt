@@ -10,7 +10,7 @@ fn each_status(rt: HostRuntime) -> Result<(), Fail> {
         (
             Status::Usage,
             2,
-            "usage: avsim run FRAMES | avsim --help | avsim --version",
+            "usage: avsim run FRAMES [SWAP..] | avsim work SEED LINES FRAMES [SWAP..]",
         ),
         (Status::BadLine(70), 3, "line 70: not a command"),
         (Status::ReadFault, 4, "read failed"),
