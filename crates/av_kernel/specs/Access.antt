@@ -46,7 +46,8 @@ pub record IsAccess (s : State) (new : Mem) (write : Bool) (p a n : ℕ) (bytes 
   pub next : State
   pub world : next.world ≡ world_served write p a bytes s.world
   pub ledger : next.ledger ≡ after_all s.ledger events
-  pub free : ChoosesAll (setting (count new)) s.ledger events s.free next.free
+  pub free : ChoosesAll (setting (count new)) None s.ledger events s.free next.free
+  pub areas : next.areas ≡ s.areas
   pub keeps : Keeps new next
 
 -- the answer of an access that stopped

@@ -2,20 +2,26 @@
 use Rattle.std.specs.Prelude.{◌≡◌, ℕ, ◌+◌, true, false}
 use Rattle.av_trace.specs.declared.command.Command.{Command}
 use Rattle.av_trace.specs.declared.reply.Reply.{Reply}
+use Rattle.av_io.specs.Count.{RoseBy}
+use Rattle.av_plain.specs.Device.{Device, setting_of}
+use Rattle.av_plain.specs.Step.{causes}
 use Rattle.av_plain.specs.Transcript.{State, IsStep}
-use Rattle.av_reclaim.specs.Mem.{setting, Keeps}
+use Rattle.av_reclaim.specs.Mem.{Keeps}
 use Rattle.av_kernel.specs.Machine.{Machine}
 use Rattle.av_kernel.specs.Tally.{counted, none_counted}
 
--- the kernel stands for the memories, the ledger and the free frames
+-- the kernel stands for the memories, the ledger, what is free and the areas
 abbrev pub Stands : Machine → State → Type 0
 Stands k s = Keeps k.mem s
 
--- a command's reply is a step, and the kernel stands for what it leaves
-pub record Steps (old new : Machine) (s : State) (command : Command) (reply : Reply) : Type 0 where
+-- a command's reply is a step, and the kernel stands for what it leaves; what only faults of the device
+-- explain is within what it failed
+pub record Steps (old new : Machine) (device device' : Device) (s : State) (command : Command)
+    (reply : Reply) : Type 0 where
   pub next : State
-  pub step : IsStep (setting old.frames) s command reply next
+  pub step : IsStep (setting_of old.frames device) s command reply next
   pub stands : Stands new next
+  pub faults : RoseBy (causes reply) device.faults device'.faults
 
 -- so many frames, and no command yet
 pub record IsNew (n : ℕ) (k : Machine) : Type 0 where

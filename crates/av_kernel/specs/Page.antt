@@ -30,8 +30,9 @@ pub record IsPageStep (s : State) (new : Mem) (write : Bool) (p page at : ℕ) (
   pub world : next.world ≡ world_after write p page at piece end s.world
   pub ledger : next.ledger
       ≡ after_all s.ledger (page_events write (p, page) added (option_map stop_of end))
-  pub free : ChoosesAll (setting (count new)) s.ledger
+  pub free : ChoosesAll (setting (count new)) None s.ledger
       (page_events write (p, page) added (option_map stop_of end)) s.free next.free
+  pub areas : next.areas ≡ s.areas
   pub keeps : Keeps new next
 
 -- what a read of n bytes shows of a page that was served

@@ -13,7 +13,6 @@ pub mod ExitExamples
 pub mod RangeExamples
 pub mod PairExamples
 pub mod UnsoundExamples
-pub mod NoDevice
 pub mod ReadBack
 pub mod NeedsFrame
 pub mod ViewExamples

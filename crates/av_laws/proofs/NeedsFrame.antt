@@ -24,7 +24,7 @@ use Rattle.av_plain.specs.Step.{Follows, IsLegal}
 use Rattle.av_plain.proofs.Access.{after_all-append, after_notes-append, note_events-all}
 use Rattle.av_plain.proofs.Ledger.{entry-set, how_many-found, same_key, same_key-itself}
 use Rattle.av_plain.proofs.Ledger.NoSwap.{key_at-address, key_is}
-use Rattle.av_laws.proofs.NoDevice.{never}
+use Rattle.av_plain.proofs.NoDevice.{never}
 use Rattle.av_plain.proofs.Sound.Counts.{frame_at-none, slot-is, slot-itself}
 use Rattle.av_plain.proofs.Sound.Steps.{settle-entries, slots-dropped}
 use Rattle.av_laws.specs.NeedsFrame.{NoneWantsFrame}

@@ -39,9 +39,9 @@ use Rattle.av_plain.specs.Sound.{AllSound}
 use Rattle.av_plain.specs.Step.{Follows, IsLegal}
 use Rattle.av_plain.specs.Zap.{keys_in, keys_of_process, zaps_of}
 use Rattle.av_plain.proofs.Report.Totals.{frames-add}
-use Rattle.av_laws.specs.NoDevice.{HasNoDevice}
+use Rattle.av_plain.specs.Device.{HasNoDevice}
 use Rattle.av_laws.specs.ReadBack.{IsSmall}
-use Rattle.av_laws.proofs.NoDevice.{IsPlainAt, accesses-plain, in-areas, no-slots, no-zap-notes}
+use Rattle.av_plain.proofs.NoDevice.{IsPlainAt, accesses-plain, in-areas, no-slots, no-zap-notes}
 use Rattle.av_laws.proofs.OutOfMemory.{legal-adds}
 
 -- what a reply has beside its notes

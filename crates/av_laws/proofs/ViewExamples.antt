@@ -18,7 +18,7 @@ use Rattle.std.specs.Prelude.{◌≡◌, ℕ, Bool, true, false, List, [], ◌�
 use Rattle.std.proofs.Common.{arith, sym, ap, ◌≤◌}
 use Rattle.av_plain.specs.Ledger.{InFrame}
 use Rattle.av_laws.specs.Views.{Refused, range, right, view_with}
-use Rattle.av_laws.proofs.NoDevice.{never}
+use Rattle.av_plain.proofs.NoDevice.{never}
 
 first : List ℕ → ℕ
 first [] = 0

@@ -2,7 +2,6 @@ pub mod Determined
 pub mod Examples
 pub mod Pairs
 pub mod Unsound
-pub mod NoDevice
 pub mod ReadBack
 pub mod NeedsFrame
 pub mod Views

@@ -1,6 +1,6 @@
 //! What follows from the definitions of `av_plain`, beside what the kernel needs of them: replies
-//! are determined, numbers add up, a refusal changes nothing, a reply is read back from its text,
-//! nothing fails without a device; and worked examples, legal ones and such as may not be, sound
+//! are determined, numbers add up, a refusal changes nothing, a reply is read back from its text;
+//! and worked examples, legal ones and such as may not be, sound
 //! states and unsound ones, views that stand for a state and such as don't.
 //!
 //! No function does anything. Each one's contract is a law, proved of the definitions alone.
@@ -30,11 +30,10 @@ ghost use Rattle.av_plain.specs.Map.{StopsAtHole};
 ghost use Rattle.av_plain.specs.Transcript.{Exchange, State, IsStep, IsRun, at_first};
 ghost use Rattle.av_plain.specs.Sound.{AllSound};
 ghost use Rattle.av_plain.specs.Choice.{ListsFree};
-ghost use Rattle.av_plain.specs.Step.{causes};
 ghost use Rattle.av_trace.specs.Command.{IsCommand};
 ghost use Rattle.av_trace.specs.Reply.{IsReply};
 ghost use Rattle.av_laws.specs.NeedsFrame.{NoneWantsFrame};
-ghost use Rattle.av_laws.specs.NoDevice.{HasNoDevice};
+ghost use Rattle.av_plain.specs.Device.{HasNoDevice};
 ghost use Rattle.av_laws.specs.ReadBack.{IsSmall};
 ghost use Rattle.av_laws.specs.Determined.{
   Tells,
@@ -125,14 +124,6 @@ pub fn totals_add_up()
 pub fn maps_has_one_answer()
     ensures { (q : Process) (rows others : List Row) → AreMaps q rows → AreMaps q others → rows
         ≡ others }
-{}
-
-/// Where no swap area is attached, a reply has nothing that only a fault of a device explains: no
-/// `bus`, no EIO and no `fail`.
-pub fn no_device_has_no_faults()
-    ensures { (m : Setting) (w : World) (l : Ledger) (command : Command) (reply : Reply)
-        (events : List Event) → HasNoDevice m → AllSound m w l
-        → IsLegal m w l command reply events → causes reply ≡ 0 }
 {}
 
 /// A legal reply to a command of the grammar is one that is read back from its text: its numbers

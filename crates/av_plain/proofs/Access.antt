@@ -7,7 +7,7 @@ use Rattle.av_plain.specs.Ledger.{Ledger, Setting}
 use Rattle.av_plain.specs.Event.{Event, Noted, after, after_all, note_in, notes_of, after_notes, note_events}
 use Rattle.av_plain.specs.Fault.{Stop, Denied, Starved, Lost, Touches, Sparing, sparing, Serves, RunsOut, IsLost, is_allowed}
 use Rattle.av_plain.specs.Access.{Accesses, End, Whole, Stopped, page_events}
-use Rattle.av_plain.specs.Choice.{ChoosesAll}
+use Rattle.av_plain.specs.Choice.{ChoosesAll, Free}
 
 pub after_all-append : (l : Ledger) (es fs : List Event) → after_all l (es ++ fs) ≡ after_all (after_all l es) fs
 after_all-append l [] fs = refl
@@ -34,10 +34,10 @@ pub after_notes-append : (l : Ledger) (a b : List Note) → after_notes l (a ++ 
 after_notes-append l [] b = refl
 after_notes-append l (note ∷ a) b = after_notes-append (after l (Noted note)) a b
 
-pub chooses-append : (m : Setting) (l : Ledger) (es fs : List Event) (free mid free' : List ℕ) → ChoosesAll m l es free mid → ChoosesAll m (after_all l es) fs mid free'
-    → ChoosesAll m l (es ++ fs) free free'
-chooses-append m l [] fs free mid free' a b = subst (λ x. ChoosesAll m l fs x free') a b
-chooses-append m l (e ∷ es) fs free mid free' a b = (a.0, a.1, chooses-append m (after l e) es fs a.0 mid free' a.2 b)
+pub chooses-append : (m : Setting) (closing : Option ℕ) (l : Ledger) (es fs : List Event) (free mid free' : Free)
+    → ChoosesAll m closing l es free mid → ChoosesAll m closing (after_all l es) fs mid free' → ChoosesAll m closing l (es ++ fs) free free'
+chooses-append m closing l [] fs free mid free' a b = subst (λ x. ChoosesAll m closing l fs x free') a b
+chooses-append m closing l (e ∷ es) fs free mid free' a b = (a.0, a.1, chooses-append m closing (after l e) es fs a.0 mid free' a.2 b)
 
 -- ---- accesses
 

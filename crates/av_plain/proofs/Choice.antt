@@ -1,12 +1,15 @@
 -- Which frames an event makes free, and so the order of the free ones after it.
-use Rattle.std.proofs.Common.{◌≡◌, ℕ, zero, suc, ◌+◌, ◌<◌, ◌≤◌, Bool, true, false, cond, not, ◌&&◌, T, List, [], ◌∷◌, ◌++◌, filter, Option, Some, None, refl, sym, ap, subst, ◌∙◌, arith, ◌==◌}
+use Rattle.std.proofs.Common.{◌≡◌, ℕ, zero, suc, ◌+◌, ◌-◌, ◌<◌, ◌≤◌, Bool, true, false, cond, not, ◌&&◌, T, List, [], ◌∷◌, ◌++◌, filter, Option, Some, None, refl, sym, ap, subst, ◌∙◌, arith, ◌==◌, nat_lt}
 use Rattle.std.proofs.lemmas.Bool.Decides.{nat_tests}
-use Rattle.std.specs.Prelude.{MatchOption}
+use Rattle.std.specs.Prelude.{MatchOption, fold, unwrap_or}
 use Rattle.std.specs.FinMap.Entries.{is_sorted}
 use Rattle.av_base.specs.Words.{how_many, numbers}
-use Rattle.av_plain.specs.Ledger.{Ledger, Setting, Cached, Key, key_cmp, Entry, InFrame, entry, map_count, names_frame, is_free}
+use Rattle.av_plain.specs.Ledger.{Ledger, Setting, Cached, Key, key_cmp, Entry, InFrame, entry, map_count, names_frame, is_free, slot_count}
 use Rattle.av_plain.specs.Event.{Event, Zapped, set_entry, after, after_zap}
-use Rattle.av_plain.specs.Choice.{frame_in, new_free, Chooses}
+use Rattle.av_clusters.specs.Clusters.{Slots, give_slot}
+use Rattle.av_base.specs.declared.slot.Slot.{Slot}
+use Rattle.av_plain.specs.Device.{HasNoDevice}
+use Rattle.av_plain.specs.Choice.{Chooses, ChoosesSlot, Free, IsGiven, Turns, frame_in, new_free, slot_in}
 use Rattle.av_plain.specs.Sound.{uses, holders}
 use Rattle.av_plain.proofs.Ledger.Order.{weight}
 use Rattle.av_plain.proofs.Ledger.{map_count-set}
@@ -77,11 +80,34 @@ new_free-one m l l' f below had gone others = one-passes (λ f. is_free l' f && 
 
 -- ---- an event that makes none free
 
-pub chooses-kept : (m : Setting) (l : Ledger) (e : Event) (free : List ℕ) → frame_in e ≡ None → new_free m l (after l e) ≡ [] → Chooses m l e free free
-chooses-kept m l e free takes none = (free, subst (λ o. MatchOption o (free ≡ free) (λ f. free ≡ f ∷ free)) (sym takes) refl, ap (λ fs. fs ++ free) (sym none))
+-- where no area is attached, an event that neither takes a slot nor turns an area leaves the slots
+pub no-slot-chosen : (m : Setting) (closing : Option ℕ) (l : Ledger) (e : Event) (slots : ℕ → Slots) → HasNoDevice m → Turns m e slots slots → slot_in e ≡ None → ChoosesSlot m closing l e slots slots
+no-slot-chosen m closing l e slots none turns takes = (
+  slots,
+  slots,
+  turns,
+  subst (λ o. MatchOption o (slots ≡ slots) (λ s. IsGiven m closing l s slots slots)) (sym takes) refl,
+  λ i k. sym (ap (given k) (none k)) i,
+)
+  where
+    given : ℕ → Option ℕ → Slots
+    given k size = fold give_slot (slots k)
+        (filter (λ page. let s : Slot = record { area = k; page = page } in slot_count (after l e) s == 0 && nat_lt 0 (slot_count l s)) (numbers 1 (unwrap_or size 0 - 1)))
 
-pub chooses-taken : (m : Setting) (l : Ledger) (e : Event) (f : ℕ) (rest : List ℕ) → frame_in e ≡ Some f → new_free m l (after l e) ≡ [] → Chooses m l e (f ∷ rest) rest
-chooses-taken m l e f rest takes none = (rest, subst (λ o. MatchOption o ((f ∷ rest) ≡ rest) (λ g. (f ∷ rest) ≡ g ∷ rest)) (sym takes) refl, ap (λ fs. fs ++ rest) (sym none))
+-- nothing is taken and nothing becomes free
+pub chooses-kept : (m : Setting) (closing : Option ℕ) (l : Ledger) (e : Event) (free : Free) → ChoosesSlot m closing l e free.slots free.slots → frame_in e ≡ None → new_free m l (after l e) ≡ [] → Chooses m closing l e free free
+chooses-kept m closing l e free slots takes none = record {
+  frames = (free.frames, subst (λ o. MatchOption o (free.frames ≡ free.frames) (λ f. free.frames ≡ f ∷ free.frames)) (sym takes) refl, ap (λ fs. fs ++ free.frames) (sym none));
+  slots = slots;
+}
+
+-- a frame is taken
+pub chooses-taken : (m : Setting) (closing : Option ℕ) (l : Ledger) (e : Event) (f : ℕ) (rest : List ℕ) (slots : ℕ → Slots) → ChoosesSlot m closing l e slots slots → frame_in e ≡ Some f → new_free m l (after l e) ≡ []
+    → Chooses m closing l e (record { frames = f ∷ rest; slots = slots }) (record { frames = rest; slots = slots })
+chooses-taken m closing l e f rest slots kept takes none = record {
+  frames = (rest, subst (λ o. MatchOption o ((f ∷ rest) ≡ rest) (λ g. (f ∷ rest) ≡ g ∷ rest)) (sym takes) refl, ap (λ fs. fs ++ rest) (sym none));
+  slots = kept;
+}
 
 -- an entry is set where there was none that names a frame, or one of the same frame
 pub new_free-set : (m : Setting) (k : Key) (e : Entry) (l : Ledger) → T (is_sorted key_cmp l.entries) → ((f : ℕ) → weight (names_frame f) (entry l k) ≤ cond (names_frame f e) 1 0) → new_free m l (set_entry k e l) ≡ []

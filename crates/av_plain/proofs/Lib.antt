@@ -9,3 +9,4 @@ pub mod Report
 pub mod Refusal
 pub mod Transcript
 pub mod Sound
+pub mod NoDevice

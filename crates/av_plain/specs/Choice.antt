@@ -1,11 +1,27 @@
--- Which frame is taken: the first of the free ones, in an order that follows the events. This is
--- not part of what makes a reply legal.
-use Rattle.std.specs.Prelude.{◌≡◌, ℕ, not, ◌&&◌, ◌==◌, nat_lt, if◌then◌else◌, List, [], ◌∷◌, ◌++◌, filter, Option, Some, None, MatchOption}
-use Rattle.av_base.specs.Words.{how_many, numbers}
+-- What is taken: the first of the free frames, and the slot that the clusters of a swap area give,
+-- each in an order that follows the events. This is not part of what makes a reply legal.
+use Rattle.std.specs.List.{find}
+use Rattle.std.specs.Prelude.{◌≡◌, ◌≤◌, ℕ, ◌-◌, not, ◌&&◌, ◌==◌, nat_lt, if◌then◌else◌, List, [], ◌∷◌, ◌++◌, filter, fold, length, count_by, option_map, Option, Some, None, IsSomeAnd, MatchOption}
+use Rattle.av_base.specs.Words.{how_many, numbers, with_at}
+use Rattle.av_base.specs.declared.slot.Slot.{Slot}
+use Rattle.av_clusters.specs.Clusters.{Slots, fresh, take_slot, give_slot, is_free as is_free_page}
+use Rattle.av_swapdev.specs.Header.{Layout}
 use Rattle.av_trace.specs.declared.note.Note.{Note}
-use Rattle.av_trace.specs.declared.note.Note.TheVariants.{New, Copied, Loaded}
-use Rattle.av_plain.specs.Ledger.{Ledger, Setting, is_free}
-use Rattle.av_plain.specs.Event.{Event, Noted, after}
+use Rattle.av_trace.specs.declared.note.Note.TheVariants.{New, Copied, Loaded, Put}
+use Rattle.av_plain.specs.Ledger.{Ledger, Setting, SwapArea, is_free, is_open, free_slots, size_of, slot_count}
+use Rattle.av_plain.specs.Event.{Event, Noted, TurnedOff, TurnedOn, after}
+
+-- the free frames in the order in which they are taken, and the slots of each swap area with their
+-- clusters
+pub record Free : Type 0 where
+  pub frames : List ℕ
+  pub slots : ℕ → Slots
+
+-- no swap area has slots
+abbrev pub no_slots : ℕ → Slots
+no_slots k = fresh 0 []
+
+-- ---- frames
 
 -- the frame that a note takes
 abbrev pub frame_in_note : Note → Option ℕ
@@ -23,18 +39,87 @@ frame_in event = None
 abbrev pub new_free : Setting → Ledger → Ledger → List ℕ
 new_free m old new = filter (λ f. is_free new f && not (is_free old f)) (numbers 0 m.frames)
 
--- the free frames before and after one event: a frame that it takes is the first, and what has
--- become free goes in front
-abbrev pub Chooses : Setting → Ledger → Event → List ℕ → List ℕ → Type 0
-Chooses m l e free free' =
+-- a frame that an event takes is the first of the free ones, and what has become free goes in front
+abbrev pub ChoosesFrame : Setting → Ledger → Event → List ℕ → List ℕ → Type 0
+ChoosesFrame m l e free free' =
     (rest : List ℕ) × MatchOption (frame_in e) (free ≡ rest) (λ f. free ≡ f ∷ rest)
     × (free' ≡ new_free m l (after l e) ++ rest)
 
+-- ---- slots
+
+-- the slot that a note takes
+abbrev pub slot_in_note : Note → Option Slot
+slot_in_note (Put f s) = Some s
+slot_in_note note = None
+
+-- and so an event, if it is a note
+abbrev pub slot_in : Event → Option Slot
+slot_in (Noted note) = slot_in_note note
+slot_in event = None
+
+-- the swap area that gives a slot: the first that is on, is not closing and has a free one
+abbrev pub giving_area : Setting → Option ℕ → Ledger → Option ℕ
+giving_area m closing l =
+    option_map (λ a. a.0)
+    (find (λ (a : ℕ × SwapArea). is_open closing a.0 && nat_lt 0 (free_slots m l a)) l.on)
+
+-- the slot is the one that the clusters of that area give
+abbrev pub IsGiven :
+    Setting → Option ℕ → Ledger → Slot → (ℕ → Slots) → (ℕ → Slots) → Type 0
+IsGiven m closing l s slots slots' =
+    (giving_area m closing l ≡ Some s.area)
+    × IsSomeAnd (take_slot (slots s.area))
+      (λ t. (t.0 ≡ s.page) × (slots' ≡ with_at s.area t.1 slots))
+
+-- clusters from which nothing is given yet, made of the header where it is told; else of some pages, at
+-- most the area's, and some bad ones, so that as many are usable and bad as is said
+abbrev pub AreFresh : Setting → ℕ → SwapArea → Slots → Type 0
+AreFresh m k area made =
+    MatchOption m.headers
+    ((pages : ℕ) × (bad : List ℕ) × (pages ≤ size_of m k) × (length bad ≡ area.bad)
+    × (made ≡ fresh pages bad) × (count_by is_free_page made.pages ≡ area.slots))
+    (λ headers. IsSomeAnd (headers k) (λ (h : Layout). made ≡ fresh h.pages h.bad))
+
+-- an area that is turned on has new clusters, and one that is turned off has none
+abbrev pub Turns : Setting → Event → (ℕ → Slots) → (ℕ → Slots) → Type 0
+Turns m (TurnedOn k slots bad) old new =
+    (made : Slots) × AreFresh m k (record { slots = slots; bad = bad }) made
+    × (new ≡ with_at k made old)
+Turns m (TurnedOff k) old new = new ≡ with_at k (no_slots k) old
+Turns m event old new = new ≡ old
+
+-- the slots of an area whose count has become 0, rising
+abbrev pub new_free_slots : Setting → Ledger → Ledger → ℕ → List ℕ
+new_free_slots m old new k =
+    filter (λ page. let s : Slot = record { area = k; page = page } in
+      slot_count new s == 0 && nat_lt 0 (slot_count old s))
+    (numbers 1 (size_of m k - 1))
+
+-- they are given back to their clusters
+abbrev pub with_given_back : Setting → Ledger → Ledger → (ℕ → Slots) → ℕ → Slots
+with_given_back m old new slots k = fold give_slot (slots k) (new_free_slots m old new k)
+
+-- a slot that an event takes is the one that is given, and what has become free is given back
+abbrev pub ChoosesSlot :
+    Setting → Option ℕ → Ledger → Event → (ℕ → Slots) → (ℕ → Slots) → Type 0
+ChoosesSlot m closing l e slots slots' =
+    (on : ℕ → Slots) × (rest : ℕ → Slots) × Turns m e slots on
+    × MatchOption (slot_in e) (rest ≡ on) (λ s. IsGiven m closing l s on rest)
+    × (slots' ≡ with_given_back m l (after l e) rest)
+
+-- ---- both
+
+-- what is free before and after one event, while the area is closing
+pub record Chooses (m : Setting) (closing : Option ℕ) (l : Ledger) (e : Event) (free free' : Free)
+    : Type 0 where
+  pub frames : ChoosesFrame m l e free.frames free'.frames
+  pub slots : ChoosesSlot m closing l e free.slots free'.slots
+
 -- and after several
-abbrev pub ChoosesAll : Setting → Ledger → List Event → List ℕ → List ℕ → Type 0
-ChoosesAll m l [] free free' = free' ≡ free
-ChoosesAll m l (e ∷ es) free free' =
-    (mid : List ℕ) × Chooses m l e free mid × ChoosesAll m (after l e) es mid free'
+abbrev pub ChoosesAll : Setting → Option ℕ → Ledger → List Event → Free → Free → Type 0
+ChoosesAll m closing l [] free free' = free' ≡ free
+ChoosesAll m closing l (e ∷ es) free free' =
+    (mid : Free) × Chooses m closing l e free mid × ChoosesAll m closing (after l e) es mid free'
 
 -- the list has each free frame of the machine once, and no other number
 abbrev pub ListsFree : Setting → Ledger → List ℕ → Type 0

@@ -1,17 +1,19 @@
--- Devices with swap areas, as a run sees them: what is told of them before it begins.
-use Rattle.std.specs.Prelude.{ℕ, List, [], Option, Some, None, option_map, option_and_then, Result, Ok, Err}
+-- Devices with swap areas, as a run sees them.
+use Rattle.std.specs.Prelude.{◌≡◌, ℕ, List, [], Option, Some, None, option_map, option_and_then, Result, Ok, Err}
 use Rattle.av_swapdev.specs.declared.header.HeaderFault.{HeaderFault}
 use Rattle.av_swapdev.specs.Header.{Layout, header_of}
 use Rattle.av_plain.specs.Ledger.{Setting}
 
--- the number of pages of each area that is attached, and what the pages hold, where that is told
+-- the number of pages of each area that is attached; what the pages hold, where that is told; and
+-- how often it failed
 pub record Device : Type 0 where
   pub sizes : ℕ → Option ℕ
   pub pages : Option (ℕ → ℕ → List ℕ)
+  pub faults : ℕ
 
--- the device that has no area
+-- the device that has no area, and so never fails
 abbrev pub no_device : Device
-no_device = record { sizes = λ k. None; pages = Some (λ k page. []) }
+no_device = record { sizes = λ k. None; pages = Some (λ k page. []); faults = 0 }
 
 -- what a header says, if it has no fault
 abbrev pub without_fault : Result Layout HeaderFault → Option Layout
@@ -27,3 +29,7 @@ headers_of d =
 -- what does not change in a run with so many frames over this device
 abbrev pub setting_of : ℕ → Device → Setting
 setting_of frames d = record { frames = frames; sizes = d.sizes; headers = headers_of d }
+
+-- no area is attached
+abbrev pub HasNoDevice : Setting → Type 0
+HasNoDevice m = (k : ℕ) → m.sizes k ≡ None

@@ -13,6 +13,7 @@ pub mod Map
 pub mod Report
 pub mod Refusal
 pub mod Step
+pub mod Areas
 pub mod Choice
 pub mod Transcript
 pub mod Sound

@@ -7,6 +7,8 @@ use Rattle.av_trace.specs.declared.reply.Answer.TheVariants.{Runs, Counted}
 use Rattle.av_trace.specs.declared.row.Row.{Row}
 use Rattle.av_trace.specs.declared.row.Row.TheVariants.{Run}
 use Rattle.av_trace.specs.declared.reply.Totals.{Totals}
+use Rattle.av_vma.specs.declared.area.Area.{Area}
+use Rattle.av_vma.specs.Join.{first_of, past_of}
 use Rattle.av_plain.specs.World.{World, Process, Page}
 use Rattle.av_plain.specs.Event.{Event}
 use Rattle.av_plain.specs.Ledger.{Ledger, Setting, SwapArea, free_frames, free_slots}
@@ -18,6 +20,10 @@ pub record Range : Type 0 where
   pub from : ℕ
   pub to : ℕ
   pub prot : Prot
+
+-- the pages of an area, with their protection
+abbrev pub range_of : Area → Range
+range_of area = record { from = first_of area; to = past_of area; prot = area.prot }
 
 -- the protection of a page, by the range that holds it
 abbrev pub prot_in : List Range → ℕ → Option Prot

@@ -2,18 +2,23 @@
 -- answer: a view.
 use Rattle.std.specs.FinMap.Entries.{find}
 use Rattle.std.specs.Ordering.{nat_cmp}
-use Rattle.std.specs.Prelude.{ℕ, Bool, true, false, ◌&&◌, if◌then◌else◌, List, [], ◌∷◌, Option, Some, None, ◌≡◌, ◌<◌, IfSome, is_some, ◌≤◌, length, nat_lt, nat_le, option_map, slice_index}
+use Rattle.std.specs.Prelude.{ℕ, Bool, true, false, ◌&&◌, if◌then◌else◌, List, [], ◌∷◌, map, Option, Some, None, ◌≡◌, ◌<◌, IfSome, is_some, ◌≤◌, length, nat_lt, nat_le, option_map, slice_index}
 use Rattle.av_base.specs.Page.{page_size}
 use Rattle.av_base.specs.Words.{is_in}
 use Rattle.av_base.specs.declared.slot.Slot.{Slot}
 use Rattle.av_plain.specs.Device.{Device, headers_of}
 use Rattle.av_plain.specs.Fault.{is_shared}
 use Rattle.av_plain.specs.Ledger.{Entry, InFrame, InSlot, Ledger, Setting, SwapArea, Zero, entry, frame_at, in_flight, is_free, is_stale, map_count, names_frame, slot_entries, slot_of}
-use Rattle.av_plain.specs.Report.{Range, prot_in}
+use Rattle.av_plain.specs.Areas.{Areas}
+use Rattle.av_plain.specs.Choice.{Free}
+use Rattle.av_plain.specs.Report.{Range, prot_in, range_of}
 use Rattle.av_plain.specs.Sound.{AllSound, slots}
 use Rattle.av_plain.specs.Transcript.{State}
 use Rattle.av_plain.specs.World.{Page, World, lives, pages}
 use Rattle.av_base.specs.declared.prot.Prot.{Prot}
+use Rattle.av_clusters.specs.Clusters.{Slots}
+use Rattle.av_vma.specs.declared.area.Area.{Area}
+use Rattle.av_vma.specs.Pages.{pages_in}
 use Rattle.av_swapdev.specs.Header.{Layout}
 
 -- ---- the view
@@ -39,13 +44,14 @@ pub record View : Type 0 where
   pub table : ℕ → ℕ → Option Pte
   -- how many processes live, and the areas of one that does
   pub processes : ℕ
-  pub areas : ℕ → Option (List Range)
-  -- swap: the frame that caches a slot, how many entries name it, the slots in flight, and the
-  -- areas that are on
+  pub areas : ℕ → Option (List Area)
+  -- swap: the frame that caches a slot, how many entries name it, the slots in flight, the areas
+  -- that are on, and the slots of each with their clusters
   pub find : Slot → Option ℕ
   pub entries : Slot → ℕ
   pub flight : List Slot
   pub on : List (ℕ × SwapArea)
+  pub slots : ℕ → Slots
 
 -- ---- the frames
 
@@ -94,7 +100,11 @@ AreApart [] = Unit {0}
 AreApart (a ∷ []) = a.from < a.to
 AreApart (a ∷ b ∷ areas) = (a.from < a.to) × (a.to ≤ b.from) × AreApart (b ∷ areas)
 
--- and so of a process that may not live
+-- the ranges of the areas of a process, if it lives
+abbrev pub ranges_in : Option (List Area) → Option (List Range)
+ranges_in areas = option_map (map range_of) areas
+
+-- the protection of a page of a process that may not live
 abbrev pub prot_of : Option (List Range) → ℕ → Option Prot
 prot_of None page = None
 prot_of (Some areas) page = prot_in areas page
@@ -104,9 +114,13 @@ prot_of (Some areas) page = prot_in areas page
 pub record AreasStand (v : View) (w : World) : Type 0 where
   pub alive : (p : ℕ) → is_some (v.areas p) ≡ lives w p
   pub number : v.processes ≡ length w
-  pub apart : (p : ℕ) → IfSome (v.areas p) AreApart
+  pub apart : (p : ℕ) → IfSome (ranges_in (v.areas p)) AreApart
   pub covers : (p page : ℕ)
-      → prot_of (v.areas p) page ≡ option_map (λ (q : Page). q.prot) (pages w p page)
+      → prot_of (ranges_in (v.areas p)) page ≡ option_map (λ (q : Page). q.prot) (pages w p page)
+
+-- each page of each process is of the area that these have on it, with all that it says
+abbrev pub AreasAre : View → Areas → Type 0
+AreasAre v areas = (p page : ℕ) → pages_in (v.areas p) page ≡ areas p page
 
 -- ---- the bytes
 
@@ -176,9 +190,15 @@ pub record IsOver (m : Setting) (device : Device) : Type 0 where
   pub sizes : m.sizes ≡ device.sizes
   pub headers : m.headers ≡ headers_of device
 
--- the kernel and the device stand for the memories, the ledger and the free frames in their order
+-- the free frames, and the slots of each area
+abbrev pub free_of : View → Free
+free_of v = record { frames = v.free; slots = v.slots }
+
+-- the kernel and the device stand for the memories, the ledger, what is free in its order, and the
+-- areas with all that each says
 pub record Stands (m : Setting) (v : View) (device : Device) (s : State) : Type 0 where
   pub over : IsOver m device
   pub sound : AllSound m s.world s.ledger
   pub parts : PartsStand m v device s.world s.ledger
-  pub free : v.free ≡ s.free
+  pub free : free_of v ≡ s.free
+  pub areas : AreasAre v s.areas

@@ -1,10 +1,10 @@
 -- What one command may answer, and the memories and the ledger after it.
-use Rattle.std.specs.Prelude.{ℕ, ◌+◌, if◌then◌else◌, List, [], Some, ◌≡◌, length, MatchOption}
+use Rattle.std.specs.Prelude.{ℕ, ◌+◌, if◌then◌else◌, List, [], Some, ◌≡◌, length, max, MatchOption}
 use Rattle.av_base.specs.Page.{page_of, pages_of}
 use Rattle.av_trace.specs.declared.command.Command.{Command}
 use Rattle.av_trace.specs.declared.command.Command.TheVariants.{Mprotect, Spawn, Exit, Mmap, Munmap, Read, Write, Maps, Stat}
 use Rattle.av_trace.specs.declared.reply.Answer.{Answer}
-use Rattle.av_trace.specs.declared.reply.Answer.TheVariants.{Bus, Done, MapAt, Refused, Counted}
+use Rattle.av_trace.specs.declared.reply.Answer.TheVariants.{Bus, Done, MapAt, NoFrame, Oom, Refused, Counted}
 use Rattle.av_trace.specs.declared.reply.Errno.TheVariants.{Enomem, Eio}
 use Rattle.av_trace.specs.declared.reply.Reply.{Reply}
 use Rattle.av_trace.specs.declared.row.Row.{Row}
@@ -72,6 +72,12 @@ pub record IsLegal (m : Setting) (w : World) (l : Ledger) (command : Command) (r
 
 -- ---- what only a fault of the device explains
 
+-- the frames that an out-of-memory calls cached: each of them is one whose write failed
+abbrev pub failed_frames : Answer → ℕ
+failed_frames (Oom k out shown) = out.fault
+failed_frames (NoFrame out) = out.fault
+failed_frames answer = 0
+
 -- an answer that only a fault explains
 abbrev pub fault_answers : Answer → ℕ
 fault_answers (Bus k shown) = 1
@@ -80,4 +86,4 @@ fault_answers answer = 0
 
 -- by how much the device's count of faults has risen, at the least
 abbrev pub causes : Reply → ℕ
-causes reply = fails reply.notes + fault_answers reply.answer
+causes reply = max (fails reply.notes) (failed_frames reply.answer) + fault_answers reply.answer

@@ -1,12 +1,13 @@
 -- Transcripts: commands with their replies, in order.
-use Rattle.std.specs.Prelude.{ℕ, List, [], ◌∷◌, ◌≡◌}
+use Rattle.std.specs.Prelude.{ℕ, List, [], ◌∷◌, ◌≡◌, sum_by, None, Option}
 use Rattle.av_base.specs.Words.{numbers}
 use Rattle.av_trace.specs.declared.command.Command.{Command}
 use Rattle.av_trace.specs.declared.reply.Reply.{Reply}
-use Rattle.av_plain.specs.Choice.{ChoosesAll}
+use Rattle.av_plain.specs.Areas.{Areas, no_areas, next_areas}
+use Rattle.av_plain.specs.Choice.{ChoosesAll, Free, no_slots}
 use Rattle.av_plain.specs.Event.{Event, after_all}
 use Rattle.av_plain.specs.Ledger.{Setting, first_ledger, Ledger}
-use Rattle.av_plain.specs.Step.{IsLegal, next_world}
+use Rattle.av_plain.specs.Step.{IsLegal, causes, next_world}
 use Rattle.av_plain.specs.World.{World}
 
 -- a command and its reply
@@ -23,17 +24,27 @@ IsLegalFrom m w l (e ∷ es) w' l' =
     (events : List Event) × IsLegal m w l e.command e.reply events
     × IsLegalFrom m (next_world m w l events e.command e.reply.answer) (after_all l events) es w' l'
 
--- ---- legal, and with each frame chosen exactly
+-- ---- legal, and with each frame and slot chosen exactly, and the areas
 
--- the memories, the ledger, and the free frames in the order in which they are taken
+-- the memories, the ledger, what is free in the order in which it is taken, and the areas
 pub record State : Type 0 where
   pub world : World
   pub ledger : Ledger
-  pub free : List ℕ
+  pub free : Free
+  pub areas : Areas
 
--- no process lives, and all frames are free, rising
+-- no process lives, all frames are free, rising, and no swap area has slots
 abbrev pub at_first : Setting → State
-at_first m = record { world = []; ledger = first_ledger; free = numbers 0 m.frames }
+at_first m = record {
+  world = [];
+  ledger = first_ledger;
+  free = record { frames = numbers 0 m.frames; slots = no_slots };
+  areas = no_areas;
+}
+
+-- the swap area that a command closes: none does so yet
+abbrev pub closing_area : Command → Option ℕ
+closing_area command = None
 
 -- a command is answered so, and leaves this state
 pub record IsStep (m : Setting) (old : State) (command : Command) (reply : Reply) (new : State)
@@ -42,9 +53,16 @@ pub record IsStep (m : Setting) (old : State) (command : Command) (reply : Reply
   pub legal : IsLegal m old.world old.ledger command reply events
   pub world : new.world ≡ next_world m old.world old.ledger events command reply.answer
   pub ledger : new.ledger ≡ after_all old.ledger events
-  pub free : ChoosesAll m old.ledger events old.free new.free
+  pub free : ChoosesAll m (closing_area command) old.ledger events old.free new.free
+  pub areas : new.areas ≡ next_areas old.areas old.world command reply.answer
 
 -- a transcript, each of its replies a step
 abbrev pub IsRun : Setting → State → List Exchange → State → Type 0
 IsRun m old [] new = new ≡ old
 IsRun m old (e ∷ es) new = (mid : State) × IsStep m old e.command e.reply mid × IsRun m mid es new
+
+-- ---- faults
+
+-- by how much the device's count of faults rose in a transcript, at the least
+abbrev pub causes_of : List Exchange → ℕ
+causes_of exchanges = sum_by (λ (e : Exchange). causes e.reply) exchanges

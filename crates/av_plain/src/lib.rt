@@ -6,13 +6,14 @@
 //! No function does anything. Each one's contract is a law, proved of the definitions alone.
 #![tactic(auto)]
 
-ghost use Rattle.std.specs.Prelude.{List, []};
+ghost use Rattle.std.specs.Prelude.{◌≡◌, List, []};
 ghost use Rattle.av_trace.specs.declared.command.Command.{Command};
 ghost use Rattle.av_trace.specs.declared.reply.Reply.{Reply};
 ghost use Rattle.av_plain.specs.World.{World};
+ghost use Rattle.av_plain.specs.Device.{HasNoDevice};
 ghost use Rattle.av_plain.specs.Ledger.{Ledger, Setting, first_ledger};
 ghost use Rattle.av_plain.specs.Event.{Event, after_all};
-ghost use Rattle.av_plain.specs.Step.{IsLegal, next_world};
+ghost use Rattle.av_plain.specs.Step.{IsLegal, causes, next_world};
 ghost use Rattle.av_plain.specs.Transcript.{Exchange, State, IsLegalFrom, IsRun};
 ghost use Rattle.av_plain.specs.Sound.{AllSound, SaysSound};
 
@@ -40,4 +41,12 @@ pub fn runs_are_legal()
     ensures { (m : Setting) (old : State) (exchanges : List Exchange) (new : State)
         → IsRun m old exchanges new
         → IsLegalFrom m old.world old.ledger exchanges new.world new.ledger }
+{}
+
+/// Where no swap area is attached, a reply has nothing that only a fault of a device explains: no
+/// `bus`, no EIO and no `fail`.
+pub fn no_device_has_no_faults()
+    ensures { (m : Setting) (w : World) (l : Ledger) (command : Command) (reply : Reply)
+        (events : List Event) → HasNoDevice m → AllSound m w l
+        → IsLegal m w l command reply events → causes reply ≡ 0 }
 {}

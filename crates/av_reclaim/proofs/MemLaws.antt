@@ -8,22 +8,23 @@ use Rattle.av_base.specs.declared.prot.Prot.{Prot}
 use Rattle.av_base.specs.Words.{is_in, within}
 use Rattle.av_vma.specs.declared.area.Area.{Area}
 use Rattle.av_vma.specs.Join.{first_of, past_of}
-use Rattle.av_vma.specs.Pages.{has_page}
+use Rattle.av_vma.specs.Pages.{has_page, pages_in}
 use Rattle.av_frames.specs.Store.{Store, Seen, seen, fresh as fresh_frames}
 use Rattle.av_pagetable.specs.declared.pte.Pte.{Pte}
 use Rattle.av_pagetable.specs.Entries.{ProcessTables, entry_at, has, with_entry}
 use Rattle.av_pagetable.proofs.Entries.{none_there}
-use Rattle.av_spaces.specs.Spaces.{Spaces, areas_of, pages_in, pages_of, is_taken, AreRising, AllRising, IsOwn}
+use Rattle.av_spaces.specs.Spaces.{Spaces, areas_of, pages_of, is_taken, AreRising, AllRising, IsOwn}
 use Rattle.av_plain.specs.World.{Page, lives, pages}
 use Rattle.av_plain.specs.Ledger.{Ledger, Entry, Zero as ZeroEntry, InFrame, InSlot, frame_at, cached_by, Cached, same_slot}
 use Rattle.av_plain.specs.Device.{no_device}
-use Rattle.av_plain.specs.Report.{Range, prot_in}
+use Rattle.av_plain.specs.Choice.{Free, no_slots}
+use Rattle.av_plain.specs.Report.{Range, prot_in, range_of}
 use Rattle.av_plain.specs.Stands.{View, Pte as Plain, entry_of, prot_of, AreApart, IsKept, IsKeptAt, IsClean}
 use Rattle.av_plain.specs.Transcript.{State, at_first}
 use Rattle.av_plain.proofs.Ledger.NoSwap.{itself, is_in-numbers}
 use Rattle.av_plain.proofs.Sound.{first-sound}
 use Rattle.av_reclaim.specs.declared.mem.Mem.{Mem}
-use Rattle.av_reclaim.specs.Mem.{setting, plain, joined, view, range_of, ranges_of, Keeps}
+use Rattle.av_reclaim.specs.Mem.{setting, plain, joined, view, ranges_of, Keeps}
 
 -- ---- the areas, seen as ranges
 
@@ -41,7 +42,7 @@ alive_is s p = by (areas_of s p)
 
 -- a process has areas exactly where it lives
 pub lives_is : (k : Mem) (s : State) → Keeps k s → (p : ℕ) → is_some (areas_of k.spaces p) ≡ lives s.world p
-lives_is k s keeps p = sym (alive_is k.spaces p) ∙ keeps.stands.parts.areas.alive p
+lives_is k s keeps p = keeps.stands.parts.areas.alive p
 
 in_range : (a b page : ℕ) → (nat_le a page && nat_lt page b) ≡ within a (b - a) page
 in_range a b page = grind (arith, nat_tests)
@@ -155,6 +156,10 @@ kept-nothing v l (Some (InSlot s)) = at (frame_at l s)
 nothing : {A : Type 0} {x : A} → None ≡ Some x → ⊥
 nothing e = cc
 
+-- what is free, where no area has slots
+abbrev pub frames_free : List ℕ → Free
+frames_free frames = record { frames = frames; slots = no_slots }
+
 pub fresh-keeps : (frames : Store) (tables : ProcessTables) (spaces : Spaces) (n : ℕ) → seen frames ≡ fresh_frames n → ((p : ℕ) → has tables p ≡ false) → spaces ≡ []
     → Keeps (record { frames = frames; tables = tables; spaces = spaces }) (at_first (setting n))
 fresh-keeps frames tables spaces n is none empty = record {
@@ -178,7 +183,7 @@ fresh-keeps frames tables spaces n is none empty = record {
         swap = record { finds = λ s. refl; counts = λ s. refl; flight = refl; on = refl };
       };
       areas = record {
-        alive = λ p. ap (λ (s : Spaces). is_some (ranges_of s p)) empty;
+        alive = λ p. ap (λ (s : Spaces). is_some (areas_of s p)) empty;
         number = ap (length) empty;
         apart = λ p. subst (λ (s : Spaces). IfSome (ranges_of s p) AreApart) (sym empty) tt;
         covers = λ p page. ap (λ (s : Spaces). prot_of (ranges_of s p) page) empty;
@@ -186,7 +191,8 @@ fresh-keeps frames tables spaces n is none empty = record {
       bytes = record { kept = λ p page. tt; clean = λ s a b. tt };
       headers = λ k. tt;
     };
-    free = ap (λ (s : Seen). s.free) is;
+    free = ap (λ (s : Seen). frames_free s.free) is;
+    areas = λ p page. ap (λ (s : Spaces). pages_of s p page) empty;
   };
   tables = λ p. none p ∙ sym (ap (λ (s : Spaces). is_some (ranges_of s p)) empty);
 }

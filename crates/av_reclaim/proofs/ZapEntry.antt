@@ -8,10 +8,11 @@ use Rattle.av_pagetable.specs.Entries.{with_entry}
 use Rattle.av_plain.specs.Ledger.{Ledger, Cached, Setting, Key, Entry, Zero, InFrame, entry, map_count, slot_entries, names_frame, names_slot, is_free, is_stale}
 use Rattle.av_plain.specs.Event.{Zapped, after_all, after_zap, settle_entry, settle, off_lists, without, if_some, frame_of}
 use Rattle.av_plain.specs.Fault.{is_shared}
-use Rattle.av_plain.specs.Choice.{Chooses}
-use Rattle.av_plain.proofs.Choice.{chooses-kept, new_free-zap_none, new_free-zap_more, new_free-zap_last}
+use Rattle.av_plain.specs.Device.{HasNoDevice}
+use Rattle.av_plain.specs.Choice.{Chooses, ChoosesSlot}
+use Rattle.av_plain.proofs.Choice.{chooses-kept, no-slot-chosen, new_free-zap_none, new_free-zap_more, new_free-zap_last}
 use Rattle.av_plain.specs.Sound.{IsSound, uses}
-use Rattle.av_plain.specs.Stands.{View, Pte as Plain, entry_of, TablesStand}
+use Rattle.av_plain.specs.Stands.{View, Pte as Plain, entry_of, free_of, TablesStand}
 use Rattle.av_plain.proofs.Ledger.Order.{weight}
 use Rattle.av_plain.proofs.Ledger.{same_key, how_many-found}
 use Rattle.av_plain.proofs.Ledger.NoSwap.{itself, no_slot, free_is, shared_is}
@@ -113,6 +114,10 @@ module _ (m : Setting) (v : View) (l : Ledger) (p page : ℕ) (e : Entry) (maps 
 
 module _ (m : Setting) (v : View) (l : Ledger) (p page : ℕ)
     (cache : l.cache ≡ []) (parts : SoundLedger m v l) (no_active : v.active ≡ []) (no_entries : (s : Slot) → v.entries s ≡ 0) where
+  -- no slot is taken or given back
+  unslotted : HasNoDevice m → ChoosesSlot m None l (Zapped (p, page)) v.slots v.slots
+  unslotted none = no-slot-chosen m None l (Zapped (p, page)) v.slots none refl refl
+
   frees : (g : ℕ) → g < m.frames → is_in g v.free ≡ (v.maps g == 0)
   frees g below = parts.parts.frames.free g below ∙ free_is l g cache ∙ ap (λ n. n == 0) (sym (parts.parts.frames.maps g))
 
@@ -122,8 +127,8 @@ module _ (m : Setting) (v : View) (l : Ledger) (p page : ℕ)
       same : (n : ℕ) → n + 0 ≡ n
       same n = omega arith
 
-  pub zero_freed : entry l (p, page) ≡ Some Zero → Chooses m l (Zapped (p, page)) v.free v.free
-  zero_freed is = chooses-kept m l (Zapped (p, page)) v.free refl (new_free-zap_none m (p, page) l parts.sound.in_order (λ g. ap (weight (names_frame g)) is))
+  pub zero_freed : HasNoDevice m → entry l (p, page) ≡ Some Zero → Chooses m None l (Zapped (p, page)) (free_of v) (free_of v)
+  zero_freed none is = chooses-kept m None l (Zapped (p, page)) (free_of v) (unslotted none) refl (new_free-zap_none m (p, page) l parts.sound.in_order (λ g. ap (weight (names_frame g)) is))
 
   -- without a slot the uses of a frame are its entries
   uses_are : (g : ℕ) → uses l g ≡ v.maps g
@@ -170,8 +175,8 @@ module _ (m : Setting) (v : View) (l : Ledger) (p page : ℕ)
       pub shared_left : SoundLedger m (record v { table = with_entry p page None v.table; maps = with_at f (v.maps f - 1) v.maps }) (after_zap (p, page) l)
       shared_left = stands_now m v l p page (InFrame f was) (with_at f (v.maps f - 1) v.maps) v.free cache parts no_active no_entries is (λ s. refl) fewer shared_free
 
-      pub shared_freed : Chooses m l (Zapped (p, page)) v.free v.free
-      shared_freed = chooses-kept m l (Zapped (p, page)) v.free refl (new_free-zap_more m (p, page) l f was parts.sound.in_order is (subst (λ n. 1 < n) (sym (uses_are f)) two))
+      pub shared_freed : HasNoDevice m → Chooses m None l (Zapped (p, page)) (free_of v) (free_of v)
+      shared_freed none = chooses-kept m None l (Zapped (p, page)) (free_of v) (unslotted none) refl (new_free-zap_more m (p, page) l f was parts.sound.in_order is (subst (λ n. 1 < n) (sym (uses_are f)) two))
 
     -- no other does
     module _ (one : (v.maps f == 1) ≡ true) where
@@ -188,8 +193,11 @@ module _ (m : Setting) (v : View) (l : Ledger) (p page : ℕ)
       pub last_left : SoundLedger m (record v { table = with_entry p page None v.table; maps = with_at f (v.maps f - 1) v.maps; free = f ∷ v.free }) (after_zap (p, page) l)
       last_left = stands_now m v l p page (InFrame f was) (with_at f (v.maps f - 1) v.maps) (f ∷ v.free) cache parts no_active no_entries is (λ s. refl) fewer last_free
 
-      pub last_freed : Chooses m l (Zapped (p, page)) v.free (f ∷ v.free)
-      last_freed = (v.free, refl, ap (λ fs. fs ++ v.free) (sym (new_free-zap_last m (p, page) l f was parts.sound.in_order is below (uses_are f ∙ once (v.maps f) one))))
+      pub last_freed : HasNoDevice m → Chooses m None l (Zapped (p, page)) (free_of v) (record { frames = f ∷ v.free; slots = v.slots })
+      last_freed none = record {
+        frames = (v.free, refl, ap (λ fs. fs ++ v.free) (sym (new_free-zap_last m (p, page) l f was parts.sound.in_order is below (uses_are f ∙ once (v.maps f) one))));
+        slots = unslotted none;
+      }
         where
           once : (n : ℕ) → (n == 1) ≡ true → n ≡ 1
           once n e = grind (arith, nat_tests, e)
@@ -206,10 +214,11 @@ module _ (m : Setting) (v : View) (l : Ledger) (p page : ℕ)
         by true e = last_left e
         by false e = shared_left e
 
-    pub released_freed : Chooses m l (Zapped (p, page)) v.free (released f (record v { table = with_entry p page None v.table })).free
-    released_freed = by (v.maps f == 1) refl
+    pub released_freed : HasNoDevice m → Chooses m None l (Zapped (p, page)) (free_of v) (free_of (released f (record v { table = with_entry p page None v.table })))
+    released_freed none = by (v.maps f == 1) refl
       where
         by : (b : Bool) → (v.maps f == 1) ≡ b
-            → Chooses m l (Zapped (p, page)) v.free (cond b (record v { table = with_entry p page None v.table; maps = with_at f (v.maps f - 1) v.maps; free = f ∷ v.free }) (record v { table = with_entry p page None v.table; maps = with_at f (v.maps f - 1) v.maps })).free
-        by true e = last_freed e
-        by false e = shared_freed e
+            → Chooses m None l (Zapped (p, page)) (free_of v)
+              (free_of (cond b (record v { table = with_entry p page None v.table; maps = with_at f (v.maps f - 1) v.maps; free = f ∷ v.free }) (record v { table = with_entry p page None v.table; maps = with_at f (v.maps f - 1) v.maps })))
+        by true e = last_freed e none
+        by false e = shared_freed e none

@@ -11,13 +11,13 @@ use Rattle.av_pagetable.specs.Entries.{entry_at, at_page, with_entry}
 use Rattle.av_plain.specs.Ledger.{Ledger, Zero, InFrame, InSlot, entry, map_count, names_frame, names_slot}
 use Rattle.av_plain.specs.Choice.{Chooses}
 use Rattle.av_plain.specs.Event.{Zapped, after_zap}
-use Rattle.av_plain.specs.Stands.{View, entry_of}
+use Rattle.av_plain.specs.Stands.{View, entry_of, free_of}
 use Rattle.av_plain.proofs.Ledger.{how_many-found}
 use Rattle.av_plain.proofs.Ledger.NoSwap.{itself, free_is}
 use Rattle.av_reclaim.specs.declared.mem.Mem.{Mem}
 use Rattle.av_reclaim.specs.Mem.{setting, count, plain, view, joined, SoundLedger, HasLedger}
 use Rattle.av_reclaim.specs.Zap.{released, ZapsFirst}
-use Rattle.av_reclaim.proofs.MemLaws.{view_same, no_cache, entry_put_in}
+use Rattle.av_reclaim.proofs.MemLaws.{frames_free, view_same, no_cache, entry_put_in}
 use Rattle.av_reclaim.proofs.ZapEntry.{zero_left, zero_freed, released_left, released_freed}
 
 module _ (old : Mem) (l : Ledger) (stands : HasLedger old l) where
@@ -54,7 +54,7 @@ module _ (old : Mem) (l : Ledger) (stands : HasLedger old l) where
     pub none_taken : ((q : ℕ) → from ≤ q → q < past → entry_at old.tables p q ≡ Empty) → entry_at new.tables ≡ entry_at old.tables → new.frames ≡ old.frames → new.spaces ≡ old.spaces → ZapsFirst old new l p from past None
     none_taken none tables frames spaces = (
       λ q low high. nothing_at p q (none q low high),
-      ap (λ f. (seen f).free) frames,
+      ap (λ f. frames_free (seen f).free) frames,
       subst (λ n. SoundLedger (setting n) (view new) l) (sym (ap (λ f. (seen f).count) frames)) (subst (λ v. SoundLedger (setting (count old)) v l) (sym (view_same old new tables frames spaces)) stands),
     )
 
@@ -68,7 +68,7 @@ module _ (old : Mem) (l : Ledger) (stands : HasLedger old l) where
             first.from_there,
             ap is_some there,
             least,
-            subst (Chooses (setting (count old)) l (Zapped (p, page)) (view old).free) (sym (ap (λ f. (seen f).free) frames)) (zero_freed (setting (count old)) (view old) l p page cache stands refl (λ s. refl) there),
+            subst (Chooses (setting (count old)) None l (Zapped (p, page)) (free_of (view old))) (sym (ap (λ f. frames_free (seen f).free) frames)) (zero_freed (setting (count old)) (view old) l p page cache stands refl (λ s. refl) (λ k. refl) there),
             subst (λ n. SoundLedger (setting n) (view new) (after_zap (p, page) l)) (sym (ap (λ f. (seen f).count) frames))
                 (subst (λ v. SoundLedger (setting (count old)) v (after_zap (p, page) l)) (sym (entry_put_in old new p page Empty tables frames spaces))
                 (zero_left (setting (count old)) (view old) l p page cache stands refl (λ s. refl) there)),
@@ -82,7 +82,7 @@ module _ (old : Mem) (l : Ledger) (stands : HasLedger old l) where
             first.from_there,
             ap is_some there,
             least,
-            subst (Chooses (setting (count old)) l (Zapped (p, page)) (view old).free) (sym (ap (λ (v : View). v.free) seen_so)) (released_freed (setting (count old)) (view old) l p page cache stands refl (λ s. refl) f was there),
+            subst (Chooses (setting (count old)) None l (Zapped (p, page)) (free_of (view old))) (sym (ap free_of seen_so)) (released_freed (setting (count old)) (view old) l p page cache stands refl (λ s. refl) f was there (λ k. refl)),
             subst (λ n. SoundLedger (setting n) (view new) (after_zap (p, page) l)) (sym counts)
                 (subst (λ v. SoundLedger (setting (count old)) v (after_zap (p, page) l)) (sym seen_so)
                 (released_left (setting (count old)) (view old) l p page cache stands refl (λ s. refl) f was there)),

@@ -14,7 +14,7 @@ use Rattle.av_plain.proofs.Ledger.{same_key}
 use Rattle.av_plain.proofs.Access.{after_all-append, notes_of-append, chooses-append}
 use Rattle.av_plain.proofs.Zap.{entry-after_zap, range-done, range-least, zap_of-alone, exit-is-range}
 use Rattle.av_reclaim.specs.declared.mem.Mem.{Mem}
-use Rattle.av_plain.specs.Stands.{entry_of}
+use Rattle.av_plain.specs.Stands.{entry_of, free_of}
 use Rattle.av_reclaim.specs.Mem.{HasLedger, count, plain, setting, view}
 use Rattle.av_reclaim.specs.Zap.{ZapsFirst, HasZapped, KeepsRest}
 use Rattle.av_reclaim.proofs.MemLaws.{no_cache}
@@ -26,7 +26,7 @@ pub record IsTaking (old new : Mem) (p from past next : ℕ) (first : Ledger) : 
   pub stands : HasLedger new ledger
   pub rest : zaps_of first (keys_in first p from (past - from)) ≡ done ++ zaps_of ledger (keys_in ledger p from (past - from))
   pub after : after_all first done ≡ ledger
-  pub free : ChoosesAll (setting (count old)) first done (view old).free (view new).free
+  pub free : ChoosesAll (setting (count old)) None first done (free_of (view old)) (free_of (view new))
   pub notes : notes_of done ≡ []
   pub low : from ≤ next
   pub counts : count new ≡ count old
@@ -73,8 +73,9 @@ module _ (old mid new : Mem) (p from past next page : ℕ) (first : Ledger) (t :
     rest = t.rest ∙ ap (λ es. t.done ++ es) (unrolled (entry t.ledger (p, page)) refl step.1)
         ∙ sym (append_assoc t.done (Zapped (p, page) ∷ []) (zaps_of (after_zap (p, page) t.ledger) (keys_in (after_zap (p, page) t.ledger) p from (past - from))));
     after = after_all-append first t.done (Zapped (p, page) ∷ []) ∙ ap (after_zap (p, page)) t.after;
-    free = chooses-append (setting (count old)) first t.done (Zapped (p, page) ∷ []) (view old).free (view mid).free (view new).free t.free
-        (subst (λ l. ChoosesAll (setting (count old)) l (Zapped (p, page) ∷ []) (view mid).free (view new).free) (sym t.after) ((view new).free, subst (λ n. Chooses (setting n) t.ledger (Zapped (p, page)) (view mid).free (view new).free) t.counts step.3, refl));
+    free = chooses-append (setting (count old)) None first t.done (Zapped (p, page) ∷ []) (free_of (view old)) (free_of (view mid)) (free_of (view new)) t.free
+        (subst (λ l. ChoosesAll (setting (count old)) None l (Zapped (p, page) ∷ []) (free_of (view mid)) (free_of (view new))) (sym t.after)
+        (free_of (view new), subst (λ n. Chooses (setting n) None t.ledger (Zapped (p, page)) (free_of (view mid)) (free_of (view new))) t.counts step.3, refl));
     notes = notes_of-append t.done (Zapped (p, page) ∷ []) ∙ ap (λ ns. ns ++ []) t.notes;
     low = let low = above in omega (arith, low);
     counts = same ∙ t.counts;
@@ -87,7 +88,7 @@ all_taken old mid new p from past next first t step =
     record {
       stands = subst (HasLedger new) (sym (ap (after_all first) whole ∙ t.after)) step.2;
       notes = ap notes_of whole ∙ t.notes;
-      free = subst (λ es. ChoosesAll (setting (count old)) first es (view old).free (view new).free) (sym whole) (subst (ChoosesAll (setting (count old)) first t.done (view old).free) (sym step.1) t.free);
+      free = subst (λ es. ChoosesAll (setting (count old)) None first es (free_of (view old)) (free_of (view new))) (sym whole) (subst (ChoosesAll (setting (count old)) None first t.done (free_of (view old))) (sym step.1) t.free);
     }
   where
     lower : (q : ℕ) → within from (past - from) q ≡ true → from ≤ q

@@ -2,14 +2,13 @@
 -- for.
 use Rattle.std.specs.Prelude.{◌≡◌, ℕ, false, List, [], length, map, Option, Some, None, is_some, option_map, T}
 use Rattle.std.specs.FinMap.Entries.{is_sorted}
-use Rattle.av_vma.specs.declared.area.Area.{Area}
-use Rattle.av_vma.specs.Join.{first_of, past_of}
 use Rattle.av_plain.specs.World.{World}
 use Rattle.av_plain.specs.Ledger.{Ledger, Setting, Zero as ZeroEntry, InFrame, InSlot, key_cmp}
 use Rattle.av_plain.specs.Transcript.{State}
 use Rattle.av_plain.specs.Sound.{IsSound, AtPages}
 use Rattle.av_plain.specs.Device.{no_device, setting_of}
-use Rattle.av_plain.specs.Report.{Range}
+use Rattle.av_plain.specs.Choice.{no_slots}
+use Rattle.av_plain.specs.Report.{Range, range_of}
 use Rattle.av_plain.specs.Stands.{View, Pte as Plain, Stands, LedgerStands, PartsStand}
 use Rattle.av_frames.specs.Store.{Seen, seen}
 use Rattle.av_pagetable.specs.declared.pte.Pte.{Pte}
@@ -29,11 +28,7 @@ plain Zero = Some (record { entry = ZeroEntry; write = false })
 plain (Here f write was) = Some (record { entry = InFrame f was; write = write })
 plain (Away s) = Some (record { entry = InSlot s; write = false })
 
--- the pages of an area, with their protection
-abbrev pub range_of : Area → Range
-range_of area = record { from = first_of area; to = past_of area; prot = area.prot }
-
--- those of each area of a process
+-- the pages of each area of a process, with their protection
 abbrev pub ranges_of : Spaces → ℕ → Option (List Range)
 ranges_of spaces p = option_map (map range_of) (areas_of spaces p)
 
@@ -49,11 +44,12 @@ joined frames table spaces = record {
   active = [];
   table = table;
   processes = length spaces;
-  areas = ranges_of spaces;
+  areas = areas_of spaces;
   find = λ s. None;
   entries = λ s. 0;
   flight = [];
   on = [];
+  slots = no_slots;
 }
 
 abbrev pub view : Mem → View

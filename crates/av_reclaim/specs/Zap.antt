@@ -5,7 +5,7 @@ use Rattle.av_pagetable.specs.Entries.{has}
 use Rattle.av_plain.specs.Ledger.{Ledger, entry}
 use Rattle.av_plain.specs.Event.{Event, Zapped, after_zap, after_all, notes_of}
 use Rattle.av_plain.specs.Choice.{Chooses, ChoosesAll}
-use Rattle.av_plain.specs.Stands.{View}
+use Rattle.av_plain.specs.Stands.{View, free_of}
 use Rattle.av_reclaim.specs.declared.mem.Mem.{Mem}
 use Rattle.av_reclaim.specs.Mem.{setting, count, view, HasLedger}
 
@@ -27,15 +27,17 @@ released f v =
 abbrev pub ZapsFirst : Mem → Mem → Ledger → ℕ → ℕ → ℕ → Option ℕ → Type 0
 ZapsFirst old new l p from past None =
     ((q : ℕ) → from ≤ q → q < past → entry l (p, q) ≡ None)
-    × ((view new).free ≡ (view old).free) × HasLedger new l
+    × (free_of (view new) ≡ free_of (view old)) × HasLedger new l
 ZapsFirst old new l p from past (Some page) =
     (from ≤ page) × (is_some (entry l (p, page)) ≡ true)
     × ((q : ℕ) → from ≤ q → q < page → entry l (p, q) ≡ None)
-    × Chooses (setting (count old)) l (Zapped (p, page)) (view old).free (view new).free
+    × Chooses (setting (count old)) None l (Zapped (p, page))
+      (free_of (view old)) (free_of (view new))
     × HasLedger new (after_zap (p, page) l)
 
 -- these entries have gone, without a note, and the frames that became free are in front
 pub record HasZapped (old new : Mem) (l : Ledger) (events : List Event) : Type 0 where
   pub stands : HasLedger new (after_all l events)
   pub notes : notes_of events ≡ []
-  pub free : ChoosesAll (setting (count old)) l events (view old).free (view new).free
+  pub free : ChoosesAll (setting (count old)) None l events
+      (free_of (view old)) (free_of (view new))

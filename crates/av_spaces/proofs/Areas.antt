@@ -11,11 +11,11 @@ use Rattle.av_vma.specs.Join.{first_of, past_of}
 use Rattle.av_vmatree.specs.declared.span.Span.{Span}
 use Rattle.av_vmatree.specs.Spans.{AreApart, AreDistinct, area_at, holds, span_of}
 use Rattle.av_vmatree.proofs.Spans.{held}
-use Rattle.av_vma.specs.Pages.{has_page}
+use Rattle.av_vma.specs.Pages.{has_page, pages_in}
 use Rattle.av_merge.specs.Pages.{pages_by}
 use Rattle.av_merge.specs.Process.{AreAreasOf, IsAreaOf}
 use Rattle.av_merge.proofs.Places.{holds_is, holds_parts}
-use Rattle.av_spaces.specs.Spaces.{IsOwn, AreRising, pages_in}
+use Rattle.av_spaces.specs.Spaces.{IsOwn, AreRising}
 use Rattle.av_spaces.specs.Trees.{areas_by}
 
 -- ---- each span is that of an area of p

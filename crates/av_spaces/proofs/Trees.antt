@@ -11,10 +11,10 @@ use Rattle.av_base.specs.Words.{how_many}
 use Rattle.av_vma.specs.declared.area.Area.{Area}
 use Rattle.av_vmatree.specs.declared.span.Span.{Span}
 use Rattle.av_vmatree.specs.Spans.{area_at, span_of, taken}
-use Rattle.av_vma.specs.Pages.{Pages}
+use Rattle.av_vma.specs.Pages.{Pages, pages_in}
 use Rattle.av_merge.specs.Pages.{pages_by}
 use Rattle.av_merge.specs.Process.{AreAreasOf, IsAreaOf, KeepsOthers, Stays}
-use Rattle.av_spaces.specs.Spaces.{Spaces, areas_of, pages_in, pages_of, is_taken, AreRising, AllRising, IsSpawned, IsChanged, IsEnded}
+use Rattle.av_spaces.specs.Spaces.{Spaces, areas_of, pages_of, is_taken, AreRising, AllRising, IsSpawned, IsChanged, IsEnded}
 use Rattle.av_spaces.specs.Trees.{Trees, tree_at, areas_by, space_by, spaces_by, HasNone, AreTrees, IsGrown}
 use Rattle.av_spaces.proofs.Areas.{AreNumbered, numbered, pages_are, held_by, rising_of}
 

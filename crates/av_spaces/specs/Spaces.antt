@@ -2,10 +2,9 @@
 use Rattle.std.specs.Prelude.{◌≡◌, ◌≢◌, ℕ, ◌+◌, ◌-◌, ◌≤◌, ◌==◌, Bool, true, is_some, if◌then◌else◌, List, [], ◌∷◌, length, Option, Some, None, option_map, IfSome}
 use Rattle.std.specs.Ordering.{nat_cmp}
 use Rattle.std.specs.FinMap.Entries.{find as find_key}
-use Rattle.std.specs.List.{find}
 use Rattle.av_vma.specs.declared.area.Area.{Area}
 use Rattle.av_vma.specs.Join.{first_of, past_of}
-use Rattle.av_vma.specs.Pages.{Pages, IsWhole, has_page}
+use Rattle.av_vma.specs.Pages.{Pages, IsWhole, pages_in}
 
 -- the processes that live, rising, each with its areas
 abbrev pub Spaces : Type 0
@@ -16,10 +15,6 @@ abbrev pub areas_of : Spaces → ℕ → Option (List Area)
 areas_of s p = find_key nat_cmp p s
 
 -- the area that holds each page
-abbrev pub pages_in : Option (List Area) → Pages
-pages_in None page = None
-pages_in (Some areas) page = find (λ area. has_page area page) areas
-
 abbrev pub pages_of : Spaces → ℕ → Pages
 pages_of s p = pages_in (areas_of s p)
 

@@ -1,6 +1,7 @@
 -- What a process has on its pages: for each page the area that holds it. And what mapping, unmapping
 -- and changing a range make of that, with the cuts and joins that come of it.
-use Rattle.std.specs.Prelude.{◌≡◌, ℕ, zero, suc, ◌+◌, ◌-◌, ◌^◌, ◌<◌, ◌≤◌, true, false, not, ◌==◌, min, max, Bool, ◌&&◌, nat_lt, if◌then◌else◌, Option, Some, None, option_map}
+use Rattle.std.specs.Prelude.{◌≡◌, ℕ, zero, suc, ◌+◌, ◌-◌, ◌^◌, ◌<◌, ◌≤◌, true, false, not, ◌==◌, min, max, Bool, ◌&&◌, nat_lt, if◌then◌else◌, List, Option, Some, None, option_map}
+use Rattle.std.specs.List.{find}
 use Rattle.std.specs.Option.{option_or}
 use Rattle.av_base.specs.Limits.{low_page, top_page}
 use Rattle.av_base.specs.Page.{address_of}
@@ -16,6 +17,11 @@ Pages = ℕ → Option Area
 -- whether an area has the page
 abbrev pub has_page : Area → ℕ → Bool
 has_page area page = within (first_of area) (past_of area - first_of area) page
+
+-- the area that holds each page, by the areas of a process, if it lives
+abbrev pub pages_in : Option (List Area) → Pages
+pages_in None page = None
+pages_in (Some areas) page = find (λ area. has_page area page) areas
 
 -- an area of whole pages that a process may have; its linear indices stay below 2^60
 pub record IsWhole (area : Area) : Type 0 where

@@ -1,19 +1,20 @@
 -- Without a device no slot is in use: a page has at most one note, and is never lost.
 use Rattle.std.specs.List.{AllByRecursion}
 use Rattle.std.specs.Prelude.{MatchBool, MatchOption, IsTrue, unwrap_or}
-use Rattle.std.proofs.Common.{◌≡◌, ◌⊎◌, inl, inr, ℕ, zero, suc, ◌+◌, ◌<◌, Bool, true, false, cond, ◌&&◌, List, [], ◌∷◌, ◌++◌, Option, Some, None, is_some, refl, sym, ap, subst, ◌∙◌, arith, ◌==◌, nat_lt, append-nil}
+use Rattle.std.proofs.Common.{◌≡◌, ◌⊎◌, inl, inr, ℕ, zero, suc, ◌+◌, ◌<◌, Bool, true, false, cond, not, ◌&&◌, List, [], ◌∷◌, ◌++◌, Option, Some, None, is_some, refl, sym, ap, subst, ◌∙◌, arith, ◌==◌, nat_lt, append-nil}
 use Rattle.std.proofs.lemmas.Bool.Decides.{nat_tests}
 use Rattle.av_base.specs.Page.{address_of}
-use Rattle.av_base.specs.Words.{how_many}
+use Rattle.av_base.specs.Words.{how_many, numbers}
 use Rattle.av_base.specs.declared.slot.Slot.{Slot}
 use Rattle.av_trace.specs.declared.note.Note.{Note}
 use Rattle.av_trace.specs.declared.reply.OutOf.{OutOf}
 use Rattle.av_trace.specs.declared.note.Note.TheVariants.{Aged, Copied, Dropped, Failed, Kept, Loaded, Mapped, New, Put, Started, Unmapped, Written, Zeroed}
+use Rattle.av_plain.specs.Device.{HasNoDevice}
 use Rattle.av_plain.specs.World.{Page, World, pages}
 use Rattle.av_plain.specs.Ledger.{has_free_slot, is_open, slot_count, Cached, Entry, InFrame, InSlot, Key, Ledger, Setting, Zero, entry, has_free, is_on, is_usable, may_give, names_slot, same_slot, size_of, slot_entries, slot_of}
 use Rattle.av_plain.specs.Event.{Event, Used, after_all, after_note, after_notes, note_events, notes_of}
 use Rattle.av_plain.specs.Pass.{Completes, IsPass, IsSlotFor, Seeks, Spared, Turns, frames_in_turn, is_stuck, stays_cached, turn_notes}
-use Rattle.av_plain.specs.Fault.{drop_of_slot, ComesIn, CopyOnWrite, Denied, IsMade, Lost, MapCached, Need, NewPage, Ready, RunsOut, Serves, Sparing, Starved, Stop, SwapIn, Touches, ZeroPage, drop_at, drop_of_entry, is_shared, need, permits, sparing, was_slot}
+use Rattle.av_plain.specs.Fault.{drop_of_slot, ComesIn, CopyOnWrite, Denied, IsMade, Lost, MapCached, Need, NewPage, Ready, RunsOut, Serves, Sparing, Starved, Stop, SwapIn, Touches, ZeroPage, drop_at, drop_of_entry, is_shared, need, permits, pinned_by, sparing, was_slot}
 use Rattle.av_plain.specs.Access.{Accesses, End, Stopped, Whole, page_events}
 use Rattle.av_plain.specs.Sound.{count, flights, is_there, slots}
 use Rattle.av_plain.proofs.Ledger.{how_many-found}
@@ -38,15 +39,14 @@ use Rattle.av_plain.specs.Access.{bytes_before, pages_of_access, read_answer, st
 use Rattle.av_plain.specs.Ledger.{key_cmp}
 use Rattle.av_plain.specs.Event.{after_zap}
 use Rattle.av_plain.specs.Map.{zaps_for_place}
-use Rattle.av_plain.specs.Pass.{fails, is_fail}
+use Rattle.av_plain.specs.Pass.{fails, how_many_others, is_fail}
 use Rattle.av_plain.specs.Place.{IsMapAt}
 use Rattle.av_plain.specs.Refusal.{Refuses, Tests, refusal, tests}
 use Rattle.av_plain.specs.Sound.{AllSound}
-use Rattle.av_plain.specs.Step.{Follows, IsLegal, causes, fault_answers}
+use Rattle.av_plain.specs.Step.{Follows, IsLegal, causes, failed_frames, fault_answers}
 use Rattle.av_plain.specs.World.{pages_to_hole}
 use Rattle.av_plain.specs.Zap.{keys_in, keys_of_process, zap_of, zaps_of}
 use Rattle.av_plain.proofs.Zap.{in_order-after_zap, same_swap-after_zap, slot_entries-after_zap, zap_of-alone}
-use Rattle.av_laws.specs.NoDevice.{HasNoDevice}
 
 -- nothing is cached or in flight, and no entry names a slot
 pub record HasNoSlots (l : Ledger) : Type 0 where
@@ -247,12 +247,25 @@ nothing-dropped m write came l k cache = by (entry l k)
     by (Some (InFrame f seen)) = ap (λ o. drop_of_slot m write came l o) (no_slot l f cache)
     by (Some (InSlot s)) = refl
 
--- what stops an access is no lost page
+-- what stops an access is no lost page, and where it is want of a frame none is cached
 abbrev pub IsKept : Option Stop → Type 0
 IsKept None = Unit {0}
 IsKept (Some Denied) = Unit {0}
-IsKept (Some (Starved out)) = Unit {0}
+IsKept (Some (Starved out)) = out.fault ≡ 0
 IsKept (Some Lost) = ⊥
+
+none-counted : (test : ℕ → Bool) (xs : List ℕ) → ((x : ℕ) → test x ≡ false) → how_many test xs ≡ 0
+none-counted test [] h = refl
+none-counted test (x ∷ xs) h = let a : ◌≡◌ {A = ℕ} (cond (test x) 1 0) 0 = ap (λ b. cond b 1 0) (h x) in let rest = none-counted test xs h in omega (arith, a, rest)
+
+-- where nothing is cached, no frame is counted as cached
+none-cached : (m : Setting) (sp : Spared) (l : Ledger) → l.cache ≡ [] → how_many_others m sp (λ f. is_some (slot_of l f)) ≡ 0
+none-cached m sp l cache = none-counted (λ f. not (sp.frame f) && is_some (slot_of l f)) (numbers 0 m.frames)
+    (λ f. ap (λ o. not (sp.frame f) && is_some o) (no_slot l f cache) ∙ and_false (not (sp.frame f)))
+  where
+    and_false : (b : Bool) → (b && false) ≡ false
+    and_false true = refl
+    and_false false = refl
 
 serves-plain : (m : Setting) (sp : Sparing) (l : Ledger) (write : Bool) (k : Key) (notes : List Note) → HasNoDevice m → HasNoSlots l → Serves m sp l write k notes → ArePlainAt m k notes
 serves-plain m sp l write k notes none q h =
@@ -276,6 +289,18 @@ runs_out-nothing m sp l write k notes none q h =
     before (inl e) = e
     before (inr c) = nothing-comes m sp l k (need write l (entry l k)) h.coming (plain-need l write k q) c
 
+-- and its numbers are those of frames that aren't cached
+starved-uncached : (m : Setting) (sp : Sparing) (l : Ledger) (write : Bool) (k : Key) (notes : List Note) {out : OutOf} → HasNoDevice m → HasNoSlots l → RunsOut m sp l write k notes out → out.fault ≡ 0
+starved-uncached m sp l write k notes none q h =
+    let e = coming_none h.before in
+    let sought_none = seeks-nothing m _ (after_notes l h.coming) h.sought none (subst (λ ns. HasNoSlots (after_notes l ns)) (sym e) q) h.finds.seeks in
+    ap (λ (o : OutOf). o.fault) h.finds.numbers
+    ∙ none-cached m (sp (after_notes l h.coming) (pinned_by (need write (after_notes l h.coming) (entry (after_notes l h.coming) k)))) (after_notes (after_notes l h.coming) h.sought) (ap (λ ns. (after_notes (after_notes l h.coming) ns).cache) sought_none ∙ ap (λ ns. (after_notes l ns).cache) e ∙ q.cache)
+  where
+    coming_none : (h.coming ≡ []) ⊎ ComesIn m sp l k (need write l (entry l k)) h.coming → h.coming ≡ []
+    coming_none (inl e) = e
+    coming_none (inr c) = nothing-comes m sp l k (need write l (entry l k)) h.coming (plain-need l write k q) c
+
 -- what is so at a page: it is mapped where it has a note
 pub record PlainPage (m : Setting) (w : World) (k : Key) (notes : List Note) (stop : Option Stop) : Type 0 where
   pub plain : ArePlainAt m k notes
@@ -292,7 +317,7 @@ touches-plain m w l write k notes stop none q = by stop
     by : (stop : Option Stop) → Touches m w l write k notes stop → PlainPage m w k notes stop
     by None (allowed, served) = record { plain = serves-plain m (sparing w) l write k notes none q served; mapped = inr (mapped (pages w k.0 k.1) allowed); kept = tt }
     by (Some Denied) (denied, e) = record { plain = subst (ArePlainAt m k) (sym e) tt; mapped = inl e; kept = tt }
-    by (Some (Starved out)) (allowed, h) = let e = runs_out-nothing m (sparing w) l write k notes none q h in record { plain = subst (ArePlainAt m k) (sym e) tt; mapped = inl e; kept = tt }
+    by (Some (Starved out)) (allowed, h) = let e = runs_out-nothing m (sparing w) l write k notes none q h in record { plain = subst (ArePlainAt m k) (sym e) tt; mapped = inl e; kept = starved-uncached m (sparing w) l write k notes none q h }
     by (Some Lost) (allowed, h) = absurd (subst IsPlain h.absent (plain-need l write k q))
 
 -- ---- an access
@@ -366,10 +391,19 @@ no-zap-notes m l ks none s = let q = no-slots m l none s in zaps-quiet l ks (rec
 
 -- ---- a command
 
--- no note tells of a fault, and the answer doesn't
+-- the answer tells of no fault
+record IsFaultless (answer : Answer) : Type 0 where
+  told : fault_answers answer ≡ 0
+  failed : failed_frames answer ≡ 0
+
+-- and no note does
 record Faultless (events : List Event) (answer : Answer) : Type 0 where
   notes : fails (notes_of events) ≡ 0
-  answered : fault_answers answer ≡ 0
+  answered : IsFaultless answer
+
+-- so it is with an answer that is known
+is-faultless : (answer answer' : Answer) → answer ≡ answer' → IsFaultless answer' → IsFaultless answer
+is-faultless answer answer' e h = subst IsFaultless (sym e) h
 
 no-fails : (notes : List Note) → AllByRecursion (λ note. is_fail note ≡ false) notes → fails notes ≡ 0
 no-fails [] h = refl
@@ -394,47 +428,47 @@ plain-fails m k (Dropped s) h = absurd h
 plain-fails m k (Kept f c) h = absurd h
 plain-fails m k (Aged f) h = absurd h
 
-stop-faultless : (stop : Stop) (k : ℕ) (shown : List ℕ) → IsKept (Some stop) → fault_answers (stop_answer stop k shown) ≡ 0
-stop-faultless Denied k shown h = refl
-stop-faultless (Starved out) k shown h = refl
+stop-faultless : (stop : Stop) (k : ℕ) (shown : List ℕ) → IsKept (Some stop) → IsFaultless (stop_answer stop k shown)
+stop-faultless Denied k shown h = record { told = refl; failed = refl }
+stop-faultless (Starved out) k shown h = record { told = refl; failed = h }
 stop-faultless Lost k shown h = absurd h
 
-read-faultless : (a : ℕ) (end : End) (shown : List ℕ) → Ends end → fault_answers (read_answer a end shown) ≡ 0
-read-faultless a Whole shown h = refl
+read-faultless : (a : ℕ) (end : End) (shown : List ℕ) → Ends end → IsFaultless (read_answer a end shown)
+read-faultless a Whole shown h = record { told = refl; failed = refl }
 read-faultless a (Stopped page stop) shown h = stop-faultless stop (bytes_before a page) shown h
 
-write-faultless : (a : ℕ) (end : End) → Ends end → fault_answers (write_answer a end) ≡ 0
-write-faultless a Whole h = refl
+write-faultless : (a : ℕ) (end : End) → Ends end → IsFaultless (write_answer a end)
+write-faultless a Whole h = record { told = refl; failed = refl }
 write-faultless a (Stopped page stop) h = stop-faultless stop (bytes_before a page) [] h
 
 follows-faultless : (m : Setting) (w : World) (l : Ledger) (command : Command) (events : List Event) (answer : Answer) (rows : List Row) → HasNoDevice m → InAreas m l → Follows m w l command events answer rows → Faultless events answer
-follows-faultless m w l (Spawn p) events answer rows none s h = record { notes = ap (λ es. fails (notes_of es)) h.1; answered = ap fault_answers h.0 }
-follows-faultless m w l (Exit p) events answer rows none s h = record { notes = ap (λ es. fails (notes_of es)) h.1 ∙ ap fails (no-zap-notes m l (keys_of_process l p) none s); answered = ap fault_answers h.0 }
+follows-faultless m w l (Spawn p) events answer rows none s h = record { notes = ap (λ es. fails (notes_of es)) h.1; answered = is-faultless answer _ h.0 (record { told = refl; failed = refl }) }
+follows-faultless m w l (Exit p) events answer rows none s h = record { notes = ap (λ es. fails (notes_of es)) h.1 ∙ ap fails (no-zap-notes m l (keys_of_process l p) none s); answered = is-faultless answer _ h.0 (record { told = refl; failed = refl }) }
 follows-faultless m w l (Mmap p len prot place) events answer rows none s h = record { notes = ap (λ es. fails (notes_of es)) h.3 ∙ ap fails (no-place-notes place); answered = by h.0 h.2 }
   where
-    by : (to : Option ℕ) → IsMapAt answer to → fault_answers answer ≡ 0
-    by None e = ap fault_answers e
-    by (Some page) e = ap fault_answers e
+    by : (to : Option ℕ) → IsMapAt answer to → IsFaultless answer
+    by None e = is-faultless answer _ e (record { told = refl; failed = refl })
+    by (Some page) e = is-faultless answer _ e (record { told = refl; failed = refl })
 
     no-place-notes : (place : Place) → notes_of (zaps_for_place l p (pages_of len) place) ≡ []
     no-place-notes Auto = refl
     no-place-notes (At a) = refl
     no-place-notes (Fixed a) = no-zap-notes m l (keys_in l p (page_of a) (pages_of len)) none s
     no-place-notes (NoReplace a) = refl
-follows-faultless m w l (Munmap p a len) events answer rows none s h = record { notes = ap (λ es. fails (notes_of es)) h.1 ∙ ap fails (no-zap-notes m l (keys_in l p (page_of a) (pages_of len)) none s); answered = ap fault_answers h.0 }
-follows-faultless m w l (Mprotect p a len prot) events answer rows none s h = record { notes = ap (λ es. fails (notes_of es)) h.1; answered = ap fault_answers h.0 ∙ by (pages_to_hole (pages w p) (page_of a) (pages_of len) == pages_of len) }
+follows-faultless m w l (Munmap p a len) events answer rows none s h = record { notes = ap (λ es. fails (notes_of es)) h.1 ∙ ap fails (no-zap-notes m l (keys_in l p (page_of a) (pages_of len)) none s); answered = is-faultless answer _ h.0 (record { told = refl; failed = refl }) }
+follows-faultless m w l (Mprotect p a len prot) events answer rows none s h = record { notes = ap (λ es. fails (notes_of es)) h.1; answered = is-faultless answer _ h.0 (by (pages_to_hole (pages w p) (page_of a) (pages_of len) == pages_of len)) }
   where
-    by : (b : Bool) → fault_answers (if b then Done else Refused Enomem) ≡ 0
-    by true = refl
-    by false = refl
+    by : (b : Bool) → IsFaultless (if b then Done else Refused Enomem)
+    by true = record { told = refl; failed = refl }
+    by false = record { told = refl; failed = refl }
 follows-faultless m w l (Read p a n) events answer rows none s h =
     let plain = accesses-plain (λ note. is_fail note ≡ false) m w p none (λ page note is. plain-fails m (p, page) note) l (pages_of_access false a n) events h.0 s h.2 in
-    record { notes = no-fails (notes_of events) plain.notes; answered = ap fault_answers h.4 ∙ read-faultless a h.0 h.1 plain.ends }
+    record { notes = no-fails (notes_of events) plain.notes; answered = is-faultless answer _ h.4 (read-faultless a h.0 h.1 plain.ends) }
 follows-faultless m w l (Write p a bytes) events answer rows none s h =
     let plain = accesses-plain (λ note. is_fail note ≡ false) m w p none (λ page note is. plain-fails m (p, page) note) l (pages_of_access true a (length bytes)) events h.0 s h.1 in
-    record { notes = no-fails (notes_of events) plain.notes; answered = ap fault_answers h.2 ∙ write-faultless a h.0 plain.ends }
-follows-faultless m w l (Maps p) events answer rows none s h = record { notes = ap (λ es. fails (notes_of es)) h.2; answered = ap fault_answers h.0 }
-follows-faultless m w l Stat events answer rows none s h = record { notes = ap (λ es. fails (notes_of es)) h.1; answered = ap fault_answers h.0 }
+    record { notes = no-fails (notes_of events) plain.notes; answered = is-faultless answer _ h.2 (write-faultless a h.0 plain.ends) }
+follows-faultless m w l (Maps p) events answer rows none s h = record { notes = ap (λ es. fails (notes_of es)) h.2; answered = is-faultless answer _ h.0 (record { told = refl; failed = refl }) }
+follows-faultless m w l Stat events answer rows none s h = record { notes = ap (λ es. fails (notes_of es)) h.1; answered = is-faultless answer _ h.0 (record { told = refl; failed = refl }) }
 
 -- no test leads to EIO
 abbrev AreMild : Tests → Type 0
@@ -469,9 +503,10 @@ pub no-causes : (m : Setting) (w : World) (l : Ledger) (command : Command) (repl
 no-causes m w l command reply events none s legal =
     let f = by (refusal (tests m w l command)) refl legal.answer in
     let a = ap fails legal.notes ∙ f.notes in
-    let b = f.answered in
-    omega (arith, a, b)
+    let b = f.answered.told in
+    let c = f.answered.failed in
+    grind (arith, a, b, c)
   where
     by : (o : Option Errno) → refusal (tests m w l command) ≡ o → MatchOption o (Follows m w l command events reply.answer reply.rows) (λ error. Refuses error events reply.answer reply.rows) → Faultless events reply.answer
     by None is h = follows-faultless m w l command events reply.answer reply.rows none (in-areas m w l s) h
-    by (Some error) is h = record { notes = ap (λ es. fails (notes_of es)) h.1; answered = ap fault_answers h.0 ∙ mild-refusal (tests m w l command) error (tests-mild m w l command) is }
+    by (Some error) is h = record { notes = ap (λ es. fails (notes_of es)) h.1; answered = is-faultless reply.answer _ h.0 (record { told = mild-refusal (tests m w l command) error (tests-mild m w l command) is; failed = refl }) }

@@ -1,0 +1,56 @@
+-- The areas of each process, beside the memories, and what a command makes of them. They follow from
+-- commands and answers, and are not part of what makes a reply legal.
+use Rattle.std.specs.Prelude.{ℕ, ◌+◌, if◌then◌else◌, Some, None}
+use Rattle.av_base.specs.Page.{page_of, pages_of}
+use Rattle.av_base.specs.Words.{with_at}
+use Rattle.av_base.specs.declared.prot.Prot.{Prot}
+use Rattle.av_trace.specs.declared.command.Command.{Command}
+use Rattle.av_trace.specs.declared.command.Command.TheVariants.{Mprotect, Spawn, Exit, Mmap, Munmap}
+use Rattle.av_trace.specs.declared.place.Place.{Place}
+use Rattle.av_trace.specs.declared.place.Place.TheVariants.{Auto, At, Fixed, NoReplace}
+use Rattle.av_trace.specs.declared.reply.Answer.{Answer}
+use Rattle.av_trace.specs.declared.reply.Answer.TheVariants.{Done, MapAt, Refused}
+use Rattle.av_trace.specs.declared.reply.Errno.TheVariants.{Enomem}
+use Rattle.av_vma.specs.Pages.{Pages, mapped, pages_changed, to_prot, unmapped}
+use Rattle.av_plain.specs.Refusal.{wraps}
+use Rattle.av_plain.specs.World.{World, pages, pages_to_hole}
+
+-- for each process, the area that holds each page
+abbrev pub Areas : Type 0
+Areas = ℕ → Pages
+
+-- a process without any
+abbrev pub none_on : Pages
+none_on page = None
+
+-- no process has any
+abbrev pub no_areas : Areas
+no_areas p = none_on
+
+-- what stands where a mapping of n pages goes makes room: only a fixed place takes away
+abbrev pub with_room : ℕ → Place → Pages → Pages
+with_room n Auto on = on
+with_room n (At a) on = on
+with_room n (Fixed a) on = unmapped (page_of a) (page_of a + n) on
+with_room n (NoReplace a) on = on
+
+-- the pages up to the first of n that isn't mapped get the protection
+abbrev pub areas_to_hole : World → ℕ → ℕ → ℕ → Prot → Pages → Pages
+areas_to_hole w p from n prot on =
+    pages_changed (to_prot prot) from (pages_to_hole (pages w p) from n) on
+
+-- the areas after a command that was answered so, by the memories before it
+abbrev pub next_areas : Areas → World → Command → Answer → Areas
+next_areas on w (Spawn p) Done = with_at p none_on on
+next_areas on w (Exit p) Done = with_at p none_on on
+next_areas on w (Mmap p len prot place) (MapAt a) =
+    with_at p
+    (mapped p (page_of a) (page_of a + pages_of len) prot (with_room (pages_of len) place (on p))) on
+next_areas on w (Munmap p a len) Done =
+    with_at p (unmapped (page_of a) (page_of a + pages_of len) (on p)) on
+next_areas on w (Mprotect p a len prot) Done =
+    with_at p (areas_to_hole w p (page_of a) (pages_of len) prot (on p)) on
+next_areas on w (Mprotect p a len prot) (Refused Enomem) =
+    if wraps a len then on
+    else with_at p (areas_to_hole w p (page_of a) (pages_of len) prot (on p)) on
+next_areas on w command answer = on
