@@ -12,7 +12,7 @@ use Rattle.av_plain.specs.Event.{after_note, set_entry, to_inactive_head}
 use Rattle.av_plain.specs.Device.{no_device}
 use Rattle.av_plain.proofs.Pass.{takes-alone}
 use Rattle.av_plain.specs.Fault.{sparing, NewPage, CopyOnWrite, need}
-use Rattle.av_plain.specs.Stands.{prot_of, Holds, IsKept}
+use Rattle.av_plain.specs.Stands.{prot_of, ranges_in, Holds, IsKept}
 use Rattle.av_plain.specs.Transcript.{State}
 use Rattle.av_plain.proofs.Ledger.Order.{weight}
 use Rattle.av_plain.proofs.Ledger.NoSwap.{itself, key_at-page, free_is, zero_is}
@@ -23,7 +23,7 @@ use Rattle.av_reclaim.specs.Mem.{setting, count, view, Keeps}
 use Rattle.av_fault.specs.Fault.{permitted, frame_named, one_more, one_less, IsTouched, IsTaken}
 use Rattle.av_fault.proofs.FaultParts.{of_keeps, no_swap}
 use Rattle.av_fault.proofs.FaultEntries.{given_to}
-use Rattle.av_reclaim.proofs.MemLaws.{equal_is}
+use Rattle.av_reclaim.proofs.MemLaws.{equal_is, frames_free}
 use Rattle.av_fault.proofs.FaultServes.{is_bare, bare_entry, bare_frame, bare_slot, need_fresh, need_split, serves, out_is}
 use Rattle.av_fault.proofs.FaultTouched.{given_now, starved}
 use Rattle.av_fault.proofs.FaultSafe.{named_frame}
@@ -40,7 +40,7 @@ abbrev numbers_of : ℕ → ℕ → OutOf
 numbers_of pinned n = record { pinned = pinned; noslot = n - pinned; fault = 0 }
 
 module _ (s : State) (old new : Mem) (p page : ℕ) (notes : List Note) (keeps : Keeps old s) (processes : has new.tables ≡ has old.tables) (same : count new ≡ count old)
-    (allowed : permitted true (prot_of ((view old).areas p) page) ≡ true) where
+    (allowed : permitted true (prot_of (ranges_in ((view old).areas p)) page) ≡ true) where
   free_now : (f : ℕ) → f < count old → (view old).free ≡ f ∷ (view new).free → is_free s.ledger f ≡ true
   free_now f below first = sym (keeps.stands.parts.ledger.frames.free f below) ∙ ap (is_in f) first ∙ ap (λ b. b || is_in f (view new).free) (itself f)
 
@@ -62,7 +62,7 @@ module _ (s : State) (old new : Mem) (p page : ℕ) (notes : List Note) (keeps :
 
     pub new_made : (f : ℕ) (now : List Note) → now ≡ notes ++ New p (4096 * page) f ∷ [] → IsTaken old new p page f (λ i. 0) (one_more f (view old).maps) → IsTouched s new true (p, page) notes now (ReadyAt f)
     new_made f now added is = given_now s old new p page notes keeps processes same now (New p (4096 * page) f) f (λ i. 0) (one_more f (view old).maps) added is allowed (new_is p page f s.ledger) refl
-        (sym keeps.stands.free ∙ is.first)
+        (sym keeps.stands.free ∙ ap frames_free is.first)
         (serves (setting (count old)) (sparing s.world) s.ledger true (p, page) (New p (4096 * page) f ∷ []) NewPage (need_fresh s.ledger (entry s.ledger (p, page)) is_bare_now) refl
         (takes-alone (setting (count old)) (sparing s.world s.ledger None) s.ledger f (New p (4096 * page)) (no_swap (setting (count old)) (view old) s.world s.ledger (of_keeps old s keeps)) is.below (free_now f is.below is.first)) (of_keeps old s keeps).cache)
         (blank (entry s.ledger (p, page)) is_bare_now (keeps.stands.parts.bytes.kept p page))
@@ -104,7 +104,7 @@ module _ (s : State) (old new : Mem) (p page : ℕ) (notes : List Note) (keeps :
 
     pub copy_made : (f : ℕ) (now : List Note) → now ≡ notes ++ Copied p (4096 * page) f ∷ [] → IsTaken old new p page f ((view old).bytes from) (one_less from (one_more f (view old).maps)) → IsTouched s new true (p, page) notes now (ReadyAt f)
     copy_made f now added is = given_now s old new p page notes keeps processes same now (Copied p (4096 * page) f) f ((view old).bytes from) (one_less from (one_more f (view old).maps)) added is allowed (copied_is p page f s.ledger) refl
-        (sym keeps.stands.free ∙ is.first)
+        (sym keeps.stands.free ∙ ap frames_free is.first)
         (serves (setting (count old)) (sparing s.world) s.ledger true (p, page) (Copied p (4096 * page) f ∷ []) (CopyOnWrite from) splits refl
         (takes-alone (setting (count old)) (sparing s.world s.ledger (Some from)) s.ledger f (Copied p (4096 * page)) (no_swap (setting (count old)) (view old) s.world s.ledger (of_keeps old s keeps)) is.below (free_now f is.below is.first)) (of_keeps old s keeps).cache)
         (subst (λ e. IsKept (view old) no_device s.ledger e (pages s.world p page)) named (keeps.stands.parts.bytes.kept p page))

@@ -15,7 +15,7 @@ use Rattle.av_plain.specs.Event.{without, after_notes}
 use Rattle.av_plain.specs.Pass.{Spared, out_of}
 use Rattle.av_plain.proofs.Pass.{HasNoSwap, none-seeks}
 use Rattle.av_plain.specs.Fault.{Sparing, sparing, is_pinned, FindsNone, Serves, need, Need, Ready, NewPage, CopyOnWrite, was_slot, ComesIn, IsMade, drop_of_entry, drop_of_slot, permits, RunsOut, pinned_by, wants_frame}
-use Rattle.av_plain.specs.Stands.{View, entry_of, AreasStand, prot_of}
+use Rattle.av_plain.specs.Stands.{View, entry_of, AreasStand, prot_of, ranges_in}
 use Rattle.av_plain.proofs.Ledger.Order.{weight}
 use Rattle.av_plain.proofs.Ledger.{how_many-found}
 use Rattle.av_plain.proofs.Event.{how_many-same, how_many-none}
@@ -26,7 +26,7 @@ use Rattle.av_fault.proofs.FaultParts.{Parts}
 
 -- ---- whether the access is allowed
 
-pub allowed_is : (v : View) (w : World) (write : Bool) (p page : ℕ) → AreasStand v w → permits write (pages w p page) ≡ permitted write (prot_of (v.areas p) page)
+pub allowed_is : (v : View) (w : World) (write : Bool) (p page : ℕ) → AreasStand v w → permits write (pages w p page) ≡ permitted write (prot_of (ranges_in (v.areas p)) page)
 allowed_is v w write p page areas = sym (ap (permitted write) (areas.covers p page) ∙ on_page (pages w p page))
   where
     on_page : (o : Option Page) → permitted write (option_map (λ (q : Page). q.prot) o) ≡ permits write o

@@ -6,17 +6,17 @@ use Rattle.std.proofs.lemmas.Bool.Decides.{nat_tests}
 use Rattle.av_base.specs.Words.{with_at, numbers}
 use Rattle.av_trace.specs.declared.reply.OutOf.{OutOf}
 use Rattle.av_trace.specs.declared.note.Note.{Note}
-use Rattle.av_trace.specs.declared.note.Note.TheVariants.{Zeroed}
+use Rattle.av_trace.specs.declared.note.Note.TheVariants.{Aged, Copied, Dropped, Failed, Kept, Loaded, Mapped, New, Put, Started, Unmapped, Written, Zeroed}
 use Rattle.av_pagetable.specs.Entries.{has}
 use Rattle.av_plain.specs.World.{World, pages}
 use Rattle.av_plain.specs.Ledger.{Ledger, Setting, is_free, Key, key_cmp, Entry, Zero, InFrame, entry, map_count, names_frame, names_slot}
-use Rattle.av_plain.specs.Event.{Noted, Used, after_note, after_use, after_use_of, set_entry, if_some, with_stale}
+use Rattle.av_plain.specs.Event.{Event, Noted, Used, after_note, after_use, after_use_of, set_entry, if_some, with_stale}
 use Rattle.av_plain.specs.Pass.{out_of}
 use Rattle.av_plain.specs.Fault.{Serves, Touches, Starved, sparing, need, Need, Ready, ZeroPage, wants_frame, pinned_by, permits}
 use Rattle.av_plain.specs.Access.{page_events}
-use Rattle.av_plain.specs.Choice.{Chooses, ChoosesAll, frame_in_note, new_free}
-use Rattle.av_plain.proofs.Choice.{chooses-kept, chooses-taken, new_free-none, new_free-set}
-use Rattle.av_plain.specs.Stands.{View, Pte as Plain, prot_of, Holds}
+use Rattle.av_plain.specs.Choice.{AreaSlots, Chooses, ChoosesAll, ChoosesSlot, Turns, frame_in_note, new_free, no_slots, slot_in, slot_in_note}
+use Rattle.av_plain.proofs.Choice.{chooses-kept, chooses-taken, no-slot-chosen, new_free-none, new_free-set}
+use Rattle.av_plain.specs.Stands.{AreasAre, View, Pte as Plain, free_of, prot_of, ranges_in, Holds}
 use Rattle.av_plain.specs.Transcript.{State}
 use Rattle.av_plain.proofs.Ledger.Order.{weight}
 use Rattle.av_plain.proofs.Ledger.{same_key-is, same_key-itself, entry-set, map_count-set}
@@ -24,6 +24,8 @@ use Rattle.av_plain.proofs.Ledger.NoSwap.{key_at-page, key_is, no_slot, free_is}
 use Rattle.av_reclaim.specs.declared.mem.Mem.{Mem}
 use Rattle.av_fault.specs.declared.fault.Stop.TheVariants.{Segv, Oom}
 use Rattle.av_fault.specs.declared.fault.Touched.TheVariants.{Ready as ReadyAt, Zeros, Stopped}
+use Rattle.av_vma.specs.Pages.{pages_in}
+use Rattle.av_reclaim.proofs.MemLaws.{frames_free}
 use Rattle.av_reclaim.specs.Mem.{setting, count, view, Keeps, KeepsWithin, HasTables}
 use Rattle.av_fault.specs.Fault.{permitted, IsTouched, IsTaken}
 use Rattle.av_fault.proofs.FaultParts.{Parts, changed, as_pte, of_keeps, to_stand, no_swap}
@@ -96,10 +98,32 @@ given_frees_none m v w l p page f rest bytes maps before after counts many = non
     by true false now was zero c e f h many few = absurd (let some : 0 < was = grind (arith, nat_tests, f) in let none : now ≡ 0 = grind (arith, nat_tests, e) in omega (arith, some, none, h))
     by true false now was (suc k) c e f h many few = absurd (let none : now ≡ 0 = grind (arith, nat_tests, e) in let two = many (omega arith) in omega (arith, none, two, h, few))
 
+-- ---- what is free
+
+-- without a device no slot is taken or given back
+unslotted : (n : ℕ) (l : Ledger) (e : Event) (slots : AreaSlots) → Turns (setting n) e slots slots → slot_in e ≡ None → ChoosesSlot (setting n) None l e slots slots
+unslotted n l e slots turns takes = no-slot-chosen (setting n) None l e slots (λ k. refl) turns takes
+
+-- a note that takes a frame takes no slot
+takes_no_slot : (note : Note) (f : ℕ) → frame_in_note note ≡ Some f → slot_in_note note ≡ None
+takes_no_slot (Put g s) f e = cc
+takes_no_slot (Zeroed p a) f e = refl
+takes_no_slot (New p a g) f e = refl
+takes_no_slot (Copied p a g) f e = refl
+takes_no_slot (Loaded s g) f e = refl
+takes_no_slot (Mapped p a g) f e = refl
+takes_no_slot (Unmapped g) f e = refl
+takes_no_slot (Started s) f e = refl
+takes_no_slot (Written s) f e = refl
+takes_no_slot (Failed s) f e = refl
+takes_no_slot (Dropped s) f e = refl
+takes_no_slot (Kept g c) f e = refl
+takes_no_slot (Aged g) f e = refl
+
 -- ---- the kernel
 
 pub tables_still : (old new : Mem) → HasTables old → has new.tables ≡ has old.tables → (view new).areas ≡ (view old).areas → HasTables new
-tables_still old new h tables areas = λ p. ap (λ f. f p) tables ∙ h p ∙ sym (ap (λ f. is_some (f p)) areas)
+tables_still old new h tables areas = λ p. ap (λ f. f p) tables ∙ h p ∙ sym (ap (λ f. is_some (ranges_in (f p))) areas)
 
 pub stand_now : (old new : Mem) (w : World) (l : Ledger) (v : View) → view new ≡ v → count new ≡ count old → Parts (setting (count old)) v w l → HasTables new → KeepsWithin new w l
 stand_now old new w l v is same parts tables = to_stand new w l (subst (λ n. Parts (setting n) (view new) w l) (sym same) (subst (λ v. Parts (setting (count old)) v w l) (sym is) parts)) tables
@@ -109,7 +133,7 @@ module _ (s : State) (old new : Mem) (p page : ℕ) (notes : List Note) (keeps :
   parts = of_keeps old s keeps
 
   -- the page is not mapped so
-  pub denied : (write : Bool) → permitted write (prot_of ((view old).areas p) page) ≡ false → IsTouched s old write (p, page) notes notes (Stopped Segv)
+  pub denied : (write : Bool) → permitted write (prot_of (ranges_in ((view old).areas p)) page) ≡ false → IsTouched s old write (p, page) notes notes (Stopped Segv)
   denied write refused = record {
     added = [];
     notes = sym (append-nil notes);
@@ -117,10 +141,11 @@ module _ (s : State) (old new : Mem) (p page : ℕ) (notes : List Note) (keeps :
     ready = tt;
     parts = to_stand old s.world s.ledger (of_keeps old s keeps) keeps.tables;
     free = keeps.stands.free;
+    areas = keeps.stands.areas;
   }
 
   -- its entry is zeros, at a read
-  pub zeros_there : permitted false (prot_of ((view old).areas p) page) ≡ true → entry s.ledger (p, page) ≡ Some Zero → IsTouched s old false (p, page) notes notes Zeros
+  pub zeros_there : permitted false (prot_of (ranges_in ((view old).areas p)) page) ≡ true → entry s.ledger (p, page) ≡ Some Zero → IsTouched s old false (p, page) notes notes Zeros
   zeros_there allowed is =
       let still : after_use false (p, page) s.ledger ≡ s.ledger = ap (after_use_of false (p, page) s.ledger) is in
       record {
@@ -129,12 +154,13 @@ module _ (s : State) (old new : Mem) (p page : ℕ) (notes : List Note) (keeps :
         touches = (allowed_is (view old) s.world false p page keeps.stands.parts.areas ∙ allowed, serves (setting (count old)) (sparing s.world) s.ledger false (p, page) [] Ready (ap (need false s.ledger) is) refl refl (of_keeps old s keeps).cache);
         ready = (ap (λ l. entry l (p, page)) still ∙ is, refl);
         parts = subst (KeepsWithin old s.world) (sym still) (to_stand old s.world s.ledger (of_keeps old s keeps) keeps.tables);
-        free = (s.free, chooses-kept (setting (count old)) s.ledger (Used false (p, page)) s.free refl (none_freed (setting (count old)) s.ledger (after_use false (p, page) s.ledger) still), keeps.stands.free);
+        free = (s.free, chooses-kept (setting (count old)) None s.ledger (Used false (p, page)) s.free (unslotted (count old) s.ledger (Used false (p, page)) s.free.slots refl refl) refl (none_freed (setting (count old)) s.ledger (after_use false (p, page) s.ledger) still), keeps.stands.free);
+        areas = keeps.stands.areas;
       }
 
   module _ (processes : has new.tables ≡ has old.tables) (same : count new ≡ count old) where
     -- no frame is free
-    pub starved : (n : Need) (out : OutOf) → view new ≡ view old → permitted true (prot_of ((view old).areas p) page) ≡ true → need true s.ledger (entry s.ledger (p, page)) ≡ n → wants_frame n ≡ true → (view old).free ≡ []
+    pub starved : (n : Need) (out : OutOf) → view new ≡ view old → permitted true (prot_of (ranges_in ((view old).areas p)) page) ≡ true → need true s.ledger (entry s.ledger (p, page)) ≡ n → wants_frame n ≡ true → (view old).free ≡ []
         → out ≡ out_of (setting (count old)) (pinned_by n) (sparing s.world s.ledger (pinned_by n)) s.ledger → IsTouched s new true (p, page) notes notes (Stopped (Oom out))
     starved n out is allowed needs wants empty numbers = record {
       added = [];
@@ -143,11 +169,12 @@ module _ (s : State) (old new : Mem) (p page : ℕ) (notes : List Note) (keeps :
           (allowed_is (view old) s.world true p page keeps.stands.parts.areas ∙ allowed, runs_out (setting (count old)) s.world s.ledger (p, page) n out (no_swap (setting (count old)) (view old) s.world s.ledger (of_keeps old s keeps)) needs wants (nothing_free (setting (count old)) (view old) s.world s.ledger (of_keeps old s keeps) empty) numbers);
       ready = tt;
       parts = stand_now old new s.world s.ledger (view old) is same (of_keeps old s keeps) (tables_still old new keeps.tables processes (ap (λ (v : View). v.areas) is));
-      free = ap (λ (v : View). v.free) is ∙ keeps.stands.free;
+      free = ap free_of is ∙ keeps.stands.free;
+      areas = λ q o. ap (λ (v : View). pages_in (v.areas q) o) is ∙ keeps.stands.areas q o;
     }
 
     -- its entry is a frame, which a write has for itself; it is marked as seen
-    pub marked : (write bit was : Bool) (f : ℕ) → view new ≡ changed p page (as_pte (InFrame f true) bit) (view old).bytes (view old).maps (view old).free (view old) → permitted write (prot_of ((view old).areas p) page) ≡ true
+    pub marked : (write bit was : Bool) (f : ℕ) → view new ≡ changed p page (as_pte (InFrame f true) bit) (view old).bytes (view old).maps (view old).free (view old) → permitted write (prot_of (ranges_in ((view old).areas p)) page) ≡ true
         → entry s.ledger (p, page) ≡ Some (InFrame f was) → (bit ≡ true → map_count s.ledger f ≤ 1) → (write ≡ true → map_count s.ledger f ≤ 1) → IsTouched s new write (p, page) notes notes (ReadyAt f)
     marked write bit was f is allowed named few own =
         let use_is = used_is write s.ledger (p, page) f was (of_keeps old s keeps).cache named in
@@ -164,11 +191,12 @@ module _ (s : State) (old new : Mem) (p page : ℕ) (notes : List Note) (keeps :
           parts = subst (KeepsWithin new s.world) (sym use_is) (stand_now old new s.world (set_entry (p, page) (InFrame f true) s.ledger) _ is same
               (seen (setting (count old)) (view old) s.world s.ledger p page f was bit (of_keeps old s keeps) (there_is s.world write p page permit) named few)
               (tables_still old new keeps.tables processes (ap (λ (v : View). v.areas) is)));
-          free = subst (λ n. ChoosesAll (setting n) s.ledger (page_events write (p, page) [] None) s.free (view new).free) (sym same) (
+          free = subst (λ n. ChoosesAll (setting n) None s.ledger (page_events write (p, page) [] None) s.free (free_of (view new))) (sym same) (
             s.free,
-            chooses-kept (setting (count old)) s.ledger (Used write (p, page)) s.free refl (seen_frees_none (setting (count old)) s.ledger (after_use write (p, page) s.ledger) (p, page) f was use_is (of_keeps old s keeps).in_order named),
-            ap (λ (v : View). v.free) is ∙ keeps.stands.free,
+            chooses-kept (setting (count old)) None s.ledger (Used write (p, page)) s.free (unslotted (count old) s.ledger (Used write (p, page)) s.free.slots refl refl) refl (seen_frees_none (setting (count old)) s.ledger (after_use write (p, page) s.ledger) (p, page) f was use_is (of_keeps old s keeps).in_order named),
+            ap free_of is ∙ keeps.stands.free,
           );
+          areas = λ q o. ap (λ (v : View). pages_in (v.areas q) o) is ∙ keeps.stands.areas q o;
         }
       where
         needs : (write : Bool) → (write ≡ true → map_count s.ledger f ≤ 1) → need write s.ledger (entry s.ledger (p, page)) ≡ Ready
@@ -177,7 +205,7 @@ module _ (s : State) (old new : Mem) (p page : ℕ) (notes : List Note) (keeps :
 
     module _ (now : List Note) where
       -- it has no entry, and gets the page of zeros, at a read
-      pub zeroed_now : now ≡ notes ++ Zeroed p (4096 * page) ∷ [] → view new ≡ changed p page (as_pte Zero false) (view old).bytes (view old).maps (view old).free (view old) → permitted false (prot_of ((view old).areas p) page) ≡ true
+      pub zeroed_now : now ≡ notes ++ Zeroed p (4096 * page) ∷ [] → view new ≡ changed p page (as_pte Zero false) (view old).bytes (view old).maps (view old).free (view old) → permitted false (prot_of (ranges_in ((view old).areas p)) page) ≡ true
           → entry s.ledger (p, page) ≡ None → IsTouched s new false (p, page) notes now Zeros
       zeroed_now added is allowed none =
           let permit : permits false (pages s.world p page) ≡ true = allowed_is (view old) s.world false p page keeps.stands.parts.areas ∙ allowed in
@@ -193,21 +221,22 @@ module _ (s : State) (old new : Mem) (p page : ℕ) (notes : List Note) (keeps :
             parts = subst (KeepsWithin new s.world) (sym after) (stand_now old new s.world (set_entry (p, page) Zero s.ledger) _ is same
                 (zeroed (setting (count old)) (view old) s.world s.ledger p page (of_keeps old s keeps) (there_is s.world false p page permit) none)
                 (tables_still old new keeps.tables processes (ap (λ (v : View). v.areas) is)));
-            free = subst (λ n. ChoosesAll (setting n) s.ledger (page_events false (p, page) (Zeroed p (4096 * page) ∷ []) None) s.free (view new).free) (sym same) (
+            free = subst (λ n. ChoosesAll (setting n) None s.ledger (page_events false (p, page) (Zeroed p (4096 * page) ∷ []) None) s.free (free_of (view new))) (sym same) (
               s.free,
-              chooses-kept (setting (count old)) s.ledger (Noted (Zeroed p (4096 * page))) s.free refl (subst (λ l. new_free (setting (count old)) s.ledger l ≡ []) (sym put)
+              chooses-kept (setting (count old)) None s.ledger (Noted (Zeroed p (4096 * page))) s.free (unslotted (count old) s.ledger (Noted (Zeroed p (4096 * page))) s.free.slots refl refl) refl (subst (λ l. new_free (setting (count old)) s.ledger l ≡ []) (sym put)
                   (new_free-set (setting (count old)) (p, page) Zero s.ledger (of_keeps old s keeps).in_order (λ g. subst (λ o. weight (names_frame g) o ≤ 0) (sym none) (omega arith)))),
               (
                 s.free,
-                chooses-kept (setting (count old)) (after_note (Zeroed p (4096 * page)) s.ledger) (Used false (p, page)) s.free refl (none_freed (setting (count old)) (after_note (Zeroed p (4096 * page)) s.ledger) (after_use false (p, page) (after_note (Zeroed p (4096 * page)) s.ledger)) (after ∙ sym put)),
-                ap (λ (v : View). v.free) is ∙ keeps.stands.free,
+                chooses-kept (setting (count old)) None (after_note (Zeroed p (4096 * page)) s.ledger) (Used false (p, page)) s.free (unslotted (count old) (after_note (Zeroed p (4096 * page)) s.ledger) (Used false (p, page)) s.free.slots refl refl) refl (none_freed (setting (count old)) (after_note (Zeroed p (4096 * page)) s.ledger) (after_use false (p, page) (after_note (Zeroed p (4096 * page)) s.ledger)) (after ∙ sym put)),
+                ap free_of is ∙ keeps.stands.free,
               ),
             );
+            areas = λ q o. ap (λ (v : View). pages_in (v.areas q) o) is ∙ keeps.stands.areas q o;
           }
 
       -- it gets a frame that was free
-      pub given_now : (note : Note) (f : ℕ) (bytes maps : ℕ → ℕ) → now ≡ notes ++ note ∷ [] → IsTaken old new p page f bytes maps → permitted true (prot_of ((view old).areas p) page) ≡ true
-          → after_note note s.ledger ≡ given_to p page f s.ledger → frame_in_note note ≡ Some f → s.free ≡ f ∷ (view new).free → Serves (setting (count old)) (sparing s.world) s.ledger true (p, page) (note ∷ [])
+      pub given_now : (note : Note) (f : ℕ) (bytes maps : ℕ → ℕ) → now ≡ notes ++ note ∷ [] → IsTaken old new p page f bytes maps → permitted true (prot_of (ranges_in ((view old).areas p)) page) ≡ true
+          → after_note note s.ledger ≡ given_to p page f s.ledger → frame_in_note note ≡ Some f → s.free ≡ frames_free (f ∷ (view new).free) → Serves (setting (count old)) (sparing s.world) s.ledger true (p, page) (note ∷ [])
           → Holds (pages s.world p page) bytes
           → ((g : ℕ) → maps g + weight (names_frame g) (entry s.ledger (p, page)) ≡ (view old).maps g + cond (g == f) 1 0)
           → ((g : ℕ) → 0 < weight (names_frame g) (entry s.ledger (p, page)) → 1 < (view old).maps g)
@@ -234,15 +263,16 @@ module _ (s : State) (old new : Mem) (p page : ℕ) (notes : List Note) (keeps :
                 (is.view ∙ sym (twice p page (as_pte (InFrame f false) true) (as_pte (InFrame f true) true) (with_at f bytes (view old).bytes) (with_at f bytes (view old).bytes) maps maps (view new).free (view new).free (view old))) same
                 (seen m _ s.world mid p page f false true mid_parts (there_is s.world true p page permit) named (λ _. alone))
                 (tables_still old new keeps.tables processes (ap (λ (v : View). v.areas) is.view)));
-            free = subst (λ n. ChoosesAll (setting n) s.ledger (page_events true (p, page) (note ∷ []) None) s.free (view new).free) (sym same) (
-              (view new).free,
-              subst (λ fs. Chooses m s.ledger (Noted note) fs (view new).free) (sym first) (chooses-taken m s.ledger (Noted note) f (view new).free takes (subst (λ l. new_free m s.ledger l ≡ []) (sym note_is)
+            free = subst (λ n. ChoosesAll (setting n) None s.ledger (page_events true (p, page) (note ∷ []) None) s.free (free_of (view new))) (sym same) (
+              free_of (view new),
+              subst (λ free. Chooses m None s.ledger (Noted note) free (free_of (view new))) (sym first) (chooses-taken m None s.ledger (Noted note) f (view new).free no_slots (unslotted (count old) s.ledger (Noted note) no_slots refl (takes_no_slot note f takes)) takes (subst (λ l. new_free m s.ledger l ≡ []) (sym note_is)
                   (given_frees_none m (view old) s.world s.ledger p page f (view new).free bytes maps old_parts mid_parts counts many))),
               (
-                (view new).free,
-                chooses-kept m (after_note note s.ledger) (Used true (p, page)) (view new).free refl (subst (λ l. new_free m l (after_use true (p, page) l) ≡ []) (sym note_is)
+                free_of (view new),
+                chooses-kept m None (after_note note s.ledger) (Used true (p, page)) (free_of (view new)) (unslotted (count old) (after_note note s.ledger) (Used true (p, page)) no_slots refl refl) refl (subst (λ l. new_free m l (after_use true (p, page) l) ≡ []) (sym note_is)
                     (seen_frees_none m mid (after_use true (p, page) mid) (p, page) f false (used_is true mid (p, page) f false old_parts.cache named) mid_parts.in_order named)),
                 refl,
               ),
             );
+            areas = λ q o. ap (λ (v : View). pages_in (v.areas q) o) is.view ∙ keeps.stands.areas q o;
           }

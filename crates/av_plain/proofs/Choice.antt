@@ -9,7 +9,7 @@ use Rattle.av_plain.specs.Event.{Event, Zapped, set_entry, after, after_zap}
 use Rattle.av_clusters.specs.Clusters.{Slots, give_slot}
 use Rattle.av_base.specs.declared.slot.Slot.{Slot}
 use Rattle.av_plain.specs.Device.{HasNoDevice}
-use Rattle.av_plain.specs.Choice.{Chooses, ChoosesSlot, Free, IsGiven, Turns, frame_in, new_free, slot_in}
+use Rattle.av_plain.specs.Choice.{AreaSlots, Chooses, ChoosesSlot, Free, IsGiven, Turns, frame_in, new_free, slot_in}
 use Rattle.av_plain.specs.Sound.{uses, holders}
 use Rattle.av_plain.proofs.Ledger.Order.{weight}
 use Rattle.av_plain.proofs.Ledger.{map_count-set}
@@ -81,7 +81,7 @@ new_free-one m l l' f below had gone others = one-passes (λ f. is_free l' f && 
 -- ---- an event that makes none free
 
 -- where no area is attached, an event that neither takes a slot nor turns an area leaves the slots
-pub no-slot-chosen : (m : Setting) (closing : Option ℕ) (l : Ledger) (e : Event) (slots : ℕ → Slots) → HasNoDevice m → Turns m e slots slots → slot_in e ≡ None → ChoosesSlot m closing l e slots slots
+pub no-slot-chosen : (m : Setting) (closing : Option ℕ) (l : Ledger) (e : Event) (slots : AreaSlots) → HasNoDevice m → Turns m e slots slots → slot_in e ≡ None → ChoosesSlot m closing l e slots slots
 no-slot-chosen m closing l e slots none turns takes = (
   slots,
   slots,
@@ -102,7 +102,7 @@ chooses-kept m closing l e free slots takes none = record {
 }
 
 -- a frame is taken
-pub chooses-taken : (m : Setting) (closing : Option ℕ) (l : Ledger) (e : Event) (f : ℕ) (rest : List ℕ) (slots : ℕ → Slots) → ChoosesSlot m closing l e slots slots → frame_in e ≡ Some f → new_free m l (after l e) ≡ []
+pub chooses-taken : (m : Setting) (closing : Option ℕ) (l : Ledger) (e : Event) (f : ℕ) (rest : List ℕ) (slots : AreaSlots) → ChoosesSlot m closing l e slots slots → frame_in e ≡ Some f → new_free m l (after l e) ≡ []
     → Chooses m closing l e (record { frames = f ∷ rest; slots = slots }) (record { frames = rest; slots = slots })
 chooses-taken m closing l e f rest slots kept takes none = record {
   frames = (rest, subst (λ o. MatchOption o ((f ∷ rest) ≡ rest) (λ g. (f ∷ rest) ≡ g ∷ rest)) (sym takes) refl, ap (λ fs. fs ++ rest) (sym none));

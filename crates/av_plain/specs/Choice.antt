@@ -11,14 +11,17 @@ use Rattle.av_trace.specs.declared.note.Note.TheVariants.{New, Copied, Loaded, P
 use Rattle.av_plain.specs.Ledger.{Ledger, Setting, SwapArea, is_free, is_open, free_slots, size_of, slot_count}
 use Rattle.av_plain.specs.Event.{Event, Noted, TurnedOff, TurnedOn, after}
 
--- the free frames in the order in which they are taken, and the slots of each swap area with their
--- clusters
+-- the slots of each swap area, with their clusters
+abbrev pub AreaSlots : Type 0
+AreaSlots = ℕ → Slots
+
+-- the free frames in the order in which they are taken, and the slots
 pub record Free : Type 0 where
   pub frames : List ℕ
-  pub slots : ℕ → Slots
+  pub slots : AreaSlots
 
 -- no swap area has slots
-abbrev pub no_slots : ℕ → Slots
+abbrev pub no_slots : AreaSlots
 no_slots k = fresh 0 []
 
 -- ---- frames
@@ -64,8 +67,7 @@ giving_area m closing l =
     (find (λ (a : ℕ × SwapArea). is_open closing a.0 && nat_lt 0 (free_slots m l a)) l.on)
 
 -- the slot is the one that the clusters of that area give
-abbrev pub IsGiven :
-    Setting → Option ℕ → Ledger → Slot → (ℕ → Slots) → (ℕ → Slots) → Type 0
+abbrev pub IsGiven : Setting → Option ℕ → Ledger → Slot → AreaSlots → AreaSlots → Type 0
 IsGiven m closing l s slots slots' =
     (giving_area m closing l ≡ Some s.area)
     × IsSomeAnd (take_slot (slots s.area))
@@ -81,7 +83,7 @@ AreFresh m k area made =
     (λ headers. IsSomeAnd (headers k) (λ (h : Layout). made ≡ fresh h.pages h.bad))
 
 -- an area that is turned on has new clusters, and one that is turned off has none
-abbrev pub Turns : Setting → Event → (ℕ → Slots) → (ℕ → Slots) → Type 0
+abbrev pub Turns : Setting → Event → AreaSlots → AreaSlots → Type 0
 Turns m (TurnedOn k slots bad) old new =
     (made : Slots) × AreFresh m k (record { slots = slots; bad = bad }) made
     × (new ≡ with_at k made old)
@@ -96,14 +98,13 @@ new_free_slots m old new k =
     (numbers 1 (size_of m k - 1))
 
 -- they are given back to their clusters
-abbrev pub with_given_back : Setting → Ledger → Ledger → (ℕ → Slots) → ℕ → Slots
+abbrev pub with_given_back : Setting → Ledger → Ledger → AreaSlots → AreaSlots
 with_given_back m old new slots k = fold give_slot (slots k) (new_free_slots m old new k)
 
 -- a slot that an event takes is the one that is given, and what has become free is given back
-abbrev pub ChoosesSlot :
-    Setting → Option ℕ → Ledger → Event → (ℕ → Slots) → (ℕ → Slots) → Type 0
+abbrev pub ChoosesSlot : Setting → Option ℕ → Ledger → Event → AreaSlots → AreaSlots → Type 0
 ChoosesSlot m closing l e slots slots' =
-    (on : ℕ → Slots) × (rest : ℕ → Slots) × Turns m e slots on
+    (on : AreaSlots) × (rest : AreaSlots) × Turns m e slots on
     × MatchOption (slot_in e) (rest ≡ on) (λ s. IsGiven m closing l s on rest)
     × (slots' ≡ with_given_back m l (after l e) rest)
 

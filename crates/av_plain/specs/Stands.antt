@@ -10,13 +10,12 @@ use Rattle.av_plain.specs.Device.{Device, headers_of}
 use Rattle.av_plain.specs.Fault.{is_shared}
 use Rattle.av_plain.specs.Ledger.{Entry, InFrame, InSlot, Ledger, Setting, SwapArea, Zero, entry, frame_at, in_flight, is_free, is_stale, map_count, names_frame, slot_entries, slot_of}
 use Rattle.av_plain.specs.Areas.{Areas}
-use Rattle.av_plain.specs.Choice.{Free}
+use Rattle.av_plain.specs.Choice.{AreaSlots, Free}
 use Rattle.av_plain.specs.Report.{Range, prot_in, range_of}
 use Rattle.av_plain.specs.Sound.{AllSound, slots}
 use Rattle.av_plain.specs.Transcript.{State}
 use Rattle.av_plain.specs.World.{Page, World, lives, pages}
 use Rattle.av_base.specs.declared.prot.Prot.{Prot}
-use Rattle.av_clusters.specs.Clusters.{Slots}
 use Rattle.av_vma.specs.declared.area.Area.{Area}
 use Rattle.av_vma.specs.Pages.{pages_in}
 use Rattle.av_swapdev.specs.Header.{Layout}
@@ -51,7 +50,7 @@ pub record View : Type 0 where
   pub entries : Slot → ℕ
   pub flight : List Slot
   pub on : List (ℕ × SwapArea)
-  pub slots : ℕ → Slots
+  pub slots : AreaSlots
 
 -- ---- the frames
 
