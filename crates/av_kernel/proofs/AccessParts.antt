@@ -9,7 +9,7 @@ use Rattle.av_plain.specs.Event.{Event, Used, after_all, notes_of, note_events}
 use Rattle.av_plain.specs.Access.{Accesses, End, Whole, Stopped, page_events, pages_of_access, after_write, Reads}
 use Rattle.av_plain.specs.Fault as faults
 use Rattle.av_plain.specs.Fault.{Touches, is_allowed}
-use Rattle.av_plain.specs.Choice.{ChoosesAll}
+use Rattle.av_plain.specs.Choice.{ChoosesAll, Free}
 use Rattle.av_plain.specs.Transcript.{State}
 use Rattle.av_plain.proofs.Access.{after_all-append, notes_of-append, notes_of-note_events, chooses-append, accesses-append, alike-by-allowed}
 use Rattle.av_reclaim.specs.declared.mem.Mem.{Mem}
@@ -83,9 +83,9 @@ module _ (s : State) (mid new : Mem) (write : Bool) (p a k page at : ℕ) (xs ys
       (subst (λ n. Accesses (setting n) s.world s.ledger p (pages_of_access write a k) h.events Whole) (sym same) (subst (λ end. Accesses (setting (count mid)) s.world s.ledger p (pages_of_access write a k) h.events end) h.is_end.0 h.accesses))
       (subst (λ l. Accesses (setting (count new)) h.next.world l p pages more end) h.ledger g)
 
-  free-both : (more : List Event) (free : List ℕ) → ChoosesAll (setting (count new)) h.next.ledger more h.next.free free → ChoosesAll (setting (count new)) s.ledger (h.events ++ more) s.free free
-  free-both more free g = chooses-append (setting (count new)) s.ledger h.events more s.free h.next.free free (subst (λ n. ChoosesAll (setting n) s.ledger h.events s.free h.next.free) (sym same) h.free)
-      (subst (λ l. ChoosesAll (setting (count new)) l more h.next.free free) h.ledger g)
+  free-both : (more : List Event) (free : Free) → ChoosesAll (setting (count new)) None h.next.ledger more h.next.free free → ChoosesAll (setting (count new)) None s.ledger (h.events ++ more) s.free free
+  free-both more free g = chooses-append (setting (count new)) None s.ledger h.events more s.free h.next.free free (subst (λ n. ChoosesAll (setting n) None s.ledger h.events s.free h.next.free) (sym same) h.free)
+      (subst (λ l. ChoosesAll (setting (count new)) None l more h.next.free free) h.ledger g)
 
   ledger-both : (more : List Event) (l : Ledger) → l ≡ after_all h.next.ledger more → l ≡ after_all s.ledger (h.events ++ more)
   ledger-both more l is = is ∙ ap (λ x. after_all x more) h.ledger ∙ sym (after_all-append s.ledger h.events more)
@@ -104,6 +104,7 @@ module _ (s : State) (mid new : Mem) (write : Bool) (p a k page at : ℕ) (xs ys
     world = g.world ∙ ap (world_after write p page at ys None) h.world ∙ served_twice s.world write p a page at xs ys (λ is. behind.is ∙ ap (λ n. a + n) (sym (long is)));
     ledger = ledger-both _ _ g.ledger;
     free = free-both _ _ g.free;
+    areas = g.areas ∙ h.areas;
     keeps = g.keeps;
   }
 
@@ -121,6 +122,7 @@ module _ (s : State) (mid new : Mem) (write : Bool) (p a k page at : ℕ) (xs ys
     world = g.world ∙ stopped-world write p page at ys stop h.next.world ∙ h.world;
     ledger = ledger-both _ _ g.ledger;
     free = free-both _ _ g.free;
+    areas = g.areas ∙ h.areas;
     keeps = g.keeps;
   }
     where

@@ -65,7 +65,8 @@ module _ (s : State) (old new : Mem) (p a : ℕ) (before notes : List Note) (row
       };
       world = h.world;
       ledger = h.ledger;
-      free = subst (λ m. ChoosesAll (setting m) s.ledger h.events s.free h.next.free) same h.free;
+      free = subst (λ m. ChoosesAll (setting m) None s.ledger h.events s.free h.next.free) same h.free;
+      areas = h.areas;
     };
     keeps = h.keeps;
   }
@@ -89,7 +90,8 @@ module _ (s : State) (old new : Mem) (p a : ℕ) (before notes : List Note) (row
       };
       world = h.world;
       ledger = h.ledger;
-      free = subst (λ m. ChoosesAll (setting m) s.ledger h.events s.free h.next.free) same h.free;
+      free = subst (λ m. ChoosesAll (setting m) None s.ledger h.events s.free h.next.free) same h.free;
+      areas = h.areas;
     };
     keeps = h.keeps;
   }
@@ -111,7 +113,8 @@ module _ (s : State) (old new : Mem) (p a : ℕ) (before notes : List Note) (row
       };
       world = h.world ∙ ap (after_write s.world p a) (ap (λ k. take k bytes) h.is_end.1 ∙ take-length bytes) ∙ ap (next s.world (Write p a bytes)) (sym is);
       ledger = h.ledger;
-      free = subst (λ m. ChoosesAll (setting m) s.ledger h.events s.free h.next.free) same h.free;
+      free = subst (λ m. ChoosesAll (setting m) None s.ledger h.events s.free h.next.free) same h.free;
+      areas = h.areas;
     };
     keeps = h.keeps;
   }
@@ -133,7 +136,8 @@ module _ (s : State) (old new : Mem) (p a : ℕ) (before notes : List Note) (row
       };
       world = h.world ∙ world-stopped s.world p a k bytes stop ∙ ap (next s.world (Write p a bytes)) (sym is);
       ledger = h.ledger;
-      free = subst (λ m. ChoosesAll (setting m) s.ledger h.events s.free h.next.free) same h.free;
+      free = subst (λ m. ChoosesAll (setting m) None s.ledger h.events s.free h.next.free) same h.free;
+      areas = h.areas;
     };
     keeps = h.keeps;
   }

@@ -4,7 +4,7 @@ use Rattle.std.proofs.lemmas.Bool.Decides.{nat_tests}
 use Rattle.std.proofs.lemmas.Bool.{false≢true}
 use Rattle.std.specs.Prelude.{MatchOption, OnOk}
 use Rattle.av_base.specs.declared.prot.Prot.{Prot}
-use Rattle.av_base.specs.Words.{within}
+use Rattle.av_base.specs.Words.{with_at, within}
 use Rattle.av_vmatree.specs.Spans.{IsFree}
 use Rattle.av_merge.specs.Pages.{IsReached}
 use Rattle.av_trace.specs.declared.command.Command.{Command}
@@ -26,15 +26,17 @@ use Rattle.av_plain.specs.Refusal.{tests, place_tests, refusal, is_too_long, wra
 use Rattle.av_plain.specs.Step.{IsLegal, Follows, next_world}
 use Rattle.av_plain.specs.Place.{Goes}
 use Rattle.av_plain.specs.Map.{zaps_for_place, with_prot_to_hole}
+use Rattle.av_plain.specs.Areas.{areas_to_hole, next_areas, with_room}
 use Rattle.av_plain.specs.Choice.{ChoosesAll}
 use Rattle.av_plain.specs.Transcript.{State}
 use Rattle.av_plain.specs.Device.{no_device}
-use Rattle.av_plain.specs.Stands.{Holds, IsKept, IsKeptAt, prot_of}
+use Rattle.av_plain.specs.Stands.{AreasAre, Holds, IsKept, IsKeptAt, free_of, prot_of}
+use Rattle.av_vma.specs.Pages.{Pages, mapped, pages_changed, to_prot, unmapped}
 use Rattle.av_plain.proofs.World.Ranges.{is-pages_to_hole}
 use Rattle.av_plain.proofs.Zap.{entry-range}
 use Rattle.av_reclaim.specs.declared.mem.Mem.{Mem}
-use Rattle.av_spaces.specs.Spaces.{Spaces, areas_of, is_taken}
-use Rattle.av_kernel.specs.Map.{set_on, HasProts, AreCleared}
+use Rattle.av_spaces.specs.Spaces.{Spaces, areas_of, is_taken, pages_of as areas_on}
+use Rattle.av_kernel.specs.Map.{set_on, HasAreas, HasProts, AreCleared}
 use Rattle.av_reclaim.specs.Mem.{ranges_of, setting, view, count, Keeps, IsSteady, HasLedger}
 use Rattle.av_reclaim.specs.Zap.{HasZapped}
 use Rattle.av_kernel.specs.Place.{protect_tests, IsProcess, IsPlaced, AreToClear}
@@ -70,6 +72,32 @@ twice_changed s t u p page n x y first second = record {
     by o true e = refl
     by o false e = first.pages o ∙ ap (λ b. cond b x (prot_of (ranges_of s p) o)) e
 
+-- the areas of the same process change twice
+twice_placed : (s t u : Spaces) (p : ℕ) (change : Pages → Pages) (on : Pages) → HasAreas s t p on → HasAreas t u p (change (areas_on t p)) → HasAreas s u p (change on)
+twice_placed s t u p change on first second q page = second q page ∙ by (q == p) refl
+  where
+    itself : (p : ℕ) → (p == p) ≡ true
+    itself p = grind (arith, nat_tests)
+
+    own : (o : ℕ) → areas_on t p o ≡ on o
+    own o = first p o ∙ ap (λ b. (cond b on (areas_on s p)) o) (itself p)
+
+    by : (b : Bool) → (q == p) ≡ b → (cond b (change (areas_on t p)) (areas_on t q)) page ≡ (cond b (change on) (areas_on s q)) page
+    by true e = λ i. change (λ o. own o i) page
+    by false e = first q page ∙ ap (λ b. (cond b on (areas_on s q)) page) e
+
+-- the areas of a process that stay are its own
+unplaced : (s : Spaces) (p : ℕ) → HasAreas s s p (areas_on s p)
+unplaced s p q page = by (q == p) refl
+  where
+    by : (b : Bool) → (q == p) ≡ b → areas_on s q page ≡ (cond b (areas_on s p) (areas_on s q)) page
+    by true e = ap (λ n. areas_on s n page) (is_number q p e)
+    by false e = refl
+
+-- what the kernel's areas become, those of the state do
+areas_so : (old new : Mem) (s : State) (p : ℕ) (change : Pages → Pages) → Keeps old s → HasAreas old.spaces new.spaces p (change (areas_on old.spaces p)) → AreasAre (view new) (with_at p (change (s.areas p)) s.areas)
+areas_so old new s p change keeps h q page = h q page ∙ (λ i. with_at p (change (λ o. keeps.stands.areas p o i)) (λ r o. keeps.stands.areas r o i) q page)
+
 -- ---- the pages of a range go
 
 pub on_ok : {A E : Type 0} {P Q : Type 0} (r : Result A E) → (P → Q) → OnOk r P → OnOk r Q
@@ -78,15 +106,17 @@ on_ok (Err e) f h = tt
 
 -- their entries have gone, and then their areas
 pub are_cleared : (old mid : Mem) (spaces : Spaces) (p page n : ℕ) (l : Ledger) → HasZapped old mid l (zaps_of l (keys_in l p page (page + n - page))) → mid.spaces ≡ old.spaces → has mid.tables ≡ has old.tables → (view mid).bytes ≡ (view old).bytes
-    → HasProts mid.spaces spaces p (set_on page n None (prot_of (ranges_of mid.spaces p))) → AreCleared old (moved_on mid mid.tables spaces) p page n l (zaps_of l (keys_in l p page n))
-are_cleared old mid spaces p page n l t same processes bytes gone = record {
+    → HasProts mid.spaces spaces p (set_on page n None (prot_of (ranges_of mid.spaces p))) → HasAreas mid.spaces spaces p (unmapped page (page + n) (areas_on mid.spaces p))
+    → AreCleared old (moved_on mid mid.tables spaces) p page n (unmapped page (page + n) (areas_on old.spaces p)) l (zaps_of l (keys_in l p page n))
+are_cleared old mid spaces p page n l t same processes bytes gone areas = record {
   taken = subst (λ x. HasZapped old (moved_on mid mid.tables spaces) l (zaps_of l (keys_in l p page x))) (let size : page + n - page ≡ n = omega arith in size) (record { stands = stays_orderly mid mid.tables spaces _ refl t.stands; notes = t.notes; free = t.free });
   spaces = subst (λ x. HasProts x spaces p (set_on page n None (prot_of (ranges_of x p)))) same gone;
+  areas = subst (λ x. HasAreas x spaces p (unmapped page (page + n) (areas_on x p))) same areas;
   processes = processes;
   bytes = bytes;
 }
 
-left_alone : (k : Mem) → IsSteady k → (p page n : ℕ) (l : Ledger) → HasLedger k l → is_some (areas_of k.spaces p) ≡ true → IsFree (is_taken k.spaces p) page (page + n) → AreCleared k k p page n l []
+left_alone : (k : Mem) → IsSteady k → (p page n : ℕ) (l : Ledger) → HasLedger k l → is_some (areas_of k.spaces p) ≡ true → IsFree (is_taken k.spaces p) page (page + n) → AreCleared k k p page n (areas_on k.spaces p) l []
 left_alone k steady p page n l stands alive free = record {
   taken = record { stands = stands; notes = refl; free = refl };
   spaces = record {
@@ -96,6 +126,7 @@ left_alone k steady p page n l stands alive free = record {
     number = refl;
     apart = steady.1.stands.parts.areas.apart;
   };
+  areas = unplaced k.spaces p;
   processes = refl;
   bytes = refl;
 }
@@ -113,28 +144,28 @@ left_alone k steady p page n l stands alive free = record {
 
 -- where a mapping isn't to be at a fixed place, its pages are free, and nothing goes
 pub nothing_there : (k : Mem) → IsSteady k → (p page n : ℕ) (place : Place) (l : Ledger) → HasLedger k l → is_some (areas_of k.spaces p) ≡ true → AreToClear (is_taken k.spaces p) page n place → ((a : ℕ) → place ≡ Fixed a → ⊥)
-    → AreCleared k k p page n l (zaps_for_place l p n place)
+    → AreCleared k k p page n (with_room n place (areas_on k.spaces p)) l (zaps_for_place l p n place)
 nothing_there k steady p page n Auto l stands alive free other = left_alone k steady p page n l stands alive free
 nothing_there k steady p page n (At a) l stands alive free other = left_alone k steady p page n l stands alive free
 nothing_there k steady p page n (Fixed a) l stands alive free other = absurd (other a refl)
 nothing_there k steady p page n (NoReplace a) l stands alive free other = left_alone k steady p page n l stands alive free
 
 -- the process lives on, and none of the pages is taken
-pub cleared_lives : (old new : Mem) (p page n : ℕ) (l : Ledger) (events : List Event) → AreCleared old new p page n l events → is_some (areas_of new.spaces p) ≡ true
-cleared_lives old new p page n l events h = sym (alive_is new.spaces p) ∙ h.spaces.alive
+pub cleared_lives : (old new : Mem) (p page n : ℕ) (on : Pages) (l : Ledger) (events : List Event) → AreCleared old new p page n on l events → is_some (areas_of new.spaces p) ≡ true
+cleared_lives old new p page n on l events h = sym (alive_is new.spaces p) ∙ h.spaces.alive
 
-pub cleared_free : (old new : Mem) (p page n : ℕ) (l : Ledger) (events : List Event) → AreCleared old new p page n l events → IsFree (is_taken new.spaces p) page (page + n)
-cleared_free old new p page n l events h o low high =
+pub cleared_free : (old new : Mem) (p page n : ℕ) (on : Pages) (l : Ledger) (events : List Event) → AreCleared old new p page n on l events → IsFree (is_taken new.spaces p) page (page + n)
+cleared_free old new p page n on l events h o low high =
     let inside : within page n o ≡ true = grind (arith, nat_tests, low, high) in
     taken_has new.spaces p o ∙ ap is_some (h.spaces.pages o ∙ ap (λ b. cond b None (prot_of (ranges_of old.spaces p) o)) inside)
 
 -- ---- the pages of a range are replaced
 
-module _ (old new : Mem) (s : State) (command : Command) (reply : Reply) (p page n : ℕ) (o : Option Page) (events : List Event)
+module _ (old new : Mem) (s : State) (command : Command) (reply : Reply) (p page n : ℕ) (o : Option Page) (on : Pages) (events : List Event)
     (keeps : Keeps old s) (alive : is_some (ranges_of old.spaces p) ≡ true) (same_count : count new ≡ count old)
     (taken : HasZapped old new s.ledger events) (entries : (q at : ℕ) → entry (after_all s.ledger events) (q, at) ≡ cond (q == p && within page n at) None (entry s.ledger (q, at)))
     (blank : Holds o (λ _. 0)) (spaces : HasProts old.spaces new.spaces p (set_on page n (option_map (λ (x : Page). x.prot) o) (prot_of (ranges_of old.spaces p))))
-    (processes : has new.tables ≡ has old.tables) (bytes : (view new).bytes ≡ (view old).bytes) where
+    (areas : AreasAre (view new) (with_at p on s.areas)) (processes : has new.tables ≡ has old.tables) (bytes : (view new).bytes ≡ (view old).bytes) where
   covered : (at : ℕ) → set_on page n (option_map (λ (x : Page). x.prot) o) (prot_of (ranges_of old.spaces p)) at ≡ option_map (λ (x : Page). x.prot) (with_pages (pages s.world p) page n (λ _. o) at)
   covered at = by (within page n at)
     where
@@ -153,12 +184,14 @@ module _ (old new : Mem) (s : State) (command : Command) (reply : Reply) (p page
       by false = keeps.stands.parts.bytes.kept p at
 
   pub replaced-steps : IsLegal (setting (count old)) s.world s.ledger command reply events
-      → set_process s.world p (with_pages (pages s.world p) page n (λ _. o)) ≡ next_world (setting (count old)) s.world s.ledger events command reply.answer → MemSteps old new s command reply
-  replaced-steps legal world =
+      → set_process s.world p (with_pages (pages s.world p) page n (λ _. o)) ≡ next_world (setting (count old)) s.world s.ledger events command reply.answer
+      → with_at p on s.areas ≡ next_areas s.areas s.world command reply.answer → MemSteps old new s command reply
+  replaced-steps legal world next =
       let now : Process = with_pages (pages s.world p) page n (λ _. o) in
-      changed old new s command reply p now (after_all s.ledger events) keeps same_count taken.stands bytes
+      changed old new s command reply p now on (after_all s.ledger events) keeps same_count taken.stands bytes
       (λ q at other. entries q at ∙ ap (λ b. cond (b && within page n at) None (entry s.ledger (q, at))) other) kept
-      (record { events = events; legal = legal; world = world; ledger = refl; free = subst (λ free. ChoosesAll (setting (count old)) s.ledger events free (view new).free) keeps.stands.free taken.free })
+      (record { events = events; legal = legal; world = world; ledger = refl; free = subst (λ free. ChoosesAll (setting (count old)) None s.ledger events free (free_of (view new))) keeps.stands.free taken.free; areas = next })
+      areas
       (areas_changed old new s p now (set_on page n (option_map (λ (x : Page). x.prot) o) (prot_of (ranges_of old.spaces p))) keeps alive spaces covered)
       (tables_kept old new s p now (set_on page n (option_map (λ (x : Page). x.prot) o) (prot_of (ranges_of old.spaces p))) keeps alive spaces covered processes)
 
@@ -185,26 +218,27 @@ module _ (k : Mem) (s : State) (p len : ℕ) (prot : Prot) (place : Place) (keep
 -- ---- munmap
 
 module _ (old new : Mem) (s : State) (p a len : ℕ) (keeps : Keeps old s) (alive : is_some (ranges_of old.spaces p) ≡ true) (valid : (not (is_on_page a) || len == 0 || nat_lt top (a + len)) ≡ false)
-    (same_count : count new ≡ count old) (cleared : AreCleared old new p (page_of a) (pages_of len) s.ledger (zaps_of s.ledger (keys_in s.ledger p (page_of a) (pages_of len)))) where
+    (same_count : count new ≡ count old) (cleared : AreCleared old new p (page_of a) (pages_of len) (unmapped (page_of a) (page_of a + pages_of len) (areas_on old.spaces p)) s.ledger (zaps_of s.ledger (keys_in s.ledger p (page_of a) (pages_of len)))) where
   munmap-allowed : refusal (tests (setting (count old)) s.world s.ledger (Munmap p a len)) ≡ None
-  munmap-allowed = ap (λ b. cond (not b) (Some Esrch) (cond (not (is_on_page a) || len == 0 || nat_lt top (a + len)) (Some Einval) None)) (sym (keeps.stands.parts.areas.alive p) ∙ alive) ∙ ap (λ b. cond b (Some Einval) None) valid
+  munmap-allowed = ap (λ b. cond (not b) (Some Esrch) (cond (not (is_on_page a) || len == 0 || nat_lt top (a + len)) (Some Einval) None)) (sym (lives_is old s keeps p) ∙ sym (alive_is old.spaces p) ∙ alive) ∙ ap (λ b. cond b (Some Einval) None) valid
 
   pub munmap-steps : MemSteps old new s (Munmap p a len) (answered Done)
   munmap-steps =
       let events = zaps_of s.ledger (keys_in s.ledger p (page_of a) (pages_of len)) in
-      replaced-steps old new s (Munmap p a len) (answered Done) p (page_of a) (pages_of len) None events keeps alive same_count cleared.taken (λ q at. entry-range s.ledger p (page_of a) (pages_of len) q at) tt cleared.spaces cleared.processes cleared.bytes
+      replaced-steps old new s (Munmap p a len) (answered Done) p (page_of a) (pages_of len) None (unmapped (page_of a) (page_of a + pages_of len) (s.areas p)) events keeps alive same_count cleared.taken (λ q at. entry-range s.ledger p (page_of a) (pages_of len) q at) tt cleared.spaces
+      (areas_so old new s p (unmapped (page_of a) (page_of a + pages_of len)) keeps cleared.areas) cleared.processes cleared.bytes
       (record {
         answer = subst (λ o. MatchOption o (Follows (setting (count old)) s.world s.ledger (Munmap p a len) events Done []) (λ e. Refuses e events Done [])) (sym munmap-allowed) (refl, refl, refl);
         notes = sym cleared.taken.notes;
       })
-      refl
+      refl refl
 
 -- ---- mmap
 
 module _ (old : Mem) (s : State) (p len : ℕ) (prot : Prot) (place : Place) (keeps : Keeps old s) (alive : is_some (ranges_of old.spaces p) ≡ true) (some : (len == 0) ≡ false) (fits : is_too_long len ≡ false) where
   -- the tests of its place are left
   mmap-tests : refusal (tests (setting (count old)) s.world s.ledger (Mmap p len prot place)) ≡ refusal (place_tests (pages s.world p) (pages_of len) place)
-  mmap-tests = ap (λ b. cond (not b) (Some Esrch) (cond (len == 0) (Some Einval) (cond (is_too_long len) (Some Enomem) (refusal (place_tests (pages s.world p) (pages_of len) place))))) (sym (keeps.stands.parts.areas.alive p) ∙ alive)
+  mmap-tests = ap (λ b. cond (not b) (Some Esrch) (cond (len == 0) (Some Einval) (cond (is_too_long len) (Some Enomem) (refusal (place_tests (pages s.world p) (pages_of len) place))))) (sym (lives_is old s keeps p) ∙ sym (alive_is old.spaces p) ∙ alive)
       ∙ ap (λ b. cond b (Some Einval) (cond (is_too_long len) (Some Enomem) (refusal (place_tests (pages s.world p) (pages_of len) place)))) some ∙ ap (λ b. cond b (Some Enomem) (refusal (place_tests (pages s.world p) (pages_of len) place))) fits
 
   -- the pages go nowhere
@@ -222,6 +256,7 @@ module _ (old : Mem) (s : State) (p len : ℕ) (prot : Prot) (place : Place) (ke
       world = refl;
       ledger = refl;
       free = refl;
+      areas = refl;
     };
     keeps = keeps;
   }
@@ -233,8 +268,8 @@ module _ (old : Mem) (s : State) (p len : ℕ) (prot : Prot) (place : Place) (ke
       none_cleared_for (NoReplace a) goes = cc
 
   -- pages that are not mapped have no entries
-  unmapped : (page n q at : ℕ) → IsFree (is_taken old.spaces p) page (page + n) → entry s.ledger (q, at) ≡ cond (q == p && within page n at) None (entry s.ledger (q, at))
-  unmapped page n q at free = by (q == p) (within page n at) refl refl (entry s.ledger (q, at)) refl
+  nothing_mapped : (page n q at : ℕ) → IsFree (is_taken old.spaces p) page (page + n) → entry s.ledger (q, at) ≡ cond (q == p && within page n at) None (entry s.ledger (q, at))
+  nothing_mapped page n q at free = by (q == p) (within page n at) refl refl (entry s.ledger (q, at)) refl
     where
       by : (b c : Bool) → (q == p) ≡ b → within page n at ≡ c → (o : Option Entry) → entry s.ledger (q, at) ≡ o → o ≡ cond (b && c) None o
       by false c e f o is = refl
@@ -248,34 +283,38 @@ module _ (old : Mem) (s : State) (p len : ℕ) (prot : Prot) (place : Place) (ke
 
   -- what is cleared are the entries of the pages
   entry-cleared : (x : Place) (page n q at : ℕ) → AreToClear (is_taken old.spaces p) page n x → entry (after_all s.ledger (zaps_for_place s.ledger p n x)) (q, at) ≡ cond (q == p && within page n at) None (entry s.ledger (q, at))
-  entry-cleared Auto page n q at free = unmapped page n q at free
-  entry-cleared (At a) page n q at free = unmapped page n q at free
+  entry-cleared Auto page n q at free = nothing_mapped page n q at free
+  entry-cleared (At a) page n q at free = nothing_mapped page n q at free
   entry-cleared (Fixed a) page n q at there = entry-range s.ledger p (page_of a) n q at ∙ ap (λ x. cond (q == p && within x n at) None (entry s.ledger (q, at))) (sym there)
-  entry-cleared (NoReplace a) page n q at free = unmapped page n q at free
+  entry-cleared (NoReplace a) page n q at free = nothing_mapped page n q at free
 
   module _ (mid : Mem) (spaces : Spaces) (page : ℕ) (placed : IsPlaced (pages s.world p) (pages_of len) place (Ok page)) (clear : AreToClear (is_taken old.spaces p) page (pages_of len) place)
-      (same_count : count mid ≡ count old) (cleared : AreCleared old mid p page (pages_of len) s.ledger (zaps_for_place s.ledger p (pages_of len) place))
-      (mapped : HasProts mid.spaces spaces p (set_on page (pages_of len) (Some prot) (prot_of (ranges_of mid.spaces p)))) where
+      (same_count : count mid ≡ count old) (cleared : AreCleared old mid p page (pages_of len) (with_room (pages_of len) place (areas_on old.spaces p)) s.ledger (zaps_for_place s.ledger p (pages_of len) place))
+      (given : HasProts mid.spaces spaces p (set_on page (pages_of len) (Some prot) (prot_of (ranges_of mid.spaces p)))) (areas : HasAreas mid.spaces spaces p (mapped p page (page + pages_of len) prot (areas_on mid.spaces p))) where
     pub mmap-steps : MemSteps old (moved_on mid mid.tables spaces) s (Mmap p len prot place) (answered (MapAt (address_of page)))
     mmap-steps =
         let events = zaps_for_place s.ledger p (pages_of len) place in
         let t = cleared.taken in
-        replaced-steps old (moved_on mid mid.tables spaces) s (Mmap p len prot place) (answered (MapAt (address_of page))) p page (pages_of len) (Some (zeros prot)) events keeps alive same_count
+        replaced-steps old (moved_on mid mid.tables spaces) s (Mmap p len prot place) (answered (MapAt (address_of page))) p page (pages_of len) (Some (zeros prot)) (mapped p page (page + pages_of len) prot (with_room (pages_of len) place (s.areas p))) events keeps alive same_count
         (record { stands = stays_orderly mid mid.tables spaces (after_all s.ledger events) refl t.stands; notes = t.notes; free = t.free })
-        (λ q at. entry-cleared place page (pages_of len) q at clear) (λ i below. refl) (twice_changed old.spaces mid.spaces spaces p page (pages_of len) None (Some prot) cleared.spaces mapped) cleared.processes cleared.bytes
+        (λ q at. entry-cleared place page (pages_of len) q at clear) (λ i below. refl) (twice_changed old.spaces mid.spaces spaces p page (pages_of len) None (Some prot) cleared.spaces given)
+        (areas_so old (moved_on mid mid.tables spaces) s p (λ on. mapped p page (page + pages_of len) prot (with_room (pages_of len) place on)) keeps
+        (twice_placed old.spaces mid.spaces spaces p (mapped p page (page + pages_of len) prot) (with_room (pages_of len) place (areas_on old.spaces p)) cleared.areas areas)) cleared.processes cleared.bytes
         (record {
           answer = subst (λ o. MatchOption o (Follows (setting (count old)) s.world s.ledger (Mmap p len prot place) events (MapAt (address_of page)) []) (λ e. Refuses e events (MapAt (address_of page)) [])) (sym (mmap-tests ∙ placed.0))
               (Some page, placed.1, refl, refl, refl);
           notes = sym t.notes;
         })
         (ap (λ x. set_process s.world p (with_pages (pages s.world p) x (pages_of len) (λ _. Some (zeros prot)))) (sym (page_back page)))
+        (ap (λ x. with_at p (mapped p x (x + pages_of len) prot (with_room (pages_of len) place (s.areas p))) s.areas) (sym (page_back page)))
 
 -- ---- mprotect
 
 module _ (old : Mem) (spaces : Spaces) (s : State) (p a len reached : ℕ) (prot : Prot) (keeps : Keeps old s) (alive : is_some (ranges_of old.spaces p) ≡ true) (passed : refusal ((not (is_on_page a), Einval) ∷ (wraps a len, Enomem) ∷ []) ≡ None)
-    (reaches : IsReached (is_taken old.spaces p) (page_of a) (page_of a + pages_of len) reached) (given : HasProts old.spaces spaces p (set_on (page_of a) (reached - page_of a) (Some prot) (prot_of (ranges_of old.spaces p)))) where
+    (reaches : IsReached (is_taken old.spaces p) (page_of a) (page_of a + pages_of len) reached) (given : HasProts old.spaces spaces p (set_on (page_of a) (reached - page_of a) (Some prot) (prot_of (ranges_of old.spaces p))))
+    (areas : HasAreas old.spaces spaces p (pages_changed (to_prot prot) (page_of a) (reached - page_of a) (areas_on old.spaces p))) where
   mprotect-allowed : refusal (tests (setting (count old)) s.world s.ledger (Mprotect p a len prot)) ≡ None
-  mprotect-allowed = ap (λ b. cond (not b) (Some Esrch) (refusal ((not (is_on_page a), Einval) ∷ (wraps a len, Enomem) ∷ []))) (sym (keeps.stands.parts.areas.alive p) ∙ alive) ∙ passed
+  mprotect-allowed = ap (λ b. cond (not b) (Some Esrch) (refusal ((not (is_on_page a), Einval) ∷ (wraps a len, Enomem) ∷ []))) (sym (lives_is old s keeps p) ∙ sym (alive_is old.spaces p) ∙ alive) ∙ passed
 
   in_reach : wraps a len ≡ false
   in_reach = by (is_on_page a) (wraps a len) passed
@@ -333,11 +372,12 @@ module _ (old : Mem) (spaces : Spaces) (s : State) (p a len reached : ℕ) (prot
 
   protected-steps : (answer : Answer) → answer ≡ (cond (pages_to_hole (pages s.world p) (page_of a) (pages_of len) == pages_of len) Done (Refused Enomem))
       → set_process s.world p (with_prot_on (pages s.world p) (page_of a) (reached - page_of a) prot) ≡ next_world (setting (count old)) s.world s.ledger [] (Mprotect p a len prot) answer
+      → with_at p (pages_changed (to_prot prot) (page_of a) (reached - page_of a) (s.areas p)) s.areas ≡ next_areas s.areas s.world (Mprotect p a len prot) answer
       → MemSteps old (moved_on old old.tables spaces) s (Mprotect p a len prot) (answered answer)
-  protected-steps answer is world =
+  protected-steps answer is world next =
       let now : Process = with_prot_on (pages s.world p) (page_of a) (reached - page_of a) prot in
       let new = moved_on old old.tables spaces in
-      changed old new s (Mprotect p a len prot) (answered answer) p now s.ledger keeps refl (stays_orderly old old.tables spaces s.ledger refl (orderly old s keeps)) refl (λ q page other. refl) kept-protected
+      changed old new s (Mprotect p a len prot) (answered answer) p now (pages_changed (to_prot prot) (page_of a) (reached - page_of a) (s.areas p)) s.ledger keeps refl (stays_orderly old old.tables spaces s.ledger refl (orderly old s keeps)) refl (λ q page other. refl) kept-protected
       (record {
         events = [];
         legal = record {
@@ -347,7 +387,9 @@ module _ (old : Mem) (spaces : Spaces) (s : State) (p a len reached : ℕ) (prot
         world = world;
         ledger = refl;
         free = keeps.stands.free;
+        areas = next;
       })
+      (areas_so old new s p (pages_changed (to_prot prot) (page_of a) (reached - page_of a)) keeps areas)
       (areas_changed old new s p now (set_on (page_of a) (reached - page_of a) (Some prot) (prot_of (ranges_of old.spaces p))) keeps alive given covered-protected)
       (tables_kept old new s p now (set_on (page_of a) (reached - page_of a) (Some prot) (prot_of (ranges_of old.spaces p))) keeps alive given covered-protected refl)
 
@@ -357,6 +399,7 @@ module _ (old : Mem) (spaces : Spaces) (s : State) (p a len reached : ℕ) (prot
       let high = reaches.highest in
       let size : reached - page_of a ≡ pages_of len = omega (arith, whole, high) in
       protected-steps Done (sym (ap (λ b. cond b Done (Refused Enomem)) (equal _ _ (leads ∙ size)))) (ap (λ k. set_process s.world p (with_prot_on (pages s.world p) (page_of a) k prot)) size)
+      (ap (λ k. with_at p (pages_changed (to_prot prot) (page_of a) k (s.areas p)) s.areas) (sym leads))
     where
       equal : (k n : ℕ) → k ≡ n → (k == n) ≡ true
       equal k n e = grind (arith, nat_tests, e)
@@ -368,6 +411,8 @@ module _ (old : Mem) (spaces : Spaces) (s : State) (p a len reached : ℕ) (prot
       let fewer : reached - page_of a < pages_of len = omega (arith, less, low) in
       protected-steps (Refused Enomem) (sym (ap (λ b. cond b Done (Refused Enomem)) (differ _ _ _ leads fewer)))
       (ap (λ k. set_process s.world p (with_prot_on (pages s.world p) (page_of a) k prot)) (sym leads) ∙ sym (ap (λ b. cond b s.world (with_prot_to_hole s.world p (page_of a) (pages_of len) prot)) in_reach))
+      (ap (λ k. with_at p (pages_changed (to_prot prot) (page_of a) k (s.areas p)) s.areas) (sym leads)
+      ∙ sym (ap (λ b. cond b s.areas (with_at p (areas_to_hole s.world p (page_of a) (pages_of len) prot (s.areas p)) s.areas)) in_reach))
     where
       differ : (k m n : ℕ) → k ≡ m → m < n → (k == n) ≡ false
       differ k m n e h = grind (arith, nat_tests, e, h)

@@ -1,5 +1,5 @@
 -- The protections of a process's pages after its areas were mapped, cut or protected.
-use Rattle.std.proofs.Common.{◌≡◌, ℕ, ◌+◌, ◌-◌, ◌*◌, ◌/◌, ◌<◌, ◌≤◌, Bool, true, false, cond, Option, Some, None, is_some, option_map, refl, sym, ap, subst, ◌∙◌, arith}
+use Rattle.std.proofs.Common.{◌≡◌, ℕ, ◌+◌, ◌-◌, ◌*◌, ◌/◌, ◌<◌, ◌≤◌, Bool, true, false, cond, Option, Some, None, is_some, option_map, refl, sym, ap, subst, ◌∙◌, arith, ◌==◌}
 use Rattle.std.proofs.lemmas.Bool.Decides.{nat_tests}
 use Rattle.std.proofs.lemmas.Bool.{false≢true}
 use Rattle.std.proofs.lemmas.Option.{none-some, same_Some}
@@ -9,16 +9,18 @@ use Rattle.av_base.specs.Limits.{low_page, top_page}
 use Rattle.av_base.specs.Words.{within}
 use Rattle.av_vma.specs.declared.area.Area.{Area}
 use Rattle.av_vmatree.specs.Spans.{IsFree}
-use Rattle.av_vma.specs.Pages.{AreLaid, Pages, has_page, cut_at, emptied, placed, joined_around, fresh_area, IsWhole, mapped, unmapped, pages_changed, to_prot}
+use Rattle.av_vma.specs.Pages.{AreLaid, Pages, has_page, cut_at, emptied, placed, joined_around, fresh_area, IsWhole, mapped, pages_in, unmapped, pages_changed, to_prot}
 use Rattle.av_merge.specs.Mapping.{Mapping, mapping, mapping_in, remapped, IsRemapped}
 use Rattle.av_merge.specs.Pages.{IsReached}
 use Rattle.av_merge.proofs.Mappings.{around_maps, cut_out_maps, placed_maps}
 use Rattle.av_spaces.specs.Spaces.{Spaces, pages_of, is_taken, AreThese, IsChanged}
 use Rattle.av_spaces.proofs.Rising.{laid}
 use Rattle.av_plain.specs.Stands.{prot_of}
-use Rattle.av_reclaim.specs.Mem.{range_of, ranges_of}
+use Rattle.av_plain.specs.Report.{range_of}
+use Rattle.av_reclaim.specs.Mem.{ranges_of}
 use Rattle.av_reclaim.proofs.MemLaws.{prot_on, alive_is, prots_are, all_apart}
-use Rattle.av_kernel.specs.Map.{set_on, HasProts}
+use Rattle.av_kernel.specs.Map.{set_on, HasAreas, HasProts}
+use Rattle.av_kernel.proofs.StepLaws.{is_number, other_number}
 
 -- the protections of pages
 abbrev pub prots_on : Pages → ℕ → Option Prot
@@ -170,6 +172,14 @@ has_prots s t p IsSo prots h is = record {
   number = h.number;
   apart = all_apart t h.rising;
 }
+
+-- and as areas
+pub has_areas : (s t : Spaces) (p : ℕ) (on : Pages) → IsChanged s t p (AreThese on) → HasAreas s t p on
+has_areas s t p on h q page = by (q == p) refl
+  where
+    by : (b : Bool) → (q == p) ≡ b → pages_of t q page ≡ (cond b on (pages_of s q)) page
+    by true e = ap (λ n. pages_of t n page) (is_number q p e) ∙ h.pages page
+    by false e = ap (λ a. pages_in a page) (h.others q (other_number q p e))
 
 as_ranges : (s : Spaces) (p from n page : ℕ) (prot : Option Prot) → set_on from n prot (prots_on (pages_of s p)) page ≡ set_on from n prot (prot_of (ranges_of s p)) page
 as_ranges s p from n page prot = ap (cond (within from n page) prot) (sym (prots_are s p page))

@@ -22,18 +22,21 @@ use Rattle.av_plain.specs.Refusal.{tests, refusal, Refuses}
 use Rattle.av_plain.specs.Step.{Follows}
 use Rattle.av_plain.specs.Choice.{ChoosesAll}
 use Rattle.av_plain.specs.Device.{no_device}
-use Rattle.av_plain.specs.Stands.{Pte as Plain, IsKept, entry_of, prot_of, AreasStand, TablesStand}
+use Rattle.av_plain.specs.Areas.{none_on}
+use Rattle.av_vma.specs.Pages.{pages_in}
+use Rattle.av_plain.specs.Stands.{AreasAre, free_of, Pte as Plain, IsKept, entry_of, prot_of, AreasStand, TablesStand}
 use Rattle.av_plain.specs.Transcript.{State, IsStep}
 use Rattle.av_plain.proofs.Ledger.Order.{both_first, both_second}
 use Rattle.av_plain.proofs.World.{pages-set, lives-set, length-set_new}
 use Rattle.av_plain.proofs.Zap.{entry-ended, entry-others}
 use Rattle.av_plain.proofs.Sound.Zap.{process-ended, pages-ended}
 use Rattle.av_reclaim.specs.declared.mem.Mem.{Mem}
-use Rattle.av_spaces.specs.Spaces.{Spaces, areas_of, IsSpawned, IsEnded}
-use Rattle.av_reclaim.specs.Mem.{range_of, ranges_of, setting, plain, view, count, HasTables, Keeps, HasLedger}
+use Rattle.av_spaces.specs.Spaces.{Spaces, areas_of, pages_of, IsSpawned, IsEnded}
+use Rattle.av_plain.specs.Report.{range_of}
+use Rattle.av_reclaim.specs.Mem.{ranges_of, setting, plain, view, count, HasTables, Keeps, HasLedger}
 use Rattle.av_kernel.specs.Step.{MemSteps, answered}
 use Rattle.av_reclaim.specs.Zap.{HasZapped}
-use Rattle.av_reclaim.proofs.MemLaws.{lives_is, all_apart, kept-nothing, no_cache}
+use Rattle.av_reclaim.proofs.MemLaws.{alive_is, lives_is, all_apart, kept-nothing, no_cache}
 use Rattle.av_kernel.proofs.StepLaws.{is_number, orderly, moved_on, stays_orderly, state_after, changed, kept-on, stepped}
 
 -- ---- the ranges of a process that comes or goes
@@ -74,7 +77,7 @@ module _ (old : Mem) (tables : ProcessTables) (spaces : Spaces) (s : State) (p :
     (absent : is_some (ranges_of old.spaces p) ≡ false) (few : length old.spaces < 4096)
     (entries : entry_at tables ≡ entry_at old.tables) (processes : has tables ≡ with_at p true (has old.tables)) (spawned : IsSpawned old.spaces spaces p) where
   dead_before : lives s.world p ≡ false
-  dead_before = sym (keeps.stands.parts.areas.alive p) ∙ absent
+  dead_before = sym (lives_is old s keeps p) ∙ sym (alive_is old.spaces p) ∙ absent
 
   few_live : nat_le most_processes (length s.world) ≡ false
   few_live = let number = keeps.stands.parts.areas.number in let less : length s.world < 4096 = omega (arith, few, number) in not_le (length s.world) less
@@ -85,7 +88,7 @@ module _ (old : Mem) (tables : ProcessTables) (spaces : Spaces) (s : State) (p :
   spawn-allowed : refusal (tests (setting (count old)) s.world s.ledger (Spawn p)) ≡ None
   spawn-allowed = ap (λ b. cond b (Some Eexist) (cond (nat_le most_processes (length s.world)) (Some Eagain) None)) dead_before ∙ ap (λ b. cond b (Some Eagain) None) few_live
 
-  spawn-step : IsStep (setting (count old)) s (Spawn p) (answered Done) (state_after s p no_pages s.ledger (view old).free)
+  spawn-step : IsStep (setting (count old)) s (Spawn p) (answered Done) (state_after s p no_pages none_on s.ledger (free_of (view old)))
   spawn-step = record {
     events = [];
     legal = record {
@@ -95,12 +98,20 @@ module _ (old : Mem) (tables : ProcessTables) (spaces : Spaces) (s : State) (p :
     world = refl;
     ledger = refl;
     free = keeps.stands.free;
+    areas = refl;
   }
 
-  spawn-alive : (q : ℕ) → is_some (ranges_of spaces q) ≡ lives (set_process s.world p no_pages) q
-  spawn-alive q = ap is_some (ranges_spawned old.spaces spaces p spawned q) ∙ by (q == p) refl ∙ sym (lives-set s.world p no_pages q ∙ ap (λ b. cond b true (lives s.world q)) (at_number q p))
+  spawn-on : AreasAre (view (moved_on old tables spaces)) (with_at p none_on s.areas)
+  spawn-on q page = ap (λ a. pages_in a page) (spawned.areas q) ∙ by (q == p)
     where
-      by : (b : Bool) → (q == p) ≡ b → is_some (cond b (Some []) (ranges_of old.spaces q)) ≡ cond b true (lives s.world q)
+      by : (b : Bool) → pages_in (cond b (Some []) (areas_of old.spaces q)) page ≡ (cond b none_on (s.areas q)) page
+      by true = refl
+      by false = keeps.stands.areas q page
+
+  spawn-alive : (q : ℕ) → is_some (areas_of spaces q) ≡ lives (set_process s.world p no_pages) q
+  spawn-alive q = ap is_some (spawned.areas q) ∙ by (q == p) refl ∙ sym (lives-set s.world p no_pages q ∙ ap (λ b. cond b true (lives s.world q)) (at_number q p))
+    where
+      by : (b : Bool) → (q == p) ≡ b → is_some (cond b (Some []) (areas_of old.spaces q)) ≡ cond b true (lives s.world q)
       by true e = refl
       by false e = keeps.stands.parts.areas.alive q
 
@@ -125,8 +136,8 @@ module _ (old : Mem) (tables : ProcessTables) (spaces : Spaces) (s : State) (p :
       by false = keeps.tables q
 
   pub spawned-steps : MemSteps old (moved_on old tables spaces) s (Spawn p) (answered Done)
-  spawned-steps = changed old (moved_on old tables spaces) s (Spawn p) (answered Done) p no_pages s.ledger keeps refl (stays_orderly old tables spaces s.ledger entries (orderly old s keeps)) refl
-      (λ q page other. refl) (λ page. kept-nothing (view old) s.ledger (entry s.ledger (p, page))) spawn-step spawn-areas spawn-tables
+  spawned-steps = changed old (moved_on old tables spaces) s (Spawn p) (answered Done) p no_pages none_on s.ledger keeps refl (stays_orderly old tables spaces s.ledger entries (orderly old s keeps)) refl
+      (λ q page other. refl) (λ page. kept-nothing (view old) s.ledger (entry s.ledger (p, page))) spawn-step spawn-on spawn-areas spawn-tables
 
 -- ---- exit: the memories
 
@@ -174,12 +185,12 @@ module _ (old mid : Mem) (tables : ProcessTables) (spaces : Spaces) (s : State) 
     (taken : HasZapped old mid s.ledger (zaps_of s.ledger (keys_of_process s.ledger p))) (bytes : (view mid).bytes ≡ (view old).bytes) (same_spaces : mid.spaces ≡ old.spaces) (same_tables : has mid.tables ≡ has old.tables) (same_count : count mid ≡ count old)
     (processes : has tables ≡ with_at p false (has mid.tables)) (entries : entry_at tables ≡ with_at p (λ page. Empty) (entry_at mid.tables)) (ended : IsEnded mid.spaces spaces p) where
   alive_now : lives s.world p ≡ true
-  alive_now = sym (keeps.stands.parts.areas.alive p) ∙ alive
+  alive_now = sym (lives_is old s keeps p) ∙ sym (alive_is old.spaces p) ∙ alive
 
   allowed : refusal (tests (setting (count old)) s.world s.ledger (Exit p)) ≡ None
   allowed = ap (λ b. cond (not b) (Some Esrch) None) alive_now
 
-  exit-step : IsStep (setting (count old)) s (Exit p) (answered Done) (record { world = end_process s.world p; ledger = after_all s.ledger (zaps_of s.ledger (keys_of_process s.ledger p)); free = (view mid).free })
+  exit-step : IsStep (setting (count old)) s (Exit p) (answered Done) (record { world = end_process s.world p; ledger = after_all s.ledger (zaps_of s.ledger (keys_of_process s.ledger p)); free = free_of (view mid); areas = with_at p none_on s.areas })
   exit-step = record {
     events = zaps_of s.ledger (keys_of_process s.ledger p);
     legal = record {
@@ -188,8 +199,16 @@ module _ (old mid : Mem) (tables : ProcessTables) (spaces : Spaces) (s : State) 
     };
     world = refl;
     ledger = refl;
-    free = subst (λ free. ChoosesAll (setting (count old)) s.ledger (zaps_of s.ledger (keys_of_process s.ledger p)) free (view mid).free) keeps.stands.free taken.free;
+    free = subst (λ free. ChoosesAll (setting (count old)) None s.ledger (zaps_of s.ledger (keys_of_process s.ledger p)) free (free_of (view mid))) keeps.stands.free taken.free;
+    areas = refl;
   }
+
+  exit-on : AreasAre (view (record { frames = mid.frames; tables = tables; spaces = spaces })) (with_at p none_on s.areas)
+  exit-on q page = ap (λ a. pages_in a page) (ended.areas q) ∙ by (q == p)
+    where
+      by : (b : Bool) → pages_in (cond b None (areas_of mid.spaces q)) page ≡ (cond b none_on (s.areas q)) page
+      by true = refl
+      by false = ap (λ x. pages_of x q page) same_spaces ∙ keeps.stands.areas q page
 
   -- ---- what stands then
 
@@ -220,7 +239,7 @@ module _ (old mid : Mem) (tables : ProcessTables) (spaces : Spaces) (s : State) 
 
   areas_now : AreasStand (view (record { frames = mid.frames; tables = tables; spaces = spaces })) (end_process s.world p)
   areas_now = record {
-    alive = λ q. ap is_some (ranges_ended mid.spaces spaces p ended q) ∙ lives_as q (q == p) ∙ sym (lives-ended s.world p q);
+    alive = λ q. ap is_some (ended.areas q) ∙ lives_as q (q == p) ∙ sym (lives-ended s.world p q);
     number = number _ _ _ _ (ended.number ∙ ap length same_spaces) keeps.stands.parts.areas.number (length_ended s.world p keeps.stands.sound.world.in_order alive_now);
     apart = all_apart spaces ended.rising;
     covers = λ q page. ap (λ o. prot_of o page) (ranges_ended mid.spaces spaces p ended q) ∙ covered q page (q == p) ∙ sym (ap (option_map (λ (x : Page). x.prot)) (pages-ended s.world p q page));
@@ -229,9 +248,9 @@ module _ (old mid : Mem) (tables : ProcessTables) (spaces : Spaces) (s : State) 
       number : (n m w w' : ℕ) → n + 1 ≡ m → m ≡ w → w' + 1 ≡ w → n ≡ w'
       number n m w w' a b c = omega arith
 
-      lives_as : (q : ℕ) (b : Bool) → is_some (cond b None (ranges_of mid.spaces q)) ≡ cond b false (lives s.world q)
+      lives_as : (q : ℕ) (b : Bool) → is_some (cond b None (areas_of mid.spaces q)) ≡ cond b false (lives s.world q)
       lives_as q true = refl
-      lives_as q false = ap (λ x. is_some (ranges_of x q)) same_spaces ∙ keeps.stands.parts.areas.alive q
+      lives_as q false = ap (λ x. is_some (areas_of x q)) same_spaces ∙ keeps.stands.parts.areas.alive q
 
       covered : (q page : ℕ) (b : Bool) → prot_of (cond b None (ranges_of mid.spaces q)) page ≡ option_map (λ (x : Page). x.prot) (cond b None (pages s.world q page))
       covered q page true = refl
@@ -268,5 +287,5 @@ module _ (old mid : Mem) (tables : ProcessTables) (spaces : Spaces) (s : State) 
   }
 
   pub exit-steps : MemSteps old (record { frames = mid.frames; tables = tables; spaces = spaces }) s (Exit p) (answered Done)
-  exit-steps = stepped old (record { frames = mid.frames; tables = tables; spaces = spaces }) s (record { world = end_process s.world p; ledger = after_all s.ledger (zaps_of s.ledger (keys_of_process s.ledger p)); free = (view mid).free }) (Exit p) (answered Done)
-      keeps exit-step same_count stands_now refl areas_now has_now kept_now
+  exit-steps = stepped old (record { frames = mid.frames; tables = tables; spaces = spaces }) s (record { world = end_process s.world p; ledger = after_all s.ledger (zaps_of s.ledger (keys_of_process s.ledger p)); free = free_of (view mid); areas = with_at p none_on s.areas }) (Exit p) (answered Done)
+      keeps exit-step same_count stands_now refl exit-on areas_now has_now kept_now

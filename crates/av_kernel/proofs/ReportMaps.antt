@@ -12,7 +12,8 @@ use Rattle.av_plain.specs.Step.{Follows}
 use Rattle.av_plain.specs.Stands.{prot_of}
 use Rattle.av_plain.specs.Transcript.{State}
 use Rattle.av_reclaim.specs.declared.mem.Mem.{Mem}
-use Rattle.av_reclaim.specs.Mem.{range_of, setting, count, Keeps}
+use Rattle.av_plain.specs.Report.{range_of}
+use Rattle.av_reclaim.specs.Mem.{setting, count, Keeps}
 use Rattle.av_reclaim.proofs.MemLaws.{lives_is}
 use Rattle.av_kernel.specs.Report.{AreRuns}
 use Rattle.av_kernel.specs.Step.{MemSteps}
@@ -42,6 +43,7 @@ module _ (k : Mem) (s : State) (p : ℕ) (areas : List Area) (rows : List Row) (
       world = refl;
       ledger = refl;
       free = refl;
+      areas = refl;
     };
     keeps = keeps;
   }

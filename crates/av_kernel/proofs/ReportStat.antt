@@ -32,6 +32,7 @@ stat-steps k s processes keeps once below number = record {
     world = refl;
     ledger = refl;
     free = refl;
+    areas = refl;
   };
   keeps = keeps;
 }

@@ -16,8 +16,11 @@ use Rattle.av_plain.specs.Step.{Follows}
 use Rattle.av_plain.specs.Transcript.{State, IsStep}
 use Rattle.av_plain.specs.Sound.{AllSound}
 use Rattle.av_plain.specs.Device.{no_device}
-use Rattle.av_plain.specs.Stands.{View, Holds, IsKept, AreasStand, entry_of, prot_of}
-use Rattle.av_plain.proofs.Refusal.{refused-next}
+use Rattle.av_plain.specs.Choice.{Free}
+use Rattle.av_base.specs.Words.{with_at}
+use Rattle.av_vma.specs.Pages.{Pages}
+use Rattle.av_plain.specs.Stands.{View, Holds, IsKept, AreasAre, AreasStand, entry_of, free_of, prot_of}
+use Rattle.av_plain.proofs.Refusal.{refused-areas, refused-next}
 use Rattle.av_plain.proofs.Sound.{step-sound}
 use Rattle.av_plain.proofs.World.{pages-set, lives-set, length-set_old}
 use Rattle.av_pagetable.specs.Entries.{ProcessTables, entry_at, has}
@@ -56,6 +59,7 @@ refused k s command error keeps is = record {
     world = sym (refused-next (setting (count k)) s.world s.world s.ledger command error is);
     ledger = refl;
     free = refl;
+    areas = sym (refused-areas (setting (count k)) s.world s.ledger s.areas command error is);
   };
   keeps = keeps;
 }
@@ -103,9 +107,9 @@ kept-on v v' l l' (Some (InSlot s)) p same was none h = slot_kept v v' s p (fram
 pub orderly : (k : Mem) (s : State) → Keeps k s → HasLedger k s.ledger
 orderly k s keeps = record { sound = keeps.stands.sound.ledger; parts = keeps.stands.parts.ledger }
 
-pub stepped : (old new : Mem) (s next : State) (command : Command) (reply : Reply) → Keeps old s → IsStep (setting (count old)) s command reply next → count new ≡ count old → HasLedger new next.ledger → (view new).free ≡ next.free
-    → AreasStand (view new) next.world → HasTables new → ((q page : ℕ) → IsKept (view new) no_device next.ledger (entry next.ledger (q, page)) (pages next.world q page)) → MemSteps old new s command reply
-stepped old new s next command reply keeps step same_count stands free areas tables kept = record {
+pub stepped : (old new : Mem) (s next : State) (command : Command) (reply : Reply) → Keeps old s → IsStep (setting (count old)) s command reply next → count new ≡ count old → HasLedger new next.ledger → free_of (view new) ≡ next.free
+    → AreasAre (view new) next.areas → AreasStand (view new) next.world → HasTables new → ((q page : ℕ) → IsKept (view new) no_device next.ledger (entry next.ledger (q, page)) (pages next.world q page)) → MemSteps old new s command reply
+stepped old new s next command reply keeps step same_count stands free areas_now areas tables kept = record {
   next = next;
   step = step;
   keeps = record {
@@ -119,6 +123,7 @@ stepped old new s next command reply keeps step same_count stands free areas tab
         headers = no_headers (setting (count new)) next.ledger (sym stands.parts.swap.on);
       };
       free = free;
+      areas = areas_now;
     };
     tables = tables;
   };
@@ -126,10 +131,10 @@ stepped old new s next command reply keeps step same_count stands free areas tab
 
 -- ---- a step that changes one process
 
-abbrev pub state_after : State → ℕ → Process → Ledger → List ℕ → State
-state_after s p now l free = record { world = set_process s.world p now; ledger = l; free = free }
+abbrev pub state_after : State → ℕ → Process → Pages → Ledger → Free → State
+state_after s p now on l free = record { world = set_process s.world p now; ledger = l; free = free; areas = with_at p on s.areas }
 
-module _ (old new : Mem) (s : State) (command : Command) (reply : Reply) (p : ℕ) (now : Process) (l : Ledger)
+module _ (old new : Mem) (s : State) (command : Command) (reply : Reply) (p : ℕ) (now : Process) (on : Pages) (l : Ledger)
     (keeps : Keeps old s) (same_count : count new ≡ count old) (stands : HasLedger new l) (bytes : (view new).bytes ≡ (view old).bytes)
     (others : (q page : ℕ) → (q == p) ≡ false → entry l (q, page) ≡ entry s.ledger (q, page)) (kept : (page : ℕ) → IsKept (view old) no_device s.ledger (entry l (p, page)) (now page)) where
   kept-all : (q page : ℕ) → IsKept (view new) no_device l (entry l (q, page)) (pages (set_process s.world p now) q page)
@@ -140,8 +145,8 @@ module _ (old new : Mem) (s : State) (command : Command) (reply : Reply) (p : �
       by true e = subst (λ n. IsKept (view old) no_device s.ledger (entry l (n, page)) (now page)) (sym (is_number q p e)) (kept page)
       by false e = subst (λ x. IsKept (view old) no_device s.ledger x (pages s.world q page)) (sym (others q page e)) (keeps.stands.parts.bytes.kept q page)
 
-  pub changed : IsStep (setting (count old)) s command reply (state_after s p now l (view new).free) → AreasStand (view new) (set_process s.world p now) → HasTables new → MemSteps old new s command reply
-  changed step areas tables = stepped old new s (state_after s p now l (view new).free) command reply keeps step same_count stands refl areas tables kept-all
+  pub changed : IsStep (setting (count old)) s command reply (state_after s p now on l (free_of (view new))) → AreasAre (view new) (with_at p on s.areas) → AreasStand (view new) (set_process s.world p now) → HasTables new → MemSteps old new s command reply
+  changed step areas_now areas tables = stepped old new s (state_after s p now on l (free_of (view new))) command reply keeps step same_count stands refl areas_now areas tables kept-all
 
 -- the areas of a process that lives have changed
 module _ (old new : Mem) (s : State) (p : ℕ) (now : Process) (prots : ℕ → Option Prot) (keeps : Keeps old s) (alive : is_some (ranges_of old.spaces p) ≡ true)
@@ -158,7 +163,7 @@ module _ (old new : Mem) (s : State) (p : ℕ) (now : Process) (prots : ℕ → 
 
   pub areas_changed : AreasStand (view new) (set_process s.world p now)
   areas_changed = record {
-    alive = λ q. lives_as q ∙ keeps.stands.parts.areas.alive q ∙ by q (q == p) refl ∙ sym (lives-set s.world p now q ∙ ap (λ b. cond b true (lives s.world q)) (at_number q p));
+    alive = λ q. sym (alive_is new.spaces q) ∙ lives_as q ∙ alive_is old.spaces q ∙ keeps.stands.parts.areas.alive q ∙ by q (q == p) refl ∙ sym (lives-set s.world p now q ∙ ap (λ b. cond b true (lives s.world q)) (at_number q p));
     number = spaces.number ∙ keeps.stands.parts.areas.number ∙ sym (length-set_old s.world p now keeps.stands.sound.world.in_order lives_now);
     apart = spaces.apart;
     covers = λ q page. covers_at q page (q == p) refl
@@ -166,7 +171,7 @@ module _ (old new : Mem) (s : State) (p : ℕ) (now : Process) (prots : ℕ → 
   }
     where
       lives_now : lives s.world p ≡ true
-      lives_now = sym (keeps.stands.parts.areas.alive p) ∙ alive
+      lives_now = sym (lives_is old s keeps p) ∙ sym (alive_is old.spaces p) ∙ alive
 
       by : (q : ℕ) (b : Bool) → (q == p) ≡ b → lives s.world q ≡ cond (q == p) true (lives s.world q)
       by q true e = ap (lives s.world) (is_number q p e) ∙ lives_now ∙ sym (ap (λ b. cond b true (lives s.world q)) e)

@@ -1,9 +1,10 @@
 -- The protections of a process's pages, and how the pages of a range go.
 use Rattle.std.specs.Prelude.{◌≡◌, ◌≢◌, ℕ, true, is_some, if◌then◌else◌, List, length, Option, None, IfSome}
 use Rattle.av_base.specs.declared.prot.Prot.{Prot}
-use Rattle.av_base.specs.Words.{within}
+use Rattle.av_base.specs.Words.{with_at, within}
 use Rattle.av_pagetable.specs.Entries.{has}
-use Rattle.av_spaces.specs.Spaces.{Spaces}
+use Rattle.av_spaces.specs.Spaces.{Spaces, pages_of}
+use Rattle.av_vma.specs.Pages.{Pages}
 use Rattle.av_plain.specs.Ledger.{Ledger}
 use Rattle.av_plain.specs.Event.{Event}
 use Rattle.av_plain.specs.Stands.{prot_of, AreApart}
@@ -23,11 +24,16 @@ pub record HasProts (old new : Spaces) (p : ℕ) (prots : ℕ → Option Prot) :
   pub number : length new ≡ length old
   pub apart : (q : ℕ) → IfSome (ranges_of new q) AreApart
 
--- the n pages of p from one on have gone, with their entries, by these events
-pub record AreCleared (old new : Mem) (p page n : ℕ) (l : Ledger) (events : List Event)
-    : Type 0 where
+-- the pages of p are of these areas now, and those of the others are as they were
+abbrev pub HasAreas : Spaces → Spaces → ℕ → Pages → Type 0
+HasAreas old new p on = (q page : ℕ) → pages_of new q page ≡ with_at p on (pages_of old) q page
+
+-- the n pages of p from one on have gone, with their entries, by these events; its areas are these
+pub record AreCleared (old new : Mem) (p page n : ℕ) (on : Pages) (l : Ledger)
+    (events : List Event) : Type 0 where
   pub taken : HasZapped old new l events
   pub spaces : HasProts old.spaces new.spaces p
       (set_on page n None (prot_of (ranges_of old.spaces p)))
+  pub areas : HasAreas old.spaces new.spaces p on
   pub processes : has new.tables ≡ has old.tables
   pub bytes : (view new).bytes ≡ (view old).bytes

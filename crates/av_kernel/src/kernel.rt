@@ -1,6 +1,7 @@
 //! The kernel, one command at a time.
 
 ghost use Rattle.std.specs.Prelude.{◌≡◌, ◌<◌, ◌^◌, IfOk, OnOk, OnErr, true, false};
+ghost use Rattle.av_plain.specs.Device.{no_device};
 ghost use Rattle.av_plain.specs.Transcript.{State, at_first};
 ghost use Rattle.av_reclaim.specs.Mem.{setting};
 ghost use Rattle.av_kernel.specs.Kernel.{Stands, Steps, Counts, IsNew, IsLeft};
@@ -63,7 +64,7 @@ impl Kernel {
     pub fn step(&mut self, alloc: Global, command: &Command) -> Result<Reply, AllocError>
         requires { self.old.steps < 2 ^ 24 }
         ensures stands { (s : State) → Stands self.old s →
-            IfOk result (Steps self.old self.new s command.now) }
+            IfOk result (Steps self.old self.new no_device no_device s command.now) }
         ensures counts { IfOk result (Counts self.old self.new) }
         ensures left { OnErr result (IsLeft self.old self.new) }
     {

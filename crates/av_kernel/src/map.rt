@@ -5,7 +5,9 @@ ghost use Rattle.av_base.specs.Limits.{top_page};
 ghost use Rattle.av_plain.specs.Ledger.{Ledger};
 ghost use Rattle.av_plain.specs.Zap.{keys_in, zaps_of};
 ghost use Rattle.av_plain.specs.Map.{zaps_for_place};
-ghost use Rattle.av_spaces.specs.Spaces.{areas_of, is_taken};
+ghost use Rattle.av_plain.specs.Areas.{with_room};
+ghost use Rattle.av_vma.specs.Pages.{unmapped};
+ghost use Rattle.av_spaces.specs.Spaces.{areas_of, is_taken, pages_of};
 ghost use Rattle.av_reclaim.specs.Mem.{count, IsSteady, HasLedger};
 ghost use Rattle.av_kernel.specs.Place.{AreToClear};
 ghost use Rattle.av_kernel.specs.Map.{AreCleared};
@@ -104,7 +106,9 @@ fn make_room(
     requires high { page + pages ≤ top_page }
     requires there { AreToClear (is_taken mem.old.spaces process) page pages place }
     ensures cleared { (l : Ledger) → HasLedger mem.old l → OnOk result
-        (AreCleared mem.old mem.new process page pages l (zaps_for_place l process pages place)) }
+        (AreCleared mem.old mem.new process page pages
+        (with_room pages place (pages_of mem.old.spaces process)) l
+        (zaps_for_place l process pages place)) }
     ensures count { count mem.new ≡ count mem.old }
 {
     match place {
@@ -119,7 +123,8 @@ fn clear(mem: &mut Mem, process: u16, page: u64, pages: u64) -> Result<(), Alloc
     requires lives { is_some (areas_of mem.old.spaces process) ≡ true }
     requires high { page + pages ≤ top_page }
     ensures cleared { (l : Ledger) → HasLedger mem.old l → OnOk result
-        (AreCleared mem.old mem.new process page pages l
+        (AreCleared mem.old mem.new process page pages
+        (unmapped page (page + pages) (pages_of mem.old.spaces process)) l
         (zaps_of l (keys_in l process page pages))) }
     ensures count { count mem.new ≡ count mem.old }
 {

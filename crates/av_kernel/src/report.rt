@@ -2,7 +2,8 @@
 
 ghost use Rattle.std.specs.Prelude.{◌≡◌, ℕ, true, false, map, Ok, IfOk};
 ghost use Rattle.av_spaces.specs.Spaces.{AreRising};
-ghost use Rattle.av_reclaim.specs.Mem.{range_of, IsSteady};
+ghost use Rattle.av_plain.specs.Report.{range_of};
+ghost use Rattle.av_reclaim.specs.Mem.{IsSteady};
 ghost use Rattle.av_kernel.specs.Step.{Does};
 ghost use Rattle.av_kernel.specs.Report.{AreRuns};
 ghost use Rattle.av_trace.specs.declared.command.Command.TheVariants as commands;

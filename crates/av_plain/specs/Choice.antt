@@ -71,7 +71,7 @@ abbrev pub IsGiven : Setting → Option ℕ → Ledger → Slot → AreaSlots �
 IsGiven m closing l s slots slots' =
     (giving_area m closing l ≡ Some s.area)
     × IsSomeAnd (take_slot (slots s.area))
-      (λ t. (t.0 ≡ s.page) × (slots' ≡ with_at s.area t.1 slots))
+    (λ t. (t.0 ≡ s.page) × (slots' ≡ with_at s.area t.1 slots))
 
 -- clusters from which nothing is given yet, made of the header where it is told; else of some pages, at
 -- most the area's, and some bad ones, so that as many are usable and bad as is said
@@ -94,7 +94,7 @@ Turns m event old new = new ≡ old
 abbrev pub new_free_slots : Setting → Ledger → Ledger → ℕ → List ℕ
 new_free_slots m old new k =
     filter (λ page. let s : Slot = record { area = k; page = page } in
-      slot_count new s == 0 && nat_lt 0 (slot_count old s))
+    slot_count new s == 0 && nat_lt 0 (slot_count old s))
     (numbers 1 (size_of m k - 1))
 
 -- they are given back to their clusters

@@ -219,6 +219,6 @@ module _ (m : Setting) (v : View) (l : Ledger) (p page : ℕ)
       where
         by : (b : Bool) → (v.maps f == 1) ≡ b
             → Chooses m None l (Zapped (p, page)) (free_of v)
-              (free_of (cond b (record v { table = with_entry p page None v.table; maps = with_at f (v.maps f - 1) v.maps; free = f ∷ v.free }) (record v { table = with_entry p page None v.table; maps = with_at f (v.maps f - 1) v.maps })))
+            (free_of (cond b (record v { table = with_entry p page None v.table; maps = with_at f (v.maps f - 1) v.maps; free = f ∷ v.free }) (record v { table = with_entry p page None v.table; maps = with_at f (v.maps f - 1) v.maps })))
         by true e = last_freed e none
         by false e = shared_freed e none

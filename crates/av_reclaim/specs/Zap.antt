@@ -32,7 +32,7 @@ ZapsFirst old new l p from past (Some page) =
     (from ≤ page) × (is_some (entry l (p, page)) ≡ true)
     × ((q : ℕ) → from ≤ q → q < page → entry l (p, q) ≡ None)
     × Chooses (setting (count old)) None l (Zapped (p, page))
-      (free_of (view old)) (free_of (view new))
+    (free_of (view old)) (free_of (view new))
     × HasLedger new (after_zap (p, page) l)
 
 -- these entries have gone, without a note, and the frames that became free are in front

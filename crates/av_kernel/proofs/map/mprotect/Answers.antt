@@ -7,7 +7,7 @@ use Rattle.av_trace.specs.declared.reply.Errno.TheVariants.{Esrch}
 use Rattle.av_kernel.proofs.StepLaws.{moved_on, ranges_there, refuses, refuses-as, refuses-by, dead_first, wants-by}
 use Rattle.av_kernel.proofs.PlaceLaws.{rounded_up}
 use Rattle.av_kernel.proofs.MapLaws.{mprotect-steps, mprotect-stops, mprotect-refused}
-use Rattle.av_kernel.proofs.MapProts.{protected-prots}
+use Rattle.av_kernel.proofs.MapProts.{has_areas, protected-prots}
 use Rattle.av_kernel.proofs.map.mprotect.Goals as goal
 
 pub returns-in_err-check_lives : goal.returns-in_err-check_lives
@@ -33,7 +33,8 @@ returns c = record {
       subst (MemSteps k (moved_on k k.tables c.protect.new.self) s (Mprotect c.args.process c.args.address c.args.len c.args.prot)) (sym c.answered.ensures)
       (mprotect-steps k c.protect.new.self s c.args.process c.args.address c.args.len reached c.args.prot keeps (ranges_there k c.args.process c.in_ok-check_lives.ensures) c.in_ok-check_protect.ensures
       (subst (λ n. IsReached (is_taken k.spaces c.args.process) page (page + n) reached) size c.in_ok-reached.ensures.reached)
-      (protected-prots k.spaces c.protect.new.self c.args.process page (page + c.div_ceil-pages.result) reached c.args.prot c.in_ok-reached.ensures.reached c.in_ok-reached.ensures.ok c.in_ok-reached.ensures.mapping) (subst (λ n. page + n ≤ reached) size c.if-reached-past.false));
+      (protected-prots k.spaces c.protect.new.self c.args.process page (page + c.div_ceil-pages.result) reached c.args.prot c.in_ok-reached.ensures.reached c.in_ok-reached.ensures.ok c.in_ok-reached.ensures.mapping)
+      (has_areas k.spaces c.protect.new.self c.args.process _ c.in_ok-reached.ensures.ok) (subst (λ n. page + n ≤ reached) size c.if-reached-past.false));
 }
 
 pub returns-then-reached-past : goal.returns-then-reached-past
@@ -46,5 +47,6 @@ returns-then-reached-past c = record {
       let size = c.div_ceil-pages.ensures ∙ rounded_up c.args.len in
       mprotect-stops k c.protect.new.self s c.args.process c.args.address c.args.len reached c.args.prot keeps (ranges_there k c.args.process c.in_ok-check_lives.ensures) c.in_ok-check_protect.ensures
       (subst (λ n. IsReached (is_taken k.spaces c.args.process) page (page + n) reached) size c.in_ok-reached.ensures.reached)
-      (protected-prots k.spaces c.protect.new.self c.args.process page (page + c.div_ceil-pages.result) reached c.args.prot c.in_ok-reached.ensures.reached c.in_ok-reached.ensures.ok c.in_ok-reached.ensures.mapping) (subst (λ n. reached < page + n) size c.if-reached-past.true);
+      (protected-prots k.spaces c.protect.new.self c.args.process page (page + c.div_ceil-pages.result) reached c.args.prot c.in_ok-reached.ensures.reached c.in_ok-reached.ensures.ok c.in_ok-reached.ensures.mapping)
+      (has_areas k.spaces c.protect.new.self c.args.process _ c.in_ok-reached.ensures.ok) (subst (λ n. reached < page + n) size c.if-reached-past.true);
 }

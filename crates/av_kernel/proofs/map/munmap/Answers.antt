@@ -1,7 +1,9 @@
-use Rattle.std.proofs.Common.{sym, subst, ◌∙◌, ◌/◌}
+use Rattle.std.proofs.Common.{sym, subst, ◌∙◌, ◌+◌, ◌/◌}
 use Rattle.av_plain.specs.Zap.{keys_in, zaps_of}
 use Rattle.av_trace.specs.declared.command.Command.TheVariants.{Munmap}
 use Rattle.av_kernel.specs.Map.{AreCleared}
+use Rattle.av_vma.specs.Pages.{unmapped}
+use Rattle.av_spaces.specs.Spaces.{pages_of}
 use Rattle.av_kernel.specs.Step.{MemSteps}
 use Rattle.av_trace.specs.declared.reply.Errno.TheVariants.{Esrch, Einval}
 use Rattle.av_kernel.proofs.StepLaws.{orderly, ranges_there, refuses, refuses-as, dead_first, wants-by}
@@ -28,5 +30,5 @@ returns c = record {
       let page = c.args.address / 4096 in
       subst (MemSteps k c.clear.new.mem s (Munmap c.args.process c.args.address c.args.len)) (sym c.answered.ensures)
       (munmap-steps k c.clear.new.mem s c.args.process c.args.address c.args.len keeps (ranges_there k c.args.process c.in_ok-check_lives.ensures) (sym c.is_no_range.ensures ∙ c.if-is_no_range.false) c.clear.ensures.count
-      (subst (λ n. AreCleared k c.clear.new.mem c.args.process page n s.ledger (zaps_of s.ledger (keys_in s.ledger c.args.process page n))) (c.div_ceil.ensures ∙ rounded_up c.args.len) (c.in_ok-clear.ensures.cleared s.ledger (orderly k s keeps))));
+      (subst (λ n. AreCleared k c.clear.new.mem c.args.process page n (unmapped page (page + n) (pages_of k.spaces c.args.process)) s.ledger (zaps_of s.ledger (keys_in s.ledger c.args.process page n))) (c.div_ceil.ensures ∙ rounded_up c.args.len) (c.in_ok-clear.ensures.cleared s.ledger (orderly k s keeps))));
 }

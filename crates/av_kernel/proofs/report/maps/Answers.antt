@@ -4,7 +4,7 @@ use Rattle.av_vma.specs.declared.area.Area.{Area}
 use Rattle.av_trace.specs.declared.command.Command.TheVariants.{Maps}
 use Rattle.av_trace.specs.declared.reply.Answer.TheVariants.{Runs}
 use Rattle.av_trace.specs.declared.reply.Errno.TheVariants.{Esrch}
-use Rattle.av_reclaim.specs.Mem.{range_of}
+use Rattle.av_plain.specs.Report.{range_of}
 use Rattle.av_spaces.specs.Spaces.{AreRising}
 use Rattle.av_kernel.specs.Report.{AreRuns}
 use Rattle.av_kernel.specs.Step.{MemSteps}

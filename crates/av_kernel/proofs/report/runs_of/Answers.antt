@@ -4,7 +4,7 @@ use Rattle.std.specs.Prelude.{map}
 use Rattle.av_vma.specs.declared.area.Area.{Area}
 use Rattle.av_trace.specs.declared.row.Row.{Row}
 use Rattle.av_spaces.specs.Spaces.{AreRising}
-use Rattle.av_reclaim.specs.Mem.{range_of}
+use Rattle.av_plain.specs.Report.{range_of}
 use Rattle.av_kernel.specs.Report.{AreRuns}
 use Rattle.av_kernel.proofs.ReportRuns.{all_rows, own_first, own_rest, rising_rest, IsLeft, left-first, left-grown, left-begun, left-last, rising-runs}
 use Rattle.av_kernel.proofs.report.runs_of.Goals.{then-goes_on, else-goes_on+in_ok-push}

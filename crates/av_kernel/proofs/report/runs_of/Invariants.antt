@@ -1,6 +1,6 @@
 use Rattle.std.proofs.Common.{drop}
 use Rattle.std.specs.Prelude.{map}
-use Rattle.av_reclaim.specs.Mem.{range_of}
+use Rattle.av_plain.specs.Report.{range_of}
 use Rattle.av_kernel.proofs.ReportRuns.{all_rows, IsLeft}
 use Rattle.av_kernel.proofs.report.runs_of.Given as goal
 

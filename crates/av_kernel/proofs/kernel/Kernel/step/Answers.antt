@@ -1,6 +1,10 @@
-use Rattle.std.proofs.Common.{ℕ, ◌+◌, ◌<◌, ◌≤◌, ◌^◌, sym, subst, arith}
+use Rattle.std.proofs.Common.{◌≡◌, ℕ, ◌+◌, ◌<◌, ◌≤◌, ◌^◌, refl, sym, subst, arith}
+use Rattle.av_io.specs.Count.{RoseBy}
+use Rattle.av_trace.specs.declared.reply.Reply.{Reply}
+use Rattle.av_plain.specs.Step.{causes}
+use Rattle.av_plain.proofs.NoDevice.{no-causes}
 use Rattle.av_plain.specs.Transcript.{IsStep}
-use Rattle.av_reclaim.specs.Mem.{setting, Keeps}
+use Rattle.av_reclaim.specs.Mem.{count, setting, Keeps}
 use Rattle.av_kernel.specs.Machine.{Machine}
 use Rattle.av_kernel.specs.Tally.{IsAtMost}
 use Rattle.av_kernel.proofs.TallyCounts.{counted-few, few-enough}
@@ -23,4 +27,9 @@ returns-in-Ok-clause-stands c = λ s stands.
       next = after.next;
       step = subst (λ (k : Machine). IsStep (setting k.frames) s c.args.command.now c.in-Ok.reply after.next) c.self.view_is after.step;
       stands = after.keeps;
+      faults = none_rose c.in-Ok.reply (no-causes (setting (count c.self.inside.mem)) s.world s.ledger c.args.command.now c.in-Ok.reply after.step.events (λ k. refl)
+          (subst (λ (k : Machine). Keeps k.mem s) (sym c.self.view_is) stands).stands.sound after.step.legal);
     }
+  where
+    none_rose : (reply : Reply) → causes reply ≡ 0 → RoseBy (causes reply) 0 0
+    none_rose reply none = grind (arith, none)
