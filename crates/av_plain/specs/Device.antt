@@ -1,5 +1,5 @@
 -- Devices with swap areas, as a run sees them.
-use Rattle.std.specs.Prelude.{◌≡◌, ℕ, List, [], Option, Some, None, option_map, option_and_then, Result, Ok, Err}
+use Rattle.std.specs.Prelude.{◌≡◌, ◌≤◌, ℕ, List, [], Option, Some, None, option_map, option_and_then, Result, Ok, Err}
 use Rattle.av_swapdev.specs.declared.header.HeaderFault.{HeaderFault}
 use Rattle.av_swapdev.specs.Header.{Layout, header_of}
 use Rattle.av_plain.specs.Ledger.{Setting}
@@ -29,6 +29,13 @@ headers_of d =
 -- what does not change in a run with so many frames over this device
 abbrev pub setting_of : ℕ → Device → Setting
 setting_of frames d = record { frames = frames; sizes = d.sizes; headers = headers_of d }
+
+-- one device at two times: its areas have the sizes and headers that they had, and its count of
+-- faults never falls
+pub record IsSameDevice (old new : Device) : Type 0 where
+  pub sizes : new.sizes ≡ old.sizes
+  pub headers : headers_of new ≡ headers_of old
+  pub faults : old.faults ≤ new.faults
 
 -- no area is attached
 abbrev pub HasNoDevice : Setting → Type 0

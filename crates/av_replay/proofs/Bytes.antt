@@ -2,7 +2,7 @@
 use Rattle.std.proofs.Common.{◌≡◌, ℕ, ◌+◌, ◌≤◌, List, [], ◌++◌, Option, Some, None, refl, sym, ap, ◌∙◌, append_assoc, append-nil, arith, take, drop}
 use Rattle.std.proofs.lemmas.List.{take-append-drop, take-take, drop-take}
 use Rattle.std.specs.Prelude.{option_map}
-use Rattle.av_io.specs.Count.{Rose}
+use Rattle.av_io.specs.Count.{Rose, RoseBy}
 use Rattle.av_io.specs.Source.{in_front, Took}
 use Rattle.av_io.specs.Sink.{Gained}
 
@@ -42,6 +42,14 @@ Rose-later a b c rose later = omega arith
 
 pub Rose-earlier : (a b c : ℕ) → a ≤ b → Rose b c → Rose a c
 Rose-earlier a b c later rose = omega arith
+
+-- nothing is less than a count rose by
+pub rose_none : (a : ℕ) → RoseBy 0 a a
+rose_none a = omega arith
+
+-- rises add up
+pub rose_then : (m n a b c : ℕ) → RoseBy m a b → RoseBy n b c → RoseBy (m + n) a c
+rose_then m n a b c first second = omega arith
 
 -- a front that grows by a front of the rest
 pub take-add : (n m : ℕ) (xs : List ℕ) → take (n + m) xs ≡ take n xs ++ take m (drop n xs)

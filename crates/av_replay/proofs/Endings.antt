@@ -6,10 +6,10 @@ use Rattle.std.proofs.lemmas.List.{take_all, take_at, drop_at}
 use Rattle.std.proofs.lemmas.List.Elements.{All-nil}
 use Rattle.std.proofs.lemmas.List.Concat.{flat_map-append}
 use Rattle.av_trace.specs.Print.{text_of}
-use Rattle.av_plain.specs.Transcript.{Exchange, State, at_first}
+use Rattle.av_plain.specs.Transcript.{Exchange, State, at_first, causes_of}
 use Rattle.av_kernel.specs.Machine.{Machine}
-use Rattle.av_reclaim.specs.Mem.{setting}
-use Rattle.av_io.specs.Count.{Rose}
+use Rattle.av_plain.specs.Device.{Device, IsSameDevice, setting_of}
+use Rattle.av_io.specs.Count.{Rose, RoseBy}
 use Rattle.av_io.specs.Source.{SourceView, Took}
 use Rattle.av_io.specs.Sink.{Gained}
 use Rattle.av_replay.specs.declared.status.Status.{Status}
@@ -20,9 +20,9 @@ use Rattle.av_replay.specs.Streams.{Streams, undone, room, IsLater, ReadsOn, IsA
 use Rattle.av_replay.specs.Line.{IsLine}
 use Rattle.av_replay.specs.Turn.{texts, Commands, IsBad, IsEnding, TakesLine, Waits, CutsShort, IsUnflushed, Halts, DoesNext, FindsEnd, Finished}
 use Rattle.av_replay.specs.Replay.{most_lines, joined, Transcribes, Run, done_lines, Replays, IsLeft, StopsAt, MayGoOn, IsCutOff, IsKeptBack, Ends, status_at, Headline}
-use Rattle.av_replay.proofs.Bytes.{Took-then, Took-none, Took-ahead, Gained-none, take-add, Rose-earlier, Rose-later}
+use Rattle.av_replay.proofs.Bytes.{Took-then, Took-none, Took-ahead, Gained-none, take-add, Rose-earlier, Rose-later, rose_none}
 use Rattle.av_replay.proofs.Times.{later_same, later_then}
-use Rattle.av_replay.proofs.Runs.{Past, whole, SoFar, longer, next_answers, read_more, wrote_more, later_more, legal_more, kernel_more, texts_more, all_push, Transcribes-push, joined-push}
+use Rattle.av_replay.proofs.Runs.{Past, whole, SoFar, longer, next_answers, read_more, wrote_more, later_more, faults_more, legal_more, kernel_more, texts_more, all_push, Transcribes-push, joined-push}
 
 -- ---- what the end of a turn leaves
 
@@ -47,6 +47,7 @@ waited n past ahead rest old now new k so_far few reads = record {
   last = tt;
   commands = subst (λ (lines : List (List ℕ)). Transcribes lines past.transcript) (sym (append-nil past.lines)) so_far.commands;
   legal = so_far.legal;
+  faults = subst (RoseBy (causes_of past.transcript) old.device.faults) (sym (ap (λ (d : Device). d.faults) reads.device)) so_far.faults;
   wrote = subst (λ (h : Option (List ℕ)). Gained old.sink.held h (texts past.transcript)) (sym reads.held) so_far.wrote;
   later = later_then old now new so_far.later reads.later;
 }
@@ -77,6 +78,7 @@ module _ (n : ℕ) (past : Past) (ahead : List ℕ) (old now new : Streams) (k k
           last = tt;
           commands = subst (λ (ls : List (List ℕ)). Transcribes ls (past.transcript ++ option_to_list a.did)) (sym (append-nil lines)) (Transcribes-push past.lines past.transcript line a.did so_far.commands a.commands);
           legal = legal_more n past ahead old now new k k' line (10 ∷ []) rest text written so_far takes;
+          faults = faults_more n past ahead old now new k k' line (10 ∷ []) rest text written so_far takes;
           wrote = wrote_more n past ahead old now new k k' line (10 ∷ []) rest text written so_far takes;
           later = later_more n past ahead old now new k k' line (10 ∷ []) rest text written so_far takes;
         };
@@ -96,6 +98,7 @@ module _ (n : ℕ) (past : Past) (ahead : List ℕ) (old now new : Streams) (k k
           last = (takes.is_line, some, none, end);
           commands = Transcribes-push past.lines past.transcript line a.did so_far.commands a.commands;
           legal = legal_more n past ahead old now new k k' line [] rest text written so_far takes;
+          faults = faults_more n past ahead old now new k k' line [] rest text written so_far takes;
           wrote = wrote_more n past ahead old now new k k' line [] rest text written so_far takes;
           later = later_more n past ahead old now new k k' line [] rest text written so_far takes;
         };
@@ -267,10 +270,10 @@ unfinished n past ahead rest old now new k errors.Memory number so_far count rea
 -- memory ran out before anything was read
 pub nothing_done : (n : ℕ) (io : Streams) (kernel : Option Machine) → Headline n statuses.Memory io io kernel
 nothing_done n io kernel = record {
-  run = record { lines = []; last = None; transcript = []; state = at_first (setting n) };
+  run = record { lines = []; last = None; transcript = []; state = at_first (setting_of n io.device) };
   rest = [];
   written = [];
-  replays = record { read = Took-none io.source.left; near = omega arith; lines = tt; few = omega arith; commands = refl; last = tt; legal = refl; wrote = Gained-none io.sink.held; later = later_same io };
+  replays = record { read = Took-none io.source.left; near = omega arith; lines = tt; few = omega arith; commands = refl; last = tt; legal = refl; faults = rose_none io.device.faults; wrote = Gained-none io.sink.held; later = later_same io };
   ends = (0, refl);
   handed_back = λ ne. absurd (ne refl);
 }
@@ -288,11 +291,12 @@ no_usage n status old new kernel h e = subst (λ (s : Status). Ends s old new h.
 
 -- ---- the last flush
 
-module _ (n : ℕ) (old now new : Streams) (kernel : Machine) (source : new.source ≡ now.source) (held : new.sink.held ≡ now.sink.held) (never_falls : now.sink.faults ≤ new.sink.faults) (flushes : now.sink.flushes ≤ new.sink.flushes) where
+module _ (n : ℕ) (old now new : Streams) (kernel : Machine) (source : new.source ≡ now.source) (held : new.sink.held ≡ now.sink.held) (device : new.device ≡ now.device) (never_falls : now.sink.faults ≤ new.sink.faults) (flushes : now.sink.flushes ≤ new.sink.flushes) where
   later_flush : IsLater old now → IsLater old new
   later_flush later = record {
     source = omega (arith, later.source, ap (λ (s : SourceView). s.faults) source);
     sink = omega (arith, later.sink);
+    device = subst (IsSameDevice old.device) (sym device) later.device;
     flushed = λ h. let before = later.flushed h in omega (arith, before, ap (λ (s : SourceView). s.reads) source);
   }
 
@@ -305,6 +309,7 @@ module _ (n : ℕ) (old now new : Streams) (kernel : Machine) (source : new.sour
     last = subst (λ (s : SourceView). IfSome run.last (λ line. IsLine line × (0 < length line) × (rest ≡ []) × IsAtEnd s)) (sym source) r.last;
     commands = r.commands;
     legal = r.legal;
+    faults = subst (RoseBy (causes_of run.transcript) old.device.faults) (sym (ap (λ (d : Device). d.faults) device)) r.faults;
     wrote = subst (λ (h : Option (List ℕ)). Gained old.sink.held h written) (sym held) r.wrote;
     later = later_flush r.later;
   }

@@ -7,17 +7,20 @@ use Rattle.std.specs.Option.{option_to_list}
 use Rattle.std.proofs.lemmas.List.Concat.{flat_map-append}
 use Rattle.av_trace.specs.Print.{text_of}
 use Rattle.av_plain.specs.Ledger.{Setting}
-use Rattle.av_plain.specs.Transcript.{Exchange, State, IsRun, at_first}
+use Rattle.av_plain.specs.Transcript.{Exchange, State, IsRun, at_first, causes_of}
 use Rattle.av_kernel.specs.Machine.{Machine}
-use Rattle.av_reclaim.specs.Mem.{setting}
+use Rattle.av_plain.specs.Device.{setting_of}
+use Rattle.av_plain.specs.Step.{causes}
+use Rattle.av_io.specs.Count.{RoseBy}
+use Rattle.std.proofs.lemmas.List.Sums.{sum_by-append}
 use Rattle.av_io.specs.Source.{in_front, Took}
 use Rattle.av_io.specs.Sink.{Gained}
 use Rattle.av_replay.specs.Streams.{Streams, undone, room, IsLater}
 use Rattle.av_replay.specs.Line.{IsLine}
 use Rattle.av_replay.specs.Turn.{texts, tally_of, Commands, Answers, TakesLine}
 use Rattle.av_replay.specs.Replay.{joined, Transcribes, Run, IsLeft, IsAtStart}
-use Rattle.av_replay.proofs.Bytes.{Took-then, Took-none, Gained-then, Gained-none}
-use Rattle.av_replay.proofs.Times.{later_same, later_then}
+use Rattle.av_replay.proofs.Bytes.{Took-then, Took-none, Gained-then, Gained-none, rose_none, rose_then}
+use Rattle.av_replay.proofs.Times.{later_same, later_then, setting_same}
 
 -- ---- lists that grow at the end
 
@@ -60,21 +63,23 @@ pub record SoFar (n : ℕ) (past : Past) (ahead : List ℕ) (old now : Streams) 
   pub near : length ahead ≤ room
   pub lines : AllByRecursion IsLine past.lines
   pub commands : Transcribes past.lines past.transcript
-  pub legal : IsRun (setting n) (at_first (setting n)) past.transcript past.state
+  pub legal : IsRun (setting_of n old.device) (at_first (setting_of n old.device)) past.transcript past.state
+  pub faults : RoseBy (causes_of past.transcript) old.device.faults now.device.faults
   pub wrote : Gained old.sink.held now.sink.held (texts past.transcript)
   pub kernel_left : IsLeft kernel n (whole past)
   pub later : IsLater old now
 
-abbrev pub no_past : ℕ → Past
-no_past n = record { lines = []; transcript = []; state = at_first (setting n) }
+abbrev pub no_past : Setting → Past
+no_past m = record { lines = []; transcript = []; state = at_first m }
 
-pub starts : (ahead : List ℕ) (now : Streams) (kernel : Machine) → ahead ≡ [] → IsAtStart kernel → SoFar kernel.frames (no_past kernel.frames) ahead now now kernel
+pub starts : (ahead : List ℕ) (now : Streams) (kernel : Machine) → ahead ≡ [] → IsAtStart kernel now.device → SoFar kernel.frames (no_past (setting_of kernel.frames now.device)) ahead now now kernel
 starts ahead now kernel none start = record {
   read = Took-none now.source.left ∙ ap (in_front []) (Took-none now.source.left ∙ ap (λ (bytes : List ℕ). in_front bytes now.source.left) (sym none));
   near = omega (arith, ap length none);
   lines = tt;
   commands = refl;
   legal = refl;
+  faults = rose_none now.device.faults;
   wrote = Gained-none now.sink.held;
   kernel_left = record { stands = start.stands; frames = refl; steps = start.steps; tally = start.tally; unspent = start.unspent };
   later = later_same now;
@@ -87,7 +92,7 @@ longer past line did next = record { lines = past.lines ++ line ∷ []; transcri
 
 module _ (n : ℕ) (past : Past) (ahead : List ℕ) (old now new : Streams) (k k' : Machine) (line ending rest text written : List ℕ) (so_far : SoFar n past ahead old now k) (takes : TakesLine ahead now new k k' line ending rest text written) where
   -- the answers to the next line
-  abbrev pub next_answers : Answers line past.state k k' text
+  abbrev pub next_answers : Answers line now.device new.device past.state k k' text
   next_answers = takes.does.answers past.state so_far.kernel_left.stands
 
   -- what was read, with the line
@@ -100,8 +105,14 @@ module _ (n : ℕ) (past : Past) (ahead : List ℕ) (old now new : Streams) (k k
   pub later_more : IsLater old new
   later_more = later_then old now new so_far.later takes.later
 
-  pub legal_more : IsRun (setting n) (at_first (setting n)) (past.transcript ++ option_to_list next_answers.did) next_answers.next
-  legal_more = IsRun-append (setting n) (at_first (setting n)) past.state next_answers.next past.transcript (option_to_list next_answers.did) so_far.legal (subst (λ (m : ℕ). IsRun (setting m) past.state (option_to_list next_answers.did) next_answers.next) so_far.kernel_left.frames next_answers.run)
+  pub legal_more : IsRun (setting_of n old.device) (at_first (setting_of n old.device)) (past.transcript ++ option_to_list next_answers.did) next_answers.next
+  legal_more = IsRun-append (setting_of n old.device) (at_first (setting_of n old.device)) past.state next_answers.next past.transcript (option_to_list next_answers.did) so_far.legal
+      (subst (λ (m : Setting). IsRun m past.state (option_to_list next_answers.did) next_answers.next) (ap (λ k. setting_of k now.device) so_far.kernel_left.frames ∙ setting_same n old.device now.device so_far.later.device) next_answers.run)
+
+  -- what only faults explain, with those of the line
+  pub faults_more : RoseBy (causes_of (past.transcript ++ option_to_list next_answers.did)) old.device.faults new.device.faults
+  faults_more = subst (λ c. RoseBy c old.device.faults new.device.faults) (sym (sum_by-append (λ (e : Exchange). causes e.reply) past.transcript (option_to_list next_answers.did)))
+      (rose_then (causes_of past.transcript) (causes_of (option_to_list next_answers.did)) old.device.faults now.device.faults new.device.faults so_far.faults next_answers.faults)
 
   -- the kernel after the line
   pub kernel_more : (lines : List (List ℕ)) (last : Option (List ℕ)) → IsLeft k' n (record { lines = lines; last = last; transcript = past.transcript ++ option_to_list next_answers.did; state = next_answers.next })
@@ -129,6 +140,7 @@ goes_on n past ahead rest old now new k k' line text so_far takes =
       lines = all_push IsLine past.lines line so_far.lines takes.is_line;
       commands = Transcribes-push past.lines past.transcript line a.did so_far.commands a.commands;
       legal = legal_more n past ahead old now new k k' line (10 ∷ []) rest text text so_far takes;
+      faults = faults_more n past ahead old now new k k' line (10 ∷ []) rest text text so_far takes;
       wrote = subst (Gained old.sink.held new.sink.held) (texts_more n past ahead old now new k k' line (10 ∷ []) rest text text so_far takes) (wrote_more n past ahead old now new k k' line (10 ∷ []) rest text text so_far takes);
       kernel_left = kernel_more n past ahead old now new k k' line (10 ∷ []) rest text text so_far takes (past.lines ++ line ∷ []) None;
       later = later_more n past ahead old now new k k' line (10 ∷ []) rest text text so_far takes;

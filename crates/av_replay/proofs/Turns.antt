@@ -9,7 +9,7 @@ use Rattle.av_io.specs.Sink.{SinkView, Gained}
 use Rattle.av_replay.specs.declared.line.Line.{Line}
 use Rattle.av_replay.specs.declared.status.RunErr.{RunErr}
 use Rattle.av_replay.specs.declared.status.RunErr.TheVariants as errors
-use Rattle.av_replay.specs.Streams.{Streams, streams, undone, room, IsLater, ReadsOn, IsAtEnd, Writes}
+use Rattle.av_replay.specs.Streams.{Streams, undone, room, IsLater, ReadsOn, IsAtEnd, Writes}
 use Rattle.av_replay.specs.Line.{IsLine, HasLine, IsNext, StopsReading}
 use Rattle.av_replay.specs.Turn.{DoesLine, SaysNothing, IsCut, IsNotAnswered, StandsNext, IsBad, IsEnding, TakesLine, Waits, CutsShort, Halts, DoesNext}
 use Rattle.av_replay.proofs.Bytes.{in_front-then, Rose-earlier}
@@ -47,19 +47,19 @@ ends_last line ahead now is_line size some whole end =
 
 module _ (ahead mid : List ℕ) (old now : Streams) (k k' : Machine) (line : Line) (sink : SinkView) (reads : ReadsOn ahead mid old now) where
   -- the line is done, and this was written
-  pub takes : (ending text written : List ℕ) → EndsBy line mid ending now → DoesLine (take line.size mid) k k' text → Writes now.sink sink written
-      → TakesLine ahead old (streams now.source sink) k k' (take line.size mid) ending (drop line.whole mid) text written
+  pub takes : (ending text written : List ℕ) → EndsBy line mid ending now → DoesLine (take line.size mid) now.device now.device k k' text → Writes now.sink sink written
+      → TakesLine ahead old (record now { sink = sink }) k k' (take line.size mid) ending (drop line.whole mid) text written
   takes ending text written by does writes = record {
     is_line = by.is_line;
     took = sym reads.same ∙ ap (λ (l : List ℕ). in_front l now.source.left) by.parts ∙ in_front-then (take line.size mid ++ ending) (drop line.whole mid) now.source.left;
     ends = by.ends;
     near = omega (arith, length-drop line.whole mid, reads.near);
-    does = does;
+    does = subst (λ d. DoesLine (take line.size mid) d now.device k k' text) reads.device does;
     gained = writes.gained ∙ ap (λ (h : Option (List ℕ)). option_map (λ (t : List ℕ). t ++ written) h) reads.held;
     later = later_writes old now sink written reads.later writes;
   }
 
-  cuts : (ending : List ℕ) → EndsBy line mid ending now → IsCut (take line.size mid) k k' now.sink sink → CutsShort ahead old (streams now.source sink) k k'
+  cuts : (ending : List ℕ) → EndsBy line mid ending now → IsCut (take line.size mid) now.device now.device k k' now.sink sink → CutsShort ahead old (record now { sink = sink }) k k'
   cuts ending by cut = record {
     line = take line.size mid;
     ending = ending;
@@ -70,10 +70,10 @@ module _ (ahead mid : List ℕ) (old now : Streams) (k k' : Machine) (line : Lin
     takes = takes ending cut.text (take cut.size cut.text) by cut.does cut.writes;
   }
 
-  same_sink : sink ≡ now.sink → ReadsOn ahead mid old (streams now.source sink)
-  same_sink e = subst (λ (s : SinkView). ReadsOn ahead mid old (streams now.source s)) (sym e) reads
+  same_sink : sink ≡ now.sink → ReadsOn ahead mid old (record now { sink = sink })
+  same_sink e = subst (λ (s : SinkView). ReadsOn ahead mid old (record now { sink = s })) (sym e) reads
 
-  halts_by : (ending : List ℕ) (error : RunErr) → EndsBy line mid ending now → IsNotAnswered error (take line.size mid) k k' now.sink sink → Halts error ahead mid old (streams now.source sink) k k'
+  halts_by : (ending : List ℕ) (error : RunErr) → EndsBy line mid ending now → IsNotAnswered error (take line.size mid) now.device now.device k k' now.sink sink → Halts error ahead mid old (record now { sink = sink }) k k'
   halts_by ending errors.BadLine by not = (record { reads = same_sink not.2; kernel = not.1 }, inr (take line.size mid, by.is_line, not.0, by.next))
   halts_by ending errors.Memory by (inl same) = inl (same_sink same)
   halts_by ending errors.Memory by (inr cut) = inr (cuts ending by cut)
@@ -81,15 +81,15 @@ module _ (ahead mid : List ℕ) (old now : Streams) (k k' : Machine) (line : Lin
   halts_by ending errors.Read by not = absurd not
 
   -- a line stood in front, and was not done, or its text not written
-  pub halts : (error : RunErr) → IsNext line mid now.source → IsNotAnswered error (take line.size mid) k k' now.sink sink → Halts error ahead mid old (streams now.source sink) k k'
+  pub halts : (error : RunErr) → IsNext line mid now.source → IsNotAnswered error (take line.size mid) now.device now.device k k' now.sink sink → Halts error ahead mid old (record now { sink = sink }) k k'
   halts error (inl next) not = halts_by (10 ∷ []) error (ends_line line mid now next.0 next.1) not
   halts error (inr next) not = halts_by [] error (ends_last line mid now next.0 next.1 next.2 next.3 next.4) not
 
   -- it was done, and its text written
-  pub does_line : (text : List ℕ) → HasLine line.size mid → line.whole ≡ line.size + 1 → DoesLine (take line.size mid) k k' text → Writes now.sink sink text → DoesNext ahead (drop line.whole mid) old (streams now.source sink) k k' (10 ∷ [])
+  pub does_line : (text : List ℕ) → HasLine line.size mid → line.whole ≡ line.size + 1 → DoesLine (take line.size mid) now.device now.device k k' text → Writes now.sink sink text → DoesNext ahead (drop line.whole mid) old (record now { sink = sink }) k k' (10 ∷ [])
   does_line text has whole does writes = record { line = take line.size mid; text = text; takes = takes (10 ∷ []) text text (ends_line line mid now has whole) does writes }
 
-  pub does_last : (text : List ℕ) → IsLine mid → line.size ≡ length mid → 0 < line.size → line.whole ≡ line.size → IsAtEnd now.source → DoesLine (take line.size mid) k k' text → Writes now.sink sink text → DoesNext ahead (drop line.whole mid) old (streams now.source sink) k k' []
+  pub does_last : (text : List ℕ) → IsLine mid → line.size ≡ length mid → 0 < line.size → line.whole ≡ line.size → IsAtEnd now.source → DoesLine (take line.size mid) now.device now.device k k' text → Writes now.sink sink text → DoesNext ahead (drop line.whole mid) old (record now { sink = sink }) k k' []
   does_last text is_line size some whole end does writes = record { line = take line.size mid; text = text; takes = takes [] text text (ends_last line mid now is_line size some whole end) does writes }
 
 -- no line could be read

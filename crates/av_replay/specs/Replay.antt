@@ -3,12 +3,12 @@ use Rattle.std.specs.Prelude.{◌≡◌, ◌≢◌, ℕ, ◌+◌, ◌^◌, ◌<�
 use Rattle.std.specs.List.{flat_map, AllByRecursion}
 use Rattle.std.specs.Option.{option_to_list}
 use Rattle.av_trace.specs.Print.{text_of}
-use Rattle.av_plain.specs.Transcript.{Exchange, State, IsRun, at_first}
+use Rattle.av_plain.specs.Transcript.{Exchange, State, IsRun, at_first, causes_of}
 use Rattle.av_kernel.specs.Machine.{Machine}
 use Rattle.av_kernel.specs.Kernel.{Stands}
 use Rattle.av_kernel.specs.Tally.{none_counted}
-use Rattle.av_reclaim.specs.Mem.{setting}
-use Rattle.av_io.specs.Count.{Rose}
+use Rattle.av_plain.specs.Device.{Device, setting_of}
+use Rattle.av_io.specs.Count.{Rose, RoseBy}
 use Rattle.av_io.specs.Source.{Took}
 use Rattle.av_io.specs.Sink.{Gained}
 use Rattle.av_replay.specs.declared.status.Status.{Status}
@@ -36,7 +36,8 @@ Transcribes (line ∷ lines) es =
     (did : Option Exchange) × (others : List Exchange) × (es ≡ option_to_list did ++ others)
     × Commands line did × Transcribes lines others
 
--- the lines that were done, a last one that had no newline, their transcript, and the state that it leaves
+-- the lines that were done, a last one that had no newline, their transcript, and the state that it
+-- leaves
 pub record Run : Type 0 where
   pub lines : List (List ℕ)
   pub last : Option (List ℕ)
@@ -48,16 +49,22 @@ abbrev pub done_lines : Run → List (List ℕ)
 done_lines run = run.lines ++ option_to_list run.last
 
 -- The lines are what was read, up to these further bytes, which are no more than one read gives. Their
--- transcript is legal, each frame chosen exactly, from the empty state on. What was written is this. A last
--- line without newline stands at the end of the input.
-pub record Replays (frames : ℕ) (old new : Streams) (run : Run) (rest written : List ℕ) : Type 0 where
-  pub read : Took old.source.left new.source.left (joined run.lines ++ (unwrap_or run.last [] ++ rest))
+-- transcript is legal, each frame and slot chosen exactly and the areas by the rules, from the empty
+-- state on. What was written is this. A last line without newline stands at the end of the input. What
+-- only faults of the device explain is within what it failed.
+pub record Replays (frames : ℕ) (old new : Streams) (run : Run) (rest written : List ℕ)
+    : Type 0 where
+  pub read : Took old.source.left new.source.left
+      (joined run.lines ++ (unwrap_or run.last [] ++ rest))
   pub near : length rest ≤ room
   pub lines : AllByRecursion IsLine run.lines
   pub few : length (done_lines run) ≤ most_lines
-  pub last : IfSome run.last (λ line. IsLine line × (0 < length line) × (rest ≡ []) × IsAtEnd new.source)
+  pub last : IfSome run.last
+      (λ line. IsLine line × (0 < length line) × (rest ≡ []) × IsAtEnd new.source)
   pub commands : Transcribes (done_lines run) run.transcript
-  pub legal : IsRun (setting frames) (at_first (setting frames)) run.transcript run.state
+  pub legal : let m = setting_of frames old.device in
+      IsRun m (at_first m) run.transcript run.state
+  pub faults : RoseBy (causes_of run.transcript) old.device.faults new.device.faults
   pub wrote : Gained old.sink.held new.sink.held written
   pub later : IsLater old new
 
@@ -71,9 +78,9 @@ pub record IsLeft (kernel : Machine) (n : ℕ) (run : Run) : Type 0 where
   pub tally : kernel.tally ≡ tally_of run.transcript none_counted
   pub unspent : kernel.spent ≡ false
 
--- no command was done yet, and no process lives
-pub record IsAtStart (kernel : Machine) : Type 0 where
-  pub stands : Stands kernel (at_first (setting kernel.frames))
+-- no command was done yet over this device, and no process lives
+pub record IsAtStart (kernel : Machine) (device : Device) : Type 0 where
+  pub stands : Stands kernel (at_first (setting_of kernel.frames device))
   pub steps : kernel.steps ≡ 0
   pub tally : kernel.tally ≡ none_counted
   pub unspent : kernel.spent ≡ false
@@ -91,8 +98,8 @@ status_at errors.Memory number = statuses.Memory
 abbrev pub MayGoOn : Run → List ℕ → Type 0
 MayGoOn run rest = 0 < length rest → length run.lines < most_lines
 
--- The place at which a run of this status stops: at the end of the input, before line n, within a line,
--- or after the last line that is done, with a byte of one more.
+-- The place at which a run of this status stops: at the end of the input, before line n, within a
+-- line, or after the last line that is done, with a byte of one more.
 abbrev pub StopsAt : Status → Streams → Run → List ℕ → Type 0
 StopsAt statuses.Done new run rest = (rest ≡ []) × IsAtEnd new.source
 StopsAt (statuses.BadLine n) new run rest =
@@ -117,16 +124,17 @@ pub record IsCutOff (run : Run) (written : List ℕ) : Type 0 where
   pub short : size < length (text_of last.reply)
   pub is : written ≡ texts others ++ take size (text_of last.reply)
 
--- The sink took every text, but it doesn't tell what it holds, and could not hand on what it kept back.
--- That was found where another status would have ended the run, or where the run would have read on
--- within a line.
+-- The sink took every text, but it doesn't tell what it holds, and could not hand on what it kept
+-- back. That was found where another status would have ended the run, or where the run would have
+-- read on within a line.
 pub record IsKeptBack (new : Streams) (run : Run) (rest written : List ℕ) : Type 0 where
   pub untold : new.sink.held ≡ None
   pub whole : written ≡ texts run.transcript
   pub status : Status
   pub stops : StopsAt status new run rest
 
--- how each status ends: what was read beyond the lines done, what was written, and which fault was counted
+-- how each status ends: what was read beyond the lines done, what was written, and which fault was
+-- counted
 abbrev pub Ends : Status → Streams → Streams → Run → List ℕ → List ℕ → Type 0
 Ends statuses.Done old new run rest written =
     StopsAt statuses.Done new run rest × (written ≡ texts run.transcript)
@@ -138,12 +146,15 @@ Ends statuses.ReadFault old new run rest written =
 Ends statuses.TooMany old new run rest written =
     StopsAt statuses.TooMany new run rest × (written ≡ texts run.transcript)
 Ends statuses.WriteFault old new run rest written =
-    (IsCutOff run written ⊎ IsKeptBack new run rest written) × Rose old.sink.faults new.sink.faults
-Ends statuses.Memory old new run rest written = (n : ℕ) × (written ≡ take n (texts run.transcript))
+    (IsCutOff run written ⊎ IsKeptBack new run rest written)
+    × Rose old.sink.faults new.sink.faults
+Ends statuses.Memory old new run rest written =
+    (n : ℕ) × (written ≡ take n (texts run.transcript))
 Ends statuses.Usage old new run rest written = ⊥
 
 -- The headline, for a status at which the trace was begun.
-pub record Headline (frames : ℕ) (status : Status) (old new : Streams) (kernel : Option Machine) : Type 0 where
+pub record Headline (frames : ℕ) (status : Status) (old new : Streams) (kernel : Option Machine)
+    : Type 0 where
   pub run : Run
   pub rest : List ℕ
   pub written : List ℕ

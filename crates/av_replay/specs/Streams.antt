@@ -1,15 +1,18 @@
--- A source and a sink, side by side.
+-- A source, a sink and a device, side by side.
 use Rattle.std.specs.Prelude.{◌≡◌, ℕ, ◌≤◌, List, length, Option, true}
 use Rattle.av_io.specs.Source.{SourceView, in_front, HasEnded}
 use Rattle.av_io.specs.Sink.{SinkView, Gained}
+use Rattle.av_plain.specs.Device.{Device, IsSameDevice, no_device}
 
--- what is told of a source and a sink at one time
+-- what is told of a source, a sink and a device at one time
 pub record Streams : Type 0 where
   pub source : SourceView
   pub sink : SinkView
+  pub device : Device
 
+-- those of a run without a device
 abbrev pub streams : SourceView → SinkView → Streams
-streams source sink = record { source = source; sink = sink }
+streams source sink = record { source = source; sink = sink; device = no_device }
 
 -- so many bytes are read at once, at most, and no more are ever kept of what was read
 abbrev pub room : ℕ
@@ -19,16 +22,19 @@ room = 65536
 abbrev pub undone : List ℕ → Streams → Option (List ℕ)
 undone ahead io = in_front ahead io.source.left
 
--- from one time to a later one: counts of faults never fall, and each read came after a flush
+-- from one time to a later one: counts of faults never fall, the device is the same, and where there
+-- was a flush for each read there still is
 pub record IsLater (old new : Streams) : Type 0 where
   pub source : old.source.faults ≤ new.source.faults
   pub sink : old.sink.faults ≤ new.sink.faults
+  pub device : IsSameDevice old.device new.device
   pub flushed : old.source.reads ≤ old.sink.flushes → new.source.reads ≤ new.sink.flushes
 
 -- nothing was done of what was read, though more may have been read
 pub record ReadsOn (ahead ahead' : List ℕ) (old new : Streams) : Type 0 where
   pub same : undone ahead' new ≡ undone ahead old
   pub held : new.sink.held ≡ old.sink.held
+  pub device : new.device ≡ old.device
   pub near : length ahead' ≤ room
   pub later : IsLater old new
 

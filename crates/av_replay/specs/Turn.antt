@@ -5,13 +5,13 @@ use Rattle.std.specs.Option.{option_to_list}
 use Rattle.av_trace.specs.declared.command.Command.{Command}
 use Rattle.av_trace.specs.Line.{Says}
 use Rattle.av_trace.specs.Print.{text_of}
-use Rattle.av_plain.specs.Transcript.{Exchange, State, IsRun}
+use Rattle.av_plain.specs.Transcript.{Exchange, State, IsRun, causes_of}
 use Rattle.av_kernel.specs.Machine.{Machine}
 use Rattle.av_kernel.specs.Kernel.{Stands}
 use Rattle.av_kernel.specs.Tally.{counted}
 use Rattle.av_kernel.specs.declared.tally.Tally.{Tally}
-use Rattle.av_reclaim.specs.Mem.{setting}
-use Rattle.av_io.specs.Count.{Rose}
+use Rattle.av_plain.specs.Device.{Device, setting_of}
+use Rattle.av_io.specs.Count.{Rose, RoseBy}
 use Rattle.av_io.specs.Source.{SourceView, in_front, Took, HasEnded}
 use Rattle.av_io.specs.Sink.{SinkView, Gained}
 use Rattle.av_replay.specs.declared.status.RunErr.{RunErr}
@@ -45,19 +45,22 @@ pub record Counted (old new : Machine) (es : List Exchange) : Type 0 where
   pub frames : new.frames ≡ old.frames
   pub spent : old.spent ≡ false → new.spent ≡ false
 
--- what a line does in a state
-pub record Answers (line : List ℕ) (s : State) (old new : Machine) (text : List ℕ) : Type 0 where
+-- what a line does in a state, over a device
+pub record Answers (line : List ℕ) (device device' : Device) (s : State) (old new : Machine)
+    (text : List ℕ) : Type 0 where
   pub did : Option Exchange
   pub next : State
   pub commands : Commands line did
-  pub run : IsRun (setting old.frames) s (option_to_list did) next
+  pub run : IsRun (setting_of old.frames device) s (option_to_list did) next
   pub said : text ≡ texts (option_to_list did)
   pub stands : Stands new next
   pub counts : Counted old new (option_to_list did)
+  pub faults : RoseBy (causes_of (option_to_list did)) device.faults device'.faults
 
 -- the kernel does a line, and this is the text of the reply
-pub record DoesLine (line : List ℕ) (old new : Machine) (text : List ℕ) : Type 0 where
-  pub answers : (s : State) → Stands old s → Answers line s old new text
+pub record DoesLine (line : List ℕ) (device device' : Device) (old new : Machine) (text : List ℕ)
+    : Type 0 where
+  pub answers : (s : State) → Stands old s → Answers line device device' s old new text
   pub steps : new.steps ≤ old.steps + 1
 
 -- why a line is not done
@@ -68,46 +71,54 @@ IsNotDone errors.Read line old new = ⊥
 IsNotDone errors.Write line old new = ⊥
 
 -- a line was done, and its text cut short
-pub record IsCut (line : List ℕ) (old new : Machine) (sink sink' : SinkView) : Type 0 where
+pub record IsCut (line : List ℕ) (device device' : Device) (old new : Machine) (sink sink' : SinkView)
+    : Type 0 where
   pub text : List ℕ
   pub size : ℕ
   pub short : size < length text
-  pub does : DoesLine line old new text
+  pub does : DoesLine line device device' old new text
   pub writes : Writes sink sink' (take size text)
 
 -- why a line is not done, or its text not written
-abbrev pub IsNotAnswered : RunErr → List ℕ → Machine → Machine → SinkView → SinkView → Type 0
-IsNotAnswered errors.BadLine line old new sink sink' = SaysNothing line × (new ≡ old) × (sink' ≡ sink)
-IsNotAnswered errors.Memory line old new sink sink' = (sink' ≡ sink) ⊎ IsCut line old new sink sink'
-IsNotAnswered errors.Write line old new sink sink' =
-    IsCut line old new sink sink' × Rose sink.faults sink'.faults
-IsNotAnswered errors.Read line old new sink sink' = ⊥
+abbrev pub IsNotAnswered : RunErr → List ℕ → Device → Device → Machine → Machine
+    → SinkView → SinkView → Type 0
+IsNotAnswered errors.BadLine line device device' old new sink sink' =
+    SaysNothing line × (new ≡ old) × (sink' ≡ sink)
+IsNotAnswered errors.Memory line device device' old new sink sink' =
+    (sink' ≡ sink) ⊎ IsCut line device device' old new sink sink'
+IsNotAnswered errors.Write line device device' old new sink sink' =
+    IsCut line device device' old new sink sink' × Rose sink.faults sink'.faults
+IsNotAnswered errors.Read line device device' old new sink sink' = ⊥
 
 -- ---- a turn
 
 -- the line in front of what was read, which ends at its newline or with the input
 abbrev pub StandsNext : List ℕ → List ℕ → Option (List ℕ) → Type 0
 StandsNext line bytes left =
-    ((more : List ℕ) × (bytes ≡ line ++ 10 ∷ more)) ⊎ ((bytes ≡ line) × (0 < length line) × HasEnded left)
+    ((more : List ℕ) × (bytes ≡ line ++ 10 ∷ more))
+    ⊎ ((bytes ≡ line) × (0 < length line) × HasEnded left)
 
 -- the next line is not to be done: it is outside the grammar, or too long
 abbrev pub IsBad : List ℕ → Option (List ℕ) → Type 0
 IsBad bytes left =
-    IsTooLong bytes ⊎ ((line : List ℕ) × IsLine line × SaysNothing line × StandsNext line bytes left)
+    IsTooLong bytes
+    ⊎ ((line : List ℕ) × IsLine line × SaysNothing line × StandsNext line bytes left)
 
 -- how a line that was taken ended: at its newline, or with the input
 abbrev pub IsEnding : List ℕ → List ℕ → List ℕ → SourceView → Type 0
 IsEnding line ending rest source =
-    (ending ≡ 10 ∷ []) ⊎ ((ending ≡ []) × (rest ≡ []) × (0 < length line) × IsAtEnd source)
+    (ending ≡ 10 ∷ [])
+    ⊎ ((ending ≡ []) × (rest ≡ []) × (0 < length line) × IsAtEnd source)
 
 -- a line was taken and done, this was written, and these bytes were read beyond it
 pub record TakesLine
-    (ahead : List ℕ) (old new : Streams) (k k' : Machine) (line ending rest text written : List ℕ) : Type 0 where
+    (ahead : List ℕ) (old new : Streams) (k k' : Machine) (line ending rest text written : List ℕ)
+    : Type 0 where
   pub is_line : IsLine line
   pub took : Took (undone ahead old) (undone rest new) (line ++ ending)
   pub ends : IsEnding line ending rest new.source
   pub near : length rest ≤ room
-  pub does : DoesLine line k k' text
+  pub does : DoesLine line old.device new.device k k' text
   pub gained : Gained old.sink.held new.sink.held written
   pub later : IsLater old new
 
@@ -127,13 +138,15 @@ pub record CutsShort (ahead : List ℕ) (old new : Streams) (k k' : Machine) : T
   pub takes : TakesLine ahead old new k k' line ending rest text (take size text)
 
 -- the sink could not hand on what it kept back, before more of a line was read
-pub record IsUnflushed (ahead ahead' : List ℕ) (old new : Streams) (k k' : Machine) : Type 0 where
+pub record IsUnflushed (ahead ahead' : List ℕ) (old new : Streams) (k k' : Machine)
+    : Type 0 where
   pub waits : Waits ahead ahead' old new k k'
   pub part : IsLine ahead'
   pub untold : new.sink.held ≡ None
 
 -- why a turn did not end well
-abbrev pub Halts : RunErr → List ℕ → List ℕ → Streams → Streams → Machine → Machine → Type 0
+abbrev pub Halts :
+    RunErr → List ℕ → List ℕ → Streams → Streams → Machine → Machine → Type 0
 Halts errors.BadLine ahead ahead' old new k k' =
     Waits ahead ahead' old new k k' × IsBad ahead' new.source.left
 Halts errors.Read ahead ahead' old new k k' =
@@ -145,7 +158,8 @@ Halts errors.Memory ahead ahead' old new k k' =
     ReadsOn ahead ahead' old new ⊎ CutsShort ahead old new k k'
 
 -- a line was done, with its newline or as the last one
-pub record DoesNext (ahead ahead' : List ℕ) (old new : Streams) (k k' : Machine) (ending : List ℕ) : Type 0 where
+pub record DoesNext (ahead ahead' : List ℕ) (old new : Streams) (k k' : Machine)
+    (ending : List ℕ) : Type 0 where
   pub line : List ℕ
   pub text : List ℕ
   pub takes : TakesLine ahead old new k k' line ending ahead' text text
@@ -168,7 +182,8 @@ Turned (Err error) ahead ahead' old new k k' = Halts error ahead ahead' old new 
 abbrev pub Finished : Result Bool RunErr → List ℕ → Streams → Streams → Type 0
 Finished (Ok true) ahead' old new = 0 < length ahead'
 Finished (Ok false) ahead' old new = (ahead' ≡ []) × IsAtEnd new.source
-Finished (Err errors.Read) ahead' old new = (ahead' ≡ []) × Rose old.source.faults new.source.faults
+Finished (Err errors.Read) ahead' old new =
+    (ahead' ≡ []) × Rose old.source.faults new.source.faults
 Finished (Err errors.Write) ahead' old new =
     (ahead' ≡ []) × (new.sink.held ≡ None) × Rose old.sink.faults new.sink.faults
 Finished (Err errors.BadLine) ahead' old new = ⊥

@@ -1,6 +1,7 @@
 //! The loop over the lines.
 
 ghost use Rattle.std.specs.Prelude.{◌≡◌, ◌≢◌, [], Some};
+ghost use Rattle.av_plain.specs.Device.{no_device};
 ghost use Rattle.av_replay.specs.Streams.{streams, ReadsOn};
 ghost use Rattle.av_replay.specs.Turn.{Finished};
 ghost use Rattle.av_replay.specs.Replay.{Headline, IsAtStart, status_at};
@@ -55,7 +56,7 @@ fn do_lines<S: Source, K: Sink>(
     sink: &mut K,
     pending: &mut Pending,
 ) -> Status
-    requires start { IsAtStart kernel.old }
+    requires start { IsAtStart kernel.old no_device }
     requires pending { pending.old ≡ [] }
     ensures { Headline kernel.old.frames result (streams (S.view source.old) (K.view sink.old))
         (streams (S.view source.new) (K.view sink.new)) (Some kernel.new) }
@@ -84,7 +85,7 @@ pub fn replay<S: Source, K: Sink>(
     source: &mut S,
     sink: &mut K,
 ) -> Status
-    requires { IsAtStart kernel.old }
+    requires { IsAtStart kernel.old no_device }
     ensures headline { Headline kernel.old.frames result (streams (S.view source.old) (K.view sink.old))
         (streams (S.view source.new) (K.view sink.new)) (Some kernel.new) }
     ensures handed_on { result ≢ Status.Memory → result ≢ Status.WriteFault

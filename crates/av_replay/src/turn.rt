@@ -1,6 +1,7 @@
 //! One turn of the loop over the lines: a line is read and done, and its text written.
 
 ghost use Rattle.std.specs.Prelude.{◌<◌, ◌^◌, OnOk, IfErr};
+ghost use Rattle.av_plain.specs.Device.{no_device};
 ghost use Rattle.av_replay.specs.Streams.{streams, Writes};
 ghost use Rattle.av_replay.specs.Turn.{DoesLine, IsNotDone, IsNotAnswered, Turned};
 
@@ -21,7 +22,8 @@ pub fn do_line(
     text: &mut Bytes,
 ) -> Result<(), RunErr>
     requires { kernel.old.steps < 2 ^ 24 }
-    ensures ok { OnOk result (DoesLine line.now kernel.old kernel.new text.new) }
+    ensures ok { OnOk result (DoesLine line.now no_device no_device kernel.old kernel.new
+        text.new) }
     ensures err { IfErr result (λ e. IsNotDone e line.now kernel.old kernel.new) }
 {
     text.clear();
@@ -47,10 +49,11 @@ pub fn answer_line<K: Sink>(
     text: &mut Bytes,
 ) -> Result<(), RunErr>
     requires { kernel.old.steps < 2 ^ 24 }
-    ensures does { OnOk result (DoesLine line.now kernel.old kernel.new text.new) }
+    ensures does { OnOk result (DoesLine line.now no_device no_device kernel.old kernel.new
+        text.new) }
     ensures writes { OnOk result (Writes (K.view sink.old) (K.view sink.new) text.new) }
-    ensures err { IfErr result (λ e. IsNotAnswered e line.now kernel.old kernel.new
-        (K.view sink.old) (K.view sink.new)) }
+    ensures err { IfErr result (λ e. IsNotAnswered e line.now no_device no_device
+        kernel.old kernel.new (K.view sink.old) (K.view sink.new)) }
 {
     do_line(alloc, kernel, line, text)?;
     match write_all(sink, text.as_slice()) {

@@ -1,4 +1,5 @@
 use Rattle.std.proofs.Common.{◌+◌, ◌∷◌, [], ◌∙◌, ap, length-append, refl, arith}
+use Rattle.av_plain.specs.Device.{no_device, setting_of}
 use Rattle.av_replay.specs.Streams.{streams}
 use Rattle.av_replay.proofs.Runs.{no_past, starts, longer, next_answers, goes_on}
 use Rattle.av_replay.proofs.Endings.{done, halts, too_many, ends_there, unfinished}
@@ -6,7 +7,7 @@ use Rattle.av_replay.proofs.replay.do_lines.Goals as goal
 
 pub loop-number-init : goal.loop-number-init
 loop-number-init g c = record {
-  so_far = (no_past c.args.kernel.now.frames, starts c.args.pending.now (streams (g.S.Source.view c.args.source.now) (g.K.Sink.view c.args.sink.now)) c.args.kernel.now c.requires.pending c.requires.start, refl);
+  so_far = (no_past (setting_of c.args.kernel.now.frames no_device), starts c.args.pending.now (streams (g.S.Source.view c.args.source.now) (g.K.Sink.view c.args.sink.now)) c.args.kernel.now c.requires.pending c.requires.start, refl);
   steps = omega (arith, c.requires.start.steps);
 }
 

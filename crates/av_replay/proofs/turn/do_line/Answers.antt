@@ -15,6 +15,7 @@ returns-clause-ok c =
             run = (steps.next, steps.step, refl);
             said = rw (append-nil, c.in_ok-reply_text.ensures, c.clear.ensures) refl;
             stands = steps.stands;
+            faults = let within = steps.faults in omega (arith, within);
             counts = record { steps = counted.steps; tally = counted.tally; frames = counted.frames; spent = λ _. counted.spent };
           };
       steps = omega (arith, counted.steps);
