@@ -1,7 +1,9 @@
-//! The words that every layer shares: pages and limits, protections, slots, and words on numbers and lists.
+//! The words that every layer shares: pages and limits, protections, slots, and words on numbers
+//! and lists.
 //!
-//! Nothing here does anything but `Prot`'s two tests, which are proved. The words of contracts stand in `specs`:
-//! `Words` (ranges, lists, counts, a function changed at one place), `Page` (addresses and pages) and `Limits`.
+//! Nothing here does anything but `Prot`'s two tests, which are proved. The words of contracts
+//! stand in `specs`: `Words` (ranges, lists, counts, a function changed at one place), `Page`
+//! (addresses and pages) and `Limits`.
 #![tactic(auto)]
 
 mod limits;

@@ -9,7 +9,8 @@ pub struct Prot {
 }
 
 impl Prot {
-    /// Whether the page may be read: any protection but none at all, as on x86 without protection keys.
+    /// Whether the page may be read: any protection but none at all, as on x86 without protection
+    /// keys.
     pub fn readable(self) -> bool
         ensures { result ≡ (self.read || self.write || self.execute) }
     {

@@ -2,8 +2,8 @@
 use Rattle.std.specs.Prelude.{◌≡◌, ℕ, ◌<◌, ◌≤◌, ◌==◌, Bool, List, [], ◌++◌, length, take, Option, option_map, IfSome}
 use Rattle.av_io.specs.Count.{one_more, Rose}
 
--- what is left, where it is told; whether the source has told its end: of its reads that had room and
--- did not fail, the last gave nothing; how often it was read, and how often that failed
+-- what is left, where it is told; whether the source has told its end: of its reads that had room
+-- and did not fail, the last gave nothing; how often it was read, and how often that failed
 pub record SourceView : Type 0 where
   pub left : Option (List ℕ)
   pub has_told_end : Bool
@@ -22,7 +22,8 @@ Took before now bytes = before ≡ in_front bytes now
 abbrev pub HasEnded : Option (List ℕ) → Type 0
 HasEnded left = IfSome left (λ rest. rest ≡ [])
 
--- a read took n bytes, which stand in front of the buffer. None is the end of the input, where there is room.
+-- a read took n bytes, which stand in front of the buffer. None is the end of the input, where
+-- there is room.
 pub record Gives (old new : SourceView) (n : ℕ) (into : List ℕ) : Type 0 where
   pub within : n ≤ length into
   pub bytes : Took old.left new.left (take n into)

@@ -2,7 +2,8 @@
 
 ghost use Rattle.std.specs.Prelude.{◌≡◌, []};
 
-/// A call failed: a source gave nothing, a sink could not hand on what it kept back, a device did not read or write.
+/// A call failed: a source gave nothing, a sink could not hand on what it kept back, a device did
+/// not read or write.
 #[derive(Clone, Copy, Drop, Debug, PartialEq, Eq)]
 pub struct Failed;
 

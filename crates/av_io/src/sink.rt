@@ -78,7 +78,8 @@ impl Sink for MemSink {
       faults = s.faults.count;
     } };
 
-    /// Beside what the trait says: exactly the calls that are listed fail, and any other takes the whole piece, or is want of memory.
+    /// Beside what the trait says: exactly the calls that are listed fail, and any other takes the
+    /// whole piece, or is want of memory.
     fn write(&mut self, piece: &[u8]) -> Result<usize, SinkErr>
         ensures ok { IfOk result (λ n. Takes (⟦<MemSink as Sink>⟧.view self.old)
             (⟦<MemSink as Sink>⟧.view self.new) n piece.now) }
@@ -102,7 +103,8 @@ impl Sink for MemSink {
     }
 }
 
-/// A sink over a writer. It keeps bytes back until there are many, or until it is flushed. What passes through it is not told.
+/// A sink over a writer. It keeps bytes back until there are many, or until it is flushed. What
+/// passes through it is not told.
 #[derive(Drop)]
 pub struct WriteSink<W: Write + Drop> {
     writer: BufWriter<W>,

@@ -8,10 +8,12 @@ use std::io::Read;
 
 /// A source of bytes.
 pub trait Source {
-    /// What is told of it: what is left, whether it has told its end, and how often it was read and failed.
+    /// What is told of it: what is left, whether it has told its end, and how often it was read and
+    /// failed.
     ghost view: { Self → SourceView };
 
-    /// Puts the next bytes into the front of `into`, and says how many. 0 is the end of the input, where `into` has room.
+    /// Puts the next bytes into the front of `into`, and says how many. 0 is the end of the input,
+    /// where `into` has room.
     fn read(&mut self, into: &mut [u8]) -> Result<usize, Failed>
         ensures ok { IfOk result (λ n. Gives (view self.old) (view self.new) n into.new) }
         ensures err { OnErr result (GivesNothing (view self.old) (view self.new)) };
@@ -59,7 +61,8 @@ impl Source for MemSource {
       faults = s.faults.count;
     } };
 
-    /// Beside what the trait says: exactly the calls that are listed fail, and any other gives as much as there is room for.
+    /// Beside what the trait says: exactly the calls that are listed fail, and any other gives as
+    /// much as there is room for.
     fn read(&mut self, into: &mut [u8]) -> Result<usize, Failed>
         ensures ok { IfOk result (λ n. Gives (⟦<MemSource as Source>⟧.view self.old)
             (⟦<MemSource as Source>⟧.view self.new) n into.new) }
@@ -82,7 +85,8 @@ impl Source for MemSource {
     }
 }
 
-/// A source over a reader, each of whose reads is one of the reader. What passes through it is not told.
+/// A source over a reader, each of whose reads is one of the reader. What passes through it is not
+/// told.
 #[derive(Drop)]
 pub struct ReadSource<R: Read + Drop> {
     reader: R,

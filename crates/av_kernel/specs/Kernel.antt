@@ -14,8 +14,8 @@ use Rattle.av_kernel.specs.Tally.{counted, none_counted}
 abbrev pub Stands : Machine → State → Type 0
 Stands k s = Keeps k.mem s
 
--- a command's reply is a step, and the kernel stands for what it leaves; what only faults of the device
--- explain is within what it failed
+-- a command's reply is a step, and the kernel stands for what it leaves; what only faults of the
+-- device explain is within what it failed
 pub record Steps (old new : Machine) (device device' : Device) (s : State) (command : Command)
     (reply : Reply) : Type 0 where
   pub next : State

@@ -1,5 +1,5 @@
--- The areas of each process, beside the memories, and what a command makes of them. They follow from
--- commands and answers, and are not part of what makes a reply legal.
+-- The areas of each process, beside the memories, and what a command makes of them. They follow
+-- from commands and answers, and are not part of what makes a reply legal.
 use Rattle.std.specs.Prelude.{ℕ, ◌+◌, if◌then◌else◌, Some, None}
 use Rattle.av_base.specs.Page.{page_of, pages_of}
 use Rattle.av_base.specs.Words.{with_at}
@@ -44,8 +44,8 @@ abbrev pub next_areas : Areas → World → Command → Answer → Areas
 next_areas on w (Spawn p) Done = with_at p none_on on
 next_areas on w (Exit p) Done = with_at p none_on on
 next_areas on w (Mmap p len prot place) (MapAt a) =
-    with_at p
-    (mapped p (page_of a) (page_of a + pages_of len) prot (with_room (pages_of len) place (on p))) on
+    let room = with_room (pages_of len) place (on p) in
+    with_at p (mapped p (page_of a) (page_of a + pages_of len) prot room) on
 next_areas on w (Munmap p a len) Done =
     with_at p (unmapped (page_of a) (page_of a + pages_of len) (on p)) on
 next_areas on w (Mprotect p a len prot) Done =

@@ -73,8 +73,8 @@ IsGiven m closing l s slots slots' =
     × IsSomeAnd (take_slot (slots s.area))
     (λ t. (t.0 ≡ s.page) × (slots' ≡ with_at s.area t.1 slots))
 
--- clusters from which nothing is given yet, made of the header where it is told; else of some pages, at
--- most the area's, and some bad ones, so that as many are usable and bad as is said
+-- clusters from which nothing is given yet, made of the header where it is told; else of some
+-- pages, at most the area's, and some bad ones, so that as many are usable and bad as is said
 abbrev pub AreFresh : Setting → ℕ → SwapArea → Slots → Type 0
 AreFresh m k area made =
     MatchOption m.headers

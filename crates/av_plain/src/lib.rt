@@ -1,6 +1,6 @@
-//! The definitions that every other crate is judged by: the plain memories, the ledger of frames and
-//! slots, and what a legal reply is. They stand in `specs`, a file for each topic, from `World` to
-//! `Stands`; here are the laws that what is built on them uses. Worked examples, and laws that
+//! The definitions that every other crate is judged by: the plain memories, the ledger of frames
+//! and slots, and what a legal reply is. They stand in `specs`, a file for each topic, from `World`
+//! to `Stands`; here are the laws that what is built on them uses. Worked examples, and laws that
 //! nothing else uses, are in `av_laws`.
 //!
 //! No function does anything. Each one's contract is a law, proved of the definitions alone.
@@ -19,7 +19,8 @@ ghost use Rattle.av_plain.specs.Sound.{AllSound, SaysSound};
 
 /// Sound memories and a sound ledger are so after every legal reply, a refusal too.
 pub fn soundness_stays()
-    ensures { (m : Setting) (w : World) (l : Ledger) (command : Command) (reply : Reply) (events : List Event)
+    ensures { (m : Setting) (w : World) (l : Ledger) (command : Command) (reply : Reply) (events :
+        List Event)
         → AllSound m w l → IsLegal m w l command reply events
         → AllSound m (next_world m w l events command reply.answer) (after_all l events) }
 {}

@@ -43,11 +43,13 @@ Finds (founds.Line size) bytes = HasLine size bytes
 Finds founds.TooLong bytes = IsTooLong bytes
 Finds founds.Part bytes = IsLine bytes
 
--- the next line stands in front of what was read, to its newline; the last line may end with the input
+-- the next line stands in front of what was read, to its newline; the last line may end with the
+-- input
 abbrev pub IsNext : Line → List ℕ → SourceView → Type 0
 IsNext line ahead source =
     (HasLine line.size ahead × (line.whole ≡ line.size + 1))
-    ⊎ (IsLine ahead × (line.size ≡ length ahead) × (0 < line.size) × (line.whole ≡ line.size) × IsAtEnd source)
+    ⊎ (IsLine ahead × (line.size ≡ length ahead) × (0 < line.size) × (line.whole ≡ line.size)
+    × IsAtEnd source)
 
 -- why no more could be read: the source failed, or the sink could not hand on what it kept back
 abbrev pub IsUnread : RunErr → Streams → Streams → Type 0

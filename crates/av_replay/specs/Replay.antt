@@ -48,10 +48,10 @@ pub record Run : Type 0 where
 abbrev pub done_lines : Run → List (List ℕ)
 done_lines run = run.lines ++ option_to_list run.last
 
--- The lines are what was read, up to these further bytes, which are no more than one read gives. Their
--- transcript is legal, each frame and slot chosen exactly and the areas by the rules, from the empty
--- state on. What was written is this. A last line without newline stands at the end of the input. What
--- only faults of the device explain is within what it failed.
+-- The lines are what was read, up to these further bytes, which are no more than one read gives.
+-- Their transcript is legal, each frame and slot chosen exactly and the areas by the rules, from
+-- the empty state on. What was written is this. A last line without newline stands at the end of
+-- the input. What only faults of the device explain is within what it failed.
 pub record Replays (frames : ℕ) (old new : Streams) (run : Run) (rest written : List ℕ)
     : Type 0 where
   pub read : Took old.source.left new.source.left

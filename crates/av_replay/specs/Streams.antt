@@ -22,8 +22,8 @@ room = 65536
 abbrev pub undone : List ℕ → Streams → Option (List ℕ)
 undone ahead io = in_front ahead io.source.left
 
--- from one time to a later one: counts of faults never fall, the device is the same, and where there
--- was a flush for each read there still is
+-- from one time to a later one: counts of faults never fall, the device is the same, and where
+-- there was a flush for each read there still is
 pub record IsLater (old new : Streams) : Type 0 where
   pub source : old.source.faults ≤ new.source.faults
   pub sink : old.sink.faults ≤ new.sink.faults

@@ -71,8 +71,8 @@ IsNotDone errors.Read line old new = ⊥
 IsNotDone errors.Write line old new = ⊥
 
 -- a line was done, and its text cut short
-pub record IsCut (line : List ℕ) (device device' : Device) (old new : Machine) (sink sink' : SinkView)
-    : Type 0 where
+pub record IsCut (line : List ℕ) (device device' : Device) (old new : Machine)
+    (sink sink' : SinkView) : Type 0 where
   pub text : List ℕ
   pub size : ℕ
   pub short : size < length text

@@ -1,7 +1,10 @@
 //! Replays a trace from a source and writes its transcript to a sink.
 //!
-//! Proved: `run` says for each status what was read, done and written, why and exactly where a run ends early, that the sink is flushed
-//! before each read, and that the kernel handed back stands for what the transcript leaves. That memory suffices is only tested.
+//! Proved: `run` says for each status what was read, done and written, why and exactly where a run
+//! ends early, that the sink was flushed at least as often as the source was read, that only as
+//! many faults show as the device had, and that the kernel handed back stands for what the
+//! transcript leaves. That each flush comes before its read, and that memory suffices, is only
+//! tested.
 #![tactic(auto)]
 
 mod line;

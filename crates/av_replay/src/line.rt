@@ -12,7 +12,8 @@ use memchr::memchr;
 /// So many bytes without a newline are no line.
 const TOO_LONG: usize = 8449;
 
-/// What stands in front of some bytes: a line of so many bytes with its newline, more than a line may have, or a part of a line.
+/// What stands in front of some bytes: a line of so many bytes with its newline, more than a line
+/// may have, or a part of a line.
 #[derive(Clone, Copy, Drop, Debug, PartialEq, Eq)]
 pub enum Found {
     Line(usize),
@@ -32,7 +33,8 @@ pub fn find_line(bytes: &[u8]) -> Found
     }
 }
 
-/// A line in front of some bytes: how many it has, and how many with its newline. The last one may have none.
+/// A line in front of some bytes: how many it has, and how many with its newline. The last one may
+/// have none.
 #[derive(Clone, Copy, Drop, Debug, PartialEq, Eq)]
 pub struct Line {
     pub size: usize,
@@ -51,7 +53,8 @@ pub fn read_on<S: Source, K: Sink>(
     ensures reads { ReadsOn pending.old pending.new (streams (S.view source.old) (K.view sink.old))
         (streams (S.view source.new) (K.view sink.new)) }
     ensures more { IfOk result (λ n. length pending.new ≡ length pending.old + n) }
-    ensures ended { IfOk result (λ n. n ≡ 0 → (pending.new ≡ pending.old) × IsAtEnd (S.view source.new)) }
+    ensures ended { IfOk result
+        (λ n. n ≡ 0 → (pending.new ≡ pending.old) × IsAtEnd (S.view source.new)) }
     ensures err { IfErr result (λ e. (pending.new ≡ pending.old)
         × IsUnread e (streams (S.view source.old) (K.view sink.old))
         (streams (S.view source.new) (K.view sink.new))) }
@@ -65,7 +68,8 @@ pub fn read_on<S: Source, K: Sink>(
     }
 }
 
-/// Reads on until a line has come, and says where it ends; or None, where the input has ended before another.
+/// Reads on until a line has come, and says where it ends; or None, where the input has ended
+/// before another.
 pub fn read_line<S: Source, K: Sink>(
     source: &mut S,
     sink: &mut K,
@@ -96,7 +100,8 @@ pub fn read_line<S: Source, K: Sink>(
 /// What is left at the end of the input, so many bytes: a last line without newline, or none.
 fn last_line(size: usize) -> Option<Line>
     ensures none { IfNone result (size ≡ 0) }
-    ensures some { IfSome result (λ line. (0 < size) × (line ≡ record { size = size; whole = size })) }
+    ensures some { IfSome result
+        (λ line. (0 < size) × (line ≡ record { size = size; whole = size })) }
 {
     if size == 0 {
         return None;

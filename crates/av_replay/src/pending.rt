@@ -31,14 +31,16 @@ impl Model for Pending {
 
     ghost view = { λ p. take (p.end - p.start) (drop p.start p.bytes.items) };
 
-    ghost invariant = { λ p. (p.start ≤ p.end) × (p.end ≤ length p.bytes.items) × (length p.bytes.items ≡ 65536) };
+    ghost invariant = { λ p. (p.start ≤ p.end) × (p.end ≤ length p.bytes.items)
+        × (length p.bytes.items ≡ 65536) };
 }
 
 /// Moves these bytes to the front, so that there is room after them.
 fn move_to_front(bytes: &mut Vec<u8>, start: usize, end: usize)
     requires start { start ≤ end }
     requires end { end ≤ length bytes.old.items }
-    ensures moved { take (end - start) bytes.new.items ≡ take (end - start) (drop start bytes.old.items) }
+    ensures moved { take (end - start) bytes.new.items
+        ≡ take (end - start) (drop start bytes.old.items) }
     ensures len { length bytes.new.items ≡ length bytes.old.items }
 {
     bytes.copy_within(start..end, 0);
@@ -93,10 +95,12 @@ impl Pending {
     /// Reads more, and says how many bytes came. 0 is the end of the input.
     pub fn fill<S: Source>(&mut self, source: &mut S) -> Result<usize, Failed>
         requires { length self.old ≤ longest }
-        ensures undone { in_front self.new (S.view source.new).left ≡ in_front self.old (S.view source.old).left }
+        ensures undone { in_front self.new (S.view source.new).left
+            ≡ in_front self.old (S.view source.old).left }
         ensures few { length self.new ≤ room }
         ensures more { IfOk result (λ n. length self.new ≡ length self.old + n) }
-        ensures ended { IfOk result (λ n. n ≡ 0 → (self.new ≡ self.old) × IsAtEnd (S.view source.new)) }
+        ensures ended { IfOk result
+            (λ n. n ≡ 0 → (self.new ≡ self.old) × IsAtEnd (S.view source.new)) }
         ensures reads { (S.view source.new).reads ≡ one_more (S.view source.old).reads }
         ensures never_falls { (S.view source.old).faults ≤ (S.view source.new).faults }
         ensures failed { OnErr result (self.new ≡ self.old) }

@@ -86,7 +86,8 @@ pub fn replay<S: Source, K: Sink>(
     sink: &mut K,
 ) -> Status
     requires { IsAtStart kernel.old no_device }
-    ensures headline { Headline kernel.old.frames result (streams (S.view source.old) (K.view sink.old))
+    ensures headline { Headline kernel.old.frames result
+        (streams (S.view source.old) (K.view sink.old))
         (streams (S.view source.new) (K.view sink.new)) (Some kernel.new) }
     ensures handed_on { result ≢ Status.Memory → result ≢ Status.WriteFault
         → (K.view sink.new).kept_back ≡ [] }

@@ -33,9 +33,10 @@ fn without_kernel(status: Status) -> Outcome
 
 /// Runs the program on the command line's words, which are `run` and the number of frames.
 ///
-/// Each line of the source is read whole and done, and its text written, before the next line is taken. The source is read in pieces,
-/// each time only when no whole line is left of the last piece, and the sink is flushed before each read and at the end.
-/// A flush that fails ends the run as a failed write does.
+/// Each line of the source is read whole and done, and its text written, before the next line is
+/// taken. The source is read in pieces, each time only when no whole line is left of the last
+/// piece, and the sink is flushed before each read and at the end. A flush that fails ends the run
+/// as a failed write does.
 pub fn run<S: Source, K: Sink>(
     alloc: Global,
     words: &[String],
@@ -43,12 +44,14 @@ pub fn run<S: Source, K: Sink>(
     sink: &mut K,
 ) -> Outcome
     // What was read, done and written, by the status.
-    ensures headline { result.status ≢ Status.Usage → (n : ℕ) × IsForm (map string_bytes words.now) n
+    ensures headline { result.status ≢ Status.Usage → (n : ℕ)
+        × IsForm (map string_bytes words.now) n
         × Headline n result.status (streams (S.view source.old) (K.view sink.old))
         (streams (S.view source.new) (K.view sink.new)) result.kernel }
     // Bad words, and they alone, are a usage error, and then nothing is read or written.
     ensures usage { RefusesWords result.status (map string_bytes words.now) }
-    ensures nothing { result.status ≡ Status.Usage → (source.new ≡ source.old) × (sink.new ≡ sink.old) }
+    ensures nothing { result.status ≡ Status.Usage
+        → (source.new ≡ source.old) × (sink.new ≡ sink.old) }
     // No kernel is handed back where there is none to go on with.
     ensures no_kernel { result.status ≡ Status.Usage → result.kernel ≡ None }
     ensures spent { result.status ≡ Status.Memory → result.kernel ≡ None }

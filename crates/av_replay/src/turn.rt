@@ -74,7 +74,8 @@ pub fn next_line<S: Source, K: Sink>(
 ) -> Result<bool, RunErr>
     requires { kernel.old.steps < 2 ^ 24 }
     ensures { Turned result pending.old pending.new
-        (streams (S.view source.old) (K.view sink.old)) (streams (S.view source.new) (K.view sink.new))
+        (streams (S.view source.old) (K.view sink.old))
+        (streams (S.view source.new) (K.view sink.new))
         kernel.old kernel.new }
 {
     let Some(line) = read_line(source, sink, pending)? else {

@@ -22,7 +22,8 @@ pub enum AttachErr {
     Memory,
 }
 
-/// A device with up to eight swap areas, numbered from 0 to 7, whose pages have `PAGE_LEN` bytes each.
+/// A device with up to eight swap areas, numbered from 0 to 7, whose pages have `PAGE_LEN` bytes
+/// each.
 pub trait SwapDev {
     /// How many pages each attached area has.
     ghost sizes: { Self → ℕ → Option ℕ };
@@ -33,7 +34,8 @@ pub trait SwapDev {
     /// How often a call failed.
     ghost faults: { Self → ℕ };
 
-    /// Attaches what has this name as an area, and says how many of its pages are used: 1,048,576 at most.
+    /// Attaches what has this name as an area, and says how many of its pages are used: 1,048,576
+    /// at most.
     fn attach(&mut self, area: u8, name: &str) -> Result<u32, AttachErr>
         requires { area < 8 }
         ensures size { IfOk result (λ n. sizes self.new ≡ with_at area (Some n) (sizes self.old)) }
@@ -58,7 +60,8 @@ pub trait SwapDev {
     fn write(&mut self, area: u8, page: u32, from: &[u8]) -> Result<(), Failed>
         requires there { HasPage (sizes self.old) area page }
         requires long { length from.now ≡ page_size }
-        ensures written { OnOk result (IsWritten area page from.now (pages self.old) (pages self.new)) }
+        ensures written { OnOk result (IsWritten area page from.now (pages self.old)
+            (pages self.new)) }
         ensures spoiled { OnErr result (IsSpoiled area page (pages self.old) (pages self.new)) }
         ensures same_sizes { sizes self.new ≡ sizes self.old }
         ensures never_falls { faults self.old ≤ faults self.new }

@@ -1,6 +1,7 @@
 //! A device over real files.
 //!
-//! What they hold is not told: of it the contracts say how many pages are used, and when a call failed.
+//! What they hold is not told: of it the contracts say how many pages are used, and when a call
+//! failed.
 
 ghost use Rattle.std.specs.Prelude.{◌≡◌, ◌≤◌, ℕ, None, slice_index_or, option_map, IfOk};
 ghost use Rattle.av_io.specs.Count.{Rose};

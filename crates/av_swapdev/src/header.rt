@@ -17,7 +17,8 @@ const SIGNATURE: &[u8] = b"SWAPSPACE2";
 /// How many bad pages a header has room for.
 const MOST_BAD: u32 = 637;
 
-/// Where the numbers of a header stand, in bytes: the version, the last page, how many bad pages, and the first of those.
+/// Where the numbers of a header stand, in bytes: the version, the last page, how many bad pages,
+/// and the first of those.
 const VERSION: usize = 1024;
 
 const LAST_PAGE: usize = 1028;
@@ -228,7 +229,8 @@ fn marks(
     Ok(marks)
 }
 
-/// The bad pages of the area, rising, each once, by page 0 and the header that it has. The time is that of the area's pages.
+/// The bad pages of the area, rising, each once, by page 0 and the header that it has. The time is
+/// that of the area's pages.
 pub fn bad_pages(alloc: Global, page: &[u8], header: &Header) -> Result<Vec<u32>, AllocError>
     requires long { length page.now ≡ page_size }
     requires of_page { IsHeaderOf page.now header.now }

@@ -1,8 +1,9 @@
 //! Devices with swap areas, and the header of an area.
 //!
-//! Proved: what a call of a device reads and writes, which pages change and which stay, and that each failure is counted; of the device
-//! in memory also which calls fail, exactly. Of a header: exactly its numbers and bad pages, or the first fault in a stated order.
-//! What real files hold is not told: that `FileDev` reads and writes them is only tested.
+//! Proved: what a call of a device reads and writes, which pages change and which stay, and that
+//! each failure is counted; of the device in memory also which calls fail, exactly. Of a header:
+//! exactly its numbers and bad pages, or the first fault in a stated order. What real files hold is
+//! not told: that `FileDev` reads and writes them is only tested.
 #![tactic(auto)]
 
 mod device;

@@ -19,8 +19,8 @@ pub struct MemDev {
 }
 
 impl MemDev {
-    /// A device with these pages in each area, by its number, of which none is attached yet. The calls of these numbers fail: all calls
-    /// of the device are numbered together, from 1.
+    /// A device with these pages in each area, by its number, of which none is attached yet. The
+    /// calls of these numbers fail: all calls of the device are numbered together, from 1.
     pub fn new(areas: Vec<Vec<[u8; PAGE_LEN]>>, failing: Vec<u64>) -> MemDev
         ensures pages { ⟦<MemDev as SwapDev>⟧.pages result ≡ Some (pages_in areas.items) }
         ensures sizes { (area : ℕ) → ⟦<MemDev as SwapDev>⟧.sizes result area ≡ None }
@@ -36,7 +36,8 @@ impl MemDev {
 
     /// The bytes of a page, attached or not, where the area has it.
     pub fn page(&self, area: u8, page: u32) -> Option<&[u8; PAGE_LEN]>
-        ensures { MatchOption result (length (area_in self.now.areas.items area) ≤ page) (λ bytes. Holds (⟦<MemDev as SwapDev>⟧.pages self.now) area page bytes.now) }
+        ensures { MatchOption result (length (area_in self.now.areas.items area) ≤ page) (λ bytes.
+            Holds (⟦<MemDev as SwapDev>⟧.pages self.now) area page bytes.now) }
     {
         self.areas.get(area as usize)?.get(page as usize)
     }
@@ -80,14 +81,21 @@ impl SwapDev for MemDev {
     /// The name is not looked at. An area that is not in the list has no page.
     fn attach(&mut self, area: u8, _name: &str) -> Result<u32, AttachErr>
         requires { area < 8 }
-        ensures size { IfOk result (λ n. ⟦<MemDev as SwapDev>⟧.sizes self.new ≡ with_at area (Some n) (⟦<MemDev as SwapDev>⟧.sizes self.old)) }
+        ensures size { IfOk result (λ n. ⟦<MemDev as SwapDev>⟧.sizes self.new ≡ with_at area
+            (Some n) (⟦<MemDev as SwapDev>⟧.sizes self.old)) }
         ensures most { IfOk result (λ n. n ≤ most_pages) }
-        ensures renewed { OnOk result (IsRenewed area (⟦<MemDev as SwapDev>⟧.pages self.old) (⟦<MemDev as SwapDev>⟧.pages self.new)) }
-        ensures same_sizes { OnErr result (⟦<MemDev as SwapDev>⟧.sizes self.new ≡ ⟦<MemDev as SwapDev>⟧.sizes self.old) }
-        ensures same_pages { OnErr result (⟦<MemDev as SwapDev>⟧.pages self.new ≡ ⟦<MemDev as SwapDev>⟧.pages self.old) }
-        ensures never_falls { ⟦<MemDev as SwapDev>⟧.faults self.old ≤ ⟦<MemDev as SwapDev>⟧.faults self.new }
-        ensures cause { OnErr result (Rose (⟦<MemDev as SwapDev>⟧.faults self.old) (⟦<MemDev as SwapDev>⟧.faults self.new)) }
-        // Beside what the trait says: exactly the calls that are listed fail; all pages of the area are used, and they stay.
+        ensures renewed { OnOk result (IsRenewed area (⟦<MemDev as SwapDev>⟧.pages self.old)
+            (⟦<MemDev as SwapDev>⟧.pages self.new)) }
+        ensures same_sizes { OnErr result (⟦<MemDev as SwapDev>⟧.sizes self.new ≡
+            ⟦<MemDev as SwapDev>⟧.sizes self.old) }
+        ensures same_pages { OnErr result (⟦<MemDev as SwapDev>⟧.pages self.new ≡
+            ⟦<MemDev as SwapDev>⟧.pages self.old) }
+        ensures never_falls { ⟦<MemDev as SwapDev>⟧.faults self.old ≤ ⟦<MemDev as SwapDev>⟧.faults
+            self.new }
+        ensures cause { OnErr result (Rose (⟦<MemDev as SwapDev>⟧.faults self.old)
+            (⟦<MemDev as SwapDev>⟧.faults self.new)) }
+        // Beside what the trait says: exactly the calls that are listed fail; all pages of the area
+        // are used, and they stay.
         ensures calls { IsNextCall self.old.faults self.new.faults (is_err result) }
         ensures all { IfOk result (λ n. n ≡ size_in self.old.areas.items area) }
         ensures kept { ⟦<MemDev as SwapDev>⟧.pages self.new ≡ ⟦<MemDev as SwapDev>⟧.pages self.old }
@@ -102,11 +110,16 @@ impl SwapDev for MemDev {
     fn read(&mut self, area: u8, page: u32, into: &mut [u8]) -> Result<(), Failed>
         requires there { HasPage (⟦<MemDev as SwapDev>⟧.sizes self.old) area page }
         requires long { length into.old ≡ page_size }
-        ensures bytes { OnOk result (Holds (⟦<MemDev as SwapDev>⟧.pages self.old) area page into.new) }
-        ensures same_pages { ⟦<MemDev as SwapDev>⟧.pages self.new ≡ ⟦<MemDev as SwapDev>⟧.pages self.old }
-        ensures same_sizes { ⟦<MemDev as SwapDev>⟧.sizes self.new ≡ ⟦<MemDev as SwapDev>⟧.sizes self.old }
-        ensures never_falls { ⟦<MemDev as SwapDev>⟧.faults self.old ≤ ⟦<MemDev as SwapDev>⟧.faults self.new }
-        ensures cause { OnErr result (Rose (⟦<MemDev as SwapDev>⟧.faults self.old) (⟦<MemDev as SwapDev>⟧.faults self.new)) }
+        ensures bytes { OnOk result (Holds (⟦<MemDev as SwapDev>⟧.pages self.old) area page
+            into.new) }
+        ensures same_pages { ⟦<MemDev as SwapDev>⟧.pages self.new ≡ ⟦<MemDev as SwapDev>⟧.pages
+            self.old }
+        ensures same_sizes { ⟦<MemDev as SwapDev>⟧.sizes self.new ≡ ⟦<MemDev as SwapDev>⟧.sizes
+            self.old }
+        ensures never_falls { ⟦<MemDev as SwapDev>⟧.faults self.old ≤ ⟦<MemDev as SwapDev>⟧.faults
+            self.new }
+        ensures cause { OnErr result (Rose (⟦<MemDev as SwapDev>⟧.faults self.old)
+            (⟦<MemDev as SwapDev>⟧.faults self.new)) }
         // Beside what the trait says: exactly the calls that are listed fail.
         ensures calls { IsNextCall self.old.faults self.new.faults (is_err result) }
     {
@@ -120,14 +133,21 @@ impl SwapDev for MemDev {
     fn write(&mut self, area: u8, page: u32, from: &[u8]) -> Result<(), Failed>
         requires there { HasPage (⟦<MemDev as SwapDev>⟧.sizes self.old) area page }
         requires long { length from.now ≡ page_size }
-        ensures written { OnOk result (IsWritten area page from.now (⟦<MemDev as SwapDev>⟧.pages self.old) (⟦<MemDev as SwapDev>⟧.pages self.new)) }
-        ensures spoiled { OnErr result (IsSpoiled area page (⟦<MemDev as SwapDev>⟧.pages self.old) (⟦<MemDev as SwapDev>⟧.pages self.new)) }
-        ensures same_sizes { ⟦<MemDev as SwapDev>⟧.sizes self.new ≡ ⟦<MemDev as SwapDev>⟧.sizes self.old }
-        ensures never_falls { ⟦<MemDev as SwapDev>⟧.faults self.old ≤ ⟦<MemDev as SwapDev>⟧.faults self.new }
-        ensures cause { OnErr result (Rose (⟦<MemDev as SwapDev>⟧.faults self.old) (⟦<MemDev as SwapDev>⟧.faults self.new)) }
-        // Beside what the trait says: exactly the calls that are listed fail, and then each bit of the page is inverted.
+        ensures written { OnOk result (IsWritten area page from.now
+            (⟦<MemDev as SwapDev>⟧.pages self.old) (⟦<MemDev as SwapDev>⟧.pages self.new)) }
+        ensures spoiled { OnErr result (IsSpoiled area page (⟦<MemDev as SwapDev>⟧.pages self.old)
+            (⟦<MemDev as SwapDev>⟧.pages self.new)) }
+        ensures same_sizes { ⟦<MemDev as SwapDev>⟧.sizes self.new ≡ ⟦<MemDev as SwapDev>⟧.sizes
+            self.old }
+        ensures never_falls { ⟦<MemDev as SwapDev>⟧.faults self.old ≤ ⟦<MemDev as SwapDev>⟧.faults
+            self.new }
+        ensures cause { OnErr result (Rose (⟦<MemDev as SwapDev>⟧.faults self.old)
+            (⟦<MemDev as SwapDev>⟧.faults self.new)) }
+        // Beside what the trait says: exactly the calls that are listed fail, and then each bit of
+        // the page is inverted.
         ensures calls { IsNextCall self.old.faults self.new.faults (is_err result) }
-        ensures inverted { OnErr result (IsInverted (pages_in self.old.areas.items area page) (pages_in self.new.areas.items area page)) }
+        ensures inverted { OnErr result (IsInverted (pages_in self.old.areas.items area page)
+            (pages_in self.new.areas.items area page)) }
     {
         let bytes = &mut self.areas[area as usize][page as usize];
         if self.faults.next_fails() {

@@ -279,31 +279,54 @@ fn slot_count_line(
     add_cached_frame(text, cached)
 }
 
+fn map_line(text: &mut Bytes, address: u64) -> Result<(), AllocError>
+    ensures { Adds result text.old text.new (line_of_answer (Answer.MapAt address)) }
+{
+    text.append(b"map")?;
+    add_address(text, address)
+}
+
+fn data_line(text: &mut Bytes, bytes: &Bytes) -> Result<(), AllocError>
+    ensures { Adds result text.old text.new (line_of_answer (Answer.Data bytes.now)) }
+{
+    text.append(b"data")?;
+    add_bytes(text, bytes.as_slice())
+}
+
+fn error_line(text: &mut Bytes, error: Errno) -> Result<(), AllocError>
+    ensures { Adds result text.old text.new (line_of_answer (Answer.Refused error)) }
+{
+    text.append(b"err")?;
+    add_errno(text, error)
+}
+
+fn on_line(text: &mut Bytes, slots: u32, bad: u32) -> Result<(), AllocError>
+    ensures { Adds result text.old text.new (line_of_answer (Answer.On slots bad)) }
+{
+    number_line(text, b"on", u64::from(slots))?;
+    add_number(text, u64::from(bad))
+}
+
+fn bad_slot_line(text: &mut Bytes, slot: Slot) -> Result<(), AllocError>
+    ensures { Adds result text.old text.new (line_of_answer (Answer.SlotBad slot)) }
+{
+    slot_line(text, b"slot", slot)?;
+    add_word(text, b"bad")
+}
+
 /// Adds the line of an answer, without its newline.
 pub fn answer_line(text: &mut Bytes, answer: &Answer) -> Result<(), AllocError>
     ensures { Adds result text.old text.new (line_of_answer answer.now) }
 {
     match answer {
         Answer::Done => text.append(b"ok"),
-        Answer::MapAt(address) => {
-            text.append(b"map")?;
-            add_address(text, *address)
-        }
-        Answer::Data(bytes) => {
-            text.append(b"data")?;
-            add_bytes(text, bytes.as_slice())
-        }
-        Answer::Refused(error) => {
-            text.append(b"err")?;
-            add_errno(text, *error)
-        }
+        Answer::MapAt(address) => map_line(text, *address),
+        Answer::Data(bytes) => data_line(text, bytes),
+        Answer::Refused(error) => error_line(text, *error),
         Answer::Segv { served, shown } => stop_line(text, b"segv", *served, shown.as_slice()),
         Answer::Bus { served, shown } => stop_line(text, b"bus", *served, shown.as_slice()),
         Answer::Oom { served, out, shown } => oom_line(text, *served, *out, shown.as_slice()),
-        Answer::On { slots, bad } => {
-            number_line(text, b"on", u64::from(*slots))?;
-            add_number(text, u64::from(*bad))
-        }
+        Answer::On { slots, bad } => on_line(text, *slots, *bad),
         Answer::NoFrame(out) => no_frame_line(text, *out),
         Answer::Runs(n) => number_line(text, b"runs", *n),
         Answer::AreaList(n) => number_line(text, b"areas", *n),
@@ -317,10 +340,7 @@ pub fn answer_line(text: &mut Bytes, answer: &Answer) -> Result<(), AllocError>
             cached,
         } => entry_frame_line(text, *frame, *seen, *cached),
         Answer::EntrySlot { slot, cached } => entry_slot_line(text, *slot, *cached),
-        Answer::SlotBad(slot) => {
-            slot_line(text, b"slot", *slot)?;
-            add_word(text, b"bad")
-        }
+        Answer::SlotBad(slot) => bad_slot_line(text, *slot),
         Answer::SlotCount {
             slot,
             count,

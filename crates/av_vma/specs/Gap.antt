@@ -11,4 +11,5 @@ pub record IsRoom (is_taken : ℕ → Bool) (n page : ℕ) : Type 0 where
 -- the greatest page from which on there is room, or none where there is no room
 abbrev pub IsGap : (ℕ → Bool) → ℕ → Option ℕ → Type 0
 IsGap is_taken n None = (page : ℕ) → IsRoom is_taken n page → ⊥
-IsGap is_taken n (Some page) = IsRoom is_taken n page × ((other : ℕ) → IsRoom is_taken n other → other ≤ page)
+IsGap is_taken n (Some page) =
+    IsRoom is_taken n page × ((other : ℕ) → IsRoom is_taken n other → other ≤ page)

@@ -20,18 +20,21 @@ index_of area page = (page - first_of area) + area.pgoff
 abbrev pub same_prot : Prot → Prot → Bool
 same_prot p q = beq p.read q.read && beq p.write q.write && beq p.execute q.execute
 
--- two areas may have one anon_vma: both have the same or none, or one has none and the other's chain has one node
+-- two areas may have one anon_vma: both have the same or none, or one has none and the other's
+-- chain has one node
 abbrev pub share_anon : Option ℕ → ℕ → Option ℕ → ℕ → Bool
 share_anon None left_len None right_len = true
 share_anon None left_len (Some b) right_len = right_len == 1
 share_anon (Some a) left_len None right_len = left_len == 1
 share_anon (Some a) left_len (Some b) right_len = a == b
 
--- the second area goes on where the first ends: with its protection and flags, its offset, and an anon_vma that both may have
+-- the second area goes on where the first ends: with its protection and flags, its offset, and an
+-- anon_vma that both may have
 abbrev pub are_mergeable : Area → ℕ → Area → ℕ → Bool
 are_mergeable left left_len right right_len =
     (left.end == right.start) && same_prot left.prot right.prot && (left.flags == right.flags)
-    && (index_of left (past_of left) == right.pgoff) && share_anon left.anon left_len right.anon right_len
+    && (index_of left (past_of left) == right.pgoff)
+    && share_anon left.anon left_len right.anon right_len
 
 -- the second area begins where the first ends, and the offsets run on
 abbrev pub do_run_on : Area → Area → Bool

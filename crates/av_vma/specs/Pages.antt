@@ -1,5 +1,5 @@
--- What a process has on its pages: for each page the area that holds it. And what mapping, unmapping
--- and changing a range make of that, with the cuts and joins that come of it.
+-- What a process has on its pages: for each page the area that holds it. And what mapping,
+-- unmapping and changing a range make of that, with the cuts and joins that come of it.
 use Rattle.std.specs.Prelude.{◌≡◌, ℕ, zero, suc, ◌+◌, ◌-◌, ◌^◌, ◌<◌, ◌≤◌, true, false, not, ◌==◌, min, max, Bool, ◌&&◌, nat_lt, if◌then◌else◌, List, Option, Some, None, option_map}
 use Rattle.std.specs.List.{find}
 use Rattle.std.specs.Option.{option_or}
@@ -41,7 +41,8 @@ pub record AreLaid (on : Pages) : Type 0 where
 
 -- ---- cut
 
--- the part of an area on the page's side of a cut before page `at`; the offset of an upper part runs on
+-- the part of an area on the page's side of a cut before page `at`; the offset of an upper part
+-- runs on
 abbrev pub part_of : ℕ → ℕ → Area → Area
 part_of at page area =
     if nat_lt page at then record area { end = min area.end (address_of at) }

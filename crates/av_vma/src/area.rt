@@ -5,8 +5,9 @@ use av_base::{PAGE_SIZE, Prot};
 
 /// A run of pages that one process mapped alike (Linux's `vm_area_struct`).
 ///
-/// `start` and `end` are addresses on pages, `end` the first one past the area. The page at address `a` has
-/// the linear index `(a - start) / 4096 + pgoff`. `anon` is the number of the area's own anon_vma, if it has one.
+/// `start` and `end` are addresses on pages, `end` the first one past the area. The page at address
+/// `a` has the linear index `(a - start) / 4096 + pgoff`. `anon` is the number of the area's own
+/// anon_vma, if it has one.
 #[derive(Clone, Copy, Drop, Debug, PartialEq, Eq)]
 pub struct Area {
     pub pid: u16,
@@ -31,8 +32,9 @@ pub fn index(area: &Area, page: u64) -> u64
 
 /// Whether an area goes on in another so that the two may be one.
 ///
-/// They adjoin, have the same protection and flags, the offsets run on, and they share an anon_vma: both have the same or none, or one
-/// has none and the other's chain has one node. Each length is that of the area's chain.
+/// They adjoin, have the same protection and flags, the offsets run on, and they share an anon_vma:
+/// both have the same or none, or one has none and the other's chain has one node. Each length is
+/// that of the area's chain.
 pub fn mergeable(left: &Area, left_len: u64, right: &Area, right_len: u64) -> bool
     requires forward { first_of left.now ≤ past_of left.now }
     requires small { index_of left.now (past_of left.now) < 2 ^ 64 }
@@ -47,8 +49,8 @@ pub fn mergeable(left: &Area, left_len: u64, right: &Area, right_len: u64) -> bo
 
 /// Whether an area without anon_vma may take that of its neighbour `near`.
 ///
-/// They adjoin, the offsets run on, the flags are equal, and the neighbour's chain has one node: its
-/// length is `near_len`.
+/// They adjoin, the offsets run on, the flags are equal, and the neighbour's chain has one node:
+/// its length is `near_len`.
 pub fn reusable(area: &Area, near: &Area, near_len: u64) -> bool
     requires forward { first_of area.now ≤ past_of area.now }
     requires small { index_of area.now (past_of area.now) < 2 ^ 64 }
@@ -68,7 +70,8 @@ fn runs_on(left: &Area, right: &Area) -> bool
     right.start == left.end && right.pgoff == index(left, left.end / PAGE_SIZE)
 }
 
-/// Whether two areas, each with its own anon_vma and the length of its chain, may have one anon_vma.
+/// Whether two areas, each with its own anon_vma and the length of its chain, may have one
+/// anon_vma.
 fn may_share(left: Option<u64>, left_len: u64, right: Option<u64>, right_len: u64) -> bool
     ensures { result ≡ share_anon left left_len right right_len }
 {

@@ -38,7 +38,8 @@ impl Areas {
     /// Puts `area` under a number that is not in use. Without memory all stays.
     pub fn add(&mut self, area: Area) -> Result<AreaId, AllocError>
         ensures unused { IfOk result (λ id. area_of self.old id ≡ None) }
-        ensures added { IfOk result (λ id. (number : ℕ) → area_of self.new number ≡ with_at id (Some area) (area_of self.old) number) }
+        ensures added { IfOk result (λ id. (number : ℕ) → area_of self.new number ≡ with_at id
+            (Some area) (area_of self.old) number) }
         ensures kept { OnErr result (self.new ≡ self.old) }
     {
         let id = self.slab.insert(area)?;
@@ -57,7 +58,8 @@ impl Areas {
     /// Puts `area` in place of the one with this number, which is in use.
     pub fn change(&mut self, id: AreaId, area: Area)
         requires used { IsSome (area_of self.old id) }
-        ensures { (number : ℕ) → area_of self.new number ≡ with_at id (Some area) (area_of self.old) number }
+        ensures { (number : ℕ) → area_of self.new number ≡ with_at id (Some area) (area_of self.old)
+            number }
     {
         self.slab[id as usize] = area;
     }

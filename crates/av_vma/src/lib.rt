@@ -1,4 +1,5 @@
-//! Areas of a process's memory: the linear index of a page, when two areas are one, and areas by number.
+//! Areas of a process's memory: the linear index of a page, when two areas are one, and areas by
+//! number.
 #![tactic(auto)]
 
 mod area;

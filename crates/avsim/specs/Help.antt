@@ -5,4 +5,5 @@ use Rattle.avsim.specs.declared.help.TheConstants.{HELP, VERSION}
 -- the words ask for this text, and for nothing else
 abbrev pub AskFor : List (List ℕ) → List ℕ → Type 0
 AskFor words text =
-    ((words ≡ codes "--help" ∷ []) × (text ≡ HELP.now)) ⊎ ((words ≡ codes "--version" ∷ []) × (text ≡ VERSION.now))
+    ((words ≡ codes "--help" ∷ []) × (text ≡ HELP.now))
+    ⊎ ((words ≡ codes "--version" ∷ []) × (text ≡ VERSION.now))

@@ -1,7 +1,8 @@
 //! Replays a trace on standard input, and writes its transcript to standard output.
 //!
-//! Proved: which text the words ask for, and by the status of a run the number with which the program ends and the failure that it prints.
-//! The texts themselves are only tested, and that they reach standard output and standard error.
+//! Proved: which text the words ask for, and by the status of a run the number with which the
+//! program ends and the failure that it prints. The texts themselves are only tested, and that they
+//! reach standard output and standard error.
 #![tactic(auto)]
 
 mod failure;
@@ -15,7 +16,8 @@ use std::env;
 use std::io::{self, ErrorKind};
 use std::process::ExitCode;
 
-/// The words of the command line, without the program's name. A word that is no text is a usage error.
+/// The words of the command line, without the program's name. A word that is no text is a usage
+/// error.
 fn read_words(rt: &HostRuntime) -> Result<Vec<String>, Status> {
     let args = match env::args(rt) {
         Ok(args) => args,
