@@ -7,15 +7,15 @@ use Rattle.av_vma.specs.declared.area.Area.{Area}
 use Rattle.av_vma.specs.Join.{is_reusable}
 use Rattle.av_anon.specs.declared.infos.Info.{Info}
 use Rattle.av_anon.specs.Anons.{Family, IsRising, own_of}
-use Rattle.av_anon.specs.Fork.{child_chain, child_family, is_idle, reused}
-use Rattle.av_anon.specs.Prepare.{lent, lent_by, lent_near, or_else, prepared_kin}
+use Rattle.av_anon.specs.Fork.{child_chain, child_family, is_idle, member_to_reuse}
+use Rattle.av_anon.specs.Prepare.{loan, loan_by, loan_near, or_else, kin_after_prepare}
 use Rattle.av_anon.proofs.Words.{rising_more}
 
 none_some : {v : ℕ} → ◌≡◌ {A = Option ℕ} None (Some v) → ⊥
 none_some e = cc
 
 -- what is lent is the own anon_vma of an area whose chain has one node
-one_node : (areas : ℕ → Option Area) (chain : ℕ → List ℕ) (area : Area) (near : Option ℕ) (v : ℕ) → lent areas chain area near ≡ Some v
+one_node : (areas : ℕ → Option Area) (chain : ℕ → List ℕ) (area : Area) (near : Option ℕ) (v : ℕ) → loan areas chain area near ≡ Some v
     → (n : ℕ) × (own_of (areas n) ≡ Some v) × (length (chain n) ≡ 1)
 one_node areas chain area None v h = absurd (none_some h)
 one_node areas chain area (Some n) v h = by_area (areas n) refl h
@@ -31,22 +31,22 @@ one_node areas chain area (Some n) v h = by_area (areas n) refl h
     by_test true o h = (refl, h)
     by_test false o h = absurd (none_some h)
 
-    by_area : (o : Option Area) → areas n ≡ o → lent_by (length (chain n)) area o ≡ Some v → (m : ℕ) × (own_of (areas m) ≡ Some v) × (length (chain m) ≡ 1)
+    by_area : (o : Option Area) → areas n ≡ o → loan_by (length (chain n)) area o ≡ Some v → (m : ℕ) × (own_of (areas m) ≡ Some v) × (length (chain m) ≡ 1)
     by_area None e h = absurd (none_some h)
     by_area (Some other) e h =
         let both = by_test (is_reusable area other (length (chain n))) other.anon h in
         (n, ap own_of e ∙ both.1, one (length (chain n)) _ both.0)
 
 pub one_node_near : (areas : ℕ → Option Area) (chain : ℕ → List ℕ) (area : Area) (before after : Option ℕ) (v : ℕ)
-    → lent_near areas chain area before after ≡ Some v → (n : ℕ) × (own_of (areas n) ≡ Some v) × (length (chain n) ≡ 1)
-one_node_near areas chain area before after v h = by (lent areas chain area after) refl h
+    → loan_near areas chain area before after ≡ Some v → (n : ℕ) × (own_of (areas n) ≡ Some v) × (length (chain n) ≡ 1)
+one_node_near areas chain area before after v h = by (loan areas chain area after) refl h
   where
-    by : (o : Option ℕ) → lent areas chain area after ≡ o → or_else o (lent areas chain area before) ≡ Some v
+    by : (o : Option ℕ) → loan areas chain area after ≡ o → or_else o (loan areas chain area before) ≡ Some v
         → (n : ℕ) × (own_of (areas n) ≡ Some v) × (length (chain n) ≡ 1)
     by None e h = one_node areas chain area before v h
     by (Some u) e h = one_node areas chain area after v (e ∙ h)
 
-pub kin_chain : (o : Option ℕ) (f : Family) → (prepared_kin o f).chain ≡ f.chain
+pub kin_chain : (o : Option ℕ) (f : Family) → (kin_after_prepare o f).chain ≡ f.chain
 kin_chain None f = refl
 kin_chain (Some v) f = refl
 
@@ -75,7 +75,7 @@ idle_there : (v : ℕ) (o : Option Info) → is_idle v o ≡ true → IsSome o
 idle_there v None h = h
 idle_there v (Some i) h = refl
 
-pub reused_there : (info : ℕ → Option Info) (xs : List ℕ) (v : ℕ) → reused info xs ≡ Some v → IsSome (info v)
+pub reused_there : (info : ℕ → Option Info) (xs : List ℕ) (v : ℕ) → member_to_reuse info xs ≡ Some v → IsSome (info v)
 reused_there info xs v h = idle_there v (info v) (passes (λ u. is_idle u (info u)) xs v h)
 
 -- what is reused is a member, and idle
@@ -112,5 +112,5 @@ idle_inactive v (Some i) h = (i, refl, eqb-true i.active 0 (left (i.active == 0)
     left true b h = refl
     left false b h = h
 
-pub found_idle : (info : ℕ → Option Info) (xs : List ℕ) (v : ℕ) → reused info xs ≡ Some v → (i : Info) × (info v ≡ Some i) × (i.active ≡ 0)
+pub found_idle : (info : ℕ → Option Info) (xs : List ℕ) (v : ℕ) → member_to_reuse info xs ≡ Some v → (i : Info) × (info v ≡ Some i) × (i.active ≡ 0)
 found_idle info xs v h = idle_inactive v (info v) (passes (λ u. is_idle u (info u)) xs v h)

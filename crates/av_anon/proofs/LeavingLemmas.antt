@@ -6,7 +6,7 @@ use Rattle.av_base.specs.Words.{is_in, how_many}
 use Rattle.av_anon.specs.declared.infos.Info.{Info}
 use Rattle.av_anon.specs.Infos.{less_children, with_info, without_children}
 use Rattle.av_anon.specs.Order.{is_child}
-use Rattle.av_anon.specs.Unlink.{destroyed, destroyed_by, has_no_other, info_without}
+use Rattle.av_anon.specs.Unlink.{without_anon, without_anon_of, has_no_other, info_without}
 use Rattle.av_anon.proofs.Words.{with_at-other, in_more, in_as_before, how_many-more}
 
 -- what is left of one
@@ -65,7 +65,7 @@ module _ (a v : ℕ) (users : ℕ → List ℕ) (gone : List ℕ) (info now : �
       no_fall w = ap (λ t. t && is_child w (info v)) stays
 
   -- it has none: it is destroyed
-  pub one_goes : has_no_other a users v ≡ true → (w : ℕ) → destroyed v now w ≡ info_without a users (gone ++ v ∷ []) info w
+  pub one_goes : has_no_other a users v ≡ true → (w : ℕ) → without_anon v now w ≡ info_without a users (gone ++ v ∷ []) info w
   one_goes goes w = by_info (info v) refl
     where
       now_v : now v ≡ option_map (without_children (how_many (falls v) gone)) (info v)
@@ -79,17 +79,17 @@ module _ (a v : ℕ) (users : ℕ → List ℕ) (gone : List ℕ) (info now : �
       fall : (o : Option Info) → info v ≡ o → falls w v ≡ is_child w o
       fall o e = ap (λ t. t && is_child w (info v)) goes ∙ ap (is_child w) e
 
-      by_info : (o : Option Info) → info v ≡ o → destroyed v now w ≡ info_without a users (gone ++ v ∷ []) info w
+      by_info : (o : Option Info) → info v ≡ o → without_anon v now w ≡ info_without a users (gone ++ v ∷ []) info w
       by_info None e =
           let none : now v ≡ None = now_v ∙ ap (option_map (without_children (how_many (falls v) gone))) e in
-          ap (λ o. destroyed_by o v now w) none ∙ elim (cases_eq w v) [
+          ap (λ o. without_anon_of o v now w) none ∙ elim (cases_eq w v) [
             | inl h ↦ ap now h ∙ none ∙ sym (at_v h)
             | inr ne ↦ now_is w ∙ none_less (is_in w gone && has_no_other a users w) (how_many (falls w) gone) (info w) ∙ after_other w false (fall None e) ne
           ]
       by_info (Some i) e =
           let n = how_many (falls v) gone in
           let some : now v ≡ Some (without_children n i) = now_v ∙ ap (option_map (without_children n)) e in
-          ap (λ o. destroyed_by o v now w) some ∙ elim (cases_eq w v) [
+          ap (λ o. without_anon_of o v now w) some ∙ elim (cases_eq w v) [
             | inl h ↦ ap (λ b. cond b None (with_info i.parent less_children now w)) (eq-eqb w v h) ∙ sym (at_v h)
             | inr ne ↦ with_at-other v None (with_info i.parent less_children now) w ne ∙ elim (cases_eq w i.parent) [
               | inl h ↦
@@ -105,6 +105,6 @@ module _ (a v : ℕ) (users : ℕ → List ℕ) (gone : List ℕ) (info now : �
           ]
 
   -- it goes or stays, by its other users
-  pub one_left : (alone : Bool) → alone ≡ has_no_other a users v → (w : ℕ) → cond alone (destroyed v now) now w ≡ info_without a users (gone ++ v ∷ []) info w
+  pub one_left : (alone : Bool) → alone ≡ has_no_other a users v → (w : ℕ) → cond alone (without_anon v now) now w ≡ info_without a users (gone ++ v ∷ []) info w
   one_left true e w = one_goes (sym e) w
   one_left false e w = one_stays (sym e) w

@@ -11,7 +11,7 @@ use Rattle.av_anon.specs.Infos.{less_active, with_info, without_children}
 use Rattle.av_anon.specs.Anons.{give_own, is_empty, own_of, with_own, Family, IsRising}
 use Rattle.av_anon.specs.Order.{IsArea, IsChain, IsInOrder, is_child, owns}
 use Rattle.av_anon.specs.Spans.{GoWithLinks}
-use Rattle.av_anon.specs.Unlink.{has_no_other, info_without, unlinked}
+use Rattle.av_anon.specs.Unlink.{has_no_other, info_without, after_unlink}
 use Rattle.av_chain.proofs.TwoMaps.{without_none}
 use Rattle.av_anon.proofs.Words.{with_at-here, with_at-other, how_many-more}
 use Rattle.av_anon.proofs.OrderLemmas.{some_of, some_is, chain_kept_on, how_many-below, none_in, numbers_more, rising_absent}
@@ -289,7 +289,7 @@ module _ (areas : ℕ → Option Area) (f : Family) (spans : ℕ
       once false h = refl
 
   pub left_keeps : (spans' : ℕ → List Span) → GoWithLinks (give_own a None areas) (with_at a [] f.chain) spans'
-      → IsInOrder (give_own a None areas) (unlinked (Some own) a f) spans'
+      → IsInOrder (give_own a None areas) (after_unlink (Some own) a f) spans'
   left_keeps spans' spanned = record {
     chains = λ b. elim (cases_eq b a) [
       | inl e ↦ subst (λ m. IsChain info' f.next (own_of (areas' m)) (with_at a [] f.chain m)) (sym e)

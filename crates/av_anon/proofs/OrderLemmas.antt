@@ -8,7 +8,7 @@ use Rattle.av_arena.specs.Order.{AllOf}
 use Rattle.av_interval.specs.declared.span.Span.{Span}
 use Rattle.av_vma.specs.declared.area.Area.{Area}
 use Rattle.av_anon.specs.declared.infos.Info.{Info}
-use Rattle.av_anon.specs.Anons.{give_own, joined, own_of, users_with, with_own, Family, IsRising}
+use Rattle.av_anon.specs.Anons.{give_own, with_links, own_of, users_with, with_own, Family, IsRising}
 use Rattle.av_anon.specs.Order.{IsArea, IsChain, IsCounted, IsInOrder, owns}
 use Rattle.av_anon.specs.Spans.{GoWithLinks}
 use Rattle.av_anon.proofs.Words.{with_at-here, with_at-other, how_many-more}
@@ -228,11 +228,11 @@ module _ (areas : ℕ → Option Area) (f : Family) (spans : ℕ
         → IsChain info' next' (Some v) vs
         → ((b : ℕ) → own_of (areas b) ≡ Some v → f.chain b ≡ vs)
         → ((u : ℕ) (i : Info) → info' u ≡ Some i
-        → IsCounted (give_own a (Some v) areas) (joined a vs (record { next = next'; info = info'; chain = f.chain; users = f.users })) u i)
+        → IsCounted (give_own a (Some v) areas) (with_links a vs (record { next = next'; info = info'; chain = f.chain; users = f.users })) u i)
         → ((u : ℕ) → IsSome (info' u) → is_in u vs ≡ false → IsSome (f.info u))
         → ((u : ℕ) → IsSome (info' u) → u < next')
         → GoWithLinks (give_own a (Some v) areas) (with_at a vs f.chain) spans'
-        → IsInOrder (give_own a (Some v) areas) (joined a vs (record { next = next'; info = info'; chain = f.chain; users = f.users })) spans'
+        → IsInOrder (give_own a (Some v) areas) (with_links a vs (record { next = next'; info = info'; chain = f.chain; users = f.users })) spans'
     joined_keeps next' info' spans' x le mine alike counted live below spanned = record {
       chains = λ b. elim (cases_eq b a) [
         | inl e ↦ subst (λ m. IsChain info' next' (own_of (give_own a (Some v) areas m)) (with_at a vs f.chain m)) (sym e)

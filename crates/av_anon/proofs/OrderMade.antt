@@ -8,7 +8,7 @@ use Rattle.av_interval.specs.declared.span.Span.{Span}
 use Rattle.av_vma.specs.declared.area.Area.{Area}
 use Rattle.av_anon.specs.declared.infos.Info.{Info}
 use Rattle.av_anon.specs.Infos.{more_children, with_info}
-use Rattle.av_anon.specs.Anons.{give_own, joined, new_child, new_root, own_of, Family}
+use Rattle.av_anon.specs.Anons.{give_own, with_links, new_child, new_root, own_of, Family}
 use Rattle.av_anon.specs.Order.{IsChain, IsCounted, IsInOrder, is_child, owns}
 use Rattle.av_anon.specs.Spans.{GoWithLinks}
 use Rattle.av_anon.proofs.Words.{with_at-here, with_at-other, how_many-more, in_more, in_as_before, rising_more}
@@ -105,7 +105,7 @@ module _ (areas : ℕ → Option Area) (f : Family) (spans : ℕ → List Span) 
         → (j.children ≡ i.children + cond (R.parent == u) 1 0) × (j.active ≡ i.active))
         → IsChain (with_at f.next (Some R) info1) (suc f.next) (Some f.next) vs
         → GoWithLinks (give_own a (Some f.next) areas) (with_at a vs f.chain) spans'
-        → IsInOrder (give_own a (Some f.next) areas) (joined a vs (record {
+        → IsInOrder (give_own a (Some f.next) areas) (with_links a vs (record {
           next = suc f.next;
           info = with_at f.next
               (Some R) info1;
@@ -133,7 +133,7 @@ module _ (areas : ℕ → Option Area) (f : Family) (spans : ℕ → List Span) 
         ]
 
         counted : (u : ℕ) (i : Info) → with_at f.next (Some R) info1 u ≡ Some i
-            → IsCounted (give_own a (Some f.next) areas) (joined a vs (record {
+            → IsCounted (give_own a (Some f.next) areas) (with_links a vs (record {
               next = suc f.next;
               info = with_at f.next
                   (Some R) info1;
@@ -171,7 +171,7 @@ module _ (areas : ℕ → Option Area) (f : Family) (spans : ℕ → List Span) 
 
     -- a new root
     pub root_keeps : (spans' : ℕ → List Span) → GoWithLinks (give_own a (Some f.next) areas) (with_at a (f.next ∷ []) f.chain) spans'
-        → IsInOrder (give_own a (Some f.next) areas) (joined a (f.next ∷ []) (new_root f)) spans'
+        → IsInOrder (give_own a (Some f.next) areas) (with_links a (f.next ∷ []) (new_root f)) spans'
     root_keeps spans' spanned =
         made_keeps f.info (record { root = f.next; parent = f.next; children = 1; active = 1 }) (f.next ∷ []) spans' (λ u w. refl)
         (record { same = λ u i e. (i, e, refl, refl) }) (λ u h. h) refl (sym (ap flag (eq-eqb f.next f.next refl))) others mine spanned
@@ -218,7 +218,7 @@ module _ (areas : ℕ → Option Area) (f : Family) (spans : ℕ → List Span) 
     -- a new one below the own anon_vma of another area, whose chain it joins
     pub child_keeps : (src own : ℕ) (I : Info) (spans' : ℕ → List Span) → own_of (areas src) ≡ Some own → f.info own ≡ Some I
         → GoWithLinks (give_own a (Some f.next) areas) (with_at a (f.chain src ++ f.next ∷ []) f.chain) spans'
-        → IsInOrder (give_own a (Some f.next) areas) (joined a (f.chain src ++ f.next ∷ []) (new_child I.root own f)) spans'
+        → IsInOrder (give_own a (Some f.next) areas) (with_links a (f.chain src ++ f.next ∷ []) (new_child I.root own f)) spans'
     child_keeps src own I spans' is own_is spanned =
         made_keeps (with_info own more_children f.info) (record { root = I.root; parent = own; children = 0; active = 1 }) (f.chain src ++ f.next ∷ []) spans'
         (λ u w. child_same own f.info u w) x1 back refl (sym (ap flag (ne_eqb own f.next (λ e. absurd

@@ -7,7 +7,7 @@ use Rattle.av_interval.specs.declared.span.Span.{Span}
 use Rattle.av_vma.specs.declared.area.Area.{Area}
 use Rattle.av_anon.specs.declared.infos.Info.{Info}
 use Rattle.av_anon.specs.Infos.{more_active, with_info}
-use Rattle.av_anon.specs.Anons.{give_own, joined, own_of, raised, Family}
+use Rattle.av_anon.specs.Anons.{give_own, with_links, own_of, with_active_area, Family}
 use Rattle.av_anon.specs.Order.{IsChain, IsCounted, IsInOrder, is_child, owns}
 use Rattle.av_anon.specs.Spans.{GoWithLinks}
 use Rattle.av_anon.proofs.Words.{with_at-other}
@@ -34,7 +34,7 @@ module _ (areas : ℕ → Option Area) (f : Family) (spans : ℕ
     → List Span) (o : IsInOrder areas f spans) (a : ℕ) (A : Area) (isA : areas a ≡ Some A) (none : A.anon ≡ None) where
   pub raised_keeps : (v : ℕ) (vs : List ℕ) (spans' : ℕ → List Span) → IsChain f.info f.next (Some v) vs → ((b : ℕ) → own_of (areas b) ≡ Some v
       → f.chain b ≡ vs)
-      → GoWithLinks (give_own a (Some v) areas) (with_at a vs f.chain) spans' → IsInOrder (give_own a (Some v) areas) (joined a vs (raised v f)) spans'
+      → GoWithLinks (give_own a (Some v) areas) (with_at a vs f.chain) spans' → IsInOrder (give_own a (Some v) areas) (with_links a vs (with_active_area v f)) spans'
   raised_keeps v vs spans' mine alike spanned =
       let x = changed_extends v more_active f.info (λ i. refl) (λ i. refl) in
       joined_keeps areas f spans o a A isA none v vs f.next (with_info v more_active f.info) spans' x (omega arith)
@@ -60,7 +60,7 @@ module _ (areas : ℕ → Option Area) (f : Family) (spans : ℕ
       children u = how_many-below (λ w. is_child u (with_info v more_active f.info w)) (λ w. is_child u (f.info w)) 0 f.next (λ w lt. child_same v f.info u w)
 
       counted : (u : ℕ) (i : Info) → with_info v more_active f.info u ≡ Some i
-          → IsCounted (give_own a (Some v) areas) (joined a vs
+          → IsCounted (give_own a (Some v) areas) (with_links a vs
           (record { next = f.next; info = with_info v more_active f.info; chain = f.chain; users = f.users })) u i
       counted u i e =
           let m = some_of (f.info u) (there u (subst IsSome (sym e) refl)) in
@@ -89,14 +89,14 @@ module _ (areas : ℕ → Option Area) (f : Family) (spans : ℕ
   -- the chain and own anon_vma of another area
   pub clone_keeps : (src own : ℕ) (spans' : ℕ → List Span) → own_of (areas src) ≡ Some own
       → GoWithLinks (give_own a (Some own) areas) (with_at a (f.chain src) f.chain) spans'
-      → IsInOrder (give_own a (Some own) areas) (joined a (f.chain src) (raised own f)) spans'
+      → IsInOrder (give_own a (Some own) areas) (with_links a (f.chain src) (with_active_area own f)) spans'
   clone_keeps src own spans' is spanned =
       raised_keeps own (f.chain src) spans' (subst (λ w. IsChain f.info f.next w (f.chain src)) is (o.chains src)) (λ b h. o.alike b src own h is) spanned
 
   -- the chain of another area, and an inactive member of it as own
   pub reuse_keeps : (src v : ℕ) (i : Info) (spans' : ℕ → List Span) → is_in v (f.chain src) ≡ true → f.info v ≡ Some i → i.active ≡ 0
       → GoWithLinks (give_own a (Some v) areas) (with_at a (f.chain src) f.chain) spans'
-      → IsInOrder (give_own a (Some v) areas) (joined a (f.chain src) (raised v f)) spans'
+      → IsInOrder (give_own a (Some v) areas) (with_links a (f.chain src) (with_active_area v f)) spans'
   reuse_keeps src v i spans' v_in is inactive spanned = raised_keeps v (f.chain src) spans' mine (λ b h. absurd (nobody b h)) spanned
     where
       no : {w : ℕ} → ◌≡◌ {A = Option ℕ} (Some w) None → ⊥

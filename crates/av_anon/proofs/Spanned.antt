@@ -52,9 +52,9 @@ module _ (areas : ℕ → Option Area) (chain : ℕ → List ℕ) (spans : ℕ �
     there_in_all v h = found_of a (spans v) (span_at a A) [] (only v h)
 
     -- an area without links is linked to these, and its span put in
-    pub joined-spans : a < 2 ^ 64 → chain a ≡ [] → (anons : List ℕ) (new : ℕ → List Span) → ((v : ℕ)
+    pub with_links-spans : a < 2 ^ 64 → chain a ≡ [] → (anons : List ℕ) (new : ℕ → List Span) → ((v : ℕ)
         → new v ≡ spans_with anons (span_at a A) spans v) → GoWithLinks areas (with_at a anons chain) new
-    joined-spans fit empty anons new new_is = record {
+    with_links-spans fit empty anons new new_is = record {
       each = λ v n. elim (cases_eq n a) [
         | inl e ↦ subst (λ m. filter (is_of m) (new v) ≡ cond (is_in v (with_at a anons chain m)) (present m (areas m)) []) (sym e) (at_a v)
         | inr ne ↦ ap (filter (is_of n)) (new_is v) ∙ other n ne (is_in v anons) v ∙ g.each v n

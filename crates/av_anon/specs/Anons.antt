@@ -50,15 +50,15 @@ abbrev pub users_with : ℕ → List ℕ → (ℕ → List ℕ) → ℕ → List
 users_with area anons users v = if is_in v anons then users v ++ area ∷ [] else users v
 
 -- an area without anon_vmas is linked to these
-abbrev pub joined : ℕ → List ℕ → Family → Family
-joined area anons f = record f {
+abbrev pub with_links : ℕ → List ℕ → Family → Family
+with_links area anons f = record f {
   chain = with_at area anons f.chain;
   users = users_with area anons f.users;
 }
 
 -- one more area has the anon_vma as its own
-abbrev pub raised : ℕ → Family → Family
-raised anon f = record f { info = with_info anon more_active f.info }
+abbrev pub with_active_area : ℕ → Family → Family
+with_active_area anon f = record f { info = with_info anon more_active f.info }
 
 -- an anon_vma is made, its own root and parent, with one active area
 abbrev pub new_root : Family → Family

@@ -2,5 +2,5 @@
 use Rattle.std.specs.Prelude.{ℕ}
 use Rattle.av_vma.specs.declared.area.Area.{Area}
 
-abbrev pub resized : ℕ → ℕ → ℕ → Area → Area
-resized start end pgoff area = record area { start = start; end = end; pgoff = pgoff }
+abbrev pub with_bounds : ℕ → ℕ → ℕ → Area → Area
+with_bounds start end pgoff area = record area { start = start; end = end; pgoff = pgoff }

@@ -8,12 +8,12 @@ use Rattle.av_anon.specs.Anons.{Family, is_empty}
 use Rattle.av_anon.specs.Order.{is_child}
 
 -- an anon_vma goes, and its parent, if it is there, has a child less
-abbrev pub destroyed_by : Option Info → ℕ → (ℕ → Option Info) → ℕ → Option Info
-destroyed_by None v info = info
-destroyed_by (Some i) v info = with_at v None (with_info i.parent less_children info)
+abbrev pub without_anon_of : Option Info → ℕ → (ℕ → Option Info) → ℕ → Option Info
+without_anon_of None v info = info
+without_anon_of (Some i) v info = with_at v None (with_info i.parent less_children info)
 
-abbrev pub destroyed : ℕ → (ℕ → Option Info) → ℕ → Option Info
-destroyed v info = destroyed_by (info v) v info
+abbrev pub without_anon : ℕ → (ℕ → Option Info) → ℕ → Option Info
+without_anon v info = without_anon_of (info v) v info
 
 -- no other area is linked to it
 abbrev pub has_no_other : ℕ → (ℕ → List ℕ) → ℕ → Bool
@@ -29,14 +29,14 @@ info_without area users anons info v =
     (info v)
 
 -- the area leaves all its anon_vmas
-abbrev pub left_all : ℕ → Family → Family
-left_all area f = record f {
+abbrev pub without_links : ℕ → Family → Family
+without_links area f = record f {
   info = info_without area f.users (f.chain area) f.info;
   chain = with_at area [] f.chain;
   users = left_by_all area (f.chain area) f.users;
 }
 
-abbrev pub unlinked : Option ℕ → ℕ → Family → Family
-unlinked None area f = f
-unlinked (Some own) area f =
-    left_all area (record f { info = with_info own less_active f.info })
+abbrev pub after_unlink : Option ℕ → ℕ → Family → Family
+after_unlink None area f = f
+after_unlink (Some own) area f =
+    without_links area (record f { info = with_info own less_active f.info })

@@ -2,7 +2,7 @@
 ghost use Rattle.std.specs.Prelude.{◌≡◌, ℕ, ◌<◌, ◌^◌, Some, None, IsSome, IfOk, OnOk};
 ghost use Rattle.av_vma.specs.Areas.{area_of};
 ghost use Rattle.av_anon.specs.Anons.{family, own_of};
-ghost use Rattle.av_anon.specs.Fork.{child_chain, child_family, child_own, cloned, forked, forked_own, gets_own, is_idle, reused};
+ghost use Rattle.av_anon.specs.Fork.{child_chain, child_family, child_own, after_clone, after_fork, own_after_fork, gets_own, is_idle, member_to_reuse};
 ghost use Rattle.av_anon.specs.Infos.{info_in};
 ghost use Rattle.av_anon.specs.Order.{IsInOrder};
 ghost use Rattle.av_anon.specs.Spans.{spans_of, GoWithLinks};
@@ -26,7 +26,7 @@ impl Anons {
         requires dst { IsSome (area_of areas.old dst) }
         requires none { own_of (area_of areas.old dst) ≡ None }
         ensures family { OnOk result (family self.new
-            ≡ cloned (own_of (area_of areas.old src)) src dst (family self.old)) }
+            ≡ after_clone (own_of (area_of areas.old src)) src dst (family self.old)) }
         ensures areas { let own = own_of (area_of areas.old src) in
             OnOk result ((number : ℕ)
             → area_of areas.new number ≡ gets_own dst own (area_of areas.old) number) }
@@ -60,9 +60,9 @@ impl Anons {
         requires none { own_of (area_of areas.old dst) ≡ None }
         requires room { self.old.next < 2 ^ 60 }
         ensures family { OnOk result (family self.new
-            ≡ forked (own_of (area_of areas.old src)) src dst (family self.old)) }
+            ≡ after_fork (own_of (area_of areas.old src)) src dst (family self.old)) }
         ensures areas { let f = family self.old in
-            let own = forked_own (own_of (area_of areas.old src)) src f in
+            let own = own_after_fork (own_of (area_of areas.old src)) src f in
             OnOk result ((number : ℕ)
             → area_of areas.new number ≡ gets_own dst own (area_of areas.old) number) }
         ensures spans { OnOk result (GoWithLinks
@@ -90,11 +90,11 @@ impl Anons {
     fn own_for_child(&mut self, own: u64, chain: &mut Vec<u64>) -> Result<u64, AllocError>
         requires there { IsSome (info_in self.old.infos own) }
         requires room { self.old.next < 2 ^ 60 }
-        ensures anon { let reuse = reused (info_in self.old.infos) chain.old.items in
+        ensures anon { let reuse = member_to_reuse (info_in self.old.infos) chain.old.items in
             IfOk result (λ v. v ≡ child_own reuse self.old.next) }
-        ensures chain { let reuse = reused (info_in self.old.infos) chain.old.items in
+        ensures chain { let reuse = member_to_reuse (info_in self.old.infos) chain.old.items in
             OnOk result (chain.new.items ≡ child_chain reuse self.old.next chain.old.items) }
-        ensures family { let reuse = reused (info_in self.old.infos) chain.old.items in
+        ensures family { let reuse = member_to_reuse (info_in self.old.infos) chain.old.items in
             OnOk result (family self.new ≡ child_family reuse own (family self.old)) }
         ensures spans { self.new.spans ≡ self.old.spans }
     {
@@ -137,7 +137,7 @@ impl Anons {
 
 /// The first of these anon_vmas that is idle: fewer than two children, no active area, and no root.
 fn lowest_idle(infos: &Infos, anons: &[u64]) -> Option<u64>
-    ensures { result ≡ reused (info_in infos.now) anons.now }
+    ensures { result ≡ member_to_reuse (info_in infos.now) anons.now }
 {
     for anon in anons {
         if may_be_reused(infos, *anon) {

@@ -4,12 +4,12 @@ ghost use Rattle.av_base.specs.Words.{with_at};
 ghost use Rattle.av_interval.specs.declared.span.Span.{Span};
 ghost use Rattle.av_vma.specs.declared.area.Area.{Area};
 ghost use Rattle.av_anon.specs.Anons.{give_own, nobody, own_of, Family};
-ghost use Rattle.av_anon.specs.Fork.{cloned, forked, forked_own, gets_own};
+ghost use Rattle.av_anon.specs.Fork.{after_clone, after_fork, own_after_fork, gets_own};
 ghost use Rattle.av_anon.specs.Order.{IsArea, IsInOrder};
-ghost use Rattle.av_anon.specs.Prepare.{lent_to, prepared, prepared_own};
-ghost use Rattle.av_anon.specs.Resize.{resized};
+ghost use Rattle.av_anon.specs.Prepare.{loan_to, after_prepare, own_after_prepare};
+ghost use Rattle.av_anon.specs.Resize.{with_bounds};
 ghost use Rattle.av_anon.specs.Spans.{span_at, GoWithLinks};
-ghost use Rattle.av_anon.specs.Unlink.{unlinked};
+ghost use Rattle.av_anon.specs.Unlink.{after_unlink};
 
 /// Without areas and anon_vmas there is chain order.
 pub fn nobody_is_in_order()
@@ -21,9 +21,9 @@ pub fn prepare_keeps_order()
     ensures { (areas : ℕ → Option Area) (f : Family) (spans spans' : ℕ → List Span)
         (area : ℕ) (A : Area) (before after : Option ℕ)
         → IsInOrder areas f spans → areas area ≡ Some A → A.anon ≡ None
-        → let lent = lent_to areas f.chain area before after in
-        let areas' = give_own area (Some (prepared_own lent f)) areas in
-        let f' = prepared area lent f in
+        → let loan = loan_to areas f.chain area before after in
+        let areas' = give_own area (Some (own_after_prepare loan f)) areas in
+        let f' = after_prepare area loan f in
         GoWithLinks areas' f'.chain spans' → IsInOrder areas' f' spans' }
 {}
 
@@ -34,7 +34,7 @@ pub fn clone_keeps_order()
         → IsInOrder areas f spans → areas dst ≡ Some A → A.anon ≡ None
         → let own = own_of (areas src) in
         let areas' = gets_own dst own areas in
-        let f' = cloned own src dst f in
+        let f' = after_clone own src dst f in
         GoWithLinks areas' f'.chain spans' → IsInOrder areas' f' spans' }
 {}
 
@@ -44,8 +44,8 @@ pub fn fork_keeps_order()
         (src dst : ℕ) (A : Area)
         → IsInOrder areas f spans → areas dst ≡ Some A → A.anon ≡ None
         → let own = own_of (areas src) in
-        let areas' = gets_own dst (forked_own own src f) areas in
-        let f' = forked own src dst f in
+        let areas' = gets_own dst (own_after_fork own src f) areas in
+        let f' = after_fork own src dst f in
         GoWithLinks areas' f'.chain spans' → IsInOrder areas' f' spans' }
 {}
 
@@ -53,8 +53,8 @@ pub fn fork_keeps_order()
 pub fn resize_keeps_order()
     ensures { (areas : ℕ → Option Area) (f : Family) (spans spans' : ℕ → List Span)
         (area start end pgoff : ℕ) (A : Area)
-        → IsInOrder areas f spans → areas area ≡ Some A → IsArea (resized start end pgoff A)
-        → let areas' = with_at area (Some (resized start end pgoff A)) areas in
+        → IsInOrder areas f spans → areas area ≡ Some A → IsArea (with_bounds start end pgoff A)
+        → let areas' = with_at area (Some (with_bounds start end pgoff A)) areas in
         GoWithLinks areas' f.chain spans' → IsInOrder areas' f spans' }
 {}
 
@@ -64,7 +64,7 @@ pub fn unlink_keeps_order()
         (area : ℕ) (A : Area)
         → IsInOrder areas f spans → areas area ≡ Some A
         → let areas' = give_own area None areas in
-        let f' = unlinked (own_of (areas area)) area f in
+        let f' = after_unlink (own_of (areas area)) area f in
         GoWithLinks areas' f'.chain spans' → IsInOrder areas' f' spans' }
 {}
 

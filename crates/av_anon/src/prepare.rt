@@ -5,10 +5,10 @@ ghost use Rattle.av_vma.specs.Areas.{area_of};
 ghost use Rattle.av_chain.specs.Links.{chain_of};
 ghost use Rattle.av_interval.specs.Spans.{IsNew};
 ghost use Rattle.av_vma.specs.declared.area.Area.{Area};
-ghost use Rattle.av_anon.specs.Anons.{family, give_own, joined, new_root, own_of, IsRising};
+ghost use Rattle.av_anon.specs.Anons.{family, give_own, with_links, new_root, own_of, IsRising};
 ghost use Rattle.av_anon.specs.Infos.{info_in};
 ghost use Rattle.av_anon.specs.Order.{IsArea, IsInOrder};
-ghost use Rattle.av_anon.specs.Prepare.{lent, lent_near, lent_to, prepared, prepared_kin, prepared_own, MayStand};
+ghost use Rattle.av_anon.specs.Prepare.{loan, loan_near, loan_to, after_prepare, kin_after_prepare, own_after_prepare, MayStand};
 ghost use Rattle.av_anon.specs.Spans.{span_at, spans_of, spans_with, GoWithLinks};
 
 use crate::anons::Anons;
@@ -37,19 +37,19 @@ impl Anons {
         requires after { MayStand (area_of areas.old) after }
         requires room { self.old.next < 2 ^ 60 }
         ensures family { let f = family self.old in
-            let lent = lent_to (area_of areas.old) f.chain area before after in
-            OnOk result (family self.new ≡ prepared area lent f) }
+            let loan = loan_to (area_of areas.old) f.chain area before after in
+            OnOk result (family self.new ≡ after_prepare area loan f) }
         ensures areas { let f = family self.old in
-            let lent = lent_to (area_of areas.old) f.chain area before after in
-            let own = Some (prepared_own lent f) in
+            let loan = loan_to (area_of areas.old) f.chain area before after in
+            let own = Some (own_after_prepare loan f) in
             OnOk result ((number : ℕ)
             → area_of areas.new number ≡ give_own area own (area_of areas.old) number) }
         ensures spans { OnOk result (GoWithLinks
             (area_of areas.new) (family self.new).chain (spans_of self.new)) }
     {
         let this = areas.get(area);
-        let lent = lent_anon(&self.links, areas, &this, before, after);
-        let anon = self.own_from(lent)?;
+        let loan = lent_anon(&self.links, areas, &this, before, after);
+        let anon = self.own_from(loan)?;
         self.join(area, &this, &[anon])?;
         areas.change(
             area,
@@ -62,14 +62,14 @@ impl Anons {
     }
 
     // The anon_vma that is lent, which has an active area more; else a new root.
-    fn own_from(&mut self, lent: Option<u64>) -> Result<u64, AllocError>
-        requires there { (v : ℕ) → lent ≡ Some v → IsSome (info_in self.old.infos v) }
+    fn own_from(&mut self, loan: Option<u64>) -> Result<u64, AllocError>
+        requires there { (v : ℕ) → loan ≡ Some v → IsSome (info_in self.old.infos v) }
         requires room { self.old.next < 2 ^ 60 }
-        ensures anon { IfOk result (λ v. v ≡ prepared_own lent (family self.old)) }
-        ensures family { OnOk result (family self.new ≡ prepared_kin lent (family self.old)) }
+        ensures anon { IfOk result (λ v. v ≡ own_after_prepare loan (family self.old)) }
+        ensures family { OnOk result (family self.new ≡ kin_after_prepare loan (family self.old)) }
         ensures spans { self.new.spans ≡ self.old.spans }
     {
-        match lent {
+        match loan {
             Some(anon) => {
                 self.infos.count_active_up(anon)?;
                 Ok(anon)
@@ -108,7 +108,7 @@ impl Anons {
         requires empty { (family self.old).chain area ≡ [] }
         requires rising { IsRising anons.now }
         requires new { (v : ℕ) → is_in v anons.now ≡ true → IsNew area (spans_of self.old v) }
-        ensures family { OnOk result (family self.new ≡ joined area anons.now (family self.old)) }
+        ensures family { OnOk result (family self.new ≡ with_links area anons.now (family self.old)) }
         ensures spans { OnOk result ((v : ℕ) → spans_of self.new v
             ≡ spans_with anons.now (span_at area this.now) (spans_of self.old) v) }
     {
@@ -131,7 +131,7 @@ fn lent_anon(
     requires before { MayStand (area_of areas.now) before }
     requires after { MayStand (area_of areas.now) after }
     ensures { result
-        ≡ lent_near (area_of areas.now) (chain_of links.now) area.now before after }
+        ≡ loan_near (area_of areas.now) (chain_of links.now) area.now before after }
 {
     match lent_from(links, areas, area, after) {
         Some(anon) => Some(anon),
@@ -144,7 +144,7 @@ fn lent_from(links: &Links, areas: &Areas, area: &Area, near: Option<AreaId>) ->
     requires fits { IsArea area.now }
     requires all_fit { (a : ℕ) (A : Area) → area_of areas.now a ≡ Some A → IsArea A }
     requires there { MayStand (area_of areas.now) near }
-    ensures { result ≡ lent (area_of areas.now) (chain_of links.now) area.now near }
+    ensures { result ≡ loan (area_of areas.now) (chain_of links.now) area.now near }
 {
     let Some(number) = near else {
         return None;

@@ -5,7 +5,7 @@ ghost use Rattle.av_vma.specs.Areas.{area_of};
 ghost use Rattle.av_vma.specs.declared.area.Area.{Area};
 ghost use Rattle.av_anon.specs.Anons.{family};
 ghost use Rattle.av_anon.specs.Order.{IsArea, IsInOrder};
-ghost use Rattle.av_anon.specs.Resize.{resized};
+ghost use Rattle.av_anon.specs.Resize.{with_bounds};
 ghost use Rattle.av_anon.specs.Spans.{spans_of, GoWithLinks};
 
 use crate::anons::Anons;
@@ -30,10 +30,10 @@ impl Anons {
         requires order { IsInOrder (area_of areas.old) (family self.old) (spans_of self.old) }
         requires there { IsSome (area_of areas.old area) }
         requires fits { (A : Area) → area_of areas.old area ≡ Some A
-            → IsArea (resized start end pgoff A) }
+            → IsArea (with_bounds start end pgoff A) }
         ensures family { family self.new ≡ family self.old }
         ensures areas { OnOk result ((number : ℕ) → area_of areas.new number
-            ≡ with_at area (option_map (resized start end pgoff) (area_of areas.old area))
+            ≡ with_at area (option_map (with_bounds start end pgoff) (area_of areas.old area))
             (area_of areas.old) number) }
         ensures spans { OnOk result (GoWithLinks
             (area_of areas.new) (family self.new).chain (spans_of self.new)) }

@@ -9,7 +9,7 @@ ghost use Rattle.av_anon.specs.Anons.{family, give_own, is_empty, own_of, IsRisi
 ghost use Rattle.av_anon.specs.Infos.{info_in};
 ghost use Rattle.av_anon.specs.Order.{IsInOrder};
 ghost use Rattle.av_anon.specs.Spans.{spans_of, spans_without, GoWithLinks};
-ghost use Rattle.av_anon.specs.Unlink.{destroyed, left_all, unlinked};
+ghost use Rattle.av_anon.specs.Unlink.{without_anon, without_links, after_unlink};
 
 use crate::anons::Anons;
 use crate::infos::Infos;
@@ -28,7 +28,7 @@ impl Anons {
         requires order { IsInOrder (area_of areas.old) (family self.old) (spans_of self.old) }
         requires there { IsSome (area_of areas.old area) }
         ensures family { family self.new
-            ≡ unlinked (own_of (area_of areas.old area)) area (family self.old) }
+            ≡ after_unlink (own_of (area_of areas.old area)) area (family self.old) }
         ensures areas { (number : ℕ)
             → area_of areas.new number ≡ give_own area None (area_of areas.old) number }
         ensures spans { GoWithLinks
@@ -48,7 +48,7 @@ impl Anons {
         requires rising { IsRising (chain_of self.old.links area) }
         requires there { (v : ℕ) → is_in v (chain_of self.old.links area) ≡ true
             → IsSome (entry_at key (key_of first area) (spans_of self.old v)) }
-        ensures family { family self.new ≡ left_all area (family self.old) }
+        ensures family { family self.new ≡ without_links area (family self.old) }
         ensures spans { (v : ℕ) → spans_of self.new v
             ≡ spans_without (chain_of self.old.links area) (key_of first area)
             (spans_of self.old) v }
@@ -63,7 +63,7 @@ impl Anons {
         requires rising { IsRising (chain_of self.old.links area) }
         requires there { (v : ℕ) → is_in v (chain_of self.old.links area) ≡ true
             → IsSome (entry_at key (key_of first area) (spans_of self.old v)) }
-        ensures family { family self.new ≡ left_all area (family self.old) }
+        ensures family { family self.new ≡ without_links area (family self.old) }
         ensures spans { (v : ℕ) → spans_of self.new v
             ≡ spans_without (chain_of self.old.links area) (key_of first area)
             (spans_of self.old) v }
@@ -79,7 +79,7 @@ impl Anons {
 // An anon_vma goes if no area is linked to it.
 fn destroy_unused(links: &Links, infos: &mut Infos, anon: u64)
     ensures { info_in infos.new ≡ (if is_empty (users_of links.now anon)
-        then destroyed anon (info_in infos.old) else info_in infos.old) }
+        then without_anon anon (info_in infos.old) else info_in infos.old) }
 {
     if is_unused(links, anon) {
         destroy(infos, anon);
@@ -88,7 +88,7 @@ fn destroy_unused(links: &Links, infos: &mut Infos, anon: u64)
 
 // An anon_vma goes, and its parent, if it is there, has a child less.
 fn destroy(infos: &mut Infos, anon: u64)
-    ensures { info_in infos.new ≡ destroyed anon (info_in infos.old) }
+    ensures { info_in infos.new ≡ without_anon anon (info_in infos.old) }
 {
     let Some(info) = infos.get(anon) else {
         return;

@@ -6,7 +6,7 @@ use Rattle.av_interval.specs.declared.span.Span.{Span}
 use Rattle.av_vma.specs.declared.area.Area.{Area}
 use Rattle.av_anon.specs.Anons.{give_own, Family}
 use Rattle.av_anon.specs.Order.{IsChain, IsInOrder}
-use Rattle.av_anon.specs.Prepare.{lent_near, lent_to, prepared, prepared_own}
+use Rattle.av_anon.specs.Prepare.{loan_near, loan_to, after_prepare, own_after_prepare}
 use Rattle.av_anon.specs.Spans.{GoWithLinks}
 use Rattle.av_anon.proofs.Choosing.{one_node_near}
 use Rattle.av_anon.proofs.OrderMade.{root_keeps}
@@ -25,9 +25,9 @@ single v (x ∷ (y ∷ ys)) one h = absurd (omega arith)
 
 by_lent : (areas : ℕ → Option Area) (f : Family) (spans spans' : ℕ → List Span) (area : ℕ) (A : Area) (before after : Option ℕ)
     → IsInOrder areas f spans → areas area ≡ Some A → A.anon ≡ None
-    → (lent : Option ℕ) → lent_near areas f.chain A before after ≡ lent
-    → GoWithLinks (give_own area (Some (prepared_own lent f)) areas) (prepared area lent f).chain spans'
-    → IsInOrder (give_own area (Some (prepared_own lent f)) areas) (prepared area lent f) spans'
+    → (loan : Option ℕ) → loan_near areas f.chain A before after ≡ loan
+    → GoWithLinks (give_own area (Some (own_after_prepare loan f)) areas) (after_prepare area loan f).chain spans'
+    → IsInOrder (give_own area (Some (own_after_prepare loan f)) areas) (after_prepare area loan f) spans'
 by_lent areas f spans spans' area A before after o is none None e g = root_keeps areas f spans o area A is none spans' g
 by_lent areas f spans spans' area A before after o is none (Some v) e g =
     let near = one_node_near areas f.chain A before after v e in
@@ -39,5 +39,5 @@ by_lent areas f spans spans' area A before after o is none (Some v) e g =
 
 pub returns : goal.returns
 returns c = λ areas f spans spans' area A before after o is none.
-    by_lent areas f spans spans' area A before after o is none (lent_to areas f.chain area before after) (ap (λ m. option_and_then (λ
-    (b : Area). lent_near areas f.chain b before after) m) (sym is))
+    by_lent areas f spans spans' area A before after o is none (loan_to areas f.chain area before after) (ap (λ m. option_and_then (λ
+    (b : Area). loan_near areas f.chain b before after) m) (sym is))

@@ -6,7 +6,7 @@ use Rattle.av_vma.specs.declared.area.Area.{Area}
 use Rattle.av_anon.specs.Anons.{give_own, own_of, with_own, Family}
 use Rattle.av_anon.specs.Order.{IsArea, IsChain, IsInOrder, owns}
 use Rattle.av_anon.specs.Spans.{GoWithLinks}
-use Rattle.av_anon.specs.Unlink.{unlinked}
+use Rattle.av_anon.specs.Unlink.{after_unlink}
 use Rattle.av_anon.proofs.OrderLeft.{left_keeps}
 use Rattle.av_anon.proofs.OrderLemmas.{some_is}
 use Rattle.av_anon.proofs.Words.{with_at-here, with_at-other}
@@ -21,8 +21,8 @@ module _ (areas : ℕ → Option Area) (f : Family) (spans spans' : ℕ → List
     | inr ne ↦ ap own_of (with_at-other a (with_own None (areas a)) areas b ne)
   ]
 
-  by_own : (own : Option ℕ) → A.anon ≡ own → GoWithLinks (give_own a None areas) (unlinked own a f).chain spans'
-      → IsInOrder (give_own a None areas) (unlinked own a f) spans'
+  by_own : (own : Option ℕ) → A.anon ≡ own → GoWithLinks (give_own a None areas) (after_unlink own a f).chain spans'
+      → IsInOrder (give_own a None areas) (after_unlink own a f) spans'
   by_own (Some own) e g = left_keeps areas f spans o a own A is e spans' g
   by_own None e g = record {
     chains = λ b. subst (λ w. IsChain f.info f.next w (f.chain b)) (sym (same_own e b)) (o.chains b);
@@ -46,6 +46,6 @@ module _ (areas : ℕ → Option Area) (f : Family) (spans spans' : ℕ → List
 
 pub returns : goal.returns
 returns c = λ areas f spans spans' a A o is.
-    subst (λ m. GoWithLinks (give_own a None areas) (unlinked m a f).chain spans'
-    → IsInOrder (give_own a None areas) (unlinked m a f) spans') (sym (ap own_of is))
+    subst (λ m. GoWithLinks (give_own a None areas) (after_unlink m a f).chain spans'
+    → IsInOrder (give_own a None areas) (after_unlink m a f) spans') (sym (ap own_of is))
     (by_own areas f spans spans' a A o is A.anon Rattle.std.proofs.Common.refl)

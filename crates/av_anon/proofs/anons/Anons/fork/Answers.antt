@@ -4,7 +4,7 @@ use Rattle.av_chain.specs.Links.{chain_of}
 use Rattle.av_interval.specs.Spans.{IsNew, triples}
 use Rattle.av_vma.specs.Areas.{area_of}
 use Rattle.av_anon.specs.Anons.{family, IsRising}
-use Rattle.av_anon.specs.Fork.{reused}
+use Rattle.av_anon.specs.Fork.{member_to_reuse}
 use Rattle.av_anon.specs.Spans.{span_at, spans_of, spans_with}
 use Rattle.av_anon.proofs.Choosing.{child_family_chain, child_rising}
 use Rattle.av_anon.proofs.Given.{given-spans, own-given}
@@ -15,7 +15,7 @@ pub join-requires-clause-empty : goal.join-requires-clause-empty
 join-requires-clause-empty c =
     let f = family c.args.self.now in
     ap (λ g. g.chain c.args.dst) c.in_ok-anon.ensures.family
-    ∙ ap (λ g. g c.args.dst) (child_family_chain (reused f.info c.in_ok-chain.chain.items) c.in-Some.own f)
+    ∙ ap (λ g. g c.args.dst) (child_family_chain (member_to_reuse f.info c.in_ok-chain.chain.items) c.in-Some.own f)
     ∙ (c.requires.order.chains c.args.dst).none c.requires.none
 
 pub join-requires-clause-rising : goal.join-requires-clause-rising
@@ -25,7 +25,7 @@ join-requires-clause-rising c =
     let src = c.requires.order.chains c.args.src in
     let rising : IsRising xs = subst IsRising (sym c.in_ok-chain.ensures) src.rising in
     let below : (v : ℕ) → is_in v xs ≡ true → v < f.next = λ v h. src.made v (ap (is_in v) (sym c.in_ok-chain.ensures) ∙ h) in
-    subst IsRising (sym (c.deref.ensures.value ∙ c.in_ok-anon.ensures.chain)) (child_rising (reused f.info xs) f.next xs rising below)
+    subst IsRising (sym (c.deref.ensures.value ∙ c.in_ok-anon.ensures.chain)) (child_rising (member_to_reuse f.info xs) f.next xs rising below)
 
 pub join-requires-clause-new : goal.join-requires-clause-new
 join-requires-clause-new c = λ v h.
@@ -44,7 +44,7 @@ returns-clause-spans c =
     let fit : dst < 2 ^ 64 = omega arith in
     let empty = (c.requires.order.chains dst).none c.requires.none in
     let same : chain_of c.own_for_child.new.self.links ≡ f.chain = ap (λ g. g.chain) c.in_ok-anon.ensures.family
-    ∙ child_family_chain (reused f.info c.in_ok-chain.chain.items) c.in-Some.own f in
+    ∙ child_family_chain (member_to_reuse f.info c.in_ok-chain.chain.items) c.in-Some.own f in
     given-spans areas areas' f.chain (chain_of c.join.new.self.links) (spans_of c.args.self.now) c.requires.order.spanned dst this c.get-this.ensures fit
     (Some c.in_ok-anon.anon) xs (spans_of c.join.new.self) empty
     (λ v. c.in_ok-join.ensures.spans v ∙ ap (λ s. spans_with xs (span_at dst this) (triples s) v) c.own_for_child.ensures.spans)

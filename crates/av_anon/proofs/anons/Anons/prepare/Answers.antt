@@ -13,14 +13,14 @@ use Rattle.av_anon.proofs.anons.Anons.prepare.Goals as goal
 pub own_from-requires-clause-there : goal.own_from-requires-clause-there
 own_from-requires-clause-there c = λ v h.
     let f = family c.args.self.now in
-    let lender = one_node_near (area_of c.args.areas.now) f.chain c.get-this.result c.args.before c.args.after v (sym c.lent_anon-lent.ensures ∙ h) in
+    let lender = one_node_near (area_of c.args.areas.now) f.chain c.get-this.result c.args.before c.args.after v (sym c.lent_anon-loan.ensures ∙ h) in
     let chain = c.requires.order.chains lender.0 in
     chain.there v (chain.own_in v lender.1)
 
 pub join-requires-clause-empty : goal.join-requires-clause-empty
 join-requires-clause-empty c =
     let f = family c.args.self.now in
-    ap (λ g. g.chain c.args.area) c.in_ok-anon.ensures.family ∙ ap (λ g. g c.args.area) (kin_chain c.lent_anon-lent.result f)
+    ap (λ g. g.chain c.args.area) c.in_ok-anon.ensures.family ∙ ap (λ g. g c.args.area) (kin_chain c.lent_anon-loan.result f)
     ∙ (c.requires.order.chains c.args.area).none c.requires.none
 
 pub join-requires-clause-new : goal.join-requires-clause-new
@@ -39,7 +39,7 @@ returns-clause-spans c =
     let v = c.in_ok-anon.anon in
     let fit : a < 2 ^ 64 = omega arith in
     let empty = (c.requires.order.chains a).none c.requires.none in
-    let same : chain_of c.own_from.new.self.links ≡ f.chain = ap (λ g. g.chain) c.in_ok-anon.ensures.family ∙ kin_chain c.lent_anon-lent.result f in
+    let same : chain_of c.own_from.new.self.links ≡ f.chain = ap (λ g. g.chain) c.in_ok-anon.ensures.family ∙ kin_chain c.lent_anon-loan.result f in
     given-spans areas areas' f.chain (chain_of c.join.new.self.links) (spans_of c.args.self.now) c.requires.order.spanned a this c.get-this.ensures fit
     (Some v) (v ∷ []) (spans_of c.join.new.self) empty
     (λ w. c.in_ok-join.ensures.spans w ∙ ap (λ s. spans_with (v ∷ []) (span_at a this) (triples s) w) c.own_from.ensures.spans)

@@ -6,9 +6,9 @@ use Rattle.av_interval.specs.Spans.{triples}
 use Rattle.av_vma.specs.Areas.{area_of}
 use Rattle.av_vma.specs.Join.{index_of, past_of}
 use Rattle.av_vma.specs.declared.area.Area.{Area}
-use Rattle.av_anon.specs.Resize.{resized}
+use Rattle.av_anon.specs.Resize.{with_bounds}
 use Rattle.av_anon.specs.Spans.{span_at, spans_of, spans_with, spans_without}
-use Rattle.av_anon.proofs.Given.{resized-spans}
+use Rattle.av_anon.proofs.Given.{with_bounds-spans}
 use Rattle.av_anon.proofs.Spanned.{left-spans, new_to_all, there_in_all}
 use Rattle.av_anon.proofs.Words.{with_at-here}
 use Rattle.av_anon.proofs.anons.Anons.resize.Goals as goal
@@ -41,13 +41,13 @@ returns-clause-spans c =
     let spans = spans_of c.args.self.now in
     let a = c.args.area in
     let k = key_of c.get-old.result.pgoff a in
-    let B : Area = resized c.args.start c.args.end c.args.pgoff c.get-old.result in
+    let B : Area = with_bounds c.args.start c.args.end c.args.pgoff c.get-old.result in
     let fit : a < 2 ^ 64 = omega arith in
     let is : c.deref.result.now ≡ chain a = c.deref.ensures.value ∙ c.in_ok-chain.ensures in
     let is' : c.deref-2.result.now ≡ chain a = c.deref-2.ensures.value ∙ c.in_ok-chain.ensures in
     let left = triples c.unspan_each.new.spans in
     let last : c.index-last.result - 1 ≡ index_of B (past_of B) - 1 = ap (λ n. n - 1) c.index-last.ensures in
-    resized-spans areas (area_of c.change.new.self) chain chain spans c.requires.order.spanned a c.get-old.result c.get-old.ensures fit B left
+    with_bounds-spans areas (area_of c.change.new.self) chain chain spans c.requires.order.spanned a c.get-old.result c.get-old.ensures fit B left
     (triples c.span_each.new.spans)
     (λ w. c.unspan_each.ensures w ∙ ap (λ xs. spans_without xs k spans w) is)
     (λ w. c.in_ok-span_each.ensures w ∙ ap (λ n. spans_with c.deref-2.result.now (triple c.args.pgoff n a) left w) last
