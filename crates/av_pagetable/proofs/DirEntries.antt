@@ -45,6 +45,13 @@ later_part x y span some h = le-div (x / span) y span some (omega (arith, h, sta
 later_there : (x y span : ℕ) → x ≤ y → x / span ≡ y / span → x % span ≤ y % span
 later_there x y span h same = let e : x / span * span ≡ y / span * span = ap (λ d. d * span) same in omega (arith, h, e, div-add-mod' x span, div-add-mod' y span)
 
+-- a part of a later number starts past the page
+starts_past : (x n span : ℕ) → 0 < span → x / span < n → x ≤ n * span
+starts_past x n span some h = elim (cases_lt (n * span) x) [
+  | inl lt ↦ absurd (omega (arith, h, le-div n x span some (omega (arith, lt))))
+  | inr ge ↦ omega (arith, ge)
+]
+
 pub next_row : (i span : ℕ) → (i + 1) * span ≡ i * span + span
 next_row i span = grind arith
 
@@ -152,21 +159,15 @@ module _ {C : Type 0} (at : C → ℕ → Pte) (span : ℕ) (parts : List (ℕ �
           entry_there x same ∙ first.least (x % span) (later_there page x span from (sym here ∙ same)) (there_before p.0 q x span to (sym same))
 
   -- and where an earlier page of the parts before has none
-  pub first_later : (page q : ℕ) → 0 < span → page / span < p.0 → ((x : ℕ) → page ≤ x → x / span < p.0 → entries at span parts x ≡ Empty) → IsFirst (at p.1) 0 span q
+  pub first_later : (page q : ℕ) → 0 < span → page ≤ p.0 * span → ((x : ℕ) → page ≤ x → x / span < p.0 → entries at span parts x ≡ Empty) → IsFirst (at p.1) 0 span q
       → IsFirst (entries at span parts) page (span * 512) (p.0 * span + q)
   first_later page q some later none first = record {
-    from_there = start;
+    from_there = omega (arith, later);
     below = mul-add-lt p.0 span q 512 low first.below;
     there = λ none. first.there (sym (entries_there q first.below) ∙ none);
     least = least;
   }
     where
-      start : page ≤ p.0 * span + q
-      start = elim (cases_lt (p.0 * span) page) [
-        | inl lt ↦ absurd (omega (arith, later, le-div p.0 page span some (omega (arith, lt))))
-        | inr ge ↦ omega (arith, ge)
-      ]
-
       least : (x : ℕ) → page ≤ x → x < p.0 * span + q → entries at span parts x ≡ Empty
       least x from to = elim (cases_eq (x / span) p.0) [
         | inl same ↦ entry_there x (sym same) ∙ first.least (x % span) (omega arith) (there_before p.0 q x span to same)
@@ -213,7 +214,7 @@ module _ {C : Type 0} (at : C → ℕ → Pte) (span : ℕ) (parts : List (ℕ �
       ]
 
   pub from_place : (page m : ℕ) (r : Option ℕ) → ((x : ℕ) → page ≤ x → AllWithin (λ part. x / span < part.0) parts m (length parts) → entries at span parts x ≡ Empty)
-      → ((p : ℕ × C) → m < length parts → p ≡ get_or parts m p → page / span < p.0)
+      → ((p : ℕ × C) → m < length parts → p ≡ get_or parts m p → page ≤ p.0 * span)
       → MatchOption r ((q : ℕ) → 0 ≤ q → entries_at at parts m q ≡ Empty) (λ found. IsFirstIn at span parts m 0 found)
       → MatchOption r ((q : ℕ) → page ≤ q → entries at span parts q ≡ Empty) (λ found. IsFirst (entries at span parts) page (span * 512) found)
   from_place page m (Some page') passed later (p, q, is, found_is, first) =
@@ -240,7 +241,7 @@ module _ {C : Type 0} (at : C → ℕ → Pte) (span : ℕ) (parts : List (ℕ �
   after_part page k r within number none = elim (slice_get_cases parts k).1 [
     | inl (p, _, is, at_k) ↦ from_place page (k + 1) r
         (not_later page k p within (sym at_k) (ap (λ part. part.0) (sym at_k) ∙ number p) (λ q from. ap (λ o. in_part at (option_map (λ part. part.1) o) q) (sym is) ∙ none q from))
-        (λ p' within' is'. let lt = good.rising k (k + 1) p' (omega arith) within' in omega (arith, lt, number p', ap (λ part. part.0) is'))
+        (λ p' within' is'. let lt = good.rising k (k + 1) p' (omega arith) within' in starts_past page p'.0 span some (omega (arith, lt, number p', ap (λ part. part.0) is')))
     | inr (past, _) ↦ absurd (omega (arith, past, within))
   ]
 
@@ -248,7 +249,12 @@ module _ {C : Type 0} (at : C → ℕ → Pte) (span : ℕ) (parts : List (ℕ �
   pub after_gap : (page k : ℕ) (r : Option ℕ) → k ≤ length parts → AllWithin (λ part. part.0 < page / span) parts 0 k → AllWithin (λ part. page / span < part.0) parts k (length parts)
       → MatchOption r ((q : ℕ) → 0 ≤ q → entries_at at parts k q ≡ Empty) (λ found. IsFirstIn at span parts k 0 found)
       → MatchOption r ((q : ℕ) → page ≤ q → entries at span parts q ≡ Empty) (λ found. IsFirst (entries at span parts) page (span * 512) found)
-  after_gap page k r within lower higher = from_place page k r (not_there page k within lower) (λ p within' is'. let lt = higher k p (omega arith) within' in omega (arith, lt, ap (λ part. part.0) is'))
+  after_gap page k r within lower higher = from_place page k r (not_there page k within lower) (λ p within' is'. let lt = higher k p (omega arith) within' in starts_past page p.0 span some (omega (arith, lt, ap (λ part. part.0) is')))
+
+  -- the first part has the first of all
+  pub from_start : (r : Option ℕ) → MatchOption r ((q : ℕ) → 0 ≤ q → entries_at at parts 0 q ≡ Empty) (λ found. IsFirstIn at span parts 0 0 found)
+      → MatchOption r ((q : ℕ) → 0 ≤ q → entries at span parts q ≡ Empty) (λ found. IsFirst (entries at span parts) 0 (span * 512) found)
+  from_start r = from_place 0 0 r (not_there 0 0 (omega arith) (λ i d low high. absurd (omega (arith, low, high)))) (λ p within is. omega arith)
 
 -- ---- a directory is empty exactly where it has no part
 pub some_entry : {C : Type 0} (at : C → ℕ → Pte) (span : ℕ) (parts : List (ℕ × C)) → AreParts at span parts → 0 < length parts → HasSome (span * 512) (entries at span parts)

@@ -227,3 +227,13 @@ few {C = C} at span (p ∷ ps) good = let high = number (length ps) (omega arith
     number : (i : ℕ) → i < length (p ∷ ps) → i ≤ (get_or (p ∷ ps) i p).0
     number zero h = omega arith
     number (suc i) h = let less = good.rising i (suc i) p (omega arith) h in let before = number i (omega (arith, h)) in omega (arith, less, before)
+
+-- a number below the first part's is below each part's
+pub before_first : {C : Type 0} (parts : List (ℕ × C)) (number : ℕ) (first : ℕ × C) → AllPairs (λ part later. part.0 < later.0) parts → first ≡ get_or parts 0 first → number < first.0
+    → (k : ℕ) (d : ℕ × C) → 0 ≤ k → k < length parts → number < (get_or parts k d).0
+before_first parts number first rising is less zero d low high = subst (λ part. number < part.0) (is ∙ get_or_default parts 0 first d high) less
+before_first parts number first rising is less (suc k) d low high =
+    let now = ap (λ part. part.0) is in
+    let later = rising 0 (suc k) first (omega arith) high in
+    let same = ap (λ part. part.0) (get_or_default parts (suc k) first d high) in
+    omega (arith, less, now, later, same)

@@ -116,10 +116,19 @@ impl<C: Level> Level for Dir<C> {
         match self.place(page / span) {
             Ok(place) => match self.next_in(place, page % span) {
                 Some(found) => Some(found),
-                None => self.next_in(place + 1, 0),
+                None => self.first_in(place + 1),
             },
-            Err(place) => self.next_in(place, 0),
+            Err(place) => self.first_in(place),
         }
+    }
+
+    #[inline]
+    fn first(&self) -> Option<u64> {
+        let _span = C::span();
+        if self.parts.is_empty() {
+            return None;
+        }
+        self.first_in(0)
     }
 
     fn held(&self) -> u64 {
@@ -140,17 +149,43 @@ impl<C: Level> Dir<C> {
         ensures { IsPlace number self.now result }
     {
         let parts = &self.parts;
-        let len = parts.len();
-        if len == 0 {
+        if parts.is_empty() {
             return Err(0);
         }
+        // A walk comes to each part at its start, and pages far apart have one part each.
+        let first = u64::from(parts[0].0);
+        if number == first {
+            return Ok(0);
+        }
+        if number < first {
+            return Err(0);
+        }
+        self.place_past(number)
+    }
+
+    // The same, where there is a part: by two guesses, else by a search.
+    fn place_past(&self, number: u64) -> Result<usize, usize>
+        requires some { 0 < length self.now }
+        ensures { IsPlace number self.now result }
+    {
+        let parts = &self.parts;
+        let len = parts.len();
         if u64::from(parts[len - 1].0) < number {
             return Err(len);
         }
-        // Where no number between is missing, the place is known.
-        let guess = number.wrapping_sub(u64::from(parts[0].0));
-        if guess < len as u64 && u64::from(parts[guess as usize].0) == number {
-            return Ok(guess as usize);
+        let first = u64::from(parts[0].0);
+        let reach = number.wrapping_sub(first);
+        // Where no number between is missing.
+        if reach < len as u64 && u64::from(parts[reach as usize].0) == number {
+            return Ok(reach as usize);
+        }
+        // Where the numbers stand evenly.
+        let width = u64::from(parts[len - 1].0).wrapping_sub(first);
+        let steps = reach.wrapping_mul(len as u64 - 1).wrapping_add(width / 2);
+        if let Some(guess) = steps.checked_div(width) {
+            if guess < len as u64 && u64::from(parts[guess as usize].0) == number {
+                return Ok(guess as usize);
+            }
         }
         parts.binary_search_by_key(&(number as u16), |part| part.0)
     }
@@ -168,6 +203,22 @@ impl<C: Level> Dir<C> {
         }
         let part = &self.parts[place];
         let found = part.1.next_from(from)?;
+        Some(u64::from(part.0) * C::span() + found)
+    }
+
+    // The least page with an entry in the part at a place.
+    #[inline]
+    fn first_in(&self, place: usize) -> Option<u64>
+        requires fits { C.span * 512 ≤ page_bound }
+        ensures { MatchOption result
+            ((q : ℕ) → 0 ≤ q → entries_at C.at self.now place q ≡ Pte.Empty)
+            (λ page. IsFirstIn C.at C.span self.now place 0 page) }
+    {
+        if place >= self.parts.len() {
+            return None;
+        }
+        let part = &self.parts[place];
+        let found = part.1.first()?;
         Some(u64::from(part.0) * C::span() + found)
     }
 

@@ -68,6 +68,13 @@ pub trait Level: Drop {
             ((q : ℕ) → page ≤ q → at self.now q ≡ Pte.Empty)
             (λ q. IsFirst (at self.now) page span q) };
 
+    /// The least page that has an entry.
+    fn first(&self) -> Option<u64>
+        requires fits { span ≤ page_bound }
+        ensures { MatchOption result
+            ((q : ℕ) → 0 ≤ q → at self.now q ≡ Pte.Empty)
+            (λ q. IsFirst (at self.now) 0 span q) };
+
     /// How many tables the part is made of.
     fn held(&self) -> u64
         requires fits { span ≤ page_bound }

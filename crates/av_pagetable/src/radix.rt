@@ -57,6 +57,10 @@ impl Level for Pte {
         }
     }
 
+    fn first(&self) -> Option<u64> {
+        if self.is_empty() { None } else { Some(0) }
+    }
+
     fn held(&self) -> u64 {
         0
     }

@@ -26,12 +26,11 @@ fn processes_come_and_go(rt: HostRuntime) -> Result<(), AllocError> {
     let mut tables: Tables<MapTable> = Tables::new(rt.alloc());
     tables.spawn(rt.alloc(), 9)?;
     tables.spawn(rt.alloc(), 4)?;
-    let mut digits = 0u64;
-    for process in tables.pids() {
-        digits = digits.wrapping_mul(10).wrapping_add(u64::from(*process));
-    }
-    assert_eq!(rt; digits, 49);
+    assert_eq!(rt; tables.process_from(0), Some(4));
+    assert_eq!(rt; tables.process_from(5), Some(9));
+    assert_eq!(rt; tables.process_from(10), None);
     tables.end(9);
+    assert_eq!(rt; tables.process_from(5), None);
     assert!(rt; tables.of(9).is_none());
     if let Some(table) = tables.of_mut(4) {
         table.set(1, Pte::Zero)?;

@@ -1,12 +1,9 @@
-use Rattle.std.proofs.Common.{rules, subst}
-use Rattle.std.proofs.lemmas.List.Sorted.{answers_always}
-use Rattle.std.specs.List.Sorted.{IsSearchInRange}
-use Rattle.av_pagetable.proofs.DirParts.{searched}
+use Rattle.std.proofs.Common.{◌<◌, arith, subst}
+use Rattle.av_pagetable.proofs.DirParts.{before_first}
 use Rattle.av_pagetable.proofs.dir.Dir.place.Goals as goal
 
-pub returns : goal.returns
-returns g c =
-    let d = c.self.inside in
-    let facts = c.binary_search_by_key.ensures in
-    let by_key = facts.position (λ part. part.0) (answers_always _ _ _ (λ f a r g called. search rules)) in
-    rw (← c.self.view_is) (searched d.parts.items c.args.number c.binary_search_by_key.result c.self.invariant.rising (subst (IsSearchInRange c.binary_search_by_key.result) d.parts.ok.0 facts.bound) by_key)
+pub returns-then-number-first-2 : goal.returns-then-number-first-2
+returns-then-number-first-2 g c =
+    let parts = c.self.inside.parts.items in
+    let less : c.args.number < c.index.result.now.0 = subst (λ n. c.args.number < n) c.from-first.ensures c.if-number-first-2.true in
+    rw (← c.self.view_is) (omega arith, (λ k d low high. absurd (omega (arith, low, high))), before_first parts c.args.number c.index.result.now c.self.invariant.rising c.index.ensures less)
