@@ -95,12 +95,12 @@ area_in p areas spans n s stands e = each (areas n) refl (of_some (λ s. IsSomeA
     each (Some area) e h = record { area = area; area_is = e; is = h }
 
 -- the span with a number that the tree has at a page
-record IsSpanAt (spans : List Span) (page number : ℕ) : Type 0 where
-  span : Span
-  span_is : span_of spans number ≡ Some span
-  holds : holds span page ≡ true
+pub record IsSpanAt (spans : List Span) (page number : ℕ) : Type 0 where
+  pub span : Span
+  pub span_is : span_of spans number ≡ Some span
+  pub holds : holds span page ≡ true
 
-span_at : (spans : List Span) (page n : ℕ) → AreDistinct spans → area_at spans page ≡ Some n → IsSpanAt spans page n
+pub span_at : (spans : List Span) (page n : ℕ) → AreDistinct spans → area_at spans page ≡ Some n → IsSpanAt spans page n
 span_at spans page n distinct e = each (span_of spans n) refl (of_some (λ n. IsSomeAnd (span_of spans n) (λ s. holds s page ≡ true)) (area_at spans page) n e (held spans page distinct))
   where
     each : (o : Option Span) → span_of spans n ≡ o → IsSomeAnd o (λ s. holds s page ≡ true) → IsSpanAt spans page n
