@@ -1,9 +1,10 @@
 //! Joining: two areas become one where the second goes on in the way of the first.
 
-ghost use Rattle.std.specs.Prelude.{◌≡◌, ℕ, ◌<◌, IsSome, IfSome, OnOk, true};
+ghost use Rattle.std.specs.Prelude.{◌≡◌, ℕ, ◌-◌, ◌<◌, Some, IsSome, IfSome, OnOk, true};
 ghost use Rattle.av_vma.specs.Areas.{area_of};
-ghost use Rattle.av_vmatree.specs.Spans.{span_of};
+ghost use Rattle.av_vmatree.specs.Spans.{area_at, span_of};
 ghost use Rattle.av_vma.specs.Pages.{joined_around, joined_at, merged};
+ghost use Rattle.av_merge.specs.Mapping.{DoDiffer};
 ghost use Rattle.av_merge.specs.Pages.{pages_by};
 ghost use Rattle.av_merge.specs.Process.{AreAreasOf, Stays, AreOfOne, StayOfOne, Becomes};
 
@@ -37,21 +38,58 @@ pub fn join_at(areas: &mut Areas, tree: &mut Tree, at: u64) -> Result<(), AllocE
     ensures pages { OnOk result
         (Becomes areas.old tree.old areas.new tree.new (joined_at at)) }
 {
-    let Some(left) = tree.find(at - 1) else {
+    let (below, above) = tree.around(at);
+    let Some(left) = below else {
         return Ok(());
     };
-    let Some(right) = tree.find(at) else {
+    let Some(right) = above else {
         return Ok(());
     };
+    if left.to != at || right.from != at {
+        return Ok(());
+    }
+    join(areas, tree, left.area, right.area, at);
+    Ok(())
+}
+
+/// Makes one of the areas on the two sides of the boundary before the page `at`, where they are
+/// mergeable.
+fn join(areas: &mut Areas, tree: &mut Tree, left: AreaId, right: AreaId, at: u64)
+    requires stands { AreOfOne areas.old tree.old }
+    requires below { area_at tree.old (at - 1) ≡ Some left }
+    requires above { area_at tree.old at ≡ Some right }
+    ensures stands { StayOfOne areas.old tree.old areas.new tree.new }
+    ensures pages { Becomes areas.old tree.old areas.new tree.new (joined_at at) }
+{
     let lower = areas.get(left);
     let upper = areas.get(right);
     if !mergeable(&lower, 0, &upper, 0) {
-        return Ok(());
+        return;
     }
     tree.remove(right, at);
     areas.remove(right);
     replace(areas, tree, left, merge(lower, upper));
-    Ok(())
+}
+
+/// Tries the boundary before the page `at`, unless the areas on its two sides are known not to be
+/// alike.
+pub fn join_unless(
+    areas: &mut Areas,
+    tree: &mut Tree,
+    differs: bool,
+    at: u64,
+) -> Result<(), AllocError>
+    requires stands { AreOfOne areas.old tree.old }
+    requires some { 0 < at }
+    requires differ { differs ≡ true → DoDiffer at (pages_by (area_of areas.old) tree.old) }
+    ensures stands { StayOfOne areas.old tree.old areas.new tree.new }
+    ensures pages { OnOk result
+        (Becomes areas.old tree.old areas.new tree.new (joined_at at)) }
+{
+    if differs {
+        return Ok(());
+    }
+    join_at(areas, tree, at)
 }
 
 /// Two areas that adjoin as one, with the anon_vma that either has.

@@ -50,9 +50,14 @@ in_row P s spans k t e first later = elim (eqb k s.area) as (λ b. cond b (Some 
   | false ↦ λ e. later e
 ] e
 
-all_found : (P : Span → Type 0) (n : ℕ) (xs : List Span) (a : Span) → AllOf P xs → span_of xs n ≡ Some a → P a
+pub all_found : (P : Span → Type 0) (n : ℕ) (xs : List Span) (a : Span) → AllOf P xs → span_of xs n ≡ Some a → P a
 all_found P n [] a all e = absurd (none-some a e)
 all_found P n (b ∷ xs) a all e = in_row (P a) b xs n a e (λ same. subst P same all.0) (λ later. all_found P n xs a all.1 later)
+
+-- no span is empty
+pub all_wide : (xs : List Span) → AreApart xs → AllOf (λ t. t.from < t.to) xs
+all_wide [] apart = tt
+all_wide (b ∷ xs) apart = (apart.0, all_wide xs apart.2)
 
 none_below : (xs : List Span) (page : ℕ) → AllOf (λ t. page ≤ t.from) xs → last_below xs page ≡ None
 none_below [] page all = refl
