@@ -1,5 +1,6 @@
 -- A cut, over pages alone: what it leaves, and where it changes nothing.
 use Rattle.std.proofs.Common.{◌≡◌, ℕ, ◌+◌, ◌-◌, ◌*◌, ◌/◌, ◌<◌, ◌≤◌, max, min, nat_lt, true, false, cond, if◌then◌else◌, List, inl, inr, Option, Some, None, is_some, option_map, IfSome, IsSomeAnd, refl, sym, ap, subst, ◌∙◌, arith}
+use Rattle.std.specs.Prelude.{option_and_then}
 use Rattle.std.proofs.lemmas.Option.{same_Some}
 use Rattle.std.proofs.lemmas.Bool.{both_ways, false_from_ne_true, ltb-true, ltb-false, cases_lt, lt-ltb, le-ltb}
 use Rattle.av_vma.specs.declared.area.Area.{Area}
@@ -291,3 +292,68 @@ cut_keeps on at page starts area e = each (on page) refl e
 pub none_after : (p at page : ℕ) (areas areas' : ℕ → Option Area) (spans spans' : List Span) → AreAreasOf p areas spans → AreAreasOf p areas' spans' → NoneCrosses page spans → ((q : ℕ) → pages_by areas' spans' q ≡ cut_at at (pages_by areas spans) q) → NoneCrosses page spans'
 none_after p at page areas areas' spans spans' stands stands' none pages =
     none_from p page areas' spans' stands' (λ area e. cut_keeps (pages_by areas spans) at page (none_starts p page areas spans stands none) area (sym (pages page) ∙ e))
+
+-- ---- an area is cut at a page of its own, or past one
+
+-- the area that has a page, by its number
+pub record IsFound (p n page : ℕ) (areas : ℕ → Option Area) (spans : List Span) (area : Area) : Type 0 where
+  pub span : Span
+  pub span_is : span_of spans n ≡ Some span
+  pub is : IsAreaOf p span area
+  pub here : pages_by areas spans page ≡ Some area
+  pub low : first_of area ≤ page
+  pub high : page < past_of area
+
+pub found : (p n page : ℕ) (areas : ℕ → Option Area) (spans : List Span) (area : Area) → AreAreasOf p areas spans → area_at spans page ≡ Some n → areas n ≡ Some area → IsFound p n page areas spans area
+found p n page areas spans area stands at used =
+    let here : pages_by areas spans page ≡ Some area = ap (option_and_then areas) at ∙ used in
+    let on = is_on p areas spans page area stands here in
+    let same : n ≡ on.number = same_Some n on.number (sym at ∙ on.at) in
+    record { span = on.span; span_is = ap (span_of spans) same ∙ on.span_is; is = on.is; here = here; low = (has_parts area page on.has).0; high = (has_parts area page on.has).1 }
+
+pub found_inside : (p n at : ℕ) (areas : ℕ → Option Area) (spans : List Span) (area : Area) → IsFound p n at areas spans area → first_of area < at → IsSomeAnd (span_of spans n) (λ s. (s.from < at) × (at < s.to))
+found_inside p n at areas spans area f below =
+    let from = f.is.from in
+    let to = f.is.to in
+    let high = f.high in
+    subst (λ o. IsSomeAnd o (λ s. (s.from < at) × (at < s.to))) (sym f.span_is) (omega arith, omega arith)
+
+-- an area that begins with a page isn't cut there
+pub begins_uncut : (on : Pages) (at : ℕ) (area : Area) → AreLaid on → on at ≡ Some area → at ≤ first_of area → (page : ℕ) → on page ≡ cut_at at on page
+begins_uncut on at area laid here first = uncut on at laid (λ other e. subst (λ a. at ≤ first_of a) (same_Some area other (sym here ∙ e)) first)
+
+-- nor is one that ends before it
+pub ends_uncut : (on : Pages) (at : ℕ) (area : Area) → AreLaid on → 0 < at → on (at - 1) ≡ Some area → past_of area ≤ at → (page : ℕ) → on page ≡ cut_at at on page
+ends_uncut on at area laid some before past = uncut on at laid (λ other e. elim (cases_lt (first_of other) at) [
+  | inr first ↦ first
+  | inl below ↦
+      let k = has_parts other at (laid.here at other e) in
+      let high = k.1 in
+      let same : area ≡ other = same_Some area other (sym before ∙ laid.all at (at - 1) other e (has_from other (at - 1) (omega arith) (omega arith))) in
+      let far : at < past_of area = subst (λ a. at < past_of a) (sym same) high in
+      absurd (omega arith)
+])
+
+-- an area that goes up to a page has the one before it
+pub has_before : (p n at : ℕ) (areas : ℕ → Option Area) (spans : List Span) (area : Area) → AreAreasOf p areas spans → IsSomeAnd (span_of spans n) (λ s. (s.from < at) × (at ≤ s.to)) → areas n ≡ Some area → (0 < at) × (pages_by areas spans (at - 1) ≡ Some area)
+has_before p n at areas spans area stands inside used = each (span_of spans n) refl inside
+  where
+    each : (o : Option Span) → span_of spans n ≡ o → IsSomeAnd o (λ s. (s.from < at) × (at ≤ s.to)) → (0 < at) × (pages_by areas spans (at - 1) ≡ Some area)
+    each None e h = absurd h
+    each (Some s) e h = let low = h.0 in let high = h.1 in (omega arith, on_span p areas spans n s area (at - 1) stands e used (omega arith) (omega arith))
+
+-- what begins with a page, after a cut there, goes as far as what was on the page
+pub goes_to : (p n from past : ℕ) (on : Pages) (areas : ℕ → Option Area) (spans : List Span) → AreAreasOf p areas spans → from < past → area_at spans from ≡ Some n → pages_by areas spans from ≡ cut_at from on from → IsSomeAnd (on from) (λ area. past ≤ past_of area) → IsSomeAnd (span_of spans n) (λ s. (s.from < past) × (past ≤ s.to))
+goes_to p n from past on areas spans stands some at is far = each (on from) refl far
+  where
+    each : (o : Option Area) → on from ≡ o → IsSomeAnd o (λ area. past ≤ past_of area) → IsSomeAnd (span_of spans n) (λ s. (s.from < past) × (past ≤ s.to))
+    each None e h = absurd h
+    each (Some area) e h =
+        let part = record area { start = max area.start (4096 * from); pgoff = area.pgoff + (from - first_of area) } in
+        let cut : part_of from from area ≡ part = rw (le-ltb from from (omega arith)) refl in
+        let x = is_on p areas spans from part stands (is ∙ ap (option_map (part_of from from)) e ∙ ap Some cut) in
+        let same : x.number ≡ n = same_Some x.number n (sym x.at ∙ at) in
+        let low = (has_parts part from x.has).0 in
+        let first = x.is.from in
+        let last = x.is.to in
+        subst (λ o. IsSomeAnd o (λ s. (s.from < past) × (past ≤ s.to))) (sym (ap (span_of spans) (sym same) ∙ x.span_is)) (omega arith, omega arith)

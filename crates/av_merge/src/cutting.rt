@@ -2,6 +2,7 @@
 
 ghost use Rattle.std.specs.Prelude.{◌≡◌, ℕ, ◌<◌, ◌≤◌, [], Some, IsSomeAnd, OnOk, IfOk};
 ghost use Rattle.av_vma.specs.Areas.{area_of};
+ghost use Rattle.av_vma.specs.Join.{past_of};
 ghost use Rattle.av_vmatree.specs.Spans.{area_at, last_below, span_of};
 ghost use Rattle.av_merge.specs.Pages.{pages_by};
 ghost use Rattle.av_vma.specs.Pages.{cut_at, emptied, unmapped};
@@ -112,6 +113,69 @@ fn split_below(
         Some(span) if at < span.to => split(areas, tree, span.area, at),
         _ => Ok(()),
     }
+}
+
+/// Makes the pages from `from` to below `past`, all of one area, an area of their own, and answers
+/// its number.
+pub fn cut_out(
+    areas: &mut Areas,
+    tree: &mut Tree,
+    area: AreaId,
+    from: u64,
+    past: u64,
+) -> Result<AreaId, AllocError>
+    requires stands { AreOfOne areas.old tree.old }
+    requires some { from < past }
+    requires there { area_at tree.old from ≡ Some area }
+    requires inside { IsSomeAnd (pages_by (area_of areas.old) tree.old from)
+        (λ area. past ≤ past_of area) }
+    ensures stands { StayOfOne areas.old tree.old areas.new tree.new }
+    ensures pages { OnOk result (Becomes areas.old tree.old areas.new tree.new
+        (λ on. cut_at past (cut_at from on))) }
+    ensures part { IfOk result (λ part. area_at tree.new from ≡ Some part) }
+{
+    let part = split_from(areas, tree, area, from)?;
+    split_to(areas, tree, part, past)?;
+    Ok(part)
+}
+
+/// Cuts an area before one of its pages, where it doesn't begin there, and answers the number of
+/// the area that does.
+fn split_from(
+    areas: &mut Areas,
+    tree: &mut Tree,
+    area: AreaId,
+    at: u64,
+) -> Result<AreaId, AllocError>
+    requires stands { AreOfOne areas.old tree.old }
+    requires there { area_at tree.old at ≡ Some area }
+    ensures stands { StayOfOne areas.old tree.old areas.new tree.new }
+    ensures pages { OnOk result
+        (Becomes areas.old tree.old areas.new tree.new (cut_at at)) }
+    ensures part { IfOk result (λ part. area_at tree.new at ≡ Some part) }
+{
+    if areas.get(area).start / PAGE_SIZE < at {
+        divide(areas, tree, area, at)
+    } else {
+        Ok(area)
+    }
+}
+
+/// Cuts an area past one of its pages, where it goes on there. The lower part keeps the number.
+fn split_to(areas: &mut Areas, tree: &mut Tree, area: AreaId, at: u64) -> Result<(), AllocError>
+    requires stands { AreOfOne areas.old tree.old }
+    requires inside { IsSomeAnd (span_of tree.old area) (λ s. (s.from < at) × (at ≤ s.to)) }
+    ensures stands { StayOfOne areas.old tree.old areas.new tree.new }
+    ensures pages { OnOk result
+        (Becomes areas.old tree.old areas.new tree.new (cut_at at)) }
+    ensures lower { OnOk result ((page : ℕ) → page < at → area_at tree.old page ≡ Some area
+        → area_at tree.new page ≡ Some area) }
+{
+    if areas.get(area).end / PAGE_SIZE <= at {
+        return Ok(());
+    }
+    divide(areas, tree, area, at)?;
+    Ok(())
 }
 
 /// Takes away the pages from `from` to below `to`. An area that goes past an end of the range is
