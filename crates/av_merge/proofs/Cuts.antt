@@ -104,9 +104,9 @@ module _ (on : Pages) (from to : ℕ) (area : Area) (are : AreLaid on) (there : 
     | false ↦ λ out.
         let apart : within from (to - from) page ≡ false = false_from_ne_true _ (λ h. let k = within_parts from (to - from) page h in let low = k.0 in let high = k.1 in both_ways _ out (has_from area page (omega arith) (omega arith))) in
         rw apart (
-          other_stays from below (omega arith) out (on page) refl
-          ∙ ap (option_map (part_of from page)) (other_stays to (omega arith) inside out (on page) refl)
-          ∙ swapped (on page) refl out
+        other_stays from below (omega arith) out (on page) refl
+        ∙ ap (option_map (part_of from page)) (other_stays to (omega arith) inside out (on page) refl)
+        ∙ swapped (on page) refl out
         )
   ] refl
     where
@@ -357,3 +357,73 @@ goes_to p n from past on areas spans stands some at is far = each (on from) refl
         let first = x.is.from in
         let last = x.is.to in
         subst (λ o. IsSomeAnd o (λ s. (s.from < past) × (past ≤ s.to))) (sym (ap (span_of spans) (sym same) ∙ x.span_is)) (omega arith, omega arith)
+
+-- ---- an area is made three
+
+-- the part of an area between two pages
+abbrev pub middle_of : ℕ → ℕ → Area → Area
+middle_of from past area =
+    record area { start = 4096 * from; end = 4096 * past; pgoff = index_of area from }
+
+module _ (p n from past : ℕ) (areas : ℕ → Option Area) (spans : List Span) (area : Area) (stands : AreAreasOf p areas spans) (used : areas n ≡ Some area) (some : from < past) (c : IsCrossed p n from past spans area) where
+  pub middle_whole : IsWhole (middle_of from past area)
+  middle_whole =
+      let w = c.is.whole in
+      let below = c.low in
+      let above = c.high in
+      record { start = omega arith; end = omega arith; some = omega arith; low = omega arith; high = omega arith; small = omega arith }
+
+  middle_has : (page : ℕ) → has_page (middle_of from past area) page ≡ within from (past - from) page
+  middle_has page = λ i. within (page_of from i) (page_of past i - page_of from i) page
+
+  -- the pages between have gone
+  module _ (areas' : ℕ → Option Area) (spans' : List Span) (stands' : AreAreasOf p areas' spans') (pages' : (page : ℕ) → pages_by areas' spans' page ≡ unmapped from past (pages_by areas spans) page) where
+    pub middle_stands : AreAreasOf area.pid areas' spans'
+    middle_stands = subst (λ q. AreAreasOf q areas' spans') (sym c.is.process) stands'
+
+    pub middle_free : IsFree (taken spans') (first_of (middle_of from past area)) (past_of (middle_of from past area))
+    middle_free page low high =
+        let first = page_of from in
+        let last = page_of past in
+        sym (taken_is p areas' spans' page stands') ∙ ap is_some (pages' page ∙ ap (λ b. cond b None (cut_at past (cut_at from (pages_by areas spans)) page)) (within_from from (past - from) page (omega arith) (omega arith)))
+
+    pub middle_pages : (areas'' : ℕ → Option Area) (spans'' : List Span) → ((page : ℕ) → pages_by areas'' spans'' page ≡ placed (middle_of from past area) (pages_by areas' spans') page) → (page : ℕ) → pages_by areas'' spans'' page ≡ cut_at past (cut_at from (pages_by areas spans)) page
+    middle_pages areas'' spans'' pages'' page =
+        pages'' page
+        ∙ ap (λ b. cond b (Some (middle_of from past area)) (pages_by areas' spans' page)) (middle_has page)
+        ∙ elim (within from (past - from) page) as (λ b. within from (past - from) page ≡ b → cond b (Some (middle_of from past area)) (pages_by areas' spans' page) ≡ cut_at past (cut_at from (pages_by areas spans)) page) [
+          | true ↦ λ h.
+              let k = within_parts from (past - from) page h in
+              sym (ap (λ o. option_map (part_of past page) (option_map (part_of from page) o)) (here page k.0 (let last = k.1 in omega arith)) ∙ ap Some (part page k.0 (let last = k.1 in omega arith)))
+          | false ↦ λ h. pages' page ∙ ap (λ b. cond b None (cut_at past (cut_at from (pages_by areas spans)) page)) h
+        ] refl
+      where
+        here : (page : ℕ) → from ≤ page → page < past → pages_by areas spans page ≡ Some area
+        here page low high =
+            let first = c.is.from in
+            let last = c.is.to in
+            let below = c.low in
+            let above = c.high in
+            on_span p areas spans n c.span area page stands c.there used (omega arith) (omega arith)
+
+        part : (page : ℕ) → from ≤ page → page < past → part_of past page (part_of from page area) ≡ middle_of from past area
+        part page low high =
+            let w = c.is.whole in
+            let start = w.start in
+            let end = w.end in
+            let below = c.low in
+            let above = c.high in
+            let first : max area.start (4096 * from) ≡ 4096 * from = omega arith in
+            let last : min area.end (4096 * past) ≡ 4096 * past = omega arith in
+            let offset : area.pgoff + (from - first_of area) ≡ index_of area from = omega arith in
+            rw (le-ltb page from low, lt-ltb page past high) (λ i. record area { start = first i; end = last i; pgoff = offset i })
+
+  pub middle_number : (spans' spans'' : List Span) (number : ℕ) → ((page : ℕ) → area_at spans'' page ≡ cond (has_page (middle_of from past area) page) (Some number) (area_at spans' page)) → area_at spans'' from ≡ Some number
+  middle_number spans' spans'' number numbers = numbers from ∙ ap (λ b. cond b (Some number) (area_at spans' from)) (middle_has from ∙ within_from from (past - from) from (omega arith) (omega arith))
+
+-- an area that is found, and goes on past a range on both sides, is crossed by it
+pub found_crossed : (p n from past : ℕ) (areas : ℕ → Option Area) (spans : List Span) (area : Area) → IsFound p n from areas spans area → first_of area < from → past < past_of area → IsSomeAnd (span_of spans n) (λ s. (s.from < from) × (past < s.to))
+found_crossed p n from past areas spans area f below above =
+    let first = f.is.from in
+    let last = f.is.to in
+    subst (λ o. IsSomeAnd o (λ s. (s.from < from) × (past < s.to))) (sym f.span_is) (omega arith, omega arith)

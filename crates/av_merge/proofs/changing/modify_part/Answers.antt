@@ -17,7 +17,7 @@ join_unless-requires-clause-stands c =
     let p = c.requires.stands.0 in (
       p,
       changed_stands p c.args.from c.args.past c.in_ok-number.number (effect_of c.args.change) c.get-part.result (area_of c.args.areas.now) (area_of c.cut_out.new.areas) (area_of c.change.new.self) c.args.tree.now c.cut_out.new.tree
-    c.requires.some c.requires.inside c.requires.stands.1 (c.cut_out.ensures.stands p c.requires.stands.1) c.in_ok-number.ensures.pages c.in_ok-number.ensures.part c.get-part.ensures (λ k. c.change.ensures k ∙ ap (λ (a : Area). with_at c.in_ok-number.number (Some a) (area_of c.cut_out.new.areas) k) c.apply.ensures),
+          c.requires.some c.requires.inside c.requires.stands.1 (c.cut_out.ensures.stands p c.requires.stands.1) c.in_ok-number.ensures.pages c.in_ok-number.ensures.part c.get-part.ensures (λ k. c.change.ensures k ∙ ap (λ (a : Area). with_at c.in_ok-number.number (Some a) (area_of c.cut_out.new.areas) k) c.apply.ensures),
     )
 
 pub join_unless-requires-clause-some : goal.join_unless-requires-clause-some

@@ -1,5 +1,4 @@
 use Rattle.std.proofs.Common.{IsSomeAnd, ◌<◌, ◌∙◌, sym, subst}
-use Rattle.av_vmatree.specs.Spans.{span_of}
 use Rattle.av_vmatree.proofs.Sides.{below_is}
 use Rattle.av_merge.proofs.cutting.cut.Goals as goal
 

@@ -1,4 +1,3 @@
-use Rattle.std.proofs.Common.{◌≡◌, arith}
 use Rattle.av_vma.specs.Areas.{area_of}
 use Rattle.av_merge.specs.Pages.{pages_by}
 use Rattle.av_merge.proofs.Cuts.{begins_uncut, found, found_inside}
