@@ -177,6 +177,12 @@ right_side spans at s good e begins =
     let wide : s.from < s.to = all_found (λ t. t.from < t.to) s.area spans s (all_wide spans good.apart) k.there in
     at_span spans s.area s at good.apart k.there (omega arith) (omega arith)
 
+-- and the page before its end
+pub last_side : (spans : List Span) (at past : ℕ) (s : Span) → AreSpans spans → at < past → first_from spans at ≡ Some s → s.from ≡ at → s.to ≡ past → area_at spans (past - 1) ≡ Some s.area
+last_side spans at past s good some e begins ends =
+    let k = from_is spans at s good.distinct e in
+    at_span spans s.area s (past - 1) good.apart k.there (omega arith) (omega arith)
+
 -- where pages are mapped with another protection or flags, their areas don't join
 pub differ_apart : (at : ℕ) (on : Pages) → DoDiffer at on → (left right : Area) → on (at - 1) ≡ Some left → on at ≡ Some right → join left right ≡ true → ⊥
 differ_apart at on differ left right before after joins =
