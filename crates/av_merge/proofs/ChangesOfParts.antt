@@ -151,22 +151,18 @@ module _ (p from past number : ℕ) (effect : Effect) (area : Area) (areas two c
         (changed_in from (omega arith) some high)
         (λ prot flags. not_so effect one altered (sym prot) (sym flags))
 
-    pub differs_above : past < past_of one → (new : Pages) → ((page : ℕ) → new page ≡ joined_at from (pages_by changed spans'') page) → DoDiffer past new
-    differs_above above new joined =
+    pub differs_above : past < past_of one → DoDiffer past (joined_at from (pages_by changed spans''))
+    differs_above above =
         let least = low in
-        differ_at past new (remapped effect (mapping_in (past - 1) one)) (mapping_in past one)
-        (kept (past - 1) ∙ changed_in (past - 1) (omega arith) (omega arith) (omega arith))
-        (kept past ∙ beside past (λ first last. omega arith) (omega arith) above)
+        differ_at past (joined_at from (pages_by changed spans'')) (remapped effect (mapping_in (past - 1) one)) (mapping_in past one)
+        (joined_maps from (pages_by changed spans'') laid_after (past - 1) ∙ changed_in (past - 1) (omega arith) (omega arith) (omega arith))
+        (joined_maps from (pages_by changed spans'') laid_after past ∙ beside past (λ first last. omega arith) (omega arith) above)
         (not_so effect one altered)
-      where
-        kept : (page : ℕ) → mapping new page ≡ mapping (pages_by changed spans'') page
-        kept page = ap (option_map (mapping_in page)) (joined page) ∙ joined_maps from (pages_by changed spans'') laid_after page
 
-  module _ (middle : Pages) (first : (page : ℕ) → middle page ≡ joined_at from (pages_by changed spans'') page) where
-    pub part_pages : {T E : Type 0} (r : Result T E) (new : Pages) → OnOk r ((page : ℕ) → new page ≡ joined_at past middle page) → OnOk r ((page : ℕ) → new page ≡ joined_around from past (affected from past effect (cut_at past (cut_at from (pages_by areas spans)))) page)
-    part_pages (Ok x) new h = λ page. h page ∙ (λ i. joined_at past (λ q. first q i) page) ∙ (λ i. joined_around from past (λ q. changed_pages q i) page)
-    part_pages (Err e) new h = tt
+  pub part_pages : {T E : Type 0} (r : Result T E) (new : Pages) → OnOk r ((page : ℕ) → new page ≡ joined_around from past (pages_by changed spans'') page) → OnOk r ((page : ℕ) → new page ≡ joined_around from past (affected from past effect (cut_at past (cut_at from (pages_by areas spans)))) page)
+  part_pages (Ok x) new h = λ page. h page ∙ (λ i. joined_around from past (λ q. changed_pages q i) page)
+  part_pages (Err e) new h = tt
 
-    pub part_mapping : {T E : Type 0} (r : Result T E) (new : Pages) → OnOk r ((page : ℕ) → new page ≡ joined_at past middle page) → OnOk r ((page : ℕ) → mapping new page ≡ cond (within from (past - from) page) (option_map (remapped effect) (mapping (pages_by areas spans) page)) (mapping (pages_by areas spans) page))
-    part_mapping (Ok x) new h = λ page. part_maps_to from past effect (pages_by areas spans) (pages_by changed spans'') new laid laid_after changed_pages (λ page. h page ∙ (λ i. joined_at past (λ q. first q i) page)) page
-    part_mapping (Err e) new h = tt
+  pub part_mapping : {T E : Type 0} (r : Result T E) (new : Pages) → OnOk r ((page : ℕ) → new page ≡ joined_around from past (pages_by changed spans'') page) → OnOk r ((page : ℕ) → mapping new page ≡ cond (within from (past - from) page) (option_map (remapped effect) (mapping (pages_by areas spans) page)) (mapping (pages_by areas spans) page))
+  part_mapping (Ok x) new h = λ page. part_maps_to from past effect (pages_by areas spans) (pages_by changed spans'') new laid laid_after changed_pages h page
+  part_mapping (Err e) new h = tt

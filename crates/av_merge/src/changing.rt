@@ -13,7 +13,7 @@ ghost use Rattle.av_vma.specs.Pages.{alters, fresh_area, joined_around, pages_ch
 ghost use Rattle.av_merge.specs.Process.{AreAreasOf, Stays, AreOfOne, StayOfOne, Becomes};
 
 use crate::cutting::cut_out;
-use crate::joining::{join_at, join_unless};
+use crate::joining::{join_at, join_part};
 use crate::placing::add;
 use av_base::{PAGE_SIZE, Prot};
 use av_vma::{Area, AreaId, Areas};
@@ -144,6 +144,7 @@ fn modify_part(
     let number = cut_out(areas, tree, area, from, past)?;
     let part = areas.get(number);
     areas.change(number, change.apply(part));
-    join_unless(areas, tree, whole.start / PAGE_SIZE < from, from)?;
-    join_unless(areas, tree, past < whole.end / PAGE_SIZE, past)
+    let is_cut_below = whole.start / PAGE_SIZE < from;
+    let is_cut_above = past < whole.end / PAGE_SIZE;
+    join_part(areas, tree, from, past, is_cut_below, is_cut_above)
 }

@@ -79,7 +79,7 @@ fn cut_within(
 }
 
 /// Cuts before the page `at`, where one area lies on both sides.
-pub fn split_before(areas: &mut Areas, tree: &mut Tree, at: u64) -> Result<(), AllocError>
+fn split_before(areas: &mut Areas, tree: &mut Tree, at: u64) -> Result<(), AllocError>
     requires stands { AreOfOne areas.old tree.old }
     ensures stands { StayOfOne areas.old tree.old areas.new tree.new }
     ensures pages { OnOk result

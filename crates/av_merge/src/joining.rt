@@ -27,12 +27,7 @@ pub fn join_around(areas: &mut Areas, tree: &mut Tree, area: AreaId) -> Result<(
 }
 
 /// Tries the boundaries before the pages `from` and `past`, between which one area lies.
-pub fn join_ends(
-    areas: &mut Areas,
-    tree: &mut Tree,
-    from: u64,
-    past: u64,
-) -> Result<(), AllocError>
+fn join_ends(areas: &mut Areas, tree: &mut Tree, from: u64, past: u64) -> Result<(), AllocError>
     requires stands { AreOfOne areas.old tree.old }
     requires some { 0 < from }
     requires forward { from < past }
@@ -44,24 +39,42 @@ pub fn join_ends(
     let (_, above) = tree.around(past);
     match (below, here, above) {
         (Some(left), Some(middle), Some(right))
-            if left.to == from
-                && middle.from == from
-                && middle.to == past
-                && right.from == past =>
-        {
-            join_three(areas, tree, left.area, middle.area, right.area, from, past)
-        }
+            if left.to == from && middle.from == from && middle.to == past && right.from == past =>
+            { join_three(areas, tree, left.area, middle.area, right.area, from, past) }
         _ => join_both(areas, tree, from, past),
     }
 }
 
-/// Tries one boundary, and then another.
-fn join_both(
+/// Tries the boundaries at the two ends of an area, but for those where its neighbour is known not
+/// to be alike.
+pub fn join_part(
     areas: &mut Areas,
     tree: &mut Tree,
     from: u64,
     past: u64,
+    differs_below: bool,
+    differs_above: bool,
 ) -> Result<(), AllocError>
+    requires stands { AreOfOne areas.old tree.old }
+    requires some { 0 < from }
+    requires forward { from < past }
+    requires below { differs_below ≡ true
+        → DoDiffer from (pages_by (area_of areas.old) tree.old) }
+    requires above { differs_above ≡ true
+        → DoDiffer past (joined_at from (pages_by (area_of areas.old) tree.old)) }
+    ensures stands { StayOfOne areas.old tree.old areas.new tree.new }
+    ensures pages { OnOk result
+        (Becomes areas.old tree.old areas.new tree.new (joined_around from past)) }
+{
+    if !differs_below && !differs_above {
+        return join_ends(areas, tree, from, past);
+    }
+    join_unless(areas, tree, differs_below, from)?;
+    join_unless(areas, tree, differs_above, past)
+}
+
+/// Tries one boundary, and then another.
+fn join_both(areas: &mut Areas, tree: &mut Tree, from: u64, past: u64) -> Result<(), AllocError>
     requires stands { AreOfOne areas.old tree.old }
     requires some { 0 < from }
     requires forward { from < past }
@@ -156,12 +169,7 @@ fn join(areas: &mut Areas, tree: &mut Tree, left: AreaId, right: AreaId, at: u64
 
 /// Tries the boundary before the page `at`, unless the areas on its two sides are known not to be
 /// alike.
-pub fn join_unless(
-    areas: &mut Areas,
-    tree: &mut Tree,
-    differs: bool,
-    at: u64,
-) -> Result<(), AllocError>
+fn join_unless(areas: &mut Areas, tree: &mut Tree, differs: bool, at: u64) -> Result<(), AllocError>
     requires stands { AreOfOne areas.old tree.old }
     requires some { 0 < at }
     requires differ { differs ≡ true → DoDiffer at (pages_by (area_of areas.old) tree.old) }

@@ -12,23 +12,23 @@ use Rattle.av_merge.proofs.Places.{stays_trans}
 use Rattle.av_merge.proofs.ChangesOfParts.{changed_stands, changed_stays, differs_above, differs_below, part_pages, part_mapping}
 use Rattle.av_merge.proofs.changing.modify_part.Goals as goal
 
-pub join_unless-requires-clause-stands : goal.join_unless-requires-clause-stands
-join_unless-requires-clause-stands c =
+pub join_part-requires-clause-stands : goal.join_part-requires-clause-stands
+join_part-requires-clause-stands c =
     let p = c.requires.stands.0 in (
       p,
       changed_stands p c.args.from c.args.past c.in_ok-number.number (effect_of c.args.change) c.get-part.result (area_of c.args.areas.now) (area_of c.cut_out.new.areas) (area_of c.change.new.self) c.args.tree.now c.cut_out.new.tree
           c.requires.some c.requires.inside c.requires.stands.1 (c.cut_out.ensures.stands p c.requires.stands.1) c.in_ok-number.ensures.pages c.in_ok-number.ensures.part c.get-part.ensures (λ k. c.change.ensures k ∙ ap (λ (a : Area). with_at c.in_ok-number.number (Some a) (area_of c.cut_out.new.areas) k) c.apply.ensures),
     )
 
-pub join_unless-requires-clause-some : goal.join_unless-requires-clause-some
-join_unless-requires-clause-some c =
+pub join_part-requires-clause-some : goal.join_part-requires-clause-some
+join_part-requires-clause-some c =
     let f = found c.requires.stands.0 c.args.area c.args.from (area_of c.args.areas.now) c.args.tree.now c.get-whole.result c.requires.stands.1 c.requires.there c.get-whole.ensures in
     let low = f.is.whole.low in
     let first = f.low in
     omega arith
 
-pub join_unless-requires-clause-differ : goal.join_unless-requires-clause-differ
-join_unless-requires-clause-differ c = λ below.
+pub join_part-requires-clause-below : goal.join_part-requires-clause-below
+join_part-requires-clause-below c = λ below.
     let p = c.requires.stands.0 in
     differs_below p c.args.from c.args.past c.in_ok-number.number (effect_of c.args.change) c.get-part.result (area_of c.args.areas.now) (area_of c.cut_out.new.areas) (area_of c.change.new.self) c.args.tree.now c.cut_out.new.tree
     c.requires.some c.requires.inside c.requires.stands.1 (c.cut_out.ensures.stands p c.requires.stands.1) c.in_ok-number.ensures.pages c.in_ok-number.ensures.part c.get-part.ensures (λ k. c.change.ensures k ∙ ap (λ (a : Area). with_at c.in_ok-number.number (Some a) (area_of c.cut_out.new.areas) k) c.apply.ensures)
@@ -36,48 +36,31 @@ join_unless-requires-clause-differ c = λ below.
     (subst (λ o. IsSomeAnd o (λ area. alters (effect_of c.args.change) area ≡ true)) (ap (option_and_then (area_of c.args.areas.now)) c.requires.there ∙ c.get-whole.ensures) c.requires.altered)
     (ltb-true _ _ below)
 
-pub returns-in_err-join_unless-clause-stands : goal.returns-in_err-join_unless-clause-stands
-returns-in_err-join_unless-clause-stands c = λ p stands.
-    let changed = changed_stays p c.args.from c.args.past c.in_ok-number.number (effect_of c.args.change) c.get-part.result (area_of c.args.areas.now) (area_of c.cut_out.new.areas) (area_of c.change.new.self) c.args.tree.now c.cut_out.new.tree
-    c.requires.some c.requires.inside stands (c.cut_out.ensures.stands p stands) c.in_ok-number.ensures.pages c.in_ok-number.ensures.part c.get-part.ensures (λ k. c.change.ensures k ∙ ap (λ (a : Area). with_at c.in_ok-number.number (Some a) (area_of c.cut_out.new.areas) k) c.apply.ensures) in
-    stays_trans p (area_of c.args.areas.now) (area_of c.change.new.self) (area_of c.join_unless.new.areas) c.cut_out.new.tree c.join_unless.new.tree changed (c.join_unless.ensures.stands p changed.areas)
-
-pub join_unless-requires-2-clause-stands : goal.join_unless-requires-2-clause-stands
-join_unless-requires-2-clause-stands c =
-    let p = c.requires.stands.0 in
-    let changed = changed_stands p c.args.from c.args.past c.in_ok-number.number (effect_of c.args.change) c.get-part.result (area_of c.args.areas.now) (area_of c.cut_out.new.areas) (area_of c.change.new.self) c.args.tree.now c.cut_out.new.tree
-    c.requires.some c.requires.inside c.requires.stands.1 (c.cut_out.ensures.stands p c.requires.stands.1) c.in_ok-number.ensures.pages c.in_ok-number.ensures.part c.get-part.ensures (λ k. c.change.ensures k ∙ ap (λ (a : Area). with_at c.in_ok-number.number (Some a) (area_of c.cut_out.new.areas) k) c.apply.ensures) in
-    (p, (c.join_unless.ensures.stands p changed).areas)
-
-pub join_unless-requires-2-clause-differ : goal.join_unless-requires-2-clause-differ
-join_unless-requires-2-clause-differ c = λ above.
+pub join_part-requires-clause-above : goal.join_part-requires-clause-above
+join_part-requires-clause-above c = λ above.
     let p = c.requires.stands.0 in
     differs_above p c.args.from c.args.past c.in_ok-number.number (effect_of c.args.change) c.get-part.result (area_of c.args.areas.now) (area_of c.cut_out.new.areas) (area_of c.change.new.self) c.args.tree.now c.cut_out.new.tree
     c.requires.some c.requires.inside c.requires.stands.1 (c.cut_out.ensures.stands p c.requires.stands.1) c.in_ok-number.ensures.pages c.in_ok-number.ensures.part c.get-part.ensures (λ k. c.change.ensures k ∙ ap (λ (a : Area). with_at c.in_ok-number.number (Some a) (area_of c.cut_out.new.areas) k) c.apply.ensures)
     c.get-whole.result (ap (option_and_then (area_of c.args.areas.now)) c.requires.there ∙ c.get-whole.ensures)
     (subst (λ o. IsSomeAnd o (λ area. alters (effect_of c.args.change) area ≡ true)) (ap (option_and_then (area_of c.args.areas.now)) c.requires.there ∙ c.get-whole.ensures) c.requires.altered)
-    (ltb-true _ _ above) (pages_by (area_of c.join_unless.new.areas) c.join_unless.new.tree) c.in_ok-join_unless.ensures.pages
+    (ltb-true _ _ above)
 
 pub returns-clause-stands : goal.returns-clause-stands
 returns-clause-stands c = λ p stands.
     let changed = changed_stays p c.args.from c.args.past c.in_ok-number.number (effect_of c.args.change) c.get-part.result (area_of c.args.areas.now) (area_of c.cut_out.new.areas) (area_of c.change.new.self) c.args.tree.now c.cut_out.new.tree
     c.requires.some c.requires.inside stands (c.cut_out.ensures.stands p stands) c.in_ok-number.ensures.pages c.in_ok-number.ensures.part c.get-part.ensures (λ k. c.change.ensures k ∙ ap (λ (a : Area). with_at c.in_ok-number.number (Some a) (area_of c.cut_out.new.areas) k) c.apply.ensures) in
-    let one = c.join_unless.ensures.stands p changed.areas in
-    let first = stays_trans p (area_of c.args.areas.now) (area_of c.change.new.self) (area_of c.join_unless.new.areas) c.cut_out.new.tree c.join_unless.new.tree changed one in
-    stays_trans p (area_of c.args.areas.now) (area_of c.join_unless.new.areas) (area_of c.join_unless-2.new.areas) c.join_unless.new.tree c.join_unless-2.new.tree first (c.join_unless-2.ensures.stands p one.areas)
+    stays_trans p (area_of c.args.areas.now) (area_of c.change.new.self) (area_of c.join_part.new.areas) c.cut_out.new.tree c.join_part.new.tree changed (c.join_part.ensures.stands p changed.areas)
 
 pub returns-clause-pages : goal.returns-clause-pages
 returns-clause-pages c =
     let p = c.requires.stands.0 in
     part_pages p c.args.from c.args.past c.in_ok-number.number (effect_of c.args.change) c.get-part.result (area_of c.args.areas.now) (area_of c.cut_out.new.areas) (area_of c.change.new.self) c.args.tree.now c.cut_out.new.tree
     c.requires.some c.requires.inside c.requires.stands.1 (c.cut_out.ensures.stands p c.requires.stands.1) c.in_ok-number.ensures.pages c.in_ok-number.ensures.part c.get-part.ensures (λ k. c.change.ensures k ∙ ap (λ (a : Area). with_at c.in_ok-number.number (Some a) (area_of c.cut_out.new.areas) k) c.apply.ensures)
-    (pages_by (area_of c.join_unless.new.areas) c.join_unless.new.tree) c.in_ok-join_unless.ensures.pages
-    c.join_unless-2.result (pages_by (area_of c.join_unless-2.new.areas) c.join_unless-2.new.tree) c.join_unless-2.ensures.pages
+    c.join_part.result (pages_by (area_of c.join_part.new.areas) c.join_part.new.tree) c.join_part.ensures.pages
 
 pub returns-clause-mapping : goal.returns-clause-mapping
 returns-clause-mapping c =
     let p = c.requires.stands.0 in
     part_mapping p c.args.from c.args.past c.in_ok-number.number (effect_of c.args.change) c.get-part.result (area_of c.args.areas.now) (area_of c.cut_out.new.areas) (area_of c.change.new.self) c.args.tree.now c.cut_out.new.tree
     c.requires.some c.requires.inside c.requires.stands.1 (c.cut_out.ensures.stands p c.requires.stands.1) c.in_ok-number.ensures.pages c.in_ok-number.ensures.part c.get-part.ensures (λ k. c.change.ensures k ∙ ap (λ (a : Area). with_at c.in_ok-number.number (Some a) (area_of c.cut_out.new.areas) k) c.apply.ensures)
-    (pages_by (area_of c.join_unless.new.areas) c.join_unless.new.tree) c.in_ok-join_unless.ensures.pages
-    c.join_unless-2.result (pages_by (area_of c.join_unless-2.new.areas) c.join_unless-2.new.tree) c.join_unless-2.ensures.pages
+    c.join_part.result (pages_by (area_of c.join_part.new.areas) c.join_part.new.tree) c.join_part.ensures.pages

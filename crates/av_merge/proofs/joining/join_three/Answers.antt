@@ -41,18 +41,24 @@ mergeable-requires-else-not-mergeable-clause-small c =
     omega arith
 
 pub remove-requires : goal.remove-requires
-remove-requires c = record { there = middle_from c.requires.stands.0 c.args.left c.args.middle c.args.right c.args.from c.args.past c.get-lower.result c.get-inner.result c.get-upper.result (area_of c.args.areas.now) c.args.tree.now
-    c.requires.stands.1 c.requires.below c.requires.first c.requires.last c.requires.above c.get-lower.ensures c.get-inner.ensures c.get-upper.ensures (sym c.mergeable.ensures ∙ c.if-not-mergeable.false) (sym c.mergeable-else-not-mergeable.ensures ∙ c.if-not-mergeable-2.false) }
+remove-requires c = record {
+  there = middle_from c.requires.stands.0 c.args.left c.args.middle c.args.right c.args.from c.args.past c.get-lower.result c.get-inner.result c.get-upper.result (area_of c.args.areas.now) c.args.tree.now
+      c.requires.stands.1 c.requires.below c.requires.first c.requires.last c.requires.above c.get-lower.ensures c.get-inner.ensures c.get-upper.ensures (sym c.mergeable.ensures ∙ c.if-not-mergeable.false) (sym c.mergeable-else-not-mergeable.ensures ∙ c.if-not-mergeable-2.false);
+}
 
 pub remove-requires-3 : goal.remove-requires-3
-remove-requires-3 c = record { there = upper_from c.requires.stands.0 c.args.left c.args.middle c.args.right c.args.from c.args.past c.get-lower.result c.get-inner.result c.get-upper.result (area_of c.args.areas.now) c.args.tree.now
-    c.requires.stands.1 c.requires.below c.requires.first c.requires.last c.requires.above c.get-lower.ensures c.get-inner.ensures c.get-upper.ensures (sym c.mergeable.ensures ∙ c.if-not-mergeable.false) (sym c.mergeable-else-not-mergeable.ensures ∙ c.if-not-mergeable-2.false)
-    (area_of c.remove-2.new.self) c.remove.new.self c.remove-2.ensures c.remove.ensures.kept c.remove.ensures.areas c.remove.ensures.pages }
+remove-requires-3 c = record {
+  there = upper_from c.requires.stands.0 c.args.left c.args.middle c.args.right c.args.from c.args.past c.get-lower.result c.get-inner.result c.get-upper.result (area_of c.args.areas.now) c.args.tree.now
+      c.requires.stands.1 c.requires.below c.requires.first c.requires.last c.requires.above c.get-lower.ensures c.get-inner.ensures c.get-upper.ensures (sym c.mergeable.ensures ∙ c.if-not-mergeable.false) (sym c.mergeable-else-not-mergeable.ensures ∙ c.if-not-mergeable-2.false)
+      (area_of c.remove-2.new.self) c.remove.new.self c.remove-2.ensures c.remove.ensures.kept c.remove.ensures.areas c.remove.ensures.pages;
+}
 
 pub remove-requires-4 : goal.remove-requires-4
-remove-requires-4 c = record { used = upper_used c.requires.stands.0 c.args.left c.args.middle c.args.right c.args.from c.args.past c.get-lower.result c.get-inner.result c.get-upper.result (area_of c.args.areas.now) c.args.tree.now
-    c.requires.stands.1 c.requires.below c.requires.first c.requires.last c.requires.above c.get-lower.ensures c.get-inner.ensures c.get-upper.ensures (sym c.mergeable.ensures ∙ c.if-not-mergeable.false) (sym c.mergeable-else-not-mergeable.ensures ∙ c.if-not-mergeable-2.false)
-    (area_of c.remove-2.new.self) c.remove.new.self c.remove-2.ensures c.remove.ensures.kept c.remove.ensures.areas c.remove.ensures.pages }
+remove-requires-4 c = record {
+  used = upper_used c.requires.stands.0 c.args.left c.args.middle c.args.right c.args.from c.args.past c.get-lower.result c.get-inner.result c.get-upper.result (area_of c.args.areas.now) c.args.tree.now
+      c.requires.stands.1 c.requires.below c.requires.first c.requires.last c.requires.above c.get-lower.ensures c.get-inner.ensures c.get-upper.ensures (sym c.mergeable.ensures ∙ c.if-not-mergeable.false) (sym c.mergeable-else-not-mergeable.ensures ∙ c.if-not-mergeable-2.false)
+      (area_of c.remove-2.new.self) c.remove.new.self c.remove-2.ensures c.remove.ensures.kept c.remove.ensures.areas c.remove.ensures.pages;
+}
 
 pub replace-requires-clause-stands : goal.replace-requires-clause-stands
 replace-requires-clause-stands c =
