@@ -1,11 +1,10 @@
 -- Three areas of a process that follow each other become one: the upper two go, and the three as one are put in the lowest one's place.
 use Rattle.std.proofs.Common.{◌≡◌, ◌≢◌, ℕ, ◌+◌, ◌-◌, ◌/◌, ◌<◌, ◌≤◌, ◌==◌, ◌&&◌, IsSomeAnd, IsSome, true, false, cond, inl, inr, List, Option, Some, None, is_some, refl, sym, ap, subst, ◌∙◌, arith}
 use Rattle.std.specs.Prelude.{option_and_then}
-use Rattle.std.specs.Option.{option_or}
 use Rattle.std.proofs.lemmas.Bool.{eq-eqb, ne_eqb, both_ways, cases_lt, false_from_ne_true}
 use Rattle.std.proofs.lemmas.Option.{same_Some}
 use Rattle.av_vma.specs.declared.area.Area.{Area}
-use Rattle.av_vma.specs.Join.{first_of, index_of, past_of, same_prot, share_anon}
+use Rattle.av_vma.specs.Join.{first_of, past_of, same_prot, share_anon}
 use Rattle.av_base.specs.Words.{with_at}
 use Rattle.av_vmatree.specs.declared.span.Span.{Span}
 use Rattle.av_vmatree.specs.Spans.{AreSpans, IsFree, area_at, span_of, taken, unless_area, without_area}
