@@ -34,7 +34,7 @@ same_bit : (b : Bool) → beq b b ≡ true
 same_bit true = refl
 same_bit false = refl
 
-same_as_itself : (p : Prot) → same_prot p p ≡ true
+pub same_as_itself : (p : Prot) → same_prot p p ≡ true
 same_as_itself p = and_from (beq p.read p.read && beq p.write p.write) (beq p.execute p.execute) (and_from (beq p.read p.read) (beq p.write p.write) (same_bit p.read) (same_bit p.write)) (same_bit p.execute)
 
 shares : (o : Option ℕ) → share_anon o 0 o 0 ≡ true

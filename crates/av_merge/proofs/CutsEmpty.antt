@@ -7,6 +7,7 @@ use Rattle.av_base.specs.Limits.{low_page, top_page}
 use Rattle.av_base.specs.Words.{within, with_at}
 use Rattle.av_vmatree.specs.declared.span.Span.{Span}
 use Rattle.av_vmatree.specs.Spans.{AreApart, AreDistinct, AreSpans, area_after, area_at, holds, span_of, unless_area, without_area}
+use Rattle.av_vmatree.proofs.Sides.{in_row}
 use Rattle.av_vma.specs.Pages.{Pages, emptied}
 use Rattle.av_merge.specs.Pages.{pages_by}
 use Rattle.av_merge.specs.Process.{AreAreasOf, IsAreaOf, NoneCrosses, Stays}
@@ -19,13 +20,6 @@ pub record IsNext (spans : List Span) (page n : ℕ) : Type 0 where
   pub there : span_of spans n ≡ Some span
   pub above : page < span.from
   pub least : (k : ℕ) (t : Span) → span_of spans k ≡ Some t → page < t.from → span.from ≤ t.from
-
--- a span of a row is its first or a later one
-in_row : (P : Type 0) (s : Span) (spans : List Span) (k : ℕ) (t : Span) → span_of (s ∷ spans) k ≡ Some t → (s ≡ t → P) → (span_of spans k ≡ Some t → P) → P
-in_row P s spans k t e first later = elim (k == s.area) as (λ b. cond b (Some s) (span_of spans k) ≡ Some t → P) [
-  | true ↦ λ e. let same : s ≡ t = cc in first same
-  | false ↦ λ e. later e
-] e
 
 pub next_of : (spans : List Span) (page n : ℕ) → AreApart spans → AreDistinct spans → area_after spans page ≡ Some n → IsNext spans page n
 next_of [] page n apart distinct e = cc

@@ -1,5 +1,5 @@
 -- A join of two areas of a process, in its tree and by number: the upper one goes, and the two as one are put in the lower one's place.
-use Rattle.std.proofs.Common.{◌≡◌, ◌≢◌, ℕ, ◌-◌, ◌<◌, ◌≤◌, IsSomeAnd, true, false, cond, ◌&&◌, inl, inr, List, Option, Some, None, is_some, refl, sym, ap, subst, ◌∙◌, arith}
+use Rattle.std.proofs.Common.{◌≡◌, ◌≢◌, ℕ, ◌-◌, ◌<◌, ◌≤◌, IsSomeAnd, true, false, cond, ◌&&◌, inl, inr, List, Option, Some, None, IfSome, option_map, is_some, refl, sym, ap, subst, ◌∙◌, arith}
 use Rattle.std.specs.Prelude.{option_and_then}
 use Rattle.std.proofs.lemmas.Bool.{eq-eqb, ne_eqb, both_ways}
 use Rattle.std.proofs.lemmas.Option.{same_Some}
@@ -7,12 +7,14 @@ use Rattle.av_vma.specs.declared.area.Area.{Area}
 use Rattle.av_vma.specs.Join.{first_of, past_of}
 use Rattle.av_base.specs.Words.{with_at}
 use Rattle.av_vmatree.specs.declared.span.Span.{Span}
-use Rattle.av_vmatree.specs.Spans.{AreSpans, IsFree, area_at, span_of, taken, unless_area, without_area}
-use Rattle.av_vma.specs.Pages.{has_page, join, joined_at, merged, placed, tried, IsWhole}
+use Rattle.av_vmatree.specs.Spans.{AreSpans, IsFree, area_at, first_from, last_below, span_of, taken, unless_area, without_area}
+use Rattle.av_vmatree.proofs.Sides.{all_found, all_wide, below_is, below_must, from_is, from_must}
+use Rattle.av_vma.specs.Pages.{Pages, has_page, join, joined_at, merged, placed, tried, IsWhole}
+use Rattle.av_merge.specs.Mapping.{DoDiffer, mapping, mapping_in}
 use Rattle.av_merge.specs.Pages.{pages_by}
 use Rattle.av_merge.specs.Process.{AreAreasOf, Stays}
 use Rattle.av_merge.proofs.Places.{IsOn, is_on, at_rest, at_span, has_from, has_parts, stays_trans, take_stands, take_others}
-use Rattle.av_merge.proofs.Mappings.{join_is, laid_of, left_pages, right_pages, merged_pages, merged_whole}
+use Rattle.av_merge.proofs.Mappings.{join_is, laid_of, left_pages, right_pages, merged_pages, merged_whole, tried_is}
 
 module _ (p l r at : ℕ) (lower upper : Area) (areas : ℕ → Option Area) (spans : List Span)
     (stands : AreAreasOf p areas spans)
@@ -110,9 +112,80 @@ module _ (p l r at : ℕ) (lower upper : Area) (areas : ℕ → Option Area) (sp
         ∙ ap (λ b. cond (b && has_page (merged lower upper) page) (Some (merged lower upper)) (pages_by areas spans page)) (sym joins)
         ∙ sym (λ i. tried (before i) (after i) page (pages_by areas spans page))
 
+    pub right_taken : AreAreasOf lower.pid areas' spans'
+    right_taken = subst (λ q. AreAreasOf q areas' spans') (sym on_left.is.process) (take_stands p r on_right.span areas areas' spans spans' stands right_span now kept spans_now pages_now)
+
     pub join_stays : (new : ℕ → Option Area) (spans'' : List Span) → Stays lower.pid areas' new spans'' → Stays p areas new spans''
     join_stays new spans'' h =
         stays_trans p areas areas' new spans' spans'' (record {
           areas = take_stands p r on_right.span areas areas' spans spans' stands right_span now kept spans_now pages_now;
           others = take_others p r on_right.span areas areas' spans spans' stands right_span now kept spans_now pages_now;
         }) (subst (λ q. Stays q areas' new spans'') on_left.is.process h)
+
+-- ---- a boundary that is left as it is
+
+-- where the areas on its two sides don't join, trying a boundary changes nothing
+pub not_joined : (at : ℕ) (on : Pages) → ((left right : Area) → on (at - 1) ≡ Some left → on at ≡ Some right → join left right ≡ true → ⊥) → (page : ℕ) → on page ≡ joined_at at on page
+not_joined at on apart page = elim (tried_is at page on) [
+  | inl t ↦ absurd (apart t.left t.right t.before t.after t.joins)
+  | inr k ↦ sym k.is
+]
+
+-- the areas on the two sides of a boundary, where they join: one ends and the other begins there
+pub record AreSides (at : ℕ) (spans : List Span) : Type 0 where
+  pub left : Span
+  pub right : Span
+  pub below : last_below spans at ≡ Some left
+  pub above : first_from spans at ≡ Some right
+  pub ends : left.to ≡ at
+  pub begins : right.from ≡ at
+
+pub sides_of : (p at : ℕ) (areas : ℕ → Option Area) (spans : List Span) (left right : Area) → AreAreasOf p areas spans → pages_by areas spans (at - 1) ≡ Some left → pages_by areas spans at ≡ Some right → join left right ≡ true → AreSides at spans
+sides_of p at areas spans left right stands before after joins =
+    let l = is_on p areas spans (at - 1) left stands before in
+    let r = is_on p areas spans at right stands after in
+    let j = join_is left right joins in
+    let left_high : at - 1 < past_of left = (has_parts left (at - 1) l.has).1 in
+    let right_low : first_of right ≤ at = (has_parts right at r.has).0 in
+    let left_some : first_of left ≤ at - 1 = (has_parts left (at - 1) l.has).0 in
+    let left_wide = l.is.whole.some in
+    let low = l.is.whole.low in
+    let left_from = l.is.from in
+    let left_to = l.is.to in
+    let right_from = r.is.from in
+    let ends : l.span.to ≡ at = omega arith in
+    let begins : r.span.from ≡ at = omega arith in
+    record {
+      left = l.span;
+      right = r.span;
+      below = below_must spans l.number at l.span stands.spans_are.apart l.span_is (omega arith) (omega arith);
+      above = from_must spans r.number at r.span stands.spans_are.apart r.span_is begins;
+      ends = ends;
+      begins = begins;
+    }
+
+-- an area that ends at a page has the one before, and an area that begins with it has it
+pub left_side : (spans : List Span) (at : ℕ) (s : Span) → AreSpans spans → 0 < at → last_below spans at ≡ Some s → s.to ≡ at → area_at spans (at - 1) ≡ Some s.area
+left_side spans at s good some e ends =
+    let k = below_is spans at s good.distinct e in
+    let side = k.side in
+    at_span spans s.area s (at - 1) good.apart k.there (omega arith) (omega arith)
+
+pub right_side : (spans : List Span) (at : ℕ) (s : Span) → AreSpans spans → first_from spans at ≡ Some s → s.from ≡ at → area_at spans at ≡ Some s.area
+right_side spans at s good e begins =
+    let k = from_is spans at s good.distinct e in
+    let wide : s.from < s.to = all_found (λ t. t.from < t.to) s.area spans s (all_wide spans good.apart) k.there in
+    at_span spans s.area s at good.apart k.there (omega arith) (omega arith)
+
+-- and the page before its end
+pub last_side : (spans : List Span) (at past : ℕ) (s : Span) → AreSpans spans → at < past → first_from spans at ≡ Some s → s.from ≡ at → s.to ≡ past → area_at spans (past - 1) ≡ Some s.area
+last_side spans at past s good some e begins ends =
+    let k = from_is spans at s good.distinct e in
+    at_span spans s.area s (past - 1) good.apart k.there (omega arith) (omega arith)
+
+-- where pages are mapped with another protection or flags, their areas don't join
+pub differ_apart : (at : ℕ) (on : Pages) → DoDiffer at on → (left right : Area) → on (at - 1) ≡ Some left → on at ≡ Some right → join left right ≡ true → ⊥
+differ_apart at on differ left right before after joins =
+    let j = join_is left right joins in
+    let first = subst (λ o. IfSome (option_map (mapping_in (at - 1)) o) (λ m. IfSome (mapping on at) (λ n. m.prot ≡ n.prot → m.flags ≡ n.flags → ⊥))) before differ in
+    subst (λ o. IfSome (option_map (mapping_in at) o) (λ n. left.prot ≡ n.prot → left.flags ≡ n.flags → ⊥)) after first j.prot j.flags

@@ -4,5 +4,6 @@ pub mod ChangesReach
 pub mod Cuts
 pub mod CutsEmpty
 pub mod Joins
+pub mod JoinsThree
 pub mod Mappings
 pub mod Places

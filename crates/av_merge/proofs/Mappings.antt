@@ -207,7 +207,7 @@ right_maps left right l r e page h =
     λ i. record { prot = j.prot i; flags = j.flags i; index = same i; anon = (j.one_anon ∙ j.anon) i }
 
 -- what a boundary that is tried leaves on a page: what was there, or the two areas as one
-record IsTried (at page : ℕ) (on : Pages) : Type 0 where
+pub record IsTried (at page : ℕ) (on : Pages) : Type 0 where
   pub left : Area
   pub right : Area
   pub before : on (at - 1) ≡ Some left
@@ -217,11 +217,11 @@ record IsTried (at page : ℕ) (on : Pages) : Type 0 where
   pub is : joined_at at on page ≡ Some (merged left right)
 
 -- what a boundary that is tried leaves as it was
-record IsLeft (at page : ℕ) (on : Pages) : Type 0 where
+pub record IsLeft (at page : ℕ) (on : Pages) : Type 0 where
   pub is : joined_at at on page ≡ on page
   pub apart : (left right : Area) → on (at - 1) ≡ Some left → on at ≡ Some right → join left right ≡ true → has_page (merged left right) page ≡ false
 
-tried_is : (at page : ℕ) (on : Pages) → IsTried at page on ⊎ IsLeft at page on
+pub tried_is : (at page : ℕ) (on : Pages) → IsTried at page on ⊎ IsLeft at page on
 tried_is at page on = go (on (at - 1)) (on at) refl refl
   where
     go : (a b : Option Area) → on (at - 1) ≡ a → on at ≡ b → IsTried at page on ⊎ IsLeft at page on

@@ -1,6 +1,6 @@
 -- Which area is on a page: as the tree and the numbered areas say it, after one of them is put, taken out or changed.
 use Rattle.std.proofs.Common.{◌≡◌, ◌≢◌, ℕ, ◌+◌, ◌-◌, ◌<◌, ◌≤◌, ◌==◌, true, false, cond, List, [], ◌∷◌, Option, Some, None, is_some, IfSome, IsSomeAnd, refl, sym, ap, subst, ◌∙◌, arith}
-use Rattle.std.specs.Prelude.{option_and_then}
+use Rattle.std.specs.Prelude.{option_and_then, IsSome}
 use Rattle.std.proofs.lemmas.Bool.Decides.{nat_tests}
 use Rattle.std.proofs.lemmas.Grind.{common_steps}
 use Rattle.std.proofs.lemmas.Bool.{eqb-true, both_ways}
@@ -10,7 +10,7 @@ use Rattle.av_base.specs.Words.{within, with_at}
 use Rattle.av_vmatree.specs.declared.span.Span.{Span}
 use Rattle.av_vmatree.specs.Spans.{without_area, AreApart, AreDistinct, AreSpans, area_at, holds, span_of, taken, unless_area, IsFree}
 use Rattle.av_vmatree.proofs.Spans.{held, removed}
-use Rattle.av_vma.specs.Pages.{has_page, placed}
+use Rattle.av_vma.specs.Pages.{IsWhole, has_page, placed}
 use Rattle.av_merge.specs.Pages.{pages_by}
 use Rattle.av_merge.specs.Process.{AreAreasOf, IsAreaOf, KeepsOthers, Stays}
 
@@ -95,12 +95,12 @@ area_in p areas spans n s stands e = each (areas n) refl (of_some (λ s. IsSomeA
     each (Some area) e h = record { area = area; area_is = e; is = h }
 
 -- the span with a number that the tree has at a page
-record IsSpanAt (spans : List Span) (page number : ℕ) : Type 0 where
-  span : Span
-  span_is : span_of spans number ≡ Some span
-  holds : holds span page ≡ true
+pub record IsSpanAt (spans : List Span) (page number : ℕ) : Type 0 where
+  pub span : Span
+  pub span_is : span_of spans number ≡ Some span
+  pub holds : holds span page ≡ true
 
-span_at : (spans : List Span) (page n : ℕ) → AreDistinct spans → area_at spans page ≡ Some n → IsSpanAt spans page n
+pub span_at : (spans : List Span) (page n : ℕ) → AreDistinct spans → area_at spans page ≡ Some n → IsSpanAt spans page n
 span_at spans page n distinct e = each (span_of spans n) refl (of_some (λ n. IsSomeAnd (span_of spans n) (λ s. holds s page ≡ true)) (area_at spans page) n e (held spans page distinct))
   where
     each : (o : Option Span) → span_of spans n ≡ o → IsSomeAnd o (λ s. holds s page ≡ true) → IsSpanAt spans page n
@@ -124,6 +124,17 @@ is_on p areas spans page area stands e = each (area_at spans page) refl e
           is = is;
           has = sym (holds_is p s.span area page is) ∙ s.holds;
         }
+
+-- the number of a page's area is in use
+pub used_at : (p : ℕ) (areas : ℕ → Option Area) (spans : List Span) (page n : ℕ) → AreAreasOf p areas spans → area_at spans page ≡ Some n → IsSome (areas n)
+used_at p areas spans page n stands at =
+    let s = span_at spans page n stands.spans_are.distinct at in
+    let i = area_in p areas spans n s.span stands s.span_is in
+    subst IsSome (sym i.area_is) refl
+
+-- and its area is whole
+pub whole_at : (p : ℕ) (areas : ℕ → Option Area) (spans : List Span) (page n : ℕ) (area : Area) → AreAreasOf p areas spans → area_at spans page ≡ Some n → areas n ≡ Some area → IsWhole area
+whole_at p areas spans page n area stands at is = (is_on p areas spans page area stands (ap (option_and_then areas) at ∙ is)).is.whole
 
 -- an area that is there is on each page that it has
 pub on_span : (p : ℕ) (areas : ℕ → Option Area) (spans : List Span) (n : ℕ) (s : Span) (area : Area) (page : ℕ) → AreAreasOf p areas spans → span_of spans n ≡ Some s → areas n ≡ Some area → s.from ≤ page → page < s.to → pages_by areas spans page ≡ Some area

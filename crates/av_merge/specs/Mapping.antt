@@ -1,5 +1,5 @@
 -- How a page is mapped: what its area says of it, whatever the area's bounds are.
-use Rattle.std.specs.Prelude.{◌≡◌, ℕ, ◌-◌, if◌then◌else◌, Option, option_map}
+use Rattle.std.specs.Prelude.{◌≡◌, ℕ, ◌-◌, if◌then◌else◌, Option, option_map, IfSome}
 use Rattle.av_base.specs.declared.prot.Prot.{Prot}
 use Rattle.av_vma.specs.declared.area.Area.{Area}
 use Rattle.av_base.specs.Words.{within}
@@ -30,3 +30,8 @@ abbrev pub IsRemapped : ℕ → ℕ → Effect → Pages → Pages → Type 0
 IsRemapped from past effect old new = (page : ℕ) → mapping new page
     ≡ (if within from (past - from) page then option_map (remapped effect) (mapping old page)
     else mapping old page)
+
+-- the pages on the two sides of a boundary, if both are mapped, have another protection or flags
+abbrev pub DoDiffer : ℕ → Pages → Type 0
+DoDiffer at on = IfSome (mapping on (at - 1)) (λ m. IfSome (mapping on at)
+    (λ n. m.prot ≡ n.prot → m.flags ≡ n.flags → ⊥))

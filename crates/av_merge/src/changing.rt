@@ -1,19 +1,19 @@
 //! New areas, and areas that are changed; each is joined with its neighbours where they go on in each other.
 
-ghost use Rattle.std.specs.Prelude.{◌≡◌, ℕ, ◌-◌, ◌*◌, ◌+◌, ◌<◌, ◌≤◌, ◌⊎◌, true, false, if◌then◌else◌, option_map, IsSomeAnd, IfSome, OnOk, IfOk};
+ghost use Rattle.std.specs.Prelude.{◌≡◌, ℕ, ◌-◌, ◌*◌, ◌+◌, ◌<◌, ◌≤◌, ◌⊎◌, Some, true, false, if◌then◌else◌, option_map, IsSomeAnd, IfSome, OnOk, IfOk};
 ghost use Rattle.av_vma.specs.Areas.{area_of};
 ghost use Rattle.av_base.specs.Limits.{low_page, top_page};
 ghost use Rattle.av_vma.specs.Join.{past_of};
 ghost use Rattle.av_base.specs.Words.{within};
-ghost use Rattle.av_vmatree.specs.Spans.{IsFree, span_of, taken};
+ghost use Rattle.av_vmatree.specs.Spans.{IsFree, area_at, taken};
 ghost use Rattle.av_merge.specs.Change.{effect_of};
 ghost use Rattle.av_merge.specs.Mapping.{IsRemapped};
 ghost use Rattle.av_merge.specs.Pages.{IsReached, pages_by};
 ghost use Rattle.av_vma.specs.Pages.{alters, fresh_area, joined_around, pages_changed, part_changed, placed, with_effect, mapped};
 ghost use Rattle.av_merge.specs.Process.{AreAreasOf, Stays, AreOfOne, StayOfOne, Becomes};
 
-use crate::cutting::split_before;
-use crate::joining::{join_around, join_at};
+use crate::cutting::cut_out;
+use crate::joining::{join_at, join_part};
 use crate::placing::add;
 use av_base::{PAGE_SIZE, Prot};
 use av_vma::{Area, AreaId, Areas};
@@ -108,38 +108,43 @@ pub fn modify(
         let area = areas.get(number);
         let past = to.min(area.end / PAGE_SIZE);
         if change.alters(&area) {
-            modify_part(areas, tree, page, past, change)?;
+            modify_part(areas, tree, number, page, past, change)?;
         }
         page = past;
     }
     Ok(to)
 }
 
-/// Changes the pages from `from` to below `past`, all of one area, and joins them with their
-/// neighbours.
+/// Changes the pages from `from` to below `past`, all of one area that the change makes another,
+/// and joins them with their neighbours.
+///
+/// What a cut leaves of the area differs from them, so no boundary is tried there.
 fn modify_part(
     areas: &mut Areas,
     tree: &mut Tree,
+    area: AreaId,
     from: u64,
     past: u64,
     change: Change,
 ) -> Result<(), AllocError>
     requires stands { AreOfOne areas.old tree.old }
     requires some { from < past }
+    requires there { area_at tree.old from ≡ Some area }
     requires inside { IsSomeAnd (pages_by (area_of areas.old) tree.old from)
         (λ area. past ≤ past_of area) }
+    requires altered { IsSomeAnd (pages_by (area_of areas.old) tree.old from)
+        (λ area. alters (effect_of change) area ≡ true) }
     ensures stands { StayOfOne areas.old tree.old areas.new tree.new }
     ensures pages { OnOk result
         (Becomes areas.old tree.old areas.new tree.new (part_changed from past (effect_of change))) }
     ensures mapping { OnOk result (IsRemapped from past (effect_of change)
         (pages_by (area_of areas.old) tree.old) (pages_by (area_of areas.new) tree.new)) }
 {
-    split_before(areas, tree, from)?;
-    split_before(areas, tree, past)?;
-    let Some(number) = tree.find(from) else {
-        unreachable!()
-    };
-    let area = areas.get(number);
-    areas.change(number, change.apply(area));
-    join_around(areas, tree, number)
+    let whole = areas.get(area);
+    let number = cut_out(areas, tree, area, from, past)?;
+    let part = areas.get(number);
+    areas.change(number, change.apply(part));
+    let is_cut_below = whole.start / PAGE_SIZE < from;
+    let is_cut_above = past < whole.end / PAGE_SIZE;
+    join_part(areas, tree, from, past, is_cut_below, is_cut_above)
 }

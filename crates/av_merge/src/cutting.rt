@@ -1,8 +1,9 @@
 //! Cutting: an area becomes two, and what lies in a range goes.
 
-ghost use Rattle.std.specs.Prelude.{◌≡◌, ℕ, ◌<◌, ◌≤◌, [], IsSomeAnd, OnOk};
+ghost use Rattle.std.specs.Prelude.{◌≡◌, ℕ, ◌<◌, ◌≤◌, [], Some, IsSomeAnd, OnOk, IfOk};
 ghost use Rattle.av_vma.specs.Areas.{area_of};
-ghost use Rattle.av_vmatree.specs.Spans.{span_of};
+ghost use Rattle.av_vma.specs.Join.{past_of};
+ghost use Rattle.av_vmatree.specs.Spans.{area_at, last_below, span_of};
 ghost use Rattle.av_merge.specs.Pages.{pages_by};
 ghost use Rattle.av_vma.specs.Pages.{cut_at, emptied, unmapped};
 ghost use Rattle.av_merge.specs.Process.{AreAreasOf, NoneCrosses, Stays, AreOfOne, StayOfOne, Becomes};
@@ -10,7 +11,7 @@ ghost use Rattle.av_merge.specs.Process.{AreAreasOf, NoneCrosses, Stays, AreOfOn
 use crate::placing::{add, replace};
 use av_base::{LOW_PAGE, PAGE_SIZE, TOP_PAGE};
 use av_vma::{Area, AreaId, Areas, index};
-use av_vmatree::Tree;
+use av_vmatree::{Span, Tree};
 use std::alloc::AllocError;
 
 /// Makes two areas of one, the upper of which begins with the page `at`, a page of the area but not
@@ -24,15 +25,53 @@ pub fn split(areas: &mut Areas, tree: &mut Tree, area: AreaId, at: u64) -> Resul
     ensures pages { OnOk result
         (Becomes areas.old tree.old areas.new tree.new (cut_at at)) }
 {
+    divide(areas, tree, area, at)?;
+    Ok(())
+}
+
+/// Splits an area, and answers the number of the upper one. The lower one keeps its own.
+fn divide(areas: &mut Areas, tree: &mut Tree, area: AreaId, at: u64) -> Result<AreaId, AllocError>
+    requires stands { AreOfOne areas.old tree.old }
+    requires inside { IsSomeAnd (span_of tree.old area) (λ s. (s.from < at) × (at < s.to)) }
+    ensures stands { StayOfOne areas.old tree.old areas.new tree.new }
+    ensures pages { OnOk result
+        (Becomes areas.old tree.old areas.new tree.new (cut_at at)) }
+    ensures upper { IfOk result (λ number. area_at tree.new at ≡ Some number) }
+    ensures lower { OnOk result ((page : ℕ) → page < at → area_at tree.old page ≡ Some area
+        → area_at tree.new page ≡ Some area) }
+{
+    cut_within(areas, tree, area, at, at)
+}
+
+/// Takes away the pages from `from` to below `to`, where one area lies on both sides of them, and
+/// answers the number of what is left above. What is left below keeps the area's.
+///
+/// The offset of the upper area runs on.
+fn cut_within(
+    areas: &mut Areas,
+    tree: &mut Tree,
+    area: AreaId,
+    from: u64,
+    to: u64,
+) -> Result<AreaId, AllocError>
+    requires stands { AreOfOne areas.old tree.old }
+    requires forward { from ≤ to }
+    requires inside { IsSomeAnd (span_of tree.old area) (λ s. (s.from < from) × (to < s.to)) }
+    ensures stands { StayOfOne areas.old tree.old areas.new tree.new }
+    ensures pages { OnOk result
+        (Becomes areas.old tree.old areas.new tree.new (unmapped from to)) }
+    ensures upper { IfOk result (λ number. area_at tree.new to ≡ Some number) }
+    ensures lower { OnOk result ((page : ℕ) → page < from → area_at tree.old page ≡ Some area
+        → area_at tree.new page ≡ Some area) }
+{
     let whole = areas.get(area);
-    let middle = PAGE_SIZE * at;
     let lower = Area {
-        end: middle,
+        end: PAGE_SIZE * from,
         ..whole
     };
     let upper = Area {
-        start: middle,
-        pgoff: index(&whole, at),
+        start: PAGE_SIZE * to,
+        pgoff: index(&whole, to),
         ..whole
     };
     replace(areas, tree, area, lower);
@@ -40,17 +79,130 @@ pub fn split(areas: &mut Areas, tree: &mut Tree, area: AreaId, at: u64) -> Resul
 }
 
 /// Cuts before the page `at`, where one area lies on both sides.
-pub fn split_before(areas: &mut Areas, tree: &mut Tree, at: u64) -> Result<(), AllocError>
+fn split_before(areas: &mut Areas, tree: &mut Tree, at: u64) -> Result<(), AllocError>
     requires stands { AreOfOne areas.old tree.old }
     ensures stands { StayOfOne areas.old tree.old areas.new tree.new }
     ensures pages { OnOk result
         (Becomes areas.old tree.old areas.new tree.new (cut_at at)) }
     ensures none_crosses { OnOk result (NoneCrosses at tree.new) }
 {
-    match tree.find(at) {
-        Some(area) if areas.get(area).start / PAGE_SIZE < at => split(areas, tree, area, at),
+    let (below, _) = tree.around(at);
+    split_below(areas, tree, below, at)
+}
+
+/// Cuts before the page `at` the last area that begins below it, where that goes on past it.
+fn split_below(
+    areas: &mut Areas,
+    tree: &mut Tree,
+    below: Option<Span>,
+    at: u64,
+) -> Result<(), AllocError>
+    requires stands { AreOfOne areas.old tree.old }
+    requires last { below ≡ last_below tree.old at }
+    ensures stands { StayOfOne areas.old tree.old areas.new tree.new }
+    ensures pages { OnOk result
+        (Becomes areas.old tree.old areas.new tree.new (cut_at at)) }
+    ensures none_crosses { OnOk result (NoneCrosses at tree.new) }
+{
+    match below {
+        Some(span) if at < span.to => split(areas, tree, span.area, at),
         _ => Ok(()),
     }
+}
+
+/// Makes the pages from `from` to below `past`, all of one area, an area of their own, and answers
+/// its number.
+pub fn cut_out(
+    areas: &mut Areas,
+    tree: &mut Tree,
+    area: AreaId,
+    from: u64,
+    past: u64,
+) -> Result<AreaId, AllocError>
+    requires stands { AreOfOne areas.old tree.old }
+    requires some { from < past }
+    requires there { area_at tree.old from ≡ Some area }
+    requires inside { IsSomeAnd (pages_by (area_of areas.old) tree.old from)
+        (λ area. past ≤ past_of area) }
+    ensures stands { StayOfOne areas.old tree.old areas.new tree.new }
+    ensures pages { OnOk result (Becomes areas.old tree.old areas.new tree.new
+        (λ on. cut_at past (cut_at from on))) }
+    ensures part { IfOk result (λ part. area_at tree.new from ≡ Some part) }
+{
+    let Area { start, end, .. } = areas.get(area);
+    if start / PAGE_SIZE < from && past < end / PAGE_SIZE {
+        return cut_apart(areas, tree, area, from, past);
+    }
+    let part = split_from(areas, tree, area, from)?;
+    split_to(areas, tree, part, past)?;
+    Ok(part)
+}
+
+/// Makes three areas of one, which goes on past both ends of a range, and answers the number of the
+/// one in the middle. That is one change of the tree less than two splits are.
+fn cut_apart(
+    areas: &mut Areas,
+    tree: &mut Tree,
+    area: AreaId,
+    from: u64,
+    past: u64,
+) -> Result<AreaId, AllocError>
+    requires stands { AreOfOne areas.old tree.old }
+    requires some { from < past }
+    requires inside { IsSomeAnd (span_of tree.old area) (λ s. (s.from < from) × (past < s.to)) }
+    ensures stands { StayOfOne areas.old tree.old areas.new tree.new }
+    ensures pages { OnOk result (Becomes areas.old tree.old areas.new tree.new
+        (λ on. cut_at past (cut_at from on))) }
+    ensures part { IfOk result (λ part. area_at tree.new from ≡ Some part) }
+{
+    let whole = areas.get(area);
+    cut_within(areas, tree, area, from, past)?;
+    let middle = Area {
+        start: PAGE_SIZE * from,
+        end: PAGE_SIZE * past,
+        pgoff: index(&whole, from),
+        ..whole
+    };
+    add(areas, tree, middle)
+}
+
+/// Cuts an area before one of its pages, where it doesn't begin there, and answers the number of
+/// the area that does.
+fn split_from(
+    areas: &mut Areas,
+    tree: &mut Tree,
+    area: AreaId,
+    at: u64,
+) -> Result<AreaId, AllocError>
+    requires stands { AreOfOne areas.old tree.old }
+    requires there { area_at tree.old at ≡ Some area }
+    ensures stands { StayOfOne areas.old tree.old areas.new tree.new }
+    ensures pages { OnOk result
+        (Becomes areas.old tree.old areas.new tree.new (cut_at at)) }
+    ensures part { IfOk result (λ part. area_at tree.new at ≡ Some part) }
+{
+    if areas.get(area).start / PAGE_SIZE < at {
+        divide(areas, tree, area, at)
+    } else {
+        Ok(area)
+    }
+}
+
+/// Cuts an area past one of its pages, where it goes on there. The lower part keeps the number.
+fn split_to(areas: &mut Areas, tree: &mut Tree, area: AreaId, at: u64) -> Result<(), AllocError>
+    requires stands { AreOfOne areas.old tree.old }
+    requires inside { IsSomeAnd (span_of tree.old area) (λ s. (s.from < at) × (at ≤ s.to)) }
+    ensures stands { StayOfOne areas.old tree.old areas.new tree.new }
+    ensures pages { OnOk result
+        (Becomes areas.old tree.old areas.new tree.new (cut_at at)) }
+    ensures lower { OnOk result ((page : ℕ) → page < at → area_at tree.old page ≡ Some area
+        → area_at tree.new page ≡ Some area) }
+{
+    if areas.get(area).end / PAGE_SIZE <= at {
+        return Ok(());
+    }
+    divide(areas, tree, area, at)?;
+    Ok(())
 }
 
 /// Takes away the pages from `from` to below `to`. An area that goes past an end of the range is
@@ -62,7 +214,33 @@ pub fn cut(areas: &mut Areas, tree: &mut Tree, from: u64, to: u64) -> Result<(),
     ensures pages { OnOk result
         (Becomes areas.old tree.old areas.new tree.new (unmapped from to)) }
 {
-    split_before(areas, tree, from)?;
+    let (below, _) = tree.around(from);
+    match below {
+        Some(span) if to < span.to => {
+            cut_within(areas, tree, span.area, from, to)?;
+            Ok(())
+        }
+        _ => cut_ends(areas, tree, below, from, to),
+    }
+}
+
+/// Takes away the pages from `from` to below `to`: cuts at the two ends, of which the lower is in
+/// the last area that begins below it or in none, and takes out what lies between.
+fn cut_ends(
+    areas: &mut Areas,
+    tree: &mut Tree,
+    below: Option<Span>,
+    from: u64,
+    to: u64,
+) -> Result<(), AllocError>
+    requires stands { AreOfOne areas.old tree.old }
+    requires forward { from ≤ to }
+    requires last { below ≡ last_below tree.old from }
+    ensures stands { StayOfOne areas.old tree.old areas.new tree.new }
+    ensures pages { OnOk result
+        (Becomes areas.old tree.old areas.new tree.new (unmapped from to)) }
+{
+    split_below(areas, tree, below, from)?;
     split_before(areas, tree, to)?;
     take_out(areas, tree, from, to);
     Ok(())

@@ -1,9 +1,10 @@
 //! Joining: two areas become one where the second goes on in the way of the first.
 
-ghost use Rattle.std.specs.Prelude.{◌≡◌, ℕ, ◌<◌, IsSome, IfSome, OnOk, true};
+ghost use Rattle.std.specs.Prelude.{◌≡◌, ℕ, ◌-◌, ◌<◌, ◌≤◌, Some, IsSome, IfSome, OnOk, true};
 ghost use Rattle.av_vma.specs.Areas.{area_of};
-ghost use Rattle.av_vmatree.specs.Spans.{span_of};
+ghost use Rattle.av_vmatree.specs.Spans.{area_at, span_of};
 ghost use Rattle.av_vma.specs.Pages.{joined_around, joined_at, merged};
+ghost use Rattle.av_merge.specs.Mapping.{DoDiffer};
 ghost use Rattle.av_merge.specs.Pages.{pages_by};
 ghost use Rattle.av_merge.specs.Process.{AreAreasOf, Stays, AreOfOne, StayOfOne, Becomes};
 
@@ -22,8 +23,104 @@ pub fn join_around(areas: &mut Areas, tree: &mut Tree, area: AreaId) -> Result<(
         (λ s. Becomes areas.old tree.old areas.new tree.new (joined_around s.from s.to))) }
 {
     let Area { start, end, .. } = areas.get(area);
-    join_at(areas, tree, start / PAGE_SIZE)?;
-    join_at(areas, tree, end / PAGE_SIZE)
+    join_ends(areas, tree, start / PAGE_SIZE, end / PAGE_SIZE)
+}
+
+/// Tries the boundaries before the pages `from` and `past`, between which one area lies.
+fn join_ends(areas: &mut Areas, tree: &mut Tree, from: u64, past: u64) -> Result<(), AllocError>
+    requires stands { AreOfOne areas.old tree.old }
+    requires some { 0 < from }
+    requires forward { from < past }
+    ensures stands { StayOfOne areas.old tree.old areas.new tree.new }
+    ensures pages { OnOk result
+        (Becomes areas.old tree.old areas.new tree.new (joined_around from past)) }
+{
+    let (below, here) = tree.around(from);
+    let (_, above) = tree.around(past);
+    match (below, here, above) {
+        (Some(left), Some(middle), Some(right))
+            if left.to == from && middle.from == from && middle.to == past && right.from == past =>
+            { join_three(areas, tree, left.area, middle.area, right.area, from, past) }
+        _ => join_both(areas, tree, from, past),
+    }
+}
+
+/// Tries the boundaries at the two ends of an area, but for those where its neighbour is known not
+/// to be alike.
+pub fn join_part(
+    areas: &mut Areas,
+    tree: &mut Tree,
+    from: u64,
+    past: u64,
+    differs_below: bool,
+    differs_above: bool,
+) -> Result<(), AllocError>
+    requires stands { AreOfOne areas.old tree.old }
+    requires some { 0 < from }
+    requires forward { from < past }
+    requires below { differs_below ≡ true
+        → DoDiffer from (pages_by (area_of areas.old) tree.old) }
+    requires above { differs_above ≡ true
+        → DoDiffer past (joined_at from (pages_by (area_of areas.old) tree.old)) }
+    ensures stands { StayOfOne areas.old tree.old areas.new tree.new }
+    ensures pages { OnOk result
+        (Becomes areas.old tree.old areas.new tree.new (joined_around from past)) }
+{
+    if !differs_below && !differs_above {
+        return join_ends(areas, tree, from, past);
+    }
+    join_unless(areas, tree, differs_below, from)?;
+    join_unless(areas, tree, differs_above, past)
+}
+
+/// Tries one boundary, and then another.
+fn join_both(areas: &mut Areas, tree: &mut Tree, from: u64, past: u64) -> Result<(), AllocError>
+    requires stands { AreOfOne areas.old tree.old }
+    requires some { 0 < from }
+    requires forward { from < past }
+    ensures stands { StayOfOne areas.old tree.old areas.new tree.new }
+    ensures pages { OnOk result
+        (Becomes areas.old tree.old areas.new tree.new (joined_around from past)) }
+{
+    join_at(areas, tree, from)?;
+    join_at(areas, tree, past)
+}
+
+/// Tries both boundaries of the area between the pages `from` and `past`, which has another on each
+/// side. Where all three become one, the tree changes three times, and not four.
+fn join_three(
+    areas: &mut Areas,
+    tree: &mut Tree,
+    left: AreaId,
+    middle: AreaId,
+    right: AreaId,
+    from: u64,
+    past: u64,
+) -> Result<(), AllocError>
+    requires stands { AreOfOne areas.old tree.old }
+    requires some { 0 < from }
+    requires forward { from < past }
+    requires below { area_at tree.old (from - 1) ≡ Some left }
+    requires first { area_at tree.old from ≡ Some middle }
+    requires last { area_at tree.old (past - 1) ≡ Some middle }
+    requires above { area_at tree.old past ≡ Some right }
+    ensures stands { StayOfOne areas.old tree.old areas.new tree.new }
+    ensures pages { OnOk result
+        (Becomes areas.old tree.old areas.new tree.new (joined_around from past)) }
+{
+    let lower = areas.get(left);
+    let inner = areas.get(middle);
+    let upper = areas.get(right);
+    if !mergeable(&lower, 0, &inner, 0) || !mergeable(&inner, 0, &upper, 0) {
+        return join_both(areas, tree, from, past);
+    }
+    tree.remove(middle, from);
+    areas.remove(middle);
+    tree.remove(right, past);
+    areas.remove(right);
+    let both = merge(lower, inner);
+    replace(areas, tree, left, merge(both, upper));
+    Ok(())
 }
 
 /// Tries the boundary before the page `at`: the areas on its two sides become one where they are
@@ -37,21 +134,53 @@ pub fn join_at(areas: &mut Areas, tree: &mut Tree, at: u64) -> Result<(), AllocE
     ensures pages { OnOk result
         (Becomes areas.old tree.old areas.new tree.new (joined_at at)) }
 {
-    let Some(left) = tree.find(at - 1) else {
+    let (below, above) = tree.around(at);
+    let Some(left) = below else {
         return Ok(());
     };
-    let Some(right) = tree.find(at) else {
+    let Some(right) = above else {
         return Ok(());
     };
+    if left.to != at || right.from != at {
+        return Ok(());
+    }
+    join(areas, tree, left.area, right.area, at);
+    Ok(())
+}
+
+/// Makes one of the areas on the two sides of the boundary before the page `at`, where they are
+/// mergeable.
+fn join(areas: &mut Areas, tree: &mut Tree, left: AreaId, right: AreaId, at: u64)
+    requires stands { AreOfOne areas.old tree.old }
+    requires below { area_at tree.old (at - 1) ≡ Some left }
+    requires above { area_at tree.old at ≡ Some right }
+    ensures stands { StayOfOne areas.old tree.old areas.new tree.new }
+    ensures pages { Becomes areas.old tree.old areas.new tree.new (joined_at at) }
+{
     let lower = areas.get(left);
     let upper = areas.get(right);
     if !mergeable(&lower, 0, &upper, 0) {
-        return Ok(());
+        return;
     }
     tree.remove(right, at);
     areas.remove(right);
     replace(areas, tree, left, merge(lower, upper));
-    Ok(())
+}
+
+/// Tries the boundary before the page `at`, unless the areas on its two sides are known not to be
+/// alike.
+fn join_unless(areas: &mut Areas, tree: &mut Tree, differs: bool, at: u64) -> Result<(), AllocError>
+    requires stands { AreOfOne areas.old tree.old }
+    requires some { 0 < at }
+    requires differ { differs ≡ true → DoDiffer at (pages_by (area_of areas.old) tree.old) }
+    ensures stands { StayOfOne areas.old tree.old areas.new tree.new }
+    ensures pages { OnOk result
+        (Becomes areas.old tree.old areas.new tree.new (joined_at at)) }
+{
+    if differs {
+        return Ok(());
+    }
+    join_at(areas, tree, at)
 }
 
 /// Two areas that adjoin as one, with the anon_vma that either has.

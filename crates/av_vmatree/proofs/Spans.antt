@@ -1,11 +1,12 @@
 -- Lists of spans of which no two meet.
 use Rattle.std.proofs.Common.{◌≡◌, ℕ, ◌+◌, ◌-◌, ◌^◌, ◌<◌, ◌≤◌, max, ◌⊎◌, inl, inr, Bool, true, false, cond, ◌&&◌, eqb, ltb, leb, Option, Some, None, is_some, IfSome, IsSome, IsSomeAnd, Result, Ok, Err, is_ok, OnOk, List, [], ◌∷◌, ◌++◌, length, refl, sym, ap, subst, ◌∙◌, arith}
+use Rattle.std.specs.Option.{option_or}
 use Rattle.std.proofs.lemmas.Bool.{leb-true, ltb-true, ltb-false, le-leb, lt-leb, lt-ltb, le-ltb, eq-eqb, ne_eqb, eqb-true, eqb-false, both_ways, cases_lt, and_parts, cond-false}
 use Rattle.av_base.specs.Limits.{low_page, top_page}
 use Rattle.av_base.specs.Words.{with_at}
 use Rattle.av_arena.specs.Order.{AllOf, entry_at, with_entry, without_key}
 use Rattle.av_vmatree.specs.declared.span.Span.{Span}
-use Rattle.av_vmatree.specs.Spans.{start_of, holds, area_after, area_at, area_before, or_else, taken, span_of, with_span, unless_area, without_area, IsFree, AreApart, AreDistinct, AreSpans}
+use Rattle.av_vmatree.specs.Spans.{start_of, holds, area_after, area_at, area_before, first_from, last_below, or_else, taken, span_of, with_span, unless_area, without_area, IsFree, AreApart, AreDistinct, AreSpans}
 
 -- no span meets the n pages from p on
 abbrev pub AreClear : List Span → ℕ → ℕ → Type 0
@@ -472,6 +473,54 @@ after_left p d l a r near is h =
 pub after_right : (p : ℕ) (d l : List Span) (a : Span) (r : List Span) (near : Option ℕ) → d ≡ l ++ a ∷ r → AreApart d → a.from ≤ p → or_else (area_after r p) near ≡ or_else (area_after d p) near
 after_right p d l a r near is s h =
     rw (is, after_cut p l (a ∷ r), after_none p l a r h (subst AreApart is s), le-ltb p a.from h) refl
+
+-- the spans on both sides of a page, down the tree
+or_assoc : (x y z : Option Span) → option_or (option_or x y) z ≡ option_or x (option_or y z)
+or_assoc (Some a) y z = refl
+or_assoc None y z = refl
+
+or_some : (x y : Option Span) (s : Span) → option_or (option_or x (Some s)) y ≡ option_or x (Some s)
+or_some (Some a) y s = refl
+or_some None y s = refl
+
+below_cut : (p : ℕ) (l m : List Span) → last_below (l ++ m) p ≡ option_or (last_below m p) (last_below l p)
+below_cut p [] m = elim (last_below m p) as (λ o. o ≡ option_or o None) [ Some x ↦ refl | None ↦ refl ]
+below_cut p (b ∷ l) m = ap (λ o. option_or o (cond (ltb b.from p) (Some b) None)) (below_cut p l m) ∙ or_assoc (last_below m p) (last_below l p) _
+
+below_none : (p : ℕ) (a : Span) (xs : List Span) → p ≤ a.to → AllOf (λ b. a.to ≤ b.from) xs → last_below xs p ≡ None
+below_none p a [] h later = refl
+below_none p a (b ∷ xs) h later =
+    let k : a.to ≤ b.from = later.0 in
+    rw (below_none p a xs h later.1, le-ltb b.from p (omega arith)) refl
+
+pub below_right : (p : ℕ) (d l : List Span) (a : Span) (r : List Span) (near : Option Span) → d ≡ l ++ a ∷ r → a.from < p → option_or (last_below r p) (Some a) ≡ option_or (last_below d p) near
+below_right p d l a r near is h =
+    rw (is, below_cut p l (a ∷ r), lt-ltb a.from p h, or_some (last_below r p) (last_below l p) a, or_some (last_below r p) near a) refl
+
+pub below_left : (p : ℕ) (d l : List Span) (a : Span) (r : List Span) (near : Option Span) → d ≡ l ++ a ∷ r → AreApart d → p ≤ a.from → option_or (last_below l p) near ≡ option_or (last_below d p) near
+below_left p d l a r near is s h =
+    let apart = apart_tail l (a ∷ r) (subst AreApart is s) in
+    let wide : a.from < a.to = apart.0 in
+    rw (is, below_cut p l (a ∷ r), below_none p a r (omega arith) apart.1, le-ltb a.from p h) refl
+
+from_cut : (p : ℕ) (l m : List Span) → first_from (l ++ m) p ≡ option_or (first_from l p) (first_from m p)
+from_cut p [] m = refl
+from_cut p (b ∷ l) m = elim (leb p b.from) as (λ v. cond v (Some b) (first_from (l ++ m) p) ≡ option_or (cond v (Some b) (first_from l p)) (first_from m p)) [ true ↦ refl | false ↦ from_cut p l m ]
+
+from_none : (p : ℕ) (l : List Span) (a : Span) (r : List Span) → a.from < p → AreApart (l ++ a ∷ r) → first_from l p ≡ None
+from_none p [] a r h s = refl
+from_none p (b ∷ l) a r h s =
+    let wide : b.from < b.to = s.0 in
+    let k : b.to ≤ a.from = middle_after b l a r s.1 in
+    rw (lt-leb p b.from (omega arith)) (from_none p l a r h s.2)
+
+pub from_left : (p : ℕ) (d l : List Span) (a : Span) (r : List Span) (near : Option Span) → d ≡ l ++ a ∷ r → p ≤ a.from → option_or (first_from l p) (Some a) ≡ option_or (first_from d p) near
+from_left p d l a r near is h =
+    rw (is, from_cut p l (a ∷ r), le-leb p a.from h, or_some (first_from l p) near a) refl
+
+pub from_right : (p : ℕ) (d l : List Span) (a : Span) (r : List Span) (near : Option Span) → d ≡ l ++ a ∷ r → AreApart d → a.from < p → option_or (first_from r p) near ≡ option_or (first_from d p) near
+from_right p d l a r near is s h =
+    rw (is, from_cut p l (a ∷ r), from_none p l a r h (subst AreApart is s), lt-leb p a.from h) refl
 
 pub room_here : (xs : List Span) → AreSpans xs → length xs < 2 ^ 63
 room_here xs g = let h = room_more xs g in omega (arith, h)

@@ -2,7 +2,7 @@ ghost use Rattle.std.specs.Prelude.{◌≡◌, ℕ, ◌-◌, ◌<◌, ◌≤◌,
 ghost use Rattle.av_base.specs.Limits.{low_page, top_page};
 ghost use Rattle.av_vma.specs.Gap.{IsGap};
 ghost use Rattle.av_base.specs.Words.{within, with_at};
-ghost use Rattle.av_vmatree.specs.Spans.{AreSpans, IsFree, IsMet, area_after, area_at, area_before, holds, span, span_of, taken, unless_area, with_span, without_area};
+ghost use Rattle.av_vmatree.specs.Spans.{AreSpans, IsFree, IsMet, area_after, area_at, area_before, first_from, holds, last_below, span, span_of, taken, unless_area, with_span, without_area};
 
 use crate::gap::gap_in;
 use crate::span::Span;
@@ -153,6 +153,27 @@ impl Tree {
             }
         }
         nearest
+    }
+
+    /// The last area that begins below the page, and the first one that begins there or above, in
+    /// one descent.
+    pub fn around(&self, page: u64) -> (Option<Span>, Option<Span>)
+        ensures below { result.0 ≡ last_below self.now page }
+        ensures above { result.1 ≡ first_from self.now page }
+    {
+        let mut below = None;
+        let mut above = None;
+        let mut part = self.spans.part();
+        'down: while let Some((left, span, right)) = part.parts() {
+            if span.from < page {
+                below = Some(span);
+                part = right;
+            } else {
+                above = Some(span);
+                part = left;
+            }
+        }
+        (below, above)
     }
 
     /// Whether no area holds a page from `from` to below `to`.

@@ -1,36 +1,8 @@
-use Rattle.av_vma.specs.Areas.{area_of}
-use Rattle.av_merge.proofs.Places.{stays_trans}
-use Rattle.av_merge.proofs.Cuts.{none_after}
+use Rattle.std.proofs.Common.{IsSomeAnd, ◌<◌, ◌∙◌, sym, subst}
+use Rattle.av_vmatree.proofs.Sides.{below_is}
 use Rattle.av_merge.proofs.cutting.cut.Goals as goal
 
-pub split_before-requires-2 : goal.split_before-requires-2
-split_before-requires-2 c =
-    let p = c.requires.stands.0 in
-    record { stands = (p, (c.split_before.ensures.stands p c.requires.stands.1).areas) }
-
-pub returns-in_err-split_before-2-clause-stands : goal.returns-in_err-split_before-2-clause-stands
-returns-in_err-split_before-2-clause-stands c p stands =
-    let first = c.split_before.ensures.stands p stands in
-    let second = c.split_before-2.ensures.stands p first.areas in
-    stays_trans p _ (area_of c.split_before.new.areas) _ c.split_before.new.tree _ first second
-
-pub take_out-requires-clause-stands : goal.take_out-requires-clause-stands
-take_out-requires-clause-stands c =
-    let p = c.requires.stands.0 in
-    let first = c.split_before.ensures.stands p c.requires.stands.1 in
-    (p, (c.split_before-2.ensures.stands p first.areas).areas)
-
-pub take_out-requires-clause-lower : goal.take_out-requires-clause-lower
-take_out-requires-clause-lower c =
-    let p = c.requires.stands.0 in
-    let first = c.split_before.ensures.stands p c.requires.stands.1 in
-    let second = c.split_before-2.ensures.stands p first.areas in
-    none_after p c.args.to c.args.from (area_of c.split_before.new.areas) (area_of c.split_before-2.new.areas) c.split_before.new.tree c.split_before-2.new.tree
-    first.areas second.areas c.in_ok-split_before.ensures.none_crosses c.in_ok-split_before-2.ensures.pages
-
-pub returns-clause-stands : goal.returns-clause-stands
-returns-clause-stands c p stands =
-    let first = c.split_before.ensures.stands p stands in
-    let second = c.split_before-2.ensures.stands p first.areas in
-    let third = c.take_out.ensures.stands p second.areas in
-    stays_trans p _ (area_of c.split_before-2.new.areas) _ c.split_before-2.new.tree _ (stays_trans p _ (area_of c.split_before.new.areas) _ c.split_before.new.tree _ first second) third
+pub cut_within-requires-clause-inside : goal.cut_within-requires-clause-inside
+cut_within-requires-clause-inside c =
+    let k = below_is c.args.tree.now c.args.from c.in-Some.span c.requires.stands.1.spans_are.distinct (sym c.around-below.ensures.below ∙ c.in-Some.is) in
+    subst (λ o. IsSomeAnd o (λ s. (s.from < c.args.from) × (c.args.to < s.to))) (sym k.there) (k.side, c.if-to-span.true)

@@ -1,53 +1,44 @@
-use Rattle.std.proofs.Common.{◌≡◌, ◌∙◌, None, IsSomeAnd, sym, ap, subst}
-use Rattle.av_base.specs.Words.{with_at}
-use Rattle.av_vma.specs.declared.area.Area.{Area}
+use Rattle.std.proofs.Common.{◌≡◌, ◌∙◌, sym, ap, inl, inr}
+use Rattle.av_vmatree.specs.declared.span.Span.{Span}
+use Rattle.std.proofs.lemmas.Option.{none-some, same_Some}
 use Rattle.av_vma.specs.Areas.{area_of}
-use Rattle.av_vma.specs.Join.{first_of, past_of}
-use Rattle.av_vmatree.specs.Spans.{IsFree, span_of, taken, without_area}
 use Rattle.av_merge.specs.Pages.{pages_by}
-use Rattle.av_vma.specs.Pages.{placed, IsWhole}
-use Rattle.av_merge.specs.Process.{Stays}
-use Rattle.av_merge.proofs.Joins.{join_whole, join_free, join_pages, join_stays, left_from, right_from}
+use Rattle.av_merge.proofs.Joins.{left_side, not_joined, right_side, sides_of}
 use Rattle.av_merge.proofs.joining.join_at.Goals as goal
 
-pub remove-requires : goal.remove-requires
-remove-requires c = record {
-  there = right_from c.requires.stands.0 c.in-Some.left c.in-Some-find.right c.args.at c.get-lower.result c.get-upper.result (area_of c.args.areas.now) c.args.tree.now
-      c.requires.stands.1 (sym c.in-Some.ensures.area) (sym c.in-Some-find.ensures.area) c.get-lower.ensures c.get-upper.ensures (sym c.mergeable.ensures ∙ c.if-not-mergeable.false);
-}
+pub returns-in_default-clause-pages : goal.returns-in_default-clause-pages
+returns-in_default-clause-pages c =
+    let areas = area_of c.args.areas.now in
+    let spans = c.args.tree.now in
+    not_joined c.args.at (pages_by areas spans) (λ left right before after joins.
+    let sides = sides_of c.requires.stands.0 c.args.at areas spans left right c.requires.stands.1 before after joins in
+    none-some sides.left (sym c.in_default.is ∙ c.around-below.ensures.below ∙ sides.below))
 
-pub replace-requires-clause-there : goal.replace-requires-clause-there
-replace-requires-clause-there c =
-    subst (λ (a : Area). IsSomeAnd (span_of c.remove.new.self c.in-Some.left) (λ s. s.from ≡ first_of a)) (sym c.merge.ensures)
-    (left_from c.requires.stands.0 c.in-Some.left c.in-Some-find.right c.args.at c.get-lower.result c.get-upper.result (area_of c.args.areas.now) c.args.tree.now
-    c.requires.stands.1 (sym c.in-Some.ensures.area) (sym c.in-Some-find.ensures.area) c.get-lower.ensures c.get-upper.ensures (sym c.mergeable.ensures ∙ c.if-not-mergeable.false)
-    (area_of c.remove-2.new.self) c.remove.new.self c.remove-2.ensures c.remove.ensures.kept c.remove.ensures.areas c.remove.ensures.pages)
+pub returns-in_default-above-clause-pages : goal.returns-in_default-above-clause-pages
+returns-in_default-above-clause-pages c =
+    let areas = area_of c.args.areas.now in
+    let spans = c.args.tree.now in
+    not_joined c.args.at (pages_by areas spans) (λ left right before after joins.
+    let sides = sides_of c.requires.stands.0 c.args.at areas spans left right c.requires.stands.1 before after joins in
+    none-some sides.right (sym c.in_default-above.is ∙ c.around-below.ensures.above ∙ sides.above))
 
-pub replace-requires-clause-whole : goal.replace-requires-clause-whole
-replace-requires-clause-whole c =
-    subst IsWhole (sym c.merge.ensures)
-    (join_whole c.requires.stands.0 c.in-Some.left c.in-Some-find.right c.args.at c.get-lower.result c.get-upper.result (area_of c.args.areas.now) c.args.tree.now
-    c.requires.stands.1 (sym c.in-Some.ensures.area) (sym c.in-Some-find.ensures.area) c.get-lower.ensures c.get-upper.ensures (sym c.mergeable.ensures ∙ c.if-not-mergeable.false))
+pub returns-then-left-at-clause-pages : goal.returns-then-left-at-clause-pages
+returns-then-left-at-clause-pages c =
+    let areas = area_of c.args.areas.now in
+    let spans = c.args.tree.now in
+    not_joined c.args.at (pages_by areas spans) (λ left right before after joins.
+    let sides = sides_of c.requires.stands.0 c.args.at areas spans left right c.requires.stands.1 before after joins in
+    let left_is : c.in-Some.left ≡ sides.left = same_Some c.in-Some.left sides.left (sym c.in-Some.is ∙ c.around-below.ensures.below ∙ sides.below) in
+    let right_is : c.in-Some-above.right ≡ sides.right = same_Some c.in-Some-above.right sides.right (sym c.in-Some-above.is ∙ c.around-below.ensures.above ∙ sides.above) in
+    let ends : c.in-Some.left.to ≡ c.args.at = ap (λ (s : Span). s.to) left_is ∙ sides.ends in
+    let begins : c.in-Some-above.right.from ≡ c.args.at = ap (λ (s : Span). s.from) right_is ∙ sides.begins in
+    elim c.then-left-at.either [ inl apart ↦ apart ends | inr both ↦ both.1 begins ])
 
-pub replace-requires-clause-free : goal.replace-requires-clause-free
-replace-requires-clause-free c =
-    subst (λ (a : Area). IsFree (taken (without_area c.in-Some.left c.remove.new.self)) (first_of a) (past_of a)) (sym c.merge.ensures)
-    (join_free c.requires.stands.0 c.in-Some.left c.in-Some-find.right c.args.at c.get-lower.result c.get-upper.result (area_of c.args.areas.now) c.args.tree.now
-    c.requires.stands.1 (sym c.in-Some.ensures.area) (sym c.in-Some-find.ensures.area) c.get-lower.ensures c.get-upper.ensures (sym c.mergeable.ensures ∙ c.if-not-mergeable.false)
-    (area_of c.remove-2.new.self) c.remove.new.self c.remove-2.ensures c.remove.ensures.kept c.remove.ensures.areas c.remove.ensures.pages)
-
-pub returns-clause-stands : goal.returns-clause-stands
-returns-clause-stands c = λ p stands.
-    join_stays p c.in-Some.left c.in-Some-find.right c.args.at c.get-lower.result c.get-upper.result (area_of c.args.areas.now) c.args.tree.now
-    stands (sym c.in-Some.ensures.area) (sym c.in-Some-find.ensures.area) c.get-lower.ensures c.get-upper.ensures (sym c.mergeable.ensures ∙ c.if-not-mergeable.false)
-    (area_of c.remove-2.new.self) c.remove.new.self c.remove-2.ensures c.remove.ensures.kept c.remove.ensures.areas c.remove.ensures.pages
-    (area_of c.replace.new.areas) c.replace.new.tree
-    (subst (λ (a : Area). Stays a.pid (area_of c.remove-2.new.self) (area_of c.replace.new.areas) c.replace.new.tree) c.merge.ensures c.replace.ensures.stands)
-
-pub returns-clause-pages : goal.returns-clause-pages
-returns-clause-pages c = λ page.
-    c.replace.ensures.pages page
-    ∙ ap (λ (a : Area). placed a (pages_by (with_at c.in-Some.left None (area_of c.remove-2.new.self)) c.remove.new.self) page) c.merge.ensures
-    ∙ join_pages c.requires.stands.0 c.in-Some.left c.in-Some-find.right c.args.at c.get-lower.result c.get-upper.result (area_of c.args.areas.now) c.args.tree.now
-    c.requires.stands.1 (sym c.in-Some.ensures.area) (sym c.in-Some-find.ensures.area) c.get-lower.ensures c.get-upper.ensures (sym c.mergeable.ensures ∙ c.if-not-mergeable.false)
-    (area_of c.remove-2.new.self) c.remove.new.self c.remove-2.ensures c.remove.ensures.kept c.remove.ensures.areas c.remove.ensures.pages page
+pub join-requires : goal.join-requires
+join-requires c =
+    let spans = c.args.tree.now in
+    record {
+      stands = c.requires.stands;
+      below = left_side spans c.args.at c.in-Some.left c.requires.stands.1.spans_are c.requires.some (sym c.around-below.ensures.below ∙ c.in-Some.is) c.if-left-at.false;
+      above = right_side spans c.args.at c.in-Some-above.right c.requires.stands.1.spans_are (sym c.around-below.ensures.above ∙ c.in-Some-above.is) c.if-right-at.false;
+    }

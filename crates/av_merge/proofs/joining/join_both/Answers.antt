@@ -1,6 +1,6 @@
 use Rattle.av_vma.specs.Areas.{area_of}
 use Rattle.av_merge.proofs.Places.{stays_trans}
-use Rattle.av_merge.proofs.joining.join_around.Goals as goal
+use Rattle.av_merge.proofs.joining.join_both.Goals as goal
 
 pub join_at-requires-2-clause-stands : goal.join_at-requires-2-clause-stands
 join_at-requires-2-clause-stands c =

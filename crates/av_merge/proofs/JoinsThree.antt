@@ -1,0 +1,258 @@
+-- Three areas of a process that follow each other become one: the upper two go, and the three as one are put in the lowest one's place.
+use Rattle.std.proofs.Common.{◌≡◌, ◌≢◌, ℕ, ◌+◌, ◌-◌, ◌/◌, ◌<◌, ◌≤◌, ◌==◌, ◌&&◌, IsSomeAnd, IsSome, true, false, cond, inl, inr, List, Option, Some, None, is_some, refl, sym, ap, subst, ◌∙◌, arith}
+use Rattle.std.specs.Prelude.{option_and_then}
+use Rattle.std.proofs.lemmas.Bool.{eq-eqb, ne_eqb, both_ways, cases_lt, false_from_ne_true}
+use Rattle.std.proofs.lemmas.Option.{same_Some}
+use Rattle.av_vma.specs.declared.area.Area.{Area}
+use Rattle.av_vma.specs.Join.{first_of, past_of, same_prot, share_anon}
+use Rattle.av_base.specs.Words.{with_at}
+use Rattle.av_vmatree.specs.declared.span.Span.{Span}
+use Rattle.av_vmatree.specs.Spans.{AreSpans, IsFree, area_at, span_of, taken, unless_area, without_area}
+use Rattle.av_vma.specs.Pages.{IsWhole, Pages, has_page, join, joined_around, joined_at, merged, placed, tried}
+use Rattle.av_merge.specs.Pages.{pages_by}
+use Rattle.av_merge.specs.Process.{AreAreasOf, Stays}
+use Rattle.av_merge.proofs.Places.{at_rest, at_span, has_from, has_parts, stays_trans, take_others, take_stands}
+use Rattle.av_merge.proofs.Cuts.{IsFound, found}
+use Rattle.av_merge.proofs.Mappings.{join_is, laid_of, merged_whole}
+
+-- the third goes on in the second as in the first two together
+join_runs_on : (lower inner upper : Area) → IsWhole lower → IsWhole inner → join lower inner ≡ true → join (merged lower inner) upper ≡ join inner upper
+join_runs_on lower inner upper low mid joins =
+    let j = join_is lower inner joins in
+    let some = low.some in
+    let wide = mid.some in
+    let same : (past_of inner - first_of lower) + lower.pgoff ≡ (past_of inner - first_of inner) + inner.pgoff = omega arith in
+    λ i. (inner.end == upper.start) && same_prot (j.prot i) upper.prot && (j.flags i == upper.flags) && (same i == upper.pgoff) && share_anon ((j.one_anon ∙ j.anon) i) 0 upper.anon 0
+
+-- a boundary whose areas join
+joined_is : (at page : ℕ) (on : Pages) (left right : Area) → on (at - 1) ≡ Some left → on at ≡ Some right → join left right ≡ true → joined_at at on page ≡ placed (merged left right) on page
+joined_is at page on left right before after joins =
+    (λ i. tried (before i) (after i) page (on page))
+    ∙ ap (λ b. cond (b && has_page (merged left right) page) (Some (merged left right)) (on page)) joins
+
+other_number : (areas : ℕ → Option Area) (a b : ℕ) (x y : Area) → areas a ≡ Some x → areas b ≡ Some y → first_of x < first_of y → a ≢ b
+other_number areas a b x y e f less same =
+    let one : x ≡ y = same_Some x y (sym e ∙ ap areas same ∙ f) in
+    let first : first_of x ≡ first_of y = ap first_of one in
+    omega arith
+
+module _ (p l m r from past : ℕ) (lower inner upper : Area) (areas : ℕ → Option Area) (spans : List Span)
+    (stands : AreAreasOf p areas spans)
+    (left_at : area_at spans (from - 1) ≡ Some l) (here_at : area_at spans from ≡ Some m)
+    (last_at : area_at spans (past - 1) ≡ Some m) (right_at : area_at spans past ≡ Some r)
+    (lower_is : areas l ≡ Some lower) (inner_is : areas m ≡ Some inner) (upper_is : areas r ≡ Some upper)
+    (joins : join lower inner ≡ true) (joins' : join inner upper ≡ true) where
+  on_left : IsFound p l (from - 1) areas spans lower
+  on_left = found p l (from - 1) areas spans lower stands left_at lower_is
+
+  on_here : IsFound p m from areas spans inner
+  on_here = found p m from areas spans inner stands here_at inner_is
+
+  on_last : IsFound p m (past - 1) areas spans inner
+  on_last = found p m (past - 1) areas spans inner stands last_at inner_is
+
+  on_right : IsFound p r past areas spans upper
+  on_right = found p r past areas spans upper stands right_at upper_is
+
+  abbrev both : Area
+  both = merged lower inner
+
+  abbrev pub all : Area
+  all = merged (merged lower inner) upper
+
+  -- where the three begin and end
+  record Bounds : Type 0 where
+    pub low : first_of lower < first_of inner
+    pub middle : first_of inner < first_of upper
+    pub high : first_of upper < past_of upper
+    pub one : past_of lower ≡ first_of inner
+    pub two : past_of inner ≡ first_of upper
+    pub from_is : first_of inner ≡ from
+    pub past_is : first_of upper ≡ past
+
+  bounds : Bounds
+  bounds =
+      let j = join_is lower inner joins in
+      let k = join_is inner upper joins' in
+      let one : past_of lower ≡ first_of inner = ap (λ n. n / 4096) j.adjoin in
+      let two : past_of inner ≡ first_of upper = ap (λ n. n / 4096) k.adjoin in
+      let s = on_left.is.whole.some in
+      let t = on_here.is.whole.some in
+      let u = on_right.is.whole.some in
+      let a = on_left.high in
+      let b = on_here.low in
+      let c = on_last.high in
+      let d = on_right.low in
+      let e = on_here.is.whole.low in
+      record { low = omega arith; middle = omega arith; high = u; one = one; two = two; from_is = omega arith; past_is = omega arith }
+
+  both_whole : IsWhole (merged lower inner)
+  both_whole = merged_whole lower inner on_left.is.whole on_here.is.whole joins
+
+  all_joins : join (merged lower inner) upper ≡ true
+  all_joins = join_runs_on lower inner upper on_left.is.whole on_here.is.whole joins ∙ joins'
+
+  pub three_whole : IsWhole (merged (merged lower inner) upper)
+  three_whole = merged_whole (merged lower inner) upper both_whole on_right.is.whole all_joins
+
+  l-m : l ≢ m
+  l-m = other_number areas l m lower inner lower_is inner_is bounds.low
+
+  m-r : m ≢ r
+  m-r = other_number areas m r inner upper inner_is upper_is bounds.middle
+
+  l-r : l ≢ r
+  l-r = other_number areas l r lower upper lower_is upper_is (let a = bounds.low in let b = bounds.middle in omega arith)
+
+  r-m : r ≢ m
+  r-m same = m-r (sym same)
+
+  pub middle_from : IsSomeAnd (span_of spans m) (λ s. s.from ≡ from)
+  middle_from = subst (λ o. IsSomeAnd o (λ s. s.from ≡ from)) (sym on_here.span_is) (on_here.is.from ∙ bounds.from_is)
+
+  -- the number that is on each of their pages
+  on_lower : (page : ℕ) → first_of lower ≤ page → page < past_of lower → area_at spans page ≡ Some l
+  on_lower page low high = at_span spans l on_left.span page stands.spans_are.apart on_left.span_is (subst (λ n. n ≤ page) (sym on_left.is.from) low) (subst (λ n. page < n) (sym on_left.is.to) high)
+
+  on_inner : (page : ℕ) → first_of inner ≤ page → page < past_of inner → area_at spans page ≡ Some m
+  on_inner page low high = at_span spans m on_here.span page stands.spans_are.apart on_here.span_is (subst (λ n. n ≤ page) (sym on_here.is.from) low) (subst (λ n. page < n) (sym on_here.is.to) high)
+
+  on_upper : (page : ℕ) → first_of upper ≤ page → page < past_of upper → area_at spans page ≡ Some r
+  on_upper page low high = at_span spans r on_right.span page stands.spans_are.apart on_right.span_is (subst (λ n. n ≤ page) (sym on_right.is.from) low) (subst (λ n. page < n) (sym on_right.is.to) high)
+
+  -- the pages when both boundaries have been tried
+  three_pages : (page : ℕ) → joined_around from past (pages_by areas spans) page ≡ placed (merged (merged lower inner) upper) (pages_by areas spans) page
+  three_pages page =
+      joined_is past page (joined_at from (pages_by areas spans)) (merged lower inner) upper last_both first_upper all_joins
+      ∙ elim (has_page (merged (merged lower inner) upper) page) as (λ b. has_page (merged (merged lower inner) upper) page ≡ b → cond b (Some (merged (merged lower inner) upper)) (joined_at from (pages_by areas spans) page) ≡ cond b (Some (merged (merged lower inner) upper)) (pages_by areas spans page)) [
+        | true ↦ λ h. refl
+        | false ↦ λ h. first page ∙ ap (λ b. cond b (Some (merged lower inner)) (pages_by areas spans page)) (outside h)
+      ] refl
+    where
+      first : (q : ℕ) → joined_at from (pages_by areas spans) q ≡ placed (merged lower inner) (pages_by areas spans) q
+      first q = joined_is from q (pages_by areas spans) lower inner on_left.here on_here.here joins
+
+      last_both : joined_at from (pages_by areas spans) (past - 1) ≡ Some (merged lower inner)
+      last_both =
+          let b = bounds in
+          let one = b.low in
+          let two = b.two in
+          let is = b.past_is in
+          let wide = b.middle in
+          first (past - 1) ∙ ap (λ b. cond b (Some (merged lower inner)) (pages_by areas spans (past - 1))) (has_from (merged lower inner) (past - 1) (omega arith) (omega arith))
+
+      first_upper : joined_at from (pages_by areas spans) past ≡ Some upper
+      first_upper =
+          let b = bounds in
+          let two = b.two in
+          let is = b.past_is in
+          first past
+          ∙ ap (λ b. cond b (Some (merged lower inner)) (pages_by areas spans past)) (false_from_ne_true _ (λ h. let k = (has_parts (merged lower inner) past h).1 in omega arith))
+          ∙ on_right.here
+
+      outside : has_page (merged (merged lower inner) upper) page ≡ false → has_page (merged lower inner) page ≡ false
+      outside h = false_from_ne_true _ (λ k.
+          let has = has_parts (merged lower inner) page k in
+          let low = has.0 in
+          let high = has.1 in
+          let b = bounds in
+          let two = b.two in
+          let wide = b.high in
+          both_ways _ h (has_from (merged (merged lower inner) upper) page low (omega arith)))
+
+  -- the middle area has been taken out
+  module _ (areas' : ℕ → Option Area) (spans' : List Span)
+      (now : (k : ℕ) → areas' k ≡ with_at m None areas k)
+      (kept : AreSpans spans') (spans_now : (k : ℕ) → span_of spans' k ≡ with_at m None (span_of spans) k)
+      (pages_now : (page : ℕ) → area_at spans' page ≡ unless_area m (area_at spans page)) where
+    stands' : AreAreasOf p areas' spans'
+    stands' = take_stands p m on_here.span areas areas' spans spans' stands on_here.span_is now kept spans_now pages_now
+
+    right_span : span_of spans' r ≡ Some on_right.span
+    right_span = spans_now r ∙ ap (λ b. cond b None (span_of spans r)) (ne_eqb r m r-m) ∙ on_right.span_is
+
+    left_span : span_of spans' l ≡ Some on_left.span
+    left_span = spans_now l ∙ ap (λ b. cond b None (span_of spans l)) (ne_eqb l m l-m) ∙ on_left.span_is
+
+    pub upper_from : IsSomeAnd (span_of spans' r) (λ s. s.from ≡ past)
+    upper_from = subst (λ o. IsSomeAnd o (λ s. s.from ≡ past)) (sym right_span) (on_right.is.from ∙ bounds.past_is)
+
+    pub upper_used : IsSome (areas' r)
+    upper_used = subst IsSome (sym (now r ∙ ap (λ b. cond b None (areas r)) (ne_eqb r m r-m) ∙ upper_is)) refl
+
+    -- and so has the upper one
+    module _ (areas'' : ℕ → Option Area) (spans'' : List Span)
+        (now' : (k : ℕ) → areas'' k ≡ with_at r None areas' k)
+        (kept' : AreSpans spans'') (spans_now' : (k : ℕ) → span_of spans'' k ≡ with_at r None (span_of spans') k)
+        (pages_now' : (page : ℕ) → area_at spans'' page ≡ unless_area r (area_at spans' page)) where
+      stands'' : AreAreasOf p areas'' spans''
+      stands'' = take_stands p r on_right.span areas' areas'' spans' spans'' stands' right_span now' kept' spans_now' pages_now'
+
+      pub rest_stands : AreAreasOf lower.pid areas'' spans''
+      rest_stands = subst (λ q. AreAreasOf q areas'' spans'') (sym on_left.is.process) stands''
+
+      left_now : span_of spans'' l ≡ Some on_left.span
+      left_now = spans_now' l ∙ ap (λ b. cond b None (span_of spans' l)) (ne_eqb l r l-r) ∙ left_span
+
+      pub lower_from : IsSomeAnd (span_of spans'' l) (λ s. s.from ≡ first_of lower)
+      lower_from = subst (λ o. IsSomeAnd o (λ s. s.from ≡ first_of lower)) (sym left_now) on_left.is.from
+
+      at_now : (page : ℕ) → area_at spans'' page ≡ unless_area r (unless_area m (area_at spans page))
+      at_now page = pages_now' page ∙ ap (unless_area r) (pages_now page)
+
+      pub three_free : IsFree (taken (without_area l spans'')) (first_of lower) (past_of upper)
+      three_free page low high =
+          let b = bounds in
+          let one = b.one in
+          let two = b.two in
+          ap is_some (at_rest spans'' l on_left.span page kept' left_now ∙ ap (unless_area l) (at_now page))
+          ∙ elim (cases_lt page (past_of lower)) [
+            | inl first ↦ rw (on_lower page low first, ne_eqb l m l-m, ne_eqb l r l-r, eq-eqb l l refl) refl
+            | inr more ↦ elim (cases_lt page (past_of inner)) [
+              | inl second ↦ rw (on_inner page (omega arith) second, eq-eqb m m refl) refl
+              | inr past ↦ rw (on_upper page (omega arith) high, ne_eqb r m r-m, eq-eqb r r refl) refl
+            ]
+          ]
+
+      -- the pages of none of the three stay
+      rest : (page : ℕ) → has_page (merged (merged lower inner) upper) page ≡ false → pages_by (with_at l None areas'') spans'' page ≡ pages_by areas spans page
+      rest page out = ap (option_and_then (with_at l None areas'')) (at_now page) ∙ go (area_at spans page) refl
+        where
+          no_page : (area : Area) → first_of lower ≤ first_of area → past_of area ≤ past_of upper → pages_by areas spans page ≡ Some area → ⊥
+          no_page area low high e =
+              let h = has_parts area page ((laid_of p areas spans stands).here page area e) in
+              let least = h.0 in
+              let most = h.1 in
+              both_ways _ out (has_from (merged (merged lower inner) upper) page (omega arith) (omega arith))
+
+          go : (o : Option ℕ) → area_at spans page ≡ o → option_and_then (with_at l None areas'') (unless_area r (unless_area m o)) ≡ option_and_then areas o
+          go None e = refl
+          go (Some k) e =
+              let b = bounds in
+              let one = b.low in
+              let two = b.middle in
+              let three = b.high in
+              let end = b.one in
+              let end' = b.two in
+              let not_left : k ≢ l = λ same. no_page lower (omega arith) (omega arith) (ap (option_and_then areas) e ∙ ap areas same ∙ lower_is) in
+              let not_middle : k ≢ m = λ same. no_page inner (omega arith) (omega arith) (ap (option_and_then areas) e ∙ ap areas same ∙ inner_is) in
+              let not_right : k ≢ r = λ same. no_page upper (omega arith) (omega arith) (ap (option_and_then areas) e ∙ ap areas same ∙ upper_is) in
+              rw (ne_eqb k m not_middle, ne_eqb k r not_right, ne_eqb k l not_left) (now' k ∙ ap (λ b. cond b None (areas' k)) (ne_eqb k r not_right) ∙ now k ∙ ap (λ b. cond b None (areas k)) (ne_eqb k m not_middle))
+
+      pub three_are : (page : ℕ) → placed (merged (merged lower inner) upper) (pages_by (with_at l None areas'') spans'') page ≡ joined_around from past (pages_by areas spans) page
+      three_are page =
+          elim (has_page (merged (merged lower inner) upper) page) as (λ b. has_page (merged (merged lower inner) upper) page ≡ b → cond b (Some (merged (merged lower inner) upper)) (pages_by (with_at l None areas'') spans'' page) ≡ cond b (Some (merged (merged lower inner) upper)) (pages_by areas spans page)) [
+            | true ↦ λ h. refl
+            | false ↦ λ h. rest page h
+          ] refl
+          ∙ sym (three_pages page)
+
+      pub three_stay : (new : ℕ → Option Area) (spans''' : List Span) → Stays lower.pid areas'' new spans''' → Stays p areas new spans'''
+      three_stay new spans''' h =
+          stays_trans p areas areas'' new spans'' spans''' (stays_trans p areas areas' areas'' spans' spans'' (record {
+            areas = stands';
+            others = take_others p m on_here.span areas areas' spans spans' stands on_here.span_is now kept spans_now pages_now;
+          }) (record {
+            areas = stands'';
+            others = take_others p r on_right.span areas' areas'' spans' spans'' stands' right_span now' kept' spans_now' pages_now';
+          })) (subst (λ q. Stays q areas'' new spans''') on_left.is.process h)
