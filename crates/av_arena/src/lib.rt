@@ -14,6 +14,7 @@
 
 mod arena;
 mod avl;
+mod below;
 mod entry;
 mod link;
 mod tree;

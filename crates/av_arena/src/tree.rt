@@ -4,11 +4,12 @@ ghost use Rattle.av_arena.specs.Tree.{DifferByAtMost, IsHeightAfter, HasKey, IsH
 ghost use Rattle.av_arena.specs.Arena.{stored};
 
 use crate::arena::Arena;
+use crate::below::{placed_below, replaced_below, settled};
 use crate::entry::Entry;
 use crate::link::{Link, Stored};
 
 #[inline]
-fn height<S: Copy + Drop>(tree: Option<Link<S>>) -> u64
+pub fn height<S: Copy + Drop>(tree: Option<Link<S>>) -> u64
     ensures { result ≡ height_of tree }
 {
     match tree {
@@ -38,7 +39,7 @@ pub fn open<T: Entry>(arena: &Arena<T, T::Sum>, tree: Link<T::Sum>) -> Stored<T,
 
 /// Puts a node above its sides.
 #[inline]
-fn close<T: Entry>(
+pub fn close<T: Entry>(
     arena: &mut Arena<T, T::Sum>,
     number: u64,
     left: Option<Link<T::Sum>>,
@@ -154,7 +155,7 @@ fn lean_right<T: Entry>(
 
 /// A node, whose sides differ by two levels at most, is put above them.
 #[inline(never)]
-fn balance<T: Entry>(
+pub fn balance<T: Entry>(
     arena: &mut Arena<T, T::Sum>,
     number: u64,
     left: Option<Link<T::Sum>>,
@@ -182,7 +183,7 @@ fn balance<T: Entry>(
 
 /// Whether two links are the same.
 #[inline]
-fn is_same<T: Entry>(left: Option<Link<T::Sum>>, right: Option<Link<T::Sum>>) -> bool
+pub fn is_same<T: Entry>(left: Option<Link<T::Sum>>, right: Option<Link<T::Sum>>) -> bool
     ensures { result ≡ true → left ≡ right }
 {
     match (left, right) {
@@ -295,18 +296,10 @@ pub fn placed<T: Entry>(
     let Some(tree) = tree else {
         return close(arena, number, None, entry, None);
     };
-    let node = open(arena, tree);
-    let Stored {
-        left: before,
-        entry: middle,
-        right: after,
-    } = node;
-    if entry.is_before(&middle) {
-        let left = placed(arena, before, number, entry);
-        return with_left(arena, tree, before, Some(left), middle, after);
+    if !placed_below(arena, tree.number, number, &entry) {
+        return tree;
     }
-    let right = placed(arena, after, number, entry);
-    with_right(arena, tree, before, middle, after, Some(right))
+    settled(arena, tree.number)
 }
 
 /// The number and the entry of the first node, and a tree of the others.
@@ -387,19 +380,8 @@ pub fn replaced<T: Entry>(
     ensures height { result.height ≡ height_of tree }
 {
     let Some(tree) = tree else { unreachable!() };
-    let node = open(arena, tree);
-    let Stored {
-        left: before,
-        entry: middle,
-        right: after,
-    } = node;
-    if entry.is_before(&middle) {
-        let left = replaced(arena, before, entry);
-        return with_left(arena, tree, before, Some(left), middle, after);
+    if !replaced_below(arena, tree.number, &entry) {
+        return tree;
     }
-    if middle.is_before(&entry) {
-        let right = replaced(arena, after, entry);
-        return with_right(arena, tree, before, middle, after, Some(right));
-    }
-    close(arena, tree.number, before, entry, after)
+    settled(arena, tree.number)
 }

@@ -1,0 +1,141 @@
+-- What a change of the tree below a node leaves there, before the node's own link is told anew.
+use Rattle.std.specs.Prelude.{◌≡◌, ℕ, ◌+◌, ◌^◌, ◌<◌, ◌≤◌, max, None, Bool, true, false, IsSome, Option, Some, List, ◌∷◌, ◌++◌}
+use Rattle.av_base.specs.Words.{with_at}
+use Rattle.av_arena.specs.Arena.{left_put, right_put}
+use Rattle.av_arena.specs.Order.{with_entry, without_key}
+use Rattle.av_arena.specs.declared.link.Link.{Link}
+use Rattle.av_arena.specs.declared.link.Stored.{Stored}
+use Rattle.av_arena.specs.Tree.{DifferByAtMost, IsHeightAfter, HasKey, IsJoined, IsPlaceFor, IsRoot, IsSet, IsSpot, Store, count_at, entries_at, height_of, is, none, sum_of}
+
+module _ {T S : Type 0} (key : T → ℕ) (unit : S) (op : S → S → S) (of : T → S) where
+  -- the node n above its sides, which differ by so many levels at most
+  pub record IsUnsettled (by : ℕ) (s : Store T S) (n : ℕ) : Type 0 where
+    pub node : Stored T S
+    pub stored : s n ≡ Some node
+    pub spot : IsSpot key unit op of s n node.left node.right
+    pub level : DifferByAtMost by (height_of node.left) (height_of node.right)
+    pub low : max (height_of node.left) (height_of node.right) < 2 ^ 62
+
+  -- whether the sides of the node n differ by one level at most
+  abbrev pub IsLevelAt : Store T S → ℕ → Bool → Type 0
+  IsLevelAt s n b =
+      (v : Stored T S) → s n ≡ Some v → b ≡ true →
+      DifferByAtMost 1 (height_of v.left) (height_of v.right)
+
+  -- the link k tells the node n
+  abbrev pub IsTold : Store T S → ℕ → Link S → Type 0
+  IsTold s n k =
+      (v : Stored T S) → s n ≡ Some v →
+      k ≡ record {
+        number = n;
+        height = max (height_of v.left) (height_of v.right) + 1;
+        sum = op (sum_of unit v.left) (op (of v.entry) (sum_of unit v.right));
+      }
+
+  -- the link k is what the node n becomes
+  abbrev pub IsSettled : Store T S → Store T S → ℕ → Link S → Type 0
+  IsSettled old new n k =
+      (v : Stored T S) → old n ≡ Some v →
+      IsJoined key unit op of old new n v.left v.entry v.right k ×
+      IsHeightAfter (height_of v.left) (height_of v.right) k.height
+
+  -- a side is settled, and told to the node n
+  pub record IsSideSettled (put : Option (Link S) → Option (Stored T S) → Option (Stored T S))
+      (of_side : Stored T S → Option (Link S)) (old new : Store T S) (n side : ℕ)
+      (changed : Bool) : Type 0 where
+    pub link : Link S
+    pub between : Store T S
+    pub settled : IsSettled old between side link
+    pub told : new ≡ with_at n (put (Some link) (between n)) between
+    pub stays : changed ≡ false → (v : Stored T S) → between n ≡ Some v → of_side v ≡ Some link
+
+  abbrev pub IsLeftSettled : Store T S → Store T S → ℕ → ℕ → Bool → Type 0
+  IsLeftSettled = IsSideSettled left_put (λ v. v.left)
+
+  abbrev pub IsRightSettled : Store T S → Store T S → ℕ → ℕ → Bool → Type 0
+  IsRightSettled = IsSideSettled right_put (λ v. v.right)
+
+  -- the node m for the entry x is told to the node n, as a side that it has not had
+  pub record IsHung (put : Option (Link S) → Option (Stored T S) → Option (Stored T S))
+      (old new : Store T S) (n m : ℕ) (x : T) : Type 0 where
+    pub link : Link S
+    pub between : Store T S
+    pub set : IsSet key unit op of old between m None x None link
+    pub told : new ≡ with_at n (put (Some link) (between n)) between
+
+  abbrev pub IsHungLeft : Store T S → Store T S → ℕ → ℕ → T → Type 0
+  IsHungLeft = IsHung left_put
+
+  abbrev pub IsHungRight : Store T S → Store T S → ℕ → ℕ → T → Type 0
+  IsHungRight = IsHung right_put
+
+  -- the node n above its sides, as it is stored, with these entries and numbers in all
+  pub record IsAbove (old new : Store T S) (n : ℕ) (v : Stored T S) (xs : List T)
+      (numbers gone : ℕ → ℕ) : Type 0 where
+    pub stored : new n ≡ Some v
+    pub spot : IsSpot key unit op of new n v.left v.right
+    pub entries : entries_at new v.left ++ v.entry ∷ entries_at new v.right ≡ xs
+    pub count : (j : ℕ) →
+        (is n j + (count_at new v.left j + count_at new v.right j)) + gone j ≡ numbers j
+    pub kept : (j : ℕ) → numbers j ≡ 0 → new j ≡ old j
+    pub used : (j : ℕ) → IsSome (old j) → IsSome (new j)
+
+  -- the tree k has these entries and numbers, once its root is settled, so much lower or higher
+  -- at most; where nothing changed the link tells the node still
+  pub record IsChanged (old new : Store T S) (k : Link S) (changed : Bool) (xs : List T)
+      (numbers gone : ℕ → ℕ) (lower higher : ℕ) : Type 0 where
+    pub node : Stored T S
+    pub above : IsAbove old new k.number node xs numbers gone
+    pub level : DifferByAtMost 2 (height_of node.left) (height_of node.right)
+    pub low : max (height_of node.left) (height_of node.right) ≤ k.height
+    pub settles : (h : ℕ) → IsHeightAfter (height_of node.left) (height_of node.right) h →
+        (k.height ≤ h + lower) × (h ≤ k.height + higher)
+    pub stays : changed ≡ false → IsRoot key unit op of new k node.left node.entry node.right
+
+  -- a tree with the root n, and a number and an entry that are new to it
+  pub record IsPlaceBelow (s : Store T S) (n new : ℕ) (x : T) : Type 0 where
+    pub link : Link S
+    pub number : link.number ≡ n
+    pub place : IsPlaceFor key unit op of s (Some link) new x
+    pub low : link.height < 2 ^ 61
+
+  -- the entry is put into the tree with the root n, under the number m
+  abbrev pub IsPlacedBelow : Store T S → Store T S → ℕ → ℕ → T → Bool → Type 0
+  IsPlacedBelow old new n m x changed =
+      (k : Link S) → k.number ≡ n → IsPlaceFor key unit op of old (Some k) m x →
+      IsChanged old new k changed (with_entry key x (entries_at old (Some k)))
+      (λ j. is m j + count_at old (Some k) j) none 0 1
+
+  -- a tree with the root n that has the key
+  pub record HasKeyBelow (s : Store T S) (n : ℕ) (x : T) : Type 0 where
+    pub link : Link S
+    pub number : link.number ≡ n
+    pub there : HasKey key unit op of s (Some link) x
+    pub low : link.height < 2 ^ 61
+
+  -- the entry takes the place of the one with its key in the tree with the root n
+  abbrev pub IsReplacedBelow : Store T S → Store T S → ℕ → T → Bool → Type 0
+  IsReplacedBelow old new n x changed =
+      (k : Link S) → k.number ≡ n → HasKey key unit op of old (Some k) x →
+      IsChanged old new k changed
+      (with_entry key x (without_key key (key x) (entries_at old (Some k))))
+      (count_at old (Some k)) none 0 0
+
+-- the height of the tree with the root n
+abbrev pub height_below : {T S : Type 0} → Option (Stored T S) → ℕ
+height_below None = 0
+height_below (Some v) = max (height_of v.left) (height_of v.right) + 1
+
+-- the number that a link tells
+abbrev pub number_of : {S : Type 0} → Option (Link S) → Option ℕ
+number_of None = None
+number_of (Some k) = Some k.number
+
+-- the numbers of the sides of a node
+abbrev pub left_number : {T S : Type 0} → Option (Stored T S) → Option ℕ
+left_number None = None
+left_number (Some v) = number_of v.left
+
+abbrev pub right_number : {T S : Type 0} → Option (Stored T S) → Option ℕ
+right_number None = None
+right_number (Some v) = number_of v.right
