@@ -4,14 +4,14 @@ use Rattle.std.proofs.Math.Path.{fun_ext}
 use Rattle.std.proofs.lemmas.Bool.{both_ways, cases_lt}
 use Rattle.av_base.specs.Words.{with_at}
 use Rattle.av_arena.specs.Arena.{left_put, right_put, entry_put}
-use Rattle.av_arena.specs.Below.{HasKeyBelow, IsAbove, IsChanged, IsHungLeft, IsHungRight, IsLeftSettled, IsPlaceBelow, IsReplacedBelow, IsPlacedBelow, IsRightSettled, IsSettled, IsTold, IsUnsettled, height_below, left_number, number_of, right_number}
+use Rattle.av_arena.specs.Below.{HasKeyBelow, IsAbove, IsChanged, IsHungLeft, IsHungRight, IsAt, IsLeftSettled, IsLeftTaken, IsPlaceBelow, IsRemovedBelow, IsRightTaken, IsTaken, IsReplacedBelow, IsPlacedBelow, IsRightSettled, IsSettled, IsTold, IsUnsettled, height_below, left_number, number_of, right_number}
 use Rattle.av_arena.specs.Monoid.{MonoidLaws}
 use Rattle.av_arena.specs.Order.{IsRising, with_entry, without_key}
-use Rattle.av_arena.specs.Tree.{DifferByAtMost, HasKey, IsHeightAfter, IsHeld, IsJoined, IsOpened, IsPlaceFor, IsPlaced, IsRoot, IsSpot, IsTree, Store, Tree, count, entries, entries_at, height_of, is, none, sum_of, tree_at}
+use Rattle.av_arena.specs.Tree.{DifferByAtMost, HasKey, IsHeightAfter, IsHeld, IsJoined, IsOpened, IsPlaceFor, IsPlaced, IsPopped, IsRoot, IsSpot, IsTree, IsWithout, Store, Tree, count, entries, entries_at, height_of, is, none, sum_of, tree_at}
 use Rattle.av_arena.specs.declared.link.Link.{Link}
 use Rattle.av_arena.specs.declared.link.Stored.{Stored}
 use Rattle.av_arena.proofs.Order.{rising_without, with_between, with_left, with_right, without_left, without_middle, without_right}
-use Rattle.av_arena.proofs.TreeLemmas.{fresh_once, is_cases, is_same, joined_same, kept, key_left, key_right, later, opened, place_left, place_right, placed_first, ready_left, ready_right, still_used, used, used_cases, with_at_other, with_at_same}
+use Rattle.av_arena.proofs.TreeLemmas.{fresh_once, is_cases, is_same, joined_same, kept, key_left, key_right, later, opened, place_left, place_right, placed_first, removed_last, removed_middle, ready_left, ready_right, still_used, used, used_cases, with_at_other, with_at_same}
 
 -- a height is settled at once, or one side is two levels higher
 height_cases : (a b h : ℕ) → IsHeightAfter a b h → (h ≡ max a b + 1) ⊎ ((a + 2 ≤ b) ⊎ (b + 2 ≤ a))
@@ -529,3 +529,116 @@ module _ {T S : Type 0} (key : T → ℕ) (unit : S) (op : S → S → S) (of : 
       let h : height_of v.right ≡ a.child.height = ap height_of a.is in
       let low = b.low in let g = o.height in
       record { link = a.child; number = a.number; place = subst (λ l. IsPlaceFor key unit op of s l m x) a.is (place_right key unit op of laws s b.link v m x b.place o lt); low = omega arith }
+
+  -- taking out
+  removed_left_is : (s : Store T S) (k : Link S) (v : Stored T S) (x : T) → HasKey key unit op of s (Some k) x → IsOpened key unit op of s k v → key x < key v.entry → without_key key (key x) (entries (tree_at s v.left)) ++ v.entry ∷ entries (tree_at s v.right) ≡ without_key key (key x) (entries (tree_at s (Some k)))
+  removed_left_is s k v x h o lt =
+      let a = entries (tree_at s v.left) in
+      let b = entries (tree_at s v.right) in
+      let up : IsRising key (a ++ v.entry ∷ b) = rw o.tree at h.rising in
+      sym (without_left key (key x) v.entry a b lt up) ∙ rw o.tree refl
+
+  removed_right_is : (s : Store T S) (k : Link S) (v : Stored T S) (x : T) → HasKey key unit op of s (Some k) x → IsOpened key unit op of s k v → key v.entry < key x → entries (tree_at s v.left) ++ v.entry ∷ without_key key (key x) (entries (tree_at s v.right)) ≡ without_key key (key x) (entries (tree_at s (Some k)))
+  removed_right_is s k v x h o lt =
+      let a = entries (tree_at s v.left) in
+      let b = entries (tree_at s v.right) in
+      let up : IsRising key (a ++ v.entry ∷ b) = rw o.tree at h.rising in
+      sym (without_right key (key x) v.entry a b lt up) ∙ rw o.tree refl
+
+  pub removed_left_step : (s t : Store T S) (n out : ℕ) (k : Link S) (v : Stored T S) (side : ℕ) (x : T) (c : Bool) → k.number ≡ n → HasKey key unit op of s (Some k) x → s n ≡ Some v → left_number (s n) ≡ Some side → key x < key v.entry → IsRemovedBelow key unit op of s t side x out c → IsLeftStep s t k v side c (without_key key (key x) (entries (tree_at s v.left))) (λ j. count j (tree_at s v.left)) (is out) 1 0
+  removed_left_step s t n out k v side x c p h e d lt below =
+      let o = opened_at s n k v p h.held e in
+      let m = left_child s n k v side e d in
+      let has = key_left key unit op of laws s k v x h o lt in
+      record {
+        child = m;
+        opened = o;
+        changed = subst (λ l. IsChanged key unit op of s t m.child c (without_key key (key x) (entries (tree_at s l))) (λ j. count j (tree_at s l)) (is out) 1 0) (sym m.is) (below m.child m.number (subst (λ l. HasKey key unit op of s l x) m.is has));
+        once = o.once;
+        few = omega arith;
+      }
+
+  pub removed_left_same : (s t : Store T S) (n out : ℕ) (v : Stored T S) (side : ℕ) (x : T) (c : Bool) → s n ≡ Some v → left_number (s n) ≡ Some side → key x < key v.entry → IsRemovedBelow key unit op of s t side x out c → c ≡ false → IsRemovedBelow key unit op of s t n x out false
+  removed_left_same s t n out v side x c e d lt below z k p h =
+      let st = removed_left_step s t n out k v side x c p h e d lt below in
+      rechanged s t k false _ _ _ _ (is out) 1 0 (left_unchanged s t k v side c _ _ (is out) 1 0 st z) (removed_left_is s k v x h st.opened lt) (λ j. rw st.opened.tree refl)
+
+  pub removed_left_settled : (s t u : Store T S) (n out : ℕ) (v : Stored T S) (side : ℕ) (x : T) (c b : Bool) → s n ≡ Some v → left_number (s n) ≡ Some side → key x < key v.entry → IsRemovedBelow key unit op of s t side x out c → IsLeftSettled key unit op of t u n side b → IsRemovedBelow key unit op of s u n x out b
+  removed_left_settled s t u n out v side x c b e d lt below set k p h =
+      let st = removed_left_step s t n out k v side x c p h e d lt below in
+      rechanged s u k b _ _ _ _ (is out) 1 0 (left_changed s t u n k v side c b _ _ (is out) 1 0 st p set) (removed_left_is s k v x h st.opened lt) (λ j. rw st.opened.tree refl)
+
+  pub removed_left_taken : (s u : Store T S) (n : ℕ) (v : Stored T S) (side : ℕ) (x : T) → s n ≡ Some v → left_number (s n) ≡ Some side → key x < key v.entry → IsLeftTaken key unit op of s u n side x → IsRemovedBelow key unit op of s u n x side true
+  removed_left_taken s u n v side x e d lt w k p h =
+      let o = opened_at s n k v p h.held e in
+      let m = left_child s n k v side e d in
+      let has = key_left key unit op of laws s k v x h o lt in
+      let got = w.taken m.child m.number (subst (λ l. HasKey key unit op of s l x) m.is has) in
+      let tree = subst (λ l. IsWithout key unit op of s w.between l (without_key key (key x) (entries (tree_at s l))) side w.rest) (sym m.is) got.0 in
+      let told = subst (λ i. u ≡ with_at i (left_put w.rest (w.between i)) w.between) (sym p) w.told in
+      let high : height_of v.left ≡ m.child.height = ap height_of m.is in
+      let a = got.1.0 in let b = got.1.1 in
+      let c = changed_left s w.between u k v w.rest true _ (λ j. count j (tree_at s v.left)) (is side) 1 0 o tree o.once told (omega arith) (omega arith) (omega arith) (λ z. absurd (both_ways true z refl)) in
+      rechanged s u k true _ _ _ _ (is side) 1 0 c (removed_left_is s k v x h o lt) (λ j. rw o.tree refl)
+
+  pub removed_right_step : (s t : Store T S) (n out : ℕ) (k : Link S) (v : Stored T S) (side : ℕ) (x : T) (c : Bool) → k.number ≡ n → HasKey key unit op of s (Some k) x → s n ≡ Some v → right_number (s n) ≡ Some side → key v.entry < key x → IsRemovedBelow key unit op of s t side x out c → IsRightStep s t k v side c (without_key key (key x) (entries (tree_at s v.right))) (λ j. count j (tree_at s v.right)) (is out) 1 0
+  removed_right_step s t n out k v side x c p h e d lt below =
+      let o = opened_at s n k v p h.held e in
+      let m = right_child s n k v side e d in
+      let has = key_right key unit op of laws s k v x h o lt in
+      record {
+        child = m;
+        opened = o;
+        changed = subst (λ l. IsChanged key unit op of s t m.child c (without_key key (key x) (entries (tree_at s l))) (λ j. count j (tree_at s l)) (is out) 1 0) (sym m.is) (below m.child m.number (subst (λ l. HasKey key unit op of s l x) m.is has));
+        once = o.once;
+        few = omega arith;
+      }
+
+  pub removed_right_same : (s t : Store T S) (n out : ℕ) (v : Stored T S) (side : ℕ) (x : T) (c : Bool) → s n ≡ Some v → right_number (s n) ≡ Some side → key v.entry < key x → IsRemovedBelow key unit op of s t side x out c → c ≡ false → IsRemovedBelow key unit op of s t n x out false
+  removed_right_same s t n out v side x c e d lt below z k p h =
+      let st = removed_right_step s t n out k v side x c p h e d lt below in
+      rechanged s t k false _ _ _ _ (is out) 1 0 (right_unchanged s t k v side c _ _ (is out) 1 0 st z) (removed_right_is s k v x h st.opened lt) (λ j. rw st.opened.tree refl)
+
+  pub removed_right_settled : (s t u : Store T S) (n out : ℕ) (v : Stored T S) (side : ℕ) (x : T) (c b : Bool) → s n ≡ Some v → right_number (s n) ≡ Some side → key v.entry < key x → IsRemovedBelow key unit op of s t side x out c → IsRightSettled key unit op of t u n side b → IsRemovedBelow key unit op of s u n x out b
+  removed_right_settled s t u n out v side x c b e d lt below set k p h =
+      let st = removed_right_step s t n out k v side x c p h e d lt below in
+      rechanged s u k b _ _ _ _ (is out) 1 0 (right_changed s t u n k v side c b _ _ (is out) 1 0 st p set) (removed_right_is s k v x h st.opened lt) (λ j. rw st.opened.tree refl)
+
+  pub removed_right_taken : (s u : Store T S) (n : ℕ) (v : Stored T S) (side : ℕ) (x : T) → s n ≡ Some v → right_number (s n) ≡ Some side → key v.entry < key x → IsRightTaken key unit op of s u n side x → IsRemovedBelow key unit op of s u n x side true
+  removed_right_taken s u n v side x e d lt w k p h =
+      let o = opened_at s n k v p h.held e in
+      let m = right_child s n k v side e d in
+      let has = key_right key unit op of laws s k v x h o lt in
+      let got = w.taken m.child m.number (subst (λ l. HasKey key unit op of s l x) m.is has) in
+      let tree = subst (λ l. IsWithout key unit op of s w.between l (without_key key (key x) (entries (tree_at s l))) side w.rest) (sym m.is) got.0 in
+      let told = subst (λ i. u ≡ with_at i (right_put w.rest (w.between i)) w.between) (sym p) w.told in
+      let high : height_of v.right ≡ m.child.height = ap height_of m.is in
+      let a = got.1.0 in let b = got.1.1 in
+      let c = changed_right s w.between u k v w.rest true _ (λ j. count j (tree_at s v.right)) (is side) 1 0 o tree o.once told (omega arith) (omega arith) (omega arith) (λ z. absurd (both_ways true z refl)) in
+      rechanged s u k true _ _ _ _ (is side) 1 0 c (removed_right_is s k v x h o lt) (λ j. rw o.tree refl)
+
+  pub later_other : (s : Store T S) (n : ℕ) (v : Stored T S) (x : T) → s n ≡ Some v → IsAt key unit op of s n x false → key v.entry ≤ key x → key v.entry < key x
+  later_other s n v x e o le = let not = (o v e).1 refl in omega arith
+
+  pub side_used : (s : Store T S) (n : ℕ) (x : T) → HasKeyBelow key unit op of s n x → IsSome (s n)
+  side_used s n x b = subst (λ i. IsSome (s i)) b.number (used key unit op of laws s b.link b.there.held)
+
+  -- what is left of a tree without its root
+  pub taken_last : (s : Store T S) (n : ℕ) (v : Stored T S) (x : T) → s n ≡ Some v → IsAt key unit op of s n x true → v.right ≡ None → IsTaken key unit op of s s n x v.left
+  taken_last s n v x e at last k p h =
+      let o = opened_at s n k v p h.held e in
+      let same = (at v e).0 refl in
+      let w = removed_last key unit op of laws s k v x h o (omega arith) (omega arith) last in
+      let zero : height_of v.right ≡ 0 = ap height_of last in
+      let high = o.height in
+      (subst (λ i. IsWithout key unit op of s s (Some k) (without_key key (key x) (entries (tree_at s (Some k)))) i v.left) p w, (omega arith, omega arith))
+
+  pub taken_middle : (s t u : Store T S) (n : ℕ) (v : Stored T S) (x : T) (m : Link S) (first : ℕ) (y : T) (rest : Option (Link S)) (k' : Link S) → s n ≡ Some v → IsAt key unit op of s n x true → v.right ≡ Some m → IsPopped key unit op of s t m first y rest → height_of rest ≤ m.height → m.height ≤ height_of rest + 1 → IsJoined key unit op of t u first v.left y rest k' → IsHeightAfter (height_of v.left) (height_of rest) k'.height → IsTaken key unit op of s u n x (Some k')
+  taken_middle s t u n v x m first y rest k' e at is_m popped low high joined after k p h =
+      let o = opened_at s n k v p h.held e in
+      let same = (at v e).0 refl in
+      let w = removed_middle key unit op of laws s t u k m v x first y rest k' h o (omega arith) (omega arith) is_m popped joined in
+      let right : height_of v.right ≡ m.height = ap height_of is_m in
+      let q = settles_right (height_of v.left) (height_of v.right) (height_of rest) k'.height k.height 1 0 o.level o.height (omega arith) (omega arith) (omega arith) after in
+      let a = q.0 in let b = q.1 in
+      (subst (λ i. IsWithout key unit op of s u (Some k) (without_key key (key x) (entries (tree_at s (Some k)))) i (Some k')) p w, (omega arith, omega arith))

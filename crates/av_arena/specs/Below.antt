@@ -5,7 +5,7 @@ use Rattle.av_arena.specs.Arena.{left_put, right_put}
 use Rattle.av_arena.specs.Order.{with_entry, without_key}
 use Rattle.av_arena.specs.declared.link.Link.{Link}
 use Rattle.av_arena.specs.declared.link.Stored.{Stored}
-use Rattle.av_arena.specs.Tree.{DifferByAtMost, IsHeightAfter, HasKey, IsJoined, IsPlaceFor, IsRoot, IsSet, IsSpot, Store, count_at, entries_at, height_of, is, none, sum_of}
+use Rattle.av_arena.specs.Tree.{DifferByAtMost, IsHeightAfter, HasKey, IsJoined, IsPlaceFor, IsRoot, IsSet, IsSpot, IsWithout, Store, count_at, entries_at, height_of, is, none, sum_of}
 
 module _ {T S : Type 0} (key : T → ℕ) (unit : S) (op : S → S → S) (of : T → S) where
   -- the node n above its sides, which differ by so many levels at most
@@ -120,6 +120,41 @@ module _ {T S : Type 0} (key : T → ℕ) (unit : S) (op : S → S → S) (of : 
       IsChanged old new k changed
       (with_entry key x (without_key key (key x) (entries_at old (Some k))))
       (count_at old (Some k)) none 0 0
+
+  -- whether the node n has the key
+  abbrev pub IsAt : Store T S → ℕ → T → Bool → Type 0
+  IsAt s n x b =
+      (v : Stored T S) → s n ≡ Some v →
+      (b ≡ true → key x ≡ key v.entry) × (b ≡ false → key x ≡ key v.entry → ⊥)
+
+  -- the root n has the key and is taken out of its tree
+  abbrev pub IsTaken : Store T S → Store T S → ℕ → T → Option (Link S) → Type 0
+  IsTaken old new n x rest =
+      (k : Link S) → k.number ≡ n → HasKey key unit op of old (Some k) x →
+      IsWithout key unit op of old new (Some k)
+      (without_key key (key x) (entries_at old (Some k))) n rest ×
+      ((height_of rest ≤ k.height) × (k.height ≤ height_of rest + 1))
+
+  -- the side is taken out of its tree, and the node n told what is left
+  pub record IsSideTaken (put : Option (Link S) → Option (Stored T S) → Option (Stored T S))
+      (old new : Store T S) (n side : ℕ) (x : T) : Type 0 where
+    pub rest : Option (Link S)
+    pub between : Store T S
+    pub taken : IsTaken old between side x rest
+    pub told : new ≡ with_at n (put rest (between n)) between
+
+  abbrev pub IsLeftTaken : Store T S → Store T S → ℕ → ℕ → T → Type 0
+  IsLeftTaken = IsSideTaken left_put
+
+  abbrev pub IsRightTaken : Store T S → Store T S → ℕ → ℕ → T → Type 0
+  IsRightTaken = IsSideTaken right_put
+
+  -- the node `out`, which has the key, is taken out of the tree with the root n
+  abbrev pub IsRemovedBelow : Store T S → Store T S → ℕ → T → ℕ → Bool → Type 0
+  IsRemovedBelow old new n x out changed =
+      (k : Link S) → k.number ≡ n → HasKey key unit op of old (Some k) x →
+      IsChanged old new k changed (without_key key (key x) (entries_at old (Some k)))
+      (count_at old (Some k)) (is out) 1 0
 
 -- the height of the tree with the root n
 abbrev pub height_below : {T S : Type 0} → Option (Stored T S) → ℕ

@@ -2,14 +2,14 @@
 //
 // They go by the numbers of nodes, which are read where they lie, and answer whether the node is
 // another one afterwards: where it is not, nothing above is looked at.
-ghost use Rattle.std.specs.Prelude.{◌≡◌, true, IsSome};
+ghost use Rattle.std.specs.Prelude.{◌≡◌, true, false, IsSome};
 ghost use Rattle.av_arena.specs.Arena.{stored};
-ghost use Rattle.av_arena.specs.Below.{HasKeyBelow, IsHungLeft, IsHungRight, IsLeftSettled, IsLevelAt, IsPlaceBelow, IsPlacedBelow, IsReplacedBelow, IsRightSettled, IsSettled, IsTold, IsUnsettled, left_number, right_number};
+ghost use Rattle.av_arena.specs.Below.{HasKeyBelow, IsAt, IsHungLeft, IsHungRight, IsLeftSettled, IsLeftTaken, IsLevelAt, IsPlaceBelow, IsPlacedBelow, IsRemovedBelow, IsReplacedBelow, IsRightSettled, IsRightTaken, IsSettled, IsTaken, IsTold, IsUnsettled, left_number, right_number};
 
 use crate::arena::Arena;
 use crate::entry::Entry;
 use crate::link::{Link, Stored};
-use crate::tree::{balance, close, height, is_same, sum};
+use crate::tree::{balance, close, height, is_same, pop_first, sum};
 
 /// Whether the sides of a node differ by one level at most.
 #[inline(always)]
@@ -221,4 +221,106 @@ pub fn replaced_below<T: Entry>(arena: &mut Arena<T, T::Sum>, number: u64, entry
     }
     arena.set_entry(number, *entry);
     true
+}
+
+/// Whether a node has the key of `like`.
+#[inline(always)]
+pub fn is_at<T: Entry>(arena: &Arena<T, T::Sum>, number: u64, like: &T) -> bool
+    requires { IsSome (stored arena.now number) }
+    ensures { IsAt T.key T.unit T.op T.of (stored arena.now) number like.now result }
+{
+    let node = arena.look(number);
+    !like.is_before(&node.entry) && !node.entry.is_before(like)
+}
+
+/// What is left of a tree without its root, which has the key of `like`.
+#[inline(never)]
+pub fn taken<T: Entry>(
+    arena: &mut Arena<T, T::Sum>,
+    number: u64,
+    like: &T,
+) -> Option<Link<T::Sum>>
+    requires there { HasKeyBelow T.key T.unit T.op T.of (stored arena.old) number like.now }
+    requires same { IsAt T.key T.unit T.op T.of (stored arena.old) number like.now true }
+    ensures { IsTaken T.key T.unit T.op T.of (stored arena.old) (stored arena.new) number like.now
+        result }
+{
+    let node = arena.get(number);
+    let Stored {
+        left: before,
+        entry: _,
+        right: after,
+    } = node;
+    let Some(right) = after else {
+        return before;
+    };
+    let (first, entry, rest) = pop_first(arena, right);
+    let whole = balance(arena, first, before, entry, rest);
+    Some(whole)
+}
+
+/// Takes out the left side's root, which has the key of `like`.
+#[inline(never)]
+fn take_left<T: Entry>(arena: &mut Arena<T, T::Sum>, number: u64, side: u64, like: &T)
+    requires used { IsSome (stored arena.old number) }
+    requires there { HasKeyBelow T.key T.unit T.op T.of (stored arena.old) side like.now }
+    requires same { IsAt T.key T.unit T.op T.of (stored arena.old) side like.now true }
+    ensures { IsLeftTaken T.key T.unit T.op T.of (stored arena.old) (stored arena.new) number side
+        like.now }
+{
+    let rest = taken(arena, side, like);
+    arena.set_left(number, rest);
+}
+
+/// Takes out the right side's root, which has the key of `like`.
+#[inline(never)]
+fn take_right<T: Entry>(arena: &mut Arena<T, T::Sum>, number: u64, side: u64, like: &T)
+    requires used { IsSome (stored arena.old number) }
+    requires there { HasKeyBelow T.key T.unit T.op T.of (stored arena.old) side like.now }
+    requires same { IsAt T.key T.unit T.op T.of (stored arena.old) side like.now true }
+    ensures { IsRightTaken T.key T.unit T.op T.of (stored arena.old) (stored arena.new) number side
+        like.now }
+{
+    let rest = taken(arena, side, like);
+    arena.set_right(number, rest);
+}
+
+/// Takes the node with the key of `like` out of the tree with the root `number`, which is another
+/// one: the number of that node, and whether the root is another one afterwards.
+pub fn removed_below<T: Entry>(
+    arena: &mut Arena<T, T::Sum>,
+    number: u64,
+    like: &T,
+) -> (u64, bool)
+    requires there { HasKeyBelow T.key T.unit T.op T.of (stored arena.old) number like.now }
+    requires other { IsAt T.key T.unit T.op T.of (stored arena.old) number like.now false }
+    ensures { IsRemovedBelow T.key T.unit T.op T.of (stored arena.old) (stored arena.new) number
+        like.now result.0 result.1 }
+{
+    if like.is_before(&arena.look(number).entry) {
+        let Some(side) = left_of(arena, number) else {
+            unreachable!()
+        };
+        if is_at(arena, side, like) {
+            take_left(arena, number, side, like);
+            return (side, true);
+        }
+        let (out, changed) = removed_below(arena, side, like);
+        if !changed {
+            return (out, false);
+        }
+        return (out, left_settled(arena, number, side));
+    }
+    let Some(side) = right_of(arena, number) else {
+        unreachable!()
+    };
+    if is_at(arena, side, like) {
+        take_right(arena, number, side, like);
+        return (side, true);
+    }
+    let (out, changed) = removed_below(arena, side, like);
+    if !changed {
+        return (out, false);
+    }
+    (out, right_settled(arena, number, side))
 }

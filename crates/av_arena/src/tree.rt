@@ -4,7 +4,7 @@ ghost use Rattle.av_arena.specs.Tree.{DifferByAtMost, IsHeightAfter, HasKey, IsH
 ghost use Rattle.av_arena.specs.Arena.{stored};
 
 use crate::arena::Arena;
-use crate::below::{placed_below, replaced_below, settled};
+use crate::below::{is_at, placed_below, removed_below, replaced_below, settled, taken};
 use crate::entry::Entry;
 use crate::link::{Link, Stored};
 
@@ -240,45 +240,6 @@ fn with_left<T: Entry>(
     }
 }
 
-/// The node of `tree` above another right side than its own, as `with_left`.
-#[inline(always)]
-fn with_right<T: Entry>(
-    arena: &mut Arena<T, T::Sum>,
-    tree: Link<T::Sum>,
-    left: Option<Link<T::Sum>>,
-    entry: T,
-    own: Option<Link<T::Sum>>,
-    right: Option<Link<T::Sum>>,
-) -> Link<T::Sum>
-    requires root { IsRoot T.key T.unit T.op T.of (stored arena.old) tree left entry own }
-    requires spot { IsSpot T.key T.unit T.op T.of (stored arena.old) tree.number left right }
-    requires level { DifferByAtMost 2 (height_of left) (height_of right) }
-    requires low { max (height_of left) (height_of right) < 2 ^ 62 }
-    ensures joined { IsJoined T.key T.unit T.op T.of (stored arena.old) (stored arena.new)
-        tree.number left entry right result }
-    ensures height { IsHeightAfter (height_of left) (height_of right) result.height }
-{
-    let node = arena.get(tree.number);
-    let Stored {
-        left: before,
-        entry: middle,
-        right: after,
-    } = node;
-    if is_same::<T>(after, right) {
-        return tree;
-    }
-    if height(after) != height(right) {
-        return balance(arena, tree.number, before, middle, right);
-    }
-    let total = T::joined(sum::<T>(before), &middle, sum::<T>(right));
-    arena.set_right(tree.number, right);
-    Link {
-        number: tree.number,
-        height: tree.height,
-        sum: total,
-    }
-}
-
 /// The tree with the node `number`, which is in use and not in it, for the entry.
 pub fn placed<T: Entry>(
     arena: &mut Arena<T, T::Sum>,
@@ -303,7 +264,7 @@ pub fn placed<T: Entry>(
 }
 
 /// The number and the entry of the first node, and a tree of the others.
-fn pop_first<T: Entry>(
+pub fn pop_first<T: Entry>(
     arena: &mut Arena<T, T::Sum>,
     tree: Link<T::Sum>,
 ) -> (u64, T, Option<Link<T::Sum>>)
@@ -343,28 +304,16 @@ pub fn removed<T: Entry>(
     ensures at_most_one_lower { height_of tree ≤ height_of result.1 + 1 }
 {
     let Some(tree) = tree else { unreachable!() };
-    let node = open(arena, tree);
-    let Stored {
-        left: before,
-        entry: middle,
-        right: after,
-    } = node;
-    if like.is_before(&middle) {
-        let (number, left) = removed(arena, before, like);
-        let whole = with_left(arena, tree, before, left, middle, after);
-        return (number, Some(whole));
+    if is_at(arena, tree.number, &like) {
+        let rest = taken(arena, tree.number, &like);
+        return (tree.number, rest);
     }
-    if middle.is_before(&like) {
-        let (number, right) = removed(arena, after, like);
-        let whole = with_right(arena, tree, before, middle, after, right);
-        return (number, Some(whole));
+    let (number, changed) = removed_below(arena, tree.number, &like);
+    if !changed {
+        return (number, Some(tree));
     }
-    let Some(right) = after else {
-        return (tree.number, before);
-    };
-    let (number, entry, rest) = pop_first(arena, right);
-    let whole = balance(arena, number, before, entry, rest);
-    (tree.number, Some(whole))
+    let whole = settled(arena, tree.number);
+    (number, Some(whole))
 }
 
 /// The tree with `entry` in the node of the one with its key.
