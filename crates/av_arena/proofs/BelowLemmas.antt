@@ -7,11 +7,11 @@ use Rattle.av_arena.specs.Arena.{left_put, right_put, entry_put}
 use Rattle.av_arena.specs.Below.{HasKeyBelow, IsAbove, IsChanged, IsHungLeft, IsHungRight, IsAt, IsLeftSettled, IsLeftTaken, IsPlaceBelow, IsRemovedBelow, IsRightTaken, IsTaken, IsReplacedBelow, IsPlacedBelow, IsRightSettled, IsSettled, IsTold, IsUnsettled, height_below, left_number, number_of, right_number}
 use Rattle.av_arena.specs.Monoid.{MonoidLaws}
 use Rattle.av_arena.specs.Order.{IsRising, with_entry, without_key}
-use Rattle.av_arena.specs.Tree.{DifferByAtMost, HasKey, IsHeightAfter, IsHeld, IsJoined, IsOpened, IsPlaceFor, IsPlaced, IsPopped, IsRoot, IsSpot, IsTree, IsWithout, Store, Tree, count, entries, entries_at, height_of, is, none, sum_of, tree_at}
+use Rattle.av_arena.specs.Tree.{DifferByAtMost, HasKey, IsHeightAfter, IsHeld, IsJoined, IsOpened, IsPlaceFor, IsPopped, IsRoot, IsSpot, IsTree, IsWithout, Store, count, entries, height_of, is, none, sum_of, tree_at}
 use Rattle.av_arena.specs.declared.link.Link.{Link}
 use Rattle.av_arena.specs.declared.link.Stored.{Stored}
 use Rattle.av_arena.proofs.Order.{rising_without, with_between, with_left, with_right, without_left, without_middle, without_right}
-use Rattle.av_arena.proofs.TreeLemmas.{fresh_once, is_cases, is_same, joined_same, kept, key_left, key_right, later, opened, place_left, place_right, placed_first, removed_last, removed_middle, ready_left, ready_right, still_used, used, used_cases, with_at_other, with_at_same}
+use Rattle.av_arena.proofs.TreeLemmas.{fresh_once, is_cases, is_same, joined_same, kept, key_left, key_right, later, opened, place_left, place_right, placed_first, removed_last, removed_middle, ready_left, ready_right, used, used_cases, with_at_other, with_at_same}
 
 -- a height is settled at once, or one side is two levels higher
 height_cases : (a b h : ℕ) → IsHeightAfter a b h → (h ≡ max a b + 1) ⊎ ((a + 2 ≤ b) ⊎ (b + 2 ≤ a))

@@ -235,11 +235,7 @@ pub fn is_at<T: Entry>(arena: &Arena<T, T::Sum>, number: u64, like: &T) -> bool
 
 /// What is left of a tree without its root, which has the key of `like`.
 #[inline(never)]
-pub fn taken<T: Entry>(
-    arena: &mut Arena<T, T::Sum>,
-    number: u64,
-    like: &T,
-) -> Option<Link<T::Sum>>
+pub fn taken<T: Entry>(arena: &mut Arena<T, T::Sum>, number: u64, like: &T) -> Option<Link<T::Sum>>
     requires there { HasKeyBelow T.key T.unit T.op T.of (stored arena.old) number like.now }
     requires same { IsAt T.key T.unit T.op T.of (stored arena.old) number like.now true }
     ensures { IsTaken T.key T.unit T.op T.of (stored arena.old) (stored arena.new) number like.now
@@ -287,11 +283,7 @@ fn take_right<T: Entry>(arena: &mut Arena<T, T::Sum>, number: u64, side: u64, li
 
 /// Takes the node with the key of `like` out of the tree with the root `number`, which is another
 /// one: the number of that node, and whether the root is another one afterwards.
-pub fn removed_below<T: Entry>(
-    arena: &mut Arena<T, T::Sum>,
-    number: u64,
-    like: &T,
-) -> (u64, bool)
+pub fn removed_below<T: Entry>(arena: &mut Arena<T, T::Sum>, number: u64, like: &T) -> (u64, bool)
     requires there { HasKeyBelow T.key T.unit T.op T.of (stored arena.old) number like.now }
     requires other { IsAt T.key T.unit T.op T.of (stored arena.old) number like.now false }
     ensures { IsRemovedBelow T.key T.unit T.op T.of (stored arena.old) (stored arena.new) number

@@ -1,7 +1,7 @@
 use Rattle.std.proofs.Common.{rules, ◌≡◌, Some, sym, ◌∙◌}
 use Rattle.std.proofs.lemmas.Bool.{ltb-true, ltb-false}
 use Rattle.av_arena.specs.Arena.{stored}
-use Rattle.av_arena.specs.Below.{HasKeyBelow, left_number, right_number}
+use Rattle.av_arena.specs.Below.{left_number, right_number}
 use Rattle.av_arena.proofs.BelowLemmas.{key_left_below, key_right_below, left_lower, left_ready, left_used, replaced_at, replaced_left_same, replaced_left_settled, replaced_left_step, replaced_right_same, replaced_right_settled, replaced_right_step, right_lower, right_ready, right_used}
 use Rattle.av_arena.proofs.below.+replaced_below.Goals as goal
 

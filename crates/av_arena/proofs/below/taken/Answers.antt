@@ -1,4 +1,4 @@
-use Rattle.std.proofs.Common.{rules, ◌≡◌, Some, None, ap, subst, arith}
+use Rattle.std.proofs.Common.{rules, ◌≡◌, None, ap, subst, arith}
 use Rattle.av_arena.specs.Arena.{stored}
 use Rattle.av_arena.specs.Tree.{IsHeld, height_of}
 use Rattle.av_arena.proofs.TreeLemmas.{removed_middle_ready}

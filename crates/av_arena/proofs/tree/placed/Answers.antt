@@ -1,8 +1,6 @@
-use Rattle.std.proofs.Common.{rules, ◌≡◌, refl, Some, None, sym, subst, ap, arith}
+use Rattle.std.proofs.Common.{rules, ◌≡◌, refl, None, sym, subst, ap, arith}
 use Rattle.av_arena.specs.Arena.{stored}
-use Rattle.av_arena.specs.Below.{IsChanged}
-use Rattle.av_arena.specs.Order.{with_entry}
-use Rattle.av_arena.specs.Tree.{IsPlaceFor, IsPlaced, count_at, entries_at, height_of, is, none}
+use Rattle.av_arena.specs.Tree.{IsPlaceFor, IsPlaced, height_of, none}
 use Rattle.av_arena.proofs.TreeLemmas.{placed_first}
 use Rattle.av_arena.proofs.BelowLemmas.{done_same, done_settled, unsettled}
 use Rattle.av_arena.proofs.tree.placed.Goals as goal
