@@ -4,13 +4,13 @@ use Rattle.std.proofs.Math.Path.{fun_ext}
 use Rattle.std.proofs.lemmas.Bool.{both_ways, cases_lt}
 use Rattle.av_base.specs.Words.{with_at}
 use Rattle.av_arena.specs.Arena.{left_put, right_put, entry_put}
-use Rattle.av_arena.specs.Below.{HasKeyBelow, IsAbove, IsChanged, IsHungLeft, IsHungRight, IsAt, IsLeftSettled, IsLeftTaken, IsPlaceBelow, IsRemovedBelow, IsRightTaken, IsTaken, IsReplacedBelow, IsPlacedBelow, IsRightSettled, IsSettled, IsTold, IsUnsettled, height_below, left_number, number_of, right_number}
+use Rattle.av_arena.specs.Below.{HasKeyBelow, IsAbove, IsAt, IsChanged, IsHungLeft, IsHungRight, IsLeftSettled, IsLeftTaken, IsPlaceBelow, IsPlacedBelow, IsRemovedBelow, IsReplacedBelow, IsRightSettled, IsRightTaken, IsSettled, IsSplit, IsSplitBelow, IsSplitBelowFor, IsSplitFor, IsTaken, IsTold, IsUnsettled, height_below, left_number, number_of, right_number}
 use Rattle.av_arena.specs.Monoid.{MonoidLaws}
-use Rattle.av_arena.specs.Order.{IsRising, with_entry, without_key}
+use Rattle.av_arena.specs.Order.{AllOf, IsRising, NoneBetween, with_entry, with_two, without_key}
 use Rattle.av_arena.specs.Tree.{DifferByAtMost, HasKey, IsHeightAfter, IsHeld, IsJoined, IsOpened, IsPlaceFor, IsPopped, IsRoot, IsSpot, IsTree, IsWithout, Store, count, entries, height_of, is, none, sum_of, tree_at}
 use Rattle.av_arena.specs.declared.link.Link.{Link}
 use Rattle.av_arena.specs.declared.link.Stored.{Stored}
-use Rattle.av_arena.proofs.Order.{rising_without, with_between, with_left, with_right, without_left, without_middle, without_right}
+use Rattle.av_arena.proofs.Order.{AllOf-back, AllOf-front, AllOf-map, all_middle, all_with, all_without, at_no_key, rising_with, rising_without, with_between, with_left, with_right, without_left, without_middle, without_right}
 use Rattle.av_arena.proofs.TreeLemmas.{fresh_once, is_cases, is_same, joined_same, kept, key_left, key_right, later, opened, place_left, place_right, placed_first, removed_last, removed_middle, ready_left, ready_right, used, used_cases, with_at_other, with_at_same}
 
 -- a height is settled at once, or one side is two levels higher
@@ -37,6 +37,18 @@ settles_right a b b' h k lower higher d e p q s after =
       | inl z ↦ (omega arith, omega arith)
       | inr (inl z) ↦ (omega arith, omega arith)
       | inr (inr z) ↦ (omega arith, omega arith)
+    ]
+
+-- heights that can settle in one way alone differ by one at most
+level_of : (a b k : ℕ) → DifferByAtMost 2 a b → ((h : ℕ) → IsHeightAfter a b h → (k ≤ h + 0) × (h ≤ k + 0)) → DifferByAtMost 1 a b
+level_of a b k d f =
+    let d0 = d.0 in let d1 = d.1 in
+    elim (cases_lt (a + 1) b) [
+      | inl p ↦ let x = (f b (omega arith, omega arith, λ q. absurd (let q1 = q.1 in omega arith))).0 in let y = (f (b + 1) (omega arith, omega arith, λ q. absurd (let q1 = q.1 in omega arith))).1 in absurd (omega arith)
+      | inr p ↦ elim (cases_lt (b + 1) a) [
+        | inl r ↦ let x = (f a (omega arith, omega arith, λ q. absurd (let q0 = q.0 in omega arith))).0 in let y = (f (a + 1) (omega arith, omega arith, λ q. absurd (let q0 = q.0 in omega arith))).1 in absurd (omega arith)
+        | inr r ↦ (omega arith, omega arith)
+      ]
     ]
 
 module _ {T S : Type 0} (key : T → ℕ) (unit : S) (op : S → S → S) (of : T → S) (laws : MonoidLaws unit op) where
@@ -642,3 +654,172 @@ module _ {T S : Type 0} (key : T → ℕ) (unit : S) (op : S → S → S) (of : 
       let q = settles_right (height_of v.left) (height_of v.right) (height_of rest) k'.height k.height 1 0 o.level o.height (omega arith) (omega arith) (omega arith) after in
       let a = q.0 in let b = q.1 in
       (subst (λ i. IsWithout key unit op of s u (Some k) (without_key key (key x) (entries (tree_at s (Some k)))) i (Some k')) p w, (omega arith, omega arith))
+
+  -- splitting
+  next_at : (x y : T) (a : List T) (w : T) (b : List T) → NoneBetween key (key x) (key y) (a ++ w ∷ b) → (key w ≤ key x) ⊎ (key y < key w)
+  next_at x y a w b n = all_middle (λ z. (key z ≤ key x) ⊎ (key y < key z)) a w b n
+
+  split_left_is : (s : Store T S) (k : Link S) (v : Stored T S) (m : ℕ) (x y : T) → IsSplitFor key unit op of s (Some k) m x y → IsOpened key unit op of s k v → key x < key v.entry → with_two key x y (entries (tree_at s v.left)) ++ v.entry ∷ entries (tree_at s v.right) ≡ with_two key x y (entries (tree_at s (Some k)))
+  split_left_is s k v m x y h o lt =
+      let a = entries (tree_at s v.left) in
+      let b = entries (tree_at s v.right) in
+      let next : NoneBetween key (key x) (key y) (a ++ v.entry ∷ b) = rw o.tree at h.next in
+      let lt' : key y < key v.entry = elim (next_at x y a v.entry b next) [ inl i ↦ absurd (omega arith) | inr i ↦ i ] in
+      sym (with_left key y v.entry (with_entry key x (without_key key (key x) a)) b lt') ∙ ap (with_entry key y) (replaced_left_is s k v x h.has o lt)
+
+  split_right_is : (s : Store T S) (k : Link S) (v : Stored T S) (m : ℕ) (x y : T) → IsSplitFor key unit op of s (Some k) m x y → IsOpened key unit op of s k v → key v.entry < key x → entries (tree_at s v.left) ++ v.entry ∷ with_two key x y (entries (tree_at s v.right)) ≡ with_two key x y (entries (tree_at s (Some k)))
+  split_right_is s k v m x y h o lt =
+      let a = entries (tree_at s v.left) in
+      let b = entries (tree_at s v.right) in
+      let e = replaced_right_is s k v x h.has o lt in
+      let after = h.after in
+      let lt' : key v.entry < key y = omega arith in
+      let up : IsRising key (a ++ v.entry ∷ with_entry key x (without_key key (key x) b)) = subst (IsRising key) (sym e) (rising_with key x _ (rising_without key (key x) _ h.has.rising)) in
+      sym (with_right key y v.entry a (with_entry key x (without_key key (key x) b)) lt' up) ∙ ap (with_entry key y) e
+
+  split_left_for : (s : Store T S) (m : ℕ) (k : Link S) (v : Stored T S) (x y : T) → IsSplitFor key unit op of s (Some k) m x y → IsOpened key unit op of s k v → key x < key v.entry → IsSplitFor key unit op of s v.left m x y
+  split_left_for s m k v x y h o lt =
+      let a = entries (tree_at s v.left) in
+      let b = entries (tree_at s v.right) in
+      let next : NoneBetween key (key x) (key y) (a ++ v.entry ∷ b) = rw o.tree at h.next in
+      let f : is k.number m + (count m (tree_at s v.left) + count m (tree_at s v.right)) ≡ 0 = rw o.tree at h.fresh in
+      record { has = key_left key unit op of laws s k v x h.has o lt; used = h.used; fresh = omega arith; after = h.after; next = AllOf-front (λ z. (key z ≤ key x) ⊎ (key y < key z)) a (v.entry ∷ b) next }
+
+  pub split_left_step : (s t : Store T S) (n m : ℕ) (k : Link S) (v : Stored T S) (side : ℕ) (x y : T) (c : Bool) → k.number ≡ n → IsSplitFor key unit op of s (Some k) m x y → s n ≡ Some v → left_number (s n) ≡ Some side → key x < key v.entry → IsSplitBelow key unit op of s t side m x y c → IsLeftStep s t k v side c (with_two key x y (entries (tree_at s v.left))) (λ j. is m j + count j (tree_at s v.left)) none 0 1
+  split_left_step s t n m k v side x y c p h e d lt below =
+      let o = opened_at s n k v p h.has.held e in
+      let a = left_child s n k v side e d in
+      let for = split_left_for s m k v x y h o lt in
+      record {
+        child = a;
+        opened = o;
+        changed = subst (λ l. IsChanged key unit op of s t a.child c (with_two key x y (entries (tree_at s l))) (λ j. is m j + count j (tree_at s l)) none 0 1) (sym a.is) (below a.child a.number (subst (λ l. IsSplitFor key unit op of s l m x y) a.is for));
+        once = λ j. let i = fresh_once key unit op of laws s k v m o h.fresh j in omega arith;
+        few = omega arith;
+      }
+
+  pub split_left_same : (s t : Store T S) (n m : ℕ) (v : Stored T S) (side : ℕ) (x y : T) (c : Bool) → s n ≡ Some v → left_number (s n) ≡ Some side → key x < key v.entry → IsSplitBelow key unit op of s t side m x y c → c ≡ false → IsSplitBelow key unit op of s t n m x y false
+  split_left_same s t n m v side x y c e d lt below z k p h =
+      let st = split_left_step s t n m k v side x y c p h e d lt below in
+      rechanged s t k false _ _ _ _ none 0 1 (left_unchanged s t k v side c _ _ none 0 1 st z) (split_left_is s k v m x y h st.opened lt) (λ j. rw st.opened.tree (omega arith))
+
+  pub split_left_settled : (s t u : Store T S) (n m : ℕ) (v : Stored T S) (side : ℕ) (x y : T) (c b : Bool) → s n ≡ Some v → left_number (s n) ≡ Some side → key x < key v.entry → IsSplitBelow key unit op of s t side m x y c → IsLeftSettled key unit op of t u n side b → IsSplitBelow key unit op of s u n m x y b
+  split_left_settled s t u n m v side x y c b e d lt below set k p h =
+      let st = split_left_step s t n m k v side x y c p h e d lt below in
+      rechanged s u k b _ _ _ _ none 0 1 (left_changed s t u n k v side c b _ _ none 0 1 st p set) (split_left_is s k v m x y h st.opened lt) (λ j. rw st.opened.tree (omega arith))
+
+  pub split_left_below : (s : Store T S) (n m : ℕ) (v : Stored T S) (side : ℕ) (x y : T) → IsSplitBelowFor key unit op of s n m x y → s n ≡ Some v → left_number (s n) ≡ Some side → key x < key v.entry → IsSplitBelowFor key unit op of s side m x y
+  split_left_below s n m v side x y b e d lt =
+      let o = opened_at s n b.link v b.number b.split.has.held e in
+      let a = left_child s n b.link v side e d in
+      let h : height_of v.left ≡ a.child.height = ap height_of a.is in
+      let low = b.low in let g = o.height in
+      record { link = a.child; number = a.number; split = subst (λ l. IsSplitFor key unit op of s l m x y) a.is (split_left_for s m b.link v x y b.split o lt); low = omega arith }
+
+  split_right_for : (s : Store T S) (m : ℕ) (k : Link S) (v : Stored T S) (x y : T) → IsSplitFor key unit op of s (Some k) m x y → IsOpened key unit op of s k v → key v.entry < key x → IsSplitFor key unit op of s v.right m x y
+  split_right_for s m k v x y h o lt =
+      let a = entries (tree_at s v.left) in
+      let b = entries (tree_at s v.right) in
+      let next : NoneBetween key (key x) (key y) (a ++ v.entry ∷ b) = rw o.tree at h.next in
+      let f : is k.number m + (count m (tree_at s v.left) + count m (tree_at s v.right)) ≡ 0 = rw o.tree at h.fresh in
+      record { has = key_right key unit op of laws s k v x h.has o lt; used = h.used; fresh = omega arith; after = h.after; next = (AllOf-back (λ z. (key z ≤ key x) ⊎ (key y < key z)) a (v.entry ∷ b) next).1 }
+
+  pub split_right_step : (s t : Store T S) (n m : ℕ) (k : Link S) (v : Stored T S) (side : ℕ) (x y : T) (c : Bool) → k.number ≡ n → IsSplitFor key unit op of s (Some k) m x y → s n ≡ Some v → right_number (s n) ≡ Some side → key v.entry < key x → IsSplitBelow key unit op of s t side m x y c → IsRightStep s t k v side c (with_two key x y (entries (tree_at s v.right))) (λ j. is m j + count j (tree_at s v.right)) none 0 1
+  split_right_step s t n m k v side x y c p h e d lt below =
+      let o = opened_at s n k v p h.has.held e in
+      let a = right_child s n k v side e d in
+      let for = split_right_for s m k v x y h o lt in
+      record {
+        child = a;
+        opened = o;
+        changed = subst (λ l. IsChanged key unit op of s t a.child c (with_two key x y (entries (tree_at s l))) (λ j. is m j + count j (tree_at s l)) none 0 1) (sym a.is) (below a.child a.number (subst (λ l. IsSplitFor key unit op of s l m x y) a.is for));
+        once = λ j. let i = fresh_once key unit op of laws s k v m o h.fresh j in omega arith;
+        few = omega arith;
+      }
+
+  pub split_right_same : (s t : Store T S) (n m : ℕ) (v : Stored T S) (side : ℕ) (x y : T) (c : Bool) → s n ≡ Some v → right_number (s n) ≡ Some side → key v.entry < key x → IsSplitBelow key unit op of s t side m x y c → c ≡ false → IsSplitBelow key unit op of s t n m x y false
+  split_right_same s t n m v side x y c e d lt below z k p h =
+      let st = split_right_step s t n m k v side x y c p h e d lt below in
+      rechanged s t k false _ _ _ _ none 0 1 (right_unchanged s t k v side c _ _ none 0 1 st z) (split_right_is s k v m x y h st.opened lt) (λ j. rw st.opened.tree (omega arith))
+
+  pub split_right_settled : (s t u : Store T S) (n m : ℕ) (v : Stored T S) (side : ℕ) (x y : T) (c b : Bool) → s n ≡ Some v → right_number (s n) ≡ Some side → key v.entry < key x → IsSplitBelow key unit op of s t side m x y c → IsRightSettled key unit op of t u n side b → IsSplitBelow key unit op of s u n m x y b
+  split_right_settled s t u n m v side x y c b e d lt below set k p h =
+      let st = split_right_step s t n m k v side x y c p h e d lt below in
+      rechanged s u k b _ _ _ _ none 0 1 (right_changed s t u n k v side c b _ _ none 0 1 st p set) (split_right_is s k v m x y h st.opened lt) (λ j. rw st.opened.tree (omega arith))
+
+  pub split_right_below : (s : Store T S) (n m : ℕ) (v : Stored T S) (side : ℕ) (x y : T) → IsSplitBelowFor key unit op of s n m x y → s n ≡ Some v → right_number (s n) ≡ Some side → key v.entry < key x → IsSplitBelowFor key unit op of s side m x y
+  split_right_below s n m v side x y b e d lt =
+      let o = opened_at s n b.link v b.number b.split.has.held e in
+      let a = right_child s n b.link v side e d in
+      let h : height_of v.right ≡ a.child.height = ap height_of a.is in
+      let low = b.low in let g = o.height in
+      record { link = a.child; number = a.number; split = subst (λ l. IsSplitFor key unit op of s l m x y) a.is (split_right_for s m b.link v x y b.split o lt); low = omega arith }
+
+  -- the link of a node whose entry is another one
+  record IsRetold (s t : Store T S) (k : Link S) (xs : List T) (f : ℕ → ℕ) : Type 0 where
+    link : Link S
+    number : link.number ≡ k.number
+    done : IsDone s t k link xs f none 0 0
+
+  retold : (s t : Store T S) (k : Link S) (xs : List T) (f : ℕ → ℕ) → IsChanged key unit op of s t k true xs f none 0 0 → IsRetold s t k xs f
+  retold s t k xs f c =
+      let v = c.node in
+      let l0 = c.level.0 in let l1 = c.level.1 in
+      let level : DifferByAtMost 1 (height_of v.left) (height_of v.right) = level_of (height_of v.left) (height_of v.right) k.height c.level c.settles in
+      let m' : Link S = record { number = k.number; height = max (height_of v.left) (height_of v.right) + 1; sum = op (sum_of unit v.left) (op (of v.entry) (sum_of unit v.right)) } in
+      let w = c.settles m'.height (omega arith, omega arith, λ _. refl) in
+      record { link = m'; number = refl; done = record {
+        tree = whole_above s t t k.number v m' xs f none c.above (joined_same key unit op of laws t m' v.left v.entry v.right (record { stored = c.above.stored; told = refl; level = level }) c.above.spot);
+        not_lower = w.0;
+        not_higher = w.1;
+      } }
+
+  split_place : (s t : Store T S) (n m : ℕ) (x y : T) (k m' : Link S) → IsSplitFor key unit op of s (Some k) m x y → IsDone s t k m' (with_entry key x (without_key key (key x) (entries (tree_at s (Some k))))) (λ j. count j (tree_at s (Some k))) none 0 0 → IsPlaceFor key unit op of t (Some m') m y
+  split_place s t n m x y k m' h d =
+      let xs = entries (tree_at s (Some k)) in
+      let after = h.after in
+      let other : AllOf (λ z. key z ≡ key y → ⊥) xs = AllOf-map (λ z. (key z ≤ key x) ⊎ (key y < key z)) (λ z. key z ≡ key y → ⊥) (λ z i e. elim i [ inl j ↦ absurd (omega arith) | inr j ↦ absurd (omega arith) ]) xs h.next in
+      let none_at : AllOf (λ z. key z ≡ key y → ⊥) (with_entry key x (without_key key (key x) xs)) = all_with key (λ z. key z ≡ key y → ⊥) x _ (λ e. absurd (omega arith)) (all_without key (λ z. key z ≡ key y → ⊥) (key x) xs other) in
+      record {
+        held = d.tree.held;
+        rising = rw d.tree.entries (rising_with key x _ (rising_without key (key x) xs h.has.rising));
+        used = d.tree.used m h.used;
+        fresh = let c = d.tree.count m in let f = h.fresh in omega arith;
+        other = rw d.tree.entries (at_no_key key (key y) _ none_at);
+      }
+
+  -- the node itself has the key: it is replaced, and then the other one is placed below it
+  pub split_ready : (s t : Store T S) (n m : ℕ) (x y : T) → IsSplitBelowFor key unit op of s n m x y → IsReplacedBelow key unit op of s t n x true → IsPlaceBelow key unit op of t n m y
+  split_ready s t n m x y b r =
+      let k = b.link in
+      let d = retold s t k _ _ (r k b.number b.split.has) in
+      let low = b.low in
+      let high = d.done.not_higher in
+      record { link = d.link; number = d.number ∙ b.number; place = split_place s t n m x y k d.link b.split d.done; low = omega arith }
+
+  pub split_at : (s t u : Store T S) (n m : ℕ) (x y : T) (c : Bool) → IsReplacedBelow key unit op of s t n x true → IsPlacedBelow key unit op of t u n m y c → IsSplitBelow key unit op of s u n m x y true
+  split_at s t u n m x y c r q k p h =
+      let d = retold s t k _ _ (r k p h.has) in
+      let m' = d.link in
+      let tr = d.done.tree in
+      let z = q m' (d.number ∙ p) (split_place s t n m x y k m' h d.done) in
+      let a = d.done.not_lower in let b = d.done.not_higher in
+      let xs : List T = with_entry key y (entries (tree_at t (Some m'))) in
+      let f : ℕ → ℕ = λ j. is m j + count j (tree_at t (Some m')) in
+      let w = z.node in
+      let above : IsAbove key unit op of t u k.number w xs f none = subst (λ (i : ℕ). IsAbove key unit op of t u i w xs f none) d.number z.above in
+      record {
+        node = w;
+        above = record {
+          stored = above.stored;
+          spot = above.spot;
+          entries = above.entries ∙ ap (with_entry key y) tr.entries;
+          count = λ j. let i = above.count j in let l = tr.count j in omega arith;
+          kept = λ j i. let l = tr.count j in above.kept j (omega arith) ∙ tr.kept j (omega arith);
+          used = λ j i. above.used j (tr.used j i);
+        };
+        level = z.level;
+        low = let l = z.low in omega arith;
+        settles = λ i j. let q = z.settles i j in let q0 = q.0 in let q1 = q.1 in (omega arith, omega arith);
+        stays = λ i. absurd (both_ways true i refl);
+      }

@@ -2,10 +2,10 @@
 use Rattle.std.specs.Prelude.{◌≡◌, ℕ, ◌+◌, ◌^◌, ◌<◌, ◌≤◌, max, None, Bool, true, false, IsSome, Option, Some, List, ◌∷◌, ◌++◌}
 use Rattle.av_base.specs.Words.{with_at}
 use Rattle.av_arena.specs.Arena.{left_put, right_put}
-use Rattle.av_arena.specs.Order.{with_entry, without_key}
+use Rattle.av_arena.specs.Order.{NoneBetween, with_entry, with_two, without_key}
 use Rattle.av_arena.specs.declared.link.Link.{Link}
 use Rattle.av_arena.specs.declared.link.Stored.{Stored}
-use Rattle.av_arena.specs.Tree.{DifferByAtMost, IsHeightAfter, HasKey, IsJoined, IsPlaceFor, IsRoot, IsSet, IsSpot, IsWithout, Store, count_at, entries_at, height_of, is, none, sum_of}
+use Rattle.av_arena.specs.Tree.{DifferByAtMost, IsHeightAfter, HasKey, IsJoined, IsPlaceFor, IsRoot, IsSet, IsSpot, IsTree, IsWithout, Store, count_at, entries_at, height_of, is, none, sum_of}
 
 module _ {T S : Type 0} (key : T → ℕ) (unit : S) (op : S → S → S) (of : T → S) where
   -- the node n above its sides, which differ by so many levels at most
@@ -155,6 +155,35 @@ module _ {T S : Type 0} (key : T → ℕ) (unit : S) (op : S → S → S) (of : 
       (k : Link S) → k.number ≡ n → HasKey key unit op of old (Some k) x →
       IsChanged old new k changed (without_key key (key x) (entries_at old (Some k)))
       (count_at old (Some k)) (is out) 1 0
+
+  -- a tree that has the key of x, and a number and an entry y that are new to it, where y comes
+  -- right after x
+  pub record IsSplitFor (s : Store T S) (k : Option (Link S)) (m : ℕ) (x y : T) : Type 0 where
+    pub has : HasKey key unit op of s k x
+    pub used : IsSome (s m)
+    pub fresh : count_at s k m ≡ 0
+    pub after : key x < key y
+    pub next : NoneBetween key (key x) (key y) (entries_at s k)
+
+  -- the same of the tree with the root n
+  pub record IsSplitBelowFor (s : Store T S) (n m : ℕ) (x y : T) : Type 0 where
+    pub link : Link S
+    pub number : link.number ≡ n
+    pub split : IsSplitFor s (Some link) m x y
+    pub low : link.height < 2 ^ 61
+
+  -- the tree with x in the node of the entry with its key, and the node m for y
+  abbrev pub IsSplit : Store T S → Store T S → Option (Link S) → ℕ → T → T → Link S → Type 0
+  IsSplit old new k m x y k' =
+      IsTree key unit op of old new (Some k') (with_two key x y (entries_at old k))
+      (λ j. is m j + count_at old k j) none
+
+  -- the same below the root n
+  abbrev pub IsSplitBelow : Store T S → Store T S → ℕ → ℕ → T → T → Bool → Type 0
+  IsSplitBelow old new n m x y changed =
+      (k : Link S) → k.number ≡ n → IsSplitFor old (Some k) m x y →
+      IsChanged old new k changed (with_two key x y (entries_at old (Some k)))
+      (λ j. is m j + count_at old (Some k) j) none 0 1
 
 -- the height of the tree with the root n
 abbrev pub height_below : {T S : Type 0} → Option (Stored T S) → ℕ

@@ -4,7 +4,7 @@
 // another one afterwards: where it is not, nothing above is looked at.
 ghost use Rattle.std.specs.Prelude.{◌≡◌, true, false, IsSome};
 ghost use Rattle.av_arena.specs.Arena.{stored};
-ghost use Rattle.av_arena.specs.Below.{HasKeyBelow, IsAt, IsHungLeft, IsHungRight, IsLeftSettled, IsLeftTaken, IsLevelAt, IsPlaceBelow, IsPlacedBelow, IsRemovedBelow, IsReplacedBelow, IsRightSettled, IsRightTaken, IsSettled, IsTaken, IsTold, IsUnsettled, left_number, right_number};
+ghost use Rattle.av_arena.specs.Below.{HasKeyBelow, IsAt, IsHungLeft, IsHungRight, IsLeftSettled, IsLeftTaken, IsLevelAt, IsPlaceBelow, IsPlacedBelow, IsRemovedBelow, IsReplacedBelow, IsRightSettled, IsRightTaken, IsSettled, IsSplitBelow, IsSplitBelowFor, IsTaken, IsTold, IsUnsettled, left_number, right_number};
 
 use crate::arena::Arena;
 use crate::entry::Entry;
@@ -45,6 +45,16 @@ pub fn settled<T: Entry>(arena: &mut Arena<T, T::Sum>, number: u64) -> Link<T::S
     if is_level(arena, number) {
         return told(arena, number);
     }
+    turned(arena, number)
+}
+
+/// What becomes of such a node, most likely by a rotation.
+#[cold]
+#[inline(never)]
+fn turned<T: Entry>(arena: &mut Arena<T, T::Sum>, number: u64) -> Link<T::Sum>
+    requires { IsUnsettled T.key T.unit T.op T.of 2 (stored arena.old) number }
+    ensures { IsSettled T.key T.unit T.op T.of (stored arena.old) (stored arena.new) number result }
+{
     let Stored { left, entry, right } = arena.get(number);
     balance(arena, number, left, entry, right)
 }
@@ -315,4 +325,42 @@ pub fn removed_below<T: Entry>(arena: &mut Arena<T, T::Sum>, number: u64, like: 
         return (out, false);
     }
     (out, right_settled(arena, number, side))
+}
+
+/// Puts `lower` in the place of the entry with its key, and the node `new` for `upper` right after
+/// it. Where both are in sum what that entry was, nothing above is written.
+pub fn split_below<T: Entry>(
+    arena: &mut Arena<T, T::Sum>,
+    number: u64,
+    new: u64,
+    lower: &T,
+    upper: &T,
+) -> bool
+    requires { IsSplitBelowFor T.key T.unit T.op T.of (stored arena.old) number new lower.now
+        upper.now }
+    ensures { IsSplitBelow T.key T.unit T.op T.of (stored arena.old) (stored arena.new) number new
+        lower.now upper.now result }
+{
+    let node = arena.look(number);
+    if lower.is_before(&node.entry) {
+        let Some(side) = left_of(arena, number) else {
+            unreachable!()
+        };
+        if !split_below(arena, side, new, lower, upper) {
+            return false;
+        }
+        return left_settled(arena, number, side);
+    }
+    if node.entry.is_before(lower) {
+        let Some(side) = right_of(arena, number) else {
+            unreachable!()
+        };
+        if !split_below(arena, side, new, lower, upper) {
+            return false;
+        }
+        return right_settled(arena, number, side);
+    }
+    arena.set_entry(number, *lower);
+    let _ = placed_below(arena, number, new, upper);
+    true
 }

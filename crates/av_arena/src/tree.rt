@@ -2,9 +2,10 @@ ghost use Rattle.std.specs.Prelude.{◌≡◌, ◌+◌, ◌^◌, ◌<◌, ◌≤
 ghost use Rattle.av_arena.specs.Order.{without_key};
 ghost use Rattle.av_arena.specs.Tree.{DifferByAtMost, IsHeightAfter, HasKey, IsHeld, IsJoined, IsOpened, IsPlaceFor, IsPlaced, IsPopped, IsReplaced, IsRoot, IsSet, IsSpot, IsWithout, sum_of, height_of, tree_at, entries};
 ghost use Rattle.av_arena.specs.Arena.{stored};
+ghost use Rattle.av_arena.specs.Below.{IsSplit, IsSplitFor};
 
 use crate::arena::Arena;
-use crate::below::{is_at, placed_below, removed_below, replaced_below, settled, taken};
+use crate::below::{is_at, placed_below, removed_below, replaced_below, settled, split_below, taken};
 use crate::entry::Entry;
 use crate::link::{Link, Stored};
 
@@ -330,6 +331,27 @@ pub fn replaced<T: Entry>(
 {
     let Some(tree) = tree else { unreachable!() };
     if !replaced_below(arena, tree.number, &entry) {
+        return tree;
+    }
+    settled(arena, tree.number)
+}
+
+/// The tree with `lower` in the node of the one with its key, and with the node `new`, which is in
+/// use and not in it, for `upper`, which comes right after `lower`.
+pub fn split<T: Entry>(
+    arena: &mut Arena<T, T::Sum>,
+    tree: Option<Link<T::Sum>>,
+    new: u64,
+    lower: T,
+    upper: T,
+) -> Link<T::Sum>
+    requires split { IsSplitFor T.key T.unit T.op T.of (stored arena.old) tree new lower upper }
+    requires low { height_of tree < 2 ^ 61 }
+    ensures { IsSplit T.key T.unit T.op T.of (stored arena.old) (stored arena.new) tree new lower
+        upper result }
+{
+    let Some(tree) = tree else { unreachable!() };
+    if !split_below(arena, tree.number, new, &lower, &upper) {
         return tree;
     }
     settled(arena, tree.number)
