@@ -102,6 +102,42 @@ impl Tree {
         self.spans.replace(Span { from, to, area });
     }
 
+    /// Cuts the area that has the pages from `from` to below `to`: from `at` on they are those of
+    /// `upper`, which is new to the process. Where two changes would go down twice and up to the
+    /// root, this one goes down once.
+    ///
+    /// Without memory all stays.
+    pub fn split(
+        &mut self,
+        area: AreaId,
+        from: u64,
+        at: u64,
+        to: u64,
+        upper: AreaId,
+    ) -> Result<(), AllocError>
+        requires there { IsSomeAnd (span_of self.old area) (λ s. (s.from ≡ from) × (s.to ≡ to)) }
+        requires lower { from < at }
+        requires higher { at < to }
+        requires other { span_of self.old upper ≡ None }
+        ensures spans { self.new ≡ (if is_ok result then with_span (span upper at to)
+            (with_span (span area from at) (without_area area self.old)) else self.old) }
+        ensures areas { OnOk result
+            ((number : ℕ) → span_of self.new number ≡ with_at upper (Some (span upper at to))
+            (with_at area (Some (span area from at)) (span_of self.old)) number) }
+        ensures pages { OnOk result
+            ((page : ℕ) → area_at self.new
+            page ≡ (if within at (to - at) page then Some upper else area_at self.old page)) }
+        ensures kept { AreSpans self.new }
+    {
+        let lower = Span { from, to: at, area };
+        let higher = Span {
+            from: at,
+            to,
+            area: upper,
+        };
+        self.spans.split(lower, higher)
+    }
+
     /// The area that holds the page.
     pub fn find(&self, page: u64) -> Option<AreaId>
         ensures area { result ≡ area_at self.now page }
