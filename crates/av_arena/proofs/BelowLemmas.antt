@@ -4,7 +4,7 @@ use Rattle.std.proofs.Math.Path.{fun_ext}
 use Rattle.std.proofs.lemmas.Bool.{both_ways, cases_lt}
 use Rattle.av_base.specs.Words.{with_at}
 use Rattle.av_arena.specs.Arena.{left_put, right_put, entry_put}
-use Rattle.av_arena.specs.Below.{HasKeyBelow, IsAbove, IsAt, IsChanged, IsHungLeft, IsHungRight, IsLeftSettled, IsLeftTaken, IsPlaceBelow, IsPlacedBelow, IsRemovedBelow, IsReplacedBelow, IsRightSettled, IsRightTaken, IsSettled, IsSplit, IsSplitBelow, IsSplitBelowFor, IsSplitFor, IsTaken, IsTold, IsUnsettled, height_below, left_number, number_of, right_number}
+use Rattle.av_arena.specs.Below.{HasKeyBelow, IsAbove, IsAt, IsChanged, IsHungLeft, IsHungRight, IsLeftSettled, IsLeftTaken, IsPlaceBelow, IsPlacedBelow, IsRemovedBelow, IsReplacedBelow, IsRightSettled, IsRightTaken, IsSettled, IsSplitBelow, IsSplitBelowFor, IsSplitFor, IsTaken, IsTold, IsUnsettled, height_below, left_number, number_of, right_number}
 use Rattle.av_arena.specs.Monoid.{MonoidLaws}
 use Rattle.av_arena.specs.Order.{AllOf, IsRising, NoneBetween, with_entry, with_two, without_key}
 use Rattle.av_arena.specs.Tree.{DifferByAtMost, HasKey, IsHeightAfter, IsHeld, IsJoined, IsOpened, IsPlaceFor, IsPopped, IsRoot, IsSpot, IsTree, IsWithout, Store, count, entries, height_of, is, none, sum_of, tree_at}
@@ -768,11 +768,15 @@ module _ {T S : Type 0} (key : T → ℕ) (unit : S) (op : S → S → S) (of : 
       let level : DifferByAtMost 1 (height_of v.left) (height_of v.right) = level_of (height_of v.left) (height_of v.right) k.height c.level c.settles in
       let m' : Link S = record { number = k.number; height = max (height_of v.left) (height_of v.right) + 1; sum = op (sum_of unit v.left) (op (of v.entry) (sum_of unit v.right)) } in
       let w = c.settles m'.height (omega arith, omega arith, λ _. refl) in
-      record { link = m'; number = refl; done = record {
-        tree = whole_above s t t k.number v m' xs f none c.above (joined_same key unit op of laws t m' v.left v.entry v.right (record { stored = c.above.stored; told = refl; level = level }) c.above.spot);
-        not_lower = w.0;
-        not_higher = w.1;
-      } }
+      record {
+        link = m';
+        number = refl;
+        done = record {
+          tree = whole_above s t t k.number v m' xs f none c.above (joined_same key unit op of laws t m' v.left v.entry v.right (record { stored = c.above.stored; told = refl; level = level }) c.above.spot);
+          not_lower = w.0;
+          not_higher = w.1;
+        };
+      }
 
   split_place : (s t : Store T S) (n m : ℕ) (x y : T) (k m' : Link S) → IsSplitFor key unit op of s (Some k) m x y → IsDone s t k m' (with_entry key x (without_key key (key x) (entries (tree_at s (Some k))))) (λ j. count j (tree_at s (Some k))) none 0 0 → IsPlaceFor key unit op of t (Some m') m y
   split_place s t n m x y k m' h d =

@@ -5,7 +5,9 @@ ghost use Rattle.av_arena.specs.Arena.{stored};
 ghost use Rattle.av_arena.specs.Below.{IsSplit, IsSplitFor};
 
 use crate::arena::Arena;
-use crate::below::{is_at, placed_below, removed_below, replaced_below, settled, split_below, taken};
+use crate::below::{
+    is_at, placed_below, removed_below, replaced_below, settled, split_below, taken,
+};
 use crate::entry::Entry;
 use crate::link::{Link, Stored};
 

@@ -1,4 +1,4 @@
-use Rattle.std.proofs.Common.{rules, refl, Some, sym, subst, ap, arith}
+use Rattle.std.proofs.Common.{rules, refl, sym, subst, ap, arith}
 use Rattle.av_arena.specs.Arena.{stored}
 use Rattle.av_arena.specs.Below.{IsSplit, IsSplitFor}
 use Rattle.av_arena.specs.Tree.{height_of, none}
