@@ -76,7 +76,8 @@ impl<T: Copy + Drop, S: Copy + Drop> Arena<T, S> {
     #[inline]
     pub fn set_left(&mut self, number: u64, left: Option<Link<S>>)
         requires { IsSome (stored self.old number) }
-        ensures { stored self.new ≡ with_at number (left_put left (stored self.old number)) (stored self.old) }
+        ensures { stored self.new ≡ with_at number (left_put left (stored self.old number))
+            (stored self.old) }
     {
         let node = &mut self.slab[number as usize];
         node.left = left;
@@ -86,7 +87,8 @@ impl<T: Copy + Drop, S: Copy + Drop> Arena<T, S> {
     #[inline]
     pub fn set_right(&mut self, number: u64, right: Option<Link<S>>)
         requires { IsSome (stored self.old number) }
-        ensures { stored self.new ≡ with_at number (right_put right (stored self.old number)) (stored self.old) }
+        ensures { stored self.new ≡ with_at number (right_put right (stored self.old number))
+            (stored self.old) }
     {
         let node = &mut self.slab[number as usize];
         node.right = right;
