@@ -1,13 +1,13 @@
 -- A span that becomes two.
-use Rattle.std.proofs.Common.{◌≡◌, ℕ, ◌<◌, ◌≤◌, ◌⊎◌, inl, inr, true, false, cond, eqb, Option, Some, None, IfSome, IsSomeAnd, is_some, Result, Ok, Err, is_ok, OnOk, List, [], ◌∷◌, refl, sym, ap, subst, ◌∙◌, arith}
-use Rattle.std.proofs.lemmas.Bool.{both_ways, cases_lt, eq-eqb, eqb-true, ne_eqb}
+use Rattle.std.proofs.Common.{◌≡◌, ℕ, ◌<◌, ◌≤◌, ◌⊎◌, inl, inr, true, false, cond, eqb, Option, Some, None, IsSomeAnd, is_some, Result, Ok, Err, is_ok, OnOk, List, [], ◌∷◌, refl, sym, ap, subst, ◌∙◌, arith}
+use Rattle.std.proofs.lemmas.Bool.{eq-eqb, eqb-true, ne_eqb}
 use Rattle.av_base.specs.Limits.{low_page, top_page}
 use Rattle.av_base.specs.Words.{with_at}
 use Rattle.av_arena.specs.Order.{AllOf, NoneBetween, with_two, without_key}
 use Rattle.av_arena.proofs.Order.{AllOf-map}
 use Rattle.av_vmatree.specs.declared.span.Span.{Span}
-use Rattle.av_vmatree.specs.Spans.{start_of, holds, area_at, taken, span_of, with_span, unless_area, without_area, IsFree, AreApart, AreDistinct, AreSpans}
-use Rattle.av_vmatree.proofs.Spans.{all_found, ended_here, held, holds_above, holds_below, holds_here, inserted, removed_here}
+use Rattle.av_vmatree.specs.Spans.{start_of, holds, area_at, taken, span_of, with_span, unless_area, without_area, IsFree, AreApart, AreSpans}
+use Rattle.av_vmatree.proofs.Spans.{all_found, ended_here, holds_above, holds_here, inserted, removed_here}
 
 -- the span of an area that has these ends
 abbrev pub HasSpan : List Span → ℕ → ℕ → ℕ → Type 0
@@ -39,40 +39,14 @@ none_within n (b ∷ xs) s apart found =
           (inl (omega arith), none_within n xs s apart.2 f)
     ] found
 
--- a page that a span does not hold is not its area's
-not_own : (n : ℕ) (xs : List Span) (s : Span) (p : ℕ) → AreDistinct xs → span_of xs n ≡ Some s → holds s p ≡ false → unless_area n (area_at xs p) ≡ area_at xs p
-not_own n xs s p distinct found out =
-    elim (area_at xs p) as (λ o. IfSome o (λ k. IsSomeAnd (span_of xs k) (λ t. holds t p ≡ true)) → unless_area n o ≡ o) [
-      | None ↦ λ h. refl
-      | Some k ↦ λ h. elim (eqb k n) as (λ v. eqb k n ≡ v → cond v None (Some k) ≡ Some k) [
-        | true ↦ λ e.
-            let here : IsSomeAnd (span_of xs n) (λ t. holds t p ≡ true) = subst (λ i. IsSomeAnd (span_of xs i) (λ t. holds t p ≡ true)) (eqb-true k n e) h in
-            absurd (both_ways _ out (subst (λ o. IsSomeAnd o (λ t. holds t p ≡ true)) found here))
-        | false ↦ λ e. refl
-      ] refl
-    ] (held xs p distinct)
-
 -- what a cut of a span leaves
 pub record IsCut (l u : Span) (xs new : List Span) : Type 0 where
   pub good : AreSpans new
   pub spans : new ≡ with_span u (with_span l (without_area l.area xs))
   pub areas : (k : ℕ) → span_of new k ≡ with_at u.area (Some u) (with_at l.area (Some l) (span_of xs)) k
-  pub pages : (p : ℕ) → area_at new p ≡ cond (holds u p) (Some u.area) (area_at xs p)
+  pub pages : (p : ℕ) → area_at new p ≡ cond (holds u p) (Some u.area) (cond (holds l p) (Some l.area) (unless_area l.area (area_at xs p)))
 
-cut_pages : (l u s : Span) (xs : List Span) (p : ℕ) → AreSpans xs → span_of xs l.area ≡ Some s → s.from ≡ l.from → l.to ≡ u.from → s.to ≡ u.to → l.from < l.to → u.from < u.to → cond (holds u p) (Some u.area) (cond (holds l p) (Some l.area) (unless_area l.area (area_at xs p))) ≡ cond (holds u p) (Some u.area) (area_at xs p)
-cut_pages l u s xs p good found a b c some more =
-    elim (cases_lt p u.from) [
-      | inl below ↦ elim (cases_lt p l.from) [
-        | inl out ↦ rw (holds_below u p below, holds_below l p out) (not_own l.area xs s p good.distinct found (holds_below s p (omega arith)))
-        | inr inside ↦ rw (holds_below u p below, holds_here l p inside (omega arith)) (sym (own_at l.area xs s p good.apart found (omega arith) (omega arith)))
-      ]
-      | inr above ↦ elim (cases_lt p u.to) [
-        | inl inside ↦ rw (holds_here u p above inside) refl
-        | inr out ↦ rw (holds_above u p out, holds_above l p (omega arith)) (not_own l.area xs s p good.distinct found (holds_above s p (omega arith)))
-      ]
-    ]
-
-cut_found : (l u s : Span) (xs : List Span) → AreSpans xs → span_of xs l.area ≡ Some s → s.from ≡ l.from → l.to ≡ u.from → s.to ≡ u.to → l.from < l.to → u.from < u.to → span_of xs u.area ≡ None → IsCut l u xs (with_two start_of l u xs)
+cut_found : (l u s : Span) (xs : List Span) → AreSpans xs → span_of xs l.area ≡ Some s → s.from ≡ l.from → l.to ≤ u.from → s.to ≡ u.to → l.from < l.to → u.from < u.to → span_of xs u.area ≡ None → IsCut l u xs (with_two start_of l u xs)
 cut_found l u s xs good found a b c some more other =
     let n = l.area in
     let there : IsSomeAnd (span_of xs n) (λ t. t.from ≡ l.from) = rw found a in
@@ -91,14 +65,14 @@ cut_found l u s xs good found a b c some more other =
       good = i.good;
       spans = ap (with_span u) e.spans;
       areas = λ k. i.areas k ∙ ap (cond (eqb k u.area) (Some u)) (e.areas k);
-      pages = λ p. i.pages p ∙ ap (cond (holds u p) (Some u.area)) (e.pages p) ∙ cut_pages l u s xs p good found a b c some more;
+      pages = λ p. i.pages p ∙ ap (cond (holds u p) (Some u.area)) (e.pages p);
     }
 
-cut_cases : (l u : Span) (o : Option Span) (xs : List Span) → AreSpans xs → span_of xs l.area ≡ o → IsSomeAnd o (λ s. (s.from ≡ l.from) × (s.to ≡ u.to)) → l.to ≡ u.from → l.from < l.to → u.from < u.to → span_of xs u.area ≡ None → IsCut l u xs (with_two start_of l u xs)
+cut_cases : (l u : Span) (o : Option Span) (xs : List Span) → AreSpans xs → span_of xs l.area ≡ o → IsSomeAnd o (λ s. (s.from ≡ l.from) × (s.to ≡ u.to)) → l.to ≤ u.from → l.from < l.to → u.from < u.to → span_of xs u.area ≡ None → IsCut l u xs (with_two start_of l u xs)
 cut_cases l u None xs good found there b some more other = absurd there
 cut_cases l u (Some s) xs good found there b some more other = cut_found l u s xs good found there.0 b there.1 some more other
 
-pub cut_if : {E : Type 0} (r : Result Unit E) (l u : Span) (d xs new : List Span) → d ≡ xs → new ≡ cond (is_ok r) (with_two start_of l u d) d → AreSpans d → HasSpan xs l.area l.from u.to → l.to ≡ u.from → l.from < l.to → u.from < u.to → span_of xs u.area ≡ None → OnOk r (IsCut l u xs new) × AreSpans new
+pub cut_if : {E : Type 0} (r : Result Unit E) (l u : Span) (d xs new : List Span) → d ≡ xs → new ≡ cond (is_ok r) (with_two start_of l u d) d → AreSpans d → HasSpan xs l.area l.from u.to → l.to ≤ u.from → l.from < l.to → u.from < u.to → span_of xs u.area ≡ None → OnOk r (IsCut l u xs new) × AreSpans new
 cut_if (Ok _) l u d xs new is e good there b some more other =
     let h = subst (IsCut l u xs) (sym (e ∙ ap (with_two start_of l u) is)) (cut_cases l u (span_of xs l.area) xs (subst AreSpans is good) refl there b some more other) in
     (h, h.good)

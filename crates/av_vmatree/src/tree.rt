@@ -102,40 +102,30 @@ impl Tree {
         self.spans.replace(Span { from, to, area });
     }
 
-    /// Cuts the area that has the pages from `from` to below `to`: from `at` on they are those of
-    /// `upper`, which is new to the process. Where two changes would go down twice and up to the
-    /// root, this one goes down once.
+    /// Gives an area that is there the span `lower`, a part of its own that begins with it, and puts
+    /// in the span `upper` of an area new to the process, a later part that ends with it. It goes
+    /// down once, where `set_end` and `insert` would each change every summary up to the root.
     ///
     /// Without memory all stays.
-    pub fn split(
-        &mut self,
-        area: AreaId,
-        from: u64,
-        at: u64,
-        to: u64,
-        upper: AreaId,
-    ) -> Result<(), AllocError>
-        requires there { IsSomeAnd (span_of self.old area) (λ s. (s.from ≡ from) × (s.to ≡ to)) }
-        requires lower { from < at }
-        requires higher { at < to }
-        requires other { span_of self.old upper ≡ None }
-        ensures spans { self.new ≡ (if is_ok result then with_span (span upper at to)
-            (with_span (span area from at) (without_area area self.old)) else self.old) }
+    pub fn split(&mut self, lower: Span, upper: Span) -> Result<(), AllocError>
+        requires there { IsSomeAnd (span_of self.old lower.area)
+            (λ s. (s.from ≡ lower.from) × (s.to ≡ upper.to)) }
+        requires some { lower.from < lower.to }
+        requires apart { lower.to ≤ upper.from }
+        requires more { upper.from < upper.to }
+        requires other { span_of self.old upper.area ≡ None }
+        ensures spans { self.new ≡ (if is_ok result then with_span upper
+            (with_span lower (without_area lower.area self.old)) else self.old) }
         ensures areas { OnOk result
-            ((number : ℕ) → span_of self.new number ≡ with_at upper (Some (span upper at to))
-            (with_at area (Some (span area from at)) (span_of self.old)) number) }
+            ((number : ℕ) → span_of self.new number ≡ with_at upper.area (Some upper)
+            (with_at lower.area (Some lower) (span_of self.old)) number) }
         ensures pages { OnOk result
             ((page : ℕ) → area_at self.new
-            page ≡ (if within at (to - at) page then Some upper else area_at self.old page)) }
+            page ≡ (if holds upper page then Some upper.area else if holds lower page then Some
+            lower.area else unless_area lower.area (area_at self.old page))) }
         ensures kept { AreSpans self.new }
     {
-        let lower = Span { from, to: at, area };
-        let higher = Span {
-            from: at,
-            to,
-            area: upper,
-        };
-        self.spans.split(lower, higher)
+        self.spans.split(lower, upper)
     }
 
     /// The area that holds the page.
