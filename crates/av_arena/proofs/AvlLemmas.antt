@@ -4,7 +4,8 @@ use Rattle.std.proofs.lemmas.Bool.{cases_lt}
 use Rattle.std.proofs.Math.Pow.{pow_mono}
 use Rattle.std.proofs.Math.Nat.{mul-le-mul}
 use Rattle.av_arena.specs.Monoid.{MonoidLaws}
-use Rattle.av_arena.specs.Order.{with_entry, without_key, entry_at}
+use Rattle.av_arena.specs.Below.{IsSplit, IsSplitFor}
+use Rattle.av_arena.specs.Order.{NoneBetween, with_entry, with_two, without_key, entry_at}
 use Rattle.av_arena.proofs.Order.{rising_front, rising_back, rising_with, rising_without}
 use Rattle.av_arena.proofs.Shallow.{shallow_entries}
 use Rattle.av_arena.specs.declared.link.Link.{Link}
@@ -80,6 +81,30 @@ module _ {T S : Type 0} (key : T → ℕ) (unit : S) (op : S → S → S) (of : 
         | inr o ↦ let h : is n j ≡ 1 = subst (λ m. is n m ≡ 1) o (is_same key unit op of laws n) in omega arith
       ]) in
       ((record { held = w.held; rising = rw d (rising_with key x (entries (tree_at s k)) p.0.rising) }, λ j i. let h = in_use key unit op of laws t u (Some k') _ _ none w all j i in omega arith), d)
+
+  pub split_new : (s t : Store T S) (k : Option (Link S)) → IsPart key unit op of s k → (n : ℕ) (v : Stored T S) → s n ≡ None → t ≡ with_at n (Some v) s → (x y : T) → IsSome (entry_at key (key x) (entries (tree_at s k))) → key x < key y → NoneBetween key (key x) (key y) (entries (tree_at s k)) → IsSplitFor key unit op of t k n x y
+  split_new s t k p n v e at x y there after next =
+      let z = not_used s k p.held n e in
+      let g = kept key unit op of laws s (with_at n (Some v) s) k p.held (λ j h. with_at_other key unit op of laws n (Some v) s j (is_not n j (tree_at s k) z h)) in
+      subst (λ (w : Store T S). IsSplitFor key unit op of w k n x y) (sym at) (record {
+        has = record { held = g.held; rising = rw g.tree p.rising; there = rw g.tree there };
+        used = rw (with_at_same key unit op of laws n (Some v) s) refl;
+        fresh = rw g.tree z;
+        after = after;
+        next = rw g.tree next;
+      })
+
+  pub parted : (s t u : Store T S) (k : Option (Link S)) → IsAvl key unit op of s k → (n : ℕ) (v : Stored T S) → s n ≡ None → t ≡ with_at n (Some v) s → (x y : T) (k' : Link S) → IsSplit key unit op of t u k n x y k' → IsAvl key unit op of u (Some k') × (entries (tree_at u (Some k')) ≡ with_two key x y (entries (tree_at s k)))
+  parted s t u k p n v e at x y k' w =
+      let z = not_used s k p.0.held n e in
+      let g = kept key unit op of laws s (with_at n (Some v) s) k p.0.held (λ j h. with_at_other key unit op of laws n (Some v) s j (is_not n j (tree_at s k) z h)) in
+      let d : entries (tree_at u (Some k')) ≡ with_two key x y (entries (tree_at s k)) = w.entries ∙ ap (λ q. with_two key x y (entries q)) (ap (λ (q : Store T S). tree_at q k) at ∙ g.tree) in
+      let all : (j : ℕ) → IsSome (t j) → 1 ≤ is n j + count j (tree_at t k) = subst (λ (q : Store T S). (j : ℕ) → IsSome (q j) → 1 ≤ is n j + count j (tree_at q k)) (sym at) (λ j i. elim (is_cases key unit op of laws n j) [
+        | inl o ↦ let h = p.1 j (subst IsSome (with_at_other key unit op of laws n (Some v) s j o) i) in rw g.tree (omega arith)
+        | inr o ↦ let h : is n j ≡ 1 = subst (λ m. is n m ≡ 1) o (is_same key unit op of laws n) in omega arith
+      ]) in
+      let up = rising_with key y _ (rising_with key x _ (rising_without key (key x) (entries (tree_at s k)) p.0.rising)) in
+      ((record { held = w.held; rising = rw d up }, λ j i. let h = in_use key unit op of laws t u (Some k') _ _ none w all j i in omega arith), d)
 
   pub freed : (s t u : Store T S) (k : Option (Link S)) → IsAvl key unit op of s k → (m n : ℕ) (k' : Option (Link S)) → IsWithout key unit op of s t k (without_key key m (entries (tree_at s k))) n k' → u ≡ with_at n None t → IsAvl key unit op of u k' × (entries (tree_at u k') ≡ without_key key m (entries (tree_at s k)))
   freed s t u k p m n k' w at =

@@ -1,4 +1,5 @@
 pub mod AvlLemmas
+pub mod BelowLemmas
 pub mod Monoid
 pub mod Order
 pub mod Shallow

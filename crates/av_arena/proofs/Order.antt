@@ -48,7 +48,7 @@ module _ {A : Type 0} (key : A → ℕ) where
   rising_inner_left x j y k z s = rising_front (x ++ j ∷ y) (k ∷ z) (rw (append-cons_assoc x j y k z) s)
 
   -- putting in
-  all_with : (P : A → Type 0) (x : A) (t : List A) → P x → AllOf P t → AllOf P (with_entry key x t)
+  pub all_with : (P : A → Type 0) (x : A) (t : List A) → P x → AllOf P t → AllOf P (with_entry key x t)
   all_with P x [] p a = (p, tt)
   all_with P x (y ∷ t) p a =
       elim (ltb (key x) (key y)) as (λ b. AllOf P (cond b (x ∷ y ∷ t) (y ∷ cond (ltb (key y) (key x)) (with_entry key x t) t))) [
@@ -105,7 +105,7 @@ module _ {A : Type 0} (key : A → ℕ) where
   without_other k y t true e P same other = same (eqb-true (key y) k e)
   without_other k y t false e P same other = other
 
-  all_without : (P : A → Type 0) (k : ℕ) (t : List A) → AllOf P t → AllOf P (without_key key k t)
+  pub all_without : (P : A → Type 0) (k : ℕ) (t : List A) → AllOf P t → AllOf P (without_key key k t)
   all_without P k [] a = tt
   all_without P k (y ∷ t) a = without_other k y t (eqb (key y) k) refl (AllOf P) (λ _. a.1) (a.0, all_without P k t a.1)
 
@@ -172,3 +172,7 @@ module _ {A : Type 0} (key : A → ℕ) where
 
   pub left_part : (x : List A) (j : A) (y : List A) (k : A) (r z a : List A) (e : A) (c : List A) → IsRising key (x ++ j ∷ r) → r ≡ y ++ k ∷ z → a ≡ x → e ≡ j → c ≡ y → IsRising key (a ++ e ∷ c)
   left_part x j y k r z a e c s is p q t = rw (p, q, t) (rising_inner_left x j y k z (rw is at s))
+
+  pub at_no_key : (k : ℕ) (t : List A) → AllOf (λ z. key z ≡ k → ⊥) t → entry_at key k t ≡ None
+  at_no_key k [] a = refl
+  at_no_key k (y ∷ t) a = rw (ne_eqb (key y) k a.0) (at_no_key k t a.1)

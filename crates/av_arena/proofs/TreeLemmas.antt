@@ -142,7 +142,7 @@ module _ {T S : Type 0} (key : T → ℕ) (unit : S) (op : S → S → S) (of : 
   pub unset : (s s' : Store T S) (n : ℕ) (a : Option (Link S)) (x : T) (b : Option (Link S)) (k : Link S) → IsSet key unit op of s s' n a x b k → (j : ℕ) → is n j ≡ 0 → s' j ≡ s j
   unset s s' n a x b k set j e = ap (λ (f : Store T S). f j) set.store ∙ with_at_other n (Some (record { left = a; entry = x; right = b })) s j e
 
-  used_cases : (b : Bool) (v : Stored T S) (o : Option (Stored T S)) → IsSome o → IsSome (cond b (Some v) o)
+  pub used_cases : (b : Bool) (v : Stored T S) (o : Option (Stored T S)) → IsSome o → IsSome (cond b (Some v) o)
   used_cases true v o h = refl
   used_cases false v o h = h
 
@@ -338,7 +338,7 @@ module _ {T S : Type 0} (key : T → ℕ) (unit : S) (op : S → S → S) (of : 
       }
 
   -- putting in
-  fresh_once : (s : Store T S) (k : Link S) (v : Stored T S) (n : ℕ) → IsOpened key unit op of s k v → count n (tree_at s (Some k)) ≡ 0 → (j : ℕ) → is n j + (is k.number j + (count j (tree_at s v.left) + count j (tree_at s v.right))) ≤ 1
+  pub fresh_once : (s : Store T S) (k : Link S) (v : Stored T S) (n : ℕ) → IsOpened key unit op of s k v → count n (tree_at s (Some k)) ≡ 0 → (j : ℕ) → is n j + (is k.number j + (count j (tree_at s v.left) + count j (tree_at s v.right))) ≤ 1
   fresh_once s k v n o z j = elim (is_cases n j) [
     | inl e ↦ let c = o.once j in omega arith
     | inr e ↦ let c : is k.number j + (count j (tree_at s v.left) + count j (tree_at s v.right)) ≡ 0 = subst (λ (i : ℕ). is k.number i + (count i (tree_at s v.left) + count i (tree_at s v.right)) ≡ 0) e (rw o.tree at z) in let d = is_at_most n j in omega arith

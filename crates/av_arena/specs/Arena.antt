@@ -19,3 +19,8 @@ left_put left (Some v) = Some (record v { left = left })
 abbrev pub right_put : {T S : Type 0} → Option (Link S) → Option (Stored T S) → Option (Stored T S)
 right_put right None = None
 right_put right (Some v) = Some (record v { right = right })
+
+-- a node with another entry
+abbrev pub entry_put : {T S : Type 0} → T → Option (Stored T S) → Option (Stored T S)
+entry_put x None = None
+entry_put x (Some v) = Some (record v { entry = x })

@@ -1,6 +1,7 @@
 pub mod Any
 pub mod Arena
 pub mod Avl
+pub mod Below
 pub mod Monoid
 pub mod Order
 pub mod Tree

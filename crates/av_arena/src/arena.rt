@@ -1,5 +1,5 @@
 ghost use Rattle.std.specs.Prelude.{◌≡◌, ℕ, Some, None, IfOk, OnErr, IsSome};
-ghost use Rattle.av_arena.specs.Arena.{left_put, right_put, stored};
+ghost use Rattle.av_arena.specs.Arena.{entry_put, left_put, right_put, stored};
 ghost use Rattle.av_base.specs.Words.{with_at};
 
 use crate::link::{Link, Stored};
@@ -43,6 +43,15 @@ impl<T: Copy + Drop, S: Copy + Drop> Arena<T, S> {
         *node
     }
 
+    /// The node with a number that is in use, to be read where it lies.
+    #[inline(always)]
+    pub fn look(&self, number: u64) -> &Stored<T, S>
+        requires { IsSome (stored self.now number) }
+        ensures { stored self.now number ≡ Some result.now }
+    {
+        &self.slab[number as usize]
+    }
+
     /// Puts a node in place of the one with this number, which is in use.
     #[inline]
     pub fn set(&mut self, number: u64, node: Stored<T, S>)
@@ -52,11 +61,23 @@ impl<T: Copy + Drop, S: Copy + Drop> Arena<T, S> {
         self.slab[number as usize] = node;
     }
 
+    /// Puts another entry into the node with this number, which is in use.
+    #[inline]
+    pub fn set_entry(&mut self, number: u64, entry: T)
+        requires { IsSome (stored self.old number) }
+        ensures { stored self.new ≡ with_at number (entry_put entry (stored self.old number))
+            (stored self.old) }
+    {
+        let node = &mut self.slab[number as usize];
+        node.entry = entry;
+    }
+
     /// Puts another left side into the node with this number, which is in use.
     #[inline]
     pub fn set_left(&mut self, number: u64, left: Option<Link<S>>)
         requires { IsSome (stored self.old number) }
-        ensures { stored self.new ≡ with_at number (left_put left (stored self.old number)) (stored self.old) }
+        ensures { stored self.new ≡ with_at number (left_put left (stored self.old number))
+            (stored self.old) }
     {
         let node = &mut self.slab[number as usize];
         node.left = left;
@@ -66,7 +87,8 @@ impl<T: Copy + Drop, S: Copy + Drop> Arena<T, S> {
     #[inline]
     pub fn set_right(&mut self, number: u64, right: Option<Link<S>>)
         requires { IsSome (stored self.old number) }
-        ensures { stored self.new ≡ with_at number (right_put right (stored self.old number)) (stored self.old) }
+        ensures { stored self.new ≡ with_at number (right_put right (stored self.old number))
+            (stored self.old) }
     {
         let node = &mut self.slab[number as usize];
         node.right = right;

@@ -1,12 +1,12 @@
 ghost use Rattle.std.specs.Prelude.{◌≡◌, ◌+◌, ◌^◌, ◌<◌, [], None, is_ok, length, IsSome, MatchOption, OnOk, ◌++◌, if◌then◌else◌};
-ghost use Rattle.av_arena.specs.Order.{entry_at, with_entry, without_key};
+ghost use Rattle.av_arena.specs.Order.{NoneBetween, entry_at, with_entry, with_two, without_key};
 ghost use Rattle.av_arena.specs.Avl.{IsLonger, IsParts};
 ghost use Rattle.av_arena.specs.Monoid.{total};
 
 use crate::arena::Arena;
 use crate::entry::Entry;
 use crate::link::{Link, Stored};
-use crate::tree::{open, placed, removed, replaced, sum};
+use crate::tree::{open, placed, removed, replaced, split, sum};
 use std::alloc::{AllocError, Global};
 use std::marker::Model;
 
@@ -89,6 +89,30 @@ impl<T: Entry> Avl<T> {
             Err(error) => return Err(error),
         };
         let root = placed(&mut self.arena, self.root, number, entry);
+        self.root = Some(root);
+        Ok(())
+    }
+
+    /// Puts `lower` in the place of the entry with its key, which is there, and `upper` right after
+    /// it. Without memory all stays.
+    pub fn split(&mut self, lower: T, upper: T) -> Result<(), AllocError>
+        requires room { length self.old + 1 < 2 ^ 63 }
+        requires there { IsSome (entry_at T.key (T.key lower) self.old) }
+        requires after { T.key lower < T.key upper }
+        requires next { NoneBetween T.key (T.key lower) (T.key upper) self.old }
+        ensures entries { self.new ≡ (if is_ok result then with_two T.key lower upper self.old else
+            self.old) }
+    {
+        let leaf = Stored {
+            left: None,
+            entry: upper,
+            right: None,
+        };
+        let number = match self.arena.add(leaf) {
+            Ok(number) => number,
+            Err(error) => return Err(error),
+        };
+        let root = split(&mut self.arena, self.root, number, lower, upper);
         self.root = Some(root);
         Ok(())
     }

@@ -1,19 +1,20 @@
 //! Balanced trees of entries whose nodes have numbers: the one balanced tree of the repository.
 //!
-//! An `Arena` keeps the nodes of any number of trees, each under a number that is used again once it
-//! is free. A tree is told by a `Link`: the number of its root, its height and the summary of its
+//! An `Arena` keeps the nodes of any number of trees, each under a number that is used again once
+//! it is free. A tree is told by a `Link`: the number of its root, its height and the summary of its
 //! entries. `Avl` is one tree with an arena of its own; who keeps many trees over one arena calls
 //! `placed` and `removed`.
 //!
-//! Proved: `insert`, `remove` and `replace` make exactly the list that the keys call for, all stays
-//! where memory is wanting, the sides of each node differ by one level at most, each summary is that
-//! of the entries below, and no node is lost: what is in use is the tree's. A change goes down once
-//! and comes up to where a link stays; what lies above is not written. That is not proved: no clause
-//! counts writes.
+//! Proved: `insert`, `remove`, `replace` and `split` make exactly the list that the keys call for,
+//! all stays where memory is wanting, the sides of each node differ by one level at most, each
+//! summary is that of the entries below, and no node is lost: what is in use is the tree's. A
+//! change goes down once, by the numbers of nodes, and comes up to where a link stays; what lies
+//! above is not written. That is not proved: no clause counts writes.
 #![tactic(auto)]
 
 mod arena;
 mod avl;
+mod below;
 mod entry;
 mod link;
 mod tree;

@@ -2,13 +2,17 @@ ghost use Rattle.std.specs.Prelude.{◌≡◌, ◌+◌, ◌^◌, ◌<◌, ◌≤
 ghost use Rattle.av_arena.specs.Order.{without_key};
 ghost use Rattle.av_arena.specs.Tree.{DifferByAtMost, IsHeightAfter, HasKey, IsHeld, IsJoined, IsOpened, IsPlaceFor, IsPlaced, IsPopped, IsReplaced, IsRoot, IsSet, IsSpot, IsWithout, sum_of, height_of, tree_at, entries};
 ghost use Rattle.av_arena.specs.Arena.{stored};
+ghost use Rattle.av_arena.specs.Below.{IsSplit, IsSplitFor};
 
 use crate::arena::Arena;
+use crate::below::{
+    is_at, placed_below, removed_below, replaced_below, settled, split_below, taken,
+};
 use crate::entry::Entry;
 use crate::link::{Link, Stored};
 
 #[inline]
-fn height<S: Copy + Drop>(tree: Option<Link<S>>) -> u64
+pub fn height<S: Copy + Drop>(tree: Option<Link<S>>) -> u64
     ensures { result ≡ height_of tree }
 {
     match tree {
@@ -38,7 +42,7 @@ pub fn open<T: Entry>(arena: &Arena<T, T::Sum>, tree: Link<T::Sum>) -> Stored<T,
 
 /// Puts a node above its sides.
 #[inline]
-fn close<T: Entry>(
+pub fn close<T: Entry>(
     arena: &mut Arena<T, T::Sum>,
     number: u64,
     left: Option<Link<T::Sum>>,
@@ -154,7 +158,7 @@ fn lean_right<T: Entry>(
 
 /// A node, whose sides differ by two levels at most, is put above them.
 #[inline(never)]
-fn balance<T: Entry>(
+pub fn balance<T: Entry>(
     arena: &mut Arena<T, T::Sum>,
     number: u64,
     left: Option<Link<T::Sum>>,
@@ -182,7 +186,7 @@ fn balance<T: Entry>(
 
 /// Whether two links are the same.
 #[inline]
-fn is_same<T: Entry>(left: Option<Link<T::Sum>>, right: Option<Link<T::Sum>>) -> bool
+pub fn is_same<T: Entry>(left: Option<Link<T::Sum>>, right: Option<Link<T::Sum>>) -> bool
     ensures { result ≡ true → left ≡ right }
 {
     match (left, right) {
@@ -239,45 +243,6 @@ fn with_left<T: Entry>(
     }
 }
 
-/// The node of `tree` above another right side than its own, as `with_left`.
-#[inline(always)]
-fn with_right<T: Entry>(
-    arena: &mut Arena<T, T::Sum>,
-    tree: Link<T::Sum>,
-    left: Option<Link<T::Sum>>,
-    entry: T,
-    own: Option<Link<T::Sum>>,
-    right: Option<Link<T::Sum>>,
-) -> Link<T::Sum>
-    requires root { IsRoot T.key T.unit T.op T.of (stored arena.old) tree left entry own }
-    requires spot { IsSpot T.key T.unit T.op T.of (stored arena.old) tree.number left right }
-    requires level { DifferByAtMost 2 (height_of left) (height_of right) }
-    requires low { max (height_of left) (height_of right) < 2 ^ 62 }
-    ensures joined { IsJoined T.key T.unit T.op T.of (stored arena.old) (stored arena.new)
-        tree.number left entry right result }
-    ensures height { IsHeightAfter (height_of left) (height_of right) result.height }
-{
-    let node = arena.get(tree.number);
-    let Stored {
-        left: before,
-        entry: middle,
-        right: after,
-    } = node;
-    if is_same::<T>(after, right) {
-        return tree;
-    }
-    if height(after) != height(right) {
-        return balance(arena, tree.number, before, middle, right);
-    }
-    let total = T::joined(sum::<T>(before), &middle, sum::<T>(right));
-    arena.set_right(tree.number, right);
-    Link {
-        number: tree.number,
-        height: tree.height,
-        sum: total,
-    }
-}
-
 /// The tree with the node `number`, which is in use and not in it, for the entry.
 pub fn placed<T: Entry>(
     arena: &mut Arena<T, T::Sum>,
@@ -295,22 +260,14 @@ pub fn placed<T: Entry>(
     let Some(tree) = tree else {
         return close(arena, number, None, entry, None);
     };
-    let node = open(arena, tree);
-    let Stored {
-        left: before,
-        entry: middle,
-        right: after,
-    } = node;
-    if entry.is_before(&middle) {
-        let left = placed(arena, before, number, entry);
-        return with_left(arena, tree, before, Some(left), middle, after);
+    if !placed_below(arena, tree.number, number, &entry) {
+        return tree;
     }
-    let right = placed(arena, after, number, entry);
-    with_right(arena, tree, before, middle, after, Some(right))
+    settled(arena, tree.number)
 }
 
 /// The number and the entry of the first node, and a tree of the others.
-fn pop_first<T: Entry>(
+pub fn pop_first<T: Entry>(
     arena: &mut Arena<T, T::Sum>,
     tree: Link<T::Sum>,
 ) -> (u64, T, Option<Link<T::Sum>>)
@@ -350,28 +307,16 @@ pub fn removed<T: Entry>(
     ensures at_most_one_lower { height_of tree ≤ height_of result.1 + 1 }
 {
     let Some(tree) = tree else { unreachable!() };
-    let node = open(arena, tree);
-    let Stored {
-        left: before,
-        entry: middle,
-        right: after,
-    } = node;
-    if like.is_before(&middle) {
-        let (number, left) = removed(arena, before, like);
-        let whole = with_left(arena, tree, before, left, middle, after);
-        return (number, Some(whole));
+    if is_at(arena, tree.number, &like) {
+        let rest = taken(arena, tree.number, &like);
+        return (tree.number, rest);
     }
-    if middle.is_before(&like) {
-        let (number, right) = removed(arena, after, like);
-        let whole = with_right(arena, tree, before, middle, after, right);
-        return (number, Some(whole));
+    let (number, changed) = removed_below(arena, tree.number, &like);
+    if !changed {
+        return (number, Some(tree));
     }
-    let Some(right) = after else {
-        return (tree.number, before);
-    };
-    let (number, entry, rest) = pop_first(arena, right);
-    let whole = balance(arena, number, before, entry, rest);
-    (tree.number, Some(whole))
+    let whole = settled(arena, tree.number);
+    (number, Some(whole))
 }
 
 /// The tree with `entry` in the node of the one with its key.
@@ -387,19 +332,29 @@ pub fn replaced<T: Entry>(
     ensures height { result.height ≡ height_of tree }
 {
     let Some(tree) = tree else { unreachable!() };
-    let node = open(arena, tree);
-    let Stored {
-        left: before,
-        entry: middle,
-        right: after,
-    } = node;
-    if entry.is_before(&middle) {
-        let left = replaced(arena, before, entry);
-        return with_left(arena, tree, before, Some(left), middle, after);
+    if !replaced_below(arena, tree.number, &entry) {
+        return tree;
     }
-    if middle.is_before(&entry) {
-        let right = replaced(arena, after, entry);
-        return with_right(arena, tree, before, middle, after, Some(right));
+    settled(arena, tree.number)
+}
+
+/// The tree with `lower` in the node of the one with its key, and with the node `new`, which is in
+/// use and not in it, for `upper`, which comes right after `lower`.
+pub fn split<T: Entry>(
+    arena: &mut Arena<T, T::Sum>,
+    tree: Option<Link<T::Sum>>,
+    new: u64,
+    lower: T,
+    upper: T,
+) -> Link<T::Sum>
+    requires split { IsSplitFor T.key T.unit T.op T.of (stored arena.old) tree new lower upper }
+    requires low { height_of tree < 2 ^ 61 }
+    ensures { IsSplit T.key T.unit T.op T.of (stored arena.old) (stored arena.new) tree new lower
+        upper result }
+{
+    let Some(tree) = tree else { unreachable!() };
+    if !split_below(arena, tree.number, new, &lower, &upper) {
+        return tree;
     }
-    close(arena, tree.number, before, entry, after)
+    settled(arena, tree.number)
 }

@@ -326,7 +326,7 @@ at_without n (b ∷ xs) p s d =
       ]
     ] refl
 
-all_found : (P : Span → Type 0) (n : ℕ) (xs : List Span) (a : Span) → AllOf P xs → span_of xs n ≡ Some a → P a
+pub all_found : (P : Span → Type 0) (n : ℕ) (xs : List Span) (a : Span) → AllOf P xs → span_of xs n ≡ Some a → P a
 all_found P n [] a all found = cc
 all_found P n (b ∷ xs) a all found =
     elim (eqb n b.area) as (λ v. cond v (Some b) (span_of xs n) ≡ Some a → P a) [
@@ -371,7 +371,7 @@ removed_found : (n first : ℕ) (found : Option Span) (xs : List Span) → AreSp
 removed_found n first None xs good is there = absurd there
 removed_found n first (Some a) xs good is there = subst (λ k. IsRemoved n xs (without_key start_of k xs)) there (removed_span n a xs good is)
 
-removed_here : (n first : ℕ) (xs : List Span) → AreSpans xs → IsSomeAnd (span_of xs n) (λ a. a.from ≡ first) → IsRemoved n xs (without_key start_of first xs)
+pub removed_here : (n first : ℕ) (xs : List Span) → AreSpans xs → IsSomeAnd (span_of xs n) (λ a. a.from ≡ first) → IsRemoved n xs (without_key start_of first xs)
 removed_here n first xs good there = removed_found n first (span_of xs n) xs good refl there
 
 pub removed : (n first : ℕ) (d xs new : List Span) → d ≡ xs → AreSpans d → IsSomeAnd (span_of xs n) (λ a. a.from ≡ first) → new ≡ without_key start_of first d → IsRemoved n xs new
@@ -390,11 +390,11 @@ with_at_twice true x y z = refl
 with_at_twice false x y z = refl
 
 -- an area that is there begins with a page that a process may have
-low_there : (n first : ℕ) (found : Option Span) (xs : List Span) → AreSpans xs → span_of xs n ≡ found → IsSomeAnd found (λ a. a.from ≡ first) → low_page ≤ first
+pub low_there : (n first : ℕ) (found : Option Span) (xs : List Span) → AreSpans xs → span_of xs n ≡ found → IsSomeAnd found (λ a. a.from ≡ first) → low_page ≤ first
 low_there n first None xs good is there = absurd there
 low_there n first (Some a) xs good is there = subst (λ k. low_page ≤ k) there (all_found (λ b. (low_page ≤ b.from) × (b.to ≤ top_page)) n xs a good.within is).0
 
-ended_here : (s : Span) (xs : List Span) → AreSpans xs → IsSomeAnd (span_of xs s.area) (λ a. a.from ≡ s.from) → s.from < s.to → s.to ≤ top_page → IsFree (taken (without_area s.area xs)) s.from s.to → IsEnded s xs (with_span s (without_key start_of s.from xs))
+pub ended_here : (s : Span) (xs : List Span) → AreSpans xs → IsSomeAnd (span_of xs s.area) (λ a. a.from ≡ s.from) → s.from < s.to → s.to ≤ top_page → IsFree (taken (without_area s.area xs)) s.from s.to → IsEnded s xs (with_span s (without_key start_of s.from xs))
 ended_here s xs good there some high free =
     let left = removed_here s.area s.from xs good there in
     let new = without_key start_of s.from xs in

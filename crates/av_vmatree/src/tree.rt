@@ -102,6 +102,32 @@ impl Tree {
         self.spans.replace(Span { from, to, area });
     }
 
+    /// Gives an area that is there the span `lower`, a part of its own that begins with it, and puts
+    /// in the span `upper` of an area new to the process, a later part that ends with it. It goes
+    /// down once, where `set_end` and `insert` would each change every summary up to the root.
+    ///
+    /// Without memory all stays.
+    pub fn split(&mut self, lower: Span, upper: Span) -> Result<(), AllocError>
+        requires there { IsSomeAnd (span_of self.old lower.area)
+            (λ s. (s.from ≡ lower.from) × (s.to ≡ upper.to)) }
+        requires some { lower.from < lower.to }
+        requires apart { lower.to ≤ upper.from }
+        requires more { upper.from < upper.to }
+        requires other { span_of self.old upper.area ≡ None }
+        ensures spans { self.new ≡ (if is_ok result then with_span upper
+            (with_span lower (without_area lower.area self.old)) else self.old) }
+        ensures areas { OnOk result
+            ((number : ℕ) → span_of self.new number ≡ with_at upper.area (Some upper)
+            (with_at lower.area (Some lower) (span_of self.old)) number) }
+        ensures pages { OnOk result
+            ((page : ℕ) → area_at self.new
+            page ≡ (if holds upper page then Some upper.area else if holds lower page then Some
+            lower.area else unless_area lower.area (area_at self.old page))) }
+        ensures kept { AreSpans self.new }
+    {
+        self.spans.split(lower, upper)
+    }
+
     /// The area that holds the page.
     pub fn find(&self, page: u64) -> Option<AreaId>
         ensures area { result ≡ area_at self.now page }
