@@ -183,47 +183,26 @@ crossed p n from to areas spans area stands inside used = each (span_of spans n)
         record { span = s; there = e; is = is; low = omega arith; high = omega arith }
 
 module _ (p n from to : ℕ) (areas : ℕ → Option Area) (spans : List Span) (area : Area) (stands : AreAreasOf p areas spans) (used : areas n ≡ Some area) (forward : from ≤ to) (c : IsCrossed p n from to spans area) where
-  pub lower_from : IsSomeAnd (span_of spans n) (λ s. s.from ≡ first_of (lower_of from area))
-  lower_from = subst (λ o. IsSomeAnd o (λ s. s.from ≡ first_of (lower_of from area))) (sym c.there) c.is.from
-
-  pub lower_free : IsFree (taken (without_area n spans)) (first_of (lower_of from area)) (past_of (lower_of from area))
-  lower_free page low high =
-      let first = c.is.from in
-      let last = c.is.to in
-      let middle = page_of from in
-      let inside = c.high in
-      rest_free spans n c.span stands.spans_are c.there page (omega arith) (omega arith)
+  pub parts_ends : IsSomeAnd (span_of spans n) (λ s. (s.from ≡ first_of (lower_of from area)) × (s.to ≡ past_of (upper_of to area)))
+  parts_ends = subst (λ o. IsSomeAnd o (λ s. (s.from ≡ first_of (lower_of from area)) × (s.to ≡ past_of (upper_of to area)))) (sym c.there) (c.is.from, c.is.to)
 
   rest_is : (page : ℕ) → pages_by (with_at n None areas) spans page ≡ without area (pages_by areas spans) page
   rest_is page = pages_without p n c.span areas spans stands c.there page ∙ ap (λ b. cond b None (pages_by areas spans page)) (holds_is p c.span area page c.is)
 
-  -- the lower part has been put
-  module _ (areas' : ℕ → Option Area) (spans' : List Span) (stands' : AreAreasOf area.pid areas' spans') (pages' : (page : ℕ) → pages_by areas' spans' page ≡ placed (lower_of from area) (pages_by (with_at n None areas) spans) page) where
-    lower_is : (page : ℕ) → pages_by areas' spans' page ≡ placed (lower_of from area) (without area (pages_by areas spans)) page
-    lower_is page = pages' page ∙ ap (cond (has_page (lower_of from area) page) (Some (lower_of from area))) (rest_is page)
-
-    pub upper_free : IsFree (taken spans') (first_of (upper_of to area)) (past_of (upper_of to area))
-    upper_free page low high =
-        let middle = page_of from in
-        let above = page_of to in
-        let below = c.low in
-        let out : has_page (lower_of from area) page ≡ false = false_from_ne_true _ (λ has. let k : page < past_of (lower_of from area) = (has_parts (lower_of from area) page has).1 in omega arith) in
-        sym (taken_is area.pid areas' spans' page stands') ∙ ap is_some (lower_is page ∙ ap (λ b. cond b (Some (lower_of from area)) (without area (pages_by areas spans) page)) out ∙ ap (λ b. cond b None (pages_by areas spans page)) (has_from area page (omega arith) high))
-
-    pub split_pages : (areas'' : ℕ → Option Area) (spans'' : List Span) → ((page : ℕ) → pages_by areas'' spans'' page ≡ placed (upper_of to area) (pages_by areas' spans') page) → (page : ℕ) → pages_by areas'' spans'' page ≡ unmapped from to (pages_by areas spans) page
-    split_pages areas'' spans'' pages'' page =
-        pages'' page
-        ∙ ap (cond (has_page (upper_of to area) page) (Some (upper_of to area))) (lower_is page)
-        ∙ cut_through (pages_by areas spans) from to area (laid_of p areas spans stands) (on_span p areas spans n c.span area from stands c.there used (let e = c.is.from in let low = c.low in omega arith) (let e = c.is.to in let high = c.high in omega arith)) c.low forward c.high page
+  -- the two parts have been put
+  pub split_pages : (areas' : ℕ → Option Area) (spans' : List Span) → ((page : ℕ) → pages_by areas' spans' page ≡ placed (upper_of to area) (placed (lower_of from area) (pages_by (with_at n None areas) spans)) page) → (page : ℕ) → pages_by areas' spans' page ≡ unmapped from to (pages_by areas spans) page
+  split_pages areas' spans' pages' page =
+      pages' page
+      ∙ ap (λ o. cond (has_page (upper_of to area) page) (Some (upper_of to area)) (cond (has_page (lower_of from area) page) (Some (lower_of from area)) o)) (rest_is page)
+      ∙ cut_through (pages_by areas spans) from to area (laid_of p areas spans stands) (on_span p areas spans n c.span area from stands c.there used (let e = c.is.from in let low = c.low in omega arith) (let e = c.is.to in let high = c.high in omega arith)) c.low forward c.high page
 
   -- the numbers of what is left: the upper part's, and that of the area
-  module _ (spans' spans'' : List Span) (number : ℕ)
-      (numbers' : (page : ℕ) → area_at spans' page ≡ cond (has_page (lower_of from area) page) (Some n) (unless_area n (area_at spans page)))
-      (numbers'' : (page : ℕ) → area_at spans'' page ≡ cond (has_page (upper_of to area) page) (Some number) (area_at spans' page)) where
-    pub upper_number : area_at spans'' to ≡ Some number
-    upper_number = numbers'' to ∙ ap (λ b. cond b (Some number) (area_at spans' to)) (has_from (upper_of to area) to (let e = page_of to in omega arith) c.high)
+  module _ (spans' : List Span) (number : ℕ)
+      (numbers' : (page : ℕ) → area_at spans' page ≡ cond (has_page (upper_of to area) page) (Some number) (cond (has_page (lower_of from area) page) (Some n) (unless_area n (area_at spans page)))) where
+    pub upper_number : area_at spans' to ≡ Some number
+    upper_number = numbers' to ∙ ap (λ b. cond b (Some number) (cond (has_page (lower_of from area) to) (Some n) (unless_area n (area_at spans to)))) (has_from (upper_of to area) to (let e = page_of to in omega arith) c.high)
 
-    pub lower_number : (page : ℕ) → page < from → area_at spans page ≡ Some n → area_at spans'' page ≡ Some n
+    pub lower_number : (page : ℕ) → page < from → area_at spans page ≡ Some n → area_at spans' page ≡ Some n
     lower_number page below at =
         let t = span_at spans page n stands.spans_are.distinct at in
         let same : t.span ≡ c.span = same_Some t.span c.span (sym t.span_is ∙ c.there) in
@@ -232,9 +211,8 @@ module _ (p n from to : ℕ) (areas : ℕ → Option Area) (spans : List Span) (
         let middle = page_of from in
         let above = page_of to in
         let out : has_page (upper_of to area) page ≡ false = false_from_ne_true _ (λ has. let k : first_of (upper_of to area) ≤ page = (has_parts (upper_of to area) page has).0 in omega arith) in
-        numbers'' page
-        ∙ ap (λ b. cond b (Some number) (area_at spans' page)) out
-        ∙ numbers' page
+        numbers' page
+        ∙ ap (λ b. cond b (Some number) (cond (has_page (lower_of from area) page) (Some n) (unless_area n (area_at spans page)))) out
         ∙ ap (λ b. cond b (Some n) (unless_area n (area_at spans page))) (has_from (lower_of from area) page (omega arith) (omega arith))
 
 -- ---- no area crosses

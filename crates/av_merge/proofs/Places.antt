@@ -246,6 +246,54 @@ module _ (p n : ℕ) (s : Span) (area : Area) (areas areas' : ℕ → Option Are
           let i = area_in p areas spans k t.span stands t.span_is in
           now k ∙ other_at n k (Some area) areas (differ areas n k i.area unused i.area_is)
 
+-- ---- an area's two parts are put in its place, the upper one under a new number
+
+module _ (p n m : ℕ) (s t : Span) (lower upper : Area) (areas areas' : ℕ → Option Area) (spans spans' : List Span)
+    (stands : AreAreasOf p areas spans) (there : IsSomeAnd (span_of spans n) (λ u. (u.from ≡ first_of lower) × (u.to ≡ past_of upper))) (unused : areas m ≡ None)
+    (is_lower : IsAreaOf p s lower) (is_upper : IsAreaOf p t upper)
+    (now : (k : ℕ) → areas' k ≡ with_at n (Some lower) (with_at m (Some upper) areas) k)
+    (kept : AreSpans spans') (spans_now : (k : ℕ) → span_of spans' k ≡ with_at m (Some t) (with_at n (Some s) (span_of spans)) k)
+    (pages_now : (page : ℕ) → area_at spans' page ≡ cond (holds t page) (Some m) (cond (holds s page) (Some n) (unless_area n (area_at spans page)))) where
+  -- the number that is in use is not the new one
+  apart : m ≢ n
+  apart same = each (span_of spans n) there (stands.used n)
+    where
+      each : (o : Option Span) → IsSomeAnd o (λ u. (u.from ≡ first_of lower) × (u.to ≡ past_of upper)) → IfSome o (λ u. IsSomeAnd (areas n) (IsAreaOf p u)) → ⊥
+      each None some used = absurd some
+      each (Some u) some used = subst (λ o. IsSomeAnd o (IsAreaOf p u)) (ap areas (sym same) ∙ unused) used
+
+  pub apart_stands : AreAreasOf p areas' spans'
+  apart_stands = grind (arith, common_steps)
+
+  pub apart_others : KeepsOthers p areas areas'
+  apart_others = grind (arith, common_steps)
+
+  pub apart_pages : (page : ℕ) → pages_by areas' spans' page ≡ placed upper (placed lower (pages_by (with_at n None areas) spans)) page
+  apart_pages page =
+      ap (option_and_then areas') (pages_now page
+        ∙ ap (λ b. cond b (Some m) (cond (holds s page) (Some n) (unless_area n (area_at spans page)))) (holds_is p t upper page is_upper)
+        ∙ ap (λ b. cond (has_page upper page) (Some m) (cond b (Some n) (unless_area n (area_at spans page)))) (holds_is p s lower page is_lower))
+      ∙ elim (has_page upper page) as (λ b. option_and_then areas' (cond b (Some m) (cond (has_page lower page) (Some n) (unless_area n (area_at spans page)))) ≡ cond b (Some upper) (placed lower (pages_by (with_at n None areas) spans) page)) [
+        | true ↦ now m ∙ other_at n m (Some lower) (with_at m (Some upper) areas) apart ∙ self m (Some upper) areas
+        | false ↦ elim (has_page lower page) as (λ b. option_and_then areas' (cond b (Some n) (unless_area n (area_at spans page))) ≡ cond b (Some lower) (pages_by (with_at n None areas) spans page)) [
+          | true ↦ now n ∙ self n (Some lower) (with_at m (Some upper) areas)
+          | false ↦ each (area_at spans page) refl
+        ]
+      ]
+    where
+      each : (o : Option ℕ) → area_at spans page ≡ o → option_and_then areas' (unless_area n o) ≡ option_and_then (with_at n None areas) o
+      each None at = refl
+      each (Some k) at =
+          let u = span_at spans page k stands.spans_are.distinct at in
+          let i = area_in p areas spans k u.span stands u.span_is in
+          elim (k == n) as (λ b. (k == n) ≡ b → option_and_then areas' (cond b None (Some k)) ≡ cond b None (areas k)) [
+            | true ↦ λ _. refl
+            | false ↦ λ h.
+                now k
+                ∙ ap (λ b. cond b (Some lower) (with_at m (Some upper) areas k)) h
+                ∙ other_at m k (Some upper) areas (differ areas m k i.area unused i.area_is)
+          ] refl
+
 -- ---- an area is taken out
 
 module _ (p n : ℕ) (s : Span) (areas areas' : ℕ → Option Area) (spans spans' : List Span)

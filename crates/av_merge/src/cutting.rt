@@ -8,7 +8,7 @@ ghost use Rattle.av_merge.specs.Pages.{pages_by};
 ghost use Rattle.av_vma.specs.Pages.{cut_at, emptied, unmapped};
 ghost use Rattle.av_merge.specs.Process.{AreAreasOf, NoneCrosses, Stays, AreOfOne, StayOfOne, Becomes};
 
-use crate::placing::{add, replace};
+use crate::placing::{add, put_apart};
 use av_base::{LOW_PAGE, PAGE_SIZE, TOP_PAGE};
 use av_vma::{Area, AreaId, Areas, index};
 use av_vmatree::{Span, Tree};
@@ -74,8 +74,7 @@ fn cut_within(
         pgoff: index(&whole, to),
         ..whole
     };
-    replace(areas, tree, area, lower);
-    add(areas, tree, upper)
+    put_apart(areas, tree, area, lower, upper)
 }
 
 /// Cuts before the page `at`, where one area lies on both sides.

@@ -1,17 +1,17 @@
 //! One area is put, or another is put in its place.
 
-ghost use Rattle.std.specs.Prelude.{◌≡◌, ℕ, Some, None, IsSomeAnd, OnOk, IfOk, if◌then◌else◌};
+ghost use Rattle.std.specs.Prelude.{◌≡◌, ℕ, ◌≤◌, Some, None, IsSomeAnd, OnOk, IfOk, if◌then◌else◌};
 ghost use Rattle.av_vma.specs.Areas.{area_of};
 ghost use Rattle.av_vma.specs.Join.{first_of, past_of};
 ghost use Rattle.av_base.specs.Words.{with_at};
-ghost use Rattle.av_vmatree.specs.Spans.{IsFree, area_at, span_of, taken, unless_area, without_area};
+ghost use Rattle.av_vmatree.specs.Spans.{IsFree, area_at, span, span_of, taken, unless_area, without_area};
 ghost use Rattle.av_merge.specs.Pages.{pages_by};
 ghost use Rattle.av_vma.specs.Pages.{has_page, placed, IsWhole};
 ghost use Rattle.av_merge.specs.Process.{AreAreasOf, Stays, AreOfOne, StayOfOne, Becomes};
 
 use av_base::PAGE_SIZE;
 use av_vma::{Area, AreaId, Areas};
-use av_vmatree::Tree;
+use av_vmatree::{Span, Tree};
 use std::alloc::AllocError;
 
 /// Puts a new area of a process on pages that are free, and answers its number.
@@ -50,4 +50,54 @@ pub fn replace(areas: &mut Areas, tree: &mut Tree, number: AreaId, area: Area)
 {
     tree.set_end(number, area.start / PAGE_SIZE, area.end / PAGE_SIZE);
     areas.change(number, area);
+}
+
+/// Puts the two parts that a cut leaves of an area in its place, and answers the number of the
+/// upper one. The lower one keeps its own.
+///
+/// The tree is gone down once for both.
+pub fn put_apart(
+    areas: &mut Areas,
+    tree: &mut Tree,
+    number: AreaId,
+    lower: Area,
+    upper: Area,
+) -> Result<AreaId, AllocError>
+    requires stands { AreAreasOf lower.pid (area_of areas.old) tree.old }
+    requires same_process { upper.pid ≡ lower.pid }
+    requires there { IsSomeAnd (span_of tree.old number)
+        (λ s. (s.from ≡ first_of lower) × (s.to ≡ past_of upper)) }
+    requires whole_lower { IsWhole lower }
+    requires whole_upper { IsWhole upper }
+    requires apart { past_of lower ≤ first_of upper }
+    ensures stands { Stays lower.pid (area_of areas.old) (area_of areas.new) tree.new }
+    ensures pages { OnOk result ((page : ℕ) → pages_by (area_of areas.new) tree.new page
+        ≡ placed upper (placed lower (pages_by (with_at number None (area_of areas.old)) tree.old))
+        page) }
+    ensures number { IfOk result (λ above. (page : ℕ) → area_at tree.new page
+        ≡ (if has_page upper page then Some above else if has_page lower page then Some number
+        else unless_area number (area_at tree.old page))) }
+{
+    let above = areas.add(upper)?;
+    match tree.split(place_of(number, lower), place_of(above, upper)) {
+        Ok(()) => {
+            areas.change(number, lower);
+            Ok(above)
+        }
+        Err(error) => {
+            areas.remove(above);
+            Err(error)
+        }
+    }
+}
+
+/// The span of an area's pages.
+fn place_of(number: AreaId, area: Area) -> Span
+    ensures { result ≡ span number (first_of area) (past_of area) }
+{
+    Span {
+        from: area.start / PAGE_SIZE,
+        to: area.end / PAGE_SIZE,
+        area: number,
+    }
 }

@@ -6,6 +6,7 @@ use Rattle.std.proofs.lemmas.Option.{none-some, same_Some}
 use Rattle.av_arena.specs.Order.{AllOf}
 use Rattle.av_vmatree.specs.declared.span.Span.{Span}
 use Rattle.av_vmatree.specs.Spans.{AreApart, AreDistinct, first_from, last_below, span_of}
+use Rattle.av_vmatree.proofs.Spans.{all_found}
 
 -- a span of the rest is that of another area than the first
 later_span : (b : Span) (xs : List Span) (n : ℕ) (s : Span) → AreDistinct (b ∷ xs) → span_of xs n ≡ Some s → span_of (b ∷ xs) n ≡ Some s
@@ -49,10 +50,6 @@ in_row P s spans k t e first later = elim (eqb k s.area) as (λ b. cond b (Some 
   | true ↦ λ e. first (same_Some s t e)
   | false ↦ λ e. later e
 ] e
-
-pub all_found : (P : Span → Type 0) (n : ℕ) (xs : List Span) (a : Span) → AllOf P xs → span_of xs n ≡ Some a → P a
-all_found P n [] a all e = absurd (none-some a e)
-all_found P n (b ∷ xs) a all e = in_row (P a) b xs n a e (λ same. subst P same all.0) (λ later. all_found P n xs a all.1 later)
 
 -- no span is empty
 pub all_wide : (xs : List Span) → AreApart xs → AllOf (λ t. t.from < t.to) xs

@@ -1,40 +1,22 @@
 use Rattle.std.proofs.Common.{◌≡◌, ℕ, Ok, Err, Result, IfOk, OnOk, sym, ap, subst}
 use Rattle.std.proofs.lemmas.Result.{on_ok_weaker, IfOk-weaker}
+use Rattle.std.specs.Prelude.{None}
+use Rattle.av_base.specs.Words.{with_at}
 use Rattle.av_vma.specs.declared.area.Area.{Area}
 use Rattle.av_vma.specs.Areas.{area_of}
 use Rattle.av_merge.specs.Pages.{pages_by}
 use Rattle.av_vma.specs.Pages.{placed}
-use Rattle.av_merge.proofs.Cuts.{crossed, lower_free, lower_from, lower_number, split_pages, upper_free, upper_number, upper_of}
+use Rattle.av_merge.proofs.Cuts.{crossed, lower_number, lower_of, parts_ends, split_pages, upper_number, upper_of}
 use Rattle.av_merge.proofs.cutting.cut_within.Goals as goal
 
-pub replace-requires-clause-there : goal.replace-requires-clause-there
-replace-requires-clause-there c =
+pub put_apart-requires-clause-there : goal.put_apart-requires-clause-there
+put_apart-requires-clause-there c =
     let p = c.requires.stands.0 in
     let stands = c.requires.stands.1 in
     let areas = area_of c.args.areas.now in
     let spans = c.args.tree.now in
     let area = c.get-whole.result in
-    lower_from p c.args.area c.args.from c.args.to areas spans area stands c.get-whole.ensures c.requires.forward (crossed p c.args.area c.args.from c.args.to areas spans area stands c.requires.inside c.get-whole.ensures)
-
-pub replace-requires-clause-free : goal.replace-requires-clause-free
-replace-requires-clause-free c =
-    let p = c.requires.stands.0 in
-    let stands = c.requires.stands.1 in
-    let areas = area_of c.args.areas.now in
-    let spans = c.args.tree.now in
-    let area = c.get-whole.result in
-    lower_free p c.args.area c.args.from c.args.to areas spans area stands c.get-whole.ensures c.requires.forward (crossed p c.args.area c.args.from c.args.to areas spans area stands c.requires.inside c.get-whole.ensures)
-
-pub add-requires-clause-free : goal.add-requires-clause-free
-add-requires-clause-free c =
-    let p = c.requires.stands.0 in
-    let stands = c.requires.stands.1 in
-    let areas = area_of c.args.areas.now in
-    let spans = c.args.tree.now in
-    let area = c.get-whole.result in
-    let x = crossed p c.args.area c.args.from c.args.to areas spans area stands c.requires.inside c.get-whole.ensures in
-    let after = c.replace.ensures in
-    upper_free p c.args.area c.args.from c.args.to areas spans area stands c.get-whole.ensures c.requires.forward x (area_of c.replace.new.areas) c.replace.new.tree after.stands.areas after.pages
+    parts_ends p c.args.area c.args.from c.args.to areas spans area stands c.get-whole.ensures c.requires.forward (crossed p c.args.area c.args.from c.args.to areas spans area stands c.requires.inside c.get-whole.ensures)
 
 pub returns-clause-pages : goal.returns-clause-pages
 returns-clause-pages c =
@@ -44,12 +26,11 @@ returns-clause-pages c =
     let spans = c.args.tree.now in
     let area = c.get-whole.result in
     let x = crossed p c.args.area c.args.from c.args.to areas spans area stands c.requires.inside c.get-whole.ensures in
-    let after = c.replace.ensures in
     let upper : upper_of c.args.to area ≡ record (upper_of c.args.to area) { pgoff = c.index.result } = ap (λ (n : ℕ). record (upper_of c.args.to area) { pgoff = n }) (sym c.index.ensures) in
-    on_ok_weaker c.add.result
-    (λ pages''. split_pages p c.args.area c.args.from c.args.to areas spans area stands c.get-whole.ensures c.requires.forward x (area_of c.replace.new.areas) c.replace.new.tree after.stands.areas after.pages (area_of c.add.new.areas) c.add.new.tree
-    (subst (λ (a : Area). (page : ℕ) → pages_by (area_of c.add.new.areas) c.add.new.tree page ≡ placed a (pages_by (area_of c.replace.new.areas) c.replace.new.tree) page) (sym upper) pages''))
-    c.add.ensures.pages
+    on_ok_weaker c.put_apart.result
+    (λ pages'. split_pages p c.args.area c.args.from c.args.to areas spans area stands c.get-whole.ensures c.requires.forward x (area_of c.put_apart.new.areas) c.put_apart.new.tree
+    (subst (λ (a : Area). (page : ℕ) → pages_by (area_of c.put_apart.new.areas) c.put_apart.new.tree page ≡ placed a (placed (lower_of c.args.from area) (pages_by (with_at c.args.area None areas) spans)) page) (sym upper) pages'))
+    c.put_apart.ensures.pages
 
 from_ok : {T E : Type 0} (r : Result T E) (P : T → Type 0) (Q : Type 0) → ((x : T) → P x → Q) → IfOk r P → OnOk r Q
 from_ok (Ok x) P Q f h = f x h
@@ -63,9 +44,9 @@ returns-clause-upper c =
     let spans = c.args.tree.now in
     let area = c.get-whole.result in
     let x = crossed p c.args.area c.args.from c.args.to areas spans area stands c.requires.inside c.get-whole.ensures in
-    IfOk-weaker c.add.result _ _
-    (λ number numbers''. upper_number p c.args.area c.args.from c.args.to areas spans area stands c.get-whole.ensures c.requires.forward x c.replace.new.tree c.add.new.tree number c.replace.ensures.number numbers'')
-    c.add.ensures.number
+    IfOk-weaker c.put_apart.result _ _
+    (λ number numbers'. upper_number p c.args.area c.args.from c.args.to areas spans area stands c.get-whole.ensures c.requires.forward x c.put_apart.new.tree number numbers')
+    c.put_apart.ensures.number
 
 pub returns-clause-lower : goal.returns-clause-lower
 returns-clause-lower c =
@@ -75,6 +56,6 @@ returns-clause-lower c =
     let spans = c.args.tree.now in
     let area = c.get-whole.result in
     let x = crossed p c.args.area c.args.from c.args.to areas spans area stands c.requires.inside c.get-whole.ensures in
-    from_ok c.add.result _ _
-    (λ number numbers''. lower_number p c.args.area c.args.from c.args.to areas spans area stands c.get-whole.ensures c.requires.forward x c.replace.new.tree c.add.new.tree number c.replace.ensures.number numbers'')
-    c.add.ensures.number
+    from_ok c.put_apart.result _ _
+    (λ number numbers'. lower_number p c.args.area c.args.from c.args.to areas spans area stands c.get-whole.ensures c.requires.forward x c.put_apart.new.tree number numbers')
+    c.put_apart.ensures.number
