@@ -1,5 +1,5 @@
 -- A cut, over pages alone: what it leaves, and where it changes nothing.
-use Rattle.std.proofs.Common.{◌≡◌, ℕ, ◌+◌, ◌-◌, ◌*◌, ◌/◌, ◌<◌, ◌≤◌, max, min, nat_lt, true, false, cond, if◌then◌else◌, List, inl, inr, Option, Some, None, is_some, option_map, IfSome, IsSomeAnd, refl, sym, ap, subst, ◌∙◌, arith}
+use Rattle.std.proofs.Common.{◌≡◌, ℕ, ◌+◌, ◌-◌, ◌*◌, ◌/◌, ◌<◌, ◌≤◌, max, min, nat_lt, true, false, cond, if◌then◌else◌, List, inl, inr, Option, Some, None, option_map, IfSome, IsSomeAnd, refl, sym, ap, subst, ◌∙◌, arith}
 use Rattle.std.specs.Prelude.{option_and_then}
 use Rattle.std.proofs.lemmas.Option.{same_Some}
 use Rattle.std.proofs.lemmas.Bool.{both_ways, false_from_ne_true, ltb-true, ltb-false, cases_lt, lt-ltb, le-ltb}
@@ -7,12 +7,12 @@ use Rattle.av_vma.specs.declared.area.Area.{Area}
 use Rattle.av_vma.specs.Join.{first_of, index_of, past_of}
 use Rattle.av_base.specs.Words.{within, with_at}
 use Rattle.av_vmatree.specs.declared.span.Span.{Span}
-use Rattle.av_vmatree.specs.Spans.{AreApart, IsFree, area_at, last_below, span_of, taken, unless_area, without_area}
+use Rattle.av_vmatree.specs.Spans.{AreApart, area_at, last_below, span_of, unless_area}
 use Rattle.av_vmatree.proofs.Sides.{below_must}
 use Rattle.av_vma.specs.Pages.{AreLaid, Pages, cut_at, has_page, part_of, placed, unmapped, IsWhole}
 use Rattle.av_merge.specs.Pages.{pages_by}
 use Rattle.av_merge.specs.Process.{AreAreasOf, IsAreaOf, NoneCrosses}
-use Rattle.av_merge.proofs.Places.{area_in, has_from, has_parts, holds_is, holds_parts, is_on, on_span, pages_without, rest_free, span_at, taken_is, within_from, within_parts}
+use Rattle.av_merge.proofs.Places.{area_in, has_from, has_parts, holds_is, holds_parts, is_on, on_span, pages_without, span_at, within_from, within_parts}
 use Rattle.av_merge.proofs.Mappings.{laid_cut, laid_of}
 
 least : (a b : ℕ) → a ≤ b → min a b ≡ a
@@ -335,73 +335,3 @@ goes_to p n from past on areas spans stands some at is far = each (on from) refl
         let first = x.is.from in
         let last = x.is.to in
         subst (λ o. IsSomeAnd o (λ s. (s.from < past) × (past ≤ s.to))) (sym (ap (span_of spans) (sym same) ∙ x.span_is)) (omega arith, omega arith)
-
--- ---- an area is made three
-
--- the part of an area between two pages
-abbrev pub middle_of : ℕ → ℕ → Area → Area
-middle_of from past area =
-    record area { start = 4096 * from; end = 4096 * past; pgoff = index_of area from }
-
-module _ (p n from past : ℕ) (areas : ℕ → Option Area) (spans : List Span) (area : Area) (stands : AreAreasOf p areas spans) (used : areas n ≡ Some area) (some : from < past) (c : IsCrossed p n from past spans area) where
-  pub middle_whole : IsWhole (middle_of from past area)
-  middle_whole =
-      let w = c.is.whole in
-      let below = c.low in
-      let above = c.high in
-      record { start = omega arith; end = omega arith; some = omega arith; low = omega arith; high = omega arith; small = omega arith }
-
-  middle_has : (page : ℕ) → has_page (middle_of from past area) page ≡ within from (past - from) page
-  middle_has page = λ i. within (page_of from i) (page_of past i - page_of from i) page
-
-  -- the pages between have gone
-  module _ (areas' : ℕ → Option Area) (spans' : List Span) (stands' : AreAreasOf p areas' spans') (pages' : (page : ℕ) → pages_by areas' spans' page ≡ unmapped from past (pages_by areas spans) page) where
-    pub middle_stands : AreAreasOf area.pid areas' spans'
-    middle_stands = subst (λ q. AreAreasOf q areas' spans') (sym c.is.process) stands'
-
-    pub middle_free : IsFree (taken spans') (first_of (middle_of from past area)) (past_of (middle_of from past area))
-    middle_free page low high =
-        let first = page_of from in
-        let last = page_of past in
-        sym (taken_is p areas' spans' page stands') ∙ ap is_some (pages' page ∙ ap (λ b. cond b None (cut_at past (cut_at from (pages_by areas spans)) page)) (within_from from (past - from) page (omega arith) (omega arith)))
-
-    pub middle_pages : (areas'' : ℕ → Option Area) (spans'' : List Span) → ((page : ℕ) → pages_by areas'' spans'' page ≡ placed (middle_of from past area) (pages_by areas' spans') page) → (page : ℕ) → pages_by areas'' spans'' page ≡ cut_at past (cut_at from (pages_by areas spans)) page
-    middle_pages areas'' spans'' pages'' page =
-        pages'' page
-        ∙ ap (λ b. cond b (Some (middle_of from past area)) (pages_by areas' spans' page)) (middle_has page)
-        ∙ elim (within from (past - from) page) as (λ b. within from (past - from) page ≡ b → cond b (Some (middle_of from past area)) (pages_by areas' spans' page) ≡ cut_at past (cut_at from (pages_by areas spans)) page) [
-          | true ↦ λ h.
-              let k = within_parts from (past - from) page h in
-              sym (ap (λ o. option_map (part_of past page) (option_map (part_of from page) o)) (here page k.0 (let last = k.1 in omega arith)) ∙ ap Some (part page k.0 (let last = k.1 in omega arith)))
-          | false ↦ λ h. pages' page ∙ ap (λ b. cond b None (cut_at past (cut_at from (pages_by areas spans)) page)) h
-        ] refl
-      where
-        here : (page : ℕ) → from ≤ page → page < past → pages_by areas spans page ≡ Some area
-        here page low high =
-            let first = c.is.from in
-            let last = c.is.to in
-            let below = c.low in
-            let above = c.high in
-            on_span p areas spans n c.span area page stands c.there used (omega arith) (omega arith)
-
-        part : (page : ℕ) → from ≤ page → page < past → part_of past page (part_of from page area) ≡ middle_of from past area
-        part page low high =
-            let w = c.is.whole in
-            let start = w.start in
-            let end = w.end in
-            let below = c.low in
-            let above = c.high in
-            let first : max area.start (4096 * from) ≡ 4096 * from = omega arith in
-            let last : min area.end (4096 * past) ≡ 4096 * past = omega arith in
-            let offset : area.pgoff + (from - first_of area) ≡ index_of area from = omega arith in
-            rw (le-ltb page from low, lt-ltb page past high) (λ i. record area { start = first i; end = last i; pgoff = offset i })
-
-  pub middle_number : (spans' spans'' : List Span) (number : ℕ) → ((page : ℕ) → area_at spans'' page ≡ cond (has_page (middle_of from past area) page) (Some number) (area_at spans' page)) → area_at spans'' from ≡ Some number
-  middle_number spans' spans'' number numbers = numbers from ∙ ap (λ b. cond b (Some number) (area_at spans' from)) (middle_has from ∙ within_from from (past - from) from (omega arith) (omega arith))
-
--- an area that is found, and goes on past a range on both sides, is crossed by it
-pub found_crossed : (p n from past : ℕ) (areas : ℕ → Option Area) (spans : List Span) (area : Area) → IsFound p n from areas spans area → first_of area < from → past < past_of area → IsSomeAnd (span_of spans n) (λ s. (s.from < from) × (past < s.to))
-found_crossed p n from past areas spans area f below above =
-    let first = f.is.from in
-    let last = f.is.to in
-    subst (λ o. IsSomeAnd o (λ s. (s.from < from) × (past < s.to))) (sym f.span_is) (omega arith, omega arith)

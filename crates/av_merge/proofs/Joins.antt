@@ -8,7 +8,8 @@ use Rattle.av_vma.specs.Join.{first_of, past_of}
 use Rattle.av_base.specs.Words.{with_at}
 use Rattle.av_vmatree.specs.declared.span.Span.{Span}
 use Rattle.av_vmatree.specs.Spans.{AreSpans, IsFree, area_at, first_from, last_below, span_of, taken, unless_area, without_area}
-use Rattle.av_vmatree.proofs.Sides.{all_found, all_wide, below_is, below_must, from_is, from_must}
+use Rattle.av_vmatree.proofs.Sides.{all_wide, below_is, below_must, from_is, from_must}
+use Rattle.av_vmatree.proofs.Spans.{all_found}
 use Rattle.av_vma.specs.Pages.{Pages, has_page, join, joined_at, merged, placed, tried, IsWhole}
 use Rattle.av_merge.specs.Mapping.{DoDiffer, mapping, mapping_in}
 use Rattle.av_merge.specs.Pages.{pages_by}

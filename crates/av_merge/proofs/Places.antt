@@ -271,8 +271,8 @@ module _ (p n m : ℕ) (s t : Span) (lower upper : Area) (areas areas' : ℕ →
   pub apart_pages : (page : ℕ) → pages_by areas' spans' page ≡ placed upper (placed lower (pages_by (with_at n None areas) spans)) page
   apart_pages page =
       ap (option_and_then areas') (pages_now page
-        ∙ ap (λ b. cond b (Some m) (cond (holds s page) (Some n) (unless_area n (area_at spans page)))) (holds_is p t upper page is_upper)
-        ∙ ap (λ b. cond (has_page upper page) (Some m) (cond b (Some n) (unless_area n (area_at spans page)))) (holds_is p s lower page is_lower))
+      ∙ ap (λ b. cond b (Some m) (cond (holds s page) (Some n) (unless_area n (area_at spans page)))) (holds_is p t upper page is_upper)
+      ∙ ap (λ b. cond (has_page upper page) (Some m) (cond b (Some n) (unless_area n (area_at spans page)))) (holds_is p s lower page is_lower))
       ∙ elim (has_page upper page) as (λ b. option_and_then areas' (cond b (Some m) (cond (has_page lower page) (Some n) (unless_area n (area_at spans page)))) ≡ cond b (Some upper) (placed lower (pages_by (with_at n None areas) spans) page)) [
         | true ↦ now m ∙ other_at n m (Some lower) (with_at m (Some upper) areas) apart ∙ self m (Some upper) areas
         | false ↦ elim (has_page lower page) as (λ b. option_and_then areas' (cond b (Some n) (unless_area n (area_at spans page))) ≡ cond b (Some lower) (pages_by (with_at n None areas) spans page)) [

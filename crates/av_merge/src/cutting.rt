@@ -8,7 +8,7 @@ ghost use Rattle.av_merge.specs.Pages.{pages_by};
 ghost use Rattle.av_vma.specs.Pages.{cut_at, emptied, unmapped};
 ghost use Rattle.av_merge.specs.Process.{AreAreasOf, NoneCrosses, Stays, AreOfOne, StayOfOne, Becomes};
 
-use crate::placing::{add, put_apart};
+use crate::placing::put_apart;
 use av_base::{LOW_PAGE, PAGE_SIZE, TOP_PAGE};
 use av_vma::{Area, AreaId, Areas, index};
 use av_vmatree::{Span, Tree};
@@ -128,41 +128,9 @@ pub fn cut_out(
         (λ on. cut_at past (cut_at from on))) }
     ensures part { IfOk result (λ part. area_at tree.new from ≡ Some part) }
 {
-    let Area { start, end, .. } = areas.get(area);
-    if start / PAGE_SIZE < from && past < end / PAGE_SIZE {
-        return cut_apart(areas, tree, area, from, past);
-    }
     let part = split_from(areas, tree, area, from)?;
     split_to(areas, tree, part, past)?;
     Ok(part)
-}
-
-/// Makes three areas of one, which goes on past both ends of a range, and answers the number of the
-/// one in the middle. That is one change of the tree less than two splits are.
-fn cut_apart(
-    areas: &mut Areas,
-    tree: &mut Tree,
-    area: AreaId,
-    from: u64,
-    past: u64,
-) -> Result<AreaId, AllocError>
-    requires stands { AreOfOne areas.old tree.old }
-    requires some { from < past }
-    requires inside { IsSomeAnd (span_of tree.old area) (λ s. (s.from < from) × (past < s.to)) }
-    ensures stands { StayOfOne areas.old tree.old areas.new tree.new }
-    ensures pages { OnOk result (Becomes areas.old tree.old areas.new tree.new
-        (λ on. cut_at past (cut_at from on))) }
-    ensures part { IfOk result (λ part. area_at tree.new from ≡ Some part) }
-{
-    let whole = areas.get(area);
-    cut_within(areas, tree, area, from, past)?;
-    let middle = Area {
-        start: PAGE_SIZE * from,
-        end: PAGE_SIZE * past,
-        pgoff: index(&whole, from),
-        ..whole
-    };
-    add(areas, tree, middle)
 }
 
 /// Cuts an area before one of its pages, where it doesn't begin there, and answers the number of

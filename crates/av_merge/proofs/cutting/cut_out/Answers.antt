@@ -1,7 +1,6 @@
 use Rattle.av_vma.specs.Areas.{area_of}
 use Rattle.av_merge.specs.Pages.{pages_by}
-use Rattle.av_merge.proofs.Cuts.{found, found_crossed, goes_to}
-use Rattle.av_merge.proofs.Places.{used_at}
+use Rattle.av_merge.proofs.Cuts.{goes_to}
 use Rattle.av_merge.proofs.Places.{stays_trans}
 use Rattle.av_merge.proofs.cutting.cut_out.Goals as goal
 
@@ -24,14 +23,3 @@ pub returns-clause-stands : goal.returns-clause-stands
 returns-clause-stands c = λ p stands.
     let first = c.split_from.ensures.stands p stands in
     stays_trans p _ (area_of c.split_from.new.areas) _ c.split_from.new.tree _ first (c.split_to.ensures.stands p first.areas)
-
-pub get-start-requires : goal.get-start-requires
-get-start-requires c = record { used = used_at c.requires.stands.0 (area_of c.args.areas.now) c.args.tree.now c.args.from c.args.area c.requires.stands.1 c.requires.there }
-
-pub cut_apart-requires-clause-inside : goal.cut_apart-requires-clause-inside
-cut_apart-requires-clause-inside c =
-    let p = c.requires.stands.0 in
-    let areas = area_of c.args.areas.now in
-    let spans = c.args.tree.now in
-    let area = c.get-start.result in
-    found_crossed p c.args.area c.args.from c.args.past areas spans area (found p c.args.area c.args.from areas spans area c.requires.stands.1 c.requires.there c.get-start.ensures) c.if-start-from.true c.if-past-end.true

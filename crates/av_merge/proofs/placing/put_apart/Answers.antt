@@ -1,5 +1,4 @@
 use Rattle.std.proofs.Common.{◌≡◌, Some, ap, cond, refl, ◌==◌, ◌∙◌}
-use Rattle.av_vma.specs.declared.area.Area.{Area}
 use Rattle.av_vma.specs.Areas.{area_of}
 use Rattle.av_base.specs.Words.{with_at}
 use Rattle.av_vmatree.specs.Spans.{area_at, holds, span_of, unless_area}
