@@ -2,6 +2,7 @@
 ghost use Rattle.std.specs.Prelude.{◌≡◌, ℕ, List, [], Option, Some, None};
 ghost use Rattle.av_base.specs.Words.{with_at};
 ghost use Rattle.av_interval.specs.declared.span.Span.{Span};
+ghost use Rattle.av_vma.specs.Pages.{IsWhole};
 ghost use Rattle.av_vma.specs.declared.area.Area.{Area};
 ghost use Rattle.av_anon.specs.Anons.{give_own, nobody, own_of, Family};
 ghost use Rattle.av_anon.specs.Fork.{after_clone, after_fork, own_after_fork, gets_own};
@@ -10,6 +11,12 @@ ghost use Rattle.av_anon.specs.Prepare.{loan_to, after_prepare, own_after_prepar
 ghost use Rattle.av_anon.specs.Resize.{with_bounds};
 ghost use Rattle.av_anon.specs.Spans.{span_at, GoWithLinks};
 ghost use Rattle.av_anon.specs.Unlink.{after_unlink};
+
+/// An area of whole pages, as a process may have it, has linear indices that are numbers of the
+/// machine.
+pub fn whole_areas_fit()
+    ensures { (area : Area) → IsWhole area → IsArea area }
+{}
 
 /// Without areas and anon_vmas there is chain order.
 pub fn nobody_is_in_order()
