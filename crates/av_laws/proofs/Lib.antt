@@ -1,5 +1,6 @@
 pub mod Maps
 pub mod OutOfMemory
+pub mod Choice
 pub mod OnePass
 pub mod OnePage
 pub mod Determined

@@ -10,7 +10,7 @@
 -- named_by_other, orphan_of_two what a load makes unclaimed (`without_claims`): its_page,
 -- its_other_page, page_of_other entries of a range (`keys_in`): fixed_over_two, unmapped_two
 -- lengths that are no whole pages (`pages_of`): protected_two
-use Rattle.std.specs.Prelude.{◌≡◌, ℕ, Bool, true, false, ◌==◌, if◌then◌else◌, List, [], ◌∷◌, Option, Some, None}
+use Rattle.std.specs.Prelude.{◌≡◌, ℕ, ◌+◌, Bool, true, false, ◌==◌, if◌then◌else◌, List, [], ◌∷◌, Option, Some, None}
 use Rattle.av_base.specs.declared.slot.Slot.{Slot}
 use Rattle.av_trace.specs.declared.place.Place.TheVariants.{At, Fixed}
 use Rattle.av_trace.specs.declared.command.Command.TheVariants.{Exit, Mmap, Munmap, Mprotect, Read, Write, Stat}
@@ -23,7 +23,7 @@ use Rattle.av_plain.specs.Ledger.{Ledger, Setting, Cached, Entry, Key, Zero, InF
 use Rattle.av_plain.specs.Event.{Event, Noted, Used, Forked, Moved, TurnedOn, TurnedOff, Inherited}
 use Rattle.av_plain.specs.Load.{with_loads}
 use Rattle.av_plain.specs.Transcript.{Exchange, State}
-use Rattle.av_laws.specs.Examples.{says, slot, page_with, read_write, read_only, numbers_of}
+use Rattle.av_laws.specs.Examples.{says, slot, page_with, read_write, read_only, numbers_of, areas_from, only_frames, with_slots}
 
 -- ---- the ledger, event by event
 
@@ -213,7 +213,8 @@ two_written = record {
     entries = ((1, 0x7fffffffd), InFrame 0 true) ∷ ((1, 0x7fffffffe), InFrame 1 true) ∷ [];
     inactive = 1 ∷ 0 ∷ [];
   };
-  free = 2 ∷ 3 ∷ [];
+  free = only_frames (2 ∷ 3 ∷ []);
+  areas = areas_from 0x7fffffffd read_write (1 ∷ []);
 }
 
 -- the upper one of two pages is at slot 1, and the lower one was not touched
@@ -224,7 +225,8 @@ second_out free = record {
     entries = ((1, 0x7fffffffe), InSlot (slot 1)) ∷ [];
     on = one_area 7 0;
   };
-  free = free;
+  free = with_slots 8 [] 1 free;
+  areas = areas_from 0x7fffffffd read_write (1 ∷ []);
 }
 
 -- one frame and a device whose page 1 is bad
@@ -245,7 +247,8 @@ full = record {
     inactive = 0 ∷ [];
     on = one_area 6 1;
   };
-  free = [];
+  free = with_slots 8 (1 ∷ []) 0 [];
+  areas = areas_from 0x7fffffffd read_write (1 ∷ []);
 }
 
 -- two writes are in flight, of slots 1 and 2, and process 2 has a page that was not touched
@@ -259,7 +262,8 @@ two_in_flight = record {
     inactive = 1 ∷ 0 ∷ [];
     on = one_area 7 0;
   };
-  free = [];
+  free = with_slots 8 [] 2 [];
+  areas = areas_from 0x7fffffffd read_write (1 ∷ 2 ∷ []);
 }
 
 -- two processes have one slot of an area with so many, and frame 0 caches it; the entry of the
@@ -273,7 +277,8 @@ cached_for_two slots e = record {
     inactive = 0 ∷ [];
     on = one_area slots 0;
   };
-  free = 1 ∷ 2 ∷ 3 ∷ [];
+  free = with_slots (slots + 1) [] 1 (1 ∷ 2 ∷ 3 ∷ []);
+  areas = areas_from 0x7fffffffd read_write (1 ∷ 2 ∷ []);
 }
 
 -- two processes have slot 1 at their upper page, and the first one slot 2 at its lower page

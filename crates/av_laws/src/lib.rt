@@ -38,9 +38,8 @@ ghost use Rattle.av_laws.specs.ReadBack.{IsSmall};
 ghost use Rattle.av_laws.specs.Determined.{
   Tells,
   IsClaimed,
-  SlotRule,
-  IsExact,
-  AreExact,
+  IsFaultless,
+  AreFaultless,
   SameCommands,
 };
 
@@ -85,23 +84,21 @@ pub fn numbers_add_up()
         → out.pinned + out.noslot + out.fault ≡ m.frames }
 {}
 
-/// Where the devices tell their pages, each byte of the memories is claimed, no fault of a device
-/// shows, and slots are chosen by one rule, a command has one reply, and leaves one state: nothing
-/// is left to the kernel's choice.
+/// Where the devices tell their pages, each byte of the memories is claimed and no fault of a device
+/// shows, a command has one reply, and leaves one state, with its areas, its free frames and slots:
+/// nothing is left to the kernel's choice.
 pub fn replies_are_determined()
     ensures { (m : Setting) (old new other : State) (command : Command) (reply reply' : Reply)
-        (rule : SlotRule) → Tells m → IsClaimed old.world
-        → IsExact rule (record { command = command; reply = reply })
-        → IsExact rule (record { command = command; reply = reply' })
+        → Tells m → IsClaimed old.world → IsFaultless reply → IsFaultless reply'
         → IsStep m old command reply new → IsStep m old command reply' other
         → (reply ≡ reply') × (new ≡ other) }
 {}
 
 /// So there is one run of some commands, from nothing on.
 pub fn runs_are_determined()
-    ensures { (m : Setting) (rules : ℕ → SlotRule) (exchanges exchanges' : List Exchange)
-        (new other : State) → Tells m → SameCommands exchanges exchanges'
-        → AreExact rules 0 exchanges → AreExact rules 0 exchanges'
+    ensures { (m : Setting) (exchanges exchanges' : List Exchange) (new other : State)
+        → Tells m → SameCommands exchanges exchanges'
+        → AreFaultless exchanges → AreFaultless exchanges'
         → IsRun m (at_first m) exchanges new → IsRun m (at_first m) exchanges' other
         → (exchanges ≡ exchanges') × (new ≡ other) }
 {}
@@ -110,7 +107,7 @@ pub fn runs_are_determined()
 pub fn runs_list_free_frames()
     ensures { (m : Setting) (exchanges : List Exchange) (new : State)
         → IsRun m (at_first m) exchanges new
-        → ListsFree m new.ledger new.free }
+        → ListsFree m new.ledger new.free.frames }
 {}
 
 /// Each frame is free, active or inactive, and so the numbers of `stat` add up.
