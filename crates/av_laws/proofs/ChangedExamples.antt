@@ -1,5 +1,4 @@
 -- Changed rows: replies that may not come.
-use Rattle.std.specs.List.{list_all}
 use Rattle.std.proofs.lemmas.Bool.Decides.{nat_tests}
 use Rattle.std.specs.Ordering.{nat_cmp, eq_by_cmp}
 use Rattle.std.specs.Prelude.{◌≡◌, ◌==◌, ℕ, zero, suc, ◌+◌, ◌*◌, ◌<◌, cond, if◌then◌else◌, IfSome, option_and_then, is_some, Bool, true, false, List, [], ◌∷◌, ◌++◌, length, Option, Some, None, refl, MatchOption, ◌&&◌}
@@ -16,7 +15,7 @@ use Rattle.av_trace.specs.declared.reply.Answer.TheVariants.{Done, MapAt, Data, 
 use Rattle.av_base.specs.Page.{page_size}
 use Rattle.av_base.specs.Words.{numbers}
 use Rattle.av_trace.specs.declared.note.Note.{Note}
-use Rattle.av_trace.specs.declared.note.Note.TheVariants.{Aged, Copied, Dropped, Failed, Kept, Loaded, Mapped, New, Put, Started, Unmapped, Written, Zeroed}
+use Rattle.av_trace.specs.declared.note.Note.TheVariants.{Copied, Dropped, Loaded, Mapped, New, Zeroed}
 use Rattle.av_laws.specs.Determined.{AreFaultless, IsClaimed, SameCommands, Tells}
 use Rattle.av_laws.specs.Examples.{Allows, Forbids, Refutes, Rejects, Runs, after_fork, answered, copies, crowd, denied_write, empty, first_run, fixed_over, in_swap_cache, in_writeback, leaked, only_frames, load_when_half_full, machine, one_frame, page_with, paged_out, past_a_hole, read_write, refused_write, slot, untouched, with_byte, with_swap, written_in_vain, wrong_frame, wrong_load, wrong_place}
 use Rattle.av_plain.specs.Access.{Accesses, End, Stopped, Whole, page_events, pages_of_access, read_answer, write_answer}

@@ -26,7 +26,6 @@ use Rattle.av_plain.specs.Fault.{Denied, Lost, Starved, Stop, is_allowed, permit
 use Rattle.av_plain.specs.Ledger.{Key, Ledger, Setting}
 use Rattle.av_plain.specs.Load.{after_loads, with_loads}
 use Rattle.av_plain.specs.Map.{with_prot_to_hole}
-use Rattle.av_plain.specs.Pass.{fails}
 use Rattle.av_plain.specs.Place.{Goes, IsMapAt, is_room}
 use Rattle.av_plain.specs.Refusal.{Refuses, low, refusal, tests, wraps}
 use Rattle.av_plain.specs.Areas.{next_areas}

@@ -49,7 +49,7 @@ use Rattle.av_trace.specs.declared.reply.Answer.{Answer}
 use Rattle.av_trace.specs.declared.reply.Answer.TheVariants.{Done, MapAt, Data, Refused, Segv, Bus, Oom, Runs as RunCount, Counted}
 use Rattle.av_vma.specs.Pages.{Pages, fresh_area, pages_in}
 use Rattle.av_plain.specs.Areas.{Areas, no_areas}
-use Rattle.av_plain.specs.Choice.{AreaSlots, Free, no_slots}
+use Rattle.av_plain.specs.Choice.{Free, no_slots}
 use Rattle.av_plain.specs.World.{Process, Page, no_pages, zeros, with_pages}
 use Rattle.av_plain.specs.Ledger.{Ledger, Setting, Cached, Entry, Zero, InFrame, InSlot, first_ledger}
 use Rattle.av_plain.specs.Device.{no_device, setting_of}

@@ -1,7 +1,7 @@
 //! Worked examples: what the definitions say of single runs. Each contract is a few of them, by
 //! name.
 
-ghost use Rattle.std.specs.Prelude.{List, [], ◌∷◌, true};
+ghost use Rattle.std.specs.Prelude.{List, [], ◌∷◌, true, None};
 ghost use Rattle.av_trace.specs.declared.place.Place.TheVariants.{Auto, Fixed, NoReplace};
 ghost use Rattle.av_trace.specs.declared.command.Command.TheVariants.{
   Spawn,
@@ -96,6 +96,7 @@ ghost use Rattle.av_laws.specs.Examples.{
   copied_and_gone,
   taken_and_freed,
   orphan,
+  only_frames,
   exit_frees,
   exit_and_again,
   two_runs,
@@ -167,10 +168,12 @@ pub fn ledgers_follow()
     ensures out_and_back { Leads (ledger_with (InFrame 5 true) [] [] (5 ∷ []) (6 ∷ []))
         out_and_back }
     ensures copied_and_gone { Leads first_ledger copied_and_gone }
-    ensures taken_and_freed { ChoosesAll (machine 3) first_ledger taken_and_freed (0 ∷ 1 ∷ 2 ∷ [])
-        (1 ∷ 0 ∷ 2 ∷ []) }
-    ensures dropped_and_freed { ChoosesAll (machine 6) orphan (Noted (Dropped (slot 1)) ∷ [])
-        (2 ∷ []) (5 ∷ 2 ∷ []) }
+    ensures taken_and_freed { ChoosesAll (machine 3) None first_ledger taken_and_freed
+        (only_frames (0 ∷ 1 ∷ 2 ∷ []))
+        (only_frames (1 ∷ 0 ∷ 2 ∷ [])) }
+    ensures dropped_and_freed { ChoosesAll (machine 6) None orphan (Noted (Dropped (slot 1)) ∷ [])
+        (only_frames (2 ∷ []))
+        (only_frames (5 ∷ 2 ∷ [])) }
 {}
 
 /// Runs that differ from these in one place may not be.
