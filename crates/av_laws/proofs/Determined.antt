@@ -216,7 +216,7 @@ write-kept : (a : ℕ) (end : End) (answer : Answer) → answer ≡ write_answer
 write-kept a Whole answer h none = refl
 write-kept a (Stopped page stop) answer h none = stop-kept stop (bytes_before a page) [] (ap fault_answers (sym h) ∙ none)
 
-loads-told : (m : Setting) (w : World) (l : Ledger) (es : List Event) → Tells m → with_loads m w l es ≡ w
+pub loads-told : (m : Setting) (w : World) (l : Ledger) (es : List Event) → Tells m → with_loads m w l es ≡ w
 loads-told m w l es told = ap (λ b. if b then w else after_loads w l es) told
 
 record Same (es fs : List Event) (answer answer' : Answer) (rows rows' : List Row) : Type 0 where

@@ -17,3 +17,4 @@ pub mod UnsoundExamples
 pub mod ReadBack
 pub mod NeedsFrame
 pub mod ViewExamples
+pub mod AreaExamples

@@ -6,6 +6,7 @@
 //! No function does anything. Each one's contract is a law, proved of the definitions alone.
 #![tactic(auto)]
 
+mod areas;
 mod examples;
 mod pairs;
 mod unsound;
@@ -43,6 +44,7 @@ ghost use Rattle.av_laws.specs.Determined.{
   SameCommands,
 };
 
+pub use areas::{areas_follow, changed_areas_are_refused};
 pub use examples::{
     a_page_in_writeback_is_sound, changed_exits_and_reports_are_refused,
     changed_ranges_are_refused, changed_replies_are_refused, changed_replies_of_swap_are_refused,
