@@ -12,10 +12,10 @@ mod pairs;
 mod unsound;
 mod views;
 
-ghost use Rattle.std.specs.Prelude.{◌≡◌, ◌⊎◌, ℕ, ◌+◌, false, List, []};
+ghost use Rattle.std.specs.Prelude.{◌≡◌, ◌⊎◌, ℕ, ◌+◌, false, true, length, List, []};
 ghost use Rattle.av_base.specs.declared.prot.Prot.{Prot};
 ghost use Rattle.av_trace.specs.declared.command.Command.{Command};
-ghost use Rattle.av_trace.specs.declared.command.Command.TheVariants.{Mprotect, Read};
+ghost use Rattle.av_trace.specs.declared.command.Command.TheVariants.{Mprotect, Read, Write};
 ghost use Rattle.av_trace.specs.declared.reply.Errno.{Errno};
 ghost use Rattle.av_trace.specs.declared.reply.OutOf.{OutOf};
 ghost use Rattle.av_trace.specs.declared.reply.Answer.TheVariants.{Refused, Oom};
@@ -138,6 +138,15 @@ pub fn replies_are_read_back()
 /// memory.
 pub fn reads_in_memory_are_served()
     ensures { (m : Setting) (w : World) (l : Ledger) (p a n : ℕ) (reply : Reply)
-        (events : List Event) (k : ℕ) (out : OutOf) (shown : List ℕ) → NoneWantsFrame l p a n
+        (events : List Event) (k : ℕ) (out : OutOf) (shown : List ℕ) → NoneWantsFrame false l p a n
         → IsLegal m w l (Read p a n) reply events → reply.answer ≡ Oom k out shown → ⊥ }
+{}
+
+/// Where no device is attached, a write whose pages need no frame, each of them having one for
+/// itself, is never out of memory.
+pub fn writes_in_place_are_served()
+    ensures { (m : Setting) (w : World) (l : Ledger) (p a : ℕ) (bytes : List ℕ) (reply : Reply)
+        (events : List Event) (k : ℕ) (out : OutOf) (shown : List ℕ)
+        → HasNoDevice m → AllSound m w l → NoneWantsFrame true l p a (length bytes)
+        → IsLegal m w l (Write p a bytes) reply events → reply.answer ≡ Oom k out shown → ⊥ }
 {}
