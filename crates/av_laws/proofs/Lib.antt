@@ -18,3 +18,4 @@ pub mod ReadBack
 pub mod NeedsFrame
 pub mod ViewExamples
 pub mod AreaExamples
+pub mod Faults

@@ -13,6 +13,7 @@ mod unsound;
 mod views;
 
 ghost use Rattle.std.specs.Prelude.{◌≡◌, ◌⊎◌, ℕ, ◌+◌, false, true, length, List, []};
+ghost use Rattle.std.specs.List.{AllByRecursion};
 ghost use Rattle.av_base.specs.declared.prot.Prot.{Prot};
 ghost use Rattle.av_trace.specs.declared.command.Command.{Command};
 ghost use Rattle.av_trace.specs.declared.command.Command.TheVariants.{Mprotect, Read, Write};
@@ -25,14 +26,16 @@ ghost use Rattle.av_plain.specs.World.{World, Process};
 ghost use Rattle.av_plain.specs.Ledger.{Ledger, Setting};
 ghost use Rattle.av_plain.specs.Event.{Event, after_all};
 ghost use Rattle.av_plain.specs.Report.{AreMaps, totals};
-ghost use Rattle.av_plain.specs.Step.{IsLegal, next_world};
+ghost use Rattle.av_plain.specs.Step.{IsLegal, causes, next_world};
 ghost use Rattle.av_plain.specs.Refusal.{is_mprotect};
 ghost use Rattle.av_plain.specs.Map.{StopsAtHole};
-ghost use Rattle.av_plain.specs.Transcript.{Exchange, State, IsStep, IsRun, at_first};
+ghost use Rattle.av_plain.specs.Transcript.{Exchange, State, IsStep, IsRun, at_first, causes_of};
 ghost use Rattle.av_plain.specs.Sound.{AllSound};
 ghost use Rattle.av_plain.specs.Choice.{ListsFree};
 ghost use Rattle.av_trace.specs.Command.{IsCommand};
+ghost use Rattle.av_trace.specs.Number.{IsWide};
 ghost use Rattle.av_trace.specs.Reply.{IsReply};
+ghost use Rattle.av_io.specs.Count.{Rose, RoseBy};
 ghost use Rattle.av_laws.specs.NeedsFrame.{NoneWantsFrame};
 ghost use Rattle.av_plain.specs.Device.{HasNoDevice};
 ghost use Rattle.av_laws.specs.ReadBack.{IsSmall};
@@ -132,6 +135,27 @@ pub fn replies_are_read_back()
     ensures { (m : Setting) (w : World) (l : Ledger) (command : Command) (reply : Reply)
         (events : List Event) → HasNoDevice m → AllSound m w l → IsSmall m w l
         → IsCommand command → IsLegal m w l command reply events → IsReply reply }
+{}
+
+/// So is each reply of a run from nothing on, where no device is attached, the machine's frames have
+/// numbers of 64 bits, and the commands are those of the grammar.
+pub fn replies_of_runs_are_read_back()
+    ensures { (m : Setting) (exchanges : List Exchange) (new : State) → HasNoDevice m
+        → IsWide m.frames
+        → AllByRecursion (λ (e : Exchange). IsCommand e.command) exchanges
+        → IsRun m (at_first m) exchanges new
+        → AllByRecursion (λ (e : Exchange). IsReply e.reply) exchanges }
+{}
+
+/// Where what only faults explain in a transcript is within what a count rose by, and the count did
+/// not rise, no fault shows in any reply: so the transcript is determined by its commands.
+pub fn faults_are_within()
+    ensures none { (exchanges : List Exchange) (before now : ℕ)
+        → RoseBy (causes_of exchanges) before now → (Rose before now → ⊥)
+        → AllByRecursion (λ (e : Exchange). causes e.reply ≡ 0) exchanges }
+    ensures faultless { (exchanges : List Exchange) (before now : ℕ)
+        → RoseBy (causes_of exchanges) before now → (Rose before now → ⊥)
+        → AreFaultless exchanges }
 {}
 
 /// A read whose pages need no frame, none of them being on the device alone, is never out of
