@@ -15,7 +15,7 @@ use Rattle.av_trace.specs.declared.reply.Answer.TheVariants.{Done, MapAt, Data, 
 use Rattle.av_base.specs.Page.{page_size}
 use Rattle.av_base.specs.Words.{numbers}
 use Rattle.av_trace.specs.declared.note.Note.{Note}
-use Rattle.av_trace.specs.declared.note.Note.TheVariants.{Copied, Dropped, Loaded, Mapped, New, Zeroed}
+use Rattle.av_trace.specs.declared.note.Note.TheVariants.{Put, Copied, Dropped, Loaded, Mapped, New, Zeroed}
 use Rattle.av_laws.specs.Determined.{AreFaultless, IsClaimed, SameCommands, Tells}
 use Rattle.av_laws.specs.Examples.{Allows, Forbids, Refutes, Rejects, Runs, after_fork, answered, copies, crowd, denied_write, empty, first_run, fixed_over, in_swap_cache, in_writeback, leaked, only_frames, load_when_half_full, machine, one_frame, page_with, paged_out, past_a_hole, read_write, refused_write, slot, untouched, with_byte, with_swap, written_in_vain, wrong_frame, wrong_load, wrong_place}
 use Rattle.av_plain.specs.Access.{Accesses, End, Stopped, Whole, page_events, pages_of_access, read_answer, write_answer}
@@ -35,6 +35,8 @@ use Rattle.av_laws.proofs.FirstExamples.{by_steps, denied_write-runs, first_run-
 use Rattle.av_laws.proofs.OnePage.{is_lost, touches-one}
 use Rattle.av_laws.proofs.OnePass.{Given, done-is}
 use Rattle.av_laws.proofs.RangeExamples.{fixed_over-runs, past_a_hole-runs}
+use Rattle.av_laws.specs.Pairs.{bad_first, evicts, full, two_bytes, wrong_slot}
+use Rattle.av_laws.proofs.PairExamples.{evicts-runs}
 use Rattle.av_laws.proofs.SwapExamples.{copies-runs, load_when_half_full-runs}
 use Rattle.av_plain.proofs.Access.{notes_of-append, notes_of-note_events}
 
@@ -54,6 +56,7 @@ answer_code answer = 0
 
 abbrev notes_code : List Note → ℕ
 notes_code (New p a f ∷ notes) = f + 1
+notes_code (Put f s ∷ notes) = s.page
 notes_code notes = 0
 
 abbrev code : ℕ → List Exchange → ℕ
@@ -457,3 +460,19 @@ leaked-rejected = same_run_from (machine 4) (after_fork (1 ∷ 2 ∷ 3 ∷ [])) 
 pub wrong_load-rejected : Rejects (with_swap 4 3 2) (paged_out 2 (0 ∷ 1 ∷ 2 ∷ 3 ∷ [])) wrong_load
 wrong_load-rejected = same_run_from (with_swap 4 3 2) (paged_out 2 (0 ∷ 1 ∷ 2 ∷ 3 ∷ [])) load_when_half_full wrong_load 0 refl (claimed_first 1 7 [] (λ p page. tt)) load_when_half_full-runs
     (refl, tt) refl refl (λ e. omega (arith, e))
+
+-- a process with two pages has all their bytes claimed
+claimed_two : (p low high : ℕ) (w : World) → IsClaimed w → IsClaimed ((p, two_bytes low high) ∷ w)
+claimed_two p low high w rest q page = by (eq_by_cmp nat_cmp q p)
+  where
+    whole : (a b : Bool) → IfSome (if a then Some (page_with low) else (if b then Some (page_with high) else None)) (λ (q : Page). (i : ℕ) → i < page_size → is_some (q.bytes i) ≡ true)
+    whole true b = λ i below. refl
+    whole false true = λ i below. refl
+    whole false false = tt
+
+    by : (c : Bool) → IfSome (option_and_then (λ (m : Process). m page) (cond c (Some (two_bytes low high)) (process w q))) (λ (q : Page). (i : ℕ) → i < page_size → is_some (q.bytes i) ≡ true)
+    by true = whole (page == 0x7fffffffd) (page == 0x7fffffffe)
+    by false = rest q page
+
+pub wrong_slot-rejected : Rejects bad_first full wrong_slot
+wrong_slot-rejected = same_run_from bad_first full evicts wrong_slot 0 refl (claimed_two 1 0 7 [] (λ p page. tt)) evicts-runs (refl, (refl, tt)) refl refl (λ e. omega (arith, e))

@@ -19,3 +19,4 @@ pub mod NeedsFrame
 pub mod ViewExamples
 pub mod AreaExamples
 pub mod Faults
+pub mod SlotExamples

@@ -108,7 +108,7 @@ given-same m closing l s slots a b h g = by (take_slot (slots s.area)) h.1 g.1
     by (Some t) h g = h.1 ∙ sym g.1
 
 -- which slot is given
-slot-same : (m : Setting) (closing : Option ℕ) (l : Ledger) (s s' : Slot) (slots a b : AreaSlots) → IsGiven m closing l s slots a → IsGiven m closing l s' slots b → s ≡ s'
+pub slot-same : (m : Setting) (closing : Option ℕ) (l : Ledger) (s s' : Slot) (slots a b : AreaSlots) → IsGiven m closing l s slots a → IsGiven m closing l s' slots b → s ≡ s'
 slot-same m closing l s s' slots a b h g =
     let area : s.area ≡ s'.area = inner (sym h.0 ∙ g.0) in
     let page = by (take_slot (slots s.area)) h.1 (subst (λ k. IsSomeAnd (take_slot (slots k)) (λ t. (t.0 ≡ s'.page) × (b ≡ with_at k t.1 slots))) (sym area) g.1) in

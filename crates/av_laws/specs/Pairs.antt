@@ -1,15 +1,19 @@
 -- Worked examples with two of a kind: two entries of one frame or slot, two cached slots, two
 -- writes in flight, two pages of one access, a bad page beside good ones. A definition that looks
--- at the first one alone, or at all of them, fails here. Which example would fail: a hint (`Goes`,
--- `is_room`): hint_over, hint_taken where an access stops (`stop_answer`, `bytes_before`):
--- second_lost, second_starved a fork and a move (`after_fork`, `after_move`): forks_and_moves notes
--- over entries, cache and flight (`after_note`): two_of_each a pass (`IsPass`, `Turns`,
--- `Completes`): evicts, evicts_by_access, completes, second_fails what a bad page is (`is_usable`,
--- `may_give`): evicts, bad_page the numbers of an out-of-memory (`out_of`): no_slot_written faults
--- (`causes`): bus_and_fails, eio, no_fault when a slot is dropped (`is_unneeded`, `is_orphan`):
--- named_by_other, orphan_of_two what a load makes unclaimed (`without_claims`): its_page,
--- its_other_page, page_of_other entries of a range (`keys_in`): fixed_over_two, unmapped_two
--- lengths that are no whole pages (`pages_of`): protected_two
+-- at the first one alone, or at all of them, fails here. Which example would fail:
+--   a hint (`Goes`, `is_room`): hint_over, hint_taken
+--   where an access stops (`stop_answer`, `bytes_before`): second_lost, second_starved
+--   a fork and a move (`after_fork`, `after_move`): forks_and_moves
+--   notes over entries, cache and flight (`after_note`): two_of_each
+--   a pass (`IsPass`, `Turns`, `Completes`): evicts, completes, second_fails
+--   what a bad page is (`is_usable`, `may_give`): evicts, bad_page
+--   which slot is given (`ChoosesSlot`): evicts, wrong_slot
+--   the numbers of an out-of-memory (`out_of`): no_slot_written
+--   faults (`causes`): bus_and_fails, eio, no_fault, cached_when_out
+--   when a slot is dropped (`is_unneeded`, `is_orphan`): named_by_other, orphan_of_two
+--   what a load makes unclaimed (`without_claims`): its_page, its_other_page, page_of_other
+--   entries of a range (`keys_in`): fixed_over_two, unmapped_two
+--   lengths that are no whole pages (`pages_of`): protected_two
 use Rattle.std.specs.Prelude.{◌≡◌, ℕ, ◌+◌, Bool, true, false, ◌==◌, if◌then◌else◌, List, [], ◌∷◌, Option, Some, None}
 use Rattle.av_base.specs.declared.slot.Slot.{Slot}
 use Rattle.av_trace.specs.declared.place.Place.TheVariants.{At, Fixed}
@@ -321,6 +325,16 @@ evicts =
     ∷ says (Read 1 0x7fffffffe000 1) (Data (7 ∷ []))
     (Put 0 (slot 3) ∷ Unmapped 0 ∷ Started (slot 3) ∷ Written (slot 3) ∷ Dropped (slot 3)
     ∷ Loaded (slot 2) 0 ∷ Mapped 1 0x7fffffffe000 0 ∷ []) ∷ []
+
+-- the same, at slots that may be given but are not the ones in turn
+abbrev pub wrong_slot : List Exchange
+wrong_slot =
+    says (Write 1 0x7fffffffd000 (5 ∷ [])) Done
+    (Put 0 (slot 3) ∷ Unmapped 0 ∷ Started (slot 3) ∷ Written (slot 3) ∷ Dropped (slot 3)
+    ∷ New 1 0x7fffffffd000 0 ∷ [])
+    ∷ says (Read 1 0x7fffffffe000 1) (Data (7 ∷ []))
+    (Put 0 (slot 4) ∷ Unmapped 0 ∷ Started (slot 4) ∷ Written (slot 4) ∷ Dropped (slot 4)
+    ∷ Loaded (slot 3) 0 ∷ Mapped 1 0x7fffffffe000 0 ∷ []) ∷ []
 
 -- the write to the slot fails: the frame stays cached, and none is free
 abbrev pub no_slot_written : List Exchange
