@@ -1,5 +1,6 @@
 pub mod Maps
 pub mod OutOfMemory
+pub mod Choice
 pub mod OnePass
 pub mod OnePage
 pub mod Determined
@@ -16,3 +17,6 @@ pub mod UnsoundExamples
 pub mod ReadBack
 pub mod NeedsFrame
 pub mod ViewExamples
+pub mod AreaExamples
+pub mod Faults
+pub mod SlotExamples

@@ -8,7 +8,12 @@ use Rattle.av_plain.specs.Device.{no_device}
 use Rattle.av_plain.specs.Ledger.{Entry, Key, entry, is_free}
 use Rattle.av_plain.specs.Report.{Range, prot_in}
 use Rattle.av_plain.specs.Sound.{AllSound}
-use Rattle.av_plain.specs.Stands.{AreApart, Holds, IsKept, Pte, Stands, entry_of, prot_of}
+use Rattle.av_vma.specs.Pages.{pages_in}
+use Rattle.av_vma.specs.declared.area.Area.{Area}
+use Rattle.av_clusters.specs.Clusters.{fresh}
+use Rattle.av_plain.specs.Areas.{none_on}
+use Rattle.av_plain.specs.Choice.{Free}
+use Rattle.av_plain.specs.Stands.{AreApart, Holds, IsKept, Pte, Stands, entry_of, prot_of, ranges_in}
 use Rattle.av_plain.specs.World.{Page, Process, lives, pages, process}
 use Rattle.av_laws.specs.Examples.{machine, page_with, read_write, with_byte}
 use Rattle.av_laws.specs.Views.{forked}
@@ -17,17 +22,25 @@ use Rattle.av_plain.proofs.Ledger.NoSwap.{key_is}
 use Rattle.std.specs.Prelude.{◌≡◌, ℕ, Bool, true, false, List, [], ◌∷◌, length, Some, None, is_some, refl}
 use Rattle.std.proofs.Common.{arith, sym, ap, ◌≤◌}
 use Rattle.av_plain.specs.Ledger.{InFrame}
-use Rattle.av_laws.specs.Views.{Refused, range, right, view_with}
+use Rattle.av_laws.specs.Views.{Refused, area, right, topmost, view_with}
 use Rattle.av_plain.proofs.NoDevice.{never}
 
 first : List ℕ → ℕ
 first [] = 0
 first (x ∷ xs) = x
 
+pid_of : Option Area → ℕ
+pid_of None = 0
+pid_of (Some area) = area.pid
+
+offset_of : Option Area → ℕ
+offset_of None = 0
+offset_of (Some area) = area.pgoff
+
 pub other_byte-not : Refused (record right { bytes = λ f i. 0 })
 other_byte-not h = let e : ◌≡◌ {A = ℕ} 0 7 = h.parts.bytes.kept 1 0x7fffffffe 0 (omega arith) in omega (arith, e)
 
-pub write_bit-not : Refused (view_with (range 0x7fffffffe 0x7ffffffff ∷ []) true)
+pub write_bit-not : Refused (view_with (λ p. topmost p ∷ []) true)
 write_bit-not h = never (sym (h.parts.ledger.tables.write_bits 1 0x7fffffffe (record { entry = InFrame 0 true; write = true }) 0 refl refl refl))
 
 pub no_entry-not : Refused (record right { table = λ p page. None })
@@ -38,18 +51,29 @@ other_count-not h = let e : ◌≡◌ {A = ℕ} 1 2 = h.parts.ledger.frames.maps
 
 pub other_order-not : Refused (record right { free = 2 ∷ 1 ∷ 3 ∷ [] })
 unfolding first
-other_order-not h = let e : ◌≡◌ {A = ℕ} 2 1 = ap first h.free in omega (arith, e)
+other_order-not h = let e : ◌≡◌ {A = ℕ} 2 1 = ap (λ (f : Free). first f.frames) h.free in omega (arith, e)
+
+pub slots_of_none-not : Refused (record right { slots = λ k. fresh 8 [] })
+slots_of_none-not h = let e : ◌≡◌ {A = ℕ} 8 0 = ap (λ (f : Free). length (f.slots 0).pages) h.free in omega (arith, e)
+
+pub area_of_another-not : Refused (view_with (λ p. topmost 1 ∷ []) false)
+unfolding pid_of
+area_of_another-not h = let e : ◌≡◌ {A = ℕ} 1 2 = ap pid_of (h.areas 2 0x7fffffffe) in omega (arith, e)
+
+pub other_offset-not : Refused (view_with (λ p. record (topmost p) { pgoff = 0 } ∷ []) false)
+unfolding offset_of
+other_offset-not h = let e : ◌≡◌ {A = ℕ} 0 0x7fffffffe = ap offset_of (h.areas 1 0x7fffffffe) in omega (arith, e)
 
 pub made_active-not : Refused (record right { active = 0 ∷ [] })
 made_active-not h = let e : ◌≡◌ {A = ℕ} 1 0 = ap length h.parts.ledger.lists.active in omega (arith, e)
 
-pub area_too_long-not : Refused (view_with (range 0x7fffffffd 0x7ffffffff ∷ []) false)
+pub area_too_long-not : Refused (view_with (λ p. area 0x7fffffffd 0x7ffffffff p ∷ []) false)
 area_too_long-not h = never (sym (ap is_some (h.parts.areas.covers 1 0x7fffffffd)))
 
-pub area_twice-not : Refused (view_with (range 0x7fffffffe 0x7ffffffff ∷ range 0x7fffffffe 0x7ffffffff ∷ []) false)
+pub area_twice-not : Refused (view_with (λ p. topmost p ∷ topmost p ∷ []) false)
 area_twice-not h = let e : 0x7ffffffff ≤ 0x7fffffffe = (h.parts.areas.apart 1).1 in omega (arith, e)
 
-pub areas_of_nobody-not : Refused (record right { areas = λ p. Some (range 0x7fffffffe 0x7ffffffff ∷ []) })
+pub areas_of_nobody-not : Refused (record right { areas = λ p. Some (topmost p ∷ []) })
 areas_of_nobody-not h = never (sym (h.parts.areas.alive 3))
 
 pub too_few_processes-not : Refused (record right { processes = 1 })
@@ -110,34 +134,47 @@ in_range : (page : ℕ) → (nat_le 0x7fffffffe page && nat_lt page 0x7ffffffff)
 in_range page = grind (arith, nat_tests)
 
 abbrev one_range : List Range
-one_range = range 0x7fffffffe 0x7ffffffff ∷ []
+one_range = record { from = 0x7fffffffe; to = 0x7ffffffff; prot = read_write } ∷ []
 
 alive : (p : ℕ) → is_some (right.areas p) ≡ lives forked.world p
 alive p = by (p == 1) (p == 2) ∙ ap is_some (sym (found p))
   where
-    by : (a b : Bool) → is_some (if a || b then Some one_range else None) ≡ is_some (cond a (Some (with_byte 7)) (cond b (Some (with_byte 7)) None))
+    by : (a b : Bool) → is_some (if a || b then Some (topmost p ∷ []) else None) ≡ is_some (cond a (Some (with_byte 7)) (cond b (Some (with_byte 7)) None))
     by true b = refl
     by false true = refl
     by false false = refl
 
-apart : (p : ℕ) → IfSome (right.areas p) AreApart
+apart : (p : ℕ) → IfSome (ranges_in (right.areas p)) AreApart
 apart p = by (p == 1 || p == 2)
   where
-    by : (b : Bool) → IfSome (if b then Some one_range else None) AreApart
+    by : (b : Bool) → IfSome (ranges_in (if b then Some (topmost p ∷ []) else None)) AreApart
     by true = omega arith
     by false = tt
 
-covers : (p page : ℕ) → prot_of (right.areas p) page ≡ option_map (λ (q : Page). q.prot) (pages forked.world p page)
+covers : (p page : ℕ) → prot_of (ranges_in (right.areas p)) page ≡ option_map (λ (q : Page). q.prot) (pages forked.world p page)
 covers p page = by (p == 1) (p == 2) ∙ ap (λ o. option_map (λ (q : Page). q.prot) (option_and_then (λ (q : Process). q page) o)) (sym (found p))
   where
     one : (c : Bool) → (nat_le 0x7fffffffe page && nat_lt page 0x7ffffffff) ≡ c → prot_in one_range page ≡ option_map (λ (q : Page). q.prot) (if c then Some (page_with 7) else None)
     one true is = ap (λ b. if b then Some read_write else None) is
     one false is = ap (λ b. if b then Some read_write else None) is
 
-    by : (a b : Bool) → prot_of (if a || b then Some one_range else None) page ≡ option_map (λ (q : Page). q.prot) (option_and_then (λ (q : Process). q page) (cond a (Some (with_byte 7)) (cond b (Some (with_byte 7)) None)))
+    by : (a b : Bool) → prot_of (ranges_in (if a || b then Some (topmost p ∷ []) else None)) page ≡ option_map (λ (q : Page). q.prot) (option_and_then (λ (q : Process). q page) (cond a (Some (with_byte 7)) (cond b (Some (with_byte 7)) None)))
     by true b = one (page == 0x7fffffffe) (in_range page)
     by false true = one (page == 0x7fffffffe) (in_range page)
     by false false = refl
+
+-- each process has its own area
+areas : (p page : ℕ) → pages_in (right.areas p) page ≡ forked.areas p page
+areas p page = by (p == 1) (p == 2) refl refl
+  where
+    its : (n : ℕ) → (p == n) ≡ true → pages_in (Some (topmost p ∷ [])) page ≡ pages_in (Some (topmost n ∷ [])) page
+    its n is = let e : p ≡ n = grind (arith, nat_tests, is) in ap (λ q. pages_in (Some (topmost q ∷ [])) page) e
+
+    by : (a b : Bool) → (p == 1) ≡ a → (p == 2) ≡ b → pages_in (if a || b then Some (topmost p ∷ []) else None) page
+        ≡ (if a then pages_in (Some (topmost 1 ∷ [])) else (if b then pages_in (Some (topmost 2 ∷ [])) else none_on)) page
+    by true b is is' = its 1 is
+    by false true is is' = its 2 is'
+    by false false is is' = refl
 
 kept : (p page : ℕ) → IsKept right no_device forked.ledger (entry forked.ledger (p, page)) (pages forked.world p page)
 kept p page = subst (λ o. IsKept right no_device forked.ledger o (pages forked.world p page)) (sym at)
@@ -178,6 +215,7 @@ right-stands = record {
     headers = λ k. tt;
   };
   free = refl;
+  areas = areas;
 }
   where
     free : (f : ℕ) → f < 4 → is_in f (1 ∷ 2 ∷ 3 ∷ []) ≡ is_free forked.ledger f

@@ -27,12 +27,15 @@
 --   the numbers of `stat` (`totals`): exit_frees, exit_and_again, exit_shared, exit_drops,
 --     exit_in_writeback, exit_paged_out, stat
 --   the next ledger (`after`): out_and_back, copied_and_gone
---   the choice of frames (`Chooses`): wrong_frame, taken_and_freed, dropped_and_freed,
+--   the choice of frames (`ChoosesFrame`): wrong_frame, taken_and_freed, dropped_and_freed,
 --     exit_and_again
-use Rattle.std.specs.Prelude.{◌≡◌, ℕ, ◌-◌, Bool, true, false, ◌==◌, ◌||◌, if◌then◌else◌, List, [], ◌∷◌, map, length, Some, None}
+--   the choice of slots (`ChoosesSlot`): put_in_turn, put_again, put_behind; evicts and wrong_slot
+--     of `Pairs`
+use Rattle.std.specs.Prelude.{◌≡◌, ℕ, zero, suc, ◌+◌, ◌-◌, Bool, true, false, ◌==◌, ◌||◌, if◌then◌else◌, List, [], ◌∷◌, map, length, Some, None, option_map, unwrap_or}
 use Rattle.av_base.specs.declared.prot.Prot.{Prot}
 use Rattle.av_base.specs.declared.slot.Slot.{Slot}
-use Rattle.av_base.specs.Words.{numbers}
+use Rattle.av_base.specs.Words.{numbers, with_at}
+use Rattle.av_clusters.specs.Clusters.{Slots, fresh, take_slot}
 use Rattle.av_trace.specs.declared.place.Place.TheVariants.{Auto, At, Fixed, NoReplace}
 use Rattle.av_trace.specs.declared.command.Command.{Command}
 use Rattle.av_trace.specs.declared.command.Command.TheVariants.{Spawn, Exit, Mmap, Munmap, Mprotect, Read, Write, Maps, Stat}
@@ -46,6 +49,9 @@ use Rattle.av_trace.specs.declared.row.Row.TheVariants.{Run}
 use Rattle.av_trace.specs.declared.reply.Totals.{Totals}
 use Rattle.av_trace.specs.declared.reply.Answer.{Answer}
 use Rattle.av_trace.specs.declared.reply.Answer.TheVariants.{Done, MapAt, Data, Refused, Segv, Bus, Oom, Runs as RunCount, Counted}
+use Rattle.av_vma.specs.Pages.{Pages, fresh_area, pages_in}
+use Rattle.av_plain.specs.Areas.{Areas, no_areas}
+use Rattle.av_plain.specs.Choice.{ChoosesAll, Free, no_slots}
 use Rattle.av_plain.specs.World.{Process, Page, no_pages, zeros, with_pages}
 use Rattle.av_plain.specs.Ledger.{Ledger, Setting, Cached, Entry, Zero, InFrame, InSlot, first_ledger}
 use Rattle.av_plain.specs.Device.{no_device, setting_of}
@@ -343,6 +349,30 @@ fixed_over free b notes =
 
 -- ---- from states that later commands lead to
 
+-- these frames are free, in this order, and no area has slots
+abbrev pub only_frames : List ℕ → Free
+only_frames frames = record { frames = frames; slots = no_slots }
+
+-- slots of which so many were given
+abbrev pub when_given : ℕ → Slots → Slots
+when_given zero slots = slots
+when_given (suc n) slots = when_given n (unwrap_or (option_map (λ t. t.1) (take_slot slots)) slots)
+
+-- these frames are free, and all slots but the first so many of an area of pages with these bad ones
+abbrev pub with_slots : ℕ → List ℕ → ℕ → List ℕ → Free
+with_slots pages bad n frames =
+    record { frames = frames; slots = with_at 0 (when_given n (fresh pages bad)) no_slots }
+
+-- an area of a process from one page to below another, as it was mapped
+abbrev pub one_area : ℕ → ℕ → ℕ → Prot → Pages
+one_area p from past prot = pages_in (Some (fresh_area p from past prot ∷ []))
+
+-- these processes have each one area, on the pages from one on to the top
+abbrev pub areas_from : ℕ → Prot → List ℕ → Areas
+areas_from from prot [] = no_areas
+areas_from from prot (p ∷ ps) =
+    with_at p (one_area p from 0x7ffffffff prot) (areas_from from prot ps)
+
 -- a page whose first byte is this one, with zeros behind it
 abbrev pub page_with : ℕ → Page
 page_with b = record { prot = read_write; bytes = λ i. Some (if i == 0 then b else 0) }
@@ -356,7 +386,8 @@ abbrev pub crowd : ℕ → State
 crowd n = record {
   world = map (λ p. (p, no_pages)) (numbers 1 n);
   ledger = first_ledger;
-  free = 0 ∷ 1 ∷ 2 ∷ 3 ∷ [];
+  free = only_frames (0 ∷ 1 ∷ 2 ∷ 3 ∷ []);
+  areas = no_areas;
 }
 
 -- the last process that may live, and one more. That a process lives is found before that too many
@@ -376,7 +407,8 @@ after_fork free = record {
     entries = ((1, 0x7fffffffe), InFrame 0 true) ∷ ((2, 0x7fffffffe), InFrame 0 false) ∷ [];
     inactive = 0 ∷ [];
   };
-  free = free;
+  free = only_frames free;
+  areas = areas_from 0x7fffffffe read_write (1 ∷ 2 ∷ []);
 }
 
 -- a write to a shared frame copies it, a read doesn't. The other process is then alone with its
@@ -428,7 +460,8 @@ paged_out slots free = record {
     entries = ((1, 0x7fffffffe), InSlot (slot 1)) ∷ [];
     on = (0, record { slots = slots; bad = 0 }) ∷ [];
   };
-  free = free;
+  free = with_slots (slots + 1) [] 1 free;
+  areas = areas_from 0x7fffffffe read_write (1 ∷ []);
 }
 
 -- the page comes in and stays cached; the first write drops its slot. Before, the device may fail
@@ -475,7 +508,8 @@ in_writeback = record {
     inactive = 0 ∷ [];
     on = (0, record { slots = 7; bad = 0 }) ∷ [];
   };
-  free = 1 ∷ 2 ∷ 3 ∷ [];
+  free = with_slots 8 [] 1 (1 ∷ 2 ∷ 3 ∷ []);
+  areas = areas_from 0x7fffffffe read_write (1 ∷ []);
 }
 
 -- a slot in flight is not dropped
@@ -527,7 +561,8 @@ slot_shared free = record {
     entries = ((1, 0x7fffffffe), InSlot (slot 1)) ∷ ((2, 0x7fffffffe), InSlot (slot 1)) ∷ [];
     on = (0, record { slots = 7; bad = 0 }) ∷ [];
   };
-  free = free;
+  free = with_slots 8 [] 1 free;
+  areas = areas_from 0x7fffffffe read_write (1 ∷ 2 ∷ []);
 }
 
 -- what a write loads it copies, since the other entry names the slot; then the other one maps the
@@ -568,26 +603,34 @@ one_written = record {
     entries = ((1, 0x7fffffffe), InFrame 0 true) ∷ [];
     inactive = 0 ∷ [];
   };
-  free = 1 ∷ 2 ∷ 3 ∷ [];
+  free = only_frames (1 ∷ 2 ∷ 3 ∷ []);
+  areas = areas_from 0x7fffffffe read_write (1 ∷ []);
 }
 
 -- nothing lives, and frame 0 was given back last
 abbrev pub all_gone : State
-all_gone = record { world = []; ledger = first_ledger; free = 0 ∷ 1 ∷ 2 ∷ 3 ∷ [] }
+all_gone = record {
+  world = [];
+  ledger = first_ledger;
+  free = only_frames (0 ∷ 1 ∷ 2 ∷ 3 ∷ []);
+  areas = no_areas;
+}
 
 -- the page is unmapped, or another is mapped over it
 abbrev pub page_gone : State
 page_gone = record {
   world = (1, with_pages (with_byte 7) 0x7fffffffe 1 no_pages) ∷ [];
   ledger = first_ledger;
-  free = 0 ∷ 1 ∷ 2 ∷ 3 ∷ [];
+  free = only_frames (0 ∷ 1 ∷ 2 ∷ 3 ∷ []);
+  areas = no_areas;
 }
 
 abbrev pub page_anew : State
 page_anew = record {
   world = (1, with_pages (with_byte 7) 0x7fffffffe 1 (λ _. Some (zeros read_only))) ∷ [];
   ledger = first_ledger;
-  free = 0 ∷ 1 ∷ 2 ∷ 3 ∷ [];
+  free = only_frames (0 ∷ 1 ∷ 2 ∷ 3 ∷ []);
+  areas = areas_from 0x7fffffffe read_only (1 ∷ []);
 }
 
 -- the topmost page of process 1 is for reading only, the two below for reading and writing
@@ -599,7 +642,12 @@ abbrev pub two_protections : State
 two_protections = record {
   world = (1, two_kinds) ∷ [];
   ledger = first_ledger;
-  free = 0 ∷ 1 ∷ 2 ∷ 3 ∷ [];
+  free = only_frames (0 ∷ 1 ∷ 2 ∷ 3 ∷ []);
+  areas = with_at 1
+      (pages_in (Some
+      (fresh_area 1 0x7fffffffc 0x7fffffffe read_write
+      ∷ fresh_area 1 0x7fffffffe 0x7ffffffff read_only ∷ [])))
+      no_areas;
 }
 
 -- a reply to `maps` with these rows
@@ -779,7 +827,8 @@ abbrev pub untouched : State
 untouched = record {
   world = (1, λ page. if page == 0x7fffffffe then Some (zeros read_write) else None) ∷ [];
   ledger = first_ledger;
-  free = 0 ∷ 1 ∷ 2 ∷ 3 ∷ [];
+  free = only_frames (0 ∷ 1 ∷ 2 ∷ 3 ∷ []);
+  areas = areas_from 0x7fffffffe read_write (1 ∷ []);
 }
 
 -- no process lives
@@ -796,7 +845,8 @@ in_swap_cache = record {
     inactive = 0 ∷ [];
     on = (0, record { slots = 7; bad = 0 }) ∷ [];
   };
-  free = 1 ∷ 2 ∷ 3 ∷ [];
+  free = with_slots 8 [] 1 (1 ∷ 2 ∷ 3 ∷ []);
+  areas = areas_from 0x7fffffffe read_write (1 ∷ []);
 }
 
 -- the run may not be: some reply of it is wrong
@@ -870,3 +920,32 @@ taken_and_freed = Noted (New 1 0x10000 0) ∷ Noted (New 1 0x11000 1) ∷ Used t
 -- a cached frame that nothing else names becomes free when its slot is dropped
 abbrev pub orphan : Ledger
 orphan = record first_ledger { cache = cached 5 false; inactive = 5 ∷ [] }
+
+-- ---- slots that are given and come back
+
+-- after these events some frames and slots are free; or none can be, since a frame or a slot was
+-- chosen wrongly
+abbrev pub MayChoose : Setting → Ledger → List Event → Free → Type 0
+MayChoose m l events free = (left : Free) × ChoosesAll m None l events free left
+
+abbrev pub MayNotChoose : Setting → Ledger → List Event → Free → Type 0
+MayNotChoose m l events free = (left : Free) → ChoosesAll m None l events free left → ⊥
+
+-- three frames are in use, and the area with seven slots is on
+abbrev pub three_in_use : Ledger
+three_in_use = record first_ledger {
+  entries = ((1, 0x10), InFrame 0 true) ∷ ((1, 0x11), InFrame 1 true)
+      ∷ ((1, 0x12), InFrame 2 true) ∷ [];
+  inactive = 2 ∷ 1 ∷ 0 ∷ [];
+  on = (0, record { slots = 7; bad = 0 }) ∷ [];
+}
+
+-- two get slots, and the first slot comes back while the second is still in use; the third frame
+-- is put at this one
+abbrev pub puts : Slot → List Event
+puts s = Noted (Put 0 (slot 1)) ∷ Noted (Put 1 (slot 2)) ∷ Noted (Dropped (slot 1))
+    ∷ Noted (Put 2 s) ∷ []
+
+-- the only slot that was given comes back, so that its cluster has none in use
+abbrev pub puts_again : Slot → List Event
+puts_again s = Noted (Put 0 (slot 1)) ∷ Noted (Dropped (slot 1)) ∷ Noted (Put 0 s) ∷ []

@@ -5,3 +5,4 @@ pub mod Unsound
 pub mod ReadBack
 pub mod NeedsFrame
 pub mod Views
+pub mod Areas

@@ -1,16 +1,20 @@
 -- Worked examples with two of a kind: two entries of one frame or slot, two cached slots, two
 -- writes in flight, two pages of one access, a bad page beside good ones. A definition that looks
--- at the first one alone, or at all of them, fails here. Which example would fail: a hint (`Goes`,
--- `is_room`): hint_over, hint_taken where an access stops (`stop_answer`, `bytes_before`):
--- second_lost, second_starved a fork and a move (`after_fork`, `after_move`): forks_and_moves notes
--- over entries, cache and flight (`after_note`): two_of_each a pass (`IsPass`, `Turns`,
--- `Completes`): evicts, evicts_by_access, completes, second_fails what a bad page is (`is_usable`,
--- `may_give`): evicts, bad_page the numbers of an out-of-memory (`out_of`): no_slot_written faults
--- (`causes`): bus_and_fails, eio, no_fault when a slot is dropped (`is_unneeded`, `is_orphan`):
--- named_by_other, orphan_of_two what a load makes unclaimed (`without_claims`): its_page,
--- its_other_page, page_of_other entries of a range (`keys_in`): fixed_over_two, unmapped_two
--- lengths that are no whole pages (`pages_of`): protected_two
-use Rattle.std.specs.Prelude.{◌≡◌, ℕ, Bool, true, false, ◌==◌, if◌then◌else◌, List, [], ◌∷◌, Option, Some, None}
+-- at the first one alone, or at all of them, fails here. Which example would fail:
+--   a hint (`Goes`, `is_room`): hint_over, hint_taken
+--   where an access stops (`stop_answer`, `bytes_before`): second_lost, second_starved
+--   a fork and a move (`after_fork`, `after_move`): forks_and_moves
+--   notes over entries, cache and flight (`after_note`): two_of_each
+--   a pass (`IsPass`, `Turns`, `Completes`): evicts, completes, second_fails
+--   what a bad page is (`is_usable`, `may_give`): evicts, bad_page
+--   which slot is given (`ChoosesSlot`): evicts, wrong_slot
+--   the numbers of an out-of-memory (`out_of`): no_slot_written
+--   faults (`causes`): bus_and_fails, eio, no_fault, cached_when_out
+--   when a slot is dropped (`is_unneeded`, `is_orphan`): named_by_other, orphan_of_two
+--   what a load makes unclaimed (`without_claims`): its_page, its_other_page, page_of_other
+--   entries of a range (`keys_in`): fixed_over_two, unmapped_two
+--   lengths that are no whole pages (`pages_of`): protected_two
+use Rattle.std.specs.Prelude.{◌≡◌, ℕ, ◌+◌, Bool, true, false, ◌==◌, if◌then◌else◌, List, [], ◌∷◌, Option, Some, None}
 use Rattle.av_base.specs.declared.slot.Slot.{Slot}
 use Rattle.av_trace.specs.declared.place.Place.TheVariants.{At, Fixed}
 use Rattle.av_trace.specs.declared.command.Command.TheVariants.{Exit, Mmap, Munmap, Mprotect, Read, Write, Stat}
@@ -23,7 +27,7 @@ use Rattle.av_plain.specs.Ledger.{Ledger, Setting, Cached, Entry, Key, Zero, InF
 use Rattle.av_plain.specs.Event.{Event, Noted, Used, Forked, Moved, TurnedOn, TurnedOff, Inherited}
 use Rattle.av_plain.specs.Load.{with_loads}
 use Rattle.av_plain.specs.Transcript.{Exchange, State}
-use Rattle.av_laws.specs.Examples.{says, slot, page_with, read_write, read_only, numbers_of}
+use Rattle.av_laws.specs.Examples.{says, slot, page_with, read_write, read_only, numbers_of, areas_from, only_frames, with_slots}
 
 -- ---- the ledger, event by event
 
@@ -213,7 +217,8 @@ two_written = record {
     entries = ((1, 0x7fffffffd), InFrame 0 true) ∷ ((1, 0x7fffffffe), InFrame 1 true) ∷ [];
     inactive = 1 ∷ 0 ∷ [];
   };
-  free = 2 ∷ 3 ∷ [];
+  free = only_frames (2 ∷ 3 ∷ []);
+  areas = areas_from 0x7fffffffd read_write (1 ∷ []);
 }
 
 -- the upper one of two pages is at slot 1, and the lower one was not touched
@@ -224,7 +229,8 @@ second_out free = record {
     entries = ((1, 0x7fffffffe), InSlot (slot 1)) ∷ [];
     on = one_area 7 0;
   };
-  free = free;
+  free = with_slots 8 [] 1 free;
+  areas = areas_from 0x7fffffffd read_write (1 ∷ []);
 }
 
 -- one frame and a device whose page 1 is bad
@@ -245,7 +251,8 @@ full = record {
     inactive = 0 ∷ [];
     on = one_area 6 1;
   };
-  free = [];
+  free = with_slots 8 (1 ∷ []) 0 [];
+  areas = areas_from 0x7fffffffd read_write (1 ∷ []);
 }
 
 -- two writes are in flight, of slots 1 and 2, and process 2 has a page that was not touched
@@ -259,7 +266,8 @@ two_in_flight = record {
     inactive = 1 ∷ 0 ∷ [];
     on = one_area 7 0;
   };
-  free = [];
+  free = with_slots 8 [] 2 [];
+  areas = areas_from 0x7fffffffd read_write (1 ∷ 2 ∷ []);
 }
 
 -- two processes have one slot of an area with so many, and frame 0 caches it; the entry of the
@@ -273,7 +281,8 @@ cached_for_two slots e = record {
     inactive = 0 ∷ [];
     on = one_area slots 0;
   };
-  free = 1 ∷ 2 ∷ 3 ∷ [];
+  free = with_slots (slots + 1) [] 1 (1 ∷ 2 ∷ 3 ∷ []);
+  areas = areas_from 0x7fffffffd read_write (1 ∷ 2 ∷ []);
 }
 
 -- two processes have slot 1 at their upper page, and the first one slot 2 at its lower page
@@ -316,6 +325,16 @@ evicts =
     ∷ says (Read 1 0x7fffffffe000 1) (Data (7 ∷ []))
     (Put 0 (slot 3) ∷ Unmapped 0 ∷ Started (slot 3) ∷ Written (slot 3) ∷ Dropped (slot 3)
     ∷ Loaded (slot 2) 0 ∷ Mapped 1 0x7fffffffe000 0 ∷ []) ∷ []
+
+-- the same, at slots that may be given but are not the ones in turn
+abbrev pub wrong_slot : List Exchange
+wrong_slot =
+    says (Write 1 0x7fffffffd000 (5 ∷ [])) Done
+    (Put 0 (slot 3) ∷ Unmapped 0 ∷ Started (slot 3) ∷ Written (slot 3) ∷ Dropped (slot 3)
+    ∷ New 1 0x7fffffffd000 0 ∷ [])
+    ∷ says (Read 1 0x7fffffffe000 1) (Data (7 ∷ []))
+    (Put 0 (slot 4) ∷ Unmapped 0 ∷ Started (slot 4) ∷ Written (slot 4) ∷ Dropped (slot 4)
+    ∷ Loaded (slot 3) 0 ∷ Mapped 1 0x7fffffffe000 0 ∷ []) ∷ []
 
 -- the write to the slot fails: the frame stays cached, and none is free
 abbrev pub no_slot_written : List Exchange

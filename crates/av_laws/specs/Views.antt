@@ -3,7 +3,9 @@
 use Rattle.std.specs.Prelude.{ℕ, Bool, false, ◌==◌, ◌&&◌, ◌||◌, if◌then◌else◌, List, [], ◌∷◌, Some, None, option_map}
 use Rattle.av_plain.specs.Device.{no_device}
 use Rattle.av_plain.specs.Ledger.{entry, map_count}
-use Rattle.av_plain.specs.Report.{Range}
+use Rattle.av_vma.specs.Pages.{fresh_area}
+use Rattle.av_vma.specs.declared.area.Area.{Area}
+use Rattle.av_plain.specs.Choice.{no_slots}
 use Rattle.av_plain.specs.Stands.{Stands, View}
 use Rattle.av_plain.specs.Transcript.{State}
 use Rattle.av_laws.specs.Examples.{after_fork, machine, read_write}
@@ -12,12 +14,16 @@ use Rattle.av_laws.specs.Examples.{after_fork, machine, read_write}
 abbrev pub forked : State
 forked = after_fork (1 ∷ 2 ∷ 3 ∷ [])
 
--- a range with pages for reading and writing
-abbrev pub range : ℕ → ℕ → Range
-range from to = record { from = from; to = to; prot = read_write }
+-- an area of a process with pages for reading and writing, as it was mapped
+abbrev pub area : ℕ → ℕ → ℕ → Area
+area from past p = fresh_area p from past read_write
+
+-- the one with the topmost page
+abbrev pub topmost : ℕ → Area
+topmost p = area 0x7fffffffe 0x7ffffffff p
 
 -- the right view, with these areas of each process and this write bit of their entries
-abbrev pub view_with : List Range → Bool → View
+abbrev pub view_with : (ℕ → List Area) → Bool → View
 view_with areas write = record {
   frames = 4;
   bytes = λ f i. if f == 0 && i == 0 then 7 else 0;
@@ -29,15 +35,16 @@ view_with areas write = record {
   table = λ p page.
       option_map (λ e. record { entry = e; write = write }) (entry forked.ledger (p, page));
   processes = 2;
-  areas = λ p. if p == 1 || p == 2 then Some areas else None;
+  areas = λ p. if p == 1 || p == 2 then Some (areas p) else None;
   find = λ s. None;
   entries = λ s. 0;
   flight = [];
   on = [];
+  slots = no_slots;
 }
 
 abbrev pub right : View
-right = view_with (range 0x7fffffffe 0x7ffffffff ∷ []) false
+right = view_with (λ p. topmost p ∷ []) false
 
 -- a kernel that is seen so doesn't stand for the state
 abbrev pub Refused : View → Type 0

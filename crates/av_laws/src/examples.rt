@@ -1,7 +1,7 @@
 //! Worked examples: what the definitions say of single runs. Each contract is a few of them, by
 //! name.
 
-ghost use Rattle.std.specs.Prelude.{List, [], ◌∷◌, true};
+ghost use Rattle.std.specs.Prelude.{List, [], ◌∷◌, true, None};
 ghost use Rattle.av_trace.specs.declared.place.Place.TheVariants.{Auto, Fixed, NoReplace};
 ghost use Rattle.av_trace.specs.declared.command.Command.TheVariants.{
   Spawn,
@@ -96,6 +96,13 @@ ghost use Rattle.av_laws.specs.Examples.{
   copied_and_gone,
   taken_and_freed,
   orphan,
+  only_frames,
+  with_slots,
+  MayChoose,
+  MayNotChoose,
+  three_in_use,
+  puts,
+  puts_again,
   exit_frees,
   exit_and_again,
   two_runs,
@@ -167,10 +174,24 @@ pub fn ledgers_follow()
     ensures out_and_back { Leads (ledger_with (InFrame 5 true) [] [] (5 ∷ []) (6 ∷ []))
         out_and_back }
     ensures copied_and_gone { Leads first_ledger copied_and_gone }
-    ensures taken_and_freed { ChoosesAll (machine 3) first_ledger taken_and_freed (0 ∷ 1 ∷ 2 ∷ [])
-        (1 ∷ 0 ∷ 2 ∷ []) }
-    ensures dropped_and_freed { ChoosesAll (machine 6) orphan (Noted (Dropped (slot 1)) ∷ [])
-        (2 ∷ []) (5 ∷ 2 ∷ []) }
+    ensures taken_and_freed { ChoosesAll (machine 3) None first_ledger taken_and_freed
+        (only_frames (0 ∷ 1 ∷ 2 ∷ []))
+        (only_frames (1 ∷ 0 ∷ 2 ∷ [])) }
+    ensures dropped_and_freed { ChoosesAll (machine 6) None orphan (Noted (Dropped (slot 1)) ∷ [])
+        (only_frames (2 ∷ []))
+        (only_frames (5 ∷ 2 ∷ [])) }
+{}
+
+/// Slots are given in turn: one that came back is given again only when its cluster has none in use.
+pub fn slots_are_given_in_turn()
+    ensures put_in_turn { MayChoose (with_swap 4 8 7) three_in_use (puts (slot 3))
+        (with_slots 8 [] 0 (3 ∷ [])) }
+    ensures put_back { MayNotChoose (with_swap 4 8 7) three_in_use (puts (slot 1))
+        (with_slots 8 [] 0 (3 ∷ [])) }
+    ensures put_again { MayChoose (with_swap 4 8 7) three_in_use (puts_again (slot 1))
+        (with_slots 8 [] 0 (3 ∷ [])) }
+    ensures put_behind { MayNotChoose (with_swap 4 8 7) three_in_use (puts_again (slot 2))
+        (with_slots 8 [] 0 (3 ∷ [])) }
 {}
 
 /// Runs that differ from these in one place may not be.

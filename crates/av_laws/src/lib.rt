@@ -6,15 +6,17 @@
 //! No function does anything. Each one's contract is a law, proved of the definitions alone.
 #![tactic(auto)]
 
+mod areas;
 mod examples;
 mod pairs;
 mod unsound;
 mod views;
 
-ghost use Rattle.std.specs.Prelude.{◌≡◌, ◌⊎◌, ℕ, ◌+◌, false, List, []};
+ghost use Rattle.std.specs.Prelude.{◌≡◌, ◌⊎◌, ℕ, ◌+◌, false, true, length, List, []};
+ghost use Rattle.std.specs.List.{AllByRecursion};
 ghost use Rattle.av_base.specs.declared.prot.Prot.{Prot};
 ghost use Rattle.av_trace.specs.declared.command.Command.{Command};
-ghost use Rattle.av_trace.specs.declared.command.Command.TheVariants.{Mprotect, Read};
+ghost use Rattle.av_trace.specs.declared.command.Command.TheVariants.{Mprotect, Read, Write};
 ghost use Rattle.av_trace.specs.declared.reply.Errno.{Errno};
 ghost use Rattle.av_trace.specs.declared.reply.OutOf.{OutOf};
 ghost use Rattle.av_trace.specs.declared.reply.Answer.TheVariants.{Refused, Oom};
@@ -24,31 +26,34 @@ ghost use Rattle.av_plain.specs.World.{World, Process};
 ghost use Rattle.av_plain.specs.Ledger.{Ledger, Setting};
 ghost use Rattle.av_plain.specs.Event.{Event, after_all};
 ghost use Rattle.av_plain.specs.Report.{AreMaps, totals};
-ghost use Rattle.av_plain.specs.Step.{IsLegal, next_world};
+ghost use Rattle.av_plain.specs.Step.{IsLegal, causes, next_world};
 ghost use Rattle.av_plain.specs.Refusal.{is_mprotect};
 ghost use Rattle.av_plain.specs.Map.{StopsAtHole};
-ghost use Rattle.av_plain.specs.Transcript.{Exchange, State, IsStep, IsRun, at_first};
+ghost use Rattle.av_plain.specs.Transcript.{Exchange, State, IsStep, IsRun, at_first, causes_of};
 ghost use Rattle.av_plain.specs.Sound.{AllSound};
 ghost use Rattle.av_plain.specs.Choice.{ListsFree};
 ghost use Rattle.av_trace.specs.Command.{IsCommand};
+ghost use Rattle.av_trace.specs.Number.{IsWide};
 ghost use Rattle.av_trace.specs.Reply.{IsReply};
+ghost use Rattle.av_io.specs.Count.{Rose, RoseBy};
 ghost use Rattle.av_laws.specs.NeedsFrame.{NoneWantsFrame};
 ghost use Rattle.av_plain.specs.Device.{HasNoDevice};
 ghost use Rattle.av_laws.specs.ReadBack.{IsSmall};
 ghost use Rattle.av_laws.specs.Determined.{
   Tells,
   IsClaimed,
-  SlotRule,
-  IsExact,
-  AreExact,
+  IsFaultless,
+  AreFaultless,
   SameCommands,
 };
 
+pub use areas::{areas_follow, changed_areas_are_refused};
 pub use examples::{
     a_page_in_writeback_is_sound, changed_exits_and_reports_are_refused,
     changed_ranges_are_refused, changed_replies_are_refused, changed_replies_of_swap_are_refused,
     changed_runs_are_refused, exits_and_reports_run, first_examples_run, ledgers_follow,
-    ranges_run, shared_examples_run, swap_examples_run,
+    ranges_run, shared_examples_run, slots_are_given_in_turn,
+    swap_examples_run,
 };
 pub use pairs::{
     changed_pairs_are_refused, faults_are_counted, ledgers_of_two_follow, loads_make_unclaimed,
@@ -85,23 +90,21 @@ pub fn numbers_add_up()
         → out.pinned + out.noslot + out.fault ≡ m.frames }
 {}
 
-/// Where the devices tell their pages, each byte of the memories is claimed, no fault of a device
-/// shows, and slots are chosen by one rule, a command has one reply, and leaves one state: nothing
-/// is left to the kernel's choice.
+/// Where the devices tell their pages, each byte of the memories is claimed and no fault of a device
+/// shows, a command has one reply, and leaves one state, with its areas, its free frames and slots:
+/// nothing is left to the kernel's choice.
 pub fn replies_are_determined()
     ensures { (m : Setting) (old new other : State) (command : Command) (reply reply' : Reply)
-        (rule : SlotRule) → Tells m → IsClaimed old.world
-        → IsExact rule (record { command = command; reply = reply })
-        → IsExact rule (record { command = command; reply = reply' })
+        → Tells m → IsClaimed old.world → IsFaultless reply → IsFaultless reply'
         → IsStep m old command reply new → IsStep m old command reply' other
         → (reply ≡ reply') × (new ≡ other) }
 {}
 
 /// So there is one run of some commands, from nothing on.
 pub fn runs_are_determined()
-    ensures { (m : Setting) (rules : ℕ → SlotRule) (exchanges exchanges' : List Exchange)
-        (new other : State) → Tells m → SameCommands exchanges exchanges'
-        → AreExact rules 0 exchanges → AreExact rules 0 exchanges'
+    ensures { (m : Setting) (exchanges exchanges' : List Exchange) (new other : State)
+        → Tells m → SameCommands exchanges exchanges'
+        → AreFaultless exchanges → AreFaultless exchanges'
         → IsRun m (at_first m) exchanges new → IsRun m (at_first m) exchanges' other
         → (exchanges ≡ exchanges') × (new ≡ other) }
 {}
@@ -110,7 +113,7 @@ pub fn runs_are_determined()
 pub fn runs_list_free_frames()
     ensures { (m : Setting) (exchanges : List Exchange) (new : State)
         → IsRun m (at_first m) exchanges new
-        → ListsFree m new.ledger new.free }
+        → ListsFree m new.ledger new.free.frames }
 {}
 
 /// Each frame is free, active or inactive, and so the numbers of `stat` add up.
@@ -135,10 +138,40 @@ pub fn replies_are_read_back()
         → IsCommand command → IsLegal m w l command reply events → IsReply reply }
 {}
 
+/// So is each reply of a run from nothing on, where no device is attached, the machine's frames have
+/// numbers of 64 bits, and the commands are those of the grammar.
+pub fn replies_of_runs_are_read_back()
+    ensures { (m : Setting) (exchanges : List Exchange) (new : State) → HasNoDevice m
+        → IsWide m.frames
+        → AllByRecursion (λ (e : Exchange). IsCommand e.command) exchanges
+        → IsRun m (at_first m) exchanges new
+        → AllByRecursion (λ (e : Exchange). IsReply e.reply) exchanges }
+{}
+
+/// Where what only faults explain in a transcript is within what a count rose by, and the count did
+/// not rise, no fault shows in any reply: so the transcript is determined by its commands.
+pub fn faults_are_within()
+    ensures none { (exchanges : List Exchange) (before now : ℕ)
+        → RoseBy (causes_of exchanges) before now → (Rose before now → ⊥)
+        → AllByRecursion (λ (e : Exchange). causes e.reply ≡ 0) exchanges }
+    ensures faultless { (exchanges : List Exchange) (before now : ℕ)
+        → RoseBy (causes_of exchanges) before now → (Rose before now → ⊥)
+        → AreFaultless exchanges }
+{}
+
 /// A read whose pages need no frame, none of them being on the device alone, is never out of
 /// memory.
 pub fn reads_in_memory_are_served()
     ensures { (m : Setting) (w : World) (l : Ledger) (p a n : ℕ) (reply : Reply)
-        (events : List Event) (k : ℕ) (out : OutOf) (shown : List ℕ) → NoneWantsFrame l p a n
+        (events : List Event) (k : ℕ) (out : OutOf) (shown : List ℕ) → NoneWantsFrame false l p a n
         → IsLegal m w l (Read p a n) reply events → reply.answer ≡ Oom k out shown → ⊥ }
+{}
+
+/// Where no device is attached, a write whose pages need no frame, each of them having one for
+/// itself, is never out of memory.
+pub fn writes_in_place_are_served()
+    ensures { (m : Setting) (w : World) (l : Ledger) (p a : ℕ) (bytes : List ℕ) (reply : Reply)
+        (events : List Event) (k : ℕ) (out : OutOf) (shown : List ℕ)
+        → HasNoDevice m → AllSound m w l → NoneWantsFrame true l p a (length bytes)
+        → IsLegal m w l (Write p a bytes) reply events → reply.answer ≡ Oom k out shown → ⊥ }
 {}

@@ -5,7 +5,7 @@ ghost use Rattle.av_trace.specs.declared.command.Command.TheVariants.{Mmap};
 ghost use Rattle.av_trace.specs.declared.place.Place.TheVariants.{At};
 ghost use Rattle.av_trace.specs.declared.reply.Errno.TheVariants.{Eio, Enomem};
 ghost use Rattle.av_trace.specs.declared.note.Note.TheVariants.{Written, Failed};
-ghost use Rattle.av_trace.specs.declared.reply.Answer.TheVariants.{Done, MapAt, Refused, Bus};
+ghost use Rattle.av_trace.specs.declared.reply.Answer.TheVariants.{Done, MapAt, Refused, Bus, Oom};
 ghost use Rattle.av_plain.specs.Ledger.{InFrame, InSlot};
 ghost use Rattle.av_plain.specs.Fault.{sparing};
 ghost use Rattle.av_plain.specs.Pass.{IsPass};
@@ -14,6 +14,7 @@ ghost use Rattle.av_laws.specs.Examples.{
   Allows,
   Forbids,
   Leads,
+  Rejects,
   answered,
   machine,
   read_write,
@@ -42,6 +43,7 @@ ghost use Rattle.av_laws.specs.Pairs.{
   second_starved,
   evicts,
   no_slot_written,
+  wrong_slot,
   to_bad_page,
   completes,
   second_fails,
@@ -84,10 +86,12 @@ pub fn passes_run()
         orphan_of_two }
 {}
 
-/// A mapping over a page that a hint names, and a pass that puts a frame at a bad page, may not be.
+/// A mapping over a page that a hint names, and a pass that puts a frame at a bad page, or not at
+/// the slot in turn, may not be.
 pub fn changed_pairs_are_refused()
     ensures hint_taken { Forbids (machine 4) untouched (Mmap 1 4096 read_write (At 0x7fffffffe000))
         (answered (MapAt 0x7fffffffe000) []) }
+    ensures wrong_slot { Rejects bad_first full wrong_slot }
     ensures bad_page { IsPass bad_first (sparing full.world full.ledger None) full.ledger
         to_bad_page → ⊥ }
 {}
@@ -108,5 +112,8 @@ pub fn faults_are_counted()
         (answered (Bus 0 []) (Failed (slot 1) ∷ Written (slot 2) ∷ Failed (slot 3) ∷ []))
         ≡ 3 }
     ensures eio { causes (answered (Refused Eio) []) ≡ 1 }
+    ensures cached_when_out { causes
+        (answered (Oom 0 (record { pinned = 0; noslot = 1; fault = 2 }) []) (Failed (slot 1) ∷ []))
+        ≡ 2 }
     ensures no_fault { causes (answered (Refused Enomem) (Written (slot 1) ∷ [])) ≡ 0 }
 {}

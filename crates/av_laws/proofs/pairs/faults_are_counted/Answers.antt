@@ -9,3 +9,6 @@ returns-clause-eio c = refl
 
 pub returns-clause-no_fault : goal.returns-clause-no_fault
 returns-clause-no_fault c = refl
+
+pub returns-clause-cached_when_out : goal.returns-clause-cached_when_out
+returns-clause-cached_when_out c = refl

@@ -1,4 +1,4 @@
-use Rattle.av_laws.proofs.ViewExamples.{other_byte-not, write_bit-not, no_entry-not, other_count-not, other_order-not, made_active-not, area_too_long-not, area_twice-not, areas_of_nobody-not, too_few_processes-not}
+use Rattle.av_laws.proofs.ViewExamples.{other_byte-not, write_bit-not, no_entry-not, other_count-not, other_order-not, made_active-not, area_too_long-not, area_twice-not, areas_of_nobody-not, too_few_processes-not, slots_of_none-not, area_of_another-not, other_offset-not}
 use Rattle.av_laws.proofs.views.changed_views_do_not_stand.Goals as goal
 
 pub returns-clause-other_byte : goal.returns-clause-other_byte
@@ -30,3 +30,12 @@ returns-clause-areas_of_nobody c = areas_of_nobody-not
 
 pub returns-clause-too_few_processes : goal.returns-clause-too_few_processes
 returns-clause-too_few_processes c = too_few_processes-not
+
+pub returns-clause-slots_of_none : goal.returns-clause-slots_of_none
+returns-clause-slots_of_none c = slots_of_none-not
+
+pub returns-clause-area_of_another : goal.returns-clause-area_of_another
+returns-clause-area_of_another c = area_of_another-not
+
+pub returns-clause-other_offset : goal.returns-clause-other_offset
+returns-clause-other_offset c = other_offset-not

@@ -1,0 +1,86 @@
+-- Worked examples for areas: what a process has on its pages after some commands, and what it hasn't.
+-- Which example would fail if a definition were wrong:
+--   a cut (`cut_at`, `part_of`): protected_inside, hole, offset_anew
+--   a join (`joined_at`, `are_mergeable`): joined_again, joined_above, joined_below, between,
+--     kept_apart, left_split, left_apart
+--   what goes (`emptied`, `with_room`): hole, fixed_over, left_under
+--   a change (`pages_changed`, `areas_to_hole`): protected_inside, up_to_hole, changed_past_hole,
+--     unchanged_before_hole
+--   the end of a process (`next_areas`): exited, kept_at_exit
+use Rattle.std.specs.Prelude.{◌≡◌, ℕ, List, [], ◌∷◌, ◌++◌, Some}
+use Rattle.std.specs.List.{AllByRecursion}
+use Rattle.av_base.specs.Words.{numbers}
+use Rattle.av_base.specs.declared.prot.Prot.{Prot}
+use Rattle.av_trace.specs.declared.command.Command.TheVariants.{Exit, Mmap, Mprotect, Munmap, Spawn}
+use Rattle.av_trace.specs.declared.place.Place.TheVariants.{Fixed}
+use Rattle.av_trace.specs.declared.reply.Answer.TheVariants.{Done, MapAt, Refused}
+use Rattle.av_trace.specs.declared.reply.Errno.TheVariants.{Enomem}
+use Rattle.av_vma.specs.Pages.{fresh_area, pages_in}
+use Rattle.av_vma.specs.declared.area.Area.{Area}
+use Rattle.av_plain.specs.Transcript.{Exchange, IsRun, State, at_first}
+use Rattle.av_laws.specs.Examples.{Runs, machine, read_only, read_write, says}
+
+-- ---- what a row claims
+
+-- these replies may come from nothing on, and leave process 1 these areas on each of n pages
+abbrev pub Makes : List Exchange → ℕ → ℕ → List Area → Type 0
+Makes row from n areas =
+    Runs 4 row
+    × ((new : State) → IsRun (machine 4) (at_first (machine 4)) row new
+    → AllByRecursion (λ page. new.areas 1 page ≡ pages_in (Some areas) page) (numbers from n))
+
+-- they never leave it this area on the page
+abbrev pub NeverHas : List Exchange → ℕ → Area → Type 0
+NeverHas row page area = (new : State) → IsRun (machine 4) (at_first (machine 4)) row new
+    → new.areas 1 page ≡ Some area → ⊥
+
+-- ---- rows
+
+-- an area of process 1, with the offset that it has where it is mapped
+abbrev pub area : ℕ → ℕ → Prot → Area
+area from past prot = fresh_area 1 from past prot
+
+-- four pages are mapped, for reading and writing
+abbrev pub four_pages : List Exchange
+four_pages =
+    says (Spawn 1) Done []
+    ∷ says (Mmap 1 16384 read_write (Fixed 0x10000)) (MapAt 0x10000) [] ∷ []
+
+-- the two in the middle are for reading only
+abbrev pub protected_inside : List Exchange
+protected_inside = four_pages ++ says (Mprotect 1 0x11000 8192 read_only) Done [] ∷ []
+
+-- and again as they were
+abbrev pub joined_again : List Exchange
+joined_again = protected_inside ++ says (Mprotect 1 0x11000 8192 read_write) Done [] ∷ []
+
+-- the second page is unmapped
+abbrev pub hole : List Exchange
+hole = four_pages ++ says (Munmap 1 0x11000 4096) Done [] ∷ []
+
+-- it is mapped again, alike: the new area has a neighbour on each side
+abbrev pub between : List Exchange
+between = hole ++ says (Mmap 1 4096 read_write (Fixed 0x11000)) (MapAt 0x11000) [] ∷ []
+
+-- two pages behind the four
+abbrev pub joined_above : Prot → List Exchange
+joined_above prot = four_pages ++ says (Mmap 1 8192 prot (Fixed 0x14000)) (MapAt 0x14000) [] ∷ []
+
+-- two pages, and then two before them
+abbrev pub joined_below : List Exchange
+joined_below =
+    says (Spawn 1) Done []
+    ∷ says (Mmap 1 8192 read_write (Fixed 0x12000)) (MapAt 0x12000) []
+    ∷ says (Mmap 1 8192 read_write (Fixed 0x10000)) (MapAt 0x10000) [] ∷ []
+
+-- a page for reading only over the second one
+abbrev pub fixed_over : List Exchange
+fixed_over = four_pages ++ says (Mmap 1 4096 read_only (Fixed 0x11000)) (MapAt 0x11000) [] ∷ []
+
+-- all are to be for reading only, but the second isn't mapped
+abbrev pub up_to_hole : List Exchange
+up_to_hole = hole ++ says (Mprotect 1 0x10000 16384 read_only) (Refused Enomem) [] ∷ []
+
+-- the process exits, and is spawned anew
+abbrev pub exited : List Exchange
+exited = four_pages ++ says (Exit 1) Done [] ∷ says (Spawn 1) Done [] ∷ []
