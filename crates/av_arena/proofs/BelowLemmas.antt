@@ -632,9 +632,6 @@ module _ {T S : Type 0} (key : T → ℕ) (unit : S) (op : S → S → S) (of : 
   pub later_other : (s : Store T S) (n : ℕ) (v : Stored T S) (x : T) → s n ≡ Some v → IsAt key unit op of s n x false → key v.entry ≤ key x → key v.entry < key x
   later_other s n v x e o le = let not = (o v e).1 refl in omega arith
 
-  pub side_used : (s : Store T S) (n : ℕ) (x : T) → HasKeyBelow key unit op of s n x → IsSome (s n)
-  side_used s n x b = subst (λ i. IsSome (s i)) b.number (used key unit op of laws s b.link b.there.held)
-
   -- what is left of a tree without its root
   pub taken_last : (s : Store T S) (n : ℕ) (v : Stored T S) (x : T) → s n ≡ Some v → IsAt key unit op of s n x true → v.right ≡ None → IsTaken key unit op of s s n x v.left
   taken_last s n v x e at last k p h =

@@ -3,12 +3,12 @@
 use Rattle.std.proofs.Common.{append_assoc, append-nil, ◌≡◌, ℕ, zero, suc, ◌+◌, ◌<◌, ◌≤◌, max, ◌⊎◌, inl, inr, Bool, true, false, cond, eqb, IsSome, Option, Some, None, List, [], ◌∷◌, ◌++◌, refl, sym, ap, ◌∙◌, subst, arith}
 use Rattle.std.proofs.Math.Path.{fun_ext}
 use Rattle.std.proofs.lemmas.Bool.{cases_lt, eqb-true, eq-eqb, ne_eqb}
-use Rattle.av_arena.specs.Arena.{left_put, right_put}
-use Rattle.av_arena.specs.Tree.{DifferByAtMost, Tree, Leaf, Fork, entries, height, is, count, IsLevel, link_of, Store, height_of, sum_of, tree_or_leaf, levels, tree_at, IsStored, IsHeld, IsOpened, IsSet, IsSpot, IsTree, IsJoined, IsPlaceFor, IsPlaced, HasKey, IsReplaced, IsRoot, IsWithout, IsPopped, none}
+use Rattle.av_arena.specs.Arena.{left_put}
+use Rattle.av_arena.specs.Tree.{DifferByAtMost, Tree, Leaf, Fork, entries, height, is, count, IsLevel, link_of, Store, height_of, sum_of, tree_or_leaf, levels, tree_at, IsStored, IsHeld, IsOpened, IsSet, IsSpot, IsTree, IsJoined, IsPlaceFor, IsPlaced, HasKey, IsRoot, IsWithout, IsPopped}
 use Rattle.av_base.specs.Words.{with_at}
 use Rattle.av_arena.specs.Monoid.{MonoidLaws, total}
-use Rattle.av_arena.specs.Order.{IsRising, with_entry, without_key, entry_at}
-use Rattle.av_arena.proofs.Order.{rising_front, rising_back, rising_without, at_left, at_right, with_left, with_right, with_between, without_left, without_right, without_middle}
+use Rattle.av_arena.specs.Order.{IsRising, without_key, entry_at}
+use Rattle.av_arena.proofs.Order.{rising_front, rising_back, at_left, at_right, without_middle}
 use Rattle.av_arena.proofs.Monoid.{total-append}
 use Rattle.av_arena.specs.declared.link.Link.{Link}
 use Rattle.av_arena.specs.declared.link.Stored.{Stored}
@@ -199,11 +199,6 @@ module _ {T S : Type 0} (key : T → ℕ) (unit : S) (op : S → S → S) (of : 
       let high : k.height ≡ max (height_of left) (height_of right) + 1 = rw h at (root_height s k own x right root) in
       joined_once s s' k.number left x right _ spot (record { store = e ∙ ap (λ o. with_at k.number (left_put left o) s) root.stored; link = rw (high, p) refl }) (rw h at root.level)
 
-  pub right_set : (s s' : Store T S) (k : Link S) (left : Option (Link S)) (x : T) (own right : Option (Link S)) (sum : S) → IsRoot key unit op of s k left x own → IsSpot key unit op of s k.number left right → s' ≡ with_at k.number (right_put right (s k.number)) s → height_of own ≡ height_of right → sum ≡ op (sum_of unit left) (op (of x) (sum_of unit right)) → IsJoined key unit op of s s' k.number left x right (record { number = k.number; height = k.height; sum = sum })
-  right_set s s' k left x own right sum root spot e h p =
-      let high : k.height ≡ max (height_of left) (height_of right) + 1 = rw h at (root_height s k left x own root) in
-      joined_once s s' k.number left x right _ spot (record { store = e ∙ ap (λ o. with_at k.number (right_put right o) s) root.stored; link = rw (high, p) refl }) (rw h at root.level)
-
   -- a node stands where one of its sides has changed
   pub root_kept : (s s' : Store T S) (k : Link S) (l : Option (Link S)) (x : T) (r new : Option (Link S)) (xs : List T) (f g : ℕ → ℕ) → IsRoot key unit op of s k l x r → IsTree key unit op of s s' new xs f g → f k.number ≡ 0 → IsRoot key unit op of s' k l x r
   root_kept s s' k l x r new xs f g root t z = record { stored = t.kept k.number z ∙ root.stored; told = root.told; level = root.level }
@@ -326,17 +321,6 @@ module _ {T S : Type 0} (key : T → ℕ) (unit : S) (op : S → S → S) (of : 
         used = λ j u. w.used j (t.used j u);
       }
 
-  pub whole_right : (s s' s'' : Store T S) (n : ℕ) (a new : Option (Link S)) (x : T) (k : Link S) (xs : List T) (f g : ℕ → ℕ) → IsTree key unit op of s s' new xs f g → IsHeld key unit op of s a → ((j : ℕ) → is n j + (count j (tree_at s a) + f j) ≤ 1) → IsJoined key unit op of s' s'' n a x new k → IsTree key unit op of s s'' (Some k) (entries (tree_at s a) ++ x ∷ xs) (λ j. is n j + (count j (tree_at s a) + f j)) g
-  whole_right s s' s'' n a new x k xs f g t h o w =
-      let ka = kept s s' a h (λ j c. t.kept j (let d = o j in omega arith)) in
-      record {
-        held = w.held;
-        entries = w.entries ∙ rw (t.entries, ka.tree) refl;
-        count = λ j. let c = w.count j in let d = t.count j in let e = ap (count j) ka.tree in omega arith;
-        kept = λ j z. let d = t.count j in let e = ap (count j) ka.tree in w.kept j (omega arith) ∙ t.kept j (omega arith);
-        used = λ j u. w.used j (t.used j u);
-      }
-
   -- putting in
   pub fresh_once : (s : Store T S) (k : Link S) (v : Stored T S) (n : ℕ) → IsOpened key unit op of s k v → count n (tree_at s (Some k)) ≡ 0 → (j : ℕ) → is n j + (is k.number j + (count j (tree_at s v.left) + count j (tree_at s v.right))) ≤ 1
   fresh_once s k v n o z j = elim (is_cases n j) [
@@ -389,40 +373,6 @@ module _ {T S : Type 0} (key : T → ℕ) (unit : S) (op : S → S → S) (of : 
       let e = none_tree s in
       let t = joined_once s s' n None x None k (record { used = p.used; left = p.held; right = p.held; once = λ j. rw e (let c = is_at_most n j in omega arith) }) set (omega arith, omega arith) in
       retree s s' (Some k) _ _ _ _ _ _ t (rw e refl) (λ j. rw e (omega arith)) (λ j. refl)
-
-  pub placed_left_ready : (s s' : Store T S) (k : Link S) (v : Stored T S) (n : ℕ) (x : T) (new : Link S) → IsPlaceFor key unit op of s (Some k) n x → IsOpened key unit op of s k v → IsPlaced key unit op of s s' v.left n x new → IsSpot key unit op of s' k.number (Some new) v.right
-  placed_left_ready s s' k v n x new p o t =
-      ready_left s s' k.number (Some new) v.right _ (λ j. is n j + count j (tree_at s v.left)) none t o.right o.used (λ j. let c = fresh_once s k v n o p.fresh j in omega arith)
-
-  pub placed_right_ready : (s s' : Store T S) (k : Link S) (v : Stored T S) (n : ℕ) (x : T) (new : Link S) → IsPlaceFor key unit op of s (Some k) n x → IsOpened key unit op of s k v → IsPlaced key unit op of s s' v.right n x new → IsSpot key unit op of s' k.number v.left (Some new)
-  placed_right_ready s s' k v n x new p o t =
-      ready_right s s' k.number v.left (Some new) _ (λ j. is n j + count j (tree_at s v.right)) none t o.left o.used (λ j. let c = fresh_once s k v n o p.fresh j in omega arith)
-
-  pub placed_left_root : (s s' : Store T S) (k : Link S) (v : Stored T S) (n : ℕ) (x : T) (new : Link S) → IsPlaceFor key unit op of s (Some k) n x → IsOpened key unit op of s k v → IsPlaced key unit op of s s' v.left n x new → IsRoot key unit op of s' k v.left v.entry v.right
-  placed_left_root s s' k v n x new p o t = root_kept s s' k v.left v.entry v.right (Some new) _ (λ j. is n j + count j (tree_at s v.left)) none o.root t (let c = fresh_once s k v n o p.fresh k.number in let d = is_same k.number in omega arith)
-
-  pub placed_right_root : (s s' : Store T S) (k : Link S) (v : Stored T S) (n : ℕ) (x : T) (new : Link S) → IsPlaceFor key unit op of s (Some k) n x → IsOpened key unit op of s k v → IsPlaced key unit op of s s' v.right n x new → IsRoot key unit op of s' k v.left v.entry v.right
-  placed_right_root s s' k v n x new p o t = root_kept s s' k v.left v.entry v.right (Some new) _ (λ j. is n j + count j (tree_at s v.right)) none o.root t (let c = fresh_once s k v n o p.fresh k.number in let d = is_same k.number in omega arith)
-
-  pub placed_left : (s s' s'' : Store T S) (k : Link S) (v : Stored T S) (n : ℕ) (x : T) (new k' : Link S) → IsPlaceFor key unit op of s (Some k) n x → IsOpened key unit op of s k v → key x < key v.entry → IsPlaced key unit op of s s' v.left n x new → IsJoined key unit op of s' s'' k.number (Some new) v.entry v.right k' → IsPlaced key unit op of s s'' (Some k) n x k'
-  placed_left s s' s'' k v n x new k' p o h t w =
-      let a = tree_at s v.left in
-      let b = tree_at s v.right in
-      let u = whole_left s s' s'' k.number (Some new) v.right v.entry k' _ (λ j. is n j + count j a) none t o.right (λ j. let c = fresh_once s k v n o p.fresh j in omega arith) w in
-      retree s s'' (Some k') _ _ _ _ _ _ u
-      (sym (with_left key x v.entry (entries a) (entries b) h) ∙ rw o.tree refl)
-      (λ j. rw o.tree (omega arith)) (λ j. refl)
-
-  pub placed_right : (s s' s'' : Store T S) (k : Link S) (v : Stored T S) (n : ℕ) (x : T) (new k' : Link S) → IsPlaceFor key unit op of s (Some k) n x → IsOpened key unit op of s k v → key v.entry ≤ key x → IsPlaced key unit op of s s' v.right n x new → IsJoined key unit op of s' s'' k.number v.left v.entry (Some new) k' → IsPlaced key unit op of s s'' (Some k) n x k'
-  placed_right s s' s'' k v n x new k' p o le t w =
-      let a = tree_at s v.left in
-      let b = tree_at s v.right in
-      let h = later s k v n x p o le in
-      let up : IsRising key (entries a ++ v.entry ∷ entries b) = rw o.tree at p.rising in
-      let u = whole_right s s' s'' k.number v.left (Some new) v.entry k' _ (λ j. is n j + count j b) none t o.left (λ j. let c = fresh_once s k v n o p.fresh j in omega arith) w in
-      retree s s'' (Some k') _ _ _ _ _ _ u
-      (sym (with_right key x v.entry (entries a) (entries b) h up) ∙ rw o.tree refl)
-      (λ j. rw o.tree (omega arith)) (λ j. refl)
 
   -- taking out
   pub stored_used : (s : Store T S) (t : Tree T) → IsStored key unit op of s t → (j : ℕ) → 1 ≤ count j t → IsSome (s j)
@@ -478,37 +428,6 @@ module _ {T S : Type 0} (key : T → ℕ) (unit : S) (op : S → S → S) (of : 
       let up : IsRising key (a ++ v.entry ∷ b) = rw o.tree at p.rising in
       record { held = o.right; rising = rising_back key a v.entry b up; there = subst IsSome (at_right key (key x) v.entry a b h up) (rw o.tree at p.there) }
 
-  pub key_some : (s : Store T S) (x : T) → HasKey key unit op of s None x → ⊥
-  key_some s x p = let h = rw (none_tree s) at p.there in cc
-
-  pub removed_left_ready : (s s' : Store T S) (k : Link S) (v : Stored T S) (xs : List T) (n : ℕ) (new : Option (Link S)) → IsOpened key unit op of s k v → IsWithout key unit op of s s' v.left xs n new → IsSpot key unit op of s' k.number new v.right
-  removed_left_ready s s' k v xs n new o t = ready_left s s' k.number new v.right _ (λ j. count j (tree_at s v.left)) (is n) t o.right o.used o.once
-
-  pub removed_right_ready : (s s' : Store T S) (k : Link S) (v : Stored T S) (xs : List T) (n : ℕ) (new : Option (Link S)) → IsOpened key unit op of s k v → IsWithout key unit op of s s' v.right xs n new → IsSpot key unit op of s' k.number v.left new
-  removed_right_ready s s' k v xs n new o t = ready_right s s' k.number v.left new _ (λ j. count j (tree_at s v.right)) (is n) t o.left o.used o.once
-
-  pub left_root : (s s' : Store T S) (k : Link S) (v : Stored T S) (xs : List T) (g : ℕ → ℕ) (new : Option (Link S)) → IsOpened key unit op of s k v → IsTree key unit op of s s' new xs (λ j. count j (tree_at s v.left)) g → IsRoot key unit op of s' k v.left v.entry v.right
-  left_root s s' k v xs g new o t = root_kept s s' k v.left v.entry v.right new xs (λ j. count j (tree_at s v.left)) g o.root t (let c = o.once k.number in let d = is_same k.number in omega arith)
-
-  pub right_root : (s s' : Store T S) (k : Link S) (v : Stored T S) (xs : List T) (g : ℕ → ℕ) (new : Option (Link S)) → IsOpened key unit op of s k v → IsTree key unit op of s s' new xs (λ j. count j (tree_at s v.right)) g → IsRoot key unit op of s' k v.left v.entry v.right
-  right_root s s' k v xs g new o t = root_kept s s' k v.left v.entry v.right new xs (λ j. count j (tree_at s v.right)) g o.root t (let c = o.once k.number in let d = is_same k.number in omega arith)
-
-  pub removed_left : (s s' s'' : Store T S) (k : Link S) (v : Stored T S) (x : T) (n : ℕ) (new : Option (Link S)) (k' : Link S) → HasKey key unit op of s (Some k) x → IsOpened key unit op of s k v → key x < key v.entry → IsWithout key unit op of s s' v.left (without_key key (key x) (entries (tree_at s v.left))) n new → IsJoined key unit op of s' s'' k.number new v.entry v.right k' → IsWithout key unit op of s s'' (Some k) (without_key key (key x) (entries (tree_at s (Some k)))) n (Some k')
-  removed_left s s' s'' k v x n new k' p o h t w =
-      let a = entries (tree_at s v.left) in
-      let b = entries (tree_at s v.right) in
-      let up : IsRising key (a ++ v.entry ∷ b) = rw o.tree at p.rising in
-      let u = whole_left s s' s'' k.number new v.right v.entry k' _ (λ j. count j (tree_at s v.left)) (is n) t o.right o.once w in
-      retree s s'' (Some k') _ _ _ _ _ _ u (sym (without_left key (key x) v.entry a b h up) ∙ rw o.tree refl) (λ j. rw o.tree refl) (λ j. refl)
-
-  pub removed_right : (s s' s'' : Store T S) (k : Link S) (v : Stored T S) (x : T) (n : ℕ) (new : Option (Link S)) (k' : Link S) → HasKey key unit op of s (Some k) x → IsOpened key unit op of s k v → key v.entry < key x → IsWithout key unit op of s s' v.right (without_key key (key x) (entries (tree_at s v.right))) n new → IsJoined key unit op of s' s'' k.number v.left v.entry new k' → IsWithout key unit op of s s'' (Some k) (without_key key (key x) (entries (tree_at s (Some k)))) n (Some k')
-  removed_right s s' s'' k v x n new k' p o h t w =
-      let a = entries (tree_at s v.left) in
-      let b = entries (tree_at s v.right) in
-      let up : IsRising key (a ++ v.entry ∷ b) = rw o.tree at p.rising in
-      let u = whole_right s s' s'' k.number v.left new v.entry k' _ (λ j. count j (tree_at s v.right)) (is n) t o.left o.once w in
-      retree s s'' (Some k') _ _ _ _ _ _ u (sym (without_right key (key x) v.entry a b h up) ∙ rw o.tree refl) (λ j. rw o.tree refl) (λ j. refl)
-
   pub removed_last : (s : Store T S) (k : Link S) (v : Stored T S) (x : T) → HasKey key unit op of s (Some k) x → IsOpened key unit op of s k v → key x ≤ key v.entry → key v.entry ≤ key x → v.right ≡ None → IsWithout key unit op of s s (Some k) (without_key key (key x) (entries (tree_at s (Some k)))) k.number v.left
   removed_last s k v x p o h i e =
       let t : tree_at s (Some k) ≡ Fork k.number (tree_at s v.left) v.entry Leaf = o.tree ∙ ap (Fork k.number (tree_at s v.left) v.entry) (ap (tree_at s) e ∙ none_tree s) in
@@ -543,39 +462,3 @@ module _ {T S : Type 0} (key : T → ℕ) (unit : S) (op : S → S → S) (of : 
         kept = λ j z. let y = rw t at z in let d = q.rest.count j in let f = ap (count j) ka.tree in w.kept j (omega arith) ∙ q.rest.kept j (omega arith);
         used = λ j u. w.used j (q.rest.used j u);
       }
-
-  -- replacing
-  pub replaced_left_ready : (s s' : Store T S) (k : Link S) (v : Stored T S) (x : T) (new : Link S) → IsOpened key unit op of s k v → IsReplaced key unit op of s s' v.left x new → IsSpot key unit op of s' k.number (Some new) v.right
-  replaced_left_ready s s' k v x new o t = ready_left s s' k.number (Some new) v.right _ (λ j. count j (tree_at s v.left)) none t o.right o.used o.once
-
-  pub replaced_right_ready : (s s' : Store T S) (k : Link S) (v : Stored T S) (x : T) (new : Link S) → IsOpened key unit op of s k v → IsReplaced key unit op of s s' v.right x new → IsSpot key unit op of s' k.number v.left (Some new)
-  replaced_right_ready s s' k v x new o t = ready_right s s' k.number v.left (Some new) _ (λ j. count j (tree_at s v.right)) none t o.left o.used o.once
-
-  pub replaced_left : (s s' s'' : Store T S) (k : Link S) (v : Stored T S) (x : T) (new k' : Link S) → HasKey key unit op of s (Some k) x → IsOpened key unit op of s k v → key x < key v.entry → IsReplaced key unit op of s s' v.left x new → IsJoined key unit op of s' s'' k.number (Some new) v.entry v.right k' → IsReplaced key unit op of s s'' (Some k) x k'
-  replaced_left s s' s'' k v x new k' p o h t w =
-      let a = entries (tree_at s v.left) in
-      let b = entries (tree_at s v.right) in
-      let up : IsRising key (a ++ v.entry ∷ b) = rw o.tree at p.rising in
-      let u = whole_left s s' s'' k.number (Some new) v.right v.entry k' _ (λ j. count j (tree_at s v.left)) none t o.right o.once w in
-      let is : with_entry key x (without_key key (key x) (a ++ v.entry ∷ b)) ≡ with_entry key x (without_key key (key x) a) ++ v.entry ∷ b = rw (without_left key (key x) v.entry a b h up) (with_left key x v.entry (without_key key (key x) a) b h) in
-      retree s s'' (Some k') _ _ _ _ _ _ u (sym is ∙ rw o.tree refl) (λ j. rw o.tree refl) (λ j. refl)
-
-  pub replaced_right : (s s' s'' : Store T S) (k : Link S) (v : Stored T S) (x : T) (new k' : Link S) → HasKey key unit op of s (Some k) x → IsOpened key unit op of s k v → key v.entry < key x → IsReplaced key unit op of s s' v.right x new → IsJoined key unit op of s' s'' k.number v.left v.entry (Some new) k' → IsReplaced key unit op of s s'' (Some k) x k'
-  replaced_right s s' s'' k v x new k' p o h t w =
-      let a = entries (tree_at s v.left) in
-      let b = entries (tree_at s v.right) in
-      let up : IsRising key (a ++ v.entry ∷ b) = rw o.tree at p.rising in
-      let u = whole_right s s' s'' k.number v.left (Some new) v.entry k' _ (λ j. count j (tree_at s v.right)) none t o.left o.once w in
-      let e = without_right key (key x) v.entry a b h up in
-      let is : with_entry key x (without_key key (key x) (a ++ v.entry ∷ b)) ≡ a ++ v.entry ∷ with_entry key x (without_key key (key x) b) = rw e (with_right key x v.entry a (without_key key (key x) b) h (subst (IsRising key) e (rising_without key (key x) _ up))) in
-      retree s s'' (Some k') _ _ _ _ _ _ u (sym is ∙ rw o.tree refl) (λ j. rw o.tree refl) (λ j. refl)
-
-  pub replaced_here : (s s' : Store T S) (k : Link S) (v : Stored T S) (x : T) (k' : Link S) → HasKey key unit op of s (Some k) x → IsOpened key unit op of s k v → key x ≤ key v.entry → key v.entry ≤ key x → IsSet key unit op of s s' k.number v.left x v.right k' → IsReplaced key unit op of s s' (Some k) x k'
-  replaced_here s s' k v x k' p o h i set =
-      let a = entries (tree_at s v.left) in
-      let b = entries (tree_at s v.right) in
-      let up : IsRising key (a ++ v.entry ∷ b) = rw o.tree at p.rising in
-      let same : key x ≡ key v.entry = omega arith in
-      let u = joined_once s s' k.number v.left x v.right k' (record { used = o.used; left = o.left; right = o.right; once = o.once }) set o.level in
-      let is : with_entry key x (without_key key (key x) (a ++ v.entry ∷ b)) ≡ a ++ x ∷ b = rw (without_middle key (key x) v.entry a b (sym same) up) (with_between key x v.entry a b same up) in
-      retree s s' (Some k') _ _ _ _ _ _ u (sym is ∙ rw o.tree refl) (λ j. rw o.tree refl) (λ j. refl)
