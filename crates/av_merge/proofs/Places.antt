@@ -8,7 +8,7 @@ use Rattle.av_vma.specs.declared.area.Area.{Area}
 use Rattle.av_vma.specs.Join.{first_of, past_of}
 use Rattle.av_base.specs.Words.{within, with_at}
 use Rattle.av_vmatree.specs.declared.span.Span.{Span}
-use Rattle.av_vmatree.specs.Spans.{without_area, AreApart, AreDistinct, AreSpans, area_at, holds, span_of, taken, unless_area, IsFree}
+use Rattle.av_vmatree.specs.Spans.{without_area, AreApart, AreDistinct, AreSpans, area_at, holds, span_of, taken, unless_area}
 use Rattle.av_vmatree.proofs.Spans.{held, removed}
 use Rattle.av_vma.specs.Pages.{IsWhole, has_page, placed}
 use Rattle.av_merge.specs.Pages.{pages_by}
@@ -162,14 +162,6 @@ at_rest spans n s page good there =
     let r = removed n s.from spans spans _ refl good (subst (λ o. IsSomeAnd o (λ t. t.from ≡ s.from)) (sym there) refl) refl in
     ap (λ l. area_at l page) (sym r.spans) ∙ r.pages page
 
--- the pages of an area are free without it
-pub rest_free : (spans : List Span) (n : ℕ) (s : Span) → AreSpans spans → span_of spans n ≡ Some s → IsFree (taken (without_area n spans)) s.from s.to
-rest_free spans n s good there page low high =
-    ap is_some (at_rest spans n s page good there ∙ ap (unless_area n) (at_span spans n s page good.apart there low high) ∙ ap (λ b. cond b None (Some n)) (same n))
-  where
-    same : (n : ℕ) → (n == n) ≡ true
-    same n = grind (arith, nat_tests)
-
 -- ---- the areas of other processes
 
 pub others_refl : (p : ℕ) (areas : ℕ → Option Area) → KeepsOthers p areas areas
@@ -252,7 +244,6 @@ module _ (p n m : ℕ) (s t : Span) (lower upper : Area) (areas areas' : ℕ →
     (stands : AreAreasOf p areas spans) (there : IsSomeAnd (span_of spans n) (λ u. (u.from ≡ first_of lower) × (u.to ≡ past_of upper))) (unused : areas m ≡ None)
     (is_lower : IsAreaOf p s lower) (is_upper : IsAreaOf p t upper)
     (now : (k : ℕ) → areas' k ≡ with_at n (Some lower) (with_at m (Some upper) areas) k)
-    (kept : AreSpans spans') (spans_now : (k : ℕ) → span_of spans' k ≡ with_at m (Some t) (with_at n (Some s) (span_of spans)) k)
     (pages_now : (page : ℕ) → area_at spans' page ≡ cond (holds t page) (Some m) (cond (holds s page) (Some n) (unless_area n (area_at spans page)))) where
   -- the number that is in use is not the new one
   apart : m ≢ n
@@ -261,12 +252,6 @@ module _ (p n m : ℕ) (s t : Span) (lower upper : Area) (areas areas' : ℕ →
       each : (o : Option Span) → IsSomeAnd o (λ u. (u.from ≡ first_of lower) × (u.to ≡ past_of upper)) → IfSome o (λ u. IsSomeAnd (areas n) (IsAreaOf p u)) → ⊥
       each None some used = absurd some
       each (Some u) some used = subst (λ o. IsSomeAnd o (IsAreaOf p u)) (ap areas (sym same) ∙ unused) used
-
-  pub apart_stands : AreAreasOf p areas' spans'
-  apart_stands = grind (arith, common_steps)
-
-  pub apart_others : KeepsOthers p areas areas'
-  apart_others = grind (arith, common_steps)
 
   pub apart_pages : (page : ℕ) → pages_by areas' spans' page ≡ placed upper (placed lower (pages_by (with_at n None areas) spans)) page
   apart_pages page =

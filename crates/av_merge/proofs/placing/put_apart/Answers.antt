@@ -1,7 +1,6 @@
 use Rattle.std.proofs.Common.{◌≡◌, Some, ap, cond, refl, ◌==◌, ◌∙◌}
 use Rattle.av_vma.specs.Areas.{area_of}
-use Rattle.av_base.specs.Words.{with_at}
-use Rattle.av_vmatree.specs.Spans.{area_at, holds, span_of, unless_area}
+use Rattle.av_vmatree.specs.Spans.{area_at, holds, unless_area}
 use Rattle.av_vmatree.specs.declared.span.Span.{Span}
 use Rattle.av_merge.proofs.Places.{apart_pages}
 use Rattle.av_merge.proofs.placing.put_apart.Goals as goal
@@ -24,6 +23,4 @@ returns-in-Ok-clause-pages c =
     (record { process = refl; whole = r.whole_lower; from = ap (λ (s : Span). s.from) c.place_of.ensures; to = ap (λ (s : Span). s.to) c.place_of.ensures })
     (record { process = r.same_process; whole = r.whole_upper; from = ap (λ (s : Span). s.from) c.place_of-2.ensures; to = ap (λ (s : Span). s.to) c.place_of-2.ensures })
     (λ k. c.change.ensures k ∙ ap (λ o. cond (k == n) (Some lower) o) (new.ensures.added k))
-    e.kept
-    (λ k. e.areas k ∙ (λ i. with_at (high i) (Some t) (with_at (low i) (Some s) (span_of spans)) k))
     (λ page. e.pages page ∙ (λ i. cond (holds t page) (Some (high i)) (cond (holds s page) (Some (low i)) (unless_area (low i) (area_at spans page)))))
