@@ -44,4 +44,5 @@ kin_after_prepare None f = new_root f
 kin_after_prepare (Some v) f = with_active_area v f
 
 abbrev pub after_prepare : ℕ → Option ℕ → Family → Family
-after_prepare area loan f = with_links area (own_after_prepare loan f ∷ []) (kin_after_prepare loan f)
+after_prepare area loan f =
+    with_links area (own_after_prepare loan f ∷ []) (kin_after_prepare loan f)

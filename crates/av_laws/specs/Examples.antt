@@ -358,7 +358,8 @@ abbrev pub when_given : ℕ → Slots → Slots
 when_given zero slots = slots
 when_given (suc n) slots = when_given n (unwrap_or (option_map (λ t. t.1) (take_slot slots)) slots)
 
--- these frames are free, and all slots but the first so many of an area of pages with these bad ones
+-- these frames are free, and all slots but the first so many of an area of pages with these bad
+-- ones
 abbrev pub with_slots : ℕ → List ℕ → ℕ → List ℕ → Free
 with_slots pages bad n frames =
     record { frames = frames; slots = with_at 0 (when_given n (fresh pages bad)) no_slots }

@@ -20,8 +20,9 @@ ghost use Rattle.av_laws.specs.Areas.{
 ghost use Rattle.av_laws.specs.Examples.{read_only, read_write};
 
 /// The areas after some commands: a change inside an area splits it, and its parts join where it is
-/// undone; a hole leaves two parts, whose offsets run on; a mapping joins its neighbours, and one at
-/// a fixed place takes away what stands there; a change that meets a hole changes what is before it.
+/// undone; a hole leaves two parts, whose offsets run on; a mapping joins its neighbours, and one
+/// at a fixed place takes away what stands there; a change that meets a hole changes what is before
+/// it.
 pub fn areas_follow()
     ensures four_pages { Makes four_pages 0xf 6 (area 0x10 0x14 read_write ∷ []) }
     ensures protected_inside { Makes protected_inside 0xf 6

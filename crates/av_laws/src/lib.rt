@@ -89,9 +89,9 @@ pub fn numbers_add_up()
         → out.pinned + out.noslot + out.fault ≡ m.frames }
 {}
 
-/// Where the devices tell their pages, each byte of the memories is claimed and no fault of a device
-/// shows, a command has one reply, and leaves one state, with its areas, its free frames and slots:
-/// nothing is left to the kernel's choice.
+/// Where the devices tell their pages, each byte of the memories is claimed and no fault of a
+/// device shows, a command has one reply, and leaves one state, with its areas, its free frames and
+/// slots: nothing is left to the kernel's choice.
 pub fn replies_are_determined()
     ensures { (m : Setting) (old new other : State) (command : Command) (reply reply' : Reply)
         → Tells m → IsClaimed old.world → IsFaultless reply → IsFaultless reply'
@@ -137,8 +137,8 @@ pub fn replies_are_read_back()
         → IsCommand command → IsLegal m w l command reply events → IsReply reply }
 {}
 
-/// So is each reply of a run from nothing on, where no device is attached, the machine's frames have
-/// numbers of 64 bits, and the commands are those of the grammar.
+/// So is each reply of a run from nothing on, where no device is attached, the machine's frames
+/// have numbers of 64 bits, and the commands are those of the grammar.
 pub fn replies_of_runs_are_read_back()
     ensures { (m : Setting) (exchanges : List Exchange) (new : State) → HasNoDevice m
         → IsWide m.frames

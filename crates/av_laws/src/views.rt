@@ -14,8 +14,8 @@ pub fn the_right_view_stands()
 
 /// After a fork, a view stands for the state only where it has the bytes of the shared frame, no
 /// write bit over it, all entries and counts, the free frames in their order, no slots, no other
-/// active frames, and the areas of each process that lives, apart, over its pages alone, its own and
-/// with their offsets.
+/// active frames, and the areas of each process that lives, apart, over its pages alone, its own
+/// and with their offsets.
 pub fn changed_views_do_not_stand()
     ensures other_byte { Refused (record right { bytes = λ f i. 0 }) }
     ensures write_bit { Refused (view_with (λ p. topmost p ∷ []) true) }

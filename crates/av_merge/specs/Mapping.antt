@@ -15,7 +15,12 @@ pub record Mapping : Type 0 where
 
 -- how an area maps one of its pages
 abbrev pub mapping_in : ℕ → Area → Mapping
-mapping_in page area = record { prot = area.prot; flags = area.flags; index = index_of area page; anon = area.anon }
+mapping_in page area = record {
+  prot = area.prot;
+  flags = area.flags;
+  index = index_of area page;
+  anon = area.anon;
+}
 
 -- how a page is mapped, if it is
 abbrev pub mapping : Pages → ℕ → Option Mapping

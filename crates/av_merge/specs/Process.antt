@@ -15,7 +15,8 @@ pub record IsAreaOf (p : ℕ) (s : Span) (area : Area) : Type 0 where
   pub from : s.from ≡ first_of area
   pub to : s.to ≡ past_of area
 
--- the spans are those of the areas of p: each is an area's, and each area of p that is in use has one
+-- the spans are those of the areas of p: each is an area's, and each area of p that is in use has
+-- one
 pub record AreAreasOf (p : ℕ) (areas : ℕ → Option Area) (spans : List Span) : Type 0 where
   pub spans_are : AreSpans spans
   pub used : (number : ℕ) →

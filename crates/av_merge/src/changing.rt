@@ -1,4 +1,5 @@
-//! New areas, and areas that are changed; each is joined with its neighbours where they go on in each other.
+//! New areas, and areas that are changed; each is joined with its neighbours where they go on in
+//! each other.
 
 ghost use Rattle.std.specs.Prelude.{◌≡◌, ℕ, ◌-◌, ◌*◌, ◌+◌, ◌<◌, ◌≤◌, ◌⊎◌, Some, true, false, if◌then◌else◌, option_map, IsSomeAnd, IfSome, OnOk, IfOk};
 ghost use Rattle.av_vma.specs.Areas.{area_of};
@@ -136,7 +137,8 @@ fn modify_part(
         (λ area. alters (effect_of change) area ≡ true) }
     ensures stands { StayOfOne areas.old tree.old areas.new tree.new }
     ensures pages { OnOk result
-        (Becomes areas.old tree.old areas.new tree.new (part_changed from past (effect_of change))) }
+        (Becomes areas.old tree.old areas.new tree.new
+        (part_changed from past (effect_of change))) }
     ensures mapping { OnOk result (IsRemapped from past (effect_of change)
         (pages_by (area_of areas.old) tree.old) (pages_by (area_of areas.new) tree.new)) }
 {

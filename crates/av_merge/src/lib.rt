@@ -2,11 +2,11 @@
 //!
 //! `Areas` holds the areas of all processes by number, and a `Tree` the spans of one process's
 //! areas. Every call here changes the two together. Pages go by number, which is their address over
-//! the size of a page. A call takes time logarithmic in the number of the process's areas, times the
-//! number of areas that it changes.
+//! the size of a page. A call takes time logarithmic in the number of the process's areas, times
+//! the number of areas that it changes.
 //!
-//! Proved: which area is on each page then, with every field (av_vma's `Pages`), and that no area of
-//! another process changed. Nothing is only tested.
+//! Proved: which area is on each page then, with every field (av_vma's `Pages`), and that no area
+//! of another process changed. Nothing is only tested.
 //!
 //! A call that answers want of memory may have done a part of its work; the two still go together.
 #![tactic(auto)]

@@ -102,9 +102,9 @@ impl Tree {
         self.spans.replace(Span { from, to, area });
     }
 
-    /// Gives an area that is there the span `lower`, a part of its own that begins with it, and puts
-    /// in the span `upper` of an area new to the process, a later part that ends with it. It goes
-    /// down once, where `set_end` and `insert` would each change every summary up to the root.
+    /// Gives an area that is there the span `lower`, a part of its own that begins with it, and
+    /// puts in the span `upper` of an area new to the process, a later part that ends with it. It
+    /// goes down once, where `set_end` and `insert` would each change every summary up to the root.
     ///
     /// Without memory all stays.
     pub fn split(&mut self, lower: Span, upper: Span) -> Result<(), AllocError>
