@@ -1,10 +1,12 @@
 -- Worked examples for areas: what a process has on its pages after some commands, and what it
--- hasn't. Which example would fail if a definition were wrong:   a cut (`cut_at`, `part_of`):
--- protected_inside, hole, offset_anew   a join (`joined_at`, `are_mergeable`): joined_again,
--- joined_above, joined_below, between,     kept_apart, left_split, left_apart   what goes
--- (`emptied`, `with_room`): hole, fixed_over, left_under   a change (`pages_changed`,
--- `areas_to_hole`): protected_inside, up_to_hole, changed_past_hole,     unchanged_before_hole
--- the end of a process (`next_areas`): exited, kept_at_exit
+-- hasn't. Which example would fail if a definition were wrong:
+--   a cut (`cut_at`, `part_of`): protected_inside, hole, offset_anew
+--   a join (`joined_at`, `are_mergeable`): joined_again, joined_above, joined_below, between,
+--     kept_apart, left_split, left_apart
+--   what goes (`emptied`, `with_room`): hole, fixed_over, left_under
+--   a change (`pages_changed`, `areas_to_hole`): protected_inside, up_to_hole, changed_past_hole,
+--     unchanged_before_hole
+--   the end of a process (`next_areas`): exited, kept_at_exit
 use Rattle.std.specs.Prelude.{◌≡◌, ℕ, List, [], ◌∷◌, ◌++◌, Some}
 use Rattle.std.specs.List.{AllByRecursion}
 use Rattle.av_base.specs.Words.{numbers}
