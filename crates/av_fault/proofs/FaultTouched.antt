@@ -142,6 +142,7 @@ module _ (s : State) (old new : Mem) (p page : ℕ) (notes : List Note) (keeps :
     parts = to_stand old s.world s.ledger (of_keeps old s keeps) keeps.tables;
     free = keeps.stands.free;
     areas = keeps.stands.areas;
+    anons = keeps.stands.anons;
   }
 
   -- its entry is zeros, at a read
@@ -156,6 +157,7 @@ module _ (s : State) (old new : Mem) (p page : ℕ) (notes : List Note) (keeps :
         parts = subst (KeepsWithin old s.world) (sym still) (to_stand old s.world s.ledger (of_keeps old s keeps) keeps.tables);
         free = (s.free, chooses-kept (setting (count old)) None s.ledger (Used false (p, page)) s.free (unslotted (count old) s.ledger (Used false (p, page)) s.free.slots refl refl) refl (none_freed (setting (count old)) s.ledger (after_use false (p, page) s.ledger) still), keeps.stands.free);
         areas = keeps.stands.areas;
+        anons = keeps.stands.anons;
       }
 
   module _ (processes : has new.tables ≡ has old.tables) (same : count new ≡ count old) where
@@ -171,6 +173,7 @@ module _ (s : State) (old new : Mem) (p page : ℕ) (notes : List Note) (keeps :
       parts = stand_now old new s.world s.ledger (view old) is same (of_keeps old s keeps) (tables_still old new keeps.tables processes (ap (λ (v : View). v.areas) is));
       free = ap free_of is ∙ keeps.stands.free;
       areas = λ q o. ap (λ (v : View). pages_in (v.areas q) o) is ∙ keeps.stands.areas q o;
+      anons = ap (λ (v : View). v.anons) is ∙ keeps.stands.anons;
     }
 
     -- its entry is a frame, which a write has for itself; it is marked as seen
@@ -197,6 +200,7 @@ module _ (s : State) (old new : Mem) (p page : ℕ) (notes : List Note) (keeps :
             ap free_of is ∙ keeps.stands.free,
           );
           areas = λ q o. ap (λ (v : View). pages_in (v.areas q) o) is ∙ keeps.stands.areas q o;
+          anons = ap (λ (v : View). v.anons) is ∙ keeps.stands.anons;
         }
       where
         needs : (write : Bool) → (write ≡ true → map_count s.ledger f ≤ 1) → need write s.ledger (entry s.ledger (p, page)) ≡ Ready
@@ -232,6 +236,7 @@ module _ (s : State) (old new : Mem) (p page : ℕ) (notes : List Note) (keeps :
               ),
             );
             areas = λ q o. ap (λ (v : View). pages_in (v.areas q) o) is ∙ keeps.stands.areas q o;
+            anons = ap (λ (v : View). v.anons) is ∙ keeps.stands.anons;
           }
 
       -- it gets a frame that was free
@@ -275,4 +280,5 @@ module _ (s : State) (old new : Mem) (p page : ℕ) (notes : List Note) (keeps :
               ),
             );
             areas = λ q o. ap (λ (v : View). pages_in (v.areas q) o) is.view ∙ keeps.stands.areas q o;
+            anons = ap (λ (v : View). v.anons) is.view ∙ keeps.stands.anons;
           }

@@ -56,6 +56,7 @@ pub record IsTouched (s : State) (new : Mem) (write : Bool) (k : Key) (before no
   pub free : ChoosesAll (setting (count new)) None s.ledger
       (page_events write k added (end_of touched)) s.free (free_of (view new))
   pub areas : AreasAre (view new) s.areas
+  pub anons : (view new).anons ≡ s.anons
 
 -- whatever stood before: the page is made ready or not, and there are as many frames
 pub record MakesReady (old new : Mem) (write : Bool) (k : Key) (before now : List Note)

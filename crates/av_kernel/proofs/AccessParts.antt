@@ -105,6 +105,7 @@ module _ (s : State) (mid new : Mem) (write : Bool) (p a k page at : ℕ) (xs ys
     ledger = ledger-both _ _ g.ledger;
     free = free-both _ _ g.free;
     areas = g.areas ∙ h.areas;
+    anons = g.anons ∙ h.anons;
     keeps = g.keeps;
   }
 
@@ -123,6 +124,7 @@ module _ (s : State) (mid new : Mem) (write : Bool) (p a k page at : ℕ) (xs ys
     ledger = ledger-both _ _ g.ledger;
     free = free-both _ _ g.free;
     areas = g.areas ∙ h.areas;
+    anons = g.anons ∙ h.anons;
     keeps = g.keeps;
   }
     where

@@ -67,6 +67,7 @@ module _ (s : State) (old new : Mem) (p a : ℕ) (before notes : List Note) (row
       ledger = h.ledger;
       free = subst (λ m. ChoosesAll (setting m) None s.ledger h.events s.free h.next.free) same h.free;
       areas = h.areas;
+      anons = h.anons;
     };
     keeps = h.keeps;
   }
@@ -92,6 +93,7 @@ module _ (s : State) (old new : Mem) (p a : ℕ) (before notes : List Note) (row
       ledger = h.ledger;
       free = subst (λ m. ChoosesAll (setting m) None s.ledger h.events s.free h.next.free) same h.free;
       areas = h.areas;
+      anons = h.anons;
     };
     keeps = h.keeps;
   }
@@ -115,6 +117,7 @@ module _ (s : State) (old new : Mem) (p a : ℕ) (before notes : List Note) (row
       ledger = h.ledger;
       free = subst (λ m. ChoosesAll (setting m) None s.ledger h.events s.free h.next.free) same h.free;
       areas = h.areas;
+      anons = h.anons;
     };
     keeps = h.keeps;
   }
@@ -138,6 +141,7 @@ module _ (s : State) (old new : Mem) (p a : ℕ) (before notes : List Note) (row
       ledger = h.ledger;
       free = subst (λ m. ChoosesAll (setting m) None s.ledger h.events s.free h.next.free) same h.free;
       areas = h.areas;
+      anons = h.anons;
     };
     keeps = h.keeps;
   }

@@ -16,7 +16,7 @@ use Rattle.av_plain.specs.Access.{Accesses, End, Stopped as EndStopped, Whole, p
 use Rattle.av_plain.specs.Fault as faults
 use Rattle.av_plain.specs.Fault.{Touches}
 use Rattle.av_plain.specs.Sound.{AllSound}
-use Rattle.av_plain.specs.Areas.{Areas}
+use Rattle.av_plain.specs.Areas.{Anons, Areas}
 use Rattle.av_plain.specs.Choice.{ChoosesAll}
 use Rattle.av_plain.specs.Stands.{AreasAre, free_of}
 use Rattle.av_spaces.specs.Spaces.{Spaces, pages_of as areas_on}
@@ -84,9 +84,10 @@ sound_written n w l p page at piece notes s alive some fits h =
 
 -- ---- the kernel
 
-pub keeps_now : (k : Mem) (w : World) (l : Ledger) (areas : Areas) → KeepsWithin k w l → AllSound (setting (count k)) w l → AreasAre (view k) areas → Keeps k (record { world = w; ledger = l; free = free_of (view k); areas = areas })
-keeps_now k w l areas h sound same = record {
-  stands = record { over = record { sizes = refl; headers = refl }; sound = sound; parts = h.parts; free = refl; areas = same };
+pub keeps_now : (k : Mem) (w : World) (l : Ledger) (areas : Areas) (anons : Anons) → KeepsWithin k w l → AllSound (setting (count k)) w l → AreasAre (view k) areas → (view k).anons ≡ anons
+    → Keeps k (record { world = w; ledger = l; free = free_of (view k); areas = areas; anons = anons })
+keeps_now k w l areas anons h sound same same_anons = record {
+  stands = record { over = record { sizes = refl; headers = refl }; sound = sound; parts = h.parts; free = refl; areas = same; anons = same_anons };
   tables = h.tables;
 }
 
@@ -105,13 +106,14 @@ module _ (s : State) (old : Mem) (p page at : ℕ) (piece : List ℕ) (before no
     added = t.added;
     notes = t.notes;
     touches = t.touches;
-    next = record { world = s.world; ledger = after_all s.ledger (page_events write (p, page) t.added (Some (stop_of stop))); free = free_of (view new); areas = s.areas };
+    next = record { world = s.world; ledger = after_all s.ledger (page_events write (p, page) t.added (Some (stop_of stop))); free = free_of (view new); areas = s.areas; anons = s.anons };
     world = world_is write;
     ledger = refl;
     free = t.free;
     areas = refl;
-    keeps = keeps_now new s.world (after_all s.ledger (page_events write (p, page) t.added (Some (stop_of stop)))) s.areas t.parts
-        (sound_touched (setting (count new)) s.world s.ledger write p page t.added (Some (stop_of stop)) (subst (λ n. AllSound (setting n) s.world s.ledger) (sym same) keeps.stands.sound) t.touches) t.areas;
+    anons = refl;
+    keeps = keeps_now new s.world (after_all s.ledger (page_events write (p, page) t.added (Some (stop_of stop)))) s.areas s.anons t.parts
+        (sound_touched (setting (count new)) s.world s.ledger write p page t.added (Some (stop_of stop)) (subst (λ n. AllSound (setting n) s.world s.ledger) (sym same) keeps.stands.sound) t.touches) t.areas t.anons;
   }
     where
       world_is : (write : Bool) → s.world ≡ world_after write p page at piece (Some stop) s.world
@@ -127,13 +129,14 @@ module _ (s : State) (old : Mem) (p page at : ℕ) (piece : List ℕ) (before no
         added = t.added;
         notes = t.notes;
         touches = touches;
-        next = record { world = s.world; ledger = after_all s.ledger (page_events false (p, page) t.added None); free = free_of (view new); areas = s.areas };
+        next = record { world = s.world; ledger = after_all s.ledger (page_events false (p, page) t.added None); free = free_of (view new); areas = s.areas; anons = s.anons };
         world = refl;
         ledger = refl;
         free = subst (λ end. ChoosesAll (setting (count new)) None s.ledger (page_events false (p, page) t.added end) s.free (free_of (view new))) served t.free;
         areas = refl;
-        keeps = keeps_now new s.world (after_all s.ledger (page_events false (p, page) t.added None)) s.areas (subst (KeepsWithin new s.world) after t.parts)
-            (sound_touched (setting (count new)) s.world s.ledger false p page t.added None (subst (λ n. AllSound (setting n) s.world s.ledger) (sym same) keeps.stands.sound) touches) t.areas;
+        anons = refl;
+        keeps = keeps_now new s.world (after_all s.ledger (page_events false (p, page) t.added None)) s.areas s.anons (subst (KeepsWithin new s.world) after t.parts)
+            (sound_touched (setting (count new)) s.world s.ledger false p page t.added None (subst (λ n. AllSound (setting n) s.world s.ledger) (sym same) keeps.stands.sound) touches) t.areas t.anons;
       }
 
   -- it was served to a write, and then the piece was laid over the frame's bytes
@@ -152,15 +155,16 @@ module _ (s : State) (old : Mem) (p page at : ℕ) (piece : List ℕ) (before no
         added = t.added;
         notes = t.notes;
         touches = subst (λ n. Touches (setting n) s.world s.ledger true (p, page) t.added None) count_is t.touches;
-        next = record { world = after_write s.world p (4096 * page + at) piece; ledger = l; free = free_of (view new); areas = s.areas };
+        next = record { world = after_write s.world p (4096 * page + at) piece; ledger = l; free = free_of (view new); areas = s.areas; anons = s.anons };
         world = refl;
         ledger = refl;
         free = subst (λ n. ChoosesAll (setting n) None s.ledger (page_events true (p, page) t.added None) s.free (free_of (view new))) count_is
             (subst (ChoosesAll (setting (count mid)) None s.ledger (page_events true (p, page) t.added None) s.free) (sym (ap (λ (s : Seen). frames_free s.free) frames)) t.free);
         areas = refl;
-        keeps = keeps_now new (after_write s.world p (4096 * page + at) piece) l s.areas
+        anons = refl;
+        keeps = keeps_now new (after_write s.world p (4096 * page + at) piece) l s.areas s.anons
             (to_stand new (after_write s.world p (4096 * page + at) piece) l (subst (λ n. Parts (setting n) (view new) (after_write s.world p (4096 * page + at) piece) l) count_is parts')
             (λ q. ap (λ t. has t q) tables ∙ t.parts.tables q ∙ sym (ap (λ x. is_some (ranges_of x q)) spaces)))
             (subst (λ n. AllSound (setting n) (after_write s.world p (4096 * page + at) piece) l) count_is sound)
-            (λ q o. ap (λ (x : Spaces). areas_on x q o) spaces ∙ t.areas q o);
+            (λ q o. ap (λ (x : Spaces). areas_on x q o) spaces ∙ t.areas q o) t.anons;
       }

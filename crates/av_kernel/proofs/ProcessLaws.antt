@@ -99,6 +99,7 @@ module _ (old : Mem) (tables : ProcessTables) (spaces : Spaces) (s : State) (p :
     ledger = refl;
     free = keeps.stands.free;
     areas = refl;
+    anons = refl;
   }
 
   spawn-on : AreasAre (view (moved_on old tables spaces)) (with_at p none_on s.areas)
@@ -190,7 +191,7 @@ module _ (old mid : Mem) (tables : ProcessTables) (spaces : Spaces) (s : State) 
   allowed : refusal (tests (setting (count old)) s.world s.ledger (Exit p)) ≡ None
   allowed = ap (λ b. cond (not b) (Some Esrch) None) alive_now
 
-  exit-step : IsStep (setting (count old)) s (Exit p) (answered Done) (record { world = end_process s.world p; ledger = after_all s.ledger (zaps_of s.ledger (keys_of_process s.ledger p)); free = free_of (view mid); areas = with_at p none_on s.areas })
+  exit-step : IsStep (setting (count old)) s (Exit p) (answered Done) (record { world = end_process s.world p; ledger = after_all s.ledger (zaps_of s.ledger (keys_of_process s.ledger p)); free = free_of (view mid); areas = with_at p none_on s.areas; anons = s.anons })
   exit-step = record {
     events = zaps_of s.ledger (keys_of_process s.ledger p);
     legal = record {
@@ -201,6 +202,7 @@ module _ (old mid : Mem) (tables : ProcessTables) (spaces : Spaces) (s : State) 
     ledger = refl;
     free = subst (λ free. ChoosesAll (setting (count old)) None s.ledger (zaps_of s.ledger (keys_of_process s.ledger p)) free (free_of (view mid))) keeps.stands.free taken.free;
     areas = refl;
+    anons = refl;
   }
 
   exit-on : AreasAre (view (record { frames = mid.frames; tables = tables; spaces = spaces })) (with_at p none_on s.areas)
@@ -287,5 +289,5 @@ module _ (old mid : Mem) (tables : ProcessTables) (spaces : Spaces) (s : State) 
   }
 
   pub exit-steps : MemSteps old (record { frames = mid.frames; tables = tables; spaces = spaces }) s (Exit p) (answered Done)
-  exit-steps = stepped old (record { frames = mid.frames; tables = tables; spaces = spaces }) s (record { world = end_process s.world p; ledger = after_all s.ledger (zaps_of s.ledger (keys_of_process s.ledger p)); free = free_of (view mid); areas = with_at p none_on s.areas }) (Exit p) (answered Done)
-      keeps exit-step same_count stands_now refl exit-on areas_now has_now kept_now
+  exit-steps = stepped old (record { frames = mid.frames; tables = tables; spaces = spaces }) s (record { world = end_process s.world p; ledger = after_all s.ledger (zaps_of s.ledger (keys_of_process s.ledger p)); free = free_of (view mid); areas = with_at p none_on s.areas; anons = s.anons }) (Exit p) (answered Done)
+      keeps exit-step same_count stands_now refl exit-on keeps.stands.anons areas_now has_now kept_now

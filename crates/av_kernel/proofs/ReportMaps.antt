@@ -44,6 +44,7 @@ module _ (k : Mem) (s : State) (p : ℕ) (areas : List Area) (rows : List Row) (
       ledger = refl;
       free = refl;
       areas = refl;
+      anons = refl;
     };
     keeps = keeps;
   }

@@ -33,6 +33,7 @@ stat-steps k s processes keeps once below number = record {
     ledger = refl;
     free = refl;
     areas = refl;
+    anons = refl;
   };
   keeps = keeps;
 }

@@ -60,6 +60,7 @@ refused k s command error keeps is = record {
     ledger = refl;
     free = refl;
     areas = sym (refused-areas (setting (count k)) s.world s.ledger s.areas command error is);
+    anons = refl;
   };
   keeps = keeps;
 }
@@ -108,8 +109,8 @@ pub orderly : (k : Mem) (s : State) → Keeps k s → HasLedger k s.ledger
 orderly k s keeps = record { sound = keeps.stands.sound.ledger; parts = keeps.stands.parts.ledger }
 
 pub stepped : (old new : Mem) (s next : State) (command : Command) (reply : Reply) → Keeps old s → IsStep (setting (count old)) s command reply next → count new ≡ count old → HasLedger new next.ledger → free_of (view new) ≡ next.free
-    → AreasAre (view new) next.areas → AreasStand (view new) next.world → HasTables new → ((q page : ℕ) → IsKept (view new) no_device next.ledger (entry next.ledger (q, page)) (pages next.world q page)) → MemSteps old new s command reply
-stepped old new s next command reply keeps step same_count stands free areas_now areas tables kept = record {
+    → AreasAre (view new) next.areas → (view new).anons ≡ next.anons → AreasStand (view new) next.world → HasTables new → ((q page : ℕ) → IsKept (view new) no_device next.ledger (entry next.ledger (q, page)) (pages next.world q page)) → MemSteps old new s command reply
+stepped old new s next command reply keeps step same_count stands free areas_now anons_now areas tables kept = record {
   next = next;
   step = step;
   keeps = record {
@@ -124,6 +125,7 @@ stepped old new s next command reply keeps step same_count stands free areas_now
       };
       free = free;
       areas = areas_now;
+      anons = anons_now;
     };
     tables = tables;
   };
@@ -132,7 +134,7 @@ stepped old new s next command reply keeps step same_count stands free areas_now
 -- ---- a step that changes one process
 
 abbrev pub state_after : State → ℕ → Process → Pages → Ledger → Free → State
-state_after s p now on l free = record { world = set_process s.world p now; ledger = l; free = free; areas = with_at p on s.areas }
+state_after s p now on l free = record { world = set_process s.world p now; ledger = l; free = free; areas = with_at p on s.areas; anons = s.anons }
 
 module _ (old new : Mem) (s : State) (command : Command) (reply : Reply) (p : ℕ) (now : Process) (on : Pages) (l : Ledger)
     (keeps : Keeps old s) (same_count : count new ≡ count old) (stands : HasLedger new l) (bytes : (view new).bytes ≡ (view old).bytes)
@@ -146,7 +148,7 @@ module _ (old new : Mem) (s : State) (command : Command) (reply : Reply) (p : �
       by false e = subst (λ x. IsKept (view old) no_device s.ledger x (pages s.world q page)) (sym (others q page e)) (keeps.stands.parts.bytes.kept q page)
 
   pub changed : IsStep (setting (count old)) s command reply (state_after s p now on l (free_of (view new))) → AreasAre (view new) (with_at p on s.areas) → AreasStand (view new) (set_process s.world p now) → HasTables new → MemSteps old new s command reply
-  changed step areas_now areas tables = stepped old new s (state_after s p now on l (free_of (view new))) command reply keeps step same_count stands refl areas_now areas tables kept-all
+  changed step areas_now areas tables = stepped old new s (state_after s p now on l (free_of (view new))) command reply keeps step same_count stands refl areas_now keeps.stands.anons areas tables kept-all
 
 -- the areas of a process that lives have changed
 module _ (old new : Mem) (s : State) (p : ℕ) (now : Process) (prots : ℕ → Option Prot) (keeps : Keeps old s) (alive : is_some (ranges_of old.spaces p) ≡ true)

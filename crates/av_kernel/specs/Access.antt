@@ -48,6 +48,7 @@ pub record IsAccess (s : State) (new : Mem) (write : Bool) (p a n : ℕ) (bytes 
   pub ledger : next.ledger ≡ after_all s.ledger events
   pub free : ChoosesAll (setting (count new)) None s.ledger events s.free next.free
   pub areas : next.areas ≡ s.areas
+  pub anons : next.anons ≡ s.anons
   pub keeps : Keeps new next
 
 -- the answer of an access that stopped

@@ -33,6 +33,7 @@ pub record IsPageStep (s : State) (new : Mem) (write : Bool) (p page at : ℕ) (
   pub free : ChoosesAll (setting (count new)) None s.ledger
       (page_events write (p, page) added (option_map stop_of end)) s.free next.free
   pub areas : next.areas ≡ s.areas
+  pub anons : next.anons ≡ s.anons
   pub keeps : Keeps new next
 
 -- what a read of n bytes shows of a page that was served

@@ -1,6 +1,6 @@
--- The areas of each process, beside the memories, and what a command makes of them. They follow
--- from commands and answers, and are not part of what makes a reply legal.
-use Rattle.std.specs.Prelude.{ℕ, ◌+◌, if◌then◌else◌, Some, None}
+-- The areas of each process and the anon_vmas, beside the memories, and what a command makes of
+-- them. They follow from commands and answers, and are not part of what makes a reply legal.
+use Rattle.std.specs.Prelude.{ℕ, ◌+◌, if◌then◌else◌, List, Option, Some, None}
 use Rattle.av_base.specs.Page.{page_of, pages_of}
 use Rattle.av_base.specs.Words.{with_at}
 use Rattle.av_base.specs.declared.prot.Prot.{Prot}
@@ -19,7 +19,25 @@ use Rattle.av_plain.specs.World.{World, pages, pages_to_hole}
 abbrev pub Areas : Type 0
 Areas = ℕ → Pages
 
--- a process without any
+-- an anon_vma: its root and its parent, how many anon_vmas have it as their parent and how many areas
+-- as their own, and the chain of those areas
+pub record AnonVma : Type 0 where
+  pub root : ℕ
+  pub parent : ℕ
+  pub children : ℕ
+  pub active : ℕ
+  pub chain : List ℕ
+
+-- the anon_vmas by number, and the number of the one that is made next
+pub record Anons : Type 0 where
+  pub next : ℕ
+  pub anon : ℕ → Option AnonVma
+
+-- no anon_vma was made
+abbrev pub no_anons : Anons
+no_anons = record { next = 0; anon = λ _. None }
+
+-- a process without any area
 abbrev pub none_on : Pages
 none_on page = None
 
@@ -54,3 +72,7 @@ next_areas on w (Mprotect p a len prot) (Refused Enomem) =
     if wraps a len then on
     else with_at p (areas_to_hole w p (page_of a) (pages_of len) prot (on p)) on
 next_areas on w command answer = on
+
+-- the anon_vmas after a command: none makes or changes one yet
+abbrev pub next_anons : Anons → Command → Answer → Anons
+next_anons anons command answer = anons

@@ -9,7 +9,7 @@ use Rattle.av_base.specs.declared.slot.Slot.{Slot}
 use Rattle.av_plain.specs.Device.{Device, headers_of}
 use Rattle.av_plain.specs.Fault.{is_shared}
 use Rattle.av_plain.specs.Ledger.{Entry, InFrame, InSlot, Ledger, Setting, SwapArea, Zero, entry, frame_at, in_flight, is_free, is_stale, map_count, names_frame, slot_entries, slot_of}
-use Rattle.av_plain.specs.Areas.{Areas}
+use Rattle.av_plain.specs.Areas.{Anons, Areas}
 use Rattle.av_plain.specs.Choice.{AreaSlots, Free}
 use Rattle.av_plain.specs.Report.{Range, prot_in, range_of}
 use Rattle.av_plain.specs.Sound.{AllSound, slots}
@@ -41,9 +41,10 @@ pub record View : Type 0 where
   pub active : List ℕ
   -- the table of a process, by page
   pub table : ℕ → ℕ → Option Pte
-  -- how many processes live, and the areas of one that does
+  -- how many processes live, the areas of one that does, and the anon_vmas
   pub processes : ℕ
   pub areas : ℕ → Option (List Area)
+  pub anons : Anons
   -- swap: the frame that caches a slot, how many entries name it, the slots in flight, the areas
   -- that are on, and the slots of each with their clusters
   pub find : Slot → Option ℕ
@@ -193,11 +194,12 @@ pub record IsOver (m : Setting) (device : Device) : Type 0 where
 abbrev pub free_of : View → Free
 free_of v = record { frames = v.free; slots = v.slots }
 
--- the kernel and the device stand for the memories, the ledger, what is free in its order, and the
--- areas with all that each says
+-- the kernel and the device stand for the memories, the ledger, what is free in its order, the areas
+-- with all that each says, and the anon_vmas
 pub record Stands (m : Setting) (v : View) (device : Device) (s : State) : Type 0 where
   pub over : IsOver m device
   pub sound : AllSound m s.world s.ledger
   pub parts : PartsStand m v device s.world s.ledger
   pub free : free_of v ≡ s.free
   pub areas : AreasAre v s.areas
+  pub anons : v.anons ≡ s.anons

@@ -3,7 +3,7 @@ use Rattle.std.specs.Prelude.{ℕ, List, [], ◌∷◌, ◌≡◌, sum_by, None,
 use Rattle.av_base.specs.Words.{numbers}
 use Rattle.av_trace.specs.declared.command.Command.{Command}
 use Rattle.av_trace.specs.declared.reply.Reply.{Reply}
-use Rattle.av_plain.specs.Areas.{Areas, no_areas, next_areas}
+use Rattle.av_plain.specs.Areas.{Anons, Areas, next_anons, next_areas, no_anons, no_areas}
 use Rattle.av_plain.specs.Choice.{ChoosesAll, Free, no_slots}
 use Rattle.av_plain.specs.Event.{Event, after_all}
 use Rattle.av_plain.specs.Ledger.{Setting, first_ledger, Ledger}
@@ -26,12 +26,14 @@ IsLegalFrom m w l (e ∷ es) w' l' =
 
 -- ---- legal, and with each frame and slot chosen exactly, and the areas
 
--- the memories, the ledger, what is free in the order in which it is taken, and the areas
+-- the memories, the ledger, what is free in the order in which it is taken, the areas and the
+-- anon_vmas
 pub record State : Type 0 where
   pub world : World
   pub ledger : Ledger
   pub free : Free
   pub areas : Areas
+  pub anons : Anons
 
 -- no process lives, all frames are free, rising, and no swap area has slots
 abbrev pub at_first : Setting → State
@@ -40,6 +42,7 @@ at_first m = record {
   ledger = first_ledger;
   free = record { frames = numbers 0 m.frames; slots = no_slots };
   areas = no_areas;
+  anons = no_anons;
 }
 
 -- the swap area that a command closes: none does so yet
@@ -55,6 +58,7 @@ pub record IsStep (m : Setting) (old : State) (command : Command) (reply : Reply
   pub ledger : new.ledger ≡ after_all old.ledger events
   pub free : ChoosesAll m (closing_area command) old.ledger events old.free new.free
   pub areas : new.areas ≡ next_areas old.areas old.world command reply.answer
+  pub anons : new.anons ≡ next_anons old.anons command reply.answer
 
 -- a transcript, each of its replies a step
 abbrev pub IsRun : Setting → State → List Exchange → State → Type 0

@@ -193,6 +193,7 @@ fresh-keeps frames tables spaces n is none empty = record {
     };
     free = ap (λ (s : Seen). frames_free s.free) is;
     areas = λ p page. ap (λ (s : Spaces). pages_of s p page) empty;
+    anons = refl;
   };
   tables = λ p. none p ∙ sym (ap (λ (s : Spaces). is_some (ranges_of s p)) empty);
 }

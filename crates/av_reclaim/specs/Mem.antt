@@ -7,6 +7,7 @@ use Rattle.av_plain.specs.Ledger.{Ledger, Setting, Zero as ZeroEntry, InFrame, I
 use Rattle.av_plain.specs.Transcript.{State}
 use Rattle.av_plain.specs.Sound.{IsSound, AtPages}
 use Rattle.av_plain.specs.Device.{no_device, setting_of}
+use Rattle.av_plain.specs.Areas.{no_anons}
 use Rattle.av_plain.specs.Choice.{no_slots}
 use Rattle.av_plain.specs.Report.{Range, range_of}
 use Rattle.av_plain.specs.Stands.{View, Pte as Plain, Stands, LedgerStands, PartsStand}
@@ -45,6 +46,7 @@ joined frames table spaces = record {
   table = table;
   processes = length spaces;
   areas = areas_of spaces;
+  anons = no_anons;
   find = λ s. None;
   entries = λ s. 0;
   flight = [];
