@@ -44,94 +44,263 @@ abbrev all_free : List ℕ
 all_free = 0 ∷ 1 ∷ 2 ∷ 3 ∷ []
 
 pub four_pages-makes : Makes four_pages 0xf 6 (area 0x10 0x14 read_write ∷ [])
-four_pages-makes = makes four_pages 0xf 6 (area 0x10 0x14 read_write ∷ [])
-    ([], all_free, record { answer = (refl, refl, refl); notes = refl }, refl,
-    ([], all_free, record { answer = (Some 0x10, refl, refl, refl, refl); notes = refl }, refl,
-    tt))
+four_pages-makes = makes four_pages 0xf 6 (area 0x10 0x14 read_write ∷ []) (
+  [],
+  all_free,
+  record { answer = (refl, refl, refl); notes = refl },
+  refl,
+  (
+    [],
+    all_free,
+    record { answer = (Some 0x10, refl, refl, refl, refl); notes = refl },
+    refl,
+    tt,
+  ),
+)
     (refl, (refl, (refl, (refl, (refl, (refl, tt))))))
 
 pub protected_inside-makes : Makes protected_inside 0xf 6 (area 0x10 0x11 read_write ∷ area 0x11 0x13 read_only ∷ area 0x13 0x14 read_write ∷ [])
-protected_inside-makes = makes protected_inside 0xf 6 (area 0x10 0x11 read_write ∷ area 0x11 0x13 read_only ∷ area 0x13 0x14 read_write ∷ [])
-    ([], all_free, record { answer = (refl, refl, refl); notes = refl }, refl,
-    ([], all_free, record { answer = (Some 0x10, refl, refl, refl, refl); notes = refl }, refl,
-    ([], all_free, record { answer = (refl, refl, refl); notes = refl }, refl,
-    tt)))
+protected_inside-makes = makes protected_inside 0xf 6 (area 0x10 0x11 read_write ∷ area 0x11 0x13 read_only ∷ area 0x13 0x14 read_write ∷ []) (
+  [],
+  all_free,
+  record { answer = (refl, refl, refl); notes = refl },
+  refl,
+  (
+    [],
+    all_free,
+    record { answer = (Some 0x10, refl, refl, refl, refl); notes = refl },
+    refl,
+    (
+      [],
+      all_free,
+      record { answer = (refl, refl, refl); notes = refl },
+      refl,
+      tt,
+    ),
+  ),
+)
     (refl, (refl, (refl, (refl, (refl, (refl, tt))))))
 
 pub joined_again-makes : Makes joined_again 0xf 6 (area 0x10 0x14 read_write ∷ [])
-joined_again-makes = makes joined_again 0xf 6 (area 0x10 0x14 read_write ∷ [])
-    ([], all_free, record { answer = (refl, refl, refl); notes = refl }, refl,
-    ([], all_free, record { answer = (Some 0x10, refl, refl, refl, refl); notes = refl }, refl,
-    ([], all_free, record { answer = (refl, refl, refl); notes = refl }, refl,
-    ([], all_free, record { answer = (refl, refl, refl); notes = refl }, refl,
-    tt))))
+joined_again-makes = makes joined_again 0xf 6 (area 0x10 0x14 read_write ∷ []) (
+  [],
+  all_free,
+  record { answer = (refl, refl, refl); notes = refl },
+  refl,
+  (
+    [],
+    all_free,
+    record { answer = (Some 0x10, refl, refl, refl, refl); notes = refl },
+    refl,
+    (
+      [],
+      all_free,
+      record { answer = (refl, refl, refl); notes = refl },
+      refl,
+      (
+        [],
+        all_free,
+        record { answer = (refl, refl, refl); notes = refl },
+        refl,
+        tt,
+      ),
+    ),
+  ),
+)
     (refl, (refl, (refl, (refl, (refl, (refl, tt))))))
 
 pub hole-makes : Makes hole 0xf 6 (area 0x10 0x11 read_write ∷ area 0x12 0x14 read_write ∷ [])
-hole-makes = makes hole 0xf 6 (area 0x10 0x11 read_write ∷ area 0x12 0x14 read_write ∷ [])
-    ([], all_free, record { answer = (refl, refl, refl); notes = refl }, refl,
-    ([], all_free, record { answer = (Some 0x10, refl, refl, refl, refl); notes = refl }, refl,
-    ([], all_free, record { answer = (refl, refl, refl); notes = refl }, refl,
-    tt)))
+hole-makes = makes hole 0xf 6 (area 0x10 0x11 read_write ∷ area 0x12 0x14 read_write ∷ []) (
+  [],
+  all_free,
+  record { answer = (refl, refl, refl); notes = refl },
+  refl,
+  (
+    [],
+    all_free,
+    record { answer = (Some 0x10, refl, refl, refl, refl); notes = refl },
+    refl,
+    (
+      [],
+      all_free,
+      record { answer = (refl, refl, refl); notes = refl },
+      refl,
+      tt,
+    ),
+  ),
+)
     (refl, (refl, (refl, (refl, (refl, (refl, tt))))))
 
 pub between-makes : Makes between 0xf 6 (area 0x10 0x14 read_write ∷ [])
-between-makes = makes between 0xf 6 (area 0x10 0x14 read_write ∷ [])
-    ([], all_free, record { answer = (refl, refl, refl); notes = refl }, refl,
-    ([], all_free, record { answer = (Some 0x10, refl, refl, refl, refl); notes = refl }, refl,
-    ([], all_free, record { answer = (refl, refl, refl); notes = refl }, refl,
-    ([], all_free, record { answer = (Some 0x11, refl, refl, refl, refl); notes = refl }, refl,
-    tt))))
+between-makes = makes between 0xf 6 (area 0x10 0x14 read_write ∷ []) (
+  [],
+  all_free,
+  record { answer = (refl, refl, refl); notes = refl },
+  refl,
+  (
+    [],
+    all_free,
+    record { answer = (Some 0x10, refl, refl, refl, refl); notes = refl },
+    refl,
+    (
+      [],
+      all_free,
+      record { answer = (refl, refl, refl); notes = refl },
+      refl,
+      (
+        [],
+        all_free,
+        record { answer = (Some 0x11, refl, refl, refl, refl); notes = refl },
+        refl,
+        tt,
+      ),
+    ),
+  ),
+)
     (refl, (refl, (refl, (refl, (refl, (refl, tt))))))
 
 pub joined_above-makes : Makes (joined_above read_write) 0xf 8 (area 0x10 0x16 read_write ∷ [])
-joined_above-makes = makes (joined_above read_write) 0xf 8 (area 0x10 0x16 read_write ∷ [])
-    ([], all_free, record { answer = (refl, refl, refl); notes = refl }, refl,
-    ([], all_free, record { answer = (Some 0x10, refl, refl, refl, refl); notes = refl }, refl,
-    ([], all_free, record { answer = (Some 0x14, refl, refl, refl, refl); notes = refl }, refl,
-    tt)))
+joined_above-makes = makes (joined_above read_write) 0xf 8 (area 0x10 0x16 read_write ∷ []) (
+  [],
+  all_free,
+  record { answer = (refl, refl, refl); notes = refl },
+  refl,
+  (
+    [],
+    all_free,
+    record { answer = (Some 0x10, refl, refl, refl, refl); notes = refl },
+    refl,
+    (
+      [],
+      all_free,
+      record { answer = (Some 0x14, refl, refl, refl, refl); notes = refl },
+      refl,
+      tt,
+    ),
+  ),
+)
     (refl, (refl, (refl, (refl, (refl, (refl, (refl, (refl, tt))))))))
 
 pub kept_apart-makes : Makes (joined_above read_only) 0xf 8 (area 0x10 0x14 read_write ∷ area 0x14 0x16 read_only ∷ [])
-kept_apart-makes = makes (joined_above read_only) 0xf 8 (area 0x10 0x14 read_write ∷ area 0x14 0x16 read_only ∷ [])
-    ([], all_free, record { answer = (refl, refl, refl); notes = refl }, refl,
-    ([], all_free, record { answer = (Some 0x10, refl, refl, refl, refl); notes = refl }, refl,
-    ([], all_free, record { answer = (Some 0x14, refl, refl, refl, refl); notes = refl }, refl,
-    tt)))
+kept_apart-makes = makes (joined_above read_only) 0xf 8 (area 0x10 0x14 read_write ∷ area 0x14 0x16 read_only ∷ []) (
+  [],
+  all_free,
+  record { answer = (refl, refl, refl); notes = refl },
+  refl,
+  (
+    [],
+    all_free,
+    record { answer = (Some 0x10, refl, refl, refl, refl); notes = refl },
+    refl,
+    (
+      [],
+      all_free,
+      record { answer = (Some 0x14, refl, refl, refl, refl); notes = refl },
+      refl,
+      tt,
+    ),
+  ),
+)
     (refl, (refl, (refl, (refl, (refl, (refl, (refl, (refl, tt))))))))
 
 pub joined_below-makes : Makes joined_below 0xf 6 (area 0x10 0x14 read_write ∷ [])
-joined_below-makes = makes joined_below 0xf 6 (area 0x10 0x14 read_write ∷ [])
-    ([], all_free, record { answer = (refl, refl, refl); notes = refl }, refl,
-    ([], all_free, record { answer = (Some 0x12, refl, refl, refl, refl); notes = refl }, refl,
-    ([], all_free, record { answer = (Some 0x10, refl, refl, refl, refl); notes = refl }, refl,
-    tt)))
+joined_below-makes = makes joined_below 0xf 6 (area 0x10 0x14 read_write ∷ []) (
+  [],
+  all_free,
+  record { answer = (refl, refl, refl); notes = refl },
+  refl,
+  (
+    [],
+    all_free,
+    record { answer = (Some 0x12, refl, refl, refl, refl); notes = refl },
+    refl,
+    (
+      [],
+      all_free,
+      record { answer = (Some 0x10, refl, refl, refl, refl); notes = refl },
+      refl,
+      tt,
+    ),
+  ),
+)
     (refl, (refl, (refl, (refl, (refl, (refl, tt))))))
 
 pub fixed_over-makes : Makes fixed_over 0xf 6 (area 0x10 0x11 read_write ∷ area 0x11 0x12 read_only ∷ area 0x12 0x14 read_write ∷ [])
-fixed_over-makes = makes fixed_over 0xf 6 (area 0x10 0x11 read_write ∷ area 0x11 0x12 read_only ∷ area 0x12 0x14 read_write ∷ [])
-    ([], all_free, record { answer = (refl, refl, refl); notes = refl }, refl,
-    ([], all_free, record { answer = (Some 0x10, refl, refl, refl, refl); notes = refl }, refl,
-    ([], all_free, record { answer = (Some 0x11, refl, refl, refl, refl); notes = refl }, refl,
-    tt)))
+fixed_over-makes = makes fixed_over 0xf 6 (area 0x10 0x11 read_write ∷ area 0x11 0x12 read_only ∷ area 0x12 0x14 read_write ∷ []) (
+  [],
+  all_free,
+  record { answer = (refl, refl, refl); notes = refl },
+  refl,
+  (
+    [],
+    all_free,
+    record { answer = (Some 0x10, refl, refl, refl, refl); notes = refl },
+    refl,
+    (
+      [],
+      all_free,
+      record { answer = (Some 0x11, refl, refl, refl, refl); notes = refl },
+      refl,
+      tt,
+    ),
+  ),
+)
     (refl, (refl, (refl, (refl, (refl, (refl, tt))))))
 
 pub up_to_hole-makes : Makes up_to_hole 0xf 6 (area 0x10 0x11 read_only ∷ area 0x12 0x14 read_write ∷ [])
-up_to_hole-makes = makes up_to_hole 0xf 6 (area 0x10 0x11 read_only ∷ area 0x12 0x14 read_write ∷ [])
-    ([], all_free, record { answer = (refl, refl, refl); notes = refl }, refl,
-    ([], all_free, record { answer = (Some 0x10, refl, refl, refl, refl); notes = refl }, refl,
-    ([], all_free, record { answer = (refl, refl, refl); notes = refl }, refl,
-    ([], all_free, record { answer = (refl, refl, refl); notes = refl }, refl,
-    tt))))
+up_to_hole-makes = makes up_to_hole 0xf 6 (area 0x10 0x11 read_only ∷ area 0x12 0x14 read_write ∷ []) (
+  [],
+  all_free,
+  record { answer = (refl, refl, refl); notes = refl },
+  refl,
+  (
+    [],
+    all_free,
+    record { answer = (Some 0x10, refl, refl, refl, refl); notes = refl },
+    refl,
+    (
+      [],
+      all_free,
+      record { answer = (refl, refl, refl); notes = refl },
+      refl,
+      (
+        [],
+        all_free,
+        record { answer = (refl, refl, refl); notes = refl },
+        refl,
+        tt,
+      ),
+    ),
+  ),
+)
     (refl, (refl, (refl, (refl, (refl, (refl, tt))))))
 
 pub exited-makes : Makes exited 0xf 6 []
-exited-makes = makes exited 0xf 6 []
-    ([], all_free, record { answer = (refl, refl, refl); notes = refl }, refl,
-    ([], all_free, record { answer = (Some 0x10, refl, refl, refl, refl); notes = refl }, refl,
-    ([], all_free, record { answer = (refl, refl, refl); notes = refl }, refl,
-    ([], all_free, record { answer = (refl, refl, refl); notes = refl }, refl,
-    tt))))
+exited-makes = makes exited 0xf 6 [] (
+  [],
+  all_free,
+  record { answer = (refl, refl, refl); notes = refl },
+  refl,
+  (
+    [],
+    all_free,
+    record { answer = (Some 0x10, refl, refl, refl, refl); notes = refl },
+    refl,
+    (
+      [],
+      all_free,
+      record { answer = (refl, refl, refl); notes = refl },
+      refl,
+      (
+        [],
+        all_free,
+        record { answer = (refl, refl, refl); notes = refl },
+        refl,
+        tt,
+      ),
+    ),
+  ),
+)
     (refl, (refl, (refl, (refl, (refl, (refl, tt))))))
 
 -- ---- what may not be

@@ -135,8 +135,7 @@ pub all-chosen : (m : Setting) (l : Ledger) (es : List Event) (free left : List 
     → ChoosesAll m None l es (record { frames = free; slots = slots }) (record { frames = left; slots = slots_after_all m l es slots })
 all-chosen m l [] free left slots h g = λ i. record { frames = h i; slots = slots }
 all-chosen m l (e ∷ es) free left slots h g =
-    let parts = both (gives m l e slots) (gives_all m (after l e) es (slots_after m l e slots)) g in
-    (
+    let parts = both (gives m l e slots) (gives_all m (after l e) es (slots_after m l e slots)) g in (
       record { frames = h.0; slots = slots_after m l e slots },
       record { frames = h.1; slots = slot-chosen m l e slots parts.0 },
       all-chosen m (after l e) es h.0 left (slots_after m l e slots) h.2 parts.1,

@@ -1,6 +1,6 @@
 -- Slots that are given in turn.
-use Rattle.std.specs.Prelude.{◌≡◌, ℕ, List, [], ◌∷◌, ◌++◌, Some, None, Option, refl}
-use Rattle.std.proofs.Common.{arith, ap, sym, subst}
+use Rattle.std.specs.Prelude.{◌≡◌, ℕ, List, [], ◌∷◌, ◌++◌, None, refl}
+use Rattle.std.proofs.Common.{arith, ap, subst}
 use Rattle.av_base.specs.declared.slot.Slot.{Slot}
 use Rattle.av_trace.specs.declared.note.Note.TheVariants.{Put, Dropped}
 use Rattle.av_plain.specs.Choice.{AreaSlots, ChoosesAll, Free, IsGiven}

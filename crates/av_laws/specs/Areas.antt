@@ -1,4 +1,5 @@
--- Worked examples for areas: what a process has on its pages after some commands, and what it hasn't.
+-- Worked examples for areas: what a process has on its pages after some commands, and what it
+-- hasn't.
 -- Which example would fail if a definition were wrong:
 --   a cut (`cut_at`, `part_of`): protected_inside, hole, offset_anew
 --   a join (`joined_at`, `are_mergeable`): joined_again, joined_above, joined_below, between,

@@ -358,7 +358,7 @@ abbrev pub when_given : ℕ → Slots → Slots
 when_given zero slots = slots
 when_given (suc n) slots = when_given n (unwrap_or (option_map (λ t. t.1) (take_slot slots)) slots)
 
--- these frames are free, and all slots but the first so many of an area of pages with these bad ones
+-- these frames are free, and all slots but the first so many of an area of pages, with bad ones
 abbrev pub with_slots : ℕ → List ℕ → ℕ → List ℕ → Free
 with_slots pages bad n frames =
     record { frames = frames; slots = with_at 0 (when_given n (fresh pages bad)) no_slots }
@@ -497,20 +497,25 @@ abbrev pub no_load : List Exchange
 no_load = says (Read 1 0x7fffffffe000 1) (Oom 0 (record { pinned = 0; noslot = 0; fault = 0 }) [])
     [] ∷ []
 
--- the page's frame is cached at slot 1, unmapped, and its write is in flight
-abbrev pub in_writeback : State
-in_writeback = record {
+-- the page's frame is cached at slot 1, and unmapped; a write of it may be in flight, and it may
+-- have changed since one began
+abbrev pub cached_out : Bool → Bool → State
+cached_out flying stale = record {
   world = (1, with_byte 7) ∷ [];
   ledger = record first_ledger {
     entries = ((1, 0x7fffffffe), InSlot (slot 1)) ∷ [];
-    cache = record { slot = slot 1; frame = 0; stale = false } ∷ [];
-    flight = slot 1 ∷ [];
+    cache = record { slot = slot 1; frame = 0; stale = stale } ∷ [];
+    flight = if flying then slot 1 ∷ [] else [];
     inactive = 0 ∷ [];
     on = (0, record { slots = 7; bad = 0 }) ∷ [];
   };
   free = with_slots 8 [] 1 (1 ∷ 2 ∷ 3 ∷ []);
   areas = areas_from 0x7fffffffe read_write (1 ∷ []);
 }
+
+-- its write is in flight
+abbrev pub in_writeback : State
+in_writeback = cached_out true false
 
 -- a slot in flight is not dropped
 abbrev pub maps_again : List Exchange

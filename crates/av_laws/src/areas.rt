@@ -19,9 +19,10 @@ ghost use Rattle.av_laws.specs.Areas.{
 };
 ghost use Rattle.av_laws.specs.Examples.{read_only, read_write};
 
-/// The areas after some commands: a change inside an area splits it, and its parts join where it is
-/// undone; a hole leaves two parts, whose offsets run on; a mapping joins its neighbours, and one at
-/// a fixed place takes away what stands there; a change that meets a hole changes what is before it.
+/// The areas after some commands: a change inside an area splits it, and its parts join where it
+/// is undone; a hole leaves two parts, whose offsets run on; a mapping joins its neighbours, and
+/// one at a fixed place takes away what stands there; a change that meets a hole changes what is
+/// before it.
 pub fn areas_follow()
     ensures four_pages { Makes four_pages 0xf 6 (area 0x10 0x14 read_write ∷ []) }
     ensures protected_inside { Makes protected_inside 0xf 6
@@ -42,8 +43,9 @@ pub fn areas_follow()
 {}
 
 /// No others: an upper part whose offset begins anew, or that is the whole area still; parts that
-/// stay apart, or join across a hole; an area that stays under a mapping, that changes behind a
-/// hole, or that stays as it was before it; one that is left when its process exits.
+/// stay apart, or join though their protections differ; an area that stays under a mapping, that
+/// changes behind a hole, or that stays as it was before it; one that is left when its process
+/// exits.
 pub fn changed_areas_are_refused()
     ensures offset_anew { NeverHas hole 0x12 (record (area 0x12 0x14 read_write) { pgoff = 0x10 }) }
     ensures uncut { NeverHas hole 0x12 (area 0x10 0x14 read_write) }

@@ -182,7 +182,8 @@ pub fn ledgers_follow()
         (only_frames (5 ∷ 2 ∷ [])) }
 {}
 
-/// Slots are given in turn: one that came back is given again only when its cluster has none in use.
+/// Slots are given in turn: one that came back is given again only when its cluster has none in
+/// use.
 pub fn slots_are_given_in_turn()
     ensures put_in_turn { MayChoose (with_swap 4 8 7) three_in_use (puts (slot 3))
         (with_slots 8 [] 0 (3 ∷ [])) }

@@ -1,6 +1,6 @@
 //! What follows from the definitions of `av_plain`, beside what the kernel needs of them: replies
 //! are determined, numbers add up, a refusal changes nothing, a reply is read back from its text;
-//! and worked examples, legal ones and such as may not be, sound
+//! and worked examples: legal ones and such as may not be, areas that come of commands, sound
 //! states and unsound ones, views that stand for a state and such as don't.
 //!
 //! No function does anything. Each one's contract is a law, proved of the definitions alone.
@@ -52,8 +52,7 @@ pub use examples::{
     a_page_in_writeback_is_sound, changed_exits_and_reports_are_refused,
     changed_ranges_are_refused, changed_replies_are_refused, changed_replies_of_swap_are_refused,
     changed_runs_are_refused, exits_and_reports_run, first_examples_run, ledgers_follow,
-    ranges_run, shared_examples_run, slots_are_given_in_turn,
-    swap_examples_run,
+    ranges_run, shared_examples_run, slots_are_given_in_turn, swap_examples_run,
 };
 pub use pairs::{
     changed_pairs_are_refused, faults_are_counted, ledgers_of_two_follow, loads_make_unclaimed,
@@ -62,7 +61,10 @@ pub use pairs::{
 pub use unsound::{
     changed_ledgers_are_unsound, changed_memories_are_unsound, entries_of_one_memory_are_unsound,
 };
-pub use views::{changed_views_do_not_stand, the_right_view_stands};
+pub use views::{
+    cached_views_stand, changed_cached_views_do_not_stand, changed_views_do_not_stand,
+    the_right_view_stands,
+};
 
 /// A command that is refused changes neither the memories nor the ledger. An mprotect, which can
 /// stop at a page that isn't mapped, may have changed the protection of the pages before it.
@@ -90,9 +92,9 @@ pub fn numbers_add_up()
         → out.pinned + out.noslot + out.fault ≡ m.frames }
 {}
 
-/// Where the devices tell their pages, each byte of the memories is claimed and no fault of a device
-/// shows, a command has one reply, and leaves one state, with its areas, its free frames and slots:
-/// nothing is left to the kernel's choice.
+/// Where the devices tell their pages, each byte of the memories is claimed and no fault of a
+/// device shows, a command has one reply, and leaves one state, with its areas, free frames and
+/// slots: nothing is left to the kernel's choice.
 pub fn replies_are_determined()
     ensures { (m : Setting) (old new other : State) (command : Command) (reply reply' : Reply)
         → Tells m → IsClaimed old.world → IsFaultless reply → IsFaultless reply'
@@ -138,8 +140,8 @@ pub fn replies_are_read_back()
         → IsCommand command → IsLegal m w l command reply events → IsReply reply }
 {}
 
-/// So is each reply of a run from nothing on, where no device is attached, the machine's frames have
-/// numbers of 64 bits, and the commands are those of the grammar.
+/// So is each reply of a run from nothing on, where no device is attached, the machine's frames
+/// have numbers of 64 bits, and the commands are those of the grammar.
 pub fn replies_of_runs_are_read_back()
     ensures { (m : Setting) (exchanges : List Exchange) (new : State) → HasNoDevice m
         → IsWide m.frames
