@@ -40,7 +40,8 @@ flag false = omega arith
 abbrev few : Bool → Bool → ℕ → ℕ
 few flying stale k = length (slots_in_use (with_swap 4 8 7) (cached_out flying stale).ledger k)
 
-pub cached_out-sound : (flying stale : Bool) → AllSound (with_swap 4 8 7) (cached_out flying stale).world (cached_out flying stale).ledger
+pub cached_out-sound : (flying stale : Bool)
+    → AllSound (with_swap 4 8 7) (cached_out flying stale).world (cached_out flying stale).ledger
 cached_out-sound flying stale = record {
   world = record { in_order = tt; few = omega arith };
   ledger = record {
@@ -50,7 +51,8 @@ cached_out-sound flying stale = record {
     in_range = λ f h. range f (f == 0) refl h;
     listed = λ f. listed (f == 0);
     flying = λ s. flies_once s flying;
-    used = λ s f h. flies (same_slot s (slot 1)) (f == 0) (flights (cached_out flying stale).ledger s) h;
+    used = λ s f h. flies (same_slot s (slot 1)) (f == 0)
+        (flights (cached_out flying stale).ledger s) h;
     one = λ p a b d e at at' related. ap (λ (k : Key). k.1) (only (p, a) d at ∙ sym (only (p, b) e at'));
   };
   at_pages = λ p page h. subst (λ (k : Key). is_some (pages in_writeback.world k.0 k.1) ≡ true) (sym (some-only (p, page) h)) refl;
@@ -61,13 +63,16 @@ cached_out-sound flying stale = record {
     cmp-is : (q p : ℕ) → eq_by_cmp nat_cmp q p ≡ true → q ≡ p
     cmp-is q p h = grind (arith, nat_tests, h)
 
-    fits : (k : ℕ) → IfSome (find nat_cmp k (cached_out flying stale).ledger.on) (λ area. few flying stale k ≤ area.slots)
+    fits : (k : ℕ) → IfSome (find nat_cmp k (cached_out flying stale).ledger.on)
+        (λ area. few flying stale k ≤ area.slots)
     fits k = by (eq_by_cmp nat_cmp k 0) refl
       where
         at_first : few flying stale 0 ≤ 7
         at_first = omega arith
 
-        by : (b : Bool) → eq_by_cmp nat_cmp k 0 ≡ b → IfSome (cond b (Some (record { slots = 7; bad = 0 })) None) (λ (area : SwapArea). few flying stale k ≤ area.slots)
+        by : (b : Bool) → eq_by_cmp nat_cmp k 0 ≡ b
+            → IfSome (cond b (Some (record { slots = 7; bad = 0 })) None)
+            (λ (area : SwapArea). few flying stale k ≤ area.slots)
         by true is = subst (λ x. few flying stale x ≤ 7) (sym (cmp-is k 0 is)) at_first
         by false is = tt
 
@@ -79,16 +84,23 @@ cached_out-sound flying stale = record {
     listed true = refl
     listed false = refl
 
-    flies_once : (s : Slot) (flying : Bool) → how_many (same_slot s) (if flying then slot 1 ∷ [] else []) ≤ how_many (λ (c : Cached). same_slot s c.slot) (cached_out flying stale).ledger.cache
+    flies_once : (s : Slot) (flying : Bool)
+        → how_many (same_slot s) (if flying then slot 1 ∷ [] else []) ≤ how_many
+        (λ (c : Cached). same_slot s c.slot) (cached_out flying stale).ledger.cache
     flies_once s true = omega arith
     flies_once s false = omega arith
 
-    flies : (a b : Bool) (n : ℕ) → 0 < cond (a && b) 1 0 + 0 → 0 < n + (cond a 1 0 + 0) + (0 + 0) + 0
+    flies : (a b : Bool) (n : ℕ) → 0 < cond (a && b) 1 0 + 0
+        → 0 < n + (cond a 1 0 + 0) + (0 + 0) + 0
     flies true b n h = omega arith
     flies false b n h = absurd (omega (arith, h))
 
-    there : (s : Slot) (b : Bool) → same_slot s (slot 1) ≡ b → 0 < (cond b 1 0 + 0) + (cond b 1 0 + 0) → is_there (with_swap 4 8 7) (cached_out flying stale).ledger s ≡ true
-    there s true is h = subst (λ t. is_there (with_swap 4 8 7) (cached_out flying stale).ledger t ≡ true) (sym (slot-is s (slot 1) is)) refl
+    there : (s : Slot) (b : Bool) → same_slot s (slot 1) ≡ b
+        → 0 < (cond b 1 0 + 0) + (cond b 1 0 + 0)
+        → is_there (with_swap 4 8 7) (cached_out flying stale).ledger s ≡ true
+    there s true is h = subst
+        (λ t. is_there (with_swap 4 8 7) (cached_out flying stale).ledger t ≡ true)
+        (sym (slot-is s (slot 1) is)) refl
     there s false is h = absurd (omega (arith, h))
 
 pub in_writeback-sound : AllSound (with_swap 4 8 7) in_writeback.world in_writeback.ledger

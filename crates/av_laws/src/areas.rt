@@ -7,7 +7,7 @@ ghost use Rattle.av_laws.specs.Areas.{
   NeverHas,
   area,
   between,
-  exited,
+  after_exit,
   fixed_over,
   four_pages,
   hole,
@@ -39,7 +39,7 @@ pub fn areas_follow()
         (area 0x10 0x11 read_write ∷ area 0x11 0x12 read_only ∷ area 0x12 0x14 read_write ∷ []) }
     ensures up_to_hole { Makes up_to_hole 0xf 6
         (area 0x10 0x11 read_only ∷ area 0x12 0x14 read_write ∷ []) }
-    ensures exited { Makes exited 0xf 6 [] }
+    ensures after_exit { Makes after_exit 0xf 6 [] }
 {}
 
 /// No others: an upper part whose offset begins anew, or that is the whole area still; parts that
@@ -48,12 +48,12 @@ pub fn areas_follow()
 /// exits.
 pub fn changed_areas_are_refused()
     ensures offset_anew { NeverHas hole 0x12 (record (area 0x12 0x14 read_write) { pgoff = 0x10 }) }
-    ensures uncut { NeverHas hole 0x12 (area 0x10 0x14 read_write) }
+    ensures left_whole { NeverHas hole 0x12 (area 0x10 0x14 read_write) }
     ensures left_split { NeverHas joined_again 0x11 (area 0x11 0x13 read_write) }
     ensures left_apart { NeverHas (joined_above read_write) 0x14 (area 0x14 0x16 read_write) }
     ensures joined_unlike { NeverHas (joined_above read_only) 0x14 (area 0x10 0x16 read_only) }
     ensures left_under { NeverHas fixed_over 0x11 (area 0x10 0x14 read_write) }
     ensures changed_past_hole { NeverHas up_to_hole 0x12 (area 0x12 0x14 read_only) }
     ensures unchanged_before_hole { NeverHas up_to_hole 0x10 (area 0x10 0x11 read_write) }
-    ensures kept_at_exit { NeverHas exited 0x10 (area 0x10 0x14 read_write) }
+    ensures kept_at_exit { NeverHas after_exit 0x10 (area 0x10 0x14 read_write) }
 {}
