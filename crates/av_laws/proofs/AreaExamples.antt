@@ -309,13 +309,7 @@ after_exit-makes = makes after_exit 0xf 6 [] (
       all_free,
       record { answer = (refl, refl, refl); notes = refl },
       refl,
-      (
-        [],
-        all_free,
-        record { answer = (refl, refl, refl); notes = refl },
-        refl,
-        tt,
-      ),
+      tt,
     ),
   ),
 )
@@ -360,9 +354,9 @@ pub joined_unlike-not : NeverHas (joined_above read_only) 0x14 (area 0x10 0x16 r
 joined_unlike-not = never-has (joined_above read_only) 0x14 (area 0x10 0x16 read_only)
     (λ e. let d = ap first_page e in omega (arith, d))
 
-pub left_under-not : NeverHas fixed_over 0x11 (area 0x10 0x14 read_write)
-left_under-not = never-has fixed_over 0x11 (area 0x10 0x14 read_write)
-    (λ e. let d = ap can_write e in omega (arith, d))
+pub left_under-not : NeverHas fixed_over 0x10 (area 0x10 0x14 read_write)
+left_under-not = never-has fixed_over 0x10 (area 0x10 0x14 read_write)
+    (λ e. let d = ap end_page e in omega (arith, d))
 
 pub changed_past_hole-not : NeverHas up_to_hole 0x12 (area 0x12 0x14 read_only)
 changed_past_hole-not = never-has up_to_hole 0x12 (area 0x12 0x14 read_only)

@@ -82,6 +82,6 @@ fixed_over = four_pages ++ says (Mmap 1 4096 read_only (Fixed 0x11000)) (MapAt 0
 abbrev pub up_to_hole : List Exchange
 up_to_hole = hole ++ says (Mprotect 1 0x10000 16384 read_only) (Refused Enomem) [] ∷ []
 
--- the process exits, and is spawned anew
+-- the process exits
 abbrev pub after_exit : List Exchange
-after_exit = four_pages ++ says (Exit 1) Done [] ∷ says (Spawn 1) Done [] ∷ []
+after_exit = four_pages ++ says (Exit 1) Done [] ∷ []

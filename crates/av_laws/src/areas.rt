@@ -43,8 +43,8 @@ pub fn areas_follow()
 {}
 
 /// No others: an upper part whose offset begins anew, or that is the whole area still; parts that
-/// stay apart, or join though their protections differ; an area that stays under a mapping, that
-/// changes behind a hole, or that stays as it was before it; one that is left when its process
+/// stay apart, or join though their protections differ; an area that stays whole under a mapping,
+/// that changes behind a hole, or that stays as it was before it; one that is left when its process
 /// exits.
 pub fn changed_areas_are_refused()
     ensures offset_anew { NeverHas hole 0x12 (record (area 0x12 0x14 read_write) { pgoff = 0x10 }) }
@@ -52,7 +52,7 @@ pub fn changed_areas_are_refused()
     ensures left_split { NeverHas joined_again 0x11 (area 0x11 0x13 read_write) }
     ensures left_apart { NeverHas (joined_above read_write) 0x14 (area 0x14 0x16 read_write) }
     ensures joined_unlike { NeverHas (joined_above read_only) 0x14 (area 0x10 0x16 read_only) }
-    ensures left_under { NeverHas fixed_over 0x11 (area 0x10 0x14 read_write) }
+    ensures left_under { NeverHas fixed_over 0x10 (area 0x10 0x14 read_write) }
     ensures changed_past_hole { NeverHas up_to_hole 0x12 (area 0x12 0x14 read_only) }
     ensures unchanged_before_hole { NeverHas up_to_hole 0x10 (area 0x10 0x11 read_write) }
     ensures kept_at_exit { NeverHas after_exit 0x10 (area 0x10 0x14 read_write) }
