@@ -10,7 +10,7 @@ use Rattle.av_plain.specs.Ledger.{Setting}
 use Rattle.av_plain.specs.Step.{next}
 use Rattle.av_plain.specs.Transcript.{Exchange, IsRun, State, at_first}
 use Rattle.av_plain.specs.World.{World}
-use Rattle.av_laws.specs.Areas.{Makes, NeverHas, area, between, exited, fixed_over, four_pages, hole, joined_above, joined_again, joined_below, protected_inside, up_to_hole}
+use Rattle.av_laws.specs.Areas.{Makes, NeverHas, area, between, after_exit, fixed_over, four_pages, hole, joined_above, joined_again, joined_below, protected_inside, up_to_hole}
 use Rattle.av_laws.specs.Determined.{Tells}
 use Rattle.av_laws.specs.Examples.{machine, read_only, read_write}
 use Rattle.av_laws.proofs.Determined.{loads-told}
@@ -20,23 +20,33 @@ use Rattle.av_laws.proofs.FirstExamples.{Steps, by_steps}
 
 abbrev areas_after : World → Areas → List Exchange → Areas
 areas_after w on [] = on
-areas_after w on (e ∷ es) = areas_after (next w e.command e.reply.answer) (next_areas on w e.command e.reply.answer) es
+areas_after w on (e ∷ es) = areas_after (next w e.command e.reply.answer)
+    (next_areas on w e.command e.reply.answer) es
 
-run-areas : (m : Setting) (old : State) (es : List Exchange) (new : State) → Tells m → IsRun m old es new → new.areas ≡ areas_after old.world old.areas es
+run-areas : (m : Setting) (old : State) (es : List Exchange) (new : State) → Tells m
+    → IsRun m old es new → new.areas ≡ areas_after old.world old.areas es
 run-areas m old [] new told h = ap (λ (s : State). s.areas) h
 run-areas m old (e ∷ es) new told h =
-    let world = h.1.world ∙ ap (λ w. next w e.command e.reply.answer) (loads-told m old.world old.ledger h.1.events told) in
+    let world = h.1.world
+    ∙ ap (λ w. next w e.command e.reply.answer)
+    (loads-told m old.world old.ledger h.1.events told) in
     run-areas m h.0 es new told h.2 ∙ (λ i. areas_after (world i) (h.1.areas i) es)
 
-makes : (row : List Exchange) (from n : ℕ) (areas : List Area) → Steps (machine 4) (at_first (machine 4)) row
-    → AllByRecursion (λ page. areas_after [] no_areas row 1 page ≡ pages_in (Some areas) page) (numbers from n) → Makes row from n areas
+makes : (row : List Exchange) (from n : ℕ) (areas : List Area)
+    → Steps (machine 4) (at_first (machine 4)) row
+    → AllByRecursion (λ page. areas_after [] no_areas row 1 page ≡ pages_in (Some areas) page)
+    (numbers from n) → Makes row from n areas
 makes row from n areas steps h = (
   by_steps (machine 4) (at_first (machine 4)) row steps,
-  λ new run. subst (λ (on : Areas). AllByRecursion (λ page. on 1 page ≡ pages_in (Some areas) page) (numbers from n)) (sym (run-areas (machine 4) (at_first (machine 4)) row new refl run)) h,
+  λ new run. subst (λ (on : Areas). AllByRecursion (λ page. on 1 page ≡ pages_in (Some areas) page)
+      (numbers from n)) (sym (run-areas (machine 4) (at_first (machine 4)) row new refl run)) h,
 )
 
-never-has : (row : List Exchange) (page : ℕ) (area : Area) → (areas_after [] no_areas row 1 page ≡ Some area → ⊥) → NeverHas row page area
-never-has row page area differ new run at = differ (ap (λ (on : Areas). on 1 page) (sym (run-areas (machine 4) (at_first (machine 4)) row new refl run)) ∙ at)
+never-has : (row : List Exchange) (page : ℕ) (area : Area)
+    → (areas_after [] no_areas row 1 page ≡ Some area → ⊥) → NeverHas row page area
+never-has row page area differ new run at = differ
+    (ap (λ (on : Areas). on 1 page)
+    (sym (run-areas (machine 4) (at_first (machine 4)) row new refl run)) ∙ at)
 
 -- ---- the rows
 
@@ -59,26 +69,28 @@ four_pages-makes = makes four_pages 0xf 6 (area 0x10 0x14 read_write ∷ []) (
 )
     (refl, (refl, (refl, (refl, (refl, (refl, tt))))))
 
-pub protected_inside-makes : Makes protected_inside 0xf 6 (area 0x10 0x11 read_write ∷ area 0x11 0x13 read_only ∷ area 0x13 0x14 read_write ∷ [])
-protected_inside-makes = makes protected_inside 0xf 6 (area 0x10 0x11 read_write ∷ area 0x11 0x13 read_only ∷ area 0x13 0x14 read_write ∷ []) (
-  [],
-  all_free,
-  record { answer = (refl, refl, refl); notes = refl },
-  refl,
-  (
-    [],
-    all_free,
-    record { answer = (Some 0x10, refl, refl, refl, refl); notes = refl },
-    refl,
-    (
+pub protected_inside-makes : Makes protected_inside 0xf 6
+    (area 0x10 0x11 read_write ∷ area 0x11 0x13 read_only ∷ area 0x13 0x14 read_write ∷ [])
+protected_inside-makes = makes protected_inside 0xf 6
+    (area 0x10 0x11 read_write ∷ area 0x11 0x13 read_only ∷ area 0x13 0x14 read_write ∷ []) (
       [],
       all_free,
       record { answer = (refl, refl, refl); notes = refl },
       refl,
-      tt,
-    ),
-  ),
-)
+      (
+        [],
+        all_free,
+        record { answer = (Some 0x10, refl, refl, refl, refl); notes = refl },
+        refl,
+        (
+          [],
+          all_free,
+          record { answer = (refl, refl, refl); notes = refl },
+          refl,
+          tt,
+        ),
+      ),
+    )
     (refl, (refl, (refl, (refl, (refl, (refl, tt))))))
 
 pub joined_again-makes : Makes joined_again 0xf 6 (area 0x10 0x14 read_write ∷ [])
@@ -181,26 +193,28 @@ joined_above-makes = makes (joined_above read_write) 0xf 8 (area 0x10 0x16 read_
 )
     (refl, (refl, (refl, (refl, (refl, (refl, (refl, (refl, tt))))))))
 
-pub kept_apart-makes : Makes (joined_above read_only) 0xf 8 (area 0x10 0x14 read_write ∷ area 0x14 0x16 read_only ∷ [])
-kept_apart-makes = makes (joined_above read_only) 0xf 8 (area 0x10 0x14 read_write ∷ area 0x14 0x16 read_only ∷ []) (
-  [],
-  all_free,
-  record { answer = (refl, refl, refl); notes = refl },
-  refl,
-  (
-    [],
-    all_free,
-    record { answer = (Some 0x10, refl, refl, refl, refl); notes = refl },
-    refl,
-    (
+pub kept_apart-makes : Makes (joined_above read_only) 0xf 8
+    (area 0x10 0x14 read_write ∷ area 0x14 0x16 read_only ∷ [])
+kept_apart-makes = makes (joined_above read_only) 0xf 8
+    (area 0x10 0x14 read_write ∷ area 0x14 0x16 read_only ∷ []) (
       [],
       all_free,
-      record { answer = (Some 0x14, refl, refl, refl, refl); notes = refl },
+      record { answer = (refl, refl, refl); notes = refl },
       refl,
-      tt,
-    ),
-  ),
-)
+      (
+        [],
+        all_free,
+        record { answer = (Some 0x10, refl, refl, refl, refl); notes = refl },
+        refl,
+        (
+          [],
+          all_free,
+          record { answer = (Some 0x14, refl, refl, refl, refl); notes = refl },
+          refl,
+          tt,
+        ),
+      ),
+    )
     (refl, (refl, (refl, (refl, (refl, (refl, (refl, (refl, tt))))))))
 
 pub joined_below-makes : Makes joined_below 0xf 6 (area 0x10 0x14 read_write ∷ [])
@@ -225,8 +239,62 @@ joined_below-makes = makes joined_below 0xf 6 (area 0x10 0x14 read_write ∷ [])
 )
     (refl, (refl, (refl, (refl, (refl, (refl, tt))))))
 
-pub fixed_over-makes : Makes fixed_over 0xf 6 (area 0x10 0x11 read_write ∷ area 0x11 0x12 read_only ∷ area 0x12 0x14 read_write ∷ [])
-fixed_over-makes = makes fixed_over 0xf 6 (area 0x10 0x11 read_write ∷ area 0x11 0x12 read_only ∷ area 0x12 0x14 read_write ∷ []) (
+pub fixed_over-makes : Makes fixed_over 0xf 6
+    (area 0x10 0x11 read_write ∷ area 0x11 0x12 read_only ∷ area 0x12 0x14 read_write ∷ [])
+fixed_over-makes = makes fixed_over 0xf 6
+    (area 0x10 0x11 read_write ∷ area 0x11 0x12 read_only ∷ area 0x12 0x14 read_write ∷ []) (
+      [],
+      all_free,
+      record { answer = (refl, refl, refl); notes = refl },
+      refl,
+      (
+        [],
+        all_free,
+        record { answer = (Some 0x10, refl, refl, refl, refl); notes = refl },
+        refl,
+        (
+          [],
+          all_free,
+          record { answer = (Some 0x11, refl, refl, refl, refl); notes = refl },
+          refl,
+          tt,
+        ),
+      ),
+    )
+    (refl, (refl, (refl, (refl, (refl, (refl, tt))))))
+
+pub up_to_hole-makes : Makes up_to_hole 0xf 6
+    (area 0x10 0x11 read_only ∷ area 0x12 0x14 read_write ∷ [])
+up_to_hole-makes = makes up_to_hole 0xf 6
+    (area 0x10 0x11 read_only ∷ area 0x12 0x14 read_write ∷ []) (
+      [],
+      all_free,
+      record { answer = (refl, refl, refl); notes = refl },
+      refl,
+      (
+        [],
+        all_free,
+        record { answer = (Some 0x10, refl, refl, refl, refl); notes = refl },
+        refl,
+        (
+          [],
+          all_free,
+          record { answer = (refl, refl, refl); notes = refl },
+          refl,
+          (
+            [],
+            all_free,
+            record { answer = (refl, refl, refl); notes = refl },
+            refl,
+            tt,
+          ),
+        ),
+      ),
+    )
+    (refl, (refl, (refl, (refl, (refl, (refl, tt))))))
+
+pub after_exit-makes : Makes after_exit 0xf 6 []
+after_exit-makes = makes after_exit 0xf 6 [] (
   [],
   all_free,
   record { answer = (refl, refl, refl); notes = refl },
@@ -239,65 +307,9 @@ fixed_over-makes = makes fixed_over 0xf 6 (area 0x10 0x11 read_write ∷ area 0x
     (
       [],
       all_free,
-      record { answer = (Some 0x11, refl, refl, refl, refl); notes = refl },
+      record { answer = (refl, refl, refl); notes = refl },
       refl,
       tt,
-    ),
-  ),
-)
-    (refl, (refl, (refl, (refl, (refl, (refl, tt))))))
-
-pub up_to_hole-makes : Makes up_to_hole 0xf 6 (area 0x10 0x11 read_only ∷ area 0x12 0x14 read_write ∷ [])
-up_to_hole-makes = makes up_to_hole 0xf 6 (area 0x10 0x11 read_only ∷ area 0x12 0x14 read_write ∷ []) (
-  [],
-  all_free,
-  record { answer = (refl, refl, refl); notes = refl },
-  refl,
-  (
-    [],
-    all_free,
-    record { answer = (Some 0x10, refl, refl, refl, refl); notes = refl },
-    refl,
-    (
-      [],
-      all_free,
-      record { answer = (refl, refl, refl); notes = refl },
-      refl,
-      (
-        [],
-        all_free,
-        record { answer = (refl, refl, refl); notes = refl },
-        refl,
-        tt,
-      ),
-    ),
-  ),
-)
-    (refl, (refl, (refl, (refl, (refl, (refl, tt))))))
-
-pub exited-makes : Makes exited 0xf 6 []
-exited-makes = makes exited 0xf 6 [] (
-  [],
-  all_free,
-  record { answer = (refl, refl, refl); notes = refl },
-  refl,
-  (
-    [],
-    all_free,
-    record { answer = (Some 0x10, refl, refl, refl, refl); notes = refl },
-    refl,
-    (
-      [],
-      all_free,
-      record { answer = (refl, refl, refl); notes = refl },
-      refl,
-      (
-        [],
-        all_free,
-        record { answer = (refl, refl, refl); notes = refl },
-        refl,
-        tt,
-      ),
     ),
   ),
 )
@@ -323,28 +335,37 @@ can_write None = 2
 can_write (Some area) = if area.prot.write then 1 else 0
 
 pub offset_anew-not : NeverHas hole 0x12 (record (area 0x12 0x14 read_write) { pgoff = 0x10 })
-offset_anew-not = never-has hole 0x12 (record (area 0x12 0x14 read_write) { pgoff = 0x10 }) (λ e. let d = ap offset e in omega (arith, d))
+offset_anew-not = never-has hole 0x12 (record (area 0x12 0x14 read_write) { pgoff = 0x10 })
+    (λ e. let d = ap offset e in omega (arith, d))
 
-pub uncut-not : NeverHas hole 0x12 (area 0x10 0x14 read_write)
-uncut-not = never-has hole 0x12 (area 0x10 0x14 read_write) (λ e. let d = ap first_page e in omega (arith, d))
+pub left_whole-not : NeverHas hole 0x12 (area 0x10 0x14 read_write)
+left_whole-not = never-has hole 0x12 (area 0x10 0x14 read_write)
+    (λ e. let d = ap first_page e in omega (arith, d))
 
 pub left_split-not : NeverHas joined_again 0x11 (area 0x11 0x13 read_write)
-left_split-not = never-has joined_again 0x11 (area 0x11 0x13 read_write) (λ e. let d = ap first_page e in omega (arith, d))
+left_split-not = never-has joined_again 0x11 (area 0x11 0x13 read_write)
+    (λ e. let d = ap first_page e in omega (arith, d))
 
 pub left_apart-not : NeverHas (joined_above read_write) 0x14 (area 0x14 0x16 read_write)
-left_apart-not = never-has (joined_above read_write) 0x14 (area 0x14 0x16 read_write) (λ e. let d = ap first_page e in omega (arith, d))
+left_apart-not = never-has (joined_above read_write) 0x14 (area 0x14 0x16 read_write)
+    (λ e. let d = ap first_page e in omega (arith, d))
 
 pub joined_unlike-not : NeverHas (joined_above read_only) 0x14 (area 0x10 0x16 read_only)
-joined_unlike-not = never-has (joined_above read_only) 0x14 (area 0x10 0x16 read_only) (λ e. let d = ap first_page e in omega (arith, d))
+joined_unlike-not = never-has (joined_above read_only) 0x14 (area 0x10 0x16 read_only)
+    (λ e. let d = ap first_page e in omega (arith, d))
 
-pub left_under-not : NeverHas fixed_over 0x11 (area 0x10 0x14 read_write)
-left_under-not = never-has fixed_over 0x11 (area 0x10 0x14 read_write) (λ e. let d = ap can_write e in omega (arith, d))
+pub left_under-not : NeverHas fixed_over 0x10 (area 0x10 0x14 read_write)
+left_under-not = never-has fixed_over 0x10 (area 0x10 0x14 read_write)
+    (λ e. let d = ap end_page e in omega (arith, d))
 
 pub changed_past_hole-not : NeverHas up_to_hole 0x12 (area 0x12 0x14 read_only)
-changed_past_hole-not = never-has up_to_hole 0x12 (area 0x12 0x14 read_only) (λ e. let d = ap can_write e in omega (arith, d))
+changed_past_hole-not = never-has up_to_hole 0x12 (area 0x12 0x14 read_only)
+    (λ e. let d = ap can_write e in omega (arith, d))
 
 pub unchanged_before_hole-not : NeverHas up_to_hole 0x10 (area 0x10 0x11 read_write)
-unchanged_before_hole-not = never-has up_to_hole 0x10 (area 0x10 0x11 read_write) (λ e. let d = ap can_write e in omega (arith, d))
+unchanged_before_hole-not = never-has up_to_hole 0x10 (area 0x10 0x11 read_write)
+    (λ e. let d = ap can_write e in omega (arith, d))
 
-pub kept_at_exit-not : NeverHas exited 0x10 (area 0x10 0x14 read_write)
-kept_at_exit-not = never-has exited 0x10 (area 0x10 0x14 read_write) (λ e. let d = ap can_write e in omega (arith, d))
+pub kept_at_exit-not : NeverHas after_exit 0x10 (area 0x10 0x14 read_write)
+kept_at_exit-not = never-has after_exit 0x10 (area 0x10 0x14 read_write)
+    (λ e. let d = ap can_write e in omega (arith, d))

@@ -68,13 +68,21 @@ code (suc n) (e ∷ es) = code n es
 
 abbrev are_faultless : List Exchange → Bool
 are_faultless [] = true
-are_faultless (e ∷ es) = fails e.reply.notes == 0 && fault_answers e.reply.answer == 0 && are_faultless es
+are_faultless (e ∷ es) = fails e.reply.notes == 0 && fault_answers e.reply.answer == 0
+    && are_faultless es
 
 faultless-rows : (es : List Exchange) → are_faultless es ≡ true → AreFaultless es
 faultless-rows [] h = tt
 faultless-rows (e ∷ es) h =
-    let three = all (fails e.reply.notes == 0) (fault_answers e.reply.answer == 0) (are_faultless es) h in
-    (record { writes = none (fails e.reply.notes) three.0; answer = none (fault_answers e.reply.answer) three.1 }, faultless-rows es three.2)
+    let three = all (fails e.reply.notes == 0) (fault_answers e.reply.answer == 0)
+    (are_faultless es) h in (
+      record {
+        writes = none (fails e.reply.notes) three.0;
+        answer = none
+            (fault_answers e.reply.answer) three.1;
+      },
+      faultless-rows es three.2,
+    )
   where
     all : (a b c : Bool) → (a && b && c) ≡ true → (a ≡ true) × (b ≡ true) × (c ≡ true)
     all true true c h = (refl, refl, h)
@@ -99,7 +107,8 @@ abbrev choose : Setting → Ledger → List Event → List ℕ → Option (List 
 choose m l [] free = Some free
 choose m l (e ∷ es) free = option_and_then (λ rest. choose m (after l e) es (new_free m l (after l e) ++ rest)) (take_first (frame_in e) free)
 
-chosen-by : (m : Setting) (l : Ledger) (es : List Event) (free left : List ℕ) → choose m l es free ≡ Some left → ChoosesFrames m l es free left
+chosen-by : (m : Setting) (l : Ledger) (es : List Event) (free left : List ℕ)
+    → choose m l es free ≡ Some left → ChoosesFrames m l es free left
 chosen-by m l [] free left h = inner (sym h)
   where
     inner : {x y : List ℕ} → Some x ≡ Some y → x ≡ y
@@ -119,17 +128,23 @@ chosen-by m l (e ∷ es) free left h = by (take_first (frame_in e) free) refl h 
         same false is h = cc
 
     by : (o : Option (List ℕ)) → take_first (frame_in e) free ≡ o → option_and_then (λ rest. choose m (after l e) es (new_free m l (after l e) ++ rest)) o ≡ Some left
-        → ((rest : List ℕ) → choose m (after l e) es (new_free m l (after l e) ++ rest) ≡ Some left → ChoosesFrames m (after l e) es (new_free m l (after l e) ++ rest) left) → ChoosesFrames m l (e ∷ es) free left
+        → ((rest : List ℕ) → choose m (after l e) es (new_free m l (after l e) ++ rest) ≡ Some left
+        → ChoosesFrames m (after l e) es (new_free m l (after l e) ++ rest) left)
+        → ChoosesFrames m l (e ∷ es) free left
     by None is h again = cc
     by (Some rest) is h again = (new_free m l (after l e) ++ rest, (rest, first (frame_in e) free rest is, refl), again rest h)
 
-given-by : (m : Setting) (l : Ledger) (free : List ℕ) (ns : List Note) (left : List ℕ) → are_plain ns ≡ true → choose m l (note_events ns) free ≡ Some left → Given m None l (only_frames free) ns
+given-by : (m : Setting) (l : Ledger) (free : List ℕ) (ns : List Note) (left : List ℕ)
+    → are_plain ns ≡ true → choose m l (note_events ns) free ≡ Some left
+    → Given m None l (only_frames free) ns
 given-by m l free ns left plain h =
     let parts = both (fails ns == 0) (take_none (note_events ns)) plain in
     record {
       done = done-is ns (grind (arith, nat_tests, parts.0));
       left = record { frames = left; slots = slots_after_all m l (note_events ns) no_slots };
-      chosen = all-chosen m l (note_events ns) free left no_slots (chosen-by m l (note_events ns) free left h) (none-given m l (note_events ns) no_slots parts.1);
+      chosen = all-chosen m l (note_events ns) free left no_slots
+          (chosen-by m l (note_events ns) free left h)
+          (none-given m l (note_events ns) no_slots parts.1);
     }
   where
     both : (a b : Bool) → (a && b) ≡ true → ((a ≡ true) × (b ≡ true))
@@ -139,14 +154,20 @@ given-by m l free ns left plain h =
 -- ---- runs that differ from one that may be
 
 -- a run with the same commands as one that may be is that one
-same_run_from : (m : Setting) (old : State) (row changed : List Exchange) (n : ℕ) → Tells m → IsClaimed old.world → Allows m old row → SameCommands row changed → are_faultless row ≡ true → are_faultless changed ≡ true → (code n row ≡ code n changed → ⊥) → Rejects m old changed
+same_run_from : (m : Setting) (old : State) (row changed : List Exchange) (n : ℕ) → Tells m
+    → IsClaimed old.world → Allows m old row → SameCommands row changed → are_faultless row ≡ true
+    → are_faultless changed ≡ true → (code n row ≡ code n changed → ⊥) → Rejects m old changed
 same_run_from m old row changed n told claimed runs same kept kept' differ new h =
-    differ (ap (code n) (runs-one m old row changed runs.0 new told claimed same (faultless-rows row kept) (faultless-rows changed kept') runs.1 h).0)
+    differ (ap (code n) (runs-one m old row changed runs.0 new told claimed same
+    (faultless-rows row kept) (faultless-rows changed kept') runs.1 h).0)
 
 -- and so from nothing on
-same_run : (frames : ℕ) (row changed : List Exchange) (n : ℕ) → Runs frames row → SameCommands row changed → are_faultless row ≡ true → are_faultless changed ≡ true → (code n row ≡ code n changed → ⊥) → Refutes frames changed
+same_run : (frames : ℕ) (row changed : List Exchange) (n : ℕ) → Runs frames row
+    → SameCommands row changed → are_faultless row ≡ true → are_faultless changed ≡ true
+    → (code n row ≡ code n changed → ⊥) → Refutes frames changed
 same_run frames row changed n runs same kept kept' differ new h =
-    differ (ap (code n) (runs-determined (machine frames) row changed runs.0 new refl same (faultless-rows row kept) (faultless-rows changed kept') runs.1 h).0)
+    differ (ap (code n) (runs-determined (machine frames) row changed runs.0 new refl same
+    (faultless-rows row kept) (faultless-rows changed kept') runs.1 h).0)
 
 pub wrong_frame-refuted : Refutes 4 wrong_frame
 wrong_frame-refuted = same_run 4 first_run wrong_frame 2 first_run-runs (refl, (refl, (refl, (refl, tt)))) refl refl (λ e. omega (arith, e))
@@ -220,23 +241,39 @@ read-lost a page (Some (Starved out)) shown answer h none = refl
 read-lost a page (Some Lost) shown answer h none = absurd (let e = ap fault_answers h in omega (arith, e, none))
 
 -- these notes and this end may come; a reply with the same free frames has them
-by_write : (m : Setting) (told : Tells m) (s : State) (p page a : ℕ) (bytes : List ℕ) (reply : Reply) (notes : List Note) (end : Option Stop) (free left left' : List ℕ) → Touches m s.world s.ledger true (p, page) notes end → is_lost end ≡ false
-    → are_plain notes ≡ true → choose m s.ledger (note_events notes) free ≡ Some left → are_plain reply.notes ≡ true → choose m s.ledger (note_events reply.notes) free ≡ Some left' → fault_answers reply.answer ≡ 0
+by_write : (m : Setting) (told : Tells m) (s : State) (p page a : ℕ) (bytes : List ℕ)
+    (reply : Reply) (notes : List Note) (end : Option Stop) (free left left' : List ℕ)
+    → Touches m s.world s.ledger true (p, page) notes end → is_lost end ≡ false
+    → are_plain notes ≡ true → choose m s.ledger (note_events notes) free ≡ Some left
+    → are_plain reply.notes ≡ true
+    → choose m s.ledger (note_events reply.notes) free ≡ Some left'
+    → fault_answers reply.answer ≡ 0
     → refusal (tests m s.world s.ledger (Write p a bytes)) ≡ None → pages_of_access true a (length bytes) ≡ (true, page) ∷ []
     → (reply.notes ≡ notes → reply.answer ≡ write_answer a (end_of end page) → ⊥) → (events : List Event) → IsLegal m s.world s.ledger (Write p a bytes) reply events → ⊥
-by_write m told s p page a bytes reply notes end free left left' t lost plain chosen plain' chosen' none fine one differ events legal =
+by_write m told s p page a bytes reply notes end free left left' t lost plain chosen plain' chosen'
+    none fine one differ events legal =
     let h = write_legal m s p page a bytes reply fine one events legal in
-    let same = touches-one m None told s.world s.ledger true (p, page) (only_frames free) reply.notes notes h.0 end h.1 t (given-by m s.ledger free reply.notes left' plain' chosen') (given-by m s.ledger free notes left plain chosen)
+    let same = touches-one m None told s.world s.ledger true (p, page) (only_frames free)
+    reply.notes notes h.0 end h.1 t (given-by m s.ledger free reply.notes left' plain' chosen')
+    (given-by m s.ledger free notes left plain chosen)
     (write-lost a page h.0 reply.answer h.2 none) lost in
     differ same.0 (h.2 ∙ ap (λ e. write_answer a (end_of e page)) same.1)
 
-by_read : (m : Setting) (told : Tells m) (s : State) (p page a n : ℕ) (reply : Reply) (notes : List Note) (end : Option Stop) (free left left' : List ℕ) → Touches m s.world s.ledger false (p, page) notes end → is_lost end ≡ false
-    → are_plain notes ≡ true → choose m s.ledger (note_events notes) free ≡ Some left → are_plain reply.notes ≡ true → choose m s.ledger (note_events reply.notes) free ≡ Some left' → fault_answers reply.answer ≡ 0
+by_read : (m : Setting) (told : Tells m) (s : State) (p page a n : ℕ) (reply : Reply)
+    (notes : List Note) (end : Option Stop) (free left left' : List ℕ)
+    → Touches m s.world s.ledger false (p, page) notes end → is_lost end ≡ false
+    → are_plain notes ≡ true → choose m s.ledger (note_events notes) free ≡ Some left
+    → are_plain reply.notes ≡ true
+    → choose m s.ledger (note_events reply.notes) free ≡ Some left'
+    → fault_answers reply.answer ≡ 0
     → refusal (tests m s.world s.ledger (Read p a n)) ≡ None → pages_of_access false a n ≡ (false, page) ∷ []
     → (reply.notes ≡ notes → ⊥) → (events : List Event) → IsLegal m s.world s.ledger (Read p a n) reply events → ⊥
-by_read m told s p page a n reply notes end free left left' t lost plain chosen plain' chosen' none fine one differ events legal =
+by_read m told s p page a n reply notes end free left left' t lost plain chosen plain' chosen' none
+    fine one differ events legal =
     let h = read_legal m s p page a n reply fine one events legal in
-    differ (touches-one m None told s.world s.ledger false (p, page) (only_frames free) reply.notes notes h.0 end h.1 t (given-by m s.ledger free reply.notes left' plain' chosen') (given-by m s.ledger free notes left plain chosen)
+    differ (touches-one m None told s.world s.ledger false (p, page) (only_frames free) reply.notes
+    notes h.0 end h.1 t (given-by m s.ledger free reply.notes left' plain' chosen')
+    (given-by m s.ledger free notes left plain chosen)
     (read-lost a page h.0 h.2.0 reply.answer h.2.1 none) lost).0
 
 -- the address of the first note, and the frames of an out-of-memory that are pinned
@@ -300,46 +337,87 @@ loaded_page = (
 )
 
 pub no_note : Forbids (machine 4) untouched (Write 1 0x7fffffffe000 (1 ∷ [])) (answered Done [])
-no_note = by_write (machine 4) refl untouched 1 top_number top (1 ∷ []) (answered Done []) (New 1 top 0 ∷ []) None (0 ∷ 1 ∷ 2 ∷ 3 ∷ []) (1 ∷ 2 ∷ 3 ∷ []) (0 ∷ 1 ∷ 2 ∷ 3 ∷ []) new_page refl refl refl refl refl refl refl refl (λ e a. let d = ap length e in omega (arith, d))
+no_note = by_write (machine 4) refl untouched 1 top_number top (1 ∷ []) (answered Done [])
+    (New 1 top 0 ∷ []) None (0 ∷ 1 ∷ 2 ∷ 3 ∷ []) (1 ∷ 2 ∷ 3 ∷ []) (0 ∷ 1 ∷ 2 ∷ 3 ∷ []) new_page refl
+    refl refl refl refl refl refl refl (λ e a. let d = ap length e in omega (arith, d))
 
 pub note_too_many : Forbids (machine 4) untouched (Write 1 0x7fffffffe000 (1 ∷ [])) (answered Done (Zeroed 1 0x7fffffffe000 ∷ New 1 0x7fffffffe000 0 ∷ []))
-note_too_many = by_write (machine 4) refl untouched 1 top_number top (1 ∷ []) (answered Done (Zeroed 1 0x7fffffffe000 ∷ New 1 0x7fffffffe000 0 ∷ [])) (New 1 top 0 ∷ []) None (0 ∷ 1 ∷ 2 ∷ 3 ∷ []) (1 ∷ 2 ∷ 3 ∷ []) (1 ∷ 2 ∷ 3 ∷ []) new_page refl refl refl refl refl refl refl refl (λ e a. let d = ap length e in omega (arith, d))
+note_too_many = by_write (machine 4) refl untouched 1 top_number top (1 ∷ [])
+    (answered Done (Zeroed 1 0x7fffffffe000 ∷ New 1 0x7fffffffe000 0 ∷ [])) (New 1 top 0 ∷ []) None
+    (0 ∷ 1 ∷ 2 ∷ 3 ∷ []) (1 ∷ 2 ∷ 3 ∷ []) (1 ∷ 2 ∷ 3 ∷ []) new_page refl refl refl refl refl refl
+    refl refl (λ e a. let d = ap length e in omega (arith, d))
 
 pub page_below : Forbids (machine 4) untouched (Write 1 0x7fffffffe000 (1 ∷ [])) (answered Done (New 1 0x7fffffffd000 0 ∷ []))
-page_below = by_write (machine 4) refl untouched 1 top_number top (1 ∷ []) (answered Done (New 1 0x7fffffffd000 0 ∷ [])) (New 1 top 0 ∷ []) None (0 ∷ 1 ∷ 2 ∷ 3 ∷ []) (1 ∷ 2 ∷ 3 ∷ []) (1 ∷ 2 ∷ 3 ∷ []) new_page refl refl refl refl refl refl refl refl (λ e a. let d = ap first_address e in omega (arith, d))
+page_below = by_write (machine 4) refl untouched 1 top_number top (1 ∷ [])
+    (answered Done (New 1 0x7fffffffd000 0 ∷ [])) (New 1 top 0 ∷ []) None (0 ∷ 1 ∷ 2 ∷ 3 ∷ [])
+    (1 ∷ 2 ∷ 3 ∷ []) (1 ∷ 2 ∷ 3 ∷ []) new_page refl refl refl refl refl refl refl refl
+    (λ e a. let d = ap first_address e in omega (arith, d))
 
 pub unnoted_zero : Forbids (machine 4) untouched (Read 1 0x7fffffffe000 1) (answered (Data (0 ∷ [])) [])
-unnoted_zero = by_read (machine 4) refl untouched 1 top_number top 1 (answered (Data (0 ∷ [])) []) (Zeroed 1 top ∷ []) None (0 ∷ 1 ∷ 2 ∷ 3 ∷ []) (0 ∷ 1 ∷ 2 ∷ 3 ∷ []) (0 ∷ 1 ∷ 2 ∷ 3 ∷ []) zero_page refl refl refl refl refl refl refl refl (λ e. let d = ap length e in omega (arith, d))
+unnoted_zero = by_read (machine 4) refl untouched 1 top_number top 1 (answered (Data (0 ∷ [])) [])
+    (Zeroed 1 top ∷ []) None (0 ∷ 1 ∷ 2 ∷ 3 ∷ []) (0 ∷ 1 ∷ 2 ∷ 3 ∷ []) (0 ∷ 1 ∷ 2 ∷ 3 ∷ [])
+    zero_page refl refl refl refl refl refl refl refl (λ e. let d = ap length e in omega (arith, d))
 
 pub frame_for_a_read : Forbids (machine 4) untouched (Read 1 0x7fffffffe000 1) (answered (Data (0 ∷ [])) (New 1 0x7fffffffe000 0 ∷ []))
-frame_for_a_read = by_read (machine 4) refl untouched 1 top_number top 1 (answered (Data (0 ∷ [])) (New 1 0x7fffffffe000 0 ∷ [])) (Zeroed 1 top ∷ []) None (0 ∷ 1 ∷ 2 ∷ 3 ∷ []) (0 ∷ 1 ∷ 2 ∷ 3 ∷ []) (1 ∷ 2 ∷ 3 ∷ []) zero_page refl refl refl refl refl refl refl refl (λ e. let d = ap first_address e in omega (arith, d))
+frame_for_a_read = by_read (machine 4) refl untouched 1 top_number top 1
+    (answered (Data (0 ∷ [])) (New 1 0x7fffffffe000 0 ∷ [])) (Zeroed 1 top ∷ []) None
+    (0 ∷ 1 ∷ 2 ∷ 3 ∷ []) (0 ∷ 1 ∷ 2 ∷ 3 ∷ []) (1 ∷ 2 ∷ 3 ∷ []) zero_page refl refl refl refl refl
+    refl refl refl (λ e. let d = ap first_address e in omega (arith, d))
 
 pub denied_though_allowed : Forbids (machine 4) untouched (Write 1 0x7fffffffe000 (1 ∷ [])) (answered (Segv 0 []) [])
-denied_though_allowed = by_write (machine 4) refl untouched 1 top_number top (1 ∷ []) (answered (Segv 0 []) []) (New 1 top 0 ∷ []) None (0 ∷ 1 ∷ 2 ∷ 3 ∷ []) (1 ∷ 2 ∷ 3 ∷ []) (0 ∷ 1 ∷ 2 ∷ 3 ∷ []) new_page refl refl refl refl refl refl refl refl (λ e a. let d = ap length e in omega (arith, d))
+denied_though_allowed = by_write (machine 4) refl untouched 1 top_number top (1 ∷ [])
+    (answered (Segv 0 []) []) (New 1 top 0 ∷ []) None (0 ∷ 1 ∷ 2 ∷ 3 ∷ []) (1 ∷ 2 ∷ 3 ∷ [])
+    (0 ∷ 1 ∷ 2 ∷ 3 ∷ []) new_page refl refl refl refl refl refl refl refl
+    (λ e a. let d = ap length e in omega (arith, d))
 
 pub starved_though_free : Forbids (machine 4) untouched (Write 1 0x7fffffffe000 (1 ∷ [])) (answered (Oom 0 (record { pinned = 0; noslot = 4; fault = 0 }) []) [])
-starved_though_free = by_write (machine 4) refl untouched 1 top_number top (1 ∷ []) (answered (Oom 0 (record { pinned = 0; noslot = 4; fault = 0 }) []) []) (New 1 top 0 ∷ []) None (0 ∷ 1 ∷ 2 ∷ 3 ∷ []) (1 ∷ 2 ∷ 3 ∷ []) (0 ∷ 1 ∷ 2 ∷ 3 ∷ []) new_page refl refl refl refl refl refl refl refl (λ e a. let d = ap length e in omega (arith, d))
+starved_though_free = by_write (machine 4) refl untouched 1 top_number top (1 ∷ [])
+    (answered (Oom 0 (record { pinned = 0; noslot = 4; fault = 0 }) []) []) (New 1 top 0 ∷ []) None
+    (0 ∷ 1 ∷ 2 ∷ 3 ∷ []) (1 ∷ 2 ∷ 3 ∷ []) (0 ∷ 1 ∷ 2 ∷ 3 ∷ []) new_page refl refl refl refl refl
+    refl refl refl (λ e a. let d = ap length e in omega (arith, d))
 
 pub no_copy_of_shared : Forbids (machine 4) (after_fork (1 ∷ 2 ∷ 3 ∷ [])) (Write 1 0x7fffffffe000 (8 ∷ [])) (answered Done [])
-no_copy_of_shared = by_write (machine 4) refl (after_fork (1 ∷ 2 ∷ 3 ∷ [])) 1 top_number top (8 ∷ []) (answered Done []) (Copied 1 top 1 ∷ []) None (1 ∷ 2 ∷ 3 ∷ []) (2 ∷ 3 ∷ []) (1 ∷ 2 ∷ 3 ∷ []) copied_page refl refl refl refl refl refl refl refl (λ e a. let d = ap length e in omega (arith, d))
+no_copy_of_shared = by_write (machine 4) refl (after_fork (1 ∷ 2 ∷ 3 ∷ [])) 1 top_number top
+    (8 ∷ []) (answered Done []) (Copied 1 top 1 ∷ []) None (1 ∷ 2 ∷ 3 ∷ []) (2 ∷ 3 ∷ [])
+    (1 ∷ 2 ∷ 3 ∷ []) copied_page refl refl refl refl refl refl refl refl
+    (λ e a. let d = ap length e in omega (arith, d))
 
 pub copy_for_a_read : Forbids (machine 4) (after_fork (1 ∷ 2 ∷ 3 ∷ [])) (Read 2 0x7fffffffe000 1) (answered (Data (7 ∷ [])) (Copied 2 0x7fffffffe000 1 ∷ []))
-copy_for_a_read = by_read (machine 4) refl (after_fork (1 ∷ 2 ∷ 3 ∷ [])) 2 top_number top 1 (answered (Data (7 ∷ [])) (Copied 2 0x7fffffffe000 1 ∷ [])) [] None (1 ∷ 2 ∷ 3 ∷ []) (1 ∷ 2 ∷ 3 ∷ []) (2 ∷ 3 ∷ []) read_page refl refl refl refl refl refl refl refl (λ e. let d = ap length e in omega (arith, d))
+copy_for_a_read = by_read (machine 4) refl (after_fork (1 ∷ 2 ∷ 3 ∷ [])) 2 top_number top 1
+    (answered (Data (7 ∷ [])) (Copied 2 0x7fffffffe000 1 ∷ [])) [] None (1 ∷ 2 ∷ 3 ∷ [])
+    (1 ∷ 2 ∷ 3 ∷ []) (2 ∷ 3 ∷ []) read_page refl refl refl refl refl refl refl refl
+    (λ e. let d = ap length e in omega (arith, d))
 
 pub wrong_numbers : Forbids (machine 1) (after_fork []) (Write 2 0x7fffffffe000 (6 ∷ [])) (answered (Oom 0 (record { pinned = 0; noslot = 1; fault = 0 }) []) [])
-wrong_numbers = by_write (machine 1) refl (after_fork []) 2 top_number top (6 ∷ []) (answered (Oom 0 (record { pinned = 0; noslot = 1; fault = 0 }) []) []) [] (Some (Starved (record { pinned = 1; noslot = 0; fault = 0 }))) [] [] [] no_frame refl refl refl refl refl refl refl refl (λ e a. let d = ap pinned_in a in omega (arith, d))
+wrong_numbers = by_write (machine 1) refl (after_fork []) 2 top_number top (6 ∷ [])
+    (answered (Oom 0 (record { pinned = 0; noslot = 1; fault = 0 }) []) []) []
+    (Some (Starved (record { pinned = 1; noslot = 0; fault = 0 }))) [] [] [] no_frame refl refl refl
+    refl refl refl refl refl (λ e a. let d = ap pinned_in a in omega (arith, d))
 
 pub drop_missing : Forbids (with_swap 4 8 7) in_swap_cache (Write 1 0x7fffffffe000 (8 ∷ [])) (answered Done [])
-drop_missing = by_write (with_swap 4 8 7) refl in_swap_cache 1 top_number top (8 ∷ []) (answered Done []) (Dropped (slot 1) ∷ []) None (1 ∷ 2 ∷ 3 ∷ []) (1 ∷ 2 ∷ 3 ∷ []) (1 ∷ 2 ∷ 3 ∷ []) cached_write refl refl refl refl refl refl refl refl (λ e a. let d = ap length e in omega (arith, d))
+drop_missing = by_write (with_swap 4 8 7) refl in_swap_cache 1 top_number top (8 ∷ [])
+    (answered Done []) (Dropped (slot 1) ∷ []) None (1 ∷ 2 ∷ 3 ∷ []) (1 ∷ 2 ∷ 3 ∷ [])
+    (1 ∷ 2 ∷ 3 ∷ []) cached_write refl refl refl refl refl refl refl refl
+    (λ e a. let d = ap length e in omega (arith, d))
 
 pub drop_though_not_full : Forbids (with_swap 4 8 7) in_swap_cache (Read 1 0x7fffffffe000 1) (answered (Data (7 ∷ [])) (Dropped (slot 1) ∷ []))
-drop_though_not_full = by_read (with_swap 4 8 7) refl in_swap_cache 1 top_number top 1 (answered (Data (7 ∷ [])) (Dropped (slot 1) ∷ [])) [] None (1 ∷ 2 ∷ 3 ∷ []) (1 ∷ 2 ∷ 3 ∷ []) (1 ∷ 2 ∷ 3 ∷ []) cached_read refl refl refl refl refl refl refl refl (λ e. let d = ap length e in omega (arith, d))
+drop_though_not_full = by_read (with_swap 4 8 7) refl in_swap_cache 1 top_number top 1
+    (answered (Data (7 ∷ [])) (Dropped (slot 1) ∷ [])) [] None (1 ∷ 2 ∷ 3 ∷ []) (1 ∷ 2 ∷ 3 ∷ [])
+    (1 ∷ 2 ∷ 3 ∷ []) cached_read refl refl refl refl refl refl refl refl
+    (λ e. let d = ap length e in omega (arith, d))
 
 pub drop_in_flight : Forbids (with_swap 4 8 7) in_writeback (Write 1 0x7fffffffe000 (8 ∷ [])) (answered Done (Mapped 1 0x7fffffffe000 0 ∷ Dropped (slot 1) ∷ []))
-drop_in_flight = by_write (with_swap 4 8 7) refl in_writeback 1 top_number top (8 ∷ []) (answered Done (Mapped 1 0x7fffffffe000 0 ∷ Dropped (slot 1) ∷ [])) (Mapped 1 top 0 ∷ []) None (1 ∷ 2 ∷ 3 ∷ []) (1 ∷ 2 ∷ 3 ∷ []) (1 ∷ 2 ∷ 3 ∷ []) written_back refl refl refl refl refl refl refl refl (λ e a. let d = ap length e in omega (arith, d))
+drop_in_flight = by_write (with_swap 4 8 7) refl in_writeback 1 top_number top (8 ∷ [])
+    (answered Done (Mapped 1 0x7fffffffe000 0 ∷ Dropped (slot 1) ∷ [])) (Mapped 1 top 0 ∷ []) None
+    (1 ∷ 2 ∷ 3 ∷ []) (1 ∷ 2 ∷ 3 ∷ []) (1 ∷ 2 ∷ 3 ∷ []) written_back refl refl refl refl refl refl
+    refl refl (λ e a. let d = ap length e in omega (arith, d))
 
 pub map_without_load : Forbids (with_swap 4 8 7) (paged_out 7 (0 ∷ 1 ∷ 2 ∷ 3 ∷ [])) (Read 1 0x7fffffffe000 1) (answered (Data (7 ∷ [])) (Mapped 1 0x7fffffffe000 0 ∷ []))
-map_without_load = by_read (with_swap 4 8 7) refl (paged_out 7 (0 ∷ 1 ∷ 2 ∷ 3 ∷ [])) 1 top_number top 1 (answered (Data (7 ∷ [])) (Mapped 1 0x7fffffffe000 0 ∷ [])) (Loaded (slot 1) 0 ∷ Mapped 1 top 0 ∷ []) None (0 ∷ 1 ∷ 2 ∷ 3 ∷ []) (1 ∷ 2 ∷ 3 ∷ []) (0 ∷ 1 ∷ 2 ∷ 3 ∷ []) loaded_page refl refl refl refl refl refl refl refl (λ e. let d = ap length e in omega (arith, d))
+map_without_load = by_read (with_swap 4 8 7) refl (paged_out 7 (0 ∷ 1 ∷ 2 ∷ 3 ∷ [])) 1 top_number
+    top 1 (answered (Data (7 ∷ [])) (Mapped 1 0x7fffffffe000 0 ∷ []))
+    (Loaded (slot 1) 0 ∷ Mapped 1 top 0 ∷ []) None (0 ∷ 1 ∷ 2 ∷ 3 ∷ []) (1 ∷ 2 ∷ 3 ∷ [])
+    (0 ∷ 1 ∷ 2 ∷ 3 ∷ []) loaded_page refl refl refl refl refl refl refl refl
+    (λ e. let d = ap length e in omega (arith, d))
 
 -- ---- a device's fault
 
@@ -465,14 +543,21 @@ wrong_load-rejected = same_run_from (with_swap 4 3 2) (paged_out 2 (0 ∷ 1 ∷ 
 claimed_two : (p low high : ℕ) (w : World) → IsClaimed w → IsClaimed ((p, two_bytes low high) ∷ w)
 claimed_two p low high w rest q page = by (eq_by_cmp nat_cmp q p)
   where
-    whole : (a b : Bool) → IfSome (if a then Some (page_with low) else (if b then Some (page_with high) else None)) (λ (q : Page). (i : ℕ) → i < page_size → is_some (q.bytes i) ≡ true)
+    whole : (a b : Bool) → IfSome
+        (if a then Some (page_with low) else (if b then Some (page_with high) else None))
+        (λ (q : Page). (i : ℕ) → i < page_size → is_some (q.bytes i) ≡ true)
     whole true b = λ i below. refl
     whole false true = λ i below. refl
     whole false false = tt
 
-    by : (c : Bool) → IfSome (option_and_then (λ (m : Process). m page) (cond c (Some (two_bytes low high)) (process w q))) (λ (q : Page). (i : ℕ) → i < page_size → is_some (q.bytes i) ≡ true)
+    by : (c : Bool) → IfSome
+        (option_and_then (λ (m : Process). m page)
+        (cond c (Some (two_bytes low high)) (process w q)))
+        (λ (q : Page). (i : ℕ) → i < page_size → is_some (q.bytes i) ≡ true)
     by true = whole (page == 0x7fffffffd) (page == 0x7fffffffe)
     by false = rest q page
 
 pub wrong_slot-rejected : Rejects bad_first full wrong_slot
-wrong_slot-rejected = same_run_from bad_first full evicts wrong_slot 0 refl (claimed_two 1 0 7 [] (λ p page. tt)) evicts-runs (refl, (refl, tt)) refl refl (λ e. omega (arith, e))
+wrong_slot-rejected = same_run_from bad_first full evicts wrong_slot 0 refl
+    (claimed_two 1 0 7 [] (λ p page. tt)) evicts-runs (refl, (refl, tt)) refl refl
+    (λ e. omega (arith, e))

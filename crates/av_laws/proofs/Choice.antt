@@ -17,7 +17,8 @@ ChoosesFrames m l [] free free' = free' ≡ free
 ChoosesFrames m l (e ∷ es) free free' =
     (mid : List ℕ) × ChoosesFrame m l e free mid × ChoosesFrames m (after l e) es mid free'
 
-pub frames-chosen : (m : Setting) (closing : Option ℕ) (l : Ledger) (es : List Event) (free free' : Free)
+pub frames-chosen : (m : Setting) (closing : Option ℕ) (l : Ledger) (es : List Event)
+    (free free' : Free)
     → ChoosesAll m closing l es free free' → ChoosesFrames m l es free.frames free'.frames
 frames-chosen m closing l [] free free' h = ap (λ (f : Free). f.frames) h
 frames-chosen m closing l (e ∷ es) free free' h =
@@ -79,7 +80,8 @@ gives m l e slots = turns_none e && gives_slot m l (slot_in e) slots
 
 abbrev pub gives_all : Setting → Ledger → List Event → AreaSlots → Bool
 gives_all m l [] slots = true
-gives_all m l (e ∷ es) slots = gives m l e slots && gives_all m (after l e) es (slots_after m l e slots)
+gives_all m l (e ∷ es) slots = gives m l e slots && gives_all m (after l e) es
+    (slots_after m l e slots)
 
 -- whether events take no slot
 abbrev pub take_none : List Event → Bool
@@ -90,19 +92,24 @@ both : (a b : Bool) → (a && b) ≡ true → (a ≡ true) × (b ≡ true)
 both true b h = (refl, h)
 both false b h = cc
 
-pub none-given : (m : Setting) (l : Ledger) (es : List Event) (slots : AreaSlots) → take_none es ≡ true → gives_all m l es slots ≡ true
+pub none-given : (m : Setting) (l : Ledger) (es : List Event) (slots : AreaSlots)
+    → take_none es ≡ true → gives_all m l es slots ≡ true
 none-given m l [] slots h = refl
 none-given m l (e ∷ es) slots h =
     let parts = both (turns_none e && is_none (slot_in e)) (take_none es) h in
     let first = both (turns_none e) (is_none (slot_in e)) parts.0 in
-    by (turns_none e) (slot_in e) first.0 first.1 (gives_all m (after l e) es (slots_after m l e slots)) (none-given m (after l e) es (slots_after m l e slots) parts.1)
+    by (turns_none e) (slot_in e) first.0 first.1
+    (gives_all m (after l e) es (slots_after m l e slots))
+    (none-given m (after l e) es (slots_after m l e slots) parts.1)
   where
-    by : (b : Bool) (o : Option Slot) → b ≡ true → is_none o ≡ true → (c : Bool) → c ≡ true → ((b && gives_slot m l o slots) && c) ≡ true
+    by : (b : Bool) (o : Option Slot) → b ≡ true → is_none o ≡ true → (c : Bool) → c ≡ true
+        → ((b && gives_slot m l o slots) && c) ≡ true
     by true None h i c rest = rest
     by true (Some s) h i c rest = cc
     by false o h i c rest = cc
 
-slot-chosen : (m : Setting) (l : Ledger) (e : Event) (slots : AreaSlots) → gives m l e slots ≡ true → ChoosesSlot m None l e slots (slots_after m l e slots)
+slot-chosen : (m : Setting) (l : Ledger) (e : Event) (slots : AreaSlots) → gives m l e slots ≡ true
+    → ChoosesSlot m None l e slots (slots_after m l e slots)
 slot-chosen m l e slots h =
     let parts = both (turns_none e) (gives_slot m l (slot_in e) slots) h in
     (slots, left_by (slot_in e) slots, turned e parts.0, given (slot_in e) parts.1, refl)
@@ -120,22 +127,31 @@ slot-chosen m l e slots h =
     number k None h = cc
     number k (Some j) h = let e : j ≡ k = grind (arith, nat_tests, h) in ap Some e
 
-    page : (k p : ℕ) (o : Option (ℕ × Slots)) → is_page p o ≡ true → IsSomeAnd o (λ t. (t.0 ≡ p) × (given_of k o slots ≡ with_at k t.1 slots))
+    page : (k p : ℕ) (o : Option (ℕ × Slots)) → is_page p o ≡ true
+        → IsSomeAnd o (λ t. (t.0 ≡ p) × (given_of k o slots ≡ with_at k t.1 slots))
     page k p None h = cc
     page k p (Some t) h = (grind (arith, nat_tests, h), refl)
 
-    given : (o : Option Slot) → gives_slot m l o slots ≡ true → MatchOption o (left_by o slots ≡ slots) (λ s. IsGiven m None l s slots (left_by o slots))
+    given : (o : Option Slot) → gives_slot m l o slots ≡ true
+        → MatchOption o (left_by o slots ≡ slots) (λ s. IsGiven m None l s slots (left_by o slots))
     given None h = refl
     given (Some s) h =
-        let parts = both (is_number s.area (giving_area m None l)) (is_page s.page (take_slot (slots s.area))) h in
-        (number s.area (giving_area m None l) parts.0, page s.area s.page (take_slot (slots s.area)) parts.1)
+        let parts = both (is_number s.area (giving_area m None l))
+        (is_page s.page (take_slot (slots s.area))) h in (
+          number s.area (giving_area m None l) parts.0,
+          page s.area s.page (take_slot (slots s.area))
+              parts.1,
+        )
 
 -- so frames and slots are chosen
-pub all-chosen : (m : Setting) (l : Ledger) (es : List Event) (free left : List ℕ) (slots : AreaSlots) → ChoosesFrames m l es free left → gives_all m l es slots ≡ true
-    → ChoosesAll m None l es (record { frames = free; slots = slots }) (record { frames = left; slots = slots_after_all m l es slots })
+pub all-chosen : (m : Setting) (l : Ledger) (es : List Event) (free left : List ℕ)
+    (slots : AreaSlots) → ChoosesFrames m l es free left → gives_all m l es slots ≡ true
+    → ChoosesAll m None l es (record { frames = free; slots = slots })
+    (record { frames = left; slots = slots_after_all m l es slots })
 all-chosen m l [] free left slots h g = λ i. record { frames = h i; slots = slots }
 all-chosen m l (e ∷ es) free left slots h g =
-    let parts = both (gives m l e slots) (gives_all m (after l e) es (slots_after m l e slots)) g in (
+    let parts = both (gives m l e slots) (gives_all m (after l e) es (slots_after m l e slots))
+    g in (
       record { frames = h.0; slots = slots_after m l e slots },
       record { frames = h.1; slots = slot-chosen m l e slots parts.0 },
       all-chosen m (after l e) es h.0 left (slots_after m l e slots) h.2 parts.1,

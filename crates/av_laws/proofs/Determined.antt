@@ -47,11 +47,16 @@ is_lost_end Whole = false
 is_lost_end (Stopped page stop) = is_lost (Some stop)
 
 -- what is chosen at a page that is served: its notes come first
-served-chosen : (m : Setting) (closing : Option ℕ) (l : Ledger) (write : Bool) (k : Key) (notes : List Note) (later : List Event) (free free' : Free) → ChoosesAll m closing l (page_events write k notes None ++ later) free free'
-    → (mid : Free) × (next : Free) × ChoosesAll m closing l (note_events notes) free mid × ChoosesAll m closing l (page_events write k notes None) free next × ChoosesAll m closing (after_all l (page_events write k notes None)) later next free'
+served-chosen : (m : Setting) (closing : Option ℕ) (l : Ledger) (write : Bool) (k : Key)
+    (notes : List Note) (later : List Event) (free free' : Free)
+    → ChoosesAll m closing l (page_events write k notes None ++ later) free free'
+    → (mid : Free) × (next : Free) × ChoosesAll m closing l (note_events notes) free mid
+    × ChoosesAll m closing l (page_events write k notes None) free next
+    × ChoosesAll m closing (after_all l (page_events write k notes None)) later next free'
 served-chosen m closing l write k notes later free free' h =
     let parts = chosen-first m closing l (page_events write k notes None) later free free' h in
-    let first = chosen-first m closing l (note_events notes) (Used write k ∷ []) free parts.0 parts.1 in
+    let first = chosen-first m closing l (note_events notes) (Used write k ∷ []) free parts.0
+    parts.1 in
     (first.0, parts.0, first.1, parts.1, parts.2)
 
 -- the notes of such a page are among those of the access
@@ -60,46 +65,86 @@ served-notes write k notes later =
     notes_of-append (page_events write k notes None) later
     ∙ ap (λ ns. ns ++ notes_of later) (notes_of-append (note_events notes) (Used write k ∷ []) ∙ append-nil (notes_of (note_events notes)) ∙ notes_of-note_events notes)
 
-pub accesses-one : (m : Setting) (closing : Option ℕ) (told : Tells m) (w : World) (l : Ledger) (p : ℕ) (ps : List (Bool × ℕ)) (es fs : List Event) (end end' : End) (free a b : Free)
-    → Accesses m w l p ps es end → Accesses m w l p ps fs end' → ChoosesAll m closing l es free a → ChoosesAll m closing l fs free b → AreDone (notes_of es) → AreDone (notes_of fs) → is_lost_end end ≡ false → is_lost_end end' ≡ false
+pub accesses-one : (m : Setting) (closing : Option ℕ) (told : Tells m) (w : World) (l : Ledger)
+    (p : ℕ) (ps : List (Bool × ℕ)) (es fs : List Event) (end end' : End) (free a b : Free)
+    → Accesses m w l p ps es end → Accesses m w l p ps fs end' → ChoosesAll m closing l es free a
+    → ChoosesAll m closing l fs free b → AreDone (notes_of es) → AreDone (notes_of fs)
+    → is_lost_end end ≡ false → is_lost_end end' ≡ false
     → (es ≡ fs) × (end ≡ end')
-accesses-one m closing told w l p [] es fs end end' free a b h g c d x y kept kept' = (h.0 ∙ sym g.0, h.1 ∙ sym g.1)
-accesses-one m closing told w l p (page ∷ ps) es fs end end' free a b (inl h) (inl g) c d x y kept kept' =
-    let c' = served-chosen m closing l page.0 (p, page.1) h.0 h.1 free a (subst (λ v. ChoosesAll m closing l v free a) h.3 c) in
-    let d' = served-chosen m closing l page.0 (p, page.1) g.0 g.1 free b (subst (λ v. ChoosesAll m closing l v free b) g.3 d) in
-    let x' = done-append h.0 (notes_of h.1) (subst AreDone (ap notes_of h.3 ∙ served-notes page.0 (p, page.1) h.0 h.1) x) in
-    let y' = done-append g.0 (notes_of g.1) (subst AreDone (ap notes_of g.3 ∙ served-notes page.0 (p, page.1) g.0 g.1) y) in
-    let one = touches-one m closing told w l page.0 (p, page.1) free h.0 g.0 None None h.2 g.2 (record { done = x'.0; left = c'.0; chosen = c'.2 }) (record { done = y'.0; left = d'.0; chosen = d'.2 }) refl refl in
+accesses-one m closing told w l p [] es fs end end' free a b h g c d x y kept
+    kept' = (h.0 ∙ sym g.0, h.1 ∙ sym g.1)
+accesses-one m closing told w l p (page ∷ ps) es fs end end' free a b (inl h) (inl g) c d x y kept
+    kept' =
+    let c' = served-chosen m closing l page.0 (p, page.1) h.0 h.1 free a
+    (subst (λ v. ChoosesAll m closing l v free a) h.3 c) in
+    let d' = served-chosen m closing l page.0 (p, page.1) g.0 g.1 free b
+    (subst (λ v. ChoosesAll m closing l v free b) g.3 d) in
+    let x' = done-append h.0 (notes_of h.1)
+    (subst AreDone (ap notes_of h.3 ∙ served-notes page.0 (p, page.1) h.0 h.1) x) in
+    let y' = done-append g.0 (notes_of g.1)
+    (subst AreDone (ap notes_of g.3 ∙ served-notes page.0 (p, page.1) g.0 g.1) y) in
+    let one = touches-one m closing told w l page.0 (p, page.1) free h.0 g.0 None None h.2 g.2
+    (record { done = x'.0; left = c'.0; chosen = c'.2 })
+    (record { done = y'.0; left = d'.0; chosen = d'.2 }) refl refl in
     let here = page_events page.0 (p, page.1) h.0 None in
     let moved : page_events page.0 (p, page.1) g.0 None ≡ here = ap (λ ns. page_events page.0 (p, page.1) ns None) (sym one.0) in
-    let mids : d'.1 ≡ c'.1 = chooses-one m closing l here free d'.1 c'.1 told (subst (λ v. ChoosesAll m closing l v free d'.1) moved d'.3) c'.3 in
-    let rest = accesses-one m closing told w (after_all l here) p ps h.1 g.1 end end' c'.1 a b h.4 (subst (λ v. Accesses m w (after_all l v) p ps g.1 end') moved g.4)
-    c'.4 (subst (λ f. ChoosesAll m closing (after_all l here) g.1 f b) mids (subst (λ v. ChoosesAll m closing (after_all l v) g.1 d'.1 b) moved d'.4))
+    let mids : d'.1 ≡ c'.1 = chooses-one m closing l here free d'.1 c'.1 told
+    (subst (λ v. ChoosesAll m closing l v free d'.1) moved d'.3) c'.3 in
+    let rest = accesses-one m closing told w (after_all l here) p ps h.1 g.1 end end' c'.1 a b h.4
+    (subst (λ v. Accesses m w (after_all l v) p ps g.1 end') moved g.4)
+    c'.4 (subst (λ f. ChoosesAll m closing (after_all l here) g.1 f b) mids
+    (subst (λ v. ChoosesAll m closing (after_all l v) g.1 d'.1 b) moved d'.4))
     x'.1 y'.1 kept kept' in
     (h.3 ∙ (λ i. sym moved i ++ rest.0 i) ∙ sym g.3, rest.1)
-accesses-one m closing told w l p (page ∷ ps) es fs end end' free a b (inl h) (inr g) c d x y kept kept' =
-    let c' = served-chosen m closing l page.0 (p, page.1) h.0 h.1 free a (subst (λ v. ChoosesAll m closing l v free a) h.3 c) in
-    let x' = done-append h.0 (notes_of h.1) (subst AreDone (ap notes_of h.3 ∙ served-notes page.0 (p, page.1) h.0 h.1) x) in
-    let one = touches-one m closing told w l page.0 (p, page.1) free h.0 g.0 None (Some g.1) h.2 g.2 (record { done = x'.0; left = c'.0; chosen = c'.2 })
-    (record { done = subst AreDone (ap notes_of g.3 ∙ notes_of-note_events g.0) y; left = b; chosen = subst (λ v. ChoosesAll m closing l v free b) g.3 d }) refl (ap is_lost_end (sym g.4) ∙ kept') in
+accesses-one m closing told w l p (page ∷ ps) es fs end end' free a b (inl h) (inr g) c d x y kept
+    kept' =
+    let c' = served-chosen m closing l page.0 (p, page.1) h.0 h.1 free a
+    (subst (λ v. ChoosesAll m closing l v free a) h.3 c) in
+    let x' = done-append h.0 (notes_of h.1)
+    (subst AreDone (ap notes_of h.3 ∙ served-notes page.0 (p, page.1) h.0 h.1) x) in
+    let one = touches-one m closing told w l page.0 (p, page.1) free h.0 g.0 None (Some g.1) h.2 g.2
+    (record { done = x'.0; left = c'.0; chosen = c'.2 })
+    (record {
+      done = subst AreDone (ap notes_of g.3 ∙ notes_of-note_events g.0) y;
+      left = b;
+      chosen = subst (λ v. ChoosesAll m closing l v free b) g.3 d;
+    }) refl
+    (ap is_lost_end (sym g.4) ∙ kept') in
     absurd (differ one.1)
   where
     differ : None ≡ Some g.1 → ⊥
     differ e = cc
-accesses-one m closing told w l p (page ∷ ps) es fs end end' free a b (inr h) (inl g) c d x y kept kept' =
-    let d' = served-chosen m closing l page.0 (p, page.1) g.0 g.1 free b (subst (λ v. ChoosesAll m closing l v free b) g.3 d) in
-    let y' = done-append g.0 (notes_of g.1) (subst AreDone (ap notes_of g.3 ∙ served-notes page.0 (p, page.1) g.0 g.1) y) in
+accesses-one m closing told w l p (page ∷ ps) es fs end end' free a b (inr h) (inl g) c d x y kept
+    kept' =
+    let d' = served-chosen m closing l page.0 (p, page.1) g.0 g.1 free b
+    (subst (λ v. ChoosesAll m closing l v free b) g.3 d) in
+    let y' = done-append g.0 (notes_of g.1)
+    (subst AreDone (ap notes_of g.3 ∙ served-notes page.0 (p, page.1) g.0 g.1) y) in
     let one = touches-one m closing told w l page.0 (p, page.1) free h.0 g.0 (Some h.1) None h.2 g.2
-    (record { done = subst AreDone (ap notes_of h.3 ∙ notes_of-note_events h.0) x; left = a; chosen = subst (λ v. ChoosesAll m closing l v free a) h.3 c })
+    (record {
+      done = subst AreDone (ap notes_of h.3 ∙ notes_of-note_events h.0) x;
+      left = a;
+      chosen = subst (λ v. ChoosesAll m closing l v free a) h.3 c;
+    })
     (record { done = y'.0; left = d'.0; chosen = d'.2 }) (ap is_lost_end (sym h.4) ∙ kept) refl in
     absurd (differ one.1)
   where
     differ : Some h.1 ≡ None → ⊥
     differ e = cc
-accesses-one m closing told w l p (page ∷ ps) es fs end end' free a b (inr h) (inr g) c d x y kept kept' =
-    let one = touches-one m closing told w l page.0 (p, page.1) free h.0 g.0 (Some h.1) (Some g.1) h.2 g.2
-    (record { done = subst AreDone (ap notes_of h.3 ∙ notes_of-note_events h.0) x; left = a; chosen = subst (λ v. ChoosesAll m closing l v free a) h.3 c })
-    (record { done = subst AreDone (ap notes_of g.3 ∙ notes_of-note_events g.0) y; left = b; chosen = subst (λ v. ChoosesAll m closing l v free b) g.3 d })
+accesses-one m closing told w l p (page ∷ ps) es fs end end' free a b (inr h) (inr g) c d x y kept
+    kept' =
+    let one = touches-one m closing told w l page.0 (p, page.1) free h.0 g.0 (Some h.1) (Some g.1)
+    h.2 g.2
+    (record {
+      done = subst AreDone (ap notes_of h.3 ∙ notes_of-note_events h.0) x;
+      left = a;
+      chosen = subst (λ v. ChoosesAll m closing l v free a) h.3 c;
+    })
+    (record {
+      done = subst AreDone (ap notes_of g.3 ∙ notes_of-note_events g.0) y;
+      left = b;
+      chosen = subst (λ v. ChoosesAll m closing l v free b) g.3 d;
+    })
     (ap is_lost_end (sym h.4) ∙ kept) (ap is_lost_end (sym g.4) ∙ kept') in
     (h.3 ∙ ap note_events one.0 ∙ sym g.3, h.4 ∙ ap (Stopped page.1) (inner one.1) ∙ sym g.4)
   where
@@ -216,7 +261,8 @@ write-kept : (a : ℕ) (end : End) (answer : Answer) → answer ≡ write_answer
 write-kept a Whole answer h none = refl
 write-kept a (Stopped page stop) answer h none = stop-kept stop (bytes_before a page) [] (ap fault_answers (sym h) ∙ none)
 
-pub loads-told : (m : Setting) (w : World) (l : Ledger) (es : List Event) → Tells m → with_loads m w l es ≡ w
+pub loads-told : (m : Setting) (w : World) (l : Ledger) (es : List Event) → Tells m
+    → with_loads m w l es ≡ w
 loads-told m w l es told = ap (λ b. if b then w else after_loads w l es) told
 
 record Same (es fs : List Event) (answer answer' : Answer) (rows rows' : List Row) : Type 0 where
@@ -224,55 +270,110 @@ record Same (es fs : List Event) (answer answer' : Answer) (rows rows' : List Ro
   answers : answer ≡ answer'
   reports : rows ≡ rows'
 
-follows-one : (m : Setting) (w : World) (l : Ledger) (command : Command) (es fs : List Event) (answer answer' : Answer) (rows rows' : List Row) (closing : Option ℕ) (free a b : Free) → Tells m → IsClaimed w
-    → fault_answers answer ≡ 0 → fault_answers answer' ≡ 0 → AreDone (notes_of es) → AreDone (notes_of fs) → ChoosesAll m closing l es free a → ChoosesAll m closing l fs free b → Follows m w l command es answer rows → Follows m w l command fs answer' rows' → Same es fs answer answer' rows rows'
-follows-one m w l (Spawn p) es fs answer answer' rows rows' closing free a b told claimed kept kept' x y c d h g = record { events = h.1 ∙ sym g.1; answers = h.0 ∙ sym g.0; reports = h.2 ∙ sym g.2 }
-follows-one m w l (Exit p) es fs answer answer' rows rows' closing free a b told claimed kept kept' x y c d h g = record { events = h.1 ∙ sym g.1; answers = h.0 ∙ sym g.0; reports = h.2 ∙ sym g.2 }
-follows-one m w l (Mmap p len prot place) es fs answer answer' rows rows' closing free a b told claimed kept kept' x y c d h g = record {
-  events = h.3 ∙ sym g.3;
-  answers = map_at-one g.0 answer answer' (subst (IsMapAt answer) (goes-one (pages w p) (pages_of len) place h.0 g.0 h.1 g.1) h.2) g.2;
-  reports = h.4 ∙ sym g.4;
-}
-follows-one m w l (Munmap p at len) es fs answer answer' rows rows' closing free a b told claimed kept kept' x y c d h g = record { events = h.1 ∙ sym g.1; answers = h.0 ∙ sym g.0; reports = h.2 ∙ sym g.2 }
-follows-one m w l (Mprotect p at len prot) es fs answer answer' rows rows' closing free a b told claimed kept kept' x y c d h g = record { events = h.1 ∙ sym g.1; answers = h.0 ∙ sym g.0; reports = h.2 ∙ sym g.2 }
-follows-one m w l (Read p at n) es fs answer answer' rows rows' closing free a b told claimed kept kept' x y c d h g =
-    let one = accesses-one m closing told w l p (pages_of_access false at n) es fs h.0 g.0 free a b h.2 g.2 c d x y (read-kept at h.0 h.1 answer h.4 kept) (read-kept at g.0 g.1 answer' g.4 kept') in
+follows-one : (m : Setting) (w : World) (l : Ledger) (command : Command) (es fs : List Event)
+    (answer answer' : Answer) (rows rows' : List Row) (closing : Option ℕ) (free a b : Free)
+    → Tells m → IsClaimed w
+    → fault_answers answer ≡ 0 → fault_answers answer' ≡ 0 → AreDone (notes_of es)
+    → AreDone (notes_of fs) → ChoosesAll m closing l es free a
+    → ChoosesAll m closing l fs free b → Follows m w l command es answer rows
+    → Follows m w l command fs answer' rows' → Same es fs answer answer' rows rows'
+follows-one m w l (Spawn p) es fs answer answer' rows rows' closing free a b told claimed kept kept'
+    x y c d h g = record {
+      events = h.1 ∙ sym g.1;
+      answers = h.0 ∙ sym g.0;
+      reports = h.2
+          ∙ sym g.2;
+    }
+follows-one m w l (Exit p) es fs answer answer' rows rows' closing free a b told claimed kept kept'
+    x y c d h g = record {
+      events = h.1 ∙ sym g.1;
+      answers = h.0 ∙ sym g.0;
+      reports = h.2
+          ∙ sym g.2;
+    }
+follows-one m w l (Mmap p len prot place) es fs answer answer' rows rows' closing free a b told
+    claimed kept kept' x y c d h g = record {
+      events = h.3 ∙ sym g.3;
+      answers = map_at-one g.0 answer answer' (subst (IsMapAt answer) (goes-one (pages w p) (pages_of len) place h.0 g.0 h.1 g.1) h.2) g.2;
+      reports = h.4 ∙ sym g.4;
+    }
+follows-one m w l (Munmap p at len) es fs answer answer' rows rows' closing free a b told claimed
+    kept kept' x y c d h g = record {
+      events = h.1 ∙ sym g.1;
+      answers = h.0 ∙ sym g.0;
+      reports = h.2
+          ∙ sym g.2;
+    }
+follows-one m w l (Mprotect p at len prot) es fs answer answer' rows rows' closing free a b told
+    claimed kept kept' x y c d h
+    g = record { events = h.1 ∙ sym g.1; answers = h.0 ∙ sym g.0; reports = h.2 ∙ sym g.2 }
+follows-one m w l (Read p at n) es fs answer answer' rows rows' closing free a b told claimed kept
+    kept' x y c d h g =
+    let one = accesses-one m closing told w l p (pages_of_access false at n) es fs h.0 g.0 free a b
+    h.2 g.2 c d x y (read-kept at h.0 h.1 answer h.4 kept)
+    (read-kept at g.0 g.1 answer' g.4 kept') in
     let mine : Reads (pages w p) at (bytes_served at n h.0) h.1 = subst (λ v. Reads (pages v p) at (bytes_served at n h.0) h.1) (loads-told m w l es told) h.3 in
     let other : Reads (pages w p) at (bytes_served at n h.0) g.1 = subst (λ e. Reads (pages w p) at (bytes_served at n e) g.1) (sym one.1) (subst (λ v. Reads (pages v p) at (bytes_served at n g.0) g.1) (loads-told m w l fs told) g.3) in
     let length_is = mine.0 in
     let shown = shows-one (pages w p) at h.1 g.1 (mine.0 ∙ sym other.0) (λ i below. served-claimed m w l false p at n es h.0 claimed h.2 i (omega (arith, below, length_is))) mine.1 other.1 in
     record { events = one.0; answers = h.4 ∙ (λ i. read_answer at (one.1 i) (shown i)) ∙ sym g.4; reports = h.5 ∙ sym g.5 }
-follows-one m w l (Write p at bytes) es fs answer answer' rows rows' closing free a b told claimed kept kept' x y c d h g =
-    let one = accesses-one m closing told w l p (pages_of_access true at (length bytes)) es fs h.0 g.0 free a b h.1 g.1 c d x y (write-kept at h.0 answer h.2 kept) (write-kept at g.0 answer' g.2 kept') in
+follows-one m w l (Write p at bytes) es fs answer answer' rows rows' closing free a b told claimed
+    kept kept' x y c d h g =
+    let one = accesses-one m closing told w l p (pages_of_access true at (length bytes)) es fs h.0
+    g.0 free a b h.1 g.1 c d x y (write-kept at h.0 answer h.2 kept)
+    (write-kept at g.0 answer' g.2 kept') in
     record { events = one.0; answers = h.2 ∙ ap (write_answer at) one.1 ∙ sym g.2; reports = h.3 ∙ sym g.3 }
-follows-one m w l (Maps p) es fs answer answer' rows rows' closing free a b told claimed kept kept' x y c d h g =
+follows-one m w l (Maps p) es fs answer answer' rows rows' closing free a b told claimed kept kept'
+    x y c d h g =
     let same = one-answer (pages w p) rows rows' h.1 g.1 in
     record { events = h.2 ∙ sym g.2; answers = h.0 ∙ ap (λ (rs : List Row). Runs (length rs)) same ∙ sym g.0; reports = same }
-follows-one m w l Stat es fs answer answer' rows rows' closing free a b told claimed kept kept' x y c d h g = record { events = h.1 ∙ sym g.1; answers = h.0 ∙ sym g.0; reports = h.2 ∙ sym g.2 }
+follows-one m w l Stat es fs answer answer' rows rows' closing free a b told claimed kept kept' x y
+    c d h g = record { events = h.1 ∙ sym g.1; answers = h.0 ∙ sym g.0; reports = h.2 ∙ sym g.2 }
 
-legal-one : (m : Setting) (w : World) (l : Ledger) (command : Command) (reply reply' : Reply) (es fs : List Event) (closing : Option ℕ) (free a b : Free) → Tells m → IsClaimed w
-    → fault_answers reply.answer ≡ 0 → fault_answers reply'.answer ≡ 0 → AreDone (notes_of es) → AreDone (notes_of fs) → ChoosesAll m closing l es free a → ChoosesAll m closing l fs free b → IsLegal m w l command reply es → IsLegal m w l command reply' fs → Same es fs reply.answer reply'.answer reply.rows reply'.rows
-legal-one m w l command reply reply' es fs closing free a b told claimed kept kept' x y c d h g = by (refusal (tests m w l command)) h.answer g.answer
+legal-one : (m : Setting) (w : World) (l : Ledger) (command : Command) (reply reply' : Reply)
+    (es fs : List Event) (closing : Option ℕ) (free a b : Free) → Tells m → IsClaimed w
+    → fault_answers reply.answer ≡ 0 → fault_answers reply'.answer ≡ 0 → AreDone (notes_of es)
+    → AreDone (notes_of fs) → ChoosesAll m closing l es free a
+    → ChoosesAll m closing l fs free b → IsLegal m w l command reply es
+    → IsLegal m w l command reply' fs
+    → Same es fs reply.answer reply'.answer reply.rows reply'.rows
+legal-one m w l command reply reply' es fs closing free a b told claimed kept kept' x y c d h g = by
+    (refusal (tests m w l command)) h.answer g.answer
   where
     by : (o : Option Errno) → MatchOption o (Follows m w l command es reply.answer reply.rows) (λ error. Refuses error es reply.answer reply.rows)
         → MatchOption o (Follows m w l command fs reply'.answer reply'.rows) (λ error. Refuses error fs reply'.answer reply'.rows) → Same es fs reply.answer reply'.answer reply.rows reply'.rows
-    by None p q = follows-one m w l command es fs reply.answer reply'.answer reply.rows reply'.rows closing free a b told claimed kept kept' x y c d p q
+    by None p q = follows-one m w l command es fs reply.answer reply'.answer reply.rows reply'.rows
+        closing free a b told claimed kept kept' x y c d p q
     by (Some error) p q = record { events = p.1 ∙ sym q.1; answers = p.0 ∙ sym q.0; reports = p.2 ∙ sym q.2 }
 
-pub step-one : (m : Setting) (old new new' : State) (command : Command) (reply reply' : Reply) → Tells m → IsClaimed old.world → IsFaultless reply → IsFaultless reply'
+pub step-one : (m : Setting) (old new new' : State) (command : Command) (reply reply' : Reply)
+    → Tells m → IsClaimed old.world → IsFaultless reply → IsFaultless reply'
     → IsStep m old command reply new → IsStep m old command reply' new' → (reply ≡ reply') × (new ≡ new')
 step-one m old new new' command reply reply' told claimed kept kept' h g =
     let closing = closing_area command in
     let x = done-is reply.notes kept.writes in
     let y = done-is reply'.notes kept'.writes in
-    let same = legal-one m old.world old.ledger command reply reply' h.events g.events closing old.free new.free new'.free told claimed kept.answer kept'.answer
+    let same = legal-one m old.world old.ledger command reply reply' h.events g.events closing
+    old.free new.free new'.free told claimed kept.answer kept'.answer
     (subst AreDone h.legal.notes x) (subst AreDone g.legal.notes y) h.free g.free h.legal g.legal in
     let notes : reply.notes ≡ reply'.notes = h.legal.notes ∙ ap notes_of same.events ∙ sym g.legal.notes in
     let world : new.world ≡ new'.world = h.world ∙ (λ i. next_world m old.world old.ledger (same.events i) command (same.answers i)) ∙ sym g.world in
     let ledger : new.ledger ≡ new'.ledger = h.ledger ∙ ap (after_all old.ledger) same.events ∙ sym g.ledger in
-    let free : new.free ≡ new'.free = chooses-one m closing old.ledger g.events old.free new.free new'.free told (subst (λ es. ChoosesAll m closing old.ledger es old.free new.free) same.events h.free) g.free in
-    let areas : new.areas ≡ new'.areas = h.areas ∙ ap (next_areas old.areas old.world command) same.answers ∙ sym g.areas in
-    ((λ i. record { answer = same.answers i; notes = notes i; rows = same.reports i }), (λ i. record { world = world i; ledger = ledger i; free = free i; areas = areas i }))
+    let free : new.free ≡ new'.free = chooses-one m closing old.ledger g.events old.free new.free
+    new'.free told (subst (λ es. ChoosesAll m closing old.ledger es old.free new.free)
+    same.events h.free) g.free in
+    let areas : new.areas ≡ new'.areas = h.areas
+    ∙ ap (next_areas old.areas old.world command) same.answers ∙ sym g.areas in
+    let anons : new.anons ≡ new'.anons = h.anons ∙ sym g.anons in (
+      (λ i. record { answer = same.answers i; notes = notes i; rows = same.reports i }),
+      (λ i. record {
+        world = world i;
+        ledger = ledger i;
+        free = free i;
+        areas = areas i;
+        anons = anons i;
+      }),
+    )
 
 -- ---- each byte stays claimed
 
@@ -365,7 +466,8 @@ claimed-step m old new command reply told claimed h = subst IsClaimed (sym h.wor
 
 -- ---- runs
 
-pub runs-one : (m : Setting) (old : State) (es fs : List Exchange) (new new' : State) → Tells m → IsClaimed old.world → SameCommands es fs → AreFaultless es → AreFaultless fs
+pub runs-one : (m : Setting) (old : State) (es fs : List Exchange) (new new' : State) → Tells m
+    → IsClaimed old.world → SameCommands es fs → AreFaultless es → AreFaultless fs
     → IsRun m old es new → IsRun m old fs new' → (es ≡ fs) × (new ≡ new')
 runs-one m old [] [] new new' told claimed same kept kept' h g = (refl, h ∙ sym g)
 runs-one m old [] (f ∷ fs) new new' told claimed same kept kept' h g = absurd same
@@ -373,9 +475,13 @@ runs-one m old (e ∷ es) [] new new' told claimed same kept kept' h g = absurd 
 runs-one m old (e ∷ es) (f ∷ fs) new new' told claimed same kept kept' h g =
     let step = step-one m old h.0 g.0 e.command e.reply f.reply told claimed kept.0 kept'.0
     h.1 (subst (λ c. IsStep m old c f.reply g.0) (sym same.0) g.1) in
-    let rest = runs-one m h.0 es fs new new' told (claimed-step m old h.0 e.command e.reply told claimed h.1) same.1 kept.1 kept'.1 h.2 (subst (λ s. IsRun m s fs new') (sym step.1) g.2) in
+    let rest = runs-one m h.0 es fs new new' told
+    (claimed-step m old h.0 e.command e.reply told claimed h.1) same.1 kept.1 kept'.1 h.2
+    (subst (λ s. IsRun m s fs new') (sym step.1) g.2) in
     ((λ i. record { command = same.0 i; reply = step.0 i } ∷ rest.0 i), rest.1)
 
-pub runs-determined : (m : Setting) (es fs : List Exchange) (new new' : State) → Tells m → SameCommands es fs → AreFaultless es → AreFaultless fs
+pub runs-determined : (m : Setting) (es fs : List Exchange) (new new' : State) → Tells m
+    → SameCommands es fs → AreFaultless es → AreFaultless fs
     → IsRun m (at_first m) es new → IsRun m (at_first m) fs new' → (es ≡ fs) × (new ≡ new')
-runs-determined m es fs new new' told same kept kept' h g = runs-one m (at_first m) es fs new new' told (λ p page. tt) same kept kept' h g
+runs-determined m es fs new new' told same kept kept' h g = runs-one m (at_first m) es fs new new'
+    told (λ p page. tt) same kept kept' h g

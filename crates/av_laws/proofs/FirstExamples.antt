@@ -16,7 +16,7 @@ use Rattle.av_plain.specs.Event.{Event, Noted, Used, after_all}
 use Rattle.av_plain.specs.Fault.{Denied, Starved}
 use Rattle.av_plain.specs.Access.{Whole, Stopped}
 use Rattle.av_plain.specs.Step.{IsLegal, next_world}
-use Rattle.av_plain.specs.Areas.{next_areas, no_areas}
+use Rattle.av_plain.specs.Areas.{no_anons, next_areas, no_areas}
 use Rattle.av_plain.specs.Choice.{no_slots}
 use Rattle.av_laws.proofs.Choice.{ChoosesFrames, all-chosen, gives_all, none-given, slots_after_all, take_none}
 use Rattle.av_plain.specs.Transcript.{Exchange, State, at_first}
@@ -26,13 +26,17 @@ use Rattle.av_laws.specs.Examples.{Allows, Runs, machine, says, read_write, writ
 abbrev pub Steps : Setting → State → List Exchange → Type 0
 Steps m old [] = Unit {0}
 Steps m old (e ∷ row) =
-    (events : List Event) × (free : List ℕ) × IsLegal m old.world old.ledger e.command e.reply events × ChoosesFrames m old.ledger events old.free.frames free
+    (events : List Event) × (free : List ℕ)
+    × IsLegal m old.world old.ledger e.command e.reply events
+    × ChoosesFrames m old.ledger events old.free.frames free
     × (let new : State = record {
       world = next_world m old.world old.ledger events e.command e.reply.answer;
       ledger = after_all old.ledger events;
       free = record { frames = free; slots = slots_after_all m old.ledger events old.free.slots };
       areas = next_areas old.areas old.world e.command e.reply.answer;
-    } in MatchBool (take_none events) (Steps m new row) ((gives_all m old.ledger events old.free.slots ≡ true) × Steps m new row))
+      anons = old.anons;
+    } in MatchBool (take_none events) (Steps m new row)
+    ((gives_all m old.ledger events old.free.slots ≡ true) × Steps m new row))
 
 pub by_steps : (m : Setting) (old : State) (row : List Exchange) → Steps m old row → Allows m old row
 by_steps m old [] h = (old, refl)
@@ -42,12 +46,30 @@ by_steps m old (e ∷ row) h =
       ledger = after_all old.ledger h.0;
       free = record { frames = h.1; slots = slots_after_all m old.ledger h.0 old.free.slots };
       areas = next_areas old.areas old.world e.command e.reply.answer;
+      anons = old.anons;
     } in
     let both = given (take_none h.0) refl mid h.4 in
-    let rest = by_steps m mid row both.1 in
-    (rest.0, (mid, record { events = h.0; legal = h.2; world = refl; ledger = refl; free = all-chosen m old.ledger h.0 old.free.frames h.1 old.free.slots h.3 both.0; areas = refl }, rest.1))
+    let rest = by_steps m mid row both.1 in (
+      rest.0,
+      (
+        mid,
+        record {
+          events = h.0;
+          legal = h.2;
+          world = refl;
+          ledger = refl;
+          free = all-chosen m old.ledger h.0 old.free.frames h.1 old.free.slots h.3 both.0;
+          areas = refl;
+          anons = refl;
+        },
+        rest.1,
+      ),
+    )
   where
-    given : (b : Bool) → take_none h.0 ≡ b → (new : State) → MatchBool b (Steps m new row) ((gives_all m old.ledger h.0 old.free.slots ≡ true) × Steps m new row) → (gives_all m old.ledger h.0 old.free.slots ≡ true) × Steps m new row
+    given : (b : Bool) → take_none h.0 ≡ b → (new : State)
+        → MatchBool b (Steps m new row)
+        ((gives_all m old.ledger h.0 old.free.slots ≡ true) × Steps m new row)
+        → (gives_all m old.ledger h.0 old.free.slots ≡ true) × Steps m new row
     given true is new h' = (none-given m old.ledger h.0 old.free.slots is, h')
     given false is new h' = h'
 
@@ -80,7 +102,15 @@ gap_below is_taken from n is some low high below above = gap_under is_taken from
 
 -- process 1 has the topmost page mapped, and no other
 abbrev pub one_page : Prot → State
-one_page prot = record { world = (1, with_pages no_pages 0x7fffffffe 1 (λ _. Some (zeros prot))) ∷ []; ledger = first_ledger; free = record { frames = 0 ∷ 1 ∷ 2 ∷ 3 ∷ []; slots = no_slots }; areas = next_areas (next_areas no_areas [] (Spawn 1) Done) ((1, no_pages) ∷ []) (Mmap 1 4096 prot Auto) (MapAt 0x7fffffffe000) }
+one_page prot = record {
+  world = (1, with_pages no_pages 0x7fffffffe 1 (λ _. Some (zeros prot)))
+      ∷ [];
+  ledger = first_ledger;
+  free = record { frames = 0 ∷ 1 ∷ 2 ∷ 3 ∷ []; slots = no_slots };
+  areas = next_areas (next_areas no_areas [] (Spawn 1) Done) ((1, no_pages) ∷ [])
+      (Mmap 1 4096 prot Auto) (MapAt 0x7fffffffe000);
+  anons = no_anons;
+}
 
 -- so many rows begin
 pub topmost : (prot : Prot) (row : List Exchange) → Steps (machine 4) (one_page prot) row → Steps (machine 4) (at_first (machine 4)) (says (Spawn 1) Done [] ∷ says (Mmap 1 4096 prot Auto) (MapAt 0x7fffffffe000) [] ∷ row)

@@ -214,7 +214,10 @@ note-steady l (Aged f) sorted h = fewer-steady l _ (λ g gone. let e = unseen-fr
 
 -- ---- several notes
 
-notes-lists : (m : Setting) (l : Ledger) (notes : List Note) (free free' : List ℕ) → T (is_sorted key_cmp l.entries) → AreHeld l notes → ChoosesFrames m l (note_events notes) free free' → Lists m l free → Lists m (after_notes l notes) free'
+notes-lists : (m : Setting) (l : Ledger) (notes : List Note) (free free' : List ℕ)
+    → T (is_sorted key_cmp l.entries) → AreHeld l notes
+    → ChoosesFrames m l (note_events notes) free free' → Lists m l free
+    → Lists m (after_notes l notes) free'
 notes-lists m l [] free free' sorted held c h = subst (Lists m l) (sym c) h
 notes-lists m l (note ∷ notes) free free' sorted held c h =
     notes-lists m (after_note note l) notes c.0 free' (sorted-note l note sorted) held.1 c.2
@@ -388,48 +391,67 @@ used-steady m l write k s = by write (entry l k) refl
     by false (Some (InFrame f was)) is = stale f was is None
     by true (Some (InFrame f was)) is = stale f was is (slot_of l f)
 
-page-lists : (m : Setting) (w : World) (l : Ledger) (write : Bool) (k : Key) (notes : List Note) (end : Option Stop) (free free' : List ℕ) → IsSound m l → Touches m w l write k notes end → ChoosesFrames m l (page_events write k notes end) free free'
+page-lists : (m : Setting) (w : World) (l : Ledger) (write : Bool) (k : Key) (notes : List Note)
+    (end : Option Stop) (free free' : List ℕ) → IsSound m l → Touches m w l write k notes end
+    → ChoosesFrames m l (page_events write k notes end) free free'
     → Lists m l free → Lists m (after_all l (page_events write k notes end)) free'
 page-lists m w l write k notes (Some stop) free free' s q c h = subst (λ x. Lists m x free') (sym (note_events-all l notes)) (notes-lists m l notes free free' s.in_order (held-touches m w l write k notes (Some stop) s q) c h)
 page-lists m w l write k notes None free free' s q c h =
     let p = frames-first m l (note_events notes) (Used write k ∷ []) free free' c in
     let now = after_notes l notes in
     let first = notes-lists m l notes free p.0 s.in_order (held-touches m w l write k notes None s q) p.1 h in
-    let last = subst (λ x. ChoosesFrames m x (Used write k ∷ []) p.0 free') (note_events-all l notes) p.2 in
+    let last = subst (λ x. ChoosesFrames m x (Used write k ∷ []) p.0 free')
+    (note_events-all l notes) p.2 in
     subst (λ x. Lists m x free') (sym (after_all-append l (note_events notes) (Used write k ∷ []) ∙ ap (after_use write k) (note_events-all l notes)))
     (subst (Lists m (after_use write k now)) (sym (last.2 ∙ last.1.2)) (lists-event m now (after_use write k now) None p.0 last.1.0 last.1.1 (used-steady m now write k (touches-kept m w l write k notes None s q)) first))
 
-accesses-lists : (m : Setting) (w : World) (l : Ledger) (p : ℕ) (ps : List (Bool × ℕ)) (es : List Event) (end : End) (free free' : List ℕ) → IsSound m l → Accesses m w l p ps es end → ChoosesFrames m l es free free' → Lists m l free → Lists m (after_all l es) free'
-accesses-lists m w l p [] es end free free' s q c h = subst (λ es. Lists m (after_all l es) free') (sym q.0) (subst (Lists m l) (sym (subst (λ es. ChoosesFrames m l es free free') q.0 c)) h)
+accesses-lists : (m : Setting) (w : World) (l : Ledger) (p : ℕ) (ps : List (Bool × ℕ))
+    (es : List Event) (end : End) (free free' : List ℕ) → IsSound m l → Accesses m w l p ps es end
+    → ChoosesFrames m l es free free' → Lists m l free → Lists m (after_all l es) free'
+accesses-lists m w l p [] es end free free' s q c h = subst (λ es. Lists m (after_all l es) free')
+    (sym q.0) (subst (Lists m l) (sym (subst (λ es. ChoosesFrames m l es free free') q.0 c)) h)
 accesses-lists m w l p (page ∷ ps) es end free free' s (inl q) c h =
     let here = page_events page.0 (p, page.1) q.0 None in
-    let both = frames-first m l here q.1 free free' (subst (λ es. ChoosesFrames m l es free free') q.3 c) in
+    let both = frames-first m l here q.1 free free'
+    (subst (λ es. ChoosesFrames m l es free free') q.3 c) in
     let s1 = page_events-kept m l page.0 (p, page.1) q.0 None (touches-kept m w l page.0 (p, page.1) q.0 None s q.2) in
     let first = page-lists m w l page.0 (p, page.1) q.0 None free both.0 s q.2 both.1 h in
     subst (λ es. Lists m (after_all l es) free') (sym q.3) (subst (λ x. Lists m x free') (sym (after_all-append l here q.1)) (accesses-lists m w (after_all l here) p ps q.1 end both.0 free' s1 q.4 both.2 first))
 accesses-lists m w l p (page ∷ ps) es end free free' s (inr q) c h =
-    subst (λ es. Lists m (after_all l es) free') (sym q.3) (page-lists m w l page.0 (p, page.1) q.0 (Some q.1) free free' s q.2 (subst (λ es. ChoosesFrames m l es free free') q.3 c) h)
+    subst (λ es. Lists m (after_all l es) free') (sym q.3)
+    (page-lists m w l page.0 (p, page.1) q.0 (Some q.1) free free' s q.2
+    (subst (λ es. ChoosesFrames m l es free free') q.3 c) h)
 
 -- ---- entries taken away
 
 zap-steady : (m : Setting) (l : Ledger) (k : Key) → T (is_sorted key_cmp l.entries) → Steady l (after_zap k l) None
 zap-steady m l k sorted = fewer-steady l _ (λ g gone. let a = map_count-after_zap k l g sorted in let b = ap (how_many (λ (c : Cached). g == c.frame)) (same_swap-after_zap k l).cache in omega (arith, gone, a, b))
 
-zap-lists : (m : Setting) (l : Ledger) (k : Key) (free free' : List ℕ) → IsSound m l → ChoosesFrames m l (zap_of l k) free free' → Lists m l free → Lists m (after_all l (zap_of l k)) free'
+zap-lists : (m : Setting) (l : Ledger) (k : Key) (free free' : List ℕ) → IsSound m l
+    → ChoosesFrames m l (zap_of l k) free free' → Lists m l free
+    → Lists m (after_all l (zap_of l k)) free'
 zap-lists m l k free free' s c h =
     let now = after_zap k l in
     let first = subst (Lists m now) (sym c.1.2) (lists-event m l now None free c.1.0 c.1.1 (zap-steady m l k s.in_order) h) in
     drop (slot_behind_key l (entry l k)) c.2 first
   where
-    dropped : (t : Slot) (b : Bool) → ChoosesFrames m (after_zap k l) (note_events (when b (Dropped t))) c.0 free' → Lists m (after_zap k l) c.0 → Lists m (after_all (after_zap k l) (note_events (when b (Dropped t)))) free'
+    dropped : (t : Slot) (b : Bool)
+        → ChoosesFrames m (after_zap k l) (note_events (when b (Dropped t))) c.0 free'
+        → Lists m (after_zap k l) c.0
+        → Lists m (after_all (after_zap k l) (note_events (when b (Dropped t)))) free'
     dropped t true d f = notes-lists m (after_zap k l) (Dropped t ∷ []) c.0 free' (in_order-after_zap k l s.in_order) (tt, tt) d f
     dropped t false d f = subst (Lists m (after_zap k l)) (sym d) f
 
-    drop : (o : Option Slot) → ChoosesFrames m (after_zap k l) (orphan_drop (after_zap k l) o) c.0 free' → Lists m (after_zap k l) c.0 → Lists m (after_all (after_zap k l) (orphan_drop (after_zap k l) o)) free'
+    drop : (o : Option Slot)
+        → ChoosesFrames m (after_zap k l) (orphan_drop (after_zap k l) o) c.0 free'
+        → Lists m (after_zap k l) c.0
+        → Lists m (after_all (after_zap k l) (orphan_drop (after_zap k l) o)) free'
     drop None d f = subst (Lists m (after_zap k l)) (sym d) f
     drop (Some t) d f = dropped t (is_orphan (after_zap k l) t) d f
 
-zaps-lists : (m : Setting) (l : Ledger) (ks : List Key) (free free' : List ℕ) → IsSound m l → ChoosesFrames m l (zaps_of l ks) free free' → Lists m l free → Lists m (after_all l (zaps_of l ks)) free'
+zaps-lists : (m : Setting) (l : Ledger) (ks : List Key) (free free' : List ℕ) → IsSound m l
+    → ChoosesFrames m l (zaps_of l ks) free free' → Lists m l free
+    → Lists m (after_all l (zaps_of l ks)) free'
 zaps-lists m l [] free free' s c h = subst (Lists m l) (sym c) h
 zaps-lists m l (k ∷ ks) free free' s c h =
     let both = frames-first m l (zap_of l k) (zaps_of (after_all l (zap_of l k)) ks) free free' c in
@@ -438,14 +460,18 @@ zaps-lists m l (k ∷ ks) free free' s c h =
 
 -- ---- a step, and a run
 
-legal-lists : (m : Setting) (w : World) (l : Ledger) (command : Command) (reply : Reply) (es : List Event) (free free' : List ℕ) → IsSound m l → IsLegal m w l command reply es → ChoosesFrames m l es free free' → Lists m l free → Lists m (after_all l es) free'
+legal-lists : (m : Setting) (w : World) (l : Ledger) (command : Command) (reply : Reply)
+    (es : List Event) (free free' : List ℕ) → IsSound m l → IsLegal m w l command reply es
+    → ChoosesFrames m l es free free' → Lists m l free → Lists m (after_all l es) free'
 legal-lists m w l command reply es free free' s legal c h = by (refusal (tests m w l command)) legal.answer
   where
     none : es ≡ [] → Lists m (after_all l es) free'
-    none e = subst (λ es. Lists m (after_all l es) free') (sym e) (subst (Lists m l) (sym (subst (λ es. ChoosesFrames m l es free free') e c)) h)
+    none e = subst (λ es. Lists m (after_all l es) free') (sym e)
+        (subst (Lists m l) (sym (subst (λ es. ChoosesFrames m l es free free') e c)) h)
 
     these : (ks : List Key) → es ≡ zaps_of l ks → Lists m (after_all l es) free'
-    these ks e = subst (λ es. Lists m (after_all l es) free') (sym e) (zaps-lists m l ks free free' s (subst (λ es. ChoosesFrames m l es free free') e c) h)
+    these ks e = subst (λ es. Lists m (after_all l es) free') (sym e)
+        (zaps-lists m l ks free free' s (subst (λ es. ChoosesFrames m l es free free') e c) h)
 
     follows : (command : Command) → Follows m w l command es reply.answer reply.rows → Lists m (after_all l es) free'
     follows (Spawn p) q = none q.1
@@ -465,13 +491,17 @@ legal-lists m w l command reply es free free' s legal c h = by (refusal (tests m
     by None q = follows command q
     by (Some error) q = none q.1
 
-run-lists : (m : Setting) (old : State) (es : List Exchange) (new : State) → AllSound m old.world old.ledger → Lists m old.ledger old.free.frames → IsRun m old es new → Lists m new.ledger new.free.frames
+run-lists : (m : Setting) (old : State) (es : List Exchange) (new : State)
+    → AllSound m old.world old.ledger → Lists m old.ledger old.free.frames → IsRun m old es new
+    → Lists m new.ledger new.free.frames
 run-lists m old [] new s h q = subst (λ (x : State). Lists m x.ledger x.free.frames) (sym q) h
 run-lists m old (e ∷ es) new s h q =
     let step = q.1 in
-    let chosen = frames-chosen m (closing_area e.command) old.ledger step.events old.free q.0.free step.free in
+    let chosen = frames-chosen m (closing_area e.command) old.ledger step.events old.free q.0.free
+    step.free in
     let next = subst (λ x. Lists m x q.0.free.frames) (sym step.ledger)
-    (legal-lists m old.world old.ledger e.command e.reply step.events old.free.frames q.0.free.frames s.ledger step.legal chosen h) in
+    (legal-lists m old.world old.ledger e.command e.reply step.events old.free.frames
+    q.0.free.frames s.ledger step.legal chosen h) in
     run-lists m q.0 es new (step-sound m old e.command e.reply q.0 s step) next q.2
 
 first-lists : (m : Setting) → Lists m first_ledger (numbers 0 m.frames)
@@ -489,16 +519,22 @@ from_lists m l free h f = h f ∙ ap (λ b. cond (b && nat_lt f m.frames) 1 0) (
 pub first-lists_free : (m : Setting) → ListsFree m first_ledger (numbers 0 m.frames)
 first-lists_free m = from_lists m first_ledger (numbers 0 m.frames) (first-lists m)
 
-pub step-lists_free : (m : Setting) (old : State) (command : Command) (reply : Reply) (new : State) → AllSound m old.world old.ledger → ListsFree m old.ledger old.free.frames → IsStep m old command reply new
+pub step-lists_free : (m : Setting) (old : State) (command : Command) (reply : Reply) (new : State)
+    → AllSound m old.world old.ledger → ListsFree m old.ledger old.free.frames
+    → IsStep m old command reply new
     → ListsFree m new.ledger new.free.frames
 step-lists_free m old command reply new s h step =
-    let chosen = frames-chosen m (closing_area command) old.ledger step.events old.free new.free step.free in
+    let chosen = frames-chosen m (closing_area command) old.ledger step.events old.free new.free
+    step.free in
     subst (λ l. ListsFree m l new.free.frames) (sym step.ledger)
     (from_lists m (after_all old.ledger step.events) new.free.frames
-    (legal-lists m old.world old.ledger command reply step.events old.free.frames new.free.frames s.ledger step.legal chosen (to_lists m old.ledger old.free.frames h)))
+    (legal-lists m old.world old.ledger command reply step.events old.free.frames new.free.frames
+    s.ledger step.legal chosen (to_lists m old.ledger old.free.frames h)))
 
-pub run-lists_free : (m : Setting) (es : List Exchange) (new : State) → IsRun m (at_first m) es new → ListsFree m new.ledger new.free.frames
-run-lists_free m es new q = from_lists m new.ledger new.free.frames (run-lists m (at_first m) es new (first-sound m) (first-lists m) q)
+pub run-lists_free : (m : Setting) (es : List Exchange) (new : State) → IsRun m (at_first m) es new
+    → ListsFree m new.ledger new.free.frames
+run-lists_free m es new q = from_lists m new.ledger new.free.frames
+    (run-lists m (at_first m) es new (first-sound m) (first-lists m) q)
 
 -- so a frame of the machine is in the list where it is free
 pub lists-is_in : (m : Setting) (l : Ledger) (free : List ℕ) (f : ℕ) → ListsFree m l free → f < m.frames → is_in f free ≡ is_free l f

@@ -20,3 +20,4 @@ pub mod ViewExamples
 pub mod AreaExamples
 pub mod Faults
 pub mod SlotExamples
+pub mod SwapViewExamples

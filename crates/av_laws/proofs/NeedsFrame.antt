@@ -259,7 +259,9 @@ all-held l p (suc n) from all q low high = by (from == q) refl (all-held l p n (
     by true is rest = let e : from ≡ q = grind (arith, nat_tests, is) in subst (λ x. (s : Slot) → entry l (p, x) ≡ Some (InSlot s) → 0 < slots l s) e here
     by false is rest = rest (grind (arith, nat_tests, is, low)) (omega (arith, high))
 
-pub read-served : (m : Setting) (w : World) (l : Ledger) (p a n : ℕ) (reply : Reply) (events : List Event) (k : ℕ) (out : OutOf) (shown : List ℕ) → NoneWantsFrame false l p a n → IsLegal m w l (Read p a n) reply events → reply.answer ≡ Oom k out shown → ⊥
+pub read-served : (m : Setting) (w : World) (l : Ledger) (p a n : ℕ) (reply : Reply)
+    (events : List Event) (k : ℕ) (out : OutOf) (shown : List ℕ) → NoneWantsFrame false l p a n
+    → IsLegal m w l (Read p a n) reply events → reply.answer ≡ Oom k out shown → ⊥
 read-served m w l p a n reply events k out shown none legal is = by (refusal (tests m w l (Read p a n))) legal.answer
   where
     answered : (end : End) (bytes : List ℕ) → EndsServed end → read_answer a end bytes ≡ Oom k out shown → ⊥
@@ -282,10 +284,12 @@ own-need : (l : Ledger) (k : Key) → IsOwn l k → need true l (entry l k) ≡ 
 own-need l k h = ap (need true l) h.2 ∙ ap (λ b. cond b (CopyOnWrite h.0) Ready) h.3
 
 -- without slots, a page whose write wants no frame has one for itself
-own-of : (l : Ledger) (k : Key) → HasNoSlots l → wants_frame (need true l (entry l k)) ≡ false → IsOwn l k
+own-of : (l : Ledger) (k : Key) → HasNoSlots l → wants_frame (need true l (entry l k)) ≡ false
+    → IsOwn l k
 own-of l k none h = by (entry l k) refl h
   where
-    frame : (f : ℕ) (seen b : Bool) → entry l k ≡ Some (InFrame f seen) → is_shared l f ≡ b → wants_frame (cond b (CopyOnWrite f) Ready) ≡ false → IsOwn l k
+    frame : (f : ℕ) (seen b : Bool) → entry l k ≡ Some (InFrame f seen) → is_shared l f ≡ b
+        → wants_frame (cond b (CopyOnWrite f) Ready) ≡ false → IsOwn l k
     frame f seen true is shared h = cc
     frame f seen false is shared h = (f, seen, is, shared)
 
@@ -299,36 +303,49 @@ own-of l k none h = by (entry l k) refl h
         absurd (omega (arith, named, z))
 
 -- the page of a write stays as it is
-own-notes : (m : Setting) (sp : Sparing) (l : Ledger) (k : Key) (notes : List Note) → l.cache ≡ [] → IsOwn l k → Serves m sp l true k notes → notes ≡ []
+own-notes : (m : Setting) (sp : Sparing) (l : Ledger) (k : Key) (notes : List Note) → l.cache ≡ []
+    → IsOwn l k → Serves m sp l true k notes → notes ≡ []
 own-notes m sp l k notes empty own s =
-    s.whole ∙ (λ i. (coming i ++ making i) ++ drop_at m true (was_slot (need true l (entry l k))) (after_notes l (coming i ++ making i)) k)
+    s.whole ∙ (λ i. (coming i ++ making i) ++ drop_at m true (was_slot (need true l (entry l k)))
+    (after_notes l (coming i ++ making i)) k)
     ∙ ap (λ o. drop_of_entry m true (was_slot (need true l (entry l k))) l o) own.2
-    ∙ ap (λ cs. drop_of_slot m true (was_slot (need true l (entry l k))) l (option_map (λ (c : Cached). c.slot) (cached_by (λ c. own.0 == c.frame) cs))) empty
+    ∙ ap (λ cs. drop_of_slot m true (was_slot (need true l (entry l k))) l
+    (option_map (λ (c : Cached). c.slot) (cached_by (λ c. own.0 == c.frame) cs))) empty
   where
     coming : s.coming ≡ []
     coming = subst (λ n. ComesIn m sp l k n s.coming) (own-need l k own) s.comes_in
 
     making : s.making ≡ []
-    making = subst (λ n. IsMade m sp l k n s.making) (own-need l k own) (subst (λ c. IsMade m sp (after_notes l c) k (need true (after_notes l c) (entry (after_notes l c) k)) s.making) coming s.made)
+    making = subst (λ n. IsMade m sp l k n s.making) (own-need l k own)
+        (subst (λ c. IsMade m sp (after_notes l c) k
+        (need true (after_notes l c) (entry (after_notes l c) k)) s.making) coming s.made)
 
 -- what stays for the pages behind
 record IsQuiet (l : Ledger) : Type 0 where
   in_order : T (is_sorted key_cmp l.entries)
   empty : l.cache ≡ []
 
-own-after : (l : Ledger) (k : Key) → IsQuiet l → (own : IsOwn l k) → after_use true k l ≡ set_entry k (InFrame own.0 true) l
+own-after : (l : Ledger) (k : Key) → IsQuiet l → (own : IsOwn l k)
+    → after_use true k l ≡ set_entry k (InFrame own.0 true) l
 own-after l k quiet own = ap (after_use_of true k l) own.2
-    ∙ ap (λ cs. if_some (option_map (λ (c : Cached). c.slot) (cached_by (λ c. own.0 == c.frame) cs)) (with_stale true) (set_entry k (InFrame own.0 true) l)) quiet.empty
+    ∙ ap (λ cs. if_some (option_map (λ (c : Cached). c.slot) (cached_by (λ c. own.0 == c.frame) cs))
+    (with_stale true) (set_entry k (InFrame own.0 true) l)) quiet.empty
 
 quiet-set : (l : Ledger) (k : Key) (e : Entry) → IsQuiet l → IsQuiet (set_entry k e l)
-quiet-set l k e quiet = record { in_order = is_sorted-set k e l quiet.in_order; empty = quiet.empty }
+quiet-set l k e quiet = record {
+  in_order = is_sorted-set k e l quiet.in_order;
+  empty = quiet.empty;
+}
 
-own-set : (l : Ledger) (k q : Key) → IsQuiet l → (own : IsOwn l k) → same_key q k ≡ false → IsOwn l q → IsOwn (set_entry k (InFrame own.0 true) l) q
+own-set : (l : Ledger) (k q : Key) → IsQuiet l → (own : IsOwn l k) → same_key q k ≡ false
+    → IsOwn l q → IsOwn (set_entry k (InFrame own.0 true) l) q
 own-set l k q quiet own other its = (
   its.0,
   its.1,
-  entry-set k (InFrame own.0 true) l q ∙ ap (λ b. cond b (Some (InFrame own.0 true)) (entry l q)) other ∙ its.2,
-  ap (λ n. nat_lt 1 n || is_named (set_entry k (InFrame own.0 true) l) (slot_of l its.0)) counts ∙ unshared (nat_lt 1 (map_count l its.0)) (is_named l (slot_of l its.0)) its.3,
+  entry-set k (InFrame own.0 true) l q
+      ∙ ap (λ b. cond b (Some (InFrame own.0 true)) (entry l q)) other ∙ its.2,
+  ap (λ n. nat_lt 1 n || is_named (set_entry k (InFrame own.0 true) l) (slot_of l its.0)) counts
+      ∙ unshared (nat_lt 1 (map_count l its.0)) (is_named l (slot_of l its.0)) its.3,
 )
   where
     counts : map_count (set_entry k (InFrame own.0 true) l) its.0 ≡ map_count l its.0
@@ -338,14 +355,17 @@ own-set l k q quiet own other its = (
         omega (arith, a, b)
 
     none : is_named (set_entry k (InFrame own.0 true) l) (slot_of l its.0) ≡ false
-    none = ap (λ cs. is_named (set_entry k (InFrame own.0 true) l) (option_map (λ (c : Cached). c.slot) (cached_by (λ c. its.0 == c.frame) cs))) quiet.empty
+    none = ap (λ cs. is_named (set_entry k (InFrame own.0 true) l)
+        (option_map (λ (c : Cached). c.slot) (cached_by (λ c. its.0 == c.frame) cs))) quiet.empty
 
-    unshared : (a b : Bool) → (a || b) ≡ false → (a || is_named (set_entry k (InFrame own.0 true) l) (slot_of l its.0)) ≡ false
+    unshared : (a b : Bool) → (a || b) ≡ false
+        → (a || is_named (set_entry k (InFrame own.0 true) l) (slot_of l its.0)) ≡ false
     unshared true b h = cc
     unshared false b h = none
 
 -- a page that is in place is never without a frame
-own-never-out : (m : Setting) (sp : Sparing) (l : Ledger) (k : Key) (notes : List Note) (out : OutOf) → IsOwn l k → RunsOut m sp l true k notes out → ⊥
+own-never-out : (m : Setting) (sp : Sparing) (l : Ledger) (k : Key) (notes : List Note)
+    (out : OutOf) → IsOwn l k → RunsOut m sp l true k notes out → ⊥
 own-never-out m sp l k notes out own r = nothing (by r.before)
   where
     by : (r.coming ≡ []) ⊎ ComesIn m sp l k (need true l (entry l k)) r.coming → r.coming ≡ []
@@ -357,14 +377,20 @@ own-never-out m sp l k notes out own r = nothing (by r.before)
     unwanted false e t = never t
 
     nothing : r.coming ≡ [] → ⊥
-    nothing e = unwanted _ (ap (λ ns. wants_frame (need true (after_notes l ns) (entry (after_notes l ns) k))) e ∙ ap wants_frame (own-need l k own)) r.finds.wants
+    nothing e = unwanted _
+        (ap (λ ns. wants_frame (need true (after_notes l ns) (entry (after_notes l ns) k))) e
+        ∙ ap wants_frame (own-need l k own)) r.finds.wants
 
-writes-served : (m : Setting) (w : World) (p n from : ℕ) (l : Ledger) (events : List Event) (end : End) → IsQuiet l → ((q : ℕ) → from ≤ q → q < from + n → IsOwn l (p, q))
+writes-served : (m : Setting) (w : World) (p n from : ℕ) (l : Ledger) (events : List Event)
+    (end : End) → IsQuiet l → ((q : ℕ) → from ≤ q → q < from + n → IsOwn l (p, q))
     → Accesses m w l p (map (λ page. (true, page)) (numbers from n)) events end → EndsServed end
 writes-served m w p zero from l events end quiet own h = subst EndsServed (sym h.1) tt
 writes-served m w p (suc n) from l events end quiet own (inl h) =
-    writes-served m w p n (from + 1) now h.1 end (subst IsQuiet (sym after) (quiet-set l (p, from) (InFrame first.0 true) quiet))
-    (λ q low high. subst (λ x. IsOwn x (p, q)) (sym after) (own-set l (p, from) (p, q) quiet first (other q low) (own q (omega (arith, low)) (omega (arith, high))))) h.4
+    writes-served m w p n (from + 1) now h.1 end
+    (subst IsQuiet (sym after) (quiet-set l (p, from) (InFrame first.0 true) quiet))
+    (λ q low high. subst (λ x. IsOwn x (p, q)) (sym after)
+    (own-set l (p, from) (p, q) quiet first (other q low)
+    (own q (omega (arith, low)) (omega (arith, high))))) h.4
   where
     first : IsOwn l (p, from)
     first = own from (omega arith) (omega arith)
@@ -373,29 +399,41 @@ writes-served m w p (suc n) from l events end quiet own (inl h) =
     now = after_all l (page_events true (p, from) h.0 None)
 
     after : now ≡ set_entry (p, from) (InFrame first.0 true) l
-    after = ap (λ ns. after_all l (page_events true (p, from) ns None)) (own-notes m (sparing w) l (p, from) h.0 quiet.empty first h.2.1) ∙ own-after l (p, from) quiet first
+    after = ap (λ ns. after_all l (page_events true (p, from) ns None))
+        (own-notes m (sparing w) l (p, from) h.0 quiet.empty first h.2.1)
+        ∙ own-after l (p, from) quiet first
 
     other : (q : ℕ) → from + 1 ≤ q → same_key (p, q) (p, from) ≡ false
     other q low = key_is p q p from ∙ grind (arith, nat_tests, low)
-writes-served m w p (suc n) from l events end quiet own (inr h) = subst EndsServed (sym h.4) (by h.1 h.2)
+writes-served m w p (suc n) from l events end quiet own (inr h) = subst EndsServed (sym h.4)
+    (by h.1 h.2)
   where
     by : (stop : Stop) → Touches m w l true (p, from) h.0 (Some stop) → IsServed stop
     by Denied t = tt
-    by (Starved out) t = own-never-out m (sparing w) l (p, from) h.0 out (own from (omega arith) (omega arith)) t.1
+    by (Starved out) t = own-never-out m (sparing w) l (p, from) h.0 out
+        (own from (omega arith) (omega arith)) t.1
     by Lost t = tt
 
-all-own : (l : Ledger) (p n from : ℕ) → HasNoSlots l → AllByRecursion (λ (x : Bool × ℕ). wants_frame (need true l (entry l (p, x.1))) ≡ false) (map (λ page. (true, page)) (numbers from n))
+all-own : (l : Ledger) (p n from : ℕ) → HasNoSlots l
+    → AllByRecursion (λ (x : Bool × ℕ). wants_frame (need true l (entry l (p, x.1))) ≡ false)
+    (map (λ page. (true, page)) (numbers from n))
     → (q : ℕ) → from ≤ q → q < from + n → IsOwn l (p, q)
 all-own l p zero from none all q low high = absurd (omega (arith, low, high))
-all-own l p (suc n) from none all q low high = by (from == q) refl (all-own l p n (from + 1) none all.1 q)
+all-own l p (suc n) from none all q low high = by (from == q) refl
+    (all-own l p n (from + 1) none all.1 q)
   where
-    by : (b : Bool) → (from == q) ≡ b → (from + 1 ≤ q → q < (from + 1) + n → IsOwn l (p, q)) → IsOwn l (p, q)
-    by true is rest = let e : from ≡ q = grind (arith, nat_tests, is) in subst (λ x. IsOwn l (p, x)) e (own-of l (p, from) none all.0)
+    by : (b : Bool) → (from == q) ≡ b → (from + 1 ≤ q → q < (from + 1) + n → IsOwn l (p, q))
+        → IsOwn l (p, q)
+    by true is rest = let e : from ≡ q = grind (arith, nat_tests, is) in subst (λ x. IsOwn l (p, x))
+        e (own-of l (p, from) none all.0)
     by false is rest = rest (grind (arith, nat_tests, is, low)) (omega (arith, high))
 
-pub write-served : (m : Setting) (w : World) (l : Ledger) (p a : ℕ) (bytes : List ℕ) (reply : Reply) (events : List Event) (k : ℕ) (out : OutOf) (shown : List ℕ) → HasNoDevice m → AllSound m w l
-    → NoneWantsFrame true l p a (length bytes) → IsLegal m w l (Write p a bytes) reply events → reply.answer ≡ Oom k out shown → ⊥
-write-served m w l p a bytes reply events k out shown device sound none legal is = by (refusal (tests m w l (Write p a bytes))) legal.answer
+pub write-served : (m : Setting) (w : World) (l : Ledger) (p a : ℕ) (bytes : List ℕ) (reply : Reply)
+    (events : List Event) (k : ℕ) (out : OutOf) (shown : List ℕ) → HasNoDevice m → AllSound m w l
+    → NoneWantsFrame true l p a (length bytes) → IsLegal m w l (Write p a bytes) reply events
+    → reply.answer ≡ Oom k out shown → ⊥
+write-served m w l p a bytes reply events k out shown device sound none legal is = by
+    (refusal (tests m w l (Write p a bytes))) legal.answer
   where
     slots : HasNoSlots l
     slots = no-slots m l device (in-areas m w l sound)
@@ -409,6 +447,11 @@ write-served m w l p a bytes reply events k out shown device sound none legal is
     answered (Stopped page (Starved o)) s e = s
     answered (Stopped page Lost) s e = cc
 
-    by : (o : Option Errno) → MatchOption o (Follows m w l (Write p a bytes) events reply.answer reply.rows) (λ error. Refuses error events reply.answer reply.rows) → ⊥
-    by None h = answered h.0 (writes-served m w p n (page_of a) l events h.0 (record { in_order = sound.ledger.in_order; empty = slots.cache }) (all-own l p n (page_of a) slots none) h.1) (sym h.2 ∙ is)
+    by : (o : Option Errno)
+        → MatchOption o (Follows m w l (Write p a bytes) events reply.answer reply.rows)
+        (λ error. Refuses error events reply.answer reply.rows) → ⊥
+    by None h = answered h.0
+        (writes-served m w p n (page_of a) l events h.0
+        (record { in_order = sound.ledger.in_order; empty = slots.cache })
+        (all-own l p n (page_of a) slots none) h.1) (sym h.2 ∙ is)
     by (Some error) h = let e = sym h.0 ∙ is in cc

@@ -84,10 +84,81 @@ evicts-runs = by_steps bad_first full evicts ((
   (
     refl,
     (
-      Noted (Put 0 (slot 3)) ∷ Noted (Unmapped 0) ∷ Noted (Started (slot 3)) ∷ Noted (Written (slot 3)) ∷ Noted (Dropped (slot 3)) ∷ Noted (Loaded (slot 2) 0) ∷ Noted (Mapped 1 0x7fffffffe000 0) ∷ Used false (1, 0x7fffffffe) ∷ [],
+      Noted (Put 0 (slot 3)) ∷ Noted (Unmapped 0) ∷ Noted (Started (slot 3)) ∷ Noted
+          (Written (slot 3)) ∷ Noted (Dropped (slot 3)) ∷ Noted (Loaded (slot 2) 0) ∷ Noted
+          (Mapped 1 0x7fffffffe000 0) ∷ Used false (1, 0x7fffffffe) ∷ [],
       [],
-      record { answer = (Whole, 7 ∷ [], inl (Put 0 (slot 3) ∷ Unmapped 0 ∷ Started (slot 3) ∷ Written (slot 3) ∷ Dropped (slot 3) ∷ Loaded (slot 2) 0 ∷ Mapped 1 0x7fffffffe000 0 ∷ [], [], (refl, record { coming = Put 0 (slot 3) ∷ Unmapped 0 ∷ Started (slot 3) ∷ Written (slot 3) ∷ Dropped (slot 3) ∷ Loaded (slot 2) 0 ∷ Mapped 1 0x7fffffffe000 0 ∷ []; making = []; whole = refl; comes_in = (Put 0 (slot 3) ∷ Unmapped 0 ∷ Started (slot 3) ∷ Written (slot 3) ∷ Dropped (slot 3) ∷ Loaded (slot 2) 0 ∷ [], 0, record { sought = Put 0 (slot 3) ∷ Unmapped 0 ∷ Started (slot 3) ∷ Written (slot 3) ∷ Dropped (slot 3) ∷ []; frame = 0; seeks = ([], Put 0 (slot 3) ∷ Unmapped 0 ∷ Started (slot 3) ∷ Written (slot 3) ∷ Dropped (slot 3) ∷ [], refl, refl, (slot 3, false, refl, refl)); in_range = omega arith; free = refl; whole = refl }, refl, refl); made = refl }), refl, (refl, refl)), (refl, (refl, tt), (omega arith, tt)), refl, refl); notes = refl },
-      ([], ([], refl, refl), ([], ([], refl, refl), ([], ([], refl, refl), ([], ([], refl, refl), (0 ∷ [], ([], refl, refl), ([], ([], refl, refl), ([], ([], refl, refl), ([], ([], refl, refl), refl)))))))),
+      record {
+        answer = (
+          Whole,
+          7 ∷ [],
+          inl (
+            Put 0 (slot 3) ∷ Unmapped 0 ∷ Started (slot 3) ∷ Written (slot 3) ∷ Dropped (slot 3)
+                ∷ Loaded (slot 2) 0 ∷ Mapped 1 0x7fffffffe000 0 ∷ [],
+            [],
+            (
+              refl,
+              record {
+                coming = Put 0 (slot 3) ∷ Unmapped 0 ∷ Started (slot 3) ∷ Written (slot 3)
+                    ∷ Dropped (slot 3) ∷ Loaded (slot 2) 0 ∷ Mapped 1 0x7fffffffe000 0 ∷ [];
+                making = [];
+                whole = refl;
+                comes_in = (
+                  Put 0 (slot 3) ∷ Unmapped 0 ∷ Started (slot 3) ∷ Written
+                      (slot 3) ∷ Dropped (slot 3) ∷ Loaded (slot 2) 0 ∷ [],
+                  0,
+                  record {
+                    sought = Put 0 (slot 3) ∷ Unmapped 0 ∷ Started (slot 3) ∷ Written (slot 3)
+                        ∷ Dropped (slot 3) ∷ [];
+                    frame = 0;
+                    seeks = (
+                      [],
+                      Put 0 (slot 3) ∷ Unmapped 0 ∷ Started (slot 3) ∷ Written (slot 3) ∷ Dropped
+                          (slot 3) ∷ [],
+                      refl,
+                      refl,
+                      (slot 3, false, refl, refl),
+                    );
+                    in_range = omega arith;
+                    free = refl;
+                    whole = refl;
+                  },
+                  refl,
+                  refl,
+                );
+                made = refl;
+              },
+            ),
+            refl,
+            (refl, refl),
+          ),
+          (refl, (refl, tt), (omega arith, tt)),
+          refl,
+          refl,
+        );
+        notes = refl;
+      },
+      (
+        [],
+        ([], refl, refl),
+        (
+          [],
+          ([], refl, refl),
+          (
+            [],
+            ([], refl, refl),
+            (
+              [],
+              ([], refl, refl),
+              (
+                0 ∷ [],
+                ([], refl, refl),
+                ([], ([], refl, refl), ([], ([], refl, refl), ([], ([], refl, refl), refl))),
+              ),
+            ),
+          ),
+        ),
+      ),
       (refl, tt),
     ),
   ),

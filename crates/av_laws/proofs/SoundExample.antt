@@ -1,13 +1,14 @@
--- A sound state with swap in use: a page in writeback.
-use Rattle.std.proofs.Common.{IfSome, length, ◌≡◌, ℕ, ◌+◌, ◌<◌, ◌≤◌, min, Bool, true, false, cond, ◌&&◌, Option, Some, None, is_some, refl, sym, ap, subst, ◌∙◌, arith, ◌==◌}
+-- Sound states with swap in use: a page that is cached, and in writeback.
+use Rattle.std.proofs.Common.{IfSome, length, ◌≡◌, ℕ, ◌+◌, ◌<◌, ◌≤◌, min, Bool, true, false, cond, ◌&&◌, Option, Some, None, is_some, refl, sym, ap, subst, ◌∙◌, arith, ◌==◌, [], ◌∷◌, if◌then◌else◌}
 use Rattle.std.proofs.lemmas.Bool.Decides.{nat_tests}
 use Rattle.std.specs.FinMap.Entries.{find}
 use Rattle.std.specs.Ordering.{nat_cmp, eq_by_cmp}
 use Rattle.av_base.specs.declared.slot.Slot.{Slot}
 use Rattle.av_plain.specs.World.{pages}
-use Rattle.av_plain.specs.Ledger.{SwapArea, slots_in_use, Ledger, Key, Entry, InSlot, entry, same_slot}
-use Rattle.av_plain.specs.Sound.{is_there, AllSound}
-use Rattle.av_laws.specs.Examples.{with_swap, slot, in_writeback}
+use Rattle.av_plain.specs.Ledger.{Cached, SwapArea, slots_in_use, Ledger, Key, Entry, InSlot, entry, same_slot}
+use Rattle.av_base.specs.Words.{how_many}
+use Rattle.av_plain.specs.Sound.{is_there, AllSound, flights}
+use Rattle.av_laws.specs.Examples.{cached_out, with_swap, slot, in_writeback}
 use Rattle.av_plain.proofs.Ledger.{same_key, same_key-is}
 use Rattle.av_plain.proofs.Sound.Counts.{slot-is}
 
@@ -15,7 +16,7 @@ abbrev here : Key
 here = (1, 0x7fffffffe)
 
 abbrev ledger : Ledger
-ledger = in_writeback.ledger
+ledger = (cached_out false false).ledger
 
 -- the one key that has an entry
 only : (q : Key) (d : Entry) → entry ledger q ≡ Some d → q ≡ here
@@ -36,8 +37,12 @@ flag : (b : Bool) → cond b 1 0 + 0 ≤ 1
 flag true = omega arith
 flag false = omega arith
 
-pub in_writeback-sound : AllSound (with_swap 4 8 7) in_writeback.world in_writeback.ledger
-in_writeback-sound = record {
+abbrev few : Bool → Bool → ℕ → ℕ
+few flying stale k = length (slots_in_use (with_swap 4 8 7) (cached_out flying stale).ledger k)
+
+pub cached_out-sound : (flying stale : Bool)
+    → AllSound (with_swap 4 8 7) (cached_out flying stale).world (cached_out flying stale).ledger
+cached_out-sound flying stale = record {
   world = record { in_order = tt; few = omega arith };
   ledger = record {
     in_order = tt;
@@ -45,8 +50,9 @@ in_writeback-sound = record {
     frames_once = λ f. flag (f == 0);
     in_range = λ f h. range f (f == 0) refl h;
     listed = λ f. listed (f == 0);
-    flying = λ s. omega arith;
-    used = λ s f h. flies (same_slot s (slot 1)) (f == 0) h;
+    flying = λ s. flies_once s flying;
+    used = λ s f h. flies (same_slot s (slot 1)) (f == 0)
+        (flights (cached_out flying stale).ledger s) h;
     one = λ p a b d e at at' related. ap (λ (k : Key). k.1) (only (p, a) d at ∙ sym (only (p, b) e at'));
   };
   at_pages = λ p page h. subst (λ (k : Key). is_some (pages in_writeback.world k.0 k.1) ≡ true) (sym (some-only (p, page) h)) refl;
@@ -57,14 +63,17 @@ in_writeback-sound = record {
     cmp-is : (q p : ℕ) → eq_by_cmp nat_cmp q p ≡ true → q ≡ p
     cmp-is q p h = grind (arith, nat_tests, h)
 
-    fits : (k : ℕ) → IfSome (find nat_cmp k in_writeback.ledger.on) (λ area. length (slots_in_use (with_swap 4 8 7) in_writeback.ledger k) ≤ area.slots)
+    fits : (k : ℕ) → IfSome (find nat_cmp k (cached_out flying stale).ledger.on)
+        (λ area. few flying stale k ≤ area.slots)
     fits k = by (eq_by_cmp nat_cmp k 0) refl
       where
-        at_first : length (slots_in_use (with_swap 4 8 7) in_writeback.ledger 0) ≤ 7
+        at_first : few flying stale 0 ≤ 7
         at_first = omega arith
 
-        by : (b : Bool) → eq_by_cmp nat_cmp k 0 ≡ b → IfSome (cond b (Some (record { slots = 7; bad = 0 })) None) (λ (area : SwapArea). length (slots_in_use (with_swap 4 8 7) in_writeback.ledger k) ≤ area.slots)
-        by true is = subst (λ x. length (slots_in_use (with_swap 4 8 7) in_writeback.ledger x) ≤ 7) (sym (cmp-is k 0 is)) at_first
+        by : (b : Bool) → eq_by_cmp nat_cmp k 0 ≡ b
+            → IfSome (cond b (Some (record { slots = 7; bad = 0 })) None)
+            (λ (area : SwapArea). few flying stale k ≤ area.slots)
+        by true is = subst (λ x. few flying stale x ≤ 7) (sym (cmp-is k 0 is)) at_first
         by false is = tt
 
     range : (f : ℕ) (b : Bool) → (f == 0) ≡ b → 0 < (0 + 0) + (cond b 1 0 + 0) → f < 4
@@ -75,10 +84,24 @@ in_writeback-sound = record {
     listed true = refl
     listed false = refl
 
-    flies : (a b : Bool) → 0 < cond (a && b) 1 0 + 0 → 0 < (cond a 1 0 + 0) + (cond a 1 0 + 0) + (0 + 0) + 0
-    flies true b h = omega arith
-    flies false b h = absurd (omega (arith, h))
+    flies_once : (s : Slot) (flying : Bool)
+        → how_many (same_slot s) (if flying then slot 1 ∷ [] else []) ≤ how_many
+        (λ (c : Cached). same_slot s c.slot) (cached_out flying stale).ledger.cache
+    flies_once s true = omega arith
+    flies_once s false = omega arith
 
-    there : (s : Slot) (b : Bool) → same_slot s (slot 1) ≡ b → 0 < (cond b 1 0 + 0) + (cond b 1 0 + 0) → is_there (with_swap 4 8 7) in_writeback.ledger s ≡ true
-    there s true is h = subst (λ t. is_there (with_swap 4 8 7) in_writeback.ledger t ≡ true) (sym (slot-is s (slot 1) is)) refl
+    flies : (a b : Bool) (n : ℕ) → 0 < cond (a && b) 1 0 + 0
+        → 0 < n + (cond a 1 0 + 0) + (0 + 0) + 0
+    flies true b n h = omega arith
+    flies false b n h = absurd (omega (arith, h))
+
+    there : (s : Slot) (b : Bool) → same_slot s (slot 1) ≡ b
+        → 0 < (cond b 1 0 + 0) + (cond b 1 0 + 0)
+        → is_there (with_swap 4 8 7) (cached_out flying stale).ledger s ≡ true
+    there s true is h = subst
+        (λ t. is_there (with_swap 4 8 7) (cached_out flying stale).ledger t ≡ true)
+        (sym (slot-is s (slot 1) is)) refl
     there s false is h = absurd (omega (arith, h))
+
+pub in_writeback-sound : AllSound (with_swap 4 8 7) in_writeback.world in_writeback.ledger
+in_writeback-sound = cached_out-sound true false

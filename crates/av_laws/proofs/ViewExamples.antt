@@ -51,18 +51,22 @@ other_count-not h = let e : ◌≡◌ {A = ℕ} 1 2 = h.parts.ledger.frames.maps
 
 pub other_order-not : Refused (record right { free = 2 ∷ 1 ∷ 3 ∷ [] })
 unfolding first
-other_order-not h = let e : ◌≡◌ {A = ℕ} 2 1 = ap (λ (f : Free). first f.frames) h.free in omega (arith, e)
+other_order-not h = let e : ◌≡◌ {A = ℕ} 2 1 = ap (λ (f : Free). first f.frames) h.free in omega
+    (arith, e)
 
 pub slots_of_none-not : Refused (record right { slots = λ k. fresh 8 [] })
-slots_of_none-not h = let e : ◌≡◌ {A = ℕ} 8 0 = ap (λ (f : Free). length (f.slots 0).pages) h.free in omega (arith, e)
+slots_of_none-not h = let e : ◌≡◌ {A = ℕ} 8 0 = ap (λ (f : Free). length (f.slots 0).pages)
+    h.free in omega (arith, e)
 
 pub area_of_another-not : Refused (view_with (λ p. topmost 1 ∷ []) false)
 unfolding pid_of
-area_of_another-not h = let e : ◌≡◌ {A = ℕ} 1 2 = ap pid_of (h.areas 2 0x7fffffffe) in omega (arith, e)
+area_of_another-not h = let e : ◌≡◌ {A = ℕ} 1 2 = ap pid_of (h.areas 2 0x7fffffffe) in omega
+    (arith, e)
 
 pub other_offset-not : Refused (view_with (λ p. record (topmost p) { pgoff = 0 } ∷ []) false)
 unfolding offset_of
-other_offset-not h = let e : ◌≡◌ {A = ℕ} 0 0x7fffffffe = ap offset_of (h.areas 1 0x7fffffffe) in omega (arith, e)
+other_offset-not h = let e : ◌≡◌ {A = ℕ} 0 0x7fffffffe = ap offset_of
+    (h.areas 1 0x7fffffffe) in omega (arith, e)
 
 pub made_active-not : Refused (record right { active = 0 ∷ [] })
 made_active-not h = let e : ◌≡◌ {A = ℕ} 1 0 = ap length h.parts.ledger.lists.active in omega (arith, e)
@@ -139,7 +143,8 @@ one_range = record { from = 0x7fffffffe; to = 0x7ffffffff; prot = read_write } �
 alive : (p : ℕ) → is_some (right.areas p) ≡ lives forked.world p
 alive p = by (p == 1) (p == 2) ∙ ap is_some (sym (found p))
   where
-    by : (a b : Bool) → is_some (if a || b then Some (topmost p ∷ []) else None) ≡ is_some (cond a (Some (with_byte 7)) (cond b (Some (with_byte 7)) None))
+    by : (a b : Bool) → is_some (if a || b then Some (topmost p ∷ []) else None) ≡ is_some
+        (cond a (Some (with_byte 7)) (cond b (Some (with_byte 7)) None))
     by true b = refl
     by false true = refl
     by false false = refl
@@ -151,14 +156,19 @@ apart p = by (p == 1 || p == 2)
     by true = omega arith
     by false = tt
 
-covers : (p page : ℕ) → prot_of (ranges_in (right.areas p)) page ≡ option_map (λ (q : Page). q.prot) (pages forked.world p page)
+covers : (p page : ℕ)
+    → prot_of (ranges_in (right.areas p)) page ≡ option_map (λ (q : Page). q.prot)
+    (pages forked.world p page)
 covers p page = by (p == 1) (p == 2) ∙ ap (λ o. option_map (λ (q : Page). q.prot) (option_and_then (λ (q : Process). q page) o)) (sym (found p))
   where
     one : (c : Bool) → (nat_le 0x7fffffffe page && nat_lt page 0x7ffffffff) ≡ c → prot_in one_range page ≡ option_map (λ (q : Page). q.prot) (if c then Some (page_with 7) else None)
     one true is = ap (λ b. if b then Some read_write else None) is
     one false is = ap (λ b. if b then Some read_write else None) is
 
-    by : (a b : Bool) → prot_of (ranges_in (if a || b then Some (topmost p ∷ []) else None)) page ≡ option_map (λ (q : Page). q.prot) (option_and_then (λ (q : Process). q page) (cond a (Some (with_byte 7)) (cond b (Some (with_byte 7)) None)))
+    by : (a b : Bool) → prot_of (ranges_in (if a || b then Some (topmost p ∷ []) else None))
+        page ≡ option_map (λ (q : Page). q.prot)
+        (option_and_then (λ (q : Process). q page)
+        (cond a (Some (with_byte 7)) (cond b (Some (with_byte 7)) None)))
     by true b = one (page == 0x7fffffffe) (in_range page)
     by false true = one (page == 0x7fffffffe) (in_range page)
     by false false = refl
@@ -167,11 +177,15 @@ covers p page = by (p == 1) (p == 2) ∙ ap (λ o. option_map (λ (q : Page). q.
 areas : (p page : ℕ) → pages_in (right.areas p) page ≡ forked.areas p page
 areas p page = by (p == 1) (p == 2) refl refl
   where
-    its : (n : ℕ) → (p == n) ≡ true → pages_in (Some (topmost p ∷ [])) page ≡ pages_in (Some (topmost n ∷ [])) page
-    its n is = let e : p ≡ n = grind (arith, nat_tests, is) in ap (λ q. pages_in (Some (topmost q ∷ [])) page) e
+    its : (n : ℕ) → (p == n) ≡ true
+        → pages_in (Some (topmost p ∷ [])) page ≡ pages_in (Some (topmost n ∷ [])) page
+    its n is = let e : p ≡ n = grind (arith, nat_tests, is) in ap
+        (λ q. pages_in (Some (topmost q ∷ [])) page) e
 
-    by : (a b : Bool) → (p == 1) ≡ a → (p == 2) ≡ b → pages_in (if a || b then Some (topmost p ∷ []) else None) page
-        ≡ (if a then pages_in (Some (topmost 1 ∷ [])) else (if b then pages_in (Some (topmost 2 ∷ [])) else none_on)) page
+    by : (a b : Bool) → (p == 1) ≡ a → (p == 2) ≡ b
+        → pages_in (if a || b then Some (topmost p ∷ []) else None) page
+        ≡ (if a then pages_in (Some (topmost 1 ∷ []))
+        else (if b then pages_in (Some (topmost 2 ∷ [])) else none_on)) page
     by true b is is' = its 1 is
     by false true is is' = its 2 is'
     by false false is is' = refl
@@ -216,6 +230,7 @@ right-stands = record {
   };
   free = refl;
   areas = areas;
+  anons = refl;
 }
   where
     free : (f : ℕ) → f < 4 → is_in f (1 ∷ 2 ∷ 3 ∷ []) ≡ is_free forked.ledger f

@@ -1,12 +1,13 @@
 -- Worked examples for areas: what a process has on its pages after some commands, and what it
--- hasn't. Which example would fail if a definition were wrong:
---   a cut (`cut_at`, `part_of`): protected_inside, hole, offset_anew
+-- hasn't.
+-- Which example would fail if a definition were wrong:
+--   a cut (`cut_at`, `part_of`): protected_inside, hole, offset_anew, left_whole
 --   a join (`joined_at`, `are_mergeable`): joined_again, joined_above, joined_below, between,
---     kept_apart, left_split, left_apart
+--     kept_apart, left_split, left_apart, joined_unlike
 --   what goes (`emptied`, `with_room`): hole, fixed_over, left_under
 --   a change (`pages_changed`, `areas_to_hole`): protected_inside, up_to_hole, changed_past_hole,
 --     unchanged_before_hole
---   the end of a process (`next_areas`): exited, kept_at_exit
+--   the end of a process (`next_areas`): after_exit, kept_at_exit
 use Rattle.std.specs.Prelude.{◌≡◌, ℕ, List, [], ◌∷◌, ◌++◌, Some}
 use Rattle.std.specs.List.{AllByRecursion}
 use Rattle.av_base.specs.Words.{numbers}
@@ -81,6 +82,6 @@ fixed_over = four_pages ++ says (Mmap 1 4096 read_only (Fixed 0x11000)) (MapAt 0
 abbrev pub up_to_hole : List Exchange
 up_to_hole = hole ++ says (Mprotect 1 0x10000 16384 read_only) (Refused Enomem) [] ∷ []
 
--- the process exits, and is spawned anew
-abbrev pub exited : List Exchange
-exited = four_pages ++ says (Exit 1) Done [] ∷ says (Spawn 1) Done [] ∷ []
+-- the process exits
+abbrev pub after_exit : List Exchange
+after_exit = four_pages ++ says (Exit 1) Done [] ∷ []

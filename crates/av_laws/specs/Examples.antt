@@ -50,7 +50,7 @@ use Rattle.av_trace.specs.declared.reply.Totals.{Totals}
 use Rattle.av_trace.specs.declared.reply.Answer.{Answer}
 use Rattle.av_trace.specs.declared.reply.Answer.TheVariants.{Done, MapAt, Data, Refused, Segv, Bus, Oom, Runs as RunCount, Counted}
 use Rattle.av_vma.specs.Pages.{Pages, fresh_area, pages_in}
-use Rattle.av_plain.specs.Areas.{Areas, no_areas}
+use Rattle.av_plain.specs.Areas.{no_anons, Areas, no_areas}
 use Rattle.av_plain.specs.Choice.{ChoosesAll, Free, no_slots}
 use Rattle.av_plain.specs.World.{Process, Page, no_pages, zeros, with_pages}
 use Rattle.av_plain.specs.Ledger.{Ledger, Setting, Cached, Entry, Zero, InFrame, InSlot, first_ledger}
@@ -358,8 +358,7 @@ abbrev pub when_given : ℕ → Slots → Slots
 when_given zero slots = slots
 when_given (suc n) slots = when_given n (unwrap_or (option_map (λ t. t.1) (take_slot slots)) slots)
 
--- these frames are free, and all slots but the first so many of an area of pages with these bad
--- ones
+-- these frames are free, and all slots but the first so many of an area of pages, with bad ones
 abbrev pub with_slots : ℕ → List ℕ → ℕ → List ℕ → Free
 with_slots pages bad n frames =
     record { frames = frames; slots = with_at 0 (when_given n (fresh pages bad)) no_slots }
@@ -389,6 +388,7 @@ crowd n = record {
   ledger = first_ledger;
   free = only_frames (0 ∷ 1 ∷ 2 ∷ 3 ∷ []);
   areas = no_areas;
+  anons = no_anons;
 }
 
 -- the last process that may live, and one more. That a process lives is found before that too many
@@ -410,6 +410,7 @@ after_fork free = record {
   };
   free = only_frames free;
   areas = areas_from 0x7fffffffe read_write (1 ∷ 2 ∷ []);
+  anons = no_anons;
 }
 
 -- a write to a shared frame copies it, a read doesn't. The other process is then alone with its
@@ -463,6 +464,7 @@ paged_out slots free = record {
   };
   free = with_slots (slots + 1) [] 1 free;
   areas = areas_from 0x7fffffffe read_write (1 ∷ []);
+  anons = no_anons;
 }
 
 -- the page comes in and stays cached; the first write drops its slot. Before, the device may fail
@@ -498,20 +500,26 @@ abbrev pub no_load : List Exchange
 no_load = says (Read 1 0x7fffffffe000 1) (Oom 0 (record { pinned = 0; noslot = 0; fault = 0 }) [])
     [] ∷ []
 
--- the page's frame is cached at slot 1, unmapped, and its write is in flight
-abbrev pub in_writeback : State
-in_writeback = record {
+-- the page's frame is cached at slot 1, and unmapped; a write of it may be in flight, and it may
+-- have changed since one began
+abbrev pub cached_out : Bool → Bool → State
+cached_out flying stale = record {
   world = (1, with_byte 7) ∷ [];
   ledger = record first_ledger {
     entries = ((1, 0x7fffffffe), InSlot (slot 1)) ∷ [];
-    cache = record { slot = slot 1; frame = 0; stale = false } ∷ [];
-    flight = slot 1 ∷ [];
+    cache = record { slot = slot 1; frame = 0; stale = stale } ∷ [];
+    flight = if flying then slot 1 ∷ [] else [];
     inactive = 0 ∷ [];
     on = (0, record { slots = 7; bad = 0 }) ∷ [];
   };
   free = with_slots 8 [] 1 (1 ∷ 2 ∷ 3 ∷ []);
   areas = areas_from 0x7fffffffe read_write (1 ∷ []);
+  anons = no_anons;
 }
+
+-- its write is in flight
+abbrev pub in_writeback : State
+in_writeback = cached_out true false
 
 -- a slot in flight is not dropped
 abbrev pub maps_again : List Exchange
@@ -564,6 +572,7 @@ slot_shared free = record {
   };
   free = with_slots 8 [] 1 free;
   areas = areas_from 0x7fffffffe read_write (1 ∷ 2 ∷ []);
+  anons = no_anons;
 }
 
 -- what a write loads it copies, since the other entry names the slot; then the other one maps the
@@ -606,6 +615,7 @@ one_written = record {
   };
   free = only_frames (1 ∷ 2 ∷ 3 ∷ []);
   areas = areas_from 0x7fffffffe read_write (1 ∷ []);
+  anons = no_anons;
 }
 
 -- nothing lives, and frame 0 was given back last
@@ -615,6 +625,7 @@ all_gone = record {
   ledger = first_ledger;
   free = only_frames (0 ∷ 1 ∷ 2 ∷ 3 ∷ []);
   areas = no_areas;
+  anons = no_anons;
 }
 
 -- the page is unmapped, or another is mapped over it
@@ -624,6 +635,7 @@ page_gone = record {
   ledger = first_ledger;
   free = only_frames (0 ∷ 1 ∷ 2 ∷ 3 ∷ []);
   areas = no_areas;
+  anons = no_anons;
 }
 
 abbrev pub page_anew : State
@@ -632,6 +644,7 @@ page_anew = record {
   ledger = first_ledger;
   free = only_frames (0 ∷ 1 ∷ 2 ∷ 3 ∷ []);
   areas = areas_from 0x7fffffffe read_only (1 ∷ []);
+  anons = no_anons;
 }
 
 -- the topmost page of process 1 is for reading only, the two below for reading and writing
@@ -649,6 +662,7 @@ two_protections = record {
       (fresh_area 1 0x7fffffffc 0x7fffffffe read_write
       ∷ fresh_area 1 0x7fffffffe 0x7ffffffff read_only ∷ [])))
       no_areas;
+  anons = no_anons;
 }
 
 -- a reply to `maps` with these rows
@@ -830,6 +844,7 @@ untouched = record {
   ledger = first_ledger;
   free = only_frames (0 ∷ 1 ∷ 2 ∷ 3 ∷ []);
   areas = areas_from 0x7fffffffe read_write (1 ∷ []);
+  anons = no_anons;
 }
 
 -- no process lives
@@ -848,6 +863,7 @@ in_swap_cache = record {
   };
   free = with_slots 8 [] 1 (1 ∷ 2 ∷ 3 ∷ []);
   areas = areas_from 0x7fffffffe read_write (1 ∷ []);
+  anons = no_anons;
 }
 
 -- the run may not be: some reply of it is wrong

@@ -22,6 +22,7 @@ use Rattle.av_trace.specs.declared.note.Note.{Note}
 use Rattle.av_trace.specs.declared.note.Note.TheVariants.{Zeroed, New, Loaded, Mapped, Put, Unmapped, Started, Written, Failed, Dropped, Kept, Aged}
 use Rattle.av_trace.specs.declared.note.Cause.TheVariants.{Referenced, NoSlot}
 use Rattle.av_trace.specs.declared.reply.Answer.TheVariants.{Done, MapAt, Data, Segv, Bus, Oom, Counted}
+use Rattle.av_plain.specs.Areas.{no_anons}
 use Rattle.av_plain.specs.World.{Process, World, byte_at, pages}
 use Rattle.av_plain.specs.Ledger.{Ledger, Setting, Cached, Entry, Key, Zero, InFrame, InSlot, SwapArea, first_ledger}
 use Rattle.av_plain.specs.Event.{Event, Noted, Used, Forked, Moved, TurnedOn, TurnedOff, Inherited}
@@ -219,6 +220,7 @@ two_written = record {
   };
   free = only_frames (2 ∷ 3 ∷ []);
   areas = areas_from 0x7fffffffd read_write (1 ∷ []);
+  anons = no_anons;
 }
 
 -- the upper one of two pages is at slot 1, and the lower one was not touched
@@ -231,6 +233,7 @@ second_out free = record {
   };
   free = with_slots 8 [] 1 free;
   areas = areas_from 0x7fffffffd read_write (1 ∷ []);
+  anons = no_anons;
 }
 
 -- one frame and a device whose page 1 is bad
@@ -253,6 +256,7 @@ full = record {
   };
   free = with_slots 8 (1 ∷ []) 0 [];
   areas = areas_from 0x7fffffffd read_write (1 ∷ []);
+  anons = no_anons;
 }
 
 -- two writes are in flight, of slots 1 and 2, and process 2 has a page that was not touched
@@ -268,6 +272,7 @@ two_in_flight = record {
   };
   free = with_slots 8 [] 2 [];
   areas = areas_from 0x7fffffffd read_write (1 ∷ 2 ∷ []);
+  anons = no_anons;
 }
 
 -- two processes have one slot of an area with so many, and frame 0 caches it; the entry of the
@@ -283,6 +288,7 @@ cached_for_two slots e = record {
   };
   free = with_slots (slots + 1) [] 1 (1 ∷ 2 ∷ 3 ∷ []);
   areas = areas_from 0x7fffffffd read_write (1 ∷ 2 ∷ []);
+  anons = no_anons;
 }
 
 -- two processes have slot 1 at their upper page, and the first one slot 2 at its lower page

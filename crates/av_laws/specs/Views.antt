@@ -1,14 +1,15 @@
 -- Views of a kernel after a fork, when two processes have frame 0: the right one, which stands for
 -- the state, and some that don't. Each of these is the right one but for one thing.
-use Rattle.std.specs.Prelude.{ℕ, Bool, false, ◌==◌, ◌&&◌, ◌||◌, if◌then◌else◌, List, [], ◌∷◌, Some, None, option_map}
-use Rattle.av_plain.specs.Device.{no_device}
-use Rattle.av_plain.specs.Ledger.{entry, map_count}
+use Rattle.std.specs.Prelude.{ℕ, Bool, false, ◌==◌, ◌&&◌, ◌||◌, if◌then◌else◌, List, [], ◌∷◌, ◌++◌, Some, None, option_map, replicate, codes}
+use Rattle.av_plain.specs.Device.{Device, no_device}
+use Rattle.av_plain.specs.Ledger.{SwapArea, entry, frame_at, map_count, slot_entries, slot_of}
 use Rattle.av_vma.specs.Pages.{fresh_area}
 use Rattle.av_vma.specs.declared.area.Area.{Area}
+use Rattle.av_plain.specs.Areas.{no_anons}
 use Rattle.av_plain.specs.Choice.{no_slots}
 use Rattle.av_plain.specs.Stands.{Stands, View}
 use Rattle.av_plain.specs.Transcript.{State}
-use Rattle.av_laws.specs.Examples.{after_fork, machine, read_write}
+use Rattle.av_laws.specs.Examples.{after_fork, cached_out, machine, read_write, with_slots, with_swap}
 
 -- two processes have the topmost page, in frame 0
 abbrev pub forked : State
@@ -36,6 +37,7 @@ view_with areas write = record {
       option_map (λ e. record { entry = e; write = write }) (entry forked.ledger (p, page));
   processes = 2;
   areas = λ p. if p == 1 || p == 2 then Some (areas p) else None;
+  anons = no_anons;
   find = λ s. None;
   entries = λ s. 0;
   flight = [];
@@ -49,3 +51,58 @@ right = view_with (λ p. topmost p ∷ []) false
 -- a kernel that is seen so doesn't stand for the state
 abbrev pub Refused : View → Type 0
 Refused v = Stands (machine 4) v no_device forked → ⊥
+
+-- ---- with swap
+
+-- the header of an area with seven slots, as `mkswap` writes it
+abbrev pub header_page : List ℕ
+header_page =
+    replicate 1024 0 ++ (1 ∷ 0 ∷ 0 ∷ 0 ∷ 7 ∷ 0 ∷ 0 ∷ 0 ∷ 0 ∷ 0 ∷ 0 ∷ 0 ∷ []) ++ replicate 3050 0
+    ++ codes "SWAPSPACE2"
+
+-- a device with one area, whose slots all hold a page with this first byte
+abbrev pub swap_device : ℕ → Device
+swap_device b = record {
+  sizes = λ k. if k == 0 then Some 8 else None;
+  pages = Some (λ k page. if page == 0 then header_page else b ∷ replicate 4095 0);
+  faults = 0;
+}
+
+-- the right view of a page that is cached at slot 1, whose write is in flight or not, and that is
+-- stale or not
+abbrev pub cached_view : Bool → Bool → View
+cached_view flying stale = let l = (cached_out flying stale).ledger in record {
+  frames = 4;
+  bytes = λ f i. if f == 0 && i == 0 then 7 else 0;
+  maps = map_count l;
+  slot = slot_of l;
+  dirty = λ f. stale;
+  free = 1 ∷ 2 ∷ 3 ∷ [];
+  active = [];
+  table = λ p page. option_map (λ e. record { entry = e; write = false }) (entry l (p, page));
+  processes = 1;
+  areas = λ p. if p == 1 then Some (topmost 1 ∷ []) else None;
+  anons = no_anons;
+  find = frame_at l;
+  entries = slot_entries l;
+  flight = l.flight;
+  on = l.on;
+  slots = (with_slots 8 [] 1 []).slots;
+}
+
+-- a kernel that is seen so stands for the state, over a device with this byte; or it doesn't
+abbrev pub StandsFor : View → ℕ → State → Type 0
+StandsFor v b s = Stands (with_swap 4 8 7) v (swap_device b) s
+
+abbrev pub NotFor : View → ℕ → State → Type 0
+NotFor v b s = StandsFor v b s → ⊥
+
+-- the area is said to have fewer slots than its header says
+abbrev pub fewer_slots : List (ℕ × SwapArea)
+fewer_slots = (0, record { slots = 6; bad = 0 }) ∷ []
+
+abbrev pub with_fewer_slots : State
+with_fewer_slots =
+    record (cached_out false false) {
+      ledger = record (cached_out false false).ledger { on = fewer_slots };
+    }

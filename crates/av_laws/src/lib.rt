@@ -1,6 +1,6 @@
 //! What follows from the definitions of `av_plain`, beside what the kernel needs of them: replies
 //! are determined, numbers add up, a refusal changes nothing, a reply is read back from its text;
-//! and worked examples, legal ones and such as may not be, sound
+//! and worked examples: legal ones and such as may not be, areas that come of commands, sound
 //! states and unsound ones, views that stand for a state and such as don't.
 //!
 //! No function does anything. Each one's contract is a law, proved of the definitions alone.
@@ -61,7 +61,10 @@ pub use pairs::{
 pub use unsound::{
     changed_ledgers_are_unsound, changed_memories_are_unsound, entries_of_one_memory_are_unsound,
 };
-pub use views::{changed_views_do_not_stand, the_right_view_stands};
+pub use views::{
+    cached_views_stand, changed_cached_views_do_not_stand, changed_views_do_not_stand,
+    the_right_view_stands,
+};
 
 /// A command that is refused changes neither the memories nor the ledger. An mprotect, which can
 /// stop at a page that isn't mapped, may have changed the protection of the pages before it.
@@ -90,7 +93,7 @@ pub fn numbers_add_up()
 {}
 
 /// Where the devices tell their pages, each byte of the memories is claimed and no fault of a
-/// device shows, a command has one reply, and leaves one state, with its areas, its free frames and
+/// device shows, a command has one reply, and leaves one state, with its areas, free frames and
 /// slots: nothing is left to the kernel's choice.
 pub fn replies_are_determined()
     ensures { (m : Setting) (old new other : State) (command : Command) (reply reply' : Reply)

@@ -1,11 +1,23 @@
-//! Views of a kernel that don't stand for a state.
+//! Views of a kernel that stand for a state, and such as don't.
 
 ghost use Rattle.std.specs.Prelude.{[], ◌∷◌, true, false, Some, None};
 ghost use Rattle.av_plain.specs.Device.{no_device};
 ghost use Rattle.av_plain.specs.Stands.{Stands};
-ghost use Rattle.av_laws.specs.Examples.{machine};
+ghost use Rattle.av_laws.specs.Examples.{cached_out, machine, with_slots};
 ghost use Rattle.av_clusters.specs.Clusters.{fresh};
-ghost use Rattle.av_laws.specs.Views.{Refused, area, forked, right, topmost, view_with};
+ghost use Rattle.av_laws.specs.Views.{
+  NotFor,
+  Refused,
+  StandsFor,
+  area,
+  cached_view,
+  fewer_slots,
+  forked,
+  right,
+  topmost,
+  view_with,
+  with_fewer_slots,
+};
 
 /// The right view stands for the state after a fork.
 pub fn the_right_view_stands()
@@ -14,7 +26,7 @@ pub fn the_right_view_stands()
 
 /// After a fork, a view stands for the state only where it has the bytes of the shared frame, no
 /// write bit over it, all entries and counts, the free frames in their order, no slots, no other
-/// active frames, and the areas of each process that lives, apart, over its pages alone, its own
+/// active frames, and the areas of each process that lives: apart, over its pages alone, its own,
 /// and with their offsets.
 pub fn changed_views_do_not_stand()
     ensures other_byte { Refused (record right { bytes = λ f i. 0 }) }
@@ -31,4 +43,39 @@ pub fn changed_views_do_not_stand()
         (view_with (λ p. record (topmost p) { pgoff = 0 } ∷ []) false) }
     ensures areas_of_nobody { Refused (record right { areas = λ p. Some (topmost p ∷ []) }) }
     ensures too_few_processes { Refused (record right { processes = 1 }) }
+{}
+
+/// The right view of a cached page stands for its state: where it is clean, the device has its
+/// bytes; where it is stale, or its write is in flight, the device may have others.
+pub fn cached_views_stand()
+    ensures clean { StandsFor (cached_view false false) 7 (cached_out false false) }
+    ensures stale { StandsFor (cached_view false true) 9 (cached_out false true) }
+    ensures flying { StandsFor (cached_view true false) 9 (cached_out true false) }
+{}
+
+/// A view of a cached page doesn't stand where the device has other bytes than a clean page; where
+/// its frame isn't dirty though stale, or has no slot; where the slot isn't found, isn't named,
+/// isn't in flight or was given back; where its entry is gone; or where an area is on with other
+/// numbers than those of its header.
+pub fn changed_cached_views_do_not_stand()
+    ensures not_written { NotFor (cached_view false false) 9 (cached_out false false) }
+    ensures not_dirty { NotFor (record (cached_view false true) { dirty = λ f. false }) 9
+        (cached_out false true) }
+    ensures no_slot { NotFor (record (cached_view false false) { slot = λ f. None }) 7
+        (cached_out false false) }
+    ensures not_found { NotFor (record (cached_view false false) { find = λ s. None }) 7
+        (cached_out false false) }
+    ensures not_named { NotFor (record (cached_view false false) { entries = λ s. 0 }) 7
+        (cached_out false false) }
+    ensures not_flying { NotFor (record (cached_view true false) { flight = [] }) 9
+        (cached_out true false) }
+    ensures given_back { NotFor
+        (record (cached_view false false) { slots = (with_slots 8 [] 0 []).slots }) 7
+        (cached_out false false) }
+    ensures entry_gone { NotFor (record (cached_view false false) { table = λ p page. None }) 7
+        (cached_out false false) }
+    ensures other_area { NotFor (record (cached_view false false) { on = fewer_slots }) 7
+        (cached_out false false) }
+    ensures other_header { NotFor (record (cached_view false false) { on = fewer_slots }) 7
+        with_fewer_slots }
 {}

@@ -88,7 +88,8 @@ is_plain (TurnedOff k) = false
 
 event-on : (e : Event) (l : Ledger) → is_plain e ≡ true → (after l e).on ≡ l.on
 event-on (Noted note) l h = note-on note l
-event-on (Zapped k) l h = by (entry l k) (record l { entries = entries_where (λ q. not (k.0 == q.0 && k.1 == q.1)) l })
+event-on (Zapped k) l h = by (entry l k)
+    (record l { entries = entries_where (λ q. not (k.0 == q.0 && k.1 == q.1)) l })
   where
     by : (o : Option Entry) (l' : Ledger) → (settle_entry o l').on ≡ l'.on
     by None l' = refl
@@ -97,7 +98,8 @@ event-on (Zapped k) l h = by (entry l k) (record l { entries = entries_where (λ
     by (Some (InFrame f seen)) l' = settle-on (Some f) l'
 event-on (Used write k) l h = by write (entry l k)
   where
-    stale : (f : ℕ) (o : Option Slot) → (if_some o (with_stale true) (set_entry k (InFrame f true) l)).on ≡ l.on
+    stale : (f : ℕ) (o : Option Slot)
+        → (if_some o (with_stale true) (set_entry k (InFrame f true) l)).on ≡ l.on
     stale f None = refl
     stale f (Some s) = refl
 
@@ -116,13 +118,17 @@ both : (a b : Bool) → (a && b) ≡ true → (a ≡ true) × (b ≡ true)
 both true b h = (refl, h)
 both false b h = cc
 
-events-on : (es : List Event) (l : Ledger) → list_all is_plain es ≡ true → (after_all l es).on ≡ l.on
+events-on : (es : List Event) (l : Ledger) → list_all is_plain es ≡ true
+    → (after_all l es).on ≡ l.on
 events-on [] l h = refl
-events-on (e ∷ es) l h = let parts = both (is_plain e) (list_all is_plain es) h in events-on es (after l e) parts.1 ∙ event-on e l parts.0
+events-on (e ∷ es) l h = let parts = both (is_plain e) (list_all is_plain es) h in events-on es
+    (after l e) parts.1 ∙ event-on e l parts.0
 
-plain-append : (a b : List Event) → list_all is_plain a ≡ true → list_all is_plain b ≡ true → list_all is_plain (a ++ b) ≡ true
+plain-append : (a b : List Event) → list_all is_plain a ≡ true → list_all is_plain b ≡ true
+    → list_all is_plain (a ++ b) ≡ true
 plain-append [] b h g = g
-plain-append (e ∷ a) b h g = let parts = both (is_plain e) (list_all is_plain a) h in ap (λ c. c && list_all is_plain (a ++ b)) parts.0 ∙ plain-append a b parts.1 g
+plain-append (e ∷ a) b h g = let parts = both (is_plain e) (list_all is_plain a) h in ap
+    (λ c. c && list_all is_plain (a ++ b)) parts.0 ∙ plain-append a b parts.1 g
 
 plain-notes : (notes : List Note) → list_all is_plain (note_events notes) ≡ true
 plain-notes [] = refl
@@ -130,7 +136,8 @@ plain-notes (note ∷ notes) = plain-notes notes
 
 plain-zaps : (l : Ledger) (ks : List Key) → list_all is_plain (zaps_of l ks) ≡ true
 plain-zaps l [] = refl
-plain-zaps l (k ∷ ks) = plain-append (zap_of l k) (zaps_of (after_all l (zap_of l k)) ks) (drop (slot_behind_key l (entry l k))) (plain-zaps (after_all l (zap_of l k)) ks)
+plain-zaps l (k ∷ ks) = plain-append (zap_of l k) (zaps_of (after_all l (zap_of l k)) ks)
+    (drop (slot_behind_key l (entry l k))) (plain-zaps (after_all l (zap_of l k)) ks)
   where
     now : Ledger
     now = after l (Zapped k)
@@ -139,17 +146,25 @@ plain-zaps l (k ∷ ks) = plain-append (zap_of l k) (zaps_of (after_all l (zap_o
     drop None = refl
     drop (Some s) = plain-notes (when (is_orphan now s) (Dropped s))
 
-plain-page : (write : Bool) (k : Key) (notes : List Note) (end : Option Stop) → list_all is_plain (page_events write k notes end) ≡ true
-plain-page write k notes None = plain-append (note_events notes) (Used write k ∷ []) (plain-notes notes) refl
+plain-page : (write : Bool) (k : Key) (notes : List Note) (end : Option Stop)
+    → list_all is_plain (page_events write k notes end) ≡ true
+plain-page write k notes None = plain-append (note_events notes) (Used write k ∷ [])
+    (plain-notes notes) refl
 plain-page write k notes (Some stop) = plain-notes notes
 
-plain-accesses : (m : Setting) (w : World) (l : Ledger) (p : ℕ) (ps : List (Bool × ℕ)) (es : List Event) (end : End) → Accesses m w l p ps es end → list_all is_plain es ≡ true
+plain-accesses : (m : Setting) (w : World) (l : Ledger) (p : ℕ) (ps : List (Bool × ℕ))
+    (es : List Event) (end : End) → Accesses m w l p ps es end → list_all is_plain es ≡ true
 plain-accesses m w l p [] es end h = ap (list_all is_plain) h.0
 plain-accesses m w l p (page ∷ ps) es end (inl h) = ap (list_all is_plain) h.3
-    ∙ plain-append (page_events page.0 (p, page.1) h.0 None) h.1 (plain-page page.0 (p, page.1) h.0 None) (plain-accesses m w (after_all l (page_events page.0 (p, page.1) h.0 None)) p ps h.1 end h.4)
-plain-accesses m w l p (page ∷ ps) es end (inr h) = ap (list_all is_plain) h.3 ∙ plain-page page.0 (p, page.1) h.0 (Some h.1)
+    ∙ plain-append (page_events page.0 (p, page.1) h.0 None) h.1
+    (plain-page page.0 (p, page.1) h.0 None)
+    (plain-accesses m w (after_all l (page_events page.0 (p, page.1) h.0 None)) p ps h.1 end
+    h.4)
+plain-accesses m w l p (page ∷ ps) es end (inr h) = ap (list_all is_plain) h.3
+    ∙ plain-page page.0 (p, page.1) h.0 (Some h.1)
 
-plain-legal : (m : Setting) (w : World) (l : Ledger) (command : Command) (reply : Reply) (es : List Event) → IsLegal m w l command reply es → list_all is_plain es ≡ true
+plain-legal : (m : Setting) (w : World) (l : Ledger) (command : Command) (reply : Reply)
+    (es : List Event) → IsLegal m w l command reply es → list_all is_plain es ≡ true
 plain-legal m w l command reply es legal = by (refusal (tests m w l command)) legal.answer
   where
     none : es ≡ [] → list_all is_plain es ≡ true
@@ -158,7 +173,8 @@ plain-legal m w l command reply es legal = by (refusal (tests m w l command)) le
     these : (ks : List Key) → es ≡ zaps_of l ks → list_all is_plain es ≡ true
     these ks e = ap (list_all is_plain) e ∙ plain-zaps l ks
 
-    follows : (command : Command) → Follows m w l command es reply.answer reply.rows → list_all is_plain es ≡ true
+    follows : (command : Command) → Follows m w l command es reply.answer reply.rows
+        → list_all is_plain es ≡ true
     follows (Spawn p) q = none q.1
     follows (Exit p) q = these _ q.1
     follows (Mmap p len prot Auto) q = none q.3
@@ -172,7 +188,9 @@ plain-legal m w l command reply es legal = by (refusal (tests m w l command)) le
     follows (Maps p) q = none q.2
     follows Stat q = none q.1
 
-    by : (o : Option Errno) → MatchOption o (Follows m w l command es reply.answer reply.rows) (λ error. Refuses error es reply.answer reply.rows) → list_all is_plain es ≡ true
+    by : (o : Option Errno)
+        → MatchOption o (Follows m w l command es reply.answer reply.rows)
+        (λ error. Refuses error es reply.answer reply.rows) → list_all is_plain es ≡ true
     by None q = follows command q
     by (Some error) q = none q.1
 
@@ -181,8 +199,10 @@ plain-legal m w l command reply es legal = by (refusal (tests m w l command)) le
 abbrev Below : World → Type 0
 Below w = (p page : ℕ) → is_some (pages w p page) ≡ true → page < top_page
 
-below-set : (w : World) (p : ℕ) (new : Process) → Below w → ((page : ℕ) → is_some (new page) ≡ true → page < top_page) → Below (set_process w p new)
-below-set w p new below here q page h = by (eq_by_cmp nat_cmp q p) (ap is_some (sym (pages-set w p new q page)) ∙ h)
+below-set : (w : World) (p : ℕ) (new : Process) → Below w
+    → ((page : ℕ) → is_some (new page) ≡ true → page < top_page) → Below (set_process w p new)
+below-set w p new below here q page h = by (eq_by_cmp nat_cmp q p)
+    (ap is_some (sym (pages-set w p new q page)) ∙ h)
   where
     by : (b : Bool) → is_some (cond b (new page) (pages w q page)) ≡ true → page < top_page
     by true h = here page h
@@ -197,47 +217,62 @@ below-ended w p below q page h = by (q == p) (ap is_some (sym (pages-ended w p q
 
 below-stored : (w : World) (p a : ℕ) (bytes : List ℕ) → Below w → Below (after_write w p a bytes)
 below-stored w p a [] below = below
-below-stored w p a (b ∷ bytes) below = below-set w p (with_bytes (pages w p) a (b ∷ bytes)) below (λ page h. below p page (by page (pages w p page) h))
+below-stored w p a (b ∷ bytes) below = below-set w p (with_bytes (pages w p) a (b ∷ bytes)) below
+    (λ page h. below p page (by page (pages w p page) h))
   where
     by : (page : ℕ) (o : Option Page) → is_some (option_map (λ (p : Page). record p {
       bytes = λ i.
-          if within a (length (b ∷ bytes)) (address_of page + i) then Some (slice_index (b ∷ bytes) (address_of page + i - a))
+          if within a (length (b ∷ bytes)) (address_of page + i) then Some
+          (slice_index (b ∷ bytes) (address_of page + i - a))
           else p.bytes i;
     }) o) ≡ true → is_some o ≡ true
     by page None h = h
     by page (Some x) h = refl
 
-below-protected : (w : World) (p from n : ℕ) (prot : Prot) → Below w → Below (set_process w p (with_prot_on (pages w p) from n prot))
-below-protected w p from n prot below = below-set w p (with_prot_on (pages w p) from n prot) below (λ page h. below p page (by (within from n page) (pages w p page) h))
+below-protected : (w : World) (p from n : ℕ) (prot : Prot) → Below w
+    → Below (set_process w p (with_prot_on (pages w p) from n prot))
+below-protected w p from n prot below = below-set w p (with_prot_on (pages w p) from n prot) below
+    (λ page h. below p page (by (within from n page) (pages w p page) h))
   where
-    by : (b : Bool) (o : Option Page) → is_some (if b then option_map (with_prot prot) o else o) ≡ true → is_some o ≡ true
+    by : (b : Bool) (o : Option Page)
+        → is_some (if b then option_map (with_prot prot) o else o) ≡ true → is_some o ≡ true
     by true None h = h
     by true (Some x) h = refl
     by false o h = h
 
-below-ranged : (w : World) (p from n : ℕ) (new : Process) → Below w → ((page : ℕ) → is_some (new page) ≡ true → from + n ≤ top_page) → Below (set_process w p (with_pages (pages w p) from n new))
-below-ranged w p from n new below high = below-set w p (with_pages (pages w p) from n new) below (λ page h. by page (within from n page) refl h)
+below-ranged : (w : World) (p from n : ℕ) (new : Process) → Below w
+    → ((page : ℕ) → is_some (new page) ≡ true → from + n ≤ top_page)
+    → Below (set_process w p (with_pages (pages w p) from n new))
+below-ranged w p from n new below high = below-set w p (with_pages (pages w p) from n new) below
+    (λ page h. by page (within from n page) refl h)
   where
-    by : (page : ℕ) (b : Bool) → within from n page ≡ b → is_some (if b then new page else pages w p page) ≡ true → page < top_page
+    by : (page : ℕ) (b : Bool) → within from n page ≡ b
+        → is_some (if b then new page else pages w p page) ≡ true → page < top_page
     by page true is h = let top = high page h in grind (arith, nat_tests, is, top)
     by page false is h = below p page h
 
 -- ---- where a mapping goes
 
-first-test : (b : Bool) (error : Errno) (rest : Option Errno) → (if b then Some error else rest) ≡ None → (b ≡ false) × (rest ≡ None)
+first-test : (b : Bool) (error : Errno) (rest : Option Errno)
+    → (if b then Some error else rest) ≡ None → (b ≡ false) × (rest ≡ None)
 first-test true error rest h = cc
 first-test false error rest h = (refl, h)
 
-fixed-below : (a n : ℕ) (rest : Tests) → refusal (fixed_tests n a ++ rest) ≡ None → page_of a + n ≤ top_page
+fixed-below : (a n : ℕ) (rest : Tests) → refusal (fixed_tests n a ++ rest) ≡ None
+    → page_of a + n ≤ top_page
 fixed-below a n rest h =
-    let one = first-test (nat_lt top (a + address_of n)) Enomem (refusal ((not (is_on_page a), Einval) ∷ (nat_lt a low, Eperm) ∷ rest)) h in
+    let one = first-test (nat_lt top (a + address_of n)) Enomem
+    (refusal ((not (is_on_page a), Einval) ∷ (nat_lt a low, Eperm) ∷ rest)) h in
     within a n (nat_lt top (a + address_of n)) refl one.0
   where
-    within : (a n : ℕ) (b : Bool) → nat_lt top (a + address_of n) ≡ b → b ≡ false → page_of a + n ≤ top_page
+    within : (a n : ℕ) (b : Bool) → nat_lt top (a + address_of n) ≡ b → b ≡ false
+        → page_of a + n ≤ top_page
     within a n true is e = cc
-    within a n false is e = let h : a + address_of n ≤ address_of top_page = grind (arith, nat_tests, is) in omega (arith, h)
+    within a n false is e = let h : a + address_of n ≤ address_of top_page = grind
+        (arith, nat_tests, is) in omega (arith, h)
 
-goes-below : (q : Process) (n page : ℕ) (place : Place) → refusal (place_tests q n place) ≡ None → Goes q n place (Some page) → page + n ≤ top_page
+goes-below : (q : Process) (n page : ℕ) (place : Place) → refusal (place_tests q n place) ≡ None
+    → Goes q n place (Some page) → page + n ≤ top_page
 goes-below q n page Auto tests h = h.0.highest
 goes-below q n page (At a) tests h = by (is_room q n (page_of a)) refl h
   where
@@ -249,96 +284,131 @@ goes-below q n page (At a) tests h = by (is_room q n (page_of a)) refl h
     inner : {x y : ℕ} → Some x ≡ Some y → x ≡ y
     inner e = cc
 
-    by : (b : Bool) → is_room q n (page_of a) ≡ b → MatchBool b (Some page ≡ Some (page_of a)) (IsGap (is_mapped q) n (Some page)) → page + n ≤ top_page
+    by : (b : Bool) → is_room q n (page_of a) ≡ b
+        → MatchBool b (Some page ≡ Some (page_of a)) (IsGap (is_mapped q) n (Some page))
+        → page + n ≤ top_page
     by true is e =
         let same = inner e in
-        let room = last (nat_le low_page (page_of a)) (nat_le (page_of a + n) top_page) (not (meets q (page_of a) n)) is in
+        let room = last (nat_le low_page (page_of a)) (nat_le (page_of a + n) top_page)
+        (not (meets q (page_of a) n)) is in
         subst (λ x. x + n ≤ top_page) (sym same) (grind (arith, nat_tests, room))
     by false is gap = gap.0.highest
-goes-below q n page (Fixed a) tests h = subst (λ x. x + n ≤ top_page) (sym (inner h)) (fixed-below a n [] tests)
+goes-below q n page (Fixed a) tests h = subst (λ x. x + n ≤ top_page) (sym (inner h))
+    (fixed-below a n [] tests)
   where
     inner : {x y : ℕ} → Some x ≡ Some y → x ≡ y
     inner e = cc
-goes-below q n page (NoReplace a) tests h = subst (λ x. x + n ≤ top_page) (sym (inner h)) (fixed-below a n ((meets q (page_of a) n, Eexist) ∷ []) tests)
+goes-below q n page (NoReplace a) tests h = subst (λ x. x + n ≤ top_page) (sym (inner h))
+    (fixed-below a n ((meets q (page_of a) n, Eexist) ∷ []) tests)
   where
     inner : {x y : ℕ} → Some x ≡ Some y → x ≡ y
     inner e = cc
 
 -- ---- a step
 
-below-follows : (m : Setting) (w now : World) (l : Ledger) (command : Command) (es : List Event) (answer : Answer) (rows : List Row) → Below now → refusal (tests m w l command) ≡ None
+below-follows : (m : Setting) (w now : World) (l : Ledger) (command : Command) (es : List Event)
+    (answer : Answer) (rows : List Row) → Below now → refusal (tests m w l command) ≡ None
     → Follows m w l command es answer rows → Below (next now command answer)
-below-follows m w now l (Spawn p) es answer rows below none h = subst (λ x. Below (next now (Spawn p) x)) (sym h.0) (below-set now p no_pages below (λ page h. absurd (never_some h)))
+below-follows m w now l (Spawn p) es answer rows below none h = subst
+    (λ x. Below (next now (Spawn p) x)) (sym h.0)
+    (below-set now p no_pages below (λ page h. absurd (never_some h)))
   where
     never_some : false ≡ true → ⊥
     never_some e = cc
-below-follows m w now l (Exit p) es answer rows below none h = subst (λ x. Below (next now (Exit p) x)) (sym h.0) (below-ended now p below)
+below-follows m w now l (Exit p) es answer rows below none h = subst
+    (λ x. Below (next now (Exit p) x)) (sym h.0) (below-ended now p below)
 below-follows m w now l (Mmap p len prot place) es answer rows below none h = at h.0 h.1 h.2
   where
     places : refusal (place_tests (pages w p) (pages_of len) place) ≡ None
     places =
         let rest = place_tests (pages w p) (pages_of len) place in
-        let one = first-test (not (lives w p)) Esrch (refusal ((len == 0, Einval) ∷ (is_too_long len, Enomem) ∷ rest)) none in
+        let one = first-test (not (lives w p)) Esrch
+        (refusal ((len == 0, Einval) ∷ (is_too_long len, Enomem) ∷ rest)) none in
         let two = first-test (len == 0) Einval (refusal ((is_too_long len, Enomem) ∷ rest)) one.1 in
         (first-test (is_too_long len) Enomem (refusal rest) two.1).1
 
     back : (page n : ℕ) → page + n ≤ top_page → page_of (address_of page) + n ≤ top_page
     back page n h = omega (arith, h)
 
-    at : (to : Option ℕ) → Goes (pages w p) (pages_of len) place to → IsMapAt answer to → Below (next now (Mmap p len prot place) answer)
+    at : (to : Option ℕ) → Goes (pages w p) (pages_of len) place to → IsMapAt answer to
+        → Below (next now (Mmap p len prot place) answer)
     at None goes e = subst (λ x. Below (next now (Mmap p len prot place) x)) (sym e) below
     at (Some page) goes e = subst (λ x. Below (next now (Mmap p len prot place) x)) (sym e)
-        (below-ranged now p (page_of (address_of page)) (pages_of len) (λ _. Some (zeros prot)) below (λ q h. back page (pages_of len) (goes-below (pages w p) (pages_of len) page place places goes)))
-below-follows m w now l (Munmap p a len) es answer rows below none h = subst (λ x. Below (next now (Munmap p a len) x)) (sym h.0)
+        (below-ranged now p (page_of (address_of page)) (pages_of len) (λ _. Some (zeros prot))
+        below (λ q h. back page (pages_of len)
+        (goes-below (pages w p) (pages_of len) page place places goes)))
+below-follows m w now l (Munmap p a len) es answer rows below none h = subst
+    (λ x. Below (next now (Munmap p a len) x)) (sym h.0)
     (below-ranged now p (page_of a) (pages_of len) no_pages below (λ page h. absurd (never_some h)))
   where
     never_some : false ≡ true → ⊥
     never_some e = cc
-below-follows m w now l (Mprotect p a len prot) es answer rows below none h = subst (λ x. Below (next now (Mprotect p a len prot) x)) (sym h.0) (at (pages_to_hole (pages w p) (page_of a) (pages_of len) == pages_of len))
+below-follows m w now l (Mprotect p a len prot) es answer rows below none h = subst
+    (λ x. Below (next now (Mprotect p a len prot) x)) (sym h.0)
+    (at (pages_to_hole (pages w p) (page_of a) (pages_of len) == pages_of len))
   where
-    stopped : (c : Bool) → Below (if c then now else with_prot_to_hole now p (page_of a) (pages_of len) prot)
+    stopped : (c : Bool) → Below
+        (if c then now else with_prot_to_hole now p (page_of a) (pages_of len) prot)
     stopped true = below
-    stopped false = below-protected now p (page_of a) (pages_to_hole (pages now p) (page_of a) (pages_of len)) prot below
+    stopped false = below-protected now p (page_of a)
+        (pages_to_hole (pages now p) (page_of a) (pages_of len)) prot below
 
     at : (b : Bool) → Below (next now (Mprotect p a len prot) (if b then Done else Refused Enomem))
     at true = below-protected now p (page_of a) (pages_of len) prot below
     at false = stopped (wraps a len)
 below-follows m w now l (Read p a n) es answer rows below none h = below
-below-follows m w now l (Write p a bytes) es answer rows below none h = below-stored now p a (first_bytes answer bytes) below
+below-follows m w now l (Write p a bytes) es answer rows below none h = below-stored now p a
+    (first_bytes answer bytes) below
 below-follows m w now l (Maps p) es answer rows below none h = below
 below-follows m w now l Stat es answer rows below none h = below
 
-step-small : (m : Setting) (old new : State) (command : Command) (reply : Reply) → IsSmall m old.world old.ledger → IsStep m old command reply new → IsSmall m new.world new.ledger
+step-small : (m : Setting) (old new : State) (command : Command) (reply : Reply)
+    → IsSmall m old.world old.ledger → IsStep m old command reply new
+    → IsSmall m new.world new.ledger
 step-small m old new command reply small h = record {
   frames = small.frames;
-  below = subst Below (sym h.world) (by (refusal (tests m old.world old.ledger command)) refl h.legal.answer);
-  off = ap (λ (l : Ledger). l.on) h.ledger ∙ events-on h.events old.ledger (plain-legal m old.world old.ledger command reply h.events h.legal) ∙ small.off;
+  below = subst Below (sym h.world)
+      (by (refusal (tests m old.world old.ledger command)) refl h.legal.answer);
+  off = ap (λ (l : Ledger). l.on) h.ledger
+      ∙ events-on h.events old.ledger
+      (plain-legal m old.world old.ledger command reply h.events h.legal) ∙ small.off;
 }
   where
     now : World
     now = with_loads m old.world old.ledger h.events
 
     below : Below now
-    below p page is = small.below p page (sym (map_count-loads m old.world old.ledger h.events p page) ∙ is)
+    below p page is = small.below p page
+        (sym (map_count-loads m old.world old.ledger h.events p page) ∙ is)
 
-    by : (o : Option Errno) → refusal (tests m old.world old.ledger command) ≡ o → MatchOption o (Follows m old.world old.ledger command h.events reply.answer reply.rows) (λ error. Refuses error h.events reply.answer reply.rows)
+    by : (o : Option Errno) → refusal (tests m old.world old.ledger command) ≡ o
+        → MatchOption o (Follows m old.world old.ledger command h.events reply.answer reply.rows)
+        (λ error. Refuses error h.events reply.answer reply.rows)
         → Below (next_world m old.world old.ledger h.events command reply.answer)
-    by None is x = below-follows m old.world now old.ledger command h.events reply.answer reply.rows below is x
-    by (Some error) is x = subst (λ a. Below (next now command a)) (sym x.0) (subst Below (sym (refused-next m old.world now old.ledger command error is)) below)
+    by None is x = below-follows m old.world now old.ledger command h.events reply.answer reply.rows
+        below is x
+    by (Some error) is x = subst (λ a. Below (next now command a)) (sym x.0)
+        (subst Below (sym (refused-next m old.world now old.ledger command error is)) below)
 
 -- ---- a run
 
-runs-back : (m : Setting) (old : State) (es : List Exchange) (new : State) → HasNoDevice m → AllSound m old.world old.ledger → IsSmall m old.world old.ledger → AllByRecursion (λ (e : Exchange). IsCommand e.command) es
+runs-back : (m : Setting) (old : State) (es : List Exchange) (new : State) → HasNoDevice m
+    → AllSound m old.world old.ledger → IsSmall m old.world old.ledger
+    → AllByRecursion (λ (e : Exchange). IsCommand e.command) es
     → IsRun m old es new → AllByRecursion (λ (e : Exchange). IsReply e.reply) es
 runs-back m old [] new none sound small fit h = tt
 runs-back m old (e ∷ es) new none sound small fit h = (
-  legal-reads_back m old.world old.ledger e.command e.reply h.1.events none sound small fit.0 h.1.legal,
-  runs-back m h.0 es new none (step-sound m old e.command e.reply h.0 sound h.1) (step-small m old h.0 e.command e.reply small h.1) fit.1 h.2,
+  legal-reads_back m old.world old.ledger e.command e.reply h.1.events none sound small fit.0
+      h.1.legal,
+  runs-back m h.0 es new none (step-sound m old e.command e.reply h.0 sound h.1)
+      (step-small m old h.0 e.command e.reply small h.1) fit.1 h.2,
 )
 
-pub run-reads_back : (m : Setting) (es : List Exchange) (new : State) → HasNoDevice m → IsWide m.frames → AllByRecursion (λ (e : Exchange). IsCommand e.command) es
+pub run-reads_back : (m : Setting) (es : List Exchange) (new : State) → HasNoDevice m
+    → IsWide m.frames → AllByRecursion (λ (e : Exchange). IsCommand e.command) es
     → IsRun m (at_first m) es new → AllByRecursion (λ (e : Exchange). IsReply e.reply) es
-run-reads_back m es new none wide fit h = runs-back m (at_first m) es new none (first-sound m) (record { frames = wide; below = λ p page h. absurd (never_some h); off = refl }) fit h
+run-reads_back m es new none wide fit h = runs-back m (at_first m) es new none (first-sound m)
+    (record { frames = wide; below = λ p page h. absurd (never_some h); off = refl }) fit h
   where
     never_some : false ≡ true → ⊥
     never_some e = cc

@@ -1,4 +1,4 @@
-use Rattle.av_laws.proofs.AreaExamples.{four_pages-makes, protected_inside-makes, joined_again-makes, hole-makes, between-makes, joined_above-makes, kept_apart-makes, joined_below-makes, fixed_over-makes, up_to_hole-makes, exited-makes}
+use Rattle.av_laws.proofs.AreaExamples.{four_pages-makes, protected_inside-makes, joined_again-makes, hole-makes, between-makes, joined_above-makes, kept_apart-makes, joined_below-makes, fixed_over-makes, up_to_hole-makes, after_exit-makes}
 use Rattle.av_laws.proofs.areas.areas_follow.Goals as goal
 
 pub returns-clause-four_pages : goal.returns-clause-four_pages
@@ -31,5 +31,5 @@ returns-clause-fixed_over c = fixed_over-makes
 pub returns-clause-up_to_hole : goal.returns-clause-up_to_hole
 returns-clause-up_to_hole c = up_to_hole-makes
 
-pub returns-clause-exited : goal.returns-clause-exited
-returns-clause-exited c = exited-makes
+pub returns-clause-after_exit : goal.returns-clause-after_exit
+returns-clause-after_exit c = after_exit-makes

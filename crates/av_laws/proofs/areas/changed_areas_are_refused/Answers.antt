@@ -1,11 +1,11 @@
-use Rattle.av_laws.proofs.AreaExamples.{offset_anew-not, uncut-not, left_split-not, left_apart-not, joined_unlike-not, left_under-not, changed_past_hole-not, unchanged_before_hole-not, kept_at_exit-not}
+use Rattle.av_laws.proofs.AreaExamples.{offset_anew-not, left_whole-not, left_split-not, left_apart-not, joined_unlike-not, left_under-not, changed_past_hole-not, unchanged_before_hole-not, kept_at_exit-not}
 use Rattle.av_laws.proofs.areas.changed_areas_are_refused.Goals as goal
 
 pub returns-clause-offset_anew : goal.returns-clause-offset_anew
 returns-clause-offset_anew c = offset_anew-not
 
-pub returns-clause-uncut : goal.returns-clause-uncut
-returns-clause-uncut c = uncut-not
+pub returns-clause-left_whole : goal.returns-clause-left_whole
+returns-clause-left_whole c = left_whole-not
 
 pub returns-clause-left_split : goal.returns-clause-left_split
 returns-clause-left_split c = left_split-not
