@@ -1,14 +1,15 @@
 -- What is left to look at, one look after the other.
-use Rattle.std.proofs.Common.{◌≡◌, ℕ, ◌+◌, Bool, true, false, cond, ◌&&◌, List, [], ◌∷◌, ◌++◌, Option, Some, None, refl, sym, ap, subst, ◌∙◌, arith, inl, inr, append_assoc, length}
+use Rattle.std.proofs.Common.{◌≡◌, ℕ, ◌+◌, Bool, true, false, cond, ◌&&◌, List, [], ◌∷◌, ◌++◌, Option, Some, None, refl, sym, ap, subst, ◌∙◌, arith, inl, inr, append_assoc, length, IsSomeAnd}
 use Rattle.std.proofs.lemmas.Bool.Decides.{nat_tests}
 use Rattle.av_base.specs.Words.{how_many}
+use Rattle.av_pagetable.specs.declared.pte.Pte.{Pte}
 use Rattle.av_vma.specs.declared.area.Area.{Area}
 use Rattle.av_interval.specs.declared.span.Span.{Span}
 use Rattle.av_interval.specs.Search.{IsBefore, AllAfter, IsOrdered, is_past, overlaps, overlap_of}
-use Rattle.av_rmap.specs.View.{View}
-use Rattle.av_rmap.specs.Walk.{names_frame, holds, page_at, found_in}
+use Rattle.av_rmap.specs.View.{View, AreSpanned}
+use Rattle.av_rmap.specs.Walk.{Key, holds, page_at, found_in, is_seen_in, names_seen}
 use Rattle.av_rmap.proofs.Entries.{walk_of}
-use Rattle.av_rmap.proofs.SpanLemmas.{IsSpanOf, AreSpans, overlaps-holds}
+use Rattle.av_rmap.proofs.SpanLemmas.{IsSpanOf, AreSpans, are_spans, overlaps-holds}
 
 -- the spans past the place
 abbrev pub rest : Option (ℕ × ℕ) → List Span → List Span
@@ -56,14 +57,14 @@ key-after after i k x (y ∷ ys) all h = is (λ h'. key-after after i k x ys all
     is again false e = again (sym (ap (λ b. cond b (Some (y.first, y.area)) (overlap_of after i ys)) e) ∙ h)
 
 -- an area that does not hold the index is no look
-look-nothing : (view : View) (f i : ℕ) (x : Span) → IsSpanOf view x → overlaps i x ≡ false → found_in view f i (view.areas x.area) ≡ []
+look-nothing : (view : View) (f : Pte → Bool) (i : ℕ) (x : Span) → IsSpanOf view x → overlaps i x ≡ false → found_in view f i (view.areas x.area) ≡ []
 look-nothing view f i x s e =
     ap (found_in view f i) s.stands
-    ∙ ap (λ b. cond (b && names_frame f (view.entry s.area.pid (page_at i s.area))) ((s.area.pid, page_at i s.area) ∷ []) [])
+    ∙ ap (λ b. cond (b && f (view.entry s.area.pid (page_at i s.area))) ((s.area.pid, page_at i s.area) ∷ []) [])
     (sym (overlaps-holds view x i s) ∙ e)
 
 -- what a call of `next` tells of the looks that are left
-pub record Found (view : View) (f i : ℕ) (after : Option (ℕ × ℕ)) (k : ℕ × ℕ) (xs : List Span) : Type 0 where
+pub record Found (view : View) (f : Pte → Bool) (i : ℕ) (after : Option (ℕ × ℕ)) (k : ℕ × ℕ) (xs : List Span) : Type 0 where
   pub area : Area
   pub stands : view.areas k.1 ≡ Some area
   pub there : holds i area ≡ true
@@ -74,7 +75,7 @@ zero_left : (n : ℕ) → 0 + n ≡ n
 zero_left n = omega arith
 
 -- a span that is past, or does not hold the index, takes no look
-skip-walk : (view : View) (f i : ℕ) (after : Option (ℕ × ℕ)) (x : Span) (xs : List Span) → IsSpanOf view x → (is_past after x && overlaps i x) ≡ false → walk_of view f i (rest after (x ∷ xs)) ≡ walk_of view f i (rest after xs)
+skip-walk : (view : View) (f : Pte → Bool) (i : ℕ) (after : Option (ℕ × ℕ)) (x : Span) (xs : List Span) → IsSpanOf view x → (is_past after x && overlaps i x) ≡ false → walk_of view f i (rest after (x ∷ xs)) ≡ walk_of view f i (rest after xs)
 skip-walk view f i after x xs s none = is (is_past after x) refl (overlaps i x) refl
   where
     is : (b : Bool) → is_past after x ≡ b → (c : Bool) → overlaps i x ≡ c → walk_of view f i (rest after (x ∷ xs)) ≡ walk_of view f i (rest after xs)
@@ -90,7 +91,7 @@ skip-count i after x xs none = is (is_past after x) refl (overlaps i x) refl
     is true e true e' = cc
     is true e false e' = ap (λ b. how_many (overlaps i) (cond b (x ∷ rest after xs) (rest after xs))) e ∙ ap (λ t. cond t 1 0 + how_many (overlaps i) (rest after xs)) e' ∙ zero_left (how_many (overlaps i) (rest after xs))
 
-pub next-found : (view : View) (f i : ℕ) (after : Option (ℕ × ℕ)) (k : ℕ × ℕ) (xs : List Span) → IsOrdered xs → AreSpans view xs → overlap_of after i xs ≡ Some k → Found view f i after k xs
+next-found : (view : View) (f : Pte → Bool) (i : ℕ) (after : Option (ℕ × ℕ)) (k : ℕ × ℕ) (xs : List Span) → IsOrdered xs → AreSpans view xs → overlap_of after i xs ≡ Some k → Found view f i after k xs
 next-found view f i after k [] ordered spans h = cc
 next-found view f i after k (x ∷ xs) ordered spans h = is (λ h'. next-found view f i after k xs ordered.1 spans.1 h') (is_past after x) (overlaps i x) refl refl
   where
@@ -132,7 +133,7 @@ next-found view f i after k (x ∷ xs) ordered spans h = is (λ h'. next-found v
     is again false c e e' = skipped again (sym (ap (λ b. cond b (Some (x.first, x.area)) (overlap_of after i xs)) (ap (λ b. b && overlaps i x) e)) ∙ h) (ap (λ b. b && overlaps i x) e)
 
 -- where `next` finds none, nothing is left
-pub next-none : (view : View) (f i : ℕ) (after : Option (ℕ × ℕ)) (xs : List Span) → AreSpans view xs → overlap_of after i xs ≡ None → (walk_of view f i (rest after xs) ≡ []) × (how_many (overlaps i) (rest after xs) ≡ 0)
+next-none : (view : View) (f : Pte → Bool) (i : ℕ) (after : Option (ℕ × ℕ)) (xs : List Span) → AreSpans view xs → overlap_of after i xs ≡ None → (walk_of view f i (rest after xs) ≡ []) × (how_many (overlaps i) (rest after xs) ≡ 0)
 next-none view f i after [] spans h = (refl, refl)
 next-none view f i after (x ∷ xs) spans h = is (λ h'. next-none view f i after xs spans.1 h') (is_past after x && overlaps i x) refl
   where
@@ -146,6 +147,17 @@ next-none view f i after (x ∷ xs) spans h = is (λ h'. next-none view f i afte
         (skip-walk view f i after x xs spans.0 e ∙ left.0, skip-count i after x xs e ∙ left.1)
 
 -- ---- one turn of the loop
+
+pub turn : (view : View) (f : Pte → Bool) (home : ℕ × ℕ) (after : Option (ℕ × ℕ)) (k : ℕ × ℕ) → AreSpanned view → IsOrdered (view.spans home.0) → overlap_of after home.1 (view.spans home.0) ≡ Some k → Found view f home.1 after k (view.spans home.0)
+turn view f home after k spanned ordered found = next-found view f home.1 after k (view.spans home.0) ordered (are_spans view home.0 spanned) found
+
+-- the area that was found holds the index
+pub turn-holds : (view : View) (f : Pte → Bool) (i : ℕ) (after : Option (ℕ × ℕ)) (k : ℕ × ℕ) (xs : List Span) → Found view f i after k xs → IsSomeAnd (view.areas k.1) (λ a. holds i a ≡ true)
+turn-holds view f i after k xs t = subst (λ (o : Option Area). IsSomeAnd o (λ a. holds i a ≡ true)) (sym t.stands) t.there
+
+-- the last turn finds no area, and nothing is left
+pub last : (view : View) (f : Pte → Bool) (home : ℕ × ℕ) (after : Option (ℕ × ℕ)) → AreSpanned view → overlap_of after home.1 (view.spans home.0) ≡ None → (walk_of view f home.1 (rest after (view.spans home.0)) ≡ []) × (how_many (overlaps home.1) (rest after (view.spans home.0)) ≡ 0)
+last view f home after spanned none = next-none view f home.1 after (view.spans home.0) (are_spans view home.0 spanned) none
 
 -- what was found so far, what is left, and the whole, where the look found nothing
 pub turn_without : {X : Type 0} (items left later look whole : List X) → items ++ left ≡ whole → left ≡ look ++ later → [] ≡ look → items ++ later ≡ whole
@@ -161,3 +173,21 @@ room_with left later look k e one = ap length (e ∙ ap (λ ks. ks ++ later) (sy
 
 pub room_without : {X : Type 0} (left later look : List X) → left ≡ look ++ later → [] ≡ look → length left ≡ length later
 room_without left later look e none = ap length (e ∙ ap (λ ks. ks ++ later) (sym none))
+
+-- and where nothing is kept of what was found
+pub turn_nothing : {X : Type 0} (left later look whole : List X) → left ≡ look ++ later → look ≡ [] → left ≡ whole → later ≡ whole
+turn_nothing left later look whole e none h = sym (e ∙ ap (λ ks. ks ++ later) none) ∙ h
+
+-- a look that finds nothing seen
+pub unseen : (view : View) (frame i : ℕ) (o : Option Area) → is_seen_in view frame i o ≡ false → found_in view (names_seen frame) i o ≡ []
+unseen view frame i None e = refl
+unseen view frame i (Some area) e = ap (λ b. cond b ((area.pid, page_at i area) ∷ []) []) e
+
+-- and one that finds it
+pub seen-there : (view : View) (frame i : ℕ) (o : Option Area) → is_seen_in view frame i o ≡ true → (k : Key) × (names_seen frame (view.entry k.0 k.1) ≡ true)
+seen-there view frame i None e = cc
+seen-there view frame i (Some area) e = ((area.pid, page_at i area), second (holds i area) (names_seen frame (view.entry area.pid (page_at i area))) e)
+  where
+    second : (b c : Bool) → (b && c) ≡ true → c ≡ true
+    second true c h = h
+    second false c h = cc

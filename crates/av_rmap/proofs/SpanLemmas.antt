@@ -1,11 +1,9 @@
 -- The spans of an anon_vma are those of areas, each area's once.
-use Rattle.std.proofs.Common.{◌≡◌, ℕ, ◌+◌, ◌-◌, ◌<◌, Bool, true, false, cond, List, [], ◌∷◌, filter, length, Option, Some, None, refl, sym, ap, subst, ◌∙◌, arith, ◌==◌, eq-eqb}
+use Rattle.std.proofs.Common.{◌≡◌, ℕ, ◌+◌, Bool, true, false, cond, List, [], ◌∷◌, filter, length, Option, Some, None, refl, sym, ap, subst, ◌∙◌, arith, eq-eqb}
 use Rattle.std.proofs.lemmas.Bool.Decides.{nat_tests}
 use Rattle.av_arena.specs.Order.{AllOf}
 use Rattle.av_base.specs.Words.{how_many, is_in}
-use Rattle.av_chain.specs.Links.{one_if}
 use Rattle.av_vma.specs.declared.area.Area.{Area}
-use Rattle.av_vma.specs.Join.{first_of, past_of}
 use Rattle.av_interval.specs.declared.span.Span.{Span}
 use Rattle.av_interval.specs.Search.{overlaps}
 use Rattle.av_anon.specs.Order.{IsArea}

@@ -1,3 +1,4 @@
 pub mod Covered
+pub mod Stores
 pub mod View
 pub mod Walk

@@ -4,6 +4,7 @@ use Rattle.av_pagetable.specs.declared.pte.Pte.{Pte}
 use Rattle.av_vma.specs.declared.area.Area.{Area}
 use Rattle.av_vma.specs.Pages.{has_page}
 use Rattle.av_interval.specs.declared.span.Span.{Span}
+use Rattle.av_anon.specs.Anons.{Family}
 use Rattle.av_anon.specs.Order.{IsArea}
 use Rattle.av_anon.specs.Spans.{GoWithLinks}
 
@@ -14,6 +15,10 @@ pub record View : Type 0 where
   pub chain : ℕ → List ℕ
   pub spans : ℕ → List Span
   pub entry : ℕ → ℕ → Pte
+
+abbrev pub viewed : (ℕ → Option Area) → Family → (ℕ → List Span) → (ℕ → ℕ → Pte) → View
+viewed areas f spans entry =
+    record { areas = areas; chain = f.chain; spans = spans; entry = entry }
 
 -- a part of chain order: the spans go with the links, and the areas' indices are numbers of the
 -- machine

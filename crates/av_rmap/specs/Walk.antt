@@ -22,6 +22,13 @@ names_frame frame Zero = false
 names_frame frame (Here other write seen) = frame == other
 names_frame frame (Away slot) = false
 
+-- whether it names the frame and says that the page was accessed
+abbrev pub names_seen : ℕ → Pte → Bool
+names_seen frame Empty = false
+names_seen frame Zero = false
+names_seen frame (Here other write seen) = frame == other && seen
+names_seen frame (Away slot) = false
+
 -- the entries that name the frame, each once, in some order
 abbrev pub AreItsEntries : View → ℕ → List Key → Type 0
 AreItsEntries view frame keys = (k : Key)
@@ -34,13 +41,19 @@ holds index area = within area.pgoff (past_of area - first_of area) index
 abbrev pub page_at : ℕ → Area → ℕ
 page_at index area = first_of area + (index - area.pgoff)
 
--- what one look finds, in the area's page with the index
-abbrev pub found_in : View → ℕ → ℕ → Option Area → List Key
-found_in view frame index None = []
-found_in view frame index (Some area) =
-    if holds index area && names_frame frame (view.entry area.pid (page_at index area))
+-- what one look finds: the area's page with the index, where its entry passes the test
+abbrev pub found_in : View → (Pte → Bool) → ℕ → Option Area → List Key
+found_in view passes index None = []
+found_in view passes index (Some area) =
+    if holds index area && passes (view.entry area.pid (page_at index area))
     then (area.pid, page_at index area) ∷ [] else []
 
 abbrev pub list_of : Option Key → List Key
 list_of None = []
 list_of (Some k) = k ∷ []
+
+-- whether that entry names the frame and is seen
+abbrev pub is_seen_in : View → ℕ → ℕ → Option Area → Bool
+is_seen_in view frame index None = false
+is_seen_in view frame index (Some area) =
+    holds index area && names_seen frame (view.entry area.pid (page_at index area))

@@ -9,6 +9,9 @@
 //! linked to the anon_vma that hold the index.
 #![tactic(auto)]
 
+pub mod covered;
 pub mod look;
+pub mod seen;
 pub mod steps;
+pub mod stores;
 pub mod walk;

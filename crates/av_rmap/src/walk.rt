@@ -1,10 +1,10 @@
 // The entries of a frame, found through its home.
-ghost use Rattle.std.specs.Prelude.{◌≡◌, ◌+◌, ◌≤◌, ◌++◌, true, List, length, vec_len, vec_capacity, IsSomeAnd};
+ghost use Rattle.std.specs.Prelude.{◌≡◌, ℕ, ◌+◌, ◌≤◌, ◌++◌, true, List, length, vec_len, vec_capacity, IsSomeAnd};
 ghost use Rattle.av_base.specs.Words.{how_many};
 ghost use Rattle.av_interval.specs.Search.{overlaps};
-ghost use Rattle.av_rmap.specs.View.{AreApart, AreSpanned};
+ghost use Rattle.av_rmap.specs.View.{AreApart, AreSpanned, View};
 ghost use Rattle.av_rmap.specs.Covered.{IsCovered};
-ghost use Rattle.av_rmap.specs.Walk.{AreItsEntries, Key, found_in, holds, list_of};
+ghost use Rattle.av_rmap.specs.Walk.{AreItsEntries, Key, found_in, holds, list_of, names_frame};
 
 use crate::look::Look;
 use crate::steps::Steps;
@@ -42,6 +42,13 @@ pub fn walk<K: Look, L: Ledger>(
     }
 }
 
+/// Who has the frame's entries, each once, knows how many a walk finds.
+pub fn walks_are_equally_long()
+    ensures { (view : View) (frame : ℕ) (keys others : List Key)
+        → AreItsEntries view frame keys → AreItsEntries view frame others
+        → length keys ≡ length others }
+{}
+
 /// One look: the page of the area with this index, where its entry names the frame.
 fn found<K: Look, L: Ledger>(
     look: &K,
@@ -52,7 +59,7 @@ fn found<K: Look, L: Ledger>(
 ) -> Option<(u16, u64)>
     requires { IsSomeAnd ((K.view look.now).areas area) (λ a. holds index a ≡ true) }
     ensures found { list_of result
-        ≡ found_in (K.view look.now) frame index ((K.view look.now).areas area) }
+        ≡ found_in (K.view look.now) (names_frame frame) index ((K.view look.now).areas area) }
     ensures counted { steps.new ≡ steps.old + 1 }
 {
     let (process, page) = look.place(area, index);
