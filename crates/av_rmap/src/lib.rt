@@ -6,12 +6,14 @@
 //!
 //! Proved: where spans go with links and each of the frame's entries is covered by the home, the
 //! walk finds each of them once, and nothing else, by exactly as many looks as there are areas
-//! linked to the anon_vma that hold the index.
+//! linked to the anon_vma that hold the index. `Stores` shows areas, anon_vmas and page tables as
+//! they are kept.
 #![tactic(auto)]
 
 pub mod covered;
 pub mod look;
 pub mod seen;
+pub mod sorted;
 pub mod steps;
 pub mod stores;
 pub mod walk;
