@@ -1,0 +1,5 @@
+mod Counting
+mod Entries
+mod Looks
+mod SortedLemmas
+mod SpanLemmas

@@ -1,0 +1,59 @@
+-- The entries of a frame, and what one look finds.
+use Rattle.std.specs.Prelude.{◌≡◌, ℕ, ◌+◌, ◌-◌, Bool, false, ◌&&◌, ◌==◌, if◌then◌else◌, List, [], ◌∷◌, Option, Some, None}
+use Rattle.av_base.specs.Words.{how_many, within}
+use Rattle.av_chain.specs.Links.{one_if}
+use Rattle.av_pagetable.specs.declared.pte.Pte.{Pte}
+use Rattle.av_pagetable.specs.declared.pte.Pte.TheVariants.{Empty, Zero, Here, Away}
+use Rattle.av_vma.specs.declared.area.Area.{Area}
+use Rattle.av_vma.specs.Join.{first_of, past_of}
+use Rattle.av_rmap.specs.View.{View}
+
+-- a process and a page
+abbrev pub Key : Type 0
+Key = ℕ × ℕ
+
+abbrev pub same_key : Key → Key → Bool
+same_key k j = k.0 == j.0 && k.1 == j.1
+
+-- whether an entry names the frame
+abbrev pub names_frame : ℕ → Pte → Bool
+names_frame frame Empty = false
+names_frame frame Zero = false
+names_frame frame (Here other write seen) = frame == other
+names_frame frame (Away slot) = false
+
+-- whether it names the frame and says that the page was accessed
+abbrev pub names_seen : ℕ → Pte → Bool
+names_seen frame Empty = false
+names_seen frame Zero = false
+names_seen frame (Here other write seen) = frame == other && seen
+names_seen frame (Away slot) = false
+
+-- the entries that name the frame, each once, in some order
+abbrev pub AreItsEntries : View → ℕ → List Key → Type 0
+AreItsEntries view frame keys = (k : Key)
+    → how_many (same_key k) keys ≡ one_if (names_frame frame (view.entry k.0 k.1))
+
+-- whether a page of the area has the linear index, and which
+abbrev pub holds : ℕ → Area → Bool
+holds index area = within area.pgoff (past_of area - first_of area) index
+
+abbrev pub page_at : ℕ → Area → ℕ
+page_at index area = first_of area + (index - area.pgoff)
+
+-- what one look finds: the area's page with the index, where its entry passes the test
+abbrev pub found_in : View → (Pte → Bool) → ℕ → Option Area → List Key
+found_in view passes index None = []
+found_in view passes index (Some area) =
+    if holds index area && passes (view.entry area.pid (page_at index area))
+    then (area.pid, page_at index area) ∷ [] else []
+
+abbrev pub list_of : Option Key → List Key
+list_of None = []
+list_of (Some k) = k ∷ []
+
+-- whether that entry names the frame and is seen
+abbrev pub is_seen_in : View → ℕ → ℕ → Option Area → Bool
+is_seen_in view frame index None = false
+is_seen_in view frame index (Some area) =
+    holds index area && names_seen frame (view.entry area.pid (page_at index area))

@@ -1,0 +1,19 @@
+//! Reverse mapping: from a page frame to the page-table entries that name it (Linux's rmap walk).
+//!
+//! A walk begins at the frame's home, an anon_vma and a linear index. It asks which areas that are
+//! linked to the anon_vma hold the index, and looks at one entry in each, through the trait `Look`
+//! alone: it scans no table, and takes no memory.
+//!
+//! Proved: where spans go with links and each of the frame's entries is covered by the home, the
+//! walk finds each of them once, and nothing else, by exactly as many looks as there are areas
+//! linked to the anon_vma that hold the index. `Stores` shows areas, anon_vmas and page tables as
+//! they are kept.
+#![tactic(auto)]
+
+pub mod covered;
+pub mod look;
+pub mod seen;
+pub mod sorted;
+pub mod steps;
+pub mod stores;
+pub mod walk;

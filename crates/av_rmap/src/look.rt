@@ -1,0 +1,30 @@
+// What a walk reads: spans, areas and page tables, and nothing else.
+ghost use Rattle.std.specs.Prelude.{◌≡◌, ◌+◌, true, IfSome, IsSomeAnd};
+ghost use Rattle.av_interval.specs.Search.{overlap_of, IsOrdered};
+ghost use Rattle.av_rmap.specs.View.{View};
+ghost use Rattle.av_rmap.specs.Walk.{holds, page_at};
+
+use crate::steps::Steps;
+use av_pagetable::Pte;
+use std::sync::ledger::Ledger;
+
+pub trait Look {
+    // The areas with their chains, the spans of each anon_vma, and the entries.
+    ghost view: { Self → View };
+
+    /// First index and area of the first span past `after` that overlaps `index`, of the areas that
+    /// are linked to an anon_vma.
+    fn next(&self, anon: u64, index: u64, after: Option<(u64, u64)>) -> Option<(u64, u64)>
+        ensures first { result ≡ overlap_of after index ((view self.now).spans anon) }
+        ensures ordered { IsOrdered ((view self.now).spans anon) };
+
+    /// The process of an area that holds `index`, and its page there.
+    fn place(&self, area: u64, index: u64) -> (u16, u64)
+        requires { IsSomeAnd ((view self.now).areas area) (λ a. holds index a ≡ true) }
+        ensures { IfSome ((view self.now).areas area) (λ a. result ≡ (a.pid, page_at index a)) };
+
+    /// The entry of a page. This is the one call that takes a step.
+    fn look<L: Ledger>(&self, process: u16, page: u64, steps: &mut Steps<L>) -> Pte
+        ensures entry { result ≡ (view self.now).entry process page }
+        ensures counted { steps.new ≡ steps.old + 1 };
+}

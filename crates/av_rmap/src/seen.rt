@@ -1,0 +1,63 @@
+// Whether a frame was accessed, found through its home.
+ghost use Rattle.std.specs.Prelude.{◌≡◌, ℕ, ◌+◌, ◌≤◌, true, false, IsSomeAnd, MatchBool};
+ghost use Rattle.av_base.specs.Words.{how_many};
+ghost use Rattle.av_interval.specs.Search.{overlaps};
+ghost use Rattle.av_rmap.specs.Covered.{IsCovered};
+ghost use Rattle.av_rmap.specs.View.{AreApart, AreSpanned};
+ghost use Rattle.av_rmap.specs.Walk.{Key, holds, is_seen_in, names_seen};
+
+use crate::look::Look;
+use crate::steps::Steps;
+use av_pagetable::Pte;
+use std::sync::ledger::Ledger;
+
+/// Whether an entry that names the frame says that its page was accessed. `home` is the frame's. It
+/// looks at no more entries than a walk.
+pub fn any_seen<K: Look, L: Ledger>(
+    look: &K,
+    frame: u32,
+    home: (u64, u64),
+    steps: &mut Steps<L>,
+) -> bool
+    requires spanned { AreSpanned (K.view look.now) }
+    requires apart { AreApart (K.view look.now) }
+    requires covered { IsCovered (K.view look.now) frame home }
+    ensures seen { MatchBool result
+        ((k : Key) × (names_seen frame ((K.view look.now).entry k.0 k.1) ≡ true))
+        ((process page : ℕ) → names_seen frame ((K.view look.now).entry process page) ≡ false) }
+    ensures counted { steps.new ≤ steps.old
+        + how_many (overlaps home.1) ((K.view look.now).spans home.0) }
+{
+    let (anon, index) = home;
+    let mut after = None;
+    'looks: while let Some((first, area)) = look.next(anon, index, after) {
+        if seen_in(look, frame, index, area, steps) {
+            return true;
+        }
+        after = Some((first, area));
+    }
+    false
+}
+
+/// One look: whether the entry of the area's page with this index names the frame, and is seen.
+fn seen_in<K: Look, L: Ledger>(
+    look: &K,
+    frame: u32,
+    index: u64,
+    area: u64,
+    steps: &mut Steps<L>,
+) -> bool
+    requires { IsSomeAnd ((K.view look.now).areas area) (λ a. holds index a ≡ true) }
+    ensures seen { result ≡ is_seen_in (K.view look.now) frame index ((K.view look.now).areas area) }
+    ensures counted { steps.new ≡ steps.old + 1 }
+{
+    let (process, page) = look.place(area, index);
+    match look.look(process, page, steps) {
+        Pte::Here {
+            frame: other,
+            seen,
+            ..
+        } => frame == other && seen,
+        Pte::Empty | Pte::Zero | Pte::Away { .. } => false,
+    }
+}

@@ -1,0 +1,41 @@
+// The entries of a frame by process, then by page.
+ghost use Rattle.std.specs.Prelude.{◌≡◌, ◌+◌, ◌≤◌, List, length, IfOk, OnErr, OnOk};
+ghost use Rattle.av_base.specs.Words.{how_many};
+ghost use Rattle.av_interval.specs.Search.{overlaps};
+ghost use Rattle.av_rmap.specs.Covered.{IsCovered};
+ghost use Rattle.av_rmap.specs.Sorted.{AreRising};
+ghost use Rattle.av_rmap.specs.View.{AreApart, AreSpanned};
+ghost use Rattle.av_rmap.specs.Walk.{AreItsEntries, Key};
+
+use crate::look::Look;
+use crate::steps::Steps;
+use crate::walk::walk;
+use std::alloc::{AllocError, Global};
+use std::sync::ledger::Ledger;
+
+/// Process and page of each entry that names the frame, once, by process and then by page. `home`
+/// is the frame's, and no more than `count` entries name it. Without memory it takes no look.
+pub fn walk_sorted<K: Look, L: Ledger>(
+    alloc: Global,
+    look: &K,
+    frame: u32,
+    home: (u64, u64),
+    count: u64,
+    steps: &mut Steps<L>,
+) -> Result<Vec<(u16, u64)>, AllocError>
+    requires spanned { AreSpanned (K.view look.now) }
+    requires apart { AreApart (K.view look.now) }
+    requires covered { IsCovered (K.view look.now) frame home }
+    requires count { (keys : List Key) → AreItsEntries (K.view look.now) frame keys
+        → length keys ≤ count }
+    ensures entries { IfOk result (λ keys. AreItsEntries (K.view look.now) frame keys.items) }
+    ensures rising { IfOk result (λ keys. AreRising keys.items) }
+    ensures counted { OnOk result (steps.new ≡ steps.old
+        + how_many (overlaps home.1) ((K.view look.now).spans home.0)) }
+    ensures kept { OnErr result (steps.new ≡ steps.old) }
+{
+    let mut keys = Vec::with_capacity(alloc, count as usize)?;
+    walk(look, frame, home, &mut keys, steps);
+    keys.sort_unstable();
+    Ok(keys)
+}

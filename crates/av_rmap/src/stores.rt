@@ -1,0 +1,61 @@
+// The stores of a memory system, as a walk reads them.
+ghost use Rattle.std.specs.Prelude.{◌≡◌, ◌<◌};
+ghost use Rattle.av_interval.specs.Search.{overlap_of};
+ghost use Rattle.av_interval.specs.Spans.{triples};
+ghost use Rattle.av_rmap.specs.Stores.{view_of};
+
+use crate::look::Look;
+use crate::steps::Steps;
+use av_anon::Anons;
+use av_base::PAGE_SIZE;
+use av_interval::Spans;
+use av_interval::nodes::Nodes;
+use av_interval::steps::Steps as Visits;
+use av_pagetable::{PageTable, Pte, Tables};
+use av_vma::Areas;
+use std::marker::Brand;
+use std::sync::ledger::{Blank, Ledger};
+
+/// Areas, anon_vmas with their links and spans, and page tables, lent for reading.
+pub struct Stores<'a> {
+    pub areas: &'a Areas,
+    pub anons: &'a Anons,
+    pub tables: &'a Tables<PageTable>,
+}
+
+impl<'a> Look for Stores<'a> {
+    ghost view = { view_of };
+
+    fn next(&self, anon: u64, index: u64, after: Option<(u64, u64)>) -> Option<(u64, u64)> {
+        let spans = self.anons.spans();
+        let _ = spans.root(anon);
+        overlap::<Brand>(spans, anon, index, after, Blank::new(1))
+    }
+
+    fn place(&self, area: u64, index: u64) -> (u16, u64) {
+        let area = self.areas.get(area);
+        (area.pid, area.start / PAGE_SIZE + (index - area.pgoff))
+    }
+
+    fn look<L: Ledger>(&self, process: u16, page: u64, steps: &mut Steps<L>) -> Pte {
+        steps.tick();
+        self.tables.get(process, page)
+    }
+}
+
+/// `Spans::overlap`, whose visits nobody counts.
+fn overlap<L: Ledger>(
+    spans: &Spans,
+    anon: u64,
+    index: u64,
+    after: Option<(u64, u64)>,
+    blank: Blank,
+) -> Option<(u64, u64)>
+    requires name { blank.name ≡ L.name }
+    requires parts { blank.parts ≡ L.parts }
+    requires some { 0 < blank.parts }
+    ensures { result ≡ overlap_of after index (triples spans.now anon) }
+{
+    let mut visits = Visits::<L>::open(blank);
+    spans.overlap(anon, index, after, &mut visits)
+}
