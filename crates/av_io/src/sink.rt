@@ -98,7 +98,14 @@ impl Sink for MemSink {
         Ok(piece.len())
     }
 
-    fn flush(&mut self) -> Result<(), Failed> {
+    /// Beside what the trait says: a flush is none of the calls that may fail.
+    fn flush(&mut self) -> Result<(), Failed>
+        ensures ok { OnOk result (HandsOn (⟦<MemSink as Sink>⟧.view self.old)
+            (⟦<MemSink as Sink>⟧.view self.new)) }
+        ensures err { OnErr result (KeepsBack (⟦<MemSink as Sink>⟧.view self.old)
+            (⟦<MemSink as Sink>⟧.view self.new)) }
+        ensures calls { self.new.faults ≡ self.old.faults }
+    {
         self.flushes = self.flushes.saturating_add(1);
         Ok(())
     }
