@@ -63,7 +63,7 @@ abbrev pub StopsReading : RunErr → List ℕ → Streams → Streams → Type 0
 StopsReading errors.BadLine ahead old new = IsTooLong ahead
 StopsReading error ahead old new = IsLine ahead × IsUnread error old new
 
--- so is it, unless there was a fault or want of memory
+-- this holds where no fault and no want of memory was the end
 abbrev pub UnlessFailed : {A : Type 0} → Result A RunErr → Type 0 → Type 0
 UnlessFailed (Ok x) IsSo = IsSo
 UnlessFailed (Err errors.BadLine) IsSo = IsSo

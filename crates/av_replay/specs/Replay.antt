@@ -87,7 +87,7 @@ pub record IsAtStart (kernel : Machine) (device : Device) : Type 0 where
 
 -- ---- where a run ends
 
--- a run that ends otherwise than by a fault or want of memory met no fault
+-- this holds of a run that no fault and no want of memory ended
 abbrev pub UnlessFault : Status → Type 0 → Type 0
 UnlessFault statuses.Done IsSo = IsSo
 UnlessFault statuses.Usage IsSo = IsSo
