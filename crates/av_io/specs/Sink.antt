@@ -22,7 +22,7 @@ pub record Takes (old new : SinkView) (n : ℕ) (piece : List ℕ) : Type 0 wher
   pub some : 0 < length piece → 0 < n
   pub bytes : Gained old.held new.held (take n piece)
   pub flushes : new.flushes ≡ old.flushes
-  pub never_falls : old.faults ≤ new.faults
+  pub unfailed : new.faults ≡ old.faults
 
 -- a write added nothing: the sink failed, and that was counted, or memory ran out
 pub record TakesNothing (old new : SinkView) (error : SinkErr) : Type 0 where
@@ -37,7 +37,7 @@ pub record HandsOn (old new : SinkView) : Type 0 where
   pub all : new.kept_back ≡ []
   pub flushes : new.flushes ≡ one_more old.flushes
   pub rises : old.flushes ≤ new.flushes
-  pub never_falls : old.faults ≤ new.faults
+  pub unfailed : new.faults ≡ old.faults
 
 -- a flush failed, and that was counted. A sink that tells what it holds doesn't fail so.
 pub record KeepsBack (old new : SinkView) : Type 0 where

@@ -31,7 +31,7 @@ pub record Gives (old new : SourceView) (n : ℕ) (into : List ℕ) : Type 0 whe
   pub told : 0 < length into → new.has_told_end ≡ (n == 0)
   pub no_room : length into ≡ 0 → new.has_told_end ≡ old.has_told_end
   pub reads : new.reads ≡ one_more old.reads
-  pub never_falls : old.faults ≤ new.faults
+  pub unfailed : new.faults ≡ old.faults
 
 -- a read took nothing, and that was counted
 pub record GivesNothing (old new : SourceView) : Type 0 where

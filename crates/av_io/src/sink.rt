@@ -1,7 +1,8 @@
 //! Sinks for bytes.
 
 ghost use Rattle.std.specs.Prelude.{◌≡◌, [], Some, None, length, IfOk, IfErr, OnOk, OnErr};
-ghost use Rattle.std.specs.Io.Buffered.{writer_buffer};
+ghost use Rattle.std.specs.Io.Buffered.{writer_buffer, writer_contents, writer_inner};
+ghost use Rattle.std.specs.Io.KnownBytes.{Keeps, WriteAppends};
 ghost use Rattle.std.specs.IoError.{error_kind};
 ghost use Rattle.av_io.specs.Faults.{IsFresh, IsNextCall};
 ghost use Rattle.av_io.specs.Sink.{SinkView, Takes, TakesNothing, HandsOn, KeepsBack, is_fault};
@@ -97,14 +98,21 @@ impl Sink for MemSink {
         Ok(piece.len())
     }
 
-    fn flush(&mut self) -> Result<(), Failed> {
+    /// Beside what the trait says: a flush is none of the calls that may fail.
+    fn flush(&mut self) -> Result<(), Failed>
+        ensures ok { OnOk result (HandsOn (⟦<MemSink as Sink>⟧.view self.old)
+            (⟦<MemSink as Sink>⟧.view self.new)) }
+        ensures err { OnErr result (KeepsBack (⟦<MemSink as Sink>⟧.view self.old)
+            (⟦<MemSink as Sink>⟧.view self.new)) }
+        ensures calls { self.new.faults ≡ self.old.faults }
+    {
         self.flushes = self.flushes.saturating_add(1);
         Ok(())
     }
 }
 
-/// A sink over a writer. It keeps bytes back until there are many, or until it is flushed. What
-/// passes through it is not told.
+/// A sink over a writer. It keeps bytes back until there are many, or until it is flushed. What it
+/// holds is not told.
 #[derive(Drop)]
 pub struct WriteSink<W: Write + Drop> {
     writer: BufWriter<W>,
@@ -121,6 +129,7 @@ impl<W: Write + Drop> WriteSink<W> {
           flushes = 0;
           faults = 0;
         }) }
+        ensures writer { IfOk result (λ s. writer_inner s.writer ≡ writer) }
         ensures err { IfErr result (λ e. error_kind e ≡ ErrorKind.OutOfMemory) }
     {
         Ok(WriteSink {
@@ -139,7 +148,16 @@ impl<W: Write + Drop> Sink for WriteSink<W> {
       faults = s.faults;
     } };
 
-    fn write(&mut self, piece: &[u8]) -> Result<usize, SinkErr> {
+    /// Beside what the trait says: what the writer holds and what is kept back for it gain what is
+    /// taken, where they are known, and nothing else.
+    fn write(&mut self, piece: &[u8]) -> Result<usize, SinkErr>
+        ensures ok { IfOk result (λ n. Takes (⟦<WriteSink<W> as Sink>⟧.view self.old)
+            (⟦<WriteSink<W> as Sink>⟧.view self.new) n piece.now) }
+        ensures err { IfErr result (λ e. TakesNothing (⟦<WriteSink<W> as Sink>⟧.view self.old)
+            (⟦<WriteSink<W> as Sink>⟧.view self.new) e) }
+        ensures bytes { WriteAppends (writer_contents W.contents self.old.writer)
+            (writer_contents W.contents self.new.writer) result piece.now }
+    {
         match self.writer.write(piece) {
             Ok(count) if count > 0 || piece.is_empty() => Ok(count),
             _ => {
@@ -149,7 +167,15 @@ impl<W: Write + Drop> Sink for WriteSink<W> {
         }
     }
 
-    fn flush(&mut self) -> Result<(), Failed> {
+    /// Beside what the trait says: nothing is lost or added on the way to the writer.
+    fn flush(&mut self) -> Result<(), Failed>
+        ensures ok { OnOk result (HandsOn (⟦<WriteSink<W> as Sink>⟧.view self.old)
+            (⟦<WriteSink<W> as Sink>⟧.view self.new)) }
+        ensures err { OnErr result (KeepsBack (⟦<WriteSink<W> as Sink>⟧.view self.old)
+            (⟦<WriteSink<W> as Sink>⟧.view self.new)) }
+        ensures bytes { Keeps (writer_contents W.contents self.old.writer)
+            (writer_contents W.contents self.new.writer) }
+    {
         if self.writer.flush().is_err() {
             self.faults = self.faults.saturating_add(1);
             return Err(Failed);

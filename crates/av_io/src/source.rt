@@ -1,6 +1,7 @@
 //! Sources of bytes.
 
 ghost use Rattle.std.specs.Prelude.{Bool, false, ◌≡◌, ◌-◌, ◌≤◌, Some, None, length, drop, min, IfOk, OnErr, is_err};
+ghost use Rattle.std.specs.Io.KnownBytes.{ReadConsumes};
 ghost use Rattle.av_io.specs.Source.{SourceView, Gives, GivesNothing};
 
 use crate::faults::{Failed, Faults};
@@ -85,8 +86,7 @@ impl Source for MemSource {
     }
 }
 
-/// A source over a reader, each of whose reads is one of the reader. What passes through it is not
-/// told.
+/// A source over a reader, each of whose reads is one of the reader. What is left of it is not told.
 #[derive(Drop)]
 pub struct ReadSource<R: Read + Drop> {
     reader: R,
@@ -98,12 +98,13 @@ pub struct ReadSource<R: Read + Drop> {
 impl<R: Read + Drop> ReadSource<R> {
     /// A source over this reader, which was not read yet.
     pub fn new(reader: R) -> ReadSource<R>
-        ensures { ⟦<ReadSource<R> as Source>⟧.view result ≡ record {
+        ensures view { ⟦<ReadSource<R> as Source>⟧.view result ≡ record {
           left = None;
           has_told_end = false;
           reads = 0;
           faults = 0;
         } }
+        ensures reader { result.reader ≡ reader }
     {
         ReadSource {
             reader,
@@ -122,7 +123,16 @@ impl<R: Read + Drop> Source for ReadSource<R> {
       faults = s.faults;
     } };
 
-    fn read(&mut self, into: &mut [u8]) -> Result<usize, Failed> {
+    /// Beside what the trait says: what is given are the next bytes of the reader, where those are
+    /// known, and it loses no others.
+    fn read(&mut self, into: &mut [u8]) -> Result<usize, Failed>
+        ensures ok { IfOk result (λ n. Gives (⟦<ReadSource<R> as Source>⟧.view self.old)
+            (⟦<ReadSource<R> as Source>⟧.view self.new) n into.new) }
+        ensures err { OnErr result (GivesNothing (⟦<ReadSource<R> as Source>⟧.view self.old)
+            (⟦<ReadSource<R> as Source>⟧.view self.new)) }
+        ensures bytes { ReadConsumes (R.remaining self.old.reader) (R.remaining self.new.reader)
+            result into.new }
+    {
         self.reads = self.reads.saturating_add(1);
         let Ok(given) = self.reader.read(into) else {
             self.faults = self.faults.saturating_add(1);

@@ -16,11 +16,11 @@ use Rattle.av_replay.specs.declared.status.Status.{Status}
 use Rattle.av_replay.specs.declared.status.Status.TheVariants as statuses
 use Rattle.av_replay.specs.declared.status.RunErr.{RunErr}
 use Rattle.av_replay.specs.declared.status.RunErr.TheVariants as errors
-use Rattle.av_replay.specs.Streams.{Streams, undone, room, IsLater, ReadsOn, IsAtEnd}
+use Rattle.av_replay.specs.Streams.{Streams, undone, IsLater, ReadsOn, IsAtEnd}
 use Rattle.av_replay.specs.Line.{IsLine}
 use Rattle.av_replay.specs.Turn.{texts, Commands, IsBad, IsEnding, TakesLine, Waits, CutsShort, IsUnflushed, Halts, DoesNext, FindsEnd, Finished}
-use Rattle.av_replay.specs.Replay.{most_lines, joined, Transcribes, Run, done_lines, Replays, IsLeft, StopsAt, MayGoOn, IsCutOff, IsKeptBack, Ends, status_at, Headline}
-use Rattle.av_replay.proofs.Bytes.{Took-then, Took-none, Took-ahead, Gained-none, take-add, Rose-earlier, Rose-later, rose_none}
+use Rattle.av_replay.specs.Replay.{most_lines, joined, Transcribes, Run, done_lines, Replays, IsLeft, StopsAt, MayGoOn, IsCutOff, Ends, status_at, Headline}
+use Rattle.av_replay.proofs.Bytes.{Took-none, Took-ahead, Gained-none, take-add, Rose-earlier, Rose-later, rose_none}
 use Rattle.av_replay.proofs.Times.{later_same, later_then}
 use Rattle.av_replay.proofs.Runs.{Past, whole, SoFar, longer, next_answers, read_more, wrote_more, later_more, faults_more, legal_more, kernel_more, texts_more, all_push, Transcribes-push, joined-push}
 

@@ -1,7 +1,7 @@
 -- Sources and sinks from one time to the next.
 use Rattle.std.proofs.Common.{◌≡◌, ℕ, ◌≤◌, List, length, refl, ◌∙◌, arith}
 use Rattle.av_io.specs.Sink.{SinkView}
-use Rattle.av_plain.specs.Device.{Device, IsSameDevice, headers_of, setting_of}
+use Rattle.av_plain.specs.Device.{Device, IsSameDevice, setting_of}
 use Rattle.av_replay.specs.Streams.{Streams, room, IsLater, ReadsOn, Writes}
 
 -- ---- a device

@@ -1,5 +1,5 @@
 -- A trace of good lines is done, or memory runs out.
-use Rattle.std.proofs.Common.{eqb, ◌≡◌, ◌≢◌, ℕ, ◌^◌, ◌<◌, ◌≤◌, List, [], ◌∷◌, ◌++◌, length, take, drop, Option, Some, None, length-take-le, refl, sym, ap, subst, ◌∙◌, append_assoc, append-nil, arith, inl, inr, length-append}
+use Rattle.std.proofs.Common.{eqb, ◌≡◌, ◌≢◌, ℕ, ◌<◌, ◌≤◌, List, [], ◌∷◌, ◌++◌, length, take, drop, Option, Some, None, length-take-le, refl, sym, ap, subst, ◌∙◌, append_assoc, append-nil, arith, inl, inr, length-append}
 use Rattle.std.specs.Prelude.{All, unwrap_or}
 use Rattle.std.specs.List.{AllByRecursion}
 use Rattle.std.proofs.lemmas.Bool.{cond-true, cond-false, ne_eqb, cases_eq, eq-eqb}
@@ -14,7 +14,7 @@ use Rattle.av_replay.specs.Line.{IsLine, IsNoNewline, HasNoNewline}
 use Rattle.av_replay.specs.Turn.{IsBad}
 use Rattle.av_replay.specs.Streams.{Streams}
 use Rattle.av_replay.specs.Replay.{most_lines, joined, Headline}
-use Rattle.av_replay.specs.Trace.{onto_first, lines_of, IsGood, IsTrace, IsDoneOrMemory, IsComplete}
+use Rattle.av_replay.specs.Trace.{onto_first, lines_of, IsGood, IsComplete}
 
 lines_of-other : (b : ℕ) (bytes : List ℕ) → b ≢ 10 → lines_of (b ∷ bytes) ≡ onto_first b (lines_of bytes)
 lines_of-other b bytes ne = cond-false _ _ _ (ne_eqb b 10 ne)

@@ -1,17 +1,16 @@
 -- A line that a turn takes, and why a turn halts.
-use Rattle.std.proofs.Common.{◌≡◌, ◌≢◌, ℕ, ◌+◌, ◌<◌, ◌≤◌, List, [], ◌∷◌, ◌++◌, ◌⊎◌, length, take, drop, Option, refl, sym, ap, subst, ◌∙◌, append_assoc, append-nil, arith, inl, inr, length-drop}
+use Rattle.std.proofs.Common.{◌≡◌, ℕ, ◌+◌, ◌<◌, List, [], ◌∷◌, ◌++◌, length, take, drop, Option, refl, sym, ap, subst, ◌∙◌, append_assoc, append-nil, arith, inl, inr, length-drop}
 use Rattle.std.specs.Prelude.{option_map}
 use Rattle.std.proofs.lemmas.List.{take_all, drop_all}
 use Rattle.av_kernel.specs.Machine.{Machine}
-use Rattle.av_io.specs.Count.{Rose}
-use Rattle.av_io.specs.Source.{in_front, Took}
-use Rattle.av_io.specs.Sink.{SinkView, Gained}
+use Rattle.av_io.specs.Source.{in_front}
+use Rattle.av_io.specs.Sink.{SinkView}
 use Rattle.av_replay.specs.declared.line.Line.{Line}
 use Rattle.av_replay.specs.declared.status.RunErr.{RunErr}
 use Rattle.av_replay.specs.declared.status.RunErr.TheVariants as errors
-use Rattle.av_replay.specs.Streams.{Streams, undone, room, IsLater, ReadsOn, IsAtEnd, Writes}
+use Rattle.av_replay.specs.Streams.{Streams, ReadsOn, IsAtEnd, Writes}
 use Rattle.av_replay.specs.Line.{IsLine, HasLine, IsNext, StopsReading}
-use Rattle.av_replay.specs.Turn.{DoesLine, SaysNothing, IsCut, IsNotAnswered, StandsNext, IsBad, IsEnding, TakesLine, Waits, CutsShort, Halts, DoesNext}
+use Rattle.av_replay.specs.Turn.{DoesLine, IsCut, IsNotAnswered, StandsNext, IsEnding, TakesLine, CutsShort, Halts, DoesNext}
 use Rattle.av_replay.proofs.Bytes.{in_front-then, Rose-earlier}
 use Rattle.av_replay.proofs.Times.{later_writes}
 

@@ -7,7 +7,7 @@ use Rattle.av_replay.specs.declared.line.Found.TheVariants as founds
 use Rattle.av_replay.specs.declared.line.Line.{Line}
 use Rattle.av_replay.specs.declared.status.RunErr.{RunErr}
 use Rattle.av_replay.specs.declared.status.RunErr.TheVariants as errors
-use Rattle.av_replay.specs.Streams.{Streams, ReadsOn, IsAtEnd}
+use Rattle.av_replay.specs.Streams.{Streams, IsAtEnd}
 
 -- a line has at most so many bytes
 abbrev pub longest : ℕ
@@ -62,6 +62,14 @@ IsUnread errors.Memory old new = ⊥
 abbrev pub StopsReading : RunErr → List ℕ → Streams → Streams → Type 0
 StopsReading errors.BadLine ahead old new = IsTooLong ahead
 StopsReading error ahead old new = IsLine ahead × IsUnread error old new
+
+-- this holds where no fault and no want of memory was the end
+abbrev pub UnlessFailed : {A : Type 0} → Result A RunErr → Type 0 → Type 0
+UnlessFailed (Ok x) IsSo = IsSo
+UnlessFailed (Err errors.BadLine) IsSo = IsSo
+UnlessFailed (Err errors.Read) IsSo = Unit {0}
+UnlessFailed (Err errors.Write) IsSo = Unit {0}
+UnlessFailed (Err errors.Memory) IsSo = Unit {0}
 
 -- how the reading of a line ended, or of none at the end of the input
 abbrev pub LineRead : Result (Option Line) RunErr → List ℕ → Streams → Streams → Type 0

@@ -87,6 +87,16 @@ pub record IsAtStart (kernel : Machine) (device : Device) : Type 0 where
 
 -- ---- where a run ends
 
+-- this holds of a run that no fault and no want of memory ended
+abbrev pub UnlessFault : Status → Type 0 → Type 0
+UnlessFault statuses.Done IsSo = IsSo
+UnlessFault statuses.Usage IsSo = IsSo
+UnlessFault (statuses.BadLine n) IsSo = IsSo
+UnlessFault statuses.TooMany IsSo = IsSo
+UnlessFault statuses.ReadFault IsSo = Unit {0}
+UnlessFault statuses.WriteFault IsSo = Unit {0}
+UnlessFault statuses.Memory IsSo = Unit {0}
+
 -- the status where a line of this number could not be done
 abbrev pub status_at : RunErr → ℕ → Status
 status_at errors.BadLine number = statuses.BadLine number

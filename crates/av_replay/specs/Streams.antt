@@ -38,6 +38,11 @@ pub record ReadsOn (ahead ahead' : List ℕ) (old new : Streams) : Type 0 where
   pub near : length ahead' ≤ room
   pub later : IsLater old new
 
+-- from one time to a later one neither the source nor the sink failed
+pub record AreUnfailed (old new : Streams) : Type 0 where
+  pub source : new.source.faults ≡ old.source.faults
+  pub sink : new.sink.faults ≡ old.sink.faults
+
 -- the input has ended, and the source told so
 pub record IsAtEnd (source : SourceView) : Type 0 where
   pub ended : HasEnded source.left

@@ -12,7 +12,7 @@ use Rattle.av_kernel.specs.Tally.{counted}
 use Rattle.av_kernel.specs.declared.tally.Tally.{Tally}
 use Rattle.av_plain.specs.Device.{Device, setting_of}
 use Rattle.av_io.specs.Count.{Rose, RoseBy}
-use Rattle.av_io.specs.Source.{SourceView, in_front, Took, HasEnded}
+use Rattle.av_io.specs.Source.{SourceView, Took, HasEnded}
 use Rattle.av_io.specs.Sink.{SinkView, Gained}
 use Rattle.av_replay.specs.declared.status.RunErr.{RunErr}
 use Rattle.av_replay.specs.declared.status.RunErr.TheVariants as errors

@@ -1,8 +1,8 @@
 //! Reading a line.
 
 ghost use Rattle.std.specs.Prelude.{◌≡◌, ◌+◌, ◌<◌, ◌≤◌, length, IfOk, IfErr, IfSome, IfNone};
-ghost use Rattle.av_replay.specs.Streams.{streams, ReadsOn, IsAtEnd};
-ghost use Rattle.av_replay.specs.Line.{longest, Finds, LineRead, IsUnread};
+ghost use Rattle.av_replay.specs.Streams.{streams, ReadsOn, IsAtEnd, AreUnfailed};
+ghost use Rattle.av_replay.specs.Line.{longest, Finds, LineRead, IsUnread, UnlessFailed};
 
 use crate::pending::Pending;
 use crate::status::RunErr;
@@ -55,6 +55,9 @@ pub fn read_on<S: Source, K: Sink>(
     ensures more { IfOk result (λ n. length pending.new ≡ length pending.old + n) }
     ensures ended { IfOk result
         (λ n. n ≡ 0 → (pending.new ≡ pending.old) × IsAtEnd (S.view source.new)) }
+    ensures unfailed { UnlessFailed result (AreUnfailed
+        (streams (S.view source.old) (K.view sink.old))
+        (streams (S.view source.new) (K.view sink.new))) }
     ensures err { IfErr result (λ e. (pending.new ≡ pending.old)
         × IsUnread e (streams (S.view source.old) (K.view sink.old))
         (streams (S.view source.new) (K.view sink.new))) }
@@ -79,6 +82,9 @@ pub fn read_line<S: Source, K: Sink>(
         (streams (S.view source.new) (K.view sink.new)) }
     ensures line { LineRead result pending.new (streams (S.view source.old) (K.view sink.old))
         (streams (S.view source.new) (K.view sink.new)) }
+    ensures unfailed { UnlessFailed result (AreUnfailed
+        (streams (S.view source.old) (K.view sink.old))
+        (streams (S.view source.new) (K.view sink.new))) }
 {
     loop {
         match find_line(pending.as_slice()) {

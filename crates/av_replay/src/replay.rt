@@ -2,9 +2,10 @@
 
 ghost use Rattle.std.specs.Prelude.{◌≡◌, ◌≢◌, [], Some};
 ghost use Rattle.av_plain.specs.Device.{no_device};
-ghost use Rattle.av_replay.specs.Streams.{streams, ReadsOn};
+ghost use Rattle.av_replay.specs.Streams.{streams, ReadsOn, AreUnfailed};
+ghost use Rattle.av_replay.specs.Line.{UnlessFailed};
 ghost use Rattle.av_replay.specs.Turn.{Finished};
-ghost use Rattle.av_replay.specs.Replay.{Headline, IsAtStart, status_at};
+ghost use Rattle.av_replay.specs.Replay.{Headline, IsAtStart, status_at, UnlessFault};
 
 use crate::line::read_on;
 use crate::pending::Pending;
@@ -28,6 +29,9 @@ fn has_more<S: Source, K: Sink>(
         (streams (S.view source.new) (K.view sink.new)) }
     ensures finished { Finished result pending.new (streams (S.view source.old) (K.view sink.old))
         (streams (S.view source.new) (K.view sink.new)) }
+    ensures unfailed { UnlessFailed result (AreUnfailed
+        (streams (S.view source.old) (K.view sink.old))
+        (streams (S.view source.new) (K.view sink.new))) }
 {
     if !pending.as_slice().is_empty() {
         return Ok(true);
@@ -58,8 +62,12 @@ fn do_lines<S: Source, K: Sink>(
 ) -> Status
     requires start { IsAtStart kernel.old no_device }
     requires pending { pending.old ≡ [] }
-    ensures { Headline kernel.old.frames result (streams (S.view source.old) (K.view sink.old))
+    ensures headline { Headline kernel.old.frames result
+        (streams (S.view source.old) (K.view sink.old))
         (streams (S.view source.new) (K.view sink.new)) (Some kernel.new) }
+    ensures unfailed { UnlessFault result (AreUnfailed
+        (streams (S.view source.old) (K.view sink.old))
+        (streams (S.view source.new) (K.view sink.new))) }
 {
     let mut text = Bytes::new(alloc);
     for number in 0..MOST_LINES {
@@ -89,6 +97,9 @@ pub fn replay<S: Source, K: Sink>(
     ensures headline { Headline kernel.old.frames result
         (streams (S.view source.old) (K.view sink.old))
         (streams (S.view source.new) (K.view sink.new)) (Some kernel.new) }
+    ensures unfailed { UnlessFault result (AreUnfailed
+        (streams (S.view source.old) (K.view sink.old))
+        (streams (S.view source.new) (K.view sink.new))) }
     ensures handed_on { result ≢ Status.Memory → result ≢ Status.WriteFault
         → (K.view sink.new).kept_back ≡ [] }
 {

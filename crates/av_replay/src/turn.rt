@@ -1,8 +1,9 @@
 //! One turn of the loop over the lines: a line is read and done, and its text written.
 
-ghost use Rattle.std.specs.Prelude.{◌<◌, ◌^◌, OnOk, IfErr};
+ghost use Rattle.std.specs.Prelude.{◌≡◌, ◌<◌, ◌^◌, OnOk, IfErr};
 ghost use Rattle.av_plain.specs.Device.{no_device};
-ghost use Rattle.av_replay.specs.Streams.{streams, Writes};
+ghost use Rattle.av_replay.specs.Streams.{streams, Writes, AreUnfailed};
+ghost use Rattle.av_replay.specs.Line.{UnlessFailed};
 ghost use Rattle.av_replay.specs.Turn.{DoesLine, IsNotDone, IsNotAnswered, Turned};
 
 use crate::line::read_line;
@@ -52,6 +53,7 @@ pub fn answer_line<K: Sink>(
     ensures does { OnOk result (DoesLine line.now no_device no_device kernel.old kernel.new
         text.new) }
     ensures writes { OnOk result (Writes (K.view sink.old) (K.view sink.new) text.new) }
+    ensures unfailed { UnlessFailed result ((K.view sink.new).faults ≡ (K.view sink.old).faults) }
     ensures err { IfErr result (λ e. IsNotAnswered e line.now no_device no_device
         kernel.old kernel.new (K.view sink.old) (K.view sink.new)) }
 {
@@ -73,10 +75,13 @@ pub fn next_line<S: Source, K: Sink>(
     text: &mut Bytes,
 ) -> Result<bool, RunErr>
     requires { kernel.old.steps < 2 ^ 24 }
-    ensures { Turned result pending.old pending.new
+    ensures turned { Turned result pending.old pending.new
         (streams (S.view source.old) (K.view sink.old))
         (streams (S.view source.new) (K.view sink.new))
         kernel.old kernel.new }
+    ensures unfailed { UnlessFailed result (AreUnfailed
+        (streams (S.view source.old) (K.view sink.old))
+        (streams (S.view source.new) (K.view sink.new))) }
 {
     let Some(line) = read_line(source, sink, pending)? else {
         return Ok(false);

@@ -8,41 +8,45 @@ use Rattle.av_replay.proofs.replay.do_lines.Goals as goal
 pub loop-number-init : goal.loop-number-init
 loop-number-init g c = record {
   so_far = (no_past (setting_of c.args.kernel.now.frames no_device), starts c.args.pending.now (streams (g.S.Source.view c.args.source.now) (g.K.Sink.view c.args.sink.now)) c.args.kernel.now c.requires.pending c.requires.start, refl);
+  unfailed = record { source = refl; sink = refl };
   steps = omega (arith, c.requires.start.steps);
 }
 
 pub loop-number-preserved : goal.loop-number-preserved
 loop-number-preserved g c =
     let s = c.loop-number.invariant.so_far in
-    let t = rw c.in-Ok-true.field-0-test at c.in-Ok-true.ensures in
+    let t = rw c.in-Ok-true.field-0-test at c.in-Ok-true.ensures.turned in
     let a = next_answers _ _ _ _ _ _ _ _ _ _ _ _ _ s.1 t.takes in
+    let now = c.in-Ok-true.ensures.unfailed in
+    let was = c.loop-number.invariant.unfailed in
     record {
       so_far = (longer s.0 t.line a.did a.next, goes_on _ _ _ _ _ _ _ _ _ _ _ s.1 t.takes, length-append s.0.lines (t.line ∷ []) ∙ ap (λ n. n + 1) s.2);
+      unfailed = record { source = now.source ∙ was.source; sink = now.sink ∙ was.sink };
       steps = omega (arith, c.loop-number.invariant.steps, t.takes.does.steps);
     }
 
-pub returns-in-Ok-false : goal.returns-in-Ok-false
-returns-in-Ok-false g c =
+pub returns-in-Ok-false-clause-headline : goal.returns-in-Ok-false-clause-headline
+returns-in-Ok-false-clause-headline g c =
     let s = c.loop-number.invariant.so_far in
-    done _ _ _ _ _ _ _ _ _ s.1 (omega (arith, s.2)) (rw c.in-Ok-false.field-0-test at c.in-Ok-false.ensures)
+    done _ _ _ _ _ _ _ _ _ s.1 (omega (arith, s.2)) (rw c.in-Ok-false.field-0-test at c.in-Ok-false.ensures.turned)
 
-pub returns-in-Err : goal.returns-in-Err
-returns-in-Err g c =
+pub returns-in-Err-clause-headline : goal.returns-in-Err-clause-headline
+returns-in-Err-clause-headline g c =
     let s = c.loop-number.invariant.so_far in
-    rw c.status_of.ensures (halts _ _ _ _ _ _ _ _ _ c.in-Err.error (c.loop-number.number + 1) s.1 (omega (arith, s.2)) (omega arith) c.in-Err.ensures)
+    rw c.status_of.ensures (halts _ _ _ _ _ _ _ _ _ c.in-Err.error (c.loop-number.number + 1) s.1 (omega (arith, s.2)) (omega arith) c.in-Err.ensures.turned)
 
-pub returns-in-Ok-true-has_more : goal.returns-in-Ok-true-has_more
-returns-in-Ok-true-has_more g c =
+pub returns-in-Ok-true-has_more-clause-headline : goal.returns-in-Ok-true-has_more-clause-headline
+returns-in-Ok-true-has_more-clause-headline g c =
     let s = c.loop-number.invariant.so_far in
     too_many _ _ _ _ _ _ _ _ s.1 (omega (arith, s.2)) c.in-Ok-true-has_more.ensures.reads (rw c.in-Ok-true-has_more.field-0-test at c.in-Ok-true-has_more.ensures.finished)
 
-pub returns-in-Ok-false-has_more : goal.returns-in-Ok-false-has_more
-returns-in-Ok-false-has_more g c =
+pub returns-in-Ok-false-has_more-clause-headline : goal.returns-in-Ok-false-has_more-clause-headline
+returns-in-Ok-false-has_more-clause-headline g c =
     let s = c.loop-number.invariant.so_far in
     let end = rw c.in-Ok-false-has_more.field-0-test at c.in-Ok-false-has_more.ensures.finished in
     ends_there _ _ _ _ _ _ _ _ s.1 (omega (arith, s.2)) c.in-Ok-false-has_more.ensures.reads end.0 end.1
 
-pub returns : goal.returns
-returns g c =
+pub returns-clause-headline : goal.returns-clause-headline
+returns-clause-headline g c =
     let s = c.loop-number.invariant.so_far in
     rw c.status_of-in-Err-has_more.ensures (unfinished _ _ _ _ _ _ _ _ c.in-Err-has_more.error _ s.1 (omega (arith, s.2)) c.in-Err-has_more.ensures.reads c.in-Err-has_more.ensures.finished)

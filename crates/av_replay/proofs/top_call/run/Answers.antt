@@ -23,5 +23,6 @@ returns-in_default-replay g c =
       no_kernel = λ e. absurd (never e);
       spent = λ e. absurd (c.in_default-replay.not-Memory e);
       complete = λ n form. complete _ _ _ _ _ h;
+      unfailed = c.replay.ensures.unfailed;
       handed_on = λ no_usage no_memory no_write. c.replay.ensures.handed_on no_memory no_write;
     }

@@ -3,8 +3,8 @@ use Rattle.av_replay.specs.Streams.{streams}
 use Rattle.av_replay.proofs.Turns.{halts}
 use Rattle.av_replay.proofs.turn.next_line.Goals as goal
 
-pub returns-in_err-answer_line : goal.returns-in_err-answer_line
-returns-in_err-answer_line g c =
+pub returns-in_err-answer_line-clause-turned : goal.returns-in_err-answer_line-clause-turned
+returns-in_err-answer_line-clause-turned g c =
     let p = err_from_is_err_and c.from_residual-in_err-answer_line.result c.from_residual-in_err-answer_line.ensures.1 in
     let old = streams (g.S.Source.view c.args.source.now) (g.K.Sink.view c.args.sink.now) in
     let now = streams (g.S.Source.view c.read_line.new.source) (g.K.Sink.view c.read_line.new.sink) in

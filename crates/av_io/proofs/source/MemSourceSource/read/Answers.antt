@@ -24,5 +24,5 @@ returns-then-not-is_empty-clause-ok c =
       told = λ room. grind (arith, common_steps);
       no_room = λ none. grind (arith, common_steps);
       reads = grind (arith, common_steps);
-      never_falls = grind (arith, common_steps);
+      unfailed = grind (arith, common_steps);
     }
