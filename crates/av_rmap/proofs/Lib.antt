@@ -1,5 +1,6 @@
 mod Counting
 mod Entries
+mod LinkedAreas
 mod Looks
 mod SortedLemmas
 mod SpanLemmas

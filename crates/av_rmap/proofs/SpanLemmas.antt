@@ -53,7 +53,7 @@ are_spans view v s = all-by (IsSpanOf view) (view.spans v) (λ n.
     subst (AreSpans view) (sym (s.spanned.each v n)) (of-present view n s (is_in v (view.chain n))))
 
 -- how many are of an area
-many-filter : (n : ℕ) (xs : List Span) → how_many (is_of n) xs ≡ length (filter (is_of n) xs)
+pub many-filter : (n : ℕ) (xs : List Span) → how_many (is_of n) xs ≡ length (filter (is_of n) xs)
 many-filter n [] = refl
 many-filter n (x ∷ xs) = step (is_of n x) (many-filter n xs)
   where

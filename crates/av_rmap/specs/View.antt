@@ -8,8 +8,8 @@ use Rattle.av_anon.specs.Anons.{Family}
 use Rattle.av_anon.specs.Order.{IsArea}
 use Rattle.av_anon.specs.Spans.{GoWithLinks}
 
--- areas: by number. chain: by area, the anon_vmas that it is linked to. spans: by anon_vma, those of
--- the areas that are linked to it. entry: by process and page
+-- areas: by number. chain: by area, the anon_vmas that it is linked to. spans: by anon_vma, those
+-- of the areas that are linked to it. entry: by process and page
 pub record View : Type 0 where
   pub areas : ℕ → Option Area
   pub chain : ℕ → List ℕ

@@ -41,6 +41,11 @@ holds index area = within area.pgoff (past_of area - first_of area) index
 abbrev pub page_at : ℕ → Area → ℕ
 page_at index area = first_of area + (index - area.pgoff)
 
+-- whether there is an area, and it holds the index
+abbrev pub is_held : ℕ → Option Area → Bool
+is_held index None = false
+is_held index (Some area) = holds index area
+
 -- what one look finds: the area's page with the index, where its entry passes the test
 abbrev pub found_in : View → (Pte → Bool) → ℕ → Option Area → List Key
 found_in view passes index None = []

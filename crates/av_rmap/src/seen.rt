@@ -48,7 +48,8 @@ fn seen_in<K: Look, L: Ledger>(
     steps: &mut Steps<L>,
 ) -> bool
     requires { IsSomeAnd ((K.view look.now).areas area) (λ a. holds index a ≡ true) }
-    ensures seen { result ≡ is_seen_in (K.view look.now) frame index ((K.view look.now).areas area) }
+    ensures seen { result
+        ≡ is_seen_in (K.view look.now) frame index ((K.view look.now).areas area) }
     ensures counted { steps.new ≡ steps.old + 1 }
 {
     let (process, page) = look.place(area, index);
