@@ -1,6 +1,7 @@
 pub mod Anons
 pub mod Fork
 pub mod Infos
+pub mod Kin
 pub mod Order
 pub mod Prepare
 pub mod Resize

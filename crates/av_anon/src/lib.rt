@@ -12,6 +12,7 @@
 mod anons;
 mod fork;
 mod infos;
+pub mod kin;
 mod links;
 pub mod order;
 mod prepare;

@@ -16,7 +16,7 @@ use crate::infos::Infos;
 use crate::links::is_unused;
 use av_chain::Links;
 use av_chain::ring::Ring;
-use av_chain::steps::Steps;
+use av_base::Steps;
 use av_vma::{Area, AreaId, Areas};
 use std::marker::Brand;
 use std::sync::ledger::{Blank, Ledger};
@@ -68,7 +68,7 @@ impl Anons {
             ≡ spans_without (chain_of self.old.links area) (key_of first area)
             (spans_of self.old) v }
     {
-        let mut steps = Steps::<L>::new(blank);
+        let mut steps = Steps::<L>::open(blank);
         while let Some(anon) = self.links.pop(area, &mut steps) {
             self.spans.remove(anon, first, area);
             destroy_unused(&self.links, &mut self.infos, anon);

@@ -7,8 +7,8 @@ use Rattle.av_arena.specs.declared.link.Link.{Link}
 use Rattle.av_arena.specs.declared.link.Stored.{Stored}
 
 -- the node under each number
-abbrev pub stored : {T S : Type 0} → Arena T S → Store T S
-stored a = get a.slab
+abbrev pub store_of : {T S : Type 0} → Arena T S → Store T S
+store_of a = get a.slab
 
 -- a node with another left side
 abbrev pub left_put : {T S : Type 0} → Option (Link S) → Option (Stored T S) → Option (Stored T S)

@@ -1,5 +1,5 @@
 ghost use Rattle.std.specs.Prelude.{◌≡◌, ℕ, Some, None, IfOk, OnErr, IsSome};
-ghost use Rattle.av_arena.specs.Arena.{entry_put, left_put, right_put, stored};
+ghost use Rattle.av_arena.specs.Arena.{entry_put, left_put, right_put, store_of};
 ghost use Rattle.av_base.specs.Words.{with_at};
 
 use crate::link::{Link, Stored};
@@ -15,7 +15,7 @@ pub struct Arena<T, S> {
 impl<T: Copy + Drop, S: Copy + Drop> Arena<T, S> {
     /// No node.
     pub fn new(alloc: Global) -> Arena<T, S>
-        ensures { (number : ℕ) → stored result number ≡ None }
+        ensures { (number : ℕ) → store_of result number ≡ None }
     {
         Arena {
             slab: Slab::new(alloc),
@@ -24,10 +24,10 @@ impl<T: Copy + Drop, S: Copy + Drop> Arena<T, S> {
 
     /// Puts a node under a number that is not in use. Without memory all stays.
     pub fn add(&mut self, node: Stored<T, S>) -> Result<u64, AllocError>
-        ensures unused { IfOk result (λ number. stored self.old number ≡ None) }
+        ensures unused { IfOk result (λ number. store_of self.old number ≡ None) }
         ensures added { IfOk result
-            (λ number. stored self.new ≡ with_at number (Some node) (stored self.old)) }
-        ensures kept { OnErr result (stored self.new ≡ stored self.old) }
+            (λ number. store_of self.new ≡ with_at number (Some node) (store_of self.old)) }
+        ensures kept { OnErr result (store_of self.new ≡ store_of self.old) }
     {
         let key = self.slab.insert(node)?;
         Ok(key as u64)
@@ -36,8 +36,8 @@ impl<T: Copy + Drop, S: Copy + Drop> Arena<T, S> {
     /// The node with a number that is in use.
     #[inline]
     pub fn get(&self, number: u64) -> Stored<T, S>
-        requires { IsSome (stored self.now number) }
-        ensures { stored self.now number ≡ Some result }
+        requires { IsSome (store_of self.now number) }
+        ensures { store_of self.now number ≡ Some result }
     {
         let node = &self.slab[number as usize];
         *node
@@ -46,8 +46,8 @@ impl<T: Copy + Drop, S: Copy + Drop> Arena<T, S> {
     /// The node with a number that is in use, to be read where it lies.
     #[inline(always)]
     pub fn look(&self, number: u64) -> &Stored<T, S>
-        requires { IsSome (stored self.now number) }
-        ensures { stored self.now number ≡ Some result.now }
+        requires { IsSome (store_of self.now number) }
+        ensures { store_of self.now number ≡ Some result.now }
     {
         &self.slab[number as usize]
     }
@@ -55,8 +55,8 @@ impl<T: Copy + Drop, S: Copy + Drop> Arena<T, S> {
     /// Puts a node in place of the one with this number, which is in use.
     #[inline]
     pub fn set(&mut self, number: u64, node: Stored<T, S>)
-        requires { IsSome (stored self.old number) }
-        ensures { stored self.new ≡ with_at number (Some node) (stored self.old) }
+        requires { IsSome (store_of self.old number) }
+        ensures { store_of self.new ≡ with_at number (Some node) (store_of self.old) }
     {
         self.slab[number as usize] = node;
     }
@@ -64,9 +64,9 @@ impl<T: Copy + Drop, S: Copy + Drop> Arena<T, S> {
     /// Puts another entry into the node with this number, which is in use.
     #[inline]
     pub fn set_entry(&mut self, number: u64, entry: T)
-        requires { IsSome (stored self.old number) }
-        ensures { stored self.new ≡ with_at number (entry_put entry (stored self.old number))
-            (stored self.old) }
+        requires { IsSome (store_of self.old number) }
+        ensures { store_of self.new ≡ with_at number (entry_put entry (store_of self.old number))
+            (store_of self.old) }
     {
         let node = &mut self.slab[number as usize];
         node.entry = entry;
@@ -75,9 +75,9 @@ impl<T: Copy + Drop, S: Copy + Drop> Arena<T, S> {
     /// Puts another left side into the node with this number, which is in use.
     #[inline]
     pub fn set_left(&mut self, number: u64, left: Option<Link<S>>)
-        requires { IsSome (stored self.old number) }
-        ensures { stored self.new ≡ with_at number (left_put left (stored self.old number))
-            (stored self.old) }
+        requires { IsSome (store_of self.old number) }
+        ensures { store_of self.new ≡ with_at number (left_put left (store_of self.old number))
+            (store_of self.old) }
     {
         let node = &mut self.slab[number as usize];
         node.left = left;
@@ -86,9 +86,9 @@ impl<T: Copy + Drop, S: Copy + Drop> Arena<T, S> {
     /// Puts another right side into the node with this number, which is in use.
     #[inline]
     pub fn set_right(&mut self, number: u64, right: Option<Link<S>>)
-        requires { IsSome (stored self.old number) }
-        ensures { stored self.new ≡ with_at number (right_put right (stored self.old number))
-            (stored self.old) }
+        requires { IsSome (store_of self.old number) }
+        ensures { store_of self.new ≡ with_at number (right_put right (store_of self.old number))
+            (store_of self.old) }
     {
         let node = &mut self.slab[number as usize];
         node.right = right;
@@ -96,8 +96,8 @@ impl<T: Copy + Drop, S: Copy + Drop> Arena<T, S> {
 
     /// Takes out the node with this number, which is in use until now.
     pub fn free(&mut self, number: u64)
-        requires { IsSome (stored self.old number) }
-        ensures { stored self.new ≡ with_at number None (stored self.old) }
+        requires { IsSome (store_of self.old number) }
+        ensures { store_of self.new ≡ with_at number None (store_of self.old) }
     {
         self.slab.remove(number as usize);
     }

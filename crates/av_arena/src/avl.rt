@@ -6,7 +6,7 @@ ghost use Rattle.av_arena.specs.Monoid.{total};
 use crate::arena::Arena;
 use crate::entry::Entry;
 use crate::link::{Link, Stored};
-use crate::tree::{open, placed, removed, replaced, split, sum};
+use crate::tree::{open, place, remove, replace, split, sum};
 use std::alloc::{AllocError, Global};
 use std::marker::Model;
 
@@ -19,15 +19,15 @@ pub struct Avl<T: Entry> {
 
 impl<T: Entry> Model for Avl<T> {
     ghost use Rattle.std.specs.Prelude.{List};
-    ghost use Rattle.av_arena.specs.Arena.{stored};
+    ghost use Rattle.av_arena.specs.Arena.{store_of};
     ghost use Rattle.av_arena.specs.Avl.{IsAvl};
     ghost use Rattle.av_arena.specs.Tree.{entries_at};
 
     ghost Value = { List T };
 
-    ghost view = { λ a. entries_at (stored a.arena) a.root };
+    ghost view = { λ a. entries_at (store_of a.arena) a.root };
 
-    ghost invariant = { λ a. IsAvl T.key T.unit T.op T.of (stored a.arena) a.root };
+    ghost invariant = { λ a. IsAvl T.key T.unit T.op T.of (store_of a.arena) a.root };
 }
 
 /// A tree or one side of a node, to be read.
@@ -39,15 +39,15 @@ pub struct Part<'a, T: Entry> {
 
 impl<'a, T: Entry> Model for Part<'a, T> {
     ghost use Rattle.std.specs.Prelude.{List};
-    ghost use Rattle.av_arena.specs.Arena.{stored};
+    ghost use Rattle.av_arena.specs.Arena.{store_of};
     ghost use Rattle.av_arena.specs.Avl.{IsPart};
     ghost use Rattle.av_arena.specs.Tree.{entries_at};
 
     ghost Value = { List T };
 
-    ghost view = { λ p. entries_at (stored p.arena.now) p.tree };
+    ghost view = { λ p. entries_at (store_of p.arena.now) p.tree };
 
-    ghost invariant = { λ p. IsPart T.key T.unit T.op T.of (stored p.arena.now) p.tree };
+    ghost invariant = { λ p. IsPart T.key T.unit T.op T.of (store_of p.arena.now) p.tree };
 }
 
 impl<T: Entry> Avl<T> {
@@ -88,7 +88,7 @@ impl<T: Entry> Avl<T> {
             Ok(number) => number,
             Err(error) => return Err(error),
         };
-        let root = placed(&mut self.arena, self.root, number, entry);
+        let root = place(&mut self.arena, self.root, number, entry);
         self.root = Some(root);
         Ok(())
     }
@@ -123,7 +123,7 @@ impl<T: Entry> Avl<T> {
         requires there { IsSome (entry_at T.key (T.key like) self.old) }
         ensures entries { self.new ≡ without_key T.key (T.key like) self.old }
     {
-        let (number, root) = removed(&mut self.arena, self.root, like);
+        let (number, root) = remove(&mut self.arena, self.root, like);
         self.arena.free(number);
         self.root = root;
     }
@@ -136,7 +136,7 @@ impl<T: Entry> Avl<T> {
         ensures entries { self.new ≡ with_entry T.key entry
             (without_key T.key (T.key entry) self.old) }
     {
-        let root = replaced(&mut self.arena, self.root, entry);
+        let root = replace(&mut self.arena, self.root, entry);
         self.root = Some(root);
     }
 }

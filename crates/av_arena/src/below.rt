@@ -3,7 +3,7 @@
 // They go by the numbers of nodes, which are read where they lie, and answer whether the node is
 // another one afterwards: where it is not, nothing above is looked at.
 ghost use Rattle.std.specs.Prelude.{◌≡◌, true, false, IsSome};
-ghost use Rattle.av_arena.specs.Arena.{stored};
+ghost use Rattle.av_arena.specs.Arena.{store_of};
 ghost use Rattle.av_arena.specs.Below.{HasKeyBelow, IsAt, IsHungLeft, IsHungRight, IsLeftSettled, IsLeftTaken, IsLevelAt, IsPlaceBelow, IsPlacedBelow, IsRemovedBelow, IsReplacedBelow, IsRightSettled, IsRightTaken, IsSettled, IsSplitBelow, IsSplitBelowFor, IsTaken, IsTold, IsUnsettled, left_number, right_number};
 
 use crate::arena::Arena;
@@ -14,8 +14,8 @@ use crate::tree::{balance, close, height, is_same, pop_first, sum};
 /// Whether the sides of a node differ by one level at most.
 #[inline(always)]
 fn is_level<T: Entry>(arena: &Arena<T, T::Sum>, number: u64) -> bool
-    requires { IsUnsettled T.key T.unit T.op T.of 2 (stored arena.now) number }
-    ensures { IsLevelAt T.key T.unit T.op T.of (stored arena.now) number result }
+    requires { IsUnsettled T.key T.unit T.op T.of 2 (store_of arena.now) number }
+    ensures { IsLevelAt T.key T.unit T.op T.of (store_of arena.now) number result }
 {
     let node = arena.look(number);
     let (left, right) = (height(node.left), height(node.right));
@@ -25,35 +25,35 @@ fn is_level<T: Entry>(arena: &Arena<T, T::Sum>, number: u64) -> bool
 /// The link of a node.
 #[inline(always)]
 fn told<T: Entry>(arena: &Arena<T, T::Sum>, number: u64) -> Link<T::Sum>
-    requires { IsUnsettled T.key T.unit T.op T.of 2 (stored arena.now) number }
-    ensures { IsTold T.key T.unit T.op T.of (stored arena.now) number result }
+    requires { IsUnsettled T.key T.unit T.op T.of 2 (store_of arena.now) number }
+    ensures { IsTold T.key T.unit T.op T.of (store_of arena.now) number result }
 {
     let node = arena.look(number);
     Link {
         number,
         height: height(node.left).max(height(node.right)) + 1,
-        sum: T::joined(sum::<T>(node.left), &node.entry, sum::<T>(node.right)),
+        sum: T::join_sums(sum::<T>(node.left), &node.entry, sum::<T>(node.right)),
     }
 }
 
 /// What becomes of a node whose sides differ by two levels at most.
 #[inline(never)]
-pub fn settled<T: Entry>(arena: &mut Arena<T, T::Sum>, number: u64) -> Link<T::Sum>
-    requires { IsUnsettled T.key T.unit T.op T.of 2 (stored arena.old) number }
-    ensures { IsSettled T.key T.unit T.op T.of (stored arena.old) (stored arena.new) number result }
+pub fn settle<T: Entry>(arena: &mut Arena<T, T::Sum>, number: u64) -> Link<T::Sum>
+    requires { IsUnsettled T.key T.unit T.op T.of 2 (store_of arena.old) number }
+    ensures { IsSettled T.key T.unit T.op T.of (store_of arena.old) (store_of arena.new) number result }
 {
     if is_level(arena, number) {
         return told(arena, number);
     }
-    turned(arena, number)
+    rotate(arena, number)
 }
 
 /// What becomes of such a node, most likely by a rotation.
 #[cold]
 #[inline(never)]
-fn turned<T: Entry>(arena: &mut Arena<T, T::Sum>, number: u64) -> Link<T::Sum>
-    requires { IsUnsettled T.key T.unit T.op T.of 2 (stored arena.old) number }
-    ensures { IsSettled T.key T.unit T.op T.of (stored arena.old) (stored arena.new) number result }
+fn rotate<T: Entry>(arena: &mut Arena<T, T::Sum>, number: u64) -> Link<T::Sum>
+    requires { IsUnsettled T.key T.unit T.op T.of 2 (store_of arena.old) number }
+    ensures { IsSettled T.key T.unit T.op T.of (store_of arena.old) (store_of arena.new) number result }
 {
     let Stored { left, entry, right } = arena.get(number);
     balance(arena, number, left, entry, right)
@@ -63,12 +63,12 @@ fn turned<T: Entry>(arena: &mut Arena<T, T::Sum>, number: u64) -> Link<T::Sum>
 #[cold]
 #[inline(never)]
 fn left_turned<T: Entry>(arena: &mut Arena<T, T::Sum>, number: u64, side: u64) -> bool
-    requires side { IsUnsettled T.key T.unit T.op T.of 2 (stored arena.old) side }
-    requires used { IsSome (stored arena.old number) }
-    ensures { IsLeftSettled T.key T.unit T.op T.of (stored arena.old) (stored arena.new) number
+    requires side { IsUnsettled T.key T.unit T.op T.of 2 (store_of arena.old) side }
+    requires used { IsSome (store_of arena.old number) }
+    ensures { IsLeftSettled T.key T.unit T.op T.of (store_of arena.old) (store_of arena.new) number
         side result }
 {
-    let link = settled(arena, side);
+    let link = settle(arena, side);
     arena.set_left(number, Some(link));
     true
 }
@@ -77,12 +77,12 @@ fn left_turned<T: Entry>(arena: &mut Arena<T, T::Sum>, number: u64, side: u64) -
 #[cold]
 #[inline(never)]
 fn right_turned<T: Entry>(arena: &mut Arena<T, T::Sum>, number: u64, side: u64) -> bool
-    requires side { IsUnsettled T.key T.unit T.op T.of 2 (stored arena.old) side }
-    requires used { IsSome (stored arena.old number) }
-    ensures { IsRightSettled T.key T.unit T.op T.of (stored arena.old) (stored arena.new) number
+    requires side { IsUnsettled T.key T.unit T.op T.of 2 (store_of arena.old) side }
+    requires used { IsSome (store_of arena.old number) }
+    ensures { IsRightSettled T.key T.unit T.op T.of (store_of arena.old) (store_of arena.new) number
         side result }
 {
-    let link = settled(arena, side);
+    let link = settle(arena, side);
     arena.set_right(number, Some(link));
     true
 }
@@ -90,9 +90,9 @@ fn right_turned<T: Entry>(arena: &mut Arena<T, T::Sum>, number: u64, side: u64) 
 /// Settles the left side of a node and tells it to the node, where it is told otherwise.
 #[inline(always)]
 fn left_settled<T: Entry>(arena: &mut Arena<T, T::Sum>, number: u64, side: u64) -> bool
-    requires side { IsUnsettled T.key T.unit T.op T.of 2 (stored arena.old) side }
-    requires used { IsSome (stored arena.old number) }
-    ensures { IsLeftSettled T.key T.unit T.op T.of (stored arena.old) (stored arena.new) number
+    requires side { IsUnsettled T.key T.unit T.op T.of 2 (store_of arena.old) side }
+    requires used { IsSome (store_of arena.old number) }
+    ensures { IsLeftSettled T.key T.unit T.op T.of (store_of arena.old) (store_of arena.new) number
         side result }
 {
     if !is_level(arena, side) {
@@ -109,9 +109,9 @@ fn left_settled<T: Entry>(arena: &mut Arena<T, T::Sum>, number: u64, side: u64) 
 /// Settles the right side of a node and tells it to the node, where it is told otherwise.
 #[inline(always)]
 fn right_settled<T: Entry>(arena: &mut Arena<T, T::Sum>, number: u64, side: u64) -> bool
-    requires side { IsUnsettled T.key T.unit T.op T.of 2 (stored arena.old) side }
-    requires used { IsSome (stored arena.old number) }
-    ensures { IsRightSettled T.key T.unit T.op T.of (stored arena.old) (stored arena.new) number
+    requires side { IsUnsettled T.key T.unit T.op T.of 2 (store_of arena.old) side }
+    requires used { IsSome (store_of arena.old number) }
+    ensures { IsRightSettled T.key T.unit T.op T.of (store_of arena.old) (store_of arena.new) number
         side result }
 {
     if !is_level(arena, side) {
@@ -128,9 +128,9 @@ fn right_settled<T: Entry>(arena: &mut Arena<T, T::Sum>, number: u64, side: u64)
 /// Puts a node without sides on the left of another.
 #[inline(never)]
 fn hang_left<T: Entry>(arena: &mut Arena<T, T::Sum>, number: u64, new: u64, entry: &T)
-    requires used { IsSome (stored arena.old number) }
-    requires new { IsSome (stored arena.old new) }
-    ensures { IsHungLeft T.key T.unit T.op T.of (stored arena.old) (stored arena.new) number new
+    requires used { IsSome (store_of arena.old number) }
+    requires new { IsSome (store_of arena.old new) }
+    ensures { IsHungLeft T.key T.unit T.op T.of (store_of arena.old) (store_of arena.new) number new
         entry.now }
 {
     let link = close(arena, new, None, *entry, None);
@@ -140,9 +140,9 @@ fn hang_left<T: Entry>(arena: &mut Arena<T, T::Sum>, number: u64, new: u64, entr
 /// Puts a node without sides on the right of another.
 #[inline(never)]
 fn hang_right<T: Entry>(arena: &mut Arena<T, T::Sum>, number: u64, new: u64, entry: &T)
-    requires used { IsSome (stored arena.old number) }
-    requires new { IsSome (stored arena.old new) }
-    ensures { IsHungRight T.key T.unit T.op T.of (stored arena.old) (stored arena.new) number new
+    requires used { IsSome (store_of arena.old number) }
+    requires new { IsSome (store_of arena.old new) }
+    ensures { IsHungRight T.key T.unit T.op T.of (store_of arena.old) (store_of arena.new) number new
         entry.now }
 {
     let link = close(arena, new, None, *entry, None);
@@ -152,8 +152,8 @@ fn hang_right<T: Entry>(arena: &mut Arena<T, T::Sum>, number: u64, new: u64, ent
 /// The number of the node on the left.
 #[inline(always)]
 fn left_of<T: Entry>(arena: &Arena<T, T::Sum>, number: u64) -> Option<u64>
-    requires { IsSome (stored arena.now number) }
-    ensures { result ≡ left_number (stored arena.now number) }
+    requires { IsSome (store_of arena.now number) }
+    ensures { result ≡ left_number (store_of arena.now number) }
 {
     match &arena.look(number).left {
         None => None,
@@ -164,8 +164,8 @@ fn left_of<T: Entry>(arena: &Arena<T, T::Sum>, number: u64) -> Option<u64>
 /// The number of the node on the right.
 #[inline(always)]
 fn right_of<T: Entry>(arena: &Arena<T, T::Sum>, number: u64) -> Option<u64>
-    requires { IsSome (stored arena.now number) }
-    ensures { result ≡ right_number (stored arena.now number) }
+    requires { IsSome (store_of arena.now number) }
+    ensures { result ≡ right_number (store_of arena.now number) }
 {
     match &arena.look(number).right {
         None => None,
@@ -180,8 +180,8 @@ pub fn placed_below<T: Entry>(
     new: u64,
     entry: &T,
 ) -> bool
-    requires { IsPlaceBelow T.key T.unit T.op T.of (stored arena.old) number new entry.now }
-    ensures { IsPlacedBelow T.key T.unit T.op T.of (stored arena.old) (stored arena.new) number new
+    requires { IsPlaceBelow T.key T.unit T.op T.of (store_of arena.old) number new entry.now }
+    ensures { IsPlacedBelow T.key T.unit T.op T.of (store_of arena.old) (store_of arena.new) number new
         entry.now result }
 {
     if entry.is_before(&arena.look(number).entry) {
@@ -206,8 +206,8 @@ pub fn placed_below<T: Entry>(
 
 /// Puts `entry` in the place of the one with its key in the tree with the root `number`.
 pub fn replaced_below<T: Entry>(arena: &mut Arena<T, T::Sum>, number: u64, entry: &T) -> bool
-    requires { HasKeyBelow T.key T.unit T.op T.of (stored arena.old) number entry.now }
-    ensures { IsReplacedBelow T.key T.unit T.op T.of (stored arena.old) (stored arena.new) number
+    requires { HasKeyBelow T.key T.unit T.op T.of (store_of arena.old) number entry.now }
+    ensures { IsReplacedBelow T.key T.unit T.op T.of (store_of arena.old) (store_of arena.new) number
         entry.now result }
 {
     let node = arena.look(number);
@@ -236,8 +236,8 @@ pub fn replaced_below<T: Entry>(arena: &mut Arena<T, T::Sum>, number: u64, entry
 /// Whether a node has the key of `like`.
 #[inline(always)]
 pub fn is_at<T: Entry>(arena: &Arena<T, T::Sum>, number: u64, like: &T) -> bool
-    requires { IsSome (stored arena.now number) }
-    ensures { IsAt T.key T.unit T.op T.of (stored arena.now) number like.now result }
+    requires { IsSome (store_of arena.now number) }
+    ensures { IsAt T.key T.unit T.op T.of (store_of arena.now) number like.now result }
 {
     let node = arena.look(number);
     !like.is_before(&node.entry) && !node.entry.is_before(like)
@@ -245,10 +245,10 @@ pub fn is_at<T: Entry>(arena: &Arena<T, T::Sum>, number: u64, like: &T) -> bool
 
 /// What is left of a tree without its root, which has the key of `like`.
 #[inline(never)]
-pub fn taken<T: Entry>(arena: &mut Arena<T, T::Sum>, number: u64, like: &T) -> Option<Link<T::Sum>>
-    requires there { HasKeyBelow T.key T.unit T.op T.of (stored arena.old) number like.now }
-    requires same { IsAt T.key T.unit T.op T.of (stored arena.old) number like.now true }
-    ensures { IsTaken T.key T.unit T.op T.of (stored arena.old) (stored arena.new) number like.now
+pub fn take<T: Entry>(arena: &mut Arena<T, T::Sum>, number: u64, like: &T) -> Option<Link<T::Sum>>
+    requires there { HasKeyBelow T.key T.unit T.op T.of (store_of arena.old) number like.now }
+    requires same { IsAt T.key T.unit T.op T.of (store_of arena.old) number like.now true }
+    ensures { IsTaken T.key T.unit T.op T.of (store_of arena.old) (store_of arena.new) number like.now
         result }
 {
     let node = arena.get(number);
@@ -268,35 +268,35 @@ pub fn taken<T: Entry>(arena: &mut Arena<T, T::Sum>, number: u64, like: &T) -> O
 /// Takes out the left side's root, which has the key of `like`.
 #[inline(never)]
 fn take_left<T: Entry>(arena: &mut Arena<T, T::Sum>, number: u64, side: u64, like: &T)
-    requires used { IsSome (stored arena.old number) }
-    requires there { HasKeyBelow T.key T.unit T.op T.of (stored arena.old) side like.now }
-    requires same { IsAt T.key T.unit T.op T.of (stored arena.old) side like.now true }
-    ensures { IsLeftTaken T.key T.unit T.op T.of (stored arena.old) (stored arena.new) number side
+    requires used { IsSome (store_of arena.old number) }
+    requires there { HasKeyBelow T.key T.unit T.op T.of (store_of arena.old) side like.now }
+    requires same { IsAt T.key T.unit T.op T.of (store_of arena.old) side like.now true }
+    ensures { IsLeftTaken T.key T.unit T.op T.of (store_of arena.old) (store_of arena.new) number side
         like.now }
 {
-    let rest = taken(arena, side, like);
+    let rest = take(arena, side, like);
     arena.set_left(number, rest);
 }
 
 /// Takes out the right side's root, which has the key of `like`.
 #[inline(never)]
 fn take_right<T: Entry>(arena: &mut Arena<T, T::Sum>, number: u64, side: u64, like: &T)
-    requires used { IsSome (stored arena.old number) }
-    requires there { HasKeyBelow T.key T.unit T.op T.of (stored arena.old) side like.now }
-    requires same { IsAt T.key T.unit T.op T.of (stored arena.old) side like.now true }
-    ensures { IsRightTaken T.key T.unit T.op T.of (stored arena.old) (stored arena.new) number side
+    requires used { IsSome (store_of arena.old number) }
+    requires there { HasKeyBelow T.key T.unit T.op T.of (store_of arena.old) side like.now }
+    requires same { IsAt T.key T.unit T.op T.of (store_of arena.old) side like.now true }
+    ensures { IsRightTaken T.key T.unit T.op T.of (store_of arena.old) (store_of arena.new) number side
         like.now }
 {
-    let rest = taken(arena, side, like);
+    let rest = take(arena, side, like);
     arena.set_right(number, rest);
 }
 
 /// Takes the node with the key of `like` out of the tree with the root `number`, which is another
 /// one: the number of that node, and whether the root is another one afterwards.
 pub fn removed_below<T: Entry>(arena: &mut Arena<T, T::Sum>, number: u64, like: &T) -> (u64, bool)
-    requires there { HasKeyBelow T.key T.unit T.op T.of (stored arena.old) number like.now }
-    requires other { IsAt T.key T.unit T.op T.of (stored arena.old) number like.now false }
-    ensures { IsRemovedBelow T.key T.unit T.op T.of (stored arena.old) (stored arena.new) number
+    requires there { HasKeyBelow T.key T.unit T.op T.of (store_of arena.old) number like.now }
+    requires other { IsAt T.key T.unit T.op T.of (store_of arena.old) number like.now false }
+    ensures { IsRemovedBelow T.key T.unit T.op T.of (store_of arena.old) (store_of arena.new) number
         like.now result.0 result.1 }
 {
     if like.is_before(&arena.look(number).entry) {
@@ -336,9 +336,9 @@ pub fn split_below<T: Entry>(
     lower: &T,
     upper: &T,
 ) -> bool
-    requires { IsSplitBelowFor T.key T.unit T.op T.of (stored arena.old) number new lower.now
+    requires { IsSplitBelowFor T.key T.unit T.op T.of (store_of arena.old) number new lower.now
         upper.now }
-    ensures { IsSplitBelow T.key T.unit T.op T.of (stored arena.old) (stored arena.new) number new
+    ensures { IsSplitBelow T.key T.unit T.op T.of (store_of arena.old) (store_of arena.new) number new
         lower.now upper.now result }
 {
     let node = arena.look(number);

@@ -33,7 +33,7 @@ pub trait Entry: Copy + Drop {
 
     /// The summary of a row of entries, by those of what stands before and after the one in the
     /// middle.
-    fn joined(left: Self::Sum, middle: &Self, right: Self::Sum) -> Self::Sum
+    fn join_sums(left: Self::Sum, middle: &Self, right: Self::Sum) -> Self::Sum
         ensures { result ≡ op left (op (of middle.now) right) };
 
     ghost laws: { MonoidLaws unit op };

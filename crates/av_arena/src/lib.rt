@@ -23,7 +23,7 @@ pub use arena::Arena;
 pub use avl::{Avl, Part};
 pub use entry::Entry;
 pub use link::{Link, Stored};
-pub use tree::{placed, removed};
+pub use tree::{place, remove};
 
 #[cfg(test)]
 mod tests;

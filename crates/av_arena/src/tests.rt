@@ -36,7 +36,7 @@ impl Entry for Note {
         left == right
     }
 
-    fn joined(left: bool, middle: &Note, right: bool) -> bool {
+    fn join_sums(left: bool, middle: &Note, right: bool) -> bool {
         left || middle.marked || right
     }
 }

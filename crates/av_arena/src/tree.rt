@@ -1,12 +1,12 @@
 ghost use Rattle.std.specs.Prelude.{◌≡◌, ◌+◌, ◌^◌, ◌<◌, ◌≤◌, max, true, Some, IsSome};
 ghost use Rattle.av_arena.specs.Order.{without_key};
 ghost use Rattle.av_arena.specs.Tree.{DifferByAtMost, IsHeightAfter, HasKey, IsHeld, IsJoined, IsOpened, IsPlaceFor, IsPlaced, IsPopped, IsReplaced, IsRoot, IsSet, IsSpot, IsWithout, sum_of, height_of, tree_at, entries};
-ghost use Rattle.av_arena.specs.Arena.{stored};
+ghost use Rattle.av_arena.specs.Arena.{store_of};
 ghost use Rattle.av_arena.specs.Below.{IsSplit, IsSplitFor};
 
 use crate::arena::Arena;
 use crate::below::{
-    is_at, placed_below, removed_below, replaced_below, settled, split_below, taken,
+    is_at, placed_below, removed_below, replaced_below, settle, split_below, take,
 };
 use crate::entry::Entry;
 use crate::link::{Link, Stored};
@@ -34,8 +34,8 @@ pub fn sum<T: Entry>(tree: Option<Link<T::Sum>>) -> T::Sum
 /// The node at the root of a tree.
 #[inline]
 pub fn open<T: Entry>(arena: &Arena<T, T::Sum>, tree: Link<T::Sum>) -> Stored<T, T::Sum>
-    requires { IsHeld T.key T.unit T.op T.of (stored arena.now) (Some tree) }
-    ensures { IsOpened T.key T.unit T.op T.of (stored arena.now) tree result }
+    requires { IsHeld T.key T.unit T.op T.of (store_of arena.now) (Some tree) }
+    ensures { IsOpened T.key T.unit T.op T.of (store_of arena.now) tree result }
 {
     arena.get(tree.number)
 }
@@ -49,14 +49,14 @@ pub fn close<T: Entry>(
     entry: T,
     right: Option<Link<T::Sum>>,
 ) -> Link<T::Sum>
-    requires used { IsSome (stored arena.old number) }
+    requires used { IsSome (store_of arena.old number) }
     requires low { max (height_of left) (height_of right) < 2 ^ 63 }
-    ensures set { IsSet T.key T.unit T.op T.of (stored arena.old) (stored arena.new) number left
+    ensures set { IsSet T.key T.unit T.op T.of (store_of arena.old) (store_of arena.new) number left
         entry right result }
     ensures height { result.height ≡ max (height_of left) (height_of right) + 1 }
 {
     let level = height(left).max(height(right)) + 1;
-    let total = T::joined(sum::<T>(left), &entry, sum::<T>(right));
+    let total = T::join_sums(sum::<T>(left), &entry, sum::<T>(right));
     arena.set(
         number,
         Stored {
@@ -82,10 +82,10 @@ fn lean_left<T: Entry>(
     entry: T,
     right: Option<Link<T::Sum>>,
 ) -> Link<T::Sum>
-    requires spot { IsSpot T.key T.unit T.op T.of (stored arena.old) number (Some left) right }
+    requires spot { IsSpot T.key T.unit T.op T.of (store_of arena.old) number (Some left) right }
     requires two_higher { left.height ≡ height_of right + 2 }
     requires low { left.height < 2 ^ 62 }
-    ensures joined { IsJoined T.key T.unit T.op T.of (stored arena.old) (stored arena.new) number
+    ensures joined { IsJoined T.key T.unit T.op T.of (store_of arena.old) (store_of arena.new) number
         (Some left) entry right result }
     ensures not_lower { left.height ≤ result.height }
     ensures at_most_one_higher { result.height ≤ left.height + 1 }
@@ -124,10 +124,10 @@ fn lean_right<T: Entry>(
     entry: T,
     right: Link<T::Sum>,
 ) -> Link<T::Sum>
-    requires spot { IsSpot T.key T.unit T.op T.of (stored arena.old) number left (Some right) }
+    requires spot { IsSpot T.key T.unit T.op T.of (store_of arena.old) number left (Some right) }
     requires two_higher { right.height ≡ height_of left + 2 }
     requires low { right.height < 2 ^ 62 }
-    ensures joined { IsJoined T.key T.unit T.op T.of (stored arena.old) (stored arena.new) number
+    ensures joined { IsJoined T.key T.unit T.op T.of (store_of arena.old) (store_of arena.new) number
         left entry (Some right) result }
     ensures not_lower { right.height ≤ result.height }
     ensures at_most_one_higher { result.height ≤ right.height + 1 }
@@ -165,10 +165,10 @@ pub fn balance<T: Entry>(
     entry: T,
     right: Option<Link<T::Sum>>,
 ) -> Link<T::Sum>
-    requires spot { IsSpot T.key T.unit T.op T.of (stored arena.old) number left right }
+    requires spot { IsSpot T.key T.unit T.op T.of (store_of arena.old) number left right }
     requires level { DifferByAtMost 2 (height_of left) (height_of right) }
     requires low { max (height_of left) (height_of right) < 2 ^ 62 }
-    ensures joined { IsJoined T.key T.unit T.op T.of (stored arena.old) (stored arena.new) number
+    ensures joined { IsJoined T.key T.unit T.op T.of (store_of arena.old) (store_of arena.new) number
         left entry right result }
     ensures height { IsHeightAfter (height_of left) (height_of right) result.height }
 {
@@ -214,11 +214,11 @@ fn with_left<T: Entry>(
     entry: T,
     right: Option<Link<T::Sum>>,
 ) -> Link<T::Sum>
-    requires root { IsRoot T.key T.unit T.op T.of (stored arena.old) tree own entry right }
-    requires spot { IsSpot T.key T.unit T.op T.of (stored arena.old) tree.number left right }
+    requires root { IsRoot T.key T.unit T.op T.of (store_of arena.old) tree own entry right }
+    requires spot { IsSpot T.key T.unit T.op T.of (store_of arena.old) tree.number left right }
     requires level { DifferByAtMost 2 (height_of left) (height_of right) }
     requires low { max (height_of left) (height_of right) < 2 ^ 62 }
-    ensures joined { IsJoined T.key T.unit T.op T.of (stored arena.old) (stored arena.new)
+    ensures joined { IsJoined T.key T.unit T.op T.of (store_of arena.old) (store_of arena.new)
         tree.number left entry right result }
     ensures height { IsHeightAfter (height_of left) (height_of right) result.height }
 {
@@ -234,7 +234,7 @@ fn with_left<T: Entry>(
     if height(before) != height(left) {
         return balance(arena, tree.number, left, middle, after);
     }
-    let total = T::joined(sum::<T>(left), &middle, sum::<T>(after));
+    let total = T::join_sums(sum::<T>(left), &middle, sum::<T>(after));
     arena.set_left(tree.number, left);
     Link {
         number: tree.number,
@@ -244,15 +244,15 @@ fn with_left<T: Entry>(
 }
 
 /// The tree with the node `number`, which is in use and not in it, for the entry.
-pub fn placed<T: Entry>(
+pub fn place<T: Entry>(
     arena: &mut Arena<T, T::Sum>,
     tree: Option<Link<T::Sum>>,
     number: u64,
     entry: T,
 ) -> Link<T::Sum>
-    requires place { IsPlaceFor T.key T.unit T.op T.of (stored arena.old) tree number entry }
+    requires place { IsPlaceFor T.key T.unit T.op T.of (store_of arena.old) tree number entry }
     requires low { height_of tree < 2 ^ 61 }
-    ensures placed { IsPlaced T.key T.unit T.op T.of (stored arena.old) (stored arena.new) tree
+    ensures placed { IsPlaced T.key T.unit T.op T.of (store_of arena.old) (store_of arena.new) tree
         number entry result }
     ensures not_lower { height_of tree ≤ result.height }
     ensures at_most_one_higher { result.height ≤ height_of tree + 1 }
@@ -263,7 +263,7 @@ pub fn placed<T: Entry>(
     if !placed_below(arena, tree.number, number, &entry) {
         return tree;
     }
-    settled(arena, tree.number)
+    settle(arena, tree.number)
 }
 
 /// The number and the entry of the first node, and a tree of the others.
@@ -271,9 +271,9 @@ pub fn pop_first<T: Entry>(
     arena: &mut Arena<T, T::Sum>,
     tree: Link<T::Sum>,
 ) -> (u64, T, Option<Link<T::Sum>>)
-    requires held { IsHeld T.key T.unit T.op T.of (stored arena.old) (Some tree) }
+    requires held { IsHeld T.key T.unit T.op T.of (store_of arena.old) (Some tree) }
     requires low { tree.height < 2 ^ 61 }
-    ensures popped { IsPopped T.key T.unit T.op T.of (stored arena.old) (stored arena.new) tree
+    ensures popped { IsPopped T.key T.unit T.op T.of (store_of arena.old) (store_of arena.new) tree
         result.0 result.1 result.2 }
     ensures not_higher { height_of result.2 ≤ tree.height }
     ensures at_most_one_lower { tree.height ≤ height_of result.2 + 1 }
@@ -293,41 +293,41 @@ pub fn pop_first<T: Entry>(
 }
 
 /// The number of the node with the key of `like`, and a tree of the others.
-pub fn removed<T: Entry>(
+pub fn remove<T: Entry>(
     arena: &mut Arena<T, T::Sum>,
     tree: Option<Link<T::Sum>>,
     like: T,
 ) -> (u64, Option<Link<T::Sum>>)
-    requires there { HasKey T.key T.unit T.op T.of (stored arena.old) tree like }
+    requires there { HasKey T.key T.unit T.op T.of (store_of arena.old) tree like }
     requires low { height_of tree < 2 ^ 61 }
-    ensures removed { IsWithout T.key T.unit T.op T.of (stored arena.old) (stored arena.new) tree
-        (without_key T.key (T.key like) (entries (tree_at (stored arena.old) tree))) result.0
+    ensures removed { IsWithout T.key T.unit T.op T.of (store_of arena.old) (store_of arena.new) tree
+        (without_key T.key (T.key like) (entries (tree_at (store_of arena.old) tree))) result.0
         result.1 }
     ensures not_higher { height_of result.1 ≤ height_of tree }
     ensures at_most_one_lower { height_of tree ≤ height_of result.1 + 1 }
 {
     let Some(tree) = tree else { unreachable!() };
     if is_at(arena, tree.number, &like) {
-        let rest = taken(arena, tree.number, &like);
+        let rest = take(arena, tree.number, &like);
         return (tree.number, rest);
     }
     let (number, changed) = removed_below(arena, tree.number, &like);
     if !changed {
         return (number, Some(tree));
     }
-    let whole = settled(arena, tree.number);
+    let whole = settle(arena, tree.number);
     (number, Some(whole))
 }
 
 /// The tree with `entry` in the node of the one with its key.
-pub fn replaced<T: Entry>(
+pub fn replace<T: Entry>(
     arena: &mut Arena<T, T::Sum>,
     tree: Option<Link<T::Sum>>,
     entry: T,
 ) -> Link<T::Sum>
-    requires there { HasKey T.key T.unit T.op T.of (stored arena.old) tree entry }
+    requires there { HasKey T.key T.unit T.op T.of (store_of arena.old) tree entry }
     requires low { height_of tree < 2 ^ 61 }
-    ensures replaced { IsReplaced T.key T.unit T.op T.of (stored arena.old) (stored arena.new) tree
+    ensures replaced { IsReplaced T.key T.unit T.op T.of (store_of arena.old) (store_of arena.new) tree
         entry result }
     ensures height { result.height ≡ height_of tree }
 {
@@ -335,7 +335,7 @@ pub fn replaced<T: Entry>(
     if !replaced_below(arena, tree.number, &entry) {
         return tree;
     }
-    settled(arena, tree.number)
+    settle(arena, tree.number)
 }
 
 /// The tree with `lower` in the node of the one with its key, and with the node `new`, which is in
@@ -347,14 +347,14 @@ pub fn split<T: Entry>(
     lower: T,
     upper: T,
 ) -> Link<T::Sum>
-    requires split { IsSplitFor T.key T.unit T.op T.of (stored arena.old) tree new lower upper }
+    requires split { IsSplitFor T.key T.unit T.op T.of (store_of arena.old) tree new lower upper }
     requires low { height_of tree < 2 ^ 61 }
-    ensures { IsSplit T.key T.unit T.op T.of (stored arena.old) (stored arena.new) tree new lower
+    ensures { IsSplit T.key T.unit T.op T.of (store_of arena.old) (store_of arena.new) tree new lower
         upper result }
 {
     let Some(tree) = tree else { unreachable!() };
     if !split_below(arena, tree.number, new, &lower, &upper) {
         return tree;
     }
-    settled(arena, tree.number)
+    settle(arena, tree.number)
 }

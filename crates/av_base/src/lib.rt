@@ -1,9 +1,9 @@
-//! The words that every layer shares: pages and limits, protections, slots, and words on numbers
-//! and lists.
+//! The words that every layer shares: pages and limits, protections, slots, a counter of steps, and
+//! words on numbers and lists.
 //!
-//! Nothing here does anything but `Prot`'s two tests, which are proved. The words of contracts
-//! stand in `specs`: `Words` (ranges, lists, counts, a function changed at one place), `Page`
-//! (addresses and pages) and `Limits`.
+//! Nothing here does anything but `Prot`'s two tests and `Steps`, which are proved. The words of
+//! contracts stand in `specs`: `Words` (ranges, lists, counts, a function changed at one place),
+//! `Page` (addresses and pages) and `Limits`.
 #![tactic(auto)]
 
 mod limits;
@@ -11,9 +11,11 @@ mod mode;
 mod page;
 mod prot;
 mod slot;
+mod steps;
 
 pub use limits::{LOW_PAGE, MOST_PROCESSES, TOP_PAGE};
 pub use mode::Mode;
 pub use page::PAGE_SIZE;
 pub use prot::Prot;
 pub use slot::Slot;
+pub use steps::Steps;

@@ -5,8 +5,8 @@ use mathlib.Core.Bool.{Bool}
 use denote.RawPtr.{Ptr}
 use Rattle.av_chain.specs.declared.node.Node.{Node}
 use Rattle.av_chain.specs.declared.node.Place.{Place}
-use Rattle.av_chain.specs.Nodes.{Block, same_ptr, place_of, IsApart, has_place, found, stored, removed}
-use Rattle.av_chain.specs.Rows.{altered, changed, Reaches}
+use Rattle.av_chain.specs.Nodes.{Block, same_ptr, place_of, IsApart, has_place, found, with_node, without_node}
+use Rattle.av_chain.specs.Rows.{node_changed, place_changed, Reaches}
 use Rattle.av_chain.proofs.Pointers.{same_ptr_eq, same_ptr_symm, same_ptr_refl}
 use Rattle.av_chain.proofs.Apart.{IsFresh, apart_tail, apart_head, fresh_at, stored_fresh}
 
@@ -72,27 +72,27 @@ pub place_cond : (y : Bool) (f : Node → Node) (b : Block) → (cond y (b.0, f 
 place_cond true f b = refl
 place_cond false f b = refl
 
-pub places_altered : (p : Ptr) (f : Node → Node) (bs : List Block) → map place_of (altered p f bs) ≡ map place_of bs
+pub places_altered : (p : Ptr) (f : Node → Node) (bs : List Block) → map place_of (node_changed p f bs) ≡ map place_of bs
 places_altered p f [] = refl
 places_altered p f (b ∷ bs) = λ i. place_cond (same_ptr p b.0) f b i ∷ places_altered p f bs i
 
-has_altered : (q p : Ptr) (f : Node → Node) (bs : List Block) → has_place q (altered p f bs) ≡ has_place q bs
+has_altered : (q p : Ptr) (f : Node → Node) (bs : List Block) → has_place q (node_changed p f bs) ≡ has_place q bs
 has_altered q p f [] = refl
 has_altered q p f (b ∷ bs) = λ i. same_ptr q (place_cond (same_ptr p b.0) f b i) || has_altered q p f bs i
 
-altered_fresh : (p : Ptr) (f : Node → Node) (bs : List Block) → IsFresh p bs → altered p f bs ≡ bs
+altered_fresh : (p : Ptr) (f : Node → Node) (bs : List Block) → IsFresh p bs → node_changed p f bs ≡ bs
 altered_fresh p f [] h = refl
 altered_fresh p f (b ∷ bs) h = λ i. cond (h.0 i) (b.0, f b.1) b ∷ altered_fresh p f bs h.1 i
 
-altered_append : (p : Ptr) (f : Node → Node) (xs ys : List Block) → altered p f (xs ++ ys) ≡ altered p f xs ++ altered p f ys
+altered_append : (p : Ptr) (f : Node → Node) (xs ys : List Block) → node_changed p f (xs ++ ys) ≡ node_changed p f xs ++ node_changed p f ys
 altered_append p f [] ys = refl
 altered_append p f (x ∷ xs) ys = λ i. cond (same_ptr p x.0) (x.0, f x.1) x ∷ altered_append p f xs ys i
 
 -- the node that is stored is the old one, changed
-pub stored_altered : (p : Ptr) (f : Node → Node) (bs : List Block) (m : Node) → IsApart bs → found p bs ≡ Some m → stored p (f m) bs ≡ altered p f bs
+pub stored_altered : (p : Ptr) (f : Node → Node) (bs : List Block) (m : Node) → IsApart bs → found p bs ≡ Some m → with_node p (f m) bs ≡ node_changed p f bs
 stored_altered p f [] m d e = cc
 stored_altered p f (b ∷ bs) m d e = (elim (same_ptr p b.0) as (λ y. same_ptr p b.0 ≡ y → cond y (Some b.1) (found p bs) ≡ Some m
-    → cond y (b.0, f m) b ∷ stored p (f m) bs ≡ cond y (b.0, f b.1) b ∷ altered p f bs) [
+    → cond y (b.0, f m) b ∷ with_node p (f m) bs ≡ cond y (b.0, f b.1) b ∷ node_changed p f bs) [
       | true ↦ λ at h.
           let is : b.1 ≡ m = cc in
           let fresh = fresh_at b.0 p bs (sym (same_ptr_eq p b.0 at)) (apart_head b bs d) in
@@ -100,12 +100,12 @@ stored_altered p f (b ∷ bs) m d e = (elim (same_ptr p b.0) as (λ y. same_ptr 
       | false ↦ λ at h. ap (λ cs. b ∷ cs) (stored_altered p f bs m (apart_tail b bs d) h)
     ]) refl e
 
-removed_altered : (p q : Ptr) (f : Node → Node) (bs : List Block) → removed p (altered q f bs) ≡ altered q f (removed p bs)
+removed_altered : (p q : Ptr) (f : Node → Node) (bs : List Block) → without_node p (node_changed q f bs) ≡ node_changed q f (without_node p bs)
 removed_altered p q f [] = refl
 removed_altered p q f (b ∷ bs) =
     let c : Block = cond (same_ptr q b.0) (b.0, f b.1) b in
     (λ i. cond (same_ptr p (place_cond (same_ptr q b.0) f b i)) (removed_altered p q f bs i) (c ∷ removed_altered p q f bs i))
-    ∙ sym (cond_lift (altered q f) (same_ptr p b.0) (removed p bs) (b ∷ removed p bs))
+    ∙ sym (cond_lift (node_changed q f) (same_ptr p b.0) (without_node p bs) (b ∷ without_node p bs))
 
 -- ---- the node at a place is changed, if there is one
 
@@ -115,33 +115,33 @@ Avoids None bs = Unit {0}
 Avoids (Some p) bs = IsFresh p.ptr bs
 
 module _ (f : Node → Node) where
-  pub changed_avoids : (o : Option Place) (bs : List Block) → Avoids o bs → changed o f bs ≡ bs
+  pub changed_avoids : (o : Option Place) (bs : List Block) → Avoids o bs → place_changed o f bs ≡ bs
   changed_avoids None bs a = refl
   changed_avoids (Some p) bs a = altered_fresh p.ptr f bs a
 
-  pub changed_append : (o : Option Place) (xs ys : List Block) → changed o f (xs ++ ys) ≡ changed o f xs ++ changed o f ys
+  pub changed_append : (o : Option Place) (xs ys : List Block) → place_changed o f (xs ++ ys) ≡ place_changed o f xs ++ place_changed o f ys
   changed_append None xs ys = refl
   changed_append (Some p) xs ys = altered_append p.ptr f xs ys
 
-  pub places_changed : (o : Option Place) (bs : List Block) → map place_of (changed o f bs) ≡ map place_of bs
+  pub places_changed : (o : Option Place) (bs : List Block) → map place_of (place_changed o f bs) ≡ map place_of bs
   places_changed None bs = refl
   places_changed (Some p) bs = places_altered p.ptr f bs
 
-  pub has_changed : (q : Ptr) (o : Option Place) (bs : List Block) → has_place q (changed o f bs) ≡ has_place q bs
+  pub has_changed : (q : Ptr) (o : Option Place) (bs : List Block) → has_place q (place_changed o f bs) ≡ has_place q bs
   has_changed q None bs = refl
   has_changed q (Some p) bs = has_altered q p.ptr f bs
 
-  pub reaches_changed : (o q : Option Place) (bs : List Block) → Reaches o bs → Reaches o (changed q f bs)
+  pub reaches_changed : (o q : Option Place) (bs : List Block) → Reaches o bs → Reaches o (place_changed q f bs)
   reaches_changed None q bs h = tt
   reaches_changed (Some p) q bs h = has_changed p.ptr q bs ∙ h
 
-  pub apart_changed : (o : Option Place) (bs : List Block) → IsApart bs → IsApart (changed o f bs)
+  pub apart_changed : (o : Option Place) (bs : List Block) → IsApart bs → IsApart (place_changed o f bs)
   apart_changed o bs = subst (IsDistinct same_ptr) (sym (places_changed o bs))
 
-  pub fresh_changed : (q : Ptr) (o : Option Place) (bs : List Block) → IsFresh q bs → IsFresh q (changed o f bs)
+  pub fresh_changed : (q : Ptr) (o : Option Place) (bs : List Block) → IsFresh q bs → IsFresh q (place_changed o f bs)
   fresh_changed q o bs = subst (AllByRecursion (λ r. same_ptr q r ≡ false)) (sym (places_changed o bs))
 
-  pub removed_changed : (p : Ptr) (o : Option Place) (bs : List Block) → removed p (changed o f bs) ≡ changed o f (removed p bs)
+  pub removed_changed : (p : Ptr) (o : Option Place) (bs : List Block) → without_node p (place_changed o f bs) ≡ place_changed o f (without_node p bs)
   removed_changed p None bs = refl
   removed_changed p (Some q) bs = removed_altered p q.ptr f bs
 

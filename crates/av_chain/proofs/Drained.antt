@@ -6,9 +6,9 @@ use Rattle.std.specs.Prelude.{Result, Ok, Err, OnOk}
 use Rattle.av_chain.specs.declared.node.Head.{Head}
 use Rattle.av_chain.specs.declared.node.Place.{Place}
 use Rattle.av_chain.specs.declared.node.Way.TheVariants.{Area}
-use Rattle.av_chain.specs.Nodes.{Block, same_ptr, IsApart, has_place, removed}
+use Rattle.av_chain.specs.Nodes.{Block, same_ptr, IsApart, has_place, without_node}
 use Rattle.av_chain.specs.Rows.{row, at_block, first_or, IsThreaded, Reaches}
-use Rattle.av_chain.specs.Links.{popped}
+use Rattle.av_chain.specs.Links.{without_first}
 use Rattle.av_chain.specs.Lists.{links_of}
 use Rattle.av_chain.proofs.Pointers.{same_ptr_refl}
 use Rattle.av_chain.proofs.Apart.{apart_tail, apart_head, removed_fresh, fresh_at}
@@ -25,36 +25,36 @@ first_has area bs p d e = subst (λ o. Reaches o bs) (sym e) (first_link_there a
 in_row : (area : ℕ) (bs : List Block) (b : Block) (rest : List Block) → row Area area bs ≡ b ∷ rest → has_place b.0 bs ≡ true
 in_row area bs b rest e = has_row Area area b.0 bs (ap (has_place b.0) e ∙ has_here b rest)
 
-pub first_removed : (area : ℕ) (bs : List Block) (p : Place) → IsApart bs → Some p ≡ first_or None (row Area area bs) → links_of (removed p.ptr bs) ≡ popped area (links_of bs)
+pub first_removed : (area : ℕ) (bs : List Block) (p : Place) → IsApart bs → Some p ≡ first_or None (row Area area bs) → links_of (without_node p.ptr bs) ≡ without_first area (links_of bs)
 first_removed area [] p d e = cc
-first_removed area (b ∷ bs) p d e = either (links_of (removed p.ptr (b ∷ bs)) ≡ popped area (links_of (b ∷ bs))) (area == b.1.area)
+first_removed area (b ∷ bs) p d e = either (links_of (without_node p.ptr (b ∷ bs)) ≡ without_first area (links_of (b ∷ bs))) (area == b.1.area)
     (λ is.
     let here : Some p ≡ Some (at_block b) = e ∙ ap (λ y. first_or None (cond y (b ∷ row Area area bs) (row Area area bs))) is in
     let at : p ≡ at_block b = cc in
     let hit : same_ptr p.ptr b.0 ≡ true = ap (λ (q : Place). same_ptr q.ptr b.0) at ∙ same_ptr_refl b.0 in
     let fresh = fresh_at b.0 p.ptr bs (ap (λ (q : Place). q.ptr) (sym at)) (apart_head b bs d) in
-    ap (λ y. links_of (cond y (removed p.ptr bs) (b ∷ removed p.ptr bs))) hit ∙ ap links_of (removed_fresh p.ptr bs fresh)
-    ∙ sym (ap (λ y. cond y (links_of bs) ((b.1.area, b.1.anon) ∷ popped area (links_of bs))) is))
+    ap (λ y. links_of (cond y (without_node p.ptr bs) (b ∷ without_node p.ptr bs))) hit ∙ ap links_of (removed_fresh p.ptr bs fresh)
+    ∙ sym (ap (λ y. cond y (links_of bs) ((b.1.area, b.1.anon) ∷ without_first area (links_of bs))) is))
     (λ is.
     let later : Some p ≡ first_or None (row Area area bs) = e ∙ ap (λ y. first_or None (cond y (b ∷ row Area area bs) (row Area area bs))) is in
     let miss : same_ptr p.ptr b.0 ≡ false = fresh_differs b.0 p.ptr bs (apart_head b bs d) (first_has area bs p (apart_tail b bs d) later) in
-    ap (λ y. links_of (cond y (removed p.ptr bs) (b ∷ removed p.ptr bs))) miss ∙ ap (λ ls. (b.1.area, b.1.anon) ∷ ls) (first_removed area bs p (apart_tail b bs d) later)
-    ∙ sym (ap (λ y. cond y (links_of bs) ((b.1.area, b.1.anon) ∷ popped area (links_of bs))) is))
+    ap (λ y. links_of (cond y (without_node p.ptr bs) (b ∷ without_node p.ptr bs))) miss ∙ ap (λ ls. (b.1.area, b.1.anon) ∷ ls) (first_removed area bs p (apart_tail b bs d) later)
+    ∙ sym (ap (λ y. cond y (links_of bs) ((b.1.area, b.1.anon) ∷ without_first area (links_of bs))) is))
 
 -- ---- fewer nodes are left
 
-length_removed : (p : Ptr) (bs : List Block) → length (links_of (removed p bs)) ≤ length (links_of bs)
+length_removed : (p : Ptr) (bs : List Block) → length (links_of (without_node p bs)) ≤ length (links_of bs)
 length_removed p [] = omega arith
 length_removed p (b ∷ bs) =
     let rest = length_removed p bs in
-    elim (same_ptr p b.0) as (λ y. length (links_of (cond y (removed p bs) (b ∷ removed p bs))) ≤ suc (length (links_of bs))) [
+    elim (same_ptr p b.0) as (λ y. length (links_of (cond y (without_node p bs) (b ∷ without_node p bs))) ≤ suc (length (links_of bs))) [
       | true ↦ omega arith
       | false ↦ omega arith
     ]
 
-pub fewer_left : (p : Ptr) (bs : List Block) → has_place p bs ≡ true → length (links_of (removed p bs)) < length (links_of bs)
+pub fewer_left : (p : Ptr) (bs : List Block) → has_place p bs ≡ true → length (links_of (without_node p bs)) < length (links_of bs)
 fewer_left p [] h = cc
-fewer_left p (b ∷ bs) h = (elim (same_ptr p b.0) as (λ y. (y || has_place p bs) ≡ true → length (links_of (cond y (removed p bs) (b ∷ removed p bs))) < suc (length (links_of bs))) [
+fewer_left p (b ∷ bs) h = (elim (same_ptr p b.0) as (λ y. (y || has_place p bs) ≡ true → length (links_of (cond y (without_node p bs) (b ∷ without_node p bs))) < suc (length (links_of bs))) [
   | true ↦ λ g. let rest = length_removed p bs in omega arith
   | false ↦ λ g. let rest = fewer_left p bs g in omega arith
 ]) h

@@ -10,8 +10,8 @@ use Rattle.av_chain.specs.declared.node.Way.{Way}
 use Rattle.av_chain.specs.declared.node.Way.TheVariants.{Area, Anon}
 use Rattle.av_chain.specs.declared.node.Sides.{Sides}
 use Rattle.av_chain.specs.declared.node.Place.{Place}
-use Rattle.av_chain.specs.Nodes.{Block, same_ptr, place_of, IsApart, has_place, removed}
-use Rattle.av_chain.specs.Rows.{sides_of, with_sides, with_before, with_after, altered, changed, leads_on, leads_back, Reaches, at_block, first_or, last_from, IsRun, end_of, head_of, last_of, grown, kept, shrunk}
+use Rattle.av_chain.specs.Nodes.{Block, same_ptr, place_of, IsApart, has_place, without_node}
+use Rattle.av_chain.specs.Rows.{sides_of, with_sides, with_before, with_after, node_changed, place_changed, leads_on, leads_back, Reaches, at_block, first_or, last_from, IsRun, end_of, head_of, last_of, grown, kept, shrunk}
 use Rattle.av_chain.proofs.Pointers.{same_ptr_refl}
 use Rattle.av_chain.proofs.Apart.{IsFresh, apart_tail, apart_head, removed_fresh}
 use Rattle.av_chain.proofs.Altered.{either, or_right, or_rest, fresh_left, apart_right, has_here, place_cond, changed_avoids, changed_append, places_changed, apart_changed, fresh_changed, reaches_avoids, avoids_reaches}
@@ -24,22 +24,22 @@ at_cond : (y : Bool) (f : Node → Node) (b : Block) → at_block (cond y (b.0, 
 at_cond y f b = ap (λ (p : Ptr). record { ptr = p }) (place_cond y f b)
 
 -- the node at its own place is changed
-changed_here : (f : Node → Node) (b : Block) (bs : List Block) → IsApart (b ∷ bs) → changed (Some (at_block b)) f (b ∷ bs) ≡ (b.0, f b.1) ∷ bs
+changed_here : (f : Node → Node) (b : Block) (bs : List Block) → IsApart (b ∷ bs) → place_changed (Some (at_block b)) f (b ∷ bs) ≡ (b.0, f b.1) ∷ bs
 changed_here f b bs d = λ i. cond (same_ptr_refl b.0 i) (b.0, f b.1) b ∷ changed_avoids f (Some (at_block b)) bs (apart_head b bs d) i
 
-first_altered : (p : Ptr) (f : Node → Node) (after : Option Place) (bs : List Block) → first_or after (altered p f bs) ≡ first_or after bs
+first_altered : (p : Ptr) (f : Node → Node) (after : Option Place) (bs : List Block) → first_or after (node_changed p f bs) ≡ first_or after bs
 first_altered p f after [] = refl
 first_altered p f after (b ∷ bs) = ap (λ q. Some q) (at_cond (same_ptr p b.0) f b)
 
-pub first_changed : (o : Option Place) (f : Node → Node) (after : Option Place) (bs : List Block) → first_or after (changed o f bs) ≡ first_or after bs
+pub first_changed : (o : Option Place) (f : Node → Node) (after : Option Place) (bs : List Block) → first_or after (place_changed o f bs) ≡ first_or after bs
 first_changed None f after bs = refl
 first_changed (Some p) f after bs = first_altered p.ptr f after bs
 
-last_altered : (p : Ptr) (f : Node → Node) (before : Option Place) (bs : List Block) → last_from before (altered p f bs) ≡ last_from before bs
+last_altered : (p : Ptr) (f : Node → Node) (before : Option Place) (bs : List Block) → last_from before (node_changed p f bs) ≡ last_from before bs
 last_altered p f before [] = refl
-last_altered p f before (b ∷ bs) = ap (λ q. last_from (Some q) (altered p f bs)) (at_cond (same_ptr p b.0) f b) ∙ last_altered p f (Some (at_block b)) bs
+last_altered p f before (b ∷ bs) = ap (λ q. last_from (Some q) (node_changed p f bs)) (at_cond (same_ptr p b.0) f b) ∙ last_altered p f (Some (at_block b)) bs
 
-pub last_changed : (o : Option Place) (f : Node → Node) (before : Option Place) (bs : List Block) → last_from before (changed o f bs) ≡ last_from before bs
+pub last_changed : (o : Option Place) (f : Node → Node) (before : Option Place) (bs : List Block) → last_from before (place_changed o f bs) ≡ last_from before bs
 last_changed None f before bs = refl
 last_changed (Some p) f before bs = last_altered p.ptr f before bs
 
@@ -103,8 +103,8 @@ module _ (w : Way) where
   run_on before after to (x ∷ y ∷ ys) d r =
       let f = with_after w to in
       let o = last_from (Some (at_block y)) ys in
-      let stays : changed o f (x ∷ []) ≡ x ∷ [] = changed_avoids f o (x ∷ []) (avoids_reaches o (x ∷ []) (y ∷ ys) d (last_reaches y ys)) in
-      let is : changed o f (x ∷ y ∷ ys) ≡ x ∷ changed o f (y ∷ ys) = changed_append f o (x ∷ []) (y ∷ ys) ∙ ap (λ cs. cs ++ changed o f (y ∷ ys)) stays in
+      let stays : place_changed o f (x ∷ []) ≡ x ∷ [] = changed_avoids f o (x ∷ []) (avoids_reaches o (x ∷ []) (y ∷ ys) d (last_reaches y ys)) in
+      let is : place_changed o f (x ∷ y ∷ ys) ≡ x ∷ place_changed o f (y ∷ ys) = changed_append f o (x ∷ []) (y ∷ ys) ∙ ap (λ cs. cs ++ place_changed o f (y ∷ ys)) stays in
       subst (λ (bs : List Block). IsRun w before bs to) (sym is)
       (r.0, r.1 ∙ sym (first_changed o f to (y ∷ ys)), run_on (Some (at_block x)) after to (y ∷ ys) (apart_tail x (y ∷ ys) d) r.2)
 
@@ -119,17 +119,17 @@ module _ (w : Way) where
   sides_cond f h true b = h b.1
   sides_cond f h false b = refl
 
-  run_altered : (p : Ptr) (f : Node → Node) → ((n : Node) → sides_of w (f n) ≡ sides_of w n) → (before after : Option Place) (bs : List Block) → IsRun w before bs after → IsRun w before (altered p f bs) after
+  run_altered : (p : Ptr) (f : Node → Node) → ((n : Node) → sides_of w (f n) ≡ sides_of w n) → (before after : Option Place) (bs : List Block) → IsRun w before bs after → IsRun w before (node_changed p f bs) after
   run_altered p f h before after [] r = tt
   run_altered p f h before after (b ∷ bs) r =
       let same = sides_cond f h (same_ptr p b.0) b in (
         ap (λ (s : Sides). s.before) same ∙ r.0,
         ap (λ (s : Sides). s.after) same ∙ r.1 ∙ sym (first_altered p f after bs),
-        subst (λ q. IsRun w (Some q) (altered p f bs) after) (sym (at_cond (same_ptr p b.0) f b)) (run_altered p f h (Some (at_block b)) after bs r.2),
+        subst (λ q. IsRun w (Some q) (node_changed p f bs) after) (sym (at_cond (same_ptr p b.0) f b)) (run_altered p f h (Some (at_block b)) after bs r.2),
       )
 
   -- what changes no neighbours in this list
-  pub run_other : (o : Option Place) (f : Node → Node) → ((n : Node) → sides_of w (f n) ≡ sides_of w n) → (before after : Option Place) (bs : List Block) → IsRun w before bs after → IsRun w before (changed o f bs) after
+  pub run_other : (o : Option Place) (f : Node → Node) → ((n : Node) → sides_of w (f n) ≡ sides_of w n) → (before after : Option Place) (bs : List Block) → IsRun w before bs after → IsRun w before (place_changed o f bs) after
   run_other None f h before after bs r = r
   run_other (Some p) f h before after bs r = run_altered p.ptr f h before after bs r
 
@@ -207,9 +207,9 @@ head_out (x ∷ xs) (y ∷ ys) b s eb ea =
 
 -- ---- a node leaves
 
-removed_mid : (xs : List Block) (b : Block) (ys : List Block) → IsFresh b.0 xs → IsFresh b.0 ys → removed b.0 (xs ++ b ∷ ys) ≡ xs ++ ys
-removed_mid [] b ys f g = (λ i. cond (same_ptr_refl b.0 i) (removed b.0 ys) (b ∷ removed b.0 ys)) ∙ removed_fresh b.0 ys g
-removed_mid (x ∷ xs) b ys f g = (λ i. cond (f.0 i) (removed b.0 (xs ++ b ∷ ys)) (x ∷ removed b.0 (xs ++ b ∷ ys))) ∙ ap (λ cs. x ∷ cs) (removed_mid xs b ys f.1 g)
+removed_mid : (xs : List Block) (b : Block) (ys : List Block) → IsFresh b.0 xs → IsFresh b.0 ys → without_node b.0 (xs ++ b ∷ ys) ≡ xs ++ ys
+removed_mid [] b ys f g = (λ i. cond (same_ptr_refl b.0 i) (without_node b.0 ys) (b ∷ without_node b.0 ys)) ∙ removed_fresh b.0 ys g
+removed_mid (x ∷ xs) b ys f g = (λ i. cond (f.0 i) (without_node b.0 (xs ++ b ∷ ys)) (x ∷ without_node b.0 (xs ++ b ∷ ys))) ∙ ap (λ cs. x ∷ cs) (removed_mid xs b ys f.1 g)
 
 apart_rest : (xs ys : List Block) → IsApart (xs ++ ys) → IsApart ys
 apart_rest [] ys d = d
@@ -240,20 +240,20 @@ module _ (w : Way) (xs : List Block) (b : Block) (ys : List Block) (d : IsApart 
   back =
       let g = with_before w B in
       let d' : IsApart (xs' ++ b ∷ ys) = subst IsApart on (apart_changed (with_after w A) B (xs ++ b ∷ ys) d) in
-      let front : changed A g xs' ≡ xs' = changed_avoids g A xs' (avoids_reaches A xs' (b ∷ ys) d' (reaches_later A b ys (first_reaches ys))) in
-      let here : changed A g (b ∷ []) ≡ b ∷ [] = changed_avoids g A (b ∷ []) (avoids_reaches A (b ∷ []) ys (apart_rest xs (b ∷ ys) d) (first_reaches ys)) in
+      let front : place_changed A g xs' ≡ xs' = changed_avoids g A xs' (avoids_reaches A xs' (b ∷ ys) d' (reaches_later A b ys (first_reaches ys))) in
+      let here : place_changed A g (b ∷ []) ≡ b ∷ [] = changed_avoids g A (b ∷ []) (avoids_reaches A (b ∷ []) ys (apart_rest xs (b ∷ ys) d) (first_reaches ys)) in
       changed_append g A xs' (b ∷ ys) ∙ (λ i. front i ++ (changed_append g A (b ∷ []) ys ∙ ap (λ cs. cs ++ ys') here) i)
 
-  gone : removed b.0 (leads_back w A B (leads_on w B A (xs ++ b ∷ ys))) ≡ xs' ++ ys'
+  gone : without_node b.0 (leads_back w A B (leads_on w B A (xs ++ b ∷ ys))) ≡ xs' ++ ys'
   gone =
-      ap (λ cs. removed b.0 (leads_back w A B cs)) on ∙ ap (removed b.0) back
+      ap (λ cs. without_node b.0 (leads_back w A B cs)) on ∙ ap (without_node b.0) back
       ∙ removed_mid xs' b ys' (fresh_changed (with_after w A) b.0 B xs (apart_right b.0 xs (b ∷ ys) d (has_here b ys))) (fresh_changed (with_before w B) b.0 A ys (apart_head b ys (apart_rest xs (b ∷ ys) d)))
 
   pub run_out : (s : Sides) → s.before ≡ B → s.after ≡ A → IsRun w None (xs ++ b ∷ ys) None
-      → IsRun w None (removed b.0 (leads_back w s.after s.before (leads_on w s.before s.after (xs ++ b ∷ ys)))) None
-      × (shrunk s (head_of (xs ++ b ∷ ys)) ≡ head_of (removed b.0 (leads_back w s.after s.before (leads_on w s.before s.after (xs ++ b ∷ ys)))))
+      → IsRun w None (without_node b.0 (leads_back w s.after s.before (leads_on w s.before s.after (xs ++ b ∷ ys)))) None
+      × (shrunk s (head_of (xs ++ b ∷ ys)) ≡ head_of (without_node b.0 (leads_back w s.after s.before (leads_on w s.before s.after (xs ++ b ∷ ys)))))
   run_out s eb ea r =
-      let is : removed b.0 (leads_back w s.after s.before (leads_on w s.before s.after (xs ++ b ∷ ys))) ≡ xs' ++ ys' = (λ i. removed b.0 (leads_back w (ea i) (eb i) (leads_on w (eb i) (ea i) (xs ++ b ∷ ys)))) ∙ gone in
+      let is : without_node b.0 (leads_back w s.after s.before (leads_on w s.before s.after (xs ++ b ∷ ys))) ≡ xs' ++ ys' = (λ i. without_node b.0 (leads_back w (ea i) (eb i) (leads_on w (eb i) (ea i) (xs ++ b ∷ ys)))) ∙ gone in
       let parts = run_split w None None xs (b ∷ ys) r in
       let one : IsRun w None xs' (first_or None ys') = subst (IsRun w None xs') (sym (first_changed A (with_before w B) None ys)) (run_on w None (Some (at_block b)) A xs (apart_front xs (b ∷ ys) d) parts.0) in
       let two : IsRun w (last_from None xs') ys' None = subst (λ o. IsRun w o ys' None) (sym (last_changed B (with_after w A) None xs)) (run_back w (Some (at_block b)) None B ys (apart_tail b ys (apart_rest xs (b ∷ ys) d)) parts.1.2) in

@@ -11,8 +11,8 @@ use Rattle.av_chain.specs.declared.node.Way.{Way}
 use Rattle.av_chain.specs.declared.node.Way.TheVariants.{Area, Anon}
 use Rattle.av_chain.specs.declared.node.Sides.{Sides}
 use Rattle.av_chain.specs.declared.node.Place.{Place}
-use Rattle.av_chain.specs.Nodes.{Block, same_ptr, place_of, IsApart, has_place, found, removed}
-use Rattle.av_chain.specs.Rows.{key_of, sides_of, with_before, with_after, altered, changed, leads_on, leads_back, Reaches, row, at_block, first_or, last_from, IsRun, head_of, last_of, grown, shrunk, IsThreaded}
+use Rattle.av_chain.specs.Nodes.{Block, same_ptr, place_of, IsApart, has_place, found, without_node}
+use Rattle.av_chain.specs.Rows.{key_of, sides_of, with_before, with_after, node_changed, place_changed, leads_on, leads_back, Reaches, row, at_block, first_or, last_from, IsRun, head_of, last_of, grown, shrunk, IsThreaded}
 use Rattle.av_chain.proofs.Pointers.{same_ptr_eq}
 use Rattle.av_chain.proofs.Apart.{IsFresh, apart_tail, apart_head, fresh_at, removed_fresh}
 use Rattle.av_chain.proofs.Altered.{either, cond_lift, or_right, or_rest, fresh_differs, Avoids, changed_avoids, changed_append, places_changed, reaches_avoids}
@@ -65,27 +65,27 @@ module _ (w : Way) where
   key_cond f h false b = refl
 
   module _ (k : ℕ) where
-    row_altered : (p : Ptr) (f : Node → Node) → Keeps w f → (bs : List Block) → row w k (altered p f bs) ≡ altered p f (row w k bs)
+    row_altered : (p : Ptr) (f : Node → Node) → Keeps w f → (bs : List Block) → row w k (node_changed p f bs) ≡ node_changed p f (row w k bs)
     row_altered p f h [] = refl
     row_altered p f h (b ∷ bs) =
         let c : Block = cond (same_ptr p b.0) (b.0, f b.1) b in
-        ap (λ j. cond (k == j) (c ∷ row w k (altered p f bs)) (row w k (altered p f bs))) (key_cond f h (same_ptr p b.0) b)
+        ap (λ j. cond (k == j) (c ∷ row w k (node_changed p f bs)) (row w k (node_changed p f bs))) (key_cond f h (same_ptr p b.0) b)
         ∙ (λ i. cond (k == key_of w b.1) (c ∷ row_altered p f h bs i) (row_altered p f h bs i))
-        ∙ sym (cond_lift (altered p f) (k == key_of w b.1) (b ∷ row w k bs) (row w k bs))
+        ∙ sym (cond_lift (node_changed p f) (k == key_of w b.1) (b ∷ row w k bs) (row w k bs))
 
-    row_changed : (o : Option Place) (f : Node → Node) → Keeps w f → (bs : List Block) → row w k (changed o f bs) ≡ changed o f (row w k bs)
+    row_changed : (o : Option Place) (f : Node → Node) → Keeps w f → (bs : List Block) → row w k (place_changed o f bs) ≡ place_changed o f (row w k bs)
     row_changed None f h bs = refl
     row_changed (Some p) f h bs = row_altered p.ptr f h bs
 
-    row_removed : (p : Ptr) (bs : List Block) → row w k (removed p bs) ≡ removed p (row w k bs)
+    row_removed : (p : Ptr) (bs : List Block) → row w k (without_node p bs) ≡ without_node p (row w k bs)
     row_removed p [] = refl
     row_removed p (b ∷ bs) =
         let t = k == key_of w b.1 in
         let rest = row_removed p bs in
-        cond_lift (row w k) (same_ptr p b.0) (removed p bs) (b ∷ removed p bs)
+        cond_lift (row w k) (same_ptr p b.0) (without_node p bs) (b ∷ without_node p bs)
         ∙ (λ i. cond (same_ptr p b.0) (rest i) (cond t (b ∷ rest i) (rest i)))
-        ∙ swap (same_ptr p b.0) t b (removed p (row w k bs))
-        ∙ sym (cond_lift (removed p) t (b ∷ row w k bs) (row w k bs))
+        ∙ swap (same_ptr p b.0) t b (without_node p (row w k bs))
+        ∙ sym (cond_lift (without_node p) t (b ∷ row w k bs) (row w k bs))
 
     pub row_append : (xs ys : List Block) → row w k (xs ++ ys) ≡ row w k xs ++ row w k ys
     row_append [] ys = refl
@@ -145,10 +145,10 @@ module _ (w : Way) where
 
   -- ---- what changes no neighbours in these lists
 
-  pub thread_other : (heads : ℕ → Option Head) (bs : List Block) (o : Option Place) (f : Node → Node) → Keeps w f → KeepsSides w f → IsThreaded w heads bs → IsThreaded w heads (changed o f bs)
+  pub thread_other : (heads : ℕ → Option Head) (bs : List Block) (o : Option Place) (f : Node → Node) → Keeps w f → KeepsSides w f → IsThreaded w heads bs → IsThreaded w heads (place_changed o f bs)
   thread_other heads bs o f h s t = record {
     run = λ k. subst (λ cs. IsRun w None cs None) (sym (row_changed k o f h bs)) (run_other w o f s None None (row w k bs) (t.run k));
-    head = λ k. t.head k ∙ head_places (row w k bs) (changed o f (row w k bs)) (sym (places_changed f o (row w k bs))) ∙ ap head_of (sym (row_changed k o f h bs));
+    head = λ k. t.head k ∙ head_places (row w k bs) (place_changed o f (row w k bs)) (sym (places_changed f o (row w k bs))) ∙ ap head_of (sym (row_changed k o f h bs));
   }
 
   -- ---- a node joins
@@ -170,39 +170,39 @@ module _ (w : Way) where
     reached : Reaches o (row w k bs)
     reached = subst (λ q. Reaches q (row w k bs)) (sym last_is) (end_reaches (row w k bs))
 
-    row_joined : (j : ℕ) → row w j (changed o f (bs ++ b ∷ [])) ≡ changed o f (row w j bs ++ cond (j == k) (b ∷ []) [])
-    row_joined j = row_changed j o f (keeps_after w w (Some (at_block b))) (bs ++ b ∷ []) ∙ ap (changed o f) (row_append j bs (b ∷ []))
+    row_joined : (j : ℕ) → row w j (place_changed o f (bs ++ b ∷ [])) ≡ place_changed o f (row w j bs ++ cond (j == k) (b ∷ []) [])
+    row_joined j = row_changed j o f (keeps_after w w (Some (at_block b))) (bs ++ b ∷ []) ∙ ap (place_changed o f) (row_append j bs (b ∷ []))
 
     apart_here : IsApart (row w k bs ++ b ∷ [])
     apart_here = subst IsApart (row_append k bs (b ∷ []) ∙ ap (λ y. row w k bs ++ cond y (b ∷ []) []) (same_number k)) (apart_row k (bs ++ b ∷ []) d)
 
-    here : row w k (changed o f (bs ++ b ∷ [])) ≡ changed o f (row w k bs) ++ b ∷ []
-    here = row_joined k ∙ ap (λ y. changed o f (row w k bs ++ cond y (b ∷ []) [])) (same_number k)
-        ∙ changed_append f o (row w k bs) (b ∷ []) ∙ ap (λ cs. changed o f (row w k bs) ++ cs) (changed_avoids f o (b ∷ []) (reaches_avoids o (row w k bs) (b ∷ []) apart_here reached))
+    here : row w k (place_changed o f (bs ++ b ∷ [])) ≡ place_changed o f (row w k bs) ++ b ∷ []
+    here = row_joined k ∙ ap (λ y. place_changed o f (row w k bs ++ cond y (b ∷ []) [])) (same_number k)
+        ∙ changed_append f o (row w k bs) (b ∷ []) ∙ ap (λ cs. place_changed o f (row w k bs) ++ cs) (changed_avoids f o (b ∷ []) (reaches_avoids o (row w k bs) (b ∷ []) apart_here reached))
 
-    elsewhere : (j : ℕ) → (j == k) ≡ false → row w j (changed o f (bs ++ b ∷ [])) ≡ row w j bs
-    elsewhere j other = row_joined j ∙ ap (λ y. changed o f (row w j bs ++ cond y (b ∷ []) [])) other ∙ ap (changed o f) (append-nil (row w j bs))
+    elsewhere : (j : ℕ) → (j == k) ≡ false → row w j (place_changed o f (bs ++ b ∷ [])) ≡ row w j bs
+    elsewhere j other = row_joined j ∙ ap (λ y. place_changed o f (row w j bs ++ cond y (b ∷ []) [])) other ∙ ap (place_changed o f) (append-nil (row w j bs))
         ∙ changed_avoids f o (row w j bs) (row_avoids k j other o bs (apart_front bs (b ∷ []) d) reached)
 
-    run_here : IsRun w None (changed o f (row w k bs) ++ b ∷ []) None
+    run_here : IsRun w None (place_changed o f (row w k bs) ++ b ∷ []) None
     run_here =
         let r = row w k bs in
-        let on : IsRun w None (changed o f r) (Some (at_block b)) = subst (λ q. IsRun w None (changed q f r) (Some (at_block b))) (sym last_is) (run_on w None None (Some (at_block b)) r (apart_row k bs (apart_front bs (b ∷ []) d)) (t.run k)) in
-        run_join w None None (changed o f r) (b ∷ []) on (ap (λ (q : Sides). q.before) s ∙ last_is ∙ sym (last_changed o f None r), ap (λ (q : Sides). q.after) s, tt)
+        let on : IsRun w None (place_changed o f r) (Some (at_block b)) = subst (λ q. IsRun w None (place_changed q f r) (Some (at_block b))) (sym last_is) (run_on w None None (Some (at_block b)) r (apart_row k bs (apart_front bs (b ∷ []) d)) (t.run k)) in
+        run_join w None None (place_changed o f r) (b ∷ []) on (ap (λ (q : Sides). q.before) s ∙ last_is ∙ sym (last_changed o f None r), ap (λ (q : Sides). q.after) s, tt)
 
-    head_here : Some (grown (at_block b) (heads k)) ≡ head_of (changed o f (row w k bs) ++ b ∷ [])
+    head_here : Some (grown (at_block b) (heads k)) ≡ head_of (place_changed o f (row w k bs) ++ b ∷ [])
     head_here =
         let r = row w k bs in
         ap (λ h. Some (grown (at_block b) h)) (t.head k) ∙ sym (head_push r b)
-        ∙ head_places (r ++ b ∷ []) (changed o f r ++ b ∷ []) (map-append place_of r (b ∷ []) ∙ (λ i. sym (places_changed f o r) i ++ b.0 ∷ []) ∙ sym (map-append place_of (changed o f r) (b ∷ [])))
+        ∙ head_places (r ++ b ∷ []) (place_changed o f r ++ b ∷ []) (map-append place_of r (b ∷ []) ∙ (λ i. sym (places_changed f o r) i ++ b.0 ∷ []) ∙ sym (map-append place_of (place_changed o f r) (b ∷ [])))
 
     pub thread_grow : IsThreaded w (with_at k (Some (grown (at_block b) (heads k))) heads) (leads_on w o (Some (at_block b)) (bs ++ b ∷ []))
     thread_grow = record {
-      run = λ j. either (IsRun w None (row w j (changed o f (bs ++ b ∷ []))) None) (j == k)
-          (λ e. subst (λ m. IsRun w None (row w m (changed o f (bs ++ b ∷ []))) None) (number_eq k j e) (subst (λ cs. IsRun w None cs None) (sym here) run_here))
+      run = λ j. either (IsRun w None (row w j (place_changed o f (bs ++ b ∷ []))) None) (j == k)
+          (λ e. subst (λ m. IsRun w None (row w m (place_changed o f (bs ++ b ∷ []))) None) (number_eq k j e) (subst (λ cs. IsRun w None cs None) (sym here) run_here))
           (λ e. subst (λ cs. IsRun w None cs None) (sym (elsewhere j e)) (t.run j));
-      head = λ j. either (cond (j == k) (Some (grown (at_block b) (heads k))) (heads j) ≡ head_of (row w j (changed o f (bs ++ b ∷ [])))) (j == k)
-          (λ e. ap (λ y. cond y (Some (grown (at_block b) (heads k))) (heads j)) e ∙ head_here ∙ ap head_of (sym here) ∙ ap (λ m. head_of (row w m (changed o f (bs ++ b ∷ [])))) (number_eq k j e))
+      head = λ j. either (cond (j == k) (Some (grown (at_block b) (heads k))) (heads j) ≡ head_of (row w j (place_changed o f (bs ++ b ∷ [])))) (j == k)
+          (λ e. ap (λ y. cond y (Some (grown (at_block b) (heads k))) (heads j)) e ∙ head_here ∙ ap head_of (sym here) ∙ ap (λ m. head_of (row w m (place_changed o f (bs ++ b ∷ [])))) (number_eq k j e))
           (λ e. ap (λ y. cond y (Some (grown (at_block b) (heads k))) (heads j)) e ∙ t.head j ∙ ap head_of (sym (elsewhere j e)));
     }
 
@@ -233,14 +233,14 @@ module _ (w : Way) where
 
   module _ (heads : ℕ → Option Head) (bs : List Block) (p : Ptr) (n : Node) (d : IsApart bs) (t : IsThreaded w heads bs) (e : found p bs ≡ Some n) where
     abbrev gone : List Block → List Block
-    gone cs = removed p (leads_back w (sides_of w n).after (sides_of w n).before (leads_on w (sides_of w n).before (sides_of w n).after cs))
+    gone cs = without_node p (leads_back w (sides_of w n).after (sides_of w n).before (leads_on w (sides_of w n).before (sides_of w n).after cs))
 
     row_gone : (j : ℕ) → row w j (gone bs) ≡ gone (row w j bs)
     row_gone j =
         let s = sides_of w n in
         row_removed j p (leads_back w s.after s.before (leads_on w s.before s.after bs))
-        ∙ ap (removed p) (row_changed j s.after (with_before w s.before) (keeps_before w w s.before) (leads_on w s.before s.after bs)
-        ∙ ap (changed s.after (with_before w s.before)) (row_changed j s.before (with_after w s.after) (keeps_after w w s.after) bs))
+        ∙ ap (without_node p) (row_changed j s.after (with_before w s.before) (keeps_before w w s.before) (leads_on w s.before s.after bs)
+        ∙ ap (place_changed s.after (with_before w s.before)) (row_changed j s.before (with_after w s.after) (keeps_after w w s.after) bs))
 
     cut : (xs : List Block) × (ys : List Block) × (row w (key_of w n) bs ≡ xs ++ (p, n) ∷ ys)
     cut = split_at p (row w (key_of w n) bs) n (found_row p bs n e)
@@ -268,7 +268,7 @@ module _ (w : Way) where
         let on = changed_avoids (with_after w s.after) s.before (row w j bs) (row_avoids k j other s.before bs d before_reaches) in
         let back = changed_avoids (with_before w s.before) s.after (row w j bs) (row_avoids k j other s.after bs d after_reaches) in
         let it : has_place p (row w k bs) ≡ true = subst (λ cs. has_place p cs ≡ true) (sym cut.2) (has_past p cut.0 (p, n) cut.1) in
-        ap (λ cs. removed p (changed s.after (with_before w s.before) cs)) on ∙ ap (removed p) back ∙ removed_fresh p (row w j bs) (row_fresh k j other p bs d it)
+        ap (λ cs. without_node p (place_changed s.after (with_before w s.before) cs)) on ∙ ap (without_node p) back ∙ removed_fresh p (row w j bs) (row_fresh k j other p bs d it)
 
     pub thread_shrink : IsThreaded w (with_at (key_of w n) (shrunk (sides_of w n) (heads (key_of w n))) heads) (gone bs)
     thread_shrink =

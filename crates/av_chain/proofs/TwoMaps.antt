@@ -2,7 +2,7 @@
 use Rattle.av_base.specs.Words.{how_many, is_in, with_at}
 use Rattle.std.proofs.Common.{◌≡◌, ℕ, ◌+◌, arith, true, false, cond, ◌||◌, ◌==◌, List, [], ◌∷◌, ◌++◌, refl, sym, ap, ◌∙◌, Option, Some, None, append-nil}
 use mathlib.Core.Bool.{Bool}
-use Rattle.av_chain.specs.Links.{Link, chain_of, users_of, without, first_in, rest_in, left_by, left_by_all, one_if, AreMutual, AreOnce, popped}
+use Rattle.av_chain.specs.Links.{Link, chain_of, users_of, without, first_in, rest_in, left_by, left_by_all, one_if, AreMutual, AreOnce, without_first}
 use Rattle.av_chain.proofs.Altered.{either, cond_lift, cond_same}
 use Rattle.av_chain.proofs.Threads.{number_eq, same_number}
 use Rattle.av_chain.proofs.Wholes.{chain_append, is_in_append, or_false}
@@ -93,26 +93,26 @@ without_twice x (y ∷ ys) = either (without x (cond (x == y) (without x ys) (y 
     (λ e. ap (λ t. without x (cond t (without x ys) (y ∷ without x ys))) e ∙ ap (λ t. cond t (without x (without x ys)) (y ∷ without x (without x ys))) e
     ∙ ap (λ zs. y ∷ zs) (without_twice x ys) ∙ sym (ap (λ t. cond t (without x ys) (y ∷ without x ys)) e))
 
-popped_chain : (a : ℕ) (ls : List Link) (b : ℕ) → chain_of (popped a ls) b ≡ with_at a (rest_in (chain_of ls a)) (chain_of ls) b
+popped_chain : (a : ℕ) (ls : List Link) (b : ℕ) → chain_of (without_first a ls) b ≡ with_at a (rest_in (chain_of ls a)) (chain_of ls) b
 popped_chain a [] b = sym (cond_same (b == a) [])
 popped_chain a (l ∷ ls) b =
-    either (chain_of (popped a (l ∷ ls)) b ≡ with_at a (rest_in (chain_of (l ∷ ls) a)) (chain_of (l ∷ ls)) b) (a == l.0)
+    either (chain_of (without_first a (l ∷ ls)) b ≡ with_at a (rest_in (chain_of (l ∷ ls) a)) (chain_of (l ∷ ls)) b) (a == l.0)
     (λ e.
     let goal : chain_of ls b ≡ cond (b == a) (chain_of ls a) (cond (b == l.0) (l.1 ∷ chain_of ls b) (chain_of ls b)) =
     either (chain_of ls b ≡ cond (b == a) (chain_of ls a) (cond (b == l.0) (l.1 ∷ chain_of ls b) (chain_of ls b))) (b == a)
     (λ f. ap (chain_of ls) (sym (number_eq a b f)) ∙ sym (ap (λ y. cond y (chain_of ls a) (cond (b == l.0) (l.1 ∷ chain_of ls b) (chain_of ls b))) f))
     (λ f. sym (ap (λ y. cond y (chain_of ls a) (cond (b == l.0) (l.1 ∷ chain_of ls b) (chain_of ls b))) f ∙ ap (λ y. cond y (l.1 ∷ chain_of ls b) (chain_of ls b)) (ap (λ k. b == k) (number_eq l.0 a e) ∙ f))) in
-    ap (λ y. chain_of (cond y ls (l ∷ popped a ls)) b) e ∙ goal ∙ sym (ap (λ y. cond (b == a) (rest_in (cond y (l.1 ∷ chain_of ls a) (chain_of ls a))) (cond (b == l.0) (l.1 ∷ chain_of ls b) (chain_of ls b))) e))
+    ap (λ y. chain_of (cond y ls (l ∷ without_first a ls)) b) e ∙ goal ∙ sym (ap (λ y. cond (b == a) (rest_in (cond y (l.1 ∷ chain_of ls a) (chain_of ls a))) (cond (b == l.0) (l.1 ∷ chain_of ls b) (chain_of ls b))) e))
     (λ e.
-    let goal : cond (b == l.0) (l.1 ∷ chain_of (popped a ls) b) (chain_of (popped a ls) b) ≡ cond (b == a) (rest_in (chain_of ls a)) (cond (b == l.0) (l.1 ∷ chain_of ls b) (chain_of ls b)) =
-    either (cond (b == l.0) (l.1 ∷ chain_of (popped a ls) b) (chain_of (popped a ls) b) ≡ cond (b == a) (rest_in (chain_of ls a)) (cond (b == l.0) (l.1 ∷ chain_of ls b) (chain_of ls b))) (b == a)
-    (λ f. ap (λ y. cond y (l.1 ∷ chain_of (popped a ls) b) (chain_of (popped a ls) b)) (ap (λ k. k == l.0) (sym (number_eq a b f)) ∙ e) ∙ popped_chain a ls b
+    let goal : cond (b == l.0) (l.1 ∷ chain_of (without_first a ls) b) (chain_of (without_first a ls) b) ≡ cond (b == a) (rest_in (chain_of ls a)) (cond (b == l.0) (l.1 ∷ chain_of ls b) (chain_of ls b)) =
+    either (cond (b == l.0) (l.1 ∷ chain_of (without_first a ls) b) (chain_of (without_first a ls) b) ≡ cond (b == a) (rest_in (chain_of ls a)) (cond (b == l.0) (l.1 ∷ chain_of ls b) (chain_of ls b))) (b == a)
+    (λ f. ap (λ y. cond y (l.1 ∷ chain_of (without_first a ls) b) (chain_of (without_first a ls) b)) (ap (λ k. k == l.0) (sym (number_eq a b f)) ∙ e) ∙ popped_chain a ls b
     ∙ ap (λ y. cond y (rest_in (chain_of ls a)) (chain_of ls b)) f ∙ sym (ap (λ y. cond y (rest_in (chain_of ls a)) (cond (b == l.0) (l.1 ∷ chain_of ls b) (chain_of ls b))) f))
-    (λ f. let rest : chain_of (popped a ls) b ≡ chain_of ls b = popped_chain a ls b ∙ ap (λ y. cond y (rest_in (chain_of ls a)) (chain_of ls b)) f in
+    (λ f. let rest : chain_of (without_first a ls) b ≡ chain_of ls b = popped_chain a ls b ∙ ap (λ y. cond y (rest_in (chain_of ls a)) (chain_of ls b)) f in
     (λ i. cond (b == l.0) (l.1 ∷ rest i) (rest i)) ∙ sym (ap (λ y. cond y (rest_in (chain_of ls a)) (cond (b == l.0) (l.1 ∷ chain_of ls b) (chain_of ls b))) f)) in
-    ap (λ y. chain_of (cond y ls (l ∷ popped a ls)) b) e ∙ goal ∙ sym (ap (λ y. cond (b == a) (rest_in (cond y (l.1 ∷ chain_of ls a) (chain_of ls a))) (cond (b == l.0) (l.1 ∷ chain_of ls b) (chain_of ls b))) e))
+    ap (λ y. chain_of (cond y ls (l ∷ without_first a ls)) b) e ∙ goal ∙ sym (ap (λ y. cond (b == a) (rest_in (cond y (l.1 ∷ chain_of ls a) (chain_of ls a))) (cond (b == l.0) (l.1 ∷ chain_of ls b) (chain_of ls b))) e))
 
-pub chain_popped : (a : ℕ) (ls : List Link) → chain_of (popped a ls) ≡ with_at a (rest_in (chain_of ls a)) (chain_of ls)
+pub chain_popped : (a : ℕ) (ls : List Link) → chain_of (without_first a ls) ≡ with_at a (rest_in (chain_of ls a)) (chain_of ls)
 chain_popped a ls = λ i b. popped_chain a ls b i
 
 -- of another area's link before it
@@ -130,10 +130,10 @@ passed_by a (Some v) l ls u e = either (cond (u == l.1) (l.0 ∷ with_at v (with
     let here : with_at v (without a (users_of ls v)) (users_of ls) u ≡ users_of ls u = ap (λ y. cond y (without a (users_of ls v)) (users_of ls u)) f in
     (λ i. cond (u == l.1) (l.0 ∷ here i) (here i)) ∙ sym (ap (λ y. cond y (without a (users_of (l ∷ ls) v)) (users_of (l ∷ ls) u)) f))
 
-popped_users : (a : ℕ) (ls : List Link) → AreOnce ls → (u : ℕ) → users_of (popped a ls) u ≡ left_by a (first_in (chain_of ls a)) (users_of ls) u
+popped_users : (a : ℕ) (ls : List Link) → AreOnce ls → (u : ℕ) → users_of (without_first a ls) u ≡ left_by a (first_in (chain_of ls a)) (users_of ls) u
 popped_users a [] o u = refl
 popped_users a (l ∷ ls) o u =
-    either (users_of (popped a (l ∷ ls)) u ≡ left_by a (first_in (chain_of (l ∷ ls) a)) (users_of (l ∷ ls)) u) (a == l.0)
+    either (users_of (without_first a (l ∷ ls)) u ≡ left_by a (first_in (chain_of (l ∷ ls) a)) (users_of (l ∷ ls)) u) (a == l.0)
     (λ e.
     let absent : is_in a (users_of ls l.1) ≡ false = ap (λ k. is_in k (users_of ls l.1)) (sym (number_eq l.0 a e)) ∙ sym (dual ls l.0 l.1) ∙ o.0 in
     let goal : users_of ls u ≡ with_at l.1 (without a (users_of (l ∷ ls) l.1)) (users_of (l ∷ ls)) u =
@@ -143,12 +143,12 @@ popped_users a (l ∷ ls) o u =
     let gone : without a (l.0 ∷ users_of ls l.1) ≡ users_of ls l.1 = ap (λ y. cond y (without a (users_of ls l.1)) (l.0 ∷ without a (users_of ls l.1))) e ∙ without_none a (users_of ls l.1) absent in
     ap (users_of ls) (sym (number_eq l.1 u f)) ∙ sym (ap (without a) mine ∙ gone) ∙ sym (ap (λ y. cond y (without a (users_of (l ∷ ls) l.1)) (users_of (l ∷ ls) u)) f))
     (λ f. sym (ap (λ y. cond y (without a (users_of (l ∷ ls) l.1)) (users_of (l ∷ ls) u)) f ∙ ap (λ y. cond y (l.0 ∷ users_of ls u) (users_of ls u)) f)) in
-    ap (λ y. users_of (cond y ls (l ∷ popped a ls)) u) e ∙ goal ∙ sym (ap (λ y. left_by a (first_in (cond y (l.1 ∷ chain_of ls a) (chain_of ls a))) (users_of (l ∷ ls)) u) e))
+    ap (λ y. users_of (cond y ls (l ∷ without_first a ls)) u) e ∙ goal ∙ sym (ap (λ y. left_by a (first_in (cond y (l.1 ∷ chain_of ls a) (chain_of ls a))) (users_of (l ∷ ls)) u) e))
     (λ e.
-    ap (λ y. users_of (cond y ls (l ∷ popped a ls)) u) e ∙ (λ i. cond (u == l.1) (l.0 ∷ popped_users a ls o.1 u i) (popped_users a ls o.1 u i)) ∙ passed_by a (first_in (chain_of ls a)) l ls u e
+    ap (λ y. users_of (cond y ls (l ∷ without_first a ls)) u) e ∙ (λ i. cond (u == l.1) (l.0 ∷ popped_users a ls o.1 u i) (popped_users a ls o.1 u i)) ∙ passed_by a (first_in (chain_of ls a)) l ls u e
     ∙ sym (ap (λ y. left_by a (first_in (cond y (l.1 ∷ chain_of ls a) (chain_of ls a))) (users_of (l ∷ ls)) u) e))
 
-pub users_popped : (a : ℕ) (ls : List Link) → AreOnce ls → users_of (popped a ls) ≡ left_by a (first_in (chain_of ls a)) (users_of ls)
+pub users_popped : (a : ℕ) (ls : List Link) → AreOnce ls → users_of (without_first a ls) ≡ left_by a (first_in (chain_of ls a)) (users_of ls)
 users_popped a ls o = λ i u. popped_users a ls o u i
 
 -- an area that is linked to none of the others leaves them alone

@@ -9,8 +9,8 @@ use Rattle.av_chain.specs.declared.node.Way.{Way}
 use Rattle.av_chain.specs.declared.node.Way.TheVariants.{Area, Anon}
 use Rattle.av_chain.specs.declared.node.Sides.{Sides}
 use Rattle.av_chain.specs.declared.node.Place.{Place}
-use Rattle.av_chain.specs.Nodes.{Block, same_ptr, IsApart, has_place, found, removed}
-use Rattle.av_chain.specs.Rows.{key_of, sides_of, with_before, with_after, altered, changed, leads_on, leads_back, Reaches, row, at_block, head_of, last_of, grown, shrunk, IsThreaded}
+use Rattle.av_chain.specs.Nodes.{Block, same_ptr, IsApart, has_place, found, without_node}
+use Rattle.av_chain.specs.Rows.{key_of, sides_of, with_before, with_after, node_changed, place_changed, leads_on, leads_back, Reaches, row, at_block, head_of, last_of, grown, shrunk, IsThreaded}
 use Rattle.av_chain.specs.Links.{Link, chain_of, AreOnce}
 use Rattle.av_chain.specs.Lists.{links_of, IsWhole}
 use Rattle.av_chain.proofs.Altered.{either, cond_lift, changed_append, changed_avoids, reaches_avoids, removed_changed, apart_changed, has_changed, reaches_changed, place_cond}
@@ -35,11 +35,11 @@ pair_cond : (f : Node → Node) → Keeps Area f → Keeps Anon f → (y : Bool)
 pair_cond f ha hv true c = λ i. (ha c.1 i, hv c.1 i)
 pair_cond f ha hv false c = refl
 
-links_altered : (p : Ptr) (f : Node → Node) → Keeps Area f → Keeps Anon f → (bs : List Block) → links_of (altered p f bs) ≡ links_of bs
+links_altered : (p : Ptr) (f : Node → Node) → Keeps Area f → Keeps Anon f → (bs : List Block) → links_of (node_changed p f bs) ≡ links_of bs
 links_altered p f ha hv [] = refl
 links_altered p f ha hv (c ∷ bs) = λ i. pair_cond f ha hv (same_ptr p c.0) c i ∷ links_altered p f ha hv bs i
 
-links_changed : (o : Option Place) (f : Node → Node) → Keeps Area f → Keeps Anon f → (bs : List Block) → links_of (changed o f bs) ≡ links_of bs
+links_changed : (o : Option Place) (f : Node → Node) → Keeps Area f → Keeps Anon f → (bs : List Block) → links_of (place_changed o f bs) ≡ links_of bs
 links_changed None f ha hv bs = refl
 links_changed (Some p) f ha hv bs = links_altered p.ptr f ha hv bs
 
@@ -106,22 +106,22 @@ once_push (l ∷ ls) a v o n =
       once_push ls a v o.1 (not_later (a == l.0) l.1 v (chain_of ls a) n),
     )
 
-fewer : (p : Ptr) (bs : List Block) (a v : ℕ) → is_in v (chain_of (links_of bs) a) ≡ false → is_in v (chain_of (links_of (removed p bs)) a) ≡ false
+fewer : (p : Ptr) (bs : List Block) (a v : ℕ) → is_in v (chain_of (links_of bs) a) ≡ false → is_in v (chain_of (links_of (without_node p bs)) a) ≡ false
 fewer p [] a v n = n
 fewer p (b ∷ bs) a v n =
     let rest = fewer p bs a v (not_later (a == b.1.area) b.1.anon v (chain_of (links_of bs) a) n) in
-    elim (same_ptr p b.0) as (λ y. is_in v (chain_of (links_of (cond y (removed p bs) (b ∷ removed p bs))) a) ≡ false) [
+    elim (same_ptr p b.0) as (λ y. is_in v (chain_of (links_of (cond y (without_node p bs) (b ∷ without_node p bs))) a) ≡ false) [
       | true ↦ rest
       | false ↦ (elim (a == b.1.area) as (λ y. is_in v (cond y (b.1.anon ∷ chain_of (links_of bs) a) (chain_of (links_of bs) a)) ≡ false
-          → is_in v (cond y (b.1.anon ∷ chain_of (links_of (removed p bs)) a) (chain_of (links_of (removed p bs)) a)) ≡ false) [
-            | true ↦ λ h. both_false (v == b.1.anon) (is_in v (chain_of (links_of (removed p bs)) a)) (false_left (v == b.1.anon) (is_in v (chain_of (links_of bs) a)) h) rest
+          → is_in v (cond y (b.1.anon ∷ chain_of (links_of (without_node p bs)) a) (chain_of (links_of (without_node p bs)) a)) ≡ false) [
+            | true ↦ λ h. both_false (v == b.1.anon) (is_in v (chain_of (links_of (without_node p bs)) a)) (false_left (v == b.1.anon) (is_in v (chain_of (links_of bs) a)) h) rest
             | false ↦ λ h. rest
           ]) n
     ]
 
-once_removed : (p : Ptr) (bs : List Block) → AreOnce (links_of bs) → AreOnce (links_of (removed p bs))
+once_removed : (p : Ptr) (bs : List Block) → AreOnce (links_of bs) → AreOnce (links_of (without_node p bs))
 once_removed p [] o = tt
-once_removed p (b ∷ bs) o = elim (same_ptr p b.0) as (λ y. AreOnce (links_of (cond y (removed p bs) (b ∷ removed p bs)))) [
+once_removed p (b ∷ bs) o = elim (same_ptr p b.0) as (λ y. AreOnce (links_of (cond y (without_node p bs) (b ∷ without_node p bs)))) [
   | true ↦ once_removed p bs o.1
   | false ↦ (fewer p bs b.1.area b.1.anon o.0, once_removed p bs o.1)
 ]
@@ -187,23 +187,23 @@ key_kept f h true b = h b.1
 key_kept f h false b = refl
 
 found_altered : (p q : Ptr) (f : Node → Node) (bs : List Block) (n : Node) → found p bs ≡ Some n → Keeps Anon f → KeepsSides Anon f
-    → (m : Node) × (found p (altered q f bs) ≡ Some m) × (sides_of Anon m ≡ sides_of Anon n) × (key_of Anon m ≡ key_of Anon n)
+    → (m : Node) × (found p (node_changed q f bs) ≡ Some m) × (sides_of Anon m ≡ sides_of Anon n) × (key_of Anon m ≡ key_of Anon n)
 found_altered p q f [] n e hk hs = cc
 found_altered p q f (b ∷ bs) n e hk hs =
     let c : Block = cond (same_ptr q b.0) (b.0, f b.1) b in
     (elim (same_ptr p b.0) as (λ y. same_ptr p b.0 ≡ y → cond y (Some b.1) (found p bs) ≡ Some n
-    → (m : Node) × (found p (c ∷ altered q f bs) ≡ Some m) × (sides_of Anon m ≡ sides_of Anon n) × (key_of Anon m ≡ key_of Anon n)) [
+    → (m : Node) × (found p (c ∷ node_changed q f bs) ≡ Some m) × (sides_of Anon m ≡ sides_of Anon n) × (key_of Anon m ≡ key_of Anon n)) [
       | true ↦ λ at h.
           let is : b.1 ≡ n = cc in
-          let hit : found p (c ∷ altered q f bs) ≡ Some c.1 = ap (λ y. cond y (Some c.1) (found p (altered q f bs))) (ap (same_ptr p) (place_cond (same_ptr q b.0) f b) ∙ at) in
+          let hit : found p (c ∷ node_changed q f bs) ≡ Some c.1 = ap (λ y. cond y (Some c.1) (found p (node_changed q f bs))) (ap (same_ptr p) (place_cond (same_ptr q b.0) f b) ∙ at) in
           (c.1, hit, sides_kept f hs (same_ptr q b.0) b ∙ ap (sides_of Anon) is, key_kept f hk (same_ptr q b.0) b ∙ ap (key_of Anon) is)
       | false ↦ λ at h.
           let rest = found_altered p q f bs n h hk hs in
-          (rest.0, ap (λ y. cond y (Some c.1) (found p (altered q f bs))) (ap (same_ptr p) (place_cond (same_ptr q b.0) f b) ∙ at) ∙ rest.1, rest.2, rest.3)
+          (rest.0, ap (λ y. cond y (Some c.1) (found p (node_changed q f bs))) (ap (same_ptr p) (place_cond (same_ptr q b.0) f b) ∙ at) ∙ rest.1, rest.2, rest.3)
     ]) refl e
 
 found_changed : (p : Ptr) (o : Option Place) (f : Node → Node) (bs : List Block) (n : Node) → found p bs ≡ Some n → Keeps Anon f → KeepsSides Anon f
-    → (m : Node) × (found p (changed o f bs) ≡ Some m) × (sides_of Anon m ≡ sides_of Anon n) × (key_of Anon m ≡ key_of Anon n)
+    → (m : Node) × (found p (place_changed o f bs) ≡ Some m) × (sides_of Anon m ≡ sides_of Anon n) × (key_of Anon m ≡ key_of Anon n)
 found_changed p None f bs n e hk hs = (n, e, refl, refl)
 found_changed p (Some q) f bs n e hk hs = found_altered p q.ptr f bs n e hk hs
 
@@ -259,25 +259,25 @@ module _ (areas anons : ℕ → Option Head) (bs : List Block) (p : Ptr) (n : No
       ∙ has_changed (with_before Area sa.before) p sa.after cs0 ∙ has_changed (with_after Area sa.after) p sa.before bs ∙ h
 
   -- the anon_vma's list may be changed before or after the node is taken out
-  anon_past : (xs : List Block) → removed p (leads_back Anon sv.after sv.before (leads_on Anon sv.before sv.after xs)) ≡ leads_back Anon sv.after sv.before (leads_on Anon sv.before sv.after (removed p xs))
+  anon_past : (xs : List Block) → without_node p (leads_back Anon sv.after sv.before (leads_on Anon sv.before sv.after xs)) ≡ leads_back Anon sv.after sv.before (leads_on Anon sv.before sv.after (without_node p xs))
   anon_past xs = removed_changed (with_before Anon sv.before) p sv.after (leads_on Anon sv.before sv.after xs) ∙ ap (leads_back Anon sv.after sv.before) (removed_changed (with_after Anon sv.after) p sv.before xs)
 
-  area_past : removed p cs1 ≡ leads_back Area sa.after sa.before (leads_on Area sa.before sa.after (removed p bs))
+  area_past : without_node p cs1 ≡ leads_back Area sa.after sa.before (leads_on Area sa.before sa.after (without_node p bs))
   area_past = removed_changed (with_before Area sa.before) p sa.after cs0 ∙ ap (leads_back Area sa.after sa.before) (removed_changed (with_after Area sa.after) p sa.before bs)
 
-  pub links_gone : links_of (removed p cs2) ≡ links_of (removed p bs)
+  pub links_gone : links_of (without_node p cs2) ≡ links_of (without_node p bs)
   links_gone =
-      ap links_of (anon_past cs1) ∙ links_back Anon sv.after sv.before (leads_on Anon sv.before sv.after (removed p cs1)) ∙ links_on Anon sv.before sv.after (removed p cs1)
-      ∙ ap links_of area_past ∙ links_back Area sa.after sa.before (leads_on Area sa.before sa.after (removed p bs)) ∙ links_on Area sa.before sa.after (removed p bs)
+      ap links_of (anon_past cs1) ∙ links_back Anon sv.after sv.before (leads_on Anon sv.before sv.after (without_node p cs1)) ∙ links_on Anon sv.before sv.after (without_node p cs1)
+      ∙ ap links_of area_past ∙ links_back Area sa.after sa.before (leads_on Area sa.before sa.after (without_node p bs)) ∙ links_on Area sa.before sa.after (without_node p bs)
 
-  areas_gone : IsThreaded Area (with_at n.area (shrunk sa (areas n.area)) areas) (removed p cs2)
+  areas_gone : IsThreaded Area (with_at n.area (shrunk sa (areas n.area)) areas) (without_node p cs2)
   areas_gone =
       let heads = with_at n.area (shrunk sa (areas n.area)) areas in
-      let one = thread_other Area heads (removed p cs1) sv.before (with_after Anon sv.after) (keeps_after Area Anon sv.after) (λ m. refl) (thread_shrink Area areas bs p n d t.areas_lead e) in
-      let two = thread_other Area heads (leads_on Anon sv.before sv.after (removed p cs1)) sv.after (with_before Anon sv.before) (keeps_before Area Anon sv.before) (λ m. refl) one in
+      let one = thread_other Area heads (without_node p cs1) sv.before (with_after Anon sv.after) (keeps_after Area Anon sv.after) (λ m. refl) (thread_shrink Area areas bs p n d t.areas_lead e) in
+      let two = thread_other Area heads (leads_on Anon sv.before sv.after (without_node p cs1)) sv.after (with_before Anon sv.before) (keeps_before Area Anon sv.before) (λ m. refl) one in
       subst (IsThreaded Area heads) (sym (anon_past cs1)) two
 
-  anons_gone : IsThreaded Anon (with_at n.anon (shrunk sv (anons n.anon)) anons) (removed p cs2)
+  anons_gone : IsThreaded Anon (with_at n.anon (shrunk sv (anons n.anon)) anons) (without_node p cs2)
   anons_gone =
       let one = thread_other Anon anons bs sa.before (with_after Area sa.after) (keeps_after Anon Area sa.after) (λ m. refl) t.anons_lead in
       let two = thread_other Anon anons cs0 sa.after (with_before Area sa.before) (keeps_before Anon Area sa.before) (λ m. refl) one in
@@ -286,8 +286,8 @@ module _ (areas anons : ℕ → Option Head) (bs : List Block) (p : Ptr) (n : No
       let same : sides_of Anon f1.0 ≡ sv = f1.2 ∙ f0.2 in
       let key : key_of Anon f1.0 ≡ n.anon = f1.3 ∙ f0.3 in
       let d1 = apart_changed (with_before Area sa.before) sa.after cs0 (apart_changed (with_after Area sa.after) sa.before bs d) in
-      subst (λ (q : Sides × ℕ). IsThreaded Anon (with_at q.1 (shrunk q.0 (anons q.1)) anons) (removed p (leads_back Anon q.0.after q.0.before (leads_on Anon q.0.before q.0.after cs1))))
+      subst (λ (q : Sides × ℕ). IsThreaded Anon (with_at q.1 (shrunk q.0 (anons q.1)) anons) (without_node p (leads_back Anon q.0.after q.0.before (leads_on Anon q.0.before q.0.after cs1))))
       (λ i. (same i, key i)) (thread_shrink Anon anons cs1 p f1.0 d1 two f1.1)
 
-  pub whole_gone : IsWhole (with_at n.area (shrunk sa (areas n.area)) areas) (with_at n.anon (shrunk sv (anons n.anon)) anons) (removed p cs2)
+  pub whole_gone : IsWhole (with_at n.area (shrunk sa (areas n.area)) areas) (with_at n.anon (shrunk sv (anons n.anon)) anons) (without_node p cs2)
   whole_gone = record { areas_lead = areas_gone; anons_lead = anons_gone; once = subst AreOnce (sym links_gone) (once_removed p bs t.once) }

@@ -59,6 +59,6 @@ AreOnce [] = Unit {0}
 AreOnce (l ∷ ls) = (is_in l.1 (chain_of ls l.0) ≡ false) × AreOnce ls
 
 -- without the first link of an area
-abbrev pub popped : ℕ → List Link → List Link
-popped area [] = []
-popped area (l ∷ ls) = cond (area == l.0) ls (l ∷ popped area ls)
+abbrev pub without_first : ℕ → List Link → List Link
+without_first area [] = []
+without_first area (l ∷ ls) = cond (area == l.0) ls (l ∷ without_first area ls)

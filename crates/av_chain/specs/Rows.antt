@@ -30,22 +30,22 @@ abbrev pub with_after : Way → Option Place → Node → Node
 with_after w p n = with_sides w (record { before = (sides_of w n).before; after = p }) n
 
 -- the node at a place is changed
-abbrev pub altered : Ptr → (Node → Node) → List Block → List Block
-altered p f [] = []
-altered p f (b ∷ bs) = cond (same_ptr p b.0) (b.0, f b.1) b ∷ altered p f bs
+abbrev pub node_changed : Ptr → (Node → Node) → List Block → List Block
+node_changed p f [] = []
+node_changed p f (b ∷ bs) = cond (same_ptr p b.0) (b.0, f b.1) b ∷ node_changed p f bs
 
 -- the same, if there is a place
-abbrev pub changed : Option Place → (Node → Node) → List Block → List Block
-changed None f bs = bs
-changed (Some p) f bs = altered p.ptr f bs
+abbrev pub place_changed : Option Place → (Node → Node) → List Block → List Block
+place_changed None f bs = bs
+place_changed (Some p) f bs = node_changed p.ptr f bs
 
 -- the node at the first place, if there is one, leads on to the other place
 abbrev pub leads_on : Way → Option Place → Option Place → List Block → List Block
-leads_on w at to bs = changed at (with_after w to) bs
+leads_on w at to bs = place_changed at (with_after w to) bs
 
 -- the node at the first place, if there is one, leads back to the other place
 abbrev pub leads_back : Way → Option Place → Option Place → List Block → List Block
-leads_back w at to bs = changed at (with_before w to) bs
+leads_back w at to bs = place_changed at (with_before w to) bs
 
 -- a node lies at the place, if there is one
 abbrev pub Reaches : Option Place → List Block → Type 0
@@ -121,12 +121,12 @@ abbrev pub HaveHead : ℕ → Option Head → (ℕ → Option Head) → (ℕ →
 HaveHead k h old new = (j : ℕ) → new j ≡ with_at k h old j
 
 -- the node is the last of the list with this head: the one before it leads on to it
-abbrev pub joined : Way → Place → Option Head → List Block → List Block
-joined w p h bs = leads_on w (last_of h) (Some p) bs
+abbrev pub after_join : Way → Place → Option Head → List Block → List Block
+after_join w p h bs = leads_on w (last_of h) (Some p) bs
 
 -- the neighbours of a node lead past it
-abbrev pub parted : Way → Sides → List Block → List Block
-parted w s bs = leads_back w s.after s.before (leads_on w s.before s.after bs)
+abbrev pub after_part : Way → Sides → List Block → List Block
+after_part w s bs = leads_back w s.after s.before (leads_on w s.before s.after bs)
 
 -- each list leads through its nodes, and its head knows its ends
 pub record IsThreaded (w : Way) (heads : ℕ → Option Head) (bs : List Block) : Type 0 where

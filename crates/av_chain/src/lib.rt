@@ -16,7 +16,6 @@ mod nodes;
 mod parts;
 pub mod ring;
 mod rows;
-pub mod steps;
 #[cfg(test)]
 mod tests;
 pub mod users;

@@ -3,7 +3,7 @@ ghost use Rattle.av_base.specs.Words.{is_in};
 ghost use Rattle.std.specs.Prelude.{◌≡◌, ℕ, ◌-◌, ◌<◌, ◌^◌, [], ◌∷◌, ◌++◌, Some, None, true, false, IfOk, OnOk, OnErr, IfSome, IfNone, is_some, length, nat_eq};
 ghost use Rattle.std.specs.HashMap.{get, spare};
 ghost use Rattle.av_chain.specs.declared.node.Way.TheVariants.{Area as AreaWay, Anon as AnonWay};
-ghost use Rattle.av_chain.specs.Nodes.{has_place, removed};
+ghost use Rattle.av_chain.specs.Nodes.{has_place, without_node};
 ghost use Rattle.av_chain.specs.Rows.{Reaches, last_of, first_or, row};
 ghost use Rattle.av_chain.specs.Links.{chain_of, after_in};
 ghost use Rattle.av_chain.specs.Lists.{links_of, links_in, AreKept, IsLinkAt, anon_there};
@@ -72,7 +72,7 @@ impl Lists {
         requires there { has_place place.ptr self.old.nodes.blocks ≡ true }
         ensures kept { AreKept self.new }
         ensures anon { anon_there (Some place) self.old.nodes.blocks ≡ Some result }
-        ensures links { links_in self.new ≡ links_of (removed place.ptr self.old.nodes.blocks) }
+        ensures links { links_in self.new ≡ links_of (without_node place.ptr self.old.nodes.blocks) }
     {
         let node = *self.nodes.get(place);
         self.nodes

@@ -2,7 +2,7 @@
 ghost use Rattle.std.specs.Prelude.{◌≡◌, List, [], ◌∷◌, ◌++◌, Some, true};
 ghost use Rattle.std.specs.Coded.{prop_coded};
 ghost use denote.RawPtr.{Ptr};
-ghost use Rattle.av_chain.specs.Nodes.{Block, IsApart, IsApart-prop, found, has_place, stored, removed};
+ghost use Rattle.av_chain.specs.Nodes.{Block, IsApart, IsApart-prop, found, has_place, with_node, without_node};
 ghost use Rattle.av_chain.specs.Ownership.{blocks_own, blocks_lent};
 
 use crate::node::{Node, Place};
@@ -49,7 +49,7 @@ impl Nodes {
     /// Frees a node.
     pub(crate) fn free(&mut self, alloc: Global, at: Place)
         requires { has_place at.ptr self.old.blocks ≡ true }
-        ensures { self.new.blocks ≡ removed at.ptr self.old.blocks }
+        ensures { self.new.blocks ≡ without_node at.ptr self.old.blocks }
     {
         drop(self.take(alloc, at).into_box());
     }
@@ -57,7 +57,7 @@ impl Nodes {
     // Hands out a node's memory.
     fn take(&mut self, alloc: Global, at: Place) -> Parts<Node, Global>
         requires { has_place at.ptr self.old.blocks ≡ true }
-        ensures { self.new.blocks ≡ removed at.ptr self.old.blocks }
+        ensures { self.new.blocks ≡ without_node at.ptr self.old.blocks }
     {
         Parts { ptr: at.ptr, alloc }
     }
@@ -71,7 +71,7 @@ impl Nodes {
 
     pub(crate) fn set(&mut self, at: Place, node: Node)
         requires { has_place at.ptr self.old.blocks ≡ true }
-        ensures { self.new.blocks ≡ stored at.ptr node self.old.blocks }
+        ensures { self.new.blocks ≡ with_node at.ptr node self.old.blocks }
     {
         unsafe { *at.ptr = node };
     }

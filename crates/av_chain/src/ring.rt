@@ -3,7 +3,7 @@ ghost use Rattle.av_base.specs.Words.{with_at};
 ghost use Rattle.std.specs.Prelude.{◌≡◌, ℕ, ◌+◌, List, [], length, is_some};
 ghost use Rattle.av_chain.specs.Links.{first_in, rest_in, left_by, left_by_all, one_if};
 
-use crate::steps::Steps;
+use av_base::Steps;
 use std::sync::ledger::Ledger;
 
 /// Links between areas and anon_vmas, seen as two maps: of each area its anon_vmas, of each

@@ -1,7 +1,7 @@
 //! Lists of nodes. A node lies in two at once, and leaves both in constant time.
 ghost use Rattle.std.specs.Prelude.{◌≡◌, ℕ, ◌-◌, ◌<◌, ◌^◌, ◌⊎◌, Some, IfSome, IsSome, nat_eq};
 ghost use Rattle.std.specs.HashMap.{get, spare};
-ghost use Rattle.av_chain.specs.Rows.{leads_on, leads_back, Reaches, last_of, grown, shrunk, joined, parted, HaveHead};
+ghost use Rattle.av_chain.specs.Rows.{leads_on, leads_back, Reaches, last_of, grown, shrunk, after_join, after_part, HaveHead};
 
 use crate::node::{Head, Node, Place, Sides, Way};
 use crate::nodes::Nodes;
@@ -38,7 +38,7 @@ impl Nodes {
         requires reaches { Reaches (last_of (get nat_eq heads.old key)) self.old.blocks }
         requires few { IfSome (get nat_eq heads.old key) (λ h. h.count < 2 ^ 64 - 1) }
         ensures blocks { self.new.blocks
-            ≡ joined way place (get nat_eq heads.old key) self.old.blocks }
+            ≡ after_join way place (get nat_eq heads.old key) self.old.blocks }
         ensures heads { HaveHead key (Some (grown place (get nat_eq heads.old key)))
             (get nat_eq heads.old) (get nat_eq heads.new) }
     {
@@ -77,7 +77,7 @@ impl Nodes {
         requires after { Reaches sides.after self.old.blocks }
         requires some { IsSome (get nat_eq heads.old key) }
         requires few { IfSome (get nat_eq heads.old key) (λ h. 0 < h.count) }
-        ensures blocks { self.new.blocks ≡ parted way sides self.old.blocks }
+        ensures blocks { self.new.blocks ≡ after_part way sides self.old.blocks }
         ensures heads { HaveHead key (shrunk sides (get nat_eq heads.old key))
             (get nat_eq heads.old) (get nat_eq heads.new) }
     {

@@ -1,7 +1,7 @@
 ghost use Rattle.std.specs.Prelude.{◌≡◌, ◌<◌};
 
 use crate::Links;
-use crate::steps::Steps;
+use av_base::Steps;
 use std::alloc::{AllocError, Global};
 use std::marker::Brand;
 use std::sync::ledger::{Blank, Ledger};
@@ -12,7 +12,7 @@ fn unlink_by<L: Ledger>(links: &mut Links, area: u64, blank: Blank)
     requires parts { blank.parts ≡ L.parts }
     requires some { 0 < blank.parts }
 {
-    let mut steps = Steps::<L>::new(blank);
+    let mut steps = Steps::<L>::open(blank);
     links.unlink_all(area, &mut steps);
 }
 

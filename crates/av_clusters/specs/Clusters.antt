@@ -85,28 +85,28 @@ fresh n bad = record {
 }
 
 -- a page is taken
-abbrev pub taking : Slots → ℕ → Slots
-taking t p = record t { pages = slice_set t.pages p Taken }
+abbrev pub after_take : Slots → ℕ → Slots
+after_take t p = record t { pages = slice_set t.pages p Taken }
 
 -- it is taken in this cluster, which is filled further behind it
-abbrev pub filling : Slots → ℕ → ℕ → Slots
-filling t c p = record t { pages = slice_set t.pages p Taken; current = Some c; cursor = p + 1 }
+abbrev pub after_fill : Slots → ℕ → ℕ → Slots
+after_fill t c p = record t { pages = slice_set t.pages p Taken; current = Some c; cursor = p + 1 }
 
 -- first, the lowest free slot of the current cluster from the cursor on
 abbrev pub in_current : Slots → Option ℕ → Option (ℕ × Slots)
 in_current t None = None
-in_current t (Some c) = option_map (λ p. (p, filling t c p)) (lowest t.pages t.cursor (end_of c))
+in_current t (Some c) = option_map (λ p. (p, after_fill t c p)) (lowest t.pages t.cursor (end_of c))
 
 -- else, the lowest of the first free cluster, which becomes the current one
 abbrev pub in_next : Slots → List ℕ → Option (ℕ × Slots)
 in_next t [] = None
 in_next t (c ∷ rest) =
-    option_map (λ p. (p, filling (record t { free = rest }) c p))
+    option_map (λ p. (p, after_fill (record t { free = rest }) c p))
     (lowest t.pages (start_of c) (end_of c))
 
 -- else, the lowest of the area
 abbrev pub anywhere : Slots → Option (ℕ × Slots)
-anywhere t = option_map (λ p. (p, taking t p)) (lowest t.pages 0 (length t.pages))
+anywhere t = option_map (λ p. (p, after_take t p)) (lowest t.pages 0 (length t.pages))
 
 -- the first of two answers
 abbrev pub first_some : {X : Type 0} → Option X → Option X → Option X
@@ -139,14 +139,14 @@ unless c None = None
 unless c (Some d) = if c == d then None else Some d
 
 -- a cluster from which all slots came back goes to the end of the list
-abbrev pub emptied : Slots → ℕ → Slots
-emptied t c = record t { free = t.free ++ c ∷ []; current = unless c t.current }
+abbrev pub with_free_cluster : Slots → ℕ → Slots
+with_free_cluster t c = record t { free = t.free ++ c ∷ []; current = unless c t.current }
 
 -- a slot is given back
 abbrev pub give_slot : Slots → ℕ → Slots
 give_slot t p =
     let t' = record t { pages = slice_set t.pages p Free } in
-    if has_taken t'.pages (p / cluster_size) then t' else emptied t' (p / cluster_size)
+    if has_taken t'.pages (p / cluster_size) then t' else with_free_cluster t' (p / cluster_size)
 
 -- the test that a flag stands
 abbrev pub itself : Bool → Bool

@@ -20,7 +20,7 @@ use Rattle.av_reclaim.specs.declared.mem.Mem.{Mem}
 use Rattle.av_fault.specs.declared.fault.Stop.TheVariants.{Oom}
 use Rattle.av_fault.specs.declared.fault.Touched.TheVariants.{Ready as ReadyAt, Stopped}
 use Rattle.av_reclaim.specs.Mem.{setting, count, view, Keeps}
-use Rattle.av_fault.specs.Fault.{permitted, frame_named, one_more, one_less, IsTouched, IsTaken}
+use Rattle.av_fault.specs.Fault.{is_permitted, frame_named, one_more, one_less, IsTouched, IsTaken}
 use Rattle.av_fault.proofs.FaultParts.{of_keeps, no_swap}
 use Rattle.av_fault.proofs.FaultEntries.{given_to}
 use Rattle.av_reclaim.proofs.MemLaws.{equal_is, frames_free}
@@ -40,7 +40,7 @@ abbrev numbers_of : ℕ → ℕ → OutOf
 numbers_of pinned n = record { pinned = pinned; noslot = n - pinned; fault = 0 }
 
 module _ (s : State) (old new : Mem) (p page : ℕ) (notes : List Note) (keeps : Keeps old s) (processes : has new.tables ≡ has old.tables) (same : count new ≡ count old)
-    (allowed : permitted true (prot_of (ranges_in ((view old).areas p)) page) ≡ true) where
+    (allowed : is_permitted true (prot_of (ranges_in ((view old).areas p)) page) ≡ true) where
   free_now : (f : ℕ) → f < count old → (view old).free ≡ f ∷ (view new).free → is_free s.ledger f ≡ true
   free_now f below first = sym (keeps.stands.parts.ledger.frames.free f below) ∙ ap (is_in f) first ∙ ap (λ b. b || is_in f (view new).free) (itself f)
 

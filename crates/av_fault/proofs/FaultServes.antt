@@ -21,15 +21,15 @@ use Rattle.av_plain.proofs.Ledger.{how_many-found}
 use Rattle.av_plain.proofs.Event.{how_many-same, how_many-none}
 use Rattle.av_plain.proofs.Ledger.NoSwap.{itself, no_slot, shared_is}
 use Rattle.av_reclaim.specs.Mem.{plain}
-use Rattle.av_fault.specs.Fault.{permitted, frame_named}
+use Rattle.av_fault.specs.Fault.{is_permitted, frame_named}
 use Rattle.av_fault.proofs.FaultParts.{Parts}
 
 -- ---- whether the access is allowed
 
-pub allowed_is : (v : View) (w : World) (write : Bool) (p page : ℕ) → AreasStand v w → permits write (pages w p page) ≡ permitted write (prot_of (ranges_in (v.areas p)) page)
-allowed_is v w write p page areas = sym (ap (permitted write) (areas.covers p page) ∙ on_page (pages w p page))
+pub allowed_is : (v : View) (w : World) (write : Bool) (p page : ℕ) → AreasStand v w → permits write (pages w p page) ≡ is_permitted write (prot_of (ranges_in (v.areas p)) page)
+allowed_is v w write p page areas = sym (ap (is_permitted write) (areas.covers p page) ∙ on_page (pages w p page))
   where
-    on_page : (o : Option Page) → permitted write (option_map (λ (q : Page). q.prot) o) ≡ permits write o
+    on_page : (o : Option Page) → is_permitted write (option_map (λ (q : Page). q.prot) o) ≡ permits write o
     on_page None = refl
     on_page (Some q) = refl
 

@@ -27,7 +27,7 @@ use Rattle.av_fault.specs.declared.fault.Touched.TheVariants.{Ready as ReadyAt, 
 use Rattle.av_vma.specs.Pages.{pages_in}
 use Rattle.av_reclaim.proofs.MemLaws.{frames_free}
 use Rattle.av_reclaim.specs.Mem.{setting, count, view, Keeps, KeepsWithin, HasTables}
-use Rattle.av_fault.specs.Fault.{permitted, IsTouched, IsTaken}
+use Rattle.av_fault.specs.Fault.{is_permitted, IsTouched, IsTaken}
 use Rattle.av_fault.proofs.FaultParts.{Parts, changed, as_pte, of_keeps, to_stand, no_swap}
 use Rattle.av_fault.proofs.FaultEntries.{at_most_one, zeroed, seen, given, given_to, entry_given, once_named}
 use Rattle.av_fault.proofs.FaultServes.{allowed_is, there_is, serves, need_ready, runs_out, nothing_free}
@@ -133,7 +133,7 @@ module _ (s : State) (old new : Mem) (p page : ℕ) (notes : List Note) (keeps :
   parts = of_keeps old s keeps
 
   -- the page is not mapped so
-  pub denied : (write : Bool) → permitted write (prot_of (ranges_in ((view old).areas p)) page) ≡ false → IsTouched s old write (p, page) notes notes (Stopped Segv)
+  pub denied : (write : Bool) → is_permitted write (prot_of (ranges_in ((view old).areas p)) page) ≡ false → IsTouched s old write (p, page) notes notes (Stopped Segv)
   denied write refused = record {
     added = [];
     notes = sym (append-nil notes);
@@ -146,7 +146,7 @@ module _ (s : State) (old new : Mem) (p page : ℕ) (notes : List Note) (keeps :
   }
 
   -- its entry is zeros, at a read
-  pub zeros_there : permitted false (prot_of (ranges_in ((view old).areas p)) page) ≡ true → entry s.ledger (p, page) ≡ Some Zero → IsTouched s old false (p, page) notes notes Zeros
+  pub zeros_there : is_permitted false (prot_of (ranges_in ((view old).areas p)) page) ≡ true → entry s.ledger (p, page) ≡ Some Zero → IsTouched s old false (p, page) notes notes Zeros
   zeros_there allowed is =
       let still : after_use false (p, page) s.ledger ≡ s.ledger = ap (after_use_of false (p, page) s.ledger) is in
       record {
@@ -162,7 +162,7 @@ module _ (s : State) (old new : Mem) (p page : ℕ) (notes : List Note) (keeps :
 
   module _ (processes : has new.tables ≡ has old.tables) (same : count new ≡ count old) where
     -- no frame is free
-    pub starved : (n : Need) (out : OutOf) → view new ≡ view old → permitted true (prot_of (ranges_in ((view old).areas p)) page) ≡ true → need true s.ledger (entry s.ledger (p, page)) ≡ n → wants_frame n ≡ true → (view old).free ≡ []
+    pub starved : (n : Need) (out : OutOf) → view new ≡ view old → is_permitted true (prot_of (ranges_in ((view old).areas p)) page) ≡ true → need true s.ledger (entry s.ledger (p, page)) ≡ n → wants_frame n ≡ true → (view old).free ≡ []
         → out ≡ out_of (setting (count old)) (pinned_by n) (sparing s.world s.ledger (pinned_by n)) s.ledger → IsTouched s new true (p, page) notes notes (Stopped (Oom out))
     starved n out is allowed needs wants empty numbers = record {
       added = [];
@@ -177,7 +177,7 @@ module _ (s : State) (old new : Mem) (p page : ℕ) (notes : List Note) (keeps :
     }
 
     -- its entry is a frame, which a write has for itself; it is marked as seen
-    pub marked : (write bit was : Bool) (f : ℕ) → view new ≡ changed p page (as_pte (InFrame f true) bit) (view old).bytes (view old).maps (view old).free (view old) → permitted write (prot_of (ranges_in ((view old).areas p)) page) ≡ true
+    pub marked : (write bit was : Bool) (f : ℕ) → view new ≡ changed p page (as_pte (InFrame f true) bit) (view old).bytes (view old).maps (view old).free (view old) → is_permitted write (prot_of (ranges_in ((view old).areas p)) page) ≡ true
         → entry s.ledger (p, page) ≡ Some (InFrame f was) → (bit ≡ true → map_count s.ledger f ≤ 1) → (write ≡ true → map_count s.ledger f ≤ 1) → IsTouched s new write (p, page) notes notes (ReadyAt f)
     marked write bit was f is allowed named few own =
         let use_is = used_is write s.ledger (p, page) f was (of_keeps old s keeps).cache named in
@@ -209,7 +209,7 @@ module _ (s : State) (old new : Mem) (p page : ℕ) (notes : List Note) (keeps :
 
     module _ (now : List Note) where
       -- it has no entry, and gets the page of zeros, at a read
-      pub zeroed_now : now ≡ notes ++ Zeroed p (4096 * page) ∷ [] → view new ≡ changed p page (as_pte Zero false) (view old).bytes (view old).maps (view old).free (view old) → permitted false (prot_of (ranges_in ((view old).areas p)) page) ≡ true
+      pub zeroed_now : now ≡ notes ++ Zeroed p (4096 * page) ∷ [] → view new ≡ changed p page (as_pte Zero false) (view old).bytes (view old).maps (view old).free (view old) → is_permitted false (prot_of (ranges_in ((view old).areas p)) page) ≡ true
           → entry s.ledger (p, page) ≡ None → IsTouched s new false (p, page) notes now Zeros
       zeroed_now added is allowed none =
           let permit : permits false (pages s.world p page) ≡ true = allowed_is (view old) s.world false p page keeps.stands.parts.areas ∙ allowed in
@@ -240,7 +240,7 @@ module _ (s : State) (old new : Mem) (p page : ℕ) (notes : List Note) (keeps :
           }
 
       -- it gets a frame that was free
-      pub given_now : (note : Note) (f : ℕ) (bytes maps : ℕ → ℕ) → now ≡ notes ++ note ∷ [] → IsTaken old new p page f bytes maps → permitted true (prot_of (ranges_in ((view old).areas p)) page) ≡ true
+      pub given_now : (note : Note) (f : ℕ) (bytes maps : ℕ → ℕ) → now ≡ notes ++ note ∷ [] → IsTaken old new p page f bytes maps → is_permitted true (prot_of (ranges_in ((view old).areas p)) page) ≡ true
           → after_note note s.ledger ≡ given_to p page f s.ledger → frame_in_note note ≡ Some f → s.free ≡ frames_free (f ∷ (view new).free) → Serves (setting (count old)) (sparing s.world) s.ledger true (p, page) (note ∷ [])
           → Holds (pages s.world p page) bytes
           → ((g : ℕ) → maps g + weight (names_frame g) (entry s.ledger (p, page)) ≡ (view old).maps g + cond (g == f) 1 0)

@@ -7,7 +7,7 @@ use Rattle.av_pagetable.specs.declared.pte.Pte.TheVariants.{Here}
 use Rattle.av_pagetable.specs.Entries.{entry_at, with_entry}
 use Rattle.av_plain.specs.Stands.{Pte as Plain}
 use Rattle.av_reclaim.specs.declared.mem.Mem.{Mem}
-use Rattle.av_reclaim.specs.Mem.{plain, joined, view, count}
+use Rattle.av_reclaim.specs.Mem.{plain, view_of_parts, view, count}
 use Rattle.av_reclaim.proofs.MemLaws.{plain_set}
 use Rattle.av_fault.specs.Fault.{IsTaken, taken_for}
 
@@ -24,5 +24,5 @@ frame_taken old new p page f bytes maps rest frames first gone below entries spa
       gone = subst (λ r. is_in f r ≡ false) same gone;
       below = below;
       view = subst (λ r. view new ≡ taken_for p page f bytes maps r (view old)) same
-          (λ i. joined (frames i) (plain_set (entry_at old.tables) (entry_at new.tables) p page (Here f true true) entries i) (spaces i));
+          (λ i. view_of_parts (frames i) (plain_set (entry_at old.tables) (entry_at new.tables) p page (Here f true true) entries i) (spaces i));
     }

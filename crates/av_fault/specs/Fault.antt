@@ -67,9 +67,9 @@ pub record MakesReady (old new : Mem) (write : Bool) (k : Key) (before now : Lis
 -- ---- the parts of a fault
 
 -- whether a protection, if the page has one, allows the access
-abbrev pub permitted : Bool → Option Prot → Bool
-permitted write None = false
-permitted write (Some prot) = allows write prot
+abbrev pub is_permitted : Bool → Option Prot → Bool
+is_permitted write None = false
+is_permitted write (Some prot) = allows write prot
 
 -- the frame that an entry names
 abbrev pub frame_named : Pte → Option ℕ

@@ -6,7 +6,7 @@ ghost use Rattle.av_pagetable.specs.Entries.{entry_at, has};
 ghost use Rattle.av_pagetable.specs.declared.pte.Pte.TheVariants as Pte;
 ghost use Rattle.av_plain.specs.Stands.{prot_of};
 ghost use Rattle.av_reclaim.specs.Mem.{count, view, ranges_of, IsSteady};
-ghost use Rattle.av_fault.specs.Fault.{permitted, frame_named, one_more, one_less, AreTaken, MakesReady};
+ghost use Rattle.av_fault.specs.Fault.{is_permitted, frame_named, one_more, one_less, AreTaken, MakesReady};
 
 use av_base::PAGE_SIZE;
 use av_pagetable::Pte;
@@ -58,7 +58,7 @@ pub fn touch(
 
 /// Whether a page is mapped with a protection that allows the access.
 fn may_access(mem: &Mem, process: u16, page: u64, write: bool) -> bool
-    ensures permitted { result ≡ permitted write (prot_of (ranges_of mem.now.spaces process) page) }
+    ensures permitted { result ≡ is_permitted write (prot_of (ranges_of mem.now.spaces process) page) }
     ensures below { IsTrue result → page < top_page }
 {
     match mem.spaces.area(process, page) {
@@ -77,7 +77,7 @@ fn touch_to_read(
 ) -> Result<Touched, AllocError>
     requires steady { IsSteady mem.old }
     requires below { page < top_page }
-    requires permitted { permitted false (prot_of (ranges_of mem.old.spaces process) page) ≡ true }
+    requires permitted { is_permitted false (prot_of (ranges_of mem.old.spaces process) page) ≡ true }
     ensures { MakesReady mem.old mem.new false (process, page) notes.old notes.new result }
 {
     match mem.tables.get(process, page) {
@@ -87,7 +87,7 @@ fn touch_to_read(
             if seen {
                 return Ok(Touched::Ready(frame));
             }
-            mem.tables.change(process, page, accessed(frame, write));
+            mem.tables.change(process, page, accessed_entry(frame, write));
             Ok(Touched::Ready(frame))
         }
         Pte::Away { .. } => unreachable!(),
@@ -104,7 +104,7 @@ fn touch_to_write(
 ) -> Result<Touched, AllocError>
     requires steady { IsSteady mem.old }
     requires below { page < top_page }
-    requires permitted { permitted true (prot_of (ranges_of mem.old.spaces process) page) ≡ true }
+    requires permitted { is_permitted true (prot_of (ranges_of mem.old.spaces process) page) ≡ true }
     ensures { MakesReady mem.old mem.new true (process, page) notes.old notes.new result }
 {
     match mem.tables.get(process, page) {
@@ -116,7 +116,7 @@ fn touch_to_write(
             if is_shared(mem, frame) {
                 return make_copy(mem, process, page, frame, notes);
             }
-            mem.tables.change(process, page, accessed(frame, true));
+            mem.tables.change(process, page, accessed_entry(frame, true));
             Ok(Touched::Ready(frame))
         }
         Pte::Away { .. } => unreachable!(),
@@ -124,7 +124,7 @@ fn touch_to_write(
 }
 
 /// The entry of a frame that a page has and that was accessed.
-fn accessed(frame: u32, write: bool) -> Pte
+fn accessed_entry(frame: u32, write: bool) -> Pte
     ensures { result ≡ Pte.Here frame write true }
 {
     Pte::Here {
@@ -163,7 +163,7 @@ fn make_zero(
 ) -> Result<Touched, AllocError>
     requires below { page < top_page }
     requires there { has mem.old.tables process ≡ true }
-    requires permitted { permitted false (prot_of (ranges_of mem.old.spaces process) page) ≡ true }
+    requires permitted { is_permitted false (prot_of (ranges_of mem.old.spaces process) page) ≡ true }
     requires bare { entry_at mem.old.tables process page ≡ Pte.Empty }
     ensures { MakesReady mem.old mem.new false (process, page) notes.old notes.new result }
 {
@@ -185,7 +185,7 @@ fn make_new(
     requires steady { IsSteady mem.old }
     requires below { page < top_page }
     requires there { has mem.old.tables process ≡ true }
-    requires permitted { permitted true (prot_of (ranges_of mem.old.spaces process) page) ≡ true }
+    requires permitted { is_permitted true (prot_of (ranges_of mem.old.spaces process) page) ≡ true }
     requires bare { frame_named (entry_at mem.old.tables process page) ≡ None }
     ensures { MakesReady mem.old mem.new true (process, page) notes.old notes.new result }
 {
@@ -211,7 +211,7 @@ fn make_copy(
     requires steady { IsSteady mem.old }
     requires below { page < top_page }
     requires there { has mem.old.tables process ≡ true }
-    requires permitted { permitted true (prot_of (ranges_of mem.old.spaces process) page) ≡ true }
+    requires permitted { is_permitted true (prot_of (ranges_of mem.old.spaces process) page) ≡ true }
     requires named { frame_named (entry_at mem.old.tables process page) ≡ Some from }
     requires shared { 1 < (view mem.old).maps from }
     ensures { MakesReady mem.old mem.new true (process, page) notes.old notes.new result }
@@ -240,7 +240,7 @@ fn take_zeros(mem: &mut Mem, process: u16, page: u64) -> Result<Option<u32>, All
     let Some(frame) = mem.frames.take() else {
         return Ok(None);
     };
-    mem.tables.set(process, page, accessed(frame, true))?;
+    mem.tables.set(process, page, accessed_entry(frame, true))?;
     mem.frames.zero(frame);
     mem.frames.map_up(frame);
     Ok(Some(frame))
@@ -261,7 +261,7 @@ fn take_copy(mem: &mut Mem, process: u16, page: u64, from: u32) -> Result<Option
     let Some(frame) = mem.frames.take() else {
         return Ok(None);
     };
-    mem.tables.set(process, page, accessed(frame, true))?;
+    mem.tables.set(process, page, accessed_entry(frame, true))?;
     mem.frames.copy(from, frame);
     mem.frames.map_up(frame);
     mem.frames.map_down(from);

@@ -65,11 +65,11 @@ impl Frames {
         Ok(Frames {
             free: all_numbers(alloc, count)?,
             bytes: Pages::new(alloc, len)?,
-            used: filled(alloc, false, len)?,
-            maps: filled(alloc, 0, len)?,
-            homes: filled(alloc, None, len)?,
-            dirty: filled(alloc, false, len)?,
-            slots: filled(alloc, None, len)?,
+            used: fill(alloc, false, len)?,
+            maps: fill(alloc, 0, len)?,
+            homes: fill(alloc, None, len)?,
+            dirty: fill(alloc, false, len)?,
+            slots: fill(alloc, None, len)?,
         })
     }
 
@@ -253,7 +253,7 @@ fn page_of(bytes: &[u8]) -> [u8; SIZE]
 }
 
 /// The same value, this many times.
-fn filled<T: Copy>(alloc: Global, value: T, count: usize) -> Result<Vec<T>, AllocError>
+fn fill<T: Copy>(alloc: Global, value: T, count: usize) -> Result<Vec<T>, AllocError>
     ensures { IfOk result (λ v. v.items ≡ replicate count value) }
 {
     let mut values = Vec::new(alloc);

@@ -9,7 +9,7 @@ use Rattle.av_arena.specs.Tree.{Leaf, Fork, entries, height}
 use Rattle.av_interval.specs.declared.span.Span.{Span}
 use Rattle.av_interval.specs.Nodes.{IsChild, IsSeen, span_of, reaching_child, tree_at, IsNone_or}
 use Rattle.av_base.specs.Words.{how_many}
-use Rattle.av_interval.specs.Search.{IsBefore, AllAfter, IsOrdered, is_past, overlaps, reaching, overlap_of}
+use Rattle.av_interval.specs.Search.{IsBefore, AllAfter, IsOrdered, is_past, overlaps, span_reaching, overlap_of}
 use Rattle.av_interval.specs.declared.nodes.Node.{Node}
 
 abbrev pub first_of_two : Option Span → Option Span → Option Span
@@ -20,9 +20,9 @@ two_cases : (b : Bool) (x : Span) (u v : Option Span) → cond b (Some x) (first
 two_cases true x u v = refl
 two_cases false x u v = refl
 
-pub reaching-cut : (a : Option (ℕ × ℕ)) (i : ℕ) (l m : List Span) → reaching a i (l ++ m) ≡ first_of_two (reaching a i l) (reaching a i m)
-reaching-cut a i [] m = refl
-reaching-cut a i (x ∷ l) m = ap (cond (is_past a x && nat_le i x.last) (Some x)) (reaching-cut a i l m) ∙ two_cases (is_past a x && nat_le i x.last) x (reaching a i l) (reaching a i m)
+pub span_reaching-cut : (a : Option (ℕ × ℕ)) (i : ℕ) (l m : List Span) → span_reaching a i (l ++ m) ≡ first_of_two (span_reaching a i l) (span_reaching a i m)
+span_reaching-cut a i [] m = refl
+span_reaching-cut a i (x ∷ l) m = ap (cond (is_past a x && nat_le i x.last) (Some x)) (span_reaching-cut a i l m) ∙ two_cases (is_past a x && nat_le i x.last) x (span_reaching a i l) (span_reaching a i m)
 
 pub top-cut : (l : List Span) (x : Span) (r : List Span) → top (l ++ x ∷ r) ≡ max (top l) (max x.last (top r))
 top-cut [] x r = omega arith
@@ -32,14 +32,14 @@ and_false : (b : Bool) → (b && false) ≡ false
 and_false true = refl
 and_false false = refl
 
-pub none_above : (a : Option (ℕ × ℕ)) (i : ℕ) (xs : List Span) → top xs < i → reaching a i xs ≡ None
+pub none_above : (a : Option (ℕ × ℕ)) (i : ℕ) (xs : List Span) → top xs < i → span_reaching a i xs ≡ None
 none_above a i [] h = refl
 none_above a i (x ∷ xs) h = rw (lt-leb i x.last (omega arith), and_false (is_past a x)) (none_above a i xs (omega arith))
 
-pub child_none : (isn : ℕ → Type 0) (b : ℕ → Tree) (t : Tree) (o : Option (ℕ × ℕ)) (i : ℕ) (a : Option (ℕ × ℕ)) → IsChild isn b t o → reaching_child i o ≡ None → reaching a i (entries t) ≡ None
+pub child_none : (isn : ℕ → Type 0) (b : ℕ → Tree) (t : Tree) (o : Option (ℕ × ℕ)) (i : ℕ) (a : Option (ℕ × ℕ)) → IsChild isn b t o → reaching_child i o ≡ None → span_reaching a i (entries t) ≡ None
 child_none isn b t None i a c e = rw c refl
 child_none isn b t (Some p) i a c e =
-    elim (nat_le i p.1) as (λ v. nat_le i p.1 ≡ v → cond v (Some p.0) None ≡ None → reaching a i (entries t) ≡ None) [
+    elim (nat_le i p.1) as (λ v. nat_le i p.1 ≡ v → cond v (Some p.0) None ≡ None → span_reaching a i (entries t) ≡ None) [
       | true ↦ λ q f. cc
       | false ↦ λ q f. let h : p.1 < i = leb-false _ _ q in none_above a i (entries t) (rw (← c.2) h)
     ] refl e
@@ -74,7 +74,7 @@ cut_of isn b (Fork n l x r) v s = record { l = l; r = r; is = rw s.0 refl; heigh
 -- the child that is searched stands for the whole child
 pub record IsSame (isn : ℕ → Type 0) (b : ℕ → Tree) (t : Tree) (i : ℕ) (n : Option ℕ) : Type 0 where
   pub node : IsNone_or isn n
-  pub same : (a : Option (ℕ × ℕ)) → reaching a i (entries (tree_at b n)) ≡ reaching a i (entries t)
+  pub same : (a : Option (ℕ × ℕ)) → span_reaching a i (entries (tree_at b n)) ≡ span_reaching a i (entries t)
   pub ordered : IsOrdered (entries t) → IsOrdered (entries (tree_at b n))
   pub height : height (tree_at b n) ≤ height t
 
@@ -82,7 +82,7 @@ pub child_same : (isn : ℕ → Type 0) (b : ℕ → Tree) (t : Tree) (o : Optio
 child_same isn b t o i c =
     elim (reaching_child i o) as (λ n. reaching_child i o ≡ n → IsSame isn b t i n) [
       | None ↦ λ e. record { node = tt; same = λ a. sym (child_none isn b t o i a c e); ordered = λ _. tt; height = omega arith }
-      | Some n ↦ λ e. let f = child_some isn b t o i n c e in record { node = f.node; same = λ a. ap (λ u. reaching a i (entries u)) f.is; ordered = λ s. rw f.is s; height = rw f.is (omega arith) }
+      | Some n ↦ λ e. let f = child_some isn b t o i n c e in record { node = f.node; same = λ a. ap (λ u. span_reaching a i (entries u)) f.is; ordered = λ s. rw f.is s; height = rw f.is (omega arith) }
     ] refl
 
 -- order
@@ -129,7 +129,7 @@ past_on (Some p) x y (inl b) (inr h) = let e = h.0 in inl (omega arith)
 past_on (Some p) x y (inr b) (inl h) = let e = b.0 in inl (omega arith)
 past_on (Some p) x y (inr b) (inr h) = let e = b.0 in let d = h.0 in let u = b.1 in let v = h.1 in inr (omega arith, omega arith)
 
-pub past_right : (a : Option (ℕ × ℕ)) (i : ℕ) (x : Span) (r : List Span) → AllAfter x r → is_past a x ≡ true → reaching a i r ≡ reaching None i r
+pub past_right : (a : Option (ℕ × ℕ)) (i : ℕ) (x : Span) (r : List Span) → AllAfter x r → is_past a x ≡ true → span_reaching a i r ≡ span_reaching None i r
 past_right a i x [] s e = refl
 past_right a i x (y ∷ r) s e =
     rw (true_past a y (past_on a x y s.0 (past_true a x e))) (ap (cond (nat_le i y.last) (Some y)) (past_right a i x r s.1 e))
@@ -141,14 +141,14 @@ not_past a x y b e =
       | false ↦ λ q. refl
     ] refl
 
-pub past_left : (a : Option (ℕ × ℕ)) (i : ℕ) (l : List Span) (x : Span) (r : List Span) → IsOrdered (l ++ x ∷ r) → is_past a x ≡ false → reaching a i l ≡ None
+pub past_left : (a : Option (ℕ × ℕ)) (i : ℕ) (l : List Span) (x : Span) (r : List Span) → IsOrdered (l ++ x ∷ r) → is_past a x ≡ false → span_reaching a i l ≡ None
 past_left a i [] x r s e = refl
 past_left a i (y ∷ l) x r s e = rw (not_past a x y (all_middle y l x r s.0) e) (past_left a i l x r s.1 e)
 
-pub some_below : (i : ℕ) (xs : List Span) → 1 ≤ i → i ≤ top xs → reaching None i xs ≡ None → ⊥
+pub some_below : (i : ℕ) (xs : List Span) → 1 ≤ i → i ≤ top xs → span_reaching None i xs ≡ None → ⊥
 some_below i [] p h e = omega arith
 some_below i (x ∷ xs) p h e =
-    elim (nat_le i x.last) as (λ v. nat_le i x.last ≡ v → cond v (Some x) (reaching None i xs) ≡ None → ⊥) [
+    elim (nat_le i x.last) as (λ v. nat_le i x.last ≡ v → cond v (Some x) (span_reaching None i xs) ≡ None → ⊥) [
       | true ↦ λ q f. cc
       | false ↦ λ q f. let k : x.last < i = leb-false _ _ q in some_below i xs p (omega arith) f
     ] refl e
@@ -158,36 +158,36 @@ module _ (isn : ℕ → Type 0) (b : ℕ → Tree) (t : Tree) (v : Node) (s : Is
   abbrev child : ℕ → Option (ℕ × ℕ) → List Span
   child i o = entries (tree_at b (reaching_child i o))
 
-  cut : (a : Option (ℕ × ℕ)) (i : ℕ) → reaching a i (entries t) ≡ first_of_two (reaching a i (child i v.left)) (reaching a i (span_of v ∷ entries (cut_of isn b t v s).r))
+  cut : (a : Option (ℕ × ℕ)) (i : ℕ) → span_reaching a i (entries t) ≡ first_of_two (span_reaching a i (child i v.left)) (span_reaching a i (span_of v ∷ entries (cut_of isn b t v s).r))
   cut a i =
       let k = cut_of isn b t v s in
       let m = child_same isn b k.l v.left i k.left in
-      ap (reaching a i) k.is ∙ reaching-cut a i (entries k.l) (span_of v ∷ entries k.r) ∙ ap (λ x. first_of_two x (reaching a i (span_of v ∷ entries k.r))) (sym (m.same a))
+      ap (span_reaching a i) k.is ∙ span_reaching-cut a i (entries k.l) (span_of v ∷ entries k.r) ∙ ap (λ x. first_of_two x (span_reaching a i (span_of v ∷ entries k.r))) (sym (m.same a))
 
-  pub seen_found : (a : Option (ℕ × ℕ)) (i : ℕ) (x : Span) → reaching a i (child i v.left) ≡ Some x → reaching a i (entries t) ≡ Some x
+  pub seen_found : (a : Option (ℕ × ℕ)) (i : ℕ) (x : Span) → span_reaching a i (child i v.left) ≡ Some x → span_reaching a i (entries t) ≡ Some x
   seen_found a i x e = cut a i ∙ rw e refl
 
-  pub seen_as : (a : Option (ℕ × ℕ)) (i : ℕ) (o : Option Node) → is_some o ≡ true → option_map span_of o ≡ reaching a i (child i v.left) → option_map span_of o ≡ reaching a i (entries t)
+  pub seen_as : (a : Option (ℕ × ℕ)) (i : ℕ) (o : Option Node) → is_some o ≡ true → option_map span_of o ≡ span_reaching a i (child i v.left) → option_map span_of o ≡ span_reaching a i (entries t)
   seen_as a i (Some x) p e = sym (seen_found a i (span_of x) (sym e))
   seen_as a i None p e = absurd (both_ways false refl p)
 
-  pub seen_here : (a : Option (ℕ × ℕ)) (i : ℕ) → reaching a i (child i v.left) ≡ None → is_past a (span_of v) ≡ true → i ≤ v.last → reaching a i (entries t) ≡ Some (span_of v)
+  pub seen_here : (a : Option (ℕ × ℕ)) (i : ℕ) → span_reaching a i (child i v.left) ≡ None → is_past a (span_of v) ≡ true → i ≤ v.last → span_reaching a i (entries t) ≡ Some (span_of v)
   seen_here a i e p h = cut a i ∙ rw (e, p, le-leb i v.last h) refl
 
-  pub seen_later : (a : Option (ℕ × ℕ)) (i : ℕ) → reaching a i (child i v.left) ≡ None → is_past a (span_of v) ≡ true → v.last < i → (reaching a i (entries (cut_of isn b t v s).r) ≡ reaching None i (entries (cut_of isn b t v s).r)) → reaching a i (entries t) ≡ reaching None i (child i v.right)
+  pub seen_later : (a : Option (ℕ × ℕ)) (i : ℕ) → span_reaching a i (child i v.left) ≡ None → is_past a (span_of v) ≡ true → v.last < i → (span_reaching a i (entries (cut_of isn b t v s).r) ≡ span_reaching None i (entries (cut_of isn b t v s).r)) → span_reaching a i (entries t) ≡ span_reaching None i (child i v.right)
   seen_later a i e p h later =
       let k = cut_of isn b t v s in
       let m = child_same isn b k.r v.right i k.right in
       cut a i ∙ rw (e, p, lt-leb i v.last h) (later ∙ sym (m.same None))
 
-  pub seen_past : (a : Option (ℕ × ℕ)) (i : ℕ) → IsOrdered (entries t) → is_past a (span_of v) ≡ false → reaching a i (entries t) ≡ reaching a i (child i v.right)
+  pub seen_past : (a : Option (ℕ × ℕ)) (i : ℕ) → IsOrdered (entries t) → is_past a (span_of v) ≡ false → span_reaching a i (entries t) ≡ span_reaching a i (child i v.right)
   seen_past a i o p =
       let k = cut_of isn b t v s in
       let m = child_same isn b k.r v.right i k.right in
       let before = past_left a i (entries k.l) (span_of v) (entries k.r) (subst IsOrdered k.is o) p in
-      ap (reaching a i) k.is ∙ reaching-cut a i (entries k.l) (span_of v ∷ entries k.r) ∙ rw (before, p) (sym (m.same a))
+      ap (span_reaching a i) k.is ∙ span_reaching-cut a i (entries k.l) (span_of v ∷ entries k.r) ∙ rw (before, p) (sym (m.same a))
 
-  pub later_ordered : (a : Option (ℕ × ℕ)) (i : ℕ) → IsOrdered (entries t) → is_past a (span_of v) ≡ true → reaching a i (entries (cut_of isn b t v s).r) ≡ reaching None i (entries (cut_of isn b t v s).r)
+  pub later_ordered : (a : Option (ℕ × ℕ)) (i : ℕ) → IsOrdered (entries t) → is_past a (span_of v) ≡ true → span_reaching a i (entries (cut_of isn b t v s).r) ≡ span_reaching None i (entries (cut_of isn b t v s).r)
   later_ordered a i o p =
       let k = cut_of isn b t v s in
       past_right a i (span_of v) (entries k.r) (ordered_back (entries k.l) (span_of v ∷ entries k.r) (subst IsOrdered k.is o)).0 p
@@ -234,11 +234,11 @@ overlap_cases true true false i x u w f e n = e
 overlap_cases true false true i x u w f e n = n refl ∙ rw f refl
 overlap_cases true false false i x u w f e n = e
 
-pub overlap_is : (a : Option (ℕ × ℕ)) (i : ℕ) (xs : List Span) → IsOrdered xs → overlap_of a i xs ≡ check i (reaching a i xs)
+pub overlap_is : (a : Option (ℕ × ℕ)) (i : ℕ) (xs : List Span) → IsOrdered xs → overlap_of a i xs ≡ check i (span_reaching a i xs)
 overlap_is a i [] s = refl
 overlap_is a i (x ∷ xs) s = overlap_cases (is_past a x) (nat_le x.first i) (nat_le i x.last) i x _ _ refl (overlap_is a i xs s.1) (λ f. starts_after a i x xs s.0 (leb-false _ _ f))
 
-pub overlap_of_node : (a : Option (ℕ × ℕ)) (i : ℕ) (xs : List Span) (o : Option Node) → IsOrdered xs → option_map span_of o ≡ reaching a i xs → check i (option_map span_of o) ≡ overlap_of a i xs
+pub overlap_of_node : (a : Option (ℕ × ℕ)) (i : ℕ) (xs : List Span) (o : Option Node) → IsOrdered xs → option_map span_of o ≡ span_reaching a i xs → check i (option_map span_of o) ≡ overlap_of a i xs
 overlap_of_node a i xs o s e = ap (check i) e ∙ sym (overlap_is a i xs s)
 
 pub root_is : (isn : ℕ → Type 0) (b : ℕ → Tree) (t : Tree) (o : Option ℕ) → MatchOption o (t ≡ Leaf) (λ n. isn n × (b n ≡ t)) → IsNone_or isn o × (tree_at b o ≡ t)

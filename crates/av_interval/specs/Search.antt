@@ -24,10 +24,10 @@ abbrev pub overlaps : ℕ → Span → Bool
 overlaps i x = nat_le x.first i && nat_le i x.last
 
 -- the first span past the place that reaches the index
-abbrev pub reaching : Option (ℕ × ℕ) → ℕ → List Span → Option Span
-reaching after i [] = None
-reaching after i (x ∷ xs) =
-    cond (is_past after x && nat_le i x.last) (Some x) (reaching after i xs)
+abbrev pub span_reaching : Option (ℕ × ℕ) → ℕ → List Span → Option Span
+span_reaching after i [] = None
+span_reaching after i (x ∷ xs) =
+    cond (is_past after x && nat_le i x.last) (Some x) (span_reaching after i xs)
 
 -- first index and area of the first span past the place that overlaps the index
 abbrev pub overlap_of : Option (ℕ × ℕ) → ℕ → List Span → Option (ℕ × ℕ)

@@ -5,7 +5,7 @@ ghost use Rattle.av_arena.specs.Tree.{Leaf, entries};
 ghost use Rattle.av_interval.specs.Nodes.{IsSeen};
 ghost use Rattle.av_interval.specs.Search.{IsOrdered};
 
-use crate::steps::Steps;
+use av_base::Steps;
 use std::sync::ledger::Ledger;
 
 /// A node's span, and for each child its number and the greatest last index below it.

@@ -5,10 +5,10 @@ ghost use Rattle.av_interval.specs.Span.{top};
 ghost use Rattle.av_arena.specs.Tree.{entries, height};
 ghost use Rattle.av_interval.specs.Nodes.{span_of, reaching_child, tree_at, IsNone_or};
 ghost use Rattle.av_base.specs.Words.{how_many};
-ghost use Rattle.av_interval.specs.Search.{IsOrdered, is_past, overlaps, reaching, overlap_of};
+ghost use Rattle.av_interval.specs.Search.{IsOrdered, is_past, overlaps, span_reaching, overlap_of};
 
 use crate::nodes::{Node, Nodes};
-use crate::steps::Steps;
+use av_base::Steps;
 use std::sync::ledger::Ledger;
 
 fn comes_after(node: &Node, after: Option<(u64, u64)>) -> bool
@@ -44,7 +44,7 @@ fn first_reaching<N: Nodes, L: Ledger>(
 ) -> Node
     requires node { N.is_node nodes.now number }
     requires reaches { index ≤ top (entries (N.below nodes.now number)) }
-    ensures first { reaching None index (entries (N.below nodes.now number)) ≡ Some
+    ensures first { span_reaching None index (entries (N.below nodes.now number)) ≡ Some
         (span_of result) }
     ensures cost { steps.new ≤ steps.old + height (N.below nodes.now number) }
 {
@@ -71,7 +71,7 @@ fn first_past<N: Nodes, L: Ledger>(
 ) -> Option<Node>
     requires node { IsNone_or (N.is_node nodes.now) number }
     requires ordered { IsOrdered (entries (tree_at (N.below nodes.now) number)) }
-    ensures first { option_map span_of result ≡ reaching after index
+    ensures first { option_map span_of result ≡ span_reaching after index
         (entries (tree_at (N.below nodes.now) number)) }
     ensures cost { steps.new ≤ steps.old + 2 * height (tree_at (N.below nodes.now) number) }
     ensures cost_of_none { result ≡ None → steps.new ≤ steps.old + height

@@ -44,7 +44,7 @@ impl Entry for Span {
         left == right
     }
 
-    fn joined(left: u64, middle: &Span, right: u64) -> u64 {
+    fn join_sums(left: u64, middle: &Span, right: u64) -> u64 {
         left.max(middle.last.max(right))
     }
 }

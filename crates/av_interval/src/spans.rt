@@ -12,8 +12,8 @@ use crate::nodes::{Node, Nodes};
 use crate::roots::{Root, Roots};
 use crate::search::search;
 use crate::span::Span;
-use crate::steps::Steps;
-use av_arena::{Arena, Link, Stored, placed, removed};
+use av_base::Steps;
+use av_arena::{Arena, Link, Stored, place, remove};
 use std::alloc::{AllocError, Global};
 use std::marker::Model;
 use std::sync::ledger::Ledger;
@@ -30,7 +30,7 @@ impl Model for Spans {
     ghost use Rattle.av_arena.specs.declared.link.Stored.{Stored};
     ghost use Rattle.av_interval.specs.declared.roots.Root.{Root};
     ghost use Rattle.av_interval.specs.declared.span.Span.{Span};
-    ghost use Rattle.av_arena.specs.Arena.{stored};
+    ghost use Rattle.av_arena.specs.Arena.{store_of};
     ghost use Rattle.av_interval.specs.Roots.{root_of};
     ghost use Rattle.av_interval.specs.Spans.{IsForest};
 
@@ -38,7 +38,7 @@ impl Model for Spans {
 
     ghost view = { λ s. (s.arena.slab.slots, s.roots.map.entries) };
 
-    ghost invariant = { λ s. IsForest (stored s.arena) (root_of s.roots) };
+    ghost invariant = { λ s. IsForest (store_of s.arena) (root_of s.roots) };
 }
 
 impl Spans {
@@ -75,7 +75,7 @@ impl Spans {
             Ok(number) => number,
             Err(error) => return Err(error),
         };
-        let tree = placed(&mut self.arena, top(root), number, span);
+        let tree = place(&mut self.arena, top(root), number, span);
         let new = Root { tree, len };
         if root.is_some() {
             self.roots.change(anon, new);
@@ -105,7 +105,7 @@ impl Spans {
             last: first,
             area,
         };
-        let (number, rest) = removed(&mut self.arena, Some(root.tree), like);
+        let (number, rest) = remove(&mut self.arena, Some(root.tree), like);
         self.arena.free(number);
         match rest {
             None => self.roots.remove(anon),

@@ -38,9 +38,9 @@ served_twice w true p a page at xs ys is = ap (λ b. after_write (after_write w 
 served_twice w false p a page at xs ys is = refl
 
 -- a page that stopped leaves the memories
-pub stopped-world : (write : Bool) (p page at : ℕ) (ys : List ℕ) (stop : Stop) (w : World) → world_after write p page at ys (Some stop) w ≡ w
-stopped-world true p page at ys stop w = refl
-stopped-world false p page at ys stop w = refl
+pub stop_answer-world : (write : Bool) (p page at : ℕ) (ys : List ℕ) (stop : Stop) (w : World) → world_after write p page at ys (Some stop) w ≡ w
+stop_answer-world true p page at ys stop w = refl
+stop_answer-world false p page at ys stop w = refl
 
 -- the process lives on after a part of an access
 pub still_lives : {s : State} {mid : Mem} {write : Bool} {p a k : ℕ} {xs : List ℕ} {before now : List Note} → lives s.world p ≡ true → (h : IsAccess s mid write p a k xs before now None k) → lives h.next.world p ≡ true
@@ -120,7 +120,7 @@ module _ (s : State) (mid new : Mem) (write : Bool) (p a k page at : ℕ) (xs ys
         (accesses-both ((write, page) ∷ map (λ page. (write, page)) (numbers (page + 1) (touches a n - (touches a k + 1)))) _ _ (one_stopped _ h.next.world h.next.ledger write p page _ g.added (stop_of stop) g.touches));
     is_end = (page, refl, served k behind.is behind.begins, less);
     next = g.next;
-    world = g.world ∙ stopped-world write p page at ys stop h.next.world ∙ h.world;
+    world = g.world ∙ stop_answer-world write p page at ys stop h.next.world ∙ h.world;
     ledger = ledger-both _ _ g.ledger;
     free = free-both _ _ g.free;
     areas = g.areas ∙ h.areas;

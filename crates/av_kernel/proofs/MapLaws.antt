@@ -31,7 +31,7 @@ use Rattle.av_plain.specs.Choice.{ChoosesAll}
 use Rattle.av_plain.specs.Transcript.{State}
 use Rattle.av_plain.specs.Device.{no_device}
 use Rattle.av_plain.specs.Stands.{AreasAre, Holds, IsKept, IsKeptAt, free_of, prot_of}
-use Rattle.av_vma.specs.Pages.{Pages, mapped, pages_changed, to_prot, unmapped}
+use Rattle.av_vma.specs.Pages.{Pages, after_map, pages_changed, to_prot, after_unmap, no_chains}
 use Rattle.av_plain.proofs.World.Ranges.{is-pages_to_hole}
 use Rattle.av_plain.proofs.Zap.{entry-range}
 use Rattle.av_reclaim.specs.declared.mem.Mem.{Mem}
@@ -40,7 +40,7 @@ use Rattle.av_kernel.specs.Map.{set_on, HasAreas, HasProts, AreCleared}
 use Rattle.av_reclaim.specs.Mem.{ranges_of, setting, view, count, Keeps, IsSteady, HasLedger}
 use Rattle.av_reclaim.specs.Zap.{HasZapped}
 use Rattle.av_kernel.specs.Place.{protect_tests, IsProcess, IsPlaced, AreToClear}
-use Rattle.av_kernel.specs.Step.{MemSteps, answered}
+use Rattle.av_kernel.specs.Step.{MemSteps, answer_only}
 use Rattle.av_reclaim.proofs.MemLaws.{lives_is, alive_is, taken_has, mapped_is}
 use Rattle.av_kernel.proofs.PlaceLaws.{page_back, IsSuited, suited}
 use Rattle.av_kernel.proofs.StepLaws.{is_number, moved_on, orderly, refused, stays_orderly, changed, areas_changed, tables_kept}
@@ -106,12 +106,12 @@ on_ok (Err e) f h = tt
 
 -- their entries have gone, and then their areas
 pub are_cleared : (old mid : Mem) (spaces : Spaces) (p page n : ℕ) (l : Ledger) → HasZapped old mid l (zaps_of l (keys_in l p page (page + n - page))) → mid.spaces ≡ old.spaces → has mid.tables ≡ has old.tables → (view mid).bytes ≡ (view old).bytes
-    → HasProts mid.spaces spaces p (set_on page n None (prot_of (ranges_of mid.spaces p))) → HasAreas mid.spaces spaces p (unmapped page (page + n) (areas_on mid.spaces p))
-    → AreCleared old (moved_on mid mid.tables spaces) p page n (unmapped page (page + n) (areas_on old.spaces p)) l (zaps_of l (keys_in l p page n))
+    → HasProts mid.spaces spaces p (set_on page n None (prot_of (ranges_of mid.spaces p))) → HasAreas mid.spaces spaces p (after_unmap page (page + n) (areas_on mid.spaces p))
+    → AreCleared old (moved_on mid mid.tables spaces) p page n (after_unmap page (page + n) (areas_on old.spaces p)) l (zaps_of l (keys_in l p page n))
 are_cleared old mid spaces p page n l t same processes bytes gone areas = record {
   taken = subst (λ x. HasZapped old (moved_on mid mid.tables spaces) l (zaps_of l (keys_in l p page x))) (let size : page + n - page ≡ n = omega arith in size) (record { stands = stays_orderly mid mid.tables spaces _ refl t.stands; notes = t.notes; free = t.free });
   spaces = subst (λ x. HasProts x spaces p (set_on page n None (prot_of (ranges_of x p)))) same gone;
-  areas = subst (λ x. HasAreas x spaces p (unmapped page (page + n) (areas_on x p))) same areas;
+  areas = subst (λ x. HasAreas x spaces p (after_unmap page (page + n) (areas_on x p))) same areas;
   processes = processes;
   bytes = bytes;
 }
@@ -218,15 +218,15 @@ module _ (k : Mem) (s : State) (p len : ℕ) (prot : Prot) (place : Place) (keep
 -- ---- munmap
 
 module _ (old new : Mem) (s : State) (p a len : ℕ) (keeps : Keeps old s) (alive : is_some (ranges_of old.spaces p) ≡ true) (valid : (not (is_on_page a) || len == 0 || nat_lt top (a + len)) ≡ false)
-    (same_count : count new ≡ count old) (cleared : AreCleared old new p (page_of a) (pages_of len) (unmapped (page_of a) (page_of a + pages_of len) (areas_on old.spaces p)) s.ledger (zaps_of s.ledger (keys_in s.ledger p (page_of a) (pages_of len)))) where
+    (same_count : count new ≡ count old) (cleared : AreCleared old new p (page_of a) (pages_of len) (after_unmap (page_of a) (page_of a + pages_of len) (areas_on old.spaces p)) s.ledger (zaps_of s.ledger (keys_in s.ledger p (page_of a) (pages_of len)))) where
   munmap-allowed : refusal (tests (setting (count old)) s.world s.ledger (Munmap p a len)) ≡ None
   munmap-allowed = ap (λ b. cond (not b) (Some Esrch) (cond (not (is_on_page a) || len == 0 || nat_lt top (a + len)) (Some Einval) None)) (sym (lives_is old s keeps p) ∙ sym (alive_is old.spaces p) ∙ alive) ∙ ap (λ b. cond b (Some Einval) None) valid
 
-  pub munmap-steps : MemSteps old new s (Munmap p a len) (answered Done)
+  pub munmap-steps : MemSteps old new s (Munmap p a len) (answer_only Done)
   munmap-steps =
       let events = zaps_of s.ledger (keys_in s.ledger p (page_of a) (pages_of len)) in
-      replaced-steps old new s (Munmap p a len) (answered Done) p (page_of a) (pages_of len) None (unmapped (page_of a) (page_of a + pages_of len) (s.areas p)) events keeps alive same_count cleared.taken (λ q at. entry-range s.ledger p (page_of a) (pages_of len) q at) tt cleared.spaces
-      (areas_so old new s p (unmapped (page_of a) (page_of a + pages_of len)) keeps cleared.areas) cleared.processes cleared.bytes
+      replaced-steps old new s (Munmap p a len) (answer_only Done) p (page_of a) (pages_of len) None (after_unmap (page_of a) (page_of a + pages_of len) (s.areas p)) events keeps alive same_count cleared.taken (λ q at. entry-range s.ledger p (page_of a) (pages_of len) q at) tt cleared.spaces
+      (areas_so old new s p (after_unmap (page_of a) (page_of a + pages_of len)) keeps cleared.areas) cleared.processes cleared.bytes
       (record {
         answer = subst (λ o. MatchOption o (Follows (setting (count old)) s.world s.ledger (Munmap p a len) events Done []) (λ e. Refuses e events Done [])) (sym munmap-allowed) (refl, refl, refl);
         notes = sym cleared.taken.notes;
@@ -242,7 +242,7 @@ module _ (old : Mem) (s : State) (p len : ℕ) (prot : Prot) (place : Place) (ke
       ∙ ap (λ b. cond b (Some Einval) (cond (is_too_long len) (Some Enomem) (refusal (place_tests (pages s.world p) (pages_of len) place)))) some ∙ ap (λ b. cond b (Some Enomem) (refusal (place_tests (pages s.world p) (pages_of len) place))) fits
 
   -- the pages go nowhere
-  pub mmap-refused : (error : Errno) → IsPlaced (pages s.world p) (pages_of len) place (Err error) → MemSteps old old s (Mmap p len prot place) (answered (Refused error))
+  pub mmap-refused : (error : Errno) → IsPlaced (pages s.world p) (pages_of len) place (Err error) → MemSteps old old s (Mmap p len prot place) (answer_only (Refused error))
   mmap-refused error (inl is) = refused old s (Mmap p len prot place) error keeps (mmap-tests ∙ is)
   mmap-refused error (inr h) = record {
     next = s;
@@ -291,29 +291,29 @@ module _ (old : Mem) (s : State) (p len : ℕ) (prot : Prot) (place : Place) (ke
 
   module _ (mid : Mem) (spaces : Spaces) (page : ℕ) (placed : IsPlaced (pages s.world p) (pages_of len) place (Ok page)) (clear : AreToClear (is_taken old.spaces p) page (pages_of len) place)
       (same_count : count mid ≡ count old) (cleared : AreCleared old mid p page (pages_of len) (with_room (pages_of len) place (areas_on old.spaces p)) s.ledger (zaps_for_place s.ledger p (pages_of len) place))
-      (given : HasProts mid.spaces spaces p (set_on page (pages_of len) (Some prot) (prot_of (ranges_of mid.spaces p)))) (areas : HasAreas mid.spaces spaces p (mapped p page (page + pages_of len) prot (areas_on mid.spaces p))) where
-    pub mmap-steps : MemSteps old (moved_on mid mid.tables spaces) s (Mmap p len prot place) (answered (MapAt (address_of page)))
+      (given : HasProts mid.spaces spaces p (set_on page (pages_of len) (Some prot) (prot_of (ranges_of mid.spaces p)))) (areas : HasAreas mid.spaces spaces p (after_map no_chains p page (page + pages_of len) prot (areas_on mid.spaces p))) where
+    pub mmap-steps : MemSteps old (moved_on mid mid.tables spaces) s (Mmap p len prot place) (answer_only (MapAt (address_of page)))
     mmap-steps =
         let events = zaps_for_place s.ledger p (pages_of len) place in
         let t = cleared.taken in
-        replaced-steps old (moved_on mid mid.tables spaces) s (Mmap p len prot place) (answered (MapAt (address_of page))) p page (pages_of len) (Some (zeros prot)) (mapped p page (page + pages_of len) prot (with_room (pages_of len) place (s.areas p))) events keeps alive same_count
+        replaced-steps old (moved_on mid mid.tables spaces) s (Mmap p len prot place) (answer_only (MapAt (address_of page))) p page (pages_of len) (Some (zeros prot)) (after_map no_chains p page (page + pages_of len) prot (with_room (pages_of len) place (s.areas p))) events keeps alive same_count
         (record { stands = stays_orderly mid mid.tables spaces (after_all s.ledger events) refl t.stands; notes = t.notes; free = t.free })
         (λ q at. entry-cleared place page (pages_of len) q at clear) (λ i below. refl) (twice_changed old.spaces mid.spaces spaces p page (pages_of len) None (Some prot) cleared.spaces given)
-        (areas_so old (moved_on mid mid.tables spaces) s p (λ on. mapped p page (page + pages_of len) prot (with_room (pages_of len) place on)) keeps
-        (twice_placed old.spaces mid.spaces spaces p (mapped p page (page + pages_of len) prot) (with_room (pages_of len) place (areas_on old.spaces p)) cleared.areas areas)) cleared.processes cleared.bytes
+        (areas_so old (moved_on mid mid.tables spaces) s p (λ on. after_map no_chains p page (page + pages_of len) prot (with_room (pages_of len) place on)) keeps
+        (twice_placed old.spaces mid.spaces spaces p (after_map no_chains p page (page + pages_of len) prot) (with_room (pages_of len) place (areas_on old.spaces p)) cleared.areas areas)) cleared.processes cleared.bytes
         (record {
           answer = subst (λ o. MatchOption o (Follows (setting (count old)) s.world s.ledger (Mmap p len prot place) events (MapAt (address_of page)) []) (λ e. Refuses e events (MapAt (address_of page)) [])) (sym (mmap-tests ∙ placed.0))
               (Some page, placed.1, refl, refl, refl);
           notes = sym t.notes;
         })
         (ap (λ x. set_process s.world p (with_pages (pages s.world p) x (pages_of len) (λ _. Some (zeros prot)))) (sym (page_back page)))
-        (ap (λ x. with_at p (mapped p x (x + pages_of len) prot (with_room (pages_of len) place (s.areas p))) s.areas) (sym (page_back page)))
+        (ap (λ x. with_at p (after_map no_chains p x (x + pages_of len) prot (with_room (pages_of len) place (s.areas p))) s.areas) (sym (page_back page)))
 
 -- ---- mprotect
 
 module _ (old : Mem) (spaces : Spaces) (s : State) (p a len reached : ℕ) (prot : Prot) (keeps : Keeps old s) (alive : is_some (ranges_of old.spaces p) ≡ true) (passed : refusal ((not (is_on_page a), Einval) ∷ (wraps a len, Enomem) ∷ []) ≡ None)
     (reaches : IsReached (is_taken old.spaces p) (page_of a) (page_of a + pages_of len) reached) (given : HasProts old.spaces spaces p (set_on (page_of a) (reached - page_of a) (Some prot) (prot_of (ranges_of old.spaces p))))
-    (areas : HasAreas old.spaces spaces p (pages_changed (to_prot prot) (page_of a) (reached - page_of a) (areas_on old.spaces p))) where
+    (areas : HasAreas old.spaces spaces p (pages_changed no_chains (to_prot prot) (page_of a) (reached - page_of a) (areas_on old.spaces p))) where
   mprotect-allowed : refusal (tests (setting (count old)) s.world s.ledger (Mprotect p a len prot)) ≡ None
   mprotect-allowed = ap (λ b. cond (not b) (Some Esrch) (refusal ((not (is_on_page a), Einval) ∷ (wraps a len, Enomem) ∷ []))) (sym (lives_is old s keeps p) ∙ sym (alive_is old.spaces p) ∙ alive) ∙ passed
 
@@ -373,12 +373,12 @@ module _ (old : Mem) (spaces : Spaces) (s : State) (p a len reached : ℕ) (prot
 
   protected-steps : (answer : Answer) → answer ≡ (cond (pages_to_hole (pages s.world p) (page_of a) (pages_of len) == pages_of len) Done (Refused Enomem))
       → set_process s.world p (with_prot_on (pages s.world p) (page_of a) (reached - page_of a) prot) ≡ next_world (setting (count old)) s.world s.ledger [] (Mprotect p a len prot) answer
-      → with_at p (pages_changed (to_prot prot) (page_of a) (reached - page_of a) (s.areas p)) s.areas ≡ next_areas s.areas s.world (Mprotect p a len prot) answer
-      → MemSteps old (moved_on old old.tables spaces) s (Mprotect p a len prot) (answered answer)
+      → with_at p (pages_changed no_chains (to_prot prot) (page_of a) (reached - page_of a) (s.areas p)) s.areas ≡ next_areas s.areas s.world (Mprotect p a len prot) answer
+      → MemSteps old (moved_on old old.tables spaces) s (Mprotect p a len prot) (answer_only answer)
   protected-steps answer is world next =
       let now : Process = with_prot_on (pages s.world p) (page_of a) (reached - page_of a) prot in
       let new = moved_on old old.tables spaces in
-      changed old new s (Mprotect p a len prot) (answered answer) p now (pages_changed (to_prot prot) (page_of a) (reached - page_of a) (s.areas p)) s.ledger keeps refl (stays_orderly old old.tables spaces s.ledger refl (orderly old s keeps)) refl (λ q page other. refl) kept-protected
+      changed old new s (Mprotect p a len prot) (answer_only answer) p now (pages_changed no_chains (to_prot prot) (page_of a) (reached - page_of a) (s.areas p)) s.ledger keeps refl (stays_orderly old old.tables spaces s.ledger refl (orderly old s keeps)) refl (λ q page other. refl) kept-protected
       (record {
         events = [];
         legal = record {
@@ -391,29 +391,29 @@ module _ (old : Mem) (spaces : Spaces) (s : State) (p a len reached : ℕ) (prot
         areas = next;
         anons = refl;
       })
-      (areas_so old new s p (pages_changed (to_prot prot) (page_of a) (reached - page_of a)) keeps areas)
+      (areas_so old new s p (pages_changed no_chains (to_prot prot) (page_of a) (reached - page_of a)) keeps areas)
       (areas_changed old new s p now (set_on (page_of a) (reached - page_of a) (Some prot) (prot_of (ranges_of old.spaces p))) keeps alive given covered-protected)
       (tables_kept old new s p now (set_on (page_of a) (reached - page_of a) (Some prot) (prot_of (ranges_of old.spaces p))) keeps alive given covered-protected refl)
 
   -- all pages were mapped
-  pub mprotect-steps : page_of a + pages_of len ≤ reached → MemSteps old (moved_on old old.tables spaces) s (Mprotect p a len prot) (answered Done)
+  pub mprotect-steps : page_of a + pages_of len ≤ reached → MemSteps old (moved_on old old.tables spaces) s (Mprotect p a len prot) (answer_only Done)
   mprotect-steps whole =
       let high = reaches.highest in
       let size : reached - page_of a ≡ pages_of len = omega (arith, whole, high) in
       protected-steps Done (sym (ap (λ b. cond b Done (Refused Enomem)) (equal _ _ (leads ∙ size)))) (ap (λ k. set_process s.world p (with_prot_on (pages s.world p) (page_of a) k prot)) size)
-      (ap (λ k. with_at p (pages_changed (to_prot prot) (page_of a) k (s.areas p)) s.areas) (sym leads))
+      (ap (λ k. with_at p (pages_changed no_chains (to_prot prot) (page_of a) k (s.areas p)) s.areas) (sym leads))
     where
       equal : (k n : ℕ) → k ≡ n → (k == n) ≡ true
       equal k n e = grind (arith, nat_tests, e)
 
   -- a page before the end was not
-  pub mprotect-stops : reached < page_of a + pages_of len → MemSteps old (moved_on old old.tables spaces) s (Mprotect p a len prot) (answered (Refused Enomem))
+  pub mprotect-stops : reached < page_of a + pages_of len → MemSteps old (moved_on old old.tables spaces) s (Mprotect p a len prot) (answer_only (Refused Enomem))
   mprotect-stops less =
       let low = reaches.lowest in
       let fewer : reached - page_of a < pages_of len = omega (arith, less, low) in
       protected-steps (Refused Enomem) (sym (ap (λ b. cond b Done (Refused Enomem)) (differ _ _ _ leads fewer)))
       (ap (λ k. set_process s.world p (with_prot_on (pages s.world p) (page_of a) k prot)) (sym leads) ∙ sym (ap (λ b. cond b s.world (with_prot_to_hole s.world p (page_of a) (pages_of len) prot)) in_reach))
-      (ap (λ k. with_at p (pages_changed (to_prot prot) (page_of a) k (s.areas p)) s.areas) (sym leads)
+      (ap (λ k. with_at p (pages_changed no_chains (to_prot prot) (page_of a) k (s.areas p)) s.areas) (sym leads)
       ∙ sym (ap (λ b. cond b s.areas (with_at p (areas_to_hole s.world p (page_of a) (pages_of len) prot (s.areas p)) s.areas)) in_reach))
     where
       differ : (k m n : ℕ) → k ≡ m → m < n → (k == n) ≡ false

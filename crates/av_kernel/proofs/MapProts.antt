@@ -9,8 +9,8 @@ use Rattle.av_base.specs.Limits.{low_page, top_page}
 use Rattle.av_base.specs.Words.{within}
 use Rattle.av_vma.specs.declared.area.Area.{Area}
 use Rattle.av_vmatree.specs.Spans.{IsFree}
-use Rattle.av_vma.specs.Pages.{AreLaid, Pages, has_page, cut_at, emptied, placed, joined_around, fresh_area, IsWhole, mapped, pages_in, unmapped, pages_changed, to_prot}
-use Rattle.av_merge.specs.Mapping.{Mapping, mapping, mapping_in, remapped, IsRemapped}
+use Rattle.av_vma.specs.Pages.{AreLaid, Pages, has_page, cut_at, without_range, with_area, joined_around, fresh_area, IsWhole, after_map, pages_in, after_unmap, pages_changed, to_prot, no_chains}
+use Rattle.av_merge.specs.Mapping.{Mapping, mapping, mapping_in, mapping_with, IsRemapped}
 use Rattle.av_merge.specs.Pages.{IsReached}
 use Rattle.av_merge.proofs.Mappings.{around_maps, cut_out_maps, placed_maps}
 use Rattle.av_spaces.specs.Spaces.{Spaces, pages_of, is_taken, AreThese, IsChanged}
@@ -58,7 +58,7 @@ many from n = omega arith
 -- ---- unmap
 
 prots_cut : (on : Pages) (from n : ℕ) (new : Pages) → AreLaid on
-    → ((page : ℕ) → new page ≡ emptied from (from + n) (cut_at (from + n) (cut_at from on)) page)
+    → ((page : ℕ) → new page ≡ without_range from (from + n) (cut_at (from + n) (cut_at from on)) page)
     → (page : ℕ) → prots_on new page ≡ set_on from n None (prots_on on) page
 prots_cut on from n new laid is page =
     prots_mapped new page
@@ -82,19 +82,19 @@ prots_protected on from to past prot new reached is page =
     upper : (from past page : ℕ) → within from (past - from) page ≡ true → page < past
     upper from past page h = grind (arith, nat_tests)
 
-    there : (o : Option Area) → is_some o ≡ true → option_map prot_mapped (option_map (remapped (to_prot prot)) (option_map (mapping_in page) o)) ≡ Some prot
+    there : (o : Option Area) → is_some o ≡ true → option_map prot_mapped (option_map (mapping_with (to_prot prot)) (option_map (mapping_in page) o)) ≡ Some prot
     there None h = absurd (false≢true h)
     there (Some area) h = refl
 
     by : (b : Bool) → within from (past - from) page ≡ b
-        → option_map prot_mapped (cond b (option_map (remapped (to_prot prot)) (mapping on page)) (mapping on page)) ≡ cond b (Some prot) (prots_on on page)
+        → option_map prot_mapped (cond b (option_map (mapping_with (to_prot prot)) (mapping on page)) (mapping on page)) ≡ cond b (Some prot) (prots_on on page)
     by true e = there (on page) (reached.all page (lower from (past - from) page e) (upper from past page e))
     by false e = sym (prots_mapped on page)
 
 -- ---- map
 
 -- an area on pages that were free
-laid_placed : (area : Area) (on : Pages) → AreLaid on → IsWhole area → ((page : ℕ) → has_page area page ≡ true → on page ≡ None) → AreLaid (placed area on)
+laid_placed : (area : Area) (on : Pages) → AreLaid on → IsWhole area → ((page : ℕ) → has_page area page ≡ true → on page ≡ None) → AreLaid (with_area area on)
 laid_placed area on laid whole free = record {
   whole = λ page a. by_whole page a (has_page area page);
   here = λ page a. by_here page a (has_page area page) refl;
@@ -113,7 +113,7 @@ laid_placed area on laid whole free = record {
     of_other other a true e is = absurd (none-some a (sym (free other e) ∙ is))
     of_other other a false e is = is
 
-    by_all : (page other : ℕ) (a : Area) (b : Bool) → has_page area page ≡ b → cond b (Some area) (on page) ≡ Some a → has_page a other ≡ true → placed area on other ≡ Some a
+    by_all : (page other : ℕ) (a : Area) (b : Bool) → has_page area page ≡ b → cond b (Some area) (on page) ≡ Some a → has_page a other ≡ true → with_area area on other ≡ Some a
     by_all page other a true e is has =
         let same = same_Some area a is in
         ap (λ b. cond b (Some area) (on other)) (subst (λ (a : Area). has_page a other ≡ true) (sym same) has) ∙ ap Some same
@@ -133,13 +133,13 @@ fresh_has p from n prot page = λ i. within (first i) (pages i) page
 
 prots_placed : (p : ℕ) (on : Pages) (from n : ℕ) (prot : Prot) (new : Pages) → AreLaid on
     → 1 ≤ n → low_page ≤ from → from + n ≤ top_page → IsFree (has_area on) from (from + n)
-    → ((page : ℕ) → new page ≡ joined_around from (from + n) (placed (fresh_area p from (from + n) prot) on) page)
+    → ((page : ℕ) → new page ≡ joined_around no_chains from (from + n) (with_area (fresh_area p from (from + n) prot) on) page)
     → (page : ℕ) → prots_on new page ≡ set_on from n (Some prot) (prots_on on) page
 prots_placed p on from n prot new laid some low high free is page =
     prots_mapped new page
     ∙ ap (option_map prot_mapped) (
     ap (option_map (mapping_in page)) (is page)
-    ∙ around_maps from (from + n) (placed fresh on) (laid_placed fresh on laid (fresh_whole p from n prot some low high) none) page
+    ∙ around_maps from (from + n) (with_area fresh on) (laid_placed fresh on laid (fresh_whole p from n prot some low high) none) page
     ∙ placed_maps fresh on page
     ∙ ap (λ b. cond b (Some (mapping_in page fresh)) (mapping on page)) (fresh_has p from n prot page)
     )
@@ -184,16 +184,16 @@ has_areas s t p on h q page = by (q == p) refl
 as_ranges : (s : Spaces) (p from n page : ℕ) (prot : Option Prot) → set_on from n prot (prots_on (pages_of s p)) page ≡ set_on from n prot (prot_of (ranges_of s p)) page
 as_ranges s p from n page prot = ap (cond (within from n page) prot) (sym (prots_are s p page))
 
-pub unmapped-prots : (s t : Spaces) (p from n : ℕ) → IsChanged s t p (AreThese (unmapped from (from + n) (pages_of s p))) → HasProts s t p (set_on from n None (prot_of (ranges_of s p)))
-unmapped-prots s t p from n h = has_prots s t p (AreThese (unmapped from (from + n) (pages_of s p))) (set_on from n None (prot_of (ranges_of s p))) h
+pub after_unmap-prots : (s t : Spaces) (p from n : ℕ) → IsChanged s t p (AreThese (after_unmap from (from + n) (pages_of s p))) → HasProts s t p (set_on from n None (prot_of (ranges_of s p)))
+after_unmap-prots s t p from n h = has_prots s t p (AreThese (after_unmap from (from + n) (pages_of s p))) (set_on from n None (prot_of (ranges_of s p))) h
     (λ page. prots_cut (pages_of s p) from n (pages_of t p) (laid s p h.were_rising) h.pages page ∙ as_ranges s p from n page None)
 
-pub mapped-prots : (s t : Spaces) (p from n : ℕ) (prot : Prot) → 1 ≤ n → low_page ≤ from → from + n ≤ top_page → IsFree (is_taken s p) from (from + n)
-    → IsChanged s t p (AreThese (mapped p from (from + n) prot (pages_of s p))) → HasProts s t p (set_on from n (Some prot) (prot_of (ranges_of s p)))
-mapped-prots s t p from n prot some low high free h = has_prots s t p (AreThese (mapped p from (from + n) prot (pages_of s p))) (set_on from n (Some prot) (prot_of (ranges_of s p))) h
+pub after_map-prots : (s t : Spaces) (p from n : ℕ) (prot : Prot) → 1 ≤ n → low_page ≤ from → from + n ≤ top_page → IsFree (is_taken s p) from (from + n)
+    → IsChanged s t p (AreThese (after_map no_chains p from (from + n) prot (pages_of s p))) → HasProts s t p (set_on from n (Some prot) (prot_of (ranges_of s p)))
+after_map-prots s t p from n prot some low high free h = has_prots s t p (AreThese (after_map no_chains p from (from + n) prot (pages_of s p))) (set_on from n (Some prot) (prot_of (ranges_of s p))) h
     (λ page. prots_placed p (pages_of s p) from n prot (pages_of t p) (laid s p h.were_rising) some low high free h.pages page ∙ as_ranges s p from n page (Some prot))
 
-pub protected-prots : (s t : Spaces) (p from to past : ℕ) (prot : Prot) → IsReached (is_taken s p) from to past → IsChanged s t p (AreThese (pages_changed (to_prot prot) from (past - from) (pages_of s p))) → IsRemapped from past (to_prot prot) (pages_of s p) (pages_of t p)
+pub protected-prots : (s t : Spaces) (p from to past : ℕ) (prot : Prot) → IsReached (is_taken s p) from to past → IsChanged s t p (AreThese (pages_changed no_chains (to_prot prot) from (past - from) (pages_of s p))) → IsRemapped from past (to_prot prot) (pages_of s p) (pages_of t p)
     → HasProts s t p (set_on from (past - from) (Some prot) (prot_of (ranges_of s p)))
-protected-prots s t p from to past prot reached h mapped = has_prots s t p (AreThese (pages_changed (to_prot prot) from (past - from) (pages_of s p))) (set_on from (past - from) (Some prot) (prot_of (ranges_of s p))) h
-    (λ page. prots_protected (pages_of s p) from to past prot (pages_of t p) reached mapped page ∙ as_ranges s p from (past - from) page (Some prot))
+protected-prots s t p from to past prot reached h after_map no_chains = has_prots s t p (AreThese (pages_changed no_chains (to_prot prot) from (past - from) (pages_of s p))) (set_on from (past - from) (Some prot) (prot_of (ranges_of s p))) h
+    (λ page. prots_protected (pages_of s p) from to past prot (pages_of t p) reached after_map no_chains page ∙ as_ranges s p from (past - from) page (Some prot))

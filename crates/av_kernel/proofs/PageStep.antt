@@ -32,7 +32,7 @@ use Rattle.av_reclaim.specs.declared.mem.Mem.{Mem}
 use Rattle.av_fault.specs.declared.fault.Stop.{Stop}
 use Rattle.av_fault.specs.declared.fault.Touched.{Touched}
 use Rattle.av_fault.specs.declared.fault.Touched.TheVariants.{Ready, Stopped}
-use Rattle.av_reclaim.specs.Mem.{ranges_of, setting, count, plain, view, joined, Keeps, KeepsWithin}
+use Rattle.av_reclaim.specs.Mem.{ranges_of, setting, count, plain, view, view_of_parts, Keeps, KeepsWithin}
 use Rattle.av_fault.specs.Fault.{IsTouched, end_of, stop_of}
 use Rattle.av_kernel.specs.Page.{IsPageStep, world_after}
 use Rattle.av_fault.proofs.FaultParts.{Parts, of_stand, to_stand}
@@ -146,7 +146,7 @@ module _ (s : State) (old : Mem) (p page at : ℕ) (piece : List ℕ) (before no
   written_served mid new f same alive some fits t frames tables spaces =
       let l = after_all s.ledger (page_events true (p, page) t.added None) in
       let m = setting (count mid) in
-      let view_is : view new ≡ over f at piece (view mid) = λ i. joined (frames i) (λ q o. plain (entry_at (tables i) q o)) (spaces i) in
+      let view_is : view new ≡ over f at piece (view mid) = λ i. view_of_parts (frames i) (λ q o. plain (entry_at (tables i) q o)) (spaces i) in
       let sound = sound_written (count mid) s.world s.ledger p page at piece t.added (subst (λ n. AllSound (setting n) s.world s.ledger) (sym same) keeps.stands.sound) alive some fits t.touches in
       let parts = written_now m (view mid) s.world l p page f true at piece (of_stand mid s.world l t.parts) keeps.stands.sound.world alive t.ready.0 (t.ready.1 refl) fits in
       let parts' : Parts m (view new) (after_write s.world p (4096 * page + at) piece) l = subst (λ w. Parts m (view new) w l) (sym (stored_is s.world p (4096 * page + at) piece some)) (subst (λ v. Parts m v (set_process s.world p (with_bytes (pages s.world p) (4096 * page + at) piece)) l) (sym view_is) parts) in

@@ -34,7 +34,7 @@ use Rattle.av_reclaim.specs.declared.mem.Mem.{Mem}
 use Rattle.av_spaces.specs.Spaces.{Spaces, areas_of, pages_of, IsSpawned, IsEnded}
 use Rattle.av_plain.specs.Report.{range_of}
 use Rattle.av_reclaim.specs.Mem.{ranges_of, setting, plain, view, count, HasTables, Keeps, HasLedger}
-use Rattle.av_kernel.specs.Step.{MemSteps, answered}
+use Rattle.av_kernel.specs.Step.{MemSteps, answer_only}
 use Rattle.av_reclaim.specs.Zap.{HasZapped}
 use Rattle.av_reclaim.proofs.MemLaws.{alive_is, lives_is, all_apart, kept-nothing, no_cache}
 use Rattle.av_kernel.proofs.StepLaws.{is_number, orderly, moved_on, stays_orderly, state_after, changed, kept-on, stepped}
@@ -88,7 +88,7 @@ module _ (old : Mem) (tables : ProcessTables) (spaces : Spaces) (s : State) (p :
   spawn-allowed : refusal (tests (setting (count old)) s.world s.ledger (Spawn p)) ≡ None
   spawn-allowed = ap (λ b. cond b (Some Eexist) (cond (nat_le most_processes (length s.world)) (Some Eagain) None)) dead_before ∙ ap (λ b. cond b (Some Eagain) None) few_live
 
-  spawn-step : IsStep (setting (count old)) s (Spawn p) (answered Done) (state_after s p no_pages none_on s.ledger (free_of (view old)))
+  spawn-step : IsStep (setting (count old)) s (Spawn p) (answer_only Done) (state_after s p no_pages none_on s.ledger (free_of (view old)))
   spawn-step = record {
     events = [];
     legal = record {
@@ -136,8 +136,8 @@ module _ (old : Mem) (tables : ProcessTables) (spaces : Spaces) (s : State) (p :
       by true = refl
       by false = keeps.tables q
 
-  pub spawned-steps : MemSteps old (moved_on old tables spaces) s (Spawn p) (answered Done)
-  spawned-steps = changed old (moved_on old tables spaces) s (Spawn p) (answered Done) p no_pages none_on s.ledger keeps refl (stays_orderly old tables spaces s.ledger entries (orderly old s keeps)) refl
+  pub spawned-steps : MemSteps old (moved_on old tables spaces) s (Spawn p) (answer_only Done)
+  spawned-steps = changed old (moved_on old tables spaces) s (Spawn p) (answer_only Done) p no_pages none_on s.ledger keeps refl (stays_orderly old tables spaces s.ledger entries (orderly old s keeps)) refl
       (λ q page other. refl) (λ page. kept-nothing (view old) s.ledger (entry s.ledger (p, page))) spawn-step spawn-on spawn-areas spawn-tables
 
 -- ---- exit: the memories
@@ -191,7 +191,7 @@ module _ (old mid : Mem) (tables : ProcessTables) (spaces : Spaces) (s : State) 
   allowed : refusal (tests (setting (count old)) s.world s.ledger (Exit p)) ≡ None
   allowed = ap (λ b. cond (not b) (Some Esrch) None) alive_now
 
-  exit-step : IsStep (setting (count old)) s (Exit p) (answered Done) (record { world = end_process s.world p; ledger = after_all s.ledger (zaps_of s.ledger (keys_of_process s.ledger p)); free = free_of (view mid); areas = with_at p none_on s.areas; anons = s.anons })
+  exit-step : IsStep (setting (count old)) s (Exit p) (answer_only Done) (record { world = end_process s.world p; ledger = after_all s.ledger (zaps_of s.ledger (keys_of_process s.ledger p)); free = free_of (view mid); areas = with_at p none_on s.areas; anons = s.anons })
   exit-step = record {
     events = zaps_of s.ledger (keys_of_process s.ledger p);
     legal = record {
@@ -288,6 +288,6 @@ module _ (old mid : Mem) (tables : ProcessTables) (spaces : Spaces) (s : State) 
         };
   }
 
-  pub exit-steps : MemSteps old (record { frames = mid.frames; tables = tables; spaces = spaces }) s (Exit p) (answered Done)
-  exit-steps = stepped old (record { frames = mid.frames; tables = tables; spaces = spaces }) s (record { world = end_process s.world p; ledger = after_all s.ledger (zaps_of s.ledger (keys_of_process s.ledger p)); free = free_of (view mid); areas = with_at p none_on s.areas; anons = s.anons }) (Exit p) (answered Done)
+  pub exit-steps : MemSteps old (record { frames = mid.frames; tables = tables; spaces = spaces }) s (Exit p) (answer_only Done)
+  exit-steps = stepped old (record { frames = mid.frames; tables = tables; spaces = spaces }) s (record { world = end_process s.world p; ledger = after_all s.ledger (zaps_of s.ledger (keys_of_process s.ledger p)); free = free_of (view mid); areas = with_at p none_on s.areas; anons = s.anons }) (Exit p) (answer_only Done)
       keeps exit-step same_count stands_now refl exit-on keeps.stands.anons areas_now has_now kept_now

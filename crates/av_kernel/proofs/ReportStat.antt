@@ -9,7 +9,7 @@ use Rattle.av_plain.specs.Report.{totals}
 use Rattle.av_plain.proofs.Report.Totals.{free-once, totals-plain}
 use Rattle.av_reclaim.specs.declared.mem.Mem.{Mem}
 use Rattle.av_reclaim.specs.Mem.{setting, view, count, Keeps}
-use Rattle.av_kernel.specs.Step.{MemSteps, answered}
+use Rattle.av_kernel.specs.Step.{MemSteps, answer_only}
 
 -- what the kernel counts is what the ledger has
 pub counted : (k : Mem) (s : State) (processes : ℕ) → Keeps k s → ((f : ℕ) → how_many (λ g. f == g) (view k).free ≤ 1) → ((f : ℕ) → is_in f (view k).free ≡ true → f < count k) → processes ≡ length k.spaces
@@ -23,7 +23,7 @@ counted k s processes keeps once below number =
     with_number n = record { frames = count k; free = length (view k).free; active = 0; inactive = count k - length (view k).free; flight = 0; slots = 0; free_slots = 0; processes = n }
 
 pub stat-steps : (k : Mem) (s : State) (processes : ℕ) → Keeps k s → ((f : ℕ) → how_many (λ g. f == g) (view k).free ≤ 1) → ((f : ℕ) → is_in f (view k).free ≡ true → f < count k) → processes ≡ length k.spaces
-    → MemSteps k k s Stat (answered (Counted (record { frames = count k; free = length (view k).free; active = 0; inactive = count k - length (view k).free; flight = 0; slots = 0; free_slots = 0; processes = processes })))
+    → MemSteps k k s Stat (answer_only (Counted (record { frames = count k; free = length (view k).free; active = 0; inactive = count k - length (view k).free; flight = 0; slots = 0; free_slots = 0; processes = processes })))
 stat-steps k s processes keeps once below number = record {
   next = s;
   step = record {
@@ -40,6 +40,6 @@ stat-steps k s processes keeps once below number = record {
 
 -- the same reply, by equal numbers
 pub same_reply : (a a' f f' i i' n : ℕ) → a ≡ a' → f ≡ f' → i ≡ i'
-    → answered (Counted (record { frames = a; free = f; active = 0; inactive = i; flight = 0; slots = 0; free_slots = 0; processes = n }))
-    ≡ answered (Counted (record { frames = a'; free = f'; active = 0; inactive = i'; flight = 0; slots = 0; free_slots = 0; processes = n }))
-same_reply a a' f f' i i' n p q r = λ j. answered (Counted (record { frames = p j; free = q j; active = 0; inactive = r j; flight = 0; slots = 0; free_slots = 0; processes = n }))
+    → answer_only (Counted (record { frames = a; free = f; active = 0; inactive = i; flight = 0; slots = 0; free_slots = 0; processes = n }))
+    ≡ answer_only (Counted (record { frames = a'; free = f'; active = 0; inactive = i'; flight = 0; slots = 0; free_slots = 0; processes = n }))
+same_reply a a' f f' i i' n p q r = λ j. answer_only (Counted (record { frames = p j; free = q j; active = 0; inactive = r j; flight = 0; slots = 0; free_slots = 0; processes = n }))

@@ -31,7 +31,7 @@ use Rattle.av_kernel.specs.Map.{HasProts}
 use Rattle.av_reclaim.specs.Mem.{ranges_of, setting, plain, view, count, HasTables, Keeps, HasLedger}
 use Rattle.av_kernel.specs.declared.refusal.Refusal.{Refusal}
 use Rattle.av_kernel.specs.declared.refusal.Refusal.TheVariants as refusals
-use Rattle.av_kernel.specs.Step.{MemSteps, Does, answered}
+use Rattle.av_kernel.specs.Step.{MemSteps, Does, answer_only}
 use Rattle.av_reclaim.proofs.MemLaws.{alive_is, lives_is, no_cache, no_frame_at, slot_kept, nothing_clean}
 use Rattle.av_fault.proofs.FaultParts.{no_headers}
 
@@ -47,7 +47,7 @@ other_number q p e = grind (arith, nat_tests)
 -- ---- a refusal
 
 -- the first test that holds refuses the command, and nothing changes
-pub refused : (k : Mem) (s : State) (command : Command) (error : Errno) → Keeps k s → refusal (tests (setting (count k)) s.world s.ledger command) ≡ Some error → MemSteps k k s command (answered (Refused error))
+pub refused : (k : Mem) (s : State) (command : Command) (error : Errno) → Keeps k s → refusal (tests (setting (count k)) s.world s.ledger command) ≡ Some error → MemSteps k k s command (answer_only (Refused error))
 refused k s command error keeps is = record {
   next = s;
   step = record {

@@ -8,7 +8,7 @@ use Rattle.av_plain.specs.Step.{causes}
 use Rattle.av_plain.specs.Transcript.{State, IsStep}
 use Rattle.av_reclaim.specs.Mem.{Keeps}
 use Rattle.av_kernel.specs.Machine.{Machine}
-use Rattle.av_kernel.specs.Tally.{counted, none_counted}
+use Rattle.av_kernel.specs.Tally.{tally_with, none_counted}
 
 -- the kernel stands for the memories, the ledger, what is free and the areas
 abbrev pub Stands : Machine → State → Type 0
@@ -35,7 +35,7 @@ pub record IsNew (n : ℕ) (k : Machine) : Type 0 where
 pub record Counts (old new : Machine) (reply : Reply) : Type 0 where
   pub frames : new.frames ≡ old.frames
   pub steps : new.steps ≡ old.steps + 1
-  pub tally : new.tally ≡ counted reply.answer old.tally
+  pub tally : new.tally ≡ tally_with reply.answer old.tally
   pub was_spent : old.spent ≡ false
   pub spent : new.spent ≡ false
 

@@ -11,13 +11,13 @@ use Rattle.av_kernel.specs.declared.refusal.Refusal.{Refusal}
 use Rattle.av_kernel.specs.declared.refusal.Refusal.TheVariants.{Refused, Memory}
 
 -- a reply without notes or rows
-abbrev pub answered : Answer → Reply
-answered answer = record { answer = answer; notes = []; rows = [] }
+abbrev pub answer_only : Answer → Reply
+answer_only answer = record { answer = answer; notes = []; rows = [] }
 
 -- the reply of a command that was done or refused, or none where memory was wanting
 abbrev pub reply_of : Result Reply Refusal → Option Reply
 reply_of (Ok reply) = Some reply
-reply_of (Err (Refused error)) = Some (answered (answers.Refused error))
+reply_of (Err (Refused error)) = Some (answer_only (answers.Refused error))
 reply_of (Err Memory) = None
 
 -- a command's reply is a step, and the memory system stands for what it leaves

@@ -18,17 +18,17 @@ none_counted = record {
 }
 
 -- one more reply with this answer; reports are not counted
-abbrev pub counted : Answer → Tally → Tally
-counted Done t = record t { done = t.done + 1 }
-counted (MapAt a) t = record t { mapped = t.mapped + 1 }
-counted (Data bytes) t = record t { shown = t.shown + 1 }
-counted (On slots bad) t = record t { on = t.on + 1 }
-counted (Refused error) t = record t { refused = t.refused + 1 }
-counted (NoFrame out) t = record t { refused = t.refused + 1 }
-counted (Segv k shown) t = record t { segv = t.segv + 1 }
-counted (Bus k shown) t = record t { bus = t.bus + 1 }
-counted (Oom k out shown) t = record t { oom = t.oom + 1 }
-counted answer t = t
+abbrev pub tally_with : Answer → Tally → Tally
+tally_with Done t = record t { done = t.done + 1 }
+tally_with (MapAt a) t = record t { mapped = t.mapped + 1 }
+tally_with (Data bytes) t = record t { shown = t.shown + 1 }
+tally_with (On slots bad) t = record t { on = t.on + 1 }
+tally_with (Refused error) t = record t { refused = t.refused + 1 }
+tally_with (NoFrame out) t = record t { refused = t.refused + 1 }
+tally_with (Segv k shown) t = record t { segv = t.segv + 1 }
+tally_with (Bus k shown) t = record t { bus = t.bus + 1 }
+tally_with (Oom k out shown) t = record t { oom = t.oom + 1 }
+tally_with answer t = t
 
 -- no kind of reply came more often than n times
 pub record IsAtMost (n : ℕ) (t : Tally) : Type 0 where

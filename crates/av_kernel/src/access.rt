@@ -54,7 +54,7 @@ pub fn read(
     let ended = read_pieces(mem, process, address, len as usize, &mut shown, &mut notes)?;
     let answer = match ended.stop {
         None => Answer::Data(shown),
-        Some(stop) => stopped(stop, ended.served, shown),
+        Some(stop) => stop_answer(stop, ended.served, shown),
     };
     Ok(Reply {
         answer,
@@ -79,7 +79,7 @@ pub fn write(
     let ended = write_pieces(mem, process, address, bytes, &mut notes)?;
     let answer = match ended.stop {
         None => Answer::Done,
-        Some(stop) => stopped(stop, ended.served, Bytes::new(alloc)),
+        Some(stop) => stop_answer(stop, ended.served, Bytes::new(alloc)),
     };
     Ok(Reply {
         answer,
@@ -175,7 +175,7 @@ fn next_piece(address: u64, len: usize, done: usize) -> Piece
 }
 
 /// The answer of an access that stopped, with the bytes that a read has shown.
-fn stopped(stop: Stop, served: usize, shown: Bytes) -> Answer
+fn stop_answer(stop: Stop, served: usize, shown: Bytes) -> Answer
     ensures { result ≡ answer_of stop served shown }
 {
     match stop {

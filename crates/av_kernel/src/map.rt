@@ -6,7 +6,7 @@ ghost use Rattle.av_plain.specs.Ledger.{Ledger};
 ghost use Rattle.av_plain.specs.Zap.{keys_in, zaps_of};
 ghost use Rattle.av_plain.specs.Map.{zaps_for_place};
 ghost use Rattle.av_plain.specs.Areas.{with_room};
-ghost use Rattle.av_vma.specs.Pages.{unmapped};
+ghost use Rattle.av_vma.specs.Pages.{after_unmap};
 ghost use Rattle.av_spaces.specs.Spaces.{areas_of, is_taken, pages_of};
 ghost use Rattle.av_reclaim.specs.Mem.{count, IsSteady, HasLedger};
 ghost use Rattle.av_kernel.specs.Place.{AreToClear};
@@ -17,7 +17,7 @@ ghost use Rattle.av_trace.specs.declared.command.Command.TheVariants as commands
 use crate::place::{check_protect, find_place, is_no_range, is_too_long};
 use crate::process::check_lives;
 use crate::refusal::Refusal;
-use crate::step::answered;
+use crate::step::answer_only;
 use av_base::{PAGE_SIZE, Prot};
 use av_reclaim::{Mem, zap_range};
 use av_trace::{Answer, Errno, Place, Reply};
@@ -46,7 +46,7 @@ pub fn mmap(
     let page = find_place(&mem.spaces, process, pages, place)?;
     make_room(mem, process, page, pages, place)?;
     mem.spaces.map(process, page, pages, prot)?;
-    Ok(answered(alloc, Answer::MapAt(PAGE_SIZE * page)))
+    Ok(answer_only(alloc, Answer::MapAt(PAGE_SIZE * page)))
 }
 
 /// Does a `munmap`: the pages go, with their entries. The frames that no other page has become
@@ -66,7 +66,7 @@ pub fn munmap(
         return Err(Refusal::Refused(Errno::Einval));
     }
     clear(mem, process, address / PAGE_SIZE, len.div_ceil(PAGE_SIZE))?;
-    Ok(answered(alloc, Answer::Done))
+    Ok(answer_only(alloc, Answer::Done))
 }
 
 /// Does an `mprotect`: the pages before the first that isn't mapped get the protection.
@@ -89,7 +89,7 @@ pub fn mprotect(
     if reached < past {
         return Err(Refusal::Refused(Errno::Enomem));
     }
-    Ok(answered(alloc, Answer::Done))
+    Ok(answer_only(alloc, Answer::Done))
 }
 
 /// Takes away what stands where a mapping goes: all at a fixed place, and at another there is
@@ -124,7 +124,7 @@ fn clear(mem: &mut Mem, process: u16, page: u64, pages: u64) -> Result<(), Alloc
     requires high { page + pages ≤ top_page }
     ensures cleared { (l : Ledger) → HasLedger mem.old l → OnOk result
         (AreCleared mem.old mem.new process page pages
-        (unmapped page (page + pages) (pages_of mem.old.spaces process)) l
+        (after_unmap page (page + pages) (pages_of mem.old.spaces process)) l
         (zaps_of l (keys_in l process page pages))) }
     ensures count { count mem.new ≡ count mem.old }
 {

@@ -9,7 +9,7 @@ ghost use Rattle.av_trace.specs.declared.command.Command.TheVariants as commands
 ghost use Rattle.av_trace.specs.declared.reply.Errno.TheVariants as errors;
 
 use crate::refusal::Refusal;
-use crate::step::answered;
+use crate::step::answer_only;
 use av_base::MOST_PROCESSES;
 use av_reclaim::{Mem, zap_all};
 use av_trace::{Answer, Errno, Reply};
@@ -41,7 +41,7 @@ pub fn spawn(mem: &mut Mem, alloc: Global, process: u16) -> Result<Reply, Refusa
     }
     mem.tables.spawn(alloc, process)?;
     mem.spaces.spawn(process)?;
-    Ok(answered(alloc, Answer::Done))
+    Ok(answer_only(alloc, Answer::Done))
 }
 
 /// Does an `exit`: its entries, its page table and its areas go. The frames that no other process
@@ -54,5 +54,5 @@ pub fn exit(mem: &mut Mem, alloc: Global, process: u16) -> Result<Reply, Refusal
     zap_all(mem, process);
     mem.tables.end(process);
     mem.spaces.end(process);
-    Ok(answered(alloc, Answer::Done))
+    Ok(answer_only(alloc, Answer::Done))
 }

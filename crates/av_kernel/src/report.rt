@@ -11,7 +11,7 @@ ghost use Rattle.av_trace.specs.declared.row.Row.TheVariants as row;
 
 use crate::process::check_lives;
 use crate::refusal::Refusal;
-use crate::step::answered;
+use crate::step::answer_only;
 use av_reclaim::Mem;
 use av_trace::{Answer, Notes, Reply, Row, Rows, Totals};
 use av_vma::Area;
@@ -49,7 +49,7 @@ pub fn stat(mem: &Mem, alloc: Global) -> Reply
         free_slots: 0,
         processes: mem.spaces.count() as u64,
     };
-    answered(alloc, Answer::Counted(totals))
+    answer_only(alloc, Answer::Counted(totals))
 }
 
 /// The longest runs of pages with one protection of these areas of one process.

@@ -16,7 +16,7 @@ use av_trace::{Answer, Command, Notes, Reply, Rows};
 use std::alloc::{AllocError, Global};
 
 /// A reply without notes or rows.
-pub fn answered(alloc: Global, answer: Answer) -> Reply
+pub fn answer_only(alloc: Global, answer: Answer) -> Reply
     ensures { result ≡ step.answered answer }
 {
     Reply {
@@ -36,7 +36,7 @@ pub fn perform(mem: &mut Mem, alloc: Global, command: &Command) -> Result<Reply,
 {
     match dispatch(mem, alloc, command) {
         Ok(reply) => Ok(reply),
-        Err(Refusal::Refused(error)) => Ok(answered(alloc, Answer::Refused(error))),
+        Err(Refusal::Refused(error)) => Ok(answer_only(alloc, Answer::Refused(error))),
         Err(Refusal::Memory) => Err(AllocError),
     }
 }

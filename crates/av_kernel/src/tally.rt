@@ -1,7 +1,7 @@
 //! How often each kind of reply came.
 
 ghost use Rattle.std.specs.Prelude.{◌≡◌, ◌^◌, ◌<◌};
-ghost use Rattle.av_kernel.specs.Tally.{counted, none_counted, IsAtMost};
+ghost use Rattle.av_kernel.specs.Tally.{tally_with, none_counted, IsAtMost};
 
 use av_trace::Answer;
 
@@ -39,7 +39,7 @@ impl Tally {
     /// One more reply with this answer. A report is not counted.
     pub fn count(&mut self, answer: &Answer)
         requires { IsAtMost (2 ^ 24) self.old }
-        ensures { self.new ≡ counted answer.now self.old }
+        ensures { self.new ≡ tally_with answer.now self.old }
     {
         match answer {
             Answer::Done => self.done += 1,

@@ -10,7 +10,7 @@ use Rattle.av_plain.specs.Ledger.{Setting}
 use Rattle.av_plain.specs.Step.{next}
 use Rattle.av_plain.specs.Transcript.{Exchange, IsRun, State, at_first}
 use Rattle.av_plain.specs.World.{World}
-use Rattle.av_laws.specs.Areas.{Makes, NeverHas, area, between, after_exit, fixed_over, four_pages, hole, joined_above, joined_again, joined_below, protected_inside, up_to_hole}
+use Rattle.av_laws.specs.Areas.{Makes, NeverHas, area, middle_map, after_exit, fixed_over, four_pages, hole, joined_above, joined_again, joined_below, protected_inside, up_to_hole}
 use Rattle.av_laws.specs.Determined.{Tells}
 use Rattle.av_laws.specs.Examples.{machine, read_only, read_write}
 use Rattle.av_laws.proofs.Determined.{loads-told}
@@ -143,8 +143,8 @@ hole-makes = makes hole 0xf 6 (area 0x10 0x11 read_write ∷ area 0x12 0x14 read
 )
     (refl, (refl, (refl, (refl, (refl, (refl, tt))))))
 
-pub between-makes : Makes between 0xf 6 (area 0x10 0x14 read_write ∷ [])
-between-makes = makes between 0xf 6 (area 0x10 0x14 read_write ∷ []) (
+pub middle_map-makes : Makes middle_map 0xf 6 (area 0x10 0x14 read_write ∷ [])
+middle_map-makes = makes middle_map 0xf 6 (area 0x10 0x14 read_write ∷ []) (
   [],
   all_free,
   record { answer = (refl, refl, refl); notes = refl },

@@ -17,7 +17,7 @@ use Rattle.av_base.specs.Words.{numbers}
 use Rattle.av_trace.specs.declared.note.Note.{Note}
 use Rattle.av_trace.specs.declared.note.Note.TheVariants.{Put, Copied, Dropped, Loaded, Mapped, New, Zeroed}
 use Rattle.av_laws.specs.Determined.{AreFaultless, IsClaimed, SameCommands, Tells}
-use Rattle.av_laws.specs.Examples.{Allows, Forbids, Refutes, Rejects, Runs, after_fork, answered, copies, crowd, denied_write, empty, first_run, fixed_over, in_swap_cache, in_writeback, leaked, only_frames, load_when_half_full, machine, one_frame, page_with, paged_out, past_a_hole, read_write, refused_write, slot, untouched, with_byte, with_swap, written_in_vain, wrong_frame, wrong_load, wrong_place}
+use Rattle.av_laws.specs.Examples.{Allows, Forbids, Refutes, Rejects, Runs, after_fork, reply_with, copies, crowd, denied_write, empty, first_run, fixed_over, in_swap_cache, in_writeback, leaking_run, only_frames, load_when_half_full, machine, one_frame, page_with, paged_out, past_a_hole, read_write, refused_write, slot, state_at_rest, with_byte, with_swap, written_in_vain, wrong_frame, wrong_load, wrong_place}
 use Rattle.av_plain.specs.Access.{Accesses, End, Stopped, Whole, page_events, pages_of_access, read_answer, write_answer}
 use Rattle.av_plain.specs.Choice.{frame_in, new_free, no_slots}
 use Rattle.av_plain.specs.Pass.{fails}
@@ -297,10 +297,10 @@ abbrev top_number : ℕ
 top_number = 0x7fffffffe
 
 -- what may come in these states: a new page, the zero page, a copy, none, a drop, and a page that comes in
-new_page : Touches (machine 4) untouched.world untouched.ledger true (1, top_number) (New 1 top 0 ∷ []) None
+new_page : Touches (machine 4) state_at_rest.world state_at_rest.ledger true (1, top_number) (New 1 top 0 ∷ []) None
 new_page = (refl, record { coming = []; making = New 1 top 0 ∷ []; whole = refl; comes_in = refl; made = record { sought = []; frame = 0; seeks = refl; in_range = omega arith; free = refl; whole = refl } })
 
-zero_page : Touches (machine 4) untouched.world untouched.ledger false (1, top_number) (Zeroed 1 top ∷ []) None
+zero_page : Touches (machine 4) state_at_rest.world state_at_rest.ledger false (1, top_number) (Zeroed 1 top ∷ []) None
 zero_page = (refl, record { coming = []; making = Zeroed 1 top ∷ []; whole = refl; comes_in = refl; made = refl })
 
 copied_page : Touches (machine 4) (after_fork (1 ∷ 2 ∷ 3 ∷ [])).world (after_fork (1 ∷ 2 ∷ 3 ∷ [])).ledger true (1, top_number) (Copied 1 top 1 ∷ []) None
@@ -336,85 +336,85 @@ loaded_page = (
   },
 )
 
-pub no_note : Forbids (machine 4) untouched (Write 1 0x7fffffffe000 (1 ∷ [])) (answered Done [])
-no_note = by_write (machine 4) refl untouched 1 top_number top (1 ∷ []) (answered Done [])
+pub no_note : Forbids (machine 4) state_at_rest (Write 1 0x7fffffffe000 (1 ∷ [])) (reply_with Done [])
+no_note = by_write (machine 4) refl state_at_rest 1 top_number top (1 ∷ []) (reply_with Done [])
     (New 1 top 0 ∷ []) None (0 ∷ 1 ∷ 2 ∷ 3 ∷ []) (1 ∷ 2 ∷ 3 ∷ []) (0 ∷ 1 ∷ 2 ∷ 3 ∷ []) new_page refl
     refl refl refl refl refl refl refl (λ e a. let d = ap length e in omega (arith, d))
 
-pub note_too_many : Forbids (machine 4) untouched (Write 1 0x7fffffffe000 (1 ∷ [])) (answered Done (Zeroed 1 0x7fffffffe000 ∷ New 1 0x7fffffffe000 0 ∷ []))
-note_too_many = by_write (machine 4) refl untouched 1 top_number top (1 ∷ [])
-    (answered Done (Zeroed 1 0x7fffffffe000 ∷ New 1 0x7fffffffe000 0 ∷ [])) (New 1 top 0 ∷ []) None
+pub note_too_many : Forbids (machine 4) state_at_rest (Write 1 0x7fffffffe000 (1 ∷ [])) (reply_with Done (Zeroed 1 0x7fffffffe000 ∷ New 1 0x7fffffffe000 0 ∷ []))
+note_too_many = by_write (machine 4) refl state_at_rest 1 top_number top (1 ∷ [])
+    (reply_with Done (Zeroed 1 0x7fffffffe000 ∷ New 1 0x7fffffffe000 0 ∷ [])) (New 1 top 0 ∷ []) None
     (0 ∷ 1 ∷ 2 ∷ 3 ∷ []) (1 ∷ 2 ∷ 3 ∷ []) (1 ∷ 2 ∷ 3 ∷ []) new_page refl refl refl refl refl refl
     refl refl (λ e a. let d = ap length e in omega (arith, d))
 
-pub page_below : Forbids (machine 4) untouched (Write 1 0x7fffffffe000 (1 ∷ [])) (answered Done (New 1 0x7fffffffd000 0 ∷ []))
-page_below = by_write (machine 4) refl untouched 1 top_number top (1 ∷ [])
-    (answered Done (New 1 0x7fffffffd000 0 ∷ [])) (New 1 top 0 ∷ []) None (0 ∷ 1 ∷ 2 ∷ 3 ∷ [])
+pub page_below : Forbids (machine 4) state_at_rest (Write 1 0x7fffffffe000 (1 ∷ [])) (reply_with Done (New 1 0x7fffffffd000 0 ∷ []))
+page_below = by_write (machine 4) refl state_at_rest 1 top_number top (1 ∷ [])
+    (reply_with Done (New 1 0x7fffffffd000 0 ∷ [])) (New 1 top 0 ∷ []) None (0 ∷ 1 ∷ 2 ∷ 3 ∷ [])
     (1 ∷ 2 ∷ 3 ∷ []) (1 ∷ 2 ∷ 3 ∷ []) new_page refl refl refl refl refl refl refl refl
     (λ e a. let d = ap first_address e in omega (arith, d))
 
-pub unnoted_zero : Forbids (machine 4) untouched (Read 1 0x7fffffffe000 1) (answered (Data (0 ∷ [])) [])
-unnoted_zero = by_read (machine 4) refl untouched 1 top_number top 1 (answered (Data (0 ∷ [])) [])
+pub unnoted_zero : Forbids (machine 4) state_at_rest (Read 1 0x7fffffffe000 1) (reply_with (Data (0 ∷ [])) [])
+unnoted_zero = by_read (machine 4) refl state_at_rest 1 top_number top 1 (reply_with (Data (0 ∷ [])) [])
     (Zeroed 1 top ∷ []) None (0 ∷ 1 ∷ 2 ∷ 3 ∷ []) (0 ∷ 1 ∷ 2 ∷ 3 ∷ []) (0 ∷ 1 ∷ 2 ∷ 3 ∷ [])
     zero_page refl refl refl refl refl refl refl refl (λ e. let d = ap length e in omega (arith, d))
 
-pub frame_for_a_read : Forbids (machine 4) untouched (Read 1 0x7fffffffe000 1) (answered (Data (0 ∷ [])) (New 1 0x7fffffffe000 0 ∷ []))
-frame_for_a_read = by_read (machine 4) refl untouched 1 top_number top 1
-    (answered (Data (0 ∷ [])) (New 1 0x7fffffffe000 0 ∷ [])) (Zeroed 1 top ∷ []) None
+pub frame_for_a_read : Forbids (machine 4) state_at_rest (Read 1 0x7fffffffe000 1) (reply_with (Data (0 ∷ [])) (New 1 0x7fffffffe000 0 ∷ []))
+frame_for_a_read = by_read (machine 4) refl state_at_rest 1 top_number top 1
+    (reply_with (Data (0 ∷ [])) (New 1 0x7fffffffe000 0 ∷ [])) (Zeroed 1 top ∷ []) None
     (0 ∷ 1 ∷ 2 ∷ 3 ∷ []) (0 ∷ 1 ∷ 2 ∷ 3 ∷ []) (1 ∷ 2 ∷ 3 ∷ []) zero_page refl refl refl refl refl
     refl refl refl (λ e. let d = ap first_address e in omega (arith, d))
 
-pub denied_though_allowed : Forbids (machine 4) untouched (Write 1 0x7fffffffe000 (1 ∷ [])) (answered (Segv 0 []) [])
-denied_though_allowed = by_write (machine 4) refl untouched 1 top_number top (1 ∷ [])
-    (answered (Segv 0 []) []) (New 1 top 0 ∷ []) None (0 ∷ 1 ∷ 2 ∷ 3 ∷ []) (1 ∷ 2 ∷ 3 ∷ [])
+pub denied_though_allowed : Forbids (machine 4) state_at_rest (Write 1 0x7fffffffe000 (1 ∷ [])) (reply_with (Segv 0 []) [])
+denied_though_allowed = by_write (machine 4) refl state_at_rest 1 top_number top (1 ∷ [])
+    (reply_with (Segv 0 []) []) (New 1 top 0 ∷ []) None (0 ∷ 1 ∷ 2 ∷ 3 ∷ []) (1 ∷ 2 ∷ 3 ∷ [])
     (0 ∷ 1 ∷ 2 ∷ 3 ∷ []) new_page refl refl refl refl refl refl refl refl
     (λ e a. let d = ap length e in omega (arith, d))
 
-pub starved_though_free : Forbids (machine 4) untouched (Write 1 0x7fffffffe000 (1 ∷ [])) (answered (Oom 0 (record { pinned = 0; noslot = 4; fault = 0 }) []) [])
-starved_though_free = by_write (machine 4) refl untouched 1 top_number top (1 ∷ [])
-    (answered (Oom 0 (record { pinned = 0; noslot = 4; fault = 0 }) []) []) (New 1 top 0 ∷ []) None
+pub starved_though_free : Forbids (machine 4) state_at_rest (Write 1 0x7fffffffe000 (1 ∷ [])) (reply_with (Oom 0 (record { pinned = 0; noslot = 4; fault = 0 }) []) [])
+starved_though_free = by_write (machine 4) refl state_at_rest 1 top_number top (1 ∷ [])
+    (reply_with (Oom 0 (record { pinned = 0; noslot = 4; fault = 0 }) []) []) (New 1 top 0 ∷ []) None
     (0 ∷ 1 ∷ 2 ∷ 3 ∷ []) (1 ∷ 2 ∷ 3 ∷ []) (0 ∷ 1 ∷ 2 ∷ 3 ∷ []) new_page refl refl refl refl refl
     refl refl refl (λ e a. let d = ap length e in omega (arith, d))
 
-pub no_copy_of_shared : Forbids (machine 4) (after_fork (1 ∷ 2 ∷ 3 ∷ [])) (Write 1 0x7fffffffe000 (8 ∷ [])) (answered Done [])
+pub no_copy_of_shared : Forbids (machine 4) (after_fork (1 ∷ 2 ∷ 3 ∷ [])) (Write 1 0x7fffffffe000 (8 ∷ [])) (reply_with Done [])
 no_copy_of_shared = by_write (machine 4) refl (after_fork (1 ∷ 2 ∷ 3 ∷ [])) 1 top_number top
-    (8 ∷ []) (answered Done []) (Copied 1 top 1 ∷ []) None (1 ∷ 2 ∷ 3 ∷ []) (2 ∷ 3 ∷ [])
+    (8 ∷ []) (reply_with Done []) (Copied 1 top 1 ∷ []) None (1 ∷ 2 ∷ 3 ∷ []) (2 ∷ 3 ∷ [])
     (1 ∷ 2 ∷ 3 ∷ []) copied_page refl refl refl refl refl refl refl refl
     (λ e a. let d = ap length e in omega (arith, d))
 
-pub copy_for_a_read : Forbids (machine 4) (after_fork (1 ∷ 2 ∷ 3 ∷ [])) (Read 2 0x7fffffffe000 1) (answered (Data (7 ∷ [])) (Copied 2 0x7fffffffe000 1 ∷ []))
+pub copy_for_a_read : Forbids (machine 4) (after_fork (1 ∷ 2 ∷ 3 ∷ [])) (Read 2 0x7fffffffe000 1) (reply_with (Data (7 ∷ [])) (Copied 2 0x7fffffffe000 1 ∷ []))
 copy_for_a_read = by_read (machine 4) refl (after_fork (1 ∷ 2 ∷ 3 ∷ [])) 2 top_number top 1
-    (answered (Data (7 ∷ [])) (Copied 2 0x7fffffffe000 1 ∷ [])) [] None (1 ∷ 2 ∷ 3 ∷ [])
+    (reply_with (Data (7 ∷ [])) (Copied 2 0x7fffffffe000 1 ∷ [])) [] None (1 ∷ 2 ∷ 3 ∷ [])
     (1 ∷ 2 ∷ 3 ∷ []) (2 ∷ 3 ∷ []) read_page refl refl refl refl refl refl refl refl
     (λ e. let d = ap length e in omega (arith, d))
 
-pub wrong_numbers : Forbids (machine 1) (after_fork []) (Write 2 0x7fffffffe000 (6 ∷ [])) (answered (Oom 0 (record { pinned = 0; noslot = 1; fault = 0 }) []) [])
+pub wrong_numbers : Forbids (machine 1) (after_fork []) (Write 2 0x7fffffffe000 (6 ∷ [])) (reply_with (Oom 0 (record { pinned = 0; noslot = 1; fault = 0 }) []) [])
 wrong_numbers = by_write (machine 1) refl (after_fork []) 2 top_number top (6 ∷ [])
-    (answered (Oom 0 (record { pinned = 0; noslot = 1; fault = 0 }) []) []) []
+    (reply_with (Oom 0 (record { pinned = 0; noslot = 1; fault = 0 }) []) []) []
     (Some (Starved (record { pinned = 1; noslot = 0; fault = 0 }))) [] [] [] no_frame refl refl refl
     refl refl refl refl refl (λ e a. let d = ap pinned_in a in omega (arith, d))
 
-pub drop_missing : Forbids (with_swap 4 8 7) in_swap_cache (Write 1 0x7fffffffe000 (8 ∷ [])) (answered Done [])
+pub drop_missing : Forbids (with_swap 4 8 7) in_swap_cache (Write 1 0x7fffffffe000 (8 ∷ [])) (reply_with Done [])
 drop_missing = by_write (with_swap 4 8 7) refl in_swap_cache 1 top_number top (8 ∷ [])
-    (answered Done []) (Dropped (slot 1) ∷ []) None (1 ∷ 2 ∷ 3 ∷ []) (1 ∷ 2 ∷ 3 ∷ [])
+    (reply_with Done []) (Dropped (slot 1) ∷ []) None (1 ∷ 2 ∷ 3 ∷ []) (1 ∷ 2 ∷ 3 ∷ [])
     (1 ∷ 2 ∷ 3 ∷ []) cached_write refl refl refl refl refl refl refl refl
     (λ e a. let d = ap length e in omega (arith, d))
 
-pub drop_though_not_full : Forbids (with_swap 4 8 7) in_swap_cache (Read 1 0x7fffffffe000 1) (answered (Data (7 ∷ [])) (Dropped (slot 1) ∷ []))
+pub drop_though_not_full : Forbids (with_swap 4 8 7) in_swap_cache (Read 1 0x7fffffffe000 1) (reply_with (Data (7 ∷ [])) (Dropped (slot 1) ∷ []))
 drop_though_not_full = by_read (with_swap 4 8 7) refl in_swap_cache 1 top_number top 1
-    (answered (Data (7 ∷ [])) (Dropped (slot 1) ∷ [])) [] None (1 ∷ 2 ∷ 3 ∷ []) (1 ∷ 2 ∷ 3 ∷ [])
+    (reply_with (Data (7 ∷ [])) (Dropped (slot 1) ∷ [])) [] None (1 ∷ 2 ∷ 3 ∷ []) (1 ∷ 2 ∷ 3 ∷ [])
     (1 ∷ 2 ∷ 3 ∷ []) cached_read refl refl refl refl refl refl refl refl
     (λ e. let d = ap length e in omega (arith, d))
 
-pub drop_in_flight : Forbids (with_swap 4 8 7) in_writeback (Write 1 0x7fffffffe000 (8 ∷ [])) (answered Done (Mapped 1 0x7fffffffe000 0 ∷ Dropped (slot 1) ∷ []))
+pub drop_in_flight : Forbids (with_swap 4 8 7) in_writeback (Write 1 0x7fffffffe000 (8 ∷ [])) (reply_with Done (Mapped 1 0x7fffffffe000 0 ∷ Dropped (slot 1) ∷ []))
 drop_in_flight = by_write (with_swap 4 8 7) refl in_writeback 1 top_number top (8 ∷ [])
-    (answered Done (Mapped 1 0x7fffffffe000 0 ∷ Dropped (slot 1) ∷ [])) (Mapped 1 top 0 ∷ []) None
+    (reply_with Done (Mapped 1 0x7fffffffe000 0 ∷ Dropped (slot 1) ∷ [])) (Mapped 1 top 0 ∷ []) None
     (1 ∷ 2 ∷ 3 ∷ []) (1 ∷ 2 ∷ 3 ∷ []) (1 ∷ 2 ∷ 3 ∷ []) written_back refl refl refl refl refl refl
     refl refl (λ e a. let d = ap length e in omega (arith, d))
 
-pub map_without_load : Forbids (with_swap 4 8 7) (paged_out 7 (0 ∷ 1 ∷ 2 ∷ 3 ∷ [])) (Read 1 0x7fffffffe000 1) (answered (Data (7 ∷ [])) (Mapped 1 0x7fffffffe000 0 ∷ []))
+pub map_without_load : Forbids (with_swap 4 8 7) (paged_out 7 (0 ∷ 1 ∷ 2 ∷ 3 ∷ [])) (Read 1 0x7fffffffe000 1) (reply_with (Data (7 ∷ [])) (Mapped 1 0x7fffffffe000 0 ∷ []))
 map_without_load = by_read (with_swap 4 8 7) refl (paged_out 7 (0 ∷ 1 ∷ 2 ∷ 3 ∷ [])) 1 top_number
-    top 1 (answered (Data (7 ∷ [])) (Mapped 1 0x7fffffffe000 0 ∷ []))
+    top 1 (reply_with (Data (7 ∷ [])) (Mapped 1 0x7fffffffe000 0 ∷ []))
     (Loaded (slot 1) 0 ∷ Mapped 1 top 0 ∷ []) None (0 ∷ 1 ∷ 2 ∷ 3 ∷ []) (1 ∷ 2 ∷ 3 ∷ [])
     (0 ∷ 1 ∷ 2 ∷ 3 ∷ []) loaded_page refl refl refl refl refl refl refl refl
     (λ e. let d = ap length e in omega (arith, d))
@@ -428,18 +428,18 @@ lost_only m w l k notes (Some Denied) a page n before shown t h = absurd (let e 
 lost_only m w l k notes (Some (Starved out)) a page n before shown t h = absurd (let e = ap fault_answers h in omega (arith, e))
 lost_only m w l k notes (Some Lost) a page n before shown t h = t.1
 
-pub bus_without_a_frame : Forbids (with_swap 0 8 7) (paged_out 7 []) (Read 1 0x7fffffffe000 1) (answered (Bus 0 []) [])
+pub bus_without_a_frame : Forbids (with_swap 0 8 7) (paged_out 7 []) (Read 1 0x7fffffffe000 1) (reply_with (Bus 0 []) [])
 bus_without_a_frame events legal =
-    let h = read_legal (with_swap 0 8 7) (paged_out 7 []) 1 top_number top 1 (answered (Bus 0 []) []) refl refl events legal in
+    let h = read_legal (with_swap 0 8 7) (paged_out 7 []) 1 top_number top 1 (reply_with (Bus 0 []) []) refl refl events legal in
     let lost = lost_only (with_swap 0 8 7) (paged_out 7 []).world (paged_out 7 []).ledger (1, top_number) [] h.0 top top_number 0 [] h.2.0 h.1 h.2.1 in
     never lost.frame
   where
     never : ◌≡◌ {A = Bool} false true → ⊥
     never e = cc
 
-pub bus_at_a_frame : Forbids (machine 4) (after_fork (1 ∷ 2 ∷ 3 ∷ [])) (Read 1 0x7fffffffe000 1) (answered (Bus 0 []) [])
+pub bus_at_a_frame : Forbids (machine 4) (after_fork (1 ∷ 2 ∷ 3 ∷ [])) (Read 1 0x7fffffffe000 1) (reply_with (Bus 0 []) [])
 bus_at_a_frame events legal =
-    let h = read_legal (machine 4) (after_fork (1 ∷ 2 ∷ 3 ∷ [])) 1 top_number top 1 (answered (Bus 0 []) []) refl refl events legal in
+    let h = read_legal (machine 4) (after_fork (1 ∷ 2 ∷ 3 ∷ [])) 1 top_number top 1 (reply_with (Bus 0 []) []) refl refl events legal in
     let lost = lost_only (machine 4) (after_fork (1 ∷ 2 ∷ 3 ∷ [])).world (after_fork (1 ∷ 2 ∷ 3 ∷ [])).ledger (1, top_number) [] h.0 top top_number 0 [] h.2.0 h.1 h.2.1 in
     never (ap need_code lost.absent)
   where
@@ -456,30 +456,30 @@ errno_code (Refused Einval) = 22
 errno_code answer = 0
 
 -- that the process doesn't live is found before that the length is 0
-pub wrong_order : Forbids (machine 4) empty (Mmap 2 0 read_write Auto) (answered (Refused Einval) [])
+pub wrong_order : Forbids (machine 4) empty (Mmap 2 0 read_write Auto) (reply_with (Refused Einval) [])
 wrong_order events legal = let e = ap errno_code legal.answer.0 in omega (arith, e)
 
 -- that the process lives is found before that too many do
-pub wrong_order_in_a_crowd : Forbids (machine 4) (crowd 4096) (Spawn 1) (answered (Refused Eagain) [])
+pub wrong_order_in_a_crowd : Forbids (machine 4) (crowd 4096) (Spawn 1) (reply_with (Refused Eagain) [])
 wrong_order_in_a_crowd events legal = let e = ap errno_code legal.answer.0 in omega (arith, e)
 
 pub reported_spawn : Forbids (machine 4) empty (Spawn 1) (record { answer = Done; notes = []; rows = Entry 1 0 ∷ [] })
 reported_spawn events legal = let e = ap length legal.answer.2 in omega (arith, e)
 
 -- a page is mapped there
-pub replaced_though_mapped : Forbids (machine 4) untouched (Mmap 1 4096 read_write (NoReplace 0x7fffffffe000)) (answered (MapAt 0x7fffffffe000) [])
+pub replaced_though_mapped : Forbids (machine 4) state_at_rest (Mmap 1 4096 read_write (NoReplace 0x7fffffffe000)) (reply_with (MapAt 0x7fffffffe000) [])
 replaced_though_mapped events legal = let e = ap errno_code legal.answer.0 in omega (arith, e)
 
 -- that the range passes the top is found before that it begins within a page
-pub address_before_length : Forbids (machine 4) (crowd 1) (Mmap 1 4096 read_write (Fixed 0x7ffffffff001)) (answered (Refused Einval) [])
+pub address_before_length : Forbids (machine 4) (crowd 1) (Mmap 1 4096 read_write (Fixed 0x7ffffffff001)) (reply_with (Refused Einval) [])
 address_before_length events legal = let e = ap errno_code legal.answer.0 in omega (arith, e)
 
 -- and that before that it begins too low
-pub low_before_address : Forbids (machine 4) (crowd 1) (Mmap 1 4096 read_write (Fixed 1)) (answered (Refused Eperm) [])
+pub low_before_address : Forbids (machine 4) (crowd 1) (Mmap 1 4096 read_write (Fixed 1)) (reply_with (Refused Eperm) [])
 low_before_address events legal = let e = ap errno_code legal.answer.0 in omega (arith, e)
 
 -- the greatest place is one page above
-pub mapped_too_low : Forbids (machine 4) (crowd 1) (Mmap 1 4096 read_write Auto) (answered (MapAt 0x7fffffffd000) [])
+pub mapped_too_low : Forbids (machine 4) (crowd 1) (Mmap 1 4096 read_write Auto) (reply_with (MapAt 0x7fffffffd000) [])
 mapped_too_low events legal = by legal.answer.0 legal.answer.1 legal.answer.2
   where
     by : (to : Option ℕ) → IsGap (is_mapped no_pages) 1 to → IsMapAt (MapAt 0x7fffffffd000) to → ⊥
@@ -487,7 +487,7 @@ mapped_too_low events legal = by legal.answer.0 legal.answer.1 legal.answer.2
     by (Some page) gap h = let e = ap answer_code h in let most = gap.1 0x7fffffffe (record { lowest = omega arith; highest = omega arith; free = λ q a b. refl }) in omega (arith, e, most)
 
 -- there is room
-pub no_room_though_empty : Forbids (machine 4) (crowd 1) (Mmap 1 4096 read_write Auto) (answered (Refused Enomem) [])
+pub no_room_though_empty : Forbids (machine 4) (crowd 1) (Mmap 1 4096 read_write Auto) (reply_with (Refused Enomem) [])
 no_room_though_empty events legal = by legal.answer.0 legal.answer.1 legal.answer.2
   where
     by : (to : Option ℕ) → IsGap (is_mapped no_pages) 1 to → IsMapAt (Refused Enomem) to → ⊥
@@ -531,8 +531,8 @@ claimed_first p b w rest q page = by (eq_by_cmp nat_cmp q p)
     by true = claimed b page
     by false = rest q page
 
-pub leaked-rejected : Rejects (machine 4) (after_fork (1 ∷ 2 ∷ 3 ∷ [])) leaked
-leaked-rejected = same_run_from (machine 4) (after_fork (1 ∷ 2 ∷ 3 ∷ [])) copies leaked 2 refl (claimed_first 1 7 ((2, with_byte 7) ∷ []) (claimed_first 2 7 [] (λ p page. tt))) copies-runs
+pub leaking_run-rejected : Rejects (machine 4) (after_fork (1 ∷ 2 ∷ 3 ∷ [])) leaking_run
+leaking_run-rejected = same_run_from (machine 4) (after_fork (1 ∷ 2 ∷ 3 ∷ [])) copies leaking_run 2 refl (claimed_first 1 7 ((2, with_byte 7) ∷ []) (claimed_first 2 7 [] (λ p page. tt))) copies-runs
     (refl, (refl, (refl, (refl, (refl, (refl, tt)))))) refl refl (λ e. omega (arith, e))
 
 pub wrong_load-rejected : Rejects (with_swap 4 3 2) (paged_out 2 (0 ∷ 1 ∷ 2 ∷ 3 ∷ [])) wrong_load

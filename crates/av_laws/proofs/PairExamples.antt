@@ -18,7 +18,7 @@ use Rattle.av_plain.specs.Fault.{Denied, Starved, Lost, sparing}
 use Rattle.av_plain.specs.Pass.{IsPass, Spared, Turns, frames_in_turn}
 use Rattle.av_plain.specs.Place.{IsMapAt}
 use Rattle.av_plain.specs.Access.{Whole, Stopped}
-use Rattle.av_laws.specs.Examples.{Allows, Forbids, Leads, answered, machine, read_write, slot, untouched, with_swap}
+use Rattle.av_laws.specs.Examples.{Allows, Forbids, Leads, reply_with, machine, read_write, slot, state_at_rest, with_swap}
 use Rattle.av_laws.specs.Pairs.{forks_and_moves, two_of_each, two_areas, one_of_each, with_entries, with_areas, three_with, cached_at, two_written, second_out, bad_first, full, two_in_flight, cached_for_two, hint_over, second_lost, second_starved, evicts, no_slot_written, to_bad_page, completes, second_fails, named_by_other, orphan_of_two, fixed_over_two, unmapped_two, protected_two}
 use Rattle.av_laws.proofs.FirstExamples.{by_steps, gap_under}
 
@@ -290,8 +290,8 @@ protected_two-runs = by_steps (machine 4) two_written protected_two ((
   ),
 ))
 
-pub hint_over-runs : Allows (machine 4) untouched hint_over
-hint_over-runs = by_steps (machine 4) untouched hint_over ((
+pub hint_over-runs : Allows (machine 4) state_at_rest hint_over
+hint_over-runs = by_steps (machine 4) state_at_rest hint_over ((
   [],
   0 ∷ 1 ∷ 2 ∷ 3 ∷ [],
   record { answer = (Some 0x7fffffffd, gap_under _ 0x7fffffffe 1 refl (omega arith) (omega arith) (omega arith) (λ q h i. below q (q == 0x7fffffffe) refl i) (λ q h i. there q (q == 0x7fffffffe) refl h i), refl, refl, refl); notes = refl },
@@ -305,10 +305,10 @@ abbrev page_in : Answer → ℕ
 page_in (MapAt a) = a
 page_in answer = 0
 
-pub hint_taken-forbidden : Forbids (machine 4) untouched (Mmap 1 4096 read_write (At 0x7fffffffe000)) (answered (MapAt 0x7fffffffe000) [])
+pub hint_taken-forbidden : Forbids (machine 4) state_at_rest (Mmap 1 4096 read_write (At 0x7fffffffe000)) (reply_with (MapAt 0x7fffffffe000) [])
 hint_taken-forbidden events legal = by legal.answer.0 legal.answer.1 legal.answer.2
   where
-    by : (to : Option ℕ) → IsGap (is_mapped (pages untouched.world 1)) 1 to → IsMapAt (MapAt 0x7fffffffe000) to → ⊥
+    by : (to : Option ℕ) → IsGap (is_mapped (pages state_at_rest.world 1)) 1 to → IsMapAt (MapAt 0x7fffffffe000) to → ⊥
     by None gap h = cc
     by (Some page) gap h =
         let e : 0x7fffffffe000 ≡ address_of page = ap page_in h in

@@ -4,7 +4,7 @@ use Rattle.std.proofs.Common.{arith, refl, ◌≤◌, ◌<◌}
 use Rattle.av_plain.specs.Ledger.{InFrame, InSlot, first_ledger}
 use Rattle.av_laws.specs.Examples.{crowd, machine, slot}
 use Rattle.av_laws.specs.Pairs.{bad_first}
-use Rattle.av_laws.specs.Unsound.{Unsound, four, one_process, falling_entries, slot_at_two_frames, frame_of_two_slots, no_such_frame, not_listed, in_both_lists, free_but_listed, in_flight_uncached, in_flight_twice, left_over, frame_twice, frame_and_its_slot, slot_and_its_frame, slot_twice, unmapped, of_nobody, area_off, at_page, too_few_slots, falling_areas, falling_processes}
+use Rattle.av_laws.specs.Unsound.{Unsound, four, one_process, falling_entries, slot_at_two_frames, frame_of_two_slots, no_such_frame, not_listed, in_both_lists, free_but_listed, in_flight_uncached, in_flight_twice, left_over, frame_twice, frame_and_its_slot, slot_and_its_frame, slot_twice, no_page_ledger, of_nobody, area_off, at_page, too_few_slots, falling_areas, falling_processes}
 
 never : ◌≡◌ {A = Bool} false true → ⊥
 never e = cc
@@ -54,8 +54,8 @@ slot_and_its_frame-not h = let e : same 0x7fffffffd 0x7fffffffe = h.ledger.one 1
 pub slot_twice-not : Unsound four one_process slot_twice
 slot_twice-not h = let e : same 0x7fffffffd 0x7fffffffe = h.ledger.one 1 0x7fffffffd 0x7fffffffe (InSlot (slot 1)) (InSlot (slot 1)) refl refl refl in omega (arith, e)
 
-pub unmapped-not : Unsound four one_process unmapped
-unmapped-not h = never (h.at_pages 1 0x10 refl)
+pub no_page_ledger-not : Unsound four one_process no_page_ledger
+no_page_ledger-not h = never (h.at_pages 1 0x10 refl)
 
 pub of_nobody-not : Unsound four one_process of_nobody
 of_nobody-not h = never (h.at_pages 2 0x7fffffffe refl)

@@ -16,7 +16,7 @@ use Rattle.av_plain.specs.Choice.{Free}
 use Rattle.av_plain.specs.Stands.{AreApart, Holds, IsKept, Pte, Stands, entry_of, prot_of, ranges_in}
 use Rattle.av_plain.specs.World.{Page, Process, lives, pages, process}
 use Rattle.av_laws.specs.Examples.{machine, page_with, read_write, with_byte}
-use Rattle.av_laws.specs.Views.{forked}
+use Rattle.av_laws.specs.Views.{fork_state}
 use Rattle.av_plain.proofs.Ledger.{same_key, same_key-is}
 use Rattle.av_plain.proofs.Ledger.NoSwap.{key_is}
 use Rattle.std.specs.Prelude.{◌≡◌, ℕ, Bool, true, false, List, [], ◌∷◌, length, Some, None, is_some, refl}
@@ -85,7 +85,7 @@ too_few_processes-not h = let e : ◌≡◌ {A = ℕ} 1 2 = h.parts.areas.number
 
 -- ---- the right one stands
 
-only-page : (q : Key) (d : Entry) → entry forked.ledger q ≡ Some d → q.1 ≡ 0x7fffffffe
+only-page : (q : Key) (d : Entry) → entry fork_state.ledger q ≡ Some d → q.1 ≡ 0x7fffffffe
 only-page q d at = by (same_key q (1, 0x7fffffffe)) (same_key q (2, 0x7fffffffe)) refl refl at
   where
     by : (b c : Bool) → same_key q (1, 0x7fffffffe) ≡ b → same_key q (2, 0x7fffffffe) ≡ c → cond b (Some (InFrame 0 true)) (cond c (Some (InFrame 0 false)) None) ≡ Some d → q.1 ≡ 0x7fffffffe
@@ -93,16 +93,16 @@ only-page q d at = by (same_key q (1, 0x7fffffffe)) (same_key q (2, 0x7fffffffe)
     by false true is is' e = ap (λ (k : Key). k.1) (same_key-is q (2, 0x7fffffffe) is')
     by false false is is' e = cc
 
-at_page : (q : Key) → is_some (entry forked.ledger q) ≡ true → is_some (pages forked.world q.0 q.1) ≡ true
+at_page : (q : Key) → is_some (entry fork_state.ledger q) ≡ true → is_some (pages fork_state.world q.0 q.1) ≡ true
 at_page q h = by (same_key q (1, 0x7fffffffe)) (same_key q (2, 0x7fffffffe)) refl refl h
   where
-    by : (b c : Bool) → same_key q (1, 0x7fffffffe) ≡ b → same_key q (2, 0x7fffffffe) ≡ c → is_some (cond b (Some (InFrame 0 true)) (cond c (Some (InFrame 0 false)) None)) ≡ true → is_some (pages forked.world q.0 q.1) ≡ true
-    by true c is is' e = subst (λ (k : Key). is_some (pages forked.world k.0 k.1) ≡ true) (sym (same_key-is q (1, 0x7fffffffe) is)) refl
-    by false true is is' e = subst (λ (k : Key). is_some (pages forked.world k.0 k.1) ≡ true) (sym (same_key-is q (2, 0x7fffffffe) is')) refl
+    by : (b c : Bool) → same_key q (1, 0x7fffffffe) ≡ b → same_key q (2, 0x7fffffffe) ≡ c → is_some (cond b (Some (InFrame 0 true)) (cond c (Some (InFrame 0 false)) None)) ≡ true → is_some (pages fork_state.world q.0 q.1) ≡ true
+    by true c is is' e = subst (λ (k : Key). is_some (pages fork_state.world k.0 k.1) ≡ true) (sym (same_key-is q (1, 0x7fffffffe) is)) refl
+    by false true is is' e = subst (λ (k : Key). is_some (pages fork_state.world k.0 k.1) ≡ true) (sym (same_key-is q (2, 0x7fffffffe) is')) refl
     by false false is is' e = absurd (never e)
 
-forked-sound : AllSound (machine 4) forked.world forked.ledger
-forked-sound = record {
+fork_state-sound : AllSound (machine 4) fork_state.world fork_state.ledger
+fork_state-sound = record {
   world = record { in_order = tt; few = omega arith };
   ledger = record {
     in_order = tt;
@@ -131,7 +131,7 @@ forked-sound = record {
 same_number : (p n : ℕ) → eq_by_cmp nat_cmp p n ≡ (p == n)
 same_number p n = grind (arith, nat_tests)
 
-found : (p : ℕ) → process forked.world p ≡ cond (p == 1) (Some (with_byte 7)) (cond (p == 2) (Some (with_byte 7)) None)
+found : (p : ℕ) → process fork_state.world p ≡ cond (p == 1) (Some (with_byte 7)) (cond (p == 2) (Some (with_byte 7)) None)
 found p i = cond (same_number p 1 i) (Some (with_byte 7)) (cond (same_number p 2 i) (Some (with_byte 7)) None)
 
 in_range : (page : ℕ) → (nat_le 0x7fffffffe page && nat_lt page 0x7ffffffff) ≡ (page == 0x7fffffffe)
@@ -140,7 +140,7 @@ in_range page = grind (arith, nat_tests)
 abbrev one_range : List Range
 one_range = record { from = 0x7fffffffe; to = 0x7ffffffff; prot = read_write } ∷ []
 
-alive : (p : ℕ) → is_some (right.areas p) ≡ lives forked.world p
+alive : (p : ℕ) → is_some (right.areas p) ≡ lives fork_state.world p
 alive p = by (p == 1) (p == 2) ∙ ap is_some (sym (found p))
   where
     by : (a b : Bool) → is_some (if a || b then Some (topmost p ∷ []) else None) ≡ is_some
@@ -158,7 +158,7 @@ apart p = by (p == 1 || p == 2)
 
 covers : (p page : ℕ)
     → prot_of (ranges_in (right.areas p)) page ≡ option_map (λ (q : Page). q.prot)
-    (pages forked.world p page)
+    (pages fork_state.world p page)
 covers p page = by (p == 1) (p == 2) ∙ ap (λ o. option_map (λ (q : Page). q.prot) (option_and_then (λ (q : Process). q page) o)) (sym (found p))
   where
     one : (c : Bool) → (nat_le 0x7fffffffe page && nat_lt page 0x7ffffffff) ≡ c → prot_in one_range page ≡ option_map (λ (q : Page). q.prot) (if c then Some (page_with 7) else None)
@@ -174,7 +174,7 @@ covers p page = by (p == 1) (p == 2) ∙ ap (λ o. option_map (λ (q : Page). q.
     by false false = refl
 
 -- each process has its own area
-areas : (p page : ℕ) → pages_in (right.areas p) page ≡ forked.areas p page
+areas : (p page : ℕ) → pages_in (right.areas p) page ≡ fork_state.areas p page
 areas p page = by (p == 1) (p == 2) refl refl
   where
     its : (n : ℕ) → (p == n) ≡ true
@@ -190,12 +190,12 @@ areas p page = by (p == 1) (p == 2) refl refl
     by false true is is' = its 2 is'
     by false false is is' = refl
 
-kept : (p page : ℕ) → IsKept right no_device forked.ledger (entry forked.ledger (p, page)) (pages forked.world p page)
-kept p page = subst (λ o. IsKept right no_device forked.ledger o (pages forked.world p page)) (sym at)
-    (subst (λ o. IsKept right no_device forked.ledger (cond (p == 1 && page == 0x7fffffffe) (Some (InFrame 0 true)) (cond (p == 2 && page == 0x7fffffffe) (Some (InFrame 0 false)) None)) (option_and_then (λ (q : Process). q page) o)) (sym (found p))
+kept : (p page : ℕ) → IsKept right no_device fork_state.ledger (entry fork_state.ledger (p, page)) (pages fork_state.world p page)
+kept p page = subst (λ o. IsKept right no_device fork_state.ledger o (pages fork_state.world p page)) (sym at)
+    (subst (λ o. IsKept right no_device fork_state.ledger (cond (p == 1 && page == 0x7fffffffe) (Some (InFrame 0 true)) (cond (p == 2 && page == 0x7fffffffe) (Some (InFrame 0 false)) None)) (option_and_then (λ (q : Process). q page) o)) (sym (found p))
     (by (p == 1) (p == 2) (page == 0x7fffffffe) (with_byte 7) refl))
   where
-    at : entry forked.ledger (p, page) ≡ cond (p == 1 && page == 0x7fffffffe) (Some (InFrame 0 true)) (cond (p == 2 && page == 0x7fffffffe) (Some (InFrame 0 false)) None)
+    at : entry fork_state.ledger (p, page) ≡ cond (p == 1 && page == 0x7fffffffe) (Some (InFrame 0 true)) (cond (p == 2 && page == 0x7fffffffe) (Some (InFrame 0 false)) None)
     at i = cond (key_is p page 1 0x7fffffffe i) (Some (InFrame 0 true)) (cond (key_is p page 2 0x7fffffffe i) (Some (InFrame 0 false)) None)
 
     holds : (q : Process) → q page ≡ Some (page_with 7) → Holds (q page) (right.bytes 0)
@@ -205,7 +205,7 @@ kept p page = subst (λ o. IsKept right no_device forked.ledger o (pages forked.
     nothing q is = subst (λ o. Holds o (λ _. 0)) (sym is) tt
 
     by : (a b c : Bool) (q : Process) → q page ≡ (if c then Some (page_with 7) else None)
-        → IsKept right no_device forked.ledger (cond (a && c) (Some (InFrame 0 true)) (cond (b && c) (Some (InFrame 0 false)) None)) (option_and_then (λ (q : Process). q page) (cond a (Some q) (cond b (Some q) None)))
+        → IsKept right no_device fork_state.ledger (cond (a && c) (Some (InFrame 0 true)) (cond (b && c) (Some (InFrame 0 false)) None)) (option_and_then (λ (q : Process). q page) (cond a (Some q) (cond b (Some q) None)))
     by true b true q is = holds q is
     by true true false q is = nothing q is
     by true false false q is = nothing q is
@@ -213,15 +213,15 @@ kept p page = subst (λ o. IsKept right no_device forked.ledger o (pages forked.
     by false true false q is = nothing q is
     by false false c q is = tt
 
-pub right-stands : Stands (machine 4) right no_device forked
+pub right-stands : Stands (machine 4) right no_device fork_state
 right-stands = record {
   over = record { sizes = refl; headers = refl };
-  sound = forked-sound;
+  sound = fork_state-sound;
   parts = record {
     ledger = record {
       frames = record { frames = refl; maps = λ f. refl; slots = λ f. refl; dirty = λ f. tt; free = free };
       lists = record { active = refl };
-      tables = record { entries = λ p page. entries (entry forked.ledger (p, page)); write_bits = λ p page t f is write named. absurd (no_bit (entry forked.ledger (p, page)) t is write) };
+      tables = record { entries = λ p page. entries (entry fork_state.ledger (p, page)); write_bits = λ p page t f is write named. absurd (no_bit (entry fork_state.ledger (p, page)) t is write) };
       swap = record { finds = λ s. refl; counts = λ s. refl; flight = refl; on = refl };
     };
     areas = record { alive = alive; number = refl; apart = apart; covers = covers };
@@ -233,7 +233,7 @@ right-stands = record {
   anons = refl;
 }
   where
-    free : (f : ℕ) → f < 4 → is_in f (1 ∷ 2 ∷ 3 ∷ []) ≡ is_free forked.ledger f
+    free : (f : ℕ) → f < 4 → is_in f (1 ∷ 2 ∷ 3 ∷ []) ≡ is_free fork_state.ledger f
     free zero h = refl
     free (suc zero) h = refl
     free (suc (suc zero)) h = refl

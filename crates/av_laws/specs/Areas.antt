@@ -60,8 +60,8 @@ abbrev pub hole : List Exchange
 hole = four_pages ++ says (Munmap 1 0x11000 4096) Done [] ∷ []
 
 -- it is mapped again, alike: the new area has a neighbour on each side
-abbrev pub between : List Exchange
-between = hole ++ says (Mmap 1 4096 read_write (Fixed 0x11000)) (MapAt 0x11000) [] ∷ []
+abbrev pub middle_map : List Exchange
+middle_map = hole ++ says (Mmap 1 4096 read_write (Fixed 0x11000)) (MapAt 0x11000) [] ∷ []
 
 -- two pages behind the four
 abbrev pub joined_above : Prot → List Exchange

@@ -86,12 +86,12 @@ Forbids m old command reply = (events : List Event)
 -- ---- how a row is written
 
 -- a reply without rows
-abbrev pub answered : Answer → List Note → Reply
-answered answer notes = record { answer = answer; notes = notes; rows = [] }
+abbrev pub reply_with : Answer → List Note → Reply
+reply_with answer notes = record { answer = answer; notes = notes; rows = [] }
 
 -- a command and what it is answered
 abbrev pub says : Command → Answer → List Note → Exchange
-says command answer notes = record { command = command; reply = answered answer notes }
+says command answer notes = record { command = command; reply = reply_with answer notes }
 
 -- a command that lists, what it is answered, and its rows
 abbrev pub reports : Command → Answer → List Row → Exchange
@@ -393,8 +393,8 @@ crowd n = record {
 
 -- the last process that may live, and one more. That a process lives is found before that too many
 -- do
-abbrev pub crowded : List Exchange
-crowded =
+abbrev pub full_machine : List Exchange
+full_machine =
     says (Spawn 4096) Done []
     ∷ says (Spawn 4097) (Refused Eagain) []
     ∷ says (Spawn 4096) (Refused Eexist) []
@@ -720,8 +720,8 @@ ledger_with e cache flight active inactive = record {
 }
 
 -- the slot is cached at the frame, stale or not
-abbrev pub cached : ℕ → Bool → List Cached
-cached frame stale = record { slot = slot 1; frame = frame; stale = stale } ∷ []
+abbrev pub cache_of : ℕ → Bool → List Cached
+cache_of frame stale = record { slot = slot 1; frame = frame; stale = stale } ∷ []
 
 -- frame 5 has a second chance, ages, goes to its slot at the second try and leaves memory; its page
 -- comes back in frame 7 and is written
@@ -729,49 +729,49 @@ abbrev pub out_and_back : List (Event × Ledger)
 out_and_back =
     (Noted (Kept 5 Referenced), ledger_with (InFrame 5 false) [] [] (5 ∷ []) (6 ∷ []))
     ∷ (Noted (Aged 5), ledger_with (InFrame 5 false) [] [] [] (5 ∷ 6 ∷ []))
-    ∷ (Noted (Put 5 (slot 1)), ledger_with (InFrame 5 false) (cached 5 true) [] [] (5 ∷ 6 ∷ []))
-    ∷ (Noted (Unmapped 5), ledger_with (InSlot (slot 1)) (cached 5 true) [] [] (5 ∷ 6 ∷ []))
+    ∷ (Noted (Put 5 (slot 1)), ledger_with (InFrame 5 false) (cache_of 5 true) [] [] (5 ∷ 6 ∷ []))
+    ∷ (Noted (Unmapped 5), ledger_with (InSlot (slot 1)) (cache_of 5 true) [] [] (5 ∷ 6 ∷ []))
     ∷ (
       Noted (Started (slot 1)),
-      ledger_with (InSlot (slot 1)) (cached 5 false) (slot 1 ∷ []) []
+      ledger_with (InSlot (slot 1)) (cache_of 5 false) (slot 1 ∷ []) []
           (5 ∷ 6 ∷ []),
     )
     ∷ (
       Noted (Kept 5 WriteStarted),
-      ledger_with (InSlot (slot 1)) (cached 5 false) (slot 1 ∷ []) []
+      ledger_with (InSlot (slot 1)) (cache_of 5 false) (slot 1 ∷ []) []
           (5 ∷ 6 ∷ []),
     )
-    ∷ (Noted (Failed (slot 1)), ledger_with (InSlot (slot 1)) (cached 5 true) [] [] (5 ∷ 6 ∷ []))
+    ∷ (Noted (Failed (slot 1)), ledger_with (InSlot (slot 1)) (cache_of 5 true) [] [] (5 ∷ 6 ∷ []))
     ∷ (
       Noted (Started (slot 1)),
-      ledger_with (InSlot (slot 1)) (cached 5 false) (slot 1 ∷ []) []
+      ledger_with (InSlot (slot 1)) (cache_of 5 false) (slot 1 ∷ []) []
           (5 ∷ 6 ∷ []),
     )
     ∷ (
       Noted (Kept 6 Writeback),
-      ledger_with (InSlot (slot 1)) (cached 5 false) (slot 1 ∷ []) []
+      ledger_with (InSlot (slot 1)) (cache_of 5 false) (slot 1 ∷ []) []
           (6 ∷ 5 ∷ []),
     )
     ∷ (
       Noted (Kept 5 Writeback),
-      ledger_with (InSlot (slot 1)) (cached 5 false) (slot 1 ∷ []) []
+      ledger_with (InSlot (slot 1)) (cache_of 5 false) (slot 1 ∷ []) []
           (5 ∷ 6 ∷ []),
     )
-    ∷ (Noted (Written (slot 1)), ledger_with (InSlot (slot 1)) (cached 5 false) [] [] (6 ∷ 5 ∷ []))
+    ∷ (Noted (Written (slot 1)), ledger_with (InSlot (slot 1)) (cache_of 5 false) [] [] (6 ∷ 5 ∷ []))
     ∷ (Noted (Dropped (slot 1)), ledger_with (InSlot (slot 1)) [] [] [] (6 ∷ []))
-    ∷ (Noted (Loaded (slot 1) 7), ledger_with (InSlot (slot 1)) (cached 7 false) [] [] (7 ∷ 6 ∷ []))
+    ∷ (Noted (Loaded (slot 1) 7), ledger_with (InSlot (slot 1)) (cache_of 7 false) [] [] (7 ∷ 6 ∷ []))
     ∷ (
       Noted (Mapped 1 0x7fffffffe000 7),
-      ledger_with (InFrame 7 false) (cached 7 false) [] []
+      ledger_with (InFrame 7 false) (cache_of 7 false) [] []
           (7 ∷ 6 ∷ []),
     )
     ∷ (
       Used false (1, 0x7fffffffe),
-      ledger_with (InFrame 7 true) (cached 7 false) [] []
+      ledger_with (InFrame 7 true) (cache_of 7 false) [] []
           (7 ∷ 6 ∷ []),
     )
-    ∷ (Used true (1, 0x7fffffffe), ledger_with (InFrame 7 true) (cached 7 true) [] [] (7 ∷ 6 ∷ []))
-    ∷ (Noted (Kept 7 NoSlot), ledger_with (InFrame 7 true) (cached 7 true) [] (7 ∷ []) (6 ∷ []))
+    ∷ (Used true (1, 0x7fffffffe), ledger_with (InFrame 7 true) (cache_of 7 true) [] [] (7 ∷ 6 ∷ []))
+    ∷ (Noted (Kept 7 NoSlot), ledger_with (InFrame 7 true) (cache_of 7 true) [] (7 ∷ []) (6 ∷ []))
     ∷ (Noted (Dropped (slot 1)), ledger_with (InFrame 7 true) [] [] (7 ∷ []) (6 ∷ []))
     ∷ []
 
@@ -838,8 +838,8 @@ copied_and_gone =
 -- ---- replies that may not come
 
 -- process 1 has the topmost page mapped and not yet touched
-abbrev pub untouched : State
-untouched = record {
+abbrev pub state_at_rest : State
+state_at_rest = record {
   world = (1, λ page. if page == 0x7fffffffe then Some (zeros read_write) else None) ∷ [];
   ledger = first_ledger;
   free = only_frames (0 ∷ 1 ∷ 2 ∷ 3 ∷ []);
@@ -875,8 +875,8 @@ abbrev pub Refutes : ℕ → List Exchange → Type 0
 Refutes frames row = Rejects (machine frames) (at_first (machine frames)) row
 
 -- what one process writes the other one reads
-abbrev pub leaked : List Exchange
-leaked =
+abbrev pub leaking_run : List Exchange
+leaking_run =
     says (Read 2 0x7fffffffe000 1) (Data (7 ∷ [])) []
     ∷ says (Write 1 0x7fffffffe000 (8 ∷ [])) Done (Copied 1 0x7fffffffe000 1 ∷ [])
     ∷ says (Read 2 0x7fffffffe000 1) (Data (8 ∷ [])) []
@@ -936,7 +936,7 @@ taken_and_freed = Noted (New 1 0x10000 0) ∷ Noted (New 1 0x11000 1) ∷ Used t
 
 -- a cached frame that nothing else names becomes free when its slot is dropped
 abbrev pub orphan : Ledger
-orphan = record first_ledger { cache = cached 5 false; inactive = 5 ∷ [] }
+orphan = record first_ledger { cache = cache_of 5 false; inactive = 5 ∷ [] }
 
 -- ---- slots that are given and come back
 

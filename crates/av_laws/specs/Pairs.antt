@@ -49,8 +49,8 @@ one_of_each =
 abbrev pub whole : ℕ → Inherited
 whole page = record { page = page; as_zeros = false }
 
-abbrev pub zeroed : ℕ → Inherited
-zeroed page = record { page = page; as_zeros = true }
+abbrev pub zeros_left : ℕ → Inherited
+zeros_left page = record { page = page; as_zeros = true }
 
 -- a child gets all three kinds of entries; another one only what goes over whole; a move takes each
 -- page to its own
@@ -62,7 +62,7 @@ forks_and_moves = (
       ∷ ((4, 0x10), InFrame 0 false) ∷ ((4, 0x11), Zero) ∷ ((4, 0x12), InSlot (slot 1)) ∷ []),
 )
     ∷ (
-      Forked 1 3 (zeroed 0x10 ∷ whole 0x12 ∷ []),
+      Forked 1 3 (zeros_left 0x10 ∷ whole 0x12 ∷ []),
       with_entries
           (((1, 0x10), InFrame 0 true) ∷ ((1, 0x11), Zero) ∷ ((1, 0x12), InSlot (slot 1))
           ∷ ((3, 0x12), InSlot (slot 1))

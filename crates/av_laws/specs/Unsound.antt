@@ -106,8 +106,8 @@ slot_twice = ledger_of (both (InSlot (slot 1)) (InSlot (slot 1))) [] [] []
 -- ---- pages and areas
 
 -- an entry where its process has no page, and one of a process that doesn't live
-abbrev pub unmapped : Ledger
-unmapped = ledger_of (((1, 0x10), Zero) ∷ []) [] [] []
+abbrev pub no_page_ledger : Ledger
+no_page_ledger = ledger_of (((1, 0x10), Zero) ∷ []) [] [] []
 
 abbrev pub of_nobody : Ledger
 of_nobody = ledger_of (((2, 0x7fffffffe), Zero) ∷ []) [] [] []

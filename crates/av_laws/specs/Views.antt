@@ -12,8 +12,8 @@ use Rattle.av_plain.specs.Transcript.{State}
 use Rattle.av_laws.specs.Examples.{after_fork, cached_out, machine, read_write, with_slots, with_swap}
 
 -- two processes have the topmost page, in frame 0
-abbrev pub forked : State
-forked = after_fork (1 ∷ 2 ∷ 3 ∷ [])
+abbrev pub fork_state : State
+fork_state = after_fork (1 ∷ 2 ∷ 3 ∷ [])
 
 -- an area of a process with pages for reading and writing, as it was mapped
 abbrev pub area : ℕ → ℕ → ℕ → Area
@@ -28,13 +28,13 @@ abbrev pub view_with : (ℕ → List Area) → Bool → View
 view_with areas write = record {
   frames = 4;
   bytes = λ f i. if f == 0 && i == 0 then 7 else 0;
-  maps = map_count forked.ledger;
+  maps = map_count fork_state.ledger;
   slot = λ f. None;
   dirty = λ f. false;
   free = 1 ∷ 2 ∷ 3 ∷ [];
   active = [];
   table = λ p page.
-      option_map (λ e. record { entry = e; write = write }) (entry forked.ledger (p, page));
+      option_map (λ e. record { entry = e; write = write }) (entry fork_state.ledger (p, page));
   processes = 2;
   areas = λ p. if p == 1 || p == 2 then Some (areas p) else None;
   anons = no_anons;
@@ -50,7 +50,7 @@ right = view_with (λ p. topmost p ∷ []) false
 
 -- a kernel that is seen so doesn't stand for the state
 abbrev pub Refused : View → Type 0
-Refused v = Stands (machine 4) v no_device forked → ⊥
+Refused v = Stands (machine 4) v no_device fork_state → ⊥
 
 -- ---- with swap
 

@@ -6,7 +6,7 @@ ghost use Rattle.av_laws.specs.Areas.{
   Makes,
   NeverHas,
   area,
-  between,
+  middle_map,
   after_exit,
   fixed_over,
   four_pages,
@@ -29,7 +29,7 @@ pub fn areas_follow()
         (area 0x10 0x11 read_write ∷ area 0x11 0x13 read_only ∷ area 0x13 0x14 read_write ∷ []) }
     ensures joined_again { Makes joined_again 0xf 6 (area 0x10 0x14 read_write ∷ []) }
     ensures hole { Makes hole 0xf 6 (area 0x10 0x11 read_write ∷ area 0x12 0x14 read_write ∷ []) }
-    ensures between { Makes between 0xf 6 (area 0x10 0x14 read_write ∷ []) }
+    ensures between { Makes middle_map 0xf 6 (area 0x10 0x14 read_write ∷ []) }
     ensures joined_above { Makes (joined_above read_write) 0xf 8
         (area 0x10 0x16 read_write ∷ []) }
     ensures kept_apart { Makes (joined_above read_only) 0xf 8

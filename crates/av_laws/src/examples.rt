@@ -59,7 +59,7 @@ ghost use Rattle.av_laws.specs.Examples.{
   refusals,
   all_mapped,
   crowd,
-  crowded,
+  full_machine,
   after_fork,
   copies,
   no_copy,
@@ -78,18 +78,18 @@ ghost use Rattle.av_laws.specs.Examples.{
   Rejects,
   Refutes,
   Forbids,
-  answered,
+  reply_with,
   read_write,
   slot,
   empty,
-  untouched,
+  state_at_rest,
   in_swap_cache,
   wrong_frame,
   wrong_place,
   written_in_vain,
   refused_write,
   denied_write,
-  leaked,
+  leaking_run,
   wrong_load,
   ledger_with,
   out_and_back,
@@ -143,7 +143,7 @@ pub fn first_examples_run()
     ensures all_mapped { Runs 4 all_mapped }
     ensures refused_write { Runs 4 (refused_write Done) }
     ensures denied_write { Runs 4 (denied_write 1) }
-    ensures crowded { Allows (machine 4) (crowd 4095) crowded }
+    ensures crowded { Allows (machine 4) (crowd 4095) full_machine }
 {}
 
 /// Frames and slots that two processes share, as after a fork.
@@ -202,65 +202,65 @@ pub fn changed_runs_are_refused()
     ensures written_in_vain { Refutes 1 written_in_vain }
     ensures made_by_a_refused_write { Refutes 4 (refused_write (Refused Eexist)) }
     ensures lost_by_a_denied_write { Refutes 4 (denied_write 0) }
-    ensures leaked { Rejects (machine 4) (after_fork (1 ∷ 2 ∷ 3 ∷ [])) leaked }
+    ensures leaked { Rejects (machine 4) (after_fork (1 ∷ 2 ∷ 3 ∷ [])) leaking_run }
     ensures wrong_load { Rejects (with_swap 4 3 2) (paged_out 2 (0 ∷ 1 ∷ 2 ∷ 3 ∷ [])) wrong_load }
 {}
 
 /// Replies to one command that may not come, whichever frames the kernel takes: a note too few or
 /// too many, or of another page; a refusal, a stop or a place that the rules don't give.
 pub fn changed_replies_are_refused()
-    ensures no_note { Forbids (machine 4) untouched (Write 1 0x7fffffffe000 (1 ∷ []))
-        (answered Done []) }
-    ensures note_too_many { Forbids (machine 4) untouched (Write 1 0x7fffffffe000 (1 ∷ []))
-        (answered Done (Zeroed 1 0x7fffffffe000 ∷ New 1 0x7fffffffe000 0 ∷ [])) }
-    ensures page_below { Forbids (machine 4) untouched (Write 1 0x7fffffffe000 (1 ∷ []))
-        (answered Done (New 1 0x7fffffffd000 0 ∷ [])) }
-    ensures unnoted_zero { Forbids (machine 4) untouched (Read 1 0x7fffffffe000 1)
-        (answered (Data (0 ∷ [])) []) }
-    ensures frame_for_a_read { Forbids (machine 4) untouched (Read 1 0x7fffffffe000 1)
-        (answered (Data (0 ∷ [])) (New 1 0x7fffffffe000 0 ∷ [])) }
-    ensures denied_though_allowed { Forbids (machine 4) untouched (Write 1 0x7fffffffe000 (1 ∷ []))
-        (answered (Segv 0 []) []) }
-    ensures starved_though_free { Forbids (machine 4) untouched (Write 1 0x7fffffffe000 (1 ∷ []))
-        (answered (Oom 0 (record { pinned = 0; noslot = 4; fault = 0 }) []) []) }
+    ensures no_note { Forbids (machine 4) state_at_rest (Write 1 0x7fffffffe000 (1 ∷ []))
+        (reply_with Done []) }
+    ensures note_too_many { Forbids (machine 4) state_at_rest (Write 1 0x7fffffffe000 (1 ∷ []))
+        (reply_with Done (Zeroed 1 0x7fffffffe000 ∷ New 1 0x7fffffffe000 0 ∷ [])) }
+    ensures page_below { Forbids (machine 4) state_at_rest (Write 1 0x7fffffffe000 (1 ∷ []))
+        (reply_with Done (New 1 0x7fffffffd000 0 ∷ [])) }
+    ensures unnoted_zero { Forbids (machine 4) state_at_rest (Read 1 0x7fffffffe000 1)
+        (reply_with (Data (0 ∷ [])) []) }
+    ensures frame_for_a_read { Forbids (machine 4) state_at_rest (Read 1 0x7fffffffe000 1)
+        (reply_with (Data (0 ∷ [])) (New 1 0x7fffffffe000 0 ∷ [])) }
+    ensures denied_though_allowed { Forbids (machine 4) state_at_rest (Write 1 0x7fffffffe000 (1 ∷ []))
+        (reply_with (Segv 0 []) []) }
+    ensures starved_though_free { Forbids (machine 4) state_at_rest (Write 1 0x7fffffffe000 (1 ∷ []))
+        (reply_with (Oom 0 (record { pinned = 0; noslot = 4; fault = 0 }) []) []) }
     ensures wrong_order { Forbids (machine 4) empty (Mmap 2 0 read_write Auto)
-        (answered (Refused Einval) []) }
+        (reply_with (Refused Einval) []) }
     ensures wrong_order_in_a_crowd { Forbids (machine 4) (crowd 4096) (Spawn 1)
-        (answered (Refused Eagain) []) }
+        (reply_with (Refused Eagain) []) }
     ensures reported_spawn { Forbids (machine 4) empty (Spawn 1)
         (record { answer = Done; notes = []; rows = Entry 1 0 ∷ [] }) }
     ensures mapped_too_low { Forbids (machine 4) (crowd 1) (Mmap 1 4096 read_write Auto)
-        (answered (MapAt 0x7fffffffd000) []) }
+        (reply_with (MapAt 0x7fffffffd000) []) }
     ensures no_room_though_empty { Forbids (machine 4) (crowd 1) (Mmap 1 4096 read_write Auto)
-        (answered (Refused Enomem) []) }
+        (reply_with (Refused Enomem) []) }
 {}
 
 /// And so with shared frames and swap.
 pub fn changed_replies_of_swap_are_refused()
     ensures no_copy_of_shared { Forbids (machine 4) (after_fork (1 ∷ 2 ∷ 3 ∷ []))
         (Write 1 0x7fffffffe000 (8 ∷ []))
-        (answered Done []) }
+        (reply_with Done []) }
     ensures copy_for_a_read { Forbids (machine 4) (after_fork (1 ∷ 2 ∷ 3 ∷ []))
         (Read 2 0x7fffffffe000 1)
-        (answered (Data (7 ∷ [])) (Copied 2 0x7fffffffe000 1 ∷ [])) }
+        (reply_with (Data (7 ∷ [])) (Copied 2 0x7fffffffe000 1 ∷ [])) }
     ensures wrong_numbers { Forbids (machine 1) (after_fork []) (Write 2 0x7fffffffe000 (6 ∷ []))
-        (answered (Oom 0 (record { pinned = 0; noslot = 1; fault = 0 }) []) []) }
+        (reply_with (Oom 0 (record { pinned = 0; noslot = 1; fault = 0 }) []) []) }
     ensures drop_missing { Forbids (with_swap 4 8 7) in_swap_cache (Write 1 0x7fffffffe000 (8 ∷ []))
-        (answered Done []) }
+        (reply_with Done []) }
     ensures drop_though_not_full { Forbids (with_swap 4 8 7) in_swap_cache (Read 1 0x7fffffffe000 1)
-        (answered (Data (7 ∷ [])) (Dropped (slot 1) ∷ [])) }
+        (reply_with (Data (7 ∷ [])) (Dropped (slot 1) ∷ [])) }
     ensures drop_in_flight { Forbids (with_swap 4 8 7) in_writeback
         (Write 1 0x7fffffffe000 (8 ∷ []))
-        (answered Done (Mapped 1 0x7fffffffe000 0 ∷ Dropped (slot 1) ∷ [])) }
+        (reply_with Done (Mapped 1 0x7fffffffe000 0 ∷ Dropped (slot 1) ∷ [])) }
     ensures map_without_load { Forbids (with_swap 4 8 7) (paged_out 7 (0 ∷ 1 ∷ 2 ∷ 3 ∷ []))
         (Read 1 0x7fffffffe000 1)
-        (answered (Data (7 ∷ [])) (Mapped 1 0x7fffffffe000 0 ∷ [])) }
+        (reply_with (Data (7 ∷ [])) (Mapped 1 0x7fffffffe000 0 ∷ [])) }
     ensures bus_without_a_frame { Forbids (with_swap 0 8 7) (paged_out 7 [])
         (Read 1 0x7fffffffe000 1)
-        (answered (Bus 0 []) []) }
+        (reply_with (Bus 0 []) []) }
     ensures bus_at_a_frame { Forbids (machine 4) (after_fork (1 ∷ 2 ∷ 3 ∷ []))
         (Read 1 0x7fffffffe000 1)
-        (answered (Bus 0 []) []) }
+        (reply_with (Bus 0 []) []) }
 {}
 
 /// Soundness can be met with swap in use: a page whose write to its slot is in flight.
@@ -289,10 +289,10 @@ pub fn changed_exits_and_reports_are_refused()
     ensures run_too_long { Forbids (machine 4) two_protections (Maps 1) run_too_long }
     ensures falling_runs { Forbids (machine 4) two_protections (Maps 1) falling_runs }
     ensures part_of_page { Forbids (machine 4) two_protections (Maps 1) part_of_page }
-    ensures stat { Only (machine 4) one_written Stat (answered (Counted (numbers_of 4 3 0 1 1)) [])
+    ensures stat { Only (machine 4) one_written Stat (reply_with (Counted (numbers_of 4 3 0 1 1)) [])
         one_written }
-    ensures exit { Only (machine 4) one_written (Exit 1) (answered Done []) all_gone }
-    ensures exit_again { Only (machine 4) all_gone (Exit 1) (answered (Refused Esrch) []) all_gone }
+    ensures exit { Only (machine 4) one_written (Exit 1) (reply_with Done []) all_gone }
+    ensures exit_again { Only (machine 4) all_gone (Exit 1) (reply_with (Refused Esrch) []) all_gone }
 {}
 
 /// Parts of mappings that are unmapped or protected, and mappings at an address.
@@ -310,16 +310,16 @@ pub fn changed_ranges_are_refused()
     ensures protected_past_a_hole { Refutes 4 (past_a_hole (Segv 0 []) []) }
     ensures entry_kept { Refutes 4 (fixed_over 2 0 (Zeroed 1 0x20000 ∷ [])) }
     ensures byte_kept { Refutes 4 (fixed_over 3 7 (Zeroed 1 0x20000 ∷ [])) }
-    ensures replaced_though_mapped { Forbids (machine 4) untouched
+    ensures replaced_though_mapped { Forbids (machine 4) state_at_rest
         (Mmap 1 4096 read_write (NoReplace 0x7fffffffe000))
-        (answered (MapAt 0x7fffffffe000) []) }
+        (reply_with (MapAt 0x7fffffffe000) []) }
     ensures address_before_length { Forbids (machine 4) (crowd 1)
         (Mmap 1 4096 read_write (Fixed 0x7ffffffff001))
-        (answered (Refused Einval) []) }
+        (reply_with (Refused Einval) []) }
     ensures low_before_address { Forbids (machine 4) (crowd 1) (Mmap 1 4096 read_write (Fixed 1))
-        (answered (Refused Eperm) []) }
-    ensures munmap { Only (machine 4) one_written (Munmap 1 0x7fffffffe000 1) (answered Done [])
+        (reply_with (Refused Eperm) []) }
+    ensures munmap { Only (machine 4) one_written (Munmap 1 0x7fffffffe000 1) (reply_with Done [])
         page_gone }
     ensures fixed { Only (machine 4) one_written (Mmap 1 4096 read_only (Fixed 0x7fffffffe000))
-        (answered (MapAt 0x7fffffffe000) []) page_anew }
+        (reply_with (MapAt 0x7fffffffe000) []) page_anew }
 {}

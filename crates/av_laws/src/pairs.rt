@@ -15,12 +15,12 @@ ghost use Rattle.av_laws.specs.Examples.{
   Forbids,
   Leads,
   Rejects,
-  answered,
+  reply_with,
   machine,
   read_write,
   slot,
   untold,
-  untouched,
+  state_at_rest,
   with_swap,
 };
 ghost use Rattle.av_laws.specs.Pairs.{
@@ -71,7 +71,7 @@ pub fn two_pages_run()
     ensures fixed_over_two { Allows (machine 4) two_written fixed_over_two }
     ensures unmapped_two { Allows (machine 4) two_written unmapped_two }
     ensures protected_two { Allows (machine 4) two_written protected_two }
-    ensures hint_over { Allows (machine 4) untouched hint_over }
+    ensures hint_over { Allows (machine 4) state_at_rest hint_over }
 {}
 
 /// Passes that evict a page, and slots that two processes have.
@@ -89,8 +89,8 @@ pub fn passes_run()
 /// A mapping over a page that a hint names, and a pass that puts a frame at a bad page, or not at
 /// the slot in turn, may not be.
 pub fn changed_pairs_are_refused()
-    ensures hint_taken { Forbids (machine 4) untouched (Mmap 1 4096 read_write (At 0x7fffffffe000))
-        (answered (MapAt 0x7fffffffe000) []) }
+    ensures hint_taken { Forbids (machine 4) state_at_rest (Mmap 1 4096 read_write (At 0x7fffffffe000))
+        (reply_with (MapAt 0x7fffffffe000) []) }
     ensures wrong_slot { Rejects bad_first full wrong_slot }
     ensures bad_page { IsPass bad_first (sparing full.world full.ledger None) full.ledger
         to_bad_page → ⊥ }
@@ -109,11 +109,11 @@ pub fn loads_make_unclaimed()
 /// What only faults of the device explain is counted: each `fail`, `bus` and EIO.
 pub fn faults_are_counted()
     ensures bus_and_fails { causes
-        (answered (Bus 0 []) (Failed (slot 1) ∷ Written (slot 2) ∷ Failed (slot 3) ∷ []))
+        (reply_with (Bus 0 []) (Failed (slot 1) ∷ Written (slot 2) ∷ Failed (slot 3) ∷ []))
         ≡ 3 }
-    ensures eio { causes (answered (Refused Eio) []) ≡ 1 }
+    ensures eio { causes (reply_with (Refused Eio) []) ≡ 1 }
     ensures cached_when_out { causes
-        (answered (Oom 0 (record { pinned = 0; noslot = 1; fault = 2 }) []) (Failed (slot 1) ∷ []))
+        (reply_with (Oom 0 (record { pinned = 0; noslot = 1; fault = 2 }) []) (Failed (slot 1) ∷ []))
         ≡ 2 }
-    ensures no_fault { causes (answered (Refused Enomem) (Written (slot 1) ∷ [])) ≡ 0 }
+    ensures no_fault { causes (reply_with (Refused Enomem) (Written (slot 1) ∷ [])) ≡ 0 }
 {}

@@ -23,7 +23,7 @@ ghost use Rattle.av_laws.specs.Unsound.{
   frame_and_its_slot,
   slot_and_its_frame,
   slot_twice,
-  unmapped,
+  no_page_ledger,
   of_nobody,
   area_off,
   too_few_slots,
@@ -58,7 +58,7 @@ pub fn entries_of_one_memory_are_unsound()
 /// page, behind the area, or bad; more slots in use than there are; areas or processes that fall;
 /// too many processes.
 pub fn changed_memories_are_unsound()
-    ensures unmapped { Unsound four one_process unmapped }
+    ensures unmapped { Unsound four one_process no_page_ledger }
     ensures of_nobody { Unsound four one_process of_nobody }
     ensures area_off { Unsound four one_process area_off }
     ensures header_page { Unsound four one_process (at_page 0) }

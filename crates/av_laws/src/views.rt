@@ -12,7 +12,7 @@ ghost use Rattle.av_laws.specs.Views.{
   area,
   cached_view,
   fewer_slots,
-  forked,
+  fork_state,
   right,
   topmost,
   view_with,
@@ -21,7 +21,7 @@ ghost use Rattle.av_laws.specs.Views.{
 
 /// The right view stands for the state after a fork.
 pub fn the_right_view_stands()
-    ensures { Stands (machine 4) right no_device forked }
+    ensures { Stands (machine 4) right no_device fork_state }
 {}
 
 /// After a fork, a view stands for the state only where it has the bytes of the shared frame, no

@@ -3,7 +3,7 @@ use Rattle.std.proofs.Common.{◌≡◌, ◌≢◌, ◌⊎◌, ℕ, zero, suc, �
 use Rattle.std.proofs.lemmas.Bool.{cases_eq, cond-true, cond-false, not_from_true, not_from_false}
 use Rattle.std.proofs.lemmas.Option.{none-some}
 use Rattle.av_lru.specs.declared.Which.{Which}
-use Rattle.av_lru.specs.Lists.{without, last_of, preceding}
+use Rattle.av_lru.specs.Lists.{without, last_of, frame_before}
 use Rattle.av_lru.specs.Links.{IsIn, AreApart, Joins, Inserts, walk, IsPath, IsRing}
 
 -- ---- lists of frames
@@ -165,7 +165,7 @@ module _ (next prev : ℕ → ℕ) (n : ℕ) where
       last_path g gs to (Some g) path.2 (λ f found. below f (inr found)) (frame_below n g (below g (inl refl)))
 
   -- what leads back from a frame of a path is the frame before it
-  pub prev_path : (from : ℕ) (fs : List ℕ) (to : ℕ) (before : Option ℕ) (f : ℕ) → IsPath next prev from fs to → ((g : ℕ) → IsIn g fs → g < n) → frame_at n from ≡ before → IsIn f fs → frame_at n (prev f) ≡ preceding before f fs
+  pub prev_path : (from : ℕ) (fs : List ℕ) (to : ℕ) (before : Option ℕ) (f : ℕ) → IsPath next prev from fs to → ((g : ℕ) → IsIn g fs → g < n) → frame_at n from ≡ before → IsIn f fs → frame_at n (prev f) ≡ frame_before before f fs
   prev_path from [] to before f path below start found = absurd found
   prev_path from (g ∷ gs) to before f path below start found =
       elim (cases_eq g f) [

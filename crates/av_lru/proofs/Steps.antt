@@ -8,12 +8,12 @@ use Rattle.std.proofs.lemmas.List.Folds.{sum_by-replicate}
 use Rattle.av_lru.specs.declared.Which.{Which}
 use Rattle.av_lru.specs.declared.Which.TheVariants.{Active, Inactive}
 use Rattle.av_lru.specs.declared.Lengths.{Lengths}
-use Rattle.av_lru.specs.Lists.{Lists, listed, with_list, without, taken, last_of, preceding, place_in, IsApart}
+use Rattle.av_lru.specs.Lists.{Lists, list_of, with_list, without, without_frame, last_of, frame_before, place_in, IsApart}
 use Rattle.av_base.specs.Words.{is_in}
 use Rattle.av_lru.specs.Links.{head_of, len_of, with_len, Joins, Inserts, lists_of, place_of, IsWhole, is_off, IsIn, IsRing, walk, after_links}
 use Rattle.av_lru.proofs.Paths.{IsIn-without, frame_at, frame_past, last_path, prev_path}
 use Rattle.av_lru.proofs.Tails.{back_in, tails_path}
-use Rattle.av_lru.proofs.Whole.{found_in, is_apart, read, read_place, head_below, head_past, free_place, first_on, last_on, on_below, off_ring, room, front, push, Shows, before_on, after_on, some, leaves, taken_free, not_in, in_found, ring, placed_below, length-listed, shows}
+use Rattle.av_lru.proofs.Whole.{found_in, is_apart, read, read_place, head_below, head_past, free_place, first_on, last_on, on_below, off_ring, room, front, push, Shows, before_on, after_on, some, leaves, taken_free, not_in, in_found, ring, placed_below, length-list_of, shows}
 
 abbrev pub Reads : List ℕ → ℕ → ℕ → Type 0
 Reads xs i x = x ≡ get_or xs i x
@@ -56,10 +56,10 @@ module _ (links back : List ℕ) (places : List (Option Which)) (lens : Lengths)
       pub fronted : (links' back' : List ℕ) (lens' : Lengths) → length links' ≡ length links → length back' ≡ length back
           → Inserts (slice_index links) (slice_index back) (slice_index links') (slice_index back') h f first
           → lens' ≡ with_len w (len_of w lens + 1) lens
-          → Shows links' back' (slice_set places f (Some w)) lens' (with_list w (f ∷ listed w ls) ls)
+          → Shows links' back' (slice_set places f (Some w)) lens' (with_list w (f ∷ list_of w ls) ls)
       fronted links' back' lens' next prev splices lengths =
-          subst (λ (v : Lists). Shows links' back' (slice_set places f (Some w)) lens' (with_list w (f ∷ listed w v) v)) seen
-          (subst (λ (l : Lengths). Shows links' back' (slice_set places f (Some w)) l (with_list w (f ∷ listed w (lists_of links (length places) lens)) (lists_of links (length places) lens))) (sym lengths)
+          subst (λ (v : Lists). Shows links' back' (slice_set places f (Some w)) lens' (with_list w (f ∷ list_of w v) v)) seen
+          (subst (λ (l : Lengths). Shows links' back' (slice_set places f (Some w)) l (with_list w (f ∷ list_of w (lists_of links (length places) lens)) (lists_of links (length places) lens))) (sym lengths)
           (front links back places lens whole w f below free links' back' next prev
           (subst (λ m. Inserts (slice_index links) (slice_index back) (slice_index links') (slice_index back') (head_of (length places) w) f m) first_is
           (subst (λ m. Inserts (slice_index links) (slice_index back) (slice_index links') (slice_index back') m f first) head_is splices))))
@@ -77,10 +77,10 @@ module _ (links back : List ℕ) (places : List (Option Which)) (lens : Lengths)
       pub pushed : (links' back' : List ℕ) (lens' : Lengths) → length links' ≡ length links → length back' ≡ length back
           → Inserts (slice_index links) (slice_index back) (slice_index links') (slice_index back') last f h
           → lens' ≡ with_len w (len_of w lens + 1) lens
-          → Shows links' back' (slice_set places f (Some w)) lens' (with_list w (listed w ls ++ f ∷ []) ls)
+          → Shows links' back' (slice_set places f (Some w)) lens' (with_list w (list_of w ls ++ f ∷ []) ls)
       pushed links' back' lens' next prev splices lengths =
-          subst (λ (v : Lists). Shows links' back' (slice_set places f (Some w)) lens' (with_list w (listed w v ++ f ∷ []) v)) seen
-          (subst (λ (l : Lengths). Shows links' back' (slice_set places f (Some w)) l (with_list w (listed w (lists_of links (length places) lens) ++ f ∷ []) (lists_of links (length places) lens))) (sym lengths)
+          subst (λ (v : Lists). Shows links' back' (slice_set places f (Some w)) lens' (with_list w (list_of w v ++ f ∷ []) v)) seen
+          (subst (λ (l : Lengths). Shows links' back' (slice_set places f (Some w)) l (with_list w (list_of w (lists_of links (length places) lens) ++ f ∷ []) (lists_of links (length places) lens))) (sym lengths)
           (push links back places lens whole w f below free links' back' next prev
           (subst (λ m. Inserts (slice_index links) (slice_index back) (slice_index links') (slice_index back') m f (head_of (length places) w)) last_is
           (subst (λ m. Inserts (slice_index links) (slice_index back) (slice_index links') (slice_index back') last f m) head_is splices))))
@@ -91,8 +91,8 @@ module _ (links back : List ℕ) (places : List (Option Which)) (lens : Lengths)
     pub at_is : place_of places f ≡ at
     at_is = read_place places f at reads (in_places f in_range)
 
-    pub stays : at ≡ None → ls ≡ taken f ls
-    stays none = subst (λ (v : Lists). v ≡ taken f v) seen (sym (taken_free links back places lens whole f (at_is ∙ none)))
+    pub stays : at ≡ None → ls ≡ without_frame f ls
+    stays none = subst (λ (v : Lists). v ≡ without_frame f v) seen (sym (taken_free links back places lens whole f (at_is ∙ none)))
 
     module _ (w : Which) (is : at ≡ Some w) where
       was : place_of places f ≡ Some w
@@ -111,16 +111,16 @@ module _ (links back : List ℕ) (places : List (Option Which)) (lens : Lengths)
           → Joins (slice_index links) (slice_index links') (slice_index back f) (slice_index links f)
           → Joins (slice_index back) (slice_index back') (slice_index links f) (slice_index back f)
           → lens' ≡ with_len w (len_of w lens - 1) lens
-          → Shows links' back' (slice_set places f None) lens' (taken f ls)
+          → Shows links' back' (slice_set places f None) lens' (without_frame f ls)
       left links' back' lens' next prev nexts prevs lengths =
-          subst (λ (v : Lists). Shows links' back' (slice_set places f None) lens' (taken f v)) seen
-          (subst (λ (l : Lengths). Shows links' back' (slice_set places f None) l (taken f (lists_of links (length places) lens))) (sym lengths)
+          subst (λ (v : Lists). Shows links' back' (slice_set places f None) lens' (without_frame f v)) seen
+          (subst (λ (l : Lengths). Shows links' back' (slice_set places f None) l (without_frame f (lists_of links (length places) lens))) (sym lengths)
           (leaves links back places lens whole w f was links' back' next prev nexts prevs))
 
   -- ---- what is read
 
-  pub long : (w : Which) → length (listed w ls) ≡ len_of w lens
-  long w = subst (λ (v : Lists). length (listed w v) ≡ len_of w lens) seen (length-listed links back places lens w)
+  pub long : (w : Which) → length (list_of w ls) ≡ len_of w lens
+  long w = subst (λ (v : Lists). length (list_of w v) ≡ len_of w lens) seen (length-list_of links back places lens w)
 
   pub listed_in : (f : ℕ) → (is_in f ls.active ≡ true) ⊎ (is_in f ls.inactive ≡ true) → f < length places
   listed_in f h = by (subst (λ (v : Lists). (is_in f v.active ≡ true) ⊎ (is_in f v.inactive ≡ true)) (sym seen) h)
@@ -129,22 +129,22 @@ module _ (links back : List ℕ) (places : List (Option Which)) (lens : Lengths)
       by (inl a) = placed_below links back places lens f Active ((ring links back places lens whole Active).placed f (in_found f _ a))
       by (inr b) = placed_below links back places lens f Inactive ((ring links back places lens whole Inactive).placed f (in_found f _ b))
 
-  pub tail_is : (w : Which) (n h last : ℕ) (found : Option ℕ) → n ≡ length places → h ≡ head_of n w → Reads back h last → found ≡ frame_at n last → found ≡ last_of None (listed w ls)
+  pub tail_is : (w : Which) (n h last : ℕ) (found : Option ℕ) → n ≡ length places → h ≡ head_of n w → Reads back h last → found ≡ frame_at n last → found ≡ last_of None (list_of w ls)
   tail_is w n h last found count head reads is =
       let head_is : h ≡ head_of (length places) w = head ∙ ap (λ m. head_of m w) count in
       let inside : h < length back = let a = subst (λ m. m < length places + 2) (sym head_is) (head_below (length places) w) in let b = whole.prev in omega (arith, a, b) in
       let last_is : last ≡ slice_index back (head_of (length places) w) = read back h last reads inside ∙ ap (slice_index back) head_is in
       is ∙ ap (λ m. frame_at m last) count ∙ ap (frame_at (length places)) last_is
-      ∙ subst (λ (v : Lists). frame_at (length places) (slice_index back (head_of (length places) w)) ≡ last_of None (listed w v)) seen
+      ∙ subst (λ (v : Lists). frame_at (length places) (slice_index back (head_of (length places) w)) ≡ last_of None (list_of w v)) seen
       (last_path (slice_index links) (slice_index back) (length places) _ _ _ None (ring links back places lens whole w).linked
       (λ f there. placed_below links back places lens f w ((ring links back places lens whole w).placed f there)) (frame_past (length places) _ (head_past (length places) w)))
 
-  pub before_is : (w : Which) (f n at : ℕ) (found : Option ℕ) → n ≡ length places → Reads back f at → found ≡ frame_at n at → is_in f (listed w ls) ≡ true → found ≡ preceding None f (listed w ls)
+  pub before_is : (w : Which) (f n at : ℕ) (found : Option ℕ) → n ≡ length places → Reads back f at → found ≡ frame_at n at → is_in f (list_of w ls) ≡ true → found ≡ frame_before None f (list_of w ls)
   before_is w f n at found count reads is inside =
-      let there : IsIn f (listed w (lists_of links (length places) lens)) = in_found f _ (subst (λ (v : Lists). is_in f (listed w v) ≡ true) (sym seen) inside) in
+      let there : IsIn f (list_of w (lists_of links (length places) lens)) = in_found f _ (subst (λ (v : Lists). is_in f (list_of w v) ≡ true) (sym seen) inside) in
       let small : f < length back = let a = placed_below links back places lens f w ((ring links back places lens whole w).placed f there) in let b = whole.prev in omega (arith, a, b) in
       is ∙ ap (λ m. frame_at m at) count ∙ ap (frame_at (length places)) (read back f at reads small)
-      ∙ subst (λ (v : Lists). frame_at (length places) (slice_index back f) ≡ preceding None f (listed w v)) seen
+      ∙ subst (λ (v : Lists). frame_at (length places) (slice_index back f) ≡ frame_before None f (list_of w v)) seen
       (prev_path (slice_index links) (slice_index back) (length places) _ _ _ None f (ring links back places lens whole w).linked
       (λ g inside'. placed_below links back places lens g w ((ring links back places lens whole w).placed g inside')) (frame_past (length places) _ (head_past (length places) w)) there)
 
@@ -155,19 +155,19 @@ module _ (links back : List ℕ) (places : List (Option Which)) (lens : Lengths)
       by Active = let t = whole.total in omega (arith, t)
       by Inactive = let t = whole.total in omega (arith, t)
 
-  pub apart_is : (w : Which) → IsApart (listed w ls)
-  apart_is w = subst (λ (v : Lists). IsApart (listed w v)) seen (is_apart _ (ring links back places lens whole w).apart)
+  pub apart_is : (w : Which) → IsApart (list_of w ls)
+  apart_is w = subst (λ (v : Lists). IsApart (list_of w v)) seen (is_apart _ (ring links back places lens whole w).apart)
 
-  pub in_frames : (w : Which) (f : ℕ) → is_in f (listed w ls) ≡ true → f < ls.frames
-  in_frames w = subst (λ (v : Lists). (f : ℕ) → is_in f (listed w v) ≡ true → f < v.frames) seen
+  pub in_frames : (w : Which) (f : ℕ) → is_in f (list_of w ls) ≡ true → f < ls.frames
+  in_frames w = subst (λ (v : Lists). (f : ℕ) → is_in f (list_of w v) ≡ true → f < v.frames) seen
       (λ f inside. placed_below links back places lens f w ((ring links back places lens whole w).placed f (in_found f _ inside)))
 
   -- membership in each list, by the vector of the places
   module _ (f : ℕ) where
-    inside : (w : Which) → place_of places f ≡ Some w → is_in f (listed w (lists_of links (length places) lens)) ≡ true
+    inside : (w : Which) → place_of places f ≡ Some w → is_in f (list_of w (lists_of links (length places) lens)) ≡ true
     inside w h = found_in f _ ((ring links back places lens whole w).listed f h)
 
-    outside : (w : Which) → (place_of places f ≡ Some w → ⊥) → is_in f (listed w (lists_of links (length places) lens)) ≡ false
+    outside : (w : Which) → (place_of places f ≡ Some w → ⊥) → is_in f (list_of w (lists_of links (length places) lens)) ≡ false
     outside w h = not_in f _ (λ there. h ((ring links back places lens whole w).placed f there))
 
     pub never_both : is_in f ls.active ≡ true → is_in f ls.inactive ≡ false
@@ -189,12 +189,12 @@ module _ (links back : List ℕ) (places : List (Option Which)) (lens : Lengths)
             differ e = cc
 
   -- the way back from a list's head
-  module _ (w : Which) (n h count k steps : ℕ) (size : n ≡ length places) (head : h ≡ head_of n w) (len : k ≡ length (listed w ls)) (is : steps ≡ min count k) where
+  module _ (w : Which) (n h count k steps : ℕ) (size : n ≡ length places) (head : h ≡ head_of n w) (len : k ≡ length (list_of w ls)) (is : steps ≡ min count k) where
     head_at : h ≡ head_of (length places) w
     head_at = head ∙ ap (λ m. head_of m w) size
 
-    len_at : k ≡ length (listed w (lists_of links (length places) lens))
-    len_at = subst (λ (v : Lists). k ≡ length (listed w v)) (sym seen) len
+    len_at : k ≡ length (list_of w (lists_of links (length places) lens))
+    len_at = subst (λ (v : Lists). k ≡ length (list_of w v)) (sym seen) len
 
     on_way : (i : ℕ) → i < steps → after_links (slice_index back) (suc i) h < length places
     on_way i less = subst (λ m. after_links (slice_index back) (suc i) m < length places) (sym head_at)
@@ -210,10 +210,10 @@ module _ (links back : List ℕ) (places : List (Option Which)) (lens : Lengths)
         let a = on_way i less in let b = whole.few in
         subst (λ m. after_links (slice_index back) m h < 2 ^ 32) (let e : suc i ≡ i + 1 = omega arith in e) (omega (arith, a, b))
 
-    pub tails_are : walk (slice_index back) steps h ≡ take count (reverse (listed w ls))
-    tails_are = subst (λ (v : Lists). walk (slice_index back) steps h ≡ take count (reverse (listed w v))) seen
+    pub tails_are : walk (slice_index back) steps h ≡ take count (reverse (list_of w ls))
+    tails_are = subst (λ (v : Lists). walk (slice_index back) steps h ≡ take count (reverse (list_of w v))) seen
         (ap (walk (slice_index back) steps) head_at
-        ∙ tails_path (slice_index links) (slice_index back) _ (listed w (lists_of links (length places) lens)) _ count steps (ring links back places lens whole w).linked (is ∙ ap (min count) len_at))
+        ∙ tails_path (slice_index links) (slice_index back) _ (list_of w (lists_of links (length places) lens)) _ count steps (ring links back places lens whole w).linked (is ∙ ap (min count) len_at))
 
 -- a frame is not among the others
 pub gone : (f : ℕ) (fs : List ℕ) → is_in f (without f fs) ≡ false
@@ -239,10 +239,10 @@ empty links back places n few next prev is =
     none_at (suc m) zero = refl
     none_at (suc m) (suc f) = none_at m f
 
-    rings : (v : Which) → IsRing (slice_index links) (slice_index back) (place_of (replicate n None)) v (head_of n v) (listed v (record { frames = n; active = []; inactive = [] }))
+    rings : (v : Which) → IsRing (slice_index links) (slice_index back) (place_of (replicate n None)) v (head_of n v) (list_of v (record { frames = n; active = []; inactive = [] }))
     rings Active = record { linked = (next.1, prev.1); apart = tt; placed = λ f there. absurd there; listed = λ f h. none-some Active (sym (none_at n f) ∙ h) }
     rings Inactive = record { linked = (next.2, prev.2); apart = tt; placed = λ f there. absurd there; listed = λ f h. none-some Inactive (sym (none_at n f) ∙ h) }
 
-    lengths : (v : Which) → length (listed v (record { frames = n; active = []; inactive = [] })) ≡ len_of v (record { active = 0; inactive = 0 })
+    lengths : (v : Which) → length (list_of v (record { frames = n; active = []; inactive = [] })) ≡ len_of v (record { active = 0; inactive = 0 })
     lengths Active = refl
     lengths Inactive = refl

@@ -8,7 +8,7 @@ use Rattle.std.proofs.lemmas.Option.{none-some, same_Some}
 use Rattle.av_lru.specs.declared.Which.{Which}
 use Rattle.av_lru.specs.declared.Which.TheVariants.{Active, Inactive}
 use Rattle.av_lru.specs.declared.Lengths.{Lengths}
-use Rattle.av_lru.specs.Lists.{Lists, listed, with_list, without, taken, IsApart}
+use Rattle.av_lru.specs.Lists.{Lists, list_of, with_list, without, without_frame, IsApart}
 use Rattle.av_base.specs.Words.{is_in}
 use Rattle.av_lru.specs.Links.{head_of, len_of, with_len, is_off, IsIn, AreApart, Joins, Inserts, walk, frames_of, lists_of, IsPath, IsRing, place_of, IsWhole}
 use Rattle.av_lru.proofs.Paths.{IsOn, without_absent, length-without, length-walk, walk_path, prev_end_on, next_start_on, prev_on, next_on, IsRing-kept, IsRing-skip, IsRing-push, IsRing-front}
@@ -45,11 +45,11 @@ len_other Active Inactive n lens ne = refl
 len_other Inactive Active n lens ne = refl
 len_other Inactive Inactive n lens ne = absurd (ne refl)
 
-list_same : (w : Which) (fs : List ℕ) (ls : Lists) → listed w (with_list w fs ls) ≡ fs
+list_same : (w : Which) (fs : List ℕ) (ls : Lists) → list_of w (with_list w fs ls) ≡ fs
 list_same Active fs ls = refl
 list_same Inactive fs ls = refl
 
-list_other : (v w : Which) (fs : List ℕ) (ls : Lists) → v ≢ w → listed v (with_list w fs ls) ≡ listed v ls
+list_other : (v w : Which) (fs : List ℕ) (ls : Lists) → v ≢ w → list_of v (with_list w fs ls) ≡ list_of v ls
 list_other Active Active fs ls ne = absurd (ne refl)
 list_other Active Inactive fs ls ne = refl
 list_other Inactive Active fs ls ne = refl
@@ -59,7 +59,7 @@ frames_same : (w : Which) (fs : List ℕ) (ls : Lists) → (with_list w fs ls).f
 frames_same Active fs ls = refl
 frames_same Inactive fs ls = refl
 
-list_taken : (v : Which) (f : ℕ) (ls : Lists) → listed v (taken f ls) ≡ without f (listed v ls)
+list_taken : (v : Which) (f : ℕ) (ls : Lists) → list_of v (without_frame f ls) ≡ without f (list_of v ls)
 list_taken Active f ls = refl
 list_taken Inactive f ls = refl
 
@@ -122,8 +122,8 @@ length-frames_of links n head = length-walk (slice_index links) n head
 pub shows : (links back : List ℕ) (places : List (Option Which)) (lens : Lengths) (ls : Lists) (n : ℕ)
     → length places ≡ n → ls.frames ≡ n → n < 2 ^ 32 → length links ≡ n + 2 → length back ≡ n + 2
     → lens.active + lens.inactive + count_by is_off places ≡ n
-    → ((v : Which) → IsRing (slice_index links) (slice_index back) (place_of places) v (head_of n v) (listed v ls))
-    → ((v : Which) → length (listed v ls) ≡ len_of v lens)
+    → ((v : Which) → IsRing (slice_index links) (slice_index back) (place_of places) v (head_of n v) (list_of v ls))
+    → ((v : Which) → length (list_of v ls) ≡ len_of v lens)
     → Shows links back places lens ls
 shows links back places lens ls n size frames few next prev total rings lengths = record {
   whole = record {
@@ -141,8 +141,8 @@ shows links back places lens ls n size frames few next prev total rings lengths 
   };
 }
   where
-    is : (v : Which) → frames_of links (len_of v lens) (head_of n v) ≡ listed v ls
-    is v = frames_of_ring links back (len_of v lens) (head_of n v) (listed v ls) (rings v).linked (lengths v)
+    is : (v : Which) → frames_of links (len_of v lens) (head_of n v) ≡ list_of v ls
+    is v = frames_of_ring links back (len_of v lens) (head_of n v) (list_of v ls) (rings v).linked (lengths v)
 
 module _ (links back : List ℕ) (places : List (Option Which)) (lens : Lengths) where
   -- a list as it is read off the links
@@ -152,12 +152,12 @@ module _ (links back : List ℕ) (places : List (Option Which)) (lens : Lengths)
   abbrev pub seen_lists : Lists
   seen_lists = lists_of links (length places) lens
 
-  pub listed_at : (v : Which) → listed v seen_lists ≡ list_at v
+  pub listed_at : (v : Which) → list_of v seen_lists ≡ list_at v
   listed_at Active = refl
   listed_at Inactive = refl
 
-  pub length-listed : (v : Which) → length (listed v seen_lists) ≡ len_of v lens
-  length-listed v = ap length (listed_at v) ∙ length-frames_of links (len_of v lens) (head_of (length places) v)
+  pub length-list_of : (v : Which) → length (list_of v seen_lists) ≡ len_of v lens
+  length-list_of v = ap length (listed_at v) ∙ length-frames_of links (len_of v lens) (head_of (length places) v)
 
   none_past : (f : ℕ) → length places ≤ f → place_of places f ≡ None
   none_past f past = get_or_past places f None past
@@ -173,17 +173,17 @@ module _ (links back : List ℕ) (places : List (Option Which)) (lens : Lengths)
       ]
 
   module _ (whole : IsWhole links back places lens) where
-    pub ring : (v : Which) → IsRing (slice_index links) (slice_index back) (place_of places) v (head_of (length places) v) (listed v seen_lists)
+    pub ring : (v : Which) → IsRing (slice_index links) (slice_index back) (place_of places) v (head_of (length places) v) (list_of v seen_lists)
     ring v = subst (IsRing (slice_index links) (slice_index back) (place_of places) v (head_of (length places) v)) (sym (listed_at v)) (whole.rings v)
 
-    pub on_below : (v : Which) (at : ℕ) → IsOn (head_of (length places) v) (listed v seen_lists) at → at < length places + 2
+    pub on_below : (v : Which) (at : ℕ) → IsOn (head_of (length places) v) (list_of v seen_lists) at → at < length places + 2
     on_below v at on =
         elim on [
           | inl here ↦ subst (λ k. k < length places + 2) (sym here) (head_below (length places) v)
           | inr there ↦ let less = placed_below at v ((ring v).placed at there) in omega (arith, less)
         ]
 
-    apart : (v w : Which) → v ≢ w → (at on : ℕ) → IsOn (head_of (length places) v) (listed v seen_lists) at → IsOn (head_of (length places) w) (listed w seen_lists) on → at ≢ on
+    apart : (v w : Which) → v ≢ w → (at on : ℕ) → IsOn (head_of (length places) v) (list_of v seen_lists) at → IsOn (head_of (length places) w) (list_of w seen_lists) on → at ≢ on
     apart v w ne at on first second same =
         elim first [
           | inl here ↦
@@ -199,17 +199,17 @@ module _ (links back : List ℕ) (places : List (Option Which)) (lens : Lengths)
         ]
 
     -- a frame that is off both lists is on no ring
-    pub off_ring : (f : ℕ) → f < length places → place_of places f ≡ None → (v : Which) (at : ℕ) → IsOn (head_of (length places) v) (listed v seen_lists) at → at ≢ f
+    pub off_ring : (f : ℕ) → f < length places → place_of places f ≡ None → (v : Which) (at : ℕ) → IsOn (head_of (length places) v) (list_of v seen_lists) at → at ≢ f
     off_ring f below free v at on same =
         elim on [
           | inl here ↦ let past = head_past (length places) v in omega (arith, past, here, same)
           | inr there ↦ none-some v (sym free ∙ ap (place_of places) (sym same) ∙ (ring v).placed at there)
         ]
 
-    pub first_on : (v : Which) → IsOn (head_of (length places) v) (listed v seen_lists) (slice_index links (head_of (length places) v))
+    pub first_on : (v : Which) → IsOn (head_of (length places) v) (list_of v seen_lists) (slice_index links (head_of (length places) v))
     first_on v = next_start_on (slice_index links) (slice_index back) _ _ _ (ring v).linked
 
-    pub last_on : (v : Which) → IsOn (head_of (length places) v) (listed v seen_lists) (slice_index back (head_of (length places) v))
+    pub last_on : (v : Which) → IsOn (head_of (length places) v) (list_of v seen_lists) (slice_index back (head_of (length places) v))
     last_on v = prev_end_on (slice_index links) (slice_index back) _ _ _ (ring v).linked
 
     pub free_place : (f : ℕ) → is_in f seen_lists.active ≡ false → is_in f seen_lists.inactive ≡ false → place_of places f ≡ None
@@ -249,7 +249,7 @@ module _ (links back : List ℕ) (places : List (Option Which)) (lens : Lengths)
       module _ (links' back' : List ℕ) (next : length links' ≡ length links) (prev : length back' ≡ length back) where
         joins : (before after : ℕ) (fs : List ℕ)
             → Inserts (slice_index links) (slice_index back) (slice_index links') (slice_index back') before f after
-            → IsOn (head_of (length places) w) (listed w seen_lists) before → IsOn (head_of (length places) w) (listed w seen_lists) after
+            → IsOn (head_of (length places) w) (list_of w seen_lists) before → IsOn (head_of (length places) w) (list_of w seen_lists) after
             → IsRing (slice_index links') (slice_index back') (place_of (slice_set places f (Some w))) w (head_of (length places) w) fs
             → length fs ≡ len_of w lens + 1
             → Shows links' back' (slice_set places f (Some w)) (with_len w (len_of w lens + 1) lens) (with_list w fs seen_lists)
@@ -258,10 +258,10 @@ module _ (links back : List ℕ) (places : List (Option Which)) (lens : Lengths)
             (length-set places f (Some w)) (frames_same w fs seen_lists) whole.few (next ∙ whole.next) (prev ∙ whole.prev)
             (total_join w _ count_join)
             (λ v. elim (same_or v w) [
-              | inl same ↦ subst (λ u. IsRing (slice_index links') (slice_index back') (place_of (slice_set places f (Some w))) u (head_of (length places) u) (listed u (with_list w fs seen_lists))) (sym same)
+              | inl same ↦ subst (λ u. IsRing (slice_index links') (slice_index back') (place_of (slice_set places f (Some w))) u (head_of (length places) u) (list_of u (with_list w fs seen_lists))) (sym same)
                   (subst (IsRing (slice_index links') (slice_index back') (place_of (slice_set places f (Some w))) w (head_of (length places) w)) (sym (list_same w fs seen_lists)) changed)
               | inr ne ↦ subst (IsRing (slice_index links') (slice_index back') (place_of (slice_set places f (Some w))) v (head_of (length places) v)) (sym (list_other v w fs seen_lists ne))
-                  (IsRing-kept (slice_index links) (slice_index back) (slice_index links') (slice_index back') (place_of places) (place_of (slice_set places f (Some w))) v (head_of (length places) v) (heads_none v) (listed v seen_lists) (ring v)
+                  (IsRing-kept (slice_index links) (slice_index back) (slice_index links') (slice_index back') (place_of places) (place_of (slice_set places f (Some w))) v (head_of (length places) v) (heads_none v) (list_of v seen_lists) (ring v)
                   (λ at on. splices.nexts at (apart v w ne at before on before_on) (off_ring f below free v at on))
                   (λ at on. splices.prevs at (apart v w ne at after on after_on) (off_ring f below free v at on))
                   (λ g was. place_other g (λ same. none-some v (sym free ∙ ap (place_of places) (sym same) ∙ was)) ∙ was)
@@ -271,24 +271,24 @@ module _ (links back : List ℕ) (places : List (Option Which)) (lens : Lengths)
                   ]))
             ])
             (λ v. elim (same_or v w) [
-              | inl same ↦ subst (λ u. length (listed u (with_list w fs seen_lists)) ≡ len_of u (with_len w (len_of w lens + 1) lens)) (sym same)
+              | inl same ↦ subst (λ u. length (list_of u (with_list w fs seen_lists)) ≡ len_of u (with_len w (len_of w lens + 1) lens)) (sym same)
                   (ap length (list_same w fs seen_lists) ∙ len ∙ sym (len_same w _ lens))
-              | inr ne ↦ ap length (list_other v w fs seen_lists ne) ∙ length-listed v ∙ sym (len_other v w _ lens ne)
+              | inr ne ↦ ap length (list_other v w fs seen_lists ne) ∙ length-list_of v ∙ sym (len_other v w _ lens ne)
             ])
 
         pub front : Inserts (slice_index links) (slice_index back) (slice_index links') (slice_index back') (head_of (length places) w) f (slice_index links (head_of (length places) w))
-            → Shows links' back' (slice_set places f (Some w)) (with_len w (len_of w lens + 1) lens) (with_list w (f ∷ listed w seen_lists) seen_lists)
+            → Shows links' back' (slice_set places f (Some w)) (with_len w (len_of w lens + 1) lens) (with_list w (f ∷ list_of w seen_lists) seen_lists)
         front splices = joins _ _ _ splices (inl refl) (first_on w)
-            (IsRing-front (slice_index links) (slice_index back) (slice_index links') (slice_index back') (place_of places) (place_of (slice_set places f (Some w))) w (head_of (length places) w) (heads_none w) (listed w seen_lists) f (ring w)
+            (IsRing-front (slice_index links) (slice_index back) (slice_index links') (slice_index back') (place_of places) (place_of (slice_set places f (Some w))) w (head_of (length places) w) (heads_none w) (list_of w seen_lists) f (ring w)
             (off_ring f below free w _ (inl refl)) free splices place_here place_other)
-            (let len = length-listed w in omega (arith, len))
+            (let len = length-list_of w in omega (arith, len))
 
         pub push : Inserts (slice_index links) (slice_index back) (slice_index links') (slice_index back') (slice_index back (head_of (length places) w)) f (head_of (length places) w)
-            → Shows links' back' (slice_set places f (Some w)) (with_len w (len_of w lens + 1) lens) (with_list w (listed w seen_lists ++ f ∷ []) seen_lists)
+            → Shows links' back' (slice_set places f (Some w)) (with_len w (len_of w lens + 1) lens) (with_list w (list_of w seen_lists ++ f ∷ []) seen_lists)
         push splices = joins _ _ _ splices (last_on w) (inl refl)
-            (IsRing-push (slice_index links) (slice_index back) (slice_index links') (slice_index back') (place_of places) (place_of (slice_set places f (Some w))) w (head_of (length places) w) (heads_none w) (listed w seen_lists) f (ring w)
+            (IsRing-push (slice_index links) (slice_index back) (slice_index links') (slice_index back') (place_of places) (place_of (slice_set places f (Some w))) w (head_of (length places) w) (heads_none w) (list_of w seen_lists) f (ring w)
             (off_ring f below free w _ (inl refl)) free splices place_here place_other)
-            (let len = length-listed w in omega (arith, len, length-append (listed w seen_lists) (f ∷ [])))
+            (let len = length-list_of w in omega (arith, len, length-append (list_of w seen_lists) (f ∷ [])))
 
     -- ---- a frame leaves
 
@@ -296,22 +296,22 @@ module _ (links back : List ℕ) (places : List (Option Which)) (lens : Lengths)
       below : f < length places
       below = placed_below f w was
 
-      found : IsIn f (listed w seen_lists)
+      found : IsIn f (list_of w seen_lists)
       found = (ring w).listed f was
 
-      pub before_on : IsOn (head_of (length places) w) (listed w seen_lists) (slice_index back f)
+      pub before_on : IsOn (head_of (length places) w) (list_of w seen_lists) (slice_index back f)
       before_on = prev_on (slice_index links) (slice_index back) _ _ _ f (ring w).linked found
 
-      pub after_on : IsOn (head_of (length places) w) (listed w seen_lists) (slice_index links f)
+      pub after_on : IsOn (head_of (length places) w) (list_of w seen_lists) (slice_index links f)
       after_on = next_on (slice_index links) (slice_index back) _ _ _ f (ring w).linked found
 
-      shorter : length (without f (listed w seen_lists)) + 1 ≡ len_of w lens
-      shorter = length-without f (listed w seen_lists) (ring w).apart found ∙ length-listed w
+      shorter : length (without f (list_of w seen_lists)) + 1 ≡ len_of w lens
+      shorter = length-without f (list_of w seen_lists) (ring w).apart found ∙ length-list_of w
 
       pub some : 0 < len_of w lens
       some = let h = shorter in omega (arith, h)
 
-      absent : (v : Which) → v ≢ w → ¬ IsIn f (listed v seen_lists)
+      absent : (v : Which) → v ≢ w → ¬ IsIn f (list_of v seen_lists)
       absent v ne there = ne (same_Some v w (sym ((ring v).placed f there) ∙ was))
 
       count_leave : count_by is_off (slice_set places f None) ≡ count_by is_off places + 1
@@ -333,17 +333,17 @@ module _ (links back : List ℕ) (places : List (Option Which)) (lens : Lengths)
       pub leaves : (links' back' : List ℕ) → length links' ≡ length links → length back' ≡ length back
           → Joins (slice_index links) (slice_index links') (slice_index back f) (slice_index links f)
           → Joins (slice_index back) (slice_index back') (slice_index links f) (slice_index back f)
-          → Shows links' back' (slice_set places f None) (with_len w (len_of w lens - 1) lens) (taken f seen_lists)
+          → Shows links' back' (slice_set places f None) (with_len w (len_of w lens - 1) lens) (without_frame f seen_lists)
       leaves links' back' next prev nexts prevs =
-          shows links' back' (slice_set places f None) (with_len w (len_of w lens - 1) lens) (taken f seen_lists) (length places)
+          shows links' back' (slice_set places f None) (with_len w (len_of w lens - 1) lens) (without_frame f seen_lists) (length places)
           (length-set places f None) refl whole.few (next ∙ whole.next) (prev ∙ whole.prev)
           (total_leave w _ some count_leave)
           (λ v. subst (IsRing (slice_index links') (slice_index back') (place_of (slice_set places f None)) v (head_of (length places) v)) (sym (list_taken v f seen_lists))
           (elim (same_or v w) [
-            | inl same ↦ subst (λ u. IsRing (slice_index links') (slice_index back') (place_of (slice_set places f None)) u (head_of (length places) u) (without f (listed u seen_lists))) (sym same)
-                (IsRing-skip (slice_index links) (slice_index back) (slice_index links') (slice_index back') (place_of places) (place_of (slice_set places f None)) w (head_of (length places) w) (heads_none w) (listed w seen_lists) f (ring w) was nexts prevs place_none place_rest)
-            | inr ne ↦ subst (IsRing (slice_index links') (slice_index back') (place_of (slice_set places f None)) v (head_of (length places) v)) (sym (without_absent f (listed v seen_lists) (absent v ne)))
-                (IsRing-kept (slice_index links) (slice_index back) (slice_index links') (slice_index back') (place_of places) (place_of (slice_set places f None)) v (head_of (length places) v) (heads_none v) (listed v seen_lists) (ring v)
+            | inl same ↦ subst (λ u. IsRing (slice_index links') (slice_index back') (place_of (slice_set places f None)) u (head_of (length places) u) (without f (list_of u seen_lists))) (sym same)
+                (IsRing-skip (slice_index links) (slice_index back) (slice_index links') (slice_index back') (place_of places) (place_of (slice_set places f None)) w (head_of (length places) w) (heads_none w) (list_of w seen_lists) f (ring w) was nexts prevs place_none place_rest)
+            | inr ne ↦ subst (IsRing (slice_index links') (slice_index back') (place_of (slice_set places f None)) v (head_of (length places) v)) (sym (without_absent f (list_of v seen_lists) (absent v ne)))
+                (IsRing-kept (slice_index links) (slice_index back) (slice_index links') (slice_index back') (place_of places) (place_of (slice_set places f None)) v (head_of (length places) v) (heads_none v) (list_of v seen_lists) (ring v)
                 (λ at on. nexts.others at (apart v w ne at _ on before_on))
                 (λ at on. prevs.others at (apart v w ne at _ on after_on))
                 (λ g is. place_rest g (λ same. ne (same_Some v w (sym is ∙ ap (place_of places) same ∙ was))) ∙ is)
@@ -353,21 +353,21 @@ module _ (links back : List ℕ) (places : List (Option Which)) (lens : Lengths)
                 ]))
           ]))
           (λ v. elim (same_or v w) [
-            | inl same ↦ subst (λ u. length (listed u (taken f seen_lists)) ≡ len_of u (with_len w (len_of w lens - 1) lens)) (sym same)
+            | inl same ↦ subst (λ u. length (list_of u (without_frame f seen_lists)) ≡ len_of u (with_len w (len_of w lens - 1) lens)) (sym same)
                 (ap length (list_taken w f seen_lists) ∙ one_less _ _ shorter ∙ sym (len_same w _ lens))
-            | inr ne ↦ ap length (list_taken v f seen_lists) ∙ ap length (without_absent f (listed v seen_lists) (absent v ne)) ∙ length-listed v ∙ sym (len_other v w _ lens ne)
+            | inr ne ↦ ap length (list_taken v f seen_lists) ∙ ap length (without_absent f (list_of v seen_lists) (absent v ne)) ∙ length-list_of v ∙ sym (len_other v w _ lens ne)
           ])
         where
           one_less : (a b : ℕ) → a + 1 ≡ b → a ≡ b - 1
           one_less a b h = omega arith
 
     -- a frame that is in no list leaves both as they are
-    pub taken_free : (f : ℕ) → place_of places f ≡ None → taken f seen_lists ≡ seen_lists
+    pub taken_free : (f : ℕ) → place_of places f ≡ None → without_frame f seen_lists ≡ seen_lists
     taken_free f free = λ k. record {
       frames = length places;
       active = without_absent f _ (absent Active) k;
       inactive = without_absent f _ (absent Inactive) k;
     }
       where
-        absent : (v : Which) → ¬ IsIn f (listed v seen_lists)
+        absent : (v : Which) → ¬ IsIn f (list_of v seen_lists)
         absent v there = none-some v (sym free ∙ (ring v).placed f there)

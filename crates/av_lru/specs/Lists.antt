@@ -11,9 +11,9 @@ pub record Lists : Type 0 where
   pub inactive : List ℕ
 
 -- one of the two lists
-abbrev pub listed : Which → Lists → List ℕ
-listed Active ls = ls.active
-listed Inactive ls = ls.inactive
+abbrev pub list_of : Which → Lists → List ℕ
+list_of Active ls = ls.active
+list_of Inactive ls = ls.inactive
 
 -- the same frames, with one of the two lists replaced
 abbrev pub with_list : Which → List ℕ → Lists → Lists
@@ -35,8 +35,8 @@ abbrev pub without : ℕ → List ℕ → List ℕ
 without f fs = filter (λ g. not (g == f)) fs
 
 -- both lists without a frame
-abbrev pub taken : ℕ → Lists → Lists
-taken f ls =
+abbrev pub without_frame : ℕ → Lists → Lists
+without_frame f ls =
     record { frames = ls.frames; active = without f ls.active; inactive = without f ls.inactive }
 
 -- the last frame of a list; `before` is what stands before the list
@@ -45,6 +45,6 @@ last_of before [] = before
 last_of before (g ∷ gs) = last_of (Some g) gs
 
 -- the frame just before f in a list; `before` is what stands before the list
-abbrev pub preceding : Option ℕ → ℕ → List ℕ → Option ℕ
-preceding before f [] = None
-preceding before f (g ∷ gs) = cond (g == f) before (preceding (Some g) f gs)
+abbrev pub frame_before : Option ℕ → ℕ → List ℕ → Option ℕ
+frame_before before f [] = None
+frame_before before f (g ∷ gs) = cond (g == f) before (frame_before (Some g) f gs)

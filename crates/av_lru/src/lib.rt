@@ -6,7 +6,7 @@
 mod tests;
 
 ghost use Rattle.std.specs.Prelude.{◌≡◌, ◌≢◌, ◌⊎◌, ℕ, ◌+◌, ◌-◌, ◌<◌, ◌≤◌, ◌^◌, [], ◌∷◌, ◌++◌, length, slice_index, IfOk, true, false, Some, None, nat_lt, replicate, take, reverse, vec_capacity, if◌then◌else◌};
-ghost use Rattle.av_lru.specs.Lists.{listed, with_list, taken, last_of, preceding, place_in, IsApart};
+ghost use Rattle.av_lru.specs.Lists.{list_of, with_list, without_frame, last_of, frame_before, place_in, IsApart};
 ghost use Rattle.av_base.specs.Words.{is_in};
 ghost use Rattle.av_lru.specs.Links.{head_of, len_of, with_len, Joins, Inserts, walk, after_links};
 
@@ -185,7 +185,7 @@ impl Lru {
     /// Takes a frame out of its list, if it is in one.
     pub fn remove(&mut self, frame: u32)
         requires { frame < self.old.frames }
-        ensures { self.new ≡ taken frame self.old }
+        ensures { self.new ≡ without_frame frame self.old }
     {
         let place = frame as usize;
         if let Some(which) = self.places[place] {
@@ -200,7 +200,7 @@ impl Lru {
     pub fn to_active(&mut self, frame: u32)
         requires { frame < self.old.frames }
         ensures { self.new
-            ≡ record (taken frame self.old) { active = frame ∷ (taken frame self.old).active } }
+            ≡ record (without_frame frame self.old) { active = frame ∷ (without_frame frame self.old).active } }
     {
         self.remove(frame);
         self.add_head(Which::Active, frame);
@@ -210,8 +210,8 @@ impl Lru {
     #[tactic(auto, using(crate::proofs::Steps::gone))]
     pub fn to_inactive_head(&mut self, frame: u32)
         requires { frame < self.old.frames }
-        ensures { self.new ≡ record (taken frame self.old) {
-          inactive = frame ∷ (taken frame self.old).inactive;
+        ensures { self.new ≡ record (without_frame frame self.old) {
+          inactive = frame ∷ (without_frame frame self.old).inactive;
         } }
     {
         self.remove(frame);
@@ -222,8 +222,8 @@ impl Lru {
     #[tactic(auto, using(crate::proofs::Steps::gone))]
     pub fn to_inactive_tail(&mut self, frame: u32)
         requires { frame < self.old.frames }
-        ensures { self.new ≡ record (taken frame self.old) {
-          inactive = (taken frame self.old).inactive ++ frame ∷ [];
+        ensures { self.new ≡ record (without_frame frame self.old) {
+          inactive = (without_frame frame self.old).inactive ++ frame ∷ [];
         } }
     {
         self.remove(frame);
@@ -242,17 +242,17 @@ impl Lru {
 
     /// How many frames a list has.
     pub fn len(&self, which: Which) -> u32
-        ensures count { result ≡ length (listed which self.now) }
+        ensures count { result ≡ length (list_of which self.now) }
         ensures within { result ≤ self.now.frames }
-        ensures apart { IsApart (listed which self.now) }
-        ensures in_range { (f : ℕ) → is_in f (listed which self.now) ≡ true → f < self.now.frames }
+        ensures apart { IsApart (list_of which self.now) }
+        ensures in_range { (f : ℕ) → is_in f (list_of which self.now) ≡ true → f < self.now.frames }
     {
         self.lengths.of(which)
     }
 
     /// The frame at the tail of a list. None exactly where the list is empty.
     pub fn tail(&self, which: Which) -> Option<u32>
-        ensures { result ≡ last_of None (listed which self.now) }
+        ensures { result ≡ last_of None (list_of which self.now) }
     {
         frame_at(
             self.places.len(),
@@ -264,9 +264,9 @@ impl Lru {
     pub fn before(&self, frame: u32) -> Option<u32>
         requires { (is_in frame self.now.active ≡ true) ⊎ (is_in frame self.now.inactive ≡ true) }
         ensures active { is_in frame self.now.active ≡ true
-            → result ≡ preceding None frame self.now.active }
+            → result ≡ frame_before None frame self.now.active }
         ensures inactive { is_in frame self.now.inactive ≡ true
-            → result ≡ preceding None frame self.now.inactive }
+            → result ≡ frame_before None frame self.now.inactive }
     {
         frame_at(self.places.len(), self.links.prev[frame as usize])
     }
@@ -276,7 +276,7 @@ impl Lru {
     pub fn tails(&self, which: Which, count: u32, found: &mut Vec<u32>)
         requires { length found.old.items + count ≤ vec_capacity found.old }
         ensures items { found.new.items
-            ≡ found.old.items ++ take count (reverse (listed which self.now)) }
+            ≡ found.old.items ++ take count (reverse (list_of which self.now)) }
         ensures capacity { vec_capacity found.new ≡ vec_capacity found.old }
     {
         let head = head(self.places.len(), which);
@@ -289,7 +289,7 @@ impl Lru {
         requires in_range { frame < self.old.frames }
         requires not_active { is_in frame self.old.active ≡ false }
         requires not_inactive { is_in frame self.old.inactive ≡ false }
-        ensures { self.new ≡ with_list which (frame ∷ listed which self.old) self.old }
+        ensures { self.new ≡ with_list which (frame ∷ list_of which self.old) self.old }
     {
         let place = frame as usize;
         let head = head(self.places.len(), which);
@@ -304,7 +304,7 @@ impl Lru {
         requires in_range { frame < self.old.frames }
         requires not_active { is_in frame self.old.active ≡ false }
         requires not_inactive { is_in frame self.old.inactive ≡ false }
-        ensures { self.new ≡ with_list which (listed which self.old ++ frame ∷ []) self.old }
+        ensures { self.new ≡ with_list which (list_of which self.old ++ frame ∷ []) self.old }
     {
         let place = frame as usize;
         let head = head(self.places.len(), which);

@@ -8,7 +8,7 @@ use Rattle.av_vma.specs.declared.area.Area.{Area}
 use Rattle.av_base.specs.declared.prot.Prot.{Prot}
 use Rattle.av_vma.specs.Join.{first_of, past_of, index_of, same_prot, share_anon}
 use Rattle.av_base.specs.Words.{within}
-use Rattle.av_vma.specs.Pages.{AreLaid, Pages, Effect, with_effect, alters, alters_at, has_page, part_of, cut_at, affected, merged, join, tried, joined_at, part_changed, page_changed, pages_changed, IsWhole}
+use Rattle.av_vma.specs.Pages.{AreLaid, Pages, Effect, with_effect, alters, alters_at, has_page, part_of, cut_at, with_effect_on, join_of, do_join, after_join, joined_at, part_changed, page_changed, pages_changed, IsWhole, no_chains}
 use Rattle.av_merge.proofs.Places.{has_from, has_parts, within_from}
 use Rattle.av_merge.proofs.Mappings.{either_same, join_is, laid_cut}
 
@@ -43,12 +43,12 @@ shares (Some n) = eq-eqb n n refl
 
 -- ---- a page more
 
-pages_and_one : (effect : Effect) (a n : ℕ) (on : Pages) → pages_changed effect a (suc n) on ≡ page_changed effect (a + n) (pages_changed effect a n on)
-pages_and_one effect a zero on = (let same : a ≡ a + 0 = omega arith in ap (λ c. page_changed effect c on) same)
+pages_and_one : (effect : Effect) (a n : ℕ) (on : Pages) → pages_changed no_chains effect a (suc n) on ≡ page_changed no_chains effect (a + n) (pages_changed no_chains effect a n on)
+pages_and_one effect a zero on = (let same : a ≡ a + 0 = omega arith in ap (λ c. page_changed no_chains effect c on) same)
 pages_and_one effect a (suc n) on =
     let same : (a + 1) + n ≡ a + suc n = omega arith in
-    pages_and_one effect (a + 1) n (page_changed effect a on)
-    ∙ ap (λ c. page_changed effect c (pages_changed effect (a + 1) n (page_changed effect a on))) same
+    pages_and_one effect (a + 1) n (page_changed no_chains effect a on)
+    ∙ ap (λ c. page_changed no_chains effect c (pages_changed no_chains effect (a + 1) n (page_changed no_chains effect a on))) same
 
 module _ (effect : Effect) (on : Pages) (laid : AreLaid on) (a : ℕ) (area : Area) (here : on a ≡ Some area) (does : alters effect area ≡ true) where
   whole : IsWhole area
@@ -123,8 +123,8 @@ module _ (effect : Effect) (on : Pages) (laid : AreLaid on) (a : ℕ) (area : Ar
 
   -- ---- at the part's end, nothing joins before the rest is affected
 
-  apart : (x : Area) → IsGrown x → (b : ℕ) → join (ended b x) (upper b) ≡ false
-  apart x g b = false_from_ne_true (join (ended b x) (upper b)) (λ e.
+  apart : (x : Area) → IsGrown x → (b : ℕ) → do_join no_chains (ended b x) (upper b) ≡ false
+  apart x g b = false_from_ne_true (do_join no_chains (ended b x) (upper b)) (λ e.
       let j = join_is (ended b x) (upper b) e in
       both_ways (alters effect area)
       (ap not (and_from (same_prot (effect.prot area.prot) area.prot) (effect.flags area.flags == area.flags)
@@ -132,13 +132,13 @@ module _ (effect : Effect) (on : Pages) (laid : AreLaid on) (a : ℕ) (area : Ar
       (eq-eqb (effect.flags area.flags) area.flags (sym g.flags ∙ j.flags))))
       does)
 
-  kept : (x : Area) → IsGrown x → (b : ℕ) → a < b → b < past_of area → (q : ℕ) → joined_at b (grown x b) q ≡ grown x b q
+  kept : (x : Area) → IsGrown x → (b : ℕ) → a < b → b < past_of area → (q : ℕ) → joined_at no_chains b (grown x b) q ≡ grown x b q
   kept x g b ab less q =
       let first = g.low in
       let last : grown x b (b - 1) ≡ Some (ended b x) = grown_in x b (b - 1) (omega arith) (omega arith) in
       let next : grown x b b ≡ Some (upper b) = grown_past x b (omega arith) less in
-      (λ i. tried (last i) (next i) q (grown x b q))
-      ∙ ap (λ t. cond (t && has_page (merged (ended b x) (upper b)) q) (Some (merged (ended b x) (upper b))) (grown x b q)) (apart x g b)
+      (λ i. after_join no_chains (last i) (next i) q (grown x b q))
+      ∙ ap (λ t. cond (t && has_page (join_of (ended b x) (upper b)) q) (Some (join_of (ended b x) (upper b))) (grown x b q)) (apart x g b)
 
   -- ---- one page more is affected, and joins what is before it
 
@@ -160,7 +160,7 @@ module _ (effect : Effect) (on : Pages) (laid : AreLaid on) (a : ℕ) (area : Ar
 
   module _ (x : Area) (g : IsGrown x) (b : ℕ) (ab : a < b) (less : b < past_of area) where
     abbrev wider : Pages
-    wider = affected b (b + 1) effect (cut_at (b + 1) (cut_at b (grown x b)))
+    wider = with_effect_on b (b + 1) effect (cut_at (b + 1) (cut_at b (grown x b)))
 
     wider_last : wider (b - 1) ≡ Some (ended b x)
     wider_last =
@@ -177,7 +177,7 @@ module _ (effect : Effect) (on : Pages) (laid : AreLaid on) (a : ℕ) (area : Ar
         ∙ ap (λ o. option_map (with_effect effect) (option_map (part_of (b + 1) b) (option_map (part_of b b) o))) (grown_past x b (omega arith) less)
         ∙ ap (λ z. Some (with_effect effect z)) (more_part b (omega arith) less)
 
-    joins : join (ended b x) (more b) ≡ true
+    joins : do_join no_chains (ended b x) (more b) ≡ true
     joins =
         let first = g.low in
         let first' = low in
@@ -190,7 +190,7 @@ module _ (effect : Effect) (on : Pages) (laid : AreLaid on) (a : ℕ) (area : Ar
         let e5 : share_anon x.anon 0 area.anon 0 ≡ true = ap (λ o. share_anon o 0 area.anon 0) g.anon ∙ shares area.anon in
         λ i. e1 i && e2 i && e3 i && e4 i && e5 i
 
-    merged_more : merged (ended b x) (more b) ≡ ended (b + 1) x
+    merged_more : join_of (ended b x) (more b) ≡ ended (b + 1) x
     merged_more = λ i. record (ended (b + 1) x) { anon = (ap (option_or x.anon) (sym g.anon) ∙ either_same x.anon x.anon refl) i }
 
     -- past the part's new end and before its start, all is as after the cuts at a and b + 1
@@ -215,9 +215,9 @@ module _ (effect : Effect) (on : Pages) (laid : AreLaid on) (a : ℕ) (area : Ar
             let twice = late_part b b q z w (omega arith) (omega arith) in
             ap Some (ap (λ y. part_of (b + 1) q (part_of b q y)) once ∙ ap (part_of (b + 1) q) twice ∙ late_part b (b + 1) q z w (omega arith) late ∙ sym (late_part a (b + 1) q z w (omega arith) late))
 
-    grows : (q : ℕ) → joined_at b wider q ≡ grown x (b + 1) q
+    grows : (q : ℕ) → joined_at no_chains b wider q ≡ grown x (b + 1) q
     grows q =
-        (λ i. tried (wider_last i) (wider_next i) q (wider q))
+        (λ i. after_join no_chains (wider_last i) (wider_next i) q (wider q))
         ∙ (λ i. cond (joins i && has_page (merged_more i) q) (Some (merged_more i)) (wider q))
         ∙ elim (has_page (ended (b + 1) x) q) as (λ h. has_page (ended (b + 1) x) q ≡ h → cond h (Some (ended (b + 1) x)) (wider q) ≡ cond h (Some (ended (b + 1) x)) (rest (b + 1) q)) [
           | true ↦ λ h. refl
@@ -227,7 +227,7 @@ module _ (effect : Effect) (on : Pages) (laid : AreLaid on) (a : ℕ) (area : Ar
   -- ---- the part joins what is before it, whatever page it ends at
 
   abbrev first_pages : ℕ → Pages
-  first_pages b = affected a b effect (rest b)
+  first_pages b = with_effect_on a b effect (rest b)
 
   part_here : (b q : ℕ) → b ≤ past_of area → a ≤ q → q < b → first_pages b q ≡ Some (ended b part)
   part_here b q high from less =
@@ -256,7 +256,7 @@ module _ (effect : Effect) (on : Pages) (laid : AreLaid on) (a : ℕ) (area : Ar
   record Begins : Type 0 where
     pub x : Area
     pub is : IsGrown x
-    pub pages : (b : ℕ) → a < b → b ≤ past_of area → (q : ℕ) → joined_at a (first_pages b) q ≡ grown x b q
+    pub pages : (b : ℕ) → a < b → b ≤ past_of area → (q : ℕ) → joined_at no_chains a (first_pages b) q ≡ grown x b q
 
   part_grown : IsGrown part
   part_grown = record { start = omega arith; low = omega arith; prot = refl; flags = refl; index = omega arith; anon = refl }
@@ -280,9 +280,9 @@ module _ (effect : Effect) (on : Pages) (laid : AreLaid on) (a : ℕ) (area : Ar
       itself : (b : ℕ) → a < b → b ≤ past_of area → first_pages b a ≡ Some (ended b part)
       itself b ab high = part_here b a high (omega arith) ab
 
-      with_left : (l : Area) → cut_at a on (a - 1) ≡ Some l → (t : Bool) → join l part ≡ t → Begins
+      with_left : (l : Area) → cut_at a on (a - 1) ≡ Some l → (t : Bool) → do_join no_chains l part ≡ t → Begins
       with_left l e true j = record {
-        x = merged l part;
+        x = join_of l part;
         is =
             let k = join_is l part j in
             let cut = laid_cut a on laid in
@@ -294,19 +294,19 @@ module _ (effect : Effect) (on : Pages) (laid : AreLaid on) (a : ℕ) (area : Ar
         pages = λ b ab high q.
             let cut = laid_cut a on laid in
             let first = (has_parts l (a - 1) (cut.here (a - 1) l e)).0 in
-            (λ i. tried ((before_is b ab some ∙ e) i) (itself b ab high i) q (first_pages b q))
-            ∙ ap (λ t. cond (t && has_page (ended b (merged l part)) q) (Some (ended b (merged l part))) (first_pages b q)) j
-            ∙ elim (has_page (ended b (merged l part)) q) as (λ h. has_page (ended b (merged l part)) q ≡ h → cond h (Some (ended b (merged l part))) (first_pages b q) ≡ cond h (Some (ended b (merged l part))) (rest b q)) [
+            (λ i. after_join no_chains ((before_is b ab some ∙ e) i) (itself b ab high i) q (first_pages b q))
+            ∙ ap (λ t. cond (t && has_page (ended b (join_of l part)) q) (Some (ended b (join_of l part))) (first_pages b q)) j
+            ∙ elim (has_page (ended b (join_of l part)) q) as (λ h. has_page (ended b (join_of l part)) q ≡ h → cond h (Some (ended b (join_of l part))) (first_pages b q) ≡ cond h (Some (ended b (join_of l part))) (rest b q)) [
               | true ↦ λ h. refl
-              | false ↦ λ h. others_here b q (λ from less. both_ways (has_page (ended b (merged l part)) q) h (has_ended b (merged l part) q (omega arith) less))
+              | false ↦ λ h. others_here b q (λ from less. both_ways (has_page (ended b (join_of l part)) q) h (has_ended b (join_of l part) q (omega arith) less))
             ] refl;
       }
       with_left l e false j = record {
         x = part;
         is = part_grown;
         pages = λ b ab high q.
-            (λ i. tried ((before_is b ab some ∙ e) i) (itself b ab high i) q (first_pages b q))
-            ∙ ap (λ t. cond (t && has_page (merged l (ended b part)) q) (Some (merged l (ended b part))) (first_pages b q)) j
+            (λ i. after_join no_chains ((before_is b ab some ∙ e) i) (itself b ab high i) q (first_pages b q))
+            ∙ ap (λ t. cond (t && has_page (join_of l (ended b part)) q) (Some (join_of l (ended b part))) (first_pages b q)) j
             ∙ alone b ab high q;
       }
 
@@ -314,27 +314,27 @@ module _ (effect : Effect) (on : Pages) (laid : AreLaid on) (a : ℕ) (area : Ar
       each None e = record {
         x = part;
         is = part_grown;
-        pages = λ b ab high q. (λ i. tried ((before_is b ab some ∙ e) i) (first_pages b a) q (first_pages b q)) ∙ alone b ab high q;
+        pages = λ b ab high q. (λ i. after_join no_chains ((before_is b ab some ∙ e) i) (first_pages b a) q (first_pages b q)) ∙ alone b ab high q;
       }
-      each (Some l) e = with_left l e (join l part) refl
+      each (Some l) e = with_left l e (do_join no_chains l part) refl
 
   -- ---- the whole part, and its pages one by one
 
-  whole_part : (b : ℕ) → a < b → b ≤ past_of area → part_changed a b effect on ≡ joined_at b (grown begins.x b)
-  whole_part b ab high = λ i. joined_at b (λ q. begins.pages b ab high q i)
+  whole_part : (b : ℕ) → a < b → b ≤ past_of area → part_changed no_chains a b effect on ≡ joined_at no_chains b (grown begins.x b)
+  whole_part b ab high = λ i. joined_at no_chains b (λ q. begins.pages b ab high q i)
 
-  next_page : (b : ℕ) → a < b → b < past_of area → page_changed effect b (part_changed a b effect on) ≡ part_changed a (b + 1) effect on
+  next_page : (b : ℕ) → a < b → b < past_of area → page_changed no_chains effect b (part_changed no_chains a b effect on) ≡ part_changed no_chains a (b + 1) effect on
   next_page b ab less =
-      ap (page_changed effect b) (whole_part b ab (omega arith) ∙ (λ i q. kept begins.x begins.is b ab less q i))
-      ∙ cond-true (alters_at effect (grown begins.x b b)) (part_changed b (b + 1) effect (grown begins.x b)) (grown begins.x b) (ap (alters_at effect) (grown_past begins.x b (omega arith) less) ∙ does)
-      ∙ (λ i. joined_at (b + 1) (λ q. grows begins.x begins.is b ab less q i))
+      ap (page_changed no_chains effect b) (whole_part b ab (omega arith) ∙ (λ i q. kept begins.x begins.is b ab less q i))
+      ∙ cond-true (alters_at effect (grown begins.x b b)) (part_changed no_chains b (b + 1) effect (grown begins.x b)) (grown begins.x b) (ap (alters_at effect) (grown_past begins.x b (omega arith) less) ∙ does)
+      ∙ (λ i. joined_at no_chains (b + 1) (λ q. grows begins.x begins.is b ab less q i))
       ∙ sym (whole_part (b + 1) (omega arith) (omega arith))
 
-  pub page_by_page : (n : ℕ) → a + suc n ≤ past_of area → pages_changed effect a (suc n) on ≡ part_changed a (a + suc n) effect on
-  page_by_page zero high = cond-true (alters_at effect (on a)) (part_changed a (a + 1) effect on) on (ap (alters_at effect) here ∙ does)
+  pub page_by_page : (n : ℕ) → a + suc n ≤ past_of area → pages_changed no_chains effect a (suc n) on ≡ part_changed no_chains a (a + suc n) effect on
+  page_by_page zero high = cond-true (alters_at effect (on a)) (part_changed no_chains a (a + 1) effect on) on (ap (alters_at effect) here ∙ does)
   page_by_page (suc n) high =
       let same : (a + suc n) + 1 ≡ a + suc (suc n) = omega arith in
       pages_and_one effect a (suc n) on
-      ∙ ap (page_changed effect (a + suc n)) (page_by_page n (omega arith))
+      ∙ ap (page_changed no_chains effect (a + suc n)) (page_by_page n (omega arith))
       ∙ next_page (a + suc n) (omega arith) (omega arith)
-      ∙ ap (λ c. part_changed a c effect on) same
+      ∙ ap (λ c. part_changed no_chains a c effect on) same

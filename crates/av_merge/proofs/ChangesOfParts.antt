@@ -8,8 +8,8 @@ use Rattle.av_vma.specs.Join.{first_of, past_of, same_prot}
 use Rattle.av_base.specs.Words.{within, with_at}
 use Rattle.av_vmatree.specs.declared.span.Span.{Span}
 use Rattle.av_vmatree.specs.Spans.{area_at, span_of}
-use Rattle.av_merge.specs.Mapping.{DoDiffer, Mapping, mapping, mapping_in, remapped}
-use Rattle.av_vma.specs.Pages.{AreLaid, Pages, alters, cut_at, has_page, joined_around, joined_at, part_of, Effect, with_effect, affected, IsWhole}
+use Rattle.av_merge.specs.Mapping.{DoDiffer, Mapping, mapping, mapping_in, mapping_with}
+use Rattle.av_vma.specs.Pages.{AreLaid, Pages, alters, cut_at, has_page, joined_around, joined_at, part_of, Effect, with_effect, with_effect_on, IsWhole, no_chains}
 use Rattle.av_merge.specs.Pages.{pages_by}
 use Rattle.av_merge.specs.Process.{AreAreasOf, IsAreaOf, Stays}
 use Rattle.av_merge.proofs.Places.{IsOn, change_others, change_pages, change_stands, has_from, has_parts, is_on, one_area, stays_trans, within_from, within_parts}
@@ -95,7 +95,7 @@ module _ (p from past number : ℕ) (effect : Effect) (area : Area) (areas two c
       (record { areas = changed_stands; others = change_others p number on.span (with_effect effect area) two changed spans'' stays.areas there is now })
 
   -- the part's area is that of its pages alone, and has the effect
-  changed_pages : (page : ℕ) → pages_by changed spans'' page ≡ affected from past effect (cut_at past (cut_at from (pages_by areas spans))) page
+  changed_pages : (page : ℕ) → pages_by changed spans'' page ≡ with_effect_on from past effect (cut_at past (cut_at from (pages_by areas spans))) page
   changed_pages page =
       change_pages p number on.span (with_effect effect area) two changed spans'' stays.areas there is now page
       ∙ ap (λ b. cond b (Some (with_effect effect area)) (pages_by two spans'' page)) bounds
@@ -115,11 +115,11 @@ module _ (p from past number : ℕ) (effect : Effect) (area : Area) (areas two c
   laid_after = laid_of p changed spans'' changed_stands
 
   -- how each page is mapped when the part has the effect
-  changed_mapping : (page : ℕ) → mapping (pages_by changed spans'') page ≡ cond (within from (past - from) page) (option_map (remapped effect) (mapping (pages_by areas spans) page)) (mapping (pages_by areas spans) page)
+  changed_mapping : (page : ℕ) → mapping (pages_by changed spans'') page ≡ cond (within from (past - from) page) (option_map (mapping_with effect) (mapping (pages_by areas spans) page)) (mapping (pages_by areas spans) page)
   changed_mapping page =
       ap (option_map (mapping_in page)) (changed_pages page)
       ∙ changed_maps from past effect (cut_at past (cut_at from (pages_by areas spans))) page
-      ∙ ap (λ (m : Option Mapping). cond (within from (past - from) page) (option_map (remapped effect) m) m) (cut_maps past (cut_at from (pages_by areas spans)) (laid_cut from (pages_by areas spans) laid) page ∙ cut_maps from (pages_by areas spans) laid page)
+      ∙ ap (λ (m : Option Mapping). cond (within from (past - from) page) (option_map (mapping_with effect) m) m) (cut_maps past (cut_at from (pages_by areas spans)) (laid_cut from (pages_by areas spans) laid) page ∙ cut_maps from (pages_by areas spans) laid page)
 
   -- the area that the part is of, where the effect makes it another
   module _ (one : Area) (there : pages_by areas spans from ≡ Some one) (altered : alters effect one ≡ true) where
@@ -130,39 +130,39 @@ module _ (p from past number : ℕ) (effect : Effect) (area : Area) (areas two c
     on_one page least most = ap (option_map (mapping_in page)) (laid.all from page one there (has_from one page least most))
 
     -- in the part and beside it
-    changed_in : (page : ℕ) → from ≤ page → page < past → page < past_of one → mapping (pages_by changed spans'') page ≡ Some (remapped effect (mapping_in page one))
+    changed_in : (page : ℕ) → from ≤ page → page < past → page < past_of one → mapping (pages_by changed spans'') page ≡ Some (mapping_with effect (mapping_in page one))
     changed_in page least most inside =
         let least_of = low in
         changed_mapping page
-        ∙ ap (λ b. cond b (option_map (remapped effect) (mapping (pages_by areas spans) page)) (mapping (pages_by areas spans) page)) (within_from from (past - from) page least (omega arith))
-        ∙ ap (option_map (remapped effect)) (on_one page (omega arith) inside)
+        ∙ ap (λ b. cond b (option_map (mapping_with effect) (mapping (pages_by areas spans) page)) (mapping (pages_by areas spans) page)) (within_from from (past - from) page least (omega arith))
+        ∙ ap (option_map (mapping_with effect)) (on_one page (omega arith) inside)
 
     beside : (page : ℕ) → (from ≤ page → page < past → ⊥) → first_of one ≤ page → page < past_of one → mapping (pages_by changed spans'') page ≡ Some (mapping_in page one)
     beside page out least most =
         changed_mapping page
-        ∙ ap (λ b. cond b (option_map (remapped effect) (mapping (pages_by areas spans) page)) (mapping (pages_by areas spans) page)) (false_from_ne_true _ (λ h. let k = within_parts from (past - from) page h in let first = k.0 in let last = k.1 in out first (omega arith)))
+        ∙ ap (λ b. cond b (option_map (mapping_with effect) (mapping (pages_by areas spans) page)) (mapping (pages_by areas spans) page)) (false_from_ne_true _ (λ h. let k = within_parts from (past - from) page h in let first = k.0 in let last = k.1 in out first (omega arith)))
         ∙ on_one page least most
 
     pub differs_below : first_of one < from → DoDiffer from (pages_by changed spans'')
     differs_below below =
         let high = (has_parts one from (laid.here from one there)).1 in
-        differ_at from (pages_by changed spans'') (mapping_in (from - 1) one) (remapped effect (mapping_in from one))
+        differ_at from (pages_by changed spans'') (mapping_in (from - 1) one) (mapping_with effect (mapping_in from one))
         (beside (from - 1) (λ first last. omega arith) (omega arith) (omega arith))
         (changed_in from (omega arith) some high)
         (λ prot flags. not_so effect one altered (sym prot) (sym flags))
 
-    pub differs_above : past < past_of one → DoDiffer past (joined_at from (pages_by changed spans''))
+    pub differs_above : past < past_of one → DoDiffer past (joined_at no_chains from (pages_by changed spans''))
     differs_above above =
         let least = low in
-        differ_at past (joined_at from (pages_by changed spans'')) (remapped effect (mapping_in (past - 1) one)) (mapping_in past one)
+        differ_at past (joined_at no_chains from (pages_by changed spans'')) (mapping_with effect (mapping_in (past - 1) one)) (mapping_in past one)
         (joined_maps from (pages_by changed spans'') laid_after (past - 1) ∙ changed_in (past - 1) (omega arith) (omega arith) (omega arith))
         (joined_maps from (pages_by changed spans'') laid_after past ∙ beside past (λ first last. omega arith) (omega arith) above)
         (not_so effect one altered)
 
-  pub part_pages : {T E : Type 0} (r : Result T E) (new : Pages) → OnOk r ((page : ℕ) → new page ≡ joined_around from past (pages_by changed spans'') page) → OnOk r ((page : ℕ) → new page ≡ joined_around from past (affected from past effect (cut_at past (cut_at from (pages_by areas spans)))) page)
-  part_pages (Ok x) new h = λ page. h page ∙ (λ i. joined_around from past (λ q. changed_pages q i) page)
+  pub part_pages : {T E : Type 0} (r : Result T E) (new : Pages) → OnOk r ((page : ℕ) → new page ≡ joined_around no_chains from past (pages_by changed spans'') page) → OnOk r ((page : ℕ) → new page ≡ joined_around no_chains from past (with_effect_on from past effect (cut_at past (cut_at from (pages_by areas spans)))) page)
+  part_pages (Ok x) new h = λ page. h page ∙ (λ i. joined_around no_chains from past (λ q. changed_pages q i) page)
   part_pages (Err e) new h = tt
 
-  pub part_mapping : {T E : Type 0} (r : Result T E) (new : Pages) → OnOk r ((page : ℕ) → new page ≡ joined_around from past (pages_by changed spans'') page) → OnOk r ((page : ℕ) → mapping new page ≡ cond (within from (past - from) page) (option_map (remapped effect) (mapping (pages_by areas spans) page)) (mapping (pages_by areas spans) page))
+  pub part_mapping : {T E : Type 0} (r : Result T E) (new : Pages) → OnOk r ((page : ℕ) → new page ≡ joined_around no_chains from past (pages_by changed spans'') page) → OnOk r ((page : ℕ) → mapping new page ≡ cond (within from (past - from) page) (option_map (mapping_with effect) (mapping (pages_by areas spans) page)) (mapping (pages_by areas spans) page))
   part_mapping (Ok x) new h = λ page. part_maps_to from past effect (pages_by areas spans) (pages_by changed spans'') new laid laid_after changed_pages h page
   part_mapping (Err e) new h = tt

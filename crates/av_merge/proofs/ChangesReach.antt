@@ -7,9 +7,9 @@ use Rattle.av_vma.specs.declared.area.Area.{Area}
 use Rattle.av_vma.specs.Join.{past_of, same_prot}
 use Rattle.av_base.specs.Words.{within}
 use Rattle.av_vmatree.specs.declared.span.Span.{Span}
-use Rattle.av_vmatree.specs.Spans.{area_at, taken}
-use Rattle.av_merge.specs.Mapping.{IsRemapped, mapping, mapping_in, remapped}
-use Rattle.av_vma.specs.Pages.{Effect, Pages, alters, alters_at, page_changed, part_changed, pages_changed}
+use Rattle.av_vmatree.specs.Spans.{area_at, is_page_taken}
+use Rattle.av_merge.specs.Mapping.{IsRemapped, mapping, mapping_in, mapping_with}
+use Rattle.av_vma.specs.Pages.{Effect, Pages, alters, alters_at, page_changed, part_changed, pages_changed, no_chains}
 use Rattle.av_merge.specs.Pages.{IsReached, pages_by}
 use Rattle.av_merge.specs.Process.{AreAreasOf, Stays}
 use Rattle.av_merge.proofs.Places.{has_from, has_parts, is_on, one_area, others_refl, stays_trans, taken_is}
@@ -20,9 +20,9 @@ pub record IsDone (from page to : ℕ) (effect : Effect) (old new : ℕ → Opti
   pub stays : (p : ℕ) → AreAreasOf p old before → Stays p old new spans
   pub lowest : from ≤ page
   pub highest : page ≤ to
-  pub all : (q : ℕ) → from ≤ q → q < page → taken before q ≡ true
+  pub all : (q : ℕ) → from ≤ q → q < page → is_page_taken before q ≡ true
   pub pages : IsRemapped from page effect (pages_by old before) (pages_by new spans)
-  pub exact : pages_by new spans ≡ pages_changed effect from (page - from) (pages_by old before)
+  pub exact : pages_by new spans ≡ pages_changed no_chains effect from (page - from) (pages_by old before)
 
 -- an area that a change leaves as it was
 record IsSo (effect : Effect) (area : Area) : Type 0 where
@@ -37,21 +37,21 @@ is_so effect area e =
 -- ---- pages in turn
 
 -- some pages, and then some more
-pages_then : (effect : Effect) (a m n : ℕ) (on : Pages) → pages_changed effect (a + m) n (pages_changed effect a m on) ≡ pages_changed effect a (m + n) on
-pages_then effect a zero n on = (let first : a + 0 ≡ a = omega arith in let all : n ≡ 0 + n = omega arith in λ i. pages_changed effect (first i) (all i) on)
+pages_then : (effect : Effect) (a m n : ℕ) (on : Pages) → pages_changed no_chains effect (a + m) n (pages_changed no_chains effect a m on) ≡ pages_changed no_chains effect a (m + n) on
+pages_then effect a zero n on = (let first : a + 0 ≡ a = omega arith in let all : n ≡ 0 + n = omega arith in λ i. pages_changed no_chains effect (first i) (all i) on)
 pages_then effect a (suc m) n on =
     let first : a + suc m ≡ (a + 1) + m = omega arith in
     let all : suc (m + n) ≡ suc m + n = omega arith in
-    ap (λ c. pages_changed effect c n (pages_changed effect (a + 1) m (page_changed effect a on))) first
-    ∙ pages_then effect (a + 1) m n (page_changed effect a on)
-    ∙ ap (λ c. pages_changed effect a c on) all
+    ap (λ c. pages_changed no_chains effect c n (pages_changed no_chains effect (a + 1) m (page_changed no_chains effect a on))) first
+    ∙ pages_then effect (a + 1) m n (page_changed no_chains effect a on)
+    ∙ ap (λ c. pages_changed no_chains effect a c on) all
 
 -- pages that are so already stay
-pages_stay : (effect : Effect) (a n : ℕ) (on : Pages) → ((q : ℕ) → a ≤ q → q < a + n → alters_at effect (on q) ≡ false) → pages_changed effect a n on ≡ on
+pages_stay : (effect : Effect) (a n : ℕ) (on : Pages) → ((q : ℕ) → a ≤ q → q < a + n → alters_at effect (on q) ≡ false) → pages_changed no_chains effect a n on ≡ on
 pages_stay effect a zero on so = refl
 pages_stay effect a (suc n) on so =
     let first = cond-false (alters_at effect (on a)) _ on (so a (omega arith) (omega arith)) in
-    ap (pages_changed effect (a + 1) n) first
+    ap (pages_changed no_chains effect (a + 1) n) first
     ∙ pages_stay effect (a + 1) n on (λ q low high. so q (omega arith) (omega arith))
 
 -- ---- tests of ranges
@@ -83,8 +83,8 @@ done_first from to effect areas spans forward = record {
   lowest = omega arith;
   highest = forward;
   all = λ q low high. absurd (omega arith);
-  pages = λ page. ap (λ b. cond b (option_map (remapped effect) (mapping (pages_by areas spans) page)) (mapping (pages_by areas spans) page)) (sym (in_none from page));
-  exact = (let none : 0 ≡ from - from = omega arith in ap (λ n. pages_changed effect from n (pages_by areas spans)) none);
+  pages = λ page. ap (λ b. cond b (option_map (mapping_with effect) (mapping (pages_by areas spans) page)) (mapping (pages_by areas spans) page)) (sym (in_none from page));
+  exact = (let none : 0 ≡ from - from = omega arith in ap (λ n. pages_changed no_chains effect from n (pages_by areas spans)) none);
 }
 
 module _ (p from page to : ℕ) (effect : Effect) (old new : ℕ → Option Area) (before spans : List Span)
@@ -94,9 +94,9 @@ module _ (p from page to : ℕ) (effect : Effect) (old new : ℕ → Option Area
 
   -- from the page on, nothing changed yet
   later : (q : ℕ) → page ≤ q → mapping (pages_by new spans) q ≡ mapping (pages_by old before) q
-  later q low = done.pages q ∙ ap (λ b. cond b (option_map (remapped effect) (mapping (pages_by old before) q)) (mapping (pages_by old before) q)) (past_it from page q low)
+  later q low = done.pages q ∙ ap (λ b. cond b (option_map (mapping_with effect) (mapping (pages_by old before) q)) (mapping (pages_by old before) q)) (past_it from page q low)
 
-  later_taken : (q : ℕ) → page ≤ q → taken before q ≡ taken spans q
+  later_taken : (q : ℕ) → page ≤ q → is_page_taken before q ≡ is_page_taken spans q
   later_taken q low =
       sym (taken_is p old before q stands)
       ∙ sym (some_mapped (pages_by old before) q)
@@ -111,7 +111,7 @@ module _ (p from page to : ℕ) (effect : Effect) (old new : ℕ → Option Area
   pub goes_on : (n : ℕ) (area : Area) → area_at spans page ≡ Some n → new n ≡ Some area → page < past_of area
   goes_on n area at is = (has_parts area page (is_on p new spans page area there (ap (option_and_then new) at ∙ is)).has).1
 
-  pub reached_hole : page < to → area_at spans page ≡ None → IsReached (taken before) from to page
+  pub reached_hole : page < to → area_at spans page ≡ None → IsReached (is_page_taken before) from to page
   reached_hole less hole = record {
     lowest = done.lowest;
     highest = done.highest;
@@ -119,7 +119,7 @@ module _ (p from page to : ℕ) (effect : Effect) (old new : ℕ → Option Area
     end = λ _. later_taken page (omega arith) ∙ ap is_some hole;
   }
 
-  pub reached_end : to ≤ page → IsReached (taken before) from to to
+  pub reached_end : to ≤ page → IsReached (is_page_taken before) from to to
   reached_end past =
       let highest = done.highest in
       let same : page ≡ to = omega arith in
@@ -131,11 +131,11 @@ module _ (p from page to : ℕ) (effect : Effect) (old new : ℕ → Option Area
         end = λ less. absurd (omega arith);
       }
 
-  pub exact_end : to ≤ page → pages_by new spans ≡ pages_changed effect from (to - from) (pages_by old before)
+  pub exact_end : to ≤ page → pages_by new spans ≡ pages_changed no_chains effect from (to - from) (pages_by old before)
   exact_end past =
       let highest = done.highest in
       let same : page ≡ to = omega arith in
-      done.exact ∙ ap (λ n. pages_changed effect from (n - from) (pages_by old before)) same
+      done.exact ∙ ap (λ n. pages_changed no_chains effect from (n - from) (pages_by old before)) same
 
   pub pages_end : to ≤ page → IsRemapped from to effect (pages_by old before) (pages_by new spans)
   pages_end past =
@@ -144,7 +144,7 @@ module _ (p from page to : ℕ) (effect : Effect) (old new : ℕ → Option Area
       subst (λ n. IsRemapped from n effect (pages_by old before) (pages_by new spans)) same done.pages
 
   -- an area's pages from here on get the protection
-  pub done_step : (past : ℕ) (area : Area) (next : ℕ → Option Area) (spans' : List Span) → pages_by new spans page ≡ Some area → page < past → past ≤ past_of area → past ≤ to → ((q : ℕ) → AreAreasOf q new spans → Stays q new next spans') → IsRemapped page past effect (pages_by new spans) (pages_by next spans') → pages_by next spans' ≡ pages_changed effect page (past - page) (pages_by new spans) → IsDone from past to effect old next before spans'
+  pub done_step : (past : ℕ) (area : Area) (next : ℕ → Option Area) (spans' : List Span) → pages_by new spans page ≡ Some area → page < past → past ≤ past_of area → past ≤ to → ((q : ℕ) → AreAreasOf q new spans → Stays q new next spans') → IsRemapped page past effect (pages_by new spans) (pages_by next spans') → pages_by next spans' ≡ pages_changed no_chains effect page (past - page) (pages_by new spans) → IsDone from past to effect old next before spans'
   done_step past area next spans' here less far high stays changed exact = record {
     stays = λ q is. let one = done.stays q is in stays_trans q old new next spans spans' one (stays q one.areas);
     lowest = let lowest = done.lowest in omega arith;
@@ -157,19 +157,19 @@ module _ (p from page to : ℕ) (effect : Effect) (old new : ℕ → Option Area
     ];
     pages = λ q.
         changed q
-        ∙ elim (within page (past - page) q) as (λ b. within page (past - page) q ≡ b → cond b (option_map (remapped effect) (mapping (pages_by new spans) q)) (mapping (pages_by new spans) q) ≡ cond (cond b true (within from (page - from) q)) (option_map (remapped effect) (mapping (pages_by old before) q)) (mapping (pages_by old before) q)) [
-          | true ↦ λ h. ap (option_map (remapped effect)) (done.pages q ∙ ap (λ b. cond b (option_map (remapped effect) (mapping (pages_by old before) q)) (mapping (pages_by old before) q)) (apart from page past q h))
+        ∙ elim (within page (past - page) q) as (λ b. within page (past - page) q ≡ b → cond b (option_map (mapping_with effect) (mapping (pages_by new spans) q)) (mapping (pages_by new spans) q) ≡ cond (cond b true (within from (page - from) q)) (option_map (mapping_with effect) (mapping (pages_by old before) q)) (mapping (pages_by old before) q)) [
+          | true ↦ λ h. ap (option_map (mapping_with effect)) (done.pages q ∙ ap (λ b. cond b (option_map (mapping_with effect) (mapping (pages_by old before) q)) (mapping (pages_by old before) q)) (apart from page past q h))
           | false ↦ λ h. done.pages q
         ] refl
-        ∙ ap (λ b. cond b (option_map (remapped effect) (mapping (pages_by old before) q)) (mapping (pages_by old before) q)) (sym (two_ranges from page past q done.lowest (omega arith)));
+        ∙ ap (λ b. cond b (option_map (mapping_with effect) (mapping (pages_by old before) q)) (mapping (pages_by old before) q)) (sym (two_ranges from page past q done.lowest (omega arith)));
     exact =
         let lowest = done.lowest in
         let here : page ≡ from + (page - from) = omega arith in
         let all : (page - from) + (past - page) ≡ past - from = omega arith in
         exact
-        ∙ (λ i. pages_changed effect (here i) (past - page) (done.exact i))
+        ∙ (λ i. pages_changed no_chains effect (here i) (past - page) (done.exact i))
         ∙ pages_then effect from (page - from) (past - page) (pages_by old before)
-        ∙ ap (λ n. pages_changed effect from n (pages_by old before)) all;
+        ∙ ap (λ n. pages_changed no_chains effect from n (pages_by old before)) all;
   }
 
   -- where an area is so already, its pages need no change
@@ -180,7 +180,7 @@ module _ (p from page to : ℕ) (effect : Effect) (old new : ℕ → Option Area
         one_area p new spans page q area there here (has_from area q (omega arith) (omega arith))
 
     pub same_already : IsRemapped page past effect (pages_by new spans) (pages_by new spans)
-    same_already q = elim (within page (past - page) q) as (λ b. within page (past - page) q ≡ b → mapping (pages_by new spans) q ≡ cond b (option_map (remapped effect) (mapping (pages_by new spans) q)) (mapping (pages_by new spans) q)) [
+    same_already q = elim (within page (past - page) q) as (λ b. within page (past - page) q ≡ b → mapping (pages_by new spans) q ≡ cond b (option_map (mapping_with effect) (mapping (pages_by new spans) q)) (mapping (pages_by new spans) q)) [
       | true ↦ λ h.
           let low : page ≤ q = grind (arith, nat_tests) in
           let high : q < past = grind (arith, nat_tests) in
@@ -188,20 +188,20 @@ module _ (p from page to : ℕ) (effect : Effect) (old new : ℕ → Option Area
           let so = is_so effect area same in
           ap (option_map (mapping_in q)) on
           ∙ (λ i. Some (record (mapping_in q area) { prot = sym so.prot i; flags = sym so.flags i }))
-          ∙ sym (ap (λ o. option_map (remapped effect) (option_map (mapping_in q) o)) on)
+          ∙ sym (ap (λ o. option_map (mapping_with effect) (option_map (mapping_in q) o)) on)
       | false ↦ λ h. refl
     ] refl
 
-    pub same_exact : page ≤ past → pages_by new spans ≡ pages_changed effect page (past - page) (pages_by new spans)
+    pub same_exact : page ≤ past → pages_by new spans ≡ pages_changed no_chains effect page (past - page) (pages_by new spans)
     same_exact le = sym (pages_stay effect page (past - page) (pages_by new spans) (λ q low high. ap (alters_at effect) (there_too q low (omega arith)) ∙ same))
 
   -- a part of an area that was changed at once was changed page by page
-  pub part_exact : (past : ℕ) (area : Area) → pages_by new spans page ≡ Some area → page < past → past ≤ past_of area → (b : Bool) → b ≡ alters effect area → b ≡ true → (next : Pages) → ((q : ℕ) → next q ≡ part_changed page past effect (pages_by new spans) q) → next ≡ pages_changed effect page (past - page) (pages_by new spans)
+  pub part_exact : (past : ℕ) (area : Area) → pages_by new spans page ≡ Some area → page < past → past ≤ past_of area → (b : Bool) → b ≡ alters effect area → b ≡ true → (next : Pages) → ((q : ℕ) → next q ≡ part_changed no_chains page past effect (pages_by new spans) q) → next ≡ pages_changed no_chains effect page (past - page) (pages_by new spans)
   part_exact past area here less far b is does next pages =
       let n = past - page - 1 in
       let all : page + suc n ≡ past = omega arith in
       let many : suc n ≡ past - page = omega arith in
       (λ i q. pages q i)
-      ∙ ap (λ c. part_changed page c effect (pages_by new spans)) (sym all)
+      ∙ ap (λ c. part_changed no_chains page c effect (pages_by new spans)) (sym all)
       ∙ sym (page_by_page effect (pages_by new spans) (laid_of p new spans there) page area here (sym is ∙ does) n (omega arith))
-      ∙ ap (λ k. pages_changed effect page k (pages_by new spans)) many
+      ∙ ap (λ k. pages_changed no_chains effect page k (pages_by new spans)) many

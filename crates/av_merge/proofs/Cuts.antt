@@ -9,7 +9,7 @@ use Rattle.av_base.specs.Words.{within, with_at}
 use Rattle.av_vmatree.specs.declared.span.Span.{Span}
 use Rattle.av_vmatree.specs.Spans.{AreApart, area_at, last_below, span_of, unless_area}
 use Rattle.av_vmatree.proofs.Sides.{below_must}
-use Rattle.av_vma.specs.Pages.{AreLaid, Pages, cut_at, has_page, part_of, placed, unmapped, IsWhole}
+use Rattle.av_vma.specs.Pages.{AreLaid, Pages, cut_at, has_page, part_of, with_area, after_unmap, IsWhole}
 use Rattle.av_merge.specs.Pages.{pages_by}
 use Rattle.av_merge.specs.Process.{AreAreasOf, IsAreaOf, NoneCrosses}
 use Rattle.av_merge.proofs.Places.{area_in, has_from, has_parts, holds_is, holds_parts, is_on, on_span, pages_without, span_at, within_from, within_parts}
@@ -87,8 +87,8 @@ module _ (on : Pages) (from to : ℕ) (area : Area) (are : AreLaid on) (there : 
       let same : area ≡ other = same_Some area other (sym (are.all from at area there (has_from area at (omega arith) high)) ∙ there') in
       both_ways _ out (ap (λ a. has_page a page) same ∙ are.here page other e))))
 
-  outside : has_page (upper_of to area) page ≡ false → has_page (lower_of from area) page ≡ false → without area on page ≡ unmapped from to on page
-  outside h k = elim (has_page area page) as (λ b. has_page area page ≡ b → cond b None (on page) ≡ unmapped from to on page) [
+  outside : has_page (upper_of to area) page ≡ false → has_page (lower_of from area) page ≡ false → without area on page ≡ after_unmap from to on page
+  outside h k = elim (has_page area page) as (λ b. has_page area page ≡ b → cond b None (on page) ≡ after_unmap from to on page) [
     | true ↦ λ has.
         let low : first_of area ≤ page = (has_parts area page has).0 in
         let high : page < past_of area = (has_parts area page has).1 in
@@ -117,9 +117,9 @@ module _ (on : Pages) (from to : ℕ) (area : Area) (are : AreLaid on) (there : 
           ∙ other_stays to (omega arith) inside out o e
           ∙ ap (option_map (part_of to page)) (other_stays from below (omega arith) out o e)
 
-  pub cut_through : placed (upper_of to area) (placed (lower_of from area) (without area on)) page ≡ unmapped from to on page
+  pub cut_through : with_area (upper_of to area) (with_area (lower_of from area) (without area on)) page ≡ after_unmap from to on page
   cut_through =
-      elim (has_page (upper_of to area) page) as (λ b. has_page (upper_of to area) page ≡ b → cond b (Some (upper_of to area)) (placed (lower_of from area) (without area on) page) ≡ unmapped from to on page) [
+      elim (has_page (upper_of to area) page) as (λ b. has_page (upper_of to area) page ≡ b → cond b (Some (upper_of to area)) (with_area (lower_of from area) (without area on) page) ≡ after_unmap from to on page) [
         | true ↦ λ h.
             let low : first_of (upper_of to area) ≤ page = (has_parts (upper_of to area) page h).0 in
             let high : page < past_of area = (has_parts (upper_of to area) page h).1 in
@@ -127,7 +127,7 @@ module _ (on : Pages) (from to : ℕ) (area : Area) (are : AreLaid on) (there : 
             let here : on page ≡ Some area = are.all from page area there (has_from area page (omega arith) high) in
             let out : within from (to - from) page ≡ false = false_from_ne_true _ (λ h. let k = (within_parts from (to - from) page h).1 in omega arith) in
             rw (out, here) (ap Some (sym (upper_part at_page)))
-        | false ↦ λ h. elim (has_page (lower_of from area) page) as (λ b. has_page (lower_of from area) page ≡ b → cond b (Some (lower_of from area)) (without area on page) ≡ unmapped from to on page) [
+        | false ↦ λ h. elim (has_page (lower_of from area) page) as (λ b. has_page (lower_of from area) page ≡ b → cond b (Some (lower_of from area)) (without area on page) ≡ after_unmap from to on page) [
           | true ↦ λ k.
               let low : first_of area ≤ page = (has_parts (lower_of from area) page k).0 in
               let high : page < past_of (lower_of from area) = (has_parts (lower_of from area) page k).1 in
@@ -151,7 +151,7 @@ cut_starts on at area e = each (on at) e
         omega arith
 
 -- where no page goes, an area is cut in two
-pub only_cut : (at : ℕ) (on : Pages) → AreLaid on → (page : ℕ) → unmapped at at on page ≡ cut_at at on page
+pub only_cut : (at : ℕ) (on : Pages) → AreLaid on → (page : ℕ) → after_unmap at at on page ≡ cut_at at on page
 only_cut at on are page =
     ap (λ b. cond b None (cut_at at (cut_at at on) page)) none
     ∙ sym (uncut (cut_at at on) at (laid_cut at on are) (λ area e. cut_starts on at area e) page)
@@ -190,7 +190,7 @@ module _ (p n from to : ℕ) (areas : ℕ → Option Area) (spans : List Span) (
   rest_is page = pages_without p n c.span areas spans stands c.there page ∙ ap (λ b. cond b None (pages_by areas spans page)) (holds_is p c.span area page c.is)
 
   -- the two parts have been put
-  pub split_pages : (areas' : ℕ → Option Area) (spans' : List Span) → ((page : ℕ) → pages_by areas' spans' page ≡ placed (upper_of to area) (placed (lower_of from area) (pages_by (with_at n None areas) spans)) page) → (page : ℕ) → pages_by areas' spans' page ≡ unmapped from to (pages_by areas spans) page
+  pub split_pages : (areas' : ℕ → Option Area) (spans' : List Span) → ((page : ℕ) → pages_by areas' spans' page ≡ with_area (upper_of to area) (with_area (lower_of from area) (pages_by (with_at n None areas) spans)) page) → (page : ℕ) → pages_by areas' spans' page ≡ after_unmap from to (pages_by areas spans) page
   split_pages areas' spans' pages' page =
       pages' page
       ∙ ap (λ o. cond (has_page (upper_of to area) page) (Some (upper_of to area)) (cond (has_page (lower_of from area) page) (Some (lower_of from area)) o)) (rest_is page)

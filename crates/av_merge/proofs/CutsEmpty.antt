@@ -8,7 +8,7 @@ use Rattle.av_base.specs.Words.{within, with_at}
 use Rattle.av_vmatree.specs.declared.span.Span.{Span}
 use Rattle.av_vmatree.specs.Spans.{AreApart, AreDistinct, AreSpans, area_after, area_at, holds, span_of, unless_area, without_area}
 use Rattle.av_vmatree.proofs.Sides.{in_row}
-use Rattle.av_vma.specs.Pages.{Pages, emptied}
+use Rattle.av_vma.specs.Pages.{Pages, without_range}
 use Rattle.av_merge.specs.Pages.{pages_by}
 use Rattle.av_merge.specs.Process.{AreAreasOf, IsAreaOf, NoneCrosses, Stays}
 use Rattle.av_merge.proofs.Places.{area_in, has_parts, holds_parts, is_on, on_span, later_from, pages_without, stays_trans, take_others, take_pages, take_stands, within_from, within_parts}
@@ -79,7 +79,7 @@ pub record AreTaken (from to : ℕ) (old : ℕ → Option Area) (before : List S
   pub stands : (p : ℕ) → AreAreasOf p old before → Stays p old areas spans
   pub lower : NoneCrosses from spans
   pub upper : NoneCrosses to spans
-  pub pages : (page : ℕ) → emptied from to (pages_by areas spans) page ≡ emptied from to (pages_by old before) page
+  pub pages : (page : ℕ) → without_range from to (pages_by areas spans) page ≡ without_range from to (pages_by old before) page
 
 none_fewer : (at n : ℕ) (spans spans' : List Span) → ((k : ℕ) → span_of spans' k ≡ with_at n None (span_of spans) k) → NoneCrosses at spans → NoneCrosses at spans'
 none_fewer at n spans spans' now none k = subst (λ o. IfSome o (λ s. s.from < at → s.to ≤ at)) (sym (now k)) (elim (k == n) as (λ b. IfSome (cond b None (span_of spans k)) (λ s. s.from < at → s.to ≤ at)) [ true ↦ tt | false ↦ none k ])
@@ -94,7 +94,7 @@ module _ (from to : ℕ) (old : ℕ → Option Area) (before : List Span) (areas
       omega arith
 
   -- no area that begins in the range is left
-  pub all_taken : ((k : ℕ) (t : Span) → span_of spans k ≡ Some t → from - 1 < t.from → to ≤ t.from) → (page : ℕ) → pages_by areas spans page ≡ emptied from to (pages_by old before) page
+  pub all_taken : ((k : ℕ) (t : Span) → span_of spans k ≡ Some t → from - 1 < t.from → to ≤ t.from) → (page : ℕ) → pages_by areas spans page ≡ without_range from to (pages_by old before) page
   all_taken none page = elim (within from (to - from) page) as (λ b. within from (to - from) page ≡ b → cond b None (pages_by areas spans page) ≡ cond b None (pages_by old before page) → pages_by areas spans page ≡ cond b None (pages_by old before page)) [
     | true ↦ λ h _. each (within_parts from (to - from) page h) (pages_by areas spans page) refl
     | false ↦ λ _ e. e
@@ -157,7 +157,7 @@ next_area p areas spans page n next area stands e =
     subst (IsAreaOf p next.span) same i.is
 
 -- where all pages that a process may have are empty, no area is left
-pub all_empty : (p : ℕ) (areas : ℕ → Option Area) (spans : List Span) (on : Pages) → AreAreasOf p areas spans → ((page : ℕ) → pages_by areas spans page ≡ emptied low_page top_page on page) → spans ≡ []
+pub all_empty : (p : ℕ) (areas : ℕ → Option Area) (spans : List Span) (on : Pages) → AreAreasOf p areas spans → ((page : ℕ) → pages_by areas spans page ≡ without_range low_page top_page on page) → spans ≡ []
 all_empty p areas [] on stands empty = refl
 all_empty p areas (s ∷ spans) on stands empty =
     let there : span_of (s ∷ spans) s.area ≡ Some s = ap (λ b. cond b (Some s) (span_of spans s.area)) (same s.area) in
@@ -167,7 +167,7 @@ all_empty p areas (s ∷ spans) on stands empty =
     let low = in_range.0 in
     let high = in_range.1 in
     let here : pages_by areas (s ∷ spans) s.from ≡ Some i.area = on_span p areas (s ∷ spans) s.area s i.area s.from stands there i.area_is (omega arith) wide in
-    let none : emptied low_page top_page on s.from ≡ None = ap (λ b. cond b None (on s.from)) (within_from low_page (top_page - low_page) s.from low (omega arith)) in
+    let none : without_range low_page top_page on s.from ≡ None = ap (λ b. cond b None (on s.from)) (within_from low_page (top_page - low_page) s.from low (omega arith)) in
     let clash : Some i.area ≡ None = sym here ∙ empty s.from ∙ none in
     cc
   where

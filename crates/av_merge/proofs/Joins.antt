@@ -7,10 +7,10 @@ use Rattle.av_vma.specs.declared.area.Area.{Area}
 use Rattle.av_vma.specs.Join.{first_of, past_of}
 use Rattle.av_base.specs.Words.{with_at}
 use Rattle.av_vmatree.specs.declared.span.Span.{Span}
-use Rattle.av_vmatree.specs.Spans.{AreSpans, IsFree, area_at, first_from, last_below, span_of, taken, unless_area, without_area}
+use Rattle.av_vmatree.specs.Spans.{AreSpans, IsFree, area_at, first_from, last_below, span_of, is_page_taken, unless_area, without_area}
 use Rattle.av_vmatree.proofs.Sides.{all_wide, below_is, below_must, from_is, from_must}
 use Rattle.av_vmatree.proofs.Spans.{all_found}
-use Rattle.av_vma.specs.Pages.{Pages, has_page, join, joined_at, merged, placed, tried, IsWhole}
+use Rattle.av_vma.specs.Pages.{Pages, has_page, do_join, joined_at, join_of, with_area, after_join, IsWhole, no_chains}
 use Rattle.av_merge.specs.Mapping.{DoDiffer, mapping, mapping_in}
 use Rattle.av_merge.specs.Pages.{pages_by}
 use Rattle.av_merge.specs.Process.{AreAreasOf, Stays}
@@ -21,7 +21,7 @@ module _ (p l r at : ℕ) (lower upper : Area) (areas : ℕ → Option Area) (sp
     (stands : AreAreasOf p areas spans)
     (left_at : area_at spans (at - 1) ≡ Some l) (right_at : area_at spans at ≡ Some r)
     (lower_is : areas l ≡ Some lower) (upper_is : areas r ≡ Some upper)
-    (joins : join lower upper ≡ true) where
+    (joins : do_join no_chains lower upper ≡ true) where
   before : pages_by areas spans (at - 1) ≡ Some lower
   before = ap (option_and_then areas) left_at ∙ lower_is
 
@@ -48,7 +48,7 @@ module _ (p l r at : ℕ) (lower upper : Area) (areas : ℕ → Option Area) (sp
       let start : upper.start ≡ lower.start = ap (λ (a : Area). a.start) (sym one) in
       omega arith
 
-  pub join_whole : IsWhole (merged lower upper)
+  pub join_whole : IsWhole (join_of lower upper)
   join_whole = merged_whole lower upper on_left.is.whole on_right.is.whole joins
 
   -- where the lower area is, and where the upper one is
@@ -82,36 +82,36 @@ module _ (p l r at : ℕ) (lower upper : Area) (areas : ℕ → Option Area) (sp
     left_now : span_of spans' l ≡ Some on_left.span
     left_now = spans_now l ∙ ap (λ b. cond b None (span_of spans l)) (ne_eqb l r two) ∙ left_span
 
-    pub left_from : IsSomeAnd (span_of spans' l) (λ s. s.from ≡ first_of (merged lower upper))
-    left_from = subst (λ o. IsSomeAnd o (λ s. s.from ≡ first_of (merged lower upper))) (sym left_now) on_left.is.from
+    pub left_from : IsSomeAnd (span_of spans' l) (λ s. s.from ≡ first_of (join_of lower upper))
+    left_from = subst (λ o. IsSomeAnd o (λ s. s.from ≡ first_of (join_of lower upper))) (sym left_now) on_left.is.from
 
-    pub join_free : IsFree (taken (without_area l spans')) (first_of lower) (past_of upper)
+    pub join_free : IsFree (is_page_taken (without_area l spans')) (first_of lower) (past_of upper)
     join_free page low high =
         ap is_some (at_rest spans' l on_left.span page kept left_now ∙ ap (unless_area l) (pages_now page))
-        ∙ elim (merged_pages lower upper on_left.is.whole on_right.is.whole joins page (has_from (merged lower upper) page low high)) [
+        ∙ elim (merged_pages lower upper on_left.is.whole on_right.is.whole joins page (has_from (join_of lower upper) page low high)) [
           | inl h ↦ rw (at_left page h, ne_eqb l r two, eq-eqb l l refl) refl
           | inr h ↦ rw (at_right page h, eq-eqb r r refl) refl
         ]
 
     -- the pages of neither stay
-    rest : (page : ℕ) → has_page (merged lower upper) page ≡ false → pages_by (with_at l None areas') spans' page ≡ pages_by areas spans page
+    rest : (page : ℕ) → has_page (join_of lower upper) page ≡ false → pages_by (with_at l None areas') spans' page ≡ pages_by areas spans page
     rest page out = ap (option_and_then (with_at l None areas')) (pages_now page) ∙ go (area_at spans page) refl
       where
         go : (o : Option ℕ) → area_at spans page ≡ o → option_and_then (with_at l None areas') (unless_area r o) ≡ option_and_then areas o
         go None e = refl
         go (Some k) e =
-            let not_left : k ≢ l = λ same. both_ways (has_page (merged lower upper) page) out (left_pages lower upper on_left.is.whole on_right.is.whole joins page ((laid_of p areas spans stands).here page lower (ap (option_and_then areas) e ∙ ap areas same ∙ lower_is))) in
-            let not_right : k ≢ r = λ same. both_ways (has_page (merged lower upper) page) out (right_pages lower upper on_left.is.whole on_right.is.whole joins page ((laid_of p areas spans stands).here page upper (ap (option_and_then areas) e ∙ ap areas same ∙ upper_is))) in
+            let not_left : k ≢ l = λ same. both_ways (has_page (join_of lower upper) page) out (left_pages lower upper on_left.is.whole on_right.is.whole joins page ((laid_of p areas spans stands).here page lower (ap (option_and_then areas) e ∙ ap areas same ∙ lower_is))) in
+            let not_right : k ≢ r = λ same. both_ways (has_page (join_of lower upper) page) out (right_pages lower upper on_left.is.whole on_right.is.whole joins page ((laid_of p areas spans stands).here page upper (ap (option_and_then areas) e ∙ ap areas same ∙ upper_is))) in
             rw (ne_eqb k r not_right, ne_eqb k l not_left) (now k ∙ ap (λ b. cond b None (areas k)) (ne_eqb k r not_right))
 
-    pub join_pages : (page : ℕ) → placed (merged lower upper) (pages_by (with_at l None areas') spans') page ≡ joined_at at (pages_by areas spans) page
+    pub join_pages : (page : ℕ) → with_area (join_of lower upper) (pages_by (with_at l None areas') spans') page ≡ joined_at no_chains at (pages_by areas spans) page
     join_pages page =
-        elim (has_page (merged lower upper) page) as (λ b. has_page (merged lower upper) page ≡ b → cond b (Some (merged lower upper)) (pages_by (with_at l None areas') spans' page) ≡ cond b (Some (merged lower upper)) (pages_by areas spans page)) [
+        elim (has_page (join_of lower upper) page) as (λ b. has_page (join_of lower upper) page ≡ b → cond b (Some (join_of lower upper)) (pages_by (with_at l None areas') spans' page) ≡ cond b (Some (join_of lower upper)) (pages_by areas spans page)) [
           | true ↦ λ h. refl
           | false ↦ λ h. rest page h
         ] refl
-        ∙ ap (λ b. cond (b && has_page (merged lower upper) page) (Some (merged lower upper)) (pages_by areas spans page)) (sym joins)
-        ∙ sym (λ i. tried (before i) (after i) page (pages_by areas spans page))
+        ∙ ap (λ b. cond (b && has_page (join_of lower upper) page) (Some (join_of lower upper)) (pages_by areas spans page)) (sym joins)
+        ∙ sym (λ i. after_join no_chains (before i) (after i) page (pages_by areas spans page))
 
     pub right_taken : AreAreasOf lower.pid areas' spans'
     right_taken = subst (λ q. AreAreasOf q areas' spans') (sym on_left.is.process) (take_stands p r on_right.span areas areas' spans spans' stands right_span now kept spans_now pages_now)
@@ -126,7 +126,7 @@ module _ (p l r at : ℕ) (lower upper : Area) (areas : ℕ → Option Area) (sp
 -- ---- a boundary that is left as it is
 
 -- where the areas on its two sides don't join, trying a boundary changes nothing
-pub not_joined : (at : ℕ) (on : Pages) → ((left right : Area) → on (at - 1) ≡ Some left → on at ≡ Some right → join left right ≡ true → ⊥) → (page : ℕ) → on page ≡ joined_at at on page
+pub not_joined : (at : ℕ) (on : Pages) → ((left right : Area) → on (at - 1) ≡ Some left → on at ≡ Some right → do_join no_chains left right ≡ true → ⊥) → (page : ℕ) → on page ≡ joined_at no_chains at on page
 not_joined at on apart page = elim (tried_is at page on) [
   | inl t ↦ absurd (apart t.left t.right t.before t.after t.joins)
   | inr k ↦ sym k.is
@@ -141,7 +141,7 @@ pub record AreSides (at : ℕ) (spans : List Span) : Type 0 where
   pub ends : left.to ≡ at
   pub begins : right.from ≡ at
 
-pub sides_of : (p at : ℕ) (areas : ℕ → Option Area) (spans : List Span) (left right : Area) → AreAreasOf p areas spans → pages_by areas spans (at - 1) ≡ Some left → pages_by areas spans at ≡ Some right → join left right ≡ true → AreSides at spans
+pub sides_of : (p at : ℕ) (areas : ℕ → Option Area) (spans : List Span) (left right : Area) → AreAreasOf p areas spans → pages_by areas spans (at - 1) ≡ Some left → pages_by areas spans at ≡ Some right → do_join no_chains left right ≡ true → AreSides at spans
 sides_of p at areas spans left right stands before after joins =
     let l = is_on p areas spans (at - 1) left stands before in
     let r = is_on p areas spans at right stands after in
@@ -185,7 +185,7 @@ last_side spans at past s good some e begins ends =
     at_span spans s.area s (past - 1) good.apart k.there (omega arith) (omega arith)
 
 -- where pages are mapped with another protection or flags, their areas don't join
-pub differ_apart : (at : ℕ) (on : Pages) → DoDiffer at on → (left right : Area) → on (at - 1) ≡ Some left → on at ≡ Some right → join left right ≡ true → ⊥
+pub differ_apart : (at : ℕ) (on : Pages) → DoDiffer at on → (left right : Area) → on (at - 1) ≡ Some left → on at ≡ Some right → do_join no_chains left right ≡ true → ⊥
 differ_apart at on differ left right before after joins =
     let j = join_is left right joins in
     let first = subst (λ o. IfSome (option_map (mapping_in (at - 1)) o) (λ m. IfSome (mapping on at) (λ n. m.prot ≡ n.prot → m.flags ≡ n.flags → ⊥))) before differ in

@@ -7,8 +7,8 @@ use Rattle.av_vma.specs.declared.area.Area.{Area}
 use Rattle.av_vma.specs.Join.{first_of, past_of, same_prot, share_anon}
 use Rattle.av_base.specs.Words.{with_at}
 use Rattle.av_vmatree.specs.declared.span.Span.{Span}
-use Rattle.av_vmatree.specs.Spans.{AreSpans, IsFree, area_at, span_of, taken, unless_area, without_area}
-use Rattle.av_vma.specs.Pages.{IsWhole, Pages, has_page, join, joined_around, joined_at, merged, placed, tried}
+use Rattle.av_vmatree.specs.Spans.{AreSpans, IsFree, area_at, span_of, is_page_taken, unless_area, without_area}
+use Rattle.av_vma.specs.Pages.{IsWhole, Pages, has_page, do_join, joined_around, joined_at, join_of, with_area, after_join, no_chains}
 use Rattle.av_merge.specs.Pages.{pages_by}
 use Rattle.av_merge.specs.Process.{AreAreasOf, Stays}
 use Rattle.av_merge.proofs.Places.{at_rest, at_span, has_from, has_parts, stays_trans, take_others, take_stands}
@@ -16,7 +16,7 @@ use Rattle.av_merge.proofs.Cuts.{IsFound, found}
 use Rattle.av_merge.proofs.Mappings.{join_is, laid_of, merged_whole}
 
 -- the third goes on in the second as in the first two together
-join_runs_on : (lower inner upper : Area) → IsWhole lower → IsWhole inner → join lower inner ≡ true → join (merged lower inner) upper ≡ join inner upper
+join_runs_on : (lower inner upper : Area) → IsWhole lower → IsWhole inner → do_join no_chains lower inner ≡ true → do_join no_chains (join_of lower inner) upper ≡ do_join no_chains inner upper
 join_runs_on lower inner upper low mid joins =
     let j = join_is lower inner joins in
     let some = low.some in
@@ -25,10 +25,10 @@ join_runs_on lower inner upper low mid joins =
     λ i. (inner.end == upper.start) && same_prot (j.prot i) upper.prot && (j.flags i == upper.flags) && (same i == upper.pgoff) && share_anon ((j.one_anon ∙ j.anon) i) 0 upper.anon 0
 
 -- a boundary whose areas join
-joined_is : (at page : ℕ) (on : Pages) (left right : Area) → on (at - 1) ≡ Some left → on at ≡ Some right → join left right ≡ true → joined_at at on page ≡ placed (merged left right) on page
+joined_is : (at page : ℕ) (on : Pages) (left right : Area) → on (at - 1) ≡ Some left → on at ≡ Some right → do_join no_chains left right ≡ true → joined_at no_chains at on page ≡ with_area (join_of left right) on page
 joined_is at page on left right before after joins =
-    (λ i. tried (before i) (after i) page (on page))
-    ∙ ap (λ b. cond (b && has_page (merged left right) page) (Some (merged left right)) (on page)) joins
+    (λ i. after_join no_chains (before i) (after i) page (on page))
+    ∙ ap (λ b. cond (b && has_page (join_of left right) page) (Some (join_of left right)) (on page)) joins
 
 other_number : (areas : ℕ → Option Area) (a b : ℕ) (x y : Area) → areas a ≡ Some x → areas b ≡ Some y → first_of x < first_of y → a ≢ b
 other_number areas a b x y e f less same =
@@ -41,7 +41,7 @@ module _ (p l m r from past : ℕ) (lower inner upper : Area) (areas : ℕ → O
     (left_at : area_at spans (from - 1) ≡ Some l) (here_at : area_at spans from ≡ Some m)
     (last_at : area_at spans (past - 1) ≡ Some m) (right_at : area_at spans past ≡ Some r)
     (lower_is : areas l ≡ Some lower) (inner_is : areas m ≡ Some inner) (upper_is : areas r ≡ Some upper)
-    (joins : join lower inner ≡ true) (joins' : join inner upper ≡ true) where
+    (joins : do_join no_chains lower inner ≡ true) (joins' : do_join no_chains inner upper ≡ true) where
   on_left : IsFound p l (from - 1) areas spans lower
   on_left = found p l (from - 1) areas spans lower stands left_at lower_is
 
@@ -55,10 +55,10 @@ module _ (p l m r from past : ℕ) (lower inner upper : Area) (areas : ℕ → O
   on_right = found p r past areas spans upper stands right_at upper_is
 
   abbrev both : Area
-  both = merged lower inner
+  both = join_of lower inner
 
   abbrev pub all : Area
-  all = merged (merged lower inner) upper
+  all = join_of (join_of lower inner) upper
 
   -- where the three begin and end
   record Bounds : Type 0 where
@@ -86,14 +86,14 @@ module _ (p l m r from past : ℕ) (lower inner upper : Area) (areas : ℕ → O
       let e = on_here.is.whole.low in
       record { low = omega arith; middle = omega arith; high = u; one = one; two = two; from_is = omega arith; past_is = omega arith }
 
-  both_whole : IsWhole (merged lower inner)
+  both_whole : IsWhole (join_of lower inner)
   both_whole = merged_whole lower inner on_left.is.whole on_here.is.whole joins
 
-  all_joins : join (merged lower inner) upper ≡ true
+  all_joins : do_join no_chains (join_of lower inner) upper ≡ true
   all_joins = join_runs_on lower inner upper on_left.is.whole on_here.is.whole joins ∙ joins'
 
-  pub three_whole : IsWhole (merged (merged lower inner) upper)
-  three_whole = merged_whole (merged lower inner) upper both_whole on_right.is.whole all_joins
+  pub three_whole : IsWhole (join_of (join_of lower inner) upper)
+  three_whole = merged_whole (join_of lower inner) upper both_whole on_right.is.whole all_joins
 
   l-m : l ≢ m
   l-m = other_number areas l m lower inner lower_is inner_is bounds.low
@@ -121,44 +121,44 @@ module _ (p l m r from past : ℕ) (lower inner upper : Area) (areas : ℕ → O
   on_upper page low high = at_span spans r on_right.span page stands.spans_are.apart on_right.span_is (subst (λ n. n ≤ page) (sym on_right.is.from) low) (subst (λ n. page < n) (sym on_right.is.to) high)
 
   -- the pages when both boundaries have been tried
-  three_pages : (page : ℕ) → joined_around from past (pages_by areas spans) page ≡ placed (merged (merged lower inner) upper) (pages_by areas spans) page
+  three_pages : (page : ℕ) → joined_around no_chains from past (pages_by areas spans) page ≡ with_area (join_of (join_of lower inner) upper) (pages_by areas spans) page
   three_pages page =
-      joined_is past page (joined_at from (pages_by areas spans)) (merged lower inner) upper last_both first_upper all_joins
-      ∙ elim (has_page (merged (merged lower inner) upper) page) as (λ b. has_page (merged (merged lower inner) upper) page ≡ b → cond b (Some (merged (merged lower inner) upper)) (joined_at from (pages_by areas spans) page) ≡ cond b (Some (merged (merged lower inner) upper)) (pages_by areas spans page)) [
+      joined_is past page (joined_at no_chains from (pages_by areas spans)) (join_of lower inner) upper last_both first_upper all_joins
+      ∙ elim (has_page (join_of (join_of lower inner) upper) page) as (λ b. has_page (join_of (join_of lower inner) upper) page ≡ b → cond b (Some (join_of (join_of lower inner) upper)) (joined_at no_chains from (pages_by areas spans) page) ≡ cond b (Some (join_of (join_of lower inner) upper)) (pages_by areas spans page)) [
         | true ↦ λ h. refl
-        | false ↦ λ h. first page ∙ ap (λ b. cond b (Some (merged lower inner)) (pages_by areas spans page)) (outside h)
+        | false ↦ λ h. first page ∙ ap (λ b. cond b (Some (join_of lower inner)) (pages_by areas spans page)) (outside h)
       ] refl
     where
-      first : (q : ℕ) → joined_at from (pages_by areas spans) q ≡ placed (merged lower inner) (pages_by areas spans) q
+      first : (q : ℕ) → joined_at no_chains from (pages_by areas spans) q ≡ with_area (join_of lower inner) (pages_by areas spans) q
       first q = joined_is from q (pages_by areas spans) lower inner on_left.here on_here.here joins
 
-      last_both : joined_at from (pages_by areas spans) (past - 1) ≡ Some (merged lower inner)
+      last_both : joined_at no_chains from (pages_by areas spans) (past - 1) ≡ Some (join_of lower inner)
       last_both =
           let b = bounds in
           let one = b.low in
           let two = b.two in
           let is = b.past_is in
           let wide = b.middle in
-          first (past - 1) ∙ ap (λ b. cond b (Some (merged lower inner)) (pages_by areas spans (past - 1))) (has_from (merged lower inner) (past - 1) (omega arith) (omega arith))
+          first (past - 1) ∙ ap (λ b. cond b (Some (join_of lower inner)) (pages_by areas spans (past - 1))) (has_from (join_of lower inner) (past - 1) (omega arith) (omega arith))
 
-      first_upper : joined_at from (pages_by areas spans) past ≡ Some upper
+      first_upper : joined_at no_chains from (pages_by areas spans) past ≡ Some upper
       first_upper =
           let b = bounds in
           let two = b.two in
           let is = b.past_is in
           first past
-          ∙ ap (λ b. cond b (Some (merged lower inner)) (pages_by areas spans past)) (false_from_ne_true _ (λ h. let k = (has_parts (merged lower inner) past h).1 in omega arith))
+          ∙ ap (λ b. cond b (Some (join_of lower inner)) (pages_by areas spans past)) (false_from_ne_true _ (λ h. let k = (has_parts (join_of lower inner) past h).1 in omega arith))
           ∙ on_right.here
 
-      outside : has_page (merged (merged lower inner) upper) page ≡ false → has_page (merged lower inner) page ≡ false
+      outside : has_page (join_of (join_of lower inner) upper) page ≡ false → has_page (join_of lower inner) page ≡ false
       outside h = false_from_ne_true _ (λ k.
-          let has = has_parts (merged lower inner) page k in
+          let has = has_parts (join_of lower inner) page k in
           let low = has.0 in
           let high = has.1 in
           let b = bounds in
           let two = b.two in
           let wide = b.high in
-          both_ways _ h (has_from (merged (merged lower inner) upper) page low (omega arith)))
+          both_ways _ h (has_from (join_of (join_of lower inner) upper) page low (omega arith)))
 
   -- the middle area has been taken out
   module _ (areas' : ℕ → Option Area) (spans' : List Span)
@@ -200,7 +200,7 @@ module _ (p l m r from past : ℕ) (lower inner upper : Area) (areas : ℕ → O
       at_now : (page : ℕ) → area_at spans'' page ≡ unless_area r (unless_area m (area_at spans page))
       at_now page = pages_now' page ∙ ap (unless_area r) (pages_now page)
 
-      pub three_free : IsFree (taken (without_area l spans'')) (first_of lower) (past_of upper)
+      pub three_free : IsFree (is_page_taken (without_area l spans'')) (first_of lower) (past_of upper)
       three_free page low high =
           let b = bounds in
           let one = b.one in
@@ -215,7 +215,7 @@ module _ (p l m r from past : ℕ) (lower inner upper : Area) (areas : ℕ → O
           ]
 
       -- the pages of none of the three stay
-      rest : (page : ℕ) → has_page (merged (merged lower inner) upper) page ≡ false → pages_by (with_at l None areas'') spans'' page ≡ pages_by areas spans page
+      rest : (page : ℕ) → has_page (join_of (join_of lower inner) upper) page ≡ false → pages_by (with_at l None areas'') spans'' page ≡ pages_by areas spans page
       rest page out = ap (option_and_then (with_at l None areas'')) (at_now page) ∙ go (area_at spans page) refl
         where
           no_page : (area : Area) → first_of lower ≤ first_of area → past_of area ≤ past_of upper → pages_by areas spans page ≡ Some area → ⊥
@@ -223,7 +223,7 @@ module _ (p l m r from past : ℕ) (lower inner upper : Area) (areas : ℕ → O
               let h = has_parts area page ((laid_of p areas spans stands).here page area e) in
               let least = h.0 in
               let most = h.1 in
-              both_ways _ out (has_from (merged (merged lower inner) upper) page (omega arith) (omega arith))
+              both_ways _ out (has_from (join_of (join_of lower inner) upper) page (omega arith) (omega arith))
 
           go : (o : Option ℕ) → area_at spans page ≡ o → option_and_then (with_at l None areas'') (unless_area r (unless_area m o)) ≡ option_and_then areas o
           go None e = refl
@@ -239,9 +239,9 @@ module _ (p l m r from past : ℕ) (lower inner upper : Area) (areas : ℕ → O
               let not_right : k ≢ r = λ same. no_page upper (omega arith) (omega arith) (ap (option_and_then areas) e ∙ ap areas same ∙ upper_is) in
               rw (ne_eqb k m not_middle, ne_eqb k r not_right, ne_eqb k l not_left) (now' k ∙ ap (λ b. cond b None (areas' k)) (ne_eqb k r not_right) ∙ now k ∙ ap (λ b. cond b None (areas k)) (ne_eqb k m not_middle))
 
-      pub three_are : (page : ℕ) → placed (merged (merged lower inner) upper) (pages_by (with_at l None areas'') spans'') page ≡ joined_around from past (pages_by areas spans) page
+      pub three_are : (page : ℕ) → with_area (join_of (join_of lower inner) upper) (pages_by (with_at l None areas'') spans'') page ≡ joined_around no_chains from past (pages_by areas spans) page
       three_are page =
-          elim (has_page (merged (merged lower inner) upper) page) as (λ b. has_page (merged (merged lower inner) upper) page ≡ b → cond b (Some (merged (merged lower inner) upper)) (pages_by (with_at l None areas'') spans'' page) ≡ cond b (Some (merged (merged lower inner) upper)) (pages_by areas spans page)) [
+          elim (has_page (join_of (join_of lower inner) upper) page) as (λ b. has_page (join_of (join_of lower inner) upper) page ≡ b → cond b (Some (join_of (join_of lower inner) upper)) (pages_by (with_at l None areas'') spans'' page) ≡ cond b (Some (join_of (join_of lower inner) upper)) (pages_by areas spans page)) [
             | true ↦ λ h. refl
             | false ↦ λ h. rest page h
           ] refl

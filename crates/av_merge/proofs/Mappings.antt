@@ -9,8 +9,8 @@ use Rattle.av_base.specs.declared.prot.Prot.{Prot}
 use Rattle.av_vma.specs.Join.{first_of, past_of, index_of, same_prot, share_anon}
 use Rattle.av_base.specs.Words.{within}
 use Rattle.av_vmatree.specs.declared.span.Span.{Span}
-use Rattle.av_vma.specs.Pages.{AreLaid, Pages, has_page, part_of, cut_at, emptied, placed, Effect, with_effect, affected, merged, join, tried, joined_at, joined_around, IsWhole}
-use Rattle.av_merge.specs.Mapping.{Mapping, mapping, mapping_in, remapped}
+use Rattle.av_vma.specs.Pages.{AreLaid, Pages, has_page, part_of, cut_at, without_range, with_area, Effect, with_effect, with_effect_on, join_of, do_join, after_join, joined_at, joined_around, IsWhole, no_chains}
+use Rattle.av_merge.specs.Mapping.{Mapping, mapping, mapping_in, mapping_with}
 use Rattle.av_merge.specs.Pages.{pages_by}
 use Rattle.av_merge.specs.Process.{AreAreasOf}
 use Rattle.av_merge.proofs.Places.{has_from, has_parts, is_on, one_area}
@@ -148,7 +148,7 @@ anon_is None (Some b) e = absurd (false≢true e)
 anon_is (Some a) None e = absurd (false≢true e)
 anon_is (Some a) (Some b) e = ap Some (eqb-true a b e)
 
-pub join_is : (left right : Area) → join left right ≡ true → IsJoin left right
+pub join_is : (left right : Area) → do_join no_chains left right ≡ true → IsJoin left right
 join_is left right e =
     let p4 = and_parts (left.end == right.start && same_prot left.prot right.prot && (left.flags == right.flags) && (index_of left (past_of left) == right.pgoff)) (share_anon left.anon 0 right.anon 0) e in
     let p3 = and_parts (left.end == right.start && same_prot left.prot right.prot && (left.flags == right.flags)) (index_of left (past_of left) == right.pgoff) p4.0 in
@@ -163,16 +163,16 @@ join_is left right e =
       one_anon = either_same left.anon right.anon (anon_is left.anon right.anon p4.1);
     }
 
-pub merged_whole : (left right : Area) → IsWhole left → IsWhole right → join left right ≡ true → IsWhole (merged left right)
+pub merged_whole : (left right : Area) → IsWhole left → IsWhole right → do_join no_chains left right ≡ true → IsWhole (join_of left right)
 merged_whole left right l r e =
     let j = join_is left right e in
     record { start = l.start; end = r.end; some = omega arith; low = l.low; high = r.high; small = omega arith }
 
 -- a page of the two as one is a page of one of them
-pub merged_pages : (left right : Area) → IsWhole left → IsWhole right → join left right ≡ true → (page : ℕ) → has_page (merged left right) page ≡ true → (has_page left page ≡ true) ⊎ (has_page right page ≡ true)
+pub merged_pages : (left right : Area) → IsWhole left → IsWhole right → do_join no_chains left right ≡ true → (page : ℕ) → has_page (join_of left right) page ≡ true → (has_page left page ≡ true) ⊎ (has_page right page ≡ true)
 merged_pages left right l r e page h =
     let j = join_is left right e in
-    let parts = has_parts (merged left right) page h in
+    let parts = has_parts (join_of left right) page h in
     let low : first_of left ≤ page = parts.0 in
     let high : page < past_of right = parts.1 in
     elim (cases_lt page (past_of left)) [
@@ -180,26 +180,26 @@ merged_pages left right l r e page h =
       | inr above ↦ inr (has_from right page (omega arith) high)
     ]
 
-pub left_pages : (left right : Area) → IsWhole left → IsWhole right → join left right ≡ true → (page : ℕ) → has_page left page ≡ true → has_page (merged left right) page ≡ true
+pub left_pages : (left right : Area) → IsWhole left → IsWhole right → do_join no_chains left right ≡ true → (page : ℕ) → has_page left page ≡ true → has_page (join_of left right) page ≡ true
 left_pages left right l r e page h =
     let j = join_is left right e in
     let parts = has_parts left page h in
     let low : first_of left ≤ page = parts.0 in
     let high : page < past_of left = parts.1 in
-    has_from (merged left right) page low (omega arith)
+    has_from (join_of left right) page low (omega arith)
 
-pub right_pages : (left right : Area) → IsWhole left → IsWhole right → join left right ≡ true → (page : ℕ) → has_page right page ≡ true → has_page (merged left right) page ≡ true
+pub right_pages : (left right : Area) → IsWhole left → IsWhole right → do_join no_chains left right ≡ true → (page : ℕ) → has_page right page ≡ true → has_page (join_of left right) page ≡ true
 right_pages left right l r e page h =
     let j = join_is left right e in
     let parts = has_parts right page h in
     let low : first_of right ≤ page = parts.0 in
     let high : page < past_of right = parts.1 in
-    has_from (merged left right) page (omega arith) high
+    has_from (join_of left right) page (omega arith) high
 
-left_maps : (left right : Area) → join left right ≡ true → (page : ℕ) → mapping_in page (merged left right) ≡ mapping_in page left
+left_maps : (left right : Area) → do_join no_chains left right ≡ true → (page : ℕ) → mapping_in page (join_of left right) ≡ mapping_in page left
 left_maps left right e page = λ i. record { prot = left.prot; flags = left.flags; index = index_of left page; anon = (join_is left right e).one_anon i }
 
-right_maps : (left right : Area) → IsWhole left → IsWhole right → join left right ≡ true → (page : ℕ) → has_page right page ≡ true → mapping_in page (merged left right) ≡ mapping_in page right
+right_maps : (left right : Area) → IsWhole left → IsWhole right → do_join no_chains left right ≡ true → (page : ℕ) → has_page right page ≡ true → mapping_in page (join_of left right) ≡ mapping_in page right
 right_maps left right l r e page h =
     let j = join_is left right e in
     let low : first_of right ≤ page = (has_parts right page h).0 in
@@ -212,39 +212,39 @@ pub record IsTried (at page : ℕ) (on : Pages) : Type 0 where
   pub right : Area
   pub before : on (at - 1) ≡ Some left
   pub after : on at ≡ Some right
-  pub joins : join left right ≡ true
-  pub here : has_page (merged left right) page ≡ true
-  pub is : joined_at at on page ≡ Some (merged left right)
+  pub joins : do_join no_chains left right ≡ true
+  pub here : has_page (join_of left right) page ≡ true
+  pub is : joined_at no_chains at on page ≡ Some (join_of left right)
 
 -- what a boundary that is tried leaves as it was
 pub record IsLeft (at page : ℕ) (on : Pages) : Type 0 where
-  pub is : joined_at at on page ≡ on page
-  pub apart : (left right : Area) → on (at - 1) ≡ Some left → on at ≡ Some right → join left right ≡ true → has_page (merged left right) page ≡ false
+  pub is : joined_at no_chains at on page ≡ on page
+  pub apart : (left right : Area) → on (at - 1) ≡ Some left → on at ≡ Some right → do_join no_chains left right ≡ true → has_page (join_of left right) page ≡ false
 
 pub tried_is : (at page : ℕ) (on : Pages) → IsTried at page on ⊎ IsLeft at page on
 tried_is at page on = go (on (at - 1)) (on at) refl refl
   where
     go : (a b : Option Area) → on (at - 1) ≡ a → on at ≡ b → IsTried at page on ⊎ IsLeft at page on
-    go None b e f = inr (record { is = λ i. tried (e i) (f i) page (on page); apart = λ left right g h j. absurd (none-some left (sym e ∙ g)) })
-    go (Some left) None e f = inr (record { is = λ i. tried (e i) (f i) page (on page); apart = λ left' right' g h j. absurd (none-some right' (sym f ∙ h)) })
+    go None b e f = inr (record { is = λ i. after_join no_chains (e i) (f i) page (on page); apart = λ left right g h j. absurd (none-some left (sym e ∙ g)) })
+    go (Some left) None e f = inr (record { is = λ i. after_join no_chains (e i) (f i) page (on page); apart = λ left' right' g h j. absurd (none-some right' (sym f ∙ h)) })
     go (Some left) (Some right) e f =
-        let now : joined_at at on page ≡ tried (Some left) (Some right) page (on page) = λ i. tried (e i) (f i) page (on page) in
-        elim (cases_Bool (join left right && has_page (merged left right) page)) [
+        let now : joined_at no_chains at on page ≡ after_join no_chains (Some left) (Some right) page (on page) = λ i. after_join no_chains (e i) (f i) page (on page) in
+        elim (cases_Bool (do_join no_chains left right && has_page (join_of left right) page)) [
           | inl met ↦
-              let both = and_parts (join left right) (has_page (merged left right) page) met in
-              inl (record { left = left; right = right; before = e; after = f; joins = both.0; here = both.1; is = now ∙ cond-true (join left right && has_page (merged left right) page) (Some (merged left right)) (on page) met })
+              let both = and_parts (do_join no_chains left right) (has_page (join_of left right) page) met in
+              inl (record { left = left; right = right; before = e; after = f; joins = both.0; here = both.1; is = now ∙ cond-true (do_join no_chains left right && has_page (join_of left right) page) (Some (join_of left right)) (on page) met })
           | inr unmet ↦ inr (record {
-            is = now ∙ cond-false (join left right && has_page (merged left right) page) (Some (merged left right)) (on page) unmet;
+            is = now ∙ cond-false (do_join no_chains left right && has_page (join_of left right) page) (Some (join_of left right)) (on page) unmet;
             apart = λ left' right' g h j.
                 let l : left' ≡ left = same_Some left' left (sym g ∙ e) in
                 let r : right' ≡ right = same_Some right' right (sym h ∙ f) in
-                let joins : join left right ≡ true = sym (λ i. join (l i) (r i)) ∙ j in
-                false_from_ne_true (has_page (merged left' right') page) (λ there. both_ways (join left right && has_page (merged left right) page) unmet (and_from (join left right) (has_page (merged left right) page) joins (sym (λ i. has_page (merged (l i) (r i)) page) ∙ there)));
+                let joins : do_join no_chains left right ≡ true = sym (λ i. do_join no_chains (l i) (r i)) ∙ j in
+                false_from_ne_true (has_page (join_of left' right') page) (λ there. both_ways (do_join no_chains left right && has_page (join_of left right) page) unmet (and_from (do_join no_chains left right) (has_page (join_of left right) page) joins (sym (λ i. has_page (join_of (l i) (r i)) page) ∙ there)));
           })
         ]
 
 -- a join keeps how each page is mapped
-pub joined_maps : (at : ℕ) (on : Pages) → AreLaid on → (page : ℕ) → mapping (joined_at at on) page ≡ mapping on page
+pub joined_maps : (at : ℕ) (on : Pages) → AreLaid on → (page : ℕ) → mapping (joined_at no_chains at on) page ≡ mapping on page
 joined_maps at on laid page = elim (tried_is at page on) [
   | inr k ↦ ap (option_map (mapping_in page)) k.is
   | inl t ↦
@@ -256,26 +256,26 @@ joined_maps at on laid page = elim (tried_is at page on) [
       ]
 ]
 
-pub laid_joined : (at : ℕ) (on : Pages) → AreLaid on → AreLaid (joined_at at on)
+pub laid_joined : (at : ℕ) (on : Pages) → AreLaid on → AreLaid (joined_at no_chains at on)
 laid_joined at on laid = record {
   whole = λ page area e. elim (tried_is at page on) [
     | inr k ↦ laid.whole page area (sym k.is ∙ e)
-    | inl t ↦ subst IsWhole (same_Some (merged t.left t.right) area (sym t.is ∙ e)) (merged_whole t.left t.right (laid.whole (at - 1) t.left t.before) (laid.whole at t.right t.after) t.joins)
+    | inl t ↦ subst IsWhole (same_Some (join_of t.left t.right) area (sym t.is ∙ e)) (merged_whole t.left t.right (laid.whole (at - 1) t.left t.before) (laid.whole at t.right t.after) t.joins)
   ];
   here = λ page area e. elim (tried_is at page on) [
     | inr k ↦ laid.here page area (sym k.is ∙ e)
-    | inl t ↦ subst (λ (a : Area). has_page a page ≡ true) (same_Some (merged t.left t.right) area (sym t.is ∙ e)) t.here
+    | inl t ↦ subst (λ (a : Area). has_page a page ≡ true) (same_Some (join_of t.left t.right) area (sym t.is ∙ e)) t.here
   ];
   all = λ page other area e h. elim (tried_is at page on) [
     | inl t ↦
-        let same : merged t.left t.right ≡ area = same_Some (merged t.left t.right) area (sym t.is ∙ e) in
-        let there : has_page (merged t.left t.right) other ≡ true = subst (λ (a : Area). has_page a other ≡ true) (sym same) h in
+        let same : join_of t.left t.right ≡ area = same_Some (join_of t.left t.right) area (sym t.is ∙ e) in
+        let there : has_page (join_of t.left t.right) other ≡ true = subst (λ (a : Area). has_page a other ≡ true) (sym same) h in
         elim (tried_is at other on) [
-          | inr k ↦ absurd (both_ways (has_page (merged t.left t.right) other) (k.apart t.left t.right t.before t.after t.joins) there)
+          | inr k ↦ absurd (both_ways (has_page (join_of t.left t.right) other) (k.apart t.left t.right t.before t.after t.joins) there)
           | inl u ↦
               let l : u.left ≡ t.left = same_Some u.left t.left (sym u.before ∙ t.before) in
               let r : u.right ≡ t.right = same_Some u.right t.right (sym u.after ∙ t.after) in
-              u.is ∙ (λ i. Some (merged (l i) (r i))) ∙ ap Some same
+              u.is ∙ (λ i. Some (join_of (l i) (r i))) ∙ ap Some same
         ]
     | inr k ↦
         let now : on page ≡ Some area = sym k.is ∙ e in
@@ -285,7 +285,7 @@ laid_joined at on laid = record {
           | inl u ↦
               let l = laid.whole (at - 1) u.left u.before in
               let r = laid.whole at u.right u.after in
-              absurd (both_ways (has_page (merged u.left u.right) page) (k.apart u.left u.right u.before u.after u.joins) (elim (merged_pages u.left u.right l r u.joins other u.here) [
+              absurd (both_ways (has_page (join_of u.left u.right) page) (k.apart u.left u.right u.before u.after u.joins) (elim (merged_pages u.left u.right l r u.joins other u.here) [
                 | inl g ↦ left_pages u.left u.right l r u.joins page (subst (λ (a : Area). has_page a page ≡ true) (same_Some area u.left (sym there ∙ laid.all (at - 1) other u.left u.before g)) (laid.here page area now))
                 | inr g ↦ right_pages u.left u.right l r u.joins page (subst (λ (a : Area). has_page a page ≡ true) (same_Some area u.right (sym there ∙ laid.all at other u.right u.after g)) (laid.here page area now))
               ]))
@@ -293,38 +293,38 @@ laid_joined at on laid = record {
   ];
 }
 
-pub around_maps : (from past : ℕ) (on : Pages) → AreLaid on → (page : ℕ) → mapping (joined_around from past on) page ≡ mapping on page
-around_maps from past on laid page = joined_maps past (joined_at from on) (laid_joined from on laid) page ∙ joined_maps from on laid page
+pub around_maps : (from past : ℕ) (on : Pages) → AreLaid on → (page : ℕ) → mapping (joined_around no_chains from past on) page ≡ mapping on page
+around_maps from past on laid page = joined_maps past (joined_at no_chains from on) (laid_joined from on laid) page ∙ joined_maps from on laid page
 
 -- ---- pages that go, come and get another protection
 
-pub emptied_maps : (from past : ℕ) (on : Pages) (page : ℕ) → mapping (emptied from past on) page ≡ cond (within from (past - from) page) None (mapping on page)
+pub emptied_maps : (from past : ℕ) (on : Pages) (page : ℕ) → mapping (without_range from past on) page ≡ cond (within from (past - from) page) None (mapping on page)
 emptied_maps from past on page = elim (within from (past - from) page) as (λ b. option_map (mapping_in page) (cond b None (on page)) ≡ cond b None (mapping on page)) [ true ↦ refl | false ↦ refl ]
 
-pub placed_maps : (area : Area) (on : Pages) (page : ℕ) → mapping (placed area on) page ≡ cond (has_page area page) (Some (mapping_in page area)) (mapping on page)
+pub placed_maps : (area : Area) (on : Pages) (page : ℕ) → mapping (with_area area on) page ≡ cond (has_page area page) (Some (mapping_in page area)) (mapping on page)
 placed_maps area on page = elim (has_page area page) as (λ b. option_map (mapping_in page) (cond b (Some area) (on page)) ≡ cond b (Some (mapping_in page area)) (mapping on page)) [ true ↦ refl | false ↦ refl ]
 
-pub changed_maps : (from past : ℕ) (effect : Effect) (on : Pages) (page : ℕ) → mapping (affected from past effect on) page ≡ cond (within from (past - from) page) (option_map (remapped effect) (mapping on page)) (mapping on page)
-changed_maps from past effect on page = elim (within from (past - from) page) as (λ b. option_map (mapping_in page) (cond b (option_map (with_effect effect) (on page)) (on page)) ≡ cond b (option_map (remapped effect) (option_map (mapping_in page) (on page))) (option_map (mapping_in page) (on page))) [
+pub changed_maps : (from past : ℕ) (effect : Effect) (on : Pages) (page : ℕ) → mapping (with_effect_on from past effect on) page ≡ cond (within from (past - from) page) (option_map (mapping_with effect) (mapping on page)) (mapping on page)
+changed_maps from past effect on page = elim (within from (past - from) page) as (λ b. option_map (mapping_in page) (cond b (option_map (with_effect effect) (on page)) (on page)) ≡ cond b (option_map (mapping_with effect) (option_map (mapping_in page) (on page))) (option_map (mapping_in page) (on page))) [
   | true ↦ each (on page)
   | false ↦ refl
 ]
   where
-    each : (o : Option Area) → option_map (mapping_in page) (option_map (with_effect effect) o) ≡ option_map (remapped effect) (option_map (mapping_in page) o)
+    each : (o : Option Area) → option_map (mapping_in page) (option_map (with_effect effect) o) ≡ option_map (mapping_with effect) (option_map (mapping_in page) o)
     each None = refl
     each (Some area) = refl
 
 -- a range is emptied
-pub cut_out_maps : (from to : ℕ) (on : Pages) → AreLaid on → (page : ℕ) → mapping (emptied from to (cut_at to (cut_at from on))) page ≡ cond (within from (to - from) page) None (mapping on page)
+pub cut_out_maps : (from to : ℕ) (on : Pages) → AreLaid on → (page : ℕ) → mapping (without_range from to (cut_at to (cut_at from on))) page ≡ cond (within from (to - from) page) None (mapping on page)
 cut_out_maps from to on laid page =
     emptied_maps from to (cut_at to (cut_at from on)) page
     ∙ ap (cond (within from (to - from) page) None) (cut_maps to (cut_at from on) (laid_cut from on laid) page ∙ cut_maps from on laid page)
 
 -- a part of an area gets a protection, and is joined with its neighbours
-pub part_maps_to : (from past : ℕ) (effect : Effect) (on now new : Pages) → AreLaid on → AreLaid now → ((page : ℕ) → now page ≡ affected from past effect (cut_at past (cut_at from on)) page) → ((page : ℕ) → new page ≡ joined_around from past now page) → (page : ℕ) → mapping new page ≡ cond (within from (past - from) page) (option_map (remapped effect) (mapping on page)) (mapping on page)
+pub part_maps_to : (from past : ℕ) (effect : Effect) (on now new : Pages) → AreLaid on → AreLaid now → ((page : ℕ) → now page ≡ with_effect_on from past effect (cut_at past (cut_at from on)) page) → ((page : ℕ) → new page ≡ joined_around no_chains from past now page) → (page : ℕ) → mapping new page ≡ cond (within from (past - from) page) (option_map (mapping_with effect) (mapping on page)) (mapping on page)
 part_maps_to from past effect on now new laid laid_after change joins page =
     ap (option_map (mapping_in page)) (joins page)
     ∙ around_maps from past now laid_after page
     ∙ ap (option_map (mapping_in page)) (change page)
     ∙ changed_maps from past effect (cut_at past (cut_at from on)) page
-    ∙ ap (λ (m : Option Mapping). cond (within from (past - from) page) (option_map (remapped effect) m) m) (cut_maps past (cut_at from on) (laid_cut from on laid) page ∙ cut_maps from on laid page)
+    ∙ ap (λ (m : Option Mapping). cond (within from (past - from) page) (option_map (mapping_with effect) m) m) (cut_maps past (cut_at from on) (laid_cut from on laid) page ∙ cut_maps from on laid page)

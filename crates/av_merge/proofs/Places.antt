@@ -8,9 +8,9 @@ use Rattle.av_vma.specs.declared.area.Area.{Area}
 use Rattle.av_vma.specs.Join.{first_of, past_of}
 use Rattle.av_base.specs.Words.{within, with_at}
 use Rattle.av_vmatree.specs.declared.span.Span.{Span}
-use Rattle.av_vmatree.specs.Spans.{without_area, AreApart, AreDistinct, AreSpans, area_at, holds, span_of, taken, unless_area}
+use Rattle.av_vmatree.specs.Spans.{without_area, AreApart, AreDistinct, AreSpans, area_at, holds, span_of, is_page_taken, unless_area}
 use Rattle.av_vmatree.proofs.Spans.{held, removed}
-use Rattle.av_vma.specs.Pages.{IsWhole, has_page, placed}
+use Rattle.av_vma.specs.Pages.{IsWhole, has_page, with_area}
 use Rattle.av_merge.specs.Pages.{pages_by}
 use Rattle.av_merge.specs.Process.{AreAreasOf, IsAreaOf, KeepsOthers, Stays}
 
@@ -148,7 +148,7 @@ one_area p areas spans page other area stands e has =
     on_span p areas spans on.number on.span area other stands on.span_is on.area_is k.0 k.1
 
 -- a page is taken exactly where an area is on it
-pub taken_is : (p : ℕ) (areas : ℕ → Option Area) (spans : List Span) (page : ℕ) → AreAreasOf p areas spans → is_some (pages_by areas spans page) ≡ taken spans page
+pub taken_is : (p : ℕ) (areas : ℕ → Option Area) (spans : List Span) (page : ℕ) → AreAreasOf p areas spans → is_some (pages_by areas spans page) ≡ is_page_taken spans page
 taken_is p areas spans page stands = each (area_at spans page) refl
   where
     each : (o : Option ℕ) → area_at spans page ≡ o → is_some (option_and_then areas o) ≡ is_some o
@@ -223,7 +223,7 @@ module _ (p n : ℕ) (s : Span) (area : Area) (areas areas' : ℕ → Option Are
   pub put_others : area.pid ≡ p → KeepsOthers p areas areas'
   put_others pid = grind (arith, common_steps)
 
-  pub put_pages : (page : ℕ) → pages_by areas' spans' page ≡ placed area (pages_by areas spans) page
+  pub put_pages : (page : ℕ) → pages_by areas' spans' page ≡ with_area area (pages_by areas spans) page
   put_pages page =
       ap (option_and_then areas') (pages_now page ∙ ap (λ b. cond b (Some n) (area_at spans page)) (holds_is p s area page is))
       ∙ elim (has_page area page) as (λ b. option_and_then areas' (cond b (Some n) (area_at spans page)) ≡ cond b (Some area) (pages_by areas spans page)) [
@@ -253,12 +253,12 @@ module _ (p n m : ℕ) (s t : Span) (lower upper : Area) (areas areas' : ℕ →
       each None some used = absurd some
       each (Some u) some used = subst (λ o. IsSomeAnd o (IsAreaOf p u)) (ap areas (sym same) ∙ unused) used
 
-  pub apart_pages : (page : ℕ) → pages_by areas' spans' page ≡ placed upper (placed lower (pages_by (with_at n None areas) spans)) page
+  pub apart_pages : (page : ℕ) → pages_by areas' spans' page ≡ with_area upper (with_area lower (pages_by (with_at n None areas) spans)) page
   apart_pages page =
       ap (option_and_then areas') (pages_now page
       ∙ ap (λ b. cond b (Some m) (cond (holds s page) (Some n) (unless_area n (area_at spans page)))) (holds_is p t upper page is_upper)
       ∙ ap (λ b. cond (has_page upper page) (Some m) (cond b (Some n) (unless_area n (area_at spans page)))) (holds_is p s lower page is_lower))
-      ∙ elim (has_page upper page) as (λ b. option_and_then areas' (cond b (Some m) (cond (has_page lower page) (Some n) (unless_area n (area_at spans page)))) ≡ cond b (Some upper) (placed lower (pages_by (with_at n None areas) spans) page)) [
+      ∙ elim (has_page upper page) as (λ b. option_and_then areas' (cond b (Some m) (cond (has_page lower page) (Some n) (unless_area n (area_at spans page)))) ≡ cond b (Some upper) (with_area lower (pages_by (with_at n None areas) spans) page)) [
         | true ↦ now m ∙ other_at n m (Some lower) (with_at m (Some upper) areas) apart ∙ self m (Some upper) areas
         | false ↦ elim (has_page lower page) as (λ b. option_and_then areas' (cond b (Some n) (unless_area n (area_at spans page))) ≡ cond b (Some lower) (pages_by (with_at n None areas) spans page)) [
           | true ↦ now n ∙ self n (Some lower) (with_at m (Some upper) areas)
@@ -310,7 +310,7 @@ module _ (p n : ℕ) (s : Span) (area : Area) (areas areas' : ℕ → Option Are
   pub change_others : KeepsOthers p areas areas'
   change_others = grind (arith, common_steps)
 
-  pub change_pages : (page : ℕ) → pages_by areas' spans page ≡ placed area (pages_by areas spans) page
+  pub change_pages : (page : ℕ) → pages_by areas' spans page ≡ with_area area (pages_by areas spans) page
   change_pages page =
       ap (λ f. pages_by f spans page) (λ i k. now k i)
       ∙ pages_changed p n s areas spans (Some area) stands there page

@@ -27,13 +27,13 @@ abbrev pub mapping : Pages → ℕ → Option Mapping
 mapping on page = option_map (mapping_in page) (on page)
 
 -- with the effect of a change
-abbrev pub remapped : Effect → Mapping → Mapping
-remapped effect m = record m { prot = effect.prot m.prot; flags = effect.flags m.flags }
+abbrev pub mapping_with : Effect → Mapping → Mapping
+mapping_with effect m = record m { prot = effect.prot m.prot; flags = effect.flags m.flags }
 
 -- the pages from one to below another are mapped with the effect, and the others as they were
 abbrev pub IsRemapped : ℕ → ℕ → Effect → Pages → Pages → Type 0
 IsRemapped from past effect old new = (page : ℕ) → mapping new page
-    ≡ (if within from (past - from) page then option_map (remapped effect) (mapping old page)
+    ≡ (if within from (past - from) page then option_map (mapping_with effect) (mapping old page)
     else mapping old page)
 
 -- the pages on the two sides of a boundary, if both are mapped, have another protection or flags

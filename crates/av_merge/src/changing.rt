@@ -6,11 +6,11 @@ ghost use Rattle.av_vma.specs.Areas.{area_of};
 ghost use Rattle.av_base.specs.Limits.{low_page, top_page};
 ghost use Rattle.av_vma.specs.Join.{past_of};
 ghost use Rattle.av_base.specs.Words.{within};
-ghost use Rattle.av_vmatree.specs.Spans.{IsFree, area_at, taken};
+ghost use Rattle.av_vmatree.specs.Spans.{IsFree, area_at, is_page_taken};
 ghost use Rattle.av_merge.specs.Change.{effect_of};
 ghost use Rattle.av_merge.specs.Mapping.{IsRemapped};
 ghost use Rattle.av_merge.specs.Pages.{IsReached, pages_by};
-ghost use Rattle.av_vma.specs.Pages.{alters, fresh_area, joined_around, pages_changed, part_changed, placed, with_effect, mapped};
+ghost use Rattle.av_vma.specs.Pages.{alters, fresh_area, joined_around, pages_changed, part_changed, with_area, with_effect, after_map, no_chains};
 ghost use Rattle.av_merge.specs.Process.{AreAreasOf, Stays, AreOfOne, StayOfOne, Becomes};
 
 use crate::cutting::cut_out;
@@ -35,10 +35,10 @@ pub fn map(
     requires some { from < to }
     requires low { low_page ≤ from }
     requires high { to ≤ top_page }
-    requires free { IsFree (taken tree.old) from to }
+    requires free { IsFree (is_page_taken tree.old) from to }
     ensures stands { Stays process (area_of areas.old) (area_of areas.new) tree.new }
     ensures pages { OnOk result
-        (Becomes areas.old tree.old areas.new tree.new (mapped process from to prot)) }
+        (Becomes areas.old tree.old areas.new tree.new (after_map no_chains process from to prot)) }
 {
     let area = Area {
         pid: process,
@@ -95,9 +95,9 @@ pub fn modify(
     requires stands { AreOfOne areas.old tree.old }
     requires forward { from ≤ to }
     ensures stands { StayOfOne areas.old tree.old areas.new tree.new }
-    ensures reached { IfOk result (λ past. IsReached (taken tree.old) from to past) }
+    ensures reached { IfOk result (λ past. IsReached (is_page_taken tree.old) from to past) }
     ensures pages { IfOk result (λ past. Becomes areas.old tree.old areas.new tree.new
-        (pages_changed (effect_of change) from (past - from))) }
+        (pages_changed no_chains (effect_of change) from (past - from))) }
     ensures mapping { IfOk result (λ past. IsRemapped from past (effect_of change)
         (pages_by (area_of areas.old) tree.old) (pages_by (area_of areas.new) tree.new)) }
 {
@@ -138,7 +138,7 @@ fn modify_part(
     ensures stands { StayOfOne areas.old tree.old areas.new tree.new }
     ensures pages { OnOk result
         (Becomes areas.old tree.old areas.new tree.new
-        (part_changed from past (effect_of change))) }
+        (part_changed no_chains from past (effect_of change))) }
     ensures mapping { OnOk result (IsRemapped from past (effect_of change)
         (pages_by (area_of areas.old) tree.old) (pages_by (area_of areas.new) tree.new)) }
 {

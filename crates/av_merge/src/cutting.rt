@@ -5,7 +5,7 @@ ghost use Rattle.av_vma.specs.Areas.{area_of};
 ghost use Rattle.av_vma.specs.Join.{past_of};
 ghost use Rattle.av_vmatree.specs.Spans.{area_at, last_below, span_of};
 ghost use Rattle.av_merge.specs.Pages.{pages_by};
-ghost use Rattle.av_vma.specs.Pages.{cut_at, emptied, unmapped};
+ghost use Rattle.av_vma.specs.Pages.{cut_at, without_range, after_unmap};
 ghost use Rattle.av_merge.specs.Process.{AreAreasOf, NoneCrosses, Stays, AreOfOne, StayOfOne, Becomes};
 
 use crate::placing::put_apart;
@@ -59,7 +59,7 @@ fn cut_within(
     requires inside { IsSomeAnd (span_of tree.old area) (λ s. (s.from < from) × (to < s.to)) }
     ensures stands { StayOfOne areas.old tree.old areas.new tree.new }
     ensures pages { OnOk result
-        (Becomes areas.old tree.old areas.new tree.new (unmapped from to)) }
+        (Becomes areas.old tree.old areas.new tree.new (after_unmap from to)) }
     ensures upper { IfOk result (λ number. area_at tree.new to ≡ Some number) }
     ensures lower { OnOk result ((page : ℕ) → page < from → area_at tree.old page ≡ Some area
         → area_at tree.new page ≡ Some area) }
@@ -179,7 +179,7 @@ pub fn cut(areas: &mut Areas, tree: &mut Tree, from: u64, to: u64) -> Result<(),
     requires forward { from ≤ to }
     ensures stands { StayOfOne areas.old tree.old areas.new tree.new }
     ensures pages { OnOk result
-        (Becomes areas.old tree.old areas.new tree.new (unmapped from to)) }
+        (Becomes areas.old tree.old areas.new tree.new (after_unmap from to)) }
 {
     let (below, _) = tree.around(from);
     match below {
@@ -205,7 +205,7 @@ fn cut_ends(
     requires last { below ≡ last_below tree.old from }
     ensures stands { StayOfOne areas.old tree.old areas.new tree.new }
     ensures pages { OnOk result
-        (Becomes areas.old tree.old areas.new tree.new (unmapped from to)) }
+        (Becomes areas.old tree.old areas.new tree.new (after_unmap from to)) }
 {
     split_below(areas, tree, below, from)?;
     split_before(areas, tree, to)?;
@@ -220,7 +220,7 @@ fn take_out(areas: &mut Areas, tree: &mut Tree, from: u64, to: u64)
     requires lower { NoneCrosses from tree.old }
     requires upper { NoneCrosses to tree.old }
     ensures stands { StayOfOne areas.old tree.old areas.new tree.new }
-    ensures pages { Becomes areas.old tree.old areas.new tree.new (emptied from to) }
+    ensures pages { Becomes areas.old tree.old areas.new tree.new (without_range from to) }
 {
     // No area begins with page 0.
     while let Some(area) = tree.after(from.saturating_sub(1)) {

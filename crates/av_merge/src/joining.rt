@@ -3,7 +3,7 @@
 ghost use Rattle.std.specs.Prelude.{◌≡◌, ℕ, ◌-◌, ◌<◌, ◌≤◌, Some, IsSome, IfSome, OnOk, true};
 ghost use Rattle.av_vma.specs.Areas.{area_of};
 ghost use Rattle.av_vmatree.specs.Spans.{area_at, span_of};
-ghost use Rattle.av_vma.specs.Pages.{joined_around, joined_at, merged};
+ghost use Rattle.av_vma.specs.Pages.{joined_around, joined_at, join_of, no_chains};
 ghost use Rattle.av_merge.specs.Mapping.{DoDiffer};
 ghost use Rattle.av_merge.specs.Pages.{pages_by};
 ghost use Rattle.av_merge.specs.Process.{AreAreasOf, Stays, AreOfOne, StayOfOne, Becomes};
@@ -20,7 +20,7 @@ pub fn join_around(areas: &mut Areas, tree: &mut Tree, area: AreaId) -> Result<(
     requires there { IsSome (span_of tree.old area) }
     ensures stands { StayOfOne areas.old tree.old areas.new tree.new }
     ensures pages { OnOk result (IfSome (span_of tree.old area)
-        (λ s. Becomes areas.old tree.old areas.new tree.new (joined_around s.from s.to))) }
+        (λ s. Becomes areas.old tree.old areas.new tree.new (joined_around no_chains s.from s.to))) }
 {
     let Area { start, end, .. } = areas.get(area);
     join_ends(areas, tree, start / PAGE_SIZE, end / PAGE_SIZE)
@@ -33,7 +33,7 @@ fn join_ends(areas: &mut Areas, tree: &mut Tree, from: u64, past: u64) -> Result
     requires forward { from < past }
     ensures stands { StayOfOne areas.old tree.old areas.new tree.new }
     ensures pages { OnOk result
-        (Becomes areas.old tree.old areas.new tree.new (joined_around from past)) }
+        (Becomes areas.old tree.old areas.new tree.new (joined_around no_chains from past)) }
 {
     let (below, here) = tree.around(from);
     let (_, above) = tree.around(past);
@@ -61,10 +61,10 @@ pub fn join_part(
     requires below { differs_below ≡ true
         → DoDiffer from (pages_by (area_of areas.old) tree.old) }
     requires above { differs_above ≡ true
-        → DoDiffer past (joined_at from (pages_by (area_of areas.old) tree.old)) }
+        → DoDiffer past (joined_at no_chains from (pages_by (area_of areas.old) tree.old)) }
     ensures stands { StayOfOne areas.old tree.old areas.new tree.new }
     ensures pages { OnOk result
-        (Becomes areas.old tree.old areas.new tree.new (joined_around from past)) }
+        (Becomes areas.old tree.old areas.new tree.new (joined_around no_chains from past)) }
 {
     if !differs_below && !differs_above {
         return join_ends(areas, tree, from, past);
@@ -80,7 +80,7 @@ fn join_both(areas: &mut Areas, tree: &mut Tree, from: u64, past: u64) -> Result
     requires forward { from < past }
     ensures stands { StayOfOne areas.old tree.old areas.new tree.new }
     ensures pages { OnOk result
-        (Becomes areas.old tree.old areas.new tree.new (joined_around from past)) }
+        (Becomes areas.old tree.old areas.new tree.new (joined_around no_chains from past)) }
 {
     join_at(areas, tree, from)?;
     join_at(areas, tree, past)
@@ -106,7 +106,7 @@ fn join_three(
     requires above { area_at tree.old past ≡ Some right }
     ensures stands { StayOfOne areas.old tree.old areas.new tree.new }
     ensures pages { OnOk result
-        (Becomes areas.old tree.old areas.new tree.new (joined_around from past)) }
+        (Becomes areas.old tree.old areas.new tree.new (joined_around no_chains from past)) }
 {
     let lower = areas.get(left);
     let inner = areas.get(middle);
@@ -132,7 +132,7 @@ pub fn join_at(areas: &mut Areas, tree: &mut Tree, at: u64) -> Result<(), AllocE
     requires some { 0 < at }
     ensures stands { StayOfOne areas.old tree.old areas.new tree.new }
     ensures pages { OnOk result
-        (Becomes areas.old tree.old areas.new tree.new (joined_at at)) }
+        (Becomes areas.old tree.old areas.new tree.new (joined_at no_chains at)) }
 {
     let (below, above) = tree.around(at);
     let Some(left) = below else {
@@ -155,7 +155,7 @@ fn join(areas: &mut Areas, tree: &mut Tree, left: AreaId, right: AreaId, at: u64
     requires below { area_at tree.old (at - 1) ≡ Some left }
     requires above { area_at tree.old at ≡ Some right }
     ensures stands { StayOfOne areas.old tree.old areas.new tree.new }
-    ensures pages { Becomes areas.old tree.old areas.new tree.new (joined_at at) }
+    ensures pages { Becomes areas.old tree.old areas.new tree.new (joined_at no_chains at) }
 {
     let lower = areas.get(left);
     let upper = areas.get(right);
@@ -175,7 +175,7 @@ fn join_unless(areas: &mut Areas, tree: &mut Tree, differs: bool, at: u64) -> Re
     requires differ { differs ≡ true → DoDiffer at (pages_by (area_of areas.old) tree.old) }
     ensures stands { StayOfOne areas.old tree.old areas.new tree.new }
     ensures pages { OnOk result
-        (Becomes areas.old tree.old areas.new tree.new (joined_at at)) }
+        (Becomes areas.old tree.old areas.new tree.new (joined_at no_chains at)) }
 {
     if differs {
         return Ok(());
@@ -185,7 +185,7 @@ fn join_unless(areas: &mut Areas, tree: &mut Tree, differs: bool, at: u64) -> Re
 
 /// Two areas that adjoin as one, with the anon_vma that either has.
 fn merge(lower: Area, upper: Area) -> Area
-    ensures { result ≡ merged lower upper }
+    ensures { result ≡ join_of lower upper }
 {
     Area {
         end: upper.end,

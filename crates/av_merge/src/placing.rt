@@ -4,9 +4,9 @@ ghost use Rattle.std.specs.Prelude.{◌≡◌, ℕ, ◌≤◌, Some, None, IsSom
 ghost use Rattle.av_vma.specs.Areas.{area_of};
 ghost use Rattle.av_vma.specs.Join.{first_of, past_of};
 ghost use Rattle.av_base.specs.Words.{with_at};
-ghost use Rattle.av_vmatree.specs.Spans.{IsFree, area_at, span, span_of, taken, unless_area, without_area};
+ghost use Rattle.av_vmatree.specs.Spans.{IsFree, area_at, span, span_of, is_page_taken, unless_area, without_area};
 ghost use Rattle.av_merge.specs.Pages.{pages_by};
-ghost use Rattle.av_vma.specs.Pages.{has_page, placed, IsWhole};
+ghost use Rattle.av_vma.specs.Pages.{has_page, with_area, IsWhole};
 ghost use Rattle.av_merge.specs.Process.{AreAreasOf, Stays, AreOfOne, StayOfOne, Becomes};
 
 use av_base::PAGE_SIZE;
@@ -18,10 +18,10 @@ use std::alloc::AllocError;
 pub fn add(areas: &mut Areas, tree: &mut Tree, area: Area) -> Result<AreaId, AllocError>
     requires stands { AreAreasOf area.pid (area_of areas.old) tree.old }
     requires whole { IsWhole area }
-    requires free { IsFree (taken tree.old) (first_of area) (past_of area) }
+    requires free { IsFree (is_page_taken tree.old) (first_of area) (past_of area) }
     ensures stands { Stays area.pid (area_of areas.old) (area_of areas.new) tree.new }
     ensures pages { OnOk result
-        (Becomes areas.old tree.old areas.new tree.new (placed area)) }
+        (Becomes areas.old tree.old areas.new tree.new (with_area area)) }
     ensures number { IfOk result (λ number. (page : ℕ) → area_at tree.new page
         ≡ (if has_page area page then Some number else area_at tree.old page)) }
 {
@@ -41,10 +41,10 @@ pub fn replace(areas: &mut Areas, tree: &mut Tree, number: AreaId, area: Area)
     requires stands { AreAreasOf area.pid (area_of areas.old) tree.old }
     requires there { IsSomeAnd (span_of tree.old number) (λ s. s.from ≡ first_of area) }
     requires whole { IsWhole area }
-    requires free { IsFree (taken (without_area number tree.old)) (first_of area) (past_of area) }
+    requires free { IsFree (is_page_taken (without_area number tree.old)) (first_of area) (past_of area) }
     ensures stands { Stays area.pid (area_of areas.old) (area_of areas.new) tree.new }
     ensures pages { (page : ℕ) → pages_by (area_of areas.new) tree.new page
-        ≡ placed area (pages_by (with_at number None (area_of areas.old)) tree.old) page }
+        ≡ with_area area (pages_by (with_at number None (area_of areas.old)) tree.old) page }
     ensures number { (page : ℕ) → area_at tree.new page ≡ (if has_page area page then Some number
         else unless_area number (area_at tree.old page)) }
 {
@@ -72,7 +72,7 @@ pub fn put_apart(
     requires apart { past_of lower ≤ first_of upper }
     ensures stands { Stays lower.pid (area_of areas.old) (area_of areas.new) tree.new }
     ensures pages { OnOk result ((page : ℕ) → pages_by (area_of areas.new) tree.new page
-        ≡ placed upper (placed lower (pages_by (with_at number None (area_of areas.old)) tree.old))
+        ≡ with_area upper (with_area lower (pages_by (with_at number None (area_of areas.old)) tree.old))
         page) }
     ensures number { IfOk result (λ above. (page : ℕ) → area_at tree.new page
         ≡ (if has_page upper page then Some above else if has_page lower page then Some number

@@ -11,7 +11,7 @@ use Rattle.av_trace.specs.declared.place.Place.TheVariants.{Auto, At, Fixed, NoR
 use Rattle.av_trace.specs.declared.reply.Answer.{Answer}
 use Rattle.av_trace.specs.declared.reply.Answer.TheVariants.{Done, MapAt, Refused}
 use Rattle.av_trace.specs.declared.reply.Errno.TheVariants.{Enomem}
-use Rattle.av_vma.specs.Pages.{Pages, mapped, pages_changed, to_prot, unmapped}
+use Rattle.av_vma.specs.Pages.{Pages, after_map, pages_changed, to_prot, after_unmap, no_chains}
 use Rattle.av_plain.specs.Refusal.{wraps}
 use Rattle.av_plain.specs.World.{World, pages, pages_to_hole}
 
@@ -49,13 +49,13 @@ no_areas p = none_on
 abbrev pub with_room : ℕ → Place → Pages → Pages
 with_room n Auto on = on
 with_room n (At a) on = on
-with_room n (Fixed a) on = unmapped (page_of a) (page_of a + n) on
+with_room n (Fixed a) on = after_unmap (page_of a) (page_of a + n) on
 with_room n (NoReplace a) on = on
 
 -- the pages up to the first of n that isn't mapped get the protection
 abbrev pub areas_to_hole : World → ℕ → ℕ → ℕ → Prot → Pages → Pages
 areas_to_hole w p from n prot on =
-    pages_changed (to_prot prot) from (pages_to_hole (pages w p) from n) on
+    pages_changed no_chains (to_prot prot) from (pages_to_hole (pages w p) from n) on
 
 -- the areas after a command that was answered so, by the memories before it
 abbrev pub next_areas : Areas → World → Command → Answer → Areas
@@ -63,9 +63,9 @@ next_areas on w (Spawn p) Done = with_at p none_on on
 next_areas on w (Exit p) Done = with_at p none_on on
 next_areas on w (Mmap p len prot place) (MapAt a) =
     let room = with_room (pages_of len) place (on p) in
-    with_at p (mapped p (page_of a) (page_of a + pages_of len) prot room) on
+    with_at p (after_map no_chains p (page_of a) (page_of a + pages_of len) prot room) on
 next_areas on w (Munmap p a len) Done =
-    with_at p (unmapped (page_of a) (page_of a + pages_of len) (on p)) on
+    with_at p (after_unmap (page_of a) (page_of a + pages_of len) (on p)) on
 next_areas on w (Mprotect p a len prot) Done =
     with_at p (areas_to_hole w p (page_of a) (pages_of len) prot (on p)) on
 next_areas on w (Mprotect p a len prot) (Refused Enomem) =

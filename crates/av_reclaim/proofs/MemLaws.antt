@@ -24,7 +24,7 @@ use Rattle.av_plain.specs.Transcript.{State, at_first}
 use Rattle.av_plain.proofs.Ledger.NoSwap.{itself, is_in-numbers}
 use Rattle.av_plain.proofs.Sound.{first-sound}
 use Rattle.av_reclaim.specs.declared.mem.Mem.{Mem}
-use Rattle.av_reclaim.specs.Mem.{setting, plain, joined, view, ranges_of, Keeps}
+use Rattle.av_reclaim.specs.Mem.{setting, plain, view_of_parts, view, ranges_of, Keeps}
 
 -- ---- the areas, seen as ranges
 
@@ -93,7 +93,7 @@ all_apart s rising p = by (areas_of s p) (rising p)
 
 -- tables with the same entries are seen alike
 pub view_same : (old new : Mem) → entry_at new.tables ≡ entry_at old.tables → new.frames ≡ old.frames → new.spaces ≡ old.spaces → view new ≡ view old
-view_same old new tables frames spaces = λ i. joined (seen (frames i)) (λ p page. plain (tables i p page)) (spaces i)
+view_same old new tables frames spaces = λ i. view_of_parts (seen (frames i)) (λ p page. plain (tables i p page)) (spaces i)
 
 pub plain_set : (old new : ℕ → ℕ → Pte) (p page : ℕ) (e : Pte) → new ≡ with_entry p page e old
     → ◌≡◌ {A = ℕ → ℕ → Option Plain} (λ q o. plain (new q o)) (with_entry p page (plain e) (λ q o. plain (old q o)))
@@ -106,7 +106,7 @@ plain_set old new p page e is = λ k q o. (ap (λ f. plain (f q o)) is ∙ pushe
 -- an entry has been set
 pub entry_put_in : (old new : Mem) (p page : ℕ) (e : Pte) → entry_at new.tables ≡ with_entry p page e (entry_at old.tables) → new.frames ≡ old.frames → new.spaces ≡ old.spaces
     → view new ≡ record (view old) { table = with_entry p page (plain e) (view old).table }
-entry_put_in old new p page e is frames spaces = λ i. joined (seen (frames i)) (plain_set (entry_at old.tables) (entry_at new.tables) p page e is i) (spaces i)
+entry_put_in old new p page e is frames spaces = λ i. view_of_parts (seen (frames i)) (plain_set (entry_at old.tables) (entry_at new.tables) p page e is i) (spaces i)
 
 -- ---- no slot is cached
 

@@ -19,7 +19,7 @@ use Rattle.av_plain.proofs.Ledger.NoSwap.{itself, no_slot, free_is, shared_is}
 use Rattle.av_plain.proofs.Zap.{leaving, after_zap-is, entry-after_zap, map_count-after_zap, slot_entries-after_zap, same_swap-after_zap, zap_of-alone}
 use Rattle.av_plain.proofs.Sound.Zap.{zap_of-kept}
 use Rattle.av_reclaim.specs.Mem.{SoundLedger}
-use Rattle.av_reclaim.specs.Zap.{released}
+use Rattle.av_reclaim.specs.Zap.{after_unmap_frame}
 use Rattle.av_reclaim.proofs.MemLaws.{no_frame_at, equal_is}
 
 -- ---- the ledger
@@ -206,7 +206,7 @@ module _ (m : Setting) (v : View) (l : Ledger) (p page : ℕ)
           below = parts.sound.in_range f (let used = uses_are f in let some_maps = some in omega (arith, used, some_maps))
 
     -- released, it is one or the other
-    pub released_left : SoundLedger m (released f (record v { table = with_entry p page None v.table })) (after_zap (p, page) l)
+    pub released_left : SoundLedger m (after_unmap_frame f (record v { table = with_entry p page None v.table })) (after_zap (p, page) l)
     released_left = by (v.maps f == 1) refl
       where
         by : (b : Bool) → (v.maps f == 1) ≡ b
@@ -214,7 +214,7 @@ module _ (m : Setting) (v : View) (l : Ledger) (p page : ℕ)
         by true e = last_left e
         by false e = shared_left e
 
-    pub released_freed : HasNoDevice m → Chooses m None l (Zapped (p, page)) (free_of v) (free_of (released f (record v { table = with_entry p page None v.table })))
+    pub released_freed : HasNoDevice m → Chooses m None l (Zapped (p, page)) (free_of v) (free_of (after_unmap_frame f (record v { table = with_entry p page None v.table })))
     released_freed none = by (v.maps f == 1) refl
       where
         by : (b : Bool) → (v.maps f == 1) ≡ b

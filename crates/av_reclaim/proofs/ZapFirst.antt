@@ -15,8 +15,8 @@ use Rattle.av_plain.specs.Stands.{View, entry_of, free_of}
 use Rattle.av_plain.proofs.Ledger.{how_many-found}
 use Rattle.av_plain.proofs.Ledger.NoSwap.{itself, free_is}
 use Rattle.av_reclaim.specs.declared.mem.Mem.{Mem}
-use Rattle.av_reclaim.specs.Mem.{setting, count, plain, view, joined, SoundLedger, HasLedger}
-use Rattle.av_reclaim.specs.Zap.{released, ZapsFirst}
+use Rattle.av_reclaim.specs.Mem.{setting, count, plain, view, view_of_parts, SoundLedger, HasLedger}
+use Rattle.av_reclaim.specs.Zap.{after_unmap_frame, ZapsFirst}
 use Rattle.av_reclaim.proofs.MemLaws.{frames_free, view_same, no_cache, entry_put_in}
 use Rattle.av_reclaim.proofs.ZapEntry.{zero_left, zero_freed, released_left, released_freed}
 
@@ -75,10 +75,10 @@ module _ (old : Mem) (l : Ledger) (stands : HasLedger old l) where
           )
 
       pub frame_taken : (mid : Mem) (f : ℕ) (write was : Bool) → e ≡ Here f write was → entry_at mid.tables ≡ with_entry p page Empty (entry_at old.tables) → mid.frames ≡ old.frames → mid.spaces ≡ old.spaces
-          → view new ≡ released f (view mid) → count new ≡ count old → ZapsFirst old new l p from past (Some page)
+          → view new ≡ after_unmap_frame f (view mid) → count new ≡ count old → ZapsFirst old new l p from past (Some page)
       frame_taken mid f write was here tables frames spaces same counts =
           let there = frame_there p page f write was (is ∙ here) in
-          let seen_so : view new ≡ released f (record (view old) { table = with_entry p page None (view old).table }) = same ∙ ap (released f) (entry_put_in old mid p page Empty tables frames spaces) in (
+          let seen_so : view new ≡ after_unmap_frame f (record (view old) { table = with_entry p page None (view old).table }) = same ∙ ap (after_unmap_frame f) (entry_put_in old mid p page Empty tables frames spaces) in (
             first.from_there,
             ap is_some there,
             least,

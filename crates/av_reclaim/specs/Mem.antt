@@ -34,8 +34,8 @@ abbrev pub ranges_of : Spaces → ℕ → Option (List Range)
 ranges_of spaces p = option_map (map range_of) (areas_of spaces p)
 
 -- the view of frames, entries and areas, without swap. No frame is active
-abbrev pub joined : Seen → (ℕ → ℕ → Option Plain) → Spaces → View
-joined frames table spaces = record {
+abbrev pub view_of_parts : Seen → (ℕ → ℕ → Option Plain) → Spaces → View
+view_of_parts frames table spaces = record {
   frames = frames.count;
   bytes = frames.bytes;
   maps = frames.maps;
@@ -55,7 +55,7 @@ joined frames table spaces = record {
 }
 
 abbrev pub view : Mem → View
-view k = joined (seen k.frames) (λ p page. plain (entry_at k.tables p page)) k.spaces
+view k = view_of_parts (seen k.frames) (λ p page. plain (entry_at k.tables p page)) k.spaces
 
 -- how many frames there are
 abbrev pub count : Mem → ℕ

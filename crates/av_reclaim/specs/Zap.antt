@@ -17,8 +17,8 @@ pub record KeepsRest (old new : Mem) : Type 0 where
   pub count : count new ≡ count old
 
 -- one entry fewer names the frame, which is free in front of all others where that was the last
-abbrev pub released : ℕ → View → View
-released f v =
+abbrev pub after_unmap_frame : ℕ → View → View
+after_unmap_frame f v =
     if v.maps f == 1 then record v { maps = with_at f (v.maps f - 1) v.maps; free = f ∷ v.free }
     else record v { maps = with_at f (v.maps f - 1) v.maps }
 

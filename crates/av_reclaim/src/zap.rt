@@ -5,7 +5,7 @@ ghost use Rattle.av_base.specs.Words.{is_in};
 ghost use Rattle.av_plain.specs.Ledger.{Ledger};
 ghost use Rattle.av_plain.specs.Zap.{keys_in, keys_of_process, zaps_of};
 ghost use Rattle.av_reclaim.specs.Mem.{count, view, HasLedger, IsOrderly};
-ghost use Rattle.av_reclaim.specs.Zap.{released, ZapsFirst, HasZapped, KeepsRest};
+ghost use Rattle.av_reclaim.specs.Zap.{after_unmap_frame, ZapsFirst, HasZapped, KeepsRest};
 
 use crate::mem::Mem;
 use av_pagetable::Pte;
@@ -56,7 +56,7 @@ fn unmap_frame(mem: &mut Mem, frame: u32)
     requires in_range { frame < count mem.old }
     requires named { 0 < (view mem.old).maps frame }
     requires not_free { is_in frame (view mem.old).free ≡ false }
-    ensures view { view mem.new ≡ released frame (view mem.old) }
+    ensures view { view mem.new ≡ after_unmap_frame frame (view mem.old) }
     ensures tables { mem.new.tables ≡ mem.old.tables }
     ensures spaces { mem.new.spaces ≡ mem.old.spaces }
     ensures count { count mem.new ≡ count mem.old }

@@ -19,10 +19,10 @@ use Rattle.av_replay.specs.declared.status.RunErr.TheVariants as errors
 use Rattle.av_replay.specs.Streams.{Streams, undone, IsLater, ReadsOn, IsAtEnd}
 use Rattle.av_replay.specs.Line.{IsLine}
 use Rattle.av_replay.specs.Turn.{texts, Commands, IsBad, IsEnding, TakesLine, Waits, CutsShort, IsUnflushed, Halts, DoesNext, FindsEnd, Finished}
-use Rattle.av_replay.specs.Replay.{most_lines, joined, Transcribes, Run, done_lines, Replays, IsLeft, StopsAt, MayGoOn, IsCutOff, Ends, status_at, Headline}
+use Rattle.av_replay.specs.Replay.{most_lines, all_lines, Transcribes, Run, done_lines, Replays, IsLeft, StopsAt, MayGoOn, IsCutOff, Ends, status_at, Headline}
 use Rattle.av_replay.proofs.Bytes.{Took-none, Took-ahead, Gained-none, take-add, Rose-earlier, Rose-later, rose_none}
 use Rattle.av_replay.proofs.Times.{later_same, later_then}
-use Rattle.av_replay.proofs.Runs.{Past, whole, SoFar, longer, next_answers, read_more, wrote_more, later_more, faults_more, legal_more, kernel_more, texts_more, all_push, Transcribes-push, joined-push}
+use Rattle.av_replay.proofs.Runs.{Past, whole, SoFar, longer, next_answers, read_more, wrote_more, later_more, faults_more, legal_more, kernel_more, texts_more, all_push, Transcribes-push, all_lines-push}
 
 -- ---- what the end of a turn leaves
 
@@ -40,7 +40,7 @@ few_whole lines few = omega (arith, few, ap length (append-nil lines))
 -- nothing was done in the turn, or only read
 pub waited : (n : ℕ) (past : Past) (ahead rest : List ℕ) (old now new : Streams) (k : Machine) → SoFar n past ahead old now k → length past.lines ≤ most_lines → ReadsOn ahead rest now new → Replays n old new (whole past) rest (texts past.transcript)
 waited n past ahead rest old now new k so_far few reads = record {
-  read = Took-ahead old.source.left new.source.left (joined past.lines) rest (subst (λ (l : Option (List ℕ)). Took old.source.left l (joined past.lines)) (sym reads.same) so_far.read);
+  read = Took-ahead old.source.left new.source.left (all_lines past.lines) rest (subst (λ (l : Option (List ℕ)). Took old.source.left l (all_lines past.lines)) (sym reads.same) so_far.read);
   near = reads.near;
   lines = so_far.lines;
   few = few_whole past.lines few;
@@ -71,7 +71,7 @@ module _ (n : ℕ) (past : Past) (ahead : List ℕ) (old now new : Streams) (k k
       let lines = past.lines ++ line ∷ [] in
       record {
         replays = record {
-          read = Took-ahead old.source.left new.source.left (joined lines) rest (subst (Took old.source.left (undone rest new)) (sym (joined-push past.lines line)) (read_more n past ahead old now new k k' line (10 ∷ []) rest text written so_far takes));
+          read = Took-ahead old.source.left new.source.left (all_lines lines) rest (subst (Took old.source.left (undone rest new)) (sym (all_lines-push past.lines line)) (read_more n past ahead old now new k k' line (10 ∷ []) rest text written so_far takes));
           near = takes.near;
           lines = all_push IsLine past.lines line so_far.lines takes.is_line;
           few = few_whole lines (omega (arith, length-append past.lines (line ∷ [])));
@@ -88,7 +88,7 @@ module _ (n : ℕ) (past : Past) (ahead : List ℕ) (old now new : Streams) (k k
   pub ends_last : (takes : TakesLine ahead now new k k' line [] rest text written) → rest ≡ [] → 0 < length line → IsAtEnd new.source → Leaves n rest old new k' (with_last past line (next_answers n past ahead old now new k k' line [] rest text written so_far takes).did (next_answers n past ahead old now new k k' line [] rest text written so_far takes).next) (texts past.transcript ++ written)
   ends_last takes none some end =
       let a = next_answers n past ahead old now new k k' line [] rest text written so_far takes in
-      let parts : (joined past.lines ++ (line ++ [])) ++ rest ≡ joined past.lines ++ (line ++ rest) = ap (λ (l : List ℕ). (joined past.lines ++ l) ++ rest) (append-nil line) ∙ append_assoc (joined past.lines) line rest in
+      let parts : (all_lines past.lines ++ (line ++ [])) ++ rest ≡ all_lines past.lines ++ (line ++ rest) = ap (λ (l : List ℕ). (all_lines past.lines ++ l) ++ rest) (append-nil line) ∙ append_assoc (all_lines past.lines) line rest in
       record {
         replays = record {
           read = subst (Took old.source.left new.source.left) parts (Took-ahead old.source.left new.source.left _ rest (read_more n past ahead old now new k k' line [] rest text written so_far takes));
@@ -302,7 +302,7 @@ module _ (n : ℕ) (old now new : Streams) (kernel : Machine) (source : new.sour
 
   replays_flush : (run : Run) (rest written : List ℕ) → Replays n old now run rest written → Replays n old new run rest written
   replays_flush run rest written r = record {
-    read = subst (λ (s : SourceView). Took old.source.left s.left (joined run.lines ++ (unwrap_or run.last [] ++ rest))) (sym source) r.read;
+    read = subst (λ (s : SourceView). Took old.source.left s.left (all_lines run.lines ++ (unwrap_or run.last [] ++ rest))) (sym source) r.read;
     near = r.near;
     lines = r.lines;
     few = r.few;

@@ -18,7 +18,7 @@ use Rattle.av_io.specs.Sink.{Gained}
 use Rattle.av_replay.specs.Streams.{Streams, undone, room, IsLater}
 use Rattle.av_replay.specs.Line.{IsLine}
 use Rattle.av_replay.specs.Turn.{texts, tally_of, Commands, Answers, TakesLine}
-use Rattle.av_replay.specs.Replay.{joined, Transcribes, Run, IsLeft, IsAtStart}
+use Rattle.av_replay.specs.Replay.{all_lines, Transcribes, Run, IsLeft, IsAtStart}
 use Rattle.av_replay.proofs.Bytes.{Took-then, Took-none, Gained-then, Gained-none, rose_none, rose_then}
 use Rattle.av_replay.proofs.Times.{later_same, later_then, setting_same}
 
@@ -34,8 +34,8 @@ Transcribes-push [] es line did e commands =
 Transcribes-push (x ∷ lines) es line did t commands =
     (t.0, t.1 ++ option_to_list did, ap (λ (l : List Exchange). l ++ option_to_list did) t.2 ∙ append_assoc (option_to_list t.0) t.1 (option_to_list did), t.3, Transcribes-push lines t.1 line did t.4 commands)
 
-pub joined-push : (lines : List (List ℕ)) (line : List ℕ) → joined (lines ++ line ∷ []) ≡ joined lines ++ (line ++ 10 ∷ [])
-joined-push lines line = flat_map-append (λ (l : List ℕ). l ++ 10 ∷ []) lines (line ∷ []) ∙ ap (λ (t : List ℕ). joined lines ++ t) (append-nil _)
+pub all_lines-push : (lines : List (List ℕ)) (line : List ℕ) → all_lines (lines ++ line ∷ []) ≡ all_lines lines ++ (line ++ 10 ∷ [])
+all_lines-push lines line = flat_map-append (λ (l : List ℕ). l ++ 10 ∷ []) lines (line ∷ []) ∙ ap (λ (t : List ℕ). all_lines lines ++ t) (append-nil _)
 
 pub IsRun-append : (m : Setting) (a b c : State) (es more : List Exchange) → IsRun m a es b → IsRun m b more c → IsRun m a (es ++ more) c
 IsRun-append m a b c [] more run then = subst (λ (s : State). IsRun m s more c) run then
@@ -59,7 +59,7 @@ whole past = record { lines = past.lines; last = None; transcript = past.transcr
 
 -- the lines so far were done, and their texts written; these bytes were read beyond them
 pub record SoFar (n : ℕ) (past : Past) (ahead : List ℕ) (old now : Streams) (kernel : Machine) : Type 0 where
-  pub read : Took old.source.left (undone ahead now) (joined past.lines)
+  pub read : Took old.source.left (undone ahead now) (all_lines past.lines)
   pub near : length ahead ≤ room
   pub lines : AllByRecursion IsLine past.lines
   pub commands : Transcribes past.lines past.transcript
@@ -96,7 +96,7 @@ module _ (n : ℕ) (past : Past) (ahead : List ℕ) (old now new : Streams) (k k
   next_answers = takes.does.answers past.state so_far.kernel_left.stands
 
   -- what was read, with the line
-  pub read_more : Took old.source.left (undone rest new) (joined past.lines ++ (line ++ ending))
+  pub read_more : Took old.source.left (undone rest new) (all_lines past.lines ++ (line ++ ending))
   read_more = Took-then _ _ _ _ _ so_far.read takes.took
 
   pub wrote_more : Gained old.sink.held new.sink.held (texts past.transcript ++ written)
@@ -135,7 +135,7 @@ pub goes_on : (n : ℕ) (past : Past) (ahead rest : List ℕ) (old now new : Str
 goes_on n past ahead rest old now new k k' line text so_far takes =
     let a = next_answers n past ahead old now new k k' line (10 ∷ []) rest text text so_far takes in
     record {
-      read = subst (Took old.source.left (undone rest new)) (sym (joined-push past.lines line)) (read_more n past ahead old now new k k' line (10 ∷ []) rest text text so_far takes);
+      read = subst (Took old.source.left (undone rest new)) (sym (all_lines-push past.lines line)) (read_more n past ahead old now new k k' line (10 ∷ []) rest text text so_far takes);
       near = takes.near;
       lines = all_push IsLine past.lines line so_far.lines takes.is_line;
       commands = Transcribes-push past.lines past.transcript line a.did so_far.commands a.commands;

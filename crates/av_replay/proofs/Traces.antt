@@ -13,7 +13,7 @@ use Rattle.av_io.specs.Source.{Took, HasEnded}
 use Rattle.av_replay.specs.Line.{IsLine, IsNoNewline, HasNoNewline}
 use Rattle.av_replay.specs.Turn.{IsBad}
 use Rattle.av_replay.specs.Streams.{Streams}
-use Rattle.av_replay.specs.Replay.{most_lines, joined, Headline}
+use Rattle.av_replay.specs.Replay.{most_lines, all_lines, Headline}
 use Rattle.av_replay.specs.Trace.{onto_first, lines_of, IsGood, IsComplete}
 
 lines_of-other : (b : ℕ) (bytes : List ℕ) → b ≢ 10 → lines_of (b ∷ bytes) ≡ onto_first b (lines_of bytes)
@@ -24,12 +24,12 @@ lines_of-line [] more none = refl
 lines_of-line (b ∷ line) more none =
     lines_of-other b (line ++ 10 ∷ more) (All-head IsNoNewline b line none) ∙ ap (onto_first b) (lines_of-line line more (All-tail IsNoNewline b line none))
 
-lines_of-joined : (lines : List (List ℕ)) (more : List ℕ) → AllByRecursion IsLine lines → lines_of (joined lines ++ more) ≡ lines ++ lines_of more
-lines_of-joined [] more all = refl
-lines_of-joined (line ∷ lines) more all =
-    ap lines_of (append_assoc (line ++ 10 ∷ []) (joined lines) more ∙ append_assoc line (10 ∷ []) (joined lines ++ more))
-    ∙ lines_of-line line (joined lines ++ more) all.0.one
-    ∙ ap (λ (ls : List (List ℕ)). line ∷ ls) (lines_of-joined lines more all.1)
+lines_of-all_lines : (lines : List (List ℕ)) (more : List ℕ) → AllByRecursion IsLine lines → lines_of (all_lines lines ++ more) ≡ lines ++ lines_of more
+lines_of-all_lines [] more all = refl
+lines_of-all_lines (line ∷ lines) more all =
+    ap lines_of (append_assoc (line ++ 10 ∷ []) (all_lines lines) more ∙ append_assoc line (10 ∷ []) (all_lines lines ++ more))
+    ∙ lines_of-line line (all_lines lines ++ more) all.0.one
+    ∙ ap (λ (ls : List (List ℕ)). line ∷ ls) (lines_of-all_lines lines more all.1)
 
 lines_of-last : (line : List ℕ) → HasNoNewline line → 0 < length line → lines_of line ≡ line ∷ []
 lines_of-last [] none some = absurd (omega arith)
@@ -79,11 +79,11 @@ member [] line others all = All-head IsGood line others all
 member (x ∷ lines) line others all = member lines line others (All-tail IsGood x (lines ++ line ∷ others) all)
 
 -- the lines that were done, and those that are left
-split : (lines : List (List ℕ)) (rest content more : List ℕ) → AllByRecursion IsLine lines → content ≡ (joined lines ++ rest) ++ more → lines_of content ≡ lines ++ lines_of (rest ++ more)
-split lines rest content more all e = ap lines_of (e ∙ append_assoc (joined lines) rest more) ∙ lines_of-joined lines (rest ++ more) all
+split : (lines : List (List ℕ)) (rest content more : List ℕ) → AllByRecursion IsLine lines → content ≡ (all_lines lines ++ rest) ++ more → lines_of content ≡ lines ++ lines_of (rest ++ more)
+split lines rest content more all e = ap lines_of (e ∙ append_assoc (all_lines lines) rest more) ∙ lines_of-all_lines lines (rest ++ more) all
 
 -- the first of the other lines is good
-first_good : (lines : List (List ℕ)) (rest content more line : List ℕ) (others : List (List ℕ)) → AllByRecursion IsLine lines → content ≡ (joined lines ++ rest) ++ more → All IsGood (lines_of content) → lines_of (rest ++ more) ≡ line ∷ others → IsGood line
+first_good : (lines : List (List ℕ)) (rest content more line : List ℕ) (others : List (List ℕ)) → AllByRecursion IsLine lines → content ≡ (all_lines lines ++ rest) ++ more → All IsGood (lines_of content) → lines_of (rest ++ more) ≡ line ∷ others → IsGood line
 first_good lines rest content more line others all e good are =
     member lines line others (subst (λ (ls : List (List ℕ)). All IsGood ls) (split lines rest content more all e ∙ ap (λ (ls : List (List ℕ)). lines ++ ls) are) good)
 
@@ -91,9 +91,9 @@ ended_is_nil : (left' : Option (List ℕ)) (more : List ℕ) → left' ≡ Some 
 ended_is_nil None more e ended = absurd cc
 ended_is_nil (Some rest) more e ended = sym (same_Some _ _ e) ∙ ended
 
-pub not_bad : (lines : List (List ℕ)) (rest content : List ℕ) (left' : Option (List ℕ)) → AllByRecursion IsLine lines → Took (Some content) left' (joined lines ++ rest) → All IsGood (lines_of content) → IsBad rest left' → ⊥
+pub not_bad : (lines : List (List ℕ)) (rest content : List ℕ) (left' : Option (List ℕ)) → AllByRecursion IsLine lines → Took (Some content) left' (all_lines lines ++ rest) → All IsGood (lines_of content) → IsBad rest left' → ⊥
 not_bad lines rest content left' all took good (inl long) =
-    let t = told content (joined lines ++ rest) left' took in
+    let t = told content (all_lines lines ++ rest) left' took in
     let front = take 8449 rest in
     let len : length front ≡ 8449 = length-take-le 8449 rest (omega (arith, long.long)) in
     let parts : rest ++ t.more ≡ front ++ (drop 8449 rest ++ t.more) = ap (λ (r : List ℕ). r ++ t.more) (sym (take-append-drop 8449 rest)) ∙ append_assoc front (drop 8449 rest) t.more in
@@ -101,7 +101,7 @@ not_bad lines rest content left' all took good (inl long) =
     let g = first_good lines rest content t.more f.line f.others all t.parts good (ap lines_of parts ∙ f.are) in
     omega (arith, g.is_line.short, f.long, len)
 not_bad lines rest content left' all took good (inr bad) =
-    let t = told content (joined lines ++ rest) left' took in
+    let t = told content (all_lines lines ++ rest) left' took in
     let line = bad.0 in
     let is_good : IsGood line = elim bad.3 [
       | inl newline ↦
@@ -115,9 +115,9 @@ not_bad lines rest content left' all took good (inr bad) =
     ] in
     bad.2 is_good.said is_good.says
 
-pub not_many : (lines : List (List ℕ)) (rest content : List ℕ) (left' : Option (List ℕ)) → AllByRecursion IsLine lines → Took (Some content) left' (joined lines ++ rest) → length (lines_of content) ≤ most_lines → length lines ≡ most_lines → 0 < length rest → ⊥
+pub not_many : (lines : List (List ℕ)) (rest content : List ℕ) (left' : Option (List ℕ)) → AllByRecursion IsLine lines → Took (Some content) left' (all_lines lines ++ rest) → length (lines_of content) ≤ most_lines → length lines ≡ most_lines → 0 < length rest → ⊥
 not_many lines rest content left' all took few many one =
-    let t = told content (joined lines ++ rest) left' took in
+    let t = told content (all_lines lines ++ rest) left' took in
     let some = some_line (rest ++ t.more) (omega (arith, length-append rest t.more)) in
     omega (arith, ap length (split lines rest content t.more all t.parts), length-append lines (lines_of (rest ++ t.more)), some)
 
@@ -134,7 +134,7 @@ complete n statuses.ReadFault old new kernel h content e trace no_read no_write 
 complete n statuses.WriteFault old new kernel h content e trace no_read no_write = no_write h.ends.1
 complete n (statuses.BadLine number) old new kernel h content e trace no_read no_write =
     let stops = h.ends.0 in
-    not_bad h.run.lines h.rest content new.source.left h.replays.lines (read_is old.source.left new.source.left content (joined h.run.lines) h.rest h.run.last e stops.0 h.replays.read) trace.good stops.3
+    not_bad h.run.lines h.rest content new.source.left h.replays.lines (read_is old.source.left new.source.left content (all_lines h.run.lines) h.rest h.run.last e stops.0 h.replays.read) trace.good stops.3
 complete n statuses.TooMany old new kernel h content e trace no_read no_write =
     let stops = h.ends.0 in
-    not_many h.run.lines h.rest content new.source.left h.replays.lines (read_is old.source.left new.source.left content (joined h.run.lines) h.rest h.run.last e stops.0 h.replays.read) trace.few stops.1 stops.2
+    not_many h.run.lines h.rest content new.source.left h.replays.lines (read_is old.source.left new.source.left content (all_lines h.run.lines) h.rest h.run.last e stops.0 h.replays.read) trace.few stops.1 stops.2

@@ -26,8 +26,8 @@ abbrev pub most_lines : ℕ
 most_lines = 2 ^ 24
 
 -- the lines with their newlines
-abbrev pub joined : List (List ℕ) → List ℕ
-joined lines = flat_map (λ line. line ++ 10 ∷ []) lines
+abbrev pub all_lines : List (List ℕ) → List ℕ
+all_lines lines = flat_map (λ line. line ++ 10 ∷ []) lines
 
 -- the lines command these, in order, and nothing else
 abbrev pub Transcribes : List (List ℕ) → List Exchange → Type 0
@@ -55,7 +55,7 @@ done_lines run = run.lines ++ option_to_list run.last
 pub record Replays (frames : ℕ) (old new : Streams) (run : Run) (rest written : List ℕ)
     : Type 0 where
   pub read : Took old.source.left new.source.left
-      (joined run.lines ++ (unwrap_or run.last [] ++ rest))
+      (all_lines run.lines ++ (unwrap_or run.last [] ++ rest))
   pub near : length rest ≤ room
   pub lines : AllByRecursion IsLine run.lines
   pub few : length (done_lines run) ≤ most_lines

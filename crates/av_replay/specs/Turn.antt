@@ -8,7 +8,7 @@ use Rattle.av_trace.specs.Print.{text_of}
 use Rattle.av_plain.specs.Transcript.{Exchange, State, IsRun, causes_of}
 use Rattle.av_kernel.specs.Machine.{Machine}
 use Rattle.av_kernel.specs.Kernel.{Stands}
-use Rattle.av_kernel.specs.Tally.{counted}
+use Rattle.av_kernel.specs.Tally.{tally_with}
 use Rattle.av_kernel.specs.declared.tally.Tally.{Tally}
 use Rattle.av_plain.specs.Device.{Device, setting_of}
 use Rattle.av_io.specs.Count.{Rose, RoseBy}
@@ -36,7 +36,7 @@ SaysNothing line = (said : Option Command) → Says line said → ⊥
 -- these replies, counted onto others
 abbrev pub tally_of : List Exchange → Tally → Tally
 tally_of [] tally = tally
-tally_of (e ∷ es) tally = tally_of es (counted e.reply.answer tally)
+tally_of (e ∷ es) tally = tally_of es (tally_with e.reply.answer tally)
 
 -- the kernel counted these replies, and is no more spent than it was
 pub record Counted (old new : Machine) (es : List Exchange) : Type 0 where

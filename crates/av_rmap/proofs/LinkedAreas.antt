@@ -10,7 +10,7 @@ use Rattle.av_interval.specs.Search.{overlaps}
 use Rattle.av_anon.specs.Anons.{Family, own_of}
 use Rattle.av_anon.specs.Order.{IsInOrder}
 use Rattle.av_anon.specs.Spans.{is_of, present}
-use Rattle.av_rmap.specs.View.{View, AreSpanned, viewed}
+use Rattle.av_rmap.specs.View.{View, AreSpanned, view_with}
 use Rattle.av_rmap.specs.Walk.{is_held}
 use Rattle.av_rmap.proofs.Counting.{numbers-as-many}
 use Rattle.av_rmap.proofs.SpanLemmas.{AreSpans, are_spans, overlaps-holds, many-filter}
@@ -33,7 +33,7 @@ by-number n (x ∷ xs) =
 
 pub spans-are-areas : (areas : ℕ → Option Area) (f : Family) (spans : ℕ → List Span) (v i : ℕ) → IsInOrder areas f spans → how_many (overlaps i) (spans v) ≡ how_many (λ a. is_held i (areas a)) (f.users v)
 spans-are-areas areas f spans v i order =
-    let view = viewed areas f spans (λ _ _. Empty) in
+    let view = view_with areas f spans (λ _ _. Empty) in
     let spanned : AreSpanned view = record { spanned = order.spanned; areas_fit = order.areas_fit } in
     by-area view i (spans v) (are_spans view v spanned)
     ∙ numbers-as-many (λ a. is_held i (areas a)) (numbers_of (spans v)) (f.users v) (λ n. by-number n (spans v) ∙ each n ∙ sym (order.inverse.inverse n v))

@@ -16,8 +16,8 @@ pub record View : Type 0 where
   pub spans : ℕ → List Span
   pub entry : ℕ → ℕ → Pte
 
-abbrev pub viewed : (ℕ → Option Area) → Family → (ℕ → List Span) → (ℕ → ℕ → Pte) → View
-viewed areas f spans entry =
+abbrev pub view_with : (ℕ → Option Area) → Family → (ℕ → List Span) → (ℕ → ℕ → Pte) → View
+view_with areas f spans entry =
     record { areas = areas; chain = f.chain; spans = spans; entry = entry }
 
 -- a part of chain order: the spans go with the links, and the areas' indices are numbers of the

@@ -6,14 +6,14 @@ ghost use Rattle.av_base.specs.Words.{how_many};
 ghost use Rattle.av_interval.specs.Search.{overlaps};
 ghost use Rattle.av_interval.specs.declared.span.Span.{Span};
 ghost use Rattle.av_pagetable.specs.declared.pte.Pte.{Pte};
-ghost use Rattle.av_rmap.specs.View.{AreSpanned, viewed};
+ghost use Rattle.av_rmap.specs.View.{AreSpanned, view_with};
 ghost use Rattle.av_rmap.specs.Walk.{is_held};
 ghost use Rattle.av_vma.specs.declared.area.Area.{Area};
 
 /// Of areas, chains and spans a walk needs no more than chain order.
 pub fn chain_order_is_enough()
     ensures { (areas : ℕ → Option Area) (f : Family) (spans : ℕ → List Span) (entry : ℕ → ℕ → Pte)
-        → IsInOrder areas f spans → AreSpanned (viewed areas f spans entry) }
+        → IsInOrder areas f spans → AreSpanned (view_with areas f spans entry) }
 {}
 
 /// Where a walk counts spans it counts areas: those linked to the anon_vma that hold the index.

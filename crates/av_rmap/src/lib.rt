@@ -14,6 +14,5 @@ pub mod covered;
 pub mod look;
 pub mod seen;
 pub mod sorted;
-pub mod steps;
 pub mod stores;
 pub mod walk;

@@ -4,7 +4,7 @@ ghost use Rattle.av_interval.specs.Search.{overlap_of, IsOrdered};
 ghost use Rattle.av_rmap.specs.View.{View};
 ghost use Rattle.av_rmap.specs.Walk.{holds, page_at};
 
-use crate::steps::Steps;
+use av_base::Steps;
 use av_pagetable::Pte;
 use std::sync::ledger::Ledger;
 

@@ -7,7 +7,7 @@ ghost use Rattle.av_rmap.specs.View.{AreApart, AreSpanned};
 ghost use Rattle.av_rmap.specs.Walk.{Key, holds, is_seen_in, names_seen};
 
 use crate::look::Look;
-use crate::steps::Steps;
+use av_base::Steps;
 use av_pagetable::Pte;
 use std::sync::ledger::Ledger;
 

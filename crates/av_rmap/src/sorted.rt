@@ -8,7 +8,7 @@ ghost use Rattle.av_rmap.specs.View.{AreApart, AreSpanned};
 ghost use Rattle.av_rmap.specs.Walk.{AreItsEntries, Key};
 
 use crate::look::Look;
-use crate::steps::Steps;
+use av_base::Steps;
 use crate::walk::walk;
 use std::alloc::{AllocError, Global};
 use std::sync::ledger::Ledger;

@@ -5,12 +5,10 @@ ghost use Rattle.av_interval.specs.Spans.{triples};
 ghost use Rattle.av_rmap.specs.Stores.{view_of};
 
 use crate::look::Look;
-use crate::steps::Steps;
 use av_anon::Anons;
-use av_base::PAGE_SIZE;
+use av_base::{PAGE_SIZE, Steps};
 use av_interval::Spans;
 use av_interval::nodes::Nodes;
-use av_interval::steps::Steps as Visits;
 use av_pagetable::{PageTable, Pte, Tables};
 use av_vma::Areas;
 use std::marker::Brand;
@@ -56,6 +54,6 @@ fn overlap<L: Ledger>(
     requires some { 0 < blank.parts }
     ensures { result ≡ overlap_of after index (triples spans.now anon) }
 {
-    let mut visits = Visits::<L>::open(blank);
+    let mut visits = Steps::<L>::open(blank);
     spans.overlap(anon, index, after, &mut visits)
 }

@@ -7,7 +7,7 @@ ghost use Rattle.av_rmap.specs.Covered.{IsCovered};
 ghost use Rattle.av_rmap.specs.Walk.{AreItsEntries, Key, found_in, holds, list_of, names_frame};
 
 use crate::look::Look;
-use crate::steps::Steps;
+use av_base::Steps;
 use av_pagetable::Pte;
 use std::sync::ledger::Ledger;
 

@@ -10,7 +10,7 @@ use Rattle.std.specs.List.{cons_option, filter_map, enumerate_from}
 use Rattle.av_base.specs.Words.{how_many}
 use Rattle.av_vma.specs.declared.area.Area.{Area}
 use Rattle.av_vmatree.specs.declared.span.Span.{Span}
-use Rattle.av_vmatree.specs.Spans.{area_at, span_of, taken}
+use Rattle.av_vmatree.specs.Spans.{area_at, span_of, is_page_taken}
 use Rattle.av_vma.specs.Pages.{Pages, pages_in}
 use Rattle.av_merge.specs.Pages.{pages_by}
 use Rattle.av_merge.specs.Process.{AreAreasOf, IsAreaOf, KeepsOthers, Stays}
@@ -133,7 +133,7 @@ pages_there f m p spans s trees is view page =
 pub none_dead : (f : ℕ → Option Area) (m : Trees) (p : ℕ) (s : Spaces) → None ≡ tree_at m p → spaces_by f m ≡ s → (page : ℕ) → None ≡ pages_of s p page
 none_dead f m p s is view page = sym (ap (λ s. pages_of s p page) (sym view) ∙ ap (λ o. pages_in o page) (areas_are f m p ∙ ap (option_map (areas_by f)) (sym is)))
 
-taken_at : (f : ℕ → Option Area) (p : ℕ) (spans : List Span) → AreAreasOf p f spans → (page : ℕ) → is_some (pages_by f spans page) ≡ taken spans page
+taken_at : (f : ℕ → Option Area) (p : ℕ) (spans : List Span) → AreAreasOf p f spans → (page : ℕ) → is_some (pages_by f spans page) ≡ is_page_taken spans page
 taken_at f p spans areas page = by (area_at spans page) refl
   where
     by : (o : Option ℕ) → area_at spans page ≡ o → is_some (option_and_then f o) ≡ is_some o
@@ -141,7 +141,7 @@ taken_at f p spans areas page = by (area_at spans page) refl
     by (Some n) at = ap is_some (held_by f p spans page n areas at).area_is
 
 -- the pages that are taken are those that the tree holds
-pub taken_as : (f : ℕ → Option Area) (m : Trees) (p : ℕ) (spans : List Span) (s : Spaces) → AreTrees f m → Some spans ≡ tree_at m p → spaces_by f m ≡ s → taken spans ≡ is_taken s p
+pub taken_as : (f : ℕ → Option Area) (m : Trees) (p : ℕ) (spans : List Span) (s : Spaces) → AreTrees f m → Some spans ≡ tree_at m p → spaces_by f m ≡ s → is_page_taken spans ≡ is_taken s p
 taken_as f m p spans s trees is view = λ i page. sym (ap is_some (pages_there f m p spans s trees is view page) ∙ taken_at f p spans (tree_of f m p spans trees (sym is)) page) i
 
 -- ---- the areas rise

@@ -9,7 +9,7 @@ ghost use Rattle.av_merge.specs.Mapping.{IsRemapped};
 ghost use Rattle.av_merge.specs.Pages.{IsReached};
 ghost use Rattle.av_merge.specs.Process.{AreAreasOf};
 ghost use Rattle.av_spaces.specs.Spaces.{areas_of, pages_of, is_taken, AreThese, AreRising, IsSpawned, IsChanged, IsEnded};
-ghost use Rattle.av_vma.specs.Pages.{mapped, unmapped, pages_changed, to_prot};
+ghost use Rattle.av_vma.specs.Pages.{after_map, after_unmap, pages_changed, to_prot, no_chains};
 ghost use Rattle.av_spaces.specs.Trees.{areas_by, tree_at, IsGrown};
 
 use av_base::Prot;
@@ -124,7 +124,7 @@ impl Spaces {
         requires high { from + pages ≤ top_page }
         requires free { IsFree (is_taken self.old process) from (from + pages) }
         ensures { OnOk result (IsChanged self.old self.new process
-            (AreThese (mapped process from (from + pages) prot (pages_of self.old process)))) }
+            (AreThese (after_map no_chains process from (from + pages) prot (pages_of self.old process)))) }
     {
         let mut tree = take_tree(&mut self.trees, process);
         let result = av_merge::map(
@@ -145,7 +145,7 @@ impl Spaces {
         requires lives { is_some (areas_of self.old process) ≡ true }
         requires past { from + pages < 2 ^ 64 }
         ensures { OnOk result (IsChanged self.old self.new process
-            (AreThese (unmapped from (from + pages) (pages_of self.old process)))) }
+            (AreThese (after_unmap from (from + pages) (pages_of self.old process)))) }
     {
         let mut tree = take_tree(&mut self.trees, process);
         let result = av_merge::cut(&mut self.areas, &mut tree, from, from + pages);
@@ -168,7 +168,7 @@ impl Spaces {
             IsReached (is_taken self.old process) from (from + pages) reached) }
         ensures ok { IfOk result (λ reached. IsChanged self.old self.new process
             (AreThese
-            (pages_changed (to_prot prot) from (reached - from) (pages_of self.old process)))) }
+            (pages_changed no_chains (to_prot prot) from (reached - from) (pages_of self.old process)))) }
         ensures mapping { IfOk result (λ reached. IsRemapped from reached (to_prot prot)
             (pages_of self.old process) (pages_of self.new process)) }
     {

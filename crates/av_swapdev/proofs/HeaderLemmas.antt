@@ -7,7 +7,7 @@ use Rattle.av_swapdev.specs.declared.header.Header.{Header}
 use Rattle.av_swapdev.specs.declared.header.HeaderFault.{HeaderFault}
 use Rattle.av_swapdev.specs.declared.header.HeaderFault.TheVariants.{Signature, LastPage, Short, TooManyBad, BadPage, NoSlot}
 use Rattle.av_base.specs.Words.{is_in, within}
-use Rattle.av_swapdev.specs.Header.{Layout, number_at, order_of, last_page, bad_count, named, all_named, area_pages, bad_of, slots_of, layout_of, is_out, with_slots, read_in, read_by, header_of, in_numbers, answer_of, IsHeaderOf, AddsUp}
+use Rattle.av_swapdev.specs.Header.{Layout, number_at, order_of, last_page, bad_count, numbers_at, all_named, area_pages, bad_of, slots_of, layout_of, is_out, with_slots, read_in, read_by, header_of, in_numbers, answer_of, IsHeaderOf, AddsUp}
 use Rattle.av_swapdev.proofs.HeaderSlots.{in_bad, slots_and_bad}
 
 passed : (b : Bool) (fault : HeaderFault) (rest : Result Layout HeaderFault) (header : Header) → answer_of (cond b (Err fault) rest) ≡ Ok header → (b ≡ false) × (answer_of rest ≡ Ok header)
@@ -25,18 +25,18 @@ record IsRead (order : Order) (page : List ℕ) (device : ℕ) (header : Header)
 
 read_in_ok : (order : Order) (page : List ℕ) (device : ℕ) (header : Header) → answer_of (read_in order page device) ≡ Ok header → IsRead order page device header
 read_in_ok order page device header e =
-    let named = all_named order page in
-    let layout = layout_of (area_pages order page) named in
-    let bad = cond (list_any (is_out (last_page order page)) named) (Err BadPage) (with_slots layout) in
+    let numbers_at = all_named order page in
+    let layout = layout_of (area_pages order page) numbers_at in
+    let bad = cond (list_any (is_out (last_page order page)) numbers_at) (Err BadPage) (with_slots layout) in
     let many = cond (ltb 637 (bad_count order page)) (Err TooManyBad) bad in
     let short = cond (ltb device (area_pages order page)) (Err Short) many in
     let behind_last = passed (eqb (last_page order page) 0) LastPage short header e in
     let behind_short = passed (ltb device (area_pages order page)) Short many header behind_last.1 in
     let behind_many = passed (ltb 637 (bad_count order page)) TooManyBad bad header behind_short.1 in
-    let behind_bad = passed (list_any (is_out (last_page order page)) named) BadPage (with_slots layout) header behind_many.1 in
+    let behind_bad = passed (list_any (is_out (last_page order page)) numbers_at) BadPage (with_slots layout) header behind_many.1 in
     let behind_slots = passed (eqb layout.slots 0) NoSlot (Ok layout) header behind_bad.1 in
     let same = of_ok layout header behind_slots.1 in
-    let all = slots_and_bad (area_pages order page) named in
+    let all = slots_and_bad (area_pages order page) numbers_at in
     record {
       pages = sym (ap (λ (h : Header). h.pages) same);
       few = few (bad_count order page) behind_many.0;
@@ -90,15 +90,15 @@ layout_is order page device layout found e = signed (ends_with eqb page (codes "
   where
     read : read_in order page device ≡ Ok layout → layout ≡ layout_of (area_pages order page) (all_named order page)
     read h =
-        let named = all_named order page in
-        let it = layout_of (area_pages order page) named in
-        let bad = cond (list_any (is_out (last_page order page)) named) (Err BadPage) (with_slots it) in
+        let numbers_at = all_named order page in
+        let it = layout_of (area_pages order page) numbers_at in
+        let bad = cond (list_any (is_out (last_page order page)) numbers_at) (Err BadPage) (with_slots it) in
         let many = cond (ltb 637 (bad_count order page)) (Err TooManyBad) bad in
         let short = cond (ltb device (area_pages order page)) (Err Short) many in
         let behind_last = kept (eqb (last_page order page) 0) LastPage short layout h in
         let behind_short = kept (ltb device (area_pages order page)) Short many layout behind_last in
         let behind_many = kept (ltb 637 (bad_count order page)) TooManyBad bad layout behind_short in
-        let behind_bad = kept (list_any (is_out (last_page order page)) named) BadPage (with_slots it) layout behind_many in
+        let behind_bad = kept (list_any (is_out (last_page order page)) numbers_at) BadPage (with_slots it) layout behind_many in
         same_layout it layout (Ok it) (Ok layout) refl refl (kept (eqb it.slots 0) NoSlot (Ok it) layout behind_bad)
 
     signed : (b : Bool) → cond b (read_by (order_of page) page device) (Err Signature) ≡ Ok layout → layout ≡ layout_of (area_pages order page) (all_named order page)
@@ -147,27 +147,27 @@ header_read order page device signed found = ap (λ (b : Bool). cond b (read_by 
 
 module _ (order : Order) (page : List ℕ) (device last pages count bad : ℕ)
     (last_is : last ≡ number_at order page 1028) (pages_is : pages ≡ min last 1048575 + 1) (count_is : count ≡ number_at order page 1032)
-    (some : last ≡ 0 → ⊥) (long : pages ≤ device) (few : count ≤ 637) (inside : list_any (is_out last) (named order page 0 count) ≡ false)
-    (bad_is : bad ≡ length (bad_of pages (named order page 0 count))) where
-  pub together : bad + length (slots_of pages (named order page 0 count)) ≡ pages - 1
-  together = let all = slots_and_bad pages (named order page 0 count) in omega arith
+    (some : last ≡ 0 → ⊥) (long : pages ≤ device) (few : count ≤ 637) (inside : list_any (is_out last) (numbers_at order page 0 count) ≡ false)
+    (bad_is : bad ≡ length (bad_of pages (numbers_at order page 0 count))) where
+  pub together : bad + length (slots_of pages (numbers_at order page 0 count)) ≡ pages - 1
+  together = let all = slots_and_bad pages (numbers_at order page 0 count) in omega arith
 
-  read : answer_of (read_in order page device) ≡ answer_of (with_slots (layout_of pages (named order page 0 count)))
+  read : answer_of (read_in order page device) ≡ answer_of (with_slots (layout_of pages (numbers_at order page 0 count)))
   read =
       let pages_are : pages ≡ area_pages order page = omega arith in
-      let inside_all = sym (ap (λ (l : ℕ). list_any (is_out l) (named order page 0 count)) last_is ∙ ap (λ (n : ℕ). list_any (is_out (last_page order page)) (named order page 0 n)) count_is) ∙ inside in
+      let inside_all = sym (ap (λ (l : ℕ). list_any (is_out l) (numbers_at order page 0 count)) last_is ∙ ap (λ (n : ℕ). list_any (is_out (last_page order page)) (numbers_at order page 0 n)) count_is) ∙ inside in
       ap answer_of (read_in_is order page device pages pages_are (λ none. some (last_is ∙ none)) long (omega arith) inside_all
-      ∙ sym (ap (λ (n : ℕ). with_slots (layout_of pages (named order page 0 n))) count_is))
+      ∙ sym (ap (λ (n : ℕ). with_slots (layout_of pages (numbers_at order page 0 n))) count_is))
 
   pub has_none : pages - 1 - bad ≡ 0 → Err NoSlot ≡ answer_of (read_in order page device)
   has_none none =
       let all = together in
-      sym (read ∙ no_slot (layout_of pages (named order page 0 count)) (omega arith))
+      sym (read ∙ no_slot (layout_of pages (numbers_at order page 0 count)) (omega arith))
 
   pub has_some : (pages - 1 - bad ≡ 0 → ⊥) → Ok (record { pages = pages; slots = pages - 1 - bad; bad = bad }) ≡ answer_of (read_in order page device)
   has_some some =
       let all = together in
-      let slots_are : length (slots_of pages (named order page 0 count)) ≡ pages - 1 - bad = omega arith in
-      let numbers : in_numbers (layout_of pages (named order page 0 count)) ≡ record { pages = pages; slots = pages - 1 - bad; bad = bad } =
+      let slots_are : length (slots_of pages (numbers_at order page 0 count)) ≡ pages - 1 - bad = omega arith in
+      let numbers : in_numbers (layout_of pages (numbers_at order page 0 count)) ≡ record { pages = pages; slots = pages - 1 - bad; bad = bad } =
       λ i. record { pages = pages; slots = slots_are i; bad = sym bad_is i } in
-      sym (read ∙ some_slots (layout_of pages (named order page 0 count)) (λ none. some (sym slots_are ∙ none)) ∙ ap (λ (h : Header). Ok h) numbers)
+      sym (read ∙ some_slots (layout_of pages (numbers_at order page 0 count)) (λ none. some (sym slots_are ∙ none)) ∙ ap (λ (h : Header). Ok h) numbers)

@@ -5,7 +5,7 @@ ghost use Rattle.std.specs.List.{list_any};
 ghost use Rattle.av_base.specs.Page.{page_size};
 ghost use Rattle.av_base.specs.Words.{is_in, within};
 ghost use Rattle.av_swapdev.specs.Device.{most_pages};
-ghost use Rattle.av_swapdev.specs.Header.{Layout, number_at, order_of, named, all_named, bad_of, slots_of, is_out, read_in, header_of, answer_of, IsHeaderOf, AddsUp};
+ghost use Rattle.av_swapdev.specs.Header.{Layout, number_at, order_of, numbers_at, all_named, bad_of, slots_of, is_out, read_in, header_of, answer_of, IsHeaderOf, AddsUp};
 
 use crate::device::MOST_PAGES;
 use byteorder::{BigEndian, ByteOrder, LittleEndian};
@@ -100,7 +100,7 @@ fn bad_at(page: &[u8], order: Order, place: u32) -> u32
 fn has_wrong(page: &[u8], order: Order, count: u32, last: u32) -> bool
     requires long { length page.now ≡ page_size }
     requires room { count ≤ 637 }
-    ensures { result ≡ list_any (is_out last) (named order page.now 0 count) }
+    ensures { result ≡ list_any (is_out last) (numbers_at order page.now 0 count) }
 {
     for place in 0..count {
         let bad = bad_at(page, order, place);
@@ -115,7 +115,7 @@ fn has_wrong(page: &[u8], order: Order, count: u32, last: u32) -> bool
 fn is_named(page: &[u8], order: Order, from: u32, count: u32, m: u32) -> bool
     requires long { length page.now ≡ page_size }
     requires room { count ≤ 637 }
-    ensures { result ≡ is_in m (named order page.now from (count - from)) }
+    ensures { result ≡ is_in m (numbers_at order page.now from (count - from)) }
 {
     for place in from..count {
         if m == bad_at(page, order, place) {
@@ -136,7 +136,7 @@ fn is_behind_header(m: u32, pages: u32) -> bool
 fn count_bad(page: &[u8], order: Order, count: u32, pages: u32) -> u32
     requires long { length page.now ≡ page_size }
     requires room { count ≤ 637 }
-    ensures { result ≡ length (bad_of pages (named order page.now 0 count)) }
+    ensures { result ≡ length (bad_of pages (numbers_at order page.now 0 count)) }
 {
     let mut distinct = 0;
     for place in 0..count {
@@ -217,7 +217,7 @@ fn marks(
     requires room { count ≤ 637 }
     ensures len { IfOk result (λ marks. length marks.items ≡ pages) }
     ensures named { IfOk result (λ marks. (m : ℕ) → m < pages
-        → slice_index_or marks.items m false ≡ is_in m (named order page.now 0 count)) }
+        → slice_index_or marks.items m false ≡ is_in m (numbers_at order page.now 0 count)) }
 {
     let mut marks = vec![in alloc; false; pages as usize]?;
     for place in 0..count {

@@ -32,7 +32,7 @@ fn little(last: u32, bad: &[u32]) -> Result<Header, HeaderFault>
 }
 
 /// A header with one number changed.
-fn changed(at: usize, number: u32) -> Result<Header, HeaderFault>
+fn with_number(at: usize, number: u32) -> Result<Header, HeaderFault>
     requires { at + 4 ≤ PAGE_LEN }
 {
     let mut page = header::<LittleEndian>(7, &[]);
@@ -61,12 +61,12 @@ fn faults(rt: HostRuntime) {
     let mut page = header::<LittleEndian>(7, &[]);
     page[PAGE_LEN - 1] = b'1';
     assert!(rt; read_header(&page, 8) == Err(HeaderFault::Signature));
-    assert!(rt; changed(1024, 2) == Err(HeaderFault::Version));
-    assert!(rt; changed(1024, 1 << 16) == Err(HeaderFault::Version));
+    assert!(rt; with_number(1024, 2) == Err(HeaderFault::Version));
+    assert!(rt; with_number(1024, 1 << 16) == Err(HeaderFault::Version));
     assert!(rt; little(0, &[]) == Err(HeaderFault::LastPage));
     assert!(rt; little(8, &[]) == Err(HeaderFault::Short));
     assert!(rt; little(u32::MAX, &[]) == Err(HeaderFault::Short));
-    assert!(rt; changed(1032, 638) == Err(HeaderFault::TooManyBad));
+    assert!(rt; with_number(1032, 638) == Err(HeaderFault::TooManyBad));
     assert!(rt; little(7, &[0]) == Err(HeaderFault::BadPage));
     assert!(rt; little(7, &[3, 8]) == Err(HeaderFault::BadPage));
     assert!(rt; little(1, &[1]) == Err(HeaderFault::NoSlot));
@@ -87,14 +87,14 @@ fn bad_pages_of_a_header(rt: HostRuntime) -> Result<(), Fail> {
 }
 
 /// Whether what has this name is attached as area 0, with so many pages.
-fn attached<D: SwapDev>(device: &mut D, name: &str, pages: u32) -> bool
+fn is_attached<D: SwapDev>(device: &mut D, name: &str, pages: u32) -> bool
     ensures { result ≡ true → D.sizes device.new 0 ≡ Some pages }
 {
     device.attach(0, name) == Ok(pages)
 }
 
 /// Copies a page of area 0, which has so many, to another.
-fn copied<D: SwapDev>(
+fn copy_page<D: SwapDev>(
     device: &mut D,
     pages: u32,
     from: u32,
@@ -116,12 +116,12 @@ fn memory(rt: HostRuntime) -> Result<(), Fail> {
     let mut device = MemDev::new(vec![in a; pages]?, vec![in a; 4, 7]?);
     let mut buffer = [0; PAGE_LEN];
     assert!(rt; device.attach(3, "none") == Ok(0));
-    assert!(rt; attached(&mut device, "some", 3));
+    assert!(rt; is_attached(&mut device, "some", 3));
     // The third call reads, and the fourth fails to write.
-    assert!(rt; copied(&mut device, 3, 2, 1, &mut buffer) == Err(Failed));
+    assert!(rt; copy_page(&mut device, 3, 2, 1, &mut buffer) == Err(Failed));
     assert!(rt; device.page(0, 1) == Some(&[!8; PAGE_LEN]));
-    assert!(rt; copied(&mut device, 3, 2, 0, &mut buffer) == Ok(()));
-    assert!(rt; copied(&mut device, 3, 1, 2, &mut buffer) == Err(Failed));
+    assert!(rt; copy_page(&mut device, 3, 2, 0, &mut buffer) == Ok(()));
+    assert!(rt; copy_page(&mut device, 3, 1, 2, &mut buffer) == Err(Failed));
     assert!(rt;
         device.page(0, 0) == Some(&[9; PAGE_LEN]) && device.page(0, 2) == Some(&[9; PAGE_LEN])
     );
@@ -150,8 +150,8 @@ fn files(rt: HostRuntime) -> Result<(), Fail> {
 
     let mut device = FileDev::new(rt.clone()?);
     let mut buffer = [0; PAGE_LEN];
-    assert!(rt; attached(&mut device, path.as_str(), 2));
-    assert!(rt; copied(&mut device, 2, 1, 0, &mut buffer) == Ok(()));
+    assert!(rt; is_attached(&mut device, path.as_str(), 2));
+    assert!(rt; copy_page(&mut device, 2, 1, 0, &mut buffer) == Ok(()));
     assert!(rt; buffer == [2; PAGE_LEN]);
     let now = fs::read(&rt, path.as_path())?;
     assert!(rt;
@@ -165,8 +165,8 @@ fn files(rt: HostRuntime) -> Result<(), Fail> {
         .write(true)
         .open(&rt, path.as_path())?
         .set_len(PAGE_LEN as u64)?;
-    assert!(rt; copied(&mut device, 2, 1, 0, &mut buffer) == Err(Failed));
+    assert!(rt; copy_page(&mut device, 2, 1, 0, &mut buffer) == Err(Failed));
     fs::remove_file(&rt, path.as_path())?;
-    assert!(rt; !attached(&mut device, path.as_str(), 1));
+    assert!(rt; !is_attached(&mut device, path.as_str(), 1));
     Ok(())
 }

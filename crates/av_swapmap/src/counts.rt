@@ -39,7 +39,7 @@ impl Counts {
         ensures { IfOk result (λ counts. seen counts ≡ fresh pages bad.now) }
     {
         Ok(Counts {
-            bytes: unnamed(alloc, pages, bad)?,
+            bytes: no_names(alloc, pages, bad)?,
             more: BTreeMap::new(alloc),
         })
     }
@@ -93,7 +93,7 @@ impl Counts {
     }
 
     /// Whether the swap cache holds the slot.
-    pub fn cached(&self, page: u32) -> bool
+    pub fn is_cached(&self, page: u32) -> bool
         requires { page < (seen self.now).pages }
         ensures { result ≡ (seen self.now).cached page }
     {
@@ -142,7 +142,7 @@ impl Counts {
 }
 
 /// The bytes of slots that no entry names, some of them bad.
-fn unnamed(alloc: Global, pages: u32, bad: &[u32]) -> Result<Vec<u8>, AllocError>
+fn no_names(alloc: Global, pages: u32, bad: &[u32]) -> Result<Vec<u8>, AllocError>
     ensures { IfOk result (λ v. (length v.items ≡ pages) × ((p : ℕ)
         → slice_index v.items p ≡ (if nat_lt p pages && is_in p bad.now then 63 else 0))) }
 {

@@ -6,7 +6,7 @@ use Rattle.av_base.specs.declared.prot.Prot.{Prot}
 use Rattle.av_trace.specs.declared.place.Place.{Place}
 use Rattle.av_trace.specs.declared.command.Command.{Command}
 use Rattle.av_trace.specs.declared.command.Command.TheVariants as commands
-use Rattle.av_trace.specs.Word.{line, ◌>>=◌, Reader, both, named}
+use Rattle.av_trace.specs.Word.{line, ◌>>=◌, Reader, both, by_name}
 use Rattle.av_trace.specs.Number.{IsNumberIn, IsProcess, IsWide, decimal_at, process_at, len_at, entry_at}
 use Rattle.av_trace.specs.Hex.{hex, hex_text, IsData, data_at}
 use Rattle.av_trace.specs.Prot.{prot_text, prot_at}
@@ -112,4 +112,4 @@ readers =
 
 -- the command of a whole line
 unfoldable pub command_of : List ℕ → Option Command
-command_of line = named readers line >>= λ found. found.0 found.1
+command_of line = by_name readers line >>= λ found. found.0 found.1

@@ -2,7 +2,7 @@
 use Rattle.std.specs.Prelude.{ℕ, List, [], ◌∷◌, codes, Some}
 use Rattle.av_trace.specs.declared.place.Place.{Place}
 use Rattle.av_trace.specs.declared.place.Place.TheVariants as places
-use Rattle.av_trace.specs.Word.{◌>>=◌, Reader, named}
+use Rattle.av_trace.specs.Word.{◌>>=◌, Reader, by_name}
 use Rattle.av_trace.specs.Number.{IsWide, address_at}
 use Rattle.av_trace.specs.Hex.{hex}
 
@@ -32,6 +32,6 @@ kinds =
 unfoldable pub place_at : Reader Place
 place_at [] = Some (places.Auto, [])
 place_at (b ∷ bytes) = do
-  kind ← named kinds (b ∷ bytes)
+  kind ← by_name kinds (b ∷ bytes)
   address ← address_at kind.1
   Some (kind.0 address.0, address.1)

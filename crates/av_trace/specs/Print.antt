@@ -10,17 +10,17 @@ use Rattle.av_trace.specs.Reply.{answer_line}
 use Rattle.av_trace.specs.Row.{row_line}
 
 -- a line, with its newline
-abbrev pub ended : List ℕ → List ℕ
-ended text = text ++ 10 ∷ []
+abbrev pub line_of : List ℕ → List ℕ
+line_of text = text ++ 10 ∷ []
 
 -- the lines of what follows an answer, each after a space
 abbrev pub notes_text : List Note → List ℕ
-notes_text notes = flat_map (λ note. ended (field (note_line note))) notes
+notes_text notes = flat_map (λ note. line_of (field (note_line note))) notes
 
 abbrev pub rows_text : List Row → List ℕ
-rows_text rows = flat_map (λ row. ended (field (row_line row))) rows
+rows_text rows = flat_map (λ row. line_of (field (row_line row))) rows
 
 -- the whole text
 abbrev pub text_of : Reply → List ℕ
 text_of reply =
-    ended (answer_line reply.answer) ++ notes_text reply.notes ++ rows_text reply.rows
+    line_of (answer_line reply.answer) ++ notes_text reply.notes ++ rows_text reply.rows

@@ -42,9 +42,9 @@ first_of x (Some rest) others = Some (x, rest)
 first_of x None others = others
 
 -- what stands beside the first name with which the bytes begin
-abbrev pub named : {A : Type 0} → List (List ℕ × A) → Reader A
-named [] bytes = None
-named (x ∷ xs) bytes = first_of x.1 (after x.0 bytes) (named xs bytes)
+abbrev pub by_name : {A : Type 0} → List (List ℕ × A) → Reader A
+by_name [] bytes = None
+by_name (x ∷ xs) bytes = first_of x.1 (after x.0 bytes) (by_name xs bytes)
 
 -- one reader, and then another
 unfoldable pub both : {A B : Type 0} → Reader A → Reader B → Reader (A × B)

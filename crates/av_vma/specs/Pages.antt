@@ -56,33 +56,42 @@ abbrev pub cut_at : ℕ → Pages → Pages
 cut_at at on page = option_map (part_of at page) (on page)
 
 -- nothing is left from one page to below another
-abbrev pub emptied : ℕ → ℕ → Pages → Pages
-emptied from past on page = if within from (past - from) page then None else on page
+abbrev pub without_range : ℕ → ℕ → Pages → Pages
+without_range from past on page = if within from (past - from) page then None else on page
 
 -- ---- join
 
 -- two areas that adjoin, as one, with the anon_vma that either has
-abbrev pub merged : Area → Area → Area
-merged left right = record left { end = right.end; anon = option_or left.anon right.anon }
+abbrev pub join_of : Area → Area → Area
+join_of left right = record left { end = right.end; anon = option_or left.anon right.anon }
 
--- whether two areas join. No area has a chain yet, so its length is 0
-abbrev pub join : Area → Area → Bool
-join left right = are_mergeable left 0 right 0
+-- how long an area's chain is, by the area's own anon_vma: areas with one have one chain
+abbrev pub Lengths : Type 0
+Lengths = Option ℕ → ℕ
+
+-- where no area has an anon_vma no chain has a node
+abbrev pub no_chains : Lengths
+no_chains own = 0
+
+-- whether two areas join
+abbrev pub do_join : Lengths → Area → Area → Bool
+do_join len left right = are_mergeable left (len left.anon) right (len right.anon)
 
 -- what is on a page, where these areas are on the two sides of a boundary that is tried
-abbrev pub tried : Option Area → Option Area → ℕ → Option Area → Option Area
-tried None right page now = now
-tried (Some left) None page now = now
-tried (Some left) (Some right) page now =
-    if join left right && has_page (merged left right) page then Some (merged left right) else now
+abbrev pub after_join : Lengths → Option Area → Option Area → ℕ → Option Area → Option Area
+after_join len None right page now = now
+after_join len (Some left) None page now = now
+after_join len (Some left) (Some right) page now =
+    if do_join len left right && has_page (join_of left right) page
+    then Some (join_of left right) else now
 
 -- the boundary before page `at` is tried: where the areas on its two sides join, they are one
-abbrev pub joined_at : ℕ → Pages → Pages
-joined_at at on page = tried (on (at - 1)) (on at) page (on page)
+abbrev pub joined_at : Lengths → ℕ → Pages → Pages
+joined_at len at on page = after_join len (on (at - 1)) (on at) page (on page)
 
 -- an area is tried with the one before, then with the one after
-abbrev pub joined_around : ℕ → ℕ → Pages → Pages
-joined_around from past on = joined_at past (joined_at from on)
+abbrev pub joined_around : Lengths → ℕ → ℕ → Pages → Pages
+joined_around len from past on = joined_at len past (joined_at len from on)
 
 -- ---- map
 
@@ -99,18 +108,19 @@ fresh_area p from past prot = record {
 }
 
 -- the area is on its pages
-abbrev pub placed : Area → Pages → Pages
-placed area on page = if has_page area page then Some area else on page
+abbrev pub with_area : Area → Pages → Pages
+with_area area on page = if has_page area page then Some area else on page
 
 -- the free pages from one to below another are mapped: a new area, joined with its neighbours
-abbrev pub mapped : ℕ → ℕ → ℕ → Prot → Pages → Pages
-mapped p from past prot on = joined_around from past (placed (fresh_area p from past prot) on)
+abbrev pub after_map : Lengths → ℕ → ℕ → ℕ → Prot → Pages → Pages
+after_map len p from past prot on =
+    joined_around len from past (with_area (fresh_area p from past prot) on)
 
 -- ---- unmap
 
 -- the pages from one to below another go: what is left of areas at the two ends isn't joined
-abbrev pub unmapped : ℕ → ℕ → Pages → Pages
-unmapped from past on = emptied from past (cut_at past (cut_at from on))
+abbrev pub after_unmap : ℕ → ℕ → Pages → Pages
+after_unmap from past on = without_range from past (cut_at past (cut_at from on))
 
 -- ---- change
 
@@ -139,22 +149,22 @@ alters_at effect None = false
 alters_at effect (Some area) = alters effect area
 
 -- the areas on the pages from one to below another have the effect
-abbrev pub affected : ℕ → ℕ → Effect → Pages → Pages
-affected from past effect on page =
+abbrev pub with_effect_on : ℕ → ℕ → Effect → Pages → Pages
+with_effect_on from past effect on page =
     if within from (past - from) page then option_map (with_effect effect) (on page) else on page
 
 -- a part of an area is cut out, has the effect, and is joined with its neighbours
-abbrev pub part_changed : ℕ → ℕ → Effect → Pages → Pages
-part_changed from past effect on =
-    joined_around from past (affected from past effect (cut_at past (cut_at from on)))
+abbrev pub part_changed : Lengths → ℕ → ℕ → Effect → Pages → Pages
+part_changed len from past effect on =
+    joined_around len from past (with_effect_on from past effect (cut_at past (cut_at from on)))
 
 -- so is one page, where its area isn't so already
-abbrev pub page_changed : Effect → ℕ → Pages → Pages
-page_changed effect page on =
-    if alters_at effect (on page) then part_changed page (page + 1) effect on else on
+abbrev pub page_changed : Lengths → Effect → ℕ → Pages → Pages
+page_changed len effect page on =
+    if alters_at effect (on page) then part_changed len page (page + 1) effect on else on
 
 -- n pages from one on, in turn
-abbrev pub pages_changed : Effect → ℕ → ℕ → Pages → Pages
-pages_changed effect from zero on = on
-pages_changed effect from (suc n) on =
-    pages_changed effect (from + 1) n (page_changed effect from on)
+abbrev pub pages_changed : Lengths → Effect → ℕ → ℕ → Pages → Pages
+pages_changed len effect from zero on = on
+pages_changed len effect from (suc n) on =
+    pages_changed len effect (from + 1) n (page_changed len effect from on)

@@ -6,7 +6,7 @@ use Rattle.av_base.specs.Words.{with_at}
 use Rattle.av_arena.specs.Order.{AllOf, NoneBetween, with_two, without_key}
 use Rattle.av_arena.proofs.Order.{AllOf-map}
 use Rattle.av_vmatree.specs.declared.span.Span.{Span}
-use Rattle.av_vmatree.specs.Spans.{start_of, holds, area_at, taken, span_of, with_span, unless_area, without_area, IsFree, AreApart, AreSpans}
+use Rattle.av_vmatree.specs.Spans.{start_of, holds, area_at, is_page_taken, span_of, with_span, unless_area, without_area, IsFree, AreApart, AreSpans}
 use Rattle.av_vmatree.proofs.Spans.{all_found, ended_here, holds_above, holds_here, inserted, removed_here}
 
 -- the span of an area that has these ends
@@ -54,12 +54,12 @@ cut_found l u s xs good found a b c some more other =
     let w0 = whole.0 in let w1 = whole.1 in
     let gone = removed_here n l.from xs good there in
     let none_own : (p : ℕ) → s.from ≤ p → p < s.to → is_some (unless_area n (area_at xs p)) ≡ false = λ p low high. rw (own_at n xs s p good.apart found low high, eq-eqb n n refl) refl in
-    let free : IsFree (taken (without_area n xs)) l.from l.to = λ p low high. subst (λ zs. taken zs p ≡ false) gone.spans (rw (gone.pages p) (none_own p (omega arith) (omega arith))) in
+    let free : IsFree (is_page_taken (without_area n xs)) l.from l.to = λ p low high. subst (λ zs. is_page_taken zs p ≡ false) gone.spans (rw (gone.pages p) (none_own p (omega arith) (omega arith))) in
     let e = ended_here l xs good there some (omega arith) free in
     let ys = with_span l (without_key start_of l.from xs) in
     let apart : u.area ≡ n → ⊥ = λ same. (let d : span_of xs n ≡ None = subst (λ i. span_of xs i ≡ None) same other in cc) in
     let new : span_of ys u.area ≡ None = e.areas u.area ∙ rw (ne_eqb u.area n apart) other in
-    let free' : IsFree (taken ys) u.from u.to = λ p low high. rw (e.pages p, holds_above l p (omega arith)) (none_own p (omega arith) (omega arith)) in
+    let free' : IsFree (is_page_taken ys) u.from u.to = λ p low high. rw (e.pages p, holds_above l p (omega arith)) (none_own p (omega arith) (omega arith)) in
     let i = inserted u ys e.good more (omega arith) (omega arith) free' new in
     record {
       good = i.good;

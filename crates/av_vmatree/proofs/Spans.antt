@@ -6,7 +6,7 @@ use Rattle.av_base.specs.Limits.{low_page, top_page}
 use Rattle.av_base.specs.Words.{with_at}
 use Rattle.av_arena.specs.Order.{AllOf, entry_at, with_entry, without_key}
 use Rattle.av_vmatree.specs.declared.span.Span.{Span}
-use Rattle.av_vmatree.specs.Spans.{start_of, holds, area_after, area_at, area_before, first_from, last_below, or_else, taken, span_of, with_span, unless_area, without_area, IsFree, AreApart, AreDistinct, AreSpans}
+use Rattle.av_vmatree.specs.Spans.{start_of, holds, area_after, area_at, area_before, first_from, last_below, or_else, is_page_taken, span_of, with_span, unless_area, without_area, IsFree, AreApart, AreDistinct, AreSpans}
 
 -- no span meets the n pages from p on
 abbrev pub AreClear : List Span → ℕ → ℕ → Type 0
@@ -33,10 +33,10 @@ some_free : (b : Bool) (a : ℕ) (x : Option ℕ) → is_some (cond b (Some a) x
 some_free true a x e = cc
 some_free false a x e = e
 
-tail_free : (s : Span) (xs : List Span) (f t : ℕ) → IsFree (taken (s ∷ xs)) f t → IsFree (taken xs) f t
+tail_free : (s : Span) (xs : List Span) (f t : ℕ) → IsFree (is_page_taken (s ∷ xs)) f t → IsFree (is_page_taken xs) f t
 tail_free s xs f t free = λ page low high. some_free (holds s page) s.area (area_at xs page) (free page low high)
 
-head_clear : (s : Span) (xs : List Span) (p n : ℕ) → 1 ≤ n → s.from < s.to → IsFree (taken (s ∷ xs)) p (p + n) → (s.to ≤ p) ⊎ (p + n ≤ s.from)
+head_clear : (s : Span) (xs : List Span) (p n : ℕ) → 1 ≤ n → s.from < s.to → IsFree (is_page_taken (s ∷ xs)) p (p + n) → (s.to ≤ p) ⊎ (p + n ≤ s.from)
 head_clear s xs p n one some free = elim (cases_lt p s.to) [
   | inr past ↦ inl past
   | inl not_past ↦ elim (cases_lt s.from (p + n)) [
@@ -44,18 +44,18 @@ head_clear s xs p n one some free = elim (cases_lt p s.to) [
     | inl not_before ↦
         let page = max p s.from in
         let here : holds s page ≡ true = holds_here s page (omega arith) (omega arith) in
-        let met : taken (s ∷ xs) page ≡ true = rw here refl in
+        let met : is_page_taken (s ∷ xs) page ≡ true = rw here refl in
         absurd (both_ways _ (free page (omega arith) (omega arith)) met)
   ]
 ]
 
 -- pages that are not taken are of no span
-pub clear_from_free : (p n : ℕ) (xs : List Span) → 1 ≤ n → AreApart xs → IsFree (taken xs) p (p + n) → AreClear xs p n
+pub clear_from_free : (p n : ℕ) (xs : List Span) → 1 ≤ n → AreApart xs → IsFree (is_page_taken xs) p (p + n) → AreClear xs p n
 clear_from_free p n [] one apart free = tt
 clear_from_free p n (s ∷ xs) one apart free = (head_clear s xs p n one apart.0 free, clear_from_free p n xs one apart.2 (tail_free s xs p (p + n) free))
 
 -- pages of no span are not taken
-pub free_from_clear : (p n : ℕ) (xs : List Span) → AreClear xs p n → IsFree (taken xs) p (p + n)
+pub free_from_clear : (p n : ℕ) (xs : List Span) → AreClear xs p n → IsFree (is_page_taken xs) p (p + n)
 free_from_clear p n [] clear = λ page low high. refl
 free_from_clear p n (s ∷ xs) clear = λ page low high.
     let out : holds s page ≡ false = elim clear.0 [ inl past ↦ holds_above s page (omega arith) | inr before ↦ holds_below s page (omega arith) ] in
@@ -233,7 +233,7 @@ pub record IsInserted (a : Span) (xs new : List Span) : Type 0 where
   pub areas : (n : ℕ) → span_of new n ≡ with_at a.area (Some a) (span_of xs) n
   pub pages : (p : ℕ) → area_at new p ≡ cond (holds a p) (Some a.area) (area_at xs p)
 
-pub inserted : (a : Span) (xs : List Span) → AreSpans xs → a.from < a.to → low_page ≤ a.from → a.to ≤ top_page → IsFree (taken xs) a.from a.to → span_of xs a.area ≡ None → IsInserted a xs (with_span a xs)
+pub inserted : (a : Span) (xs : List Span) → AreSpans xs → a.from < a.to → low_page ≤ a.from → a.to ≤ top_page → IsFree (is_page_taken xs) a.from a.to → span_of xs a.area ≡ None → IsInserted a xs (with_span a xs)
 inserted a xs good some low high free new =
     let clear : AreClear xs a.from (a.to - a.from) = clear_from_free a.from (a.to - a.from) xs (omega arith) good.apart (λ page least most. free page least (omega arith)) in
     record {
@@ -265,12 +265,12 @@ pub apart_right : (l : List Span) (a : Span) (r : List Span) → AreApart (l ++ 
 apart_right [] a r s = s.2
 apart_right (b ∷ l) a r s = apart_right l a r s.2
 
-pub inserted_span : (a : Span) (d xs new : List Span) → d ≡ xs → new ≡ with_span a d → AreSpans d → a.from < a.to → low_page ≤ a.from → a.to ≤ top_page → IsFree (taken xs) a.from a.to → span_of xs a.area ≡ None → IsInserted a xs new
+pub inserted_span : (a : Span) (d xs new : List Span) → d ≡ xs → new ≡ with_span a d → AreSpans d → a.from < a.to → low_page ≤ a.from → a.to ≤ top_page → IsFree (is_page_taken xs) a.from a.to → span_of xs a.area ≡ None → IsInserted a xs new
 inserted_span a d xs new is e good some low high free other =
     subst (IsInserted a xs) (sym (e ∙ ap (with_span a) is)) (inserted a xs (subst AreSpans is good) some low high free other)
 
 -- what an insertion leaves that can lack memory
-pub inserted_if : {E : Type 0} (r : Result Unit E) (a : Span) (d xs new : List Span) → d ≡ xs → new ≡ cond (is_ok r) (with_span a d) d → AreSpans d → a.from < a.to → low_page ≤ a.from → a.to ≤ top_page → IsFree (taken xs) a.from a.to → span_of xs a.area ≡ None → OnOk r (IsInserted a xs new) × AreSpans new
+pub inserted_if : {E : Type 0} (r : Result Unit E) (a : Span) (d xs new : List Span) → d ≡ xs → new ≡ cond (is_ok r) (with_span a d) d → AreSpans d → a.from < a.to → low_page ≤ a.from → a.to ≤ top_page → IsFree (is_page_taken xs) a.from a.to → span_of xs a.area ≡ None → OnOk r (IsInserted a xs new) × AreSpans new
 inserted_if (Ok _) a d xs new is e good some low high free other = let h = inserted_span a d xs new is e good some low high free other in (h, h.good)
 inserted_if (Err _) a d xs new is e good some low high free other = (tt, subst AreSpans (sym e) good)
 
@@ -394,12 +394,12 @@ pub low_there : (n first : ℕ) (found : Option Span) (xs : List Span) → AreSp
 low_there n first None xs good is there = absurd there
 low_there n first (Some a) xs good is there = subst (λ k. low_page ≤ k) there (all_found (λ b. (low_page ≤ b.from) × (b.to ≤ top_page)) n xs a good.within is).0
 
-pub ended_here : (s : Span) (xs : List Span) → AreSpans xs → IsSomeAnd (span_of xs s.area) (λ a. a.from ≡ s.from) → s.from < s.to → s.to ≤ top_page → IsFree (taken (without_area s.area xs)) s.from s.to → IsEnded s xs (with_span s (without_key start_of s.from xs))
+pub ended_here : (s : Span) (xs : List Span) → AreSpans xs → IsSomeAnd (span_of xs s.area) (λ a. a.from ≡ s.from) → s.from < s.to → s.to ≤ top_page → IsFree (is_page_taken (without_area s.area xs)) s.from s.to → IsEnded s xs (with_span s (without_key start_of s.from xs))
 ended_here s xs good there some high free =
     let left = removed_here s.area s.from xs good there in
     let new = without_key start_of s.from xs in
     let none : span_of new s.area ≡ None = left.areas s.area ∙ rw (eq-eqb s.area s.area refl) refl in
-    let h = inserted s new left.good some (low_there s.area s.from (span_of xs s.area) xs good refl there) high (subst (λ l. IsFree (taken l) s.from s.to) (sym left.spans) free) none in
+    let h = inserted s new left.good some (low_there s.area s.from (span_of xs s.area) xs good refl there) high (subst (λ l. IsFree (is_page_taken l) s.from s.to) (sym left.spans) free) none in
     record {
       good = h.good;
       spans = ap (with_span s) left.spans;
@@ -407,7 +407,7 @@ ended_here s xs good there some high free =
       pages = λ p. h.pages p ∙ ap (cond (holds s p) (Some s.area)) (left.pages p);
     }
 
-pub ended : (s : Span) (d xs new : List Span) → d ≡ xs → AreSpans d → IsSomeAnd (span_of xs s.area) (λ a. a.from ≡ s.from) → s.from < s.to → s.to ≤ top_page → IsFree (taken (without_area s.area xs)) s.from s.to → new ≡ with_span s (without_key start_of s.from d) → IsEnded s xs new
+pub ended : (s : Span) (d xs new : List Span) → d ≡ xs → AreSpans d → IsSomeAnd (span_of xs s.area) (λ a. a.from ≡ s.from) → s.from < s.to → s.to ≤ top_page → IsFree (is_page_taken (without_area s.area xs)) s.from s.to → new ≡ with_span s (without_key start_of s.from d) → IsEnded s xs new
 ended s d xs new is good there some high free e =
     subst (IsEnded s xs) (sym (e ∙ ap (λ l. with_span s (without_key start_of s.from l)) is)) (ended_here s xs (subst AreSpans is good) there some high free)
 
@@ -529,7 +529,7 @@ room_here xs g = let h = room_more xs g in omega (arith, h)
 holds_start : (s : Span) (page : ℕ) → s.from < s.to → s.from ≡ page → holds s page ≡ false → ⊥
 holds_start s page h e q = let d : holds s page ≡ true = holds_here s page (omega arith) (omega arith) in cc
 
-pub no_start : (spans : List Span) → AreApart spans → (page : ℕ) → taken spans page ≡ false → entry_at start_of page spans ≡ None
+pub no_start : (spans : List Span) → AreApart spans → (page : ℕ) → is_page_taken spans page ≡ false → entry_at start_of page spans ≡ None
 no_start [] a page e = refl
 no_start (s ∷ t) a page e = elim (holds s page) as (λ b. holds s page ≡ b → is_some (cond b (Some s.area) (area_at t page)) ≡ false → entry_at start_of page (s ∷ t) ≡ None) [
   | true ↦ λ q d. cc

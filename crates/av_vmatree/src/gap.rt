@@ -1,7 +1,7 @@
 ghost use Rattle.std.specs.Prelude.{◌≡◌, ◌≤◌};
 ghost use Rattle.av_vma.specs.Gap.{IsGap};
 ghost use Rattle.av_vmatree.specs.Extent.{last_between, fits};
-ghost use Rattle.av_vmatree.specs.Spans.{AreApart, AreWithin, taken};
+ghost use Rattle.av_vmatree.specs.Spans.{AreApart, AreWithin, is_page_taken};
 
 use crate::span::{Extent, Span};
 use av_arena::Avl;
@@ -13,7 +13,7 @@ pub fn gap_in(spans: &Avl<Span>, pages: u64) -> Option<u64>
     requires some { 1 ≤ pages }
     requires apart { AreApart spans.now }
     requires within { AreWithin spans.now }
-    ensures { IsGap (taken spans.now) pages result }
+    ensures { IsGap (is_page_taken spans.now) pages result }
 {
     let mut low = LOW_PAGE;
     let mut high = TOP_PAGE;

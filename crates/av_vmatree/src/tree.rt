@@ -2,7 +2,7 @@ ghost use Rattle.std.specs.Prelude.{◌≡◌, ℕ, ◌-◌, ◌<◌, ◌≤◌,
 ghost use Rattle.av_base.specs.Limits.{low_page, top_page};
 ghost use Rattle.av_vma.specs.Gap.{IsGap};
 ghost use Rattle.av_base.specs.Words.{within, with_at};
-ghost use Rattle.av_vmatree.specs.Spans.{AreSpans, IsFree, IsMet, area_after, area_at, area_before, first_from, holds, last_below, span, span_of, taken, unless_area, with_span, without_area};
+ghost use Rattle.av_vmatree.specs.Spans.{AreSpans, IsFree, IsMet, area_after, area_at, area_before, first_from, holds, last_below, span, span_of, is_page_taken, unless_area, with_span, without_area};
 
 use crate::gap::gap_in;
 use crate::span::Span;
@@ -51,7 +51,7 @@ impl Tree {
         requires some { from < to }
         requires low { low_page ≤ from }
         requires high { to ≤ top_page }
-        requires free { IsFree (taken self.old) from to }
+        requires free { IsFree (is_page_taken self.old) from to }
         requires other { span_of self.old area ≡ None }
         ensures spans { self.new ≡ (if is_ok result then with_span (span area from to) self.old
             else self.old) }
@@ -90,7 +90,7 @@ impl Tree {
         requires there { IsSomeAnd (span_of self.old area) (λ s. s.from ≡ from) }
         requires some { from < to }
         requires high { to ≤ top_page }
-        requires free { IsFree (taken (without_area area self.old)) from to }
+        requires free { IsFree (is_page_taken (without_area area self.old)) from to }
         ensures spans { self.new ≡ with_span (span area from to) (without_area area self.old) }
         ensures areas { (number : ℕ) → span_of self.new number ≡ with_at area
             (Some (span area from to)) (span_of self.old) number }
@@ -205,8 +205,8 @@ impl Tree {
     /// Whether no area holds a page from `from` to below `to`.
     pub fn is_free(&self, from: u64, to: u64) -> bool
         requires { from ≤ to }
-        ensures free { result ≡ true → IsFree (taken self.now) from to }
-        ensures met { result ≡ false → IsMet (taken self.now) from to }
+        ensures free { result ≡ true → IsFree (is_page_taken self.now) from to }
+        ensures met { result ≡ false → IsMet (is_page_taken self.now) from to }
     {
         if from == to {
             return true;
@@ -238,7 +238,7 @@ impl Tree {
     /// The greatest page from which on `pages` pages are free, or none where there is no such page.
     pub fn gap(&self, pages: u64) -> Option<u64>
         requires { 1 ≤ pages }
-        ensures { IsGap (taken self.now) pages result }
+        ensures { IsGap (is_page_taken self.now) pages result }
     {
         gap_in(&self.spans, pages)
     }

@@ -1,6 +1,6 @@
 use Rattle.std.proofs.Common.{rules, ◌≡◌, ◌<◌, Some, false, sym, subst, ◌∙◌}
 use Rattle.std.proofs.lemmas.Bool.{ltb-true, ltb-false}
-use Rattle.av_arena.specs.Arena.{stored}
+use Rattle.av_arena.specs.Arena.{store_of}
 use Rattle.av_arena.specs.Below.{IsAt, left_number, right_number}
 use Rattle.av_arena.proofs.BelowLemmas.{key_left_below, key_right_below, later_other, left_lower, left_ready, left_used, removed_left_same, removed_left_settled, removed_left_step, removed_left_taken, removed_right_same, removed_right_settled, removed_right_step, removed_right_taken, right_lower, right_ready, right_used}
 use Rattle.av_arena.proofs.below.+removed_below.Goals as goal
@@ -8,7 +8,7 @@ use Rattle.av_arena.proofs.below.+removed_below.Goals as goal
 pub take_left-requires-clause-there : goal.take_left-requires-clause-there
 take_left-requires-clause-there g t c =
     let m = g.T.Entry in
-    let s = stored c.args.arena.now in
+    let s = store_of c.args.arena.now in
     let v = c.look.result.now in
     let x = c.args.like.now in
     let r = c.requires.there in
@@ -19,18 +19,18 @@ take_left-requires-clause-there g t c =
 pub returns-then-is_at : goal.returns-then-is_at
 returns-then-is_at g t c =
     let m = g.T.Entry in
-    let s = stored c.args.arena.now in
+    let s = store_of c.args.arena.now in
     let v = c.look.result.now in
     let x = c.args.like.now in
     let r = c.requires.there in
     let lt : m.key x < m.key v.entry = ltb-true _ _ (search rules) in
     let at : left_number (s c.args.number) ≡ Some c.in-Some.side = sym c.left_of.ensures ∙ c.in-Some.is in
-    removed_left_taken m.key m.unit m.op m.of g.met.T.Entry.laws s (stored c.take_left.new.arena) c.args.number v c.in-Some.side x c.look.ensures at lt c.take_left.ensures
+    removed_left_taken m.key m.unit m.op m.of g.met.T.Entry.laws s (store_of c.take_left.new.arena) c.args.number v c.in-Some.side x c.look.ensures at lt c.take_left.ensures
 
 pub removed_below-out-requires : goal.removed_below-out-requires
 removed_below-out-requires g t c κs within =
     let m = g.T.Entry in
-    let s = stored c.args.arena.now in
+    let s = store_of c.args.arena.now in
     let v = c.look.result.now in
     let x = c.args.like.now in
     let r = c.requires.there in
@@ -44,53 +44,53 @@ removed_below-out-requires g t c κs within =
 pub returns-then-not-changed : goal.returns-then-not-changed
 returns-then-not-changed g t c =
     let m = g.T.Entry in
-    let s = stored c.args.arena.now in
+    let s = store_of c.args.arena.now in
     let v = c.look.result.now in
     let x = c.args.like.now in
     let r = c.requires.there in
     let lt : m.key x < m.key v.entry = ltb-true _ _ (search rules) in
     let at : left_number (s c.args.number) ≡ Some c.in-Some.side = sym c.left_of.ensures ∙ c.in-Some.is in
-    removed_left_same m.key m.unit m.op m.of g.met.T.Entry.laws s (stored c.removed_below-out.new.arena) c.args.number c.removed_below-out.result.0 v c.in-Some.side x _ c.look.ensures at lt c.removed_below-out.ensures (search rules)
+    removed_left_same m.key m.unit m.op m.of g.met.T.Entry.laws s (store_of c.removed_below-out.new.arena) c.args.number c.removed_below-out.result.0 v c.in-Some.side x _ c.look.ensures at lt c.removed_below-out.ensures (search rules)
 
 pub left_settled-requires-clause-side : goal.left_settled-requires-clause-side
 left_settled-requires-clause-side g t c =
     let m = g.T.Entry in
-    let s = stored c.args.arena.now in
+    let s = store_of c.args.arena.now in
     let v = c.look.result.now in
     let x = c.args.like.now in
     let r = c.requires.there in
     let lt : m.key x < m.key v.entry = ltb-true _ _ (search rules) in
     let at : left_number (s c.args.number) ≡ Some c.in-Some.side = sym c.left_of.ensures ∙ c.in-Some.is in
-    let p = removed_left_step m.key m.unit m.op m.of g.met.T.Entry.laws s (stored c.removed_below-out.new.arena) c.args.number c.removed_below-out.result.0 r.link v c.in-Some.side x _ r.number r.there c.look.ensures at lt c.removed_below-out.ensures in
-    left_ready m.key m.unit m.op m.of g.met.T.Entry.laws s (stored c.removed_below-out.new.arena) c.args.number r.link v c.in-Some.side _ _ _ _ 1 0 p r.low
+    let p = removed_left_step m.key m.unit m.op m.of g.met.T.Entry.laws s (store_of c.removed_below-out.new.arena) c.args.number c.removed_below-out.result.0 r.link v c.in-Some.side x _ r.number r.there c.look.ensures at lt c.removed_below-out.ensures in
+    left_ready m.key m.unit m.op m.of g.met.T.Entry.laws s (store_of c.removed_below-out.new.arena) c.args.number r.link v c.in-Some.side _ _ _ _ 1 0 p r.low
 
 pub left_settled-requires-clause-used : goal.left_settled-requires-clause-used
 left_settled-requires-clause-used g t c =
     let m = g.T.Entry in
-    let s = stored c.args.arena.now in
+    let s = store_of c.args.arena.now in
     let v = c.look.result.now in
     let x = c.args.like.now in
     let r = c.requires.there in
     let lt : m.key x < m.key v.entry = ltb-true _ _ (search rules) in
     let at : left_number (s c.args.number) ≡ Some c.in-Some.side = sym c.left_of.ensures ∙ c.in-Some.is in
-    let p = removed_left_step m.key m.unit m.op m.of g.met.T.Entry.laws s (stored c.removed_below-out.new.arena) c.args.number c.removed_below-out.result.0 r.link v c.in-Some.side x _ r.number r.there c.look.ensures at lt c.removed_below-out.ensures in
-    left_used m.key m.unit m.op m.of g.met.T.Entry.laws s (stored c.removed_below-out.new.arena) c.args.number r.link v c.in-Some.side _ _ _ _ 1 0 p r.number
+    let p = removed_left_step m.key m.unit m.op m.of g.met.T.Entry.laws s (store_of c.removed_below-out.new.arena) c.args.number c.removed_below-out.result.0 r.link v c.in-Some.side x _ r.number r.there c.look.ensures at lt c.removed_below-out.ensures in
+    left_used m.key m.unit m.op m.of g.met.T.Entry.laws s (store_of c.removed_below-out.new.arena) c.args.number r.link v c.in-Some.side _ _ _ _ 1 0 p r.number
 
 pub returns-then-is_before : goal.returns-then-is_before
 returns-then-is_before g t c =
     let m = g.T.Entry in
-    let s = stored c.args.arena.now in
+    let s = store_of c.args.arena.now in
     let v = c.look.result.now in
     let x = c.args.like.now in
     let r = c.requires.there in
     let lt : m.key x < m.key v.entry = ltb-true _ _ (search rules) in
     let at : left_number (s c.args.number) ≡ Some c.in-Some.side = sym c.left_of.ensures ∙ c.in-Some.is in
-    removed_left_settled m.key m.unit m.op m.of g.met.T.Entry.laws s (stored c.removed_below-out.new.arena) (stored c.left_settled.new.arena) c.args.number c.removed_below-out.result.0 v c.in-Some.side x _ c.left_settled.result c.look.ensures at lt c.removed_below-out.ensures c.left_settled.ensures
+    removed_left_settled m.key m.unit m.op m.of g.met.T.Entry.laws s (store_of c.removed_below-out.new.arena) (store_of c.left_settled.new.arena) c.args.number c.removed_below-out.result.0 v c.in-Some.side x _ c.left_settled.result c.look.ensures at lt c.removed_below-out.ensures c.left_settled.ensures
 
 pub take_right-requires-clause-there : goal.take_right-requires-clause-there
 take_right-requires-clause-there g t c =
     let m = g.T.Entry in
-    let s = stored c.args.arena.now in
+    let s = store_of c.args.arena.now in
     let v = c.look.result.now in
     let x = c.args.like.now in
     let r = c.requires.there in
@@ -101,18 +101,18 @@ take_right-requires-clause-there g t c =
 pub returns-then-is_at-2 : goal.returns-then-is_at-2
 returns-then-is_at-2 g t c =
     let m = g.T.Entry in
-    let s = stored c.args.arena.now in
+    let s = store_of c.args.arena.now in
     let v = c.look.result.now in
     let x = c.args.like.now in
     let r = c.requires.there in
     let lt = later_other m.key m.unit m.op m.of g.met.T.Entry.laws s c.args.number v x c.look.ensures c.requires.other (ltb-false _ _ (search rules)) in
     let at : right_number (s c.args.number) ≡ Some c.in-Some-right_of.side = sym c.right_of.ensures ∙ c.in-Some-right_of.is in
-    removed_right_taken m.key m.unit m.op m.of g.met.T.Entry.laws s (stored c.take_right.new.arena) c.args.number v c.in-Some-right_of.side x c.look.ensures at lt c.take_right.ensures
+    removed_right_taken m.key m.unit m.op m.of g.met.T.Entry.laws s (store_of c.take_right.new.arena) c.args.number v c.in-Some-right_of.side x c.look.ensures at lt c.take_right.ensures
 
 pub removed_below-out-requires-2 : goal.removed_below-out-requires-2
 removed_below-out-requires-2 g t c κs within =
     let m = g.T.Entry in
-    let s = stored c.args.arena.now in
+    let s = store_of c.args.arena.now in
     let v = c.look.result.now in
     let x = c.args.like.now in
     let r = c.requires.there in
@@ -126,45 +126,45 @@ removed_below-out-requires-2 g t c κs within =
 pub returns-then-not-changed-2 : goal.returns-then-not-changed-2
 returns-then-not-changed-2 g t c =
     let m = g.T.Entry in
-    let s = stored c.args.arena.now in
+    let s = store_of c.args.arena.now in
     let v = c.look.result.now in
     let x = c.args.like.now in
     let r = c.requires.there in
     let lt = later_other m.key m.unit m.op m.of g.met.T.Entry.laws s c.args.number v x c.look.ensures c.requires.other (ltb-false _ _ (search rules)) in
     let at : right_number (s c.args.number) ≡ Some c.in-Some-right_of.side = sym c.right_of.ensures ∙ c.in-Some-right_of.is in
-    removed_right_same m.key m.unit m.op m.of g.met.T.Entry.laws s (stored c.removed_below-out-2.new.arena) c.args.number c.removed_below-out-2.result.0 v c.in-Some-right_of.side x _ c.look.ensures at lt c.removed_below-out-2.ensures (search rules)
+    removed_right_same m.key m.unit m.op m.of g.met.T.Entry.laws s (store_of c.removed_below-out-2.new.arena) c.args.number c.removed_below-out-2.result.0 v c.in-Some-right_of.side x _ c.look.ensures at lt c.removed_below-out-2.ensures (search rules)
 
 pub right_settled-requires-clause-side : goal.right_settled-requires-clause-side
 right_settled-requires-clause-side g t c =
     let m = g.T.Entry in
-    let s = stored c.args.arena.now in
+    let s = store_of c.args.arena.now in
     let v = c.look.result.now in
     let x = c.args.like.now in
     let r = c.requires.there in
     let lt = later_other m.key m.unit m.op m.of g.met.T.Entry.laws s c.args.number v x c.look.ensures c.requires.other (ltb-false _ _ (search rules)) in
     let at : right_number (s c.args.number) ≡ Some c.in-Some-right_of.side = sym c.right_of.ensures ∙ c.in-Some-right_of.is in
-    let p = removed_right_step m.key m.unit m.op m.of g.met.T.Entry.laws s (stored c.removed_below-out-2.new.arena) c.args.number c.removed_below-out-2.result.0 r.link v c.in-Some-right_of.side x _ r.number r.there c.look.ensures at lt c.removed_below-out-2.ensures in
-    right_ready m.key m.unit m.op m.of g.met.T.Entry.laws s (stored c.removed_below-out-2.new.arena) c.args.number r.link v c.in-Some-right_of.side _ _ _ _ 1 0 p r.low
+    let p = removed_right_step m.key m.unit m.op m.of g.met.T.Entry.laws s (store_of c.removed_below-out-2.new.arena) c.args.number c.removed_below-out-2.result.0 r.link v c.in-Some-right_of.side x _ r.number r.there c.look.ensures at lt c.removed_below-out-2.ensures in
+    right_ready m.key m.unit m.op m.of g.met.T.Entry.laws s (store_of c.removed_below-out-2.new.arena) c.args.number r.link v c.in-Some-right_of.side _ _ _ _ 1 0 p r.low
 
 pub right_settled-requires-clause-used : goal.right_settled-requires-clause-used
 right_settled-requires-clause-used g t c =
     let m = g.T.Entry in
-    let s = stored c.args.arena.now in
+    let s = store_of c.args.arena.now in
     let v = c.look.result.now in
     let x = c.args.like.now in
     let r = c.requires.there in
     let lt = later_other m.key m.unit m.op m.of g.met.T.Entry.laws s c.args.number v x c.look.ensures c.requires.other (ltb-false _ _ (search rules)) in
     let at : right_number (s c.args.number) ≡ Some c.in-Some-right_of.side = sym c.right_of.ensures ∙ c.in-Some-right_of.is in
-    let p = removed_right_step m.key m.unit m.op m.of g.met.T.Entry.laws s (stored c.removed_below-out-2.new.arena) c.args.number c.removed_below-out-2.result.0 r.link v c.in-Some-right_of.side x _ r.number r.there c.look.ensures at lt c.removed_below-out-2.ensures in
-    right_used m.key m.unit m.op m.of g.met.T.Entry.laws s (stored c.removed_below-out-2.new.arena) c.args.number r.link v c.in-Some-right_of.side _ _ _ _ 1 0 p r.number
+    let p = removed_right_step m.key m.unit m.op m.of g.met.T.Entry.laws s (store_of c.removed_below-out-2.new.arena) c.args.number c.removed_below-out-2.result.0 r.link v c.in-Some-right_of.side x _ r.number r.there c.look.ensures at lt c.removed_below-out-2.ensures in
+    right_used m.key m.unit m.op m.of g.met.T.Entry.laws s (store_of c.removed_below-out-2.new.arena) c.args.number r.link v c.in-Some-right_of.side _ _ _ _ 1 0 p r.number
 
 pub returns : goal.returns
 returns g t c =
     let m = g.T.Entry in
-    let s = stored c.args.arena.now in
+    let s = store_of c.args.arena.now in
     let v = c.look.result.now in
     let x = c.args.like.now in
     let r = c.requires.there in
     let lt = later_other m.key m.unit m.op m.of g.met.T.Entry.laws s c.args.number v x c.look.ensures c.requires.other (ltb-false _ _ (search rules)) in
     let at : right_number (s c.args.number) ≡ Some c.in-Some-right_of.side = sym c.right_of.ensures ∙ c.in-Some-right_of.is in
-    removed_right_settled m.key m.unit m.op m.of g.met.T.Entry.laws s (stored c.removed_below-out-2.new.arena) (stored c.right_settled.new.arena) c.args.number c.removed_below-out-2.result.0 v c.in-Some-right_of.side x _ c.right_settled.result c.look.ensures at lt c.removed_below-out-2.ensures c.right_settled.ensures
+    removed_right_settled m.key m.unit m.op m.of g.met.T.Entry.laws s (store_of c.removed_below-out-2.new.arena) (store_of c.right_settled.new.arena) c.args.number c.removed_below-out-2.result.0 v c.in-Some-right_of.side x _ c.right_settled.result c.look.ensures at lt c.removed_below-out-2.ensures c.right_settled.ensures

@@ -1,8 +1,8 @@
-use Rattle.av_arena.specs.Arena.{stored}
+use Rattle.av_arena.specs.Arena.{store_of}
 use Rattle.av_arena.proofs.BelowLemmas.{left_told}
 use Rattle.av_arena.proofs.below.left_turned.Goals as goal
 
 pub returns : goal.returns
 returns g c =
     let m = g.T.Entry in
-    left_told m.key m.unit m.op m.of g.met.T.Entry.laws (stored c.args.arena.now) (stored c.settled-link.new.arena) (stored c.set_left.new.self) c.args.number c.args.side c.settled-link.result c.settled-link.ensures c.set_left.ensures
+    left_told m.key m.unit m.op m.of g.met.T.Entry.laws (store_of c.args.arena.now) (store_of c.settle-link.new.arena) (store_of c.set_left.new.self) c.args.number c.args.side c.settle-link.result c.settle-link.ensures c.set_left.ensures

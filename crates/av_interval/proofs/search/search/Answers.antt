@@ -3,7 +3,7 @@ use Rattle.std.proofs.lemmas.Bool.{le-leb, lt-leb}
 use Rattle.std.specs.Option.{option_map}
 use Rattle.av_arena.specs.Tree.{entries}
 use Rattle.av_interval.specs.Nodes.{span_of}
-use Rattle.av_interval.specs.Search.{reaching}
+use Rattle.av_interval.specs.Search.{span_reaching}
 use Rattle.av_interval.proofs.SearchLemmas.{check, overlap_of_node, root_is}
 use Rattle.av_interval.proofs.search.search.Goals as goal
 
@@ -14,7 +14,7 @@ returns-then-node-index-clause-first g c =
     let a = c.args.after in
     let i = c.args.index in
     let r = root_is (N.is_node s) (N.below s) (N.tree s c.args.anon) c.root-root.result c.root-root.ensures.root in
-    let e = c.first_past.ensures.first ∙ ap (λ t. reaching a i (entries t)) r.1 in
+    let e = c.first_past.ensures.first ∙ ap (λ t. span_reaching a i (entries t)) r.1 in
     let all = overlap_of_node a i (entries (N.tree s c.args.anon)) c.first_past.result c.root-root.ensures.ordered e in
     rw (le-leb c.in-Some.node.first i c.if-node-index.true) at (sym (ap (λ o. check i (option_map span_of o)) c.in-Some.is) ∙ all)
 
@@ -25,7 +25,7 @@ returns-else-node-index-clause-first g c =
     let a = c.args.after in
     let i = c.args.index in
     let r = root_is (N.is_node s) (N.below s) (N.tree s c.args.anon) c.root-root.result c.root-root.ensures.root in
-    let e = c.first_past.ensures.first ∙ ap (λ t. reaching a i (entries t)) r.1 in
+    let e = c.first_past.ensures.first ∙ ap (λ t. span_reaching a i (entries t)) r.1 in
     let all = overlap_of_node a i (entries (N.tree s c.args.anon)) c.first_past.result c.root-root.ensures.ordered e in
     rw (lt-leb c.in-Some.node.first i c.if-node-index.false) at (sym (ap (λ o. check i (option_map span_of o)) c.in-Some.is) ∙ all)
 
@@ -36,6 +36,6 @@ returns-in-None-clause-first g c =
     let a = c.args.after in
     let i = c.args.index in
     let r = root_is (N.is_node s) (N.below s) (N.tree s c.args.anon) c.root-root.result c.root-root.ensures.root in
-    let e = c.first_past.ensures.first ∙ ap (λ t. reaching a i (entries t)) r.1 in
+    let e = c.first_past.ensures.first ∙ ap (λ t. span_reaching a i (entries t)) r.1 in
     let all = overlap_of_node a i (entries (N.tree s c.args.anon)) c.first_past.result c.root-root.ensures.ordered e in
     sym (ap (λ o. check i (option_map span_of o)) c.in-None.is) ∙ all

@@ -26,7 +26,7 @@ returns c = record {
         | in-Some w ↦ read-stopped s c.args.mem.now c.read_pieces.new.mem c.args.process c.args.address c.new-notes.result c.read_pieces.new.notes c.new.result k c.new-notes.ensures c.new.ensures c.in_ok-ended.ensures.count lived
             c.args.len shown c.match-ended.answer w.in-Some.stop
             (subst (λ end. IsAccess s c.read_pieces.new.mem false c.args.process c.args.address c.args.len [] c.new-notes.result c.read_pieces.new.notes end k) w.in-Some.is access)
-            reads (w.answer-is ∙ w.stopped-answer.ensures)
+            reads (w.answer-is ∙ w.stop_answer-answer.ensures)
       ];
 }
 

@@ -25,7 +25,7 @@ returns c = record {
         | in-Some w ↦ write-stopped s c.args.mem.now c.write_pieces.new.mem c.args.process c.args.address c.new-notes.result c.write_pieces.new.notes c.new-2.result k c.new-notes.ensures c.new-2.ensures c.in_ok-ended.ensures.count lived
             bytes c.match-ended.answer w.in-Some.stop
             (subst (λ end. IsAccess s c.write_pieces.new.mem true c.args.process c.args.address (length bytes) (take k bytes) c.new-notes.result c.write_pieces.new.notes end k) w.in-Some.is access)
-            (w.answer-is ∙ w.stopped-answer.ensures ∙ ap (answer_of w.in-Some.stop k) w.new.ensures)
+            (w.answer-is ∙ w.stop_answer-answer.ensures ∙ ap (answer_of w.in-Some.stop k) w.new.ensures)
       ];
 }
 

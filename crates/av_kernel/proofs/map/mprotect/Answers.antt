@@ -30,7 +30,7 @@ returns c = record {
       let page = c.args.address / 4096 in
       let reached = c.in_ok-reached.reached in
       let size = c.div_ceil-pages.ensures ∙ rounded_up c.args.len in
-      subst (MemSteps k (moved_on k k.tables c.protect.new.self) s (Mprotect c.args.process c.args.address c.args.len c.args.prot)) (sym c.answered.ensures)
+      subst (MemSteps k (moved_on k k.tables c.protect.new.self) s (Mprotect c.args.process c.args.address c.args.len c.args.prot)) (sym c.answer_only.ensures)
       (mprotect-steps k c.protect.new.self s c.args.process c.args.address c.args.len reached c.args.prot keeps (ranges_there k c.args.process c.in_ok-check_lives.ensures) c.in_ok-check_protect.ensures
       (subst (λ n. IsReached (is_taken k.spaces c.args.process) page (page + n) reached) size c.in_ok-reached.ensures.reached)
       (protected-prots k.spaces c.protect.new.self c.args.process page (page + c.div_ceil-pages.result) reached c.args.prot c.in_ok-reached.ensures.reached c.in_ok-reached.ensures.ok c.in_ok-reached.ensures.mapping)

@@ -2,7 +2,7 @@ use Rattle.std.proofs.Common.{sym, subst, ◌∙◌, ◌+◌, ◌/◌}
 use Rattle.av_plain.specs.Zap.{keys_in, zaps_of}
 use Rattle.av_trace.specs.declared.command.Command.TheVariants.{Munmap}
 use Rattle.av_kernel.specs.Map.{AreCleared}
-use Rattle.av_vma.specs.Pages.{unmapped}
+use Rattle.av_vma.specs.Pages.{after_unmap}
 use Rattle.av_spaces.specs.Spaces.{pages_of}
 use Rattle.av_kernel.specs.Step.{MemSteps}
 use Rattle.av_trace.specs.declared.reply.Errno.TheVariants.{Esrch, Einval}
@@ -28,7 +28,7 @@ returns c = record {
   step = λ s keeps.
       let k = c.args.mem.now in
       let page = c.args.address / 4096 in
-      subst (MemSteps k c.clear.new.mem s (Munmap c.args.process c.args.address c.args.len)) (sym c.answered.ensures)
+      subst (MemSteps k c.clear.new.mem s (Munmap c.args.process c.args.address c.args.len)) (sym c.answer_only.ensures)
       (munmap-steps k c.clear.new.mem s c.args.process c.args.address c.args.len keeps (ranges_there k c.args.process c.in_ok-check_lives.ensures) (sym c.is_no_range.ensures ∙ c.if-is_no_range.false) c.clear.ensures.count
-      (subst (λ n. AreCleared k c.clear.new.mem c.args.process page n (unmapped page (page + n) (pages_of k.spaces c.args.process)) s.ledger (zaps_of s.ledger (keys_in s.ledger c.args.process page n))) (c.div_ceil.ensures ∙ rounded_up c.args.len) (c.in_ok-clear.ensures.cleared s.ledger (orderly k s keeps))));
+      (subst (λ n. AreCleared k c.clear.new.mem c.args.process page n (after_unmap page (page + n) (pages_of k.spaces c.args.process)) s.ledger (zaps_of s.ledger (keys_in s.ledger c.args.process page n))) (c.div_ceil.ensures ∙ rounded_up c.args.len) (c.in_ok-clear.ensures.cleared s.ledger (orderly k s keeps))));
 }

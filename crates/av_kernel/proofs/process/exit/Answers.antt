@@ -21,7 +21,7 @@ returns c = record {
       let old = c.args.mem.now in
       let mid = c.zap_all.new.mem in
       let rest = c.zap_all.ensures.rest in
-      subst (MemSteps old (record { frames = mid.frames; tables = c.end.new.self; spaces = c.end-2.new.self }) s (Exit c.args.process)) (sym c.answered.ensures)
+      subst (MemSteps old (record { frames = mid.frames; tables = c.end.new.self; spaces = c.end-2.new.self }) s (Exit c.args.process)) (sym c.answer_only.ensures)
       (exit-steps old mid c.end.new.self c.end-2.new.self s c.args.process keeps (ranges_there old c.args.process c.in_ok-check_lives.ensures) (c.zap_all.ensures.zapped s.ledger (orderly old s keeps))
       rest.bytes rest.spaces rest.processes rest.count c.end.ensures.processes c.end.ensures.entries c.end-2.ensures);
 }

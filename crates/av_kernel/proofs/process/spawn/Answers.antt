@@ -24,6 +24,6 @@ returns c = record {
   count = refl;
   step = λ s keeps.
       let k = c.args.mem.now in
-      subst (MemSteps k (moved_on k c.spawn.new.self c.spawn-2.new.self) s (Spawn c.args.process)) (sym c.answered.ensures)
+      subst (MemSteps k (moved_on k c.spawn.new.self c.spawn-2.new.self) s (Spawn c.args.process)) (sym c.answer_only.ensures)
       (spawned-steps k c.spawn.new.self c.spawn-2.new.self s c.args.process keeps (alive_is k.spaces c.args.process ∙ sym c.lives.ensures ∙ c.if-lives.false) (omega (arith, c.count.ensures)) c.in_ok-spawn.ensures.entries c.in_ok-spawn.ensures.processes c.in_ok-spawn-2.ensures.ok);
 }

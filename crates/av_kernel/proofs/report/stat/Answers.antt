@@ -15,6 +15,6 @@ returns c = record {
       let frames = c.count-frames.ensures in
       let free = c.free-free.ensures.count in
       subst (MemSteps k k s Stat)
-      (sym (c.answered.ensures ∙ same_reply _ _ _ _ _ _ c.count.result (c.from.ensures ∙ frames) (c.from-2.ensures ∙ free) (c.from-3.ensures ∙ (λ j. frames j - free j))))
+      (sym (c.answer_only.ensures ∙ same_reply _ _ _ _ _ _ c.count.result (c.from.ensures ∙ frames) (c.from-2.ensures ∙ free) (c.from-3.ensures ∙ (λ j. frames j - free j))))
       (stat-steps k s c.count.result keeps c.free-free.ensures.once c.free-free.ensures.in_range c.count.ensures);
 }

@@ -5,7 +5,7 @@ use Rattle.av_base.specs.Words.{with_at}
 use Rattle.av_vma.specs.declared.area.Area.{Area}
 use Rattle.av_vma.specs.Areas.{area_of}
 use Rattle.av_merge.specs.Pages.{pages_by}
-use Rattle.av_vma.specs.Pages.{placed}
+use Rattle.av_vma.specs.Pages.{with_area}
 use Rattle.av_merge.proofs.Cuts.{crossed, lower_number, lower_of, parts_ends, split_pages, upper_number, upper_of}
 use Rattle.av_merge.proofs.cutting.cut_within.Goals as goal
 
@@ -29,7 +29,7 @@ returns-clause-pages c =
     let upper : upper_of c.args.to area ≡ record (upper_of c.args.to area) { pgoff = c.index.result } = ap (λ (n : ℕ). record (upper_of c.args.to area) { pgoff = n }) (sym c.index.ensures) in
     on_ok_weaker c.put_apart.result
     (λ pages'. split_pages p c.args.area c.args.from c.args.to areas spans area stands c.get-whole.ensures c.requires.forward x (area_of c.put_apart.new.areas) c.put_apart.new.tree
-    (subst (λ (a : Area). (page : ℕ) → pages_by (area_of c.put_apart.new.areas) c.put_apart.new.tree page ≡ placed a (placed (lower_of c.args.from area) (pages_by (with_at c.args.area None areas) spans)) page) (sym upper) pages'))
+    (subst (λ (a : Area). (page : ℕ) → pages_by (area_of c.put_apart.new.areas) c.put_apart.new.tree page ≡ with_area a (with_area (lower_of c.args.from area) (pages_by (with_at c.args.area None areas) spans)) page) (sym upper) pages'))
     c.put_apart.ensures.pages
 
 from_ok : {T E : Type 0} (r : Result T E) (P : T → Type 0) (Q : Type 0) → ((x : T) → P x → Q) → IfOk r P → OnOk r Q

@@ -3,9 +3,9 @@ use Rattle.av_base.specs.Words.{with_at}
 use Rattle.av_vma.specs.declared.area.Area.{Area}
 use Rattle.av_vma.specs.Areas.{area_of}
 use Rattle.av_vma.specs.Join.{first_of, past_of}
-use Rattle.av_vmatree.specs.Spans.{IsFree, span_of, taken, without_area}
+use Rattle.av_vmatree.specs.Spans.{IsFree, span_of, is_page_taken, without_area}
 use Rattle.av_merge.specs.Pages.{pages_by}
-use Rattle.av_vma.specs.Pages.{placed, IsWhole}
+use Rattle.av_vma.specs.Pages.{with_area, IsWhole}
 use Rattle.av_merge.specs.Process.{AreAreasOf, Stays}
 use Rattle.av_merge.proofs.Joins.{join_whole, join_free, join_pages, join_stays, left_from, right_from, right_taken}
 use Rattle.av_merge.proofs.Places.{used_at, whole_at}
@@ -32,7 +32,7 @@ replace-requires-clause-whole c =
 
 pub replace-requires-clause-free : goal.replace-requires-clause-free
 replace-requires-clause-free c =
-    subst (λ (a : Area). IsFree (taken (without_area c.args.left c.remove.new.self)) (first_of a) (past_of a)) (sym c.merge.ensures)
+    subst (λ (a : Area). IsFree (is_page_taken (without_area c.args.left c.remove.new.self)) (first_of a) (past_of a)) (sym c.merge.ensures)
     (join_free c.requires.stands.0 c.args.left c.args.right c.args.at c.get-lower.result c.get-upper.result (area_of c.args.areas.now) c.args.tree.now
     c.requires.stands.1 c.requires.below c.requires.above c.get-lower.ensures c.get-upper.ensures (sym c.mergeable.ensures ∙ c.if-not-mergeable.false)
     (area_of c.remove-2.new.self) c.remove.new.self c.remove-2.ensures c.remove.ensures.kept c.remove.ensures.areas c.remove.ensures.pages)
@@ -48,7 +48,7 @@ returns-clause-stands c = λ p stands.
 pub returns-clause-pages : goal.returns-clause-pages
 returns-clause-pages c = λ page.
     c.replace.ensures.pages page
-    ∙ ap (λ (a : Area). placed a (pages_by (with_at c.args.left None (area_of c.remove-2.new.self)) c.remove.new.self) page) c.merge.ensures
+    ∙ ap (λ (a : Area). with_area a (pages_by (with_at c.args.left None (area_of c.remove-2.new.self)) c.remove.new.self) page) c.merge.ensures
     ∙ join_pages c.requires.stands.0 c.args.left c.args.right c.args.at c.get-lower.result c.get-upper.result (area_of c.args.areas.now) c.args.tree.now
     c.requires.stands.1 c.requires.below c.requires.above c.get-lower.ensures c.get-upper.ensures (sym c.mergeable.ensures ∙ c.if-not-mergeable.false)
     (area_of c.remove-2.new.self) c.remove.new.self c.remove-2.ensures c.remove.ensures.kept c.remove.ensures.areas c.remove.ensures.pages page

@@ -4,7 +4,7 @@ use Rattle.std.specs.List.{filter, range_with_len}
 use Rattle.std.specs.declared.vec.Vec.{Vec}
 use Rattle.std.specs.declared.alloc.Global.{Global}
 use Rattle.av_base.specs.Words.{is_in}
-use Rattle.av_swapdev.specs.Header.{named, all_named, order_of}
+use Rattle.av_swapdev.specs.Header.{numbers_at, all_named, order_of}
 use Rattle.av_swapdev.proofs.HeaderLemmas.{bad_is}
 use Rattle.av_swapdev.proofs.HeaderNamed.{number_passed, filter_same}
 use Rattle.av_swapdev.proofs.header.bad_pages.Goals as goal
@@ -35,5 +35,5 @@ returns c device layout ok =
     let none : n - c.loop-m.m ≡ 0 = omega arith in
     let ended = ap (λ (k : ℕ). c.loop-m.bad.items ++ filter p (range_with_len c.loop-m.m k)) none in
     let found : order_of page ≡ Some order = sym c.byte_order.ensures ∙ c.in-Some.is in
-    let same : (m : ℕ) → 1 ≤ m → m < 1 + (n - 1) → p m ≡ q m = λ m low high. c.in_ok-marks.ensures.named m (omega arith) ∙ ap (λ (k : ℕ). is_in m (named order page 0 k)) c.number.ensures in
+    let same : (m : ℕ) → 1 ≤ m → m < 1 + (n - 1) → p m ≡ q m = λ m low high. c.in_ok-marks.ensures.named m (omega arith) ∙ ap (λ (k : ℕ). is_in m (numbers_at order page 0 k)) c.number.ensures in
     sym (ended ∙ append-nil c.loop-m.bad.items) ∙ c.loop-m.invariant ∙ filter_same p q 1 (n - 1) same ∙ sym (bad_is order page c.args.header.now device layout found c.requires.of_page ok)

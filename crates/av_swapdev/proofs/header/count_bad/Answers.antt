@@ -1,5 +1,5 @@
 use Rattle.std.proofs.Common.{◌≡◌, ℕ, ◌≤◌, ◌+◌, ◌-◌, length, ap, ◌*◌, true, false, sym, ◌∙◌, refl, arith}
-use Rattle.av_swapdev.specs.Header.{number_at, named}
+use Rattle.av_swapdev.specs.Header.{number_at, numbers_at}
 use Rattle.av_swapdev.proofs.HeaderNamed.{bad_passed, distinct_of}
 use Rattle.av_swapdev.proofs.HeaderSlots.{length-bad}
 use Rattle.av_swapdev.proofs.header.count_bad.Goals as goal
@@ -24,7 +24,7 @@ loop-place-preserved c =
 
 pub returns : goal.returns
 returns c =
-    let all = length-bad c.args.pages (named c.args.order c.args.page.now 0 c.args.count) in
+    let all = length-bad c.args.pages (numbers_at c.args.order c.args.page.now 0 c.args.count) in
     let none : c.args.count - c.loop-place.place ≡ 0 = omega arith in
-    let ended : length (distinct_of c.args.pages (named c.args.order c.args.page.now c.loop-place.place (c.args.count - c.loop-place.place))) ≡ 0 = ap (λ (n : ℕ). length (distinct_of c.args.pages (named c.args.order c.args.page.now c.loop-place.place n))) none in
+    let ended : length (distinct_of c.args.pages (numbers_at c.args.order c.args.page.now c.loop-place.place (c.args.count - c.loop-place.place))) ≡ 0 = ap (λ (n : ℕ). length (distinct_of c.args.pages (numbers_at c.args.order c.args.page.now c.loop-place.place n))) none in
     omega (arith, all, ended, c.loop-place.invariant.sum)

@@ -4,7 +4,7 @@ use Rattle.std.proofs.lemmas.Bool.Decides.{nat_tests}
 use Rattle.std.specs.declared.vec.Vec.{Vec}
 use Rattle.std.specs.declared.alloc.Global.{Global}
 use Rattle.av_base.specs.Words.{is_in}
-use Rattle.av_swapdev.specs.Header.{number_at, named}
+use Rattle.av_swapdev.specs.Header.{number_at, numbers_at}
 use Rattle.av_swapdev.proofs.HeaderNamed.{mark_passed}
 use Rattle.av_swapdev.proofs.DevicePages.{get_set}
 use Rattle.av_swapdev.proofs.header.marks.Goals as goal
@@ -20,9 +20,9 @@ loop-place-preserved c =
         | then-bad-pages w ↦ ap (λ (v : Vec Bool Global). length v.items) w.marks-is ∙ length-set old bad true ∙ c.loop-place.invariant.len
         | else-bad-pages w ↦ ap (λ (v : Vec Bool Global). length v.items) w.marks-is ∙ c.loop-place.invariant.len
       ];
-      named = λ m below.
-          let whole = is_in m (named c.args.order c.args.page.now 0 c.args.count) in
-          let rest = is_in m (named c.args.order c.args.page.now (c.loop-place.place + 1) (c.args.count - (c.loop-place.place + 1))) in
+      numbers_at = λ m below.
+          let whole = is_in m (numbers_at c.args.order c.args.page.now 0 c.args.count) in
+          let rest = is_in m (numbers_at c.args.order c.args.page.now (c.loop-place.place + 1) (c.args.count - (c.loop-place.place + 1))) in
           let passed = mark_passed f c.loop-place.place c.args.count m bad (get_or old m false) whole c.loop-place-test.true c.bad_at-bad.ensures (c.loop-place.invariant.named m below) in
           elim c.if-bad-pages.branch [
             | then-bad-pages w ↦

@@ -38,7 +38,7 @@ use Rattle.std_alloc.proofs.VecSteps.Shapes.{after}
 use Rattle.std_alloc.proofs.RcSteps.{word, word-Good}
 use Rattle.std_alloc.proofs.BoxSteps.Form.{R, τ, own, Good}
 use Rattle.std_alloc.proofs.BoxSteps.Steps.{el_tells}
-use Rattle.av_chain.specs.Nodes.{has_place, removed, stored}
+use Rattle.av_chain.specs.Nodes.{has_place, without_node, with_node}
 use Rattle.av_chain.specs.Ownership.{block_owns, blocks_own}
 use Rattle.av_chain.specs.contracts.node.Node.{the_row as T}
 use Rattle.av_chain.specs.contracts.node.Place.{the_row as Pl}
@@ -70,7 +70,7 @@ module _ {M : Type 1} {𝓤 : Ura M} (𝓛 : Logic 𝓤) (at_mem : Memory → SP
   abbrev Post : Val → SProp 𝓤
   Post = (walk_of 𝓛 F.ended stayed (F.clauses 𝓛 at_mem run)).post bound
 
-  exits : us0 ≡ vptr rb ro ∷ [] → (new : Ns.Denot) → new.blocks ≡ stored at.ptr node d.blocks
+  exits : us0 ≡ vptr rb ro ∷ [] → (new : Ns.Denot) → new.blocks ≡ with_node at.ptr node d.blocks
       → ent 𝓤 (⋆ 𝓛 (‵ (fobs γ (Ns.coded.code new)) ∷ ‵ (fbor κ (Borrowed (mem Ns) rb ro γ)) ∷ ‵ (flft κ q) ∷ ‵ (unit.own_val tt (vunit ∷ [])) ∷ [])) (Post vunit)
   exits passed new g0 =
       qed 𝓛 (‵ (fobs γ (Ns.coded.code new)) ∷ ‵ (fbor κ (Borrowed (mem Ns) rb ro γ)) ∷ ‵ (flft κ q) ∷ ‵ (unit.own_val tt (vunit ∷ [])) ∷ []) ∵
@@ -84,11 +84,11 @@ module _ {M : Type 1} {𝓤 : Ura M} (𝓛 : Logic 𝓤) (at_mem : Memory → SP
   walk passed asked v good =
       let there = node_at at.ptr d.blocks asked in
       let n : T.Denot = there.0 in
-      let new : Ns.Denot = record { mark = d.mark; blocks = stored at.ptr node d.blocks; apart = apart_stored at.ptr node d.blocks d.apart } in
+      let new : Ns.Denot = record { mark = d.mark; blocks = with_node at.ptr node d.blocks; apart = apart_stored at.ptr node d.blocks d.apart } in
       qed 𝓛 (Had v) ∵ enter ! C Λ function (vptr rb ro ∷ word at.ptr ∷ v ∷ []) _ $ alloc_all ! (λ l. pass_all ! refl ((tt, tt), (word-Good [] at.ptr, (good, tt))) $
       let En : Env 𝓤 H = env function.locals l in
       opens ! tt Ns {h = d} rb ro (λ vs. move ! (1 ∷ []) $ fsplit ! $ move ! (1 ∷ []) $
-      use1 𝓛 (‵ (block_owns (at.ptr, n)) ⊛ ‵ (blocks_own (removed at.ptr d.blocks))) (own_cut 𝓛 at.ptr d.blocks n there.1) $ split ! $
+      use1 𝓛 (‵ (block_owns (at.ptr, n)) ⊛ ‵ (blocks_own (without_node at.ptr d.blocks))) (own_cut 𝓛 at.ptr d.blocks n there.1) $ split ! $
       in_a_block ! at.ptr (λ p. block_owns (p, n)) (block_none 𝓛 n) (λ b o ep. fsplit ! $
       use1 𝓛 (some (λ (w : Val). ‵ (fat full_share (τ E) b o w) ⊛ ‵ (own E n (w ∷ [])))) (part_out 𝓛 (R E) refl full_share n b o) $ pick ! (λ w. split ! $
       -- [the node's cell; what the old node owns; the token; the others; the mark; its cell; the open borrow; obs; auth; what the new node owns]

@@ -38,7 +38,7 @@ use Rattle.std_alloc.proofs.BoxSteps.Form as box
 use Rattle.std_alloc.proofs.BoxSteps.Steps.{box_in}
 use Rattle.std_heap.specs.contracts.Global as Heap
 use Rattle.std_heap.specs.contracts.GlobalAllocator.TheImpl.{ghosts}
-use Rattle.av_chain.specs.Nodes.{has_place, removed}
+use Rattle.av_chain.specs.Nodes.{has_place, without_node}
 use Rattle.av_chain.specs.Ownership.{block_owns, blocks_own}
 use Rattle.av_chain.specs.contracts.node.Node.{the_row as T}
 use Rattle.av_chain.specs.contracts.node.Place.{the_row as Pl}
@@ -74,7 +74,7 @@ module _ {M : Type 1} {𝓤 : Ura M} (𝓛 : Logic 𝓤) (at_mem : Memory → SP
   abbrev Post : Val → SProp 𝓤
   Post = (walk_of 𝓛 F.ended stayed (F.clauses 𝓛 at_mem run)).post bound
 
-  exits : us0 ≡ vptr rb ro ∷ [] → (r : Pr.Denot) (v : Val) (new : Ns.Denot) → new.blocks ≡ removed at.ptr d.blocks
+  exits : us0 ≡ vptr rb ro ∷ [] → (r : Pr.Denot) (v : Val) (new : Ns.Denot) → new.blocks ≡ without_node at.ptr d.blocks
       → ent 𝓤 (⋆ 𝓛 (‵ (fobs γ (Ns.coded.code new)) ∷ ‵ (fbor κ (Borrowed (mem Ns) rb ro γ)) ∷ ‵ (flft κ q) ∷ ‵ (Pr.own_val r (v ∷ [])) ∷ [])) (Post v)
   exits passed r v new g0 =
       qed 𝓛 (‵ (fobs γ (Ns.coded.code new)) ∷ ‵ (fbor κ (Borrowed (mem Ns) rb ro γ)) ∷ ‵ (flft κ q) ∷ ‵ (Pr.own_val r (v ∷ [])) ∷ []) ∵
@@ -88,7 +88,7 @@ module _ {M : Type 1} {𝓤 : Ura M} (𝓛 : Logic 𝓤) (at_mem : Memory → SP
   walk passed asked hv fa =
       let there = node_at at.ptr d.blocks asked in
       let n : T.Denot = there.0 in
-      let new : Ns.Denot = record { mark = d.mark; blocks = removed at.ptr d.blocks; apart = apart_removed at.ptr d.blocks d.apart } in
+      let new : Ns.Denot = record { mark = d.mark; blocks = without_node at.ptr d.blocks; apart = apart_removed at.ptr d.blocks d.apart } in
       qed 𝓛 (Had hv) ∵ enter ! C Λ function (vptr rb ro ∷ hv ∷ word at.ptr ∷ []) _ $ alloc_all ! (λ l. pass_all ! refl ((tt, tt), (fa, (word-Good [] at.ptr, tt))) $
       opens ! tt Ns {h = d} rb ro (λ vs. move ! (1 ∷ []) $ fsplit ! $ move ! (1 ∷ []) $
       use1 𝓛 (‵ (block_owns (at.ptr, n)) ⊛ ‵ (blocks_own new.blocks)) (own_cut 𝓛 at.ptr d.blocks n there.1) $ split ! $

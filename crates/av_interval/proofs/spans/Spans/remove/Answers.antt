@@ -2,7 +2,7 @@ use Rattle.std.proofs.Common.{rules, Option, ◌-◌, ◌≡◌, ℕ, ◌<◌, �
 use Rattle.av_arena.specs.Order.{entry_at, without_key}
 use Rattle.av_interval.specs.declared.span.Span.{Span}
 use Rattle.av_arena.specs.declared.link.Link.{Link}
-use Rattle.av_arena.specs.Arena.{stored}
+use Rattle.av_arena.specs.Arena.{store_of}
 use Rattle.av_interval.specs.Spans.{Forest, triples}
 use Rattle.av_interval.specs.Span.{triple}
 use Rattle.av_interval.specs.Roots.{root_of, top_of}
@@ -14,9 +14,9 @@ use Rattle.av_interval.proofs.SpansLemmas.{low, root_held, removed_done, some_le
 use Rattle.av_interval.proofs.spans.Spans.remove.Goals as goal
 use Rattle.av_interval.specs.Span.{last_of, max_laws}
 
-pub removed-number-requires-clause-low : goal.removed-number-requires-clause-low
-removed-number-requires-clause-low c =
-    let s = stored c.self.inside.arena in
+pub remove-number-requires-clause-low : goal.remove-number-requires-clause-low
+remove-number-requires-clause-low c =
+    let s = store_of c.self.inside.arena in
     let r = root_of c.self.inside.roots in
     let root = c.in-Some.root in
     let at : r c.args.anon ≡ Some root = sym c.get.ensures ∙ c.in-Some.is in
@@ -25,60 +25,60 @@ removed-number-requires-clause-low c =
 
 pub free-requires : goal.free-requires
 free-requires c =
-    let s = stored c.self.inside.arena in
+    let s = store_of c.self.inside.arena in
     let r = root_of c.self.inside.roots in
     let root = c.in-Some.root in
     let at : r c.args.anon ≡ Some root = sym c.get.ensures ∙ c.in-Some.is in
-    without_used key 0 max last_of max_laws s (stored c.removed-number.new.arena) (Some root.tree) _ c.removed-number.result.0 c.removed-number.result.1 (root_held s r c.self.invariant c.args.anon root at) c.removed-number.ensures.removed
+    without_used key 0 max last_of max_laws s (store_of c.remove-number.new.arena) (Some root.tree) _ c.remove-number.result.0 c.remove-number.result.1 (root_held s r c.self.invariant c.args.anon root at) c.remove-number.ensures.removed
 
 pub invariant_of-self : goal.invariant_of-self
 invariant_of-self c =
-    let s = stored c.self.inside.arena in
+    let s = store_of c.self.inside.arena in
     let r = root_of c.self.inside.roots in
     let x : Span = triple c.args.first c.args.first c.args.area in
     let root = c.in-Some.root in
     let at : r c.args.anon ≡ Some root = sym c.get.ensures ∙ c.in-Some.is in
     let there = subst (λ (w : Forest). IsSome (entry_at key (key_of c.args.first c.args.area) (triples w c.args.anon))) (sym c.self.view_is) c.requires.there in
-    let out = c.removed-number in
+    let out = c.remove-number in
     let w = out.ensures.removed in
-    let d = removed_done s (stored out.new.arena) (stored c.free.new.self) r (root_of c.remove.new.self) c.self.invariant c.args.anon x root at there out.result.0 out.result.1 w c.free.ensures None (sym c.in-None.is) (one_left s (stored out.new.arena) r c.self.invariant c.args.anon (key x) root at there out.result.0 (subst (λ (g : Option (Link ℕ)). IsWithout key 0 max last_of s (stored out.new.arena) (Some root.tree) (without_key key (key x) (entries (tree_at s (Some root.tree)))) out.result.0 g) c.in-None.is w)) c.remove.ensures in
+    let d = removed_done s (store_of out.new.arena) (store_of c.free.new.self) r (root_of c.remove.new.self) c.self.invariant c.args.anon x root at there out.result.0 out.result.1 w c.free.ensures None (sym c.in-None.is) (one_left s (store_of out.new.arena) r c.self.invariant c.args.anon (key x) root at there out.result.0 (subst (λ (g : Option (Link ℕ)). IsWithout key 0 max last_of s (store_of out.new.arena) (Some root.tree) (without_key key (key x) (entries (tree_at s (Some root.tree)))) out.result.0 g) c.in-None.is w)) c.remove.ensures in
     d.forest
 
 pub returns-in-None : goal.returns-in-None
 returns-in-None c =
-    let s = stored c.self.inside.arena in
+    let s = store_of c.self.inside.arena in
     let r = root_of c.self.inside.roots in
     let x : Span = triple c.args.first c.args.first c.args.area in
     let root = c.in-Some.root in
     let at : r c.args.anon ≡ Some root = sym c.get.ensures ∙ c.in-Some.is in
     let there = subst (λ (w : Forest). IsSome (entry_at key (key_of c.args.first c.args.area) (triples w c.args.anon))) (sym c.self.view_is) c.requires.there in
-    let out = c.removed-number in
+    let out = c.remove-number in
     let w = out.ensures.removed in
-    let d = removed_done s (stored out.new.arena) (stored c.free.new.self) r (root_of c.remove.new.self) c.self.invariant c.args.anon x root at there out.result.0 out.result.1 w c.free.ensures None (sym c.in-None.is) (one_left s (stored out.new.arena) r c.self.invariant c.args.anon (key x) root at there out.result.0 (subst (λ (g : Option (Link ℕ)). IsWithout key 0 max last_of s (stored out.new.arena) (Some root.tree) (without_key key (key x) (entries (tree_at s (Some root.tree)))) out.result.0 g) c.in-None.is w)) c.remove.ensures in
-    subst (λ (w : Forest). (a : ℕ) → entries (tree_at (stored c.free.new.self) (top_of (root_of c.remove.new.self a))) ≡ with_at c.args.anon (without_key key (key_of c.args.first c.args.area) (triples w c.args.anon)) (triples w) a) c.self.view_is d.triples
+    let d = removed_done s (store_of out.new.arena) (store_of c.free.new.self) r (root_of c.remove.new.self) c.self.invariant c.args.anon x root at there out.result.0 out.result.1 w c.free.ensures None (sym c.in-None.is) (one_left s (store_of out.new.arena) r c.self.invariant c.args.anon (key x) root at there out.result.0 (subst (λ (g : Option (Link ℕ)). IsWithout key 0 max last_of s (store_of out.new.arena) (Some root.tree) (without_key key (key x) (entries (tree_at s (Some root.tree)))) out.result.0 g) c.in-None.is w)) c.remove.ensures in
+    subst (λ (w : Forest). (a : ℕ) → entries (tree_at (store_of c.free.new.self) (top_of (root_of c.remove.new.self a))) ≡ with_at c.args.anon (without_key key (key_of c.args.first c.args.area) (triples w c.args.anon)) (triples w) a) c.self.view_is d.triples
 
 pub invariant_of-self-in-Some-rest : goal.invariant_of-self-in-Some-rest
 invariant_of-self-in-Some-rest c =
-    let s = stored c.self.inside.arena in
+    let s = store_of c.self.inside.arena in
     let r = root_of c.self.inside.roots in
     let x : Span = triple c.args.first c.args.first c.args.area in
     let root = c.in-Some.root in
     let at : r c.args.anon ≡ Some root = sym c.get.ensures ∙ c.in-Some.is in
     let there = subst (λ (w : Forest). IsSome (entry_at key (key_of c.args.first c.args.area) (triples w c.args.anon))) (sym c.self.view_is) c.requires.there in
-    let out = c.removed-number in
+    let out = c.remove-number in
     let w = out.ensures.removed in
-    let d = removed_done s (stored out.new.arena) (stored c.free.new.self) r (root_of c.change.new.self) c.self.invariant c.args.anon x root at there out.result.0 out.result.1 w c.free.ensures (Some (record { tree = c.in-Some-rest.tree; len = root.len - 1 })) (sym c.in-Some-rest.is) (let h = some_left s r c.self.invariant c.args.anon (key x) root at there in omega arith) c.change.ensures in
+    let d = removed_done s (store_of out.new.arena) (store_of c.free.new.self) r (root_of c.change.new.self) c.self.invariant c.args.anon x root at there out.result.0 out.result.1 w c.free.ensures (Some (record { tree = c.in-Some-rest.tree; len = root.len - 1 })) (sym c.in-Some-rest.is) (let h = some_left s r c.self.invariant c.args.anon (key x) root at there in omega arith) c.change.ensures in
     d.forest
 
 pub returns-in-Some-rest : goal.returns-in-Some-rest
 returns-in-Some-rest c =
-    let s = stored c.self.inside.arena in
+    let s = store_of c.self.inside.arena in
     let r = root_of c.self.inside.roots in
     let x : Span = triple c.args.first c.args.first c.args.area in
     let root = c.in-Some.root in
     let at : r c.args.anon ≡ Some root = sym c.get.ensures ∙ c.in-Some.is in
     let there = subst (λ (w : Forest). IsSome (entry_at key (key_of c.args.first c.args.area) (triples w c.args.anon))) (sym c.self.view_is) c.requires.there in
-    let out = c.removed-number in
+    let out = c.remove-number in
     let w = out.ensures.removed in
-    let d = removed_done s (stored out.new.arena) (stored c.free.new.self) r (root_of c.change.new.self) c.self.invariant c.args.anon x root at there out.result.0 out.result.1 w c.free.ensures (Some (record { tree = c.in-Some-rest.tree; len = root.len - 1 })) (sym c.in-Some-rest.is) (let h = some_left s r c.self.invariant c.args.anon (key x) root at there in omega arith) c.change.ensures in
-    subst (λ (w : Forest). (a : ℕ) → entries (tree_at (stored c.free.new.self) (top_of (root_of c.change.new.self a))) ≡ with_at c.args.anon (without_key key (key_of c.args.first c.args.area) (triples w c.args.anon)) (triples w) a) c.self.view_is d.triples
+    let d = removed_done s (store_of out.new.arena) (store_of c.free.new.self) r (root_of c.change.new.self) c.self.invariant c.args.anon x root at there out.result.0 out.result.1 w c.free.ensures (Some (record { tree = c.in-Some-rest.tree; len = root.len - 1 })) (sym c.in-Some-rest.is) (let h = some_left s r c.self.invariant c.args.anon (key x) root at there in omega arith) c.change.ensures in
+    subst (λ (w : Forest). (a : ℕ) → entries (tree_at (store_of c.free.new.self) (top_of (root_of c.change.new.self a))) ≡ with_at c.args.anon (without_key key (key_of c.args.first c.args.area) (triples w c.args.anon)) (triples w) a) c.self.view_is d.triples

@@ -4,8 +4,8 @@ use Rattle.std.specs.Prelude.{IfOk, option_and_then}
 use Rattle.av_vma.specs.Areas.{area_of}
 use Rattle.av_vma.specs.Gap.{IsGap}
 use Rattle.av_vmatree.specs.declared.span.Span.{Span}
-use Rattle.av_vmatree.specs.Spans.{IsFree, IsMet, taken}
-use Rattle.av_vma.specs.Pages.{Pages, mapped, unmapped}
+use Rattle.av_vmatree.specs.Spans.{IsFree, IsMet, is_page_taken}
+use Rattle.av_vma.specs.Pages.{Pages, after_map, after_unmap, no_chains}
 use Rattle.av_merge.specs.Pages.{pages_by, IsReached}
 use Rattle.av_merge.specs.Process.{AreAreasOf}
 use Rattle.av_spaces.specs.Spaces.{IsSpawned, IsEnded, areas_of, pages_of, AreRising, AreThese, IsChanged}

@@ -4,8 +4,8 @@ use Rattle.std.specs.Prelude.{IfOk, option_and_then}
 use Rattle.av_vma.specs.Areas.{area_of}
 use Rattle.av_vma.specs.Gap.{IsGap}
 use Rattle.av_vmatree.specs.declared.span.Span.{Span}
-use Rattle.av_vmatree.specs.Spans.{IsFree, IsMet, taken}
-use Rattle.av_vma.specs.Pages.{Pages, mapped, unmapped}
+use Rattle.av_vmatree.specs.Spans.{IsFree, IsMet, is_page_taken}
+use Rattle.av_vma.specs.Pages.{Pages, after_map, after_unmap, no_chains}
 use Rattle.av_merge.specs.Pages.{pages_by, IsReached}
 use Rattle.av_merge.specs.Process.{AreAreasOf}
 use Rattle.av_spaces.specs.Spaces.{IsSpawned, IsEnded, areas_of, pages_of, AreRising, AreThese, IsChanged}
@@ -37,5 +37,5 @@ map-result-requires-clause-free c = subst (λ test. IsFree test c.args.from (c.a
 
 pub returns : goal.returns
 returns c =
-    on_ok c.map-result.result (λ pages. subst (λ (ts : Trees). IsChanged c.args.self.now (spaces_by (area_of c.map-result.new.areas) ts) c.args.process (AreThese (mapped c.args.process c.args.from (c.args.from + c.args.pages) c.args.prot (pages_of c.args.self.now c.args.process)))) (sym (c.put_tree.ensures ∙ ap (λ (ts : Trees). slice_set ts c.args.process (Some c.map-result.new.tree)) c.take_tree-tree.ensures.trees))
-    (changes (area_of c.self.inside.areas) (area_of c.map-result.new.areas) c.self.inside.trees.items c.args.process c.take_tree-tree.result c.map-result.new.tree c.self.invariant.trees c.take_tree-tree.ensures.tree (λ _. c.map-result.ensures.stands) c.args.self.now c.self.view_is (λ on. AreThese (mapped c.args.process c.args.from (c.args.from + c.args.pages) c.args.prot on)) pages)) c.map-result.ensures.pages
+    on_ok c.map-result.result (λ pages. subst (λ (ts : Trees). IsChanged c.args.self.now (spaces_by (area_of c.map-result.new.areas) ts) c.args.process (AreThese (after_map no_chains c.args.process c.args.from (c.args.from + c.args.pages) c.args.prot (pages_of c.args.self.now c.args.process)))) (sym (c.put_tree.ensures ∙ ap (λ (ts : Trees). slice_set ts c.args.process (Some c.map-result.new.tree)) c.take_tree-tree.ensures.trees))
+    (changes (area_of c.self.inside.areas) (area_of c.map-result.new.areas) c.self.inside.trees.items c.args.process c.take_tree-tree.result c.map-result.new.tree c.self.invariant.trees c.take_tree-tree.ensures.tree (λ _. c.map-result.ensures.stands) c.args.self.now c.self.view_is (λ on. AreThese (after_map no_chains c.args.process c.args.from (c.args.from + c.args.pages) c.args.prot on)) pages)) c.map-result.ensures.pages

@@ -4,8 +4,8 @@ use Rattle.std.specs.Prelude.{IfOk, option_and_then}
 use Rattle.av_vma.specs.Areas.{area_of}
 use Rattle.av_vma.specs.Gap.{IsGap}
 use Rattle.av_vmatree.specs.declared.span.Span.{Span}
-use Rattle.av_vmatree.specs.Spans.{IsFree, IsMet, taken}
-use Rattle.av_vma.specs.Pages.{Pages, mapped, unmapped, pages_changed, to_prot}
+use Rattle.av_vmatree.specs.Spans.{IsFree, IsMet, is_page_taken}
+use Rattle.av_vma.specs.Pages.{Pages, after_map, after_unmap, pages_changed, to_prot, no_chains}
 use Rattle.av_merge.specs.Pages.{pages_by, IsReached}
 use Rattle.av_merge.specs.Mapping.{IsRemapped}
 use Rattle.av_merge.specs.Process.{AreAreasOf}
@@ -39,12 +39,12 @@ returns-clause-reached c = subst (λ test. IfOk c.modify-result.result (IsReache
 pub returns-clause-ok : goal.returns-clause-ok
 returns-clause-ok c =
     if_each c.modify-result.result
-    (λ past. AreThese (pages_changed (to_prot c.args.prot) c.args.from (past - c.args.from) (pages_by (area_of c.self.inside.areas) c.take_tree-tree.result)) (pages_by (area_of c.modify-result.new.areas) c.modify-result.new.tree))
-    (λ past. IsChanged c.args.self.now (spaces_by (area_of c.modify-result.new.areas) c.put_tree.new.trees.items) c.args.process (AreThese (pages_changed (to_prot c.args.prot) c.args.from (past - c.args.from) (pages_of c.args.self.now c.args.process))))
-    (λ past pages. subst (λ (ts : Trees). IsChanged c.args.self.now (spaces_by (area_of c.modify-result.new.areas) ts) c.args.process (AreThese (pages_changed (to_prot c.args.prot) c.args.from (past - c.args.from) (pages_of c.args.self.now c.args.process))))
+    (λ past. AreThese (pages_changed no_chains (to_prot c.args.prot) c.args.from (past - c.args.from) (pages_by (area_of c.self.inside.areas) c.take_tree-tree.result)) (pages_by (area_of c.modify-result.new.areas) c.modify-result.new.tree))
+    (λ past. IsChanged c.args.self.now (spaces_by (area_of c.modify-result.new.areas) c.put_tree.new.trees.items) c.args.process (AreThese (pages_changed no_chains (to_prot c.args.prot) c.args.from (past - c.args.from) (pages_of c.args.self.now c.args.process))))
+    (λ past pages. subst (λ (ts : Trees). IsChanged c.args.self.now (spaces_by (area_of c.modify-result.new.areas) ts) c.args.process (AreThese (pages_changed no_chains (to_prot c.args.prot) c.args.from (past - c.args.from) (pages_of c.args.self.now c.args.process))))
     (sym (c.put_tree.ensures ∙ ap (λ (ts : Trees). slice_set ts c.args.process (Some c.modify-result.new.tree)) c.take_tree-tree.ensures.trees))
     (changes (area_of c.self.inside.areas) (area_of c.modify-result.new.areas) c.self.inside.trees.items c.args.process c.take_tree-tree.result c.modify-result.new.tree c.self.invariant.trees c.take_tree-tree.ensures.tree (c.modify-result.ensures.stands c.args.process) c.args.self.now c.self.view_is
-    (λ on. AreThese (pages_changed (to_prot c.args.prot) c.args.from (past - c.args.from) on)) pages)) c.modify-result.ensures.pages
+    (λ on. AreThese (pages_changed no_chains (to_prot c.args.prot) c.args.from (past - c.args.from) on)) pages)) c.modify-result.ensures.pages
 
 pub returns-clause-mapping : goal.returns-clause-mapping
 returns-clause-mapping c =

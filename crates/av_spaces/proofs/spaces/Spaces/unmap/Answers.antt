@@ -4,8 +4,8 @@ use Rattle.std.specs.Prelude.{IfOk, option_and_then}
 use Rattle.av_vma.specs.Areas.{area_of}
 use Rattle.av_vma.specs.Gap.{IsGap}
 use Rattle.av_vmatree.specs.declared.span.Span.{Span}
-use Rattle.av_vmatree.specs.Spans.{IsFree, IsMet, taken}
-use Rattle.av_vma.specs.Pages.{Pages, mapped, unmapped}
+use Rattle.av_vmatree.specs.Spans.{IsFree, IsMet, is_page_taken}
+use Rattle.av_vma.specs.Pages.{Pages, after_map, after_unmap, no_chains}
 use Rattle.av_merge.specs.Pages.{pages_by, IsReached}
 use Rattle.av_merge.specs.Process.{AreAreasOf}
 use Rattle.av_spaces.specs.Spaces.{IsSpawned, IsEnded, areas_of, pages_of, AreRising, AreThese, IsChanged}
@@ -34,5 +34,5 @@ cut-result-requires-clause-stands c = (c.args.process, tree_of (area_of c.self.i
 
 pub returns : goal.returns
 returns c =
-    on_ok c.cut-result.result (λ pages. subst (λ (ts : Trees). IsChanged c.args.self.now (spaces_by (area_of c.cut-result.new.areas) ts) c.args.process (AreThese (unmapped c.args.from (c.args.from + c.args.pages) (pages_of c.args.self.now c.args.process)))) (sym (c.put_tree.ensures ∙ ap (λ (ts : Trees). slice_set ts c.args.process (Some c.cut-result.new.tree)) c.take_tree-tree.ensures.trees))
-    (changes (area_of c.self.inside.areas) (area_of c.cut-result.new.areas) c.self.inside.trees.items c.args.process c.take_tree-tree.result c.cut-result.new.tree c.self.invariant.trees c.take_tree-tree.ensures.tree (c.cut-result.ensures.stands c.args.process) c.args.self.now c.self.view_is (λ on. AreThese (unmapped c.args.from (c.args.from + c.args.pages) on)) pages)) c.cut-result.ensures.pages
+    on_ok c.cut-result.result (λ pages. subst (λ (ts : Trees). IsChanged c.args.self.now (spaces_by (area_of c.cut-result.new.areas) ts) c.args.process (AreThese (after_unmap c.args.from (c.args.from + c.args.pages) (pages_of c.args.self.now c.args.process)))) (sym (c.put_tree.ensures ∙ ap (λ (ts : Trees). slice_set ts c.args.process (Some c.cut-result.new.tree)) c.take_tree-tree.ensures.trees))
+    (changes (area_of c.self.inside.areas) (area_of c.cut-result.new.areas) c.self.inside.trees.items c.args.process c.take_tree-tree.result c.cut-result.new.tree c.self.invariant.trees c.take_tree-tree.ensures.tree (c.cut-result.ensures.stands c.args.process) c.args.self.now c.self.view_is (λ on. AreThese (after_unmap c.args.from (c.args.from + c.args.pages) on)) pages)) c.cut-result.ensures.pages
