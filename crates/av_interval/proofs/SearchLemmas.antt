@@ -20,9 +20,9 @@ two_cases : (b : Bool) (x : Span) (u v : Option Span) → cond b (Some x) (first
 two_cases true x u v = refl
 two_cases false x u v = refl
 
-pub span_reaching-cut : (a : Option (ℕ × ℕ)) (i : ℕ) (l m : List Span) → span_reaching a i (l ++ m) ≡ first_of_two (span_reaching a i l) (span_reaching a i m)
-span_reaching-cut a i [] m = refl
-span_reaching-cut a i (x ∷ l) m = ap (cond (is_past a x && nat_le i x.last) (Some x)) (span_reaching-cut a i l m) ∙ two_cases (is_past a x && nat_le i x.last) x (span_reaching a i l) (span_reaching a i m)
+pub reaching-cut : (a : Option (ℕ × ℕ)) (i : ℕ) (l m : List Span) → span_reaching a i (l ++ m) ≡ first_of_two (span_reaching a i l) (span_reaching a i m)
+reaching-cut a i [] m = refl
+reaching-cut a i (x ∷ l) m = ap (cond (is_past a x && nat_le i x.last) (Some x)) (reaching-cut a i l m) ∙ two_cases (is_past a x && nat_le i x.last) x (span_reaching a i l) (span_reaching a i m)
 
 pub top-cut : (l : List Span) (x : Span) (r : List Span) → top (l ++ x ∷ r) ≡ max (top l) (max x.last (top r))
 top-cut [] x r = omega arith
@@ -162,7 +162,7 @@ module _ (isn : ℕ → Type 0) (b : ℕ → Tree) (t : Tree) (v : Node) (s : Is
   cut a i =
       let k = cut_of isn b t v s in
       let m = child_same isn b k.l v.left i k.left in
-      ap (span_reaching a i) k.is ∙ span_reaching-cut a i (entries k.l) (span_of v ∷ entries k.r) ∙ ap (λ x. first_of_two x (span_reaching a i (span_of v ∷ entries k.r))) (sym (m.same a))
+      ap (span_reaching a i) k.is ∙ reaching-cut a i (entries k.l) (span_of v ∷ entries k.r) ∙ ap (λ x. first_of_two x (span_reaching a i (span_of v ∷ entries k.r))) (sym (m.same a))
 
   pub seen_found : (a : Option (ℕ × ℕ)) (i : ℕ) (x : Span) → span_reaching a i (child i v.left) ≡ Some x → span_reaching a i (entries t) ≡ Some x
   seen_found a i x e = cut a i ∙ rw e refl
@@ -185,7 +185,7 @@ module _ (isn : ℕ → Type 0) (b : ℕ → Tree) (t : Tree) (v : Node) (s : Is
       let k = cut_of isn b t v s in
       let m = child_same isn b k.r v.right i k.right in
       let before = past_left a i (entries k.l) (span_of v) (entries k.r) (subst IsOrdered k.is o) p in
-      ap (span_reaching a i) k.is ∙ span_reaching-cut a i (entries k.l) (span_of v ∷ entries k.r) ∙ rw (before, p) (sym (m.same a))
+      ap (span_reaching a i) k.is ∙ reaching-cut a i (entries k.l) (span_of v ∷ entries k.r) ∙ rw (before, p) (sym (m.same a))
 
   pub later_ordered : (a : Option (ℕ × ℕ)) (i : ℕ) → IsOrdered (entries t) → is_past a (span_of v) ≡ true → span_reaching a i (entries (cut_of isn b t v s).r) ≡ span_reaching None i (entries (cut_of isn b t v s).r)
   later_ordered a i o p =

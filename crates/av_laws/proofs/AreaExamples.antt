@@ -143,8 +143,8 @@ hole-makes = makes hole 0xf 6 (area 0x10 0x11 read_write ∷ area 0x12 0x14 read
 )
     (refl, (refl, (refl, (refl, (refl, (refl, tt))))))
 
-pub middle_map-makes : Makes middle_map 0xf 6 (area 0x10 0x14 read_write ∷ [])
-middle_map-makes = makes middle_map 0xf 6 (area 0x10 0x14 read_write ∷ []) (
+pub between-makes : Makes middle_map 0xf 6 (area 0x10 0x14 read_write ∷ [])
+between-makes = makes middle_map 0xf 6 (area 0x10 0x14 read_write ∷ []) (
   [],
   all_free,
   record { answer = (refl, refl, refl); notes = refl },

@@ -531,8 +531,8 @@ claimed_first p b w rest q page = by (eq_by_cmp nat_cmp q p)
     by true = claimed b page
     by false = rest q page
 
-pub leaking_run-rejected : Rejects (machine 4) (after_fork (1 ∷ 2 ∷ 3 ∷ [])) leaking_run
-leaking_run-rejected = same_run_from (machine 4) (after_fork (1 ∷ 2 ∷ 3 ∷ [])) copies leaking_run 2 refl (claimed_first 1 7 ((2, with_byte 7) ∷ []) (claimed_first 2 7 [] (λ p page. tt))) copies-runs
+pub leaked-rejected : Rejects (machine 4) (after_fork (1 ∷ 2 ∷ 3 ∷ [])) leaking_run
+leaked-rejected = same_run_from (machine 4) (after_fork (1 ∷ 2 ∷ 3 ∷ [])) copies leaking_run 2 refl (claimed_first 1 7 ((2, with_byte 7) ∷ []) (claimed_first 2 7 [] (λ p page. tt))) copies-runs
     (refl, (refl, (refl, (refl, (refl, (refl, tt)))))) refl refl (λ e. omega (arith, e))
 
 pub wrong_load-rejected : Rejects (with_swap 4 3 2) (paged_out 2 (0 ∷ 1 ∷ 2 ∷ 3 ∷ [])) wrong_load

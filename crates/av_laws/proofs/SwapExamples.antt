@@ -8,8 +8,8 @@ use Rattle.av_plain.specs.Access.{Whole, Stopped}
 use Rattle.av_laws.specs.Examples.{Allows, machine, crowd, full_machine, after_fork, copies, no_copy, with_swap, slot, paged_out, loads, load_to_write, load_when_full, load_when_half_full, no_load, in_writeback, maps_again, slot_shared, load_and_copy, load_without_copy, untold, load_unclaimed}
 use Rattle.av_laws.proofs.FirstExamples.{by_steps}
 
-pub full_machine-runs : Allows (machine 4) (crowd 4095) full_machine
-full_machine-runs = by_steps (machine 4) (crowd 4095) full_machine ((
+pub crowded-runs : Allows (machine 4) (crowd 4095) full_machine
+crowded-runs = by_steps (machine 4) (crowd 4095) full_machine ((
   [],
   0 ∷ 1 ∷ 2 ∷ 3 ∷ [],
   record { answer = (refl, refl, refl); notes = refl },

@@ -54,8 +54,8 @@ slot_and_its_frame-not h = let e : same 0x7fffffffd 0x7fffffffe = h.ledger.one 1
 pub slot_twice-not : Unsound four one_process slot_twice
 slot_twice-not h = let e : same 0x7fffffffd 0x7fffffffe = h.ledger.one 1 0x7fffffffd 0x7fffffffe (InSlot (slot 1)) (InSlot (slot 1)) refl refl refl in omega (arith, e)
 
-pub no_page_ledger-not : Unsound four one_process no_page_ledger
-no_page_ledger-not h = never (h.at_pages 1 0x10 refl)
+pub unmapped-not : Unsound four one_process no_page_ledger
+unmapped-not h = never (h.at_pages 1 0x10 refl)
 
 pub of_nobody-not : Unsound four one_process of_nobody
 of_nobody-not h = never (h.at_pages 2 0x7fffffffe refl)

@@ -101,8 +101,8 @@ at_page q h = by (same_key q (1, 0x7fffffffe)) (same_key q (2, 0x7fffffffe)) ref
     by false true is is' e = subst (λ (k : Key). is_some (pages fork_state.world k.0 k.1) ≡ true) (sym (same_key-is q (2, 0x7fffffffe) is')) refl
     by false false is is' e = absurd (never e)
 
-fork_state-sound : AllSound (machine 4) fork_state.world fork_state.ledger
-fork_state-sound = record {
+forked-sound : AllSound (machine 4) fork_state.world fork_state.ledger
+forked-sound = record {
   world = record { in_order = tt; few = omega arith };
   ledger = record {
     in_order = tt;
@@ -216,7 +216,7 @@ kept p page = subst (λ o. IsKept right no_device fork_state.ledger o (pages for
 pub right-stands : Stands (machine 4) right no_device fork_state
 right-stands = record {
   over = record { sizes = refl; headers = refl };
-  sound = fork_state-sound;
+  sound = forked-sound;
   parts = record {
     ledger = record {
       frames = record { frames = refl; maps = λ f. refl; slots = λ f. refl; dirty = λ f. tt; free = free };

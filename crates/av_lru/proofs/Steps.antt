@@ -13,7 +13,7 @@ use Rattle.av_base.specs.Words.{is_in}
 use Rattle.av_lru.specs.Links.{head_of, len_of, with_len, Joins, Inserts, lists_of, place_of, IsWhole, is_off, IsIn, IsRing, walk, after_links}
 use Rattle.av_lru.proofs.Paths.{IsIn-without, frame_at, frame_past, last_path, prev_path}
 use Rattle.av_lru.proofs.Tails.{back_in, tails_path}
-use Rattle.av_lru.proofs.Whole.{found_in, is_apart, read, read_place, head_below, head_past, free_place, first_on, last_on, on_below, off_ring, room, front, push, Shows, before_on, after_on, some, leaves, taken_free, not_in, in_found, ring, placed_below, length-list_of, shows}
+use Rattle.av_lru.proofs.Whole.{found_in, is_apart, read, read_place, head_below, head_past, free_place, first_on, last_on, on_below, off_ring, room, front, push, Shows, before_on, after_on, some, leaves, taken_free, not_in, in_found, ring, placed_below, length-listed, shows}
 
 abbrev pub Reads : List ℕ → ℕ → ℕ → Type 0
 Reads xs i x = x ≡ get_or xs i x
@@ -120,7 +120,7 @@ module _ (links back : List ℕ) (places : List (Option Which)) (lens : Lengths)
   -- ---- what is read
 
   pub long : (w : Which) → length (list_of w ls) ≡ len_of w lens
-  long w = subst (λ (v : Lists). length (list_of w v) ≡ len_of w lens) seen (length-list_of links back places lens w)
+  long w = subst (λ (v : Lists). length (list_of w v) ≡ len_of w lens) seen (length-listed links back places lens w)
 
   pub listed_in : (f : ℕ) → (is_in f ls.active ≡ true) ⊎ (is_in f ls.inactive ≡ true) → f < length places
   listed_in f h = by (subst (λ (v : Lists). (is_in f v.active ≡ true) ⊎ (is_in f v.inactive ≡ true)) (sym seen) h)

@@ -156,8 +156,8 @@ module _ (links back : List ℕ) (places : List (Option Which)) (lens : Lengths)
   listed_at Active = refl
   listed_at Inactive = refl
 
-  pub length-list_of : (v : Which) → length (list_of v seen_lists) ≡ len_of v lens
-  length-list_of v = ap length (listed_at v) ∙ length-frames_of links (len_of v lens) (head_of (length places) v)
+  pub length-listed : (v : Which) → length (list_of v seen_lists) ≡ len_of v lens
+  length-listed v = ap length (listed_at v) ∙ length-frames_of links (len_of v lens) (head_of (length places) v)
 
   none_past : (f : ℕ) → length places ≤ f → place_of places f ≡ None
   none_past f past = get_or_past places f None past
@@ -273,7 +273,7 @@ module _ (links back : List ℕ) (places : List (Option Which)) (lens : Lengths)
             (λ v. elim (same_or v w) [
               | inl same ↦ subst (λ u. length (list_of u (with_list w fs seen_lists)) ≡ len_of u (with_len w (len_of w lens + 1) lens)) (sym same)
                   (ap length (list_same w fs seen_lists) ∙ len ∙ sym (len_same w _ lens))
-              | inr ne ↦ ap length (list_other v w fs seen_lists ne) ∙ length-list_of v ∙ sym (len_other v w _ lens ne)
+              | inr ne ↦ ap length (list_other v w fs seen_lists ne) ∙ length-listed v ∙ sym (len_other v w _ lens ne)
             ])
 
         pub front : Inserts (slice_index links) (slice_index back) (slice_index links') (slice_index back') (head_of (length places) w) f (slice_index links (head_of (length places) w))
@@ -281,14 +281,14 @@ module _ (links back : List ℕ) (places : List (Option Which)) (lens : Lengths)
         front splices = joins _ _ _ splices (inl refl) (first_on w)
             (IsRing-front (slice_index links) (slice_index back) (slice_index links') (slice_index back') (place_of places) (place_of (slice_set places f (Some w))) w (head_of (length places) w) (heads_none w) (list_of w seen_lists) f (ring w)
             (off_ring f below free w _ (inl refl)) free splices place_here place_other)
-            (let len = length-list_of w in omega (arith, len))
+            (let len = length-listed w in omega (arith, len))
 
         pub push : Inserts (slice_index links) (slice_index back) (slice_index links') (slice_index back') (slice_index back (head_of (length places) w)) f (head_of (length places) w)
             → Shows links' back' (slice_set places f (Some w)) (with_len w (len_of w lens + 1) lens) (with_list w (list_of w seen_lists ++ f ∷ []) seen_lists)
         push splices = joins _ _ _ splices (last_on w) (inl refl)
             (IsRing-push (slice_index links) (slice_index back) (slice_index links') (slice_index back') (place_of places) (place_of (slice_set places f (Some w))) w (head_of (length places) w) (heads_none w) (list_of w seen_lists) f (ring w)
             (off_ring f below free w _ (inl refl)) free splices place_here place_other)
-            (let len = length-list_of w in omega (arith, len, length-append (list_of w seen_lists) (f ∷ [])))
+            (let len = length-listed w in omega (arith, len, length-append (list_of w seen_lists) (f ∷ [])))
 
     -- ---- a frame leaves
 
@@ -306,7 +306,7 @@ module _ (links back : List ℕ) (places : List (Option Which)) (lens : Lengths)
       after_on = next_on (slice_index links) (slice_index back) _ _ _ f (ring w).linked found
 
       shorter : length (without f (list_of w seen_lists)) + 1 ≡ len_of w lens
-      shorter = length-without f (list_of w seen_lists) (ring w).apart found ∙ length-list_of w
+      shorter = length-without f (list_of w seen_lists) (ring w).apart found ∙ length-listed w
 
       pub some : 0 < len_of w lens
       some = let h = shorter in omega (arith, h)
@@ -355,7 +355,7 @@ module _ (links back : List ℕ) (places : List (Option Which)) (lens : Lengths)
           (λ v. elim (same_or v w) [
             | inl same ↦ subst (λ u. length (list_of u (without_frame f seen_lists)) ≡ len_of u (with_len w (len_of w lens - 1) lens)) (sym same)
                 (ap length (list_taken w f seen_lists) ∙ one_less _ _ shorter ∙ sym (len_same w _ lens))
-            | inr ne ↦ ap length (list_taken v f seen_lists) ∙ ap length (without_absent f (list_of v seen_lists) (absent v ne)) ∙ length-list_of v ∙ sym (len_other v w _ lens ne)
+            | inr ne ↦ ap length (list_taken v f seen_lists) ∙ ap length (without_absent f (list_of v seen_lists) (absent v ne)) ∙ length-listed v ∙ sym (len_other v w _ lens ne)
           ])
         where
           one_less : (a b : ℕ) → a + 1 ≡ b → a ≡ b - 1

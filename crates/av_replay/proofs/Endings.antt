@@ -22,7 +22,7 @@ use Rattle.av_replay.specs.Turn.{texts, Commands, IsBad, IsEnding, TakesLine, Wa
 use Rattle.av_replay.specs.Replay.{most_lines, all_lines, Transcribes, Run, done_lines, Replays, IsLeft, StopsAt, MayGoOn, IsCutOff, Ends, status_at, Headline}
 use Rattle.av_replay.proofs.Bytes.{Took-none, Took-ahead, Gained-none, take-add, Rose-earlier, Rose-later, rose_none}
 use Rattle.av_replay.proofs.Times.{later_same, later_then}
-use Rattle.av_replay.proofs.Runs.{Past, whole, SoFar, longer, next_answers, read_more, wrote_more, later_more, faults_more, legal_more, kernel_more, texts_more, all_push, Transcribes-push, all_lines-push}
+use Rattle.av_replay.proofs.Runs.{Past, whole, SoFar, longer, next_answers, read_more, wrote_more, later_more, faults_more, legal_more, kernel_more, texts_more, all_push, Transcribes-push, joined-push}
 
 -- ---- what the end of a turn leaves
 
@@ -71,7 +71,7 @@ module _ (n : ℕ) (past : Past) (ahead : List ℕ) (old now new : Streams) (k k
       let lines = past.lines ++ line ∷ [] in
       record {
         replays = record {
-          read = Took-ahead old.source.left new.source.left (all_lines lines) rest (subst (Took old.source.left (undone rest new)) (sym (all_lines-push past.lines line)) (read_more n past ahead old now new k k' line (10 ∷ []) rest text written so_far takes));
+          read = Took-ahead old.source.left new.source.left (all_lines lines) rest (subst (Took old.source.left (undone rest new)) (sym (joined-push past.lines line)) (read_more n past ahead old now new k k' line (10 ∷ []) rest text written so_far takes));
           near = takes.near;
           lines = all_push IsLine past.lines line so_far.lines takes.is_line;
           few = few_whole lines (omega (arith, length-append past.lines (line ∷ [])));

@@ -34,8 +34,8 @@ Transcribes-push [] es line did e commands =
 Transcribes-push (x ∷ lines) es line did t commands =
     (t.0, t.1 ++ option_to_list did, ap (λ (l : List Exchange). l ++ option_to_list did) t.2 ∙ append_assoc (option_to_list t.0) t.1 (option_to_list did), t.3, Transcribes-push lines t.1 line did t.4 commands)
 
-pub all_lines-push : (lines : List (List ℕ)) (line : List ℕ) → all_lines (lines ++ line ∷ []) ≡ all_lines lines ++ (line ++ 10 ∷ [])
-all_lines-push lines line = flat_map-append (λ (l : List ℕ). l ++ 10 ∷ []) lines (line ∷ []) ∙ ap (λ (t : List ℕ). all_lines lines ++ t) (append-nil _)
+pub joined-push : (lines : List (List ℕ)) (line : List ℕ) → all_lines (lines ++ line ∷ []) ≡ all_lines lines ++ (line ++ 10 ∷ [])
+joined-push lines line = flat_map-append (λ (l : List ℕ). l ++ 10 ∷ []) lines (line ∷ []) ∙ ap (λ (t : List ℕ). all_lines lines ++ t) (append-nil _)
 
 pub IsRun-append : (m : Setting) (a b c : State) (es more : List Exchange) → IsRun m a es b → IsRun m b more c → IsRun m a (es ++ more) c
 IsRun-append m a b c [] more run then = subst (λ (s : State). IsRun m s more c) run then
@@ -135,7 +135,7 @@ pub goes_on : (n : ℕ) (past : Past) (ahead rest : List ℕ) (old now new : Str
 goes_on n past ahead rest old now new k k' line text so_far takes =
     let a = next_answers n past ahead old now new k k' line (10 ∷ []) rest text text so_far takes in
     record {
-      read = subst (Took old.source.left (undone rest new)) (sym (all_lines-push past.lines line)) (read_more n past ahead old now new k k' line (10 ∷ []) rest text text so_far takes);
+      read = subst (Took old.source.left (undone rest new)) (sym (joined-push past.lines line)) (read_more n past ahead old now new k k' line (10 ∷ []) rest text text so_far takes);
       near = takes.near;
       lines = all_push IsLine past.lines line so_far.lines takes.is_line;
       commands = Transcribes-push past.lines past.transcript line a.did so_far.commands a.commands;

@@ -24,12 +24,12 @@ lines_of-line [] more none = refl
 lines_of-line (b ∷ line) more none =
     lines_of-other b (line ++ 10 ∷ more) (All-head IsNoNewline b line none) ∙ ap (onto_first b) (lines_of-line line more (All-tail IsNoNewline b line none))
 
-lines_of-all_lines : (lines : List (List ℕ)) (more : List ℕ) → AllByRecursion IsLine lines → lines_of (all_lines lines ++ more) ≡ lines ++ lines_of more
-lines_of-all_lines [] more all = refl
-lines_of-all_lines (line ∷ lines) more all =
+lines_of-joined : (lines : List (List ℕ)) (more : List ℕ) → AllByRecursion IsLine lines → lines_of (all_lines lines ++ more) ≡ lines ++ lines_of more
+lines_of-joined [] more all = refl
+lines_of-joined (line ∷ lines) more all =
     ap lines_of (append_assoc (line ++ 10 ∷ []) (all_lines lines) more ∙ append_assoc line (10 ∷ []) (all_lines lines ++ more))
     ∙ lines_of-line line (all_lines lines ++ more) all.0.one
-    ∙ ap (λ (ls : List (List ℕ)). line ∷ ls) (lines_of-all_lines lines more all.1)
+    ∙ ap (λ (ls : List (List ℕ)). line ∷ ls) (lines_of-joined lines more all.1)
 
 lines_of-last : (line : List ℕ) → HasNoNewline line → 0 < length line → lines_of line ≡ line ∷ []
 lines_of-last [] none some = absurd (omega arith)
@@ -80,7 +80,7 @@ member (x ∷ lines) line others all = member lines line others (All-tail IsGood
 
 -- the lines that were done, and those that are left
 split : (lines : List (List ℕ)) (rest content more : List ℕ) → AllByRecursion IsLine lines → content ≡ (all_lines lines ++ rest) ++ more → lines_of content ≡ lines ++ lines_of (rest ++ more)
-split lines rest content more all e = ap lines_of (e ∙ append_assoc (all_lines lines) rest more) ∙ lines_of-all_lines lines (rest ++ more) all
+split lines rest content more all e = ap lines_of (e ∙ append_assoc (all_lines lines) rest more) ∙ lines_of-joined lines (rest ++ more) all
 
 -- the first of the other lines is good
 first_good : (lines : List (List ℕ)) (rest content more line : List ℕ) (others : List (List ℕ)) → AllByRecursion IsLine lines → content ≡ (all_lines lines ++ rest) ++ more → All IsGood (lines_of content) → lines_of (rest ++ more) ≡ line ∷ others → IsGood line

@@ -68,12 +68,12 @@ first_of-found Fits name bytes a None others x is fits next e = next e
 first_of-found Fits name bytes a (Some rest) others x is fits next e =
     subst (IsNamed Fits bytes) (same_Some _ _ e) (record { name = name; is = is rest refl; fits = fits })
 
-pub by_name-found : {A : Type 0} (Fits : List ℕ × A → Type 0) (xs : List (List ℕ × A)) (bytes : List ℕ) (x : A × List ℕ) → AllByRecursion Fits xs →
+pub named-found : {A : Type 0} (Fits : List ℕ × A → Type 0) (xs : List (List ℕ × A)) (bytes : List ℕ) (x : A × List ℕ) → AllByRecursion Fits xs →
     by_name xs bytes ≡ Some x →
     IsNamed Fits bytes x
-by_name-found Fits [] bytes x all e = absurd cc
-by_name-found Fits (y ∷ ys) bytes x all e =
-    first_of-found Fits y.0 bytes y.1 (after y.0 bytes) (by_name ys bytes) x (λ rest. after-found y.0 bytes rest) all.0 (by_name-found Fits ys bytes x all.1) e
+named-found Fits [] bytes x all e = absurd cc
+named-found Fits (y ∷ ys) bytes x all e =
+    first_of-found Fits y.0 bytes y.1 (after y.0 bytes) (by_name ys bytes) x (λ rest. after-found y.0 bytes rest) all.0 (named-found Fits ys bytes x all.1) e
 
 -- ---- readers
 

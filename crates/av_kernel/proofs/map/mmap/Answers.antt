@@ -17,7 +17,7 @@ use Rattle.av_trace.specs.declared.reply.Errno.TheVariants.{Esrch, Einval, Enome
 use Rattle.av_kernel.proofs.StepLaws.{moved_on, orderly, ranges_there, refuses, refuses-as, refuses-by, dead_first, wants-by}
 use Rattle.av_kernel.proofs.PlaceLaws.{rounded_up, suited}
 use Rattle.av_kernel.proofs.MapLaws.{taken_is, suits, cleared_lives, cleared_free, mmap-refused, mmap-steps, mmap-tests-first, mmap-tests-second}
-use Rattle.av_kernel.proofs.MapProts.{has_areas, after_map-prots}
+use Rattle.av_kernel.proofs.MapProts.{has_areas, mapped-prots}
 use Rattle.av_kernel.proofs.map.mmap.Goals as goal
 
 not_zero : (n : ℕ) → n ≢ 0 → (n == 0) ≡ false
@@ -89,7 +89,7 @@ returns c = record {
       let cleared = c.in_ok-make_room.ensures.cleared s.ledger (orderly k s keeps) in
       let placed = subst (λ n. IsPlaced (pages s.world c.args.process) n c.args.place (Ok page)) size (c.in_ok-page.ensures (pages s.world c.args.process) (taken_is k s c.args.process keeps)) in
       let free = cleared_free k mid c.args.process page c.div_ceil-pages.result _ s.ledger _ cleared in
-      let prots = after_map-prots mid.spaces c.map.new.self c.args.process page c.div_ceil-pages.result c.args.prot (some_pages c.args.len c.div_ceil-pages.result c.if-len-eq0.false c.div_ceil-pages.ensures) suit.lowest suit.highest free c.in_ok-map.ensures in
+      let prots = mapped-prots mid.spaces c.map.new.self c.args.process page c.div_ceil-pages.result c.args.prot (some_pages c.args.len c.div_ceil-pages.result c.if-len-eq0.false c.div_ceil-pages.ensures) suit.lowest suit.highest free c.in_ok-map.ensures in
       subst (MemSteps k (moved_on mid mid.tables c.map.new.self) s (Mmap c.args.process c.args.len c.args.prot c.args.place)) (sym c.answer_only.ensures)
       (mmap-steps k s c.args.process c.args.len c.args.prot c.args.place keeps (ranges_there k c.args.process c.in_ok-check_lives.ensures) (not_zero c.args.len c.if-len-eq0.false) (sym c.is_too_long.ensures ∙ c.if-is_too_long.false)
       mid c.map.new.self page placed (suited k.spaces c.args.process (pages s.world c.args.process) (taken_is k s c.args.process keeps) (pages_of c.args.len) page c.args.place placed).clear c.make_room.ensures.count
