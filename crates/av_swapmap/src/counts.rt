@@ -93,7 +93,7 @@ impl Counts {
     }
 
     /// Whether the swap cache holds the slot.
-    pub fn is_cached(&self, page: u32) -> bool
+    pub fn cached(&self, page: u32) -> bool
         requires { page < (seen self.now).pages }
         ensures { result ≡ (seen self.now).cached page }
     {

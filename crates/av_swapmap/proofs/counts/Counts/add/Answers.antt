@@ -14,10 +14,10 @@ returns-in_err-grow c = on_err c.from_residual.result _ _ c.from_residual.ensure
 pub invariant_of-self-2 : goal.invariant_of-self-2
 invariant_of-self-2 c =
     let fits : c.get.result + c.args.n < 2 ^ 32 = subst (λ x. x + c.args.n < 2 ^ 32) (sym c.get.ensures) c.requires.room in
-    whole_after (the_view c.self.inside) c.args.self.now c.self.view_is c.self.invariant c.args.page (c.get.result + c.args.n) _ c.is_cached.result _ c.requires.in_range fits c.byte_of-byte.ensures c.in_ok-grow.ensures
+    whole_after (the_view c.self.inside) c.args.self.now c.self.view_is c.self.invariant c.args.page (c.get.result + c.args.n) _ c.cached.result _ c.requires.in_range fits c.byte_of-byte.ensures c.in_ok-grow.ensures
 
 pub returns : goal.returns
 returns c =
     let fits : c.get.result + c.args.n < 2 ^ 32 = subst (λ x. x + c.args.n < 2 ^ 32) (sym c.get.ensures) c.requires.room in
-    count_after (the_view c.self.inside) c.args.self.now c.self.view_is c.self.invariant c.args.page (c.get.result + c.args.n) _ c.is_cached.result _ c.requires.in_range fits c.byte_of-byte.ensures c.in_ok-grow.ensures
-    c.requires.not_bad c.is_cached.ensures _ (ap (λ x. x + c.args.n) c.get.ensures)
+    count_after (the_view c.self.inside) c.args.self.now c.self.view_is c.self.invariant c.args.page (c.get.result + c.args.n) _ c.cached.result _ c.requires.in_range fits c.byte_of-byte.ensures c.in_ok-grow.ensures
+    c.requires.not_bad c.cached.ensures _ (ap (λ x. x + c.args.n) c.get.ensures)
