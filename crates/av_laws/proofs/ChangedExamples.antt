@@ -21,7 +21,8 @@ use Rattle.av_laws.specs.Examples.{Allows, Forbids, Refutes, Rejects, Runs, afte
 use Rattle.av_plain.specs.Access.{Accesses, End, Stopped, Whole, page_events, pages_of_access, read_answer, write_answer}
 use Rattle.av_plain.specs.Choice.{frame_in, new_free, no_slots}
 use Rattle.av_plain.specs.Pass.{fails}
-use Rattle.av_laws.proofs.Choice.{ChoosesFrames, all-chosen, none-given, slots_after_all, take_none}
+use Rattle.av_plain.proofs.Choice.{ChoosesFrames}
+use Rattle.av_laws.proofs.Choice.{all-chosen, none-given, slots_after_all, take_none}
 use Rattle.av_plain.specs.Event.{Event, Used, after, note_events, notes_of}
 use Rattle.av_plain.specs.Fault.{Denied, IsLost, Lost, Need, Starved, Stop, SwapIn, Touches, sparing}
 use Rattle.av_plain.specs.Ledger.{Key, Ledger, Setting}

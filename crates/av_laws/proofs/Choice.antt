@@ -1,36 +1,14 @@
--- What is chosen at several events: the frames by themselves, and the slots, computed.
+-- Which slots are chosen at several events, computed.
 use Rattle.std.proofs.Common.{◌≡◌, ℕ, Bool, true, false, ◌&&◌, ◌==◌, List, [], ◌∷◌, ◌++◌, Option, Some, None, is_none, refl, ap, arith}
 use Rattle.std.proofs.lemmas.Bool.Decides.{nat_tests}
 use Rattle.std.specs.Prelude.{IsSomeAnd, MatchOption}
 use Rattle.av_base.specs.Words.{with_at}
 use Rattle.av_base.specs.declared.slot.Slot.{Slot}
 use Rattle.av_clusters.specs.Clusters.{Slots, take_slot}
-use Rattle.av_plain.specs.Choice.{AreaSlots, ChoosesAll, ChoosesFrame, ChoosesSlot, Free, IsGiven, Turns, giving_area, slot_in, with_given_back}
+use Rattle.av_plain.specs.Choice.{AreaSlots, ChoosesAll, ChoosesFrame, ChoosesSlot, Free, IsGiven, SwitchesArea, giving_area, slot_in, with_given_back}
 use Rattle.av_plain.specs.Event.{Event, Forked, Moved, Noted, TurnedOff, TurnedOn, Used, Zapped, after, after_all}
 use Rattle.av_plain.specs.Ledger.{Ledger, Setting}
-
--- ---- the frames alone
-
--- the free frames before and after several events
-abbrev pub ChoosesFrames : Setting → Ledger → List Event → List ℕ → List ℕ → Type 0
-ChoosesFrames m l [] free free' = free' ≡ free
-ChoosesFrames m l (e ∷ es) free free' =
-    (mid : List ℕ) × ChoosesFrame m l e free mid × ChoosesFrames m (after l e) es mid free'
-
-pub frames-chosen : (m : Setting) (closing : Option ℕ) (l : Ledger) (es : List Event)
-    (free free' : Free)
-    → ChoosesAll m closing l es free free' → ChoosesFrames m l es free.frames free'.frames
-frames-chosen m closing l [] free free' h = ap (λ (f : Free). f.frames) h
-frames-chosen m closing l (e ∷ es) free free' h =
-    (h.0.frames, h.1.frames, frames-chosen m closing (after l e) es h.0 free' h.2)
-
-pub frames-first : (m : Setting) (l : Ledger) (es fs : List Event) (free free' : List ℕ)
-    → ChoosesFrames m l (es ++ fs) free free'
-    → (mid : List ℕ) × ChoosesFrames m l es free mid × ChoosesFrames m (after_all l es) fs mid free'
-frames-first m l [] fs free free' h = (free, refl, h)
-frames-first m l (e ∷ es) fs free free' h =
-    let rest = frames-first m (after l e) es fs h.0 free' h.2 in
-    (rest.0, (h.0, h.1, rest.1), rest.2)
+use Rattle.av_plain.proofs.Choice.{ChoosesFrames}
 
 -- ---- the slots, computed
 
@@ -114,7 +92,7 @@ slot-chosen m l e slots h =
     let parts = both (turns_none e) (gives_slot m l (slot_in e) slots) h in
     (slots, left_by (slot_in e) slots, turned e parts.0, given (slot_in e) parts.1, refl)
   where
-    turned : (e : Event) → turns_none e ≡ true → Turns m e slots slots
+    turned : (e : Event) → turns_none e ≡ true → SwitchesArea m e slots slots
     turned (Noted note) h = refl
     turned (Zapped k) h = refl
     turned (Used write k) h = refl

@@ -18,7 +18,8 @@ use Rattle.av_plain.specs.Access.{Whole, Stopped}
 use Rattle.av_plain.specs.Step.{IsLegal, next_world}
 use Rattle.av_plain.specs.Areas.{no_anons, next_areas, no_areas}
 use Rattle.av_plain.specs.Choice.{no_slots}
-use Rattle.av_laws.proofs.Choice.{ChoosesFrames, all-chosen, gives_all, none-given, slots_after_all, take_none}
+use Rattle.av_plain.proofs.Choice.{ChoosesFrames}
+use Rattle.av_laws.proofs.Choice.{all-chosen, gives_all, none-given, slots_after_all, take_none}
 use Rattle.av_plain.specs.Transcript.{Exchange, State, at_first}
 use Rattle.av_laws.specs.Examples.{Allows, Runs, machine, says, read_write, write_only, first_run, zero_first, one_frame, part_denied, two_processes, refusals, all_mapped, readable, denied_write}
 

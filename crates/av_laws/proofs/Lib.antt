@@ -4,7 +4,6 @@ pub mod Choice
 pub mod OnePass
 pub mod OnePage
 pub mod Determined
-pub mod FreeFrames
 pub mod FirstExamples
 pub mod SwapExamples
 pub mod LedgerExamples

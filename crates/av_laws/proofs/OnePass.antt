@@ -97,8 +97,8 @@ fresh-same m k area made made' told h g = by m.headers told h g
     by None told h g = cc
     by (Some headers) told h g = of_layout (headers k) h g
 
-turns-same : (m : Setting) (e : Event) (old a b : AreaSlots) → Tells m → Turns m e old a
-    → Turns m e old b → a ≡ b
+turns-same : (m : Setting) (e : Event) (old a b : AreaSlots) → Tells m → SwitchesArea m e old a
+    → SwitchesArea m e old b → a ≡ b
 turns-same m (Noted note) old a b told h g = h ∙ sym g
 turns-same m (Zapped k) old a b told h g = h ∙ sym g
 turns-same m (Used write k) old a b told h g = h ∙ sym g

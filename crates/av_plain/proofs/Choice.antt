@@ -5,11 +5,11 @@ use Rattle.std.specs.Prelude.{MatchOption, fold, unwrap_or}
 use Rattle.std.specs.FinMap.Entries.{is_sorted}
 use Rattle.av_base.specs.Words.{how_many, numbers}
 use Rattle.av_plain.specs.Ledger.{Ledger, Setting, Cached, Key, key_cmp, Entry, InFrame, entry, map_count, names_frame, is_free, slot_count}
-use Rattle.av_plain.specs.Event.{Event, Zapped, set_entry, after, after_zap}
+use Rattle.av_plain.specs.Event.{Event, Zapped, set_entry, after, after_all, after_zap}
 use Rattle.av_clusters.specs.Clusters.{Slots, give_slot}
 use Rattle.av_base.specs.declared.slot.Slot.{Slot}
 use Rattle.av_plain.specs.Device.{HasNoDevice}
-use Rattle.av_plain.specs.Choice.{AreaSlots, Chooses, ChoosesSlot, Free, IsGiven, Turns, frame_in, new_free, slot_in}
+use Rattle.av_plain.specs.Choice.{AreaSlots, Chooses, ChoosesAll, ChoosesFrame, ChoosesSlot, Free, IsGiven, SwitchesArea, frame_in, new_free, slot_in}
 use Rattle.av_plain.specs.Sound.{uses, holders}
 use Rattle.av_plain.proofs.Ledger.Order.{weight}
 use Rattle.av_plain.proofs.Ledger.{map_count-set}
@@ -81,7 +81,7 @@ new_free-one m l l' f below had gone others = one-passes (λ f. is_free l' f && 
 -- ---- an event that makes none free
 
 -- where no area is attached, an event that neither takes a slot nor turns an area leaves the slots
-pub no-slot-chosen : (m : Setting) (closing : Option ℕ) (l : Ledger) (e : Event) (slots : AreaSlots) → HasNoDevice m → Turns m e slots slots → slot_in e ≡ None → ChoosesSlot m closing l e slots slots
+pub no-slot-chosen : (m : Setting) (closing : Option ℕ) (l : Ledger) (e : Event) (slots : AreaSlots) → HasNoDevice m → SwitchesArea m e slots slots → slot_in e ≡ None → ChoosesSlot m closing l e slots slots
 no-slot-chosen m closing l e slots none turns takes = (
   slots,
   slots,
@@ -158,3 +158,26 @@ new_free-zap_last m k l f seen h at below one = new_free-one m l (after_zap k l)
     flag_not : (b : Bool) → b ≡ false → ◌≡◌ {A = ℕ} (cond b 1 0) 0
     flag_not true e = cc
     flag_not false e = refl
+
+-- ---- the frames alone, at several events
+
+-- the free frames before and after several events
+abbrev pub ChoosesFrames : Setting → Ledger → List Event → List ℕ → List ℕ → Type 0
+ChoosesFrames m l [] free free' = free' ≡ free
+ChoosesFrames m l (e ∷ es) free free' =
+    (mid : List ℕ) × ChoosesFrame m l e free mid × ChoosesFrames m (after l e) es mid free'
+
+pub frames-chosen : (m : Setting) (closing : Option ℕ) (l : Ledger) (es : List Event)
+    (free free' : Free)
+    → ChoosesAll m closing l es free free' → ChoosesFrames m l es free.frames free'.frames
+frames-chosen m closing l [] free free' h = ap (λ (f : Free). f.frames) h
+frames-chosen m closing l (e ∷ es) free free' h =
+    (h.0.frames, h.1.frames, frames-chosen m closing (after l e) es h.0 free' h.2)
+
+pub frames-first : (m : Setting) (l : Ledger) (es fs : List Event) (free free' : List ℕ)
+    → ChoosesFrames m l (es ++ fs) free free'
+    → (mid : List ℕ) × ChoosesFrames m l es free mid × ChoosesFrames m (after_all l es) fs mid free'
+frames-first m l [] fs free free' h = (free, refl, h)
+frames-first m l (e ∷ es) fs free free' h =
+    let rest = frames-first m (after l e) es fs h.0 free' h.2 in
+    (rest.0, (h.0, h.1, rest.1), rest.2)

@@ -10,3 +10,5 @@ pub mod Refusal
 pub mod Transcript
 pub mod Sound
 pub mod NoDevice
+pub mod FreeFrames
+pub mod AreasLeft

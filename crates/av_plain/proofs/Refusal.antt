@@ -15,6 +15,7 @@ use Rattle.av_trace.specs.declared.reply.Answer.TheVariants.{Done, Refused}
 use Rattle.av_base.specs.Page.{is_on_page, page_of, pages_of}
 use Rattle.av_base.specs.declared.prot.Prot.{Prot}
 use Rattle.av_base.specs.Words.{with_at}
+use Rattle.av_vma.specs.Pages.{Lengths}
 use Rattle.av_plain.specs.Areas.{Areas, areas_to_hole, next_areas}
 use Rattle.av_plain.specs.Access.{End, Stopped, Whole, bytes_before, read_answer, stop_answer, write_answer}
 use Rattle.av_plain.specs.Event.{Event, after_all}
@@ -63,24 +64,24 @@ refused-next m w now l (Maps p) error is = refl
 refused-next m w now l Stat error is = refl
 
 -- and the areas
-pub refused-areas : (m : Setting) (w : World) (l : Ledger) (on : Areas) (command : Command) (error : Errno) → refusal (tests m w l command) ≡ Some error → next_areas on w command (Refused error) ≡ on
-refused-areas m w l on (Spawn p) error is = refl
-refused-areas m w l on (Exit p) error is = refl
-refused-areas m w l on (Mmap p len prot place) error is = refl
-refused-areas m w l on (Munmap p a len) error is = refl
-refused-areas m w l on (Mprotect p a len prot) Enomem is = ap (λ b. if b then on else with_at p (areas_to_hole w p (page_of a) (pages_of len) prot (on p)) on) (wraps-told m w l p a len prot is)
-refused-areas m w l on (Mprotect p a len prot) Eperm is = refl
-refused-areas m w l on (Mprotect p a len prot) Esrch is = refl
-refused-areas m w l on (Mprotect p a len prot) Eio is = refl
-refused-areas m w l on (Mprotect p a len prot) Eagain is = refl
-refused-areas m w l on (Mprotect p a len prot) Efault is = refl
-refused-areas m w l on (Mprotect p a len prot) Ebusy is = refl
-refused-areas m w l on (Mprotect p a len prot) Eexist is = refl
-refused-areas m w l on (Mprotect p a len prot) Einval is = refl
-refused-areas m w l on (Read p a n) error is = refl
-refused-areas m w l on (Write p a bytes) error is = refl
-refused-areas m w l on (Maps p) error is = refl
-refused-areas m w l on Stat error is = refl
+pub refused-areas : (m : Setting) (w : World) (l : Ledger) (long : Lengths) (on : Areas) (command : Command) (error : Errno) → refusal (tests m w l command) ≡ Some error → next_areas long on w command (Refused error) ≡ on
+refused-areas m w l long on (Spawn p) error is = refl
+refused-areas m w l long on (Exit p) error is = refl
+refused-areas m w l long on (Mmap p len prot place) error is = refl
+refused-areas m w l long on (Munmap p a len) error is = refl
+refused-areas m w l long on (Mprotect p a len prot) Enomem is = ap (λ b. if b then on else with_at p (areas_to_hole long w p (page_of a) (pages_of len) prot (on p)) on) (wraps-told m w l p a len prot is)
+refused-areas m w l long on (Mprotect p a len prot) Eperm is = refl
+refused-areas m w l long on (Mprotect p a len prot) Esrch is = refl
+refused-areas m w l long on (Mprotect p a len prot) Eio is = refl
+refused-areas m w l long on (Mprotect p a len prot) Eagain is = refl
+refused-areas m w l long on (Mprotect p a len prot) Efault is = refl
+refused-areas m w l long on (Mprotect p a len prot) Ebusy is = refl
+refused-areas m w l long on (Mprotect p a len prot) Eexist is = refl
+refused-areas m w l long on (Mprotect p a len prot) Einval is = refl
+refused-areas m w l long on (Read p a n) error is = refl
+refused-areas m w l long on (Write p a bytes) error is = refl
+refused-areas m w l long on (Maps p) error is = refl
+refused-areas m w l long on Stat error is = refl
 
 -- ---- a refusal that no test gives
 

@@ -1,8 +1,10 @@
 -- The areas of each process and the anon_vmas, beside the memories, and what a command makes of
--- them. They follow from commands and answers, and are not part of what makes a reply legal.
-use Rattle.std.specs.Prelude.{ℕ, ◌+◌, if◌then◌else◌, List, Option, Some, None}
+-- them. They follow from memories, events, commands and answers, and are not part of what makes a
+-- reply legal.
+use Rattle.std.specs.Prelude.{◌≡◌, ℕ, ◌+◌, if◌then◌else◌, true, List, [], length, Option, Some, None, IsSome, IsSomeAnd}
+use Rattle.std.specs.Option.{option_map_or}
 use Rattle.av_base.specs.Page.{page_of, pages_of}
-use Rattle.av_base.specs.Words.{with_at}
+use Rattle.av_base.specs.Words.{is_in, with_at}
 use Rattle.av_base.specs.declared.prot.Prot.{Prot}
 use Rattle.av_trace.specs.declared.command.Command.{Command}
 use Rattle.av_trace.specs.declared.command.Command.TheVariants.{Mprotect, Spawn, Exit, Mmap, Munmap}
@@ -11,21 +13,30 @@ use Rattle.av_trace.specs.declared.place.Place.TheVariants.{Auto, At, Fixed, NoR
 use Rattle.av_trace.specs.declared.reply.Answer.{Answer}
 use Rattle.av_trace.specs.declared.reply.Answer.TheVariants.{Done, MapAt, Refused}
 use Rattle.av_trace.specs.declared.reply.Errno.TheVariants.{Enomem}
-use Rattle.av_vma.specs.Pages.{Pages, after_map, pages_changed, to_prot, after_unmap, no_chains}
+use Rattle.av_vma.specs.Pages.{Lengths, Pages, after_map, after_unmap, pages_changed, to_prot}
 use Rattle.av_plain.specs.Refusal.{wraps}
 use Rattle.av_plain.specs.World.{World, pages, pages_to_hole}
+
+-- ---- areas
 
 -- for each process, the area that holds each page
 abbrev pub Areas : Type 0
 Areas = ℕ → Pages
 
--- an anon_vma: its root and its parent, how many anon_vmas have it as their parent and how many areas
--- as their own, and the chain of those areas
+-- a process without any area
+abbrev pub none_on : Pages
+none_on page = None
+
+-- no process has any
+abbrev pub no_areas : Areas
+no_areas p = none_on
+
+-- ---- anon_vmas
+
+-- an anon_vma: its root and its parent, and the chain of the areas that have it as their own
 pub record AnonVma : Type 0 where
   pub root : ℕ
   pub parent : ℕ
-  pub children : ℕ
-  pub active : ℕ
   pub chain : List ℕ
 
 -- the anon_vmas by number, and the number of the one that is made next
@@ -37,13 +48,28 @@ pub record Anons : Type 0 where
 abbrev pub no_anons : Anons
 no_anons = record { next = 0; anon = λ _. None }
 
--- a process without any area
-abbrev pub none_on : Pages
-none_on page = None
+-- the chain of an area, by its own anon_vma
+abbrev pub chain_of : Anons → Option ℕ → List ℕ
+chain_of anons None = []
+chain_of anons (Some own) = option_map_or (λ (v : AnonVma). v.chain) (anons.anon own) []
 
--- no process has any
-abbrev pub no_areas : Areas
-no_areas p = none_on
+-- how long it is
+abbrev pub chain_length : Anons → Lengths
+chain_length anons own = length (chain_of anons own)
+
+-- an area is linked to the anon_vma: it is in the area's chain
+abbrev pub IsLinked : Anons → Areas → ℕ → Type 0
+IsLinked anons on v = (p : ℕ) × (page : ℕ)
+    × IsSomeAnd (on p page) (λ area. is_in v (chain_of anons area.anon) ≡ true)
+
+-- what is left of the anon_vmas once these are the areas: none changes, and one is there exactly
+-- while an area is linked to it
+pub record AreLeft (anons : Anons) (on : Areas) (left : Anons) : Type 0 where
+  pub next : left.next ≡ anons.next
+  pub there : (v : ℕ) → IsSome (left.anon v) → IsLinked anons on v
+  pub linked : (v : ℕ) → IsLinked anons on v → left.anon v ≡ anons.anon v
+
+-- ---- the areas after a command
 
 -- what stands where a mapping of n pages goes makes room: only a fixed place takes away
 abbrev pub with_room : ℕ → Place → Pages → Pages
@@ -53,26 +79,30 @@ with_room n (Fixed a) on = after_unmap (page_of a) (page_of a + n) on
 with_room n (NoReplace a) on = on
 
 -- the pages up to the first of n that isn't mapped get the protection
-abbrev pub areas_to_hole : World → ℕ → ℕ → ℕ → Prot → Pages → Pages
-areas_to_hole w p from n prot on =
-    pages_changed no_chains (to_prot prot) from (pages_to_hole (pages w p) from n) on
+abbrev pub areas_to_hole : Lengths → World → ℕ → ℕ → ℕ → Prot → Pages → Pages
+areas_to_hole len w p from n prot on =
+    pages_changed len (to_prot prot) from (pages_to_hole (pages w p) from n) on
 
--- the areas after a command that was answered so, by the memories before it
-abbrev pub next_areas : Areas → World → Command → Answer → Areas
-next_areas on w (Spawn p) Done = with_at p none_on on
-next_areas on w (Exit p) Done = with_at p none_on on
-next_areas on w (Mmap p len prot place) (MapAt a) =
+-- the areas after a command that was answered so, by how long chains are and the memories before it
+abbrev pub next_areas : Lengths → Areas → World → Command → Answer → Areas
+next_areas long on w (Spawn p) Done = with_at p none_on on
+next_areas long on w (Exit p) Done = with_at p none_on on
+next_areas long on w (Mmap p len prot place) (MapAt a) =
     let room = with_room (pages_of len) place (on p) in
-    with_at p (after_map no_chains p (page_of a) (page_of a + pages_of len) prot room) on
-next_areas on w (Munmap p a len) Done =
+    with_at p (after_map long p (page_of a) (page_of a + pages_of len) prot room) on
+next_areas long on w (Munmap p a len) Done =
     with_at p (after_unmap (page_of a) (page_of a + pages_of len) (on p)) on
-next_areas on w (Mprotect p a len prot) Done =
-    with_at p (areas_to_hole w p (page_of a) (pages_of len) prot (on p)) on
-next_areas on w (Mprotect p a len prot) (Refused Enomem) =
+next_areas long on w (Mprotect p a len prot) Done =
+    with_at p (areas_to_hole long w p (page_of a) (pages_of len) prot (on p)) on
+next_areas long on w (Mprotect p a len prot) (Refused Enomem) =
     if wraps a len then on
-    else with_at p (areas_to_hole w p (page_of a) (pages_of len) prot (on p)) on
-next_areas on w command answer = on
+    else with_at p (areas_to_hole long w p (page_of a) (pages_of len) prot (on p)) on
+next_areas long on w command answer = on
 
--- the anon_vmas after a command: none makes or changes one yet
-abbrev pub next_anons : Anons → Command → Answer → Anons
-next_anons anons command answer = anons
+-- ---- both
+
+-- the areas and the anon_vmas after a command that was answered so
+pub record AreNext (on : Areas) (old : Anons) (w : World) (command : Command) (answer : Answer)
+    (on' : Areas) (new : Anons) : Type 0 where
+  pub areas : on' ≡ next_areas (chain_length old) on w command answer
+  pub anons : AreLeft old on' new

@@ -1,14 +1,17 @@
 -- What is taken: the first of the free frames, and the slot that the clusters of a swap area give,
 -- each in an order that follows the events. This is not part of what makes a reply legal.
+use Rattle.std.specs.FinMap.Entries.{find as find_area}
 use Rattle.std.specs.List.{find}
-use Rattle.std.specs.Prelude.{◌≡◌, ◌≤◌, ℕ, ◌-◌, not, ◌&&◌, ◌==◌, nat_lt, if◌then◌else◌, List, [], ◌∷◌, ◌++◌, filter, fold, length, count_by, option_map, Option, Some, None, IsSomeAnd, MatchOption}
+use Rattle.std.specs.Option.{option_map_or}
+use Rattle.std.specs.Ordering.{nat_cmp}
+use Rattle.std.specs.Prelude.{◌≡◌, ◌≤◌, ℕ, ◌+◌, ◌-◌, not, ◌&&◌, ◌==◌, nat_lt, if◌then◌else◌, true, List, [], ◌∷◌, ◌++◌, filter, fold, count_by, option_map, Option, Some, None, IsSomeAnd, MatchOption}
 use Rattle.av_base.specs.Words.{how_many, numbers, with_at}
 use Rattle.av_base.specs.declared.slot.Slot.{Slot}
-use Rattle.av_clusters.specs.Clusters.{Slots, fresh, take_slot, give_slot, is_free as is_free_page}
+use Rattle.av_clusters.specs.Clusters.{Slots, fresh, take_slot, give_slot, is_free as is_free_page, is_taken, page_at}
 use Rattle.av_swapdev.specs.Header.{Layout}
 use Rattle.av_trace.specs.declared.note.Note.{Note}
 use Rattle.av_trace.specs.declared.note.Note.TheVariants.{New, Copied, Loaded, Put}
-use Rattle.av_plain.specs.Ledger.{Ledger, Setting, SwapArea, is_free, is_open, free_slots, size_of, slot_count}
+use Rattle.av_plain.specs.Ledger.{HasNumbers, Ledger, Setting, SwapArea, is_free, is_free_slot, is_open, free_slots, size_of, slot_count}
 use Rattle.av_plain.specs.Event.{Event, Noted, TurnedOff, TurnedOn, after}
 
 -- the slots of each swap area, with their clusters
@@ -73,22 +76,23 @@ IsGiven m closing l s slots slots' =
     × IsSomeAnd (take_slot (slots s.area))
     (λ t. (t.0 ≡ s.page) × (slots' ≡ with_at s.area t.1 slots))
 
--- clusters from which nothing is given yet, made of the header where it is told; else of some
--- pages, at most the area's, and some bad ones, so that as many are usable and bad as is said
+-- clusters from which nothing is given yet, made of the header where it is told; else of page 0 and
+-- as many slots and bad pages as is said, in some order, at most the area's pages
 abbrev pub AreFresh : Setting → ℕ → SwapArea → Slots → Type 0
 AreFresh m k area made =
     MatchOption m.headers
-    ((pages : ℕ) × (bad : List ℕ) × (pages ≤ size_of m k) × (length bad ≡ area.bad)
+    ((pages : ℕ) × (bad : List ℕ) × (pages ≤ size_of m k) × (1 + area.slots + area.bad ≡ pages)
     × (made ≡ fresh pages bad) × (count_by is_free_page made.pages ≡ area.slots))
-    (λ headers. IsSomeAnd (headers k) (λ (h : Layout). made ≡ fresh h.pages h.bad))
+    (λ headers. IsSomeAnd (headers k)
+    (λ (h : Layout). HasNumbers area h × (made ≡ fresh h.pages h.bad)))
 
 -- an area that is turned on has new clusters, and one that is turned off has none
-abbrev pub Turns : Setting → Event → AreaSlots → AreaSlots → Type 0
-Turns m (TurnedOn k slots bad) old new =
+abbrev pub SwitchesArea : Setting → Event → AreaSlots → AreaSlots → Type 0
+SwitchesArea m (TurnedOn k slots bad) old new =
     (made : Slots) × AreFresh m k (record { slots = slots; bad = bad }) made
     × (new ≡ with_at k made old)
-Turns m (TurnedOff k) old new = new ≡ with_at k (no_slots k) old
-Turns m event old new = new ≡ old
+SwitchesArea m (TurnedOff k) old new = new ≡ with_at k (no_slots k) old
+SwitchesArea m event old new = new ≡ old
 
 -- the slots of an area whose count has become 0, rising
 abbrev pub new_free_slots : Setting → Ledger → Ledger → ℕ → List ℕ
@@ -104,7 +108,7 @@ with_given_back m old new slots k = fold give_slot (slots k) (new_free_slots m o
 -- a slot that an event takes is the one that is given, and what has become free is given back
 abbrev pub ChoosesSlot : Setting → Option ℕ → Ledger → Event → AreaSlots → AreaSlots → Type 0
 ChoosesSlot m closing l e slots slots' =
-    (on : AreaSlots) × (rest : AreaSlots) × Turns m e slots on
+    (on : AreaSlots) × (rest : AreaSlots) × SwitchesArea m e slots on
     × MatchOption (slot_in e) (rest ≡ on) (λ s. IsGiven m closing l s on rest)
     × (slots' ≡ with_given_back m l (after l e) rest)
 
@@ -126,3 +130,18 @@ ChoosesAll m closing l (e ∷ es) free free' =
 abbrev pub ListsFree : Setting → Ledger → List ℕ → Type 0
 ListsFree m l free = (f : ℕ) →
     how_many (λ g. f == g) free ≡ (if is_free l f && nat_lt f m.frames then 1 else 0)
+
+-- in the slots of each area a page is taken exactly where its slot is in use, and only free slots
+-- are free: as many as the area has
+pub record ListsSlots (m : Setting) (l : Ledger) (slots : AreaSlots) : Type 0 where
+  pub taken : (s : Slot)
+      → is_taken (page_at (slots s.area).pages s.page) ≡ nat_lt 0 (slot_count l s)
+  pub free : (s : Slot) → is_free_page (page_at (slots s.area).pages s.page) ≡ true
+      → is_free_slot m l s ≡ true
+  pub number : (k : ℕ) → count_by is_free_page (slots k).pages
+      ≡ option_map_or (λ area. free_slots m l (k, area)) (find_area nat_cmp k l.on) 0
+
+-- what is free is what the ledger has free
+pub record ListsAll (m : Setting) (l : Ledger) (free : Free) : Type 0 where
+  pub frames : ListsFree m l free.frames
+  pub slots : ListsSlots m l free.slots

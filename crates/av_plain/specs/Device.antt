@@ -20,21 +20,25 @@ abbrev pub without_fault : Result Layout HeaderFault → Option Layout
 without_fault (Ok layout) = Some layout
 without_fault (Err fault) = None
 
--- what page 0 of each area says, where the pages are told
+-- page 0 of each area, where the pages are told
+abbrev pub first_pages : Device → Option (ℕ → List ℕ)
+first_pages d = option_map (λ told k. told k 0) d.pages
+
+-- and what it says
 abbrev pub headers_of : Device → Option (ℕ → Option Layout)
 headers_of d =
-    option_map (λ told k. option_and_then (λ n. without_fault (header_of (told k 0) n)) (d.sizes k))
-    d.pages
+    option_map (λ first k. option_and_then (λ n. without_fault (header_of (first k) n)) (d.sizes k))
+    (first_pages d)
 
 -- what does not change in a run with so many frames over this device
 abbrev pub setting_of : ℕ → Device → Setting
 setting_of frames d = record { frames = frames; sizes = d.sizes; headers = headers_of d }
 
--- one device at two times: its areas have the sizes and headers that they had, and its count of
--- faults never falls
+-- one device at two times: its areas have the sizes that they had, and page 0 of each is as it was;
+-- its count of faults never falls
 pub record IsSameDevice (old new : Device) : Type 0 where
   pub sizes : new.sizes ≡ old.sizes
-  pub headers : headers_of new ≡ headers_of old
+  pub first : first_pages new ≡ first_pages old
   pub faults : old.faults ≤ new.faults
 
 -- no area is attached

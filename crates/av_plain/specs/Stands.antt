@@ -2,15 +2,15 @@
 -- answer: a view.
 use Rattle.std.specs.FinMap.Entries.{find}
 use Rattle.std.specs.Ordering.{nat_cmp}
-use Rattle.std.specs.Prelude.{ℕ, Bool, true, false, ◌&&◌, if◌then◌else◌, List, [], ◌∷◌, map, Option, Some, None, ◌≡◌, ◌<◌, IfSome, is_some, ◌≤◌, length, nat_lt, nat_le, option_map, slice_index}
+use Rattle.std.specs.Prelude.{ℕ, Bool, true, false, ◌&&◌, if◌then◌else◌, List, [], ◌∷◌, map, Option, Some, None, ◌≡◌, ◌<◌, IfSome, IsSomeAnd, is_some, ◌≤◌, length, nat_lt, nat_le, option_map, slice_index}
 use Rattle.av_base.specs.Page.{page_size}
 use Rattle.av_base.specs.Words.{is_in}
 use Rattle.av_base.specs.declared.slot.Slot.{Slot}
 use Rattle.av_plain.specs.Device.{Device, headers_of}
 use Rattle.av_plain.specs.Fault.{is_shared}
-use Rattle.av_plain.specs.Ledger.{Entry, InFrame, InSlot, Ledger, Setting, SwapArea, Zero, entry, frame_at, in_flight, is_free, is_stale, map_count, names_frame, slot_entries, slot_of}
+use Rattle.av_plain.specs.Ledger.{Entry, HasNumbers, InFrame, InSlot, Ledger, Setting, SwapArea, Zero, entry, frame_at, in_flight, is_free, is_stale, map_count, names_frame, slot_entries, slot_of}
 use Rattle.av_plain.specs.Areas.{Anons, Areas}
-use Rattle.av_plain.specs.Choice.{AreaSlots, Free}
+use Rattle.av_plain.specs.Choice.{AreaSlots, Free, ListsAll}
 use Rattle.av_plain.specs.Report.{Range, prot_in, range_of}
 use Rattle.av_plain.specs.Sound.{AllSound, slots}
 use Rattle.av_plain.specs.Transcript.{State}
@@ -18,7 +18,6 @@ use Rattle.av_plain.specs.World.{Page, World, lives, pages}
 use Rattle.av_base.specs.declared.prot.Prot.{Prot}
 use Rattle.av_vma.specs.declared.area.Area.{Area}
 use Rattle.av_vma.specs.Pages.{pages_in}
-use Rattle.av_swapdev.specs.Header.{Layout}
 
 -- ---- the view
 
@@ -158,15 +157,10 @@ pub record BytesStand (v : View) (device : Device) (w : World) (l : Ledger) : Ty
 
 -- ---- the headers
 
--- where it is told, page 0 of an area that is on gives its numbers
-abbrev pub HasNumbers : SwapArea → Option Layout → Type 0
-HasNumbers area None = ⊥
-HasNumbers area (Some h) = (area.slots ≡ h.slots) × (area.bad ≡ length h.bad)
-
--- each area that is on has the numbers of its header
+-- each area that is on has the numbers of its header, where page 0 of the areas is told
 abbrev pub HeadersStand : Setting → Ledger → Type 0
 HeadersStand m l = (k : ℕ) → IfSome (find nat_cmp k l.on)
-    (λ area. IfSome m.headers (λ headers. HasNumbers area (headers k)))
+    (λ area. IfSome m.headers (λ headers. IsSomeAnd (headers k) (HasNumbers area)))
 
 -- ---- the whole
 
@@ -195,11 +189,12 @@ abbrev pub free_of : View → Free
 free_of v = record { frames = v.free; slots = v.slots }
 
 -- the kernel and the device stand for the memories, the ledger, what is free in its order, the areas
--- with all that each says, and the anon_vmas
+-- with all that each says, and the anon_vmas; what is free is what the ledger has free
 pub record Stands (m : Setting) (v : View) (device : Device) (s : State) : Type 0 where
   pub over : IsOver m device
   pub sound : AllSound m s.world s.ledger
   pub parts : PartsStand m v device s.world s.ledger
   pub free : free_of v ≡ s.free
+  pub lists : ListsAll m s.ledger s.free
   pub areas : AreasAre v s.areas
   pub anons : v.anons ≡ s.anons

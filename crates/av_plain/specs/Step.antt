@@ -1,5 +1,5 @@
 -- What one command may answer, and the memories and the ledger after it.
-use Rattle.std.specs.Prelude.{ℕ, ◌+◌, if◌then◌else◌, List, [], Some, ◌≡◌, length, max, MatchOption}
+use Rattle.std.specs.Prelude.{ℕ, ◌+◌, if◌then◌else◌, List, [], Option, None, Some, ◌≡◌, length, max, MatchOption}
 use Rattle.av_base.specs.Page.{page_of, pages_of}
 use Rattle.av_trace.specs.declared.command.Command.{Command}
 use Rattle.av_trace.specs.declared.command.Command.TheVariants.{Mprotect, Spawn, Exit, Mmap, Munmap, Read, Write, Maps, Stat}
@@ -42,6 +42,10 @@ abbrev pub next_world : Setting → World → Ledger → List Event → Command 
 next_world m w l events command answer = next (with_loads m w l events) command answer
 
 -- ---- what each command does
+
+-- the swap area that a command closes while it runs: none does so yet
+abbrev pub closing_area : Command → Option ℕ
+closing_area command = None
 
 -- what each command does where it isn't refused: its events, its answer and its rows
 abbrev pub Follows : Setting → World → Ledger → Command → List Event → Answer → List Row → Type 0

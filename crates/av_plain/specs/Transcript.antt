@@ -1,13 +1,13 @@
 -- Transcripts: commands with their replies, in order.
-use Rattle.std.specs.Prelude.{ℕ, List, [], ◌∷◌, ◌≡◌, sum_by, None, Option}
+use Rattle.std.specs.Prelude.{ℕ, List, [], ◌∷◌, ◌≡◌, sum_by}
 use Rattle.av_base.specs.Words.{numbers}
 use Rattle.av_trace.specs.declared.command.Command.{Command}
 use Rattle.av_trace.specs.declared.reply.Reply.{Reply}
-use Rattle.av_plain.specs.Areas.{Anons, Areas, next_anons, next_areas, no_anons, no_areas}
+use Rattle.av_plain.specs.Areas.{Anons, AreNext, Areas, no_anons, no_areas}
 use Rattle.av_plain.specs.Choice.{ChoosesAll, Free, no_slots}
 use Rattle.av_plain.specs.Event.{Event, after_all}
 use Rattle.av_plain.specs.Ledger.{Setting, first_ledger, Ledger}
-use Rattle.av_plain.specs.Step.{IsLegal, causes, next_world}
+use Rattle.av_plain.specs.Step.{IsLegal, causes, closing_area, next_world}
 use Rattle.av_plain.specs.World.{World}
 
 -- a command and its reply
@@ -45,10 +45,6 @@ at_first m = record {
   anons = no_anons;
 }
 
--- the swap area that a command closes: none does so yet
-abbrev pub closing_area : Command → Option ℕ
-closing_area command = None
-
 -- a command is answered so, and leaves this state
 pub record IsStep (m : Setting) (old : State) (command : Command) (reply : Reply) (new : State)
     : Type 0 where
@@ -57,8 +53,7 @@ pub record IsStep (m : Setting) (old : State) (command : Command) (reply : Reply
   pub world : new.world ≡ next_world m old.world old.ledger events command reply.answer
   pub ledger : new.ledger ≡ after_all old.ledger events
   pub free : ChoosesAll m (closing_area command) old.ledger events old.free new.free
-  pub areas : new.areas ≡ next_areas old.areas old.world command reply.answer
-  pub anons : new.anons ≡ next_anons old.anons command reply.answer
+  pub areas : AreNext old.areas old.anons old.world command reply.answer new.areas new.anons
 
 -- a transcript, each of its replies a step
 abbrev pub IsRun : Setting → State → List Exchange → State → Type 0

@@ -20,7 +20,7 @@ loop-place-preserved c =
         | then-bad-pages w ↦ ap (λ (v : Vec Bool Global). length v.items) w.marks-is ∙ length-set old bad true ∙ c.loop-place.invariant.len
         | else-bad-pages w ↦ ap (λ (v : Vec Bool Global). length v.items) w.marks-is ∙ c.loop-place.invariant.len
       ];
-      numbers_at = λ m below.
+      named = λ m below.
           let whole = is_in m (numbers_at c.args.order c.args.page.now 0 c.args.count) in
           let rest = is_in m (numbers_at c.args.order c.args.page.now (c.loop-place.place + 1) (c.args.count - (c.loop-place.place + 1))) in
           let passed = mark_passed f c.loop-place.place c.args.count m bad (get_or old m false) whole c.loop-place-test.true c.bad_at-bad.ensures (c.loop-place.invariant.named m below) in

@@ -22,11 +22,11 @@ use Rattle.av_plain.specs.Ledger.{Cached, Entry, InFrame, InSlot, Key, Ledger, S
 use Rattle.av_plain.specs.Pass.{Completes, IsPass, IsSlotFor, Seeks, Spared, TakesFor, Turns, end_note, end_notes, frames_in_turn, is_dirty, is_stuck, stays_cached, turn_notes, unmap_notes}
 use Rattle.av_plain.specs.Refusal.{Refuses, refusal, tests}
 use Rattle.av_plain.specs.Sound.{AllSound, IsSound, count, flights, holders, uses}
-use Rattle.av_plain.specs.Step.{Follows, IsLegal}
-use Rattle.av_plain.specs.Transcript.{Exchange, IsRun, IsStep, State, at_first, closing_area}
+use Rattle.av_plain.specs.Step.{Follows, IsLegal, closing_area}
+use Rattle.av_plain.specs.Transcript.{Exchange, IsRun, IsStep, State, at_first}
 use Rattle.av_plain.specs.World.{World}
 use Rattle.av_plain.specs.Zap.{keys_in, keys_of_process, orphan_drop, slot_behind_key, zap_of, zaps_of}
-use Rattle.av_laws.proofs.Choice.{ChoosesFrames, frames-chosen, frames-first}
+use Rattle.av_plain.proofs.Choice.{ChoosesFrames, frames-chosen, frames-first}
 use Rattle.av_plain.proofs.Access.{after_all-append, note_events-all}
 use Rattle.av_plain.proofs.Event.{how_many-map, how_many-same}
 use Rattle.av_plain.proofs.Ledger.{entry-set, how_many-append, how_many-found, map_count-set, same_key-itself}
