@@ -12,7 +12,7 @@ use Rattle.av_plain.specs.Ledger.{Ledger, Setting, SwapArea, Key, key_cmp, Entry
 use Rattle.av_plain.specs.Fault.{is_shared}
 use Rattle.av_plain.specs.Sound.{AtPages}
 use Rattle.av_plain.specs.Device.{no_device}
-use Rattle.av_plain.specs.Stands.{View, Pte as Plain, entry_of, Holds, IsKept, TablesStand, FramesStand, SwapStands, AreasStand, BytesStand, HasNumbers, HeadersStand}
+use Rattle.av_plain.specs.Stands.{View, Pte as Plain, entry_of, Holds, IsKept, TablesStand, FramesStand, SwapStands, AreasStand, BytesStand, HeadersStand}
 use Rattle.av_plain.proofs.Pass.{HasNoSwap}
 use Rattle.av_plain.specs.Transcript.{State}
 use Rattle.av_plain.proofs.Ledger.Order.{keys_total, weight, count-put}
@@ -39,7 +39,7 @@ pub record Parts (m : Setting) (v : View) (w : World) (l : Ledger) : Type 0 wher
 
 -- no swap area is on, so no header is asked for
 pub no_headers : (m : Setting) (l : Ledger) → l.on ≡ [] → HeadersStand m l
-no_headers m l none k = subst (λ (on : List (ℕ × SwapArea)). IfSome (find nat_cmp k on) (λ area. IfSome m.headers (λ headers. HasNumbers area (headers k)))) (sym none) tt
+no_headers m l none k = subst (λ (on : List (ℕ × SwapArea)). IfSome (find nat_cmp k on) (λ area. IfSome m.headers (λ headers. IsSomeAnd (headers k) (HasNumbers area)))) (sym none) tt
 
 pub of_stand : (k : Mem) (w : World) (l : Ledger) → KeepsWithin k w l → Parts (setting (count k)) (view k) w l
 of_stand k w l h =

@@ -66,8 +66,7 @@ module _ (s : State) (old new : Mem) (p a : ℕ) (before notes : List Note) (row
       world = h.world;
       ledger = h.ledger;
       free = subst (λ m. ChoosesAll (setting m) None s.ledger h.events s.free h.next.free) same h.free;
-      areas = h.areas;
-      anons = h.anons;
+      areas = areas_kept h.areas h.anons;
     };
     keeps = h.keeps;
   }
@@ -92,8 +91,7 @@ module _ (s : State) (old new : Mem) (p a : ℕ) (before notes : List Note) (row
       world = h.world;
       ledger = h.ledger;
       free = subst (λ m. ChoosesAll (setting m) None s.ledger h.events s.free h.next.free) same h.free;
-      areas = h.areas;
-      anons = h.anons;
+      areas = areas_kept h.areas h.anons;
     };
     keeps = h.keeps;
   }
@@ -116,8 +114,7 @@ module _ (s : State) (old new : Mem) (p a : ℕ) (before notes : List Note) (row
       world = h.world ∙ ap (after_write s.world p a) (ap (λ k. take k bytes) h.is_end.1 ∙ take-length bytes) ∙ ap (next s.world (Write p a bytes)) (sym is);
       ledger = h.ledger;
       free = subst (λ m. ChoosesAll (setting m) None s.ledger h.events s.free h.next.free) same h.free;
-      areas = h.areas;
-      anons = h.anons;
+      areas = areas_kept h.areas h.anons;
     };
     keeps = h.keeps;
   }
@@ -140,8 +137,7 @@ module _ (s : State) (old new : Mem) (p a : ℕ) (before notes : List Note) (row
       world = h.world ∙ world-stopped s.world p a k bytes stop ∙ ap (next s.world (Write p a bytes)) (sym is);
       ledger = h.ledger;
       free = subst (λ m. ChoosesAll (setting m) None s.ledger h.events s.free h.next.free) same h.free;
-      areas = h.areas;
-      anons = h.anons;
+      areas = areas_kept h.areas h.anons;
     };
     keeps = h.keeps;
   }

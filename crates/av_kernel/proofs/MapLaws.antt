@@ -185,12 +185,12 @@ module _ (old new : Mem) (s : State) (command : Command) (reply : Reply) (p page
 
   pub replaced-steps : IsLegal (setting (count old)) s.world s.ledger command reply events
       → set_process s.world p (with_pages (pages s.world p) page n (λ _. o)) ≡ next_world (setting (count old)) s.world s.ledger events command reply.answer
-      → with_at p on s.areas ≡ next_areas s.areas s.world command reply.answer → MemSteps old new s command reply
+      → with_at p on s.areas ≡ next_areas no_chains s.areas s.world command reply.answer → MemSteps old new s command reply
   replaced-steps legal world next =
       let now : Process = with_pages (pages s.world p) page n (λ _. o) in
       changed old new s command reply p now on (after_all s.ledger events) keeps same_count taken.stands bytes
       (λ q at other. entries q at ∙ ap (λ b. cond (b && within page n at) None (entry s.ledger (q, at))) other) kept
-      (record { events = events; legal = legal; world = world; ledger = refl; free = subst (λ free. ChoosesAll (setting (count old)) None s.ledger events free (free_of (view new))) keeps.stands.free taken.free; areas = next; anons = refl })
+      (record { events = events; legal = legal; world = world; ledger = refl; free = subst (λ free. ChoosesAll (setting (count old)) None s.ledger events free (free_of (view new))) keeps.stands.free taken.free; areas = areas_next s command reply.answer (with_at p on s.areas) keeps.stands.anons next })
       areas
       (areas_changed old new s p now (set_on page n (option_map (λ (x : Page). x.prot) o) (prot_of (ranges_of old.spaces p))) keeps alive spaces covered)
       (tables_kept old new s p now (set_on page n (option_map (λ (x : Page). x.prot) o) (prot_of (ranges_of old.spaces p))) keeps alive spaces covered processes)
@@ -256,8 +256,7 @@ module _ (old : Mem) (s : State) (p len : ℕ) (prot : Prot) (place : Place) (ke
       world = refl;
       ledger = refl;
       free = refl;
-      areas = refl;
-      anons = refl;
+      areas = areas_next s (Mmap p len prot place) (Refused error) s.areas keeps.stands.anons refl;
     };
     keeps = keeps;
   }
@@ -373,7 +372,7 @@ module _ (old : Mem) (spaces : Spaces) (s : State) (p a len reached : ℕ) (prot
 
   protected-steps : (answer : Answer) → answer ≡ (cond (pages_to_hole (pages s.world p) (page_of a) (pages_of len) == pages_of len) Done (Refused Enomem))
       → set_process s.world p (with_prot_on (pages s.world p) (page_of a) (reached - page_of a) prot) ≡ next_world (setting (count old)) s.world s.ledger [] (Mprotect p a len prot) answer
-      → with_at p (pages_changed no_chains (to_prot prot) (page_of a) (reached - page_of a) (s.areas p)) s.areas ≡ next_areas s.areas s.world (Mprotect p a len prot) answer
+      → with_at p (pages_changed no_chains (to_prot prot) (page_of a) (reached - page_of a) (s.areas p)) s.areas ≡ next_areas no_chains s.areas s.world (Mprotect p a len prot) answer
       → MemSteps old (moved_on old old.tables spaces) s (Mprotect p a len prot) (answer_only answer)
   protected-steps answer is world next =
       let now : Process = with_prot_on (pages s.world p) (page_of a) (reached - page_of a) prot in
@@ -388,8 +387,7 @@ module _ (old : Mem) (spaces : Spaces) (s : State) (p a len reached : ℕ) (prot
         world = world;
         ledger = refl;
         free = keeps.stands.free;
-        areas = next;
-        anons = refl;
+        areas = areas_next s (Mprotect p a len prot) answer _ keeps.stands.anons next;
       })
       (areas_so old new s p (pages_changed no_chains (to_prot prot) (page_of a) (reached - page_of a)) keeps areas)
       (areas_changed old new s p now (set_on (page_of a) (reached - page_of a) (Some prot) (prot_of (ranges_of old.spaces p))) keeps alive given covered-protected)
@@ -414,7 +412,7 @@ module _ (old : Mem) (spaces : Spaces) (s : State) (p a len reached : ℕ) (prot
       protected-steps (Refused Enomem) (sym (ap (λ b. cond b Done (Refused Enomem)) (differ _ _ _ leads fewer)))
       (ap (λ k. set_process s.world p (with_prot_on (pages s.world p) (page_of a) k prot)) (sym leads) ∙ sym (ap (λ b. cond b s.world (with_prot_to_hole s.world p (page_of a) (pages_of len) prot)) in_reach))
       (ap (λ k. with_at p (pages_changed no_chains (to_prot prot) (page_of a) k (s.areas p)) s.areas) (sym leads)
-      ∙ sym (ap (λ b. cond b s.areas (with_at p (areas_to_hole s.world p (page_of a) (pages_of len) prot (s.areas p)) s.areas)) in_reach))
+      ∙ sym (ap (λ b. cond b s.areas (with_at p (areas_to_hole no_chains s.world p (page_of a) (pages_of len) prot (s.areas p)) s.areas)) in_reach))
     where
       differ : (k m n : ℕ) → k ≡ m → m < n → (k == n) ≡ false
       differ k m n e h = grind (arith, nat_tests, e, h)

@@ -98,8 +98,7 @@ module _ (old : Mem) (tables : ProcessTables) (spaces : Spaces) (s : State) (p :
     world = refl;
     ledger = refl;
     free = keeps.stands.free;
-    areas = refl;
-    anons = refl;
+    areas = areas_next s (Spawn p) Done _ keeps.stands.anons refl;
   }
 
   spawn-on : AreasAre (view (moved_on old tables spaces)) (with_at p none_on s.areas)
@@ -201,8 +200,7 @@ module _ (old mid : Mem) (tables : ProcessTables) (spaces : Spaces) (s : State) 
     world = refl;
     ledger = refl;
     free = subst (λ free. ChoosesAll (setting (count old)) None s.ledger (zaps_of s.ledger (keys_of_process s.ledger p)) free (free_of (view mid))) keeps.stands.free taken.free;
-    areas = refl;
-    anons = refl;
+    areas = areas_next s (Exit p) Done _ keeps.stands.anons refl;
   }
 
   exit-on : AreasAre (view (record { frames = mid.frames; tables = tables; spaces = spaces })) (with_at p none_on s.areas)

@@ -43,8 +43,7 @@ module _ (k : Mem) (s : State) (p : ℕ) (areas : List Area) (rows : List Row) (
       world = refl;
       ledger = refl;
       free = refl;
-      areas = refl;
-      anons = refl;
+      areas = areas_next s _ _ s.areas keeps.stands.anons refl;
     };
     keeps = keeps;
   }

@@ -32,8 +32,7 @@ stat-steps k s processes keeps once below number = record {
     world = refl;
     ledger = refl;
     free = refl;
-    areas = refl;
-    anons = refl;
+    areas = areas_next s Stat _ s.areas keeps.stands.anons refl;
   };
   keeps = keeps;
 }

@@ -1,5 +1,5 @@
 -- One command's step: the ledger's parts stand after its events, and so do the areas and the bytes of the pages that it changed.
-use Rattle.std.proofs.Common.{◌≡◌, ◌≢◌, ℕ, Bool, true, false, cond, not, List, [], Option, Some, None, is_some, option_map, Result, Ok, Err, refl, sym, ap, subst, ◌∙◌, arith, ◌==◌}
+use Rattle.std.proofs.Common.{◌≡◌, ◌≢◌, ℕ, Bool, true, false, cond, not, List, [], length, Option, Some, None, is_some, option_map, Result, Ok, Err, refl, sym, ap, subst, ◌∙◌, arith, ◌==◌}
 use Rattle.std.proofs.lemmas.Bool.Decides.{nat_tests}
 use Rattle.std.specs.Ordering.{nat_cmp, eq_by_cmp}
 use Rattle.std.specs.Prelude.{MatchOption, IsErr, IsErrAnd}
@@ -8,6 +8,7 @@ use Rattle.av_trace.specs.declared.command.Command.{Command}
 use Rattle.av_trace.specs.declared.reply.Errno.{Errno}
 use Rattle.av_trace.specs.declared.reply.Errno.TheVariants.{Esrch}
 use Rattle.av_trace.specs.declared.reply.Reply.{Reply}
+use Rattle.av_trace.specs.declared.reply.Answer.{Answer}
 use Rattle.av_trace.specs.declared.reply.Answer.TheVariants.{Refused}
 use Rattle.av_plain.specs.World.{Process, Page, lives, pages, set_process}
 use Rattle.av_plain.specs.Ledger.{Ledger, Entry, Zero, InFrame, InSlot, entry, frame_at}
@@ -16,10 +17,13 @@ use Rattle.av_plain.specs.Step.{Follows}
 use Rattle.av_plain.specs.Transcript.{State, IsStep}
 use Rattle.av_plain.specs.Sound.{AllSound}
 use Rattle.av_plain.specs.Device.{no_device}
-use Rattle.av_plain.specs.Choice.{Free}
+use Rattle.av_plain.specs.Choice.{Free, ListsAll, ListsFree}
 use Rattle.av_base.specs.Words.{with_at}
-use Rattle.av_vma.specs.Pages.{Pages}
+use Rattle.av_vma.specs.Pages.{Pages, no_chains}
 use Rattle.av_plain.specs.Stands.{View, Holds, IsKept, AreasAre, AreasStand, entry_of, free_of, prot_of}
+use Rattle.av_plain.specs.Areas.{Anons, Areas, AreLeft, AreNext, chain_length, next_areas, no_anons}
+use Rattle.av_plain.proofs.AreasLeft.{left-none, no-chain}
+use Rattle.av_plain.proofs.FreeFrames.{step-lists_free}
 use Rattle.av_plain.proofs.Refusal.{refused-areas, refused-next}
 use Rattle.av_plain.proofs.Sound.{step-sound}
 use Rattle.av_plain.proofs.World.{pages-set, lives-set, length-set_old}
@@ -32,7 +36,7 @@ use Rattle.av_reclaim.specs.Mem.{ranges_of, setting, plain, view, count, HasTabl
 use Rattle.av_kernel.specs.declared.refusal.Refusal.{Refusal}
 use Rattle.av_kernel.specs.declared.refusal.Refusal.TheVariants as refusals
 use Rattle.av_kernel.specs.Step.{MemSteps, Does, answer_only}
-use Rattle.av_reclaim.proofs.MemLaws.{alive_is, lives_is, no_cache, no_frame_at, slot_kept, nothing_clean}
+use Rattle.av_reclaim.proofs.MemLaws.{alive_is, listed, lives_is, no_cache, no_frame_at, slot_kept, nothing_clean}
 use Rattle.av_fault.proofs.FaultParts.{no_headers}
 
 at_number : (q p : ℕ) → eq_by_cmp nat_cmp q p ≡ (q == p)
@@ -43,6 +47,19 @@ is_number q p e = grind (arith, nat_tests)
 
 pub other_number : (q p : ℕ) → (q == p) ≡ false → q ≢ p
 other_number q p e = grind (arith, nat_tests)
+
+-- ---- areas and anon_vmas
+
+-- no area has an anon_vma yet
+no_lengths : (anons : Anons) → no_anons ≡ anons → chain_length anons ≡ no_chains
+no_lengths anons none = (λ i. chain_length (none (~ i))) ∙ (λ i own. length (no-chain own i))
+
+-- so the areas after a command are those without one
+pub areas_next : (s : State) (command : Command) (answer : Answer) (on : Areas) → no_anons ≡ s.anons → on ≡ next_areas no_chains s.areas s.world command answer → AreNext s.areas s.anons s.world command answer on s.anons
+areas_next s command answer on none is = record {
+  areas = is ∙ ap (λ long. next_areas long s.areas s.world command answer) (sym (no_lengths s.anons none));
+  anons = subst (λ a. AreLeft a on a) none (left-none on);
+}
 
 -- ---- a refusal
 
@@ -59,8 +76,7 @@ refused k s command error keeps is = record {
     world = sym (refused-next (setting (count k)) s.world s.world s.ledger command error is);
     ledger = refl;
     free = refl;
-    areas = sym (refused-areas (setting (count k)) s.world s.ledger s.areas command error is);
-    anons = refl;
+    areas = areas_next s command (Refused error) s.areas keeps.stands.anons (sym (refused-areas (setting (count k)) s.world s.ledger no_chains s.areas command error is));
   };
   keeps = keeps;
 }
@@ -124,12 +140,17 @@ stepped old new s next command reply keeps step same_count stands free areas_now
         headers = no_headers (setting (count new)) next.ledger (sym stands.parts.swap.on);
       };
       free = free;
+      lists = subst (ListsAll (setting (count new)) next.ledger) free (listed new (setting (count new)) next.ledger (view new).free stands.parts.swap lists);
       areas = areas_now;
       anons = anons_now;
     };
     tables = tables;
   };
 }
+  where
+    lists : ListsFree (setting (count new)) next.ledger (view new).free
+    lists = subst (λ n. ListsFree (setting n) next.ledger (view new).free) (sym same_count)
+        (subst (ListsFree (setting (count old)) next.ledger) (sym (ap (λ (f : Free). f.frames) free)) (step-lists_free (setting (count old)) s command reply next keeps.stands.sound keeps.stands.lists.frames step))
 
 -- ---- a step that changes one process
 

@@ -15,7 +15,7 @@ use Rattle.av_trace.specs.declared.note.Cause.TheVariants.{NoSlot, Referenced, W
 use Rattle.av_trace.specs.declared.note.Note.{Note}
 use Rattle.av_trace.specs.declared.note.Note.TheVariants.{Aged, Copied, Dropped, Failed, Kept, Loaded, Mapped, New, Put, Started, Unmapped, Written, Zeroed}
 use Rattle.av_plain.specs.Access.{Accesses, End, page_events, pages_of_access}
-use Rattle.av_plain.specs.Choice.{ListsFree, frame_in_note, new_free}
+use Rattle.av_plain.specs.Choice.{ChoosesAll, Free, ListsFree, frame_in_note, new_free}
 use Rattle.av_plain.specs.Event.{Event, Used, after_all, after_note, after_notes, after_use, after_use_of, after_zap, change_entries, if_some, key_at, note_events, off_cache, set_entry, when, with_stale, without_seen}
 use Rattle.av_plain.specs.Fault.{ComesIn, CopyOnWrite, Denied, IsMade, Lost, MapCached, Need, NewPage, Ready, RunsOut, Serves, Sparing, Starved, Stop, SwapIn, Touches, ZeroPage, drop_at, drop_of_entry, drop_of_slot, is_shared, is_unneeded, need, need_of_slot, pinned_by, sparing, was_slot}
 use Rattle.av_plain.specs.Ledger.{Cached, Entry, InFrame, InSlot, Key, Ledger, Setting, Zero, entry, first_ledger, frame_at, has_free, is_free, is_orphan, key_cmp, map_count, names_frame, slot_of}
@@ -530,6 +530,17 @@ step-lists_free m old command reply new s h step =
     (from_lists m (after_all old.ledger step.events) new.free.frames
     (legal-lists m old.world old.ledger command reply step.events old.free.frames new.free.frames
     s.ledger step.legal chosen (to_lists m old.ledger old.free.frames h)))
+
+-- the same after one page of an access
+pub page-lists_free : (m : Setting) (w : World) (l : Ledger) (write : Bool) (k : Key) (notes : List Note) (end : Option Stop)
+    (closing : Option ℕ) (free free' : Free) → IsSound m l → Touches m w l write k notes end
+    → ChoosesAll m closing l (page_events write k notes end) free free' → ListsFree m l free.frames
+    → ListsFree m (after_all l (page_events write k notes end)) free'.frames
+page-lists_free m w l write k notes end closing free free' s touches chosen h =
+    let events = page_events write k notes end in
+    from_lists m (after_all l events) free'.frames
+    (page-lists m w l write k notes end free.frames free'.frames s touches
+    (frames-chosen m closing l events free free' chosen) (to_lists m l free.frames h))
 
 pub run-lists_free : (m : Setting) (es : List Exchange) (new : State) → IsRun m (at_first m) es new
     → ListsFree m new.ledger new.free.frames

@@ -1,11 +1,14 @@
 -- The memory system: its view and its areas, with no slot cached; and one with nothing in it stands for no memories.
-use Rattle.std.proofs.Common.{◌≡◌, ◌≢◌, ℕ, ◌-◌, ◌<◌, ◌≤◌, Bool, true, false, cond, ◌&&◌, ◌==◌, nat_lt, nat_le, List, [], ◌∷◌, Option, Some, None, refl, sym, ap, subst, ◌∙◌, arith, is_some}
+use Rattle.std.proofs.Common.{◌≡◌, ◌≢◌, ℕ, ◌+◌, ◌-◌, ◌<◌, ◌≤◌, Bool, true, false, cond, ◌&&◌, ◌==◌, nat_lt, nat_le, List, [], ◌∷◌, Option, Some, None, refl, sym, ap, subst, ◌∙◌, arith, is_some}
 use Rattle.std.proofs.lemmas.Bool.Decides.{nat_tests}
 use Rattle.std.specs.Prelude.{IfSome, option_map, length, map}
-use Rattle.std.specs.List.{find}
+use Rattle.std.specs.FinMap.Entries.{find as find_key}
+use Rattle.std.specs.List.{find, list_any}
+use Rattle.std.specs.Option.{option_map_or}
+use Rattle.std.specs.Ordering.{nat_cmp}
 use Rattle.av_base.specs.declared.slot.Slot.{Slot}
 use Rattle.av_base.specs.declared.prot.Prot.{Prot}
-use Rattle.av_base.specs.Words.{is_in, within}
+use Rattle.av_base.specs.Words.{is_in, numbers, within}
 use Rattle.av_vma.specs.declared.area.Area.{Area}
 use Rattle.av_vma.specs.Join.{first_of, past_of}
 use Rattle.av_vma.specs.Pages.{has_page, pages_in}
@@ -15,13 +18,14 @@ use Rattle.av_pagetable.specs.Entries.{ProcessTables, entry_at, has, with_entry}
 use Rattle.av_pagetable.proofs.Entries.{none_there}
 use Rattle.av_spaces.specs.Spaces.{Spaces, areas_of, pages_of, is_taken, AreRising, AllRising, IsOwn}
 use Rattle.av_plain.specs.World.{Page, lives, pages}
-use Rattle.av_plain.specs.Ledger.{Ledger, Entry, Zero as ZeroEntry, InFrame, InSlot, frame_at, cached_by, Cached, same_slot}
+use Rattle.av_plain.specs.Ledger.{Ledger, Setting, Entry, Zero as ZeroEntry, InFrame, InSlot, first_ledger, frame_at, free_slots, cached_by, Cached, is_cached, same_slot, slot_count, slot_entries}
 use Rattle.av_plain.specs.Device.{no_device}
-use Rattle.av_plain.specs.Choice.{Free, no_slots}
+use Rattle.av_plain.specs.Choice.{Free, ListsAll, ListsFree, no_slots}
 use Rattle.av_plain.specs.Report.{Range, prot_in, range_of}
-use Rattle.av_plain.specs.Stands.{View, Pte as Plain, entry_of, prot_of, AreApart, IsKept, IsKeptAt, IsClean}
+use Rattle.av_plain.specs.Stands.{View, Pte as Plain, SwapStands, entry_of, prot_of, AreApart, IsKept, IsKeptAt, IsClean}
 use Rattle.av_plain.specs.Transcript.{State, at_first}
 use Rattle.av_plain.proofs.Ledger.NoSwap.{itself, is_in-numbers}
+use Rattle.av_plain.proofs.FreeFrames.{first-lists_free}
 use Rattle.av_plain.proofs.Sound.{first-sound}
 use Rattle.av_reclaim.specs.declared.mem.Mem.{Mem}
 use Rattle.av_reclaim.specs.Mem.{setting, plain, view_of_parts, view, ranges_of, Keeps}
@@ -129,6 +133,27 @@ no_cache l none = by l.cache refl
 pub no_frame_at : (l : Ledger) (s : Slot) → l.cache ≡ [] → frame_at l s ≡ None
 no_frame_at l s none = ap (λ (c : List Cached). option_map (λ (c : Cached). c.frame) (cached_by (λ c. same_slot s c.slot) c)) none
 
+-- what is free, where no area has slots
+abbrev pub frames_free : List ℕ → Free
+frames_free frames = record { frames = frames; slots = no_slots }
+
+-- without swap what is free is what the ledger has free
+pub listed : (k : Mem) (m : Setting) (l : Ledger) (frames : List ℕ) → SwapStands (view k) l → ListsFree m l frames → ListsAll m l (frames_free frames)
+listed k m l frames swap free = record {
+  frames = free;
+  slots = record {
+    taken = λ s. sym (ap (nat_lt 0) (unused s));
+    free = λ s is. cc;
+    number = λ a. ap (λ on. option_map_or (λ area. free_slots m l (a, area)) (find_key nat_cmp a on) 0) swap.on;
+  };
+}
+  where
+    unused : (s : Slot) → slot_count l s ≡ 0
+    unused s =
+        let entries = swap.counts s in
+        let cached : is_cached l s ≡ false = ap (list_any (λ (c : Cached). same_slot s c.slot)) (no_cache l swap.finds) in
+        ap (λ b. slot_entries l s + cond b 1 0) cached ∙ (let n : slot_entries l s + 0 ≡ 0 = omega (arith, entries) in n)
+
 -- where no frame caches a slot, its page is kept as it was
 pub slot_kept : (v v' : View) (s : Slot) (p : Option Page) (o o' : Option ℕ) → o ≡ None → o' ≡ None → IsKeptAt v no_device s p o → IsKeptAt v' no_device s p o'
 slot_kept v v' s p None None e e' h = h
@@ -155,10 +180,6 @@ kept-nothing v l (Some (InSlot s)) = at (frame_at l s)
 
 nothing : {A : Type 0} {x : A} → None ≡ Some x → ⊥
 nothing e = cc
-
--- what is free, where no area has slots
-abbrev pub frames_free : List ℕ → Free
-frames_free frames = record { frames = frames; slots = no_slots }
 
 pub fresh-keeps : (frames : Store) (tables : ProcessTables) (spaces : Spaces) (n : ℕ) → seen frames ≡ fresh_frames n → ((p : ℕ) → has tables p ≡ false) → spaces ≡ []
     → Keeps (record { frames = frames; tables = tables; spaces = spaces }) (at_first (setting n))
@@ -192,8 +213,19 @@ fresh-keeps frames tables spaces n is none empty = record {
       headers = λ k. tt;
     };
     free = ap (λ (s : Seen). frames_free s.free) is;
+    lists = none_listed;
     areas = λ p page. ap (λ (s : Spaces). pages_of s p page) empty;
     anons = refl;
   };
   tables = λ p. none p ∙ sym (ap (λ (s : Spaces). is_some (ranges_of s p)) empty);
 }
+  where
+    k : Mem
+    k = record { frames = frames; tables = tables; spaces = spaces }
+
+    m : Setting
+    m = setting (seen frames).count
+
+    none_listed : ListsAll m first_ledger (frames_free (numbers 0 n))
+    none_listed = listed k m first_ledger (numbers 0 n) (record { finds = λ s. refl; counts = λ s. refl; flight = refl; on = refl })
+        (subst (λ j. ListsFree m first_ledger (numbers 0 j)) (ap (λ (s : Seen). s.count) is) (first-lists_free m))
