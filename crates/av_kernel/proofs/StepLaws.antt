@@ -61,6 +61,12 @@ areas_next s command answer on none is = record {
   anons = subst (λ a. AreLeft a on a) none (left-none on);
 }
 
+-- and where a command leaves them as they were
+pub areas_kept : (s next : State) (command : Command) (answer : Answer) → next_areas no_chains s.areas s.world command answer ≡ s.areas → next.areas ≡ s.areas → next.anons ≡ s.anons → no_anons ≡ next.anons
+    → AreNext s.areas s.anons s.world command answer next.areas next.anons
+areas_kept s next command answer stay areas anons none = subst (AreNext s.areas s.anons s.world command answer next.areas) (sym anons)
+    (areas_next s command answer next.areas (none ∙ anons) (areas ∙ sym stay))
+
 -- ---- a refusal
 
 -- the first test that holds refuses the command, and nothing changes
