@@ -52,7 +52,7 @@ other_number q p e = grind (arith, nat_tests)
 
 -- no area has an anon_vma yet
 no_lengths : (anons : Anons) → no_anons ≡ anons → chain_length anons ≡ no_chains
-no_lengths anons none = (λ i. chain_length (none (~ i))) ∙ (λ i own. length (no-chain own i))
+no_lengths anons none = ap chain_length (sym none) ∙ (λ i own. length (no-chain own i))
 
 -- so the areas after a command are those without one
 pub areas_next : (s : State) (command : Command) (answer : Answer) (on : Areas) → no_anons ≡ s.anons → on ≡ next_areas no_chains s.areas s.world command answer → AreNext s.areas s.anons s.world command answer on s.anons
