@@ -15,6 +15,7 @@ mod changing;
 mod cutting;
 mod joining;
 mod laws;
+mod linking;
 mod placing;
 
 pub use changing::{Change, map, modify};
