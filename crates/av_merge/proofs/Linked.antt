@@ -1,5 +1,6 @@
 -- Areas with chains: what a call on anon_vmas makes of them, and a change of the same area after it, keep chain order and kin.
 use Rattle.std.proofs.Common.{◌≡◌, ◌≢◌, ℕ, ◌==◌, Bool, true, false, cond, List, Option, Some, None, is_some, option_map, IsSomeAnd, Result, Ok, Err, OnOk, refl, sym, ap, subst, ◌∙◌, inl, inr}
+use Rattle.std.proofs.lemmas.Option.{same_Some}
 use Rattle.std.proofs.lemmas.Bool.{eq-eqb, cases_Bool, eqb-true}
 use Rattle.av_base.specs.Words.{with_at}
 use Rattle.av_interval.specs.declared.span.Span.{Span}
@@ -11,7 +12,7 @@ use Rattle.av_anon.specs.Order.{IsArea, IsInOrder}
 use Rattle.av_anon.specs.Resize.{with_bounds}
 use Rattle.av_anon.specs.Spans.{GoWithLinks}
 use Rattle.av_merge.specs.Kin.{KeepsKin}
-use Rattle.av_merge.proofs.Kin.{fits, keeps_clone, keeps_resize, keeps_same}
+use Rattle.av_merge.proofs.Kin.{fits, keeps_bare, keeps_clone, keeps_resize, keeps_same}
 
 pub none_of : (o : Option ℕ) → is_some o ≡ false → o ≡ None
 none_of None e = refl
@@ -39,6 +40,17 @@ again areas n x is k = elim (k == n) as (λ b. (k == n) ≡ b → cond b x (area
   | true ↦ λ h. sym is ∙ ap areas (sym (eqb-true k n h))
   | false ↦ λ _. refl
 ] refl
+
+-- an area in place of one that has just come
+pub over : (areas : ℕ → Option Area) (n : ℕ) (x y : Option Area) (k : ℕ) → with_at n x (with_at n y areas) k ≡ with_at n x areas k
+over areas n x y k = elim (k == n) as (λ b. cond b x (cond b y (areas k)) ≡ cond b x (areas k)) [ true ↦ refl | false ↦ refl ]
+
+-- a part of an area has been put as one without anon_vma, and then the two parts are
+pub both_parts : (areas one two : ℕ → Option Area) (n m : ℕ) (x y z : Option Area) → ((k : ℕ) → one k ≡ with_at m y areas k) → ((k : ℕ) → two k ≡ with_at n x (with_at m z one) k) → (k : ℕ) → two k ≡ with_at n x (with_at m z areas) k
+both_parts areas one two n m x y z first second k =
+    second k
+    ∙ (λ i. with_at n x (with_at m z (λ q. first q i)) k)
+    ∙ (λ i. with_at n x (λ q. over areas m z y q i) k)
 
 self : (areas : ℕ → Option Area) (n : ℕ) (x : Option Area) → with_at n x areas n ≡ x
 self areas n x = ap (λ b. cond b x (areas n)) (eq-eqb n n refl)
@@ -76,3 +88,9 @@ module _ (areas one two : ℕ → Option Area) (f f' : Family) (spans spans' : �
       here : (v : Option ℕ) → v ≡ area.anon → gets_own n v areas n ≡ Some area
       here None e = there ∙ (λ i. Some (record area { anon = e i }))
       here (Some v) e = self areas n (with_own (Some v) (areas n)) ∙ ap (with_own (Some v)) there ∙ (λ i. Some (record area { anon = e i }))
+
+-- a part of an area comes without anon_vma
+pub bare_part : (areas areas' : ℕ → Option Area) (f : Family) (spans : ℕ → List Span) (n : ℕ) (area : Area) → IsInOrder areas f spans → areas n ≡ None → IsWhole area → ((k : ℕ) → areas' k ≡ with_at n (Some (record area { anon = None })) areas k) → KeepsKin areas areas' f f spans
+bare_part areas areas' f spans n area o unused w now =
+    let bare : IsWhole (record area { anon = None }) = record { start = w.start; end = w.end; some = w.some; low = w.low; high = w.high; small = w.small } in
+    keeps_bare areas areas' f spans n o (Some (record area { anon = None })) (ap own_of unused) refl (λ A e. subst IsWhole (same_Some (record area { anon = None }) A e) bare) now
