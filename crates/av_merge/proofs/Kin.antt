@@ -6,16 +6,18 @@ use Rattle.av_interval.specs.declared.span.Span.{Span}
 use Rattle.av_vma.specs.declared.area.Area.{Area}
 use Rattle.av_vma.specs.Join.{first_of, past_of, index_of}
 use Rattle.av_vma.specs.Pages.{IsWhole}
-use Rattle.av_anon.specs.Anons.{Family, give_own, own_of}
+use Rattle.av_anon.specs.Anons.{Family, family, give_own, own_of}
 use Rattle.av_anon.specs.Fork.{after_clone, gets_own}
 use Rattle.av_anon.specs.Kin.{chain_by, length_by}
 use Rattle.av_anon.specs.Order.{IsArea, IsInOrder}
 use Rattle.av_anon.specs.Resize.{with_bounds}
-use Rattle.av_anon.specs.Spans.{GoWithLinks, span_at}
+use Rattle.av_anon.specs.Spans.{GoWithLinks, span_at, spans_of}
 use Rattle.av_anon.specs.Unlink.{after_unlink}
 use Rattle.av_anon.proofs.KinLemmas.{chain_by-is, kin-bounds, kin-both, kin-changed, kin-clone, kin-owns, kin-unlink}
 use Rattle.av_anon.proofs.OrderLaws.{order-bare, order-clone, order-others, order-resize, order-unlink}
-use Rattle.av_merge.specs.Kin.{KeepsKin}
+use Rattle.av_vma.specs.Areas.{area_of}
+use Rattle.av_anon.specs.declared.anons.Anons.{Anons}
+use Rattle.av_merge.specs.Kin.{AreInOrder, KeepsKin, StayKin}
 
 pub fits : (area : Area) → IsWhole area → IsArea area
 fits area w = (let small = w.small in let some = w.some in record { forward = some; small = omega arith })
@@ -77,3 +79,12 @@ length_is areas f spans n A o is = go A.anon refl
     go : (own : Option ℕ) → A.anon ≡ own → cond (is_some own) (length (f.chain n)) 0 ≡ length_by areas f own
     go None e = refl
     go (Some v) e = ap length (sym (chain_by-is areas f spans n v o (ap own_of is ∙ e)))
+
+-- ---- the same in the values of `Areas` and `Anons`
+
+pub kin_stays : (areas : List (Option Area)) (anons : Anons) → AreInOrder areas anons → StayKin areas anons areas anons
+kin_stays areas anons o = keeps_refl (area_of areas) (family anons) (spans_of anons) o
+
+-- one call after another
+pub kin_then : (old mid new : List (Option Area)) (a b c : Anons) → StayKin old a mid b → StayKin mid b new c → StayKin old a new c
+kin_then old mid new a b c h k = keeps_trans (area_of old) (area_of mid) (area_of new) (family a) (family b) (family c) (spans_of b) (spans_of c) h k
