@@ -1,10 +1,17 @@
 -- A join of two areas of a process, in its tree and by number: the upper one goes, and the two as one are put in the lower one's place.
-use Rattle.std.proofs.Common.{◌≡◌, ◌≢◌, ℕ, ◌-◌, ◌<◌, ◌≤◌, IsSomeAnd, true, false, cond, ◌&&◌, inl, inr, List, Option, Some, None, IfSome, option_map, is_some, refl, sym, ap, subst, ◌∙◌, arith}
+use Rattle.std.proofs.Common.{◌≡◌, ◌≢◌, ℕ, ◌-◌, ◌<◌, ◌≤◌, IsSomeAnd, true, false, cond, ◌&&◌, inl, inr, List, Option, Some, None, IfSome, option_map, is_some, Bool, length, refl, sym, ap, subst, ◌∙◌, arith}
 use Rattle.std.specs.Prelude.{option_and_then}
 use Rattle.std.proofs.lemmas.Bool.{eq-eqb, ne_eqb, both_ways}
 use Rattle.std.proofs.lemmas.Option.{same_Some}
 use Rattle.av_vma.specs.declared.area.Area.{Area}
 use Rattle.av_vma.specs.Join.{first_of, past_of}
+use Rattle.std.specs.Option.{option_or}
+use Rattle.av_vma.specs.Join.{are_mergeable}
+use Rattle.av_interval.specs.declared.span.Span as interval
+use Rattle.av_anon.specs.Anons.{Family, give_own, own_of, with_own}
+use Rattle.av_anon.specs.Kin.{length_by}
+use Rattle.av_anon.specs.Order.{IsInOrder}
+use Rattle.av_anon.specs.Resize.{with_bounds}
 use Rattle.av_base.specs.Words.{with_at}
 use Rattle.av_vmatree.specs.declared.span.Span.{Span}
 use Rattle.av_vmatree.specs.Spans.{AreSpans, IsFree, area_at, first_from, last_below, span_of, is_page_taken, unless_area, without_area}
@@ -15,6 +22,7 @@ use Rattle.av_merge.specs.Mapping.{DoDiffer, mapping, mapping_in}
 use Rattle.av_merge.specs.Pages.{pages_by}
 use Rattle.av_merge.specs.Process.{AreAreasOf, IsAreaOf, Stays}
 use Rattle.av_merge.proofs.Places.{IsOn, is_on, at_rest, at_span, has_from, has_parts, change_others, change_stands, stays_trans, take_stands, take_others}
+use Rattle.av_merge.proofs.Kin.{length_is}
 use Rattle.av_merge.proofs.Mappings.{join_is, laid_of, left_pages, right_pages, merged_pages, merged_whole, tried_is}
 
 module _ (len : Lengths) (p l r at : ℕ) (lower upper : Area) (areas : ℕ → Option Area) (spans : List Span)
@@ -74,9 +82,9 @@ module _ (len : Lengths) (p l r at : ℕ) (lower upper : Area) (areas : ℕ → 
       let is : on_right.span.from ≡ at = omega arith in
       subst (λ o. IsSomeAnd o (λ s. s.from ≡ at)) (sym right_span) is
 
-  -- the lower area may have got the upper one's anon_vma, and the upper area has been taken out
-  module _ (own : Option ℕ) (areas' : ℕ → Option Area) (spans' : List Span)
-      (now : (k : ℕ) → areas' k ≡ with_at r None (with_at l (Some (record lower { anon = own })) areas) k)
+  -- the lower area has the anon_vma that either had, and the upper area has been taken out
+  module _ (areas' : ℕ → Option Area) (spans' : List Span)
+      (now : (k : ℕ) → areas' k ≡ with_at r None (with_at l (Some (record lower { anon = option_or lower.anon upper.anon })) areas) k)
       (kept : AreSpans spans') (spans_now : (k : ℕ) → span_of spans' k ≡ with_at r None (span_of spans) k)
       (pages_now : (page : ℕ) → area_at spans' page ≡ unless_area r (area_at spans page)) where
     left_now : span_of spans' l ≡ Some on_left.span
@@ -84,6 +92,11 @@ module _ (len : Lengths) (p l r at : ℕ) (lower upper : Area) (areas : ℕ → 
 
     pub left_from : IsSomeAnd (span_of spans' l) (λ s. s.from ≡ first_of (join_of lower upper))
     left_from = subst (λ o. IsSomeAnd o (λ s. s.from ≡ first_of (join_of lower upper))) (sym left_now) on_left.is.from
+
+    pub left_was : IsSomeAnd (areas' l) (λ old. join_of lower upper ≡ with_bounds lower.start upper.end lower.pgoff old)
+    left_was =
+        let here : areas' l ≡ Some (record lower { anon = option_or lower.anon upper.anon }) = now l ∙ rw (ne_eqb l r two, eq-eqb l l refl) refl in
+        subst (λ o. IsSomeAnd o (λ old. join_of lower upper ≡ with_bounds lower.start upper.end lower.pgoff old)) (sym here) refl
 
     pub join_free : IsFree (is_page_taken (without_area l spans')) (first_of lower) (past_of upper)
     join_free page low high =
@@ -102,7 +115,7 @@ module _ (len : Lengths) (p l r at : ℕ) (lower upper : Area) (areas : ℕ → 
         go (Some k) e =
             let not_left : k ≢ l = λ same. both_ways (has_page (join_of lower upper) page) out (left_pages len lower upper on_left.is.whole on_right.is.whole joins page ((laid_of p areas spans stands).here page lower (ap (option_and_then areas) e ∙ ap areas same ∙ lower_is))) in
             let not_right : k ≢ r = λ same. both_ways (has_page (join_of lower upper) page) out (right_pages len lower upper on_left.is.whole on_right.is.whole joins page ((laid_of p areas spans stands).here page upper (ap (option_and_then areas) e ∙ ap areas same ∙ upper_is))) in
-            rw (ne_eqb k r not_right, ne_eqb k l not_left) (now k ∙ ap (λ b. cond b None (with_at l (Some (record lower { anon = own })) areas k)) (ne_eqb k r not_right) ∙ ap (λ b. cond b (Some (record lower { anon = own })) (areas k)) (ne_eqb k l not_left))
+            rw (ne_eqb k r not_right, ne_eqb k l not_left) (now k ∙ ap (λ b. cond b None (with_at l (Some (record lower { anon = option_or lower.anon upper.anon })) areas k)) (ne_eqb k r not_right) ∙ ap (λ b. cond b (Some (record lower { anon = option_or lower.anon upper.anon })) (areas k)) (ne_eqb k l not_left))
 
     pub join_pages : (page : ℕ) → with_area (join_of lower upper) (pages_by (with_at l None areas') spans') page ≡ joined_at len at (pages_by areas spans) page
     join_pages page =
@@ -113,21 +126,21 @@ module _ (len : Lengths) (p l r at : ℕ) (lower upper : Area) (areas : ℕ → 
         ∙ ap (λ b. cond (b && has_page (join_of lower upper) page) (Some (join_of lower upper)) (pages_by areas spans page)) (sym joins)
         ∙ sym (λ i. after_join len (before i) (after i) page (pages_by areas spans page))
 
-    is_given : IsAreaOf p on_left.span (record lower { anon = own })
+    is_given : IsAreaOf p on_left.span (record lower { anon = option_or lower.anon upper.anon })
     is_given =
         let w = on_left.is.whole in
         record { process = on_left.is.process; whole = record { start = w.start; end = w.end; some = w.some; low = w.low; high = w.high; small = w.small }; from = on_left.is.from; to = on_left.is.to }
 
-    stays_given : Stays p areas (with_at l (Some (record lower { anon = own })) areas) spans
+    stays_given : Stays p areas (with_at l (Some (record lower { anon = option_or lower.anon upper.anon })) areas) spans
     stays_given = record {
-      areas = change_stands p l on_left.span (record lower { anon = own }) areas (with_at l (Some (record lower { anon = own })) areas) spans stands left_span is_given (λ k. refl);
-      others = change_others p l on_left.span (record lower { anon = own }) areas (with_at l (Some (record lower { anon = own })) areas) spans stands left_span is_given (λ k. refl);
+      areas = change_stands p l on_left.span (record lower { anon = option_or lower.anon upper.anon }) areas (with_at l (Some (record lower { anon = option_or lower.anon upper.anon })) areas) spans stands left_span is_given (λ k. refl);
+      others = change_others p l on_left.span (record lower { anon = option_or lower.anon upper.anon }) areas (with_at l (Some (record lower { anon = option_or lower.anon upper.anon })) areas) spans stands left_span is_given (λ k. refl);
     }
 
     stays_taken : Stays p areas areas' spans'
-    stays_taken = stays_trans p areas (with_at l (Some (record lower { anon = own })) areas) areas' spans spans' stays_given (record {
-      areas = take_stands p r on_right.span (with_at l (Some (record lower { anon = own })) areas) areas' spans spans' stays_given.areas right_span now kept spans_now pages_now;
-      others = take_others p r on_right.span (with_at l (Some (record lower { anon = own })) areas) areas' spans spans' stays_given.areas right_span now kept spans_now pages_now;
+    stays_taken = stays_trans p areas (with_at l (Some (record lower { anon = option_or lower.anon upper.anon })) areas) areas' spans spans' stays_given (record {
+      areas = take_stands p r on_right.span (with_at l (Some (record lower { anon = option_or lower.anon upper.anon })) areas) areas' spans spans' stays_given.areas right_span now kept spans_now pages_now;
+      others = take_others p r on_right.span (with_at l (Some (record lower { anon = option_or lower.anon upper.anon })) areas) areas' spans spans' stays_given.areas right_span now kept spans_now pages_now;
     })
 
     pub right_taken : AreAreasOf lower.pid areas' spans'
@@ -135,6 +148,32 @@ module _ (len : Lengths) (p l r at : ℕ) (lower upper : Area) (areas : ℕ → 
 
     pub join_stays : (new : ℕ → Option Area) (spans'' : List Span) → Stays lower.pid areas' new spans'' → Stays p areas new spans''
     join_stays new spans'' h = stays_trans p areas areas' new spans' spans'' stays_taken (subst (λ q. Stays q areas' new spans'') on_left.is.process h)
+
+-- what the areas are once the lower one has the anon_vma that either had, and the upper one is out
+pub joined_now : (areas one two' : ℕ → Option Area) (l r : ℕ) (lower upper : Area) → areas l ≡ Some lower → areas r ≡ Some upper
+    → ((k : ℕ) → one k ≡ give_own l (option_or (own_of (areas l)) (own_of (areas r))) areas k) → ((k : ℕ) → two' k ≡ with_at r None one k)
+    → (k : ℕ) → two' k ≡ with_at r None (with_at l (Some (record lower { anon = option_or lower.anon upper.anon })) areas) k
+joined_now areas one two' l r lower upper low up first second k =
+    second k
+    ∙ (λ i. with_at r None (λ q. first q i) k)
+    ∙ (λ i. with_at r None (with_at l (with_own (option_or (own_of (low i)) (own_of (up i))) (low i)) areas) k)
+
+-- the test of two areas, by how long their chains are found to be
+pub test_is : (areas : ℕ → Option Area) (f : Family) (spans : ℕ → List interval.Span) (l r : ℕ) (lower upper : Area) (m n : ℕ) (b : Bool) → IsInOrder areas f spans → areas l ≡ Some lower → areas r ≡ Some upper
+    → m ≡ cond (is_some lower.anon) (length (f.chain l)) 0 → n ≡ cond (is_some upper.anon) (length (f.chain r)) 0 → b ≡ are_mergeable lower m upper n → do_join (length_by areas f) lower upper ≡ b
+test_is areas f spans l r lower upper m n b o low up first second is =
+    let m' : length_by areas f lower.anon ≡ m = sym (first ∙ length_is areas f spans l lower o low) in
+    let n' : length_by areas f upper.anon ≡ n = sym (second ∙ length_is areas f spans r upper o up) in
+    (λ i. are_mergeable lower (m' i) upper (n' i)) ∙ sym is
+
+-- two areas that don't join stay
+pub apart_stay : (len : Lengths) (at l r : ℕ) (areas : ℕ → Option Area) (spans : List Span) (lower upper : Area) → area_at spans (at - 1) ≡ Some l → area_at spans at ≡ Some r → areas l ≡ Some lower → areas r ≡ Some upper → do_join len lower upper ≡ false
+    → (page : ℕ) → pages_by areas spans page ≡ joined_at len at (pages_by areas spans) page
+apart_stay len at l r areas spans lower upper left right low up out page =
+    let before : pages_by areas spans (at - 1) ≡ Some lower = ap (option_and_then areas) left ∙ low in
+    let after : pages_by areas spans at ≡ Some upper = ap (option_and_then areas) right ∙ up in
+    sym ((λ i. after_join len (before i) (after i) page (pages_by areas spans page))
+    ∙ ap (λ b. cond (b && has_page (join_of lower upper) page) (Some (join_of lower upper)) (pages_by areas spans page)) out)
 
 -- ---- a boundary that is left as it is
 

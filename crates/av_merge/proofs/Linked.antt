@@ -18,6 +18,10 @@ pub none_of : (o : Option ℕ) → is_some o ≡ false → o ≡ None
 none_of None e = refl
 none_of (Some v) e = cc
 
+pub ok_of : {T E P : Type 0} (r : Result T E) → P → OnOk r P
+ok_of (Ok x) p = p
+ok_of (Err e) p = tt
+
 pub ok_both : {T E P Q R : Type 0} (r : Result T E) → OnOk r P → OnOk r Q → (P → Q → R) → OnOk r R
 ok_both (Ok x) p q f = f p q
 ok_both (Err e) p q f = tt
