@@ -1,6 +1,6 @@
--- What a call on areas keeps of the anon_vmas, whatever numbers the areas have: each area that has an
--- own anon_vma has the chain that areas with that one had, and no anon_vma changes its kin.
-use Rattle.std.specs.Prelude.{◌≡◌, ℕ, List, [], length, Option, Some, None, IfSome, IsSomeAnd}
+-- What a call on areas keeps of the anon_vmas, whatever numbers the areas have: each area that has
+-- an own anon_vma has the chain that areas with that one had, and no anon_vma changes its kin.
+use Rattle.std.specs.Prelude.{◌≡◌, ℕ, List, [], length, Option, Some, IfSome, IsSomeAnd}
 use Rattle.std.specs.List.{find}
 use Rattle.std.specs.Option.{option_map_or}
 use Rattle.av_vma.specs.declared.area.Area.{Area}
