@@ -13,7 +13,7 @@ use Rattle.av_anon.specs.Order.{IsArea, IsInOrder}
 use Rattle.av_anon.specs.Resize.{with_bounds}
 use Rattle.av_anon.specs.Spans.{GoWithLinks, span_at, spans_of}
 use Rattle.av_anon.specs.Unlink.{after_unlink}
-use Rattle.av_anon.proofs.KinLemmas.{chain_by-is, kin-bounds, kin-both, kin-changed, kin-clone, kin-owns, kin-unlink}
+use Rattle.av_anon.proofs.KinLaws.{chain_by-is, kin-bounds, kin-both, kin-changed, kin-clone, kin-owns, kin-unlink}
 use Rattle.av_anon.proofs.OrderLaws.{order-bare, order-clone, order-others, order-resize, order-unlink}
 use Rattle.av_vma.specs.Areas.{area_of}
 use Rattle.av_anon.specs.declared.anons.Anons.{Anons}

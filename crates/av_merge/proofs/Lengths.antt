@@ -13,7 +13,7 @@ use Rattle.av_vmatree.specs.Spans.{area_at}
 use Rattle.av_anon.specs.Anons.{Family, own_of}
 use Rattle.av_anon.specs.Kin.{length_by}
 use Rattle.av_anon.specs.Order.{IsInOrder}
-use Rattle.av_anon.proofs.KinLemmas.{chains_stay}
+use Rattle.av_anon.proofs.KinLaws.{chains_stay}
 use Rattle.av_merge.specs.Kin.{KeepsKin}
 use Rattle.av_merge.specs.Pages.{pages_by}
 use Rattle.av_merge.proofs.Mappings.{tried_is}
@@ -63,6 +63,10 @@ pub around_alike : (len len' : Lengths) (from past : ℕ) (on : Pages) → AreAl
 around_alike len len' from past on h page =
     joined_alike len len' past (joined_at len from on) (alike_joined len len' len from on h) page
     ∙ (λ i. joined_at len' past (λ q. joined_alike len len' from on h q i) page)
+
+-- a boundary that is tried after calls, by the lengths before them
+pub joined_later : (len len' : Lengths) (at : ℕ) (on old new : Pages) → AreAlike len' len on → ((page : ℕ) → on page ≡ old page) → ((page : ℕ) → new page ≡ joined_at len' at on page) → (page : ℕ) → new page ≡ joined_at len at old page
+joined_later len len' at on old new h is now page = now page ∙ joined_alike len' len at on h page ∙ (λ i. joined_at len at (λ q. is q i) page)
 
 part_own : (at page : ℕ) (area : Area) → (part_of at page area).anon ≡ area.anon
 part_own at page area = go (nat_lt page at)

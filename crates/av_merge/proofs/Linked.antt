@@ -11,6 +11,7 @@ use Rattle.av_anon.specs.Fork.{after_clone, gets_own}
 use Rattle.av_anon.specs.Order.{IsArea, IsInOrder}
 use Rattle.av_anon.specs.Resize.{with_bounds}
 use Rattle.av_anon.specs.Spans.{GoWithLinks}
+use Rattle.av_anon.proofs.Words.{with_at-here, with_at-same, with_at-twice}
 use Rattle.av_merge.specs.Kin.{KeepsKin}
 use Rattle.av_merge.proofs.Kin.{fits, keeps_bare, keeps_clone, keeps_resize, keeps_same}
 
@@ -38,26 +39,12 @@ bare_now areas n = ap (λ b. own_of (cond b (with_own None (areas n)) (areas n))
     go None = refl
     go (Some A) = refl
 
--- the same area once more
-again : (areas : ℕ → Option Area) (n : ℕ) (x : Option Area) → areas n ≡ x → (k : ℕ) → with_at n x areas k ≡ areas k
-again areas n x is k = elim (k == n) as (λ b. (k == n) ≡ b → cond b x (areas k) ≡ areas k) [
-  | true ↦ λ h. sym is ∙ ap areas (sym (eqb-true k n h))
-  | false ↦ λ _. refl
-] refl
-
--- an area in place of one that has just come
-pub over : (areas : ℕ → Option Area) (n : ℕ) (x y : Option Area) (k : ℕ) → with_at n x (with_at n y areas) k ≡ with_at n x areas k
-over areas n x y k = elim (k == n) as (λ b. cond b x (cond b y (areas k)) ≡ cond b x (areas k)) [ true ↦ refl | false ↦ refl ]
-
 -- a part of an area has been put as one without anon_vma, and then the two parts are
 pub both_parts : (areas one two : ℕ → Option Area) (n m : ℕ) (x y z : Option Area) → ((k : ℕ) → one k ≡ with_at m y areas k) → ((k : ℕ) → two k ≡ with_at n x (with_at m z one) k) → (k : ℕ) → two k ≡ with_at n x (with_at m z areas) k
 both_parts areas one two n m x y z first second k =
     second k
     ∙ (λ i. with_at n x (with_at m z (λ q. first q i)) k)
-    ∙ (λ i. with_at n x (λ q. over areas m z y q i) k)
-
-self : (areas : ℕ → Option Area) (n : ℕ) (x : Option Area) → with_at n x areas n ≡ x
-self areas n x = ap (λ b. cond b x (areas n)) (eq-eqb n n refl)
+    ∙ (λ i. with_at n x (λ q. with_at-twice m z y areas q i) k)
 
 record IsBefore (areas : ℕ → Option Area) (n : ℕ) (area : Area) : Type 0 where
   pub old : Area
@@ -78,20 +65,20 @@ module _ (areas one two : ℕ → Option Area) (f f' : Family) (spans spans' : �
       → ((k : ℕ) → one k ≡ with_at n (option_map (with_bounds area.start area.end area.pgoff) (areas n)) areas k) → f' ≡ f → KeepsKin areas two f f' spans'
   resized_keeps whole was now is =
       let b = before areas n area was in
-      let here : one n ≡ Some area = now n ∙ self areas n (option_map (with_bounds area.start area.end area.pgoff) (areas n)) ∙ ap (option_map (with_bounds area.start area.end area.pgoff)) b.there ∙ ap Some (sym b.is) in
-      keeps_same areas one two f f' spans' (λ k. last k ∙ again one n (Some area) here k)
+      let here : one n ≡ Some area = now n ∙ with_at-here n (option_map (with_bounds area.start area.end area.pgoff) (areas n)) areas ∙ ap (option_map (with_bounds area.start area.end area.pgoff)) b.there ∙ ap Some (sym b.is) in
+      keeps_same areas one two f f' spans' (λ k. last k ∙ with_at-same n (Some area) one here k)
       (keeps_resize areas one f spans n o f' spans' spanned area.start area.end area.pgoff b.old b.there (subst IsArea b.is (fits area whole)) now is)
 
   -- an area gets the chain of another
   pub linked_keeps : (other : ℕ) → areas n ≡ Some (record area { anon = None }) → own_of (areas other) ≡ area.anon
       → ((k : ℕ) → one k ≡ gets_own n (own_of (areas other)) areas k) → f' ≡ after_clone (own_of (areas other)) other n f → KeepsKin areas two f f' spans'
   linked_keeps other there own now is =
-      keeps_same areas one two f f' spans' (λ k. last k ∙ again one n (Some area) (now n ∙ here (own_of (areas other)) own) k)
+      keeps_same areas one two f f' spans' (λ k. last k ∙ with_at-same n (Some area) one (now n ∙ here (own_of (areas other)) own) k)
       (keeps_clone areas one f spans n o f' spans' spanned other (record area { anon = None }) there refl now is)
     where
       here : (v : Option ℕ) → v ≡ area.anon → gets_own n v areas n ≡ Some area
       here None e = there ∙ (λ i. Some (record area { anon = e i }))
-      here (Some v) e = self areas n (with_own (Some v) (areas n)) ∙ ap (with_own (Some v)) there ∙ (λ i. Some (record area { anon = e i }))
+      here (Some v) e = with_at-here n (with_own (Some v) (areas n)) areas ∙ ap (with_own (Some v)) there ∙ (λ i. Some (record area { anon = e i }))
 
 -- a part of an area comes without anon_vma
 pub bare_part : (areas areas' : ℕ → Option Area) (f : Family) (spans : ℕ → List Span) (n : ℕ) (area : Area) → IsInOrder areas f spans → areas n ≡ None → IsWhole area → ((k : ℕ) → areas' k ≡ with_at n (Some (record area { anon = None })) areas k) → KeepsKin areas areas' f f spans
