@@ -2,14 +2,21 @@
 use Rattle.std.proofs.Common.{◌≡◌, ◌≢◌, ℕ, ◌+◌, ◌-◌, ◌/◌, ◌<◌, ◌≤◌, ◌==◌, ◌&&◌, IsSomeAnd, IsSome, true, false, cond, inl, inr, List, Option, Some, None, is_some, refl, sym, ap, subst, ◌∙◌, arith}
 use Rattle.std.specs.Prelude.{option_and_then}
 use Rattle.std.proofs.lemmas.Bool.{eq-eqb, ne_eqb, both_ways, cases_lt, false_from_ne_true}
-use Rattle.std.proofs.lemmas.Option.{same_Some}
+use Rattle.std.proofs.lemmas.Option.{none-some, same_Some}
 use Rattle.std.specs.Option.{option_or}
 use Rattle.av_vma.specs.declared.area.Area.{Area}
-use Rattle.av_vma.specs.Join.{first_of, past_of, same_prot, share_anon}
+use Rattle.av_vma.specs.Join.{first_of, past_of, are_mergeable, same_prot, share_anon}
+use Rattle.av_interval.specs.declared.span.Span as interval
+use Rattle.av_anon.specs.Anons.{Family, own_of}
+use Rattle.av_anon.specs.Kin.{length_by}
+use Rattle.av_anon.specs.Order.{IsInOrder}
+use Rattle.av_anon.specs.Resize.{with_bounds}
+use Rattle.av_merge.specs.Kin.{KeepsKin}
+use Rattle.av_merge.proofs.Kin.{keeps_bare, keeps_trans}
 use Rattle.av_base.specs.Words.{with_at}
 use Rattle.av_vmatree.specs.declared.span.Span.{Span}
 use Rattle.av_vmatree.specs.Spans.{AreSpans, IsFree, area_at, span_of, is_page_taken, unless_area, without_area}
-use Rattle.av_vma.specs.Pages.{IsWhole, Pages, has_page, do_join, joined_around, joined_at, join_of, with_area, after_join, Lengths}
+use Rattle.av_vma.specs.Pages.{IsWhole, Pages, has_page, do_join, joined_around, joined_at, join_of, with_area, after_join, no_chains, Lengths}
 use Rattle.av_merge.specs.Pages.{pages_by}
 use Rattle.av_merge.specs.Process.{AreAreasOf, Stays}
 use Rattle.av_merge.proofs.Places.{at_rest, at_span, has_from, has_parts, stays_trans, take_others, take_stands}
@@ -37,6 +44,10 @@ other_number areas a b x y e f less same =
     let one : x ≡ y = same_Some x y (sym e ∙ ap areas same ∙ f) in
     let first : first_of x ≡ first_of y = ap first_of one in
     omega arith
+
+-- areas without anon_vma join whatever the lengths of chains are
+pub plain_join : (areas : ℕ → Option Area) (f : Family) (left right : Area) → left.anon ≡ None → right.anon ≡ None → do_join no_chains left right ≡ true → do_join (length_by areas f) left right ≡ true
+plain_join areas f left right one other joins = (λ i. are_mergeable left (length_by areas f (one i)) right (length_by areas f (other i))) ∙ joins
 
 module _ (len : Lengths) (p l m r from past : ℕ) (lower inner upper : Area) (areas : ℕ → Option Area) (spans : List Span)
     (stands : AreAreasOf p areas spans)
@@ -215,6 +226,23 @@ module _ (len : Lengths) (p l m r from past : ℕ) (lower inner upper : Area) (a
               | inr past ↦ rw (on_upper page (omega arith) high, ne_eqb r m r-m, eq-eqb r r refl) refl
             ]
           ]
+
+      lower_now : areas'' l ≡ Some lower
+      lower_now = now' l ∙ ap (λ b. cond b None (areas' l)) (ne_eqb l r l-r) ∙ now l ∙ ap (λ b. cond b None (areas l)) (ne_eqb l m l-m) ∙ lower_is
+
+      pub three_was : inner.anon ≡ None → upper.anon ≡ None → IsSomeAnd (areas'' l) (λ old. join_of (join_of lower inner) upper ≡ with_bounds lower.start upper.end lower.pgoff old)
+      three_was bare_inner bare_upper =
+          let own : option_or (option_or lower.anon inner.anon) upper.anon ≡ lower.anon = (λ i. option_or (option_or (bare i) (bare_inner i)) (bare_upper i)) ∙ sym bare in
+          let is : join_of (join_of lower inner) upper ≡ with_bounds lower.start upper.end lower.pgoff lower = λ i. record lower { end = upper.end; anon = own i } in
+          subst (λ o. IsSomeAnd o (λ old. join_of (join_of lower inner) upper ≡ with_bounds lower.start upper.end lower.pgoff old)) (sym lower_now) is
+
+      -- the areas that go have no anon_vma
+      pub three_kin : (f : Family) (s : ℕ → List interval.Span) → IsInOrder areas f s → inner.anon ≡ None → upper.anon ≡ None → KeepsKin areas areas'' f f s
+      three_kin f s o bare_inner bare_upper =
+          let first = keeps_bare areas areas' f s m o None (ap own_of inner_is ∙ bare_inner) refl (λ A e. absurd (none-some A e)) now in
+          let upper_there : areas' r ≡ Some upper = now r ∙ ap (λ b. cond b None (areas r)) (ne_eqb r m r-m) ∙ upper_is in
+          keeps_trans areas areas' areas'' f f f s s first
+          (keeps_bare areas' areas'' f s r first.order None (ap own_of upper_there ∙ bare_upper) refl (λ A e. absurd (none-some A e)) now')
 
       -- the pages of none of the three stay
       rest : (page : ℕ) → has_page (join_of (join_of lower inner) upper) page ≡ false → pages_by (with_at l None areas'') spans'' page ≡ pages_by areas spans page
