@@ -14,6 +14,12 @@ use Rattle.av_merge.specs.Pages.{pages_by}
 use Rattle.av_merge.specs.Process.{AreAreasOf, IsAreaOf, Stays}
 use Rattle.av_merge.proofs.Places.{IsOn, change_others, change_pages, change_stands, has_from, has_parts, is_on, one_area, stays_trans, within_from, within_parts}
 use Rattle.av_merge.proofs.ChangesByPage.{same_as_itself}
+use Rattle.av_interval.specs.declared.span.Span as interval
+use Rattle.av_anon.specs.Anons.{Family}
+use Rattle.av_anon.specs.Order.{IsInOrder}
+use Rattle.av_merge.specs.Kin.{KeepsKin}
+use Rattle.av_merge.proofs.Kin.{keeps_fields}
+use Rattle.av_merge.proofs.Lengths.{AreAlike, around_alike}
 use Rattle.av_merge.proofs.Mappings.{changed_maps, cut_maps, joined_maps, laid_cut, laid_of, part_maps_to}
 
 -- what is left of an area that is cut before its part and past it
@@ -159,9 +165,13 @@ module _ (len : Lengths) (p from past number : ℕ) (effect : Effect) (area : Ar
         (joined_maps len from (pages_by changed spans'') laid_after past ∙ beside past (λ first last. omega arith) (omega arith) above)
         (not_so effect one altered)
 
-  pub part_pages : {T E : Type 0} (r : Result T E) (new : Pages) → OnOk r ((page : ℕ) → new page ≡ joined_around len from past (pages_by changed spans'') page) → OnOk r ((page : ℕ) → new page ≡ joined_around len from past (with_effect_on from past effect (cut_at past (cut_at from (pages_by areas spans)))) page)
-  part_pages (Ok x) new h = λ page. h page ∙ (λ i. joined_around len from past (λ q. changed_pages q i) page)
-  part_pages (Err e) new h = tt
+  -- the area's own anon_vma and its linear indices stay
+  pub changed_kin : (f : Family) (s : ℕ → List interval.Span) → IsInOrder two f s → KeepsKin two changed f f s
+  changed_kin f s o = keeps_fields two changed f s number o area (with_effect effect area) used refl refl is.whole now
+
+  pub part_pages : {T E : Type 0} (len' : Lengths) → AreAlike len len' (pages_by changed spans'') → (r : Result T E) (new : Pages) → OnOk r ((page : ℕ) → new page ≡ joined_around len from past (pages_by changed spans'') page) → OnOk r ((page : ℕ) → new page ≡ joined_around len' from past (with_effect_on from past effect (cut_at past (cut_at from (pages_by areas spans)))) page)
+  part_pages len' alike (Ok x) new h = λ page. h page ∙ around_alike len len' from past (pages_by changed spans'') alike page ∙ (λ i. joined_around len' from past (λ q. changed_pages q i) page)
+  part_pages len' alike (Err e) new h = tt
 
   pub part_mapping : {T E : Type 0} (r : Result T E) (new : Pages) → OnOk r ((page : ℕ) → new page ≡ joined_around len from past (pages_by changed spans'') page) → OnOk r ((page : ℕ) → mapping new page ≡ cond (within from (past - from) page) (option_map (mapping_with effect) (mapping (pages_by areas spans) page)) (mapping (pages_by areas spans) page))
   part_mapping (Ok x) new h = λ page. part_maps_to len from past effect (pages_by areas spans) (pages_by changed spans'') new laid laid_after changed_pages h page

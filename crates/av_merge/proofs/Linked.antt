@@ -1,5 +1,5 @@
 -- Areas with chains: what a call on anon_vmas makes of them, and a change of the same area after it, keep chain order and kin.
-use Rattle.std.proofs.Common.{◌≡◌, ◌≢◌, ℕ, ◌==◌, Bool, true, false, cond, List, Option, Some, None, is_some, option_map, IsSomeAnd, Result, Ok, Err, OnOk, refl, sym, ap, subst, ◌∙◌, inl, inr}
+use Rattle.std.proofs.Common.{◌≡◌, ◌≢◌, ◌<◌, ◌≤◌, arith, ℕ, ◌==◌, Bool, true, false, cond, List, Option, Some, None, is_some, option_map, IsSomeAnd, Result, Ok, Err, OnOk, refl, sym, ap, subst, ◌∙◌, inl, inr}
 use Rattle.std.proofs.lemmas.Option.{same_Some}
 use Rattle.std.proofs.lemmas.Bool.{eq-eqb, cases_Bool, eqb-true}
 use Rattle.av_base.specs.Words.{with_at}
@@ -12,7 +12,14 @@ use Rattle.av_anon.specs.Order.{IsArea, IsInOrder}
 use Rattle.av_anon.specs.Resize.{with_bounds}
 use Rattle.av_anon.specs.Spans.{GoWithLinks}
 use Rattle.av_anon.proofs.Words.{with_at-here, with_at-same, with_at-twice}
-use Rattle.av_merge.specs.Kin.{KeepsKin}
+use Rattle.av_base.specs.Limits.{low_page, top_page}
+use Rattle.av_base.specs.declared.prot.Prot.{Prot}
+use Rattle.av_vma.specs.Areas.{area_of}
+use Rattle.av_vma.specs.Pages.{fresh_area}
+use Rattle.av_anon.specs.declared.anons.Anons.{Anons}
+use Rattle.av_anon.specs.Anons.{family}
+use Rattle.av_anon.specs.Spans.{spans_of}
+use Rattle.av_merge.specs.Kin.{AreInOrder, KeepsKin, StayKin}
 use Rattle.av_merge.proofs.Kin.{fits, keeps_bare, keeps_clone, keeps_resize, keeps_same}
 
 pub none_of : (o : Option ℕ) → is_some o ≡ false → o ≡ None
@@ -85,3 +92,10 @@ pub bare_part : (areas areas' : ℕ → Option Area) (f : Family) (spans : ℕ �
 bare_part areas areas' f spans n area o unused w now =
     let bare : IsWhole (record area { anon = None }) = record { start = w.start; end = w.end; some = w.some; low = w.low; high = w.high; small = w.small } in
     keeps_bare areas areas' f spans n o (Some (record area { anon = None })) (ap own_of unused) refl (λ A e. subst IsWhole (same_Some (record area { anon = None }) A e) bare) now
+
+-- a new area of a process is whole, and comes without anon_vma
+pub whole_fresh : (p from past : ℕ) (prot : Prot) → from < past → low_page ≤ from → past ≤ top_page → IsWhole (fresh_area p from past prot)
+whole_fresh p from past prot some low high = record { start = omega arith; end = omega arith; some = omega arith; low = omega arith; high = omega arith; small = omega arith }
+
+pub added : (old new : List (Option Area)) (anons : Anons) (area : Area) (n : ℕ) → AreInOrder old anons → area_of old n ≡ None → IsWhole (record area { anon = None }) → ((k : ℕ) → area_of new k ≡ with_at n (Some (record area { anon = None })) (area_of old) k) → StayKin old anons new anons
+added old new anons area n o unused w now = bare_part (area_of old) (area_of new) (family anons) (spans_of anons) n (record area { anon = None }) o unused w now
