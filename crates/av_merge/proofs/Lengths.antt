@@ -42,10 +42,12 @@ either len len' None b first second = second
 either len len' (Some v) b first second = first
 
 pub alike_joined : (len len' other : Lengths) (at : ℕ) (on : Pages) → AreAlike len len' on → AreAlike len len' (joined_at other at on)
-alike_joined len len' other at on h = record { same = λ page area e. elim (tried_is other at page on) [
-  | inr k ↦ h.same page area (sym k.is ∙ e)
-  | inl t ↦ subst (λ (a : Area). len a.anon ≡ len' a.anon) (same_Some (join_of t.left t.right) area (sym t.is ∙ e)) (either len len' t.left.anon t.right.anon (h.same (at - 1) t.left t.before) (h.same at t.right t.after))
-] }
+alike_joined len len' other at on h = record {
+  same = λ page area e. elim (tried_is other at page on) [
+    | inr k ↦ h.same page area (sym k.is ∙ e)
+    | inl t ↦ subst (λ (a : Area). len a.anon ≡ len' a.anon) (same_Some (join_of t.left t.right) area (sym t.is ∙ e)) (either len len' t.left.anon t.right.anon (h.same (at - 1) t.left t.before) (h.same at t.right t.after))
+  ];
+}
 
 -- a boundary is tried with the same outcome
 pub joined_alike : (len len' : Lengths) (at : ℕ) (on : Pages) → AreAlike len len' on → (page : ℕ) → joined_at len at on page ≡ joined_at len' at on page

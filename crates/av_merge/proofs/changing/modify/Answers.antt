@@ -42,11 +42,11 @@ loop-page-preserved-in_ok-modify_part c =
     let past : c.loop-page.page < past_of c.get-area.result = goes_on (lengths c.args.areas.now c.args.anons.now) c.requires.stands.0 c.args.from c.loop-page.page c.args.to (effect_of c.args.change) (area_of c.args.areas.now) (area_of c.loop-page.areas) c.args.tree.now c.loop-page.tree c.requires.stands.1 c.loop-page.invariant.done c.in-Some.number c.get-area.result (sym c.in-Some.ensures.area) c.get-area.ensures in
     record {
       done = done_step (lengths c.args.areas.now c.args.anons.now) c.requires.stands.0 c.args.from c.loop-page.page c.args.to (effect_of c.args.change) (area_of c.args.areas.now) (area_of c.loop-page.areas) c.args.tree.now c.loop-page.tree c.requires.stands.1 c.loop-page.invariant.done c.min-past.result c.get-area.result (area_of c.modify_part.new.areas) c.modify_part.new.tree
-    (ap (option_and_then (area_of c.loop-page.areas)) (sym c.in-Some.ensures.area) ∙ c.get-area.ensures) (omega arith) (omega arith) (omega arith)
-    c.modify_part.ensures.stands c.in_ok-modify_part.ensures.mapping
-    (part_exact (lengths c.args.areas.now c.args.anons.now) c.requires.stands.0 c.args.from c.loop-page.page c.args.to (effect_of c.args.change) (area_of c.args.areas.now) (area_of c.loop-page.areas) c.args.tree.now c.loop-page.tree c.requires.stands.1 c.loop-page.invariant.done c.min-past.result c.get-area.result (ap (option_and_then (area_of c.loop-page.areas)) (sym c.in-Some.ensures.area) ∙ c.get-area.ensures) (omega arith) (omega arith) c.alters.result c.alters.ensures c.if-alters.true (pages_by (area_of c.modify_part.new.areas) c.modify_part.new.tree)
-    (λ q. c.in_ok-modify_part.ensures.pages q ∙ part_alike (lengths c.loop-page.areas c.loop-page.anons) (lengths c.args.areas.now c.args.anons.now) c.loop-page.page c.min-past.result (effect_of c.args.change) (pages_by (area_of c.loop-page.areas) c.loop-page.tree)
-    (alike_after (area_of c.args.areas.now) (area_of c.loop-page.areas) (family c.args.anons.now) (family c.loop-page.anons) (spans_of c.args.anons.now) (spans_of c.loop-page.anons) c.loop-page.tree c.requires.order c.loop-page.invariant.kin) q));
+          (ap (option_and_then (area_of c.loop-page.areas)) (sym c.in-Some.ensures.area) ∙ c.get-area.ensures) (omega arith) (omega arith) (omega arith)
+          c.modify_part.ensures.stands c.in_ok-modify_part.ensures.mapping
+          (part_exact (lengths c.args.areas.now c.args.anons.now) c.requires.stands.0 c.args.from c.loop-page.page c.args.to (effect_of c.args.change) (area_of c.args.areas.now) (area_of c.loop-page.areas) c.args.tree.now c.loop-page.tree c.requires.stands.1 c.loop-page.invariant.done c.min-past.result c.get-area.result (ap (option_and_then (area_of c.loop-page.areas)) (sym c.in-Some.ensures.area) ∙ c.get-area.ensures) (omega arith) (omega arith) c.alters.result c.alters.ensures c.if-alters.true (pages_by (area_of c.modify_part.new.areas) c.modify_part.new.tree)
+          (λ q. c.in_ok-modify_part.ensures.pages q ∙ part_alike (lengths c.loop-page.areas c.loop-page.anons) (lengths c.args.areas.now c.args.anons.now) c.loop-page.page c.min-past.result (effect_of c.args.change) (pages_by (area_of c.loop-page.areas) c.loop-page.tree)
+          (alike_after (area_of c.args.areas.now) (area_of c.loop-page.areas) (family c.args.anons.now) (family c.loop-page.anons) (spans_of c.args.anons.now) (spans_of c.loop-page.anons) c.loop-page.tree c.requires.order c.loop-page.invariant.kin) q));
       kin = kin_then c.args.areas.now c.loop-page.areas c.modify_part.new.areas c.args.anons.now c.loop-page.anons c.modify_part.new.anons c.loop-page.invariant.kin c.in_ok-modify_part.ensures.kin;
     }
 
@@ -60,10 +60,10 @@ loop-page-preserved c =
     let past : c.loop-page.page < past_of c.get-area.result = goes_on (lengths c.args.areas.now c.args.anons.now) c.requires.stands.0 c.args.from c.loop-page.page c.args.to (effect_of c.args.change) (area_of c.args.areas.now) (area_of c.loop-page.areas) c.args.tree.now c.loop-page.tree c.requires.stands.1 c.loop-page.invariant.done c.in-Some.number c.get-area.result (sym c.in-Some.ensures.area) c.get-area.ensures in
     record {
       done = done_step (lengths c.args.areas.now c.args.anons.now) c.requires.stands.0 c.args.from c.loop-page.page c.args.to (effect_of c.args.change) (area_of c.args.areas.now) (area_of c.loop-page.areas) c.args.tree.now c.loop-page.tree c.requires.stands.1 c.loop-page.invariant.done c.min-past.result c.get-area.result (area_of c.loop-page.areas) c.loop-page.tree
-    (ap (option_and_then (area_of c.loop-page.areas)) (sym c.in-Some.ensures.area) ∙ c.get-area.ensures) (omega arith) (omega arith) (omega arith)
-    (λ q stands. record { areas = stands; others = others_refl q (area_of c.loop-page.areas) })
-    (same_already (lengths c.args.areas.now c.args.anons.now) c.requires.stands.0 c.args.from c.loop-page.page c.args.to (effect_of c.args.change) (area_of c.args.areas.now) (area_of c.loop-page.areas) c.args.tree.now c.loop-page.tree c.requires.stands.1 c.loop-page.invariant.done c.min-past.result c.get-area.result (ap (option_and_then (area_of c.loop-page.areas)) (sym c.in-Some.ensures.area) ∙ c.get-area.ensures) (omega arith) (sym c.alters.ensures ∙ c.if-alters.false))
-    (same_exact (lengths c.args.areas.now c.args.anons.now) c.requires.stands.0 c.args.from c.loop-page.page c.args.to (effect_of c.args.change) (area_of c.args.areas.now) (area_of c.loop-page.areas) c.args.tree.now c.loop-page.tree c.requires.stands.1 c.loop-page.invariant.done c.min-past.result c.get-area.result (ap (option_and_then (area_of c.loop-page.areas)) (sym c.in-Some.ensures.area) ∙ c.get-area.ensures) (omega arith) (sym c.alters.ensures ∙ c.if-alters.false) (omega arith));
+          (ap (option_and_then (area_of c.loop-page.areas)) (sym c.in-Some.ensures.area) ∙ c.get-area.ensures) (omega arith) (omega arith) (omega arith)
+          (λ q stands. record { areas = stands; others = others_refl q (area_of c.loop-page.areas) })
+          (same_already (lengths c.args.areas.now c.args.anons.now) c.requires.stands.0 c.args.from c.loop-page.page c.args.to (effect_of c.args.change) (area_of c.args.areas.now) (area_of c.loop-page.areas) c.args.tree.now c.loop-page.tree c.requires.stands.1 c.loop-page.invariant.done c.min-past.result c.get-area.result (ap (option_and_then (area_of c.loop-page.areas)) (sym c.in-Some.ensures.area) ∙ c.get-area.ensures) (omega arith) (sym c.alters.ensures ∙ c.if-alters.false))
+          (same_exact (lengths c.args.areas.now c.args.anons.now) c.requires.stands.0 c.args.from c.loop-page.page c.args.to (effect_of c.args.change) (area_of c.args.areas.now) (area_of c.loop-page.areas) c.args.tree.now c.loop-page.tree c.requires.stands.1 c.loop-page.invariant.done c.min-past.result c.get-area.result (ap (option_and_then (area_of c.loop-page.areas)) (sym c.in-Some.ensures.area) ∙ c.get-area.ensures) (omega arith) (sym c.alters.ensures ∙ c.if-alters.false) (omega arith));
       kin = c.loop-page.invariant.kin;
     }
 

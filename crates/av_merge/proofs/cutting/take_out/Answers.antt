@@ -64,8 +64,8 @@ loop-area-preserved c =
     let n = next p c.args.from c.saturating_sub.result areas spans k stands c.saturating_sub.ensures c.in-Some.ensures in
     record {
       taken = one_more c.args.from c.args.to (area_of c.args.areas.now) c.args.tree.now areas spans p first so_far k (area_of c.take.new.areas) c.remove.new.self n
-    (within_range p c.args.from c.args.to k areas spans c.get-start.result stands n c.get-start.ensures c.if-to-start.false)
-    c.take.ensures.areas c.remove.ensures.kept c.remove.ensures.areas c.remove.ensures.pages;
+          (within_range p c.args.from c.args.to k areas spans c.get-start.result stands n c.get-start.ensures c.if-to-start.false)
+          c.take.ensures.areas c.remove.ensures.kept c.remove.ensures.areas c.remove.ensures.pages;
       kin = kin_then c.args.areas.now c.loop-area.areas c.take.new.areas c.args.anons.now c.loop-area.anons c.take.new.anons c.loop-area.invariant.kin c.take.ensures.kin;
     }
 

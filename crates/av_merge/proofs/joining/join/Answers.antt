@@ -25,11 +25,11 @@ remove-requires c =
     let upper = c.get-upper.result in
     let len = lengths c.args.areas.now c.args.anons.now in
     let joins : do_join len lower upper ≡ true = test_is areas (family c.args.anons.now) (spans_of c.args.anons.now) c.args.left c.args.right lower upper c.chain_len-left_len.result c.chain_len-right_len.result c.mergeable.result
-        c.requires.order c.get-lower.ensures c.get-upper.ensures c.chain_len-left_len.ensures c.chain_len-right_len.ensures c.mergeable.ensures ∙ c.if-not-mergeable.false in
+    c.requires.order c.get-lower.ensures c.get-upper.ensures c.chain_len-left_len.ensures c.chain_len-right_len.ensures c.mergeable.ensures ∙ c.if-not-mergeable.false in
     record {
-  there = right_from len c.requires.stands.0 c.args.left c.args.right c.args.at lower upper areas c.args.tree.now
-      c.requires.stands.1 c.requires.below c.requires.above c.get-lower.ensures c.get-upper.ensures joins;
-}
+      there = right_from len c.requires.stands.0 c.args.left c.args.right c.args.at lower upper areas c.args.tree.now
+          c.requires.stands.1 c.requires.below c.requires.above c.get-lower.ensures c.get-upper.ensures joins;
+    }
 
 pub replace-requires-clause-there : goal.replace-requires-clause-there
 replace-requires-clause-there c =
@@ -38,7 +38,7 @@ replace-requires-clause-there c =
     let upper = c.get-upper.result in
     let len = lengths c.args.areas.now c.args.anons.now in
     let joins : do_join len lower upper ≡ true = test_is areas (family c.args.anons.now) (spans_of c.args.anons.now) c.args.left c.args.right lower upper c.chain_len-left_len.result c.chain_len-right_len.result c.mergeable.result
-        c.requires.order c.get-lower.ensures c.get-upper.ensures c.chain_len-left_len.ensures c.chain_len-right_len.ensures c.mergeable.ensures ∙ c.if-not-mergeable.false in
+    c.requires.order c.get-lower.ensures c.get-upper.ensures c.chain_len-left_len.ensures c.chain_len-right_len.ensures c.mergeable.ensures ∙ c.if-not-mergeable.false in
     let now = joined_now areas (area_of c.share.new.areas) (area_of c.take.new.areas) c.args.left c.args.right lower upper c.get-lower.ensures c.get-upper.ensures c.in_ok-share.ensures.areas c.take.ensures.areas in
     subst (λ (a : Area). IsSomeAnd (span_of c.remove.new.self c.args.left) (λ s. s.from ≡ first_of a)) (sym c.merge.ensures)
     (left_from len c.requires.stands.0 c.args.left c.args.right c.args.at lower upper areas c.args.tree.now
@@ -52,7 +52,7 @@ replace-requires-clause-whole c =
     let upper = c.get-upper.result in
     let len = lengths c.args.areas.now c.args.anons.now in
     let joins : do_join len lower upper ≡ true = test_is areas (family c.args.anons.now) (spans_of c.args.anons.now) c.args.left c.args.right lower upper c.chain_len-left_len.result c.chain_len-right_len.result c.mergeable.result
-        c.requires.order c.get-lower.ensures c.get-upper.ensures c.chain_len-left_len.ensures c.chain_len-right_len.ensures c.mergeable.ensures ∙ c.if-not-mergeable.false in
+    c.requires.order c.get-lower.ensures c.get-upper.ensures c.chain_len-left_len.ensures c.chain_len-right_len.ensures c.mergeable.ensures ∙ c.if-not-mergeable.false in
     subst IsWhole (sym c.merge.ensures)
     (join_whole len c.requires.stands.0 c.args.left c.args.right c.args.at lower upper areas c.args.tree.now
     c.requires.stands.1 c.requires.below c.requires.above c.get-lower.ensures c.get-upper.ensures joins)
@@ -64,7 +64,7 @@ replace-requires-clause-free c =
     let upper = c.get-upper.result in
     let len = lengths c.args.areas.now c.args.anons.now in
     let joins : do_join len lower upper ≡ true = test_is areas (family c.args.anons.now) (spans_of c.args.anons.now) c.args.left c.args.right lower upper c.chain_len-left_len.result c.chain_len-right_len.result c.mergeable.result
-        c.requires.order c.get-lower.ensures c.get-upper.ensures c.chain_len-left_len.ensures c.chain_len-right_len.ensures c.mergeable.ensures ∙ c.if-not-mergeable.false in
+    c.requires.order c.get-lower.ensures c.get-upper.ensures c.chain_len-left_len.ensures c.chain_len-right_len.ensures c.mergeable.ensures ∙ c.if-not-mergeable.false in
     let now = joined_now areas (area_of c.share.new.areas) (area_of c.take.new.areas) c.args.left c.args.right lower upper c.get-lower.ensures c.get-upper.ensures c.in_ok-share.ensures.areas c.take.ensures.areas in
     subst (λ (a : Area). IsFree (is_page_taken (without_area c.args.left c.remove.new.self)) (first_of a) (past_of a)) (sym c.merge.ensures)
     (join_free len c.requires.stands.0 c.args.left c.args.right c.args.at lower upper areas c.args.tree.now
@@ -78,7 +78,7 @@ returns-clause-stands c =
     let upper = c.get-upper.result in
     let len = lengths c.args.areas.now c.args.anons.now in
     let joins : do_join len lower upper ≡ true = test_is areas (family c.args.anons.now) (spans_of c.args.anons.now) c.args.left c.args.right lower upper c.chain_len-left_len.result c.chain_len-right_len.result c.mergeable.result
-        c.requires.order c.get-lower.ensures c.get-upper.ensures c.chain_len-left_len.ensures c.chain_len-right_len.ensures c.mergeable.ensures ∙ c.if-not-mergeable.false in
+    c.requires.order c.get-lower.ensures c.get-upper.ensures c.chain_len-left_len.ensures c.chain_len-right_len.ensures c.mergeable.ensures ∙ c.if-not-mergeable.false in
     let now = joined_now areas (area_of c.share.new.areas) (area_of c.take.new.areas) c.args.left c.args.right lower upper c.get-lower.ensures c.get-upper.ensures c.in_ok-share.ensures.areas c.take.ensures.areas in
     λ p stands.
     join_stays len p c.args.left c.args.right c.args.at lower upper areas c.args.tree.now
@@ -94,7 +94,7 @@ returns-clause-pages c =
     let upper = c.get-upper.result in
     let len = lengths c.args.areas.now c.args.anons.now in
     let joins : do_join len lower upper ≡ true = test_is areas (family c.args.anons.now) (spans_of c.args.anons.now) c.args.left c.args.right lower upper c.chain_len-left_len.result c.chain_len-right_len.result c.mergeable.result
-        c.requires.order c.get-lower.ensures c.get-upper.ensures c.chain_len-left_len.ensures c.chain_len-right_len.ensures c.mergeable.ensures ∙ c.if-not-mergeable.false in
+    c.requires.order c.get-lower.ensures c.get-upper.ensures c.chain_len-left_len.ensures c.chain_len-right_len.ensures c.mergeable.ensures ∙ c.if-not-mergeable.false in
     let now = joined_now areas (area_of c.share.new.areas) (area_of c.take.new.areas) c.args.left c.args.right lower upper c.get-lower.ensures c.get-upper.ensures c.in_ok-share.ensures.areas c.take.ensures.areas in
     ok_of c.replace.result (λ page.
     c.replace.ensures.pages page
@@ -126,7 +126,7 @@ replace-requires-clause-stands c =
     let upper = c.get-upper.result in
     let len = lengths c.args.areas.now c.args.anons.now in
     let joins : do_join len lower upper ≡ true = test_is areas (family c.args.anons.now) (spans_of c.args.anons.now) c.args.left c.args.right lower upper c.chain_len-left_len.result c.chain_len-right_len.result c.mergeable.result
-        c.requires.order c.get-lower.ensures c.get-upper.ensures c.chain_len-left_len.ensures c.chain_len-right_len.ensures c.mergeable.ensures ∙ c.if-not-mergeable.false in
+    c.requires.order c.get-lower.ensures c.get-upper.ensures c.chain_len-left_len.ensures c.chain_len-right_len.ensures c.mergeable.ensures ∙ c.if-not-mergeable.false in
     let now = joined_now areas (area_of c.share.new.areas) (area_of c.take.new.areas) c.args.left c.args.right lower upper c.get-lower.ensures c.get-upper.ensures c.in_ok-share.ensures.areas c.take.ensures.areas in
     subst (λ (a : Area). AreAreasOf a.pid (area_of c.take.new.areas) c.remove.new.self) (sym c.merge.ensures)
     (right_taken len c.requires.stands.0 c.args.left c.args.right c.args.at lower upper areas c.args.tree.now
@@ -146,7 +146,7 @@ replace-requires-clause-was c =
     let upper = c.get-upper.result in
     let len = lengths c.args.areas.now c.args.anons.now in
     let joins : do_join len lower upper ≡ true = test_is areas (family c.args.anons.now) (spans_of c.args.anons.now) c.args.left c.args.right lower upper c.chain_len-left_len.result c.chain_len-right_len.result c.mergeable.result
-        c.requires.order c.get-lower.ensures c.get-upper.ensures c.chain_len-left_len.ensures c.chain_len-right_len.ensures c.mergeable.ensures ∙ c.if-not-mergeable.false in
+    c.requires.order c.get-lower.ensures c.get-upper.ensures c.chain_len-left_len.ensures c.chain_len-right_len.ensures c.mergeable.ensures ∙ c.if-not-mergeable.false in
     let now = joined_now areas (area_of c.share.new.areas) (area_of c.take.new.areas) c.args.left c.args.right lower upper c.get-lower.ensures c.get-upper.ensures c.in_ok-share.ensures.areas c.take.ensures.areas in
     subst (λ (a : Area). IsSomeAnd (area_of c.take.new.areas c.args.left) (λ old. a ≡ with_bounds a.start a.end a.pgoff old)) (sym c.merge.ensures)
     (left_was len c.requires.stands.0 c.args.left c.args.right c.args.at lower upper areas c.args.tree.now

@@ -38,9 +38,9 @@ remove-requires c =
     let joins : do_join len lower inner ≡ true = plain_join areas (family c.args.anons.now) lower inner plain.bare_lower plain.bare_inner plain.first in
     let joins' : do_join len inner upper ≡ true = plain_join areas (family c.args.anons.now) inner upper plain.bare_inner plain.bare_upper plain.second in
     record {
-  there = middle_from len c.requires.stands.0 c.args.left c.args.middle c.args.right c.args.from c.args.past lower inner upper areas c.args.tree.now
-      c.requires.stands.1 c.requires.below c.requires.first c.requires.last c.requires.above c.get-lower.ensures c.get-inner.ensures c.get-upper.ensures plain.bare_lower joins joins';
-}
+      there = middle_from len c.requires.stands.0 c.args.left c.args.middle c.args.right c.args.from c.args.past lower inner upper areas c.args.tree.now
+          c.requires.stands.1 c.requires.below c.requires.first c.requires.last c.requires.above c.get-lower.ensures c.get-inner.ensures c.get-upper.ensures plain.bare_lower joins joins';
+    }
 
 pub remove-requires-3 : goal.remove-requires-3
 remove-requires-3 c =
@@ -53,10 +53,10 @@ remove-requires-3 c =
     let joins : do_join len lower inner ≡ true = plain_join areas (family c.args.anons.now) lower inner plain.bare_lower plain.bare_inner plain.first in
     let joins' : do_join len inner upper ≡ true = plain_join areas (family c.args.anons.now) inner upper plain.bare_inner plain.bare_upper plain.second in
     record {
-  there = upper_from len c.requires.stands.0 c.args.left c.args.middle c.args.right c.args.from c.args.past lower inner upper areas c.args.tree.now
-      c.requires.stands.1 c.requires.below c.requires.first c.requires.last c.requires.above c.get-lower.ensures c.get-inner.ensures c.get-upper.ensures plain.bare_lower joins joins'
-      (area_of c.remove-2.new.self) c.remove.new.self c.remove-2.ensures c.remove.ensures.kept c.remove.ensures.areas c.remove.ensures.pages;
-}
+      there = upper_from len c.requires.stands.0 c.args.left c.args.middle c.args.right c.args.from c.args.past lower inner upper areas c.args.tree.now
+          c.requires.stands.1 c.requires.below c.requires.first c.requires.last c.requires.above c.get-lower.ensures c.get-inner.ensures c.get-upper.ensures plain.bare_lower joins joins'
+          (area_of c.remove-2.new.self) c.remove.new.self c.remove-2.ensures c.remove.ensures.kept c.remove.ensures.areas c.remove.ensures.pages;
+    }
 
 pub remove-requires-4 : goal.remove-requires-4
 remove-requires-4 c =
@@ -69,10 +69,10 @@ remove-requires-4 c =
     let joins : do_join len lower inner ≡ true = plain_join areas (family c.args.anons.now) lower inner plain.bare_lower plain.bare_inner plain.first in
     let joins' : do_join len inner upper ≡ true = plain_join areas (family c.args.anons.now) inner upper plain.bare_inner plain.bare_upper plain.second in
     record {
-  used = upper_used len c.requires.stands.0 c.args.left c.args.middle c.args.right c.args.from c.args.past lower inner upper areas c.args.tree.now
-      c.requires.stands.1 c.requires.below c.requires.first c.requires.last c.requires.above c.get-lower.ensures c.get-inner.ensures c.get-upper.ensures plain.bare_lower joins joins'
-      (area_of c.remove-2.new.self) c.remove.new.self c.remove-2.ensures c.remove.ensures.kept c.remove.ensures.areas c.remove.ensures.pages;
-}
+      used = upper_used len c.requires.stands.0 c.args.left c.args.middle c.args.right c.args.from c.args.past lower inner upper areas c.args.tree.now
+          c.requires.stands.1 c.requires.below c.requires.first c.requires.last c.requires.above c.get-lower.ensures c.get-inner.ensures c.get-upper.ensures plain.bare_lower joins joins'
+          (area_of c.remove-2.new.self) c.remove.new.self c.remove-2.ensures c.remove.ensures.kept c.remove.ensures.areas c.remove.ensures.pages;
+    }
 
 pub replace-requires-clause-stands : goal.replace-requires-clause-stands
 replace-requires-clause-stands c =
