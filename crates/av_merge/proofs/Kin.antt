@@ -1,10 +1,9 @@
 -- Chain order and kin are kept by each elementary change of areas, and so by one after the other.
-use Rattle.std.proofs.Common.{◌≡◌, ℕ, ◌+◌, ◌-◌, ◌<◌, ◌≤◌, ◌^◌, cond, length, List, Option, Some, None, is_some, option_map, refl, sym, ap, subst, ◌∙◌, arith}
+use Rattle.std.proofs.Common.{◌≡◌, ℕ, cond, length, List, Option, Some, None, is_some, option_map, refl, sym, ap, subst, ◌∙◌, arith}
 use Rattle.std.proofs.lemmas.Option.{none-some}
 use Rattle.av_base.specs.Words.{with_at}
 use Rattle.av_interval.specs.declared.span.Span.{Span}
 use Rattle.av_vma.specs.declared.area.Area.{Area}
-use Rattle.av_vma.specs.Join.{first_of, past_of, index_of}
 use Rattle.av_vma.specs.Pages.{IsWhole}
 use Rattle.av_anon.specs.Anons.{Family, family, give_own, own_of}
 use Rattle.av_anon.specs.Fork.{after_clone, gets_own}

@@ -1,4 +1,5 @@
--- What every call keeps of the anon_vmas and of the areas' chains, in the values of `Areas` and `Anons`.
+-- What every call keeps of the anon_vmas and of the areas' chains, in the values of `Areas` and
+-- `Anons`.
 use Rattle.std.specs.Prelude.{ℕ, List, Option}
 use Rattle.av_vma.specs.declared.area.Area.{Area}
 use Rattle.av_vma.specs.Areas.{area_of}

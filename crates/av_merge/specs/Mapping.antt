@@ -6,8 +6,8 @@ use Rattle.av_base.specs.Words.{within}
 use Rattle.av_vma.specs.Join.{index_of}
 use Rattle.av_vma.specs.Pages.{Pages, Effect, do_join, no_chains}
 
--- the protection and flags of a page's area, and the page's linear index; not its own anon_vma, which
--- a page may get by a join
+-- the protection and flags of a page's area, and the page's linear index; not its own anon_vma,
+-- which a page may get by a join
 pub record Mapping : Type 0 where
   pub prot : Prot
   pub flags : ℕ

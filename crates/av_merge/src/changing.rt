@@ -43,7 +43,8 @@ pub fn map(
     ensures stands { Stays process (area_of areas.old) (area_of areas.new) tree.new }
     ensures kin { OnOk result (StayKin areas.old anons.old areas.new anons.new) }
     ensures pages { OnOk result
-        (Becomes areas.old tree.old areas.new tree.new (after_map (lengths areas.old anons.old) process from to prot)) }
+        (Becomes areas.old tree.old areas.new tree.new
+        (after_map (lengths areas.old anons.old) process from to prot)) }
 {
     let area = Area {
         pid: process,

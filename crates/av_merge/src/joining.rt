@@ -31,7 +31,8 @@ pub fn join_around(
     ensures stands { StayOfOne areas.old tree.old areas.new tree.new }
     ensures kin { OnOk result (StayKin areas.old anons.old areas.new anons.new) }
     ensures pages { OnOk result (IfSome (span_of tree.old area)
-        (λ s. Becomes areas.old tree.old areas.new tree.new (joined_around (lengths areas.old anons.old) s.from s.to))) }
+        (λ s. Becomes areas.old tree.old areas.new tree.new
+        (joined_around (lengths areas.old anons.old) s.from s.to))) }
 {
     let Area { start, end, .. } = areas.get(area);
     join_ends(areas, tree, anons, start / PAGE_SIZE, end / PAGE_SIZE)
@@ -52,7 +53,8 @@ fn join_ends(
     ensures stands { StayOfOne areas.old tree.old areas.new tree.new }
     ensures kin { OnOk result (StayKin areas.old anons.old areas.new anons.new) }
     ensures pages { OnOk result
-        (Becomes areas.old tree.old areas.new tree.new (joined_around (lengths areas.old anons.old) from past)) }
+        (Becomes areas.old tree.old areas.new tree.new
+        (joined_around (lengths areas.old anons.old) from past)) }
 {
     let (below, here) = tree.around(from);
     let (_, above) = tree.around(past);
@@ -93,11 +95,13 @@ pub fn join_part(
     requires below { differs_below ≡ true
         → DoDiffer from (pages_by (area_of areas.old) tree.old) }
     requires above { differs_above ≡ true
-        → DoDiffer past (joined_at (lengths areas.old anons.old) from (pages_by (area_of areas.old) tree.old)) }
+        → DoDiffer past (joined_at (lengths areas.old anons.old) from
+        (pages_by (area_of areas.old) tree.old)) }
     ensures stands { StayOfOne areas.old tree.old areas.new tree.new }
     ensures kin { OnOk result (StayKin areas.old anons.old areas.new anons.new) }
     ensures pages { OnOk result
-        (Becomes areas.old tree.old areas.new tree.new (joined_around (lengths areas.old anons.old) from past)) }
+        (Becomes areas.old tree.old areas.new tree.new
+        (joined_around (lengths areas.old anons.old) from past)) }
 {
     if !differs_below && !differs_above {
         return join_ends(areas, tree, anons, from, past);
@@ -121,7 +125,8 @@ fn join_both(
     ensures stands { StayOfOne areas.old tree.old areas.new tree.new }
     ensures kin { OnOk result (StayKin areas.old anons.old areas.new anons.new) }
     ensures pages { OnOk result
-        (Becomes areas.old tree.old areas.new tree.new (joined_around (lengths areas.old anons.old) from past)) }
+        (Becomes areas.old tree.old areas.new tree.new
+        (joined_around (lengths areas.old anons.old) from past)) }
 {
     join_at(areas, tree, anons, from)?;
     join_at(areas, tree, anons, past)
@@ -150,7 +155,8 @@ fn join_three(
     ensures stands { StayOfOne areas.old tree.old areas.new tree.new }
     ensures kin { OnOk result (StayKin areas.old anons.old areas.new anons.new) }
     ensures pages { OnOk result
-        (Becomes areas.old tree.old areas.new tree.new (joined_around (lengths areas.old anons.old) from past)) }
+        (Becomes areas.old tree.old areas.new tree.new
+        (joined_around (lengths areas.old anons.old) from past)) }
 {
     let lower = areas.get(left);
     let inner = areas.get(middle);
@@ -197,7 +203,8 @@ pub fn join_at(
     ensures stands { StayOfOne areas.old tree.old areas.new tree.new }
     ensures kin { OnOk result (StayKin areas.old anons.old areas.new anons.new) }
     ensures pages { OnOk result
-        (Becomes areas.old tree.old areas.new tree.new (joined_at (lengths areas.old anons.old) at)) }
+        (Becomes areas.old tree.old areas.new tree.new
+        (joined_at (lengths areas.old anons.old) at)) }
 {
     let (below, above) = tree.around(at);
     let Some(left) = below else {
@@ -260,7 +267,8 @@ fn join_unless(
     ensures stands { StayOfOne areas.old tree.old areas.new tree.new }
     ensures kin { OnOk result (StayKin areas.old anons.old areas.new anons.new) }
     ensures pages { OnOk result
-        (Becomes areas.old tree.old areas.new tree.new (joined_at (lengths areas.old anons.old) at)) }
+        (Becomes areas.old tree.old areas.new tree.new
+        (joined_at (lengths areas.old anons.old) at)) }
 {
     if differs {
         return Ok(());

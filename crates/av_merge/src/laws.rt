@@ -23,7 +23,8 @@ pub fn cuts_keep_mappings()
         ≡ (if within from (to - from) page then None else mapping on page) }
 {}
 
-/// Joining leaves each page mapped as it was.
+/// Joining leaves each page mapped as it was. (An own anon_vma, which it may get, is no part of
+/// how it is mapped.)
 pub fn joins_keep_mappings()
     ensures { (len : Lengths) (on : Pages) (from past page : ℕ) → AreLaid on
         → mapping (joined_around len from past on) page ≡ mapping on page }

@@ -56,7 +56,8 @@ pub fn replace(
     requires stands { AreAreasOf area.pid (area_of areas.old) tree.old }
     requires there { IsSomeAnd (span_of tree.old number) (λ s. s.from ≡ first_of area) }
     requires whole { IsWhole area }
-    requires free { IsFree (is_page_taken (without_area number tree.old)) (first_of area) (past_of area) }
+    requires free { IsFree (is_page_taken (without_area number tree.old))
+        (first_of area) (past_of area) }
     ensures stands { Stays area.pid (area_of areas.old) (area_of areas.new) tree.new }
     ensures pages { (page : ℕ) → pages_by (area_of areas.new) tree.new page
         ≡ with_area area (pages_by (with_at number None (area_of areas.old)) tree.old) page }
@@ -93,8 +94,8 @@ pub fn put_apart(
     requires apart { past_of lower ≤ first_of upper }
     ensures stands { Stays lower.pid (area_of areas.old) (area_of areas.new) tree.new }
     ensures pages { OnOk result ((page : ℕ) → pages_by (area_of areas.new) tree.new page
-        ≡ with_area upper (with_area lower (pages_by (with_at number None (area_of areas.old)) tree.old))
-        page) }
+        ≡ with_area upper (with_area lower
+        (pages_by (with_at number None (area_of areas.old)) tree.old)) page) }
     ensures number { IfOk result (λ above. (page : ℕ) → area_at tree.new page
         ≡ (if has_page upper page then Some above else if has_page lower page then Some number
         else unless_area number (area_at tree.old page))) }

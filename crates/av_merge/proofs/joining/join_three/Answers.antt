@@ -1,4 +1,4 @@
-use Rattle.std.proofs.Common.{◌≡◌, true, ◌∙◌, ◌-◌, None, IsSomeAnd, sym, ap, subst, arith}
+use Rattle.std.proofs.Common.{◌≡◌, true, ◌∙◌, ◌-◌, None, IsSomeAnd, sym, ap, subst}
 use Rattle.av_base.specs.Words.{with_at}
 use Rattle.av_vma.specs.declared.area.Area.{Area}
 use Rattle.av_vma.specs.Areas.{area_of}
@@ -15,7 +15,7 @@ use Rattle.av_merge.specs.Kin.{lengths}
 use Rattle.av_merge.proofs.Kin.{keeps_trans}
 use Rattle.av_merge.proofs.Linked.{ok_of}
 use Rattle.av_merge.proofs.JoinsThree.{plain_join, three_kin, three_was, lower_from, middle_from, rest_stands, three_are, three_free, three_stay, three_whole, upper_from, upper_used}
-use Rattle.av_merge.proofs.Places.{used_at, whole_at}
+use Rattle.av_merge.proofs.Places.{used_at}
 use Rattle.av_merge.proofs.joining.join_three.Goals as goal
 
 pub get-lower-requires : goal.get-lower-requires

@@ -2,7 +2,6 @@ use Rattle.std.proofs.Common.{◌≡◌, Some, None, ap, cond, refl, ◌∙◌}
 use Rattle.av_vma.specs.Areas.{area_of}
 use Rattle.av_vmatree.specs.Spans.{area_at, holds, unless_area}
 use Rattle.av_vmatree.specs.declared.span.Span.{Span}
-use Rattle.av_vma.specs.declared.area.Area.{Area}
 use Rattle.av_anon.specs.Anons.{family}
 use Rattle.av_anon.specs.Spans.{spans_of}
 use Rattle.av_merge.proofs.Kin.{keeps_trans}
