@@ -1,5 +1,5 @@
 //! The chain of a child's area at fork (Linux's anon_vma_fork), and of a copy (anon_vma_clone).
-ghost use Rattle.std.specs.Prelude.{◌≡◌, ℕ, ◌<◌, ◌^◌, Some, None, IsSome, IfOk, OnOk};
+ghost use Rattle.std.specs.Prelude.{◌≡◌, ℕ, ◌<◌, ◌^◌, Some, None, IsSome, IfOk, OnOk, OnErr};
 ghost use Rattle.av_vma.specs.Areas.{area_of};
 ghost use Rattle.av_anon.specs.Anons.{family, own_of};
 ghost use Rattle.av_anon.specs.Fork.{child_chain, child_family, child_own, after_clone, after_fork, own_after_fork, gets_own, is_idle, member_to_reuse};
@@ -14,7 +14,7 @@ use std::alloc::AllocError;
 
 impl Anons {
     /// Gives an area without anon_vma another's chain and own anon_vma; where that one has none it
-    /// gets none.
+    /// gets none. Without memory no area changes.
     pub fn clone_chain(
         &mut self,
         areas: &mut Areas,
@@ -32,6 +32,7 @@ impl Anons {
             → area_of areas.new number ≡ gets_own dst own (area_of areas.old) number) }
         ensures spans { OnOk result (GoWithLinks
             (area_of areas.new) (family self.new).chain (spans_of self.new)) }
+        ensures kept { OnErr result (areas.new ≡ areas.old) }
     {
         let Some(own) = areas.get(src).anon else {
             return Ok(());
@@ -52,7 +53,8 @@ impl Anons {
 
     /// Gives the child's area `dst`, without anon_vma, its chain and own anon_vma at a fork of
     /// `src`: the parent's chain, with its lowest idle member as own, else with a new one below the
-    /// parent's own. Where the parent's area has no anon_vma the child's gets none.
+    /// parent's own. Where the parent's area has no anon_vma the child's gets none. Without memory
+    /// no area changes.
     pub fn fork(&mut self, areas: &mut Areas, src: AreaId, dst: AreaId) -> Result<(), AllocError>
         requires order { IsInOrder (area_of areas.old) (family self.old) (spans_of self.old) }
         requires src { IsSome (area_of areas.old src) }
@@ -67,6 +69,7 @@ impl Anons {
             → area_of areas.new number ≡ gets_own dst own (area_of areas.old) number) }
         ensures spans { OnOk result (GoWithLinks
             (area_of areas.new) (family self.new).chain (spans_of self.new)) }
+        ensures kept { OnErr result (areas.new ≡ areas.old) }
     {
         let Some(own) = areas.get(src).anon else {
             return Ok(());

@@ -1,5 +1,5 @@
 //! An area gets its own anon_vma at its first fault (Linux's anon_vma_prepare).
-ghost use Rattle.std.specs.Prelude.{◌≡◌, ℕ, ◌<◌, ◌^◌, true, [], Some, None, IsSome, IfOk, OnOk};
+ghost use Rattle.std.specs.Prelude.{◌≡◌, ℕ, ◌<◌, ◌^◌, true, [], Some, None, IsSome, IfOk, OnErr, OnOk};
 ghost use Rattle.av_base.specs.Words.{is_in};
 ghost use Rattle.av_vma.specs.Areas.{area_of};
 ghost use Rattle.av_chain.specs.Links.{chain_of};
@@ -22,7 +22,7 @@ use std::alloc::AllocError;
 
 impl Anons {
     /// Gives an area without anon_vma its own: that of the area after it, else of the one before,
-    /// where it may take it; else a new root.
+    /// where it may take it; else a new root. Without memory no area changes.
     pub fn prepare(
         &mut self,
         areas: &mut Areas,
@@ -46,6 +46,7 @@ impl Anons {
             → area_of areas.new number ≡ give_own area own (area_of areas.old) number) }
         ensures spans { OnOk result (GoWithLinks
             (area_of areas.new) (family self.new).chain (spans_of self.new)) }
+        ensures kept { OnErr result (areas.new ≡ areas.old) }
     {
         let this = areas.get(area);
         let loan = lent_anon(&self.links, areas, &this, before, after);

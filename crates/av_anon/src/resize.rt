@@ -1,5 +1,5 @@
 //! An area gets other bounds, and its spans with it.
-ghost use Rattle.std.specs.Prelude.{◌≡◌, ℕ, Some, IsSome, OnOk, option_map};
+ghost use Rattle.std.specs.Prelude.{◌≡◌, ℕ, Some, IsSome, OnErr, OnOk, option_map};
 ghost use Rattle.av_base.specs.Words.{with_at};
 ghost use Rattle.av_vma.specs.Areas.{area_of};
 ghost use Rattle.av_vma.specs.declared.area.Area.{Area};
@@ -18,7 +18,7 @@ impl Anons {
     /// Gives an area other bounds and another offset: its spans go with it, its links stay.
     ///
     /// `start` and `end` are addresses on pages, `start` below `end`; `pgoff` is the linear index
-    /// of the first page.
+    /// of the first page. Without memory no area changes.
     pub fn resize(
         &mut self,
         areas: &mut Areas,
@@ -37,6 +37,7 @@ impl Anons {
             (area_of areas.old) number) }
         ensures spans { OnOk result (GoWithLinks
             (area_of areas.new) (family self.new).chain (spans_of self.new)) }
+        ensures kept { OnErr result (areas.new ≡ areas.old) }
     {
         let old = areas.get(area);
         let new = Area {

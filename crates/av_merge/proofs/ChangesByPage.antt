@@ -1,14 +1,14 @@
 -- A part of an area that is affected at once is affected as if its pages were, one by one.
 use Rattle.std.proofs.Common.{◌≡◌, ℕ, zero, suc, ◌+◌, ◌-◌, ◌*◌, ◌/◌, ◌<◌, ◌≤◌, min, max, Bool, true, false, not, cond, ◌&&◌, ◌==◌, ◌⊎◌, Option, Some, None, option_map, refl, sym, ap, ◌∙◌, inl, inr, arith}
 use Rattle.std.proofs.Math.Bool.{beq}
-use Rattle.std.proofs.lemmas.Bool.{and_from, lt-ltb, le-ltb, eq-eqb, cases_lt, cond-true, cond-false, both_ways, false_from_ne_true}
+use Rattle.std.proofs.lemmas.Bool.{and_from, and_parts, lt-ltb, le-ltb, eq-eqb, cases_lt, cond-true, cond-false, both_ways, false_from_ne_true}
 use Rattle.std.proofs.lemmas.Bool.Decides.{nat_tests}
 use Rattle.std.specs.Option.{option_or}
 use Rattle.av_vma.specs.declared.area.Area.{Area}
 use Rattle.av_base.specs.declared.prot.Prot.{Prot}
 use Rattle.av_vma.specs.Join.{first_of, past_of, index_of, same_prot, share_anon}
 use Rattle.av_base.specs.Words.{within}
-use Rattle.av_vma.specs.Pages.{AreLaid, Pages, Effect, with_effect, alters, alters_at, has_page, part_of, cut_at, with_effect_on, join_of, do_join, after_join, joined_at, part_changed, page_changed, pages_changed, IsWhole, no_chains}
+use Rattle.av_vma.specs.Pages.{AreLaid, Pages, Effect, with_effect, alters, alters_at, has_page, part_of, cut_at, with_effect_on, join_of, do_join, after_join, joined_at, part_changed, page_changed, pages_changed, IsWhole, Lengths}
 use Rattle.av_merge.proofs.Places.{has_from, has_parts, within_from}
 use Rattle.av_merge.proofs.Mappings.{either_same, join_is, laid_cut}
 
@@ -37,20 +37,29 @@ same_bit false = refl
 pub same_as_itself : (p : Prot) → same_prot p p ≡ true
 same_as_itself p = and_from (beq p.read p.read && beq p.write p.write) (beq p.execute p.execute) (and_from (beq p.read p.read) (beq p.write p.write) (same_bit p.read) (same_bit p.write)) (same_bit p.execute)
 
-shares : (o : Option ℕ) → share_anon o 0 o 0 ≡ true
-shares None = refl
-shares (Some n) = eq-eqb n n refl
+shares : (len : Lengths) (o : Option ℕ) → share_anon o (len o) o (len o) ≡ true
+shares len None = refl
+shares len (Some n) = eq-eqb n n refl
+
+-- what two areas that share an anon_vma have together shares with the second, and is the same with it once more
+still_shares : (len : Lengths) (a b : Option ℕ) → share_anon a (len a) b (len b) ≡ true → share_anon (option_or a b) (len (option_or a b)) b (len b) ≡ true
+still_shares len None b h = shares len b
+still_shares len (Some a) b h = h
+
+once_more : (a b : Option ℕ) → option_or (option_or a b) b ≡ option_or a b
+once_more None b = either_same b b refl
+once_more (Some a) b = refl
 
 -- ---- a page more
 
-pages_and_one : (effect : Effect) (a n : ℕ) (on : Pages) → pages_changed no_chains effect a (suc n) on ≡ page_changed no_chains effect (a + n) (pages_changed no_chains effect a n on)
-pages_and_one effect a zero on = (let same : a ≡ a + 0 = omega arith in ap (λ c. page_changed no_chains effect c on) same)
-pages_and_one effect a (suc n) on =
+pages_and_one : (len : Lengths) (effect : Effect) (a n : ℕ) (on : Pages) → pages_changed len effect a (suc n) on ≡ page_changed len effect (a + n) (pages_changed len effect a n on)
+pages_and_one len effect a zero on = (let same : a ≡ a + 0 = omega arith in ap (λ c. page_changed len effect c on) same)
+pages_and_one len effect a (suc n) on =
     let same : (a + 1) + n ≡ a + suc n = omega arith in
-    pages_and_one effect (a + 1) n (page_changed no_chains effect a on)
-    ∙ ap (λ c. page_changed no_chains effect c (pages_changed no_chains effect (a + 1) n (page_changed no_chains effect a on))) same
+    pages_and_one len effect (a + 1) n (page_changed len effect a on)
+    ∙ ap (λ c. page_changed len effect c (pages_changed len effect (a + 1) n (page_changed len effect a on))) same
 
-module _ (effect : Effect) (on : Pages) (laid : AreLaid on) (a : ℕ) (area : Area) (here : on a ≡ Some area) (does : alters effect area ≡ true) where
+module _ (len : Lengths) (effect : Effect) (on : Pages) (laid : AreLaid on) (a : ℕ) (area : Area) (here : on a ≡ Some area) (does : alters effect area ≡ true) where
   whole : IsWhole area
   whole = laid.whole a area here
 
@@ -78,7 +87,8 @@ module _ (effect : Effect) (on : Pages) (laid : AreLaid on) (a : ℕ) (area : Ar
     pub prot : x.prot ≡ effect.prot area.prot
     pub flags : x.flags ≡ effect.flags area.flags
     pub index : x.pgoff + (a - first_of x) ≡ index_of area a
-    pub anon : x.anon ≡ area.anon
+    pub shares : share_anon x.anon (len x.anon) area.anon (len area.anon) ≡ true
+    pub own : option_or x.anon area.anon ≡ x.anon
 
   abbrev grown : Area → ℕ → Pages
   grown x b q = cond (has_page (ended b x) q) (Some (ended b x)) (rest b q)
@@ -123,21 +133,21 @@ module _ (effect : Effect) (on : Pages) (laid : AreLaid on) (a : ℕ) (area : Ar
 
   -- ---- at the part's end, nothing joins before the rest is affected
 
-  apart : (x : Area) → IsGrown x → (b : ℕ) → do_join no_chains (ended b x) (upper b) ≡ false
-  apart x g b = false_from_ne_true (do_join no_chains (ended b x) (upper b)) (λ e.
-      let j = join_is (ended b x) (upper b) e in
+  apart : (x : Area) → IsGrown x → (b : ℕ) → do_join len (ended b x) (upper b) ≡ false
+  apart x g b = false_from_ne_true (do_join len (ended b x) (upper b)) (λ e.
+      let j = join_is len (ended b x) (upper b) e in
       both_ways (alters effect area)
       (ap not (and_from (same_prot (effect.prot area.prot) area.prot) (effect.flags area.flags == area.flags)
       (ap (λ p. same_prot p area.prot) (sym g.prot ∙ j.prot) ∙ same_as_itself area.prot)
       (eq-eqb (effect.flags area.flags) area.flags (sym g.flags ∙ j.flags))))
       does)
 
-  kept : (x : Area) → IsGrown x → (b : ℕ) → a < b → b < past_of area → (q : ℕ) → joined_at no_chains b (grown x b) q ≡ grown x b q
+  kept : (x : Area) → IsGrown x → (b : ℕ) → a < b → b < past_of area → (q : ℕ) → joined_at len b (grown x b) q ≡ grown x b q
   kept x g b ab less q =
       let first = g.low in
       let last : grown x b (b - 1) ≡ Some (ended b x) = grown_in x b (b - 1) (omega arith) (omega arith) in
       let next : grown x b b ≡ Some (upper b) = grown_past x b (omega arith) less in
-      (λ i. after_join no_chains (last i) (next i) q (grown x b q))
+      (λ i. after_join len (last i) (next i) q (grown x b q))
       ∙ ap (λ t. cond (t && has_page (join_of (ended b x) (upper b)) q) (Some (join_of (ended b x) (upper b))) (grown x b q)) (apart x g b)
 
   -- ---- one page more is affected, and joins what is before it
@@ -177,7 +187,7 @@ module _ (effect : Effect) (on : Pages) (laid : AreLaid on) (a : ℕ) (area : Ar
         ∙ ap (λ o. option_map (with_effect effect) (option_map (part_of (b + 1) b) (option_map (part_of b b) o))) (grown_past x b (omega arith) less)
         ∙ ap (λ z. Some (with_effect effect z)) (more_part b (omega arith) less)
 
-    joins : do_join no_chains (ended b x) (more b) ≡ true
+    joins : do_join len (ended b x) (more b) ≡ true
     joins =
         let first = g.low in
         let first' = low in
@@ -187,11 +197,11 @@ module _ (effect : Effect) (on : Pages) (laid : AreLaid on) (a : ℕ) (area : Ar
         let e2 : same_prot x.prot (effect.prot area.prot) ≡ true = ap (λ p. same_prot p (effect.prot area.prot)) g.prot ∙ same_as_itself (effect.prot area.prot) in
         let e3 : (x.flags == effect.flags area.flags) ≡ true = eq-eqb x.flags (effect.flags area.flags) g.flags in
         let e4 : (index_of (ended b x) (past_of (ended b x)) == index_of area b) ≡ true = eq-eqb (index_of (ended b x) (past_of (ended b x))) (index_of area b) same in
-        let e5 : share_anon x.anon 0 area.anon 0 ≡ true = ap (λ o. share_anon o 0 area.anon 0) g.anon ∙ shares area.anon in
+        let e5 : share_anon x.anon (len x.anon) area.anon (len area.anon) ≡ true = g.shares in
         λ i. e1 i && e2 i && e3 i && e4 i && e5 i
 
     merged_more : join_of (ended b x) (more b) ≡ ended (b + 1) x
-    merged_more = λ i. record (ended (b + 1) x) { anon = (ap (option_or x.anon) (sym g.anon) ∙ either_same x.anon x.anon refl) i }
+    merged_more = λ i. record (ended (b + 1) x) { anon = g.own i }
 
     -- past the part's new end and before its start, all is as after the cuts at a and b + 1
     wider_out : (q : ℕ) → has_page (ended (b + 1) x) q ≡ false → wider q ≡ rest (b + 1) q
@@ -215,9 +225,9 @@ module _ (effect : Effect) (on : Pages) (laid : AreLaid on) (a : ℕ) (area : Ar
             let twice = late_part b b q z w (omega arith) (omega arith) in
             ap Some (ap (λ y. part_of (b + 1) q (part_of b q y)) once ∙ ap (part_of (b + 1) q) twice ∙ late_part b (b + 1) q z w (omega arith) late ∙ sym (late_part a (b + 1) q z w (omega arith) late))
 
-    grows : (q : ℕ) → joined_at no_chains b wider q ≡ grown x (b + 1) q
+    grows : (q : ℕ) → joined_at len b wider q ≡ grown x (b + 1) q
     grows q =
-        (λ i. after_join no_chains (wider_last i) (wider_next i) q (wider q))
+        (λ i. after_join len (wider_last i) (wider_next i) q (wider q))
         ∙ (λ i. cond (joins i && has_page (merged_more i) q) (Some (merged_more i)) (wider q))
         ∙ elim (has_page (ended (b + 1) x) q) as (λ h. has_page (ended (b + 1) x) q ≡ h → cond h (Some (ended (b + 1) x)) (wider q) ≡ cond h (Some (ended (b + 1) x)) (rest (b + 1) q)) [
           | true ↦ λ h. refl
@@ -256,10 +266,10 @@ module _ (effect : Effect) (on : Pages) (laid : AreLaid on) (a : ℕ) (area : Ar
   record Begins : Type 0 where
     pub x : Area
     pub is : IsGrown x
-    pub pages : (b : ℕ) → a < b → b ≤ past_of area → (q : ℕ) → joined_at no_chains a (first_pages b) q ≡ grown x b q
+    pub pages : (b : ℕ) → a < b → b ≤ past_of area → (q : ℕ) → joined_at len a (first_pages b) q ≡ grown x b q
 
   part_grown : IsGrown part
-  part_grown = record { start = omega arith; low = omega arith; prot = refl; flags = refl; index = omega arith; anon = refl }
+  part_grown = record { start = omega arith; low = omega arith; prot = refl; flags = refl; index = omega arith; shares = shares len area.anon; own = either_same area.anon area.anon refl }
 
   -- the pages of the part alone
   alone : (b : ℕ) → a < b → b ≤ past_of area → (q : ℕ) → first_pages b q ≡ grown part b q
@@ -271,6 +281,9 @@ module _ (effect : Effect) (on : Pages) (laid : AreLaid on) (a : ℕ) (area : Ar
     | false ↦ λ h. others_here b q (λ from less. both_ways (has_page (ended b part) q) h (has_ended b part q (omega arith) less))
   ] refl
 
+  do_share : (l r : Area) → do_join len l r ≡ true → share_anon l.anon (len l.anon) r.anon (len r.anon) ≡ true
+  do_share l r e = (and_parts (l.end == r.start && same_prot l.prot r.prot && (l.flags == r.flags) && (index_of l (past_of l) == r.pgoff)) (share_anon l.anon (len l.anon) r.anon (len r.anon)) e).1
+
   begins : Begins
   begins = each (cut_at a on (a - 1)) refl
     where
@@ -280,21 +293,21 @@ module _ (effect : Effect) (on : Pages) (laid : AreLaid on) (a : ℕ) (area : Ar
       itself : (b : ℕ) → a < b → b ≤ past_of area → first_pages b a ≡ Some (ended b part)
       itself b ab high = part_here b a high (omega arith) ab
 
-      with_left : (l : Area) → cut_at a on (a - 1) ≡ Some l → (t : Bool) → do_join no_chains l part ≡ t → Begins
+      with_left : (l : Area) → cut_at a on (a - 1) ≡ Some l → (t : Bool) → do_join len l part ≡ t → Begins
       with_left l e true j = record {
         x = join_of l part;
         is =
-            let k = join_is l part j in
+            let k = join_is len l part j in
             let cut = laid_cut a on laid in
             let w = cut.whole (a - 1) l e in
             let first = (has_parts l (a - 1) (cut.here (a - 1) l e)).0 in
             let adjoin : l.end ≡ 4096 * a = k.adjoin in
             let index : index_of l (past_of l) ≡ index_of area a = k.index in
-            record { start = w.start; low = omega arith; prot = k.prot; flags = k.flags; index = omega arith; anon = k.one_anon ∙ k.anon };
+            record { start = w.start; low = omega arith; prot = k.prot; flags = k.flags; index = omega arith; shares = still_shares len l.anon area.anon (do_share l part j); own = once_more l.anon area.anon };
         pages = λ b ab high q.
             let cut = laid_cut a on laid in
             let first = (has_parts l (a - 1) (cut.here (a - 1) l e)).0 in
-            (λ i. after_join no_chains ((before_is b ab some ∙ e) i) (itself b ab high i) q (first_pages b q))
+            (λ i. after_join len ((before_is b ab some ∙ e) i) (itself b ab high i) q (first_pages b q))
             ∙ ap (λ t. cond (t && has_page (ended b (join_of l part)) q) (Some (ended b (join_of l part))) (first_pages b q)) j
             ∙ elim (has_page (ended b (join_of l part)) q) as (λ h. has_page (ended b (join_of l part)) q ≡ h → cond h (Some (ended b (join_of l part))) (first_pages b q) ≡ cond h (Some (ended b (join_of l part))) (rest b q)) [
               | true ↦ λ h. refl
@@ -305,7 +318,7 @@ module _ (effect : Effect) (on : Pages) (laid : AreLaid on) (a : ℕ) (area : Ar
         x = part;
         is = part_grown;
         pages = λ b ab high q.
-            (λ i. after_join no_chains ((before_is b ab some ∙ e) i) (itself b ab high i) q (first_pages b q))
+            (λ i. after_join len ((before_is b ab some ∙ e) i) (itself b ab high i) q (first_pages b q))
             ∙ ap (λ t. cond (t && has_page (join_of l (ended b part)) q) (Some (join_of l (ended b part))) (first_pages b q)) j
             ∙ alone b ab high q;
       }
@@ -314,27 +327,27 @@ module _ (effect : Effect) (on : Pages) (laid : AreLaid on) (a : ℕ) (area : Ar
       each None e = record {
         x = part;
         is = part_grown;
-        pages = λ b ab high q. (λ i. after_join no_chains ((before_is b ab some ∙ e) i) (first_pages b a) q (first_pages b q)) ∙ alone b ab high q;
+        pages = λ b ab high q. (λ i. after_join len ((before_is b ab some ∙ e) i) (first_pages b a) q (first_pages b q)) ∙ alone b ab high q;
       }
-      each (Some l) e = with_left l e (do_join no_chains l part) refl
+      each (Some l) e = with_left l e (do_join len l part) refl
 
   -- ---- the whole part, and its pages one by one
 
-  whole_part : (b : ℕ) → a < b → b ≤ past_of area → part_changed no_chains a b effect on ≡ joined_at no_chains b (grown begins.x b)
-  whole_part b ab high = λ i. joined_at no_chains b (λ q. begins.pages b ab high q i)
+  whole_part : (b : ℕ) → a < b → b ≤ past_of area → part_changed len a b effect on ≡ joined_at len b (grown begins.x b)
+  whole_part b ab high = λ i. joined_at len b (λ q. begins.pages b ab high q i)
 
-  next_page : (b : ℕ) → a < b → b < past_of area → page_changed no_chains effect b (part_changed no_chains a b effect on) ≡ part_changed no_chains a (b + 1) effect on
+  next_page : (b : ℕ) → a < b → b < past_of area → page_changed len effect b (part_changed len a b effect on) ≡ part_changed len a (b + 1) effect on
   next_page b ab less =
-      ap (page_changed no_chains effect b) (whole_part b ab (omega arith) ∙ (λ i q. kept begins.x begins.is b ab less q i))
-      ∙ cond-true (alters_at effect (grown begins.x b b)) (part_changed no_chains b (b + 1) effect (grown begins.x b)) (grown begins.x b) (ap (alters_at effect) (grown_past begins.x b (omega arith) less) ∙ does)
-      ∙ (λ i. joined_at no_chains (b + 1) (λ q. grows begins.x begins.is b ab less q i))
+      ap (page_changed len effect b) (whole_part b ab (omega arith) ∙ (λ i q. kept begins.x begins.is b ab less q i))
+      ∙ cond-true (alters_at effect (grown begins.x b b)) (part_changed len b (b + 1) effect (grown begins.x b)) (grown begins.x b) (ap (alters_at effect) (grown_past begins.x b (omega arith) less) ∙ does)
+      ∙ (λ i. joined_at len (b + 1) (λ q. grows begins.x begins.is b ab less q i))
       ∙ sym (whole_part (b + 1) (omega arith) (omega arith))
 
-  pub page_by_page : (n : ℕ) → a + suc n ≤ past_of area → pages_changed no_chains effect a (suc n) on ≡ part_changed no_chains a (a + suc n) effect on
-  page_by_page zero high = cond-true (alters_at effect (on a)) (part_changed no_chains a (a + 1) effect on) on (ap (alters_at effect) here ∙ does)
+  pub page_by_page : (n : ℕ) → a + suc n ≤ past_of area → pages_changed len effect a (suc n) on ≡ part_changed len a (a + suc n) effect on
+  page_by_page zero high = cond-true (alters_at effect (on a)) (part_changed len a (a + 1) effect on) on (ap (alters_at effect) here ∙ does)
   page_by_page (suc n) high =
       let same : (a + suc n) + 1 ≡ a + suc (suc n) = omega arith in
-      pages_and_one effect a (suc n) on
-      ∙ ap (page_changed no_chains effect (a + suc n)) (page_by_page n (omega arith))
+      pages_and_one len effect a (suc n) on
+      ∙ ap (page_changed len effect (a + suc n)) (page_by_page n (omega arith))
       ∙ next_page (a + suc n) (omega arith) (omega arith)
-      ∙ ap (λ c. part_changed no_chains a c effect on) same
+      ∙ ap (λ c. part_changed len a c effect on) same

@@ -9,11 +9,17 @@ use Rattle.av_base.specs.Words.{within, with_at}
 use Rattle.av_vmatree.specs.declared.span.Span.{Span}
 use Rattle.av_vmatree.specs.Spans.{area_at, span_of}
 use Rattle.av_merge.specs.Mapping.{DoDiffer, Mapping, mapping, mapping_in, mapping_with}
-use Rattle.av_vma.specs.Pages.{AreLaid, Pages, alters, cut_at, has_page, joined_around, joined_at, part_of, Effect, with_effect, with_effect_on, IsWhole, no_chains}
+use Rattle.av_vma.specs.Pages.{AreLaid, Pages, alters, cut_at, has_page, joined_around, joined_at, part_of, Effect, with_effect, with_effect_on, IsWhole, Lengths}
 use Rattle.av_merge.specs.Pages.{pages_by}
 use Rattle.av_merge.specs.Process.{AreAreasOf, IsAreaOf, Stays}
 use Rattle.av_merge.proofs.Places.{IsOn, change_others, change_pages, change_stands, has_from, has_parts, is_on, one_area, stays_trans, within_from, within_parts}
 use Rattle.av_merge.proofs.ChangesByPage.{same_as_itself}
+use Rattle.av_interval.specs.declared.span.Span as interval
+use Rattle.av_anon.specs.Anons.{Family}
+use Rattle.av_anon.specs.Order.{IsInOrder}
+use Rattle.av_merge.specs.Kin.{KeepsKin}
+use Rattle.av_merge.proofs.Kin.{keeps_fields}
+use Rattle.av_merge.proofs.Lengths.{AreAlike, around_alike}
 use Rattle.av_merge.proofs.Mappings.{changed_maps, cut_maps, joined_maps, laid_cut, laid_of, part_maps_to}
 
 -- what is left of an area that is cut before its part and past it
@@ -55,7 +61,7 @@ not_so effect area altered prot flags =
     let both = and_from (same_prot (effect.prot area.prot) area.prot) (effect.flags area.flags == area.flags) (ap (λ q. same_prot q area.prot) prot ∙ same_as_itself area.prot) (eq-eqb (effect.flags area.flags) area.flags flags) in
     false≢true (sym (ap not both) ∙ altered)
 
-module _ (p from past number : ℕ) (effect : Effect) (area : Area) (areas two changed : ℕ → Option Area) (spans spans'' : List Span)
+module _ (len : Lengths) (p from past number : ℕ) (effect : Effect) (area : Area) (areas two changed : ℕ → Option Area) (spans spans'' : List Span)
     (some : from < past)
     (inside : IsSomeAnd (pages_by areas spans from) (λ area. past ≤ past_of area))
     (stands : AreAreasOf p areas spans) (stays : Stays p areas two spans'')
@@ -151,18 +157,22 @@ module _ (p from past number : ℕ) (effect : Effect) (area : Area) (areas two c
         (changed_in from (omega arith) some high)
         (λ prot flags. not_so effect one altered (sym prot) (sym flags))
 
-    pub differs_above : past < past_of one → DoDiffer past (joined_at no_chains from (pages_by changed spans''))
+    pub differs_above : past < past_of one → DoDiffer past (joined_at len from (pages_by changed spans''))
     differs_above above =
         let least = low in
-        differ_at past (joined_at no_chains from (pages_by changed spans'')) (mapping_with effect (mapping_in (past - 1) one)) (mapping_in past one)
-        (joined_maps from (pages_by changed spans'') laid_after (past - 1) ∙ changed_in (past - 1) (omega arith) (omega arith) (omega arith))
-        (joined_maps from (pages_by changed spans'') laid_after past ∙ beside past (λ first last. omega arith) (omega arith) above)
+        differ_at past (joined_at len from (pages_by changed spans'')) (mapping_with effect (mapping_in (past - 1) one)) (mapping_in past one)
+        (joined_maps len from (pages_by changed spans'') laid_after (past - 1) ∙ changed_in (past - 1) (omega arith) (omega arith) (omega arith))
+        (joined_maps len from (pages_by changed spans'') laid_after past ∙ beside past (λ first last. omega arith) (omega arith) above)
         (not_so effect one altered)
 
-  pub part_pages : {T E : Type 0} (r : Result T E) (new : Pages) → OnOk r ((page : ℕ) → new page ≡ joined_around no_chains from past (pages_by changed spans'') page) → OnOk r ((page : ℕ) → new page ≡ joined_around no_chains from past (with_effect_on from past effect (cut_at past (cut_at from (pages_by areas spans)))) page)
-  part_pages (Ok x) new h = λ page. h page ∙ (λ i. joined_around no_chains from past (λ q. changed_pages q i) page)
-  part_pages (Err e) new h = tt
+  -- the area's own anon_vma and its linear indices stay
+  pub changed_kin : (f : Family) (s : ℕ → List interval.Span) → IsInOrder two f s → KeepsKin two changed f f s
+  changed_kin f s o = keeps_fields two changed f s number o area (with_effect effect area) used refl refl is.whole now
 
-  pub part_mapping : {T E : Type 0} (r : Result T E) (new : Pages) → OnOk r ((page : ℕ) → new page ≡ joined_around no_chains from past (pages_by changed spans'') page) → OnOk r ((page : ℕ) → mapping new page ≡ cond (within from (past - from) page) (option_map (mapping_with effect) (mapping (pages_by areas spans) page)) (mapping (pages_by areas spans) page))
-  part_mapping (Ok x) new h = λ page. part_maps_to from past effect (pages_by areas spans) (pages_by changed spans'') new laid laid_after changed_pages h page
+  pub part_pages : {T E : Type 0} (len' : Lengths) → AreAlike len len' (pages_by changed spans'') → (r : Result T E) (new : Pages) → OnOk r ((page : ℕ) → new page ≡ joined_around len from past (pages_by changed spans'') page) → OnOk r ((page : ℕ) → new page ≡ joined_around len' from past (with_effect_on from past effect (cut_at past (cut_at from (pages_by areas spans)))) page)
+  part_pages len' alike (Ok x) new h = λ page. h page ∙ around_alike len len' from past (pages_by changed spans'') alike page ∙ (λ i. joined_around len' from past (λ q. changed_pages q i) page)
+  part_pages len' alike (Err e) new h = tt
+
+  pub part_mapping : {T E : Type 0} (r : Result T E) (new : Pages) → OnOk r ((page : ℕ) → new page ≡ joined_around len from past (pages_by changed spans'') page) → OnOk r ((page : ℕ) → mapping new page ≡ cond (within from (past - from) page) (option_map (mapping_with effect) (mapping (pages_by areas spans) page)) (mapping (pages_by areas spans) page))
+  part_mapping (Ok x) new h = λ page. part_maps_to len from past effect (pages_by areas spans) (pages_by changed spans'') new laid laid_after changed_pages h page
   part_mapping (Err e) new h = tt

@@ -9,20 +9,20 @@ use Rattle.av_base.specs.Words.{within}
 use Rattle.av_vmatree.specs.declared.span.Span.{Span}
 use Rattle.av_vmatree.specs.Spans.{area_at, is_page_taken}
 use Rattle.av_merge.specs.Mapping.{IsRemapped, mapping, mapping_in, mapping_with}
-use Rattle.av_vma.specs.Pages.{Effect, Pages, alters, alters_at, page_changed, part_changed, pages_changed, no_chains}
+use Rattle.av_vma.specs.Pages.{Effect, Pages, alters, alters_at, page_changed, part_changed, pages_changed, Lengths}
 use Rattle.av_merge.specs.Pages.{IsReached, pages_by}
 use Rattle.av_merge.specs.Process.{AreAreasOf, Stays}
 use Rattle.av_merge.proofs.Places.{has_from, has_parts, is_on, one_area, others_refl, stays_trans, taken_is}
 use Rattle.av_merge.proofs.Mappings.{laid_of, prot_is}
 use Rattle.av_merge.proofs.ChangesByPage.{page_by_page}
 
-pub record IsDone (from page to : ℕ) (effect : Effect) (old new : ℕ → Option Area) (before spans : List Span) : Type 0 where
+pub record IsDone (len : Lengths) (from page to : ℕ) (effect : Effect) (old new : ℕ → Option Area) (before spans : List Span) : Type 0 where
   pub stays : (p : ℕ) → AreAreasOf p old before → Stays p old new spans
   pub lowest : from ≤ page
   pub highest : page ≤ to
   pub all : (q : ℕ) → from ≤ q → q < page → is_page_taken before q ≡ true
   pub pages : IsRemapped from page effect (pages_by old before) (pages_by new spans)
-  pub exact : pages_by new spans ≡ pages_changed no_chains effect from (page - from) (pages_by old before)
+  pub exact : pages_by new spans ≡ pages_changed len effect from (page - from) (pages_by old before)
 
 -- an area that a change leaves as it was
 record IsSo (effect : Effect) (area : Area) : Type 0 where
@@ -37,22 +37,22 @@ is_so effect area e =
 -- ---- pages in turn
 
 -- some pages, and then some more
-pages_then : (effect : Effect) (a m n : ℕ) (on : Pages) → pages_changed no_chains effect (a + m) n (pages_changed no_chains effect a m on) ≡ pages_changed no_chains effect a (m + n) on
-pages_then effect a zero n on = (let first : a + 0 ≡ a = omega arith in let all : n ≡ 0 + n = omega arith in λ i. pages_changed no_chains effect (first i) (all i) on)
-pages_then effect a (suc m) n on =
+pages_then : (len : Lengths) (effect : Effect) (a m n : ℕ) (on : Pages) → pages_changed len effect (a + m) n (pages_changed len effect a m on) ≡ pages_changed len effect a (m + n) on
+pages_then len effect a zero n on = (let first : a + 0 ≡ a = omega arith in let all : n ≡ 0 + n = omega arith in λ i. pages_changed len effect (first i) (all i) on)
+pages_then len effect a (suc m) n on =
     let first : a + suc m ≡ (a + 1) + m = omega arith in
     let all : suc (m + n) ≡ suc m + n = omega arith in
-    ap (λ c. pages_changed no_chains effect c n (pages_changed no_chains effect (a + 1) m (page_changed no_chains effect a on))) first
-    ∙ pages_then effect (a + 1) m n (page_changed no_chains effect a on)
-    ∙ ap (λ c. pages_changed no_chains effect a c on) all
+    ap (λ c. pages_changed len effect c n (pages_changed len effect (a + 1) m (page_changed len effect a on))) first
+    ∙ pages_then len effect (a + 1) m n (page_changed len effect a on)
+    ∙ ap (λ c. pages_changed len effect a c on) all
 
 -- pages that are so already stay
-pages_stay : (effect : Effect) (a n : ℕ) (on : Pages) → ((q : ℕ) → a ≤ q → q < a + n → alters_at effect (on q) ≡ false) → pages_changed no_chains effect a n on ≡ on
-pages_stay effect a zero on so = refl
-pages_stay effect a (suc n) on so =
+pages_stay : (len : Lengths) (effect : Effect) (a n : ℕ) (on : Pages) → ((q : ℕ) → a ≤ q → q < a + n → alters_at effect (on q) ≡ false) → pages_changed len effect a n on ≡ on
+pages_stay len effect a zero on so = refl
+pages_stay len effect a (suc n) on so =
     let first = cond-false (alters_at effect (on a)) _ on (so a (omega arith) (omega arith)) in
-    ap (pages_changed no_chains effect (a + 1) n) first
-    ∙ pages_stay effect (a + 1) n on (λ q low high. so q (omega arith) (omega arith))
+    ap (pages_changed len effect (a + 1) n) first
+    ∙ pages_stay len effect (a + 1) n on (λ q low high. so q (omega arith) (omega arith))
 
 -- ---- tests of ranges
 
@@ -77,18 +77,18 @@ some_mapped on page = go (on page)
     go None = refl
     go (Some area) = refl
 
-pub done_first : (from to : ℕ) (effect : Effect) (areas : ℕ → Option Area) (spans : List Span) → from ≤ to → IsDone from from to effect areas areas spans spans
-done_first from to effect areas spans forward = record {
+pub done_first : (len : Lengths) (from to : ℕ) (effect : Effect) (areas : ℕ → Option Area) (spans : List Span) → from ≤ to → IsDone len from from to effect areas areas spans spans
+done_first len from to effect areas spans forward = record {
   stays = λ p stands. record { areas = stands; others = others_refl p areas };
   lowest = omega arith;
   highest = forward;
   all = λ q low high. absurd (omega arith);
   pages = λ page. ap (λ b. cond b (option_map (mapping_with effect) (mapping (pages_by areas spans) page)) (mapping (pages_by areas spans) page)) (sym (in_none from page));
-  exact = (let none : 0 ≡ from - from = omega arith in ap (λ n. pages_changed no_chains effect from n (pages_by areas spans)) none);
+  exact = (let none : 0 ≡ from - from = omega arith in ap (λ n. pages_changed len effect from n (pages_by areas spans)) none);
 }
 
-module _ (p from page to : ℕ) (effect : Effect) (old new : ℕ → Option Area) (before spans : List Span)
-    (stands : AreAreasOf p old before) (done : IsDone from page to effect old new before spans) where
+module _ (len : Lengths) (p from page to : ℕ) (effect : Effect) (old new : ℕ → Option Area) (before spans : List Span)
+    (stands : AreAreasOf p old before) (done : IsDone len from page to effect old new before spans) where
   pub there : AreAreasOf p new spans
   there = (done.stays p stands).areas
 
@@ -131,11 +131,11 @@ module _ (p from page to : ℕ) (effect : Effect) (old new : ℕ → Option Area
         end = λ less. absurd (omega arith);
       }
 
-  pub exact_end : to ≤ page → pages_by new spans ≡ pages_changed no_chains effect from (to - from) (pages_by old before)
+  pub exact_end : to ≤ page → pages_by new spans ≡ pages_changed len effect from (to - from) (pages_by old before)
   exact_end past =
       let highest = done.highest in
       let same : page ≡ to = omega arith in
-      done.exact ∙ ap (λ n. pages_changed no_chains effect from (n - from) (pages_by old before)) same
+      done.exact ∙ ap (λ n. pages_changed len effect from (n - from) (pages_by old before)) same
 
   pub pages_end : to ≤ page → IsRemapped from to effect (pages_by old before) (pages_by new spans)
   pages_end past =
@@ -144,7 +144,7 @@ module _ (p from page to : ℕ) (effect : Effect) (old new : ℕ → Option Area
       subst (λ n. IsRemapped from n effect (pages_by old before) (pages_by new spans)) same done.pages
 
   -- an area's pages from here on get the protection
-  pub done_step : (past : ℕ) (area : Area) (next : ℕ → Option Area) (spans' : List Span) → pages_by new spans page ≡ Some area → page < past → past ≤ past_of area → past ≤ to → ((q : ℕ) → AreAreasOf q new spans → Stays q new next spans') → IsRemapped page past effect (pages_by new spans) (pages_by next spans') → pages_by next spans' ≡ pages_changed no_chains effect page (past - page) (pages_by new spans) → IsDone from past to effect old next before spans'
+  pub done_step : (past : ℕ) (area : Area) (next : ℕ → Option Area) (spans' : List Span) → pages_by new spans page ≡ Some area → page < past → past ≤ past_of area → past ≤ to → ((q : ℕ) → AreAreasOf q new spans → Stays q new next spans') → IsRemapped page past effect (pages_by new spans) (pages_by next spans') → pages_by next spans' ≡ pages_changed len effect page (past - page) (pages_by new spans) → IsDone len from past to effect old next before spans'
   done_step past area next spans' here less far high stays changed exact = record {
     stays = λ q is. let one = done.stays q is in stays_trans q old new next spans spans' one (stays q one.areas);
     lowest = let lowest = done.lowest in omega arith;
@@ -167,9 +167,9 @@ module _ (p from page to : ℕ) (effect : Effect) (old new : ℕ → Option Area
         let here : page ≡ from + (page - from) = omega arith in
         let all : (page - from) + (past - page) ≡ past - from = omega arith in
         exact
-        ∙ (λ i. pages_changed no_chains effect (here i) (past - page) (done.exact i))
-        ∙ pages_then effect from (page - from) (past - page) (pages_by old before)
-        ∙ ap (λ n. pages_changed no_chains effect from n (pages_by old before)) all;
+        ∙ (λ i. pages_changed len effect (here i) (past - page) (done.exact i))
+        ∙ pages_then len effect from (page - from) (past - page) (pages_by old before)
+        ∙ ap (λ n. pages_changed len effect from n (pages_by old before)) all;
   }
 
   -- where an area is so already, its pages need no change
@@ -192,16 +192,16 @@ module _ (p from page to : ℕ) (effect : Effect) (old new : ℕ → Option Area
       | false ↦ λ h. refl
     ] refl
 
-    pub same_exact : page ≤ past → pages_by new spans ≡ pages_changed no_chains effect page (past - page) (pages_by new spans)
-    same_exact le = sym (pages_stay effect page (past - page) (pages_by new spans) (λ q low high. ap (alters_at effect) (there_too q low (omega arith)) ∙ same))
+    pub same_exact : page ≤ past → pages_by new spans ≡ pages_changed len effect page (past - page) (pages_by new spans)
+    same_exact le = sym (pages_stay len effect page (past - page) (pages_by new spans) (λ q low high. ap (alters_at effect) (there_too q low (omega arith)) ∙ same))
 
   -- a part of an area that was changed at once was changed page by page
-  pub part_exact : (past : ℕ) (area : Area) → pages_by new spans page ≡ Some area → page < past → past ≤ past_of area → (b : Bool) → b ≡ alters effect area → b ≡ true → (next : Pages) → ((q : ℕ) → next q ≡ part_changed no_chains page past effect (pages_by new spans) q) → next ≡ pages_changed no_chains effect page (past - page) (pages_by new spans)
+  pub part_exact : (past : ℕ) (area : Area) → pages_by new spans page ≡ Some area → page < past → past ≤ past_of area → (b : Bool) → b ≡ alters effect area → b ≡ true → (next : Pages) → ((q : ℕ) → next q ≡ part_changed len page past effect (pages_by new spans) q) → next ≡ pages_changed len effect page (past - page) (pages_by new spans)
   part_exact past area here less far b is does next pages =
       let n = past - page - 1 in
       let all : page + suc n ≡ past = omega arith in
       let many : suc n ≡ past - page = omega arith in
       (λ i q. pages q i)
-      ∙ ap (λ c. part_changed no_chains page c effect (pages_by new spans)) (sym all)
-      ∙ sym (page_by_page effect (pages_by new spans) (laid_of p new spans there) page area here (sym is ∙ does) n (omega arith))
-      ∙ ap (λ k. pages_changed no_chains effect page k (pages_by new spans)) many
+      ∙ ap (λ c. part_changed len page c effect (pages_by new spans)) (sym all)
+      ∙ sym (page_by_page len effect (pages_by new spans) (laid_of p new spans there) page area here (sym is ∙ does) n (omega arith))
+      ∙ ap (λ k. pages_changed len effect page k (pages_by new spans)) many

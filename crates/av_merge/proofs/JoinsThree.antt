@@ -2,13 +2,21 @@
 use Rattle.std.proofs.Common.{◌≡◌, ◌≢◌, ℕ, ◌+◌, ◌-◌, ◌/◌, ◌<◌, ◌≤◌, ◌==◌, ◌&&◌, IsSomeAnd, IsSome, true, false, cond, inl, inr, List, Option, Some, None, is_some, refl, sym, ap, subst, ◌∙◌, arith}
 use Rattle.std.specs.Prelude.{option_and_then}
 use Rattle.std.proofs.lemmas.Bool.{eq-eqb, ne_eqb, both_ways, cases_lt, false_from_ne_true}
-use Rattle.std.proofs.lemmas.Option.{same_Some}
+use Rattle.std.proofs.lemmas.Option.{none-some, same_Some}
+use Rattle.std.specs.Option.{option_or}
 use Rattle.av_vma.specs.declared.area.Area.{Area}
-use Rattle.av_vma.specs.Join.{first_of, past_of, same_prot, share_anon}
+use Rattle.av_vma.specs.Join.{first_of, past_of, are_mergeable, same_prot, share_anon}
+use Rattle.av_interval.specs.declared.span.Span as interval
+use Rattle.av_anon.specs.Anons.{Family, own_of}
+use Rattle.av_anon.specs.Kin.{length_by}
+use Rattle.av_anon.specs.Order.{IsInOrder}
+use Rattle.av_anon.specs.Resize.{with_bounds}
+use Rattle.av_merge.specs.Kin.{KeepsKin}
+use Rattle.av_merge.proofs.Kin.{keeps_bare, keeps_trans}
 use Rattle.av_base.specs.Words.{with_at}
 use Rattle.av_vmatree.specs.declared.span.Span.{Span}
 use Rattle.av_vmatree.specs.Spans.{AreSpans, IsFree, area_at, span_of, is_page_taken, unless_area, without_area}
-use Rattle.av_vma.specs.Pages.{IsWhole, Pages, has_page, do_join, joined_around, joined_at, join_of, with_area, after_join, no_chains}
+use Rattle.av_vma.specs.Pages.{IsWhole, Pages, has_page, do_join, joined_around, joined_at, join_of, with_area, after_join, no_chains, Lengths}
 use Rattle.av_merge.specs.Pages.{pages_by}
 use Rattle.av_merge.specs.Process.{AreAreasOf, Stays}
 use Rattle.av_merge.proofs.Places.{at_rest, at_span, has_from, has_parts, stays_trans, take_others, take_stands}
@@ -16,18 +24,19 @@ use Rattle.av_merge.proofs.Cuts.{IsFound, found}
 use Rattle.av_merge.proofs.Mappings.{join_is, laid_of, merged_whole}
 
 -- the third goes on in the second as in the first two together
-join_runs_on : (lower inner upper : Area) → IsWhole lower → IsWhole inner → do_join no_chains lower inner ≡ true → do_join no_chains (join_of lower inner) upper ≡ do_join no_chains inner upper
-join_runs_on lower inner upper low mid joins =
-    let j = join_is lower inner joins in
+join_runs_on : (len : Lengths) (lower inner upper : Area) → lower.anon ≡ None → IsWhole lower → IsWhole inner → do_join len lower inner ≡ true → do_join len (join_of lower inner) upper ≡ do_join len inner upper
+join_runs_on len lower inner upper bare low mid joins =
+    let own : option_or lower.anon inner.anon ≡ inner.anon = ap (λ (o : Option ℕ). option_or o inner.anon) bare in
+    let j = join_is len lower inner joins in
     let some = low.some in
     let wide = mid.some in
     let same : (past_of inner - first_of lower) + lower.pgoff ≡ (past_of inner - first_of inner) + inner.pgoff = omega arith in
-    λ i. (inner.end == upper.start) && same_prot (j.prot i) upper.prot && (j.flags i == upper.flags) && (same i == upper.pgoff) && share_anon ((j.one_anon ∙ j.anon) i) 0 upper.anon 0
+    λ i. (inner.end == upper.start) && same_prot (j.prot i) upper.prot && (j.flags i == upper.flags) && (same i == upper.pgoff) && share_anon (own i) (len (own i)) upper.anon (len upper.anon)
 
 -- a boundary whose areas join
-joined_is : (at page : ℕ) (on : Pages) (left right : Area) → on (at - 1) ≡ Some left → on at ≡ Some right → do_join no_chains left right ≡ true → joined_at no_chains at on page ≡ with_area (join_of left right) on page
-joined_is at page on left right before after joins =
-    (λ i. after_join no_chains (before i) (after i) page (on page))
+joined_is : (len : Lengths) (at page : ℕ) (on : Pages) (left right : Area) → on (at - 1) ≡ Some left → on at ≡ Some right → do_join len left right ≡ true → joined_at len at on page ≡ with_area (join_of left right) on page
+joined_is len at page on left right before after joins =
+    (λ i. after_join len (before i) (after i) page (on page))
     ∙ ap (λ b. cond (b && has_page (join_of left right) page) (Some (join_of left right)) (on page)) joins
 
 other_number : (areas : ℕ → Option Area) (a b : ℕ) (x y : Area) → areas a ≡ Some x → areas b ≡ Some y → first_of x < first_of y → a ≢ b
@@ -36,12 +45,16 @@ other_number areas a b x y e f less same =
     let first : first_of x ≡ first_of y = ap first_of one in
     omega arith
 
-module _ (p l m r from past : ℕ) (lower inner upper : Area) (areas : ℕ → Option Area) (spans : List Span)
+-- areas without anon_vma join whatever the lengths of chains are
+pub plain_join : (areas : ℕ → Option Area) (f : Family) (left right : Area) → left.anon ≡ None → right.anon ≡ None → do_join no_chains left right ≡ true → do_join (length_by areas f) left right ≡ true
+plain_join areas f left right one other joins = (λ i. are_mergeable left (length_by areas f (one i)) right (length_by areas f (other i))) ∙ joins
+
+module _ (len : Lengths) (p l m r from past : ℕ) (lower inner upper : Area) (areas : ℕ → Option Area) (spans : List Span)
     (stands : AreAreasOf p areas spans)
     (left_at : area_at spans (from - 1) ≡ Some l) (here_at : area_at spans from ≡ Some m)
     (last_at : area_at spans (past - 1) ≡ Some m) (right_at : area_at spans past ≡ Some r)
     (lower_is : areas l ≡ Some lower) (inner_is : areas m ≡ Some inner) (upper_is : areas r ≡ Some upper)
-    (joins : do_join no_chains lower inner ≡ true) (joins' : do_join no_chains inner upper ≡ true) where
+    (bare : lower.anon ≡ None) (joins : do_join len lower inner ≡ true) (joins' : do_join len inner upper ≡ true) where
   on_left : IsFound p l (from - 1) areas spans lower
   on_left = found p l (from - 1) areas spans lower stands left_at lower_is
 
@@ -72,8 +85,8 @@ module _ (p l m r from past : ℕ) (lower inner upper : Area) (areas : ℕ → O
 
   bounds : Bounds
   bounds =
-      let j = join_is lower inner joins in
-      let k = join_is inner upper joins' in
+      let j = join_is len lower inner joins in
+      let k = join_is len inner upper joins' in
       let one : past_of lower ≡ first_of inner = ap (λ n. n / 4096) j.adjoin in
       let two : past_of inner ≡ first_of upper = ap (λ n. n / 4096) k.adjoin in
       let s = on_left.is.whole.some in
@@ -87,13 +100,13 @@ module _ (p l m r from past : ℕ) (lower inner upper : Area) (areas : ℕ → O
       record { low = omega arith; middle = omega arith; high = u; one = one; two = two; from_is = omega arith; past_is = omega arith }
 
   both_whole : IsWhole (join_of lower inner)
-  both_whole = merged_whole lower inner on_left.is.whole on_here.is.whole joins
+  both_whole = merged_whole len lower inner on_left.is.whole on_here.is.whole joins
 
-  all_joins : do_join no_chains (join_of lower inner) upper ≡ true
-  all_joins = join_runs_on lower inner upper on_left.is.whole on_here.is.whole joins ∙ joins'
+  all_joins : do_join len (join_of lower inner) upper ≡ true
+  all_joins = join_runs_on len lower inner upper bare on_left.is.whole on_here.is.whole joins ∙ joins'
 
   pub three_whole : IsWhole (join_of (join_of lower inner) upper)
-  three_whole = merged_whole (join_of lower inner) upper both_whole on_right.is.whole all_joins
+  three_whole = merged_whole len (join_of lower inner) upper both_whole on_right.is.whole all_joins
 
   l-m : l ≢ m
   l-m = other_number areas l m lower inner lower_is inner_is bounds.low
@@ -121,18 +134,18 @@ module _ (p l m r from past : ℕ) (lower inner upper : Area) (areas : ℕ → O
   on_upper page low high = at_span spans r on_right.span page stands.spans_are.apart on_right.span_is (subst (λ n. n ≤ page) (sym on_right.is.from) low) (subst (λ n. page < n) (sym on_right.is.to) high)
 
   -- the pages when both boundaries have been tried
-  three_pages : (page : ℕ) → joined_around no_chains from past (pages_by areas spans) page ≡ with_area (join_of (join_of lower inner) upper) (pages_by areas spans) page
+  three_pages : (page : ℕ) → joined_around len from past (pages_by areas spans) page ≡ with_area (join_of (join_of lower inner) upper) (pages_by areas spans) page
   three_pages page =
-      joined_is past page (joined_at no_chains from (pages_by areas spans)) (join_of lower inner) upper last_both first_upper all_joins
-      ∙ elim (has_page (join_of (join_of lower inner) upper) page) as (λ b. has_page (join_of (join_of lower inner) upper) page ≡ b → cond b (Some (join_of (join_of lower inner) upper)) (joined_at no_chains from (pages_by areas spans) page) ≡ cond b (Some (join_of (join_of lower inner) upper)) (pages_by areas spans page)) [
+      joined_is len past page (joined_at len from (pages_by areas spans)) (join_of lower inner) upper last_both first_upper all_joins
+      ∙ elim (has_page (join_of (join_of lower inner) upper) page) as (λ b. has_page (join_of (join_of lower inner) upper) page ≡ b → cond b (Some (join_of (join_of lower inner) upper)) (joined_at len from (pages_by areas spans) page) ≡ cond b (Some (join_of (join_of lower inner) upper)) (pages_by areas spans page)) [
         | true ↦ λ h. refl
         | false ↦ λ h. first page ∙ ap (λ b. cond b (Some (join_of lower inner)) (pages_by areas spans page)) (outside h)
       ] refl
     where
-      first : (q : ℕ) → joined_at no_chains from (pages_by areas spans) q ≡ with_area (join_of lower inner) (pages_by areas spans) q
-      first q = joined_is from q (pages_by areas spans) lower inner on_left.here on_here.here joins
+      first : (q : ℕ) → joined_at len from (pages_by areas spans) q ≡ with_area (join_of lower inner) (pages_by areas spans) q
+      first q = joined_is len from q (pages_by areas spans) lower inner on_left.here on_here.here joins
 
-      last_both : joined_at no_chains from (pages_by areas spans) (past - 1) ≡ Some (join_of lower inner)
+      last_both : joined_at len from (pages_by areas spans) (past - 1) ≡ Some (join_of lower inner)
       last_both =
           let b = bounds in
           let one = b.low in
@@ -141,7 +154,7 @@ module _ (p l m r from past : ℕ) (lower inner upper : Area) (areas : ℕ → O
           let wide = b.middle in
           first (past - 1) ∙ ap (λ b. cond b (Some (join_of lower inner)) (pages_by areas spans (past - 1))) (has_from (join_of lower inner) (past - 1) (omega arith) (omega arith))
 
-      first_upper : joined_at no_chains from (pages_by areas spans) past ≡ Some upper
+      first_upper : joined_at len from (pages_by areas spans) past ≡ Some upper
       first_upper =
           let b = bounds in
           let two = b.two in
@@ -214,6 +227,23 @@ module _ (p l m r from past : ℕ) (lower inner upper : Area) (areas : ℕ → O
             ]
           ]
 
+      lower_now : areas'' l ≡ Some lower
+      lower_now = now' l ∙ ap (λ b. cond b None (areas' l)) (ne_eqb l r l-r) ∙ now l ∙ ap (λ b. cond b None (areas l)) (ne_eqb l m l-m) ∙ lower_is
+
+      pub three_was : inner.anon ≡ None → upper.anon ≡ None → IsSomeAnd (areas'' l) (λ old. join_of (join_of lower inner) upper ≡ with_bounds lower.start upper.end lower.pgoff old)
+      three_was bare_inner bare_upper =
+          let own : option_or (option_or lower.anon inner.anon) upper.anon ≡ lower.anon = (λ i. option_or (option_or (bare i) (bare_inner i)) (bare_upper i)) ∙ sym bare in
+          let is : join_of (join_of lower inner) upper ≡ with_bounds lower.start upper.end lower.pgoff lower = λ i. record lower { end = upper.end; anon = own i } in
+          subst (λ o. IsSomeAnd o (λ old. join_of (join_of lower inner) upper ≡ with_bounds lower.start upper.end lower.pgoff old)) (sym lower_now) is
+
+      -- the areas that go have no anon_vma
+      pub three_kin : (f : Family) (s : ℕ → List interval.Span) → IsInOrder areas f s → inner.anon ≡ None → upper.anon ≡ None → KeepsKin areas areas'' f f s
+      three_kin f s o bare_inner bare_upper =
+          let first = keeps_bare areas areas' f s m o None (ap own_of inner_is ∙ bare_inner) refl (λ A e. absurd (none-some A e)) now in
+          let upper_there : areas' r ≡ Some upper = now r ∙ ap (λ b. cond b None (areas r)) (ne_eqb r m r-m) ∙ upper_is in
+          keeps_trans areas areas' areas'' f f f s s first
+          (keeps_bare areas' areas'' f s r first.order None (ap own_of upper_there ∙ bare_upper) refl (λ A e. absurd (none-some A e)) now')
+
       -- the pages of none of the three stay
       rest : (page : ℕ) → has_page (join_of (join_of lower inner) upper) page ≡ false → pages_by (with_at l None areas'') spans'' page ≡ pages_by areas spans page
       rest page out = ap (option_and_then (with_at l None areas'')) (at_now page) ∙ go (area_at spans page) refl
@@ -239,7 +269,7 @@ module _ (p l m r from past : ℕ) (lower inner upper : Area) (areas : ℕ → O
               let not_right : k ≢ r = λ same. no_page upper (omega arith) (omega arith) (ap (option_and_then areas) e ∙ ap areas same ∙ upper_is) in
               rw (ne_eqb k m not_middle, ne_eqb k r not_right, ne_eqb k l not_left) (now' k ∙ ap (λ b. cond b None (areas' k)) (ne_eqb k r not_right) ∙ now k ∙ ap (λ b. cond b None (areas k)) (ne_eqb k m not_middle))
 
-      pub three_are : (page : ℕ) → with_area (join_of (join_of lower inner) upper) (pages_by (with_at l None areas'') spans'') page ≡ joined_around no_chains from past (pages_by areas spans) page
+      pub three_are : (page : ℕ) → with_area (join_of (join_of lower inner) upper) (pages_by (with_at l None areas'') spans'') page ≡ joined_around len from past (pages_by areas spans) page
       three_are page =
           elim (has_page (join_of (join_of lower inner) upper) page) as (λ b. has_page (join_of (join_of lower inner) upper) page ≡ b → cond b (Some (join_of (join_of lower inner) upper)) (pages_by (with_at l None areas'') spans'' page) ≡ cond b (Some (join_of (join_of lower inner) upper)) (pages_by areas spans page)) [
             | true ↦ λ h. refl

@@ -5,5 +5,8 @@ pub mod Cuts
 pub mod CutsEmpty
 pub mod Joins
 pub mod JoinsThree
+pub mod Kin
+pub mod Lengths
+pub mod Linked
 pub mod Mappings
 pub mod Places

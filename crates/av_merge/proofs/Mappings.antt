@@ -9,7 +9,7 @@ use Rattle.av_base.specs.declared.prot.Prot.{Prot}
 use Rattle.av_vma.specs.Join.{first_of, past_of, index_of, same_prot, share_anon}
 use Rattle.av_base.specs.Words.{within}
 use Rattle.av_vmatree.specs.declared.span.Span.{Span}
-use Rattle.av_vma.specs.Pages.{AreLaid, Pages, has_page, part_of, cut_at, without_range, with_area, Effect, with_effect, with_effect_on, join_of, do_join, after_join, joined_at, joined_around, IsWhole, no_chains}
+use Rattle.av_vma.specs.Pages.{AreLaid, Pages, has_page, part_of, cut_at, without_range, with_area, Effect, with_effect, with_effect_on, join_of, do_join, after_join, joined_at, joined_around, IsWhole, Lengths}
 use Rattle.av_merge.specs.Mapping.{Mapping, mapping, mapping_in, mapping_with}
 use Rattle.av_merge.specs.Pages.{pages_by}
 use Rattle.av_merge.specs.Process.{AreAreasOf}
@@ -35,7 +35,7 @@ part_maps at page area whole low =
       | false ↦ λ e.
           let high : at ≤ page = ltb-false page at e in
           let same = index_runs_on area.start (first_of area) at page area.pgoff whole.start low high in
-          λ i. record { prot = area.prot; flags = area.flags; index = same i; anon = area.anon }
+          λ i. record { prot = area.prot; flags = area.flags; index = same i }
     ] refl
 
 -- a cut keeps how each page is mapped
@@ -120,9 +120,8 @@ pub record IsJoin (left right : Area) : Type 0 where
   pub prot : left.prot ≡ right.prot
   pub flags : left.flags ≡ right.flags
   pub index : index_of left (past_of left) ≡ right.pgoff
-  pub anon : left.anon ≡ right.anon
-  pub one_anon : option_or left.anon right.anon ≡ left.anon
 
+-- of one of two own anon_vmas that are the same
 pub either_same : (a b : Option ℕ) → a ≡ b → option_or a b ≡ a
 either_same None b e = sym e
 either_same (Some n) b e = refl
@@ -142,159 +141,154 @@ prot_is p q e =
     let x = same_bit p.execute q.execute both.1 in
     λ i. record { read = r i; write = w i; execute = x i }
 
-anon_is : (a b : Option ℕ) → share_anon a 0 b 0 ≡ true → a ≡ b
-anon_is None None e = refl
-anon_is None (Some b) e = absurd (false≢true e)
-anon_is (Some a) None e = absurd (false≢true e)
-anon_is (Some a) (Some b) e = ap Some (eqb-true a b e)
+-- ---- a boundary that is tried, by lengths of chains
 
-pub join_is : (left right : Area) → do_join no_chains left right ≡ true → IsJoin left right
-join_is left right e =
-    let p4 = and_parts (left.end == right.start && same_prot left.prot right.prot && (left.flags == right.flags) && (index_of left (past_of left) == right.pgoff)) (share_anon left.anon 0 right.anon 0) e in
-    let p3 = and_parts (left.end == right.start && same_prot left.prot right.prot && (left.flags == right.flags)) (index_of left (past_of left) == right.pgoff) p4.0 in
-    let p2 = and_parts (left.end == right.start && same_prot left.prot right.prot) (left.flags == right.flags) p3.0 in
-    let p1 = and_parts (left.end == right.start) (same_prot left.prot right.prot) p2.0 in
-    record {
-      adjoin = eqb-true left.end right.start p1.0;
-      prot = prot_is left.prot right.prot p1.1;
-      flags = eqb-true left.flags right.flags p2.1;
-      index = eqb-true (index_of left (past_of left)) right.pgoff p3.1;
-      anon = anon_is left.anon right.anon p4.1;
-      one_anon = either_same left.anon right.anon (anon_is left.anon right.anon p4.1);
-    }
+module _ (len : Lengths) where
+  pub join_is : (left right : Area) → do_join len left right ≡ true → IsJoin left right
+  join_is left right e =
+      let p4 = and_parts (left.end == right.start && same_prot left.prot right.prot && (left.flags == right.flags) && (index_of left (past_of left) == right.pgoff)) (share_anon left.anon (len left.anon) right.anon (len right.anon)) e in
+      let p3 = and_parts (left.end == right.start && same_prot left.prot right.prot && (left.flags == right.flags)) (index_of left (past_of left) == right.pgoff) p4.0 in
+      let p2 = and_parts (left.end == right.start && same_prot left.prot right.prot) (left.flags == right.flags) p3.0 in
+      let p1 = and_parts (left.end == right.start) (same_prot left.prot right.prot) p2.0 in
+      record {
+        adjoin = eqb-true left.end right.start p1.0;
+        prot = prot_is left.prot right.prot p1.1;
+        flags = eqb-true left.flags right.flags p2.1;
+        index = eqb-true (index_of left (past_of left)) right.pgoff p3.1;
+      }
 
-pub merged_whole : (left right : Area) → IsWhole left → IsWhole right → do_join no_chains left right ≡ true → IsWhole (join_of left right)
-merged_whole left right l r e =
-    let j = join_is left right e in
-    record { start = l.start; end = r.end; some = omega arith; low = l.low; high = r.high; small = omega arith }
+  pub merged_whole : (left right : Area) → IsWhole left → IsWhole right → do_join len left right ≡ true → IsWhole (join_of left right)
+  merged_whole left right l r e =
+      let j = join_is left right e in
+      record { start = l.start; end = r.end; some = omega arith; low = l.low; high = r.high; small = omega arith }
 
--- a page of the two as one is a page of one of them
-pub merged_pages : (left right : Area) → IsWhole left → IsWhole right → do_join no_chains left right ≡ true → (page : ℕ) → has_page (join_of left right) page ≡ true → (has_page left page ≡ true) ⊎ (has_page right page ≡ true)
-merged_pages left right l r e page h =
-    let j = join_is left right e in
-    let parts = has_parts (join_of left right) page h in
-    let low : first_of left ≤ page = parts.0 in
-    let high : page < past_of right = parts.1 in
-    elim (cases_lt page (past_of left)) [
-      | inl below ↦ inl (has_from left page low below)
-      | inr above ↦ inr (has_from right page (omega arith) high)
-    ]
-
-pub left_pages : (left right : Area) → IsWhole left → IsWhole right → do_join no_chains left right ≡ true → (page : ℕ) → has_page left page ≡ true → has_page (join_of left right) page ≡ true
-left_pages left right l r e page h =
-    let j = join_is left right e in
-    let parts = has_parts left page h in
-    let low : first_of left ≤ page = parts.0 in
-    let high : page < past_of left = parts.1 in
-    has_from (join_of left right) page low (omega arith)
-
-pub right_pages : (left right : Area) → IsWhole left → IsWhole right → do_join no_chains left right ≡ true → (page : ℕ) → has_page right page ≡ true → has_page (join_of left right) page ≡ true
-right_pages left right l r e page h =
-    let j = join_is left right e in
-    let parts = has_parts right page h in
-    let low : first_of right ≤ page = parts.0 in
-    let high : page < past_of right = parts.1 in
-    has_from (join_of left right) page (omega arith) high
-
-left_maps : (left right : Area) → do_join no_chains left right ≡ true → (page : ℕ) → mapping_in page (join_of left right) ≡ mapping_in page left
-left_maps left right e page = λ i. record { prot = left.prot; flags = left.flags; index = index_of left page; anon = (join_is left right e).one_anon i }
-
-right_maps : (left right : Area) → IsWhole left → IsWhole right → do_join no_chains left right ≡ true → (page : ℕ) → has_page right page ≡ true → mapping_in page (join_of left right) ≡ mapping_in page right
-right_maps left right l r e page h =
-    let j = join_is left right e in
-    let low : first_of right ≤ page = (has_parts right page h).0 in
-    let same : (page - left.start / 4096) + left.pgoff ≡ (page - right.start / 4096) + right.pgoff = omega arith in
-    λ i. record { prot = j.prot i; flags = j.flags i; index = same i; anon = (j.one_anon ∙ j.anon) i }
-
--- what a boundary that is tried leaves on a page: what was there, or the two areas as one
-pub record IsTried (at page : ℕ) (on : Pages) : Type 0 where
-  pub left : Area
-  pub right : Area
-  pub before : on (at - 1) ≡ Some left
-  pub after : on at ≡ Some right
-  pub joins : do_join no_chains left right ≡ true
-  pub here : has_page (join_of left right) page ≡ true
-  pub is : joined_at no_chains at on page ≡ Some (join_of left right)
-
--- what a boundary that is tried leaves as it was
-pub record IsLeft (at page : ℕ) (on : Pages) : Type 0 where
-  pub is : joined_at no_chains at on page ≡ on page
-  pub apart : (left right : Area) → on (at - 1) ≡ Some left → on at ≡ Some right → do_join no_chains left right ≡ true → has_page (join_of left right) page ≡ false
-
-pub tried_is : (at page : ℕ) (on : Pages) → IsTried at page on ⊎ IsLeft at page on
-tried_is at page on = go (on (at - 1)) (on at) refl refl
-  where
-    go : (a b : Option Area) → on (at - 1) ≡ a → on at ≡ b → IsTried at page on ⊎ IsLeft at page on
-    go None b e f = inr (record { is = λ i. after_join no_chains (e i) (f i) page (on page); apart = λ left right g h j. absurd (none-some left (sym e ∙ g)) })
-    go (Some left) None e f = inr (record { is = λ i. after_join no_chains (e i) (f i) page (on page); apart = λ left' right' g h j. absurd (none-some right' (sym f ∙ h)) })
-    go (Some left) (Some right) e f =
-        let now : joined_at no_chains at on page ≡ after_join no_chains (Some left) (Some right) page (on page) = λ i. after_join no_chains (e i) (f i) page (on page) in
-        elim (cases_Bool (do_join no_chains left right && has_page (join_of left right) page)) [
-          | inl met ↦
-              let both = and_parts (do_join no_chains left right) (has_page (join_of left right) page) met in
-              inl (record { left = left; right = right; before = e; after = f; joins = both.0; here = both.1; is = now ∙ cond-true (do_join no_chains left right && has_page (join_of left right) page) (Some (join_of left right)) (on page) met })
-          | inr unmet ↦ inr (record {
-            is = now ∙ cond-false (do_join no_chains left right && has_page (join_of left right) page) (Some (join_of left right)) (on page) unmet;
-            apart = λ left' right' g h j.
-                let l : left' ≡ left = same_Some left' left (sym g ∙ e) in
-                let r : right' ≡ right = same_Some right' right (sym h ∙ f) in
-                let joins : do_join no_chains left right ≡ true = sym (λ i. do_join no_chains (l i) (r i)) ∙ j in
-                false_from_ne_true (has_page (join_of left' right') page) (λ there. both_ways (do_join no_chains left right && has_page (join_of left right) page) unmet (and_from (do_join no_chains left right) (has_page (join_of left right) page) joins (sym (λ i. has_page (join_of (l i) (r i)) page) ∙ there)));
-          })
-        ]
-
--- a join keeps how each page is mapped
-pub joined_maps : (at : ℕ) (on : Pages) → AreLaid on → (page : ℕ) → mapping (joined_at no_chains at on) page ≡ mapping on page
-joined_maps at on laid page = elim (tried_is at page on) [
-  | inr k ↦ ap (option_map (mapping_in page)) k.is
-  | inl t ↦
-      let l = laid.whole (at - 1) t.left t.before in
-      let r = laid.whole at t.right t.after in
-      elim (merged_pages t.left t.right l r t.joins page t.here) [
-        | inl h ↦ ap (option_map (mapping_in page)) t.is ∙ ap Some (left_maps t.left t.right t.joins page) ∙ sym (ap (option_map (mapping_in page)) (laid.all (at - 1) page t.left t.before h))
-        | inr h ↦ ap (option_map (mapping_in page)) t.is ∙ ap Some (right_maps t.left t.right l r t.joins page h) ∙ sym (ap (option_map (mapping_in page)) (laid.all at page t.right t.after h))
+  -- a page of the two as one is a page of one of them
+  pub merged_pages : (left right : Area) → IsWhole left → IsWhole right → do_join len left right ≡ true → (page : ℕ) → has_page (join_of left right) page ≡ true → (has_page left page ≡ true) ⊎ (has_page right page ≡ true)
+  merged_pages left right l r e page h =
+      let j = join_is left right e in
+      let parts = has_parts (join_of left right) page h in
+      let low : first_of left ≤ page = parts.0 in
+      let high : page < past_of right = parts.1 in
+      elim (cases_lt page (past_of left)) [
+        | inl below ↦ inl (has_from left page low below)
+        | inr above ↦ inr (has_from right page (omega arith) high)
       ]
-]
 
-pub laid_joined : (at : ℕ) (on : Pages) → AreLaid on → AreLaid (joined_at no_chains at on)
-laid_joined at on laid = record {
-  whole = λ page area e. elim (tried_is at page on) [
-    | inr k ↦ laid.whole page area (sym k.is ∙ e)
-    | inl t ↦ subst IsWhole (same_Some (join_of t.left t.right) area (sym t.is ∙ e)) (merged_whole t.left t.right (laid.whole (at - 1) t.left t.before) (laid.whole at t.right t.after) t.joins)
-  ];
-  here = λ page area e. elim (tried_is at page on) [
-    | inr k ↦ laid.here page area (sym k.is ∙ e)
-    | inl t ↦ subst (λ (a : Area). has_page a page ≡ true) (same_Some (join_of t.left t.right) area (sym t.is ∙ e)) t.here
-  ];
-  all = λ page other area e h. elim (tried_is at page on) [
+  pub left_pages : (left right : Area) → IsWhole left → IsWhole right → do_join len left right ≡ true → (page : ℕ) → has_page left page ≡ true → has_page (join_of left right) page ≡ true
+  left_pages left right l r e page h =
+      let j = join_is left right e in
+      let parts = has_parts left page h in
+      let low : first_of left ≤ page = parts.0 in
+      let high : page < past_of left = parts.1 in
+      has_from (join_of left right) page low (omega arith)
+
+  pub right_pages : (left right : Area) → IsWhole left → IsWhole right → do_join len left right ≡ true → (page : ℕ) → has_page right page ≡ true → has_page (join_of left right) page ≡ true
+  right_pages left right l r e page h =
+      let j = join_is left right e in
+      let parts = has_parts right page h in
+      let low : first_of right ≤ page = parts.0 in
+      let high : page < past_of right = parts.1 in
+      has_from (join_of left right) page (omega arith) high
+
+  left_maps : (left right : Area) → do_join len left right ≡ true → (page : ℕ) → mapping_in page (join_of left right) ≡ mapping_in page left
+  left_maps left right e page = refl
+
+  right_maps : (left right : Area) → IsWhole left → IsWhole right → do_join len left right ≡ true → (page : ℕ) → has_page right page ≡ true → mapping_in page (join_of left right) ≡ mapping_in page right
+  right_maps left right l r e page h =
+      let j = join_is left right e in
+      let low : first_of right ≤ page = (has_parts right page h).0 in
+      let same : (page - left.start / 4096) + left.pgoff ≡ (page - right.start / 4096) + right.pgoff = omega arith in
+      λ i. record { prot = j.prot i; flags = j.flags i; index = same i }
+
+  -- what a boundary that is tried leaves on a page: what was there, or the two areas as one
+  pub record IsTried (at page : ℕ) (on : Pages) : Type 0 where
+    pub left : Area
+    pub right : Area
+    pub before : on (at - 1) ≡ Some left
+    pub after : on at ≡ Some right
+    pub joins : do_join len left right ≡ true
+    pub here : has_page (join_of left right) page ≡ true
+    pub is : joined_at len at on page ≡ Some (join_of left right)
+
+  -- what a boundary that is tried leaves as it was
+  pub record IsLeft (at page : ℕ) (on : Pages) : Type 0 where
+    pub is : joined_at len at on page ≡ on page
+    pub apart : (left right : Area) → on (at - 1) ≡ Some left → on at ≡ Some right → do_join len left right ≡ true → has_page (join_of left right) page ≡ false
+
+  pub tried_is : (at page : ℕ) (on : Pages) → IsTried at page on ⊎ IsLeft at page on
+  tried_is at page on = go (on (at - 1)) (on at) refl refl
+    where
+      go : (a b : Option Area) → on (at - 1) ≡ a → on at ≡ b → IsTried at page on ⊎ IsLeft at page on
+      go None b e f = inr (record { is = λ i. after_join len (e i) (f i) page (on page); apart = λ left right g h j. absurd (none-some left (sym e ∙ g)) })
+      go (Some left) None e f = inr (record { is = λ i. after_join len (e i) (f i) page (on page); apart = λ left' right' g h j. absurd (none-some right' (sym f ∙ h)) })
+      go (Some left) (Some right) e f =
+          let now : joined_at len at on page ≡ after_join len (Some left) (Some right) page (on page) = λ i. after_join len (e i) (f i) page (on page) in
+          elim (cases_Bool (do_join len left right && has_page (join_of left right) page)) [
+            | inl met ↦
+                let both = and_parts (do_join len left right) (has_page (join_of left right) page) met in
+                inl (record { left = left; right = right; before = e; after = f; joins = both.0; here = both.1; is = now ∙ cond-true (do_join len left right && has_page (join_of left right) page) (Some (join_of left right)) (on page) met })
+            | inr unmet ↦ inr (record {
+              is = now ∙ cond-false (do_join len left right && has_page (join_of left right) page) (Some (join_of left right)) (on page) unmet;
+              apart = λ left' right' g h j.
+                  let l : left' ≡ left = same_Some left' left (sym g ∙ e) in
+                  let r : right' ≡ right = same_Some right' right (sym h ∙ f) in
+                  let joins : do_join len left right ≡ true = sym (λ i. do_join len (l i) (r i)) ∙ j in
+                  false_from_ne_true (has_page (join_of left' right') page) (λ there. both_ways (do_join len left right && has_page (join_of left right) page) unmet (and_from (do_join len left right) (has_page (join_of left right) page) joins (sym (λ i. has_page (join_of (l i) (r i)) page) ∙ there)));
+            })
+          ]
+
+  -- a join keeps how each page is mapped
+  pub joined_maps : (at : ℕ) (on : Pages) → AreLaid on → (page : ℕ) → mapping (joined_at len at on) page ≡ mapping on page
+  joined_maps at on laid page = elim (tried_is at page on) [
+    | inr k ↦ ap (option_map (mapping_in page)) k.is
     | inl t ↦
-        let same : join_of t.left t.right ≡ area = same_Some (join_of t.left t.right) area (sym t.is ∙ e) in
-        let there : has_page (join_of t.left t.right) other ≡ true = subst (λ (a : Area). has_page a other ≡ true) (sym same) h in
-        elim (tried_is at other on) [
-          | inr k ↦ absurd (both_ways (has_page (join_of t.left t.right) other) (k.apart t.left t.right t.before t.after t.joins) there)
-          | inl u ↦
-              let l : u.left ≡ t.left = same_Some u.left t.left (sym u.before ∙ t.before) in
-              let r : u.right ≡ t.right = same_Some u.right t.right (sym u.after ∙ t.after) in
-              u.is ∙ (λ i. Some (join_of (l i) (r i))) ∙ ap Some same
+        let l = laid.whole (at - 1) t.left t.before in
+        let r = laid.whole at t.right t.after in
+        elim (merged_pages t.left t.right l r t.joins page t.here) [
+          | inl h ↦ ap (option_map (mapping_in page)) t.is ∙ ap Some (left_maps t.left t.right t.joins page) ∙ sym (ap (option_map (mapping_in page)) (laid.all (at - 1) page t.left t.before h))
+          | inr h ↦ ap (option_map (mapping_in page)) t.is ∙ ap Some (right_maps t.left t.right l r t.joins page h) ∙ sym (ap (option_map (mapping_in page)) (laid.all at page t.right t.after h))
         ]
-    | inr k ↦
-        let now : on page ≡ Some area = sym k.is ∙ e in
-        let there : on other ≡ Some area = laid.all page other area now h in
-        elim (tried_is at other on) [
-          | inr m ↦ m.is ∙ there
-          | inl u ↦
-              let l = laid.whole (at - 1) u.left u.before in
-              let r = laid.whole at u.right u.after in
-              absurd (both_ways (has_page (join_of u.left u.right) page) (k.apart u.left u.right u.before u.after u.joins) (elim (merged_pages u.left u.right l r u.joins other u.here) [
-                | inl g ↦ left_pages u.left u.right l r u.joins page (subst (λ (a : Area). has_page a page ≡ true) (same_Some area u.left (sym there ∙ laid.all (at - 1) other u.left u.before g)) (laid.here page area now))
-                | inr g ↦ right_pages u.left u.right l r u.joins page (subst (λ (a : Area). has_page a page ≡ true) (same_Some area u.right (sym there ∙ laid.all at other u.right u.after g)) (laid.here page area now))
-              ]))
-        ]
-  ];
-}
+  ]
 
-pub around_maps : (from past : ℕ) (on : Pages) → AreLaid on → (page : ℕ) → mapping (joined_around no_chains from past on) page ≡ mapping on page
-around_maps from past on laid page = joined_maps past (joined_at no_chains from on) (laid_joined from on laid) page ∙ joined_maps from on laid page
+  pub laid_joined : (at : ℕ) (on : Pages) → AreLaid on → AreLaid (joined_at len at on)
+  laid_joined at on laid = record {
+    whole = λ page area e. elim (tried_is at page on) [
+      | inr k ↦ laid.whole page area (sym k.is ∙ e)
+      | inl t ↦ subst IsWhole (same_Some (join_of t.left t.right) area (sym t.is ∙ e)) (merged_whole t.left t.right (laid.whole (at - 1) t.left t.before) (laid.whole at t.right t.after) t.joins)
+    ];
+    here = λ page area e. elim (tried_is at page on) [
+      | inr k ↦ laid.here page area (sym k.is ∙ e)
+      | inl t ↦ subst (λ (a : Area). has_page a page ≡ true) (same_Some (join_of t.left t.right) area (sym t.is ∙ e)) t.here
+    ];
+    all = λ page other area e h. elim (tried_is at page on) [
+      | inl t ↦
+          let same : join_of t.left t.right ≡ area = same_Some (join_of t.left t.right) area (sym t.is ∙ e) in
+          let there : has_page (join_of t.left t.right) other ≡ true = subst (λ (a : Area). has_page a other ≡ true) (sym same) h in
+          elim (tried_is at other on) [
+            | inr k ↦ absurd (both_ways (has_page (join_of t.left t.right) other) (k.apart t.left t.right t.before t.after t.joins) there)
+            | inl u ↦
+                let l : u.left ≡ t.left = same_Some u.left t.left (sym u.before ∙ t.before) in
+                let r : u.right ≡ t.right = same_Some u.right t.right (sym u.after ∙ t.after) in
+                u.is ∙ (λ i. Some (join_of (l i) (r i))) ∙ ap Some same
+          ]
+      | inr k ↦
+          let now : on page ≡ Some area = sym k.is ∙ e in
+          let there : on other ≡ Some area = laid.all page other area now h in
+          elim (tried_is at other on) [
+            | inr m ↦ m.is ∙ there
+            | inl u ↦
+                let l = laid.whole (at - 1) u.left u.before in
+                let r = laid.whole at u.right u.after in
+                absurd (both_ways (has_page (join_of u.left u.right) page) (k.apart u.left u.right u.before u.after u.joins) (elim (merged_pages u.left u.right l r u.joins other u.here) [
+                  | inl g ↦ left_pages u.left u.right l r u.joins page (subst (λ (a : Area). has_page a page ≡ true) (same_Some area u.left (sym there ∙ laid.all (at - 1) other u.left u.before g)) (laid.here page area now))
+                  | inr g ↦ right_pages u.left u.right l r u.joins page (subst (λ (a : Area). has_page a page ≡ true) (same_Some area u.right (sym there ∙ laid.all at other u.right u.after g)) (laid.here page area now))
+                ]))
+          ]
+    ];
+  }
+
+  pub around_maps : (from past : ℕ) (on : Pages) → AreLaid on → (page : ℕ) → mapping (joined_around len from past on) page ≡ mapping on page
+  around_maps from past on laid page = joined_maps past (joined_at len from on) (laid_joined from on laid) page ∙ joined_maps from on laid page
 
 -- ---- pages that go, come and get another protection
 
@@ -321,10 +315,10 @@ cut_out_maps from to on laid page =
     ∙ ap (cond (within from (to - from) page) None) (cut_maps to (cut_at from on) (laid_cut from on laid) page ∙ cut_maps from on laid page)
 
 -- a part of an area gets a protection, and is joined with its neighbours
-pub part_maps_to : (from past : ℕ) (effect : Effect) (on now new : Pages) → AreLaid on → AreLaid now → ((page : ℕ) → now page ≡ with_effect_on from past effect (cut_at past (cut_at from on)) page) → ((page : ℕ) → new page ≡ joined_around no_chains from past now page) → (page : ℕ) → mapping new page ≡ cond (within from (past - from) page) (option_map (mapping_with effect) (mapping on page)) (mapping on page)
-part_maps_to from past effect on now new laid laid_after change joins page =
+pub part_maps_to : (len : Lengths) (from past : ℕ) (effect : Effect) (on now new : Pages) → AreLaid on → AreLaid now → ((page : ℕ) → now page ≡ with_effect_on from past effect (cut_at past (cut_at from on)) page) → ((page : ℕ) → new page ≡ joined_around len from past now page) → (page : ℕ) → mapping new page ≡ cond (within from (past - from) page) (option_map (mapping_with effect) (mapping on page)) (mapping on page)
+part_maps_to len from past effect on now new laid laid_after change joins page =
     ap (option_map (mapping_in page)) (joins page)
-    ∙ around_maps from past now laid_after page
+    ∙ around_maps len from past now laid_after page
     ∙ ap (option_map (mapping_in page)) (change page)
     ∙ changed_maps from past effect (cut_at past (cut_at from on)) page
     ∙ ap (λ (m : Option Mapping). cond (within from (past - from) page) (option_map (mapping_with effect) m) m) (cut_maps past (cut_at from on) (laid_cut from on laid) page ∙ cut_maps from on laid page)

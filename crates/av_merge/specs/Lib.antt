@@ -1,4 +1,5 @@
 pub mod Change
+pub mod Kin
 pub mod Mapping
 pub mod Pages
 pub mod Process

@@ -1,17 +1,17 @@
 -- How a page is mapped: what its area says of it, whatever the area's bounds are.
-use Rattle.std.specs.Prelude.{◌≡◌, ℕ, ◌-◌, if◌then◌else◌, Option, option_map, IfSome}
+use Rattle.std.specs.Prelude.{◌≡◌, ℕ, ◌-◌, true, if◌then◌else◌, Option, None, option_map, IfSome}
 use Rattle.av_base.specs.declared.prot.Prot.{Prot}
 use Rattle.av_vma.specs.declared.area.Area.{Area}
 use Rattle.av_base.specs.Words.{within}
 use Rattle.av_vma.specs.Join.{index_of}
-use Rattle.av_vma.specs.Pages.{Pages, Effect}
+use Rattle.av_vma.specs.Pages.{Pages, Effect, do_join, no_chains}
 
--- the protection, flags and own anon_vma of a page's area, and the page's linear index
+-- the protection and flags of a page's area, and the page's linear index; not its own anon_vma,
+-- which a page may get by a join
 pub record Mapping : Type 0 where
   pub prot : Prot
   pub flags : ℕ
   pub index : ℕ
-  pub anon : Option ℕ
 
 -- how an area maps one of its pages
 abbrev pub mapping_in : ℕ → Area → Mapping
@@ -19,7 +19,6 @@ mapping_in page area = record {
   prot = area.prot;
   flags = area.flags;
   index = index_of area page;
-  anon = area.anon;
 }
 
 -- how a page is mapped, if it is
@@ -40,3 +39,11 @@ IsRemapped from past effect old new = (page : ℕ) → mapping new page
 abbrev pub DoDiffer : ℕ → Pages → Type 0
 DoDiffer at on = IfSome (mapping on (at - 1)) (λ m. IfSome (mapping on at)
     (λ n. m.prot ≡ n.prot → m.flags ≡ n.flags → ⊥))
+
+-- three areas without anon_vma become one
+pub record ArePlainlyOne (lower inner upper : Area) : Type 0 where
+  pub bare_lower : lower.anon ≡ None
+  pub bare_inner : inner.anon ≡ None
+  pub bare_upper : upper.anon ≡ None
+  pub first : do_join no_chains lower inner ≡ true
+  pub second : do_join no_chains inner upper ≡ true

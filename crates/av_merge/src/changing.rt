@@ -10,12 +10,14 @@ ghost use Rattle.av_vmatree.specs.Spans.{IsFree, area_at, is_page_taken};
 ghost use Rattle.av_merge.specs.Change.{effect_of};
 ghost use Rattle.av_merge.specs.Mapping.{IsRemapped};
 ghost use Rattle.av_merge.specs.Pages.{IsReached, pages_by};
-ghost use Rattle.av_vma.specs.Pages.{alters, fresh_area, joined_around, pages_changed, part_changed, with_area, with_effect, after_map, no_chains};
+ghost use Rattle.av_vma.specs.Pages.{alters, fresh_area, joined_around, pages_changed, part_changed, with_area, with_effect, after_map};
+ghost use Rattle.av_merge.specs.Kin.{AreInOrder, StayKin, lengths};
 ghost use Rattle.av_merge.specs.Process.{AreAreasOf, Stays, AreOfOne, StayOfOne, Becomes};
 
 use crate::cutting::cut_out;
 use crate::joining::{join_at, join_part};
 use crate::placing::add;
+use av_anon::Anons;
 use av_base::{PAGE_SIZE, Prot};
 use av_vma::{Area, AreaId, Areas};
 use av_vmatree::Tree;
@@ -26,19 +28,23 @@ use std::alloc::AllocError;
 pub fn map(
     areas: &mut Areas,
     tree: &mut Tree,
+    anons: &mut Anons,
     process: u16,
     from: u64,
     to: u64,
     prot: Prot,
 ) -> Result<(), AllocError>
+    requires order { AreInOrder areas.old anons.old }
     requires stands { AreAreasOf process (area_of areas.old) tree.old }
     requires some { from < to }
     requires low { low_page ≤ from }
     requires high { to ≤ top_page }
     requires free { IsFree (is_page_taken tree.old) from to }
     ensures stands { Stays process (area_of areas.old) (area_of areas.new) tree.new }
+    ensures kin { OnOk result (StayKin areas.old anons.old areas.new anons.new) }
     ensures pages { OnOk result
-        (Becomes areas.old tree.old areas.new tree.new (after_map no_chains process from to prot)) }
+        (Becomes areas.old tree.old areas.new tree.new
+        (after_map (lengths areas.old anons.old) process from to prot)) }
 {
     let area = Area {
         pid: process,
@@ -50,8 +56,8 @@ pub fn map(
         anon: None,
     };
     add(areas, tree, area)?;
-    join_at(areas, tree, from)?;
-    join_at(areas, tree, to)
+    join_at(areas, tree, anons, from)?;
+    join_at(areas, tree, anons, to)
 }
 
 /// What is said of an area's pages that can be changed.
@@ -88,16 +94,19 @@ impl Change {
 pub fn modify(
     areas: &mut Areas,
     tree: &mut Tree,
+    anons: &mut Anons,
     from: u64,
     to: u64,
     change: Change,
 ) -> Result<u64, AllocError>
+    requires order { AreInOrder areas.old anons.old }
     requires stands { AreOfOne areas.old tree.old }
     requires forward { from ≤ to }
     ensures stands { StayOfOne areas.old tree.old areas.new tree.new }
+    ensures kin { OnOk result (StayKin areas.old anons.old areas.new anons.new) }
     ensures reached { IfOk result (λ past. IsReached (is_page_taken tree.old) from to past) }
     ensures pages { IfOk result (λ past. Becomes areas.old tree.old areas.new tree.new
-        (pages_changed no_chains (effect_of change) from (past - from))) }
+        (pages_changed (lengths areas.old anons.old) (effect_of change) from (past - from))) }
     ensures mapping { IfOk result (λ past. IsRemapped from past (effect_of change)
         (pages_by (area_of areas.old) tree.old) (pages_by (area_of areas.new) tree.new)) }
 {
@@ -109,7 +118,7 @@ pub fn modify(
         let area = areas.get(number);
         let past = to.min(area.end / PAGE_SIZE);
         if change.alters(&area) {
-            modify_part(areas, tree, number, page, past, change)?;
+            modify_part(areas, tree, anons, number, page, past, change)?;
         }
         page = past;
     }
@@ -123,11 +132,13 @@ pub fn modify(
 fn modify_part(
     areas: &mut Areas,
     tree: &mut Tree,
+    anons: &mut Anons,
     area: AreaId,
     from: u64,
     past: u64,
     change: Change,
 ) -> Result<(), AllocError>
+    requires order { AreInOrder areas.old anons.old }
     requires stands { AreOfOne areas.old tree.old }
     requires some { from < past }
     requires there { area_at tree.old from ≡ Some area }
@@ -136,17 +147,18 @@ fn modify_part(
     requires altered { IsSomeAnd (pages_by (area_of areas.old) tree.old from)
         (λ area. alters (effect_of change) area ≡ true) }
     ensures stands { StayOfOne areas.old tree.old areas.new tree.new }
+    ensures kin { OnOk result (StayKin areas.old anons.old areas.new anons.new) }
     ensures pages { OnOk result
         (Becomes areas.old tree.old areas.new tree.new
-        (part_changed no_chains from past (effect_of change))) }
+        (part_changed (lengths areas.old anons.old) from past (effect_of change))) }
     ensures mapping { OnOk result (IsRemapped from past (effect_of change)
         (pages_by (area_of areas.old) tree.old) (pages_by (area_of areas.new) tree.new)) }
 {
     let whole = areas.get(area);
-    let number = cut_out(areas, tree, area, from, past)?;
+    let number = cut_out(areas, tree, anons, area, from, past)?;
     let part = areas.get(number);
     areas.change(number, change.apply(part));
     let is_cut_below = whole.start / PAGE_SIZE < from;
     let is_cut_above = past < whole.end / PAGE_SIZE;
-    join_part(areas, tree, from, past, is_cut_below, is_cut_above)
+    join_part(areas, tree, anons, from, past, is_cut_below, is_cut_above)
 }

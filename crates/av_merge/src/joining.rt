@@ -1,47 +1,79 @@
 //! Joining: two areas become one where the second goes on in the way of the first.
 
-ghost use Rattle.std.specs.Prelude.{◌≡◌, ℕ, ◌-◌, ◌<◌, ◌≤◌, Some, IsSome, IfSome, OnOk, true};
+ghost use Rattle.std.specs.Prelude.{◌≡◌, ℕ, ◌-◌, ◌^◌, ◌<◌, ◌≤◌, Some, None, IsSome, IfSome, OnOk, true};
+ghost use Rattle.av_vma.specs.Join.{first_of, index_of, past_of};
 ghost use Rattle.av_vma.specs.Areas.{area_of};
 ghost use Rattle.av_vmatree.specs.Spans.{area_at, span_of};
-ghost use Rattle.av_vma.specs.Pages.{joined_around, joined_at, join_of, no_chains};
-ghost use Rattle.av_merge.specs.Mapping.{DoDiffer};
+ghost use Rattle.av_vma.specs.Pages.{joined_around, joined_at, do_join, join_of, no_chains};
+ghost use Rattle.av_merge.specs.Mapping.{ArePlainlyOne, DoDiffer};
 ghost use Rattle.av_merge.specs.Pages.{pages_by};
+ghost use Rattle.av_merge.specs.Kin.{AreInOrder, StayKin, lengths};
 ghost use Rattle.av_merge.specs.Process.{AreAreasOf, Stays, AreOfOne, StayOfOne, Becomes};
 
+use crate::linking::{chain_len, share, take};
 use crate::placing::replace;
+use av_anon::Anons;
 use av_base::PAGE_SIZE;
 use av_vma::{Area, AreaId, Areas, mergeable};
 use av_vmatree::Tree;
 use std::alloc::AllocError;
 
 /// Joins an area with the one before, then with the one after, each where the two are mergeable.
-pub fn join_around(areas: &mut Areas, tree: &mut Tree, area: AreaId) -> Result<(), AllocError>
+pub fn join_around(
+    areas: &mut Areas,
+    tree: &mut Tree,
+    anons: &mut Anons,
+    area: AreaId,
+) -> Result<(), AllocError>
+    requires order { AreInOrder areas.old anons.old }
     requires stands { AreOfOne areas.old tree.old }
     requires there { IsSome (span_of tree.old area) }
     ensures stands { StayOfOne areas.old tree.old areas.new tree.new }
+    ensures kin { OnOk result (StayKin areas.old anons.old areas.new anons.new) }
     ensures pages { OnOk result (IfSome (span_of tree.old area)
-        (λ s. Becomes areas.old tree.old areas.new tree.new (joined_around no_chains s.from s.to))) }
+        (λ s. Becomes areas.old tree.old areas.new tree.new
+        (joined_around (lengths areas.old anons.old) s.from s.to))) }
 {
     let Area { start, end, .. } = areas.get(area);
-    join_ends(areas, tree, start / PAGE_SIZE, end / PAGE_SIZE)
+    join_ends(areas, tree, anons, start / PAGE_SIZE, end / PAGE_SIZE)
 }
 
 /// Tries the boundaries before the pages `from` and `past`, between which one area lies.
-fn join_ends(areas: &mut Areas, tree: &mut Tree, from: u64, past: u64) -> Result<(), AllocError>
+fn join_ends(
+    areas: &mut Areas,
+    tree: &mut Tree,
+    anons: &mut Anons,
+    from: u64,
+    past: u64,
+) -> Result<(), AllocError>
+    requires order { AreInOrder areas.old anons.old }
     requires stands { AreOfOne areas.old tree.old }
     requires some { 0 < from }
     requires forward { from < past }
     ensures stands { StayOfOne areas.old tree.old areas.new tree.new }
+    ensures kin { OnOk result (StayKin areas.old anons.old areas.new anons.new) }
     ensures pages { OnOk result
-        (Becomes areas.old tree.old areas.new tree.new (joined_around no_chains from past)) }
+        (Becomes areas.old tree.old areas.new tree.new
+        (joined_around (lengths areas.old anons.old) from past)) }
 {
     let (below, here) = tree.around(from);
     let (_, above) = tree.around(past);
     match (below, here, above) {
         (Some(left), Some(middle), Some(right))
             if left.to == from && middle.from == from && middle.to == past && right.from == past =>
-            { join_three(areas, tree, left.area, middle.area, right.area, from, past) }
-        _ => join_both(areas, tree, from, past),
+            {
+                join_three(
+                    areas,
+                    tree,
+                    anons,
+                    left.area,
+                    middle.area,
+                    right.area,
+                    from,
+                    past,
+                )
+            }
+        _ => join_both(areas, tree, anons, from, past),
     }
 }
 
@@ -50,40 +82,54 @@ fn join_ends(areas: &mut Areas, tree: &mut Tree, from: u64, past: u64) -> Result
 pub fn join_part(
     areas: &mut Areas,
     tree: &mut Tree,
+    anons: &mut Anons,
     from: u64,
     past: u64,
     differs_below: bool,
     differs_above: bool,
 ) -> Result<(), AllocError>
+    requires order { AreInOrder areas.old anons.old }
     requires stands { AreOfOne areas.old tree.old }
     requires some { 0 < from }
     requires forward { from < past }
     requires below { differs_below ≡ true
         → DoDiffer from (pages_by (area_of areas.old) tree.old) }
     requires above { differs_above ≡ true
-        → DoDiffer past (joined_at no_chains from (pages_by (area_of areas.old) tree.old)) }
+        → DoDiffer past (joined_at (lengths areas.old anons.old) from
+        (pages_by (area_of areas.old) tree.old)) }
     ensures stands { StayOfOne areas.old tree.old areas.new tree.new }
+    ensures kin { OnOk result (StayKin areas.old anons.old areas.new anons.new) }
     ensures pages { OnOk result
-        (Becomes areas.old tree.old areas.new tree.new (joined_around no_chains from past)) }
+        (Becomes areas.old tree.old areas.new tree.new
+        (joined_around (lengths areas.old anons.old) from past)) }
 {
     if !differs_below && !differs_above {
-        return join_ends(areas, tree, from, past);
+        return join_ends(areas, tree, anons, from, past);
     }
-    join_unless(areas, tree, differs_below, from)?;
-    join_unless(areas, tree, differs_above, past)
+    join_unless(areas, tree, anons, differs_below, from)?;
+    join_unless(areas, tree, anons, differs_above, past)
 }
 
 /// Tries one boundary, and then another.
-fn join_both(areas: &mut Areas, tree: &mut Tree, from: u64, past: u64) -> Result<(), AllocError>
+fn join_both(
+    areas: &mut Areas,
+    tree: &mut Tree,
+    anons: &mut Anons,
+    from: u64,
+    past: u64,
+) -> Result<(), AllocError>
+    requires order { AreInOrder areas.old anons.old }
     requires stands { AreOfOne areas.old tree.old }
     requires some { 0 < from }
     requires forward { from < past }
     ensures stands { StayOfOne areas.old tree.old areas.new tree.new }
+    ensures kin { OnOk result (StayKin areas.old anons.old areas.new anons.new) }
     ensures pages { OnOk result
-        (Becomes areas.old tree.old areas.new tree.new (joined_around no_chains from past)) }
+        (Becomes areas.old tree.old areas.new tree.new
+        (joined_around (lengths areas.old anons.old) from past)) }
 {
-    join_at(areas, tree, from)?;
-    join_at(areas, tree, past)
+    join_at(areas, tree, anons, from)?;
+    join_at(areas, tree, anons, past)
 }
 
 /// Tries both boundaries of the area between the pages `from` and `past`, which has another on each
@@ -91,12 +137,14 @@ fn join_both(areas: &mut Areas, tree: &mut Tree, from: u64, past: u64) -> Result
 fn join_three(
     areas: &mut Areas,
     tree: &mut Tree,
+    anons: &mut Anons,
     left: AreaId,
     middle: AreaId,
     right: AreaId,
     from: u64,
     past: u64,
 ) -> Result<(), AllocError>
+    requires order { AreInOrder areas.old anons.old }
     requires stands { AreOfOne areas.old tree.old }
     requires some { 0 < from }
     requires forward { from < past }
@@ -105,34 +153,58 @@ fn join_three(
     requires last { area_at tree.old (past - 1) ≡ Some middle }
     requires above { area_at tree.old past ≡ Some right }
     ensures stands { StayOfOne areas.old tree.old areas.new tree.new }
+    ensures kin { OnOk result (StayKin areas.old anons.old areas.new anons.new) }
     ensures pages { OnOk result
-        (Becomes areas.old tree.old areas.new tree.new (joined_around no_chains from past)) }
+        (Becomes areas.old tree.old areas.new tree.new
+        (joined_around (lengths areas.old anons.old) from past)) }
 {
     let lower = areas.get(left);
     let inner = areas.get(middle);
     let upper = areas.get(right);
-    if !mergeable(&lower, 0, &inner, 0) || !mergeable(&inner, 0, &upper, 0) {
-        return join_both(areas, tree, from, past);
+    if !are_plainly_one(&lower, &inner, &upper) {
+        return join_both(areas, tree, anons, from, past);
     }
     tree.remove(middle, from);
     areas.remove(middle);
     tree.remove(right, past);
     areas.remove(right);
     let both = merge(lower, inner);
-    replace(areas, tree, left, merge(both, upper));
-    Ok(())
+    replace(areas, tree, anons, left, merge(both, upper))
+}
+
+/// Whether three areas without anon_vma become one.
+///
+/// With anon_vmas whether the third one joins may depend on what the first two have together.
+fn are_plainly_one(lower: &Area, inner: &Area, upper: &Area) -> bool
+    requires forward { first_of lower.now ≤ past_of lower.now }
+    requires small { index_of lower.now (past_of lower.now) < 2 ^ 64 }
+    requires inner_forward { first_of inner.now ≤ past_of inner.now }
+    requires inner_small { index_of inner.now (past_of inner.now) < 2 ^ 64 }
+    ensures { result ≡ true → ArePlainlyOne lower.now inner.now upper.now }
+{
+    lower.anon.is_none()
+        && inner.anon.is_none()
+        && upper.anon.is_none()
+        && mergeable(lower, 0, inner, 0)
+        && mergeable(inner, 0, upper, 0)
 }
 
 /// Tries the boundary before the page `at`: the areas on its two sides become one where they are
 /// mergeable, with the anon_vma that either has.
-///
-/// It takes no memory yet: a chain that goes over to the other area will.
-pub fn join_at(areas: &mut Areas, tree: &mut Tree, at: u64) -> Result<(), AllocError>
+pub fn join_at(
+    areas: &mut Areas,
+    tree: &mut Tree,
+    anons: &mut Anons,
+    at: u64,
+) -> Result<(), AllocError>
+    requires order { AreInOrder areas.old anons.old }
     requires stands { AreOfOne areas.old tree.old }
     requires some { 0 < at }
     ensures stands { StayOfOne areas.old tree.old areas.new tree.new }
+    ensures kin { OnOk result (StayKin areas.old anons.old areas.new anons.new) }
     ensures pages { OnOk result
-        (Becomes areas.old tree.old areas.new tree.new (joined_at no_chains at)) }
+        (Becomes areas.old tree.old areas.new tree.new
+        (joined_at (lengths areas.old anons.old) at)) }
 {
     let (below, above) = tree.around(at);
     let Some(left) = below else {
@@ -144,43 +216,64 @@ pub fn join_at(areas: &mut Areas, tree: &mut Tree, at: u64) -> Result<(), AllocE
     if left.to != at || right.from != at {
         return Ok(());
     }
-    join(areas, tree, left.area, right.area, at);
-    Ok(())
+    join(areas, tree, anons, left.area, right.area, at)
 }
 
 /// Makes one of the areas on the two sides of the boundary before the page `at`, where they are
 /// mergeable.
-fn join(areas: &mut Areas, tree: &mut Tree, left: AreaId, right: AreaId, at: u64)
+fn join(
+    areas: &mut Areas,
+    tree: &mut Tree,
+    anons: &mut Anons,
+    left: AreaId,
+    right: AreaId,
+    at: u64,
+) -> Result<(), AllocError>
+    requires order { AreInOrder areas.old anons.old }
     requires stands { AreOfOne areas.old tree.old }
     requires below { area_at tree.old (at - 1) ≡ Some left }
     requires above { area_at tree.old at ≡ Some right }
     ensures stands { StayOfOne areas.old tree.old areas.new tree.new }
-    ensures pages { Becomes areas.old tree.old areas.new tree.new (joined_at no_chains at) }
+    ensures kin { OnOk result (StayKin areas.old anons.old areas.new anons.new) }
+    ensures pages { OnOk result (Becomes areas.old tree.old areas.new tree.new
+        (joined_at (lengths areas.old anons.old) at)) }
 {
     let lower = areas.get(left);
     let upper = areas.get(right);
-    if !mergeable(&lower, 0, &upper, 0) {
-        return;
+    let left_len = chain_len(anons, left, lower.anon);
+    let right_len = chain_len(anons, right, upper.anon);
+    if !mergeable(&lower, left_len, &upper, right_len) {
+        return Ok(());
     }
+    share(areas, anons, left, right)?;
     tree.remove(right, at);
-    areas.remove(right);
-    replace(areas, tree, left, merge(lower, upper));
+    take(areas, anons, right);
+    replace(areas, tree, anons, left, merge(lower, upper))
 }
 
 /// Tries the boundary before the page `at`, unless the areas on its two sides are known not to be
 /// alike.
-fn join_unless(areas: &mut Areas, tree: &mut Tree, differs: bool, at: u64) -> Result<(), AllocError>
+fn join_unless(
+    areas: &mut Areas,
+    tree: &mut Tree,
+    anons: &mut Anons,
+    differs: bool,
+    at: u64,
+) -> Result<(), AllocError>
+    requires order { AreInOrder areas.old anons.old }
     requires stands { AreOfOne areas.old tree.old }
     requires some { 0 < at }
     requires differ { differs ≡ true → DoDiffer at (pages_by (area_of areas.old) tree.old) }
     ensures stands { StayOfOne areas.old tree.old areas.new tree.new }
+    ensures kin { OnOk result (StayKin areas.old anons.old areas.new anons.new) }
     ensures pages { OnOk result
-        (Becomes areas.old tree.old areas.new tree.new (joined_at no_chains at)) }
+        (Becomes areas.old tree.old areas.new tree.new
+        (joined_at (lengths areas.old anons.old) at)) }
 {
     if differs {
         return Ok(());
     }
-    join_at(areas, tree, at)
+    join_at(areas, tree, anons, at)
 }
 
 /// Two areas that adjoin as one, with the anon_vma that either has.

@@ -6,7 +6,7 @@ ghost use Rattle.av_vma.specs.Join.{past_of};
 ghost use Rattle.av_vma.specs.declared.area.Area.{Area};
 ghost use Rattle.av_base.specs.Words.{within};
 ghost use Rattle.av_vmatree.specs.declared.span.Span.{Span};
-ghost use Rattle.av_vma.specs.Pages.{AreLaid, Pages, Effect, alters, cut_at, without_range, joined_around, part_changed, pages_changed, after_unmap, no_chains};
+ghost use Rattle.av_vma.specs.Pages.{AreLaid, Lengths, Pages, Effect, alters, cut_at, without_range, joined_around, part_changed, pages_changed, after_unmap};
 ghost use Rattle.av_merge.specs.Mapping.{mapping};
 ghost use Rattle.av_merge.specs.Pages.{pages_by};
 ghost use Rattle.av_merge.specs.Process.{AreAreasOf};
@@ -23,15 +23,17 @@ pub fn cuts_keep_mappings()
         ≡ (if within from (to - from) page then None else mapping on page) }
 {}
 
-/// Joining leaves each page mapped as it was.
+/// Joining leaves each page mapped as it was. (An own anon_vma, which it may get, is no part of
+/// how it is mapped.)
 pub fn joins_keep_mappings()
-    ensures { (on : Pages) (from past page : ℕ) → AreLaid on
-        → mapping (joined_around no_chains from past on) page ≡ mapping on page }
+    ensures { (len : Lengths) (on : Pages) (from past page : ℕ) → AreLaid on
+        → mapping (joined_around len from past on) page ≡ mapping on page }
 {}
 
 /// A part of an area that is changed at once is changed as if its pages were, one by one.
 pub fn parts_are_changed_page_by_page()
-    ensures { (on : Pages) (effect : Effect) (from n : ℕ) (area : Area) → AreLaid on
+    ensures { (len : Lengths) (on : Pages) (effect : Effect) (from n : ℕ) (area : Area) → AreLaid on
         → on from ≡ Some area → alters effect area ≡ true → from + suc n ≤ past_of area
-        → pages_changed no_chains effect from (suc n) on ≡ part_changed no_chains from (from + suc n) effect on }
+        → pages_changed len effect from (suc n) on
+        ≡ part_changed len from (from + suc n) effect on }
 {}

@@ -1,20 +1,29 @@
-//! The areas of one process: mapped, cut, protected and joined.
+//! The areas of one process: mapped, cut, protected and joined, with their chains of anon_vmas.
 //!
-//! `Areas` holds the areas of all processes by number, and a `Tree` the spans of one process's
-//! areas. Every call here changes the two together. Pages go by number, which is their address over
-//! the size of a page. A call takes time logarithmic in the number of the process's areas, times
-//! the number of areas that it changes.
+//! `Areas` holds the areas of all processes by number, a `Tree` the spans of one process's areas,
+//! and `Anons` the anon_vmas of all. Every call here changes the three together. Pages go by
+//! number, which is their address over the size of a page. A call takes time logarithmic in the
+//! number of the process's areas, times the number of areas that it changes, and for each of these
+//! that has a chain time for each of its nodes.
 //!
-//! Proved: which area is on each page then, with every field (av_vma's `Pages`), and that no area
-//! of another process changed. Nothing is only tested.
+//! A split links the upper part to the whole chain. Two areas become one where they are mergeable;
+//! where only one has an anon_vma, its chain has one node, and the other's pages get that. An area
+//! that goes leaves its anon_vmas first. Areas without anon_vma are changed directly.
 //!
-//! A call that answers want of memory may have done a part of its work; the two still go together.
+//! Proved: which area is on each page then, with every field (av_vma's `Pages`); that no area of
+//! another process changed; that chain order stays, that no anon_vma is made or changes its kin,
+//! and that each area's chain is the one that areas with its own anon_vma had (av_anon's `Kin`).
+//! Nothing is only tested.
+//!
+//! A call that answers want of memory may have done a part of its work; areas and tree still go
+//! together, and nothing is said of chain order then.
 #![tactic(auto)]
 
 mod changing;
 mod cutting;
 mod joining;
 mod laws;
+mod linking;
 mod placing;
 
 pub use changing::{Change, map, modify};

@@ -7,8 +7,12 @@ ghost use Rattle.av_base.specs.Words.{with_at};
 ghost use Rattle.av_vmatree.specs.Spans.{IsFree, area_at, span, span_of, is_page_taken, unless_area, without_area};
 ghost use Rattle.av_merge.specs.Pages.{pages_by};
 ghost use Rattle.av_vma.specs.Pages.{has_page, with_area, IsWhole};
+ghost use Rattle.av_anon.specs.Resize.{with_bounds};
+ghost use Rattle.av_merge.specs.Kin.{AreInOrder, StayKin};
 ghost use Rattle.av_merge.specs.Process.{AreAreasOf, Stays, AreOfOne, StayOfOne, Becomes};
 
+use crate::linking::{put, put_parts};
+use av_anon::Anons;
 use av_base::PAGE_SIZE;
 use av_vma::{Area, AreaId, Areas};
 use av_vmatree::{Span, Tree};
@@ -24,6 +28,9 @@ pub fn add(areas: &mut Areas, tree: &mut Tree, area: Area) -> Result<AreaId, All
         (Becomes areas.old tree.old areas.new tree.new (with_area area)) }
     ensures number { IfOk result (λ number. (page : ℕ) → area_at tree.new page
         ≡ (if has_page area page then Some number else area_at tree.old page)) }
+    ensures unused { IfOk result (λ number. area_of areas.old number ≡ None) }
+    ensures areas { IfOk result (λ number. (k : ℕ)
+        → area_of areas.new k ≡ with_at number (Some area) (area_of areas.old) k) }
 {
     let number = areas.add(area)?;
     match tree.insert(number, area.start / PAGE_SIZE, area.end / PAGE_SIZE) {
@@ -35,34 +42,49 @@ pub fn add(areas: &mut Areas, tree: &mut Tree, area: Area) -> Result<AreaId, All
     }
 }
 
-/// Puts an area of the same process in the place of one that begins with the same page, on pages
-/// that are its own or free.
-pub fn replace(areas: &mut Areas, tree: &mut Tree, number: AreaId, area: Area)
+/// Gives an area that begins with the same page other bounds, on pages that are its own or free.
+pub fn replace(
+    areas: &mut Areas,
+    tree: &mut Tree,
+    anons: &mut Anons,
+    number: AreaId,
+    area: Area,
+) -> Result<(), AllocError>
+    requires order { AreInOrder areas.old anons.old }
+    requires was { IsSomeAnd (area_of areas.old number)
+        (λ old. area ≡ with_bounds area.start area.end area.pgoff old) }
     requires stands { AreAreasOf area.pid (area_of areas.old) tree.old }
     requires there { IsSomeAnd (span_of tree.old number) (λ s. s.from ≡ first_of area) }
     requires whole { IsWhole area }
-    requires free { IsFree (is_page_taken (without_area number tree.old)) (first_of area) (past_of area) }
+    requires free { IsFree (is_page_taken (without_area number tree.old))
+        (first_of area) (past_of area) }
     ensures stands { Stays area.pid (area_of areas.old) (area_of areas.new) tree.new }
     ensures pages { (page : ℕ) → pages_by (area_of areas.new) tree.new page
         ≡ with_area area (pages_by (with_at number None (area_of areas.old)) tree.old) page }
     ensures number { (page : ℕ) → area_at tree.new page ≡ (if has_page area page then Some number
         else unless_area number (area_at tree.old page)) }
+    ensures kin { OnOk result (StayKin areas.old anons.old areas.new anons.new) }
 {
     tree.set_end(number, area.start / PAGE_SIZE, area.end / PAGE_SIZE);
-    areas.change(number, area);
+    put(areas, anons, number, area)
 }
 
 /// Puts the two parts that a cut leaves of an area in its place, and answers the number of the
 /// upper one. The lower one keeps its own.
 ///
-/// The tree is gone down once for both.
+/// The tree is gone down once for both. Both have the area's own anon_vma and its chain.
 pub fn put_apart(
     areas: &mut Areas,
     tree: &mut Tree,
+    anons: &mut Anons,
     number: AreaId,
     lower: Area,
     upper: Area,
 ) -> Result<AreaId, AllocError>
+    requires order { AreInOrder areas.old anons.old }
+    requires was { IsSomeAnd (area_of areas.old number)
+        (λ old. lower ≡ with_bounds lower.start lower.end lower.pgoff old) }
+    requires same_own { upper.anon ≡ lower.anon }
     requires stands { AreAreasOf lower.pid (area_of areas.old) tree.old }
     requires same_process { upper.pid ≡ lower.pid }
     requires there { IsSomeAnd (span_of tree.old number)
@@ -72,16 +94,21 @@ pub fn put_apart(
     requires apart { past_of lower ≤ first_of upper }
     ensures stands { Stays lower.pid (area_of areas.old) (area_of areas.new) tree.new }
     ensures pages { OnOk result ((page : ℕ) → pages_by (area_of areas.new) tree.new page
-        ≡ with_area upper (with_area lower (pages_by (with_at number None (area_of areas.old)) tree.old))
-        page) }
+        ≡ with_area upper (with_area lower
+        (pages_by (with_at number None (area_of areas.old)) tree.old)) page) }
     ensures number { IfOk result (λ above. (page : ℕ) → area_at tree.new page
         ≡ (if has_page upper page then Some above else if has_page lower page then Some number
         else unless_area number (area_at tree.old page))) }
+    ensures kin { OnOk result (StayKin areas.old anons.old areas.new anons.new) }
 {
-    let above = areas.add(upper)?;
+    let bare = Area {
+        anon: None,
+        ..upper
+    };
+    let above = areas.add(bare)?;
     match tree.split(place_of(number, lower), place_of(above, upper)) {
         Ok(()) => {
-            areas.change(number, lower);
+            put_parts(areas, anons, number, lower, above, upper)?;
             Ok(above)
         }
         Err(error) => {

@@ -6,7 +6,7 @@ use Rattle.av_merge.proofs.cutting.cut_ends.Goals as goal
 pub split_before-requires : goal.split_before-requires
 split_before-requires c =
     let p = c.requires.stands.0 in
-    record { stands = (p, (c.split_below.ensures.stands p c.requires.stands.1).areas) }
+    record { order = c.in_ok-split_below.ensures.kin.order; stands = (p, (c.split_below.ensures.stands p c.requires.stands.1).areas) }
 
 pub returns-in_err-split_before-clause-stands : goal.returns-in_err-split_before-clause-stands
 returns-in_err-split_before-clause-stands c p stands =

@@ -10,6 +10,7 @@ split_to-requires c =
     let on = pages_by (area_of c.args.areas.now) c.args.tree.now in
     let stands = (c.split_from.ensures.stands p c.requires.stands.1).areas in
     record {
+      order = c.in_ok-part.ensures.kin.order;
       stands = (p, stands);
       inside = goes_to p c.in_ok-part.part c.args.from c.args.past on (area_of c.split_from.new.areas) c.split_from.new.tree stands c.requires.some c.in_ok-part.ensures.part (c.in_ok-part.ensures.pages c.args.from) c.requires.inside;
     }

@@ -6,6 +6,7 @@ use Rattle.av_vmatree.proofs.Sides.{below_is}
 use Rattle.av_merge.specs.Pages.{pages_by}
 use Rattle.av_merge.specs.Process.{NoneCrosses}
 use Rattle.av_merge.proofs.Cuts.{cut_starts, none_by_last, none_from, none_starts, uncut}
+use Rattle.av_merge.proofs.Kin.{kin_stays}
 use Rattle.av_merge.proofs.Mappings.{laid_of}
 use Rattle.av_merge.proofs.Places.{others_refl}
 use Rattle.av_merge.proofs.cutting.split_below.Goals as goal
@@ -40,6 +41,7 @@ returns-in_default c =
     let none : NoneCrosses c.args.at spans = none_by_last spans c.args.at stands.spans_are.apart (last_ends c.args.below _ c.args.at c.in-Some.span c.requires.last c.in-Some.is c.if-at-span.false) in
     record {
       stands = λ q h. record { areas = h; others = others_refl q areas };
+      kin = kin_stays c.args.areas.now c.args.anons.now c.requires.order;
       pages = uncut (pages_by areas spans) c.args.at (laid_of p areas spans stands) (none_starts p c.args.at areas spans stands none);
       none_crosses = none;
     }
@@ -53,6 +55,7 @@ returns-in_default-2 c =
     let none : NoneCrosses c.args.at spans = none_by_last spans c.args.at stands.spans_are.apart (no_last c.args.below _ c.args.at c.requires.last c.in_default.is) in
     record {
       stands = λ q h. record { areas = h; others = others_refl q areas };
+      kin = kin_stays c.args.areas.now c.args.anons.now c.requires.order;
       pages = uncut (pages_by areas spans) c.args.at (laid_of p areas spans stands) (none_starts p c.args.at areas spans stands none);
       none_crosses = none;
     }

@@ -7,6 +7,7 @@ use Rattle.av_vmatree.specs.declared.span.Span.{Span}
 use Rattle.av_vmatree.specs.Spans.{area_after, span_of}
 use Rattle.av_merge.specs.Process.{AreAreasOf}
 use Rattle.av_merge.proofs.Places.{area_in}
+use Rattle.av_merge.proofs.Kin.{kin_then}
 use Rattle.av_merge.proofs.CutsEmpty.{IsNext, all_taken, fewer, next_area, next_of, no_next, one_more}
 use Rattle.av_merge.proofs.cutting.take_out.Goals as goal
 
@@ -33,21 +34,21 @@ none_above from below spans is none to k t there above = let low = no_next spans
 pub get-start-requires : goal.get-start-requires
 get-start-requires c =
     let p = c.requires.stands.0 in
-    let stands = (c.loop-area.invariant.stands p c.requires.stands.1).areas in
+    let stands = (c.loop-area.invariant.taken.stands p c.requires.stands.1).areas in
     let n = next p c.args.from c.saturating_sub.result (area_of c.loop-area.areas) c.loop-area.tree c.in-Some.area stands c.saturating_sub.ensures c.in-Some.ensures in
     record { used = used p c.args.from c.in-Some.area (area_of c.loop-area.areas) c.loop-area.tree stands n }
 
 pub remove-requires : goal.remove-requires
 remove-requires c =
     let p = c.requires.stands.0 in
-    let stands = (c.loop-area.invariant.stands p c.requires.stands.1).areas in
+    let stands = (c.loop-area.invariant.taken.stands p c.requires.stands.1).areas in
     let n = next p c.args.from c.saturating_sub.result (area_of c.loop-area.areas) c.loop-area.tree c.in-Some.area stands c.saturating_sub.ensures c.in-Some.ensures in
     record { there = subst (λ o. IsSomeAnd o (λ s. s.from ≡ first_of c.get-start.result)) (sym n.there) (next_area p (area_of c.loop-area.areas) c.loop-area.tree (c.args.from - 1) c.in-Some.area n c.get-start.result stands c.get-start.ensures).from }
 
 pub loop-area-smaller : goal.loop-area-smaller
 loop-area-smaller c =
     let p = c.requires.stands.0 in
-    let stands = (c.loop-area.invariant.stands p c.requires.stands.1).areas in
+    let stands = (c.loop-area.invariant.taken.stands p c.requires.stands.1).areas in
     let n = next p c.args.from c.saturating_sub.result (area_of c.loop-area.areas) c.loop-area.tree c.in-Some.area stands c.saturating_sub.ensures c.in-Some.ensures in
     subst (λ l. length l < length c.loop-area.tree) (sym c.remove.ensures.spans) (fewer c.loop-area.tree c.in-Some.area n.span n.there)
 
@@ -55,21 +56,24 @@ pub loop-area-preserved : goal.loop-area-preserved
 loop-area-preserved c =
     let p = c.requires.stands.0 in
     let first = c.requires.stands.1 in
-    let so_far = c.loop-area.invariant in
+    let so_far = c.loop-area.invariant.taken in
     let stands = (so_far.stands p first).areas in
     let areas = area_of c.loop-area.areas in
     let spans = c.loop-area.tree in
     let k = c.in-Some.area in
     let n = next p c.args.from c.saturating_sub.result areas spans k stands c.saturating_sub.ensures c.in-Some.ensures in
-    one_more c.args.from c.args.to (area_of c.args.areas.now) c.args.tree.now areas spans p first so_far k (area_of c.remove-in-Some.new.self) c.remove.new.self n
-    (within_range p c.args.from c.args.to k areas spans c.get-start.result stands n c.get-start.ensures c.if-to-start.false)
-    c.remove-in-Some.ensures c.remove.ensures.kept c.remove.ensures.areas c.remove.ensures.pages
+    record {
+      taken = one_more c.args.from c.args.to (area_of c.args.areas.now) c.args.tree.now areas spans p first so_far k (area_of c.take.new.areas) c.remove.new.self n
+          (within_range p c.args.from c.args.to k areas spans c.get-start.result stands n c.get-start.ensures c.if-to-start.false)
+          c.take.ensures.areas c.remove.ensures.kept c.remove.ensures.areas c.remove.ensures.pages;
+      kin = kin_then c.args.areas.now c.loop-area.areas c.take.new.areas c.args.anons.now c.loop-area.anons c.take.new.anons c.loop-area.invariant.kin c.take.ensures.kin;
+    }
 
 pub returns-then-to-start-clause-pages : goal.returns-then-to-start-clause-pages
 returns-then-to-start-clause-pages c =
     let p = c.requires.stands.0 in
     let first = c.requires.stands.1 in
-    let so_far = c.loop-area.invariant in
+    let so_far = c.loop-area.invariant.taken in
     let stands = (so_far.stands p first).areas in
     let areas = area_of c.loop-area.areas in
     let spans = c.loop-area.tree in
@@ -79,5 +83,14 @@ returns-then-to-start-clause-pages c =
 
 pub returns-clause-pages : goal.returns-clause-pages
 returns-clause-pages c =
-    all_taken c.args.from c.args.to (area_of c.args.areas.now) c.args.tree.now (area_of c.loop-area.areas) c.loop-area.tree c.requires.stands.0 c.requires.stands.1 c.loop-area.invariant
+    all_taken c.args.from c.args.to (area_of c.args.areas.now) c.args.tree.now (area_of c.loop-area.areas) c.loop-area.tree c.requires.stands.0 c.requires.stands.1 c.loop-area.invariant.taken
     (none_above c.args.from c.saturating_sub.result c.loop-area.tree c.saturating_sub.ensures c.in_default.ensures c.args.to)
+
+pub take-requires-clause-order : goal.take-requires-clause-order
+take-requires-clause-order c = c.loop-area.invariant.kin.order
+
+pub returns-then-to-start-clause-kin : goal.returns-then-to-start-clause-kin
+returns-then-to-start-clause-kin c = c.loop-area.invariant.kin
+
+pub returns-clause-kin : goal.returns-clause-kin
+returns-clause-kin c = c.loop-area.invariant.kin

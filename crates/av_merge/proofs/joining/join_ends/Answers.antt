@@ -9,6 +9,7 @@ join_three-requires c =
     let i = c.in-Some-Some-Some in
     let here = sym c.around-below.ensures.above ∙ i.is-1 in
     record {
+      order = c.requires.order;
       stands = c.requires.stands;
       some = c.requires.some;
       forward = c.requires.forward;

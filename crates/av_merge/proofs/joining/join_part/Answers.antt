@@ -1,6 +1,13 @@
 use Rattle.std.proofs.Common.{sym, subst}
 use Rattle.av_vma.specs.Areas.{area_of}
 use Rattle.av_merge.specs.Mapping.{DoDiffer}
+use Rattle.std.proofs.lemmas.Result.{on_ok_weaker}
+use Rattle.av_anon.specs.Anons.{family}
+use Rattle.av_anon.specs.Spans.{spans_of}
+use Rattle.av_merge.specs.Kin.{lengths}
+use Rattle.av_merge.specs.Pages.{pages_by}
+use Rattle.av_merge.proofs.Kin.{kin_then}
+use Rattle.av_merge.proofs.Lengths.{alike_after, joined_later}
 use Rattle.av_merge.proofs.Places.{stays_trans}
 use Rattle.av_merge.proofs.joining.join_part.Goals as goal
 
@@ -17,3 +24,16 @@ pub returns-clause-stands : goal.returns-clause-stands
 returns-clause-stands c = λ p stands.
     let one = c.join_unless.ensures.stands p stands in
     stays_trans p (area_of c.args.areas.now) (area_of c.join_unless.new.areas) (area_of c.join_unless-2.new.areas) c.join_unless.new.tree c.join_unless-2.new.tree one (c.join_unless-2.ensures.stands p one.areas)
+
+pub returns-clause-pages : goal.returns-clause-pages
+returns-clause-pages c = on_ok_weaker c.join_unless-2.result
+    (λ last. joined_later (lengths c.args.areas.now c.args.anons.now) (lengths c.join_unless.new.areas c.join_unless.new.anons) c.args.past (pages_by (area_of c.join_unless.new.areas) c.join_unless.new.tree) _
+    (pages_by (area_of c.join_unless-2.new.areas) c.join_unless-2.new.tree)
+    (alike_after (area_of c.args.areas.now) (area_of c.join_unless.new.areas) (family c.args.anons.now) (family c.join_unless.new.anons) (spans_of c.args.anons.now) (spans_of c.join_unless.new.anons) c.join_unless.new.tree c.requires.order c.in_ok-join_unless.ensures.kin)
+    c.in_ok-join_unless.ensures.pages last)
+    c.join_unless-2.ensures.pages
+
+pub returns-clause-kin : goal.returns-clause-kin
+returns-clause-kin c = on_ok_weaker c.join_unless-2.result
+    (λ last. kin_then c.args.areas.now c.join_unless.new.areas c.join_unless-2.new.areas c.args.anons.now c.join_unless.new.anons c.join_unless-2.new.anons c.in_ok-join_unless.ensures.kin last)
+    c.join_unless-2.ensures.kin

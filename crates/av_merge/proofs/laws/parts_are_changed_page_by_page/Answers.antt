@@ -2,4 +2,4 @@ use Rattle.av_merge.proofs.ChangesByPage.{page_by_page}
 use Rattle.av_merge.proofs.laws.parts_are_changed_page_by_page.Goals as goal
 
 pub returns : goal.returns
-returns c = λ on effect from n area laid here does high. page_by_page effect on laid from area here does n high
+returns c = λ len on effect from n area laid here does high. page_by_page len effect on laid from area here does n high
