@@ -5,7 +5,7 @@ use Rattle.std.proofs.lemmas.Bool.{cases_eq, eqb-true}
 use Rattle.av_base.specs.Words.{is_in, how_many, with_at}
 use Rattle.av_interval.specs.declared.span.Span.{Span}
 use Rattle.av_vma.specs.declared.area.Area.{Area}
-use Rattle.av_anon.specs.Anons.{give_own, own_of, with_links, new_child, with_own, Family}
+use Rattle.av_anon.specs.Anons.{give_own, nobody, own_of, with_links, new_child, with_own, Family}
 use Rattle.av_anon.specs.Fork.{child_chain, child_family, child_own, after_clone, after_fork, own_after_fork, gets_own, is_idle, member_to_reuse, root_of}
 use Rattle.av_anon.specs.Order.{IsArea, IsChain, IsInOrder, owns}
 use Rattle.av_anon.specs.Prepare.{loan_near, loan_to, after_prepare, own_after_prepare}
@@ -19,6 +19,34 @@ use Rattle.av_anon.proofs.OrderMade.{child_keeps, root_keeps}
 use Rattle.av_anon.proofs.OrderRaised.{clone_keeps, raised_keeps, reuse_keeps}
 use Rattle.av_anon.proofs.Spanned.{areas_changed}
 use Rattle.av_anon.proofs.Words.{with_at-here, with_at-other}
+
+no : false ≡ true → ⊥
+no e = cc
+
+none_some : {X : Type 0} {x : X} → ◌≡◌ {A = Option X} None (Some x) → ⊥
+none_some e = cc
+
+-- there is no area and no anon_vma
+pub order-nobody : IsInOrder (λ _. None) nobody (λ _. [])
+order-nobody = record {
+  chains = λ a. record {
+    none = λ e. refl;
+    own_in = λ v e. absurd (none_some e);
+    there = λ v h. absurd (no h);
+    made = λ v h. absurd (no h);
+    rising = tt;
+    parents = λ v i h e. absurd (no h);
+    roots = λ v i h e. absurd (no h);
+    one_root = λ v w i j h h' e e'. absurd (no h);
+  };
+  alike = λ a b v e e'. refl;
+  counted = λ v i e. absurd (none_some e);
+  inverse = record { inverse = λ a v. refl; once = λ a v. refl };
+  below = λ v h. absurd (no h);
+  linked = λ v h. absurd (no h);
+  spanned = record { each = λ v n. refl; numbers = λ v. tt };
+  areas_fit = λ a A e. absurd (none_some e);
+}
 
 -- only the spans change
 pub order-spans : (areas : ℕ → Option Area) (f : Family) (spans spans' : ℕ → List Span) → IsInOrder areas f spans
@@ -162,9 +190,6 @@ pub order-resize : (areas : ℕ → Option Area) (f : Family) (spans spans' : �
     → IsInOrder (with_at area (Some (with_bounds start end pgoff A)) areas) f spans'
 order-resize areas f spans spans' a start end pgoff A o is fits g =
     changed_keeps areas f spans spans' a (Some (with_bounds start end pgoff A)) o (sym (ap own_of is)) (λ D e. subst IsArea (some_is e) fits) g
-
-no : false ≡ true → ⊥
-no e = cc
 
 pub order-bare : (areas : ℕ → Option Area) (f : Family) (spans : ℕ → List Span) (area : ℕ) (new : Option Area)
     → IsInOrder areas f spans → own_of (areas area) ≡ None → own_of new ≡ None

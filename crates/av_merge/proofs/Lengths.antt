@@ -1,13 +1,14 @@
 -- Chains keep their lengths, so pages that are joined by those after some calls are joined by those before them.
-use Rattle.std.proofs.Common.{◌≡◌, ℕ, ◌-◌, ◌&&◌, nat_lt, min, max, ◌*◌, ◌+◌, Bool, true, false, cond, length, List, Option, Some, None, option_map, refl, sym, ap, subst, ◌∙◌, inl, inr}
+use Rattle.std.proofs.Common.{◌≡◌, ℕ, zero, suc, ◌-◌, ◌&&◌, nat_lt, min, max, ◌*◌, ◌+◌, Bool, true, false, cond, length, List, Option, Some, None, option_map, refl, sym, ap, subst, ◌∙◌, inl, inr}
 use Rattle.std.specs.Prelude.{option_and_then}
 use Rattle.std.specs.Option.{option_or}
 use Rattle.std.proofs.lemmas.Option.{none-some, same_Some}
 use Rattle.av_base.specs.Words.{within}
+use Rattle.av_base.specs.declared.prot.Prot.{Prot}
 use Rattle.av_interval.specs.declared.span.Span as interval
 use Rattle.av_vma.specs.declared.area.Area.{Area}
 use Rattle.av_vma.specs.Join.{are_mergeable, first_of}
-use Rattle.av_vma.specs.Pages.{Effect, Lengths, Pages, after_join, cut_at, has_page, join_of, joined_around, joined_at, part_changed, part_of, with_effect, with_effect_on}
+use Rattle.av_vma.specs.Pages.{Effect, Lengths, Pages, after_join, after_map, alters_at, cut_at, fresh_area, has_page, join_of, joined_around, joined_at, page_changed, pages_changed, part_changed, part_of, with_area, with_effect, with_effect_on}
 use Rattle.av_vmatree.specs.declared.span.Span.{Span}
 use Rattle.av_vmatree.specs.Spans.{area_at}
 use Rattle.av_anon.specs.Anons.{Family, own_of}
@@ -101,3 +102,42 @@ pub part_alike : (len len' : Lengths) (from past : ℕ) (effect : Effect) (on : 
 part_alike len len' from past effect on h page =
     around_alike len len' from past (with_effect_on from past effect (cut_at past (cut_at from on)))
     (alike_effect len len' from past effect (cut_at past (cut_at from on)) (alike_cut len len' past (cut_at from on) (alike_cut len len' from on h))) page
+
+-- ---- the words of whole calls
+
+alike_part : (len len' other : Lengths) (from past : ℕ) (effect : Effect) (on : Pages) → AreAlike len len' on → AreAlike len len' (part_changed other from past effect on)
+alike_part len len' other from past effect on h =
+    let cut = cut_at past (cut_at from on) in
+    let now = with_effect_on from past effect cut in
+    alike_joined len len' other past (joined_at other from now) (alike_joined len len' other from now
+    (alike_effect len len' from past effect cut (alike_cut len len' past (cut_at from on) (alike_cut len len' from on h))))
+
+alike_page : (len len' other : Lengths) (effect : Effect) (page : ℕ) (on : Pages) → AreAlike len len' on → AreAlike len len' (page_changed other effect page on)
+alike_page len len' other effect page on h = go (alters_at effect (on page))
+  where
+    go : (b : Bool) → AreAlike len len' (cond b (part_changed other page (page + 1) effect on) on)
+    go true = alike_part len len' other page (page + 1) effect on h
+    go false = h
+
+page_alike : (len len' : Lengths) (effect : Effect) (page : ℕ) (on : Pages) → AreAlike len len' on → (q : ℕ) → page_changed len effect page on q ≡ page_changed len' effect page on q
+page_alike len len' effect page on h q = go (alters_at effect (on page))
+  where
+    go : (b : Bool) → (cond b (part_changed len page (page + 1) effect on) on) q ≡ (cond b (part_changed len' page (page + 1) effect on) on) q
+    go true = part_alike len len' page (page + 1) effect on h q
+    go false = refl
+
+-- pages are changed with the same outcome
+pub pages_alike : (len len' : Lengths) (effect : Effect) (from n : ℕ) (on : Pages) → AreAlike len len' on → (q : ℕ) → pages_changed len effect from n on q ≡ pages_changed len' effect from n on q
+pages_alike len len' effect from zero on h q = refl
+pages_alike len len' effect from (suc n) on h q =
+    pages_alike len len' effect (from + 1) n (page_changed len effect from on) (alike_page len len' len effect from on h) q
+    ∙ (λ i. pages_changed len' effect (from + 1) n (λ o. page_alike len len' effect from on h o i) q)
+
+-- and so they are mapped, where the new area has no anon_vma
+pub map_alike : (len len' : Lengths) (p from past : ℕ) (prot : Prot) (on : Pages) → len None ≡ len' None → AreAlike len len' on → (q : ℕ) → after_map len p from past prot on q ≡ after_map len' p from past prot on q
+map_alike len len' p from past prot on none h q =
+    around_alike len len' from past (with_area (fresh_area p from past prot) on) (record { same = λ page area e. go page area (has_page (fresh_area p from past prot) page) e }) q
+  where
+    go : (page : ℕ) (area : Area) (b : Bool) → cond b (Some (fresh_area p from past prot)) (on page) ≡ Some area → len area.anon ≡ len' area.anon
+    go page area true e = subst (λ (a : Area). len a.anon ≡ len' a.anon) (same_Some (fresh_area p from past prot) area e) none
+    go page area false e = h.same page area e

@@ -9,7 +9,7 @@ use Rattle.av_base.specs.declared.slot.Slot.{Slot}
 use Rattle.av_plain.specs.Device.{Device, headers_of}
 use Rattle.av_plain.specs.Fault.{is_shared}
 use Rattle.av_plain.specs.Ledger.{Entry, HasNumbers, InFrame, InSlot, Ledger, Setting, SwapArea, Zero, entry, frame_at, in_flight, is_free, is_stale, map_count, names_frame, slot_entries, slot_of}
-use Rattle.av_plain.specs.Areas.{Anons, Areas}
+use Rattle.av_plain.specs.Areas.{AnonVma, Anons, Areas, chain_of}
 use Rattle.av_plain.specs.Choice.{AreaSlots, Free, ListsAll}
 use Rattle.av_plain.specs.Report.{Range, prot_in, range_of}
 use Rattle.av_plain.specs.Sound.{AllSound, slots}
@@ -117,6 +117,17 @@ pub record AreasStand (v : View) (w : World) : Type 0 where
   pub covers : (p page : ℕ)
       → prot_of (ranges_in (v.areas p)) page ≡ option_map (λ (q : Page). q.prot) (pages w p page)
 
+-- an anon_vma's root and parent
+abbrev pub kin_of : AnonVma → ℕ × ℕ
+kin_of v = (v.root, v.parent)
+
+-- the anon_vmas are these, with their kin; and each area has the chain that its own one has
+pub record AnonsStand (v : View) (areas : Areas) (anons : Anons) : Type 0 where
+  pub next : v.anons.next ≡ anons.next
+  pub kin : (n : ℕ) → option_map kin_of (v.anons.anon n) ≡ option_map kin_of (anons.anon n)
+  pub chains : (p page : ℕ) → IfSome (areas p page)
+      (λ area. chain_of v.anons area.anon ≡ chain_of anons area.anon)
+
 -- each page of each process is of the area that these have on it, with all that it says
 abbrev pub AreasAre : View → Areas → Type 0
 AreasAre v areas = (p page : ℕ) → pages_in (v.areas p) page ≡ areas p page
@@ -197,4 +208,4 @@ pub record Stands (m : Setting) (v : View) (device : Device) (s : State) : Type 
   pub free : free_of v ≡ s.free
   pub lists : ListsAll m s.ledger s.free
   pub areas : AreasAre v s.areas
-  pub anons : v.anons ≡ s.anons
+  pub anons : AnonsStand v s.areas s.anons
