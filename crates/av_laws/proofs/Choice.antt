@@ -1,12 +1,12 @@
 -- Which slots are chosen at several events, computed.
-use Rattle.std.proofs.Common.{◌≡◌, ℕ, Bool, true, false, ◌&&◌, ◌==◌, List, [], ◌∷◌, ◌++◌, Option, Some, None, is_none, refl, ap, arith}
+use Rattle.std.proofs.Common.{◌≡◌, ℕ, Bool, true, false, ◌&&◌, ◌==◌, List, [], ◌∷◌, Option, Some, None, is_none, refl, ap, arith}
 use Rattle.std.proofs.lemmas.Bool.Decides.{nat_tests}
 use Rattle.std.specs.Prelude.{IsSomeAnd, MatchOption}
 use Rattle.av_base.specs.Words.{with_at}
 use Rattle.av_base.specs.declared.slot.Slot.{Slot}
 use Rattle.av_clusters.specs.Clusters.{Slots, take_slot}
-use Rattle.av_plain.specs.Choice.{AreaSlots, ChoosesAll, ChoosesFrame, ChoosesSlot, Free, IsGiven, SwitchesArea, giving_area, slot_in, with_given_back}
-use Rattle.av_plain.specs.Event.{Event, Forked, Moved, Noted, TurnedOff, TurnedOn, Used, Zapped, after, after_all}
+use Rattle.av_plain.specs.Choice.{AreaSlots, ChoosesAll, ChoosesSlot, IsGiven, SwitchesArea, giving_area, slot_in, with_given_back}
+use Rattle.av_plain.specs.Event.{Event, Forked, Moved, Noted, TurnedOff, TurnedOn, Used, Zapped, after}
 use Rattle.av_plain.specs.Ledger.{Ledger, Setting}
 use Rattle.av_plain.proofs.Choice.{ChoosesFrames}
 

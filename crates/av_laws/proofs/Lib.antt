@@ -20,3 +20,4 @@ pub mod AreaExamples
 pub mod Faults
 pub mod SlotExamples
 pub mod SwapViewExamples
+pub mod ListsExamples

@@ -17,6 +17,7 @@ use Rattle.av_plain.specs.Stands.{AreApart, Holds, IsKept, Pte, Stands, entry_of
 use Rattle.av_plain.specs.World.{Page, Process, lives, pages, process}
 use Rattle.av_laws.specs.Examples.{machine, page_with, read_write, with_byte}
 use Rattle.av_laws.specs.Views.{fork_state}
+use Rattle.av_laws.proofs.ListsExamples.{fork-listed}
 use Rattle.av_plain.proofs.Ledger.{same_key, same_key-is}
 use Rattle.av_plain.proofs.Ledger.NoSwap.{key_is}
 use Rattle.std.specs.Prelude.{◌≡◌, ℕ, Bool, true, false, List, [], ◌∷◌, length, Some, None, is_some, refl}
@@ -229,6 +230,7 @@ right-stands = record {
     headers = λ k. tt;
   };
   free = refl;
+  lists = fork-listed;
   areas = areas;
   anons = refl;
 }
