@@ -143,9 +143,9 @@ given-by m l free ns left plain h =
     record {
       done = done-is ns (grind (arith, nat_tests, parts.0));
       left = record { frames = left; slots = slots_after_all m l (note_events ns) no_slots };
-      chosen = all-chosen m l (note_events ns) free left no_slots
+      chosen = all-chosen m None l (note_events ns) free left no_slots
           (chosen-by m l (note_events ns) free left h)
-          (none-given m l (note_events ns) no_slots parts.1);
+          (none-given m None l (note_events ns) no_slots parts.1);
     }
   where
     both : (a b : Bool) → (a && b) ≡ true → ((a ≡ true) × (b ≡ true))

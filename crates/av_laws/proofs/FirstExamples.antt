@@ -39,7 +39,7 @@ Steps m old (e ∷ row) =
       areas = next_areas (chain_length no_anons) old.areas old.world e.command e.reply.answer;
       anons = no_anons;
     } in MatchBool (take_none events) (Steps m new row)
-    ((gives_all m old.ledger events old.free.slots ≡ true) × Steps m new row))
+    ((gives_all m None old.ledger events old.free.slots ≡ true) × Steps m new row))
 
 pub by_steps : (m : Setting) (old : State) (row : List Exchange) → old.anons ≡ no_anons
     → Steps m old row → Allows m old row
@@ -62,7 +62,7 @@ by_steps m old (e ∷ row) none h =
           legal = h.2;
           world = refl;
           ledger = refl;
-          free = all-chosen m old.ledger h.0 old.free.frames h.1 old.free.slots h.3 both.0;
+          free = all-chosen m None old.ledger h.0 old.free.frames h.1 old.free.slots h.3 both.0;
           areas = subst
               (λ a. AreNext old.areas a old.world e.command e.reply.answer mid.areas no_anons)
               (sym none)
@@ -74,9 +74,9 @@ by_steps m old (e ∷ row) none h =
   where
     given : (b : Bool) → take_none h.0 ≡ b → (new : State)
         → MatchBool b (Steps m new row)
-        ((gives_all m old.ledger h.0 old.free.slots ≡ true) × Steps m new row)
-        → (gives_all m old.ledger h.0 old.free.slots ≡ true) × Steps m new row
-    given true is new h' = (none-given m old.ledger h.0 old.free.slots is, h')
+        ((gives_all m None old.ledger h.0 old.free.slots ≡ true) × Steps m new row)
+        → (gives_all m None old.ledger h.0 old.free.slots ≡ true) × Steps m new row
+    given true is new h' = (none-given m None old.ledger h.0 old.free.slots is, h')
     given false is new h' = h'
 
 not_free : (b : Bool) → b ≡ false → b ≡ true → ⊥

@@ -6,3 +6,4 @@ pub mod ReadBack
 pub mod NeedsFrame
 pub mod Views
 pub mod Areas
+pub mod Slots

@@ -9,6 +9,7 @@
 mod areas;
 mod examples;
 mod pairs;
+mod slots;
 mod unsound;
 mod views;
 
@@ -52,11 +53,14 @@ pub use examples::{
     a_page_in_writeback_is_sound, changed_exits_and_reports_are_refused,
     changed_ranges_are_refused, changed_replies_are_refused, changed_replies_of_swap_are_refused,
     changed_runs_are_refused, exits_and_reports_run, first_examples_run, ledgers_follow,
-    ranges_run, shared_examples_run, slots_are_given_in_turn, swap_examples_run,
+    ranges_run, shared_examples_run, swap_examples_run,
 };
 pub use pairs::{
     changed_pairs_are_refused, faults_are_counted, ledgers_of_two_follow, loads_make_unclaimed,
     passes_run, two_pages_run,
+};
+pub use slots::{
+    areas_are_turned_on_anew, slots_are_given_in_turn, slots_come_back, the_first_area_gives,
 };
 pub use unsound::{
     changed_ledgers_are_unsound, changed_memories_are_unsound, entries_of_one_memory_are_unsound,
