@@ -21,3 +21,4 @@ pub mod Faults
 pub mod SlotExamples
 pub mod SwapViewExamples
 pub mod ListsExamples
+pub mod AnonExamples

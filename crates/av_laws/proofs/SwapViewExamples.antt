@@ -17,7 +17,7 @@ use Rattle.av_plain.specs.Report.{prot_in}
 use Rattle.av_plain.specs.Stands.{View, AreApart, Holds, IsClean, IsKept, Pte, entry_of, prot_of, ranges_in}
 use Rattle.av_plain.specs.World.{Page, Process, lives, pages, process}
 use Rattle.av_laws.specs.Examples.{cached_out, page_with, read_write, slot, with_byte, with_slots, with_swap}
-use Rattle.av_laws.specs.Views.{NotFor, StandsFor, cached_view, fewer_slots, header_page, swap_device, topmost, with_fewer_slots}
+use Rattle.av_laws.specs.Views.{NotFor, NotGiven, StandsFor, cached_view, fewer_slots, header_page, swap_device, topmost, with_fewer_slots}
 use Rattle.av_laws.proofs.ListsExamples.{cached-listed}
 use Rattle.av_laws.proofs.SoundExample.{cached_out-sound}
 use Rattle.av_plain.proofs.Ledger.NoSwap.{key_is}
@@ -308,6 +308,12 @@ pub given_back-not : NotFor
     (cached_out false false)
 given_back-not h = let e : ◌≡◌ {A = ℕ} 0 2 = ap (λ (f : Free). (f.slots 0).cursor) h.free in omega
     (arith, e)
+
+pub none_given-not : NotGiven 0
+none_given-not h = never (h.lists.slots.taken (slot 1))
+
+pub another_given-not : NotGiven 2
+another_given-not h = never (sym (h.lists.slots.taken (slot 2)))
 
 pub entry_gone-not : NotFor (record (cached_view false false) { table = λ p page. None }) 7
     (cached_out false false)

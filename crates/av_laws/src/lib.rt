@@ -48,7 +48,9 @@ ghost use Rattle.av_laws.specs.Determined.{
   SameCommands,
 };
 
-pub use areas::{areas_follow, changed_areas_are_refused};
+pub use areas::{
+    anon_vmas_are_left, areas_follow, changed_anon_vmas_are_refused, changed_areas_are_refused,
+};
 pub use examples::{
     a_page_in_writeback_is_sound, changed_exits_and_reports_are_refused,
     changed_ranges_are_refused, changed_replies_are_refused, changed_replies_of_swap_are_refused,
