@@ -22,3 +22,5 @@ pub mod SlotExamples
 pub mod SwapViewExamples
 pub mod ListsExamples
 pub mod AnonExamples
+pub mod Clusters
+pub mod FreeSlots

@@ -32,7 +32,7 @@ ghost use Rattle.av_plain.specs.Refusal.{is_mprotect};
 ghost use Rattle.av_plain.specs.Map.{StopsAtHole};
 ghost use Rattle.av_plain.specs.Transcript.{Exchange, State, IsStep, IsRun, at_first, causes_of};
 ghost use Rattle.av_plain.specs.Sound.{AllSound};
-ghost use Rattle.av_plain.specs.Choice.{ListsFree};
+ghost use Rattle.av_plain.specs.Choice.{ListsFree, ListsSlots};
 ghost use Rattle.av_trace.specs.Command.{IsCommand};
 ghost use Rattle.av_trace.specs.Number.{IsWide};
 ghost use Rattle.av_trace.specs.Reply.{IsReply};
@@ -122,6 +122,19 @@ pub fn runs_list_free_frames()
     ensures { (m : Setting) (exchanges : List Exchange) (new : State)
         → IsRun m (at_first m) exchanges new
         → ListsFree m new.ledger new.free.frames }
+{}
+
+/// In a run the pages of each swap area are as the ledger has its slots: taken exactly where the
+/// slot is in use, free only where it is free, and as many as are free. So it is after each command
+/// that finds it so in a sound state.
+pub fn runs_list_free_slots()
+    ensures from_nothing { (m : Setting) (exchanges : List Exchange) (new : State)
+        → IsRun m (at_first m) exchanges new
+        → ListsSlots m new.ledger new.free.slots }
+    ensures each_step { (m : Setting) (old new : State) (command : Command) (reply : Reply)
+        → AllSound m old.world old.ledger → ListsSlots m old.ledger old.free.slots
+        → IsStep m old command reply new
+        → ListsSlots m new.ledger new.free.slots }
 {}
 
 /// Each frame is free, active or inactive, and so the numbers of `stat` add up.
