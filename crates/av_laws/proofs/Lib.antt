@@ -24,3 +24,5 @@ pub mod ListsExamples
 pub mod AnonExamples
 pub mod Clusters
 pub mod FreeSlots
+pub mod Laid
+pub mod Covered

@@ -7,3 +7,4 @@ pub mod NeedsFrame
 pub mod Views
 pub mod Areas
 pub mod Slots
+pub mod Covered

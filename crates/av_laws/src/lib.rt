@@ -37,6 +37,7 @@ ghost use Rattle.av_trace.specs.Command.{IsCommand};
 ghost use Rattle.av_trace.specs.Number.{IsWide};
 ghost use Rattle.av_trace.specs.Reply.{IsReply};
 ghost use Rattle.av_io.specs.Count.{Rose, RoseBy};
+ghost use Rattle.av_laws.specs.Covered.{CoverPages};
 ghost use Rattle.av_laws.specs.NeedsFrame.{NoneWantsFrame};
 ghost use Rattle.av_plain.specs.Device.{HasNoDevice};
 ghost use Rattle.av_laws.specs.ReadBack.{IsSmall};
@@ -135,6 +136,18 @@ pub fn runs_list_free_slots()
         → AllSound m old.world old.ledger → ListsSlots m old.ledger old.free.slots
         → IsStep m old command reply new
         → ListsSlots m new.ledger new.free.slots }
+{}
+
+/// In a run the areas of each process cover exactly its pages, with their protection, and each area
+/// is whole and on all of its pages. So it is after each command that finds it so, however long the
+/// chains of anon_vmas are.
+pub fn runs_lay_areas()
+    ensures from_nothing { (m : Setting) (exchanges : List Exchange) (new : State)
+        → IsRun m (at_first m) exchanges new
+        → CoverPages new.world new.areas }
+    ensures each_step { (m : Setting) (old new : State) (command : Command) (reply : Reply)
+        → CoverPages old.world old.areas → IsStep m old command reply new
+        → CoverPages new.world new.areas }
 {}
 
 /// Each frame is free, active or inactive, and so the numbers of `stat` add up.
