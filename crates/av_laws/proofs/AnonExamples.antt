@@ -212,7 +212,8 @@ abbrev first_page : Option Area → ℕ
 first_page None = 0
 first_page (Some area) = area.start
 
-never-puts : (command : Command) (answer : Answer) (page : ℕ) (area : Area) → (on_after command answer 1 page ≡ Some area → ⊥) → NeverPuts command answer page area
+never-puts : (command : Command) (answer : Answer) (page : ℕ) (area : Area) → (on_after command answer 1 page ≡ Some area → ⊥)
+    → NeverPuts command answer page area
 never-puts command answer page area differ new step at = differ (sym (ap (λ (on : Areas). on 1 page) step.areas.areas) ∙ at)
 
 pub apart_from_root-not : NeverPuts behind_first (MapAt 0x12000) 0x12 (area 0x12 0x13 read_write)

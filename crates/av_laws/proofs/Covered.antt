@@ -55,8 +55,8 @@ record Covers (q : Process) (on : Pages) : Type 0 where
   same : (page : ℕ) → prots on page ≡ prot_of (q page)
 
 -- a page that isn't mapped has no area
-uncovered : (q : Process) (on : Pages) (page : ℕ) → Covers q on → is_mapped q page ≡ false → on page ≡ None
-uncovered q on page c none = by (on page) (q page) (c.same page) none
+no-area : (q : Process) (on : Pages) (page : ℕ) → Covers q on → is_mapped q page ≡ false → on page ≡ None
+no-area q on page c none = by (on page) (q page) (c.same page) none
   where
     by : (o : Option Area) (p : Option Page) → option_map (λ (a : Area). a.prot) o ≡ prot_of p → is_some p ≡ false → o ≡ None
     by None p e h = refl
@@ -68,8 +68,13 @@ uncovered q on page c none = by (on page) (q page) (c.same page) none
 covers_one : (w : World) (on : Areas) (p : ℕ) → CoverPages w on → Covers (pages w p) (on p)
 covers_one w on p c = record { laid = c.laid p; same = c.prots p }
 
-covers_set : (w : World) (on : Areas) (p : ℕ) (new : Process) (there : Pages) → CoverPages w on → Covers new there → CoverPages (set_process w p new) (with_at p there on)
-covers_set w on p new there c h = record { laid = λ q. laid q (q == p); prots = λ q page. at q page (q == p) ∙ sym (ap prot_of (pages-set w p new q page ∙ ap (λ b. cond b (new page) (pages w q page)) (same_number q p))) }
+covers_set : (w : World) (on : Areas) (p : ℕ) (new : Process) (there : Pages) → CoverPages w on → Covers new there
+    → CoverPages (set_process w p new) (with_at p there on)
+covers_set w on p new there c h = record {
+  laid = λ q. laid q (q == p);
+  prots = λ q page. at q page (q == p)
+      ∙ sym (ap prot_of (pages-set w p new q page ∙ ap (λ b. cond b (new page) (pages w q page)) (same_number q p)));
+}
   where
     same_number : (q n : ℕ) → eq_by_cmp nat_cmp q n ≡ (q == n)
     same_number q n = grind (arith, nat_tests)
@@ -83,7 +88,15 @@ covers_set w on p new there c h = record { laid = λ q. laid q (q == p); prots =
     at q page false = c.prots q page
 
 covers_none : Covers no_pages none_on
-covers_none = record { laid = record { whole = λ page a e. absurd (none-some a e); here = λ page a e. absurd (none-some a e); all = λ page other a e h. absurd (none-some a e) }; same = λ page. refl }
+covers_none = record {
+  laid = record {
+    whole = λ page a e. absurd (none-some a e);
+    here = λ page a e. absurd
+        (none-some a e);
+    all = λ page other a e h. absurd (none-some a e);
+  };
+  same = λ page. refl;
+}
 
 covers_ended : (w : World) (on : Areas) (p : ℕ) → CoverPages w on → CoverPages (end_process w p) (with_at p none_on on)
 covers_ended w on p c = record { laid = λ q. laid q (q == p); prots = λ q page. at q page (q == p) ∙ sym (ap prot_of (pages-ended w p q page)) }
@@ -107,13 +120,19 @@ unclaimed-prots p page l s (e ∷ w) = by (eq_by_cmp nat_cmp p e.0) (unclaimed-p
     one false o = refl
 
     by : (b : Bool) → prot_of (pages (without_claims l s w) p page) ≡ prot_of (pages w p page)
-        → prot_of (option_and_then (λ (m : Process). m page) (cond b (Some (λ page. if is_of_slot s (entry l (e.0, page)) then option_map without_bytes (e.1 page) else e.1 page)) (find nat_cmp p (without_claims l s w))))
+        → prot_of (option_and_then (λ (m : Process). m page)
+        (cond b (Some (λ page. if is_of_slot s (entry l (e.0, page)) then option_map without_bytes (e.1 page) else e.1 page))
+        (find nat_cmp p (without_claims l s w))))
         ≡ prot_of (option_and_then (λ (m : Process). m page) (cond b (Some e.1) (find nat_cmp p w)))
     by true rest = one (is_of_slot s (entry l (e.0, page))) (e.1 page)
     by false rest = rest
 
 covers_loads : (m : Setting) (w : World) (l : Ledger) (es : List Event) (on : Areas) → CoverPages w on → CoverPages (with_loads m w l es) on
-covers_loads m w l es on c = record { laid = c.laid; prots = λ p page. c.prots p page ∙ sym (loads-same (λ w. prot_of (pages w p page)) m w l es (unclaimed-prots p page)) }
+covers_loads m w l es on c = record {
+  laid = c.laid;
+  prots = λ p page. c.prots p page
+      ∙ sym (loads-same (λ w. prot_of (pages w p page)) m w l es (unclaimed-prots p page));
+}
 
 -- so does a write
 covers_stored : (w : World) (on : Areas) (p a : ℕ) (bytes : List ℕ) → CoverPages w on → CoverPages (after_write w p a bytes) on
@@ -126,16 +145,17 @@ covers_stored w on p a (b ∷ bytes) c = record {
     is_number : (q n : ℕ) → eq_by_cmp nat_cmp q n ≡ true → q ≡ n
     is_number q n h = grind (arith, nat_tests, h)
 
-    stored : (page : ℕ) (o : Option Page) → prot_of (option_map (λ (p : Page). record p {
+    with_stored : (page : ℕ) (o : Option Page) → prot_of (option_map (λ (p : Page). record p {
       bytes = λ i.
           if within a (length (b ∷ bytes)) (address_of page + i) then Some (slice_index (b ∷ bytes) (address_of page + i - a))
           else p.bytes i;
     }) o) ≡ prot_of o
-    stored page None = refl
-    stored page (Some x) = refl
+    with_stored page None = refl
+    with_stored page (Some x) = refl
 
-    at : (q page : ℕ) (c : Bool) → eq_by_cmp nat_cmp q p ≡ c → prot_of (cond c (with_bytes (pages w p) a (b ∷ bytes) page) (pages w q page)) ≡ prot_of (pages w q page)
-    at q page true is = stored page (pages w p page) ∙ ap (λ n. prot_of (pages w n page)) (sym (is_number q p is))
+    at : (q page : ℕ) (c : Bool) → eq_by_cmp nat_cmp q p ≡ c
+        → prot_of (cond c (with_bytes (pages w p) a (b ∷ bytes) page) (pages w q page)) ≡ prot_of (pages w q page)
+    at q page true is = with_stored page (pages w p page) ∙ ap (λ n. prot_of (pages w n page)) (sym (is_number q p is))
     at q page false is = refl
 
 -- ---- unmap
@@ -175,7 +195,14 @@ record Room (q : Process) (room : Pages) (from n : ℕ) : Type 0 where
   some : 1 ≤ n
 
 fresh_whole : (p from n : ℕ) (prot : Prot) → 1 ≤ n → low_page ≤ from → from + n ≤ top_page → IsWhole (fresh_area p from (from + n) prot)
-fresh_whole p from n prot some low high = record { start = omega arith; end = omega arith; some = omega arith; low = omega arith; high = omega arith; small = omega arith }
+fresh_whole p from n prot some low high = record {
+  start = omega arith;
+  end = omega arith;
+  some = omega arith;
+  low = omega arith;
+  high = omega arith;
+  small = omega arith;
+}
 
 fresh_has : (p from n : ℕ) (prot : Prot) (page : ℕ) → has_page (fresh_area p from (from + n) prot) page ≡ within from n page
 fresh_has p from n prot page = λ i. within (first i) (pages i) page
@@ -197,11 +224,11 @@ covers_mapped : (long : Lengths) (p : ℕ) (q : Process) (room : Pages) (from n 
     → Covers (with_pages q from n (λ _. Some (zeros prot))) (after_map long p from (from + n) prot room)
 covers_mapped long p q room from n prot r =
     let f = fresh_area p from (from + n) prot in
-    let placed = laid_placed f room r.laid (fresh_whole p from n prot r.some r.low r.high) (λ page h. r.free page (sym (fresh_has p from n prot page) ∙ h)) in
-    let first = laid_joined long from (with_area f room) placed in
+    let with_new = laid_placed f room r.laid (fresh_whole p from n prot r.some r.low r.high) (λ page h. r.free page (sym (fresh_has p from n prot page) ∙ h)) in
+    let first = laid_joined long from (with_area f room) with_new in
     record {
       laid = laid_joined long (from + n) (joined_at long from (with_area f room)) first;
-      same = λ page. prots_joined long (from + n) (joined_at long from (with_area f room)) first page ∙ prots_joined long from (with_area f room) placed page
+      same = λ page. prots_joined long (from + n) (joined_at long from (with_area f room)) first page ∙ prots_joined long from (with_area f room) with_new page
           ∙ placed-prots f room page ∙ ap (λ b. cond b (Some prot) (prots room page)) (fresh_has p from n prot page) ∙ by page (within from n page) refl;
     }
   where
@@ -215,7 +242,7 @@ room_free : (q : Process) (on : Pages) (from n : ℕ) → Covers q on → 1 ≤ 
     → ((page : ℕ) → from ≤ page → page < from + n → is_mapped q page ≡ false) → Room q on from n
 room_free q on from n c some low high free = record {
   laid = c.laid;
-  free = λ page is. uncovered q on page c (free page (lower page is) (upper page is));
+  free = λ page is. no-area q on page c (free page (lower page is) (upper page is));
   others = λ page is. c.same page;
   low = low;
   high = high;
@@ -247,12 +274,14 @@ fixed_bounds a n rest h =
     above a true is e = cc
     above a false is e = let h : address_of low_page ≤ a = grind (arith, nat_tests, is) in omega (arith, h)
 
-room_fixed : (q : Process) (on : Pages) (a n : ℕ) → Covers q on → 1 ≤ n → Bounds (page_of a) n → Room q (after_unmap (page_of a) (page_of a + n) on) (page_of a) n
+room_fixed : (q : Process) (on : Pages) (a n : ℕ) → Covers q on → 1 ≤ n → Bounds (page_of a) n
+    → Room q (after_unmap (page_of a) (page_of a + n) on) (page_of a) n
 room_fixed q on a n c some bounds =
     let gone = covers_unmapped q on (page_of a) n c in
     record {
       laid = gone.laid;
-      free = λ page is. ap (λ b. cond b None (cut_at (page_of a + n) (cut_at (page_of a) on) page)) (ap (λ k. within (page_of a) k page) (same_width (page_of a) n) ∙ is);
+      free = λ page is. ap (λ b. cond b None (cut_at (page_of a + n) (cut_at (page_of a) on) page))
+          (ap (λ k. within (page_of a) k page) (same_width (page_of a) n) ∙ is);
       others = λ page is. gone.same page ∙ ap (λ b. prot_of (if b then None else q page)) is;
       low = bounds.low;
       high = bounds.high;
@@ -282,7 +311,8 @@ room_hint q on n page a c some goes = by (is_room q n (page_of a)) refl goes
         (λ x a' b. meets-none q (page_of a) n x room.2 a' b))
     by false is gap = room_gap q on n page c some gap
 
-room_new : (q : Process) (on : Pages) (n a : ℕ) → Covers q on → 1 ≤ n → refusal (fixed_tests n a ++ (meets q (page_of a) n, Eexist) ∷ []) ≡ None → Room q on (page_of a) n
+room_new : (q : Process) (on : Pages) (n a : ℕ) → Covers q on → 1 ≤ n → refusal (fixed_tests n a ++ (meets q (page_of a) n, Eexist) ∷ []) ≡ None
+    → Room q on (page_of a) n
 room_new q on n a c some h =
     let b = fixed_bounds a n ((meets q (page_of a) n, Eexist) ∷ []) h in
     let none = (first-test (meets q (page_of a) n) Eexist None b.1).0 in
@@ -291,29 +321,31 @@ room_new q on n a c some h =
 -- ---- protect
 
 module _ (long : Lengths) (prot : Prot) where
+  -- one page is cut out and gets the protection
+  one_changed : (x : ℕ) (on : Pages) → AreLaid on → AreLaid (with_effect_on x (x + 1) (to_prot prot) (cut_at (x + 1) (cut_at x on)))
+  one_changed x on laid =
+      let below = laid_cut x on laid in
+      laid_changed x (x + 1) (cut_at (x + 1) (cut_at x on)) (laid_cut (x + 1) (cut_at x on) below) (still_splits x (x + 1) (cut_at x on) below (cut_splits x on))
+      (cut_splits (x + 1) (cut_at x on)) (to_prot prot)
+
   laid_page : (x : ℕ) (on : Pages) → AreLaid on → AreLaid (page_changed long (to_prot prot) x on)
   laid_page x on laid = by (alters_at (to_prot prot) (on x))
     where
-      cut : AreLaid (cut_at (x + 1) (cut_at x on))
-      cut = laid_cut (x + 1) (cut_at x on) (laid_cut x on laid)
-
-      changed : AreLaid (with_effect_on x (x + 1) (to_prot prot) (cut_at (x + 1) (cut_at x on)))
-      changed = laid_changed x (x + 1) (cut_at (x + 1) (cut_at x on)) cut (still_splits x (x + 1) (cut_at x on) (laid_cut x on laid) (cut_splits x on))
-          (cut_splits (x + 1) (cut_at x on)) (to_prot prot)
-
       by : (b : Bool) → AreLaid (if b then part_changed long x (x + 1) (to_prot prot) on else on)
-      by true = laid_joined long (x + 1) _ (laid_joined long x _ changed)
+      by true = laid_joined long (x + 1) _ (laid_joined long x _ (one_changed x on laid))
       by false = laid
 
   changed-prots : (from past : ℕ) (on : Pages) (page : ℕ)
       → prots (with_effect_on from past (to_prot prot) on) page ≡ cond (within from (past - from) page) (option_map (λ _. prot) (prots on page)) (prots on page)
   changed-prots from past on page = by (within from (past - from) page)
     where
-      each : (o : Option Area) → option_map (λ (a : Area). a.prot) (option_map (with_effect (to_prot prot)) o) ≡ option_map (λ _. prot) (option_map (λ (a : Area). a.prot) o)
+      each : (o : Option Area) → option_map (λ (a : Area). a.prot) (option_map (with_effect (to_prot prot)) o)
+          ≡ option_map (λ _. prot) (option_map (λ (a : Area). a.prot) o)
       each None = refl
       each (Some a) = refl
 
-      by : (b : Bool) → option_map (λ (a : Area). a.prot) (cond b (option_map (with_effect (to_prot prot)) (on page)) (on page)) ≡ cond b (option_map (λ _. prot) (prots on page)) (prots on page)
+      by : (b : Bool) → option_map (λ (a : Area). a.prot) (cond b (option_map (with_effect (to_prot prot)) (on page)) (on page))
+          ≡ cond b (option_map (λ _. prot) (prots on page)) (prots on page)
       by true = each (on page)
       by false = refl
 
@@ -321,20 +353,14 @@ module _ (long : Lengths) (prot : Prot) where
       → prots (page_changed long (to_prot prot) x on) page ≡ cond (page == x) (option_map (λ _. prot) (prots on page)) (prots on page)
   prots_page x on laid page = by (alters_at (to_prot prot) (on x)) refl
     where
-      cut : AreLaid (cut_at (x + 1) (cut_at x on))
-      cut = laid_cut (x + 1) (cut_at x on) (laid_cut x on laid)
-
-      changed : AreLaid (with_effect_on x (x + 1) (to_prot prot) (cut_at (x + 1) (cut_at x on)))
-      changed = laid_changed x (x + 1) (cut_at (x + 1) (cut_at x on)) cut (still_splits x (x + 1) (cut_at x on) (laid_cut x on laid) (cut_splits x on))
-          (cut_splits (x + 1) (cut_at x on)) (to_prot prot)
-
       alone : (x page : ℕ) → within x ((x + 1) - x) page ≡ (page == x)
       alone x page = ap (λ k. within x k page) (width x) ∙ grind (arith, nat_tests)
         where
           width : (x : ℕ) → (x + 1) - x ≡ 1
           width x = omega arith
 
-      so_already : (o : Option Area) → alters_at (to_prot prot) o ≡ false → option_map (λ (a : Area). a.prot) o ≡ option_map (λ _. prot) (option_map (λ (a : Area). a.prot) o)
+      so_already : (o : Option Area) → alters_at (to_prot prot) o ≡ false
+          → option_map (λ (a : Area). a.prot) o ≡ option_map (λ _. prot) (option_map (λ (a : Area). a.prot) o)
       so_already None h = refl
       so_already (Some a) h = ap Some (sym (prot_is prot a.prot (bit (same_prot prot a.prot) (a.flags == a.flags) h)))
         where
@@ -342,13 +368,16 @@ module _ (long : Lengths) (prot : Prot) where
           bit true c h = refl
           bit false c h = cc
 
-      still : (c : Bool) → (page == x) ≡ c → alters_at (to_prot prot) (on x) ≡ false → prots on page ≡ cond c (option_map (λ _. prot) (prots on page)) (prots on page)
+      still : (c : Bool) → (page == x) ≡ c → alters_at (to_prot prot) (on x) ≡ false
+          → prots on page ≡ cond c (option_map (λ _. prot) (prots on page)) (prots on page)
       still true is none = let same : page ≡ x = grind (arith, nat_tests, is) in
           subst (λ y. prots on y ≡ option_map (λ _. prot) (prots on y)) (sym same) (so_already (on x) none)
       still false is none = refl
 
-      by : (b : Bool) → alters_at (to_prot prot) (on x) ≡ b → prots (if b then part_changed long x (x + 1) (to_prot prot) on else on) page ≡ cond (page == x) (option_map (λ _. prot) (prots on page)) (prots on page)
-      by true is = prots_joined long (x + 1) _ (laid_joined long x _ changed) page ∙ prots_joined long x _ changed page
+      by : (b : Bool) → alters_at (to_prot prot) (on x) ≡ b → prots (if b then part_changed long x (x + 1) (to_prot prot) on else on) page
+          ≡ cond (page == x) (option_map (λ _. prot) (prots on page)) (prots on page)
+      by true is = prots_joined long (x + 1) _ (laid_joined long x _ (one_changed x on laid)) page
+          ∙ prots_joined long x _ (one_changed x on laid) page
           ∙ changed-prots x (x + 1) (cut_at (x + 1) (cut_at x on)) page
           ∙ (λ i. cond (alone x page i) (option_map (λ _. prot) (kept i)) (kept i))
         where
@@ -390,23 +419,27 @@ module _ (long : Lengths) (prot : Prot) where
       each None = refl
       each (Some x) = refl
 
-      by : (page : ℕ) (b : Bool) → cond b (option_map (λ _. prot) (prots on page)) (prots on page) ≡ prot_of (if b then option_map (with_prot prot) (q page) else q page)
+      by : (page : ℕ) (b : Bool) → cond b (option_map (λ _. prot) (prots on page)) (prots on page)
+          ≡ prot_of (if b then option_map (with_prot prot) (q page) else q page)
       by page true = ap (option_map (λ _. prot)) (c.same page) ∙ each (q page)
       by page false = c.same page
 
 -- ---- a step
 
-covers-follows : (m : Setting) (w now : World) (l : Ledger) (long : Lengths) (on : Areas) (command : Command) (es : List Event) (answer : Answer) (rows : List Row)
+covers-follows : (m : Setting) (w now : World) (l : Ledger) (long : Lengths) (on : Areas) (command : Command) (es : List Event) (answer : Answer)
+    (rows : List Row)
     → (es ≡ [] → now ≡ w) → CoverPages now on → refusal (tests m w l command) ≡ None → Follows m w l command es answer rows
     → CoverPages (next now command answer) (next_areas long on w command answer)
-covers-follows m w now l long on (Spawn p) es answer rows same c none h = subst (λ x. CoverPages (next now (Spawn p) x) (next_areas long on w (Spawn p) x)) (sym h.0)
+covers-follows m w now l long on (Spawn p) es answer rows same c none h = subst
+    (λ x. CoverPages (next now (Spawn p) x) (next_areas long on w (Spawn p) x)) (sym h.0)
     (covers_set now on p no_pages none_on c covers_none)
-covers-follows m w now l long on (Exit p) es answer rows same c none h = subst (λ x. CoverPages (next now (Exit p) x) (next_areas long on w (Exit p) x)) (sym h.0)
+covers-follows m w now l long on (Exit p) es answer rows same c none h = subst
+    (λ x. CoverPages (next now (Exit p) x) (next_areas long on w (Exit p) x)) (sym h.0)
     (covers_ended now on p c)
 covers-follows m w now l long on (Mmap p len prot place) es answer rows same c none h = at h.0 h.1 h.2
   where
-    tested : ((len == 0) ≡ false) × (refusal (place_tests (pages w p) (pages_of len) place) ≡ None)
-    tested =
+    tests_pass : ((len == 0) ≡ false) × (refusal (place_tests (pages w p) (pages_of len) place) ≡ None)
+    tests_pass =
         let rest = place_tests (pages w p) (pages_of len) place in
         let one = first-test (not (lives w p)) Esrch (refusal ((len == 0, Einval) ∷ (is_too_long len, Enomem) ∷ rest)) none in
         let two = first-test (len == 0) Einval (refusal ((is_too_long len, Enomem) ∷ rest)) one.1 in
@@ -422,69 +455,85 @@ covers-follows m w now l long on (Mmap p len prot place) es answer rows same c n
     one = covers_one now on p c
 
     -- the events of the place: none, but for a fixed one
-    moved : now ≡ w → Covers (pages w p) (on p)
-    moved e = subst (λ x. Covers (pages x p) (on p)) e one
+    of_before : now ≡ w → Covers (pages w p) (on p)
+    of_before e = subst (λ x. Covers (pages x p) (on p)) e one
 
     to_now : (on' : Pages) (page : ℕ) → now ≡ w → Room (pages w p) on' page (pages_of len) → Room (pages now p) on' page (pages_of len)
     to_now on' page e r = subst (λ x. Room (pages x p) on' page (pages_of len)) (sym e) r
 
     room : (place : Place) (page : ℕ) → refusal (place_tests (pages w p) (pages_of len) place) ≡ None → Goes (pages w p) (pages_of len) place (Some page)
         → es ≡ zaps_for_place l p (pages_of len) place → Room (pages now p) (with_room (pages_of len) place (on p)) page (pages_of len)
-    room Auto page none goes e = to_now (on p) page (same e) (room_gap (pages w p) (on p) (pages_of len) page (moved (same e)) (some len tested.0) goes)
-    room (At a) page none goes e = to_now (on p) page (same e) (room_hint (pages w p) (on p) (pages_of len) page a (moved (same e)) (some len tested.0) goes)
-    room (Fixed a) page none goes e = subst (λ x. Room (pages now p) (after_unmap (page_of a) (page_of a + pages_of len) (on p)) x (pages_of len)) (sym (inner goes))
-        (room_fixed (pages now p) (on p) a (pages_of len) one (some len tested.0) (fixed_bounds a (pages_of len) [] none).0)
+    room Auto page none goes e = to_now (on p) page (same e) (room_gap (pages w p) (on p) (pages_of len) page (of_before (same e)) (some len tests_pass.0) goes)
+    room (At a) page none goes e = to_now (on p) page (same e) (room_hint (pages w p) (on p) (pages_of len) page a (of_before (same e)) (some len tests_pass.0) goes)
+    room (Fixed a) page none goes e = subst (λ x. Room (pages now p) (after_unmap (page_of a) (page_of a + pages_of len) (on p)) x (pages_of len))
+        (sym (inner goes))
+        (room_fixed (pages now p) (on p) a (pages_of len) one (some len tests_pass.0) (fixed_bounds a (pages_of len) [] none).0)
     room (NoReplace a) page none goes e = subst (λ x. Room (pages now p) (on p) x (pages_of len)) (sym (inner goes))
-        (to_now (on p) (page_of a) (same e) (room_new (pages w p) (on p) (pages_of len) a (moved (same e)) (some len tested.0) none))
+        (to_now (on p) (page_of a) (same e) (room_new (pages w p) (on p) (pages_of len) a (of_before (same e)) (some len tests_pass.0) none))
 
-    at : (to : Option ℕ) → Goes (pages w p) (pages_of len) place to → IsMapAt answer to → CoverPages (next now (Mmap p len prot place) answer) (next_areas long on w (Mmap p len prot place) answer)
+    at : (to : Option ℕ) → Goes (pages w p) (pages_of len) place to → IsMapAt answer to
+        → CoverPages (next now (Mmap p len prot place) answer) (next_areas long on w (Mmap p len prot place) answer)
     at None goes e = subst (λ x. CoverPages (next now (Mmap p len prot place) x) (next_areas long on w (Mmap p len prot place) x)) (sym e) c
     at (Some page) goes e = subst (λ x. CoverPages (next now (Mmap p len prot place) x) (next_areas long on w (Mmap p len prot place) x)) (sym e)
         (covers_set now on p _ _ c (covers_mapped long p (pages now p) (with_room (pages_of len) place (on p)) (page_of (address_of page)) (pages_of len) prot
-        (subst (λ f. Room (pages now p) (with_room (pages_of len) place (on p)) f (pages_of len)) (sym (back page)) (room place page tested.1 goes h.3))))
-covers-follows m w now l long on (Munmap p a len) es answer rows same c none h = subst (λ x. CoverPages (next now (Munmap p a len) x) (next_areas long on w (Munmap p a len) x)) (sym h.0)
+        (subst (λ f. Room (pages now p) (with_room (pages_of len) place (on p)) f (pages_of len)) (sym (back page)) (room place page tests_pass.1 goes h.3))))
+covers-follows m w now l long on (Munmap p a len) es answer rows same c none h = subst
+    (λ x. CoverPages (next now (Munmap p a len) x) (next_areas long on w (Munmap p a len) x)) (sym h.0)
     (covers_set now on p _ _ c (covers_unmapped (pages now p) (on p) (page_of a) (pages_of len) (covers_one now on p c)))
-covers-follows m w now l long on (Mprotect p a len prot) es answer rows same c none h = subst (λ x. CoverPages (next now (Mprotect p a len prot) x) (next_areas long on w (Mprotect p a len prot) x)) (sym h.0)
-    (subst (λ now. CoverPages now on → CoverPages (next now (Mprotect p a len prot) (if pages_to_hole (pages w p) (page_of a) (pages_of len) == pages_of len then Done else Refused Enomem))
+covers-follows m w now l long on (Mprotect p a len prot) es answer rows same c none h = subst
+    (λ x. CoverPages (next now (Mprotect p a len prot) x) (next_areas long on w (Mprotect p a len prot) x)) (sym h.0)
+    (subst (λ now. CoverPages now on → CoverPages (next now (Mprotect p a len prot)
+    (if pages_to_hole (pages w p) (page_of a) (pages_of len) == pages_of len then Done else Refused Enomem))
     (next_areas long on w (Mprotect p a len prot) (if pages_to_hole (pages w p) (page_of a) (pages_of len) == pages_of len then Done else Refused Enomem)))
     (sym (same h.1)) (λ c. at c (pages_to_hole (pages w p) (page_of a) (pages_of len) == pages_of len) refl) c)
   where
-    changed : (n : ℕ) → CoverPages w on → CoverPages (set_process w p (with_prot_on (pages w p) (page_of a) n prot)) (with_at p (pages_changed long (to_prot prot) (page_of a) n (on p)) on)
-    changed n c = covers_set w on p _ _ c (covers_changed long prot (pages w p) (on p) (page_of a) n (covers_one w on p c))
+    after_change : (n : ℕ) → CoverPages w on → CoverPages (set_process w p (with_prot_on (pages w p) (page_of a) n prot))
+        (with_at p (pages_changed long (to_prot prot) (page_of a) n (on p)) on)
+    after_change n c = covers_set w on p _ _ c (covers_changed long prot (pages w p) (on p) (page_of a) n (covers_one w on p c))
 
     at : CoverPages w on → (b : Bool) → (pages_to_hole (pages w p) (page_of a) (pages_of len) == pages_of len) ≡ b
-        → CoverPages (next w (Mprotect p a len prot) (if b then Done else Refused Enomem)) (next_areas long on w (Mprotect p a len prot) (if b then Done else Refused Enomem))
+        → CoverPages (next w (Mprotect p a len prot) (if b then Done else Refused Enomem))
+        (next_areas long on w (Mprotect p a len prot) (if b then Done else Refused Enomem))
     at c true is = let all : pages_to_hole (pages w p) (page_of a) (pages_of len) ≡ pages_of len = grind (arith, nat_tests, is) in
-        subst (λ n. CoverPages (set_process w p (with_prot_on (pages w p) (page_of a) (pages_of len) prot)) (with_at p (pages_changed long (to_prot prot) (page_of a) n (on p)) on)) (sym all) (changed (pages_of len) c)
+        subst (λ n. CoverPages (set_process w p (with_prot_on (pages w p) (page_of a) (pages_of len) prot))
+        (with_at p (pages_changed long (to_prot prot) (page_of a) n (on p)) on)) (sym all) (after_change (pages_of len) c)
     at c false is = by (wraps a len)
       where
-        by : (b : Bool) → CoverPages (if b then w else with_prot_to_hole w p (page_of a) (pages_of len) prot) (if b then on else with_at p (areas_to_hole long w p (page_of a) (pages_of len) prot (on p)) on)
+        by : (b : Bool) → CoverPages (if b then w else with_prot_to_hole w p (page_of a) (pages_of len) prot)
+            (if b then on else with_at p (areas_to_hole long w p (page_of a) (pages_of len) prot (on p)) on)
         by true = c
-        by false = changed (pages_to_hole (pages w p) (page_of a) (pages_of len)) c
+        by false = after_change (pages_to_hole (pages w p) (page_of a) (pages_of len)) c
 covers-follows m w now l long on (Read p a n) es answer rows same c none h = c
 covers-follows m w now l long on (Write p a bytes) es answer rows same c none h = covers_stored now on p a (first_bytes answer bytes) c
 covers-follows m w now l long on (Maps p) es answer rows same c none h = c
 covers-follows m w now l long on Stat es answer rows same c none h = c
 
-pub step-covers : (m : Setting) (old : State) (command : Command) (reply : Reply) (new : State) → CoverPages old.world old.areas → IsStep m old command reply new → CoverPages new.world new.areas
+pub step-covers : (m : Setting) (old : State) (command : Command) (reply : Reply) (new : State) → CoverPages old.world old.areas
+    → IsStep m old command reply new → CoverPages new.world new.areas
 step-covers m old command reply new c h =
-    subst (CoverPages new.world) (sym h.areas.areas) (subst (λ w. CoverPages w (next_areas (chain_length old.anons) old.areas old.world command reply.answer)) (sym h.world)
+    subst (CoverPages new.world) (sym h.areas.areas) (subst (λ w. CoverPages w
+    (next_areas (chain_length old.anons) old.areas old.world command reply.answer)) (sym h.world)
     (by (refusal (tests m old.world old.ledger command)) refl h.legal.answer))
   where
     now : World
     now = with_loads m old.world old.ledger h.events
 
-    loaded : CoverPages (with_loads m old.world old.ledger h.events) old.areas
-    loaded = covers_loads m old.world old.ledger h.events old.areas c
+    after_loads : CoverPages (with_loads m old.world old.ledger h.events) old.areas
+    after_loads = covers_loads m old.world old.ledger h.events old.areas c
 
     by : (o : Option Errno) → refusal (tests m old.world old.ledger command) ≡ o
         → MatchOption o (Follows m old.world old.ledger command h.events reply.answer reply.rows) (λ error. Refuses error h.events reply.answer reply.rows)
-        → CoverPages (next_world m old.world old.ledger h.events command reply.answer) (next_areas (chain_length old.anons) old.areas old.world command reply.answer)
-    by None is x = covers-follows m old.world (with_loads m old.world old.ledger h.events) old.ledger (chain_length old.anons) old.areas command h.events reply.answer reply.rows
-        (loads-none m old.world old.ledger h.events) loaded is x
-    by (Some error) is x = subst (λ a. CoverPages (next (with_loads m old.world old.ledger h.events) command a) (next_areas (chain_length old.anons) old.areas old.world command a)) (sym x.0)
-        (subst (λ w. CoverPages w (next_areas (chain_length old.anons) old.areas old.world command (Refused error))) (sym (refused-next m old.world (with_loads m old.world old.ledger h.events) old.ledger command error is))
-        (subst (CoverPages (with_loads m old.world old.ledger h.events)) (sym (refused-areas m old.world old.ledger (chain_length old.anons) old.areas command error is)) loaded))
+        → CoverPages (next_world m old.world old.ledger h.events command reply.answer)
+        (next_areas (chain_length old.anons) old.areas old.world command reply.answer)
+    by None is x = covers-follows m old.world (with_loads m old.world old.ledger h.events) old.ledger
+        (chain_length old.anons) old.areas command h.events reply.answer reply.rows
+        (loads-none m old.world old.ledger h.events) after_loads is x
+    by (Some error) is x = subst (λ a. CoverPages (next (with_loads m old.world old.ledger h.events) command a)
+        (next_areas (chain_length old.anons) old.areas old.world command a)) (sym x.0)
+        (subst (λ w. CoverPages w (next_areas (chain_length old.anons) old.areas old.world command (Refused error)))
+        (sym (refused-next m old.world (with_loads m old.world old.ledger h.events) old.ledger command error is))
+        (subst (CoverPages (with_loads m old.world old.ledger h.events))
+        (sym (refused-areas m old.world old.ledger (chain_length old.anons) old.areas command error is)) after_loads))
 
 run-from : (m : Setting) (old : State) (es : List Exchange) (new : State) → CoverPages old.world old.areas → IsRun m old es new → CoverPages new.world new.areas
 run-from m old [] new c h = subst (λ (s : State). CoverPages s.world s.areas) (sym h) c

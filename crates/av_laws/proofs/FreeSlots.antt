@@ -189,7 +189,8 @@ module _ (m : Setting) (closing : Option ℕ) (l l' : Ledger) (taken : Option Sl
   in_range s used = in_pages s (inv.there s used)
 
   -- a slot that comes back was taken
-  all_taken : (k : ℕ) → AreTaken (λ page. let s : Slot = record { area = k; page = page } in slot_count l' s == 0 && is_used l s) 1 (size_of m k - 1) (rest k).pages
+  all_taken : (k : ℕ) → AreTaken (λ page. let s : Slot = record { area = k; page = page } in slot_count l' s == 0 && is_used l s) 1 (size_of m k - 1)
+      (rest k).pages
   all_taken k page low high is = let s : Slot = record { area = k; page = page } in
       ap is_taken (rest-at s) ∙ by (is_that taken s) (is_used l s) (is_used l' s) (at old s) (sym (goes-is s) ∙ is) (inv.taken s) (brings.took s)
     where
@@ -200,13 +201,16 @@ module _ (m : Setting) (closing : Option ℕ) (l l' : Ledger) (taken : Option Sl
       by false false false a g h took = cc
 
   new-at : (s : Slot) → at (with_given_back m l l' rest) s
-      ≡ cond ((nat_le 1 s.page && nat_lt s.page (1 + (size_of m s.area - 1))) && (not (is_used l' s) && is_used l s)) FreePage (cond (is_that taken s) Taken (at old s))
-  new-at s = back-at (λ page. let t : Slot = record { area = s.area; page = page } in slot_count l' t == 0 && is_used l t) 1 (size_of m s.area - 1) (rest s.area) (all_taken s.area) s.page
+      ≡ cond ((nat_le 1 s.page && nat_lt s.page (1 + (size_of m s.area - 1))) && (not (is_used l' s) && is_used l s)) FreePage
+      (cond (is_that taken s) Taken (at old s))
+  new-at s = back-at (λ page. let t : Slot = record { area = s.area; page = page } in slot_count l' t == 0 && is_used l t) 1 (size_of m s.area - 1)
+      (rest s.area) (all_taken s.area) s.page
       ∙ (λ i. cond ((nat_le 1 s.page && nat_lt s.page (1 + (size_of m s.area - 1))) && goes-is s i) FreePage (rest-at s i))
 
   -- the pages afterwards
   taken-kept : (s : Slot) → is_taken (at (with_given_back m l l' rest) s) ≡ is_used l' s
-  taken-kept s = ap is_taken (new-at s) ∙ by (is_that taken s) (is_used l s) (is_used l' s) _ (at old s) (inv.taken s) (brings.took s) (brings.came s) (in_range s)
+  taken-kept s = ap is_taken (new-at s) ∙ by (is_that taken s) (is_used l s) (is_used l' s) _ (at old s) (inv.taken s) (brings.took s) (brings.came s)
+      (in_range s)
     where
       by : (t u v r : Bool) (a : Page) → is_taken a ≡ u → (t ≡ true → v ≡ true) → (v ≡ true → u ≡ false → t ≡ true) → (u ≡ true → r ≡ true)
           → is_taken (cond (r && (not v && u)) FreePage (cond t Taken a)) ≡ v
@@ -228,7 +232,8 @@ module _ (m : Setting) (closing : Option ℕ) (l l' : Ledger) (taken : Option Sl
   on_moved s = ap (λ o. is_there m (record l { on = o }) s) brings.on_same
 
   free-kept : (s : Slot) → is_free_page (at (with_given_back m l l' rest) s) ≡ true → is_there m l' s ≡ true
-  free-kept s is = on_moved s ∙ by (is_that taken s) (is_used l s) (is_used l' s) _ (at old s) (inv.there s) (inv.free s) (sym (ap is_free_page (new-at s)) ∙ is)
+  free-kept s is = on_moved s ∙ by (is_that taken s) (is_used l s) (is_used l' s) _ (at old s) (inv.there s) (inv.free s)
+      (sym (ap is_free_page (new-at s)) ∙ is)
     where
       by : (t u v r : Bool) (a : Page) → (u ≡ true → is_there m l s ≡ true) → (is_free_page a ≡ true → is_there m l s ≡ true)
           → is_free_page (cond (r && (not v && u)) FreePage (cond t Taken a)) ≡ true → is_there m l s ≡ true
@@ -252,13 +257,15 @@ module _ (m : Setting) (closing : Option ℕ) (l l' : Ledger) (taken : Option Sl
   -- ---- how many
 
   back-many : (k : ℕ) → count_by is_free_page (with_given_back m l l' rest k).pages ≡ count_by is_free_page (rest k).pages + length (new_free_slots m l l' k)
-  back-many k = back-count (λ page. let t : Slot = record { area = k; page = page } in slot_count l' t == 0 && is_used l t) 1 (size_of m k - 1) (rest k) (all_taken k)
+  back-many k = back-count (λ page. let t : Slot = record { area = k; page = page } in slot_count l' t == 0 && is_used l t) 1 (size_of m k - 1)
+      (rest k) (all_taken k)
 
   rest-many : (k : ℕ) → count_by is_free_page (rest k).pages + in_area taken k ≡ count_by is_free_page (old k).pages
   rest-many k = by taken given
     where
       gave : (t : Slot) (o : Option (ℕ × Slots)) → Gives (old t.area) o
-          → IsSomeAnd o (λ x. (x.0 ≡ t.page) × (rest ≡ with_at t.area x.1 old)) → count_by is_free_page (rest k).pages + cond (k == t.area) 1 0 ≡ count_by is_free_page (old k).pages
+          → IsSomeAnd o (λ x. (x.0 ≡ t.page) × (rest ≡ with_at t.area x.1 old))
+          → count_by is_free_page (rest k).pages + cond (k == t.area) 1 0 ≡ count_by is_free_page (old k).pages
       gave t None g h = absurd h
       gave t (Some x) g h = ap (λ (slots : AreaSlots). count_by is_free_page (slots k).pages + cond (k == t.area) 1 0) h.1 ∙ area (k == t.area) refl
         where
@@ -274,12 +281,15 @@ module _ (m : Setting) (closing : Option ℕ) (l l' : Ledger) (taken : Option Sl
 
   used-many : (k : ℕ) → length (slots_in_use m l' k) + length (new_free_slots m l l' k) ≡ length (slots_in_use m l k) + in_area taken k
   used-many k =
-      sum-passes (λ page. is_used l' (record { area = k; page = page })) (λ page. let s : Slot = record { area = k; page = page } in slot_count l' s == 0 && is_used l s)
+      sum-passes (λ page. is_used l' (record { area = k; page = page }))
+      (λ page. let s : Slot = record { area = k; page = page } in slot_count l' s == 0 && is_used l s)
       (λ page. is_used l (record { area = k; page = page })) (λ page. is_that taken (record { area = k; page = page })) 1 (size_of m k - 1)
       (λ page. each (record { area = k; page = page })) ∙ ap (λ n. length (slots_in_use m l k) + n) (those taken there-before)
     where
-      each : (s : Slot) → ◌≡◌ {A = ℕ} (cond (is_used l' s) 1 0 + cond (slot_count l' s == 0 && is_used l s) 1 0) (cond (is_used l s) 1 0 + cond (is_that taken s) 1 0)
-      each s = ap (λ b. cond (is_used l' s) 1 0 + cond b 1 0) (goes-is s) ∙ by (is_that taken s) (is_used l s) (is_used l' s) (brings.took s) (brings.came s) (unused s)
+      each : (s : Slot) → ◌≡◌ {A = ℕ} (cond (is_used l' s) 1 0 + cond (slot_count l' s == 0 && is_used l s) 1 0)
+          (cond (is_used l s) 1 0 + cond (is_that taken s) 1 0)
+      each s = ap (λ b. cond (is_used l' s) 1 0 + cond b 1 0) (goes-is s)
+          ∙ by (is_that taken s) (is_used l s) (is_used l' s) (brings.took s) (brings.came s) (unused s)
         where
           unused : (s : Slot) → is_that taken s ≡ true → is_used l s ≡ false
           unused s is = sym (inv.taken s) ∙ not_taken (at old s) (was_free s is)
@@ -314,7 +324,8 @@ module _ (m : Setting) (closing : Option ℕ) (l l' : Ledger) (taken : Option Sl
   sum-kept : (k : ℕ) → count_by is_free_page (with_given_back m l l' rest k).pages + length (slots_in_use m l' k) ≡ slots_on (find nat_cmp k l'.on)
   sum-kept k =
       let a = back-many k in let b = rest-many k in let c = used-many k in let d = inv.sum k in
-      let e : count_by is_free_page (with_given_back m l l' rest k).pages + length (slots_in_use m l' k) ≡ slots_on (find nat_cmp k l.on) = omega (arith, a, b, c, d) in
+      let e : count_by is_free_page (with_given_back m l l' rest k).pages + length (slots_in_use m l' k)
+      ≡ slots_on (find nat_cmp k l.on) = omega (arith, a, b, c, d) in
       e ∙ ap (λ on. slots_on (find nat_cmp k on)) (sym brings.on_same)
 
   -- all is kept
@@ -323,8 +334,8 @@ module _ (m : Setting) (closing : Option ℕ) (l l' : Ledger) (taken : Option Sl
 
 -- ---- what each event brings
 
-counted : (l : Ledger) (s : Slot) → nat_lt 0 (slot_count l s) ≡ nat_lt 0 (count l s)
-counted l s = by (is_cached l s) (slots l s) (slot_entries l s) (any-counts (λ (c : Cached). same_slot s c.slot) l.cache)
+used-counts : (l : Ledger) (s : Slot) → nat_lt 0 (slot_count l s) ≡ nat_lt 0 (count l s)
+used-counts l s = by (is_cached l s) (slots l s) (slot_entries l s) (any-counts (λ (c : Cached). same_slot s c.slot) l.cache)
   where
     by : (b : Bool) (n e : ℕ) → b ≡ nat_lt 0 n → nat_lt 0 (e + cond b 1 0) ≡ nat_lt 0 (n + e)
     by true n e h = grind (arith, nat_tests, h)
@@ -340,7 +351,7 @@ is-positive n e = grind (arith, nat_tests, e)
 fewer-brings : (l l' : Ledger) → l'.on ≡ l.on → ((s : Slot) → 0 < count l' s → 0 < count l s) → Brings l l' None
 fewer-brings l l' on h = record {
   on_same = on;
-  came = λ s is was. absurd (never (sym was ∙ counted l s ∙ is-positive _ (h s (positive _ (sym (counted l' s) ∙ is)))));
+  came = λ s is was. absurd (never (sym was ∙ used-counts l s ∙ is-positive _ (h s (positive _ (sym (used-counts l' s) ∙ is)))));
   took = λ s is. cc;
 }
 
@@ -375,7 +386,8 @@ put-brings l f t = record { on_same = refl; came = λ s is was. came s (same_slo
     took s true e = grind (arith, nat_tests)
     took s false e = cc
 
-note-brings : (m : Setting) (closing : Option ℕ) (l : Ledger) (note : Note) → T (is_sorted key_cmp l.entries) → IsLawful m closing l note → Brings l (after_note note l) (slot_in_note note)
+note-brings : (m : Setting) (closing : Option ℕ) (l : Ledger) (note : Note) → T (is_sorted key_cmp l.entries) → IsLawful m closing l note
+    → Brings l (after_note note l) (slot_in_note note)
 note-brings m closing l (Put f t) sorted h = put-brings l f t
 note-brings m closing l (Zeroed p a) sorted h = plain-brings m l _ (lawful-no_new (bare m) closing l (Zeroed p a) sorted h)
 note-brings m closing l (New p a f) sorted h = plain-brings m l _ (lawful-no_new (bare m) closing l (New p a f) sorted h)
@@ -405,7 +417,8 @@ used-brings m l write k s = plain-brings m l _ (used-no_new (bare m) l write k (
 zap-brings : (l : Ledger) (k : Key) → T (is_sorted key_cmp l.entries) → Brings l (after_zap k l) None
 zap-brings l k h =
     let same = same_swap-after_zap k l in
-    fewer-brings l (after_zap k l) same.on (λ t i. let a = slot_entries-after_zap k l t h in let b = ap (how_many (λ (c : Cached). same_slot t c.slot)) same.cache in omega (arith, a, b, i))
+    fewer-brings l (after_zap k l) same.on (λ t i. let a = slot_entries-after_zap k l t h in
+    let b = ap (how_many (λ (c : Cached). same_slot t c.slot)) same.cache in omega (arith, a, b, i))
 
 -- ---- several events
 
@@ -413,9 +426,11 @@ zap-brings l k h =
 event-inv : (m : Setting) (closing : Option ℕ) (l l' : Ledger) (taken : Option Slot) (old new on rest : AreaSlots) → on ≡ old
     → MatchOption taken (rest ≡ on) (λ s. IsGiven m closing l s on rest) → new ≡ with_given_back m l l' rest → Brings l l' taken → Inv m l old → Inv m l' new
 event-inv m closing l l' taken old new on rest same given is brings inv =
-    subst (Inv m l') (sym is) (inv-kept m closing l l' taken old rest brings (subst (λ on. MatchOption taken (rest ≡ on) (λ s. IsGiven m closing l s on rest)) same given) inv)
+    subst (Inv m l') (sym is) (inv-kept m closing l l' taken old rest brings
+    (subst (λ on. MatchOption taken (rest ≡ on) (λ s. IsGiven m closing l s on rest)) same given) inv)
 
-notes-inv : (m : Setting) (closing : Option ℕ) (l : Ledger) (notes : List Note) (free free' : Free) → T (is_sorted key_cmp l.entries) → AreLawful m closing l notes
+notes-inv : (m : Setting) (closing : Option ℕ) (l : Ledger) (notes : List Note) (free free' : Free) → T (is_sorted key_cmp l.entries)
+    → AreLawful m closing l notes
     → ChoosesAll m closing l (note_events notes) free free' → Inv m l free.slots → Inv m (after_notes l notes) free'.slots
 notes-inv m closing l [] free free' sorted lawful c h = subst (λ (f : Free). Inv m l f.slots) (sym c) h
 notes-inv m closing l (note ∷ notes) free free' sorted lawful c h =
@@ -425,7 +440,8 @@ notes-inv m closing l (note ∷ notes) free free' sorted lawful c h =
 
 -- ---- a page, and an access
 
-page-inv : (m : Setting) (w : World) (l : Ledger) (write : Bool) (k : Key) (notes : List Note) (end : Option Stop) (free free' : Free) → IsSound m l → Touches m w l write k notes end
+page-inv : (m : Setting) (w : World) (l : Ledger) (write : Bool) (k : Key) (notes : List Note) (end : Option Stop) (free free' : Free) → IsSound m l
+    → Touches m w l write k notes end
     → ChoosesAll m None l (page_events write k notes end) free free' → Inv m l free.slots → Inv m (after_all l (page_events write k notes end)) free'.slots
 page-inv m w l write k notes (Some stop) free free' s q c h = subst (λ x. Inv m x free'.slots) (sym (note_events-all l notes))
     (notes-inv m None l notes free free' s.in_order (lawful-touches m w l write k notes (Some stop) s q) c h)
@@ -437,9 +453,11 @@ page-inv m w l write k notes None free free' s q c h =
     let d = last.1.slots in
     subst (λ x. Inv m x free'.slots) (sym (after_all-append l (note_events notes) (Used write k ∷ []) ∙ ap (after_use write k) (note_events-all l notes)))
     (subst (λ (f : Free). Inv m (after_use write k now) f.slots) (sym last.2)
-    (event-inv m None now (after_use write k now) None p.0.slots last.0.slots d.0 d.1 d.2 d.3 d.4 (used-brings m now write k (touches-kept m w l write k notes None s q)) first))
+    (event-inv m None now (after_use write k now) None p.0.slots last.0.slots d.0 d.1 d.2 d.3 d.4
+    (used-brings m now write k (touches-kept m w l write k notes None s q)) first))
 
-accesses-inv : (m : Setting) (w : World) (l : Ledger) (p : ℕ) (ps : List (Bool × ℕ)) (es : List Event) (end : End) (free free' : Free) → IsSound m l → Accesses m w l p ps es end
+accesses-inv : (m : Setting) (w : World) (l : Ledger) (p : ℕ) (ps : List (Bool × ℕ)) (es : List Event) (end : End) (free free' : Free) → IsSound m l
+    → Accesses m w l p ps es end
     → ChoosesAll m None l es free free' → Inv m l free.slots → Inv m (after_all l es) free'.slots
 accesses-inv m w l p [] es end free free' s q c h = subst (λ es. Inv m (after_all l es) free'.slots) (sym q.0)
     (subst (λ (f : Free). Inv m l f.slots) (sym (subst (λ es. ChoosesAll m None l es free free') q.0 c)) h)
@@ -456,7 +474,8 @@ accesses-inv m w l p (page ∷ ps) es end free free' s (inr q) c h =
 
 -- ---- entries taken away
 
-zap-inv : (m : Setting) (l : Ledger) (k : Key) (free free' : Free) → IsSound m l → ChoosesAll m None l (zap_of l k) free free' → Inv m l free.slots → Inv m (after_all l (zap_of l k)) free'.slots
+zap-inv : (m : Setting) (l : Ledger) (k : Key) (free free' : Free) → IsSound m l → ChoosesAll m None l (zap_of l k) free free' → Inv m l free.slots
+    → Inv m (after_all l (zap_of l k)) free'.slots
 zap-inv m l k free free' s c h =
     let now = after_zap k l in
     let d = c.1.slots in
@@ -473,7 +492,8 @@ zap-inv m l k free free' s c h =
     drop None d f = subst (λ (f : Free). Inv m (after_zap k l) f.slots) (sym d) f
     drop (Some t) d f = dropped t (is_orphan (after_zap k l) t) d f
 
-zaps-inv : (m : Setting) (l : Ledger) (ks : List Key) (free free' : Free) → IsSound m l → ChoosesAll m None l (zaps_of l ks) free free' → Inv m l free.slots → Inv m (after_all l (zaps_of l ks)) free'.slots
+zaps-inv : (m : Setting) (l : Ledger) (ks : List Key) (free free' : Free) → IsSound m l → ChoosesAll m None l (zaps_of l ks) free free'
+    → Inv m l free.slots → Inv m (after_all l (zaps_of l ks)) free'.slots
 zaps-inv m l [] free free' s c h = subst (λ (f : Free). Inv m l f.slots) (sym c) h
 zaps-inv m l (k ∷ ks) free free' s c h =
     let both = chosen-first m None l (zap_of l k) (zaps_of (after_all l (zap_of l k)) ks) free free' c in
@@ -482,7 +502,8 @@ zaps-inv m l (k ∷ ks) free free' s c h =
 
 -- ---- a step
 
-legal-inv : (m : Setting) (w : World) (l : Ledger) (command : Command) (reply : Reply) (es : List Event) (free free' : Free) → IsSound m l → IsLegal m w l command reply es
+legal-inv : (m : Setting) (w : World) (l : Ledger) (command : Command) (reply : Reply) (es : List Event) (free free' : Free) → IsSound m l
+    → IsLegal m w l command reply es
     → ChoosesAll m None l es free free' → Inv m l free.slots → Inv m (after_all l es) free'.slots
 legal-inv m w l command reply es free free' s legal c h = by (refusal (tests m w l command)) legal.answer
   where
@@ -508,7 +529,8 @@ legal-inv m w l command reply es free free' s legal c h = by (refusal (tests m w
     follows (Maps p) q = none q.2
     follows Stat q = none q.1
 
-    by : (o : Option Errno) → MatchOption o (Follows m w l command es reply.answer reply.rows) (λ error. Refuses error es reply.answer reply.rows) → Inv m (after_all l es) free'.slots
+    by : (o : Option Errno) → MatchOption o (Follows m w l command es reply.answer reply.rows) (λ error. Refuses error es reply.answer reply.rows)
+        → Inv m (after_all l es) free'.slots
     by None q = follows command q
     by (Some error) q = none q.1
 
@@ -516,7 +538,8 @@ legal-inv m w l command reply es free free' s legal c h = by (refusal (tests m w
 
 -- a free slot is one that is there and isn't in use
 free_is : (m : Setting) (l : Ledger) (s : Slot) → is_free_slot m l s ≡ (is_there m l s && not (is_used l s))
-free_is m l s = by (is_on l s.area) (nat_lt 0 s.page) (nat_lt s.page (size_of m s.area)) (is_usable m s) (slot_count l s == 0) (nat_lt 0 (slot_count l s)) (zero_or (slot_count l s))
+free_is m l s = by (is_on l s.area) (nat_lt 0 s.page) (nat_lt s.page (size_of m s.area)) (is_usable m s) (slot_count l s == 0)
+    (nat_lt 0 (slot_count l s)) (zero_or (slot_count l s))
   where
     zero_or : (n : ℕ) → (n == 0) ≡ not (nat_lt 0 n)
     zero_or n = grind (arith, nat_tests)
@@ -542,10 +565,16 @@ none-pass p a (suc n) h =
     omega (arith, x, y, z)
 
 to_inv : (m : Setting) (w : World) (l : Ledger) (slots : AreaSlots) → AllSound m w l → ListsSlots m l slots → Inv m l slots
-to_inv m w l slots sound h = record { taken = h.taken; free = λ s is. there_of (is_there m l s) (not (is_used l s)) (sym (free_is m l s) ∙ h.free s is); there = there; sum = λ k. by k (find nat_cmp k l.on) refl (sound.areas_fit.fit k) (h.number k) }
+to_inv m w l slots sound h = record {
+  taken = h.taken;
+  free = λ s is. there_of (is_there m l s) (not (is_used l s))
+      (sym (free_is m l s) ∙ h.free s is);
+  there = there;
+  sum = λ k. by k (find nat_cmp k l.on) refl (sound.areas_fit.fit k) (h.number k);
+}
   where
     there : (s : Slot) → is_used l s ≡ true → is_there m l s ≡ true
-    there s is = sound.in_areas s (positive _ (sym (counted l s) ∙ is))
+    there s is = sound.in_areas s (positive _ (sym (used-counts l s) ∙ is))
 
     there_of : (a b : Bool) → (a && b) ≡ true → a ≡ true
     there_of true b h = refl
@@ -554,7 +583,8 @@ to_inv m w l slots sound h = record { taken = h.taken; free = λ s is. there_of 
     off : (k : ℕ) → find nat_cmp k l.on ≡ None → (page : ℕ) → is_used l (record { area = k; page = page }) ≡ false
     off k e page = let s : Slot = record { area = k; page = page } in no (is_used l s) (is_on l k) (there s) (ap is_some e)
       where
-        no : (u on : Bool) → (u ≡ true → (on && nat_lt 0 page && nat_lt page (size_of m k) && is_usable m (record { area = k; page = page })) ≡ true) → on ≡ false → u ≡ false
+        no : (u on : Bool) → (u ≡ true → (on && nat_lt 0 page && nat_lt page (size_of m k) && is_usable m (record { area = k; page = page })) ≡ true)
+            → on ≡ false → u ≡ false
         no false on h e = refl
         no true true h e = cc
         no true false h e = sym (h refl)
@@ -582,16 +612,20 @@ from_inv m l slots inv = record {
     by k None e = omega (arith, e)
     by k (Some area) e = omega (arith, e)
 
-pub step-lists_slots : (m : Setting) (old : State) (command : Command) (reply : Reply) (new : State) → AllSound m old.world old.ledger → ListsSlots m old.ledger old.free.slots
+pub step-lists_slots : (m : Setting) (old : State) (command : Command) (reply : Reply) (new : State) → AllSound m old.world old.ledger
+    → ListsSlots m old.ledger old.free.slots
     → IsStep m old command reply new → ListsSlots m new.ledger new.free.slots
 step-lists_slots m old command reply new s h step = subst (λ l. ListsSlots m l new.free.slots) (sym step.ledger)
     (from_inv m (after_all old.ledger step.events) new.free.slots
-    (legal-inv m old.world old.ledger command reply step.events old.free new.free s.ledger step.legal step.free (to_inv m old.world old.ledger old.free.slots s h)))
+    (legal-inv m old.world old.ledger command reply step.events old.free new.free s.ledger step.legal step.free
+    (to_inv m old.world old.ledger old.free.slots s h)))
 
-run-from : (m : Setting) (old : State) (es : List Exchange) (new : State) → AllSound m old.world old.ledger → ListsSlots m old.ledger old.free.slots → IsRun m old es new
+run-from : (m : Setting) (old : State) (es : List Exchange) (new : State) → AllSound m old.world old.ledger → ListsSlots m old.ledger old.free.slots
+    → IsRun m old es new
     → ListsSlots m new.ledger new.free.slots
 run-from m old [] new s h q = subst (λ (x : State). ListsSlots m x.ledger x.free.slots) (sym q) h
-run-from m old (e ∷ es) new s h q = run-from m q.0 es new (step-sound m old e.command e.reply q.0 s q.1) (step-lists_slots m old e.command e.reply q.0 s h q.1) q.2
+run-from m old (e ∷ es) new s h q = run-from m q.0 es new (step-sound m old e.command e.reply q.0 s q.1)
+    (step-lists_slots m old e.command e.reply q.0 s h q.1) q.2
 
 pub run-lists_slots : (m : Setting) (es : List Exchange) (new : State) → IsRun m (at_first m) es new → ListsSlots m new.ledger new.free.slots
 run-lists_slots m es new q = run-from m (at_first m) es new (first-sound m) (record { taken = λ s. refl; free = λ s h. cc; number = λ k. refl }) q

@@ -43,7 +43,9 @@ part_is at page area whole here =
     let high : page < past_of area = on.1 in
     let lower = record area { end = min area.end (4096 * at) } in
     let upper = record area { start = max area.start (4096 * at); pgoff = area.pgoff + (at - first_of area) } in
-    elim (nat_lt page at) as (λ b. nat_lt page at ≡ b → IsPart at page area (cond b (record area { end = min area.end (4096 * at) }) (record area { start = max area.start (4096 * at); pgoff = area.pgoff + (at - first_of area) }))) [
+    elim (nat_lt page at) as (λ b. nat_lt page at ≡ b → IsPart at page area
+    (cond b (record area { end = min area.end (4096 * at) })
+    (record area { start = max area.start (4096 * at); pgoff = area.pgoff + (at - first_of area) }))) [
       | true ↦ λ e.
           let below : page < at = ltb-true page at e in
           record {
@@ -100,7 +102,8 @@ laid_cut at on laid = record {
 pub prots_cut : (at : ℕ) (on : Pages) (page : ℕ) → prots (cut_at at on) page ≡ prots on page
 prots_cut at on page = by (on page)
   where
-    part : (area : Area) (b : Bool) → (cond b (record area { end = min area.end (4096 * at) }) (record area { start = max area.start (4096 * at); pgoff = area.pgoff + (at - first_of area) })).prot ≡ area.prot
+    part : (area : Area) (b : Bool) → (cond b (record area { end = min area.end (4096 * at) })
+        (record area { start = max area.start (4096 * at); pgoff = area.pgoff + (at - first_of area) })).prot ≡ area.prot
     part area true = refl
     part area false = refl
 
@@ -118,14 +121,16 @@ cut_splits at on page other part e h =
     by one.area (nat_lt page at) refl (subst (λ (a : Area). has_page a other ≡ true) (sym one.is) h)
   where
     by : (area : Area) (b : Bool) → nat_lt page at ≡ b
-        → has_page (cond b (record area { end = min area.end (4096 * at) }) (record area { start = max area.start (4096 * at); pgoff = area.pgoff + (at - first_of area) })) other ≡ true
+        → has_page (cond b (record area { end = min area.end (4096 * at) })
+        (record area { start = max area.start (4096 * at); pgoff = area.pgoff + (at - first_of area) })) other ≡ true
         → nat_lt page at ≡ nat_lt other at
     by area true is h =
         let most : other < min area.end (4096 * at) / 4096 = (has_parts (record area { end = min area.end (4096 * at) }) other h).1 in
         let below : other < at = omega (arith, most) in
         is ∙ sym (lt-ltb other at below)
     by area false is h =
-        let least : max area.start (4096 * at) / 4096 ≤ other = (has_parts (record area { start = max area.start (4096 * at); pgoff = area.pgoff + (at - first_of area) }) other h).0 in
+        let least : max area.start (4096 * at) / 4096 ≤ other =
+        (has_parts (record area { start = max area.start (4096 * at); pgoff = area.pgoff + (at - first_of area) }) other h).0 in
         let above : at ≤ other = omega (arith, least) in
         is ∙ sym (le-ltb other at above)
 
@@ -139,7 +144,8 @@ still_splits at at' on laid split page other part e h =
 -- ---- a range that no area leaves
 
 module _ (from past : ℕ) (on : Pages) (laid : AreLaid on) (low : Splits from on) (high : Splits past on) where
-  same_side : (page other : ℕ) (area : Area) → on page ≡ Some area → has_page area other ≡ true → within from (past - from) page ≡ within from (past - from) other
+  same_side : (page other : ℕ) (area : Area) → on page ≡ Some area → has_page area other ≡ true
+      → within from (past - from) page ≡ within from (past - from) other
   same_side page other area e h = sides page ∙ (λ i. not (low page other area e h i) && high page other area e h i) ∙ sym (sides other)
     where
       sides : (x : ℕ) → within from (past - from) x ≡ (not (nat_lt x from) && nat_lt x past)
@@ -157,7 +163,8 @@ module _ (from past : ℕ) (on : Pages) (laid : AreLaid on) (low : Splits from o
       before page true a e = absurd (none-some a e)
       before page false a e = e
 
-      still : (page other : ℕ) (a : Area) (b : Bool) → within from (past - from) page ≡ b → cond b None (on page) ≡ Some a → has_page a other ≡ true → without_range from past on other ≡ Some a
+      still : (page other : ℕ) (a : Area) (b : Bool) → within from (past - from) page ≡ b → cond b None (on page) ≡ Some a → has_page a other ≡ true
+          → without_range from past on other ≡ Some a
       still page other a true is e h = absurd (none-some a e)
       still page other a false is e h = ap (λ b. cond b None (on other)) (sym (same_side page other a e h) ∙ is) ∙ laid.all page other a e h
 
@@ -188,7 +195,8 @@ module _ (from past : ℕ) (on : Pages) (laid : AreLaid on) (low : Splits from o
       by_here page a true e = here_of page (on page) refl a e
       by_here page a false e = laid.here page a e
 
-      all_of : (page other : ℕ) (o : Option Area) → on page ≡ o → (a : Area) → within from (past - from) page ≡ true → option_map (with_effect effect) o ≡ Some a → has_page a other ≡ true → with_effect_on from past effect on other ≡ Some a
+      all_of : (page other : ℕ) (o : Option Area) → on page ≡ o → (a : Area) → within from (past - from) page ≡ true
+          → option_map (with_effect effect) o ≡ Some a → has_page a other ≡ true → with_effect_on from past effect on other ≡ Some a
       all_of page other None at a is e h = absurd (none-some a e)
       all_of page other (Some area) at a is e h =
           let same = same_Some (with_effect effect area) a e in
@@ -196,9 +204,11 @@ module _ (from past : ℕ) (on : Pages) (laid : AreLaid on) (low : Splits from o
           ap (λ b. cond b (option_map (with_effect effect) (on other)) (on other)) (sym (same_side page other area at there) ∙ is)
           ∙ ap (option_map (with_effect effect)) (laid.all page other area at there) ∙ e
 
-      by_all : (page other : ℕ) (a : Area) (b : Bool) → within from (past - from) page ≡ b → cond b (option_map (with_effect effect) (on page)) (on page) ≡ Some a → has_page a other ≡ true → with_effect_on from past effect on other ≡ Some a
+      by_all : (page other : ℕ) (a : Area) (b : Bool) → within from (past - from) page ≡ b
+          → cond b (option_map (with_effect effect) (on page)) (on page) ≡ Some a → has_page a other ≡ true → with_effect_on from past effect on other ≡ Some a
       by_all page other a true is e h = all_of page other (on page) refl a is e h
-      by_all page other a false is e h = ap (λ b. cond b (option_map (with_effect effect) (on other)) (on other)) (sym (same_side page other a e h) ∙ is) ∙ laid.all page other a e h
+      by_all page other a false is e h = ap (λ b. cond b (option_map (with_effect effect) (on other)) (on other))
+          (sym (same_side page other a e h) ∙ is) ∙ laid.all page other a e h
 
 -- ---- a join
 
@@ -226,11 +236,18 @@ record IsJoin (left right : Area) : Type 0 where
 module _ (len : Lengths) where
   join_is : (left right : Area) → do_join len left right ≡ true → IsJoin left right
   join_is left right e =
-      let p4 = and_parts (left.end == right.start && same_prot left.prot right.prot && (left.flags == right.flags) && (index_of left (past_of left) == right.pgoff)) (share_anon left.anon (len left.anon) right.anon (len right.anon)) e in
-      let p3 = and_parts (left.end == right.start && same_prot left.prot right.prot && (left.flags == right.flags)) (index_of left (past_of left) == right.pgoff) p4.0 in
+      let p4 = and_parts (left.end == right.start && same_prot left.prot right.prot && (left.flags == right.flags) &&
+      (index_of left (past_of left) == right.pgoff)) (share_anon left.anon (len left.anon) right.anon (len right.anon)) e in
+      let p3 = and_parts (left.end == right.start && same_prot left.prot right.prot && (left.flags == right.flags))
+      (index_of left (past_of left) == right.pgoff) p4.0 in
       let p2 = and_parts (left.end == right.start && same_prot left.prot right.prot) (left.flags == right.flags) p3.0 in
       let p1 = and_parts (left.end == right.start) (same_prot left.prot right.prot) p2.0 in
-      record { adjoin = eqb-true left.end right.start p1.0; prot = prot_is left.prot right.prot p1.1; index = eqb-true (index_of left (past_of left)) right.pgoff p3.1 }
+      record {
+        adjoin = eqb-true left.end right.start p1.0;
+        prot = prot_is left.prot right.prot p1.1;
+        index = eqb-true
+            (index_of left (past_of left)) right.pgoff p3.1;
+      }
 
   pub merged_whole : (left right : Area) → IsWhole left → IsWhole right → do_join len left right ≡ true → IsWhole (join_of left right)
   merged_whole left right l r e =
@@ -238,7 +255,8 @@ module _ (len : Lengths) where
       record { start = l.start; end = r.end; some = omega arith; low = l.low; high = r.high; small = omega arith }
 
   -- a page of the two as one is a page of one of them
-  pub merged_pages : (left right : Area) → IsWhole left → IsWhole right → do_join len left right ≡ true → (page : ℕ) → has_page (join_of left right) page ≡ true → (has_page left page ≡ true) ⊎ (has_page right page ≡ true)
+  pub merged_pages : (left right : Area) → IsWhole left → IsWhole right → do_join len left right ≡ true → (page : ℕ)
+      → has_page (join_of left right) page ≡ true → (has_page left page ≡ true) ⊎ (has_page right page ≡ true)
   merged_pages left right l r e page h =
       let j = join_is left right e in
       let parts = has_parts (join_of left right) page h in
@@ -249,7 +267,8 @@ module _ (len : Lengths) where
         | inr above ↦ inr (has_from right page (omega arith) high)
       ]
 
-  pub left_pages : (left right : Area) → IsWhole left → IsWhole right → do_join len left right ≡ true → (page : ℕ) → has_page left page ≡ true → has_page (join_of left right) page ≡ true
+  pub left_pages : (left right : Area) → IsWhole left → IsWhole right → do_join len left right ≡ true → (page : ℕ) → has_page left page ≡ true
+      → has_page (join_of left right) page ≡ true
   left_pages left right l r e page h =
       let j = join_is left right e in
       let parts = has_parts left page h in
@@ -257,7 +276,8 @@ module _ (len : Lengths) where
       let high : page < past_of left = parts.1 in
       has_from (join_of left right) page low (omega arith)
 
-  pub right_pages : (left right : Area) → IsWhole left → IsWhole right → do_join len left right ≡ true → (page : ℕ) → has_page right page ≡ true → has_page (join_of left right) page ≡ true
+  pub right_pages : (left right : Area) → IsWhole left → IsWhole right → do_join len left right ≡ true → (page : ℕ) → has_page right page ≡ true
+      → has_page (join_of left right) page ≡ true
   right_pages left right l r e page h =
       let j = join_is left right e in
       let parts = has_parts right page h in
@@ -285,20 +305,35 @@ module _ (len : Lengths) where
     where
       go : (a b : Option Area) → on (at - 1) ≡ a → on at ≡ b → IsTried at page on ⊎ IsLeft at page on
       go None b e f = inr (record { is = λ i. after_join len (e i) (f i) page (on page); apart = λ left right g h j. absurd (none-some left (sym e ∙ g)) })
-      go (Some left) None e f = inr (record { is = λ i. after_join len (e i) (f i) page (on page); apart = λ left' right' g h j. absurd (none-some right' (sym f ∙ h)) })
+      go (Some left) None e f = inr (record {
+        is = λ i. after_join len (e i) (f i) page (on page);
+        apart = λ left' right' g h j. absurd
+            (none-some right' (sym f ∙ h));
+      })
       go (Some left) (Some right) e f =
           let now : joined_at len at on page ≡ after_join len (Some left) (Some right) page (on page) = λ i. after_join len (e i) (f i) page (on page) in
           elim (cases_Bool (do_join len left right && has_page (join_of left right) page)) [
             | inl met ↦
                 let both = and_parts (do_join len left right) (has_page (join_of left right) page) met in
-                inl (record { left = left; right = right; before = e; after = f; joins = both.0; here = both.1; is = now ∙ cond-true (do_join len left right && has_page (join_of left right) page) (Some (join_of left right)) (on page) met })
+                inl (record {
+                  left = left;
+                  right = right;
+                  before = e;
+                  after = f;
+                  joins = both.0;
+                  here = both.1;
+                  is = now
+                      ∙ cond-true (do_join len left right && has_page (join_of left right) page) (Some (join_of left right)) (on page) met;
+                })
             | inr unmet ↦ inr (record {
               is = now ∙ cond-false (do_join len left right && has_page (join_of left right) page) (Some (join_of left right)) (on page) unmet;
               apart = λ left' right' g h j.
                   let l : left' ≡ left = same_Some left' left (sym g ∙ e) in
                   let r : right' ≡ right = same_Some right' right (sym h ∙ f) in
                   let joins : do_join len left right ≡ true = sym (λ i. do_join len (l i) (r i)) ∙ j in
-                  false_from_ne_true (has_page (join_of left' right') page) (λ there. both_ways (do_join len left right && has_page (join_of left right) page) unmet (and_from (do_join len left right) (has_page (join_of left right) page) joins (sym (λ i. has_page (join_of (l i) (r i)) page) ∙ there)));
+                  false_from_ne_true (has_page (join_of left' right') page)
+                  (λ there. both_ways (do_join len left right && has_page (join_of left right) page) unmet
+                  (and_from (do_join len left right) (has_page (join_of left right) page) joins (sym (λ i. has_page (join_of (l i) (r i)) page) ∙ there)));
             })
           ]
 
@@ -306,7 +341,8 @@ module _ (len : Lengths) where
   laid_joined at on laid = record {
     whole = λ page area e. elim (tried_is at page on) [
       | inr k ↦ laid.whole page area (sym k.is ∙ e)
-      | inl t ↦ subst IsWhole (same_Some (join_of t.left t.right) area (sym t.is ∙ e)) (merged_whole t.left t.right (laid.whole (at - 1) t.left t.before) (laid.whole at t.right t.after) t.joins)
+      | inl t ↦ subst IsWhole (same_Some (join_of t.left t.right) area (sym t.is ∙ e))
+          (merged_whole t.left t.right (laid.whole (at - 1) t.left t.before) (laid.whole at t.right t.after) t.joins)
     ];
     here = λ page area e. elim (tried_is at page on) [
       | inr k ↦ laid.here page area (sym k.is ∙ e)
@@ -331,9 +367,14 @@ module _ (len : Lengths) where
             | inl u ↦
                 let l = laid.whole (at - 1) u.left u.before in
                 let r = laid.whole at u.right u.after in
-                absurd (both_ways (has_page (join_of u.left u.right) page) (k.apart u.left u.right u.before u.after u.joins) (elim (merged_pages u.left u.right l r u.joins other u.here) [
-                  | inl g ↦ left_pages u.left u.right l r u.joins page (subst (λ (a : Area). has_page a page ≡ true) (same_Some area u.left (sym there ∙ laid.all (at - 1) other u.left u.before g)) (laid.here page area now))
-                  | inr g ↦ right_pages u.left u.right l r u.joins page (subst (λ (a : Area). has_page a page ≡ true) (same_Some area u.right (sym there ∙ laid.all at other u.right u.after g)) (laid.here page area now))
+                absurd (both_ways (has_page (join_of u.left u.right) page) (k.apart u.left u.right u.before u.after u.joins)
+                (elim (merged_pages u.left u.right l r u.joins other u.here) [
+                  | inl g ↦ left_pages u.left u.right l r u.joins page
+                      (subst (λ (a : Area). has_page a page ≡ true) (same_Some area u.left (sym there ∙ laid.all (at - 1) other u.left u.before g))
+                      (laid.here page area now))
+                  | inr g ↦ right_pages u.left u.right l r u.joins page
+                      (subst (λ (a : Area). has_page a page ≡ true) (same_Some area u.right (sym there ∙ laid.all at other u.right u.after g))
+                      (laid.here page area now))
                 ]))
           ]
     ];
@@ -347,15 +388,18 @@ module _ (len : Lengths) where
         let l = laid.whole (at - 1) t.left t.before in
         let r = laid.whole at t.right t.after in
         elim (merged_pages t.left t.right l r t.joins page t.here) [
-          | inl h ↦ ap (option_map (λ (area : Area). area.prot)) t.is ∙ sym (ap (option_map (λ (area : Area). area.prot)) (laid.all (at - 1) page t.left t.before h))
-          | inr h ↦ ap (option_map (λ (area : Area). area.prot)) t.is ∙ ap Some (join_is t.left t.right t.joins).prot ∙ sym (ap (option_map (λ (area : Area). area.prot)) (laid.all at page t.right t.after h))
+          | inl h ↦ ap (option_map (λ (area : Area). area.prot)) t.is
+              ∙ sym (ap (option_map (λ (area : Area). area.prot)) (laid.all (at - 1) page t.left t.before h))
+          | inr h ↦ ap (option_map (λ (area : Area). area.prot)) t.is ∙ ap Some (join_is t.left t.right t.joins).prot
+              ∙ sym (ap (option_map (λ (area : Area). area.prot)) (laid.all at page t.right t.after h))
         ]
   ]
 
 -- ---- a mapping
 
 -- an area on pages that were free
-pub laid_placed : (area : Area) (on : Pages) → AreLaid on → IsWhole area → ((page : ℕ) → has_page area page ≡ true → on page ≡ None) → AreLaid (with_area area on)
+pub laid_placed : (area : Area) (on : Pages) → AreLaid on → IsWhole area → ((page : ℕ) → has_page area page ≡ true → on page ≡ None)
+    → AreLaid (with_area area on)
 laid_placed area on laid whole free = record {
   whole = λ page a. by_whole page a (has_page area page);
   here = λ page a. by_here page a (has_page area page) refl;
@@ -374,7 +418,8 @@ laid_placed area on laid whole free = record {
     of_other other a true e is = absurd (none-some a (sym (free other e) ∙ is))
     of_other other a false e is = is
 
-    by_all : (page other : ℕ) (a : Area) (b : Bool) → has_page area page ≡ b → cond b (Some area) (on page) ≡ Some a → has_page a other ≡ true → with_area area on other ≡ Some a
+    by_all : (page other : ℕ) (a : Area) (b : Bool) → has_page area page ≡ b → cond b (Some area) (on page) ≡ Some a → has_page a other ≡ true
+        → with_area area on other ≡ Some a
     by_all page other a true e is has =
         let same = same_Some area a is in
         ap (λ b. cond b (Some area) (on other)) (subst (λ (a : Area). has_page a other ≡ true) (sym same) has) ∙ ap Some same

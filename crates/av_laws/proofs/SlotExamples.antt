@@ -9,7 +9,7 @@ use Rattle.av_plain.specs.Event.{Event, Noted, Zapped, TurnedOff, TurnedOn, afte
 use Rattle.av_plain.specs.Ledger.{Ledger, Setting}
 use Rattle.av_laws.specs.Determined.{Tells}
 use Rattle.av_laws.specs.Examples.{slot, with_slots, with_swap}
-use Rattle.av_laws.specs.Slots.{MayBeFresh, MayChoose, MayNotBeFresh, MayNotChoose, cached_and_named, lower_given, lower_in_use, no_slot_yet, none_on, one_put, puts, puts_after_drop, puts_after_fail, puts_after_zap, puts_again, puts_then, puts_when_on_again, slot_at, some_given, some_out, three_in_use, turned_on, two_swaps}
+use Rattle.av_laws.specs.Slots.{MayBeFresh, MayChoose, MayNotBeFresh, MayNotChoose, cached_and_named, lower_given, lower_in_use, no_slot_yet, none_on, one_put, puts, puts_after_drop, puts_after_fail, puts_after_zap, puts_again, puts_then, puts_when_on_again, slot_at, some_given, some_out, three_in_use, turn_on, two_swaps}
 use Rattle.av_clusters.proofs.Fresh.{length-pages_of}
 use Rattle.av_plain.proofs.Choice.{ChoosesFrames}
 use Rattle.av_laws.proofs.Choice.{all-chosen, gives_all}
@@ -237,13 +237,13 @@ as_before-not = other-page (with_swap 4 300 299) None none_on
     ∷ TurnedOn 0 299 0 ∷ []) 0 (slot 1) (slot 256) no_slot_yet refl (λ e. omega (arith, e))
     on_again-chosen
 
-pub fewer_slots-not : MayNotChoose (with_swap 4 8 7) None none_on (turned_on 0 6 0) no_slot_yet
+pub fewer_slots-not : MayNotChoose (with_swap 4 8 7) None none_on (turn_on 0 6 0) no_slot_yet
 fewer_slots-not left h = let e : ◌≡◌ {A = ℕ} 6 7 = h.1.slots.2.1.0.slots in omega (arith, e)
 
-pub more_bad-not : MayNotChoose (with_swap 4 8 7) None none_on (turned_on 0 7 1) no_slot_yet
+pub more_bad-not : MayNotChoose (with_swap 4 8 7) None none_on (turn_on 0 7 1) no_slot_yet
 more_bad-not left h = let e : ◌≡◌ {A = ℕ} 1 0 = h.1.slots.2.1.0.bad in omega (arith, e)
 
-pub no_header-not : MayNotChoose (with_swap 4 8 7) None none_on (turned_on 1 7 0) no_slot_yet
+pub no_header-not : MayNotChoose (with_swap 4 8 7) None none_on (turn_on 1 7 0) no_slot_yet
 no_header-not left h = absurd h.1.slots.2.1
 
 pub adds_up-fresh : MayBeFresh 3 4 8 (1 ∷ 2 ∷ 3 ∷ 4 ∷ [])

@@ -149,5 +149,5 @@ puts_when_on_again s = TurnedOn 0 299 0 ∷ Noted (Put 0 (slot 1)) ∷ Noted (Dr
     ∷ TurnedOff 0 ∷ TurnedOn 0 299 0 ∷ Noted (Put 0 s) ∷ []
 
 -- an area is turned on with so many slots and bad pages
-abbrev pub turned_on : ℕ → ℕ → ℕ → List Event
-turned_on k slots bad = TurnedOn k slots bad ∷ []
+abbrev pub turn_on : ℕ → ℕ → ℕ → List Event
+turn_on k slots bad = TurnedOn k slots bad ∷ []

@@ -1,7 +1,8 @@
 //! What follows from the definitions of `av_plain`, beside what the kernel needs of them: replies
-//! are determined, numbers add up, a refusal changes nothing, a reply is read back from its text;
-//! and worked examples: legal ones and such as may not be, areas that come of commands, sound
-//! states and unsound ones, views that stand for a state and such as don't.
+//! are determined, numbers add up, a refusal changes nothing, a reply is read back from its text,
+//! what is free is listed, areas cover what is mapped; and worked examples: legal ones and such as
+//! may not be, slots that are given, areas and anon_vmas that come of commands, sound states and
+//! unsound ones, views that stand for a state and such as don't.
 //!
 //! No function does anything. Each one's contract is a law, proved of the definitions alone.
 #![tactic(auto)]

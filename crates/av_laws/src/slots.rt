@@ -24,7 +24,7 @@ ghost use Rattle.av_laws.specs.Slots.{
   some_given,
   some_out,
   three_in_use,
-  turned_on,
+  turn_on,
   two_swaps,
 };
 
@@ -94,10 +94,10 @@ pub fn areas_are_turned_on_anew()
     ensures as_before { MayNotChoose (with_swap 4 300 299) None none_on
         (puts_when_on_again (slot 256))
         no_slot_yet }
-    ensures fewer_slots { MayNotChoose (with_swap 4 8 7) None none_on (turned_on 0 6 0)
+    ensures fewer_slots { MayNotChoose (with_swap 4 8 7) None none_on (turn_on 0 6 0)
         no_slot_yet }
-    ensures more_bad { MayNotChoose (with_swap 4 8 7) None none_on (turned_on 0 7 1) no_slot_yet }
-    ensures no_header { MayNotChoose (with_swap 4 8 7) None none_on (turned_on 1 7 0) no_slot_yet }
+    ensures more_bad { MayNotChoose (with_swap 4 8 7) None none_on (turn_on 0 7 1) no_slot_yet }
+    ensures no_header { MayNotChoose (with_swap 4 8 7) None none_on (turn_on 1 7 0) no_slot_yet }
     ensures adds_up { MayBeFresh 3 4 8 (1 ∷ 2 ∷ 3 ∷ 4 ∷ []) }
     ensures too_short { MayNotBeFresh 3 1 8 (1 ∷ 2 ∷ 3 ∷ 4 ∷ []) }
     ensures too_long { MayNotBeFresh 8 0 9 [] }
