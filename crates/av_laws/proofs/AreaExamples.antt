@@ -5,7 +5,8 @@ use Rattle.std.specs.List.{AllByRecursion}
 use Rattle.av_base.specs.Words.{numbers}
 use Rattle.av_vma.specs.Pages.{pages_in}
 use Rattle.av_vma.specs.declared.area.Area.{Area}
-use Rattle.av_plain.specs.Areas.{Areas, next_areas, no_areas}
+use Rattle.av_plain.specs.Areas.{AreLeft, Areas, chain_length, next_areas, no_anons, no_areas}
+use Rattle.av_plain.proofs.AreasLeft.{left-none, left-one}
 use Rattle.av_plain.specs.Ledger.{Setting}
 use Rattle.av_plain.specs.Step.{next}
 use Rattle.av_plain.specs.Transcript.{Exchange, IsRun, State, at_first}
@@ -21,32 +22,36 @@ use Rattle.av_laws.proofs.FirstExamples.{Steps, by_steps}
 abbrev areas_after : World → Areas → List Exchange → Areas
 areas_after w on [] = on
 areas_after w on (e ∷ es) = areas_after (next w e.command e.reply.answer)
-    (next_areas on w e.command e.reply.answer) es
+    (next_areas (chain_length no_anons) on w e.command e.reply.answer) es
 
 run-areas : (m : Setting) (old : State) (es : List Exchange) (new : State) → Tells m
-    → IsRun m old es new → new.areas ≡ areas_after old.world old.areas es
-run-areas m old [] new told h = ap (λ (s : State). s.areas) h
-run-areas m old (e ∷ es) new told h =
+    → old.anons ≡ no_anons → IsRun m old es new → new.areas ≡ areas_after old.world old.areas es
+run-areas m old [] new told none h = ap (λ (s : State). s.areas) h
+run-areas m old (e ∷ es) new told none h =
     let world = h.1.world
     ∙ ap (λ w. next w e.command e.reply.answer)
     (loads-told m old.world old.ledger h.1.events told) in
-    run-areas m h.0 es new told h.2 ∙ (λ i. areas_after (world i) (h.1.areas i) es)
+    let areas = h.1.areas.areas
+    ∙ ap (λ a. next_areas (chain_length a) old.areas old.world e.command e.reply.answer) none in
+    let left = subst (λ a. AreLeft a h.0.areas h.0.anons) none h.1.areas.anons in
+    let still = left-one no_anons h.0.areas h.0.anons no_anons left (left-none h.0.areas) in
+    run-areas m h.0 es new told still h.2 ∙ (λ i. areas_after (world i) (areas i) es)
 
 makes : (row : List Exchange) (from n : ℕ) (areas : List Area)
     → Steps (machine 4) (at_first (machine 4)) row
     → AllByRecursion (λ page. areas_after [] no_areas row 1 page ≡ pages_in (Some areas) page)
     (numbers from n) → Makes row from n areas
 makes row from n areas steps h = (
-  by_steps (machine 4) (at_first (machine 4)) row steps,
+  by_steps (machine 4) (at_first (machine 4)) row refl steps,
   λ new run. subst (λ (on : Areas). AllByRecursion (λ page. on 1 page ≡ pages_in (Some areas) page)
-      (numbers from n)) (sym (run-areas (machine 4) (at_first (machine 4)) row new refl run)) h,
+      (numbers from n)) (sym (run-areas (machine 4) (at_first (machine 4)) row new refl refl run)) h,
 )
 
 never-has : (row : List Exchange) (page : ℕ) (area : Area)
     → (areas_after [] no_areas row 1 page ≡ Some area → ⊥) → NeverHas row page area
 never-has row page area differ new run at = differ
     (ap (λ (on : Areas). on 1 page)
-    (sym (run-areas (machine 4) (at_first (machine 4)) row new refl run)) ∙ at)
+    (sym (run-areas (machine 4) (at_first (machine 4)) row new refl refl run)) ∙ at)
 
 -- ---- the rows
 

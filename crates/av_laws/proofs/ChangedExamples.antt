@@ -143,9 +143,9 @@ given-by m l free ns left plain h =
     record {
       done = done-is ns (grind (arith, nat_tests, parts.0));
       left = record { frames = left; slots = slots_after_all m l (note_events ns) no_slots };
-      chosen = all-chosen m l (note_events ns) free left no_slots
+      chosen = all-chosen m None l (note_events ns) free left no_slots
           (chosen-by m l (note_events ns) free left h)
-          (none-given m l (note_events ns) no_slots parts.1);
+          (none-given m None l (note_events ns) no_slots parts.1);
     }
   where
     both : (a b : Bool) → (a && b) ≡ true → ((a ≡ true) × (b ≡ true))
@@ -498,7 +498,7 @@ no_room_though_empty events legal = by legal.answer.0 legal.answer.1 legal.answe
 -- ---- runs with a row of their own
 
 pub refused_write-runs : Runs 4 (refused_write Done)
-refused_write-runs = by_steps (machine 4) empty (refused_write Done) ([], 0 ∷ 1 ∷ 2 ∷ 3 ∷ [], record { answer = (refl, refl, refl); notes = refl }, refl, ([], 0 ∷ 1 ∷ 2 ∷ 3 ∷ [], record { answer = (refl, refl, refl); notes = refl }, refl, tt))
+refused_write-runs = by_steps (machine 4) empty (refused_write Done) refl ([], 0 ∷ 1 ∷ 2 ∷ 3 ∷ [], record { answer = (refl, refl, refl); notes = refl }, refl, ([], 0 ∷ 1 ∷ 2 ∷ 3 ∷ [], record { answer = (refl, refl, refl); notes = refl }, refl, tt))
 
 pub made_by_a_refused_write : Refutes 4 (refused_write (Refused Eexist))
 made_by_a_refused_write = same_run 4 (refused_write Done) (refused_write (Refused Eexist)) 1 refused_write-runs (refl, (refl, tt)) refl refl (λ e. omega (arith, e))

@@ -28,13 +28,14 @@ use Rattle.av_plain.specs.Load.{after_loads, with_loads}
 use Rattle.av_plain.specs.Map.{with_prot_to_hole}
 use Rattle.av_plain.specs.Place.{Goes, IsMapAt, is_room}
 use Rattle.av_plain.specs.Refusal.{Refuses, low, refusal, tests, wraps}
-use Rattle.av_plain.specs.Areas.{next_areas}
-use Rattle.av_plain.specs.Step.{Follows, IsLegal, fault_answers, next, next_world}
-use Rattle.av_plain.specs.Transcript.{Exchange, IsRun, IsStep, State, at_first, closing_area}
+use Rattle.av_plain.specs.Areas.{AreLeft, chain_length, next_areas}
+use Rattle.av_plain.specs.Step.{Follows, IsLegal, closing_area, fault_answers, next, next_world}
+use Rattle.av_plain.specs.Transcript.{Exchange, IsRun, IsStep, State, at_first}
 use Rattle.av_plain.specs.World.{Page, Process, Shows, World, byte_at, end_process, is_mapped, no_pages, pages, pages_to_hole, set_process, with_bytes, with_pages, with_prot, with_prot_on, zeros}
 use Rattle.av_laws.proofs.Maps.{one-answer}
 use Rattle.av_laws.proofs.OnePage.{is_lost, touches-one}
 use Rattle.av_laws.proofs.OnePass.{AreDone, chooses-one, chosen-first, done-append, done-is}
+use Rattle.av_plain.proofs.AreasLeft.{left-one as anons-one}
 use Rattle.av_plain.proofs.Access.{notes_of-append, notes_of-note_events}
 use Rattle.av_plain.proofs.Refusal.{refused-next}
 use Rattle.av_plain.proofs.Sound.Zap.{pages-ended}
@@ -362,9 +363,11 @@ step-one m old new new' command reply reply' told claimed kept kept' h g =
     let free : new.free ≡ new'.free = chooses-one m closing old.ledger g.events old.free new.free
     new'.free told (subst (λ es. ChoosesAll m closing old.ledger es old.free new.free)
     same.events h.free) g.free in
-    let areas : new.areas ≡ new'.areas = h.areas
-    ∙ ap (next_areas old.areas old.world command) same.answers ∙ sym g.areas in
-    let anons : new.anons ≡ new'.anons = h.anons ∙ sym g.anons in (
+    let areas : new.areas ≡ new'.areas = h.areas.areas
+    ∙ ap (next_areas (chain_length old.anons) old.areas old.world command) same.answers
+    ∙ sym g.areas.areas in
+    let anons : new.anons ≡ new'.anons = anons-one old.anons new'.areas new.anons new'.anons
+    (subst (λ on. AreLeft old.anons on new.anons) areas h.areas.anons) g.areas.anons in (
       (λ i. record { answer = same.answers i; notes = notes i; rows = same.reports i }),
       (λ i. record {
         world = world i;

@@ -21,7 +21,7 @@ use Rattle.av_laws.proofs.FirstExamples.{by_steps, gap_below, topmost}
 use Rattle.av_laws.proofs.Maps.{one-answer}
 
 pub exit_frees-runs : Runs 4 exit_frees
-exit_frees-runs = by_steps (machine 4) (at_first (machine 4)) exit_frees (topmost read_write (drop 2 exit_frees) (
+exit_frees-runs = by_steps (machine 4) (at_first (machine 4)) exit_frees refl (topmost read_write (drop 2 exit_frees) (
   Noted (New 1 0x7fffffffe000 0) ∷ Used true (1, 0x7fffffffe) ∷ [],
   1 ∷ 2 ∷ 3 ∷ [],
   record { answer = (Whole, inl (New 1 0x7fffffffe000 0 ∷ [], [], (refl, record { coming = []; making = New 1 0x7fffffffe000 0 ∷ []; whole = refl; comes_in = refl; made = record { sought = []; frame = 0; seeks = refl; in_range = omega arith; free = refl; whole = refl } }), refl, (refl, refl)), refl, refl); notes = refl },
@@ -84,7 +84,7 @@ exit_frees-runs = by_steps (machine 4) (at_first (machine 4)) exit_frees (topmos
 ))
 
 pub exit_and_again-runs : Runs 4 exit_and_again
-exit_and_again-runs = by_steps (machine 4) (at_first (machine 4)) exit_and_again ((
+exit_and_again-runs = by_steps (machine 4) (at_first (machine 4)) exit_and_again refl ((
   [],
   0 ∷ 1 ∷ 2 ∷ 3 ∷ [],
   record { answer = (refl, refl, refl); notes = refl },
@@ -135,7 +135,7 @@ exit_and_again-runs = by_steps (machine 4) (at_first (machine 4)) exit_and_again
 ))
 
 pub exit_shared-runs : Allows (machine 4) (after_fork (1 ∷ 2 ∷ 3 ∷ [])) exit_shared
-exit_shared-runs = by_steps (machine 4) (after_fork (1 ∷ 2 ∷ 3 ∷ [])) exit_shared ((
+exit_shared-runs = by_steps (machine 4) (after_fork (1 ∷ 2 ∷ 3 ∷ [])) exit_shared refl ((
   Zapped (1, 0x7fffffffe) ∷ [],
   1 ∷ 2 ∷ 3 ∷ [],
   record { answer = (refl, refl, refl); notes = refl },
@@ -168,7 +168,7 @@ exit_shared-runs = by_steps (machine 4) (after_fork (1 ∷ 2 ∷ 3 ∷ [])) exit
 ))
 
 pub exit_drops-runs : Allows (with_swap 4 8 7) in_swap_cache exit_drops
-exit_drops-runs = by_steps (with_swap 4 8 7) in_swap_cache exit_drops ((
+exit_drops-runs = by_steps (with_swap 4 8 7) in_swap_cache exit_drops refl ((
   [],
   1 ∷ 2 ∷ 3 ∷ [],
   record { answer = (refl, refl, refl); notes = refl },
@@ -189,7 +189,7 @@ exit_drops-runs = by_steps (with_swap 4 8 7) in_swap_cache exit_drops ((
 ))
 
 pub exit_in_writeback-runs : Allows (with_swap 4 8 7) in_writeback exit_in_writeback
-exit_in_writeback-runs = by_steps (with_swap 4 8 7) in_writeback exit_in_writeback ((
+exit_in_writeback-runs = by_steps (with_swap 4 8 7) in_writeback exit_in_writeback refl ((
   Zapped (1, 0x7fffffffe) ∷ [],
   1 ∷ 2 ∷ 3 ∷ [],
   record { answer = (refl, refl, refl); notes = refl },
@@ -204,7 +204,7 @@ exit_in_writeback-runs = by_steps (with_swap 4 8 7) in_writeback exit_in_writeba
 ))
 
 pub exit_paged_out-runs : Allows (with_swap 4 8 7) (paged_out 7 (0 ∷ 1 ∷ 2 ∷ 3 ∷ [])) exit_paged_out
-exit_paged_out-runs = by_steps (with_swap 4 8 7) (paged_out 7 (0 ∷ 1 ∷ 2 ∷ 3 ∷ [])) exit_paged_out ((
+exit_paged_out-runs = by_steps (with_swap 4 8 7) (paged_out 7 (0 ∷ 1 ∷ 2 ∷ 3 ∷ [])) exit_paged_out refl ((
   [],
   0 ∷ 1 ∷ 2 ∷ 3 ∷ [],
   record { answer = (refl, refl, refl); notes = refl },
@@ -235,7 +235,7 @@ adjoining : (page : ℕ) → within 0x7fffffffb 3 page ≡ (within 0x7fffffffb 1
 adjoining page = grind (arith, nat_tests)
 
 pub two_runs-runs : Runs 4 two_runs
-two_runs-runs = by_steps (machine 4) (at_first (machine 4)) two_runs (topmost read_only (drop 2 two_runs) (
+two_runs-runs = by_steps (machine 4) (at_first (machine 4)) two_runs refl (topmost read_only (drop 2 two_runs) (
   [],
   0 ∷ 1 ∷ 2 ∷ 3 ∷ [],
   record { answer = (Some 0x7fffffffc, (gap_below _ 0x7fffffffe 2 refl (omega arith) (omega arith) (omega arith) (λ q h. grind (arith, nat_tests, h)) (λ q h i. grind (arith, nat_tests, h, i))), refl, refl, refl); notes = refl },

@@ -1,6 +1,6 @@
 -- The worked rows from nothing on.
 use Rattle.std.specs.Prelude.{◌≡◌, ℕ, ◌+◌, ◌-◌, ◌<◌, ◌≤◌, Bool, nat_le, true, false, List, [], ◌∷◌, drop, Some, None, refl, MatchBool}
-use Rattle.std.proofs.Common.{arith, inl, sym, ◌∙◌, inr}
+use Rattle.std.proofs.Common.{arith, inl, subst, sym, ◌∙◌, inr}
 use Rattle.std.proofs.lemmas.Bool.Decides.{nat_tests}
 use Rattle.std.proofs.lemmas.Bool.{false≢true}
 use Rattle.av_base.specs.declared.prot.Prot.{Prot}
@@ -16,14 +16,16 @@ use Rattle.av_plain.specs.Event.{Event, Noted, Used, after_all}
 use Rattle.av_plain.specs.Fault.{Denied, Starved}
 use Rattle.av_plain.specs.Access.{Whole, Stopped}
 use Rattle.av_plain.specs.Step.{IsLegal, next_world}
-use Rattle.av_plain.specs.Areas.{no_anons, next_areas, no_areas}
+use Rattle.av_plain.specs.Areas.{AreNext, chain_length, no_anons, next_areas, no_areas}
+use Rattle.av_plain.proofs.AreasLeft.{left-none}
 use Rattle.av_plain.specs.Choice.{no_slots}
 use Rattle.av_plain.proofs.Choice.{ChoosesFrames}
 use Rattle.av_laws.proofs.Choice.{all-chosen, gives_all, none-given, slots_after_all, take_none}
 use Rattle.av_plain.specs.Transcript.{Exchange, State, at_first}
 use Rattle.av_laws.specs.Examples.{Allows, Runs, machine, says, read_write, write_only, first_run, zero_first, one_frame, part_denied, two_processes, refusals, all_mapped, readable, denied_write}
 
--- each exchange by its events, and the frames that are free after it; where a slot is taken, it is the one that is given
+-- each exchange by its events, and the frames that are free after it; where a slot is taken, it is
+-- the one that is given. No anon_vma was made
 abbrev pub Steps : Setting → State → List Exchange → Type 0
 Steps m old [] = Unit {0}
 Steps m old (e ∷ row) =
@@ -34,23 +36,24 @@ Steps m old (e ∷ row) =
       world = next_world m old.world old.ledger events e.command e.reply.answer;
       ledger = after_all old.ledger events;
       free = record { frames = free; slots = slots_after_all m old.ledger events old.free.slots };
-      areas = next_areas old.areas old.world e.command e.reply.answer;
-      anons = old.anons;
+      areas = next_areas (chain_length no_anons) old.areas old.world e.command e.reply.answer;
+      anons = no_anons;
     } in MatchBool (take_none events) (Steps m new row)
-    ((gives_all m old.ledger events old.free.slots ≡ true) × Steps m new row))
+    ((gives_all m None old.ledger events old.free.slots ≡ true) × Steps m new row))
 
-pub by_steps : (m : Setting) (old : State) (row : List Exchange) → Steps m old row → Allows m old row
-by_steps m old [] h = (old, refl)
-by_steps m old (e ∷ row) h =
+pub by_steps : (m : Setting) (old : State) (row : List Exchange) → old.anons ≡ no_anons
+    → Steps m old row → Allows m old row
+by_steps m old [] none h = (old, refl)
+by_steps m old (e ∷ row) none h =
     let mid : State = record {
       world = next_world m old.world old.ledger h.0 e.command e.reply.answer;
       ledger = after_all old.ledger h.0;
       free = record { frames = h.1; slots = slots_after_all m old.ledger h.0 old.free.slots };
-      areas = next_areas old.areas old.world e.command e.reply.answer;
-      anons = old.anons;
+      areas = next_areas (chain_length no_anons) old.areas old.world e.command e.reply.answer;
+      anons = no_anons;
     } in
     let both = given (take_none h.0) refl mid h.4 in
-    let rest = by_steps m mid row both.1 in (
+    let rest = by_steps m mid row refl both.1 in (
       rest.0,
       (
         mid,
@@ -59,9 +62,11 @@ by_steps m old (e ∷ row) h =
           legal = h.2;
           world = refl;
           ledger = refl;
-          free = all-chosen m old.ledger h.0 old.free.frames h.1 old.free.slots h.3 both.0;
-          areas = refl;
-          anons = refl;
+          free = all-chosen m None old.ledger h.0 old.free.frames h.1 old.free.slots h.3 both.0;
+          areas = subst
+              (λ a. AreNext old.areas a old.world e.command e.reply.answer mid.areas no_anons)
+              (sym none)
+              (record { areas = refl; anons = left-none mid.areas });
         },
         rest.1,
       ),
@@ -69,9 +74,9 @@ by_steps m old (e ∷ row) h =
   where
     given : (b : Bool) → take_none h.0 ≡ b → (new : State)
         → MatchBool b (Steps m new row)
-        ((gives_all m old.ledger h.0 old.free.slots ≡ true) × Steps m new row)
-        → (gives_all m old.ledger h.0 old.free.slots ≡ true) × Steps m new row
-    given true is new h' = (none-given m old.ledger h.0 old.free.slots is, h')
+        ((gives_all m None old.ledger h.0 old.free.slots ≡ true) × Steps m new row)
+        → (gives_all m None old.ledger h.0 old.free.slots ≡ true) × Steps m new row
+    given true is new h' = (none-given m None old.ledger h.0 old.free.slots is, h')
     given false is new h' = h'
 
 not_free : (b : Bool) → b ≡ false → b ≡ true → ⊥
@@ -108,8 +113,9 @@ one_page prot = record {
       ∷ [];
   ledger = first_ledger;
   free = record { frames = 0 ∷ 1 ∷ 2 ∷ 3 ∷ []; slots = no_slots };
-  areas = next_areas (next_areas no_areas [] (Spawn 1) Done) ((1, no_pages) ∷ [])
-      (Mmap 1 4096 prot Auto) (MapAt 0x7fffffffe000);
+  areas = next_areas (chain_length no_anons)
+      (next_areas (chain_length no_anons) no_areas [] (Spawn 1) Done)
+      ((1, no_pages) ∷ []) (Mmap 1 4096 prot Auto) (MapAt 0x7fffffffe000);
   anons = no_anons;
 }
 
@@ -130,7 +136,7 @@ topmost prot row rest = (
 )
 
 pub first_run-runs : Runs 4 first_run
-first_run-runs = by_steps (machine 4) (at_first (machine 4)) first_run (topmost read_write (drop 2 first_run) (
+first_run-runs = by_steps (machine 4) (at_first (machine 4)) first_run refl (topmost read_write (drop 2 first_run) (
   Noted (New 1 0x7fffffffe000 0) ∷ Used true (1, 0x7fffffffe) ∷ [],
   1 ∷ 2 ∷ 3 ∷ [],
   record { answer = (Whole, inl (New 1 0x7fffffffe000 0 ∷ [], [], (refl, record { coming = []; making = New 1 0x7fffffffe000 0 ∷ []; whole = refl; comes_in = refl; made = record { sought = []; frame = 0; seeks = refl; in_range = omega arith; free = refl; whole = refl } }), refl, (refl, refl)), refl, refl); notes = refl },
@@ -145,7 +151,7 @@ first_run-runs = by_steps (machine 4) (at_first (machine 4)) first_run (topmost 
 ))
 
 pub zero_first-runs : Runs 4 zero_first
-zero_first-runs = by_steps (machine 4) (at_first (machine 4)) zero_first (topmost read_write (drop 2 zero_first) (
+zero_first-runs = by_steps (machine 4) (at_first (machine 4)) zero_first refl (topmost read_write (drop 2 zero_first) (
   Noted (Zeroed 1 0x7fffffffe000) ∷ Used false (1, 0x7fffffffe) ∷ [],
   0 ∷ 1 ∷ 2 ∷ 3 ∷ [],
   record { answer = (Whole, 0 ∷ 0 ∷ [], inl (Zeroed 1 0x7fffffffe000 ∷ [], [], (refl, record { coming = []; making = Zeroed 1 0x7fffffffe000 ∷ []; whole = refl; comes_in = refl; made = refl }), refl, (refl, refl)), (refl, (refl, (refl, tt)), (omega arith, (omega arith, tt))), refl, refl); notes = refl },
@@ -178,7 +184,7 @@ zero_first-runs = by_steps (machine 4) (at_first (machine 4)) zero_first (topmos
 ))
 
 pub one_frame-runs : Runs 1 one_frame
-one_frame-runs = by_steps (machine 1) (at_first (machine 1)) one_frame ((
+one_frame-runs = by_steps (machine 1) (at_first (machine 1)) one_frame refl ((
   [],
   0 ∷ [],
   record { answer = (refl, refl, refl); notes = refl },
@@ -211,7 +217,7 @@ one_frame-runs = by_steps (machine 1) (at_first (machine 1)) one_frame ((
 ))
 
 pub part_denied-runs : Runs 4 part_denied
-part_denied-runs = by_steps (machine 4) (at_first (machine 4)) part_denied ((
+part_denied-runs = by_steps (machine 4) (at_first (machine 4)) part_denied refl ((
   [],
   0 ∷ 1 ∷ 2 ∷ 3 ∷ [],
   record { answer = (refl, refl, refl); notes = refl },
@@ -262,7 +268,7 @@ part_denied-runs = by_steps (machine 4) (at_first (machine 4)) part_denied ((
 ))
 
 pub two_processes-runs : Runs 4 two_processes
-two_processes-runs = by_steps (machine 4) (at_first (machine 4)) two_processes ((
+two_processes-runs = by_steps (machine 4) (at_first (machine 4)) two_processes refl ((
   [],
   0 ∷ 1 ∷ 2 ∷ 3 ∷ [],
   record { answer = (refl, refl, refl); notes = refl },
@@ -325,7 +331,7 @@ two_processes-runs = by_steps (machine 4) (at_first (machine 4)) two_processes (
 ))
 
 pub readable-runs : Runs 4 readable
-readable-runs = by_steps (machine 4) (at_first (machine 4)) readable (topmost write_only (drop 2 readable) (
+readable-runs = by_steps (machine 4) (at_first (machine 4)) readable refl (topmost write_only (drop 2 readable) (
   [],
   0 ∷ 1 ∷ 2 ∷ 3 ∷ [],
   record { answer = (Some 0x7fffffffd, (gap_below _ 0x7fffffffe 1 refl (omega arith) (omega arith) (omega arith) (λ q h. grind (arith, nat_tests, h)) (λ q h i. grind (arith, nat_tests, h, i))), refl, refl, refl); notes = refl },
@@ -358,7 +364,7 @@ readable-runs = by_steps (machine 4) (at_first (machine 4)) readable (topmost wr
 ))
 
 pub refusals-runs : Runs 4 refusals
-refusals-runs = by_steps (machine 4) (at_first (machine 4)) refusals ((
+refusals-runs = by_steps (machine 4) (at_first (machine 4)) refusals refl ((
   [],
   0 ∷ 1 ∷ 2 ∷ 3 ∷ [],
   record { answer = (refl, refl, refl); notes = refl },
@@ -427,7 +433,7 @@ refusals-runs = by_steps (machine 4) (at_first (machine 4)) refusals ((
 ))
 
 pub all_mapped-runs : Runs 4 all_mapped
-all_mapped-runs = by_steps (machine 4) (at_first (machine 4)) all_mapped ((
+all_mapped-runs = by_steps (machine 4) (at_first (machine 4)) all_mapped refl ((
   [],
   0 ∷ 1 ∷ 2 ∷ 3 ∷ [],
   record { answer = (refl, refl, refl); notes = refl },
@@ -454,7 +460,7 @@ all_mapped-runs = by_steps (machine 4) (at_first (machine 4)) all_mapped ((
 ))
 
 pub denied_write-runs : Runs 4 (denied_write 1)
-denied_write-runs = by_steps (machine 4) (at_first (machine 4)) (denied_write 1) (topmost read_write (drop 2 (denied_write 1)) (
+denied_write-runs = by_steps (machine 4) (at_first (machine 4)) (denied_write 1) refl (topmost read_write (drop 2 (denied_write 1)) (
   Noted (New 1 0x7fffffffe000 0) ∷ Used true (1, 0x7fffffffe) ∷ [],
   1 ∷ 2 ∷ 3 ∷ [],
   record { answer = (Stopped 0x7ffffffff Denied, inl (New 1 0x7fffffffe000 0 ∷ [], [], (refl, record { coming = []; making = New 1 0x7fffffffe000 0 ∷ []; whole = refl; comes_in = refl; made = record { sought = []; frame = 0; seeks = refl; in_range = omega arith; free = refl; whole = refl } }), refl, inr ([], Denied, (refl, refl), refl, refl)), refl, refl); notes = refl },

@@ -15,7 +15,7 @@ copied_and_gone-leads = (refl, (refl, (refl, (refl, (refl, (refl, (refl, (refl, 
 
 pub taken_and_freed-chosen : ChoosesAll (machine 3) None first_ledger taken_and_freed
     (only_frames (0 ∷ 1 ∷ 2 ∷ [])) (only_frames (1 ∷ 0 ∷ 2 ∷ []))
-taken_and_freed-chosen = all-chosen (machine 3) first_ledger taken_and_freed (0 ∷ 1 ∷ 2 ∷ [])
+taken_and_freed-chosen = all-chosen (machine 3) None first_ledger taken_and_freed (0 ∷ 1 ∷ 2 ∷ [])
     (1 ∷ 0 ∷ 2 ∷ []) no_slots (
       1 ∷ 2 ∷ [],
       (1 ∷ 2 ∷ [], refl, refl),
@@ -33,5 +33,5 @@ taken_and_freed-chosen = all-chosen (machine 3) first_ledger taken_and_freed (0 
 
 pub dropped_and_freed-chosen : ChoosesAll (machine 6) None orphan (Noted (Dropped (slot 1)) ∷ [])
     (only_frames (2 ∷ [])) (only_frames (5 ∷ 2 ∷ []))
-dropped_and_freed-chosen = all-chosen (machine 6) orphan (Noted (Dropped (slot 1)) ∷ []) (2 ∷ [])
+dropped_and_freed-chosen = all-chosen (machine 6) None orphan (Noted (Dropped (slot 1)) ∷ []) (2 ∷ [])
     (5 ∷ 2 ∷ []) no_slots (5 ∷ 2 ∷ [], (2 ∷ [], refl, refl), refl) refl

@@ -20,3 +20,9 @@ pub mod AreaExamples
 pub mod Faults
 pub mod SlotExamples
 pub mod SwapViewExamples
+pub mod ListsExamples
+pub mod AnonExamples
+pub mod Clusters
+pub mod FreeSlots
+pub mod Laid
+pub mod Covered

@@ -1,6 +1,6 @@
 -- What stands before a frame is taken is determined, where no write fails: the order of the free frames and the
 -- clusters of the swap areas leave no choice.
-use Rattle.std.proofs.Common.{◌≡◌, ℕ, ◌+◌, ◌≤◌, Bool, true, false, cond, not, ◌&&◌, if◌then◌else◌, List, [], ◌∷◌, ◌++◌, length, Option, Some, None, is_none, is_some, refl, sym, ap, subst, ◌∙◌, arith, ◌==◌}
+use Rattle.std.proofs.Common.{◌≡◌, ℕ, ◌+◌, ◌≤◌, Bool, true, false, cond, not, ◌&&◌, if◌then◌else◌, List, [], ◌∷◌, ◌++◌, Option, Some, None, is_none, is_some, refl, sym, ap, subst, ◌∙◌, arith, ◌==◌}
 use Rattle.std.specs.Prelude.{IsSomeAnd, MatchBool, MatchOption, count_by}
 use Rattle.av_base.specs.Words.{how_many, with_at}
 use Rattle.av_base.specs.declared.slot.Slot.{Slot}
@@ -8,10 +8,10 @@ use Rattle.av_clusters.specs.Clusters.{Slots, fresh, take_slot, is_free as is_fr
 use Rattle.av_swapdev.specs.Header.{Layout}
 use Rattle.av_trace.specs.declared.note.Note.{Note}
 use Rattle.av_trace.specs.declared.note.Note.TheVariants.{Zeroed, New, Copied, Loaded, Mapped, Put, Unmapped, Started, Written, Failed, Dropped, Kept, Aged}
-use Rattle.av_plain.specs.Ledger.{Ledger, Setting, SwapArea, map_count, slot_of, has_free, size_of}
+use Rattle.av_plain.specs.Ledger.{HasNumbers, Ledger, Setting, SwapArea, map_count, slot_of, has_free, size_of}
 use Rattle.av_plain.specs.Event.{Event, Forked, Moved, Noted, TurnedOff, TurnedOn, Used, Zapped, after, after_all, after_notes, when, note_events}
 use Rattle.av_plain.specs.Pass.{Spared, end_note, end_notes, Completes, is_fail, fails, IsSlotFor, is_stuck, is_dirty, turn_notes, stays_cached, Turns as TakesTurns, frames_in_turn, IsPass, Seeks, TakesFor}
-use Rattle.av_plain.specs.Choice.{AreFresh, AreaSlots, Chooses, ChoosesAll, ChoosesFrame, ChoosesSlot, Free, IsGiven, Turns, frame_in, frame_in_note, new_free, slot_in, with_given_back}
+use Rattle.av_plain.specs.Choice.{AreFresh, AreaSlots, Chooses, ChoosesAll, ChoosesFrame, ChoosesSlot, Free, IsGiven, SwitchesArea, frame_in, frame_in_note, new_free, slot_in, with_given_back}
 use Rattle.av_laws.specs.Determined.{Tells}
 use Rattle.av_plain.proofs.Access.{note_events-append, note_events-all}
 use Rattle.av_plain.proofs.Ledger.NoSwap.{has_free-some}
@@ -79,20 +79,24 @@ fresh-same : (m : Setting) (k : ℕ) (area : SwapArea) (made made' : Slots) → 
     → AreFresh m k area made → AreFresh m k area made' → made ≡ made'
 fresh-same m k area made made' told h g = by m.headers told h g
   where
-    of_layout : (o : Option Layout) → IsSomeAnd o (λ (h : Layout). made ≡ fresh h.pages h.bad)
-        → IsSomeAnd o (λ (h : Layout). made' ≡ fresh h.pages h.bad) → made ≡ made'
+    of_layout : (o : Option Layout)
+        → IsSomeAnd o (λ (h : Layout). HasNumbers area h × (made ≡ fresh h.pages h.bad))
+        → IsSomeAnd o (λ (h : Layout). HasNumbers area h × (made' ≡ fresh h.pages h.bad))
+        → made ≡ made'
     of_layout None h g = absurd h
-    of_layout (Some layout) h g = h ∙ sym g
+    of_layout (Some layout) h g = h.1 ∙ sym g.1
 
     by : (o : Option (ℕ → Option Layout)) → is_some o ≡ true
         → MatchOption o ((pages : ℕ) × (bad : List ℕ) × (pages ≤ size_of m k)
-        × (length bad ≡ area.bad) × (made ≡ fresh pages bad)
+        × (1 + area.slots + area.bad ≡ pages) × (made ≡ fresh pages bad)
         × (count_by is_free_page made.pages ≡ area.slots))
-        (λ headers. IsSomeAnd (headers k) (λ (h : Layout). made ≡ fresh h.pages h.bad))
+        (λ headers. IsSomeAnd (headers k)
+        (λ (h : Layout). HasNumbers area h × (made ≡ fresh h.pages h.bad)))
         → MatchOption o ((pages : ℕ) × (bad : List ℕ) × (pages ≤ size_of m k)
-        × (length bad ≡ area.bad) × (made' ≡ fresh pages bad)
+        × (1 + area.slots + area.bad ≡ pages) × (made' ≡ fresh pages bad)
         × (count_by is_free_page made'.pages ≡ area.slots))
-        (λ headers. IsSomeAnd (headers k) (λ (h : Layout). made' ≡ fresh h.pages h.bad))
+        (λ headers. IsSomeAnd (headers k)
+        (λ (h : Layout). HasNumbers area h × (made' ≡ fresh h.pages h.bad)))
         → made ≡ made'
     by None told h g = cc
     by (Some headers) told h g = of_layout (headers k) h g

@@ -46,7 +46,7 @@ there q false is h i = absurd (grind (arith, nat_tests, is, h, i))
 -- ---- runs
 
 pub second_lost-runs : Allows (with_swap 4 8 7) (second_out (0 ∷ 1 ∷ 2 ∷ 3 ∷ [])) second_lost
-second_lost-runs = by_steps (with_swap 4 8 7) (second_out (0 ∷ 1 ∷ 2 ∷ 3 ∷ [])) second_lost ((
+second_lost-runs = by_steps (with_swap 4 8 7) (second_out (0 ∷ 1 ∷ 2 ∷ 3 ∷ [])) second_lost refl ((
   Noted (Zeroed 1 0x7fffffffd000) ∷ Used false (1, 0x7fffffffd) ∷ [],
   0 ∷ 1 ∷ 2 ∷ 3 ∷ [],
   record { answer = (Stopped 0x7fffffffe Lost, 0 ∷ [], inl (Zeroed 1 0x7fffffffd000 ∷ [], [], (refl, record { coming = []; making = Zeroed 1 0x7fffffffd000 ∷ []; whole = refl; comes_in = refl; made = refl }), refl, inr ([], Lost, (refl, record { slot = slot 1; absent = refl; seeks = refl; frame = refl }), refl, refl)), (refl, (refl, tt), (omega arith, tt)), refl, refl); notes = refl },
@@ -67,7 +67,7 @@ second_lost-runs = by_steps (with_swap 4 8 7) (second_out (0 ∷ 1 ∷ 2 ∷ 3 �
 ))
 
 pub second_starved-runs : Allows (with_swap 0 8 7) (second_out []) second_starved
-second_starved-runs = by_steps (with_swap 0 8 7) (second_out []) second_starved ((
+second_starved-runs = by_steps (with_swap 0 8 7) (second_out []) second_starved refl ((
   Noted (Zeroed 1 0x7fffffffd000) ∷ Used false (1, 0x7fffffffd) ∷ [],
   [],
   record { answer = (Stopped 0x7fffffffe (Starved (record { pinned = 0; noslot = 0; fault = 0 })), 0 ∷ [], inl (Zeroed 1 0x7fffffffd000 ∷ [], [], (refl, record { coming = []; making = Zeroed 1 0x7fffffffd000 ∷ []; whole = refl; comes_in = refl; made = refl }), refl, inr ([], Starved (record { pinned = 0; noslot = 0; fault = 0 }), (refl, record { coming = []; sought = []; whole = refl; before = inl refl; finds = record { wants = refl; seeks = ([], [], refl, refl, refl); none = refl; numbers = refl } }), refl, refl)), (refl, (refl, tt), (omega arith, tt)), refl, refl); notes = refl },
@@ -76,7 +76,7 @@ second_starved-runs = by_steps (with_swap 0 8 7) (second_out []) second_starved 
 ))
 
 pub evicts-runs : Allows bad_first full evicts
-evicts-runs = by_steps bad_first full evicts ((
+evicts-runs = by_steps bad_first full evicts refl ((
   Noted (Put 0 (slot 2)) ∷ Noted (Unmapped 0) ∷ Noted (Started (slot 2)) ∷ Noted (Written (slot 2)) ∷ Noted (Dropped (slot 2)) ∷ Noted (New 1 0x7fffffffd000 0) ∷ Used true (1, 0x7fffffffd) ∷ [],
   [],
   record { answer = (Whole, inl (Put 0 (slot 2) ∷ Unmapped 0 ∷ Started (slot 2) ∷ Written (slot 2) ∷ Dropped (slot 2) ∷ New 1 0x7fffffffd000 0 ∷ [], [], (refl, record { coming = []; making = Put 0 (slot 2) ∷ Unmapped 0 ∷ Started (slot 2) ∷ Written (slot 2) ∷ Dropped (slot 2) ∷ New 1 0x7fffffffd000 0 ∷ []; whole = refl; comes_in = refl; made = record { sought = Put 0 (slot 2) ∷ Unmapped 0 ∷ Started (slot 2) ∷ Written (slot 2) ∷ Dropped (slot 2) ∷ []; frame = 0; seeks = ([], Put 0 (slot 2) ∷ Unmapped 0 ∷ Started (slot 2) ∷ Written (slot 2) ∷ Dropped (slot 2) ∷ [], refl, refl, (slot 2, false, refl, refl)); in_range = omega arith; free = refl; whole = refl } }), refl, (refl, refl)), refl, refl); notes = refl },
@@ -165,7 +165,7 @@ evicts-runs = by_steps bad_first full evicts ((
 ))
 
 pub no_slot_written-runs : Allows bad_first full no_slot_written
-no_slot_written-runs = by_steps bad_first full no_slot_written ((
+no_slot_written-runs = by_steps bad_first full no_slot_written refl ((
   Noted (Put 0 (slot 2)) ∷ Noted (Unmapped 0) ∷ Noted (Started (slot 2)) ∷ Noted (Failed (slot 2)) ∷ [],
   [],
   record { answer = (Stopped 0x7fffffffd (Starved (record { pinned = 0; noslot = 0; fault = 1 })), inr (Put 0 (slot 2) ∷ Unmapped 0 ∷ Started (slot 2) ∷ Failed (slot 2) ∷ [], Starved (record { pinned = 0; noslot = 0; fault = 1 }), (refl, record { coming = []; sought = Put 0 (slot 2) ∷ Unmapped 0 ∷ Started (slot 2) ∷ Failed (slot 2) ∷ []; whole = refl; before = inl refl; finds = record { wants = refl; seeks = ([], Put 0 (slot 2) ∷ Unmapped 0 ∷ Started (slot 2) ∷ Failed (slot 2) ∷ [], refl, refl, (slot 2, true, refl, ([], refl, refl))); none = refl; numbers = refl } }), refl, refl), refl, refl); notes = refl },
@@ -174,7 +174,7 @@ no_slot_written-runs = by_steps bad_first full no_slot_written ((
 ))
 
 pub completes-runs : Allows (with_swap 2 8 7) two_in_flight completes
-completes-runs = by_steps (with_swap 2 8 7) two_in_flight completes ((
+completes-runs = by_steps (with_swap 2 8 7) two_in_flight completes refl ((
   Noted (Written (slot 1)) ∷ Noted (Written (slot 2)) ∷ Noted (Dropped (slot 2)) ∷ Noted (New 2 0x7fffffffe000 1) ∷ Used true (2, 0x7fffffffe) ∷ [],
   [],
   record { answer = (Whole, inl (Written (slot 1) ∷ Written (slot 2) ∷ Dropped (slot 2) ∷ New 2 0x7fffffffe000 1 ∷ [], [], (refl, record { coming = []; making = Written (slot 1) ∷ Written (slot 2) ∷ Dropped (slot 2) ∷ New 2 0x7fffffffe000 1 ∷ []; whole = refl; comes_in = refl; made = record { sought = Written (slot 1) ∷ Written (slot 2) ∷ Dropped (slot 2) ∷ []; frame = 1; seeks = (Written (slot 1) ∷ Written (slot 2) ∷ [], Dropped (slot 2) ∷ [], refl, (false, Written (slot 2) ∷ [], refl, (false, [], refl, refl)), (slot 2, false, refl, refl)); in_range = omega arith; free = refl; whole = refl } }), refl, (refl, refl)), refl, refl); notes = refl },
@@ -183,7 +183,7 @@ completes-runs = by_steps (with_swap 2 8 7) two_in_flight completes ((
 ))
 
 pub second_fails-runs : Allows (with_swap 2 8 7) two_in_flight second_fails
-second_fails-runs = by_steps (with_swap 2 8 7) two_in_flight second_fails ((
+second_fails-runs = by_steps (with_swap 2 8 7) two_in_flight second_fails refl ((
   Noted (Written (slot 1)) ∷ Noted (Failed (slot 2)) ∷ Noted (Dropped (slot 1)) ∷ Noted (New 2 0x7fffffffe000 0) ∷ Used true (2, 0x7fffffffe) ∷ [],
   [],
   record { answer = (Whole, inl (Written (slot 1) ∷ Failed (slot 2) ∷ Dropped (slot 1) ∷ New 2 0x7fffffffe000 0 ∷ [], [], (refl, record { coming = []; making = Written (slot 1) ∷ Failed (slot 2) ∷ Dropped (slot 1) ∷ New 2 0x7fffffffe000 0 ∷ []; whole = refl; comes_in = refl; made = record { sought = Written (slot 1) ∷ Failed (slot 2) ∷ Dropped (slot 1) ∷ []; frame = 0; seeks = (Written (slot 1) ∷ Failed (slot 2) ∷ [], Dropped (slot 1) ∷ [], refl, (false, Failed (slot 2) ∷ [], refl, (true, [], refl, refl)), (slot 1, false, refl, refl)); in_range = omega arith; free = refl; whole = refl } }), refl, (refl, refl)), refl, refl); notes = refl },
@@ -192,7 +192,7 @@ second_fails-runs = by_steps (with_swap 2 8 7) two_in_flight second_fails ((
 ))
 
 pub named_by_other-runs : Allows (with_swap 4 2 1) (cached_for_two 1 (InSlot (slot 1))) named_by_other
-named_by_other-runs = by_steps (with_swap 4 2 1) (cached_for_two 1 (InSlot (slot 1))) named_by_other ((
+named_by_other-runs = by_steps (with_swap 4 2 1) (cached_for_two 1 (InSlot (slot 1))) named_by_other refl ((
   Noted (Mapped 1 0x7fffffffe000 0) ∷ Used false (1, 0x7fffffffe) ∷ [],
   1 ∷ 2 ∷ 3 ∷ [],
   record { answer = (Whole, 7 ∷ [], inl (Mapped 1 0x7fffffffe000 0 ∷ [], [], (refl, record { coming = Mapped 1 0x7fffffffe000 0 ∷ []; making = []; whole = refl; comes_in = refl; made = refl }), refl, (refl, refl)), (refl, (refl, tt), (omega arith, tt)), refl, refl); notes = refl },
@@ -207,7 +207,7 @@ named_by_other-runs = by_steps (with_swap 4 2 1) (cached_for_two 1 (InSlot (slot
 ))
 
 pub orphan_of_two-runs : Allows (with_swap 4 8 7) (cached_for_two 7 (InFrame 0 true)) orphan_of_two
-orphan_of_two-runs = by_steps (with_swap 4 8 7) (cached_for_two 7 (InFrame 0 true)) orphan_of_two ((
+orphan_of_two-runs = by_steps (with_swap 4 8 7) (cached_for_two 7 (InFrame 0 true)) orphan_of_two refl ((
   Zapped (1, 0x7fffffffe) ∷ [],
   1 ∷ 2 ∷ 3 ∷ [],
   record { answer = (refl, refl, refl); notes = refl },
@@ -222,7 +222,7 @@ orphan_of_two-runs = by_steps (with_swap 4 8 7) (cached_for_two 7 (InFrame 0 tru
 ))
 
 pub fixed_over_two-runs : Allows (machine 4) two_written fixed_over_two
-fixed_over_two-runs = by_steps (machine 4) two_written fixed_over_two ((
+fixed_over_two-runs = by_steps (machine 4) two_written fixed_over_two refl ((
   Zapped (1, 0x7fffffffd) ∷ Zapped (1, 0x7fffffffe) ∷ [],
   1 ∷ 0 ∷ 2 ∷ 3 ∷ [],
   record { answer = (Some 0x7fffffffd, refl, refl, refl, refl); notes = refl },
@@ -237,7 +237,7 @@ fixed_over_two-runs = by_steps (machine 4) two_written fixed_over_two ((
 ))
 
 pub unmapped_two-runs : Allows (machine 4) two_written unmapped_two
-unmapped_two-runs = by_steps (machine 4) two_written unmapped_two ((
+unmapped_two-runs = by_steps (machine 4) two_written unmapped_two refl ((
   Zapped (1, 0x7fffffffd) ∷ Zapped (1, 0x7fffffffe) ∷ [],
   1 ∷ 0 ∷ 2 ∷ 3 ∷ [],
   record { answer = (refl, refl, refl); notes = refl },
@@ -252,7 +252,7 @@ unmapped_two-runs = by_steps (machine 4) two_written unmapped_two ((
 ))
 
 pub protected_two-runs : Allows (machine 4) two_written protected_two
-protected_two-runs = by_steps (machine 4) two_written protected_two ((
+protected_two-runs = by_steps (machine 4) two_written protected_two refl ((
   [],
   2 ∷ 3 ∷ [],
   record { answer = (refl, refl, refl); notes = refl },
@@ -291,7 +291,7 @@ protected_two-runs = by_steps (machine 4) two_written protected_two ((
 ))
 
 pub hint_over-runs : Allows (machine 4) state_at_rest hint_over
-hint_over-runs = by_steps (machine 4) state_at_rest hint_over ((
+hint_over-runs = by_steps (machine 4) state_at_rest hint_over refl ((
   [],
   0 ∷ 1 ∷ 2 ∷ 3 ∷ [],
   record { answer = (Some 0x7fffffffd, gap_under _ 0x7fffffffe 1 refl (omega arith) (omega arith) (omega arith) (λ q h i. below q (q == 0x7fffffffe) refl i) (λ q h i. there q (q == 0x7fffffffe) refl h i), refl, refl, refl); notes = refl },

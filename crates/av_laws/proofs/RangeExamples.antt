@@ -33,7 +33,7 @@ written-prot q a bytes page = by (q page)
     by (Some x) = refl
 
 pub protected_part-runs : Runs 4 protected_part
-protected_part-runs = by_steps (machine 4) (at_first (machine 4)) protected_part ((
+protected_part-runs = by_steps (machine 4) (at_first (machine 4)) protected_part refl ((
   [],
   0 ∷ 1 ∷ 2 ∷ 3 ∷ [],
   record { answer = (refl, refl, refl); notes = refl },
@@ -88,7 +88,7 @@ protected_part-runs = by_steps (machine 4) (at_first (machine 4)) protected_part
     parts false false false e f = refl
 
 pub past_a_hole-runs : Runs 4 (past_a_hole Done (New 1 0x7fffffffe000 0 ∷ []))
-past_a_hole-runs = by_steps (machine 4) (at_first (machine 4)) (past_a_hole Done (New 1 0x7fffffffe000 0 ∷ [])) ((
+past_a_hole-runs = by_steps (machine 4) (at_first (machine 4)) (past_a_hole Done (New 1 0x7fffffffe000 0 ∷ [])) refl ((
   [],
   0 ∷ 1 ∷ 2 ∷ 3 ∷ [],
   record { answer = (refl, refl, refl); notes = refl },
@@ -169,7 +169,7 @@ past_a_hole-runs = by_steps (machine 4) (at_first (machine 4)) (past_a_hole Done
     parts false false false false e f = refl
 
 pub places-runs : Runs 4 places
-places-runs = by_steps (machine 4) (at_first (machine 4)) places ((
+places-runs = by_steps (machine 4) (at_first (machine 4)) places refl ((
   [],
   0 ∷ 1 ∷ 2 ∷ 3 ∷ [],
   record { answer = (refl, refl, refl); notes = refl },
@@ -250,7 +250,7 @@ places-runs = by_steps (machine 4) (at_first (machine 4)) places ((
 ))
 
 pub range_refusals-runs : Runs 4 range_refusals
-range_refusals-runs = by_steps (machine 4) (at_first (machine 4)) range_refusals ((
+range_refusals-runs = by_steps (machine 4) (at_first (machine 4)) range_refusals refl ((
   [],
   0 ∷ 1 ∷ 2 ∷ 3 ∷ [],
   record { answer = (refl, refl, refl); notes = refl },
@@ -319,7 +319,7 @@ range_refusals-runs = by_steps (machine 4) (at_first (machine 4)) range_refusals
 ))
 
 pub fixed_over-runs : Runs 4 (fixed_over 3 0 (Zeroed 1 0x20000 ∷ []))
-fixed_over-runs = by_steps (machine 4) (at_first (machine 4)) (fixed_over 3 0 (Zeroed 1 0x20000 ∷ [])) (topmost read_write (drop 2 (fixed_over 3 0 (Zeroed 1 0x20000 ∷ []))) (
+fixed_over-runs = by_steps (machine 4) (at_first (machine 4)) (fixed_over 3 0 (Zeroed 1 0x20000 ∷ [])) refl (topmost read_write (drop 2 (fixed_over 3 0 (Zeroed 1 0x20000 ∷ []))) (
   Noted (New 1 0x7fffffffe000 0) ∷ Used true (1, 0x7fffffffe) ∷ [],
   1 ∷ 2 ∷ 3 ∷ [],
   record { answer = (Whole, inl (New 1 0x7fffffffe000 0 ∷ [], [], (refl, record { coming = []; making = New 1 0x7fffffffe000 0 ∷ []; whole = refl; comes_in = refl; made = record { sought = []; frame = 0; seeks = refl; in_range = omega arith; free = refl; whole = refl } }), refl, (refl, refl)), refl, refl); notes = refl },

@@ -1,7 +1,7 @@
 -- Views of a kernel with swap, that stand for a state and that don't.
 use Rattle.std.specs.Ordering.{nat_cmp, eq_by_cmp}
 use Rattle.std.specs.FinMap.Entries.{find}
-use Rattle.std.specs.Prelude.{◌≡◌, ℕ, zero, suc, ◌<◌, ◌==◌, ◌&&◌, Bool, true, false, IfSome, cond, if◌then◌else◌, List, [], ◌∷◌, length, Option, Some, None, is_some, option_map, option_and_then, nat_le, nat_lt, replicate, slice_index, Ok, refl}
+use Rattle.std.specs.Prelude.{◌≡◌, ℕ, zero, suc, ◌<◌, ◌==◌, ◌&&◌, Bool, true, false, IfSome, IsSomeAnd, cond, if◌then◌else◌, List, [], ◌∷◌, length, Option, Some, None, is_some, option_map, option_and_then, nat_le, nat_lt, replicate, slice_index, Ok, refl}
 use Rattle.std.proofs.Common.{arith, sym, ap, subst, ◌∙◌}
 use Rattle.std.proofs.lemmas.Bool.Decides.{nat_tests}
 use Rattle.av_base.specs.Page.{page_size}
@@ -12,12 +12,13 @@ use Rattle.av_vma.specs.Pages.{pages_in}
 use Rattle.av_plain.specs.Areas.{none_on}
 use Rattle.av_plain.specs.Choice.{Free}
 use Rattle.av_plain.specs.Device.{headers_of, without_fault}
-use Rattle.av_plain.specs.Ledger.{Cached, Entry, InSlot, Ledger, SwapArea, entry, frame_at, in_flight, is_free, is_stale, same_slot, slot_of}
+use Rattle.av_plain.specs.Ledger.{Cached, Entry, HasNumbers, InSlot, Ledger, SwapArea, entry, frame_at, in_flight, is_free, is_stale, same_slot, slot_of}
 use Rattle.av_plain.specs.Report.{prot_in}
-use Rattle.av_plain.specs.Stands.{View, AreApart, HasNumbers, Holds, IsClean, IsKept, Pte, entry_of, prot_of, ranges_in}
+use Rattle.av_plain.specs.Stands.{View, AreApart, Holds, IsClean, IsKept, Pte, entry_of, prot_of, ranges_in}
 use Rattle.av_plain.specs.World.{Page, Process, lives, pages, process}
 use Rattle.av_laws.specs.Examples.{cached_out, page_with, read_write, slot, with_byte, with_slots, with_swap}
-use Rattle.av_laws.specs.Views.{NotFor, StandsFor, cached_view, fewer_slots, header_page, swap_device, topmost, with_fewer_slots}
+use Rattle.av_laws.specs.Views.{NotFor, NotGiven, StandsFor, cached_view, fewer_slots, header_page, swap_device, topmost, with_fewer_slots}
+use Rattle.av_laws.proofs.ListsExamples.{cached-listed}
 use Rattle.av_laws.proofs.SoundExample.{cached_out-sound}
 use Rattle.av_plain.proofs.Ledger.NoSwap.{key_is}
 use Rattle.av_plain.proofs.NoDevice.{never}
@@ -207,6 +208,7 @@ module _ (flying stale : Bool) where
       headers = headers;
     };
     free = refl;
+    lists = cached-listed flying stale;
     areas = areas;
     anons = refl;
   }
@@ -231,15 +233,17 @@ module _ (flying stale : Bool) where
       free (suc (suc (suc (suc f)))) h = absurd (omega (arith, h))
 
       headers : (k : ℕ) → IfSome (find nat_cmp k (cached_out flying stale).ledger.on)
-          (λ area. HasNumbers area
-          (if k == 0 then Some (record { pages = 8; slots = 7; bad = [] }) else None))
+          (λ area. IsSomeAnd
+          (if k == 0 then Some (record { pages = 8; slots = 7; bad = [] }) else None)
+          (HasNumbers area))
       headers k = by (eq_by_cmp nat_cmp k 0) (k == 0) (same_number k 0)
         where
           by : (c d : Bool) → c ≡ d
               → IfSome (cond c (Some (record { slots = 7; bad = 0 })) None)
-              (λ (area : SwapArea). HasNumbers area
-              (if d then Some (record { pages = 8; slots = 7; bad = [] }) else None))
-          by true true e = (refl, refl)
+              (λ (area : SwapArea). IsSomeAnd
+              (if d then Some (record { pages = 8; slots = 7; bad = [] }) else None)
+              (HasNumbers area))
+          by true true e = record { slots = refl; bad = refl }
           by true false e = cc
           by false d e = tt
 
@@ -305,6 +309,12 @@ pub given_back-not : NotFor
 given_back-not h = let e : ◌≡◌ {A = ℕ} 0 2 = ap (λ (f : Free). (f.slots 0).cursor) h.free in omega
     (arith, e)
 
+pub none_given-not : NotGiven 0
+none_given-not h = never (h.lists.slots.taken (slot 1))
+
+pub another_given-not : NotGiven 2
+another_given-not h = never (sym (h.lists.slots.taken (slot 2)))
+
 pub entry_gone-not : NotFor (record (cached_view false false) { table = λ p page. None }) 7
     (cached_out false false)
 entry_gone-not h = never (ap is_some (h.parts.ledger.tables.entries 1 0x7fffffffe))
@@ -315,4 +325,4 @@ other_area-not h = let e : ◌≡◌ {A = ℕ} 6 7 = ap slots_on h.parts.ledger.
 
 pub other_header-not : NotFor (record (cached_view false false) { on = fewer_slots }) 7
     with_fewer_slots
-other_header-not h = let e : ◌≡◌ {A = ℕ} 6 7 = (h.parts.headers 0).0 in omega (arith, e)
+other_header-not h = let e : ◌≡◌ {A = ℕ} 6 7 = (h.parts.headers 0).slots in omega (arith, e)

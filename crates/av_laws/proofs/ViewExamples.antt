@@ -12,17 +12,18 @@ use Rattle.av_vma.specs.Pages.{pages_in}
 use Rattle.av_vma.specs.declared.area.Area.{Area}
 use Rattle.av_clusters.specs.Clusters.{fresh}
 use Rattle.av_plain.specs.Areas.{none_on}
-use Rattle.av_plain.specs.Choice.{Free}
+use Rattle.av_plain.specs.Choice.{Free, ListsFree}
 use Rattle.av_plain.specs.Stands.{AreApart, Holds, IsKept, Pte, Stands, entry_of, prot_of, ranges_in}
 use Rattle.av_plain.specs.World.{Page, Process, lives, pages, process}
 use Rattle.av_laws.specs.Examples.{machine, page_with, read_write, with_byte}
 use Rattle.av_laws.specs.Views.{fork_state}
+use Rattle.av_laws.proofs.ListsExamples.{fork-listed}
 use Rattle.av_plain.proofs.Ledger.{same_key, same_key-is}
 use Rattle.av_plain.proofs.Ledger.NoSwap.{key_is}
 use Rattle.std.specs.Prelude.{◌≡◌, ℕ, Bool, true, false, List, [], ◌∷◌, length, Some, None, is_some, refl}
 use Rattle.std.proofs.Common.{arith, sym, ap, ◌≤◌}
 use Rattle.av_plain.specs.Ledger.{InFrame}
-use Rattle.av_laws.specs.Views.{Refused, area, right, topmost, view_with}
+use Rattle.av_laws.specs.Views.{NotFree, Refused, area, right, topmost, view_with}
 use Rattle.av_plain.proofs.NoDevice.{never}
 
 first : List ℕ → ℕ
@@ -53,6 +54,22 @@ pub other_order-not : Refused (record right { free = 2 ∷ 1 ∷ 3 ∷ [] })
 unfolding first
 other_order-not h = let e : ◌≡◌ {A = ℕ} 2 1 = ap (λ (f : Free). first f.frames) h.free in omega
     (arith, e)
+
+-- such a list is not the one of the ledger
+not_free : (frames : List ℕ) → (ListsFree (machine 4) fork_state.ledger frames → ⊥) → NotFree frames
+not_free frames differ h = differ h.lists.frames
+
+pub free_twice-not : NotFree (1 ∷ 2 ∷ 3 ∷ 3 ∷ [])
+free_twice-not = not_free (1 ∷ 2 ∷ 3 ∷ 3 ∷ []) (λ h. let e : ◌≡◌ {A = ℕ} 2 1 = h 3 in omega (arith, e))
+
+pub free_left_out-not : NotFree (1 ∷ 3 ∷ [])
+free_left_out-not = not_free (1 ∷ 3 ∷ []) (λ h. let e : ◌≡◌ {A = ℕ} 0 1 = h 2 in omega (arith, e))
+
+pub free_in_use-not : NotFree (0 ∷ 1 ∷ 2 ∷ 3 ∷ [])
+free_in_use-not = not_free (0 ∷ 1 ∷ 2 ∷ 3 ∷ []) (λ h. let e : ◌≡◌ {A = ℕ} 1 0 = h 0 in omega (arith, e))
+
+pub no_such_frame-not : NotFree (1 ∷ 2 ∷ 3 ∷ 4 ∷ [])
+no_such_frame-not = not_free (1 ∷ 2 ∷ 3 ∷ 4 ∷ []) (λ h. let e : ◌≡◌ {A = ℕ} 1 0 = h 4 in omega (arith, e))
 
 pub slots_of_none-not : Refused (record right { slots = λ k. fresh 8 [] })
 slots_of_none-not h = let e : ◌≡◌ {A = ℕ} 8 0 = ap (λ (f : Free). length (f.slots 0).pages)
@@ -229,6 +246,7 @@ right-stands = record {
     headers = λ k. tt;
   };
   free = refl;
+  lists = fork-listed;
   areas = areas;
   anons = refl;
 }

@@ -29,8 +29,7 @@
 --   the next ledger (`after`): out_and_back, copied_and_gone
 --   the choice of frames (`ChoosesFrame`): wrong_frame, taken_and_freed, dropped_and_freed,
 --     exit_and_again
---   the choice of slots (`ChoosesSlot`): put_in_turn, put_again, put_behind; evicts and wrong_slot
---     of `Pairs`
+--   the choice of slots (`ChoosesSlot`): those of `Slots`; evicts and wrong_slot of `Pairs`
 use Rattle.std.specs.Prelude.{◌≡◌, ℕ, zero, suc, ◌+◌, ◌-◌, Bool, true, false, ◌==◌, ◌||◌, if◌then◌else◌, List, [], ◌∷◌, map, length, Some, None, option_map, unwrap_or}
 use Rattle.av_base.specs.declared.prot.Prot.{Prot}
 use Rattle.av_base.specs.declared.slot.Slot.{Slot}
@@ -51,7 +50,7 @@ use Rattle.av_trace.specs.declared.reply.Answer.{Answer}
 use Rattle.av_trace.specs.declared.reply.Answer.TheVariants.{Done, MapAt, Data, Refused, Segv, Bus, Oom, Runs as RunCount, Counted}
 use Rattle.av_vma.specs.Pages.{Pages, fresh_area, pages_in}
 use Rattle.av_plain.specs.Areas.{no_anons, Areas, no_areas}
-use Rattle.av_plain.specs.Choice.{ChoosesAll, Free, no_slots}
+use Rattle.av_plain.specs.Choice.{Free, no_slots}
 use Rattle.av_plain.specs.World.{Process, Page, no_pages, zeros, with_pages}
 use Rattle.av_plain.specs.Ledger.{Ledger, Setting, Cached, Entry, Zero, InFrame, InSlot, first_ledger}
 use Rattle.av_plain.specs.Device.{no_device, setting_of}
@@ -937,32 +936,3 @@ taken_and_freed = Noted (New 1 0x10000 0) ∷ Noted (New 1 0x11000 1) ∷ Used t
 -- a cached frame that nothing else names becomes free when its slot is dropped
 abbrev pub orphan : Ledger
 orphan = record first_ledger { cache = cache_of 5 false; inactive = 5 ∷ [] }
-
--- ---- slots that are given and come back
-
--- after these events some frames and slots are free; or none can be, since a frame or a slot was
--- chosen wrongly
-abbrev pub MayChoose : Setting → Ledger → List Event → Free → Type 0
-MayChoose m l events free = (left : Free) × ChoosesAll m None l events free left
-
-abbrev pub MayNotChoose : Setting → Ledger → List Event → Free → Type 0
-MayNotChoose m l events free = (left : Free) → ChoosesAll m None l events free left → ⊥
-
--- three frames are in use, and the area with seven slots is on
-abbrev pub three_in_use : Ledger
-three_in_use = record first_ledger {
-  entries = ((1, 0x10), InFrame 0 true) ∷ ((1, 0x11), InFrame 1 true)
-      ∷ ((1, 0x12), InFrame 2 true) ∷ [];
-  inactive = 2 ∷ 1 ∷ 0 ∷ [];
-  on = (0, record { slots = 7; bad = 0 }) ∷ [];
-}
-
--- two get slots, and the first slot comes back while the second is still in use; the third frame
--- is put at this one
-abbrev pub puts : Slot → List Event
-puts s = Noted (Put 0 (slot 1)) ∷ Noted (Put 1 (slot 2)) ∷ Noted (Dropped (slot 1))
-    ∷ Noted (Put 2 s) ∷ []
-
--- the only slot that was given comes back, so that its cluster has none in use
-abbrev pub puts_again : Slot → List Event
-puts_again s = Noted (Put 0 (slot 1)) ∷ Noted (Dropped (slot 1)) ∷ Noted (Put 0 s) ∷ []

@@ -6,3 +6,5 @@ pub mod ReadBack
 pub mod NeedsFrame
 pub mod Views
 pub mod Areas
+pub mod Slots
+pub mod Covered

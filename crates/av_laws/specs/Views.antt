@@ -9,7 +9,7 @@ use Rattle.av_plain.specs.Areas.{no_anons}
 use Rattle.av_plain.specs.Choice.{no_slots}
 use Rattle.av_plain.specs.Stands.{Stands, View}
 use Rattle.av_plain.specs.Transcript.{State}
-use Rattle.av_laws.specs.Examples.{after_fork, cached_out, machine, read_write, with_slots, with_swap}
+use Rattle.av_laws.specs.Examples.{after_fork, cached_out, machine, only_frames, read_write, with_slots, with_swap}
 
 -- two processes have the topmost page, in frame 0
 abbrev pub fork_state : State
@@ -51,6 +51,13 @@ right = view_with (λ p. topmost p ∷ []) false
 -- a kernel that is seen so doesn't stand for the state
 abbrev pub Refused : View → Type 0
 Refused v = Stands (machine 4) v no_device fork_state → ⊥
+
+-- nor does one that agrees with the state on these free frames, where they aren't those of the
+-- ledger
+abbrev pub NotFree : List ℕ → Type 0
+NotFree frames =
+    Stands (machine 4) (record right { free = frames }) no_device
+    (record fork_state { free = only_frames frames }) → ⊥
 
 -- ---- with swap
 
@@ -106,3 +113,10 @@ with_fewer_slots =
     record (cached_out false false) {
       ledger = record (cached_out false false).ledger { on = fewer_slots };
     }
+
+-- a kernel that agrees with the state on the slots, of which so many were given, doesn't stand for
+-- it, where they aren't those of the ledger
+abbrev pub NotGiven : ℕ → Type 0
+NotGiven n =
+    NotFor (record (cached_view false false) { slots = (with_slots 8 [] n []).slots }) 7
+    (record (cached_out false false) { free = with_slots 8 [] n (1 ∷ 2 ∷ 3 ∷ []) })

@@ -1,11 +1,23 @@
-//! Worked examples for areas: what mapping, unmapping and protecting leaves on the pages of a
-//! process.
+//! Worked examples for areas and anon_vmas: what mapping, unmapping and protecting leaves on the
+//! pages of a process, and which anon_vmas are left.
 
-ghost use Rattle.std.specs.Prelude.{[], ◌∷◌};
+ghost use Rattle.std.specs.Prelude.{[], ◌∷◌, Some, None};
+ghost use Rattle.av_trace.specs.declared.reply.Answer.TheVariants.{Done, MapAt};
 ghost use Rattle.av_laws.specs.Areas.{
+  Leaves,
   Makes,
   NeverHas,
+  NeverLeaves,
+  NeverPuts,
+  anons_of,
   area,
+  area_of,
+  behind_first,
+  behind_second,
+  child,
+  first_goes,
+  root,
+  second_goes,
   middle_map,
   after_exit,
   fixed_over,
@@ -56,4 +68,39 @@ pub fn changed_areas_are_refused()
     ensures changed_past_hole { NeverHas up_to_hole 0x12 (area 0x12 0x14 read_only) }
     ensures unchanged_before_hole { NeverHas up_to_hole 0x10 (area 0x10 0x11 read_write) }
     ensures kept_at_exit { NeverHas after_exit 0x10 (area 0x10 0x14 read_write) }
+{}
+
+/// An anon_vma goes with the last area that is linked to it, and one that an area's chain still has
+/// stays. A new area joins one whose chain has one node, and gets its anon_vma; it doesn't join one
+/// whose chain has two.
+pub fn anon_vmas_are_left()
+    ensures child_goes { Leaves second_goes Done (area_of 0 0x10 0x12 ∷ [])
+        (anons_of (Some root) None 2) }
+    ensures both_stay { Leaves first_goes Done (area_of 1 0x14 0x16 ∷ [])
+        (anons_of (Some root) (Some child) 2) }
+    ensures joined_to_root { Leaves behind_first (MapAt 0x12000)
+        (area_of 0 0x10 0x13 ∷ area_of 1 0x14 0x16 ∷ [])
+        (anons_of (Some root) (Some child) 2) }
+    ensures apart_from_child { Leaves behind_second (MapAt 0x16000)
+        (area_of 0 0x10 0x12 ∷ area_of 1 0x14 0x16 ∷ area 0x16 0x17 read_write ∷ [])
+        (anons_of (Some root) (Some child) 2) }
+{}
+
+/// No others: an anon_vma that nothing is linked to, or that is gone though an area is; one with
+/// another root, parent or chain; a number that is used again; an area that stays apart, or that
+/// joins.
+pub fn changed_anon_vmas_are_refused()
+    ensures child_kept { NeverLeaves second_goes (anons_of (Some root) (Some child) 2) }
+    ensures root_lost { NeverLeaves second_goes (anons_of None None 2) }
+    ensures root_of_child_lost { NeverLeaves first_goes (anons_of None (Some child) 2) }
+    ensures other_root { NeverLeaves second_goes
+        (anons_of (Some (record root { root = 1 })) None 2) }
+    ensures other_parent { NeverLeaves second_goes
+        (anons_of (Some (record root { parent = 1 })) None 2) }
+    ensures other_chain { NeverLeaves second_goes
+        (anons_of (Some (record root { chain = 0 ∷ 1 ∷ [] })) None 2) }
+    ensures number_again { NeverLeaves second_goes (anons_of (Some root) None 1) }
+    ensures apart_from_root { NeverPuts behind_first (MapAt 0x12000) 0x12
+        (area 0x12 0x13 read_write) }
+    ensures joined_to_child { NeverPuts behind_second (MapAt 0x16000) 0x16 (area_of 1 0x14 0x17) }
 {}

@@ -97,12 +97,6 @@ ghost use Rattle.av_laws.specs.Examples.{
   taken_and_freed,
   orphan,
   only_frames,
-  with_slots,
-  MayChoose,
-  MayNotChoose,
-  three_in_use,
-  puts,
-  puts_again,
   exit_frees,
   exit_and_again,
   two_runs,
@@ -180,19 +174,6 @@ pub fn ledgers_follow()
     ensures dropped_and_freed { ChoosesAll (machine 6) None orphan (Noted (Dropped (slot 1)) ∷ [])
         (only_frames (2 ∷ []))
         (only_frames (5 ∷ 2 ∷ [])) }
-{}
-
-/// Slots are given in turn: one that came back is given again only when its cluster has none in
-/// use.
-pub fn slots_are_given_in_turn()
-    ensures put_in_turn { MayChoose (with_swap 4 8 7) three_in_use (puts (slot 3))
-        (with_slots 8 [] 0 (3 ∷ [])) }
-    ensures put_back { MayNotChoose (with_swap 4 8 7) three_in_use (puts (slot 1))
-        (with_slots 8 [] 0 (3 ∷ [])) }
-    ensures put_again { MayChoose (with_swap 4 8 7) three_in_use (puts_again (slot 1))
-        (with_slots 8 [] 0 (3 ∷ [])) }
-    ensures put_behind { MayNotChoose (with_swap 4 8 7) three_in_use (puts_again (slot 2))
-        (with_slots 8 [] 0 (3 ∷ [])) }
 {}
 
 /// Runs that differ from these in one place may not be.

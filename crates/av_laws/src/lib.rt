@@ -1,7 +1,8 @@
 //! What follows from the definitions of `av_plain`, beside what the kernel needs of them: replies
-//! are determined, numbers add up, a refusal changes nothing, a reply is read back from its text;
-//! and worked examples: legal ones and such as may not be, areas that come of commands, sound
-//! states and unsound ones, views that stand for a state and such as don't.
+//! are determined, numbers add up, a refusal changes nothing, a reply is read back from its text,
+//! what is free is listed, areas cover what is mapped; and worked examples: legal ones and such as
+//! may not be, slots that are given, areas and anon_vmas that come of commands, sound states and
+//! unsound ones, views that stand for a state and such as don't.
 //!
 //! No function does anything. Each one's contract is a law, proved of the definitions alone.
 #![tactic(auto)]
@@ -9,6 +10,7 @@
 mod areas;
 mod examples;
 mod pairs;
+mod slots;
 mod unsound;
 mod views;
 
@@ -31,11 +33,12 @@ ghost use Rattle.av_plain.specs.Refusal.{is_mprotect};
 ghost use Rattle.av_plain.specs.Map.{StopsAtHole};
 ghost use Rattle.av_plain.specs.Transcript.{Exchange, State, IsStep, IsRun, at_first, causes_of};
 ghost use Rattle.av_plain.specs.Sound.{AllSound};
-ghost use Rattle.av_plain.specs.Choice.{ListsFree};
+ghost use Rattle.av_plain.specs.Choice.{ListsFree, ListsSlots};
 ghost use Rattle.av_trace.specs.Command.{IsCommand};
 ghost use Rattle.av_trace.specs.Number.{IsWide};
 ghost use Rattle.av_trace.specs.Reply.{IsReply};
 ghost use Rattle.av_io.specs.Count.{Rose, RoseBy};
+ghost use Rattle.av_laws.specs.Covered.{CoverPages};
 ghost use Rattle.av_laws.specs.NeedsFrame.{NoneWantsFrame};
 ghost use Rattle.av_plain.specs.Device.{HasNoDevice};
 ghost use Rattle.av_laws.specs.ReadBack.{IsSmall};
@@ -47,16 +50,21 @@ ghost use Rattle.av_laws.specs.Determined.{
   SameCommands,
 };
 
-pub use areas::{areas_follow, changed_areas_are_refused};
+pub use areas::{
+    anon_vmas_are_left, areas_follow, changed_anon_vmas_are_refused, changed_areas_are_refused,
+};
 pub use examples::{
     a_page_in_writeback_is_sound, changed_exits_and_reports_are_refused,
     changed_ranges_are_refused, changed_replies_are_refused, changed_replies_of_swap_are_refused,
     changed_runs_are_refused, exits_and_reports_run, first_examples_run, ledgers_follow,
-    ranges_run, shared_examples_run, slots_are_given_in_turn, swap_examples_run,
+    ranges_run, shared_examples_run, swap_examples_run,
 };
 pub use pairs::{
     changed_pairs_are_refused, faults_are_counted, ledgers_of_two_follow, loads_make_unclaimed,
     passes_run, two_pages_run,
+};
+pub use slots::{
+    areas_are_turned_on_anew, slots_are_given_in_turn, slots_come_back, the_first_area_gives,
 };
 pub use unsound::{
     changed_ledgers_are_unsound, changed_memories_are_unsound, entries_of_one_memory_are_unsound,
@@ -116,6 +124,31 @@ pub fn runs_list_free_frames()
     ensures { (m : Setting) (exchanges : List Exchange) (new : State)
         → IsRun m (at_first m) exchanges new
         → ListsFree m new.ledger new.free.frames }
+{}
+
+/// In a run the pages of each swap area are as the ledger has its slots: taken exactly where the
+/// slot is in use, free only where it is free, and as many as are free. So it is after each command
+/// that finds it so in a sound state.
+pub fn runs_list_free_slots()
+    ensures from_nothing { (m : Setting) (exchanges : List Exchange) (new : State)
+        → IsRun m (at_first m) exchanges new
+        → ListsSlots m new.ledger new.free.slots }
+    ensures each_step { (m : Setting) (old new : State) (command : Command) (reply : Reply)
+        → AllSound m old.world old.ledger → ListsSlots m old.ledger old.free.slots
+        → IsStep m old command reply new
+        → ListsSlots m new.ledger new.free.slots }
+{}
+
+/// In a run the areas of each process cover exactly its pages, with their protection, and each area
+/// is whole and on all of its pages. So it is after each command that finds it so, however long the
+/// chains of anon_vmas are.
+pub fn runs_lay_areas()
+    ensures from_nothing { (m : Setting) (exchanges : List Exchange) (new : State)
+        → IsRun m (at_first m) exchanges new
+        → CoverPages new.world new.areas }
+    ensures each_step { (m : Setting) (old new : State) (command : Command) (reply : Reply)
+        → CoverPages old.world old.areas → IsStep m old command reply new
+        → CoverPages new.world new.areas }
 {}
 
 /// Each frame is free, active or inactive, and so the numbers of `stat` add up.

@@ -7,6 +7,8 @@ ghost use Rattle.av_laws.specs.Examples.{cached_out, machine, with_slots};
 ghost use Rattle.av_clusters.specs.Clusters.{fresh};
 ghost use Rattle.av_laws.specs.Views.{
   NotFor,
+  NotFree,
+  NotGiven,
   Refused,
   StandsFor,
   area,
@@ -25,15 +27,19 @@ pub fn the_right_view_stands()
 {}
 
 /// After a fork, a view stands for the state only where it has the bytes of the shared frame, no
-/// write bit over it, all entries and counts, the free frames in their order, no slots, no other
-/// active frames, and the areas of each process that lives: apart, over its pages alone, its own,
-/// and with their offsets.
+/// write bit over it, all entries and counts, the free frames in their order, each of them once, no
+/// slots, no other active frames, and the areas of each process that lives: apart, over its pages
+/// alone, its own, and with their offsets.
 pub fn changed_views_do_not_stand()
     ensures other_byte { Refused (record right { bytes = λ f i. 0 }) }
     ensures write_bit { Refused (view_with (λ p. topmost p ∷ []) true) }
     ensures no_entry { Refused (record right { table = λ p page. None }) }
     ensures other_count { Refused (record right { maps = λ f. 1 }) }
     ensures other_order { Refused (record right { free = 2 ∷ 1 ∷ 3 ∷ [] }) }
+    ensures free_twice { NotFree (1 ∷ 2 ∷ 3 ∷ 3 ∷ []) }
+    ensures free_left_out { NotFree (1 ∷ 3 ∷ []) }
+    ensures free_in_use { NotFree (0 ∷ 1 ∷ 2 ∷ 3 ∷ []) }
+    ensures no_such_frame { NotFree (1 ∷ 2 ∷ 3 ∷ 4 ∷ []) }
     ensures slots_of_none { Refused (record right { slots = λ k. fresh 8 [] }) }
     ensures made_active { Refused (record right { active = 0 ∷ [] }) }
     ensures area_too_long { Refused (view_with (λ p. area 0x7fffffffd 0x7ffffffff p ∷ []) false) }
@@ -55,8 +61,8 @@ pub fn cached_views_stand()
 
 /// A view of a cached page doesn't stand where the device has other bytes than a clean page; where
 /// its frame isn't dirty though stale, or has no slot; where the slot isn't found, isn't named,
-/// isn't in flight or was given back; where its entry is gone; or where an area is on with other
-/// numbers than those of its header.
+/// isn't in flight or was given back, also where the state has it so, or where another is given;
+/// where its entry is gone; or where an area is on with other numbers than those of its header.
 pub fn changed_cached_views_do_not_stand()
     ensures not_written { NotFor (cached_view false false) 9 (cached_out false false) }
     ensures not_dirty { NotFor (record (cached_view false true) { dirty = λ f. false }) 9
@@ -72,6 +78,8 @@ pub fn changed_cached_views_do_not_stand()
     ensures given_back { NotFor
         (record (cached_view false false) { slots = (with_slots 8 [] 0 []).slots }) 7
         (cached_out false false) }
+    ensures none_given { NotGiven 0 }
+    ensures another_given { NotGiven 2 }
     ensures entry_gone { NotFor (record (cached_view false false) { table = λ p page. None }) 7
         (cached_out false false) }
     ensures other_area { NotFor (record (cached_view false false) { on = fewer_slots }) 7

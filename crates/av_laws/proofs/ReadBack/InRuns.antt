@@ -253,7 +253,7 @@ below-ranged w p from n new below high = below-set w p (with_pages (pages w p) f
 
 -- ---- where a mapping goes
 
-first-test : (b : Bool) (error : Errno) (rest : Option Errno)
+pub first-test : (b : Bool) (error : Errno) (rest : Option Errno)
     → (if b then Some error else rest) ≡ None → (b ≡ false) × (rest ≡ None)
 first-test true error rest h = cc
 first-test false error rest h = (refl, h)

@@ -1,4 +1,4 @@
-use Rattle.av_laws.proofs.SwapViewExamples.{not_written-not, not_dirty-not, no_slot-not, not_found-not, not_named-not, not_flying-not, given_back-not, entry_gone-not, other_area-not, other_header-not}
+use Rattle.av_laws.proofs.SwapViewExamples.{none_given-not, another_given-not, not_written-not, not_dirty-not, no_slot-not, not_found-not, not_named-not, not_flying-not, given_back-not, entry_gone-not, other_area-not, other_header-not}
 use Rattle.av_laws.proofs.views.changed_cached_views_do_not_stand.Goals as goal
 
 pub returns-clause-not_written : goal.returns-clause-not_written
@@ -21,6 +21,12 @@ returns-clause-not_flying c = not_flying-not
 
 pub returns-clause-given_back : goal.returns-clause-given_back
 returns-clause-given_back c = given_back-not
+
+pub returns-clause-none_given : goal.returns-clause-none_given
+returns-clause-none_given c = none_given-not
+
+pub returns-clause-another_given : goal.returns-clause-another_given
+returns-clause-another_given c = another_given-not
 
 pub returns-clause-entry_gone : goal.returns-clause-entry_gone
 returns-clause-entry_gone c = entry_gone-not

@@ -1,4 +1,4 @@
-use Rattle.av_laws.proofs.ViewExamples.{other_byte-not, write_bit-not, no_entry-not, other_count-not, other_order-not, made_active-not, area_too_long-not, area_twice-not, areas_of_nobody-not, too_few_processes-not, slots_of_none-not, area_of_another-not, other_offset-not}
+use Rattle.av_laws.proofs.ViewExamples.{free_twice-not, free_left_out-not, free_in_use-not, no_such_frame-not, other_byte-not, write_bit-not, no_entry-not, other_count-not, other_order-not, made_active-not, area_too_long-not, area_twice-not, areas_of_nobody-not, too_few_processes-not, slots_of_none-not, area_of_another-not, other_offset-not}
 use Rattle.av_laws.proofs.views.changed_views_do_not_stand.Goals as goal
 
 pub returns-clause-other_byte : goal.returns-clause-other_byte
@@ -30,6 +30,18 @@ returns-clause-areas_of_nobody c = areas_of_nobody-not
 
 pub returns-clause-too_few_processes : goal.returns-clause-too_few_processes
 returns-clause-too_few_processes c = too_few_processes-not
+
+pub returns-clause-free_twice : goal.returns-clause-free_twice
+returns-clause-free_twice c = free_twice-not
+
+pub returns-clause-free_left_out : goal.returns-clause-free_left_out
+returns-clause-free_left_out c = free_left_out-not
+
+pub returns-clause-free_in_use : goal.returns-clause-free_in_use
+returns-clause-free_in_use c = free_in_use-not
+
+pub returns-clause-no_such_frame : goal.returns-clause-no_such_frame
+returns-clause-no_such_frame c = no_such_frame-not
 
 pub returns-clause-slots_of_none : goal.returns-clause-slots_of_none
 returns-clause-slots_of_none c = slots_of_none-not

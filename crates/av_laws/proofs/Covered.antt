@@ -1,0 +1,543 @@
+-- In a run the areas of each process cover exactly its pages, with their protection.
+use Rattle.std.proofs.Common.{◌≡◌, ℕ, zero, suc, ◌+◌, ◌-◌, ◌*◌, ◌/◌, ◌<◌, ◌≤◌, Bool, true, false, cond, not, ◌&&◌, ◌||◌, if◌then◌else◌, nat_lt, nat_le, ◌==◌, List, [], ◌∷◌, ◌++◌, length, Option, Some, None, is_some, option_map, refl, sym, ap, subst, ◌∙◌, arith}
+use Rattle.std.proofs.lemmas.Bool.Decides.{nat_tests}
+use Rattle.std.proofs.lemmas.Option.{none-some}
+use Rattle.std.specs.FinMap.Entries.{find}
+use Rattle.std.specs.Ordering.{nat_cmp, eq_by_cmp}
+use Rattle.std.specs.Prelude.{MatchBool, MatchOption, option_and_then, slice_index}
+use Rattle.av_base.specs.Limits.{low_page, top_page}
+use Rattle.av_base.specs.Page.{address_of, is_on_page, page_of, pages_of}
+use Rattle.av_base.specs.Words.{with_at, within}
+use Rattle.av_base.specs.declared.prot.Prot.{Prot}
+use Rattle.av_base.specs.declared.slot.Slot.{Slot}
+use Rattle.av_trace.specs.declared.command.Command.{Command}
+use Rattle.av_trace.specs.declared.command.Command.TheVariants.{Spawn, Exit, Mmap, Munmap, Mprotect, Read, Write, Maps, Stat}
+use Rattle.av_trace.specs.declared.place.Place.{Place}
+use Rattle.av_trace.specs.declared.place.Place.TheVariants.{Auto, At, Fixed, NoReplace}
+use Rattle.av_trace.specs.declared.reply.Answer.{Answer}
+use Rattle.av_trace.specs.declared.reply.Answer.TheVariants.{Done, Refused}
+use Rattle.av_trace.specs.declared.reply.Errno.{Errno}
+use Rattle.av_trace.specs.declared.reply.Errno.TheVariants.{Eexist, Einval, Enomem, Eperm, Esrch}
+use Rattle.av_trace.specs.declared.reply.Reply.{Reply}
+use Rattle.av_trace.specs.declared.row.Row.{Row}
+use Rattle.av_vma.specs.Gap.{IsGap}
+use Rattle.av_vma.specs.Join.{same_prot}
+use Rattle.av_vma.specs.Pages.{AreLaid, IsWhole, Lengths, Pages, after_map, after_unmap, alters_at, cut_at, fresh_area, has_page, joined_at, page_changed, pages_changed, part_changed, to_prot, with_area, with_effect, with_effect_on, without_range}
+use Rattle.av_vma.specs.declared.area.Area.{Area}
+use Rattle.av_plain.specs.Access.{after_write, first_bytes}
+use Rattle.av_plain.specs.Areas.{Areas, areas_to_hole, chain_length, next_areas, none_on, with_room}
+use Rattle.av_plain.specs.Event.{Event}
+use Rattle.av_plain.specs.Ledger.{Ledger, Setting, entry}
+use Rattle.av_plain.specs.Load.{is_of_slot, with_loads, without_bytes, without_claims}
+use Rattle.av_plain.specs.Map.{with_prot_to_hole, zaps_for_place}
+use Rattle.av_plain.specs.Place.{Goes, IsMapAt, is_room}
+use Rattle.av_plain.specs.Refusal.{Refuses, Tests, fixed_tests, is_too_long, low, place_tests, refusal, tests, top, wraps}
+use Rattle.av_plain.specs.Step.{Follows, next, next_world}
+use Rattle.av_plain.specs.Transcript.{Exchange, IsRun, IsStep, State, at_first}
+use Rattle.av_plain.specs.World.{Page, Process, World, end_process, is_mapped, lives, meets, no_pages, pages, pages_to_hole, set_process, with_bytes, with_pages, with_prot, with_prot_on, zeros}
+use Rattle.av_laws.specs.Covered.{CoverPages}
+use Rattle.av_plain.proofs.Refusal.{loads-none, refused-areas, refused-next}
+use Rattle.av_plain.proofs.Sound.{loads-same}
+use Rattle.av_plain.proofs.Sound.Zap.{pages-ended}
+use Rattle.av_plain.proofs.World.{pages-set}
+use Rattle.av_plain.proofs.World.Ranges.{meets-none}
+use Rattle.av_laws.proofs.ReadBack.InRuns.{first-test}
+use Rattle.av_laws.proofs.Laid.{cut_splits, laid_changed, laid_cut, laid_emptied, laid_joined, laid_placed, prot_is, prots, prots_cut, prots_joined, still_splits}
+
+-- ---- the protections of a process's pages
+
+abbrev prot_of : Option Page → Option Prot
+prot_of o = option_map (λ (q : Page). q.prot) o
+
+-- the areas of a process cover its pages
+record Covers (q : Process) (on : Pages) : Type 0 where
+  laid : AreLaid on
+  same : (page : ℕ) → prots on page ≡ prot_of (q page)
+
+-- a page that isn't mapped has no area
+no-area : (q : Process) (on : Pages) (page : ℕ) → Covers q on → is_mapped q page ≡ false → on page ≡ None
+no-area q on page c none = by (on page) (q page) (c.same page) none
+  where
+    by : (o : Option Area) (p : Option Page) → option_map (λ (a : Area). a.prot) o ≡ prot_of p → is_some p ≡ false → o ≡ None
+    by None p e h = refl
+    by (Some a) (Some p) e h = cc
+    by (Some a) None e h = cc
+
+-- ---- all processes
+
+covers_one : (w : World) (on : Areas) (p : ℕ) → CoverPages w on → Covers (pages w p) (on p)
+covers_one w on p c = record { laid = c.laid p; same = c.prots p }
+
+covers_set : (w : World) (on : Areas) (p : ℕ) (new : Process) (there : Pages) → CoverPages w on → Covers new there
+    → CoverPages (set_process w p new) (with_at p there on)
+covers_set w on p new there c h = record {
+  laid = λ q. laid q (q == p);
+  prots = λ q page. at q page (q == p)
+      ∙ sym (ap prot_of (pages-set w p new q page ∙ ap (λ b. cond b (new page) (pages w q page)) (same_number q p)));
+}
+  where
+    same_number : (q n : ℕ) → eq_by_cmp nat_cmp q n ≡ (q == n)
+    same_number q n = grind (arith, nat_tests)
+
+    laid : (q : ℕ) (b : Bool) → AreLaid (cond b there (on q))
+    laid q true = h.laid
+    laid q false = c.laid q
+
+    at : (q page : ℕ) (b : Bool) → option_map (λ (a : Area). a.prot) ((cond b there (on q)) page) ≡ prot_of (cond b (new page) (pages w q page))
+    at q page true = h.same page
+    at q page false = c.prots q page
+
+covers_none : Covers no_pages none_on
+covers_none = record {
+  laid = record {
+    whole = λ page a e. absurd (none-some a e);
+    here = λ page a e. absurd
+        (none-some a e);
+    all = λ page other a e h. absurd (none-some a e);
+  };
+  same = λ page. refl;
+}
+
+covers_ended : (w : World) (on : Areas) (p : ℕ) → CoverPages w on → CoverPages (end_process w p) (with_at p none_on on)
+covers_ended w on p c = record { laid = λ q. laid q (q == p); prots = λ q page. at q page (q == p) ∙ sym (ap prot_of (pages-ended w p q page)) }
+  where
+    laid : (q : ℕ) (b : Bool) → AreLaid (cond b none_on (on q))
+    laid q true = covers_none.laid
+    laid q false = c.laid q
+
+    at : (q page : ℕ) (b : Bool) → option_map (λ (a : Area). a.prot) ((cond b none_on (on q)) page) ≡ prot_of (cond b None (pages w q page))
+    at q page true = refl
+    at q page false = c.prots q page
+
+-- a load leaves the protections
+unclaimed-prots : (p page : ℕ) (l : Ledger) (s : Slot) (w : World) → prot_of (pages (without_claims l s w) p page) ≡ prot_of (pages w p page)
+unclaimed-prots p page l s [] = refl
+unclaimed-prots p page l s (e ∷ w) = by (eq_by_cmp nat_cmp p e.0) (unclaimed-prots p page l s w)
+  where
+    one : (b : Bool) (o : Option Page) → prot_of (if b then option_map without_bytes o else o) ≡ prot_of o
+    one true None = refl
+    one true (Some q) = refl
+    one false o = refl
+
+    by : (b : Bool) → prot_of (pages (without_claims l s w) p page) ≡ prot_of (pages w p page)
+        → prot_of (option_and_then (λ (m : Process). m page)
+        (cond b (Some (λ page. if is_of_slot s (entry l (e.0, page)) then option_map without_bytes (e.1 page) else e.1 page))
+        (find nat_cmp p (without_claims l s w))))
+        ≡ prot_of (option_and_then (λ (m : Process). m page) (cond b (Some e.1) (find nat_cmp p w)))
+    by true rest = one (is_of_slot s (entry l (e.0, page))) (e.1 page)
+    by false rest = rest
+
+covers_loads : (m : Setting) (w : World) (l : Ledger) (es : List Event) (on : Areas) → CoverPages w on → CoverPages (with_loads m w l es) on
+covers_loads m w l es on c = record {
+  laid = c.laid;
+  prots = λ p page. c.prots p page
+      ∙ sym (loads-same (λ w. prot_of (pages w p page)) m w l es (unclaimed-prots p page));
+}
+
+-- so does a write
+covers_stored : (w : World) (on : Areas) (p a : ℕ) (bytes : List ℕ) → CoverPages w on → CoverPages (after_write w p a bytes) on
+covers_stored w on p a [] c = c
+covers_stored w on p a (b ∷ bytes) c = record {
+  laid = c.laid;
+  prots = λ q page. c.prots q page ∙ sym (ap prot_of (pages-set w p (with_bytes (pages w p) a (b ∷ bytes)) q page) ∙ at q page (eq_by_cmp nat_cmp q p) refl);
+}
+  where
+    is_number : (q n : ℕ) → eq_by_cmp nat_cmp q n ≡ true → q ≡ n
+    is_number q n h = grind (arith, nat_tests, h)
+
+    with_stored : (page : ℕ) (o : Option Page) → prot_of (option_map (λ (p : Page). record p {
+      bytes = λ i.
+          if within a (length (b ∷ bytes)) (address_of page + i) then Some (slice_index (b ∷ bytes) (address_of page + i - a))
+          else p.bytes i;
+    }) o) ≡ prot_of o
+    with_stored page None = refl
+    with_stored page (Some x) = refl
+
+    at : (q page : ℕ) (c : Bool) → eq_by_cmp nat_cmp q p ≡ c
+        → prot_of (cond c (with_bytes (pages w p) a (b ∷ bytes) page) (pages w q page)) ≡ prot_of (pages w q page)
+    at q page true is = with_stored page (pages w p page) ∙ ap (λ n. prot_of (pages w n page)) (sym (is_number q p is))
+    at q page false is = refl
+
+-- ---- unmap
+
+same_width : (from n : ℕ) → (from + n) - from ≡ n
+same_width from n = omega arith
+
+emptied-prots : (from past : ℕ) (on : Pages) (page : ℕ) → prots (without_range from past on) page ≡ cond (within from (past - from) page) None (prots on page)
+emptied-prots from past on page = by (within from (past - from) page)
+  where
+    by : (b : Bool) → option_map (λ (a : Area). a.prot) (cond b None (on page)) ≡ cond b None (prots on page)
+    by true = refl
+    by false = refl
+
+covers_unmapped : (q : Process) (on : Pages) (from n : ℕ) → Covers q on → Covers (with_pages q from n no_pages) (after_unmap from (from + n) on)
+covers_unmapped q on from n c = record {
+  laid = laid_emptied from (from + n) (cut_at (from + n) (cut_at from on)) (laid_cut (from + n) (cut_at from on) (laid_cut from on c.laid))
+      (still_splits from (from + n) (cut_at from on) (laid_cut from on c.laid) (cut_splits from on)) (cut_splits (from + n) (cut_at from on));
+  same = λ page. emptied-prots from (from + n) (cut_at (from + n) (cut_at from on)) page
+      ∙ ap (cond (within from ((from + n) - from) page) None) (prots_cut (from + n) (cut_at from on) page ∙ prots_cut from on page)
+      ∙ ap (λ k. cond (within from k page) None (prots on page)) (same_width from n) ∙ by page (within from n page);
+}
+  where
+    by : (page : ℕ) (b : Bool) → cond b None (prots on page) ≡ prot_of (if b then None else q page)
+    by page true = refl
+    by page false = c.same page
+
+-- ---- map
+
+-- n pages from one on are free, and a process may have them
+record Room (q : Process) (room : Pages) (from n : ℕ) : Type 0 where
+  laid : AreLaid room
+  free : (page : ℕ) → within from n page ≡ true → room page ≡ None
+  others : (page : ℕ) → within from n page ≡ false → prots room page ≡ prot_of (q page)
+  low : low_page ≤ from
+  high : from + n ≤ top_page
+  some : 1 ≤ n
+
+fresh_whole : (p from n : ℕ) (prot : Prot) → 1 ≤ n → low_page ≤ from → from + n ≤ top_page → IsWhole (fresh_area p from (from + n) prot)
+fresh_whole p from n prot some low high = record {
+  start = omega arith;
+  end = omega arith;
+  some = omega arith;
+  low = omega arith;
+  high = omega arith;
+  small = omega arith;
+}
+
+fresh_has : (p from n : ℕ) (prot : Prot) (page : ℕ) → has_page (fresh_area p from (from + n) prot) page ≡ within from n page
+fresh_has p from n prot page = λ i. within (first i) (pages i) page
+  where
+    first : (4096 * from) / 4096 ≡ from
+    first = omega arith
+
+    pages : (4096 * (from + n)) / 4096 - (4096 * from) / 4096 ≡ n
+    pages = omega arith
+
+placed-prots : (f : Area) (room : Pages) (page : ℕ) → prots (with_area f room) page ≡ cond (has_page f page) (Some f.prot) (prots room page)
+placed-prots f room page = by (has_page f page)
+  where
+    by : (b : Bool) → option_map (λ (a : Area). a.prot) (cond b (Some f) (room page)) ≡ cond b (Some f.prot) (prots room page)
+    by true = refl
+    by false = refl
+
+covers_mapped : (long : Lengths) (p : ℕ) (q : Process) (room : Pages) (from n : ℕ) (prot : Prot) → Room q room from n
+    → Covers (with_pages q from n (λ _. Some (zeros prot))) (after_map long p from (from + n) prot room)
+covers_mapped long p q room from n prot r =
+    let f = fresh_area p from (from + n) prot in
+    let with_new = laid_placed f room r.laid (fresh_whole p from n prot r.some r.low r.high) (λ page h. r.free page (sym (fresh_has p from n prot page) ∙ h)) in
+    let first = laid_joined long from (with_area f room) with_new in
+    record {
+      laid = laid_joined long (from + n) (joined_at long from (with_area f room)) first;
+      same = λ page. prots_joined long (from + n) (joined_at long from (with_area f room)) first page ∙ prots_joined long from (with_area f room) with_new page
+          ∙ placed-prots f room page ∙ ap (λ b. cond b (Some prot) (prots room page)) (fresh_has p from n prot page) ∙ by page (within from n page) refl;
+    }
+  where
+    by : (page : ℕ) (b : Bool) → within from n page ≡ b → cond b (Some prot) (prots room page) ≡ prot_of (if b then Some (zeros prot) else q page)
+    by page true is = refl
+    by page false is = r.others page is
+
+-- ---- where a mapping goes
+
+room_free : (q : Process) (on : Pages) (from n : ℕ) → Covers q on → 1 ≤ n → low_page ≤ from → from + n ≤ top_page
+    → ((page : ℕ) → from ≤ page → page < from + n → is_mapped q page ≡ false) → Room q on from n
+room_free q on from n c some low high free = record {
+  laid = c.laid;
+  free = λ page is. no-area q on page c (free page (lower page is) (upper page is));
+  others = λ page is. c.same page;
+  low = low;
+  high = high;
+  some = some;
+}
+  where
+    lower : (page : ℕ) → within from n page ≡ true → from ≤ page
+    lower page is = grind (arith, nat_tests, is)
+
+    upper : (page : ℕ) → within from n page ≡ true → page < from + n
+    upper page is = grind (arith, nat_tests, is)
+
+record Bounds (from n : ℕ) : Type 0 where
+  low : low_page ≤ from
+  high : from + n ≤ top_page
+
+fixed_bounds : (a n : ℕ) (rest : Tests) → refusal (fixed_tests n a ++ rest) ≡ None → Bounds (page_of a) n × (refusal rest ≡ None)
+fixed_bounds a n rest h =
+    let one = first-test (nat_lt top (a + address_of n)) Enomem (refusal ((not (is_on_page a), Einval) ∷ (nat_lt a low, Eperm) ∷ rest)) h in
+    let two = first-test (not (is_on_page a)) Einval (refusal ((nat_lt a low, Eperm) ∷ rest)) one.1 in
+    let three = first-test (nat_lt a low) Eperm (refusal rest) two.1 in
+    (record { low = above a (nat_lt a low) refl three.0; high = below a n (nat_lt top (a + address_of n)) refl one.0 }, three.1)
+  where
+    below : (a n : ℕ) (b : Bool) → nat_lt top (a + address_of n) ≡ b → b ≡ false → page_of a + n ≤ top_page
+    below a n true is e = cc
+    below a n false is e = let h : a + address_of n ≤ address_of top_page = grind (arith, nat_tests, is) in omega (arith, h)
+
+    above : (a : ℕ) (b : Bool) → nat_lt a low ≡ b → b ≡ false → low_page ≤ page_of a
+    above a true is e = cc
+    above a false is e = let h : address_of low_page ≤ a = grind (arith, nat_tests, is) in omega (arith, h)
+
+room_fixed : (q : Process) (on : Pages) (a n : ℕ) → Covers q on → 1 ≤ n → Bounds (page_of a) n
+    → Room q (after_unmap (page_of a) (page_of a + n) on) (page_of a) n
+room_fixed q on a n c some bounds =
+    let gone = covers_unmapped q on (page_of a) n c in
+    record {
+      laid = gone.laid;
+      free = λ page is. ap (λ b. cond b None (cut_at (page_of a + n) (cut_at (page_of a) on) page))
+          (ap (λ k. within (page_of a) k page) (same_width (page_of a) n) ∙ is);
+      others = λ page is. gone.same page ∙ ap (λ b. prot_of (if b then None else q page)) is;
+      low = bounds.low;
+      high = bounds.high;
+      some = some;
+    }
+
+room_gap : (q : Process) (on : Pages) (n page : ℕ) → Covers q on → 1 ≤ n → IsGap (is_mapped q) n (Some page) → Room q on page n
+room_gap q on n page c some gap = room_free q on page n c some gap.0.lowest gap.0.highest gap.0.free
+
+inner : {x y : ℕ} → Some x ≡ Some y → x ≡ y
+inner e = cc
+
+room_hint : (q : Process) (on : Pages) (n page a : ℕ) → Covers q on → 1 ≤ n → Goes q n (At a) (Some page) → Room q on page n
+room_hint q on n page a c some goes = by (is_room q n (page_of a)) refl goes
+  where
+    parts : (a b c : Bool) → (a && b && not c) ≡ true → (a ≡ true) × (b ≡ true) × (c ≡ false)
+    parts true true false h = (refl, refl, refl)
+    parts true true true h = cc
+    parts true false c h = cc
+    parts false b c h = cc
+
+    by : (b : Bool) → is_room q n (page_of a) ≡ b → MatchBool b (Some page ≡ Some (page_of a)) (IsGap (is_mapped q) n (Some page)) → Room q on page n
+    by true is e =
+        let room = parts (nat_le low_page (page_of a)) (nat_le (page_of a + n) top_page) (meets q (page_of a) n) is in
+        let low = room.0 in let high = room.1 in
+        subst (λ x. Room q on x n) (sym (inner e)) (room_free q on (page_of a) n c some (grind (arith, nat_tests, low)) (grind (arith, nat_tests, high))
+        (λ x a' b. meets-none q (page_of a) n x room.2 a' b))
+    by false is gap = room_gap q on n page c some gap
+
+room_new : (q : Process) (on : Pages) (n a : ℕ) → Covers q on → 1 ≤ n → refusal (fixed_tests n a ++ (meets q (page_of a) n, Eexist) ∷ []) ≡ None
+    → Room q on (page_of a) n
+room_new q on n a c some h =
+    let b = fixed_bounds a n ((meets q (page_of a) n, Eexist) ∷ []) h in
+    let none = (first-test (meets q (page_of a) n) Eexist None b.1).0 in
+    room_free q on (page_of a) n c some b.0.low b.0.high (λ x low high. meets-none q (page_of a) n x none low high)
+
+-- ---- protect
+
+module _ (long : Lengths) (prot : Prot) where
+  -- one page is cut out and gets the protection
+  one_changed : (x : ℕ) (on : Pages) → AreLaid on → AreLaid (with_effect_on x (x + 1) (to_prot prot) (cut_at (x + 1) (cut_at x on)))
+  one_changed x on laid =
+      let below = laid_cut x on laid in
+      laid_changed x (x + 1) (cut_at (x + 1) (cut_at x on)) (laid_cut (x + 1) (cut_at x on) below) (still_splits x (x + 1) (cut_at x on) below (cut_splits x on))
+      (cut_splits (x + 1) (cut_at x on)) (to_prot prot)
+
+  laid_page : (x : ℕ) (on : Pages) → AreLaid on → AreLaid (page_changed long (to_prot prot) x on)
+  laid_page x on laid = by (alters_at (to_prot prot) (on x))
+    where
+      by : (b : Bool) → AreLaid (if b then part_changed long x (x + 1) (to_prot prot) on else on)
+      by true = laid_joined long (x + 1) _ (laid_joined long x _ (one_changed x on laid))
+      by false = laid
+
+  changed-prots : (from past : ℕ) (on : Pages) (page : ℕ)
+      → prots (with_effect_on from past (to_prot prot) on) page ≡ cond (within from (past - from) page) (option_map (λ _. prot) (prots on page)) (prots on page)
+  changed-prots from past on page = by (within from (past - from) page)
+    where
+      each : (o : Option Area) → option_map (λ (a : Area). a.prot) (option_map (with_effect (to_prot prot)) o)
+          ≡ option_map (λ _. prot) (option_map (λ (a : Area). a.prot) o)
+      each None = refl
+      each (Some a) = refl
+
+      by : (b : Bool) → option_map (λ (a : Area). a.prot) (cond b (option_map (with_effect (to_prot prot)) (on page)) (on page))
+          ≡ cond b (option_map (λ _. prot) (prots on page)) (prots on page)
+      by true = each (on page)
+      by false = refl
+
+  prots_page : (x : ℕ) (on : Pages) → AreLaid on → (page : ℕ)
+      → prots (page_changed long (to_prot prot) x on) page ≡ cond (page == x) (option_map (λ _. prot) (prots on page)) (prots on page)
+  prots_page x on laid page = by (alters_at (to_prot prot) (on x)) refl
+    where
+      alone : (x page : ℕ) → within x ((x + 1) - x) page ≡ (page == x)
+      alone x page = ap (λ k. within x k page) (width x) ∙ grind (arith, nat_tests)
+        where
+          width : (x : ℕ) → (x + 1) - x ≡ 1
+          width x = omega arith
+
+      so_already : (o : Option Area) → alters_at (to_prot prot) o ≡ false
+          → option_map (λ (a : Area). a.prot) o ≡ option_map (λ _. prot) (option_map (λ (a : Area). a.prot) o)
+      so_already None h = refl
+      so_already (Some a) h = ap Some (sym (prot_is prot a.prot (bit (same_prot prot a.prot) (a.flags == a.flags) h)))
+        where
+          bit : (b c : Bool) → not (b && c) ≡ false → b ≡ true
+          bit true c h = refl
+          bit false c h = cc
+
+      still : (c : Bool) → (page == x) ≡ c → alters_at (to_prot prot) (on x) ≡ false
+          → prots on page ≡ cond c (option_map (λ _. prot) (prots on page)) (prots on page)
+      still true is none = let same : page ≡ x = grind (arith, nat_tests, is) in
+          subst (λ y. prots on y ≡ option_map (λ _. prot) (prots on y)) (sym same) (so_already (on x) none)
+      still false is none = refl
+
+      by : (b : Bool) → alters_at (to_prot prot) (on x) ≡ b → prots (if b then part_changed long x (x + 1) (to_prot prot) on else on) page
+          ≡ cond (page == x) (option_map (λ _. prot) (prots on page)) (prots on page)
+      by true is = prots_joined long (x + 1) _ (laid_joined long x _ (one_changed x on laid)) page
+          ∙ prots_joined long x _ (one_changed x on laid) page
+          ∙ changed-prots x (x + 1) (cut_at (x + 1) (cut_at x on)) page
+          ∙ (λ i. cond (alone x page i) (option_map (λ _. prot) (kept i)) (kept i))
+        where
+          kept : prots (cut_at (x + 1) (cut_at x on)) page ≡ prots on page
+          kept = prots_cut (x + 1) (cut_at x on) page ∙ prots_cut x on page
+      by false is = still (page == x) refl is
+
+  laid_pages : (from n : ℕ) (on : Pages) → AreLaid on → AreLaid (pages_changed long (to_prot prot) from n on)
+  laid_pages from zero on laid = laid
+  laid_pages from (suc n) on laid = laid_pages (from + 1) n (page_changed long (to_prot prot) from on) (laid_page from on laid)
+
+  prots_pages : (from n : ℕ) (on : Pages) → AreLaid on → (page : ℕ)
+      → prots (pages_changed long (to_prot prot) from n on) page ≡ cond (within from n page) (option_map (λ _. prot) (prots on page)) (prots on page)
+  prots_pages from zero on laid page = out (within from 0 page) (grind (arith, nat_tests))
+    where
+      out : (b : Bool) → b ≡ false → prots on page ≡ cond b (option_map (λ _. prot) (prots on page)) (prots on page)
+      out true e = cc
+      out false e = refl
+  prots_pages from (suc n) on laid page =
+      prots_pages (from + 1) n (page_changed long (to_prot prot) from on) (laid_page from on laid) page
+      ∙ (λ i. cond (within (from + 1) n page) (option_map (λ _. prot) (prots_page from on laid page i)) (prots_page from on laid page i))
+      ∙ by (page == from) (within (from + 1) n page) (within from (suc n) page) (prots on page) (grind (arith, nat_tests))
+    where
+      by : (e r' r : Bool) (x : Option Prot) → r ≡ (e || r')
+          → cond r' (option_map (λ _. prot) (cond e (option_map (λ _. prot) x) x)) (cond e (option_map (λ _. prot) x) x) ≡ cond r (option_map (λ _. prot) x) x
+      by true true true None i = refl
+      by true true true (Some y) i = refl
+      by true false true x i = refl
+      by true r' false x i = cc
+      by false true true x i = refl
+      by false true false x i = cc
+      by false false true x i = cc
+      by false false false x i = refl
+
+  covers_changed : (q : Process) (on : Pages) (from n : ℕ) → Covers q on → Covers (with_prot_on q from n prot) (pages_changed long (to_prot prot) from n on)
+  covers_changed q on from n c = record { laid = laid_pages from n on c.laid; same = λ page. prots_pages from n on c.laid page ∙ by page (within from n page) }
+    where
+      each : (o : Option Page) → option_map (λ _. prot) (prot_of o) ≡ prot_of (option_map (with_prot prot) o)
+      each None = refl
+      each (Some x) = refl
+
+      by : (page : ℕ) (b : Bool) → cond b (option_map (λ _. prot) (prots on page)) (prots on page)
+          ≡ prot_of (if b then option_map (with_prot prot) (q page) else q page)
+      by page true = ap (option_map (λ _. prot)) (c.same page) ∙ each (q page)
+      by page false = c.same page
+
+-- ---- a step
+
+covers-follows : (m : Setting) (w now : World) (l : Ledger) (long : Lengths) (on : Areas) (command : Command) (es : List Event) (answer : Answer)
+    (rows : List Row)
+    → (es ≡ [] → now ≡ w) → CoverPages now on → refusal (tests m w l command) ≡ None → Follows m w l command es answer rows
+    → CoverPages (next now command answer) (next_areas long on w command answer)
+covers-follows m w now l long on (Spawn p) es answer rows same c none h = subst
+    (λ x. CoverPages (next now (Spawn p) x) (next_areas long on w (Spawn p) x)) (sym h.0)
+    (covers_set now on p no_pages none_on c covers_none)
+covers-follows m w now l long on (Exit p) es answer rows same c none h = subst
+    (λ x. CoverPages (next now (Exit p) x) (next_areas long on w (Exit p) x)) (sym h.0)
+    (covers_ended now on p c)
+covers-follows m w now l long on (Mmap p len prot place) es answer rows same c none h = at h.0 h.1 h.2
+  where
+    tests_pass : ((len == 0) ≡ false) × (refusal (place_tests (pages w p) (pages_of len) place) ≡ None)
+    tests_pass =
+        let rest = place_tests (pages w p) (pages_of len) place in
+        let one = first-test (not (lives w p)) Esrch (refusal ((len == 0, Einval) ∷ (is_too_long len, Enomem) ∷ rest)) none in
+        let two = first-test (len == 0) Einval (refusal ((is_too_long len, Enomem) ∷ rest)) one.1 in
+        (two.0, (first-test (is_too_long len) Enomem (refusal rest) two.1).1)
+
+    some : (len : ℕ) → (len == 0) ≡ false → 1 ≤ pages_of len
+    some len e = let h : 0 < len = grind (arith, nat_tests, e) in omega (arith, h)
+
+    back : (page : ℕ) → page_of (address_of page) ≡ page
+    back page = omega arith
+
+    one : Covers (pages now p) (on p)
+    one = covers_one now on p c
+
+    -- the events of the place: none, but for a fixed one
+    of_before : now ≡ w → Covers (pages w p) (on p)
+    of_before e = subst (λ x. Covers (pages x p) (on p)) e one
+
+    to_now : (on' : Pages) (page : ℕ) → now ≡ w → Room (pages w p) on' page (pages_of len) → Room (pages now p) on' page (pages_of len)
+    to_now on' page e r = subst (λ x. Room (pages x p) on' page (pages_of len)) (sym e) r
+
+    room : (place : Place) (page : ℕ) → refusal (place_tests (pages w p) (pages_of len) place) ≡ None → Goes (pages w p) (pages_of len) place (Some page)
+        → es ≡ zaps_for_place l p (pages_of len) place → Room (pages now p) (with_room (pages_of len) place (on p)) page (pages_of len)
+    room Auto page none goes e = to_now (on p) page (same e) (room_gap (pages w p) (on p) (pages_of len) page (of_before (same e)) (some len tests_pass.0) goes)
+    room (At a) page none goes e = to_now (on p) page (same e) (room_hint (pages w p) (on p) (pages_of len) page a (of_before (same e)) (some len tests_pass.0) goes)
+    room (Fixed a) page none goes e = subst (λ x. Room (pages now p) (after_unmap (page_of a) (page_of a + pages_of len) (on p)) x (pages_of len))
+        (sym (inner goes))
+        (room_fixed (pages now p) (on p) a (pages_of len) one (some len tests_pass.0) (fixed_bounds a (pages_of len) [] none).0)
+    room (NoReplace a) page none goes e = subst (λ x. Room (pages now p) (on p) x (pages_of len)) (sym (inner goes))
+        (to_now (on p) (page_of a) (same e) (room_new (pages w p) (on p) (pages_of len) a (of_before (same e)) (some len tests_pass.0) none))
+
+    at : (to : Option ℕ) → Goes (pages w p) (pages_of len) place to → IsMapAt answer to
+        → CoverPages (next now (Mmap p len prot place) answer) (next_areas long on w (Mmap p len prot place) answer)
+    at None goes e = subst (λ x. CoverPages (next now (Mmap p len prot place) x) (next_areas long on w (Mmap p len prot place) x)) (sym e) c
+    at (Some page) goes e = subst (λ x. CoverPages (next now (Mmap p len prot place) x) (next_areas long on w (Mmap p len prot place) x)) (sym e)
+        (covers_set now on p _ _ c (covers_mapped long p (pages now p) (with_room (pages_of len) place (on p)) (page_of (address_of page)) (pages_of len) prot
+        (subst (λ f. Room (pages now p) (with_room (pages_of len) place (on p)) f (pages_of len)) (sym (back page)) (room place page tests_pass.1 goes h.3))))
+covers-follows m w now l long on (Munmap p a len) es answer rows same c none h = subst
+    (λ x. CoverPages (next now (Munmap p a len) x) (next_areas long on w (Munmap p a len) x)) (sym h.0)
+    (covers_set now on p _ _ c (covers_unmapped (pages now p) (on p) (page_of a) (pages_of len) (covers_one now on p c)))
+covers-follows m w now l long on (Mprotect p a len prot) es answer rows same c none h = subst
+    (λ x. CoverPages (next now (Mprotect p a len prot) x) (next_areas long on w (Mprotect p a len prot) x)) (sym h.0)
+    (subst (λ now. CoverPages now on → CoverPages (next now (Mprotect p a len prot)
+    (if pages_to_hole (pages w p) (page_of a) (pages_of len) == pages_of len then Done else Refused Enomem))
+    (next_areas long on w (Mprotect p a len prot) (if pages_to_hole (pages w p) (page_of a) (pages_of len) == pages_of len then Done else Refused Enomem)))
+    (sym (same h.1)) (λ c. at c (pages_to_hole (pages w p) (page_of a) (pages_of len) == pages_of len) refl) c)
+  where
+    after_change : (n : ℕ) → CoverPages w on → CoverPages (set_process w p (with_prot_on (pages w p) (page_of a) n prot))
+        (with_at p (pages_changed long (to_prot prot) (page_of a) n (on p)) on)
+    after_change n c = covers_set w on p _ _ c (covers_changed long prot (pages w p) (on p) (page_of a) n (covers_one w on p c))
+
+    at : CoverPages w on → (b : Bool) → (pages_to_hole (pages w p) (page_of a) (pages_of len) == pages_of len) ≡ b
+        → CoverPages (next w (Mprotect p a len prot) (if b then Done else Refused Enomem))
+        (next_areas long on w (Mprotect p a len prot) (if b then Done else Refused Enomem))
+    at c true is = let all : pages_to_hole (pages w p) (page_of a) (pages_of len) ≡ pages_of len = grind (arith, nat_tests, is) in
+        subst (λ n. CoverPages (set_process w p (with_prot_on (pages w p) (page_of a) (pages_of len) prot))
+        (with_at p (pages_changed long (to_prot prot) (page_of a) n (on p)) on)) (sym all) (after_change (pages_of len) c)
+    at c false is = by (wraps a len)
+      where
+        by : (b : Bool) → CoverPages (if b then w else with_prot_to_hole w p (page_of a) (pages_of len) prot)
+            (if b then on else with_at p (areas_to_hole long w p (page_of a) (pages_of len) prot (on p)) on)
+        by true = c
+        by false = after_change (pages_to_hole (pages w p) (page_of a) (pages_of len)) c
+covers-follows m w now l long on (Read p a n) es answer rows same c none h = c
+covers-follows m w now l long on (Write p a bytes) es answer rows same c none h = covers_stored now on p a (first_bytes answer bytes) c
+covers-follows m w now l long on (Maps p) es answer rows same c none h = c
+covers-follows m w now l long on Stat es answer rows same c none h = c
+
+pub step-covers : (m : Setting) (old : State) (command : Command) (reply : Reply) (new : State) → CoverPages old.world old.areas
+    → IsStep m old command reply new → CoverPages new.world new.areas
+step-covers m old command reply new c h =
+    subst (CoverPages new.world) (sym h.areas.areas) (subst (λ w. CoverPages w
+    (next_areas (chain_length old.anons) old.areas old.world command reply.answer)) (sym h.world)
+    (by (refusal (tests m old.world old.ledger command)) refl h.legal.answer))
+  where
+    now : World
+    now = with_loads m old.world old.ledger h.events
+
+    after_loads : CoverPages (with_loads m old.world old.ledger h.events) old.areas
+    after_loads = covers_loads m old.world old.ledger h.events old.areas c
+
+    by : (o : Option Errno) → refusal (tests m old.world old.ledger command) ≡ o
+        → MatchOption o (Follows m old.world old.ledger command h.events reply.answer reply.rows) (λ error. Refuses error h.events reply.answer reply.rows)
+        → CoverPages (next_world m old.world old.ledger h.events command reply.answer)
+        (next_areas (chain_length old.anons) old.areas old.world command reply.answer)
+    by None is x = covers-follows m old.world (with_loads m old.world old.ledger h.events) old.ledger
+        (chain_length old.anons) old.areas command h.events reply.answer reply.rows
+        (loads-none m old.world old.ledger h.events) after_loads is x
+    by (Some error) is x = subst (λ a. CoverPages (next (with_loads m old.world old.ledger h.events) command a)
+        (next_areas (chain_length old.anons) old.areas old.world command a)) (sym x.0)
+        (subst (λ w. CoverPages w (next_areas (chain_length old.anons) old.areas old.world command (Refused error)))
+        (sym (refused-next m old.world (with_loads m old.world old.ledger h.events) old.ledger command error is))
+        (subst (CoverPages (with_loads m old.world old.ledger h.events))
+        (sym (refused-areas m old.world old.ledger (chain_length old.anons) old.areas command error is)) after_loads))
+
+run-from : (m : Setting) (old : State) (es : List Exchange) (new : State) → CoverPages old.world old.areas → IsRun m old es new → CoverPages new.world new.areas
+run-from m old [] new c h = subst (λ (s : State). CoverPages s.world s.areas) (sym h) c
+run-from m old (e ∷ es) new c h = run-from m h.0 es new (step-covers m old e.command e.reply h.0 c h.1) h.2
+
+pub run-covers : (m : Setting) (es : List Exchange) (new : State) → IsRun m (at_first m) es new → CoverPages new.world new.areas
+run-covers m es new h = run-from m (at_first m) es new (record { laid = λ p. covers_none.laid; prots = λ p page. refl }) h

@@ -1,0 +1,8 @@
+use Rattle.av_laws.proofs.Covered.{run-covers, step-covers}
+use Rattle.av_laws.proofs.runs_lay_areas.Goals as goal
+
+pub returns-clause-from_nothing : goal.returns-clause-from_nothing
+returns-clause-from_nothing c = run-covers
+
+pub returns-clause-each_step : goal.returns-clause-each_step
+returns-clause-each_step c m old new command reply = step-covers m old command reply new
