@@ -13,7 +13,7 @@ use std::alloc::AllocError;
 /// What a digit is worth, 0 to 9 or a to f; 255 where the byte is none.
 #[inline]
 #[tactic(auto, unfolding(crate::specs::Number::worth))]
-pub fn digit_worth(byte: u8) -> u8
+fn digit_worth(byte: u8) -> u8
     ensures { result ≡ worth byte }
 {
     let digit = byte.wrapping_sub(b'0');
@@ -46,6 +46,18 @@ fn table_worth(byte: u8) -> u8
     ensures { result ≡ worth byte }
 {
     WORTHS[byte as usize]
+}
+
+/// The same, by the table or by arithmetic.
+#[inline(always)]
+pub fn worth_by(by_table: bool, byte: u8) -> u8
+    ensures { result ≡ worth byte }
+{
+    if by_table {
+        table_worth(byte)
+    } else {
+        digit_worth(byte)
+    }
 }
 
 /// Whether a number of this base begins here: with a digit, and with no zero before another one.
