@@ -34,7 +34,7 @@ impl<T: Copy + Drop, S: Copy + Drop> Arena<T, S> {
     }
 
     /// The node with a number that is in use.
-    #[inline]
+    #[inline(always)]
     pub fn get(&self, number: u64) -> Stored<T, S>
         requires { IsSome (store_of self.now number) }
         ensures { store_of self.now number ≡ Some result }
@@ -53,7 +53,7 @@ impl<T: Copy + Drop, S: Copy + Drop> Arena<T, S> {
     }
 
     /// Puts a node in place of the one with this number, which is in use.
-    #[inline]
+    #[inline(always)]
     pub fn set(&mut self, number: u64, node: Stored<T, S>)
         requires { IsSome (store_of self.old number) }
         ensures { store_of self.new ≡ with_at number (Some node) (store_of self.old) }
@@ -62,7 +62,7 @@ impl<T: Copy + Drop, S: Copy + Drop> Arena<T, S> {
     }
 
     /// Puts another entry into the node with this number, which is in use.
-    #[inline]
+    #[inline(always)]
     pub fn set_entry(&mut self, number: u64, entry: T)
         requires { IsSome (store_of self.old number) }
         ensures { store_of self.new ≡ with_at number (entry_put entry (store_of self.old number))
@@ -73,7 +73,7 @@ impl<T: Copy + Drop, S: Copy + Drop> Arena<T, S> {
     }
 
     /// Puts another left side into the node with this number, which is in use.
-    #[inline]
+    #[inline(always)]
     pub fn set_left(&mut self, number: u64, left: Option<Link<S>>)
         requires { IsSome (store_of self.old number) }
         ensures { store_of self.new ≡ with_at number (left_put left (store_of self.old number))
@@ -84,7 +84,7 @@ impl<T: Copy + Drop, S: Copy + Drop> Arena<T, S> {
     }
 
     /// Puts another right side into the node with this number, which is in use.
-    #[inline]
+    #[inline(always)]
     pub fn set_right(&mut self, number: u64, right: Option<Link<S>>)
         requires { IsSome (store_of self.old number) }
         ensures { store_of self.new ≡ with_at number (right_put right (store_of self.old number))

@@ -37,7 +37,7 @@ fn told<T: Entry>(arena: &Arena<T, T::Sum>, number: u64) -> Link<T::Sum>
 }
 
 /// What becomes of a node whose sides differ by two levels at most.
-#[inline(never)]
+#[inline(always)]
 pub fn settle<T: Entry>(arena: &mut Arena<T, T::Sum>, number: u64) -> Link<T::Sum>
     requires { IsUnsettled T.key T.unit T.op T.of 2 (store_of arena.old) number }
     ensures { IsSettled T.key T.unit T.op T.of (store_of arena.old) (store_of arena.new) number result }
@@ -68,7 +68,7 @@ fn left_turned<T: Entry>(arena: &mut Arena<T, T::Sum>, number: u64, side: u64) -
     ensures { IsLeftSettled T.key T.unit T.op T.of (store_of arena.old) (store_of arena.new) number
         side result }
 {
-    let link = settle(arena, side);
+    let link = rotate(arena, side);
     arena.set_left(number, Some(link));
     true
 }
@@ -82,7 +82,7 @@ fn right_turned<T: Entry>(arena: &mut Arena<T, T::Sum>, number: u64, side: u64) 
     ensures { IsRightSettled T.key T.unit T.op T.of (store_of arena.old) (store_of arena.new) number
         side result }
 {
-    let link = settle(arena, side);
+    let link = rotate(arena, side);
     arena.set_right(number, Some(link));
     true
 }

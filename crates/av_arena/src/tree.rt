@@ -5,9 +5,7 @@ ghost use Rattle.av_arena.specs.Arena.{store_of};
 ghost use Rattle.av_arena.specs.Below.{IsSplit, IsSplitFor};
 
 use crate::arena::Arena;
-use crate::below::{
-    is_at, placed_below, removed_below, replaced_below, settle, split_below, take,
-};
+use crate::below::{is_at, placed_below, removed_below, replaced_below, settle, split_below, take};
 use crate::entry::Entry;
 use crate::link::{Link, Stored};
 
@@ -32,7 +30,7 @@ pub fn sum<T: Entry>(tree: Option<Link<T::Sum>>) -> T::Sum
 }
 
 /// The node at the root of a tree.
-#[inline]
+#[inline(always)]
 pub fn open<T: Entry>(arena: &Arena<T, T::Sum>, tree: Link<T::Sum>) -> Stored<T, T::Sum>
     requires { IsHeld T.key T.unit T.op T.of (store_of arena.now) (Some tree) }
     ensures { IsOpened T.key T.unit T.op T.of (store_of arena.now) tree result }
@@ -41,7 +39,7 @@ pub fn open<T: Entry>(arena: &Arena<T, T::Sum>, tree: Link<T::Sum>) -> Stored<T,
 }
 
 /// Puts a node above its sides.
-#[inline]
+#[inline(always)]
 pub fn close<T: Entry>(
     arena: &mut Arena<T, T::Sum>,
     number: u64,
@@ -73,8 +71,7 @@ pub fn close<T: Entry>(
 }
 
 /// A node, whose left side is two levels too high: one rotation, or two.
-#[cold]
-#[inline(never)]
+#[inline(always)]
 fn lean_left<T: Entry>(
     arena: &mut Arena<T, T::Sum>,
     number: u64,
@@ -115,8 +112,7 @@ fn lean_left<T: Entry>(
 }
 
 /// A node, whose right side is two levels too high: one rotation, or two.
-#[cold]
-#[inline(never)]
+#[inline(always)]
 fn lean_right<T: Entry>(
     arena: &mut Arena<T, T::Sum>,
     number: u64,
@@ -157,7 +153,7 @@ fn lean_right<T: Entry>(
 }
 
 /// A node, whose sides differ by two levels at most, is put above them.
-#[inline(never)]
+#[inline(always)]
 pub fn balance<T: Entry>(
     arena: &mut Arena<T, T::Sum>,
     number: u64,

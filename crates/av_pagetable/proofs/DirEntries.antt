@@ -102,7 +102,7 @@ module _ {C : Type 0} (at : C → ℕ → Pte) (span : ℕ) (parts : List (ℕ �
   low : p.0 < 512
   low = let h = good.below k p within in omega (arith, h, ap (λ part. part.0) is)
 
-  there : part_of parts p.0 ≡ Some p.1
+  pub there : part_of parts p.0 ≡ Some p.1
   there = part_is parts p.0 (Some p.1) low (found at span parts good k p within is)
 
   -- the entries of the part, at its pages of the whole
@@ -277,6 +277,16 @@ pub some_either : {C A E : Type 0} (at : C → ℕ → Pte) (span r : ℕ) (e : 
     → MatchResult result (λ _. at c' ≡ with_at r e (at c)) (λ _. at c' ≡ at c) → HasSome span (at c')
 some_either at span r e c c' (Ok x) had under some now = some_written at span r e c c' under some now
 some_either at span r e c c' (Err x) had under some now = λ none. had (λ q low. ap (λ f. f q) (sym now) ∙ none q low)
+
+-- the part at a place is that of its number
+pub part_there : {C : Type 0} (at : C → ℕ → Pte) (span : ℕ) (parts : List (ℕ × C)) → AreParts at span parts → (k : ℕ) (p : ℕ × C) → k < length parts → p ≡ get_or parts k p
+    → (n : ℕ) → p.0 ≡ n → Some p.1 ≡ part_of parts n
+part_there at span parts good k p within is n here = sym (there at span parts good k p within is) ∙ ap (part_of parts) here
+
+-- where one would stand, there is none
+pub part_absent : {C : Type 0} (parts : List (ℕ × C)) (k n : ℕ) → k ≤ length parts → AllWithin (λ part. part.0 < n) parts 0 k → AllWithin (λ part. n < part.0) parts k (length parts)
+    → None ≡ part_of parts n
+part_absent parts k n within lower higher = sym (no_part parts n (gap parts k n within lower higher))
 
 -- where a part would stand, its pages have no entry
 pub absent : {C : Type 0} (at : C → ℕ → Pte) (span : ℕ) (parts : List (ℕ × C)) (k n page : ℕ) → k ≤ length parts → AllWithin (λ part. part.0 < n) parts 0 k → AllWithin (λ part. n < part.0) parts k (length parts)

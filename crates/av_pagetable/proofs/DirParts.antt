@@ -237,3 +237,17 @@ before_first parts number first rising is less (suc k) d low high =
     let later = rising 0 (suc k) first (omega arith) high in
     let same = ap (λ part. part.0) (get_or_default parts (suc k) first d high) in
     omega (arith, less, now, later, same)
+
+-- a number above the last part's is above each part's
+pub after_last : {C : Type 0} (parts : List (ℕ × C)) (number : ℕ) (last : ℕ × C) → AllPairs (λ part later. part.0 < later.0) parts → last ≡ get_or parts (length parts - 1) last → last.0 < number
+    → (k : ℕ) (d : ℕ × C) → k < length parts → (get_or parts k d).0 < number
+after_last parts number last rising is less k d high =
+    let now = ap (λ part. part.0) is in
+    let same = ap (λ part. part.0) (get_or_default parts (length parts - 1) last d (omega (arith, high))) in
+    elim (cases_lt k (length parts - 1)) [
+      | inl lt ↦ let later = rising k (length parts - 1) d lt (omega (arith, high)) in omega (arith, less, now, later, same)
+      | inr ge ↦
+          let at : k ≡ length parts - 1 = omega (arith, ge, high) in
+          let there = ap (λ i. (get_or parts i d).0) at in
+          omega (arith, less, now, there, same)
+    ]

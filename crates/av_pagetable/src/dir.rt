@@ -53,12 +53,12 @@ impl<C: Level> Level for Dir<C> {
         self.parts.is_empty()
     }
 
-    #[inline]
+    #[inline(always)]
     fn get(&self, page: u64) -> Pte {
         let span = C::span();
-        match self.place(page / span) {
-            Ok(place) => self.parts[place].1.get(page % span),
-            Err(_) => Pte::Empty,
+        match self.part(page / span) {
+            Some(part) => part.get(page % span),
+            None => Pte::Empty,
         }
     }
 
@@ -137,14 +137,42 @@ impl<C: Level> Level for Dir<C> {
 }
 
 impl<C: Level> Dir<C> {
-    ghost use Rattle.std.specs.Prelude.{◌≡◌, ℕ, ◌+◌, ◌*◌, ◌<◌, ◌≤◌, MatchOption, length};
+    ghost use Rattle.std.specs.Prelude.{◌≡◌, ℕ, ◌+◌, ◌*◌, ◌<◌, ◌≤◌, MatchOption, length, option_map};
     ghost use Rattle.av_pagetable.specs.Table.{page_bound};
-    ghost use Rattle.av_pagetable.specs.Dir.{entries, entries_at, IsPlace, IsFirstIn};
+    ghost use Rattle.av_pagetable.specs.Dir.{part_of, entries, entries_at, IsPlace, IsFirstIn};
     ghost use Rattle.av_pagetable.specs.Held.{AreHeld};
     ghost use Rattle.av_pagetable.specs.declared.pte.Pte.{Pte};
 
+    // The part of this number, if there is one.
+    #[inline(always)]
+    fn part(&self, number: u64) -> Option<&C>
+        ensures { option_map (λ part. part.now) result ≡ part_of self.now number }
+    {
+        let parts = &self.parts;
+        if parts.is_empty() {
+            return None;
+        }
+        // Pages far apart have one part at each level.
+        let first = &parts[0];
+        if u64::from(first.0) == number {
+            return Some(&first.1);
+        }
+        // Where no number from the first one on is missing.
+        let reach = number.wrapping_sub(u64::from(first.0));
+        if reach < parts.len() as u64 {
+            let part = &parts[reach as usize];
+            if u64::from(part.0) == number {
+                return Some(&part.1);
+            }
+        }
+        match self.place_past(number) {
+            Ok(place) => Some(&parts[place].1),
+            Err(_) => None,
+        }
+    }
+
     // The place of the part of this number, or where it would stand.
-    #[inline]
+    #[inline(always)]
     fn place(&self, number: u64) -> Result<usize, usize>
         ensures { IsPlace number self.now result }
     {
@@ -152,34 +180,31 @@ impl<C: Level> Dir<C> {
         if parts.is_empty() {
             return Err(0);
         }
-        // A walk comes to each part at its start, and pages far apart have one part each.
-        let first = u64::from(parts[0].0);
-        if number == first {
-            return Ok(0);
-        }
-        if number < first {
-            return Err(0);
+        // Where no number from the first one on is missing: at the first part, and in a full table.
+        let reach = number.wrapping_sub(u64::from(parts[0].0));
+        if reach < parts.len() as u64 && u64::from(parts[reach as usize].0) == number {
+            return Ok(reach as usize);
         }
         self.place_past(number)
     }
 
-    // The same, where there is a part: by two guesses, else by a search.
+    // The same, where there is a part: at an end, or by a guess, else by a search.
+    #[inline(never)]
     fn place_past(&self, number: u64) -> Result<usize, usize>
         requires some { 0 < length self.now }
         ensures { IsPlace number self.now result }
     {
         let parts = &self.parts;
+        let first = u64::from(parts[0].0);
+        if number < first {
+            return Err(0);
+        }
         let len = parts.len();
         if u64::from(parts[len - 1].0) < number {
             return Err(len);
         }
-        let first = u64::from(parts[0].0);
-        let reach = number.wrapping_sub(first);
-        // Where no number between is missing.
-        if reach < len as u64 && u64::from(parts[reach as usize].0) == number {
-            return Ok(reach as usize);
-        }
         // Where the numbers stand evenly.
+        let reach = number.wrapping_sub(first);
         let width = u64::from(parts[len - 1].0).wrapping_sub(first);
         let steps = reach.wrapping_mul(len as u64 - 1).wrapping_add(width / 2);
         if let Some(guess) = steps.checked_div(width) {

@@ -6,7 +6,7 @@ ghost use Rattle.av_trace.specs.Hex.{hex as digits_of, hex_text, pairs_of, data_
 ghost use Rattle.av_trace.specs.Word.{Adds, field};
 
 use crate::bytes::Bytes;
-use crate::number::digit_worth;
+use crate::number::worth_by;
 use crate::word::after;
 use av_base::PAGE_SIZE;
 use std::alloc::{AllocError, Global};
@@ -19,16 +19,33 @@ fn are_digits(before: bool, high: u8, low: u8) -> bool
     before && high < 16 && low < 16
 }
 
+/// Fewer bytes than this are read and written by tables of digits, more of them by arithmetic, of
+/// which the compiler makes vector code.
+const FEW: usize = 16;
+
 /// Fills `found` with the bytes that pairs of digits spell; false where a byte is no digit.
-// The loop has no way out: so it takes a third of the time.
 fn decode(word: &[u8], found: &mut [u8]) -> bool
+    requires { length word.now ≡ 2 * length found.old }
+    ensures { pairs_of word.now ≡ (if result then Some found.new else None) }
+{
+    if found.len() < FEW {
+        decode_by(true, word, found)
+    } else {
+        decode_by(false, word, found)
+    }
+}
+
+/// The same, by the table or by arithmetic.
+// The loop has no way out: so it takes a third of the time.
+#[inline(always)]
+fn decode_by(by_table: bool, word: &[u8], found: &mut [u8]) -> bool
     requires { length word.now ≡ 2 * length found.old }
     ensures { pairs_of word.now ≡ (if result then Some found.new else None) }
 {
     let mut spelled = true;
     for i in 0..found.len() {
-        let high = digit_worth(word[2 * i]);
-        let low = digit_worth(word[2 * i + 1]);
+        let high = worth_by(by_table, word[2 * i]);
+        let low = worth_by(by_table, word[2 * i + 1]);
         spelled = are_digits(spelled, high, low);
         found[i] = 16 * (high % 16) + low % 16;
     }
@@ -65,16 +82,30 @@ pub fn data_field(alloc: Global, bytes: &[u8]) -> Result<Option<Bytes>, AllocErr
     }
 }
 
-#[inline]
-fn digit(value: u8) -> u8
+/// The digits by what they are worth.
+static DIGITS: [u8; 16] = *b"0123456789abcdef";
+
+/// The digit of a value, by the table or by arithmetic.
+#[inline(always)]
+fn digit(by_table: bool, value: u8) -> u8
     requires { value < 16 }
     ensures { result ≡ digit_glyph false value }
 {
-    if value < 10 {
+    if by_table {
+        table_digit(value)
+    } else if value < 10 {
         b'0' + value
     } else {
         b'a' + (value - 10)
     }
+}
+
+#[inline(always)]
+fn table_digit(value: u8) -> u8
+    requires { value < 16 }
+    ensures { result ≡ digit_glyph false value }
+{
+    DIGITS[value as usize]
 }
 
 /// Writes bytes from `start` on, two digits each.
@@ -82,9 +113,22 @@ pub fn encode(bytes: &[u8], digits: &mut [u8], start: usize)
     requires { length digits.old ≡ start + 2 * length bytes.now }
     ensures { digits.new ≡ take start digits.old ++ hex_text bytes.now }
 {
+    if bytes.len() < FEW {
+        encode_by(true, bytes, digits, start);
+    } else {
+        encode_by(false, bytes, digits, start);
+    }
+}
+
+/// The same, by the table or by arithmetic.
+#[inline(always)]
+fn encode_by(by_table: bool, bytes: &[u8], digits: &mut [u8], start: usize)
+    requires { length digits.old ≡ start + 2 * length bytes.now }
+    ensures { digits.new ≡ take start digits.old ++ hex_text bytes.now }
+{
     for i in 0..bytes.len() {
-        digits[start + 2 * i] = digit(bytes[i] / 16);
-        digits[start + 2 * i + 1] = digit(bytes[i] % 16);
+        digits[start + 2 * i] = digit(by_table, bytes[i] / 16);
+        digits[start + 2 * i + 1] = digit(by_table, bytes[i] % 16);
     }
 }
 
@@ -96,11 +140,11 @@ pub fn add_hex(text: &mut Bytes, n: u64) -> Result<(), AllocError>
     let mut at = 15;
     let mut rest = n;
     while 16 <= rest {
-        digits[at] = digit((rest % 16) as u8);
+        digits[at] = table_digit((rest % 16) as u8);
         rest /= 16;
         at -= 1;
     }
-    digits[at] = digit(rest as u8);
+    digits[at] = table_digit(rest as u8);
     text.append(&digits[at..])
 }
 

@@ -13,40 +13,77 @@ use std::alloc::AllocError;
 /// What a digit is worth, 0 to 9 or a to f; 255 where the byte is none.
 #[inline]
 #[tactic(auto, unfolding(crate::specs::Number::worth))]
-pub fn digit_worth(byte: u8) -> u8
+fn digit_worth(byte: u8) -> u8
     ensures { result ≡ worth byte }
 {
-    match byte {
-        b'0'..=b'9' => byte - b'0',
-        b'a'..=b'f' => byte - b'a' + 10,
-        _ => 255,
+    let digit = byte.wrapping_sub(b'0');
+    let letter = byte.wrapping_sub(b'a');
+    let above = if letter < 6 { letter + 10 } else { 255 };
+    if digit < 10 { digit } else { above }
+}
+
+/// What each byte is worth.
+static WORTHS: [u8; 256] = [
+    255, 255, 255, 255, 255, 255, 255, 255, 255, 255, 255, 255, 255, 255, 255, 255, 255, 255, 255,
+    255, 255, 255, 255, 255, 255, 255, 255, 255, 255, 255, 255, 255, 255, 255, 255, 255, 255, 255,
+    255, 255, 255, 255, 255, 255, 255, 255, 255, 255, 0, 1, 2, 3, 4, 5, 6, 7, 8, 9, 255, 255, 255,
+    255, 255, 255, 255, 255, 255, 255, 255, 255, 255, 255, 255, 255, 255, 255, 255, 255, 255, 255,
+    255, 255, 255, 255, 255, 255, 255, 255, 255, 255, 255, 255, 255, 255, 255, 255, 255, 10, 11,
+    12, 13, 14, 15, 255, 255, 255, 255, 255, 255, 255, 255, 255, 255, 255, 255, 255, 255, 255, 255,
+    255, 255, 255, 255, 255, 255, 255, 255, 255, 255, 255, 255, 255, 255, 255, 255, 255, 255, 255,
+    255, 255, 255, 255, 255, 255, 255, 255, 255, 255, 255, 255, 255, 255, 255, 255, 255, 255, 255,
+    255, 255, 255, 255, 255, 255, 255, 255, 255, 255, 255, 255, 255, 255, 255, 255, 255, 255, 255,
+    255, 255, 255, 255, 255, 255, 255, 255, 255, 255, 255, 255, 255, 255, 255, 255, 255, 255, 255,
+    255, 255, 255, 255, 255, 255, 255, 255, 255, 255, 255, 255, 255, 255, 255, 255, 255, 255, 255,
+    255, 255, 255, 255, 255, 255, 255, 255, 255, 255, 255, 255, 255, 255, 255, 255, 255, 255, 255,
+    255, 255, 255, 255, 255, 255, 255, 255, 255, 255, 255, 255, 255, 255, 255, 255, 255, 255, 255,
+    255, 255, 255, 255,
+];
+
+/// The same, by the table: a third of the steps where bytes come one by one.
+#[inline(always)]
+fn table_worth(byte: u8) -> u8
+    ensures { result ≡ worth byte }
+{
+    WORTHS[byte as usize]
+}
+
+/// The same, by the table or by arithmetic.
+#[inline(always)]
+pub fn worth_by(by_table: bool, byte: u8) -> u8
+    ensures { result ≡ worth byte }
+{
+    if by_table {
+        table_worth(byte)
+    } else {
+        digit_worth(byte)
     }
 }
 
 /// Whether a number of this base begins here: with a digit, and with no zero before another one.
-#[inline]
+#[inline(always)]
 #[tactic(auto, unfolding(crate::specs::Number::starts_number))]
 fn starts(bytes: &[u8], base: u8) -> bool
     ensures { result ≡ starts_number base bytes.now }
 {
     match bytes {
         [] => false,
-        [only] => digit_worth(*only) < base,
+        [only] => table_worth(*only) < base,
         [first, second, ..] => {
-            digit_worth(*first) < base && (*first != b'0' || base <= digit_worth(*second))
+            table_worth(*first) < base && (*first != b'0' || base <= table_worth(*second))
         }
     }
 }
 
 /// The number that the first digits are, below 2^64, and the rest.
-#[inline]
+#[inline(always)]
 fn digits(bytes: &[u8], base: u8) -> Option<(u64, &[u8])>
     ensures { option_map (λ x. (x.0, x.1.now)) result ≡ digits_from base 0 bytes.now }
 {
     let mut value = 0u64;
     let mut rest = bytes;
     while let [first, tail @ ..] = rest {
-        let digit = digit_worth(*first);
+        let digit = table_worth(*first);
         if base <= digit {
             return Some((value, rest));
         }
@@ -59,7 +96,7 @@ fn digits(bytes: &[u8], base: u8) -> Option<(u64, &[u8])>
 }
 
 /// The number in front of the bytes, and the rest.
-#[inline]
+#[inline(always)]
 #[tactic(auto, unfolding(crate::specs::Number::number_from))]
 fn number(bytes: &[u8], base: u8) -> Option<(u64, &[u8])>
     ensures { option_map (λ x. (x.0, x.1.now)) result ≡ number_from base bytes.now }
@@ -101,6 +138,7 @@ pub fn decimal(bytes: &[u8], low: u64, high: u64) -> Option<(u64, &[u8])>
 }
 
 /// A process number, and the rest.
+#[inline]
 pub fn process(bytes: &[u8]) -> Option<(u16, &[u8])>
     ensures { option_map (λ x. (x.0, x.1.now)) result ≡ process_at bytes.now }
 {

@@ -8,7 +8,7 @@ use av_arena::Avl;
 use av_base::{LOW_PAGE, TOP_PAGE};
 
 /// The greatest page from which on `pages` pages are free. The extent of each subtree tells on
-/// which side it lies.
+/// which side it lies; where no mapping was taken away, it lies below all spans.
 pub fn gap_in(spans: &Avl<Span>, pages: u64) -> Option<u64>
     requires some { 1 ≤ pages }
     requires apart { AreApart spans.now }
@@ -18,6 +18,11 @@ pub fn gap_in(spans: &Avl<Span>, pages: u64) -> Option<u64>
     let mut low = LOW_PAGE;
     let mut high = TOP_PAGE;
     let mut part = spans.part();
+    if let Extent::Between { from, to, widest } = part.sum() {
+        if widest < pages && TOP_PAGE.saturating_sub(to) < pages {
+            return last_start(LOW_PAGE, from, pages);
+        }
+    }
     'down: while let Some((left, span, right)) = part.parts() {
         if is_room(right.sum(), span.to, high, pages) {
             low = span.to;

@@ -1,4 +1,4 @@
-use Rattle.std.proofs.Common.{◌≡◌, ◌∙◌, ap}
+use Rattle.std.proofs.Common.{◌∙◌, ap}
 use Rattle.av_pagetable.specs.Entries.{table_at}
 use Rattle.av_pagetable.proofs.Entries.{table_more}
 use Rattle.av_pagetable.proofs.tables.make_place.Goals as goal

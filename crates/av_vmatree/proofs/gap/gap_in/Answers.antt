@@ -1,15 +1,26 @@
-use Rattle.std.proofs.Common.{rules, ◌≡◌, true, false, ◌∙◌, sym, ap, subst}
+use Rattle.std.proofs.Common.{rules, ◌≡◌, ◌-◌, ◌<◌, true, false, ◌∙◌, sym, ap, subst}
 use Rattle.av_base.specs.Limits.{low_page, top_page}
 use Rattle.av_vmatree.specs.Extent.{fits}
-use Rattle.av_vmatree.proofs.Gaps.{IsGapOf, gap_of, gap_is, gap_by_pages, gap_left, gap_right, row_of}
+use Rattle.av_vmatree.specs.declared.span.Extent.TheVariants.{Between}
+use Rattle.av_vmatree.proofs.Gaps.{IsGapOf, gap_of, gap_is, gap_below, gap_by_pages, gap_left, gap_right, row_of}
 use Rattle.av_vmatree.proofs.gap.gap_in.Goals as goal
 
 pub returns : goal.returns
 returns c =
     let a = c.args in
     let xs = a.spans.now in
-    let e = ap (λ d. gap_of a.pages c.down.low c.down.high d) c.in_default.ensures.parts in
-    gap_by_pages a.pages xs _ c.requires.some c.requires.apart (subst (IsGapOf a.pages low_page top_page xs) (sym c.down.invariant ∙ e ∙ sym c.last_start.ensures) (gap_is a.pages low_page top_page xs c.requires.some c.requires.apart c.requires.within))
+    let e = ap (λ d. gap_of a.pages c.down.low c.down.high d) c.in_default-parts.ensures.parts in
+    gap_by_pages a.pages xs _ c.requires.some c.requires.apart (subst (IsGapOf a.pages low_page top_page xs) (sym c.down.invariant ∙ e ∙ sym c.last_start-2.ensures) (gap_is a.pages low_page top_page xs c.requires.some c.requires.apart c.requires.within))
+
+pub returns-then-saturating_sub-pages : goal.returns-then-saturating_sub-pages
+returns-then-saturating_sub-pages c =
+    let a = c.args in
+    let xs = a.spans.now in
+    let s = c.in-Between in
+    let sum : Between s.from s.to s.widest ≡ row_of xs = s.ensures ∙ ap row_of c.part-part.ensures in
+    let low : top_page - s.to < a.pages = subst (λ n. n < a.pages) c.saturating_sub.ensures c.if-saturating_sub-pages.true in
+    let is = gap_below a.pages low_page top_page s.from s.to s.widest xs c.requires.some sum c.if-widest-pages.true low in
+    gap_by_pages a.pages xs _ c.requires.some c.requires.apart (subst (IsGapOf a.pages low_page top_page xs) (sym is ∙ sym c.last_start.ensures) (gap_is a.pages low_page top_page xs c.requires.some c.requires.apart c.requires.within))
 
 pub down-preserved-then-is_room : goal.down-preserved-then-is_room
 down-preserved-then-is_room c =

@@ -1,31 +1,15 @@
-use Rattle.std.proofs.Common.{◌≡◌, ◌<◌, ◌≤◌, ◌/◌, ◌%◌, ◌∙◌, sym, ap, length}
-use Rattle.std.specs.List.{AllWithin}
-use Rattle.std.proofs.lemmas.Nat.{mod_below}
-use Rattle.av_pagetable.specs.Dir.{entries}
-use Rattle.av_pagetable.proofs.DirEntries.{entry_there, absent}
+use Rattle.std.proofs.Common.{◌%◌, ◌∙◌, ap}
+use Rattle.av_pagetable.specs.Dir.{in_part, entries}
 use Rattle.av_pagetable.proofs.dir.DirLevel.get.Goals as goal
 
-pub returns-in-Ok : goal.returns-in-Ok
-returns-in-Ok g c =
-    let d = c.self.inside in
+pub returns-in-Some : goal.returns-in-Some
+returns-in-Some g c =
     let C = g.C.Level in
-    let k = c.in-Ok.place in
-    let p = c.index.result.now in
-    let is = c.index.ensures in
-    let within : k < length d.parts.items = rw c.self.view_is c.in-Ok.ensures.0 in
-    let here : p.0 ≡ c.args.page / C.span = ap (λ part. part.0) is ∙ rw (c.self.view_is, ← c.span-span.ensures.is) (c.in-Ok.ensures.1 p) in
-    let under : c.args.page % c.span-span.result < C.span = rw c.span-span.ensures.is (mod_below c.args.page C.span c.span-span.ensures.some) in
-    c.get.ensures ∙ ap (λ s. C.at p.1 (c.args.page % s)) c.span-span.ensures.is ∙ sym (entry_there C.at C.span d.parts.items c.self.invariant k p within is c.args.page here) ∙ ap (λ v. entries C.at C.span v c.args.page) c.self.view_is
+    let there = c.in-Some.ensures in
+    c.get.ensures ∙ ap (λ o. in_part C.at o (c.args.page % c.span-span.result)) there ∙ ap (λ s. entries C.at s c.args.self.now c.args.page) c.span-span.ensures.is
 
-pub returns-in-Err : goal.returns-in-Err
-returns-in-Err g c =
-    let d = c.self.inside in
+pub returns-in-None : goal.returns-in-None
+returns-in-None g c =
     let C = g.C.Level in
-    let k = c.in-Err.field-0 in
-    let n = c.args.page / c.span-span.result in
-    let here : n ≡ c.args.page / C.span = ap (λ s. c.args.page / s) c.span-span.ensures.is in
-    let within : k ≤ length d.parts.items = rw c.self.view_is c.in-Err.ensures.0 in
-    let lower : AllWithin (λ part. part.0 < n) d.parts.items 0 k = rw c.self.view_is c.in-Err.ensures.1 in
-    let higher : AllWithin (λ part. n < part.0) d.parts.items k (length d.parts.items) = rw c.self.view_is c.in-Err.ensures.2 in
-    let none = ap (λ v. entries C.at C.span v c.args.page) (sym c.self.view_is) ∙ absent C.at C.span d.parts.items k n c.args.page within lower higher here in
-    sym none
+    let none = c.in-None.ensures in
+    ap (λ o. in_part C.at o (c.args.page % c.span-span.result)) none ∙ ap (λ s. entries C.at s c.args.self.now c.args.page) c.span-span.ensures.is

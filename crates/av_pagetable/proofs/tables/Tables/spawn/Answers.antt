@@ -1,4 +1,4 @@
-use Rattle.std.proofs.Common.{◌∙◌, sym, Some}
+use Rattle.std.proofs.Common.{◌∙◌, Some}
 use Rattle.std.proofs.lemmas.Result.{err_from_is_err_and}
 use Rattle.av_base.specs.Words.{with_at}
 use Rattle.av_pagetable.proofs.Entries.{table_put, processes_put, entries_put, processes_kept, entries_kept, bare_spawned}

@@ -1,6 +1,6 @@
 use Rattle.std.proofs.Common.{refl, arith}
 use Rattle.av_trace.proofs.HexLaws.{encoded_next, encoded_last}
-use Rattle.av_trace.proofs.hex.encode.Goals as goal
+use Rattle.av_trace.proofs.hex.encode_by.Goals as goal
 
 pub loop-i-preserved : goal.loop-i-preserved
 loop-i-preserved c =
