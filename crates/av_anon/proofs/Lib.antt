@@ -1,3 +1,5 @@
+pub mod KinLaws
+pub mod OrderLaws
 pub mod OrderLeft
 pub mod OrderMade
 pub mod OrderRaised

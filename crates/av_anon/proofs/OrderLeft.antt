@@ -288,6 +288,16 @@ module _ (areas : ℕ → Option Area) (f : Family) (spans : ℕ
       once true h = o.inverse.inverse a u ∙ ap flag (ap (λ w. is_in w (f.chain a)) (sym (eqb-true own u h)) ∙ own_in)
       once false h = refl
 
+  -- one that is left was there, with its root and parent
+  pub left_same : (u : ℕ) (i : Info) → (after_unlink (Some own) a f).info u ≡ Some i
+      → (m : Info) × (f.info u ≡ Some m) × (i.root ≡ m.root) × (i.parent ≡ m.parent)
+  left_same u i e =
+      let g = stays u i e in
+      let m = some_of (f.info u) (was u (there0 u g (subst IsSome (sym e) refl))) in
+      let k = kept_of u g m.0 m.1 in
+      let is : i ≡ k.0 = some_is (sym e ∙ k.1) in
+      (m.0, m.1, ap (λ (j : Info). j.root) is ∙ k.2, ap (λ (j : Info). j.parent) is ∙ k.3)
+
   pub left_keeps : (spans' : ℕ → List Span) → GoWithLinks (give_own a None areas) (with_at a [] f.chain) spans'
       → IsInOrder (give_own a None areas) (after_unlink (Some own) a f) spans'
   left_keeps spans' spanned = record {

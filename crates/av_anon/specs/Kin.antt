@@ -1,7 +1,8 @@
--- What a call on areas keeps of the anon_vmas, whatever numbers the areas have: each area that has an
--- own anon_vma has the chain that areas with that one had, and no anon_vma changes its kin.
-use Rattle.std.specs.Prelude.{◌≡◌, ℕ, List, [], length, Option, Some, None, IfSome, IsSomeAnd, option_map_or}
+-- What a call on areas keeps of the anon_vmas, whatever numbers the areas have: each area that has
+-- an own anon_vma has the chain that areas with that one had, and no anon_vma changes its kin.
+use Rattle.std.specs.Prelude.{◌≡◌, ℕ, List, [], length, Option, Some, IfSome, IsSomeAnd}
 use Rattle.std.specs.List.{find}
+use Rattle.std.specs.Option.{option_map_or}
 use Rattle.av_vma.specs.declared.area.Area.{Area}
 use Rattle.av_vma.specs.Pages.{Lengths}
 use Rattle.av_anon.specs.declared.infos.Info.{Info}
@@ -10,11 +11,12 @@ use Rattle.av_anon.specs.Order.{owns}
 
 -- the chain that the areas have whose own anon_vma is v; none where there is no such area
 abbrev pub chain_by : (ℕ → Option Area) → Family → ℕ → List ℕ
-chain_by areas f v = option_map_or f.chain [] (find (λ a. owns v (own_of (areas a))) (f.users v))
+chain_by areas f v =
+    option_map_or f.chain (find (λ a. owns v (own_of (areas a))) (f.users v)) []
 
 -- how long an area's chain is, by its own anon_vma
 abbrev pub length_by : (ℕ → Option Area) → Family → Lengths
-length_by areas f own = option_map_or (λ v. length (chain_by areas f v)) 0 own
+length_by areas f own = option_map_or (λ v. length (chain_by areas f v)) own 0
 
 -- the same root and parent
 pub record IsSameKin (old new : Info) : Type 0 where

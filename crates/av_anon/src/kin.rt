@@ -17,8 +17,10 @@ pub fn chains_go_by_own()
 
 /// An anon_vma is there exactly while an area is linked to it.
 pub fn anon_vmas_are_linked()
-    ensures { (areas : ℕ → Option Area) (f : Family) (spans : ℕ → List Span) (v : ℕ)
+    ensures linked { (areas : ℕ → Option Area) (f : Family) (spans : ℕ → List Span) (v : ℕ)
         → IsInOrder areas f spans → IsSome (f.info v) → (a : ℕ) × (is_in v (f.chain a) ≡ true) }
+    ensures there { (areas : ℕ → Option Area) (f : Family) (spans : ℕ → List Span) (a v : ℕ)
+        → IsInOrder areas f spans → is_in v (f.chain a) ≡ true → IsSome (f.info v) }
 {}
 
 /// Where areas change and the anon_vmas don't, and no area gets another own anon_vma but none, kin

@@ -14,9 +14,9 @@ ghost use Rattle.av_anon.specs.Unlink.{without_anon, without_links, after_unlink
 use crate::anons::Anons;
 use crate::infos::Infos;
 use crate::links::is_unused;
+use av_base::Steps;
 use av_chain::Links;
 use av_chain::ring::Ring;
-use av_base::Steps;
 use av_vma::{Area, AreaId, Areas};
 use std::marker::Brand;
 use std::sync::ledger::{Blank, Ledger};

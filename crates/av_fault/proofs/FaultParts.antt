@@ -1,14 +1,14 @@
 -- The kernel's parts over a view alone, and a page's entry put in: where the counts say so, the parts stand after it.
 use Rattle.std.proofs.Common.{◌≡◌, ℕ, ◌+◌, ◌<◌, ◌≤◌, Bool, true, false, cond, ◌&&◌, T, List, [], ◌∷◌, Option, Some, None, refl, sym, ap, subst, ◌∙◌, arith, ◌==◌, nat_lt, is_some}
 use Rattle.std.proofs.lemmas.Bool.Decides.{nat_tests}
-use Rattle.std.specs.Prelude.{IfSome, option_map}
+use Rattle.std.specs.Prelude.{IfSome, IsSomeAnd, option_map}
 use Rattle.std.specs.Ordering.{nat_cmp}
 use Rattle.std.specs.FinMap.Entries.{find, put, is_sorted}
 use Rattle.av_base.specs.declared.slot.Slot.{Slot}
 use Rattle.av_base.specs.Words.{how_many, is_in}
 use Rattle.av_pagetable.specs.Entries.{with_entry}
 use Rattle.av_plain.specs.World.{World, Page, pages}
-use Rattle.av_plain.specs.Ledger.{Ledger, Setting, SwapArea, Key, key_cmp, Entry, Zero, InFrame, InSlot, entry, map_count, slot_entries, names_frame, names_slot, frame_at, cached_by, Cached, same_slot, is_stale}
+use Rattle.av_plain.specs.Ledger.{HasNumbers, Ledger, Setting, SwapArea, Key, key_cmp, Entry, Zero, InFrame, InSlot, entry, map_count, slot_entries, names_frame, names_slot, frame_at, cached_by, Cached, same_slot, is_stale}
 use Rattle.av_plain.specs.Fault.{is_shared}
 use Rattle.av_plain.specs.Sound.{AtPages}
 use Rattle.av_plain.specs.Device.{no_device}

@@ -14,7 +14,7 @@ use Rattle.av_plain.specs.Event.{Event, Noted, Used, after_note, after_use, afte
 use Rattle.av_plain.specs.Pass.{out_of}
 use Rattle.av_plain.specs.Fault.{Serves, Touches, Starved, sparing, need, Need, Ready, ZeroPage, wants_frame, pinned_by, permits}
 use Rattle.av_plain.specs.Access.{page_events}
-use Rattle.av_plain.specs.Choice.{AreaSlots, Chooses, ChoosesAll, ChoosesSlot, Turns, frame_in_note, new_free, no_slots, slot_in, slot_in_note}
+use Rattle.av_plain.specs.Choice.{AreaSlots, Chooses, ChoosesAll, ChoosesSlot, SwitchesArea, frame_in_note, new_free, no_slots, slot_in, slot_in_note}
 use Rattle.av_plain.proofs.Choice.{chooses-kept, chooses-taken, no-slot-chosen, new_free-none, new_free-set}
 use Rattle.av_plain.specs.Stands.{AreasAre, View, Pte as Plain, free_of, prot_of, ranges_in, Holds}
 use Rattle.av_plain.specs.Transcript.{State}
@@ -101,7 +101,7 @@ given_frees_none m v w l p page f rest bytes maps before after counts many = non
 -- ---- what is free
 
 -- without a device no slot is taken or given back
-unslotted : (n : ℕ) (l : Ledger) (e : Event) (slots : AreaSlots) → Turns (setting n) e slots slots → slot_in e ≡ None → ChoosesSlot (setting n) None l e slots slots
+unslotted : (n : ℕ) (l : Ledger) (e : Event) (slots : AreaSlots) → SwitchesArea (setting n) e slots slots → slot_in e ≡ None → ChoosesSlot (setting n) None l e slots slots
 unslotted n l e slots turns takes = no-slot-chosen (setting n) None l e slots (λ k. refl) turns takes
 
 -- a note that takes a frame takes no slot

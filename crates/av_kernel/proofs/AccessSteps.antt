@@ -22,6 +22,7 @@ use Rattle.av_reclaim.specs.Mem.{setting, count}
 use Rattle.av_fault.specs.Fault.{stop_of}
 use Rattle.av_kernel.specs.Step.{MemSteps}
 use Rattle.av_kernel.specs.Access.{IsAccess, answer_of}
+use Rattle.av_kernel.proofs.StepLaws.{areas_kept}
 
 -- the process lives, so that the command is not refused
 not_refused : (lived : Bool) (Follow : Type 0) (Refuse : Errno → Type 0) → lived ≡ true → Follow → MatchOption (cond (not lived) (Some Esrch) None) Follow Refuse
@@ -66,7 +67,7 @@ module _ (s : State) (old new : Mem) (p a : ℕ) (before notes : List Note) (row
       world = h.world;
       ledger = h.ledger;
       free = subst (λ m. ChoosesAll (setting m) None s.ledger h.events s.free h.next.free) same h.free;
-      areas = areas_kept h.areas h.anons;
+      areas = areas_kept s h.next (Read p a n) answer refl h.areas h.anons h.keeps.stands.anons;
     };
     keeps = h.keeps;
   }
@@ -91,7 +92,7 @@ module _ (s : State) (old new : Mem) (p a : ℕ) (before notes : List Note) (row
       world = h.world;
       ledger = h.ledger;
       free = subst (λ m. ChoosesAll (setting m) None s.ledger h.events s.free h.next.free) same h.free;
-      areas = areas_kept h.areas h.anons;
+      areas = areas_kept s h.next (Read p a n) answer refl h.areas h.anons h.keeps.stands.anons;
     };
     keeps = h.keeps;
   }
@@ -114,7 +115,7 @@ module _ (s : State) (old new : Mem) (p a : ℕ) (before notes : List Note) (row
       world = h.world ∙ ap (after_write s.world p a) (ap (λ k. take k bytes) h.is_end.1 ∙ take-length bytes) ∙ ap (next s.world (Write p a bytes)) (sym is);
       ledger = h.ledger;
       free = subst (λ m. ChoosesAll (setting m) None s.ledger h.events s.free h.next.free) same h.free;
-      areas = areas_kept h.areas h.anons;
+      areas = areas_kept s h.next (Write p a bytes) answer refl h.areas h.anons h.keeps.stands.anons;
     };
     keeps = h.keeps;
   }
@@ -137,7 +138,7 @@ module _ (s : State) (old new : Mem) (p a : ℕ) (before notes : List Note) (row
       world = h.world ∙ world-stopped s.world p a k bytes stop ∙ ap (next s.world (Write p a bytes)) (sym is);
       ledger = h.ledger;
       free = subst (λ m. ChoosesAll (setting m) None s.ledger h.events s.free h.next.free) same h.free;
-      areas = areas_kept h.areas h.anons;
+      areas = areas_kept s h.next (Write p a bytes) answer refl h.areas h.anons h.keeps.stands.anons;
     };
     keeps = h.keeps;
   }

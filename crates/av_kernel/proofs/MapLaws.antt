@@ -43,7 +43,7 @@ use Rattle.av_kernel.specs.Place.{protect_tests, IsProcess, IsPlaced, AreToClear
 use Rattle.av_kernel.specs.Step.{MemSteps, answer_only}
 use Rattle.av_reclaim.proofs.MemLaws.{lives_is, alive_is, taken_has, mapped_is}
 use Rattle.av_kernel.proofs.PlaceLaws.{page_back, IsSuited, suited}
-use Rattle.av_kernel.proofs.StepLaws.{is_number, moved_on, orderly, refused, stays_orderly, changed, areas_changed, tables_kept}
+use Rattle.av_kernel.proofs.StepLaws.{areas_next, is_number, moved_on, orderly, refused, stays_orderly, changed, areas_changed, tables_kept}
 
 -- ---- pages and their areas
 

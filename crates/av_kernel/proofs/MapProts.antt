@@ -195,5 +195,5 @@ mapped-prots s t p from n prot some low high free h = has_prots s t p (AreThese 
 
 pub protected-prots : (s t : Spaces) (p from to past : ℕ) (prot : Prot) → IsReached (is_taken s p) from to past → IsChanged s t p (AreThese (pages_changed no_chains (to_prot prot) from (past - from) (pages_of s p))) → IsRemapped from past (to_prot prot) (pages_of s p) (pages_of t p)
     → HasProts s t p (set_on from (past - from) (Some prot) (prot_of (ranges_of s p)))
-protected-prots s t p from to past prot reached h after_map no_chains = has_prots s t p (AreThese (pages_changed no_chains (to_prot prot) from (past - from) (pages_of s p))) (set_on from (past - from) (Some prot) (prot_of (ranges_of s p))) h
-    (λ page. prots_protected (pages_of s p) from to past prot (pages_of t p) reached after_map no_chains page ∙ as_ranges s p from (past - from) page (Some prot))
+protected-prots s t p from to past prot reached h remap = has_prots s t p (AreThese (pages_changed no_chains (to_prot prot) from (past - from) (pages_of s p))) (set_on from (past - from) (Some prot) (prot_of (ranges_of s p))) h
+    (λ page. prots_protected (pages_of s p) from to past prot (pages_of t p) reached remap page ∙ as_ranges s p from (past - from) page (Some prot))

@@ -17,11 +17,12 @@ use Rattle.av_plain.specs.Fault as faults
 use Rattle.av_plain.specs.Fault.{Touches}
 use Rattle.av_plain.specs.Sound.{AllSound}
 use Rattle.av_plain.specs.Areas.{Anons, Areas}
-use Rattle.av_plain.specs.Choice.{ChoosesAll}
+use Rattle.av_plain.specs.Choice.{ChoosesAll, Free, ListsFree}
 use Rattle.av_plain.specs.Stands.{AreasAre, free_of}
 use Rattle.av_spaces.specs.Spaces.{Spaces, pages_of as areas_on}
-use Rattle.av_reclaim.proofs.MemLaws.{frames_free}
+use Rattle.av_reclaim.proofs.MemLaws.{frames_free, listed}
 use Rattle.av_plain.specs.Transcript.{State}
+use Rattle.av_plain.proofs.FreeFrames.{page-lists_free}
 use Rattle.av_plain.proofs.Ledger.{how_many-found}
 use Rattle.av_plain.proofs.Ledger.NoSwap.{itself}
 use Rattle.av_plain.proofs.Sound.Access.{accesses-kept}
@@ -84,10 +85,18 @@ sound_written n w l p page at piece notes s alive some fits h =
 
 -- ---- the kernel
 
-pub keeps_now : (k : Mem) (w : World) (l : Ledger) (areas : Areas) (anons : Anons) → KeepsWithin k w l → AllSound (setting (count k)) w l → AreasAre (view k) areas → (view k).anons ≡ anons
+pub keeps_now : (k : Mem) (w : World) (l : Ledger) (areas : Areas) (anons : Anons) → KeepsWithin k w l → AllSound (setting (count k)) w l → ListsFree (setting (count k)) l (view k).free → AreasAre (view k) areas → (view k).anons ≡ anons
     → Keeps k (record { world = w; ledger = l; free = free_of (view k); areas = areas; anons = anons })
-keeps_now k w l areas anons h sound same same_anons = record {
-  stands = record { over = record { sizes = refl; headers = refl }; sound = sound; parts = h.parts; free = refl; areas = same; anons = same_anons };
+keeps_now k w l areas anons h sound free same same_anons = record {
+  stands = record {
+    over = record { sizes = refl; headers = refl };
+    sound = sound;
+    parts = h.parts;
+    free = refl;
+    lists = listed k (setting (count k)) l (view k).free h.parts.ledger.swap free;
+    areas = same;
+    anons = same_anons;
+  };
   tables = h.tables;
 }
 
@@ -99,6 +108,13 @@ module _ (s : State) (old : Mem) (p page at : ℕ) (piece : List ℕ) (before no
       let sound = sound_touched (setting (count new)) s.world s.ledger write p page t.added None (subst (λ n. AllSound (setting n) s.world s.ledger) (sym same) keeps.stands.sound) t.touches in
       let some : 0 < map_count l f = how_many-found (names_frame f) (p, page) l.entries (InFrame f true) t.ready.0 (itself f) in
       sound.ledger.in_range f (omega (arith, some))
+
+  -- what is free then is what the ledger has free
+  free_listed : (n : ℕ) (write : Bool) (added : List Note) (end : Option faults.Stop) (free : Free) → count old ≡ n → Touches (setting n) s.world s.ledger write (p, page) added end
+      → ChoosesAll (setting n) None s.ledger (page_events write (p, page) added end) s.free free → ListsFree (setting n) (after_all s.ledger (page_events write (p, page) added end)) free.frames
+  free_listed n write added end free same touches chosen =
+      page-lists_free (setting n) s.world s.ledger write (p, page) added end None s.free free (subst (λ n. AllSound (setting n) s.world s.ledger) same keeps.stands.sound).ledger touches chosen
+      (subst (λ n. ListsFree (setting n) s.ledger s.free.frames) same keeps.stands.lists.frames)
 
   -- it was not served
   pub stopped : (new : Mem) (write : Bool) (stop : Stop) → count new ≡ count old → IsTouched s new write (p, page) before now (Stopped stop) → IsPageStep s new write p page at piece before now (Some stop)
@@ -113,7 +129,8 @@ module _ (s : State) (old : Mem) (p page at : ℕ) (piece : List ℕ) (before no
     areas = refl;
     anons = refl;
     keeps = keeps_now new s.world (after_all s.ledger (page_events write (p, page) t.added (Some (stop_of stop)))) s.areas s.anons t.parts
-        (sound_touched (setting (count new)) s.world s.ledger write p page t.added (Some (stop_of stop)) (subst (λ n. AllSound (setting n) s.world s.ledger) (sym same) keeps.stands.sound) t.touches) t.areas t.anons;
+        (sound_touched (setting (count new)) s.world s.ledger write p page t.added (Some (stop_of stop)) (subst (λ n. AllSound (setting n) s.world s.ledger) (sym same) keeps.stands.sound) t.touches)
+        (free_listed (count new) write t.added (Some (stop_of stop)) (free_of (view new)) (sym same) t.touches t.free) t.areas t.anons;
   }
     where
       world_is : (write : Bool) → s.world ≡ world_after write p page at piece (Some stop) s.world
@@ -125,6 +142,7 @@ module _ (s : State) (old : Mem) (p page at : ℕ) (piece : List ℕ) (before no
   read_served new ready same served t =
       let touches : Touches (setting (count new)) s.world s.ledger false (p, page) t.added None = subst (Touches (setting (count new)) s.world s.ledger false (p, page) t.added) served t.touches in
       let after = ap (λ end. after_all s.ledger (page_events false (p, page) t.added end)) served in
+      let chosen = subst (λ end. ChoosesAll (setting (count new)) None s.ledger (page_events false (p, page) t.added end) s.free (free_of (view new))) served t.free in
       record {
         added = t.added;
         notes = t.notes;
@@ -132,11 +150,12 @@ module _ (s : State) (old : Mem) (p page at : ℕ) (piece : List ℕ) (before no
         next = record { world = s.world; ledger = after_all s.ledger (page_events false (p, page) t.added None); free = free_of (view new); areas = s.areas; anons = s.anons };
         world = refl;
         ledger = refl;
-        free = subst (λ end. ChoosesAll (setting (count new)) None s.ledger (page_events false (p, page) t.added end) s.free (free_of (view new))) served t.free;
+        free = chosen;
         areas = refl;
         anons = refl;
         keeps = keeps_now new s.world (after_all s.ledger (page_events false (p, page) t.added None)) s.areas s.anons (subst (KeepsWithin new s.world) after t.parts)
-            (sound_touched (setting (count new)) s.world s.ledger false p page t.added None (subst (λ n. AllSound (setting n) s.world s.ledger) (sym same) keeps.stands.sound) touches) t.areas t.anons;
+            (sound_touched (setting (count new)) s.world s.ledger false p page t.added None (subst (λ n. AllSound (setting n) s.world s.ledger) (sym same) keeps.stands.sound) touches)
+            (free_listed (count new) false t.added None (free_of (view new)) (sym same) touches chosen) t.areas t.anons;
       }
 
   -- it was served to a write, and then the piece was laid over the frame's bytes
@@ -151,20 +170,23 @@ module _ (s : State) (old : Mem) (p page at : ℕ) (piece : List ℕ) (before no
       let parts = written_now m (view mid) s.world l p page f true at piece (of_stand mid s.world l t.parts) keeps.stands.sound.world alive t.ready.0 (t.ready.1 refl) fits in
       let parts' : Parts m (view new) (after_write s.world p (4096 * page + at) piece) l = subst (λ w. Parts m (view new) w l) (sym (stored_is s.world p (4096 * page + at) piece some)) (subst (λ v. Parts m v (set_process s.world p (with_bytes (pages s.world p) (4096 * page + at) piece)) l) (sym view_is) parts) in
       let count_is : count mid ≡ count new = sym (ap (λ (s : Seen). s.count) frames) in
+      let touches = subst (λ n. Touches (setting n) s.world s.ledger true (p, page) t.added None) count_is t.touches in
+      let chosen = subst (λ n. ChoosesAll (setting n) None s.ledger (page_events true (p, page) t.added None) s.free (free_of (view new))) count_is
+          (subst (ChoosesAll (setting (count mid)) None s.ledger (page_events true (p, page) t.added None) s.free) (sym (ap (λ (s : Seen). frames_free s.free) frames)) t.free) in
       record {
         added = t.added;
         notes = t.notes;
-        touches = subst (λ n. Touches (setting n) s.world s.ledger true (p, page) t.added None) count_is t.touches;
+        touches = touches;
         next = record { world = after_write s.world p (4096 * page + at) piece; ledger = l; free = free_of (view new); areas = s.areas; anons = s.anons };
         world = refl;
         ledger = refl;
-        free = subst (λ n. ChoosesAll (setting n) None s.ledger (page_events true (p, page) t.added None) s.free (free_of (view new))) count_is
-            (subst (ChoosesAll (setting (count mid)) None s.ledger (page_events true (p, page) t.added None) s.free) (sym (ap (λ (s : Seen). frames_free s.free) frames)) t.free);
+        free = chosen;
         areas = refl;
         anons = refl;
         keeps = keeps_now new (after_write s.world p (4096 * page + at) piece) l s.areas s.anons
             (to_stand new (after_write s.world p (4096 * page + at) piece) l (subst (λ n. Parts (setting n) (view new) (after_write s.world p (4096 * page + at) piece) l) count_is parts')
             (λ q. ap (λ t. has t q) tables ∙ t.parts.tables q ∙ sym (ap (λ x. is_some (ranges_of x q)) spaces)))
             (subst (λ n. AllSound (setting n) (after_write s.world p (4096 * page + at) piece) l) count_is sound)
+            (free_listed (count new) true t.added None (free_of (view new)) (sym same ∙ count_is) touches chosen)
             (λ q o. ap (λ (x : Spaces). areas_on x q o) spaces ∙ t.areas q o) t.anons;
       }

@@ -37,7 +37,7 @@ use Rattle.av_reclaim.specs.Mem.{ranges_of, setting, plain, view, count, HasTabl
 use Rattle.av_kernel.specs.Step.{MemSteps, answer_only}
 use Rattle.av_reclaim.specs.Zap.{HasZapped}
 use Rattle.av_reclaim.proofs.MemLaws.{alive_is, lives_is, all_apart, kept-nothing, no_cache}
-use Rattle.av_kernel.proofs.StepLaws.{is_number, orderly, moved_on, stays_orderly, state_after, changed, kept-on, stepped}
+use Rattle.av_kernel.proofs.StepLaws.{areas_next, is_number, orderly, moved_on, stays_orderly, state_after, changed, kept-on, stepped}
 
 -- ---- the ranges of a process that comes or goes
 

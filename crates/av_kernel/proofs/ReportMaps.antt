@@ -17,6 +17,7 @@ use Rattle.av_reclaim.specs.Mem.{setting, count, Keeps}
 use Rattle.av_reclaim.proofs.MemLaws.{lives_is}
 use Rattle.av_kernel.specs.Report.{AreRuns}
 use Rattle.av_kernel.specs.Step.{MemSteps}
+use Rattle.av_kernel.proofs.StepLaws.{areas_next}
 
 module _ (k : Mem) (s : State) (p : ℕ) (areas : List Area) (rows : List Row) (keeps : Keeps k s) (alive : is_some (areas_of k.spaces p) ≡ true) (are : areas_of k.spaces p ≡ Some areas) (runs : AreRuns (map range_of areas) rows) where
   allowed : refusal (tests (setting (count k)) s.world s.ledger (Maps p)) ≡ None

@@ -10,6 +10,7 @@ use Rattle.av_plain.proofs.Report.Totals.{free-once, totals-plain}
 use Rattle.av_reclaim.specs.declared.mem.Mem.{Mem}
 use Rattle.av_reclaim.specs.Mem.{setting, view, count, Keeps}
 use Rattle.av_kernel.specs.Step.{MemSteps, answer_only}
+use Rattle.av_kernel.proofs.StepLaws.{areas_next}
 
 -- what the kernel counts is what the ledger has
 pub counted : (k : Mem) (s : State) (processes : ℕ) → Keeps k s → ((f : ℕ) → how_many (λ g. f == g) (view k).free ≤ 1) → ((f : ℕ) → is_in f (view k).free ≡ true → f < count k) → processes ≡ length k.spaces

@@ -52,7 +52,7 @@ other_number q p e = grind (arith, nat_tests)
 
 -- no area has an anon_vma yet
 no_lengths : (anons : Anons) → no_anons ≡ anons → chain_length anons ≡ no_chains
-no_lengths anons none = (λ i. chain_length (none (~ i))) ∙ (λ i own. length (no-chain own i))
+no_lengths anons none = ap chain_length (sym none) ∙ (λ i own. length (no-chain own i))
 
 -- so the areas after a command are those without one
 pub areas_next : (s : State) (command : Command) (answer : Answer) (on : Areas) → no_anons ≡ s.anons → on ≡ next_areas no_chains s.areas s.world command answer → AreNext s.areas s.anons s.world command answer on s.anons
@@ -60,6 +60,12 @@ areas_next s command answer on none is = record {
   areas = is ∙ ap (λ long. next_areas long s.areas s.world command answer) (sym (no_lengths s.anons none));
   anons = subst (λ a. AreLeft a on a) none (left-none on);
 }
+
+-- and where a command leaves them as they were
+pub areas_kept : (s next : State) (command : Command) (answer : Answer) → next_areas no_chains s.areas s.world command answer ≡ s.areas → next.areas ≡ s.areas → next.anons ≡ s.anons → no_anons ≡ next.anons
+    → AreNext s.areas s.anons s.world command answer next.areas next.anons
+areas_kept s next command answer stay areas anons none = subst (AreNext s.areas s.anons s.world command answer next.areas) (sym anons)
+    (areas_next s command answer next.areas (none ∙ anons) (areas ∙ sym stay))
 
 -- ---- a refusal
 

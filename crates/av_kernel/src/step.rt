@@ -17,7 +17,7 @@ use std::alloc::{AllocError, Global};
 
 /// A reply without notes or rows.
 pub fn answer_only(alloc: Global, answer: Answer) -> Reply
-    ensures { result ≡ step.answered answer }
+    ensures { result ≡ step.answer_only answer }
 {
     Reply {
         answer,

@@ -12,3 +12,4 @@ pub mod Sound
 pub mod NoDevice
 pub mod FreeFrames
 pub mod AreasLeft
+pub mod Device

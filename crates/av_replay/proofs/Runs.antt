@@ -20,7 +20,8 @@ use Rattle.av_replay.specs.Line.{IsLine}
 use Rattle.av_replay.specs.Turn.{texts, tally_of, Commands, Answers, TakesLine}
 use Rattle.av_replay.specs.Replay.{all_lines, Transcribes, Run, IsLeft, IsAtStart}
 use Rattle.av_replay.proofs.Bytes.{Took-then, Took-none, Gained-then, Gained-none, rose_none, rose_then}
-use Rattle.av_replay.proofs.Times.{later_same, later_then, setting_same}
+use Rattle.av_plain.proofs.Device.{setting_same}
+use Rattle.av_replay.proofs.Times.{later_same, later_then}
 
 -- ---- lists that grow at the end
 

@@ -1,9 +1,7 @@
 -- Sources and sinks from one time to the next.
 use Rattle.std.proofs.Common.{◌≡◌, ℕ, ◌≤◌, List, length, refl, ◌∙◌, arith}
-use Rattle.std.specs.Prelude.{Option, option_map, option_and_then}
-use Rattle.av_swapdev.specs.Header.{Layout, header_of}
 use Rattle.av_io.specs.Sink.{SinkView}
-use Rattle.av_plain.specs.Device.{Device, IsSameDevice, setting_of, without_fault}
+use Rattle.av_plain.specs.Device.{Device, IsSameDevice}
 use Rattle.av_replay.specs.Streams.{Streams, room, IsLater, ReadsOn, Writes}
 
 -- ---- a device
@@ -13,13 +11,6 @@ device_same a = record { sizes = refl; first = refl; faults = omega arith }
 
 pub device_then : (a b c : Device) → IsSameDevice a b → IsSameDevice b c → IsSameDevice a c
 device_then a b c p q = record { sizes = q.sizes ∙ p.sizes; first = q.first ∙ p.first; faults = omega (arith, p.faults, q.faults) }
-
--- what does not change in a run over it
-abbrev headers_by : (ℕ → Option ℕ) → Option (ℕ → List ℕ) → Option (ℕ → Option Layout)
-headers_by sizes first = option_map (λ first k. option_and_then (λ n. without_fault (header_of (first k) n)) (sizes k)) first
-
-pub setting_same : (n : ℕ) (a b : Device) → IsSameDevice a b → setting_of n b ≡ setting_of n a
-setting_same n a b h = λ i. record { frames = n; sizes = h.sizes i; headers = headers_by (h.sizes i) (h.first i) }
 
 -- ---- all of them
 

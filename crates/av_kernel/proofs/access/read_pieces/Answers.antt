@@ -7,6 +7,11 @@ use Rattle.av_kernel.proofs.access.read_pieces.Goals as goal
 no_write : false ≡ true → ⊥
 no_write e = cc
 
+pub read_page-requires-clause-steady : goal.read_page-requires-clause-steady
+read_page-requires-clause-steady c =
+    let h = c.loop-done.invariant.access c.requires.steady.0 c.requires.steady.1 in
+    (h.next, h.keeps)
+
 pub returns-in-Some-clause-access : goal.returns-in-Some-clause-access
 returns-in-Some-clause-access c = λ s keeps.
     let k = c.loop-done.done in
