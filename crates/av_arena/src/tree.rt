@@ -5,9 +5,7 @@ ghost use Rattle.av_arena.specs.Arena.{store_of};
 ghost use Rattle.av_arena.specs.Below.{IsSplit, IsSplitFor};
 
 use crate::arena::Arena;
-use crate::below::{
-    is_at, placed_below, removed_below, replaced_below, settle, split_below, take,
-};
+use crate::below::{is_at, placed_below, removed_below, replaced_below, settle, split_below, take};
 use crate::entry::Entry;
 use crate::link::{Link, Stored};
 
