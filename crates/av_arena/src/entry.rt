@@ -2,8 +2,7 @@ ghost use Rattle.std.specs.Prelude.{◌≡◌, ℕ, nat_lt, true};
 ghost use Rattle.av_arena.specs.Monoid.{MonoidLaws};
 
 /// What a tree needs of its entries: a key, by which they are ordered, and a summary of each, which
-/// joins to the
-/// summary of a row.
+/// joins to the summary of a row.
 ///
 /// The laws are those of a monoid: joining is associative, and the summary of no entry joins as
 /// nothing.
@@ -29,7 +28,8 @@ pub trait Entry: Copy + Drop {
 
     /// Whether two summaries are the same. A change stops where a summary stays.
     fn is_same(left: Self::Sum, right: Self::Sum) -> bool
-        ensures { result ≡ true → left ≡ right };
+        ensures same { result ≡ true → left ≡ right }
+        ensures told { left ≡ right → result ≡ true };
 
     /// The summary of a row of entries, by those of what stands before and after the one in the
     /// middle.

@@ -24,6 +24,3 @@ pub use avl::{Avl, Part};
 pub use entry::Entry;
 pub use link::{Link, Stored};
 pub use tree::{place, remove};
-
-#[cfg(test)]
-mod tests;

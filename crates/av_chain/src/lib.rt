@@ -16,8 +16,6 @@ mod nodes;
 mod parts;
 pub mod ring;
 mod rows;
-#[cfg(test)]
-mod tests;
 pub mod users;
 
 pub use links::Links;

@@ -5,8 +5,8 @@ ghost use Rattle.av_chain.specs.Links.{chain_of, users_of, without, first_in, af
 
 use crate::lists::Lists;
 use crate::ring::{Ring, unlink_from};
-use av_base::Steps;
 use crate::users::Users;
+use av_base::Steps;
 use std::alloc::{AllocError, Global};
 use std::marker::Model;
 use std::sync::ledger::Ledger;

@@ -5,9 +5,6 @@
 //! only `new` can want memory.
 #![tactic(auto)]
 
-#[cfg(test)]
-mod tests;
-
 ghost use Rattle.std.specs.Prelude.{◌≡◌, ℕ, ◌+◌, ◌*◌, ◌/◌, ◌^◌, ◌<◌, ◌≤◌, [], length, map, IfOk, IfNone, IfSome, MatchOption, position, count_by, slice_set, replicate, ◌==◌, if◌then◌else◌, true, false, not};
 ghost use Rattle.std.specs.List.{range_with_len};
 ghost use Rattle.av_base.specs.Words.{is_in};

@@ -9,6 +9,3 @@
 mod fault;
 
 pub use fault::{Stop, Touched, touch};
-
-#[cfg(test)]
-mod tests;

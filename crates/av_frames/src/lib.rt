@@ -7,8 +7,6 @@
 #![tactic(auto)]
 
 mod pages;
-#[cfg(test)]
-mod tests;
 
 ghost use Rattle.std.specs.Prelude.{◌≡◌, ℕ, ◌+◌, ◌<◌, ◌≤◌, ◌^◌, ◌-◌, ◌∷◌, ◌==◌, [], length, slice_index, MatchOption, IfOk, true, false, replicate, not};
 ghost use Rattle.av_frames.specs.Store.{seen, fresh, overlaid, with_bytes, with_maps, with_home, with_dirty, with_slot};

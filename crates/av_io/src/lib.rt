@@ -12,6 +12,3 @@ mod source;
 pub use faults::{Failed, Faults};
 pub use sink::{MemSink, Sink, SinkErr, WriteSink};
 pub use source::{MemSource, ReadSource, Source};
-
-#[cfg(test)]
-mod tests;

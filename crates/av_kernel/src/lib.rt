@@ -19,6 +19,3 @@ mod tally;
 
 pub use kernel::Kernel;
 pub use tally::Tally;
-
-#[cfg(test)]
-mod tests;

@@ -2,9 +2,6 @@
 //! first (inactive).
 #![tactic(auto)]
 
-#[cfg(test)]
-mod tests;
-
 ghost use Rattle.std.specs.Prelude.{◌≡◌, ◌≢◌, ◌⊎◌, ℕ, ◌+◌, ◌-◌, ◌<◌, ◌≤◌, ◌^◌, [], ◌∷◌, ◌++◌, length, slice_index, IfOk, true, false, Some, None, nat_lt, replicate, take, reverse, vec_capacity, if◌then◌else◌};
 ghost use Rattle.av_lru.specs.Lists.{list_of, with_list, without_frame, last_of, frame_before, place_in, IsApart};
 ghost use Rattle.av_base.specs.Words.{is_in};

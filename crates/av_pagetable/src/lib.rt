@@ -13,8 +13,6 @@ mod pte;
 mod radix;
 mod table;
 mod tables;
-#[cfg(test)]
-mod tests;
 
 pub use pte::Pte;
 pub use radix::RadixTable;

@@ -11,6 +11,3 @@ mod zap;
 
 pub use mem::Mem;
 pub use zap::{zap_all, zap_range};
-
-#[cfg(test)]
-mod tests;

@@ -18,6 +18,3 @@ mod write;
 
 pub use status::Status;
 pub use top_call::{Outcome, run};
-
-#[cfg(test)]
-mod tests;

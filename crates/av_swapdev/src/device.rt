@@ -44,7 +44,10 @@ pub trait SwapDev {
         ensures same_sizes { OnErr result (sizes self.new ≡ sizes self.old) }
         ensures same_pages { OnErr result (pages self.new ≡ pages self.old) }
         ensures never_falls { faults self.old ≤ faults self.new }
-        ensures cause { IsErrOf result AttachErr.Failed → Rose (faults self.old) (faults self.new) };
+        ensures cause { IsErrOf result AttachErr.Failed → Rose (faults self.old) (faults self.new) }
+        ensures unfailed { OnOk result (faults self.new ≡ faults self.old) }
+        ensures unfailed_memory { IsErrOf result AttachErr.Memory
+            → faults self.new ≡ faults self.old };
 
     /// Reads a page. After an error `into` has any bytes.
     fn read(&mut self, area: u8, page: u32, into: &mut [u8]) -> Result<(), Failed>
@@ -54,7 +57,8 @@ pub trait SwapDev {
         ensures same_pages { pages self.new ≡ pages self.old }
         ensures same_sizes { sizes self.new ≡ sizes self.old }
         ensures never_falls { faults self.old ≤ faults self.new }
-        ensures cause { OnErr result (Rose (faults self.old) (faults self.new)) };
+        ensures cause { OnErr result (Rose (faults self.old) (faults self.new)) }
+        ensures unfailed { OnOk result (faults self.new ≡ faults self.old) };
 
     /// Writes a page. After an error it holds any bytes.
     fn write(&mut self, area: u8, page: u32, from: &[u8]) -> Result<(), Failed>
@@ -65,5 +69,6 @@ pub trait SwapDev {
         ensures spoiled { OnErr result (IsSpoiled area page (pages self.old) (pages self.new)) }
         ensures same_sizes { sizes self.new ≡ sizes self.old }
         ensures never_falls { faults self.old ≤ faults self.new }
-        ensures cause { OnErr result (Rose (faults self.old) (faults self.new)) };
+        ensures cause { OnErr result (Rose (faults self.old) (faults self.new)) }
+        ensures unfailed { OnOk result (faults self.new ≡ faults self.old) };
 }

@@ -15,6 +15,3 @@ pub use device::{AttachErr, PAGE_LEN, SwapDev};
 pub use file_dev::FileDev;
 pub use header::{Header, HeaderFault, bad_pages, is_bad, read_header};
 pub use mem_dev::MemDev;
-
-#[cfg(test)]
-mod tests;

@@ -94,9 +94,14 @@ impl SwapDev for MemDev {
             self.new }
         ensures cause { OnErr result (Rose (⟦<MemDev as SwapDev>⟧.faults self.old)
             (⟦<MemDev as SwapDev>⟧.faults self.new)) }
-        // Beside what the trait says: exactly the calls that are listed fail; all pages of the area
-        // are used, and they stay.
+        ensures unfailed { OnOk result (⟦<MemDev as SwapDev>⟧.faults self.new
+            ≡ ⟦<MemDev as SwapDev>⟧.faults self.old) }
+        ensures unfailed_memory { IsErrOf result AttachErr.Memory
+            → ⟦<MemDev as SwapDev>⟧.faults self.new ≡ ⟦<MemDev as SwapDev>⟧.faults self.old }
+        // Beside what the trait says: exactly the calls that are listed fail, and none for memory;
+        // all pages of the area are used, and they stay.
         ensures calls { IsNextCall self.old.faults self.new.faults (is_err result) }
+        ensures failed { OnErr result (IsErrOf result AttachErr.Failed) }
         ensures all { IfOk result (λ n. n ≡ size_in self.old.areas.items area) }
         ensures kept { ⟦<MemDev as SwapDev>⟧.pages self.new ≡ ⟦<MemDev as SwapDev>⟧.pages self.old }
     {
@@ -120,6 +125,8 @@ impl SwapDev for MemDev {
             self.new }
         ensures cause { OnErr result (Rose (⟦<MemDev as SwapDev>⟧.faults self.old)
             (⟦<MemDev as SwapDev>⟧.faults self.new)) }
+        ensures unfailed { OnOk result (⟦<MemDev as SwapDev>⟧.faults self.new
+            ≡ ⟦<MemDev as SwapDev>⟧.faults self.old) }
         // Beside what the trait says: exactly the calls that are listed fail.
         ensures calls { IsNextCall self.old.faults self.new.faults (is_err result) }
     {
@@ -143,6 +150,8 @@ impl SwapDev for MemDev {
             self.new }
         ensures cause { OnErr result (Rose (⟦<MemDev as SwapDev>⟧.faults self.old)
             (⟦<MemDev as SwapDev>⟧.faults self.new)) }
+        ensures unfailed { OnOk result (⟦<MemDev as SwapDev>⟧.faults self.new
+            ≡ ⟦<MemDev as SwapDev>⟧.faults self.old) }
         // Beside what the trait says: exactly the calls that are listed fail, and then each bit of
         // the page is inverted.
         ensures calls { IsNextCall self.old.faults self.new.faults (is_err result) }

@@ -7,6 +7,3 @@ mod digits;
 
 pub use counts::Counts;
 pub use digits::digits_are_worth_the_count;
-
-#[cfg(test)]
-mod tests;

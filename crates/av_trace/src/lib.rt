@@ -22,8 +22,6 @@ mod print;
 mod prot;
 mod reply;
 mod row;
-#[cfg(test)]
-mod tests;
 mod word;
 
 pub use bytes::Bytes;

@@ -7,6 +7,3 @@ mod areas;
 
 pub use area::{Area, index, mergeable, reusable};
 pub use areas::{AreaId, Areas};
-
-#[cfg(test)]
-mod tests;

@@ -1,0 +1,67 @@
+ghost use Rattle.std.specs.Prelude.{◌≡◌, false, ◌||◌};
+ghost use Rattle.av_arena.specs.Any.{any_laws};
+
+use av_arena::*;
+use std::test::Fail;
+
+/// An entry whose summary is whether any of a row is marked.
+#[derive(Clone, Copy, Drop, Debug, PartialEq, Eq)]
+struct Note {
+    key: u64,
+    marked: bool,
+}
+
+impl Entry for Note {
+    type Sum = bool;
+
+    ghost key = { λ n. n.key };
+
+    ghost unit = { false };
+
+    ghost of = { λ n. n.marked };
+
+    ghost op = { λ x y. x || y };
+
+    ghost laws = { any_laws };
+
+    fn is_before(&self, other: &Note) -> bool {
+        self.key < other.key
+    }
+
+    fn empty() -> bool {
+        false
+    }
+
+    fn is_same(left: bool, right: bool) -> bool {
+        left == right
+    }
+
+    fn join_sums(left: bool, middle: &Note, right: bool) -> bool {
+        left || middle.marked || right
+    }
+}
+
+fn entry(key: u64, marked: bool) -> Note
+    ensures key { result.key ≡ key }
+{
+    Note { key, marked }
+}
+
+#[test]
+fn entries_come_in_order_with_their_summary(rt: HostRuntime) -> Result<(), Fail> {
+    let alloc = rt.alloc();
+    let mut tree = Avl::new(alloc);
+    tree.insert(entry(3, false))?;
+    tree.insert(entry(2, true))?;
+    tree.insert(entry(1, false))?;
+    assert!(rt; tree.part().sum());
+    tree.replace(entry(2, false));
+    assert!(rt; !tree.part().sum());
+    tree.remove(entry(3, false));
+    let mut notes = Vec::new(alloc);
+    tree.part().append_to(&mut notes)?;
+    assert_eq!(rt; notes.len(), 2);
+    assert_eq!(rt; notes[0], entry(1, false));
+    assert_eq!(rt; notes[1], entry(2, false));
+    Ok(())
+}

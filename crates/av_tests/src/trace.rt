@@ -1,0 +1,145 @@
+use av_base::{Prot, Slot};
+use av_trace::*;
+use std::alloc::{AllocError, Global};
+use std::test::*;
+
+#[test]
+fn stored_bytes(rt: HostRuntime) {
+    match parse_line(rt.alloc(), b"write 7 7fffffffd000 00417f") {
+        Ok(
+            Some(
+                Command::Write {
+                    process,
+                    address,
+                    bytes,
+                },
+            ),
+        ) => {
+            assert_eq!(rt; process, 7);
+            assert_eq!(rt; address, 0x7fff_ffff_d000);
+            assert!(rt; bytes.as_slice() == b"\x00\x41\x7f".as_slice());
+        }
+        _ => assert!(rt; false),
+    }
+}
+
+/// Where the line's `mmap` puts the pages.
+fn place_of(alloc: Global, line: &[u8]) -> Option<Place> {
+    match parse_line(alloc, line) {
+        Ok(Some(Command::Mmap { place, .. })) => Some(place),
+        _ => None,
+    }
+}
+
+#[test]
+fn places(rt: HostRuntime) {
+    let alloc = rt.alloc();
+    assert_eq!(rt; place_of(alloc, b"mmap 1 4096 rw-"), Some(Place::Auto));
+    assert_eq!(rt;
+        place_of(alloc, b"mmap 1 4096 rw- at 1f"),
+        Some(Place::At(0x1f))
+    );
+    assert_eq!(rt;
+        place_of(alloc, b"mmap 1 4096 rw- fixed 1f"),
+        Some(Place::Fixed(0x1f))
+    );
+    assert_eq!(rt;
+        place_of(alloc, b"mmap 1 4096 rw- noreplace 1f"),
+        Some(Place::NoReplace(0x1f))
+    );
+}
+
+/// Whether this is the text of the reply.
+fn has_text(alloc: Global, reply: &Reply, wanted: &str) -> Result<bool, AllocError> {
+    let mut text = Bytes::new(alloc);
+    reply_text(reply, &mut text)?;
+    Ok(text.as_slice() == wanted.as_bytes())
+}
+
+fn reply_of(alloc: Global, answer: Answer) -> Reply {
+    Reply {
+        answer,
+        notes: Notes::new(alloc),
+        rows: Rows::new(alloc),
+    }
+}
+
+#[test]
+fn stops_and_bytes(rt: HostRuntime) -> Result<(), Fail> {
+    let alloc = rt.alloc();
+    let segv = Answer::Segv {
+        served: 2,
+        shown: Bytes::new(alloc),
+    };
+    assert!(rt; has_text(alloc, &reply_of(alloc, segv), "segv 2\n")?);
+    let bytes = Bytes::from_vec(Vec::from_slice(alloc, b"\x00\x41\x00")?);
+    assert!(rt;
+        has_text(
+            alloc,
+            &reply_of(alloc, Answer::Data(bytes)),
+            "data 004100\n"
+        )?
+    );
+    Ok(())
+}
+
+#[test]
+fn refusals_and_entries(rt: HostRuntime) -> Result<(), Fail> {
+    let alloc = rt.alloc();
+    let refused = Answer::Refused(Errno::Eagain);
+    assert!(rt; has_text(alloc, &reply_of(alloc, refused), "err EAGAIN\n")?);
+    let entry = Answer::EntryFrame {
+        frame: 5,
+        seen: false,
+        cached: Some(Slot { area: 3, page: 70 }),
+    };
+    assert!(rt; has_text(alloc, &reply_of(alloc, entry), "frame 5 old cached 3:70\n")?);
+    Ok(())
+}
+
+#[test]
+fn notes(rt: HostRuntime) -> Result<(), Fail> {
+    let alloc = rt.alloc();
+    let oom = Answer::Oom {
+        served: 1,
+        out: OutOf {
+            pinned: 0,
+            noslot: 1,
+            fault: 0,
+        },
+        shown: Bytes::new(alloc),
+    };
+    let mut reply = reply_of(alloc, oom);
+    reply.notes.push(Note::New {
+        process: 1,
+        address: 0x7fff_ffff_d000,
+        frame: 0,
+    })?;
+    let wanted = "oom 1 pinned=0 noslot=1 fault=0\n new 1 7fffffffd000 0\n";
+    assert!(rt; has_text(alloc, &reply, wanted)?);
+    Ok(())
+}
+
+/// A run that can be read.
+fn run(start: u64, end: u64, write: bool) -> Row {
+    Row::Run {
+        start,
+        end,
+        prot: Prot {
+            read: true,
+            write,
+            execute: false,
+        },
+    }
+}
+
+#[test]
+fn rows(rt: HostRuntime) -> Result<(), Fail> {
+    let alloc = rt.alloc();
+    let mut reply = reply_of(alloc, Answer::Runs(2));
+    reply.rows.push(run(0x10000, 0x12000, true))?;
+    reply.rows.push(run(0x12000, 0x13000, false))?;
+    let wanted = "runs 2\n 10000-12000 rw-\n 12000-13000 r--\n";
+    assert!(rt; has_text(alloc, &reply, wanted)?);
+    Ok(())
+}

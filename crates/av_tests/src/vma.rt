@@ -1,0 +1,30 @@
+use av_base::Prot;
+use av_vma::*;
+use std::test::Fail;
+
+fn area(pid: u16) -> Area {
+    Area {
+        pid,
+        start: 0x10000,
+        end: 0x11000,
+        prot: Prot {
+            read: true,
+            write: false,
+            execute: false,
+        },
+        flags: 0,
+        pgoff: 16,
+        anon: None,
+    }
+}
+
+#[test]
+fn areas_are_kept_by_number(rt: HostRuntime) -> Result<(), Fail> {
+    let mut areas = Areas::new(rt.alloc());
+    let one = areas.add(area(1))?;
+    let two = areas.add(area(2))?;
+    areas.change(one, area(3));
+    areas.remove(two);
+    assert_eq!(rt; areas.get(one).pid, 3);
+    Ok(())
+}
