@@ -19,6 +19,7 @@ use Rattle.av_plain.proofs.Ledger.NoSwap.{itself, key_at-page, free_is, zero_is}
 use Rattle.av_reclaim.specs.declared.mem.Mem.{Mem}
 use Rattle.av_fault.specs.declared.fault.Stop.TheVariants.{Oom}
 use Rattle.av_fault.specs.declared.fault.Touched.TheVariants.{Ready as ReadyAt, Stopped}
+use Rattle.av_spaces.specs.Kin.{AnonsFit}
 use Rattle.av_reclaim.specs.Mem.{setting, count, view, Keeps}
 use Rattle.av_fault.specs.Fault.{is_permitted, frame_named, one_more, one_less, IsTouched, IsTaken}
 use Rattle.av_fault.proofs.FaultParts.{of_keeps, no_swap}
@@ -39,7 +40,7 @@ copied_is p page f l = ap (λ (k : Key). to_inactive_head f (set_entry k (InFram
 abbrev numbers_of : ℕ → ℕ → OutOf
 numbers_of pinned n = record { pinned = pinned; noslot = n - pinned; fault = 0 }
 
-module _ (s : State) (old new : Mem) (p page : ℕ) (notes : List Note) (keeps : Keeps old s) (processes : has new.tables ≡ has old.tables) (same : count new ≡ count old)
+module _ (s : State) (old new : Mem) (p page : ℕ) (notes : List Note) (keeps : Keeps old s) (processes : has new.tables ≡ has old.tables) (same : count new ≡ count old) (order : AnonsFit new.spaces new.anons)
     (allowed : is_permitted true (prot_of (ranges_in ((view old).areas p)) page) ≡ true) where
   free_now : (f : ℕ) → f < count old → (view old).free ≡ f ∷ (view new).free → is_free s.ledger f ≡ true
   free_now f below first = sym (keeps.stands.parts.ledger.frames.free f below) ∙ ap (is_in f) first ∙ ap (λ b. b || is_in f (view new).free) (itself f)
@@ -54,14 +55,14 @@ module _ (s : State) (old new : Mem) (p page : ℕ) (notes : List Note) (keeps :
     is_bare_now = bare_entry (setting (count old)) (view old) s.world s.ledger (p, page) (entry_at old.tables p page) (of_keeps old s keeps) (λ t. refl) bare (keeps.stands.parts.ledger.tables.entries p page)
 
     pub new_starved : (out : OutOf) → view new ≡ view old → (view old).free ≡ [] → out ≡ numbers_of 0 (count new) → IsTouched s new true (p, page) notes notes (Stopped (Oom out))
-    new_starved out is empty numbers = starved s old new p page notes keeps processes same NewPage out is allowed (need_fresh s.ledger (entry s.ledger (p, page)) is_bare_now) refl empty
+    new_starved out is empty numbers = starved s old new p page notes keeps processes same order NewPage out is allowed (need_fresh s.ledger (entry s.ledger (p, page)) is_bare_now) refl empty
         (numbers ∙ ap (numbers_of 0) same ∙ out_is (setting (count old)) s.ledger None (of_keeps old s keeps).cache (λ g e. absurd (clash e)))
       where
         clash : {g : ℕ} → None ≡ Some g → ⊥
         clash e = cc
 
     pub new_made : (f : ℕ) (now : List Note) → now ≡ notes ++ New p (4096 * page) f ∷ [] → IsTaken old new p page f (λ i. 0) (one_more f (view old).maps) → IsTouched s new true (p, page) notes now (ReadyAt f)
-    new_made f now added is = given_now s old new p page notes keeps processes same now (New p (4096 * page) f) f (λ i. 0) (one_more f (view old).maps) added is allowed (new_is p page f s.ledger) refl
+    new_made f now added is = given_now s old new p page notes keeps processes same order now (New p (4096 * page) f) f (λ i. 0) (one_more f (view old).maps) added is allowed (new_is p page f s.ledger) refl
         (sym keeps.stands.free ∙ ap frames_free is.first)
         (serves (setting (count old)) (sparing s.world) s.ledger true (p, page) (New p (4096 * page) f ∷ []) NewPage (need_fresh s.ledger (entry s.ledger (p, page)) is_bare_now) refl
         (takes-alone (setting (count old)) (sparing s.world s.ledger None) s.ledger f (New p (4096 * page)) (no_swap (setting (count old)) (view old) s.world s.ledger (of_keeps old s keeps)) is.below (free_now f is.below is.first)) (of_keeps old s keeps).cache)
@@ -96,14 +97,14 @@ module _ (s : State) (old new : Mem) (p page : ℕ) (notes : List Note) (keeps :
     splits = need_split s.ledger from was (entry s.ledger (p, page)) (of_keeps old s keeps).cache named many
 
     pub copy_starved : (out : OutOf) → view new ≡ view old → (view old).free ≡ [] → out ≡ numbers_of 1 (count new) → IsTouched s new true (p, page) notes notes (Stopped (Oom out))
-    copy_starved out is empty numbers = starved s old new p page notes keeps processes same (CopyOnWrite from) out is allowed splits refl empty
+    copy_starved out is empty numbers = starved s old new p page notes keeps processes same order (CopyOnWrite from) out is allowed splits refl empty
         (numbers ∙ ap (numbers_of 1) same ∙ out_is (setting (count old)) s.ledger (Some from) (of_keeps old s keeps).cache (λ g e. subst (λ x. x < count old) (inner e) (named_frame old s p page from was keeps named).0))
       where
         inner : {x y : ℕ} → Some x ≡ Some y → x ≡ y
         inner e = cc
 
     pub copy_made : (f : ℕ) (now : List Note) → now ≡ notes ++ Copied p (4096 * page) f ∷ [] → IsTaken old new p page f ((view old).bytes from) (one_less from (one_more f (view old).maps)) → IsTouched s new true (p, page) notes now (ReadyAt f)
-    copy_made f now added is = given_now s old new p page notes keeps processes same now (Copied p (4096 * page) f) f ((view old).bytes from) (one_less from (one_more f (view old).maps)) added is allowed (copied_is p page f s.ledger) refl
+    copy_made f now added is = given_now s old new p page notes keeps processes same order now (Copied p (4096 * page) f) f ((view old).bytes from) (one_less from (one_more f (view old).maps)) added is allowed (copied_is p page f s.ledger) refl
         (sym keeps.stands.free ∙ ap frames_free is.first)
         (serves (setting (count old)) (sparing s.world) s.ledger true (p, page) (Copied p (4096 * page) f ∷ []) (CopyOnWrite from) splits refl
         (takes-alone (setting (count old)) (sparing s.world s.ledger (Some from)) s.ledger f (Copied p (4096 * page)) (no_swap (setting (count old)) (view old) s.world s.ledger (of_keeps old s keeps)) is.below (free_now f is.below is.first)) (of_keeps old s keeps).cache)

@@ -20,6 +20,7 @@ use Rattle.av_plain.proofs.Ledger.{same_key, same_key-is, entry-set, map_count-s
 use Rattle.av_plain.proofs.Ledger.NoSwap.{itself, key_is, no_slot, free_is, shared_is}
 use Rattle.av_reclaim.specs.declared.mem.Mem.{Mem}
 use Rattle.av_reclaim.proofs.MemLaws.{no_cache, no_frame_at, slot_kept, nothing_clean}
+use Rattle.av_spaces.specs.Kin.{AnonsFit}
 use Rattle.av_reclaim.specs.Mem.{setting, count, view, Keeps, KeepsWithin, HasTables}
 
 pub record Parts (m : Setting) (v : View) (w : World) (l : Ledger) : Type 0 where
@@ -58,8 +59,8 @@ of_stand k w l h =
       bytes = h.parts.bytes;
     }
 
-pub to_stand : (k : Mem) (w : World) (l : Ledger) → Parts (setting (count k)) (view k) w l → HasTables k → KeepsWithin k w l
-to_stand k w l h tables = record {
+pub to_stand : (k : Mem) (w : World) (l : Ledger) → Parts (setting (count k)) (view k) w l → HasTables k → AnonsFit k.spaces k.anons → KeepsWithin k w l
+to_stand k w l h tables order = record {
   in_order = h.in_order;
   at_pages = h.at_pages;
   parts = record {
@@ -69,10 +70,11 @@ to_stand k w l h tables = record {
     headers = no_headers (setting (count k)) l h.on;
   };
   tables = tables;
+  anons = order;
 }
 
 pub of_keeps : (k : Mem) (s : State) → Keeps k s → Parts (setting (count k)) (view k) s.world s.ledger
-of_keeps k s h = of_stand k s.world s.ledger (record { in_order = h.stands.sound.ledger.in_order; at_pages = h.stands.sound.at_pages; parts = h.stands.parts; tables = h.tables })
+of_keeps k s h = of_stand k s.world s.ledger (record { in_order = h.stands.sound.ledger.in_order; at_pages = h.stands.sound.at_pages; parts = h.stands.parts; tables = h.tables; anons = h.anons })
 
 -- nothing of the ledger is of swap
 pub no_swap : (m : Setting) (v : View) (w : World) (l : Ledger) → Parts m v w l → HasNoSwap l

@@ -18,6 +18,7 @@ use Rattle.av_vma.specs.declared.area.Area.{Area}
 use Rattle.av_spaces.specs.Spaces.{Spaces, pages_of}
 use Rattle.av_reclaim.specs.declared.mem.Mem.{Mem}
 use Rattle.av_fault.specs.declared.fault.Touched.TheVariants.{Ready}
+use Rattle.av_spaces.specs.Kin.{AnonsFit}
 use Rattle.av_reclaim.specs.Mem.{ranges_of, setting, count, plain, view, Keeps, IsSteady}
 use Rattle.av_fault.specs.Fault.{is_permitted, frame_named, IsTouched}
 use Rattle.av_fault.proofs.FaultParts.{of_keeps, as_pte}
@@ -51,8 +52,8 @@ none_away k p page t steady is =
     (sym (steady.1.stands.parts.ledger.tables.entries p page) ∙ ap (λ e. entry_of (plain e)) is)
 
 -- a process that may access a page has a table
-pub process_there : (k : Mem) (p page : ℕ) (write : Bool) → IsSteady k → is_permitted write (prot_of (ranges_of k.spaces p) page) ≡ true → has k.tables p ≡ true
-process_there k p page write steady allowed = steady.1.tables p ∙ by (ranges_of k.spaces p) allowed
+pub process_there : (k : Mem) (p page : ℕ) (write : Bool) → IsSteady k → is_permitted write (prot_of (ranges_of k.spaces.processes p) page) ≡ true → has k.tables p ≡ true
+process_there k p page write steady allowed = steady.1.tables p ∙ by (ranges_of k.spaces.processes p) allowed
   where
     by : (o : Option (List Range)) → is_permitted write (prot_of o page) ≡ true → is_some o ≡ true
     by None h = absurd (false≢true h)
@@ -70,19 +71,23 @@ few_by_bit k s p page f bit was keeps is writes =
 pub frame_entry : (k : Mem) (s : State) (p page f : ℕ) (bit was : Bool) → Keeps k s → entry_at k.tables p page ≡ Here f bit was → entry s.ledger (p, page) ≡ Some (InFrame f was)
 frame_entry k s p page f bit was keeps is = sym (keeps.stands.parts.ledger.tables.entries p page) ∙ ap (λ e. entry_of (plain e)) is
 
+-- where areas and anon_vmas stay there is chain order still
+pub order_still : (old new : Mem) → new.spaces ≡ old.spaces → new.anons ≡ old.anons → AnonsFit old.spaces old.anons → AnonsFit new.spaces new.anons
+order_still old new spaces anons order = subst (λ s. AnonsFit s new.anons) (sym spaces) (subst (AnonsFit old.spaces) (sym anons) order)
+
 -- where it is marked as seen already, the page is ready
-pub seen_there : (k : Mem) (s : State) (p page f : ℕ) (write bit : Bool) (notes : List Note) → Keeps k s → is_permitted write (prot_of (ranges_of k.spaces p) page) ≡ true → entry_at k.tables p page ≡ Here f bit true
+pub seen_there : (k : Mem) (s : State) (p page f : ℕ) (write bit : Bool) (notes : List Note) → Keeps k s → is_permitted write (prot_of (ranges_of k.spaces.processes p) page) ≡ true → entry_at k.tables p page ≡ Here f bit true
     → (write ≡ true → bit ≡ true) → IsTouched s k write (p, page) notes notes (Ready f)
 seen_there k s p page f write bit notes keeps allowed is own =
-    marked s k k p page notes keeps refl refl write bit true f (again p page (as_pte (InFrame f true) bit) (view k) (ap plain is)) allowed (frame_entry k s p page f bit true keeps is)
+    marked s k k p page notes keeps refl refl keeps.anons write bit true f (again p page (as_pte (InFrame f true) bit) (view k) (ap plain is)) allowed (frame_entry k s p page f bit true keeps is)
     (few_by_bit k s p page f bit true keeps is) (λ writes. few_by_bit k s p page f bit true keeps is (own writes))
 
 -- it is marked as seen
-pub seen_now : (k new : Mem) (s : State) (p page f : ℕ) (write bit bit' was : Bool) (notes : List Note) → Keeps k s → is_permitted write (prot_of (ranges_of k.spaces p) page) ≡ true → entry_at k.tables p page ≡ Here f bit was
-    → entry_at new.tables ≡ with_entry p page (Here f bit' true) (entry_at k.tables) → has new.tables ≡ has k.tables → new.frames ≡ k.frames → new.spaces ≡ k.spaces
+pub seen_now : (k new : Mem) (s : State) (p page f : ℕ) (write bit bit' was : Bool) (notes : List Note) → Keeps k s → is_permitted write (prot_of (ranges_of k.spaces.processes p) page) ≡ true → entry_at k.tables p page ≡ Here f bit was
+    → entry_at new.tables ≡ with_entry p page (Here f bit' true) (entry_at k.tables) → has new.tables ≡ has k.tables → new.frames ≡ k.frames → new.spaces ≡ k.spaces → new.anons ≡ k.anons
     → (bit' ≡ true → map_count s.ledger f ≤ 1) → (write ≡ true → map_count s.ledger f ≤ 1) → IsTouched s new write (p, page) notes notes (Ready f)
-seen_now k new s p page f write bit bit' was notes keeps allowed is entries processes frames spaces few own =
-    marked s k new p page notes keeps processes (ap (λ f. (seen f).count) frames) write bit' was f (entry_put_in k new p page (Here f bit' true) entries frames spaces) allowed (frame_entry k s p page f bit was keeps is) few own
+seen_now k new s p page f write bit bit' was notes keeps allowed is entries processes frames spaces anons few own =
+    marked s k new p page notes keeps processes (ap (λ f. (seen f).count) frames) (order_still k new spaces anons keeps.anons) write bit' was f (entry_put_in k new p page (Here f bit' true) entries frames spaces anons) allowed (frame_entry k s p page f bit was keeps is) few own
 
 -- whether an access is permitted, by the area on the page
 pub may_be : (s : Spaces) (p page : ℕ) (write : Bool) (o : Option Area) → o ≡ pages_of s p page → is_permitted write (option_map prot_on o) ≡ is_permitted write (prot_of (ranges_of s p) page)

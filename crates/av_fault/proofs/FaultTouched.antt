@@ -1,5 +1,6 @@
 -- A page that has been touched: its notes are lawful, and the parts stand after them and its use.
-use Rattle.std.proofs.Common.{◌≡◌, ℕ, ◌+◌, ◌*◌, ◌<◌, ◌≤◌, Bool, true, false, cond, not, ◌&&◌, zero, suc, filter, T, List, [], ◌∷◌, ◌++◌, Option, Some, None, refl, sym, ap, subst, ◌∙◌, arith, ◌==◌, is_some, append-nil}
+use Rattle.std.proofs.Common.{◌≡◌, ℕ, ◌+◌, ◌*◌, ◌<◌, ◌≤◌, Bool, true, false, cond, not, ◌&&◌, zero, suc, filter, T, List, [], ◌∷◌, ◌++◌, Option, Some, None, refl, sym, ap, subst, ◌∙◌, arith, ◌==◌, is_some, option_map, append-nil}
+use Rattle.std.specs.Prelude.{IfSome}
 use Rattle.std.specs.FinMap.Entries.{is_sorted}
 use Rattle.av_base.specs.declared.slot.Slot.{Slot}
 use Rattle.std.proofs.lemmas.Bool.Decides.{nat_tests}
@@ -16,7 +17,7 @@ use Rattle.av_plain.specs.Fault.{Serves, Touches, Starved, sparing, need, Need, 
 use Rattle.av_plain.specs.Access.{page_events}
 use Rattle.av_plain.specs.Choice.{AreaSlots, Chooses, ChoosesAll, ChoosesSlot, SwitchesArea, frame_in_note, new_free, no_slots, slot_in, slot_in_note}
 use Rattle.av_plain.proofs.Choice.{chooses-kept, chooses-taken, no-slot-chosen, new_free-none, new_free-set}
-use Rattle.av_plain.specs.Stands.{AreasAre, View, Pte as Plain, free_of, prot_of, ranges_in, Holds}
+use Rattle.av_plain.specs.Stands.{AnonsStand, kin_of, AreasAre, View, Pte as Plain, free_of, prot_of, ranges_in, Holds}
 use Rattle.av_plain.specs.Transcript.{State}
 use Rattle.av_plain.proofs.Ledger.Order.{weight}
 use Rattle.av_plain.proofs.Ledger.{same_key-is, same_key-itself, entry-set, map_count-set}
@@ -26,6 +27,8 @@ use Rattle.av_fault.specs.declared.fault.Stop.TheVariants.{Segv, Oom}
 use Rattle.av_fault.specs.declared.fault.Touched.TheVariants.{Ready as ReadyAt, Zeros, Stopped}
 use Rattle.av_vma.specs.Pages.{pages_in}
 use Rattle.av_reclaim.proofs.MemLaws.{frames_free}
+use Rattle.av_plain.specs.Areas.{Anons, Areas, chain_of}
+use Rattle.av_spaces.specs.Kin.{AnonsFit}
 use Rattle.av_reclaim.specs.Mem.{setting, count, view, Keeps, KeepsWithin, HasTables}
 use Rattle.av_fault.specs.Fault.{is_permitted, IsTouched, IsTaken}
 use Rattle.av_fault.proofs.FaultParts.{Parts, changed, as_pte, of_keeps, to_stand, no_swap}
@@ -125,8 +128,16 @@ takes_no_slot (Aged g) f e = refl
 pub tables_still : (old new : Mem) → HasTables old → has new.tables ≡ has old.tables → (view new).areas ≡ (view old).areas → HasTables new
 tables_still old new h tables areas = λ p. ap (λ f. f p) tables ∙ h p ∙ sym (ap (λ f. is_some (ranges_in (f p))) areas)
 
-pub stand_now : (old new : Mem) (w : World) (l : Ledger) (v : View) → view new ≡ v → count new ≡ count old → Parts (setting (count old)) v w l → HasTables new → KeepsWithin new w l
-stand_now old new w l v is same parts tables = to_stand new w l (subst (λ n. Parts (setting n) (view new) w l) (sym same) (subst (λ v. Parts (setting (count old)) v w l) (sym is) parts)) tables
+pub stand_now : (old new : Mem) (w : World) (l : Ledger) (v : View) → view new ≡ v → count new ≡ count old → Parts (setting (count old)) v w l → HasTables new → AnonsFit new.spaces new.anons → KeepsWithin new w l
+stand_now old new w l v is same parts tables order = to_stand new w l (subst (λ n. Parts (setting n) (view new) w l) (sym same) (subst (λ v. Parts (setting (count old)) v w l) (sym is) parts)) tables order
+
+-- the anon_vmas are as they were
+pub anons_still : (v v' : View) (areas : Areas) (anons : Anons) → v'.anons ≡ v.anons → AnonsStand v areas anons → AnonsStand v' areas anons
+anons_still v v' areas anons same h = record {
+  next = ap (λ (a : Anons). a.next) same ∙ h.next;
+  kin = λ n. ap (λ (a : Anons). option_map kin_of (a.anon n)) same ∙ h.kin n;
+  chains = λ p page. subst (λ (a : Anons). IfSome (areas p page) (λ area. chain_of a area.anon ≡ chain_of anons area.anon)) (sym same) (h.chains p page);
+}
 
 module _ (s : State) (old new : Mem) (p page : ℕ) (notes : List Note) (keeps : Keeps old s) where
   parts : Parts (setting (count old)) (view old) s.world s.ledger
@@ -139,7 +150,7 @@ module _ (s : State) (old new : Mem) (p page : ℕ) (notes : List Note) (keeps :
     notes = sym (append-nil notes);
     touches = (allowed_is (view old) s.world write p page keeps.stands.parts.areas ∙ refused, refl);
     ready = tt;
-    parts = to_stand old s.world s.ledger (of_keeps old s keeps) keeps.tables;
+    parts = to_stand old s.world s.ledger (of_keeps old s keeps) keeps.tables keeps.anons;
     free = keeps.stands.free;
     areas = keeps.stands.areas;
     anons = keeps.stands.anons;
@@ -154,13 +165,13 @@ module _ (s : State) (old new : Mem) (p page : ℕ) (notes : List Note) (keeps :
         notes = sym (append-nil notes);
         touches = (allowed_is (view old) s.world false p page keeps.stands.parts.areas ∙ allowed, serves (setting (count old)) (sparing s.world) s.ledger false (p, page) [] Ready (ap (need false s.ledger) is) refl refl (of_keeps old s keeps).cache);
         ready = (ap (λ l. entry l (p, page)) still ∙ is, refl);
-        parts = subst (KeepsWithin old s.world) (sym still) (to_stand old s.world s.ledger (of_keeps old s keeps) keeps.tables);
+        parts = subst (KeepsWithin old s.world) (sym still) (to_stand old s.world s.ledger (of_keeps old s keeps) keeps.tables keeps.anons);
         free = (s.free, chooses-kept (setting (count old)) None s.ledger (Used false (p, page)) s.free (unslotted (count old) s.ledger (Used false (p, page)) s.free.slots refl refl) refl (none_freed (setting (count old)) s.ledger (after_use false (p, page) s.ledger) still), keeps.stands.free);
         areas = keeps.stands.areas;
         anons = keeps.stands.anons;
       }
 
-  module _ (processes : has new.tables ≡ has old.tables) (same : count new ≡ count old) where
+  module _ (processes : has new.tables ≡ has old.tables) (same : count new ≡ count old) (order : AnonsFit new.spaces new.anons) where
     -- no frame is free
     pub starved : (n : Need) (out : OutOf) → view new ≡ view old → is_permitted true (prot_of (ranges_in ((view old).areas p)) page) ≡ true → need true s.ledger (entry s.ledger (p, page)) ≡ n → wants_frame n ≡ true → (view old).free ≡ []
         → out ≡ out_of (setting (count old)) (pinned_by n) (sparing s.world s.ledger (pinned_by n)) s.ledger → IsTouched s new true (p, page) notes notes (Stopped (Oom out))
@@ -170,10 +181,10 @@ module _ (s : State) (old new : Mem) (p page : ℕ) (notes : List Note) (keeps :
       touches = subst (λ c. Touches (setting c) s.world s.ledger true (p, page) [] (Some (Starved out))) (sym same)
           (allowed_is (view old) s.world true p page keeps.stands.parts.areas ∙ allowed, runs_out (setting (count old)) s.world s.ledger (p, page) n out (no_swap (setting (count old)) (view old) s.world s.ledger (of_keeps old s keeps)) needs wants (nothing_free (setting (count old)) (view old) s.world s.ledger (of_keeps old s keeps) empty) numbers);
       ready = tt;
-      parts = stand_now old new s.world s.ledger (view old) is same (of_keeps old s keeps) (tables_still old new keeps.tables processes (ap (λ (v : View). v.areas) is));
+      parts = stand_now old new s.world s.ledger (view old) is same (of_keeps old s keeps) (tables_still old new keeps.tables processes (ap (λ (v : View). v.areas) is)) order;
       free = ap free_of is ∙ keeps.stands.free;
       areas = λ q o. ap (λ (v : View). pages_in (v.areas q) o) is ∙ keeps.stands.areas q o;
-      anons = ap (λ (v : View). v.anons) is ∙ keeps.stands.anons;
+      anons = anons_still (view old) (view new) s.areas s.anons (ap (λ (v : View). v.anons) is) keeps.stands.anons;
     }
 
     -- its entry is a frame, which a write has for itself; it is marked as seen
@@ -193,14 +204,14 @@ module _ (s : State) (old new : Mem) (p page : ℕ) (notes : List Note) (keeps :
           );
           parts = subst (KeepsWithin new s.world) (sym use_is) (stand_now old new s.world (set_entry (p, page) (InFrame f true) s.ledger) _ is same
               (seen (setting (count old)) (view old) s.world s.ledger p page f was bit (of_keeps old s keeps) (there_is s.world write p page permit) named few)
-              (tables_still old new keeps.tables processes (ap (λ (v : View). v.areas) is)));
+              (tables_still old new keeps.tables processes (ap (λ (v : View). v.areas) is)) order);
           free = subst (λ n. ChoosesAll (setting n) None s.ledger (page_events write (p, page) [] None) s.free (free_of (view new))) (sym same) (
             s.free,
             chooses-kept (setting (count old)) None s.ledger (Used write (p, page)) s.free (unslotted (count old) s.ledger (Used write (p, page)) s.free.slots refl refl) refl (seen_frees_none (setting (count old)) s.ledger (after_use write (p, page) s.ledger) (p, page) f was use_is (of_keeps old s keeps).in_order named),
             ap free_of is ∙ keeps.stands.free,
           );
           areas = λ q o. ap (λ (v : View). pages_in (v.areas q) o) is ∙ keeps.stands.areas q o;
-          anons = ap (λ (v : View). v.anons) is ∙ keeps.stands.anons;
+          anons = anons_still (view old) (view new) s.areas s.anons (ap (λ (v : View). v.anons) is) keeps.stands.anons;
         }
       where
         needs : (write : Bool) → (write ≡ true → map_count s.ledger f ≤ 1) → need write s.ledger (entry s.ledger (p, page)) ≡ Ready
@@ -224,7 +235,7 @@ module _ (s : State) (old new : Mem) (p page : ℕ) (notes : List Note) (keeps :
             ready = (ap (λ l. entry l (p, page)) after ∙ entry_put s.ledger (p, page) Zero, refl);
             parts = subst (KeepsWithin new s.world) (sym after) (stand_now old new s.world (set_entry (p, page) Zero s.ledger) _ is same
                 (zeroed (setting (count old)) (view old) s.world s.ledger p page (of_keeps old s keeps) (there_is s.world false p page permit) none)
-                (tables_still old new keeps.tables processes (ap (λ (v : View). v.areas) is)));
+                (tables_still old new keeps.tables processes (ap (λ (v : View). v.areas) is)) order);
             free = subst (λ n. ChoosesAll (setting n) None s.ledger (page_events false (p, page) (Zeroed p (4096 * page) ∷ []) None) s.free (free_of (view new))) (sym same) (
               s.free,
               chooses-kept (setting (count old)) None s.ledger (Noted (Zeroed p (4096 * page))) s.free (unslotted (count old) s.ledger (Noted (Zeroed p (4096 * page))) s.free.slots refl refl) refl (subst (λ l. new_free (setting (count old)) s.ledger l ≡ []) (sym put)
@@ -236,7 +247,7 @@ module _ (s : State) (old new : Mem) (p page : ℕ) (notes : List Note) (keeps :
               ),
             );
             areas = λ q o. ap (λ (v : View). pages_in (v.areas q) o) is ∙ keeps.stands.areas q o;
-            anons = ap (λ (v : View). v.anons) is ∙ keeps.stands.anons;
+            anons = anons_still (view old) (view new) s.areas s.anons (ap (λ (v : View). v.anons) is) keeps.stands.anons;
           }
 
       -- it gets a frame that was free
@@ -267,7 +278,7 @@ module _ (s : State) (old new : Mem) (p page : ℕ) (notes : List Note) (keeps :
             parts = subst (KeepsWithin new s.world) (sym after) (stand_now old new s.world (set_entry (p, page) (InFrame f true) mid) _
                 (is.view ∙ sym (twice p page (as_pte (InFrame f false) true) (as_pte (InFrame f true) true) (with_at f bytes (view old).bytes) (with_at f bytes (view old).bytes) maps maps (view new).free (view new).free (view old))) same
                 (seen m _ s.world mid p page f false true mid_parts (there_is s.world true p page permit) named (λ _. alone))
-                (tables_still old new keeps.tables processes (ap (λ (v : View). v.areas) is.view)));
+                (tables_still old new keeps.tables processes (ap (λ (v : View). v.areas) is.view)) order);
             free = subst (λ n. ChoosesAll (setting n) None s.ledger (page_events true (p, page) (note ∷ []) None) s.free (free_of (view new))) (sym same) (
               free_of (view new),
               subst (λ free. Chooses m None s.ledger (Noted note) free (free_of (view new))) (sym first) (chooses-taken m None s.ledger (Noted note) f (view new).free no_slots (unslotted (count old) s.ledger (Noted note) no_slots refl (takes_no_slot note f takes)) takes (subst (λ l. new_free m s.ledger l ≡ []) (sym note_is)
@@ -280,5 +291,5 @@ module _ (s : State) (old new : Mem) (p page : ℕ) (notes : List Note) (keeps :
               ),
             );
             areas = λ q o. ap (λ (v : View). pages_in (v.areas q) o) is.view ∙ keeps.stands.areas q o;
-            anons = ap (λ (v : View). v.anons) is.view ∙ keeps.stands.anons;
+            anons = anons_still (view old) (view new) s.areas s.anons (ap (λ (v : View). v.anons) is.view) keeps.stands.anons;
           }

@@ -15,14 +15,14 @@ use Rattle.av_fault.specs.Fault.{IsTaken, taken_for}
 pub frame_taken : (old new : Mem) (p page f : ℕ) (bytes maps : ℕ → ℕ) (rest : List ℕ)
     → seen new.frames ≡ record (seen old.frames) { free = rest; bytes = with_at f bytes (seen old.frames).bytes; maps = maps }
     → (seen old.frames).free ≡ f ∷ rest → is_in f rest ≡ false → f < count old
-    → entry_at new.tables ≡ with_entry p page (Here f true true) (entry_at old.tables) → new.spaces ≡ old.spaces
+    → entry_at new.tables ≡ with_entry p page (Here f true true) (entry_at old.tables) → new.spaces ≡ old.spaces → new.anons ≡ old.anons
     → IsTaken old new p page f bytes maps
-frame_taken old new p page f bytes maps rest frames first gone below entries spaces =
+frame_taken old new p page f bytes maps rest frames first gone below entries spaces anons =
     let same : rest ≡ (seen new.frames).free = sym (ap (λ (s : Seen). s.free) frames) in
     record {
       first = first ∙ ap (λ r. f ∷ r) same;
       gone = subst (λ r. is_in f r ≡ false) same gone;
       below = below;
       view = subst (λ r. view new ≡ taken_for p page f bytes maps r (view old)) same
-          (λ i. view_of_parts (frames i) (plain_set (entry_at old.tables) (entry_at new.tables) p page (Here f true true) entries i) (spaces i));
+          (λ i. view_of_parts (frames i) (plain_set (entry_at old.tables) (entry_at new.tables) p page (Here f true true) entries i) (spaces i) (anons i));
     }

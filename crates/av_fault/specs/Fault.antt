@@ -15,7 +15,7 @@ use Rattle.av_plain.specs.Fault.{Touches, Denied, Starved}
 use Rattle.av_plain.specs.Access.{page_events}
 use Rattle.av_plain.specs.Choice.{ChoosesAll}
 use Rattle.av_plain.specs.Transcript.{State}
-use Rattle.av_plain.specs.Stands.{View, AreasAre, free_of}
+use Rattle.av_plain.specs.Stands.{View, AnonsStand, AreasAre, free_of}
 use Rattle.av_reclaim.specs.declared.mem.Mem.{Mem}
 use Rattle.av_reclaim.specs.Mem.{setting, count, plain, view, Keeps, KeepsWithin}
 use Rattle.av_fault.specs.declared.fault.Stop.{Stop}
@@ -56,7 +56,7 @@ pub record IsTouched (s : State) (new : Mem) (write : Bool) (k : Key) (before no
   pub free : ChoosesAll (setting (count new)) None s.ledger
       (page_events write k added (end_of touched)) s.free (free_of (view new))
   pub areas : AreasAre (view new) s.areas
-  pub anons : (view new).anons ≡ s.anons
+  pub anons : AnonsStand (view new) s.areas s.anons
 
 -- whatever stood before: the page is made ready or not, and there are as many frames
 pub record MakesReady (old new : Mem) (write : Bool) (k : Key) (before now : List Note)

@@ -58,7 +58,7 @@ pub fn touch(
 
 /// Whether a page is mapped with a protection that allows the access.
 fn may_access(mem: &Mem, process: u16, page: u64, write: bool) -> bool
-    ensures permitted { result ≡ is_permitted write (prot_of (ranges_of mem.now.spaces process) page) }
+    ensures permitted { result ≡ is_permitted write (prot_of (ranges_of mem.now.spaces.processes process) page) }
     ensures below { IsTrue result → page < top_page }
 {
     match mem.spaces.area(process, page) {
@@ -77,7 +77,8 @@ fn touch_to_read(
 ) -> Result<Touched, AllocError>
     requires steady { IsSteady mem.old }
     requires below { page < top_page }
-    requires permitted { is_permitted false (prot_of (ranges_of mem.old.spaces process) page) ≡ true }
+    requires permitted { is_permitted false
+        (prot_of (ranges_of mem.old.spaces.processes process) page) ≡ true }
     ensures { MakesReady mem.old mem.new false (process, page) notes.old notes.new result }
 {
     match mem.tables.get(process, page) {
@@ -104,7 +105,8 @@ fn touch_to_write(
 ) -> Result<Touched, AllocError>
     requires steady { IsSteady mem.old }
     requires below { page < top_page }
-    requires permitted { is_permitted true (prot_of (ranges_of mem.old.spaces process) page) ≡ true }
+    requires permitted { is_permitted true
+        (prot_of (ranges_of mem.old.spaces.processes process) page) ≡ true }
     ensures { MakesReady mem.old mem.new true (process, page) notes.old notes.new result }
 {
     match mem.tables.get(process, page) {
@@ -163,7 +165,8 @@ fn make_zero(
 ) -> Result<Touched, AllocError>
     requires below { page < top_page }
     requires there { has mem.old.tables process ≡ true }
-    requires permitted { is_permitted false (prot_of (ranges_of mem.old.spaces process) page) ≡ true }
+    requires permitted { is_permitted false
+        (prot_of (ranges_of mem.old.spaces.processes process) page) ≡ true }
     requires bare { entry_at mem.old.tables process page ≡ Pte.Empty }
     ensures { MakesReady mem.old mem.new false (process, page) notes.old notes.new result }
 {
@@ -185,7 +188,8 @@ fn make_new(
     requires steady { IsSteady mem.old }
     requires below { page < top_page }
     requires there { has mem.old.tables process ≡ true }
-    requires permitted { is_permitted true (prot_of (ranges_of mem.old.spaces process) page) ≡ true }
+    requires permitted { is_permitted true
+        (prot_of (ranges_of mem.old.spaces.processes process) page) ≡ true }
     requires bare { frame_named (entry_at mem.old.tables process page) ≡ None }
     ensures { MakesReady mem.old mem.new true (process, page) notes.old notes.new result }
 {
@@ -211,7 +215,8 @@ fn make_copy(
     requires steady { IsSteady mem.old }
     requires below { page < top_page }
     requires there { has mem.old.tables process ≡ true }
-    requires permitted { is_permitted true (prot_of (ranges_of mem.old.spaces process) page) ≡ true }
+    requires permitted { is_permitted true
+        (prot_of (ranges_of mem.old.spaces.processes process) page) ≡ true }
     requires named { frame_named (entry_at mem.old.tables process page) ≡ Some from }
     requires shared { 1 < (view mem.old).maps from }
     ensures { MakesReady mem.old mem.new true (process, page) notes.old notes.new result }
@@ -235,6 +240,8 @@ fn take_zeros(mem: &mut Mem, process: u16, page: u64) -> Result<Option<u32>, All
     ensures taken { IfOk result (AreTaken mem.old mem.new process page (λ i. 0)
         (λ f. one_more f (view mem.old).maps)) }
     ensures processes { has mem.new.tables ≡ has mem.old.tables }
+    ensures spaces { mem.new.spaces ≡ mem.old.spaces }
+    ensures anons { mem.new.anons ≡ mem.old.anons }
     ensures count { count mem.new ≡ count mem.old }
 {
     let Some(frame) = mem.frames.take() else {
@@ -256,6 +263,8 @@ fn take_copy(mem: &mut Mem, process: u16, page: u64, from: u32) -> Result<Option
     ensures taken { IfOk result (AreTaken mem.old mem.new process page ((view mem.old).bytes from)
         (λ f. one_less from (one_more f (view mem.old).maps))) }
     ensures processes { has mem.new.tables ≡ has mem.old.tables }
+    ensures spaces { mem.new.spaces ≡ mem.old.spaces }
+    ensures anons { mem.new.anons ≡ mem.old.anons }
     ensures count { count mem.new ≡ count mem.old }
 {
     let Some(frame) = mem.frames.take() else {

@@ -18,7 +18,9 @@ use Rattle.av_plain.specs.Event.{Event, notes_of}
 use Rattle.av_reclaim.specs.declared.mem.Mem.{Mem}
 use Rattle.av_fault.specs.declared.fault.Stop.{Stop}
 use Rattle.av_fault.specs.declared.fault.Stop.TheVariants.{Segv, Oom}
-use Rattle.av_reclaim.specs.Mem.{setting, count}
+use Rattle.av_plain.specs.Areas.{AreNext, Areas}
+use Rattle.av_trace.specs.declared.command.Command.{Command}
+use Rattle.av_reclaim.specs.Mem.{Keeps, setting, count}
 use Rattle.av_fault.specs.Fault.{stop_of}
 use Rattle.av_kernel.specs.Step.{MemSteps}
 use Rattle.av_kernel.specs.Access.{IsAccess, answer_of}
@@ -42,7 +44,12 @@ world-stopped : (w : World) (p a k : ℕ) (bytes : List ℕ) (stop : Stop) → a
 world-stopped w p a k bytes Segv = refl
 world-stopped w p a k bytes (Oom out) = refl
 
-module _ (s : State) (old new : Mem) (p a : ℕ) (before notes : List Note) (rows : List Row) (k : ℕ) (fresh : before ≡ []) (none : rows ≡ []) (same : count new ≡ count old) (lived : lives s.world p ≡ true) where
+module _ (s : State) (old new : Mem) (p a : ℕ) (before notes : List Note) (rows : List Row) (k : ℕ) (fresh : before ≡ []) (none : rows ≡ []) (same : count new ≡ count old) (lived : lives s.world p ≡ true) (keeps : Keeps old s) where
+  -- areas and anon_vmas are as they were
+  areas_still : (command : Command) (answer : Answer) (now : State) → now.areas ≡ s.areas → now.anons ≡ s.anons → AreNext s.areas s.anons s.world command answer s.areas s.anons
+      → AreNext s.areas s.anons s.world command answer now.areas now.anons
+  areas_still command answer now areas anons next = subst (λ (on : Areas). AreNext s.areas s.anons s.world command answer on now.anons) (sym areas) (subst (AreNext s.areas s.anons s.world command answer s.areas) (sym anons) next)
+
   -- the notes are those of the access alone
   alone : (events : List Event) → notes ≡ before ++ notes_of events → notes ≡ notes_of events
   alone events is = is ∙ ap (λ ns. ns ++ notes_of events) fresh
@@ -67,7 +74,7 @@ module _ (s : State) (old new : Mem) (p a : ℕ) (before notes : List Note) (row
       world = h.world;
       ledger = h.ledger;
       free = subst (λ m. ChoosesAll (setting m) None s.ledger h.events s.free h.next.free) same h.free;
-      areas = areas_kept s h.next (Read p a n) answer refl h.areas h.anons h.keeps.stands.anons;
+      areas = areas_still (Read p a n) answer h.next h.areas h.anons (areas_kept old s (Read p a n) answer keeps refl);
     };
     keeps = h.keeps;
   }
@@ -92,7 +99,7 @@ module _ (s : State) (old new : Mem) (p a : ℕ) (before notes : List Note) (row
       world = h.world;
       ledger = h.ledger;
       free = subst (λ m. ChoosesAll (setting m) None s.ledger h.events s.free h.next.free) same h.free;
-      areas = areas_kept s h.next (Read p a n) answer refl h.areas h.anons h.keeps.stands.anons;
+      areas = areas_still (Read p a n) answer h.next h.areas h.anons (areas_kept old s (Read p a n) answer keeps refl);
     };
     keeps = h.keeps;
   }
@@ -115,7 +122,7 @@ module _ (s : State) (old new : Mem) (p a : ℕ) (before notes : List Note) (row
       world = h.world ∙ ap (after_write s.world p a) (ap (λ k. take k bytes) h.is_end.1 ∙ take-length bytes) ∙ ap (next s.world (Write p a bytes)) (sym is);
       ledger = h.ledger;
       free = subst (λ m. ChoosesAll (setting m) None s.ledger h.events s.free h.next.free) same h.free;
-      areas = areas_kept s h.next (Write p a bytes) answer refl h.areas h.anons h.keeps.stands.anons;
+      areas = areas_still (Write p a bytes) answer h.next h.areas h.anons (areas_kept old s (Write p a bytes) answer keeps refl);
     };
     keeps = h.keeps;
   }
@@ -138,7 +145,7 @@ module _ (s : State) (old new : Mem) (p a : ℕ) (before notes : List Note) (row
       world = h.world ∙ world-stopped s.world p a k bytes stop ∙ ap (next s.world (Write p a bytes)) (sym is);
       ledger = h.ledger;
       free = subst (λ m. ChoosesAll (setting m) None s.ledger h.events s.free h.next.free) same h.free;
-      areas = areas_kept s h.next (Write p a bytes) answer refl h.areas h.anons h.keeps.stands.anons;
+      areas = areas_still (Write p a bytes) answer h.next h.areas h.anons (areas_kept old s (Write p a bytes) answer keeps refl);
     };
     keeps = h.keeps;
   }

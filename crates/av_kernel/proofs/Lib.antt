@@ -1,3 +1,4 @@
+pub mod AnonLaws
 pub mod StepLaws
 pub mod ProcessLaws
 pub mod PlaceLaws

@@ -26,16 +26,22 @@ use Rattle.av_plain.specs.Refusal.{tests, place_tests, refusal, is_too_long, wra
 use Rattle.av_plain.specs.Step.{IsLegal, Follows, next_world}
 use Rattle.av_plain.specs.Place.{Goes}
 use Rattle.av_plain.specs.Map.{zaps_for_place, with_prot_to_hole}
-use Rattle.av_plain.specs.Areas.{areas_to_hole, next_areas, with_room}
+use Rattle.av_anon.specs.declared.anons.Anons.{Anons as AnonSet}
+use Rattle.av_merge.specs.Kin.{lengths}
+use Rattle.av_merge.proofs.Lengths.{AreAlike, map_alike, pages_alike}
+use Rattle.av_spaces.specs.Kin.{AnonsStay}
+use Rattle.av_spaces.proofs.Kin.{stay_both, stay_same}
+use Rattle.av_kernel.proofs.AnonLaws.{are_left, lengths_alike}
+use Rattle.av_plain.specs.Areas.{areas_to_hole, chain_length, next_areas, with_room}
 use Rattle.av_plain.specs.Choice.{ChoosesAll}
 use Rattle.av_plain.specs.Transcript.{State}
 use Rattle.av_plain.specs.Device.{no_device}
 use Rattle.av_plain.specs.Stands.{AreasAre, Holds, IsKept, IsKeptAt, free_of, prot_of}
-use Rattle.av_vma.specs.Pages.{Pages, after_map, pages_changed, to_prot, after_unmap, no_chains}
+use Rattle.av_vma.specs.Pages.{Pages, after_map, pages_changed, to_prot, after_unmap}
 use Rattle.av_plain.proofs.World.Ranges.{is-pages_to_hole}
 use Rattle.av_plain.proofs.Zap.{entry-range}
 use Rattle.av_reclaim.specs.declared.mem.Mem.{Mem}
-use Rattle.av_spaces.specs.Spaces.{Spaces, areas_of, is_taken, pages_of as areas_on}
+use Rattle.av_spaces.specs.Spaces.{AllSpaces, Spaces, areas_of, is_taken, pages_of as areas_on}
 use Rattle.av_kernel.specs.Map.{set_on, HasAreas, HasProts, AreCleared}
 use Rattle.av_reclaim.specs.Mem.{ranges_of, setting, view, count, Keeps, IsSteady, HasLedger}
 use Rattle.av_reclaim.specs.Zap.{HasZapped}
@@ -43,19 +49,19 @@ use Rattle.av_kernel.specs.Place.{protect_tests, IsProcess, IsPlaced, AreToClear
 use Rattle.av_kernel.specs.Step.{MemSteps, answer_only}
 use Rattle.av_reclaim.proofs.MemLaws.{lives_is, alive_is, taken_has, mapped_is}
 use Rattle.av_kernel.proofs.PlaceLaws.{page_back, IsSuited, suited}
-use Rattle.av_kernel.proofs.StepLaws.{areas_next, is_number, moved_on, orderly, refused, stays_orderly, changed, areas_changed, tables_kept}
+use Rattle.av_kernel.proofs.StepLaws.{areas_kept, is_number, moved_on, orderly, refused, stays_orderly, changed, areas_changed, tables_kept}
 
 -- ---- pages and their areas
 
 -- a page is taken exactly where it is mapped
-pub taken_is : (k : Mem) (s : State) (p : ℕ) → Keeps k s → IsProcess k.spaces p (pages s.world p)
-taken_is k s p keeps page = taken_has k.spaces p page ∙ ap is_some (keeps.stands.parts.areas.covers p page) ∙ mapped_is (pages s.world p page)
+pub taken_is : (k : Mem) (s : State) (p : ℕ) → Keeps k s → IsProcess k.spaces.processes p (pages s.world p)
+taken_is k s p keeps page = taken_has k.spaces.processes p page ∙ ap is_some (keeps.stands.parts.areas.covers p page) ∙ mapped_is (pages s.world p page)
 
 -- a place suits the pages of a process, whatever the kernel stands for
-pub suits : (k : Mem) → IsSteady k → (p n page : ℕ) (place : Place) → ((q : Process) → IsProcess k.spaces p q → IsPlaced q n place (Ok page)) → IsSuited k.spaces p n page place
+pub suits : (k : Mem) → IsSteady k → (p n page : ℕ) (place : Place) → ((q : Process) → IsProcess k.spaces.processes p q → IsPlaced q n place (Ok page)) → IsSuited k.spaces.processes p n page place
 suits k steady p n page place placed =
     let same = taken_is k steady.0 p steady.1 in
-    suited k.spaces p (pages steady.0.world p) same n page place (placed (pages steady.0.world p) same)
+    suited k.spaces.processes p (pages steady.0.world p) same n page place (placed (pages steady.0.world p) same)
 
 -- the same pages change twice
 pub twice_changed : (s t u : Spaces) (p page n : ℕ) (x y : Option Prot) → HasProts s t p (set_on page n x (prot_of (ranges_of s p))) → HasProts t u p (set_on page n y (prot_of (ranges_of t p)))
@@ -86,6 +92,14 @@ twice_placed s t u p change on first second q page = second q page ∙ by (q == 
     by true e = λ i. change (λ o. own o i) page
     by false e = first q page ∙ ap (λ b. (cond b on (areas_on s q)) page) e
 
+-- areas that are these are those, too
+re_areas : (s t : Spaces) (p : ℕ) (on on' : Pages) → ((page : ℕ) → on page ≡ on' page) → HasAreas s t p on → HasAreas s t p on'
+re_areas s t p on on' same h q page = h q page ∙ by (q == p)
+  where
+    by : (b : Bool) → (cond b on (areas_on s q)) page ≡ (cond b on' (areas_on s q)) page
+    by true = same page
+    by false = refl
+
 -- the areas of a process that stay are its own
 unplaced : (s : Spaces) (p : ℕ) → HasAreas s s p (areas_on s p)
 unplaced s p q page = by (q == p) refl
@@ -95,7 +109,7 @@ unplaced s p q page = by (q == p) refl
     by false e = refl
 
 -- what the kernel's areas become, those of the state do
-areas_so : (old new : Mem) (s : State) (p : ℕ) (change : Pages → Pages) → Keeps old s → HasAreas old.spaces new.spaces p (change (areas_on old.spaces p)) → AreasAre (view new) (with_at p (change (s.areas p)) s.areas)
+areas_so : (old new : Mem) (s : State) (p : ℕ) (change : Pages → Pages) → Keeps old s → HasAreas old.spaces.processes new.spaces.processes p (change (areas_on old.spaces.processes p)) → AreasAre (view new) (with_at p (change (s.areas p)) s.areas)
 areas_so old new s p change keeps h q page = h q page ∙ (λ i. with_at p (change (λ o. keeps.stands.areas p o i)) (λ r o. keeps.stands.areas r o i) q page)
 
 -- ---- the pages of a range go
@@ -104,29 +118,36 @@ pub on_ok : {A E : Type 0} {P Q : Type 0} (r : Result A E) → (P → Q) → OnO
 on_ok (Ok x) f h = f h
 on_ok (Err e) f h = tt
 
+pub both_ok : {A E : Type 0} {P Q S : Type 0} (r : Result A E) → (P → Q → S) → OnOk r P → OnOk r Q → OnOk r S
+both_ok (Ok x) f h g = f h g
+both_ok (Err e) f h g = tt
+
 -- their entries have gone, and then their areas
-pub are_cleared : (old mid : Mem) (spaces : Spaces) (p page n : ℕ) (l : Ledger) → HasZapped old mid l (zaps_of l (keys_in l p page (page + n - page))) → mid.spaces ≡ old.spaces → has mid.tables ≡ has old.tables → (view mid).bytes ≡ (view old).bytes
-    → HasProts mid.spaces spaces p (set_on page n None (prot_of (ranges_of mid.spaces p))) → HasAreas mid.spaces spaces p (after_unmap page (page + n) (areas_on mid.spaces p))
-    → AreCleared old (moved_on mid mid.tables spaces) p page n (after_unmap page (page + n) (areas_on old.spaces p)) l (zaps_of l (keys_in l p page n))
-are_cleared old mid spaces p page n l t same processes bytes gone areas = record {
-  taken = subst (λ x. HasZapped old (moved_on mid mid.tables spaces) l (zaps_of l (keys_in l p page x))) (let size : page + n - page ≡ n = omega arith in size) (record { stands = stays_orderly mid mid.tables spaces _ refl t.stands; notes = t.notes; free = t.free });
-  spaces = subst (λ x. HasProts x spaces p (set_on page n None (prot_of (ranges_of x p)))) same gone;
-  areas = subst (λ x. HasAreas x spaces p (after_unmap page (page + n) (areas_on x p))) same areas;
+pub are_cleared : (old mid : Mem) (spaces : AllSpaces) (anons : AnonSet) (p page n : ℕ) (l : Ledger) → HasZapped old mid l (zaps_of l (keys_in l p page (page + n - page))) → mid.spaces ≡ old.spaces → mid.anons ≡ old.anons → has mid.tables ≡ has old.tables → (view mid).bytes ≡ (view old).bytes
+    → HasProts mid.spaces.processes spaces.processes p (set_on page n None (prot_of (ranges_of mid.spaces.processes p))) → HasAreas mid.spaces.processes spaces.processes p (after_unmap page (page + n) (areas_on mid.spaces.processes p))
+    → AnonsStay mid.spaces mid.anons spaces anons
+    → AreCleared old (moved_on mid mid.tables spaces anons) p page n (after_unmap page (page + n) (areas_on old.spaces.processes p)) l (zaps_of l (keys_in l p page n))
+are_cleared old mid spaces anons p page n l t same same_anons processes bytes gone areas stay = record {
+  taken = subst (λ x. HasZapped old (moved_on mid mid.tables spaces anons) l (zaps_of l (keys_in l p page x))) (let size : page + n - page ≡ n = omega arith in size) (record { stands = stays_orderly mid mid.tables spaces anons _ refl t.stands; notes = t.notes; free = t.free });
+  spaces = subst (λ (x : AllSpaces). HasProts x.processes spaces.processes p (set_on page n None (prot_of (ranges_of x.processes p)))) same gone;
+  areas = subst (λ (x : AllSpaces). HasAreas x.processes spaces.processes p (after_unmap page (page + n) (areas_on x.processes p))) same areas;
+  anons = subst (λ (x : AllSpaces). AnonsStay x old.anons spaces anons) same (subst (λ a. AnonsStay mid.spaces a spaces anons) same_anons stay);
   processes = processes;
   bytes = bytes;
 }
 
-left_alone : (k : Mem) → IsSteady k → (p page n : ℕ) (l : Ledger) → HasLedger k l → is_some (areas_of k.spaces p) ≡ true → IsFree (is_taken k.spaces p) page (page + n) → AreCleared k k p page n (areas_on k.spaces p) l []
+left_alone : (k : Mem) → IsSteady k → (p page n : ℕ) (l : Ledger) → HasLedger k l → is_some (areas_of k.spaces.processes p) ≡ true → IsFree (is_taken k.spaces.processes p) page (page + n) → AreCleared k k p page n (areas_on k.spaces.processes p) l []
 left_alone k steady p page n l stands alive free = record {
   taken = record { stands = stands; notes = refl; free = refl };
   spaces = record {
     others = λ q other. refl;
-    alive = alive_is k.spaces p ∙ alive;
+    alive = alive_is k.spaces.processes p ∙ alive;
     pages = λ o. by o (within page n o) refl;
     number = refl;
     apart = steady.1.stands.parts.areas.apart;
   };
-  areas = unplaced k.spaces p;
+  areas = unplaced k.spaces.processes p;
+  anons = stay_same k.spaces k.anons steady.1.anons;
   processes = refl;
   bytes = refl;
 }
@@ -135,41 +156,41 @@ left_alone k steady p page n l stands alive free = record {
     none None e = refl
     none (Some x) e = cc
 
-    by : (o : ℕ) (b : Bool) → within page n o ≡ b → prot_of (ranges_of k.spaces p) o ≡ cond b None (prot_of (ranges_of k.spaces p) o)
+    by : (o : ℕ) (b : Bool) → within page n o ≡ b → prot_of (ranges_of k.spaces.processes p) o ≡ cond b None (prot_of (ranges_of k.spaces.processes p) o)
     by o true e =
         let low : page ≤ o = grind (arith, nat_tests, e) in
         let high : o < page + n = grind (arith, nat_tests, e) in
-        none (prot_of (ranges_of k.spaces p) o) (sym (taken_has k.spaces p o) ∙ free o low high)
+        none (prot_of (ranges_of k.spaces.processes p) o) (sym (taken_has k.spaces.processes p o) ∙ free o low high)
     by o false e = refl
 
 -- where a mapping isn't to be at a fixed place, its pages are free, and nothing goes
-pub nothing_there : (k : Mem) → IsSteady k → (p page n : ℕ) (place : Place) (l : Ledger) → HasLedger k l → is_some (areas_of k.spaces p) ≡ true → AreToClear (is_taken k.spaces p) page n place → ((a : ℕ) → place ≡ Fixed a → ⊥)
-    → AreCleared k k p page n (with_room n place (areas_on k.spaces p)) l (zaps_for_place l p n place)
+pub nothing_there : (k : Mem) → IsSteady k → (p page n : ℕ) (place : Place) (l : Ledger) → HasLedger k l → is_some (areas_of k.spaces.processes p) ≡ true → AreToClear (is_taken k.spaces.processes p) page n place → ((a : ℕ) → place ≡ Fixed a → ⊥)
+    → AreCleared k k p page n (with_room n place (areas_on k.spaces.processes p)) l (zaps_for_place l p n place)
 nothing_there k steady p page n Auto l stands alive free other = left_alone k steady p page n l stands alive free
 nothing_there k steady p page n (At a) l stands alive free other = left_alone k steady p page n l stands alive free
 nothing_there k steady p page n (Fixed a) l stands alive free other = absurd (other a refl)
 nothing_there k steady p page n (NoReplace a) l stands alive free other = left_alone k steady p page n l stands alive free
 
 -- the process lives on, and none of the pages is taken
-pub cleared_lives : (old new : Mem) (p page n : ℕ) (on : Pages) (l : Ledger) (events : List Event) → AreCleared old new p page n on l events → is_some (areas_of new.spaces p) ≡ true
-cleared_lives old new p page n on l events h = sym (alive_is new.spaces p) ∙ h.spaces.alive
+pub cleared_lives : (old new : Mem) (p page n : ℕ) (on : Pages) (l : Ledger) (events : List Event) → AreCleared old new p page n on l events → is_some (areas_of new.spaces.processes p) ≡ true
+cleared_lives old new p page n on l events h = sym (alive_is new.spaces.processes p) ∙ h.spaces.alive
 
-pub cleared_free : (old new : Mem) (p page n : ℕ) (on : Pages) (l : Ledger) (events : List Event) → AreCleared old new p page n on l events → IsFree (is_taken new.spaces p) page (page + n)
+pub cleared_free : (old new : Mem) (p page n : ℕ) (on : Pages) (l : Ledger) (events : List Event) → AreCleared old new p page n on l events → IsFree (is_taken new.spaces.processes p) page (page + n)
 cleared_free old new p page n on l events h o low high =
     let inside : within page n o ≡ true = grind (arith, nat_tests, low, high) in
-    taken_has new.spaces p o ∙ ap is_some (h.spaces.pages o ∙ ap (λ b. cond b None (prot_of (ranges_of old.spaces p) o)) inside)
+    taken_has new.spaces.processes p o ∙ ap is_some (h.spaces.pages o ∙ ap (λ b. cond b None (prot_of (ranges_of old.spaces.processes p) o)) inside)
 
 -- ---- the pages of a range are replaced
 
 module _ (old new : Mem) (s : State) (command : Command) (reply : Reply) (p page n : ℕ) (o : Option Page) (on : Pages) (events : List Event)
-    (keeps : Keeps old s) (alive : is_some (ranges_of old.spaces p) ≡ true) (same_count : count new ≡ count old)
+    (keeps : Keeps old s) (alive : is_some (ranges_of old.spaces.processes p) ≡ true) (same_count : count new ≡ count old)
     (taken : HasZapped old new s.ledger events) (entries : (q at : ℕ) → entry (after_all s.ledger events) (q, at) ≡ cond (q == p && within page n at) None (entry s.ledger (q, at)))
-    (blank : Holds o (λ _. 0)) (spaces : HasProts old.spaces new.spaces p (set_on page n (option_map (λ (x : Page). x.prot) o) (prot_of (ranges_of old.spaces p))))
-    (areas : AreasAre (view new) (with_at p on s.areas)) (processes : has new.tables ≡ has old.tables) (bytes : (view new).bytes ≡ (view old).bytes) where
-  covered : (at : ℕ) → set_on page n (option_map (λ (x : Page). x.prot) o) (prot_of (ranges_of old.spaces p)) at ≡ option_map (λ (x : Page). x.prot) (with_pages (pages s.world p) page n (λ _. o) at)
+    (blank : Holds o (λ _. 0)) (spaces : HasProts old.spaces.processes new.spaces.processes p (set_on page n (option_map (λ (x : Page). x.prot) o) (prot_of (ranges_of old.spaces.processes p))))
+    (areas : AreasAre (view new) (with_at p on s.areas)) (stay : AnonsStay old.spaces old.anons new.spaces new.anons) (processes : has new.tables ≡ has old.tables) (bytes : (view new).bytes ≡ (view old).bytes) where
+  covered : (at : ℕ) → set_on page n (option_map (λ (x : Page). x.prot) o) (prot_of (ranges_of old.spaces.processes p)) at ≡ option_map (λ (x : Page). x.prot) (with_pages (pages s.world p) page n (λ _. o) at)
   covered at = by (within page n at)
     where
-      by : (b : Bool) → cond b (option_map (λ (x : Page). x.prot) o) (prot_of (ranges_of old.spaces p) at) ≡ option_map (λ (x : Page). x.prot) (cond b o (pages s.world p at))
+      by : (b : Bool) → cond b (option_map (λ (x : Page). x.prot) o) (prot_of (ranges_of old.spaces.processes p) at) ≡ option_map (λ (x : Page). x.prot) (cond b o (pages s.world p at))
       by true = refl
       by false = keeps.stands.parts.areas.covers p at
 
@@ -185,29 +206,29 @@ module _ (old new : Mem) (s : State) (command : Command) (reply : Reply) (p page
 
   pub replaced-steps : IsLegal (setting (count old)) s.world s.ledger command reply events
       → set_process s.world p (with_pages (pages s.world p) page n (λ _. o)) ≡ next_world (setting (count old)) s.world s.ledger events command reply.answer
-      → with_at p on s.areas ≡ next_areas no_chains s.areas s.world command reply.answer → MemSteps old new s command reply
+      → with_at p on s.areas ≡ next_areas (chain_length s.anons) s.areas s.world command reply.answer → MemSteps old new s command reply
   replaced-steps legal world next =
       let now : Process = with_pages (pages s.world p) page n (λ _. o) in
-      changed old new s command reply p now on (after_all s.ledger events) keeps same_count taken.stands bytes
+      changed old new s command reply p now on (after_all s.ledger events) keeps stay same_count taken.stands bytes
       (λ q at other. entries q at ∙ ap (λ b. cond (b && within page n at) None (entry s.ledger (q, at))) other) kept
-      (record { events = events; legal = legal; world = world; ledger = refl; free = subst (λ free. ChoosesAll (setting (count old)) None s.ledger events free (free_of (view new))) keeps.stands.free taken.free; areas = areas_next s command reply.answer (with_at p on s.areas) keeps.stands.anons next })
+      (record { events = events; legal = legal; world = world; ledger = refl; free = subst (λ free. ChoosesAll (setting (count old)) None s.ledger events free (free_of (view new))) keeps.stands.free taken.free; areas = record { areas = next; anons = are_left old s keeps new.spaces new.anons stay (with_at p on s.areas) areas } })
       areas
-      (areas_changed old new s p now (set_on page n (option_map (λ (x : Page). x.prot) o) (prot_of (ranges_of old.spaces p))) keeps alive spaces covered)
-      (tables_kept old new s p now (set_on page n (option_map (λ (x : Page). x.prot) o) (prot_of (ranges_of old.spaces p))) keeps alive spaces covered processes)
+      (areas_changed old new s p now (set_on page n (option_map (λ (x : Page). x.prot) o) (prot_of (ranges_of old.spaces.processes p))) keeps alive spaces covered)
+      (tables_kept old new s p now (set_on page n (option_map (λ (x : Page). x.prot) o) (prot_of (ranges_of old.spaces.processes p))) keeps alive spaces covered processes)
 
 -- ---- what is refused
 
 -- the process lives
-lived : (k : Mem) (s : State) (p : ℕ) → Keeps k s → is_some (areas_of k.spaces p) ≡ true → (rest : Option Errno) → cond (not (lives s.world p)) (Some Esrch) rest ≡ rest
+lived : (k : Mem) (s : State) (p : ℕ) → Keeps k s → is_some (areas_of k.spaces.processes p) ≡ true → (rest : Option Errno) → cond (not (lives s.world p)) (Some Esrch) rest ≡ rest
 lived k s p keeps alive rest = ap (λ b. cond (not b) (Some Esrch) rest) (sym (lives_is k s keeps p) ∙ alive)
 
-pub munmap-refused : (k : Mem) (s : State) (p a len : ℕ) → Keeps k s → is_some (areas_of k.spaces p) ≡ true → (not (is_on_page a) || len == 0 || nat_lt top (a + len)) ≡ true → refusal (tests (setting (count k)) s.world s.ledger (Munmap p a len)) ≡ Some Einval
+pub munmap-refused : (k : Mem) (s : State) (p a len : ℕ) → Keeps k s → is_some (areas_of k.spaces.processes p) ≡ true → (not (is_on_page a) || len == 0 || nat_lt top (a + len)) ≡ true → refusal (tests (setting (count k)) s.world s.ledger (Munmap p a len)) ≡ Some Einval
 munmap-refused k s p a len keeps alive none = lived k s p keeps alive (cond (not (is_on_page a) || len == 0 || nat_lt top (a + len)) (Some Einval) None) ∙ ap (λ b. cond b (Some Einval) None) none
 
-pub mprotect-refused : (k : Mem) (s : State) (p a len : ℕ) (prot : Prot) (error : Errno) → Keeps k s → is_some (areas_of k.spaces p) ≡ true → refusal (protect_tests a len) ≡ Some error → refusal (tests (setting (count k)) s.world s.ledger (Mprotect p a len prot)) ≡ Some error
+pub mprotect-refused : (k : Mem) (s : State) (p a len : ℕ) (prot : Prot) (error : Errno) → Keeps k s → is_some (areas_of k.spaces.processes p) ≡ true → refusal (protect_tests a len) ≡ Some error → refusal (tests (setting (count k)) s.world s.ledger (Mprotect p a len prot)) ≡ Some error
 mprotect-refused k s p a len prot error keeps alive is = lived k s p keeps alive (refusal (protect_tests a len)) ∙ is
 
-module _ (k : Mem) (s : State) (p len : ℕ) (prot : Prot) (place : Place) (keeps : Keeps k s) (alive : is_some (areas_of k.spaces p) ≡ true) where
+module _ (k : Mem) (s : State) (p len : ℕ) (prot : Prot) (place : Place) (keeps : Keeps k s) (alive : is_some (areas_of k.spaces.processes p) ≡ true) where
   pub mmap-tests-first : (len == 0) ≡ true → refusal (tests (setting (count k)) s.world s.ledger (Mmap p len prot place)) ≡ Some Einval
   mmap-tests-first none = lived k s p keeps alive _ ∙ ap (λ b. cond b (Some Einval) (cond (is_too_long len) (Some Enomem) (refusal (place_tests (pages s.world p) (pages_of len) place)))) none
 
@@ -217,16 +238,16 @@ module _ (k : Mem) (s : State) (p len : ℕ) (prot : Prot) (place : Place) (keep
 
 -- ---- munmap
 
-module _ (old new : Mem) (s : State) (p a len : ℕ) (keeps : Keeps old s) (alive : is_some (ranges_of old.spaces p) ≡ true) (valid : (not (is_on_page a) || len == 0 || nat_lt top (a + len)) ≡ false)
-    (same_count : count new ≡ count old) (cleared : AreCleared old new p (page_of a) (pages_of len) (after_unmap (page_of a) (page_of a + pages_of len) (areas_on old.spaces p)) s.ledger (zaps_of s.ledger (keys_in s.ledger p (page_of a) (pages_of len)))) where
+module _ (old new : Mem) (s : State) (p a len : ℕ) (keeps : Keeps old s) (alive : is_some (ranges_of old.spaces.processes p) ≡ true) (valid : (not (is_on_page a) || len == 0 || nat_lt top (a + len)) ≡ false)
+    (same_count : count new ≡ count old) (cleared : AreCleared old new p (page_of a) (pages_of len) (after_unmap (page_of a) (page_of a + pages_of len) (areas_on old.spaces.processes p)) s.ledger (zaps_of s.ledger (keys_in s.ledger p (page_of a) (pages_of len)))) where
   munmap-allowed : refusal (tests (setting (count old)) s.world s.ledger (Munmap p a len)) ≡ None
-  munmap-allowed = ap (λ b. cond (not b) (Some Esrch) (cond (not (is_on_page a) || len == 0 || nat_lt top (a + len)) (Some Einval) None)) (sym (lives_is old s keeps p) ∙ sym (alive_is old.spaces p) ∙ alive) ∙ ap (λ b. cond b (Some Einval) None) valid
+  munmap-allowed = ap (λ b. cond (not b) (Some Esrch) (cond (not (is_on_page a) || len == 0 || nat_lt top (a + len)) (Some Einval) None)) (sym (lives_is old s keeps p) ∙ sym (alive_is old.spaces.processes p) ∙ alive) ∙ ap (λ b. cond b (Some Einval) None) valid
 
   pub munmap-steps : MemSteps old new s (Munmap p a len) (answer_only Done)
   munmap-steps =
       let events = zaps_of s.ledger (keys_in s.ledger p (page_of a) (pages_of len)) in
       replaced-steps old new s (Munmap p a len) (answer_only Done) p (page_of a) (pages_of len) None (after_unmap (page_of a) (page_of a + pages_of len) (s.areas p)) events keeps alive same_count cleared.taken (λ q at. entry-range s.ledger p (page_of a) (pages_of len) q at) tt cleared.spaces
-      (areas_so old new s p (after_unmap (page_of a) (page_of a + pages_of len)) keeps cleared.areas) cleared.processes cleared.bytes
+      (areas_so old new s p (after_unmap (page_of a) (page_of a + pages_of len)) keeps cleared.areas) cleared.anons cleared.processes cleared.bytes
       (record {
         answer = subst (λ o. MatchOption o (Follows (setting (count old)) s.world s.ledger (Munmap p a len) events Done []) (λ e. Refuses e events Done [])) (sym munmap-allowed) (refl, refl, refl);
         notes = sym cleared.taken.notes;
@@ -235,10 +256,10 @@ module _ (old new : Mem) (s : State) (p a len : ℕ) (keeps : Keeps old s) (aliv
 
 -- ---- mmap
 
-module _ (old : Mem) (s : State) (p len : ℕ) (prot : Prot) (place : Place) (keeps : Keeps old s) (alive : is_some (ranges_of old.spaces p) ≡ true) (some : (len == 0) ≡ false) (fits : is_too_long len ≡ false) where
+module _ (old : Mem) (s : State) (p len : ℕ) (prot : Prot) (place : Place) (keeps : Keeps old s) (alive : is_some (ranges_of old.spaces.processes p) ≡ true) (some : (len == 0) ≡ false) (fits : is_too_long len ≡ false) where
   -- the tests of its place are left
   mmap-tests : refusal (tests (setting (count old)) s.world s.ledger (Mmap p len prot place)) ≡ refusal (place_tests (pages s.world p) (pages_of len) place)
-  mmap-tests = ap (λ b. cond (not b) (Some Esrch) (cond (len == 0) (Some Einval) (cond (is_too_long len) (Some Enomem) (refusal (place_tests (pages s.world p) (pages_of len) place))))) (sym (lives_is old s keeps p) ∙ sym (alive_is old.spaces p) ∙ alive)
+  mmap-tests = ap (λ b. cond (not b) (Some Esrch) (cond (len == 0) (Some Einval) (cond (is_too_long len) (Some Enomem) (refusal (place_tests (pages s.world p) (pages_of len) place))))) (sym (lives_is old s keeps p) ∙ sym (alive_is old.spaces.processes p) ∙ alive)
       ∙ ap (λ b. cond b (Some Einval) (cond (is_too_long len) (Some Enomem) (refusal (place_tests (pages s.world p) (pages_of len) place)))) some ∙ ap (λ b. cond b (Some Enomem) (refusal (place_tests (pages s.world p) (pages_of len) place))) fits
 
   -- the pages go nowhere
@@ -256,7 +277,7 @@ module _ (old : Mem) (s : State) (p len : ℕ) (prot : Prot) (place : Place) (ke
       world = refl;
       ledger = refl;
       free = refl;
-      areas = areas_next s (Mmap p len prot place) (Refused error) s.areas keeps.stands.anons refl;
+      areas = areas_kept old s (Mmap p len prot place) (Refused error) keeps refl;
     };
     keeps = keeps;
   }
@@ -268,7 +289,7 @@ module _ (old : Mem) (s : State) (p len : ℕ) (prot : Prot) (place : Place) (ke
       none_cleared_for (NoReplace a) goes = cc
 
   -- pages that are not mapped have no entries
-  nothing_mapped : (page n q at : ℕ) → IsFree (is_taken old.spaces p) page (page + n) → entry s.ledger (q, at) ≡ cond (q == p && within page n at) None (entry s.ledger (q, at))
+  nothing_mapped : (page n q at : ℕ) → IsFree (is_taken old.spaces.processes p) page (page + n) → entry s.ledger (q, at) ≡ cond (q == p && within page n at) None (entry s.ledger (q, at))
   nothing_mapped page n q at free = by (q == p) (within page n at) refl refl (entry s.ledger (q, at)) refl
     where
       by : (b c : Bool) → (q == p) ≡ b → within page n at ≡ c → (o : Option Entry) → entry s.ledger (q, at) ≡ o → o ≡ cond (b && c) None o
@@ -282,39 +303,45 @@ module _ (old : Mem) (s : State) (p len : ℕ) (prot : Prot) (place : Place) (ke
           absurd (false≢true (sym (free at low high) ∙ taken_is old s p keeps at ∙ there))
 
   -- what is cleared are the entries of the pages
-  entry-cleared : (x : Place) (page n q at : ℕ) → AreToClear (is_taken old.spaces p) page n x → entry (after_all s.ledger (zaps_for_place s.ledger p n x)) (q, at) ≡ cond (q == p && within page n at) None (entry s.ledger (q, at))
+  entry-cleared : (x : Place) (page n q at : ℕ) → AreToClear (is_taken old.spaces.processes p) page n x → entry (after_all s.ledger (zaps_for_place s.ledger p n x)) (q, at) ≡ cond (q == p && within page n at) None (entry s.ledger (q, at))
   entry-cleared Auto page n q at free = nothing_mapped page n q at free
   entry-cleared (At a) page n q at free = nothing_mapped page n q at free
   entry-cleared (Fixed a) page n q at there = entry-range s.ledger p (page_of a) n q at ∙ ap (λ x. cond (q == p && within x n at) None (entry s.ledger (q, at))) (sym there)
   entry-cleared (NoReplace a) page n q at free = nothing_mapped page n q at free
 
-  module _ (mid : Mem) (spaces : Spaces) (page : ℕ) (placed : IsPlaced (pages s.world p) (pages_of len) place (Ok page)) (clear : AreToClear (is_taken old.spaces p) page (pages_of len) place)
-      (same_count : count mid ≡ count old) (cleared : AreCleared old mid p page (pages_of len) (with_room (pages_of len) place (areas_on old.spaces p)) s.ledger (zaps_for_place s.ledger p (pages_of len) place))
-      (given : HasProts mid.spaces spaces p (set_on page (pages_of len) (Some prot) (prot_of (ranges_of mid.spaces p)))) (areas : HasAreas mid.spaces spaces p (after_map no_chains p page (page + pages_of len) prot (areas_on mid.spaces p))) where
-    pub mmap-steps : MemSteps old (moved_on mid mid.tables spaces) s (Mmap p len prot place) (answer_only (MapAt (address_of page)))
+  module _ (mid : Mem) (spaces : AllSpaces) (anons : AnonSet) (page : ℕ) (placed : IsPlaced (pages s.world p) (pages_of len) place (Ok page)) (clear : AreToClear (is_taken old.spaces.processes p) page (pages_of len) place)
+      (same_count : count mid ≡ count old) (cleared : AreCleared old mid p page (pages_of len) (with_room (pages_of len) place (areas_on old.spaces.processes p)) s.ledger (zaps_for_place s.ledger p (pages_of len) place))
+      (given : HasProts mid.spaces.processes spaces.processes p (set_on page (pages_of len) (Some prot) (prot_of (ranges_of mid.spaces.processes p)))) (areas : HasAreas mid.spaces.processes spaces.processes p (after_map (lengths mid.spaces.areas mid.anons) p page (page + pages_of len) prot (areas_on mid.spaces.processes p)))
+      (stay : AnonsStay mid.spaces mid.anons spaces anons) where
+    alike : (q : ℕ) → after_map (lengths mid.spaces.areas mid.anons) p page (page + pages_of len) prot (areas_on mid.spaces.processes p) q ≡ after_map (chain_length s.anons) p page (page + pages_of len) prot (areas_on mid.spaces.processes p) q
+    alike = map_alike (lengths mid.spaces.areas mid.anons) (chain_length s.anons) p page (page + pages_of len) prot (areas_on mid.spaces.processes p) refl (lengths_alike old s keeps mid.spaces mid.anons cleared.anons p)
+
+    pub mmap-steps : MemSteps old (moved_on mid mid.tables spaces anons) s (Mmap p len prot place) (answer_only (MapAt (address_of page)))
     mmap-steps =
         let events = zaps_for_place s.ledger p (pages_of len) place in
         let t = cleared.taken in
-        replaced-steps old (moved_on mid mid.tables spaces) s (Mmap p len prot place) (answer_only (MapAt (address_of page))) p page (pages_of len) (Some (zeros prot)) (after_map no_chains p page (page + pages_of len) prot (with_room (pages_of len) place (s.areas p))) events keeps alive same_count
-        (record { stands = stays_orderly mid mid.tables spaces (after_all s.ledger events) refl t.stands; notes = t.notes; free = t.free })
-        (λ q at. entry-cleared place page (pages_of len) q at clear) (λ i below. refl) (twice_changed old.spaces mid.spaces spaces p page (pages_of len) None (Some prot) cleared.spaces given)
-        (areas_so old (moved_on mid mid.tables spaces) s p (λ on. after_map no_chains p page (page + pages_of len) prot (with_room (pages_of len) place on)) keeps
-        (twice_placed old.spaces mid.spaces spaces p (after_map no_chains p page (page + pages_of len) prot) (with_room (pages_of len) place (areas_on old.spaces p)) cleared.areas areas)) cleared.processes cleared.bytes
+        replaced-steps old (moved_on mid mid.tables spaces anons) s (Mmap p len prot place) (answer_only (MapAt (address_of page))) p page (pages_of len) (Some (zeros prot)) (after_map (chain_length s.anons) p page (page + pages_of len) prot (with_room (pages_of len) place (s.areas p))) events keeps alive same_count
+        (record { stands = stays_orderly mid mid.tables spaces anons (after_all s.ledger events) refl t.stands; notes = t.notes; free = t.free })
+        (λ q at. entry-cleared place page (pages_of len) q at clear) (λ i below. refl) (twice_changed old.spaces.processes mid.spaces.processes spaces.processes p page (pages_of len) None (Some prot) cleared.spaces given)
+        (areas_so old (moved_on mid mid.tables spaces anons) s p (λ on. after_map (chain_length s.anons) p page (page + pages_of len) prot (with_room (pages_of len) place on)) keeps
+        (twice_placed old.spaces.processes mid.spaces.processes spaces.processes p (after_map (chain_length s.anons) p page (page + pages_of len) prot) (with_room (pages_of len) place (areas_on old.spaces.processes p)) cleared.areas (re_areas mid.spaces.processes spaces.processes p _ _ alike areas)))
+        (stay_both old.spaces mid.spaces spaces old.anons mid.anons anons cleared.anons stay) cleared.processes cleared.bytes
         (record {
           answer = subst (λ o. MatchOption o (Follows (setting (count old)) s.world s.ledger (Mmap p len prot place) events (MapAt (address_of page)) []) (λ e. Refuses e events (MapAt (address_of page)) [])) (sym (mmap-tests ∙ placed.0))
               (Some page, placed.1, refl, refl, refl);
           notes = sym t.notes;
         })
         (ap (λ x. set_process s.world p (with_pages (pages s.world p) x (pages_of len) (λ _. Some (zeros prot)))) (sym (page_back page)))
-        (ap (λ x. with_at p (after_map no_chains p x (x + pages_of len) prot (with_room (pages_of len) place (s.areas p))) s.areas) (sym (page_back page)))
+        (ap (λ x. with_at p (after_map (chain_length s.anons) p x (x + pages_of len) prot (with_room (pages_of len) place (s.areas p))) s.areas) (sym (page_back page)))
 
 -- ---- mprotect
 
-module _ (old : Mem) (spaces : Spaces) (s : State) (p a len reached : ℕ) (prot : Prot) (keeps : Keeps old s) (alive : is_some (ranges_of old.spaces p) ≡ true) (passed : refusal ((not (is_on_page a), Einval) ∷ (wraps a len, Enomem) ∷ []) ≡ None)
-    (reaches : IsReached (is_taken old.spaces p) (page_of a) (page_of a + pages_of len) reached) (given : HasProts old.spaces spaces p (set_on (page_of a) (reached - page_of a) (Some prot) (prot_of (ranges_of old.spaces p))))
-    (areas : HasAreas old.spaces spaces p (pages_changed no_chains (to_prot prot) (page_of a) (reached - page_of a) (areas_on old.spaces p))) where
+module _ (old : Mem) (spaces : AllSpaces) (anons : AnonSet) (s : State) (p a len reached : ℕ) (prot : Prot) (keeps : Keeps old s) (alive : is_some (ranges_of old.spaces.processes p) ≡ true) (passed : refusal ((not (is_on_page a), Einval) ∷ (wraps a len, Enomem) ∷ []) ≡ None)
+    (reaches : IsReached (is_taken old.spaces.processes p) (page_of a) (page_of a + pages_of len) reached) (given : HasProts old.spaces.processes spaces.processes p (set_on (page_of a) (reached - page_of a) (Some prot) (prot_of (ranges_of old.spaces.processes p))))
+    (areas : HasAreas old.spaces.processes spaces.processes p (pages_changed (lengths old.spaces.areas old.anons) (to_prot prot) (page_of a) (reached - page_of a) (areas_on old.spaces.processes p)))
+    (stay : AnonsStay old.spaces old.anons spaces anons) where
   mprotect-allowed : refusal (tests (setting (count old)) s.world s.ledger (Mprotect p a len prot)) ≡ None
-  mprotect-allowed = ap (λ b. cond (not b) (Some Esrch) (refusal ((not (is_on_page a), Einval) ∷ (wraps a len, Enomem) ∷ []))) (sym (lives_is old s keeps p) ∙ sym (alive_is old.spaces p) ∙ alive) ∙ passed
+  mprotect-allowed = ap (λ b. cond (not b) (Some Esrch) (refusal ((not (is_on_page a), Einval) ∷ (wraps a len, Enomem) ∷ []))) (sym (lives_is old s keeps p) ∙ sym (alive_is old.spaces.processes p) ∙ alive) ∙ passed
 
   in_reach : wraps a len ≡ false
   in_reach = by (is_on_page a) (wraps a len) passed
@@ -323,6 +350,11 @@ module _ (old : Mem) (spaces : Spaces) (s : State) (p a len reached : ℕ) (prot
       by false c h = cc
       by true true h = cc
       by true false h = refl
+
+  changed_alike : (q : ℕ) → pages_changed (lengths old.spaces.areas old.anons) (to_prot prot) (page_of a) (reached - page_of a) (areas_on old.spaces.processes p) q
+      ≡ pages_changed (chain_length s.anons) (to_prot prot) (page_of a) (reached - page_of a) (areas_on old.spaces.processes p) q
+  changed_alike = pages_alike (lengths old.spaces.areas old.anons) (chain_length s.anons) (to_prot prot) (page_of a) (reached - page_of a) (areas_on old.spaces.processes p)
+      (lengths_alike old s keeps old.spaces old.anons (stay_same old.spaces old.anons keeps.anons) p)
 
   -- so many pages are mapped before the first that isn't
   leads : pages_to_hole (pages s.world p) (page_of a) (pages_of len) ≡ reached - page_of a
@@ -335,14 +367,14 @@ module _ (old : Mem) (spaces : Spaces) (s : State) (p a len reached : ℕ) (prot
   })
 
   -- the protection is that of the pages, and their bytes are as they were
-  covered-protected : (page : ℕ) → set_on (page_of a) (reached - page_of a) (Some prot) (prot_of (ranges_of old.spaces p)) page ≡ option_map (λ (x : Page). x.prot) (with_prot_on (pages s.world p) (page_of a) (reached - page_of a) prot page)
+  covered-protected : (page : ℕ) → set_on (page_of a) (reached - page_of a) (Some prot) (prot_of (ranges_of old.spaces.processes p)) page ≡ option_map (λ (x : Page). x.prot) (with_prot_on (pages s.world p) (page_of a) (reached - page_of a) prot page)
   covered-protected page = by (within (page_of a) (reached - page_of a) page) refl
     where
       there : (o : Option Page) → is_some o ≡ true → Some prot ≡ option_map (λ (x : Page). x.prot) (option_map (with_prot prot) o)
       there None e = cc
       there (Some x) e = refl
 
-      by : (b : Bool) → within (page_of a) (reached - page_of a) page ≡ b → cond b (Some prot) (prot_of (ranges_of old.spaces p) page) ≡ option_map (λ (x : Page). x.prot) (cond b (option_map (with_prot prot) (pages s.world p page)) (pages s.world p page))
+      by : (b : Bool) → within (page_of a) (reached - page_of a) page ≡ b → cond b (Some prot) (prot_of (ranges_of old.spaces.processes p) page) ≡ option_map (λ (x : Page). x.prot) (cond b (option_map (with_prot prot) (pages s.world p page)) (pages s.world p page))
       by true e =
           let low : page_of a ≤ page = grind (arith, nat_tests, e) in
           let high : page < page_of a + (reached - page_of a) = grind (arith, nat_tests, e) in
@@ -372,12 +404,13 @@ module _ (old : Mem) (spaces : Spaces) (s : State) (p a len reached : ℕ) (prot
 
   protected-steps : (answer : Answer) → answer ≡ (cond (pages_to_hole (pages s.world p) (page_of a) (pages_of len) == pages_of len) Done (Refused Enomem))
       → set_process s.world p (with_prot_on (pages s.world p) (page_of a) (reached - page_of a) prot) ≡ next_world (setting (count old)) s.world s.ledger [] (Mprotect p a len prot) answer
-      → with_at p (pages_changed no_chains (to_prot prot) (page_of a) (reached - page_of a) (s.areas p)) s.areas ≡ next_areas no_chains s.areas s.world (Mprotect p a len prot) answer
-      → MemSteps old (moved_on old old.tables spaces) s (Mprotect p a len prot) (answer_only answer)
+      → with_at p (pages_changed (chain_length s.anons) (to_prot prot) (page_of a) (reached - page_of a) (s.areas p)) s.areas ≡ next_areas (chain_length s.anons) s.areas s.world (Mprotect p a len prot) answer
+      → MemSteps old (moved_on old old.tables spaces anons) s (Mprotect p a len prot) (answer_only answer)
   protected-steps answer is world next =
       let now : Process = with_prot_on (pages s.world p) (page_of a) (reached - page_of a) prot in
-      let new = moved_on old old.tables spaces in
-      changed old new s (Mprotect p a len prot) (answer_only answer) p now (pages_changed no_chains (to_prot prot) (page_of a) (reached - page_of a) (s.areas p)) s.ledger keeps refl (stays_orderly old old.tables spaces s.ledger refl (orderly old s keeps)) refl (λ q page other. refl) kept-protected
+      let new = moved_on old old.tables spaces anons in
+      let now_on = areas_so old new s p (pages_changed (chain_length s.anons) (to_prot prot) (page_of a) (reached - page_of a)) keeps (re_areas old.spaces.processes spaces.processes p _ _ changed_alike areas) in
+      changed old new s (Mprotect p a len prot) (answer_only answer) p now (pages_changed (chain_length s.anons) (to_prot prot) (page_of a) (reached - page_of a) (s.areas p)) s.ledger keeps stay refl (stays_orderly old old.tables spaces anons s.ledger refl (orderly old s keeps)) refl (λ q page other. refl) kept-protected
       (record {
         events = [];
         legal = record {
@@ -387,32 +420,32 @@ module _ (old : Mem) (spaces : Spaces) (s : State) (p a len reached : ℕ) (prot
         world = world;
         ledger = refl;
         free = keeps.stands.free;
-        areas = areas_next s (Mprotect p a len prot) answer _ keeps.stands.anons next;
+        areas = record { areas = next; anons = are_left old s keeps spaces anons stay _ now_on };
       })
-      (areas_so old new s p (pages_changed no_chains (to_prot prot) (page_of a) (reached - page_of a)) keeps areas)
-      (areas_changed old new s p now (set_on (page_of a) (reached - page_of a) (Some prot) (prot_of (ranges_of old.spaces p))) keeps alive given covered-protected)
-      (tables_kept old new s p now (set_on (page_of a) (reached - page_of a) (Some prot) (prot_of (ranges_of old.spaces p))) keeps alive given covered-protected refl)
+      now_on
+      (areas_changed old new s p now (set_on (page_of a) (reached - page_of a) (Some prot) (prot_of (ranges_of old.spaces.processes p))) keeps alive given covered-protected)
+      (tables_kept old new s p now (set_on (page_of a) (reached - page_of a) (Some prot) (prot_of (ranges_of old.spaces.processes p))) keeps alive given covered-protected refl)
 
   -- all pages were mapped
-  pub mprotect-steps : page_of a + pages_of len ≤ reached → MemSteps old (moved_on old old.tables spaces) s (Mprotect p a len prot) (answer_only Done)
+  pub mprotect-steps : page_of a + pages_of len ≤ reached → MemSteps old (moved_on old old.tables spaces anons) s (Mprotect p a len prot) (answer_only Done)
   mprotect-steps whole =
       let high = reaches.highest in
       let size : reached - page_of a ≡ pages_of len = omega (arith, whole, high) in
       protected-steps Done (sym (ap (λ b. cond b Done (Refused Enomem)) (equal _ _ (leads ∙ size)))) (ap (λ k. set_process s.world p (with_prot_on (pages s.world p) (page_of a) k prot)) size)
-      (ap (λ k. with_at p (pages_changed no_chains (to_prot prot) (page_of a) k (s.areas p)) s.areas) (sym leads))
+      (ap (λ k. with_at p (pages_changed (chain_length s.anons) (to_prot prot) (page_of a) k (s.areas p)) s.areas) (sym leads))
     where
       equal : (k n : ℕ) → k ≡ n → (k == n) ≡ true
       equal k n e = grind (arith, nat_tests, e)
 
   -- a page before the end was not
-  pub mprotect-stops : reached < page_of a + pages_of len → MemSteps old (moved_on old old.tables spaces) s (Mprotect p a len prot) (answer_only (Refused Enomem))
+  pub mprotect-stops : reached < page_of a + pages_of len → MemSteps old (moved_on old old.tables spaces anons) s (Mprotect p a len prot) (answer_only (Refused Enomem))
   mprotect-stops less =
       let low = reaches.lowest in
       let fewer : reached - page_of a < pages_of len = omega (arith, less, low) in
       protected-steps (Refused Enomem) (sym (ap (λ b. cond b Done (Refused Enomem)) (differ _ _ _ leads fewer)))
       (ap (λ k. set_process s.world p (with_prot_on (pages s.world p) (page_of a) k prot)) (sym leads) ∙ sym (ap (λ b. cond b s.world (with_prot_to_hole s.world p (page_of a) (pages_of len) prot)) in_reach))
-      (ap (λ k. with_at p (pages_changed no_chains (to_prot prot) (page_of a) k (s.areas p)) s.areas) (sym leads)
-      ∙ sym (ap (λ b. cond b s.areas (with_at p (areas_to_hole no_chains s.world p (page_of a) (pages_of len) prot (s.areas p)) s.areas)) in_reach))
+      (ap (λ k. with_at p (pages_changed (chain_length s.anons) (to_prot prot) (page_of a) k (s.areas p)) s.areas) (sym leads)
+      ∙ sym (ap (λ b. cond b s.areas (with_at p (areas_to_hole (chain_length s.anons) s.world p (page_of a) (pages_of len) prot (s.areas p)) s.areas)) in_reach))
     where
       differ : (k m n : ℕ) → k ≡ m → m < n → (k == n) ≡ false
       differ k m n e h = grind (arith, nat_tests, e, h)

@@ -9,7 +9,7 @@ use Rattle.av_base.specs.Limits.{low_page, top_page}
 use Rattle.av_base.specs.Words.{within}
 use Rattle.av_vma.specs.declared.area.Area.{Area}
 use Rattle.av_vmatree.specs.Spans.{IsFree}
-use Rattle.av_vma.specs.Pages.{AreLaid, Pages, has_page, cut_at, without_range, with_area, joined_around, fresh_area, IsWhole, after_map, pages_in, after_unmap, pages_changed, to_prot, no_chains}
+use Rattle.av_vma.specs.Pages.{Lengths, AreLaid, Pages, has_page, cut_at, without_range, with_area, joined_around, fresh_area, IsWhole, after_map, pages_in, after_unmap, pages_changed, to_prot}
 use Rattle.av_merge.specs.Mapping.{Mapping, mapping, mapping_in, mapping_with, IsRemapped}
 use Rattle.av_merge.specs.Pages.{IsReached}
 use Rattle.av_merge.proofs.Mappings.{around_maps, cut_out_maps, placed_maps}
@@ -131,15 +131,15 @@ fresh_has p from n prot page = λ i. within (first i) (pages i) page
     pages : (4096 * (from + n)) / 4096 - (4096 * from) / 4096 ≡ n
     pages = omega arith
 
-prots_placed : (p : ℕ) (on : Pages) (from n : ℕ) (prot : Prot) (new : Pages) → AreLaid on
+prots_placed : (len : Lengths) (p : ℕ) (on : Pages) (from n : ℕ) (prot : Prot) (new : Pages) → AreLaid on
     → 1 ≤ n → low_page ≤ from → from + n ≤ top_page → IsFree (has_area on) from (from + n)
-    → ((page : ℕ) → new page ≡ joined_around no_chains from (from + n) (with_area (fresh_area p from (from + n) prot) on) page)
+    → ((page : ℕ) → new page ≡ joined_around len from (from + n) (with_area (fresh_area p from (from + n) prot) on) page)
     → (page : ℕ) → prots_on new page ≡ set_on from n (Some prot) (prots_on on) page
-prots_placed p on from n prot new laid some low high free is page =
+prots_placed len p on from n prot new laid some low high free is page =
     prots_mapped new page
     ∙ ap (option_map prot_mapped) (
     ap (option_map (mapping_in page)) (is page)
-    ∙ around_maps from (from + n) (with_area fresh on) (laid_placed fresh on laid (fresh_whole p from n prot some low high) none) page
+    ∙ around_maps len from (from + n) (with_area fresh on) (laid_placed fresh on laid (fresh_whole p from n prot some low high) none) page
     ∙ placed_maps fresh on page
     ∙ ap (λ b. cond b (Some (mapping_in page fresh)) (mapping on page)) (fresh_has p from n prot page)
     )
@@ -188,12 +188,12 @@ pub unmapped-prots : (s t : Spaces) (p from n : ℕ) → IsChanged s t p (AreThe
 unmapped-prots s t p from n h = has_prots s t p (AreThese (after_unmap from (from + n) (pages_of s p))) (set_on from n None (prot_of (ranges_of s p))) h
     (λ page. prots_cut (pages_of s p) from n (pages_of t p) (laid s p h.were_rising) h.pages page ∙ as_ranges s p from n page None)
 
-pub mapped-prots : (s t : Spaces) (p from n : ℕ) (prot : Prot) → 1 ≤ n → low_page ≤ from → from + n ≤ top_page → IsFree (is_taken s p) from (from + n)
-    → IsChanged s t p (AreThese (after_map no_chains p from (from + n) prot (pages_of s p))) → HasProts s t p (set_on from n (Some prot) (prot_of (ranges_of s p)))
-mapped-prots s t p from n prot some low high free h = has_prots s t p (AreThese (after_map no_chains p from (from + n) prot (pages_of s p))) (set_on from n (Some prot) (prot_of (ranges_of s p))) h
-    (λ page. prots_placed p (pages_of s p) from n prot (pages_of t p) (laid s p h.were_rising) some low high free h.pages page ∙ as_ranges s p from n page (Some prot))
+pub mapped-prots : (len : Lengths) (s t : Spaces) (p from n : ℕ) (prot : Prot) → 1 ≤ n → low_page ≤ from → from + n ≤ top_page → IsFree (is_taken s p) from (from + n)
+    → IsChanged s t p (AreThese (after_map len p from (from + n) prot (pages_of s p))) → HasProts s t p (set_on from n (Some prot) (prot_of (ranges_of s p)))
+mapped-prots len s t p from n prot some low high free h = has_prots s t p (AreThese (after_map len p from (from + n) prot (pages_of s p))) (set_on from n (Some prot) (prot_of (ranges_of s p))) h
+    (λ page. prots_placed len p (pages_of s p) from n prot (pages_of t p) (laid s p h.were_rising) some low high free h.pages page ∙ as_ranges s p from n page (Some prot))
 
-pub protected-prots : (s t : Spaces) (p from to past : ℕ) (prot : Prot) → IsReached (is_taken s p) from to past → IsChanged s t p (AreThese (pages_changed no_chains (to_prot prot) from (past - from) (pages_of s p))) → IsRemapped from past (to_prot prot) (pages_of s p) (pages_of t p)
+pub protected-prots : (len : Lengths) (s t : Spaces) (p from to past : ℕ) (prot : Prot) → IsReached (is_taken s p) from to past → IsChanged s t p (AreThese (pages_changed len (to_prot prot) from (past - from) (pages_of s p))) → IsRemapped from past (to_prot prot) (pages_of s p) (pages_of t p)
     → HasProts s t p (set_on from (past - from) (Some prot) (prot_of (ranges_of s p)))
-protected-prots s t p from to past prot reached h remap = has_prots s t p (AreThese (pages_changed no_chains (to_prot prot) from (past - from) (pages_of s p))) (set_on from (past - from) (Some prot) (prot_of (ranges_of s p))) h
+protected-prots len s t p from to past prot reached h remap = has_prots s t p (AreThese (pages_changed len (to_prot prot) from (past - from) (pages_of s p))) (set_on from (past - from) (Some prot) (prot_of (ranges_of s p))) h
     (λ page. prots_protected (pages_of s p) from to past prot (pages_of t p) reached remap page ∙ as_ranges s p from (past - from) page (Some prot))

@@ -18,8 +18,9 @@ use Rattle.av_plain.specs.Fault.{Touches}
 use Rattle.av_plain.specs.Sound.{AllSound}
 use Rattle.av_plain.specs.Areas.{Anons, Areas}
 use Rattle.av_plain.specs.Choice.{ChoosesAll, Free, ListsFree}
-use Rattle.av_plain.specs.Stands.{AreasAre, free_of}
-use Rattle.av_spaces.specs.Spaces.{Spaces, pages_of as areas_on}
+use Rattle.av_plain.specs.Stands.{AnonsStand, AreasAre, free_of}
+use Rattle.av_spaces.specs.Kin.{AnonsFit}
+use Rattle.av_spaces.specs.Spaces.{AllSpaces, pages_of as areas_on}
 use Rattle.av_reclaim.proofs.MemLaws.{frames_free, listed}
 use Rattle.av_plain.specs.Transcript.{State}
 use Rattle.av_plain.proofs.FreeFrames.{page-lists_free}
@@ -33,10 +34,11 @@ use Rattle.av_reclaim.specs.declared.mem.Mem.{Mem}
 use Rattle.av_fault.specs.declared.fault.Stop.{Stop}
 use Rattle.av_fault.specs.declared.fault.Touched.{Touched}
 use Rattle.av_fault.specs.declared.fault.Touched.TheVariants.{Ready, Stopped}
-use Rattle.av_reclaim.specs.Mem.{ranges_of, setting, count, plain, view, view_of_parts, Keeps, KeepsWithin}
+use Rattle.av_reclaim.specs.Mem.{anons_of, ranges_of, setting, count, plain, view, view_of_parts, Keeps, KeepsWithin}
 use Rattle.av_fault.specs.Fault.{IsTouched, end_of, stop_of}
 use Rattle.av_kernel.specs.Page.{IsPageStep, world_after}
 use Rattle.av_fault.proofs.FaultParts.{Parts, of_stand, to_stand}
+use Rattle.av_fault.proofs.FaultTouched.{anons_still}
 use Rattle.av_kernel.proofs.PageWritten.{over, written_now, stored_is}
 
 -- ---- soundness
@@ -85,7 +87,7 @@ sound_written n w l p page at piece notes s alive some fits h =
 
 -- ---- the kernel
 
-pub keeps_now : (k : Mem) (w : World) (l : Ledger) (areas : Areas) (anons : Anons) → KeepsWithin k w l → AllSound (setting (count k)) w l → ListsFree (setting (count k)) l (view k).free → AreasAre (view k) areas → (view k).anons ≡ anons
+pub keeps_now : (k : Mem) (w : World) (l : Ledger) (areas : Areas) (anons : Anons) → KeepsWithin k w l → AllSound (setting (count k)) w l → ListsFree (setting (count k)) l (view k).free → AreasAre (view k) areas → AnonsStand (view k) areas anons
     → Keeps k (record { world = w; ledger = l; free = free_of (view k); areas = areas; anons = anons })
 keeps_now k w l areas anons h sound free same same_anons = record {
   stands = record {
@@ -97,6 +99,7 @@ keeps_now k w l areas anons h sound free same same_anons = record {
     areas = same;
     anons = same_anons;
   };
+  anons = h.anons;
   tables = h.tables;
 }
 
@@ -160,12 +163,12 @@ module _ (s : State) (old : Mem) (p page at : ℕ) (piece : List ℕ) (before no
 
   -- it was served to a write, and then the piece was laid over the frame's bytes
   pub written_served : (mid new : Mem) (f : ℕ) → count mid ≡ count old → lives s.world p ≡ true → 1 ≤ length piece → at + length piece ≤ 4096 → IsTouched s mid true (p, page) before now (Ready f)
-      → seen new.frames ≡ record (seen mid.frames) { bytes = with_at f (overlaid at piece ((seen mid.frames).bytes f)) (seen mid.frames).bytes } → new.tables ≡ mid.tables → new.spaces ≡ mid.spaces
+      → seen new.frames ≡ record (seen mid.frames) { bytes = with_at f (overlaid at piece ((seen mid.frames).bytes f)) (seen mid.frames).bytes } → new.tables ≡ mid.tables → new.spaces ≡ mid.spaces → new.anons ≡ mid.anons
       → IsPageStep s new true p page at piece before now None
-  written_served mid new f same alive some fits t frames tables spaces =
+  written_served mid new f same alive some fits t frames tables spaces anons =
       let l = after_all s.ledger (page_events true (p, page) t.added None) in
       let m = setting (count mid) in
-      let view_is : view new ≡ over f at piece (view mid) = λ i. view_of_parts (frames i) (λ q o. plain (entry_at (tables i) q o)) (spaces i) in
+      let view_is : view new ≡ over f at piece (view mid) = λ i. view_of_parts (frames i) (λ q o. plain (entry_at (tables i) q o)) (spaces i) (anons i) in
       let sound = sound_written (count mid) s.world s.ledger p page at piece t.added (subst (λ n. AllSound (setting n) s.world s.ledger) (sym same) keeps.stands.sound) alive some fits t.touches in
       let parts = written_now m (view mid) s.world l p page f true at piece (of_stand mid s.world l t.parts) keeps.stands.sound.world alive t.ready.0 (t.ready.1 refl) fits in
       let parts' : Parts m (view new) (after_write s.world p (4096 * page + at) piece) l = subst (λ w. Parts m (view new) w l) (sym (stored_is s.world p (4096 * page + at) piece some)) (subst (λ v. Parts m v (set_process s.world p (with_bytes (pages s.world p) (4096 * page + at) piece)) l) (sym view_is) parts) in
@@ -185,8 +188,8 @@ module _ (s : State) (old : Mem) (p page at : ℕ) (piece : List ℕ) (before no
         anons = refl;
         keeps = keeps_now new (after_write s.world p (4096 * page + at) piece) l s.areas s.anons
             (to_stand new (after_write s.world p (4096 * page + at) piece) l (subst (λ n. Parts (setting n) (view new) (after_write s.world p (4096 * page + at) piece) l) count_is parts')
-            (λ q. ap (λ t. has t q) tables ∙ t.parts.tables q ∙ sym (ap (λ x. is_some (ranges_of x q)) spaces)))
+            (λ q. ap (λ t. has t q) tables ∙ t.parts.tables q ∙ sym (ap (λ (x : AllSpaces). is_some (ranges_of x.processes q)) spaces)) (subst (λ x. AnonsFit x new.anons) (sym spaces) (subst (AnonsFit mid.spaces) (sym anons) t.parts.anons)))
             (subst (λ n. AllSound (setting n) (after_write s.world p (4096 * page + at) piece) l) count_is sound)
             (free_listed (count new) true t.added None (free_of (view new)) (sym same ∙ count_is) touches chosen)
-            (λ q o. ap (λ (x : Spaces). areas_on x q o) spaces ∙ t.areas q o) t.anons;
+            (λ q o. ap (λ (x : AllSpaces). areas_on x.processes q o) spaces ∙ t.areas q o) (anons_still (view mid) (view new) s.areas s.anons (λ i. anons_of (spaces i) (anons i)) t.anons);
       }

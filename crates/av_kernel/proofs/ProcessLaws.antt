@@ -31,13 +31,16 @@ use Rattle.av_plain.proofs.World.{pages-set, lives-set, length-set_new}
 use Rattle.av_plain.proofs.Zap.{entry-ended, entry-others}
 use Rattle.av_plain.proofs.Sound.Zap.{process-ended, pages-ended}
 use Rattle.av_reclaim.specs.declared.mem.Mem.{Mem}
-use Rattle.av_spaces.specs.Spaces.{Spaces, areas_of, pages_of, IsSpawned, IsEnded}
+use Rattle.av_spaces.specs.Spaces.{AllSpaces, Spaces, areas_of, pages_of, IsSpawned, IsEnded}
 use Rattle.av_plain.specs.Report.{range_of}
 use Rattle.av_reclaim.specs.Mem.{ranges_of, setting, plain, view, count, HasTables, Keeps, HasLedger}
 use Rattle.av_kernel.specs.Step.{MemSteps, answer_only}
 use Rattle.av_reclaim.specs.Zap.{HasZapped}
 use Rattle.av_reclaim.proofs.MemLaws.{alive_is, lives_is, all_apart, kept-nothing, no_cache}
-use Rattle.av_kernel.proofs.StepLaws.{areas_next, is_number, orderly, moved_on, stays_orderly, state_after, changed, kept-on, stepped}
+use Rattle.av_anon.specs.declared.anons.Anons.{Anons as AnonSet}
+use Rattle.av_spaces.specs.Kin.{AnonsStay}
+use Rattle.av_kernel.proofs.AnonLaws.{anons_stand, are_left, left_of}
+use Rattle.av_kernel.proofs.StepLaws.{is_number, orderly, moved_on, stays_orderly, state_after, changed, kept-on, stepped}
 
 -- ---- the ranges of a process that comes or goes
 
@@ -61,10 +64,10 @@ at_number q p = grind (arith, nat_tests)
 -- ---- spawn
 
 -- a process that lives is refused, and so is one more than may live
-pub there_already : (k : Mem) (s : State) (p : ℕ) → Keeps k s → is_some (areas_of k.spaces p) ≡ true → refusal (tests (setting (count k)) s.world s.ledger (Spawn p)) ≡ Some Eexist
+pub there_already : (k : Mem) (s : State) (p : ℕ) → Keeps k s → is_some (areas_of k.spaces.processes p) ≡ true → refusal (tests (setting (count k)) s.world s.ledger (Spawn p)) ≡ Some Eexist
 there_already k s p keeps alive = ap (λ b. cond b (Some Eexist) (cond (nat_le most_processes (length s.world)) (Some Eagain) None)) (sym (lives_is k s keeps p) ∙ alive)
 
-pub too_many : (k : Mem) (s : State) (p : ℕ) → Keeps k s → is_some (areas_of k.spaces p) ≡ false → 4096 ≤ length k.spaces → refusal (tests (setting (count k)) s.world s.ledger (Spawn p)) ≡ Some Eagain
+pub too_many : (k : Mem) (s : State) (p : ℕ) → Keeps k s → is_some (areas_of k.spaces.processes p) ≡ false → 4096 ≤ length k.spaces.processes → refusal (tests (setting (count k)) s.world s.ledger (Spawn p)) ≡ Some Eagain
 too_many k s p keeps dead many =
     ap (λ b. cond b (Some Eexist) (cond (nat_le most_processes (length s.world)) (Some Eagain) None)) (sym (lives_is k s keeps p) ∙ dead)
     ∙ ap (λ b. cond b (Some Eagain) None) (at_least (length s.world) (let number = keeps.stands.parts.areas.number in omega (arith, many, number)))
@@ -73,11 +76,12 @@ too_many k s p keeps dead many =
     at_least n h = grind (arith, nat_tests, h)
 
 -- a process that didn't live does now
-module _ (old : Mem) (tables : ProcessTables) (spaces : Spaces) (s : State) (p : ℕ) (keeps : Keeps old s)
-    (absent : is_some (ranges_of old.spaces p) ≡ false) (few : length old.spaces < 4096)
-    (entries : entry_at tables ≡ entry_at old.tables) (processes : has tables ≡ with_at p true (has old.tables)) (spawned : IsSpawned old.spaces spaces p) where
+module _ (old : Mem) (tables : ProcessTables) (spaces : AllSpaces) (s : State) (p : ℕ) (keeps : Keeps old s)
+    (absent : is_some (ranges_of old.spaces.processes p) ≡ false) (few : length old.spaces.processes < 4096)
+    (entries : entry_at tables ≡ entry_at old.tables) (processes : has tables ≡ with_at p true (has old.tables)) (spawned : IsSpawned old.spaces.processes spaces.processes p)
+    (stay : AnonsStay old.spaces old.anons spaces old.anons) where
   dead_before : lives s.world p ≡ false
-  dead_before = sym (lives_is old s keeps p) ∙ sym (alive_is old.spaces p) ∙ absent
+  dead_before = sym (lives_is old s keeps p) ∙ sym (alive_is old.spaces.processes p) ∙ absent
 
   few_live : nat_le most_processes (length s.world) ≡ false
   few_live = let number = keeps.stands.parts.areas.number in let less : length s.world < 4096 = omega (arith, few, number) in not_le (length s.world) less
@@ -88,7 +92,14 @@ module _ (old : Mem) (tables : ProcessTables) (spaces : Spaces) (s : State) (p :
   spawn-allowed : refusal (tests (setting (count old)) s.world s.ledger (Spawn p)) ≡ None
   spawn-allowed = ap (λ b. cond b (Some Eexist) (cond (nat_le most_processes (length s.world)) (Some Eagain) None)) dead_before ∙ ap (λ b. cond b (Some Eagain) None) few_live
 
-  spawn-step : IsStep (setting (count old)) s (Spawn p) (answer_only Done) (state_after s p no_pages none_on s.ledger (free_of (view old)))
+  spawn-on : AreasAre (view (moved_on old tables spaces old.anons)) (with_at p none_on s.areas)
+  spawn-on q page = ap (λ a. pages_in a page) (spawned.areas q) ∙ by (q == p)
+    where
+      by : (b : Bool) → pages_in (cond b (Some []) (areas_of old.spaces.processes q)) page ≡ (cond b none_on (s.areas q)) page
+      by true = refl
+      by false = keeps.stands.areas q page
+
+  spawn-step : IsStep (setting (count old)) s (Spawn p) (answer_only Done) (state_after s p no_pages none_on s.ledger (free_of (view old)) old.anons)
   spawn-step = record {
     events = [];
     legal = record {
@@ -98,45 +109,38 @@ module _ (old : Mem) (tables : ProcessTables) (spaces : Spaces) (s : State) (p :
     world = refl;
     ledger = refl;
     free = keeps.stands.free;
-    areas = areas_next s (Spawn p) Done _ keeps.stands.anons refl;
+    areas = record { areas = refl; anons = are_left old s keeps spaces old.anons stay (with_at p none_on s.areas) spawn-on };
   }
 
-  spawn-on : AreasAre (view (moved_on old tables spaces)) (with_at p none_on s.areas)
-  spawn-on q page = ap (λ a. pages_in a page) (spawned.areas q) ∙ by (q == p)
-    where
-      by : (b : Bool) → pages_in (cond b (Some []) (areas_of old.spaces q)) page ≡ (cond b none_on (s.areas q)) page
-      by true = refl
-      by false = keeps.stands.areas q page
-
-  spawn-alive : (q : ℕ) → is_some (areas_of spaces q) ≡ lives (set_process s.world p no_pages) q
+  spawn-alive : (q : ℕ) → is_some (areas_of spaces.processes q) ≡ lives (set_process s.world p no_pages) q
   spawn-alive q = ap is_some (spawned.areas q) ∙ by (q == p) refl ∙ sym (lives-set s.world p no_pages q ∙ ap (λ b. cond b true (lives s.world q)) (at_number q p))
     where
-      by : (b : Bool) → (q == p) ≡ b → is_some (cond b (Some []) (areas_of old.spaces q)) ≡ cond b true (lives s.world q)
+      by : (b : Bool) → (q == p) ≡ b → is_some (cond b (Some []) (areas_of old.spaces.processes q)) ≡ cond b true (lives s.world q)
       by true e = refl
       by false e = keeps.stands.parts.areas.alive q
 
-  spawn-areas : AreasStand (view (moved_on old tables spaces)) (set_process s.world p no_pages)
+  spawn-areas : AreasStand (view (moved_on old tables spaces old.anons)) (set_process s.world p no_pages)
   spawn-areas = record {
     alive = spawn-alive;
     number = spawned.number ∙ ap (λ n. n + 1) keeps.stands.parts.areas.number ∙ sym (length-set_new s.world p no_pages keeps.stands.sound.world.in_order dead_before);
-    apart = all_apart spaces spawned.rising;
-    covers = λ q page. ap (λ o. prot_of o page) (ranges_spawned old.spaces spaces p spawned q) ∙ by q page (q == p)
+    apart = all_apart spaces.processes spawned.rising;
+    covers = λ q page. ap (λ o. prot_of o page) (ranges_spawned old.spaces.processes spaces.processes p spawned q) ∙ by q page (q == p)
         ∙ sym (ap (option_map (λ (x : Page). x.prot)) (pages-set s.world p no_pages q page ∙ ap (λ b. cond b None (pages s.world q page)) (at_number q p)));
   }
     where
-      by : (q page : ℕ) (b : Bool) → prot_of (cond b (Some []) (ranges_of old.spaces q)) page ≡ option_map (λ (x : Page). x.prot) (cond b None (pages s.world q page))
+      by : (q page : ℕ) (b : Bool) → prot_of (cond b (Some []) (ranges_of old.spaces.processes q)) page ≡ option_map (λ (x : Page). x.prot) (cond b None (pages s.world q page))
       by q page true = refl
       by q page false = keeps.stands.parts.areas.covers q page
 
-  spawn-tables : HasTables (moved_on old tables spaces)
-  spawn-tables q = ap (λ (h : ℕ → Bool). h q) processes ∙ by (q == p) ∙ sym (ap is_some (ranges_spawned old.spaces spaces p spawned q))
+  spawn-tables : HasTables (moved_on old tables spaces old.anons)
+  spawn-tables q = ap (λ (h : ℕ → Bool). h q) processes ∙ by (q == p) ∙ sym (ap is_some (ranges_spawned old.spaces.processes spaces.processes p spawned q))
     where
-      by : (b : Bool) → cond b true (has old.tables q) ≡ is_some (cond b (Some []) (ranges_of old.spaces q))
+      by : (b : Bool) → cond b true (has old.tables q) ≡ is_some (cond b (Some []) (ranges_of old.spaces.processes q))
       by true = refl
       by false = keeps.tables q
 
-  pub spawned-steps : MemSteps old (moved_on old tables spaces) s (Spawn p) (answer_only Done)
-  spawned-steps = changed old (moved_on old tables spaces) s (Spawn p) (answer_only Done) p no_pages none_on s.ledger keeps refl (stays_orderly old tables spaces s.ledger entries (orderly old s keeps)) refl
+  pub spawned-steps : MemSteps old (moved_on old tables spaces old.anons) s (Spawn p) (answer_only Done)
+  spawned-steps = changed old (moved_on old tables spaces old.anons) s (Spawn p) (answer_only Done) p no_pages none_on s.ledger keeps stay refl (stays_orderly old tables spaces old.anons s.ledger entries (orderly old s keeps)) refl
       (λ q page other. refl) (λ page. kept-nothing (view old) s.ledger (entry s.ledger (p, page))) spawn-step spawn-on spawn-areas spawn-tables
 
 -- ---- exit: the memories
@@ -181,16 +185,24 @@ lives-ended w p q = ap is_some (process-ended w p q) ∙ by (q == p)
 
 -- ---- exit: the end
 
-module _ (old mid : Mem) (tables : ProcessTables) (spaces : Spaces) (s : State) (p : ℕ) (keeps : Keeps old s) (alive : is_some (ranges_of old.spaces p) ≡ true)
+module _ (old mid : Mem) (tables : ProcessTables) (spaces : AllSpaces) (anons : AnonSet) (s : State) (p : ℕ) (keeps : Keeps old s) (alive : is_some (ranges_of old.spaces.processes p) ≡ true)
     (taken : HasZapped old mid s.ledger (zaps_of s.ledger (keys_of_process s.ledger p))) (bytes : (view mid).bytes ≡ (view old).bytes) (same_spaces : mid.spaces ≡ old.spaces) (same_tables : has mid.tables ≡ has old.tables) (same_count : count mid ≡ count old)
-    (processes : has tables ≡ with_at p false (has mid.tables)) (entries : entry_at tables ≡ with_at p (λ page. Empty) (entry_at mid.tables)) (ended : IsEnded mid.spaces spaces p) where
+    (processes : has tables ≡ with_at p false (has mid.tables)) (entries : entry_at tables ≡ with_at p (λ page. Empty) (entry_at mid.tables)) (ended : IsEnded mid.spaces.processes spaces.processes p)
+    (stay : AnonsStay old.spaces old.anons spaces anons) where
   alive_now : lives s.world p ≡ true
-  alive_now = sym (lives_is old s keeps p) ∙ sym (alive_is old.spaces p) ∙ alive
+  alive_now = sym (lives_is old s keeps p) ∙ sym (alive_is old.spaces.processes p) ∙ alive
 
   allowed : refusal (tests (setting (count old)) s.world s.ledger (Exit p)) ≡ None
   allowed = ap (λ b. cond (not b) (Some Esrch) None) alive_now
 
-  exit-step : IsStep (setting (count old)) s (Exit p) (answer_only Done) (record { world = end_process s.world p; ledger = after_all s.ledger (zaps_of s.ledger (keys_of_process s.ledger p)); free = free_of (view mid); areas = with_at p none_on s.areas; anons = s.anons })
+  exit-on : AreasAre (view (record { frames = mid.frames; tables = tables; spaces = spaces; anons = anons })) (with_at p none_on s.areas)
+  exit-on q page = ap (λ a. pages_in a page) (ended.areas q) ∙ by (q == p)
+    where
+      by : (b : Bool) → pages_in (cond b None (areas_of mid.spaces.processes q)) page ≡ (cond b none_on (s.areas q)) page
+      by true = refl
+      by false = ap (λ (x : AllSpaces). pages_of x.processes q page) same_spaces ∙ keeps.stands.areas q page
+
+  exit-step : IsStep (setting (count old)) s (Exit p) (answer_only Done) (record { world = end_process s.world p; ledger = after_all s.ledger (zaps_of s.ledger (keys_of_process s.ledger p)); free = free_of (view mid); areas = with_at p none_on s.areas; anons = left_of anons s.anons })
   exit-step = record {
     events = zaps_of s.ledger (keys_of_process s.ledger p);
     legal = record {
@@ -200,15 +212,8 @@ module _ (old mid : Mem) (tables : ProcessTables) (spaces : Spaces) (s : State) 
     world = refl;
     ledger = refl;
     free = subst (λ free. ChoosesAll (setting (count old)) None s.ledger (zaps_of s.ledger (keys_of_process s.ledger p)) free (free_of (view mid))) keeps.stands.free taken.free;
-    areas = areas_next s (Exit p) Done _ keeps.stands.anons refl;
+    areas = record { areas = refl; anons = are_left old s keeps spaces anons stay (with_at p none_on s.areas) exit-on };
   }
-
-  exit-on : AreasAre (view (record { frames = mid.frames; tables = tables; spaces = spaces })) (with_at p none_on s.areas)
-  exit-on q page = ap (λ a. pages_in a page) (ended.areas q) ∙ by (q == p)
-    where
-      by : (b : Bool) → pages_in (cond b None (areas_of mid.spaces q)) page ≡ (cond b none_on (s.areas q)) page
-      by true = refl
-      by false = ap (λ x. pages_of x q page) same_spaces ∙ keeps.stands.areas q page
 
   -- ---- what stands then
 
@@ -219,7 +224,7 @@ module _ (old mid : Mem) (tables : ProcessTables) (spaces : Spaces) (s : State) 
       by true = refl
       by false = refl
 
-  tables_now : TablesStand (view (record { frames = mid.frames; tables = tables; spaces = spaces })) (after_all s.ledger (zaps_of s.ledger (keys_of_process s.ledger p)))
+  tables_now : TablesStand (view (record { frames = mid.frames; tables = tables; spaces = spaces; anons = anons })) (after_all s.ledger (zaps_of s.ledger (keys_of_process s.ledger p)))
   tables_now = record {
     entries = λ q page. ap (λ e. entry_of (plain e)) (entry_is q page) ∙ kept q page (q == p) refl;
     write_bits = λ q page t f is writes names. bits (q == p) q page t f (sym (ap plain (entry_is q page)) ∙ is) writes names;
@@ -237,43 +242,43 @@ module _ (old mid : Mem) (tables : ProcessTables) (spaces : Spaces) (s : State) 
       bits true q page t f is writes names = absurd (clash is)
       bits false q page t f is writes names = taken.stands.parts.tables.write_bits q page t f is writes names
 
-  areas_now : AreasStand (view (record { frames = mid.frames; tables = tables; spaces = spaces })) (end_process s.world p)
+  areas_now : AreasStand (view (record { frames = mid.frames; tables = tables; spaces = spaces; anons = anons })) (end_process s.world p)
   areas_now = record {
     alive = λ q. ap is_some (ended.areas q) ∙ lives_as q (q == p) ∙ sym (lives-ended s.world p q);
-    number = number _ _ _ _ (ended.number ∙ ap length same_spaces) keeps.stands.parts.areas.number (length_ended s.world p keeps.stands.sound.world.in_order alive_now);
-    apart = all_apart spaces ended.rising;
-    covers = λ q page. ap (λ o. prot_of o page) (ranges_ended mid.spaces spaces p ended q) ∙ covered q page (q == p) ∙ sym (ap (option_map (λ (x : Page). x.prot)) (pages-ended s.world p q page));
+    number = number _ _ _ _ (ended.number ∙ ap (λ (x : AllSpaces). length x.processes) same_spaces) keeps.stands.parts.areas.number (length_ended s.world p keeps.stands.sound.world.in_order alive_now);
+    apart = all_apart spaces.processes ended.rising;
+    covers = λ q page. ap (λ o. prot_of o page) (ranges_ended mid.spaces.processes spaces.processes p ended q) ∙ covered q page (q == p) ∙ sym (ap (option_map (λ (x : Page). x.prot)) (pages-ended s.world p q page));
   }
     where
       number : (n m w w' : ℕ) → n + 1 ≡ m → m ≡ w → w' + 1 ≡ w → n ≡ w'
       number n m w w' a b c = omega arith
 
-      lives_as : (q : ℕ) (b : Bool) → is_some (cond b None (areas_of mid.spaces q)) ≡ cond b false (lives s.world q)
+      lives_as : (q : ℕ) (b : Bool) → is_some (cond b None (areas_of mid.spaces.processes q)) ≡ cond b false (lives s.world q)
       lives_as q true = refl
-      lives_as q false = ap (λ x. is_some (areas_of x q)) same_spaces ∙ keeps.stands.parts.areas.alive q
+      lives_as q false = ap (λ (x : AllSpaces). is_some (areas_of x.processes q)) same_spaces ∙ keeps.stands.parts.areas.alive q
 
-      covered : (q page : ℕ) (b : Bool) → prot_of (cond b None (ranges_of mid.spaces q)) page ≡ option_map (λ (x : Page). x.prot) (cond b None (pages s.world q page))
+      covered : (q page : ℕ) (b : Bool) → prot_of (cond b None (ranges_of mid.spaces.processes q)) page ≡ option_map (λ (x : Page). x.prot) (cond b None (pages s.world q page))
       covered q page true = refl
-      covered q page false = ap (λ x. prot_of (ranges_of x q) page) same_spaces ∙ keeps.stands.parts.areas.covers q page
+      covered q page false = ap (λ (x : AllSpaces). prot_of (ranges_of x.processes q) page) same_spaces ∙ keeps.stands.parts.areas.covers q page
 
-  kept_now : (q page : ℕ) → IsKept (view (record { frames = mid.frames; tables = tables; spaces = spaces })) no_device (after_all s.ledger (zaps_of s.ledger (keys_of_process s.ledger p))) (entry (after_all s.ledger (zaps_of s.ledger (keys_of_process s.ledger p))) (q, page)) (pages (end_process s.world p) q page)
+  kept_now : (q page : ℕ) → IsKept (view (record { frames = mid.frames; tables = tables; spaces = spaces; anons = anons })) no_device (after_all s.ledger (zaps_of s.ledger (keys_of_process s.ledger p))) (entry (after_all s.ledger (zaps_of s.ledger (keys_of_process s.ledger p))) (q, page)) (pages (end_process s.world p) q page)
   kept_now q page =
       let l = after_all s.ledger (zaps_of s.ledger (keys_of_process s.ledger p)) in
-      subst (IsKept (view (record { frames = mid.frames; tables = tables; spaces = spaces })) no_device l (entry l (q, page))) (sym (pages-ended s.world p q page))
-      (kept-on (view old) (view (record { frames = mid.frames; tables = tables; spaces = spaces })) s.ledger l (entry l (q, page)) (cond (q == p) None (pages s.world q page)) bytes (no_cache s.ledger keeps.stands.parts.ledger.swap.finds) (no_cache l taken.stands.parts.swap.finds) (by (q == p) refl))
+      subst (IsKept (view (record { frames = mid.frames; tables = tables; spaces = spaces; anons = anons })) no_device l (entry l (q, page))) (sym (pages-ended s.world p q page))
+      (kept-on (view old) (view (record { frames = mid.frames; tables = tables; spaces = spaces; anons = anons })) s.ledger l (entry l (q, page)) (cond (q == p) None (pages s.world q page)) bytes (no_cache s.ledger keeps.stands.parts.ledger.swap.finds) (no_cache l taken.stands.parts.swap.finds) (by (q == p) refl))
     where
       by : (b : Bool) → (q == p) ≡ b → IsKept (view old) no_device s.ledger (entry (after_all s.ledger (zaps_of s.ledger (keys_of_process s.ledger p))) (q, page)) (cond b None (pages s.world q page))
       by true e = kept-nothing (view old) s.ledger (entry (after_all s.ledger (zaps_of s.ledger (keys_of_process s.ledger p))) (q, page))
       by false e = subst (λ x. IsKept (view old) no_device s.ledger x (pages s.world q page)) (sym (entry-others s.ledger p q page e)) (keeps.stands.parts.bytes.kept q page)
 
-  has_now : HasTables (record { frames = mid.frames; tables = tables; spaces = spaces })
-  has_now q = ap (λ (h : ℕ → Bool). h q) processes ∙ has_as q (q == p) ∙ sym (ap is_some (ranges_ended mid.spaces spaces p ended q))
+  has_now : HasTables (record { frames = mid.frames; tables = tables; spaces = spaces; anons = anons })
+  has_now q = ap (λ (h : ℕ → Bool). h q) processes ∙ has_as q (q == p) ∙ sym (ap is_some (ranges_ended mid.spaces.processes spaces.processes p ended q))
     where
-      has_as : (q : ℕ) (b : Bool) → cond b false (has mid.tables q) ≡ is_some (cond b None (ranges_of mid.spaces q))
+      has_as : (q : ℕ) (b : Bool) → cond b false (has mid.tables q) ≡ is_some (cond b None (ranges_of mid.spaces.processes q))
       has_as q true = refl
-      has_as q false = ap (λ (h : ℕ → Bool). h q) same_tables ∙ keeps.tables q ∙ sym (ap (λ x. is_some (ranges_of x q)) same_spaces)
+      has_as q false = ap (λ (h : ℕ → Bool). h q) same_tables ∙ keeps.tables q ∙ sym (ap (λ (x : AllSpaces). is_some (ranges_of x.processes q)) same_spaces)
 
-  stands_now : HasLedger (record { frames = mid.frames; tables = tables; spaces = spaces }) (after_all s.ledger (zaps_of s.ledger (keys_of_process s.ledger p)))
+  stands_now : HasLedger (record { frames = mid.frames; tables = tables; spaces = spaces; anons = anons }) (after_all s.ledger (zaps_of s.ledger (keys_of_process s.ledger p)))
   stands_now = record {
     sound = taken.stands.sound;
     parts =
@@ -286,6 +291,6 @@ module _ (old mid : Mem) (tables : ProcessTables) (spaces : Spaces) (s : State) 
         };
   }
 
-  pub exit-steps : MemSteps old (record { frames = mid.frames; tables = tables; spaces = spaces }) s (Exit p) (answer_only Done)
-  exit-steps = stepped old (record { frames = mid.frames; tables = tables; spaces = spaces }) s (record { world = end_process s.world p; ledger = after_all s.ledger (zaps_of s.ledger (keys_of_process s.ledger p)); free = free_of (view mid); areas = with_at p none_on s.areas; anons = s.anons }) (Exit p) (answer_only Done)
-      keeps exit-step same_count stands_now refl exit-on keeps.stands.anons areas_now has_now kept_now
+  pub exit-steps : MemSteps old (record { frames = mid.frames; tables = tables; spaces = spaces; anons = anons }) s (Exit p) (answer_only Done)
+  exit-steps = stepped old (record { frames = mid.frames; tables = tables; spaces = spaces; anons = anons }) s (record { world = end_process s.world p; ledger = after_all s.ledger (zaps_of s.ledger (keys_of_process s.ledger p)); free = free_of (view mid); areas = with_at p none_on s.areas; anons = left_of anons s.anons }) (Exit p) (answer_only Done)
+      keeps exit-step same_count stands_now refl exit-on (anons_stand old s keeps spaces anons stay (with_at p none_on s.areas) exit-on (record { frames = mid.frames; tables = tables; spaces = spaces; anons = anons }) refl refl) stay.fit areas_now has_now kept_now

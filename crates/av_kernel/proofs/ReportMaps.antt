@@ -17,9 +17,9 @@ use Rattle.av_reclaim.specs.Mem.{setting, count, Keeps}
 use Rattle.av_reclaim.proofs.MemLaws.{lives_is}
 use Rattle.av_kernel.specs.Report.{AreRuns}
 use Rattle.av_kernel.specs.Step.{MemSteps}
-use Rattle.av_kernel.proofs.StepLaws.{areas_next}
+use Rattle.av_kernel.proofs.StepLaws.{areas_kept}
 
-module _ (k : Mem) (s : State) (p : ℕ) (areas : List Area) (rows : List Row) (keeps : Keeps k s) (alive : is_some (areas_of k.spaces p) ≡ true) (are : areas_of k.spaces p ≡ Some areas) (runs : AreRuns (map range_of areas) rows) where
+module _ (k : Mem) (s : State) (p : ℕ) (areas : List Area) (rows : List Row) (keeps : Keeps k s) (alive : is_some (areas_of k.spaces.processes p) ≡ true) (are : areas_of k.spaces.processes p ≡ Some areas) (runs : AreRuns (map range_of areas) rows) where
   allowed : refusal (tests (setting (count k)) s.world s.ledger (Maps p)) ≡ None
   allowed = ap (λ b. cond (not b) (Some Esrch) None) (sym (lives_is k s keeps p) ∙ alive)
 
@@ -44,7 +44,7 @@ module _ (k : Mem) (s : State) (p : ℕ) (areas : List Area) (rows : List Row) (
       world = refl;
       ledger = refl;
       free = refl;
-      areas = areas_next s _ _ s.areas keeps.stands.anons refl;
+      areas = areas_kept k s _ _ keeps refl;
     };
     keeps = keeps;
   }

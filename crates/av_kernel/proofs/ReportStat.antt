@@ -10,10 +10,10 @@ use Rattle.av_plain.proofs.Report.Totals.{free-once, totals-plain}
 use Rattle.av_reclaim.specs.declared.mem.Mem.{Mem}
 use Rattle.av_reclaim.specs.Mem.{setting, view, count, Keeps}
 use Rattle.av_kernel.specs.Step.{MemSteps, answer_only}
-use Rattle.av_kernel.proofs.StepLaws.{areas_next}
+use Rattle.av_kernel.proofs.StepLaws.{areas_kept}
 
 -- what the kernel counts is what the ledger has
-pub counted : (k : Mem) (s : State) (processes : ℕ) → Keeps k s → ((f : ℕ) → how_many (λ g. f == g) (view k).free ≤ 1) → ((f : ℕ) → is_in f (view k).free ≡ true → f < count k) → processes ≡ length k.spaces
+pub counted : (k : Mem) (s : State) (processes : ℕ) → Keeps k s → ((f : ℕ) → how_many (λ g. f == g) (view k).free ≤ 1) → ((f : ℕ) → is_in f (view k).free ≡ true → f < count k) → processes ≡ length k.spaces.processes
     → record { frames = count k; free = length (view k).free; active = 0; inactive = count k - length (view k).free; flight = 0; slots = 0; free_slots = 0; processes = processes } ≡ totals (setting (count k)) s.world s.ledger
 counted k s processes keeps once below number =
     let st = keeps.stands in
@@ -23,7 +23,7 @@ counted k s processes keeps once below number =
     with_number : ℕ → Totals
     with_number n = record { frames = count k; free = length (view k).free; active = 0; inactive = count k - length (view k).free; flight = 0; slots = 0; free_slots = 0; processes = n }
 
-pub stat-steps : (k : Mem) (s : State) (processes : ℕ) → Keeps k s → ((f : ℕ) → how_many (λ g. f == g) (view k).free ≤ 1) → ((f : ℕ) → is_in f (view k).free ≡ true → f < count k) → processes ≡ length k.spaces
+pub stat-steps : (k : Mem) (s : State) (processes : ℕ) → Keeps k s → ((f : ℕ) → how_many (λ g. f == g) (view k).free ≤ 1) → ((f : ℕ) → is_in f (view k).free ≡ true → f < count k) → processes ≡ length k.spaces.processes
     → MemSteps k k s Stat (answer_only (Counted (record { frames = count k; free = length (view k).free; active = 0; inactive = count k - length (view k).free; flight = 0; slots = 0; free_slots = 0; processes = processes })))
 stat-steps k s processes keeps once below number = record {
   next = s;
@@ -33,7 +33,7 @@ stat-steps k s processes keeps once below number = record {
     world = refl;
     ledger = refl;
     free = refl;
-    areas = areas_next s Stat _ s.areas keeps.stands.anons refl;
+    areas = areas_kept k s Stat _ keeps refl;
   };
   keeps = keeps;
 }

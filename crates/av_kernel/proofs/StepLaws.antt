@@ -1,6 +1,7 @@
 -- One command's step: the ledger's parts stand after its events, and so do the areas and the bytes of the pages that it changed.
-use Rattle.std.proofs.Common.{◌≡◌, ◌≢◌, ℕ, Bool, true, false, cond, not, List, [], length, Option, Some, None, is_some, option_map, Result, Ok, Err, refl, sym, ap, subst, ◌∙◌, arith, ◌==◌}
+use Rattle.std.proofs.Common.{◌≡◌, ◌≢◌, ℕ, Bool, true, false, cond, not, List, [], length, Option, Some, None, IsSome, is_some, option_map, Result, Ok, Err, refl, sym, ap, subst, ◌∙◌, arith, ◌==◌}
 use Rattle.std.proofs.lemmas.Bool.Decides.{nat_tests}
+use Rattle.std.proofs.lemmas.Bool.{false≢true}
 use Rattle.std.specs.Ordering.{nat_cmp, eq_by_cmp}
 use Rattle.std.specs.Prelude.{MatchOption, IsErr, IsErrAnd}
 use Rattle.av_base.specs.declared.prot.Prot.{Prot}
@@ -19,10 +20,14 @@ use Rattle.av_plain.specs.Sound.{AllSound}
 use Rattle.av_plain.specs.Device.{no_device}
 use Rattle.av_plain.specs.Choice.{Free, ListsAll, ListsFree}
 use Rattle.av_base.specs.Words.{with_at}
-use Rattle.av_vma.specs.Pages.{Pages, no_chains}
-use Rattle.av_plain.specs.Stands.{View, Holds, IsKept, AreasAre, AreasStand, entry_of, free_of, prot_of}
-use Rattle.av_plain.specs.Areas.{Anons, Areas, AreLeft, AreNext, chain_length, next_areas, no_anons}
-use Rattle.av_plain.proofs.AreasLeft.{left-none, no-chain}
+use Rattle.av_vma.specs.Pages.{Pages}
+use Rattle.av_plain.specs.Stands.{View, Holds, IsKept, AnonsStand, AreasAre, kin_of, AreasStand, entry_of, free_of, prot_of}
+use Rattle.av_anon.specs.declared.anons.Anons.{Anons as AnonSet}
+use Rattle.av_anon.specs.declared.infos.Info.{Info}
+use Rattle.av_spaces.specs.Kin.{AnonsFit, AnonsStay, chain_on, info_of}
+use Rattle.av_spaces.proofs.Kin.{stay_same}
+use Rattle.av_plain.specs.Areas.{AnonVma, Anons, AreLeft, AreNext, chain_length, next_areas}
+use Rattle.av_kernel.proofs.AnonLaws.{anons_stand, are_left, left_of}
 use Rattle.av_plain.proofs.FreeFrames.{step-lists_free}
 use Rattle.av_plain.proofs.Refusal.{refused-areas, refused-next}
 use Rattle.av_plain.proofs.Sound.{step-sound}
@@ -30,9 +35,9 @@ use Rattle.av_plain.proofs.World.{pages-set, lives-set, length-set_old}
 use Rattle.av_pagetable.specs.Entries.{ProcessTables, entry_at, has}
 use Rattle.av_pagetable.specs.declared.pte.Pte.{Pte}
 use Rattle.av_reclaim.specs.declared.mem.Mem.{Mem}
-use Rattle.av_spaces.specs.Spaces.{Spaces, areas_of}
+use Rattle.av_spaces.specs.Spaces.{AllSpaces, Spaces, areas_of}
 use Rattle.av_kernel.specs.Map.{HasProts}
-use Rattle.av_reclaim.specs.Mem.{ranges_of, setting, plain, view, count, HasTables, Keeps, HasLedger}
+use Rattle.av_reclaim.specs.Mem.{anon_vma, ranges_of, setting, plain, view, count, HasTables, Keeps, HasLedger}
 use Rattle.av_kernel.specs.declared.refusal.Refusal.{Refusal}
 use Rattle.av_kernel.specs.declared.refusal.Refusal.TheVariants as refusals
 use Rattle.av_kernel.specs.Step.{MemSteps, Does, answer_only}
@@ -50,22 +55,27 @@ other_number q p e = grind (arith, nat_tests)
 
 -- ---- areas and anon_vmas
 
--- no area has an anon_vma yet
-no_lengths : (anons : Anons) → no_anons ≡ anons → chain_length anons ≡ no_chains
-no_lengths anons none = ap chain_length (sym none) ∙ (λ i own. length (no-chain own i))
+-- a command that leaves the areas leaves the anon_vmas
+pub areas_kept : (k : Mem) (s : State) (command : Command) (answer : Answer) → Keeps k s → next_areas (chain_length s.anons) s.areas s.world command answer ≡ s.areas
+    → AreNext s.areas s.anons s.world command answer s.areas s.anons
+areas_kept k s command answer keeps stay = record { areas = sym stay; anons = left_alone }
+  where
+    fit : AnonsStay k.spaces k.anons k.spaces k.anons
+    fit = stay_same k.spaces k.anons keeps.anons
 
--- so the areas after a command are those without one
-pub areas_next : (s : State) (command : Command) (answer : Answer) (on : Areas) → no_anons ≡ s.anons → on ≡ next_areas no_chains s.areas s.world command answer → AreNext s.areas s.anons s.world command answer on s.anons
-areas_next s command answer on none is = record {
-  areas = is ∙ ap (λ long. next_areas long s.areas s.world command answer) (sym (no_lengths s.anons none));
-  anons = subst (λ a. AreLeft a on a) none (left-none on);
-}
-
--- and where a command leaves them as they were
-pub areas_kept : (s next : State) (command : Command) (answer : Answer) → next_areas no_chains s.areas s.world command answer ≡ s.areas → next.areas ≡ s.areas → next.anons ≡ s.anons → no_anons ≡ next.anons
-    → AreNext s.areas s.anons s.world command answer next.areas next.anons
-areas_kept s next command answer stay areas anons none = subst (AreNext s.areas s.anons s.world command answer next.areas) (sym anons)
-    (areas_next s command answer next.areas (none ∙ anons) (areas ∙ sym stay))
+    left_alone : AreLeft s.anons s.areas s.anons
+    left_alone =
+        let h = are_left k s keeps k.spaces k.anons fit s.areas keeps.stands.areas in
+        record { next = refl; there = λ v there. h.there v (still v there); linked = λ v linked. refl }
+      where
+        still : (v : ℕ) → IsSome (s.anons.anon v) → IsSome ((left_of k.anons s.anons).anon v)
+        still v there = by (info_of k.anons v) refl (s.anons.anon v) there (keeps.stands.anons.kin v)
+          where
+            by : (i : Option Info) → info_of k.anons v ≡ i → (o : Option AnonVma) → IsSome o → option_map kin_of (option_map (anon_vma (chain_on k.spaces k.anons (Some v))) i) ≡ option_map kin_of o
+                → IsSome (cond (is_some i) o None)
+            by None e None there same = there
+            by None e (Some x) there same = absurd (false≢true (ap is_some same))
+            by (Some i) e o there same = there
 
 -- ---- a refusal
 
@@ -82,7 +92,7 @@ refused k s command error keeps is = record {
     world = sym (refused-next (setting (count k)) s.world s.world s.ledger command error is);
     ledger = refl;
     free = refl;
-    areas = areas_next s command (Refused error) s.areas keeps.stands.anons (sym (refused-areas (setting (count k)) s.world s.ledger no_chains s.areas command error is));
+    areas = areas_kept k s command (Refused error) keeps (refused-areas (setting (count k)) s.world s.ledger (chain_length s.anons) s.areas command error is);
   };
   keeps = keeps;
 }
@@ -108,12 +118,12 @@ pub refuses-as : (old new : Mem) (command : Command) (error : Errno) (r : Result
 refuses-as old new command error r x is same does = refuses-by old new command error r (is.0, subst (λ (y : Refusal). IsErrAnd r (λ e. e ≡ y)) same is.1) does
 
 -- a process that has no areas is refused first
-pub dead_first : (k : Mem) (s : State) (p : ℕ) (rest : Option Errno) → Keeps k s → is_some (areas_of k.spaces p) ≡ false → cond (not (lives s.world p)) (Some Esrch) rest ≡ Some Esrch
+pub dead_first : (k : Mem) (s : State) (p : ℕ) (rest : Option Errno) → Keeps k s → is_some (areas_of k.spaces.processes p) ≡ false → cond (not (lives s.world p)) (Some Esrch) rest ≡ Some Esrch
 dead_first k s p rest keeps dead = ap (λ b. cond (not b) (Some Esrch) rest) (sym (lives_is k s keeps p) ∙ dead)
 
 -- a process that has areas has ranges
-pub ranges_there : (k : Mem) (p : ℕ) → is_some (areas_of k.spaces p) ≡ true → is_some (ranges_of k.spaces p) ≡ true
-ranges_there k p alive = alive_is k.spaces p ∙ alive
+pub ranges_there : (k : Mem) (p : ℕ) → is_some (areas_of k.spaces.processes p) ≡ true → is_some (ranges_of k.spaces.processes p) ≡ true
+ranges_there k p alive = alive_is k.spaces.processes p ∙ alive
 
 -- ---- what pages keep
 
@@ -131,8 +141,8 @@ pub orderly : (k : Mem) (s : State) → Keeps k s → HasLedger k s.ledger
 orderly k s keeps = record { sound = keeps.stands.sound.ledger; parts = keeps.stands.parts.ledger }
 
 pub stepped : (old new : Mem) (s next : State) (command : Command) (reply : Reply) → Keeps old s → IsStep (setting (count old)) s command reply next → count new ≡ count old → HasLedger new next.ledger → free_of (view new) ≡ next.free
-    → AreasAre (view new) next.areas → (view new).anons ≡ next.anons → AreasStand (view new) next.world → HasTables new → ((q page : ℕ) → IsKept (view new) no_device next.ledger (entry next.ledger (q, page)) (pages next.world q page)) → MemSteps old new s command reply
-stepped old new s next command reply keeps step same_count stands free areas_now anons_now areas tables kept = record {
+    → AreasAre (view new) next.areas → AnonsStand (view new) next.areas next.anons → AnonsFit new.spaces new.anons → AreasStand (view new) next.world → HasTables new → ((q page : ℕ) → IsKept (view new) no_device next.ledger (entry next.ledger (q, page)) (pages next.world q page)) → MemSteps old new s command reply
+stepped old new s next command reply keeps step same_count stands free areas_now anons_now fit areas tables kept = record {
   next = next;
   step = step;
   keeps = record {
@@ -151,6 +161,7 @@ stepped old new s next command reply keeps step same_count stands free areas_now
       anons = anons_now;
     };
     tables = tables;
+    anons = fit;
   };
 }
   where
@@ -160,11 +171,11 @@ stepped old new s next command reply keeps step same_count stands free areas_now
 
 -- ---- a step that changes one process
 
-abbrev pub state_after : State → ℕ → Process → Pages → Ledger → Free → State
-state_after s p now on l free = record { world = set_process s.world p now; ledger = l; free = free; areas = with_at p on s.areas; anons = s.anons }
+abbrev pub state_after : State → ℕ → Process → Pages → Ledger → Free → AnonSet → State
+state_after s p now on l free anons = record { world = set_process s.world p now; ledger = l; free = free; areas = with_at p on s.areas; anons = left_of anons s.anons }
 
 module _ (old new : Mem) (s : State) (command : Command) (reply : Reply) (p : ℕ) (now : Process) (on : Pages) (l : Ledger)
-    (keeps : Keeps old s) (same_count : count new ≡ count old) (stands : HasLedger new l) (bytes : (view new).bytes ≡ (view old).bytes)
+    (keeps : Keeps old s) (stay : AnonsStay old.spaces old.anons new.spaces new.anons) (same_count : count new ≡ count old) (stands : HasLedger new l) (bytes : (view new).bytes ≡ (view old).bytes)
     (others : (q page : ℕ) → (q == p) ≡ false → entry l (q, page) ≡ entry s.ledger (q, page)) (kept : (page : ℕ) → IsKept (view old) no_device s.ledger (entry l (p, page)) (now page)) where
   kept-all : (q page : ℕ) → IsKept (view new) no_device l (entry l (q, page)) (pages (set_process s.world p now) q page)
   kept-all q page = subst (IsKept (view new) no_device l (entry l (q, page))) (sym (pages-set s.world p now q page ∙ ap (λ b. cond b (now page) (pages s.world q page)) (at_number q p)))
@@ -174,17 +185,18 @@ module _ (old new : Mem) (s : State) (command : Command) (reply : Reply) (p : �
       by true e = subst (λ n. IsKept (view old) no_device s.ledger (entry l (n, page)) (now page)) (sym (is_number q p e)) (kept page)
       by false e = subst (λ x. IsKept (view old) no_device s.ledger x (pages s.world q page)) (sym (others q page e)) (keeps.stands.parts.bytes.kept q page)
 
-  pub changed : IsStep (setting (count old)) s command reply (state_after s p now on l (free_of (view new))) → AreasAre (view new) (with_at p on s.areas) → AreasStand (view new) (set_process s.world p now) → HasTables new → MemSteps old new s command reply
-  changed step areas_now areas tables = stepped old new s (state_after s p now on l (free_of (view new))) command reply keeps step same_count stands refl areas_now keeps.stands.anons areas tables kept-all
+  pub changed : IsStep (setting (count old)) s command reply (state_after s p now on l (free_of (view new)) new.anons) → AreasAre (view new) (with_at p on s.areas) → AreasStand (view new) (set_process s.world p now) → HasTables new → MemSteps old new s command reply
+  changed step areas_now areas tables = stepped old new s (state_after s p now on l (free_of (view new)) new.anons) command reply keeps step same_count stands refl areas_now
+      (anons_stand old s keeps new.spaces new.anons stay (with_at p on s.areas) areas_now new refl refl) stay.fit areas tables kept-all
 
 -- the areas of a process that lives have changed
-module _ (old new : Mem) (s : State) (p : ℕ) (now : Process) (prots : ℕ → Option Prot) (keeps : Keeps old s) (alive : is_some (ranges_of old.spaces p) ≡ true)
-    (spaces : HasProts old.spaces new.spaces p prots) (is : (page : ℕ) → prots page ≡ option_map (λ (x : Page). x.prot) (now page)) where
-  lives_as : (q : ℕ) → is_some (ranges_of new.spaces q) ≡ is_some (ranges_of old.spaces q)
+module _ (old new : Mem) (s : State) (p : ℕ) (now : Process) (prots : ℕ → Option Prot) (keeps : Keeps old s) (alive : is_some (ranges_of old.spaces.processes p) ≡ true)
+    (spaces : HasProts old.spaces.processes new.spaces.processes p prots) (is : (page : ℕ) → prots page ≡ option_map (λ (x : Page). x.prot) (now page)) where
+  lives_as : (q : ℕ) → is_some (ranges_of new.spaces.processes q) ≡ is_some (ranges_of old.spaces.processes q)
   lives_as q = by (q == p) refl
     where
-      by : (b : Bool) → (q == p) ≡ b → is_some (ranges_of new.spaces q) ≡ is_some (ranges_of old.spaces q)
-      by true e = ap (λ n. is_some (ranges_of new.spaces n)) (is_number q p e) ∙ spaces.alive ∙ sym (ap (λ n. is_some (ranges_of old.spaces n)) (is_number q p e) ∙ alive)
+      by : (b : Bool) → (q == p) ≡ b → is_some (ranges_of new.spaces.processes q) ≡ is_some (ranges_of old.spaces.processes q)
+      by true e = ap (λ n. is_some (ranges_of new.spaces.processes n)) (is_number q p e) ∙ spaces.alive ∙ sym (ap (λ n. is_some (ranges_of old.spaces.processes n)) (is_number q p e) ∙ alive)
       by false e = ap is_some (spaces.others q (other_number q p e))
 
   pub tables_kept : has new.tables ≡ has old.tables → HasTables new
@@ -192,7 +204,7 @@ module _ (old new : Mem) (s : State) (p : ℕ) (now : Process) (prots : ℕ → 
 
   pub areas_changed : AreasStand (view new) (set_process s.world p now)
   areas_changed = record {
-    alive = λ q. sym (alive_is new.spaces q) ∙ lives_as q ∙ alive_is old.spaces q ∙ keeps.stands.parts.areas.alive q ∙ by q (q == p) refl ∙ sym (lives-set s.world p now q ∙ ap (λ b. cond b true (lives s.world q)) (at_number q p));
+    alive = λ q. sym (alive_is new.spaces.processes q) ∙ lives_as q ∙ alive_is old.spaces.processes q ∙ keeps.stands.parts.areas.alive q ∙ by q (q == p) refl ∙ sym (lives-set s.world p now q ∙ ap (λ b. cond b true (lives s.world q)) (at_number q p));
     number = spaces.number ∙ keeps.stands.parts.areas.number ∙ sym (length-set_old s.world p now keeps.stands.sound.world.in_order lives_now);
     apart = spaces.apart;
     covers = λ q page. covers_at q page (q == p) refl
@@ -200,14 +212,14 @@ module _ (old new : Mem) (s : State) (p : ℕ) (now : Process) (prots : ℕ → 
   }
     where
       lives_now : lives s.world p ≡ true
-      lives_now = sym (lives_is old s keeps p) ∙ sym (alive_is old.spaces p) ∙ alive
+      lives_now = sym (lives_is old s keeps p) ∙ sym (alive_is old.spaces.processes p) ∙ alive
 
       by : (q : ℕ) (b : Bool) → (q == p) ≡ b → lives s.world q ≡ cond (q == p) true (lives s.world q)
       by q true e = ap (lives s.world) (is_number q p e) ∙ lives_now ∙ sym (ap (λ b. cond b true (lives s.world q)) e)
       by q false e = sym (ap (λ b. cond b true (lives s.world q)) e)
 
-      covers_at : (q page : ℕ) (b : Bool) → (q == p) ≡ b → prot_of (ranges_of new.spaces q) page ≡ option_map (λ (x : Page). x.prot) (cond (q == p) (now page) (pages s.world q page))
-      covers_at q page true e = ap (λ n. prot_of (ranges_of new.spaces n) page) (is_number q p e) ∙ spaces.pages page ∙ is page
+      covers_at : (q page : ℕ) (b : Bool) → (q == p) ≡ b → prot_of (ranges_of new.spaces.processes q) page ≡ option_map (λ (x : Page). x.prot) (cond (q == p) (now page) (pages s.world q page))
+      covers_at q page true e = ap (λ n. prot_of (ranges_of new.spaces.processes n) page) (is_number q p e) ∙ spaces.pages page ∙ is page
           ∙ sym (ap (λ b. option_map (λ (x : Page). x.prot) (cond b (now page) (pages s.world q page))) e)
       covers_at q page false e = ap (λ a. prot_of a page) (spaces.others q (other_number q p e)) ∙ keeps.stands.parts.areas.covers q page
           ∙ sym (ap (λ b. option_map (λ (x : Page). x.prot) (cond b (now page) (pages s.world q page))) e)
@@ -215,11 +227,11 @@ module _ (old new : Mem) (s : State) (p : ℕ) (now : Process) (prots : ℕ → 
 -- ---- the frames and the entries stay
 
 -- the tables and the areas change, the frames and the entries don't
-abbrev pub moved_on : Mem → ProcessTables → Spaces → Mem
-moved_on old tables spaces = record { frames = old.frames; tables = tables; spaces = spaces }
+abbrev pub moved_on : Mem → ProcessTables → AllSpaces → AnonSet → Mem
+moved_on old tables spaces anons = record { frames = old.frames; tables = tables; spaces = spaces; anons = anons }
 
-pub stays_orderly : (old : Mem) (tables : ProcessTables) (spaces : Spaces) (l : Ledger) → entry_at tables ≡ entry_at old.tables → HasLedger old l → HasLedger (moved_on old tables spaces) l
-stays_orderly old tables spaces l entries h = record {
+pub stays_orderly : (old : Mem) (tables : ProcessTables) (spaces : AllSpaces) (anons : AnonSet) (l : Ledger) → entry_at tables ≡ entry_at old.tables → HasLedger old l → HasLedger (moved_on old tables spaces anons) l
+stays_orderly old tables spaces anons l entries h = record {
   sound = h.sound;
   parts =
       let had = h.parts in

@@ -3,6 +3,7 @@ use Rattle.std.specs.Prelude.{◌≡◌, ◌≢◌, ℕ, true, is_some, if◌the
 use Rattle.av_base.specs.declared.prot.Prot.{Prot}
 use Rattle.av_base.specs.Words.{with_at, within}
 use Rattle.av_pagetable.specs.Entries.{has}
+use Rattle.av_spaces.specs.Kin.{AnonsStay}
 use Rattle.av_spaces.specs.Spaces.{Spaces, pages_of}
 use Rattle.av_vma.specs.Pages.{Pages}
 use Rattle.av_plain.specs.Ledger.{Ledger}
@@ -32,8 +33,9 @@ HasAreas old new p on = (q page : ℕ) → pages_of new q page ≡ with_at p on 
 pub record AreCleared (old new : Mem) (p page n : ℕ) (on : Pages) (l : Ledger)
     (events : List Event) : Type 0 where
   pub taken : HasZapped old new l events
-  pub spaces : HasProts old.spaces new.spaces p
-      (set_on page n None (prot_of (ranges_of old.spaces p)))
-  pub areas : HasAreas old.spaces new.spaces p on
+  pub spaces : HasProts old.spaces.processes new.spaces.processes p
+      (set_on page n None (prot_of (ranges_of old.spaces.processes p)))
+  pub areas : HasAreas old.spaces.processes new.spaces.processes p on
+  pub anons : AnonsStay old.spaces old.anons new.spaces new.anons
   pub processes : has new.tables ≡ has old.tables
   pub bytes : (view new).bytes ≡ (view old).bytes

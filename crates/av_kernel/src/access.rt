@@ -98,7 +98,7 @@ fn read_pieces(
     notes: &mut Notes,
 ) -> Result<Ended, AllocError>
     requires steady { IsSteady mem.old }
-    requires lives { is_some (areas_of mem.old.spaces process) ≡ true }
+    requires lives { is_some (areas_of mem.old.spaces.processes process) ≡ true }
     requires fresh { shown.old ≡ [] }
     ensures access { (s : State) → Keeps mem.old s → IfOk result (λ ended.
         IsAccess s mem.new false process address len [] notes.old notes.new
@@ -135,7 +135,7 @@ fn write_pieces(
     notes: &mut Notes,
 ) -> Result<Ended, AllocError>
     requires steady { IsSteady mem.old }
-    requires lives { is_some (areas_of mem.old.spaces process) ≡ true }
+    requires lives { is_some (areas_of mem.old.spaces.processes process) ≡ true }
     ensures access { (s : State) → Keeps mem.old s → IfOk result (λ ended.
         IsAccess s mem.new true process address (length bytes.now) (take ended.served bytes.now)
         notes.old notes.new ended.stop ended.served) }

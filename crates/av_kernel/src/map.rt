@@ -45,7 +45,7 @@ pub fn mmap(
     let pages = len.div_ceil(PAGE_SIZE);
     let page = find_place(&mem.spaces, process, pages, place)?;
     make_room(mem, process, page, pages, place)?;
-    mem.spaces.map(process, page, pages, prot)?;
+    mem.spaces.map(&mut mem.anons, process, page, pages, prot)?;
     Ok(answer_only(alloc, Answer::MapAt(PAGE_SIZE * page)))
 }
 
@@ -85,7 +85,7 @@ pub fn mprotect(
     check_protect(address, len)?;
     let (page, pages) = (address / PAGE_SIZE, len.div_ceil(PAGE_SIZE));
     let past = page + pages;
-    let reached = mem.spaces.protect(process, page, pages, prot)?;
+    let reached = mem.spaces.protect(&mut mem.anons, process, page, pages, prot)?;
     if reached < past {
         return Err(Refusal::Refused(Errno::Enomem));
     }
@@ -102,12 +102,12 @@ fn make_room(
     place: Place,
 ) -> Result<(), AllocError>
     requires steady { IsSteady mem.old }
-    requires lives { is_some (areas_of mem.old.spaces process) ≡ true }
+    requires lives { is_some (areas_of mem.old.spaces.processes process) ≡ true }
     requires high { page + pages ≤ top_page }
-    requires there { AreToClear (is_taken mem.old.spaces process) page pages place }
+    requires there { AreToClear (is_taken mem.old.spaces.processes process) page pages place }
     ensures cleared { (l : Ledger) → HasLedger mem.old l → OnOk result
         (AreCleared mem.old mem.new process page pages
-        (with_room pages place (pages_of mem.old.spaces process)) l
+        (with_room pages place (pages_of mem.old.spaces.processes process)) l
         (zaps_for_place l process pages place)) }
     ensures count { count mem.new ≡ count mem.old }
 {
@@ -120,14 +120,14 @@ fn make_room(
 /// Takes away pages of a process that lives, with their entries.
 fn clear(mem: &mut Mem, process: u16, page: u64, pages: u64) -> Result<(), AllocError>
     requires steady { IsSteady mem.old }
-    requires lives { is_some (areas_of mem.old.spaces process) ≡ true }
+    requires lives { is_some (areas_of mem.old.spaces.processes process) ≡ true }
     requires high { page + pages ≤ top_page }
     ensures cleared { (l : Ledger) → HasLedger mem.old l → OnOk result
         (AreCleared mem.old mem.new process page pages
-        (after_unmap page (page + pages) (pages_of mem.old.spaces process)) l
+        (after_unmap page (page + pages) (pages_of mem.old.spaces.processes process)) l
         (zaps_of l (keys_in l process page pages))) }
     ensures count { count mem.new ≡ count mem.old }
 {
     zap_range(mem, process, page, page + pages);
-    mem.spaces.unmap(process, page, pages)
+    mem.spaces.unmap(&mut mem.anons, process, page, pages)
 }

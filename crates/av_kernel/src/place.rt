@@ -81,10 +81,10 @@ fn fixed_page(address: u64, pages: u64) -> Result<u64, Errno>
 /// The page from which on this many go in a process that lives, or why they can't go where they
 /// should.
 pub fn find_place(spaces: &Spaces, process: u16, pages: u64, place: Place) -> Result<u64, Errno>
-    requires lives { is_some (areas_of spaces.now process) ≡ true }
+    requires lives { is_some (areas_of spaces.now.processes process) ≡ true }
     requires some { 1 ≤ pages }
     requires few { pages ≤ top_page }
-    ensures { (q : Process) → IsProcess spaces.now process q → IsPlaced q pages place result }
+    ensures { (q : Process) → IsProcess spaces.now.processes process q → IsPlaced q pages place result }
 {
     match place {
         Place::Auto => find_gap(spaces, process, pages),
@@ -108,11 +108,11 @@ pub fn find_place(spaces: &Spaces, process: u16, pages: u64, place: Place) -> Re
 
 /// The greatest page from which on there is room for this many.
 fn find_gap(spaces: &Spaces, process: u16, pages: u64) -> Result<u64, Errno>
-    requires lives { is_some (areas_of spaces.now process) ≡ true }
+    requires lives { is_some (areas_of spaces.now.processes process) ≡ true }
     requires some { 1 ≤ pages }
     ensures { MatchResult result
-        (λ page. IsGap (is_taken spaces.now process) pages (Some page))
-        (λ error. IsGap (is_taken spaces.now process) pages None × (error ≡ errors.Enomem)) }
+        (λ page. IsGap (is_taken spaces.now.processes process) pages (Some page))
+        (λ error. IsGap (is_taken spaces.now.processes process) pages None × (error ≡ errors.Enomem)) }
 {
     match spaces.gap(process, pages) {
         Some(page) => Ok(page),
@@ -122,9 +122,9 @@ fn find_gap(spaces: &Spaces, process: u16, pages: u64) -> Result<u64, Errno>
 
 /// Whether this many pages from one on are free in a process that lives, and it may have them.
 fn has_room(spaces: &Spaces, process: u16, pages: u64, page: u64) -> bool
-    requires lives { is_some (areas_of spaces.now process) ≡ true }
+    requires lives { is_some (areas_of spaces.now.processes process) ≡ true }
     requires reach { page + pages < 2 ^ 64 }
-    ensures { (q : Process) → IsProcess spaces.now process q → result ≡ is_room q pages page }
+    ensures { (q : Process) → IsProcess spaces.now.processes process q → result ≡ is_room q pages page }
 {
     may_have(page, pages) && spaces.is_free(process, page, pages)
 }

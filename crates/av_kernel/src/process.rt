@@ -18,8 +18,8 @@ use std::alloc::Global;
 /// Refuses where the process does not live.
 pub fn check_lives(mem: &Mem, process: u16) -> Result<(), Refusal>
     ensures { MatchResult result
-        (λ _. is_some (areas_of mem.now.spaces process) ≡ true)
-        (λ refusal. (is_some (areas_of mem.now.spaces process) ≡ false)
+        (λ _. is_some (areas_of mem.now.spaces.processes process) ≡ true)
+        (λ refusal. (is_some (areas_of mem.now.spaces.processes process) ≡ false)
         × (refusal ≡ refusals.Refused errors.Esrch)) }
 {
     if !mem.spaces.lives(process) {
@@ -53,6 +53,6 @@ pub fn exit(mem: &mut Mem, alloc: Global, process: u16) -> Result<Reply, Refusal
     check_lives(mem, process)?;
     zap_all(mem, process);
     mem.tables.end(process);
-    mem.spaces.end(process);
+    mem.spaces.end(&mut mem.anons, process);
     Ok(answer_only(alloc, Answer::Done))
 }

@@ -1,7 +1,8 @@
 -- The memory system: its view and its areas, with no slot cached; and one with nothing in it stands for no memories.
 use Rattle.std.proofs.Common.{◌≡◌, ◌≢◌, ℕ, ◌+◌, ◌-◌, ◌<◌, ◌≤◌, Bool, true, false, cond, ◌&&◌, ◌==◌, nat_lt, nat_le, List, [], ◌∷◌, Option, Some, None, refl, sym, ap, subst, ◌∙◌, arith, is_some}
 use Rattle.std.proofs.lemmas.Bool.Decides.{nat_tests}
-use Rattle.std.specs.Prelude.{IfSome, option_map, length, map}
+use Rattle.std.proofs.lemmas.Bool.{false≢true}
+use Rattle.std.specs.Prelude.{IfSome, IsSomeAnd, option_map, length, map}
 use Rattle.std.specs.FinMap.Entries.{find as find_key}
 use Rattle.std.specs.List.{find, list_any}
 use Rattle.std.specs.Option.{option_map_or}
@@ -16,19 +17,27 @@ use Rattle.av_frames.specs.Store.{Store, Seen, seen, fresh as fresh_frames}
 use Rattle.av_pagetable.specs.declared.pte.Pte.{Pte}
 use Rattle.av_pagetable.specs.Entries.{ProcessTables, entry_at, has, with_entry}
 use Rattle.av_pagetable.proofs.Entries.{none_there}
-use Rattle.av_spaces.specs.Spaces.{Spaces, areas_of, pages_of, is_taken, AreRising, AllRising, IsOwn}
+use Rattle.av_interval.specs.declared.span.Span.{Span}
+use Rattle.av_vma.specs.Areas.{area_of}
+use Rattle.av_anon.specs.declared.anons.Anons.{Anons as AnonSet}
+use Rattle.av_anon.specs.Anons.{Family, family, nobody}
+use Rattle.av_anon.specs.Order.{IsInOrder}
+use Rattle.av_anon.specs.Spans.{spans_of}
+use Rattle.av_anon.proofs.OrderLaws.{order-nobody}
+use Rattle.av_spaces.specs.Kin.{AnonsFit, InOrder, chain_on, info_of}
+use Rattle.av_spaces.specs.Spaces.{AllSpaces, Spaces, areas_of, pages_of, is_taken, AreRising, AllRising, IsOwn}
 use Rattle.av_plain.specs.World.{Page, lives, pages}
 use Rattle.av_plain.specs.Ledger.{Ledger, Setting, Entry, Zero as ZeroEntry, InFrame, InSlot, first_ledger, frame_at, free_slots, cached_by, Cached, is_cached, same_slot, slot_count, slot_entries}
 use Rattle.av_plain.specs.Device.{no_device}
 use Rattle.av_plain.specs.Choice.{Free, ListsAll, ListsFree, no_slots}
 use Rattle.av_plain.specs.Report.{Range, prot_in, range_of}
-use Rattle.av_plain.specs.Stands.{View, Pte as Plain, SwapStands, entry_of, prot_of, AreApart, IsKept, IsKeptAt, IsClean}
+use Rattle.av_plain.specs.Stands.{View, Pte as Plain, SwapStands, entry_of, kin_of, prot_of, AreApart, IsKept, IsKeptAt, IsClean}
 use Rattle.av_plain.specs.Transcript.{State, at_first}
 use Rattle.av_plain.proofs.Ledger.NoSwap.{itself, is_in-numbers}
 use Rattle.av_plain.proofs.FreeFrames.{first-lists_free}
 use Rattle.av_plain.proofs.Sound.{first-sound}
 use Rattle.av_reclaim.specs.declared.mem.Mem.{Mem}
-use Rattle.av_reclaim.specs.Mem.{setting, plain, view_of_parts, view, ranges_of, Keeps}
+use Rattle.av_reclaim.specs.Mem.{anon_vma, setting, plain, view_of_parts, view, ranges_of, Keeps}
 
 -- ---- the areas, seen as ranges
 
@@ -45,7 +54,7 @@ alive_is s p = by (areas_of s p)
     by (Some areas) = refl
 
 -- a process has areas exactly where it lives
-pub lives_is : (k : Mem) (s : State) → Keeps k s → (p : ℕ) → is_some (areas_of k.spaces p) ≡ lives s.world p
+pub lives_is : (k : Mem) (s : State) → Keeps k s → (p : ℕ) → is_some (areas_of k.spaces.processes p) ≡ lives s.world p
 lives_is k s keeps p = keeps.stands.parts.areas.alive p
 
 in_range : (a b page : ℕ) → (nat_le a page && nat_lt page b) ≡ within a (b - a) page
@@ -96,8 +105,8 @@ all_apart s rising p = by (areas_of s p) (rising p)
 -- ---- the view
 
 -- tables with the same entries are seen alike
-pub view_same : (old new : Mem) → entry_at new.tables ≡ entry_at old.tables → new.frames ≡ old.frames → new.spaces ≡ old.spaces → view new ≡ view old
-view_same old new tables frames spaces = λ i. view_of_parts (seen (frames i)) (λ p page. plain (tables i p page)) (spaces i)
+pub view_same : (old new : Mem) → entry_at new.tables ≡ entry_at old.tables → new.frames ≡ old.frames → new.spaces ≡ old.spaces → new.anons ≡ old.anons → view new ≡ view old
+view_same old new tables frames spaces anons = λ i. view_of_parts (seen (frames i)) (λ p page. plain (tables i p page)) (spaces i) (anons i)
 
 pub plain_set : (old new : ℕ → ℕ → Pte) (p page : ℕ) (e : Pte) → new ≡ with_entry p page e old
     → ◌≡◌ {A = ℕ → ℕ → Option Plain} (λ q o. plain (new q o)) (with_entry p page (plain e) (λ q o. plain (old q o)))
@@ -108,9 +117,9 @@ plain_set old new p page e is = λ k q o. (ap (λ f. plain (f q o)) is ∙ pushe
     pushed false e x = refl
 
 -- an entry has been set
-pub entry_put_in : (old new : Mem) (p page : ℕ) (e : Pte) → entry_at new.tables ≡ with_entry p page e (entry_at old.tables) → new.frames ≡ old.frames → new.spaces ≡ old.spaces
+pub entry_put_in : (old new : Mem) (p page : ℕ) (e : Pte) → entry_at new.tables ≡ with_entry p page e (entry_at old.tables) → new.frames ≡ old.frames → new.spaces ≡ old.spaces → new.anons ≡ old.anons
     → view new ≡ record (view old) { table = with_entry p page (plain e) (view old).table }
-entry_put_in old new p page e is frames spaces = λ i. view_of_parts (seen (frames i)) (plain_set (entry_at old.tables) (entry_at new.tables) p page e is i) (spaces i)
+entry_put_in old new p page e is frames spaces anons = λ i. view_of_parts (seen (frames i)) (plain_set (entry_at old.tables) (entry_at new.tables) p page e is i) (spaces i) (anons i)
 
 -- ---- no slot is cached
 
@@ -181,9 +190,10 @@ kept-nothing v l (Some (InSlot s)) = at (frame_at l s)
 nothing : {A : Type 0} {x : A} → None ≡ Some x → ⊥
 nothing e = cc
 
-pub fresh-keeps : (frames : Store) (tables : ProcessTables) (spaces : Spaces) (n : ℕ) → seen frames ≡ fresh_frames n → ((p : ℕ) → has tables p ≡ false) → spaces ≡ []
-    → Keeps (record { frames = frames; tables = tables; spaces = spaces }) (at_first (setting n))
-fresh-keeps frames tables spaces n is none empty = record {
+pub fresh-keeps : (frames : Store) (tables : ProcessTables) (spaces : AllSpaces) (anons : AnonSet) (n : ℕ) → seen frames ≡ fresh_frames n → ((p : ℕ) → has tables p ≡ false) → spaces.processes ≡ []
+    → ((number : ℕ) → area_of spaces.areas number ≡ None) → family anons ≡ nobody → ((v : ℕ) → spans_of anons v ≡ [])
+    → Keeps (record { frames = frames; tables = tables; spaces = spaces; anons = anons }) (at_first (setting n))
+fresh-keeps frames tables spaces anons n is none empty unused nobodies unspanned = record {
   stands = record {
     over = record { sizes = refl; headers = refl };
     sound = first-sound (setting (seen frames).count);
@@ -215,16 +225,36 @@ fresh-keeps frames tables spaces n is none empty = record {
     free = ap (λ (s : Seen). frames_free s.free) is;
     lists = none_listed;
     areas = λ p page. ap (λ (s : Spaces). pages_of s p page) empty;
-    anons = refl;
+    anons = record {
+      next = ap (λ (f : Family). f.next) nobodies;
+      kin = λ v. ap (λ (f : Family). option_map kin_of (option_map (anon_vma (chain_on spaces anons (Some v))) (f.info v))) nobodies;
+      chains = λ p page. tt;
+    };
   };
   tables = λ p. none p ∙ sym (ap (λ (s : Spaces). is_some (ranges_of s p)) empty);
+  anons = record {
+    order = in_order;
+    there = λ v there. absurd (none_there_yet v there);
+    linked = λ v h. absurd (subst (λ o. IsSomeAnd o (λ area. is_in v (chain_on spaces anons area.anon) ≡ true)) (none_on_page h.0 h.1) h.2);
+    own = λ v h. absurd (subst (λ o. IsSomeAnd o (λ area. area.anon ≡ Some v)) (none_on_page h.0 h.1) h.2);
+  };
 }
   where
     k : Mem
-    k = record { frames = frames; tables = tables; spaces = spaces }
+    k = record { frames = frames; tables = tables; spaces = spaces; anons = anons }
 
     m : Setting
     m = setting (seen frames).count
+
+    in_order : InOrder spaces anons
+    in_order = subst (λ (areas : ℕ → Option Area). IsInOrder areas (family anons) (spans_of anons)) (λ i number. sym (unused number) i)
+        (subst (λ f. IsInOrder (λ _. None) f (spans_of anons)) (sym nobodies) (subst (λ (s : ℕ → List Span). IsInOrder (λ _. None) nobody s) (λ i v. sym (unspanned v) i) order-nobody))
+
+    none_there_yet : (v : ℕ) → is_some (info_of anons v) ≡ true → ⊥
+    none_there_yet v there = false≢true (sym (ap (λ (f : Family). is_some (f.info v)) nobodies) ∙ there)
+
+    none_on_page : (p page : ℕ) → pages_of spaces.processes p page ≡ None
+    none_on_page p page = ap (λ (s : Spaces). pages_of s p page) empty
 
     none_listed : ListsAll m first_ledger (frames_free (numbers 0 n))
     none_listed = listed k m first_ledger (numbers 0 n) (record { finds = λ s. refl; counts = λ s. refl; flight = refl; on = refl })

@@ -51,34 +51,34 @@ module _ (old : Mem) (l : Ledger) (stands : HasLedger old l) where
       absurd (omega (arith, found, zero))
 
   module _ (new : Mem) (p from past : ℕ) where
-    pub none_taken : ((q : ℕ) → from ≤ q → q < past → entry_at old.tables p q ≡ Empty) → entry_at new.tables ≡ entry_at old.tables → new.frames ≡ old.frames → new.spaces ≡ old.spaces → ZapsFirst old new l p from past None
-    none_taken none tables frames spaces = (
+    pub none_taken : ((q : ℕ) → from ≤ q → q < past → entry_at old.tables p q ≡ Empty) → entry_at new.tables ≡ entry_at old.tables → new.frames ≡ old.frames → new.spaces ≡ old.spaces → new.anons ≡ old.anons → ZapsFirst old new l p from past None
+    none_taken none tables frames spaces anons = (
       λ q low high. nothing_at p q (none q low high),
       ap (λ f. frames_free (seen f).free) frames,
-      subst (λ n. SoundLedger (setting n) (view new) l) (sym (ap (λ f. (seen f).count) frames)) (subst (λ v. SoundLedger (setting (count old)) v l) (sym (view_same old new tables frames spaces)) stands),
+      subst (λ n. SoundLedger (setting n) (view new) l) (sym (ap (λ f. (seen f).count) frames)) (subst (λ v. SoundLedger (setting (count old)) v l) (sym (view_same old new tables frames spaces anons)) stands),
     )
 
     module _ (page : ℕ) (e : Pte) (first : IsFirst (entry_at old.tables p) from past page) (is : entry_at old.tables p page ≡ e) where
       least : (q : ℕ) → from ≤ q → q < page → entry l (p, q) ≡ None
       least q low high = nothing_at p q (first.least q low high)
 
-      pub zero_taken : ((f : ℕ) (write was : Bool) → e ≡ Here f write was → ⊥) → entry_at new.tables ≡ with_entry p page Empty (entry_at old.tables) → new.frames ≡ old.frames → new.spaces ≡ old.spaces → ZapsFirst old new l p from past (Some page)
-      zero_taken other tables frames spaces =
+      pub zero_taken : ((f : ℕ) (write was : Bool) → e ≡ Here f write was → ⊥) → entry_at new.tables ≡ with_entry p page Empty (entry_at old.tables) → new.frames ≡ old.frames → new.spaces ≡ old.spaces → new.anons ≡ old.anons → ZapsFirst old new l p from past (Some page)
+      zero_taken other tables frames spaces anons =
           let there = zero_there p page e is (λ none. first.there (is ∙ none)) other in (
             first.from_there,
             ap is_some there,
             least,
             subst (Chooses (setting (count old)) None l (Zapped (p, page)) (free_of (view old))) (sym (ap (λ f. frames_free (seen f).free) frames)) (zero_freed (setting (count old)) (view old) l p page cache stands refl (λ s. refl) (λ k. refl) there),
             subst (λ n. SoundLedger (setting n) (view new) (after_zap (p, page) l)) (sym (ap (λ f. (seen f).count) frames))
-                (subst (λ v. SoundLedger (setting (count old)) v (after_zap (p, page) l)) (sym (entry_put_in old new p page Empty tables frames spaces))
+                (subst (λ v. SoundLedger (setting (count old)) v (after_zap (p, page) l)) (sym (entry_put_in old new p page Empty tables frames spaces anons))
                 (zero_left (setting (count old)) (view old) l p page cache stands refl (λ s. refl) there)),
           )
 
-      pub frame_taken : (mid : Mem) (f : ℕ) (write was : Bool) → e ≡ Here f write was → entry_at mid.tables ≡ with_entry p page Empty (entry_at old.tables) → mid.frames ≡ old.frames → mid.spaces ≡ old.spaces
+      pub frame_taken : (mid : Mem) (f : ℕ) (write was : Bool) → e ≡ Here f write was → entry_at mid.tables ≡ with_entry p page Empty (entry_at old.tables) → mid.frames ≡ old.frames → mid.spaces ≡ old.spaces → mid.anons ≡ old.anons
           → view new ≡ after_unmap_frame f (view mid) → count new ≡ count old → ZapsFirst old new l p from past (Some page)
-      frame_taken mid f write was here tables frames spaces same counts =
+      frame_taken mid f write was here tables frames spaces anons same counts =
           let there = frame_there p page f write was (is ∙ here) in
-          let seen_so : view new ≡ after_unmap_frame f (record (view old) { table = with_entry p page None (view old).table }) = same ∙ ap (after_unmap_frame f) (entry_put_in old mid p page Empty tables frames spaces) in (
+          let seen_so : view new ≡ after_unmap_frame f (record (view old) { table = with_entry p page None (view old).table }) = same ∙ ap (after_unmap_frame f) (entry_put_in old mid p page Empty tables frames spaces anons) in (
             first.from_there,
             ap is_some there,
             least,

@@ -17,7 +17,7 @@ module _ (old : Mem) (mid : Store) (f : ℕ) (down : seen mid ≡ record (seen o
   pub released_last : (frames : Store) → seen frames ≡ record (seen mid) { free = f ∷ (seen mid).free } → (seen mid).maps f ≡ 0
       → view (record old { frames = frames }) ≡ after_unmap_frame f (view old)
   released_last frames given zero =
-      ap (λ s. view_of_parts s (λ p page. plain (entry_at old.tables p page)) old.spaces) (given ∙ ap (λ (s : Seen). record s { free = f ∷ s.free }) down)
+      ap (λ s. view_of_parts s (λ p page. plain (entry_at old.tables p page)) old.spaces old.anons) (given ∙ ap (λ (s : Seen). record s { free = f ∷ s.free }) down)
       ∙ sym (ap (λ b. cond b (record (view old) { maps = with_at f ((view old).maps f - 1) (view old).maps; free = f ∷ (view old).free }) (record (view old) { maps = with_at f ((view old).maps f - 1) (view old).maps }))
       (one _ _ some left zero))
     where
@@ -27,7 +27,7 @@ module _ (old : Mem) (mid : Store) (f : ℕ) (down : seen mid ≡ record (seen o
   -- others name it
   pub released_more : (seen mid).maps f ≢ 0 → view (record old { frames = mid }) ≡ after_unmap_frame f (view old)
   released_more more =
-      ap (λ s. view_of_parts s (λ p page. plain (entry_at old.tables p page)) old.spaces) down
+      ap (λ s. view_of_parts s (λ p page. plain (entry_at old.tables p page)) old.spaces old.anons) down
       ∙ sym (ap (λ b. cond b (record (view old) { maps = with_at f ((view old).maps f - 1) (view old).maps; free = f ∷ (view old).free }) (record (view old) { maps = with_at f ((view old).maps f - 1) (view old).maps }))
       (many _ _ some left more))
     where

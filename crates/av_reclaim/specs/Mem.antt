@@ -7,7 +7,9 @@ use Rattle.av_plain.specs.Ledger.{Ledger, Setting, Zero as ZeroEntry, InFrame, I
 use Rattle.av_plain.specs.Transcript.{State}
 use Rattle.av_plain.specs.Sound.{IsSound, AtPages}
 use Rattle.av_plain.specs.Device.{no_device, setting_of}
-use Rattle.av_plain.specs.Areas.{no_anons}
+use Rattle.av_anon.specs.declared.anons.Anons.{Anons as AnonSet}
+use Rattle.av_anon.specs.declared.infos.Info.{Info}
+use Rattle.av_plain.specs.Areas.{AnonVma, Anons}
 use Rattle.av_plain.specs.Choice.{no_slots}
 use Rattle.av_plain.specs.Report.{Range, range_of}
 use Rattle.av_plain.specs.Stands.{View, Pte as Plain, Stands, LedgerStands, PartsStand}
@@ -15,7 +17,8 @@ use Rattle.av_frames.specs.Store.{Seen, seen}
 use Rattle.av_pagetable.specs.declared.pte.Pte.{Pte}
 use Rattle.av_pagetable.specs.declared.pte.Pte.TheVariants.{Empty, Zero, Here, Away}
 use Rattle.av_pagetable.specs.Entries.{entry_at, has}
-use Rattle.av_spaces.specs.Spaces.{Spaces, areas_of}
+use Rattle.av_spaces.specs.Kin.{AnonsFit, chain_on, info_of}
+use Rattle.av_spaces.specs.Spaces.{AllSpaces, Spaces, areas_of}
 use Rattle.av_reclaim.specs.declared.mem.Mem.{Mem}
 
 -- so many frames, and a device that has no area
@@ -33,9 +36,20 @@ plain (Away s) = Some (record { entry = InSlot s; write = false })
 abbrev pub ranges_of : Spaces → ℕ → Option (List Range)
 ranges_of spaces p = option_map (map range_of) (areas_of spaces p)
 
--- the view of frames, entries and areas, without swap. No frame is active
-abbrev pub view_of_parts : Seen → (ℕ → ℕ → Option Plain) → Spaces → View
-view_of_parts frames table spaces = record {
+-- what is kept of an anon_vma, with the chain of the areas that have it as their own
+abbrev pub anon_vma : List ℕ → Info → AnonVma
+anon_vma chain info = record { root = info.root; parent = info.parent; chain = chain }
+
+-- the anon_vmas in the definitions' words
+abbrev pub anons_of : AllSpaces → AnonSet → Anons
+anons_of s anons = record {
+  next = anons.next;
+  anon = λ v. option_map (anon_vma (chain_on s anons (Some v))) (info_of anons v);
+}
+
+-- the view of frames, entries, areas and anon_vmas, without swap. No frame is active
+abbrev pub view_of_parts : Seen → (ℕ → ℕ → Option Plain) → AllSpaces → AnonSet → View
+view_of_parts frames table spaces anons = record {
   frames = frames.count;
   bytes = frames.bytes;
   maps = frames.maps;
@@ -44,9 +58,9 @@ view_of_parts frames table spaces = record {
   free = frames.free;
   active = [];
   table = table;
-  processes = length spaces;
-  areas = areas_of spaces;
-  anons = no_anons;
+  processes = length spaces.processes;
+  areas = areas_of spaces.processes;
+  anons = anons_of spaces anons;
   find = λ s. None;
   entries = λ s. 0;
   flight = [];
@@ -55,7 +69,7 @@ view_of_parts frames table spaces = record {
 }
 
 abbrev pub view : Mem → View
-view k = view_of_parts (seen k.frames) (λ p page. plain (entry_at k.tables p page)) k.spaces
+view k = view_of_parts (seen k.frames) (λ p page. plain (entry_at k.tables p page)) k.spaces k.anons
 
 -- how many frames there are
 abbrev pub count : Mem → ℕ
@@ -63,12 +77,14 @@ count k = (seen k.frames).count
 
 -- a process has a table exactly where it has areas
 abbrev pub HasTables : Mem → Type 0
-HasTables k = (p : ℕ) → has k.tables p ≡ is_some (ranges_of k.spaces p)
+HasTables k = (p : ℕ) → has k.tables p ≡ is_some (ranges_of k.spaces.processes p)
 
--- the memory system stands for the memories, the ledger and the free frames; there is no device
+-- the memory system stands for the memories, the ledger, what is free, the areas and the anon_vmas,
+-- among which there is chain order; there is no device
 pub record Keeps (k : Mem) (s : State) : Type 0 where
   pub stands : Stands (setting (count k)) (view k) no_device s
   pub tables : HasTables k
+  pub anons : AnonsFit k.spaces k.anons
 
 -- it stands for some
 abbrev pub IsSteady : Mem → Type 0
@@ -95,3 +111,4 @@ pub record KeepsWithin (k : Mem) (w : World) (l : Ledger) : Type 0 where
   pub at_pages : AtPages w l
   pub parts : PartsStand (setting (count k)) (view k) no_device w l
   pub tables : HasTables k
+  pub anons : AnonsFit k.spaces k.anons

@@ -1,20 +1,22 @@
-//! The memory system: frames, page tables and areas.
+//! The memory system: frames, page tables, areas and anon_vmas.
 
 ghost use Rattle.std.specs.Prelude.{◌≡◌, IfOk};
 ghost use Rattle.av_plain.specs.Transcript.{at_first};
 ghost use Rattle.av_reclaim.specs.Mem.{setting, count, Keeps};
 
+use av_anon::Anons;
 use av_frames::Frames;
 use av_pagetable::{PageTable, Tables};
 use av_spaces::Spaces;
 use std::alloc::{AllocError, Global};
 
-/// The frames, the page table of each process, and the areas of each.
+/// The frames, the page table of each process, the areas of each, and the anon_vmas.
 #[derive(Drop)]
 pub struct Mem {
     pub frames: Frames,
     pub tables: Tables<PageTable>,
     pub spaces: Spaces,
+    pub anons: Anons,
 }
 
 impl Mem {
@@ -27,6 +29,7 @@ impl Mem {
             frames: Frames::new(alloc, frames)?,
             tables: Tables::new(alloc),
             spaces: Spaces::new(alloc),
+            anons: Anons::new(alloc),
         })
     }
 }

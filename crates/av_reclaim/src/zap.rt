@@ -59,6 +59,7 @@ fn unmap_frame(mem: &mut Mem, frame: u32)
     ensures view { view mem.new ≡ after_unmap_frame frame (view mem.old) }
     ensures tables { mem.new.tables ≡ mem.old.tables }
     ensures spaces { mem.new.spaces ≡ mem.old.spaces }
+    ensures anons { mem.new.anons ≡ mem.old.anons }
     ensures count { count mem.new ≡ count mem.old }
 {
     mem.frames.map_down(frame);

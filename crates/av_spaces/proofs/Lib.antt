@@ -1,3 +1,4 @@
 pub mod Areas
 pub mod Rising
 pub mod Trees
+pub mod Kin

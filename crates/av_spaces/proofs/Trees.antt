@@ -14,9 +14,18 @@ use Rattle.av_vmatree.specs.Spans.{area_at, span_of, is_page_taken}
 use Rattle.av_vma.specs.Pages.{Pages, pages_in}
 use Rattle.av_merge.specs.Pages.{pages_by}
 use Rattle.av_merge.specs.Process.{AreAreasOf, IsAreaOf, KeepsOthers, Stays}
-use Rattle.av_spaces.specs.Spaces.{Spaces, areas_of, pages_of, is_taken, AreRising, AllRising, IsSpawned, IsChanged, IsEnded}
+use Rattle.av_spaces.specs.Spaces.{AllSpaces, Spaces, areas_of, pages_of, is_taken, AreRising, AllRising, IsSpawned, IsChanged, IsEnded}
 use Rattle.av_spaces.specs.Trees.{Trees, tree_at, areas_by, space_by, spaces_by, HasNone, AreTrees, IsGrown}
 use Rattle.av_spaces.proofs.Areas.{AreNumbered, numbered, pages_are, held_by, rising_of}
+
+-- the processes of a value
+pub processes_are : {s t : AllSpaces} → s ≡ t → s.processes ≡ t.processes
+processes_are e = ap (λ (s : AllSpaces). s.processes) e
+
+-- values with the same processes and areas
+pub same_spaces : (areas : List (Option Area)) {s t : Spaces} → s ≡ t
+    → ◌≡◌ {A = AllSpaces} (record { processes = s; areas = areas }) (record { processes = t; areas = areas })
+same_spaces areas e = λ i. record { processes = e i; areas = areas }
 
 -- ---- places
 

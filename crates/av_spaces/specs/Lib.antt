@@ -1,2 +1,3 @@
+pub mod Kin
 pub mod Spaces
 pub mod Trees

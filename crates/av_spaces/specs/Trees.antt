@@ -6,7 +6,8 @@ use Rattle.av_base.specs.Words.{how_many}
 use Rattle.av_vma.specs.declared.area.Area.{Area}
 use Rattle.av_vmatree.specs.declared.span.Span.{Span}
 use Rattle.av_merge.specs.Process.{AreAreasOf}
-use Rattle.av_spaces.specs.Spaces.{Spaces}
+use Rattle.av_vma.specs.Areas.{area_of}
+use Rattle.av_spaces.specs.Spaces.{AllSpaces, Spaces}
 
 -- the tree of each process that lives, by its number
 abbrev pub Trees : Type 0
@@ -27,6 +28,10 @@ space_by areas (p, tree) = option_map (λ spans. (p, areas_by areas spans)) tree
 -- the areas of every process that lives
 abbrev pub spaces_by : (ℕ → Option Area) → Trees → Spaces
 spaces_by areas trees = filter_map (space_by areas) (enumerate_from 0 trees)
+
+-- with the areas by number
+abbrev pub all_spaces : List (Option Area) → Trees → AllSpaces
+all_spaces areas trees = record { processes = spaces_by (area_of areas) trees; areas = areas }
 
 -- no area in use is one of p
 abbrev pub HasNone : ℕ → (ℕ → Option Area) → Type 0

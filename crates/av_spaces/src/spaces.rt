@@ -8,10 +8,14 @@ ghost use Rattle.av_vmatree.specs.Spans.{IsFree, IsMet};
 ghost use Rattle.av_merge.specs.Mapping.{IsRemapped};
 ghost use Rattle.av_merge.specs.Pages.{IsReached};
 ghost use Rattle.av_merge.specs.Process.{AreAreasOf};
+ghost use Rattle.av_anon.specs.declared.anons.Anons.{Anons};
+ghost use Rattle.av_merge.specs.Kin.{lengths};
+ghost use Rattle.av_spaces.specs.Kin.{AnonsStay, InOrder};
 ghost use Rattle.av_spaces.specs.Spaces.{areas_of, pages_of, is_taken, AreThese, AreRising, IsSpawned, IsChanged, IsEnded};
-ghost use Rattle.av_vma.specs.Pages.{after_map, after_unmap, pages_changed, to_prot, no_chains};
+ghost use Rattle.av_vma.specs.Pages.{after_map, after_unmap, pages_changed, to_prot};
 ghost use Rattle.av_spaces.specs.Trees.{areas_by, tree_at, IsGrown};
 
+use av_anon::Anons;
 use av_base::Prot;
 use av_merge::Change;
 use av_vma::{Area, Areas};
@@ -31,14 +35,13 @@ pub struct Spaces {
 }
 
 impl Model for Spaces {
-    ghost use Rattle.std.specs.Prelude.{ℕ, List};
     ghost use Rattle.av_vma.specs.Areas.{area_of};
-    ghost use Rattle.av_vma.specs.declared.area.Area.{Area};
-    ghost use Rattle.av_spaces.specs.Trees.{spaces_by, HasTrees};
+    ghost use Rattle.av_spaces.specs.Spaces.{AllSpaces};
+    ghost use Rattle.av_spaces.specs.Trees.{all_spaces, HasTrees};
 
-    ghost Value = { List (ℕ × List Area) };
+    ghost Value = { AllSpaces };
 
-    ghost view = { λ s. spaces_by (area_of s.areas) s.trees.items };
+    ghost view = { λ s. all_spaces s.areas s.trees.items };
 
     ghost invariant = { λ s. HasTrees (area_of s.areas) s.trees.items s.alive };
 }
@@ -46,7 +49,8 @@ impl Model for Spaces {
 impl Spaces {
     /// No process.
     pub fn new(alloc: Global) -> Self
-        ensures { result ≡ [] }
+        ensures processes { result.processes ≡ [] }
+        ensures areas { (number : ℕ) → area_of result.areas number ≡ None }
     {
         Spaces {
             alloc,
@@ -58,21 +62,21 @@ impl Spaces {
 
     /// How many processes live.
     pub fn count(&self) -> usize
-        ensures { result ≡ length self.now }
+        ensures { result ≡ length self.now.processes }
     {
         self.alive
     }
 
     /// Whether a process lives.
     pub fn lives(&self, process: u16) -> bool
-        ensures { result ≡ is_some (areas_of self.now process) }
+        ensures { result ≡ is_some (areas_of self.now.processes process) }
     {
         tree_of(&self.trees, process).is_some()
     }
 
     /// The area that holds a page, if it is mapped.
     pub fn area(&self, process: u16, page: u64) -> Option<Area>
-        ensures area { result ≡ pages_of self.now process page }
+        ensures area { result ≡ pages_of self.now.processes process page }
         ensures below { IsSome result → page < top_page }
     {
         let tree = tree_of(&self.trees, process)?;
@@ -82,9 +86,9 @@ impl Spaces {
 
     /// The greatest page from which on this many are free in a process that lives.
     pub fn gap(&self, process: u16, pages: u64) -> Option<u64>
-        requires lives { is_some (areas_of self.now process) ≡ true }
+        requires lives { is_some (areas_of self.now.processes process) ≡ true }
         requires some { 1 ≤ pages }
-        ensures { IsGap (is_taken self.now process) pages result }
+        ensures { IsGap (is_taken self.now.processes process) pages result }
     {
         let tree = tree_of(&self.trees, process)?;
         tree.gap(pages)
@@ -92,8 +96,10 @@ impl Spaces {
 
     /// Gives a process that does not live no areas, so that it lives. Without memory all stays.
     pub fn spawn(&mut self, process: u16) -> Result<(), AllocError>
-        requires { areas_of self.old process ≡ None }
-        ensures ok { OnOk result (IsSpawned self.old self.new process) }
+        requires { areas_of self.old.processes process ≡ None }
+        ensures ok { OnOk result (IsSpawned self.old.processes self.new.processes process) }
+        ensures anons { (anons : Anons) → InOrder self.old anons
+            → OnOk result (AnonsStay self.old anons self.new anons) }
         ensures err { OnErr result (self.new ≡ self.old) }
     {
         make_place(&mut self.trees, process)?;
@@ -104,10 +110,12 @@ impl Spaces {
 
     /// Whether none of these pages of a process that lives is mapped.
     pub fn is_free(&self, process: u16, from: u64, pages: u64) -> bool
-        requires lives { is_some (areas_of self.now process) ≡ true }
+        requires lives { is_some (areas_of self.now.processes process) ≡ true }
         requires past { from + pages < 2 ^ 64 }
-        ensures free { result ≡ true → IsFree (is_taken self.now process) from (from + pages) }
-        ensures met { result ≡ false → IsMet (is_taken self.now process) from (from + pages) }
+        ensures free { result ≡ true
+            → IsFree (is_taken self.now.processes process) from (from + pages) }
+        ensures met { result ≡ false
+            → IsMet (is_taken self.now.processes process) from (from + pages) }
     {
         let Some(tree) = tree_of(&self.trees, process) else {
             unreachable!()
@@ -117,19 +125,30 @@ impl Spaces {
 
     /// Maps free pages of a process that lives, as one area without an anon_vma. Once memory is
     /// wanting, nothing is promised of any process's pages.
-    pub fn map(&mut self, process: u16, from: u64, pages: u64, prot: Prot) -> Result<(), AllocError>
-        requires lives { is_some (areas_of self.old process) ≡ true }
+    pub fn map(
+        &mut self,
+        anons: &mut Anons,
+        process: u16,
+        from: u64,
+        pages: u64,
+        prot: Prot,
+    ) -> Result<(), AllocError>
+        requires order { InOrder self.old anons.old }
+        requires lives { is_some (areas_of self.old.processes process) ≡ true }
         requires some { 1 ≤ pages }
         requires low { low_page ≤ from }
         requires high { from + pages ≤ top_page }
-        requires free { IsFree (is_taken self.old process) from (from + pages) }
-        ensures { OnOk result (IsChanged self.old self.new process
-            (AreThese (after_map no_chains process from (from + pages) prot (pages_of self.old process)))) }
+        requires free { IsFree (is_taken self.old.processes process) from (from + pages) }
+        ensures areas { OnOk result (IsChanged self.old.processes self.new.processes process
+            (AreThese (after_map (lengths self.old.areas anons.old) process from (from + pages)
+            prot (pages_of self.old.processes process)))) }
+        ensures anons { OnOk result (AnonsStay self.old anons.old self.new anons.new) }
     {
         let mut tree = take_tree(&mut self.trees, process);
         let result = av_merge::map(
             &mut self.areas,
             &mut tree,
+            anons,
             process,
             from,
             from + pages,
@@ -141,14 +160,28 @@ impl Spaces {
 
     /// Takes these pages away from a process that lives, those of them that are mapped. Without
     /// memory as for `map`.
-    pub fn unmap(&mut self, process: u16, from: u64, pages: u64) -> Result<(), AllocError>
-        requires lives { is_some (areas_of self.old process) ≡ true }
+    pub fn unmap(
+        &mut self,
+        anons: &mut Anons,
+        process: u16,
+        from: u64,
+        pages: u64,
+    ) -> Result<(), AllocError>
+        requires order { InOrder self.old anons.old }
+        requires lives { is_some (areas_of self.old.processes process) ≡ true }
         requires past { from + pages < 2 ^ 64 }
-        ensures { OnOk result (IsChanged self.old self.new process
-            (AreThese (after_unmap from (from + pages) (pages_of self.old process)))) }
+        ensures areas { OnOk result (IsChanged self.old.processes self.new.processes process
+            (AreThese (after_unmap from (from + pages) (pages_of self.old.processes process)))) }
+        ensures anons { OnOk result (AnonsStay self.old anons.old self.new anons.new) }
     {
         let mut tree = take_tree(&mut self.trees, process);
-        let result = av_merge::cut(&mut self.areas, &mut tree, from, from + pages);
+        let result = av_merge::cut(
+            &mut self.areas,
+            &mut tree,
+            anons,
+            from,
+            from + pages,
+        );
         put_tree(&mut self.trees, process, tree);
         result
     }
@@ -157,43 +190,55 @@ impl Spaces {
     /// mapped, and tells that one, else the page past them. Without memory as for `map`.
     pub fn protect(
         &mut self,
+        anons: &mut Anons,
         process: u16,
         from: u64,
         pages: u64,
         prot: Prot,
     ) -> Result<u64, AllocError>
-        requires lives { is_some (areas_of self.old process) ≡ true }
+        requires order { InOrder self.old anons.old }
+        requires lives { is_some (areas_of self.old.processes process) ≡ true }
         requires past { from + pages < 2 ^ 64 }
         ensures reached { IfOk result (λ reached.
-            IsReached (is_taken self.old process) from (from + pages) reached) }
-        ensures ok { IfOk result (λ reached. IsChanged self.old self.new process
-            (AreThese
-            (pages_changed no_chains (to_prot prot) from (reached - from) (pages_of self.old process)))) }
+            IsReached (is_taken self.old.processes process) from (from + pages) reached) }
+        ensures ok { IfOk result (λ reached. IsChanged self.old.processes self.new.processes process
+            (AreThese (pages_changed (lengths self.old.areas anons.old) (to_prot prot) from
+            (reached - from) (pages_of self.old.processes process)))) }
+        ensures anons { OnOk result (AnonsStay self.old anons.old self.new anons.new) }
         ensures mapping { IfOk result (λ reached. IsRemapped from reached (to_prot prot)
-            (pages_of self.old process) (pages_of self.new process)) }
+            (pages_of self.old.processes process) (pages_of self.new.processes process)) }
     {
         let mut tree = take_tree(&mut self.trees, process);
         let change = Change::Prot(prot);
-        let result = av_merge::modify(&mut self.areas, &mut tree, from, from + pages, change);
+        let result = av_merge::modify(
+            &mut self.areas,
+            &mut tree,
+            anons,
+            from,
+            from + pages,
+            change,
+        );
         put_tree(&mut self.trees, process, tree);
         result
     }
 
     /// Takes away a process that lives, with its areas.
-    pub fn end(&mut self, process: u16)
-        requires { is_some (areas_of self.old process) ≡ true }
-        ensures { IsEnded self.old self.new process }
+    pub fn end(&mut self, anons: &mut Anons, process: u16)
+        requires order { InOrder self.old anons.old }
+        requires lives { is_some (areas_of self.old.processes process) ≡ true }
+        ensures areas { IsEnded self.old.processes self.new.processes process }
+        ensures anons { AnonsStay self.old anons.old self.new anons.new }
     {
         let mut tree = take_tree(&mut self.trees, process);
-        av_merge::clear(&mut self.areas, &mut tree);
+        av_merge::clear(&mut self.areas, &mut tree, anons);
         self.alive -= 1;
     }
 
     /// The areas of a process that lives, in the order of their pages, in time linear in their
     /// number.
     pub fn areas(&self, process: u16) -> Result<Vec<Area>, AllocError>
-        requires { is_some (areas_of self.now process) ≡ true }
-        ensures areas { IfOk result (λ areas. areas_of self.now process ≡ Some areas.items) }
+        requires { is_some (areas_of self.now.processes process) ≡ true }
+        ensures areas { IfOk result (λ areas. areas_of self.now.processes process ≡ Some areas.items) }
         ensures rising { IfOk result (λ areas. AreRising process areas.items) }
     {
         let Some(tree) = tree_of(&self.trees, process) else {

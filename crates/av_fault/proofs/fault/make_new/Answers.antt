@@ -1,4 +1,5 @@
 use Rattle.av_fault.proofs.FaultMade.{new_starved, new_made}
+use Rattle.av_fault.proofs.FaultSafe.{order_still}
 use Rattle.av_fault.proofs.fault.make_new.Goals as goal
 
 pub returns-in_default : goal.returns-in_default
@@ -6,7 +7,7 @@ returns-in_default c = record {
   count = c.take_zeros.ensures.count;
   step = λ s keeps.
       let none = rw c.in_default.is at c.in_ok-frame.ensures.taken in
-      new_starved s c.args.mem.now c.take_zeros.new.mem c.args.process c.args.page c.args.notes.now keeps c.take_zeros.ensures.processes c.take_zeros.ensures.count c.requires.permitted c.requires.bare
+      new_starved s c.args.mem.now c.take_zeros.new.mem c.args.process c.args.page c.args.notes.now keeps c.take_zeros.ensures.processes c.take_zeros.ensures.count (order_still c.args.mem.now c.take_zeros.new.mem c.take_zeros.ensures.spaces c.take_zeros.ensures.anons keeps.anons) c.requires.permitted c.requires.bare
       c.out_of.result none.1 none.0 c.out_of.ensures;
 }
 
@@ -14,6 +15,6 @@ pub returns : goal.returns
 returns c = record {
   count = c.take_zeros.ensures.count;
   step = λ s keeps.
-      new_made s c.args.mem.now c.take_zeros.new.mem c.args.process c.args.page c.args.notes.now keeps c.take_zeros.ensures.processes c.take_zeros.ensures.count c.requires.permitted c.requires.bare
+      new_made s c.args.mem.now c.take_zeros.new.mem c.args.process c.args.page c.args.notes.now keeps c.take_zeros.ensures.processes c.take_zeros.ensures.count (order_still c.args.mem.now c.take_zeros.new.mem c.take_zeros.ensures.spaces c.take_zeros.ensures.anons keeps.anons) c.requires.permitted c.requires.bare
       c.in-Some.frame c.push.new.self c.in_ok-push.ensures.ok (rw c.in-Some.is at c.in_ok-frame.ensures.taken);
 }

@@ -12,7 +12,7 @@ returns c = record {
   step = λ s keeps.
       let old = c.args.mem.now in
       let new = record old { tables = c.set.new.self } in
-      zeroed_now s old new c.args.process c.args.page c.args.notes.now keeps c.set.ensures.processes refl c.push.new.self c.in_ok-push.ensures.ok
-      (entry_put_in old new c.args.process c.args.page Zero c.in_ok-set.ensures.sets refl refl)
+      zeroed_now s old new c.args.process c.args.page c.args.notes.now keeps c.set.ensures.processes refl keeps.anons c.push.new.self c.in_ok-push.ensures.ok
+      (entry_put_in old new c.args.process c.args.page Zero c.in_ok-set.ensures.sets refl refl refl)
       c.requires.permitted (sym (keeps.stands.parts.ledger.tables.entries c.args.process c.args.page) ∙ ap (λ t. entry_of (plain t)) c.requires.bare);
 }

@@ -47,4 +47,4 @@ returns-clause-taken c =
     frame_taken c.args.mem.now _ c.args.process c.args.page f _ _ c.take.new.self.free
     (c.map_down.ensures ∙ ap (λ (s : Seen). record s { maps = with_at g (s.maps g - 1) s.maps })
     (c.map_up.ensures ∙ ap (λ (s : Seen). record s { maps = with_at f (s.maps f + 1) s.maps }) (c.copy.ensures ∙ ap (λ (s : Seen). record s { bytes = with_at f (s.bytes g) s.bytes }) t.3)))
-    t.0 t.2 t.1 (subst (λ e. entry_at c.set.new.self ≡ with_entry c.args.process c.args.page e (entry_at c.args.mem.now.tables)) c.accessed_entry.ensures c.in_ok-set.ensures.sets) refl
+    t.0 t.2 t.1 (subst (λ e. entry_at c.set.new.self ≡ with_entry c.args.process c.args.page e (entry_at c.args.mem.now.tables)) c.accessed_entry.ensures c.in_ok-set.ensures.sets) refl refl

@@ -20,7 +20,7 @@ returns-else-is_shared c = record {
       let old = c.args.mem.now in
       let few : map_count s.ledger h.frame ≤ 1 = subst (λ n. n ≤ 1) (keeps.stands.parts.ledger.frames.maps h.frame) (rw c.if-is_shared.false at c.is_shared.ensures) in
       seen_now old (record old { tables = c.change.new.self }) s c.args.process c.args.page h.frame true h.write true h.seen c.args.notes.now keeps (c.requires.permitted)
-      (sym c.get.ensures ∙ h.is) (subst (λ e. entry_at c.change.new.self ≡ with_entry c.args.process c.args.page e (entry_at old.tables)) c.accessed_entry.ensures c.change.ensures.sets) c.change.ensures.processes refl refl (λ _. few) (λ _. few);
+      (sym c.get.ensures ∙ h.is) (subst (λ e. entry_at c.change.new.self ≡ with_entry c.args.process c.args.page e (entry_at old.tables)) c.accessed_entry.ensures c.change.ensures.sets) c.change.ensures.processes refl refl refl (λ _. few) (λ _. few);
 }
 
 pub returns-then-seen : goal.returns-then-seen

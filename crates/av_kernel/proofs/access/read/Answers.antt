@@ -19,11 +19,11 @@ returns c = record {
       let reads = c.in_ok-ended.ensures.reads s keeps in
       let lived = sym (lives_is c.args.mem.now s keeps c.args.process) ∙ c.in_ok-check_lives.ensures in
       elim c.match-ended.branch [
-        | in-None w ↦ read-done s c.args.mem.now c.read_pieces.new.mem c.args.process c.args.address c.new-notes.result c.read_pieces.new.notes c.new.result k c.new-notes.ensures c.new.ensures c.in_ok-ended.ensures.count lived
+        | in-None w ↦ read-done s c.args.mem.now c.read_pieces.new.mem c.args.process c.args.address c.new-notes.result c.read_pieces.new.notes c.new.result k c.new-notes.ensures c.new.ensures c.in_ok-ended.ensures.count lived keeps
             c.args.len shown c.match-ended.answer
             (subst (λ end. IsAccess s c.read_pieces.new.mem false c.args.process c.args.address c.args.len [] c.new-notes.result c.read_pieces.new.notes end k) w.in-None.is access)
             reads w.answer-is
-        | in-Some w ↦ read-stopped s c.args.mem.now c.read_pieces.new.mem c.args.process c.args.address c.new-notes.result c.read_pieces.new.notes c.new.result k c.new-notes.ensures c.new.ensures c.in_ok-ended.ensures.count lived
+        | in-Some w ↦ read-stopped s c.args.mem.now c.read_pieces.new.mem c.args.process c.args.address c.new-notes.result c.read_pieces.new.notes c.new.result k c.new-notes.ensures c.new.ensures c.in_ok-ended.ensures.count lived keeps
             c.args.len shown c.match-ended.answer w.in-Some.stop
             (subst (λ end. IsAccess s c.read_pieces.new.mem false c.args.process c.args.address c.args.len [] c.new-notes.result c.read_pieces.new.notes end k) w.in-Some.is access)
             reads (w.answer-is ∙ w.stop_answer-answer.ensures)

@@ -18,11 +18,11 @@ returns c = record {
       let access = c.in_ok-ended.ensures.access s keeps in
       let lived = sym (lives_is c.args.mem.now s keeps c.args.process) ∙ c.in_ok-check_lives.ensures in
       elim c.match-ended.branch [
-        | in-None w ↦ write-done s c.args.mem.now c.write_pieces.new.mem c.args.process c.args.address c.new-notes.result c.write_pieces.new.notes c.new-2.result k c.new-notes.ensures c.new-2.ensures c.in_ok-ended.ensures.count lived
+        | in-None w ↦ write-done s c.args.mem.now c.write_pieces.new.mem c.args.process c.args.address c.new-notes.result c.write_pieces.new.notes c.new-2.result k c.new-notes.ensures c.new-2.ensures c.in_ok-ended.ensures.count lived keeps
             bytes c.match-ended.answer
             (subst (λ end. IsAccess s c.write_pieces.new.mem true c.args.process c.args.address (length bytes) (take k bytes) c.new-notes.result c.write_pieces.new.notes end k) w.in-None.is access)
             w.answer-is
-        | in-Some w ↦ write-stopped s c.args.mem.now c.write_pieces.new.mem c.args.process c.args.address c.new-notes.result c.write_pieces.new.notes c.new-2.result k c.new-notes.ensures c.new-2.ensures c.in_ok-ended.ensures.count lived
+        | in-Some w ↦ write-stopped s c.args.mem.now c.write_pieces.new.mem c.args.process c.args.address c.new-notes.result c.write_pieces.new.notes c.new-2.result k c.new-notes.ensures c.new-2.ensures c.in_ok-ended.ensures.count lived keeps
             bytes c.match-ended.answer w.in-Some.stop
             (subst (λ end. IsAccess s c.write_pieces.new.mem true c.args.process c.args.address (length bytes) (take k bytes) c.new-notes.result c.write_pieces.new.notes end k) w.in-Some.is access)
             (w.answer-is ∙ w.stop_answer-answer.ensures ∙ ap (answer_of w.in-Some.stop k) w.new.ensures)

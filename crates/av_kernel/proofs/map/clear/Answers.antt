@@ -1,10 +1,18 @@
-use Rattle.av_kernel.proofs.MapLaws.{on_ok, are_cleared}
+use Rattle.std.proofs.Common.{subst, sym}
+use Rattle.av_spaces.specs.Spaces.{AllSpaces}
+use Rattle.av_spaces.specs.Kin.{AnonsFit}
+use Rattle.av_kernel.proofs.MapLaws.{both_ok, are_cleared}
 use Rattle.av_kernel.proofs.MapProts.{has_areas, unmapped-prots}
 use Rattle.av_kernel.proofs.map.clear.Goals as goal
+
+pub unmap-requires-clause-order : goal.unmap-requires-clause-order
+unmap-requires-clause-order c =
+    let rest = c.zap_range.ensures.rest in
+    (subst (λ (x : AllSpaces). AnonsFit x c.zap_range.new.mem.anons) (sym rest.spaces) (subst (AnonsFit c.args.mem.now.spaces) (sym rest.anons) c.requires.steady.1.anons)).order
 
 pub returns-clause-cleared : goal.returns-clause-cleared
 returns-clause-cleared c = λ l stands.
     let t = c.zap_range.ensures in
     let mid = c.zap_range.new.mem in
-    on_ok c.unmap.result (λ gone. are_cleared c.args.mem.now mid c.unmap.new.self c.args.process c.args.page c.args.pages l (t.zapped l stands) t.rest.spaces t.rest.processes t.rest.bytes
-    (unmapped-prots mid.spaces c.unmap.new.self c.args.process c.args.page c.args.pages gone) (has_areas mid.spaces c.unmap.new.self c.args.process _ gone)) c.unmap.ensures
+    both_ok c.unmap.result (λ gone stay. are_cleared c.args.mem.now mid c.unmap.new.self c.unmap.new.anons c.args.process c.args.page c.args.pages l (t.zapped l stands) t.rest.spaces t.rest.anons t.rest.processes t.rest.bytes
+    (unmapped-prots mid.spaces.processes c.unmap.new.self.processes c.args.process c.args.page c.args.pages gone) (has_areas mid.spaces.processes c.unmap.new.self.processes c.args.process _ gone) stay) c.unmap.ensures.areas c.unmap.ensures.anons

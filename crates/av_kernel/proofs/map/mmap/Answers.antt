@@ -8,8 +8,9 @@ use Rattle.av_plain.specs.Map.{zaps_for_place}
 use Rattle.av_reclaim.specs.Mem.{ranges_of}
 use Rattle.av_kernel.specs.Map.{set_on, HasAreas, HasProts, AreCleared}
 use Rattle.av_plain.specs.Areas.{with_room}
-use Rattle.av_vma.specs.Pages.{after_map, no_chains}
+use Rattle.av_vma.specs.Pages.{after_map}
 use Rattle.av_spaces.specs.Spaces.{pages_of as plain_pages}
+use Rattle.av_merge.specs.Kin.{lengths}
 use Rattle.av_kernel.specs.Place.{IsPlaced}
 use Rattle.av_kernel.specs.Step.{MemSteps}
 use Rattle.std.specs.Int.{div_ceil}
@@ -75,7 +76,7 @@ pub returns-in_err-make_room : goal.returns-in_err-make_room
 returns-in_err-make_room c = wants-by c.args.mem.now c.make_room.new.mem (Mmap c.args.process c.args.len c.args.prot c.args.place) c.from_residual-in_err-make_room.result c.from_residual-in_err-make_room.ensures c.make_room.ensures.count
 
 pub returns-in_err-map : goal.returns-in_err-map
-returns-in_err-map c = wants-by c.args.mem.now (record c.make_room.new.mem { spaces = c.map.new.self }) (Mmap c.args.process c.args.len c.args.prot c.args.place) c.from_residual-in_err-map.result c.from_residual-in_err-map.ensures c.make_room.ensures.count
+returns-in_err-map c = wants-by c.args.mem.now (record c.make_room.new.mem { spaces = c.map.new.self; anons = c.map.new.anons }) (Mmap c.args.process c.args.len c.args.prot c.args.place) c.from_residual-in_err-map.result c.from_residual-in_err-map.ensures c.make_room.ensures.count
 
 pub returns : goal.returns
 returns c = record {
@@ -89,12 +90,17 @@ returns c = record {
       let cleared = c.in_ok-make_room.ensures.cleared s.ledger (orderly k s keeps) in
       let placed = subst (λ n. IsPlaced (pages s.world c.args.process) n c.args.place (Ok page)) size (c.in_ok-page.ensures (pages s.world c.args.process) (taken_is k s c.args.process keeps)) in
       let free = cleared_free k mid c.args.process page c.div_ceil-pages.result _ s.ledger _ cleared in
-      let prots = mapped-prots mid.spaces c.map.new.self c.args.process page c.div_ceil-pages.result c.args.prot (some_pages c.args.len c.div_ceil-pages.result c.if-len-eq0.false c.div_ceil-pages.ensures) suit.lowest suit.highest free c.in_ok-map.ensures in
-      subst (MemSteps k (moved_on mid mid.tables c.map.new.self) s (Mmap c.args.process c.args.len c.args.prot c.args.place)) (sym c.answer_only.ensures)
+      let prots = mapped-prots (lengths mid.spaces.areas mid.anons) mid.spaces.processes c.map.new.self.processes c.args.process page c.div_ceil-pages.result c.args.prot (some_pages c.args.len c.div_ceil-pages.result c.if-len-eq0.false c.div_ceil-pages.ensures) suit.lowest suit.highest free c.in_ok-map.ensures.areas in
+      subst (MemSteps k (moved_on mid mid.tables c.map.new.self c.map.new.anons) s (Mmap c.args.process c.args.len c.args.prot c.args.place)) (sym c.answer_only.ensures)
       (mmap-steps k s c.args.process c.args.len c.args.prot c.args.place keeps (ranges_there k c.args.process c.in_ok-check_lives.ensures) (not_zero c.args.len c.if-len-eq0.false) (sym c.is_too_long.ensures ∙ c.if-is_too_long.false)
-      mid c.map.new.self page placed (suited k.spaces c.args.process (pages s.world c.args.process) (taken_is k s c.args.process keeps) (pages_of c.args.len) page c.args.place placed).clear c.make_room.ensures.count
-      (subst (λ n. AreCleared k mid c.args.process page n (with_room n c.args.place (plain_pages k.spaces c.args.process)) s.ledger (zaps_for_place s.ledger c.args.process n c.args.place)) size cleared)
-      (subst (λ n. HasProts mid.spaces c.map.new.self c.args.process (set_on page n (Some c.args.prot) (prot_of (ranges_of mid.spaces c.args.process)))) size prots)
-      (subst (λ n. HasAreas mid.spaces c.map.new.self c.args.process (after_map no_chains c.args.process page (page + n) c.args.prot (plain_pages mid.spaces c.args.process))) size
-      (has_areas mid.spaces c.map.new.self c.args.process _ c.in_ok-map.ensures)));
+      mid c.map.new.self c.map.new.anons page placed (suited k.spaces.processes c.args.process (pages s.world c.args.process) (taken_is k s c.args.process keeps) (pages_of c.args.len) page c.args.place placed).clear c.make_room.ensures.count
+      (subst (λ n. AreCleared k mid c.args.process page n (with_room n c.args.place (plain_pages k.spaces.processes c.args.process)) s.ledger (zaps_for_place s.ledger c.args.process n c.args.place)) size cleared)
+      (subst (λ n. HasProts mid.spaces.processes c.map.new.self.processes c.args.process (set_on page n (Some c.args.prot) (prot_of (ranges_of mid.spaces.processes c.args.process)))) size prots)
+      (subst (λ n. HasAreas mid.spaces.processes c.map.new.self.processes c.args.process (after_map (lengths mid.spaces.areas mid.anons) c.args.process page (page + n) c.args.prot (plain_pages mid.spaces.processes c.args.process))) size
+      (has_areas mid.spaces.processes c.map.new.self.processes c.args.process _ c.in_ok-map.ensures.areas)) c.in_ok-map.ensures.anons);
 }
+
+pub map-requires-clause-order : goal.map-requires-clause-order
+map-requires-clause-order c =
+    let s = c.requires.0 in
+    (c.in_ok-make_room.ensures.cleared s.ledger (orderly c.args.mem.now s c.requires.1)).anons.fit.order

@@ -2,6 +2,7 @@ use Rattle.std.proofs.Common.{◌+◌, ◌/◌, ◌<◌, ◌≤◌, refl, sym, s
 use Rattle.av_merge.specs.Pages.{IsReached}
 use Rattle.av_trace.specs.declared.command.Command.TheVariants.{Mprotect}
 use Rattle.av_spaces.specs.Spaces.{is_taken}
+use Rattle.av_merge.specs.Kin.{lengths}
 use Rattle.av_kernel.specs.Step.{MemSteps}
 use Rattle.av_trace.specs.declared.reply.Errno.TheVariants.{Esrch}
 use Rattle.av_kernel.proofs.StepLaws.{moved_on, ranges_there, refuses, refuses-as, refuses-by, dead_first, wants-by}
@@ -20,7 +21,7 @@ returns-in_err-check_protect c = refuses-by c.args.mem.now c.args.mem.now (Mprot
     (refuses c.args.mem.now (Mprotect c.args.process c.args.address c.args.len c.args.prot) c.in_err-check_protect.field-0.0 (λ s keeps. mprotect-refused c.args.mem.now s c.args.process c.args.address c.args.len c.args.prot _ keeps c.in_ok-check_lives.ensures c.in_err-check_protect.ensures))
 
 pub returns-in_err-reached : goal.returns-in_err-reached
-returns-in_err-reached c = wants-by c.args.mem.now (record c.args.mem.now { spaces = c.protect.new.self }) (Mprotect c.args.process c.args.address c.args.len c.args.prot) c.from_residual-in_err-reached.result c.from_residual-in_err-reached.ensures refl
+returns-in_err-reached c = wants-by c.args.mem.now (record c.args.mem.now { spaces = c.protect.new.self; anons = c.protect.new.anons }) (Mprotect c.args.process c.args.address c.args.len c.args.prot) c.from_residual-in_err-reached.result c.from_residual-in_err-reached.ensures refl
 
 pub returns : goal.returns
 returns c = record {
@@ -30,11 +31,11 @@ returns c = record {
       let page = c.args.address / 4096 in
       let reached = c.in_ok-reached.reached in
       let size = c.div_ceil-pages.ensures ∙ rounded_up c.args.len in
-      subst (MemSteps k (moved_on k k.tables c.protect.new.self) s (Mprotect c.args.process c.args.address c.args.len c.args.prot)) (sym c.answer_only.ensures)
-      (mprotect-steps k c.protect.new.self s c.args.process c.args.address c.args.len reached c.args.prot keeps (ranges_there k c.args.process c.in_ok-check_lives.ensures) c.in_ok-check_protect.ensures
-      (subst (λ n. IsReached (is_taken k.spaces c.args.process) page (page + n) reached) size c.in_ok-reached.ensures.reached)
-      (protected-prots k.spaces c.protect.new.self c.args.process page (page + c.div_ceil-pages.result) reached c.args.prot c.in_ok-reached.ensures.reached c.in_ok-reached.ensures.ok c.in_ok-reached.ensures.mapping)
-      (has_areas k.spaces c.protect.new.self c.args.process _ c.in_ok-reached.ensures.ok) (subst (λ n. page + n ≤ reached) size c.if-reached-past.false));
+      subst (MemSteps k (moved_on k k.tables c.protect.new.self c.protect.new.anons) s (Mprotect c.args.process c.args.address c.args.len c.args.prot)) (sym c.answer_only.ensures)
+      (mprotect-steps k c.protect.new.self c.protect.new.anons s c.args.process c.args.address c.args.len reached c.args.prot keeps (ranges_there k c.args.process c.in_ok-check_lives.ensures) c.in_ok-check_protect.ensures
+      (subst (λ n. IsReached (is_taken k.spaces.processes c.args.process) page (page + n) reached) size c.in_ok-reached.ensures.reached)
+      (protected-prots (lengths k.spaces.areas k.anons) k.spaces.processes c.protect.new.self.processes c.args.process page (page + c.div_ceil-pages.result) reached c.args.prot c.in_ok-reached.ensures.reached c.in_ok-reached.ensures.ok c.in_ok-reached.ensures.mapping)
+      (has_areas k.spaces.processes c.protect.new.self.processes c.args.process _ c.in_ok-reached.ensures.ok) c.in_ok-reached.ensures.anons (subst (λ n. page + n ≤ reached) size c.if-reached-past.false));
 }
 
 pub returns-then-reached-past : goal.returns-then-reached-past
@@ -45,8 +46,11 @@ returns-then-reached-past c = record {
       let page = c.args.address / 4096 in
       let reached = c.in_ok-reached.reached in
       let size = c.div_ceil-pages.ensures ∙ rounded_up c.args.len in
-      mprotect-stops k c.protect.new.self s c.args.process c.args.address c.args.len reached c.args.prot keeps (ranges_there k c.args.process c.in_ok-check_lives.ensures) c.in_ok-check_protect.ensures
-      (subst (λ n. IsReached (is_taken k.spaces c.args.process) page (page + n) reached) size c.in_ok-reached.ensures.reached)
-      (protected-prots k.spaces c.protect.new.self c.args.process page (page + c.div_ceil-pages.result) reached c.args.prot c.in_ok-reached.ensures.reached c.in_ok-reached.ensures.ok c.in_ok-reached.ensures.mapping)
-      (has_areas k.spaces c.protect.new.self c.args.process _ c.in_ok-reached.ensures.ok) (subst (λ n. reached < page + n) size c.if-reached-past.true);
+      mprotect-stops k c.protect.new.self c.protect.new.anons s c.args.process c.args.address c.args.len reached c.args.prot keeps (ranges_there k c.args.process c.in_ok-check_lives.ensures) c.in_ok-check_protect.ensures
+      (subst (λ n. IsReached (is_taken k.spaces.processes c.args.process) page (page + n) reached) size c.in_ok-reached.ensures.reached)
+      (protected-prots (lengths k.spaces.areas k.anons) k.spaces.processes c.protect.new.self.processes c.args.process page (page + c.div_ceil-pages.result) reached c.args.prot c.in_ok-reached.ensures.reached c.in_ok-reached.ensures.ok c.in_ok-reached.ensures.mapping)
+      (has_areas k.spaces.processes c.protect.new.self.processes c.args.process _ c.in_ok-reached.ensures.ok) c.in_ok-reached.ensures.anons (subst (λ n. reached < page + n) size c.if-reached-past.true);
 }
+
+pub protect-requires-clause-order : goal.protect-requires-clause-order
+protect-requires-clause-order c = c.requires.1.anons.order

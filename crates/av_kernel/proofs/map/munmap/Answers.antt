@@ -30,5 +30,5 @@ returns c = record {
       let page = c.args.address / 4096 in
       subst (MemSteps k c.clear.new.mem s (Munmap c.args.process c.args.address c.args.len)) (sym c.answer_only.ensures)
       (munmap-steps k c.clear.new.mem s c.args.process c.args.address c.args.len keeps (ranges_there k c.args.process c.in_ok-check_lives.ensures) (sym c.is_no_range.ensures ∙ c.if-is_no_range.false) c.clear.ensures.count
-      (subst (λ n. AreCleared k c.clear.new.mem c.args.process page n (after_unmap page (page + n) (pages_of k.spaces c.args.process)) s.ledger (zaps_of s.ledger (keys_in s.ledger c.args.process page n))) (c.div_ceil.ensures ∙ rounded_up c.args.len) (c.in_ok-clear.ensures.cleared s.ledger (orderly k s keeps))));
+      (subst (λ n. AreCleared k c.clear.new.mem c.args.process page n (after_unmap page (page + n) (pages_of k.spaces.processes c.args.process)) s.ledger (zaps_of s.ledger (keys_in s.ledger c.args.process page n))) (c.div_ceil.ensures ∙ rounded_up c.args.len) (c.in_ok-clear.ensures.cleared s.ledger (orderly k s keeps))));
 }

@@ -18,7 +18,7 @@ unreachable-requires c =
 pub returns-in-Ready-clause-step : goal.returns-in-Ready-clause-step
 returns-in-Ready-clause-step c = λ s keeps alive.
     written_served s c.args.mem.now c.args.process c.args.page c.args.at c.args.piece.now c.args.notes.now c.touch.new.notes keeps c.touch.new.mem _ c.in-Ready.frame c.touch.ensures.count
-    alive c.requires.some c.requires.fits (rw c.in-Ready.is at (c.in_ok-frame.ensures.step s keeps)) c.write_at.ensures refl refl
+    alive c.requires.some c.requires.fits (rw c.in-Ready.is at (c.in_ok-frame.ensures.step s keeps)) c.write_at.ensures refl refl refl
 
 pub returns-in-Stopped-clause-step : goal.returns-in-Stopped-clause-step
 returns-in-Stopped-clause-step c = λ s keeps alive.

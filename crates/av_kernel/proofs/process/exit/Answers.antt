@@ -1,5 +1,7 @@
 use Rattle.std.proofs.Common.{◌∙◌, subst, sym, ap}
 use Rattle.av_trace.specs.declared.command.Command.TheVariants.{Exit}
+use Rattle.av_spaces.specs.Spaces.{AllSpaces}
+use Rattle.av_spaces.specs.Kin.{AnonsFit, AnonsStay}
 use Rattle.av_kernel.specs.Step.{MemSteps}
 use Rattle.av_trace.specs.declared.reply.Errno.TheVariants.{Esrch}
 use Rattle.av_kernel.proofs.StepLaws.{orderly, ranges_there, refuses, refuses-as, dead_first}
@@ -21,7 +23,9 @@ returns c = record {
       let old = c.args.mem.now in
       let mid = c.zap_all.new.mem in
       let rest = c.zap_all.ensures.rest in
-      subst (MemSteps old (record { frames = mid.frames; tables = c.end.new.self; spaces = c.end-2.new.self }) s (Exit c.args.process)) (sym c.answer_only.ensures)
-      (exit-steps old mid c.end.new.self c.end-2.new.self s c.args.process keeps (ranges_there old c.args.process c.in_ok-check_lives.ensures) (c.zap_all.ensures.zapped s.ledger (orderly old s keeps))
-      rest.bytes rest.spaces rest.processes rest.count c.end.ensures.processes c.end.ensures.entries c.end-2.ensures);
+      subst (MemSteps old (record { frames = mid.frames; tables = c.end.new.self; spaces = c.end-2.new.self; anons = c.end-2.new.anons }) s (Exit c.args.process)) (sym c.answer_only.ensures)
+      (exit-steps old mid c.end.new.self c.end-2.new.self c.end-2.new.anons s c.args.process keeps (ranges_there old c.args.process c.in_ok-check_lives.ensures) (c.zap_all.ensures.zapped s.ledger (orderly old s keeps))
+      rest.bytes rest.spaces rest.processes rest.count c.end.ensures.processes c.end.ensures.entries c.end-2.ensures.areas
+      (subst (λ (x : AllSpaces). AnonsStay x old.anons c.end-2.new.self c.end-2.new.anons) rest.spaces (subst (λ a. AnonsStay mid.spaces a c.end-2.new.self c.end-2.new.anons) rest.anons c.end-2.ensures.anons)));
 }
+

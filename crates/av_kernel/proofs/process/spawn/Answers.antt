@@ -17,13 +17,13 @@ pub returns-in_err-spawn : goal.returns-in_err-spawn
 returns-in_err-spawn c = wants-by c.args.mem.now (record c.args.mem.now { tables = c.spawn.new.self }) (Spawn c.args.process) c.from_residual.result c.from_residual.ensures refl
 
 pub returns-in_err-spawn-2 : goal.returns-in_err-spawn-2
-returns-in_err-spawn-2 c = wants-by c.args.mem.now (moved_on c.args.mem.now c.spawn.new.self c.spawn-2.new.self) (Spawn c.args.process) c.from_residual-in_err-spawn-2.result c.from_residual-in_err-spawn-2.ensures refl
+returns-in_err-spawn-2 c = wants-by c.args.mem.now (moved_on c.args.mem.now c.spawn.new.self c.spawn-2.new.self c.args.mem.now.anons) (Spawn c.args.process) c.from_residual-in_err-spawn-2.result c.from_residual-in_err-spawn-2.ensures refl
 
 pub returns : goal.returns
 returns c = record {
   count = refl;
   step = λ s keeps.
       let k = c.args.mem.now in
-      subst (MemSteps k (moved_on k c.spawn.new.self c.spawn-2.new.self) s (Spawn c.args.process)) (sym c.answer_only.ensures)
-      (spawned-steps k c.spawn.new.self c.spawn-2.new.self s c.args.process keeps (alive_is k.spaces c.args.process ∙ sym c.lives.ensures ∙ c.if-lives.false) (omega (arith, c.count.ensures)) c.in_ok-spawn.ensures.entries c.in_ok-spawn.ensures.processes c.in_ok-spawn-2.ensures.ok);
+      subst (MemSteps k (moved_on k c.spawn.new.self c.spawn-2.new.self k.anons) s (Spawn c.args.process)) (sym c.answer_only.ensures)
+      (spawned-steps k c.spawn.new.self c.spawn-2.new.self s c.args.process keeps (alive_is k.spaces.processes c.args.process ∙ sym c.lives.ensures ∙ c.if-lives.false) (omega (arith, c.count.ensures)) c.in_ok-spawn.ensures.entries c.in_ok-spawn.ensures.processes c.in_ok-spawn-2.ensures.ok (c.in_ok-spawn-2.ensures.anons k.anons keeps.anons.order));
 }

@@ -8,7 +8,7 @@ returns-in_err-page-clause-zapped c = λ l stands.
     let old = c.args.mem.now in
     let new = record old { tables = c.take_first.new.self } in
     let t = c.in_err-page.ensures.takes in
-    subst (ZapsFirst old new l c.args.process c.args.from c.args.past) (sym c.from_residual.ensures) (none_taken old l stands new c.args.process c.args.from c.args.past t.0 t.1 refl refl)
+    subst (ZapsFirst old new l c.args.process c.args.from c.args.past) (sym c.from_residual.ensures) (none_taken old l stands new c.args.process c.args.from c.args.past t.0 t.1 refl refl refl)
 
 pub unmap_frame-requires-clause-in_range : goal.unmap_frame-requires-clause-in_range
 unmap_frame-requires-clause-in_range c =
@@ -30,7 +30,7 @@ returns-in-Here-clause-zapped c = λ l stands.
     let old = c.args.mem.now in
     let mid = record old { tables = c.take_first.new.self } in
     let t = c.in_ok-page.ensures.takes in
-    frame_taken old l stands c.unmap_frame.new.mem c.args.process c.args.from c.args.past c.in_ok-page.page c.in_ok-page.entry t.0 t.1 mid c.in-Here.frame c.in-Here.write c.in-Here.seen c.in-Here.is t.2 refl refl
+    frame_taken old l stands c.unmap_frame.new.mem c.args.process c.args.from c.args.past c.in_ok-page.page c.in_ok-page.entry t.0 t.1 mid c.in-Here.frame c.in-Here.write c.in-Here.seen c.in-Here.is t.2 refl refl refl
     c.unmap_frame.ensures.view c.unmap_frame.ensures.count
 
 pub returns-in_default : goal.returns-in_default
@@ -39,7 +39,7 @@ returns-in_default c =
     let new = record old { tables = c.take_first.new.self } in
     let t = c.in_ok-page.ensures.takes in
     record {
-      zapped = λ l stands. zero_taken old l stands new c.args.process c.args.from c.args.past c.in_ok-page.page c.in_ok-page.entry t.0 t.1 c.in_default.not-Here t.2 refl refl;
+      zapped = λ l stands. zero_taken old l stands new c.args.process c.args.from c.args.past c.in_ok-page.page c.in_ok-page.entry t.0 t.1 c.in_default.not-Here t.2 refl refl refl;
       within = (t.0.from_there, t.0.below);
-      rest = record { processes = c.in_ok-page.ensures.processes; bytes = refl; spaces = refl; count = refl };
+      rest = record { processes = c.in_ok-page.ensures.processes; bytes = refl; spaces = refl; anons = refl; count = refl };
     }

@@ -10,16 +10,16 @@ use Rattle.av_merge.specs.Process.{AreAreasOf}
 use Rattle.av_spaces.specs.Spaces.{areas_of, pages_of, AreRising, AreThese, IsChanged}
 use Rattle.av_spaces.specs.Trees.{tree_at, areas_by, spaces_by}
 use Rattle.av_spaces.proofs.Areas.{held_by, rising_of}
-use Rattle.av_spaces.proofs.Trees.{areas_are, not_dead, lives_is, tree_of, pages_there, none_dead, taken_as, place_there, trees_same, trees_spawned, count_spawned, spawns, trees_left, count_left, ends, place_still, trees_lent, count_lent, changes, if_each, on_ok}
+use Rattle.av_spaces.proofs.Trees.{processes_are, areas_are, not_dead, lives_is, tree_of, pages_there, none_dead, taken_as, place_there, trees_same, trees_spawned, count_spawned, spawns, trees_left, count_left, ends, place_still, trees_lent, count_lent, changes, if_each, on_ok}
 use Rattle.av_spaces.proofs.spaces.Spaces.area.Goals as goal
 
 pub returns-in_err-tree-clause-area : goal.returns-in_err-tree-clause-area
-returns-in_err-tree-clause-area c = c.from_residual.ensures ∙ none_dead (area_of c.self.inside.areas) c.self.inside.trees.items c.args.process c.args.self.now (sym (ap (λ ts. tree_at ts c.args.process) (sym c.deref.ensures.value) ∙ sym c.in_err-tree.ensures)) c.self.view_is c.args.page
+returns-in_err-tree-clause-area c = c.from_residual.ensures ∙ none_dead (area_of c.self.inside.areas) c.self.inside.trees.items c.args.process c.args.self.now.processes (sym (ap (λ ts. tree_at ts c.args.process) (sym c.deref.ensures.value) ∙ sym c.in_err-tree.ensures)) (processes_are c.self.view_is) c.args.page
 
 pub returns-in_err-number-clause-area : goal.returns-in_err-number-clause-area
 returns-in_err-number-clause-area c =
     c.from_residual-in_err-number.ensures ∙ ap (option_and_then (area_of c.self.inside.areas)) c.in_err-number.ensures.area
-    ∙ sym (pages_there (area_of c.self.inside.areas) c.self.inside.trees.items c.args.process c.in_ok-tree.tree.now c.args.self.now c.self.invariant.trees (sym (ap (λ ts. tree_at ts c.args.process) (sym c.deref.ensures.value) ∙ sym c.in_ok-tree.ensures)) c.self.view_is c.args.page)
+    ∙ sym (pages_there (area_of c.self.inside.areas) c.self.inside.trees.items c.args.process c.in_ok-tree.tree.now c.args.self.now.processes c.self.invariant.trees (sym (ap (λ ts. tree_at ts c.args.process) (sym c.deref.ensures.value) ∙ sym c.in_ok-tree.ensures)) (processes_are c.self.view_is) c.args.page)
 
 pub get-requires : goal.get-requires
 get-requires c = record {
@@ -29,7 +29,7 @@ get-requires c = record {
 pub returns-clause-area : goal.returns-clause-area
 returns-clause-area c =
     sym c.get.ensures ∙ ap (option_and_then (area_of c.self.inside.areas)) c.in_ok-number.ensures.area
-    ∙ sym (pages_there (area_of c.self.inside.areas) c.self.inside.trees.items c.args.process c.in_ok-tree.tree.now c.args.self.now c.self.invariant.trees (sym (ap (λ ts. tree_at ts c.args.process) (sym c.deref.ensures.value) ∙ sym c.in_ok-tree.ensures)) c.self.view_is c.args.page)
+    ∙ sym (pages_there (area_of c.self.inside.areas) c.self.inside.trees.items c.args.process c.in_ok-tree.tree.now c.args.self.now.processes c.self.invariant.trees (sym (ap (λ ts. tree_at ts c.args.process) (sym c.deref.ensures.value) ∙ sym c.in_ok-tree.ensures)) (processes_are c.self.view_is) c.args.page)
 
 pub returns-clause-below : goal.returns-clause-below
 returns-clause-below c _ =

@@ -1,4 +1,4 @@
-use Rattle.std.proofs.Common.{◌-◌, ◌<◌, arith, true, ◌≤◌, ◌≡◌, ◌∙◌, ℕ, ◌+◌, List, ◌++◌, Some, None, is_some, option_map, length, slice_set, Result, Ok, Err, subst, sym, ap, refl}
+use Rattle.std.proofs.Common.{◌-◌, ◌<◌, arith, true, ◌≤◌, ◌≡◌, ◌∙◌, ℕ, ◌+◌, List, ◌++◌, Option, Some, None, is_some, option_map, length, slice_set, Result, Ok, Err, subst, sym, ap, refl}
 use Rattle.std.proofs.Math.ListN.{length-set}
 use Rattle.std.specs.Prelude.{IfOk, option_and_then}
 use Rattle.av_vma.specs.Areas.{area_of}
@@ -10,13 +10,17 @@ use Rattle.av_merge.specs.Pages.{pages_by, IsReached}
 use Rattle.av_merge.specs.Mapping.{IsRemapped}
 use Rattle.av_merge.specs.Process.{AreAreasOf}
 use Rattle.av_spaces.specs.Spaces.{IsSpawned, IsEnded, areas_of, pages_of, AreRising, AreThese, IsChanged}
-use Rattle.av_spaces.specs.Trees.{Trees, HasTrees, tree_at, areas_by, spaces_by}
+use Rattle.av_vma.specs.declared.area.Area.{Area}
+use Rattle.av_merge.specs.Kin.{lengths}
+use Rattle.av_spaces.specs.Spaces.{AllSpaces}
+use Rattle.av_spaces.proofs.Kin.{anons_stay_by, order_in}
+use Rattle.av_spaces.specs.Trees.{AreTrees, Trees, HasTrees, tree_at, areas_by, spaces_by}
 use Rattle.av_spaces.proofs.Areas.{held_by, rising_of}
-use Rattle.av_spaces.proofs.Trees.{some_mapped, count_is, areas_are, not_dead, tree_of, pages_there, none_dead, taken_as, place_there, trees_same, trees_spawned, count_spawned, spawns, trees_left, count_left, ends, place_still, trees_lent, count_lent, changes, count_below, some_alive, lives_is, if_each, on_ok}
+use Rattle.av_spaces.proofs.Trees.{processes_are, some_mapped, count_is, areas_are, not_dead, tree_of, pages_there, none_dead, taken_as, place_there, trees_same, trees_spawned, count_spawned, spawns, trees_left, count_left, ends, place_still, trees_lent, count_lent, changes, count_below, some_alive, lives_is, if_each, on_ok}
 use Rattle.av_spaces.proofs.spaces.Spaces.protect.Goals as goal
 
 pub take_tree-tree-requires : goal.take_tree-tree-requires
-take_tree-tree-requires c = (lives_is (area_of c.self.inside.areas) c.self.inside.trees.items c.args.process ∙ ap (λ s. is_some (areas_of s c.args.process)) c.self.view_is ∙ c.requires.lives)
+take_tree-tree-requires c = (lives_is (area_of c.self.inside.areas) c.self.inside.trees.items c.args.process ∙ ap (λ s. is_some (areas_of s c.args.process)) (processes_are c.self.view_is) ∙ c.requires.lives)
 
 pub put_tree-requires : goal.put_tree-requires
 put_tree-requires c = subst (λ (ts : Trees). c.args.process < length ts) (sym c.take_tree-tree.ensures.trees) (place_still (area_of c.self.inside.areas) (area_of c.modify-result.new.areas) c.self.inside.trees.items c.args.process c.take_tree-tree.result c.modify-result.new.tree c.self.invariant.trees c.take_tree-tree.ensures.tree (c.modify-result.ensures.stands c.args.process))
@@ -34,24 +38,39 @@ pub modify-result-requires-clause-stands : goal.modify-result-requires-clause-st
 modify-result-requires-clause-stands c = (c.args.process, tree_of (area_of c.self.inside.areas) c.self.inside.trees.items c.args.process c.take_tree-tree.result c.self.invariant.trees c.take_tree-tree.ensures.tree)
 
 pub returns-clause-reached : goal.returns-clause-reached
-returns-clause-reached c = subst (λ test. IfOk c.modify-result.result (IsReached test c.args.from (c.args.from + c.args.pages))) (taken_as (area_of c.self.inside.areas) c.self.inside.trees.items c.args.process c.take_tree-tree.result c.args.self.now c.self.invariant.trees (sym c.take_tree-tree.ensures.tree) c.self.view_is) c.modify-result.ensures.reached
+returns-clause-reached c = subst (λ test. IfOk c.modify-result.result (IsReached test c.args.from (c.args.from + c.args.pages))) (taken_as (area_of c.self.inside.areas) c.self.inside.trees.items c.args.process c.take_tree-tree.result c.args.self.now.processes c.self.invariant.trees (sym c.take_tree-tree.ensures.tree) (processes_are c.self.view_is)) c.modify-result.ensures.reached
 
 pub returns-clause-ok : goal.returns-clause-ok
 returns-clause-ok c =
+    let areas = ap (λ (s : AllSpaces). s.areas) c.self.view_is in
+    let set = c.put_tree.ensures ∙ ap (λ (ts : Trees). slice_set ts c.args.process (Some c.modify-result.new.tree)) c.take_tree-tree.ensures.trees in
+    let before = pages_of c.args.self.now.processes c.args.process in
+    let now = slice_set (slice_set c.self.inside.trees.items c.args.process None) c.args.process (Some c.modify-result.new.tree) in
     if_each c.modify-result.result
-    (λ past. AreThese (pages_changed no_chains (to_prot c.args.prot) c.args.from (past - c.args.from) (pages_by (area_of c.self.inside.areas) c.take_tree-tree.result)) (pages_by (area_of c.modify-result.new.areas) c.modify-result.new.tree))
-    (λ past. IsChanged c.args.self.now (spaces_by (area_of c.modify-result.new.areas) c.put_tree.new.trees.items) c.args.process (AreThese (pages_changed no_chains (to_prot c.args.prot) c.args.from (past - c.args.from) (pages_of c.args.self.now c.args.process))))
-    (λ past pages. subst (λ (ts : Trees). IsChanged c.args.self.now (spaces_by (area_of c.modify-result.new.areas) ts) c.args.process (AreThese (pages_changed no_chains (to_prot c.args.prot) c.args.from (past - c.args.from) (pages_of c.args.self.now c.args.process))))
-    (sym (c.put_tree.ensures ∙ ap (λ (ts : Trees). slice_set ts c.args.process (Some c.modify-result.new.tree)) c.take_tree-tree.ensures.trees))
-    (changes (area_of c.self.inside.areas) (area_of c.modify-result.new.areas) c.self.inside.trees.items c.args.process c.take_tree-tree.result c.modify-result.new.tree c.self.invariant.trees c.take_tree-tree.ensures.tree (c.modify-result.ensures.stands c.args.process) c.args.self.now c.self.view_is
-    (λ on. AreThese (pages_changed no_chains (to_prot c.args.prot) c.args.from (past - c.args.from) on)) pages)) c.modify-result.ensures.pages
+    (λ past. AreThese (pages_changed (lengths c.self.inside.areas c.args.anons.now) (to_prot c.args.prot) c.args.from (past - c.args.from) (pages_by (area_of c.self.inside.areas) c.take_tree-tree.result)) (pages_by (area_of c.modify-result.new.areas) c.modify-result.new.tree))
+    (λ past. IsChanged c.args.self.now.processes (spaces_by (area_of c.modify-result.new.areas) c.put_tree.new.trees.items) c.args.process (AreThese (pages_changed (lengths c.args.self.now.areas c.args.anons.now) (to_prot c.args.prot) c.args.from (past - c.args.from) before)))
+    (λ past pages. subst (λ (ts : Trees). IsChanged c.args.self.now.processes (spaces_by (area_of c.modify-result.new.areas) ts) c.args.process (AreThese (pages_changed (lengths c.args.self.now.areas c.args.anons.now) (to_prot c.args.prot) c.args.from (past - c.args.from) before))) (sym set)
+    (subst (λ (old : List (Option Area)). IsChanged c.args.self.now.processes (spaces_by (area_of c.modify-result.new.areas) now) c.args.process (AreThese (pages_changed (lengths old c.args.anons.now) (to_prot c.args.prot) c.args.from (past - c.args.from) before))) areas
+    (changes (area_of c.self.inside.areas) (area_of c.modify-result.new.areas) c.self.inside.trees.items c.args.process c.take_tree-tree.result c.modify-result.new.tree c.self.invariant.trees c.take_tree-tree.ensures.tree (c.modify-result.ensures.stands c.args.process) c.args.self.now.processes (processes_are c.self.view_is)
+    (λ on. AreThese (pages_changed (lengths c.self.inside.areas c.args.anons.now) (to_prot c.args.prot) c.args.from (past - c.args.from) on)) pages))) c.modify-result.ensures.pages
 
 pub returns-clause-mapping : goal.returns-clause-mapping
 returns-clause-mapping c =
     if_each c.modify-result.result
     (λ past. IsRemapped c.args.from past (to_prot c.args.prot) (pages_by (area_of c.self.inside.areas) c.take_tree-tree.result) (pages_by (area_of c.modify-result.new.areas) c.modify-result.new.tree))
-    (λ past. IsRemapped c.args.from past (to_prot c.args.prot) (pages_of c.args.self.now c.args.process) (pages_of (spaces_by (area_of c.modify-result.new.areas) c.put_tree.new.trees.items) c.args.process))
-    (λ past mapping. subst (λ (ts : Trees). IsRemapped c.args.from past (to_prot c.args.prot) (pages_of c.args.self.now c.args.process) (pages_of (spaces_by (area_of c.modify-result.new.areas) ts) c.args.process))
+    (λ past. IsRemapped c.args.from past (to_prot c.args.prot) (pages_of c.args.self.now.processes c.args.process) (pages_of (spaces_by (area_of c.modify-result.new.areas) c.put_tree.new.trees.items) c.args.process))
+    (λ past mapping. subst (λ (ts : Trees). IsRemapped c.args.from past (to_prot c.args.prot) (pages_of c.args.self.now.processes c.args.process) (pages_of (spaces_by (area_of c.modify-result.new.areas) ts) c.args.process))
     (sym (c.put_tree.ensures ∙ ap (λ (ts : Trees). slice_set ts c.args.process (Some c.modify-result.new.tree)) c.take_tree-tree.ensures.trees))
-    (changes (area_of c.self.inside.areas) (area_of c.modify-result.new.areas) c.self.inside.trees.items c.args.process c.take_tree-tree.result c.modify-result.new.tree c.self.invariant.trees c.take_tree-tree.ensures.tree (c.modify-result.ensures.stands c.args.process) c.args.self.now c.self.view_is
+    (changes (area_of c.self.inside.areas) (area_of c.modify-result.new.areas) c.self.inside.trees.items c.args.process c.take_tree-tree.result c.modify-result.new.tree c.self.invariant.trees c.take_tree-tree.ensures.tree (c.modify-result.ensures.stands c.args.process) c.args.self.now.processes (processes_are c.self.view_is)
     (IsRemapped c.args.from past (to_prot c.args.prot)) mapping).pages) c.modify-result.ensures.mapping
+
+pub modify-result-requires-clause-order : goal.modify-result-requires-clause-order
+modify-result-requires-clause-order c = order_in c.self.inside.areas c.self.inside.trees.items c.args.self.now c.args.anons.now c.self.view_is c.requires.order
+
+pub returns-clause-anons : goal.returns-clause-anons
+returns-clause-anons c =
+    let set = c.put_tree.ensures ∙ ap (λ (ts : Trees). slice_set ts c.args.process (Some c.modify-result.new.tree)) c.take_tree-tree.ensures.trees in
+    let lent = trees_lent (area_of c.self.inside.areas) (area_of c.modify-result.new.areas) c.self.inside.trees.items c.args.process c.take_tree-tree.result c.modify-result.new.tree c.self.invariant.trees c.take_tree-tree.ensures.tree (c.modify-result.ensures.stands c.args.process) in
+    let trees = subst (AreTrees (area_of c.modify-result.new.areas)) (sym set) lent in
+    on_ok c.modify-result.result (λ kin. anons_stay_by c.self.inside.areas c.modify-result.new.areas c.self.inside.trees.items c.put_tree.new.trees.items c.args.anons.now c.modify-result.new.anons c.args.self.now c.self.view_is
+    c.self.invariant.trees trees c.requires.order kin) c.modify-result.ensures.kin

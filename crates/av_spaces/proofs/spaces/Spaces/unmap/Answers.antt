@@ -9,13 +9,17 @@ use Rattle.av_vma.specs.Pages.{Pages, after_map, after_unmap, no_chains}
 use Rattle.av_merge.specs.Pages.{pages_by, IsReached}
 use Rattle.av_merge.specs.Process.{AreAreasOf}
 use Rattle.av_spaces.specs.Spaces.{IsSpawned, IsEnded, areas_of, pages_of, AreRising, AreThese, IsChanged}
-use Rattle.av_spaces.specs.Trees.{Trees, HasTrees, tree_at, areas_by, spaces_by}
+use Rattle.av_vma.specs.declared.area.Area.{Area}
+use Rattle.av_merge.specs.Kin.{lengths}
+use Rattle.av_spaces.specs.Spaces.{AllSpaces}
+use Rattle.av_spaces.proofs.Kin.{anons_stay_by, order_in}
+use Rattle.av_spaces.specs.Trees.{AreTrees, Trees, HasTrees, tree_at, areas_by, spaces_by}
 use Rattle.av_spaces.proofs.Areas.{held_by, rising_of}
-use Rattle.av_spaces.proofs.Trees.{some_mapped, count_is, areas_are, not_dead, tree_of, pages_there, none_dead, taken_as, place_there, trees_same, trees_spawned, count_spawned, spawns, trees_left, count_left, ends, place_still, trees_lent, count_lent, changes, count_below, some_alive, lives_is, if_each, on_ok}
+use Rattle.av_spaces.proofs.Trees.{processes_are, some_mapped, count_is, areas_are, not_dead, tree_of, pages_there, none_dead, taken_as, place_there, trees_same, trees_spawned, count_spawned, spawns, trees_left, count_left, ends, place_still, trees_lent, count_lent, changes, count_below, some_alive, lives_is, if_each, on_ok}
 use Rattle.av_spaces.proofs.spaces.Spaces.unmap.Goals as goal
 
 pub take_tree-tree-requires : goal.take_tree-tree-requires
-take_tree-tree-requires c = (lives_is (area_of c.self.inside.areas) c.self.inside.trees.items c.args.process ∙ ap (λ s. is_some (areas_of s c.args.process)) c.self.view_is ∙ c.requires.lives)
+take_tree-tree-requires c = (lives_is (area_of c.self.inside.areas) c.self.inside.trees.items c.args.process ∙ ap (λ s. is_some (areas_of s c.args.process)) (processes_are c.self.view_is) ∙ c.requires.lives)
 
 pub put_tree-requires : goal.put_tree-requires
 put_tree-requires c = subst (λ (ts : Trees). c.args.process < length ts) (sym c.take_tree-tree.ensures.trees) (place_still (area_of c.self.inside.areas) (area_of c.cut-result.new.areas) c.self.inside.trees.items c.args.process c.take_tree-tree.result c.cut-result.new.tree c.self.invariant.trees c.take_tree-tree.ensures.tree (c.cut-result.ensures.stands c.args.process))
@@ -32,7 +36,18 @@ invariant_of-self c =
 pub cut-result-requires-clause-stands : goal.cut-result-requires-clause-stands
 cut-result-requires-clause-stands c = (c.args.process, tree_of (area_of c.self.inside.areas) c.self.inside.trees.items c.args.process c.take_tree-tree.result c.self.invariant.trees c.take_tree-tree.ensures.tree)
 
-pub returns : goal.returns
-returns c =
-    on_ok c.cut-result.result (λ pages. subst (λ (ts : Trees). IsChanged c.args.self.now (spaces_by (area_of c.cut-result.new.areas) ts) c.args.process (AreThese (after_unmap c.args.from (c.args.from + c.args.pages) (pages_of c.args.self.now c.args.process)))) (sym (c.put_tree.ensures ∙ ap (λ (ts : Trees). slice_set ts c.args.process (Some c.cut-result.new.tree)) c.take_tree-tree.ensures.trees))
-    (changes (area_of c.self.inside.areas) (area_of c.cut-result.new.areas) c.self.inside.trees.items c.args.process c.take_tree-tree.result c.cut-result.new.tree c.self.invariant.trees c.take_tree-tree.ensures.tree (c.cut-result.ensures.stands c.args.process) c.args.self.now c.self.view_is (λ on. AreThese (after_unmap c.args.from (c.args.from + c.args.pages) on)) pages)) c.cut-result.ensures.pages
+pub returns-clause-areas : goal.returns-clause-areas
+returns-clause-areas c =
+    on_ok c.cut-result.result (λ pages. subst (λ (ts : Trees). IsChanged c.args.self.now.processes (spaces_by (area_of c.cut-result.new.areas) ts) c.args.process (AreThese (after_unmap c.args.from (c.args.from + c.args.pages) (pages_of c.args.self.now.processes c.args.process)))) (sym (c.put_tree.ensures ∙ ap (λ (ts : Trees). slice_set ts c.args.process (Some c.cut-result.new.tree)) c.take_tree-tree.ensures.trees))
+    (changes (area_of c.self.inside.areas) (area_of c.cut-result.new.areas) c.self.inside.trees.items c.args.process c.take_tree-tree.result c.cut-result.new.tree c.self.invariant.trees c.take_tree-tree.ensures.tree (c.cut-result.ensures.stands c.args.process) c.args.self.now.processes (processes_are c.self.view_is) (λ on. AreThese (after_unmap c.args.from (c.args.from + c.args.pages) on)) pages)) c.cut-result.ensures.pages
+
+pub cut-result-requires-clause-order : goal.cut-result-requires-clause-order
+cut-result-requires-clause-order c = order_in c.self.inside.areas c.self.inside.trees.items c.args.self.now c.args.anons.now c.self.view_is c.requires.order
+
+pub returns-clause-anons : goal.returns-clause-anons
+returns-clause-anons c =
+    let set = c.put_tree.ensures ∙ ap (λ (ts : Trees). slice_set ts c.args.process (Some c.cut-result.new.tree)) c.take_tree-tree.ensures.trees in
+    let lent = trees_lent (area_of c.self.inside.areas) (area_of c.cut-result.new.areas) c.self.inside.trees.items c.args.process c.take_tree-tree.result c.cut-result.new.tree c.self.invariant.trees c.take_tree-tree.ensures.tree (c.cut-result.ensures.stands c.args.process) in
+    let trees = subst (AreTrees (area_of c.cut-result.new.areas)) (sym set) lent in
+    on_ok c.cut-result.result (λ kin. anons_stay_by c.self.inside.areas c.cut-result.new.areas c.self.inside.trees.items c.put_tree.new.trees.items c.args.anons.now c.cut-result.new.anons c.args.self.now c.self.view_is
+    c.self.invariant.trees trees c.requires.order kin) c.cut-result.ensures.kin

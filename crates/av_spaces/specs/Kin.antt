@@ -1,0 +1,51 @@
+-- The anon_vmas beside the areas of all processes, said by pages: which are linked, and what a change
+-- of areas leaves of them.
+use Rattle.std.specs.Prelude.{◌≡◌, ℕ, true, List, [], Option, Some, None, IfSome, IsSome, IsSomeAnd}
+use Rattle.av_base.specs.Words.{is_in}
+use Rattle.av_vma.specs.Areas.{area_of}
+use Rattle.av_anon.specs.declared.anons.Anons.{Anons}
+use Rattle.av_anon.specs.declared.infos.Info.{Info}
+use Rattle.av_anon.specs.Anons.{family}
+use Rattle.av_anon.specs.Kin.{IsSameKin, chain_by}
+use Rattle.av_merge.specs.Kin.{AreInOrder}
+use Rattle.av_spaces.specs.Spaces.{AllSpaces, pages_of}
+
+-- there is chain order
+abbrev pub InOrder : AllSpaces → Anons → Type 0
+InOrder s anons = AreInOrder s.areas anons
+
+-- what is kept of an anon_vma, if it is there
+abbrev pub info_of : Anons → ℕ → Option Info
+info_of anons v = (family anons).info v
+
+-- the chain of an area, by its own anon_vma
+abbrev pub chain_on : AllSpaces → Anons → Option ℕ → List ℕ
+chain_on s anons None = []
+chain_on s anons (Some own) = chain_by (area_of s.areas) (family anons) own
+
+-- an area is linked to the anon_vma
+abbrev pub IsLinkedIn : AllSpaces → Anons → ℕ → Type 0
+IsLinkedIn s anons v = (p : ℕ) × (page : ℕ) × IsSomeAnd (pages_of s.processes p page)
+    (λ area. is_in v (chain_on s anons area.anon) ≡ true)
+
+-- an area has the anon_vma as its own
+abbrev pub IsOwnedIn : AllSpaces → ℕ → Type 0
+IsOwnedIn s v = (p : ℕ) × (page : ℕ)
+    × IsSomeAnd (pages_of s.processes p page) (λ area. area.anon ≡ Some v)
+
+-- there is chain order; the anon_vmas that are there are those that an area is linked to, and an
+-- area's own one is in its chain
+pub record AnonsFit (s : AllSpaces) (anons : Anons) : Type 0 where
+  pub order : InOrder s anons
+  pub there : (v : ℕ) → IsSome (info_of anons v) → IsLinkedIn s anons v
+  pub linked : (v : ℕ) → IsLinkedIn s anons v → IsSome (info_of anons v)
+  pub own : (v : ℕ) → IsOwnedIn s v → is_in v (chain_on s anons (Some v)) ≡ true
+
+-- after a change of areas: no anon_vma is made and none changes; an area's own one is one that some
+-- area had, and has the chain that it had
+pub record AnonsStay (s : AllSpaces) (old : Anons) (s' : AllSpaces) (new : Anons) : Type 0 where
+  pub fit : AnonsFit s' new
+  pub next : new.next ≡ old.next
+  pub kin : (v : ℕ) → IfSome (info_of new v) (λ i. IsSomeAnd (info_of old v) (λ was. IsSameKin was i))
+  pub owned : (v : ℕ) → IsOwnedIn s' v → IsOwnedIn s v
+  pub chains : (v : ℕ) → IsOwnedIn s' v → chain_on s' new (Some v) ≡ chain_on s old (Some v)
