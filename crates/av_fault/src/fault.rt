@@ -36,6 +36,7 @@ pub enum Touched {
 
 /// Makes a page ready for a read or a write, marks it as accessed, and adds the notes of what it
 /// took.
+#[inline(always)]
 pub fn touch(
     mem: &mut Mem,
     process: u16,

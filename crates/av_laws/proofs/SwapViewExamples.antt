@@ -23,6 +23,7 @@ use Rattle.av_laws.proofs.SoundExample.{cached_out-sound}
 use Rattle.av_plain.proofs.Ledger.NoSwap.{key_is}
 use Rattle.av_plain.proofs.NoDevice.{never}
 use Rattle.av_plain.proofs.Sound.Counts.{slot-is}
+use Rattle.av_plain.proofs.AreasLeft.{anons-same}
 
 -- ---- the device
 
@@ -210,7 +211,7 @@ module _ (flying stale : Bool) where
     free = refl;
     lists = cached-listed flying stale;
     areas = areas;
-    anons = refl;
+    anons = anons-same (cached_view flying stale) (cached_out flying stale).areas;
   }
     where
       dirty : (f : ℕ) → IfSome (slot_of (cached_out flying stale).ledger f)

@@ -25,6 +25,7 @@ use Rattle.std.proofs.Common.{arith, sym, ap, ◌≤◌}
 use Rattle.av_plain.specs.Ledger.{InFrame}
 use Rattle.av_laws.specs.Views.{NotFree, Refused, area, right, topmost, view_with}
 use Rattle.av_plain.proofs.NoDevice.{never}
+use Rattle.av_plain.proofs.AreasLeft.{anons-same}
 
 first : List ℕ → ℕ
 first [] = 0
@@ -248,7 +249,7 @@ right-stands = record {
   free = refl;
   lists = fork-listed;
   areas = areas;
-  anons = refl;
+  anons = anons-same right fork_state.areas;
 }
   where
     free : (f : ℕ) → f < 4 → is_in f (1 ∷ 2 ∷ 3 ∷ []) ≡ is_free fork_state.ledger f

@@ -1,6 +1,8 @@
 -- What is left of the anon_vmas once areas changed: of none nothing, and never two answers.
 use Rattle.std.proofs.Common.{◌≡◌, ℕ, List, [], Option, Some, None, refl, sym, ◌∙◌}
-use Rattle.std.specs.Prelude.{IsSome}
+use Rattle.std.specs.Prelude.{IfSome, IsSome}
+use Rattle.av_vma.specs.declared.area.Area.{Area}
+use Rattle.av_plain.specs.Stands.{AnonsStand, View}
 use Rattle.av_plain.specs.Areas.{AnonVma, Anons, AreLeft, Areas, IsLinked, chain_of, no_anons}
 
 -- where no anon_vma was made none is left
@@ -23,3 +25,11 @@ left-one anons on a b h g =
 pub no-chain : (own : Option ℕ) → chain_of no_anons own ≡ []
 no-chain None = refl
 no-chain (Some v) = refl
+
+-- the anon_vmas that a view shows stand for themselves
+pub anons-same : (v : View) (areas : Areas) → AnonsStand v areas v.anons
+anons-same v areas = record { next = refl; kin = λ n. refl; chains = λ p page. by (areas p page) }
+  where
+    by : (o : Option Area) → IfSome o (λ area. chain_of v.anons area.anon ≡ chain_of v.anons area.anon)
+    by None = tt
+    by (Some area) = refl

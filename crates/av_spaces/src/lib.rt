@@ -11,6 +11,3 @@
 mod spaces;
 
 pub use spaces::Spaces;
-
-#[cfg(test)]
-mod tests;
