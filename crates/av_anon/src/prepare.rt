@@ -109,7 +109,8 @@ impl Anons {
         requires empty { (family self.old).chain area ≡ [] }
         requires rising { IsRising anons.now }
         requires new { (v : ℕ) → is_in v anons.now ≡ true → IsNew area (spans_of self.old v) }
-        ensures family { OnOk result (family self.new ≡ with_links area anons.now (family self.old)) }
+        ensures family { OnOk result (family self.new ≡ with_links area anons.now (family
+            self.old)) }
         ensures spans { OnOk result ((v : ℕ) → spans_of self.new v
             ≡ spans_with anons.now (span_at area this.now) (spans_of self.old) v) }
     {

@@ -40,7 +40,8 @@ fn told<T: Entry>(arena: &Arena<T, T::Sum>, number: u64) -> Link<T::Sum>
 #[inline(always)]
 pub fn settle<T: Entry>(arena: &mut Arena<T, T::Sum>, number: u64) -> Link<T::Sum>
     requires { IsUnsettled T.key T.unit T.op T.of 2 (store_of arena.old) number }
-    ensures { IsSettled T.key T.unit T.op T.of (store_of arena.old) (store_of arena.new) number result }
+    ensures { IsSettled T.key T.unit T.op T.of (store_of arena.old) (store_of arena.new) number
+        result }
 {
     if is_level(arena, number) {
         return told(arena, number);
@@ -53,7 +54,8 @@ pub fn settle<T: Entry>(arena: &mut Arena<T, T::Sum>, number: u64) -> Link<T::Su
 #[inline(never)]
 fn rotate<T: Entry>(arena: &mut Arena<T, T::Sum>, number: u64) -> Link<T::Sum>
     requires { IsUnsettled T.key T.unit T.op T.of 2 (store_of arena.old) number }
-    ensures { IsSettled T.key T.unit T.op T.of (store_of arena.old) (store_of arena.new) number result }
+    ensures { IsSettled T.key T.unit T.op T.of (store_of arena.old) (store_of arena.new) number
+        result }
 {
     let Stored { left, entry, right } = arena.get(number);
     balance(arena, number, left, entry, right)
@@ -142,8 +144,8 @@ fn hang_left<T: Entry>(arena: &mut Arena<T, T::Sum>, number: u64, new: u64, entr
 fn hang_right<T: Entry>(arena: &mut Arena<T, T::Sum>, number: u64, new: u64, entry: &T)
     requires used { IsSome (store_of arena.old number) }
     requires new { IsSome (store_of arena.old new) }
-    ensures { IsHungRight T.key T.unit T.op T.of (store_of arena.old) (store_of arena.new) number new
-        entry.now }
+    ensures { IsHungRight T.key T.unit T.op T.of (store_of arena.old) (store_of arena.new) number
+        new entry.now }
 {
     let link = close(arena, new, None, *entry, None);
     arena.set_right(number, Some(link));
@@ -181,8 +183,8 @@ pub fn placed_below<T: Entry>(
     entry: &T,
 ) -> bool
     requires { IsPlaceBelow T.key T.unit T.op T.of (store_of arena.old) number new entry.now }
-    ensures { IsPlacedBelow T.key T.unit T.op T.of (store_of arena.old) (store_of arena.new) number new
-        entry.now result }
+    ensures { IsPlacedBelow T.key T.unit T.op T.of (store_of arena.old) (store_of arena.new) number
+        new entry.now result }
 {
     if entry.is_before(&arena.look(number).entry) {
         let Some(side) = left_of(arena, number) else {
@@ -207,8 +209,8 @@ pub fn placed_below<T: Entry>(
 /// Puts `entry` in the place of the one with its key in the tree with the root `number`.
 pub fn replaced_below<T: Entry>(arena: &mut Arena<T, T::Sum>, number: u64, entry: &T) -> bool
     requires { HasKeyBelow T.key T.unit T.op T.of (store_of arena.old) number entry.now }
-    ensures { IsReplacedBelow T.key T.unit T.op T.of (store_of arena.old) (store_of arena.new) number
-        entry.now result }
+    ensures { IsReplacedBelow T.key T.unit T.op T.of (store_of arena.old) (store_of arena.new)
+        number entry.now result }
 {
     let node = arena.look(number);
     if entry.is_before(&node.entry) {
@@ -248,8 +250,8 @@ pub fn is_at<T: Entry>(arena: &Arena<T, T::Sum>, number: u64, like: &T) -> bool
 pub fn take<T: Entry>(arena: &mut Arena<T, T::Sum>, number: u64, like: &T) -> Option<Link<T::Sum>>
     requires there { HasKeyBelow T.key T.unit T.op T.of (store_of arena.old) number like.now }
     requires same { IsAt T.key T.unit T.op T.of (store_of arena.old) number like.now true }
-    ensures { IsTaken T.key T.unit T.op T.of (store_of arena.old) (store_of arena.new) number like.now
-        result }
+    ensures { IsTaken T.key T.unit T.op T.of (store_of arena.old) (store_of arena.new) number
+        like.now result }
 {
     let node = arena.get(number);
     let Stored {
@@ -271,8 +273,8 @@ fn take_left<T: Entry>(arena: &mut Arena<T, T::Sum>, number: u64, side: u64, lik
     requires used { IsSome (store_of arena.old number) }
     requires there { HasKeyBelow T.key T.unit T.op T.of (store_of arena.old) side like.now }
     requires same { IsAt T.key T.unit T.op T.of (store_of arena.old) side like.now true }
-    ensures { IsLeftTaken T.key T.unit T.op T.of (store_of arena.old) (store_of arena.new) number side
-        like.now }
+    ensures { IsLeftTaken T.key T.unit T.op T.of (store_of arena.old) (store_of arena.new) number
+        side like.now }
 {
     let rest = take(arena, side, like);
     arena.set_left(number, rest);
@@ -284,8 +286,8 @@ fn take_right<T: Entry>(arena: &mut Arena<T, T::Sum>, number: u64, side: u64, li
     requires used { IsSome (store_of arena.old number) }
     requires there { HasKeyBelow T.key T.unit T.op T.of (store_of arena.old) side like.now }
     requires same { IsAt T.key T.unit T.op T.of (store_of arena.old) side like.now true }
-    ensures { IsRightTaken T.key T.unit T.op T.of (store_of arena.old) (store_of arena.new) number side
-        like.now }
+    ensures { IsRightTaken T.key T.unit T.op T.of (store_of arena.old) (store_of arena.new) number
+        side like.now }
 {
     let rest = take(arena, side, like);
     arena.set_right(number, rest);
@@ -338,8 +340,8 @@ pub fn split_below<T: Entry>(
 ) -> bool
     requires { IsSplitBelowFor T.key T.unit T.op T.of (store_of arena.old) number new lower.now
         upper.now }
-    ensures { IsSplitBelow T.key T.unit T.op T.of (store_of arena.old) (store_of arena.new) number new
-        lower.now upper.now result }
+    ensures { IsSplitBelow T.key T.unit T.op T.of (store_of arena.old) (store_of arena.new) number
+        new lower.now upper.now result }
 {
     let node = arena.look(number);
     if lower.is_before(&node.entry) {

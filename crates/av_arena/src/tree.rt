@@ -82,8 +82,8 @@ fn lean_left<T: Entry>(
     requires spot { IsSpot T.key T.unit T.op T.of (store_of arena.old) number (Some left) right }
     requires two_higher { left.height ≡ height_of right + 2 }
     requires low { left.height < 2 ^ 62 }
-    ensures joined { IsJoined T.key T.unit T.op T.of (store_of arena.old) (store_of arena.new) number
-        (Some left) entry right result }
+    ensures joined { IsJoined T.key T.unit T.op T.of (store_of arena.old) (store_of arena.new)
+        number (Some left) entry right result }
     ensures not_lower { left.height ≤ result.height }
     ensures at_most_one_higher { result.height ≤ left.height + 1 }
 {
@@ -123,8 +123,8 @@ fn lean_right<T: Entry>(
     requires spot { IsSpot T.key T.unit T.op T.of (store_of arena.old) number left (Some right) }
     requires two_higher { right.height ≡ height_of left + 2 }
     requires low { right.height < 2 ^ 62 }
-    ensures joined { IsJoined T.key T.unit T.op T.of (store_of arena.old) (store_of arena.new) number
-        left entry (Some right) result }
+    ensures joined { IsJoined T.key T.unit T.op T.of (store_of arena.old) (store_of arena.new)
+        number left entry (Some right) result }
     ensures not_lower { right.height ≤ result.height }
     ensures at_most_one_higher { result.height ≤ right.height + 1 }
 {
@@ -164,8 +164,8 @@ pub fn balance<T: Entry>(
     requires spot { IsSpot T.key T.unit T.op T.of (store_of arena.old) number left right }
     requires level { DifferByAtMost 2 (height_of left) (height_of right) }
     requires low { max (height_of left) (height_of right) < 2 ^ 62 }
-    ensures joined { IsJoined T.key T.unit T.op T.of (store_of arena.old) (store_of arena.new) number
-        left entry right result }
+    ensures joined { IsJoined T.key T.unit T.op T.of (store_of arena.old) (store_of arena.new)
+        number left entry right result }
     ensures height { IsHeightAfter (height_of left) (height_of right) result.height }
 {
     let (before, after) = (height(left), height(right));
@@ -296,8 +296,8 @@ pub fn remove<T: Entry>(
 ) -> (u64, Option<Link<T::Sum>>)
     requires there { HasKey T.key T.unit T.op T.of (store_of arena.old) tree like }
     requires low { height_of tree < 2 ^ 61 }
-    ensures removed { IsWithout T.key T.unit T.op T.of (store_of arena.old) (store_of arena.new) tree
-        (without_key T.key (T.key like) (entries (tree_at (store_of arena.old) tree))) result.0
+    ensures removed { IsWithout T.key T.unit T.op T.of (store_of arena.old) (store_of arena.new)
+        tree (without_key T.key (T.key like) (entries (tree_at (store_of arena.old) tree))) result.0
         result.1 }
     ensures not_higher { height_of result.1 ≤ height_of tree }
     ensures at_most_one_lower { height_of tree ≤ height_of result.1 + 1 }
@@ -323,8 +323,8 @@ pub fn replace<T: Entry>(
 ) -> Link<T::Sum>
     requires there { HasKey T.key T.unit T.op T.of (store_of arena.old) tree entry }
     requires low { height_of tree < 2 ^ 61 }
-    ensures replaced { IsReplaced T.key T.unit T.op T.of (store_of arena.old) (store_of arena.new) tree
-        entry result }
+    ensures replaced { IsReplaced T.key T.unit T.op T.of (store_of arena.old) (store_of arena.new)
+        tree entry result }
     ensures height { result.height ≡ height_of tree }
 {
     let Some(tree) = tree else { unreachable!() };
@@ -345,8 +345,8 @@ pub fn split<T: Entry>(
 ) -> Link<T::Sum>
     requires split { IsSplitFor T.key T.unit T.op T.of (store_of arena.old) tree new lower upper }
     requires low { height_of tree < 2 ^ 61 }
-    ensures { IsSplit T.key T.unit T.op T.of (store_of arena.old) (store_of arena.new) tree new lower
-        upper result }
+    ensures { IsSplit T.key T.unit T.op T.of (store_of arena.old) (store_of arena.new) tree new
+        lower upper result }
 {
     let Some(tree) = tree else { unreachable!() };
     if !split_below(arena, tree.number, new, &lower, &upper) {

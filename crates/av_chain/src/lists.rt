@@ -72,7 +72,8 @@ impl Lists {
         requires there { has_place place.ptr self.old.nodes.blocks ≡ true }
         ensures kept { AreKept self.new }
         ensures anon { anon_there (Some place) self.old.nodes.blocks ≡ Some result }
-        ensures links { links_in self.new ≡ links_of (without_node place.ptr self.old.nodes.blocks) }
+        ensures links { links_in self.new ≡ links_of (without_node place.ptr
+            self.old.nodes.blocks) }
     {
         let node = *self.nodes.get(place);
         self.nodes

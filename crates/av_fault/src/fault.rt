@@ -59,7 +59,8 @@ pub fn touch(
 
 /// Whether a page is mapped with a protection that allows the access.
 fn may_access(mem: &Mem, process: u16, page: u64, write: bool) -> bool
-    ensures permitted { result ≡ is_permitted write (prot_of (ranges_of mem.now.spaces.processes process) page) }
+    ensures permitted { result ≡ is_permitted write (prot_of (ranges_of mem.now.spaces.processes
+        process) page) }
     ensures below { IsTrue result → page < top_page }
 {
     match mem.spaces.area(process, page) {
@@ -89,7 +90,8 @@ fn touch_to_read(
             if seen {
                 return Ok(Touched::Ready(frame));
             }
-            mem.tables.change(process, page, accessed_entry(frame, write));
+            mem.tables
+                .change(process, page, accessed_entry(frame, write));
             Ok(Touched::Ready(frame))
         }
         Pte::Away { .. } => unreachable!(),
@@ -119,7 +121,8 @@ fn touch_to_write(
             if is_shared(mem, frame) {
                 return make_copy(mem, process, page, frame, notes);
             }
-            mem.tables.change(process, page, accessed_entry(frame, true));
+            mem.tables
+                .change(process, page, accessed_entry(frame, true));
             Ok(Touched::Ready(frame))
         }
         Pte::Away { .. } => unreachable!(),

@@ -137,7 +137,8 @@ pub fn search<N: Nodes, L: Ledger>(
 pub fn count<N: Nodes, L: Ledger>(nodes: &N, anon: u64, index: u64, steps: &mut Steps<L>) -> u64
     requires room { length (entries (N.tree nodes.now anon)) < 2 ^ 64 }
     ensures count { result ≡ how_many (overlaps index) (entries (N.tree nodes.now anon)) }
-    ensures cost { steps.new ≤ steps.old + 2 * ((result + 1) * (height (N.tree nodes.now anon) + 1)) }
+    ensures cost { steps.new ≤ steps.old + 2 * ((result + 1) * (height (N.tree nodes.now anon) +
+        1)) }
 {
     let _ = nodes.root(anon);
     let mut many = 0;

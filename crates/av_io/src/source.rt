@@ -86,7 +86,8 @@ impl Source for MemSource {
     }
 }
 
-/// A source over a reader, each of whose reads is one of the reader. What is left of it is not told.
+/// A source over a reader, each of whose reads is one of the reader. What is left of it is not
+/// told.
 #[derive(Drop)]
 pub struct ReadSource<R: Read + Drop> {
     reader: R,

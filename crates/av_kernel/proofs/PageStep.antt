@@ -175,7 +175,7 @@ module _ (s : State) (old : Mem) (p page at : ℕ) (piece : List ℕ) (before no
       let count_is : count mid ≡ count new = sym (ap (λ (s : Seen). s.count) frames) in
       let touches = subst (λ n. Touches (setting n) s.world s.ledger true (p, page) t.added None) count_is t.touches in
       let chosen = subst (λ n. ChoosesAll (setting n) None s.ledger (page_events true (p, page) t.added None) s.free (free_of (view new))) count_is
-          (subst (ChoosesAll (setting (count mid)) None s.ledger (page_events true (p, page) t.added None) s.free) (sym (ap (λ (s : Seen). frames_free s.free) frames)) t.free) in
+      (subst (ChoosesAll (setting (count mid)) None s.ledger (page_events true (p, page) t.added None) s.free) (sym (ap (λ (s : Seen). frames_free s.free) frames)) t.free) in
       record {
         added = t.added;
         notes = t.notes;

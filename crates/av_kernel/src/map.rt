@@ -85,7 +85,9 @@ pub fn mprotect(
     check_protect(address, len)?;
     let (page, pages) = (address / PAGE_SIZE, len.div_ceil(PAGE_SIZE));
     let past = page + pages;
-    let reached = mem.spaces.protect(&mut mem.anons, process, page, pages, prot)?;
+    let reached = mem
+        .spaces
+        .protect(&mut mem.anons, process, page, pages, prot)?;
     if reached < past {
         return Err(Refusal::Refused(Errno::Enomem));
     }

@@ -84,7 +84,8 @@ pub fn find_place(spaces: &Spaces, process: u16, pages: u64, place: Place) -> Re
     requires lives { is_some (areas_of spaces.now.processes process) ≡ true }
     requires some { 1 ≤ pages }
     requires few { pages ≤ top_page }
-    ensures { (q : Process) → IsProcess spaces.now.processes process q → IsPlaced q pages place result }
+    ensures { (q : Process) → IsProcess spaces.now.processes process q → IsPlaced q pages place
+        result }
 {
     match place {
         Place::Auto => find_gap(spaces, process, pages),
@@ -112,7 +113,8 @@ fn find_gap(spaces: &Spaces, process: u16, pages: u64) -> Result<u64, Errno>
     requires some { 1 ≤ pages }
     ensures { MatchResult result
         (λ page. IsGap (is_taken spaces.now.processes process) pages (Some page))
-        (λ error. IsGap (is_taken spaces.now.processes process) pages None × (error ≡ errors.Enomem)) }
+        (λ error. IsGap (is_taken spaces.now.processes process) pages None × (error ≡
+            errors.Enomem)) }
 {
     match spaces.gap(process, pages) {
         Some(page) => Ok(page),
@@ -124,7 +126,8 @@ fn find_gap(spaces: &Spaces, process: u16, pages: u64) -> Result<u64, Errno>
 fn has_room(spaces: &Spaces, process: u16, pages: u64, page: u64) -> bool
     requires lives { is_some (areas_of spaces.now.processes process) ≡ true }
     requires reach { page + pages < 2 ^ 64 }
-    ensures { (q : Process) → IsProcess spaces.now.processes process q → result ≡ is_room q pages page }
+    ensures { (q : Process) → IsProcess spaces.now.processes process q → result ≡ is_room q pages
+        page }
 {
     may_have(page, pages) && spaces.is_free(process, page, pages)
 }

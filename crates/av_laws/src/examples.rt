@@ -200,10 +200,10 @@ pub fn changed_replies_are_refused()
         (reply_with (Data (0 ∷ [])) []) }
     ensures frame_for_a_read { Forbids (machine 4) state_at_rest (Read 1 0x7fffffffe000 1)
         (reply_with (Data (0 ∷ [])) (New 1 0x7fffffffe000 0 ∷ [])) }
-    ensures denied_though_allowed { Forbids (machine 4) state_at_rest (Write 1 0x7fffffffe000 (1 ∷ []))
-        (reply_with (Segv 0 []) []) }
-    ensures starved_though_free { Forbids (machine 4) state_at_rest (Write 1 0x7fffffffe000 (1 ∷ []))
-        (reply_with (Oom 0 (record { pinned = 0; noslot = 4; fault = 0 }) []) []) }
+    ensures denied_though_allowed { Forbids (machine 4) state_at_rest (Write 1 0x7fffffffe000 (1 ∷
+        [])) (reply_with (Segv 0 []) []) }
+    ensures starved_though_free { Forbids (machine 4) state_at_rest (Write 1 0x7fffffffe000 (1 ∷
+        [])) (reply_with (Oom 0 (record { pinned = 0; noslot = 4; fault = 0 }) []) []) }
     ensures wrong_order { Forbids (machine 4) empty (Mmap 2 0 read_write Auto)
         (reply_with (Refused Einval) []) }
     ensures wrong_order_in_a_crowd { Forbids (machine 4) (crowd 4096) (Spawn 1)
@@ -270,10 +270,11 @@ pub fn changed_exits_and_reports_are_refused()
     ensures run_too_long { Forbids (machine 4) two_protections (Maps 1) run_too_long }
     ensures falling_runs { Forbids (machine 4) two_protections (Maps 1) falling_runs }
     ensures part_of_page { Forbids (machine 4) two_protections (Maps 1) part_of_page }
-    ensures stat { Only (machine 4) one_written Stat (reply_with (Counted (numbers_of 4 3 0 1 1)) [])
-        one_written }
+    ensures stat { Only (machine 4) one_written Stat (reply_with (Counted (numbers_of 4 3 0 1 1))
+        []) one_written }
     ensures exit { Only (machine 4) one_written (Exit 1) (reply_with Done []) all_gone }
-    ensures exit_again { Only (machine 4) all_gone (Exit 1) (reply_with (Refused Esrch) []) all_gone }
+    ensures exit_again { Only (machine 4) all_gone (Exit 1) (reply_with (Refused Esrch) [])
+        all_gone }
 {}
 
 /// Parts of mappings that are unmapped or protected, and mappings at an address.

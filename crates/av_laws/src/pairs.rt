@@ -89,8 +89,8 @@ pub fn passes_run()
 /// A mapping over a page that a hint names, and a pass that puts a frame at a bad page, or not at
 /// the slot in turn, may not be.
 pub fn changed_pairs_are_refused()
-    ensures hint_taken { Forbids (machine 4) state_at_rest (Mmap 1 4096 read_write (At 0x7fffffffe000))
-        (reply_with (MapAt 0x7fffffffe000) []) }
+    ensures hint_taken { Forbids (machine 4) state_at_rest (Mmap 1 4096 read_write (At
+        0x7fffffffe000)) (reply_with (MapAt 0x7fffffffe000) []) }
     ensures wrong_slot { Rejects bad_first full wrong_slot }
     ensures bad_page { IsPass bad_first (sparing full.world full.ledger None) full.ledger
         to_bad_page → ⊥ }
@@ -113,7 +113,8 @@ pub fn faults_are_counted()
         ≡ 3 }
     ensures eio { causes (reply_with (Refused Eio) []) ≡ 1 }
     ensures cached_when_out { causes
-        (reply_with (Oom 0 (record { pinned = 0; noslot = 1; fault = 2 }) []) (Failed (slot 1) ∷ []))
+        (reply_with (Oom 0 (record { pinned = 0; noslot = 1; fault = 2 }) []) (Failed (slot 1) ∷
+            []))
         ≡ 2 }
     ensures no_fault { causes (reply_with (Refused Enomem) (Written (slot 1) ∷ [])) ≡ 0 }
 {}

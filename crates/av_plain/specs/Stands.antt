@@ -199,8 +199,8 @@ pub record IsOver (m : Setting) (device : Device) : Type 0 where
 abbrev pub free_of : View → Free
 free_of v = record { frames = v.free; slots = v.slots }
 
--- the kernel and the device stand for the memories, the ledger, what is free in its order, the areas
--- with all that each says, and the anon_vmas; what is free is what the ledger has free
+-- the kernel and the device stand for the memories, the ledger, what is free in its order, the
+-- areas with all that each says, and the anon_vmas; what is free is what the ledger has free
 pub record Stands (m : Setting) (v : View) (device : Device) (s : State) : Type 0 where
   pub over : IsOver m device
   pub sound : AllSound m s.world s.ledger

@@ -1,9 +1,9 @@
 //! The memory system, and how memory is taken back.
 //!
-//! `Mem` holds the frames, the page tables, the areas and the anon_vmas; the kernel has one. What it stands for is
-//! said by the definitions' `Stands` over its `view`. `zap_range` takes away the entries of a range
-//! of pages, and frees the frames that no other page has: proved for every ledger that the parts
-//! stand for.
+//! `Mem` holds the frames, the page tables, the areas and the anon_vmas; the kernel has one. What
+//! it stands for is said by the definitions' `Stands` over its `view`. `zap_range` takes away the
+//! entries of a range of pages, and frees the frames that no other page has: proved for every
+//! ledger that the parts stand for.
 #![tactic(auto)]
 
 mod mem;

@@ -8,8 +8,8 @@ ghost use Rattle.av_rmap.specs.View.{AreApart, AreSpanned};
 ghost use Rattle.av_rmap.specs.Walk.{AreItsEntries, Key};
 
 use crate::look::Look;
-use av_base::Steps;
 use crate::walk::walk;
+use av_base::Steps;
 use std::alloc::{AllocError, Global};
 use std::sync::ledger::Ledger;
 

@@ -42,9 +42,11 @@ page_of_area f ts b A trees is = by (tree_at ts A.pid) refl (trees A.pid)
         let there = area_in A.pid f spans b s.0 areas s.1 in
         let whole = there.is.whole.some in
         let from = there.is.from in
-        let to = there.is.to in
-        (s.0.from, pages_there f ts A.pid spans (spaces_by f ts) trees (sym at) refl s.0.from
-        ∙ on_span A.pid f spans b s.0 A s.0.from areas s.1 is (omega arith) (omega (arith, whole, from, to)))
+        let to = there.is.to in (
+          s.0.from,
+          pages_there f ts A.pid spans (spaces_by f ts) trees (sym at) refl s.0.from
+              ∙ on_span A.pid f spans b s.0 A s.0.from areas s.1 is (omega arith) (omega (arith, whole, from, to)),
+        )
 
 -- and a page's area is in use
 pub area_of_page : (f : ℕ → Option Area) (ts : Trees) (p page : ℕ) (A : Area) → AreTrees f ts → pages_of (spaces_by f ts) p page ≡ Some A
@@ -103,9 +105,12 @@ module _ (areas : List (Option Area)) (ts : Trees) (a : Anons) (trees : AreTrees
       by b member None is = absurd (false≢true (sym (ap (is_in v) ((order.chains b).none is)) ∙ member))
       by b member (Some own) is =
           let o = owner_of (area_of areas) b own is in
-          let at = page_of_area (area_of areas) ts b o.area trees o.area_is in
-          (o.area.pid, at.0, subst (λ o. IsSomeAnd o (λ area. is_in v (chain_on (all_spaces areas ts) a area.anon) ≡ true)) (sym at.1)
-          (ap (λ own. is_in v (chain_on (all_spaces areas ts) a own)) o.own_is ∙ ap (is_in v) (chain_by-is (area_of areas) (family a) (spans_of a) b own order is) ∙ member))
+          let at = page_of_area (area_of areas) ts b o.area trees o.area_is in (
+            o.area.pid,
+            at.0,
+            subst (λ o. IsSomeAnd o (λ area. is_in v (chain_on (all_spaces areas ts) a area.anon) ≡ true)) (sym at.1)
+                (ap (λ own. is_in v (chain_on (all_spaces areas ts) a own)) o.own_is ∙ ap (is_in v) (chain_by-is (area_of areas) (family a) (spans_of a) b own order is) ∙ member),
+          )
 
   -- and one with such a page is there
   pub there_linked : (v : ℕ) → IsLinkedIn (all_spaces areas ts) a v → IsSome (info_of a v)

@@ -1,5 +1,5 @@
--- The anon_vmas beside the areas of all processes, said by pages: which are linked, and what a change
--- of areas leaves of them.
+-- The anon_vmas beside the areas of all processes, said by pages: which are linked, and what a
+-- change of areas leaves of them.
 use Rattle.std.specs.Prelude.{◌≡◌, ℕ, true, List, [], Option, Some, None, IfSome, IsSome, IsSomeAnd}
 use Rattle.av_base.specs.Words.{is_in}
 use Rattle.av_vma.specs.Areas.{area_of}
@@ -46,6 +46,7 @@ pub record AnonsFit (s : AllSpaces) (anons : Anons) : Type 0 where
 pub record AnonsStay (s : AllSpaces) (old : Anons) (s' : AllSpaces) (new : Anons) : Type 0 where
   pub fit : AnonsFit s' new
   pub next : new.next ≡ old.next
-  pub kin : (v : ℕ) → IfSome (info_of new v) (λ i. IsSomeAnd (info_of old v) (λ was. IsSameKin was i))
+  pub kin : (v : ℕ) → IfSome (info_of new v) (λ i. IsSomeAnd (info_of old v) (λ was. IsSameKin was
+      i))
   pub owned : (v : ℕ) → IsOwnedIn s' v → IsOwnedIn s v
   pub chains : (v : ℕ) → IsOwnedIn s' v → chain_on s' new (Some v) ≡ chain_on s old (Some v)

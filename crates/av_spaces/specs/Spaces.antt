@@ -10,8 +10,8 @@ use Rattle.av_vma.specs.Pages.{Pages, IsWhole, pages_in}
 abbrev pub Spaces : Type 0
 Spaces = List (ℕ × List Area)
 
--- the value of `Spaces`: the processes, each with its areas; and the areas by number, by which chains
--- of anon_vmas go
+-- the value of `Spaces`: the processes, each with its areas; and the areas by number, by which
+-- chains of anon_vmas go
 pub record AllSpaces : Type 0 where
   pub processes : Spaces
   pub areas : List (Option Area)

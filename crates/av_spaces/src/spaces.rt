@@ -175,13 +175,7 @@ impl Spaces {
         ensures anons { OnOk result (AnonsStay self.old anons.old self.new anons.new) }
     {
         let mut tree = take_tree(&mut self.trees, process);
-        let result = av_merge::cut(
-            &mut self.areas,
-            &mut tree,
-            anons,
-            from,
-            from + pages,
-        );
+        let result = av_merge::cut(&mut self.areas, &mut tree, anons, from, from + pages);
         put_tree(&mut self.trees, process, tree);
         result
     }
@@ -238,7 +232,8 @@ impl Spaces {
     /// number.
     pub fn areas(&self, process: u16) -> Result<Vec<Area>, AllocError>
         requires { is_some (areas_of self.now.processes process) ≡ true }
-        ensures areas { IfOk result (λ areas. areas_of self.now.processes process ≡ Some areas.items) }
+        ensures areas { IfOk result (λ areas. areas_of self.now.processes process ≡ Some
+            areas.items) }
         ensures rising { IfOk result (λ areas. AreRising process areas.items) }
     {
         let Some(tree) = tree_of(&self.trees, process) else {

@@ -39,7 +39,8 @@ bad_count order page = number_at order page 1032
 
 -- n of them, one behind the other
 abbrev pub numbers_at : Order → List ℕ → ℕ → ℕ → List ℕ
-numbers_at order page from n = map (λ i. number_at order page (1536 + 4 * i)) (range_with_len from n)
+numbers_at order page from n = map (λ i. number_at order page (1536 + 4 * i)) (range_with_len from
+    n)
 
 -- all of them
 abbrev pub all_named : Order → List ℕ → List ℕ
@@ -55,16 +56,16 @@ behind_header pages = range_with_len 1 (pages - 1)
 
 -- those that are named as bad, rising
 abbrev pub bad_of : ℕ → List ℕ → List ℕ
-bad_of pages numbers_at = filter (λ m. is_in m numbers_at) (behind_header pages)
+bad_of pages bad_list = filter (λ m. is_in m bad_list) (behind_header pages)
 
 -- its slots: the others
 abbrev pub slots_of : ℕ → List ℕ → List ℕ
-slots_of pages numbers_at = filter (λ m. not (is_in m numbers_at)) (behind_header pages)
+slots_of pages bad_list = filter (λ m. not (is_in m bad_list)) (behind_header pages)
 
 -- an area of so many pages, where these are named as bad
 abbrev pub layout_of : ℕ → List ℕ → Layout
-layout_of pages numbers_at =
-    record { pages = pages; slots = length (slots_of pages numbers_at); bad = bad_of pages numbers_at }
+layout_of pages bad_list =
+    record { pages = pages; slots = length (slots_of pages bad_list); bad = bad_of pages bad_list }
 
 -- whether a page can't be named as bad in an area with this last page
 abbrev pub is_out : ℕ → ℕ → Bool

@@ -67,7 +67,8 @@ impl Areas {
     /// Takes out the area with this number, which is in use until now.
     pub fn remove(&mut self, id: AreaId)
         requires used { IsSome (area_of self.old id) }
-        ensures { (number : ℕ) → area_of self.new number ≡ with_at id None (area_of self.old) number }
+        ensures { (number : ℕ) → area_of self.new number ≡ with_at id None (area_of self.old)
+            number }
     {
         self.slab.remove(id as usize);
     }

@@ -28,4 +28,3 @@ returns c = record {
       rest.bytes rest.spaces rest.processes rest.count c.end.ensures.processes c.end.ensures.entries c.end-2.ensures.areas
       (subst (λ (x : AllSpaces). AnonsStay x old.anons c.end-2.new.self c.end-2.new.anons) rest.spaces (subst (λ a. AnonsStay mid.spaces a c.end-2.new.self c.end-2.new.anons) rest.anons c.end-2.ensures.anons)));
 }
-
