@@ -114,7 +114,7 @@ fn find_gap(spaces: &Spaces, process: u16, pages: u64) -> Result<u64, Errno>
     ensures { MatchResult result
         (λ page. IsGap (is_taken spaces.now.processes process) pages (Some page))
         (λ error. IsGap (is_taken spaces.now.processes process) pages None × (error ≡
-            errors.Enomem)) }
+        errors.Enomem)) }
 {
     match spaces.gap(process, pages) {
         Some(page) => Ok(page),

@@ -756,11 +756,17 @@ out_and_back =
       ledger_with (InSlot (slot 1)) (cache_of 5 false) (slot 1 ∷ []) []
           (5 ∷ 6 ∷ []),
     )
-    ∷ (Noted (Written (slot 1)), ledger_with (InSlot (slot 1)) (cache_of 5 false) [] [] (6 ∷ 5 ∷
-        []))
+    ∷ (
+      Noted (Written (slot 1)),
+      ledger_with (InSlot (slot 1)) (cache_of 5 false) [] [] (6 ∷ 5 ∷
+          []),
+    )
     ∷ (Noted (Dropped (slot 1)), ledger_with (InSlot (slot 1)) [] [] [] (6 ∷ []))
-    ∷ (Noted (Loaded (slot 1) 7), ledger_with (InSlot (slot 1)) (cache_of 7 false) [] [] (7 ∷ 6 ∷
-        []))
+    ∷ (
+      Noted (Loaded (slot 1) 7),
+      ledger_with (InSlot (slot 1)) (cache_of 7 false) [] [] (7 ∷ 6 ∷
+          []),
+    )
     ∷ (
       Noted (Mapped 1 0x7fffffffe000 7),
       ledger_with (InFrame 7 false) (cache_of 7 false) [] []
@@ -771,8 +777,11 @@ out_and_back =
       ledger_with (InFrame 7 true) (cache_of 7 false) [] []
           (7 ∷ 6 ∷ []),
     )
-    ∷ (Used true (1, 0x7fffffffe), ledger_with (InFrame 7 true) (cache_of 7 true) [] [] (7 ∷ 6 ∷
-        []))
+    ∷ (
+      Used true (1, 0x7fffffffe),
+      ledger_with (InFrame 7 true) (cache_of 7 true) [] [] (7 ∷ 6 ∷
+          []),
+    )
     ∷ (Noted (Kept 7 NoSlot), ledger_with (InFrame 7 true) (cache_of 7 true) [] (7 ∷ []) (6 ∷ []))
     ∷ (Noted (Dropped (slot 1)), ledger_with (InFrame 7 true) [] [] (7 ∷ []) (6 ∷ []))
     ∷ []

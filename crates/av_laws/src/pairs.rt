@@ -114,7 +114,7 @@ pub fn faults_are_counted()
     ensures eio { causes (reply_with (Refused Eio) []) ≡ 1 }
     ensures cached_when_out { causes
         (reply_with (Oom 0 (record { pinned = 0; noslot = 1; fault = 2 }) []) (Failed (slot 1) ∷
-            []))
+        []))
         ≡ 2 }
     ensures no_fault { causes (reply_with (Refused Enomem) (Written (slot 1) ∷ [])) ≡ 0 }
 {}

@@ -197,8 +197,10 @@ impl Lru {
     pub fn to_active(&mut self, frame: u32)
         requires { frame < self.old.frames }
         ensures { self.new
-            ≡ record (without_frame frame self.old) { active = frame ∷ (without_frame frame
-                self.old).active } }
+            ≡ record (without_frame frame self.old) {
+              active = frame ∷ (without_frame frame
+                  self.old).active;
+            } }
     {
         self.remove(frame);
         self.add_head(Which::Active, frame);

@@ -9,4 +9,4 @@ use Rattle.av_rmap.specs.declared.stores.Stores.{Stores}
 abbrev pub view_of : Stores → View
 view_of s =
     view_with (area_of s.areas.now) (family s.anons.now) (spans_of s.anons.now) (entry_at
-        s.tables.now)
+    s.tables.now)
