@@ -8,6 +8,7 @@ ghost use Rattle.av_kernel.specs.Kernel.{Stands, Steps, Counts, IsNew, IsLeft};
 
 use crate::step::perform;
 use crate::tally::Tally;
+use av_anon::Anons;
 use av_frames::Frames;
 use av_pagetable::{PageTable, Tables};
 use av_reclaim::Mem;
@@ -103,6 +104,13 @@ impl Kernel {
         ensures { result.now ≡ self.now.mem.spaces }
     {
         &self.mem.spaces
+    }
+
+    /// The anon_vmas, with the links of areas to them.
+    pub fn anons(&self) -> &Anons
+        ensures { result.now ≡ self.now.mem.anons }
+    {
+        &self.mem.anons
     }
 
     /// How many commands were answered.

@@ -2,10 +2,12 @@
 //! `mm_struct`).
 //!
 //! `Spaces` is seen as the list of the processes that live, each with its areas and all that an
-//! area says, in the order of their pages. Proved: what a call answers and what it changes, page by
-//! page, is what `av_merge` says of one process; the areas of all others stay; the areas of a
-//! process are whole, rise and do not meet. Neither proved nor tested here: how much time a call
-//! takes.
+//! area says, in the order of their pages; beside it stand the areas by number, by which chains of
+//! anon_vmas go. Proved: what a call answers and what it changes, page by page, is what `av_merge`
+//! says of one process; the areas of all others stay; the areas of a process are whole, rise and do
+//! not meet. Of the anon_vmas: a call makes none and changes none, those that are left are those
+//! that an area is linked to, and there is chain order. Not proved: how much time a call takes.
+//! Tests stand with those of the kernel, in `av_run_tests`.
 #![tactic(auto)]
 
 mod spaces;
