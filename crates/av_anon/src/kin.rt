@@ -1,4 +1,5 @@
-//! Kin stays by each call that makes no anon_vma, and what follows from it: laws.
+//! Kin stays by `clone_chain`, by `unlink`, and where no anon_vma changes; and what follows from
+//! it: laws.
 ghost use Rattle.std.specs.Prelude.{◌≡◌, ℕ, true, List, Option, Some, None, IsSome};
 ghost use Rattle.av_base.specs.Words.{is_in};
 ghost use Rattle.av_interval.specs.declared.span.Span.{Span};

@@ -6,7 +6,10 @@
 //!
 //! Proved: what each call makes of root, parent, children and active of each anon_vma, of the next
 //! number, and of each chain and list of users, by one equation; that the spans go with the links
-//! after each call; that a number is never used again. A call that wants memory promises nothing.
+//! after each call; that a number is never used again. Laws say that each call keeps chain order
+//! (`order`), and that `clone_chain` and `unlink` make no anon_vma, change no root or parent and
+//! leave chains as they were (`kin`). Without memory no area changes; nothing else is promised
+//! then, but that `resize` leaves links and numbers.
 #![tactic(auto)]
 
 mod anons;

@@ -3,7 +3,7 @@
 //! An `Arena` keeps the nodes of any number of trees, each under a number that is used again once
 //! it is free. A tree is told by a `Link`: the number of its root, its height and the summary of
 //! its entries. `Avl` is one tree with an arena of its own; who keeps many trees over one arena
-//! calls `placed` and `removed`.
+//! calls `place` and `remove`.
 //!
 //! Proved: `insert`, `remove`, `replace` and `split` make exactly the list that the keys call for,
 //! all stays where memory is wanting, the sides of each node differ by one level at most, each

@@ -10,7 +10,8 @@ use Rattle.av_reclaim.specs.Mem.{Keeps}
 use Rattle.av_kernel.specs.Machine.{Machine}
 use Rattle.av_kernel.specs.Tally.{tally_with, none_counted}
 
--- the kernel stands for the memories, the ledger, what is free and the areas
+-- the kernel stands for the memories, the ledger, what is free, the areas and the anon_vmas, among
+-- which there is chain order
 abbrev pub Stands : Machine → State → Type 0
 Stands k s = Keeps k.mem s
 

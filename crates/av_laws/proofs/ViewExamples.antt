@@ -11,12 +11,12 @@ use Rattle.av_plain.specs.Sound.{AllSound}
 use Rattle.av_vma.specs.Pages.{pages_in}
 use Rattle.av_vma.specs.declared.area.Area.{Area}
 use Rattle.av_clusters.specs.Clusters.{fresh}
-use Rattle.av_plain.specs.Areas.{none_on}
+use Rattle.av_plain.specs.Areas.{no_anons, none_on}
 use Rattle.av_plain.specs.Choice.{Free, ListsFree}
 use Rattle.av_plain.specs.Stands.{AreApart, Holds, IsKept, Pte, Stands, entry_of, prot_of, ranges_in}
 use Rattle.av_plain.specs.World.{Page, Process, lives, pages, process}
 use Rattle.av_laws.specs.Examples.{machine, page_with, read_write, with_byte}
-use Rattle.av_laws.specs.Views.{fork_state}
+use Rattle.av_laws.specs.Views.{NotKin, one_anon, fork_state}
 use Rattle.av_laws.proofs.ListsExamples.{fork-listed}
 use Rattle.av_plain.proofs.Ledger.{same_key, same_key-is}
 use Rattle.av_plain.proofs.Ledger.NoSwap.{key_is}
@@ -85,6 +85,27 @@ pub other_offset-not : Refused (view_with (λ p. record (topmost p) { pgoff = 0 
 unfolding offset_of
 other_offset-not h = let e : ◌≡◌ {A = ℕ} 0 0x7fffffffe = ap offset_of
     (h.areas 1 0x7fffffffe) in omega (arith, e)
+
+-- ---- anon_vmas
+
+-- the root that is shown
+abbrev root_in : Option (ℕ × ℕ) → ℕ
+root_in None = 0
+root_in (Some k) = k.0
+
+pub other_next-not : NotKin (record (one_anon 0 (0 ∷ [])) { next = 2 }) (one_anon 0 (0 ∷ []))
+other_next-not h = let e : ◌≡◌ {A = ℕ} 2 1 = h.anons.next in omega (arith, e)
+
+pub one_too_many-not : NotKin (one_anon 0 (0 ∷ [])) (record no_anons { next = 1 })
+one_too_many-not h = never (sym (ap is_some (h.anons.kin 0)))
+
+pub other_root-not : NotKin (one_anon 1 (0 ∷ [])) (one_anon 0 (0 ∷ []))
+other_root-not h = let e : ◌≡◌ {A = ℕ} 1 0 = ap root_in (h.anons.kin 0) in omega (arith, e)
+
+pub other_chain-not : NotKin (one_anon 0 (0 ∷ 1 ∷ [])) (one_anon 0 (0 ∷ []))
+other_chain-not h = let e : ◌≡◌ {A = ℕ} 2 1 = ap length (h.anons.chains 1 0x7fffffffe) in omega (arith, e)
+
+-- ---- lists and areas
 
 pub made_active-not : Refused (record right { active = 0 ∷ [] })
 made_active-not h = let e : ◌≡◌ {A = ℕ} 1 0 = ap length h.parts.ledger.lists.active in omega (arith, e)

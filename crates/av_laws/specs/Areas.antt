@@ -4,7 +4,7 @@
 --   a cut (`cut_at`, `part_of`): protected_inside, hole, offset_anew, left_whole
 --   a join (`joined_at`, `are_mergeable`): joined_again, joined_above, joined_below, between,
 --     kept_apart, left_split, left_apart, joined_unlike
---   what goes (`emptied`, `with_room`): hole, fixed_over, left_under
+--   what goes (`without_range`, `with_room`): hole, fixed_over, left_under
 --   a change (`pages_changed`, `areas_to_hole`): protected_inside, up_to_hole, changed_past_hole,
 --     unchanged_before_hole
 --   the end of a process (`next_areas`): after_exit, kept_at_exit

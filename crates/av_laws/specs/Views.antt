@@ -3,9 +3,9 @@
 use Rattle.std.specs.Prelude.{ℕ, Bool, false, ◌==◌, ◌&&◌, ◌||◌, if◌then◌else◌, List, [], ◌∷◌, ◌++◌, Some, None, option_map, replicate, codes}
 use Rattle.av_plain.specs.Device.{Device, no_device}
 use Rattle.av_plain.specs.Ledger.{SwapArea, entry, frame_at, map_count, slot_entries, slot_of}
-use Rattle.av_vma.specs.Pages.{fresh_area}
+use Rattle.av_vma.specs.Pages.{fresh_area, pages_in}
 use Rattle.av_vma.specs.declared.area.Area.{Area}
-use Rattle.av_plain.specs.Areas.{no_anons}
+use Rattle.av_plain.specs.Areas.{Anons, Areas, no_anons}
 use Rattle.av_plain.specs.Choice.{no_slots}
 use Rattle.av_plain.specs.Stands.{Stands, View}
 use Rattle.av_plain.specs.Transcript.{State}
@@ -58,6 +58,28 @@ abbrev pub NotFree : List ℕ → Type 0
 NotFree frames =
     Stands (machine 4) (record right { free = frames }) no_device
     (record fork_state { free = only_frames frames }) → ⊥
+
+-- ---- anon_vmas
+
+-- the areas of both processes have the anon_vma 0 as their own
+abbrev pub owned : ℕ → Area
+owned p = record (topmost p) { anon = Some 0 }
+
+abbrev pub owned_areas : Areas
+owned_areas p = pages_in (if p == 1 || p == 2 then Some (owned p ∷ []) else None)
+
+-- which has this root, itself as its parent, and this chain
+abbrev pub one_anon : ℕ → List ℕ → Anons
+one_anon root chain = record {
+  next = 1;
+  anon = λ v. if v == 0 then Some (record { root = root; parent = 0; chain = chain }) else None;
+}
+
+-- a kernel that shows these anon_vmas doesn't stand for those
+abbrev pub NotKin : Anons → Anons → Type 0
+NotKin shown anons =
+    Stands (machine 4) (record (view_with (λ p. owned p ∷ []) false) { anons = shown }) no_device
+    (record fork_state { areas = owned_areas; anons = anons }) → ⊥
 
 -- ---- with swap
 

@@ -101,8 +101,8 @@ pub fn numbers_add_up()
 {}
 
 /// Where the devices tell their pages, each byte of the memories is claimed and no fault of a
-/// device shows, a command has one reply, and leaves one state, with its areas, free frames and
-/// slots: nothing is left to the kernel's choice.
+/// device shows, a command has one reply, and leaves one state, with its areas, anon_vmas, free
+/// frames and slots: nothing is left to the kernel's choice.
 pub fn replies_are_determined()
     ensures { (m : Setting) (old new other : State) (command : Command) (reply reply' : Reply)
         → Tells m → IsClaimed old.world → IsFaultless reply → IsFaultless reply'

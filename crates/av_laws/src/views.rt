@@ -1,6 +1,7 @@
 //! Views of a kernel that stand for a state, and such as don't.
 
 ghost use Rattle.std.specs.Prelude.{[], ◌∷◌, true, false, Some, None};
+ghost use Rattle.av_plain.specs.Areas.{no_anons};
 ghost use Rattle.av_plain.specs.Device.{no_device};
 ghost use Rattle.av_plain.specs.Stands.{Stands};
 ghost use Rattle.av_laws.specs.Examples.{cached_out, machine, with_slots};
@@ -9,12 +10,14 @@ ghost use Rattle.av_laws.specs.Views.{
   NotFor,
   NotFree,
   NotGiven,
+  NotKin,
   Refused,
   StandsFor,
   area,
   cached_view,
   fewer_slots,
   fork_state,
+  one_anon,
   right,
   topmost,
   view_with,
@@ -49,6 +52,16 @@ pub fn changed_views_do_not_stand()
         (view_with (λ p. record (topmost p) { pgoff = 0 } ∷ []) false) }
     ensures areas_of_nobody { Refused (record right { areas = λ p. Some (topmost p ∷ []) }) }
     ensures too_few_processes { Refused (record right { processes = 1 }) }
+{}
+
+/// Where areas have an anon_vma, a view stands for the state only where it has as many made, the same
+/// ones, each with its root, and the chain that the areas have.
+pub fn changed_anon_vmas_do_not_stand()
+    ensures other_next { NotKin
+        (record (one_anon 0 (0 ∷ [])) { next = 2 }) (one_anon 0 (0 ∷ [])) }
+    ensures one_too_many { NotKin (one_anon 0 (0 ∷ [])) (record no_anons { next = 1 }) }
+    ensures other_root { NotKin (one_anon 1 (0 ∷ [])) (one_anon 0 (0 ∷ [])) }
+    ensures other_chain { NotKin (one_anon 0 (0 ∷ 1 ∷ [])) (one_anon 0 (0 ∷ [])) }
 {}
 
 /// The right view of a cached page stands for its state: where it is clean, the device has its

@@ -13,7 +13,7 @@
 //! Proved: which area is on each page then, with every field (av_vma's `Pages`); that no area of
 //! another process changed; that chain order stays, that no anon_vma is made or changes its kin,
 //! and that each area's chain is the one that areas with its own anon_vma had (av_anon's `Kin`).
-//! Nothing is only tested.
+//! Nothing is only tested. How much time a call takes is neither proved nor tested.
 //!
 //! A call that answers want of memory may have done a part of its work; areas and tree still go
 //! together, and nothing is said of chain order then.

@@ -1,6 +1,6 @@
 -- The areas of each process and the anon_vmas, beside the memories, and what a command makes of
--- them. They follow from memories, events, commands and answers, and are not part of what makes a
--- reply legal.
+-- them. They follow from the memories before, commands and answers, and are not part of what makes
+-- a reply legal.
 use Rattle.std.specs.Prelude.{◌≡◌, ℕ, ◌+◌, if◌then◌else◌, true, List, [], length, Option, Some, None, IsSome, IsSomeAnd}
 use Rattle.std.specs.Option.{option_map_or}
 use Rattle.av_base.specs.Page.{page_of, pages_of}

@@ -37,7 +37,8 @@ pub fn what_sound_says()
     ensures { (m : Setting) (w : World) (l : Ledger) → AllSound m w l → SaysSound m w l }
 {}
 
-/// A run, in which also the order of the free frames counts, is a legal transcript.
+/// A run, in which also the choice of frames and slots, the areas and the anon_vmas count, is a
+/// legal transcript.
 pub fn runs_are_legal()
     ensures { (m : Setting) (old : State) (exchanges : List Exchange) (new : State)
         → IsRun m old exchanges new

@@ -24,7 +24,7 @@ use std::alloc::{AllocError, Global};
 use std::marker::Model;
 
 /// The areas of every process that lives, seen as the list of the processes, rising, each with its
-/// areas in the order of their pages.
+/// areas in the order of their pages, and the areas by number.
 #[derive(Drop)]
 pub struct Spaces {
     alloc: Global,
@@ -124,7 +124,7 @@ impl Spaces {
     }
 
     /// Maps free pages of a process that lives, as one area without an anon_vma. Once memory is
-    /// wanting, nothing is promised of any process's pages.
+    /// wanting, nothing is promised of any process's pages, nor of anon_vmas.
     pub fn map(
         &mut self,
         anons: &mut Anons,
