@@ -54,8 +54,8 @@ pub fn changed_views_do_not_stand()
     ensures too_few_processes { Refused (record right { processes = 1 }) }
 {}
 
-/// Where areas have an anon_vma, a view stands for the state only where it has as many made, the same
-/// ones, each with its root, and the chain that the areas have.
+/// Where areas have an anon_vma, a view stands for the state only where it has as many made, the
+/// same ones, each with its root, and the chain that the areas have.
 pub fn changed_anon_vmas_do_not_stand()
     ensures other_next { NotKin
         (record (one_anon 0 (0 ∷ [])) { next = 2 }) (one_anon 0 (0 ∷ [])) }

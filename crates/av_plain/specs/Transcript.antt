@@ -35,8 +35,8 @@ pub record State : Type 0 where
   pub areas : Areas
   pub anons : Anons
 
--- no process lives, all frames are free, rising, no swap area has slots, and there is no area and no
--- anon_vma
+-- no process lives, all frames are free, rising, no swap area has slots, and there is no area and
+-- no anon_vma
 abbrev pub at_first : Setting → State
 at_first m = record {
   world = [];
