@@ -18,9 +18,9 @@ pub fn chains_go_by_own()
 
 /// An anon_vma is there exactly while an area is linked to it.
 pub fn anon_vmas_are_linked()
-    ensures linked { (areas : ℕ → Option Area) (f : Family) (spans : ℕ → List Span) (v : ℕ)
+    ensures there { (areas : ℕ → Option Area) (f : Family) (spans : ℕ → List Span) (v : ℕ)
         → IsInOrder areas f spans → IsSome (f.info v) → (a : ℕ) × (is_in v (f.chain a) ≡ true) }
-    ensures there { (areas : ℕ → Option Area) (f : Family) (spans : ℕ → List Span) (a v : ℕ)
+    ensures linked { (areas : ℕ → Option Area) (f : Family) (spans : ℕ → List Span) (a v : ℕ)
         → IsInOrder areas f spans → is_in v (f.chain a) ≡ true → IsSome (f.info v) }
 {}
 

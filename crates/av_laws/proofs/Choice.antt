@@ -1,10 +1,11 @@
 -- Which slots are chosen at several events, computed.
 use Rattle.std.proofs.Common.{◌≡◌, ℕ, ◌+◌, ◌≤◌, length, Bool, true, false, ◌&&◌, ◌==◌, List, [], ◌∷◌, Option, Some, None, is_none, refl, ap, arith}
 use Rattle.std.proofs.lemmas.Bool.Decides.{nat_tests}
-use Rattle.std.specs.Prelude.{IsSomeAnd, MatchOption, count_by}
+use Rattle.std.specs.Prelude.{min, IsSomeAnd, MatchOption, count_by}
 use Rattle.av_base.specs.Words.{with_at}
 use Rattle.av_base.specs.declared.slot.Slot.{Slot}
 use Rattle.av_clusters.specs.Clusters.{Slots, fresh, is_free as is_free_page, take_slot}
+use Rattle.av_swapdev.specs.Device.{most_pages}
 use Rattle.av_swapdev.specs.Header.{Layout}
 use Rattle.av_plain.specs.Choice.{AreaSlots, ChoosesAll, ChoosesSlot, IsGiven, SwitchesArea, giving_area, no_slots, slot_in, with_given_back}
 use Rattle.av_plain.specs.Event.{Event, Forked, Moved, Noted, TurnedOff, TurnedOn, Used, Zapped, after}
@@ -155,7 +156,7 @@ turned m (TurnedOn k n bad) slots h =
 
     told : (o : Option (ℕ → Option Layout)) → has_numbers n bad (header_in o k) ≡ true
         → MatchOption o
-        ((pages : ℕ) × (named : List ℕ) × (pages ≤ size_of m k) × (1 + n + bad ≡ pages)
+        ((pages : ℕ) × (named : List ℕ) × (pages ≤ min (size_of m k) most_pages) × (1 + n + bad ≡ pages)
         × (fresh_of (header_in o k) ≡ fresh pages named)
         × (count_by is_free_page (fresh_of (header_in o k)).pages ≡ n))
         (λ headers. IsSomeAnd (headers k)

@@ -1,10 +1,11 @@
 -- What stands before a frame is taken is determined, where no write fails: the order of the free frames and the
 -- clusters of the swap areas leave no choice.
 use Rattle.std.proofs.Common.{◌≡◌, ℕ, ◌+◌, ◌≤◌, Bool, true, false, cond, not, ◌&&◌, if◌then◌else◌, List, [], ◌∷◌, ◌++◌, Option, Some, None, is_none, is_some, refl, sym, ap, subst, ◌∙◌, arith, ◌==◌}
-use Rattle.std.specs.Prelude.{IsSomeAnd, MatchBool, MatchOption, count_by}
+use Rattle.std.specs.Prelude.{min, IsSomeAnd, MatchBool, MatchOption, count_by}
 use Rattle.av_base.specs.Words.{how_many, with_at}
 use Rattle.av_base.specs.declared.slot.Slot.{Slot}
 use Rattle.av_clusters.specs.Clusters.{Slots, fresh, take_slot, is_free as is_free_page}
+use Rattle.av_swapdev.specs.Device.{most_pages}
 use Rattle.av_swapdev.specs.Header.{Layout}
 use Rattle.av_trace.specs.declared.note.Note.{Note}
 use Rattle.av_trace.specs.declared.note.Note.TheVariants.{Zeroed, New, Copied, Loaded, Mapped, Put, Unmapped, Started, Written, Failed, Dropped, Kept, Aged}
@@ -87,12 +88,12 @@ fresh-same m k area made made' told h g = by m.headers told h g
     of_layout (Some layout) h g = h.1 ∙ sym g.1
 
     by : (o : Option (ℕ → Option Layout)) → is_some o ≡ true
-        → MatchOption o ((pages : ℕ) × (bad : List ℕ) × (pages ≤ size_of m k)
+        → MatchOption o ((pages : ℕ) × (bad : List ℕ) × (pages ≤ min (size_of m k) most_pages)
         × (1 + area.slots + area.bad ≡ pages) × (made ≡ fresh pages bad)
         × (count_by is_free_page made.pages ≡ area.slots))
         (λ headers. IsSomeAnd (headers k)
         (λ (h : Layout). HasNumbers area h × (made ≡ fresh h.pages h.bad)))
-        → MatchOption o ((pages : ℕ) × (bad : List ℕ) × (pages ≤ size_of m k)
+        → MatchOption o ((pages : ℕ) × (bad : List ℕ) × (pages ≤ min (size_of m k) most_pages)
         × (1 + area.slots + area.bad ≡ pages) × (made' ≡ fresh pages bad)
         × (count_by is_free_page made'.pages ≡ area.slots))
         (λ headers. IsSomeAnd (headers k)

@@ -11,7 +11,7 @@ use Rattle.av_anon.specs.Kin.{KinStays, length_by}
 use Rattle.av_anon.specs.Order.{IsInOrder}
 use Rattle.av_anon.specs.Spans.{spans_of}
 
--- there is chain order after a call, and kin stayed
+-- there is chain order now, and kin stayed
 pub record KeepsKin (areas areas' : ℕ → Option Area) (f f' : Family) (spans' : ℕ → List Span)
     : Type 0 where
   pub order : IsInOrder areas' f' spans'
@@ -21,7 +21,7 @@ pub record KeepsKin (areas areas' : ℕ → Option Area) (f f' : Family) (spans'
 abbrev pub AreInOrder : List (Option Area) → Anons → Type 0
 AreInOrder areas anons = IsInOrder (area_of areas) (family anons) (spans_of anons)
 
--- there still is, and kin stayed
+-- there is chain order after a call, and kin stayed
 abbrev pub StayKin : List (Option Area) → Anons → List (Option Area) → Anons → Type 0
 StayKin old before new after =
     KeepsKin (area_of old) (area_of new) (family before) (family after) (spans_of after)

@@ -43,7 +43,7 @@ NoneCrosses at spans =
 
 -- ---- what the calls promise, in the values of `Areas` and `Tree`
 
--- these are the areas of one process, with its tree
+-- the tree has the areas of some process
 abbrev pub AreOfOne : List (Option Area) → List Span → Type 0
 AreOfOne areas spans = (p : ℕ) × AreAreasOf p (area_of areas) spans
 

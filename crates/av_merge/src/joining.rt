@@ -38,7 +38,7 @@ pub fn join_around(
     join_ends(areas, tree, anons, start / PAGE_SIZE, end / PAGE_SIZE)
 }
 
-/// Tries the boundaries before the pages `from` and `past`, between which one area lies.
+/// Tries the boundaries before the pages `from` and `past`.
 fn join_ends(
     areas: &mut Areas,
     tree: &mut Tree,

@@ -1,7 +1,7 @@
 //! Areas with their chains of anon_vmas: one goes, gets other bounds, or gets another's chain.
 //!
-//! Where want of memory leaves an anon_vma without the span of an area, the areas are changed all
-//! the same, so that they and the tree go together.
+//! Where want of memory leaves an anon_vma without the span of an area, `put` and `put_parts`
+//! change the areas all the same, so that they and the tree go together; `share` leaves all areas.
 
 ghost use Rattle.std.specs.Prelude.{◌≡◌, ◌≢◌, ℕ, Some, None, is_some, IsSome, IsSomeAnd, OnErr, OnOk, length, if◌then◌else◌};
 ghost use Rattle.std.specs.Option.{option_or};

@@ -1,6 +1,7 @@
 -- The areas of each process and the anon_vmas, beside the memories, and what a command makes of
--- them. They follow from the memories before, commands and answers, and are not part of what makes
--- a reply legal.
+-- them: by the areas, chains and memories before it, the command and its answer. No command makes an
+-- anon_vma yet: in a run from nothing there is none, and what is said of chains binds steps from
+-- states that have some. They are not part of what makes a reply legal.
 use Rattle.std.specs.Prelude.{◌≡◌, ℕ, ◌+◌, if◌then◌else◌, true, List, [], length, Option, Some, None, IsSome, IsSomeAnd}
 use Rattle.std.specs.Option.{option_map_or}
 use Rattle.av_base.specs.Page.{page_of, pages_of}
@@ -33,7 +34,7 @@ no_areas p = none_on
 
 -- ---- anon_vmas
 
--- an anon_vma: its root and its parent, and the chain of the areas that have it as their own
+-- an anon_vma: its root and its parent, and the chain that areas have, or last had, whose own it is
 pub record AnonVma : Type 0 where
   pub root : ℕ
   pub parent : ℕ

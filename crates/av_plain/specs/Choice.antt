@@ -1,13 +1,15 @@
 -- What is taken: the first of the free frames, and the slot that the clusters of a swap area give,
--- each in an order that follows the events. This is not part of what makes a reply legal.
+-- each in an order that follows the events. This is not part of what makes a reply legal. No command
+-- turns a swap area on yet.
 use Rattle.std.specs.FinMap.Entries.{find as find_area}
 use Rattle.std.specs.List.{find}
 use Rattle.std.specs.Option.{option_map_or}
 use Rattle.std.specs.Ordering.{nat_cmp}
-use Rattle.std.specs.Prelude.{◌≡◌, ◌≤◌, ℕ, ◌+◌, ◌-◌, not, ◌&&◌, ◌==◌, nat_lt, if◌then◌else◌, true, List, [], ◌∷◌, ◌++◌, filter, fold, count_by, option_map, Option, Some, None, IsSomeAnd, MatchOption}
+use Rattle.std.specs.Prelude.{◌≡◌, ◌≤◌, ℕ, min, ◌+◌, ◌-◌, not, ◌&&◌, ◌==◌, nat_lt, if◌then◌else◌, true, List, [], ◌∷◌, ◌++◌, filter, fold, count_by, option_map, Option, Some, None, IsSomeAnd, MatchOption}
 use Rattle.av_base.specs.Words.{how_many, numbers, with_at}
 use Rattle.av_base.specs.declared.slot.Slot.{Slot}
 use Rattle.av_clusters.specs.Clusters.{Slots, fresh, take_slot, give_slot, is_free as is_free_page, is_taken, page_at}
+use Rattle.av_swapdev.specs.Device.{most_pages}
 use Rattle.av_swapdev.specs.Header.{Layout}
 use Rattle.av_trace.specs.declared.note.Note.{Note}
 use Rattle.av_trace.specs.declared.note.Note.TheVariants.{New, Copied, Loaded, Put}
@@ -77,11 +79,12 @@ IsGiven m closing l s slots slots' =
     (λ t. (t.0 ≡ s.page) × (slots' ≡ with_at s.area t.1 slots))
 
 -- clusters from which nothing is given yet, made of the header where it is told; else of page 0 and
--- as many slots and bad pages as is said, in some order, at most the area's pages
+-- as many slots and bad pages as is said, at most the area's pages and those of a header
 abbrev pub AreFresh : Setting → ℕ → SwapArea → Slots → Type 0
 AreFresh m k area made =
     MatchOption m.headers
-    ((pages : ℕ) × (bad : List ℕ) × (pages ≤ size_of m k) × (1 + area.slots + area.bad ≡ pages)
+    ((pages : ℕ) × (bad : List ℕ) × (pages ≤ min (size_of m k) most_pages)
+    × (1 + area.slots + area.bad ≡ pages)
     × (made ≡ fresh pages bad) × (count_by is_free_page made.pages ≡ area.slots))
     (λ headers. IsSomeAnd (headers k)
     (λ (h : Layout). HasNumbers area h × (made ≡ fresh h.pages h.bad)))
@@ -114,7 +117,7 @@ ChoosesSlot m closing l e slots slots' =
 
 -- ---- both
 
--- what is free before and after one event, while the area is closing
+-- what is free before and after one event, while that area, if any, is closing
 pub record Chooses (m : Setting) (closing : Option ℕ) (l : Ledger) (e : Event) (free free' : Free)
     : Type 0 where
   pub frames : ChoosesFrame m l e free.frames free'.frames
@@ -131,8 +134,8 @@ abbrev pub ListsFree : Setting → Ledger → List ℕ → Type 0
 ListsFree m l free = (f : ℕ) →
     how_many (λ g. f == g) free ≡ (if is_free l f && nat_lt f m.frames then 1 else 0)
 
--- in the slots of each area a page is taken exactly where its slot is in use, and only free slots
--- are free: as many as the area has
+-- in the slots of each area a page is taken exactly where its slot is in use, and free only where
+-- the ledger has its slot free: as many as the area has free
 pub record ListsSlots (m : Setting) (l : Ledger) (slots : AreaSlots) : Type 0 where
   pub taken : (s : Slot)
       → is_taken (page_at (slots s.area).pages s.page) ≡ nat_lt 0 (slot_count l s)

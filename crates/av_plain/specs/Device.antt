@@ -34,8 +34,8 @@ headers_of d =
 abbrev pub setting_of : ℕ → Device → Setting
 setting_of frames d = record { frames = frames; sizes = d.sizes; headers = headers_of d }
 
--- one device at two times: its areas have the sizes that they had, and page 0 of each is as it was;
--- its count of faults never falls
+-- one device at two times: its areas have the sizes that they had, and page 0 of each, where pages
+-- are told, is as it was; its count of faults never falls
 pub record IsSameDevice (old new : Device) : Type 0 where
   pub sizes : new.sizes ≡ old.sizes
   pub first : first_pages new ≡ first_pages old

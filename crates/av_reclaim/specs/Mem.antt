@@ -36,7 +36,7 @@ plain (Away s) = Some (record { entry = InSlot s; write = false })
 abbrev pub ranges_of : Spaces → ℕ → Option (List Range)
 ranges_of spaces p = option_map (map range_of) (areas_of spaces p)
 
--- what is kept of an anon_vma, with the chain of the areas that have it as their own
+-- an anon_vma's root and parent, with the chain of the areas that have it as their own
 abbrev pub anon_vma : List ℕ → Info → AnonVma
 anon_vma chain info = record { root = info.root; parent = info.parent; chain = chain }
 
