@@ -3,8 +3,8 @@
 //! `Areas` holds the areas of all processes by number, a `Tree` the spans of one process's areas,
 //! and `Anons` the anon_vmas of all. Every call here changes the three together. Pages go by
 //! number, which is their address over the size of a page. A call takes time logarithmic in the
-//! number of the process's areas, times the number of areas in its range or beside it, and for each of these
-//! that has a chain time for each of its nodes.
+//! number of the process's areas, times the number of areas in its range or beside it, and for each
+//! of these that has a chain time for each of its nodes.
 //!
 //! A split links the upper part to the whole chain. Two areas become one where they are mergeable;
 //! where only one has an anon_vma, its chain has one node, and the other's pages get that. An area

@@ -1,6 +1,6 @@
 -- The areas of each process and the anon_vmas, beside the memories, and what a command makes of
--- them: by the areas, chains and memories before it, the command and its answer. No command makes an
--- anon_vma yet: in a run from nothing there is none, and what is said of chains binds steps from
+-- them: by the areas, chains and memories before it, the command and its answer. No command makes
+-- an anon_vma yet: in a run from nothing there is none, and what is said of chains binds steps from
 -- states that have some. They are not part of what makes a reply legal.
 use Rattle.std.specs.Prelude.{◌≡◌, ℕ, ◌+◌, if◌then◌else◌, true, List, [], length, Option, Some, None, IsSome, IsSomeAnd}
 use Rattle.std.specs.Option.{option_map_or}

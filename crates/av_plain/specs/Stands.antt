@@ -121,8 +121,8 @@ pub record AreasStand (v : View) (w : World) : Type 0 where
 abbrev pub kin_of : AnonVma → ℕ × ℕ
 kin_of v = (v.root, v.parent)
 
--- the anon_vmas are these, with their kin; and each own anon_vma of an area has the chain that these
--- say. (That an area's links are that chain is chain order, which is the kernel's.)
+-- the anon_vmas are these, with their kin; and each own anon_vma of an area has the chain that
+-- these say. (That an area's links are that chain is chain order, which is the kernel's.)
 pub record AnonsStand (v : View) (areas : Areas) (anons : Anons) : Type 0 where
   pub next : v.anons.next ≡ anons.next
   pub kin : (n : ℕ) → option_map kin_of (v.anons.anon n) ≡ option_map kin_of (anons.anon n)

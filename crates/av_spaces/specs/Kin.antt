@@ -41,8 +41,8 @@ pub record AnonsFit (s : AllSpaces) (anons : Anons) : Type 0 where
   pub linked : (v : ℕ) → IsLinkedIn s anons v → IsSome (info_of anons v)
   pub own : (v : ℕ) → IsOwnedIn s v → is_in v (chain_on s anons (Some v)) ≡ true
 
--- after a change of areas: no anon_vma is made, and none changes its root or parent; an area's own one is one that some
--- area had, and has the chain that it had
+-- after a change of areas: no anon_vma is made, and none changes its root or parent; an area's own
+-- one is one that some area had, and has the chain that it had
 pub record AnonsStay (s : AllSpaces) (old : Anons) (s' : AllSpaces) (new : Anons) : Type 0 where
   pub fit : AnonsFit s' new
   pub next : new.next ≡ old.next
