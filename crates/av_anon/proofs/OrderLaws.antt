@@ -65,7 +65,7 @@ order-spans areas f spans spans' o g = record {
 -- ---- prepare
 
 -- a chain of one node that holds v
-single : (v : ℕ) (xs : List ℕ) → length xs ≡ 1 → is_in v xs ≡ true → xs ≡ v ∷ []
+pub single : (v : ℕ) (xs : List ℕ) → length xs ≡ 1 → is_in v xs ≡ true → xs ≡ v ∷ []
 single v [] one h = absurd (omega arith)
 single v (x ∷ []) one h = ap (λ y. y ∷ []) (sym (eqb-true v x (last (v == x) h)))
   where

@@ -1,5 +1,5 @@
 //! The chain of a child's area at fork (Linux's anon_vma_fork), and of a copy (anon_vma_clone).
-ghost use Rattle.std.specs.Prelude.{◌≡◌, ℕ, ◌<◌, ◌^◌, Some, None, IsSome, IfOk, OnOk, OnErr};
+ghost use Rattle.std.specs.Prelude.{◌≡◌, ℕ, Some, None, IsSome, IfOk, OnOk, OnErr};
 ghost use Rattle.av_vma.specs.Areas.{area_of};
 ghost use Rattle.av_anon.specs.Anons.{family, own_of};
 ghost use Rattle.av_anon.specs.Fork.{child_chain, child_family, child_own, after_clone, after_fork, own_after_fork, gets_own, is_idle, member_to_reuse};
@@ -60,7 +60,6 @@ impl Anons {
         requires src { IsSome (area_of areas.old src) }
         requires dst { IsSome (area_of areas.old dst) }
         requires none { own_of (area_of areas.old dst) ≡ None }
-        requires room { self.old.next < 2 ^ 60 }
         ensures family { OnOk result (family self.new
             ≡ after_fork (own_of (area_of areas.old src)) src dst (family self.old)) }
         ensures areas { let f = family self.old in
@@ -91,8 +90,7 @@ impl Anons {
     // The child's own anon_vma: the lowest idle member of the chain, else a new one, which joins
     // it.
     fn own_for_child(&mut self, own: u64, chain: &mut Vec<u64>) -> Result<u64, AllocError>
-        requires there { IsSome (info_in self.old.infos own) }
-        requires room { self.old.next < 2 ^ 60 }
+        requires { IsSome (info_in self.old.infos own) }
         ensures anon { let reuse = member_to_reuse (info_in self.old.infos) chain.old.items in
             IfOk result (λ v. v ≡ child_own reuse self.old.next) }
         ensures chain { let reuse = member_to_reuse (info_in self.old.infos) chain.old.items in
@@ -116,16 +114,16 @@ impl Anons {
 
     // Makes an anon_vma below another one, with that one's root and one active area.
     fn make_child(&mut self, parent: u64) -> Result<u64, AllocError>
-        requires there { IsSome (info_in self.old.infos parent) }
-        requires room { self.old.next < 2 ^ 60 }
+        requires { IsSome (info_in self.old.infos parent) }
         ensures anon { IfOk result (λ v. v ≡ self.old.next) }
         ensures family { OnOk result (family self.new
             ≡ child_family None parent (family self.old)) }
         ensures spans { self.new.spans ≡ self.old.spans }
     {
+        let anon = self.next;
+        let next = anon.checked_add(1).ok_or(AllocError)?;
         let root = self.info(parent).root;
         self.infos.count_children_up(parent)?;
-        let anon = self.next;
         let info = Info {
             root,
             parent,
@@ -133,7 +131,7 @@ impl Anons {
             active: 1,
         };
         self.infos.put(anon, info)?;
-        self.next = anon + 1;
+        self.next = next;
         Ok(anon)
     }
 }

@@ -1,5 +1,5 @@
 //! An area gets its own anon_vma at its first fault (Linux's anon_vma_prepare).
-ghost use Rattle.std.specs.Prelude.{◌≡◌, ℕ, ◌<◌, ◌^◌, true, [], Some, None, IsSome, IfOk, OnErr, OnOk};
+ghost use Rattle.std.specs.Prelude.{◌≡◌, ℕ, true, [], Some, None, IsSome, IfOk, OnErr, OnOk};
 ghost use Rattle.av_base.specs.Words.{is_in};
 ghost use Rattle.av_vma.specs.Areas.{area_of};
 ghost use Rattle.av_chain.specs.Links.{chain_of};
@@ -22,7 +22,7 @@ use std::alloc::AllocError;
 
 impl Anons {
     /// Gives an area without anon_vma its own: that of the area after it, else of the one before,
-    /// where it may take it; else a new root. Without memory no area changes.
+    /// where it may take it; else a new root. Without memory, or a number for it, no area changes.
     pub fn prepare(
         &mut self,
         areas: &mut Areas,
@@ -35,7 +35,6 @@ impl Anons {
         requires none { own_of (area_of areas.old area) ≡ None }
         requires before { MayStand (area_of areas.old) before }
         requires after { MayStand (area_of areas.old) after }
-        requires room { self.old.next < 2 ^ 60 }
         ensures family { let f = family self.old in
             let loan = loan_to (area_of areas.old) f.chain area before after in
             OnOk result (family self.new ≡ after_prepare area loan f) }
@@ -64,8 +63,7 @@ impl Anons {
 
     // The anon_vma that is lent, which has an active area more; else a new root.
     fn own_from(&mut self, loan: Option<u64>) -> Result<u64, AllocError>
-        requires there { (v : ℕ) → loan ≡ Some v → IsSome (info_in self.old.infos v) }
-        requires room { self.old.next < 2 ^ 60 }
+        requires { (v : ℕ) → loan ≡ Some v → IsSome (info_in self.old.infos v) }
         ensures anon { IfOk result (λ v. v ≡ own_after_prepare loan (family self.old)) }
         ensures family { OnOk result (family self.new ≡ kin_after_prepare loan (family self.old)) }
         ensures spans { self.new.spans ≡ self.old.spans }
@@ -81,12 +79,12 @@ impl Anons {
 
     // Makes an anon_vma that is its own root and parent, and has one active area.
     fn make_root(&mut self) -> Result<u64, AllocError>
-        requires { self.old.next < 2 ^ 60 }
         ensures number { IfOk result (λ v. v ≡ self.old.next) }
         ensures family { OnOk result (family self.new ≡ new_root (family self.old)) }
         ensures spans { self.new.spans ≡ self.old.spans }
     {
         let anon = self.next;
+        let next = anon.checked_add(1).ok_or(AllocError)?;
         let info = Info {
             root: anon,
             parent: anon,
@@ -94,7 +92,7 @@ impl Anons {
             active: 1,
         };
         self.infos.put(anon, info)?;
-        self.next = anon + 1;
+        self.next = next;
         Ok(anon)
     }
 

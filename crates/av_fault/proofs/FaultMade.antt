@@ -12,7 +12,8 @@ use Rattle.av_plain.specs.Event.{after_note, set_entry, to_inactive_head}
 use Rattle.av_plain.specs.Device.{no_device}
 use Rattle.av_plain.proofs.Pass.{takes-alone}
 use Rattle.av_plain.specs.Fault.{sparing, NewPage, CopyOnWrite, need}
-use Rattle.av_plain.specs.Stands.{prot_of, ranges_in, Holds, IsKept}
+use Rattle.av_plain.specs.Stands.{View, prot_of, ranges_in, Holds, IsKept}
+use Rattle.av_vma.specs.Pages.{pages_in}
 use Rattle.av_plain.specs.Transcript.{State}
 use Rattle.av_plain.proofs.Ledger.Order.{weight}
 use Rattle.av_plain.proofs.Ledger.NoSwap.{itself, key_at-page, free_is, zero_is}
@@ -26,7 +27,7 @@ use Rattle.av_fault.proofs.FaultParts.{of_keeps, no_swap}
 use Rattle.av_fault.proofs.FaultEntries.{given_to}
 use Rattle.av_reclaim.proofs.MemLaws.{equal_is, frames_free}
 use Rattle.av_fault.proofs.FaultServes.{is_bare, bare_entry, bare_frame, bare_slot, need_fresh, need_split, serves, out_is}
-use Rattle.av_fault.proofs.FaultTouched.{given_now, starved}
+use Rattle.av_fault.proofs.FaultTouched.{IsServed, anons_still, given_now, starved, to_touched}
 use Rattle.av_fault.proofs.FaultSafe.{named_frame}
 
 -- the ledger after either note
@@ -61,7 +62,7 @@ module _ (s : State) (old new : Mem) (p page : ℕ) (notes : List Note) (keeps :
         clash : {g : ℕ} → None ≡ Some g → ⊥
         clash e = cc
 
-    pub new_made : (f : ℕ) (now : List Note) → now ≡ notes ++ New p (4096 * page) f ∷ [] → IsTaken old new p page f (λ i. 0) (one_more f (view old).maps) → IsTouched s new true (p, page) notes now (ReadyAt f)
+    pub new_made : (f : ℕ) (now : List Note) → now ≡ notes ++ New p (4096 * page) f ∷ [] → IsTaken old new p page f (λ i. 0) (one_more f (view old).maps) → IsServed s new true (p, page) notes now (New p (4096 * page) f ∷ []) (ReadyAt f)
     new_made f now added is = given_now s old new p page notes keeps processes same order now (New p (4096 * page) f) f (λ i. 0) (one_more f (view old).maps) added is allowed (new_is p page f s.ledger) refl
         (sym keeps.stands.free ∙ ap frames_free is.first)
         (serves (setting (count old)) (sparing s.world) s.ledger true (p, page) (New p (4096 * page) f ∷ []) NewPage (need_fresh s.ledger (entry s.ledger (p, page)) is_bare_now) refl
@@ -103,8 +104,8 @@ module _ (s : State) (old new : Mem) (p page : ℕ) (notes : List Note) (keeps :
         inner : {x y : ℕ} → Some x ≡ Some y → x ≡ y
         inner e = cc
 
-    pub copy_made : (f : ℕ) (now : List Note) → now ≡ notes ++ Copied p (4096 * page) f ∷ [] → IsTaken old new p page f ((view old).bytes from) (one_less from (one_more f (view old).maps)) → IsTouched s new true (p, page) notes now (ReadyAt f)
-    copy_made f now added is = given_now s old new p page notes keeps processes same order now (Copied p (4096 * page) f) f ((view old).bytes from) (one_less from (one_more f (view old).maps)) added is allowed (copied_is p page f s.ledger) refl
+    copy_served : (f : ℕ) (now : List Note) → now ≡ notes ++ Copied p (4096 * page) f ∷ [] → IsTaken old new p page f ((view old).bytes from) (one_less from (one_more f (view old).maps)) → IsServed s new true (p, page) notes now (Copied p (4096 * page) f ∷ []) (ReadyAt f)
+    copy_served f now added is = given_now s old new p page notes keeps processes same order now (Copied p (4096 * page) f) f ((view old).bytes from) (one_less from (one_more f (view old).maps)) added is allowed (copied_is p page f s.ledger) refl
         (sym keeps.stands.free ∙ ap frames_free is.first)
         (serves (setting (count old)) (sparing s.world) s.ledger true (p, page) (Copied p (4096 * page) f ∷ []) (CopyOnWrite from) splits refl
         (takes-alone (setting (count old)) (sparing s.world s.ledger (Some from)) s.ledger f (Copied p (4096 * page)) (no_swap (setting (count old)) (view old) s.world s.ledger (of_keeps old s keeps)) is.below (free_now f is.below is.first)) (of_keeps old s keeps).cache)
@@ -144,3 +145,11 @@ module _ (s : State) (old new : Mem) (p page : ℕ) (notes : List Note) (keeps :
           where
             equal : (x k n : ℕ) {d : ℕ} → x ≡ n → k ≡ 0 → d ≡ 0 → x + k ≡ n + d
             equal x k n a b r = omega arith
+
+    pub copy_made : (f : ℕ) (now : List Note) → now ≡ notes ++ Copied p (4096 * page) f ∷ [] → IsTaken old new p page f ((view old).bytes from) (one_less from (one_more f (view old).maps)) → IsTouched s new true (p, page) notes now (ReadyAt f)
+    copy_made f now added is =
+        let served = copy_served f now added is in
+        to_touched s new new true (p, page) notes now (Copied p (4096 * page) f ∷ []) (ReadyAt f) served refl refl served.parts (record {
+          areas = λ q o. ap (λ (v : View). pages_in (v.areas q) o) is.view ∙ keeps.stands.areas q o;
+          anons = anons_still (view old) (view new) s.areas s.anons (ap (λ (v : View). v.anons) is.view) keeps.stands.anons;
+        })

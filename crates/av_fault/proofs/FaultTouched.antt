@@ -11,26 +11,27 @@ use Rattle.av_trace.specs.declared.note.Note.TheVariants.{Aged, Copied, Dropped,
 use Rattle.av_pagetable.specs.Entries.{has}
 use Rattle.av_plain.specs.World.{World, pages}
 use Rattle.av_plain.specs.Ledger.{Ledger, Setting, is_free, Key, key_cmp, Entry, Zero, InFrame, entry, map_count, names_frame, names_slot}
-use Rattle.av_plain.specs.Event.{Event, Noted, Used, after_note, after_use, after_use_of, set_entry, if_some, with_stale}
+use Rattle.av_plain.specs.Event.{Event, Noted, Used, after_all, after_note, after_use, after_use_of, set_entry, if_some, with_stale}
 use Rattle.av_plain.specs.Pass.{out_of}
 use Rattle.av_plain.specs.Fault.{Serves, Touches, Starved, sparing, need, Need, Ready, ZeroPage, wants_frame, pinned_by, permits}
 use Rattle.av_plain.specs.Access.{page_events}
 use Rattle.av_plain.specs.Choice.{AreaSlots, Chooses, ChoosesAll, ChoosesSlot, SwitchesArea, frame_in_note, new_free, no_slots, slot_in, slot_in_note}
 use Rattle.av_plain.proofs.Choice.{chooses-kept, chooses-taken, no-slot-chosen, new_free-none, new_free-set}
 use Rattle.av_plain.specs.Stands.{AnonsStand, kin_of, AreasAre, View, Pte as Plain, free_of, prot_of, ranges_in, Holds}
-use Rattle.av_plain.specs.Transcript.{State}
+use Rattle.av_plain.specs.Transcript.{State, rmap_of}
 use Rattle.av_plain.proofs.Ledger.Order.{weight}
 use Rattle.av_plain.proofs.Ledger.{same_key-is, same_key-itself, entry-set, map_count-set}
 use Rattle.av_plain.proofs.Ledger.NoSwap.{key_at-page, key_is, no_slot, free_is}
 use Rattle.av_reclaim.specs.declared.mem.Mem.{Mem}
 use Rattle.av_fault.specs.declared.fault.Stop.TheVariants.{Segv, Oom}
+use Rattle.av_fault.specs.declared.fault.Touched.{Touched}
 use Rattle.av_fault.specs.declared.fault.Touched.TheVariants.{Ready as ReadyAt, Zeros, Stopped}
 use Rattle.av_vma.specs.Pages.{pages_in}
 use Rattle.av_reclaim.proofs.MemLaws.{frames_free}
-use Rattle.av_plain.specs.Areas.{Anons, Areas, chain_of}
+use Rattle.av_plain.specs.Areas.{Anons, Areas, chain_of, prepare_all}
 use Rattle.av_spaces.specs.Kin.{AnonsFit}
 use Rattle.av_reclaim.specs.Mem.{setting, count, view, Keeps, KeepsWithin, HasTables}
-use Rattle.av_fault.specs.Fault.{is_permitted, IsTouched, IsTaken}
+use Rattle.av_fault.specs.Fault.{HasRmap, IsReady, end_of, is_permitted, IsTouched, IsTaken}
 use Rattle.av_fault.proofs.FaultParts.{Parts, changed, as_pte, of_keeps, to_stand, no_swap}
 use Rattle.av_fault.proofs.FaultEntries.{at_most_one, zeroed, seen, given, given_to, entry_given, once_named}
 use Rattle.av_fault.proofs.FaultServes.{allowed_is, there_is, serves, need_ready, runs_out, nothing_free}
@@ -139,6 +140,28 @@ anons_still v v' areas anons same h = record {
   chains = λ p page. subst (λ (a : Anons). IfSome (areas p page) (λ area. chain_of a area.anon ≡ chain_of anons area.anon)) (sym same) (h.chains p page);
 }
 
+-- a page is made ready, before its area prepares its anon_vma
+pub record IsServed (s : State) (mid : Mem) (write : Bool) (k : Key) (before now added : List Note) (touched : Touched) : Type 0 where
+  pub notes : now ≡ before ++ added
+  pub touches : Touches (setting (count mid)) s.world s.ledger write k added (end_of touched)
+  pub ready : IsReady write (after_all s.ledger (page_events write k added (end_of touched))) k touched
+  pub parts : KeepsWithin mid s.world (after_all s.ledger (page_events write k added (end_of touched)))
+  pub free : ChoosesAll (setting (count mid)) None s.ledger (page_events write k added (end_of touched)) s.free (free_of (view mid))
+
+-- and after it has
+pub to_touched : (s : State) (mid new : Mem) (write : Bool) (k : Key) (before now added : List Note) (touched : Touched) → IsServed s mid write k before now added touched → count mid ≡ count new → free_of (view mid) ≡ free_of (view new)
+    → KeepsWithin new s.world (after_all s.ledger (page_events write k added (end_of touched))) → HasRmap new (prepare_all (page_events write k added (end_of touched)) (rmap_of s)) → IsTouched s new write k before now touched
+to_touched s mid new write k before now added touched h same free parts rmap = record {
+  added = added;
+  notes = h.notes;
+  touches = subst (λ n. Touches (setting n) s.world s.ledger write k added (end_of touched)) same h.touches;
+  ready = h.ready;
+  parts = parts;
+  free = subst (λ n. ChoosesAll (setting n) None s.ledger (page_events write k added (end_of touched)) s.free (free_of (view new))) same
+      (subst (ChoosesAll (setting (count mid)) None s.ledger (page_events write k added (end_of touched)) s.free) free h.free);
+  rmap = rmap;
+}
+
 module _ (s : State) (old new : Mem) (p page : ℕ) (notes : List Note) (keeps : Keeps old s) where
   parts : Parts (setting (count old)) (view old) s.world s.ledger
   parts = of_keeps old s keeps
@@ -152,8 +175,7 @@ module _ (s : State) (old new : Mem) (p page : ℕ) (notes : List Note) (keeps :
     ready = tt;
     parts = to_stand old s.world s.ledger (of_keeps old s keeps) keeps.tables keeps.anons;
     free = keeps.stands.free;
-    areas = keeps.stands.areas;
-    anons = keeps.stands.anons;
+    rmap = record { areas = keeps.stands.areas; anons = keeps.stands.anons };
   }
 
   -- its entry is zeros, at a read
@@ -167,8 +189,7 @@ module _ (s : State) (old new : Mem) (p page : ℕ) (notes : List Note) (keeps :
         ready = (ap (λ l. entry l (p, page)) still ∙ is, refl);
         parts = subst (KeepsWithin old s.world) (sym still) (to_stand old s.world s.ledger (of_keeps old s keeps) keeps.tables keeps.anons);
         free = (s.free, chooses-kept (setting (count old)) None s.ledger (Used false (p, page)) s.free (unslotted (count old) s.ledger (Used false (p, page)) s.free.slots refl refl) refl (none_freed (setting (count old)) s.ledger (after_use false (p, page) s.ledger) still), keeps.stands.free);
-        areas = keeps.stands.areas;
-        anons = keeps.stands.anons;
+        rmap = record { areas = keeps.stands.areas; anons = keeps.stands.anons };
       }
 
   module _ (processes : has new.tables ≡ has old.tables) (same : count new ≡ count old) (order : AnonsFit new.spaces new.anons) where
@@ -183,8 +204,7 @@ module _ (s : State) (old new : Mem) (p page : ℕ) (notes : List Note) (keeps :
       ready = tt;
       parts = stand_now old new s.world s.ledger (view old) is same (of_keeps old s keeps) (tables_still old new keeps.tables processes (ap (λ (v : View). v.areas) is)) order;
       free = ap free_of is ∙ keeps.stands.free;
-      areas = λ q o. ap (λ (v : View). pages_in (v.areas q) o) is ∙ keeps.stands.areas q o;
-      anons = anons_still (view old) (view new) s.areas s.anons (ap (λ (v : View). v.anons) is) keeps.stands.anons;
+      rmap = record { areas = λ q o. ap (λ (v : View). pages_in (v.areas q) o) is ∙ keeps.stands.areas q o; anons = anons_still (view old) (view new) s.areas s.anons (ap (λ (v : View). v.anons) is) keeps.stands.anons };
     }
 
     -- its entry is a frame, which a write has for itself; it is marked as seen
@@ -210,8 +230,7 @@ module _ (s : State) (old new : Mem) (p page : ℕ) (notes : List Note) (keeps :
             chooses-kept (setting (count old)) None s.ledger (Used write (p, page)) s.free (unslotted (count old) s.ledger (Used write (p, page)) s.free.slots refl refl) refl (seen_frees_none (setting (count old)) s.ledger (after_use write (p, page) s.ledger) (p, page) f was use_is (of_keeps old s keeps).in_order named),
             ap free_of is ∙ keeps.stands.free,
           );
-          areas = λ q o. ap (λ (v : View). pages_in (v.areas q) o) is ∙ keeps.stands.areas q o;
-          anons = anons_still (view old) (view new) s.areas s.anons (ap (λ (v : View). v.anons) is) keeps.stands.anons;
+          rmap = record { areas = λ q o. ap (λ (v : View). pages_in (v.areas q) o) is ∙ keeps.stands.areas q o; anons = anons_still (view old) (view new) s.areas s.anons (ap (λ (v : View). v.anons) is) keeps.stands.anons };
         }
       where
         needs : (write : Bool) → (write ≡ true → map_count s.ledger f ≤ 1) → need write s.ledger (entry s.ledger (p, page)) ≡ Ready
@@ -246,8 +265,7 @@ module _ (s : State) (old new : Mem) (p page : ℕ) (notes : List Note) (keeps :
                 ap free_of is ∙ keeps.stands.free,
               ),
             );
-            areas = λ q o. ap (λ (v : View). pages_in (v.areas q) o) is ∙ keeps.stands.areas q o;
-            anons = anons_still (view old) (view new) s.areas s.anons (ap (λ (v : View). v.anons) is) keeps.stands.anons;
+            rmap = record { areas = λ q o. ap (λ (v : View). pages_in (v.areas q) o) is ∙ keeps.stands.areas q o; anons = anons_still (view old) (view new) s.areas s.anons (ap (λ (v : View). v.anons) is) keeps.stands.anons };
           }
 
       -- it gets a frame that was free
@@ -257,7 +275,7 @@ module _ (s : State) (old new : Mem) (p page : ℕ) (notes : List Note) (keeps :
           → ((g : ℕ) → maps g + weight (names_frame g) (entry s.ledger (p, page)) ≡ (view old).maps g + cond (g == f) 1 0)
           → ((g : ℕ) → 0 < weight (names_frame g) (entry s.ledger (p, page)) → 1 < (view old).maps g)
           → ((t : Slot) → weight (names_slot t) (entry s.ledger (p, page)) ≡ 0)
-          → IsTouched s new true (p, page) notes now (ReadyAt f)
+          → IsServed s new true (p, page) notes now (note ∷ []) (ReadyAt f)
       given_now note f bytes maps added is allowed note_is takes first lawful holds counts many no_slot =
           let m = setting (count old) in
           let old_parts = of_keeps old s keeps in
@@ -268,7 +286,6 @@ module _ (s : State) (old new : Mem) (p page : ℕ) (notes : List Note) (keeps :
           let named : entry mid (p, page) ≡ Some (InFrame f false) = entry_given p page f s.ledger in
           let after : after_use true (p, page) (after_note note s.ledger) ≡ set_entry (p, page) (InFrame f true) mid = ap (after_use true (p, page)) note_is ∙ used_is true mid (p, page) f false old_parts.cache named in
           record {
-            added = note ∷ [];
             notes = added;
             touches = subst (λ c. Touches (setting c) s.world s.ledger true (p, page) (note ∷ []) None) (sym same) (permit, lawful);
             ready = (
@@ -290,6 +307,4 @@ module _ (s : State) (old new : Mem) (p page : ℕ) (notes : List Note) (keeps :
                 refl,
               ),
             );
-            areas = λ q o. ap (λ (v : View). pages_in (v.areas q) o) is.view ∙ keeps.stands.areas q o;
-            anons = anons_still (view old) (view new) s.areas s.anons (ap (λ (v : View). v.anons) is.view) keeps.stands.anons;
           }

@@ -14,7 +14,8 @@ use Rattle.av_plain.specs.Fault as faults
 use Rattle.av_plain.specs.Fault.{Touches, Denied, Starved}
 use Rattle.av_plain.specs.Access.{page_events}
 use Rattle.av_plain.specs.Choice.{ChoosesAll}
-use Rattle.av_plain.specs.Transcript.{State}
+use Rattle.av_plain.specs.Areas.{Rmap, prepare_all}
+use Rattle.av_plain.specs.Transcript.{State, rmap_of}
 use Rattle.av_plain.specs.Stands.{View, AnonsStand, AreasAre, free_of}
 use Rattle.av_reclaim.specs.declared.mem.Mem.{Mem}
 use Rattle.av_reclaim.specs.Mem.{setting, count, plain, view, Keeps, KeepsWithin}
@@ -42,6 +43,11 @@ IsReady write l k (Ready f) =
 IsReady write l k Zeros = (entry l k ≡ Some Zero) × (write ≡ false)
 IsReady write l k (Stopped stop) = Unit {0}
 
+-- the areas and anon_vmas of the kernel are these
+pub record HasRmap (new : Mem) (r : Rmap) : Type 0 where
+  pub areas : AreasAre (view new) r.areas
+  pub anons : AnonsStand (view new) r.areas r.anons
+
 -- these notes were added, and they make the page ready or say why not; the kernel's parts stand
 -- after them and the page's use, but that a write has stored no byte yet
 pub record IsTouched (s : State) (new : Mem) (write : Bool) (k : Key) (before now : List Note)
@@ -55,8 +61,8 @@ pub record IsTouched (s : State) (new : Mem) (write : Bool) (k : Key) (before no
       (after_all s.ledger (page_events write k added (end_of touched)))
   pub free : ChoosesAll (setting (count new)) None s.ledger
       (page_events write k added (end_of touched)) s.free (free_of (view new))
-  pub areas : AreasAre (view new) s.areas
-  pub anons : AnonsStand (view new) s.areas s.anons
+  pub rmap : HasRmap new
+      (prepare_all (page_events write k added (end_of touched)) (rmap_of s))
 
 -- whatever stood before: the page is made ready or not, and there are as many frames
 pub record MakesReady (old new : Mem) (write : Bool) (k : Key) (before now : List Note)

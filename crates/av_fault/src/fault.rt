@@ -182,7 +182,7 @@ fn make_zero(
     Ok(Touched::Zeros)
 }
 
-/// Gives a page without a frame one of zeros.
+/// Gives a page without a frame one of zeros; its area prepares its anon_vma.
 fn make_new(
     mem: &mut Mem,
     process: u16,
@@ -200,6 +200,7 @@ fn make_new(
     let Some(frame) = take_zeros(mem, process, page)? else {
         return Ok(Touched::Stopped(Stop::Oom(out_of(mem, 0))));
     };
+    mem.spaces.prepare(&mut mem.anons, process, page)?;
     notes.push(Note::New {
         process,
         address: PAGE_SIZE * page,

@@ -10,7 +10,9 @@ use Rattle.av_plain.specs.Access.{Accesses, End, Whole, Stopped, page_events, pa
 use Rattle.av_plain.specs.Fault as faults
 use Rattle.av_plain.specs.Fault.{Touches, is_allowed}
 use Rattle.av_plain.specs.Choice.{ChoosesAll, Free}
-use Rattle.av_plain.specs.Transcript.{State}
+use Rattle.av_plain.specs.Areas.{Rmap, prepare_all}
+use Rattle.av_plain.specs.Transcript.{State, rmap_of}
+use Rattle.av_plain.proofs.AreasLeft.{prepare_all-append}
 use Rattle.av_plain.proofs.Access.{after_all-append, notes_of-append, notes_of-note_events, chooses-append, accesses-append, alike-by-allowed}
 use Rattle.av_reclaim.specs.declared.mem.Mem.{Mem}
 use Rattle.av_fault.specs.declared.fault.Stop.{Stop}
@@ -90,6 +92,9 @@ module _ (s : State) (mid new : Mem) (write : Bool) (p a k page at : ℕ) (xs ys
   ledger-both : (more : List Event) (l : Ledger) → l ≡ after_all h.next.ledger more → l ≡ after_all s.ledger (h.events ++ more)
   ledger-both more l is = is ∙ ap (λ x. after_all x more) h.ledger ∙ sym (after_all-append s.ledger h.events more)
 
+  rmap-both : (more : List Event) (r : Rmap) → r ≡ prepare_all more (rmap_of h.next) → r ≡ prepare_all (h.events ++ more) (rmap_of s)
+  rmap-both more r is = is ∙ ap (prepare_all more) h.rmap ∙ sym (prepare_all-append h.events more (rmap_of s))
+
   -- by m bytes of the page
   goes_on : (m : ℕ) → at + m ≤ 4096 → 1 ≤ m → (write ≡ true → length xs ≡ k) → IsPageStep h.next new write p page at ys now after None
       → IsAccess s new write p a (k + m) (xs ++ ys) before after None (k + m)
@@ -104,8 +109,7 @@ module _ (s : State) (mid new : Mem) (write : Bool) (p a k page at : ℕ) (xs ys
     world = g.world ∙ ap (world_after write p page at ys None) h.world ∙ served_twice s.world write p a page at xs ys (λ is. behind.is ∙ ap (λ n. a + n) (sym (long is)));
     ledger = ledger-both _ _ g.ledger;
     free = free-both _ _ g.free;
-    areas = g.areas ∙ h.areas;
-    anons = g.anons ∙ h.anons;
+    rmap = rmap-both _ _ g.rmap;
     keeps = g.keeps;
   }
 
@@ -123,8 +127,7 @@ module _ (s : State) (mid new : Mem) (write : Bool) (p a k page at : ℕ) (xs ys
     world = g.world ∙ stop_answer-world write p page at ys stop h.next.world ∙ h.world;
     ledger = ledger-both _ _ g.ledger;
     free = free-both _ _ g.free;
-    areas = g.areas ∙ h.areas;
-    anons = g.anons ∙ h.anons;
+    rmap = rmap-both _ _ g.rmap;
     keeps = g.keeps;
   }
     where

@@ -13,18 +13,19 @@ use Rattle.av_plain.specs.World.{World, lives, pages}
 use Rattle.av_plain.specs.Access.{Accesses, Whole, Stopped, pages_of_access, bytes_before, stop_answer, Reads, after_write}
 use Rattle.av_plain.specs.Step.{next}
 use Rattle.av_plain.specs.Choice.{ChoosesAll}
-use Rattle.av_plain.specs.Transcript.{State}
+use Rattle.av_plain.specs.Transcript.{State, rmap_of}
 use Rattle.av_plain.specs.Event.{Event, notes_of}
 use Rattle.av_reclaim.specs.declared.mem.Mem.{Mem}
 use Rattle.av_fault.specs.declared.fault.Stop.{Stop}
 use Rattle.av_fault.specs.declared.fault.Stop.TheVariants.{Segv, Oom}
-use Rattle.av_plain.specs.Areas.{AreNext, Areas}
+use Rattle.av_vma.specs.Pages.{Lengths}
+use Rattle.av_plain.specs.Areas.{AreNext, Areas, Rmap, chain_length, next_areas, prepare_all}
 use Rattle.av_trace.specs.declared.command.Command.{Command}
 use Rattle.av_reclaim.specs.Mem.{Keeps, setting, count}
 use Rattle.av_fault.specs.Fault.{stop_of}
 use Rattle.av_kernel.specs.Step.{MemSteps}
 use Rattle.av_kernel.specs.Access.{IsAccess, answer_of}
-use Rattle.av_kernel.proofs.StepLaws.{areas_kept}
+use Rattle.av_kernel.proofs.StepLaws.{left_alone}
 
 -- the process lives, so that the command is not refused
 not_refused : (lived : Bool) (Follow : Type 0) (Refuse : Errno → Type 0) → lived ≡ true → Follow → MatchOption (cond (not lived) (Some Esrch) None) Follow Refuse
@@ -45,10 +46,13 @@ world-stopped w p a k bytes Segv = refl
 world-stopped w p a k bytes (Oom out) = refl
 
 module _ (s : State) (old new : Mem) (p a : ℕ) (before notes : List Note) (rows : List Row) (k : ℕ) (fresh : before ≡ []) (none : rows ≡ []) (same : count new ≡ count old) (lived : lives s.world p ≡ true) (keeps : Keeps old s) where
-  -- areas and anon_vmas are as they were
-  areas_still : (command : Command) (answer : Answer) (now : State) → now.areas ≡ s.areas → now.anons ≡ s.anons → AreNext s.areas s.anons s.world command answer s.areas s.anons
-      → AreNext s.areas s.anons s.world command answer now.areas now.anons
-  areas_still command answer now areas anons next = subst (λ (on : Areas). AreNext s.areas s.anons s.world command answer on now.anons) (sym areas) (subst (AreNext s.areas s.anons s.world command answer s.areas) (sym anons) next)
+  -- areas and anon_vmas are those that its events prepared
+  rmap_still : (command : Command) (answer : Answer) → ((long : Lengths) (on : Areas) → next_areas long on s.world command answer ≡ on) → (now : State) (events : List Event) → rmap_of now ≡ prepare_all events (rmap_of s)
+      → Keeps new now → AreNext (prepare_all events (rmap_of s)) s.world command answer (rmap_of now)
+  rmap_still command answer stay now events is kept = subst (λ (r : Rmap). AreNext r s.world command answer (rmap_of now)) is (record {
+    areas = sym (stay (chain_length now.anons) now.areas);
+    anons = left_alone new now kept;
+  })
 
   -- the notes are those of the access alone
   alone : (events : List Event) → notes ≡ before ++ notes_of events → notes ≡ notes_of events
@@ -74,7 +78,7 @@ module _ (s : State) (old new : Mem) (p a : ℕ) (before notes : List Note) (row
       world = h.world;
       ledger = h.ledger;
       free = subst (λ m. ChoosesAll (setting m) None s.ledger h.events s.free h.next.free) same h.free;
-      areas = areas_still (Read p a n) answer h.next h.areas h.anons (areas_kept old s (Read p a n) answer keeps refl);
+      rmap = rmap_still (Read p a n) answer (λ long on. refl) h.next h.events h.rmap h.keeps;
     };
     keeps = h.keeps;
   }
@@ -99,7 +103,7 @@ module _ (s : State) (old new : Mem) (p a : ℕ) (before notes : List Note) (row
       world = h.world;
       ledger = h.ledger;
       free = subst (λ m. ChoosesAll (setting m) None s.ledger h.events s.free h.next.free) same h.free;
-      areas = areas_still (Read p a n) answer h.next h.areas h.anons (areas_kept old s (Read p a n) answer keeps refl);
+      rmap = rmap_still (Read p a n) answer (λ long on. refl) h.next h.events h.rmap h.keeps;
     };
     keeps = h.keeps;
   }
@@ -122,7 +126,7 @@ module _ (s : State) (old new : Mem) (p a : ℕ) (before notes : List Note) (row
       world = h.world ∙ ap (after_write s.world p a) (ap (λ k. take k bytes) h.is_end.1 ∙ take-length bytes) ∙ ap (next s.world (Write p a bytes)) (sym is);
       ledger = h.ledger;
       free = subst (λ m. ChoosesAll (setting m) None s.ledger h.events s.free h.next.free) same h.free;
-      areas = areas_still (Write p a bytes) answer h.next h.areas h.anons (areas_kept old s (Write p a bytes) answer keeps refl);
+      rmap = rmap_still (Write p a bytes) answer (λ long on. refl) h.next h.events h.rmap h.keeps;
     };
     keeps = h.keeps;
   }
@@ -145,7 +149,7 @@ module _ (s : State) (old new : Mem) (p a : ℕ) (before notes : List Note) (row
       world = h.world ∙ world-stopped s.world p a k bytes stop ∙ ap (next s.world (Write p a bytes)) (sym is);
       ledger = h.ledger;
       free = subst (λ m. ChoosesAll (setting m) None s.ledger h.events s.free h.next.free) same h.free;
-      areas = areas_still (Write p a bytes) answer h.next h.areas h.anons (areas_kept old s (Write p a bytes) answer keeps refl);
+      rmap = rmap_still (Write p a bytes) answer (λ long on. refl) h.next h.events h.rmap h.keeps;
     };
     keeps = h.keeps;
   }

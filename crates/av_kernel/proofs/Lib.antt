@@ -1,4 +1,3 @@
-pub mod AnonLaws
 pub mod StepLaws
 pub mod ProcessLaws
 pub mod PlaceLaws

@@ -31,10 +31,11 @@ use Rattle.av_merge.specs.Kin.{lengths}
 use Rattle.av_merge.proofs.Lengths.{AreAlike, map_alike, pages_alike}
 use Rattle.av_spaces.specs.Kin.{AnonsStay}
 use Rattle.av_spaces.proofs.Kin.{stay_both, stay_same}
-use Rattle.av_kernel.proofs.AnonLaws.{are_left, lengths_alike}
-use Rattle.av_plain.specs.Areas.{areas_to_hole, chain_length, next_areas, with_room}
+use Rattle.av_reclaim.proofs.AnonLaws.{are_left, lengths_alike}
+use Rattle.av_plain.proofs.AreasLeft.{prepare_all-silent}
+use Rattle.av_plain.specs.Areas.{AreNext, areas_to_hole, chain_length, next_areas, with_room}
 use Rattle.av_plain.specs.Choice.{ChoosesAll}
-use Rattle.av_plain.specs.Transcript.{State}
+use Rattle.av_plain.specs.Transcript.{State, rmap_of}
 use Rattle.av_plain.specs.Device.{no_device}
 use Rattle.av_plain.specs.Stands.{AreasAre, Holds, IsKept, IsKeptAt, free_of, prot_of}
 use Rattle.av_vma.specs.Pages.{Pages, after_map, pages_changed, to_prot, after_unmap}
@@ -49,7 +50,7 @@ use Rattle.av_kernel.specs.Place.{protect_tests, IsProcess, IsPlaced, AreToClear
 use Rattle.av_kernel.specs.Step.{MemSteps, answer_only}
 use Rattle.av_reclaim.proofs.MemLaws.{lives_is, alive_is, taken_has, mapped_is}
 use Rattle.av_kernel.proofs.PlaceLaws.{page_back, IsSuited, suited}
-use Rattle.av_kernel.proofs.StepLaws.{areas_kept, is_number, moved_on, orderly, refused, stays_orderly, changed, areas_changed, tables_kept}
+use Rattle.av_kernel.proofs.StepLaws.{areas_kept, is_number, moved_on, orderly, refused, state_after, stays_orderly, changed, areas_changed, tables_kept}
 
 -- ---- pages and their areas
 
@@ -211,7 +212,7 @@ module _ (old new : Mem) (s : State) (command : Command) (reply : Reply) (p page
       let now : Process = with_pages (pages s.world p) page n (λ _. o) in
       changed old new s command reply p now on (after_all s.ledger events) keeps stay same_count taken.stands bytes
       (λ q at other. entries q at ∙ ap (λ b. cond (b && within page n at) None (entry s.ledger (q, at))) other) kept
-      (record { events = events; legal = legal; world = world; ledger = refl; free = subst (λ free. ChoosesAll (setting (count old)) None s.ledger events free (free_of (view new))) keeps.stands.free taken.free; areas = record { areas = next; anons = are_left old s keeps new.spaces new.anons stay (with_at p on s.areas) areas } })
+      (record { events = events; legal = legal; world = world; ledger = refl; free = subst (λ free. ChoosesAll (setting (count old)) None s.ledger events free (free_of (view new))) keeps.stands.free taken.free; rmap = subst (λ r. AreNext r s.world command reply.answer (rmap_of (state_after s p now on (after_all s.ledger events) (free_of (view new)) new.anons))) (sym (prepare_all-silent events (rmap_of s) taken.notes)) (record { areas = next; anons = are_left old s keeps new.spaces new.anons stay (with_at p on s.areas) areas }) })
       areas
       (areas_changed old new s p now (set_on page n (option_map (λ (x : Page). x.prot) o) (prot_of (ranges_of old.spaces.processes p))) keeps alive spaces covered)
       (tables_kept old new s p now (set_on page n (option_map (λ (x : Page). x.prot) o) (prot_of (ranges_of old.spaces.processes p))) keeps alive spaces covered processes)
@@ -277,7 +278,7 @@ module _ (old : Mem) (s : State) (p len : ℕ) (prot : Prot) (place : Place) (ke
       world = refl;
       ledger = refl;
       free = refl;
-      areas = areas_kept old s (Mmap p len prot place) (Refused error) keeps refl;
+      rmap = areas_kept old s (Mmap p len prot place) (Refused error) keeps refl;
     };
     keeps = keeps;
   }
@@ -420,7 +421,7 @@ module _ (old : Mem) (spaces : AllSpaces) (anons : AnonSet) (s : State) (p a len
         world = world;
         ledger = refl;
         free = keeps.stands.free;
-        areas = record { areas = next; anons = are_left old s keeps spaces anons stay _ now_on };
+        rmap = record { areas = next; anons = are_left old s keeps spaces anons stay _ now_on };
       })
       now_on
       (areas_changed old new s p now (set_on (page_of a) (reached - page_of a) (Some prot) (prot_of (ranges_of old.spaces.processes p))) keeps alive given covered-protected)

@@ -22,10 +22,11 @@ use Rattle.av_plain.specs.Refusal.{tests, refusal, Refuses}
 use Rattle.av_plain.specs.Step.{Follows}
 use Rattle.av_plain.specs.Choice.{ChoosesAll}
 use Rattle.av_plain.specs.Device.{no_device}
-use Rattle.av_plain.specs.Areas.{none_on}
+use Rattle.av_plain.proofs.AreasLeft.{prepare_all-silent}
+use Rattle.av_plain.specs.Areas.{AreNext, none_on}
 use Rattle.av_vma.specs.Pages.{pages_in}
 use Rattle.av_plain.specs.Stands.{AreasAre, free_of, Pte as Plain, IsKept, entry_of, prot_of, AreasStand, TablesStand}
-use Rattle.av_plain.specs.Transcript.{State, IsStep}
+use Rattle.av_plain.specs.Transcript.{State, IsStep, rmap_of}
 use Rattle.av_plain.proofs.Ledger.Order.{both_first, both_second}
 use Rattle.av_plain.proofs.World.{pages-set, lives-set, length-set_new}
 use Rattle.av_plain.proofs.Zap.{entry-ended, entry-others}
@@ -39,7 +40,7 @@ use Rattle.av_reclaim.specs.Zap.{HasZapped}
 use Rattle.av_reclaim.proofs.MemLaws.{alive_is, lives_is, all_apart, kept-nothing, no_cache}
 use Rattle.av_anon.specs.declared.anons.Anons.{Anons as AnonSet}
 use Rattle.av_spaces.specs.Kin.{AnonsStay}
-use Rattle.av_kernel.proofs.AnonLaws.{anons_stand, are_left, left_of}
+use Rattle.av_reclaim.proofs.AnonLaws.{anons_stand, are_left, left_of}
 use Rattle.av_kernel.proofs.StepLaws.{is_number, orderly, moved_on, stays_orderly, state_after, changed, kept-on, stepped}
 
 -- ---- the ranges of a process that comes or goes
@@ -109,7 +110,7 @@ module _ (old : Mem) (tables : ProcessTables) (spaces : AllSpaces) (s : State) (
     world = refl;
     ledger = refl;
     free = keeps.stands.free;
-    areas = record { areas = refl; anons = are_left old s keeps spaces old.anons stay (with_at p none_on s.areas) spawn-on };
+    rmap = record { areas = refl; anons = are_left old s keeps spaces old.anons stay (with_at p none_on s.areas) spawn-on };
   }
 
   spawn-alive : (q : ℕ) → is_some (areas_of spaces.processes q) ≡ lives (set_process s.world p no_pages) q
@@ -212,7 +213,8 @@ module _ (old mid : Mem) (tables : ProcessTables) (spaces : AllSpaces) (anons : 
     world = refl;
     ledger = refl;
     free = subst (λ free. ChoosesAll (setting (count old)) None s.ledger (zaps_of s.ledger (keys_of_process s.ledger p)) free (free_of (view mid))) keeps.stands.free taken.free;
-    areas = record { areas = refl; anons = are_left old s keeps spaces anons stay (with_at p none_on s.areas) exit-on };
+    rmap = subst (λ r. AreNext r s.world (Exit p) Done (rmap_of (record { world = end_process s.world p; ledger = after_all s.ledger (zaps_of s.ledger (keys_of_process s.ledger p)); free = free_of (view mid); areas = with_at p none_on s.areas; anons = left_of anons s.anons })))
+        (sym (prepare_all-silent (zaps_of s.ledger (keys_of_process s.ledger p)) (rmap_of s) taken.notes)) (record { areas = refl; anons = are_left old s keeps spaces anons stay (with_at p none_on s.areas) exit-on });
   }
 
   -- ---- what stands then

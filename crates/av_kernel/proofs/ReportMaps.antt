@@ -44,7 +44,7 @@ module _ (k : Mem) (s : State) (p : ℕ) (areas : List Area) (rows : List Row) (
       world = refl;
       ledger = refl;
       free = refl;
-      areas = areas_kept k s _ _ keeps refl;
+      rmap = areas_kept k s _ _ keeps refl;
     };
     keeps = keeps;
   }

@@ -33,7 +33,7 @@ stat-steps k s processes keeps once below number = record {
     world = refl;
     ledger = refl;
     free = refl;
-    areas = areas_kept k s Stat _ keeps refl;
+    rmap = areas_kept k s Stat _ keeps refl;
   };
   keeps = keeps;
 }

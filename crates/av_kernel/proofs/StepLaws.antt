@@ -15,7 +15,7 @@ use Rattle.av_plain.specs.World.{Process, Page, lives, pages, set_process}
 use Rattle.av_plain.specs.Ledger.{Ledger, Entry, Zero, InFrame, InSlot, entry, frame_at}
 use Rattle.av_plain.specs.Refusal.{tests, refusal, Refuses}
 use Rattle.av_plain.specs.Step.{Follows}
-use Rattle.av_plain.specs.Transcript.{State, IsStep}
+use Rattle.av_plain.specs.Transcript.{State, IsStep, rmap_of}
 use Rattle.av_plain.specs.Sound.{AllSound}
 use Rattle.av_plain.specs.Device.{no_device}
 use Rattle.av_plain.specs.Choice.{Free, ListsAll, ListsFree}
@@ -27,7 +27,7 @@ use Rattle.av_anon.specs.declared.infos.Info.{Info}
 use Rattle.av_spaces.specs.Kin.{AnonsFit, AnonsStay, chain_on, info_of}
 use Rattle.av_spaces.proofs.Kin.{stay_same}
 use Rattle.av_plain.specs.Areas.{AnonVma, Anons, AreLeft, AreNext, chain_length, next_areas}
-use Rattle.av_kernel.proofs.AnonLaws.{anons_stand, are_left, left_of}
+use Rattle.av_reclaim.proofs.AnonLaws.{anons_stand, are_left, left_of}
 use Rattle.av_plain.proofs.FreeFrames.{step-lists_free}
 use Rattle.av_plain.proofs.Refusal.{refused-areas, refused-next}
 use Rattle.av_plain.proofs.Sound.{step-sound}
@@ -55,27 +55,25 @@ other_number q p e = grind (arith, nat_tests)
 
 -- ---- areas and anon_vmas
 
--- a command that leaves the areas leaves the anon_vmas
-pub areas_kept : (k : Mem) (s : State) (command : Command) (answer : Answer) → Keeps k s → next_areas (chain_length s.anons) s.areas s.world command answer ≡ s.areas
-    → AreNext s.areas s.anons s.world command answer s.areas s.anons
-areas_kept k s command answer keeps stay = record { areas = sym stay; anons = left_alone }
+-- each anon_vma that is there is linked
+pub left_alone : (k : Mem) (s : State) → Keeps k s → AreLeft s.anons s.areas s.anons
+left_alone k s keeps =
+    let h = are_left k s keeps k.spaces k.anons (stay_same k.spaces k.anons keeps.anons) s.areas keeps.stands.areas in
+    record { next = refl; there = λ v there. h.there v (still v there); linked = λ v linked. refl }
   where
-    fit : AnonsStay k.spaces k.anons k.spaces k.anons
-    fit = stay_same k.spaces k.anons keeps.anons
-
-    left_alone : AreLeft s.anons s.areas s.anons
-    left_alone =
-        let h = are_left k s keeps k.spaces k.anons fit s.areas keeps.stands.areas in
-        record { next = refl; there = λ v there. h.there v (still v there); linked = λ v linked. refl }
+    still : (v : ℕ) → IsSome (s.anons.anon v) → IsSome ((left_of k.anons s.anons).anon v)
+    still v there = by (info_of k.anons v) refl (s.anons.anon v) there (keeps.stands.anons.kin v)
       where
-        still : (v : ℕ) → IsSome (s.anons.anon v) → IsSome ((left_of k.anons s.anons).anon v)
-        still v there = by (info_of k.anons v) refl (s.anons.anon v) there (keeps.stands.anons.kin v)
-          where
-            by : (i : Option Info) → info_of k.anons v ≡ i → (o : Option AnonVma) → IsSome o → option_map kin_of (option_map (anon_vma (chain_on k.spaces k.anons (Some v))) i) ≡ option_map kin_of o
-                → IsSome (cond (is_some i) o None)
-            by None e None there same = there
-            by None e (Some x) there same = absurd (false≢true (ap is_some same))
-            by (Some i) e o there same = there
+        by : (i : Option Info) → info_of k.anons v ≡ i → (o : Option AnonVma) → IsSome o → option_map kin_of (option_map (anon_vma (chain_on k.spaces k.anons (Some v))) i) ≡ option_map kin_of o
+            → IsSome (cond (is_some i) o None)
+        by None e None there same = there
+        by None e (Some x) there same = absurd (false≢true (ap is_some same))
+        by (Some i) e o there same = there
+
+-- so a command that leaves the areas leaves the anon_vmas
+pub areas_kept : (k : Mem) (s : State) (command : Command) (answer : Answer) → Keeps k s → next_areas (chain_length s.anons) s.areas s.world command answer ≡ s.areas
+    → AreNext (rmap_of s) s.world command answer (rmap_of s)
+areas_kept k s command answer keeps stay = record { areas = sym stay; anons = left_alone k s keeps }
 
 -- ---- a refusal
 
@@ -92,7 +90,7 @@ refused k s command error keeps is = record {
     world = sym (refused-next (setting (count k)) s.world s.world s.ledger command error is);
     ledger = refl;
     free = refl;
-    areas = areas_kept k s command (Refused error) keeps (refused-areas (setting (count k)) s.world s.ledger (chain_length s.anons) s.areas command error is);
+    rmap = areas_kept k s command (Refused error) keeps (refused-areas (setting (count k)) s.world s.ledger (chain_length s.anons) s.areas command error is);
   };
   keeps = keeps;
 }

@@ -1,19 +1,21 @@
 -- The anon_vmas and areas after a command, where areas have anon_vmas.
-use Rattle.std.proofs.Common.{◌≡◌, ℕ, ◌-◌, Bool, true, false, ◌==◌, ◌||◌, List, [], ◌∷◌, length, Option, Some, None, is_some, refl, sym, ap, subst, ◌∙◌, arith}
+use Rattle.std.proofs.Common.{◌≡◌, ℕ, Bool, true, false, ◌==◌, ◌||◌, List, [], ◌∷◌, length, Option, Some, None, is_some, refl, sym, ap, subst, ◌∙◌, arith}
 use Rattle.std.proofs.lemmas.Bool.Decides.{nat_tests}
-use Rattle.std.specs.Prelude.{◌+◌, IfSome, IsSome, IsSomeAnd, if◌then◌else◌, max, min, nat_lt, option_map}
-use Rattle.av_base.specs.Page.{address_of}
+use Rattle.std.specs.Prelude.{IfSome, IsSome, IsSomeAnd, if◌then◌else◌, option_map}
 use Rattle.av_base.specs.Words.{is_in, within}
 use Rattle.av_trace.specs.declared.command.Command.{Command}
 use Rattle.av_trace.specs.declared.reply.Answer.{Answer}
+use Rattle.av_trace.specs.declared.reply.Reply.{Reply}
 use Rattle.av_trace.specs.declared.reply.Answer.TheVariants.{Done, MapAt}
-use Rattle.av_vma.specs.Join.{first_of}
 use Rattle.av_vma.specs.Pages.{after_unmap, pages_in, part_of}
 use Rattle.av_vma.specs.declared.area.Area.{Area}
-use Rattle.av_plain.specs.Areas.{AnonVma, Anons, AreLeft, Areas, IsLinked, chain_length, chain_of, next_areas, none_on}
+use Rattle.av_plain.specs.Areas.{AnonVma, Anons, AreLeft, AreNext, Areas, IsLinked, chain_length, chain_of, next_areas, none_on}
 use Rattle.av_laws.specs.Areas.{Leaves, NeverLeaves, NeverPuts, anons_of, area, area_of, behind_first, behind_second, child, first_goes, root, second_goes, with_anons}
-use Rattle.av_laws.specs.Examples.{read_write}
-use Rattle.av_plain.proofs.AreasLeft.{left-one}
+use Rattle.av_laws.proofs.Laid.{part_own}
+use Rattle.av_laws.specs.Examples.{machine, read_write, reply_with}
+use Rattle.av_plain.specs.Ledger.{Setting}
+use Rattle.av_plain.specs.Transcript.{IsStep, State, rmap_of}
+use Rattle.av_plain.proofs.AreasLeft.{left-one, prepare_all-notes, prepare_notes}
 use Rattle.av_plain.proofs.NoDevice.{never}
 
 -- ---- the areas, and what is linked
@@ -21,15 +23,6 @@ use Rattle.av_plain.proofs.NoDevice.{never}
 -- the areas after a command that is answered so
 abbrev on_after : Command → Answer → Areas
 on_after command answer = next_areas (chain_length with_anons.anons) with_anons.areas with_anons.world command answer
-
--- a part of an area has its anon_vma
-anon-part : (at page : ℕ) (a : Area) → (part_of at page a).anon ≡ a.anon
-anon-part at page a = by (nat_lt page at)
-  where
-    by : (b : Bool) → (if b then record a { end = min a.end (address_of at) }
-        else record a { start = max a.start (address_of at); pgoff = a.pgoff + (at - first_of a) }).anon ≡ a.anon
-    by true = refl
-    by false = refl
 
 -- where the second two pages are gone each area is of anon_vma 0
 all_of_root : (p page : ℕ) → IfSome (on_after second_goes Done p page) (λ area. area.anon ≡ Some 0)
@@ -40,8 +33,8 @@ all_of_root p page = by (p == 1)
         (if c then Some (area_of 0 0x10 0x12) else (if b then Some (area_of 1 0x14 0x16) else None))))
         (λ area. area.anon ≡ Some 0)
     here true c = tt
-    here false true = anon-part 0x16 page (part_of 0x14 page (area_of 0 0x10 0x12))
-        ∙ anon-part 0x14 page (area_of 0 0x10 0x12)
+    here false true = part_own 0x16 page (part_of 0x14 page (area_of 0 0x10 0x12))
+        ∙ part_own 0x14 page (area_of 0 0x10 0x12)
     here false false = tt
 
     by : (a : Bool) → IfSome ((if a then after_unmap 0x14 0x16
@@ -103,7 +96,7 @@ child_goes-leaves = (
     world = refl;
     ledger = refl;
     free = refl;
-    areas = record { areas = refl; anons = root-left };
+    rmap = record { areas = refl; anons = root-left };
   },
   (refl, (refl, (refl, (refl, (refl, (refl, (refl, (refl, tt)))))))),
   refl,
@@ -118,7 +111,7 @@ both_stay-leaves = (
     world = refl;
     ledger = refl;
     free = refl;
-    areas = record { areas = refl; anons = both-left (on_after first_goes Done) (1, 0x14, refl) (1, 0x14, refl) };
+    rmap = record { areas = refl; anons = both-left (on_after first_goes Done) (1, 0x14, refl) (1, 0x14, refl) };
   },
   (refl, (refl, (refl, (refl, (refl, (refl, (refl, (refl, tt)))))))),
   refl,
@@ -133,7 +126,7 @@ joined_to_root-leaves = (
     world = refl;
     ledger = refl;
     free = refl;
-    areas = record { areas = refl; anons = both-left (on_after behind_first (MapAt 0x12000)) (1, 0x10, refl) (1, 0x14, refl) };
+    rmap = record { areas = refl; anons = both-left (on_after behind_first (MapAt 0x12000)) (1, 0x10, refl) (1, 0x14, refl) };
   },
   (refl, (refl, (refl, (refl, (refl, (refl, (refl, (refl, tt)))))))),
   refl,
@@ -149,7 +142,7 @@ apart_from_child-leaves = (
     world = refl;
     ledger = refl;
     free = refl;
-    areas = record { areas = refl; anons = both-left (on_after behind_second (MapAt 0x16000)) (1, 0x10, refl) (1, 0x14, refl) };
+    rmap = record { areas = refl; anons = both-left (on_after behind_second (MapAt 0x16000)) (1, 0x10, refl) (1, 0x14, refl) };
   },
   (refl, (refl, (refl, (refl, (refl, (refl, (refl, (refl, tt)))))))),
   refl,
@@ -157,23 +150,30 @@ apart_from_child-leaves = (
 
 -- ---- what may not be
 
+-- what was prepared follows from the notes
+pub now-is : (m : Setting) (old : State) (command : Command) (reply : Reply) (new : State) (step : IsStep m old command reply new)
+    → AreNext (prepare_notes reply.notes (rmap_of old)) old.world command reply.answer (rmap_of new)
+now-is m old command reply new step = subst (λ now. AreNext now old.world command reply.answer (rmap_of new))
+    (prepare_all-notes step.events (rmap_of old) ∙ ap (λ notes. prepare_notes notes (rmap_of old)) (sym step.legal.notes)) step.rmap
+
 -- what a step leaves is what is left once these are the areas
 never-leaves : (command : Command) (left wrong : Anons) → AreLeft with_anons.anons (on_after command Done) left
     → (left ≡ wrong → ⊥) → NeverLeaves command wrong
 never-leaves command left wrong is differ new step same =
+    let next = now-is (machine 4) with_anons command (reply_with Done []) new step in
     differ (left-one with_anons.anons (on_after command Done) left new.anons is
-    (subst (λ on. AreLeft with_anons.anons on new.anons) step.areas.areas step.areas.anons) ∙ same)
+    (subst (λ on. AreLeft with_anons.anons on new.anons) next.areas next.anons) ∙ same)
 
 -- numbers by which two anon_vmas are told apart
-abbrev root_of : Option AnonVma → ℕ
+abbrev pub root_of : Option AnonVma → ℕ
 root_of None = 0
 root_of (Some v) = v.root
 
-abbrev parent_of : Option AnonVma → ℕ
+abbrev pub parent_of : Option AnonVma → ℕ
 parent_of None = 0
 parent_of (Some v) = v.parent
 
-abbrev length_of : Option AnonVma → ℕ
+abbrev pub length_of : Option AnonVma → ℕ
 length_of None = 0
 length_of (Some v) = length v.chain
 
@@ -208,13 +208,14 @@ number_again-not = never-left (anons_of (Some root) None 1)
     (λ e. let d : ◌≡◌ {A = ℕ} 2 1 = ap (λ (a : Anons). a.next) e in omega (arith, d))
 
 -- the first page of what is on a page
-abbrev first_page : Option Area → ℕ
+abbrev pub first_page : Option Area → ℕ
 first_page None = 0
 first_page (Some area) = area.start
 
 never-puts : (command : Command) (answer : Answer) (page : ℕ) (area : Area) → (on_after command answer 1 page ≡ Some area → ⊥)
     → NeverPuts command answer page area
-never-puts command answer page area differ new step at = differ (sym (ap (λ (on : Areas). on 1 page) step.areas.areas) ∙ at)
+never-puts command answer page wrong differ new step at =
+    differ (sym (ap (λ (on : Areas). on 1 page) (now-is (machine 4) with_anons command (reply_with answer []) new step).areas) ∙ at)
 
 pub apart_from_root-not : NeverPuts behind_first (MapAt 0x12000) 0x12 (area 0x12 0x13 read_write)
 apart_from_root-not = never-puts behind_first (MapAt 0x12000) 0x12 (area 0x12 0x13 read_write)

@@ -4,7 +4,7 @@ use Rattle.std.proofs.lemmas.Bool.Decides.{nat_tests}
 use Rattle.std.proofs.lemmas.Option.{none-some}
 use Rattle.std.specs.FinMap.Entries.{find}
 use Rattle.std.specs.Ordering.{nat_cmp, eq_by_cmp}
-use Rattle.std.specs.Prelude.{MatchBool, MatchOption, option_and_then, slice_index}
+use Rattle.std.specs.Prelude.{MatchBool, MatchOption, option_and_then, slice_index, unwrap_or}
 use Rattle.av_base.specs.Limits.{low_page, top_page}
 use Rattle.av_base.specs.Page.{address_of, is_on_page, page_of, pages_of}
 use Rattle.av_base.specs.Words.{with_at, within}
@@ -22,10 +22,11 @@ use Rattle.av_trace.specs.declared.reply.Reply.{Reply}
 use Rattle.av_trace.specs.declared.row.Row.{Row}
 use Rattle.av_vma.specs.Gap.{IsGap}
 use Rattle.av_vma.specs.Join.{same_prot}
-use Rattle.av_vma.specs.Pages.{AreLaid, IsWhole, Lengths, Pages, after_map, after_unmap, alters_at, cut_at, fresh_area, has_page, joined_at, page_changed, pages_changed, part_changed, to_prot, with_area, with_effect, with_effect_on, without_range}
+use Rattle.av_vma.specs.Pages.{AreLaid, IsWhole, Lengths, Pages, after_map, after_prepare, after_unmap, alters_at, cut_at, fresh_area, has_page, joined_at, loan_beside, page_changed, pages_changed, part_changed, to_prot, with_anon, with_area, with_effect, with_effect_on, without_range}
 use Rattle.av_vma.specs.declared.area.Area.{Area}
 use Rattle.av_plain.specs.Access.{after_write, first_bytes}
-use Rattle.av_plain.specs.Areas.{Areas, areas_to_hole, chain_length, next_areas, none_on, with_room}
+use Rattle.av_plain.specs.Areas.{Areas, Rmap, areas_to_hole, chain_length, next_areas, none_on, prepare_all, prepare_page, with_room}
+use Rattle.av_plain.proofs.AreasLeft.{prepare_all-keeps}
 use Rattle.av_plain.specs.Event.{Event}
 use Rattle.av_plain.specs.Ledger.{Ledger, Setting, entry}
 use Rattle.av_plain.specs.Load.{is_of_slot, with_loads, without_bytes, without_claims}
@@ -33,7 +34,7 @@ use Rattle.av_plain.specs.Map.{with_prot_to_hole, zaps_for_place}
 use Rattle.av_plain.specs.Place.{Goes, IsMapAt, is_room}
 use Rattle.av_plain.specs.Refusal.{Refuses, Tests, fixed_tests, is_too_long, low, place_tests, refusal, tests, top, wraps}
 use Rattle.av_plain.specs.Step.{Follows, next, next_world}
-use Rattle.av_plain.specs.Transcript.{Exchange, IsRun, IsStep, State, at_first}
+use Rattle.av_plain.specs.Transcript.{Exchange, IsRun, IsStep, State, at_first, rmap_of}
 use Rattle.av_plain.specs.World.{Page, Process, World, end_process, is_mapped, lives, meets, no_pages, pages, pages_to_hole, set_process, with_bytes, with_pages, with_prot, with_prot_on, zeros}
 use Rattle.av_laws.specs.Covered.{CoverPages}
 use Rattle.av_plain.proofs.Refusal.{loads-none, refused-areas, refused-next}
@@ -42,7 +43,7 @@ use Rattle.av_plain.proofs.Sound.Zap.{pages-ended}
 use Rattle.av_plain.proofs.World.{pages-set}
 use Rattle.av_plain.proofs.World.Ranges.{meets-none}
 use Rattle.av_laws.proofs.ReadBack.InRuns.{first-test}
-use Rattle.av_laws.proofs.Laid.{cut_splits, laid_changed, laid_cut, laid_emptied, laid_joined, laid_placed, prot_is, prots, prots_cut, prots_joined, still_splits}
+use Rattle.av_laws.proofs.Laid.{cut_splits, laid_changed, laid_cut, laid_emptied, laid_joined, laid_owned, laid_placed, prot_is, prots, prots_cut, prots_joined, prots_owned, still_splits}
 
 -- ---- the protections of a process's pages
 
@@ -157,6 +158,47 @@ covers_stored w on p a (b ∷ bytes) c = record {
         → prot_of (cond c (with_bytes (pages w p) a (b ∷ bytes) page) (pages w q page)) ≡ prot_of (pages w q page)
     at q page true is = with_stored page (pages w p page) ∙ ap (λ n. prot_of (pages w n page)) (sym (is_number q p is))
     at q page false is = refl
+
+-- ---- prepare
+
+covers_with_anon : (len : Lengths) (next page : ℕ) (q : Process) (on : Pages) → Covers q on → Covers q (after_prepare len next page on)
+covers_with_anon len next page q on c = by (on page) refl
+  where
+    one : (area : Area) (b : Bool) → on page ≡ Some area
+        → Covers q (if b then on else with_area (record area { anon = Some (unwrap_or (loan_beside len on area) next) }) on)
+    one area true is = c
+    one area false is = record {
+      laid = laid_owned page area (Some (unwrap_or (loan_beside len on area) next)) on c.laid is;
+      same = λ other. prots_owned page area (Some (unwrap_or (loan_beside len on area) next)) on c.laid is other ∙ c.same other;
+    }
+
+    by : (o : Option Area) → on page ≡ o → Covers q (with_anon len next o on)
+    by None is = c
+    by (Some area) is = one area (is_some area.anon) is
+
+covers_page : (w : World) (p page : ℕ) (r : Rmap) → CoverPages w r.areas → CoverPages w (prepare_page p page r).areas
+covers_page w p page r c = record { laid = λ q. laid q (q == p) refl; prots = λ q other. prots_at q other (q == p) refl }
+  where
+    there : Covers (pages w p) (after_prepare (chain_length r.anons) r.anons.next page (r.areas p))
+    there = covers_with_anon (chain_length r.anons) r.anons.next page (pages w p) (r.areas p) (covers_one w r.areas p c)
+
+    number : (q : ℕ) → (q == p) ≡ true → p ≡ q
+    number q is = grind (arith, nat_tests, is)
+
+    laid : (q : ℕ) (b : Bool) → (q == p) ≡ b
+        → AreLaid (cond b (after_prepare (chain_length r.anons) r.anons.next page (r.areas p)) (r.areas q))
+    laid q true is = there.laid
+    laid q false is = c.laid q
+
+    prots_at : (q other : ℕ) (b : Bool) → (q == p) ≡ b
+        → option_map (λ (a : Area). a.prot) (cond b (after_prepare (chain_length r.anons) r.anons.next page (r.areas p)) (r.areas q) other)
+        ≡ prot_of (pages w q other)
+    prots_at q other true is = there.same other ∙ ap (λ n. prot_of (pages w n other)) (number q is)
+    prots_at q other false is = c.prots q other
+
+-- an anon_vma that is prepared changes no page and no protection
+covers_prepared : (w : World) (es : List Event) (r : Rmap) → CoverPages w r.areas → CoverPages w (prepare_all es r).areas
+covers_prepared w es r c = prepare_all-keeps (λ r. CoverPages w r.areas) (covers_page w) es r c
 
 -- ---- unmap
 
@@ -511,29 +553,33 @@ covers-follows m w now l long on Stat es answer rows same c none h = c
 pub step-covers : (m : Setting) (old : State) (command : Command) (reply : Reply) (new : State) → CoverPages old.world old.areas
     → IsStep m old command reply new → CoverPages new.world new.areas
 step-covers m old command reply new c h =
-    subst (CoverPages new.world) (sym h.areas.areas) (subst (λ w. CoverPages w
-    (next_areas (chain_length old.anons) old.areas old.world command reply.answer)) (sym h.world)
+    subst (CoverPages new.world) (sym h.rmap.areas) (subst (λ w. CoverPages w
+    (next_areas (chain_length later.anons) later.areas old.world command reply.answer)) (sym h.world)
     (by (refusal (tests m old.world old.ledger command)) refl h.legal.answer))
   where
     now : World
     now = with_loads m old.world old.ledger h.events
 
-    after_loads : CoverPages (with_loads m old.world old.ledger h.events) old.areas
-    after_loads = covers_loads m old.world old.ledger h.events old.areas c
+    later : Rmap
+    later = prepare_all h.events (rmap_of old)
+
+    after_loads : CoverPages (with_loads m old.world old.ledger h.events) (prepare_all h.events (rmap_of old)).areas
+    after_loads = covers_loads m old.world old.ledger h.events (prepare_all h.events (rmap_of old)).areas
+        (covers_prepared old.world h.events (rmap_of old) c)
 
     by : (o : Option Errno) → refusal (tests m old.world old.ledger command) ≡ o
         → MatchOption o (Follows m old.world old.ledger command h.events reply.answer reply.rows) (λ error. Refuses error h.events reply.answer reply.rows)
         → CoverPages (next_world m old.world old.ledger h.events command reply.answer)
-        (next_areas (chain_length old.anons) old.areas old.world command reply.answer)
+        (next_areas (chain_length (prepare_all h.events (rmap_of old)).anons) (prepare_all h.events (rmap_of old)).areas old.world command reply.answer)
     by None is x = covers-follows m old.world (with_loads m old.world old.ledger h.events) old.ledger
-        (chain_length old.anons) old.areas command h.events reply.answer reply.rows
+        (chain_length later.anons) later.areas command h.events reply.answer reply.rows
         (loads-none m old.world old.ledger h.events) after_loads is x
     by (Some error) is x = subst (λ a. CoverPages (next (with_loads m old.world old.ledger h.events) command a)
-        (next_areas (chain_length old.anons) old.areas old.world command a)) (sym x.0)
-        (subst (λ w. CoverPages w (next_areas (chain_length old.anons) old.areas old.world command (Refused error)))
+        (next_areas (chain_length later.anons) later.areas old.world command a)) (sym x.0)
+        (subst (λ w. CoverPages w (next_areas (chain_length later.anons) later.areas old.world command (Refused error)))
         (sym (refused-next m old.world (with_loads m old.world old.ledger h.events) old.ledger command error is))
         (subst (CoverPages (with_loads m old.world old.ledger h.events))
-        (sym (refused-areas m old.world old.ledger (chain_length old.anons) old.areas command error is)) after_loads))
+        (sym (refused-areas m old.world old.ledger (chain_length later.anons) later.areas command error is)) after_loads))
 
 run-from : (m : Setting) (old : State) (es : List Exchange) (new : State) → CoverPages old.world old.areas → IsRun m old es new → CoverPages new.world new.areas
 run-from m old [] new c h = subst (λ (s : State). CoverPages s.world s.areas) (sym h) c

@@ -28,9 +28,9 @@ use Rattle.av_plain.specs.Load.{after_loads, with_loads}
 use Rattle.av_plain.specs.Map.{with_prot_to_hole}
 use Rattle.av_plain.specs.Place.{Goes, IsMapAt, is_room}
 use Rattle.av_plain.specs.Refusal.{Refuses, low, refusal, tests, wraps}
-use Rattle.av_plain.specs.Areas.{AreLeft, chain_length, next_areas}
+use Rattle.av_plain.specs.Areas.{AreLeft, AreNext, prepare_all}
 use Rattle.av_plain.specs.Step.{Follows, IsLegal, closing_area, fault_answers, next, next_world}
-use Rattle.av_plain.specs.Transcript.{Exchange, IsRun, IsStep, State, at_first}
+use Rattle.av_plain.specs.Transcript.{Exchange, IsRun, IsStep, State, at_first, rmap_of}
 use Rattle.av_plain.specs.World.{Page, Process, Shows, World, byte_at, end_process, is_mapped, no_pages, pages, pages_to_hole, set_process, with_bytes, with_pages, with_prot, with_prot_on, zeros}
 use Rattle.av_laws.proofs.Maps.{one-answer}
 use Rattle.av_laws.proofs.OnePage.{is_lost, touches-one}
@@ -363,11 +363,12 @@ step-one m old new new' command reply reply' told claimed kept kept' h g =
     let free : new.free ≡ new'.free = chooses-one m closing old.ledger g.events old.free new.free
     new'.free told (subst (λ es. ChoosesAll m closing old.ledger es old.free new.free)
     same.events h.free) g.free in
-    let areas : new.areas ≡ new'.areas = h.areas.areas
-    ∙ ap (next_areas (chain_length old.anons) old.areas old.world command) same.answers
-    ∙ sym g.areas.areas in
-    let anons : new.anons ≡ new'.anons = anons-one old.anons new'.areas new.anons new'.anons
-    (subst (λ on. AreLeft old.anons on new.anons) areas h.areas.anons) g.areas.anons in (
+    let now = prepare_all g.events (rmap_of old) in
+    let mine : AreNext now old.world command reply'.answer (rmap_of new) = subst (λ a. AreNext now old.world command a (rmap_of new)) same.answers
+    (subst (λ es. AreNext (prepare_all es (rmap_of old)) old.world command reply.answer (rmap_of new)) same.events h.rmap) in
+    let areas : new.areas ≡ new'.areas = mine.areas ∙ sym g.rmap.areas in
+    let anons : new.anons ≡ new'.anons = anons-one now.anons new'.areas new.anons new'.anons
+    (subst (λ on. AreLeft now.anons on new.anons) areas mine.anons) g.rmap.anons in (
       (λ i. record { answer = same.answers i; notes = notes i; rows = same.reports i }),
       (λ i. record {
         world = world i;

@@ -2,12 +2,15 @@
 use Rattle.av_trace.specs.declared.row.Row.TheVariants.{Run, Entry}
 use Rattle.av_trace.specs.declared.row.Row.{Row}
 use Rattle.std.proofs.Common.{◌≡◌, ℕ, ◌+◌, Bool, true, false, cond, ◌&&◌, ◌||◌, nat_le, nat_lt, [], ◌∷◌, Option, Some, None, is_some, option_map, refl, sym, ap, ◌∙◌, arith, inl, inr, List, length, map, if◌then◌else◌, ◌==◌}
-use Rattle.std.specs.Prelude.{drop}
+use Rattle.std.specs.Prelude.{IfSome, drop}
 use Rattle.std.proofs.lemmas.Bool.Decides.{nat_tests}
 use Rattle.std.proofs.lemmas.Bool.{false≢true}
 use Rattle.av_trace.specs.declared.command.Command.TheVariants.{Maps}
 use Rattle.av_base.specs.Page.{address_of}
-use Rattle.av_base.specs.Words.{within}
+use Rattle.av_base.specs.Words.{with_at, within}
+use Rattle.av_vma.specs.Pages.{fresh_area, pages_in}
+use Rattle.av_plain.specs.Areas.{Anons, AreLeft, Areas, none_on}
+use Rattle.av_plain.proofs.AreasLeft.{left-bare}
 use Rattle.av_base.specs.declared.prot.Prot.{Prot}
 use Rattle.av_trace.specs.declared.note.Note.TheVariants.{Dropped, New}
 use Rattle.av_laws.specs.Examples.{Allows, Forbids, Runs, after_fork, exit_and_again, exit_drops, exit_frees, exit_in_writeback, exit_paged_out, exit_shared, falling_runs, in_swap_cache, in_writeback, joined_runs, machine, paged_out, part_of_page, read_only, read_write, run_left_out, run_too_long, slot, split_run, two_kinds, two_protections, two_runs, with_swap}
@@ -19,6 +22,19 @@ use Rattle.av_plain.specs.Transcript.{at_first}
 use Rattle.av_plain.specs.World.{Page, Process, zeros}
 use Rattle.av_laws.proofs.FirstExamples.{by_steps, gap_below, topmost}
 use Rattle.av_laws.proofs.Maps.{one-answer}
+
+-- no anon_vma is left, and the next one gets this number
+abbrev none_left : ℕ → Anons
+none_left next = record { next = next; anon = λ _. None }
+
+-- and so where the last process with one exits
+left-exit : (anons : Anons) (on : Areas) (p : ℕ) → ((q page : ℕ) → (q == p) ≡ false → IfSome (on q page) (λ area. area.anon ≡ None))
+    → AreLeft anons (with_at p none_on on) (none_left anons.next)
+left-exit anons on p others = left-bare anons (with_at p none_on on) (λ q page. by q page (q == p) refl)
+  where
+    by : (q page : ℕ) (b : Bool) → (q == p) ≡ b → IfSome ((if b then none_on else on q) page) (λ area. area.anon ≡ None)
+    by q page true is = tt
+    by q page false is = others q page is
 
 pub exit_frees-runs : Runs 4 exit_frees
 exit_frees-runs = by_steps (machine 4) (at_first (machine 4)) exit_frees refl (topmost read_write (drop 2 exit_frees) (
@@ -42,10 +58,8 @@ exit_frees-runs = by_steps (machine 4) (at_first (machine 4)) exit_frees refl (t
         record { answer = (refl, refl, refl); notes = refl },
         (0 ∷ 1 ∷ 2 ∷ 3 ∷ [], (1 ∷ 2 ∷ 3 ∷ [], refl, refl), refl),
         (
-          [],
-          0 ∷ 1 ∷ 2 ∷ 3 ∷ [],
-          record { answer = (refl, refl, refl); notes = refl },
-          refl,
+          none_left 1,
+          left-exit _ _ 1 (λ q page is. rw is tt),
           (
             [],
             0 ∷ 1 ∷ 2 ∷ 3 ∷ [],
@@ -64,14 +78,20 @@ exit_frees-runs = by_steps (machine 4) (at_first (machine 4)) exit_frees refl (t
                 (
                   [],
                   0 ∷ 1 ∷ 2 ∷ 3 ∷ [],
-                  record { answer = (refl, ([], refl, tt, λ page. refl), refl); notes = refl },
+                  record { answer = (refl, refl, refl); notes = refl },
                   refl,
                   (
                     [],
                     0 ∷ 1 ∷ 2 ∷ 3 ∷ [],
-                    record { answer = (Stopped 0x7fffffffe Denied, [], inr ([], Denied, (refl, refl), refl, refl), (refl, tt, tt), refl, refl); notes = refl },
+                    record { answer = (refl, ([], refl, tt, λ page. refl), refl); notes = refl },
                     refl,
-                    tt,
+                    (
+                      [],
+                      0 ∷ 1 ∷ 2 ∷ 3 ∷ [],
+                      record { answer = (Stopped 0x7fffffffe Denied, [], inr ([], Denied, (refl, refl), refl, refl), (refl, tt, tt), refl, refl); notes = refl },
+                      refl,
+                      tt,
+                    ),
                   ),
                 ),
               ),
@@ -82,6 +102,17 @@ exit_frees-runs = by_steps (machine 4) (at_first (machine 4)) exit_frees refl (t
     ),
   ),
 ))
+
+-- the other process has no anon_vma yet
+of_second : (q page : ℕ) (b : Bool)
+    → IfSome ((if b then pages_in (Some (fresh_area 2 0x7fffffffd 0x7ffffffff read_write ∷ [])) else (if b then none_on else none_on)) page)
+    (λ area. area.anon ≡ None)
+of_second q page true = by (within 0x7fffffffd 2 page)
+  where
+    by : (b : Bool) → IfSome (if b then Some (fresh_area 2 0x7fffffffd 0x7ffffffff read_write) else None) (λ area. area.anon ≡ None)
+    by true = refl
+    by false = tt
+of_second q page false = tt
 
 pub exit_and_again-runs : Runs 4 exit_and_again
 exit_and_again-runs = by_steps (machine 4) (at_first (machine 4)) exit_and_again refl ((
@@ -115,16 +146,20 @@ exit_and_again-runs = by_steps (machine 4) (at_first (machine 4)) exit_and_again
             record { answer = (refl, refl, refl); notes = refl },
             (0 ∷ 2 ∷ 3 ∷ [], (2 ∷ 3 ∷ [], refl, refl), (1 ∷ 0 ∷ 2 ∷ 3 ∷ [], (0 ∷ 2 ∷ 3 ∷ [], refl, refl), refl)),
             (
-              Noted (New 2 0x7fffffffd000 1) ∷ Used true (2, 0x7fffffffd) ∷ Noted (New 2 0x7fffffffe000 0) ∷ Used true (2, 0x7fffffffe) ∷ [],
-              2 ∷ 3 ∷ [],
-              record { answer = (Whole, inl (New 2 0x7fffffffd000 1 ∷ [], Noted (New 2 0x7fffffffe000 0) ∷ Used true (2, 0x7fffffffe) ∷ [], (refl, record { coming = []; making = New 2 0x7fffffffd000 1 ∷ []; whole = refl; comes_in = refl; made = record { sought = []; frame = 1; seeks = refl; in_range = omega arith; free = refl; whole = refl } }), refl, inl (New 2 0x7fffffffe000 0 ∷ [], [], (refl, record { coming = []; making = New 2 0x7fffffffe000 0 ∷ []; whole = refl; comes_in = refl; made = record { sought = []; frame = 0; seeks = refl; in_range = omega arith; free = refl; whole = refl } }), refl, (refl, refl))), refl, refl); notes = refl },
-              (0 ∷ 2 ∷ 3 ∷ [], (0 ∷ 2 ∷ 3 ∷ [], refl, refl), (0 ∷ 2 ∷ 3 ∷ [], (0 ∷ 2 ∷ 3 ∷ [], refl, refl), (2 ∷ 3 ∷ [], (2 ∷ 3 ∷ [], refl, refl), (2 ∷ 3 ∷ [], (2 ∷ 3 ∷ [], refl, refl), refl)))),
+              none_left 1,
+              left-exit _ _ 1 (λ q page is. rw is (of_second q page (q == 2))),
               (
-                [],
+                Noted (New 2 0x7fffffffd000 1) ∷ Used true (2, 0x7fffffffd) ∷ Noted (New 2 0x7fffffffe000 0) ∷ Used true (2, 0x7fffffffe) ∷ [],
                 2 ∷ 3 ∷ [],
-                record { answer = (refl, refl, refl); notes = refl },
-                refl,
-                tt,
+                record { answer = (Whole, inl (New 2 0x7fffffffd000 1 ∷ [], Noted (New 2 0x7fffffffe000 0) ∷ Used true (2, 0x7fffffffe) ∷ [], (refl, record { coming = []; making = New 2 0x7fffffffd000 1 ∷ []; whole = refl; comes_in = refl; made = record { sought = []; frame = 1; seeks = refl; in_range = omega arith; free = refl; whole = refl } }), refl, inl (New 2 0x7fffffffe000 0 ∷ [], [], (refl, record { coming = []; making = New 2 0x7fffffffe000 0 ∷ []; whole = refl; comes_in = refl; made = record { sought = []; frame = 0; seeks = refl; in_range = omega arith; free = refl; whole = refl } }), refl, (refl, refl))), refl, refl); notes = refl },
+                (0 ∷ 2 ∷ 3 ∷ [], (0 ∷ 2 ∷ 3 ∷ [], refl, refl), (0 ∷ 2 ∷ 3 ∷ [], (0 ∷ 2 ∷ 3 ∷ [], refl, refl), (2 ∷ 3 ∷ [], (2 ∷ 3 ∷ [], refl, refl), (2 ∷ 3 ∷ [], (2 ∷ 3 ∷ [], refl, refl), refl)))),
+                (
+                  [],
+                  2 ∷ 3 ∷ [],
+                  record { answer = (refl, refl, refl); notes = refl },
+                  refl,
+                  tt,
+                ),
               ),
             ),
           ),

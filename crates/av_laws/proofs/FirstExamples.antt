@@ -1,8 +1,10 @@
 -- The worked rows from nothing on.
-use Rattle.std.specs.Prelude.{◌≡◌, ℕ, ◌+◌, ◌-◌, ◌<◌, ◌≤◌, Bool, nat_le, true, false, List, [], ◌∷◌, drop, Some, None, refl, MatchBool}
+use Rattle.std.specs.Prelude.{◌≡◌, ℕ, zero, suc, ◌+◌, ◌-◌, ◌<◌, ◌≤◌, Bool, nat_le, true, false, not, ◌==◌, ◌&&◌, ◌||◌, List, [], ◌∷◌, drop, Option, Some, None, is_some, IsSome, IsSomeAnd, refl, MatchBool}
 use Rattle.std.proofs.Common.{arith, inl, subst, sym, ◌∙◌, inr}
 use Rattle.std.proofs.lemmas.Bool.Decides.{nat_tests}
-use Rattle.std.proofs.lemmas.Bool.{false≢true}
+use Rattle.std.proofs.lemmas.Bool.{and_parts, false≢true}
+use Rattle.av_base.specs.Words.{is_in}
+use Rattle.av_vma.specs.declared.area.Area.{Area}
 use Rattle.av_base.specs.declared.prot.Prot.{Prot}
 use Rattle.av_base.specs.Limits.{low_page, top_page}
 use Rattle.av_vma.specs.Gap.{IsRoom, IsGap}
@@ -11,73 +13,168 @@ use Rattle.av_trace.specs.declared.place.Place.TheVariants.{Auto}
 use Rattle.av_trace.specs.declared.reply.Answer.TheVariants.{Done, MapAt}
 use Rattle.av_trace.specs.declared.note.Note.TheVariants.{Zeroed, New}
 use Rattle.av_plain.specs.World.{no_pages, zeros, with_pages}
-use Rattle.av_plain.specs.Ledger.{Setting, first_ledger}
+use Rattle.av_plain.specs.Ledger.{Entry, Key, Setting, first_ledger}
 use Rattle.av_plain.specs.Event.{Event, Noted, Used, after_all}
 use Rattle.av_plain.specs.Fault.{Denied, Starved}
 use Rattle.av_plain.specs.Access.{Whole, Stopped}
 use Rattle.av_plain.specs.Step.{IsLegal, next_world}
-use Rattle.av_plain.specs.Areas.{AreNext, chain_length, no_anons, next_areas, no_areas}
-use Rattle.av_plain.proofs.AreasLeft.{left-none}
+use Rattle.av_plain.specs.Areas.{AnonVma, Anons, AreLeft, Areas, IsLinked, Rmap, chain_length, chain_of, no_anons, next_areas, no_areas, prepare_all}
+use Rattle.av_plain.proofs.AreasLeft.{AreBelow, below-all, below-left, left-all}
 use Rattle.av_plain.specs.Choice.{no_slots}
 use Rattle.av_plain.proofs.Choice.{ChoosesFrames}
 use Rattle.av_laws.proofs.Choice.{all-chosen, gives_all, none-given, slots_after_all, take_none}
-use Rattle.av_plain.specs.Transcript.{Exchange, State, at_first}
+use Rattle.av_plain.specs.Transcript.{Exchange, IsStep, State, at_first, rmap_of}
 use Rattle.av_laws.specs.Examples.{Allows, Runs, machine, says, read_write, write_only, first_run, zero_first, one_frame, part_denied, two_processes, refusals, all_mapped, readable, denied_write}
 
+-- ---- what is left of anon_vmas
+
+-- an area that is there is linked to the anon_vma
+abbrev pub is_linked : Anons → ℕ → Option Area → Bool
+is_linked anons v None = false
+is_linked anons v (Some area) = is_in v (chain_of anons area.anon)
+
+-- the area of one of these keys is
+abbrev pub is_linked_on : Anons → Areas → ℕ → List (Key × Entry) → Bool
+is_linked_on anons on v [] = false
+is_linked_on anons on v (e ∷ es) = is_linked anons v (on e.0.0 e.0.1) || is_linked_on anons on v es
+
+-- so is one to each anon_vma below a number that is there: to look at pages with entries is enough
+-- for one that was prepared at its first frame
+abbrev pub all_linked : Anons → Areas → List (Key × Entry) → ℕ → Bool
+all_linked anons on es zero = true
+all_linked anons on es (suc n) =
+    (not (is_some (anons.anon n)) || is_linked_on anons on n es) && all_linked anons on es n
+
+linked-on : (anons : Anons) (on : Areas) (v : ℕ) (es : List (Key × Entry)) → is_linked_on anons on v es ≡ true → IsLinked anons on v
+linked-on anons on v [] h = cc
+linked-on anons on v (e ∷ es) h = by (is_linked anons v (on e.0.0 e.0.1)) refl (linked-on anons on v es) h
+  where
+    there : (o : Option Area) → is_linked anons v o ≡ true → IsSomeAnd o (λ area. is_in v (chain_of anons area.anon) ≡ true)
+    there None h = cc
+    there (Some area) h = h
+
+    by : (b : Bool) → is_linked anons v (on e.0.0 e.0.1) ≡ b → (is_linked_on anons on v es ≡ true → IsLinked anons on v)
+        → (b || is_linked_on anons on v es) ≡ true → IsLinked anons on v
+    by true is rest h = (e.0.0, e.0.1, there (on e.0.0 e.0.1) is)
+    by false is rest h = rest h
+
+pub linked-all : (anons : Anons) (on : Areas) (es : List (Key × Entry)) (n : ℕ) → all_linked anons on es n ≡ true
+    → (v : ℕ) → v < n → IsSome (anons.anon v) → IsLinked anons on v
+linked-all anons on es zero h v below there = absurd (omega (arith, below))
+linked-all anons on es (suc n) h v below there =
+    let both = and_parts (not (is_some (anons.anon n)) || is_linked_on anons on n es) (all_linked anons on es n) h in
+    by both.0 (λ less. linked-all anons on es n both.1 v less there) (v == n) refl
+  where
+    here : (o : Option AnonVma) → IsSome o → (not (is_some o) || is_linked_on anons on n es) ≡ true → is_linked_on anons on n es ≡ true
+    here None s h = cc
+    here (Some x) s h = h
+
+    by : (not (is_some (anons.anon n)) || is_linked_on anons on n es) ≡ true → (v < n → IsLinked anons on v)
+        → (b : Bool) → (v == n) ≡ b → IsLinked anons on v
+    by last rest true is =
+        let e : v ≡ n = grind (arith, nat_tests, is) in
+        subst (IsLinked anons on) (sym e) (linked-on anons on n es (here (anons.anon n) (subst (λ v. IsSome (anons.anon v)) e there) last))
+    by last rest false is = rest (grind (arith, nat_tests, is, below))
+
+-- ---- steps
+
+-- the state after an exchange with these events, where these frames are free and these anon_vmas
+-- left
+abbrev pub state_after : Setting → State → Exchange → List Event → List ℕ → Anons → State
+state_after m old e events free anons =
+    let now = prepare_all events (rmap_of old) in record {
+      world = next_world m old.world old.ledger events e.command e.reply.answer;
+      ledger = after_all old.ledger events;
+      free = record { frames = free; slots = slots_after_all m old.ledger events old.free.slots };
+      areas = next_areas (chain_length now.anons) now.areas old.world e.command e.reply.answer;
+      anons = anons;
+    }
+
+pub one-step : (m : Setting) (old : State) (e : Exchange) (events : List Event) (free : List ℕ) (left : Anons)
+    → IsLegal m old.world old.ledger e.command e.reply events → ChoosesFrames m old.ledger events old.free.frames free
+    → gives_all m None old.ledger events old.free.slots ≡ true
+    → AreLeft (prepare_all events (rmap_of old)).anons (state_after m old e events free left).areas left
+    → IsStep m old e.command e.reply (state_after m old e events free left)
+one-step m old e events free left legal frames given is = record {
+  events = events;
+  legal = legal;
+  world = refl;
+  ledger = refl;
+  free = all-chosen m None old.ledger events old.free.frames free old.free.slots frames given;
+  rmap = record { areas = refl; anons = is };
+}
+
+-- all anon_vmas are left, as far as the pages with entries show
+abbrev pub all_left : Setting → State → Exchange → List Event → Bool
+all_left m old e events =
+    let now = prepare_all events (rmap_of old) in
+    all_linked now.anons (state_after m old e events [] now.anons).areas (after_all old.ledger events).entries now.anons.next
+
 -- each exchange by its events, and the frames that are free after it; where a slot is taken, it is
--- the one that is given. No anon_vma was made
+-- the one that is given. Areas and anon_vmas follow; where not all anon_vmas are left, those that
+-- are left are told
 abbrev pub Steps : Setting → State → List Exchange → Type 0
 Steps m old [] = Unit {0}
 Steps m old (e ∷ row) =
     (events : List Event) × (free : List ℕ)
     × IsLegal m old.world old.ledger e.command e.reply events
     × ChoosesFrames m old.ledger events old.free.frames free
-    × (let new : State = record {
-      world = next_world m old.world old.ledger events e.command e.reply.answer;
-      ledger = after_all old.ledger events;
-      free = record { frames = free; slots = slots_after_all m old.ledger events old.free.slots };
-      areas = next_areas (chain_length no_anons) old.areas old.world e.command e.reply.answer;
-      anons = no_anons;
-    } in MatchBool (take_none events) (Steps m new row)
-    ((gives_all m None old.ledger events old.free.slots ≡ true) × Steps m new row))
+    × (let now = prepare_all events (rmap_of old) in
+    let later : Type 0 = MatchBool (all_left m old e events)
+    (Steps m (state_after m old e events free now.anons) row)
+    ((left : Anons) × AreLeft now.anons (state_after m old e events free left).areas left × Steps m (state_after m old e events free left) row) in
+    MatchBool (take_none events) later ((gives_all m None old.ledger events old.free.slots ≡ true) × later))
 
-pub by_steps : (m : Setting) (old : State) (row : List Exchange) → old.anons ≡ no_anons
+-- the steps that are left after an exchange, by whether all anon_vmas are left
+abbrev Later : Setting → State → Exchange → List Exchange → List Event → List ℕ → Bool → Type 0
+Later m old e row events free b =
+    let now = prepare_all events (rmap_of old) in
+    MatchBool b (Steps m (state_after m old e events free now.anons) row)
+    ((left : Anons) × AreLeft now.anons (state_after m old e events free left).areas left × Steps m (state_after m old e events free left) row)
+
+from_steps : (m : Setting) (old : State) (row : List Exchange) → AreBelow old.anons
     → Steps m old row → Allows m old row
-by_steps m old [] none h = (old, refl)
-by_steps m old (e ∷ row) none h =
-    let mid : State = record {
-      world = next_world m old.world old.ledger h.0 e.command e.reply.answer;
-      ledger = after_all old.ledger h.0;
-      free = record { frames = h.1; slots = slots_after_all m old.ledger h.0 old.free.slots };
-      areas = next_areas (chain_length no_anons) old.areas old.world e.command e.reply.answer;
-      anons = no_anons;
-    } in
-    let both = given (take_none h.0) refl mid h.4 in
-    let rest = by_steps m mid row refl both.1 in (
+from_steps m old [] below h = (old, refl)
+from_steps m old (e ∷ row) below h =
+    let both = given (take_none h.0) refl h.4 in
+    let left = are_left (all_left m old e h.0) refl both.1 in
+    let mid = state_after m old e h.0 h.1 left.0 in
+    let rest = from_steps m mid row (below-left now.anons mid.areas left.0 left.1 now_below) left.2 in (
       rest.0,
       (
         mid,
-        record {
-          events = h.0;
-          legal = h.2;
-          world = refl;
-          ledger = refl;
-          free = all-chosen m None old.ledger h.0 old.free.frames h.1 old.free.slots h.3 both.0;
-          areas = subst
-              (λ a. AreNext old.areas a old.world e.command e.reply.answer mid.areas no_anons)
-              (sym none)
-              (record { areas = refl; anons = left-none mid.areas });
-        },
+        one-step m old e h.0 h.1 left.0 h.2 h.3 both.0 left.1,
         rest.1,
       ),
     )
   where
-    given : (b : Bool) → take_none h.0 ≡ b → (new : State)
-        → MatchBool b (Steps m new row)
-        ((gives_all m None old.ledger h.0 old.free.slots ≡ true) × Steps m new row)
-        → (gives_all m None old.ledger h.0 old.free.slots ≡ true) × Steps m new row
-    given true is new h' = (none-given m None old.ledger h.0 old.free.slots is, h')
-    given false is new h' = h'
+    now : Rmap
+    now = prepare_all h.0 (rmap_of old)
+
+    now_below : AreBelow (prepare_all h.0 (rmap_of old)).anons
+    now_below = below-all h.0 (rmap_of old) below
+
+    given : (b : Bool) → take_none h.0 ≡ b
+        → MatchBool b (Later m old e row h.0 h.1 (all_left m old e h.0))
+        ((gives_all m None old.ledger h.0 old.free.slots ≡ true) × Later m old e row h.0 h.1 (all_left m old e h.0))
+        → (gives_all m None old.ledger h.0 old.free.slots ≡ true) × Later m old e row h.0 h.1 (all_left m old e h.0)
+    given true is h' = (none-given m None old.ledger h.0 old.free.slots is, h')
+    given false is h' = h'
+
+    are_left : (b : Bool) → all_left m old e h.0 ≡ b → Later m old e row h.0 h.1 b
+        → (left : Anons) × AreLeft (prepare_all h.0 (rmap_of old)).anons (state_after m old e h.0 h.1 left).areas left
+        × Steps m (state_after m old e h.0 h.1 left) row
+    are_left true is h' = (
+      now.anons,
+      left-all now.anons (state_after m old e h.0 h.1 now.anons).areas now_below
+          (linked-all now.anons (state_after m old e h.0 h.1 now.anons).areas (after_all old.ledger h.0).entries now.anons.next is),
+      h',
+    )
+    are_left false is h' = h'
+
+pub by_steps : (m : Setting) (old : State) (row : List Exchange) → old.anons ≡ no_anons
+    → Steps m old row → Allows m old row
+by_steps m old row none h = from_steps m old row (subst AreBelow (sym none) (λ v above. refl)) h
 
 not_free : (b : Bool) → b ≡ false → b ≡ true → ⊥
 not_free b h i = false≢true (sym h ∙ i)

@@ -2,6 +2,8 @@
 use Rattle.std.proofs.Common.{◌≡◌, ℕ, ◌+◌, ◌-◌, ◌*◌, ◌/◌, ◌<◌, ◌≤◌, min, max, ◌⊎◌, inl, inr, Bool, true, false, cond, not, ◌&&◌, nat_lt, ◌==◌, Option, Some, None, option_map, refl, sym, ap, subst, ◌∙◌, arith}
 use Rattle.std.proofs.Math.Bool.{beq}
 use Rattle.std.proofs.lemmas.Bool.{and_parts, and_from, ltb-true, ltb-false, lt-ltb, le-ltb, eqb-true, cases_lt, cases_Bool, cond-true, cond-false, false≢true, both_ways, false_from_ne_true}
+use Rattle.std.specs.Prelude.{if◌then◌else◌}
+use Rattle.av_base.specs.Page.{address_of}
 use Rattle.std.proofs.lemmas.Bool.Decides.{nat_tests}
 use Rattle.std.proofs.lemmas.Option.{none-some, same_Some}
 use Rattle.av_base.specs.Words.{within}
@@ -110,6 +112,15 @@ prots_cut at on page = by (on page)
     by : (o : Option Area) → option_map (λ (area : Area). area.prot) (option_map (part_of at page) o) ≡ option_map (λ (area : Area). area.prot) o
     by None = refl
     by (Some area) = ap Some (part area (nat_lt page at))
+
+-- a part of an area has its anon_vma
+pub part_own : (at page : ℕ) (a : Area) → (part_of at page a).anon ≡ a.anon
+part_own at page a = by (nat_lt page at)
+  where
+    by : (b : Bool) → (if b then record a { end = min a.end (address_of at) }
+        else record a { start = max a.start (address_of at); pgoff = a.pgoff + (at - first_of a) }).anon ≡ a.anon
+    by true = refl
+    by false = refl
 
 -- no area has pages on both sides
 abbrev pub Splits : ℕ → Pages → Type 0
@@ -424,3 +435,50 @@ laid_placed area on laid whole free = record {
         let same = same_Some area a is in
         ap (λ b. cond b (Some area) (on other)) (subst (λ (a : Area). has_page a other ≡ true) (sym same) has) ∙ ap Some same
     by_all page other a false e is has = of_other other a (has_page area other) refl (laid.all page other a is has)
+
+-- ---- another anon_vma
+
+-- an area with another anon_vma is on all of its pages
+pub laid_owned : (page : ℕ) (area : Area) (own : Option ℕ) (on : Pages) → AreLaid on → on page ≡ Some area
+    → AreLaid (with_area (record area { anon = own }) on)
+laid_owned page area own on laid is = record {
+  whole = λ here a. by_whole here a (has_page area here);
+  here = λ here a. by_here here a (has_page area here) refl;
+  all = λ here other a. by_all here other a (has_page area here) refl;
+}
+  where
+    whole : IsWhole (record area { anon = own })
+    whole = let w = laid.whole page area is in record { start = w.start; end = w.end; some = w.some; low = w.low; high = w.high; small = w.small }
+
+    by_whole : (here : ℕ) (a : Area) (b : Bool) → cond b (Some (record area { anon = own })) (on here) ≡ Some a → IsWhole a
+    by_whole here a true e = subst IsWhole (same_Some (record area { anon = own }) a e) whole
+    by_whole here a false e = laid.whole here a e
+
+    by_here : (here : ℕ) (a : Area) (b : Bool) → has_page area here ≡ b → cond b (Some (record area { anon = own })) (on here) ≡ Some a
+        → has_page a here ≡ true
+    by_here here a true h e = subst (λ (a : Area). has_page a here ≡ true) (same_Some (record area { anon = own }) a e) h
+    by_here here a false h e = laid.here here a e
+
+    apart : (here other : ℕ) (a : Area) (b : Bool) → has_page area other ≡ b → has_page area here ≡ false → on here ≡ Some a
+        → has_page a other ≡ true → cond b (Some (record area { anon = own })) (on other) ≡ Some a
+    apart here other a false h none e has = laid.all here other a e has
+    apart here other a true h none e has =
+        let same : a ≡ area = same_Some a area (sym (laid.all here other a e has) ∙ laid.all page other area is h) in
+        absurd (both_ways (has_page area here) none (subst (λ (a : Area). has_page a here ≡ true) same (laid.here here a e)))
+
+    by_all : (here other : ℕ) (a : Area) (b : Bool) → has_page area here ≡ b → cond b (Some (record area { anon = own })) (on here) ≡ Some a
+        → has_page a other ≡ true → with_area (record area { anon = own }) on other ≡ Some a
+    by_all here other a true h e has =
+        let same = same_Some (record area { anon = own }) a e in
+        ap (λ b. cond b (Some (record area { anon = own })) (on other)) (subst (λ (a : Area). has_page a other ≡ true) (sym same) has) ∙ ap Some same
+    by_all here other a false h e has = apart here other a (has_page area other) refl h e has
+
+-- and has its protection
+pub prots_owned : (page : ℕ) (area : Area) (own : Option ℕ) (on : Pages) → AreLaid on → on page ≡ Some area
+    → (other : ℕ) → prots (with_area (record area { anon = own }) on) other ≡ prots on other
+prots_owned page area own on laid is other = by (has_page area other) refl
+  where
+    by : (b : Bool) → has_page area other ≡ b
+        → option_map (λ (a : Area). a.prot) (cond b (Some (record area { anon = own })) (on other)) ≡ prots on other
+    by true h = sym (ap (option_map (λ (a : Area). a.prot)) (laid.all page other area is h))
+    by false h = refl

@@ -12,6 +12,7 @@ pub mod SoundExample
 pub mod ExitExamples
 pub mod RangeExamples
 pub mod PairExamples
+pub mod PrepareExamples
 pub mod UnsoundExamples
 pub mod ReadBack
 pub mod NeedsFrame

@@ -1,10 +1,15 @@
 -- The worked rows of munmap, mprotect and mmap at an address.
-use Rattle.std.proofs.Common.{◌≡◌, ℕ, ◌+◌, ◌-◌, Bool, true, false, cond, ◌&&◌, ◌||◌, List, [], ◌∷◌, length, Option, Some, None, option_map, refl, sym, ap, ◌∙◌, arith, if◌then◌else◌, inl, inr}
-use Rattle.std.specs.Prelude.{slice_index, drop}
+use Rattle.std.proofs.Common.{◌≡◌, ℕ, ◌+◌, ◌-◌, Bool, true, false, cond, ◌&&◌, ◌||◌, List, [], ◌∷◌, length, Option, Some, None, option_map, refl, sym, ap, ◌∙◌, arith, if◌then◌else◌, ◌⊎◌, inl, inr}
+use Rattle.std.specs.Prelude.{IfSome, slice_index, drop}
 use Rattle.std.proofs.lemmas.Bool.Decides.{nat_tests}
 use Rattle.std.proofs.lemmas.Bool.{false≢true}
 use Rattle.av_base.specs.declared.prot.Prot.{Prot}
-use Rattle.av_base.specs.Words.{within}
+use Rattle.av_base.specs.Words.{with_at, within}
+use Rattle.av_vma.specs.Pages.{fresh_area, part_of}
+use Rattle.av_vma.specs.declared.area.Area.{Area}
+use Rattle.av_plain.specs.Areas.{Anons}
+use Rattle.av_plain.proofs.AreasLeft.{left-root, of_processes}
+use Rattle.av_laws.proofs.Laid.{part_own}
 use Rattle.av_trace.specs.declared.reply.Answer.TheVariants.{Done}
 use Rattle.av_trace.specs.declared.note.Note.TheVariants.{Zeroed, New}
 use Rattle.av_plain.specs.World.{Process, Page, no_pages, zeros, with_prot, with_pages, with_prot_on, with_bytes}
@@ -318,6 +323,41 @@ range_refusals-runs = by_steps (machine 4) (at_first (machine 4)) range_refusals
   ),
 ))
 
+-- two pages were mapped over the second of two areas that have anon_vmas
+abbrev over_second : ℕ → Bool → Bool → Bool → Option Area
+over_second page b c d =
+    let first = fresh_area 1 0x7fffffffe 0x7ffffffff read_write in
+    let second = fresh_area 1 0x20 0x21 read_write in
+    if b then Some (fresh_area 1 0x20 0x22 read_write) else (if b then None
+    else option_map (part_of 0x22 page) (option_map (part_of 0x20 page)
+    (if c then Some (record second { anon = Some 1 }) else (if c then Some second
+    else (if d then Some (record first { anon = Some 0 }) else (if d then Some first else None))))))
+
+-- the first anon_vma alone is left
+abbrev first_left : Anons
+first_left = record { next = 2; anon = with_at 0 (Some (record { root = 0; parent = 0; chain = 0 ∷ [] })) (λ _. None) }
+
+-- an area that is on a page is of the first one, or of none
+abbrev OfFirst : Option Area → Type 0
+OfFirst o = IfSome o (λ area. (area.anon ≡ None) ⊎ (area.anon ≡ Some 0))
+
+-- where a mapping went over the second area no page has its anon_vma
+under_fixed : (page : ℕ) → OfFirst (over_second page (within 0x20 2 page) (within 0x20 1 page) (within 0x7fffffffe 1 page))
+under_fixed page = by (within 0x20 2 page) (within 0x20 1 page) (within 0x7fffffffe 1 page) refl refl
+  where
+    apart : within 0x20 2 page ≡ false → within 0x20 1 page ≡ true → ⊥
+    apart h g = grind (arith, nat_tests, h, g)
+
+    part : (a : Area) → a.anon ≡ Some 0 → (part_of 0x22 page (part_of 0x20 page a)).anon ≡ Some 0
+    part a h = part_own 0x22 page (part_of 0x20 page a) ∙ part_own 0x20 page a ∙ h
+
+    by : (b c d : Bool) → within 0x20 2 page ≡ b → within 0x20 1 page ≡ c
+        → OfFirst (over_second page b c d)
+    by true c d is is' = inl refl
+    by false true d is is' = absurd (apart is is')
+    by false false true is is' = inr (part (record (fresh_area 1 0x7fffffffe 0x7ffffffff read_write) { anon = Some 0 }) refl)
+    by false false false is is' = tt
+
 pub fixed_over-runs : Runs 4 (fixed_over 3 0 (Zeroed 1 0x20000 ∷ []))
 fixed_over-runs = by_steps (machine 4) (at_first (machine 4)) (fixed_over 3 0 (Zeroed 1 0x20000 ∷ [])) refl (topmost read_write (drop 2 (fixed_over 3 0 (Zeroed 1 0x20000 ∷ []))) (
   Noted (New 1 0x7fffffffe000 0) ∷ Used true (1, 0x7fffffffe) ∷ [],
@@ -345,36 +385,40 @@ fixed_over-runs = by_steps (machine 4) (at_first (machine 4)) (fixed_over 3 0 (Z
           record { answer = (Some 0x20, refl, refl, refl, refl); notes = refl },
           (1 ∷ 2 ∷ 3 ∷ [], (2 ∷ 3 ∷ [], refl, refl), refl),
           (
-            [],
-            1 ∷ 2 ∷ 3 ∷ [],
-            record { answer = (refl, refl, refl); notes = refl },
-            refl,
+            first_left,
+            left-root _ _ 0 refl (1, 0x7fffffffe, refl) (of_processes OfFirst 1 _ _ under_fixed (λ q page is. rw is tt)),
             (
-              Noted (Zeroed 1 0x20000) ∷ Used false (1, 0x20) ∷ [],
+              [],
               1 ∷ 2 ∷ 3 ∷ [],
-              record { answer = (Whole, 0 ∷ [], inl (Zeroed 1 0x20000 ∷ [], [], (refl, record { coming = []; making = Zeroed 1 0x20000 ∷ []; whole = refl; comes_in = refl; made = refl }), refl, (refl, refl)), (refl, (refl, tt), (omega arith, tt)), refl, refl); notes = refl },
-              (1 ∷ 2 ∷ 3 ∷ [], (1 ∷ 2 ∷ 3 ∷ [], refl, refl), (1 ∷ 2 ∷ 3 ∷ [], (1 ∷ 2 ∷ 3 ∷ [], refl, refl), refl)),
+              record { answer = (refl, refl, refl); notes = refl },
+              refl,
               (
-                Noted (New 1 0x21000 1) ∷ Used true (1, 0x21) ∷ [],
-                2 ∷ 3 ∷ [],
-                record { answer = (Whole, inl (New 1 0x21000 1 ∷ [], [], (refl, record { coming = []; making = New 1 0x21000 1 ∷ []; whole = refl; comes_in = refl; made = record { sought = []; frame = 1; seeks = refl; in_range = omega arith; free = refl; whole = refl } }), refl, (refl, refl)), refl, refl); notes = refl },
-                (2 ∷ 3 ∷ [], (2 ∷ 3 ∷ [], refl, refl), (2 ∷ 3 ∷ [], (2 ∷ 3 ∷ [], refl, refl), refl)),
+                Noted (Zeroed 1 0x20000) ∷ Used false (1, 0x20) ∷ [],
+                1 ∷ 2 ∷ 3 ∷ [],
+                record { answer = (Whole, 0 ∷ [], inl (Zeroed 1 0x20000 ∷ [], [], (refl, record { coming = []; making = Zeroed 1 0x20000 ∷ []; whole = refl; comes_in = refl; made = refl }), refl, (refl, refl)), (refl, (refl, tt), (omega arith, tt)), refl, refl); notes = refl },
+                (1 ∷ 2 ∷ 3 ∷ [], (1 ∷ 2 ∷ 3 ∷ [], refl, refl), (1 ∷ 2 ∷ 3 ∷ [], (1 ∷ 2 ∷ 3 ∷ [], refl, refl), refl)),
                 (
-                  Zapped (1, 0x20) ∷ [],
+                  Noted (New 1 0x21000 1) ∷ Used true (1, 0x21) ∷ [],
                   2 ∷ 3 ∷ [],
-                  record { answer = (refl, refl, refl); notes = refl },
-                  (2 ∷ 3 ∷ [], (2 ∷ 3 ∷ [], refl, refl), refl),
+                  record { answer = (Whole, inl (New 1 0x21000 1 ∷ [], [], (refl, record { coming = []; making = New 1 0x21000 1 ∷ []; whole = refl; comes_in = refl; made = record { sought = []; frame = 1; seeks = refl; in_range = omega arith; free = refl; whole = refl } }), refl, (refl, refl)), refl, refl); notes = refl },
+                  (2 ∷ 3 ∷ [], (2 ∷ 3 ∷ [], refl, refl), (2 ∷ 3 ∷ [], (2 ∷ 3 ∷ [], refl, refl), refl)),
                   (
-                    Used false (1, 0x21) ∷ [],
+                    Zapped (1, 0x20) ∷ [],
                     2 ∷ 3 ∷ [],
-                    record { answer = (Whole, 8 ∷ [], inl ([], [], (refl, record { coming = []; making = []; whole = refl; comes_in = refl; made = refl }), refl, (refl, refl)), (refl, (refl, tt), (omega arith, tt)), refl, refl); notes = refl },
+                    record { answer = (refl, refl, refl); notes = refl },
                     (2 ∷ 3 ∷ [], (2 ∷ 3 ∷ [], refl, refl), refl),
                     (
-                      Used false (1, 0x7fffffffe) ∷ [],
+                      Used false (1, 0x21) ∷ [],
                       2 ∷ 3 ∷ [],
-                      record { answer = (Whole, 9 ∷ [], inl ([], [], (refl, record { coming = []; making = []; whole = refl; comes_in = refl; made = refl }), refl, (refl, refl)), (refl, (refl, tt), (omega arith, tt)), refl, refl); notes = refl },
+                      record { answer = (Whole, 8 ∷ [], inl ([], [], (refl, record { coming = []; making = []; whole = refl; comes_in = refl; made = refl }), refl, (refl, refl)), (refl, (refl, tt), (omega arith, tt)), refl, refl); notes = refl },
                       (2 ∷ 3 ∷ [], (2 ∷ 3 ∷ [], refl, refl), refl),
-                      tt,
+                      (
+                        Used false (1, 0x7fffffffe) ∷ [],
+                        2 ∷ 3 ∷ [],
+                        record { answer = (Whole, 9 ∷ [], inl ([], [], (refl, record { coming = []; making = []; whole = refl; comes_in = refl; made = refl }), refl, (refl, refl)), (refl, (refl, tt), (omega arith, tt)), refl, refl); notes = refl },
+                        (2 ∷ 3 ∷ [], (2 ∷ 3 ∷ [], refl, refl), refl),
+                        tt,
+                      ),
                     ),
                   ),
                 ),

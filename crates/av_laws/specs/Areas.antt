@@ -9,26 +9,36 @@
 --     unchanged_before_hole
 --   the end of a process (`next_areas`): after_exit, kept_at_exit
 --   how long a chain is (`chain_length`, `share_anon`): joined_to_root, apart_from_child,
---     apart_from_root, joined_to_child
+--     apart_from_root, joined_to_child, joined_with_one, apart_with_two
 --   what is left of anon_vmas (`AreLeft`): child_goes, both_stay, child_kept, root_lost,
 --     root_of_child_lost, other_root, other_parent, other_chain, number_again
-use Rattle.std.specs.Prelude.{◌≡◌, ℕ, ◌||◌, if◌then◌else◌, List, [], ◌∷◌, ◌++◌, Option, Some, None}
+--   when an area is prepared (`prepare_note`, `with_anon`): first_write, second_write, by_a_read,
+--     unprepared, prepared_in_part, second_number, second_made, prepared_by_a_read, not_joined,
+--     joined_by_prepare
+--   the anon_vma that it gets (`loan_beside`, `is_reusable`): taken_behind, after_first,
+--     not_from_child, other_offset, other_flags, taken_from_before, taken_from_child,
+--     made_though_lent, in_one_process, lent_by_another, prepared_in_another
+--   a new one (`with_root`): first_write, next_number, number_used_again, number_lowered,
+--     rooted_elsewhere, parent_elsewhere, longer_chain
+use Rattle.std.specs.Prelude.{◌≡◌, ℕ, List, [], ◌∷◌, ◌++◌, Option, Some, None, option_map}
 use Rattle.std.specs.List.{AllByRecursion}
-use Rattle.av_base.specs.Words.{numbers, with_at, within}
+use Rattle.av_base.specs.Words.{numbers, with_at}
 use Rattle.av_base.specs.declared.prot.Prot.{Prot}
 use Rattle.av_trace.specs.declared.command.Command.{Command}
-use Rattle.av_trace.specs.declared.command.Command.TheVariants.{Exit, Mmap, Mprotect, Munmap, Spawn}
+use Rattle.av_trace.specs.declared.command.Command.TheVariants.{Exit, Mmap, Mprotect, Munmap, Read, Spawn, Write}
+use Rattle.av_trace.specs.declared.note.Note.TheVariants.{New, Zeroed}
 use Rattle.av_trace.specs.declared.place.Place.TheVariants.{Fixed}
 use Rattle.av_trace.specs.declared.reply.Answer.{Answer}
-use Rattle.av_trace.specs.declared.reply.Answer.TheVariants.{Done, MapAt, Refused}
+use Rattle.av_trace.specs.declared.reply.Answer.TheVariants.{Data, Done, MapAt, Refused}
 use Rattle.av_trace.specs.declared.reply.Errno.TheVariants.{Enomem}
+use Rattle.av_trace.specs.declared.reply.Reply.{Reply}
 use Rattle.av_vma.specs.Pages.{fresh_area, pages_in}
 use Rattle.av_vma.specs.declared.area.Area.{Area}
-use Rattle.av_plain.specs.Areas.{AnonVma, Anons, no_areas}
+use Rattle.av_plain.specs.Areas.{AnonVma, Anons, no_anons, no_areas}
 use Rattle.av_plain.specs.Ledger.{first_ledger}
 use Rattle.av_plain.specs.Transcript.{Exchange, IsRun, IsStep, State, at_first}
 use Rattle.av_plain.specs.World.{Process, zeros}
-use Rattle.av_laws.specs.Examples.{Runs, machine, only_frames, read_only, read_write, reply_with, says}
+use Rattle.av_laws.specs.Examples.{Runs, machine, only_frames, read_only, read_write, reply_with, says, write_only}
 
 -- ---- what a row claims
 
@@ -111,42 +121,63 @@ anons_of first second next = record {
   anon = with_at 0 first (with_at 1 second (λ _. None));
 }
 
+-- a root and its child
+abbrev pub kin : Anons
+kin = anons_of (Some root) (Some child) 2
+
 -- an area with this anon_vma as its own
+abbrev pub owned : ℕ → Area → Area
+owned own area = record area { anon = Some own }
+
 abbrev pub area_of : ℕ → ℕ → ℕ → Area
-area_of own from past = record (area from past read_write) { anon = Some own }
+area_of own from past = owned own (area from past read_write)
 
--- two pages, two that aren't mapped, and two again
-abbrev pub two_and_two : Process
-two_and_two page =
-    if within 0x10 2 page || within 0x14 2 page then Some (zeros read_write) else None
+-- the pages of these areas are mapped, with their protection
+abbrev pub mapped : List Area → Process
+mapped areas page = option_map (λ (a : Area). zeros a.prot) (pages_in (Some areas) page)
 
--- the first two are of anon_vma 0, the others of 1
-abbrev pub with_anons : State
-with_anons = record {
-  world = (1, two_and_two) ∷ [];
+-- process 1 has these areas, and nothing was read or written yet
+abbrev pub state_of : List Area → Anons → State
+state_of areas anons = record {
+  world = (1, mapped areas) ∷ [];
   ledger = first_ledger;
   free = only_frames (0 ∷ 1 ∷ 2 ∷ 3 ∷ []);
-  areas = with_at 1 (pages_in (Some (area_of 0 0x10 0x12 ∷ area_of 1 0x14 0x16 ∷ []))) no_areas;
-  anons = anons_of (Some root) (Some child) 2;
+  areas = with_at 1 (pages_in (Some areas)) no_areas;
+  anons = anons;
 }
 
 -- the command may be answered so there, and leaves process 1 these areas on each of 8 pages, and
 -- these anon_vmas
-abbrev pub Leaves : Command → Answer → List Area → Anons → Type 0
-Leaves command answer areas anons =
-    (new : State) × IsStep (machine 4) with_anons command (reply_with answer []) new
+abbrev pub LeavesFrom : State → Command → Reply → List Area → Anons → Type 0
+LeavesFrom old command reply areas anons =
+    (new : State) × IsStep (machine 4) old command reply new
     × AllByRecursion (λ page. new.areas 1 page ≡ pages_in (Some areas) page) (numbers 0xf 8)
     × (new.anons ≡ anons)
 
 -- it never leaves it this area on the page, or these anon_vmas
+abbrev pub NeverPutsFrom : State → Command → Reply → ℕ → Area → Type 0
+NeverPutsFrom old command reply page area = (new : State)
+    → IsStep (machine 4) old command reply new → new.areas 1 page ≡ Some area → ⊥
+
+abbrev pub NeverLeavesFrom : State → Command → Reply → Anons → Type 0
+NeverLeavesFrom old command reply anons = (new : State)
+    → IsStep (machine 4) old command reply new → new.anons ≡ anons → ⊥
+
+-- two pages are of anon_vma 0, and two behind a hole of 1
+abbrev pub with_anons : State
+with_anons = state_of (area_of 0 0x10 0x12 ∷ area_of 1 0x14 0x16 ∷ []) kin
+
+-- and so from there on
+abbrev pub Leaves : Command → Answer → List Area → Anons → Type 0
+Leaves command answer areas anons =
+    LeavesFrom with_anons command (reply_with answer []) areas anons
+
 abbrev pub NeverPuts : Command → Answer → ℕ → Area → Type 0
-NeverPuts command answer page area = (new : State)
-    → IsStep (machine 4) with_anons command (reply_with answer []) new
-    → new.areas 1 page ≡ Some area → ⊥
+NeverPuts command answer page area =
+    NeverPutsFrom with_anons command (reply_with answer []) page area
 
 abbrev pub NeverLeaves : Command → Anons → Type 0
-NeverLeaves command anons = (new : State)
-    → IsStep (machine 4) with_anons command (reply_with Done []) new → new.anons ≡ anons → ⊥
+NeverLeaves command anons = NeverLeavesFrom with_anons command (reply_with Done []) anons
 
 -- the second two pages are unmapped, or the first two
 abbrev pub second_goes : Command
@@ -161,3 +192,105 @@ behind_first = Mmap 1 4096 read_write (Fixed 0x12000)
 
 abbrev pub behind_second : Command
 behind_second = Mmap 1 4096 read_write (Fixed 0x16000)
+
+-- ---- an area is prepared
+
+-- an anon_vma that is its own root and parent, and alone in its chain
+abbrev pub alone : ℕ → AnonVma
+alone v = record { root = v; parent = v; chain = v ∷ [] }
+
+-- with one more, and this number for the next one
+abbrev pub and_at : ℕ → AnonVma → ℕ → Anons → Anons
+and_at v anon next anons = record { next = next; anon = with_at v (Some anon) anons.anon }
+
+abbrev pub one_root : Anons
+one_root = and_at 0 (alone 0) 1 no_anons
+
+abbrev pub two_roots : Anons
+two_roots = and_at 1 (alone 1) 2 one_root
+
+-- the first one is gone
+abbrev pub first_gone : Anons
+first_gone = record no_anons { next = 1 }
+
+-- a page is written first, and gets a frame; or it is read first, and is the page of zeros
+abbrev pub first_write : Exchange
+first_write = says (Write 1 0x12000 (5 ∷ [])) Done (New 1 0x12000 0 ∷ [])
+
+abbrev pub first_read : Exchange
+first_read = says (Read 1 0x12000 1) (Data (0 ∷ [])) (Zeroed 1 0x12000 ∷ [])
+
+-- two pages get the protection of those before them
+abbrev pub made_alike : Exchange
+made_alike = says (Mprotect 1 0x12000 8192 read_write) Done []
+
+-- it makes these areas and anon_vmas of those
+abbrev pub Prepares : Exchange → List Area → Anons → List Area → Anons → Type 0
+Prepares e areas anons new_areas new_anons =
+    LeavesFrom (state_of areas anons) e.command e.reply new_areas new_anons
+
+-- it never makes this area on the page, or these anon_vmas
+abbrev pub NeverMakes : Exchange → List Area → Anons → ℕ → Area → Type 0
+NeverMakes e areas anons page wrong =
+    NeverPutsFrom (state_of areas anons) e.command e.reply page wrong
+
+abbrev pub NeverNumbers : Exchange → List Area → Anons → Anons → Type 0
+NeverNumbers e areas anons wrong =
+    NeverLeavesFrom (state_of areas anons) e.command e.reply wrong
+
+-- four bare pages, and the same with anon_vma 0
+abbrev pub bare_four : List Area
+bare_four = area 0x10 0x14 read_write ∷ []
+
+abbrev pub owned_four : List Area
+owned_four = area_of 0 0x10 0x14 ∷ []
+
+-- an area that can't join its neighbours: it may be written alone
+abbrev pub unlike : Area
+unlike = area 0x12 0x14 write_only
+
+-- two pages with anon_vma 0, and an area behind them
+abbrev pub behind_root : Area → List Area
+behind_root next = area_of 0 0x10 0x12 ∷ next ∷ []
+
+-- one that could join them
+abbrev pub alike : Area
+alike = area 0x12 0x14 read_write
+
+-- an area between two that have anon_vmas
+abbrev pub between_roots : Area → List Area
+between_roots middle = area_of 0 0x10 0x12 ∷ middle ∷ area_of 1 0x14 0x16 ∷ []
+
+-- an area behind the child's, and the root's behind a hole
+abbrev pub behind_child : Area → List Area
+behind_child next = area_of 1 0x10 0x12 ∷ next ∷ area_of 0 0x15 0x16 ∷ []
+
+-- process 2 has an area where the first process's second one is
+abbrev pub of_second : Area
+of_second = record unlike { pid = 2 }
+
+abbrev pub two_with_areas : State
+two_with_areas = record {
+  world = (1, mapped (behind_root unlike)) ∷ (2, mapped (of_second ∷ [])) ∷ [];
+  ledger = first_ledger;
+  free = only_frames (0 ∷ 1 ∷ 2 ∷ 3 ∷ []);
+  areas = with_at 1 (pages_in (Some (behind_root unlike)))
+      (with_at 2 (pages_in (Some (of_second ∷ []))) no_areas);
+  anons = one_root;
+}
+
+-- it is written first
+abbrev pub second_writes : Exchange
+second_writes = says (Write 2 0x12000 (5 ∷ [])) Done (New 2 0x12000 0 ∷ [])
+
+-- that may leave these areas of the two processes on the page, and these anon_vmas
+abbrev pub LeavesTwo : Area → Area → Anons → Type 0
+LeavesTwo first second anons =
+    (new : State) × IsStep (machine 4) two_with_areas second_writes.command second_writes.reply new
+    × (new.areas 1 0x12 ≡ Some first) × (new.areas 2 0x12 ≡ Some second) × (new.anons ≡ anons)
+
+-- and never leaves a process this area there
+abbrev pub NeverHasThere : ℕ → Area → Type 0
+NeverHasThere p wrong = (new : State)
+    → IsStep (machine 4) two_with_areas second_writes.command second_writes.reply new
+    → new.areas p 0x12 ≡ Some wrong → ⊥

@@ -1,14 +1,38 @@
 //! Worked examples for areas and anon_vmas: what mapping, unmapping and protecting leaves on the
-//! pages of a process, and which anon_vmas are left.
+//! pages of a process, which anon_vmas are left, and which one an area gets.
 
 ghost use Rattle.std.specs.Prelude.{[], ◌∷◌, Some, None};
 ghost use Rattle.av_trace.specs.declared.reply.Answer.TheVariants.{Done, MapAt};
+ghost use Rattle.av_plain.specs.Areas.{no_anons};
 ghost use Rattle.av_laws.specs.Areas.{
   Leaves,
+  LeavesTwo,
   Makes,
   NeverHas,
+  NeverHasThere,
   NeverLeaves,
+  NeverMakes,
+  NeverNumbers,
   NeverPuts,
+  Prepares,
+  alike,
+  alone,
+  and_at,
+  bare_four,
+  behind_child,
+  behind_root,
+  between_roots,
+  first_gone,
+  first_read,
+  first_write,
+  kin,
+  made_alike,
+  of_second,
+  one_root,
+  owned,
+  owned_four,
+  two_roots,
+  unlike,
   anons_of,
   area,
   area_of,
@@ -103,4 +127,73 @@ pub fn changed_anon_vmas_are_refused()
     ensures apart_from_root { NeverPuts behind_first (MapAt 0x12000) 0x12
         (area 0x12 0x13 read_write) }
     ensures joined_to_child { NeverPuts behind_second (MapAt 0x16000) 0x16 (area_of 1 0x14 0x17) }
+{}
+
+/// An area gets an anon_vma where one of its pages gets its first frame: number 0, a root that is
+/// alone in its chain, for the whole area and once; the next number, though an earlier one is gone.
+/// It takes one that a neighbour has whose chain has one node, where flags are equal and offsets
+/// run on: of the area after it before the one before it, and never of another process's. A page
+/// that is only read gets none. An area that gets one isn't joined then; where a change makes two
+/// areas alike they join if they have one anon_vma, and not if they have two.
+pub fn first_frames_prepare()
+    ensures first_write { Prepares first_write bare_four no_anons owned_four one_root }
+    ensures second_write { Prepares first_write owned_four one_root owned_four one_root }
+    ensures next_number { Prepares first_write bare_four first_gone
+        (area_of 1 0x10 0x14 ∷ []) (and_at 1 (alone 1) 2 first_gone) }
+    ensures taken_behind { Prepares first_write
+        (behind_root unlike) one_root (behind_root (owned 0 unlike)) one_root }
+    ensures after_first { Prepares first_write
+        (between_roots unlike) two_roots (between_roots (owned 1 unlike)) two_roots }
+    ensures not_from_child { Prepares first_write
+        (behind_child unlike) kin
+        (behind_child (owned 2 unlike)) (and_at 2 (alone 2) 3 kin) }
+    ensures other_offset { Prepares first_write
+        (behind_root (record unlike { pgoff = 0x20 })) one_root
+        (behind_root (owned 1 (record unlike { pgoff = 0x20 }))) two_roots }
+    ensures other_flags { Prepares first_write
+        (behind_root (record unlike { flags = 1 })) one_root
+        (behind_root (owned 1 (record unlike { flags = 1 }))) two_roots }
+    ensures by_a_read { Prepares first_read bare_four no_anons bare_four no_anons }
+    ensures not_joined { Prepares first_write
+        (behind_root alike) one_root (behind_root (owned 0 alike)) one_root }
+    ensures in_one_process { LeavesTwo unlike (owned 1 of_second) two_roots }
+    ensures joined_with_one { Prepares made_alike
+        (behind_root (owned 0 unlike)) one_root owned_four one_root }
+    ensures apart_with_two { Prepares made_alike
+        (behind_root (owned 1 unlike)) two_roots (behind_root (area_of 1 0x12 0x14)) two_roots }
+{}
+
+/// No others: an area that stays bare, or that is cut or joined; a second number for one area; an
+/// anon_vma of the area before it though the one after it has one, or of a child; a new one though
+/// one is lent; a number that was used; a new one with another root or parent or a longer chain;
+/// one for a page that is only read; one that another process has, or that its area gets.
+pub fn changed_prepares_are_refused()
+    ensures unprepared { NeverMakes first_write bare_four no_anons 0x12
+        (area 0x10 0x14 read_write) }
+    ensures prepared_in_part { NeverMakes first_write bare_four no_anons 0x12
+        (area_of 0 0x12 0x13) }
+    ensures second_number { NeverMakes first_write owned_four one_root 0x12
+        (area_of 1 0x10 0x14) }
+    ensures second_made { NeverNumbers first_write owned_four one_root two_roots }
+    ensures taken_from_before { NeverMakes first_write (between_roots unlike) two_roots 0x12
+        (owned 0 unlike) }
+    ensures taken_from_child { NeverMakes first_write (behind_child unlike) kin 0x12
+        (owned 1 unlike) }
+    ensures made_though_lent { NeverNumbers first_write (behind_root unlike) one_root
+        two_roots }
+    ensures number_used_again { NeverMakes first_write bare_four first_gone 0x12
+        (area_of 0 0x10 0x14) }
+    ensures number_lowered { NeverNumbers first_write bare_four first_gone one_root }
+    ensures rooted_elsewhere { NeverNumbers first_write bare_four no_anons
+        (and_at 0 (record (alone 0) { root = 1 }) 1 no_anons) }
+    ensures parent_elsewhere { NeverNumbers first_write bare_four no_anons
+        (and_at 0 (record (alone 0) { parent = 1 }) 1 no_anons) }
+    ensures longer_chain { NeverNumbers first_write bare_four no_anons
+        (and_at 0 (record (alone 0) { chain = 0 ∷ 1 ∷ [] }) 1 no_anons) }
+    ensures prepared_by_a_read { NeverMakes first_read bare_four no_anons 0x12
+        (area_of 0 0x10 0x14) }
+    ensures joined_by_prepare { NeverMakes first_write (behind_root alike) one_root 0x12
+        (area_of 0 0x10 0x14) }
+    ensures lent_by_another { NeverHasThere 2 (owned 0 of_second) }
+    ensures prepared_in_another { NeverHasThere 1 (owned 0 unlike) }
 {}

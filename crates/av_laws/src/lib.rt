@@ -52,6 +52,7 @@ ghost use Rattle.av_laws.specs.Determined.{
 
 pub use areas::{
     anon_vmas_are_left, areas_follow, changed_anon_vmas_are_refused, changed_areas_are_refused,
+    changed_prepares_are_refused, first_frames_prepare,
 };
 pub use examples::{
     a_page_in_writeback_is_sound, changed_exits_and_reports_are_refused,

@@ -10,3 +10,4 @@ pub mod Lengths
 pub mod Linked
 pub mod Mappings
 pub mod Places
+pub mod Prepares

@@ -1,18 +1,20 @@
 //! The areas of one process: mapped, cut, protected and joined, with their chains of anon_vmas.
 //!
 //! `Areas` holds the areas of all processes by number, a `Tree` the spans of one process's areas,
-//! and `Anons` the anon_vmas of all. Every call here changes the three together. Pages go by
-//! number, which is their address over the size of a page. A call takes time logarithmic in the
-//! number of the process's areas, times the number of areas in its range or beside it, and for each
-//! of these that has a chain time for each of its nodes.
+//! and `Anons` the anon_vmas of all. Every call here changes the three together, but for `prepare`,
+//! which leaves the spans. Pages go by number, which is their address over the size of a page. A
+//! call takes time logarithmic in the number of the process's areas, times the number of areas in
+//! its range or beside it, and for each of these that has a chain time for each of its nodes.
 //!
 //! A split links the upper part to the whole chain. Two areas become one where they are mergeable;
 //! where only one has an anon_vma, its chain has one node, and the other's pages get that. An area
-//! that goes leaves its anon_vmas first. Areas without anon_vma are changed directly.
+//! that goes leaves its anon_vmas first. Areas without anon_vma are changed directly. `prepare`
+//! gives an area its own anon_vma: that of an area beside it, or a new one.
 //!
 //! Proved: which area is on each page then, with every field (av_vma's `Pages`); that no area of
-//! another process changed; that chain order stays, that no anon_vma is made or changes its kin,
-//! and that each area's chain is the one that areas with its own anon_vma had (av_anon's `Kin`).
+//! another process changed; that chain order stays, that no anon_vma changes its kin and none is
+//! made but by `prepare`, where no area beside lends its own, and that each area's chain is the one
+//! that areas with its own anon_vma had, that of a new anon_vma itself alone (av_anon's `Kin`).
 //! Nothing is only tested. How much time a call takes is neither proved nor tested.
 //!
 //! A call that answers want of memory may have done a part of its work; areas and tree still go
@@ -25,6 +27,7 @@ mod joining;
 mod laws;
 mod linking;
 mod placing;
+mod preparing;
 
 pub use changing::{Change, map, modify};
 pub use cutting::{clear, cut, split};
@@ -32,6 +35,7 @@ pub use joining::join_around;
 pub use laws::{
     areas_are_laid, cuts_keep_mappings, joins_keep_mappings, parts_are_changed_page_by_page,
 };
+pub use preparing::prepare;
 
 #[cfg(test)]
 mod tests;

@@ -1,4 +1,4 @@
-ghost use Rattle.std.specs.Prelude.{◌≡◌, ◌<◌, ◌≤◌, OnOk};
+ghost use Rattle.std.specs.Prelude.{◌≡◌, ◌+◌, ◌<◌, ◌≤◌, ◌^◌, OnOk};
 ghost use Rattle.av_vma.specs.Areas.{area_of};
 ghost use Rattle.av_base.specs.Limits.{low_page, top_page};
 ghost use Rattle.av_anon.specs.Anons.{family};
@@ -98,21 +98,16 @@ fn set(
     Ok(past)
 }
 
-/// The area of a page of process 1 gets the first anon_vma.
-fn prepare(areas: &mut Areas, tree: &Tree, anons: &mut Anons, page: u64) -> Result<(), Fail>
+/// The area of a page of process 1 gets an anon_vma.
+fn give_anon(areas: &mut Areas, tree: &Tree, anons: &mut Anons, page: u64) -> Result<(), Fail>
     requires order { AreInOrder areas.old anons.old }
     requires stands { AreAreasOf 1 (area_of areas.old) tree.now }
-    requires first { (family anons.old).next ≡ 0 }
+    requires room { (family anons.old).next < 2 ^ 60 }
     ensures stands { AreAreasOf 1 (area_of areas.new) tree.now }
     ensures order { OnOk result (AreInOrder areas.new anons.new) }
+    ensures next { OnOk result ((family anons.new).next ≤ (family anons.old).next + 1) }
 {
-    let Some(number) = tree.find(page) else {
-        return Err(Fail::new("the page isn't mapped"));
-    };
-    if areas.get(number).anon.is_some() {
-        return Err(Fail::new("the area has an anon_vma"));
-    }
-    anons.prepare(areas, number, None, None)?;
+    prepare(areas, tree, anons, page)?;
     Ok(())
 }
 
@@ -190,7 +185,7 @@ fn a_change_stops_at_a_hole(rt: HostRuntime) -> Result<(), Fail> {
 fn parts_keep_the_chain_and_join_again(rt: HostRuntime) -> Result<(), Fail> {
     let (mut areas, mut tree, mut anons) = start(rt.alloc());
     put(&mut areas, &mut tree, &mut anons, 16, 26, READ)?;
-    prepare(&mut areas, &tree, &mut anons, 16)?;
+    give_anon(&mut areas, &tree, &mut anons, 16)?;
     assert_eq!(rt; set(&mut areas, &mut tree, &mut anons, 20, 22, WRITE)?, 22);
     assert_eq!(rt; held(&areas, &tree, 16), area(16, 20, READ, Some(0)));
     assert_eq!(rt; held(&areas, &tree, 21), area(20, 22, WRITE, Some(0)));
@@ -206,12 +201,32 @@ fn parts_keep_the_chain_and_join_again(rt: HostRuntime) -> Result<(), Fail> {
 fn an_area_without_chain_joins_one_with_one_node(rt: HostRuntime) -> Result<(), Fail> {
     let (mut areas, mut tree, mut anons) = start(rt.alloc());
     put(&mut areas, &mut tree, &mut anons, 18, 20, READ)?;
-    prepare(&mut areas, &tree, &mut anons, 18)?;
+    give_anon(&mut areas, &tree, &mut anons, 18)?;
     put(&mut areas, &mut tree, &mut anons, 16, 18, READ)?;
     assert_eq!(rt; held(&areas, &tree, 16), area(16, 20, READ, Some(0)));
     assert_eq!(rt; chain(&tree, &anons, 16), Some((1, Some(0))));
     put(&mut areas, &mut tree, &mut anons, 20, 22, READ)?;
     assert_eq!(rt; held(&areas, &tree, 21), area(16, 22, READ, Some(0)));
     assert_eq!(rt; chain(&tree, &anons, 21), Some((1, Some(0))));
+    Ok(())
+}
+
+#[test]
+fn areas_on_both_sides_take_the_anon_vma_between(rt: HostRuntime) -> Result<(), Fail> {
+    let (mut areas, mut tree, mut anons) = start(rt.alloc());
+    put(&mut areas, &mut tree, &mut anons, 16, 18, READ)?;
+    put(&mut areas, &mut tree, &mut anons, 18, 20, WRITE)?;
+    put(&mut areas, &mut tree, &mut anons, 20, 22, READ)?;
+    give_anon(&mut areas, &tree, &mut anons, 22)?;
+    give_anon(&mut areas, &tree, &mut anons, 19)?;
+    assert_eq!(rt; held(&areas, &tree, 17), area(16, 18, READ, None));
+    assert_eq!(rt; held(&areas, &tree, 18), area(18, 20, WRITE, Some(0)));
+    give_anon(&mut areas, &tree, &mut anons, 17)?;
+    give_anon(&mut areas, &tree, &mut anons, 20)?;
+    assert_eq!(rt; held(&areas, &tree, 16), area(16, 18, READ, Some(0)));
+    assert_eq!(rt; held(&areas, &tree, 21), area(20, 22, READ, Some(0)));
+    assert_eq!(rt; chain(&tree, &anons, 16), Some((1, Some(0))));
+    assert_eq!(rt; chain(&tree, &anons, 18), Some((1, Some(0))));
+    assert_eq!(rt; chain(&tree, &anons, 20), Some((1, Some(0))));
     Ok(())
 }

@@ -1,9 +1,17 @@
--- What is left of the anon_vmas once areas changed: of none nothing, and never two answers.
-use Rattle.std.proofs.Common.{◌≡◌, ℕ, List, [], Option, Some, None, refl, sym, ◌∙◌}
-use Rattle.std.specs.Prelude.{IfSome, IsSome}
+-- What events prepare, and what is left of the anon_vmas once areas changed: of none nothing, and never two answers.
+use Rattle.std.proofs.Common.{◌≡◌, ℕ, suc, ◌<◌, ◌≤◌, Bool, true, false, ◌==◌, ◌||◌, nat_lt, ◌⊎◌, inl, inr, List, [], ◌∷◌, ◌++◌, Option, Some, None, refl, sym, ap, subst, ◌∙◌, arith}
+use Rattle.std.proofs.lemmas.Bool.{false≢true}
+use Rattle.std.proofs.lemmas.Bool.Decides.{nat_tests}
+use Rattle.std.specs.Prelude.{IfSome, IsSome, IsSomeAnd, if◌then◌else◌}
+use Rattle.av_base.specs.Page.{page_of}
+use Rattle.av_base.specs.Words.{is_in, with_at}
 use Rattle.av_vma.specs.declared.area.Area.{Area}
 use Rattle.av_plain.specs.Stands.{AnonsStand, View}
-use Rattle.av_plain.specs.Areas.{AnonVma, Anons, AreLeft, Areas, IsLinked, chain_of, no_anons}
+use Rattle.av_plain.specs.Areas.{AnonVma, Anons, AreLeft, Areas, IsLinked, Rmap, chain_length, chain_of, no_anons, prepare_all, prepare_event, prepare_note, prepare_page, with_root}
+use Rattle.av_plain.specs.Event.{Event, Noted, Zapped, Used, Forked, Moved, TurnedOn, TurnedOff, notes_of}
+use Rattle.av_trace.specs.declared.note.Note.{Note}
+use Rattle.av_trace.specs.declared.note.Note.TheVariants.{Zeroed, New, Copied, Loaded, Mapped, Put, Unmapped, Started, Written, Failed, Dropped, Kept, Aged}
+use Rattle.av_vma.specs.Pages.{Pages, makes_anon}
 
 -- where no anon_vma was made none is left
 pub left-none : (on : Areas) → AreLeft no_anons on no_anons
@@ -33,3 +41,153 @@ anons-same v areas = record { next = refl; kin = λ n. refl; chains = λ p page.
     by : (o : Option Area) → IfSome o (λ area. chain_of v.anons area.anon ≡ chain_of v.anons area.anon)
     by None = tt
     by (Some area) = refl
+
+-- what is prepared by some events, and then by others
+pub prepare_all-append : (es fs : List Event) (r : Rmap) → prepare_all (es ++ fs) r ≡ prepare_all fs (prepare_all es r)
+prepare_all-append [] fs r = refl
+prepare_all-append (e ∷ es) fs r = prepare_all-append es fs (prepare_event e r)
+
+-- events without a note prepare nothing
+pub prepare_all-silent : (es : List Event) (r : Rmap) → notes_of es ≡ [] → prepare_all es r ≡ r
+prepare_all-silent [] r none = refl
+prepare_all-silent (Noted n ∷ es) r none = absurd cc
+prepare_all-silent (Zapped k ∷ es) r none = prepare_all-silent es r none
+prepare_all-silent (Used write k ∷ es) r none = prepare_all-silent es r none
+prepare_all-silent (Forked p q pages ∷ es) r none = prepare_all-silent es r none
+prepare_all-silent (Moved p n from to ∷ es) r none = prepare_all-silent es r none
+prepare_all-silent (TurnedOn k slots bad ∷ es) r none = prepare_all-silent es r none
+prepare_all-silent (TurnedOff k ∷ es) r none = prepare_all-silent es r none
+
+-- what each page that is prepared keeps, all events keep
+pub prepare_all-keeps : (P : Rmap → Type 0) → ((p page : ℕ) (r : Rmap) → P r → P (prepare_page p page r))
+    → (es : List Event) (r : Rmap) → P r → P (prepare_all es r)
+prepare_all-keeps P keeps [] r h = h
+prepare_all-keeps P keeps (e ∷ es) r h = prepare_all-keeps P keeps es (prepare_event e r) (event e)
+  where
+    note : (n : Note) → P (prepare_note n r)
+    note (New p a f) = keeps p (page_of a) r h
+    note (Zeroed p a) = h
+    note (Copied p a f) = h
+    note (Loaded s f) = h
+    note (Mapped p a f) = h
+    note (Put f s) = h
+    note (Unmapped f) = h
+    note (Started s) = h
+    note (Written s) = h
+    note (Failed s) = h
+    note (Dropped s) = h
+    note (Kept f cause) = h
+    note (Aged f) = h
+
+    event : (e : Event) → P (prepare_event e r)
+    event (Noted n) = note n
+    event (Zapped k) = h
+    event (Used write k) = h
+    event (Forked p q pages) = h
+    event (Moved p n from to) = h
+    event (TurnedOn k slots bad) = h
+    event (TurnedOff k) = h
+
+-- what notes prepare
+abbrev pub prepare_notes : List Note → Rmap → Rmap
+prepare_notes [] r = r
+prepare_notes (note ∷ notes) r = prepare_notes notes (prepare_note note r)
+
+-- events prepare what their notes do
+pub prepare_all-notes : (es : List Event) (r : Rmap) → prepare_all es r ≡ prepare_notes (notes_of es) r
+prepare_all-notes [] r = refl
+prepare_all-notes (Noted n ∷ es) r = prepare_all-notes es (prepare_note n r)
+prepare_all-notes (Zapped k ∷ es) r = prepare_all-notes es r
+prepare_all-notes (Used write k ∷ es) r = prepare_all-notes es r
+prepare_all-notes (Forked p q pages ∷ es) r = prepare_all-notes es r
+prepare_all-notes (Moved p n from to ∷ es) r = prepare_all-notes es r
+prepare_all-notes (TurnedOn k slots bad ∷ es) r = prepare_all-notes es r
+prepare_all-notes (TurnedOff k ∷ es) r = prepare_all-notes es r
+
+-- ---- numbers that were given
+
+-- each anon_vma that is there has a number below the next one
+abbrev pub AreBelow : Anons → Type 0
+AreBelow anons = (v : ℕ) → anons.next ≤ v → anons.anon v ≡ None
+
+below-prepare_page : (p page : ℕ) (r : Rmap) → AreBelow r.anons → AreBelow (prepare_page p page r).anons
+below-prepare_page p page r h = by (makes_anon (chain_length r.anons) (r.areas p) (r.areas p page))
+  where
+    root : (x : AnonVma) (v : ℕ) → suc r.anons.next ≤ v → (b : Bool) → (v == r.anons.next) ≡ b
+        → (if b then Some x else r.anons.anon v) ≡ None
+    root x v above true is = let e : v ≡ r.anons.next = grind (arith, nat_tests, is) in absurd (omega (arith, above, e))
+    root x v above false is = h v (omega (arith, above))
+
+    by : (b : Bool) → AreBelow (if b then with_root r.anons else r.anons)
+    by true = λ v above. root _ v above (v == r.anons.next) refl
+    by false = h
+
+pub below-all : (es : List Event) (r : Rmap) → AreBelow r.anons → AreBelow (prepare_all es r).anons
+below-all es r h = prepare_all-keeps (λ r. AreBelow r.anons) below-prepare_page es r h
+
+pub below-left : (anons : Anons) (on : Areas) (left : Anons) → AreLeft anons on left → AreBelow anons → AreBelow left
+below-left anons on left is h v above = by (left.anon v) refl
+  where
+    by : (o : Option AnonVma) → left.anon v ≡ o → left.anon v ≡ None
+    by None e = e
+    by (Some x) e = is.linked v (is.there v (subst IsSome (sym e) refl)) ∙ h v (subst (λ n. n ≤ v) is.next above)
+
+-- where each is linked all are left
+pub left-all : (anons : Anons) (on : Areas) → AreBelow anons → ((v : ℕ) → v < anons.next → IsSome (anons.anon v) → IsLinked anons on v)
+    → AreLeft anons on anons
+left-all anons on below linked = record { next = refl; there = λ v h. there v (nat_lt v anons.next) refl h; linked = λ v h. refl }
+  where
+    there : (v : ℕ) (b : Bool) → nat_lt v anons.next ≡ b → IsSome (anons.anon v) → IsLinked anons on v
+    there v true is h = linked v (grind (arith, nat_tests, is)) h
+    there v false is h =
+        let none : None ≡ anons.anon v = sym (below v (grind (arith, nat_tests, is))) in
+        absurd (no_some (anons.anon v) (sym none) h)
+      where
+        no_some : (o : Option AnonVma) → o ≡ None → IsSome o → ⊥
+        no_some None e h = cc
+        no_some (Some x) e h = cc
+
+-- where no area has an anon_vma none is left
+pub left-bare : (anons : Anons) (on : Areas) → ((p page : ℕ) → IfSome (on p page) (λ area. area.anon ≡ None))
+    → AreLeft anons on (record { next = anons.next; anon = λ _. None })
+left-bare anons on bare = record { next = refl; there = λ v h. absurd cc; linked = λ v h. absurd (none v (on h.0 h.1) (bare h.0 h.1) h.2) }
+  where
+    none : (v : ℕ) (o : Option Area) → IfSome o (λ area. area.anon ≡ None)
+        → IsSomeAnd o (λ area. is_in v (chain_of anons area.anon) ≡ true) → ⊥
+    none v None h g = absurd g
+    none v (Some area) h g = false≢true (subst (λ own. is_in v (chain_of anons own) ≡ true) h g)
+
+-- where areas have this one, whose chain has no other, or none, it alone is left
+pub left-root : (anons : Anons) (on : Areas) (v : ℕ) → chain_of anons (Some v) ≡ v ∷ [] → IsLinked anons on v
+    → ((p page : ℕ) → IfSome (on p page) (λ area. (area.anon ≡ None) ⊎ (area.anon ≡ Some v)))
+    → AreLeft anons on (record { next = anons.next; anon = with_at v (anons.anon v) (λ _. None) })
+left-root anons on v chain there owns = record {
+  next = refl;
+  there = λ w. is_there w (w == v) refl;
+  linked = λ w h. same w (own w (on h.0 h.1) (owns h.0 h.1) h.2) (w == v) refl;
+}
+  where
+    is_there : (w : ℕ) (b : Bool) → (w == v) ≡ b → IsSome (if b then anons.anon v else None) → IsLinked anons on w
+    is_there w true is h = let e : v ≡ w = grind (arith, nat_tests, is) in subst (IsLinked anons on) e there
+    is_there w false is h = absurd cc
+
+    own : (w : ℕ) (o : Option Area) → IfSome o (λ area. (area.anon ≡ None) ⊎ (area.anon ≡ Some v))
+        → IsSomeAnd o (λ area. is_in w (chain_of anons area.anon) ≡ true) → w ≡ v
+    own w None h g = absurd g
+    own w (Some area) (inl h) g = absurd (false≢true (subst (λ own. is_in w (chain_of anons own) ≡ true) h g))
+    own w (Some area) (inr h) g =
+        let e : ((w == v) || false) ≡ true = subst (λ c. is_in w c ≡ true) chain (subst (λ own. is_in w (chain_of anons own) ≡ true) h g) in
+        grind (arith, nat_tests, e)
+
+    same : (w : ℕ) → w ≡ v → (b : Bool) → (w == v) ≡ b → (if b then anons.anon v else None) ≡ anons.anon w
+    same w e true is = ap anons.anon (sym e)
+    same w e false is = absurd (grind (arith, nat_tests, is, e))
+
+-- what holds of one process's pages, and of those of each other one
+pub of_processes : (P : Option Area → Type 0) (p : ℕ) (x : Pages) (on : Areas) → ((page : ℕ) → P (x page))
+    → ((q page : ℕ) → (q == p) ≡ false → P (on q page)) → (q page : ℕ) → P (with_at p x on q page)
+of_processes P p x on here others q page = by (q == p) refl
+  where
+    by : (b : Bool) → (q == p) ≡ b → P ((if b then x else on q) page)
+    by true is = here page
+    by false is = others q page is

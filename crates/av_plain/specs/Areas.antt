@@ -1,8 +1,7 @@
 -- The areas of each process and the anon_vmas, beside the memories, and what a command makes of
--- them: by the areas, chains and memories before it, the command and its answer. No command makes
--- an anon_vma yet: in a run from nothing there is none, and what is said of chains binds steps from
--- states that have some. They are not part of what makes a reply legal.
-use Rattle.std.specs.Prelude.{◌≡◌, ℕ, ◌+◌, if◌then◌else◌, true, List, [], length, Option, Some, None, IsSome, IsSomeAnd}
+-- them: by the areas, chains and memories before it, its events, the command and its answer. They
+-- are not part of what makes a reply legal.
+use Rattle.std.specs.Prelude.{◌≡◌, ℕ, suc, ◌+◌, if◌then◌else◌, true, List, [], ◌∷◌, length, Option, Some, None, IsSome, IsSomeAnd}
 use Rattle.std.specs.Option.{option_map_or}
 use Rattle.av_base.specs.Page.{page_of, pages_of}
 use Rattle.av_base.specs.Words.{is_in, with_at}
@@ -14,7 +13,10 @@ use Rattle.av_trace.specs.declared.place.Place.TheVariants.{Auto, At, Fixed, NoR
 use Rattle.av_trace.specs.declared.reply.Answer.{Answer}
 use Rattle.av_trace.specs.declared.reply.Answer.TheVariants.{Done, MapAt, Refused}
 use Rattle.av_trace.specs.declared.reply.Errno.TheVariants.{Enomem}
-use Rattle.av_vma.specs.Pages.{Lengths, Pages, after_map, after_unmap, pages_changed, to_prot}
+use Rattle.av_trace.specs.declared.note.Note.{Note}
+use Rattle.av_trace.specs.declared.note.Note.TheVariants.{New}
+use Rattle.av_vma.specs.Pages.{Lengths, Pages, after_map, after_prepare, after_unmap, makes_anon, pages_changed, to_prot}
+use Rattle.av_plain.specs.Event.{Event, Noted}
 use Rattle.av_plain.specs.Refusal.{wraps}
 use Rattle.av_plain.specs.World.{World, pages, pages_to_hole}
 
@@ -70,6 +72,44 @@ pub record AreLeft (anons : Anons) (on : Areas) (left : Anons) : Type 0 where
   pub there : (v : ℕ) → IsSome (left.anon v) → IsLinked anons on v
   pub linked : (v : ℕ) → IsLinked anons on v → left.anon v ≡ anons.anon v
 
+-- the areas of each process, and the anon_vmas
+pub record Rmap : Type 0 where
+  pub areas : Areas
+  pub anons : Anons
+
+-- ---- prepare
+
+-- an anon_vma that is its own root and parent, and whose chain is itself alone
+abbrev pub root_anon : ℕ → AnonVma
+root_anon v = record { root = v; parent = v; chain = v ∷ [] }
+
+-- one more anon_vma, such a root
+abbrev pub with_root : Anons → Anons
+with_root anons = record {
+  next = suc anons.next;
+  anon = with_at anons.next (Some (root_anon anons.next)) anons.anon;
+}
+
+-- the area of a page has an anon_vma then: its own, one that is lent, or a new root
+abbrev pub prepare_page : ℕ → ℕ → Rmap → Rmap
+prepare_page p page r = let on = r.areas p in let len = chain_length r.anons in record {
+  areas = with_at p (after_prepare len r.anons.next page on) r.areas;
+  anons = if makes_anon len on (on page) then with_root r.anons else r.anons;
+}
+
+-- it is prepared where a page of it gets a new frame
+abbrev pub prepare_note : Note → Rmap → Rmap
+prepare_note (New p a f) r = prepare_page p (page_of a) r
+prepare_note note r = r
+
+abbrev pub prepare_event : Event → Rmap → Rmap
+prepare_event (Noted note) r = prepare_note note r
+prepare_event event r = r
+
+abbrev pub prepare_all : List Event → Rmap → Rmap
+prepare_all [] r = r
+prepare_all (e ∷ es) r = prepare_all es (prepare_event e r)
+
 -- ---- the areas after a command
 
 -- what stands where a mapping of n pages goes makes room: only a fixed place takes away
@@ -102,8 +142,8 @@ next_areas long on w command answer = on
 
 -- ---- both
 
--- the areas and the anon_vmas after a command that was answered so
-pub record AreNext (on : Areas) (old : Anons) (w : World) (command : Command) (answer : Answer)
-    (on' : Areas) (new : Anons) : Type 0 where
-  pub areas : on' ≡ next_areas (chain_length old) on w command answer
-  pub anons : AreLeft old on' new
+-- the areas and the anon_vmas after a command that was answered so, from those after its events
+pub record AreNext (now : Rmap) (w : World) (command : Command) (answer : Answer) (next : Rmap)
+    : Type 0 where
+  pub areas : next.areas ≡ next_areas (chain_length now.anons) now.areas w command answer
+  pub anons : AreLeft now.anons next.areas next.anons

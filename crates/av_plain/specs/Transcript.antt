@@ -3,7 +3,7 @@ use Rattle.std.specs.Prelude.{ℕ, List, [], ◌∷◌, ◌≡◌, sum_by}
 use Rattle.av_base.specs.Words.{numbers}
 use Rattle.av_trace.specs.declared.command.Command.{Command}
 use Rattle.av_trace.specs.declared.reply.Reply.{Reply}
-use Rattle.av_plain.specs.Areas.{Anons, AreNext, Areas, no_anons, no_areas}
+use Rattle.av_plain.specs.Areas.{Anons, AreNext, Areas, Rmap, no_anons, no_areas, prepare_all}
 use Rattle.av_plain.specs.Choice.{ChoosesAll, Free, no_slots}
 use Rattle.av_plain.specs.Event.{Event, after_all}
 use Rattle.av_plain.specs.Ledger.{Setting, first_ledger, Ledger}
@@ -35,6 +35,10 @@ pub record State : Type 0 where
   pub areas : Areas
   pub anons : Anons
 
+-- what reverse mapping goes by
+abbrev pub rmap_of : State → Rmap
+rmap_of s = record { areas = s.areas; anons = s.anons }
+
 -- no process lives, all frames are free, rising, no swap area has slots, and there is no area and
 -- no anon_vma
 abbrev pub at_first : Setting → State
@@ -54,7 +58,7 @@ pub record IsStep (m : Setting) (old : State) (command : Command) (reply : Reply
   pub world : new.world ≡ next_world m old.world old.ledger events command reply.answer
   pub ledger : new.ledger ≡ after_all old.ledger events
   pub free : ChoosesAll m (closing_area command) old.ledger events old.free new.free
-  pub areas : AreNext old.areas old.anons old.world command reply.answer new.areas new.anons
+  pub rmap : AreNext (prepare_all events (rmap_of old)) old.world command reply.answer (rmap_of new)
 
 -- a transcript, each of its replies a step
 abbrev pub IsRun : Setting → State → List Exchange → State → Type 0

@@ -3,3 +3,4 @@ pub mod ZapEntry
 pub mod ZapFrame
 pub mod ZapFirst
 pub mod ZapRange
+pub mod AnonLaws

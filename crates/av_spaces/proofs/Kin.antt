@@ -1,26 +1,27 @@
 -- What a change of areas leaves of the anon_vmas, said by numbers of areas, is so by pages.
-use Rattle.std.proofs.Common.{◌≡◌, ◌≢◌, ℕ, Bool, true, false, List, [], Option, Some, None, is_some, IfSome, IsSome, IsSomeAnd, refl, sym, ap, subst, ◌∙◌, arith}
+use Rattle.std.proofs.Common.{◌≡◌, ◌≢◌, ℕ, true, List, Option, Some, None, is_some, IfSome, IsSome, IsSomeAnd, refl, sym, ap, subst, ◌∙◌, arith}
 use Rattle.std.proofs.lemmas.Bool.{false≢true}
-use Rattle.std.specs.Prelude.{MatchOption, option_map}
+use Rattle.std.specs.Prelude.{MatchOption}
 use Rattle.av_base.specs.Words.{is_in}
 use Rattle.av_vma.specs.declared.area.Area.{Area}
 use Rattle.av_vma.specs.Areas.{area_of}
+use Rattle.av_vma.specs.Pages.{makes_anon}
 use Rattle.av_vmatree.specs.declared.span.Span.{Span}
 use Rattle.av_vmatree.specs.Spans.{span_of}
 use Rattle.av_anon.specs.declared.anons.Anons.{Anons}
-use Rattle.av_anon.specs.Anons.{Family, family, own_of}
+use Rattle.av_anon.specs.Anons.{family, own_of}
 use Rattle.av_anon.specs.declared.infos.Info.{Info}
-use Rattle.av_anon.specs.Kin.{IsSameKin, KinStays, chain_by}
+use Rattle.av_anon.specs.Kin.{IsSameKin}
 use Rattle.av_anon.specs.Order.{IsInOrder}
 use Rattle.av_anon.specs.Spans.{spans_of}
 use Rattle.av_anon.proofs.KinLaws.{chain_by-is, chains_stay, someone_linked}
-use Rattle.av_merge.specs.Kin.{AreInOrder, KeepsKin}
+use Rattle.av_merge.specs.Kin.{AreInOrder, KeepsKin, PrepareKin, PreparesKin, lengths}
 use Rattle.av_merge.specs.Pages.{pages_by}
-use Rattle.av_merge.specs.Process.{AreAreasOf, IsAreaOf}
+use Rattle.av_merge.specs.Process.{AreAreasOf}
 use Rattle.av_merge.proofs.Places.{area_in, is_on, on_span}
-use Rattle.av_spaces.specs.Spaces.{AllSpaces, Spaces, pages_of}
+use Rattle.av_spaces.specs.Spaces.{AllSpaces, pages_of}
 use Rattle.av_spaces.specs.Trees.{Trees, AreTrees, HasNone, all_spaces, spaces_by, tree_at}
-use Rattle.av_spaces.specs.Kin.{AnonsFit, AnonsStay, InOrder, IsLinkedIn, IsOwnedIn, chain_on, info_of}
+use Rattle.av_spaces.specs.Kin.{AnonsFit, AnonsPrepare, AnonsStay, InOrder, IsLinkedIn, IsOwnedIn, chain_on, info_of, made_for}
 use Rattle.av_spaces.proofs.Trees.{none_dead, pages_there}
 
 -- ---- areas in use are on pages
@@ -124,20 +125,24 @@ module _ (areas : List (Option Area)) (ts : Trees) (a : Anons) (trees : AreTrees
       by None at is = absurd is
       by (Some A) at is = let b = area_of_page (area_of areas) ts h.0 h.1 A trees at in of_own A b.0 b.1 A.anon refl is
 
+  -- so they fit
+  pub fit_in : AnonsFit (all_spaces areas ts) a
+  fit_in = record {
+    order = order;
+    there = linked_there;
+    linked = there_linked;
+    own = λ v is.
+        let b = owner_there areas ts v trees is in
+        ap (is_in v) (chain_by-is (area_of areas) (family a) (spans_of a) b.0 v order b.1) ∙ (order.chains b.0).own_in v b.1;
+  }
+
 -- ---- what a change leaves
 
 pub anons_stay : (old new : List (Option Area)) (before after : Trees) (a a' : Anons) → AreTrees (area_of old) before → AreTrees (area_of new) after
     → IsInOrder (area_of old) (family a) (spans_of a) → KeepsKin (area_of old) (area_of new) (family a) (family a') (spans_of a')
     → AnonsStay (all_spaces old before) a (all_spaces new after) a'
 anons_stay old new before after a a' trees trees' order h = record {
-  fit = record {
-    order = h.order;
-    there = linked_there new after a' trees' h.order;
-    linked = there_linked new after a' trees' h.order;
-    own = λ v is.
-        let b = owner_there new after v trees' is in
-        ap (is_in v) (chain_by-is (area_of new) (family a') (spans_of a') b.0 v h.order b.1) ∙ (h.order.chains b.0).own_in v b.1;
-  };
+  fit = fit_in new after a' trees' h.order;
   next = h.kin.next;
   kin = h.kin.kin;
   owned = λ v is.
@@ -148,6 +153,29 @@ anons_stay old new before after a a' trees trees' order h = record {
       let b = owner_there new after v trees' is in
       chains_stay (area_of old) (area_of new) (family a) (family a') (spans_of a) (spans_of a') b.0 v order h.order h.kin b.1;
 }
+
+-- and what there is where an area gets an anon_vma
+pub anons_prepare : (old new : List (Option Area)) (ts : Trees) (a a' : Anons) (p page : ℕ) (spans : List Span)
+    → AreTrees (area_of old) ts → AreTrees (area_of new) ts → tree_at ts p ≡ Some spans → PrepareKin old spans a new a' page
+    → AnonsPrepare (all_spaces old ts) a (all_spaces new ts) a' p page
+anons_prepare old new ts a a' p page spans trees trees' was prepared =
+    let on_is : pages_of (spaces_by (area_of old) ts) p ≡ pages_by (area_of old) spans =
+    λ i q. pages_there (area_of old) ts p spans (spaces_by (area_of old) ts) trees (sym was) refl q i in
+    let h : PreparesKin (area_of old) (area_of new) (family a) (family a') (spans_of a') (made_for (all_spaces old ts) a p page) =
+    subst (PreparesKin (area_of old) (area_of new) (family a) (family a') (spans_of a'))
+    (sym (ap (λ on. makes_anon (lengths old a) on (on page)) on_is)) prepared in
+    record {
+      fit = fit_in new ts a' trees' h.order;
+      next = h.next;
+      kin = h.kin;
+      owned = λ v is other.
+          let b = owner_there new ts v trees' is in
+          let c = h.owned b.0 v b.1 other in
+          owned_there old ts c.0 v trees c.1;
+      chains = λ v is.
+          let b = owner_there new ts v trees' is in
+          chain_by-is (area_of new) (family a') (spans_of a') b.0 v h.order b.1 ∙ h.chains b.0 v b.1;
+    }
 
 -- ---- by the value
 
@@ -160,6 +188,12 @@ pub anons_stay_by : (old new : List (Option Area)) (before after : Trees) (a a' 
     → KeepsKin (area_of old) (area_of new) (family a) (family a') (spans_of a') → AnonsStay s a (all_spaces new after) a'
 anons_stay_by old new before after a a' s view trees trees' order h =
     subst (λ (s : AllSpaces). AnonsStay s a (all_spaces new after) a') view (anons_stay old new before after a a' trees trees' (order_in old before s a view order) h)
+
+pub anons_prepare_by : (old new : List (Option Area)) (ts : Trees) (a a' : Anons) (p page : ℕ) (spans : List Span) (s : AllSpaces) → all_spaces old ts ≡ s
+    → AreTrees (area_of old) ts → AreTrees (area_of new) ts → tree_at ts p ≡ Some spans → PrepareKin old spans a new a' page
+    → AnonsPrepare s a (all_spaces new ts) a' p page
+anons_prepare_by old new ts a a' p page spans s view trees trees' was prepared =
+    subst (λ (s : AllSpaces). AnonsPrepare s a (all_spaces new ts) a' p page) view (anons_prepare old new ts a a' p page spans trees trees' was prepared)
 
 -- ---- from one change to the next
 

@@ -396,6 +396,30 @@ module _ (f f' : ℕ → Option Area) (old : Trees) (p : ℕ) (before after : Li
       (changed f f' p (stays areas_before).others old (slice_set (slice_set old p None) p (Some after)) (Some after) trees (stays areas_before).areas lent_now after refl count_lent (IsSo (pages_of s p))
       (subst (λ (on : Pages). IsSo on (pages_by f' after)) (λ i page. sym (pages_there f old p before s trees (sym was) is page) i) so))
 
+-- the areas of p change, and its tree stays
+module _ (f f' : ℕ → Option Area) (ts : Trees) (p : ℕ) (spans : List Span) (trees : AreTrees f ts) (was : tree_at ts p ≡ Some spans)
+    (stays : AreAreasOf p f spans → Stays p f f' spans) where
+  stays_there : Stays p f f' spans
+  stays_there = stays (tree_of f ts p spans trees was)
+
+  still : (q : ℕ) → tree_at ts q ≡ cond (q == p) (Some spans) (tree_at ts q)
+  still q = by (q == p) refl
+    where
+      by : (b : Bool) → (q == p) ≡ b → tree_at ts q ≡ cond b (Some spans) (tree_at ts q)
+      by true e = ap (tree_at ts) (eqb-true q p e) ∙ was
+      by false e = refl
+
+  pub trees_still : AreTrees f' ts
+  trees_still = trees_changed f f' p stays_there.others ts ts (Some spans) trees stays_there.areas still
+
+  -- what holds of the pages, by what they were
+  pub changes_still : (s : Spaces) → spaces_by f ts ≡ s → (IsSo : Pages → Pages → Type 0) → IsSo (pages_by f spans) (pages_by f' spans)
+      → IsChanged s (spaces_by f' ts) p (IsSo (pages_of s p))
+  changes_still s is IsSo so =
+      subst (λ (t : Spaces). IsChanged t (spaces_by f' ts) p (IsSo (pages_of s p))) is
+      (changed f f' p stays_there.others ts ts (Some spans) trees stays_there.areas still spans refl refl (IsSo (pages_of s p))
+      (subst (λ (on : Pages). IsSo on (pages_by f' spans)) (λ i page. sym (pages_there f ts p spans s trees (sym was) is page) i) so))
+
 pub if_each : {X Y : Type 0} (r : Result X Y) (P Q : X → Type 0) → ((x : X) → P x → Q x) → IfOk r P → IfOk r Q
 if_each (Ok x) P Q h p = h x p
 if_each (Err e) P Q h p = tt

@@ -1,13 +1,14 @@
 -- The anon_vmas beside the areas of all processes, said by pages: which are linked, and what a
 -- change of areas leaves of them.
-use Rattle.std.specs.Prelude.{◌≡◌, ℕ, true, List, [], Option, Some, None, IfSome, IsSome, IsSomeAnd}
+use Rattle.std.specs.Prelude.{◌≡◌, ℕ, suc, Bool, true, false, if◌then◌else◌, List, [], ◌∷◌, Option, Some, None, option_map, IfSome, IsSome, IsSomeAnd}
 use Rattle.av_base.specs.Words.{is_in}
 use Rattle.av_vma.specs.Areas.{area_of}
+use Rattle.av_vma.specs.Pages.{makes_anon}
 use Rattle.av_anon.specs.declared.anons.Anons.{Anons}
 use Rattle.av_anon.specs.declared.infos.Info.{Info}
 use Rattle.av_anon.specs.Anons.{family}
 use Rattle.av_anon.specs.Kin.{IsSameKin, chain_by}
-use Rattle.av_merge.specs.Kin.{AreInOrder}
+use Rattle.av_merge.specs.Kin.{AreInOrder, is_made, kin_in, lengths}
 use Rattle.av_spaces.specs.Spaces.{AllSpaces, pages_of}
 
 -- there is chain order
@@ -50,3 +51,23 @@ pub record AnonsStay (s : AllSpaces) (old : Anons) (s' : AllSpaces) (new : Anons
       i))
   pub owned : (v : ℕ) → IsOwnedIn s' v → IsOwnedIn s v
   pub chains : (v : ℕ) → IsOwnedIn s' v → chain_on s' new (Some v) ≡ chain_on s old (Some v)
+
+-- whether an anon_vma is made where the area of a page of p gets one
+abbrev pub made_for : AllSpaces → Anons → ℕ → ℕ → Bool
+made_for s anons p page = let on = pages_of s.processes p in
+    makes_anon (lengths s.areas anons) on (on page)
+
+-- after the area of a page of p got an anon_vma: where one was made, it is its own root and parent,
+-- and the chain of the areas with it is itself alone. All others have the root and parent that they
+-- had, an area's own one is one that some area had, and has the chain that it had
+pub record AnonsPrepare (s : AllSpaces) (old : Anons) (s' : AllSpaces) (new : Anons) (p page : ℕ)
+    : Type 0 where
+  pub fit : AnonsFit s' new
+  pub next : new.next ≡ (if made_for s old p page then suc old.next else old.next)
+  pub kin : (v : ℕ) → option_map kin_in (info_of new v)
+      ≡ (if is_made (made_for s old p page) old.next v then Some (v, v)
+      else option_map kin_in (info_of old v))
+  pub owned : (v : ℕ) → IsOwnedIn s' v → is_made (made_for s old p page) old.next v ≡ false
+      → IsOwnedIn s v
+  pub chains : (v : ℕ) → IsOwnedIn s' v → chain_on s' new (Some v)
+      ≡ (if is_made (made_for s old p page) old.next v then v ∷ [] else chain_on s old (Some v))

@@ -10,9 +10,9 @@ ghost use Rattle.av_merge.specs.Pages.{IsReached};
 ghost use Rattle.av_merge.specs.Process.{AreAreasOf};
 ghost use Rattle.av_anon.specs.declared.anons.Anons.{Anons};
 ghost use Rattle.av_merge.specs.Kin.{lengths};
-ghost use Rattle.av_spaces.specs.Kin.{AnonsStay, InOrder};
+ghost use Rattle.av_spaces.specs.Kin.{AnonsPrepare, AnonsStay, InOrder};
 ghost use Rattle.av_spaces.specs.Spaces.{areas_of, pages_of, is_taken, AreThese, AreRising, IsSpawned, IsChanged, IsEnded};
-ghost use Rattle.av_vma.specs.Pages.{after_map, after_unmap, pages_changed, to_prot};
+ghost use Rattle.av_vma.specs.Pages.{after_map, after_prepare, after_unmap, pages_changed, to_prot};
 ghost use Rattle.av_spaces.specs.Trees.{areas_by, tree_at, IsGrown};
 
 use av_anon::Anons;
@@ -214,6 +214,24 @@ impl Spaces {
         );
         put_tree(&mut self.trees, process, tree);
         result
+    }
+
+    /// Gives the area of a page an anon_vma, where the page is mapped and its area has none: that
+    /// of the area after it, else of the one before, where it may take it; else a new root. Without
+    /// memory as for `map`.
+    pub fn prepare(&mut self, anons: &mut Anons, process: u16, page: u64) -> Result<(), AllocError>
+        requires order { InOrder self.old anons.old }
+        requires lives { is_some (areas_of self.old.processes process) ≡ true }
+        ensures areas { OnOk result (IsChanged self.old.processes self.new.processes process
+            (AreThese (after_prepare (lengths self.old.areas anons.old) anons.old.next page
+            (pages_of self.old.processes process)))) }
+        ensures anons { OnOk result
+            (AnonsPrepare self.old anons.old self.new anons.new process page) }
+    {
+        let Some(tree) = tree_of(&self.trees, process) else {
+            unreachable!()
+        };
+        av_merge::prepare(&mut self.areas, tree, anons, page)
     }
 
     /// Takes away a process that lives, with its areas.

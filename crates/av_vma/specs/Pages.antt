@@ -1,6 +1,6 @@
 -- What a process has on its pages: for each page the area that holds it. And what mapping,
 -- unmapping and changing a range make of that, with the cuts and joins that come of it.
-use Rattle.std.specs.Prelude.{◌≡◌, ℕ, zero, suc, ◌+◌, ◌-◌, ◌^◌, ◌<◌, ◌≤◌, true, false, not, ◌==◌, min, max, Bool, ◌&&◌, nat_lt, if◌then◌else◌, List, Option, Some, None, option_map}
+use Rattle.std.specs.Prelude.{◌≡◌, ℕ, zero, suc, ◌+◌, ◌-◌, ◌^◌, ◌<◌, ◌≤◌, true, false, not, ◌==◌, min, max, unwrap_or, is_some, Bool, ◌&&◌, nat_lt, if◌then◌else◌, List, Option, Some, None, option_map}
 use Rattle.std.specs.List.{find}
 use Rattle.std.specs.Option.{option_or}
 use Rattle.av_base.specs.Limits.{low_page, top_page}
@@ -8,7 +8,7 @@ use Rattle.av_base.specs.Page.{address_of}
 use Rattle.av_base.specs.Words.{within}
 use Rattle.av_base.specs.declared.prot.Prot.{Prot}
 use Rattle.av_vma.specs.declared.area.Area.{Area}
-use Rattle.av_vma.specs.Join.{are_mergeable, first_of, past_of, same_prot}
+use Rattle.av_vma.specs.Join.{are_mergeable, first_of, is_reusable, past_of, same_prot}
 
 -- the area that holds each page
 abbrev pub Pages : Type 0
@@ -168,3 +168,31 @@ abbrev pub pages_changed : Lengths → Effect → ℕ → ℕ → Pages → Page
 pages_changed len effect from zero on = on
 pages_changed len effect from (suc n) on =
     pages_changed len effect (from + 1) n (page_changed len effect from on)
+
+-- ---- prepare
+
+-- the anon_vma that an area may take from one beside it, if there is one
+abbrev pub loan_of : Lengths → Area → Option Area → Option ℕ
+loan_of len area None = None
+loan_of len area (Some near) = if is_reusable area near (len near.anon) then near.anon else None
+
+-- the area after it lends first, else the one before
+abbrev pub loan_beside : Lengths → Pages → Area → Option ℕ
+loan_beside len on area =
+    option_or (loan_of len area (on (past_of area))) (loan_of len area (on (first_of area - 1)))
+
+-- an area without anon_vma gets the one that is lent, else a new one with this number
+abbrev pub with_anon : Lengths → ℕ → Option Area → Pages → Pages
+with_anon len next None on = on
+with_anon len next (Some area) on =
+    if is_some area.anon then on
+    else with_area (record area { anon = Some (unwrap_or (loan_beside len on area) next) }) on
+
+-- so does the area of a page
+abbrev pub after_prepare : Lengths → ℕ → ℕ → Pages → Pages
+after_prepare len next page on = with_anon len next (on page) on
+
+-- whether a new one is made for it
+abbrev pub makes_anon : Lengths → Pages → Option Area → Bool
+makes_anon len on None = false
+makes_anon len on (Some area) = not (is_some area.anon) && not (is_some (loan_beside len on area))

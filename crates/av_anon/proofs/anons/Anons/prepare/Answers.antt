@@ -10,8 +10,8 @@ use Rattle.av_anon.proofs.Given.{given-spans, own-given}
 use Rattle.av_anon.proofs.Spanned.{new_to_all}
 use Rattle.av_anon.proofs.anons.Anons.prepare.Goals as goal
 
-pub own_from-requires-clause-there : goal.own_from-requires-clause-there
-own_from-requires-clause-there c = λ v h.
+pub own_from-requires : goal.own_from-requires
+own_from-requires c = λ v h.
     let f = family c.args.self.now in
     let lender = one_node_near (area_of c.args.areas.now) f.chain c.get-this.result c.args.before c.args.after v (sym c.lent_anon-loan.ensures ∙ h) in
     let chain = c.requires.order.chains lender.0 in

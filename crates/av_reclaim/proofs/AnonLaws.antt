@@ -23,7 +23,7 @@ some_is None h = absurd (false≢true h)
 some_is (Some x) h = (x, refl)
 
 -- an anon_vma that is there shows the chain of its areas
-shown_chain : (s : AllSpaces) (anons : AnonSet) (own : ℕ) → IsSome (info_of anons own) → chain_of (anons_of s anons) (Some own) ≡ chain_on s anons (Some own)
+pub shown_chain : (s : AllSpaces) (anons : AnonSet) (own : ℕ) → IsSome (info_of anons own) → chain_of (anons_of s anons) (Some own) ≡ chain_on s anons (Some own)
 shown_chain s anons own there = by (info_of anons own) there
   where
     by : (o : Option Info) → IsSome o → option_map_or (λ (v : AnonVma). v.chain) (option_map (anon_vma (chain_on s anons (Some own))) o) [] ≡ chain_on s anons (Some own)
