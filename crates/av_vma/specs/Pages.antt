@@ -8,7 +8,7 @@ use Rattle.av_base.specs.Page.{address_of}
 use Rattle.av_base.specs.Words.{within}
 use Rattle.av_base.specs.declared.prot.Prot.{Prot}
 use Rattle.av_vma.specs.declared.area.Area.{Area}
-use Rattle.av_vma.specs.Join.{are_mergeable, first_of, is_reusable, past_of, same_prot}
+use Rattle.av_vma.specs.Join.{are_mergeable, first_of, index_of, is_reusable, past_of, same_prot}
 
 -- the area that holds each page
 abbrev pub Pages : Type 0
@@ -196,3 +196,11 @@ after_prepare len next page on = with_anon len next (on page) on
 abbrev pub makes_anon : Lengths → Pages → Option Area → Bool
 makes_anon len on None = false
 makes_anon len on (Some area) = not (is_some area.anon) && not (is_some (loan_beside len on area))
+
+-- ---- home
+
+-- the home that a frame has from a page: the own anon_vma of the page's area, and the page's linear
+-- index
+abbrev pub home_of : ℕ → Option Area → Option (ℕ × ℕ)
+home_of page None = None
+home_of page (Some area) = option_map (λ own. (own, index_of area page)) area.anon

@@ -1,5 +1,6 @@
-ghost use Rattle.std.specs.Prelude.{◌≡◌, ◌*◌, ◌<◌, ◌≤◌, ◌^◌, ◌||◌, IsSome};
+ghost use Rattle.std.specs.Prelude.{◌≡◌, ◌*◌, ◌<◌, ◌≤◌, ◌^◌, ◌||◌, IsSome, Some};
 ghost use Rattle.av_vma.specs.Join.{are_mergeable, do_run_on, first_of, index_of, is_reusable, past_of, share_anon};
+ghost use Rattle.av_vma.specs.Pages.{home_of};
 
 use av_base::{PAGE_SIZE, Prot};
 
@@ -28,6 +29,19 @@ pub fn index(area: &Area, page: u64) -> u64
     ensures { result ≡ index_of area.now page }
 {
     page - area.start / PAGE_SIZE + area.pgoff
+}
+
+/// The home that a frame has from a page of the area: the area's own anon_vma, and the page's linear
+/// index. None exactly where the area has no anon_vma.
+///
+/// `page` is a page number, its address over 4096.
+pub fn home(area: &Area, page: u64) -> Option<(u64, u64)>
+    requires first { first_of area.now ≤ page }
+    requires small { index_of area.now page < 2 ^ 64 }
+    ensures { result ≡ home_of page (Some area.now) }
+{
+    let own = area.anon?;
+    Some((own, index(area, page)))
 }
 
 /// Whether an area goes on in another so that the two may be one.
