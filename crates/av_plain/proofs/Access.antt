@@ -1,11 +1,11 @@
 -- Accesses, events and choices put together from two parts.
-use Rattle.std.proofs.Common.{◌≡◌, ◌⊎◌, inl, inr, ℕ, Bool, List, [], ◌∷◌, ◌++◌, Option, Some, None, refl, sym, ap, subst, ◌∙◌}
+use Rattle.std.proofs.Common.{◌≡◌, inl, inr, ℕ, Bool, List, [], ◌∷◌, ◌++◌, Option, Some, None, refl, sym, ap, subst, ◌∙◌}
 use Rattle.std.proofs.lemmas.List.{append_assoc}
 use Rattle.av_trace.specs.declared.note.Note.{Note}
 use Rattle.av_plain.specs.World.{World}
 use Rattle.av_plain.specs.Ledger.{Ledger, Setting}
 use Rattle.av_plain.specs.Event.{Event, Noted, after, after_all, note_in, notes_of, after_notes, note_events}
-use Rattle.av_plain.specs.Fault.{Stop, Denied, Starved, Lost, Touches, Sparing, sparing, Serves, RunsOut, IsLost, is_allowed}
+use Rattle.av_plain.specs.Fault.{Stop, Denied, Starved, Lost, Touches, sparing, Serves, RunsOut, IsLost, is_allowed}
 use Rattle.av_plain.specs.Access.{Accesses, End, Whole, Stopped, page_events}
 use Rattle.av_plain.specs.Choice.{ChoosesAll, Free}
 

@@ -7,8 +7,11 @@ use Rattle.av_base.specs.Page.{page_of}
 use Rattle.av_base.specs.Words.{is_in, with_at}
 use Rattle.av_vma.specs.declared.area.Area.{Area}
 use Rattle.av_plain.specs.Stands.{AnonsStand, View}
-use Rattle.av_plain.specs.Areas.{AnonVma, Anons, AreLeft, Areas, IsLinked, Rmap, chain_length, chain_of, no_anons, prepare_all, prepare_event, prepare_note, prepare_page, with_root}
-use Rattle.av_plain.specs.Event.{Event, Noted, Zapped, Used, Forked, Moved, TurnedOn, TurnedOff, notes_of}
+use Rattle.av_plain.specs.Areas.{AnonVma, Anons, AreLeft, Areas, Homes, IsLinked, Rmap, at_home, chain_length, chain_of, no_anons, prepare_page, rmap_after, rmap_after_all, rmap_after_note, rmap_after_use, with_root}
+use Rattle.av_base.specs.declared.slot.Slot.{Slot}
+use Rattle.av_plain.specs.Event.{Event, Noted, Zapped, Used, Forked, Moved, TurnedOn, TurnedOff, after, after_all, note_events, notes_of, when}
+use Rattle.av_plain.specs.Ledger.{Entry, InFrame, InSlot, Key, Ledger, Zero, entry, is_orphan}
+use Rattle.av_plain.specs.Zap.{orphan_drop, slot_behind_key, zap_of, zaps_of}
 use Rattle.av_trace.specs.declared.note.Note.{Note}
 use Rattle.av_trace.specs.declared.note.Note.TheVariants.{Zeroed, New, Copied, Loaded, Mapped, Put, Unmapped, Started, Written, Failed, Dropped, Kept, Aged}
 use Rattle.av_vma.specs.Pages.{Pages, makes_anon}
@@ -42,32 +45,38 @@ anons-same v areas = record { next = refl; kin = λ n. refl; chains = λ p page.
     by None = tt
     by (Some area) = refl
 
--- what is prepared by some events, and then by others
-pub prepare_all-append : (es fs : List Event) (r : Rmap) → prepare_all (es ++ fs) r ≡ prepare_all fs (prepare_all es r)
-prepare_all-append [] fs r = refl
-prepare_all-append (e ∷ es) fs r = prepare_all-append es fs (prepare_event e r)
+-- after some events, and then after others
+pub rmap_after_all-append : (l : Ledger) (es fs : List Event) (r : Rmap)
+    → rmap_after_all l (es ++ fs) r ≡ rmap_after_all (after_all l es) fs (rmap_after_all l es r)
+rmap_after_all-append l [] fs r = refl
+rmap_after_all-append l (e ∷ es) fs r = rmap_after_all-append (after l e) es fs (rmap_after l e r)
 
--- events without a note prepare nothing
-pub prepare_all-silent : (es : List Event) (r : Rmap) → notes_of es ≡ [] → prepare_all es r ≡ r
-prepare_all-silent [] r none = refl
-prepare_all-silent (Noted n ∷ es) r none = absurd cc
-prepare_all-silent (Zapped k ∷ es) r none = prepare_all-silent es r none
-prepare_all-silent (Used write k ∷ es) r none = prepare_all-silent es r none
-prepare_all-silent (Forked p q pages ∷ es) r none = prepare_all-silent es r none
-prepare_all-silent (Moved p n from to ∷ es) r none = prepare_all-silent es r none
-prepare_all-silent (TurnedOn k slots bad ∷ es) r none = prepare_all-silent es r none
-prepare_all-silent (TurnedOff k ∷ es) r none = prepare_all-silent es r none
-
--- what each page that is prepared keeps, all events keep
-pub prepare_all-keeps : (P : Rmap → Type 0) → ((p page : ℕ) (r : Rmap) → P r → P (prepare_page p page r))
-    → (es : List Event) (r : Rmap) → P r → P (prepare_all es r)
-prepare_all-keeps P keeps [] r h = h
-prepare_all-keeps P keeps (e ∷ es) r h = prepare_all-keeps P keeps es (prepare_event e r) (event e)
+-- entries that go leave it
+drop_leaves : (l : Ledger) (o : Option Slot) (m : Ledger) (r : Rmap) → rmap_after_all m (orphan_drop l o) r ≡ r
+drop_leaves l None m r = refl
+drop_leaves l (Some s) m r = by (is_orphan l s)
   where
-    note : (n : Note) → P (prepare_note n r)
-    note (New p a f) = keeps p (page_of a) r h
+    by : (b : Bool) → rmap_after_all m (note_events (when b (Dropped s))) r ≡ r
+    by true = refl
+    by false = refl
+
+pub rmap_after_all-zaps : (l : Ledger) (ks : List Key) (m : Ledger) (r : Rmap) → rmap_after_all m (zaps_of l ks) r ≡ r
+rmap_after_all-zaps l [] m r = refl
+rmap_after_all-zaps l (k ∷ ks) m r =
+    rmap_after_all-append m (zap_of l k) (zaps_of (after_all l (zap_of l k)) ks) r
+    ∙ rmap_after_all-zaps (after_all l (zap_of l k)) ks (after_all m (zap_of l k)) (rmap_after_all m (zap_of l k) r)
+    ∙ drop_leaves (after l (Zapped k)) (slot_behind_key l (entry l k)) (after m (Zapped k)) r
+
+-- what each page that is prepared keeps, and each frame's coming home, all events keep
+pub rmap_after_all-keeps : (P : Rmap → Type 0) → ((p page : ℕ) (r : Rmap) → P r → P (prepare_page p page r))
+    → ((f : ℕ) (k : Key) (r : Rmap) → P r → P (at_home f k r)) → (l : Ledger) (es : List Event) (r : Rmap) → P r → P (rmap_after_all l es r)
+rmap_after_all-keeps P keeps homes l [] r h = h
+rmap_after_all-keeps P keeps homes l (e ∷ es) r h = rmap_after_all-keeps P keeps homes (after l e) es (rmap_after l e r) (event e)
+  where
+    note : (n : Note) → P (rmap_after_note n r)
+    note (New p a f) = homes f (p, page_of a) _ (keeps p (page_of a) r h)
     note (Zeroed p a) = h
-    note (Copied p a f) = h
+    note (Copied p a f) = homes f (p, page_of a) r h
     note (Loaded s f) = h
     note (Mapped p a f) = h
     note (Put f s) = h
@@ -79,30 +88,73 @@ prepare_all-keeps P keeps (e ∷ es) r h = prepare_all-keeps P keeps es (prepare
     note (Kept f cause) = h
     note (Aged f) = h
 
-    event : (e : Event) → P (prepare_event e r)
+    through : (write : Bool) (k : Key) (o : Option Entry) → P (rmap_after_use write k o r)
+    through true k None = h
+    through true k (Some Zero) = h
+    through true k (Some (InFrame f seen)) = homes f k r h
+    through true k (Some (InSlot s)) = h
+    through false k o = h
+
+    event : (e : Event) → P (rmap_after l e r)
     event (Noted n) = note n
     event (Zapped k) = h
-    event (Used write k) = h
+    event (Used write k) = through write k (entry l k)
     event (Forked p q pages) = h
     event (Moved p n from to) = h
     event (TurnedOn k slots bad) = h
     event (TurnedOff k) = h
 
--- what notes prepare
+-- the areas and the anon_vmas go by the notes alone
+abbrev pub prepare_note : Note → Rmap → Rmap
+prepare_note (New p a f) r = prepare_page p (page_of a) r
+prepare_note note r = r
+
 abbrev pub prepare_notes : List Note → Rmap → Rmap
 prepare_notes [] r = r
 prepare_notes (note ∷ notes) r = prepare_notes notes (prepare_note note r)
 
--- events prepare what their notes do
-pub prepare_all-notes : (es : List Event) (r : Rmap) → prepare_all es r ≡ prepare_notes (notes_of es) r
-prepare_all-notes [] r = refl
-prepare_all-notes (Noted n ∷ es) r = prepare_all-notes es (prepare_note n r)
-prepare_all-notes (Zapped k ∷ es) r = prepare_all-notes es r
-prepare_all-notes (Used write k ∷ es) r = prepare_all-notes es r
-prepare_all-notes (Forked p q pages ∷ es) r = prepare_all-notes es r
-prepare_all-notes (Moved p n from to ∷ es) r = prepare_all-notes es r
-prepare_all-notes (TurnedOn k slots bad ∷ es) r = prepare_all-notes es r
-prepare_all-notes (TurnedOff k ∷ es) r = prepare_all-notes es r
+-- the same areas and anon_vmas
+pub record AreSame (r r' : Rmap) : Type 0 where
+  pub areas : r.areas ≡ r'.areas
+  pub anons : r.anons ≡ r'.anons
+
+same_prepared : (p page : ℕ) (r r' : Rmap) → AreSame r r' → AreSame (prepare_page p page r) (prepare_page p page r')
+same_prepared p page r r' h =
+    let both : (homes : Homes) → prepare_page p page (record { areas = r.areas; anons = r.anons; homes = homes }) ≡ prepare_page p page (record { areas = r'.areas; anons = r'.anons; homes = homes }) =
+    λ homes i. prepare_page p page (record { areas = h.areas i; anons = h.anons i; homes = homes }) in
+    record { areas = ap (λ (x : Rmap). x.areas) (both r.homes); anons = ap (λ (x : Rmap). x.anons) (both r.homes) }
+
+pub rmap_after_all-notes : (l : Ledger) (es : List Event) (r r' : Rmap) → AreSame r r' → AreSame (rmap_after_all l es r) (prepare_notes (notes_of es) r')
+rmap_after_all-notes l [] r r' h = h
+rmap_after_all-notes l (Noted n ∷ es) r r' h = rmap_after_all-notes (after l (Noted n)) es (rmap_after_note n r) (prepare_note n r') (note n)
+  where
+    note : (n : Note) → AreSame (rmap_after_note n r) (prepare_note n r')
+    note (New p a f) = let both = same_prepared p (page_of a) r r' h in record { areas = both.areas; anons = both.anons }
+    note (Zeroed p a) = h
+    note (Copied p a f) = record { areas = h.areas; anons = h.anons }
+    note (Loaded s f) = h
+    note (Mapped p a f) = h
+    note (Put f s) = h
+    note (Unmapped f) = h
+    note (Started s) = h
+    note (Written s) = h
+    note (Failed s) = h
+    note (Dropped s) = h
+    note (Kept f cause) = h
+    note (Aged f) = h
+rmap_after_all-notes l (Zapped k ∷ es) r r' h = rmap_after_all-notes (after l (Zapped k)) es r r' h
+rmap_after_all-notes l (Used write k ∷ es) r r' h = rmap_after_all-notes (after l (Used write k)) es (rmap_after_use write k (entry l k) r) r' (through write (entry l k))
+  where
+    through : (write : Bool) (o : Option Entry) → AreSame (rmap_after_use write k o r) r'
+    through true None = h
+    through true (Some Zero) = h
+    through true (Some (InFrame f seen)) = record { areas = h.areas; anons = h.anons }
+    through true (Some (InSlot s)) = h
+    through false o = h
+rmap_after_all-notes l (Forked p q pages ∷ es) r r' h = rmap_after_all-notes (after l (Forked p q pages)) es r r' h
+rmap_after_all-notes l (Moved p n from to ∷ es) r r' h = rmap_after_all-notes (after l (Moved p n from to)) es r r' h
+rmap_after_all-notes l (TurnedOn k slots bad ∷ es) r r' h = rmap_after_all-notes (after l (TurnedOn k slots bad)) es r r' h
+rmap_after_all-notes l (TurnedOff k ∷ es) r r' h = rmap_after_all-notes (after l (TurnedOff k)) es r r' h
 
 -- ---- numbers that were given
 
@@ -122,8 +174,8 @@ below-prepare_page p page r h = by (makes_anon (chain_length r.anons) (r.areas p
     by true = λ v above. root _ v above (v == r.anons.next) refl
     by false = h
 
-pub below-all : (es : List Event) (r : Rmap) → AreBelow r.anons → AreBelow (prepare_all es r).anons
-below-all es r h = prepare_all-keeps (λ r. AreBelow r.anons) below-prepare_page es r h
+pub below-all : (l : Ledger) (es : List Event) (r : Rmap) → AreBelow r.anons → AreBelow (rmap_after_all l es r).anons
+below-all l es r h = rmap_after_all-keeps (λ r. AreBelow r.anons) below-prepare_page (λ f k r h. h) l es r h
 
 pub below-left : (anons : Anons) (on : Areas) (left : Anons) → AreLeft anons on left → AreBelow anons → AreBelow left
 below-left anons on left is h v above = by (left.anon v) refl

@@ -4,13 +4,13 @@ use Rattle.std.proofs.lemmas.Bool.Decides.{nat_tests}
 use Rattle.std.specs.Prelude.{MatchOption, fold, unwrap_or}
 use Rattle.std.specs.FinMap.Entries.{is_sorted}
 use Rattle.av_base.specs.Words.{how_many, numbers}
-use Rattle.av_plain.specs.Ledger.{Ledger, Setting, Cached, Key, key_cmp, Entry, InFrame, entry, map_count, names_frame, is_free, slot_count}
-use Rattle.av_plain.specs.Event.{Event, Zapped, set_entry, after, after_all, after_zap}
+use Rattle.av_plain.specs.Ledger.{Ledger, Setting, Cached, Key, key_cmp, Entry, InFrame, entry, names_frame, is_free, slot_count}
+use Rattle.av_plain.specs.Event.{Event, set_entry, after, after_all, after_zap}
 use Rattle.av_clusters.specs.Clusters.{Slots, give_slot}
 use Rattle.av_base.specs.declared.slot.Slot.{Slot}
 use Rattle.av_plain.specs.Device.{HasNoDevice}
 use Rattle.av_plain.specs.Choice.{AreaSlots, Chooses, ChoosesAll, ChoosesFrame, ChoosesSlot, Free, IsGiven, SwitchesArea, frame_in, new_free, slot_in}
-use Rattle.av_plain.specs.Sound.{uses, holders}
+use Rattle.av_plain.specs.Sound.{uses}
 use Rattle.av_plain.proofs.Ledger.Order.{weight}
 use Rattle.av_plain.proofs.Ledger.{map_count-set}
 use Rattle.av_plain.proofs.Zap.{map_count-after_zap, same_swap-after_zap}

@@ -12,4 +12,5 @@ pub mod Sound
 pub mod NoDevice
 pub mod FreeFrames
 pub mod AreasLeft
+pub mod Covered
 pub mod Device

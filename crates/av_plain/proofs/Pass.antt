@@ -1,15 +1,13 @@
 -- Without swap a pass has no notes: no write is in flight, and no frame has a slot to go to.
-use Rattle.std.proofs.Common.{◌≡◌, ℕ, ◌+◌, ◌<◌, Bool, true, false, cond, not, ◌&&◌, ◌||◌, List, [], ◌∷◌, ◌++◌, Option, Some, None, is_none, is_some, option_map, refl, sym, ap, subst, ◌∙◌, arith, ◌==◌}
-use Rattle.std.specs.Prelude.{MatchBool, MatchOption, IsTrue}
+use Rattle.std.proofs.Common.{◌≡◌, ℕ, ◌<◌, Bool, true, false, not, ◌&&◌, ◌||◌, List, [], ◌∷◌, ◌++◌, is_none, option_map, refl, sym, subst, ◌∙◌, ◌==◌}
+use Rattle.std.specs.Prelude.{MatchBool}
 use Rattle.std.specs.List.{list_all}
 use Rattle.av_base.specs.declared.slot.Slot.{Slot}
 use Rattle.av_trace.specs.declared.note.Note.{Note}
 use Rattle.av_trace.specs.declared.note.Note.TheVariants.{Dropped}
-use Rattle.av_base.specs.Words.{how_many, numbers}
-use Rattle.av_plain.specs.Ledger.{Ledger, Setting, SwapArea, Cached, slot_of, cached_by, has_free, no_slot, is_free, is_open, free_slots}
+use Rattle.av_plain.specs.Ledger.{Ledger, Setting, Cached, cached_by, has_free, is_free, is_open, free_slots}
 use Rattle.av_plain.specs.Event.{after_notes}
 use Rattle.av_plain.specs.Pass.{Spared, Completes, IsSlotFor, is_stuck, stays_cached, turn_notes, Turns, frames_in_turn, IsPass, Seeks, TakesFor}
-use Rattle.av_plain.proofs.Ledger.NoSwap.{has_free-some}
 
 -- no slot is cached, none is in flight, and no area is on
 pub record HasNoSwap (l : Ledger) : Type 0 where

@@ -1,5 +1,5 @@
 -- A command that is refused changes nothing, but for the protection of the pages before a hole.
-use Rattle.std.proofs.Common.{◌≡◌, ◌⊎◌, inl, inr, ℕ, ◌<◌, ◌≤◌, Bool, true, false, cond, not, List, [], length, Option, Some, None, is_some, refl, sym, ap, subst, ◌∙◌, arith, ◌==◌, if◌then◌else◌}
+use Rattle.std.proofs.Common.{◌≡◌, ◌⊎◌, inl, inr, ℕ, ◌<◌, ◌≤◌, Bool, true, false, cond, not, List, [], Option, Some, None, is_some, refl, sym, ap, subst, ◌∙◌, arith, ◌==◌, if◌then◌else◌}
 use Rattle.std.proofs.lemmas.Bool.Decides.{nat_tests}
 use Rattle.std.specs.Prelude.{MatchOption}
 use Rattle.av_trace.specs.declared.command.Command.{Command}

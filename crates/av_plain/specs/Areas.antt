@@ -1,7 +1,7 @@
--- The areas of each process and the anon_vmas, beside the memories, and what a command makes of
--- them: by the areas, chains and memories before it, its events, the command and its answer. They
--- are not part of what makes a reply legal.
-use Rattle.std.specs.Prelude.{◌≡◌, ℕ, suc, ◌+◌, if◌then◌else◌, true, List, [], ◌∷◌, length, Option, Some, None, IsSome, IsSomeAnd}
+-- What reverse mapping goes by, beside the memories: the areas of each process, the anon_vmas, and
+-- the home of each frame. And what a command makes of them: by what was there and the memories
+-- before it, its events, the command and its answer. They are not part of what makes a reply legal.
+use Rattle.std.specs.Prelude.{◌≡◌, ℕ, suc, ◌+◌, if◌then◌else◌, Bool, true, List, [], ◌∷◌, length, Option, Some, None, IsSome, IsSomeAnd}
 use Rattle.std.specs.Option.{option_map_or}
 use Rattle.av_base.specs.Page.{page_of, pages_of}
 use Rattle.av_base.specs.Words.{is_in, with_at}
@@ -14,9 +14,10 @@ use Rattle.av_trace.specs.declared.reply.Answer.{Answer}
 use Rattle.av_trace.specs.declared.reply.Answer.TheVariants.{Done, MapAt, Refused}
 use Rattle.av_trace.specs.declared.reply.Errno.TheVariants.{Enomem}
 use Rattle.av_trace.specs.declared.note.Note.{Note}
-use Rattle.av_trace.specs.declared.note.Note.TheVariants.{New}
-use Rattle.av_vma.specs.Pages.{Lengths, Pages, after_map, after_prepare, after_unmap, makes_anon, pages_changed, to_prot}
-use Rattle.av_plain.specs.Event.{Event, Noted}
+use Rattle.av_trace.specs.declared.note.Note.TheVariants.{New, Copied}
+use Rattle.av_vma.specs.Pages.{Lengths, Pages, after_map, after_prepare, after_unmap, home_of, makes_anon, pages_changed, to_prot}
+use Rattle.av_plain.specs.Event.{Event, Noted, Used, after}
+use Rattle.av_plain.specs.Ledger.{Entry, InFrame, Key, Ledger, entry}
 use Rattle.av_plain.specs.Refusal.{wraps}
 use Rattle.av_plain.specs.World.{World, pages, pages_to_hole}
 
@@ -72,10 +73,26 @@ pub record AreLeft (anons : Anons) (on : Areas) (left : Anons) : Type 0 where
   pub there : (v : ℕ) → IsSome (left.anon v) → IsLinked anons on v
   pub linked : (v : ℕ) → IsLinked anons on v → left.anon v ≡ anons.anon v
 
--- the areas of each process, and the anon_vmas
+-- ---- homes
+
+-- for each frame that a page got, its home: an anon_vma and a linear index. Until its first page a
+-- frame has none; one that is free keeps the last
+abbrev pub Homes : Type 0
+Homes = ℕ → Option (ℕ × ℕ)
+
+-- no frame has any
+abbrev pub no_homes : Homes
+no_homes f = None
+
+-- the areas of each process, the anon_vmas, and the home of each frame
 pub record Rmap : Type 0 where
   pub areas : Areas
   pub anons : Anons
+  pub homes : Homes
+
+-- the frame is at home at the page: with the own anon_vma of its area, and its linear index
+abbrev pub at_home : ℕ → Key → Rmap → Rmap
+at_home f k r = record r { homes = with_at f (home_of k.1 (r.areas k.0 k.1)) r.homes }
 
 -- ---- prepare
 
@@ -95,20 +112,33 @@ abbrev pub prepare_page : ℕ → ℕ → Rmap → Rmap
 prepare_page p page r = let on = r.areas p in let len = chain_length r.anons in record {
   areas = with_at p (after_prepare len r.anons.next page on) r.areas;
   anons = if makes_anon len on (on page) then with_root r.anons else r.anons;
+  homes = r.homes;
 }
 
--- it is prepared where a page of it gets a new frame
-abbrev pub prepare_note : Note → Rmap → Rmap
-prepare_note (New p a f) r = prepare_page p (page_of a) r
-prepare_note note r = r
+-- ---- after events
 
-abbrev pub prepare_event : Event → Rmap → Rmap
-prepare_event (Noted note) r = prepare_note note r
-prepare_event event r = r
+-- an area is prepared where a page of it gets a new frame; a frame is at home at the page that gets
+-- it, new or as a copy. (One that is loaded from swap gets its home where swap comes.)
+abbrev pub rmap_after_note : Note → Rmap → Rmap
+rmap_after_note (New p a f) r = at_home f (p, page_of a) (prepare_page p (page_of a) r)
+rmap_after_note (Copied p a f) r = at_home f (p, page_of a) r
+rmap_after_note note r = r
 
-abbrev pub prepare_all : List Event → Rmap → Rmap
-prepare_all [] r = r
-prepare_all (e ∷ es) r = prepare_all es (prepare_event e r)
+-- and at the page through whose entry it is written
+abbrev pub rmap_after_use : Bool → Key → Option Entry → Rmap → Rmap
+rmap_after_use true k (Some (InFrame f seen)) r = at_home f k r
+rmap_after_use write k e r = r
+
+-- after an event, by the ledger before it
+abbrev pub rmap_after : Ledger → Event → Rmap → Rmap
+rmap_after l (Noted note) r = rmap_after_note note r
+rmap_after l (Used write k) r = rmap_after_use write k (entry l k) r
+rmap_after l event r = r
+
+-- and after several
+abbrev pub rmap_after_all : Ledger → List Event → Rmap → Rmap
+rmap_after_all l [] r = r
+rmap_after_all l (e ∷ es) r = rmap_after_all (after l e) es (rmap_after l e r)
 
 -- ---- the areas after a command
 
@@ -140,10 +170,11 @@ next_areas long on w (Mprotect p a len prot) (Refused Enomem) =
     else with_at p (areas_to_hole long w p (page_of a) (pages_of len) prot (on p)) on
 next_areas long on w command answer = on
 
--- ---- both
+-- ---- the whole
 
--- the areas and the anon_vmas after a command that was answered so, from those after its events
+-- what there is after a command that was answered so, from what there is after its events
 pub record AreNext (now : Rmap) (w : World) (command : Command) (answer : Answer) (next : Rmap)
     : Type 0 where
   pub areas : next.areas ≡ next_areas (chain_length now.anons) now.areas w command answer
   pub anons : AreLeft now.anons next.areas next.anons
+  pub homes : next.homes ≡ now.homes

@@ -15,6 +15,7 @@ pub mod Refusal
 pub mod Step
 pub mod Areas
 pub mod Choice
+pub mod Covered
 pub mod Transcript
 pub mod Sound
 pub mod Stands

@@ -1,6 +1,6 @@
 -- Eviction: writes to slots that end, and the direct pass over all frames where none is free. And
 -- what an out-of-memory says.
-use Rattle.std.specs.Prelude.{◌≡◌, ℕ, ◌<◌, Bool, true, false, not, ◌&&◌, ◌||◌, ◌==◌, if◌then◌else◌, IsTrue, MatchBool, List, [], ◌∷◌, ◌++◌, filter, reverse, Option, Some, None, is_some, is_none, MatchOption}
+use Rattle.std.specs.Prelude.{◌≡◌, ℕ, ◌<◌, Bool, true, false, not, ◌&&◌, ◌||◌, ◌==◌, if◌then◌else◌, IsTrue, MatchBool, List, [], ◌∷◌, ◌++◌, filter, reverse, Option, is_some, is_none, MatchOption}
 use Rattle.av_base.specs.Words.{how_many, numbers}
 use Rattle.av_base.specs.declared.slot.Slot.{Slot}
 use Rattle.av_trace.specs.declared.reply.OutOf.{OutOf}

@@ -2,18 +2,19 @@
 -- answer: a view.
 use Rattle.std.specs.FinMap.Entries.{find}
 use Rattle.std.specs.Ordering.{nat_cmp}
-use Rattle.std.specs.Prelude.{ℕ, Bool, true, false, ◌&&◌, if◌then◌else◌, List, [], ◌∷◌, map, Option, Some, None, ◌≡◌, ◌<◌, IfSome, IsSomeAnd, is_some, ◌≤◌, length, nat_lt, nat_le, option_map, slice_index}
+use Rattle.std.specs.Prelude.{ℕ, Bool, true, false, List, [], ◌∷◌, map, Option, Some, None, ◌≡◌, ◌<◌, IfSome, IsSomeAnd, is_some, ◌≤◌, length, option_map, slice_index}
 use Rattle.av_base.specs.Page.{page_size}
 use Rattle.av_base.specs.Words.{is_in}
 use Rattle.av_base.specs.declared.slot.Slot.{Slot}
 use Rattle.av_plain.specs.Device.{Device, headers_of}
 use Rattle.av_plain.specs.Fault.{is_shared}
 use Rattle.av_plain.specs.Ledger.{Entry, HasNumbers, InFrame, InSlot, Ledger, Setting, SwapArea, Zero, entry, frame_at, in_flight, is_free, is_stale, map_count, names_frame, slot_entries, slot_of}
-use Rattle.av_plain.specs.Areas.{AnonVma, Anons, Areas, chain_of}
+use Rattle.av_plain.specs.Areas.{AnonVma, Anons, Areas, Homes, chain_of}
 use Rattle.av_plain.specs.Choice.{AreaSlots, Free, ListsAll}
+use Rattle.av_plain.specs.Covered.{IsRmapSound}
 use Rattle.av_plain.specs.Report.{Range, prot_in, range_of}
-use Rattle.av_plain.specs.Sound.{AllSound, slots}
-use Rattle.av_plain.specs.Transcript.{State}
+use Rattle.av_plain.specs.Sound.{AllSound}
+use Rattle.av_plain.specs.Transcript.{State, rmap_of}
 use Rattle.av_plain.specs.World.{Page, World, lives, pages}
 use Rattle.av_base.specs.declared.prot.Prot.{Prot}
 use Rattle.av_vma.specs.declared.area.Area.{Area}
@@ -28,11 +29,12 @@ pub record Pte : Type 0 where
 
 -- what the parts of the kernel answer
 pub record View : Type 0 where
-  -- the frames: how many there are, their bytes, how many entries name each, the slot of each and
-  -- whether it is dirty, and the free ones in the order in which they are taken
+  -- the frames: how many there are, their bytes, how many entries name each, the home and the slot
+  -- of each and whether it is dirty, and the free ones in the order in which they are taken
   pub frames : ℕ
   pub bytes : ℕ → ℕ → ℕ
   pub maps : ℕ → ℕ
+  pub homes : Homes
   pub slot : ℕ → Option Slot
   pub dirty : ℕ → Bool
   pub free : List ℕ
@@ -200,8 +202,13 @@ pub record IsOver (m : Setting) (device : Device) : Type 0 where
 abbrev pub free_of : View → Free
 free_of v = record { frames = v.free; slots = v.slots }
 
+-- each frame has this home
+abbrev pub HomesAre : View → Homes → Type 0
+HomesAre v homes = (f : ℕ) → v.homes f ≡ homes f
+
 -- the kernel and the device stand for the memories, the ledger, what is free in its order, the
--- areas with all that each says, and the anon_vmas; what is free is what the ledger has free
+-- areas with all that each says, the anon_vmas, and the homes; what is free is what the ledger has
+-- free, and each entry of a frame is covered
 pub record Stands (m : Setting) (v : View) (device : Device) (s : State) : Type 0 where
   pub over : IsOver m device
   pub sound : AllSound m s.world s.ledger
@@ -210,3 +217,5 @@ pub record Stands (m : Setting) (v : View) (device : Device) (s : State) : Type 
   pub lists : ListsAll m s.ledger s.free
   pub areas : AreasAre v s.areas
   pub anons : AnonsStand v s.areas s.anons
+  pub homes : HomesAre v s.homes
+  pub reach : IsRmapSound s.ledger (rmap_of s)

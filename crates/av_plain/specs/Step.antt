@@ -1,10 +1,10 @@
 -- What one command may answer, and the memories and the ledger after it.
-use Rattle.std.specs.Prelude.{ℕ, ◌+◌, if◌then◌else◌, List, [], Option, None, Some, ◌≡◌, length, max, MatchOption}
+use Rattle.std.specs.Prelude.{ℕ, ◌+◌, if◌then◌else◌, List, Option, None, Some, ◌≡◌, length, max, MatchOption}
 use Rattle.av_base.specs.Page.{page_of, pages_of}
 use Rattle.av_trace.specs.declared.command.Command.{Command}
 use Rattle.av_trace.specs.declared.command.Command.TheVariants.{Mprotect, Spawn, Exit, Mmap, Munmap, Read, Write, Maps, Stat}
 use Rattle.av_trace.specs.declared.reply.Answer.{Answer}
-use Rattle.av_trace.specs.declared.reply.Answer.TheVariants.{Bus, Done, MapAt, NoFrame, Oom, Refused, Counted}
+use Rattle.av_trace.specs.declared.reply.Answer.TheVariants.{Bus, Done, MapAt, NoFrame, Oom, Refused}
 use Rattle.av_trace.specs.declared.reply.Errno.TheVariants.{Enomem, Eio}
 use Rattle.av_trace.specs.declared.reply.Reply.{Reply}
 use Rattle.av_trace.specs.declared.row.Row.{Row}

@@ -3,7 +3,7 @@ use Rattle.std.specs.Prelude.{ℕ, List, [], ◌∷◌, ◌≡◌, sum_by}
 use Rattle.av_base.specs.Words.{numbers}
 use Rattle.av_trace.specs.declared.command.Command.{Command}
 use Rattle.av_trace.specs.declared.reply.Reply.{Reply}
-use Rattle.av_plain.specs.Areas.{Anons, AreNext, Areas, Rmap, no_anons, no_areas, prepare_all}
+use Rattle.av_plain.specs.Areas.{Anons, AreNext, Areas, Homes, Rmap, no_anons, no_areas, no_homes, rmap_after_all}
 use Rattle.av_plain.specs.Choice.{ChoosesAll, Free, no_slots}
 use Rattle.av_plain.specs.Event.{Event, after_all}
 use Rattle.av_plain.specs.Ledger.{Setting, first_ledger, Ledger}
@@ -24,23 +24,24 @@ IsLegalFrom m w l (e ∷ es) w' l' =
     (events : List Event) × IsLegal m w l e.command e.reply events
     × IsLegalFrom m (next_world m w l events e.command e.reply.answer) (after_all l events) es w' l'
 
--- ---- legal, and with each frame and slot chosen exactly, and the areas
+-- ---- legal, and with each frame and slot chosen exactly, and what reverse mapping goes by
 
--- the memories, the ledger, what is free in the order in which it is taken, the areas and the
--- anon_vmas
+-- the memories, the ledger, what is free in the order in which it is taken, the areas, the
+-- anon_vmas, and the homes of the frames
 pub record State : Type 0 where
   pub world : World
   pub ledger : Ledger
   pub free : Free
   pub areas : Areas
   pub anons : Anons
+  pub homes : Homes
 
 -- what reverse mapping goes by
 abbrev pub rmap_of : State → Rmap
-rmap_of s = record { areas = s.areas; anons = s.anons }
+rmap_of s = record { areas = s.areas; anons = s.anons; homes = s.homes }
 
--- no process lives, all frames are free, rising, no swap area has slots, and there is no area and
--- no anon_vma
+-- no process lives, all frames are free, rising, and have no home, no swap area has slots, and
+-- there is no area and no anon_vma
 abbrev pub at_first : Setting → State
 at_first m = record {
   world = [];
@@ -48,6 +49,7 @@ at_first m = record {
   free = record { frames = numbers 0 m.frames; slots = no_slots };
   areas = no_areas;
   anons = no_anons;
+  homes = no_homes;
 }
 
 -- a command is answered so, and leaves this state
@@ -58,7 +60,8 @@ pub record IsStep (m : Setting) (old : State) (command : Command) (reply : Reply
   pub world : new.world ≡ next_world m old.world old.ledger events command reply.answer
   pub ledger : new.ledger ≡ after_all old.ledger events
   pub free : ChoosesAll m (closing_area command) old.ledger events old.free new.free
-  pub rmap : AreNext (prepare_all events (rmap_of old)) old.world command reply.answer (rmap_of new)
+  pub rmap : AreNext (rmap_after_all old.ledger events (rmap_of old)) old.world command reply.answer
+      (rmap_of new)
 
 -- a transcript, each of its replies a step
 abbrev pub IsRun : Setting → State → List Exchange → State → Type 0

@@ -1,11 +1,6 @@
 -- Soundness after the lists and the cache change: a frame moves in its lists, is put at a slot, and is unmapped.
 use Rattle.std.proofs.lemmas.Bool.Decides.{nat_tests}
-use Rattle.std.specs.FinMap.Entries.{find, is_sorted, where_key, find-where_key, is_sorted-where_key}
-use Rattle.std.specs.List.{list_any}
-use Rattle.std.specs.Ordering.{is_eq}
-use Rattle.std.specs.Prelude.{IsTrue, MatchOption, MatchBool}
-use mathlib.Core.List.{reverse_aux}
-use Rattle.std.proofs.Common.{◌≡◌, ◌⊎◌, inl, inr, ℕ, ◌+◌, ◌<◌, ◌≤◌, min, Bool, true, false, cond, not, ◌&&◌, ◌||◌, if◌then◌else◌, nat_lt, T, List, [], ◌∷◌, ◌++◌, map, filter, Option, Some, None, is_none, is_some, option_map, refl, sym, ap, subst, ◌∙◌, arith, ◌==◌}
+use Rattle.std.proofs.Common.{◌≡◌, ℕ, ◌+◌, ◌<◌, ◌≤◌, min, Bool, true, false, cond, ◌&&◌, nat_lt, T, Option, Some, None, option_map, refl, sym, ap, subst, ◌∙◌, arith, ◌==◌}
 use Rattle.av_base.specs.Words.{how_many}
 use Rattle.av_base.specs.declared.slot.Slot.{Slot}
 use Rattle.av_plain.specs.Event.{change_entries, if_some, into_cache, to_active, to_inactive_head, to_inactive_tail}
@@ -15,7 +10,6 @@ use Rattle.av_plain.proofs.Event.{entry-unmap, how_many-map, how_many-or, how_ma
 use Rattle.av_plain.proofs.Ledger.{how_many-found}
 use Rattle.av_plain.proofs.Sound.Counts.{listings-to_active, listings-to_head, listings-to_tail, pair-frame, same-is, slot-is, slot-itself, two_frames, two_slots}
 use Rattle.av_plain.proofs.Sound.Entries.{flag, kin-turned, listed_of}
-use Rattle.av_plain.proofs.Zap.{in_range}
 
 -- ---- lists: a frame that is in use moves
 

@@ -9,7 +9,6 @@ use Rattle.av_plain.specs.Sound.{IsSoundBut, flights, holders, kin, listings, pa
 use Rattle.av_plain.proofs.Ledger.{entry-set, how_many-found, is_sorted-set, map_count-set, same_key, same_key-is}
 use Rattle.av_plain.proofs.Ledger.Order.{keys_total, weight, count-put}
 use Rattle.av_plain.proofs.Sound.Counts.{listings-to_head, pair-frame, same-is, same-turned, slot-is, slot-turned, two_frames, two_slots}
-use Rattle.av_plain.proofs.Zap.{in_range}
 
 abbrev pub One : Ledger → Type 0
 One l = (p a b : ℕ) (d e : Entry) → entry l (p, a) ≡ Some d → entry l (p, b) ≡ Some e → kin l d e ≡ true → a ≡ b

@@ -1,11 +1,7 @@
 -- Soundness after the direct pass, and what the pass keeps.
-use Rattle.std.proofs.lemmas.Bool.Decides.{nat_tests}
-use Rattle.std.specs.FinMap.Entries.{find, is_sorted, where_key, find-where_key, is_sorted-where_key}
-use Rattle.std.specs.List.{list_any}
-use Rattle.std.specs.Ordering.{is_eq}
-use Rattle.std.specs.Prelude.{IsTrue, MatchOption, MatchBool}
+use Rattle.std.specs.Prelude.{MatchBool}
 use mathlib.Core.List.{reverse_aux}
-use Rattle.std.proofs.Common.{◌≡◌, ◌⊎◌, inl, inr, ℕ, ◌+◌, ◌<◌, ◌≤◌, min, Bool, true, false, cond, not, ◌&&◌, ◌||◌, if◌then◌else◌, nat_lt, T, List, [], ◌∷◌, ◌++◌, map, filter, Option, Some, None, is_none, is_some, option_map, refl, sym, ap, subst, ◌∙◌, arith, ◌==◌, reverse}
+use Rattle.std.proofs.Common.{◌≡◌, ℕ, ◌+◌, ◌<◌, ◌≤◌, min, Bool, true, false, cond, not, List, [], ◌∷◌, ◌++◌, filter, Some, refl, sym, ap, subst, ◌∙◌, arith, ◌==◌, reverse}
 use Rattle.av_base.specs.Words.{how_many}
 use Rattle.av_base.specs.declared.slot.Slot.{Slot}
 use Rattle.av_trace.specs.declared.note.Note.{Note}
@@ -22,7 +18,6 @@ use Rattle.av_plain.proofs.Sound.Entries.{flag}
 use Rattle.av_plain.proofs.Sound.Flight.{excuse_of, started-kept}
 use Rattle.av_plain.proofs.Sound.Pages.{settle-entries}
 use Rattle.av_plain.proofs.Sound.Steps.{Alike, Completed, Keeps, UnmapKept, alike-by, alike-end_note, alike-started, alike-then, all_landed, completes-kept, ended, flights-end_note, flights-started, holders-dropped, keeps-alike, keeps-dropped, keeps-then, settle-flight, slots-dropped, unmap_notes-kept}
-use Rattle.av_plain.proofs.Zap.{in_range}
 
 -- ---- lists of frames that have their turn
 

@@ -1,5 +1,5 @@
 -- Soundness after entries are taken away, with the slots that they leave as orphans; and after a process has gone.
-use Rattle.std.proofs.Common.{◌≡◌, ℕ, suc, ◌+◌, ◌<◌, ◌≤◌, Bool, true, false, cond, not, ◌&&◌, nat_lt, T, List, [], ◌∷◌, length, Option, Some, None, is_some, refl, sym, ap, subst, ◌∙◌, arith, ◌==◌}
+use Rattle.std.proofs.Common.{◌≡◌, ℕ, suc, ◌+◌, ◌<◌, ◌≤◌, Bool, true, false, cond, not, T, List, [], ◌∷◌, length, Option, Some, None, is_some, refl, sym, ap, subst, ◌∙◌, arith, ◌==◌}
 use Rattle.std.proofs.lemmas.Bool.Decides.{nat_tests}
 use Rattle.std.specs.Prelude.{option_and_then}
 use Rattle.std.specs.List.{list_any}
@@ -21,7 +21,7 @@ use Rattle.av_plain.proofs.Sound.Counts.{pair-frame, same-is, same-itself, slot_
 use Rattle.av_plain.proofs.Sound.Entries.{flag}
 use Rattle.av_plain.proofs.Sound.Flight.{drops-kept, excuse_of}
 use Rattle.av_plain.proofs.Sound.There.{NoNew, lawful-no_new, less, no_new-then, there-by}
-use Rattle.av_plain.proofs.Zap.{after_zap-is, entry-ended, entry-leaving, entry-zaps_of, in_order-after_zap, in_range, leaving, map_count-leaving, same_swap-after_zap, slot_entries-after_zap, slot_entries-leaving}
+use Rattle.av_plain.proofs.Zap.{after_zap-is, entry-ended, entry-leaving, entry-zaps_of, in_order-after_zap, leaving, map_count-leaving, same_swap-after_zap, slot_entries-after_zap, slot_entries-leaving}
 
 -- ---- an entry goes
 

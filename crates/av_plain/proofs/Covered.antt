@@ -1,0 +1,309 @@
+-- What holds of areas, anon_vmas and homes at all times: it holds after each event and each change of areas.
+use Rattle.std.proofs.Common.{◌≡◌, ℕ, suc, ◌<◌, Bool, true, false, cond, not, ◌==◌, ◌&&◌, ◌||◌, ◌-◌, ◌⊎◌, inl, inr, [], ◌∷◌, Option, Some, None, is_some, option_map, refl, sym, ap, subst, ◌∙◌, arith}
+use Rattle.std.proofs.lemmas.Bool.{false≢true}
+use Rattle.std.proofs.lemmas.Bool.Decides.{nat_tests}
+use Rattle.std.specs.Prelude.{IsSome, IsSomeAnd, unwrap_or}
+use Rattle.std.specs.Option.{option_map_or, option_or}
+use Rattle.av_base.specs.Words.{is_in, with_at}
+use Rattle.av_vma.specs.declared.area.Area.{Area}
+use Rattle.av_vma.specs.Join.{first_of, index_of, is_reusable, past_of}
+use Rattle.av_vma.specs.Pages.{AreLaid, Lengths, Pages, after_prepare, has_page, home_of, loan_beside, loan_of, makes_anon, with_anon, with_area}
+use Rattle.av_plain.specs.Areas.{AnonVma, Anons, AreLeft, Rmap, at_home, chain_length, chain_of, prepare_page, with_root}
+use Rattle.av_plain.specs.Covered.{IsReached, IsRmapSound}
+use Rattle.av_plain.specs.Ledger.{Key, Ledger, entry, names_frame}
+use Rattle.av_plain.proofs.Ledger.{same_key, same_key-is}
+
+-- the entry of a key names the frame
+abbrev pub Names : Ledger → Key → ℕ → Type 0
+Names l k f = IsSomeAnd (entry l k) (λ e. names_frame f e ≡ true)
+
+-- the area of a page has this own anon_vma
+abbrev pub Owns : Rmap → ℕ → ℕ → ℕ → Type 0
+Owns r p page v = IsSomeAnd (r.areas p page) (λ area. area.anon ≡ Some v)
+
+-- ---- chains
+
+-- a chain that has a node is that of an anon_vma that is there
+chain_there : (anons : Anons) (own : Option ℕ) (v : ℕ) → is_in v (chain_of anons own) ≡ true → (w : ℕ) × (own ≡ Some w) × IsSome (anons.anon w)
+chain_there anons None v h = absurd (false≢true h)
+chain_there anons (Some w) v h = (w, refl, by (anons.anon w) h)
+  where
+    by : (o : Option AnonVma) → is_in v (option_map_or (λ (x : AnonVma). x.chain) o []) ≡ true → IsSome o
+    by None h = absurd (false≢true h)
+    by (Some x) h = refl
+
+-- it is the same once a root was made
+chain_rooted : (anons : Anons) (b : Bool) (own : Option ℕ) (v : ℕ) → ((w : ℕ) → IsSome (anons.anon w) → w < anons.next) → is_in v (chain_of anons own) ≡ true
+    → chain_of (cond b (with_root anons) anons) own ≡ chain_of anons own
+chain_rooted anons false own v made h = refl
+chain_rooted anons true own v made h = let w = chain_there anons own v h in
+    subst (λ o. chain_of (with_root anons) o ≡ chain_of anons o) (sym w.1) (other w.0 (made w.0 w.2) (w.0 == anons.next) refl)
+  where
+    other : (w : ℕ) → w < anons.next → (c : Bool) → (w == anons.next) ≡ c
+        → option_map_or (λ (x : AnonVma). x.chain) (cond c (Some (record { root = anons.next; parent = anons.next; chain = anons.next ∷ [] })) (anons.anon w)) [] ≡ option_map_or (λ (x : AnonVma). x.chain) (anons.anon w) []
+    other w less true is = absurd (let e : w ≡ anons.next = grind (arith, nat_tests, is) in omega (arith, less, e))
+    other w less false is = refl
+
+-- ---- the entries change
+
+-- each entry names a frame only if it did
+pub sound-fewer : (l l' : Ledger) (r : Rmap) → ((k : Key) (f : ℕ) → Names l' k f → Names l k f) → IsRmapSound l r → IsRmapSound l' r
+sound-fewer l l' r fewer h = record { made = h.made; own = h.own; covered = λ k f names. h.covered k f (fewer k f names) }
+
+-- the own anon_vma that a home is at
+home_some : (page : ℕ) (x : Option Area) → IsSomeAnd x (λ area. IsSome area.anon) → (area : Area) × (v : ℕ) × (x ≡ Some area) × (area.anon ≡ Some v)
+home_some page None h = absurd h
+home_some page (Some area) h = by area.anon refl h
+  where
+    by : (own : Option ℕ) → area.anon ≡ own → IsSome own → (a : Area) × (v : ℕ) × (Some area ≡ Some a) × (a.anon ≡ Some v)
+    by None e h = absurd (false≢true h)
+    by (Some v) e h = (area, v, refl, e)
+
+-- a page gets a frame that no other entry names, and the frame is at home there
+pub sound-given : (l l' : Ledger) (r : Rmap) (k : Key) (f : ℕ) → IsSomeAnd (r.areas k.0 k.1) (λ area. IsSome area.anon)
+    → ((g : ℕ) → Names l' k g → g ≡ f) → ((q : Key) (g : ℕ) → same_key q k ≡ false → Names l' q g → Names l q g)
+    → ((q : Key) → same_key q k ≡ false → Names l' q f → ⊥) → IsRmapSound l r → IsRmapSound l' (at_home f k r)
+sound-given l l' r k f owns here others alone h = record { made = h.made; own = h.own; covered = λ q g names. by q g names (same_key q k) refl }
+  where
+    area : Area
+    area = (home_some k.1 (r.areas k.0 k.1) owns).0
+
+    own : ℕ
+    own = (home_some k.1 (r.areas k.0 k.1) owns).1
+
+    is_area : r.areas k.0 k.1 ≡ Some area
+    is_area = (home_some k.1 (r.areas k.0 k.1) owns).2
+
+    is_own : area.anon ≡ Some own
+    is_own = (home_some k.1 (r.areas k.0 k.1) owns).3
+
+    home_is : home_of k.1 (r.areas k.0 k.1) ≡ Some (own, index_of area k.1)
+    home_is = ap (home_of k.1) is_area ∙ ap (option_map (λ v. (v, index_of area k.1))) is_own
+
+    reached : IsReached r k (own, index_of area k.1)
+    reached = subst (λ x. IsSomeAnd x (λ a. (is_in own (chain_of r.anons a.anon) ≡ true) × (index_of a k.1 ≡ index_of area k.1))) (sym is_area)
+        (subst (λ o. is_in own (chain_of r.anons o) ≡ true) (sym is_own) (h.own k.0 k.1 own (subst (λ x. IsSomeAnd x (λ a. a.anon ≡ Some own)) (sym is_area) is_own)), refl)
+
+    at_f : (c : Bool) → c ≡ true → IsSomeAnd (cond c (home_of k.1 (r.areas k.0 k.1)) (r.homes f)) (IsReached r k)
+    at_f c e = subst (λ c. IsSomeAnd (cond c (home_of k.1 (r.areas k.0 k.1)) (r.homes f)) (IsReached r k)) (sym e) (subst (λ o. IsSomeAnd o (IsReached r k)) (sym home_is) reached)
+
+    itself : (n : ℕ) → (n == n) ≡ true
+    itself n = grind (arith, nat_tests)
+
+    by : (q : Key) (g : ℕ) → Names l' q g → (c : Bool) → same_key q k ≡ c → IsSomeAnd (with_at f (home_of k.1 (r.areas k.0 k.1)) r.homes g) (IsReached r q)
+    by q g names true is =
+        let same : q ≡ k = same_key-is q k is in
+        let frame : g ≡ f = here g (subst (λ q. Names l' q g) same names) in
+        subst (λ q. IsSomeAnd (with_at f (home_of k.1 (r.areas k.0 k.1)) r.homes g) (IsReached r q)) (sym same)
+        (subst (λ g. IsSomeAnd (with_at f (home_of k.1 (r.areas k.0 k.1)) r.homes g) (IsReached r k)) (sym frame) (at_f (f == f) (itself f)))
+    by q g names false is = other (g == f) refl
+      where
+        other : (c : Bool) → (g == f) ≡ c → IsSomeAnd (cond c (home_of k.1 (r.areas k.0 k.1)) (r.homes g)) (IsReached r q)
+        other true e = let same : g ≡ f = grind (arith, nat_tests, e) in absurd (alone q is (subst (Names l' q) same names))
+        other false e = h.covered q g (others q g is names)
+
+-- ---- the areas change
+
+-- a home is at an area's own anon_vma
+home_parts : (page : ℕ) (x : Option Area) (h : ℕ × ℕ) → home_of page x ≡ Some h → IsSomeAnd x (λ area. (area.anon ≡ Some h.0) × (index_of area page ≡ h.1))
+home_parts page None h is = cc
+home_parts page (Some area) h is = by area.anon refl is
+  where
+    by : (own : Option ℕ) → area.anon ≡ own → option_map (λ v. (v, index_of area page)) own ≡ Some h → (area.anon ≡ Some h.0) × (index_of area page ≡ h.1)
+    by None e is = cc
+    by (Some v) e is = let both : ◌≡◌ {A = ℕ × ℕ} (v, index_of area page) h = cc in (e ∙ ap (λ (x : ℕ × ℕ). Some x.0) both, ap (λ (x : ℕ × ℕ). x.1) both)
+
+-- the areas become others: a page that stays and has an entry keeps its home, no area has an own anon_vma that none had, and of the anon_vmas is left what is linked
+pub sound-next : (l l' : Ledger) (r next : Rmap) → ((k : Key) (f : ℕ) → Names l' k f → Names l k f)
+    → ((k : Key) (f : ℕ) (h : ℕ × ℕ) → Names l' k f → home_of k.1 (r.areas k.0 k.1) ≡ Some h → home_of k.1 (next.areas k.0 k.1) ≡ Some h)
+    → ((p page v : ℕ) → Owns next p page v → (q : ℕ) × (other : ℕ) × Owns r q other v)
+    → AreLeft r.anons next.areas next.anons → next.homes ≡ r.homes → IsRmapSound l r → IsRmapSound l' next
+sound-next l l' r next fewer kept owns left homes h = record {
+  made = λ v there. subst (λ n. v < n) (sym left.next) (h.made v (subst IsSome (left.linked v (left.there v there)) there));
+  own = λ p page v is. subst (λ c. is_in v c ≡ true) (sym (same_chain p page v is)) (in_chain p page v is);
+  covered = λ k f names. subst (λ (hs : ℕ → Option (ℕ × ℕ)). IsSomeAnd (hs f) (IsReached next k)) (sym homes) (reached k f names (r.homes f) (h.covered k f (fewer k f names)));
+}
+  where
+    in_chain : (p page v : ℕ) → Owns next p page v → is_in v (chain_of r.anons (Some v)) ≡ true
+    in_chain p page v is = let was = owns p page v is in h.own was.0 was.1 v was.2
+
+    linked : (p page v : ℕ) (x : Option Area) → IsSomeAnd x (λ area. area.anon ≡ Some v) → is_in v (chain_of r.anons (Some v)) ≡ true → IsSomeAnd x (λ area. is_in v (chain_of r.anons area.anon) ≡ true)
+    linked p page v None is in_own = is
+    linked p page v (Some area) is in_own = subst (λ o. is_in v (chain_of r.anons o) ≡ true) (sym is) in_own
+
+    same_chain : (p page v : ℕ) → Owns next p page v → chain_of next.anons (Some v) ≡ chain_of r.anons (Some v)
+    same_chain p page v is = ap (λ o. option_map_or (λ (x : AnonVma). x.chain) o []) (left.linked v (p, page, linked p page v (next.areas p page) is (in_chain p page v is)))
+
+    -- where an area had a home its page has it still
+    moved : (k : Key) (home : ℕ × ℕ) (x y : Option Area) → next.areas k.0 k.1 ≡ y
+        → IsSomeAnd x (λ area. (is_in home.0 (chain_of r.anons area.anon) ≡ true) × (index_of area k.1 ≡ home.1))
+        → ((h : ℕ × ℕ) → home_of k.1 x ≡ Some h → home_of k.1 y ≡ Some h)
+        → IsSomeAnd y (λ area. (is_in home.0 (chain_of next.anons area.anon) ≡ true) × (index_of area k.1 ≡ home.1))
+    moved k home None y e is kept = absurd is
+    moved k home (Some area) y e is kept =
+        let own = chain_there r.anons area.anon home.0 is.0 in
+        let was : home_of k.1 (Some area) ≡ Some (own.0, index_of area k.1) = ap (option_map (λ v. (v, index_of area k.1))) own.1 in
+        let now = home_parts k.1 y (own.0, index_of area k.1) (kept (own.0, index_of area k.1) was) in
+        there own.0 y e now (subst (λ o. is_in home.0 (chain_of r.anons o) ≡ true) own.1 is.0)
+      where
+        there : (v : ℕ) (y : Option Area) → next.areas k.0 k.1 ≡ y → IsSomeAnd y (λ a. (a.anon ≡ Some v) × (index_of a k.1 ≡ index_of area k.1)) → is_in home.0 (chain_of r.anons (Some v)) ≡ true
+            → IsSomeAnd y (λ a. (is_in home.0 (chain_of next.anons a.anon) ≡ true) × (index_of a k.1 ≡ home.1))
+        there v None e is in_own = is
+        there v (Some a) e now in_own = (
+          subst (λ o. is_in home.0 (chain_of next.anons o) ≡ true) (sym now.0)
+              (subst (λ c. is_in home.0 c ≡ true) (sym (same_chain k.0 k.1 v (subst (λ x. IsSomeAnd x (λ a. a.anon ≡ Some v)) (sym e) now.0))) in_own),
+          now.1 ∙ is.1,
+        )
+
+    reached : (k : Key) (f : ℕ) → Names l' k f → (o : Option (ℕ × ℕ)) → IsSomeAnd o (IsReached r k) → IsSomeAnd o (IsReached next k)
+    reached k f names None is = is
+    reached k f names (Some home) is = moved k home (r.areas k.0 k.1) (next.areas k.0 k.1) refl is (λ h. kept k f h names)
+
+-- ---- an area is prepared
+
+-- what a neighbour lends is its own
+lent_own : (len : Lengths) (area : Area) (x : Option Area) (w : ℕ) → loan_of len area x ≡ Some w → IsSomeAnd x (λ near. near.anon ≡ Some w)
+lent_own len area None w is = cc
+lent_own len area (Some near) w is = by (is_reusable area near (len near.anon)) is
+  where
+    by : (b : Bool) → cond b near.anon None ≡ Some w → near.anon ≡ Some w
+    by true e = e
+    by false e = cc
+
+lent_beside : (len : Lengths) (on : Pages) (area : Area) (w : ℕ) → loan_beside len on area ≡ Some w → (page : ℕ) × IsSomeAnd (on page) (λ near. near.anon ≡ Some w)
+lent_beside len on area w is = by (loan_of len area (on (past_of area))) (loan_of len area (on (first_of area - 1))) refl refl is
+  where
+    by : (x y : Option ℕ) → loan_of len area (on (past_of area)) ≡ x → loan_of len area (on (first_of area - 1)) ≡ y → option_or x y ≡ Some w → (page : ℕ) × IsSomeAnd (on page) (λ near. near.anon ≡ Some w)
+    by (Some v) y e f is = (past_of area, lent_own len area (on (past_of area)) w (e ∙ is))
+    by None y e f is = (first_of area - 1, lent_own len area (on (first_of area - 1)) w (f ∙ is))
+
+-- an area with an own anon_vma stays as it is
+pub prepared-stays : (len : Lengths) (next page : ℕ) (on : Pages) (at : ℕ) (a : Area) → AreLaid on → on at ≡ Some a → IsSome a.anon → after_prepare len next page on at ≡ Some a
+prepared-stays len next page on at a laid is own = by (on page) refl
+  where
+    by : (o : Option Area) → on page ≡ o → with_anon len next o on at ≡ Some a
+    by None e = is
+    by (Some b) e = bare (is_some b.anon) refl
+      where
+        over : (has : Bool) → has_page b at ≡ has → is_some b.anon ≡ false → cond has (Some (record b { anon = Some (unwrap_or (loan_beside len on b) next) })) (on at) ≡ Some a
+        over true h none = let same : Some a ≡ Some b = sym is ∙ laid.all page at b e h in
+            absurd (false≢true (sym none ∙ subst (λ (o : Option Area). option_map_or (λ (x : Area). is_some x.anon) o true ≡ true) same own))
+        over false h none = is
+
+        bare : (c : Bool) → is_some b.anon ≡ c → cond c on (with_area (record b { anon = Some (unwrap_or (loan_beside len on b) next) }) on) at ≡ Some a
+        bare true h = is
+        bare false h = over (has_page b at) refl h
+
+-- the area at a page had this own anon_vma, or the area that is prepared had none and got it
+abbrev pub HadOrGot : Lengths → ℕ → ℕ → Pages → ℕ → ℕ → Type 0
+HadOrGot len next page on at v = IsSomeAnd (on at) (λ a. a.anon ≡ Some v)
+    ⊎ ((b : Area) × (on page ≡ Some b) × (is_some b.anon ≡ false) × (v ≡ unwrap_or (loan_beside len on b) next))
+
+pub prepared-owns : (len : Lengths) (next page : ℕ) (on : Pages) (at v : ℕ) → IsSomeAnd (after_prepare len next page on at) (λ a. a.anon ≡ Some v)
+    → HadOrGot len next page on at v
+prepared-owns len next page on at v is = by (on page) refl is
+  where
+    by : (o : Option Area) → on page ≡ o → IsSomeAnd (with_anon len next o on at) (λ a. a.anon ≡ Some v)
+        → HadOrGot len next page on at v
+    by None e is = inl is
+    by (Some b) e is = bare (is_some b.anon) refl is
+      where
+        over : (has : Bool) → is_some b.anon ≡ false → IsSomeAnd (cond has (Some (record b { anon = Some (unwrap_or (loan_beside len on b) next) })) (on at)) (λ a. a.anon ≡ Some v)
+            → HadOrGot len next page on at v
+        over true none is = let same : v ≡ unwrap_or (loan_beside len on b) next = cc in inr (b, e, none, same)
+        over false none is = inl is
+
+        bare : (c : Bool) → is_some b.anon ≡ c → IsSomeAnd (cond c on (with_area (record b { anon = Some (unwrap_or (loan_beside len on b) next) }) on) at) (λ a. a.anon ≡ Some v)
+            → HadOrGot len next page on at v
+        bare true h is = inl is
+        bare false h is = over (has_page b at) h is
+
+module _ (l : Ledger) (p page : ℕ) (r : Rmap) (laid : AreLaid (r.areas p)) (h : IsRmapSound l r) where
+  abbrev len : Lengths
+  len = chain_length r.anons
+
+  abbrev on : Pages
+  on = r.areas p
+
+  -- whether a root is made
+  abbrev roots : Bool
+  roots = makes_anon len on (on page)
+
+  abbrev now_anons : Anons
+  now_anons = cond roots (with_root r.anons) r.anons
+
+  same_chain : (own : Option ℕ) (v : ℕ) → is_in v (chain_of r.anons own) ≡ true → chain_of now_anons own ≡ chain_of r.anons own
+  same_chain own v is = chain_rooted r.anons roots own v h.made is
+
+  made_now : (b : Bool) (v : ℕ) → IsSome ((cond b (with_root r.anons) r.anons).anon v) → v < (cond b (with_root r.anons) r.anons).next
+  made_now false v is = h.made v is
+  made_now true v is = root (v == r.anons.next) refl is
+    where
+      root : (c : Bool) → (v == r.anons.next) ≡ c → IsSome (cond c (Some (record { root = r.anons.next; parent = r.anons.next; chain = r.anons.next ∷ [] })) (r.anons.anon v)) → v < suc r.anons.next
+      root true e is = let same : v ≡ r.anons.next = grind (arith, nat_tests, e) in omega (arith, same)
+      root false e is = let less = h.made v is in omega (arith, less)
+
+  -- an own anon_vma that was there
+  own_before : (q other v : ℕ) → Owns r q other v → is_in v (chain_of now_anons (Some v)) ≡ true
+  own_before q other v is = let was = h.own q other v is in subst (λ c. is_in v c ≡ true) (sym (same_chain (Some v) v was)) was
+
+  -- and the one that the area gets
+  own_got : (b : Area) → on page ≡ Some b → is_some b.anon ≡ false → is_in (unwrap_or (loan_beside len on b) r.anons.next) (chain_of now_anons (Some (unwrap_or (loan_beside len on b) r.anons.next))) ≡ true
+  own_got b is none = by (loan_beside len on b) refl
+    where
+      itself : (n : ℕ) → (n == n) ≡ true
+      itself n = grind (arith, nat_tests)
+
+      makes : (o : Option ℕ) → loan_beside len on b ≡ o → roots ≡ not (is_some o)
+      makes o e = ap (makes_anon len on) is ∙ ap (λ x. not x && not (is_some (loan_beside len on b))) none ∙ ap (λ o. not (is_some o)) e
+
+      root : (c : Bool) → c ≡ true → option_map_or (λ (x : AnonVma). x.chain) (cond c (Some (record { root = r.anons.next; parent = r.anons.next; chain = r.anons.next ∷ [] })) (r.anons.anon r.anons.next)) [] ≡ r.anons.next ∷ []
+      root true e = refl
+      root false e = cc
+
+      by : (o : Option ℕ) → loan_beside len on b ≡ o → is_in (unwrap_or o r.anons.next) (chain_of now_anons (Some (unwrap_or o r.anons.next))) ≡ true
+      by (Some w) e = let near = lent_beside len on b w e in own_before p near.0 w near.1
+      by None e = subst (λ m. is_in r.anons.next (chain_of (cond m (with_root r.anons) r.anons) (Some r.anons.next)) ≡ true) (sym (makes None e))
+          (subst (λ c. is_in r.anons.next c ≡ true) (sym (root (r.anons.next == r.anons.next) (itself r.anons.next))) (ap (λ b. b || false) (itself r.anons.next)))
+
+  -- the areas then
+  abbrev now_areas : ℕ → Pages
+  now_areas = with_at p (after_prepare len r.anons.next page on) r.areas
+
+  stays : (q other : ℕ) (a : Area) → r.areas q other ≡ Some a → IsSome a.anon → now_areas q other ≡ Some a
+  stays q other a is own = by (q == p) refl
+    where
+      by : (b : Bool) → (q == p) ≡ b → (cond b (after_prepare len r.anons.next page on) (r.areas q)) other ≡ Some a
+      by true e = let same : q ≡ p = grind (arith, nat_tests, e) in prepared-stays len r.anons.next page on other a laid (subst (λ q. r.areas q other ≡ Some a) same is) own
+      by false e = is
+
+  own_now : (q other v : ℕ) → IsSomeAnd (now_areas q other) (λ a. a.anon ≡ Some v) → is_in v (chain_of now_anons (Some v)) ≡ true
+  own_now q other v = by (q == p)
+    where
+      got : HadOrGot len r.anons.next page on other v → is_in v (chain_of now_anons (Some v)) ≡ true
+      got (inl is) = own_before p other v is
+      got (inr (b, is, none, e)) = subst (λ v. is_in v (chain_of now_anons (Some v)) ≡ true) (sym e) (own_got b is none)
+
+      by : (b : Bool) → IsSomeAnd ((cond b (after_prepare len r.anons.next page on) (r.areas q)) other) (λ a. a.anon ≡ Some v) → is_in v (chain_of now_anons (Some v)) ≡ true
+      by true is = got (prepared-owns len r.anons.next page on other v is)
+      by false is = own_before q other v is
+
+  reached_now : (k : Key) (home : ℕ × ℕ) (x : Option Area) → r.areas k.0 k.1 ≡ x → IsSomeAnd x (λ a. (is_in home.0 (chain_of r.anons a.anon) ≡ true) × (index_of a k.1 ≡ home.1))
+      → IsSomeAnd (now_areas k.0 k.1) (λ a. (is_in home.0 (chain_of now_anons a.anon) ≡ true) × (index_of a k.1 ≡ home.1))
+  reached_now k home None e is = absurd is
+  reached_now k home (Some a) e is =
+      let own = chain_there r.anons a.anon home.0 is.0 in
+      subst (λ x. IsSomeAnd x (λ a. (is_in home.0 (chain_of now_anons a.anon) ≡ true) × (index_of a k.1 ≡ home.1))) (sym (stays k.0 k.1 a e (subst IsSome (sym own.1) refl)))
+      (subst (λ c. is_in home.0 c ≡ true) (sym (same_chain a.anon home.0 is.0)) is.0, is.1)
+
+  -- an area is prepared
+  pub sound-prepared : IsRmapSound l (prepare_page p page r)
+  sound-prepared = record {
+    made = made_now roots;
+    own = own_now;
+    covered = λ k f names. reached k (r.homes f) (h.covered k f names);
+  }
+    where
+      reached : (k : Key) (o : Option (ℕ × ℕ)) → IsSomeAnd o (IsReached r k) → IsSomeAnd o (IsReached (prepare_page p page r) k)
+      reached k None is = is
+      reached k (Some home) is = reached_now k home (r.areas k.0 k.1) refl is
