@@ -27,14 +27,14 @@ use Rattle.av_fault.proofs.FaultParts.{of_keeps, no_swap}
 use Rattle.av_fault.proofs.FaultEntries.{given_to}
 use Rattle.av_reclaim.proofs.MemLaws.{equal_is, frames_free}
 use Rattle.av_fault.proofs.FaultServes.{is_bare, bare_entry, bare_frame, bare_slot, need_fresh, need_split, serves, out_is}
-use Rattle.av_fault.proofs.FaultTouched.{IsServed, anons_still, given_now, starved, to_touched}
+use Rattle.av_fault.proofs.FaultTouched.{IsServed, given_now, starved}
 use Rattle.av_fault.proofs.FaultSafe.{named_frame}
 
 -- the ledger after either note
-new_is : (p page f : ℕ) (l : Ledger) → after_note (New p (4096 * page) f) l ≡ given_to p page f l
+pub new_is : (p page f : ℕ) (l : Ledger) → after_note (New p (4096 * page) f) l ≡ given_to p page f l
 new_is p page f l = ap (λ (k : Key). to_inactive_head f (set_entry k (InFrame f false) l)) (key_at-page p page)
 
-copied_is : (p page f : ℕ) (l : Ledger) → after_note (Copied p (4096 * page) f) l ≡ given_to p page f l
+pub copied_is : (p page f : ℕ) (l : Ledger) → after_note (Copied p (4096 * page) f) l ≡ given_to p page f l
 copied_is p page f l = ap (λ (k : Key). to_inactive_head f (set_entry k (InFrame f false) l)) (key_at-page p page)
 
 -- the numbers of an out-of-memory, of so many frames
@@ -48,6 +48,10 @@ module _ (s : State) (old new : Mem) (p page : ℕ) (notes : List Note) (keeps :
 
   none_yet : (f : ℕ) → f < count old → (view old).free ≡ f ∷ (view new).free → (view old).maps f ≡ 0
   none_yet f below first = keeps.stands.parts.ledger.frames.maps f ∙ zero_is _ (sym (free_is s.ledger f (of_keeps old s keeps).cache) ∙ free_now f below first)
+
+  -- so the ledger has no entry of it
+  pub unnamed : (f : ℕ) → f < count old → (view old).free ≡ f ∷ (view new).free → map_count s.ledger f ≡ 0
+  unnamed f below first = sym (keeps.stands.parts.ledger.frames.maps f) ∙ none_yet f below first
 
   -- ---- zeros
 
@@ -104,7 +108,7 @@ module _ (s : State) (old new : Mem) (p page : ℕ) (notes : List Note) (keeps :
         inner : {x y : ℕ} → Some x ≡ Some y → x ≡ y
         inner e = cc
 
-    copy_served : (f : ℕ) (now : List Note) → now ≡ notes ++ Copied p (4096 * page) f ∷ [] → IsTaken old new p page f ((view old).bytes from) (one_less from (one_more f (view old).maps)) → IsServed s new true (p, page) notes now (Copied p (4096 * page) f ∷ []) (ReadyAt f)
+    pub copy_served : (f : ℕ) (now : List Note) → now ≡ notes ++ Copied p (4096 * page) f ∷ [] → IsTaken old new p page f ((view old).bytes from) (one_less from (one_more f (view old).maps)) → IsServed s new true (p, page) notes now (Copied p (4096 * page) f ∷ []) (ReadyAt f)
     copy_served f now added is = given_now s old new p page notes keeps processes same order now (Copied p (4096 * page) f) f ((view old).bytes from) (one_less from (one_more f (view old).maps)) added is allowed (copied_is p page f s.ledger) refl
         (sym keeps.stands.free ∙ ap frames_free is.first)
         (serves (setting (count old)) (sparing s.world) s.ledger true (p, page) (Copied p (4096 * page) f ∷ []) (CopyOnWrite from) splits refl
@@ -145,11 +149,3 @@ module _ (s : State) (old new : Mem) (p page : ℕ) (notes : List Note) (keeps :
           where
             equal : (x k n : ℕ) {d : ℕ} → x ≡ n → k ≡ 0 → d ≡ 0 → x + k ≡ n + d
             equal x k n a b r = omega arith
-
-    pub copy_made : (f : ℕ) (now : List Note) → now ≡ notes ++ Copied p (4096 * page) f ∷ [] → IsTaken old new p page f ((view old).bytes from) (one_less from (one_more f (view old).maps)) → IsTouched s new true (p, page) notes now (ReadyAt f)
-    copy_made f now added is =
-        let served = copy_served f now added is in
-        to_touched s new new true (p, page) notes now (Copied p (4096 * page) f ∷ []) (ReadyAt f) served refl refl served.parts (record {
-          areas = λ q o. ap (λ (v : View). pages_in (v.areas q) o) is.view ∙ keeps.stands.areas q o;
-          anons = anons_still (view old) (view new) s.areas s.anons (ap (λ (v : View). v.anons) is.view) keeps.stands.anons;
-        })

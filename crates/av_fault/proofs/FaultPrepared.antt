@@ -15,21 +15,14 @@ use Rattle.av_spaces.specs.Spaces.{AllSpaces, AreThese, IsChanged, areas_of, pag
 use Rattle.av_base.specs.Words.{is_in}
 use Rattle.av_anon.specs.declared.infos.Info.{Info}
 use Rattle.av_spaces.specs.Kin.{AnonsPrepare, IsOwnedIn, chain_on, info_of, made_for}
-use Rattle.av_plain.specs.Stands.{AnonsStand, kin_of}
+use Rattle.av_plain.specs.Covered.{IsRmapSound}
+use Rattle.av_plain.proofs.Covered.{owns-prepared, sound-prepared}
+use Rattle.av_plain.specs.Stands.{AnonsStand, HomesAre, kin_of}
 use Rattle.av_spaces.proofs.Kin.{stay_same}
 use Rattle.av_plain.specs.Areas.{AnonVma, Anons, Areas, Rmap, chain_length, chain_of, prepare_page, with_root}
 use Rattle.av_plain.specs.Transcript.{State, rmap_of}
-use Rattle.av_plain.specs.Access.{page_events}
-use Rattle.av_plain.specs.Areas.{prepare_all}
-use Rattle.av_plain.specs.Ledger.{Key}
-use Rattle.av_plain.proofs.Ledger.NoSwap.{key_at-page}
-use Rattle.av_base.specs.Page.{page_of}
 use Rattle.av_pagetable.specs.Entries.{has}
-use Rattle.av_trace.specs.declared.note.Note.{Note}
-use Rattle.av_trace.specs.declared.note.Note.TheVariants.{New}
-use Rattle.av_fault.specs.declared.fault.Touched.TheVariants.{Ready as ReadyAt}
-use Rattle.av_fault.specs.Fault.{HasRmap, IsTouched}
-use Rattle.av_fault.proofs.FaultTouched.{IsServed, to_touched}
+use Rattle.av_fault.specs.Fault.{HasRmap}
 use Rattle.av_reclaim.specs.declared.mem.Mem.{Mem}
 use Rattle.av_reclaim.specs.Mem.{Keeps, anon_vma, anons_of, view}
 use Rattle.av_base.specs.declared.slot.Slot.{Slot}
@@ -287,17 +280,24 @@ module _ (old : Mem) (s : State) (keeps : Keeps old s) (mid : Mem) (same_spaces 
   made_old : AnonsPrepare old.spaces old.anons spaces now p page
   made_old = subst (λ (a : AnonSet). AnonsPrepare old.spaces a spaces now p page) same_anons (subst (λ (x : AllSpaces). AnonsPrepare x mid.anons spaces now p page) same_spaces made)
 
-  rmap_at : (o : ℕ) → o ≡ page → HasRmap (record mid { spaces = spaces; anons = now }) (prepare_page p o (rmap_of s))
-  rmap_at o is = subst (λ o. HasRmap (record mid { spaces = spaces; anons = now }) (prepare_page p o (rmap_of s))) (sym is) (record {
+  -- a page's area has its anon_vma then, and the frames have the homes that they had
+  pub prepared_rmap : HomesAre (view mid) s.homes → HasRmap (record mid { spaces = spaces; anons = now }) (prepare_page p page (rmap_of s))
+  prepared_rmap homes = record {
     areas = λ q o. areas_prepared old s keeps spaces now p page changed_old made_old q o;
     anons = anons_prepared old s keeps spaces now p page changed_old made_old (record mid { spaces = spaces; anons = now }) refl refl;
-  })
+    homes = homes;
+  }
 
-  pub new_rmap : (f : ℕ) → HasRmap (record mid { spaces = spaces; anons = now }) (prepare_all (page_events true (p, page) (New p (4096 * page) f ∷ []) None) (rmap_of s))
-  new_rmap f = rmap_at (page_of (4096 * page)) (ap (λ (k : Key). k.1) (key_at-page p page))
+  -- what stands within an access still does
+  pub prepared_within : (w : World) (l : Ledger) → KeepsWithin mid w l → is_some (areas_of mid.spaces.processes p) ≡ true → KeepsWithin (record mid { spaces = spaces; anons = now }) w l
+  prepared_within w l within alive = within_prepared mid w l spaces now p page (lengths mid.spaces.areas mid.anons) mid.anons.next within alive changed made.fit
 
-  -- a page that got a frame of zeros is ready
-  pub new_ready : (notes now_notes : List Note) (f : ℕ) → IsServed s mid true (p, page) notes now_notes (New p (4096 * page) f ∷ []) (ReadyAt f) → is_some (areas_of mid.spaces.processes p) ≡ true
-      → IsTouched s (record mid { spaces = spaces; anons = now }) true (p, page) notes now_notes (ReadyAt f)
-  new_ready notes now_notes f served alive = to_touched s mid (record mid { spaces = spaces; anons = now }) true (p, page) notes now_notes (New p (4096 * page) f ∷ []) (ReadyAt f) served refl refl
-      (within_prepared mid s.world _ spaces now p page (lengths mid.spaces.areas mid.anons) mid.anons.next served.parts alive changed made.fit) (new_rmap f)
+  laid_before : AreLaid (s.areas p)
+  laid_before = subst AreLaid (λ i o. keeps.stands.areas p o i) (laid old.spaces.processes p changed_old.were_rising)
+
+  -- and what is true at all times still is
+  pub prepared_reach : IsRmapSound s.ledger (prepare_page p page (rmap_of s))
+  prepared_reach = sound-prepared s.ledger p page (rmap_of s) laid_before keeps.stands.reach
+
+  pub prepared_owns : IsSome (s.areas p page) → IsSomeAnd ((prepare_page p page (rmap_of s)).areas p page) (λ a. IsSome a.anon)
+  prepared_owns there = owns-prepared s.ledger p page (rmap_of s) laid_before keeps.stands.reach there

@@ -1,5 +1,5 @@
 -- What a memory system that stands for some state says of its frames and entries.
-use Rattle.std.proofs.Common.{◌≡◌, ℕ, ◌<◌, ◌≤◌, Bool, true, false, ◌||◌, List, ◌∷◌, Option, Some, None, option_map, refl, sym, ap, subst, ◌∙◌, arith, is_some, nat_lt}
+use Rattle.std.proofs.Common.{◌≡◌, ℕ, ◌<◌, ◌≤◌, Bool, true, false, cond, ◌+◌, ◌-◌, ◌^◌, ◌||◌, List, [], ◌∷◌, Option, Some, None, option_map, refl, sym, ap, subst, ◌∙◌, arith, is_some, nat_lt}
 use Rattle.std.proofs.lemmas.Bool.{false≢true}
 use Rattle.std.proofs.lemmas.Bool.Decides.{nat_tests}
 use Rattle.av_base.specs.declared.slot.Slot.{Slot}
@@ -15,7 +15,11 @@ use Rattle.av_plain.specs.Transcript.{State}
 use Rattle.av_plain.proofs.Ledger.{how_many-found}
 use Rattle.av_plain.proofs.Ledger.NoSwap.{itself, free_is, shared_is, zero_is}
 use Rattle.av_vma.specs.declared.area.Area.{Area}
-use Rattle.av_spaces.specs.Spaces.{Spaces, pages_of}
+use Rattle.std.specs.Bool.{then_some}
+use Rattle.std.specs.List.{find}
+use Rattle.av_vma.specs.Join.{first_of, index_of, past_of}
+use Rattle.av_vma.specs.Pages.{IsWhole, has_page, pages_in}
+use Rattle.av_spaces.specs.Spaces.{Spaces, areas_of, pages_of}
 use Rattle.av_reclaim.specs.declared.mem.Mem.{Mem}
 use Rattle.av_fault.specs.declared.fault.Touched.TheVariants.{Ready}
 use Rattle.av_spaces.specs.Kin.{AnonsFit}
@@ -23,7 +27,7 @@ use Rattle.av_reclaim.specs.Mem.{ranges_of, setting, count, plain, view, Keeps, 
 use Rattle.av_fault.specs.Fault.{is_permitted, frame_named, IsTouched}
 use Rattle.av_fault.proofs.FaultParts.{of_keeps, as_pte}
 use Rattle.av_reclaim.proofs.MemLaws.{prot_on, prots_are, entry_put_in}
-use Rattle.av_fault.proofs.FaultTouched.{marked, again}
+use Rattle.av_fault.proofs.FaultTouched.{IsServed, again, marked, read_marked}
 use Rattle.av_fault.proofs.FaultServes.{named_entry, not_away}
 
 -- a frame that is free is named by no entry
@@ -75,20 +79,65 @@ frame_entry k s p page f bit was keeps is = sym (keeps.stands.parts.ledger.table
 pub order_still : (old new : Mem) → new.spaces ≡ old.spaces → new.anons ≡ old.anons → AnonsFit old.spaces old.anons → AnonsFit new.spaces new.anons
 order_still old new spaces anons order = subst (λ s. AnonsFit s new.anons) (sym spaces) (subst (AnonsFit old.spaces) (sym anons) order)
 
--- where it is marked as seen already, the page is ready
-pub seen_there : (k : Mem) (s : State) (p page f : ℕ) (write bit : Bool) (notes : List Note) → Keeps k s → is_permitted write (prot_of (ranges_of k.spaces.processes p) page) ≡ true → entry_at k.tables p page ≡ Here f bit true
-    → (write ≡ true → bit ≡ true) → IsTouched s k write (p, page) notes notes (Ready f)
-seen_there k s p page f write bit notes keeps allowed is own =
-    marked s k k p page notes keeps refl refl keeps.anons write bit true f (again p page (as_pte (InFrame f true) bit) (view k) (ap plain is)) allowed (frame_entry k s p page f bit true keeps is)
-    (few_by_bit k s p page f bit true keeps is) (λ writes. few_by_bit k s p page f bit true keeps is (own writes))
+-- where it is marked as seen already, the page is ready: for a read, and for a write once its frame has its home there
+pub seen_there : (k : Mem) (s : State) (p page f : ℕ) (bit : Bool) (notes : List Note) → Keeps k s → is_permitted false (prot_of (ranges_of k.spaces.processes p) page) ≡ true → entry_at k.tables p page ≡ Here f bit true
+    → IsTouched s k false (p, page) notes notes (Ready f)
+seen_there k s p page f bit notes keeps allowed is =
+    read_marked s k k p page notes keeps refl refl keeps.anons bit true f (again p page (as_pte (InFrame f true) bit) (view k) (ap plain is)) allowed (frame_entry k s p page f bit true keeps is) (few_by_bit k s p page f bit true keeps is)
+
+pub written_there : (k : Mem) (s : State) (p page f : ℕ) (bit : Bool) (notes : List Note) → Keeps k s → is_permitted true (prot_of (ranges_of k.spaces.processes p) page) ≡ true → entry_at k.tables p page ≡ Here f bit true
+    → bit ≡ true → IsServed s k true (p, page) notes notes [] (Ready f)
+written_there k s p page f bit notes keeps allowed is own =
+    marked s k k p page notes keeps refl refl keeps.anons true bit true f (again p page (as_pte (InFrame f true) bit) (view k) (ap plain is)) allowed (frame_entry k s p page f bit true keeps is)
+    (few_by_bit k s p page f bit true keeps is) (λ writes. few_by_bit k s p page f bit true keeps is own)
 
 -- it is marked as seen
-pub seen_now : (k new : Mem) (s : State) (p page f : ℕ) (write bit bit' was : Bool) (notes : List Note) → Keeps k s → is_permitted write (prot_of (ranges_of k.spaces.processes p) page) ≡ true → entry_at k.tables p page ≡ Here f bit was
-    → entry_at new.tables ≡ with_entry p page (Here f bit' true) (entry_at k.tables) → has new.tables ≡ has k.tables → new.frames ≡ k.frames → new.spaces ≡ k.spaces → new.anons ≡ k.anons
-    → (bit' ≡ true → map_count s.ledger f ≤ 1) → (write ≡ true → map_count s.ledger f ≤ 1) → IsTouched s new write (p, page) notes notes (Ready f)
-seen_now k new s p page f write bit bit' was notes keeps allowed is entries processes frames spaces anons few own =
-    marked s k new p page notes keeps processes (ap (λ f. (seen f).count) frames) (order_still k new spaces anons keeps.anons) write bit' was f (entry_put_in k new p page (Here f bit' true) entries frames spaces anons) allowed (frame_entry k s p page f bit was keeps is) few own
+module _ (k new : Mem) (s : State) (p page f : ℕ) (bit bit' was : Bool) (notes : List Note) (keeps : Keeps k s) (is : entry_at k.tables p page ≡ Here f bit was)
+    (entries : entry_at new.tables ≡ with_entry p page (Here f bit' true) (entry_at k.tables)) (processes : has new.tables ≡ has k.tables) (frames : new.frames ≡ k.frames) (spaces : new.spaces ≡ k.spaces) (anons : new.anons ≡ k.anons)
+    (few : bit' ≡ true → map_count s.ledger f ≤ 1) where
+  pub seen_now : is_permitted false (prot_of (ranges_of k.spaces.processes p) page) ≡ true → IsTouched s new false (p, page) notes notes (Ready f)
+  seen_now allowed =
+      read_marked s k new p page notes keeps processes (ap (λ f. (seen f).count) frames) (order_still k new spaces anons keeps.anons) bit' was f (entry_put_in k new p page (Here f bit' true) entries frames spaces anons) allowed (frame_entry k s p page f bit was keeps is) few
+
+  pub written_now : is_permitted true (prot_of (ranges_of k.spaces.processes p) page) ≡ true → map_count s.ledger f ≤ 1 → IsServed s new true (p, page) notes notes [] (Ready f)
+  written_now allowed own =
+      marked s k new p page notes keeps processes (ap (λ f. (seen f).count) frames) (order_still k new spaces anons keeps.anons) true bit' was f (entry_put_in k new p page (Here f bit' true) entries frames spaces anons) allowed (frame_entry k s p page f bit was keeps is) few (λ writes. own)
 
 -- whether an access is permitted, by the area on the page
 pub may_be : (s : Spaces) (p page : ℕ) (write : Bool) (o : Option Area) → o ≡ pages_of s p page → is_permitted write (option_map prot_on o) ≡ is_permitted write (prot_of (ranges_of s p) page)
 may_be s p page write o is = ap (λ x. is_permitted write (option_map prot_on x)) is ∙ sym (ap (is_permitted write) (prots_are s p page))
+
+-- something is there exactly under the test
+pub some_then : {A : Type 0} (b : Bool) (x : A) → is_some (then_some b x) ≡ b
+some_then true x = refl
+some_then false x = refl
+
+-- ---- the area of a page
+
+-- the area that holds a page has it
+found_has : (page : ℕ) (area : Area) (areas : List Area) → find (λ a. has_page a page) areas ≡ Some area → has_page area page ≡ true
+found_has page area [] e = cc
+found_has page area (a ∷ areas) e = at (has_page a page) refl e (found_has page area areas)
+  where
+    at : (b : Bool) → has_page a page ≡ b → cond b (Some a) (find (λ a. has_page a page) areas) ≡ Some area → (find (λ a. has_page a page) areas ≡ Some area → has_page area page ≡ true) → has_page area page ≡ true
+    at true h e rest = let same : a ≡ area = cc in subst (λ a. has_page a page ≡ true) same h
+    at false h e rest = rest e
+
+has_here : (s : Spaces) (p page : ℕ) (area : Area) → pages_of s p page ≡ Some area → has_page area page ≡ true
+has_here s p page area is = by (areas_of s p) is
+  where
+    by : (o : Option (List Area)) → pages_in o page ≡ Some area → has_page area page ≡ true
+    by None e = cc
+    by (Some areas) e = found_has page area areas e
+
+-- so its linear index is a number of the machine
+pub first_here : (s : Spaces) (p page : ℕ) (area : Area) → pages_of s p page ≡ Some area → first_of area ≤ page
+first_here s p page area is = let has = has_here s p page area is in grind (arith, nat_tests, has)
+
+pub small_here : (s : Spaces) (p page : ℕ) (area : Area) → pages_of s p page ≡ Some area → IsWhole area → index_of area page < 2 ^ 64
+small_here s p page area is whole =
+    let has = has_here s p page area is in
+    let past : page < past_of area = let some = whole.some in grind (arith, nat_tests, has, some) in
+    let first = first_here s p page area is in
+    let small = whole.small in
+    omega (arith, past, first, small)

@@ -1,6 +1,7 @@
 -- A page that has been touched: its notes are lawful, and the parts stand after them and its use.
 use Rattle.std.proofs.Common.{◌≡◌, ℕ, ◌+◌, ◌*◌, ◌<◌, ◌≤◌, Bool, true, false, cond, not, ◌&&◌, zero, suc, filter, T, List, [], ◌∷◌, ◌++◌, Option, Some, None, refl, sym, ap, subst, ◌∙◌, arith, ◌==◌, is_some, option_map, append-nil}
-use Rattle.std.specs.Prelude.{IfSome}
+use Rattle.std.proofs.lemmas.Bool.{false≢true}
+use Rattle.std.specs.Prelude.{IfSome, IsSomeAnd}
 use Rattle.std.specs.FinMap.Entries.{is_sorted}
 use Rattle.av_base.specs.declared.slot.Slot.{Slot}
 use Rattle.std.proofs.lemmas.Bool.Decides.{nat_tests}
@@ -28,7 +29,9 @@ use Rattle.av_fault.specs.declared.fault.Touched.{Touched}
 use Rattle.av_fault.specs.declared.fault.Touched.TheVariants.{Ready as ReadyAt, Zeros, Stopped}
 use Rattle.av_vma.specs.Pages.{pages_in}
 use Rattle.av_reclaim.proofs.MemLaws.{frames_free}
-use Rattle.av_plain.specs.Areas.{Anons, Areas, chain_of, prepare_all}
+use Rattle.av_plain.specs.Areas.{Anons, Areas, Homes, chain_of, rmap_after_all}
+use Rattle.av_plain.specs.Covered.{IsRmapSound}
+use Rattle.av_plain.proofs.Covered.{sound-set}
 use Rattle.av_spaces.specs.Kin.{AnonsFit}
 use Rattle.av_reclaim.specs.Mem.{setting, count, view, Keeps, KeepsWithin, HasTables}
 use Rattle.av_fault.specs.Fault.{HasRmap, IsReady, end_of, is_permitted, IsTouched, IsTaken}
@@ -61,7 +64,7 @@ pub used_is : (write : Bool) (l : Ledger) (k : Key) (f : ℕ) (was : Bool) → l
 used_is true l k f was none is = ap (after_use_of true k l) is ∙ ap (λ o. if_some o (with_stale true) (set_entry k (InFrame f true) l)) (no_slot l f none)
 used_is false l k f was none is = ap (after_use_of false k l) is
 
-entry_put : (l : Ledger) (k : Key) (e : Entry) → entry (set_entry k e l) k ≡ Some e
+pub entry_put : (l : Ledger) (k : Key) (e : Entry) → entry (set_entry k e l) k ≡ Some e
 entry_put l k e = entry-set k e l k ∙ ap (λ b. cond b (Some e) (entry l k)) (same_key-itself k)
 
 -- a frame that is seen is mapped as often as before
@@ -140,7 +143,18 @@ anons_still v v' areas anons same h = record {
   chains = λ p page. subst (λ (a : Anons). IfSome (areas p page) (λ area. chain_of a area.anon ≡ chain_of anons area.anon)) (sym same) (h.chains p page);
 }
 
--- a page is made ready, before its area prepares its anon_vma
+-- where the areas, anon_vmas and homes are as they were they are those of the state
+pub rmap_still : (s : State) (old new : Mem) → Keeps old s → (view new).areas ≡ (view old).areas → (view new).anons ≡ (view old).anons → (view new).homes ≡ (view old).homes → HasRmap new (rmap_of s)
+rmap_still s old new keeps areas anons homes = record {
+  areas = λ q o. ap (λ a. pages_in (a q) o) areas ∙ keeps.stands.areas q o;
+  anons = anons_still (view old) (view new) s.areas s.anons anons keeps.stands.anons;
+  homes = λ f. ap (λ h. h f) homes ∙ keeps.stands.homes f;
+}
+
+pub rmap_now : (s : State) (k : Mem) → Keeps k s → HasRmap k (rmap_of s)
+rmap_now s k keeps = rmap_still s k k keeps refl refl refl
+
+-- a page is made ready, before its area prepares its anon_vma and its frame gets a home
 pub record IsServed (s : State) (mid : Mem) (write : Bool) (k : Key) (before now added : List Note) (touched : Touched) : Type 0 where
   pub notes : now ≡ before ++ added
   pub touches : Touches (setting (count mid)) s.world s.ledger write k added (end_of touched)
@@ -150,8 +164,9 @@ pub record IsServed (s : State) (mid : Mem) (write : Bool) (k : Key) (before now
 
 -- and after it has
 pub to_touched : (s : State) (mid new : Mem) (write : Bool) (k : Key) (before now added : List Note) (touched : Touched) → IsServed s mid write k before now added touched → count mid ≡ count new → free_of (view mid) ≡ free_of (view new)
-    → KeepsWithin new s.world (after_all s.ledger (page_events write k added (end_of touched))) → HasRmap new (prepare_all (page_events write k added (end_of touched)) (rmap_of s)) → IsTouched s new write k before now touched
-to_touched s mid new write k before now added touched h same free parts rmap = record {
+    → KeepsWithin new s.world (after_all s.ledger (page_events write k added (end_of touched))) → HasRmap new (rmap_after_all s.ledger (page_events write k added (end_of touched)) (rmap_of s))
+    → IsRmapSound (after_all s.ledger (page_events write k added (end_of touched))) (rmap_after_all s.ledger (page_events write k added (end_of touched)) (rmap_of s)) → IsTouched s new write k before now touched
+to_touched s mid new write k before now added touched h same free parts rmap reach = record {
   added = added;
   notes = h.notes;
   touches = subst (λ n. Touches (setting n) s.world s.ledger write k added (end_of touched)) same h.touches;
@@ -160,6 +175,7 @@ to_touched s mid new write k before now added touched h same free parts rmap = r
   free = subst (λ n. ChoosesAll (setting n) None s.ledger (page_events write k added (end_of touched)) s.free (free_of (view new))) same
       (subst (ChoosesAll (setting (count mid)) None s.ledger (page_events write k added (end_of touched)) s.free) free h.free);
   rmap = rmap;
+  reach = reach;
 }
 
 module _ (s : State) (old new : Mem) (p page : ℕ) (notes : List Note) (keeps : Keeps old s) where
@@ -175,7 +191,8 @@ module _ (s : State) (old new : Mem) (p page : ℕ) (notes : List Note) (keeps :
     ready = tt;
     parts = to_stand old s.world s.ledger (of_keeps old s keeps) keeps.tables keeps.anons;
     free = keeps.stands.free;
-    rmap = record { areas = keeps.stands.areas; anons = keeps.stands.anons };
+    rmap = rmap_now s old keeps;
+    reach = keeps.stands.reach;
   }
 
   -- its entry is zeros, at a read
@@ -189,10 +206,15 @@ module _ (s : State) (old new : Mem) (p page : ℕ) (notes : List Note) (keeps :
         ready = (ap (λ l. entry l (p, page)) still ∙ is, refl);
         parts = subst (KeepsWithin old s.world) (sym still) (to_stand old s.world s.ledger (of_keeps old s keeps) keeps.tables keeps.anons);
         free = (s.free, chooses-kept (setting (count old)) None s.ledger (Used false (p, page)) s.free (unslotted (count old) s.ledger (Used false (p, page)) s.free.slots refl refl) refl (none_freed (setting (count old)) s.ledger (after_use false (p, page) s.ledger) still), keeps.stands.free);
-        rmap = record { areas = keeps.stands.areas; anons = keeps.stands.anons };
+        rmap = rmap_now s old keeps;
+        reach = subst (λ l. IsRmapSound l (rmap_of s)) (sym still) keeps.stands.reach;
       }
 
   module _ (processes : has new.tables ≡ has old.tables) (same : count new ≡ count old) (order : AnonsFit new.spaces new.anons) where
+    -- where the areas, anon_vmas and homes are as they were they are those of the state
+    same_rmap : (v : View) → view new ≡ v → v.areas ≡ (view old).areas → v.anons ≡ (view old).anons → v.homes ≡ (view old).homes → HasRmap new (rmap_of s)
+    same_rmap v is areas anons homes = rmap_still s old new keeps (ap (λ (v : View). v.areas) is ∙ areas) (ap (λ (v : View). v.anons) is ∙ anons) (ap (λ (v : View). v.homes) is ∙ homes)
+
     -- no frame is free
     pub starved : (n : Need) (out : OutOf) → view new ≡ view old → is_permitted true (prot_of (ranges_in ((view old).areas p)) page) ≡ true → need true s.ledger (entry s.ledger (p, page)) ≡ n → wants_frame n ≡ true → (view old).free ≡ []
         → out ≡ out_of (setting (count old)) (pinned_by n) (sparing s.world s.ledger (pinned_by n)) s.ledger → IsTouched s new true (p, page) notes notes (Stopped (Oom out))
@@ -204,17 +226,17 @@ module _ (s : State) (old new : Mem) (p page : ℕ) (notes : List Note) (keeps :
       ready = tt;
       parts = stand_now old new s.world s.ledger (view old) is same (of_keeps old s keeps) (tables_still old new keeps.tables processes (ap (λ (v : View). v.areas) is)) order;
       free = ap free_of is ∙ keeps.stands.free;
-      rmap = record { areas = λ q o. ap (λ (v : View). pages_in (v.areas q) o) is ∙ keeps.stands.areas q o; anons = anons_still (view old) (view new) s.areas s.anons (ap (λ (v : View). v.anons) is) keeps.stands.anons };
+      rmap = same_rmap _ is refl refl refl;
+      reach = keeps.stands.reach;
     }
 
     -- its entry is a frame, which a write has for itself; it is marked as seen
     pub marked : (write bit was : Bool) (f : ℕ) → view new ≡ changed p page (as_pte (InFrame f true) bit) (view old).bytes (view old).maps (view old).free (view old) → is_permitted write (prot_of (ranges_in ((view old).areas p)) page) ≡ true
-        → entry s.ledger (p, page) ≡ Some (InFrame f was) → (bit ≡ true → map_count s.ledger f ≤ 1) → (write ≡ true → map_count s.ledger f ≤ 1) → IsTouched s new write (p, page) notes notes (ReadyAt f)
+        → entry s.ledger (p, page) ≡ Some (InFrame f was) → (bit ≡ true → map_count s.ledger f ≤ 1) → (write ≡ true → map_count s.ledger f ≤ 1) → IsServed s new write (p, page) notes notes [] (ReadyAt f)
     marked write bit was f is allowed named few own =
         let use_is = used_is write s.ledger (p, page) f was (of_keeps old s keeps).cache named in
         let permit : permits write (pages s.world p page) ≡ true = allowed_is (view old) s.world write p page keeps.stands.parts.areas ∙ allowed in
         record {
-          added = [];
           notes = sym (append-nil notes);
           touches = subst (λ c. Touches (setting c) s.world s.ledger write (p, page) [] None) (sym same)
               (permit, serves (setting (count old)) (sparing s.world) s.ledger write (p, page) [] Ready (needs write own) refl refl (of_keeps old s keeps).cache);
@@ -230,12 +252,20 @@ module _ (s : State) (old new : Mem) (p page : ℕ) (notes : List Note) (keeps :
             chooses-kept (setting (count old)) None s.ledger (Used write (p, page)) s.free (unslotted (count old) s.ledger (Used write (p, page)) s.free.slots refl refl) refl (seen_frees_none (setting (count old)) s.ledger (after_use write (p, page) s.ledger) (p, page) f was use_is (of_keeps old s keeps).in_order named),
             ap free_of is ∙ keeps.stands.free,
           );
-          rmap = record { areas = λ q o. ap (λ (v : View). pages_in (v.areas q) o) is ∙ keeps.stands.areas q o; anons = anons_still (view old) (view new) s.areas s.anons (ap (λ (v : View). v.anons) is) keeps.stands.anons };
         }
       where
         needs : (write : Bool) → (write ≡ true → map_count s.ledger f ≤ 1) → need write s.ledger (entry s.ledger (p, page)) ≡ Ready
         needs true own = need_ready s.ledger f was (entry s.ledger (p, page)) (of_keeps old s keeps).cache named (own refl)
         needs false own = ap (need false s.ledger) named
+
+    -- so a read of it is done
+    pub read_marked : (bit was : Bool) (f : ℕ) → view new ≡ changed p page (as_pte (InFrame f true) bit) (view old).bytes (view old).maps (view old).free (view old) → is_permitted false (prot_of (ranges_in ((view old).areas p)) page) ≡ true
+        → entry s.ledger (p, page) ≡ Some (InFrame f was) → (bit ≡ true → map_count s.ledger f ≤ 1) → IsTouched s new false (p, page) notes notes (ReadyAt f)
+    read_marked bit was f is allowed named few =
+        let served = marked false bit was f is allowed named few (λ e. absurd (false≢true e)) in
+        to_touched s new new false (p, page) notes notes [] (ReadyAt f) served refl refl served.parts (same_rmap _ is refl refl refl)
+        (sound-set s.ledger _ (rmap_of s) (p, page) (InFrame f true) (used_is false s.ledger (p, page) f was (of_keeps old s keeps).cache named)
+        (λ g names. subst (λ o. IsSomeAnd o (λ e. names_frame g e ≡ true)) (sym named) names) keeps.stands.reach)
 
     module _ (now : List Note) where
       -- it has no entry, and gets the page of zeros, at a read
@@ -265,7 +295,8 @@ module _ (s : State) (old new : Mem) (p page : ℕ) (notes : List Note) (keeps :
                 ap free_of is ∙ keeps.stands.free,
               ),
             );
-            rmap = record { areas = λ q o. ap (λ (v : View). pages_in (v.areas q) o) is ∙ keeps.stands.areas q o; anons = anons_still (view old) (view new) s.areas s.anons (ap (λ (v : View). v.anons) is) keeps.stands.anons };
+            rmap = same_rmap _ is refl refl refl;
+            reach = sound-set s.ledger _ (rmap_of s) (p, page) Zero after (λ f names. absurd (false≢true names)) keeps.stands.reach;
           }
 
       -- it gets a frame that was free

@@ -3,6 +3,7 @@ pub mod FaultEntries
 pub mod FaultServes
 pub mod FaultTouched
 pub mod FaultPrepared
+pub mod FaultHomes
 pub mod FaultViews
 pub mod FaultSafe
 pub mod FaultMade

@@ -14,9 +14,10 @@ use Rattle.av_plain.specs.Fault as faults
 use Rattle.av_plain.specs.Fault.{Touches, Denied, Starved}
 use Rattle.av_plain.specs.Access.{page_events}
 use Rattle.av_plain.specs.Choice.{ChoosesAll}
-use Rattle.av_plain.specs.Areas.{Rmap, prepare_all}
+use Rattle.av_plain.specs.Areas.{Rmap, rmap_after_all}
+use Rattle.av_plain.specs.Covered.{IsRmapSound}
 use Rattle.av_plain.specs.Transcript.{State, rmap_of}
-use Rattle.av_plain.specs.Stands.{View, AnonsStand, AreasAre, free_of}
+use Rattle.av_plain.specs.Stands.{View, AnonsStand, AreasAre, HomesAre, free_of}
 use Rattle.av_reclaim.specs.declared.mem.Mem.{Mem}
 use Rattle.av_reclaim.specs.Mem.{setting, count, plain, view, Keeps, KeepsWithin}
 use Rattle.av_fault.specs.declared.fault.Stop.{Stop}
@@ -43,10 +44,11 @@ IsReady write l k (Ready f) =
 IsReady write l k Zeros = (entry l k ≡ Some Zero) × (write ≡ false)
 IsReady write l k (Stopped stop) = Unit {0}
 
--- the areas and anon_vmas of the kernel are these
+-- the areas, anon_vmas and homes of the kernel are these
 pub record HasRmap (new : Mem) (r : Rmap) : Type 0 where
   pub areas : AreasAre (view new) r.areas
   pub anons : AnonsStand (view new) r.areas r.anons
+  pub homes : HomesAre (view new) r.homes
 
 -- these notes were added, and they make the page ready or say why not; the kernel's parts stand
 -- after them and the page's use, but that a write has stored no byte yet
@@ -62,7 +64,9 @@ pub record IsTouched (s : State) (new : Mem) (write : Bool) (k : Key) (before no
   pub free : ChoosesAll (setting (count new)) None s.ledger
       (page_events write k added (end_of touched)) s.free (free_of (view new))
   pub rmap : HasRmap new
-      (prepare_all (page_events write k added (end_of touched)) (rmap_of s))
+      (rmap_after_all s.ledger (page_events write k added (end_of touched)) (rmap_of s))
+  pub reach : IsRmapSound (after_all s.ledger (page_events write k added (end_of touched)))
+      (rmap_after_all s.ledger (page_events write k added (end_of touched)) (rmap_of s))
 
 -- whatever stood before: the page is made ready or not, and there are as many frames
 pub record MakesReady (old new : Mem) (write : Bool) (k : Key) (before now : List Note)

@@ -1,17 +1,21 @@
 //! Making a page ready for an access, and the bit that marks it as accessed.
 
-ghost use Rattle.std.specs.Prelude.{◌≡◌, ◌+◌, ◌-◌, ◌<◌, ◌≤◌, true, false, IsTrue, IfOk, MatchBool, Some, None};
+ghost use Rattle.std.specs.Prelude.{◌≡◌, ◌+◌, ◌-◌, ◌<◌, ◌≤◌, true, false, is_some, IfOk, IfSome, IsSome, MatchBool, Some, None};
 ghost use Rattle.av_base.specs.Limits.{top_page};
 ghost use Rattle.av_pagetable.specs.Entries.{entry_at, has};
 ghost use Rattle.av_pagetable.specs.declared.pte.Pte.TheVariants as Pte;
 ghost use Rattle.av_plain.specs.Stands.{prot_of};
 ghost use Rattle.av_reclaim.specs.Mem.{count, view, ranges_of, IsSteady};
+ghost use Rattle.av_spaces.specs.Spaces.{pages_of};
+ghost use Rattle.av_plain.specs.World.{allows};
+ghost use Rattle.av_vma.specs.Pages.{IsWhole, home_of};
 ghost use Rattle.av_fault.specs.Fault.{is_permitted, frame_named, one_more, one_less, AreTaken, MakesReady};
 
-use av_base::PAGE_SIZE;
+use av_base::{PAGE_SIZE, Prot};
 use av_pagetable::Pte;
 use av_reclaim::Mem;
 use av_trace::{Note, Notes, OutOf};
+use av_vma::{Area, home};
 use std::alloc::AllocError;
 
 /// Why an access stopped at a page.
@@ -47,26 +51,37 @@ pub fn touch(
     requires { IsSteady mem.old }
     ensures { MakesReady mem.old mem.new write (process, page) notes.old notes.new result }
 {
-    if !may_access(mem, process, page, write) {
+    let Some(area) = area_for(mem, process, page, write) else {
         return Ok(Touched::Stopped(Stop::Segv));
-    }
+    };
     if write {
-        touch_to_write(mem, process, page, notes)
+        touch_to_write(mem, process, page, home(&area, page), notes)
     } else {
         touch_to_read(mem, process, page, notes)
     }
 }
 
-/// Whether a page is mapped with a protection that allows the access.
-fn may_access(mem: &Mem, process: u16, page: u64, write: bool) -> bool
-    ensures permitted { result ≡ is_permitted write (prot_of (ranges_of mem.now.spaces.processes
-        process) page) }
-    ensures below { IsTrue result → page < top_page }
+/// The area that holds a page, where its protection allows the access.
+fn area_for(mem: &Mem, process: u16, page: u64, write: bool) -> Option<Area>
+    ensures permitted { is_some result ≡ is_permitted write (prot_of (ranges_of
+        mem.now.spaces.processes process) page) }
+    ensures here { IfSome result (λ area. pages_of mem.now.spaces.processes process page
+        ≡ Some area) }
+    ensures whole { IfSome result IsWhole }
+    ensures below { IsSome result → page < top_page }
 {
-    match mem.spaces.area(process, page) {
-        Some(area) if write => area.prot.writable(),
-        Some(area) => area.prot.readable(),
-        None => false,
+    let area = mem.spaces.area(process, page)?;
+    permits(area.prot, write).then_some(area)
+}
+
+/// Whether a protection allows the access.
+fn permits(prot: Prot, write: bool) -> bool
+    ensures { result ≡ allows write prot }
+{
+    if write {
+        prot.writable()
+    } else {
+        prot.readable()
     }
 }
 
@@ -99,30 +114,34 @@ fn touch_to_read(
 }
 
 /// Makes a page ready that may be written: a frame of zeros, a copy where others have its frame,
-/// else its own frame.
+/// else its own frame. What it gets, new, as a copy or as its own, has its home there from then on.
 fn touch_to_write(
     mem: &mut Mem,
     process: u16,
     page: u64,
+    home: Option<(u64, u64)>,
     notes: &mut Notes,
 ) -> Result<Touched, AllocError>
     requires steady { IsSteady mem.old }
     requires below { page < top_page }
     requires permitted { is_permitted true
         (prot_of (ranges_of mem.old.spaces.processes process) page) ≡ true }
+    requires home { home ≡ home_of page (pages_of mem.old.spaces.processes process page) }
     ensures { MakesReady mem.old mem.new true (process, page) notes.old notes.new result }
 {
     match mem.tables.get(process, page) {
         Pte::Empty | Pte::Zero => make_new(mem, process, page, notes),
         Pte::Here { frame, write, seen } => {
             if write && seen {
+                mem.frames.set_home(frame, home);
                 return Ok(Touched::Ready(frame));
             }
             if is_shared(mem, frame) {
-                return make_copy(mem, process, page, frame, notes);
+                return make_copy(mem, process, page, frame, home, notes);
             }
             mem.tables
                 .change(process, page, accessed_entry(frame, true));
+            mem.frames.set_home(frame, home);
             Ok(Touched::Ready(frame))
         }
         Pte::Away { .. } => unreachable!(),
@@ -201,6 +220,8 @@ fn make_new(
         return Ok(Touched::Stopped(Stop::Oom(out_of(mem, 0))));
     };
     mem.spaces.prepare(&mut mem.anons, process, page)?;
+    let home = home_at(mem, process, page);
+    mem.frames.set_home(frame, home);
     notes.push(Note::New {
         process,
         address: PAGE_SIZE * page,
@@ -209,12 +230,21 @@ fn make_new(
     Ok(Touched::Ready(frame))
 }
 
+/// The home that a frame has from a page.
+fn home_at(mem: &Mem, process: u16, page: u64) -> Option<(u64, u64)>
+    ensures { result ≡ home_of page (pages_of mem.now.spaces.processes process page) }
+{
+    let area = mem.spaces.area(process, page)?;
+    home(&area, page)
+}
+
 /// Gives a page whose frame others have too a copy of its own.
 fn make_copy(
     mem: &mut Mem,
     process: u16,
     page: u64,
     from: u32,
+    home: Option<(u64, u64)>,
     notes: &mut Notes,
 ) -> Result<Touched, AllocError>
     requires steady { IsSteady mem.old }
@@ -224,11 +254,13 @@ fn make_copy(
         (prot_of (ranges_of mem.old.spaces.processes process) page) ≡ true }
     requires named { frame_named (entry_at mem.old.tables process page) ≡ Some from }
     requires shared { 1 < (view mem.old).maps from }
+    requires home { home ≡ home_of page (pages_of mem.old.spaces.processes process page) }
     ensures { MakesReady mem.old mem.new true (process, page) notes.old notes.new result }
 {
     let Some(frame) = take_copy(mem, process, page, from)? else {
         return Ok(Touched::Stopped(Stop::Oom(out_of(mem, 1))));
     };
+    mem.frames.set_home(frame, home);
     notes.push(Note::Copied {
         process,
         address: PAGE_SIZE * page,

@@ -1,5 +1,5 @@
 -- What holds of areas, anon_vmas and homes at all times: it holds after each event and each change of areas.
-use Rattle.std.proofs.Common.{◌≡◌, ℕ, suc, ◌<◌, Bool, true, false, cond, not, ◌==◌, ◌&&◌, ◌||◌, ◌-◌, ◌⊎◌, inl, inr, [], ◌∷◌, Option, Some, None, is_some, option_map, refl, sym, ap, subst, ◌∙◌, arith}
+use Rattle.std.proofs.Common.{◌≡◌, ℕ, suc, ◌<◌, Bool, true, false, cond, not, ◌==◌, ◌&&◌, ◌||◌, ◌-◌, ◌⊎◌, inl, inr, [], ◌∷◌, Option, Some, None, is_some, option_map, refl, sym, ap, subst, ◌∙◌, arith, T, ◌≤◌}
 use Rattle.std.proofs.lemmas.Bool.{false≢true}
 use Rattle.std.proofs.lemmas.Bool.Decides.{nat_tests}
 use Rattle.std.specs.Prelude.{IsSome, IsSomeAnd, unwrap_or}
@@ -10,8 +10,11 @@ use Rattle.av_vma.specs.Join.{first_of, index_of, is_reusable, past_of}
 use Rattle.av_vma.specs.Pages.{AreLaid, Lengths, Pages, after_prepare, has_page, home_of, loan_beside, loan_of, makes_anon, with_anon, with_area}
 use Rattle.av_plain.specs.Areas.{AnonVma, Anons, AreLeft, Rmap, at_home, chain_length, chain_of, prepare_page, with_root}
 use Rattle.av_plain.specs.Covered.{IsReached, IsRmapSound}
-use Rattle.av_plain.specs.Ledger.{Key, Ledger, entry, names_frame}
-use Rattle.av_plain.proofs.Ledger.{same_key, same_key-is}
+use Rattle.av_plain.specs.Event.{set_entry}
+use Rattle.av_plain.specs.Ledger.{Entry, InFrame, Key, Ledger, Setting, entry, first_ledger, key_cmp, map_count, names_frame}
+use Rattle.av_plain.specs.Transcript.{at_first, rmap_of}
+use Rattle.std.specs.FinMap.Entries.{is_sorted}
+use Rattle.av_plain.proofs.Ledger.{entry-set, how_many-found, only_one, same_key, same_key-is, same_key-itself}
 
 -- the entry of a key names the frame
 abbrev pub Names : Ledger → Key → ℕ → Type 0
@@ -49,6 +52,18 @@ chain_rooted anons true own v made h = let w = chain_there anons own v h in
 -- each entry names a frame only if it did
 pub sound-fewer : (l l' : Ledger) (r : Rmap) → ((k : Key) (f : ℕ) → Names l' k f → Names l k f) → IsRmapSound l r → IsRmapSound l' r
 sound-fewer l l' r fewer h = record { made = h.made; own = h.own; covered = λ k f names. h.covered k f (fewer k f names) }
+
+-- at first there is nothing
+pub sound-first : (m : Setting) → IsRmapSound first_ledger (rmap_of (at_first m))
+sound-first m = record { made = λ v there. absurd (false≢true there); own = λ p page v is. absurd is; covered = λ k f names. absurd names }
+
+-- an entry that names no other frame than before takes the place of one
+pub sound-set : (l l' : Ledger) (r : Rmap) (k : Key) (e : Entry) → l' ≡ set_entry k e l → ((f : ℕ) → names_frame f e ≡ true → Names l k f) → IsRmapSound l r → IsRmapSound l' r
+sound-set l l' r k e is same h = subst (λ l. IsRmapSound l r) (sym is) (sound-fewer l (set_entry k e l) r (λ q f names. by q f (same_key q k) refl (subst (λ o. IsSomeAnd o (λ e. names_frame f e ≡ true)) (entry-set k e l q) names)) h)
+  where
+    by : (q : Key) (f : ℕ) (b : Bool) → same_key q k ≡ b → IsSomeAnd (cond b (Some e) (entry l q)) (λ e. names_frame f e ≡ true) → Names l q f
+    by q f true at names = subst (λ q. Names l q f) (sym (same_key-is q k at)) (same f names)
+    by q f false at names = names
 
 -- the own anon_vma that a home is at
 home_some : (page : ℕ) (x : Option Area) → IsSomeAnd x (λ area. IsSome area.anon) → (area : Area) × (v : ℕ) × (x ≡ Some area) × (area.anon ≡ Some v)
@@ -101,6 +116,50 @@ sound-given l l' r k f owns here others alone h = record { made = h.made; own = 
         other : (c : Bool) → (g == f) ≡ c → IsSomeAnd (cond c (home_of k.1 (r.areas k.0 k.1)) (r.homes g)) (IsReached r q)
         other true e = let same : g ≡ f = grind (arith, nat_tests, e) in absurd (alone q is (subst (Names l' q) same names))
         other false e = h.covered q g (others q g is names)
+
+-- so does one whose entry alone is put in
+pub sound-put : (l l' : Ledger) (r : Rmap) (k : Key) (f : ℕ) (seen : Bool) → ((q : Key) → entry l' q ≡ cond (same_key q k) (Some (InFrame f seen)) (entry l q)) → IsSomeAnd (r.areas k.0 k.1) (λ area. IsSome area.anon)
+    → ((q : Key) → same_key q k ≡ false → Names l q f → ⊥) → IsRmapSound l r → IsRmapSound l' (at_home f k r)
+sound-put l l' r k f seen entries owns alone h = sound-given l l' r k f owns here others (λ q other names. alone q other (others q f other names)) h
+  where
+    itself : (b : Bool) → same_key k k ≡ b → (g : ℕ) → IsSomeAnd (cond b (Some (InFrame f seen)) (entry l k)) (λ e. names_frame g e ≡ true) → g ≡ f
+    itself true is g names = grind (arith, nat_tests, names)
+    itself false is g names = absurd (false≢true (sym is ∙ same_key-itself k))
+
+    here : (g : ℕ) → Names l' k g → g ≡ f
+    here g names = itself (same_key k k) refl g (subst (λ o. IsSomeAnd o (λ e. names_frame g e ≡ true)) (entries k) names)
+
+    others : (q : Key) (g : ℕ) → same_key q k ≡ false → Names l' q g → Names l q g
+    others q g other names = subst (λ b. IsSomeAnd (cond b (Some (InFrame f seen)) (entry l q)) (λ e. names_frame g e ≡ true)) other (subst (λ o. IsSomeAnd o (λ e. names_frame g e ≡ true)) (entries q) names)
+
+-- an area whose page's entry names a frame has an own anon_vma
+pub covered-owns : (l : Ledger) (r : Rmap) (k : Key) (f : ℕ) → IsRmapSound l r → Names l k f → IsSomeAnd (r.areas k.0 k.1) (λ area. IsSome area.anon)
+covered-owns l r k f h names = by (r.homes f) (h.covered k f names)
+  where
+    at : (home : ℕ × ℕ) (x : Option Area) → IsSomeAnd x (λ area. (is_in home.0 (chain_of r.anons area.anon) ≡ true) × (index_of area k.1 ≡ home.1)) → IsSomeAnd x (λ area. IsSome area.anon)
+    at home None is = is
+    at home (Some area) is = let own = chain_there r.anons area.anon home.0 is.0 in subst IsSome (sym own.1) refl
+
+    by : (o : Option (ℕ × ℕ)) → IsSomeAnd o (IsReached r k) → IsSomeAnd (r.areas k.0 k.1) (λ area. IsSome area.anon)
+    by None is = absurd is
+    by (Some home) is = at home (r.areas k.0 k.1) is
+
+-- at most one entry names the frame, and it is this one
+pub alone-by : (l : Ledger) (k : Key) (f : ℕ) → T (is_sorted key_cmp l.entries) → map_count l f ≤ 1 → Names l k f → (q : Key) → same_key q k ≡ false → Names l q f → ⊥
+alone-by l k f sorted few here q other there = by (entry l k) (entry l q) refl refl here there
+  where
+    by : (x y : Option Entry) → entry l k ≡ x → entry l q ≡ y → IsSomeAnd x (λ e. names_frame f e ≡ true) → IsSomeAnd y (λ e. names_frame f e ≡ true) → ⊥
+    by None y e g h i = absurd h
+    by (Some a) None e g h i = absurd i
+    by (Some a) (Some b) e g h i = false≢true (sym other ∙ only_one l f k q a b sorted few e h g i)
+
+-- a frame that no entry is counted for is named by none
+pub unnamed-by : (l : Ledger) (f : ℕ) → map_count l f ≡ 0 → (q : Key) → Names l q f → ⊥
+unnamed-by l f none q names = by (entry l q) refl names
+  where
+    by : (x : Option Entry) → entry l q ≡ x → IsSomeAnd x (λ e. names_frame f e ≡ true) → ⊥
+    by None e h = absurd h
+    by (Some a) e h = let some = how_many-found (names_frame f) q l.entries a e h in omega (arith, none, some)
 
 -- ---- the areas change
 
@@ -193,6 +252,22 @@ prepared-stays len next page on at a laid is own = by (on page) refl
         bare : (c : Bool) → is_some b.anon ≡ c → cond c on (with_area (record b { anon = Some (unwrap_or (loan_beside len on b) next) }) on) at ≡ Some a
         bare true h = is
         bare false h = over (has_page b at) refl h
+
+-- the area of the page has one then
+pub prepared-own : (len : Lengths) (next page : ℕ) (on : Pages) → AreLaid on → IsSome (on page) → IsSomeAnd (after_prepare len next page on page) (λ a. IsSome a.anon)
+prepared-own len next page on laid there = by (on page) refl there
+  where
+    by : (o : Option Area) → on page ≡ o → IsSome o → IsSomeAnd (with_anon len next o on page) (λ a. IsSome a.anon)
+    by None e there = absurd (false≢true there)
+    by (Some b) e there = bare (is_some b.anon) refl
+      where
+        over : (has : Bool) → has ≡ true → IsSomeAnd (cond has (Some (record b { anon = Some (unwrap_or (loan_beside len on b) next) })) (on page)) (λ a. IsSome a.anon)
+        over true h = refl
+        over false h = absurd (false≢true h)
+
+        bare : (c : Bool) → is_some b.anon ≡ c → IsSomeAnd (cond c on (with_area (record b { anon = Some (unwrap_or (loan_beside len on b) next) }) on) page) (λ a. IsSome a.anon)
+        bare true h = subst (λ o. IsSomeAnd o (λ a. IsSome a.anon)) (sym e) h
+        bare false h = over (has_page b page) (laid.here page b e)
 
 -- the area at a page had this own anon_vma, or the area that is prepared had none and got it
 abbrev pub HadOrGot : Lengths → ℕ → ℕ → Pages → ℕ → ℕ → Type 0
@@ -295,6 +370,14 @@ module _ (l : Ledger) (p page : ℕ) (r : Rmap) (laid : AreLaid (r.areas p)) (h 
       let own = chain_there r.anons a.anon home.0 is.0 in
       subst (λ x. IsSomeAnd x (λ a. (is_in home.0 (chain_of now_anons a.anon) ≡ true) × (index_of a k.1 ≡ home.1))) (sym (stays k.0 k.1 a e (subst IsSome (sym own.1) refl)))
       (subst (λ c. is_in home.0 c ≡ true) (sym (same_chain a.anon home.0 is.0)) is.0, is.1)
+
+  -- the page's area has an own anon_vma then
+  pub owns-prepared : IsSome (r.areas p page) → IsSomeAnd (now_areas p page) (λ a. IsSome a.anon)
+  owns-prepared there = by (p == p) (grind (arith, nat_tests))
+    where
+      by : (b : Bool) → b ≡ true → IsSomeAnd ((cond b (after_prepare len r.anons.next page on) (r.areas p)) page) (λ a. IsSome a.anon)
+      by true e = prepared-own len r.anons.next page on laid there
+      by false e = absurd (false≢true e)
 
   -- an area is prepared
   pub sound-prepared : IsRmapSound l (prepare_page p page r)

@@ -33,6 +33,7 @@ use Rattle.av_plain.specs.Choice.{Free, ListsAll, ListsFree, no_slots}
 use Rattle.av_plain.specs.Report.{Range, prot_in, range_of}
 use Rattle.av_plain.specs.Stands.{View, Pte as Plain, SwapStands, entry_of, kin_of, prot_of, AreApart, IsKept, IsKeptAt, IsClean}
 use Rattle.av_plain.specs.Transcript.{State, at_first}
+use Rattle.av_plain.proofs.Covered.{sound-first}
 use Rattle.av_plain.proofs.Ledger.NoSwap.{itself, is_in-numbers}
 use Rattle.av_plain.proofs.FreeFrames.{first-lists_free}
 use Rattle.av_plain.proofs.Sound.{first-sound}
@@ -230,6 +231,8 @@ fresh-keeps frames tables spaces anons n is none empty unused nobodies unspanned
       kin = λ v. ap (λ (f : Family). option_map kin_of (option_map (anon_vma (chain_on spaces anons (Some v))) (f.info v))) nobodies;
       chains = λ p page. tt;
     };
+    homes = λ f. ap (λ (s : Seen). s.home f) is;
+    reach = sound-first m;
   };
   tables = λ p. none p ∙ sym (ap (λ (s : Spaces). is_some (ranges_of s p)) empty);
   anons = record {

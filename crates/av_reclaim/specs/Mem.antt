@@ -53,6 +53,7 @@ view_of_parts frames table spaces anons = record {
   frames = frames.count;
   bytes = frames.bytes;
   maps = frames.maps;
+  homes = frames.home;
   slot = frames.slot;
   dirty = frames.dirty;
   free = frames.free;
@@ -79,8 +80,8 @@ count k = (seen k.frames).count
 abbrev pub HasTables : Mem → Type 0
 HasTables k = (p : ℕ) → has k.tables p ≡ is_some (ranges_of k.spaces.processes p)
 
--- the memory system stands for the memories, the ledger, what is free, the areas and the anon_vmas,
--- among which there is chain order; there is no device
+-- the memory system stands for the memories, the ledger, what is free, the areas, the anon_vmas,
+-- among which there is chain order, and the homes; there is no device
 pub record Keeps (k : Mem) (s : State) : Type 0 where
   pub stands : Stands (setting (count k)) (view k) no_device s
   pub tables : HasTables k

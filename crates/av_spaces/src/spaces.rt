@@ -1,6 +1,6 @@
 //! The areas of every process that lives.
 
-ghost use Rattle.std.specs.Prelude.{◌≡◌, ℕ, ◌+◌, ◌-◌, ◌^◌, ◌<◌, ◌≤◌, [], Some, None, true, false, is_some, option_map, slice_set, length, IsSome, OnOk, OnErr, IfOk};
+ghost use Rattle.std.specs.Prelude.{◌≡◌, ℕ, ◌+◌, ◌-◌, ◌^◌, ◌<◌, ◌≤◌, [], Some, None, true, false, is_some, option_map, slice_set, length, IsSome, OnOk, OnErr, IfOk, IfSome};
 ghost use Rattle.av_vma.specs.Areas.{area_of};
 ghost use Rattle.av_base.specs.Limits.{low_page, top_page};
 ghost use Rattle.av_vma.specs.Gap.{IsGap};
@@ -12,7 +12,7 @@ ghost use Rattle.av_anon.specs.declared.anons.Anons.{Anons};
 ghost use Rattle.av_merge.specs.Kin.{lengths};
 ghost use Rattle.av_spaces.specs.Kin.{AnonsPrepare, AnonsStay, InOrder};
 ghost use Rattle.av_spaces.specs.Spaces.{areas_of, pages_of, is_taken, AreThese, AreRising, IsSpawned, IsChanged, IsEnded};
-ghost use Rattle.av_vma.specs.Pages.{after_map, after_prepare, after_unmap, pages_changed, to_prot};
+ghost use Rattle.av_vma.specs.Pages.{IsWhole, after_map, after_prepare, after_unmap, pages_changed, to_prot};
 ghost use Rattle.av_spaces.specs.Trees.{areas_by, tree_at, IsGrown};
 
 use av_anon::Anons;
@@ -77,6 +77,7 @@ impl Spaces {
     /// The area that holds a page, if it is mapped.
     pub fn area(&self, process: u16, page: u64) -> Option<Area>
         ensures area { result ≡ pages_of self.now.processes process page }
+        ensures whole { IfSome result IsWhole }
         ensures below { IsSome result → page < top_page }
     {
         let tree = tree_of(&self.trees, process)?;

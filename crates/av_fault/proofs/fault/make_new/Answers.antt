@@ -1,5 +1,12 @@
-use Rattle.av_fault.proofs.FaultMade.{new_starved, new_made}
-use Rattle.av_fault.proofs.FaultPrepared.{lives_still, new_ready}
+use Rattle.std.proofs.Common.{◌*◌, ◌∙◌, ap, sym, refl, subst}
+use Rattle.av_plain.specs.Areas.{prepare_page}
+use Rattle.av_plain.specs.Transcript.{rmap_of}
+use Rattle.av_trace.specs.declared.note.Note.TheVariants.{New}
+use Rattle.av_frames.specs.Store.{Seen}
+use Rattle.av_vma.specs.Pages.{home_of}
+use Rattle.av_fault.proofs.FaultMade.{new_is, new_made, new_starved, unnamed}
+use Rattle.av_fault.proofs.FaultHomes.{given_home, mapped_there, new_rmap}
+use Rattle.av_fault.proofs.FaultPrepared.{lives_still, prepared_owns, prepared_reach, prepared_rmap, prepared_within}
 use Rattle.av_fault.proofs.FaultSafe.{order_still}
 use Rattle.av_fault.proofs.fault.make_new.Goals as goal
 
@@ -14,11 +21,26 @@ returns-in_default c = record {
 
 pub returns : goal.returns
 returns c = record {
-  count = c.take_zeros.ensures.count;
+  count = ap (λ (x : Seen). x.count) c.set_home.ensures ∙ c.take_zeros.ensures.count;
   step = λ s keeps.
-      new_ready c.args.mem.now s keeps c.take_zeros.new.mem c.take_zeros.ensures.spaces c.take_zeros.ensures.anons c.prepare.new.self c.prepare.new.anons c.args.process c.args.page c.in_ok-prepare.ensures.areas c.in_ok-prepare.ensures.anons c.args.notes.now c.push.new.self c.in-Some.frame
-      (new_made s c.args.mem.now c.take_zeros.new.mem c.args.process c.args.page c.args.notes.now keeps c.take_zeros.ensures.processes c.take_zeros.ensures.count (order_still c.args.mem.now c.take_zeros.new.mem c.take_zeros.ensures.spaces c.take_zeros.ensures.anons keeps.anons) c.requires.permitted c.requires.bare
-      c.in-Some.frame c.push.new.self c.in_ok-push.ensures.ok (rw c.in-Some.is at c.in_ok-frame.ensures.taken)) (lives_still c.args.mem.now s c.take_zeros.new.mem c.args.process keeps c.take_zeros.ensures.spaces c.requires.there);
+      let old = c.args.mem.now in
+      let first = c.take_zeros.new.mem in
+      let p = c.args.process in
+      let page = c.args.page in
+      let f = c.in-Some.frame in
+      let is = rw c.in-Some.is at c.in_ok-frame.ensures.taken in
+      let fit = order_still old first c.take_zeros.ensures.spaces c.take_zeros.ensures.anons keeps.anons in
+      let mid = record first { spaces = c.prepare.new.self; anons = c.prepare.new.anons } in
+      let alive = lives_still old s first p keeps c.take_zeros.ensures.spaces c.requires.there in
+      let served = new_made s old first p page c.args.notes.now keeps c.take_zeros.ensures.processes c.take_zeros.ensures.count fit c.requires.permitted c.requires.bare f c.push.new.self c.in_ok-push.ensures.ok is in
+      let rmap = prepared_rmap old s keeps first c.take_zeros.ensures.spaces c.take_zeros.ensures.anons c.prepare.new.self c.prepare.new.anons p page c.in_ok-prepare.ensures.areas c.in_ok-prepare.ensures.anons (λ g. ap (λ v. v.homes g) is.view ∙ keeps.stands.homes g) in
+      given_home s old keeps mid c.set_home.new.self p page f c.home_at-home.result c.set_home.ensures c.args.notes.now c.push.new.self (New p (4096 * page) f) (prepare_page p page (rmap_of s)) (new_rmap p page f (rmap_of s)) (new_is p page f s.ledger)
+      (unnamed s old first p page c.args.notes.now keeps c.take_zeros.ensures.processes c.take_zeros.ensures.count fit c.requires.permitted f is.below is.first)
+      (prepared_owns old s keeps first c.take_zeros.ensures.spaces c.take_zeros.ensures.anons c.prepare.new.self c.prepare.new.anons p page c.in_ok-prepare.ensures.areas c.in_ok-prepare.ensures.anons (mapped_there s old keeps p page c.requires.permitted))
+      (prepared_reach old s keeps first c.take_zeros.ensures.spaces c.take_zeros.ensures.anons c.prepare.new.self c.prepare.new.anons p page c.in_ok-prepare.ensures.areas c.in_ok-prepare.ensures.anons)
+      served refl refl
+      (prepared_within old s keeps first c.take_zeros.ensures.spaces c.take_zeros.ensures.anons c.prepare.new.self c.prepare.new.anons p page c.in_ok-prepare.ensures.areas c.in_ok-prepare.ensures.anons s.world _ served.parts alive)
+      rmap (c.home_at-home.ensures ∙ ap (home_of page) (rmap.areas p page));
 }
 
 pub prepare-requires-clause-lives : goal.prepare-requires-clause-lives

@@ -1,5 +1,4 @@
 use Rattle.std.proofs.Common.{◌≡◌, ◌∙◌, sym, ap, refl, subst, false}
-use Rattle.std.proofs.lemmas.Bool.{false≢true}
 use Rattle.av_pagetable.specs.Entries.{entry_at, with_entry}
 use Rattle.av_pagetable.specs.declared.pte.Pte.TheVariants.{Here}
 use Rattle.av_plain.specs.Stands.{entry_of}
@@ -27,8 +26,8 @@ returns-then-seen c = record {
   count = refl;
   step = λ s keeps.
       let h = c.in-Here in
-      seen_there c.args.mem.now s c.args.process c.args.page h.frame false h.write c.args.notes.now keeps (c.requires.permitted)
-      (sym c.get.ensures ∙ h.is ∙ ap (Here h.frame h.write) c.if-seen.true) (λ e. absurd (false≢true e));
+      seen_there c.args.mem.now s c.args.process c.args.page h.frame h.write c.args.notes.now keeps (c.requires.permitted)
+      (sym c.get.ensures ∙ h.is ∙ ap (Here h.frame h.write) c.if-seen.true);
 }
 
 pub returns-else-seen : goal.returns-else-seen
@@ -38,6 +37,6 @@ returns-else-seen c = record {
       let h = c.in-Here in
       let old = c.args.mem.now in
       let is = sym c.get.ensures ∙ h.is in
-      seen_now old (record old { tables = c.change.new.self }) s c.args.process c.args.page h.frame false h.write h.write h.seen c.args.notes.now keeps (c.requires.permitted)
-      is (subst (λ e. entry_at c.change.new.self ≡ with_entry c.args.process c.args.page e (entry_at old.tables)) c.accessed_entry.ensures c.change.ensures.sets) c.change.ensures.processes refl refl refl (few_by_bit old s c.args.process c.args.page h.frame h.write h.seen keeps is) (λ e. absurd (false≢true e));
+      seen_now old (record old { tables = c.change.new.self }) s c.args.process c.args.page h.frame h.write h.write h.seen c.args.notes.now keeps
+      is (subst (λ e. entry_at c.change.new.self ≡ with_entry c.args.process c.args.page e (entry_at old.tables)) c.accessed_entry.ensures c.change.ensures.sets) c.change.ensures.processes refl refl refl (few_by_bit old s c.args.process c.args.page h.frame h.write h.seen keeps is) (c.requires.permitted);
 }

@@ -7,10 +7,11 @@ use Rattle.av_vmatree.specs.Spans.{IsFree, IsMet, is_page_taken}
 use Rattle.av_vma.specs.Pages.{Pages, after_map, after_unmap, no_chains}
 use Rattle.av_merge.specs.Pages.{pages_by, IsReached}
 use Rattle.av_merge.specs.Process.{AreAreasOf}
-use Rattle.av_spaces.specs.Spaces.{areas_of, pages_of, AreRising, AreThese, IsChanged}
+use Rattle.av_spaces.specs.Spaces.{AllRising, areas_of, pages_of, AreRising, AreThese, IsChanged}
+use Rattle.av_spaces.proofs.Rising.{laid}
 use Rattle.av_spaces.specs.Trees.{tree_at, areas_by, spaces_by}
 use Rattle.av_spaces.proofs.Areas.{held_by, rising_of}
-use Rattle.av_spaces.proofs.Trees.{processes_are, areas_are, not_dead, lives_is, tree_of, pages_there, none_dead, taken_as, place_there, trees_same, trees_spawned, count_spawned, spawns, trees_left, count_left, ends, place_still, trees_lent, count_lent, changes, if_each, on_ok}
+use Rattle.av_spaces.proofs.Trees.{processes_are, areas_are, not_dead, lives_is, tree_of, pages_there, none_dead, taken_as, place_there, all_rising, trees_same, trees_spawned, count_spawned, spawns, trees_left, count_left, ends, place_still, trees_lent, count_lent, changes, if_each, on_ok}
 use Rattle.av_spaces.proofs.spaces.Spaces.area.Goals as goal
 
 pub returns-in_err-tree-clause-area : goal.returns-in_err-tree-clause-area
@@ -34,3 +35,8 @@ returns-clause-area c =
 pub returns-clause-below : goal.returns-clause-below
 returns-clause-below c _ =
     (held_by (area_of c.self.inside.areas) c.args.process c.in_ok-tree.tree.now c.args.page c.in_ok-number.number (tree_of (area_of c.self.inside.areas) c.self.inside.trees.items c.args.process c.in_ok-tree.tree.now c.self.invariant.trees (ap (λ ts. tree_at ts c.args.process) (sym c.deref.ensures.value) ∙ sym c.in_ok-tree.ensures)) (sym c.in_ok-number.ensures.area)).below
+
+pub returns-clause-whole : goal.returns-clause-whole
+returns-clause-whole c =
+    (laid c.args.self.now.processes c.args.process (subst AllRising (processes_are c.self.view_is) (all_rising (area_of c.self.inside.areas) c.self.inside.trees.items c.self.invariant.trees))).whole
+    c.args.page c.get.result (sym (returns-clause-area c))

@@ -1,0 +1,178 @@
+-- A frame gets its home at the page that is written: what stands then, and what reaches the page.
+use Rattle.std.proofs.Common.{◌≡◌, ℕ, ◌*◌, ◌++◌, ◌<◌, ◌≤◌, ◌==◌, Bool, true, false, cond, not, List, [], ◌∷◌, Option, Some, None, is_some, option_map, refl, sym, ap, subst, ◌∙◌, arith}
+use Rattle.std.proofs.lemmas.Bool.{false≢true}
+use Rattle.std.proofs.lemmas.Bool.Decides.{nat_tests}
+use Rattle.std.specs.Prelude.{IsSome, IsSomeAnd}
+use Rattle.av_base.specs.Page.{page_of}
+use Rattle.av_base.specs.Words.{with_at}
+use Rattle.av_base.specs.declared.slot.Slot.{Slot}
+use Rattle.av_frames.specs.Store.{Seen, Store, seen, with_home}
+use Rattle.av_vma.specs.declared.area.Area.{Area}
+use Rattle.av_vma.specs.Pages.{AreLaid, home_of, pages_in}
+use Rattle.av_trace.specs.declared.note.Note.{Note}
+use Rattle.av_trace.specs.declared.note.Note.TheVariants.{Copied, New}
+use Rattle.av_plain.specs.World.{Page, World, pages}
+use Rattle.av_plain.specs.Access.{page_events}
+use Rattle.av_plain.specs.Areas.{Homes, Rmap, at_home, prepare_page, rmap_after_note, rmap_after_use}
+use Rattle.av_plain.specs.Covered.{IsRmapSound}
+use Rattle.av_plain.specs.Device.{Device, no_device}
+use Rattle.av_plain.specs.Event.{after_all, after_note, after_use, set_entry}
+use Rattle.av_plain.specs.Ledger.{Entry, InFrame, InSlot, Key, Ledger, Setting, Zero, entry, frame_at, map_count, names_frame}
+use Rattle.av_plain.specs.Stands.{AnonsStand, AreasAre, HomesAre, IsClean, IsKept, IsKeptAt, PartsStand, View, free_of, prot_of}
+use Rattle.av_plain.specs.Transcript.{State, rmap_of}
+use Rattle.av_plain.proofs.Covered.{Names, alone-by, covered-owns, sound-prepared, sound-put, unnamed-by}
+use Rattle.av_plain.proofs.Ledger.{entry-set, same_key}
+use Rattle.av_plain.proofs.Ledger.NoSwap.{key_at-page}
+use Rattle.av_reclaim.specs.declared.mem.Mem.{Mem}
+use Rattle.av_reclaim.specs.Mem.{Keeps, KeepsWithin, count, ranges_of, setting, view, view_of_parts}
+use Rattle.av_spaces.specs.Spaces.{pages_of}
+use Rattle.av_reclaim.proofs.MemLaws.{prot_on, prots_are}
+use Rattle.av_fault.specs.Fault.{HasRmap, IsTouched, is_permitted}
+use Rattle.av_fault.specs.declared.fault.Touched.TheVariants.{Ready as ReadyAt}
+use Rattle.av_fault.proofs.FaultEntries.{entry_given, given_to}
+use Rattle.av_fault.proofs.FaultParts.{of_keeps}
+use Rattle.av_reclaim.proofs.MemLaws.{frames_free}
+use Rattle.av_fault.proofs.FaultTouched.{IsServed, entry_put, to_touched, used_is}
+
+itself : (n : ℕ) → (n == n) ≡ true
+itself n = grind (arith, nat_tests)
+
+-- ---- the view with other homes
+
+kept_homed : (v : View) (homes : Homes) (d : Device) (l : Ledger) (e : Option Entry) (x : Option Page) → IsKept v d l e x → IsKept (record v { homes = homes }) d l e x
+kept_homed v homes d l None x h = h
+kept_homed v homes d l (Some Zero) x h = h
+kept_homed v homes d l (Some (InFrame f seen)) x h = h
+kept_homed v homes d l (Some (InSlot t)) x h = at (frame_at l t) h
+  where
+    at : (o : Option ℕ) → IsKeptAt v d t x o → IsKeptAt (record v { homes = homes }) d t x o
+    at None h = h
+    at (Some f) h = h
+
+clean_homed : (v : View) (homes : Homes) (d : Device) (t : Slot) (o : Option ℕ) → IsClean v d t o → IsClean (record v { homes = homes }) d t o
+clean_homed v homes d t None h = h
+clean_homed v homes d t (Some f) h = h
+
+-- no part looks at homes
+parts_homed : (m : Setting) (v : View) (homes : Homes) (d : Device) (w : World) (l : Ledger) → PartsStand m v d w l → PartsStand m (record v { homes = homes }) d w l
+parts_homed m v homes d w l h = let ledger = h.ledger in record {
+  ledger = record {
+    frames = record { frames = ledger.frames.frames; maps = ledger.frames.maps; slots = ledger.frames.slots; dirty = ledger.frames.dirty; free = ledger.frames.free };
+    lists = record { active = ledger.lists.active };
+    tables = record { entries = ledger.tables.entries; write_bits = ledger.tables.write_bits };
+    swap = record { finds = ledger.swap.finds; counts = ledger.swap.counts; flight = ledger.swap.flight; on = ledger.swap.on };
+  };
+  areas = record { alive = h.areas.alive; number = h.areas.number; apart = h.areas.apart; covers = h.areas.covers };
+  bytes = record {
+    kept = λ p page. kept_homed v homes d l (entry l (p, page)) (pages w p page) (h.bytes.kept p page);
+    clean = λ t stale flying. clean_homed v homes d t (frame_at l t) (h.bytes.clean t stale flying);
+  };
+  headers = h.headers;
+}
+
+-- ---- a frame of the kernel gets a home
+
+module _ (mid : Mem) (frames : Store) (p page f : ℕ) (home : Option (ℕ × ℕ)) (is : seen frames ≡ with_home f home (seen mid.frames)) where
+  abbrev homed : Mem
+  homed = record mid { frames = frames }
+
+  pub within_homed : (w : World) (l : Ledger) → KeepsWithin mid w l → KeepsWithin homed w l
+  within_homed w l h = record {
+    in_order = h.in_order;
+    at_pages = h.at_pages;
+    parts = subst (λ (x : Seen). PartsStand (setting x.count) (view_of_parts x (view mid).table mid.spaces mid.anons) no_device w l) (sym is)
+        (parts_homed (setting (count mid)) (view mid) (with_at f home (view mid).homes) no_device w l h.parts);
+    tables = h.tables;
+    anons = h.anons;
+  }
+
+  pub rmap_homed : (r : Rmap) → HasRmap mid r → home ≡ home_of page (r.areas p page) → HasRmap homed (at_home f (p, page) r)
+  rmap_homed r h at = record {
+    areas = h.areas;
+    anons = record { next = h.anons.next; kin = h.anons.kin; chains = h.anons.chains };
+    homes = λ g. ap (λ (x : Seen). x.home g) is ∙ by g (g == f);
+  }
+    where
+      by : (g : ℕ) (b : Bool) → cond b home ((view mid).homes g) ≡ cond b (home_of page (r.areas p page)) (r.homes g)
+      by g true = at
+      by g false = h.homes g
+
+-- a frame that is at home at a page, and then again
+homed_twice : (k : Mem) (p page f : ℕ) (r : Rmap) → HasRmap k (at_home f (p, page) r) → HasRmap k (at_home f (p, page) (at_home f (p, page) r))
+homed_twice k p page f r h = record { areas = h.areas; anons = h.anons; homes = λ g. h.homes g ∙ by g (g == f) }
+  where
+    by : (g : ℕ) (b : Bool) → cond b (home_of page (r.areas p page)) (r.homes g) ≡ cond b (home_of page (r.areas p page)) (cond b (home_of page (r.areas p page)) (r.homes g))
+    by g true = refl
+    by g false = refl
+
+-- ---- the page is ready
+
+module _ (s : State) (old : Mem) (keeps : Keeps old s) (mid : Mem) (frames : Store) (p page f : ℕ) (home : Option (ℕ × ℕ)) (is : seen frames ≡ with_home f home (seen mid.frames)) (notes now : List Note) where
+  same_count : count mid ≡ count (record mid { frames = frames })
+  same_count = sym (ap (λ (x : Seen). x.count) is)
+
+  same_free : free_of (view mid) ≡ free_of (view (record mid { frames = frames }))
+  same_free = sym (ap (λ (x : Seen). frames_free x.free) is)
+
+  -- a page that is written where it is
+  pub written_home : IsServed s mid true (p, page) notes now [] (ReadyAt f) → HasRmap mid (rmap_of s) → (was : Bool) → entry s.ledger (p, page) ≡ Some (InFrame f was) → map_count s.ledger f ≤ 1 → home ≡ home_of page (s.areas p page)
+      → IsTouched s (record mid { frames = frames }) true (p, page) notes now (ReadyAt f)
+  written_home served rmap was named few at =
+      let use_is = used_is true s.ledger (p, page) f was (of_keeps old s keeps).cache named in
+      let names : Names s.ledger (p, page) f = subst (λ o. IsSomeAnd o (λ e. names_frame f e ≡ true)) (sym named) (itself f) in
+      to_touched s mid (record mid { frames = frames }) true (p, page) notes now [] (ReadyAt f) served same_count same_free (within_homed mid frames p page f home is s.world _ served.parts)
+      (subst (λ o. HasRmap (record mid { frames = frames }) (rmap_after_use true (p, page) o (rmap_of s))) (sym named) (rmap_homed mid frames p page f home is (rmap_of s) rmap at))
+      (subst (λ o. IsRmapSound (after_use true (p, page) s.ledger) (rmap_after_use true (p, page) o (rmap_of s))) (sym named)
+      (subst (λ l. IsRmapSound l (at_home f (p, page) (rmap_of s))) (sym use_is)
+      (sound-put s.ledger (set_entry (p, page) (InFrame f true) s.ledger) (rmap_of s) (p, page) f true (entry-set (p, page) (InFrame f true) s.ledger) (covered-owns s.ledger (rmap_of s) (p, page) f keeps.stands.reach names)
+      (alone-by s.ledger (p, page) f (of_keeps old s keeps).in_order few names) keeps.stands.reach)))
+
+  -- a page that gets a frame which no entry names
+  module _ (note : Note) (r : Rmap) (note_rmap : rmap_after_note note (rmap_of s) ≡ at_home f (p, page) r) (note_is : after_note note s.ledger ≡ given_to p page f s.ledger) (unnamed : map_count s.ledger f ≡ 0)
+      (owns : IsSomeAnd (r.areas p page) (λ a. IsSome a.anon)) (sound : IsRmapSound s.ledger r) where
+    named : entry (after_note note s.ledger) (p, page) ≡ Some (InFrame f false)
+    named = ap (λ l. entry l (p, page)) note_is ∙ entry_given p page f s.ledger
+
+    use_is : after_use true (p, page) (after_note note s.ledger) ≡ set_entry (p, page) (InFrame f true) (given_to p page f s.ledger)
+    use_is = ap (after_use true (p, page)) note_is ∙ used_is true (given_to p page f s.ledger) (p, page) f false (of_keeps old s keeps).cache (entry_given p page f s.ledger)
+
+    once : IsRmapSound (given_to p page f s.ledger) (at_home f (p, page) r)
+    once = sound-put s.ledger (given_to p page f s.ledger) r (p, page) f false (entry-set (p, page) (InFrame f false) s.ledger) owns (λ q other names. unnamed-by s.ledger f unnamed q names) sound
+
+    others_not : (q : Key) → same_key q (p, page) ≡ false → Names (given_to p page f s.ledger) q f → ⊥
+    others_not q other names = unnamed-by s.ledger f unnamed q (subst (λ b. IsSomeAnd (cond b (Some (InFrame f false)) (entry s.ledger q)) (λ e. names_frame f e ≡ true)) other
+        (subst (λ o. IsSomeAnd o (λ e. names_frame f e ≡ true)) (entry-set (p, page) (InFrame f false) s.ledger q) names))
+
+    twice : IsRmapSound (set_entry (p, page) (InFrame f true) (given_to p page f s.ledger)) (at_home f (p, page) (at_home f (p, page) r))
+    twice = sound-put (given_to p page f s.ledger) (set_entry (p, page) (InFrame f true) (given_to p page f s.ledger)) (at_home f (p, page) r) (p, page) f true (entry-set (p, page) (InFrame f true) (given_to p page f s.ledger)) owns others_not once
+
+    pub given_home : {first : Mem} → IsServed s first true (p, page) notes now (note ∷ []) (ReadyAt f) → count first ≡ count mid → free_of (view first) ≡ free_of (view mid)
+        → KeepsWithin mid s.world (after_all s.ledger (page_events true (p, page) (note ∷ []) None)) → HasRmap mid r → home ≡ home_of page (r.areas p page)
+        → IsTouched s (record mid { frames = frames }) true (p, page) notes now (ReadyAt f)
+    given_home {first} served counted freed within rmap at =
+        to_touched s first (record mid { frames = frames }) true (p, page) notes now (note ∷ []) (ReadyAt f) served (counted ∙ same_count) (freed ∙ same_free) (within_homed mid frames p page f home is s.world _ within)
+        (subst (λ x. HasRmap (record mid { frames = frames }) (rmap_after_use true (p, page) (entry (after_note note s.ledger) (p, page)) x)) (sym note_rmap)
+        (subst (λ o. HasRmap (record mid { frames = frames }) (rmap_after_use true (p, page) o (at_home f (p, page) r))) (sym named)
+        (homed_twice (record mid { frames = frames }) p page f r (rmap_homed mid frames p page f home is r rmap at))))
+        (subst (λ x. IsRmapSound (after_use true (p, page) (after_note note s.ledger)) (rmap_after_use true (p, page) (entry (after_note note s.ledger) (p, page)) x)) (sym note_rmap)
+        (subst (λ o. IsRmapSound (after_use true (p, page) (after_note note s.ledger)) (rmap_after_use true (p, page) o (at_home f (p, page) r))) (sym named)
+        (subst (λ l. IsRmapSound l (at_home f (p, page) (at_home f (p, page) r))) (sym use_is) twice)))
+
+-- what the notes do
+pub new_rmap : (p page f : ℕ) (r : Rmap) → rmap_after_note (New p (4096 * page) f) r ≡ at_home f (p, page) (prepare_page p page r)
+new_rmap p page f r = ap (λ (k : Key). at_home f k (prepare_page p k.1 r)) (key_at-page p page)
+
+pub copied_rmap : (p page f : ℕ) (r : Rmap) → rmap_after_note (Copied p (4096 * page) f) r ≡ at_home f (p, page) r
+copied_rmap p page f r = ap (λ (k : Key). at_home f k r) (key_at-page p page)
+
+-- a page whose entry names a frame has an area with an own anon_vma
+pub owns_named : (s : State) (old : Mem) → Keeps old s → (p page from : ℕ) (was : Bool) → entry s.ledger (p, page) ≡ Some (InFrame from was) → IsSomeAnd (s.areas p page) (λ a. IsSome a.anon)
+owns_named s old keeps p page from was named = covered-owns s.ledger (rmap_of s) (p, page) from keeps.stands.reach (subst (λ o. IsSomeAnd o (λ e. names_frame from e ≡ true)) (sym named) (itself from))
+
+-- one that may be written is mapped
+pub mapped_there : (s : State) (old : Mem) → Keeps old s → (p page : ℕ) → is_permitted true (prot_of (ranges_of old.spaces.processes p) page) ≡ true → IsSome (s.areas p page)
+mapped_there s old keeps p page allowed = subst IsSome (keeps.stands.areas p page) (by (pages_of old.spaces.processes p page) (sym (ap (is_permitted true) (prots_are old.spaces.processes p page)) ∙ allowed))
+  where
+    by : (o : Option Area) → is_permitted true (option_map prot_on o) ≡ true → IsSome o
+    by None h = absurd (false≢true h)
+    by (Some a) h = refl
