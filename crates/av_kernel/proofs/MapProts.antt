@@ -1,17 +1,18 @@
 -- The protections of a process's pages after its areas were mapped, cut or protected.
-use Rattle.std.proofs.Common.{◌≡◌, ℕ, ◌+◌, ◌-◌, ◌*◌, ◌/◌, ◌<◌, ◌≤◌, Bool, true, false, cond, Option, Some, None, is_some, option_map, refl, sym, ap, subst, ◌∙◌, arith, ◌==◌}
+use Rattle.std.proofs.Common.{◌≡◌, ℕ, ◌+◌, ◌-◌, ◌<◌, ◌≤◌, Bool, true, false, cond, Option, Some, None, is_some, option_map, refl, sym, ap, ◌∙◌, arith, ◌==◌}
 use Rattle.std.proofs.lemmas.Bool.Decides.{nat_tests}
 use Rattle.std.proofs.lemmas.Bool.{false≢true}
-use Rattle.std.proofs.lemmas.Option.{none-some, same_Some}
 use Rattle.std.specs.Prelude.{map}
 use Rattle.av_base.specs.declared.prot.Prot.{Prot}
 use Rattle.av_base.specs.Limits.{low_page, top_page}
 use Rattle.av_base.specs.Words.{within}
 use Rattle.av_vma.specs.declared.area.Area.{Area}
 use Rattle.av_vmatree.specs.Spans.{IsFree}
-use Rattle.av_vma.specs.Pages.{Lengths, AreLaid, Pages, has_page, cut_at, without_range, with_area, joined_around, fresh_area, IsWhole, after_map, pages_in, after_unmap, pages_changed, to_prot}
+use Rattle.av_vma.specs.Gap.{IsRoom}
+use Rattle.av_vma.specs.Pages.{Lengths, AreLaid, Pages, cut_at, without_range, with_area, joined_around, fresh_area, after_map, pages_in, after_unmap, pages_changed, to_prot}
 use Rattle.av_merge.specs.Mapping.{Mapping, mapping, mapping_in, mapping_with, IsRemapped}
 use Rattle.av_merge.specs.Pages.{IsReached}
+use Rattle.av_vma.proofs.Laid.{fresh_has, has_area, laid_fresh}
 use Rattle.av_merge.proofs.Mappings.{around_maps, cut_out_maps, placed_maps}
 use Rattle.av_spaces.specs.Spaces.{Spaces, pages_of, is_taken, AreThese, IsChanged}
 use Rattle.av_spaces.proofs.Rising.{laid}
@@ -25,18 +26,6 @@ use Rattle.av_kernel.proofs.StepLaws.{is_number, other_number}
 -- the protections of pages
 abbrev pub prots_on : Pages → ℕ → Option Prot
 prots_on on page = option_map prot_on (on page)
-
--- whether a page has an area
-abbrev has_area : Pages → ℕ → Bool
-has_area on page = is_some (on page)
-
--- a page that is not taken has no area
-free_none : (on : Pages) (page : ℕ) → has_area on page ≡ false → on page ≡ None
-free_none on page h = each (on page) h
-  where
-    each : (o : Option Area) → is_some o ≡ false → o ≡ None
-    each None h = refl
-    each (Some area) h = cc
 
 abbrev prot_mapped : Mapping → Prot
 prot_mapped m = m.prot
@@ -93,44 +82,6 @@ prots_protected on from to past prot new reached is page =
 
 -- ---- map
 
--- an area on pages that were free
-laid_placed : (area : Area) (on : Pages) → AreLaid on → IsWhole area → ((page : ℕ) → has_page area page ≡ true → on page ≡ None) → AreLaid (with_area area on)
-laid_placed area on laid whole free = record {
-  whole = λ page a. by_whole page a (has_page area page);
-  here = λ page a. by_here page a (has_page area page) refl;
-  all = λ page other a. by_all page other a (has_page area page) refl;
-}
-  where
-    by_whole : (page : ℕ) (a : Area) (b : Bool) → cond b (Some area) (on page) ≡ Some a → IsWhole a
-    by_whole page a true is = subst IsWhole (same_Some area a is) whole
-    by_whole page a false is = laid.whole page a is
-
-    by_here : (page : ℕ) (a : Area) (b : Bool) → has_page area page ≡ b → cond b (Some area) (on page) ≡ Some a → has_page a page ≡ true
-    by_here page a true e is = subst (λ (a : Area). has_page a page ≡ true) (same_Some area a is) e
-    by_here page a false e is = laid.here page a is
-
-    of_other : (other : ℕ) (a : Area) (b : Bool) → has_page area other ≡ b → on other ≡ Some a → cond b (Some area) (on other) ≡ Some a
-    of_other other a true e is = absurd (none-some a (sym (free other e) ∙ is))
-    of_other other a false e is = is
-
-    by_all : (page other : ℕ) (a : Area) (b : Bool) → has_page area page ≡ b → cond b (Some area) (on page) ≡ Some a → has_page a other ≡ true → with_area area on other ≡ Some a
-    by_all page other a true e is has =
-        let same = same_Some area a is in
-        ap (λ b. cond b (Some area) (on other)) (subst (λ (a : Area). has_page a other ≡ true) (sym same) has) ∙ ap Some same
-    by_all page other a false e is has = of_other other a (has_page area other) refl (laid.all page other a is has)
-
-fresh_whole : (p from n : ℕ) (prot : Prot) → 1 ≤ n → low_page ≤ from → from + n ≤ top_page → IsWhole (fresh_area p from (from + n) prot)
-fresh_whole p from n prot some low high = record { start = omega arith; end = omega arith; some = omega arith; low = omega arith; high = omega arith; small = omega arith }
-
-fresh_has : (p from n : ℕ) (prot : Prot) (page : ℕ) → has_page (fresh_area p from (from + n) prot) page ≡ within from n page
-fresh_has p from n prot page = λ i. within (first i) (pages i) page
-  where
-    first : (4096 * from) / 4096 ≡ from
-    first = omega arith
-
-    pages : (4096 * (from + n)) / 4096 - (4096 * from) / 4096 ≡ n
-    pages = omega arith
-
 prots_placed : (len : Lengths) (p : ℕ) (on : Pages) (from n : ℕ) (prot : Prot) (new : Pages) → AreLaid on
     → 1 ≤ n → low_page ≤ from → from + n ≤ top_page → IsFree (has_area on) from (from + n)
     → ((page : ℕ) → new page ≡ joined_around len from (from + n) (with_area (fresh_area p from (from + n) prot) on) page)
@@ -139,9 +90,9 @@ prots_placed len p on from n prot new laid some low high free is page =
     prots_mapped new page
     ∙ ap (option_map prot_mapped) (
     ap (option_map (mapping_in page)) (is page)
-    ∙ around_maps len from (from + n) (with_area fresh on) (laid_placed fresh on laid (fresh_whole p from n prot some low high) none) page
+    ∙ around_maps len from (from + n) (with_area fresh on) (laid_fresh p from (from + n) prot on (omega arith) room laid) page
     ∙ placed_maps fresh on page
-    ∙ ap (λ b. cond b (Some (mapping_in page fresh)) (mapping on page)) (fresh_has p from n prot page)
+    ∙ ap (λ b. cond b (Some (mapping_in page fresh)) (mapping on page)) (fresh_has p from (from + n) prot page ∙ ap (λ k. within from k page) (many from n))
     )
     ∙ elim (within from n page) as (λ b. option_map prot_mapped (cond b (Some (mapping_in page fresh)) (mapping on page)) ≡ cond b (Some prot) (prots_on on page)) [
       | true ↦ refl
@@ -151,16 +102,8 @@ prots_placed len p on from n prot new laid some low high free is page =
     fresh : Area
     fresh = fresh_area p from (from + n) prot
 
-    lower : (from n page : ℕ) → within from n page ≡ true → from ≤ page
-    lower from n page h = grind (arith, nat_tests)
-
-    upper : (from n page : ℕ) → within from n page ≡ true → page < from + n
-    upper from n page h = grind (arith, nat_tests)
-
-    none : (page : ℕ) → has_page (fresh_area p from (from + n) prot) page ≡ true → on page ≡ None
-    none page has =
-        let e = sym (fresh_has p from n prot page) ∙ has in
-        free_none on page (free page (lower from n page e) (upper from n page e))
+    room : IsRoom (has_area on) ((from + n) - from) from
+    room = record { lowest = low; highest = omega arith; free = λ page least most. free page least (omega arith) }
 
 -- ---- what the spaces promise, as protections
 

@@ -1,5 +1,5 @@
 -- In a run the areas of each process cover exactly its pages, with their protection.
-use Rattle.std.proofs.Common.{◌≡◌, ℕ, zero, suc, ◌+◌, ◌-◌, ◌*◌, ◌/◌, ◌<◌, ◌≤◌, Bool, true, false, cond, not, ◌&&◌, ◌||◌, if◌then◌else◌, nat_lt, nat_le, ◌==◌, List, [], ◌∷◌, ◌++◌, length, Option, Some, None, is_some, option_map, refl, sym, ap, subst, ◌∙◌, arith}
+use Rattle.std.proofs.Common.{◌≡◌, ℕ, zero, suc, ◌+◌, ◌-◌, ◌<◌, ◌≤◌, Bool, true, false, cond, not, ◌&&◌, ◌||◌, if◌then◌else◌, nat_lt, nat_le, ◌==◌, List, [], ◌∷◌, ◌++◌, length, Option, Some, None, is_some, option_map, refl, sym, ap, subst, ◌∙◌, arith}
 use Rattle.std.proofs.lemmas.Bool.Decides.{nat_tests}
 use Rattle.std.proofs.lemmas.Option.{none-some}
 use Rattle.std.specs.FinMap.Entries.{find}
@@ -20,9 +20,9 @@ use Rattle.av_trace.specs.declared.reply.Errno.{Errno}
 use Rattle.av_trace.specs.declared.reply.Errno.TheVariants.{Eexist, Einval, Enomem, Eperm, Esrch}
 use Rattle.av_trace.specs.declared.reply.Reply.{Reply}
 use Rattle.av_trace.specs.declared.row.Row.{Row}
-use Rattle.av_vma.specs.Gap.{IsGap}
+use Rattle.av_vma.specs.Gap.{IsGap, IsRoom}
 use Rattle.av_vma.specs.Join.{same_prot}
-use Rattle.av_vma.specs.Pages.{AreLaid, IsWhole, Lengths, Pages, after_map, after_prepare, after_unmap, alters_at, cut_at, fresh_area, has_page, joined_at, loan_beside, page_changed, pages_changed, part_changed, to_prot, with_anon, with_area, with_effect, with_effect_on, without_range}
+use Rattle.av_vma.specs.Pages.{AreLaid, Lengths, Pages, after_map, after_prepare, after_unmap, alters_at, cut_at, fresh_area, has_page, joined_at, loan_beside, page_changed, pages_changed, part_changed, to_prot, with_anon, with_area, with_effect, with_effect_on, without_range}
 use Rattle.av_vma.specs.declared.area.Area.{Area}
 use Rattle.av_plain.specs.Access.{after_write, first_bytes}
 use Rattle.av_plain.specs.Areas.{Areas, Rmap, areas_to_hole, chain_length, next_areas, none_on, prepare_all, prepare_page, with_room}
@@ -43,7 +43,10 @@ use Rattle.av_plain.proofs.Sound.Zap.{pages-ended}
 use Rattle.av_plain.proofs.World.{pages-set}
 use Rattle.av_plain.proofs.World.Ranges.{meets-none}
 use Rattle.av_laws.proofs.ReadBack.InRuns.{first-test}
-use Rattle.av_laws.proofs.Laid.{cut_splits, laid_changed, laid_cut, laid_emptied, laid_joined, laid_owned, laid_placed, prot_is, prots, prots_cut, prots_joined, prots_owned, still_splits}
+use Rattle.av_vma.proofs.Cut.{laid_part, laid_unmapped}
+use Rattle.av_vma.proofs.Join.{laid_joined, laid_mapped, laid_page_changed, laid_pages_changed, prot_is}
+use Rattle.av_vma.proofs.Laid.{fresh_has, has_area, laid_fresh, laid_prepared}
+use Rattle.av_laws.proofs.Prots.{area_prot, prots, prots_cut, prots_joined, prots_with_own}
 
 -- ---- the protections of a process's pages
 
@@ -59,7 +62,7 @@ record Covers (q : Process) (on : Pages) : Type 0 where
 no-area : (q : Process) (on : Pages) (page : ℕ) → Covers q on → is_mapped q page ≡ false → on page ≡ None
 no-area q on page c none = by (on page) (q page) (c.same page) none
   where
-    by : (o : Option Area) (p : Option Page) → option_map (λ (a : Area). a.prot) o ≡ prot_of p → is_some p ≡ false → o ≡ None
+    by : (o : Option Area) (p : Option Page) → option_map area_prot o ≡ prot_of p → is_some p ≡ false → o ≡ None
     by None p e h = refl
     by (Some a) (Some p) e h = cc
     by (Some a) None e h = cc
@@ -84,7 +87,7 @@ covers_set w on p new there c h = record {
     laid q true = h.laid
     laid q false = c.laid q
 
-    at : (q page : ℕ) (b : Bool) → option_map (λ (a : Area). a.prot) ((cond b there (on q)) page) ≡ prot_of (cond b (new page) (pages w q page))
+    at : (q page : ℕ) (b : Bool) → option_map area_prot ((cond b there (on q)) page) ≡ prot_of (cond b (new page) (pages w q page))
     at q page true = h.same page
     at q page false = c.prots q page
 
@@ -106,7 +109,7 @@ covers_ended w on p c = record { laid = λ q. laid q (q == p); prots = λ q page
     laid q true = covers_none.laid
     laid q false = c.laid q
 
-    at : (q page : ℕ) (b : Bool) → option_map (λ (a : Area). a.prot) ((cond b none_on (on q)) page) ≡ prot_of (cond b None (pages w q page))
+    at : (q page : ℕ) (b : Bool) → option_map area_prot ((cond b none_on (on q)) page) ≡ prot_of (cond b None (pages w q page))
     at q page true = refl
     at q page false = c.prots q page
 
@@ -162,19 +165,16 @@ covers_stored w on p a (b ∷ bytes) c = record {
 -- ---- prepare
 
 covers_with_anon : (len : Lengths) (next page : ℕ) (q : Process) (on : Pages) → Covers q on → Covers q (after_prepare len next page on)
-covers_with_anon len next page q on c = by (on page) refl
+covers_with_anon len next page q on c = record { laid = laid_prepared len next page on c.laid; same = λ other. by other (on page) refl ∙ c.same other }
   where
-    one : (area : Area) (b : Bool) → on page ≡ Some area
-        → Covers q (if b then on else with_area (record area { anon = Some (unwrap_or (loan_beside len on area) next) }) on)
-    one area true is = c
-    one area false is = record {
-      laid = laid_owned page area (Some (unwrap_or (loan_beside len on area) next)) on c.laid is;
-      same = λ other. prots_owned page area (Some (unwrap_or (loan_beside len on area) next)) on c.laid is other ∙ c.same other;
-    }
+    one : (other : ℕ) (area : Area) (b : Bool) → on page ≡ Some area
+        → prots (if b then on else with_area (record area { anon = Some (unwrap_or (loan_beside len on area) next) }) on) other ≡ prots on other
+    one other area true is = refl
+    one other area false is = prots_with_own page area (Some (unwrap_or (loan_beside len on area) next)) on c.laid is other
 
-    by : (o : Option Area) → on page ≡ o → Covers q (with_anon len next o on)
-    by None is = c
-    by (Some area) is = one area (is_some area.anon) is
+    by : (other : ℕ) (o : Option Area) → on page ≡ o → prots (with_anon len next o on) other ≡ prots on other
+    by other None is = refl
+    by other (Some area) is = one other area (is_some area.anon) is
 
 covers_page : (w : World) (p page : ℕ) (r : Rmap) → CoverPages w r.areas → CoverPages w (prepare_page p page r).areas
 covers_page w p page r c = record { laid = λ q. laid q (q == p) refl; prots = λ q other. prots_at q other (q == p) refl }
@@ -191,7 +191,7 @@ covers_page w p page r c = record { laid = λ q. laid q (q == p) refl; prots = �
     laid q false is = c.laid q
 
     prots_at : (q other : ℕ) (b : Bool) → (q == p) ≡ b
-        → option_map (λ (a : Area). a.prot) (cond b (after_prepare (chain_length r.anons) r.anons.next page (r.areas p)) (r.areas q) other)
+        → option_map area_prot (cond b (after_prepare (chain_length r.anons) r.anons.next page (r.areas p)) (r.areas q) other)
         ≡ prot_of (pages w q other)
     prots_at q other true is = there.same other ∙ ap (λ n. prot_of (pages w n other)) (number q is)
     prots_at q other false is = c.prots q other
@@ -208,14 +208,13 @@ same_width from n = omega arith
 emptied-prots : (from past : ℕ) (on : Pages) (page : ℕ) → prots (without_range from past on) page ≡ cond (within from (past - from) page) None (prots on page)
 emptied-prots from past on page = by (within from (past - from) page)
   where
-    by : (b : Bool) → option_map (λ (a : Area). a.prot) (cond b None (on page)) ≡ cond b None (prots on page)
+    by : (b : Bool) → option_map area_prot (cond b None (on page)) ≡ cond b None (prots on page)
     by true = refl
     by false = refl
 
 covers_unmapped : (q : Process) (on : Pages) (from n : ℕ) → Covers q on → Covers (with_pages q from n no_pages) (after_unmap from (from + n) on)
 covers_unmapped q on from n c = record {
-  laid = laid_emptied from (from + n) (cut_at (from + n) (cut_at from on)) (laid_cut (from + n) (cut_at from on) (laid_cut from on c.laid))
-      (still_splits from (from + n) (cut_at from on) (laid_cut from on c.laid) (cut_splits from on)) (cut_splits (from + n) (cut_at from on));
+  laid = laid_unmapped from (from + n) on c.laid;
   same = λ page. emptied-prots from (from + n) (cut_at (from + n) (cut_at from on)) page
       ∙ ap (cond (within from ((from + n) - from) page) None) (prots_cut (from + n) (cut_at from on) page ∙ prots_cut from on page)
       ∙ ap (λ k. cond (within from k page) None (prots on page)) (same_width from n) ∙ by page (within from n page);
@@ -227,38 +226,17 @@ covers_unmapped q on from n c = record {
 
 -- ---- map
 
--- n pages from one on are free, and a process may have them
+-- there is room for n pages from one on, and the others are as they were
 record Room (q : Process) (room : Pages) (from n : ℕ) : Type 0 where
   laid : AreLaid room
-  free : (page : ℕ) → within from n page ≡ true → room page ≡ None
-  others : (page : ℕ) → within from n page ≡ false → prots room page ≡ prot_of (q page)
-  low : low_page ≤ from
-  high : from + n ≤ top_page
   some : 1 ≤ n
-
-fresh_whole : (p from n : ℕ) (prot : Prot) → 1 ≤ n → low_page ≤ from → from + n ≤ top_page → IsWhole (fresh_area p from (from + n) prot)
-fresh_whole p from n prot some low high = record {
-  start = omega arith;
-  end = omega arith;
-  some = omega arith;
-  low = omega arith;
-  high = omega arith;
-  small = omega arith;
-}
-
-fresh_has : (p from n : ℕ) (prot : Prot) (page : ℕ) → has_page (fresh_area p from (from + n) prot) page ≡ within from n page
-fresh_has p from n prot page = λ i. within (first i) (pages i) page
-  where
-    first : (4096 * from) / 4096 ≡ from
-    first = omega arith
-
-    pages : (4096 * (from + n)) / 4096 - (4096 * from) / 4096 ≡ n
-    pages = omega arith
+  free : IsRoom (has_area room) n from
+  others : (page : ℕ) → within from n page ≡ false → prots room page ≡ prot_of (q page)
 
 placed-prots : (f : Area) (room : Pages) (page : ℕ) → prots (with_area f room) page ≡ cond (has_page f page) (Some f.prot) (prots room page)
 placed-prots f room page = by (has_page f page)
   where
-    by : (b : Bool) → option_map (λ (a : Area). a.prot) (cond b (Some f) (room page)) ≡ cond b (Some f.prot) (prots room page)
+    by : (b : Bool) → option_map area_prot (cond b (Some f) (room page)) ≡ cond b (Some f.prot) (prots room page)
     by true = refl
     by false = refl
 
@@ -266,12 +244,18 @@ covers_mapped : (long : Lengths) (p : ℕ) (q : Process) (room : Pages) (from n 
     → Covers (with_pages q from n (λ _. Some (zeros prot))) (after_map long p from (from + n) prot room)
 covers_mapped long p q room from n prot r =
     let f = fresh_area p from (from + n) prot in
-    let with_new = laid_placed f room r.laid (fresh_whole p from n prot r.some r.low r.high) (λ page h. r.free page (sym (fresh_has p from n prot page) ∙ h)) in
+    let positive = r.some in
+    let some : from < from + n = omega arith in
+    let to_past = same_width from n in
+    let free : IsRoom (has_area room) ((from + n) - from) from = subst (λ k. IsRoom (has_area room) k from) (sym to_past) r.free in
+    let with_new = laid_fresh p from (from + n) prot room some free r.laid in
     let first = laid_joined long from (with_area f room) with_new in
     record {
-      laid = laid_joined long (from + n) (joined_at long from (with_area f room)) first;
+      laid = laid_mapped long p from (from + n) prot room r.laid some free;
       same = λ page. prots_joined long (from + n) (joined_at long from (with_area f room)) first page ∙ prots_joined long from (with_area f room) with_new page
-          ∙ placed-prots f room page ∙ ap (λ b. cond b (Some prot) (prots room page)) (fresh_has p from n prot page) ∙ by page (within from n page) refl;
+          ∙ placed-prots f room page
+          ∙ ap (λ b. cond b (Some prot) (prots room page)) (fresh_has p from (from + n) prot page ∙ ap (λ k. within from k page) to_past)
+          ∙ by page (within from n page) refl;
     }
   where
     by : (page : ℕ) (b : Bool) → within from n page ≡ b → cond b (Some prot) (prots room page) ≡ prot_of (if b then Some (zeros prot) else q page)
@@ -280,22 +264,17 @@ covers_mapped long p q room from n prot r =
 
 -- ---- where a mapping goes
 
-room_free : (q : Process) (on : Pages) (from n : ℕ) → Covers q on → 1 ≤ n → low_page ≤ from → from + n ≤ top_page
-    → ((page : ℕ) → from ≤ page → page < from + n → is_mapped q page ≡ false) → Room q on from n
-room_free q on from n c some low high free = record {
+room_free : (q : Process) (on : Pages) (from n : ℕ) → Covers q on → 1 ≤ n → IsRoom (is_mapped q) n from → Room q on from n
+room_free q on from n c some room = record {
   laid = c.laid;
-  free = λ page is. no-area q on page c (free page (lower page is) (upper page is));
-  others = λ page is. c.same page;
-  low = low;
-  high = high;
   some = some;
+  free = record {
+    lowest = room.lowest;
+    highest = room.highest;
+    free = λ page low high. ap is_some (no-area q on page c (room.free page low high));
+  };
+  others = λ page is. c.same page;
 }
-  where
-    lower : (page : ℕ) → within from n page ≡ true → from ≤ page
-    lower page is = grind (arith, nat_tests, is)
-
-    upper : (page : ℕ) → within from n page ≡ true → page < from + n
-    upper page is = grind (arith, nat_tests, is)
 
 record Bounds (from n : ℕ) : Type 0 where
   low : low_page ≤ from
@@ -322,16 +301,21 @@ room_fixed q on a n c some bounds =
     let gone = covers_unmapped q on (page_of a) n c in
     record {
       laid = gone.laid;
-      free = λ page is. ap (λ b. cond b None (cut_at (page_of a + n) (cut_at (page_of a) on) page))
-          (ap (λ k. within (page_of a) k page) (same_width (page_of a) n) ∙ is);
-      others = λ page is. gone.same page ∙ ap (λ b. prot_of (if b then None else q page)) is;
-      low = bounds.low;
-      high = bounds.high;
       some = some;
+      free = record {
+        lowest = bounds.low;
+        highest = bounds.high;
+        free = λ page low high. ap (λ b. is_some (cond b None (cut_at (page_of a + n) (cut_at (page_of a) on) page)))
+            (ap (λ k. within (page_of a) k page) (same_width (page_of a) n) ∙ inside (page_of a) page low high);
+      };
+      others = λ page is. gone.same page ∙ ap (λ b. prot_of (if b then None else q page)) is;
     }
+  where
+    inside : (from page : ℕ) → from ≤ page → page < from + n → within from n page ≡ true
+    inside from page low high = grind (arith, nat_tests)
 
 room_gap : (q : Process) (on : Pages) (n page : ℕ) → Covers q on → 1 ≤ n → IsGap (is_mapped q) n (Some page) → Room q on page n
-room_gap q on n page c some gap = room_free q on page n c some gap.0.lowest gap.0.highest gap.0.free
+room_gap q on n page c some gap = room_free q on page n c some gap.0
 
 inner : {x y : ℕ} → Some x ≡ Some y → x ≡ y
 inner e = cc
@@ -349,8 +333,11 @@ room_hint q on n page a c some goes = by (is_room q n (page_of a)) refl goes
     by true is e =
         let room = parts (nat_le low_page (page_of a)) (nat_le (page_of a + n) top_page) (meets q (page_of a) n) is in
         let low = room.0 in let high = room.1 in
-        subst (λ x. Room q on x n) (sym (inner e)) (room_free q on (page_of a) n c some (grind (arith, nat_tests, low)) (grind (arith, nat_tests, high))
-        (λ x a' b. meets-none q (page_of a) n x room.2 a' b))
+        subst (λ x. Room q on x n) (sym (inner e)) (room_free q on (page_of a) n c some (record {
+          lowest = grind (arith, nat_tests, low);
+          highest = grind (arith, nat_tests, high);
+          free = λ x low high. meets-none q (page_of a) n x room.2 low high;
+        }))
     by false is gap = room_gap q on n page c some gap
 
 room_new : (q : Process) (on : Pages) (n a : ℕ) → Covers q on → 1 ≤ n → refusal (fixed_tests n a ++ (meets q (page_of a) n, Eexist) ∷ []) ≡ None
@@ -358,35 +345,25 @@ room_new : (q : Process) (on : Pages) (n a : ℕ) → Covers q on → 1 ≤ n �
 room_new q on n a c some h =
     let b = fixed_bounds a n ((meets q (page_of a) n, Eexist) ∷ []) h in
     let none = (first-test (meets q (page_of a) n) Eexist None b.1).0 in
-    room_free q on (page_of a) n c some b.0.low b.0.high (λ x low high. meets-none q (page_of a) n x none low high)
+    room_free q on (page_of a) n c some (record {
+      lowest = b.0.low;
+      highest = b.0.high;
+      free = λ x low high. meets-none q (page_of a) n x none low high;
+    })
 
 -- ---- protect
 
 module _ (long : Lengths) (prot : Prot) where
-  -- one page is cut out and gets the protection
-  one_changed : (x : ℕ) (on : Pages) → AreLaid on → AreLaid (with_effect_on x (x + 1) (to_prot prot) (cut_at (x + 1) (cut_at x on)))
-  one_changed x on laid =
-      let below = laid_cut x on laid in
-      laid_changed x (x + 1) (cut_at (x + 1) (cut_at x on)) (laid_cut (x + 1) (cut_at x on) below) (still_splits x (x + 1) (cut_at x on) below (cut_splits x on))
-      (cut_splits (x + 1) (cut_at x on)) (to_prot prot)
-
-  laid_page : (x : ℕ) (on : Pages) → AreLaid on → AreLaid (page_changed long (to_prot prot) x on)
-  laid_page x on laid = by (alters_at (to_prot prot) (on x))
-    where
-      by : (b : Bool) → AreLaid (if b then part_changed long x (x + 1) (to_prot prot) on else on)
-      by true = laid_joined long (x + 1) _ (laid_joined long x _ (one_changed x on laid))
-      by false = laid
-
   changed-prots : (from past : ℕ) (on : Pages) (page : ℕ)
       → prots (with_effect_on from past (to_prot prot) on) page ≡ cond (within from (past - from) page) (option_map (λ _. prot) (prots on page)) (prots on page)
   changed-prots from past on page = by (within from (past - from) page)
     where
-      each : (o : Option Area) → option_map (λ (a : Area). a.prot) (option_map (with_effect (to_prot prot)) o)
-          ≡ option_map (λ _. prot) (option_map (λ (a : Area). a.prot) o)
+      each : (o : Option Area) → option_map area_prot (option_map (with_effect (to_prot prot)) o)
+          ≡ option_map (λ _. prot) (option_map area_prot o)
       each None = refl
       each (Some a) = refl
 
-      by : (b : Bool) → option_map (λ (a : Area). a.prot) (cond b (option_map (with_effect (to_prot prot)) (on page)) (on page))
+      by : (b : Bool) → option_map area_prot (cond b (option_map (with_effect (to_prot prot)) (on page)) (on page))
           ≡ cond b (option_map (λ _. prot) (prots on page)) (prots on page)
       by true = each (on page)
       by false = refl
@@ -402,7 +379,7 @@ module _ (long : Lengths) (prot : Prot) where
           width x = omega arith
 
       so_already : (o : Option Area) → alters_at (to_prot prot) o ≡ false
-          → option_map (λ (a : Area). a.prot) o ≡ option_map (λ _. prot) (option_map (λ (a : Area). a.prot) o)
+          → option_map area_prot o ≡ option_map (λ _. prot) (option_map area_prot o)
       so_already None h = refl
       so_already (Some a) h = ap Some (sym (prot_is prot a.prot (bit (same_prot prot a.prot) (a.flags == a.flags) h)))
         where
@@ -418,18 +395,17 @@ module _ (long : Lengths) (prot : Prot) where
 
       by : (b : Bool) → alters_at (to_prot prot) (on x) ≡ b → prots (if b then part_changed long x (x + 1) (to_prot prot) on else on) page
           ≡ cond (page == x) (option_map (λ _. prot) (prots on page)) (prots on page)
-      by true is = prots_joined long (x + 1) _ (laid_joined long x _ (one_changed x on laid)) page
-          ∙ prots_joined long x _ (one_changed x on laid) page
+      by true is = prots_joined long (x + 1) _ (laid_joined long x _ one) page
+          ∙ prots_joined long x _ one page
           ∙ changed-prots x (x + 1) (cut_at (x + 1) (cut_at x on)) page
           ∙ (λ i. cond (alone x page i) (option_map (λ _. prot) (kept i)) (kept i))
         where
+          one : AreLaid (with_effect_on x (x + 1) (to_prot prot) (cut_at (x + 1) (cut_at x on)))
+          one = laid_part x (x + 1) on laid (to_prot prot)
+
           kept : prots (cut_at (x + 1) (cut_at x on)) page ≡ prots on page
           kept = prots_cut (x + 1) (cut_at x on) page ∙ prots_cut x on page
       by false is = still (page == x) refl is
-
-  laid_pages : (from n : ℕ) (on : Pages) → AreLaid on → AreLaid (pages_changed long (to_prot prot) from n on)
-  laid_pages from zero on laid = laid
-  laid_pages from (suc n) on laid = laid_pages (from + 1) n (page_changed long (to_prot prot) from on) (laid_page from on laid)
 
   prots_pages : (from n : ℕ) (on : Pages) → AreLaid on → (page : ℕ)
       → prots (pages_changed long (to_prot prot) from n on) page ≡ cond (within from n page) (option_map (λ _. prot) (prots on page)) (prots on page)
@@ -439,7 +415,7 @@ module _ (long : Lengths) (prot : Prot) where
       out true e = cc
       out false e = refl
   prots_pages from (suc n) on laid page =
-      prots_pages (from + 1) n (page_changed long (to_prot prot) from on) (laid_page from on laid) page
+      prots_pages (from + 1) n (page_changed long (to_prot prot) from on) (laid_page_changed long (to_prot prot) from on laid) page
       ∙ (λ i. cond (within (from + 1) n page) (option_map (λ _. prot) (prots_page from on laid page i)) (prots_page from on laid page i))
       ∙ by (page == from) (within (from + 1) n page) (within from (suc n) page) (prots on page) (grind (arith, nat_tests))
     where
@@ -455,7 +431,10 @@ module _ (long : Lengths) (prot : Prot) where
       by false false false x i = refl
 
   covers_changed : (q : Process) (on : Pages) (from n : ℕ) → Covers q on → Covers (with_prot_on q from n prot) (pages_changed long (to_prot prot) from n on)
-  covers_changed q on from n c = record { laid = laid_pages from n on c.laid; same = λ page. prots_pages from n on c.laid page ∙ by page (within from n page) }
+  covers_changed q on from n c = record {
+    laid = laid_pages_changed long (to_prot prot) from n on c.laid;
+    same = λ page. prots_pages from n on c.laid page ∙ by page (within from n page);
+  }
     where
       each : (o : Option Page) → option_map (λ _. prot) (prot_of o) ≡ prot_of (option_map (with_prot prot) o)
       each None = refl

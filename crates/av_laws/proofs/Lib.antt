@@ -25,5 +25,5 @@ pub mod ListsExamples
 pub mod AnonExamples
 pub mod Clusters
 pub mod FreeSlots
-pub mod Laid
+pub mod Prots
 pub mod Covered

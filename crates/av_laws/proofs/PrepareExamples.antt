@@ -15,7 +15,7 @@ use Rattle.av_plain.specs.Ledger.{Entry, Key, Zero, first_ledger}
 use Rattle.av_plain.specs.Step.{IsLegal}
 use Rattle.av_plain.specs.Transcript.{Exchange, rmap_of}
 use Rattle.av_plain.proofs.AreasLeft.{AreBelow, left-all, left-none, left-one, prepare_notes}
-use Rattle.av_laws.specs.Areas.{LeavesTwo, NeverHasThere, NeverMakes, NeverNumbers, Prepares, alike, alone, and_at, area, area_of, bare_four, behind_child, behind_root, between_roots, child, first_gone, first_read, first_write, kin, made_alike, of_second, one_root, owned, owned_four, root, second_writes, state_of, two_roots, two_with_areas, unlike}
+use Rattle.av_laws.specs.Areas.{LeavesTwo, NeverHasThere, NeverMakes, NeverNumbers, Prepares, alike, alone, and_at, area, area_of, bare_four, behind_child, behind_root, between_roots, child, first_gone, first_read, first_write, kin, made_alike, of_second, one_root, with_own, root_four, root, second_writes, state_of, two_roots, two_with_areas, unlike}
 use Rattle.av_laws.specs.Examples.{machine, read_write}
 use Rattle.av_laws.proofs.AnonExamples.{first_page, length_of, now-is, parent_of, root_of}
 use Rattle.av_laws.proofs.FirstExamples.{all_linked, linked-all, one-step, state_after}
@@ -107,19 +107,19 @@ first_write-left = stays one_root (on_then first_write bare_four no_anons)
     one-below refl
 
 pub first_write-prepares : Prepares first_write bare_four no_anons
-    owned_four one_root
-first_write-prepares = writes bare_four owned_four no_anons
+    root_four one_root
+first_write-prepares = writes bare_four root_four no_anons
     one_root refl first_write-left
     (refl, (refl, (refl, (refl, (refl, (refl, (refl, (refl, tt))))))))
 
-second_write-left : AreLeft (anons_then first_write owned_four one_root) (on_then first_write owned_four one_root)
+second_write-left : AreLeft (anons_then first_write root_four one_root) (on_then first_write root_four one_root)
     one_root
-second_write-left = stays one_root (on_then first_write owned_four one_root)
+second_write-left = stays one_root (on_then first_write root_four one_root)
     one-below refl
 
-pub second_write-prepares : Prepares first_write owned_four one_root
-    owned_four one_root
-second_write-prepares = writes owned_four owned_four one_root
+pub second_write-prepares : Prepares first_write root_four one_root
+    root_four one_root
+second_write-prepares = writes root_four root_four one_root
     one_root refl second_write-left
     (refl, (refl, (refl, (refl, (refl, (refl, (refl, (refl, tt))))))))
 
@@ -129,8 +129,8 @@ taken_behind-left = stays one_root (on_then first_write (behind_root unlike) one
     one-below refl
 
 pub taken_behind-prepares : Prepares first_write (behind_root unlike) one_root
-    (behind_root (owned 0 unlike)) one_root
-taken_behind-prepares = writes (behind_root unlike) (behind_root (owned 0 unlike)) one_root
+    (behind_root (with_own 0 unlike)) one_root
+taken_behind-prepares = writes (behind_root unlike) (behind_root (with_own 0 unlike)) one_root
     one_root refl taken_behind-left
     (refl, (refl, (refl, (refl, (refl, (refl, (refl, (refl, tt))))))))
 
@@ -140,8 +140,8 @@ after_first-left = stays two_roots (on_then first_write (between_roots unlike) t
     two-below refl
 
 pub after_first-prepares : Prepares first_write (between_roots unlike) two_roots
-    (between_roots (owned 1 unlike)) two_roots
-after_first-prepares = writes (between_roots unlike) (between_roots (owned 1 unlike)) two_roots
+    (between_roots (with_own 1 unlike)) two_roots
+after_first-prepares = writes (between_roots unlike) (between_roots (with_own 1 unlike)) two_roots
     two_roots refl after_first-left
     (refl, (refl, (refl, (refl, (refl, (refl, (refl, (refl, tt))))))))
 
@@ -151,8 +151,8 @@ not_from_child-left = stays (and_at 2 (alone 2) 3 kin) (on_then first_write (beh
     third-below refl
 
 pub not_from_child-prepares : Prepares first_write (behind_child unlike) kin
-    (behind_child (owned 2 unlike)) (and_at 2 (alone 2) 3 kin)
-not_from_child-prepares = writes (behind_child unlike) (behind_child (owned 2 unlike)) kin
+    (behind_child (with_own 2 unlike)) (and_at 2 (alone 2) 3 kin)
+not_from_child-prepares = writes (behind_child unlike) (behind_child (with_own 2 unlike)) kin
     (and_at 2 (alone 2) 3 kin) refl not_from_child-left
     (refl, (refl, (refl, (refl, (refl, (refl, (refl, (refl, tt))))))))
 
@@ -163,8 +163,8 @@ other_offset-left = stays two_roots (on_then first_write (behind_root (record un
     two-below refl
 
 pub other_offset-prepares : Prepares first_write (behind_root (record unlike { pgoff = 0x20 })) one_root
-    (behind_root (owned 1 (record unlike { pgoff = 0x20 }))) two_roots
-other_offset-prepares = writes (behind_root (record unlike { pgoff = 0x20 })) (behind_root (owned 1 (record unlike { pgoff = 0x20 }))) one_root
+    (behind_root (with_own 1 (record unlike { pgoff = 0x20 }))) two_roots
+other_offset-prepares = writes (behind_root (record unlike { pgoff = 0x20 })) (behind_root (with_own 1 (record unlike { pgoff = 0x20 }))) one_root
     two_roots refl other_offset-left
     (refl, (refl, (refl, (refl, (refl, (refl, (refl, (refl, tt))))))))
 
@@ -175,8 +175,8 @@ other_flags-left = stays two_roots (on_then first_write (behind_root (record unl
     two-below refl
 
 pub other_flags-prepares : Prepares first_write (behind_root (record unlike { flags = 1 })) one_root
-    (behind_root (owned 1 (record unlike { flags = 1 }))) two_roots
-other_flags-prepares = writes (behind_root (record unlike { flags = 1 })) (behind_root (owned 1 (record unlike { flags = 1 }))) one_root
+    (behind_root (with_own 1 (record unlike { flags = 1 }))) two_roots
+other_flags-prepares = writes (behind_root (record unlike { flags = 1 })) (behind_root (with_own 1 (record unlike { flags = 1 }))) one_root
     two_roots refl other_flags-left
     (refl, (refl, (refl, (refl, (refl, (refl, (refl, (refl, tt))))))))
 
@@ -231,12 +231,12 @@ by_a_read-prepares = (
 not_joined-left : AreLeft (anons_then first_write (behind_root alike) one_root) (on_then first_write (behind_root alike) one_root) one_root
 not_joined-left = stays one_root (on_then first_write (behind_root alike) one_root) one-below refl
 
-pub not_joined-prepares : Prepares first_write (behind_root alike) one_root (behind_root (owned 0 alike)) one_root
-not_joined-prepares = writes (behind_root alike) (behind_root (owned 0 alike)) one_root one_root refl not_joined-left
+pub not_joined-prepares : Prepares first_write (behind_root alike) one_root (behind_root (with_own 0 alike)) one_root
+not_joined-prepares = writes (behind_root alike) (behind_root (with_own 0 alike)) one_root one_root refl not_joined-left
     (refl, (refl, (refl, (refl, (refl, (refl, (refl, (refl, tt))))))))
 
 -- the second process writes
-pub in_one_process-leaves : LeavesTwo unlike (owned 1 of_second) two_roots
+pub in_one_process-leaves : LeavesTwo unlike (with_own 1 of_second) two_roots
 in_one_process-leaves = (
   state_after (machine 4) two_with_areas second_writes (Noted (New 2 0x12000 0) ∷ Used true (2, 0x12) ∷ []) (1 ∷ 2 ∷ 3 ∷ []) two_roots,
   one-step (machine 4) two_with_areas second_writes (Noted (New 2 0x12000 0) ∷ Used true (2, 0x12) ∷ []) (1 ∷ 2 ∷ 3 ∷ []) two_roots
@@ -283,15 +283,15 @@ joins areas new_areas anons is legal pages = (
   refl,
 )
 
-pub joined_with_one-prepares : Prepares made_alike (behind_root (owned 0 unlike)) one_root owned_four one_root
-joined_with_one-prepares = joins (behind_root (owned 0 unlike)) owned_four one_root
-    (stays one_root (on_then made_alike (behind_root (owned 0 unlike)) one_root) one-below refl)
+pub joined_with_one-prepares : Prepares made_alike (behind_root (with_own 0 unlike)) one_root root_four one_root
+joined_with_one-prepares = joins (behind_root (with_own 0 unlike)) root_four one_root
+    (stays one_root (on_then made_alike (behind_root (with_own 0 unlike)) one_root) one-below refl)
     (record { answer = (refl, refl, refl); notes = refl })
     (refl, (refl, (refl, (refl, (refl, (refl, (refl, (refl, tt))))))))
 
-pub apart_with_two-prepares : Prepares made_alike (behind_root (owned 1 unlike)) two_roots (behind_root (area_of 1 0x12 0x14)) two_roots
-apart_with_two-prepares = joins (behind_root (owned 1 unlike)) (behind_root (area_of 1 0x12 0x14)) two_roots
-    (stays two_roots (on_then made_alike (behind_root (owned 1 unlike)) two_roots) two-below refl)
+pub apart_with_two-prepares : Prepares made_alike (behind_root (with_own 1 unlike)) two_roots (behind_root (area_of 1 0x12 0x14)) two_roots
+apart_with_two-prepares = joins (behind_root (with_own 1 unlike)) (behind_root (area_of 1 0x12 0x14)) two_roots
+    (stays two_roots (on_then made_alike (behind_root (with_own 1 unlike)) two_roots) two-below refl)
     (record { answer = (refl, refl, refl); notes = refl })
     (refl, (refl, (refl, (refl, (refl, (refl, (refl, (refl, tt))))))))
 
@@ -328,16 +328,16 @@ pub prepared_in_part-not : NeverMakes first_write bare_four no_anons 0x12 (area_
 prepared_in_part-not = never-makes first_write bare_four no_anons 0x12 (area_of 0 0x12 0x13)
     (λ e. let d : ◌≡◌ {A = ℕ} 0x10000 0x12000 = ap first_page e in omega (arith, d))
 
-pub second_number-not : NeverMakes first_write owned_four one_root 0x12 (area_of 1 0x10 0x14)
-second_number-not = never-makes first_write owned_four one_root 0x12 (area_of 1 0x10 0x14)
+pub second_number-not : NeverMakes first_write root_four one_root 0x12 (area_of 1 0x10 0x14)
+second_number-not = never-makes first_write root_four one_root 0x12 (area_of 1 0x10 0x14)
     (λ e. let d : ◌≡◌ {A = ℕ} 0 1 = ap own_on e in omega (arith, d))
 
-pub taken_from_before-not : NeverMakes first_write (between_roots unlike) two_roots 0x12 (owned 0 unlike)
-taken_from_before-not = never-makes first_write (between_roots unlike) two_roots 0x12 (owned 0 unlike)
+pub taken_from_before-not : NeverMakes first_write (between_roots unlike) two_roots 0x12 (with_own 0 unlike)
+taken_from_before-not = never-makes first_write (between_roots unlike) two_roots 0x12 (with_own 0 unlike)
     (λ e. let d : ◌≡◌ {A = ℕ} 1 0 = ap own_on e in omega (arith, d))
 
-pub taken_from_child-not : NeverMakes first_write (behind_child unlike) kin 0x12 (owned 1 unlike)
-taken_from_child-not = never-makes first_write (behind_child unlike) kin 0x12 (owned 1 unlike)
+pub taken_from_child-not : NeverMakes first_write (behind_child unlike) kin 0x12 (with_own 1 unlike)
+taken_from_child-not = never-makes first_write (behind_child unlike) kin 0x12 (with_own 1 unlike)
     (λ e. let d : ◌≡◌ {A = ℕ} 2 1 = ap own_on e in omega (arith, d))
 
 pub number_used_again-not : NeverMakes first_write bare_four first_gone 0x12 (area_of 0 0x10 0x14)
@@ -352,8 +352,8 @@ pub prepared_by_a_read-not : NeverMakes first_read bare_four no_anons 0x12 (area
 prepared_by_a_read-not = never-makes first_read bare_four no_anons 0x12 (area_of 0 0x10 0x14)
     (λ e. let d : ◌≡◌ {A = ℕ} 9 0 = ap own_on e in omega (arith, d))
 
-pub second_made-not : NeverNumbers first_write owned_four one_root two_roots
-second_made-not = never-numbers first_write owned_four one_root one_root
+pub second_made-not : NeverNumbers first_write root_four one_root two_roots
+second_made-not = never-numbers first_write root_four one_root one_root
     two_roots second_write-left
     (λ e. let d : ◌≡◌ {A = ℕ} 1 2 = ap (λ (a : Anons). a.next) e in omega (arith, d))
 
@@ -388,8 +388,8 @@ never-there : (p : ℕ) (wrong : Area) → ((prepare_notes second_writes.reply.n
 never-there p wrong differ new step at =
     differ (sym (ap (λ (on : Areas). on p 0x12) (now-is (machine 4) two_with_areas second_writes.command second_writes.reply new step).areas) ∙ at)
 
-pub lent_by_another-not : NeverHasThere 2 (owned 0 of_second)
-lent_by_another-not = never-there 2 (owned 0 of_second) (λ e. let d : ◌≡◌ {A = ℕ} 1 0 = ap own_on e in omega (arith, d))
+pub lent_by_another-not : NeverHasThere 2 (with_own 0 of_second)
+lent_by_another-not = never-there 2 (with_own 0 of_second) (λ e. let d : ◌≡◌ {A = ℕ} 1 0 = ap own_on e in omega (arith, d))
 
-pub prepared_in_another-not : NeverHasThere 1 (owned 0 unlike)
-prepared_in_another-not = never-there 1 (owned 0 unlike) (λ e. let d : ◌≡◌ {A = ℕ} 9 0 = ap own_on e in omega (arith, d))
+pub prepared_in_another-not : NeverHasThere 1 (with_own 0 unlike)
+prepared_in_another-not = never-there 1 (with_own 0 unlike) (λ e. let d : ◌≡◌ {A = ℕ} 9 0 = ap own_on e in omega (arith, d))

@@ -126,20 +126,20 @@ abbrev pub kin : Anons
 kin = anons_of (Some root) (Some child) 2
 
 -- an area with this anon_vma as its own
-abbrev pub owned : ℕ → Area → Area
-owned own area = record area { anon = Some own }
+abbrev pub with_own : ℕ → Area → Area
+with_own own area = record area { anon = Some own }
 
 abbrev pub area_of : ℕ → ℕ → ℕ → Area
-area_of own from past = owned own (area from past read_write)
+area_of own from past = with_own own (area from past read_write)
 
 -- the pages of these areas are mapped, with their protection
-abbrev pub mapped : List Area → Process
-mapped areas page = option_map (λ (a : Area). zeros a.prot) (pages_in (Some areas) page)
+abbrev pub process_with : List Area → Process
+process_with areas page = option_map (λ (a : Area). zeros a.prot) (pages_in (Some areas) page)
 
 -- process 1 has these areas, and nothing was read or written yet
 abbrev pub state_of : List Area → Anons → State
 state_of areas anons = record {
-  world = (1, mapped areas) ∷ [];
+  world = (1, process_with areas) ∷ [];
   ledger = first_ledger;
   free = only_frames (0 ∷ 1 ∷ 2 ∷ 3 ∷ []);
   areas = with_at 1 (pages_in (Some areas)) no_areas;
@@ -242,8 +242,8 @@ NeverNumbers e areas anons wrong =
 abbrev pub bare_four : List Area
 bare_four = area 0x10 0x14 read_write ∷ []
 
-abbrev pub owned_four : List Area
-owned_four = area_of 0 0x10 0x14 ∷ []
+abbrev pub root_four : List Area
+root_four = area_of 0 0x10 0x14 ∷ []
 
 -- an area that can't join its neighbours: it may be written alone
 abbrev pub unlike : Area
@@ -271,7 +271,7 @@ of_second = record unlike { pid = 2 }
 
 abbrev pub two_with_areas : State
 two_with_areas = record {
-  world = (1, mapped (behind_root unlike)) ∷ (2, mapped (of_second ∷ [])) ∷ [];
+  world = (1, process_with (behind_root unlike)) ∷ (2, process_with (of_second ∷ [])) ∷ [];
   ledger = first_ledger;
   free = only_frames (0 ∷ 1 ∷ 2 ∷ 3 ∷ []);
   areas = with_at 1 (pages_in (Some (behind_root unlike)))

@@ -62,11 +62,11 @@ NotFree frames =
 -- ---- anon_vmas
 
 -- the areas of both processes have the anon_vma 0 as their own
-abbrev pub owned : ℕ → Area
-owned p = record (topmost p) { anon = Some 0 }
+abbrev pub topmost_with_own : ℕ → Area
+topmost_with_own p = record (topmost p) { anon = Some 0 }
 
-abbrev pub owned_areas : Areas
-owned_areas p = pages_in (if p == 1 || p == 2 then Some (owned p ∷ []) else None)
+abbrev pub areas_with_own : Areas
+areas_with_own p = pages_in (if p == 1 || p == 2 then Some (topmost_with_own p ∷ []) else None)
 
 -- which has this root, itself as its parent, and this chain
 abbrev pub one_anon : ℕ → List ℕ → Anons
@@ -78,8 +78,8 @@ one_anon root chain = record {
 -- a kernel that shows these anon_vmas doesn't stand for those
 abbrev pub NotKin : Anons → Anons → Type 0
 NotKin shown anons =
-    Stands (machine 4) (record (view_with (λ p. owned p ∷ []) false) { anons = shown }) no_device
-    (record fork_state { areas = owned_areas; anons = anons }) → ⊥
+    Stands (machine 4) (record (view_with (λ p. topmost_with_own p ∷ []) false) { anons = shown })
+    no_device (record fork_state { areas = areas_with_own; anons = anons }) → ⊥
 
 -- ---- with swap
 

@@ -29,10 +29,10 @@ ghost use Rattle.av_laws.specs.Areas.{
   made_alike,
   of_second,
   one_root,
-  owned,
-  owned_four,
+  root_four,
   two_roots,
   unlike,
+  with_own,
   anons_of,
   area,
   area_of,
@@ -136,31 +136,31 @@ pub fn changed_anon_vmas_are_refused()
 /// that is only read gets none. An area that gets one isn't joined then; where a change makes two
 /// areas alike they join if they have one anon_vma, and not if they have two.
 pub fn first_frames_prepare()
-    ensures first_write { Prepares first_write bare_four no_anons owned_four one_root }
-    ensures second_write { Prepares first_write owned_four one_root owned_four one_root }
+    ensures first_write { Prepares first_write bare_four no_anons root_four one_root }
+    ensures second_write { Prepares first_write root_four one_root root_four one_root }
     ensures next_number { Prepares first_write bare_four first_gone
         (area_of 1 0x10 0x14 ∷ []) (and_at 1 (alone 1) 2 first_gone) }
     ensures taken_behind { Prepares first_write
-        (behind_root unlike) one_root (behind_root (owned 0 unlike)) one_root }
+        (behind_root unlike) one_root (behind_root (with_own 0 unlike)) one_root }
     ensures after_first { Prepares first_write
-        (between_roots unlike) two_roots (between_roots (owned 1 unlike)) two_roots }
+        (between_roots unlike) two_roots (between_roots (with_own 1 unlike)) two_roots }
     ensures not_from_child { Prepares first_write
         (behind_child unlike) kin
-        (behind_child (owned 2 unlike)) (and_at 2 (alone 2) 3 kin) }
+        (behind_child (with_own 2 unlike)) (and_at 2 (alone 2) 3 kin) }
     ensures other_offset { Prepares first_write
         (behind_root (record unlike { pgoff = 0x20 })) one_root
-        (behind_root (owned 1 (record unlike { pgoff = 0x20 }))) two_roots }
+        (behind_root (with_own 1 (record unlike { pgoff = 0x20 }))) two_roots }
     ensures other_flags { Prepares first_write
         (behind_root (record unlike { flags = 1 })) one_root
-        (behind_root (owned 1 (record unlike { flags = 1 }))) two_roots }
+        (behind_root (with_own 1 (record unlike { flags = 1 }))) two_roots }
     ensures by_a_read { Prepares first_read bare_four no_anons bare_four no_anons }
     ensures not_joined { Prepares first_write
-        (behind_root alike) one_root (behind_root (owned 0 alike)) one_root }
-    ensures in_one_process { LeavesTwo unlike (owned 1 of_second) two_roots }
+        (behind_root alike) one_root (behind_root (with_own 0 alike)) one_root }
+    ensures in_one_process { LeavesTwo unlike (with_own 1 of_second) two_roots }
     ensures joined_with_one { Prepares made_alike
-        (behind_root (owned 0 unlike)) one_root owned_four one_root }
+        (behind_root (with_own 0 unlike)) one_root root_four one_root }
     ensures apart_with_two { Prepares made_alike
-        (behind_root (owned 1 unlike)) two_roots (behind_root (area_of 1 0x12 0x14)) two_roots }
+        (behind_root (with_own 1 unlike)) two_roots (behind_root (area_of 1 0x12 0x14)) two_roots }
 {}
 
 /// No others: an area that stays bare, or that is cut or joined; a second number for one area; an
@@ -172,13 +172,13 @@ pub fn changed_prepares_are_refused()
         (area 0x10 0x14 read_write) }
     ensures prepared_in_part { NeverMakes first_write bare_four no_anons 0x12
         (area_of 0 0x12 0x13) }
-    ensures second_number { NeverMakes first_write owned_four one_root 0x12
+    ensures second_number { NeverMakes first_write root_four one_root 0x12
         (area_of 1 0x10 0x14) }
-    ensures second_made { NeverNumbers first_write owned_four one_root two_roots }
+    ensures second_made { NeverNumbers first_write root_four one_root two_roots }
     ensures taken_from_before { NeverMakes first_write (between_roots unlike) two_roots 0x12
-        (owned 0 unlike) }
+        (with_own 0 unlike) }
     ensures taken_from_child { NeverMakes first_write (behind_child unlike) kin 0x12
-        (owned 1 unlike) }
+        (with_own 1 unlike) }
     ensures made_though_lent { NeverNumbers first_write (behind_root unlike) one_root
         two_roots }
     ensures number_used_again { NeverMakes first_write bare_four first_gone 0x12
@@ -194,6 +194,6 @@ pub fn changed_prepares_are_refused()
         (area_of 0 0x10 0x14) }
     ensures joined_by_prepare { NeverMakes first_write (behind_root alike) one_root 0x12
         (area_of 0 0x10 0x14) }
-    ensures lent_by_another { NeverHasThere 2 (owned 0 of_second) }
-    ensures prepared_in_another { NeverHasThere 1 (owned 0 unlike) }
+    ensures lent_by_another { NeverHasThere 2 (with_own 0 of_second) }
+    ensures prepared_in_another { NeverHasThere 1 (with_own 0 unlike) }
 {}

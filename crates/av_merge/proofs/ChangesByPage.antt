@@ -9,8 +9,10 @@ use Rattle.av_base.specs.declared.prot.Prot.{Prot}
 use Rattle.av_vma.specs.Join.{first_of, past_of, index_of, same_prot, share_anon}
 use Rattle.av_base.specs.Words.{within}
 use Rattle.av_vma.specs.Pages.{AreLaid, Pages, Effect, with_effect, alters, alters_at, has_page, part_of, cut_at, with_effect_on, join_of, do_join, after_join, joined_at, part_changed, page_changed, pages_changed, IsWhole, Lengths}
-use Rattle.av_merge.proofs.Places.{has_from, has_parts, within_from}
-use Rattle.av_merge.proofs.Mappings.{either_same, join_is, laid_cut}
+use Rattle.av_vma.proofs.Cut.{laid_cut}
+use Rattle.av_vma.proofs.Join.{join_is}
+use Rattle.av_vma.proofs.Laid.{has_from, has_parts}
+use Rattle.av_merge.proofs.Places.{within_from}
 
 -- ---- parts of parts
 
@@ -45,6 +47,11 @@ shares len (Some n) = eq-eqb n n refl
 still_shares : (len : Lengths) (a b : Option ℕ) → share_anon a (len a) b (len b) ≡ true → share_anon (option_or a b) (len (option_or a b)) b (len b) ≡ true
 still_shares len None b h = shares len b
 still_shares len (Some a) b h = h
+
+-- of one of two own anon_vmas that are the same
+either_same : (a b : Option ℕ) → a ≡ b → option_or a b ≡ a
+either_same None b e = sym e
+either_same (Some n) b e = refl
 
 once_more : (a b : Option ℕ) → option_or (option_or a b) b ≡ option_or a b
 once_more None b = either_same b b refl

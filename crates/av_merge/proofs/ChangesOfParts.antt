@@ -10,9 +10,11 @@ use Rattle.av_vmatree.specs.declared.span.Span.{Span}
 use Rattle.av_vmatree.specs.Spans.{area_at, span_of}
 use Rattle.av_merge.specs.Mapping.{DoDiffer, Mapping, mapping, mapping_in, mapping_with}
 use Rattle.av_vma.specs.Pages.{AreLaid, Pages, alters, cut_at, has_page, joined_around, joined_at, part_of, Effect, with_effect, with_effect_on, IsWhole, Lengths}
+use Rattle.av_vma.proofs.Cut.{laid_cut}
+use Rattle.av_vma.proofs.Laid.{has_from, has_parts}
 use Rattle.av_merge.specs.Pages.{pages_by}
 use Rattle.av_merge.specs.Process.{AreAreasOf, IsAreaOf, Stays}
-use Rattle.av_merge.proofs.Places.{IsOn, change_others, change_pages, change_stands, has_from, has_parts, is_on, one_area, stays_trans, within_from, within_parts}
+use Rattle.av_merge.proofs.Places.{IsOn, change_others, change_pages, change_stands, is_on, one_area, stays_trans, within_from, within_parts}
 use Rattle.av_merge.proofs.ChangesByPage.{same_as_itself}
 use Rattle.av_interval.specs.declared.span.Span as interval
 use Rattle.av_anon.specs.Anons.{Family}
@@ -20,7 +22,7 @@ use Rattle.av_anon.specs.Order.{IsInOrder}
 use Rattle.av_merge.specs.Kin.{KeepsKin}
 use Rattle.av_merge.proofs.Kin.{keeps_fields}
 use Rattle.av_merge.proofs.Lengths.{AreAlike, around_alike}
-use Rattle.av_merge.proofs.Mappings.{changed_maps, cut_maps, joined_maps, laid_cut, laid_of, part_maps_to}
+use Rattle.av_merge.proofs.Mappings.{changed_maps, cut_maps, joined_maps, laid_of, part_maps_to}
 
 -- what is left of an area that is cut before its part and past it
 record IsExact (from past : ℕ) (area : Area) : Type 0 where

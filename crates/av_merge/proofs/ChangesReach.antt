@@ -10,10 +10,12 @@ use Rattle.av_vmatree.specs.declared.span.Span.{Span}
 use Rattle.av_vmatree.specs.Spans.{area_at, is_page_taken}
 use Rattle.av_merge.specs.Mapping.{IsRemapped, mapping, mapping_in, mapping_with}
 use Rattle.av_vma.specs.Pages.{Effect, Pages, alters, alters_at, page_changed, part_changed, pages_changed, Lengths}
+use Rattle.av_vma.proofs.Join.{prot_is}
+use Rattle.av_vma.proofs.Laid.{has_from, has_parts}
 use Rattle.av_merge.specs.Pages.{IsReached, pages_by}
 use Rattle.av_merge.specs.Process.{AreAreasOf, Stays}
-use Rattle.av_merge.proofs.Places.{has_from, has_parts, is_on, one_area, others_refl, stays_trans, taken_is}
-use Rattle.av_merge.proofs.Mappings.{laid_of, prot_is}
+use Rattle.av_merge.proofs.Places.{is_on, one_area, others_refl, stays_trans, taken_is}
+use Rattle.av_merge.proofs.Mappings.{laid_of}
 use Rattle.av_merge.proofs.ChangesByPage.{page_by_page}
 
 pub record IsDone (len : Lengths) (from page to : ℕ) (effect : Effect) (old new : ℕ → Option Area) (before spans : List Span) : Type 0 where

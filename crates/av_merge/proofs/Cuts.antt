@@ -10,10 +10,12 @@ use Rattle.av_vmatree.specs.declared.span.Span.{Span}
 use Rattle.av_vmatree.specs.Spans.{AreApart, area_at, last_below, span_of, unless_area}
 use Rattle.av_vmatree.proofs.Sides.{below_must}
 use Rattle.av_vma.specs.Pages.{AreLaid, Pages, cut_at, has_page, part_of, with_area, after_unmap, IsWhole}
+use Rattle.av_vma.proofs.Cut.{laid_cut}
+use Rattle.av_vma.proofs.Laid.{has_from, has_parts}
 use Rattle.av_merge.specs.Pages.{pages_by}
 use Rattle.av_merge.specs.Process.{AreAreasOf, IsAreaOf, NoneCrosses}
-use Rattle.av_merge.proofs.Places.{area_in, has_from, has_parts, holds_is, holds_parts, is_on, on_span, pages_without, span_at, within_from, within_parts}
-use Rattle.av_merge.proofs.Mappings.{laid_cut, laid_of}
+use Rattle.av_merge.proofs.Places.{area_in, holds_is, holds_parts, is_on, on_span, pages_without, span_at, within_from, within_parts}
+use Rattle.av_merge.proofs.Mappings.{laid_of}
 
 least : (a b : ℕ) → a ≤ b → min a b ≡ a
 least a b h = omega arith

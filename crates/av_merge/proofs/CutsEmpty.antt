@@ -9,9 +9,10 @@ use Rattle.av_vmatree.specs.declared.span.Span.{Span}
 use Rattle.av_vmatree.specs.Spans.{AreApart, AreDistinct, AreSpans, area_after, area_at, holds, span_of, unless_area, without_area}
 use Rattle.av_vmatree.proofs.Sides.{in_row}
 use Rattle.av_vma.specs.Pages.{Pages, without_range}
+use Rattle.av_vma.proofs.Laid.{has_parts}
 use Rattle.av_merge.specs.Pages.{pages_by}
 use Rattle.av_merge.specs.Process.{AreAreasOf, IsAreaOf, NoneCrosses, Stays}
-use Rattle.av_merge.proofs.Places.{area_in, has_parts, holds_parts, is_on, on_span, later_from, pages_without, stays_trans, take_others, take_pages, take_stands, within_from, within_parts}
+use Rattle.av_merge.proofs.Places.{area_in, holds_parts, is_on, on_span, later_from, pages_without, stays_trans, take_others, take_pages, take_stands, within_from, within_parts}
 
 -- ---- the next area above a page
 

@@ -18,12 +18,14 @@ use Rattle.av_vmatree.specs.Spans.{AreSpans, IsFree, area_at, first_from, last_b
 use Rattle.av_vmatree.proofs.Sides.{all_wide, below_is, below_must, from_is, from_must}
 use Rattle.av_vmatree.proofs.Spans.{all_found}
 use Rattle.av_vma.specs.Pages.{Pages, has_page, do_join, joined_at, join_of, with_area, after_join, IsWhole, Lengths}
+use Rattle.av_vma.proofs.Join.{join_is, left_pages, right_pages, merged_pages, merged_whole, tried_is}
+use Rattle.av_vma.proofs.Laid.{has_from, has_parts}
 use Rattle.av_merge.specs.Mapping.{DoDiffer, mapping, mapping_in}
 use Rattle.av_merge.specs.Pages.{pages_by}
 use Rattle.av_merge.specs.Process.{AreAreasOf, IsAreaOf, Stays}
-use Rattle.av_merge.proofs.Places.{IsOn, is_on, at_rest, at_span, has_from, has_parts, change_others, change_stands, stays_trans, take_stands, take_others}
+use Rattle.av_merge.proofs.Places.{IsOn, is_on, at_rest, at_span, change_others, change_stands, stays_trans, take_stands, take_others}
 use Rattle.av_merge.proofs.Kin.{length_is}
-use Rattle.av_merge.proofs.Mappings.{join_is, laid_of, left_pages, right_pages, merged_pages, merged_whole, tried_is}
+use Rattle.av_merge.proofs.Mappings.{laid_of}
 
 module _ (len : Lengths) (p l r at : ℕ) (lower upper : Area) (areas : ℕ → Option Area) (spans : List Span)
     (stands : AreAreasOf p areas spans)

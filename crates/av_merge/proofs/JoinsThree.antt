@@ -17,11 +17,13 @@ use Rattle.av_base.specs.Words.{with_at}
 use Rattle.av_vmatree.specs.declared.span.Span.{Span}
 use Rattle.av_vmatree.specs.Spans.{AreSpans, IsFree, area_at, span_of, is_page_taken, unless_area, without_area}
 use Rattle.av_vma.specs.Pages.{IsWhole, Pages, has_page, do_join, joined_around, joined_at, join_of, with_area, after_join, no_chains, Lengths}
+use Rattle.av_vma.proofs.Join.{join_is, merged_whole}
+use Rattle.av_vma.proofs.Laid.{has_from, has_parts}
 use Rattle.av_merge.specs.Pages.{pages_by}
 use Rattle.av_merge.specs.Process.{AreAreasOf, Stays}
-use Rattle.av_merge.proofs.Places.{at_rest, at_span, has_from, has_parts, stays_trans, take_others, take_stands}
+use Rattle.av_merge.proofs.Places.{at_rest, at_span, stays_trans, take_others, take_stands}
 use Rattle.av_merge.proofs.Cuts.{IsFound, found}
-use Rattle.av_merge.proofs.Mappings.{join_is, laid_of, merged_whole}
+use Rattle.av_merge.proofs.Mappings.{laid_of}
 
 -- the third goes on in the second as in the first two together
 join_runs_on : (len : Lengths) (lower inner upper : Area) → lower.anon ≡ None → IsWhole lower → IsWhole inner → do_join len lower inner ≡ true → do_join len (join_of lower inner) upper ≡ do_join len inner upper

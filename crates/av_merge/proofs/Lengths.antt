@@ -1,5 +1,5 @@
 -- Chains keep their lengths, so pages that are joined by those after some calls are joined by those before them.
-use Rattle.std.proofs.Common.{◌≡◌, ℕ, zero, suc, ◌-◌, ◌&&◌, nat_lt, min, max, ◌*◌, ◌+◌, Bool, true, false, cond, length, List, Option, Some, None, option_map, refl, sym, ap, subst, ◌∙◌, inl, inr}
+use Rattle.std.proofs.Common.{◌≡◌, ℕ, zero, suc, ◌-◌, ◌&&◌, ◌+◌, Bool, true, false, cond, length, List, Option, Some, None, option_map, refl, sym, ap, subst, ◌∙◌, inl, inr}
 use Rattle.std.specs.Prelude.{option_and_then}
 use Rattle.std.specs.Option.{option_or}
 use Rattle.std.proofs.lemmas.Option.{none-some, same_Some}
@@ -7,8 +7,10 @@ use Rattle.av_base.specs.Words.{within}
 use Rattle.av_base.specs.declared.prot.Prot.{Prot}
 use Rattle.av_interval.specs.declared.span.Span as interval
 use Rattle.av_vma.specs.declared.area.Area.{Area}
-use Rattle.av_vma.specs.Join.{are_mergeable, first_of}
+use Rattle.av_vma.specs.Join.{are_mergeable}
 use Rattle.av_vma.specs.Pages.{Effect, Lengths, Pages, after_join, after_map, alters_at, cut_at, fresh_area, has_page, join_of, joined_around, joined_at, page_changed, pages_changed, part_changed, part_of, with_area, with_effect, with_effect_on}
+use Rattle.av_vma.proofs.Cut.{part_own}
+use Rattle.av_vma.proofs.Join.{tried_is}
 use Rattle.av_vmatree.specs.declared.span.Span.{Span}
 use Rattle.av_vmatree.specs.Spans.{area_at}
 use Rattle.av_anon.specs.Anons.{Family, own_of}
@@ -17,7 +19,6 @@ use Rattle.av_anon.specs.Order.{IsInOrder}
 use Rattle.av_anon.proofs.KinLaws.{chains_stay}
 use Rattle.av_merge.specs.Kin.{KeepsKin}
 use Rattle.av_merge.specs.Pages.{pages_by}
-use Rattle.av_merge.proofs.Mappings.{tried_is}
 
 -- the chains of the areas on the pages are as long by one as by the other
 pub record AreAlike (len len' : Lengths) (on : Pages) : Type 0 where
@@ -70,13 +71,6 @@ around_alike len len' from past on h page =
 -- a boundary that is tried after calls, by the lengths before them
 pub joined_later : (len len' : Lengths) (at : ℕ) (on old new : Pages) → AreAlike len' len on → ((page : ℕ) → on page ≡ old page) → ((page : ℕ) → new page ≡ joined_at len' at on page) → (page : ℕ) → new page ≡ joined_at len at old page
 joined_later len len' at on old new h is now page = now page ∙ joined_alike len' len at on h page ∙ (λ i. joined_at len at (λ q. is q i) page)
-
-part_own : (at page : ℕ) (area : Area) → (part_of at page area).anon ≡ area.anon
-part_own at page area = go (nat_lt page at)
-  where
-    go : (b : Bool) → (cond b (record area { end = min area.end (4096 * at) }) (record area { start = max area.start (4096 * at); pgoff = area.pgoff + (at - first_of area) })).anon ≡ area.anon
-    go true = refl
-    go false = refl
 
 alike_cut : (len len' : Lengths) (at : ℕ) (on : Pages) → AreAlike len len' on → AreAlike len len' (cut_at at on)
 alike_cut len len' at on h = record { same = λ page area e. go page area (on page) refl e }

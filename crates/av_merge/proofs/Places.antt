@@ -22,13 +22,6 @@ within_parts a n x h = (grind (arith, nat_tests), grind (arith, nat_tests))
 pub within_from : (a n x : ℕ) → a ≤ x → x < a + n → within a n x ≡ true
 within_from a n x low high = grind (arith, nat_tests)
 
--- an area has exactly the pages from its first to below the one past it
-pub has_parts : (area : Area) (page : ℕ) → has_page area page ≡ true → (first_of area ≤ page) × (page < past_of area)
-has_parts area page h = let k = within_parts (first_of area) (past_of area - first_of area) page h in (k.0, (let low = k.0 in let high = k.1 in omega arith))
-
-pub has_from : (area : Area) (page : ℕ) → first_of area ≤ page → page < past_of area → has_page area page ≡ true
-has_from area page low high = within_from (first_of area) (past_of area - first_of area) page low (omega arith)
-
 pub holds_parts : (s : Span) (page : ℕ) → holds s page ≡ true → (s.from ≤ page) × (page < s.to)
 holds_parts s page h = let k = within_parts s.from (s.to - s.from) page h in (k.0, (let low = k.0 in let high = k.1 in omega arith))
 

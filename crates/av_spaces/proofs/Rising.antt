@@ -5,7 +5,7 @@ use Rattle.std.proofs.lemmas.Option.{none-some, same_Some}
 use Rattle.av_vma.specs.declared.area.Area.{Area}
 use Rattle.av_vma.specs.Join.{first_of, past_of}
 use Rattle.av_vma.specs.Pages.{AreLaid, has_page, IsWhole, pages_in}
-use Rattle.av_merge.proofs.Places.{has_parts}
+use Rattle.av_vma.proofs.Laid.{has_parts}
 use Rattle.av_spaces.specs.Spaces.{Spaces, IsOwn, AreRising, AllRising, areas_of, pages_of}
 
 first_own : (p : ℕ) (a : Area) (areas : List Area) → AreRising p (a ∷ areas) → IsOwn p a

@@ -1,0 +1,4 @@
+pub mod Laid
+pub mod Cut
+pub mod Join
+pub mod Homes
