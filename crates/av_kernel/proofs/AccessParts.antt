@@ -10,9 +10,9 @@ use Rattle.av_plain.specs.Access.{Accesses, End, Whole, Stopped, page_events, pa
 use Rattle.av_plain.specs.Fault as faults
 use Rattle.av_plain.specs.Fault.{Touches, is_allowed}
 use Rattle.av_plain.specs.Choice.{ChoosesAll, Free}
-use Rattle.av_plain.specs.Areas.{Rmap, prepare_all}
+use Rattle.av_plain.specs.Areas.{Rmap, rmap_after_all}
 use Rattle.av_plain.specs.Transcript.{State, rmap_of}
-use Rattle.av_plain.proofs.AreasLeft.{prepare_all-append}
+use Rattle.av_plain.proofs.AreasLeft.{rmap_after_all-append}
 use Rattle.av_plain.proofs.Access.{after_all-append, notes_of-append, notes_of-note_events, chooses-append, accesses-append, alike-by-allowed}
 use Rattle.av_reclaim.specs.declared.mem.Mem.{Mem}
 use Rattle.av_fault.specs.declared.fault.Stop.{Stop}
@@ -92,8 +92,8 @@ module _ (s : State) (mid new : Mem) (write : Bool) (p a k page at : ℕ) (xs ys
   ledger-both : (more : List Event) (l : Ledger) → l ≡ after_all h.next.ledger more → l ≡ after_all s.ledger (h.events ++ more)
   ledger-both more l is = is ∙ ap (λ x. after_all x more) h.ledger ∙ sym (after_all-append s.ledger h.events more)
 
-  rmap-both : (more : List Event) (r : Rmap) → r ≡ prepare_all more (rmap_of h.next) → r ≡ prepare_all (h.events ++ more) (rmap_of s)
-  rmap-both more r is = is ∙ ap (prepare_all more) h.rmap ∙ sym (prepare_all-append h.events more (rmap_of s))
+  rmap-both : (more : List Event) (r : Rmap) → r ≡ rmap_after_all h.next.ledger more (rmap_of h.next) → r ≡ rmap_after_all s.ledger (h.events ++ more) (rmap_of s)
+  rmap-both more r is = is ∙ (λ i. rmap_after_all (h.ledger i) more (h.rmap i)) ∙ sym (rmap_after_all-append s.ledger h.events more (rmap_of s))
 
   -- by m bytes of the page
   goes_on : (m : ℕ) → at + m ≤ 4096 → 1 ≤ m → (write ≡ true → length xs ≡ k) → IsPageStep h.next new write p page at ys now after None

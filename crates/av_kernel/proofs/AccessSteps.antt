@@ -19,7 +19,7 @@ use Rattle.av_reclaim.specs.declared.mem.Mem.{Mem}
 use Rattle.av_fault.specs.declared.fault.Stop.{Stop}
 use Rattle.av_fault.specs.declared.fault.Stop.TheVariants.{Segv, Oom}
 use Rattle.av_vma.specs.Pages.{Lengths}
-use Rattle.av_plain.specs.Areas.{AreNext, Areas, Rmap, chain_length, next_areas, prepare_all}
+use Rattle.av_plain.specs.Areas.{AreNext, Areas, Rmap, chain_length, next_areas, rmap_after_all}
 use Rattle.av_trace.specs.declared.command.Command.{Command}
 use Rattle.av_reclaim.specs.Mem.{Keeps, setting, count}
 use Rattle.av_fault.specs.Fault.{stop_of}
@@ -47,11 +47,12 @@ world-stopped w p a k bytes (Oom out) = refl
 
 module _ (s : State) (old new : Mem) (p a : ℕ) (before notes : List Note) (rows : List Row) (k : ℕ) (fresh : before ≡ []) (none : rows ≡ []) (same : count new ≡ count old) (lived : lives s.world p ≡ true) (keeps : Keeps old s) where
   -- areas and anon_vmas are those that its events prepared
-  rmap_still : (command : Command) (answer : Answer) → ((long : Lengths) (on : Areas) → next_areas long on s.world command answer ≡ on) → (now : State) (events : List Event) → rmap_of now ≡ prepare_all events (rmap_of s)
-      → Keeps new now → AreNext (prepare_all events (rmap_of s)) s.world command answer (rmap_of now)
+  rmap_still : (command : Command) (answer : Answer) → ((long : Lengths) (on : Areas) → next_areas long on s.world command answer ≡ on) → (now : State) (events : List Event) → rmap_of now ≡ rmap_after_all s.ledger events (rmap_of s)
+      → Keeps new now → AreNext (rmap_after_all s.ledger events (rmap_of s)) s.world command answer (rmap_of now)
   rmap_still command answer stay now events is kept = subst (λ (r : Rmap). AreNext r s.world command answer (rmap_of now)) is (record {
     areas = sym (stay (chain_length now.anons) now.areas);
     anons = left_alone new now kept;
+    homes = refl;
   })
 
   -- the notes are those of the access alone

@@ -1,5 +1,5 @@
 -- Commands on ranges of pages: what they leave of the pages, the entries and the areas.
-use Rattle.std.proofs.Common.{◌≡◌, inl, inr, Ok, Err, ℕ, ◌+◌, ◌-◌, ◌<◌, ◌≤◌, Bool, true, false, cond, not, ◌&&◌, ◌||◌, List, [], ◌∷◌, slice_index, Option, Some, None, is_some, option_map, Result, refl, sym, ap, subst, ◌∙◌, arith, ◌==◌, nat_lt}
+use Rattle.std.proofs.Common.{◌≡◌, inl, inr, Ok, Err, ℕ, ◌+◌, ◌-◌, ◌<◌, ◌≤◌, Bool, true, false, cond, not, ◌&&◌, ◌||◌, List, [], ◌∷◌, slice_index, Option, Some, None, is_some, option_map, Result, refl, sym, ap, subst, ◌∙◌, arith, ◌==◌, nat_lt, IsSomeAnd}
 use Rattle.std.proofs.lemmas.Bool.Decides.{nat_tests}
 use Rattle.std.proofs.lemmas.Bool.{false≢true}
 use Rattle.std.specs.Prelude.{MatchOption, OnOk}
@@ -19,7 +19,7 @@ use Rattle.av_trace.specs.declared.reply.Answer.TheVariants.{Done, MapAt, Refuse
 use Rattle.av_pagetable.specs.Entries.{has}
 use Rattle.av_plain.specs.World.{lives, Process, Page, zeros, pages, is_mapped, pages_to_hole, set_process, with_pages, with_prot_on, with_prot}
 use Rattle.av_base.specs.Page.{page_of, pages_of, address_of, is_on_page}
-use Rattle.av_plain.specs.Ledger.{Ledger, Entry, Zero, InFrame, InSlot, entry, frame_at}
+use Rattle.av_plain.specs.Ledger.{names_frame, Ledger, Entry, Zero, InFrame, InSlot, entry, frame_at}
 use Rattle.av_plain.specs.Event.{Event, after_all}
 use Rattle.av_plain.specs.Zap.{keys_in, zaps_of}
 use Rattle.av_plain.specs.Refusal.{tests, place_tests, refusal, is_too_long, wraps, top, Refuses}
@@ -32,18 +32,21 @@ use Rattle.av_merge.proofs.Lengths.{AreAlike, map_alike, pages_alike}
 use Rattle.av_spaces.specs.Kin.{AnonsStay}
 use Rattle.av_spaces.proofs.Kin.{stay_both, stay_same}
 use Rattle.av_reclaim.proofs.AnonLaws.{are_left, lengths_alike}
-use Rattle.av_plain.proofs.AreasLeft.{prepare_all-silent}
+use Rattle.av_plain.proofs.AreasLeft.{rmap_after_all-zaps}
+use Rattle.av_plain.proofs.Covered.{Names}
+use Rattle.av_plain.specs.Areas.{Rmap, rmap_after_all}
+use Rattle.av_vma.proofs.Homes.{KeepsHomes}
 use Rattle.av_plain.specs.Areas.{AreNext, areas_to_hole, chain_length, next_areas, with_room}
 use Rattle.av_plain.specs.Choice.{ChoosesAll}
 use Rattle.av_plain.specs.Transcript.{State, rmap_of}
 use Rattle.av_plain.specs.Device.{no_device}
 use Rattle.av_plain.specs.Stands.{AreasAre, Holds, IsKept, IsKeptAt, free_of, prot_of}
-use Rattle.av_vma.specs.Pages.{Pages, after_map, pages_changed, to_prot, after_unmap}
+use Rattle.av_vma.specs.Pages.{Pages, home_of, after_map, pages_changed, to_prot, after_unmap}
 use Rattle.av_plain.proofs.World.Ranges.{is-pages_to_hole}
 use Rattle.av_plain.proofs.Zap.{entry-range}
 use Rattle.av_reclaim.specs.declared.mem.Mem.{Mem}
 use Rattle.av_spaces.specs.Spaces.{AllSpaces, Spaces, areas_of, is_taken, pages_of as areas_on}
-use Rattle.av_kernel.specs.Map.{set_on, HasAreas, HasProts, AreCleared}
+use Rattle.av_kernel.specs.Map.{set_on, HasAreas, HasProts, HomesStay, AreCleared}
 use Rattle.av_reclaim.specs.Mem.{ranges_of, setting, view, count, Keeps, IsSteady, HasLedger}
 use Rattle.av_reclaim.specs.Zap.{HasZapped}
 use Rattle.av_kernel.specs.Place.{protect_tests, IsProcess, IsPlaced, AreToClear}
@@ -124,17 +127,19 @@ both_ok (Ok x) f h g = f h g
 both_ok (Err e) f h g = tt
 
 -- their entries have gone, and then their areas
-pub are_cleared : (old mid : Mem) (spaces : AllSpaces) (anons : AnonSet) (p page n : ℕ) (l : Ledger) → HasZapped old mid l (zaps_of l (keys_in l p page (page + n - page))) → mid.spaces ≡ old.spaces → mid.anons ≡ old.anons → has mid.tables ≡ has old.tables → (view mid).bytes ≡ (view old).bytes
+pub are_cleared : (old mid : Mem) (spaces : AllSpaces) (anons : AnonSet) (p page n : ℕ) (l : Ledger) → HasZapped old mid l (zaps_of l (keys_in l p page (page + n - page))) → mid.spaces ≡ old.spaces → mid.anons ≡ old.anons → has mid.tables ≡ has old.tables → (view mid).bytes ≡ (view old).bytes → (view mid).homes ≡ (view old).homes
     → HasProts mid.spaces.processes spaces.processes p (set_on page n None (prot_of (ranges_of mid.spaces.processes p))) → HasAreas mid.spaces.processes spaces.processes p (after_unmap page (page + n) (areas_on mid.spaces.processes p))
-    → AnonsStay mid.spaces mid.anons spaces anons
+    → AnonsStay mid.spaces mid.anons spaces anons → HomesStay mid.spaces.processes spaces.processes p page n
     → AreCleared old (moved_on mid mid.tables spaces anons) p page n (after_unmap page (page + n) (areas_on old.spaces.processes p)) l (zaps_of l (keys_in l p page n))
-are_cleared old mid spaces anons p page n l t same same_anons processes bytes gone areas stay = record {
+are_cleared old mid spaces anons p page n l t same same_anons processes bytes homes gone areas anons_stay stay = record {
   taken = subst (λ x. HasZapped old (moved_on mid mid.tables spaces anons) l (zaps_of l (keys_in l p page x))) (let size : page + n - page ≡ n = omega arith in size) (record { stands = stays_orderly mid mid.tables spaces anons _ refl t.stands; notes = t.notes; free = t.free });
   spaces = subst (λ (x : AllSpaces). HasProts x.processes spaces.processes p (set_on page n None (prot_of (ranges_of x.processes p)))) same gone;
   areas = subst (λ (x : AllSpaces). HasAreas x.processes spaces.processes p (after_unmap page (page + n) (areas_on x.processes p))) same areas;
-  anons = subst (λ (x : AllSpaces). AnonsStay x old.anons spaces anons) same (subst (λ a. AnonsStay mid.spaces a spaces anons) same_anons stay);
+  anons = subst (λ (x : AllSpaces). AnonsStay x old.anons spaces anons) same (subst (λ a. AnonsStay mid.spaces a spaces anons) same_anons anons_stay);
   processes = processes;
   bytes = bytes;
+  homes = homes;
+  stay = subst (λ (x : AllSpaces). HomesStay x.processes spaces.processes p page n) same stay;
 }
 
 left_alone : (k : Mem) → IsSteady k → (p page n : ℕ) (l : Ledger) → HasLedger k l → is_some (areas_of k.spaces.processes p) ≡ true → IsFree (is_taken k.spaces.processes p) page (page + n) → AreCleared k k p page n (areas_on k.spaces.processes p) l []
@@ -151,6 +156,8 @@ left_alone k steady p page n l stands alive free = record {
   anons = stay_same k.spaces k.anons steady.1.anons;
   processes = refl;
   bytes = refl;
+  homes = refl;
+  stay = λ at home outside is. is;
 }
   where
     none : (o : Option Prot) → is_some o ≡ false → o ≡ None
@@ -181,13 +188,21 @@ cleared_free old new p page n on l events h o low high =
     let inside : within page n o ≡ true = grind (arith, nat_tests, low, high) in
     taken_has new.spaces.processes p o ∙ ap is_some (h.spaces.pages o ∙ ap (λ b. cond b None (prot_of (ranges_of old.spaces.processes p) o)) inside)
 
+-- what goes where a mapping makes room leaves areas, anon_vmas and homes
+place-silent : (l : Ledger) (p n : ℕ) (place : Place) (r : Rmap) → rmap_after_all l (zaps_for_place l p n place) r ≡ r
+place-silent l p n Auto r = refl
+place-silent l p n (At a) r = refl
+place-silent l p n (Fixed a) r = rmap_after_all-zaps l (keys_in l p (page_of a) n) l r
+place-silent l p n (NoReplace a) r = refl
+
 -- ---- the pages of a range are replaced
 
 module _ (old new : Mem) (s : State) (command : Command) (reply : Reply) (p page n : ℕ) (o : Option Page) (on : Pages) (events : List Event)
     (keeps : Keeps old s) (alive : is_some (ranges_of old.spaces.processes p) ≡ true) (same_count : count new ≡ count old)
     (taken : HasZapped old new s.ledger events) (entries : (q at : ℕ) → entry (after_all s.ledger events) (q, at) ≡ cond (q == p && within page n at) None (entry s.ledger (q, at)))
     (blank : Holds o (λ _. 0)) (spaces : HasProts old.spaces.processes new.spaces.processes p (set_on page n (option_map (λ (x : Page). x.prot) o) (prot_of (ranges_of old.spaces.processes p))))
-    (areas : AreasAre (view new) (with_at p on s.areas)) (stay : AnonsStay old.spaces old.anons new.spaces new.anons) (processes : has new.tables ≡ has old.tables) (bytes : (view new).bytes ≡ (view old).bytes) where
+    (areas : AreasAre (view new) (with_at p on s.areas)) (stay : AnonsStay old.spaces old.anons new.spaces new.anons) (processes : has new.tables ≡ has old.tables) (bytes : (view new).bytes ≡ (view old).bytes)
+    (homes : (view new).homes ≡ (view old).homes) (home_stay : HomesStay old.spaces.processes new.spaces.processes p page n) (silent : rmap_after_all s.ledger events (rmap_of s) ≡ rmap_of s) where
   covered : (at : ℕ) → set_on page n (option_map (λ (x : Page). x.prot) o) (prot_of (ranges_of old.spaces.processes p)) at ≡ option_map (λ (x : Page). x.prot) (with_pages (pages s.world p) page n (λ _. o) at)
   covered at = by (within page n at)
     where
@@ -205,14 +220,37 @@ module _ (old new : Mem) (s : State) (command : Command) (reply : Reply) (p page
       by true = blank
       by false = keeps.stands.parts.bytes.kept p at
 
+  -- an entry that is left was there, and stands outside of the range
+  left : (at f : ℕ) → Names (after_all s.ledger events) (p, at) f → (within page n at ≡ false) × Names s.ledger (p, at) f
+  left at f names = by (within page n at) refl (subst (λ o. IsSomeAnd o (λ e. names_frame f e ≡ true)) (entries p at ∙ ap (λ b. cond (b && within page n at) None (entry s.ledger (p, at))) (itself p)) names)
+    where
+      itself : (p : ℕ) → (p == p) ≡ true
+      itself p = grind (arith, nat_tests)
+
+      by : (b : Bool) → within page n at ≡ b → IsSomeAnd (cond b None (entry s.ledger (p, at))) (λ e. names_frame f e ≡ true) → (within page n at ≡ false) × Names s.ledger (p, at) f
+      by true e names = absurd names
+      by false e names = (e, names)
+
+  there : (at f : ℕ) → Names (after_all s.ledger events) (p, at) f → Names s.ledger (p, at) f
+  there at f names = (left at f names).1
+
+  home : (at f : ℕ) (home : ℕ × ℕ) → Names (after_all s.ledger events) (p, at) f → home_of at (s.areas p at) ≡ Some home → home_of at (on at) ≡ Some home
+  home at f h names is = sym (ap (home_of at) (own_area at)) ∙ home_stay at h (left at f names).0 (ap (home_of at) (keeps.stands.areas p at) ∙ is)
+    where
+      itself : (p : ℕ) → (p == p) ≡ true
+      itself p = grind (arith, nat_tests)
+
+      own_area : (at : ℕ) → areas_on new.spaces.processes p at ≡ on at
+      own_area at = areas p at ∙ ap (λ b. (cond b on (s.areas p)) at) (itself p)
+
   pub replaced-steps : IsLegal (setting (count old)) s.world s.ledger command reply events
       → set_process s.world p (with_pages (pages s.world p) page n (λ _. o)) ≡ next_world (setting (count old)) s.world s.ledger events command reply.answer
       → with_at p on s.areas ≡ next_areas (chain_length s.anons) s.areas s.world command reply.answer → MemSteps old new s command reply
   replaced-steps legal world next =
       let now : Process = with_pages (pages s.world p) page n (λ _. o) in
-      changed old new s command reply p now on (after_all s.ledger events) keeps stay same_count taken.stands bytes
-      (λ q at other. entries q at ∙ ap (λ b. cond (b && within page n at) None (entry s.ledger (q, at))) other) kept
-      (record { events = events; legal = legal; world = world; ledger = refl; free = subst (λ free. ChoosesAll (setting (count old)) None s.ledger events free (free_of (view new))) keeps.stands.free taken.free; rmap = subst (λ r. AreNext r s.world command reply.answer (rmap_of (state_after s p now on (after_all s.ledger events) (free_of (view new)) new.anons))) (sym (prepare_all-silent events (rmap_of s) taken.notes)) (record { areas = next; anons = are_left old s keeps new.spaces new.anons stay (with_at p on s.areas) areas }) })
+      changed old new s command reply p now on (after_all s.ledger events) keeps stay same_count taken.stands bytes homes
+      (λ q at other. entries q at ∙ ap (λ b. cond (b && within page n at) None (entry s.ledger (q, at))) other) kept there home
+      (record { events = events; legal = legal; world = world; ledger = refl; free = subst (λ free. ChoosesAll (setting (count old)) None s.ledger events free (free_of (view new))) keeps.stands.free taken.free; rmap = subst (λ r. AreNext r s.world command reply.answer (rmap_of (state_after s p now on (after_all s.ledger events) (free_of (view new)) new.anons))) (sym silent) (record { areas = next; anons = are_left old s keeps new.spaces new.anons stay (with_at p on s.areas) areas; homes = refl }) })
       areas
       (areas_changed old new s p now (set_on page n (option_map (λ (x : Page). x.prot) o) (prot_of (ranges_of old.spaces.processes p))) keeps alive spaces covered)
       (tables_kept old new s p now (set_on page n (option_map (λ (x : Page). x.prot) o) (prot_of (ranges_of old.spaces.processes p))) keeps alive spaces covered processes)
@@ -248,7 +286,8 @@ module _ (old new : Mem) (s : State) (p a len : ℕ) (keeps : Keeps old s) (aliv
   munmap-steps =
       let events = zaps_of s.ledger (keys_in s.ledger p (page_of a) (pages_of len)) in
       replaced-steps old new s (Munmap p a len) (answer_only Done) p (page_of a) (pages_of len) None (after_unmap (page_of a) (page_of a + pages_of len) (s.areas p)) events keeps alive same_count cleared.taken (λ q at. entry-range s.ledger p (page_of a) (pages_of len) q at) tt cleared.spaces
-      (areas_so old new s p (after_unmap (page_of a) (page_of a + pages_of len)) keeps cleared.areas) cleared.anons cleared.processes cleared.bytes
+      (areas_so old new s p (after_unmap (page_of a) (page_of a + pages_of len)) keeps cleared.areas) cleared.anons cleared.processes cleared.bytes cleared.homes cleared.stay
+      (rmap_after_all-zaps s.ledger (keys_in s.ledger p (page_of a) (pages_of len)) s.ledger (rmap_of s))
       (record {
         answer = subst (λ o. MatchOption o (Follows (setting (count old)) s.world s.ledger (Munmap p a len) events Done []) (λ e. Refuses e events Done [])) (sym munmap-allowed) (refl, refl, refl);
         notes = sym cleared.taken.notes;
@@ -313,7 +352,7 @@ module _ (old : Mem) (s : State) (p len : ℕ) (prot : Prot) (place : Place) (ke
   module _ (mid : Mem) (spaces : AllSpaces) (anons : AnonSet) (page : ℕ) (placed : IsPlaced (pages s.world p) (pages_of len) place (Ok page)) (clear : AreToClear (is_taken old.spaces.processes p) page (pages_of len) place)
       (same_count : count mid ≡ count old) (cleared : AreCleared old mid p page (pages_of len) (with_room (pages_of len) place (areas_on old.spaces.processes p)) s.ledger (zaps_for_place s.ledger p (pages_of len) place))
       (given : HasProts mid.spaces.processes spaces.processes p (set_on page (pages_of len) (Some prot) (prot_of (ranges_of mid.spaces.processes p)))) (areas : HasAreas mid.spaces.processes spaces.processes p (after_map (lengths mid.spaces.areas mid.anons) p page (page + pages_of len) prot (areas_on mid.spaces.processes p)))
-      (stay : AnonsStay mid.spaces mid.anons spaces anons) where
+      (stay : AnonsStay mid.spaces mid.anons spaces anons) (given_homes : HomesStay mid.spaces.processes spaces.processes p page (pages_of len)) where
     alike : (q : ℕ) → after_map (lengths mid.spaces.areas mid.anons) p page (page + pages_of len) prot (areas_on mid.spaces.processes p) q ≡ after_map (chain_length s.anons) p page (page + pages_of len) prot (areas_on mid.spaces.processes p) q
     alike = map_alike (lengths mid.spaces.areas mid.anons) (chain_length s.anons) p page (page + pages_of len) prot (areas_on mid.spaces.processes p) refl (lengths_alike old s keeps mid.spaces mid.anons cleared.anons p)
 
@@ -326,7 +365,8 @@ module _ (old : Mem) (s : State) (p len : ℕ) (prot : Prot) (place : Place) (ke
         (λ q at. entry-cleared place page (pages_of len) q at clear) (λ i below. refl) (twice_changed old.spaces.processes mid.spaces.processes spaces.processes p page (pages_of len) None (Some prot) cleared.spaces given)
         (areas_so old (moved_on mid mid.tables spaces anons) s p (λ on. after_map (chain_length s.anons) p page (page + pages_of len) prot (with_room (pages_of len) place on)) keeps
         (twice_placed old.spaces.processes mid.spaces.processes spaces.processes p (after_map (chain_length s.anons) p page (page + pages_of len) prot) (with_room (pages_of len) place (areas_on old.spaces.processes p)) cleared.areas (re_areas mid.spaces.processes spaces.processes p _ _ alike areas)))
-        (stay_both old.spaces mid.spaces spaces old.anons mid.anons anons cleared.anons stay) cleared.processes cleared.bytes
+        (stay_both old.spaces mid.spaces spaces old.anons mid.anons anons cleared.anons stay) cleared.processes cleared.bytes cleared.homes (λ at home outside is. given_homes at home outside (cleared.stay at home outside is))
+        (place-silent s.ledger p (pages_of len) place (rmap_of s))
         (record {
           answer = subst (λ o. MatchOption o (Follows (setting (count old)) s.world s.ledger (Mmap p len prot place) events (MapAt (address_of page)) []) (λ e. Refuses e events (MapAt (address_of page)) [])) (sym (mmap-tests ∙ placed.0))
               (Some page, placed.1, refl, refl, refl);
@@ -340,7 +380,7 @@ module _ (old : Mem) (s : State) (p len : ℕ) (prot : Prot) (place : Place) (ke
 module _ (old : Mem) (spaces : AllSpaces) (anons : AnonSet) (s : State) (p a len reached : ℕ) (prot : Prot) (keeps : Keeps old s) (alive : is_some (ranges_of old.spaces.processes p) ≡ true) (passed : refusal ((not (is_on_page a), Einval) ∷ (wraps a len, Enomem) ∷ []) ≡ None)
     (reaches : IsReached (is_taken old.spaces.processes p) (page_of a) (page_of a + pages_of len) reached) (given : HasProts old.spaces.processes spaces.processes p (set_on (page_of a) (reached - page_of a) (Some prot) (prot_of (ranges_of old.spaces.processes p))))
     (areas : HasAreas old.spaces.processes spaces.processes p (pages_changed (lengths old.spaces.areas old.anons) (to_prot prot) (page_of a) (reached - page_of a) (areas_on old.spaces.processes p)))
-    (stay : AnonsStay old.spaces old.anons spaces anons) where
+    (stay : AnonsStay old.spaces old.anons spaces anons) (homes : KeepsHomes (areas_on old.spaces.processes p) (areas_on spaces.processes p)) where
   mprotect-allowed : refusal (tests (setting (count old)) s.world s.ledger (Mprotect p a len prot)) ≡ None
   mprotect-allowed = ap (λ b. cond (not b) (Some Esrch) (refusal ((not (is_on_page a), Einval) ∷ (wraps a len, Enomem) ∷ []))) (sym (lives_is old s keeps p) ∙ sym (alive_is old.spaces.processes p) ∙ alive) ∙ passed
 
@@ -403,6 +443,17 @@ module _ (old : Mem) (spaces : AllSpaces) (anons : AnonSet) (s : State) (p a len
       by true = kept (entry s.ledger (p, page)) (pages s.world p page) (keeps.stands.parts.bytes.kept p page)
       by false = keeps.stands.parts.bytes.kept p page
 
+  home_protected : (page : ℕ) (home : ℕ × ℕ) → home_of page (s.areas p page) ≡ Some home → home_of page (pages_changed (chain_length s.anons) (to_prot prot) (page_of a) (reached - page_of a) (s.areas p) page) ≡ Some home
+  home_protected page home is = sym (ap (home_of page) (now_there page)) ∙ homes page home (ap (home_of page) (keeps.stands.areas p page) ∙ is)
+    where
+      itself : (p : ℕ) → (p == p) ≡ true
+      itself p = grind (arith, nat_tests)
+
+      now_there : (page : ℕ) → areas_on spaces.processes p page ≡ pages_changed (chain_length s.anons) (to_prot prot) (page_of a) (reached - page_of a) (s.areas p) page
+      now_there page =
+          areas p page ∙ ap (λ b. (cond b (pages_changed (lengths old.spaces.areas old.anons) (to_prot prot) (page_of a) (reached - page_of a) (areas_on old.spaces.processes p)) (areas_on old.spaces.processes p)) page) (itself p)
+          ∙ changed_alike page ∙ (λ i. pages_changed (chain_length s.anons) (to_prot prot) (page_of a) (reached - page_of a) (λ o. keeps.stands.areas p o i) page)
+
   protected-steps : (answer : Answer) → answer ≡ (cond (pages_to_hole (pages s.world p) (page_of a) (pages_of len) == pages_of len) Done (Refused Enomem))
       → set_process s.world p (with_prot_on (pages s.world p) (page_of a) (reached - page_of a) prot) ≡ next_world (setting (count old)) s.world s.ledger [] (Mprotect p a len prot) answer
       → with_at p (pages_changed (chain_length s.anons) (to_prot prot) (page_of a) (reached - page_of a) (s.areas p)) s.areas ≡ next_areas (chain_length s.anons) s.areas s.world (Mprotect p a len prot) answer
@@ -411,7 +462,7 @@ module _ (old : Mem) (spaces : AllSpaces) (anons : AnonSet) (s : State) (p a len
       let now : Process = with_prot_on (pages s.world p) (page_of a) (reached - page_of a) prot in
       let new = moved_on old old.tables spaces anons in
       let now_on = areas_so old new s p (pages_changed (chain_length s.anons) (to_prot prot) (page_of a) (reached - page_of a)) keeps (re_areas old.spaces.processes spaces.processes p _ _ changed_alike areas) in
-      changed old new s (Mprotect p a len prot) (answer_only answer) p now (pages_changed (chain_length s.anons) (to_prot prot) (page_of a) (reached - page_of a) (s.areas p)) s.ledger keeps stay refl (stays_orderly old old.tables spaces anons s.ledger refl (orderly old s keeps)) refl (λ q page other. refl) kept-protected
+      changed old new s (Mprotect p a len prot) (answer_only answer) p now (pages_changed (chain_length s.anons) (to_prot prot) (page_of a) (reached - page_of a) (s.areas p)) s.ledger keeps stay refl (stays_orderly old old.tables spaces anons s.ledger refl (orderly old s keeps)) refl refl (λ q page other. refl) kept-protected (λ page f names. names) (λ page f home names is. home_protected page home is)
       (record {
         events = [];
         legal = record {
@@ -421,7 +472,7 @@ module _ (old : Mem) (spaces : AllSpaces) (anons : AnonSet) (s : State) (p a len
         world = world;
         ledger = refl;
         free = keeps.stands.free;
-        rmap = record { areas = next; anons = are_left old s keeps spaces anons stay _ now_on };
+        rmap = record { areas = next; anons = are_left old s keeps spaces anons stay _ now_on; homes = refl };
       })
       now_on
       (areas_changed old new s p now (set_on (page_of a) (reached - page_of a) (Some prot) (prot_of (ranges_of old.spaces.processes p))) keeps alive given covered-protected)

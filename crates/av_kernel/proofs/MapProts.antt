@@ -9,7 +9,7 @@ use Rattle.av_base.specs.Words.{within}
 use Rattle.av_vma.specs.declared.area.Area.{Area}
 use Rattle.av_vmatree.specs.Spans.{IsFree}
 use Rattle.av_vma.specs.Gap.{IsRoom}
-use Rattle.av_vma.specs.Pages.{Lengths, AreLaid, Pages, cut_at, without_range, with_area, joined_around, fresh_area, after_map, pages_in, after_unmap, pages_changed, to_prot}
+use Rattle.av_vma.specs.Pages.{home_of, Lengths, AreLaid, Pages, cut_at, without_range, with_area, joined_around, fresh_area, after_map, pages_in, after_unmap, pages_changed, to_prot}
 use Rattle.av_merge.specs.Mapping.{Mapping, mapping, mapping_in, mapping_with, IsRemapped}
 use Rattle.av_merge.specs.Pages.{IsReached}
 use Rattle.av_vma.proofs.Laid.{fresh_has, has_area, laid_fresh}
@@ -20,7 +20,8 @@ use Rattle.av_plain.specs.Stands.{prot_of}
 use Rattle.av_plain.specs.Report.{range_of}
 use Rattle.av_reclaim.specs.Mem.{ranges_of}
 use Rattle.av_reclaim.proofs.MemLaws.{prot_on, alive_is, prots_are, all_apart}
-use Rattle.av_kernel.specs.Map.{set_on, HasAreas, HasProts}
+use Rattle.av_vma.proofs.Homes.{KeepsHomes, homes_changed, homes_mapped, homes_unmapped}
+use Rattle.av_kernel.specs.Map.{set_on, HasAreas, HasProts, HomesStay}
 use Rattle.av_kernel.proofs.StepLaws.{is_number, other_number}
 
 -- the protections of pages
@@ -140,3 +141,22 @@ pub protected-prots : (len : Lengths) (s t : Spaces) (p from to past : ℕ) (pro
     → HasProts s t p (set_on from (past - from) (Some prot) (prot_of (ranges_of s p)))
 protected-prots len s t p from to past prot reached h remap = has_prots s t p (AreThese (pages_changed len (to_prot prot) from (past - from) (pages_of s p))) (set_on from (past - from) (Some prot) (prot_of (ranges_of s p))) h
     (λ page. prots_protected (pages_of s p) from to past prot (pages_of t p) reached remap page ∙ as_ranges s p from (past - from) page (Some prot))
+
+-- ---- and as homes
+
+pub unmapped-homes : (s t : Spaces) (p from n : ℕ) → IsChanged s t p (AreThese (after_unmap from (from + n) (pages_of s p))) → HomesStay s t p from n
+unmapped-homes s t p from n h page home outside is =
+    ap (home_of page) (h.pages page) ∙ homes_unmapped from (from + n) (pages_of s p) (laid s p h.were_rising) page (ap (λ m. within from m page) (width from n) ∙ outside) ∙ is
+  where
+    width : (from n : ℕ) → (from + n) - from ≡ n
+    width from n = omega arith
+
+pub mapped-homes : (len : Lengths) (s t : Spaces) (p from n : ℕ) (prot : Prot) → 1 ≤ n → low_page ≤ from → from + n ≤ top_page → IsFree (is_taken s p) from (from + n)
+    → IsChanged s t p (AreThese (after_map len p from (from + n) prot (pages_of s p))) → HomesStay s t p from n
+mapped-homes len s t p from n prot some low high free h page home outside is =
+    ap (home_of page) (h.pages page) ∙ homes_mapped len p from (from + n) prot (pages_of s p) (laid s p h.were_rising) (omega (arith, some))
+    (record { lowest = low; highest = omega (arith, high); free = λ q least most. free q least (omega (arith, most)) }) page home is
+
+pub protected-homes : (len : Lengths) (s t : Spaces) (p from n : ℕ) (prot : Prot) → IsChanged s t p (AreThese (pages_changed len (to_prot prot) from n (pages_of s p))) → KeepsHomes (pages_of s p) (pages_of t p)
+protected-homes len s t p from n prot h page home is =
+    ap (home_of page) (h.pages page) ∙ homes_changed len (to_prot prot) from n (pages_of s p) (laid s p h.were_rising) page home is

@@ -16,7 +16,8 @@ use Rattle.av_plain.specs.Access.{Accesses, End, Stopped as EndStopped, Whole, p
 use Rattle.av_plain.specs.Fault as faults
 use Rattle.av_plain.specs.Fault.{Touches}
 use Rattle.av_plain.specs.Sound.{AllSound}
-use Rattle.av_plain.specs.Areas.{Anons, Areas, Rmap, prepare_all}
+use Rattle.av_plain.specs.Areas.{Rmap, rmap_after_all}
+use Rattle.av_plain.specs.Covered.{IsRmapSound}
 use Rattle.av_plain.specs.Choice.{ChoosesAll, Free, ListsFree}
 use Rattle.av_plain.specs.Stands.{AnonsStand, AreasAre, free_of}
 use Rattle.av_spaces.specs.Kin.{AnonsFit}
@@ -87,17 +88,19 @@ sound_written n w l p page at piece notes s alive some fits h =
 
 -- ---- the kernel
 
-pub keeps_now : (k : Mem) (w : World) (l : Ledger) (areas : Areas) (anons : Anons) → KeepsWithin k w l → AllSound (setting (count k)) w l → ListsFree (setting (count k)) l (view k).free → AreasAre (view k) areas → AnonsStand (view k) areas anons
-    → Keeps k (record { world = w; ledger = l; free = free_of (view k); areas = areas; anons = anons })
-keeps_now k w l areas anons h sound free same same_anons = record {
+pub keeps_now : (k : Mem) (w : World) (l : Ledger) (r : Rmap) → KeepsWithin k w l → AllSound (setting (count k)) w l → ListsFree (setting (count k)) l (view k).free → HasRmap k r → IsRmapSound l r
+    → Keeps k (record { world = w; ledger = l; free = free_of (view k); areas = r.areas; anons = r.anons; homes = r.homes })
+keeps_now k w l r h sound free rmap reach = record {
   stands = record {
     over = record { sizes = refl; headers = refl };
     sound = sound;
     parts = h.parts;
     free = refl;
     lists = listed k (setting (count k)) l (view k).free h.parts.ledger.swap free;
-    areas = same;
-    anons = same_anons;
+    areas = rmap.areas;
+    anons = rmap.anons;
+    homes = rmap.homes;
+    reach = reach;
   };
   anons = h.anons;
   tables = h.tables;
@@ -122,18 +125,18 @@ module _ (s : State) (old : Mem) (p page at : ℕ) (piece : List ℕ) (before no
   -- it was not served
   pub stopped : (new : Mem) (write : Bool) (stop : Stop) → count new ≡ count old → IsTouched s new write (p, page) before now (Stopped stop) → IsPageStep s new write p page at piece before now (Some stop)
   stopped new write stop same t =
-      let rs : Rmap = prepare_all (page_events write (p, page) t.added (Some (stop_of stop))) (rmap_of s) in record {
+      let rs : Rmap = rmap_after_all s.ledger (page_events write (p, page) t.added (Some (stop_of stop))) (rmap_of s) in record {
         added = t.added;
         notes = t.notes;
         touches = t.touches;
-        next = record { world = s.world; ledger = after_all s.ledger (page_events write (p, page) t.added (Some (stop_of stop))); free = free_of (view new); areas = rs.areas; anons = rs.anons };
+        next = record { world = s.world; ledger = after_all s.ledger (page_events write (p, page) t.added (Some (stop_of stop))); free = free_of (view new); areas = rs.areas; anons = rs.anons; homes = rs.homes };
         world = world_is write;
         ledger = refl;
         free = t.free;
         rmap = refl;
-        keeps = keeps_now new s.world (after_all s.ledger (page_events write (p, page) t.added (Some (stop_of stop)))) rs.areas rs.anons t.parts
+        keeps = keeps_now new s.world (after_all s.ledger (page_events write (p, page) t.added (Some (stop_of stop)))) rs t.parts
             (sound_touched (setting (count new)) s.world s.ledger write p page t.added (Some (stop_of stop)) (subst (λ n. AllSound (setting n) s.world s.ledger) (sym same) keeps.stands.sound) t.touches)
-            (free_listed (count new) write t.added (Some (stop_of stop)) (free_of (view new)) (sym same) t.touches t.free) t.rmap.areas t.rmap.anons;
+            (free_listed (count new) write t.added (Some (stop_of stop)) (free_of (view new)) (sym same) t.touches t.free) t.rmap t.reach;
       }
     where
       world_is : (write : Bool) → s.world ≡ world_after write p page at piece (Some stop) s.world
@@ -145,21 +148,22 @@ module _ (s : State) (old : Mem) (p page at : ℕ) (piece : List ℕ) (before no
   read_served new ready same served t =
       let touches : Touches (setting (count new)) s.world s.ledger false (p, page) t.added None = subst (Touches (setting (count new)) s.world s.ledger false (p, page) t.added) served t.touches in
       let after = ap (λ end. after_all s.ledger (page_events false (p, page) t.added end)) served in
-      let rs : Rmap = prepare_all (page_events false (p, page) t.added None) (rmap_of s) in
-      let rmap : HasRmap new rs = subst (λ end. HasRmap new (prepare_all (page_events false (p, page) t.added end) (rmap_of s))) served t.rmap in
+      let rs : Rmap = rmap_after_all s.ledger (page_events false (p, page) t.added None) (rmap_of s) in
+      let rmap : HasRmap new rs = subst (λ end. HasRmap new (rmap_after_all s.ledger (page_events false (p, page) t.added end) (rmap_of s))) served t.rmap in
+      let reach : IsRmapSound (after_all s.ledger (page_events false (p, page) t.added None)) rs = subst (λ end. IsRmapSound (after_all s.ledger (page_events false (p, page) t.added end)) (rmap_after_all s.ledger (page_events false (p, page) t.added end) (rmap_of s))) served t.reach in
       let chosen = subst (λ end. ChoosesAll (setting (count new)) None s.ledger (page_events false (p, page) t.added end) s.free (free_of (view new))) served t.free in
       record {
         added = t.added;
         notes = t.notes;
         touches = touches;
-        next = record { world = s.world; ledger = after_all s.ledger (page_events false (p, page) t.added None); free = free_of (view new); areas = rs.areas; anons = rs.anons };
+        next = record { world = s.world; ledger = after_all s.ledger (page_events false (p, page) t.added None); free = free_of (view new); areas = rs.areas; anons = rs.anons; homes = rs.homes };
         world = refl;
         ledger = refl;
         free = chosen;
         rmap = refl;
-        keeps = keeps_now new s.world (after_all s.ledger (page_events false (p, page) t.added None)) rs.areas rs.anons (subst (KeepsWithin new s.world) after t.parts)
+        keeps = keeps_now new s.world (after_all s.ledger (page_events false (p, page) t.added None)) rs (subst (KeepsWithin new s.world) after t.parts)
             (sound_touched (setting (count new)) s.world s.ledger false p page t.added None (subst (λ n. AllSound (setting n) s.world s.ledger) (sym same) keeps.stands.sound) touches)
-            (free_listed (count new) false t.added None (free_of (view new)) (sym same) touches chosen) rmap.areas rmap.anons;
+            (free_listed (count new) false t.added None (free_of (view new)) (sym same) touches chosen) rmap reach;
       }
 
   -- it was served to a write, and then the piece was laid over the frame's bytes
@@ -168,7 +172,7 @@ module _ (s : State) (old : Mem) (p page at : ℕ) (piece : List ℕ) (before no
       → IsPageStep s new true p page at piece before now None
   written_served mid new f same alive some fits t frames tables spaces anons =
       let l = after_all s.ledger (page_events true (p, page) t.added None) in
-      let rs : Rmap = prepare_all (page_events true (p, page) t.added None) (rmap_of s) in
+      let rs : Rmap = rmap_after_all s.ledger (page_events true (p, page) t.added None) (rmap_of s) in
       let m = setting (count mid) in
       let view_is : view new ≡ over f at piece (view mid) = λ i. view_of_parts (frames i) (λ q o. plain (entry_at (tables i) q o)) (spaces i) (anons i) in
       let sound = sound_written (count mid) s.world s.ledger p page at piece t.added (subst (λ n. AllSound (setting n) s.world s.ledger) (sym same) keeps.stands.sound) alive some fits t.touches in
@@ -182,15 +186,19 @@ module _ (s : State) (old : Mem) (p page at : ℕ) (piece : List ℕ) (before no
         added = t.added;
         notes = t.notes;
         touches = touches;
-        next = record { world = after_write s.world p (4096 * page + at) piece; ledger = l; free = free_of (view new); areas = rs.areas; anons = rs.anons };
+        next = record { world = after_write s.world p (4096 * page + at) piece; ledger = l; free = free_of (view new); areas = rs.areas; anons = rs.anons; homes = rs.homes };
         world = refl;
         ledger = refl;
         free = chosen;
         rmap = refl;
-        keeps = keeps_now new (after_write s.world p (4096 * page + at) piece) l rs.areas rs.anons
+        keeps = keeps_now new (after_write s.world p (4096 * page + at) piece) l rs
             (to_stand new (after_write s.world p (4096 * page + at) piece) l (subst (λ n. Parts (setting n) (view new) (after_write s.world p (4096 * page + at) piece) l) count_is parts')
             (λ q. ap (λ t. has t q) tables ∙ t.parts.tables q ∙ sym (ap (λ (x : AllSpaces). is_some (ranges_of x.processes q)) spaces)) (subst (λ x. AnonsFit x new.anons) (sym spaces) (subst (AnonsFit mid.spaces) (sym anons) t.parts.anons)))
             (subst (λ n. AllSound (setting n) (after_write s.world p (4096 * page + at) piece) l) count_is sound)
             (free_listed (count new) true t.added None (free_of (view new)) (sym same ∙ count_is) touches chosen)
-            (λ q o. ap (λ (x : AllSpaces). areas_on x.processes q o) spaces ∙ t.rmap.areas q o) (anons_still (view mid) (view new) rs.areas rs.anons (λ i. anons_of (spaces i) (anons i)) t.rmap.anons);
+            (record {
+              areas = λ q o. ap (λ (x : AllSpaces). areas_on x.processes q o) spaces ∙ t.rmap.areas q o;
+              anons = anons_still (view mid) (view new) rs.areas rs.anons (λ i. anons_of (spaces i) (anons i)) t.rmap.anons;
+              homes = λ g. ap (λ (x : Seen). x.home g) frames ∙ t.rmap.homes g;
+            }) t.reach;
       }

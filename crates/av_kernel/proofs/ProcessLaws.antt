@@ -1,8 +1,8 @@
 -- A process that comes, and one that ends: its entries, its table and its areas have gone, and nothing of the others.
-use Rattle.std.proofs.Common.{◌≡◌, ℕ, suc, ◌+◌, ◌<◌, ◌≤◌, nat_le, Bool, true, false, cond, not, T, [], ◌∷◌, length, Some, None, is_some, option_map, refl, sym, ap, subst, ◌∙◌, arith, ◌==◌}
+use Rattle.std.proofs.Common.{◌≡◌, ℕ, suc, ◌+◌, ◌<◌, ◌≤◌, nat_le, Bool, true, false, cond, not, T, [], ◌∷◌, length, Some, None, is_some, option_map, refl, sym, ap, subst, ◌∙◌, arith, ◌==◌, Option, List}
 use Rattle.std.proofs.lemmas.Bool.Decides.{nat_tests}
 use Rattle.std.proofs.lemmas.Bool.{false≢true}
-use Rattle.std.specs.Prelude.{MatchOption, map}
+use Rattle.std.specs.Prelude.{IsSomeAnd, MatchOption, map, option_and_then}
 use Rattle.std.specs.Ordering.{nat_cmp, is_eq, is_lt, eq_by_cmp}
 use Rattle.std.specs.FinMap.Entries.{is_sorted, below_all, find}
 use Rattle.av_base.specs.Limits.{most_processes}
@@ -13,8 +13,8 @@ use Rattle.av_trace.specs.declared.reply.Answer.TheVariants.{Done}
 use Rattle.av_pagetable.specs.declared.pte.Pte.{Pte}
 use Rattle.av_pagetable.specs.declared.pte.Pte.TheVariants.{Empty}
 use Rattle.av_pagetable.specs.Entries.{ProcessTables, entry_at, has}
-use Rattle.av_plain.specs.World.{World, Page, no_pages, lives, pages, set_process, end_process}
-use Rattle.av_plain.specs.Ledger.{entry, names_frame}
+use Rattle.av_plain.specs.World.{Process, World, Page, no_pages, lives, pages, set_process, end_process}
+use Rattle.av_plain.specs.Ledger.{Entry, Key, entry, names_frame}
 use Rattle.av_plain.specs.Event.{after_all}
 use Rattle.av_plain.specs.Fault.{is_shared}
 use Rattle.av_plain.specs.Zap.{keys_of_process, zaps_of}
@@ -22,9 +22,10 @@ use Rattle.av_plain.specs.Refusal.{tests, refusal, Refuses}
 use Rattle.av_plain.specs.Step.{Follows}
 use Rattle.av_plain.specs.Choice.{ChoosesAll}
 use Rattle.av_plain.specs.Device.{no_device}
-use Rattle.av_plain.proofs.AreasLeft.{prepare_all-silent}
+use Rattle.av_plain.proofs.AreasLeft.{rmap_after_all-zaps}
+use Rattle.av_plain.proofs.Covered.{Names}
 use Rattle.av_plain.specs.Areas.{AreNext, none_on}
-use Rattle.av_vma.specs.Pages.{pages_in}
+use Rattle.av_vma.specs.Pages.{home_of, pages_in}
 use Rattle.av_plain.specs.Stands.{AreasAre, free_of, Pte as Plain, IsKept, entry_of, prot_of, AreasStand, TablesStand}
 use Rattle.av_plain.specs.Transcript.{State, IsStep, rmap_of}
 use Rattle.av_plain.proofs.Ledger.Order.{both_first, both_second}
@@ -41,7 +42,7 @@ use Rattle.av_reclaim.proofs.MemLaws.{alive_is, lives_is, all_apart, kept-nothin
 use Rattle.av_anon.specs.declared.anons.Anons.{Anons as AnonSet}
 use Rattle.av_spaces.specs.Kin.{AnonsStay}
 use Rattle.av_reclaim.proofs.AnonLaws.{anons_stand, are_left, left_of}
-use Rattle.av_kernel.proofs.StepLaws.{is_number, orderly, moved_on, stays_orderly, state_after, changed, kept-on, stepped}
+use Rattle.av_kernel.proofs.StepLaws.{AreLeftIn, reach_after, is_number, orderly, moved_on, stays_orderly, state_after, changed, kept-on, stepped}
 
 -- ---- the ranges of a process that comes or goes
 
@@ -110,7 +111,7 @@ module _ (old : Mem) (tables : ProcessTables) (spaces : AllSpaces) (s : State) (
     world = refl;
     ledger = refl;
     free = keeps.stands.free;
-    rmap = record { areas = refl; anons = are_left old s keeps spaces old.anons stay (with_at p none_on s.areas) spawn-on };
+    rmap = record { areas = refl; anons = are_left old s keeps spaces old.anons stay (with_at p none_on s.areas) spawn-on; homes = refl };
   }
 
   spawn-alive : (q : ℕ) → is_some (areas_of spaces.processes q) ≡ lives (set_process s.world p no_pages) q
@@ -140,9 +141,24 @@ module _ (old : Mem) (tables : ProcessTables) (spaces : AllSpaces) (s : State) (
       by true = refl
       by false = keeps.tables q
 
+  -- a process that did not live has no entry
+  no_entry : (page f : ℕ) → Names s.ledger (p, page) f → ⊥
+  no_entry page f names = by (entry s.ledger (p, page)) refl names
+    where
+      by : (o : Option Entry) → entry s.ledger (p, page) ≡ o → IsSomeAnd o (λ e. names_frame f e ≡ true) → ⊥
+      by None is names = names
+      by (Some e) is names = dead (keeps.stands.sound.at_pages p page (ap is_some is))
+        where
+          dead : is_some (pages s.world p page) ≡ true → ⊥
+          dead there = none (find nat_cmp p s.world) dead_before there
+            where
+              none : (o : Option Process) → is_some o ≡ false → is_some (option_and_then (λ (q : Process). q page) o) ≡ true → ⊥
+              none None gone there = false≢true there
+              none (Some q) gone there = false≢true (sym gone)
+
   pub spawned-steps : MemSteps old (moved_on old tables spaces old.anons) s (Spawn p) (answer_only Done)
-  spawned-steps = changed old (moved_on old tables spaces old.anons) s (Spawn p) (answer_only Done) p no_pages none_on s.ledger keeps stay refl (stays_orderly old tables spaces old.anons s.ledger entries (orderly old s keeps)) refl
-      (λ q page other. refl) (λ page. kept-nothing (view old) s.ledger (entry s.ledger (p, page))) spawn-step spawn-on spawn-areas spawn-tables
+  spawned-steps = changed old (moved_on old tables spaces old.anons) s (Spawn p) (answer_only Done) p no_pages none_on s.ledger keeps stay refl (stays_orderly old tables spaces old.anons s.ledger entries (orderly old s keeps)) refl refl
+      (λ q page other. refl) (λ page. kept-nothing (view old) s.ledger (entry s.ledger (p, page))) (λ page f names. names) (λ page f home names is. absurd (no_entry page f names)) spawn-step spawn-on spawn-areas spawn-tables
 
 -- ---- exit: the memories
 
@@ -187,7 +203,7 @@ lives-ended w p q = ap is_some (process-ended w p q) ∙ by (q == p)
 -- ---- exit: the end
 
 module _ (old mid : Mem) (tables : ProcessTables) (spaces : AllSpaces) (anons : AnonSet) (s : State) (p : ℕ) (keeps : Keeps old s) (alive : is_some (ranges_of old.spaces.processes p) ≡ true)
-    (taken : HasZapped old mid s.ledger (zaps_of s.ledger (keys_of_process s.ledger p))) (bytes : (view mid).bytes ≡ (view old).bytes) (same_spaces : mid.spaces ≡ old.spaces) (same_tables : has mid.tables ≡ has old.tables) (same_count : count mid ≡ count old)
+    (taken : HasZapped old mid s.ledger (zaps_of s.ledger (keys_of_process s.ledger p))) (bytes : (view mid).bytes ≡ (view old).bytes) (homes : (view mid).homes ≡ (view old).homes) (same_spaces : mid.spaces ≡ old.spaces) (same_tables : has mid.tables ≡ has old.tables) (same_count : count mid ≡ count old)
     (processes : has tables ≡ with_at p false (has mid.tables)) (entries : entry_at tables ≡ with_at p (λ page. Empty) (entry_at mid.tables)) (ended : IsEnded mid.spaces.processes spaces.processes p)
     (stay : AnonsStay old.spaces old.anons spaces anons) where
   alive_now : lives s.world p ≡ true
@@ -203,7 +219,7 @@ module _ (old mid : Mem) (tables : ProcessTables) (spaces : AllSpaces) (anons : 
       by true = refl
       by false = ap (λ (x : AllSpaces). pages_of x.processes q page) same_spaces ∙ keeps.stands.areas q page
 
-  exit-step : IsStep (setting (count old)) s (Exit p) (answer_only Done) (record { world = end_process s.world p; ledger = after_all s.ledger (zaps_of s.ledger (keys_of_process s.ledger p)); free = free_of (view mid); areas = with_at p none_on s.areas; anons = left_of anons s.anons })
+  exit-step : IsStep (setting (count old)) s (Exit p) (answer_only Done) (record { world = end_process s.world p; ledger = after_all s.ledger (zaps_of s.ledger (keys_of_process s.ledger p)); free = free_of (view mid); areas = with_at p none_on s.areas; anons = left_of anons s.anons; homes = s.homes })
   exit-step = record {
     events = zaps_of s.ledger (keys_of_process s.ledger p);
     legal = record {
@@ -213,8 +229,8 @@ module _ (old mid : Mem) (tables : ProcessTables) (spaces : AllSpaces) (anons : 
     world = refl;
     ledger = refl;
     free = subst (λ free. ChoosesAll (setting (count old)) None s.ledger (zaps_of s.ledger (keys_of_process s.ledger p)) free (free_of (view mid))) keeps.stands.free taken.free;
-    rmap = subst (λ r. AreNext r s.world (Exit p) Done (rmap_of (record { world = end_process s.world p; ledger = after_all s.ledger (zaps_of s.ledger (keys_of_process s.ledger p)); free = free_of (view mid); areas = with_at p none_on s.areas; anons = left_of anons s.anons })))
-        (sym (prepare_all-silent (zaps_of s.ledger (keys_of_process s.ledger p)) (rmap_of s) taken.notes)) (record { areas = refl; anons = are_left old s keeps spaces anons stay (with_at p none_on s.areas) exit-on });
+    rmap = subst (λ r. AreNext r s.world (Exit p) Done (rmap_of (record { world = end_process s.world p; ledger = after_all s.ledger (zaps_of s.ledger (keys_of_process s.ledger p)); free = free_of (view mid); areas = with_at p none_on s.areas; anons = left_of anons s.anons; homes = s.homes })))
+        (sym (rmap_after_all-zaps s.ledger (keys_of_process s.ledger p) s.ledger (rmap_of s))) (record { areas = refl; anons = are_left old s keeps spaces anons stay (with_at p none_on s.areas) exit-on; homes = refl });
   }
 
   -- ---- what stands then
@@ -293,6 +309,26 @@ module _ (old mid : Mem) (tables : ProcessTables) (spaces : AllSpaces) (anons : 
         };
   }
 
+  -- only entries of others are left
+  left_in : AreLeftIn s (after_all s.ledger (zaps_of s.ledger (keys_of_process s.ledger p))) (with_at p none_on s.areas)
+  left_in = record {
+    there = λ k f names. there k f names (k.0 == p) refl;
+    home = λ k f home names is. stays k f home names is (k.0 == p) refl;
+  }
+    where
+      gone : (k : Key) (f : ℕ) → (k.0 == p) ≡ true → Names (after_all s.ledger (zaps_of s.ledger (keys_of_process s.ledger p))) k f → ⊥
+      gone k f e names = subst (λ o. IsSomeAnd o (λ e. names_frame f e ≡ true)) (ap (λ n. entry (after_all s.ledger (zaps_of s.ledger (keys_of_process s.ledger p))) (n, k.1)) (is_number k.0 p e) ∙ entry-ended s.ledger p k.1) names
+
+      there : (k : Key) (f : ℕ) → Names (after_all s.ledger (zaps_of s.ledger (keys_of_process s.ledger p))) k f → (b : Bool) → (k.0 == p) ≡ b → Names s.ledger k f
+      there k f names true e = absurd (gone k f e names)
+      there k f names false e = subst (λ o. IsSomeAnd o (λ e. names_frame f e ≡ true)) (entry-others s.ledger p k.0 k.1 e) names
+
+      stays : (k : Key) (f : ℕ) (home : ℕ × ℕ) → Names (after_all s.ledger (zaps_of s.ledger (keys_of_process s.ledger p))) k f → home_of k.1 (s.areas k.0 k.1) ≡ Some home → (b : Bool) → (k.0 == p) ≡ b
+          → home_of k.1 ((cond b none_on (s.areas k.0)) k.1) ≡ Some home
+      stays k f home names is true e = absurd (gone k f e names)
+      stays k f home names is false e = is
+
   pub exit-steps : MemSteps old (record { frames = mid.frames; tables = tables; spaces = spaces; anons = anons }) s (Exit p) (answer_only Done)
-  exit-steps = stepped old (record { frames = mid.frames; tables = tables; spaces = spaces; anons = anons }) s (record { world = end_process s.world p; ledger = after_all s.ledger (zaps_of s.ledger (keys_of_process s.ledger p)); free = free_of (view mid); areas = with_at p none_on s.areas; anons = left_of anons s.anons }) (Exit p) (answer_only Done)
-      keeps exit-step same_count stands_now refl exit-on (anons_stand old s keeps spaces anons stay (with_at p none_on s.areas) exit-on (record { frames = mid.frames; tables = tables; spaces = spaces; anons = anons }) refl refl) stay.fit areas_now has_now kept_now
+  exit-steps = stepped old (record { frames = mid.frames; tables = tables; spaces = spaces; anons = anons }) s (record { world = end_process s.world p; ledger = after_all s.ledger (zaps_of s.ledger (keys_of_process s.ledger p)); free = free_of (view mid); areas = with_at p none_on s.areas; anons = left_of anons s.anons; homes = s.homes }) (Exit p) (answer_only Done)
+      keeps exit-step same_count stands_now refl exit-on (anons_stand old s keeps spaces anons stay (with_at p none_on s.areas) exit-on (record { frames = mid.frames; tables = tables; spaces = spaces; anons = anons }) refl refl)
+      (λ f. ap (λ h. h f) homes ∙ keeps.stands.homes f) (reach_after old s keeps spaces anons stay (after_all s.ledger (zaps_of s.ledger (keys_of_process s.ledger p))) (with_at p none_on s.areas) exit-on left_in) stay.fit areas_now has_now kept_now

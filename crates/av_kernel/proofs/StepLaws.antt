@@ -3,7 +3,7 @@ use Rattle.std.proofs.Common.{◌≡◌, ◌≢◌, ℕ, Bool, true, false, cond
 use Rattle.std.proofs.lemmas.Bool.Decides.{nat_tests}
 use Rattle.std.proofs.lemmas.Bool.{false≢true}
 use Rattle.std.specs.Ordering.{nat_cmp, eq_by_cmp}
-use Rattle.std.specs.Prelude.{MatchOption, IsErr, IsErrAnd}
+use Rattle.std.specs.Prelude.{IsSomeAnd, MatchOption, IsErr, IsErrAnd}
 use Rattle.av_base.specs.declared.prot.Prot.{Prot}
 use Rattle.av_trace.specs.declared.command.Command.{Command}
 use Rattle.av_trace.specs.declared.reply.Errno.{Errno}
@@ -12,7 +12,7 @@ use Rattle.av_trace.specs.declared.reply.Reply.{Reply}
 use Rattle.av_trace.specs.declared.reply.Answer.{Answer}
 use Rattle.av_trace.specs.declared.reply.Answer.TheVariants.{Refused}
 use Rattle.av_plain.specs.World.{Process, Page, lives, pages, set_process}
-use Rattle.av_plain.specs.Ledger.{Ledger, Entry, Zero, InFrame, InSlot, entry, frame_at}
+use Rattle.av_plain.specs.Ledger.{Key, Ledger, Entry, Zero, InFrame, InSlot, entry, frame_at, names_frame}
 use Rattle.av_plain.specs.Refusal.{tests, refusal, Refuses}
 use Rattle.av_plain.specs.Step.{Follows}
 use Rattle.av_plain.specs.Transcript.{State, IsStep, rmap_of}
@@ -20,13 +20,16 @@ use Rattle.av_plain.specs.Sound.{AllSound}
 use Rattle.av_plain.specs.Device.{no_device}
 use Rattle.av_plain.specs.Choice.{Free, ListsAll, ListsFree}
 use Rattle.av_base.specs.Words.{with_at}
-use Rattle.av_vma.specs.Pages.{Pages}
-use Rattle.av_plain.specs.Stands.{View, Holds, IsKept, AnonsStand, AreasAre, kin_of, AreasStand, entry_of, free_of, prot_of}
+use Rattle.av_vma.specs.Pages.{Pages, home_of}
+use Rattle.av_plain.specs.Stands.{View, Holds, IsKept, AnonsStand, AreasAre, HomesAre, kin_of, AreasStand, entry_of, free_of, prot_of}
 use Rattle.av_anon.specs.declared.anons.Anons.{Anons as AnonSet}
 use Rattle.av_anon.specs.declared.infos.Info.{Info}
 use Rattle.av_spaces.specs.Kin.{AnonsFit, AnonsStay, chain_on, info_of}
 use Rattle.av_spaces.proofs.Kin.{stay_same}
-use Rattle.av_plain.specs.Areas.{AnonVma, Anons, AreLeft, AreNext, chain_length, next_areas}
+use Rattle.av_plain.specs.Areas.{AnonVma, Anons, AreLeft, AreNext, Areas, chain_length, next_areas}
+use Rattle.av_plain.specs.Covered.{IsRmapSound}
+use Rattle.av_plain.proofs.Covered.{Names, sound-next}
+use Rattle.av_vma.specs.declared.area.Area.{Area}
 use Rattle.av_reclaim.proofs.AnonLaws.{anons_stand, are_left, left_of}
 use Rattle.av_plain.proofs.FreeFrames.{step-lists_free}
 use Rattle.av_plain.proofs.Refusal.{refused-areas, refused-next}
@@ -35,7 +38,7 @@ use Rattle.av_plain.proofs.World.{pages-set, lives-set, length-set_old}
 use Rattle.av_pagetable.specs.Entries.{ProcessTables, entry_at, has}
 use Rattle.av_pagetable.specs.declared.pte.Pte.{Pte}
 use Rattle.av_reclaim.specs.declared.mem.Mem.{Mem}
-use Rattle.av_spaces.specs.Spaces.{AllSpaces, Spaces, areas_of}
+use Rattle.av_spaces.specs.Spaces.{AllSpaces, Spaces, areas_of, pages_of as areas_on}
 use Rattle.av_kernel.specs.Map.{HasProts}
 use Rattle.av_reclaim.specs.Mem.{anon_vma, ranges_of, setting, plain, view, count, HasTables, Keeps, HasLedger}
 use Rattle.av_kernel.specs.declared.refusal.Refusal.{Refusal}
@@ -73,7 +76,7 @@ left_alone k s keeps =
 -- so a command that leaves the areas leaves the anon_vmas
 pub areas_kept : (k : Mem) (s : State) (command : Command) (answer : Answer) → Keeps k s → next_areas (chain_length s.anons) s.areas s.world command answer ≡ s.areas
     → AreNext (rmap_of s) s.world command answer (rmap_of s)
-areas_kept k s command answer keeps stay = record { areas = sym stay; anons = left_alone k s keeps }
+areas_kept k s command answer keeps stay = record { areas = sym stay; anons = left_alone k s keeps; homes = refl }
 
 -- ---- a refusal
 
@@ -139,8 +142,8 @@ pub orderly : (k : Mem) (s : State) → Keeps k s → HasLedger k s.ledger
 orderly k s keeps = record { sound = keeps.stands.sound.ledger; parts = keeps.stands.parts.ledger }
 
 pub stepped : (old new : Mem) (s next : State) (command : Command) (reply : Reply) → Keeps old s → IsStep (setting (count old)) s command reply next → count new ≡ count old → HasLedger new next.ledger → free_of (view new) ≡ next.free
-    → AreasAre (view new) next.areas → AnonsStand (view new) next.areas next.anons → AnonsFit new.spaces new.anons → AreasStand (view new) next.world → HasTables new → ((q page : ℕ) → IsKept (view new) no_device next.ledger (entry next.ledger (q, page)) (pages next.world q page)) → MemSteps old new s command reply
-stepped old new s next command reply keeps step same_count stands free areas_now anons_now fit areas tables kept = record {
+    → AreasAre (view new) next.areas → AnonsStand (view new) next.areas next.anons → HomesAre (view new) next.homes → IsRmapSound next.ledger (rmap_of next) → AnonsFit new.spaces new.anons → AreasStand (view new) next.world → HasTables new → ((q page : ℕ) → IsKept (view new) no_device next.ledger (entry next.ledger (q, page)) (pages next.world q page)) → MemSteps old new s command reply
+stepped old new s next command reply keeps step same_count stands free areas_now anons_now homes_now reach fit areas tables kept = record {
   next = next;
   step = step;
   keeps = record {
@@ -157,6 +160,8 @@ stepped old new s next command reply keeps step same_count stands free areas_now
       lists = subst (ListsAll (setting (count new)) next.ledger) free (listed new (setting (count new)) next.ledger (view new).free stands.parts.swap lists);
       areas = areas_now;
       anons = anons_now;
+      homes = homes_now;
+      reach = reach;
     };
     tables = tables;
     anons = fit;
@@ -167,14 +172,32 @@ stepped old new s next command reply keeps step same_count stands free areas_now
     lists = subst (λ n. ListsFree (setting n) next.ledger (view new).free) (sym same_count)
         (subst (ListsFree (setting (count old)) next.ledger) (sym (ap (λ (f : Free). f.frames) free)) (step-lists_free (setting (count old)) s command reply next keeps.stands.sound keeps.stands.lists.frames step))
 
+-- ---- what reverse mapping goes by, after areas changed
+
+-- an entry that is left was there, and its page keeps the home that frames have from it
+pub record AreLeftIn (s : State) (l : Ledger) (on : Areas) : Type 0 where
+  pub there : (k : Key) (f : ℕ) → Names l k f → Names s.ledger k f
+  pub home : (k : Key) (f : ℕ) (home : ℕ × ℕ) → Names l k f → home_of k.1 (s.areas k.0 k.1) ≡ Some home → home_of k.1 (on k.0 k.1) ≡ Some home
+
+pub reach_after : (old : Mem) (s : State) → Keeps old s → (spaces : AllSpaces) (anons : AnonSet) → AnonsStay old.spaces old.anons spaces anons → (l : Ledger) (on : Areas) → ((q page : ℕ) → areas_on spaces.processes q page ≡ on q page)
+    → AreLeftIn s l on → IsRmapSound l (record { areas = on; anons = left_of anons s.anons; homes = s.homes })
+reach_after old s keeps spaces anons stay l on same left =
+    sound-next s.ledger l (rmap_of s) (record { areas = on; anons = left_of anons s.anons; homes = s.homes }) left.there left.home owns (are_left old s keeps spaces anons stay on same) refl keeps.stands.reach
+  where
+    owns : (p page v : ℕ) → IsSomeAnd (on p page) (λ area. area.anon ≡ Some v) → (q : ℕ) × (other : ℕ) × IsSomeAnd (s.areas q other) (λ area. area.anon ≡ Some v)
+    owns p page v is =
+        let had = stay.owned v (p, page, subst (λ o. IsSomeAnd o (λ area. area.anon ≡ Some v)) (sym (same p page)) is) in
+        (had.0, had.1, subst (λ o. IsSomeAnd o (λ area. area.anon ≡ Some v)) (keeps.stands.areas had.0 had.1) had.2)
+
 -- ---- a step that changes one process
 
 abbrev pub state_after : State → ℕ → Process → Pages → Ledger → Free → AnonSet → State
-state_after s p now on l free anons = record { world = set_process s.world p now; ledger = l; free = free; areas = with_at p on s.areas; anons = left_of anons s.anons }
+state_after s p now on l free anons = record { world = set_process s.world p now; ledger = l; free = free; areas = with_at p on s.areas; anons = left_of anons s.anons; homes = s.homes }
 
 module _ (old new : Mem) (s : State) (command : Command) (reply : Reply) (p : ℕ) (now : Process) (on : Pages) (l : Ledger)
-    (keeps : Keeps old s) (stay : AnonsStay old.spaces old.anons new.spaces new.anons) (same_count : count new ≡ count old) (stands : HasLedger new l) (bytes : (view new).bytes ≡ (view old).bytes)
-    (others : (q page : ℕ) → (q == p) ≡ false → entry l (q, page) ≡ entry s.ledger (q, page)) (kept : (page : ℕ) → IsKept (view old) no_device s.ledger (entry l (p, page)) (now page)) where
+    (keeps : Keeps old s) (stay : AnonsStay old.spaces old.anons new.spaces new.anons) (same_count : count new ≡ count old) (stands : HasLedger new l) (bytes : (view new).bytes ≡ (view old).bytes) (homes : (view new).homes ≡ (view old).homes)
+    (others : (q page : ℕ) → (q == p) ≡ false → entry l (q, page) ≡ entry s.ledger (q, page)) (kept : (page : ℕ) → IsKept (view old) no_device s.ledger (entry l (p, page)) (now page))
+    (there : (page f : ℕ) → Names l (p, page) f → Names s.ledger (p, page) f) (home : (page f : ℕ) (home : ℕ × ℕ) → Names l (p, page) f → home_of page (s.areas p page) ≡ Some home → home_of page (on page) ≡ Some home) where
   kept-all : (q page : ℕ) → IsKept (view new) no_device l (entry l (q, page)) (pages (set_process s.world p now) q page)
   kept-all q page = subst (IsKept (view new) no_device l (entry l (q, page))) (sym (pages-set s.world p now q page ∙ ap (λ b. cond b (now page) (pages s.world q page)) (at_number q p)))
       (kept-on (view old) (view new) s.ledger l (entry l (q, page)) (cond (q == p) (now page) (pages s.world q page)) bytes (no_cache s.ledger keeps.stands.parts.ledger.swap.finds) (no_cache l stands.parts.swap.finds) (by (q == p) refl))
@@ -183,9 +206,24 @@ module _ (old new : Mem) (s : State) (command : Command) (reply : Reply) (p : �
       by true e = subst (λ n. IsKept (view old) no_device s.ledger (entry l (n, page)) (now page)) (sym (is_number q p e)) (kept page)
       by false e = subst (λ x. IsKept (view old) no_device s.ledger x (pages s.world q page)) (sym (others q page e)) (keeps.stands.parts.bytes.kept q page)
 
+  left_in : AreLeftIn s l (with_at p on s.areas)
+  left_in = record {
+    there = λ k f names. there_at k f names (k.0 == p) refl;
+    home = λ k f home names is. home_at k f home names is (k.0 == p) refl;
+  }
+    where
+      there_at : (k : Key) (f : ℕ) → Names l k f → (b : Bool) → (k.0 == p) ≡ b → Names s.ledger k f
+      there_at k f names true e = subst (λ q. Names s.ledger (q, k.1) f) (sym (is_number k.0 p e)) (there k.1 f (subst (λ q. Names l (q, k.1) f) (is_number k.0 p e) names))
+      there_at k f names false e = subst (λ o. IsSomeAnd o (λ e. names_frame f e ≡ true)) (others k.0 k.1 e) names
+
+      home_at : (k : Key) (f : ℕ) (h : ℕ × ℕ) → Names l k f → home_of k.1 (s.areas k.0 k.1) ≡ Some h → (b : Bool) → (k.0 == p) ≡ b → home_of k.1 ((cond b on (s.areas k.0)) k.1) ≡ Some h
+      home_at k f h names is true e = home k.1 f h (subst (λ q. Names l (q, k.1) f) (is_number k.0 p e) names) (subst (λ q. home_of k.1 (s.areas q k.1) ≡ Some h) (is_number k.0 p e) is)
+      home_at k f h names is false e = is
+
   pub changed : IsStep (setting (count old)) s command reply (state_after s p now on l (free_of (view new)) new.anons) → AreasAre (view new) (with_at p on s.areas) → AreasStand (view new) (set_process s.world p now) → HasTables new → MemSteps old new s command reply
   changed step areas_now areas tables = stepped old new s (state_after s p now on l (free_of (view new)) new.anons) command reply keeps step same_count stands refl areas_now
-      (anons_stand old s keeps new.spaces new.anons stay (with_at p on s.areas) areas_now new refl refl) stay.fit areas tables kept-all
+      (anons_stand old s keeps new.spaces new.anons stay (with_at p on s.areas) areas_now new refl refl) (λ f. ap (λ h. h f) homes ∙ keeps.stands.homes f)
+      (reach_after old s keeps new.spaces new.anons stay l (with_at p on s.areas) areas_now left_in) stay.fit areas tables kept-all
 
 -- the areas of a process that lives have changed
 module _ (old new : Mem) (s : State) (p : ℕ) (now : Process) (prots : ℕ → Option Prot) (keeps : Keeps old s) (alive : is_some (ranges_of old.spaces.processes p) ≡ true)

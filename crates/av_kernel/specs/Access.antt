@@ -8,7 +8,7 @@ use Rattle.av_base.specs.Page.{address_of, page_size}
 use Rattle.av_plain.specs.Event.{Event, after_all, notes_of}
 use Rattle.av_plain.specs.Access.{Accesses, End, Whole, Stopped, pages_of_access, bytes_before, after_write}
 use Rattle.av_plain.specs.Choice.{ChoosesAll}
-use Rattle.av_plain.specs.Areas.{prepare_all}
+use Rattle.av_plain.specs.Areas.{rmap_after_all}
 use Rattle.av_plain.specs.Transcript.{State, rmap_of}
 use Rattle.av_kernel.specs.declared.access.Piece.{Piece}
 use Rattle.av_reclaim.specs.declared.mem.Mem.{Mem}
@@ -48,7 +48,7 @@ pub record IsAccess (s : State) (new : Mem) (write : Bool) (p a n : ℕ) (bytes 
   pub world : next.world ≡ world_served write p a bytes s.world
   pub ledger : next.ledger ≡ after_all s.ledger events
   pub free : ChoosesAll (setting (count new)) None s.ledger events s.free next.free
-  pub rmap : rmap_of next ≡ prepare_all events (rmap_of s)
+  pub rmap : rmap_of next ≡ rmap_after_all s.ledger events (rmap_of s)
   pub keeps : Keeps new next
 
 -- the answer of an access that stopped

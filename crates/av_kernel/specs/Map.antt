@@ -1,11 +1,11 @@
 -- The protections of a process's pages, and how the pages of a range go.
-use Rattle.std.specs.Prelude.{◌≡◌, ◌≢◌, ℕ, true, is_some, if◌then◌else◌, List, length, Option, None, IfSome}
+use Rattle.std.specs.Prelude.{◌≡◌, ◌≢◌, ℕ, true, is_some, if◌then◌else◌, List, length, Option, None, Some, false, IfSome}
 use Rattle.av_base.specs.declared.prot.Prot.{Prot}
 use Rattle.av_base.specs.Words.{with_at, within}
 use Rattle.av_pagetable.specs.Entries.{has}
 use Rattle.av_spaces.specs.Kin.{AnonsStay}
 use Rattle.av_spaces.specs.Spaces.{Spaces, pages_of}
-use Rattle.av_vma.specs.Pages.{Pages}
+use Rattle.av_vma.specs.Pages.{Pages, home_of}
 use Rattle.av_plain.specs.Ledger.{Ledger}
 use Rattle.av_plain.specs.Event.{Event}
 use Rattle.av_plain.specs.Stands.{prot_of, AreApart}
@@ -29,6 +29,11 @@ pub record HasProts (old new : Spaces) (p : ℕ) (prots : ℕ → Option Prot) :
 abbrev pub HasAreas : Spaces → Spaces → ℕ → Pages → Type 0
 HasAreas old new p on = (q page : ℕ) → pages_of new q page ≡ with_at p on (pages_of old) q page
 
+-- a page of p that is not among the n from one on keeps the home that frames have from it
+abbrev pub HomesStay : Spaces → Spaces → ℕ → ℕ → ℕ → Type 0
+HomesStay old new p from n = (page : ℕ) (home : ℕ × ℕ) → within from n page ≡ false
+    → home_of page (pages_of old p page) ≡ Some home → home_of page (pages_of new p page) ≡ Some home
+
 -- the n pages of p from one on have gone, with their entries, by these events; its areas are these
 pub record AreCleared (old new : Mem) (p page n : ℕ) (on : Pages) (l : Ledger)
     (events : List Event) : Type 0 where
@@ -39,3 +44,5 @@ pub record AreCleared (old new : Mem) (p page n : ℕ) (on : Pages) (l : Ledger)
   pub anons : AnonsStay old.spaces old.anons new.spaces new.anons
   pub processes : has new.tables ≡ has old.tables
   pub bytes : (view new).bytes ≡ (view old).bytes
+  pub homes : (view new).homes ≡ (view old).homes
+  pub stay : HomesStay old.spaces.processes new.spaces.processes p page n

@@ -8,7 +8,7 @@ use Rattle.av_plain.specs.Event.{after_all}
 use Rattle.av_plain.specs.Fault.{Touches}
 use Rattle.av_plain.specs.Access.{page_events, after_write}
 use Rattle.av_plain.specs.Choice.{ChoosesAll}
-use Rattle.av_plain.specs.Areas.{prepare_all}
+use Rattle.av_plain.specs.Areas.{rmap_after_all}
 use Rattle.av_plain.specs.Transcript.{State, rmap_of}
 use Rattle.av_reclaim.specs.declared.mem.Mem.{Mem}
 use Rattle.av_reclaim.specs.Mem.{setting, count, Keeps}
@@ -34,7 +34,8 @@ pub record IsPageStep (s : State) (new : Mem) (write : Bool) (p page at : ℕ) (
   pub free : ChoosesAll (setting (count new)) None s.ledger
       (page_events write (p, page) added (option_map stop_of end)) s.free next.free
   pub rmap : rmap_of next
-      ≡ prepare_all (page_events write (p, page) added (option_map stop_of end)) (rmap_of s)
+      ≡ rmap_after_all s.ledger (page_events write (p, page) added (option_map stop_of end))
+      (rmap_of s)
   pub keeps : Keeps new next
 
 -- what a read of n bytes shows of a page that was served

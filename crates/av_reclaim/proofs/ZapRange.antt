@@ -120,4 +120,4 @@ all_gone old new l p stands = subst (λ ks. HasZapped old new l (zaps_of l ks)) 
 -- ---- what stays, over two steps
 
 pub rest_rest : {a b c : Mem} → KeepsRest a b → KeepsRest b c → KeepsRest a c
-rest_rest first second = record { processes = second.processes ∙ first.processes; bytes = second.bytes ∙ first.bytes; spaces = second.spaces ∙ first.spaces; anons = second.anons ∙ first.anons; count = second.count ∙ first.count }
+rest_rest first second = record { processes = second.processes ∙ first.processes; bytes = second.bytes ∙ first.bytes; homes = second.homes ∙ first.homes; spaces = second.spaces ∙ first.spaces; anons = second.anons ∙ first.anons; count = second.count ∙ first.count }

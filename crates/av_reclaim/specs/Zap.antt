@@ -9,10 +9,11 @@ use Rattle.av_plain.specs.Stands.{View, free_of}
 use Rattle.av_reclaim.specs.declared.mem.Mem.{Mem}
 use Rattle.av_reclaim.specs.Mem.{setting, count, view, HasLedger}
 
--- the bytes, the areas, the anon_vmas and which processes have a table are as they were
+-- the bytes, the homes, the areas, the anon_vmas and which processes have a table are as they were
 pub record KeepsRest (old new : Mem) : Type 0 where
   pub processes : has new.tables ≡ has old.tables
   pub bytes : (view new).bytes ≡ (view old).bytes
+  pub homes : (view new).homes ≡ (view old).homes
   pub spaces : new.spaces ≡ old.spaces
   pub anons : new.anons ≡ old.anons
   pub count : count new ≡ count old

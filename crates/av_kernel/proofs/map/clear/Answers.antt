@@ -2,7 +2,7 @@ use Rattle.std.proofs.Common.{subst, sym}
 use Rattle.av_spaces.specs.Spaces.{AllSpaces}
 use Rattle.av_spaces.specs.Kin.{AnonsFit}
 use Rattle.av_kernel.proofs.MapLaws.{both_ok, are_cleared}
-use Rattle.av_kernel.proofs.MapProts.{has_areas, unmapped-prots}
+use Rattle.av_kernel.proofs.MapProts.{has_areas, unmapped-homes, unmapped-prots}
 use Rattle.av_kernel.proofs.map.clear.Goals as goal
 
 pub unmap-requires-clause-order : goal.unmap-requires-clause-order
@@ -14,5 +14,6 @@ pub returns-clause-cleared : goal.returns-clause-cleared
 returns-clause-cleared c = λ l stands.
     let t = c.zap_range.ensures in
     let mid = c.zap_range.new.mem in
-    both_ok c.unmap.result (λ gone stay. are_cleared c.args.mem.now mid c.unmap.new.self c.unmap.new.anons c.args.process c.args.page c.args.pages l (t.zapped l stands) t.rest.spaces t.rest.anons t.rest.processes t.rest.bytes
-    (unmapped-prots mid.spaces.processes c.unmap.new.self.processes c.args.process c.args.page c.args.pages gone) (has_areas mid.spaces.processes c.unmap.new.self.processes c.args.process _ gone) stay) c.unmap.ensures.areas c.unmap.ensures.anons
+    both_ok c.unmap.result (λ gone stay. are_cleared c.args.mem.now mid c.unmap.new.self c.unmap.new.anons c.args.process c.args.page c.args.pages l (t.zapped l stands) t.rest.spaces t.rest.anons t.rest.processes t.rest.bytes t.rest.homes
+    (unmapped-prots mid.spaces.processes c.unmap.new.self.processes c.args.process c.args.page c.args.pages gone) (has_areas mid.spaces.processes c.unmap.new.self.processes c.args.process _ gone) stay
+    (unmapped-homes mid.spaces.processes c.unmap.new.self.processes c.args.process c.args.page c.args.pages gone)) c.unmap.ensures.areas c.unmap.ensures.anons

@@ -6,7 +6,7 @@ use Rattle.av_plain.specs.World.{pages}
 use Rattle.av_plain.specs.Stands.{prot_of}
 use Rattle.av_plain.specs.Map.{zaps_for_place}
 use Rattle.av_reclaim.specs.Mem.{ranges_of}
-use Rattle.av_kernel.specs.Map.{set_on, HasAreas, HasProts, AreCleared}
+use Rattle.av_kernel.specs.Map.{set_on, HasAreas, HasProts, HomesStay, AreCleared}
 use Rattle.av_plain.specs.Areas.{with_room}
 use Rattle.av_vma.specs.Pages.{after_map}
 use Rattle.av_spaces.specs.Spaces.{pages_of as plain_pages}
@@ -18,7 +18,7 @@ use Rattle.av_trace.specs.declared.reply.Errno.TheVariants.{Esrch, Einval, Enome
 use Rattle.av_kernel.proofs.StepLaws.{moved_on, orderly, ranges_there, refuses, refuses-as, refuses-by, dead_first, wants-by}
 use Rattle.av_kernel.proofs.PlaceLaws.{rounded_up, suited}
 use Rattle.av_kernel.proofs.MapLaws.{taken_is, suits, cleared_lives, cleared_free, mmap-refused, mmap-steps, mmap-tests-first, mmap-tests-second}
-use Rattle.av_kernel.proofs.MapProts.{has_areas, mapped-prots}
+use Rattle.av_kernel.proofs.MapProts.{has_areas, mapped-homes, mapped-prots}
 use Rattle.av_kernel.proofs.map.mmap.Goals as goal
 
 not_zero : (n : ℕ) → n ≢ 0 → (n == 0) ≡ false
@@ -91,13 +91,15 @@ returns c = record {
       let placed = subst (λ n. IsPlaced (pages s.world c.args.process) n c.args.place (Ok page)) size (c.in_ok-page.ensures (pages s.world c.args.process) (taken_is k s c.args.process keeps)) in
       let free = cleared_free k mid c.args.process page c.div_ceil-pages.result _ s.ledger _ cleared in
       let prots = mapped-prots (lengths mid.spaces.areas mid.anons) mid.spaces.processes c.map.new.self.processes c.args.process page c.div_ceil-pages.result c.args.prot (some_pages c.args.len c.div_ceil-pages.result c.if-len-eq0.false c.div_ceil-pages.ensures) suit.lowest suit.highest free c.in_ok-map.ensures.areas in
+      let homes = mapped-homes (lengths mid.spaces.areas mid.anons) mid.spaces.processes c.map.new.self.processes c.args.process page c.div_ceil-pages.result c.args.prot (some_pages c.args.len c.div_ceil-pages.result c.if-len-eq0.false c.div_ceil-pages.ensures) suit.lowest suit.highest free c.in_ok-map.ensures.areas in
       subst (MemSteps k (moved_on mid mid.tables c.map.new.self c.map.new.anons) s (Mmap c.args.process c.args.len c.args.prot c.args.place)) (sym c.answer_only.ensures)
       (mmap-steps k s c.args.process c.args.len c.args.prot c.args.place keeps (ranges_there k c.args.process c.in_ok-check_lives.ensures) (not_zero c.args.len c.if-len-eq0.false) (sym c.is_too_long.ensures ∙ c.if-is_too_long.false)
       mid c.map.new.self c.map.new.anons page placed (suited k.spaces.processes c.args.process (pages s.world c.args.process) (taken_is k s c.args.process keeps) (pages_of c.args.len) page c.args.place placed).clear c.make_room.ensures.count
       (subst (λ n. AreCleared k mid c.args.process page n (with_room n c.args.place (plain_pages k.spaces.processes c.args.process)) s.ledger (zaps_for_place s.ledger c.args.process n c.args.place)) size cleared)
       (subst (λ n. HasProts mid.spaces.processes c.map.new.self.processes c.args.process (set_on page n (Some c.args.prot) (prot_of (ranges_of mid.spaces.processes c.args.process)))) size prots)
       (subst (λ n. HasAreas mid.spaces.processes c.map.new.self.processes c.args.process (after_map (lengths mid.spaces.areas mid.anons) c.args.process page (page + n) c.args.prot (plain_pages mid.spaces.processes c.args.process))) size
-      (has_areas mid.spaces.processes c.map.new.self.processes c.args.process _ c.in_ok-map.ensures.areas)) c.in_ok-map.ensures.anons);
+      (has_areas mid.spaces.processes c.map.new.self.processes c.args.process _ c.in_ok-map.ensures.areas)) c.in_ok-map.ensures.anons
+      (subst (λ n. HomesStay mid.spaces.processes c.map.new.self.processes c.args.process page n) size homes));
 }
 
 pub map-requires-clause-order : goal.map-requires-clause-order

@@ -1,4 +1,4 @@
-use Rattle.std.proofs.Common.{◌+◌, ◌/◌, ◌<◌, ◌≤◌, refl, sym, subst, ◌∙◌}
+use Rattle.std.proofs.Common.{◌+◌, ◌-◌, ◌/◌, ◌<◌, ◌≤◌, refl, sym, subst, ◌∙◌}
 use Rattle.av_merge.specs.Pages.{IsReached}
 use Rattle.av_trace.specs.declared.command.Command.TheVariants.{Mprotect}
 use Rattle.av_spaces.specs.Spaces.{is_taken}
@@ -8,7 +8,7 @@ use Rattle.av_trace.specs.declared.reply.Errno.TheVariants.{Esrch}
 use Rattle.av_kernel.proofs.StepLaws.{moved_on, ranges_there, refuses, refuses-as, refuses-by, dead_first, wants-by}
 use Rattle.av_kernel.proofs.PlaceLaws.{rounded_up}
 use Rattle.av_kernel.proofs.MapLaws.{mprotect-steps, mprotect-stops, mprotect-refused}
-use Rattle.av_kernel.proofs.MapProts.{has_areas, protected-prots}
+use Rattle.av_kernel.proofs.MapProts.{has_areas, protected-homes, protected-prots}
 use Rattle.av_kernel.proofs.map.mprotect.Goals as goal
 
 pub returns-in_err-check_lives : goal.returns-in_err-check_lives
@@ -35,7 +35,7 @@ returns c = record {
       (mprotect-steps k c.protect.new.self c.protect.new.anons s c.args.process c.args.address c.args.len reached c.args.prot keeps (ranges_there k c.args.process c.in_ok-check_lives.ensures) c.in_ok-check_protect.ensures
       (subst (λ n. IsReached (is_taken k.spaces.processes c.args.process) page (page + n) reached) size c.in_ok-reached.ensures.reached)
       (protected-prots (lengths k.spaces.areas k.anons) k.spaces.processes c.protect.new.self.processes c.args.process page (page + c.div_ceil-pages.result) reached c.args.prot c.in_ok-reached.ensures.reached c.in_ok-reached.ensures.ok c.in_ok-reached.ensures.mapping)
-      (has_areas k.spaces.processes c.protect.new.self.processes c.args.process _ c.in_ok-reached.ensures.ok) c.in_ok-reached.ensures.anons (subst (λ n. page + n ≤ reached) size c.if-reached-past.false));
+      (has_areas k.spaces.processes c.protect.new.self.processes c.args.process _ c.in_ok-reached.ensures.ok) c.in_ok-reached.ensures.anons (protected-homes (lengths k.spaces.areas k.anons) k.spaces.processes c.protect.new.self.processes c.args.process page (reached - page) c.args.prot c.in_ok-reached.ensures.ok) (subst (λ n. page + n ≤ reached) size c.if-reached-past.false));
 }
 
 pub returns-then-reached-past : goal.returns-then-reached-past
@@ -49,7 +49,7 @@ returns-then-reached-past c = record {
       mprotect-stops k c.protect.new.self c.protect.new.anons s c.args.process c.args.address c.args.len reached c.args.prot keeps (ranges_there k c.args.process c.in_ok-check_lives.ensures) c.in_ok-check_protect.ensures
       (subst (λ n. IsReached (is_taken k.spaces.processes c.args.process) page (page + n) reached) size c.in_ok-reached.ensures.reached)
       (protected-prots (lengths k.spaces.areas k.anons) k.spaces.processes c.protect.new.self.processes c.args.process page (page + c.div_ceil-pages.result) reached c.args.prot c.in_ok-reached.ensures.reached c.in_ok-reached.ensures.ok c.in_ok-reached.ensures.mapping)
-      (has_areas k.spaces.processes c.protect.new.self.processes c.args.process _ c.in_ok-reached.ensures.ok) c.in_ok-reached.ensures.anons (subst (λ n. reached < page + n) size c.if-reached-past.true);
+      (has_areas k.spaces.processes c.protect.new.self.processes c.args.process _ c.in_ok-reached.ensures.ok) c.in_ok-reached.ensures.anons (protected-homes (lengths k.spaces.areas k.anons) k.spaces.processes c.protect.new.self.processes c.args.process page (reached - page) c.args.prot c.in_ok-reached.ensures.ok) (subst (λ n. reached < page + n) size c.if-reached-past.true);
 }
 
 pub protect-requires-clause-order : goal.protect-requires-clause-order

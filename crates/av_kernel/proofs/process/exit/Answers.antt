@@ -25,6 +25,6 @@ returns c = record {
       let rest = c.zap_all.ensures.rest in
       subst (MemSteps old (record { frames = mid.frames; tables = c.end.new.self; spaces = c.end-2.new.self; anons = c.end-2.new.anons }) s (Exit c.args.process)) (sym c.answer_only.ensures)
       (exit-steps old mid c.end.new.self c.end-2.new.self c.end-2.new.anons s c.args.process keeps (ranges_there old c.args.process c.in_ok-check_lives.ensures) (c.zap_all.ensures.zapped s.ledger (orderly old s keeps))
-      rest.bytes rest.spaces rest.processes rest.count c.end.ensures.processes c.end.ensures.entries c.end-2.ensures.areas
+      rest.bytes rest.homes rest.spaces rest.processes rest.count c.end.ensures.processes c.end.ensures.entries c.end-2.ensures.areas
       (subst (λ (x : AllSpaces). AnonsStay x old.anons c.end-2.new.self c.end-2.new.anons) rest.spaces (subst (λ a. AnonsStay mid.spaces a c.end-2.new.self c.end-2.new.anons) rest.anons c.end-2.ensures.anons)));
 }

@@ -41,5 +41,5 @@ returns-in_default c =
     record {
       zapped = λ l stands. zero_taken old l stands new c.args.process c.args.from c.args.past c.in_ok-page.page c.in_ok-page.entry t.0 t.1 c.in_default.not-Here t.2 refl refl refl;
       within = (t.0.from_there, t.0.below);
-      rest = record { processes = c.in_ok-page.ensures.processes; bytes = refl; spaces = refl; anons = refl; count = refl };
+      rest = record { processes = c.in_ok-page.ensures.processes; bytes = refl; homes = refl; spaces = refl; anons = refl; count = refl };
     }

@@ -6,7 +6,7 @@ pub loop-page-init : goal.loop-page-init
 loop-page-init c = record {
   orderly = c.requires.orderly;
   taking = λ first stands. none_yet c.args.mem.now c.args.process c.args.from c.args.past first stands;
-  rest = record { processes = refl; bytes = refl; spaces = refl; anons = refl; count = refl };
+  rest = record { processes = refl; bytes = refl; homes = refl; spaces = refl; anons = refl; count = refl };
 }
 
 pub loop-page-preserved : goal.loop-page-preserved
