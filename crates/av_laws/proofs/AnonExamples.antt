@@ -9,13 +9,15 @@ use Rattle.av_trace.specs.declared.reply.Reply.{Reply}
 use Rattle.av_trace.specs.declared.reply.Answer.TheVariants.{Done, MapAt}
 use Rattle.av_vma.specs.Pages.{after_unmap, pages_in, part_of}
 use Rattle.av_vma.specs.declared.area.Area.{Area}
-use Rattle.av_plain.specs.Areas.{AnonVma, Anons, AreLeft, AreNext, Areas, IsLinked, chain_length, chain_of, next_areas, none_on}
+use Rattle.av_plain.specs.Areas.{AnonVma, Anons, AreLeft, Areas, IsLinked, Rmap, chain_length, chain_of, next_areas, none_on, rmap_after_all}
 use Rattle.av_laws.specs.Areas.{Leaves, NeverLeaves, NeverPuts, anons_of, area, area_of, behind_first, behind_second, child, first_goes, root, second_goes, with_anons}
 use Rattle.av_vma.proofs.Cut.{part_own}
 use Rattle.av_laws.specs.Examples.{machine, read_write, reply_with}
 use Rattle.av_plain.specs.Ledger.{Setting}
 use Rattle.av_plain.specs.Transcript.{IsStep, State, rmap_of}
-use Rattle.av_plain.proofs.AreasLeft.{left-one, prepare_all-notes, prepare_notes}
+use Rattle.av_plain.proofs.AreasLeft.{AreSame, left-one, prepare_notes, rmap_after_all-notes}
+use Rattle.av_plain.specs.Event.{notes_of}
+use Rattle.av_plain.specs.World.{World}
 use Rattle.av_plain.proofs.NoDevice.{never}
 
 -- ---- the areas, and what is linked
@@ -96,7 +98,7 @@ child_goes-leaves = (
     world = refl;
     ledger = refl;
     free = refl;
-    rmap = record { areas = refl; anons = root-left };
+    rmap = record { areas = refl; anons = root-left; homes = refl };
   },
   (refl, (refl, (refl, (refl, (refl, (refl, (refl, (refl, tt)))))))),
   refl,
@@ -111,7 +113,7 @@ both_stay-leaves = (
     world = refl;
     ledger = refl;
     free = refl;
-    rmap = record { areas = refl; anons = both-left (on_after first_goes Done) (1, 0x14, refl) (1, 0x14, refl) };
+    rmap = record { areas = refl; anons = both-left (on_after first_goes Done) (1, 0x14, refl) (1, 0x14, refl); homes = refl };
   },
   (refl, (refl, (refl, (refl, (refl, (refl, (refl, (refl, tt)))))))),
   refl,
@@ -126,7 +128,7 @@ joined_to_root-leaves = (
     world = refl;
     ledger = refl;
     free = refl;
-    rmap = record { areas = refl; anons = both-left (on_after behind_first (MapAt 0x12000)) (1, 0x10, refl) (1, 0x14, refl) };
+    rmap = record { areas = refl; anons = both-left (on_after behind_first (MapAt 0x12000)) (1, 0x10, refl) (1, 0x14, refl); homes = refl };
   },
   (refl, (refl, (refl, (refl, (refl, (refl, (refl, (refl, tt)))))))),
   refl,
@@ -142,7 +144,7 @@ apart_from_child-leaves = (
     world = refl;
     ledger = refl;
     free = refl;
-    rmap = record { areas = refl; anons = both-left (on_after behind_second (MapAt 0x16000)) (1, 0x10, refl) (1, 0x14, refl) };
+    rmap = record { areas = refl; anons = both-left (on_after behind_second (MapAt 0x16000)) (1, 0x10, refl) (1, 0x14, refl); homes = refl };
   },
   (refl, (refl, (refl, (refl, (refl, (refl, (refl, (refl, tt)))))))),
   refl,
@@ -150,11 +152,21 @@ apart_from_child-leaves = (
 
 -- ---- what may not be
 
+-- the areas and the anon_vmas after a command
+pub record AreThen (now : Rmap) (w : World) (command : Command) (answer : Answer) (next : Rmap) : Type 0 where
+  pub areas : next.areas ≡ next_areas (chain_length now.anons) now.areas w command answer
+  pub anons : AreLeft now.anons next.areas next.anons
+
 -- what was prepared follows from the notes
 pub now-is : (m : Setting) (old : State) (command : Command) (reply : Reply) (new : State) (step : IsStep m old command reply new)
-    → AreNext (prepare_notes reply.notes (rmap_of old)) old.world command reply.answer (rmap_of new)
-now-is m old command reply new step = subst (λ now. AreNext now old.world command reply.answer (rmap_of new))
-    (prepare_all-notes step.events (rmap_of old) ∙ ap (λ notes. prepare_notes notes (rmap_of old)) (sym step.legal.notes)) step.rmap
+    → AreThen (prepare_notes reply.notes (rmap_of old)) old.world command reply.answer (rmap_of new)
+now-is m old command reply new step = subst (λ notes. AreThen (prepare_notes notes (rmap_of old)) old.world command reply.answer (rmap_of new)) (sym step.legal.notes) (record {
+  areas = step.rmap.areas ∙ (λ i. next_areas (chain_length (same.anons i)) (same.areas i) old.world command reply.answer);
+  anons = subst (λ (anons : Anons). AreLeft anons new.areas new.anons) same.anons step.rmap.anons;
+})
+  where
+    same : AreSame (rmap_after_all old.ledger step.events (rmap_of old)) (prepare_notes (notes_of step.events) (rmap_of old))
+    same = rmap_after_all-notes old.ledger step.events (rmap_of old) (rmap_of old) (record { areas = refl; anons = refl })
 
 -- what a step leaves is what is left once these are the areas
 never-leaves : (command : Command) (left wrong : Anons) → AreLeft with_anons.anons (on_after command Done) left

@@ -5,7 +5,7 @@ use Rattle.std.specs.List.{AllByRecursion}
 use Rattle.av_base.specs.Words.{numbers}
 use Rattle.av_vma.specs.Pages.{pages_in}
 use Rattle.av_vma.specs.declared.area.Area.{Area}
-use Rattle.av_plain.specs.Areas.{AreLeft, AreNext, Areas, chain_length, next_areas, no_anons, no_areas}
+use Rattle.av_plain.specs.Areas.{AreLeft, Areas, chain_length, next_areas, no_anons, no_areas}
 use Rattle.av_plain.proofs.AreasLeft.{left-none, left-one, prepare_notes}
 use Rattle.av_plain.specs.Ledger.{Setting}
 use Rattle.av_plain.specs.Step.{next}
@@ -14,7 +14,7 @@ use Rattle.av_plain.specs.World.{World}
 use Rattle.av_laws.specs.Areas.{Makes, NeverHas, area, middle_map, after_exit, fixed_over, four_pages, hole, joined_above, joined_again, joined_below, protected_inside, up_to_hole}
 use Rattle.av_laws.specs.Determined.{Tells}
 use Rattle.av_laws.specs.Examples.{machine, read_only, read_write}
-use Rattle.av_laws.proofs.AnonExamples.{now-is}
+use Rattle.av_laws.proofs.AnonExamples.{AreThen, now-is}
 use Rattle.av_laws.proofs.Determined.{loads-told}
 use Rattle.av_laws.proofs.FirstExamples.{Steps, by_steps}
 
@@ -36,8 +36,8 @@ run-areas m old (e ∷ es) new told none quiet h =
     let world = h.1.world
     ∙ ap (λ w. next w e.command e.reply.answer)
     (loads-told m old.world old.ledger h.1.events told) in
-    let now : AreNext (rmap_of old) old.world e.command e.reply.answer (rmap_of h.0) =
-    subst (λ notes. AreNext (prepare_notes notes (rmap_of old)) old.world e.command e.reply.answer (rmap_of h.0)) quiet.0
+    let now : AreThen (rmap_of old) old.world e.command e.reply.answer (rmap_of h.0) =
+    subst (λ notes. AreThen (prepare_notes notes (rmap_of old)) old.world e.command e.reply.answer (rmap_of h.0)) quiet.0
     (now-is m old e.command e.reply h.0 h.1) in
     let areas = now.areas
     ∙ ap (λ a. next_areas (chain_length a) old.areas old.world e.command e.reply.answer) none in

@@ -25,8 +25,8 @@ use Rattle.av_vma.specs.Join.{same_prot}
 use Rattle.av_vma.specs.Pages.{AreLaid, Lengths, Pages, after_map, after_prepare, after_unmap, alters_at, cut_at, fresh_area, has_page, joined_at, loan_beside, page_changed, pages_changed, part_changed, to_prot, with_anon, with_area, with_effect, with_effect_on, without_range}
 use Rattle.av_vma.specs.declared.area.Area.{Area}
 use Rattle.av_plain.specs.Access.{after_write, first_bytes}
-use Rattle.av_plain.specs.Areas.{Areas, Rmap, areas_to_hole, chain_length, next_areas, none_on, prepare_all, prepare_page, with_room}
-use Rattle.av_plain.proofs.AreasLeft.{prepare_all-keeps}
+use Rattle.av_plain.specs.Areas.{Areas, Rmap, areas_to_hole, chain_length, next_areas, none_on, rmap_after_all, prepare_page, with_room}
+use Rattle.av_plain.proofs.AreasLeft.{rmap_after_all-keeps}
 use Rattle.av_plain.specs.Event.{Event}
 use Rattle.av_plain.specs.Ledger.{Ledger, Setting, entry}
 use Rattle.av_plain.specs.Load.{is_of_slot, with_loads, without_bytes, without_claims}
@@ -197,8 +197,8 @@ covers_page w p page r c = record { laid = λ q. laid q (q == p) refl; prots = �
     prots_at q other false is = c.prots q other
 
 -- an anon_vma that is prepared changes no page and no protection
-covers_prepared : (w : World) (es : List Event) (r : Rmap) → CoverPages w r.areas → CoverPages w (prepare_all es r).areas
-covers_prepared w es r c = prepare_all-keeps (λ r. CoverPages w r.areas) (covers_page w) es r c
+covers_prepared : (w : World) (l : Ledger) (es : List Event) (r : Rmap) → CoverPages w r.areas → CoverPages w (rmap_after_all l es r).areas
+covers_prepared w l es r c = rmap_after_all-keeps (λ r. CoverPages w r.areas) (covers_page w) (λ f k r c. c) l es r c
 
 -- ---- unmap
 
@@ -540,16 +540,16 @@ step-covers m old command reply new c h =
     now = with_loads m old.world old.ledger h.events
 
     later : Rmap
-    later = prepare_all h.events (rmap_of old)
+    later = rmap_after_all old.ledger h.events (rmap_of old)
 
-    after_loads : CoverPages (with_loads m old.world old.ledger h.events) (prepare_all h.events (rmap_of old)).areas
-    after_loads = covers_loads m old.world old.ledger h.events (prepare_all h.events (rmap_of old)).areas
-        (covers_prepared old.world h.events (rmap_of old) c)
+    after_loads : CoverPages (with_loads m old.world old.ledger h.events) (rmap_after_all old.ledger h.events (rmap_of old)).areas
+    after_loads = covers_loads m old.world old.ledger h.events (rmap_after_all old.ledger h.events (rmap_of old)).areas
+        (covers_prepared old.world old.ledger h.events (rmap_of old) c)
 
     by : (o : Option Errno) → refusal (tests m old.world old.ledger command) ≡ o
         → MatchOption o (Follows m old.world old.ledger command h.events reply.answer reply.rows) (λ error. Refuses error h.events reply.answer reply.rows)
         → CoverPages (next_world m old.world old.ledger h.events command reply.answer)
-        (next_areas (chain_length (prepare_all h.events (rmap_of old)).anons) (prepare_all h.events (rmap_of old)).areas old.world command reply.answer)
+        (next_areas (chain_length (rmap_after_all old.ledger h.events (rmap_of old)).anons) (rmap_after_all old.ledger h.events (rmap_of old)).areas old.world command reply.answer)
     by None is x = covers-follows m old.world (with_loads m old.world old.ledger h.events) old.ledger
         (chain_length later.anons) later.areas command h.events reply.answer reply.rows
         (loads-none m old.world old.ledger h.events) after_loads is x

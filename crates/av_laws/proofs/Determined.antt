@@ -28,7 +28,7 @@ use Rattle.av_plain.specs.Load.{after_loads, with_loads}
 use Rattle.av_plain.specs.Map.{with_prot_to_hole}
 use Rattle.av_plain.specs.Place.{Goes, IsMapAt, is_room}
 use Rattle.av_plain.specs.Refusal.{Refuses, low, refusal, tests, wraps}
-use Rattle.av_plain.specs.Areas.{AreLeft, AreNext, prepare_all}
+use Rattle.av_plain.specs.Areas.{AreLeft, AreNext, rmap_after_all}
 use Rattle.av_plain.specs.Step.{Follows, IsLegal, closing_area, fault_answers, next, next_world}
 use Rattle.av_plain.specs.Transcript.{Exchange, IsRun, IsStep, State, at_first, rmap_of}
 use Rattle.av_plain.specs.World.{Page, Process, Shows, World, byte_at, end_process, is_mapped, no_pages, pages, pages_to_hole, set_process, with_bytes, with_pages, with_prot, with_prot_on, zeros}
@@ -363,12 +363,13 @@ step-one m old new new' command reply reply' told claimed kept kept' h g =
     let free : new.free ≡ new'.free = chooses-one m closing old.ledger g.events old.free new.free
     new'.free told (subst (λ es. ChoosesAll m closing old.ledger es old.free new.free)
     same.events h.free) g.free in
-    let now = prepare_all g.events (rmap_of old) in
+    let now = rmap_after_all old.ledger g.events (rmap_of old) in
     let mine : AreNext now old.world command reply'.answer (rmap_of new) = subst (λ a. AreNext now old.world command a (rmap_of new)) same.answers
-    (subst (λ es. AreNext (prepare_all es (rmap_of old)) old.world command reply.answer (rmap_of new)) same.events h.rmap) in
+    (subst (λ es. AreNext (rmap_after_all old.ledger es (rmap_of old)) old.world command reply.answer (rmap_of new)) same.events h.rmap) in
     let areas : new.areas ≡ new'.areas = mine.areas ∙ sym g.rmap.areas in
     let anons : new.anons ≡ new'.anons = anons-one now.anons new'.areas new.anons new'.anons
-    (subst (λ on. AreLeft now.anons on new.anons) areas mine.anons) g.rmap.anons in (
+    (subst (λ on. AreLeft now.anons on new.anons) areas mine.anons) g.rmap.anons in
+    let homes : new.homes ≡ new'.homes = mine.homes ∙ sym g.rmap.homes in (
       (λ i. record { answer = same.answers i; notes = notes i; rows = same.reports i }),
       (λ i. record {
         world = world i;
@@ -376,6 +377,7 @@ step-one m old new new' command reply reply' told claimed kept kept' h g =
         free = free i;
         areas = areas i;
         anons = anons i;
+        homes = homes i;
       }),
     )
 

@@ -18,7 +18,7 @@ use Rattle.av_plain.specs.Event.{Event, Noted, Used, after_all}
 use Rattle.av_plain.specs.Fault.{Denied, Starved}
 use Rattle.av_plain.specs.Access.{Whole, Stopped}
 use Rattle.av_plain.specs.Step.{IsLegal, next_world}
-use Rattle.av_plain.specs.Areas.{AnonVma, Anons, AreLeft, Areas, IsLinked, Rmap, chain_length, chain_of, no_anons, next_areas, no_areas, prepare_all}
+use Rattle.av_plain.specs.Areas.{Anons, AnonVma, Areas, AreLeft, chain_length, chain_of, IsLinked, next_areas, no_anons, no_areas, no_homes, rmap_after_all, Rmap}
 use Rattle.av_plain.proofs.AreasLeft.{AreBelow, below-all, below-left, left-all}
 use Rattle.av_plain.specs.Choice.{no_slots}
 use Rattle.av_plain.proofs.Choice.{ChoosesFrames}
@@ -82,18 +82,19 @@ linked-all anons on es (suc n) h v below there =
 -- left
 abbrev pub state_after : Setting → State → Exchange → List Event → List ℕ → Anons → State
 state_after m old e events free anons =
-    let now = prepare_all events (rmap_of old) in record {
+    let now = rmap_after_all old.ledger events (rmap_of old) in record {
       world = next_world m old.world old.ledger events e.command e.reply.answer;
       ledger = after_all old.ledger events;
       free = record { frames = free; slots = slots_after_all m old.ledger events old.free.slots };
       areas = next_areas (chain_length now.anons) now.areas old.world e.command e.reply.answer;
       anons = anons;
+      homes = now.homes;
     }
 
 pub one-step : (m : Setting) (old : State) (e : Exchange) (events : List Event) (free : List ℕ) (left : Anons)
     → IsLegal m old.world old.ledger e.command e.reply events → ChoosesFrames m old.ledger events old.free.frames free
     → gives_all m None old.ledger events old.free.slots ≡ true
-    → AreLeft (prepare_all events (rmap_of old)).anons (state_after m old e events free left).areas left
+    → AreLeft (rmap_after_all old.ledger events (rmap_of old)).anons (state_after m old e events free left).areas left
     → IsStep m old e.command e.reply (state_after m old e events free left)
 one-step m old e events free left legal frames given is = record {
   events = events;
@@ -101,13 +102,13 @@ one-step m old e events free left legal frames given is = record {
   world = refl;
   ledger = refl;
   free = all-chosen m None old.ledger events old.free.frames free old.free.slots frames given;
-  rmap = record { areas = refl; anons = is };
+  rmap = record { areas = refl; anons = is; homes = refl };
 }
 
 -- all anon_vmas are left, as far as the pages with entries show
 abbrev pub all_left : Setting → State → Exchange → List Event → Bool
 all_left m old e events =
-    let now = prepare_all events (rmap_of old) in
+    let now = rmap_after_all old.ledger events (rmap_of old) in
     all_linked now.anons (state_after m old e events [] now.anons).areas (after_all old.ledger events).entries now.anons.next
 
 -- each exchange by its events, and the frames that are free after it; where a slot is taken, it is
@@ -119,7 +120,7 @@ Steps m old (e ∷ row) =
     (events : List Event) × (free : List ℕ)
     × IsLegal m old.world old.ledger e.command e.reply events
     × ChoosesFrames m old.ledger events old.free.frames free
-    × (let now = prepare_all events (rmap_of old) in
+    × (let now = rmap_after_all old.ledger events (rmap_of old) in
     let later : Type 0 = MatchBool (all_left m old e events)
     (Steps m (state_after m old e events free now.anons) row)
     ((left : Anons) × AreLeft now.anons (state_after m old e events free left).areas left × Steps m (state_after m old e events free left) row) in
@@ -128,7 +129,7 @@ Steps m old (e ∷ row) =
 -- the steps that are left after an exchange, by whether all anon_vmas are left
 abbrev Later : Setting → State → Exchange → List Exchange → List Event → List ℕ → Bool → Type 0
 Later m old e row events free b =
-    let now = prepare_all events (rmap_of old) in
+    let now = rmap_after_all old.ledger events (rmap_of old) in
     MatchBool b (Steps m (state_after m old e events free now.anons) row)
     ((left : Anons) × AreLeft now.anons (state_after m old e events free left).areas left × Steps m (state_after m old e events free left) row)
 
@@ -149,10 +150,10 @@ from_steps m old (e ∷ row) below h =
     )
   where
     now : Rmap
-    now = prepare_all h.0 (rmap_of old)
+    now = rmap_after_all old.ledger h.0 (rmap_of old)
 
-    now_below : AreBelow (prepare_all h.0 (rmap_of old)).anons
-    now_below = below-all h.0 (rmap_of old) below
+    now_below : AreBelow (rmap_after_all old.ledger h.0 (rmap_of old)).anons
+    now_below = below-all old.ledger h.0 (rmap_of old) below
 
     given : (b : Bool) → take_none h.0 ≡ b
         → MatchBool b (Later m old e row h.0 h.1 (all_left m old e h.0))
@@ -162,7 +163,7 @@ from_steps m old (e ∷ row) below h =
     given false is h' = h'
 
     are_left : (b : Bool) → all_left m old e h.0 ≡ b → Later m old e row h.0 h.1 b
-        → (left : Anons) × AreLeft (prepare_all h.0 (rmap_of old)).anons (state_after m old e h.0 h.1 left).areas left
+        → (left : Anons) × AreLeft (rmap_after_all old.ledger h.0 (rmap_of old)).anons (state_after m old e h.0 h.1 left).areas left
         × Steps m (state_after m old e h.0 h.1 left) row
     are_left true is h' = (
       now.anons,
@@ -214,6 +215,7 @@ one_page prot = record {
       (next_areas (chain_length no_anons) no_areas [] (Spawn 1) Done)
       ((1, no_pages) ∷ []) (Mmap 1 4096 prot Auto) (MapAt 0x7fffffffe000);
   anons = no_anons;
+  homes = no_homes;
 }
 
 -- so many rows begin

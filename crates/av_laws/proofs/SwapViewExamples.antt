@@ -8,16 +8,19 @@ use Rattle.av_base.specs.Page.{page_size}
 use Rattle.av_base.specs.Words.{is_in}
 use Rattle.av_base.specs.declared.slot.Slot.{Slot}
 use Rattle.av_swapdev.specs.Header.{header_of, number_at}
-use Rattle.av_vma.specs.Pages.{pages_in}
+use Rattle.av_vma.specs.Pages.{has_page, pages_in}
 use Rattle.av_plain.specs.Areas.{none_on}
 use Rattle.av_plain.specs.Choice.{Free}
+use Rattle.av_plain.specs.Covered.{IsRmapSound}
+use Rattle.av_plain.specs.Transcript.{rmap_of}
+use Rattle.av_plain.proofs.Ledger.{same_key}
 use Rattle.av_plain.specs.Device.{headers_of, without_fault}
-use Rattle.av_plain.specs.Ledger.{Cached, Entry, HasNumbers, InSlot, Ledger, SwapArea, entry, frame_at, in_flight, is_free, is_stale, same_slot, slot_of}
+use Rattle.av_plain.specs.Ledger.{Cached, Entry, HasNumbers, InSlot, Key, Ledger, SwapArea, entry, frame_at, in_flight, is_free, is_stale, names_frame, same_slot, slot_of}
 use Rattle.av_plain.specs.Report.{prot_in}
 use Rattle.av_plain.specs.Stands.{View, AreApart, Holds, IsClean, IsKept, Pte, entry_of, prot_of, ranges_in}
 use Rattle.av_plain.specs.World.{Page, Process, lives, pages, process}
 use Rattle.av_laws.specs.Examples.{cached_out, page_with, read_write, slot, with_byte, with_slots, with_swap}
-use Rattle.av_laws.specs.Views.{NotFor, NotGiven, StandsFor, cached_view, fewer_slots, header_page, swap_device, topmost, with_fewer_slots}
+use Rattle.av_laws.specs.Views.{NotFor, NotGiven, StandsFor, cached_view, fewer_slots, header_page, swap_device, area, with_fewer_slots}
 use Rattle.av_laws.proofs.ListsExamples.{cached-listed}
 use Rattle.av_laws.proofs.SoundExample.{cached_out-sound}
 use Rattle.av_plain.proofs.Ledger.NoSwap.{key_is}
@@ -73,7 +76,7 @@ module _ (flying stale : Bool) where
       (cached_out flying stale).world p
   alive p = by (p == 1) ∙ ap is_some (sym (found p))
     where
-      by : (a : Bool) → is_some (if a then Some (topmost 1 ∷ []) else None) ≡ is_some
+      by : (a : Bool) → is_some (if a then Some (area 0x7fffffffe 0x7ffffffff 1 ∷ []) else None) ≡ is_some
           (cond a (Some (with_byte 7)) None)
       by true = refl
       by false = refl
@@ -81,7 +84,7 @@ module _ (flying stale : Bool) where
   apart : (p : ℕ) → IfSome (ranges_in ((cached_view flying stale).areas p)) AreApart
   apart p = by (p == 1)
     where
-      by : (a : Bool) → IfSome (ranges_in (if a then Some (topmost 1 ∷ []) else None)) AreApart
+      by : (a : Bool) → IfSome (ranges_in (if a then Some (area 0x7fffffffe 0x7ffffffff 1 ∷ []) else None)) AreApart
       by true = omega arith
       by false = tt
 
@@ -101,7 +104,7 @@ module _ (flying stale : Bool) where
       one true is = ap (λ b. if b then Some read_write else None) is
       one false is = ap (λ b. if b then Some read_write else None) is
 
-      by : (a : Bool) → prot_of (ranges_in (if a then Some (topmost 1 ∷ []) else None))
+      by : (a : Bool) → prot_of (ranges_in (if a then Some (area 0x7fffffffe 0x7ffffffff 1 ∷ []) else None))
           page ≡ option_map (λ (q : Page). q.prot)
           (option_and_then (λ (q : Process). q page) (cond a (Some (with_byte 7)) None))
       by true = one (page == 0x7fffffffe) in_range
@@ -111,8 +114,8 @@ module _ (flying stale : Bool) where
       page ≡ (cached_out flying stale).areas p page
   areas p page = by (p == 1)
     where
-      by : (a : Bool) → pages_in (if a then Some (topmost 1 ∷ []) else None)
-          page ≡ (if a then pages_in (Some (topmost 1 ∷ [])) else none_on) page
+      by : (a : Bool) → pages_in (if a then Some (area 0x7fffffffe 0x7ffffffff 1 ∷ []) else None)
+          page ≡ (if a then pages_in (Some (area 0x7fffffffe 0x7ffffffff 1 ∷ [])) else none_on) page
       by true = refl
       by false = refl
 
@@ -179,6 +182,32 @@ module _ (flying stale : Bool) where
           ∙ same-bytes i below)
       by false is = tt
 
+  -- no entry names a frame, and no area has an anon_vma
+  no_reach : IsRmapSound (cached_out flying stale).ledger (rmap_of (cached_out flying stale))
+  no_reach = record {
+    made = λ v there. absurd (never there);
+    own = λ p page v is. absurd (bare p page v is);
+    covered = λ k f names. absurd (unnamed k f names);
+  }
+    where
+      bare : (p page v : ℕ) → IsSomeAnd ((cached_out flying stale).areas p page) (λ a. a.anon ≡ Some v) → ⊥
+      bare p page v = by (p == 1)
+        where
+          one : (b : Bool) → IsSomeAnd (if b then Some (area 0x7fffffffe 0x7ffffffff 1) else None) (λ a. a.anon ≡ Some v) → ⊥
+          one true h = cc
+          one false h = h
+
+          by : (b : Bool) → IsSomeAnd ((if b then pages_in (Some (area 0x7fffffffe 0x7ffffffff 1 ∷ [])) else none_on) page) (λ a. a.anon ≡ Some v) → ⊥
+          by true h = one (has_page (area 0x7fffffffe 0x7ffffffff 1) page) h
+          by false h = h
+
+      unnamed : (k : Key) (f : ℕ) → IsSomeAnd (entry (cached_out flying stale).ledger k) (λ e. names_frame f e ≡ true) → ⊥
+      unnamed k f = by (same_key k (1, 0x7fffffffe))
+        where
+          by : (b : Bool) → IsSomeAnd (if b then Some (InSlot (slot 1)) else None) (λ e. names_frame f e ≡ true) → ⊥
+          by true h = never h
+          by false h = h
+
   -- ---- the whole
 
   cached-stands : (b : ℕ) → (flying ≡ false → stale ≡ false → b ≡ 7)
@@ -212,6 +241,8 @@ module _ (flying stale : Bool) where
     lists = cached-listed flying stale;
     areas = areas;
     anons = anons-same (cached_view flying stale) (cached_out flying stale).areas;
+    homes = λ f. refl;
+    reach = no_reach;
   }
     where
       dirty : (f : ℕ) → IfSome (slot_of (cached_out flying stale).ledger f)

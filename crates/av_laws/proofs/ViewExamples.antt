@@ -5,18 +5,22 @@ use Rattle.std.proofs.Common.{subst, ◌∙◌}
 use Rattle.std.proofs.lemmas.Bool.Decides.{nat_tests}
 use Rattle.av_base.specs.Words.{is_in}
 use Rattle.av_plain.specs.Device.{no_device}
-use Rattle.av_plain.specs.Ledger.{Entry, Key, entry, is_free}
+use Rattle.av_plain.specs.Ledger.{Entry, Key, entry, is_free, names_frame}
 use Rattle.av_plain.specs.Report.{Range, prot_in}
 use Rattle.av_plain.specs.Sound.{AllSound}
-use Rattle.av_vma.specs.Pages.{pages_in}
+use Rattle.av_vma.specs.Pages.{has_page, pages_in}
 use Rattle.av_vma.specs.declared.area.Area.{Area}
 use Rattle.av_clusters.specs.Clusters.{fresh}
-use Rattle.av_plain.specs.Areas.{no_anons, none_on}
+use Rattle.av_plain.specs.Areas.{chain_of, no_anons, no_homes, none_on}
 use Rattle.av_plain.specs.Choice.{Free, ListsFree}
 use Rattle.av_plain.specs.Stands.{AreApart, Holds, IsKept, Pte, Stands, entry_of, prot_of, ranges_in}
 use Rattle.av_plain.specs.World.{Page, Process, lives, pages, process}
 use Rattle.av_laws.specs.Examples.{machine, page_with, read_write, with_byte}
-use Rattle.av_laws.specs.Views.{NotKin, one_anon, fork_state}
+use Rattle.av_laws.specs.Views.{NotKin, NotLinked, NotReached, homes_with, one_anon, fork_state, parent_and_child, parents_home}
+use Rattle.av_laws.specs.Areas.{anons_of, child, root}
+use Rattle.av_plain.specs.Covered.{IsReached, IsRmapSound}
+use Rattle.av_plain.specs.Transcript.{rmap_of}
+use Rattle.std.specs.Prelude.{IsSomeAnd}
 use Rattle.av_laws.proofs.ListsExamples.{fork-listed}
 use Rattle.av_plain.proofs.Ledger.{same_key, same_key-is}
 use Rattle.av_plain.proofs.Ledger.NoSwap.{key_is}
@@ -86,6 +90,11 @@ unfolding offset_of
 other_offset-not h = let e : ◌≡◌ {A = ℕ} 0 0x7fffffffe = ap offset_of
     (h.areas 1 0x7fffffffe) in omega (arith, e)
 
+-- the anon_vma of a home
+first_home : Option (ℕ × ℕ) → ℕ
+first_home None = 0
+first_home (Some home) = home.0
+
 -- ---- anon_vmas
 
 -- the root that is shown
@@ -104,6 +113,27 @@ other_root-not h = let e : ◌≡◌ {A = ℕ} 1 0 = ap root_in (h.anons.kin 0) 
 
 pub other_chain-not : NotKin (one_anon 0 (0 ∷ 1 ∷ [])) (one_anon 0 (0 ∷ []))
 other_chain-not h = let e : ◌≡◌ {A = ℕ} 2 1 = ap length (h.anons.chains 1 0x7fffffffe) in omega (arith, e)
+
+-- ---- homes
+
+pub other_home-not : Refused (record right { homes = homes_with 1 0x7fffffffe })
+unfolding first_home
+other_home-not h = let e : ◌≡◌ {A = ℕ} 1 0 = ap first_home (h.homes 0) in omega (arith, e)
+
+pub no_home-not : NotReached no_homes
+no_home-not h = h.reach.covered (1, 0x7fffffffe) 0 refl
+
+pub at_the_child-not : NotReached (homes_with 1 0x7fffffffe)
+at_the_child-not h = never ((h.reach.covered (1, 0x7fffffffe) 0 refl).0)
+
+pub other_index-not : NotReached (homes_with 0 0x7fffffffd)
+other_index-not h = let e : ◌≡◌ {A = ℕ} 0x7fffffffe 0x7fffffffd = (h.reach.covered (1, 0x7fffffffe) 0 refl).1 in omega (arith, e)
+
+pub own_left_out-not : NotLinked (anons_of (Some root) (Some (record child { chain = 0 ∷ [] })) 2)
+own_left_out-not h = never (h.reach.own 2 0x7fffffffe 1 refl)
+
+pub made_later-not : NotLinked (anons_of (Some root) (Some child) 1)
+made_later-not h = let less : 1 < 1 = h.reach.made 1 refl in omega (arith, less)
 
 -- ---- lists and areas
 
@@ -252,6 +282,45 @@ kept p page = subst (λ o. IsKept right no_device fork_state.ledger o (pages for
     by false true false q is = nothing q is
     by false false c q is = tt
 
+-- each entry is reached from the home of frame 0
+fork-reach : IsRmapSound fork_state.ledger (rmap_of fork_state)
+fork-reach = record {
+  made = λ v there. made v (v == 0) (v == 1) refl refl there;
+  own = λ p page v is. owns p page v (p == 1) (p == 2) refl refl is;
+  covered = λ k f names. covers_at k f (same_key k (1, 0x7fffffffe)) (same_key k (2, 0x7fffffffe)) refl refl names;
+}
+  where
+    made : (v : ℕ) (a b : Bool) → (v == 0) ≡ a → (v == 1) ≡ b → is_some (cond a (Some root) (cond b (Some child) None)) ≡ true → v < 2
+    made v true b is is' h = let e : v ≡ 0 = grind (arith, nat_tests, is) in omega (arith, e)
+    made v false true is is' h = let e : v ≡ 1 = grind (arith, nat_tests, is') in omega (arith, e)
+    made v false false is is' h = absurd (never h)
+
+    -- the own anon_vma of the one area that is there
+    its : (area : Area) (page v : ℕ) → IsSomeAnd (pages_in (Some (area ∷ [])) page) (λ a. a.anon ≡ Some v) → area.anon ≡ Some v
+    its area page v = by (has_page area page)
+      where
+        by : (b : Bool) → IsSomeAnd (cond b (Some area) None) (λ a. a.anon ≡ Some v) → area.anon ≡ Some v
+        by true h = h
+        by false h = absurd h
+
+    number : {n v : ℕ} → Some n ≡ Some v → v ≡ n
+    number e = cc
+
+    owns : (p page v : ℕ) (a b : Bool) → (p == 1) ≡ a → (p == 2) ≡ b → IsSomeAnd ((cond a (pages_in (Some (topmost 1 ∷ []))) (cond b (pages_in (Some (topmost 2 ∷ []))) none_on)) page) (λ x. x.anon ≡ Some v)
+        → is_in v (chain_of parent_and_child (Some v)) ≡ true
+    owns p page v true b is is' h = subst (λ v. is_in v (chain_of parent_and_child (Some v)) ≡ true) (sym (number (its (topmost 1) page v h))) refl
+    owns p page v false true is is' h = subst (λ v. is_in v (chain_of parent_and_child (Some v)) ≡ true) (sym (number (its (topmost 2) page v h))) refl
+    owns p page v false false is is' h = absurd h
+
+    reached : (k : Key) (f : ℕ) → (f == 0) ≡ true → IsReached (rmap_of fork_state) k (0, 0x7fffffffe) → IsSomeAnd (parents_home f) (IsReached (rmap_of fork_state) k)
+    reached k f is h = let e : 0 ≡ f = grind (arith, nat_tests, is) in subst (λ f. IsSomeAnd (parents_home f) (IsReached (rmap_of fork_state) k)) e h
+
+    covers_at : (k : Key) (f : ℕ) (a b : Bool) → same_key k (1, 0x7fffffffe) ≡ a → same_key k (2, 0x7fffffffe) ≡ b
+        → IsSomeAnd (cond a (Some (InFrame 0 true)) (cond b (Some (InFrame 0 false)) None)) (λ e. names_frame f e ≡ true) → IsSomeAnd (parents_home f) (IsReached (rmap_of fork_state) k)
+    covers_at k f true b is is' h = reached k f h (subst (λ (k : Key). IsReached (rmap_of fork_state) k (0, 0x7fffffffe)) (sym (same_key-is k (1, 0x7fffffffe) is)) (refl, refl))
+    covers_at k f false true is is' h = reached k f h (subst (λ (k : Key). IsReached (rmap_of fork_state) k (0, 0x7fffffffe)) (sym (same_key-is k (2, 0x7fffffffe) is')) (refl, refl))
+    covers_at k f false false is is' h = absurd h
+
 pub right-stands : Stands (machine 4) right no_device fork_state
 right-stands = record {
   over = record { sizes = refl; headers = refl };
@@ -271,6 +340,8 @@ right-stands = record {
   lists = fork-listed;
   areas = areas;
   anons = anons-same right fork_state.areas;
+  homes = λ f. refl;
+  reach = fork-reach;
 }
   where
     free : (f : ℕ) → f < 4 → is_in f (1 ∷ 2 ∷ 3 ∷ []) ≡ is_free fork_state.ledger f

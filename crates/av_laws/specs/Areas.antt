@@ -34,7 +34,7 @@ use Rattle.av_trace.specs.declared.reply.Errno.TheVariants.{Enomem}
 use Rattle.av_trace.specs.declared.reply.Reply.{Reply}
 use Rattle.av_vma.specs.Pages.{fresh_area, pages_in}
 use Rattle.av_vma.specs.declared.area.Area.{Area}
-use Rattle.av_plain.specs.Areas.{AnonVma, Anons, no_anons, no_areas}
+use Rattle.av_plain.specs.Areas.{AnonVma, Anons, no_anons, no_areas, no_homes}
 use Rattle.av_plain.specs.Ledger.{first_ledger}
 use Rattle.av_plain.specs.Transcript.{Exchange, IsRun, IsStep, State, at_first}
 use Rattle.av_plain.specs.World.{Process, zeros}
@@ -144,6 +144,7 @@ state_of areas anons = record {
   free = only_frames (0 ∷ 1 ∷ 2 ∷ 3 ∷ []);
   areas = with_at 1 (pages_in (Some areas)) no_areas;
   anons = anons;
+  homes = no_homes;
 }
 
 -- the command may be answered so there, and leaves process 1 these areas on each of 8 pages, and
@@ -277,6 +278,7 @@ two_with_areas = record {
   areas = with_at 1 (pages_in (Some (behind_root unlike)))
       (with_at 2 (pages_in (Some (of_second ∷ []))) no_areas);
   anons = one_root;
+  homes = no_homes;
 }
 
 -- it is written first

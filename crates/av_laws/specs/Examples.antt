@@ -49,7 +49,7 @@ use Rattle.av_trace.specs.declared.reply.Totals.{Totals}
 use Rattle.av_trace.specs.declared.reply.Answer.{Answer}
 use Rattle.av_trace.specs.declared.reply.Answer.TheVariants.{Done, MapAt, Data, Refused, Segv, Bus, Oom, Runs as RunCount, Counted}
 use Rattle.av_vma.specs.Pages.{Pages, fresh_area, pages_in}
-use Rattle.av_plain.specs.Areas.{no_anons, Areas, no_areas}
+use Rattle.av_plain.specs.Areas.{Areas, no_anons, no_areas, no_homes}
 use Rattle.av_plain.specs.Choice.{Free, no_slots}
 use Rattle.av_plain.specs.World.{Process, Page, no_pages, zeros, with_pages}
 use Rattle.av_plain.specs.Ledger.{Ledger, Setting, Cached, Entry, Zero, InFrame, InSlot, first_ledger}
@@ -388,6 +388,7 @@ crowd n = record {
   free = only_frames (0 ∷ 1 ∷ 2 ∷ 3 ∷ []);
   areas = no_areas;
   anons = no_anons;
+  homes = no_homes;
 }
 
 -- the last process that may live, and one more. That a process lives is found before that too many
@@ -410,6 +411,7 @@ after_fork free = record {
   free = only_frames free;
   areas = areas_from 0x7fffffffe read_write (1 ∷ 2 ∷ []);
   anons = no_anons;
+  homes = no_homes;
 }
 
 -- a write to a shared frame copies it, a read doesn't. The other process is then alone with its
@@ -464,6 +466,7 @@ paged_out slots free = record {
   free = with_slots (slots + 1) [] 1 free;
   areas = areas_from 0x7fffffffe read_write (1 ∷ []);
   anons = no_anons;
+  homes = no_homes;
 }
 
 -- the page comes in and stays cached; the first write drops its slot. Before, the device may fail
@@ -514,6 +517,7 @@ cached_out flying stale = record {
   free = with_slots 8 [] 1 (1 ∷ 2 ∷ 3 ∷ []);
   areas = areas_from 0x7fffffffe read_write (1 ∷ []);
   anons = no_anons;
+  homes = no_homes;
 }
 
 -- its write is in flight
@@ -572,6 +576,7 @@ slot_shared free = record {
   free = with_slots 8 [] 1 free;
   areas = areas_from 0x7fffffffe read_write (1 ∷ 2 ∷ []);
   anons = no_anons;
+  homes = no_homes;
 }
 
 -- what a write loads it copies, since the other entry names the slot; then the other one maps the
@@ -615,6 +620,7 @@ one_written = record {
   free = only_frames (1 ∷ 2 ∷ 3 ∷ []);
   areas = areas_from 0x7fffffffe read_write (1 ∷ []);
   anons = no_anons;
+  homes = no_homes;
 }
 
 -- nothing lives, and frame 0 was given back last
@@ -625,6 +631,7 @@ all_gone = record {
   free = only_frames (0 ∷ 1 ∷ 2 ∷ 3 ∷ []);
   areas = no_areas;
   anons = no_anons;
+  homes = no_homes;
 }
 
 -- the page is unmapped, or another is mapped over it
@@ -635,6 +642,7 @@ page_gone = record {
   free = only_frames (0 ∷ 1 ∷ 2 ∷ 3 ∷ []);
   areas = no_areas;
   anons = no_anons;
+  homes = no_homes;
 }
 
 abbrev pub page_anew : State
@@ -644,6 +652,7 @@ page_anew = record {
   free = only_frames (0 ∷ 1 ∷ 2 ∷ 3 ∷ []);
   areas = areas_from 0x7fffffffe read_only (1 ∷ []);
   anons = no_anons;
+  homes = no_homes;
 }
 
 -- the topmost page of process 1 is for reading only, the two below for reading and writing
@@ -662,6 +671,7 @@ two_protections = record {
       ∷ fresh_area 1 0x7fffffffe 0x7ffffffff read_only ∷ [])))
       no_areas;
   anons = no_anons;
+  homes = no_homes;
 }
 
 -- a reply to `maps` with these rows
@@ -856,6 +866,7 @@ state_at_rest = record {
   free = only_frames (0 ∷ 1 ∷ 2 ∷ 3 ∷ []);
   areas = areas_from 0x7fffffffe read_write (1 ∷ []);
   anons = no_anons;
+  homes = no_homes;
 }
 
 -- no process lives
@@ -875,6 +886,7 @@ in_swap_cache = record {
   free = with_slots 8 [] 1 (1 ∷ 2 ∷ 3 ∷ []);
   areas = areas_from 0x7fffffffe read_write (1 ∷ []);
   anons = no_anons;
+  homes = no_homes;
 }
 
 -- the run may not be: some reply of it is wrong

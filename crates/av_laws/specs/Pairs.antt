@@ -22,7 +22,7 @@ use Rattle.av_trace.specs.declared.note.Note.{Note}
 use Rattle.av_trace.specs.declared.note.Note.TheVariants.{Zeroed, New, Loaded, Mapped, Put, Unmapped, Started, Written, Failed, Dropped, Kept, Aged}
 use Rattle.av_trace.specs.declared.note.Cause.TheVariants.{Referenced, NoSlot}
 use Rattle.av_trace.specs.declared.reply.Answer.TheVariants.{Done, MapAt, Data, Segv, Bus, Oom, Counted}
-use Rattle.av_plain.specs.Areas.{no_anons}
+use Rattle.av_plain.specs.Areas.{no_anons, no_homes}
 use Rattle.av_plain.specs.World.{Process, World, byte_at, pages}
 use Rattle.av_plain.specs.Ledger.{Ledger, Setting, Cached, Entry, Key, Zero, InFrame, InSlot, SwapArea, first_ledger}
 use Rattle.av_plain.specs.Event.{Event, Noted, Used, Forked, Moved, TurnedOn, TurnedOff, Inherited}
@@ -221,6 +221,7 @@ two_written = record {
   free = only_frames (2 ∷ 3 ∷ []);
   areas = areas_from 0x7fffffffd read_write (1 ∷ []);
   anons = no_anons;
+  homes = no_homes;
 }
 
 -- the upper one of two pages is at slot 1, and the lower one was not touched
@@ -234,6 +235,7 @@ second_out free = record {
   free = with_slots 8 [] 1 free;
   areas = areas_from 0x7fffffffd read_write (1 ∷ []);
   anons = no_anons;
+  homes = no_homes;
 }
 
 -- one frame and a device whose page 1 is bad
@@ -257,6 +259,7 @@ full = record {
   free = with_slots 8 (1 ∷ []) 0 [];
   areas = areas_from 0x7fffffffd read_write (1 ∷ []);
   anons = no_anons;
+  homes = no_homes;
 }
 
 -- two writes are in flight, of slots 1 and 2, and process 2 has a page that was not touched
@@ -273,6 +276,7 @@ two_in_flight = record {
   free = with_slots 8 [] 2 [];
   areas = areas_from 0x7fffffffd read_write (1 ∷ 2 ∷ []);
   anons = no_anons;
+  homes = no_homes;
 }
 
 -- two processes have one slot of an area with so many, and frame 0 caches it; the entry of the
@@ -289,6 +293,7 @@ cached_for_two slots e = record {
   free = with_slots (slots + 1) [] 1 (1 ∷ 2 ∷ 3 ∷ []);
   areas = areas_from 0x7fffffffd read_write (1 ∷ 2 ∷ []);
   anons = no_anons;
+  homes = no_homes;
 }
 
 -- two processes have slot 1 at their upper page, and the first one slot 2 at its lower page

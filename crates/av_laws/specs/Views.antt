@@ -1,27 +1,46 @@
 -- Views of a kernel after a fork, when two processes have frame 0: the right one, which stands for
 -- the state, and some that don't. Each of these is the right one but for one thing.
-use Rattle.std.specs.Prelude.{ℕ, Bool, false, ◌==◌, ◌&&◌, ◌||◌, if◌then◌else◌, List, [], ◌∷◌, ◌++◌, Some, None, option_map, replicate, codes}
+use Rattle.std.specs.Prelude.{ℕ, ◌-◌, Bool, false, ◌==◌, ◌&&◌, ◌||◌, if◌then◌else◌, List, [], ◌∷◌, ◌++◌, Some, None, option_map, replicate, codes}
 use Rattle.av_plain.specs.Device.{Device, no_device}
 use Rattle.av_plain.specs.Ledger.{SwapArea, entry, frame_at, map_count, slot_entries, slot_of}
+use Rattle.av_base.specs.Words.{with_at}
 use Rattle.av_vma.specs.Pages.{fresh_area, pages_in}
 use Rattle.av_vma.specs.declared.area.Area.{Area}
-use Rattle.av_plain.specs.Areas.{Anons, Areas, no_anons}
+use Rattle.av_plain.specs.Areas.{Anons, Areas, Homes, no_anons, no_areas, no_homes}
 use Rattle.av_plain.specs.Choice.{no_slots}
 use Rattle.av_plain.specs.Stands.{Stands, View}
 use Rattle.av_plain.specs.Transcript.{State}
+use Rattle.av_laws.specs.Areas.{anons_of, child, root}
 use Rattle.av_laws.specs.Examples.{after_fork, cached_out, machine, only_frames, read_write, with_slots, with_swap}
-
--- two processes have the topmost page, in frame 0
-abbrev pub fork_state : State
-fork_state = after_fork (1 ∷ 2 ∷ 3 ∷ [])
 
 -- an area of a process with pages for reading and writing, as it was mapped
 abbrev pub area : ℕ → ℕ → ℕ → Area
 area from past p = fresh_area p from past read_write
 
--- the one with the topmost page
+-- the one with the topmost page, whose own anon_vma is 0 in process 1, and 1 in process 2
 abbrev pub topmost : ℕ → Area
-topmost p = area 0x7fffffffe 0x7ffffffff p
+topmost p = record (area 0x7fffffffe 0x7ffffffff p) { anon = Some (p - 1) }
+
+-- anon_vma 0 is a root, and 1 is its child
+abbrev pub parent_and_child : Anons
+parent_and_child = anons_of (Some root) (Some child) 2
+
+-- frame 0 has this home: an anon_vma and an index
+abbrev pub homes_with : ℕ → ℕ → Homes
+homes_with anon index = with_at 0 (Some (anon, index)) no_homes
+
+-- it got its home where process 1 wrote the page
+abbrev pub parents_home : Homes
+parents_home = homes_with 0 0x7fffffffe
+
+-- two processes have the topmost page, in frame 0, whose home is the parent's
+abbrev pub fork_state : State
+fork_state = record (after_fork (1 ∷ 2 ∷ 3 ∷ [])) {
+  areas = with_at 1 (pages_in (Some (topmost 1 ∷ [])))
+      (with_at 2 (pages_in (Some (topmost 2 ∷ []))) no_areas);
+  anons = parent_and_child;
+  homes = parents_home;
+}
 
 -- the right view, with these areas of each process and this write bit of their entries
 abbrev pub view_with : (ℕ → List Area) → Bool → View
@@ -37,7 +56,8 @@ view_with areas write = record {
       option_map (λ e. record { entry = e; write = write }) (entry fork_state.ledger (p, page));
   processes = 2;
   areas = λ p. if p == 1 || p == 2 then Some (areas p) else None;
-  anons = no_anons;
+  anons = parent_and_child;
+  homes = parents_home;
   find = λ s. None;
   entries = λ s. 0;
   flight = [];
@@ -58,6 +78,21 @@ abbrev pub NotFree : List ℕ → Type 0
 NotFree frames =
     Stands (machine 4) (record right { free = frames }) no_device
     (record fork_state { free = only_frames frames }) → ⊥
+
+-- ---- homes
+
+-- a kernel and a state that agree on the home of frame 0, but not all of its entries are reached
+-- from it
+abbrev pub NotReached : Homes → Type 0
+NotReached homes =
+    Stands (machine 4) (record right { homes = homes }) no_device
+    (record fork_state { homes = homes }) → ⊥
+
+-- nor do these anon_vmas, though they agree on them
+abbrev pub NotLinked : Anons → Type 0
+NotLinked anons =
+    Stands (machine 4) (record right { anons = anons }) no_device
+    (record fork_state { anons = anons }) → ⊥
 
 -- ---- anon_vmas
 
@@ -110,8 +145,9 @@ cached_view flying stale = let l = (cached_out flying stale).ledger in record {
   active = [];
   table = λ p page. option_map (λ e. record { entry = e; write = false }) (entry l (p, page));
   processes = 1;
-  areas = λ p. if p == 1 then Some (topmost 1 ∷ []) else None;
+  areas = λ p. if p == 1 then Some (area 0x7fffffffe 0x7ffffffff 1 ∷ []) else None;
   anons = no_anons;
+  homes = no_homes;
   find = frame_at l;
   entries = slot_entries l;
   flight = l.flight;

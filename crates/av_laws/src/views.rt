@@ -1,7 +1,8 @@
 //! Views of a kernel that stand for a state, and such as don't.
 
 ghost use Rattle.std.specs.Prelude.{[], ◌∷◌, true, false, Some, None};
-ghost use Rattle.av_plain.specs.Areas.{no_anons};
+ghost use Rattle.av_plain.specs.Areas.{no_anons, no_homes};
+ghost use Rattle.av_laws.specs.Areas.{anons_of, child, root};
 ghost use Rattle.av_plain.specs.Device.{no_device};
 ghost use Rattle.av_plain.specs.Stands.{Stands};
 ghost use Rattle.av_laws.specs.Examples.{cached_out, machine, with_slots};
@@ -11,12 +12,15 @@ ghost use Rattle.av_laws.specs.Views.{
   NotFree,
   NotGiven,
   NotKin,
+  NotLinked,
+  NotReached,
   Refused,
   StandsFor,
   area,
   cached_view,
   fewer_slots,
   fork_state,
+  homes_with,
   one_anon,
   right,
   topmost,
@@ -52,6 +56,19 @@ pub fn changed_views_do_not_stand()
         (view_with (λ p. record (topmost p) { pgoff = 0 } ∷ []) false) }
     ensures areas_of_nobody { Refused (record right { areas = λ p. Some (topmost p ∷ []) }) }
     ensures too_few_processes { Refused (record right { processes = 1 }) }
+{}
+
+/// A view stands for the state only where it has the home of each frame, and each of the frame's
+/// entries is reached from that: the area of the page has the home's anon_vma in its chain, and the
+/// page the home's index. An area's own anon_vma is in its chain, and each that is there was made.
+pub fn unreached_entries_do_not_stand()
+    ensures other_home { Refused (record right { homes = homes_with 1 0x7fffffffe }) }
+    ensures no_home { NotReached no_homes }
+    ensures at_the_child { NotReached (homes_with 1 0x7fffffffe) }
+    ensures other_index { NotReached (homes_with 0 0x7fffffffd) }
+    ensures own_left_out { NotLinked
+        (anons_of (Some root) (Some (record child { chain = 0 ∷ [] })) 2) }
+    ensures made_later { NotLinked (anons_of (Some root) (Some child) 1) }
 {}
 
 /// Where areas have an anon_vma, a view stands for the state only where it has as many made, the
