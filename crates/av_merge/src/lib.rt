@@ -36,6 +36,3 @@ pub use laws::{
     areas_are_laid, cuts_keep_mappings, joins_keep_mappings, parts_are_changed_page_by_page,
 };
 pub use preparing::prepare;
-
-#[cfg(test)]
-mod tests;

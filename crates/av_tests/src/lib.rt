@@ -19,6 +19,8 @@ mod io;
 #[cfg(test)]
 mod lru;
 #[cfg(test)]
+mod merge;
+#[cfg(test)]
 mod pagetable;
 #[cfg(test)]
 mod swapdev;

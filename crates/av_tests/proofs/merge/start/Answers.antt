@@ -5,7 +5,7 @@ use Rattle.av_vma.specs.Areas.{area_of}
 use Rattle.av_anon.specs.Anons.{Family, family, nobody}
 use Rattle.av_anon.specs.Order.{IsInOrder}
 use Rattle.av_anon.specs.Spans.{spans_of}
-use Rattle.av_merge.proofs.tests.start.Goals as goal
+use Rattle.av_tests.proofs.merge.start.Goals as goal
 
 nothing : (areas : ℕ → Option Area) (f : Family) (spans : ℕ → List Span) → ((n : ℕ) → areas n ≡ None) → f ≡ nobody → ((v : ℕ) → spans v ≡ []) → IsInOrder (λ _. None) nobody (λ _. []) → IsInOrder areas f spans
 nothing areas f spans none is empty o =
