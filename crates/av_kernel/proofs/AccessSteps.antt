@@ -79,6 +79,7 @@ module _ (s : State) (old new : Mem) (p a : ℕ) (before notes : List Note) (row
       ledger = h.ledger;
       free = subst (λ m. ChoosesAll (setting m) None s.ledger h.events s.free h.next.free) same h.free;
       rmap = rmap_still (Read p a n) answer (λ long on. refl) h.next h.events h.rmap h.keeps;
+      shows = tt;
     };
     keeps = h.keeps;
   }
@@ -104,6 +105,7 @@ module _ (s : State) (old new : Mem) (p a : ℕ) (before notes : List Note) (row
       ledger = h.ledger;
       free = subst (λ m. ChoosesAll (setting m) None s.ledger h.events s.free h.next.free) same h.free;
       rmap = rmap_still (Read p a n) answer (λ long on. refl) h.next h.events h.rmap h.keeps;
+      shows = tt;
     };
     keeps = h.keeps;
   }
@@ -127,6 +129,7 @@ module _ (s : State) (old new : Mem) (p a : ℕ) (before notes : List Note) (row
       ledger = h.ledger;
       free = subst (λ m. ChoosesAll (setting m) None s.ledger h.events s.free h.next.free) same h.free;
       rmap = rmap_still (Write p a bytes) answer (λ long on. refl) h.next h.events h.rmap h.keeps;
+      shows = tt;
     };
     keeps = h.keeps;
   }
@@ -150,6 +153,7 @@ module _ (s : State) (old new : Mem) (p a : ℕ) (before notes : List Note) (row
       ledger = h.ledger;
       free = subst (λ m. ChoosesAll (setting m) None s.ledger h.events s.free h.next.free) same h.free;
       rmap = rmap_still (Write p a bytes) answer (λ long on. refl) h.next h.events h.rmap h.keeps;
+      shows = tt;
     };
     keeps = h.keeps;
   }

@@ -2,7 +2,7 @@
 -- answer: a view.
 use Rattle.std.specs.FinMap.Entries.{find}
 use Rattle.std.specs.Ordering.{nat_cmp}
-use Rattle.std.specs.Prelude.{ℕ, Bool, true, false, ◌&&◌, if◌then◌else◌, List, [], ◌∷◌, map, Option, Some, None, ◌≡◌, ◌<◌, IfSome, IsSomeAnd, is_some, ◌≤◌, length, nat_lt, nat_le, option_map, slice_index}
+use Rattle.std.specs.Prelude.{ℕ, Bool, true, false, List, map, Option, Some, None, ◌≡◌, ◌<◌, IfSome, IsSomeAnd, is_some, length, option_map, slice_index}
 use Rattle.av_base.specs.Page.{page_size}
 use Rattle.av_base.specs.Words.{is_in}
 use Rattle.av_base.specs.declared.slot.Slot.{Slot}
@@ -11,8 +11,8 @@ use Rattle.av_plain.specs.Fault.{is_shared}
 use Rattle.av_plain.specs.Ledger.{Entry, HasNumbers, InFrame, InSlot, Ledger, Setting, SwapArea, Zero, entry, frame_at, in_flight, is_free, is_stale, map_count, names_frame, slot_entries, slot_of}
 use Rattle.av_plain.specs.Areas.{AnonVma, Anons, Areas, chain_of}
 use Rattle.av_plain.specs.Choice.{AreaSlots, Free, ListsAll}
-use Rattle.av_plain.specs.Report.{Range, prot_in, range_of}
-use Rattle.av_plain.specs.Sound.{AllSound, slots}
+use Rattle.av_plain.specs.Report.{AreApart, Range, prot_in, range_of}
+use Rattle.av_plain.specs.Sound.{AllSound}
 use Rattle.av_plain.specs.Transcript.{State}
 use Rattle.av_plain.specs.World.{Page, World, lives, pages}
 use Rattle.av_base.specs.declared.prot.Prot.{Prot}
@@ -92,12 +92,6 @@ pub record SwapStands (v : View) (l : Ledger) : Type 0 where
   pub on : v.on ≡ l.on
 
 -- ---- the areas
-
--- the ranges rise, none is empty, and no two meet
-abbrev pub AreApart : List Range → Type 0
-AreApart [] = Unit {0}
-AreApart (a ∷ []) = a.from < a.to
-AreApart (a ∷ b ∷ areas) = (a.from < a.to) × (a.to ≤ b.from) × AreApart (b ∷ areas)
 
 -- the ranges of the areas of a process, if it lives
 abbrev pub ranges_in : Option (List Area) → Option (List Range)
