@@ -80,6 +80,7 @@ module _ (s : State) (old new : Mem) (p a : ℕ) (before notes : List Note) (row
       ledger = h.ledger;
       free = subst (λ m. ChoosesAll (setting m) None s.ledger h.events s.free h.next.free) same h.free;
       rmap = rmap_still (Read p a n) answer (λ long on. refl) h.next h.events h.rmap h.keeps;
+      shows = tt;
     };
     keeps = h.keeps;
   }
@@ -105,6 +106,7 @@ module _ (s : State) (old new : Mem) (p a : ℕ) (before notes : List Note) (row
       ledger = h.ledger;
       free = subst (λ m. ChoosesAll (setting m) None s.ledger h.events s.free h.next.free) same h.free;
       rmap = rmap_still (Read p a n) answer (λ long on. refl) h.next h.events h.rmap h.keeps;
+      shows = tt;
     };
     keeps = h.keeps;
   }
@@ -128,6 +130,7 @@ module _ (s : State) (old new : Mem) (p a : ℕ) (before notes : List Note) (row
       ledger = h.ledger;
       free = subst (λ m. ChoosesAll (setting m) None s.ledger h.events s.free h.next.free) same h.free;
       rmap = rmap_still (Write p a bytes) answer (λ long on. refl) h.next h.events h.rmap h.keeps;
+      shows = tt;
     };
     keeps = h.keeps;
   }
@@ -151,6 +154,7 @@ module _ (s : State) (old new : Mem) (p a : ℕ) (before notes : List Note) (row
       ledger = h.ledger;
       free = subst (λ m. ChoosesAll (setting m) None s.ledger h.events s.free h.next.free) same h.free;
       rmap = rmap_still (Write p a bytes) answer (λ long on. refl) h.next h.events h.rmap h.keeps;
+      shows = tt;
     };
     keeps = h.keeps;
   }

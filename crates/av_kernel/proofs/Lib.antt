@@ -12,5 +12,6 @@ pub mod AccessParts
 pub mod AccessSteps
 pub mod ReportRuns
 pub mod ReportMaps
+pub mod ReportAreas
 pub mod ReportStat
 pub mod TallyCounts

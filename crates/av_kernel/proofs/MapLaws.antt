@@ -38,6 +38,7 @@ use Rattle.av_plain.specs.Areas.{Rmap, rmap_after_all}
 use Rattle.av_vma.proofs.Homes.{KeepsHomes}
 use Rattle.av_plain.specs.Areas.{AreNext, areas_to_hole, chain_length, next_areas, with_room}
 use Rattle.av_plain.specs.Choice.{ChoosesAll}
+use Rattle.av_plain.specs.Report.{ShowsAreas}
 use Rattle.av_plain.specs.Transcript.{State, rmap_of}
 use Rattle.av_plain.specs.Device.{no_device}
 use Rattle.av_plain.specs.Stands.{AreasAre, Holds, IsKept, IsKeptAt, free_of, prot_of}
@@ -245,12 +246,13 @@ module _ (old new : Mem) (s : State) (command : Command) (reply : Reply) (p page
 
   pub replaced-steps : IsLegal (setting (count old)) s.world s.ledger command reply events
       → set_process s.world p (with_pages (pages s.world p) page n (λ _. o)) ≡ next_world (setting (count old)) s.world s.ledger events command reply.answer
-      → with_at p on s.areas ≡ next_areas (chain_length s.anons) s.areas s.world command reply.answer → MemSteps old new s command reply
-  replaced-steps legal world next =
+      → with_at p on s.areas ≡ next_areas (chain_length s.anons) s.areas s.world command reply.answer
+      → ShowsAreas s.areas s.anons command reply.answer reply.rows → MemSteps old new s command reply
+  replaced-steps legal world next shows =
       let now : Process = with_pages (pages s.world p) page n (λ _. o) in
       changed old new s command reply p now on (after_all s.ledger events) keeps stay same_count taken.stands bytes homes
       (λ q at other. entries q at ∙ ap (λ b. cond (b && within page n at) None (entry s.ledger (q, at))) other) kept there home
-      (record { events = events; legal = legal; world = world; ledger = refl; free = subst (λ free. ChoosesAll (setting (count old)) None s.ledger events free (free_of (view new))) keeps.stands.free taken.free; rmap = subst (λ r. AreNext r s.world command reply.answer (rmap_of (state_after s p now on (after_all s.ledger events) (free_of (view new)) new.anons))) (sym silent) (record { areas = next; anons = are_left old s keeps new.spaces new.anons stay (with_at p on s.areas) areas; homes = refl }) })
+      (record { events = events; legal = legal; world = world; ledger = refl; free = subst (λ free. ChoosesAll (setting (count old)) None s.ledger events free (free_of (view new))) keeps.stands.free taken.free; rmap = subst (λ r. AreNext r s.world command reply.answer (rmap_of (state_after s p now on (after_all s.ledger events) (free_of (view new)) new.anons))) (sym silent) (record { areas = next; anons = are_left old s keeps new.spaces new.anons stay (with_at p on s.areas) areas; homes = refl }); shows = shows })
       areas
       (areas_changed old new s p now (set_on page n (option_map (λ (x : Page). x.prot) o) (prot_of (ranges_of old.spaces.processes p))) keeps alive spaces covered)
       (tables_kept old new s p now (set_on page n (option_map (λ (x : Page). x.prot) o) (prot_of (ranges_of old.spaces.processes p))) keeps alive spaces covered processes)
@@ -292,7 +294,7 @@ module _ (old new : Mem) (s : State) (p a len : ℕ) (keeps : Keeps old s) (aliv
         answer = subst (λ o. MatchOption o (Follows (setting (count old)) s.world s.ledger (Munmap p a len) events Done []) (λ e. Refuses e events Done [])) (sym munmap-allowed) (refl, refl, refl);
         notes = sym cleared.taken.notes;
       })
-      refl refl
+      refl refl tt
 
 -- ---- mmap
 
@@ -318,6 +320,7 @@ module _ (old : Mem) (s : State) (p len : ℕ) (prot : Prot) (place : Place) (ke
       ledger = refl;
       free = refl;
       rmap = areas_kept old s (Mmap p len prot place) (Refused error) keeps refl;
+      shows = tt;
     };
     keeps = keeps;
   }
@@ -374,6 +377,7 @@ module _ (old : Mem) (s : State) (p len : ℕ) (prot : Prot) (place : Place) (ke
         })
         (ap (λ x. set_process s.world p (with_pages (pages s.world p) x (pages_of len) (λ _. Some (zeros prot)))) (sym (page_back page)))
         (ap (λ x. with_at p (after_map (chain_length s.anons) p x (x + pages_of len) prot (with_room (pages_of len) place (s.areas p))) s.areas) (sym (page_back page)))
+        tt
 
 -- ---- mprotect
 
@@ -473,6 +477,7 @@ module _ (old : Mem) (spaces : AllSpaces) (anons : AnonSet) (s : State) (p a len
         ledger = refl;
         free = keeps.stands.free;
         rmap = record { areas = next; anons = are_left old s keeps spaces anons stay _ now_on; homes = refl };
+        shows = tt;
       })
       now_on
       (areas_changed old new s p now (set_on (page_of a) (reached - page_of a) (Some prot) (prot_of (ranges_of old.spaces.processes p))) keeps alive given covered-protected)

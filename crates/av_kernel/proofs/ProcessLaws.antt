@@ -112,6 +112,7 @@ module _ (old : Mem) (tables : ProcessTables) (spaces : AllSpaces) (s : State) (
     ledger = refl;
     free = keeps.stands.free;
     rmap = record { areas = refl; anons = are_left old s keeps spaces old.anons stay (with_at p none_on s.areas) spawn-on; homes = refl };
+    shows = tt;
   }
 
   spawn-alive : (q : ℕ) → is_some (areas_of spaces.processes q) ≡ lives (set_process s.world p no_pages) q
@@ -231,6 +232,7 @@ module _ (old mid : Mem) (tables : ProcessTables) (spaces : AllSpaces) (anons : 
     free = subst (λ free. ChoosesAll (setting (count old)) None s.ledger (zaps_of s.ledger (keys_of_process s.ledger p)) free (free_of (view mid))) keeps.stands.free taken.free;
     rmap = subst (λ r. AreNext r s.world (Exit p) Done (rmap_of (record { world = end_process s.world p; ledger = after_all s.ledger (zaps_of s.ledger (keys_of_process s.ledger p)); free = free_of (view mid); areas = with_at p none_on s.areas; anons = left_of anons s.anons; homes = s.homes })))
         (sym (rmap_after_all-zaps s.ledger (keys_of_process s.ledger p) s.ledger (rmap_of s))) (record { areas = refl; anons = are_left old s keeps spaces anons stay (with_at p none_on s.areas) exit-on; homes = refl });
+    shows = tt;
   }
 
   -- ---- what stands then

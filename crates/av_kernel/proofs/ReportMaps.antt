@@ -45,6 +45,7 @@ module _ (k : Mem) (s : State) (p : ℕ) (areas : List Area) (rows : List Row) (
       ledger = refl;
       free = refl;
       rmap = areas_kept k s _ _ keeps refl;
+      shows = tt;
     };
     keeps = keeps;
   }

@@ -12,7 +12,7 @@ use Rattle.av_spaces.specs.Spaces.{IsOwn, AreRising}
 use Rattle.av_trace.specs.declared.row.Row.{Row}
 use Rattle.av_trace.specs.declared.row.Row.TheVariants.{Run}
 use Rattle.av_plain.specs.Report.{Range, row_of}
-use Rattle.av_plain.specs.Stands.{AreApart}
+use Rattle.av_plain.specs.Report.{AreApart}
 use Rattle.av_plain.proofs.Report.Runs.{joined, all_joined, longest, cover}
 use Rattle.av_plain.specs.Report.{range_of}
 use Rattle.av_reclaim.proofs.MemLaws.{apart_of}

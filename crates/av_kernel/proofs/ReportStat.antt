@@ -34,6 +34,7 @@ stat-steps k s processes keeps once below number = record {
     ledger = refl;
     free = refl;
     rmap = areas_kept k s Stat _ keeps refl;
+    shows = tt;
   };
   keeps = keeps;
 }

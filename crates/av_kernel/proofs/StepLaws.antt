@@ -33,6 +33,7 @@ use Rattle.av_vma.specs.declared.area.Area.{Area}
 use Rattle.av_reclaim.proofs.AnonLaws.{anons_stand, are_left, left_of}
 use Rattle.av_plain.proofs.FreeFrames.{step-lists_free}
 use Rattle.av_plain.proofs.Refusal.{refused-areas, refused-next}
+use Rattle.av_plain.proofs.Report.Areas.{shows-refused}
 use Rattle.av_plain.proofs.Sound.{step-sound}
 use Rattle.av_plain.proofs.World.{pages-set, lives-set, length-set_old}
 use Rattle.av_pagetable.specs.Entries.{ProcessTables, entry_at, has}
@@ -94,6 +95,7 @@ refused k s command error keeps is = record {
     ledger = refl;
     free = refl;
     rmap = areas_kept k s command (Refused error) keeps (refused-areas (setting (count k)) s.world s.ledger (chain_length s.anons) s.areas command error is);
+    shows = shows-refused s.areas s.anons command error [];
   };
   keeps = keeps;
 }

@@ -8,7 +8,8 @@ use Rattle.av_spaces.specs.Spaces.{Spaces, pages_of}
 use Rattle.av_vma.specs.Pages.{Pages, home_of}
 use Rattle.av_plain.specs.Ledger.{Ledger}
 use Rattle.av_plain.specs.Event.{Event}
-use Rattle.av_plain.specs.Stands.{prot_of, AreApart}
+use Rattle.av_plain.specs.Report.{AreApart}
+use Rattle.av_plain.specs.Stands.{prot_of}
 use Rattle.av_reclaim.specs.declared.mem.Mem.{Mem}
 use Rattle.av_reclaim.specs.Mem.{view, ranges_of}
 use Rattle.av_reclaim.specs.Zap.{HasZapped}

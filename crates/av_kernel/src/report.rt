@@ -1,9 +1,11 @@
-//! Reports: `maps` and `stat`. They change nothing.
+//! Reports: `maps`, `areas` and `stat`. They change nothing.
 
-ghost use Rattle.std.specs.Prelude.{◌≡◌, ℕ, true, false, map, Ok, IfOk};
-ghost use Rattle.av_spaces.specs.Spaces.{AreRising};
-ghost use Rattle.av_plain.specs.Report.{range_of};
-ghost use Rattle.av_reclaim.specs.Mem.{IsSteady};
+ghost use Rattle.std.specs.Prelude.{◌≡◌, ℕ, true, false, map, Some, Ok, IfOk};
+ghost use Rattle.av_spaces.specs.Kin.{AnonsFit};
+ghost use Rattle.av_spaces.specs.Spaces.{AreRising, areas_of, pages_of};
+ghost use Rattle.av_vma.specs.Join.{first_of};
+ghost use Rattle.av_plain.specs.Report.{area_row as row_of_area, range_of};
+ghost use Rattle.av_reclaim.specs.Mem.{IsSteady, view};
 ghost use Rattle.av_kernel.specs.Step.{Does};
 ghost use Rattle.av_kernel.specs.Report.{AreRuns};
 ghost use Rattle.av_trace.specs.declared.command.Command.TheVariants as commands;
@@ -12,8 +14,9 @@ ghost use Rattle.av_trace.specs.declared.row.Row.TheVariants as row;
 use crate::process::check_lives;
 use crate::refusal::Refusal;
 use crate::step::answer_only;
+use av_base::PAGE_SIZE;
 use av_reclaim::Mem;
-use av_trace::{Answer, Notes, Reply, Row, Rows, Totals};
+use av_trace::{Answer, Chain, Notes, Reply, Row, Rows, Totals};
 use av_vma::Area;
 use std::alloc::{AllocError, Global};
 
@@ -27,6 +30,21 @@ pub fn maps(mem: &Mem, alloc: Global, process: u16) -> Result<Reply, Refusal>
     let rows = runs_of(alloc, &areas)?;
     Ok(Reply {
         answer: Answer::Runs(rows.as_slice().len() as u64),
+        notes: Notes::new(alloc),
+        rows,
+    })
+}
+
+/// Does an `areas`: the areas of a process, rising, each with its own anon_vma and its chain.
+pub fn areas(mem: &Mem, alloc: Global, process: u16) -> Result<Reply, Refusal>
+    requires { IsSteady mem.now }
+    ensures { Does mem.now mem.now (commands.Areas process) result }
+{
+    check_lives(mem, process)?;
+    let areas = mem.spaces.areas(process)?;
+    let rows = area_rows(mem, alloc, process, &areas)?;
+    Ok(Reply {
+        answer: Answer::AreaList(rows.as_slice().len() as u64),
         notes: Notes::new(alloc),
         rows,
     })
@@ -91,4 +109,36 @@ fn row_of(run: &Area) -> Row
         end: run.end,
         prot: run.prot,
     }
+}
+
+/// The rows of the areas of a process.
+fn area_rows(mem: &Mem, alloc: Global, process: u16, areas: &[Area]) -> Result<Rows, AllocError>
+    requires fit { AnonsFit mem.now.spaces mem.now.anons }
+    requires areas { areas_of mem.now.spaces.processes process ≡ Some areas.now }
+    requires rising { AreRising process areas.now }
+    ensures { IfOk result (λ rows. rows ≡ map (row_of_area (view mem.now).anons) areas.now) }
+{
+    let mut rows = Rows::new(alloc);
+    for area in areas {
+        rows.push(area_row(mem, process, area)?)?;
+    }
+    Ok(rows)
+}
+
+/// The row of an area of a process.
+fn area_row(mem: &Mem, process: u16, area: &Area) -> Result<Row, AllocError>
+    requires fit { AnonsFit mem.now.spaces mem.now.anons }
+    requires area { pages_of mem.now.spaces.processes process (first_of area.now) ≡ Some area.now }
+    ensures { IfOk result (λ row. row ≡ row_of_area (view mem.now).anons area.now) }
+{
+    let first = area.start / PAGE_SIZE;
+    let chain = mem.spaces.chain(&mem.anons, process, first)?;
+    Ok(Row::Area {
+        start: area.start,
+        end: area.end,
+        prot: area.prot,
+        offset: area.pgoff,
+        own: area.anon,
+        chain: Chain::from_vec(chain),
+    })
 }

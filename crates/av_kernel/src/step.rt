@@ -10,7 +10,7 @@ use crate::access::{read, write};
 use crate::map::{mmap, mprotect, munmap};
 use crate::process::{exit, spawn};
 use crate::refusal::Refusal;
-use crate::report::{maps, stat};
+use crate::report::{areas, maps, stat};
 use av_reclaim::Mem;
 use av_trace::{Answer, Command, Notes, Reply, Rows};
 use std::alloc::{AllocError, Global};
@@ -77,6 +77,7 @@ fn dispatch(mem: &mut Mem, alloc: Global, command: &Command) -> Result<Reply, Re
             bytes,
         } => write(mem, alloc, *process, *address, bytes.as_slice()),
         Command::Maps { process } => maps(mem, alloc, *process),
+        Command::Areas { process } => areas(mem, alloc, *process),
         Command::Stat => Ok(stat(mem, alloc)),
     }
 }

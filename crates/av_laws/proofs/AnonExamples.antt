@@ -60,7 +60,7 @@ linked-root v h = by (on_after second_goes Done h.0 h.1) (all_of_root h.0 h.1) h
 -- ---- what is left
 
 -- where both are linked both stay
-both-left : (on : Areas) → IsLinked with_anons.anons on 0 → IsLinked with_anons.anons on 1
+pub both-left : (on : Areas) → IsLinked with_anons.anons on 0 → IsLinked with_anons.anons on 1
     → AreLeft with_anons.anons on with_anons.anons
 both-left on zero_on one_on = record { next = refl; there = λ v h. there v (v == 0) (v == 1) refl refl h; linked = λ v h. refl }
   where
@@ -99,6 +99,7 @@ child_goes-leaves = (
     ledger = refl;
     free = refl;
     rmap = record { areas = refl; anons = root-left; homes = refl };
+    shows = tt;
   },
   (refl, (refl, (refl, (refl, (refl, (refl, (refl, (refl, tt)))))))),
   refl,
@@ -114,6 +115,7 @@ both_stay-leaves = (
     ledger = refl;
     free = refl;
     rmap = record { areas = refl; anons = both-left (on_after first_goes Done) (1, 0x14, refl) (1, 0x14, refl); homes = refl };
+    shows = tt;
   },
   (refl, (refl, (refl, (refl, (refl, (refl, (refl, (refl, tt)))))))),
   refl,
@@ -129,6 +131,7 @@ joined_to_root-leaves = (
     ledger = refl;
     free = refl;
     rmap = record { areas = refl; anons = both-left (on_after behind_first (MapAt 0x12000)) (1, 0x10, refl) (1, 0x14, refl); homes = refl };
+    shows = tt;
   },
   (refl, (refl, (refl, (refl, (refl, (refl, (refl, (refl, tt)))))))),
   refl,
@@ -145,6 +148,7 @@ apart_from_child-leaves = (
     ledger = refl;
     free = refl;
     rmap = record { areas = refl; anons = both-left (on_after behind_second (MapAt 0x16000)) (1, 0x10, refl) (1, 0x14, refl); homes = refl };
+    shows = tt;
   },
   (refl, (refl, (refl, (refl, (refl, (refl, (refl, (refl, tt)))))))),
   refl,

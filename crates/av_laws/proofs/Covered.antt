@@ -11,7 +11,7 @@ use Rattle.av_base.specs.Words.{with_at, within}
 use Rattle.av_base.specs.declared.prot.Prot.{Prot}
 use Rattle.av_base.specs.declared.slot.Slot.{Slot}
 use Rattle.av_trace.specs.declared.command.Command.{Command}
-use Rattle.av_trace.specs.declared.command.Command.TheVariants.{Spawn, Exit, Mmap, Munmap, Mprotect, Read, Write, Maps, Stat}
+use Rattle.av_trace.specs.declared.command.Command.TheVariants.{Spawn, Exit, Mmap, Munmap, Mprotect, Read, Write, Maps, Areas as AsksAreas, Stat}
 use Rattle.av_trace.specs.declared.place.Place.{Place}
 use Rattle.av_trace.specs.declared.place.Place.TheVariants.{Auto, At, Fixed, NoReplace}
 use Rattle.av_trace.specs.declared.reply.Answer.{Answer}
@@ -527,6 +527,7 @@ covers-follows m w now l long on (Mprotect p a len prot) es answer rows same c n
 covers-follows m w now l long on (Read p a n) es answer rows same c none h = c
 covers-follows m w now l long on (Write p a bytes) es answer rows same c none h = covers_stored now on p a (first_bytes answer bytes) c
 covers-follows m w now l long on (Maps p) es answer rows same c none h = c
+covers-follows m w now l long on (AsksAreas p) es answer rows same c none h = c
 covers-follows m w now l long on Stat es answer rows same c none h = c
 
 pub step-covers : (m : Setting) (old : State) (command : Command) (reply : Reply) (new : State) → CoverPages old.world old.areas
@@ -564,5 +565,8 @@ run-from : (m : Setting) (old : State) (es : List Exchange) (new : State) → Co
 run-from m old [] new c h = subst (λ (s : State). CoverPages s.world s.areas) (sym h) c
 run-from m old (e ∷ es) new c h = run-from m h.0 es new (step-covers m old e.command e.reply h.0 c h.1) h.2
 
+pub first-covers : (m : Setting) → CoverPages (at_first m).world (at_first m).areas
+first-covers m = record { laid = λ p. covers_none.laid; prots = λ p page. refl }
+
 pub run-covers : (m : Setting) (es : List Exchange) (new : State) → IsRun m (at_first m) es new → CoverPages new.world new.areas
-run-covers m es new h = run-from m (at_first m) es new (record { laid = λ p. covers_none.laid; prots = λ p page. refl }) h
+run-covers m es new h = run-from m (at_first m) es new (first-covers m) h

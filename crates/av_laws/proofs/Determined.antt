@@ -5,7 +5,7 @@ use Rattle.std.specs.Prelude.{IfSome, MatchBool, MatchOption, option_and_then, s
 use Rattle.std.specs.Ordering.{nat_cmp, eq_by_cmp}
 use Rattle.av_vma.specs.Gap.{IsGap}
 use Rattle.av_trace.specs.declared.command.Command.{Command}
-use Rattle.av_trace.specs.declared.command.Command.TheVariants.{Spawn, Exit, Mmap, Munmap, Mprotect, Read, Write, Maps, Stat}
+use Rattle.av_trace.specs.declared.command.Command.TheVariants.{Spawn, Exit, Mmap, Munmap, Mprotect, Read, Write, Maps, Areas as AsksAreas, Stat}
 use Rattle.av_trace.specs.declared.place.Place.{Place}
 use Rattle.av_trace.specs.declared.place.Place.TheVariants.{Auto, At, Fixed, NoReplace}
 use Rattle.av_trace.specs.declared.reply.Errno.{Errno}
@@ -13,7 +13,7 @@ use Rattle.av_trace.specs.declared.reply.Errno.TheVariants.{Enomem}
 use Rattle.av_trace.specs.declared.row.Row.{Row}
 use Rattle.av_trace.specs.declared.reply.Reply.{Reply}
 use Rattle.av_trace.specs.declared.reply.Answer.{Answer}
-use Rattle.av_trace.specs.declared.reply.Answer.TheVariants.{Done, Refused, Runs}
+use Rattle.av_trace.specs.declared.reply.Answer.TheVariants.{AreaList, Done, Refused, Runs}
 use Rattle.av_base.specs.Page.{address_of, page_of, page_size, pages_of}
 use Rattle.av_base.specs.Words.{numbers, within}
 use Rattle.av_base.specs.declared.prot.Prot.{Prot}
@@ -28,10 +28,12 @@ use Rattle.av_plain.specs.Load.{after_loads, with_loads}
 use Rattle.av_plain.specs.Map.{with_prot_to_hole}
 use Rattle.av_plain.specs.Place.{Goes, IsMapAt, is_room}
 use Rattle.av_plain.specs.Refusal.{Refuses, low, refusal, tests, wraps}
-use Rattle.av_plain.specs.Areas.{AreLeft, AreNext, rmap_after_all}
+use Rattle.av_plain.specs.Areas.{AreLeft, AreNext, rmap_after_all, Anons, Areas}
+use Rattle.av_plain.specs.Report.{ShowsAreas}
 use Rattle.av_plain.specs.Step.{Follows, IsLegal, closing_area, fault_answers, next, next_world}
 use Rattle.av_plain.specs.Transcript.{Exchange, IsRun, IsStep, State, at_first, rmap_of}
 use Rattle.av_plain.specs.World.{Page, Process, Shows, World, byte_at, end_process, is_mapped, no_pages, pages, pages_to_hole, set_process, with_bytes, with_pages, with_prot, with_prot_on, zeros}
+use Rattle.av_laws.proofs.AreaRows.{one-rows}
 use Rattle.av_laws.proofs.Maps.{one-answer}
 use Rattle.av_laws.proofs.OnePage.{is_lost, touches-one}
 use Rattle.av_laws.proofs.OnePass.{AreDone, chooses-one, chosen-first, done-append, done-is}
@@ -271,45 +273,46 @@ record Same (es fs : List Event) (answer answer' : Answer) (rows rows' : List Ro
   answers : answer ≡ answer'
   reports : rows ≡ rows'
 
-follows-one : (m : Setting) (w : World) (l : Ledger) (command : Command) (es fs : List Event)
+follows-one : (m : Setting) (w : World) (l : Ledger) (on : Areas) (anons : Anons) (command : Command) (es fs : List Event)
     (answer answer' : Answer) (rows rows' : List Row) (closing : Option ℕ) (free a b : Free)
     → Tells m → IsClaimed w
     → fault_answers answer ≡ 0 → fault_answers answer' ≡ 0 → AreDone (notes_of es)
     → AreDone (notes_of fs) → ChoosesAll m closing l es free a
     → ChoosesAll m closing l fs free b → Follows m w l command es answer rows
-    → Follows m w l command fs answer' rows' → Same es fs answer answer' rows rows'
-follows-one m w l (Spawn p) es fs answer answer' rows rows' closing free a b told claimed kept kept'
-    x y c d h g = record {
+    → Follows m w l command fs answer' rows' → ShowsAreas on anons command answer rows
+    → ShowsAreas on anons command answer' rows' → Same es fs answer answer' rows rows'
+follows-one m w l on anons (Spawn p) es fs answer answer' rows rows' closing free a b told claimed kept kept'
+    x y c d h g s t = record {
       events = h.1 ∙ sym g.1;
       answers = h.0 ∙ sym g.0;
       reports = h.2
           ∙ sym g.2;
     }
-follows-one m w l (Exit p) es fs answer answer' rows rows' closing free a b told claimed kept kept'
-    x y c d h g = record {
+follows-one m w l on anons (Exit p) es fs answer answer' rows rows' closing free a b told claimed kept kept'
+    x y c d h g s t = record {
       events = h.1 ∙ sym g.1;
       answers = h.0 ∙ sym g.0;
       reports = h.2
           ∙ sym g.2;
     }
-follows-one m w l (Mmap p len prot place) es fs answer answer' rows rows' closing free a b told
-    claimed kept kept' x y c d h g = record {
+follows-one m w l on anons (Mmap p len prot place) es fs answer answer' rows rows' closing free a b told
+    claimed kept kept' x y c d h g s t = record {
       events = h.3 ∙ sym g.3;
       answers = map_at-one g.0 answer answer' (subst (IsMapAt answer) (goes-one (pages w p) (pages_of len) place h.0 g.0 h.1 g.1) h.2) g.2;
       reports = h.4 ∙ sym g.4;
     }
-follows-one m w l (Munmap p at len) es fs answer answer' rows rows' closing free a b told claimed
-    kept kept' x y c d h g = record {
+follows-one m w l on anons (Munmap p at len) es fs answer answer' rows rows' closing free a b told claimed
+    kept kept' x y c d h g s t = record {
       events = h.1 ∙ sym g.1;
       answers = h.0 ∙ sym g.0;
       reports = h.2
           ∙ sym g.2;
     }
-follows-one m w l (Mprotect p at len prot) es fs answer answer' rows rows' closing free a b told
+follows-one m w l on anons (Mprotect p at len prot) es fs answer answer' rows rows' closing free a b told
     claimed kept kept' x y c d h
-    g = record { events = h.1 ∙ sym g.1; answers = h.0 ∙ sym g.0; reports = h.2 ∙ sym g.2 }
-follows-one m w l (Read p at n) es fs answer answer' rows rows' closing free a b told claimed kept
-    kept' x y c d h g =
+    g s t = record { events = h.1 ∙ sym g.1; answers = h.0 ∙ sym g.0; reports = h.2 ∙ sym g.2 }
+follows-one m w l on anons (Read p at n) es fs answer answer' rows rows' closing free a b told claimed kept
+    kept' x y c d h g s t =
     let one = accesses-one m closing told w l p (pages_of_access false at n) es fs h.0 g.0 free a b
     h.2 g.2 c d x y (read-kept at h.0 h.1 answer h.4 kept)
     (read-kept at g.0 g.1 answer' g.4 kept') in
@@ -318,33 +321,39 @@ follows-one m w l (Read p at n) es fs answer answer' rows rows' closing free a b
     let length_is = mine.0 in
     let shown = shows-one (pages w p) at h.1 g.1 (mine.0 ∙ sym other.0) (λ i below. served-claimed m w l false p at n es h.0 claimed h.2 i (omega (arith, below, length_is))) mine.1 other.1 in
     record { events = one.0; answers = h.4 ∙ (λ i. read_answer at (one.1 i) (shown i)) ∙ sym g.4; reports = h.5 ∙ sym g.5 }
-follows-one m w l (Write p at bytes) es fs answer answer' rows rows' closing free a b told claimed
-    kept kept' x y c d h g =
+follows-one m w l on anons (Write p at bytes) es fs answer answer' rows rows' closing free a b told claimed
+    kept kept' x y c d h g s t =
     let one = accesses-one m closing told w l p (pages_of_access true at (length bytes)) es fs h.0
     g.0 free a b h.1 g.1 c d x y (write-kept at h.0 answer h.2 kept)
     (write-kept at g.0 answer' g.2 kept') in
     record { events = one.0; answers = h.2 ∙ ap (write_answer at) one.1 ∙ sym g.2; reports = h.3 ∙ sym g.3 }
-follows-one m w l (Maps p) es fs answer answer' rows rows' closing free a b told claimed kept kept'
-    x y c d h g =
+follows-one m w l on anons (Maps p) es fs answer answer' rows rows' closing free a b told claimed kept kept'
+    x y c d h g s t =
     let same = one-answer (pages w p) rows rows' h.1 g.1 in
     record { events = h.2 ∙ sym g.2; answers = h.0 ∙ ap (λ (rs : List Row). Runs (length rs)) same ∙ sym g.0; reports = same }
-follows-one m w l Stat es fs answer answer' rows rows' closing free a b told claimed kept kept' x y
-    c d h g = record { events = h.1 ∙ sym g.1; answers = h.0 ∙ sym g.0; reports = h.2 ∙ sym g.2 }
+follows-one m w l on anons (AsksAreas p) es fs answer answer' rows rows' closing free a b told claimed kept kept'
+    x y c d h g s t =
+    let same = one-rows anons (on p) rows rows' (subst (λ answer. ShowsAreas on anons (AsksAreas p) answer rows) h.0 s)
+    (subst (λ answer. ShowsAreas on anons (AsksAreas p) answer rows') g.0 t) in
+    record { events = h.2 ∙ sym g.2; answers = h.0 ∙ ap (λ (rs : List Row). AreaList (length rs)) same ∙ sym g.0; reports = same }
+follows-one m w l on anons Stat es fs answer answer' rows rows' closing free a b told claimed kept kept' x y
+    c d h g s t = record { events = h.1 ∙ sym g.1; answers = h.0 ∙ sym g.0; reports = h.2 ∙ sym g.2 }
 
-legal-one : (m : Setting) (w : World) (l : Ledger) (command : Command) (reply reply' : Reply)
+legal-one : (m : Setting) (w : World) (l : Ledger) (on : Areas) (anons : Anons) (command : Command) (reply reply' : Reply)
     (es fs : List Event) (closing : Option ℕ) (free a b : Free) → Tells m → IsClaimed w
     → fault_answers reply.answer ≡ 0 → fault_answers reply'.answer ≡ 0 → AreDone (notes_of es)
     → AreDone (notes_of fs) → ChoosesAll m closing l es free a
     → ChoosesAll m closing l fs free b → IsLegal m w l command reply es
-    → IsLegal m w l command reply' fs
+    → IsLegal m w l command reply' fs → ShowsAreas on anons command reply.answer reply.rows
+    → ShowsAreas on anons command reply'.answer reply'.rows
     → Same es fs reply.answer reply'.answer reply.rows reply'.rows
-legal-one m w l command reply reply' es fs closing free a b told claimed kept kept' x y c d h g = by
+legal-one m w l on anons command reply reply' es fs closing free a b told claimed kept kept' x y c d h g s t = by
     (refusal (tests m w l command)) h.answer g.answer
   where
     by : (o : Option Errno) → MatchOption o (Follows m w l command es reply.answer reply.rows) (λ error. Refuses error es reply.answer reply.rows)
         → MatchOption o (Follows m w l command fs reply'.answer reply'.rows) (λ error. Refuses error fs reply'.answer reply'.rows) → Same es fs reply.answer reply'.answer reply.rows reply'.rows
-    by None p q = follows-one m w l command es fs reply.answer reply'.answer reply.rows reply'.rows
-        closing free a b told claimed kept kept' x y c d p q
+    by None p q = follows-one m w l on anons command es fs reply.answer reply'.answer reply.rows reply'.rows
+        closing free a b told claimed kept kept' x y c d p q s t
     by (Some error) p q = record { events = p.1 ∙ sym q.1; answers = p.0 ∙ sym q.0; reports = p.2 ∙ sym q.2 }
 
 pub step-one : (m : Setting) (old new new' : State) (command : Command) (reply reply' : Reply)
@@ -354,9 +363,9 @@ step-one m old new new' command reply reply' told claimed kept kept' h g =
     let closing = closing_area command in
     let x = done-is reply.notes kept.writes in
     let y = done-is reply'.notes kept'.writes in
-    let same = legal-one m old.world old.ledger command reply reply' h.events g.events closing
+    let same = legal-one m old.world old.ledger old.areas old.anons command reply reply' h.events g.events closing
     old.free new.free new'.free told claimed kept.answer kept'.answer
-    (subst AreDone h.legal.notes x) (subst AreDone g.legal.notes y) h.free g.free h.legal g.legal in
+    (subst AreDone h.legal.notes x) (subst AreDone g.legal.notes y) h.free g.free h.legal g.legal h.shows g.shows in
     let notes : reply.notes ≡ reply'.notes = h.legal.notes ∙ ap notes_of same.events ∙ sym g.legal.notes in
     let world : new.world ≡ new'.world = h.world ∙ (λ i. next_world m old.world old.ledger (same.events i) command (same.answers i)) ∙ sym g.world in
     let ledger : new.ledger ≡ new'.ledger = h.ledger ∙ ap (after_all old.ledger) same.events ∙ sym g.ledger in
@@ -458,6 +467,7 @@ claimed-follows m w l command es answer rows told claimed h = subst (λ v. IsCla
     by (Read p a n) h = claimed
     by (Write p a bytes) h = claimed-stored w p a (first_bytes answer bytes) claimed
     by (Maps p) h = claimed
+    by (AsksAreas p) h = claimed
     by Stat h = claimed
 
 claimed-refused : (m : Setting) (w : World) (l : Ledger) (command : Command) (es : List Event) (error : Errno) → Tells m → IsClaimed w → refusal (tests m w l command) ≡ Some error → IsClaimed (next_world m w l es command (Refused error))

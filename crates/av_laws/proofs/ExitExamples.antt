@@ -1,5 +1,5 @@
 -- The worked rows of exit, maps and stat.
-use Rattle.av_trace.specs.declared.row.Row.TheVariants.{Run, Entry}
+use Rattle.av_trace.specs.declared.row.Row.TheVariants.{Run}
 use Rattle.av_trace.specs.declared.row.Row.{Row}
 use Rattle.std.proofs.Common.{◌≡◌, ℕ, ◌+◌, Bool, true, false, cond, ◌&&◌, ◌||◌, nat_le, nat_lt, [], ◌∷◌, Option, Some, None, is_some, option_map, refl, sym, ap, ◌∙◌, arith, inl, inr, List, length, map, if◌then◌else◌, ◌==◌}
 use Rattle.std.specs.Prelude.{IfSome, drop}
@@ -320,7 +320,7 @@ has_write (Some p) = p.write
 abbrev prot_in_rows : List Row → ℕ → Option Prot
 prot_in_rows [] page = None
 prot_in_rows (Run start end prot ∷ rows) page = if nat_le start (address_of page) && nat_lt (address_of page) end then Some prot else prot_in_rows rows page
-prot_in_rows (Entry p a ∷ rows) page = prot_in_rows rows page
+prot_in_rows (row ∷ rows) page = prot_in_rows rows page
 
 rows-of : (rs : List Range) (page : ℕ) → prot_in_rows (map row_of rs) page ≡ prot_in rs page
 rows-of [] page = refl

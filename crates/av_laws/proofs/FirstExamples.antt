@@ -17,8 +17,10 @@ use Rattle.av_plain.specs.Ledger.{Entry, Key, Setting, first_ledger}
 use Rattle.av_plain.specs.Event.{Event, Noted, Used, after_all}
 use Rattle.av_plain.specs.Fault.{Denied, Starved}
 use Rattle.av_plain.specs.Access.{Whole, Stopped}
+use Rattle.av_plain.specs.Report.{ShowsAreas}
 use Rattle.av_plain.specs.Step.{IsLegal, next_world}
 use Rattle.av_plain.specs.Areas.{Anons, AnonVma, Areas, AreLeft, chain_length, chain_of, IsLinked, next_areas, no_anons, no_areas, no_homes, rmap_after_all, Rmap}
+use Rattle.av_plain.proofs.Report.Areas.{asks_areas, shows-none}
 use Rattle.av_plain.proofs.AreasLeft.{AreBelow, below-all, below-left, left-all}
 use Rattle.av_plain.specs.Choice.{no_slots}
 use Rattle.av_plain.proofs.Choice.{ChoosesFrames}
@@ -95,15 +97,34 @@ pub one-step : (m : Setting) (old : State) (e : Exchange) (events : List Event) 
     → IsLegal m old.world old.ledger e.command e.reply events → ChoosesFrames m old.ledger events old.free.frames free
     → gives_all m None old.ledger events old.free.slots ≡ true
     → AreLeft (rmap_after_all old.ledger events (rmap_of old)).anons (state_after m old e events free left).areas left
+    → ShowsAreas old.areas old.anons e.command e.reply.answer e.reply.rows
     → IsStep m old e.command e.reply (state_after m old e events free left)
-one-step m old e events free left legal frames given is = record {
+one-step m old e events free left legal frames given is shows = record {
   events = events;
   legal = legal;
   world = refl;
   ledger = refl;
   free = all-chosen m None old.ledger events old.free.frames free old.free.slots frames given;
   rmap = record { areas = refl; anons = is; homes = refl };
+  shows = shows;
 }
+
+-- the reply is legal; where areas are asked, its rows show them
+abbrev Answers : Setting → State → Exchange → List Event → Type 0
+Answers m old e events =
+    let legal : Type 0 = IsLegal m old.world old.ledger e.command e.reply events in
+    MatchBool (asks_areas e.command) (legal × ShowsAreas old.areas old.anons e.command e.reply.answer e.reply.rows) legal
+
+answers : (m : Setting) (old : State) (e : Exchange) (events : List Event) → Answers m old e events
+    → IsLegal m old.world old.ledger e.command e.reply events × ShowsAreas old.areas old.anons e.command e.reply.answer e.reply.rows
+answers m old e events h = by (asks_areas e.command) refl h
+  where
+    by : (b : Bool) → asks_areas e.command ≡ b
+        → MatchBool b (IsLegal m old.world old.ledger e.command e.reply events × ShowsAreas old.areas old.anons e.command e.reply.answer e.reply.rows)
+        (IsLegal m old.world old.ledger e.command e.reply events)
+        → IsLegal m old.world old.ledger e.command e.reply events × ShowsAreas old.areas old.anons e.command e.reply.answer e.reply.rows
+    by true is h = h
+    by false is h = (h, shows-none old.areas old.anons e.command e.reply.answer e.reply.rows is)
 
 -- all anon_vmas are left, as far as the pages with entries show
 abbrev pub all_left : Setting → State → Exchange → List Event → Bool
@@ -118,7 +139,7 @@ abbrev pub Steps : Setting → State → List Exchange → Type 0
 Steps m old [] = Unit {0}
 Steps m old (e ∷ row) =
     (events : List Event) × (free : List ℕ)
-    × IsLegal m old.world old.ledger e.command e.reply events
+    × Answers m old e events
     × ChoosesFrames m old.ledger events old.free.frames free
     × (let now = rmap_after_all old.ledger events (rmap_of old) in
     let later : Type 0 = MatchBool (all_left m old e events)
@@ -144,7 +165,7 @@ from_steps m old (e ∷ row) below h =
       rest.0,
       (
         mid,
-        one-step m old e h.0 h.1 left.0 h.2 h.3 both.0 left.1,
+        one-step m old e h.0 h.1 left.0 (answers m old e h.0 h.2).0 h.3 both.0 left.1 (answers m old e h.0 h.2).1,
         rest.1,
       ),
     )

@@ -1,4 +1,5 @@
 pub mod Maps
+pub mod AreaRows
 pub mod OutOfMemory
 pub mod Choice
 pub mod OnePass
@@ -23,6 +24,7 @@ pub mod SlotExamples
 pub mod SwapViewExamples
 pub mod ListsExamples
 pub mod AnonExamples
+pub mod RowExamples
 pub mod Clusters
 pub mod FreeSlots
 pub mod Prots

@@ -96,7 +96,7 @@ writes areas new_areas anons left allowed is pages = (
         );
         notes = refl;
       })
-      (1 ∷ 2 ∷ 3 ∷ [], (1 ∷ 2 ∷ 3 ∷ [], refl, refl), (1 ∷ 2 ∷ 3 ∷ [], (1 ∷ 2 ∷ 3 ∷ [], refl, refl), refl)) refl is,
+      (1 ∷ 2 ∷ 3 ∷ [], (1 ∷ 2 ∷ 3 ∷ [], refl, refl), (1 ∷ 2 ∷ 3 ∷ [], (1 ∷ 2 ∷ 3 ∷ [], refl, refl), refl)) refl is tt,
   pages,
   refl,
 )
@@ -223,7 +223,7 @@ by_a_read-prepares = (
         notes = refl;
       })
       (0 ∷ 1 ∷ 2 ∷ 3 ∷ [], (0 ∷ 1 ∷ 2 ∷ 3 ∷ [], refl, refl), (0 ∷ 1 ∷ 2 ∷ 3 ∷ [], (0 ∷ 1 ∷ 2 ∷ 3 ∷ [], refl, refl), refl)) refl
-      (left-none (on_then first_read bare_four no_anons)),
+      (left-none (on_then first_read bare_four no_anons)) tt,
   (refl, (refl, (refl, (refl, (refl, (refl, (refl, (refl, tt)))))))),
   refl,
 )
@@ -265,7 +265,7 @@ in_one_process-leaves = (
         notes = refl;
       })
       (1 ∷ 2 ∷ 3 ∷ [], (1 ∷ 2 ∷ 3 ∷ [], refl, refl), (1 ∷ 2 ∷ 3 ∷ [], (1 ∷ 2 ∷ 3 ∷ [], refl, refl), refl)) refl
-      (stays two_roots (prepare_notes second_writes.reply.notes (rmap_of two_with_areas)).areas two-below refl),
+      (stays two_roots (prepare_notes second_writes.reply.notes (rmap_of two_with_areas)).areas two-below refl) tt,
   refl,
   refl,
   refl,
@@ -278,7 +278,7 @@ joins : (areas new_areas : List Area) (anons : Anons) → AreLeft anons (on_then
     → Prepares made_alike areas anons new_areas anons
 joins areas new_areas anons is legal pages = (
   state_after (machine 4) (state_of areas anons) made_alike [] (0 ∷ 1 ∷ 2 ∷ 3 ∷ []) anons,
-  one-step (machine 4) (state_of areas anons) made_alike [] (0 ∷ 1 ∷ 2 ∷ 3 ∷ []) anons legal refl refl is,
+  one-step (machine 4) (state_of areas anons) made_alike [] (0 ∷ 1 ∷ 2 ∷ 3 ∷ []) anons legal refl refl is tt,
   pages,
   refl,
 )

@@ -1,5 +1,7 @@
 -- The numbers of a legal reply are of 64 bits, and its bytes below 256.
+pub mod Anons
 pub mod InRuns
+pub mod OfRuns
 use Rattle.std.specs.List.{AllByRecursion}
 use Rattle.std.specs.Prelude.{MatchBool, MatchOption, sum_by}
 use Rattle.std.proofs.Common.{◌≡◌, inl, inr, ℕ, zero, suc, ◌+◌, ◌-◌, ◌^◌, ◌<◌, ◌≤◌, Bool, true, false, cond, ◌&&◌, List, [], ◌∷◌, map, length, Option, Some, None, is_some, option_map, refl, sym, ap, subst, ◌∙◌, arith, ◌==◌, nat_lt, nat_le, if◌then◌else◌}
@@ -9,7 +11,7 @@ use Rattle.av_base.specs.Page.{address_of, page_of, pages_of, page_size, place_i
 use Rattle.av_base.specs.Words.{numbers}
 use Rattle.av_vma.specs.Gap.{IsGap}
 use Rattle.av_trace.specs.declared.command.Command.{Command}
-use Rattle.av_trace.specs.declared.command.Command.TheVariants.{Spawn, Exit, Mmap, Munmap, Mprotect, Read, Write, Maps, Stat}
+use Rattle.av_trace.specs.declared.command.Command.TheVariants.{Spawn, Exit, Mmap, Munmap, Mprotect, Read, Write, Maps, Areas as AsksAreas, Stat}
 use Rattle.av_trace.specs.declared.note.Note.{Note}
 use Rattle.av_trace.specs.declared.note.Note.TheVariants.{Aged, Copied, Dropped, Failed, Kept, Loaded, Mapped, New, Put, Started, Unmapped, Written, Zeroed}
 use Rattle.av_trace.specs.declared.place.Place.{Place}
@@ -19,14 +21,15 @@ use Rattle.av_trace.specs.declared.reply.Errno.TheVariants.{Enomem}
 use Rattle.av_trace.specs.declared.reply.OutOf.{OutOf}
 use Rattle.av_trace.specs.declared.reply.Reply.{Reply}
 use Rattle.av_trace.specs.declared.row.Row.{Row}
+use Rattle.av_trace.specs.declared.row.Row.TheVariants.{Run, Entry, Area as AreaRow}
 use Rattle.av_trace.specs.declared.reply.Answer.{Answer}
-use Rattle.av_trace.specs.declared.reply.Answer.TheVariants.{Done, MapAt, Refused, Oom, Runs, Counted}
+use Rattle.av_trace.specs.declared.reply.Answer.TheVariants.{AreaList, Done, MapAt, Refused, Oom, Runs, Counted}
 use Rattle.av_trace.specs.Command.{IsCommand}
 use Rattle.av_trace.specs.Note.{IsNote}
 use Rattle.av_trace.specs.Number.{IsWide}
 use Rattle.av_trace.specs.Place.{IsPlace}
 use Rattle.av_trace.specs.Reply.{AreCauses, Follow, IsAnswer, IsReply}
-use Rattle.av_trace.specs.Row.{IsRun}
+use Rattle.av_trace.specs.Row.{IsAreaRow, IsRun}
 use Rattle.av_plain.specs.World.{Page, Process, World, is_mapped, pages, pages_to_hole}
 use Rattle.av_plain.specs.Ledger.{Ledger, Setting, SwapArea, free_frames, free_slots}
 use Rattle.av_plain.specs.Event.{Event, after_all, notes_of}
@@ -35,13 +38,13 @@ use Rattle.av_plain.specs.Fault.{Denied, Lost, Starved, Stop}
 use Rattle.av_plain.specs.Map.{zaps_for_place}
 use Rattle.av_plain.specs.Place.{Goes, IsMapAt, is_room}
 use Rattle.av_plain.specs.Refusal.{Refuses, refusal, tests}
-use Rattle.av_plain.specs.Report.{AreLongest, Cover, Range, prot_in, row_of, totals}
+use Rattle.av_plain.specs.Report.{AreApart, AreLongest, Cover, Range, prot_in, row_of, run_of, totals}
 use Rattle.av_plain.specs.Sound.{AllSound}
 use Rattle.av_plain.specs.Step.{Follows, IsLegal}
 use Rattle.av_plain.specs.Zap.{keys_in, keys_of_process, zaps_of}
 use Rattle.av_plain.proofs.Report.Totals.{frames-add}
 use Rattle.av_plain.specs.Device.{HasNoDevice}
-use Rattle.av_laws.specs.ReadBack.{IsSmall}
+use Rattle.av_laws.specs.ReadBack.{IsSmall, IsWideRow}
 use Rattle.av_plain.proofs.NoDevice.{IsPlainAt, accesses-plain, in-areas, no-slots, no-zap-notes}
 use Rattle.av_laws.proofs.OutOfMemory.{legal-adds}
 
@@ -162,23 +165,45 @@ rest-below a rs low none page above = outside (nat_le a.from page && nat_lt page
 run-wide : (a : Range) → a.from < a.to → a.to ≤ top_page → IsRun (row_of a)
 run-wide a some low = (wide-page a.from (omega (arith, some, low)), wide-page a.to low)
 
-runs-wide : (rs : List Range) → AreLongest rs → NoneAbove rs → AllByRecursion IsRun (map row_of rs)
+longest-apart : (rs : List Range) → AreLongest rs → AreApart rs
+longest-apart [] h = tt
+longest-apart (a ∷ []) h = h
+longest-apart (a ∷ b ∷ rs) h = (h.0, h.1, longest-apart (b ∷ rs) h.3)
+
+runs-wide : (rs : List Range) → AreApart rs → NoneAbove rs → AllByRecursion IsRun (map row_of rs)
 runs-wide [] h none = tt
 runs-wide (a ∷ []) h none = (run-wide a h (first-below a [] h none), tt)
-runs-wide (a ∷ b ∷ rs) h none = let low = first-below a (b ∷ rs) h.0 none in (run-wide a h.0 low, runs-wide (b ∷ rs) h.3 (rest-below a (b ∷ rs) low none))
+runs-wide (a ∷ b ∷ rs) h none = let low = first-below a (b ∷ rs) h.0 none in (run-wide a h.0 low, runs-wide (b ∷ rs) h.2 (rest-below a (b ∷ rs) low none))
 
-few-runs : (a : Range) (rs : List Range) → AreLongest (a ∷ rs) → NoneAbove (a ∷ rs) → a.from + length (map row_of (a ∷ rs)) ≤ top_page
+few-runs : (a : Range) (rs : List Range) → AreApart (a ∷ rs) → NoneAbove (a ∷ rs) → a.from + length (map row_of (a ∷ rs)) ≤ top_page
 few-runs a [] h none = let low = first-below a [] h none in omega (arith, low, h)
 few-runs a (b ∷ rs) h none =
     let low = first-below a (b ∷ rs) h.0 none in
-    let rest = few-runs b rs h.3 (rest-below a (b ∷ rs) low none) in
+    let rest = few-runs b rs h.2 (rest-below a (b ∷ rs) low none) in
     let x = h.0 in
     let y = h.1 in
     omega (arith, rest, x, y)
 
-few-rows : (rs : List Range) → AreLongest rs → NoneAbove rs → IsWide (length (map row_of rs))
+few-rows : (rs : List Range) → AreApart rs → NoneAbove rs → IsWide (length (map row_of rs))
 few-rows [] h none = omega arith
 few-rows (a ∷ rs) h none = let few = few-runs a rs h none in omega (arith, few)
+
+-- ---- areas
+
+-- rows of the runs of some ranges are as many, and say numbers of 64 bits
+areas-wide : (rs : List Range) (rows : List Row) → map run_of rows ≡ map (λ r. Some (row_of r)) rs → AllByRecursion IsRun (map row_of rs) → AllByRecursion IsWideRow rows
+    → (length rows ≡ length (map row_of rs)) × AllByRecursion IsAreaRow rows
+areas-wide [] [] is wide said = (refl, tt)
+areas-wide [] (row ∷ rows) is wide said = cc
+areas-wide (r ∷ rs) [] is wide said = cc
+areas-wide (r ∷ rs) (Run start end prot ∷ rows) is wide said = cc
+areas-wide (r ∷ rs) (Entry p address ∷ rows) is wide said = cc
+areas-wide (r ∷ rs) (AreaRow start end prot offset own chain ∷ rows) is wide said =
+    let tails : map run_of rows ≡ map (λ r. Some (row_of r)) rs = cc in
+    let later = areas-wide rs rows tails wide.1 said.1 in
+    let begins : start ≡ address_of r.from = cc in
+    let ends : end ≡ address_of r.to = cc in
+    (ap suc later.0, ((subst IsWide (sym begins) wide.0.0, subst IsWide (sym ends) wide.0.1, said.0.0, said.0.1, said.0.2), later.1))
 
 covered : (q : Process) (rs : List Range) → Cover q rs → ((page : ℕ) → is_some (q page) ≡ true → page < top_page) → NoneAbove rs
 covered q rs cover below page above = cover page ∙ by (q page) refl
@@ -210,12 +235,21 @@ place-below q n page (At a) wide h = by (is_room q n (page_of a)) h
 place-below q n page (Fixed a) wide h = at_page page a wide (inner h)
 place-below q n page (NoReplace a) wide h = at_page page a wide (inner h)
 
-follows-fit : (m : Setting) (w : World) (l : Ledger) (command : Command) (events : List Event) (answer : Answer) (rows : List Row) → HasNoDevice m → AllSound m w l → IsSmall m w l → IsCommand command → CausesFit answer
+-- where areas are asked, what their rows say beside pages is of 64 bits
+abbrev pub AskedWide : Command → List Row → Type 0
+AskedWide (AsksAreas p) rows = AllByRecursion IsWideRow rows
+AskedWide command rows = Unit {0}
+
+pub asked-wide : (command : Command) (rows : List Row) → AllByRecursion IsWideRow rows → AskedWide command rows
+asked-wide (AsksAreas p) rows h = h
+asked-wide command rows h = tt
+
+follows-fit : (m : Setting) (w : World) (l : Ledger) (command : Command) (events : List Event) (answer : Answer) (rows : List Row) → HasNoDevice m → AllSound m w l → IsSmall m w l → IsCommand command → CausesFit answer → AskedWide command rows
     → Follows m w l command events answer rows → Fits events answer rows
-follows-fit m w l (Spawn p) events answer rows none s small fit out h = fits-by events [] answer Done rows [] h.1 h.0 h.2 (tt, (tt, refl))
-follows-fit m w l (Exit p) events answer rows none s small fit out h =
+follows-fit m w l (Spawn p) events answer rows none s small fit out wide h = fits-by events [] answer Done rows [] h.1 h.0 h.2 (tt, (tt, refl))
+follows-fit m w l (Exit p) events answer rows none s small fit out wide h =
     fits-by events (zaps_of l (keys_of_process l p)) answer Done rows [] h.1 h.0 h.2 (fits-notes (zaps_of l (keys_of_process l p)) Done [] (no-zap-notes m l (keys_of_process l p) none (in-areas m w l s)) tt (tt, refl))
-follows-fit m w l (Mmap p len prot place) events answer rows none s small fit out h = by h.0 h.1 h.2
+follows-fit m w l (Mmap p len prot place) events answer rows none s small fit out wide h = by h.0 h.1 h.2
   where
     quiet : (place : Place) → notes_of (zaps_for_place l p (pages_of len) place) ≡ []
     quiet Auto = refl
@@ -226,27 +260,33 @@ follows-fit m w l (Mmap p len prot place) events answer rows none s small fit ou
     by : (to : Option ℕ) → Goes (pages w p) (pages_of len) place to → IsMapAt answer to → Fits events answer rows
     by None goes e = fits-by events (zaps_for_place l p (pages_of len) place) answer (Refused Enomem) rows [] h.3 e h.4 (fits-notes (zaps_for_place l p (pages_of len) place) (Refused Enomem) [] (quiet place) tt (tt, refl))
     by (Some page) goes e = fits-by events (zaps_for_place l p (pages_of len) place) answer (MapAt (address_of page)) rows [] h.3 e h.4 (fits-notes (zaps_for_place l p (pages_of len) place) (MapAt (address_of page)) [] (quiet place) (place-below (pages w p) (pages_of len) page place fit.2 goes) (tt, refl))
-follows-fit m w l (Munmap p a len) events answer rows none s small fit out h =
+follows-fit m w l (Munmap p a len) events answer rows none s small fit out wide h =
     fits-by events (zaps_of l (keys_in l p (page_of a) (pages_of len))) answer Done rows [] h.1 h.0 h.2 (fits-notes (zaps_of l (keys_in l p (page_of a) (pages_of len))) Done [] (no-zap-notes m l (keys_in l p (page_of a) (pages_of len)) none (in-areas m w l s)) tt (tt, refl))
-follows-fit m w l (Mprotect p a len prot) events answer rows none s small fit out h = fits-by events [] answer _ rows [] h.1 h.0 h.2 (by (pages_to_hole (pages w p) (page_of a) (pages_of len) == pages_of len))
+follows-fit m w l (Mprotect p a len prot) events answer rows none s small fit out wide h = fits-by events [] answer _ rows [] h.1 h.0 h.2 (by (pages_to_hole (pages w p) (page_of a) (pages_of len) == pages_of len))
   where
     by : (b : Bool) → Fits [] (if b then Done else Refused Enomem) []
     by true = (tt, (tt, refl))
     by false = (tt, (tt, refl))
-follows-fit m w l (Read p a n) events answer rows none s small fit out h =
+follows-fit m w l (Read p a n) events answer rows none s small fit out wide h =
     let plain = accesses-plain IsNote m w p none (λ page note is. plain-note m p page small.frames fit.0.most (small.below p page is) note) l (pages_of_access false a n) events h.0 (in-areas m w l s) h.2 in
     fits-by events events answer (read_answer a h.0 h.1) rows [] refl h.4 h.5
     (read-fits a h.0 h.1 (notes_of events) (access-stops m w l false p a n events h.0 fit.2.most h.2) h.3.2 plain.notes (subst CausesFit h.4 out))
-follows-fit m w l (Write p a bytes) events answer rows none s small fit out h =
+follows-fit m w l (Write p a bytes) events answer rows none s small fit out wide h =
     let plain = accesses-plain IsNote m w p none (λ page note is. plain-note m p page small.frames fit.0.most (small.below p page is) note) l (pages_of_access true a (length bytes)) events h.0 (in-areas m w l s) h.1 in
     fits-by events events answer (write_answer a h.0) rows [] refl h.2 h.3
     (write-fits a h.0 (notes_of events) (access-stops m w l true p a (length bytes) events h.0 fit.2.0.most h.1) plain.notes (subst CausesFit h.2 out))
-follows-fit m w l (Maps p) events answer rows none s small fit out h =
+follows-fit m w l (Maps p) events answer rows none s small fit out wide h =
     let runs = h.1.0 in
     let high = covered (pages w p) runs h.1.3 (small.below p) in
     fits-by events [] answer (Runs (length (map row_of runs))) rows (map row_of runs) h.2 (h.0 ∙ ap (λ rs. Runs (length rs)) h.1.1) h.1.1
-    (few-rows runs h.1.2 high, (refl, refl, runs-wide runs h.1.2 high))
-follows-fit m w l Stat events answer rows none s small fit out h = fits-by events [] answer (Counted (totals m w l)) rows [] h.1 h.0 h.2 (
+    (few-rows runs (longest-apart runs h.1.2) high, (refl, refl, runs-wide runs (longest-apart runs h.1.2) high))
+follows-fit m w l (AsksAreas p) events answer rows none s small fit out wide h =
+    let ranges = h.1.0 in
+    let high = covered (pages w p) ranges h.1.3 (small.below p) in
+    let rest = areas-wide ranges rows h.1.1 (runs-wide ranges h.1.2 high) wide in
+    fits-by events [] answer (AreaList (length rows)) rows rows h.2 h.0 refl
+    (subst IsWide (sym rest.0) (few-rows ranges h.1.2 high), (refl, refl, rest.1))
+follows-fit m w l Stat events answer rows none s small fit out wide h = fits-by events [] answer (Counted (totals m w l)) rows [] h.1 h.0 h.2 (
   record {
     frames = frames;
     free = omega (arith, sums, frames);
@@ -269,8 +309,8 @@ follows-fit m w l Stat events answer rows none s small fit out h = fits-by event
     sums : length (free_frames m l) + length l.active + length l.inactive ≡ m.frames
     sums = frames-add m l s.ledger
 
-pub legal-reads_back : (m : Setting) (w : World) (l : Ledger) (command : Command) (reply : Reply) (events : List Event) → HasNoDevice m → AllSound m w l → IsSmall m w l → IsCommand command → IsLegal m w l command reply events → IsReply reply
-legal-reads_back m w l command reply events none s small fit legal =
+pub legal-reads_back : (m : Setting) (w : World) (l : Ledger) (command : Command) (reply : Reply) (events : List Event) → HasNoDevice m → AllSound m w l → IsSmall m w l → IsCommand command → AskedWide command reply.rows → IsLegal m w l command reply events → IsReply reply
+legal-reads_back m w l command reply events none s small fit wide legal =
     let f = by (refusal (tests m w l command)) legal.answer in
     record { answer = f.0; rest = subst (λ ns. Follow reply.answer ns reply.rows) (sym legal.notes) f.1 }
   where
@@ -278,5 +318,5 @@ legal-reads_back m w l command reply events none s small fit legal =
     out k numbers shown is = let sum = legal-adds m w l command reply events k numbers shown s legal is in let frames : m.frames < 2 ^ 64 = small.frames in (omega (arith, sum, frames), omega (arith, sum, frames), omega (arith, sum, frames))
 
     by : (o : Option Errno) → MatchOption o (Follows m w l command events reply.answer reply.rows) (λ error. Refuses error events reply.answer reply.rows) → Fits events reply.answer reply.rows
-    by None h = follows-fit m w l command events reply.answer reply.rows none s small fit out h
+    by None h = follows-fit m w l command events reply.answer reply.rows none s small fit out wide h
     by (Some error) h = fits-by events [] reply.answer (Refused error) reply.rows [] h.1 h.0 h.2 (tt, (tt, refl))

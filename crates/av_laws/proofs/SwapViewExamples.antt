@@ -16,8 +16,8 @@ use Rattle.av_plain.specs.Transcript.{rmap_of}
 use Rattle.av_plain.proofs.Ledger.{same_key}
 use Rattle.av_plain.specs.Device.{headers_of, without_fault}
 use Rattle.av_plain.specs.Ledger.{Cached, Entry, HasNumbers, InSlot, Key, Ledger, SwapArea, entry, frame_at, in_flight, is_free, is_stale, names_frame, same_slot, slot_of}
-use Rattle.av_plain.specs.Report.{prot_in}
-use Rattle.av_plain.specs.Stands.{View, AreApart, Holds, IsClean, IsKept, Pte, entry_of, prot_of, ranges_in}
+use Rattle.av_plain.specs.Report.{prot_in, AreApart}
+use Rattle.av_plain.specs.Stands.{View, Holds, IsClean, IsKept, Pte, entry_of, prot_of, ranges_in}
 use Rattle.av_plain.specs.World.{Page, Process, lives, pages, process}
 use Rattle.av_laws.specs.Examples.{cached_out, page_with, read_write, slot, with_byte, with_slots, with_swap}
 use Rattle.av_laws.specs.Views.{NotFor, NotGiven, StandsFor, cached_view, fewer_slots, header_page, swap_device, area, with_fewer_slots}

@@ -6,14 +6,14 @@ use Rattle.std.proofs.lemmas.Bool.Decides.{nat_tests}
 use Rattle.av_base.specs.Words.{is_in}
 use Rattle.av_plain.specs.Device.{no_device}
 use Rattle.av_plain.specs.Ledger.{Entry, Key, entry, is_free, names_frame}
-use Rattle.av_plain.specs.Report.{Range, prot_in}
+use Rattle.av_plain.specs.Report.{Range, prot_in, AreApart}
 use Rattle.av_plain.specs.Sound.{AllSound}
 use Rattle.av_vma.specs.Pages.{has_page, pages_in}
 use Rattle.av_vma.specs.declared.area.Area.{Area}
 use Rattle.av_clusters.specs.Clusters.{fresh}
 use Rattle.av_plain.specs.Areas.{chain_of, no_anons, no_homes, none_on}
 use Rattle.av_plain.specs.Choice.{Free, ListsFree}
-use Rattle.av_plain.specs.Stands.{AreApart, Holds, IsKept, Pte, Stands, entry_of, prot_of, ranges_in}
+use Rattle.av_plain.specs.Stands.{Holds, IsKept, Pte, Stands, entry_of, prot_of, ranges_in}
 use Rattle.av_plain.specs.World.{Page, Process, lives, pages, process}
 use Rattle.av_laws.specs.Examples.{machine, page_with, read_write, with_byte}
 use Rattle.av_laws.specs.Views.{NotKin, NotLinked, NotReached, homes_with, one_anon, fork_state, parent_and_child, parents_home}

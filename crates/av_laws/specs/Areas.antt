@@ -20,18 +20,24 @@
 --     made_though_lent, in_one_process, lent_by_another, prepared_in_another
 --   a new one (`with_root`): first_write, next_number, number_used_again, number_lowered,
 --     rooted_elsewhere, parent_elsewhere, longer_chain
-use Rattle.std.specs.Prelude.{◌≡◌, ℕ, List, [], ◌∷◌, ◌++◌, Option, Some, None, option_map}
+--   the rows of `areas` (`ShowsAreas`, `AreRowsOf`, `area_row`): four_rows, area_left_out,
+--     shown_as_one, shown_in_two, falling_rows, other_offset_shown, root_owned, bare_shown,
+--     own_shown, chain_of_root, chain_of_child, chain_falling
+use Rattle.std.specs.Prelude.{◌≡◌, ℕ, List, [], ◌∷◌, ◌++◌, length, Option, Some, None, option_map}
 use Rattle.std.specs.List.{AllByRecursion}
 use Rattle.av_base.specs.Words.{numbers, with_at}
 use Rattle.av_base.specs.declared.prot.Prot.{Prot}
 use Rattle.av_trace.specs.declared.command.Command.{Command}
-use Rattle.av_trace.specs.declared.command.Command.TheVariants.{Exit, Mmap, Mprotect, Munmap, Read, Spawn, Write}
+use Rattle.av_trace.specs.declared.command.Command.TheVariants.{Areas as AsksAreas, Exit, Mmap, Mprotect, Munmap, Read, Spawn, Write}
 use Rattle.av_trace.specs.declared.note.Note.TheVariants.{New, Zeroed}
 use Rattle.av_trace.specs.declared.place.Place.TheVariants.{Fixed}
 use Rattle.av_trace.specs.declared.reply.Answer.{Answer}
-use Rattle.av_trace.specs.declared.reply.Answer.TheVariants.{Data, Done, MapAt, Refused}
+use Rattle.av_trace.specs.declared.reply.Answer.TheVariants.{AreaList, Data, Done, MapAt, Refused}
 use Rattle.av_trace.specs.declared.reply.Errno.TheVariants.{Enomem}
 use Rattle.av_trace.specs.declared.reply.Reply.{Reply}
+use Rattle.av_trace.specs.declared.row.Row.{Row}
+use Rattle.av_trace.specs.declared.row.Row.TheVariants.{Area as AreaRow}
+use Rattle.av_base.specs.Page.{address_of}
 use Rattle.av_vma.specs.Pages.{fresh_area, pages_in}
 use Rattle.av_vma.specs.declared.area.Area.{Area}
 use Rattle.av_plain.specs.Areas.{AnonVma, Anons, no_anons, no_areas, no_homes}
@@ -296,3 +302,42 @@ abbrev pub NeverHasThere : ℕ → Area → Type 0
 NeverHasThere p wrong = (new : State)
     → IsStep (machine 4) two_with_areas second_writes.command second_writes.reply new
     → new.areas p 0x12 ≡ Some wrong → ⊥
+
+-- ---- areas are shown
+
+-- four areas side by side: of the root, of none, of the child, and of the root again
+abbrev pub four_areas : List Area
+four_areas =
+    area_of 0 0x10 0x12 ∷ area 0x12 0x14 read_only ∷ area_of 1 0x14 0x16 ∷ area_of 0 0x16 0x17 ∷ []
+
+-- the row of an area from one page to below another
+abbrev pub row : ℕ → ℕ → Prot → ℕ → Option ℕ → List ℕ → Row
+row from past prot offset own chain =
+    AreaRow (address_of from) (address_of past) prot offset own chain
+
+-- the row of each of the four
+abbrev pub first_row : Row
+first_row = row 0x10 0x12 read_write 0x10 (Some 0) (0 ∷ [])
+
+abbrev pub bare_row : Row
+bare_row = row 0x12 0x14 read_only 0x12 None []
+
+abbrev pub child_row : Row
+child_row = row 0x14 0x16 read_write 0x14 (Some 1) (0 ∷ 1 ∷ [])
+
+abbrev pub last_row : Row
+last_row = row 0x16 0x17 read_write 0x16 (Some 0) (0 ∷ [])
+
+-- the answer that has so many rows
+abbrev pub with_rows : List Row → Reply
+with_rows rows = record { answer = AreaList (length rows); notes = []; rows = rows }
+
+-- `areas` may show these rows of the four
+abbrev pub Shows : List Row → Type 0
+Shows rows = (new : State)
+    × IsStep (machine 4) (state_of four_areas kin) (AsksAreas 1) (with_rows rows) new
+
+-- or never does
+abbrev pub NeverShows : List Row → Type 0
+NeverShows rows = (new : State)
+    → IsStep (machine 4) (state_of four_areas kin) (AsksAreas 1) (with_rows rows) new → ⊥

@@ -22,10 +22,16 @@ ghost use Rattle.av_laws.specs.Areas.{
   behind_child,
   behind_root,
   between_roots,
+  NeverShows,
+  Shows,
+  bare_row,
+  child_row,
   first_gone,
   first_read,
+  first_row,
   first_write,
   kin,
+  last_row,
   made_alike,
   of_second,
   one_root,
@@ -41,6 +47,7 @@ ghost use Rattle.av_laws.specs.Areas.{
   child,
   first_goes,
   root,
+  row,
   second_goes,
   middle_map,
   after_exit,
@@ -196,4 +203,37 @@ pub fn changed_prepares_are_refused()
         (area_of 0 0x10 0x14) }
     ensures lent_by_another { NeverHasThere 2 (with_own 0 of_second) }
     ensures prepared_in_another { NeverHasThere 1 (with_own 0 unlike) }
+{}
+
+/// `areas` shows each area once, rising, with its pages and protection, its offset, its own
+/// anon_vma and the chain of that.
+pub fn areas_are_shown()
+    ensures four_rows { Shows (first_row ∷ bare_row ∷ child_row ∷ last_row ∷ []) }
+{}
+
+/// No other rows: without an area; two areas as one, or one as two, though all pages are shown with
+/// their protection; rows that fall; another offset; another own anon_vma, one of an area that has
+/// none, or none of one that has one; the chain of a neighbour, or of the root for the child; a
+/// chain that falls.
+pub fn changed_rows_are_refused()
+    ensures area_left_out { NeverShows (first_row ∷ child_row ∷ last_row ∷ []) }
+    ensures shown_as_one { NeverShows (first_row ∷ bare_row
+        ∷ row 0x14 0x17 read_write 0x14 (Some 1) (0 ∷ 1 ∷ []) ∷ []) }
+    ensures shown_in_two { NeverShows (row 0x10 0x11 read_write 0x10 (Some 0) (0 ∷ [])
+        ∷ row 0x11 0x12 read_write 0x11 (Some 0) (0 ∷ []) ∷ bare_row ∷ child_row ∷ last_row ∷ []) }
+    ensures falling_rows { NeverShows (bare_row ∷ first_row ∷ child_row ∷ last_row ∷ []) }
+    ensures other_offset_shown { NeverShows (first_row ∷ bare_row
+        ∷ row 0x14 0x16 read_write 0 (Some 1) (0 ∷ 1 ∷ []) ∷ last_row ∷ []) }
+    ensures root_owned { NeverShows (first_row ∷ bare_row
+        ∷ row 0x14 0x16 read_write 0x14 (Some 0) (0 ∷ 1 ∷ []) ∷ last_row ∷ []) }
+    ensures bare_shown { NeverShows (first_row ∷ bare_row ∷ child_row
+        ∷ row 0x16 0x17 read_write 0x16 None [] ∷ []) }
+    ensures own_shown { NeverShows (first_row ∷ row 0x12 0x14 read_only 0x12 (Some 0) (0 ∷ [])
+        ∷ child_row ∷ last_row ∷ []) }
+    ensures chain_of_root { NeverShows (first_row ∷ bare_row
+        ∷ row 0x14 0x16 read_write 0x14 (Some 1) (0 ∷ []) ∷ last_row ∷ []) }
+    ensures chain_of_child { NeverShows (first_row ∷ bare_row ∷ child_row
+        ∷ row 0x16 0x17 read_write 0x16 (Some 0) (0 ∷ 1 ∷ []) ∷ []) }
+    ensures chain_falling { NeverShows (first_row ∷ bare_row
+        ∷ row 0x14 0x16 read_write 0x14 (Some 1) (1 ∷ 0 ∷ []) ∷ last_row ∷ []) }
 {}

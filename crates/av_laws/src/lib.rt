@@ -27,7 +27,9 @@ ghost use Rattle.av_trace.specs.declared.row.Row.{Row};
 ghost use Rattle.av_plain.specs.World.{World, Process};
 ghost use Rattle.av_plain.specs.Ledger.{Ledger, Setting};
 ghost use Rattle.av_plain.specs.Event.{Event, after_all};
-ghost use Rattle.av_plain.specs.Report.{AreMaps, totals};
+ghost use Rattle.av_plain.specs.Areas.{Anons};
+ghost use Rattle.av_plain.specs.Report.{AreMaps, AreRowsOf, totals};
+ghost use Rattle.av_vma.specs.Pages.{Pages};
 ghost use Rattle.av_plain.specs.Step.{IsLegal, causes, next_world};
 ghost use Rattle.av_plain.specs.Refusal.{is_mprotect};
 ghost use Rattle.av_plain.specs.Map.{StopsAtHole};
@@ -41,7 +43,7 @@ ghost use Rattle.av_io.specs.Count.{Rose, RoseBy};
 ghost use Rattle.av_laws.specs.Covered.{CoverPages};
 ghost use Rattle.av_laws.specs.NeedsFrame.{NoneWantsFrame};
 ghost use Rattle.av_plain.specs.Device.{HasNoDevice};
-ghost use Rattle.av_laws.specs.ReadBack.{IsSmall};
+ghost use Rattle.av_laws.specs.ReadBack.{IsSmall, IsWideRow};
 ghost use Rattle.av_laws.specs.Determined.{
   Tells,
   IsClaimed,
@@ -165,22 +167,31 @@ pub fn maps_has_one_answer()
         ≡ others }
 {}
 
+/// The areas that the pages of a process have are one list: `areas` has one answer.
+pub fn areas_has_one_answer()
+    ensures { (anons : Anons) (on : Pages) (rows others : List Row)
+        → AreRowsOf anons on rows → AreRowsOf anons on others → rows ≡ others }
+{}
+
 /// A legal reply to a command of the grammar is one that is read back from its text: its numbers
 /// are of 64 bits, its bytes below 256, and its rows as many as it says. This is so where no device
-/// is attached and no area is on.
+/// is attached and no area is on, and where offsets and anon_vmas that the rows of `areas` say are
+/// of 64 bits, too: these aren't part of what makes a reply legal.
 pub fn replies_are_read_back()
     ensures { (m : Setting) (w : World) (l : Ledger) (command : Command) (reply : Reply)
         (events : List Event) → HasNoDevice m → AllSound m w l → IsSmall m w l
-        → IsCommand command → IsLegal m w l command reply events → IsReply reply }
+        → IsCommand command → AllByRecursion IsWideRow reply.rows
+        → IsLegal m w l command reply events → IsReply reply }
 {}
 
 /// So is each reply of a run from nothing on, where no device is attached, the machine's frames
-/// have numbers of 64 bits, and the commands are those of the grammar.
+/// have numbers of 64 bits, fewer than 2^64 anon_vmas were made, and the commands are those of the
+/// grammar.
 pub fn replies_of_runs_are_read_back()
     ensures { (m : Setting) (exchanges : List Exchange) (new : State) → HasNoDevice m
         → IsWide m.frames
         → AllByRecursion (λ (e : Exchange). IsCommand e.command) exchanges
-        → IsRun m (at_first m) exchanges new
+        → IsRun m (at_first m) exchanges new → IsWide new.anons.next
         → AllByRecursion (λ (e : Exchange). IsReply e.reply) exchanges }
 {}
 

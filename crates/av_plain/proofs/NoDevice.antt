@@ -26,7 +26,7 @@ use Rattle.std.specs.FinMap.Entries.{is_sorted}
 use Rattle.std.specs.Prelude.{if◌then◌else◌, length, T}
 use Rattle.av_base.specs.Page.{page_of, pages_of}
 use Rattle.av_trace.specs.declared.command.Command.{Command}
-use Rattle.av_trace.specs.declared.command.Command.TheVariants.{Spawn, Exit, Mmap, Munmap, Mprotect, Read, Write, Maps, Stat}
+use Rattle.av_trace.specs.declared.command.Command.TheVariants.{Spawn, Exit, Mmap, Munmap, Mprotect, Read, Write, Maps, Areas as AsksAreas, Stat}
 use Rattle.av_trace.specs.declared.place.Place.{Place}
 use Rattle.av_trace.specs.declared.place.Place.TheVariants.{Auto, At, Fixed, NoReplace}
 use Rattle.av_trace.specs.declared.reply.Errno.{Errno}
@@ -468,6 +468,7 @@ follows-faultless m w l (Write p a bytes) events answer rows none s h =
     let plain = accesses-plain (λ note. is_fail note ≡ false) m w p none (λ page note is. plain-fails m (p, page) note) l (pages_of_access true a (length bytes)) events h.0 s h.1 in
     record { notes = no-fails (notes_of events) plain.notes; answered = is-faultless answer _ h.2 (write-faultless a h.0 plain.ends) }
 follows-faultless m w l (Maps p) events answer rows none s h = record { notes = ap (λ es. fails (notes_of es)) h.2; answered = is-faultless answer _ h.0 (record { told = refl; failed = refl }) }
+follows-faultless m w l (AsksAreas p) events answer rows none s h = record { notes = ap (λ es. fails (notes_of es)) h.2; answered = is-faultless answer _ h.0 (record { told = refl; failed = refl }) }
 follows-faultless m w l Stat events answer rows none s h = record { notes = ap (λ es. fails (notes_of es)) h.1; answered = is-faultless answer _ h.0 (record { told = refl; failed = refl }) }
 
 -- no test leads to EIO
@@ -494,6 +495,7 @@ tests-mild m w l (Mprotect p a len prot) = (refl, (refl, (refl, tt)))
 tests-mild m w l (Read p a n) = (refl, tt)
 tests-mild m w l (Write p a bytes) = (refl, tt)
 tests-mild m w l (Maps p) = (refl, tt)
+tests-mild m w l (AsksAreas p) = (refl, tt)
 tests-mild m w l Stat = tt
 
 pub in-areas : (m : Setting) (w : World) (l : Ledger) → AllSound m w l → InAreas m l

@@ -3,7 +3,7 @@ use Rattle.std.proofs.Common.{◌≡◌, ◌⊎◌, inl, inr, ℕ, ◌<◌, ◌�
 use Rattle.std.proofs.lemmas.Bool.Decides.{nat_tests}
 use Rattle.std.specs.Prelude.{MatchOption}
 use Rattle.av_trace.specs.declared.command.Command.{Command}
-use Rattle.av_trace.specs.declared.command.Command.TheVariants.{Spawn, Exit, Mmap, Munmap, Mprotect, Read, Write, Maps, Stat}
+use Rattle.av_trace.specs.declared.command.Command.TheVariants.{Spawn, Exit, Mmap, Munmap, Mprotect, Read, Write, Maps, Areas as AsksAreas, Stat}
 use Rattle.av_trace.specs.declared.place.Place.{Place}
 use Rattle.av_trace.specs.declared.place.Place.TheVariants.{Auto, At, Fixed, NoReplace}
 use Rattle.av_trace.specs.declared.reply.Errno.{Errno}
@@ -61,6 +61,7 @@ refused-next m w now l (Mprotect p a len prot) Einval is = refl
 refused-next m w now l (Read p a n) error is = refl
 refused-next m w now l (Write p a bytes) error is = refl
 refused-next m w now l (Maps p) error is = refl
+refused-next m w now l (AsksAreas p) error is = refl
 refused-next m w now l Stat error is = refl
 
 -- and the areas
@@ -81,6 +82,7 @@ refused-areas m w l long on (Mprotect p a len prot) Einval is = refl
 refused-areas m w l long on (Read p a n) error is = refl
 refused-areas m w l long on (Write p a bytes) error is = refl
 refused-areas m w l long on (Maps p) error is = refl
+refused-areas m w l long on (AsksAreas p) error is = refl
 refused-areas m w l long on Stat error is = refl
 
 -- ---- a refusal that no test gives
@@ -124,6 +126,7 @@ follows-refused m w now l (Mprotect p a len prot) events error rows other h = cc
 follows-refused m w now l (Read p a n) events error rows other h = absurd (read-refused a h.0 h.1 error h.4)
 follows-refused m w now l (Write p a bytes) events error rows other h = absurd (write-refused a h.0 error h.2)
 follows-refused m w now l (Maps p) events error rows other h = cc
+follows-refused m w now l (AsksAreas p) events error rows other h = cc
 follows-refused m w now l Stat events error rows other h = cc
 
 -- ---- the law

@@ -1,3 +1,4 @@
 -- Laws of reports.
+pub mod Areas
 pub mod Runs
 pub mod Totals

@@ -1,14 +1,18 @@
--- Reports: the runs of `maps`, and the numbers of `stat`.
+-- Reports: the runs of `maps`, the areas of `areas`, and the numbers of `stat`.
 use Rattle.std.specs.Prelude.{◌≡◌, ℕ, ◌<◌, ◌≤◌, ◌&&◌, nat_lt, nat_le, if◌then◌else◌, List, [], ◌∷◌, map, length, sum_by, Option, Some, None, option_map}
 use Rattle.av_base.specs.Page.{address_of}
 use Rattle.av_base.specs.declared.prot.Prot.{Prot}
 use Rattle.av_trace.specs.declared.reply.Answer.{Answer}
-use Rattle.av_trace.specs.declared.reply.Answer.TheVariants.{Runs, Counted}
+use Rattle.av_trace.specs.declared.command.Command.{Command}
+use Rattle.av_trace.specs.declared.command.Command.TheVariants.{Areas as AsksAreas}
+use Rattle.av_trace.specs.declared.reply.Answer.TheVariants.{AreaList, Runs, Counted}
 use Rattle.av_trace.specs.declared.row.Row.{Row}
-use Rattle.av_trace.specs.declared.row.Row.TheVariants.{Run}
+use Rattle.av_trace.specs.declared.row.Row.TheVariants.{Run, Area as AreaRow}
 use Rattle.av_trace.specs.declared.reply.Totals.{Totals}
 use Rattle.av_vma.specs.declared.area.Area.{Area}
 use Rattle.av_vma.specs.Join.{first_of, past_of}
+use Rattle.av_vma.specs.Pages.{Pages, pages_in}
+use Rattle.av_plain.specs.Areas.{Anons, Areas, chain_of}
 use Rattle.av_plain.specs.World.{World, Process, Page}
 use Rattle.av_plain.specs.Event.{Event}
 use Rattle.av_plain.specs.Ledger.{Ledger, Setting, SwapArea, free_frames, free_slots}
@@ -35,6 +39,12 @@ prot_in (r ∷ rs) page =
 abbrev pub Cover : Process → List Range → Type 0
 Cover q rs = (page : ℕ) → prot_in rs page ≡ option_map (λ (p : Page). p.prot) (q page)
 
+-- the ranges rise, none is empty, and no two meet
+abbrev pub AreApart : List Range → Type 0
+AreApart [] = Unit {0}
+AreApart (a ∷ []) = a.from < a.to
+AreApart (a ∷ b ∷ areas) = (a.from < a.to) × (a.to ≤ b.from) × AreApart (b ∷ areas)
+
 -- ---- maps
 
 -- no range is empty, they rise, and none begins where the one before ends with the same protection
@@ -56,6 +66,39 @@ AreMaps q rows = (runs : List Range) × (rows ≡ map row_of runs) × AreLongest
 abbrev pub ReportsRuns : Process → List Event → Answer → List Row → Type 0
 ReportsRuns q events answer rows =
     (answer ≡ Runs (length rows)) × AreMaps q rows × (events ≡ [])
+
+-- ---- areas
+
+-- the pages that the row of an area shows, with their protection; None for any other row
+abbrev pub run_of : Row → Option Row
+run_of (AreaRow start end prot offset own chain) = Some (Run start end prot)
+run_of row = None
+
+-- the rows are of ranges that are apart and cover the pages; what else they say isn't part of what
+-- makes a reply legal
+abbrev pub AreAreas : Process → List Row → Type 0
+AreAreas q rows = (ranges : List Range) × (map run_of rows ≡ map (λ r. Some (row_of r)) ranges)
+    × AreApart ranges × Cover q ranges
+
+-- the answer to `areas`: how many areas there are
+abbrev pub ReportsAreas : Process → List Event → Answer → List Row → Type 0
+ReportsAreas q events answer rows =
+    (answer ≡ AreaList (length rows)) × AreAreas q rows × (events ≡ [])
+
+-- the row of an area, with the chain of its own anon_vma
+abbrev pub area_row : Anons → Area → Row
+area_row anons area =
+    AreaRow area.start area.end area.prot area.pgoff area.anon (chain_of anons area.anon)
+
+-- the rows are those of the areas that these pages have: each once, rising
+abbrev pub AreRowsOf : Anons → Pages → List Row → Type 0
+AreRowsOf anons on rows = (areas : List Area) × (rows ≡ map (area_row anons) areas)
+    × AreApart (map range_of areas) × ((page : ℕ) → pages_in (Some areas) page ≡ on page)
+
+-- an answer to `areas` shows the areas of the process, with all that they say
+abbrev pub ShowsAreas : Areas → Anons → Command → Answer → List Row → Type 0
+ShowsAreas areas anons (AsksAreas p) (AreaList n) rows = AreRowsOf anons (areas p) rows
+ShowsAreas areas anons command answer rows = Unit {0}
 
 -- ---- stat
 

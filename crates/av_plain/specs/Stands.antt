@@ -12,7 +12,7 @@ use Rattle.av_plain.specs.Ledger.{Entry, HasNumbers, InFrame, InSlot, Ledger, Se
 use Rattle.av_plain.specs.Areas.{AnonVma, Anons, Areas, Homes, chain_of}
 use Rattle.av_plain.specs.Choice.{AreaSlots, Free, ListsAll}
 use Rattle.av_plain.specs.Covered.{IsRmapSound}
-use Rattle.av_plain.specs.Report.{Range, prot_in, range_of}
+use Rattle.av_plain.specs.Report.{Range, prot_in, range_of, AreApart}
 use Rattle.av_plain.specs.Sound.{AllSound}
 use Rattle.av_plain.specs.Transcript.{State, rmap_of}
 use Rattle.av_plain.specs.World.{Page, World, lives, pages}
@@ -94,12 +94,6 @@ pub record SwapStands (v : View) (l : Ledger) : Type 0 where
   pub on : v.on ≡ l.on
 
 -- ---- the areas
-
--- the ranges rise, none is empty, and no two meet
-abbrev pub AreApart : List Range → Type 0
-AreApart [] = Unit {0}
-AreApart (a ∷ []) = a.from < a.to
-AreApart (a ∷ b ∷ areas) = (a.from < a.to) × (a.to ≤ b.from) × AreApart (b ∷ areas)
 
 -- the ranges of the areas of a process, if it lives
 abbrev pub ranges_in : Option (List Area) → Option (List Range)

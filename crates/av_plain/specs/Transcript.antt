@@ -7,6 +7,7 @@ use Rattle.av_plain.specs.Areas.{Anons, AreNext, Areas, Homes, Rmap, no_anons, n
 use Rattle.av_plain.specs.Choice.{ChoosesAll, Free, no_slots}
 use Rattle.av_plain.specs.Event.{Event, after_all}
 use Rattle.av_plain.specs.Ledger.{Setting, first_ledger, Ledger}
+use Rattle.av_plain.specs.Report.{ShowsAreas}
 use Rattle.av_plain.specs.Step.{IsLegal, causes, closing_area, next_world}
 use Rattle.av_plain.specs.World.{World}
 
@@ -62,6 +63,7 @@ pub record IsStep (m : Setting) (old : State) (command : Command) (reply : Reply
   pub free : ChoosesAll m (closing_area command) old.ledger events old.free new.free
   pub rmap : AreNext (rmap_after_all old.ledger events (rmap_of old)) old.world command reply.answer
       (rmap_of new)
+  pub shows : ShowsAreas old.areas old.anons command reply.answer reply.rows
 
 -- a transcript, each of its replies a step
 abbrev pub IsRun : Setting → State → List Exchange → State → Type 0

@@ -30,8 +30,8 @@ use Rattle.av_plain.specs.World.{Page, lives, pages}
 use Rattle.av_plain.specs.Ledger.{Ledger, Setting, Entry, Zero as ZeroEntry, InFrame, InSlot, first_ledger, frame_at, free_slots, cached_by, Cached, is_cached, same_slot, slot_count, slot_entries}
 use Rattle.av_plain.specs.Device.{no_device}
 use Rattle.av_plain.specs.Choice.{Free, ListsAll, ListsFree, no_slots}
-use Rattle.av_plain.specs.Report.{Range, prot_in, range_of}
-use Rattle.av_plain.specs.Stands.{View, Pte as Plain, SwapStands, entry_of, kin_of, prot_of, AreApart, IsKept, IsKeptAt, IsClean}
+use Rattle.av_plain.specs.Report.{AreApart, Range, prot_in, range_of}
+use Rattle.av_plain.specs.Stands.{View, Pte as Plain, SwapStands, entry_of, kin_of, prot_of, IsKept, IsKeptAt, IsClean}
 use Rattle.av_plain.specs.Transcript.{State, at_first}
 use Rattle.av_plain.proofs.Covered.{sound-first}
 use Rattle.av_plain.proofs.Ledger.NoSwap.{itself, is_in-numbers}

@@ -1,7 +1,8 @@
 -- What a change of areas leaves of the anon_vmas, said by numbers of areas, is so by pages.
-use Rattle.std.proofs.Common.{◌≡◌, ◌≢◌, ℕ, true, List, Option, Some, None, is_some, IfSome, IsSome, IsSomeAnd, refl, sym, ap, subst, ◌∙◌, arith}
+use Rattle.std.proofs.Common.{◌≡◌, ◌≢◌, ℕ, true, List, [], Option, Some, None, is_some, IfSome, IsSome, IsSomeAnd, refl, sym, ap, subst, ◌∙◌, arith}
 use Rattle.std.proofs.lemmas.Bool.{false≢true}
 use Rattle.std.specs.Prelude.{MatchOption}
+use Rattle.std.specs.Option.{option_map_or}
 use Rattle.av_base.specs.Words.{is_in}
 use Rattle.av_vma.specs.declared.area.Area.{Area}
 use Rattle.av_vma.specs.Areas.{area_of}
@@ -21,7 +22,7 @@ use Rattle.av_merge.specs.Process.{AreAreasOf}
 use Rattle.av_merge.proofs.Places.{area_in, is_on, on_span}
 use Rattle.av_spaces.specs.Spaces.{AllSpaces, pages_of}
 use Rattle.av_spaces.specs.Trees.{Trees, AreTrees, HasNone, all_spaces, spaces_by, tree_at}
-use Rattle.av_spaces.specs.Kin.{AnonsFit, AnonsPrepare, AnonsStay, InOrder, IsLinkedIn, IsOwnedIn, chain_on, info_of, made_for}
+use Rattle.av_spaces.specs.Kin.{AnonsFit, AnonsPrepare, AnonsStay, InOrder, IsLinkedIn, IsOwnedIn, chain_at, chain_on, info_of, made_for}
 use Rattle.av_spaces.proofs.Trees.{none_dead, pages_there}
 
 -- ---- areas in use are on pages
@@ -194,6 +195,25 @@ pub anons_prepare_by : (old new : List (Option Area)) (ts : Trees) (a a' : Anons
     → AnonsPrepare s a (all_spaces new ts) a' p page
 anons_prepare_by old new ts a a' p page spans s view trees trees' was prepared =
     subst (λ (s : AllSpaces). AnonsPrepare s a (all_spaces new ts) a' p page) view (anons_prepare old new ts a a' p page spans trees trees' was prepared)
+
+-- ---- the chain of a page's area
+
+-- where a page has the area at a number, or none that is in use, its chain is the links of that
+pub chain_where : (s : AllSpaces) (a : Anons) (p page n : ℕ) → InOrder s a → area_of s.areas n ≡ pages_of s.processes p page
+    → (family a).chain n ≡ chain_at s a p page
+chain_where s a p page n order is = by (pages_of s.processes p page) is
+  where
+    owned : (own : Option ℕ) → own_of (area_of s.areas n) ≡ own → (family a).chain n ≡ chain_on s a own
+    owned None e = (order.chains n).none e
+    owned (Some v) e = sym (chain_by-is (area_of s.areas) (family a) (spans_of a) n v order e)
+
+    by : (o : Option Area) → area_of s.areas n ≡ o → (family a).chain n ≡ option_map_or (λ area. chain_on s a area.anon) o []
+    by None e = (order.chains n).none (ap own_of e)
+    by (Some area) e = owned area.anon (ap own_of e)
+
+-- a page without an area has no chain
+pub chain_nowhere : (s : AllSpaces) (a : Anons) (p page : ℕ) → None ≡ pages_of s.processes p page → [] ≡ chain_at s a p page
+chain_nowhere s a p page is = ap (λ o. option_map_or (λ (area : Area). chain_on s a area.anon) o []) is
 
 -- ---- from one change to the next
 

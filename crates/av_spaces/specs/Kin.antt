@@ -1,6 +1,7 @@
 -- The anon_vmas beside the areas of all processes, said by pages: which are linked, and what a
 -- change of areas leaves of them.
 use Rattle.std.specs.Prelude.{◌≡◌, ℕ, suc, Bool, true, false, if◌then◌else◌, List, [], ◌∷◌, Option, Some, None, option_map, IfSome, IsSome, IsSomeAnd}
+use Rattle.std.specs.Option.{option_map_or}
 use Rattle.av_base.specs.Words.{is_in}
 use Rattle.av_vma.specs.Areas.{area_of}
 use Rattle.av_vma.specs.Pages.{makes_anon}
@@ -23,6 +24,11 @@ info_of anons v = (family anons).info v
 abbrev pub chain_on : AllSpaces → Anons → Option ℕ → List ℕ
 chain_on s anons None = []
 chain_on s anons (Some own) = chain_by (area_of s.areas) (family anons) own
+
+-- the chain of the area that holds a page of p; none where there is no area
+abbrev pub chain_at : AllSpaces → Anons → ℕ → ℕ → List ℕ
+chain_at s anons p page =
+    option_map_or (λ area. chain_on s anons area.anon) (pages_of s.processes p page) []
 
 -- an area is linked to the anon_vma
 abbrev pub IsLinkedIn : AllSpaces → Anons → ℕ → Type 0

@@ -10,7 +10,7 @@ ghost use Rattle.av_merge.specs.Pages.{IsReached};
 ghost use Rattle.av_merge.specs.Process.{AreAreasOf};
 ghost use Rattle.av_anon.specs.declared.anons.Anons.{Anons};
 ghost use Rattle.av_merge.specs.Kin.{lengths};
-ghost use Rattle.av_spaces.specs.Kin.{AnonsPrepare, AnonsStay, InOrder};
+ghost use Rattle.av_spaces.specs.Kin.{AnonsPrepare, AnonsStay, InOrder, chain_at};
 ghost use Rattle.av_spaces.specs.Spaces.{areas_of, pages_of, is_taken, AreThese, AreRising, IsSpawned, IsChanged, IsEnded};
 ghost use Rattle.av_vma.specs.Pages.{IsWhole, after_map, after_prepare, after_unmap, pages_changed, to_prot};
 ghost use Rattle.av_spaces.specs.Trees.{areas_by, tree_at, IsGrown};
@@ -261,6 +261,22 @@ impl Spaces {
         let mut spans = Vec::new(self.alloc);
         tree.append_to(&mut spans)?;
         areas_at(self.alloc, &self.areas, &spans)
+    }
+
+    /// The chain of the area that holds a page: the numbers of the anon_vmas that it is linked to,
+    /// rising. It is empty where the page isn't mapped. Once the area is found, it takes time
+    /// linear in the length of the chain.
+    pub fn chain(&self, anons: &Anons, process: u16, page: u64) -> Result<Vec<u64>, AllocError>
+        requires order { InOrder self.now anons.now }
+        ensures { IfOk result (λ chain. chain.items ≡ chain_at self.now anons.now process page) }
+    {
+        let Some(tree) = tree_of(&self.trees, process) else {
+            return Ok(Vec::new(self.alloc));
+        };
+        match tree.find(page) {
+            Some(number) => anons.links().chain(self.alloc, number),
+            None => Ok(Vec::new(self.alloc)),
+        }
     }
 }
 

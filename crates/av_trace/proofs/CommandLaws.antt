@@ -97,11 +97,14 @@ exits-found = whole-found processes (codes "exit") commands.Exit (λ _ h. h) (λ
 maps-found : IsReader (codes "maps", whole process_at commands.Maps)
 maps-found = whole-found processes (codes "maps") commands.Maps (λ _ h. h) (λ _. refl)
 
+areas-found : IsReader (codes "areas", whole process_at commands.Areas)
+areas-found = whole-found processes (codes "areas") commands.Areas (λ _ h. h) (λ _. refl)
+
 stats-found : IsReader (codes "stat", whole no_words (λ x. commands.Stat))
 stats-found = whole-found nothing (codes "stat") _ (λ _ _. tt) (λ _. refl)
 
 each_reads : AllByRecursion IsReader readers
-each_reads = (writes-found, (reads-found, (spawns-found, (exits-found, (mmaps-found, (ranges-found, (mprotects-found, (maps-found, (stats-found, tt)))))))))
+each_reads = (writes-found, (reads-found, (spawns-found, (exits-found, (mmaps-found, (ranges-found, (mprotects-found, (maps-found, (areas-found, (stats-found, tt))))))))))
 
 pub command_of-found : (bytes : List ℕ) (c : Command) → command_of bytes ≡ Some c → IsCommand c × (bytes ≡ line_of c)
 unfolding command_of
@@ -131,6 +134,7 @@ command_of-again (commands.Mprotect p address len prot) h = whole-again mprotect
 command_of-again (commands.Read p address len) h = whole-again reads tt _ ((p, address), len) ((h.0, h.1), h.2)
 command_of-again (commands.Write p address bytes) h = whole-again writes refl _ ((p, address), bytes) ((h.0, h.1), h.2)
 command_of-again (commands.Maps p) h = whole-again processes tt commands.Maps p h
+command_of-again (commands.Areas p) h = whole-again processes tt commands.Areas p h
 command_of-again commands.Stat h = whole-again nothing tt (λ x. commands.Stat) tt tt
 
 -- ---- want of memory

@@ -38,7 +38,7 @@ lacks-spell (suc k) base c n b other h small =
     ]
 
 -- a byte below the digits
-lacks-low : (base c n : ℕ) → IsBase base → c < 48 → IsWide n → lacks c (spell base n) ≡ true
+pub lacks-low : (base c n : ℕ) → IsBase base → c < 48 → IsWide n → lacks c (spell base n) ≡ true
 lacks-low base c n b low small = lacks-spell 63 base c n b (λ d lt e. omega (arith, glyph_printed d)) (omega arith) small
 
 -- a byte above the decimal digits

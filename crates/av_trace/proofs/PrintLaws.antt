@@ -9,12 +9,12 @@ use Rattle.av_trace.specs.declared.row.Row.{Row}
 use Rattle.av_trace.specs.Note.{note_line, IsNote}
 use Rattle.av_trace.specs.Print.{line_of, notes_text, rows_text, text_of}
 use Rattle.av_trace.specs.Reply.{answer_line, Follow, IsReply}
-use Rattle.av_trace.specs.Row.{row_line, IsRun, IsEntry}
+use Rattle.av_trace.specs.Row.{row_line, IsRun, IsAreaRow, IsEntry}
 use Rattle.av_trace.specs.Word.{field}
 use Rattle.av_trace.proofs.NoteLaws.{note_of, note_line-is}
 use Rattle.av_trace.proofs.PlainWords.{LineReader, IsLineOf, one_line, no_newline}
 use Rattle.av_trace.proofs.ReplyLaws.{answer_line-is}
-use Rattle.av_trace.proofs.RowLaws.{run_of, run_line-is, entry_of, entry_line-is}
+use Rattle.av_trace.proofs.RowLaws.{run_of, run_line-is, area_of, area_line-is, entry_of, entry_line-is}
 use Rattle.av_trace.proofs.Split.{lacks, lacks-cons, first_line}
 
 -- ---- the lines after the first
@@ -60,6 +60,7 @@ only_rows read Fits is ns ms rs qs none none' all others e =
 same_rest : (answer : Answer) (ns ms : List Note) (rs qs : List Row) → Follow answer ns rs → Follow answer ms qs →
     notes_text ns ++ rows_text rs ≡ notes_text ms ++ rows_text qs → (ns ≡ ms) × (rs ≡ qs)
 same_rest (answers.Runs n) ns ms rs qs h k e = only_rows run_of IsRun run_line-is ns ms rs qs h.0 k.0 h.2 k.2 e
+same_rest (answers.AreaList n) ns ms rs qs h k e = only_rows area_of IsAreaRow area_line-is ns ms rs qs h.0 k.0 h.2 k.2 e
 same_rest (answers.Walk frame maps) ns ms rs qs h k e = only_rows entry_of IsEntry entry_line-is ns ms rs qs h.0 k.0 h.2 k.2 e
 same_rest answer ns ms rs qs h k e = only_notes ns ms rs qs h.0 k.0 h.1 k.1 e
 

@@ -39,14 +39,14 @@ lacks-append c (b ∷ s) t hs ht =
     let p = and_parts (not (eqb b c)) (lacks c s) hs in
     and_from (not (eqb b c)) (lacks c (s ++ t)) p.0 (lacks-append c s t p.1 ht)
 
-split-last : (c : ℕ) (w : List ℕ) → lacks c w ≡ true → split c w ≡ w ∷ []
+pub split-last : (c : ℕ) (w : List ℕ) → lacks c w ≡ true → split c w ≡ w ∷ []
 unfolding split
 split-last c [] h = refl
 split-last c (b ∷ w) h =
     let p = and_parts (not (eqb b c)) (lacks c w) h in
     cond-false _ _ _ (not_true _ p.0) ∙ ap (before_first b) (split-last c w p.1)
 
-split-more : (c : ℕ) (w rest : List ℕ) → lacks c w ≡ true → split c (w ++ c ∷ rest) ≡ w ∷ split c rest
+pub split-more : (c : ℕ) (w rest : List ℕ) → lacks c w ≡ true → split c (w ++ c ∷ rest) ≡ w ∷ split c rest
 unfolding split
 split-more c [] rest h = cond-true _ _ _ (eq-eqb c c refl)
 split-more c (b ∷ w) rest h =

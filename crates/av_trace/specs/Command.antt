@@ -23,6 +23,7 @@ IsCommand (commands.Read p address len) =
     IsProcess p × IsWide address × IsNumberIn 1 page_size len
 IsCommand (commands.Write p address bytes) = IsProcess p × IsWide address × IsData bytes
 IsCommand (commands.Maps p) = IsProcess p
+IsCommand (commands.Areas p) = IsProcess p
 IsCommand commands.Stat = Unit {0}
 
 -- the one line of a command
@@ -40,6 +41,7 @@ line_of (commands.Read p address len) =
 line_of (commands.Write p address bytes) =
     line (codes "write") (decimal p ∷ hex address ∷ hex_text bytes ∷ [])
 line_of (commands.Maps p) = line (codes "maps") (decimal p ∷ [])
+line_of (commands.Areas p) = line (codes "areas") (decimal p ∷ [])
 line_of commands.Stat = codes "stat"
 
 -- ---- reading: each command has the words that a reader finds, and then the line ends
@@ -107,6 +109,7 @@ readers =
     ∷ (codes "munmap", munmap_at)
     ∷ (codes "mprotect", mprotect_at)
     ∷ (codes "maps", whole process_at commands.Maps)
+    ∷ (codes "areas", whole process_at commands.Areas)
     ∷ (codes "stat", whole no_words (λ x. commands.Stat))
     ∷ []
 

@@ -15,7 +15,7 @@ use Rattle.av_trace.specs.Word.{line}
 use Rattle.av_trace.specs.Number.{IsWide}
 use Rattle.av_trace.specs.Hex.{hex, hex_text, AreBytes}
 use Rattle.av_trace.specs.Note.{slot_text, IsSlot, IsNote}
-use Rattle.av_trace.specs.Row.{IsRun, IsEntry}
+use Rattle.av_trace.specs.Row.{IsRun, IsAreaRow, IsEntry}
 
 -- ---- words
 
@@ -151,6 +151,8 @@ IsAnswer (answers.Counted totals) = AreTotals totals
 abbrev pub Follow : Answer → List Note → List Row → Type 0
 Follow (answers.Runs n) notes rows =
     (notes ≡ []) × (n ≡ length rows) × AllByRecursion IsRun rows
+Follow (answers.AreaList n) notes rows =
+    (notes ≡ []) × (n ≡ length rows) × AllByRecursion IsAreaRow rows
 Follow (answers.Walk frame maps) notes rows =
     (notes ≡ []) × (maps ≡ length rows) × AllByRecursion IsEntry rows
 Follow answer notes rows = AllByRecursion IsNote notes × (rows ≡ [])

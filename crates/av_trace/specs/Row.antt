@@ -1,6 +1,8 @@
 -- The lines of a report's rows.
-use Rattle.std.specs.Prelude.{ℕ, List, [], ◌∷◌, ◌++◌}
+use Rattle.std.specs.Prelude.{ℕ, List, [], ◌∷◌, ◌++◌, Option, Some, None, codes, IfSome}
+use Rattle.std.specs.List.{flat_map, AllByRecursion}
 use Rattle.std.specs.Fmt.{decimal}
+use Rattle.av_base.specs.declared.prot.Prot.{Prot}
 use Rattle.av_trace.specs.declared.row.Row.{Row}
 use Rattle.av_trace.specs.declared.row.Row.TheVariants as rows
 use Rattle.av_trace.specs.Word.{line}
@@ -12,9 +14,30 @@ use Rattle.av_trace.specs.Prot.{prot_text}
 abbrev pub range_text : ℕ → ℕ → List ℕ
 range_text start end = hex start ++ 45 ∷ hex end
 
+-- a number, or `-` where there is none
+abbrev pub own_text : Option ℕ → List ℕ
+own_text None = codes "-"
+own_text (Some v) = decimal v
+
+-- numbers with commas between, or `-` where there are none
+abbrev pub chain_text : List ℕ → List ℕ
+chain_text [] = codes "-"
+chain_text (v ∷ vs) = decimal v ++ flat_map (λ w. 44 ∷ decimal w) vs
+
+-- what the row of an area says after its addresses
+abbrev pub area_words : Prot → ℕ → Option ℕ → List ℕ → List (List ℕ)
+area_words prot offset own chain =
+    prot_text prot
+    ∷ (codes "off=" ++ hex offset)
+    ∷ (codes "own=" ++ own_text own)
+    ∷ (codes "chain=" ++ chain_text chain)
+    ∷ []
+
 -- the line of a row
 abbrev pub row_line : Row → List ℕ
 row_line (rows.Run start end prot) = line (range_text start end) (prot_text prot ∷ [])
+row_line (rows.Area start end prot offset own chain) =
+    line (range_text start end) (area_words prot offset own chain)
 row_line (rows.Entry p address) = line (decimal p) (hex address ∷ [])
 
 -- ---- the numbers are of 64 bits
@@ -22,9 +45,15 @@ row_line (rows.Entry p address) = line (decimal p) (hex address ∷ [])
 -- a row of `maps`
 abbrev pub IsRun : Row → Type 0
 IsRun (rows.Run start end prot) = IsWide start × IsWide end
-IsRun (rows.Entry p address) = ⊥
+IsRun row = ⊥
+
+-- a row of `areas`
+abbrev pub IsAreaRow : Row → Type 0
+IsAreaRow (rows.Area start end prot offset own chain) =
+    IsWide start × IsWide end × IsWide offset × IfSome own IsWide × AllByRecursion IsWide chain
+IsAreaRow row = ⊥
 
 -- a row of a walk
 abbrev pub IsEntry : Row → Type 0
-IsEntry (rows.Run start end prot) = ⊥
 IsEntry (rows.Entry p address) = IsWide p × IsWide address
+IsEntry row = ⊥

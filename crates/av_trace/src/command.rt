@@ -55,6 +55,9 @@ pub enum Command {
     Maps {
         process: u16,
     },
+    Areas {
+        process: u16,
+    },
     Stat,
 }
 
@@ -180,6 +183,14 @@ fn maps(bytes: &[u8]) -> Option<Command>
 }
 
 #[tactic(auto, unfolding(crate::specs::Command::whole))]
+fn areas(bytes: &[u8]) -> Option<Command>
+    ensures { result ≡ whole process_at Command.Areas bytes.now }
+{
+    let (process, rest) = process(bytes)?;
+    end(Command::Areas { process }, rest)
+}
+
+#[tactic(auto, unfolding(crate::specs::Command::whole))]
 fn stat(bytes: &[u8]) -> Option<Command>
     ensures { result ≡ whole no_words (λ x. Command.Stat) bytes.now }
 {
@@ -208,6 +219,8 @@ pub fn whole_command(alloc: Global, line: &[u8]) -> Result<Option<Command>, Allo
         Ok(mprotect(rest))
     } else if let Some(rest) = after(line, b"maps") {
         Ok(maps(rest))
+    } else if let Some(rest) = after(line, b"areas") {
+        Ok(areas(rest))
     } else if let Some(rest) = after(line, b"stat") {
         Ok(stat(rest))
     } else {

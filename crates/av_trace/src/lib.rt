@@ -32,4 +32,4 @@ pub use number::number_in;
 pub use place::Place;
 pub use print::{one_reply, reply_text};
 pub use reply::{Answer, Errno, OutOf, Reply, Totals};
-pub use row::{Row, Rows};
+pub use row::{Chain, Row, Rows};

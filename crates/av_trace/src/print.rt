@@ -41,7 +41,7 @@ fn add_rows(text: &mut Bytes, rows: &[Row]) -> Result<(), AllocError>
 {
     for row in rows {
         begin_row(text)?;
-        row_line(text, *row)?;
+        row_line(text, row)?;
         end_line(text)?;
     }
     Ok(())

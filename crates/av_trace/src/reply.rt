@@ -59,8 +59,8 @@ pub struct Totals {
 /// Where an access stops before its end, `served` counts the bytes before the stop, and `shown`
 /// are those of a read.
 ///
-/// Declared ahead of the commands that give them: `Bus`, `On` and `NoFrame` (swap), `AreaList`,
-/// `Walk`, `NoWalk`, and those of entries and slots (reports). `AreaList` has no rows yet.
+/// Declared ahead of the commands that give them: `Bus`, `On` and `NoFrame` (swap), `Walk`,
+/// `NoWalk`, and those of entries and slots (reports).
 #[derive(Drop)]
 pub enum Answer {
     Done,

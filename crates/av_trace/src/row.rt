@@ -1,22 +1,74 @@
 //! Rows of a report.
 
 ghost use Rattle.std.specs.Prelude.{◌≡◌, List, [], ◌∷◌, ◌++◌, OnOk, OnErr};
-ghost use Rattle.av_trace.specs.Row.{row_line as line_of_row};
+ghost use Rattle.av_trace.specs.Row.{chain_text, own_text, row_line as line_of_row};
 ghost use Rattle.av_trace.specs.Word.{Adds};
 
 use crate::bytes::Bytes;
 use crate::hex::{add_address, add_hex};
 use crate::number::add_decimal;
 use crate::prot::add_prot;
+use crate::word::add_word;
 use av_base::Prot;
 use std::alloc::{AllocError, Global};
 use std::marker::Model;
 
-/// A row of a report: a run of `maps`, or an entry of a frame's walk, which no command gives yet.
-#[derive(Clone, Copy, Drop, Debug, PartialEq, Eq)]
+/// The chain of an area: the numbers of the anon_vmas that it is linked to, rising.
+#[derive(Drop)]
+pub struct Chain {
+    numbers: Vec<u64>,
+}
+
+impl Model for Chain {
+    ghost use Rattle.std.specs.Prelude.{List, ℕ};
+    ghost use Rattle.std.specs.Coded.{coded_ℕ, coded_list};
+
+    ghost Value = { List ℕ };
+
+    ghost coded = { coded_list coded_ℕ };
+
+    ghost view = { λ c. c.numbers.items };
+}
+
+impl Chain {
+    /// The numbers of a vector.
+    pub fn from_vec(numbers: Vec<u64>) -> Self
+        ensures { result ≡ numbers.items }
+    {
+        Chain { numbers }
+    }
+
+    pub fn as_slice(&self) -> &[u64]
+        ensures { result.now ≡ self.now }
+    {
+        self.numbers.as_slice()
+    }
+}
+
+/// A row of a report: a run of `maps`, an area of `areas`, or an entry of a frame's walk, which no
+/// command gives yet.
+///
+/// `start` and `end` are addresses. An area's `offset` is the linear index of its first page, and
+/// `own` the number of its own anon_vma.
+#[derive(Drop)]
 pub enum Row {
-    Run { start: u64, end: u64, prot: Prot },
-    Entry { process: u16, address: u64 },
+    Run {
+        start: u64,
+        end: u64,
+        prot: Prot,
+    },
+    Area {
+        start: u64,
+        end: u64,
+        prot: Prot,
+        offset: u64,
+        own: Option<u64>,
+        chain: Chain,
+    },
+    Entry {
+        process: u16,
+        address: u64,
+    },
 }
 
 /// The rows of a report, in order.
@@ -60,20 +112,66 @@ impl Rows {
     }
 }
 
+/// Adds the addresses of pages from `start` to `end`, and their protection.
+fn add_run(text: &mut Bytes, start: u64, end: u64, prot: Prot) -> Result<(), AllocError>
+    ensures { Adds result text.old text.new (line_of_row (Row.Run start end prot)) }
+{
+    add_hex(text, start)?;
+    text.append(b"-")?;
+    add_hex(text, end)?;
+    add_prot(text, prot)
+}
+
+/// Adds a number, or `-` where there is none.
+fn add_own(text: &mut Bytes, own: Option<u64>) -> Result<(), AllocError>
+    ensures { Adds result text.old text.new (own_text own) }
+{
+    match own {
+        None => text.append(b"-"),
+        Some(number) => add_decimal(text, number),
+    }
+}
+
+/// Adds numbers with commas between, or `-` where there are none.
+fn add_chain(text: &mut Bytes, chain: &[u64]) -> Result<(), AllocError>
+    ensures { Adds result text.old text.new (chain_text chain.now) }
+{
+    let Some((first, rest)) = chain.split_first() else {
+        return text.append(b"-");
+    };
+    add_decimal(text, *first)?;
+    for number in rest {
+        text.append(b",")?;
+        add_decimal(text, *number)?;
+    }
+    Ok(())
+}
+
 /// Adds the line of a row, without its newline.
-pub fn row_line(text: &mut Bytes, row: Row) -> Result<(), AllocError>
-    ensures { Adds result text.old text.new (line_of_row row) }
+pub fn row_line(text: &mut Bytes, row: &Row) -> Result<(), AllocError>
+    ensures { Adds result text.old text.new (line_of_row row.now) }
 {
     match row {
-        Row::Run { start, end, prot } => {
-            add_hex(text, start)?;
-            text.append(b"-")?;
-            add_hex(text, end)?;
-            add_prot(text, prot)
+        Row::Run { start, end, prot } => add_run(text, *start, *end, *prot),
+        Row::Area {
+            start,
+            end,
+            prot,
+            offset,
+            own,
+            chain,
+        } => {
+            add_run(text, *start, *end, *prot)?;
+            add_word(text, b"off=")?;
+            add_hex(text, *offset)?;
+            add_word(text, b"own=")?;
+            add_own(text, *own)?;
+            add_word(text, b"chain=")?;
+            add_chain(text, chain.as_slice())
         }
         Row::Entry { process, address } => {
-            add_decimal(text, u64::from(process))?;
-            add_address(text, address)
+            add_decimal(text, u64::from(*process))?;
+            add_address(text, *address)
         }
     }
 }

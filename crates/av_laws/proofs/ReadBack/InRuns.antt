@@ -1,5 +1,5 @@
--- All states of a run are small, where no device is attached: so each of its replies is read back.
-use Rattle.std.specs.List.{AllByRecursion, list_all}
+-- Each step leaves a small state, where no device is attached.
+use Rattle.std.specs.List.{list_all}
 use Rattle.std.specs.Prelude.{MatchBool, MatchOption, slice_index}
 use Rattle.std.specs.Ordering.{nat_cmp, eq_by_cmp}
 use Rattle.std.proofs.Common.{◌≡◌, inl, inr, ℕ, ◌+◌, ◌-◌, ◌<◌, ◌≤◌, Bool, true, false, cond, not, ◌&&◌, List, [], ◌∷◌, ◌++◌, length, Option, Some, None, is_some, option_map, refl, sym, ap, subst, ◌∙◌, arith, ◌==◌, nat_lt, nat_le, if◌then◌else◌}
@@ -10,11 +10,8 @@ use Rattle.av_base.specs.Words.{within}
 use Rattle.av_base.specs.declared.prot.Prot.{Prot}
 use Rattle.av_base.specs.declared.slot.Slot.{Slot}
 use Rattle.av_vma.specs.Gap.{IsGap}
-use Rattle.av_trace.specs.Command.{IsCommand}
-use Rattle.av_trace.specs.Number.{IsWide}
-use Rattle.av_trace.specs.Reply.{IsReply}
 use Rattle.av_trace.specs.declared.command.Command.{Command}
-use Rattle.av_trace.specs.declared.command.Command.TheVariants.{Spawn, Exit, Mmap, Munmap, Mprotect, Read, Write, Maps, Stat}
+use Rattle.av_trace.specs.declared.command.Command.TheVariants.{Spawn, Exit, Mmap, Munmap, Mprotect, Read, Write, Maps, Areas as AsksAreas, Stat}
 use Rattle.av_trace.specs.declared.note.Cause.TheVariants.{NoSlot, Referenced, WriteStarted, Writeback}
 use Rattle.av_trace.specs.declared.note.Note.{Note}
 use Rattle.av_trace.specs.declared.note.Note.TheVariants.{Aged, Copied, Dropped, Failed, Kept, Loaded, Mapped, New, Put, Started, Unmapped, Written, Zeroed}
@@ -27,7 +24,6 @@ use Rattle.av_trace.specs.declared.reply.Errno.TheVariants.{Eexist, Einval, Enom
 use Rattle.av_trace.specs.declared.reply.Reply.{Reply}
 use Rattle.av_trace.specs.declared.row.Row.{Row}
 use Rattle.av_plain.specs.Access.{Accesses, End, after_write, first_bytes, page_events}
-use Rattle.av_plain.specs.Device.{HasNoDevice}
 use Rattle.av_plain.specs.Event.{Event, Forked, Moved, Noted, TurnedOff, TurnedOn, Used, Zapped, after, after_all, after_note, after_use_of, change_entries, entries_where, if_some, note_events, off_cache, off_flight, set_entry, settle_entry, to_inactive_tail, when, with_stale}
 use Rattle.av_plain.specs.Fault.{Stop}
 use Rattle.av_plain.specs.Ledger.{Entry, InFrame, InSlot, Key, Ledger, Setting, Zero, entry, frame_at, is_orphan, slot_of}
@@ -35,18 +31,16 @@ use Rattle.av_plain.specs.Load.{with_loads}
 use Rattle.av_plain.specs.Map.{with_prot_to_hole}
 use Rattle.av_plain.specs.Place.{Goes, IsMapAt, is_room}
 use Rattle.av_plain.specs.Refusal.{Refuses, Tests, fixed_tests, is_too_long, low, place_tests, refusal, tests, top, wraps}
-use Rattle.av_plain.specs.Sound.{AllSound}
 use Rattle.av_plain.specs.Step.{Follows, IsLegal, next, next_world}
-use Rattle.av_plain.specs.Transcript.{Exchange, IsRun, IsStep, State, at_first}
+use Rattle.av_plain.specs.Transcript.{IsStep, State}
 use Rattle.av_plain.specs.World.{Page, Process, World, end_process, is_mapped, lives, meets, no_pages, pages, pages_to_hole, set_process, with_bytes, with_pages, with_prot, with_prot_on, zeros}
 use Rattle.av_plain.specs.Zap.{orphan_drop, slot_behind_key, zap_of, zaps_of}
 use Rattle.av_plain.proofs.Refusal.{refused-next}
-use Rattle.av_plain.proofs.Sound.{first-sound, map_count-loads, step-sound}
+use Rattle.av_plain.proofs.Sound.{map_count-loads}
 use Rattle.av_plain.proofs.Sound.There.{settle-on}
 use Rattle.av_plain.proofs.Sound.Zap.{pages-ended}
 use Rattle.av_plain.proofs.World.{pages-set}
 use Rattle.av_laws.specs.ReadBack.{IsSmall}
-use Rattle.av_laws.proofs.ReadBack.{legal-reads_back}
 
 -- ---- no area goes on
 
@@ -186,6 +180,7 @@ plain-legal m w l command reply es legal = by (refusal (tests m w l command)) le
     follows (Read p a n) q = plain-accesses m w l p _ es q.0 q.2
     follows (Write p a bytes) q = plain-accesses m w l p _ es q.0 q.1
     follows (Maps p) q = none q.2
+    follows (AsksAreas p) q = none q.2
     follows Stat q = none q.1
 
     by : (o : Option Errno)
@@ -360,9 +355,10 @@ below-follows m w now l (Read p a n) es answer rows below none h = below
 below-follows m w now l (Write p a bytes) es answer rows below none h = below-stored now p a
     (first_bytes answer bytes) below
 below-follows m w now l (Maps p) es answer rows below none h = below
+below-follows m w now l (AsksAreas p) es answer rows below none h = below
 below-follows m w now l Stat es answer rows below none h = below
 
-step-small : (m : Setting) (old new : State) (command : Command) (reply : Reply)
+pub step-small : (m : Setting) (old new : State) (command : Command) (reply : Reply)
     → IsSmall m old.world old.ledger → IsStep m old command reply new
     → IsSmall m new.world new.ledger
 step-small m old new command reply small h = record {
@@ -389,26 +385,3 @@ step-small m old new command reply small h = record {
         below is x
     by (Some error) is x = subst (λ a. Below (next now command a)) (sym x.0)
         (subst Below (sym (refused-next m old.world now old.ledger command error is)) below)
-
--- ---- a run
-
-runs-back : (m : Setting) (old : State) (es : List Exchange) (new : State) → HasNoDevice m
-    → AllSound m old.world old.ledger → IsSmall m old.world old.ledger
-    → AllByRecursion (λ (e : Exchange). IsCommand e.command) es
-    → IsRun m old es new → AllByRecursion (λ (e : Exchange). IsReply e.reply) es
-runs-back m old [] new none sound small fit h = tt
-runs-back m old (e ∷ es) new none sound small fit h = (
-  legal-reads_back m old.world old.ledger e.command e.reply h.1.events none sound small fit.0
-      h.1.legal,
-  runs-back m h.0 es new none (step-sound m old e.command e.reply h.0 sound h.1)
-      (step-small m old h.0 e.command e.reply small h.1) fit.1 h.2,
-)
-
-pub run-reads_back : (m : Setting) (es : List Exchange) (new : State) → HasNoDevice m
-    → IsWide m.frames → AllByRecursion (λ (e : Exchange). IsCommand e.command) es
-    → IsRun m (at_first m) es new → AllByRecursion (λ (e : Exchange). IsReply e.reply) es
-run-reads_back m es new none wide fit h = runs-back m (at_first m) es new none (first-sound m)
-    (record { frames = wide; below = λ p page h. absurd (never_some h); off = refl }) fit h
-  where
-    never_some : false ≡ true → ⊥
-    never_some e = cc

@@ -4,7 +4,7 @@ use Rattle.std.proofs.lemmas.Bool.Decides.{nat_tests}
 use Rattle.av_base.specs.declared.prot.Prot.{Prot}
 use Rattle.av_plain.specs.World.{World, Page, pages}
 use Rattle.av_plain.specs.Report.{Range, prot_in, AreLongest, row_of, AreMaps}
-use Rattle.av_plain.specs.Stands.{AreApart}
+use Rattle.av_plain.specs.Report.{AreApart}
 
 -- a range that goes on to the end of another
 abbrev pub grown : Range → Range → Range

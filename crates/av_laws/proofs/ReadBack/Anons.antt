@@ -1,0 +1,346 @@
+-- In a run each anon_vma that an area says has been made: so its number is below the next one's.
+use Rattle.std.specs.List.{AllByRecursion}
+use Rattle.std.specs.Option.{option_map_or, option_or}
+use Rattle.std.proofs.Common.{◌≡◌, ℕ, zero, suc, ◌+◌, ◌-◌, ◌<◌, ◌≤◌, Bool, true, false, not, ◌&&◌, ◌==◌, List, [], ◌∷◌, map, Option, Some, None, IfSome, is_some, option_map, refl, sym, ap, subst, ◌∙◌, arith, nat_lt, if◌then◌else◌}
+use Rattle.std.specs.Prelude.{max, min, unwrap_or}
+use Rattle.av_base.specs.Page.{address_of, page_of, pages_of}
+use Rattle.av_base.specs.Words.{with_at, within}
+use Rattle.av_base.specs.declared.prot.Prot.{Prot}
+use Rattle.av_vma.specs.declared.area.Area.{Area}
+use Rattle.av_vma.specs.Join.{first_of, is_reusable, past_of}
+use Rattle.av_vma.specs.Pages.{AreLaid, Effect, Lengths, Pages, after_join, after_map, after_unmap, alters_at, cut_at, do_join, fresh_area, has_page, join_of, joined_around, joined_at, loan_beside, loan_of, makes_anon, page_changed, pages_changed, pages_in, part_changed, part_of, to_prot, with_anon, with_area, with_effect, with_effect_on, without_range}
+use Rattle.av_trace.specs.Number.{IsWide}
+use Rattle.av_trace.specs.declared.command.Command.{Command}
+use Rattle.av_trace.specs.declared.command.Command.TheVariants.{Spawn, Exit, Mmap, Munmap, Mprotect}
+use Rattle.av_trace.specs.declared.note.Note.{Note}
+use Rattle.av_trace.specs.declared.note.Note.TheVariants.{Copied, New}
+use Rattle.av_trace.specs.declared.place.Place.{Place}
+use Rattle.av_trace.specs.declared.place.Place.TheVariants.{Auto, At, Fixed, NoReplace}
+use Rattle.av_trace.specs.declared.reply.Answer.{Answer}
+use Rattle.av_trace.specs.declared.reply.Answer.TheVariants.{Done, MapAt, Refused}
+use Rattle.av_trace.specs.declared.reply.Errno.TheVariants.{Enomem}
+use Rattle.av_trace.specs.declared.reply.Reply.{Reply}
+use Rattle.av_trace.specs.declared.row.Row.{Row}
+use Rattle.av_plain.specs.Areas.{Anons, AnonVma, Areas, areas_to_hole, AreLeft, at_home, chain_length, chain_of, next_areas, none_on, prepare_page, Rmap, rmap_after, rmap_after_all, rmap_after_note, rmap_after_use, root_anon, with_room, with_root}
+use Rattle.av_plain.specs.Event.{Event, Noted, Used, after}
+use Rattle.av_plain.specs.Ledger.{Entry, InFrame, Key, Ledger, Setting, entry}
+use Rattle.av_plain.specs.Refusal.{wraps}
+use Rattle.av_plain.specs.Report.{AreRowsOf, area_row}
+use Rattle.av_plain.specs.Transcript.{Exchange, IsRun, IsStep, State, rmap_of}
+use Rattle.av_plain.specs.World.{World, pages, pages_to_hole}
+use Rattle.av_plain.proofs.Report.Areas.{all_from, on_first}
+use Rattle.av_laws.specs.ReadBack.{IsWideRow}
+
+-- ---- own anon_vmas
+
+abbrev IsBelow : ℕ → Option ℕ → Type 0
+IsBelow n own = IfSome own (λ v. v < n)
+
+abbrev AreaBelow : ℕ → Option Area → Type 0
+AreaBelow n o = IfSome o (λ (a : Area). IsBelow n a.anon)
+
+-- that of each area is below n
+abbrev OwnBelow : ℕ → Pages → Type 0
+OwnBelow n on = (page : ℕ) → AreaBelow n (on page)
+
+abbrev AllBelow : ℕ → Areas → Type 0
+AllBelow n on = (p : ℕ) → OwnBelow n (on p)
+
+more : (n n' : ℕ) (own : Option ℕ) → n ≤ n' → IsBelow n own → IsBelow n' own
+more n n' None le h = tt
+more n n' (Some v) le h = omega (arith, le, h)
+
+more_area : (n n' : ℕ) (o : Option Area) → n ≤ n' → AreaBelow n o → AreaBelow n' o
+more_area n n' None le h = tt
+more_area n n' (Some a) le h = more n n' a.anon le h
+
+either : (n : ℕ) (x y : Option ℕ) → IsBelow n x → IsBelow n y → IsBelow n (option_or x y)
+either n None y h g = g
+either n (Some v) y h g = h
+
+same_own : (n : ℕ) (f : Area → Area) → ((a : Area) → (f a).anon ≡ a.anon) → (o : Option Area) → AreaBelow n o → AreaBelow n (option_map f o)
+same_own n f same None h = tt
+same_own n f same (Some a) h = subst (IsBelow n) (sym (same a)) h
+
+-- ---- what changes areas
+
+part-own : (at page : ℕ) (a : Area) → (part_of at page a).anon ≡ a.anon
+part-own at page a = elim (nat_lt page at) as (λ b. (if b then record a { end = min a.end (address_of at) } else record a {
+  start = max a.start (address_of at);
+  pgoff = a.pgoff + (at - first_of a);
+}).anon ≡ a.anon) [
+  | true ↦ refl
+  | false ↦ refl
+]
+
+cut-below : (n at : ℕ) (on : Pages) → OwnBelow n on → OwnBelow n (cut_at at on)
+cut-below n at on h page = same_own n (part_of at page) (part-own at page) (on page) (h page)
+
+without-below : (n from past : ℕ) (on : Pages) → OwnBelow n on → OwnBelow n (without_range from past on)
+without-below n from past on h page = by (within from (past - from) page)
+  where
+    by : (b : Bool) → AreaBelow n (if b then None else on page)
+    by true = tt
+    by false = h page
+
+unmap-below : (n from past : ℕ) (on : Pages) → OwnBelow n on → OwnBelow n (after_unmap from past on)
+unmap-below n from past on h = without-below n from past (cut_at past (cut_at from on)) (cut-below n past (cut_at from on) (cut-below n from on h))
+
+join-below : (n : ℕ) (len : Lengths) (left right : Option Area) (page : ℕ) (now : Option Area) → AreaBelow n left → AreaBelow n right → AreaBelow n now
+    → AreaBelow n (after_join len left right page now)
+join-below n len None right page now l r h = h
+join-below n len (Some a) None page now l r h = h
+join-below n len (Some a) (Some b) page now l r h = by (do_join len a b && has_page (join_of a b) page)
+  where
+    by : (c : Bool) → AreaBelow n (if c then Some (join_of a b) else now)
+    by true = either n a.anon b.anon l r
+    by false = h
+
+joined-below : (n : ℕ) (len : Lengths) (at : ℕ) (on : Pages) → OwnBelow n on → OwnBelow n (joined_at len at on)
+joined-below n len at on h page = join-below n len (on (at - 1)) (on at) page (on page) (h (at - 1)) (h at) (h page)
+
+around-below : (n : ℕ) (len : Lengths) (from past : ℕ) (on : Pages) → OwnBelow n on → OwnBelow n (joined_around len from past on)
+around-below n len from past on h = joined-below n len past (joined_at len from on) (joined-below n len from on h)
+
+with-below : (n : ℕ) (area : Area) (on : Pages) → IsBelow n area.anon → OwnBelow n on → OwnBelow n (with_area area on)
+with-below n area on is h page = by (has_page area page)
+  where
+    by : (b : Bool) → AreaBelow n (if b then Some area else on page)
+    by true = is
+    by false = h page
+
+map-below : (n : ℕ) (len : Lengths) (p from past : ℕ) (prot : Prot) (on : Pages) → OwnBelow n on → OwnBelow n (after_map len p from past prot on)
+map-below n len p from past prot on h = around-below n len from past (with_area (fresh_area p from past prot) on) (with-below n (fresh_area p from past prot) on tt h)
+
+effect-below : (n from past : ℕ) (effect : Effect) (on : Pages) → OwnBelow n on → OwnBelow n (with_effect_on from past effect on)
+effect-below n from past effect on h page = by (within from (past - from) page)
+  where
+    by : (b : Bool) → AreaBelow n (if b then option_map (with_effect effect) (on page) else on page)
+    by true = same_own n (with_effect effect) (λ a. refl) (on page) (h page)
+    by false = h page
+
+page-below : (n : ℕ) (len : Lengths) (effect : Effect) (page : ℕ) (on : Pages) → OwnBelow n on → OwnBelow n (page_changed len effect page on)
+page-below n len effect page on h = by (alters_at effect (on page))
+  where
+    changed : Pages
+    changed = part_changed len page (page + 1) effect on
+
+    by : (b : Bool) → OwnBelow n (if b then part_changed len page (page + 1) effect on else on)
+    by true = around-below n len page (page + 1) (with_effect_on page (page + 1) effect (cut_at (page + 1) (cut_at page on)))
+        (effect-below n page (page + 1) effect (cut_at (page + 1) (cut_at page on)) (cut-below n (page + 1) (cut_at page on) (cut-below n page on h)))
+    by false = h
+
+pages-below : (n : ℕ) (len : Lengths) (effect : Effect) (from k : ℕ) (on : Pages) → OwnBelow n on → OwnBelow n (pages_changed len effect from k on)
+pages-below n len effect from zero on h = h
+pages-below n len effect from (suc k) on h = pages-below n len effect (from + 1) k (page_changed len effect from on) (page-below n len effect from on h)
+
+room-below : (n k : ℕ) (place : Place) (on : Pages) → OwnBelow n on → OwnBelow n (with_room k place on)
+room-below n k Auto on h = h
+room-below n k (At a) on h = h
+room-below n k (Fixed a) on h = unmap-below n (page_of a) (page_of a + k) on h
+room-below n k (NoReplace a) on h = h
+
+set-below : (n p : ℕ) (new : Pages) (on : Areas) → OwnBelow n new → AllBelow n on → AllBelow n (with_at p new on)
+set-below n p new on is h q = by (q == p)
+  where
+    by : (b : Bool) → OwnBelow n (if b then new else on q)
+    by true = is
+    by false = h q
+
+next-below : (n : ℕ) (long : Lengths) (on : Areas) (w : World) (command : Command) (answer : Answer) → AllBelow n on → AllBelow n (next_areas long on w command answer)
+next-below n long on w (Spawn p) Done h = set-below n p none_on on (λ page. tt) h
+next-below n long on w (Exit p) Done h = set-below n p none_on on (λ page. tt) h
+next-below n long on w (Mmap p len prot place) (MapAt a) h =
+    set-below n p (after_map long p (page_of a) (page_of a + pages_of len) prot (with_room (pages_of len) place (on p))) on
+    (map-below n long p (page_of a) (page_of a + pages_of len) prot (with_room (pages_of len) place (on p)) (room-below n (pages_of len) place (on p) (h p))) h
+next-below n long on w (Munmap p a len) Done h =
+    set-below n p (after_unmap (page_of a) (page_of a + pages_of len) (on p)) on (unmap-below n (page_of a) (page_of a + pages_of len) (on p) (h p)) h
+next-below n long on w (Mprotect p a len prot) Done h =
+    set-below n p (areas_to_hole long w p (page_of a) (pages_of len) prot (on p)) on
+    (pages-below n long (to_prot prot) (page_of a) (pages_to_hole (pages w p) (page_of a) (pages_of len)) (on p) (h p)) h
+next-below n long on w (Mprotect p a len prot) (Refused Enomem) h = by (wraps a len)
+  where
+    by : (b : Bool) → AllBelow n (if b then on else with_at p (areas_to_hole long w p (page_of a) (pages_of len) prot (on p)) on)
+    by true = h
+    by false = set-below n p (areas_to_hole long w p (page_of a) (pages_of len) prot (on p)) on
+        (pages-below n long (to_prot prot) (page_of a) (pages_to_hole (pages w p) (page_of a) (pages_of len)) (on p) (h p)) h
+next-below n long on w command answer h = h
+
+-- ---- anon_vmas
+
+abbrev ChainBelow : ℕ → Option AnonVma → Type 0
+ChainBelow n o = IfSome o (λ (x : AnonVma). AllByRecursion (λ v. v < n) x.chain)
+
+-- whatever an area or a chain says has been made
+pub record AreMade (r : Rmap) : Type 0 where
+  pub owns : AllBelow r.anons.next r.areas
+  pub chains : (v : ℕ) → ChainBelow r.anons.next (r.anons.anon v)
+
+more_chain : (n n' : ℕ) (o : Option AnonVma) → n ≤ n' → ChainBelow n o → ChainBelow n' o
+more_chain n n' None le h = tt
+more_chain n n' (Some x) le h = all_from (λ v. v < n) (λ v. v < n') (λ v lt. omega (arith, le, lt)) x.chain h
+
+-- ---- prepare
+
+-- so it is afterwards, with as many made at least
+pub record Makes (old new : Rmap) : Type 0 where
+  pub made : AreMade new
+  pub more : old.anons.next ≤ new.anons.next
+
+loan-below : (n : ℕ) (len : Lengths) (area : Area) (near : Option Area) → AreaBelow n near → IsBelow n (loan_of len area near)
+loan-below n len area None h = tt
+loan-below n len area (Some near) h = by (is_reusable area near (len near.anon))
+  where
+    by : (b : Bool) → IsBelow n (if b then near.anon else None)
+    by true = h
+    by false = tt
+
+page-made : (p page : ℕ) (r : Rmap) → AreMade r → Makes r (prepare_page p page r)
+page-made p page r h = by (on page) (h.owns p page)
+  where
+    on : Pages
+    on = r.areas p
+
+    len : Lengths
+    len = chain_length r.anons
+
+    n : ℕ
+    n = r.anons.next
+
+    same : Makes r (record { areas = with_at p (r.areas p) r.areas; anons = r.anons; homes = r.homes })
+    same = record { made = record { owns = set-below r.anons.next p (r.areas p) r.areas (h.owns p) h.owns; chains = h.chains }; more = omega arith }
+
+    root-chains : (v : ℕ) (b : Bool) → (v == r.anons.next) ≡ b → ChainBelow (suc r.anons.next) (if b then Some (root_anon r.anons.next) else r.anons.anon v)
+    root-chains v true is = (omega arith, tt)
+    root-chains v false is = more_chain r.anons.next (suc r.anons.next) (r.anons.anon v) (omega arith) (h.chains v)
+
+    at : (area : Area) (b : Bool) (l : Option ℕ) → IsBelow r.anons.next l
+        → Makes r (record {
+          areas = with_at p (if b then r.areas p else with_area (record area { anon = Some (unwrap_or l r.anons.next) }) (r.areas p)) r.areas;
+          anons = if not b && not (is_some l) then with_root r.anons else r.anons;
+        })
+    at area true l is = same
+    at area false (Some v) is = record {
+      made = record {
+        owns = set-below r.anons.next p (with_area (record area { anon = Some v }) (r.areas p)) r.areas (with-below r.anons.next (record area { anon = Some v }) (r.areas p) is (h.owns p)) h.owns;
+        chains = h.chains;
+      };
+      more = omega arith;
+    }
+    at area false None is = record {
+      made = record {
+        owns = set-below (suc r.anons.next) p (with_area (record area { anon = Some r.anons.next }) (r.areas p)) r.areas
+            (with-below (suc r.anons.next) (record area { anon = Some r.anons.next }) (r.areas p) (omega arith) (λ o. more_area r.anons.next (suc r.anons.next) (r.areas p o) (omega arith) (h.owns p o)))
+            (λ q o. more_area r.anons.next (suc r.anons.next) (r.areas q o) (omega arith) (h.owns q o));
+        chains = λ v. root-chains v (v == r.anons.next) refl;
+      };
+      more = omega arith;
+    }
+
+    by : (o : Option Area) → AreaBelow r.anons.next o
+        → Makes r (record {
+          areas = with_at p (with_anon (chain_length r.anons) r.anons.next o (r.areas p)) r.areas;
+          anons = if makes_anon (chain_length r.anons) (r.areas p) o then with_root r.anons else r.anons;
+          homes = r.homes;
+        })
+    by None is = same
+    by (Some area) is = at area (is_some area.anon) (loan_beside (chain_length r.anons) (r.areas p) area)
+        (either r.anons.next (loan_of (chain_length r.anons) area (r.areas p (past_of area))) (loan_of (chain_length r.anons) area (r.areas p (first_of area - 1)))
+        (loan-below r.anons.next (chain_length r.anons) area (r.areas p (past_of area)) (h.owns p (past_of area)))
+        (loan-below r.anons.next (chain_length r.anons) area (r.areas p (first_of area - 1)) (h.owns p (first_of area - 1))))
+
+-- homes say nothing of them
+home-made : (r r' : Rmap) (f : ℕ) (k : Key) → Makes r r' → Makes r (at_home f k r')
+home-made r r' f k h = record { made = record { owns = h.made.owns; chains = h.made.chains }; more = h.more }
+
+-- nothing was made
+none-made : (r : Rmap) → AreMade r → Makes r r
+none-made r h = record { made = h; more = omega arith }
+
+note-made : (note : Note) (r : Rmap) → AreMade r → Makes r (rmap_after_note note r)
+note-made (New p a f) r h = home-made r (prepare_page p (page_of a) r) f (p, page_of a) (page-made p (page_of a) r h)
+note-made (Copied p a f) r h = home-made r r f (p, page_of a) (none-made r h)
+note-made note r h = none-made r h
+
+use-made : (write : Bool) (k : Key) (o : Option Entry) (r : Rmap) → AreMade r → Makes r (rmap_after_use write k o r)
+use-made true k (Some (InFrame f seen)) r h = home-made r r f k (none-made r h)
+use-made write k o r h = none-made r h
+
+event-made : (l : Ledger) (e : Event) (r : Rmap) → AreMade r → Makes r (rmap_after l e r)
+event-made l (Noted note) r h = note-made note r h
+event-made l (Used write k) r h = use-made write k (entry l k) r h
+event-made l e r h = none-made r h
+
+all-made : (l : Ledger) (es : List Event) (r : Rmap) → AreMade r → Makes r (rmap_after_all l es r)
+all-made l [] r h = none-made r h
+all-made l (e ∷ es) r h =
+    let first = event-made l e r h in
+    let rest = all-made (after l e) es (rmap_after l e r) first.made in
+    let a = first.more in
+    let b = rest.more in
+    record { made = rest.made; more = omega (arith, a, b) }
+
+-- ---- a step
+
+left-below : (anons left : Anons) (on : Areas) (n : ℕ) → AreLeft anons on left → ((v : ℕ) → ChainBelow n (anons.anon v)) → (v : ℕ) → ChainBelow n (left.anon v)
+left-below anons left on n is h v = by (left.anon v) refl
+  where
+    by : (o : Option AnonVma) → left.anon v ≡ o → ChainBelow n o
+    by None e = tt
+    by (Some x) e = subst (ChainBelow n) (sym (is.linked v (is.there v (ap is_some e))) ∙ e) (h v)
+
+pub step-makes : (m : Setting) (old : State) (command : Command) (reply : Reply) (new : State) → AreMade (rmap_of old)
+    → IsStep m old command reply new → Makes (rmap_of old) (rmap_of new)
+step-makes m old command reply new h step =
+    let later = rmap_after_all old.ledger step.events (rmap_of old) in
+    let makes = all-made old.ledger step.events (rmap_of old) h in
+    let next = step.rmap.anons.next in
+    let less = makes.more in
+    record {
+      made = record {
+        owns = subst (λ n. AllBelow n new.areas) (sym next) (subst (AllBelow later.anons.next) (sym step.rmap.areas)
+            (next-below later.anons.next (chain_length later.anons) later.areas old.world command reply.answer makes.made.owns));
+        chains = subst (λ n. (v : ℕ) → ChainBelow n (new.anons.anon v)) (sym next) (left-below later.anons new.anons new.areas later.anons.next step.rmap.anons makes.made.chains);
+      };
+      more = omega (arith, next, less);
+    }
+
+pub run-makes : (m : Setting) (old : State) (es : List Exchange) (new : State) → AreMade (rmap_of old) → IsRun m old es new → old.anons.next ≤ new.anons.next
+run-makes m old [] new h run = let same : new.anons.next ≡ old.anons.next = ap (λ (s : State). s.anons.next) run in omega (arith, same)
+run-makes m old (e ∷ es) new h run =
+    let one = step-makes m old e.command e.reply run.0 h run.1 in
+    let rest = run-makes m run.0 es new one.made run.2 in
+    let less = one.more in
+    omega (arith, less, rest)
+
+-- ---- rows
+
+chain-below : (anons : Anons) (n : ℕ) (own : Option ℕ) → ((v : ℕ) → ChainBelow n (anons.anon v)) → AllByRecursion (λ v. v < n) (chain_of anons own)
+chain-below anons n None h = tt
+chain-below anons n (Some v) h = by (anons.anon v) (h v)
+  where
+    by : (o : Option AnonVma) → ChainBelow n o → AllByRecursion (λ v. v < n) (option_map_or (λ (x : AnonVma). x.chain) o [])
+    by None h = tt
+    by (Some x) h = h
+
+own-wide : (n : ℕ) (own : Option ℕ) → IsWide n → IsBelow n own → IfSome own IsWide
+own-wide n None wide h = tt
+own-wide n (Some v) wide h = omega (arith, wide, h)
+
+-- the rows of laid areas say numbers of 64 bits where those of the anon_vmas are
+pub rows-wide : (r : Rmap) (p : ℕ) (rows : List Row) → AreMade r → AreLaid (r.areas p) → IsWide r.anons.next → AreRowsOf r.anons (r.areas p) rows
+    → AllByRecursion IsWideRow rows
+rows-wide r p rows h laid wide is =
+    let all : List Area = is.0 in
+    subst (AllByRecursion IsWideRow) (sym is.1) (each is.0 (all_from (λ (a : Area). pages_in (Some all) (first_of a) ≡ Some a) (λ (a : Area). r.areas p (first_of a) ≡ Some a) (λ a on. sym (is.3 (first_of a)) ∙ on) is.0 (on_first is.0 is.2)))
+  where
+    one : (a : Area) → r.areas p (first_of a) ≡ Some a → IsWideRow (area_row r.anons a)
+    one a on = (
+      let small = (laid.whole (first_of a) a on).small in omega (arith, small),
+      own-wide r.anons.next a.anon wide (subst (AreaBelow r.anons.next) on (h.owns p (first_of a))),
+      all_from (λ v. v < r.anons.next) IsWide (λ v lt. omega (arith, wide, lt)) (chain_of r.anons a.anon) (chain-below r.anons r.anons.next a.anon h.chains),
+    )
+
+    each : (areas : List Area) → AllByRecursion (λ (a : Area). r.areas p (first_of a) ≡ Some a) areas → AllByRecursion IsWideRow (map (area_row r.anons) areas)
+    each [] on = tt
+    each (a ∷ areas) on = (one a on.0, each areas on.1)

@@ -1,0 +1,70 @@
+-- All states of a run are small, where no device is attached: so each of its replies is read back.
+use Rattle.std.specs.List.{AllByRecursion}
+use Rattle.std.specs.Prelude.{MatchOption}
+use Rattle.std.proofs.Common.{◌≡◌, true, false, List, [], ◌∷◌, Option, Some, None, refl, sym, subst, arith}
+use Rattle.av_trace.specs.Command.{IsCommand}
+use Rattle.av_trace.specs.Number.{IsWide}
+use Rattle.av_trace.specs.Reply.{IsReply}
+use Rattle.av_trace.specs.declared.command.Command.{Command}
+use Rattle.av_trace.specs.declared.command.Command.TheVariants.{Areas as AsksAreas}
+use Rattle.av_trace.specs.declared.reply.Errno.{Errno}
+use Rattle.av_trace.specs.declared.reply.Reply.{Reply}
+use Rattle.av_plain.specs.Device.{HasNoDevice}
+use Rattle.av_plain.specs.Ledger.{Setting}
+use Rattle.av_plain.specs.Refusal.{Refuses, refusal, tests}
+use Rattle.av_plain.specs.Report.{ShowsAreas}
+use Rattle.av_plain.specs.Sound.{AllSound}
+use Rattle.av_plain.specs.Step.{Follows}
+use Rattle.av_plain.specs.Transcript.{Exchange, IsRun, IsStep, State, at_first, rmap_of}
+use Rattle.av_plain.proofs.Sound.{first-sound, step-sound}
+use Rattle.av_laws.specs.Covered.{CoverPages}
+use Rattle.av_laws.specs.ReadBack.{IsSmall, IsWideRow}
+use Rattle.av_laws.proofs.Covered.{first-covers, step-covers}
+use Rattle.av_laws.proofs.ReadBack.{AskedWide, legal-reads_back}
+use Rattle.av_laws.proofs.ReadBack.Anons.{AreMade, rows-wide, run-makes, step-makes}
+use Rattle.av_laws.proofs.ReadBack.InRuns.{step-small}
+
+-- what the rows of areas say is of 64 bits, where fewer anon_vmas were made
+asked-now : (m : Setting) (old : State) (command : Command) (reply : Reply) (new : State)
+    → AreMade (rmap_of old) → CoverPages old.world old.areas → IsWide old.anons.next
+    → IsStep m old command reply new → AskedWide command reply.rows
+asked-now m old (AsksAreas p) reply new made covers wide h = by
+    (refusal (tests m old.world old.ledger (AsksAreas p))) h.legal.answer
+  where
+    by : (o : Option Errno)
+        → MatchOption o (Follows m old.world old.ledger (AsksAreas p) h.events reply.answer
+        reply.rows) (λ error. Refuses error h.events reply.answer reply.rows)
+        → AllByRecursion IsWideRow reply.rows
+    by None x = rows-wide (rmap_of old) p reply.rows made (covers.laid p) wide
+        (subst (λ answer. ShowsAreas old.areas old.anons (AsksAreas p) answer reply.rows) x.0
+        h.shows)
+    by (Some error) x = subst (AllByRecursion IsWideRow) (sym x.2) tt
+asked-now m old command reply new made covers wide h = tt
+
+runs-back : (m : Setting) (old : State) (es : List Exchange) (new : State) → HasNoDevice m
+    → AllSound m old.world old.ledger → IsSmall m old.world old.ledger
+    → AreMade (rmap_of old) → CoverPages old.world old.areas → IsWide new.anons.next
+    → AllByRecursion (λ (e : Exchange). IsCommand e.command) es
+    → IsRun m old es new → AllByRecursion (λ (e : Exchange). IsReply e.reply) es
+runs-back m old [] new none sound small made covers wide fit h = tt
+runs-back m old (e ∷ es) new none sound small made covers wide fit h = (
+  legal-reads_back m old.world old.ledger e.command e.reply h.1.events none sound small fit.0
+      (asked-now m old e.command e.reply h.0 made covers
+      (let less = run-makes m old (e ∷ es) new made h in omega (arith, wide, less)) h.1)
+      h.1.legal,
+  runs-back m h.0 es new none (step-sound m old e.command e.reply h.0 sound h.1)
+      (step-small m old h.0 e.command e.reply small h.1)
+      (step-makes m old e.command e.reply h.0 made h.1).made
+      (step-covers m old e.command e.reply h.0 covers h.1) wide fit.1 h.2,
+)
+
+pub run-reads_back : (m : Setting) (es : List Exchange) (new : State) → HasNoDevice m
+    → IsWide m.frames → AllByRecursion (λ (e : Exchange). IsCommand e.command) es
+    → IsRun m (at_first m) es new → IsWide new.anons.next
+    → AllByRecursion (λ (e : Exchange). IsReply e.reply) es
+run-reads_back m es new none wide fit h few = runs-back m (at_first m) es new none (first-sound m)
+    (record { frames = wide; below = λ p page h. absurd (never_some h); off = refl })
+    (record { owns = λ p page. tt; chains = λ v. tt }) (first-covers m) few fit h
+  where
+    never_some : false ≡ true → ⊥
+    never_some e = cc
