@@ -218,6 +218,7 @@ page-made p page r h = by (on page) (h.owns p page)
         → Makes r (record {
           areas = with_at p (if b then r.areas p else with_area (record area { anon = Some (unwrap_or l r.anons.next) }) (r.areas p)) r.areas;
           anons = if not b && not (is_some l) then with_root r.anons else r.anons;
+          homes = r.homes;
         })
     at area true l is = same
     at area false (Some v) is = record {
