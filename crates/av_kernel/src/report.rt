@@ -120,19 +120,22 @@ fn area_rows(mem: &Mem, alloc: Global, process: u16, areas: &[Area]) -> Result<R
 {
     let mut rows = Rows::new(alloc);
     for area in areas {
-        rows.push(area_row(mem, process, area)?)?;
+        rows.push(area_row(mem, alloc, process, area)?)?;
     }
     Ok(rows)
 }
 
 /// The row of an area of a process.
-fn area_row(mem: &Mem, process: u16, area: &Area) -> Result<Row, AllocError>
+fn area_row(mem: &Mem, alloc: Global, process: u16, area: &Area) -> Result<Row, AllocError>
     requires fit { AnonsFit mem.now.spaces mem.now.anons }
     requires area { pages_of mem.now.spaces.processes process (first_of area.now) ≡ Some area.now }
     ensures { IfOk result (λ row. row ≡ row_of_area (view mem.now).anons area.now) }
 {
     let first = area.start / PAGE_SIZE;
-    let chain = mem.spaces.chain(&mem.anons, process, first)?;
+    let chain = match area.anon {
+        Some(_) => mem.spaces.chain(&mem.anons, process, first)?,
+        None => Vec::new(alloc),
+    };
     Ok(Row::Area {
         start: area.start,
         end: area.end,

@@ -1,12 +1,20 @@
-use Rattle.std.proofs.Common.{◌∙◌}
+use Rattle.std.proofs.Common.{◌≡◌, ◌∙◌, None, ap, sym}
 use Rattle.av_trace.specs.declared.row.Row.TheVariants as row
 use Rattle.av_vma.specs.Join.{first_of}
+use Rattle.av_plain.specs.Areas.{chain_of}
+use Rattle.av_reclaim.specs.Mem.{anons_of}
 use Rattle.av_kernel.proofs.ReportAreas.{own_chain}
+use Rattle.av_kernel.proofs.report.area_row.Goals.{in-Some+in_ok-chain-in-Some, in-None}
 use Rattle.av_kernel.proofs.report.area_row.Goals as goal
 
 pub returns : goal.returns
 returns c =
     let mem = c.args.mem.now in
     let area = c.args.area.now in
-    let chain = c.from_vec.ensures ∙ c.in_ok-chain.ensures ∙ own_chain mem.spaces mem.anons c.args.process (first_of area) area c.requires.fit c.requires.area in
-    λ i. row.Area area.start area.end area.prot area.pgoff area.anon (chain i)
+    let chain : c.match-area.chain.items ≡ chain_of (anons_of mem.spaces mem.anons) area.anon = elim c.match-area.branch [
+      | in-Some+in_ok-chain-in-Some w ↦
+          ap (λ chain. chain.items) w.chain-is ∙ w.in_ok-chain-in-Some.ensures
+          ∙ own_chain mem.spaces mem.anons c.args.process (first_of area) area c.requires.fit c.requires.area
+      | in-None w ↦ ap (λ chain. chain.items) w.chain-is ∙ w.new-chain.ensures.items ∙ ap (chain_of (anons_of mem.spaces mem.anons)) (sym w.in-None.is)
+    ] in
+    λ i. row.Area area.start area.end area.prot area.pgoff area.anon ((c.from_vec.ensures ∙ chain) i)
