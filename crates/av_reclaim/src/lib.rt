@@ -7,7 +7,9 @@
 #![tactic(auto)]
 
 mod mem;
+mod walk;
 mod zap;
 
 pub use mem::Mem;
+pub use walk::walk;
 pub use zap::{zap_all, zap_range};
