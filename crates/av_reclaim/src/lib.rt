@@ -7,9 +7,8 @@
 #![tactic(auto)]
 
 mod mem;
-mod walk;
+pub mod walk;
 mod zap;
 
 pub use mem::Mem;
-pub use walk::walk;
 pub use zap::{zap_all, zap_range};

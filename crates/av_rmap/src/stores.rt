@@ -15,6 +15,7 @@ use std::marker::Brand;
 use std::sync::ledger::{Blank, Ledger};
 
 /// Areas, anon_vmas with their links and spans, and page tables, lent for reading.
+#[derive(Drop)]
 pub struct Stores<'a> {
     pub areas: &'a Areas,
     pub anons: &'a Anons,
