@@ -2,5 +2,6 @@ pub mod Counting
 pub mod Entries
 pub mod LinkedAreas
 pub mod Looks
+pub mod SeenLemmas
 pub mod SortedLemmas
 pub mod SpanLemmas
