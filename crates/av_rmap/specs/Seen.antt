@@ -24,5 +24,7 @@ abbrev pub unseen_in : ℕ → ℕ → Option Area → View → View
 unseen_in frame index None view = view
 unseen_in frame index (Some area) view =
     let page = page_at index area in
-    record view { entry =
-        with_entry area.pid page (unseen frame (view.entry area.pid page)) view.entry }
+    record view {
+      entry =
+          with_entry area.pid page (unseen frame (view.entry area.pid page)) view.entry;
+    }

@@ -32,11 +32,17 @@ pub trait Look {
 }
 
 pub trait LookMut: Look {
+    // What a change leaves as it was, beside what a walk reads.
+    ghost Kept: { Type 0 };
+
+    ghost kept: { Self → Self.Kept };
+
     /// Puts an entry in place of one that is there. It takes no step: a look comes before it.
     fn change(&mut self, process: u16, page: u64, entry: Pte)
         requires some { entry ≡ Pte.Empty → ⊥ }
         requires there { (Self.view self.old).entry process page ≡ Pte.Empty → ⊥ }
-        ensures { Self.view self.new ≡ record (Self.view self.old) {
-          entry = with_entry process page entry (Self.view self.old).entry
-        } };
+        ensures changed { Self.view self.new ≡ record (Self.view self.old) {
+          entry = with_entry process page entry (Self.view self.old).entry;
+        } }
+        ensures kept { Self.kept self.new ≡ Self.kept self.old };
 }

@@ -76,6 +76,7 @@ pub fn clear_seen<K: LookMut, L: Ledger>(
     requires apart { AreApart (K.view look.old) }
     requires covered { IsCovered (K.view look.old) frame home }
     ensures cleared { K.view look.new ≡ with_unseen frame (K.view look.old) }
+    ensures kept { K.kept look.new ≡ K.kept look.old }
     ensures counted { steps.new ≡ steps.old
         + how_many (overlaps home.1) ((K.view look.old).spans home.0) }
 {
@@ -99,6 +100,7 @@ fn clear_in<K: LookMut, L: Ledger>(
     requires { IsSomeAnd ((K.view look.old).areas area) (λ a. holds index a ≡ true) }
     ensures cleared { K.view look.new
         ≡ unseen_in frame index ((K.view look.old).areas area) (K.view look.old) }
+    ensures kept { K.kept look.new ≡ K.kept look.old }
     ensures counted { steps.new ≡ steps.old + 1 }
 {
     let (process, page) = look.place(area, index);

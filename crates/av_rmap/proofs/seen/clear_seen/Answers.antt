@@ -1,4 +1,4 @@
-use Rattle.std.proofs.Common.{◌≡◌, ℕ, ◌+◌, sym, ap, subst, ◌∙◌, arith, true, IsSomeAnd}
+use Rattle.std.proofs.Common.{◌≡◌, ℕ, ◌+◌, refl, sym, ap, subst, ◌∙◌, arith, true, IsSomeAnd}
 use Rattle.av_base.specs.Words.{how_many}
 use Rattle.av_interval.specs.Search.{overlaps}
 use Rattle.av_rmap.specs.View.{View}
@@ -16,6 +16,7 @@ looks-init g c =
     record {
       cleared = subst (λ xs. IsCleared c.args.frame view view (walk_of view (names_frame c.args.frame) home.1 xs)) (sym all)
           (none-cleared c.args.frame view home c.requires.spanned c.requires.apart c.requires.covered);
+      kept = refl;
       counted = ap (λ xs. c.args.steps.now + how_many (overlaps home.1) xs) all;
     }
 
@@ -45,6 +46,7 @@ looks-preserved g c =
     let count = t.count in let kept = c.looks.invariant.counted in let step = c.clear_in.ensures.counted in
     record {
       cleared = one-cleared c.args.frame c.args.home.1 before now (g.K.Look.view c.clear_in.new.look) _ _ c.in-Some.area h t.walk c.clear_in.ensures.cleared;
+      kept = c.clear_in.ensures.kept ∙ c.looks.invariant.kept;
       counted = omega (arith, count, kept, step);
     }
 

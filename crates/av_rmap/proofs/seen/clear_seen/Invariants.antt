@@ -14,6 +14,7 @@ invariant-looks g l =
     let all = before.spans l.anon in
     record {
       cleared : IsCleared l.frame before (g.K.Look.view l.look) (walk_of before (names_frame l.frame) l.index (rest l.after all));
+      kept : g.K.LookMut.kept l.look ≡ g.K.LookMut.kept l.fn.look;
       counted : l.steps + how_many (overlaps l.index) (rest l.after all)
           ≡ l.fn.steps + how_many (overlaps l.index) all;
     }
