@@ -4,3 +4,4 @@ pub mod ZapFrame
 pub mod ZapFirst
 pub mod ZapRange
 pub mod AnonLaws
+pub mod WalkLaws

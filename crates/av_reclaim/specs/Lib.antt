@@ -1,2 +1,3 @@
 pub mod Mem
+pub mod Walk
 pub mod Zap

@@ -7,6 +7,7 @@
 #![tactic(auto)]
 
 mod mem;
+pub mod walk;
 mod zap;
 
 pub use mem::Mem;

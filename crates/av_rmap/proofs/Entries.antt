@@ -21,7 +21,7 @@ abbrev pub walk_of : View → (Pte → Bool) → ℕ → List Span → List Key
 walk_of view f i [] = []
 walk_of view f i (x ∷ xs) = found_in view f i (view.areas x.area) ++ walk_of view f i xs
 
-many-append : {X : Type 0} (test : X → Bool) (xs ys : List X) → how_many test (xs ++ ys) ≡ how_many test xs + how_many test ys
+pub many-append : {X : Type 0} (test : X → Bool) (xs ys : List X) → how_many test (xs ++ ys) ≡ how_many test xs + how_many test ys
 many-append test [] ys = omega arith
 many-append test (x ∷ xs) ys = let h = many-append test xs ys in omega (arith, h)
 

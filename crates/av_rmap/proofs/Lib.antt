@@ -1,6 +1,7 @@
-mod Counting
-mod Entries
-mod LinkedAreas
-mod Looks
-mod SortedLemmas
-mod SpanLemmas
+pub mod Counting
+pub mod Entries
+pub mod LinkedAreas
+pub mod Looks
+pub mod SeenLemmas
+pub mod SortedLemmas
+pub mod SpanLemmas

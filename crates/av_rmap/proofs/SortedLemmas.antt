@@ -1,12 +1,13 @@
 -- What a sort makes of entries.
-use Rattle.std.proofs.Common.{◌≡◌, ℕ, suc, get_or, ◌+◌, ◌≤◌, Bool, true, false, cond, List, [], ◌∷◌, refl, sym, ap, ◌∙◌, arith, inl, inr}
+use Rattle.std.proofs.Common.{◌≡◌, ℕ, suc, get_or, ◌+◌, ◌≤◌, ◌⊎◌, Bool, true, false, cond, ◌||◌, List, [], ◌∷◌, refl, sym, ap, ◌∙◌, arith, inl, inr}
 use Rattle.std.proofs.lemmas.Bool.{cases_order}
 use Rattle.std.proofs.lemmas.Bool.Decides.{nat_tests}
 use Rattle.std.proofs.lemmas.List.Sums.{sum_by-cons}
 use Rattle.std.proofs.lemmas.List.Sorted.{sum_by-IsPermutation}
-use Rattle.std.specs.List.{sum_by}
+use Rattle.std.specs.List.{list_any, sum_by}
 use Rattle.std.specs.List.Sorted.{IsPermutation, IsSortedBy}
 use Rattle.std.specs.Ordering.{is_lt, nat_cmp, ordering_then}
+use Rattle.av_arena.specs.Order.{AllOf}
 use Rattle.av_arena.proofs.Order.{AllOf-map}
 use Rattle.av_base.specs.Words.{how_many}
 use Rattle.av_rmap.specs.Sorted.{IsBefore, AreRising}
@@ -84,3 +85,95 @@ at-most-once view frame ks its k = bound (names_frame frame (view.entry k.0 k.1)
     bound : {n : ℕ} (b : Bool) → n ≡ one_if b → n ≤ 1
     bound true h = omega (arith, h)
     bound false h = omega (arith, h)
+
+-- ---- keys that rise
+
+pub below-before : (k j : Key) → is_below k j ≡ true → IsBefore k j
+below-before k j h = elim (cases_order k.0 j.0) [
+  | inl e ↦ elim (cases_order k.1 j.1) as (λ _. IsBefore k j) [
+    | inl d ↦ absurd (clash h (grind (arith, nat_tests, e, d)))
+    | inr (inl d) ↦ inr (e, d)
+    | inr (inr d) ↦ absurd (clash h (grind (arith, nat_tests, e, d)))
+  ]
+  | inr (inl d) ↦ inl d
+  | inr (inr d) ↦ absurd (clash h (grind (arith, nat_tests, d)))
+]
+  where
+    clash : {b : Bool} → b ≡ true → b ≡ false → ⊥
+    clash p q = cc
+
+before-other : (k j : Key) → IsBefore k j → same_key k j ≡ false
+before-other k j (inl h) = grind (arith, nat_tests, h)
+before-other k j (inr h) = let b = h.1 in grind (arith, nat_tests, b)
+
+same-keys : (k j : Key) → same_key k j ≡ true → k ≡ j
+same-keys k j h = λ i. (first i, second i)
+  where
+    first : k.0 ≡ j.0
+    first = grind (arith, nat_tests, h)
+
+    second : k.1 ≡ j.1
+    second = grind (arith, nat_tests, h)
+
+same-itself : (k : Key) → same_key k k ≡ true
+same-itself k = grind (arith, nat_tests)
+
+-- of two keys one is before the other
+one-before : (k j : Key) → same_key k j ≡ false → IsBefore k j ⊎ IsBefore j k
+one-before k j ne = by (is_below j k) refl
+  where
+    by : (b : Bool) → is_below j k ≡ b → IsBefore k j ⊎ IsBefore j k
+    by true h = inr (below-before j k h)
+    by false h = inl (before-by k j h ne)
+
+-- none that comes after a key is that key
+none-after : (k : Key) (ks : List Key) → AllOf (IsBefore k) ks → how_many (same_key k) ks ≡ 0
+none-after k [] all = refl
+none-after k (j ∷ js) all =
+    let rest = none-after k js all.1 in
+    ap (λ b. cond b 1 0 + how_many (same_key k) js) (before-other k j all.0) ∙ omega (arith, rest)
+
+-- a key that is there stands there once
+pub once-there : (k : Key) (ks : List Key) → AreRising ks → how_many (same_key k) ks ≡ one_if (list_any (same_key k) ks)
+once-there k [] rising = refl
+once-there k (j ∷ js) rising = by (once-there k js rising.1) (same_key k j) refl
+  where
+    by : how_many (same_key k) js ≡ one_if (list_any (same_key k) js) → (b : Bool) → same_key k j ≡ b → how_many (same_key k) (j ∷ js) ≡ one_if (list_any (same_key k) (j ∷ js))
+    by rest true e =
+        let none : how_many (same_key k) js ≡ 0 = ap (λ i. how_many (same_key i) js) (same-keys k j e) ∙ none-after j js rising.0 in
+        ap (λ b. cond b 1 0 + how_many (same_key k) js) e ∙ omega (arith, none) ∙ sym (ap (λ b. one_if (b || list_any (same_key k) js)) e)
+    by rest false e =
+        ap (λ b. cond b 1 0 + how_many (same_key k) js) e ∙ omega (arith, rest) ∙ sym (ap (λ b. one_if (b || list_any (same_key k) js)) e)
+
+-- two lists that rise and have the same keys are one
+pub rising-same : (ks js : List Key) → AreRising ks → AreRising js → ((i : Key) → how_many (same_key i) ks ≡ how_many (same_key i) js) → ks ≡ js
+rising-same [] [] rising also same = refl
+rising-same [] (j ∷ js) rising also same = absurd (there j js (sym (same j)))
+  where
+    there : (j : Key) (js : List Key) → how_many (same_key j) (j ∷ js) ≡ 0 → ⊥
+    there j js h = let one = ap (λ b. cond {A = ℕ} b 1 0) (same-itself j) in absurd (omega (arith, h, one))
+rising-same (k ∷ ks) [] rising also same = absurd (there k ks (same k))
+  where
+    there : (j : Key) (js : List Key) → how_many (same_key j) (j ∷ js) ≡ 0 → ⊥
+    there j js h = let one = ap (λ b. cond {A = ℕ} b 1 0) (same-itself j) in absurd (omega (arith, h, one))
+rising-same (k ∷ ks) (j ∷ js) rising also same =
+    let first = firsts (same_key k j) refl in
+    let rest = rising-same ks js rising.1 also.1 (later first) in
+    λ i. first i ∷ rest i
+  where
+    -- the first of one isn't before all of the other
+    before-none : (i h : Key) (is hs : List Key) → AreRising (h ∷ hs) → IsBefore i h → how_many (same_key i) (i ∷ is) ≡ how_many (same_key i) (h ∷ hs) → ⊥
+    before-none i h is hs rises before e =
+        let none = none-after i (h ∷ hs) (before, AllOf-map (IsBefore h) (IsBefore i) (λ g b. before-on i h g before b) hs rises.0) in
+        let one = ap (λ b. cond {A = ℕ} b 1 0) (same-itself i) in
+        absurd (omega (arith, none, one, e))
+
+    firsts : (b : Bool) → same_key k j ≡ b → k ≡ j
+    firsts true e = same-keys k j e
+    firsts false e = elim (one-before k j e) [
+      | inl before ↦ absurd (before-none k j ks js also before (same k))
+      | inr after ↦ absurd (before-none j k js ks rising after (sym (same j)))
+    ]
+
+    later : k ≡ j → (i : Key) → how_many (same_key i) ks ≡ how_many (same_key i) js
+    later e i = let first = ap (λ h. cond {A = ℕ} (same_key i h) 1 0) e in let all = same i in omega (arith, first, all)

@@ -1,4 +1,5 @@
 pub mod Covered
+pub mod Seen
 pub mod Sorted
 pub mod Stores
 pub mod View

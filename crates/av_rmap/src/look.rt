@@ -1,5 +1,7 @@
-// What a walk reads: spans, areas and page tables, and nothing else.
+// What a walk reads: spans, areas and page tables, and nothing else; and the one thing that is
+// written: an entry that is there.
 ghost use Rattle.std.specs.Prelude.{◌≡◌, ◌+◌, true, IfSome, IsSomeAnd};
+ghost use Rattle.av_pagetable.specs.Entries.{with_entry};
 ghost use Rattle.av_interval.specs.Search.{overlap_of, IsOrdered};
 ghost use Rattle.av_rmap.specs.View.{View};
 ghost use Rattle.av_rmap.specs.Walk.{holds, page_at};
@@ -27,4 +29,20 @@ pub trait Look {
     fn look<L: Ledger>(&self, process: u16, page: u64, steps: &mut Steps<L>) -> Pte
         ensures entry { result ≡ (view self.now).entry process page }
         ensures counted { steps.new ≡ steps.old + 1 };
+}
+
+pub trait LookMut: Look {
+    // What a change leaves as it was, beside what a walk reads.
+    ghost Kept: { Type 0 };
+
+    ghost kept: { Self → Self.Kept };
+
+    /// Puts an entry in place of one that is there. It takes no step: a look comes before it.
+    fn change(&mut self, process: u16, page: u64, entry: Pte)
+        requires some { entry ≡ Pte.Empty → ⊥ }
+        requires there { (Self.view self.old).entry process page ≡ Pte.Empty → ⊥ }
+        ensures changed { Self.view self.new ≡ record (Self.view self.old) {
+          entry = with_entry process page entry (Self.view self.old).entry;
+        } }
+        ensures kept { Self.kept self.new ≡ Self.kept self.old };
 }

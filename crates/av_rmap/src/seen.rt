@@ -1,12 +1,13 @@
-// Whether a frame was accessed, found through its home.
+// Whether a frame was accessed, found through its home, and that it is taken as not accessed.
 ghost use Rattle.std.specs.Prelude.{◌≡◌, ℕ, ◌+◌, ◌≤◌, true, false, IsSomeAnd, MatchBool};
 ghost use Rattle.av_base.specs.Words.{how_many};
 ghost use Rattle.av_interval.specs.Search.{overlaps};
 ghost use Rattle.av_rmap.specs.Covered.{IsCovered};
+ghost use Rattle.av_rmap.specs.Seen.{unseen_in, with_unseen};
 ghost use Rattle.av_rmap.specs.View.{AreApart, AreSpanned};
 ghost use Rattle.av_rmap.specs.Walk.{Key, holds, is_seen_in, names_seen};
 
-use crate::look::Look;
+use crate::look::{Look, LookMut};
 use av_base::Steps;
 use av_pagetable::Pte;
 use std::sync::ledger::Ledger;
@@ -60,5 +61,64 @@ fn seen_in<K: Look, L: Ledger>(
             ..
         } => frame == other && seen,
         Pte::Empty | Pte::Zero | Pte::Away { .. } => false,
+    }
+}
+
+/// Takes the frame as not accessed: no entry that names it says any more that its page was, and
+/// nothing else changes. `home` is the frame's. It looks at as many entries as a walk.
+pub fn clear_seen<K: LookMut, L: Ledger>(
+    look: &mut K,
+    frame: u32,
+    home: (u64, u64),
+    steps: &mut Steps<L>,
+)
+    requires spanned { AreSpanned (K.view look.old) }
+    requires apart { AreApart (K.view look.old) }
+    requires covered { IsCovered (K.view look.old) frame home }
+    ensures cleared { K.view look.new ≡ with_unseen frame (K.view look.old) }
+    ensures kept { K.kept look.new ≡ K.kept look.old }
+    ensures counted { steps.new ≡ steps.old
+        + how_many (overlaps home.1) ((K.view look.old).spans home.0) }
+{
+    let (anon, index) = home;
+    let mut after = None;
+    'looks: while let Some((first, area)) = look.next(anon, index, after) {
+        clear_in(look, frame, index, area, steps);
+        after = Some((first, area));
+    }
+}
+
+/// One look: the entry of the area's page with this index doesn't say any more that the page was
+/// accessed, where it names the frame.
+fn clear_in<K: LookMut, L: Ledger>(
+    look: &mut K,
+    frame: u32,
+    index: u64,
+    area: u64,
+    steps: &mut Steps<L>,
+)
+    requires { IsSomeAnd ((K.view look.old).areas area) (λ a. holds index a ≡ true) }
+    ensures cleared { K.view look.new
+        ≡ unseen_in frame index ((K.view look.old).areas area) (K.view look.old) }
+    ensures kept { K.kept look.new ≡ K.kept look.old }
+    ensures counted { steps.new ≡ steps.old + 1 }
+{
+    let (process, page) = look.place(area, index);
+    match look.look(process, page, steps) {
+        Pte::Here {
+            frame: other,
+            write,
+            seen,
+        } => {
+            if frame == other && seen {
+                let entry = Pte::Here {
+                    frame,
+                    write,
+                    seen: false,
+                };
+                look.change(process, page, entry);
+            }
+        }
+        Pte::Empty | Pte::Zero | Pte::Away { .. } => {}
     }
 }

@@ -1,10 +1,12 @@
 // The stores of a memory system, as a walk reads them.
-ghost use Rattle.std.specs.Prelude.{◌≡◌, ◌<◌};
+ghost use Rattle.std.specs.Prelude.{◌≡◌, ℕ, Bool, ◌<◌};
+ghost use Rattle.std.specs.Borrow.{GName};
+ghost use Rattle.av_pagetable.specs.Entries.{has};
 ghost use Rattle.av_interval.specs.Search.{overlap_of};
 ghost use Rattle.av_interval.specs.Spans.{triples};
-ghost use Rattle.av_rmap.specs.Stores.{view_of};
+ghost use Rattle.av_rmap.specs.Stores.{view_of, view_of_mut};
 
-use crate::look::Look;
+use crate::look::{Look, LookMut};
 use av_anon::Anons;
 use av_base::{PAGE_SIZE, Steps};
 use av_interval::Spans;
@@ -15,6 +17,7 @@ use std::marker::Brand;
 use std::sync::ledger::{Blank, Ledger};
 
 /// Areas, anon_vmas with their links and spans, and page tables, lent for reading.
+#[derive(Drop)]
 pub struct Stores<'a> {
     pub areas: &'a Areas,
     pub anons: &'a Anons,
@@ -38,6 +41,54 @@ impl<'a> Look for Stores<'a> {
     fn look<L: Ledger>(&self, process: u16, page: u64, steps: &mut Steps<L>) -> Pte {
         steps.tick();
         self.tables.get(process, page)
+    }
+}
+
+/// The same, with page tables lent for writing.
+#[derive(Drop)]
+pub struct StoresMut<'a> {
+    pub areas: &'a Areas,
+    pub anons: &'a Anons,
+    pub tables: &'a mut Tables<PageTable>,
+}
+
+impl<'a> StoresMut<'a> {
+    /// The same stores, lent for reading.
+    fn stores(&self) -> Stores<'_>
+        ensures { view_of result ≡ view_of_mut self.now }
+    {
+        Stores {
+            areas: self.areas,
+            anons: self.anons,
+            tables: &*self.tables,
+        }
+    }
+}
+
+impl<'a> Look for StoresMut<'a> {
+    ghost view = { view_of_mut };
+
+    fn next(&self, anon: u64, index: u64, after: Option<(u64, u64)>) -> Option<(u64, u64)> {
+        self.stores().next(anon, index, after)
+    }
+
+    fn place(&self, area: u64, index: u64) -> (u16, u64) {
+        self.stores().place(area, index)
+    }
+
+    fn look<L: Ledger>(&self, process: u16, page: u64, steps: &mut Steps<L>) -> Pte {
+        self.stores().look(process, page, steps)
+    }
+}
+
+impl<'a> LookMut for StoresMut<'a> {
+    // It is lent the same tables, of the same processes.
+    ghost Kept = { GName × (ℕ → Bool) };
+
+    ghost kept = { λ s. (s.tables.ghost_name, has s.tables.now) };
+
+    fn change(&mut self, process: u16, page: u64, entry: Pte) {
+        self.tables.change(process, page, entry);
     }
 }
 

@@ -2,3 +2,4 @@ pub mod Areas
 pub mod Rising
 pub mod Trees
 pub mod Kin
+pub mod Numbers

@@ -1,10 +1,11 @@
 -- The areas of every process, by process number.
-use Rattle.std.specs.Prelude.{◌≡◌, ◌≢◌, ℕ, ◌+◌, ◌-◌, ◌≤◌, ◌==◌, Bool, true, is_some, if◌then◌else◌, List, [], ◌∷◌, length, Option, Some, None, option_map, IfSome}
+use Rattle.std.specs.Prelude.{◌≡◌, ◌≢◌, ℕ, ◌+◌, ◌≤◌, ◌==◌, Bool, true, is_some, if◌then◌else◌, List, [], ◌∷◌, length, Option, Some, None, IfSome}
 use Rattle.std.specs.Ordering.{nat_cmp}
 use Rattle.std.specs.FinMap.Entries.{find as find_key}
 use Rattle.av_vma.specs.declared.area.Area.{Area}
+use Rattle.av_vma.specs.Areas.{area_of}
 use Rattle.av_vma.specs.Join.{first_of, past_of}
-use Rattle.av_vma.specs.Pages.{Pages, IsWhole, pages_in}
+use Rattle.av_vma.specs.Pages.{Pages, IsWhole, has_page, pages_in}
 
 -- the processes that live, rising, each with its areas
 abbrev pub Spaces : Type 0
@@ -44,6 +45,21 @@ AreRising p (a ∷ b ∷ areas) = IsOwn p a × (past_of a ≤ first_of b) × Are
 -- so are those of each process
 abbrev pub AllRising : Spaces → Type 0
 AllRising s = (p : ℕ) → IfSome (areas_of s p) (AreRising p)
+
+-- ---- the areas by number
+
+-- an area of p with this number has the page
+pub record IsNumber (s : AllSpaces) (p page : ℕ) (area : Area) (number : ℕ) : Type 0 where
+  pub at : area_of s.areas number ≡ Some area
+  pub process : area.pid ≡ p
+  pub here : has_page area page ≡ true
+
+-- the area of each page has a number, and no two areas of one process have a page in common
+pub record AreNumbered (s : AllSpaces) : Type 0 where
+  pub numbers : (p page : ℕ) (area : Area) → pages_of s.processes p page ≡ Some area
+      → (number : ℕ) × IsNumber s p page area number
+  pub apart : (p page a b : ℕ) (A B : Area) → IsNumber s p page A a → IsNumber s p page B b
+      → a ≡ b
 
 -- ---- what changes
 

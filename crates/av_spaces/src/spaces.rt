@@ -11,7 +11,7 @@ ghost use Rattle.av_merge.specs.Process.{AreAreasOf};
 ghost use Rattle.av_anon.specs.declared.anons.Anons.{Anons};
 ghost use Rattle.av_merge.specs.Kin.{lengths};
 ghost use Rattle.av_spaces.specs.Kin.{AnonsPrepare, AnonsStay, InOrder, chain_at};
-ghost use Rattle.av_spaces.specs.Spaces.{areas_of, pages_of, is_taken, AreThese, AreRising, IsSpawned, IsChanged, IsEnded};
+ghost use Rattle.av_spaces.specs.Spaces.{areas_of, pages_of, is_taken, AreNumbered, AreThese, AreRising, IsSpawned, IsChanged, IsEnded};
 ghost use Rattle.av_vma.specs.Pages.{IsWhole, after_map, after_prepare, after_unmap, pages_changed, to_prot};
 ghost use Rattle.av_spaces.specs.Trees.{areas_by, tree_at, IsGrown};
 
@@ -83,6 +83,14 @@ impl Spaces {
         let tree = tree_of(&self.trees, process)?;
         let number = tree.find(page)?;
         Some(self.areas.get(number))
+    }
+
+    /// The areas of all processes by number, as anon_vmas are linked to them.
+    pub fn by_number(&self) -> &Areas
+        ensures areas { result.now ≡ self.now.areas }
+        ensures numbered { AreNumbered self.now }
+    {
+        &self.areas
     }
 
     /// The greatest page from which on this many are free in a process that lives.

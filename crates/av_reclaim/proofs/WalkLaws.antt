@@ -1,0 +1,191 @@
+-- What a walk needs holds of whatever the memory system stands for, and what it finds is the ledger's walk.
+use Rattle.std.proofs.Common.{◌≡◌, ℕ, ◌<◌, ◌≤◌, ◌==◌, Bool, true, false, cond, ◌||◌, T, List, [], ◌∷◌, length, map, filter, Option, Some, None, option_map, Result, Ok, Err, IfSome, IsSomeAnd, refl, sym, ap, subst, ◌∙◌, arith}
+use Rattle.std.specs.Prelude.{IfOk, OnOk}
+use Rattle.std.proofs.lemmas.Bool.{false≢true}
+use Rattle.std.specs.List.{list_any}
+use Rattle.std.specs.FinMap.Entries.{below_all, is_sorted}
+use Rattle.std.specs.Ordering.{is_lt}
+use Rattle.std.specs.Option.{option_map_or}
+use Rattle.av_arena.specs.Order.{AllOf}
+use Rattle.av_base.specs.Words.{how_many, is_in}
+use Rattle.av_chain.specs.Links.{one_if}
+use Rattle.av_vma.specs.declared.area.Area.{Area}
+use Rattle.av_vma.specs.Areas.{area_of}
+use Rattle.av_vma.specs.Join.{index_of}
+use Rattle.av_pagetable.specs.declared.pte.Pte.{Pte}
+use Rattle.av_pagetable.specs.declared.pte.Pte.TheVariants.{Empty, Zero, Here, Away}
+use Rattle.av_pagetable.specs.Entries.{entry_at}
+use Rattle.av_anon.specs.declared.infos.Info.{Info}
+use Rattle.av_anon.specs.Anons.{family, own_of}
+use Rattle.av_anon.specs.Spans.{spans_of}
+use Rattle.av_anon.proofs.KinLaws.{chain_by-is}
+use Rattle.av_spaces.specs.Spaces.{AreNumbered, IsNumber, pages_of}
+use Rattle.av_spaces.specs.Kin.{chain_on, info_of}
+use Rattle.av_rmap.specs.View.{AreApart, AreSpanned, View as Reach, view_with}
+use Rattle.av_rmap.specs.Covered.{IsCovered, IsReached}
+use Rattle.av_rmap.specs.Sorted.{AreRising, IsBefore}
+use Rattle.av_rmap.specs.Walk.{AreItsEntries, Key, names_frame, same_key}
+use Rattle.av_interval.specs.Search.{overlaps}
+use Rattle.av_rmap.proofs.Counting.{keys-as-long}
+use Rattle.av_rmap.proofs.LinkedAreas.{spans-are-areas}
+use Rattle.av_rmap.proofs.SortedLemmas.{below-before, once-there, rising-same}
+use Rattle.av_plain.specs.Areas.{AnonVma, chain_of}
+use Rattle.av_plain.specs.Covered.{IsReached as IsReachedAt}
+use Rattle.av_plain.specs.Ledger.{Entry, Ledger, entry, key_cmp, map_count, names_frame as names, walk}
+use Rattle.av_plain.specs.Stands.{entry_of}
+use Rattle.av_plain.specs.Transcript.{State, rmap_of}
+use Rattle.av_plain.proofs.Ledger.{same_key as same_key_by}
+use Rattle.av_plain.proofs.Ledger.NoSwap.{key_is}
+use Rattle.av_plain.proofs.Ledger.Order.{both_first, both_second}
+use Rattle.av_plain.proofs.Ledger.Walk.{length-walk, passes, walk-has}
+use Rattle.av_reclaim.specs.declared.mem.Mem.{Mem}
+use Rattle.av_reclaim.specs.Mem.{Keeps, anon_vma, anons_of, plain, view}
+use Rattle.av_reclaim.specs.Walk.{areas_at}
+
+-- ---- the walk of the ledger rises
+
+is_true : (b : Bool) → T b → b ≡ true
+is_true true h = refl
+is_true false h = absurd h
+
+-- the keys of the entries that pass a test
+abbrev keys_of : (Entry → Bool) → List (Key × Entry) → List Key
+keys_of p es = map (λ e. e.0) (filter (λ e. p e.1) es)
+
+below-all : (p : Entry → Bool) (k : Key) (es : List (Key × Entry)) → T (below_all key_cmp k es) → AllOf (IsBefore k) (keys_of p es)
+below-all p k [] h = tt
+below-all p k (e ∷ es) h = by (p e.1) (below-all p k es (both_second _ _ h))
+  where
+    by : (b : Bool) → AllOf (IsBefore k) (keys_of p es) → AllOf (IsBefore k) (map (λ e. e.0) (cond b (e ∷ filter (λ e. p e.1) es) (filter (λ e. p e.1) es)))
+    by true rest = (below-before k e.0 (is_true (is_lt (key_cmp k e.0)) (both_first _ _ h)), rest)
+    by false rest = rest
+
+keys-rise : (p : Entry → Bool) (es : List (Key × Entry)) → T (is_sorted key_cmp es) → AreRising (keys_of p es)
+keys-rise p [] h = tt
+keys-rise p (e ∷ es) h = by (p e.1) (keys-rise p es (both_second _ _ h))
+  where
+    by : (b : Bool) → AreRising (keys_of p es) → AreRising (map (λ e. e.0) (cond b (e ∷ filter (λ e. p e.1) es) (filter (λ e. p e.1) es)))
+    by true rest = (below-all p e.0 es (both_first _ _ h), rest)
+    by false rest = rest
+
+-- ---- an entry in both words
+
+names-are : (f : ℕ) (t : Pte) → names_frame f t ≡ passes (names f) (entry_of (plain t))
+names-are f Empty = refl
+names-are f Zero = refl
+names-are f (Here g write seen) = refl
+names-are f (Away slot) = refl
+
+any-same : (k : Key) (ks : List Key) → list_any (same_key k) ks ≡ list_any (same_key_by k) ks
+any-same k [] = refl
+any-same k (j ∷ js) = ap (λ b. b || list_any (same_key k) js) (sym (key_is k.0 k.1 j.0 j.1)) ∙ ap (λ b. same_key_by k j || b) (any-same k js)
+
+passes-some : (f : ℕ) (o : Option Entry) → passes (names f) o ≡ true → IsSomeAnd o (λ e. names f e ≡ true)
+passes-some f None h = absurd (false≢true h)
+passes-some f (Some e) h = h
+
+-- ---- the premises of a walk
+
+-- what a walk reads of the memory system, with these areas by number
+abbrev pub reach_by : Mem → List (Option Area) → Reach
+reach_by k areas = view_with (area_of areas) (family k.anons) (spans_of k.anons) (entry_at k.tables)
+
+abbrev pub reach : Mem → Reach
+reach k = reach_by k k.spaces.areas
+
+module _ (k : Mem) (s : State) (keeps : Keeps k s) where
+  pub spanned : AreSpanned (reach k)
+  spanned = record { spanned = keeps.anons.order.spanned; areas_fit = keeps.anons.order.areas_fit }
+
+  pub apart : AreNumbered k.spaces → AreApart (reach k)
+  apart numbered a b page A B is also same here there = numbered.apart A.pid page a b A B
+      (record { at = is; process = refl; here = here }) (record { at = also; process = sym same; here = there })
+
+  -- an entry names the frame where the ledger's does
+  names-there : (f : ℕ) (q : Key) → names_frame f (entry_at k.tables q.0 q.1) ≡ passes (names f) (entry s.ledger q)
+  names-there f q = names-are f (entry_at k.tables q.0 q.1) ∙ ap (passes (names f)) (keeps.stands.parts.ledger.tables.entries q.0 q.1)
+
+  -- a link that the definitions say is one of the area's chain
+  linked_is : (p page v n : ℕ) (A : Area) → IsNumber k.spaces p page A n → s.areas p page ≡ Some A
+      → is_in v (chain_of s.anons A.anon) ≡ true → is_in v ((family k.anons).chain n) ≡ true
+  linked_is p page v n A is on linked = of_own A.anon refl (ap (is_in v) (subst (λ o. IfSome o (λ area. chain_of (anons_of k.spaces k.anons) area.anon ≡ chain_of s.anons area.anon)) on (keeps.stands.anons.chains p page)) ∙ linked)
+    where
+      of_info : (own : ℕ) (o : Option Info) → is_in v (option_map_or (λ (x : AnonVma). x.chain) (option_map (anon_vma (chain_on k.spaces k.anons (Some own))) o) []) ≡ true
+          → is_in v (chain_on k.spaces k.anons (Some own)) ≡ true
+      of_info own None h = absurd (false≢true h)
+      of_info own (Some i) h = h
+
+      of_own : (own : Option ℕ) → A.anon ≡ own → is_in v (chain_of (anons_of k.spaces k.anons) own) ≡ true → is_in v ((family k.anons).chain n) ≡ true
+      of_own None e h = absurd (false≢true h)
+      of_own (Some own) e h =
+          ap (is_in v) (sym (chain_by-is (area_of k.spaces.areas) (family k.anons) (spans_of k.anons) n own keeps.anons.order (ap own_of is.at ∙ e)))
+          ∙ of_info own (info_of k.anons own) h
+
+  reached : AreNumbered k.spaces → (home : ℕ × ℕ) (p page : ℕ) → IsReachedAt (rmap_of s) (p, page) home → IsReached (reach k) home p page
+  reached numbered home p page h = by (s.areas p page) refl h
+    where
+      by : (o : Option Area) → s.areas p page ≡ o → IsSomeAnd o (λ area. (is_in home.0 (chain_of s.anons area.anon) ≡ true) × (index_of area page ≡ home.1)) → IsReached (reach k) home p page
+      by None on h = absurd h
+      by (Some A) on h =
+          let n = numbered.numbers p page A (keeps.stands.areas p page ∙ on) in
+          record {
+            number = n.0;
+            area = A;
+            stands = n.1.at;
+            of = n.1.process;
+            here = n.1.here;
+            linked = linked_is p page home.0 n.0 A n.1 on h.0;
+            index = h.1;
+          }
+
+  -- where an entry names the frame, the frame has a home from which it is reached
+  covers : (f : ℕ) (q : Key) → names_frame f (entry_at k.tables q.0 q.1) ≡ true → IsSomeAnd ((view k).homes f) (IsReachedAt (rmap_of s) q)
+  covers f q named = subst (λ o. IsSomeAnd o (IsReachedAt (rmap_of s) q)) (sym (keeps.stands.homes f))
+      (keeps.stands.reach.covered q f (passes-some f (entry s.ledger q) (sym (names-there f q) ∙ named)))
+
+  pub covered : AreNumbered k.spaces → (f : ℕ) (home : ℕ × ℕ) → (view k).homes f ≡ Some home → IsCovered (reach k) f home
+  covered numbered f home is p page named = reached numbered home p page
+      (subst (λ o. IsSomeAnd o (IsReachedAt (rmap_of s) (p, page))) is (covers f (p, page) named))
+
+  -- ---- what it finds
+
+  in_order : T (is_sorted key_cmp s.ledger.entries)
+  in_order = keeps.stands.sound.ledger.in_order
+
+  rises : (f : ℕ) → AreRising (walk s.ledger f)
+  rises f = keys-rise (names f) s.ledger.entries in_order
+
+  pub its : (f : ℕ) → AreItsEntries (reach k) f (walk s.ledger f)
+  its f q = once-there q (walk s.ledger f) (rises f)
+      ∙ ap one_if (any-same q (walk s.ledger f) ∙ walk-has s.ledger f q in_order ∙ sym (names-there f q))
+
+  -- it finds no more than the frame's count
+  pub few : (f : ℕ) (keys : List Key) → AreItsEntries (reach k) f keys → length keys ≤ (view k).maps f
+  few f keys also =
+      let same : length keys ≡ (view k).maps f = keys-as-long keys (walk s.ledger f) (λ q. also q ∙ sym (its f q)) ∙ length-walk s.ledger f ∙ sym (keeps.stands.parts.ledger.frames.maps f) in
+      omega (arith, same)
+
+  pub found : (f : ℕ) (keys : List Key) → AreItsEntries (reach k) f keys → AreRising keys → keys ≡ walk s.ledger f
+  found f keys also rising = rising-same keys (walk s.ledger f) rising (rises f) (λ q. also q ∙ sym (its f q))
+
+  -- a frame without a home has no entry
+  pub none-named : (f : ℕ) → (view k).homes f ≡ None → walk s.ledger f ≡ []
+  none-named f homeless = rising-same (walk s.ledger f) [] (rises f) tt (λ q. its f q ∙ ap one_if (unnamed q (names_frame f (entry_at k.tables q.0 q.1)) refl))
+    where
+      unnamed : (q : Key) (b : Bool) → names_frame f (entry_at k.tables q.0 q.1) ≡ b → b ≡ false
+      unnamed q false e = refl
+      unnamed q true e = absurd (subst (λ o. IsSomeAnd o (IsReachedAt (rmap_of s) q)) homeless (covers f q e))
+
+  -- it looks once in each area that is linked and holds the index
+  pub looks : (f : ℕ) (home : ℕ × ℕ) → (view k).homes f ≡ Some home → how_many (overlaps home.1) ((reach k).spans home.0) ≡ areas_at k ((view k).homes f)
+  looks f home is = spans-are-areas (area_of k.spaces.areas) (family k.anons) (spans_of k.anons) home.0 home.1 keeps.anons.order ∙ sym (ap (areas_at k) is)
+
+-- ---- results
+
+pub if_both : {X E : Type 0} (r : Result X E) (P Q R : X → Type 0) → ((x : X) → P x → Q x → R x) → IfOk r P → IfOk r Q → IfOk r R
+if_both (Ok x) P Q R h p q = h x p q
+if_both (Err e) P Q R h p q = tt
+
+pub on_ok : {X E : Type 0} (r : Result X E) {P Q : Type 0} → (P → Q) → OnOk r P → OnOk r Q
+on_ok (Ok x) h p = h p
+on_ok (Err e) h p = tt
