@@ -39,23 +39,23 @@ itself n = grind (arith, nat_tests)
 
 -- ---- the view with other homes
 
-kept_homed : (v : View) (homes : Homes) (d : Device) (l : Ledger) (e : Option Entry) (x : Option Page) → IsKept v d l e x → IsKept (record v { homes = homes }) d l e x
-kept_homed v homes d l None x h = h
-kept_homed v homes d l (Some Zero) x h = h
-kept_homed v homes d l (Some (InFrame f seen)) x h = h
-kept_homed v homes d l (Some (InSlot t)) x h = at (frame_at l t) h
+kept_at_home : (v : View) (homes : Homes) (d : Device) (l : Ledger) (e : Option Entry) (x : Option Page) → IsKept v d l e x → IsKept (record v { homes = homes }) d l e x
+kept_at_home v homes d l None x h = h
+kept_at_home v homes d l (Some Zero) x h = h
+kept_at_home v homes d l (Some (InFrame f seen)) x h = h
+kept_at_home v homes d l (Some (InSlot t)) x h = at (frame_at l t) h
   where
     at : (o : Option ℕ) → IsKeptAt v d t x o → IsKeptAt (record v { homes = homes }) d t x o
     at None h = h
     at (Some f) h = h
 
-clean_homed : (v : View) (homes : Homes) (d : Device) (t : Slot) (o : Option ℕ) → IsClean v d t o → IsClean (record v { homes = homes }) d t o
-clean_homed v homes d t None h = h
-clean_homed v homes d t (Some f) h = h
+clean_at_home : (v : View) (homes : Homes) (d : Device) (t : Slot) (o : Option ℕ) → IsClean v d t o → IsClean (record v { homes = homes }) d t o
+clean_at_home v homes d t None h = h
+clean_at_home v homes d t (Some f) h = h
 
 -- no part looks at homes
-parts_homed : (m : Setting) (v : View) (homes : Homes) (d : Device) (w : World) (l : Ledger) → PartsStand m v d w l → PartsStand m (record v { homes = homes }) d w l
-parts_homed m v homes d w l h = let ledger = h.ledger in record {
+parts_at_home : (m : Setting) (v : View) (homes : Homes) (d : Device) (w : World) (l : Ledger) → PartsStand m v d w l → PartsStand m (record v { homes = homes }) d w l
+parts_at_home m v homes d w l h = let ledger = h.ledger in record {
   ledger = record {
     frames = record { frames = ledger.frames.frames; maps = ledger.frames.maps; slots = ledger.frames.slots; dirty = ledger.frames.dirty; free = ledger.frames.free };
     lists = record { active = ledger.lists.active };
@@ -64,8 +64,8 @@ parts_homed m v homes d w l h = let ledger = h.ledger in record {
   };
   areas = record { alive = h.areas.alive; number = h.areas.number; apart = h.areas.apart; covers = h.areas.covers };
   bytes = record {
-    kept = λ p page. kept_homed v homes d l (entry l (p, page)) (pages w p page) (h.bytes.kept p page);
-    clean = λ t stale flying. clean_homed v homes d t (frame_at l t) (h.bytes.clean t stale flying);
+    kept = λ p page. kept_at_home v homes d l (entry l (p, page)) (pages w p page) (h.bytes.kept p page);
+    clean = λ t stale flying. clean_at_home v homes d t (frame_at l t) (h.bytes.clean t stale flying);
   };
   headers = h.headers;
 }
@@ -73,21 +73,21 @@ parts_homed m v homes d w l h = let ledger = h.ledger in record {
 -- ---- a frame of the kernel gets a home
 
 module _ (mid : Mem) (frames : Store) (p page f : ℕ) (home : Option (ℕ × ℕ)) (is : seen frames ≡ with_home f home (seen mid.frames)) where
-  abbrev homed : Mem
-  homed = record mid { frames = frames }
+  abbrev mem_at_home : Mem
+  mem_at_home = record mid { frames = frames }
 
-  pub within_homed : (w : World) (l : Ledger) → KeepsWithin mid w l → KeepsWithin homed w l
-  within_homed w l h = record {
+  pub within_at_home : (w : World) (l : Ledger) → KeepsWithin mid w l → KeepsWithin mem_at_home w l
+  within_at_home w l h = record {
     in_order = h.in_order;
     at_pages = h.at_pages;
     parts = subst (λ (x : Seen). PartsStand (setting x.count) (view_of_parts x (view mid).table mid.spaces mid.anons) no_device w l) (sym is)
-        (parts_homed (setting (count mid)) (view mid) (with_at f home (view mid).homes) no_device w l h.parts);
+        (parts_at_home (setting (count mid)) (view mid) (with_at f home (view mid).homes) no_device w l h.parts);
     tables = h.tables;
     anons = h.anons;
   }
 
-  pub rmap_homed : (r : Rmap) → HasRmap mid r → home ≡ home_of page (r.areas p page) → HasRmap homed (at_home f (p, page) r)
-  rmap_homed r h at = record {
+  pub rmap_at_home : (r : Rmap) → HasRmap mid r → home ≡ home_of page (r.areas p page) → HasRmap mem_at_home (at_home f (p, page) r)
+  rmap_at_home r h at = record {
     areas = h.areas;
     anons = record { next = h.anons.next; kin = h.anons.kin; chains = h.anons.chains };
     homes = λ g. ap (λ (x : Seen). x.home g) is ∙ by g (g == f);
@@ -98,8 +98,8 @@ module _ (mid : Mem) (frames : Store) (p page f : ℕ) (home : Option (ℕ × �
       by g false = h.homes g
 
 -- a frame that is at home at a page, and then again
-homed_twice : (k : Mem) (p page f : ℕ) (r : Rmap) → HasRmap k (at_home f (p, page) r) → HasRmap k (at_home f (p, page) (at_home f (p, page) r))
-homed_twice k p page f r h = record { areas = h.areas; anons = h.anons; homes = λ g. h.homes g ∙ by g (g == f) }
+at_home_twice : (k : Mem) (p page f : ℕ) (r : Rmap) → HasRmap k (at_home f (p, page) r) → HasRmap k (at_home f (p, page) (at_home f (p, page) r))
+at_home_twice k p page f r h = record { areas = h.areas; anons = h.anons; homes = λ g. h.homes g ∙ by g (g == f) }
   where
     by : (g : ℕ) (b : Bool) → cond b (home_of page (r.areas p page)) (r.homes g) ≡ cond b (home_of page (r.areas p page)) (cond b (home_of page (r.areas p page)) (r.homes g))
     by g true = refl
@@ -120,8 +120,8 @@ module _ (s : State) (old : Mem) (keeps : Keeps old s) (mid : Mem) (frames : Sto
   written_home served rmap was named few at =
       let use_is = used_is true s.ledger (p, page) f was (of_keeps old s keeps).cache named in
       let names : Names s.ledger (p, page) f = subst (λ o. IsSomeAnd o (λ e. names_frame f e ≡ true)) (sym named) (itself f) in
-      to_touched s mid (record mid { frames = frames }) true (p, page) notes now [] (ReadyAt f) served same_count same_free (within_homed mid frames p page f home is s.world _ served.parts)
-      (subst (λ o. HasRmap (record mid { frames = frames }) (rmap_after_use true (p, page) o (rmap_of s))) (sym named) (rmap_homed mid frames p page f home is (rmap_of s) rmap at))
+      to_touched s mid (record mid { frames = frames }) true (p, page) notes now [] (ReadyAt f) served same_count same_free (within_at_home mid frames p page f home is s.world _ served.parts)
+      (subst (λ o. HasRmap (record mid { frames = frames }) (rmap_after_use true (p, page) o (rmap_of s))) (sym named) (rmap_at_home mid frames p page f home is (rmap_of s) rmap at))
       (subst (λ o. IsRmapSound (after_use true (p, page) s.ledger) (rmap_after_use true (p, page) o (rmap_of s))) (sym named)
       (subst (λ l. IsRmapSound l (at_home f (p, page) (rmap_of s))) (sym use_is)
       (sound-put s.ledger (set_entry (p, page) (InFrame f true) s.ledger) (rmap_of s) (p, page) f true (entry-set (p, page) (InFrame f true) s.ledger) (covered-owns s.ledger (rmap_of s) (p, page) f keeps.stands.reach names)
@@ -150,10 +150,10 @@ module _ (s : State) (old : Mem) (keeps : Keeps old s) (mid : Mem) (frames : Sto
         → KeepsWithin mid s.world (after_all s.ledger (page_events true (p, page) (note ∷ []) None)) → HasRmap mid r → home ≡ home_of page (r.areas p page)
         → IsTouched s (record mid { frames = frames }) true (p, page) notes now (ReadyAt f)
     given_home {first} served counted freed within rmap at =
-        to_touched s first (record mid { frames = frames }) true (p, page) notes now (note ∷ []) (ReadyAt f) served (counted ∙ same_count) (freed ∙ same_free) (within_homed mid frames p page f home is s.world _ within)
+        to_touched s first (record mid { frames = frames }) true (p, page) notes now (note ∷ []) (ReadyAt f) served (counted ∙ same_count) (freed ∙ same_free) (within_at_home mid frames p page f home is s.world _ within)
         (subst (λ x. HasRmap (record mid { frames = frames }) (rmap_after_use true (p, page) (entry (after_note note s.ledger) (p, page)) x)) (sym note_rmap)
         (subst (λ o. HasRmap (record mid { frames = frames }) (rmap_after_use true (p, page) o (at_home f (p, page) r))) (sym named)
-        (homed_twice (record mid { frames = frames }) p page f r (rmap_homed mid frames p page f home is r rmap at))))
+        (at_home_twice (record mid { frames = frames }) p page f r (rmap_at_home mid frames p page f home is r rmap at))))
         (subst (λ x. IsRmapSound (after_use true (p, page) (after_note note s.ledger)) (rmap_after_use true (p, page) (entry (after_note note s.ledger) (p, page)) x)) (sym note_rmap)
         (subst (λ o. IsRmapSound (after_use true (p, page) (after_note note s.ledger)) (rmap_after_use true (p, page) o (at_home f (p, page) r))) (sym named)
         (subst (λ l. IsRmapSound l (at_home f (p, page) (at_home f (p, page) r))) (sym use_is) twice)))

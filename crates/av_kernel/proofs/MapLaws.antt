@@ -222,8 +222,8 @@ module _ (old new : Mem) (s : State) (command : Command) (reply : Reply) (p page
       by false = keeps.stands.parts.bytes.kept p at
 
   -- an entry that is left was there, and stands outside of the range
-  left : (at f : ℕ) → Names (after_all s.ledger events) (p, at) f → (within page n at ≡ false) × Names s.ledger (p, at) f
-  left at f names = by (within page n at) refl (subst (λ o. IsSomeAnd o (λ e. names_frame f e ≡ true)) (entries p at ∙ ap (λ b. cond (b && within page n at) None (entry s.ledger (p, at))) (itself p)) names)
+  left_outside : (at f : ℕ) → Names (after_all s.ledger events) (p, at) f → (within page n at ≡ false) × Names s.ledger (p, at) f
+  left_outside at f names = by (within page n at) refl (subst (λ o. IsSomeAnd o (λ e. names_frame f e ≡ true)) (entries p at ∙ ap (λ b. cond (b && within page n at) None (entry s.ledger (p, at))) (itself p)) names)
     where
       itself : (p : ℕ) → (p == p) ≡ true
       itself p = grind (arith, nat_tests)
@@ -233,10 +233,10 @@ module _ (old new : Mem) (s : State) (command : Command) (reply : Reply) (p page
       by false e names = (e, names)
 
   there : (at f : ℕ) → Names (after_all s.ledger events) (p, at) f → Names s.ledger (p, at) f
-  there at f names = (left at f names).1
+  there at f names = (left_outside at f names).1
 
   home : (at f : ℕ) (home : ℕ × ℕ) → Names (after_all s.ledger events) (p, at) f → home_of at (s.areas p at) ≡ Some home → home_of at (on at) ≡ Some home
-  home at f h names is = sym (ap (home_of at) (own_area at)) ∙ home_stay at h (left at f names).0 (ap (home_of at) (keeps.stands.areas p at) ∙ is)
+  home at f h names is = sym (ap (home_of at) (own_area at)) ∙ home_stay at h (left_outside at f names).0 (ap (home_of at) (keeps.stands.areas p at) ∙ is)
     where
       itself : (p : ℕ) → (p == p) ≡ true
       itself p = grind (arith, nat_tests)

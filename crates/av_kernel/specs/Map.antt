@@ -33,7 +33,8 @@ HasAreas old new p on = (q page : ℕ) → pages_of new q page ≡ with_at p on 
 -- a page of p that is not among the n from one on keeps the home that frames have from it
 abbrev pub HomesStay : Spaces → Spaces → ℕ → ℕ → ℕ → Type 0
 HomesStay old new p from n = (page : ℕ) (home : ℕ × ℕ) → within from n page ≡ false
-    → home_of page (pages_of old p page) ≡ Some home → home_of page (pages_of new p page) ≡ Some home
+    → home_of page (pages_of old p page) ≡ Some home
+    → home_of page (pages_of new p page) ≡ Some home
 
 -- the n pages of p from one on have gone, with their entries, by these events; its areas are these
 pub record AreCleared (old new : Mem) (p page n : ℕ) (on : Pages) (l : Ledger)

@@ -194,12 +194,12 @@ sound-next l l' r next fewer kept owns left homes h = record {
     same_chain p page v is = ap (λ o. option_map_or (λ (x : AnonVma). x.chain) o []) (left.linked v (p, page, linked p page v (next.areas p page) is (in_chain p page v is)))
 
     -- where an area had a home its page has it still
-    moved : (k : Key) (home : ℕ × ℕ) (x y : Option Area) → next.areas k.0 k.1 ≡ y
+    still_reached : (k : Key) (home : ℕ × ℕ) (x y : Option Area) → next.areas k.0 k.1 ≡ y
         → IsSomeAnd x (λ area. (is_in home.0 (chain_of r.anons area.anon) ≡ true) × (index_of area k.1 ≡ home.1))
         → ((h : ℕ × ℕ) → home_of k.1 x ≡ Some h → home_of k.1 y ≡ Some h)
         → IsSomeAnd y (λ area. (is_in home.0 (chain_of next.anons area.anon) ≡ true) × (index_of area k.1 ≡ home.1))
-    moved k home None y e is kept = absurd is
-    moved k home (Some area) y e is kept =
+    still_reached k home None y e is kept = absurd is
+    still_reached k home (Some area) y e is kept =
         let own = chain_there r.anons area.anon home.0 is.0 in
         let was : home_of k.1 (Some area) ≡ Some (own.0, index_of area k.1) = ap (option_map (λ v. (v, index_of area k.1))) own.1 in
         let now = home_parts k.1 y (own.0, index_of area k.1) (kept (own.0, index_of area k.1) was) in
@@ -216,7 +216,7 @@ sound-next l l' r next fewer kept owns left homes h = record {
 
     reached : (k : Key) (f : ℕ) → Names l' k f → (o : Option (ℕ × ℕ)) → IsSomeAnd o (IsReached r k) → IsSomeAnd o (IsReached next k)
     reached k f names None is = is
-    reached k f names (Some home) is = moved k home (r.areas k.0 k.1) (next.areas k.0 k.1) refl is (λ h. kept k f h names)
+    reached k f names (Some home) is = still_reached k home (r.areas k.0 k.1) (next.areas k.0 k.1) refl is (λ h. kept k f h names)
 
 -- ---- an area is prepared
 

@@ -31,8 +31,8 @@ pub fn index(area: &Area, page: u64) -> u64
     page - area.start / PAGE_SIZE + area.pgoff
 }
 
-/// The home that a frame has from a page of the area: the area's own anon_vma, and the page's linear
-/// index. None exactly where the area has no anon_vma.
+/// The home that a frame has from a page of the area: the area's own anon_vma, and the page's
+/// linear index. None exactly where the area has no anon_vma.
 ///
 /// `page` is a page number, its address over 4096.
 pub fn home(area: &Area, page: u64) -> Option<(u64, u64)>

@@ -1,5 +1,5 @@
-//! Areas of a process's memory: the linear index of a page and the home that its frame has, when two
-//! areas are one, and areas by number.
+//! Areas of a process's memory: the linear index of a page and the home that its frame has, when
+//! two areas are one, and areas by number.
 #![tactic(auto)]
 
 mod area;
