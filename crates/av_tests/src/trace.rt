@@ -143,3 +143,31 @@ fn rows(rt: HostRuntime) -> Result<(), Fail> {
     assert!(rt; has_text(alloc, &reply, wanted)?);
     Ok(())
 }
+
+#[test]
+fn areas_with_chains(rt: HostRuntime) -> Result<(), Fail> {
+    let alloc = rt.alloc();
+    let mut reply = reply_of(alloc, Answer::AreaList(2));
+    reply.rows.push(area(alloc, None, &[])?)?;
+    reply.rows.push(area(alloc, Some(7), &[0, 3, 7])?)?;
+    let wanted = "areas 2\n 20000-21000 -wx off=1f own=- chain=-\n \
+        20000-21000 -wx off=1f own=7 chain=0,3,7\n";
+    assert!(rt; has_text(alloc, &reply, wanted)?);
+    Ok(())
+}
+
+/// A page with this own anon_vma and this chain.
+fn area(alloc: Global, own: Option<u64>, chain: &[u64]) -> Result<Row, AllocError> {
+    Ok(Row::Area {
+        start: 0x20000,
+        end: 0x21000,
+        prot: Prot {
+            read: false,
+            write: true,
+            execute: true,
+        },
+        offset: 0x1f,
+        own,
+        chain: Chain::from_vec(Vec::from_slice(alloc, chain)?),
+    })
+}
