@@ -1,119 +1,232 @@
-//! A device over real files.
-//!
-//! What they hold is not told: of it the contracts say how many pages are used, and when a call
-//! failed.
+//! A device over files.
 
-ghost use Rattle.std.specs.Prelude.{◌≡◌, ◌≤◌, ℕ, None, slice_index_or, option_map, IfOk};
-ghost use Rattle.av_io.specs.Count.{Rose};
-ghost use Rattle.av_swapdev.specs.Device.{most_pages};
+ghost use Rattle.std.specs.Prelude.{◌≡◌, ◌*◌, ◌≤◌, ◌<◌, ℕ, None, Some, length, replicate, vec_len, IfOk, OnOk, OnErr, IsErrOf};
+ghost use Rattle.av_base.specs.Page.{page_size};
+ghost use Rattle.av_base.specs.Words.{with_at};
+ghost use Rattle.av_io.specs.Count.{Rose, one_more};
+ghost use Rattle.av_swapdev.specs.Device.{HasPage, Holds, IsRenewed, IsSpoiled, IsWritten, most_pages};
+ghost use Rattle.av_swapdev.specs.File.{Opens, Reads, SameBut, Stores, StoresPart, after_open, after_fault, file_at, pages_of, sizes_of};
 
 use crate::device::{AttachErr, MOST_PAGES, SwapDev};
+use crate::file::{SwapFile, SwapFiles};
 use av_base::PAGE_SIZE;
 use av_io::Failed;
-use std::fs::{File, OpenOptions};
-use std::io::{self, ErrorKind, Seek, SeekFrom};
-use std::os::unix::fs::FileExt;
-use std::rt::Files;
+use std::alloc::{AllocError, Global};
 
 /// A file that is attached, and how many of its pages are used.
 #[derive(Drop)]
-struct Attached {
-    file: File,
+struct Attached<F> {
+    file: F,
     pages: u32,
 }
 
 /// A device each of whose areas is a file that is read and written.
 #[derive(Drop)]
-pub struct FileDev<R: Files<File = File> + Drop> {
-    files: R,
-    areas: [Option<Attached>; 8],
+pub struct FileDev<H: SwapFiles + Drop> {
+    files: H,
+    areas: Vec<Option<Attached<H::File>>>,
     faults: u64,
+    ghost eight: { vec_len areas ≡ 8 },
 }
 
-impl<R: Files<File = File> + Drop> FileDev<R> {
-    /// A device without an area, which has not failed yet.
-    pub fn new(files: R) -> FileDev<R>
-        ensures sizes { (area : ℕ) → ⟦<FileDev<R> as SwapDev>⟧.sizes result area ≡ None }
-        ensures faults { ⟦<FileDev<R> as SwapDev>⟧.faults result ≡ 0 }
+impl<H: SwapFiles + Drop> FileDev<H> {
+    /// A device over these files without an area, which has not failed yet.
+    pub fn new(alloc: Global, files: H) -> Result<FileDev<H>, AllocError>
+        ensures sizes { IfOk result (λ d. (area : ℕ)
+            → ⟦<FileDev<H> as SwapDev>⟧.sizes d area ≡ None) }
+        ensures faults { IfOk result (λ d. ⟦<FileDev<H> as SwapDev>⟧.faults d ≡ 0) }
+        ensures files { IfOk result (λ d. d.files ≡ files) }
     {
-        FileDev {
+        Ok(FileDev {
             files,
-            areas: [None, None, None, None, None, None, None, None],
+            areas: no_areas(alloc)?,
             faults: 0,
-        }
+        })
     }
 }
 
-/// Opens a file to read and write its pages.
-fn open<R: Files<File = File>>(files: &R, name: &str) -> io::Result<Attached>
-    ensures { IfOk result (λ a. a.pages ≤ most_pages) }
+/// Eight areas without a file.
+fn no_areas<F: Drop>(alloc: Global) -> Result<Vec<Option<Attached<F>>>, AllocError>
+    ensures { IfOk result (λ v. v.items ≡ replicate 8 None) }
 {
-    let mut file = OpenOptions::new().read(true).write(true).open(files, name)?;
-    let pages = file.seek(SeekFrom::End(0))? / PAGE_SIZE;
-    Ok(Attached {
-        file,
-        pages: pages.min(u64::from(MOST_PAGES)) as u32,
-    })
+    let mut areas = Vec::new(alloc);
+    for area in 0..8u8 {
+        areas.push(None)?;
+    }
+    Ok(areas)
+}
+
+/// How many pages of a file with so many bytes are used.
+fn pages_of(len: u64) -> u32
+    ensures { result ≡ pages_of len }
+{
+    (len / PAGE_SIZE).min(u64::from(MOST_PAGES)) as u32
 }
 
 /// One more fault.
 fn count(faults: &mut u64)
+    ensures once { faults.new ≡ one_more faults.old }
     ensures never_falls { faults.old ≤ faults.new }
-    ensures rose { Rose faults.old faults.new }
 {
     *faults = faults.saturating_add(1);
 }
 
 /// Where a page begins in its file.
-fn offset(page: u32) -> u64 {
+fn place(page: u32) -> u64
+    ensures { result ≡ page * page_size }
+{
     u64::from(page) * PAGE_SIZE
 }
 
-impl<R: Files<File = File> + Drop> SwapDev for FileDev<R> {
-    ghost sizes = { λ d area. option_map (λ a. a.pages) (slice_index_or d.areas area None) };
+/// Reads a page of an attached file.
+fn read_page<F: SwapFile>(
+    attached: &mut Attached<F>,
+    page: u32,
+    into: &mut [u8],
+) -> Result<(), Failed>
+    ensures ok { OnOk result (Reads (F.view attached.old.file) (F.view attached.new.file)
+        (page * page_size) into.new) }
+    ensures err { OnErr result (F.view attached.new.file
+        ≡ after_fault (F.view attached.old.file)) }
+    ensures pages { attached.new.pages ≡ attached.old.pages }
+{
+    attached.file.read_at(place(page), into)
+}
+
+/// Writes a page of an attached file.
+fn write_page<F: SwapFile>(attached: &mut Attached<F>, page: u32, from: &[u8]) -> Result<(), Failed>
+    ensures ok { OnOk result (Stores (F.view attached.old.file) (F.view attached.new.file)
+        (page * page_size) from.now) }
+    ensures err { OnErr result (StoresPart (F.view attached.old.file) (F.view attached.new.file)
+        (page * page_size) from.now) }
+    ensures pages { attached.new.pages ≡ attached.old.pages }
+{
+    attached.file.write_at(place(page), from)
+}
+
+impl<H: SwapFiles + Drop> SwapDev for FileDev<H> {
+    ghost sizes = { λ d. sizes_of d.areas.items };
 
     ghost pages = { λ _. None };
 
     ghost faults = { λ d. d.faults };
 
-    fn attach(&mut self, area: u8, name: &str) -> Result<u32, AttachErr> {
-        match open(&self.files, name) {
-            Ok(attached) => {
-                let pages = attached.pages;
-                self.areas[area as usize] = Some(attached);
+    fn attach(&mut self, area: u8, name: &str) -> Result<u32, AttachErr>
+        requires { area < 8 }
+        ensures size { IfOk result (λ n. ⟦<FileDev<H> as SwapDev>⟧.sizes self.new ≡ with_at area
+            (Some n) (⟦<FileDev<H> as SwapDev>⟧.sizes self.old)) }
+        ensures most { IfOk result (λ n. n ≤ most_pages) }
+        ensures renewed { OnOk result (IsRenewed area (⟦<FileDev<H> as SwapDev>⟧.pages self.old)
+            (⟦<FileDev<H> as SwapDev>⟧.pages self.new)) }
+        ensures same_sizes { OnErr result (⟦<FileDev<H> as SwapDev>⟧.sizes self.new ≡
+            ⟦<FileDev<H> as SwapDev>⟧.sizes self.old) }
+        ensures same_pages { OnErr result (⟦<FileDev<H> as SwapDev>⟧.pages self.new ≡
+            ⟦<FileDev<H> as SwapDev>⟧.pages self.old) }
+        ensures never_falls { ⟦<FileDev<H> as SwapDev>⟧.faults self.old
+            ≤ ⟦<FileDev<H> as SwapDev>⟧.faults self.new }
+        ensures cause { IsErrOf result AttachErr.Failed → Rose (⟦<FileDev<H> as SwapDev>⟧.faults
+            self.old) (⟦<FileDev<H> as SwapDev>⟧.faults self.new) }
+        ensures unfailed { OnOk result (⟦<FileDev<H> as SwapDev>⟧.faults self.new
+            ≡ ⟦<FileDev<H> as SwapDev>⟧.faults self.old) }
+        ensures unfailed_memory { IsErrOf result AttachErr.Memory
+            → ⟦<FileDev<H> as SwapDev>⟧.faults self.new
+            ≡ ⟦<FileDev<H> as SwapDev>⟧.faults self.old }
+        // Beside what the trait says: one file is opened, whose answer this is; it is the area's
+        // file then, with as many pages as its bytes fill.
+        ensures answer { H.view self.new.files ≡ after_open result (H.view self.old.files) }
+        ensures file { OnOk result (Opens (H.view self.old.files) name.now
+            (file_at H.File.view self.new.areas.items area)) }
+        ensures all { IfOk result (λ n. n
+            ≡ pages_of (file_at H.File.view self.new.areas.items area).len) }
+        ensures others { SameBut area (file_at H.File.view self.old.areas.items)
+            (file_at H.File.view self.new.areas.items) }
+        ensures same_files { OnErr result (self.new.areas ≡ self.old.areas) }
+        ensures once { IsErrOf result AttachErr.Failed
+            → self.new.faults ≡ one_more self.old.faults }
+    {
+        match self.files.open(name) {
+            Ok(file) => {
+                let pages = pages_of(file.len());
+                self.areas[area as usize] = Some(Attached { file, pages });
                 Ok(pages)
             }
-            Err(error) if error.kind() == ErrorKind::OutOfMemory => Err(AttachErr::Memory),
-            Err(_) => {
+            Err(AttachErr::Failed) => {
                 count(&mut self.faults);
                 Err(AttachErr::Failed)
             }
+            Err(AttachErr::Memory) => Err(AttachErr::Memory),
         }
     }
 
-    fn read(&mut self, area: u8, page: u32, into: &mut [u8]) -> Result<(), Failed> {
-        let Some(attached) = &self.areas[area as usize] else {
+    fn read(&mut self, area: u8, page: u32, into: &mut [u8]) -> Result<(), Failed>
+        requires there { HasPage (⟦<FileDev<H> as SwapDev>⟧.sizes self.old) area page }
+        requires long { length into.old ≡ page_size }
+        ensures bytes { OnOk result (Holds (⟦<FileDev<H> as SwapDev>⟧.pages self.old) area page
+            into.new) }
+        ensures same_pages { ⟦<FileDev<H> as SwapDev>⟧.pages self.new
+            ≡ ⟦<FileDev<H> as SwapDev>⟧.pages self.old }
+        ensures same_sizes { ⟦<FileDev<H> as SwapDev>⟧.sizes self.new
+            ≡ ⟦<FileDev<H> as SwapDev>⟧.sizes self.old }
+        ensures never_falls { ⟦<FileDev<H> as SwapDev>⟧.faults self.old
+            ≤ ⟦<FileDev<H> as SwapDev>⟧.faults self.new }
+        ensures cause { OnErr result (Rose (⟦<FileDev<H> as SwapDev>⟧.faults self.old)
+            (⟦<FileDev<H> as SwapDev>⟧.faults self.new)) }
+        ensures unfailed { OnOk result (⟦<FileDev<H> as SwapDev>⟧.faults self.new
+            ≡ ⟦<FileDev<H> as SwapDev>⟧.faults self.old) }
+        // Beside what the trait says: the area's file is read once, where the page begins in it,
+        // and this is its answer; each other file is left alone.
+        ensures file { OnOk result (Reads (file_at H.File.view self.old.areas.items area)
+            (file_at H.File.view self.new.areas.items area) (page * page_size) into.new) }
+        ensures fault { OnErr result (file_at H.File.view self.new.areas.items area
+            ≡ after_fault (file_at H.File.view self.old.areas.items area)) }
+        ensures others { SameBut area (file_at H.File.view self.old.areas.items)
+            (file_at H.File.view self.new.areas.items) }
+        ensures same_files { self.new.files ≡ self.old.files }
+        ensures once { OnErr result (self.new.faults ≡ one_more self.old.faults) }
+    {
+        let Some(attached) = &mut self.areas[area as usize] else {
             unreachable!();
         };
-        match attached.file.read_exact_at(into, offset(page)) {
-            Ok(()) => Ok(()),
-            Err(_) => {
-                count(&mut self.faults);
-                Err(Failed)
-            }
+        if read_page(attached, page, into).is_err() {
+            count(&mut self.faults);
+            return Err(Failed);
         }
+        Ok(())
     }
 
-    fn write(&mut self, area: u8, page: u32, from: &[u8]) -> Result<(), Failed> {
-        let Some(attached) = &self.areas[area as usize] else {
+    fn write(&mut self, area: u8, page: u32, from: &[u8]) -> Result<(), Failed>
+        requires there { HasPage (⟦<FileDev<H> as SwapDev>⟧.sizes self.old) area page }
+        requires long { length from.now ≡ page_size }
+        ensures written { OnOk result (IsWritten area page from.now
+            (⟦<FileDev<H> as SwapDev>⟧.pages self.old) (⟦<FileDev<H> as SwapDev>⟧.pages self.new)) }
+        ensures spoiled { OnErr result (IsSpoiled area page (⟦<FileDev<H> as SwapDev>⟧.pages
+            self.old) (⟦<FileDev<H> as SwapDev>⟧.pages self.new)) }
+        ensures same_sizes { ⟦<FileDev<H> as SwapDev>⟧.sizes self.new
+            ≡ ⟦<FileDev<H> as SwapDev>⟧.sizes self.old }
+        ensures never_falls { ⟦<FileDev<H> as SwapDev>⟧.faults self.old
+            ≤ ⟦<FileDev<H> as SwapDev>⟧.faults self.new }
+        ensures cause { OnErr result (Rose (⟦<FileDev<H> as SwapDev>⟧.faults self.old)
+            (⟦<FileDev<H> as SwapDev>⟧.faults self.new)) }
+        ensures unfailed { OnOk result (⟦<FileDev<H> as SwapDev>⟧.faults self.new
+            ≡ ⟦<FileDev<H> as SwapDev>⟧.faults self.old) }
+        // Beside what the trait says: the area's file is written once, where the page begins in it,
+        // and this is its answer; each other file is left alone.
+        ensures file { OnOk result (Stores (file_at H.File.view self.old.areas.items area)
+            (file_at H.File.view self.new.areas.items area) (page * page_size) from.now) }
+        ensures fault { OnErr result (StoresPart (file_at H.File.view self.old.areas.items area)
+            (file_at H.File.view self.new.areas.items area) (page * page_size) from.now) }
+        ensures others { SameBut area (file_at H.File.view self.old.areas.items)
+            (file_at H.File.view self.new.areas.items) }
+        ensures same_files { self.new.files ≡ self.old.files }
+        ensures once { OnErr result (self.new.faults ≡ one_more self.old.faults) }
+    {
+        let Some(attached) = &mut self.areas[area as usize] else {
             unreachable!();
         };
-        match attached.file.write_all_at(from, offset(page)) {
-            Ok(()) => Ok(()),
-            Err(_) => {
-                count(&mut self.faults);
-                Err(Failed)
-            }
+        if write_page(attached, page, from).is_err() {
+            count(&mut self.faults);
+            return Err(Failed);
         }
+        Ok(())
     }
 }

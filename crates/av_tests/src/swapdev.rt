@@ -1,8 +1,10 @@
-ghost use Rattle.std.specs.Prelude.{◌≡◌, ◌+◌, ◌<◌, ◌≤◌, Some, true, length};
+ghost use Rattle.std.specs.Prelude.{◌≡◌, ◌+◌, ◌<◌, ◌≤◌, if◌then◌else◌, Some, true, false, length};
+ghost use Rattle.av_io.specs.Count.{one_more};
 
 use av_io::Failed;
 use av_swapdev::*;
 use byteorder::{BigEndian, ByteOrder, LittleEndian};
+use std::alloc::{AllocError, Global};
 use std::env;
 use std::fs::{self, OpenOptions};
 use std::path::PathBuf;
@@ -139,16 +141,143 @@ fn path_of_test(rt: &HostRuntime) -> Result<PathBuf, Fail> {
     Ok(env::temp_dir(rt)?.join(a, name.as_str())?)
 }
 
+/// Two pages and a part of a third.
+fn bytes_of_test(alloc: Global) -> Result<Vec<u8>, AllocError> {
+    let mut bytes = vec![in alloc; 1; PAGE_LEN]?;
+    bytes.extend_from_slice(&[2; PAGE_LEN])?;
+    bytes.extend_from_slice(&[3; PAGE_LEN - 1])?;
+    Ok(bytes)
+}
+
+/// A file in memory, which tells what it holds. Its call of one number fails.
+#[derive(Drop)]
+struct MemFile {
+    bytes: Vec<u8>,
+    calls: u64,
+    faults: u64,
+    failing: u64,
+    len: u64,
+}
+
+impl MemFile {
+    /// Counts a call, and says whether it fails: its turn has come, or the file has too few bytes.
+    fn fails(&mut self, place: u64, count: usize) -> bool
+        ensures within { result ≡ false → place + count ≤ length self.old.bytes.items }
+        ensures same { (self.new.bytes ≡ self.old.bytes) × (self.new.len ≡ self.old.len) }
+        ensures calls { self.new.calls ≡ one_more self.old.calls }
+        ensures faults { self.new.faults ≡
+            (if result then one_more self.old.faults else self.old.faults) }
+    {
+        self.calls = self.calls.saturating_add(1);
+        let held = self.bytes.len() as u64;
+        if self.calls != self.failing && place <= held && count as u64 <= held - place {
+            return false;
+        }
+        self.faults = self.faults.saturating_add(1);
+        true
+    }
+}
+
+impl SwapFile for MemFile {
+    ghost view = { λ f. record {
+      bytes = Some f.bytes.items;
+      len = f.len;
+      calls = f.calls;
+      faults = f.faults;
+    } };
+
+    fn len(&self) -> u64 {
+        self.len
+    }
+
+    fn read_at(&mut self, place: u64, into: &mut [u8]) -> Result<(), Failed> {
+        if self.fails(place, into.len()) {
+            return Err(Failed);
+        }
+        let from = place as usize;
+        into.copy_from_slice(&self.bytes[from..from + into.len()]);
+        Ok(())
+    }
+
+    fn write_at(&mut self, place: u64, piece: &[u8]) -> Result<(), Failed> {
+        if self.fails(place, piece.len()) {
+            return Err(Failed);
+        }
+        let from = place as usize;
+        self.bytes[from..from + piece.len()].copy_from_slice(piece);
+        Ok(())
+    }
+}
+
+/// Files in memory: one for each name but the empty one, all with these bytes.
+#[derive(Drop)]
+struct MemFiles {
+    bytes: Vec<u8>,
+    failing: u64,
+    calls: u64,
+    faults: u64,
+    shortages: u64,
+}
+
+impl SwapFiles for MemFiles {
+    type File = MemFile;
+
+    ghost view = { λ h. record {
+      named = Some (λ _. h.bytes.items);
+      calls = h.calls;
+      faults = h.faults;
+      shortages = h.shortages;
+    } };
+
+    fn open(&mut self, name: &str) -> Result<MemFile, AttachErr> {
+        self.calls = self.calls.saturating_add(1);
+        if name.is_empty() {
+            self.faults = self.faults.saturating_add(1);
+            return Err(AttachErr::Failed);
+        }
+        let Ok(bytes) = self.bytes.clone() else {
+            self.shortages = self.shortages.saturating_add(1);
+            return Err(AttachErr::Memory);
+        };
+        Ok(MemFile {
+            len: bytes.len() as u64,
+            bytes,
+            calls: 0,
+            faults: 0,
+            failing: self.failing,
+        })
+    }
+}
+
+#[test]
+fn files_in_memory(rt: HostRuntime) -> Result<(), Fail> {
+    let a = rt.alloc();
+    let files = MemFiles {
+        bytes: bytes_of_test(a)?,
+        failing: 4,
+        calls: 0,
+        faults: 0,
+        shortages: 0,
+    };
+    let mut device = FileDev::new(a, files)?;
+    let mut buffer = [0; PAGE_LEN];
+    assert!(rt; device.attach(0, "") == Err(AttachErr::Failed));
+    assert!(rt; is_attached(&mut device, "some", 2));
+    assert!(rt; copy_page(&mut device, 2, 1, 0, &mut buffer) == Ok(()));
+    // The third call reads what the second wrote, and the fourth fails to write.
+    buffer = [0; PAGE_LEN];
+    assert!(rt; copy_page(&mut device, 2, 0, 1, &mut buffer) == Err(Failed));
+    assert!(rt; buffer == [2; PAGE_LEN]);
+    Ok(())
+}
+
 #[test]
 fn files(rt: HostRuntime) -> Result<(), Fail> {
     let a = rt.alloc();
     let path = path_of_test(&rt)?;
-    let mut bytes = vec![in a; 1; PAGE_LEN]?;
-    bytes.extend_from_slice(&[2; PAGE_LEN])?;
-    bytes.extend_from_slice(&[3; PAGE_LEN - 1])?;
-    fs::write(&rt, path.as_path(), bytes.as_slice())?;
+    fs::write(&rt, path.as_path(), bytes_of_test(a)?.as_slice())?;
 
-    let mut device = FileDev::new(rt.clone()?);
+    let mut device = FileDev::new(a, HostFiles::new(rt.clone()?))?;
     let mut buffer = [0; PAGE_LEN];
     assert!(rt; is_attached(&mut device, path.as_str(), 2));
     assert!(rt; copy_page(&mut device, 2, 1, 0, &mut buffer) == Ok(()));
