@@ -1,11 +1,13 @@
 //! The chain of a child's area at fork (Linux's anon_vma_fork), and of a copy (anon_vma_clone).
-ghost use Rattle.std.specs.Prelude.{◌≡◌, ℕ, Some, None, IsSome, IfOk, OnOk, OnErr};
+ghost use Rattle.std.specs.Prelude.{◌≡◌, ℕ, true, [], Some, None, IsSome, IfOk, OnOk, OnErr};
+ghost use Rattle.av_base.specs.Words.{is_in};
 ghost use Rattle.av_vma.specs.Areas.{area_of};
-ghost use Rattle.av_anon.specs.Anons.{family, own_of};
+ghost use Rattle.av_interval.specs.Spans.{IsNew};
+ghost use Rattle.av_anon.specs.Anons.{IsRising, family, own_of, with_links};
 ghost use Rattle.av_anon.specs.Fork.{child_chain, child_family, child_own, after_clone, after_fork, own_after_fork, gets_own, is_idle, member_to_reuse};
 ghost use Rattle.av_anon.specs.Infos.{info_in};
-ghost use Rattle.av_anon.specs.Order.{IsInOrder};
-ghost use Rattle.av_anon.specs.Spans.{spans_of, GoWithLinks};
+ghost use Rattle.av_anon.specs.Order.{IsArea, IsInOrder};
+ghost use Rattle.av_anon.specs.Spans.{span_at, spans_of, spans_with, GoWithLinks};
 
 use crate::anons::Anons;
 use crate::infos::{Info, Infos};
@@ -38,9 +40,8 @@ impl Anons {
             return Ok(());
         };
         let this = areas.get(dst);
-        let chain = self.links.chain(self.alloc, src)?;
         self.infos.count_active_up(own)?;
-        self.join(dst, &this, &chain)?;
+        self.copy_chain(src, dst, &this)?;
         areas.change(
             dst,
             Area {
@@ -49,6 +50,24 @@ impl Anons {
             },
         );
         Ok(())
+    }
+
+    // Links an area that has no link to the anon_vmas that another is linked to, and puts its span
+    // into their trees.
+    fn copy_chain(&mut self, src: AreaId, dst: AreaId, this: &Area) -> Result<(), AllocError>
+        requires fits { IsArea this.now }
+        requires empty { (family self.old).chain dst ≡ [] }
+        requires rising { IsRising ((family self.old).chain src) }
+        requires new { (v : ℕ) → is_in v ((family self.old).chain src) ≡ true
+            → IsNew dst (spans_of self.old v) }
+        ensures family { let f = family self.old in
+            OnOk result (family self.new ≡ with_links dst (f.chain src) f) }
+        ensures spans { OnOk result ((v : ℕ) → spans_of self.new v
+            ≡ spans_with ((family self.old).chain src) (span_at dst this.now)
+            (spans_of self.old) v) }
+    {
+        let chain = self.links.chain(self.alloc, src)?;
+        self.join(dst, this, &chain)
     }
 
     /// Gives the child's area `dst`, without anon_vma, its chain and own anon_vma at a fork of
