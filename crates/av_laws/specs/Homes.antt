@@ -1,19 +1,21 @@
 -- Worked examples for the homes of frames: which home a frame has after a command or an event, and
 -- which it hasn't; and which entries their frames' homes cover.
 -- Which example would fail if a definition were wrong:
---   the home from a page (`home_of`): own_and_index, no_own, no_area, root_not_own, page_not_index
---   a new frame (`rmap_after_note`): by_events, new, new_in_child, new_unhomed, page_for_index,
---     root_for_own, new_keeps_last
---   a copy (`rmap_after_note`): by_events, copied, copy_unhomed, copy_at_root, copied_frame_moved
---   a write in place (`rmap_after_use`): by_events, in_place, left_in_place, lost_in_place
---   no other event (`rmap_after`, `rmap_after_use`): by_events, read, read_alone, moved_by_read,
---     moved_by_read_alone
---   several events (`rmap_after_all`): copied, copied_frame_moved
---   a frame that is free (`AreNext`): exited, unmapped, read, lost_at_exit, lost_at_unmap
+--   the home from a page (`home_of`): own_and_index, no_own, no_area, page_for_index, root_for_own
+--   a new frame (`rmap_after_note`): by_events, prepared_first, new, new_in_child, new_unhomed,
+--     new_keeps_last
+--   a copy (`rmap_after_note`): by_events, copy, copy_unhomed, copy_at_root, copied_frame_moved
+--   a write in place (`rmap_after_use`): in_place, left_in_place, lost_in_place
+--   what leaves each home (`rmap_after`, `rmap_after_use`): by_events, read, read_alone,
+--     moved_by_read, moved_by_read_alone, after_exit
+--   several events (`rmap_after_all`): copy, copied_frame_moved
+--   a frame that is free (`AreNext`): read, after_exit, lost_at_exit
 --   no home at first (`no_homes`): new
 --   what is covered (`IsReached`, `AreCovered`): together, alone, no_home, at_child, other_index,
 --     own_alone, bare
 --   what holds with it (`IsRmapSound`): together, alone, out_of_own_chain, number_to_come
+-- In a command a new frame or a copy gets its home by the note and again by the write that follows,
+-- so only by_events and prepared_first see a note that leaves it.
 use Rattle.std.specs.Prelude.{◌≡◌, ℕ, true, false, List, [], ◌∷◌, map, Option, Some, None}
 use Rattle.av_base.specs.Words.{numbers, with_at}
 use Rattle.av_trace.specs.declared.command.Command.TheVariants.{Exit, Read, Write}
@@ -49,10 +51,10 @@ NeverLeavesHomes old e wrong = (new : State) → IsStep (machine 4) old e.comman
     → homes_in new.homes ≡ wrong → ⊥
 
 -- after each event the homes are these
-abbrev pub HomesGo : Ledger → Rmap → List (Event × FourHomes) → Type 0
-HomesGo l r [] = Unit {0}
-HomesGo l r (e ∷ es) =
-    (homes_in (rmap_after l e.0 r).homes ≡ e.1) × HomesGo (after l e.0) (rmap_after l e.0 r) es
+abbrev pub LeadsHomes : Ledger → Rmap → List (Event × FourHomes) → Type 0
+LeadsHomes l r [] = Unit {0}
+LeadsHomes l r (e ∷ es) =
+    (homes_in (rmap_after l e.0 r).homes ≡ e.1) × LeadsHomes (after l e.0) (rmap_after l e.0 r) es
 
 -- ---- areas
 
@@ -70,8 +72,8 @@ of_child = record (with_own 1 moved_four) { pid = 2 }
 -- ---- states
 
 -- no page has an entry, and no area an anon_vma
-abbrev pub untouched : State
-untouched = state_of (moved_four ∷ []) no_anons
+abbrev pub bare_process : State
+bare_process = state_of (moved_four ∷ []) no_anons
 
 -- frame 0 is at home at page 0x12 of the parent, and frame 1 was at its page 0x11
 abbrev pub first_homes : Homes
@@ -82,8 +84,8 @@ abbrev pub naming : List (Key × Entry) → Ledger
 naming entries = record first_ledger { entries = entries; inactive = 0 ∷ [] }
 
 -- parent and child have page 0x12 together, in frame 0, as after a fork
-abbrev pub shared : State
-shared = record {
+abbrev pub with_child : State
+with_child = record {
   world = (1, process_with (of_parent ∷ [])) ∷ (2, process_with (of_child ∷ [])) ∷ [];
   ledger = naming (((1, 0x12), InFrame 0 true) ∷ ((2, 0x12), InFrame 0 false) ∷ []);
   free = only_frames (1 ∷ 2 ∷ 3 ∷ []);
@@ -155,22 +157,22 @@ abbrev pub IsReachable : State → Type 0
 IsReachable s = IsRmapSound s.ledger (rmap_of s)
 
 -- the shared frame has this home
-abbrev pub shared_at : Option (ℕ × ℕ) → State
-shared_at home = record shared { homes = with_at 0 home no_homes }
+abbrev pub with_home : Option (ℕ × ℕ) → State
+with_home home = record with_child { homes = with_at 0 home no_homes }
 
 -- the child's area has this chain
-abbrev pub child_linked : List ℕ → State
-child_linked chain = record shared {
+abbrev pub with_chain : List ℕ → State
+with_chain chain = record with_child {
   anons = anons_of (Some root) (Some (record child { chain = chain })) 2;
 }
 
 -- or no anon_vma
 abbrev pub bare_child : State
-bare_child = record shared {
+bare_child = record with_child {
   areas = with_at 1 (pages_in (Some (of_parent ∷ [])))
       (with_at 2 (pages_in (Some (moved_four ∷ []))) no_areas);
 }
 
 -- the child's anon_vma has a number that is yet to be given
-abbrev pub unmade : State
-unmade = record shared { anons = record kin { next = 1 } }
+abbrev pub with_number_to_come : State
+with_number_to_come = record with_child { anons = record kin { next = 1 } }
