@@ -3,7 +3,8 @@
 //! `touch` makes a page ready for a read or a write, and marks it as accessed: the page of zeros, a
 //! new frame, a copy, or the frame that it has; else it says why not. Proved for whatever the
 //! memory system stands for: the notes that it adds are lawful, and the parts stand for the ledger
-//! after them.
+//! after them; the frame of a page that is written is at home there, and each entry of a frame is
+//! reached from the frame's home.
 #![tactic(auto)]
 
 mod fault;

@@ -2,8 +2,9 @@
 //!
 //! Each command is a function of the memory system, in the file of its topic; what each promises is
 //! one word, `Does`: an answer is a legal step of the definitions, whatever state the memory system
-//! stood for, and it stands for the next one. `Kernel` counts the replies, and after want of memory
-//! does nothing more. All of this is proved.
+//! stood for, and it stands for the next one, in which each entry of a frame is reached from the
+//! frame's home. `Kernel` counts the replies, and after want of memory does nothing more. All of
+//! this is proved.
 #![tactic(auto)]
 
 mod access;

@@ -14,6 +14,7 @@ pub mod ExitExamples
 pub mod RangeExamples
 pub mod PairExamples
 pub mod PrepareExamples
+pub mod HomeExamples
 pub mod UnsoundExamples
 pub mod ReadBack
 pub mod NeedsFrame

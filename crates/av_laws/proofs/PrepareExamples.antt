@@ -29,13 +29,13 @@ below-at v next x anons less more below w above = by (w == v) refl
     by true is = absurd (grind (arith, nat_tests, is, above, less))
     by false is = below w (omega (arith, above, more))
 
-one-below : AreBelow one_root
+pub one-below : AreBelow one_root
 one-below = below-at 0 1 (alone 0) no_anons (omega arith) (omega arith) (λ v above. refl)
 
 two-below : AreBelow two_roots
 two-below = below-at 1 2 (alone 1) one_root (omega arith) (omega arith) one-below
 
-kin-below : AreBelow kin
+pub kin-below : AreBelow kin
 kin-below = below-at 0 2 root (and_at 1 child 2 no_anons) (omega arith) (omega arith)
     (below-at 1 2 child no_anons (omega arith) (omega arith) (λ v above. refl))
 
@@ -46,11 +46,11 @@ second-below : AreBelow (and_at 1 (alone 1) 2 first_gone)
 second-below = below-at 1 2 (alone 1) first_gone (omega arith) (omega arith) (λ v above. refl)
 
 -- pages on which areas are linked
-abbrev some_pages : List (Key × Entry)
+abbrev pub some_pages : List (Key × Entry)
 some_pages = ((1, 0x10), Zero) ∷ ((1, 0x12), Zero) ∷ ((1, 0x14), Zero) ∷ ((1, 0x15), Zero) ∷ ((2, 0x12), Zero) ∷ []
 
 -- where each is linked on one of these all are left
-stays : (anons : Anons) (on : Areas) → AreBelow anons → all_linked anons on some_pages anons.next ≡ true → AreLeft anons on anons
+pub stays : (anons : Anons) (on : Areas) → AreBelow anons → all_linked anons on some_pages anons.next ≡ true → AreLeft anons on anons
 stays anons on below linked = left-all anons on below (linked-all anons on some_pages anons.next linked)
 
 -- the anon_vmas and the areas after an exchange

@@ -12,9 +12,9 @@
 --     apart_from_root, joined_to_child, joined_with_one, apart_with_two
 --   what is left of anon_vmas (`AreLeft`): child_goes, both_stay, child_kept, root_lost,
 --     root_of_child_lost, other_root, other_parent, other_chain, number_again
---   when an area is prepared (`prepare_note`, `with_anon`): first_write, second_write, by_a_read,
---     unprepared, prepared_in_part, second_number, second_made, prepared_by_a_read, not_joined,
---     joined_by_prepare
+--   when an area is prepared (`rmap_after_note`, `with_anon`): first_write, second_write,
+--     by_a_read, unprepared, prepared_in_part, second_number, second_made, prepared_by_a_read,
+--     not_joined, joined_by_prepare
 --   the anon_vma that it gets (`loan_beside`, `is_reusable`): taken_behind, after_first,
 --     not_from_child, other_offset, other_flags, taken_from_before, taken_from_child,
 --     made_though_lent, in_one_process, lent_by_another, prepared_in_another

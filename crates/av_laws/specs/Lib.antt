@@ -8,3 +8,4 @@ pub mod Views
 pub mod Areas
 pub mod Slots
 pub mod Covered
+pub mod Homes
