@@ -3,7 +3,8 @@
 //! `Mem` holds the frames, the page tables, the areas and the anon_vmas; the kernel has one. What
 //! it stands for is said by the definitions' `Stands` over its `view`. `zap_range` takes away the
 //! entries of a range of pages, and frees the frames that no other page has: proved for every
-//! ledger that the parts stand for.
+//! ledger that the parts stand for. `walk` finds the entries of a frame through its home: proved
+//! for every state that the memory system stands for, with the number of its looks.
 #![tactic(auto)]
 
 mod mem;

@@ -6,8 +6,9 @@
 //!
 //! Proved: where spans go with links and each of the frame's entries is covered by the home, the
 //! walk finds each of them once, and nothing else, by exactly as many looks as there are areas
-//! linked to the anon_vma that hold the index. `Stores` shows areas, anon_vmas and page tables as
-//! they are kept.
+//! linked to the anon_vma that hold the index; and by the same looks `clear_seen` takes the seen
+//! bit from each of them, and changes nothing else. `Stores` shows areas, anon_vmas and page tables
+//! as they are kept, and `StoresMut` lends the tables for writing.
 #![tactic(auto)]
 
 pub mod covered;

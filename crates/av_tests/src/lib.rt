@@ -23,6 +23,8 @@ mod merge;
 #[cfg(test)]
 mod pagetable;
 #[cfg(test)]
+mod rmap;
+#[cfg(test)]
 mod swapdev;
 #[cfg(test)]
 mod swapmap;

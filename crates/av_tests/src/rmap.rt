@@ -1,0 +1,133 @@
+ghost use Rattle.std.specs.Prelude.{◌≡◌, ℕ, ◌+◌, ◌<◌, ◌++◌, [], ◌∷◌, None, Some, IfOk, OnOk};
+ghost use Rattle.av_anon.specs.Anons.{family, own_of};
+ghost use Rattle.av_anon.specs.Order.{IsArea};
+ghost use Rattle.av_base.specs.Words.{with_at};
+ghost use Rattle.av_merge.specs.Kin.{AreInOrder};
+ghost use Rattle.av_vma.specs.Areas.{area_of};
+
+use av_anon::Anons;
+use av_anon::order::nobody_is_in_order;
+use av_base::{Prot, Steps};
+use av_pagetable::{PageTable, Pte, Tables};
+use av_rmap::sorted::walk_sorted;
+use av_rmap::stores::Stores;
+use av_vma::{Area, AreaId, Areas};
+use std::alloc::{AllocError, Global};
+use std::marker::Brand;
+use std::sync::ledger::{Blank, Ledger};
+use std::test::Fail;
+
+/// Pages 10 to 13 of process 1, with their offset.
+const PARENT: Area = Area {
+    pid: 1,
+    start: 10 * 4096,
+    end: 14 * 4096,
+    prot: Prot {
+        read: true,
+        write: true,
+        execute: false,
+    },
+    flags: 0,
+    pgoff: 10,
+    anon: None,
+};
+
+/// The same of process 2.
+const CHILD: Area = Area { pid: 2, ..PARENT };
+
+/// Pages 20 to 23 of process 2.
+const OTHER: Area = Area {
+    pid: 2,
+    start: 20 * 4096,
+    end: 24 * 4096,
+    pgoff: 20,
+    ..PARENT
+};
+
+const FRAME_7: Pte = Pte::Here {
+    frame: 7,
+    write: false,
+    seen: true,
+};
+
+/// Adds an area, with the first anon_vma as its own.
+fn add(areas: &mut Areas, anons: &mut Anons, area: Area) -> Result<AreaId, AllocError>
+    requires order { AreInOrder areas.old anons.old }
+    requires bare { area.anon ≡ None }
+    requires fits { IsArea area }
+    requires first { (family anons.old).next ≡ 0 }
+    requires unused { (family anons.old).users 0 ≡ [] }
+    ensures order { OnOk result (AreInOrder areas.new anons.new) }
+    ensures unused { IfOk result (λ id. area_of areas.old id ≡ None) }
+    ensures added { IfOk result (λ id. (number : ℕ) → area_of areas.new number
+        ≡ with_at id (Some (record area { anon = Some 0 })) (area_of areas.old) number) }
+    ensures users { IfOk result (λ id. (family anons.new).users 0 ≡ id ∷ []) }
+{
+    let id = areas.add(area)?;
+    anons.prepare(areas, id, None, None)?;
+    Ok(id)
+}
+
+/// Adds one more.
+fn add_like(
+    areas: &mut Areas,
+    anons: &mut Anons,
+    area: Area,
+    like: AreaId,
+) -> Result<AreaId, AllocError>
+    requires order { AreInOrder areas.old anons.old }
+    requires bare { area.anon ≡ None }
+    requires fits { IsArea area }
+    requires own { own_of (area_of areas.old like) ≡ Some 0 }
+    ensures order { OnOk result (AreInOrder areas.new anons.new) }
+    ensures unused { IfOk result (λ id. area_of areas.old id ≡ None) }
+    ensures added { IfOk result (λ id. (number : ℕ) → area_of areas.new number
+        ≡ with_at id (Some (record area { anon = Some 0 })) (area_of areas.old) number) }
+    ensures users { IfOk result (λ id.
+        (family anons.new).users 0 ≡ (family anons.old).users 0 ++ id ∷ []) }
+{
+    let id = areas.add(area)?;
+    anons.clone_chain(areas, like, id)?;
+    Ok(id)
+}
+
+/// The walk of a frame that two processes have on their page 11. Three areas are linked to the
+/// anon_vma of its home, and two of them hold its index.
+fn shared<L: Ledger>(alloc: Global, steps: &mut Steps<L>) -> Result<Vec<(u16, u64)>, AllocError>
+    ensures { OnOk result (steps.new ≡ steps.old + 2) }
+{
+    nobody_is_in_order();
+    let mut areas = Areas::new(alloc);
+    let mut anons = Anons::new(alloc);
+    let parent = add(&mut areas, &mut anons, PARENT)?;
+    let child = add_like(&mut areas, &mut anons, CHILD, parent)?;
+    let _ = add_like(&mut areas, &mut anons, OTHER, child)?;
+    let mut tables = Tables::<PageTable>::new(alloc);
+    tables.spawn(alloc, 1)?;
+    tables.spawn(alloc, 2)?;
+    tables.set(1, 11, FRAME_7)?;
+    tables.set(2, 11, FRAME_7)?;
+    let stores = Stores {
+        areas: &areas,
+        anons: &anons,
+        tables: &tables,
+    };
+    walk_sorted(alloc, &stores, 7, (0, 11), 2, steps)
+}
+
+/// The same, by a counter of its own.
+fn shared_alone<L: Ledger>(alloc: Global, blank: Blank) -> Result<Vec<(u16, u64)>, AllocError>
+    requires name { blank.name ≡ L.name }
+    requires parts { blank.parts ≡ L.parts }
+    requires some { 0 < blank.parts }
+{
+    let mut steps = Steps::<L>::open(blank);
+    shared(alloc, &mut steps)
+}
+
+#[test]
+fn a_walk_finds_the_entries_of_both_processes(rt: HostRuntime) -> Result<(), Fail> {
+    let keys = shared_alone::<Brand>(rt.alloc(), Blank::new(1))?;
+    assert_eq!(rt; keys.as_slice(), [(1, 11), (2, 11)].as_slice());
+    Ok(())
+}
