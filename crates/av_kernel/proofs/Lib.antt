@@ -13,5 +13,6 @@ pub mod AccessSteps
 pub mod ReportRuns
 pub mod ReportMaps
 pub mod ReportAreas
+pub mod ReportEntry
 pub mod ReportStat
 pub mod TallyCounts

@@ -1,22 +1,27 @@
-//! Reports: `maps`, `areas` and `stat`. They change nothing.
+//! Reports: `maps`, `areas`, `entry` and `stat`. They change nothing.
 
-ghost use Rattle.std.specs.Prelude.{◌≡◌, ℕ, true, false, map, Some, Ok, IfOk};
+ghost use Rattle.std.specs.Prelude.{◌≡◌, ℕ, true, false, is_some, map, MatchResult, Some, Ok, IfOk};
 ghost use Rattle.av_spaces.specs.Kin.{AnonsFit};
 ghost use Rattle.av_spaces.specs.Spaces.{AreRising, areas_of, pages_of};
 ghost use Rattle.av_vma.specs.Join.{first_of};
-ghost use Rattle.av_plain.specs.Report.{area_row as row_of_area, range_of};
-ghost use Rattle.av_reclaim.specs.Mem.{IsSteady, view};
+ghost use Rattle.av_plain.specs.Ledger.{entry as entry_of};
+ghost use Rattle.av_plain.specs.Report.{area_row as row_of_area, entry_answer as answer_of_entry, range_of};
+ghost use Rattle.av_plain.specs.Transcript.{State};
+ghost use Rattle.av_reclaim.specs.Mem.{IsSteady, Keeps, view};
 ghost use Rattle.av_kernel.specs.Step.{Does};
 ghost use Rattle.av_kernel.specs.Report.{AreRuns};
+ghost use Rattle.av_kernel.specs.declared.refusal.Refusal.TheVariants as refusals;
 ghost use Rattle.av_trace.specs.declared.command.Command.TheVariants as commands;
+ghost use Rattle.av_trace.specs.declared.reply.Errno.TheVariants as errors;
 ghost use Rattle.av_trace.specs.declared.row.Row.TheVariants as row;
 
 use crate::process::check_lives;
 use crate::refusal::Refusal;
 use crate::step::answer_only;
 use av_base::PAGE_SIZE;
+use av_pagetable::Pte;
 use av_reclaim::Mem;
-use av_trace::{Answer, Chain, Notes, Reply, Row, Rows, Totals};
+use av_trace::{Answer, Chain, Errno, Notes, Reply, Row, Rows, Totals};
 use av_vma::Area;
 use std::alloc::{AllocError, Global};
 
@@ -48,6 +53,17 @@ pub fn areas(mem: &Mem, alloc: Global, process: u16) -> Result<Reply, Refusal>
         notes: Notes::new(alloc),
         rows,
     })
+}
+
+/// Does an `entry`: what the entry of a page is.
+pub fn entry(mem: &Mem, alloc: Global, process: u16, address: u64) -> Result<Reply, Refusal>
+    requires { IsSteady mem.now }
+    ensures { Does mem.now mem.now (commands.Entry process address) result }
+{
+    check_lives(mem, process)?;
+    let page = address / PAGE_SIZE;
+    check_mapped(mem, process, page)?;
+    Ok(answer_only(alloc, entry_answer(mem, process, page)))
 }
 
 /// Does a `stat`: how many frames and processes there are. No frame is active, and there is no
@@ -144,4 +160,35 @@ fn area_row(mem: &Mem, alloc: Global, process: u16, area: &Area) -> Result<Row, 
         own: area.anon,
         chain: Chain::from_vec(chain),
     })
+}
+
+/// Refuses where the page isn't mapped.
+fn check_mapped(mem: &Mem, process: u16, page: u64) -> Result<(), Refusal>
+    ensures { MatchResult result
+        (λ _. is_some (pages_of mem.now.spaces.processes process page) ≡ true)
+        (λ refusal. (is_some (pages_of mem.now.spaces.processes process page) ≡ false)
+        × (refusal ≡ refusals.Refused errors.Efault)) }
+{
+    if mem.spaces.area(process, page).is_none() {
+        return Err(Refusal::Refused(Errno::Efault));
+    }
+    Ok(())
+}
+
+/// What the entry of a page is; no frame caches a slot.
+fn entry_answer(mem: &Mem, process: u16, page: u64) -> Answer
+    requires { IsSteady mem.now }
+    ensures { (s : State) → Keeps mem.now s
+        → result ≡ answer_of_entry s.ledger (entry_of s.ledger (process, page)) }
+{
+    match mem.tables.get(process, page) {
+        Pte::Empty => Answer::EntryEmpty,
+        Pte::Zero => Answer::EntryZero,
+        Pte::Here { frame, seen, .. } => Answer::EntryFrame {
+            frame,
+            seen,
+            cached: mem.frames.slot(frame),
+        },
+        Pte::Away { slot } => Answer::EntrySlot { slot, cached: None },
+    }
 }

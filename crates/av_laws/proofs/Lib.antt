@@ -11,6 +11,7 @@ pub mod LedgerExamples
 pub mod ChangedExamples
 pub mod SoundExample
 pub mod ExitExamples
+pub mod EntryExamples
 pub mod RangeExamples
 pub mod PairExamples
 pub mod PrepareExamples

@@ -11,7 +11,7 @@ use Rattle.av_base.specs.Page.{address_of, page_of, pages_of, page_size, place_i
 use Rattle.av_base.specs.Words.{numbers}
 use Rattle.av_vma.specs.Gap.{IsGap}
 use Rattle.av_trace.specs.declared.command.Command.{Command}
-use Rattle.av_trace.specs.declared.command.Command.TheVariants.{Spawn, Exit, Mmap, Munmap, Mprotect, Read, Write, Maps, Areas as AsksAreas, Stat}
+use Rattle.av_trace.specs.declared.command.Command.TheVariants.{Spawn, Exit, Mmap, Munmap, Mprotect, Read, Write, Maps, Areas as AsksAreas, Entry as AsksEntry, Stat}
 use Rattle.av_trace.specs.declared.note.Note.{Note}
 use Rattle.av_trace.specs.declared.note.Note.TheVariants.{Aged, Copied, Dropped, Failed, Kept, Loaded, Mapped, New, Put, Started, Unmapped, Written, Zeroed}
 use Rattle.av_trace.specs.declared.place.Place.{Place}
@@ -21,31 +21,34 @@ use Rattle.av_trace.specs.declared.reply.Errno.TheVariants.{Enomem}
 use Rattle.av_trace.specs.declared.reply.OutOf.{OutOf}
 use Rattle.av_trace.specs.declared.reply.Reply.{Reply}
 use Rattle.av_trace.specs.declared.row.Row.{Row}
-use Rattle.av_trace.specs.declared.row.Row.TheVariants.{Run, Entry, Area as AreaRow}
+use Rattle.av_trace.specs.declared.row.Row.TheVariants.{Run, Entry as EntryRow, Area as AreaRow}
 use Rattle.av_trace.specs.declared.reply.Answer.{Answer}
 use Rattle.av_trace.specs.declared.reply.Answer.TheVariants.{AreaList, Done, MapAt, Refused, Oom, Runs, Counted}
 use Rattle.av_trace.specs.Command.{IsCommand}
-use Rattle.av_trace.specs.Note.{IsNote}
+use Rattle.av_trace.specs.Note.{IsNote, IsSlot}
 use Rattle.av_trace.specs.Number.{IsWide}
 use Rattle.av_trace.specs.Place.{IsPlace}
-use Rattle.av_trace.specs.Reply.{AreCauses, Follow, IsAnswer, IsReply}
+use Rattle.av_trace.specs.Reply.{AreCauses, Follow, IfThere, IsAnswer, IsReply}
 use Rattle.av_trace.specs.Row.{IsAreaRow, IsRun}
 use Rattle.av_plain.specs.World.{Page, Process, World, is_mapped, pages, pages_to_hole}
-use Rattle.av_plain.specs.Ledger.{Ledger, Setting, SwapArea, free_frames, free_slots}
+use Rattle.av_plain.specs.Ledger.{Entry, InFrame, InSlot, Key, Ledger, Setting, SwapArea, Zero, entry, free_frames, free_slots, map_count, names_frame, names_slot, slot_entries}
 use Rattle.av_plain.specs.Event.{Event, after_all, notes_of}
 use Rattle.av_plain.specs.Access.{Accesses, End, Stopped, Whole, bytes_before, page_events, pages_of_access, read_answer, stop_answer, write_answer}
 use Rattle.av_plain.specs.Fault.{Denied, Lost, Starved, Stop}
 use Rattle.av_plain.specs.Map.{zaps_for_place}
 use Rattle.av_plain.specs.Place.{Goes, IsMapAt, is_room}
 use Rattle.av_plain.specs.Refusal.{Refuses, refusal, tests}
-use Rattle.av_plain.specs.Report.{AreApart, AreLongest, Cover, Range, prot_in, row_of, run_of, totals}
-use Rattle.av_plain.specs.Sound.{AllSound}
+use Rattle.av_plain.specs.Report.{AreApart, AreLongest, Cover, Range, entry_answer, prot_in, row_of, run_of, totals}
+use Rattle.av_plain.specs.Sound.{AllSound, IsSound}
 use Rattle.av_plain.specs.Step.{Follows, IsLegal}
 use Rattle.av_plain.specs.Zap.{keys_in, keys_of_process, zaps_of}
+use Rattle.av_plain.proofs.Ledger.{how_many-found}
+use Rattle.av_plain.proofs.Ledger.NoSwap.{itself, no_slot}
 use Rattle.av_plain.proofs.Report.Totals.{frames-add}
+use Rattle.av_plain.proofs.Sound.Counts.{slot-itself}
 use Rattle.av_plain.specs.Device.{HasNoDevice}
 use Rattle.av_laws.specs.ReadBack.{IsSmall, IsWideRow}
-use Rattle.av_plain.proofs.NoDevice.{IsPlainAt, accesses-plain, in-areas, no-slots, no-zap-notes}
+use Rattle.av_plain.proofs.NoDevice.{HasNoSlots, IsPlainAt, accesses-plain, in-areas, no-slots, no-zap-notes}
 use Rattle.av_laws.proofs.OutOfMemory.{legal-adds}
 
 -- what a reply has beside its notes
@@ -197,7 +200,7 @@ areas-wide [] [] is wide said = (refl, tt)
 areas-wide [] (row ∷ rows) is wide said = cc
 areas-wide (r ∷ rs) [] is wide said = cc
 areas-wide (r ∷ rs) (Run start end prot ∷ rows) is wide said = cc
-areas-wide (r ∷ rs) (Entry p address ∷ rows) is wide said = cc
+areas-wide (r ∷ rs) (EntryRow p address ∷ rows) is wide said = cc
 areas-wide (r ∷ rs) (AreaRow start end prot offset own chain ∷ rows) is wide said =
     let tails : map run_of rows ≡ map (λ r. Some (row_of r)) rs = cc in
     let later = areas-wide rs rows tails wide.1 said.1 in
@@ -244,6 +247,20 @@ pub asked-wide : (command : Command) (rows : List Row) → AllByRecursion IsWide
 asked-wide (AsksAreas p) rows h = h
 asked-wide command rows h = tt
 
+-- ---- entries
+
+-- without a device no entry is a slot, and no frame is cached
+entry-fits : (m : Setting) (l : Ledger) (k : Key) → HasNoDevice m → IsSound m l → HasNoSlots l → IsWide m.frames → (e : Option Entry) → entry l k ≡ e → Fits [] (entry_answer l e) []
+entry-fits m l k none s bare wide None is = (tt, (tt, refl))
+entry-fits m l k none s bare wide (Some Zero) is = (tt, (tt, refl))
+entry-fits m l k none s bare wide (Some (InFrame f seen)) is =
+    let some : 0 < map_count l f = how_many-found (names_frame f) k l.entries (InFrame f seen) is (itself f) in
+    ((wide-frame m f wide (s.in_range f (omega (arith, some))), subst (IfThere IsSlot) (sym (no_slot l f bare.cache)) tt), (tt, refl))
+entry-fits m l k none s bare wide (Some (InSlot t)) is =
+    let some : 0 < slot_entries l t = how_many-found (names_slot t) k l.entries (InSlot t) is (slot-itself t) in
+    let zero = bare.entries t in
+    absurd (omega (arith, some, zero))
+
 follows-fit : (m : Setting) (w : World) (l : Ledger) (command : Command) (events : List Event) (answer : Answer) (rows : List Row) → HasNoDevice m → AllSound m w l → IsSmall m w l → IsCommand command → CausesFit answer → AskedWide command rows
     → Follows m w l command events answer rows → Fits events answer rows
 follows-fit m w l (Spawn p) events answer rows none s small fit out wide h = fits-by events [] answer Done rows [] h.1 h.0 h.2 (tt, (tt, refl))
@@ -286,6 +303,8 @@ follows-fit m w l (AsksAreas p) events answer rows none s small fit out wide h =
     let rest = areas-wide ranges rows h.1.1 (runs-wide ranges h.1.2 high) wide in
     fits-by events [] answer (AreaList (length rows)) rows rows h.2 h.0 refl
     (subst IsWide (sym rest.0) (few-rows ranges h.1.2 high), (refl, refl, rest.1))
+follows-fit m w l (AsksEntry p a) events answer rows none s small fit out wide h =
+    fits-by events [] answer (entry_answer l (entry l (p, page_of a))) rows [] h.1 h.0 h.2 (entry-fits m l (p, page_of a) none s.ledger (no-slots m l none (in-areas m w l s)) small.frames (entry l (p, page_of a)) refl)
 follows-fit m w l Stat events answer rows none s small fit out wide h = fits-by events [] answer (Counted (totals m w l)) rows [] h.1 h.0 h.2 (
   record {
     frames = frames;

@@ -24,6 +24,9 @@
 --     exit_drops, exit_in_writeback, exit_paged_out, exit, exit_again
 --   the runs of `maps` (`AreMaps`): exit_frees, two_runs, protected_part, past_a_hole, split_run,
 --     joined_runs, run_left_out, run_too_long, falling_runs, part_of_page
+--   the entry of `entry` (`entry_answer`, `no_page`): entries_shown, old_frame, cached_frame,
+--     cached_slot, slot_alone, empty_though_unmapped, fault_without_process, seen_though_old,
+--     slot_left_out, other_slot, frame_left_out, slot_as_frame, frame_though_alone, shown_with_row
 --   the numbers of `stat` (`totals`): exit_frees, exit_and_again, exit_shared, exit_drops,
 --     exit_in_writeback, exit_paged_out, stat
 --   the next ledger (`after`): out_and_back, copied_and_gone
@@ -37,8 +40,8 @@ use Rattle.av_base.specs.Words.{numbers, with_at}
 use Rattle.av_clusters.specs.Clusters.{Slots, fresh, take_slot}
 use Rattle.av_trace.specs.declared.place.Place.TheVariants.{Auto, At, Fixed, NoReplace}
 use Rattle.av_trace.specs.declared.command.Command.{Command}
-use Rattle.av_trace.specs.declared.command.Command.TheVariants.{Spawn, Exit, Mmap, Munmap, Mprotect, Read, Write, Maps, Stat}
-use Rattle.av_trace.specs.declared.reply.Errno.TheVariants.{Eperm, Esrch, Eagain, Enomem, Eexist, Einval}
+use Rattle.av_trace.specs.declared.command.Command.TheVariants.{Spawn, Exit, Mmap, Munmap, Mprotect, Read, Write, Maps, Entry as AsksEntry, Stat}
+use Rattle.av_trace.specs.declared.reply.Errno.TheVariants.{Efault, Eperm, Esrch, Eagain, Enomem, Eexist, Einval}
 use Rattle.av_trace.specs.declared.note.Note.{Note}
 use Rattle.av_trace.specs.declared.note.Note.TheVariants.{Zeroed, New, Copied, Loaded, Mapped, Put, Unmapped, Started, Written, Failed, Dropped, Kept, Aged}
 use Rattle.av_trace.specs.declared.note.Cause.TheVariants.{Writeback, Referenced, NoSlot, WriteStarted}
@@ -47,7 +50,7 @@ use Rattle.av_trace.specs.declared.row.Row.{Row}
 use Rattle.av_trace.specs.declared.row.Row.TheVariants.{Run}
 use Rattle.av_trace.specs.declared.reply.Totals.{Totals}
 use Rattle.av_trace.specs.declared.reply.Answer.{Answer}
-use Rattle.av_trace.specs.declared.reply.Answer.TheVariants.{Done, MapAt, Data, Refused, Segv, Bus, Oom, Runs as RunCount, Counted}
+use Rattle.av_trace.specs.declared.reply.Answer.TheVariants.{Done, EntryEmpty, EntryFrame, EntryZero, MapAt, Data, Refused, Segv, Bus, Oom, Runs as RunCount, Counted}
 use Rattle.av_vma.specs.Pages.{Pages, fresh_area, pages_in}
 use Rattle.av_plain.specs.Areas.{Areas, no_anons, no_areas, no_homes}
 use Rattle.av_plain.specs.Choice.{Free, no_slots}
@@ -868,6 +871,22 @@ state_at_rest = record {
   anons = no_anons;
   homes = no_homes;
 }
+
+-- the page's entry: none, the zero page once it is read, a frame once it is written. No process and
+-- no page are refused
+abbrev pub entries_shown : List Exchange
+entries_shown =
+    says (AsksEntry 2 0x7fffffffe000) (Refused Esrch) []
+    ∷ says (AsksEntry 1 0x7ffffffff000) (Refused Efault) []
+    ∷ says (AsksEntry 1 0x7fffffffe123) EntryEmpty []
+    ∷ says (Read 1 0x7fffffffe000 1) (Data (0 ∷ [])) (Zeroed 1 0x7fffffffe000 ∷ [])
+    ∷ says (AsksEntry 1 0x7fffffffefff) EntryZero []
+    ∷ says (Write 1 0x7fffffffe000 (1 ∷ [])) Done (New 1 0x7fffffffe000 0 ∷ [])
+    ∷ says (AsksEntry 1 0x7fffffffe000) (EntryFrame 0 true None) [] ∷ []
+
+-- the topmost page of the process has this entry
+abbrev pub has_entry : ℕ → Answer → List Exchange
+has_entry p answer = says (AsksEntry p 0x7fffffffe000) answer [] ∷ []
 
 -- no process lives
 abbrev pub empty : State

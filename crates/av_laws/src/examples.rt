@@ -1,7 +1,7 @@
 //! Worked examples: what the definitions say of single runs. Each contract is a few of them, by
 //! name.
 
-ghost use Rattle.std.specs.Prelude.{List, [], ◌∷◌, true, None};
+ghost use Rattle.std.specs.Prelude.{List, [], ◌∷◌, false, true, None, Some};
 ghost use Rattle.av_trace.specs.declared.place.Place.TheVariants.{Auto, Fixed, NoReplace};
 ghost use Rattle.av_trace.specs.declared.command.Command.TheVariants.{
   Spawn,
@@ -11,9 +11,11 @@ ghost use Rattle.av_trace.specs.declared.command.Command.TheVariants.{
   Read,
   Write,
   Maps,
+  Entry as AsksEntry,
   Stat,
 };
 ghost use Rattle.av_trace.specs.declared.reply.Errno.TheVariants.{
+  Efault,
   Eperm,
   Esrch,
   Eagain,
@@ -37,6 +39,9 @@ ghost use Rattle.av_trace.specs.declared.reply.Answer.TheVariants.{
   Segv,
   Bus,
   Oom,
+  EntryEmpty,
+  EntryFrame,
+  EntrySlot,
   Counted,
 };
 ghost use Rattle.av_plain.specs.Ledger.{InFrame, first_ledger};
@@ -123,6 +128,8 @@ ghost use Rattle.av_laws.specs.Examples.{
   run_too_long,
   falling_runs,
   part_of_page,
+  entries_shown,
+  has_entry,
 };
 
 /// Runs from nothing on.
@@ -304,4 +311,44 @@ pub fn changed_ranges_are_refused()
         page_gone }
     ensures fixed { Only (machine 4) one_written (Mmap 1 4096 read_only (Fixed 0x7fffffffe000))
         (reply_with (MapAt 0x7fffffffe000) []) page_anew }
+{}
+
+/// `entry` shows what a page's entry is: none, the zero page, a frame, seen or old, with the slot at
+/// which it is cached, or a slot, with the frame that caches it.
+pub fn entries_are_shown()
+    ensures entries_shown { Allows (machine 4) state_at_rest entries_shown }
+    ensures old_frame { Allows (machine 4) (after_fork (1 ∷ 2 ∷ 3 ∷ []))
+        (has_entry 2 (EntryFrame 0 false None)) }
+    ensures cached_frame { Allows (with_swap 4 8 7) in_swap_cache
+        (has_entry 1 (EntryFrame 0 true (Some (slot 1)))) }
+    ensures cached_slot { Allows (with_swap 4 8 7) in_writeback
+        (has_entry 1 (EntrySlot (slot 1) (Some 0))) }
+    ensures slot_alone { Allows (with_swap 4 8 7) (paged_out 7 (0 ∷ 1 ∷ 2 ∷ 3 ∷ []))
+        (has_entry 1 (EntrySlot (slot 1) None)) }
+{}
+
+/// And nothing else: a page that isn't mapped has no entry to show, and where no process lives that
+/// is said first; another frame, seen or slot; a cached slot or a frame that is left out or isn't
+/// there; a frame in place of a slot; a row.
+pub fn changed_entries_are_refused()
+    ensures empty_though_unmapped { Forbids (machine 4) state_at_rest (AsksEntry 1 0x7fffffffd000)
+        (reply_with EntryEmpty []) }
+    ensures fault_without_process { Forbids (machine 4) state_at_rest (AsksEntry 2 0x7fffffffd000)
+        (reply_with (Refused Efault) []) }
+    ensures seen_though_old { Forbids (machine 4) (after_fork (1 ∷ 2 ∷ 3 ∷ []))
+        (AsksEntry 2 0x7fffffffe000)
+        (reply_with (EntryFrame 0 true None) []) }
+    ensures slot_left_out { Forbids (with_swap 4 8 7) in_swap_cache (AsksEntry 1 0x7fffffffe000)
+        (reply_with (EntryFrame 0 true None) []) }
+    ensures other_slot { Forbids (with_swap 4 8 7) in_swap_cache (AsksEntry 1 0x7fffffffe000)
+        (reply_with (EntryFrame 0 true (Some (slot 2))) []) }
+    ensures frame_left_out { Forbids (with_swap 4 8 7) in_writeback (AsksEntry 1 0x7fffffffe000)
+        (reply_with (EntrySlot (slot 1) None) []) }
+    ensures slot_as_frame { Forbids (with_swap 4 8 7) in_writeback (AsksEntry 1 0x7fffffffe000)
+        (reply_with (EntryFrame 0 false (Some (slot 1))) []) }
+    ensures frame_though_alone { Forbids (with_swap 4 8 7) (paged_out 7 (0 ∷ 1 ∷ 2 ∷ 3 ∷ []))
+        (AsksEntry 1 0x7fffffffe000)
+        (reply_with (EntrySlot (slot 1) (Some 0)) []) }
+    ensures shown_with_row { Forbids (machine 4) state_at_rest (AsksEntry 1 0x7fffffffe000)
+        (record { answer = EntryEmpty; notes = []; rows = Entry 1 0x7fffffffe000 ∷ [] }) }
 {}

@@ -4,17 +4,17 @@ use Rattle.std.specs.Prelude.{ℕ, ◌+◌, Bool, true, false, not, ◌==◌, if
 use Rattle.av_base.specs.Limits.{most_processes, low_page, top_page}
 use Rattle.av_base.specs.Page.{page_of, address_of, pages_of, is_on_page}
 use Rattle.av_trace.specs.declared.command.Command.{Command}
-use Rattle.av_trace.specs.declared.command.Command.TheVariants.{Mprotect, Spawn, Exit, Mmap, Munmap, Read, Write, Maps, Areas as AsksAreas, Stat}
+use Rattle.av_trace.specs.declared.command.Command.TheVariants.{Mprotect, Spawn, Exit, Mmap, Munmap, Read, Write, Maps, Areas as AsksAreas, Entry as AsksEntry, Stat}
 use Rattle.av_trace.specs.declared.place.Place.{Place}
 use Rattle.av_trace.specs.declared.place.Place.TheVariants.{Auto, At, Fixed, NoReplace}
 use Rattle.av_trace.specs.declared.reply.Answer.{Answer}
 use Rattle.av_trace.specs.declared.reply.Answer.TheVariants.{Refused}
 use Rattle.av_trace.specs.declared.reply.Errno.{Errno}
-use Rattle.av_trace.specs.declared.reply.Errno.TheVariants.{Enomem, Eperm, Esrch, Eagain, Eexist, Einval}
+use Rattle.av_trace.specs.declared.reply.Errno.TheVariants.{Efault, Enomem, Eperm, Esrch, Eagain, Eexist, Einval}
 use Rattle.av_trace.specs.declared.row.Row.{Row}
 use Rattle.av_plain.specs.Event.{Event}
 use Rattle.av_plain.specs.Ledger.{Setting, Ledger}
-use Rattle.av_plain.specs.World.{Process, World, pages, lives, meets}
+use Rattle.av_plain.specs.World.{Process, World, is_mapped, pages, lives, meets}
 
 -- tests in order, each with the error that it leads to
 abbrev pub Tests : Type 0
@@ -23,6 +23,10 @@ Tests = List (Bool × Errno)
 -- the process does not live
 abbrev pub no_process : World → ℕ → Bool × Errno
 no_process w p = (not (lives w p), Esrch)
+
+-- the page of the address isn't mapped
+abbrev pub no_page : World → ℕ → ℕ → Bool × Errno
+no_page w p a = (not (is_mapped (pages w p) (page_of a)), Efault)
 
 -- as many processes live as may
 abbrev pub too_many : World → Bool × Errno
@@ -75,6 +79,7 @@ tests m w l (Read p a n) = no_process w p ∷ []
 tests m w l (Write p a bytes) = no_process w p ∷ []
 tests m w l (Maps p) = no_process w p ∷ []
 tests m w l (AsksAreas p) = no_process w p ∷ []
+tests m w l (AsksEntry p a) = no_process w p ∷ no_page w p a ∷ []
 tests m w l Stat = []
 
 -- the first test that holds

@@ -1,11 +1,12 @@
--- Reports: the runs of `maps`, the areas of `areas`, and the numbers of `stat`.
+-- Reports: the runs of `maps`, the areas of `areas`, the entry of `entry`, and the numbers of
+-- `stat`.
 use Rattle.std.specs.Prelude.{◌≡◌, ℕ, ◌<◌, ◌≤◌, ◌&&◌, nat_lt, nat_le, if◌then◌else◌, List, [], ◌∷◌, map, length, sum_by, Option, Some, None, option_map}
 use Rattle.av_base.specs.Page.{address_of}
 use Rattle.av_base.specs.declared.prot.Prot.{Prot}
 use Rattle.av_trace.specs.declared.reply.Answer.{Answer}
 use Rattle.av_trace.specs.declared.command.Command.{Command}
 use Rattle.av_trace.specs.declared.command.Command.TheVariants.{Areas as AsksAreas}
-use Rattle.av_trace.specs.declared.reply.Answer.TheVariants.{AreaList, Runs, Counted}
+use Rattle.av_trace.specs.declared.reply.Answer.TheVariants.{AreaList, EntryEmpty, EntryFrame, EntrySlot, EntryZero, Runs, Counted}
 use Rattle.av_trace.specs.declared.row.Row.{Row}
 use Rattle.av_trace.specs.declared.row.Row.TheVariants.{Run, Area as AreaRow}
 use Rattle.av_trace.specs.declared.reply.Totals.{Totals}
@@ -15,7 +16,7 @@ use Rattle.av_vma.specs.Pages.{Pages, pages_in}
 use Rattle.av_plain.specs.Areas.{Anons, Areas, chain_of}
 use Rattle.av_plain.specs.World.{World, Process, Page}
 use Rattle.av_plain.specs.Event.{Event}
-use Rattle.av_plain.specs.Ledger.{Ledger, Setting, SwapArea, free_frames, free_slots}
+use Rattle.av_plain.specs.Ledger.{Entry, InFrame, InSlot, Key, Ledger, Setting, SwapArea, Zero, entry, frame_at, free_frames, free_slots, slot_of}
 
 -- ---- ranges of pages
 
@@ -99,6 +100,21 @@ AreRowsOf anons on rows = (areas : List Area) × (rows ≡ map (area_row anons) 
 abbrev pub ShowsAreas : Areas → Anons → Command → Answer → List Row → Type 0
 ShowsAreas areas anons (AsksAreas p) (AreaList n) rows = AreRowsOf anons (areas p) rows
 ShowsAreas areas anons command answer rows = Unit {0}
+
+-- ---- entry
+
+-- what an entry is: a frame with the slot at which it is cached, a slot with the frame that caches
+-- it
+abbrev pub entry_answer : Ledger → Option Entry → Answer
+entry_answer l None = EntryEmpty
+entry_answer l (Some Zero) = EntryZero
+entry_answer l (Some (InFrame f seen)) = EntryFrame f seen (slot_of l f)
+entry_answer l (Some (InSlot s)) = EntrySlot s (frame_at l s)
+
+-- the answer to `entry`: what the page's entry is
+abbrev pub ReportsEntry : Ledger → Key → List Event → Answer → List Row → Type 0
+ReportsEntry l key events answer rows =
+    (answer ≡ entry_answer l (entry l key)) × (events ≡ []) × (rows ≡ [])
 
 -- ---- stat
 

@@ -24,6 +24,7 @@ IsCommand (commands.Read p address len) =
 IsCommand (commands.Write p address bytes) = IsProcess p × IsWide address × IsData bytes
 IsCommand (commands.Maps p) = IsProcess p
 IsCommand (commands.Areas p) = IsProcess p
+IsCommand (commands.Entry p address) = IsProcess p × IsWide address
 IsCommand commands.Stat = Unit {0}
 
 -- the one line of a command
@@ -42,6 +43,7 @@ line_of (commands.Write p address bytes) =
     line (codes "write") (decimal p ∷ hex address ∷ hex_text bytes ∷ [])
 line_of (commands.Maps p) = line (codes "maps") (decimal p ∷ [])
 line_of (commands.Areas p) = line (codes "areas") (decimal p ∷ [])
+line_of (commands.Entry p address) = line (codes "entry") (decimal p ∷ hex address ∷ [])
 line_of commands.Stat = codes "stat"
 
 -- ---- reading: each command has the words that a reader finds, and then the line ends
@@ -98,6 +100,9 @@ read_at = whole read_words (λ x. commands.Read x.0.0 x.0.1 x.1)
 abbrev pub write_at : CommandReader
 write_at = whole write_words (λ x. commands.Write x.0.0 x.0.1 x.1)
 
+abbrev pub entry_of : CommandReader
+entry_of = whole entry_at (λ x. commands.Entry x.0 x.1)
+
 -- the commands, by name
 abbrev pub readers : List (List ℕ × CommandReader)
 readers =
@@ -110,6 +115,7 @@ readers =
     ∷ (codes "mprotect", mprotect_at)
     ∷ (codes "maps", whole process_at commands.Maps)
     ∷ (codes "areas", whole process_at commands.Areas)
+    ∷ (codes "entry", entry_of)
     ∷ (codes "stat", whole no_words (λ x. commands.Stat))
     ∷ []
 

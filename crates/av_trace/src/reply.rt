@@ -18,7 +18,7 @@ use std::alloc::AllocError;
 
 /// Why a command was refused, by the kernel's error numbers.
 ///
-/// `Eio`, `Efault` and `Ebusy` are declared ahead of the commands that give them: swap and reports.
+/// `Eio` and `Ebusy` are declared ahead of the commands that give them: swap.
 #[derive(Clone, Copy, Drop, Debug, PartialEq, Eq)]
 pub enum Errno {
     Eperm,
@@ -59,8 +59,8 @@ pub struct Totals {
 /// Where an access stops before its end, `served` counts the bytes before the stop, and `shown`
 /// are those of a read.
 ///
-/// Declared ahead of the commands that give them: `Bus`, `On` and `NoFrame` (swap), `Walk`,
-/// `NoWalk`, and those of entries and slots (reports).
+/// Declared ahead of the commands that give them: `Bus`, `On`, `NoFrame` and `EntrySlot` (swap),
+/// `Walk`, `NoWalk`, and those of slots (reports).
 #[derive(Drop)]
 pub enum Answer {
     Done,

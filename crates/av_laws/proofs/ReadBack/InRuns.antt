@@ -11,7 +11,7 @@ use Rattle.av_base.specs.declared.prot.Prot.{Prot}
 use Rattle.av_base.specs.declared.slot.Slot.{Slot}
 use Rattle.av_vma.specs.Gap.{IsGap}
 use Rattle.av_trace.specs.declared.command.Command.{Command}
-use Rattle.av_trace.specs.declared.command.Command.TheVariants.{Spawn, Exit, Mmap, Munmap, Mprotect, Read, Write, Maps, Areas as AsksAreas, Stat}
+use Rattle.av_trace.specs.declared.command.Command.TheVariants.{Spawn, Exit, Mmap, Munmap, Mprotect, Read, Write, Maps, Areas as AsksAreas, Entry as AsksEntry, Stat}
 use Rattle.av_trace.specs.declared.note.Cause.TheVariants.{NoSlot, Referenced, WriteStarted, Writeback}
 use Rattle.av_trace.specs.declared.note.Note.{Note}
 use Rattle.av_trace.specs.declared.note.Note.TheVariants.{Aged, Copied, Dropped, Failed, Kept, Loaded, Mapped, New, Put, Started, Unmapped, Written, Zeroed}
@@ -181,6 +181,7 @@ plain-legal m w l command reply es legal = by (refusal (tests m w l command)) le
     follows (Write p a bytes) q = plain-accesses m w l p _ es q.0 q.1
     follows (Maps p) q = none q.2
     follows (AsksAreas p) q = none q.2
+    follows (AsksEntry p a) q = none q.1
     follows Stat q = none q.1
 
     by : (o : Option Errno)
@@ -356,6 +357,7 @@ below-follows m w now l (Write p a bytes) es answer rows below none h = below-st
     (first_bytes answer bytes) below
 below-follows m w now l (Maps p) es answer rows below none h = below
 below-follows m w now l (AsksAreas p) es answer rows below none h = below
+below-follows m w now l (AsksEntry p a) es answer rows below none h = below
 below-follows m w now l Stat es answer rows below none h = below
 
 pub step-small : (m : Setting) (old new : State) (command : Command) (reply : Reply)

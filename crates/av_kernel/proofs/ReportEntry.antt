@@ -1,0 +1,57 @@
+-- The reply of `entry`.
+use Rattle.std.proofs.Common.{◌≡◌, ℕ, Bool, true, false, cond, not, [], Option, Some, None, is_some, refl, sym, ap, subst, ◌∙◌}
+use Rattle.std.specs.Prelude.{MatchOption}
+use Rattle.av_base.specs.Page.{page_of}
+use Rattle.av_trace.specs.declared.command.Command.TheVariants.{Entry as AsksEntry}
+use Rattle.av_trace.specs.declared.reply.Answer.{Answer}
+use Rattle.av_trace.specs.declared.reply.Errno.{Errno}
+use Rattle.av_trace.specs.declared.reply.Errno.TheVariants.{Efault, Esrch}
+use Rattle.av_spaces.specs.Spaces.{areas_of, pages_of}
+use Rattle.av_plain.specs.Ledger.{entry}
+use Rattle.av_plain.specs.Refusal.{Refuses, refusal, tests}
+use Rattle.av_plain.specs.Report.{entry_answer}
+use Rattle.av_plain.specs.Step.{Follows}
+use Rattle.av_plain.specs.Transcript.{State}
+use Rattle.av_plain.specs.World.{is_mapped, lives, pages}
+use Rattle.av_reclaim.specs.declared.mem.Mem.{Mem}
+use Rattle.av_reclaim.specs.Mem.{Keeps, count, setting}
+use Rattle.av_reclaim.proofs.MemLaws.{lives_is, mapped_is, taken_has}
+use Rattle.av_kernel.specs.Step.{MemSteps, answer_only}
+use Rattle.av_kernel.proofs.StepLaws.{areas_kept}
+
+-- ---- which pages are mapped
+
+-- a page is of an area exactly where it is mapped
+pub area_there : (k : Mem) (s : State) → Keeps k s → (p page : ℕ) → is_some (pages_of k.spaces.processes p page) ≡ is_mapped (pages s.world p) page
+area_there k s keeps p page = taken_has k.spaces.processes p page ∙ ap is_some (keeps.stands.parts.areas.covers p page) ∙ mapped_is (pages s.world p page)
+
+-- the two tests of a page
+abbrev by_tests : Bool → Bool → Option Errno
+by_tests alive mapped = cond (not alive) (Some Esrch) (cond (not mapped) (Some Efault) None)
+
+module _ (k : Mem) (s : State) (p a : ℕ) (keeps : Keeps k s) (alive : is_some (areas_of k.spaces.processes p) ≡ true) where
+  tests_are : (b : Bool) → is_some (pages_of k.spaces.processes p (page_of a)) ≡ b → by_tests (lives s.world p) (is_mapped (pages s.world p) (page_of a)) ≡ by_tests true b
+  tests_are b is = (λ i. by_tests ((sym (lives_is k s keeps p) ∙ alive) i) ((sym (area_there k s keeps p (page_of a)) ∙ is) i))
+
+  -- one that isn't is refused
+  pub unmapped_next : is_some (pages_of k.spaces.processes p (page_of a)) ≡ false → refusal (tests (setting (count k)) s.world s.ledger (AsksEntry p a)) ≡ Some Efault
+  unmapped_next none = tests_are false none
+
+  pub entry-steps : is_some (pages_of k.spaces.processes p (page_of a)) ≡ true → (answer : Answer) → answer ≡ entry_answer s.ledger (entry s.ledger (p, page_of a))
+      → MemSteps k k s (AsksEntry p a) (answer_only answer)
+  entry-steps mapped answer is = record {
+    next = s;
+    step = record {
+      events = [];
+      legal = record {
+        answer = subst (λ o. MatchOption o (Follows (setting (count k)) s.world s.ledger (AsksEntry p a) [] answer []) (λ e. Refuses e [] answer [])) (sym (tests_are true mapped)) (is, refl, refl);
+        notes = refl;
+      };
+      world = refl;
+      ledger = refl;
+      free = refl;
+      rmap = areas_kept k s (AsksEntry p a) answer keeps refl;
+      shows = tt;
+    };
+    keeps = keeps;
+  }
