@@ -26,11 +26,11 @@ pub area_there : (k : Mem) (s : State) → Keeps k s → (p page : ℕ) → is_s
 area_there k s keeps p page = taken_has k.spaces.processes p page ∙ ap is_some (keeps.stands.parts.areas.covers p page) ∙ mapped_is (pages s.world p page)
 
 -- the two tests of a page
-abbrev by_tests : Bool → Bool → Option Errno
+abbrev pub by_tests : Bool → Bool → Option Errno
 by_tests alive mapped = cond (not alive) (Some Esrch) (cond (not mapped) (Some Efault) None)
 
 module _ (k : Mem) (s : State) (p a : ℕ) (keeps : Keeps k s) (alive : is_some (areas_of k.spaces.processes p) ≡ true) where
-  tests_are : (b : Bool) → is_some (pages_of k.spaces.processes p (page_of a)) ≡ b → by_tests (lives s.world p) (is_mapped (pages s.world p) (page_of a)) ≡ by_tests true b
+  pub tests_are : (b : Bool) → is_some (pages_of k.spaces.processes p (page_of a)) ≡ b → by_tests (lives s.world p) (is_mapped (pages s.world p) (page_of a)) ≡ by_tests true b
   tests_are b is = (λ i. by_tests ((sym (lives_is k s keeps p) ∙ alive) i) ((sym (area_there k s keeps p (page_of a)) ∙ is) i))
 
   -- one that isn't is refused

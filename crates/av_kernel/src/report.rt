@@ -1,15 +1,17 @@
-//! Reports: `maps`, `areas`, `entry` and `stat`. They change nothing.
+//! Reports: `maps`, `areas`, `rmap`, `entry` and `stat`. They change nothing.
 
-ghost use Rattle.std.specs.Prelude.{◌≡◌, ℕ, true, false, is_some, map, MatchResult, Some, Ok, IfOk};
+ghost use Rattle.std.specs.Prelude.{◌≡◌, ℕ, ◌<◌, true, false, is_some, map, MatchResult, Some, Ok, IfOk};
+ghost use Rattle.std.specs.List.{AllByRecursion};
+ghost use Rattle.av_base.specs.Limits.{top_page};
 ghost use Rattle.av_spaces.specs.Kin.{AnonsFit};
 ghost use Rattle.av_spaces.specs.Spaces.{AreRising, areas_of, pages_of};
 ghost use Rattle.av_vma.specs.Join.{first_of};
-ghost use Rattle.av_plain.specs.Ledger.{entry as entry_of};
-ghost use Rattle.av_plain.specs.Report.{area_row as row_of_area, entry_answer as answer_of_entry, range_of};
+ghost use Rattle.av_plain.specs.Ledger.{entry as entry_of, walk as walk_of};
+ghost use Rattle.av_plain.specs.Report.{area_row as row_of_area, entry_answer as answer_of_entry, key_row, range_of};
 ghost use Rattle.av_plain.specs.Transcript.{State};
-ghost use Rattle.av_reclaim.specs.Mem.{IsSteady, Keeps, view};
+ghost use Rattle.av_reclaim.specs.Mem.{IsSteady, Keeps, count, view};
 ghost use Rattle.av_kernel.specs.Step.{Does};
-ghost use Rattle.av_kernel.specs.Report.{AreRuns};
+ghost use Rattle.av_kernel.specs.Report.{AreRuns, shown_walk};
 ghost use Rattle.av_kernel.specs.declared.refusal.Refusal.TheVariants as refusals;
 ghost use Rattle.av_trace.specs.declared.command.Command.TheVariants as commands;
 ghost use Rattle.av_trace.specs.declared.reply.Errno.TheVariants as errors;
@@ -18,12 +20,15 @@ ghost use Rattle.av_trace.specs.declared.row.Row.TheVariants as row;
 use crate::process::check_lives;
 use crate::refusal::Refusal;
 use crate::step::answer_only;
-use av_base::PAGE_SIZE;
+use av_base::{PAGE_SIZE, Steps};
 use av_pagetable::Pte;
 use av_reclaim::Mem;
+use av_reclaim::walk::walk;
 use av_trace::{Answer, Chain, Errno, Notes, Reply, Row, Rows, Totals};
 use av_vma::Area;
 use std::alloc::{AllocError, Global};
+use std::marker::Brand;
+use std::sync::ledger::{Blank, Ledger};
 
 /// Does a `maps`: the longest runs of mapped pages with one protection, rising.
 pub fn maps(mem: &Mem, alloc: Global, process: u16) -> Result<Reply, Refusal>
@@ -53,6 +58,20 @@ pub fn areas(mem: &Mem, alloc: Global, process: u16) -> Result<Reply, Refusal>
         notes: Notes::new(alloc),
         rows,
     })
+}
+
+/// Does an `rmap`: the walk of the frame that the entry of a page names.
+pub fn rmap(mem: &Mem, alloc: Global, process: u16, address: u64) -> Result<Reply, Refusal>
+    requires { IsSteady mem.now }
+    ensures { Does mem.now mem.now (commands.Rmap process address) result }
+{
+    check_lives(mem, process)?;
+    let page = address / PAGE_SIZE;
+    check_mapped(mem, process, page)?;
+    match mem.tables.get(process, page) {
+        Pte::Here { frame, .. } => Ok(walk_reply(mem, alloc, frame)?),
+        Pte::Empty | Pte::Zero | Pte::Away { .. } => Ok(answer_only(alloc, Answer::NoWalk)),
+    }
 }
 
 /// Does an `entry`: what the entry of a page is.
@@ -191,4 +210,74 @@ fn entry_answer(mem: &Mem, process: u16, page: u64) -> Answer
         },
         Pte::Away { slot } => Answer::EntrySlot { slot, cached: None },
     }
+}
+
+/// The reply that shows the walk of a frame.
+fn walk_reply(mem: &Mem, alloc: Global, frame: u32) -> Result<Reply, AllocError>
+    requires steady { IsSteady mem.now }
+    requires in_range { frame < count mem.now }
+    ensures { (s : State) → Keeps mem.now s
+        → IfOk result (λ reply. reply ≡ shown_walk frame (walk_of s.ledger frame)) }
+{
+    let keys = keys_of(mem, alloc, frame, Blank::new(1))?;
+    let rows = key_rows(alloc, &keys)?;
+    Ok(Reply {
+        answer: Answer::Walk {
+            frame,
+            maps: rows.as_slice().len() as u64,
+        },
+        notes: Notes::new(alloc),
+        rows,
+    })
+}
+
+/// Process and page of each entry of a frame, its walk counted by a ledger of its own.
+fn keys_of(
+    mem: &Mem,
+    alloc: Global,
+    frame: u32,
+    blank: Blank,
+) -> Result<Vec<(u16, u64)>, AllocError>
+    requires steady { IsSteady mem.now }
+    requires in_range { frame < count mem.now }
+    requires some { 0 < blank.parts }
+    ensures keys { (s : State) → Keeps mem.now s
+        → IfOk result (λ keys. keys.items ≡ walk_of s.ledger frame) }
+    ensures below { IfOk result (λ keys. AllByRecursion (λ key. key.1 < top_page) keys.items) }
+{
+    keys_by::<Brand>(mem, alloc, frame, blank)
+}
+
+fn keys_by<L: Ledger>(
+    mem: &Mem,
+    alloc: Global,
+    frame: u32,
+    blank: Blank,
+) -> Result<Vec<(u16, u64)>, AllocError>
+    requires steady { IsSteady mem.now }
+    requires in_range { frame < count mem.now }
+    requires name { blank.name ≡ L.name }
+    requires parts { blank.parts ≡ L.parts }
+    requires some { 0 < blank.parts }
+    ensures keys { (s : State) → Keeps mem.now s
+        → IfOk result (λ keys. keys.items ≡ walk_of s.ledger frame) }
+    ensures below { IfOk result (λ keys. AllByRecursion (λ key. key.1 < top_page) keys.items) }
+{
+    let mut steps = Steps::<L>::open(blank);
+    walk(mem, alloc, frame, &mut steps)
+}
+
+/// The rows of entries by process and page.
+fn key_rows(alloc: Global, keys: &[(u16, u64)]) -> Result<Rows, AllocError>
+    requires { AllByRecursion (λ key. key.1 < top_page) keys.now }
+    ensures { IfOk result (λ rows. rows ≡ map key_row keys.now) }
+{
+    let mut rows = Rows::new(alloc);
+    for key in keys {
+        rows.push(Row::Entry {
+            process: key.0,
+            address: key.1 * PAGE_SIZE,
+        })?;
+    }
+    Ok(rows)
 }

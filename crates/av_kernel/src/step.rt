@@ -10,7 +10,7 @@ use crate::access::{read, write};
 use crate::map::{mmap, mprotect, munmap};
 use crate::process::{exit, spawn};
 use crate::refusal::Refusal;
-use crate::report::{areas, entry, maps, stat};
+use crate::report::{areas, entry, maps, rmap, stat};
 use av_reclaim::Mem;
 use av_trace::{Answer, Command, Notes, Reply, Rows};
 use std::alloc::{AllocError, Global};
@@ -78,6 +78,7 @@ fn dispatch(mem: &mut Mem, alloc: Global, command: &Command) -> Result<Reply, Re
         } => write(mem, alloc, *process, *address, bytes.as_slice()),
         Command::Maps { process } => maps(mem, alloc, *process),
         Command::Areas { process } => areas(mem, alloc, *process),
+        Command::Rmap { process, address } => rmap(mem, alloc, *process, *address),
         Command::Entry { process, address } => entry(mem, alloc, *process, *address),
         Command::Stat => Ok(stat(mem, alloc)),
     }

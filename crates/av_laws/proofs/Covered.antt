@@ -11,7 +11,7 @@ use Rattle.av_base.specs.Words.{with_at, within}
 use Rattle.av_base.specs.declared.prot.Prot.{Prot}
 use Rattle.av_base.specs.declared.slot.Slot.{Slot}
 use Rattle.av_trace.specs.declared.command.Command.{Command}
-use Rattle.av_trace.specs.declared.command.Command.TheVariants.{Spawn, Exit, Mmap, Munmap, Mprotect, Read, Write, Maps, Areas as AsksAreas, Entry as AsksEntry, Stat}
+use Rattle.av_trace.specs.declared.command.Command.TheVariants.{Spawn, Exit, Mmap, Munmap, Mprotect, Read, Write, Maps, Areas as AsksAreas, Rmap as AsksRmap, Entry as AsksEntry, Stat}
 use Rattle.av_trace.specs.declared.place.Place.{Place}
 use Rattle.av_trace.specs.declared.place.Place.TheVariants.{Auto, At, Fixed, NoReplace}
 use Rattle.av_trace.specs.declared.reply.Answer.{Answer}
@@ -528,6 +528,7 @@ covers-follows m w now l long on (Read p a n) es answer rows same c none h = c
 covers-follows m w now l long on (Write p a bytes) es answer rows same c none h = covers_stored now on p a (first_bytes answer bytes) c
 covers-follows m w now l long on (Maps p) es answer rows same c none h = c
 covers-follows m w now l long on (AsksAreas p) es answer rows same c none h = c
+covers-follows m w now l long on (AsksRmap p a) es answer rows same c none h = c
 covers-follows m w now l long on (AsksEntry p a) es answer rows same c none h = c
 covers-follows m w now l long on Stat es answer rows same c none h = c
 

@@ -3,7 +3,7 @@ use Rattle.std.proofs.Common.{◌≡◌, ◌⊎◌, inl, inr, ℕ, zero, suc, �
 use Rattle.std.proofs.lemmas.Bool.Decides.{nat_tests}
 use Rattle.std.specs.Prelude.{IfSome, MatchOption}
 use Rattle.av_trace.specs.declared.command.Command.{Command}
-use Rattle.av_trace.specs.declared.command.Command.TheVariants.{Spawn, Exit, Mmap, Munmap, Mprotect, Read, Write, Maps, Areas as AsksAreas, Entry as AsksEntry, Stat}
+use Rattle.av_trace.specs.declared.command.Command.TheVariants.{Spawn, Exit, Mmap, Munmap, Mprotect, Read, Write, Maps, Areas as AsksAreas, Rmap, Entry as AsksEntry, Stat}
 use Rattle.av_trace.specs.declared.reply.Errno.{Errno}
 use Rattle.av_trace.specs.declared.reply.Errno.TheVariants.{Enomem}
 use Rattle.av_trace.specs.declared.reply.Reply.{Reply}
@@ -22,7 +22,7 @@ use Rattle.av_plain.specs.Ledger.{Entry, InFrame, InSlot, Key, Ledger, Setting, 
 use Rattle.av_plain.specs.Pass.{out_of}
 use Rattle.av_plain.specs.Place.{IsMapAt}
 use Rattle.av_plain.specs.Refusal.{Refuses, low, refusal, tests}
-use Rattle.av_plain.specs.Report.{entry_answer}
+use Rattle.av_plain.specs.Report.{entry_answer, walk_answer}
 use Rattle.av_plain.specs.Sound.{AllSound, IsSound}
 use Rattle.av_plain.specs.Step.{Follows, IsLegal}
 use Rattle.av_plain.specs.World.{World, pages, pages_to_hole}
@@ -150,6 +150,12 @@ write-adds : (m : Setting) (a : ℕ) (end : End) → EndAdds m end → AnswerAdd
 write-adds m a Whole adds = tt
 write-adds m a (Stopped page stop) adds = stop-adds m stop (bytes_before a page) [] adds
 
+walk-adds : (m : Setting) (l : Ledger) (e : Option Entry) → AnswerAdds m (walk_answer l e)
+walk-adds m l None = tt
+walk-adds m l (Some Zero) = tt
+walk-adds m l (Some (InFrame f seen)) = tt
+walk-adds m l (Some (InSlot s)) = tt
+
 entry-adds : (m : Setting) (l : Ledger) (e : Option Entry) → AnswerAdds m (entry_answer l e)
 entry-adds m l None = tt
 entry-adds m l (Some Zero) = tt
@@ -174,6 +180,7 @@ follows-add m w l (Read p a n) events answer rows s h = subst (AnswerAdds m) (sy
 follows-add m w l (Write p a bytes) events answer rows s h = subst (AnswerAdds m) (sym h.2) (write-adds m a h.0 (accesses-add m w l p (pages_of_access true a (length bytes)) events h.0 s h.1))
 follows-add m w l (Maps p) events answer rows s h = subst (AnswerAdds m) (sym h.0) tt
 follows-add m w l (AsksAreas p) events answer rows s h = subst (AnswerAdds m) (sym h.0) tt
+follows-add m w l (Rmap p a) events answer rows s h = subst (AnswerAdds m) (sym h.0) (walk-adds m l (entry l (p, page_of a)))
 follows-add m w l (AsksEntry p a) events answer rows s h = subst (AnswerAdds m) (sym h.0) (entry-adds m l (entry l (p, page_of a)))
 follows-add m w l Stat events answer rows s h = subst (AnswerAdds m) (sym h.0) tt
 

@@ -11,7 +11,7 @@ use Rattle.av_base.specs.Page.{address_of, page_of, pages_of, page_size, place_i
 use Rattle.av_base.specs.Words.{numbers}
 use Rattle.av_vma.specs.Gap.{IsGap}
 use Rattle.av_trace.specs.declared.command.Command.{Command}
-use Rattle.av_trace.specs.declared.command.Command.TheVariants.{Spawn, Exit, Mmap, Munmap, Mprotect, Read, Write, Maps, Areas as AsksAreas, Entry as AsksEntry, Stat}
+use Rattle.av_trace.specs.declared.command.Command.TheVariants.{Spawn, Exit, Mmap, Munmap, Mprotect, Read, Write, Maps, Areas as AsksAreas, Rmap, Entry as AsksEntry, Stat}
 use Rattle.av_trace.specs.declared.note.Note.{Note}
 use Rattle.av_trace.specs.declared.note.Note.TheVariants.{Aged, Copied, Dropped, Failed, Kept, Loaded, Mapped, New, Put, Started, Unmapped, Written, Zeroed}
 use Rattle.av_trace.specs.declared.place.Place.{Place}
@@ -29,21 +29,24 @@ use Rattle.av_trace.specs.Note.{IsNote, IsSlot}
 use Rattle.av_trace.specs.Number.{IsWide}
 use Rattle.av_trace.specs.Place.{IsPlace}
 use Rattle.av_trace.specs.Reply.{AreCauses, Follow, IfThere, IsAnswer, IsReply}
-use Rattle.av_trace.specs.Row.{IsAreaRow, IsRun}
+use Rattle.av_trace.specs.Row.{IsAreaRow, IsEntry, IsRun}
 use Rattle.av_plain.specs.World.{Page, Process, World, is_mapped, pages, pages_to_hole}
-use Rattle.av_plain.specs.Ledger.{Entry, InFrame, InSlot, Key, Ledger, Setting, SwapArea, Zero, entry, free_frames, free_slots, map_count, names_frame, names_slot, slot_entries}
+use Rattle.av_plain.specs.Ledger.{Entry, InFrame, InSlot, Key, Ledger, Setting, SwapArea, Zero, entry, free_frames, free_slots, map_count, names_frame, names_slot, slot_entries, walk}
 use Rattle.av_plain.specs.Event.{Event, after_all, notes_of}
 use Rattle.av_plain.specs.Access.{Accesses, End, Stopped, Whole, bytes_before, page_events, pages_of_access, read_answer, stop_answer, write_answer}
 use Rattle.av_plain.specs.Fault.{Denied, Lost, Starved, Stop}
 use Rattle.av_plain.specs.Map.{zaps_for_place}
 use Rattle.av_plain.specs.Place.{Goes, IsMapAt, is_room}
 use Rattle.av_plain.specs.Refusal.{Refuses, refusal, tests}
-use Rattle.av_plain.specs.Report.{AreApart, AreLongest, Cover, Range, entry_answer, prot_in, row_of, run_of, totals}
+use Rattle.av_plain.specs.Report.{AreApart, AreLongest, Cover, Range, entry_answer, key_row, prot_in, row_of, run_of, totals, walk_answer, walk_rows}
 use Rattle.av_plain.specs.Sound.{AllSound, IsSound}
 use Rattle.av_plain.specs.Step.{Follows, IsLegal}
 use Rattle.av_plain.specs.Zap.{keys_in, keys_of_process, zaps_of}
 use Rattle.av_plain.proofs.Ledger.{how_many-found}
 use Rattle.av_plain.proofs.Ledger.NoSwap.{itself, no_slot}
+use Rattle.av_plain.proofs.Ledger.Walk.{all-walked, length-walk}
+use Rattle.av_plain.proofs.Sound.Bound.{map_count-few}
+use Rattle.std.proofs.lemmas.List.{length-map}
 use Rattle.av_plain.proofs.Report.Totals.{frames-add}
 use Rattle.av_plain.proofs.Sound.Counts.{slot-itself}
 use Rattle.av_plain.specs.Device.{HasNoDevice}
@@ -247,6 +250,30 @@ pub asked-wide : (command : Command) (rows : List Row) → AllByRecursion IsWide
 asked-wide (AsksAreas p) rows h = h
 asked-wide command rows h = tt
 
+-- ---- walks
+
+-- each row of a walk is of a process and a page that are mapped
+keys-fit : (ks : List Key) → AllByRecursion (λ (k : Key). IsWide k.0 × (k.1 < top_page)) ks → AllByRecursion IsEntry (map key_row ks)
+keys-fit [] h = tt
+keys-fit (k ∷ ks) h = let below = h.0.1 in ((h.0.0, wide-page k.1 (omega (arith, below))), keys-fit ks h.1)
+
+walk-fits : (m : Setting) (w : World) (l : Ledger) (k : Key) → AllSound m w l → IsSmall m w l → (e : Option Entry) → entry l k ≡ e → Fits [] (walk_answer l e) (walk_rows l e)
+walk-fits m w l k s small None is = (tt, (tt, refl))
+walk-fits m w l k s small (Some Zero) is = (tt, (tt, refl))
+walk-fits m w l k s small (Some (InFrame f seen)) is =
+    let some : 0 < map_count l f = how_many-found (names_frame f) k l.entries (InFrame f seen) is (itself f) in
+    let few = map_count-few m w l f s in
+    let long = length-walk l f in (
+      (wide-frame m f small.frames (s.ledger.in_range f (omega (arith, some))), omega (arith, few, long)),
+      (
+        refl,
+        sym (length-map (walk l f) key_row),
+        keys-fit (walk l f) (all-walked (λ q. IsWide q.0 × (q.1 < top_page)) l f s.ledger.in_order
+            (λ q there. let mapped = s.at_pages q.0 q.1 there in (small.processes q.0 q.1 mapped, small.below q.0 q.1 mapped))),
+      ),
+    )
+walk-fits m w l k s small (Some (InSlot t)) is = (tt, (tt, refl))
+
 -- ---- entries
 
 -- without a device no entry is a slot, and no frame is cached
@@ -303,6 +330,9 @@ follows-fit m w l (AsksAreas p) events answer rows none s small fit out wide h =
     let rest = areas-wide ranges rows h.1.1 (runs-wide ranges h.1.2 high) wide in
     fits-by events [] answer (AreaList (length rows)) rows rows h.2 h.0 refl
     (subst IsWide (sym rest.0) (few-rows ranges h.1.2 high), (refl, refl, rest.1))
+follows-fit m w l (Rmap p a) events answer rows none s small fit out wide h =
+    let e = entry l (p, page_of a) in
+    fits-by events [] answer (walk_answer l e) rows (walk_rows l e) h.1 h.0 h.2 (walk-fits m w l (p, page_of a) s small e refl)
 follows-fit m w l (AsksEntry p a) events answer rows none s small fit out wide h =
     fits-by events [] answer (entry_answer l (entry l (p, page_of a))) rows [] h.1 h.0 h.2 (entry-fits m l (p, page_of a) none s.ledger (no-slots m l none (in-areas m w l s)) small.frames (entry l (p, page_of a)) refl)
 follows-fit m w l Stat events answer rows none s small fit out wide h = fits-by events [] answer (Counted (totals m w l)) rows [] h.1 h.0 h.2 (

@@ -24,6 +24,8 @@
 --     exit_drops, exit_in_writeback, exit_paged_out, exit, exit_again
 --   the runs of `maps` (`AreMaps`): exit_frees, two_runs, protected_part, past_a_hole, split_run,
 --     joined_runs, run_left_out, run_too_long, falling_runs, part_of_page
+--   the walk of `rmap` (`walk_answer`, `walk_rows`, `key_row`): walk_of_two, walk_of_one, no_walk,
+--     other_left_out, falling_walk, own_left_out, slot_walked, within_page, walked_though_unmapped
 --   the entry of `entry` (`entry_answer`, `no_page`): entries_shown, old_frame, cached_frame,
 --     cached_slot, slot_alone, empty_though_unmapped, fault_without_process, seen_though_old,
 --     slot_left_out, other_slot, frame_left_out, slot_as_frame, frame_though_alone, shown_with_row
@@ -101,6 +103,10 @@ reports command answer rows = record {
   command = command;
   reply = record { answer = answer; notes = []; rows = rows };
 }
+
+-- a reply with these rows
+abbrev pub with_rows_of : Answer → List Row → Reply
+with_rows_of answer rows = record { answer = answer; notes = []; rows = rows }
 
 -- the numbers of `stat` without swap: frames, free ones, active and inactive ones, and processes
 abbrev pub numbers_of : ℕ → ℕ → ℕ → ℕ → ℕ → Totals

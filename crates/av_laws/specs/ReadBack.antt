@@ -12,6 +12,7 @@ use Rattle.av_plain.specs.Ledger.{Ledger, Setting}
 pub record IsSmall (m : Setting) (w : World) (l : Ledger) : Type 0 where
   pub frames : IsWide m.frames
   pub below : (p page : ℕ) → is_some (pages w p page) ≡ true → page < top_page
+  pub processes : (p page : ℕ) → is_some (pages w p page) ≡ true → IsWide p
   pub off : l.on ≡ []
 
 -- what the row of an area says beside its pages is of 64 bits; a legal reply may say anything there

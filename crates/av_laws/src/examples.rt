@@ -11,6 +11,7 @@ ghost use Rattle.av_trace.specs.declared.command.Command.TheVariants.{
   Read,
   Write,
   Maps,
+  Rmap,
   Entry as AsksEntry,
   Stat,
 };
@@ -42,6 +43,8 @@ ghost use Rattle.av_trace.specs.declared.reply.Answer.TheVariants.{
   EntryEmpty,
   EntryFrame,
   EntrySlot,
+  Walk,
+  NoWalk,
   Counted,
 };
 ghost use Rattle.av_plain.specs.Ledger.{InFrame, first_ledger};
@@ -130,6 +133,8 @@ ghost use Rattle.av_laws.specs.Examples.{
   part_of_page,
   entries_shown,
   has_entry,
+  reports,
+  with_rows_of,
 };
 
 /// Runs from nothing on.
@@ -313,8 +318,8 @@ pub fn changed_ranges_are_refused()
         (reply_with (MapAt 0x7fffffffe000) []) page_anew }
 {}
 
-/// `entry` shows what a page's entry is: none, the zero page, a frame, seen or old, with the slot at
-/// which it is cached, or a slot, with the frame that caches it.
+/// `entry` shows what a page's entry is: none, the zero page, a frame, seen or old, with the slot
+/// at which it is cached, or a slot, with the frame that caches it.
 pub fn entries_are_shown()
     ensures entries_shown { Allows (machine 4) state_at_rest entries_shown }
     ensures old_frame { Allows (machine 4) (after_fork (1 ∷ 2 ∷ 3 ∷ []))
@@ -351,4 +356,36 @@ pub fn changed_entries_are_refused()
         (reply_with (EntrySlot (slot 1) (Some 0)) []) }
     ensures shown_with_row { Forbids (machine 4) state_at_rest (AsksEntry 1 0x7fffffffe000)
         (record { answer = EntryEmpty; notes = []; rows = Entry 1 0x7fffffffe000 ∷ [] }) }
+{}
+
+/// `rmap` shows process and page of each entry of the frame of a page's entry, rising, and `none`
+/// where the entry is none or a slot.
+pub fn walks_are_shown()
+    ensures walk_of_two { Allows (machine 4) (after_fork (1 ∷ 2 ∷ 3 ∷ []))
+        (reports (Rmap 2 0x7fffffffe123) (Walk 0 2)
+        (Entry 1 0x7fffffffe000 ∷ Entry 2 0x7fffffffe000 ∷ []) ∷ []) }
+    ensures walk_of_one { Allows (with_swap 4 8 7) in_swap_cache
+        (reports (Rmap 1 0x7fffffffe000) (Walk 0 1) (Entry 1 0x7fffffffe000 ∷ []) ∷ []) }
+    ensures no_walk { Allows (with_swap 4 8 7) in_writeback
+        (reports (Rmap 1 0x7fffffffe000) NoWalk [] ∷ []) }
+{}
+
+/// And nothing else: an entry left out, the one asked of or another; entries that fall; a slot's
+/// frame, though it is cached; an address within a page; a page that isn't mapped.
+pub fn changed_walks_are_refused()
+    ensures other_left_out { Forbids (machine 4) (after_fork (1 ∷ 2 ∷ 3 ∷ []))
+        (Rmap 2 0x7fffffffe000)
+        (with_rows_of (Walk 0 1) (Entry 2 0x7fffffffe000 ∷ [])) }
+    ensures own_left_out { Forbids (machine 4) (after_fork (1 ∷ 2 ∷ 3 ∷ []))
+        (Rmap 2 0x7fffffffe000)
+        (with_rows_of (Walk 0 2) (Entry 1 0x7fffffffe000 ∷ [])) }
+    ensures falling_walk { Forbids (machine 4) (after_fork (1 ∷ 2 ∷ 3 ∷ []))
+        (Rmap 2 0x7fffffffe000)
+        (with_rows_of (Walk 0 2) (Entry 2 0x7fffffffe000 ∷ Entry 1 0x7fffffffe000 ∷ [])) }
+    ensures slot_walked { Forbids (with_swap 4 8 7) in_writeback (Rmap 1 0x7fffffffe000)
+        (with_rows_of (Walk 0 0) []) }
+    ensures within_page { Forbids (with_swap 4 8 7) in_swap_cache (Rmap 1 0x7fffffffe123)
+        (with_rows_of (Walk 0 1) (Entry 1 0x7fffffffe123 ∷ [])) }
+    ensures walked_though_unmapped { Forbids (machine 4) state_at_rest (Rmap 1 0x7fffffffd000)
+        (with_rows_of NoWalk []) }
 {}

@@ -4,7 +4,7 @@ use Rattle.std.proofs.lemmas.Bool.Decides.{nat_tests}
 use Rattle.std.specs.Prelude.{MatchBool, MatchOption}
 use Rattle.std.specs.FinMap.Entries.{is_sorted}
 use Rattle.av_trace.specs.declared.command.Command.{Command}
-use Rattle.av_trace.specs.declared.command.Command.TheVariants.{Spawn, Exit, Mmap, Munmap, Mprotect, Read, Write, Maps, Areas as AsksAreas, Entry as AsksEntry, Stat}
+use Rattle.av_trace.specs.declared.command.Command.TheVariants.{Spawn, Exit, Mmap, Munmap, Mprotect, Read, Write, Maps, Areas as AsksAreas, Rmap, Entry as AsksEntry, Stat}
 use Rattle.av_trace.specs.declared.place.Place.TheVariants.{Auto, At, Fixed, NoReplace}
 use Rattle.av_trace.specs.declared.reply.Errno.{Errno}
 use Rattle.av_trace.specs.declared.reply.Reply.{Reply}
@@ -486,6 +486,7 @@ legal-lists m w l command reply es free free' s legal c h = by (refusal (tests m
     follows (Write p a bytes) q = accesses-lists m w l p (pages_of_access true a (length bytes)) es q.0 free free' s q.1 c h
     follows (Maps p) q = none q.2
     follows (AsksAreas p) q = none q.2
+    follows (Rmap p a) q = none q.1
     follows (AsksEntry p a) q = none q.1
     follows Stat q = none q.1
 

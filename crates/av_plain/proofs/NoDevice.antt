@@ -26,7 +26,7 @@ use Rattle.std.specs.FinMap.Entries.{is_sorted}
 use Rattle.std.specs.Prelude.{if◌then◌else◌, length, T}
 use Rattle.av_base.specs.Page.{page_of, pages_of}
 use Rattle.av_trace.specs.declared.command.Command.{Command}
-use Rattle.av_trace.specs.declared.command.Command.TheVariants.{Spawn, Exit, Mmap, Munmap, Mprotect, Read, Write, Maps, Areas as AsksAreas, Entry as AsksEntry, Stat}
+use Rattle.av_trace.specs.declared.command.Command.TheVariants.{Spawn, Exit, Mmap, Munmap, Mprotect, Read, Write, Maps, Areas as AsksAreas, Rmap, Entry as AsksEntry, Stat}
 use Rattle.av_trace.specs.declared.place.Place.{Place}
 use Rattle.av_trace.specs.declared.place.Place.TheVariants.{Auto, At, Fixed, NoReplace}
 use Rattle.av_trace.specs.declared.reply.Errno.{Errno}
@@ -42,7 +42,7 @@ use Rattle.av_plain.specs.Map.{zaps_for_place}
 use Rattle.av_plain.specs.Pass.{fails, how_many_others, is_fail}
 use Rattle.av_plain.specs.Place.{IsMapAt}
 use Rattle.av_plain.specs.Refusal.{Refuses, Tests, refusal, tests}
-use Rattle.av_plain.specs.Report.{entry_answer}
+use Rattle.av_plain.specs.Report.{entry_answer, walk_answer}
 use Rattle.av_plain.specs.Sound.{AllSound}
 use Rattle.av_plain.specs.Step.{Follows, IsLegal, causes, failed_frames, fault_answers}
 use Rattle.av_plain.specs.World.{pages_to_hole}
@@ -442,6 +442,12 @@ write-faultless : (a : ℕ) (end : End) → Ends end → IsFaultless (write_answ
 write-faultless a Whole h = record { told = refl; failed = refl }
 write-faultless a (Stopped page stop) h = stop-faultless stop (bytes_before a page) [] h
 
+walk-faultless : (l : Ledger) (e : Option Entry) → IsFaultless (walk_answer l e)
+walk-faultless l None = record { told = refl; failed = refl }
+walk-faultless l (Some Zero) = record { told = refl; failed = refl }
+walk-faultless l (Some (InFrame f seen)) = record { told = refl; failed = refl }
+walk-faultless l (Some (InSlot s)) = record { told = refl; failed = refl }
+
 entry-faultless : (l : Ledger) (e : Option Entry) → IsFaultless (entry_answer l e)
 entry-faultless l None = record { told = refl; failed = refl }
 entry-faultless l (Some Zero) = record { told = refl; failed = refl }
@@ -476,6 +482,7 @@ follows-faultless m w l (Write p a bytes) events answer rows none s h =
     record { notes = no-fails (notes_of events) plain.notes; answered = is-faultless answer _ h.2 (write-faultless a h.0 plain.ends) }
 follows-faultless m w l (Maps p) events answer rows none s h = record { notes = ap (λ es. fails (notes_of es)) h.2; answered = is-faultless answer _ h.0 (record { told = refl; failed = refl }) }
 follows-faultless m w l (AsksAreas p) events answer rows none s h = record { notes = ap (λ es. fails (notes_of es)) h.2; answered = is-faultless answer _ h.0 (record { told = refl; failed = refl }) }
+follows-faultless m w l (Rmap p a) events answer rows none s h = record { notes = ap (λ es. fails (notes_of es)) h.1; answered = is-faultless answer _ h.0 (walk-faultless l (entry l (p, page_of a))) }
 follows-faultless m w l (AsksEntry p a) events answer rows none s h = record { notes = ap (λ es. fails (notes_of es)) h.1; answered = is-faultless answer _ h.0 (entry-faultless l (entry l (p, page_of a))) }
 follows-faultless m w l Stat events answer rows none s h = record { notes = ap (λ es. fails (notes_of es)) h.1; answered = is-faultless answer _ h.0 (record { told = refl; failed = refl }) }
 
@@ -504,6 +511,7 @@ tests-mild m w l (Read p a n) = (refl, tt)
 tests-mild m w l (Write p a bytes) = (refl, tt)
 tests-mild m w l (Maps p) = (refl, tt)
 tests-mild m w l (AsksAreas p) = (refl, tt)
+tests-mild m w l (Rmap p a) = (refl, (refl, tt))
 tests-mild m w l (AsksEntry p a) = (refl, (refl, tt))
 tests-mild m w l Stat = tt
 

@@ -3,7 +3,7 @@ use Rattle.std.proofs.Common.{◌≡◌, ◌⊎◌, inl, inr, ℕ, ◌<◌, ◌�
 use Rattle.std.proofs.lemmas.Bool.Decides.{nat_tests}
 use Rattle.std.specs.Prelude.{MatchOption}
 use Rattle.av_trace.specs.declared.command.Command.{Command}
-use Rattle.av_trace.specs.declared.command.Command.TheVariants.{Spawn, Exit, Mmap, Munmap, Mprotect, Read, Write, Maps, Areas as AsksAreas, Entry as AsksEntry, Stat}
+use Rattle.av_trace.specs.declared.command.Command.TheVariants.{Spawn, Exit, Mmap, Munmap, Mprotect, Read, Write, Maps, Areas as AsksAreas, Rmap, Entry as AsksEntry, Stat}
 use Rattle.av_trace.specs.declared.place.Place.{Place}
 use Rattle.av_trace.specs.declared.place.Place.TheVariants.{Auto, At, Fixed, NoReplace}
 use Rattle.av_trace.specs.declared.reply.Errno.{Errno}
@@ -25,7 +25,7 @@ use Rattle.av_plain.specs.Load.{with_loads}
 use Rattle.av_plain.specs.Map.{StopsAtHole, with_prot_to_hole, zaps_for_place}
 use Rattle.av_plain.specs.Place.{Goes, IsMapAt}
 use Rattle.av_plain.specs.Refusal.{Refuses, is_mprotect, refusal, tests, wraps}
-use Rattle.av_plain.specs.Report.{entry_answer}
+use Rattle.av_plain.specs.Report.{entry_answer, walk_answer}
 use Rattle.av_plain.specs.Step.{Follows, IsLegal, next, next_world}
 use Rattle.av_plain.specs.World.{Process, World, lives, pages, pages_to_hole}
 use Rattle.av_plain.proofs.World.Ranges.{pages_to_hole-most}
@@ -63,6 +63,7 @@ refused-next m w now l (Read p a n) error is = refl
 refused-next m w now l (Write p a bytes) error is = refl
 refused-next m w now l (Maps p) error is = refl
 refused-next m w now l (AsksAreas p) error is = refl
+refused-next m w now l (Rmap p a) error is = refl
 refused-next m w now l (AsksEntry p a) error is = refl
 refused-next m w now l Stat error is = refl
 
@@ -85,6 +86,7 @@ refused-areas m w l long on (Read p a n) error is = refl
 refused-areas m w l long on (Write p a bytes) error is = refl
 refused-areas m w l long on (Maps p) error is = refl
 refused-areas m w l long on (AsksAreas p) error is = refl
+refused-areas m w l long on (Rmap p a) error is = refl
 refused-areas m w l long on (AsksEntry p a) error is = refl
 refused-areas m w l long on Stat error is = refl
 
@@ -106,6 +108,12 @@ read-refused a (Stopped page stop) shown error h = stops-refused stop (bytes_bef
 write-refused : (a : ℕ) (end : End) (error : Errno) → Refused error ≡ write_answer a end → ⊥
 write-refused a Whole error h = cc
 write-refused a (Stopped page stop) error h = stops-refused stop (bytes_before a page) [] error h
+
+walk-refused : (l : Ledger) (e : Option Entry) (error : Errno) → Refused error ≡ walk_answer l e → ⊥
+walk-refused l None error h = cc
+walk-refused l (Some Zero) error h = cc
+walk-refused l (Some (InFrame f seen)) error h = cc
+walk-refused l (Some (InSlot s)) error h = cc
 
 entry-refused : (l : Ledger) (e : Option Entry) (error : Errno) → Refused error ≡ entry_answer l e → ⊥
 entry-refused l None error h = cc
@@ -136,6 +144,7 @@ follows-refused m w now l (Read p a n) events error rows other h = absurd (read-
 follows-refused m w now l (Write p a bytes) events error rows other h = absurd (write-refused a h.0 error h.2)
 follows-refused m w now l (Maps p) events error rows other h = cc
 follows-refused m w now l (AsksAreas p) events error rows other h = cc
+follows-refused m w now l (Rmap p a) events error rows other h = absurd (walk-refused l (entry l (p, page_of a)) error h.0)
 follows-refused m w now l (AsksEntry p a) events error rows other h = absurd (entry-refused l (entry l (p, page_of a)) error h.0)
 follows-refused m w now l Stat events error rows other h = cc
 

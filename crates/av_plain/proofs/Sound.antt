@@ -18,7 +18,7 @@ use Rattle.std.specs.Prelude.{MatchOption, option_and_then}
 use Rattle.std.specs.Ordering.{nat_cmp, is_lt, eq_by_cmp}
 use Rattle.std.specs.FinMap.Entries.{find, is_sorted, below_all}
 use Rattle.av_trace.specs.declared.command.Command.{Command}
-use Rattle.av_trace.specs.declared.command.Command.TheVariants.{Spawn, Exit, Mmap, Munmap, Mprotect, Read, Write, Maps, Areas as AsksAreas, Entry as AsksEntry, Stat}
+use Rattle.av_trace.specs.declared.command.Command.TheVariants.{Spawn, Exit, Mmap, Munmap, Mprotect, Read, Write, Maps, Areas as AsksAreas, Rmap, Entry as AsksEntry, Stat}
 use Rattle.av_trace.specs.declared.place.Place.{Place}
 use Rattle.av_trace.specs.declared.place.Place.TheVariants.{Auto, At, Fixed, NoReplace}
 use Rattle.av_trace.specs.declared.reply.Errno.{Errno}
@@ -348,6 +348,7 @@ follows-sound m w l (Write p a bytes) events answer rows s fine h =
     (lives-loads m w l events p ∙ alive (lives w p) _ fine)
 follows-sound m w l (Maps p) events answer rows s fine h = loads-sound m w l (after_all l events) events (unchanged m w l events h.2 s)
 follows-sound m w l (AsksAreas p) events answer rows s fine h = loads-sound m w l (after_all l events) events (unchanged m w l events h.2 s)
+follows-sound m w l (Rmap p a) events answer rows s fine h = loads-sound m w l (after_all l events) events (unchanged m w l events h.1 s)
 follows-sound m w l (AsksEntry p a) events answer rows s fine h = loads-sound m w l (after_all l events) events (unchanged m w l events h.1 s)
 follows-sound m w l Stat events answer rows s fine h = loads-sound m w l (after_all l events) events (unchanged m w l events h.1 s)
 

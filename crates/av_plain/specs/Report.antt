@@ -1,14 +1,14 @@
--- Reports: the runs of `maps`, the areas of `areas`, the entry of `entry`, and the numbers of
--- `stat`.
+-- Reports: the runs of `maps`, the areas of `areas`, the walk of `rmap`, the entry of `entry`, and
+-- the numbers of `stat`.
 use Rattle.std.specs.Prelude.{◌≡◌, ℕ, ◌<◌, ◌≤◌, ◌&&◌, nat_lt, nat_le, if◌then◌else◌, List, [], ◌∷◌, map, length, sum_by, Option, Some, None, option_map}
 use Rattle.av_base.specs.Page.{address_of}
 use Rattle.av_base.specs.declared.prot.Prot.{Prot}
 use Rattle.av_trace.specs.declared.reply.Answer.{Answer}
 use Rattle.av_trace.specs.declared.command.Command.{Command}
 use Rattle.av_trace.specs.declared.command.Command.TheVariants.{Areas as AsksAreas}
-use Rattle.av_trace.specs.declared.reply.Answer.TheVariants.{AreaList, EntryEmpty, EntryFrame, EntrySlot, EntryZero, Runs, Counted}
+use Rattle.av_trace.specs.declared.reply.Answer.TheVariants.{AreaList, Walk, NoWalk, EntryEmpty, EntryFrame, EntrySlot, EntryZero, Runs, Counted}
 use Rattle.av_trace.specs.declared.row.Row.{Row}
-use Rattle.av_trace.specs.declared.row.Row.TheVariants.{Run, Area as AreaRow}
+use Rattle.av_trace.specs.declared.row.Row.TheVariants.{Run, Area as AreaRow, Entry as EntryRow}
 use Rattle.av_trace.specs.declared.reply.Totals.{Totals}
 use Rattle.av_vma.specs.declared.area.Area.{Area}
 use Rattle.av_vma.specs.Join.{first_of, past_of}
@@ -16,7 +16,7 @@ use Rattle.av_vma.specs.Pages.{Pages, pages_in}
 use Rattle.av_plain.specs.Areas.{Anons, Areas, chain_of}
 use Rattle.av_plain.specs.World.{World, Process, Page}
 use Rattle.av_plain.specs.Event.{Event}
-use Rattle.av_plain.specs.Ledger.{Entry, InFrame, InSlot, Key, Ledger, Setting, SwapArea, Zero, entry, frame_at, free_frames, free_slots, slot_of}
+use Rattle.av_plain.specs.Ledger.{Entry, InFrame, InSlot, Key, Ledger, Setting, SwapArea, Zero, entry, frame_at, free_frames, free_slots, slot_of, walk}
 
 -- ---- ranges of pages
 
@@ -100,6 +100,27 @@ AreRowsOf anons on rows = (areas : List Area) × (rows ≡ map (area_row anons) 
 abbrev pub ShowsAreas : Areas → Anons → Command → Answer → List Row → Type 0
 ShowsAreas areas anons (AsksAreas p) (AreaList n) rows = AreRowsOf anons (areas p) rows
 ShowsAreas areas anons command answer rows = Unit {0}
+
+-- ---- rmap
+
+-- the row of a key: process and address
+abbrev pub key_row : Key → Row
+key_row k = EntryRow k.0 (address_of k.1)
+
+-- the frame that an entry names, with how many entries name it; none where it names none
+abbrev pub walk_answer : Ledger → Option Entry → Answer
+walk_answer l (Some (InFrame f seen)) = Walk f (length (walk l f))
+walk_answer l e = NoWalk
+
+-- and the rows of these
+abbrev pub walk_rows : Ledger → Option Entry → List Row
+walk_rows l (Some (InFrame f seen)) = map key_row (walk l f)
+walk_rows l e = []
+
+-- the answer to `rmap`: the walk of the frame of the page's entry
+abbrev pub ReportsWalk : Ledger → Key → List Event → Answer → List Row → Type 0
+ReportsWalk l key events answer rows =
+    (answer ≡ walk_answer l (entry l key)) × (events ≡ []) × (rows ≡ walk_rows l (entry l key))
 
 -- ---- entry
 

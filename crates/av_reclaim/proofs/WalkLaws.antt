@@ -1,12 +1,14 @@
 -- What a walk needs holds of whatever the memory system stands for, and what it finds is the ledger's walk.
-use Rattle.std.proofs.Common.{◌≡◌, ℕ, ◌<◌, ◌≤◌, ◌==◌, Bool, true, false, cond, ◌||◌, T, List, [], ◌∷◌, length, map, filter, Option, Some, None, option_map, Result, Ok, Err, IfSome, IsSomeAnd, refl, sym, ap, subst, ◌∙◌, arith}
+use Rattle.std.proofs.Common.{◌≡◌, ℕ, ◌<◌, ◌≤◌, ◌==◌, Bool, true, false, cond, ◌||◌, T, List, [], ◌∷◌, length, map, filter, Option, Some, None, is_some, option_map, Result, Ok, Err, IfSome, IsSomeAnd, refl, sym, ap, subst, ◌∙◌, arith}
 use Rattle.std.specs.Prelude.{IfOk, OnOk}
 use Rattle.std.proofs.lemmas.Bool.{false≢true}
-use Rattle.std.specs.List.{list_any}
+use Rattle.std.proofs.lemmas.Bool.Decides.{nat_tests}
+use Rattle.std.specs.List.{AllByRecursion, list_any}
 use Rattle.std.specs.FinMap.Entries.{below_all, is_sorted}
 use Rattle.std.specs.Ordering.{is_lt}
 use Rattle.std.specs.Option.{option_map_or}
 use Rattle.av_arena.specs.Order.{AllOf}
+use Rattle.av_base.specs.Limits.{top_page}
 use Rattle.av_base.specs.Words.{how_many, is_in}
 use Rattle.av_chain.specs.Links.{one_if}
 use Rattle.av_vma.specs.declared.area.Area.{Area}
@@ -19,7 +21,8 @@ use Rattle.av_anon.specs.declared.infos.Info.{Info}
 use Rattle.av_anon.specs.Anons.{family, own_of}
 use Rattle.av_anon.specs.Spans.{spans_of}
 use Rattle.av_anon.proofs.KinLaws.{chain_by-is}
-use Rattle.av_spaces.specs.Spaces.{AreNumbered, IsNumber, pages_of}
+use Rattle.av_spaces.specs.Spaces.{AllRising, AreNumbered, IsNumber, pages_of}
+use Rattle.av_spaces.proofs.Rising.{laid}
 use Rattle.av_spaces.specs.Kin.{chain_on, info_of}
 use Rattle.av_rmap.specs.View.{AreApart, AreSpanned, View as Reach, view_with}
 use Rattle.av_rmap.specs.Covered.{IsCovered, IsReached}
@@ -33,14 +36,16 @@ use Rattle.av_plain.specs.Areas.{AnonVma, chain_of}
 use Rattle.av_plain.specs.Covered.{IsReached as IsReachedAt}
 use Rattle.av_plain.specs.Ledger.{Entry, Ledger, entry, key_cmp, map_count, names_frame as names, walk}
 use Rattle.av_plain.specs.Stands.{entry_of}
+use Rattle.av_plain.specs.World.{pages}
 use Rattle.av_plain.specs.Transcript.{State, rmap_of}
 use Rattle.av_plain.proofs.Ledger.{same_key as same_key_by}
 use Rattle.av_plain.proofs.Ledger.NoSwap.{key_is}
 use Rattle.av_plain.proofs.Ledger.Order.{both_first, both_second}
-use Rattle.av_plain.proofs.Ledger.Walk.{length-walk, passes, walk-has}
+use Rattle.av_plain.proofs.Ledger.Walk.{all-walked, length-walk, passes, walk-has}
 use Rattle.av_reclaim.specs.declared.mem.Mem.{Mem}
 use Rattle.av_reclaim.specs.Mem.{Keeps, anon_vma, anons_of, plain, view}
 use Rattle.av_reclaim.specs.Walk.{areas_at}
+use Rattle.av_reclaim.proofs.MemLaws.{mapped_is, taken_has}
 
 -- ---- the walk of the ledger rises
 
@@ -175,6 +180,23 @@ module _ (k : Mem) (s : State) (keeps : Keeps k s) where
       unnamed : (q : Key) (b : Bool) → names_frame f (entry_at k.tables q.0 q.1) ≡ b → b ≡ false
       unnamed q false e = refl
       unnamed q true e = absurd (subst (λ o. IsSomeAnd o (IsReachedAt (rmap_of s) q)) homeless (covers f q e))
+
+  -- and each is at a page below the top
+  mapped_below : AllRising k.spaces.processes → (q : Key) → is_some (entry s.ledger q) ≡ true → q.1 < top_page
+  mapped_below rising q is =
+      by (pages_of k.spaces.processes q.0 q.1) refl (taken_has k.spaces.processes q.0 q.1 ∙ ap is_some (keeps.stands.parts.areas.covers q.0 q.1) ∙ mapped_is (pages s.world q.0 q.1) ∙ keeps.stands.sound.at_pages q.0 q.1 is)
+    where
+      by : (o : Option Area) → pages_of k.spaces.processes q.0 q.1 ≡ o → is_some o ≡ true → q.1 < top_page
+      by None e h = absurd (false≢true h)
+      by (Some area) e h =
+          let areas = laid k.spaces.processes q.0 rising in
+          let here = areas.here q.1 area e in
+          let whole = areas.whole q.1 area e in
+          let high = whole.high in
+          grind (arith, nat_tests, here, high)
+
+  pub below : AllRising k.spaces.processes → (f : ℕ) → AllByRecursion (λ (q : Key). q.1 < top_page) (walk s.ledger f)
+  below rising f = all-walked (λ q. q.1 < top_page) s.ledger f in_order (mapped_below rising)
 
   -- it looks once in each area that is linked and holds the index
   pub looks : (f : ℕ) (home : ℕ × ℕ) → (view k).homes f ≡ Some home → how_many (overlaps home.1) ((reach k).spans home.0) ≡ areas_at k ((view k).homes f)

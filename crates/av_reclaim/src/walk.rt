@@ -1,6 +1,8 @@
 //! The walk from a frame to the entries that name it.
 
 ghost use Rattle.std.specs.Prelude.{◌≡◌, ◌+◌, ◌<◌, IfOk, OnErr, OnOk};
+ghost use Rattle.std.specs.List.{AllByRecursion};
+ghost use Rattle.av_base.specs.Limits.{top_page};
 ghost use Rattle.av_plain.specs.Ledger.{walk as walk_of};
 ghost use Rattle.av_plain.specs.Transcript.{State};
 ghost use Rattle.av_reclaim.specs.Mem.{count, view, IsSteady, Keeps};
@@ -26,6 +28,7 @@ pub fn walk<L: Ledger>(
     requires in_range { frame < count mem.now }
     ensures keys { (s : State) → Keeps mem.now s
         → IfOk result (λ keys. keys.items ≡ walk_of s.ledger frame) }
+    ensures below { IfOk result (λ keys. AllByRecursion (λ key. key.1 < top_page) keys.items) }
     ensures counted { OnOk result
         (steps.new ≡ steps.old + areas_at mem.now ((view mem.now).homes frame)) }
     ensures kept { OnErr result (steps.new ≡ steps.old) }

@@ -11,7 +11,7 @@ ghost use Rattle.av_merge.specs.Process.{AreAreasOf};
 ghost use Rattle.av_anon.specs.declared.anons.Anons.{Anons};
 ghost use Rattle.av_merge.specs.Kin.{lengths};
 ghost use Rattle.av_spaces.specs.Kin.{AnonsPrepare, AnonsStay, InOrder, chain_at};
-ghost use Rattle.av_spaces.specs.Spaces.{areas_of, pages_of, is_taken, AreNumbered, AreThese, AreRising, IsSpawned, IsChanged, IsEnded};
+ghost use Rattle.av_spaces.specs.Spaces.{areas_of, pages_of, is_taken, AllRising, AreNumbered, AreThese, AreRising, IsSpawned, IsChanged, IsEnded};
 ghost use Rattle.av_vma.specs.Pages.{IsWhole, after_map, after_prepare, after_unmap, pages_changed, to_prot};
 ghost use Rattle.av_spaces.specs.Trees.{areas_by, tree_at, IsGrown};
 
@@ -89,6 +89,7 @@ impl Spaces {
     pub fn by_number(&self) -> &Areas
         ensures areas { result.now ≡ self.now.areas }
         ensures numbered { AreNumbered self.now }
+        ensures rising { AllRising self.now.processes }
     {
         &self.areas
     }

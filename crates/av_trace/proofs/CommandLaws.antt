@@ -9,7 +9,7 @@ use Rattle.av_base.specs.declared.prot.Prot.{Prot}
 use Rattle.av_trace.specs.declared.command.Command.{Command}
 use Rattle.av_trace.specs.declared.command.Command.TheVariants as commands
 use Rattle.av_trace.specs.declared.place.Place.{Place}
-use Rattle.av_trace.specs.Command.{IsCommand, line_of, at_end, whole, no_words, range_words, mmap_words, mprotect_words, read_words, write_words, CommandReader, mmap_at, munmap_at, mprotect_at, read_at, write_at, entry_of, readers, command_of}
+use Rattle.av_trace.specs.Command.{IsCommand, line_of, at_end, whole, no_words, range_words, mmap_words, mprotect_words, read_words, write_words, CommandReader, mmap_at, munmap_at, mprotect_at, read_at, write_at, rmap_at, entry_of, readers, command_of}
 use Rattle.av_trace.specs.Hex.{hex, hex_text, IsData}
 use Rattle.av_trace.specs.Number.{IsNumberIn, IsProcess, IsWide, process_at}
 use Rattle.av_trace.specs.Place.{IsPlace, place_words}
@@ -100,6 +100,9 @@ maps-found = whole-found processes (codes "maps") commands.Maps (λ _ h. h) (λ 
 areas-found : IsReader (codes "areas", whole process_at commands.Areas)
 areas-found = whole-found processes (codes "areas") commands.Areas (λ _ h. h) (λ _. refl)
 
+rmaps-found : IsReader (codes "rmap", rmap_at)
+rmaps-found = whole-found entries (codes "rmap") _ (λ _ h. h) (λ _. refl)
+
 entries-found : IsReader (codes "entry", entry_of)
 entries-found = whole-found entries (codes "entry") _ (λ _ h. h) (λ _. refl)
 
@@ -107,7 +110,7 @@ stats-found : IsReader (codes "stat", whole no_words (λ x. commands.Stat))
 stats-found = whole-found nothing (codes "stat") _ (λ _ _. tt) (λ _. refl)
 
 each_reads : AllByRecursion IsReader readers
-each_reads = (writes-found, (reads-found, (spawns-found, (exits-found, (mmaps-found, (ranges-found, (mprotects-found, (maps-found, (areas-found, (entries-found, (stats-found, tt)))))))))))
+each_reads = (writes-found, (reads-found, (spawns-found, (exits-found, (mmaps-found, (ranges-found, (mprotects-found, (maps-found, (areas-found, (rmaps-found, (entries-found, (stats-found, tt))))))))))))
 
 pub command_of-found : (bytes : List ℕ) (c : Command) → command_of bytes ≡ Some c → IsCommand c × (bytes ≡ line_of c)
 unfolding command_of
@@ -138,6 +141,7 @@ command_of-again (commands.Read p address len) h = whole-again reads tt _ ((p, a
 command_of-again (commands.Write p address bytes) h = whole-again writes refl _ ((p, address), bytes) ((h.0, h.1), h.2)
 command_of-again (commands.Maps p) h = whole-again processes tt commands.Maps p h
 command_of-again (commands.Areas p) h = whole-again processes tt commands.Areas p h
+command_of-again (commands.Rmap p address) h = whole-again entries tt _ (p, address) h
 command_of-again (commands.Entry p address) h = whole-again entries tt _ (p, address) h
 command_of-again commands.Stat h = whole-again nothing tt (λ x. commands.Stat) tt tt
 

@@ -24,6 +24,7 @@ IsCommand (commands.Read p address len) =
 IsCommand (commands.Write p address bytes) = IsProcess p × IsWide address × IsData bytes
 IsCommand (commands.Maps p) = IsProcess p
 IsCommand (commands.Areas p) = IsProcess p
+IsCommand (commands.Rmap p address) = IsProcess p × IsWide address
 IsCommand (commands.Entry p address) = IsProcess p × IsWide address
 IsCommand commands.Stat = Unit {0}
 
@@ -43,6 +44,7 @@ line_of (commands.Write p address bytes) =
     line (codes "write") (decimal p ∷ hex address ∷ hex_text bytes ∷ [])
 line_of (commands.Maps p) = line (codes "maps") (decimal p ∷ [])
 line_of (commands.Areas p) = line (codes "areas") (decimal p ∷ [])
+line_of (commands.Rmap p address) = line (codes "rmap") (decimal p ∷ hex address ∷ [])
 line_of (commands.Entry p address) = line (codes "entry") (decimal p ∷ hex address ∷ [])
 line_of commands.Stat = codes "stat"
 
@@ -100,6 +102,9 @@ read_at = whole read_words (λ x. commands.Read x.0.0 x.0.1 x.1)
 abbrev pub write_at : CommandReader
 write_at = whole write_words (λ x. commands.Write x.0.0 x.0.1 x.1)
 
+abbrev pub rmap_at : CommandReader
+rmap_at = whole entry_at (λ x. commands.Rmap x.0 x.1)
+
 abbrev pub entry_of : CommandReader
 entry_of = whole entry_at (λ x. commands.Entry x.0 x.1)
 
@@ -115,6 +120,7 @@ readers =
     ∷ (codes "mprotect", mprotect_at)
     ∷ (codes "maps", whole process_at commands.Maps)
     ∷ (codes "areas", whole process_at commands.Areas)
+    ∷ (codes "rmap", rmap_at)
     ∷ (codes "entry", entry_of)
     ∷ (codes "stat", whole no_words (λ x. commands.Stat))
     ∷ []

@@ -1,7 +1,7 @@
 //! What a line asks for.
 
 ghost use Rattle.std.specs.Prelude.{◌≡◌, codes, option_map, IfOk, OnErr};
-ghost use Rattle.av_trace.specs.Command.{at_end, whole, no_words, mmap_at, munmap_at, mprotect_at, read_at, write_at, entry_of, command_of, range_words};
+ghost use Rattle.av_trace.specs.Command.{at_end, whole, no_words, mmap_at, munmap_at, mprotect_at, read_at, write_at, rmap_at, entry_of, command_of, range_words};
 ghost use Rattle.av_trace.specs.Number.{process_at};
 ghost use Rattle.av_trace.specs.Word.{BeginsWith};
 
@@ -57,6 +57,10 @@ pub enum Command {
     },
     Areas {
         process: u16,
+    },
+    Rmap {
+        process: u16,
+        address: u64,
     },
     Entry {
         process: u16,
@@ -195,6 +199,14 @@ fn areas(bytes: &[u8]) -> Option<Command>
 }
 
 #[tactic(auto, unfolding(crate::specs::Command::whole))]
+fn rmap(bytes: &[u8]) -> Option<Command>
+    ensures { result ≡ rmap_at bytes.now }
+{
+    let ((process, address), rest) = entry(bytes)?;
+    end(Command::Rmap { process, address }, rest)
+}
+
+#[tactic(auto, unfolding(crate::specs::Command::whole))]
 fn one_entry(bytes: &[u8]) -> Option<Command>
     ensures { result ≡ entry_of bytes.now }
 {
@@ -233,6 +245,8 @@ pub fn whole_command(alloc: Global, line: &[u8]) -> Result<Option<Command>, Allo
         Ok(maps(rest))
     } else if let Some(rest) = after(line, b"areas") {
         Ok(areas(rest))
+    } else if let Some(rest) = after(line, b"rmap") {
+        Ok(rmap(rest))
     } else if let Some(rest) = after(line, b"entry") {
         Ok(one_entry(rest))
     } else if let Some(rest) = after(line, b"stat") {

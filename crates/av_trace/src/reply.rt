@@ -60,7 +60,7 @@ pub struct Totals {
 /// are those of a read.
 ///
 /// Declared ahead of the commands that give them: `Bus`, `On`, `NoFrame` and `EntrySlot` (swap),
-/// `Walk`, `NoWalk`, and those of slots (reports).
+/// and those of slots (reports).
 #[derive(Drop)]
 pub enum Answer {
     Done,

@@ -45,11 +45,10 @@ impl Chain {
     }
 }
 
-/// A row of a report: a run of `maps`, an area of `areas`, or an entry of a frame's walk, which no
-/// command gives yet.
+/// A row of a report: a run of `maps`, an area of `areas`, or an entry of a frame's walk.
 ///
-/// `start` and `end` are addresses. An area's `offset` is the linear index of its first page, and
-/// `own` the number of its own anon_vma.
+/// `start`, `end` and `address` are addresses. An area's `offset` is the linear index of its first
+/// page, and `own` the number of its own anon_vma.
 #[derive(Drop)]
 pub enum Row {
     Run {

@@ -30,6 +30,7 @@ A trace has one command a line. An empty line, or one that begins with #, says n
   write P A HEX             write the bytes of the hexadecimal digits HEX at A
   maps P                    the longest runs of mapped pages with one protection
   areas P                   the areas that its pages are of, with their own anon_vmas and chains
+  rmap P A                  process and page of each entry of the frame of the page at A
   entry P A                 the page-table entry of the page at A: none, the page of zeros, a frame
   stat                      how many frames there are, are free, are in use; how many processes live
 

@@ -10,8 +10,10 @@ use Rattle.av_base.specs.Words.{within}
 use Rattle.av_base.specs.declared.prot.Prot.{Prot}
 use Rattle.av_base.specs.declared.slot.Slot.{Slot}
 use Rattle.av_vma.specs.Gap.{IsGap}
+use Rattle.av_trace.specs.Command.{IsCommand}
+use Rattle.av_trace.specs.Number.{IsWide}
 use Rattle.av_trace.specs.declared.command.Command.{Command}
-use Rattle.av_trace.specs.declared.command.Command.TheVariants.{Spawn, Exit, Mmap, Munmap, Mprotect, Read, Write, Maps, Areas as AsksAreas, Entry as AsksEntry, Stat}
+use Rattle.av_trace.specs.declared.command.Command.TheVariants.{Spawn, Exit, Mmap, Munmap, Mprotect, Read, Write, Maps, Areas as AsksAreas, Rmap, Entry as AsksEntry, Stat}
 use Rattle.av_trace.specs.declared.note.Cause.TheVariants.{NoSlot, Referenced, WriteStarted, Writeback}
 use Rattle.av_trace.specs.declared.note.Note.{Note}
 use Rattle.av_trace.specs.declared.note.Note.TheVariants.{Aged, Copied, Dropped, Failed, Kept, Loaded, Mapped, New, Put, Started, Unmapped, Written, Zeroed}
@@ -181,6 +183,7 @@ plain-legal m w l command reply es legal = by (refusal (tests m w l command)) le
     follows (Write p a bytes) q = plain-accesses m w l p _ es q.0 q.1
     follows (Maps p) q = none q.2
     follows (AsksAreas p) q = none q.2
+    follows (Rmap p a) q = none q.1
     follows (AsksEntry p a) q = none q.1
     follows Stat q = none q.1
 
@@ -190,24 +193,32 @@ plain-legal m w l command reply es legal = by (refusal (tests m w l command)) le
     by None q = follows command q
     by (Some error) q = none q.1
 
--- ---- pages stay below the top
+-- ---- pages stay below the top, of processes with small numbers
 
 abbrev Below : World → Type 0
-Below w = (p page : ℕ) → is_some (pages w p page) ≡ true → page < top_page
+Below w = (p page : ℕ) → is_some (pages w p page) ≡ true → (page < top_page) × IsWide p
+
+wide_number : (p : ℕ) → p ≤ 32767 → IsWide p
+wide_number p h = omega (arith, h)
 
 below-set : (w : World) (p : ℕ) (new : Process) → Below w
-    → ((page : ℕ) → is_some (new page) ≡ true → page < top_page) → Below (set_process w p new)
-below-set w p new below here q page h = by (eq_by_cmp nat_cmp q p)
+    → ((page : ℕ) → is_some (new page) ≡ true → (page < top_page) × IsWide p)
+    → Below (set_process w p new)
+below-set w p new below here q page h = by (eq_by_cmp nat_cmp q p) refl
     (ap is_some (sym (pages-set w p new q page)) ∙ h)
   where
-    by : (b : Bool) → is_some (cond b (new page) (pages w q page)) ≡ true → page < top_page
-    by true h = here page h
-    by false h = below q page h
+    is_number : eq_by_cmp nat_cmp q p ≡ true → q ≡ p
+    is_number e = grind (arith, nat_tests, e)
+
+    by : (b : Bool) → eq_by_cmp nat_cmp q p ≡ b
+        → is_some (cond b (new page) (pages w q page)) ≡ true → (page < top_page) × IsWide q
+    by true e h = subst (λ q. (page < top_page) × IsWide q) (sym (is_number e)) (here page h)
+    by false e h = below q page h
 
 below-ended : (w : World) (p : ℕ) → Below w → Below (end_process w p)
 below-ended w p below q page h = by (q == p) (ap is_some (sym (pages-ended w p q page)) ∙ h)
   where
-    by : (b : Bool) → is_some (cond b None (pages w q page)) ≡ true → page < top_page
+    by : (b : Bool) → is_some (cond b None (pages w q page)) ≡ true → (page < top_page) × IsWide q
     by true h = cc
     by false h = below q page h
 
@@ -236,15 +247,15 @@ below-protected w p from n prot below = below-set w p (with_prot_on (pages w p) 
     by true (Some x) h = refl
     by false o h = h
 
-below-ranged : (w : World) (p from n : ℕ) (new : Process) → Below w
+below-ranged : (w : World) (p from n : ℕ) (new : Process) → Below w → IsWide p
     → ((page : ℕ) → is_some (new page) ≡ true → from + n ≤ top_page)
     → Below (set_process w p (with_pages (pages w p) from n new))
-below-ranged w p from n new below high = below-set w p (with_pages (pages w p) from n new) below
+below-ranged w p from n new below wide high = below-set w p (with_pages (pages w p) from n new) below
     (λ page h. by page (within from n page) refl h)
   where
     by : (page : ℕ) (b : Bool) → within from n page ≡ b
-        → is_some (if b then new page else pages w p page) ≡ true → page < top_page
-    by page true is h = let top = high page h in grind (arith, nat_tests, is, top)
+        → is_some (if b then new page else pages w p page) ≡ true → (page < top_page) × IsWide p
+    by page true is h = let top = high page h in (grind (arith, nat_tests, is, top), wide)
     by page false is h = below p page h
 
 -- ---- where a mapping goes
@@ -303,17 +314,18 @@ goes-below q n page (NoReplace a) tests h = subst (λ x. x + n ≤ top_page) (sy
 -- ---- a step
 
 below-follows : (m : Setting) (w now : World) (l : Ledger) (command : Command) (es : List Event)
-    (answer : Answer) (rows : List Row) → Below now → refusal (tests m w l command) ≡ None
+    (answer : Answer) (rows : List Row) → IsCommand command → Below now
+    → refusal (tests m w l command) ≡ None
     → Follows m w l command es answer rows → Below (next now command answer)
-below-follows m w now l (Spawn p) es answer rows below none h = subst
+below-follows m w now l (Spawn p) es answer rows fit below none h = subst
     (λ x. Below (next now (Spawn p) x)) (sym h.0)
     (below-set now p no_pages below (λ page h. absurd (never_some h)))
   where
     never_some : false ≡ true → ⊥
     never_some e = cc
-below-follows m w now l (Exit p) es answer rows below none h = subst
+below-follows m w now l (Exit p) es answer rows fit below none h = subst
     (λ x. Below (next now (Exit p) x)) (sym h.0) (below-ended now p below)
-below-follows m w now l (Mmap p len prot place) es answer rows below none h = at h.0 h.1 h.2
+below-follows m w now l (Mmap p len prot place) es answer rows fit below none h = at h.0 h.1 h.2
   where
     places : refusal (place_tests (pages w p) (pages_of len) place) ≡ None
     places =
@@ -331,15 +343,16 @@ below-follows m w now l (Mmap p len prot place) es answer rows below none h = at
     at None goes e = subst (λ x. Below (next now (Mmap p len prot place) x)) (sym e) below
     at (Some page) goes e = subst (λ x. Below (next now (Mmap p len prot place) x)) (sym e)
         (below-ranged now p (page_of (address_of page)) (pages_of len) (λ _. Some (zeros prot))
-        below (λ q h. back page (pages_of len)
+        below (wide_number p fit.0.most) (λ q h. back page (pages_of len)
         (goes-below (pages w p) (pages_of len) page place places goes)))
-below-follows m w now l (Munmap p a len) es answer rows below none h = subst
+below-follows m w now l (Munmap p a len) es answer rows fit below none h = subst
     (λ x. Below (next now (Munmap p a len) x)) (sym h.0)
-    (below-ranged now p (page_of a) (pages_of len) no_pages below (λ page h. absurd (never_some h)))
+    (below-ranged now p (page_of a) (pages_of len) no_pages below (wide_number p fit.0.most)
+    (λ page h. absurd (never_some h)))
   where
     never_some : false ≡ true → ⊥
     never_some e = cc
-below-follows m w now l (Mprotect p a len prot) es answer rows below none h = subst
+below-follows m w now l (Mprotect p a len prot) es answer rows fit below none h = subst
     (λ x. Below (next now (Mprotect p a len prot) x)) (sym h.0)
     (at (pages_to_hole (pages w p) (page_of a) (pages_of len) == pages_of len))
   where
@@ -352,21 +365,22 @@ below-follows m w now l (Mprotect p a len prot) es answer rows below none h = su
     at : (b : Bool) → Below (next now (Mprotect p a len prot) (if b then Done else Refused Enomem))
     at true = below-protected now p (page_of a) (pages_of len) prot below
     at false = stopped (wraps a len)
-below-follows m w now l (Read p a n) es answer rows below none h = below
-below-follows m w now l (Write p a bytes) es answer rows below none h = below-stored now p a
+below-follows m w now l (Read p a n) es answer rows fit below none h = below
+below-follows m w now l (Write p a bytes) es answer rows fit below none h = below-stored now p a
     (first_bytes answer bytes) below
-below-follows m w now l (Maps p) es answer rows below none h = below
-below-follows m w now l (AsksAreas p) es answer rows below none h = below
-below-follows m w now l (AsksEntry p a) es answer rows below none h = below
-below-follows m w now l Stat es answer rows below none h = below
+below-follows m w now l (Maps p) es answer rows fit below none h = below
+below-follows m w now l (AsksAreas p) es answer rows fit below none h = below
+below-follows m w now l (Rmap p a) es answer rows fit below none h = below
+below-follows m w now l (AsksEntry p a) es answer rows fit below none h = below
+below-follows m w now l Stat es answer rows fit below none h = below
 
 pub step-small : (m : Setting) (old new : State) (command : Command) (reply : Reply)
-    → IsSmall m old.world old.ledger → IsStep m old command reply new
+    → IsCommand command → IsSmall m old.world old.ledger → IsStep m old command reply new
     → IsSmall m new.world new.ledger
-step-small m old new command reply small h = record {
+step-small m old new command reply fit small h = record {
   frames = small.frames;
-  below = subst Below (sym h.world)
-      (by (refusal (tests m old.world old.ledger command)) refl h.legal.answer);
+  below = λ p page is. (later p page is).0;
+  processes = λ p page is. (later p page is).1;
   off = ap (λ (l : Ledger). l.on) h.ledger
       ∙ events-on h.events old.ledger
       (plain-legal m old.world old.ledger command reply h.events h.legal) ∙ small.off;
@@ -376,14 +390,19 @@ step-small m old new command reply small h = record {
     now = with_loads m old.world old.ledger h.events
 
     below : Below now
-    below p page is = small.below p page
-        (sym (map_count-loads m old.world old.ledger h.events p page) ∙ is)
+    below p page is =
+        let was = sym (map_count-loads m old.world old.ledger h.events p page) ∙ is in
+        (small.below p page was, small.processes p page was)
 
     by : (o : Option Errno) → refusal (tests m old.world old.ledger command) ≡ o
         → MatchOption o (Follows m old.world old.ledger command h.events reply.answer reply.rows)
         (λ error. Refuses error h.events reply.answer reply.rows)
         → Below (next_world m old.world old.ledger h.events command reply.answer)
     by None is x = below-follows m old.world now old.ledger command h.events reply.answer reply.rows
-        below is x
+        fit below is x
     by (Some error) is x = subst (λ a. Below (next now command a)) (sym x.0)
         (subst Below (sym (refused-next m old.world now old.ledger command error is)) below)
+
+    later : Below new.world
+    later = subst Below (sym h.world)
+        (by (refusal (tests m old.world old.ledger command)) refl h.legal.answer)

@@ -53,7 +53,7 @@ runs-back m old (e ∷ es) new none sound small made covers wide fit h = (
       (let less = run-makes m old (e ∷ es) new made h in omega (arith, wide, less)) h.1)
       h.1.legal,
   runs-back m h.0 es new none (step-sound m old e.command e.reply h.0 sound h.1)
-      (step-small m old h.0 e.command e.reply small h.1)
+      (step-small m old h.0 e.command e.reply fit.0 small h.1)
       (step-makes m old e.command e.reply h.0 made h.1).made
       (step-covers m old e.command e.reply h.0 covers h.1) wide fit.1 h.2,
 )
@@ -63,7 +63,7 @@ pub run-reads_back : (m : Setting) (es : List Exchange) (new : State) → HasNoD
     → IsRun m (at_first m) es new → IsWide new.anons.next
     → AllByRecursion (λ (e : Exchange). IsReply e.reply) es
 run-reads_back m es new none wide fit h few = runs-back m (at_first m) es new none (first-sound m)
-    (record { frames = wide; below = λ p page h. absurd (never_some h); off = refl })
+    (record { frames = wide; below = λ p page h. absurd (never_some h); processes = λ p page h. absurd (never_some h); off = refl })
     (record { owns = λ p page. tt; chains = λ v. tt }) (first-covers m) few fit h
   where
     never_some : false ≡ true → ⊥

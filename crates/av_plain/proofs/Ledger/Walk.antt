@@ -1,11 +1,11 @@
 -- The walk of a frame has exactly the keys whose entry names it, each once.
-use Rattle.std.proofs.Common.{◌≡◌, ℕ, suc, ◌+◌, Bool, true, false, cond, ◌||◌, T, List, [], ◌∷◌, map, length, filter, Option, Some, None, refl, ap, ◌∙◌, arith}
-use Rattle.std.specs.List.{list_any}
+use Rattle.std.proofs.Common.{◌≡◌, ℕ, suc, ◌+◌, Bool, true, false, cond, ◌||◌, T, List, [], ◌∷◌, map, length, filter, Option, Some, None, is_some, refl, sym, ap, ◌∙◌, arith}
+use Rattle.std.specs.List.{AllByRecursion, list_any}
 use Rattle.std.specs.FinMap.Entries.{find, is_sorted}
 use Rattle.av_base.specs.Words.{how_many}
 use Rattle.av_plain.specs.Ledger.{Key, key_cmp, Entry, Ledger, entry, walk, map_count, names_frame}
 use Rattle.av_plain.proofs.Ledger.Order.{keys_total, both_first, both_second, find_below}
-use Rattle.av_plain.proofs.Ledger.{same_key, same_key-is}
+use Rattle.av_plain.proofs.Ledger.{same_key, same_key-is, same_key-itself}
 
 -- what a key has passes
 abbrev pub passes : (Entry → Bool) → Option Entry → Bool
@@ -32,6 +32,23 @@ keys-filter p (e ∷ es) q h =
 
 pub walk-has : (l : Ledger) (f : ℕ) (q : Key) → T (is_sorted key_cmp l.entries) → list_any (same_key q) (walk l f) ≡ passes (names_frame f) (entry l q)
 walk-has l f q h = keys-filter (names_frame f) l.entries q h
+
+-- what holds of each key that has an entry holds of each of the walk
+all-listed : (P : Key → Type 0) (ks : List Key) → ((q : Key) → list_any (same_key q) ks ≡ true → P q) → AllByRecursion P ks
+all-listed P [] each = tt
+all-listed P (k ∷ ks) each =
+    (each k (ap (λ b. b || list_any (same_key k) ks) (same_key-itself k)), all-listed P ks (λ q is. each q (either (same_key q k) (list_any (same_key q) ks) is)))
+  where
+    either : (a b : Bool) → b ≡ true → (a || b) ≡ true
+    either true b h = refl
+    either false b h = h
+
+pub all-walked : (P : Key → Type 0) (l : Ledger) (f : ℕ) → T (is_sorted key_cmp l.entries) → ((q : Key) → is_some (entry l q) ≡ true → P q) → AllByRecursion P (walk l f)
+all-walked P l f sorted each = all-listed P (walk l f) (λ q is. each q (there (entry l q) (sym (walk-has l f q sorted) ∙ is)))
+  where
+    there : (o : Option Entry) → passes (names_frame f) o ≡ true → is_some o ≡ true
+    there None h = cc
+    there (Some e) h = refl
 
 -- the walk is as long as the count says
 pub length-walk : (l : Ledger) (f : ℕ) → length (walk l f) ≡ map_count l f

@@ -1,4 +1,6 @@
-use Rattle.std.proofs.Common.{◌≡◌, ℕ, ◌+◌, ◌≤◌, List, Option, length, sym, ap, subst, ◌∙◌, arith}
+use Rattle.std.proofs.Common.{◌≡◌, ℕ, ◌+◌, ◌<◌, ◌≤◌, List, Option, length, sym, ap, subst, ◌∙◌, arith}
+use Rattle.std.specs.List.{AllByRecursion}
+use Rattle.av_base.specs.Limits.{top_page}
 use Rattle.av_base.specs.Words.{how_many}
 use Rattle.av_interval.specs.Search.{overlaps}
 use Rattle.av_vma.specs.declared.area.Area.{Area}
@@ -9,7 +11,7 @@ use Rattle.av_rmap.specs.Walk.{AreItsEntries, Key}
 use Rattle.av_plain.specs.Ledger.{walk as walk_of}
 use Rattle.av_reclaim.specs.Mem.{view}
 use Rattle.av_reclaim.specs.Walk.{areas_at}
-use Rattle.av_reclaim.proofs.WalkLaws.{apart, covered, few, found, if_both, looks, none-named, on_ok, reach_by}
+use Rattle.av_reclaim.proofs.WalkLaws.{apart, below, covered, few, found, if_both, looks, none-named, on_ok, reach_by}
 use Rattle.av_reclaim.proofs.walk.walk.Goals as goal
 
 pub returns-in_default-clause-keys : goal.returns-in_default-clause-keys
@@ -39,6 +41,16 @@ pub returns-clause-keys : goal.returns-clause-keys
 returns-clause-keys g c = λ s keeps.
     if_both c.walk_sorted.result (λ keys. AreItsEntries (reach_by c.args.mem.now c.by_number.result.now) c.args.frame keys.items) (λ keys. AreRising keys.items)
     (λ keys. keys.items ≡ walk_of s.ledger c.args.frame) (λ keys its rising. found c.args.mem.now s keeps c.args.frame keys.items its rising)
+    c.walk_sorted.ensures.entries c.walk_sorted.ensures.rising
+
+pub returns-in_default-clause-below : goal.returns-in_default-clause-below
+returns-in_default-clause-below g c = subst (AllByRecursion (λ (key : ℕ × ℕ). key.1 < top_page)) (sym c.new.ensures.items) tt
+
+pub returns-clause-below : goal.returns-clause-below
+returns-clause-below g c = let s = c.requires.steady in
+    if_both c.walk_sorted.result (λ keys. AreItsEntries (reach_by c.args.mem.now c.by_number.result.now) c.args.frame keys.items) (λ keys. AreRising keys.items)
+    (λ keys. AllByRecursion (λ (key : ℕ × ℕ). key.1 < top_page) keys.items)
+    (λ keys its rising. subst (AllByRecursion (λ (key : ℕ × ℕ). key.1 < top_page)) (sym (found c.args.mem.now s.0 s.1 c.args.frame keys.items its rising)) (below c.args.mem.now s.0 s.1 c.by_number.ensures.rising c.args.frame))
     c.walk_sorted.ensures.entries c.walk_sorted.ensures.rising
 
 pub returns-clause-counted : goal.returns-clause-counted
