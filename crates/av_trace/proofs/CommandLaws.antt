@@ -9,7 +9,7 @@ use Rattle.av_base.specs.declared.prot.Prot.{Prot}
 use Rattle.av_trace.specs.declared.command.Command.{Command}
 use Rattle.av_trace.specs.declared.command.Command.TheVariants as commands
 use Rattle.av_trace.specs.declared.place.Place.{Place}
-use Rattle.av_trace.specs.Command.{IsCommand, line_of, at_end, whole, no_words, range_words, mmap_words, mprotect_words, read_words, write_words, CommandReader, mmap_at, munmap_at, mprotect_at, read_at, write_at, rmap_at, entry_of, readers, command_of}
+use Rattle.av_trace.specs.Command.{IsCommand, line_of, at_end, whole, no_words, fork_words, range_words, mmap_words, mprotect_words, read_words, write_words, CommandReader, fork_at, mmap_at, munmap_at, mprotect_at, read_at, write_at, rmap_at, entry_of, readers, command_of}
 use Rattle.av_trace.specs.Hex.{hex, hex_text, IsData}
 use Rattle.av_trace.specs.Number.{IsNumberIn, IsProcess, IsWide, process_at}
 use Rattle.av_trace.specs.Place.{IsPlace, place_words}
@@ -29,6 +29,9 @@ nothing = record {
   again = λ x rest _ h. refl;
   ends = λ rest h. h;
 }
+
+forks : Reads fork_words (λ (x : ℕ × ℕ). IsProcess x.0 × IsProcess x.1) (λ (x : ℕ × ℕ). decimal x.0 ∷ decimal x.1 ∷ []) IsRest
+forks = reads_both processes processes
 
 ranges : Reads range_words (λ (x : (ℕ × ℕ) × ℕ). (IsProcess x.0.0 × IsWide x.0.1) × IsWide x.1)
     (λ (x : (ℕ × ℕ) × ℕ). decimal x.0.0 ∷ hex x.0.1 ∷ decimal x.1 ∷ []) IsRest
@@ -91,6 +94,9 @@ mprotects-found = whole-found mprotects (codes "mprotect") _ (λ x h. (h.0.0.0, 
 spawns-found : IsReader (codes "spawn", whole process_at commands.Spawn)
 spawns-found = whole-found processes (codes "spawn") commands.Spawn (λ _ h. h) (λ _. refl)
 
+forks-found : IsReader (codes "fork", fork_at)
+forks-found = whole-found forks (codes "fork") _ (λ _ h. h) (λ _. refl)
+
 exits-found : IsReader (codes "exit", whole process_at commands.Exit)
 exits-found = whole-found processes (codes "exit") commands.Exit (λ _ h. h) (λ _. refl)
 
@@ -110,7 +116,7 @@ stats-found : IsReader (codes "stat", whole no_words (λ x. commands.Stat))
 stats-found = whole-found nothing (codes "stat") _ (λ _ _. tt) (λ _. refl)
 
 each_reads : AllByRecursion IsReader readers
-each_reads = (writes-found, (reads-found, (spawns-found, (exits-found, (mmaps-found, (ranges-found, (mprotects-found, (maps-found, (areas-found, (rmaps-found, (entries-found, (stats-found, tt))))))))))))
+each_reads = (writes-found, (reads-found, (spawns-found, (forks-found, (exits-found, (mmaps-found, (ranges-found, (mprotects-found, (maps-found, (areas-found, (rmaps-found, (entries-found, (stats-found, tt)))))))))))))
 
 pub command_of-found : (bytes : List ℕ) (c : Command) → command_of bytes ≡ Some c → IsCommand c × (bytes ≡ line_of c)
 unfolding command_of
@@ -133,6 +139,7 @@ whole-again {A = A} {read = read} {words = words} reads end command x fits =
 pub command_of-again : (c : Command) → IsCommand c → command_of (line_of c) ≡ Some c
 unfolding command_of after
 command_of-again (commands.Spawn p) h = whole-again processes tt commands.Spawn p h
+command_of-again (commands.Fork p q) h = whole-again forks tt _ (p, q) h
 command_of-again (commands.Exit p) h = whole-again processes tt commands.Exit p h
 command_of-again (commands.Mmap p len prot place) h = whole-again mmaps refl _ (((p, len), prot), place) (((h.0, h.1), tt), h.2)
 command_of-again (commands.Munmap p address len) h = whole-again ranges tt _ ((p, address), len) ((h.0, h.1), h.2)

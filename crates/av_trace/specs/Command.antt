@@ -15,6 +15,7 @@ use Rattle.av_trace.specs.Place.{IsPlace, place_words, place_at}
 -- the values are in range
 abbrev pub IsCommand : Command → Type 0
 IsCommand (commands.Spawn p) = IsProcess p
+IsCommand (commands.Fork p q) = IsProcess p × IsProcess q
 IsCommand (commands.Exit p) = IsProcess p
 IsCommand (commands.Mmap p len prot place) = IsProcess p × IsWide len × IsPlace place
 IsCommand (commands.Munmap p address len) = IsProcess p × IsWide address × IsWide len
@@ -31,6 +32,7 @@ IsCommand commands.Stat = Unit {0}
 -- the one line of a command
 abbrev pub line_of : Command → List ℕ
 line_of (commands.Spawn p) = line (codes "spawn") (decimal p ∷ [])
+line_of (commands.Fork p q) = line (codes "fork") (decimal p ∷ decimal q ∷ [])
 line_of (commands.Exit p) = line (codes "exit") (decimal p ∷ [])
 line_of (commands.Mmap p len prot place) =
     line (codes "mmap") (decimal p ∷ decimal len ∷ prot_text prot ∷ place_words place)
@@ -63,6 +65,10 @@ whole read command bytes = read bytes >>= λ x. at_end (command x.0) x.1
 abbrev pub no_words : Reader (Unit {0})
 no_words bytes = Some (tt, bytes)
 
+-- the words of `fork`: two processes
+abbrev pub fork_words : Reader (ℕ × ℕ)
+fork_words bytes = both process_at process_at bytes
+
 -- the words of `munmap`, and the first of `mprotect`: a process, an address and a length
 abbrev pub range_words : Reader ((ℕ × ℕ) × ℕ)
 range_words bytes = both entry_at len_at bytes
@@ -86,6 +92,9 @@ write_words bytes = both entry_at data_at bytes
 -- what reads a command's words after its name
 abbrev pub CommandReader : Type 0
 CommandReader = List ℕ → Option Command
+
+abbrev pub fork_at : CommandReader
+fork_at = whole fork_words (λ x. commands.Fork x.0 x.1)
 
 abbrev pub mmap_at : CommandReader
 mmap_at = whole mmap_words (λ x. commands.Mmap x.0.0.0 x.0.0.1 x.0.1 x.1)
@@ -114,6 +123,7 @@ readers =
     (codes "write", write_at)
     ∷ (codes "read", read_at)
     ∷ (codes "spawn", whole process_at commands.Spawn)
+    ∷ (codes "fork", fork_at)
     ∷ (codes "exit", whole process_at commands.Exit)
     ∷ (codes "mmap", mmap_at)
     ∷ (codes "munmap", munmap_at)

@@ -1,7 +1,7 @@
 //! What a line asks for.
 
 ghost use Rattle.std.specs.Prelude.{◌≡◌, codes, option_map, IfOk, OnErr};
-ghost use Rattle.av_trace.specs.Command.{at_end, whole, no_words, mmap_at, munmap_at, mprotect_at, read_at, write_at, rmap_at, entry_of, command_of, range_words};
+ghost use Rattle.av_trace.specs.Command.{at_end, whole, no_words, fork_at, mmap_at, munmap_at, mprotect_at, read_at, write_at, rmap_at, entry_of, command_of, range_words};
 ghost use Rattle.av_trace.specs.Number.{process_at};
 ghost use Rattle.av_trace.specs.Word.{BeginsWith};
 
@@ -21,6 +21,10 @@ use std::alloc::{AllocError, Global};
 pub enum Command {
     Spawn {
         process: u16,
+    },
+    Fork {
+        parent: u16,
+        child: u16,
     },
     Exit {
         process: u16,
@@ -86,6 +90,15 @@ fn spawn(bytes: &[u8]) -> Option<Command>
 {
     let (process, rest) = process(bytes)?;
     end(Command::Spawn { process }, rest)
+}
+
+#[tactic(auto, unfolding(crate::specs::Command::whole, crate::specs::Word::both))]
+fn fork(bytes: &[u8]) -> Option<Command>
+    ensures { result ≡ fork_at bytes.now }
+{
+    let (parent, rest) = process(bytes)?;
+    let (child, rest) = process(rest)?;
+    end(Command::Fork { parent, child }, rest)
 }
 
 #[tactic(auto, unfolding(crate::specs::Command::whole))]
@@ -233,6 +246,8 @@ pub fn whole_command(alloc: Global, line: &[u8]) -> Result<Option<Command>, Allo
         Ok(read(rest))
     } else if let Some(rest) = after(line, b"spawn") {
         Ok(spawn(rest))
+    } else if let Some(rest) = after(line, b"fork") {
+        Ok(fork(rest))
     } else if let Some(rest) = after(line, b"exit") {
         Ok(exit(rest))
     } else if let Some(rest) = after(line, b"mmap") {
