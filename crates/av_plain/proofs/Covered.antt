@@ -1,4 +1,5 @@
 -- What holds of areas, anon_vmas and homes at all times: it holds after each event and each change of areas.
+pub mod Fork
 use Rattle.std.proofs.Common.{◌≡◌, ℕ, suc, ◌<◌, Bool, true, false, cond, not, ◌==◌, ◌&&◌, ◌||◌, ◌-◌, ◌⊎◌, inl, inr, [], ◌∷◌, Option, Some, None, is_some, option_map, refl, sym, ap, subst, ◌∙◌, arith, T, ◌≤◌}
 use Rattle.std.proofs.lemmas.Bool.{false≢true}
 use Rattle.std.proofs.lemmas.Bool.Decides.{nat_tests}
@@ -27,7 +28,7 @@ Owns r p page v = IsSomeAnd (r.areas p page) (λ area. area.anon ≡ Some v)
 -- ---- chains
 
 -- a chain that has a node is that of an anon_vma that is there
-chain_there : (anons : Anons) (own : Option ℕ) (v : ℕ) → is_in v (chain_of anons own) ≡ true → (w : ℕ) × (own ≡ Some w) × IsSome (anons.anon w)
+pub chain_there : (anons : Anons) (own : Option ℕ) (v : ℕ) → is_in v (chain_of anons own) ≡ true → (w : ℕ) × (own ≡ Some w) × IsSome (anons.anon w)
 chain_there anons None v h = absurd (false≢true h)
 chain_there anons (Some w) v h = (w, refl, by (anons.anon w) h)
   where

@@ -4,7 +4,7 @@ use Rattle.std.proofs.lemmas.Bool.Decides.{nat_tests}
 use Rattle.std.specs.Prelude.{MatchBool, MatchOption}
 use Rattle.std.specs.FinMap.Entries.{is_sorted}
 use Rattle.av_trace.specs.declared.command.Command.{Command}
-use Rattle.av_trace.specs.declared.command.Command.TheVariants.{Spawn, Exit, Mmap, Munmap, Mprotect, Read, Write, Maps, Areas as AsksAreas, Rmap, Entry as AsksEntry, Stat}
+use Rattle.av_trace.specs.declared.command.Command.TheVariants.{Spawn, Fork, Exit, Mmap, Munmap, Mprotect, Read, Write, Maps, Areas as AsksAreas, Rmap, Entry as AsksEntry, Stat}
 use Rattle.av_trace.specs.declared.place.Place.TheVariants.{Auto, At, Fixed, NoReplace}
 use Rattle.av_trace.specs.declared.reply.Errno.{Errno}
 use Rattle.av_trace.specs.declared.reply.Reply.{Reply}
@@ -16,22 +16,25 @@ use Rattle.av_trace.specs.declared.note.Note.{Note}
 use Rattle.av_trace.specs.declared.note.Note.TheVariants.{Aged, Copied, Dropped, Failed, Kept, Loaded, Mapped, New, Put, Started, Unmapped, Written, Zeroed}
 use Rattle.av_plain.specs.Access.{Accesses, End, page_events, pages_of_access}
 use Rattle.av_plain.specs.Choice.{ChoosesAll, Free, ListsFree, frame_in_note, new_free}
-use Rattle.av_plain.specs.Event.{Event, Used, after_all, after_note, after_notes, after_use, after_use_of, after_zap, change_entries, if_some, key_at, note_events, off_cache, set_entry, when, with_stale, without_seen}
+use Rattle.av_plain.specs.Event.{Event, Forked, Used, after_all, after_note, after_notes, after_use, after_use_of, after_zap, change_entries, if_some, key_at, note_events, off_cache, put_all, set_entry, when, with_stale, without_seen}
 use Rattle.av_plain.specs.Fault.{ComesIn, CopyOnWrite, Denied, IsMade, Lost, MapCached, Need, NewPage, Ready, RunsOut, Serves, Sparing, Starved, Stop, SwapIn, Touches, ZeroPage, drop_at, drop_of_entry, drop_of_slot, is_shared, is_unneeded, need, need_of_slot, pinned_by, sparing, was_slot}
+use Rattle.av_plain.specs.Fork.{inherited}
 use Rattle.av_plain.specs.Ledger.{Cached, Entry, InFrame, InSlot, Key, Ledger, Setting, Zero, entry, first_ledger, frame_at, has_free, is_free, is_orphan, key_cmp, map_count, names_frame, slot_of}
 use Rattle.av_plain.specs.Pass.{Completes, IsPass, IsSlotFor, Seeks, Spared, TakesFor, Turns, end_note, end_notes, frames_in_turn, is_dirty, is_stuck, stays_cached, turn_notes, unmap_notes}
 use Rattle.av_plain.specs.Refusal.{Refuses, refusal, tests}
 use Rattle.av_plain.specs.Sound.{AllSound, IsSound, count, flights, holders, uses}
 use Rattle.av_plain.specs.Step.{Follows, IsLegal, closing_area}
 use Rattle.av_plain.specs.Transcript.{Exchange, IsRun, IsStep, State, at_first}
-use Rattle.av_plain.specs.World.{World}
+use Rattle.av_plain.specs.World.{World, lives}
 use Rattle.av_plain.specs.Zap.{keys_in, keys_of_process, orphan_drop, slot_behind_key, zap_of, zaps_of}
 use Rattle.av_plain.proofs.Choice.{ChoosesFrames, frames-chosen, frames-first}
 use Rattle.av_plain.proofs.Access.{after_all-append, note_events-all}
 use Rattle.av_plain.proofs.Event.{how_many-map, how_many-same}
+use Rattle.av_plain.proofs.Fork.{copies, child_ledger, forked-is, frames-grow, put_all-only}
 use Rattle.av_plain.proofs.Ledger.{entry-set, how_many-append, how_many-found, map_count-set, same_key-itself}
 use Rattle.av_plain.proofs.Ledger.Order.{weight}
-use Rattle.av_plain.proofs.Sound.{first-sound, step-sound}
+use Rattle.av_plain.proofs.Refusal.{may-fork}
+use Rattle.av_plain.proofs.Sound.{first-sound, no_entries, step-sound}
 use Rattle.av_plain.proofs.Sound.Access.{comes-kept, page_events-kept, touches-kept}
 use Rattle.av_plain.proofs.Sound.Cache.{frames_left}
 use Rattle.av_plain.proofs.Sound.Changes.{any-counts, free-is}
@@ -458,13 +461,31 @@ zaps-lists m l (k ∷ ks) free free' s c h =
     subst (λ x. Lists m x free') (sym (after_all-append l (zap_of l k) (zaps_of (after_all l (zap_of l k)) ks)))
     (zaps-lists m (after_all l (zap_of l k)) ks both.0 free' (zap_of-kept m l k s) both.2 (zap-lists m l k free both.0 s both.1 h))
 
+-- ---- entries that go over
+
+-- no frame comes into use
+fork-steady : (m : Setting) (l : Ledger) (p q : ℕ) → IsSound m l → ((page : ℕ) → entry l (q, page) ≡ None) → Steady l (child_ledger p q l) None
+fork-steady m l p q s none = subst (λ l'. Steady l l' None) (sym (forked-is p q l ∙ put_all-only (copies p q l.entries) l))
+    (fewer-steady l (record l { entries = (put_all (copies p q l.entries) l).entries }) (λ g gone. let a = (frames-grow p q l s.in_order none g).count in let b = (frames-grow p q l s.in_order none g).few in omega (arith, gone, a, b)))
+
+fork-lists : (m : Setting) (l : Ledger) (p q : ℕ) (free free' : List ℕ) → IsSound m l → ((page : ℕ) → entry l (q, page) ≡ None)
+    → ChoosesFrames m l (Forked p q (inherited l p) ∷ []) free free' → Lists m l free → Lists m (child_ledger p q l) free'
+fork-lists m l p q free free' s none c h = subst (Lists m (child_ledger p q l)) (sym (c.2 ∙ c.1.2)) (lists-event m l (child_ledger p q l) None free c.1.0 c.1.1 (fork-steady m l p q s none) h)
+
 -- ---- a step, and a run
 
 legal-lists : (m : Setting) (w : World) (l : Ledger) (command : Command) (reply : Reply)
-    (es : List Event) (free free' : List ℕ) → IsSound m l → IsLegal m w l command reply es
+    (es : List Event) (free free' : List ℕ) → AllSound m w l → IsLegal m w l command reply es
     → ChoosesFrames m l es free free' → Lists m l free → Lists m (after_all l es) free'
-legal-lists m w l command reply es free free' s legal c h = by (refusal (tests m w l command)) legal.answer
+legal-lists m w l command reply es free free' sound legal c h = by (refusal (tests m w l command)) refl legal.answer
   where
+    s : IsSound m l
+    s = sound.ledger
+
+    forks : (p q : ℕ) → lives w q ≡ false → es ≡ Forked p q (inherited l p) ∷ [] → Lists m (after_all l es) free'
+    forks p q dead e = subst (λ es. Lists m (after_all l es) free') (sym e)
+        (fork-lists m l p q free free' s (no_entries w l q sound.at_pages dead) (subst (λ es. ChoosesFrames m l es free free') e c) h)
+
     none : es ≡ [] → Lists m (after_all l es) free'
     none e = subst (λ es. Lists m (after_all l es) free') (sym e)
         (subst (Lists m l) (sym (subst (λ es. ChoosesFrames m l es free free') e c)) h)
@@ -473,26 +494,27 @@ legal-lists m w l command reply es free free' s legal c h = by (refusal (tests m
     these ks e = subst (λ es. Lists m (after_all l es) free') (sym e)
         (zaps-lists m l ks free free' s (subst (λ es. ChoosesFrames m l es free free') e c) h)
 
-    follows : (command : Command) → Follows m w l command es reply.answer reply.rows → Lists m (after_all l es) free'
-    follows (Spawn p) q = none q.1
-    follows (Exit p) q = these (keys_of_process l p) q.1
-    follows (Mmap p len prot Auto) q = none q.3
-    follows (Mmap p len prot (At a)) q = none q.3
-    follows (Mmap p len prot (Fixed a)) q = these (keys_in l p (page_of a) (pages_of len)) q.3
-    follows (Mmap p len prot (NoReplace a)) q = none q.3
-    follows (Munmap p a len) q = these (keys_in l p (page_of a) (pages_of len)) q.1
-    follows (Mprotect p a len prot) q = none q.1
-    follows (Read p a n) q = accesses-lists m w l p (pages_of_access false a n) es q.0 free free' s q.2 c h
-    follows (Write p a bytes) q = accesses-lists m w l p (pages_of_access true a (length bytes)) es q.0 free free' s q.1 c h
-    follows (Maps p) q = none q.2
-    follows (AsksAreas p) q = none q.2
-    follows (Rmap p a) q = none q.1
-    follows (AsksEntry p a) q = none q.1
-    follows Stat q = none q.1
+    follows : (command : Command) → refusal (tests m w l command) ≡ None → Follows m w l command es reply.answer reply.rows → Lists m (after_all l es) free'
+    follows (Spawn p) fine q = none q.1
+    follows (Fork p c) fine q = forks p c (may-fork m w l p c fine).child q.1
+    follows (Exit p) fine q = these (keys_of_process l p) q.1
+    follows (Mmap p len prot Auto) fine q = none q.3
+    follows (Mmap p len prot (At a)) fine q = none q.3
+    follows (Mmap p len prot (Fixed a)) fine q = these (keys_in l p (page_of a) (pages_of len)) q.3
+    follows (Mmap p len prot (NoReplace a)) fine q = none q.3
+    follows (Munmap p a len) fine q = these (keys_in l p (page_of a) (pages_of len)) q.1
+    follows (Mprotect p a len prot) fine q = none q.1
+    follows (Read p a n) fine q = accesses-lists m w l p (pages_of_access false a n) es q.0 free free' s q.2 c h
+    follows (Write p a bytes) fine q = accesses-lists m w l p (pages_of_access true a (length bytes)) es q.0 free free' s q.1 c h
+    follows (Maps p) fine q = none q.2
+    follows (AsksAreas p) fine q = none q.2
+    follows (Rmap p a) fine q = none q.1
+    follows (AsksEntry p a) fine q = none q.1
+    follows Stat fine q = none q.1
 
-    by : (o : Option Errno) → MatchOption o (Follows m w l command es reply.answer reply.rows) (λ error. Refuses error es reply.answer reply.rows) → Lists m (after_all l es) free'
-    by None q = follows command q
-    by (Some error) q = none q.1
+    by : (o : Option Errno) → refusal (tests m w l command) ≡ o → MatchOption o (Follows m w l command es reply.answer reply.rows) (λ error. Refuses error es reply.answer reply.rows) → Lists m (after_all l es) free'
+    by None fine q = follows command fine q
+    by (Some error) fine q = none q.1
 
 run-lists : (m : Setting) (old : State) (es : List Exchange) (new : State)
     → AllSound m old.world old.ledger → Lists m old.ledger old.free.frames → IsRun m old es new
@@ -504,7 +526,7 @@ run-lists m old (e ∷ es) new s h q =
     step.free in
     let next = subst (λ x. Lists m x q.0.free.frames) (sym step.ledger)
     (legal-lists m old.world old.ledger e.command e.reply step.events old.free.frames
-    q.0.free.frames s.ledger step.legal chosen h) in
+    q.0.free.frames s step.legal chosen h) in
     run-lists m q.0 es new (step-sound m old e.command e.reply q.0 s step) next q.2
 
 first-lists : (m : Setting) → Lists m first_ledger (numbers 0 m.frames)
@@ -532,7 +554,7 @@ step-lists_free m old command reply new s h step =
     subst (λ l. ListsFree m l new.free.frames) (sym step.ledger)
     (from_lists m (after_all old.ledger step.events) new.free.frames
     (legal-lists m old.world old.ledger command reply step.events old.free.frames new.free.frames
-    s.ledger step.legal chosen (to_lists m old.ledger old.free.frames h)))
+    s step.legal chosen (to_lists m old.ledger old.free.frames h)))
 
 -- the same after one page of an access
 pub page-lists_free : (m : Setting) (w : World) (l : Ledger) (write : Bool) (k : Key) (notes : List Note) (end : Option Stop)

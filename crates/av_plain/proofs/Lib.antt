@@ -7,6 +7,7 @@ pub mod Choice
 pub mod Zap
 pub mod Report
 pub mod Refusal
+pub mod Fork
 pub mod Transcript
 pub mod Sound
 pub mod NoDevice

@@ -26,7 +26,7 @@ use Rattle.std.specs.FinMap.Entries.{is_sorted}
 use Rattle.std.specs.Prelude.{if◌then◌else◌, length, T}
 use Rattle.av_base.specs.Page.{page_of, pages_of}
 use Rattle.av_trace.specs.declared.command.Command.{Command}
-use Rattle.av_trace.specs.declared.command.Command.TheVariants.{Spawn, Exit, Mmap, Munmap, Mprotect, Read, Write, Maps, Areas as AsksAreas, Rmap, Entry as AsksEntry, Stat}
+use Rattle.av_trace.specs.declared.command.Command.TheVariants.{Spawn, Fork, Exit, Mmap, Munmap, Mprotect, Read, Write, Maps, Areas as AsksAreas, Rmap, Entry as AsksEntry, Stat}
 use Rattle.av_trace.specs.declared.place.Place.{Place}
 use Rattle.av_trace.specs.declared.place.Place.TheVariants.{Auto, At, Fixed, NoReplace}
 use Rattle.av_trace.specs.declared.reply.Errno.{Errno}
@@ -456,6 +456,7 @@ entry-faultless l (Some (InSlot s)) = record { told = refl; failed = refl }
 
 follows-faultless : (m : Setting) (w : World) (l : Ledger) (command : Command) (events : List Event) (answer : Answer) (rows : List Row) → HasNoDevice m → InAreas m l → Follows m w l command events answer rows → Faultless events answer
 follows-faultless m w l (Spawn p) events answer rows none s h = record { notes = ap (λ es. fails (notes_of es)) h.1; answered = is-faultless answer _ h.0 (record { told = refl; failed = refl }) }
+follows-faultless m w l (Fork p q) events answer rows none s h = record { notes = ap (λ es. fails (notes_of es)) h.1; answered = is-faultless answer _ h.0 (record { told = refl; failed = refl }) }
 follows-faultless m w l (Exit p) events answer rows none s h = record { notes = ap (λ es. fails (notes_of es)) h.1 ∙ ap fails (no-zap-notes m l (keys_of_process l p) none s); answered = is-faultless answer _ h.0 (record { told = refl; failed = refl }) }
 follows-faultless m w l (Mmap p len prot place) events answer rows none s h = record { notes = ap (λ es. fails (notes_of es)) h.3 ∙ ap fails (no-place-notes place); answered = by h.0 h.2 }
   where
@@ -500,6 +501,7 @@ mild-refusal (t ∷ ts) error h e = by t.0 e (mild-refusal ts error h.1)
 
 tests-mild : (m : Setting) (w : World) (l : Ledger) (command : Command) → AreMild (tests m w l command)
 tests-mild m w l (Spawn p) = (refl, (refl, tt))
+tests-mild m w l (Fork p q) = (refl, (refl, (refl, tt)))
 tests-mild m w l (Exit p) = (refl, tt)
 tests-mild m w l (Mmap p len prot Auto) = (refl, (refl, (refl, tt)))
 tests-mild m w l (Mmap p len prot (At a)) = (refl, (refl, (refl, tt)))

@@ -1,9 +1,9 @@
 -- A command that is refused changes nothing, but for the protection of the pages before a hole.
 use Rattle.std.proofs.Common.{◌≡◌, ◌⊎◌, inl, inr, ℕ, ◌<◌, ◌≤◌, Bool, true, false, cond, not, List, [], Option, Some, None, is_some, refl, sym, ap, subst, ◌∙◌, arith, ◌==◌, if◌then◌else◌}
 use Rattle.std.proofs.lemmas.Bool.Decides.{nat_tests}
-use Rattle.std.specs.Prelude.{MatchOption}
+use Rattle.std.specs.Prelude.{MatchOption, length, nat_le}
 use Rattle.av_trace.specs.declared.command.Command.{Command}
-use Rattle.av_trace.specs.declared.command.Command.TheVariants.{Spawn, Exit, Mmap, Munmap, Mprotect, Read, Write, Maps, Areas as AsksAreas, Rmap, Entry as AsksEntry, Stat}
+use Rattle.av_trace.specs.declared.command.Command.TheVariants.{Spawn, Fork, Exit, Mmap, Munmap, Mprotect, Read, Write, Maps, Areas as AsksAreas, Rmap, Entry as AsksEntry, Stat}
 use Rattle.av_trace.specs.declared.place.Place.{Place}
 use Rattle.av_trace.specs.declared.place.Place.TheVariants.{Auto, At, Fixed, NoReplace}
 use Rattle.av_trace.specs.declared.reply.Errno.{Errno}
@@ -12,6 +12,7 @@ use Rattle.av_trace.specs.declared.row.Row.{Row}
 use Rattle.av_trace.specs.declared.reply.Reply.{Reply}
 use Rattle.av_trace.specs.declared.reply.Answer.{Answer}
 use Rattle.av_trace.specs.declared.reply.Answer.TheVariants.{Done, Refused}
+use Rattle.av_base.specs.Limits.{most_processes}
 use Rattle.av_base.specs.Page.{is_on_page, page_of, pages_of}
 use Rattle.av_base.specs.declared.prot.Prot.{Prot}
 use Rattle.av_base.specs.Words.{with_at}
@@ -44,9 +45,25 @@ wraps-told m w l p a len prot is = by (lives w p) (is_on_page a) (wraps a len) i
     by true true true is = refl
     by true true false is = cc
 
+-- what a fork that isn't refused has: a parent, no child yet, and room for it
+pub record MayFork (w : World) (p q : ℕ) : Type 0 where
+  pub parent : lives w p ≡ true
+  pub child : lives w q ≡ false
+  pub room : nat_le most_processes (length w) ≡ false
+
+pub may-fork : (m : Setting) (w : World) (l : Ledger) (p q : ℕ) → refusal (tests m w l (Fork p q)) ≡ None → MayFork w p q
+may-fork m w l p q is = let h = by (lives w p) (lives w q) (nat_le most_processes (length w)) is in record { parent = h.0; child = h.1; room = h.2 }
+  where
+    by : (a b c : Bool) → cond (not a) (Some Esrch) (cond b (Some Eexist) (cond c (Some Eagain) None)) ≡ None → (a ≡ true) × (b ≡ false) × (c ≡ false)
+    by false b c h = cc
+    by true true c h = cc
+    by true false true h = cc
+    by true false false h = (refl, refl, refl)
+
 -- a command that is refused by its tests leaves any memories as they are
 pub refused-next : (m : Setting) (w now : World) (l : Ledger) (command : Command) (error : Errno) → refusal (tests m w l command) ≡ Some error → next now command (Refused error) ≡ now
 refused-next m w now l (Spawn p) error is = refl
+refused-next m w now l (Fork p q) error is = refl
 refused-next m w now l (Exit p) error is = refl
 refused-next m w now l (Mmap p len prot place) error is = refl
 refused-next m w now l (Munmap p a len) error is = refl
@@ -70,6 +87,7 @@ refused-next m w now l Stat error is = refl
 -- and the areas
 pub refused-areas : (m : Setting) (w : World) (l : Ledger) (long : Lengths) (on : Areas) (command : Command) (error : Errno) → refusal (tests m w l command) ≡ Some error → next_areas long on w command (Refused error) ≡ on
 refused-areas m w l long on (Spawn p) error is = refl
+refused-areas m w l long on (Fork p q) error is = refl
 refused-areas m w l long on (Exit p) error is = refl
 refused-areas m w l long on (Mmap p len prot place) error is = refl
 refused-areas m w l long on (Munmap p a len) error is = refl
@@ -132,6 +150,7 @@ no_place-clears q l p n (NoReplace a) goes = cc
 follows-refused : (m : Setting) (w now : World) (l : Ledger) (command : Command) (events : List Event) (error : Errno) (rows : List Row) → is_mprotect command ≡ false
     → Follows m w l command events (Refused error) rows → (events ≡ []) × (next now command (Refused error) ≡ now)
 follows-refused m w now l (Spawn p) events error rows other h = absurd (no-refusal refl h.0)
+follows-refused m w now l (Fork p q) events error rows other h = absurd (no-refusal refl h.0)
 follows-refused m w now l (Exit p) events error rows other h = absurd (no-refusal refl h.0)
 follows-refused m w now l (Mmap p len prot place) events error rows other h = (h.3 ∙ by h.0 h.1 h.2, refl)
   where

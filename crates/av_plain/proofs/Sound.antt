@@ -10,6 +10,7 @@ pub mod Access
 pub mod Pages
 pub mod There
 pub mod Zap
+pub mod Fork
 pub mod Bound
 pub mod Means
 use Rattle.std.proofs.Common.{◌≡◌, ℕ, suc, ◌≤◌, Bool, true, false, cond, not, ◌&&◌, T, List, [], ◌∷◌, length, Option, Some, None, is_some, option_map, refl, sym, ap, subst, ◌∙◌, arith, ◌==◌, nat_le, if◌then◌else◌}
@@ -17,8 +18,9 @@ use Rattle.std.proofs.lemmas.Bool.Decides.{nat_tests}
 use Rattle.std.specs.Prelude.{MatchOption, option_and_then}
 use Rattle.std.specs.Ordering.{nat_cmp, is_lt, eq_by_cmp}
 use Rattle.std.specs.FinMap.Entries.{find, is_sorted, below_all}
+use Rattle.std.specs.Option.{option_or}
 use Rattle.av_trace.specs.declared.command.Command.{Command}
-use Rattle.av_trace.specs.declared.command.Command.TheVariants.{Spawn, Exit, Mmap, Munmap, Mprotect, Read, Write, Maps, Areas as AsksAreas, Rmap, Entry as AsksEntry, Stat}
+use Rattle.av_trace.specs.declared.command.Command.TheVariants.{Spawn, Fork as AsksFork, Exit, Mmap, Munmap, Mprotect, Read, Write, Maps, Areas as AsksAreas, Rmap, Entry as AsksEntry, Stat}
 use Rattle.av_trace.specs.declared.place.Place.{Place}
 use Rattle.av_trace.specs.declared.place.Place.TheVariants.{Auto, At, Fixed, NoReplace}
 use Rattle.av_trace.specs.declared.reply.Errno.{Errno}
@@ -33,7 +35,7 @@ use Rattle.av_base.specs.Page.{address_of, page_of, pages_of}
 use Rattle.av_base.specs.Words.{within}
 use Rattle.av_base.specs.declared.slot.Slot.{Slot}
 use Rattle.av_plain.specs.Access.{Accesses, End, after_write, first_bytes, pages_of_access}
-use Rattle.av_plain.specs.Event.{Event, Forked, Moved, Noted, TurnedOff, TurnedOn, Used, Zapped, after, after_all}
+use Rattle.av_plain.specs.Event.{Event, Forked, Moved, Noted, TurnedOff, TurnedOn, Used, Zapped, after, after_all, without_seen}
 use Rattle.av_plain.specs.Ledger.{Entry, Ledger, Setting, entry, first_ledger}
 use Rattle.av_plain.specs.Load.{after_load, after_loads, is_of_slot, with_loads, without_bytes, without_claims}
 use Rattle.av_plain.specs.Map.{with_prot_to_hole, zaps_for_place}
@@ -45,11 +47,13 @@ use Rattle.av_plain.specs.Transcript.{Exchange, IsLegalFrom, IsRun, IsStep, Stat
 use Rattle.av_plain.specs.World.{Page, Process, World, end_process, lives, no_pages, pages, pages_to_hole, process, set_process, with_bytes, with_pages, with_prot, with_prot_on, zeros}
 use Rattle.av_plain.specs.Zap.{keys_in, zaps_of}
 use Rattle.av_plain.proofs.Ledger.NoSwap.{itself}
-use Rattle.av_plain.proofs.Refusal.{refused-next}
+use Rattle.av_plain.proofs.Fork.{entry-forked, child_ledger}
+use Rattle.av_plain.proofs.Refusal.{may-fork, refused-next}
 use Rattle.av_plain.proofs.Sound.Access.{accesses-kept}
 use Rattle.av_plain.proofs.Sound.Counts.{same-itself}
+use Rattle.av_plain.proofs.Sound.Fork.{forked-kept, forked-no_new}
 use Rattle.av_plain.proofs.Sound.Pages.{accesses-at}
-use Rattle.av_plain.proofs.Sound.There.{InAreas, accesses-in}
+use Rattle.av_plain.proofs.Sound.There.{InAreas, accesses-in, there-by}
 use Rattle.av_plain.proofs.Sound.Zap.{after_zap-sound, exit-sound, zaps_of-at}
 use Rattle.av_plain.proofs.World.{is_sorted-set, length-set_new, length-set_old, pages-set}
 use Rattle.av_plain.proofs.Zap.{entry-range, in_range}
@@ -144,12 +148,16 @@ loads-sound m w l l' es s = record {
 cmp-is : (q p : ℕ) → eq_by_cmp nat_cmp q p ≡ true → q ≡ p
 cmp-is q p h = grind (arith, nat_tests, h)
 
-at-set : (w : World) (l : Ledger) (p : ℕ) (new : Process) → ((page : ℕ) → is_some (entry l (p, page)) ≡ true → is_some (new page) ≡ true) → AtPages w l → AtPages (set_process w p new) l
-at-set w l p new here there q page h = by (eq_by_cmp nat_cmp q p) refl (pages-set w p new q page)
+at-changed : (w : World) (l : Ledger) (p : ℕ) (new : Process) → ((page : ℕ) → is_some (entry l (p, page)) ≡ true → is_some (new page) ≡ true)
+    → ((q page : ℕ) → eq_by_cmp nat_cmp q p ≡ false → is_some (entry l (q, page)) ≡ true → is_some (pages w q page) ≡ true) → AtPages (set_process w p new) l
+at-changed w l p new here there q page h = by (eq_by_cmp nat_cmp q p) refl (pages-set w p new q page)
   where
     by : (b : Bool) → eq_by_cmp nat_cmp q p ≡ b → pages (set_process w p new) q page ≡ cond b (new page) (pages w q page) → is_some (pages (set_process w p new) q page) ≡ true
     by true is e = ap is_some e ∙ here page (ap (λ x. is_some (entry l (x, page))) (sym (cmp-is q p is)) ∙ h)
-    by false is e = ap is_some e ∙ there q page h
+    by false is e = ap is_some e ∙ there q page is h
+
+at-set : (w : World) (l : Ledger) (p : ℕ) (new : Process) → ((page : ℕ) → is_some (entry l (p, page)) ≡ true → is_some (new page) ≡ true) → AtPages w l → AtPages (set_process w p new) l
+at-set w l p new here there = at-changed w l p new here (λ q page _ h. there q page h)
 
 -- a process that does not live has no entry
 pub no_entries : (w : World) (l : Ledger) (p : ℕ) → AtPages w l → lives w p ≡ false → (page : ℕ) → entry l (p, page) ≡ None
@@ -163,12 +171,16 @@ no_entries w l p at_pages dead page = by (entry l (p, page)) refl
     by None is = is
     by (Some e) is = absurd (unmapped (process w p) dead (at_pages p page (ap is_some is)))
 
+-- one more process
+tidy-new : (w : World) (p : ℕ) (new : Process) → IsTidy w → lives w p ≡ false → nat_le most_processes (length w) ≡ false → IsTidy (set_process w p new)
+tidy-new w p new tidy dead room = record {
+  in_order = is_sorted-set w p new tidy.in_order;
+  few = subst (λ n. n ≤ most_processes) (sym (length-set_new w p new tidy.in_order dead)) (grind (arith, nat_tests, room));
+}
+
 started-sound : (m : Setting) (w : World) (l : Ledger) (p : ℕ) → AllSound m w l → lives w p ≡ false → nat_le most_processes (length w) ≡ false → AllSound m (set_process w p no_pages) l
 started-sound m w l p s dead room = record {
-  world = record {
-    in_order = is_sorted-set w p no_pages s.world.in_order;
-    few = subst (λ n. n ≤ most_processes) (sym (length-set_new w p no_pages s.world.in_order dead)) (grind (arith, nat_tests, room));
-  };
+  world = tidy-new w p no_pages s.world dead room;
   ledger = s.ledger;
   at_pages = at-set w l p no_pages (λ page h. absurd (never (entry l (p, page)) (no_entries w l p s.at_pages dead page) h)) s.at_pages;
   in_areas = s.in_areas;
@@ -177,6 +189,37 @@ started-sound m w l p s dead room = record {
   where
     never : (o : Option Entry) → o ≡ None → is_some o ≡ true → ⊥
     never o e h = cc
+
+-- the child has the parent's memory and entries
+forked-sound : (m : Setting) (w : World) (l : Ledger) (p q : ℕ) → AllSound m w l → lives w q ≡ false → nat_le most_processes (length w) ≡ false → AllSound m (set_process w q (pages w p)) (child_ledger p q l)
+forked-sound m w l p q s dead room = record {
+  world = tidy-new w q (pages w p) s.world dead room;
+  ledger = forked-kept m l p q s.ledger none;
+  at_pages = at-changed w (child_ledger p q l) q (pages w p) (λ page h. s.at_pages p page (copied page h)) (λ r page other h. s.at_pages r page (stayed r page other h));
+  in_areas = there-by m l (child_ledger p q l) (forked-no_new m l p q s.ledger none) s.in_areas;
+  areas_fit = (forked-no_new m l p q s.ledger none).fits s.areas_fit;
+}
+  where
+    none : (page : ℕ) → entry l (q, page) ≡ None
+    none = no_entries w l q s.at_pages dead
+
+    found : (r page : ℕ) → is_some (entry (child_ledger p q l) (r, page)) ≡ true → is_some (option_or (cond (r == q) (option_map without_seen (entry l (p, page))) None) (entry l (r, page))) ≡ true
+    found r page h = ap is_some (sym (entry-forked p q l (r, page) s.ledger.in_order)) ∙ h
+
+    copied : (page : ℕ) → is_some (entry (child_ledger p q l) (q, page)) ≡ true → is_some (entry l (p, page)) ≡ true
+    copied page h = by (q == q) (entry l (p, page)) (entry l (q, page)) (none page) (found q page h)
+      where
+        by : (b : Bool) (x y : Option Entry) → y ≡ None → is_some (option_or (cond b (option_map without_seen x) None) y) ≡ true → is_some x ≡ true
+        by true None y e h = cc
+        by true (Some x) y e h = refl
+        by false x y e h = cc
+
+    stayed : (r page : ℕ) → eq_by_cmp nat_cmp r q ≡ false → is_some (entry (child_ledger p q l) (r, page)) ≡ true → is_some (entry l (r, page)) ≡ true
+    stayed r page other h = by (r == q) (grind (arith, nat_tests, other)) (found r page h)
+      where
+        by : (b : Bool) → b ≡ false → is_some (option_or (cond b (option_map without_seen (entry l (p, page))) None) (entry l (r, page))) ≡ true → is_some (entry l (r, page)) ≡ true
+        by true e h = cc
+        by false e h = h
 
 -- the number of processes is as it was
 tidy-set : (w : World) (p : ℕ) (new : Process) → IsTidy w → lives w p ≡ true → IsTidy (set_process w p new)
@@ -262,6 +305,11 @@ follows-sound m w l (Spawn p) events answer rows s fine h =
     second true b h = cc
     second false true h = cc
     second false false h = refl
+follows-sound m w l (AsksFork p q) events answer rows s fine h =
+    let may = may-fork m w l p q fine in
+    subst (λ a. AllSound m (next (with_loads m w l events) (AsksFork p q) a) (after_all l events)) (sym h.0)
+    (subst (λ es. AllSound m (set_process (with_loads m w l events) q (pages (with_loads m w l events) p)) (after_all l es)) (sym h.1)
+    (forked-sound m (with_loads m w l events) l p q (loads-sound m w l l events s) (lives-loads m w l events q ∙ may.child) (ap (nat_le most_processes) (length-loads m w l events) ∙ may.room)))
 follows-sound m w l (Exit p) events answer rows s fine h =
     let loaded = loads-sound m w l l events s in
     subst (λ a. AllSound m (next (with_loads m w l events) (Exit p) a) (after_all l events)) (sym h.0)

@@ -16,6 +16,7 @@ pub mod Step
 pub mod Areas
 pub mod Choice
 pub mod Covered
+pub mod Fork
 pub mod Transcript
 pub mod Sound
 pub mod Stands

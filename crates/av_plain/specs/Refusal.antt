@@ -4,7 +4,7 @@ use Rattle.std.specs.Prelude.{ℕ, ◌+◌, Bool, true, false, not, ◌==◌, if
 use Rattle.av_base.specs.Limits.{most_processes, low_page, top_page}
 use Rattle.av_base.specs.Page.{page_of, address_of, pages_of, is_on_page}
 use Rattle.av_trace.specs.declared.command.Command.{Command}
-use Rattle.av_trace.specs.declared.command.Command.TheVariants.{Mprotect, Spawn, Exit, Mmap, Munmap, Read, Write, Maps, Areas as AsksAreas, Rmap, Entry as AsksEntry, Stat}
+use Rattle.av_trace.specs.declared.command.Command.TheVariants.{Mprotect, Spawn, Fork, Exit, Mmap, Munmap, Read, Write, Maps, Areas as AsksAreas, Rmap, Entry as AsksEntry, Stat}
 use Rattle.av_trace.specs.declared.place.Place.{Place}
 use Rattle.av_trace.specs.declared.place.Place.TheVariants.{Auto, At, Fixed, NoReplace}
 use Rattle.av_trace.specs.declared.reply.Answer.{Answer}
@@ -67,6 +67,7 @@ place_tests q n (NoReplace a) = fixed_tests n a ++ (meets q (page_of a) n, Eexis
 -- the tests of each command
 abbrev pub tests : Setting → World → Ledger → Command → Tests
 tests m w l (Spawn p) = (lives w p, Eexist) ∷ too_many w ∷ []
+tests m w l (Fork p q) = no_process w p ∷ (lives w q, Eexist) ∷ too_many w ∷ []
 tests m w l (Exit p) = no_process w p ∷ []
 tests m w l (Mmap p len prot place) =
     no_process w p ∷ (len == 0, Einval) ∷ (is_too_long len, Enomem)

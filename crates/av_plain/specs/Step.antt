@@ -2,7 +2,7 @@
 use Rattle.std.specs.Prelude.{ℕ, ◌+◌, if◌then◌else◌, List, Option, None, Some, ◌≡◌, length, max, MatchOption}
 use Rattle.av_base.specs.Page.{page_of, pages_of}
 use Rattle.av_trace.specs.declared.command.Command.{Command}
-use Rattle.av_trace.specs.declared.command.Command.TheVariants.{Mprotect, Spawn, Exit, Mmap, Munmap, Read, Write, Maps, Areas as AsksAreas, Rmap, Entry as AsksEntry, Stat}
+use Rattle.av_trace.specs.declared.command.Command.TheVariants.{Mprotect, Spawn, Fork, Exit, Mmap, Munmap, Read, Write, Maps, Areas as AsksAreas, Rmap, Entry as AsksEntry, Stat}
 use Rattle.av_trace.specs.declared.reply.Answer.{Answer}
 use Rattle.av_trace.specs.declared.reply.Answer.TheVariants.{Bus, Done, MapAt, NoFrame, Oom, Refused}
 use Rattle.av_trace.specs.declared.reply.Errno.TheVariants.{Enomem, Eio}
@@ -10,6 +10,7 @@ use Rattle.av_trace.specs.declared.reply.Reply.{Reply}
 use Rattle.av_trace.specs.declared.row.Row.{Row}
 use Rattle.av_plain.specs.Access.{WritesPages, ReadsPages, after_write, first_bytes}
 use Rattle.av_plain.specs.Event.{notes_of, Event}
+use Rattle.av_plain.specs.Fork.{Forks}
 use Rattle.av_plain.specs.Ledger.{Setting, Ledger}
 use Rattle.av_plain.specs.Load.{with_loads}
 use Rattle.av_plain.specs.Map.{Unmaps, MapsAt, Protects, with_prot_to_hole}
@@ -25,6 +26,7 @@ use Rattle.av_plain.specs.World.{World, no_pages, pages, with_prot_on, set_proce
 -- before a hole
 abbrev pub next : World → Command → Answer → World
 next w (Spawn p) Done = set_process w p no_pages
+next w (Fork p q) Done = set_process w q (pages w p)
 next w (Exit p) Done = end_process w p
 next w (Mmap p len prot place) (MapAt a) =
     set_process w p (with_pages (pages w p) (page_of a) (pages_of len) (λ _. Some (zeros prot)))
@@ -50,6 +52,7 @@ closing_area command = None
 -- what each command does where it isn't refused: its events, its answer and its rows
 abbrev pub Follows : Setting → World → Ledger → Command → List Event → Answer → List Row → Type 0
 Follows m w l (Spawn p) events answer rows = Spawns events answer rows
+Follows m w l (Fork p q) events answer rows = Forks l p q events answer rows
 Follows m w l (Exit p) events answer rows = Exits l p events answer rows
 Follows m w l (Mmap p len prot place) events answer rows =
     MapsAt w l p (pages_of len) place events answer rows

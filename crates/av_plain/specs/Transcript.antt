@@ -3,9 +3,10 @@ use Rattle.std.specs.Prelude.{ℕ, List, [], ◌∷◌, ◌≡◌, sum_by}
 use Rattle.av_base.specs.Words.{numbers}
 use Rattle.av_trace.specs.declared.command.Command.{Command}
 use Rattle.av_trace.specs.declared.reply.Reply.{Reply}
-use Rattle.av_plain.specs.Areas.{Anons, AreNext, Areas, Homes, Rmap, no_anons, no_areas, no_homes, rmap_after_all}
+use Rattle.av_plain.specs.Areas.{Anons, Areas, Homes, Rmap, no_anons, no_areas, no_homes, rmap_after_all}
 use Rattle.av_plain.specs.Choice.{ChoosesAll, Free, no_slots}
 use Rattle.av_plain.specs.Event.{Event, after_all}
+use Rattle.av_plain.specs.Fork.{IsRmapNext}
 use Rattle.av_plain.specs.Ledger.{Setting, first_ledger, Ledger}
 use Rattle.av_plain.specs.Report.{ShowsAreas}
 use Rattle.av_plain.specs.Step.{IsLegal, causes, closing_area, next_world}
@@ -61,8 +62,8 @@ pub record IsStep (m : Setting) (old : State) (command : Command) (reply : Reply
   pub world : new.world ≡ next_world m old.world old.ledger events command reply.answer
   pub ledger : new.ledger ≡ after_all old.ledger events
   pub free : ChoosesAll m (closing_area command) old.ledger events old.free new.free
-  pub rmap : AreNext (rmap_after_all old.ledger events (rmap_of old)) old.world command reply.answer
-      (rmap_of new)
+  pub rmap : IsRmapNext (rmap_after_all old.ledger events (rmap_of old)) old.world command
+      reply.answer (rmap_of new)
   pub shows : ShowsAreas old.areas old.anons command reply.answer reply.rows
 
 -- a transcript, each of its replies a step
