@@ -9,12 +9,13 @@ use Rattle.av_trace.specs.declared.reply.Reply.{Reply}
 use Rattle.av_trace.specs.declared.reply.Answer.TheVariants.{Done, MapAt}
 use Rattle.av_vma.specs.Pages.{after_unmap, pages_in, part_of}
 use Rattle.av_vma.specs.declared.area.Area.{Area}
-use Rattle.av_plain.specs.Areas.{AnonVma, Anons, AreLeft, Areas, IsLinked, Rmap, chain_length, chain_of, next_areas, none_on, rmap_after_all}
+use Rattle.av_plain.specs.Areas.{AnonVma, Anons, AreLeft, AreNext, Areas, IsLinked, Rmap, chain_length, chain_of, next_areas, none_on, rmap_after_all}
 use Rattle.av_laws.specs.Areas.{Leaves, NeverLeaves, NeverPuts, anons_of, area, area_of, behind_first, behind_second, child, first_goes, root, second_goes, with_anons}
 use Rattle.av_vma.proofs.Cut.{part_own}
 use Rattle.av_laws.specs.Examples.{machine, read_write, reply_with}
 use Rattle.av_plain.specs.Ledger.{Setting}
 use Rattle.av_plain.specs.Transcript.{IsStep, State, rmap_of}
+use Rattle.av_plain.proofs.Transcript.{is_fork, plain-next}
 use Rattle.av_plain.proofs.AreasLeft.{AreSame, left-one, prepare_notes, rmap_after_all-notes}
 use Rattle.av_plain.specs.Event.{notes_of}
 use Rattle.av_plain.specs.World.{World}
@@ -162,21 +163,24 @@ pub record AreThen (now : Rmap) (w : World) (command : Command) (answer : Answer
   pub anons : AreLeft now.anons next.areas next.anons
 
 -- what was prepared follows from the notes
-pub now-is : (m : Setting) (old : State) (command : Command) (reply : Reply) (new : State) (step : IsStep m old command reply new)
+pub now-is : (m : Setting) (old : State) (command : Command) → is_fork command ≡ false → (reply : Reply) (new : State) (step : IsStep m old command reply new)
     → AreThen (prepare_notes reply.notes (rmap_of old)) old.world command reply.answer (rmap_of new)
-now-is m old command reply new step = subst (λ notes. AreThen (prepare_notes notes (rmap_of old)) old.world command reply.answer (rmap_of new)) (sym step.legal.notes) (record {
-  areas = step.rmap.areas ∙ (λ i. next_areas (chain_length (same.anons i)) (same.areas i) old.world command reply.answer);
-  anons = subst (λ (anons : Anons). AreLeft anons new.areas new.anons) same.anons step.rmap.anons;
+now-is m old command other reply new step = subst (λ notes. AreThen (prepare_notes notes (rmap_of old)) old.world command reply.answer (rmap_of new)) (sym step.legal.notes) (record {
+  areas = plain.areas ∙ (λ i. next_areas (chain_length (same.anons i)) (same.areas i) old.world command reply.answer);
+  anons = subst (λ (anons : Anons). AreLeft anons new.areas new.anons) same.anons plain.anons;
 })
   where
+    plain : AreNext (rmap_after_all old.ledger step.events (rmap_of old)) old.world command reply.answer (rmap_of new)
+    plain = plain-next (rmap_after_all old.ledger step.events (rmap_of old)) old.world command reply.answer (rmap_of new) other step.rmap
+
     same : AreSame (rmap_after_all old.ledger step.events (rmap_of old)) (prepare_notes (notes_of step.events) (rmap_of old))
     same = rmap_after_all-notes old.ledger step.events (rmap_of old) (rmap_of old) (record { areas = refl; anons = refl })
 
 -- what a step leaves is what is left once these are the areas
-never-leaves : (command : Command) (left wrong : Anons) → AreLeft with_anons.anons (on_after command Done) left
+never-leaves : (command : Command) → is_fork command ≡ false → (left wrong : Anons) → AreLeft with_anons.anons (on_after command Done) left
     → (left ≡ wrong → ⊥) → NeverLeaves command wrong
-never-leaves command left wrong is differ new step same =
-    let next = now-is (machine 4) with_anons command (reply_with Done []) new step in
+never-leaves command other left wrong is differ new step same =
+    let next = now-is (machine 4) with_anons command other (reply_with Done []) new step in
     differ (left-one with_anons.anons (on_after command Done) left new.anons is
     (subst (λ on. AreLeft with_anons.anons on new.anons) next.areas next.anons) ∙ same)
 
@@ -195,7 +199,7 @@ length_of (Some v) = length v.chain
 
 -- where the second two pages are gone
 never-left : (wrong : Anons) → (anons_of (Some root) None 2 ≡ wrong → ⊥) → NeverLeaves second_goes wrong
-never-left wrong differ = never-leaves second_goes (anons_of (Some root) None 2) wrong root-left differ
+never-left wrong differ = never-leaves second_goes refl (anons_of (Some root) None 2) wrong root-left differ
 
 pub child_kept-not : NeverLeaves second_goes (anons_of (Some root) (Some child) 2)
 child_kept-not = never-left (anons_of (Some root) (Some child) 2) (λ e. never (ap (λ (a : Anons). is_some (a.anon 1)) e))
@@ -204,7 +208,7 @@ pub root_lost-not : NeverLeaves second_goes (anons_of None None 2)
 root_lost-not = never-left (anons_of None None 2) (λ e. never (sym (ap (λ (a : Anons). is_some (a.anon 0)) e)))
 
 pub root_of_child_lost-not : NeverLeaves first_goes (anons_of None (Some child) 2)
-root_of_child_lost-not = never-leaves first_goes (anons_of (Some root) (Some child) 2) (anons_of None (Some child) 2)
+root_of_child_lost-not = never-leaves first_goes refl (anons_of (Some root) (Some child) 2) (anons_of None (Some child) 2)
     (both-left (on_after first_goes Done) (1, 0x14, refl) (1, 0x14, refl)) (λ e. never (sym (ap (λ (a : Anons). is_some (a.anon 0)) e)))
 
 pub other_root-not : NeverLeaves second_goes (anons_of (Some (record root { root = 1 })) None 2)
@@ -228,15 +232,15 @@ abbrev pub first_page : Option Area → ℕ
 first_page None = 0
 first_page (Some area) = area.start
 
-never-puts : (command : Command) (answer : Answer) (page : ℕ) (area : Area) → (on_after command answer 1 page ≡ Some area → ⊥)
+never-puts : (command : Command) → is_fork command ≡ false → (answer : Answer) (page : ℕ) (area : Area) → (on_after command answer 1 page ≡ Some area → ⊥)
     → NeverPuts command answer page area
-never-puts command answer page wrong differ new step at =
-    differ (sym (ap (λ (on : Areas). on 1 page) (now-is (machine 4) with_anons command (reply_with answer []) new step).areas) ∙ at)
+never-puts command other answer page wrong differ new step at =
+    differ (sym (ap (λ (on : Areas). on 1 page) (now-is (machine 4) with_anons command other (reply_with answer []) new step).areas) ∙ at)
 
 pub apart_from_root-not : NeverPuts behind_first (MapAt 0x12000) 0x12 (area 0x12 0x13 read_write)
-apart_from_root-not = never-puts behind_first (MapAt 0x12000) 0x12 (area 0x12 0x13 read_write)
+apart_from_root-not = never-puts behind_first refl (MapAt 0x12000) 0x12 (area 0x12 0x13 read_write)
     (λ e. let d : ◌≡◌ {A = ℕ} 0x10000 0x12000 = ap first_page e in omega (arith, d))
 
 pub joined_to_child-not : NeverPuts behind_second (MapAt 0x16000) 0x16 (area_of 1 0x14 0x17)
-joined_to_child-not = never-puts behind_second (MapAt 0x16000) 0x16 (area_of 1 0x14 0x17)
+joined_to_child-not = never-puts behind_second refl (MapAt 0x16000) 0x16 (area_of 1 0x14 0x17)
     (λ e. let d : ◌≡◌ {A = ℕ} 0x16000 0x14000 = ap first_page e in omega (arith, d))

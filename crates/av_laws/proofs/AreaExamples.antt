@@ -1,11 +1,12 @@
 -- The areas after some commands.
-use Rattle.std.proofs.Common.{◌≡◌, ℕ, List, [], ◌∷◌, Option, Some, None, refl, sym, ap, subst, ◌∙◌, arith}
-use Rattle.std.specs.Prelude.{if◌then◌else◌}
+use Rattle.std.proofs.Common.{◌≡◌, ℕ, Bool, true, false, List, [], ◌∷◌, Option, Some, None, refl, sym, ap, subst, ◌∙◌, arith}
+use Rattle.std.specs.Prelude.{MatchBool, if◌then◌else◌}
 use Rattle.std.specs.List.{AllByRecursion}
 use Rattle.av_base.specs.Words.{numbers}
 use Rattle.av_vma.specs.Pages.{pages_in}
 use Rattle.av_vma.specs.declared.area.Area.{Area}
 use Rattle.av_plain.specs.Areas.{AreLeft, Areas, chain_length, next_areas, no_anons, no_areas}
+use Rattle.av_plain.proofs.Transcript.{is_fork}
 use Rattle.av_plain.proofs.AreasLeft.{left-none, left-one, prepare_notes}
 use Rattle.av_plain.specs.Ledger.{Setting}
 use Rattle.av_plain.specs.Step.{next}
@@ -25,20 +26,31 @@ areas_after w on [] = on
 areas_after w on (e ∷ es) = areas_after (next w e.command e.reply.answer)
     (next_areas (chain_length no_anons) on w e.command e.reply.answer) es
 
--- no reply tells a note
+-- no command is a fork, and no reply tells a note
+abbrev IsQuiet : Exchange → Type 0
+IsQuiet e = MatchBool (is_fork e.command) ⊥ (e.reply.notes ≡ [])
+
 abbrev AreQuiet : List Exchange → Type 0
-AreQuiet row = AllByRecursion (λ (e : Exchange). e.reply.notes ≡ []) row
+AreQuiet row = AllByRecursion IsQuiet row
+
+quiet_parts : (e : Exchange) → IsQuiet e → (is_fork e.command ≡ false) × (e.reply.notes ≡ [])
+quiet_parts e h = by (is_fork e.command) h
+  where
+    by : (b : Bool) → MatchBool b ⊥ (e.reply.notes ≡ []) → (b ≡ false) × (e.reply.notes ≡ [])
+    by true h = absurd h
+    by false h = (refl, h)
 
 run-areas : (m : Setting) (old : State) (es : List Exchange) (new : State) → Tells m
     → old.anons ≡ no_anons → AreQuiet es → IsRun m old es new → new.areas ≡ areas_after old.world old.areas es
 run-areas m old [] new told none quiet h = ap (λ (s : State). s.areas) h
 run-areas m old (e ∷ es) new told none quiet h =
+    let silent = quiet_parts e quiet.0 in
     let world = h.1.world
     ∙ ap (λ w. next w e.command e.reply.answer)
     (loads-told m old.world old.ledger h.1.events told) in
     let now : AreThen (rmap_of old) old.world e.command e.reply.answer (rmap_of h.0) =
-    subst (λ notes. AreThen (prepare_notes notes (rmap_of old)) old.world e.command e.reply.answer (rmap_of h.0)) quiet.0
-    (now-is m old e.command e.reply h.0 h.1) in
+    subst (λ notes. AreThen (prepare_notes notes (rmap_of old)) old.world e.command e.reply.answer (rmap_of h.0)) silent.1
+    (now-is m old e.command silent.0 e.reply h.0 h.1) in
     let areas = now.areas
     ∙ ap (λ a. next_areas (chain_length a) old.areas old.world e.command e.reply.answer) none in
     let left = subst (λ a. AreLeft a h.0.areas h.0.anons) none now.anons in

@@ -1,5 +1,5 @@
 -- In a run the areas of each process cover exactly its pages, with their protection.
-use Rattle.std.proofs.Common.{◌≡◌, ℕ, zero, suc, ◌+◌, ◌-◌, ◌<◌, ◌≤◌, Bool, true, false, cond, not, ◌&&◌, ◌||◌, if◌then◌else◌, nat_lt, nat_le, ◌==◌, List, [], ◌∷◌, ◌++◌, length, Option, Some, None, is_some, option_map, refl, sym, ap, subst, ◌∙◌, arith}
+use Rattle.std.proofs.Common.{◌≡◌, ◌⊎◌, inl, inr, ℕ, zero, suc, ◌+◌, ◌-◌, ◌<◌, ◌≤◌, Bool, true, false, cond, not, ◌&&◌, ◌||◌, if◌then◌else◌, nat_lt, nat_le, ◌==◌, List, [], ◌∷◌, ◌++◌, length, Option, Some, None, is_some, option_map, refl, sym, ap, subst, ◌∙◌, arith}
 use Rattle.std.proofs.lemmas.Bool.Decides.{nat_tests}
 use Rattle.std.proofs.lemmas.Option.{none-some}
 use Rattle.std.specs.FinMap.Entries.{find}
@@ -11,7 +11,7 @@ use Rattle.av_base.specs.Words.{with_at, within}
 use Rattle.av_base.specs.declared.prot.Prot.{Prot}
 use Rattle.av_base.specs.declared.slot.Slot.{Slot}
 use Rattle.av_trace.specs.declared.command.Command.{Command}
-use Rattle.av_trace.specs.declared.command.Command.TheVariants.{Spawn, Exit, Mmap, Munmap, Mprotect, Read, Write, Maps, Areas as AsksAreas, Rmap as AsksRmap, Entry as AsksEntry, Stat}
+use Rattle.av_trace.specs.declared.command.Command.TheVariants.{Spawn, Fork, Exit, Mmap, Munmap, Mprotect, Read, Write, Maps, Areas as AsksAreas, Rmap as AsksRmap, Entry as AsksEntry, Stat}
 use Rattle.av_trace.specs.declared.place.Place.{Place}
 use Rattle.av_trace.specs.declared.place.Place.TheVariants.{Auto, At, Fixed, NoReplace}
 use Rattle.av_trace.specs.declared.reply.Answer.{Answer}
@@ -22,12 +22,13 @@ use Rattle.av_trace.specs.declared.reply.Reply.{Reply}
 use Rattle.av_trace.specs.declared.row.Row.{Row}
 use Rattle.av_vma.specs.Gap.{IsGap, IsRoom}
 use Rattle.av_vma.specs.Join.{same_prot}
-use Rattle.av_vma.specs.Pages.{AreLaid, Lengths, Pages, after_map, after_prepare, after_unmap, alters_at, cut_at, fresh_area, has_page, joined_at, loan_beside, page_changed, pages_changed, part_changed, to_prot, with_anon, with_area, with_effect, with_effect_on, without_range}
+use Rattle.av_vma.specs.Pages.{AreLaid, Lengths, Pages, after_map, after_prepare, after_unmap, alters_at, cut_at, fresh_area, has_page, IsWhole, joined_at, loan_beside, page_changed, pages_changed, part_changed, to_prot, with_anon, with_area, with_effect, with_effect_on, without_range}
 use Rattle.av_vma.specs.declared.area.Area.{Area}
 use Rattle.av_plain.specs.Access.{after_write, first_bytes}
 use Rattle.av_plain.specs.Areas.{Areas, Rmap, areas_to_hole, chain_length, next_areas, none_on, rmap_after_all, prepare_page, with_room}
 use Rattle.av_plain.proofs.AreasLeft.{rmap_after_all-keeps}
 use Rattle.av_plain.specs.Event.{Event}
+use Rattle.av_plain.specs.Fork.{AreForked}
 use Rattle.av_plain.specs.Ledger.{Ledger, Setting, entry}
 use Rattle.av_plain.specs.Load.{is_of_slot, with_loads, without_bytes, without_claims}
 use Rattle.av_plain.specs.Map.{with_prot_to_hole, zaps_for_place}
@@ -37,9 +38,11 @@ use Rattle.av_plain.specs.Step.{Follows, next, next_world}
 use Rattle.av_plain.specs.Transcript.{Exchange, IsRun, IsStep, State, at_first, rmap_of}
 use Rattle.av_plain.specs.World.{Page, Process, World, end_process, is_mapped, lives, meets, no_pages, pages, pages_to_hole, set_process, with_bytes, with_pages, with_prot, with_prot_on, zeros}
 use Rattle.av_laws.specs.Covered.{CoverPages}
+use Rattle.av_plain.proofs.Fork.Areas.{ChildHas, child-has, in_child}
 use Rattle.av_plain.proofs.Refusal.{loads-none, refused-areas, refused-next}
 use Rattle.av_plain.proofs.Sound.{loads-same}
 use Rattle.av_plain.proofs.Sound.Zap.{pages-ended}
+use Rattle.av_plain.proofs.Transcript.{IsFork, IsPlain, next-cases}
 use Rattle.av_plain.proofs.World.{pages-set}
 use Rattle.av_plain.proofs.World.Ranges.{meets-none}
 use Rattle.av_laws.proofs.ReadBack.InRuns.{first-test}
@@ -449,15 +452,16 @@ module _ (long : Lengths) (prot : Prot) where
 
 covers-follows : (m : Setting) (w now : World) (l : Ledger) (long : Lengths) (on : Areas) (command : Command) (es : List Event) (answer : Answer)
     (rows : List Row)
-    → (es ≡ [] → now ≡ w) → CoverPages now on → refusal (tests m w l command) ≡ None → Follows m w l command es answer rows
+    → ((p q : ℕ) → command ≡ Fork p q → answer ≡ Done → ⊥) → (es ≡ [] → now ≡ w) → CoverPages now on → refusal (tests m w l command) ≡ None → Follows m w l command es answer rows
     → CoverPages (next now command answer) (next_areas long on w command answer)
-covers-follows m w now l long on (Spawn p) es answer rows same c none h = subst
+covers-follows m w now l long on (Spawn p) es answer rows other same c none h = subst
     (λ x. CoverPages (next now (Spawn p) x) (next_areas long on w (Spawn p) x)) (sym h.0)
     (covers_set now on p no_pages none_on c covers_none)
-covers-follows m w now l long on (Exit p) es answer rows same c none h = subst
+covers-follows m w now l long on (Fork p q) es answer rows other same c none h = absurd (other p q refl h.0)
+covers-follows m w now l long on (Exit p) es answer rows other same c none h = subst
     (λ x. CoverPages (next now (Exit p) x) (next_areas long on w (Exit p) x)) (sym h.0)
     (covers_ended now on p c)
-covers-follows m w now l long on (Mmap p len prot place) es answer rows same c none h = at h.0 h.1 h.2
+covers-follows m w now l long on (Mmap p len prot place) es answer rows other same c none h = at h.0 h.1 h.2
   where
     tests_pass : ((len == 0) ≡ false) × (refusal (place_tests (pages w p) (pages_of len) place) ≡ None)
     tests_pass =
@@ -498,10 +502,10 @@ covers-follows m w now l long on (Mmap p len prot place) es answer rows same c n
     at (Some page) goes e = subst (λ x. CoverPages (next now (Mmap p len prot place) x) (next_areas long on w (Mmap p len prot place) x)) (sym e)
         (covers_set now on p _ _ c (covers_mapped long p (pages now p) (with_room (pages_of len) place (on p)) (page_of (address_of page)) (pages_of len) prot
         (subst (λ f. Room (pages now p) (with_room (pages_of len) place (on p)) f (pages_of len)) (sym (back page)) (room place page tests_pass.1 goes h.3))))
-covers-follows m w now l long on (Munmap p a len) es answer rows same c none h = subst
+covers-follows m w now l long on (Munmap p a len) es answer rows other same c none h = subst
     (λ x. CoverPages (next now (Munmap p a len) x) (next_areas long on w (Munmap p a len) x)) (sym h.0)
     (covers_set now on p _ _ c (covers_unmapped (pages now p) (on p) (page_of a) (pages_of len) (covers_one now on p c)))
-covers-follows m w now l long on (Mprotect p a len prot) es answer rows same c none h = subst
+covers-follows m w now l long on (Mprotect p a len prot) es answer rows other same c none h = subst
     (λ x. CoverPages (next now (Mprotect p a len prot) x) (next_areas long on w (Mprotect p a len prot) x)) (sym h.0)
     (subst (λ now. CoverPages now on → CoverPages (next now (Mprotect p a len prot)
     (if pages_to_hole (pages w p) (page_of a) (pages_of len) == pages_of len then Done else Refused Enomem))
@@ -524,20 +528,63 @@ covers-follows m w now l long on (Mprotect p a len prot) es answer rows same c n
             (if b then on else with_at p (areas_to_hole long w p (page_of a) (pages_of len) prot (on p)) on)
         by true = c
         by false = after_change (pages_to_hole (pages w p) (page_of a) (pages_of len)) c
-covers-follows m w now l long on (Read p a n) es answer rows same c none h = c
-covers-follows m w now l long on (Write p a bytes) es answer rows same c none h = covers_stored now on p a (first_bytes answer bytes) c
-covers-follows m w now l long on (Maps p) es answer rows same c none h = c
-covers-follows m w now l long on (AsksAreas p) es answer rows same c none h = c
-covers-follows m w now l long on (AsksRmap p a) es answer rows same c none h = c
-covers-follows m w now l long on (AsksEntry p a) es answer rows same c none h = c
-covers-follows m w now l long on Stat es answer rows same c none h = c
+covers-follows m w now l long on (Read p a n) es answer rows other same c none h = c
+covers-follows m w now l long on (Write p a bytes) es answer rows other same c none h = covers_stored now on p a (first_bytes answer bytes) c
+covers-follows m w now l long on (Maps p) es answer rows other same c none h = c
+covers-follows m w now l long on (AsksAreas p) es answer rows other same c none h = c
+covers-follows m w now l long on (AsksRmap p a) es answer rows other same c none h = c
+covers-follows m w now l long on (AsksEntry p a) es answer rows other same c none h = c
+covers-follows m w now l long on Stat es answer rows other same c none h = c
+
+-- the child's areas are on the parent's pages
+covers_forked : (w : World) (p q : ℕ) (r next : Rmap) → CoverPages w r.areas → AreForked p q r next → CoverPages (set_process w q (pages w p)) next.areas
+covers_forked w p q r next c forks = record {
+  laid = λ k. laid k (k == q) refl;
+  prots = λ k page. at k page (k == q) refl ∙ sym (ap prot_of (pages-set w q (pages w p) k page ∙ ap (λ b. cond b (pages w p page) (pages w k page)) (same_number k q)));
+}
+  where
+    child : ChildHas p q r next
+    child = child-has p q r next forks
+
+    same_number : (q n : ℕ) → eq_by_cmp nat_cmp q n ≡ (q == n)
+    same_number q n = grind (arith, nat_tests)
+
+    whole : (page : ℕ) (a : Area) (o : Option Area) → r.areas p page ≡ o → next.areas q page ≡ Some a → (b : Area) × (r.areas p page ≡ Some b) × (in_child q b (child.own page) ≡ a)
+    whole page a None e is = absurd (none-some a (sym (child.none page e) ∙ is))
+    whole page a (Some b) e is = (b, e, same_some (sym (child.here page b e) ∙ is))
+      where
+        same_some : {x y : Area} → Some x ≡ Some y → x ≡ y
+        same_some e = cc
+
+    of : (page : ℕ) (a : Area) → next.areas q page ≡ Some a → (b : Area) × (r.areas p page ≡ Some b) × (in_child q b (child.own page) ≡ a)
+    of page a is = whole page a (r.areas p page) refl is
+
+    as_whole : (b : Area) (own : Option ℕ) → IsWhole b → IsWhole (in_child q b own)
+    as_whole b own h = record { start = h.start; end = h.end; some = h.some; low = h.low; high = h.high; small = h.small }
+
+    child_laid : AreLaid (next.areas q)
+    child_laid = record {
+      whole = λ page a is. let b = of page a is in subst IsWhole b.2 (as_whole b.0 (child.own page) ((c.laid p).whole page b.0 b.1));
+      here = λ page a is. let b = of page a is in subst (λ a. has_page a page ≡ true) b.2 ((c.laid p).here page b.0 b.1);
+      all = λ page other a is has. let b = of page a is in sym (child.one page other b.0 b.1 (subst (λ a. has_page a other ≡ true) (sym b.2) has)) ∙ is;
+    }
+
+    laid : (k : ℕ) (b : Bool) → (k == q) ≡ b → AreLaid (next.areas k)
+    laid k true e = let same : k ≡ q = grind (arith, nat_tests, e) in subst (λ k. AreLaid (next.areas k)) (sym same) child_laid
+    laid k false e = let same : next.areas k ≡ r.areas k = (λ i page. child.others k page e i) in subst AreLaid (sym same) (c.laid k)
+
+    child_prots : (page : ℕ) (o : Option Area) → r.areas p page ≡ o → option_map area_prot (next.areas q page) ≡ option_map area_prot (r.areas p page)
+    child_prots page None e = ap (option_map area_prot) (child.none page e) ∙ sym (ap (option_map area_prot) e)
+    child_prots page (Some b) e = ap (option_map area_prot) (child.here page b e) ∙ sym (ap (option_map area_prot) e)
+
+    at : (k page : ℕ) (b : Bool) → (k == q) ≡ b → option_map area_prot (next.areas k page) ≡ prot_of (cond b (pages w p page) (pages w k page))
+    at k page true e = let same : k ≡ q = grind (arith, nat_tests, e) in
+        ap (λ k. option_map area_prot (next.areas k page)) same ∙ child_prots page (r.areas p page) refl ∙ c.prots p page
+    at k page false e = ap (option_map area_prot) (child.others k page e) ∙ c.prots k page
 
 pub step-covers : (m : Setting) (old : State) (command : Command) (reply : Reply) (new : State) → CoverPages old.world old.areas
     → IsStep m old command reply new → CoverPages new.world new.areas
-step-covers m old command reply new c h =
-    subst (CoverPages new.world) (sym h.rmap.areas) (subst (λ w. CoverPages w
-    (next_areas (chain_length later.anons) later.areas old.world command reply.answer)) (sym h.world)
-    (by (refusal (tests m old.world old.ledger command)) refl h.legal.answer))
+step-covers m old command reply new c h = case (next-cases later old.world command reply.answer (rmap_of new) h.rmap)
   where
     now : World
     now = with_loads m old.world old.ledger h.events
@@ -549,19 +596,27 @@ step-covers m old command reply new c h =
     after_loads = covers_loads m old.world old.ledger h.events (rmap_after_all old.ledger h.events (rmap_of old)).areas
         (covers_prepared old.world old.ledger h.events (rmap_of old) c)
 
-    by : (o : Option Errno) → refusal (tests m old.world old.ledger command) ≡ o
+    by : ((p q : ℕ) → command ≡ Fork p q → reply.answer ≡ Done → ⊥) → (o : Option Errno) → refusal (tests m old.world old.ledger command) ≡ o
         → MatchOption o (Follows m old.world old.ledger command h.events reply.answer reply.rows) (λ error. Refuses error h.events reply.answer reply.rows)
         → CoverPages (next_world m old.world old.ledger h.events command reply.answer)
         (next_areas (chain_length (rmap_after_all old.ledger h.events (rmap_of old)).anons) (rmap_after_all old.ledger h.events (rmap_of old)).areas old.world command reply.answer)
-    by None is x = covers-follows m old.world (with_loads m old.world old.ledger h.events) old.ledger
+    by other None is x = covers-follows m old.world (with_loads m old.world old.ledger h.events) old.ledger
         (chain_length later.anons) later.areas command h.events reply.answer reply.rows
-        (loads-none m old.world old.ledger h.events) after_loads is x
-    by (Some error) is x = subst (λ a. CoverPages (next (with_loads m old.world old.ledger h.events) command a)
+        other (loads-none m old.world old.ledger h.events) after_loads is x
+    by other (Some error) is x = subst (λ a. CoverPages (next (with_loads m old.world old.ledger h.events) command a)
         (next_areas (chain_length later.anons) later.areas old.world command a)) (sym x.0)
         (subst (λ w. CoverPages w (next_areas (chain_length later.anons) later.areas old.world command (Refused error)))
         (sym (refused-next m old.world (with_loads m old.world old.ledger h.events) old.ledger command error is))
         (subst (CoverPages (with_loads m old.world old.ledger h.events))
         (sym (refused-areas m old.world old.ledger (chain_length later.anons) later.areas command error is)) after_loads))
+
+    case : IsPlain later old.world command reply.answer (rmap_of new) ⊎ IsFork later command reply.answer (rmap_of new) → CoverPages new.world new.areas
+    case (inl plain) = subst (CoverPages new.world) (sym plain.is.areas) (subst (λ w. CoverPages w
+        (next_areas (chain_length later.anons) later.areas old.world command reply.answer)) (sym h.world)
+        (by plain.other (refusal (tests m old.world old.ledger command)) refl h.legal.answer))
+    case (inr fork) = subst (λ w. CoverPages w new.areas)
+        (sym (h.world ∙ (λ i. next (with_loads m old.world old.ledger h.events) (fork.command_is i) (fork.answer_is i))))
+        (covers_forked (with_loads m old.world old.ledger h.events) fork.parent fork.child later (rmap_of new) after_loads fork.forked)
 
 run-from : (m : Setting) (old : State) (es : List Exchange) (new : State) → CoverPages old.world old.areas → IsRun m old es new → CoverPages new.world new.areas
 run-from m old [] new c h = subst (λ (s : State). CoverPages s.world s.areas) (sym h) c

@@ -5,7 +5,7 @@ use Rattle.std.specs.Prelude.{IfSome, MatchBool, MatchOption, option_and_then, s
 use Rattle.std.specs.Ordering.{nat_cmp, eq_by_cmp}
 use Rattle.av_vma.specs.Gap.{IsGap}
 use Rattle.av_trace.specs.declared.command.Command.{Command}
-use Rattle.av_trace.specs.declared.command.Command.TheVariants.{Spawn, Exit, Mmap, Munmap, Mprotect, Read, Write, Maps, Areas as AsksAreas, Rmap, Entry as AsksEntry, Stat}
+use Rattle.av_trace.specs.declared.command.Command.TheVariants.{Spawn, Fork, Exit, Mmap, Munmap, Mprotect, Read, Write, Maps, Areas as AsksAreas, Rmap, Entry as AsksEntry, Stat}
 use Rattle.av_trace.specs.declared.place.Place.{Place}
 use Rattle.av_trace.specs.declared.place.Place.TheVariants.{Auto, At, Fixed, NoReplace}
 use Rattle.av_trace.specs.declared.reply.Errno.{Errno}
@@ -23,21 +23,22 @@ use Rattle.av_plain.specs.Access.{Accesses, End, Reads, Stopped, Whole, after_wr
 use Rattle.av_plain.specs.Choice.{ChoosesAll, Free}
 use Rattle.av_plain.specs.Event.{Event, Used, after_all, note_events, notes_of}
 use Rattle.av_plain.specs.Fault.{Denied, Lost, Starved, Stop, is_allowed, permits}
+use Rattle.av_plain.specs.Fork.{IsRmapNext}
 use Rattle.av_plain.specs.Ledger.{Key, Ledger, Setting}
 use Rattle.av_plain.specs.Load.{after_loads, with_loads}
 use Rattle.av_plain.specs.Map.{with_prot_to_hole}
 use Rattle.av_plain.specs.Place.{Goes, IsMapAt, is_room}
 use Rattle.av_plain.specs.Refusal.{Refuses, low, refusal, tests, wraps}
-use Rattle.av_plain.specs.Areas.{AreLeft, AreNext, rmap_after_all, Anons, Areas}
+use Rattle.av_plain.specs.Areas.{rmap_after_all, Anons, Areas}
 use Rattle.av_plain.specs.Report.{ShowsAreas}
 use Rattle.av_plain.specs.Step.{Follows, IsLegal, closing_area, fault_answers, next, next_world}
 use Rattle.av_plain.specs.Transcript.{Exchange, IsRun, IsStep, State, at_first, rmap_of}
 use Rattle.av_plain.specs.World.{Page, Process, Shows, World, byte_at, end_process, is_mapped, no_pages, pages, pages_to_hole, set_process, with_bytes, with_pages, with_prot, with_prot_on, zeros}
+use Rattle.av_laws.proofs.OneFork.{next-one}
 use Rattle.av_laws.proofs.AreaRows.{one-rows}
 use Rattle.av_laws.proofs.Maps.{one-answer}
 use Rattle.av_laws.proofs.OnePage.{is_lost, touches-one}
 use Rattle.av_laws.proofs.OnePass.{AreDone, chooses-one, chosen-first, done-append, done-is}
-use Rattle.av_plain.proofs.AreasLeft.{left-one as anons-one}
 use Rattle.av_plain.proofs.Access.{notes_of-append, notes_of-note_events}
 use Rattle.av_plain.proofs.Refusal.{refused-next}
 use Rattle.av_plain.proofs.Sound.Zap.{pages-ended}
@@ -288,6 +289,8 @@ follows-one m w l on anons (Spawn p) es fs answer answer' rows rows' closing fre
       reports = h.2
           ∙ sym g.2;
     }
+follows-one m w l on anons (Fork p q) es fs answer answer' rows rows' closing free a b told claimed kept kept'
+    x y c d h g s t = record { events = h.1 ∙ sym g.1; answers = h.0 ∙ sym g.0; reports = h.2 ∙ sym g.2 }
 follows-one m w l on anons (Exit p) es fs answer answer' rows rows' closing free a b told claimed kept kept'
     x y c d h g s t = record {
       events = h.1 ∙ sym g.1;
@@ -377,20 +380,17 @@ step-one m old new new' command reply reply' told claimed kept kept' h g =
     new'.free told (subst (λ es. ChoosesAll m closing old.ledger es old.free new.free)
     same.events h.free) g.free in
     let now = rmap_after_all old.ledger g.events (rmap_of old) in
-    let mine : AreNext now old.world command reply'.answer (rmap_of new) = subst (λ a. AreNext now old.world command a (rmap_of new)) same.answers
-    (subst (λ es. AreNext (rmap_after_all old.ledger es (rmap_of old)) old.world command reply.answer (rmap_of new)) same.events h.rmap) in
-    let areas : new.areas ≡ new'.areas = mine.areas ∙ sym g.rmap.areas in
-    let anons : new.anons ≡ new'.anons = anons-one now.anons new'.areas new.anons new'.anons
-    (subst (λ on. AreLeft now.anons on new.anons) areas mine.anons) g.rmap.anons in
-    let homes : new.homes ≡ new'.homes = mine.homes ∙ sym g.rmap.homes in (
+    let mine : IsRmapNext now old.world command reply'.answer (rmap_of new) = subst (λ a. IsRmapNext now old.world command a (rmap_of new)) same.answers
+    (subst (λ es. IsRmapNext (rmap_after_all old.ledger es (rmap_of old)) old.world command reply.answer (rmap_of new)) same.events h.rmap) in
+    let rmap = next-one now old.world command reply'.answer (rmap_of new) (rmap_of new') mine g.rmap in (
       (λ i. record { answer = same.answers i; notes = notes i; rows = same.reports i }),
       (λ i. record {
         world = world i;
         ledger = ledger i;
         free = free i;
-        areas = areas i;
-        anons = anons i;
-        homes = homes i;
+        areas = (rmap i).areas;
+        anons = (rmap i).anons;
+        homes = (rmap i).homes;
       }),
     )
 
@@ -442,6 +442,7 @@ claimed-follows m w l command es answer rows told claimed h = subst (λ v. IsCla
   where
     by : (command : Command) → Follows m w l command es answer rows → IsClaimed (next w command answer)
     by (Spawn p) h = subst (λ x. IsClaimed (next w (Spawn p) x)) (sym h.0) (claimed-set w p no_pages claimed (λ page. tt))
+    by (Fork p q) h = subst (λ x. IsClaimed (next w (Fork p q) x)) (sym h.0) (claimed-set w q (pages w p) claimed (claimed p))
     by (Exit p) h = subst (λ x. IsClaimed (next w (Exit p) x)) (sym h.0) (claimed-ended w p claimed)
     by (Mmap p len prot place) h = at h.0 h.2
       where

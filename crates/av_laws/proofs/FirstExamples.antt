@@ -20,6 +20,7 @@ use Rattle.av_plain.specs.Access.{Whole, Stopped}
 use Rattle.av_plain.specs.Report.{ShowsAreas}
 use Rattle.av_plain.specs.Step.{IsLegal, next_world}
 use Rattle.av_plain.specs.Areas.{Anons, AnonVma, Areas, AreLeft, chain_length, chain_of, IsLinked, next_areas, no_anons, no_areas, no_homes, rmap_after_all, Rmap}
+use Rattle.av_plain.proofs.Transcript.{is_forked, next-unforked}
 use Rattle.av_plain.proofs.Report.Areas.{asks_areas, shows-none}
 use Rattle.av_plain.proofs.AreasLeft.{AreBelow, below-all, below-left, left-all}
 use Rattle.av_plain.specs.Choice.{no_slots}
@@ -93,32 +94,48 @@ state_after m old e events free anons =
       homes = now.homes;
     }
 
-pub one-step : (m : Setting) (old : State) (e : Exchange) (events : List Event) (free : List ℕ) (left : Anons)
+pub one-step : (m : Setting) (old : State) (e : Exchange) → is_forked e.command e.reply.answer ≡ false → (events : List Event) (free : List ℕ) (left : Anons)
     → IsLegal m old.world old.ledger e.command e.reply events → ChoosesFrames m old.ledger events old.free.frames free
     → gives_all m None old.ledger events old.free.slots ≡ true
     → AreLeft (rmap_after_all old.ledger events (rmap_of old)).anons (state_after m old e events free left).areas left
     → ShowsAreas old.areas old.anons e.command e.reply.answer e.reply.rows
     → IsStep m old e.command e.reply (state_after m old e events free left)
-one-step m old e events free left legal frames given is shows = record {
+one-step m old e other events free left legal frames given is shows = record {
   events = events;
   legal = legal;
   world = refl;
   ledger = refl;
   free = all-chosen m None old.ledger events old.free.frames free old.free.slots frames given;
-  rmap = record { areas = refl; anons = is; homes = refl };
+  rmap = next-unforked (rmap_after_all old.ledger events (rmap_of old)) old.world e.command e.reply.answer (rmap_of (state_after m old e events free left)) other (record { areas = refl; anons = is; homes = refl });
   shows = shows;
 }
 
--- the reply is legal; where areas are asked, its rows show them
+-- the reply is legal; where areas are asked, its rows show them. (What a fork leaves that was done is told in `ForkExamples`.)
 abbrev Answers : Setting → State → Exchange → List Event → Type 0
 Answers m old e events =
     let legal : Type 0 = IsLegal m old.world old.ledger e.command e.reply events in
-    MatchBool (asks_areas e.command) (legal × ShowsAreas old.areas old.anons e.command e.reply.answer e.reply.rows) legal
+    MatchBool (is_forked e.command e.reply.answer) ⊥
+    (MatchBool (asks_areas e.command) (legal × ShowsAreas old.areas old.anons e.command e.reply.answer e.reply.rows) legal)
+
+no_fork : (m : Setting) (old : State) (e : Exchange) (events : List Event) → Answers m old e events → is_forked e.command e.reply.answer ≡ false
+no_fork m old e events h = by (is_forked e.command e.reply.answer) h
+  where
+    by : (b : Bool) → MatchBool b ⊥ (MatchBool (asks_areas e.command) (IsLegal m old.world old.ledger e.command e.reply events × ShowsAreas old.areas old.anons e.command e.reply.answer e.reply.rows)
+        (IsLegal m old.world old.ledger e.command e.reply events)) → b ≡ false
+    by true h = absurd h
+    by false h = refl
 
 answers : (m : Setting) (old : State) (e : Exchange) (events : List Event) → Answers m old e events
     → IsLegal m old.world old.ledger e.command e.reply events × ShowsAreas old.areas old.anons e.command e.reply.answer e.reply.rows
-answers m old e events h = by (asks_areas e.command) refl h
+answers m old e events h = by (asks_areas e.command) refl (plain (is_forked e.command e.reply.answer) h)
   where
+    plain : (b : Bool) → MatchBool b ⊥ (MatchBool (asks_areas e.command) (IsLegal m old.world old.ledger e.command e.reply events × ShowsAreas old.areas old.anons e.command e.reply.answer e.reply.rows)
+        (IsLegal m old.world old.ledger e.command e.reply events))
+        → MatchBool (asks_areas e.command) (IsLegal m old.world old.ledger e.command e.reply events × ShowsAreas old.areas old.anons e.command e.reply.answer e.reply.rows)
+        (IsLegal m old.world old.ledger e.command e.reply events)
+    plain true h = absurd h
+    plain false h = h
+
     by : (b : Bool) → asks_areas e.command ≡ b
         → MatchBool b (IsLegal m old.world old.ledger e.command e.reply events × ShowsAreas old.areas old.anons e.command e.reply.answer e.reply.rows)
         (IsLegal m old.world old.ledger e.command e.reply events)
@@ -165,7 +182,7 @@ from_steps m old (e ∷ row) below h =
       rest.0,
       (
         mid,
-        one-step m old e h.0 h.1 left.0 (answers m old e h.0 h.2).0 h.3 both.0 left.1 (answers m old e h.0 h.2).1,
+        one-step m old e (no_fork m old e h.0 h.2) h.0 h.1 left.0 (answers m old e h.0 h.2).0 h.3 both.0 left.1 (answers m old e h.0 h.2).1,
         rest.1,
       ),
     )

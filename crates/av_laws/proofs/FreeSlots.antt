@@ -15,7 +15,7 @@ use Rattle.av_laws.proofs.Clusters.{AreTaken, Gives, back-at, back-count, gives-
 use Rattle.av_base.specs.Page.{page_of, pages_of}
 use Rattle.av_base.specs.Words.{how_many, numbers, with_at}
 use Rattle.av_trace.specs.declared.command.Command.{Command}
-use Rattle.av_trace.specs.declared.command.Command.TheVariants.{Spawn, Exit, Mmap, Munmap, Mprotect, Read, Write, Maps, Areas as AsksAreas, Rmap, Entry as AsksEntry, Stat}
+use Rattle.av_trace.specs.declared.command.Command.TheVariants.{Spawn, Fork, Exit, Mmap, Munmap, Mprotect, Read, Write, Maps, Areas as AsksAreas, Rmap, Entry as AsksEntry, Stat}
 use Rattle.av_trace.specs.declared.place.Place.TheVariants.{Auto, At, Fixed, NoReplace}
 use Rattle.av_trace.specs.declared.reply.Errno.{Errno}
 use Rattle.av_trace.specs.declared.reply.Reply.{Reply}
@@ -23,21 +23,25 @@ use Rattle.av_trace.specs.declared.note.Note.{Note}
 use Rattle.av_trace.specs.declared.note.Note.TheVariants.{Aged, Copied, Dropped, Failed, Kept, Loaded, Mapped, New, Put, Started, Unmapped, Written, Zeroed}
 use Rattle.av_plain.specs.Access.{Accesses, End, page_events, pages_of_access}
 use Rattle.av_plain.specs.Choice.{AreaSlots, ChoosesAll, Free, IsGiven, ListsSlots, new_free_slots, slot_in_note, with_given_back}
-use Rattle.av_plain.specs.Event.{Event, Used, after_all, after_note, after_notes, after_use, after_zap, note_events, when}
+use Rattle.av_plain.specs.Event.{Event, Forked, Used, after_all, after_note, after_notes, after_use, after_zap, note_events, when}
 use Rattle.av_plain.specs.Fault.{Stop, Touches}
+use Rattle.av_plain.specs.Fork.{inherited}
 use Rattle.av_plain.specs.Ledger.{Cached, Key, Ledger, Setting, SwapArea, entry, free_slots, is_cached, is_free_slot, is_on, is_orphan, is_usable, key_cmp, same_slot, size_of, slot_count, slot_entries, slots_in_use}
 use Rattle.av_plain.specs.Refusal.{Refuses, refusal, tests}
 use Rattle.av_plain.specs.Sound.{AllSound, IsSound, count, is_there, slots}
 use Rattle.av_plain.specs.Step.{Follows, IsLegal}
 use Rattle.av_plain.specs.Transcript.{Exchange, IsRun, IsStep, State, at_first}
-use Rattle.av_plain.specs.World.{World}
+use Rattle.av_plain.specs.World.{World, lives}
 use Rattle.av_plain.specs.Zap.{keys_in, keys_of_process, orphan_drop, slot_behind_key, zap_of, zaps_of}
 use Rattle.av_plain.proofs.Access.{after_all-append, note_events-all}
 use Rattle.av_plain.proofs.NoDevice.{never}
-use Rattle.av_plain.proofs.Sound.{first-sound, step-sound}
+use Rattle.av_plain.proofs.Fork.{child_ledger}
+use Rattle.av_plain.proofs.Refusal.{may-fork}
+use Rattle.av_plain.proofs.Sound.{first-sound, no_entries, step-sound}
 use Rattle.av_plain.proofs.Sound.Access.{page_events-kept, touches-kept}
 use Rattle.av_plain.proofs.Sound.Changes.{any-counts}
 use Rattle.av_plain.proofs.Sound.Counts.{same-is, slot-is, slot-itself}
+use Rattle.av_plain.proofs.Sound.Fork.{forked-no_new}
 use Rattle.av_plain.proofs.Sound.There.{AreLawful, IsLawful, NoNew, lawful-no_new, lawful-touches, sorted-note, used-no_new}
 use Rattle.av_plain.proofs.Sound.Zap.{zap_of-kept}
 use Rattle.av_plain.proofs.Zap.{in_order-after_zap, same_swap-after_zap, slot_entries-after_zap}
@@ -500,13 +504,41 @@ zaps-inv m l (k ∷ ks) free free' s c h =
     subst (λ x. Inv m x free'.slots) (sym (after_all-append l (zap_of l k) (zaps_of (after_all l (zap_of l k)) ks)))
     (zaps-inv m (after_all l (zap_of l k)) ks both.0 free' (zap_of-kept m l k s) both.2 (zap-inv m l k free both.0 s both.1 h))
 
+-- ---- entries that go over
+
+fork-brings : (m : Setting) (l : Ledger) (p q : ℕ) → IsSound m l → ((page : ℕ) → entry l (q, page) ≡ None) → Brings l (child_ledger p q l) None
+fork-brings m l p q s none = plain-brings m l (child_ledger p q l) (forked-no_new (bare m) l p q (record {
+  in_order = s.in_order;
+  slots_once = s.slots_once;
+  frames_once = s.frames_once;
+  in_range = s.in_range;
+  listed = s.listed;
+  flying = s.flying;
+  used = s.used;
+  one = s.one;
+}) none)
+
+fork-inv : (m : Setting) (l : Ledger) (p q : ℕ) (free free' : Free) → IsSound m l → ((page : ℕ) → entry l (q, page) ≡ None)
+    → ChoosesAll m None l (Forked p q (inherited l p) ∷ []) free free' → Inv m l free.slots → Inv m (child_ledger p q l) free'.slots
+fork-inv m l p q free free' s none c h =
+    let d = c.1.slots in
+    subst (λ (f : Free). Inv m (child_ledger p q l) f.slots) (sym c.2)
+    (event-inv m None l (child_ledger p q l) None free.slots c.0.slots d.0 d.1 d.2 d.3 d.4 (fork-brings m l p q s none) h)
+
 -- ---- a step
 
-legal-inv : (m : Setting) (w : World) (l : Ledger) (command : Command) (reply : Reply) (es : List Event) (free free' : Free) → IsSound m l
+legal-inv : (m : Setting) (w : World) (l : Ledger) (command : Command) (reply : Reply) (es : List Event) (free free' : Free) → AllSound m w l
     → IsLegal m w l command reply es
     → ChoosesAll m None l es free free' → Inv m l free.slots → Inv m (after_all l es) free'.slots
-legal-inv m w l command reply es free free' s legal c h = by (refusal (tests m w l command)) legal.answer
+legal-inv m w l command reply es free free' sound legal c h = by (refusal (tests m w l command)) refl legal.answer
   where
+    s : IsSound m l
+    s = sound.ledger
+
+    forks : (p q : ℕ) → lives w q ≡ false → es ≡ Forked p q (inherited l p) ∷ [] → Inv m (after_all l es) free'.slots
+    forks p q dead e = subst (λ es. Inv m (after_all l es) free'.slots) (sym e)
+        (fork-inv m l p q free free' s (no_entries w l q sound.at_pages dead) (subst (λ es. ChoosesAll m None l es free free') e c) h)
+
     none : es ≡ [] → Inv m (after_all l es) free'.slots
     none e = subst (λ es. Inv m (after_all l es) free'.slots) (sym e)
         (subst (λ (f : Free). Inv m l f.slots) (sym (subst (λ es. ChoosesAll m None l es free free') e c)) h)
@@ -515,27 +547,28 @@ legal-inv m w l command reply es free free' s legal c h = by (refusal (tests m w
     these ks e = subst (λ es. Inv m (after_all l es) free'.slots) (sym e)
         (zaps-inv m l ks free free' s (subst (λ es. ChoosesAll m None l es free free') e c) h)
 
-    follows : (command : Command) → Follows m w l command es reply.answer reply.rows → Inv m (after_all l es) free'.slots
-    follows (Spawn p) q = none q.1
-    follows (Exit p) q = these (keys_of_process l p) q.1
-    follows (Mmap p len prot Auto) q = none q.3
-    follows (Mmap p len prot (At a)) q = none q.3
-    follows (Mmap p len prot (Fixed a)) q = these (keys_in l p (page_of a) (pages_of len)) q.3
-    follows (Mmap p len prot (NoReplace a)) q = none q.3
-    follows (Munmap p a len) q = these (keys_in l p (page_of a) (pages_of len)) q.1
-    follows (Mprotect p a len prot) q = none q.1
-    follows (Read p a n) q = accesses-inv m w l p (pages_of_access false a n) es q.0 free free' s q.2 c h
-    follows (Write p a bytes) q = accesses-inv m w l p (pages_of_access true a (length bytes)) es q.0 free free' s q.1 c h
-    follows (Maps p) q = none q.2
-    follows (AsksAreas p) q = none q.2
-    follows (Rmap p a) q = none q.1
-    follows (AsksEntry p a) q = none q.1
-    follows Stat q = none q.1
+    follows : (command : Command) → refusal (tests m w l command) ≡ None → Follows m w l command es reply.answer reply.rows → Inv m (after_all l es) free'.slots
+    follows (Spawn p) fine q = none q.1
+    follows (Fork p c) fine q = forks p c (may-fork m w l p c fine).child q.1
+    follows (Exit p) fine q = these (keys_of_process l p) q.1
+    follows (Mmap p len prot Auto) fine q = none q.3
+    follows (Mmap p len prot (At a)) fine q = none q.3
+    follows (Mmap p len prot (Fixed a)) fine q = these (keys_in l p (page_of a) (pages_of len)) q.3
+    follows (Mmap p len prot (NoReplace a)) fine q = none q.3
+    follows (Munmap p a len) fine q = these (keys_in l p (page_of a) (pages_of len)) q.1
+    follows (Mprotect p a len prot) fine q = none q.1
+    follows (Read p a n) fine q = accesses-inv m w l p (pages_of_access false a n) es q.0 free free' s q.2 c h
+    follows (Write p a bytes) fine q = accesses-inv m w l p (pages_of_access true a (length bytes)) es q.0 free free' s q.1 c h
+    follows (Maps p) fine q = none q.2
+    follows (AsksAreas p) fine q = none q.2
+    follows (Rmap p a) fine q = none q.1
+    follows (AsksEntry p a) fine q = none q.1
+    follows Stat fine q = none q.1
 
-    by : (o : Option Errno) → MatchOption o (Follows m w l command es reply.answer reply.rows) (λ error. Refuses error es reply.answer reply.rows)
+    by : (o : Option Errno) → refusal (tests m w l command) ≡ o → MatchOption o (Follows m w l command es reply.answer reply.rows) (λ error. Refuses error es reply.answer reply.rows)
         → Inv m (after_all l es) free'.slots
-    by None q = follows command q
-    by (Some error) q = none q.1
+    by None fine q = follows command fine q
+    by (Some error) fine q = none q.1
 
 -- ---- from what is listed and back
 
@@ -620,7 +653,7 @@ pub step-lists_slots : (m : Setting) (old : State) (command : Command) (reply : 
     → IsStep m old command reply new → ListsSlots m new.ledger new.free.slots
 step-lists_slots m old command reply new s h step = subst (λ l. ListsSlots m l new.free.slots) (sym step.ledger)
     (from_inv m (after_all old.ledger step.events) new.free.slots
-    (legal-inv m old.world old.ledger command reply step.events old.free new.free s.ledger step.legal step.free
+    (legal-inv m old.world old.ledger command reply step.events old.free new.free s step.legal step.free
     (to_inv m old.world old.ledger old.free.slots s h)))
 
 run-from : (m : Setting) (old : State) (es : List Exchange) (new : State) → AllSound m old.world old.ledger → ListsSlots m old.ledger old.free.slots

@@ -2,7 +2,7 @@
 use Rattle.std.proofs.lemmas.Bool.{false≢true}
 use Rattle.std.proofs.lemmas.Option.{same_Some}
 use Rattle.std.proofs.lemmas.Bool.Decides.{nat_tests}
-use Rattle.std.proofs.Common.{◌≡◌, ℕ, Bool, true, false, ◌==◌, List, [], ◌∷◌, Option, Some, None, cond, refl, subst, sym, ◌∙◌, arith, inl, inr, ◌⊎◌}
+use Rattle.std.proofs.Common.{◌≡◌, ℕ, Bool, true, false, ◌==◌, ◌||◌, List, [], ◌∷◌, Option, Some, None, cond, refl, subst, sym, ◌∙◌, arith, inl, inr, ◌⊎◌}
 use Rattle.std.specs.Prelude.{◌<◌, IfSome, IsSome, IsSomeAnd, if◌then◌else◌}
 use Rattle.av_trace.specs.declared.note.Note.TheVariants.{Copied, New}
 use Rattle.av_vma.specs.Pages.{has_page, pages_in}
@@ -20,6 +20,7 @@ use Rattle.av_plain.specs.Step.{IsLegal}
 use Rattle.std.specs.FinMap.Entries.{find}
 use Rattle.std.specs.List.{AllByRecursion}
 use Rattle.av_plain.specs.Covered.{IsReached}
+use Rattle.av_plain.proofs.Transcript.{is_forked}
 use Rattle.av_plain.proofs.Ledger.{same_key, same_key-is}
 use Rattle.av_plain.proofs.Report.Areas.{asks_areas, shows-none}
 use Rattle.av_plain.proofs.AreasLeft.{left-bare}
@@ -39,12 +40,16 @@ Left old e events free left =
 leaves : (old : State) (e : Exchange) (events : List Event) (free : List ℕ) (left : Anons) (homes : FourHomes)
     → IsLegal (machine 4) old.world old.ledger e.command e.reply events → ChoosesFrames (machine 4) old.ledger events old.free.frames free
     → gives_all (machine 4) None old.ledger events old.free.slots ≡ true → Left old e events free left
-    → asks_areas e.command ≡ false → homes_in (state_after (machine 4) old e events free left).homes ≡ homes → LeavesHomes old e homes
-leaves old e events free left homes legal frames given is asks same = (
+    → (asks_areas e.command || is_forked e.command e.reply.answer) ≡ false → homes_in (state_after (machine 4) old e events free left).homes ≡ homes → LeavesHomes old e homes
+leaves old e events free left homes legal frames given is plain same = let each = parts (asks_areas e.command) (is_forked e.command e.reply.answer) plain in (
   state_after (machine 4) old e events free left,
-  one-step (machine 4) old e events free left legal frames given is (shows-none old.areas old.anons e.command e.reply.answer e.reply.rows asks),
+  one-step (machine 4) old e each.1 events free left legal frames given is (shows-none old.areas old.anons e.command e.reply.answer e.reply.rows each.0),
   same,
 )
+  where
+    parts : (a b : Bool) → (a || b) ≡ false → (a ≡ false) × (b ≡ false)
+    parts true b h = cc
+    parts false b h = (refl, h)
 
 pub new-leaves : LeavesHomes bare_process new_page (Some (0, 0x22) ∷ None ∷ None ∷ None ∷ [])
 new-leaves = leaves bare_process new_page (Noted (New 1 0x12000 0) ∷ Used true (1, 0x12) ∷ []) (1 ∷ 2 ∷ 3 ∷ []) one_root

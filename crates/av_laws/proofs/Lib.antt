@@ -4,6 +4,7 @@ pub mod OutOfMemory
 pub mod Choice
 pub mod OnePass
 pub mod OnePage
+pub mod OneFork
 pub mod Determined
 pub mod FirstExamples
 pub mod SwapExamples
@@ -16,6 +17,7 @@ pub mod RangeExamples
 pub mod PairExamples
 pub mod PrepareExamples
 pub mod HomeExamples
+pub mod ForkExamples
 pub mod UnsoundExamples
 pub mod ReadBack
 pub mod NeedsFrame

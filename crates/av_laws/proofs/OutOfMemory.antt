@@ -3,7 +3,7 @@ use Rattle.std.proofs.Common.{◌≡◌, ◌⊎◌, inl, inr, ℕ, zero, suc, �
 use Rattle.std.proofs.lemmas.Bool.Decides.{nat_tests}
 use Rattle.std.specs.Prelude.{IfSome, MatchOption}
 use Rattle.av_trace.specs.declared.command.Command.{Command}
-use Rattle.av_trace.specs.declared.command.Command.TheVariants.{Spawn, Exit, Mmap, Munmap, Mprotect, Read, Write, Maps, Areas as AsksAreas, Rmap, Entry as AsksEntry, Stat}
+use Rattle.av_trace.specs.declared.command.Command.TheVariants.{Spawn, Fork, Exit, Mmap, Munmap, Mprotect, Read, Write, Maps, Areas as AsksAreas, Rmap, Entry as AsksEntry, Stat}
 use Rattle.av_trace.specs.declared.reply.Errno.{Errno}
 use Rattle.av_trace.specs.declared.reply.Errno.TheVariants.{Enomem}
 use Rattle.av_trace.specs.declared.reply.Reply.{Reply}
@@ -164,6 +164,7 @@ entry-adds m l (Some (InSlot s)) = tt
 
 follows-add : (m : Setting) (w : World) (l : Ledger) (command : Command) (events : List Event) (answer : Answer) (rows : List Row) → IsSound m l → Follows m w l command events answer rows → AnswerAdds m answer
 follows-add m w l (Spawn p) events answer rows s h = subst (AnswerAdds m) (sym h.0) tt
+follows-add m w l (Fork p q) events answer rows s h = subst (AnswerAdds m) (sym h.0) tt
 follows-add m w l (Exit p) events answer rows s h = subst (AnswerAdds m) (sym h.0) tt
 follows-add m w l (Mmap p len prot place) events answer rows s h = by h.0 h.2
   where

@@ -15,6 +15,7 @@ use Rattle.av_plain.specs.Ledger.{Entry, Key, Zero, first_ledger}
 use Rattle.av_plain.specs.Step.{IsLegal}
 use Rattle.av_plain.specs.Transcript.{Exchange, rmap_of}
 use Rattle.av_plain.proofs.AreasLeft.{AreBelow, left-all, left-none, left-one, prepare_notes}
+use Rattle.av_plain.proofs.Transcript.{is_fork}
 use Rattle.av_laws.specs.Areas.{LeavesTwo, NeverHasThere, NeverMakes, NeverNumbers, Prepares, alike, alone, and_at, area, area_of, bare_four, behind_child, behind_root, between_roots, child, first_gone, first_read, first_write, kin, made_alike, of_second, one_root, with_own, root_four, root, second_writes, state_of, two_roots, two_with_areas, unlike}
 use Rattle.av_laws.specs.Examples.{machine, read_write}
 use Rattle.av_laws.proofs.AnonExamples.{first_page, length_of, now-is, parent_of, root_of}
@@ -71,7 +72,7 @@ writes : (areas new_areas : List Area) (anons left : Anons) → is_allowed (stat
     → Prepares first_write areas anons new_areas left
 writes areas new_areas anons left allowed is pages = (
   state_after (machine 4) (state_of areas anons) first_write (Noted (New 1 0x12000 0) ∷ Used true (1, 0x12) ∷ []) (1 ∷ 2 ∷ 3 ∷ []) left,
-  one-step (machine 4) (state_of areas anons) first_write (Noted (New 1 0x12000 0) ∷ Used true (1, 0x12) ∷ []) (1 ∷ 2 ∷ 3 ∷ []) left
+  one-step (machine 4) (state_of areas anons) first_write refl (Noted (New 1 0x12000 0) ∷ Used true (1, 0x12) ∷ []) (1 ∷ 2 ∷ 3 ∷ []) left
       (record {
         answer = (
           Whole,
@@ -195,7 +196,7 @@ pub by_a_read-prepares : Prepares first_read bare_four no_anons bare_four no_ano
 by_a_read-prepares = (
   state_after (machine 4) (state_of bare_four no_anons) first_read (Noted (Zeroed 1 0x12000) ∷ Used false (1, 0x12) ∷ [])
       (0 ∷ 1 ∷ 2 ∷ 3 ∷ []) no_anons,
-  one-step (machine 4) (state_of bare_four no_anons) first_read (Noted (Zeroed 1 0x12000) ∷ Used false (1, 0x12) ∷ []) (0 ∷ 1 ∷ 2 ∷ 3 ∷ []) no_anons
+  one-step (machine 4) (state_of bare_four no_anons) first_read refl (Noted (Zeroed 1 0x12000) ∷ Used false (1, 0x12) ∷ []) (0 ∷ 1 ∷ 2 ∷ 3 ∷ []) no_anons
       (record {
         answer = (
           Whole,
@@ -239,7 +240,7 @@ not_joined-prepares = writes (behind_root alike) (behind_root (with_own 0 alike)
 pub in_one_process-leaves : LeavesTwo unlike (with_own 1 of_second) two_roots
 in_one_process-leaves = (
   state_after (machine 4) two_with_areas second_writes (Noted (New 2 0x12000 0) ∷ Used true (2, 0x12) ∷ []) (1 ∷ 2 ∷ 3 ∷ []) two_roots,
-  one-step (machine 4) two_with_areas second_writes (Noted (New 2 0x12000 0) ∷ Used true (2, 0x12) ∷ []) (1 ∷ 2 ∷ 3 ∷ []) two_roots
+  one-step (machine 4) two_with_areas second_writes refl (Noted (New 2 0x12000 0) ∷ Used true (2, 0x12) ∷ []) (1 ∷ 2 ∷ 3 ∷ []) two_roots
       (record {
         answer = (
           Whole,
@@ -278,7 +279,7 @@ joins : (areas new_areas : List Area) (anons : Anons) → AreLeft anons (on_then
     → Prepares made_alike areas anons new_areas anons
 joins areas new_areas anons is legal pages = (
   state_after (machine 4) (state_of areas anons) made_alike [] (0 ∷ 1 ∷ 2 ∷ 3 ∷ []) anons,
-  one-step (machine 4) (state_of areas anons) made_alike [] (0 ∷ 1 ∷ 2 ∷ 3 ∷ []) anons legal refl refl is tt,
+  one-step (machine 4) (state_of areas anons) made_alike refl [] (0 ∷ 1 ∷ 2 ∷ 3 ∷ []) anons legal refl refl is tt,
   pages,
   refl,
 )
@@ -298,16 +299,16 @@ apart_with_two-prepares = joins (behind_root (with_own 1 unlike)) (behind_root (
 -- ---- what may not be
 
 -- the areas follow from the exchange
-never-makes : (e : Exchange) (areas : List Area) (anons : Anons) (page : ℕ) (wrong : Area)
+never-makes : (e : Exchange) → is_fork e.command ≡ false → (areas : List Area) (anons : Anons) (page : ℕ) (wrong : Area)
     → (on_then e areas anons 1 page ≡ Some wrong → ⊥) → NeverMakes e areas anons page wrong
-never-makes e areas anons page wrong differ new step at =
-    differ (sym (ap (λ (on : Areas). on 1 page) (now-is (machine 4) (state_of areas anons) e.command e.reply new step).areas) ∙ at)
+never-makes e other areas anons page wrong differ new step at =
+    differ (sym (ap (λ (on : Areas). on 1 page) (now-is (machine 4) (state_of areas anons) e.command other e.reply new step).areas) ∙ at)
 
 -- and so do the anon_vmas
-never-numbers : (e : Exchange) (areas : List Area) (anons left wrong : Anons) → AreLeft (anons_then e areas anons) (on_then e areas anons) left
+never-numbers : (e : Exchange) → is_fork e.command ≡ false → (areas : List Area) (anons left wrong : Anons) → AreLeft (anons_then e areas anons) (on_then e areas anons) left
     → (left ≡ wrong → ⊥) → NeverNumbers e areas anons wrong
-never-numbers e areas anons left wrong is differ new step same =
-    let next = now-is (machine 4) (state_of areas anons) e.command e.reply new step in
+never-numbers e other areas anons left wrong is differ new step same =
+    let next = now-is (machine 4) (state_of areas anons) e.command other e.reply new step in
     differ (left-one (anons_then e areas anons) (on_then e areas anons) left new.anons is
     (subst (λ on. AreLeft (anons_then e areas anons) on new.anons) next.areas next.anons) ∙ same)
 
@@ -321,64 +322,64 @@ own_on None = 8
 own_on (Some area) = own_number area.anon
 
 pub unprepared-not : NeverMakes first_write bare_four no_anons 0x12 (area 0x10 0x14 read_write)
-unprepared-not = never-makes first_write bare_four no_anons 0x12 (area 0x10 0x14 read_write)
+unprepared-not = never-makes first_write refl bare_four no_anons 0x12 (area 0x10 0x14 read_write)
     (λ e. let d : ◌≡◌ {A = ℕ} 0 9 = ap own_on e in omega (arith, d))
 
 pub prepared_in_part-not : NeverMakes first_write bare_four no_anons 0x12 (area_of 0 0x12 0x13)
-prepared_in_part-not = never-makes first_write bare_four no_anons 0x12 (area_of 0 0x12 0x13)
+prepared_in_part-not = never-makes first_write refl bare_four no_anons 0x12 (area_of 0 0x12 0x13)
     (λ e. let d : ◌≡◌ {A = ℕ} 0x10000 0x12000 = ap first_page e in omega (arith, d))
 
 pub second_number-not : NeverMakes first_write root_four one_root 0x12 (area_of 1 0x10 0x14)
-second_number-not = never-makes first_write root_four one_root 0x12 (area_of 1 0x10 0x14)
+second_number-not = never-makes first_write refl root_four one_root 0x12 (area_of 1 0x10 0x14)
     (λ e. let d : ◌≡◌ {A = ℕ} 0 1 = ap own_on e in omega (arith, d))
 
 pub taken_from_before-not : NeverMakes first_write (between_roots unlike) two_roots 0x12 (with_own 0 unlike)
-taken_from_before-not = never-makes first_write (between_roots unlike) two_roots 0x12 (with_own 0 unlike)
+taken_from_before-not = never-makes first_write refl (between_roots unlike) two_roots 0x12 (with_own 0 unlike)
     (λ e. let d : ◌≡◌ {A = ℕ} 1 0 = ap own_on e in omega (arith, d))
 
 pub taken_from_child-not : NeverMakes first_write (behind_child unlike) kin 0x12 (with_own 1 unlike)
-taken_from_child-not = never-makes first_write (behind_child unlike) kin 0x12 (with_own 1 unlike)
+taken_from_child-not = never-makes first_write refl (behind_child unlike) kin 0x12 (with_own 1 unlike)
     (λ e. let d : ◌≡◌ {A = ℕ} 2 1 = ap own_on e in omega (arith, d))
 
 pub number_used_again-not : NeverMakes first_write bare_four first_gone 0x12 (area_of 0 0x10 0x14)
-number_used_again-not = never-makes first_write bare_four first_gone 0x12 (area_of 0 0x10 0x14)
+number_used_again-not = never-makes first_write refl bare_four first_gone 0x12 (area_of 0 0x10 0x14)
     (λ e. let d : ◌≡◌ {A = ℕ} 1 0 = ap own_on e in omega (arith, d))
 
 pub joined_by_prepare-not : NeverMakes first_write (behind_root alike) one_root 0x12 (area_of 0 0x10 0x14)
-joined_by_prepare-not = never-makes first_write (behind_root alike) one_root 0x12 (area_of 0 0x10 0x14)
+joined_by_prepare-not = never-makes first_write refl (behind_root alike) one_root 0x12 (area_of 0 0x10 0x14)
     (λ e. let d : ◌≡◌ {A = ℕ} 0x12000 0x10000 = ap first_page e in omega (arith, d))
 
 pub prepared_by_a_read-not : NeverMakes first_read bare_four no_anons 0x12 (area_of 0 0x10 0x14)
-prepared_by_a_read-not = never-makes first_read bare_four no_anons 0x12 (area_of 0 0x10 0x14)
+prepared_by_a_read-not = never-makes first_read refl bare_four no_anons 0x12 (area_of 0 0x10 0x14)
     (λ e. let d : ◌≡◌ {A = ℕ} 9 0 = ap own_on e in omega (arith, d))
 
 pub second_made-not : NeverNumbers first_write root_four one_root two_roots
-second_made-not = never-numbers first_write root_four one_root one_root
+second_made-not = never-numbers first_write refl root_four one_root one_root
     two_roots second_write-left
     (λ e. let d : ◌≡◌ {A = ℕ} 1 2 = ap (λ (a : Anons). a.next) e in omega (arith, d))
 
 pub made_though_lent-not : NeverNumbers first_write (behind_root unlike) one_root two_roots
-made_though_lent-not = never-numbers first_write (behind_root unlike) one_root one_root
+made_though_lent-not = never-numbers first_write refl (behind_root unlike) one_root one_root
     two_roots taken_behind-left
     (λ e. let d : ◌≡◌ {A = ℕ} 1 2 = ap (λ (a : Anons). a.next) e in omega (arith, d))
 
 pub number_lowered-not : NeverNumbers first_write bare_four first_gone one_root
-number_lowered-not = never-numbers first_write bare_four first_gone (and_at 1 (alone 1) 2 first_gone)
+number_lowered-not = never-numbers first_write refl bare_four first_gone (and_at 1 (alone 1) 2 first_gone)
     one_root next_number-left
     (λ e. let d : ◌≡◌ {A = ℕ} 2 1 = ap (λ (a : Anons). a.next) e in omega (arith, d))
 
 pub rooted_elsewhere-not : NeverNumbers first_write bare_four no_anons (and_at 0 (record (alone 0) { root = 1 }) 1 no_anons)
-rooted_elsewhere-not = never-numbers first_write bare_four no_anons one_root
+rooted_elsewhere-not = never-numbers first_write refl bare_four no_anons one_root
     (and_at 0 (record (alone 0) { root = 1 }) 1 no_anons) first_write-left
     (λ e. let d : ◌≡◌ {A = ℕ} 0 1 = ap (λ (a : Anons). root_of (a.anon 0)) e in omega (arith, d))
 
 pub parent_elsewhere-not : NeverNumbers first_write bare_four no_anons (and_at 0 (record (alone 0) { parent = 1 }) 1 no_anons)
-parent_elsewhere-not = never-numbers first_write bare_four no_anons one_root
+parent_elsewhere-not = never-numbers first_write refl bare_four no_anons one_root
     (and_at 0 (record (alone 0) { parent = 1 }) 1 no_anons) first_write-left
     (λ e. let d : ◌≡◌ {A = ℕ} 0 1 = ap (λ (a : Anons). parent_of (a.anon 0)) e in omega (arith, d))
 
 pub longer_chain-not : NeverNumbers first_write bare_four no_anons (and_at 0 (record (alone 0) { chain = 0 ∷ 1 ∷ [] }) 1 no_anons)
-longer_chain-not = never-numbers first_write bare_four no_anons one_root
+longer_chain-not = never-numbers first_write refl bare_four no_anons one_root
     (and_at 0 (record (alone 0) { chain = 0 ∷ 1 ∷ [] }) 1 no_anons) first_write-left
     (λ e. let d : ◌≡◌ {A = ℕ} 1 2 = ap (λ (a : Anons). length_of (a.anon 0)) e in omega (arith, d))
 
@@ -386,7 +387,7 @@ longer_chain-not = never-numbers first_write bare_four no_anons one_root
 never-there : (p : ℕ) (wrong : Area) → ((prepare_notes second_writes.reply.notes (rmap_of two_with_areas)).areas p 0x12 ≡ Some wrong → ⊥)
     → NeverHasThere p wrong
 never-there p wrong differ new step at =
-    differ (sym (ap (λ (on : Areas). on p 0x12) (now-is (machine 4) two_with_areas second_writes.command second_writes.reply new step).areas) ∙ at)
+    differ (sym (ap (λ (on : Areas). on p 0x12) (now-is (machine 4) two_with_areas second_writes.command refl second_writes.reply new step).areas) ∙ at)
 
 pub lent_by_another-not : NeverHasThere 2 (with_own 0 of_second)
 lent_by_another-not = never-there 2 (with_own 0 of_second) (λ e. let d : ◌≡◌ {A = ℕ} 1 0 = ap own_on e in omega (arith, d))

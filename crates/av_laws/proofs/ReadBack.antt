@@ -11,7 +11,7 @@ use Rattle.av_base.specs.Page.{address_of, page_of, pages_of, page_size, place_i
 use Rattle.av_base.specs.Words.{numbers}
 use Rattle.av_vma.specs.Gap.{IsGap}
 use Rattle.av_trace.specs.declared.command.Command.{Command}
-use Rattle.av_trace.specs.declared.command.Command.TheVariants.{Spawn, Exit, Mmap, Munmap, Mprotect, Read, Write, Maps, Areas as AsksAreas, Rmap, Entry as AsksEntry, Stat}
+use Rattle.av_trace.specs.declared.command.Command.TheVariants.{Spawn, Fork, Exit, Mmap, Munmap, Mprotect, Read, Write, Maps, Areas as AsksAreas, Rmap, Entry as AsksEntry, Stat}
 use Rattle.av_trace.specs.declared.note.Note.{Note}
 use Rattle.av_trace.specs.declared.note.Note.TheVariants.{Aged, Copied, Dropped, Failed, Kept, Loaded, Mapped, New, Put, Started, Unmapped, Written, Zeroed}
 use Rattle.av_trace.specs.declared.place.Place.{Place}
@@ -32,7 +32,8 @@ use Rattle.av_trace.specs.Reply.{AreCauses, Follow, IfThere, IsAnswer, IsReply}
 use Rattle.av_trace.specs.Row.{IsAreaRow, IsEntry, IsRun}
 use Rattle.av_plain.specs.World.{Page, Process, World, is_mapped, pages, pages_to_hole}
 use Rattle.av_plain.specs.Ledger.{Entry, InFrame, InSlot, Key, Ledger, Setting, SwapArea, Zero, entry, free_frames, free_slots, map_count, names_frame, names_slot, slot_entries, walk}
-use Rattle.av_plain.specs.Event.{Event, after_all, notes_of}
+use Rattle.av_plain.specs.Event.{Event, Forked, after_all, notes_of}
+use Rattle.av_plain.specs.Fork.{inherited}
 use Rattle.av_plain.specs.Access.{Accesses, End, Stopped, Whole, bytes_before, page_events, pages_of_access, read_answer, stop_answer, write_answer}
 use Rattle.av_plain.specs.Fault.{Denied, Lost, Starved, Stop}
 use Rattle.av_plain.specs.Map.{zaps_for_place}
@@ -291,6 +292,8 @@ entry-fits m l k none s bare wide (Some (InSlot t)) is =
 follows-fit : (m : Setting) (w : World) (l : Ledger) (command : Command) (events : List Event) (answer : Answer) (rows : List Row) → HasNoDevice m → AllSound m w l → IsSmall m w l → IsCommand command → CausesFit answer → AskedWide command rows
     → Follows m w l command events answer rows → Fits events answer rows
 follows-fit m w l (Spawn p) events answer rows none s small fit out wide h = fits-by events [] answer Done rows [] h.1 h.0 h.2 (tt, (tt, refl))
+follows-fit m w l (Fork p q) events answer rows none s small fit out wide h =
+    fits-by events (Forked p q (inherited l p) ∷ []) answer Done rows [] h.1 h.0 h.2 (tt, (tt, refl))
 follows-fit m w l (Exit p) events answer rows none s small fit out wide h =
     fits-by events (zaps_of l (keys_of_process l p)) answer Done rows [] h.1 h.0 h.2 (fits-notes (zaps_of l (keys_of_process l p)) Done [] (no-zap-notes m l (keys_of_process l p) none (in-areas m w l s)) tt (tt, refl))
 follows-fit m w l (Mmap p len prot place) events answer rows none s small fit out wide h = by h.0 h.1 h.2

@@ -9,3 +9,4 @@ pub mod Areas
 pub mod Slots
 pub mod Covered
 pub mod Homes
+pub mod Forks

@@ -1,14 +1,15 @@
 //! What follows from the definitions of `av_plain`, beside what the kernel needs of them: replies
 //! are determined, numbers add up, a refusal changes nothing, a reply is read back from its text,
 //! what is free is listed, areas cover what is mapped; and worked examples: legal ones and such as
-//! may not be, slots that are given, areas, anon_vmas and homes that come of commands, sound states
-//! and unsound ones, views that stand for a state and such as don't.
+//! may not be, slots that are given, areas, anon_vmas and homes that come of commands, forks, sound
+//! states and unsound ones, views that stand for a state and such as don't.
 //!
 //! No function does anything. Each one's contract is a law, proved of the definitions alone.
 #![tactic(auto)]
 
 mod areas;
 mod examples;
+mod forks;
 mod homes;
 mod pairs;
 mod slots;
@@ -63,6 +64,7 @@ pub use examples::{
     changed_runs_are_refused, exits_and_reports_run, first_examples_run, ledgers_follow,
     ranges_run, shared_examples_run, swap_examples_run,
 };
+pub use forks::{changed_forks_are_refused, forks_are_refused, forks_follow};
 pub use homes::{changed_homes_are_refused, homes_are_of_pages, homes_cover_entries, homes_follow};
 pub use pairs::{
     changed_pairs_are_refused, faults_are_counted, ledgers_of_two_follow, loads_make_unclaimed,

@@ -1,10 +1,12 @@
 -- In a run each anon_vma that an area says has been made: so its number is below the next one's.
 use Rattle.std.specs.List.{AllByRecursion}
 use Rattle.std.specs.Option.{option_map_or, option_or}
-use Rattle.std.proofs.Common.{◌≡◌, ℕ, zero, suc, ◌+◌, ◌-◌, ◌<◌, ◌≤◌, Bool, true, false, not, ◌&&◌, ◌==◌, List, [], ◌∷◌, map, Option, Some, None, IfSome, is_some, option_map, refl, sym, ap, subst, ◌∙◌, arith, nat_lt, if◌then◌else◌}
+use Rattle.std.proofs.Common.{◌≡◌, ◌⊎◌, inl, inr, ◌++◌, ◌||◌, ℕ, zero, suc, ◌+◌, ◌-◌, ◌<◌, ◌≤◌, Bool, true, false, not, ◌&&◌, ◌==◌, List, [], ◌∷◌, map, Option, Some, None, IfSome, is_some, option_map, refl, sym, ap, subst, ◌∙◌, arith, nat_lt, if◌then◌else◌}
+use Rattle.std.proofs.lemmas.Bool.{false≢true}
+use Rattle.std.proofs.lemmas.Bool.Decides.{nat_tests}
 use Rattle.std.specs.Prelude.{max, min, unwrap_or}
 use Rattle.av_base.specs.Page.{address_of, page_of, pages_of}
-use Rattle.av_base.specs.Words.{with_at, within}
+use Rattle.av_base.specs.Words.{is_in, with_at, within}
 use Rattle.av_base.specs.declared.prot.Prot.{Prot}
 use Rattle.av_vma.specs.declared.area.Area.{Area}
 use Rattle.av_vma.specs.Join.{first_of, is_reusable, past_of}
@@ -21,14 +23,16 @@ use Rattle.av_trace.specs.declared.reply.Answer.TheVariants.{Done, MapAt, Refuse
 use Rattle.av_trace.specs.declared.reply.Errno.TheVariants.{Enomem}
 use Rattle.av_trace.specs.declared.reply.Reply.{Reply}
 use Rattle.av_trace.specs.declared.row.Row.{Row}
-use Rattle.av_plain.specs.Areas.{Anons, AnonVma, Areas, areas_to_hole, AreLeft, at_home, chain_length, chain_of, next_areas, none_on, prepare_page, Rmap, rmap_after, rmap_after_all, rmap_after_note, rmap_after_use, root_anon, with_room, with_root}
+use Rattle.av_plain.specs.Areas.{Anons, AnonVma, Areas, areas_to_hole, AreLeft, AreNext, at_home, chain_length, chain_of, next_areas, none_on, prepare_page, Rmap, rmap_after, rmap_after_all, rmap_after_note, rmap_after_use, root_anon, with_room, with_root}
 use Rattle.av_plain.specs.Event.{Event, Noted, Used, after}
+use Rattle.av_plain.specs.Fork.{AreForked, GoOver, GoesBy, root_of}
 use Rattle.av_plain.specs.Ledger.{Entry, InFrame, Key, Ledger, Setting, entry}
 use Rattle.av_plain.specs.Refusal.{wraps}
 use Rattle.av_plain.specs.Report.{AreRowsOf, area_row}
 use Rattle.av_plain.specs.Transcript.{Exchange, IsRun, IsStep, State, rmap_of}
 use Rattle.av_plain.specs.World.{World, pages, pages_to_hole}
 use Rattle.av_plain.proofs.Report.Areas.{all_from, on_first}
+use Rattle.av_plain.proofs.Transcript.{IsFork, IsPlain, next-cases}
 use Rattle.av_laws.specs.ReadBack.{IsWideRow}
 
 -- ---- own anon_vmas
@@ -290,21 +294,117 @@ left-below anons left on n is h v = by (left.anon v) refl
     by None e = tt
     by (Some x) e = subst (ChainBelow n) (sym (is.linked v (is.there v (ap is_some e))) ∙ e) (h v)
 
-pub step-makes : (m : Setting) (old : State) (command : Command) (reply : Reply) (new : State) → AreMade (rmap_of old)
-    → IsStep m old command reply new → Makes (rmap_of old) (rmap_of new)
-step-makes m old command reply new h step =
-    let later = rmap_after_all old.ledger step.events (rmap_of old) in
-    let makes = all-made old.ledger step.events (rmap_of old) h in
-    let next = step.rmap.anons.next in
-    let less = makes.more in
+chain-below : (anons : Anons) (n : ℕ) (own : Option ℕ) → ((v : ℕ) → ChainBelow n (anons.anon v)) → AllByRecursion (λ v. v < n) (chain_of anons own)
+chain-below anons n None h = tt
+chain-below anons n (Some v) h = by (anons.anon v) (h v)
+  where
+    by : (o : Option AnonVma) → ChainBelow n o → AllByRecursion (λ v. v < n) (option_map_or (λ (x : AnonVma). x.chain) o [])
+    by None h = tt
+    by (Some x) h = h
+
+plain-makes : (r later next : Rmap) (w : World) (command : Command) (answer : Answer) → Makes r later → AreNext later w command answer next → Makes r next
+plain-makes r later next w command answer makes is =
+    let more = makes.more in
+    let same = is.anons.next in
     record {
       made = record {
-        owns = subst (λ n. AllBelow n new.areas) (sym next) (subst (AllBelow later.anons.next) (sym step.rmap.areas)
-            (next-below later.anons.next (chain_length later.anons) later.areas old.world command reply.answer makes.made.owns));
-        chains = subst (λ n. (v : ℕ) → ChainBelow n (new.anons.anon v)) (sym next) (left-below later.anons new.anons new.areas later.anons.next step.rmap.anons makes.made.chains);
+        owns = subst (λ n. AllBelow n next.areas) (sym same) (subst (AllBelow later.anons.next) (sym is.areas)
+            (next-below later.anons.next (chain_length later.anons) later.areas w command answer makes.made.owns));
+        chains = subst (λ n. (v : ℕ) → ChainBelow n (next.anons.anon v)) (sym same) (left-below later.anons next.anons next.areas later.anons.next is.anons makes.made.chains);
       };
-      more = omega (arith, next, less);
+      more = omega (arith, more, same);
     }
+
+-- what is in a chain is as small as all that is
+in_all : (P : ℕ → Type 0) (v : ℕ) (xs : List ℕ) → AllByRecursion P xs → is_in v xs ≡ true → P v
+in_all P v [] h is = absurd (false≢true is)
+in_all P v (x ∷ xs) h is = by (v == x) refl is (in_all P v xs h.1)
+  where
+    by : (b : Bool) → (v == x) ≡ b → (b || is_in v xs) ≡ true → (is_in v xs ≡ true → P v) → P v
+    by true e is rest = let same : v ≡ x = grind (arith, nat_tests, e) in subst P (sym same) h.0
+    by false e is rest = rest is
+
+all_and : (P : ℕ → Type 0) (xs : List ℕ) (x : ℕ) → AllByRecursion P xs → P x → AllByRecursion P (xs ++ x ∷ [])
+all_and P [] x h p = (p, tt)
+all_and P (y ∷ xs) x h p = (h.0, all_and P xs x h.1 p)
+
+goes-makes : (own : Option ℕ) (q : ℕ) (area : Area) (r next : Rmap) → area.anon ≡ own → AreMade r → GoesBy own q area r next → Makes r next
+goes-makes None q area r next is h goes = subst (Makes r) (sym goes) (record {
+  made = record {
+    owns = set-below r.anons.next q (with_area (record area { pid = q }) (r.areas q)) r.areas (with-below r.anons.next (record area { pid = q }) (r.areas q) (subst (IsBelow r.anons.next) (sym is) tt) (h.owns q)) h.owns;
+    chains = h.chains;
+  };
+  more = omega arith;
+})
+goes-makes (Some own) q area r next is h (None, none, goes) = subst (Makes r) (sym goes) (record {
+  made = record {
+    owns = set-below (suc n) q (with_area (record area { pid = q; anon = Some n }) (r.areas q)) r.areas
+        (with-below (suc n) (record area { pid = q; anon = Some n }) (r.areas q) (omega arith) (λ o. more_area n (suc n) (r.areas q o) (omega arith) (h.owns q o)))
+        (λ p o. more_area n (suc n) (r.areas p o) (omega arith) (h.owns p o));
+    chains = λ v. at v (v == n);
+  };
+  more = omega arith;
+})
+  where
+    n : ℕ
+    n = r.anons.next
+
+    chain : AllByRecursion (λ v. v < suc r.anons.next) (chain_of r.anons (Some own) ++ r.anons.next ∷ [])
+    chain = all_and (λ v. v < suc r.anons.next) (chain_of r.anons (Some own)) r.anons.next
+        (all_from (λ v. v < r.anons.next) (λ v. v < suc r.anons.next) (λ v lt. omega (arith, lt)) (chain_of r.anons (Some own)) (chain-below r.anons r.anons.next (Some own) h.chains)) (omega arith)
+
+    at : (v : ℕ) (b : Bool) → ChainBelow (suc r.anons.next) (if b then Some (record { root = root_of r.anons own; parent = own; chain = chain_of r.anons (Some own) ++ r.anons.next ∷ [] }) else r.anons.anon v)
+    at v true = chain
+    at v false = more_chain r.anons.next (suc r.anons.next) (r.anons.anon v) (omega arith) (h.chains v)
+goes-makes (Some own) q area r next is h (Some u, one, goes) = subst (Makes r) (sym goes) (record {
+  made = record {
+    owns = set-below r.anons.next q (with_area (record area { pid = q; anon = Some u }) (r.areas q)) r.areas
+        (with-below r.anons.next (record area { pid = q; anon = Some u }) (r.areas q) (in_all (λ v. v < r.anons.next) u (chain_of r.anons (Some own)) chain one.0) (h.owns q)) h.owns;
+    chains = λ v. at v (v == u);
+  };
+  more = omega arith;
+})
+  where
+    chain : AllByRecursion (λ v. v < r.anons.next) (chain_of r.anons (Some own))
+    chain = chain-below r.anons r.anons.next (Some own) h.chains
+
+    at : (v : ℕ) (b : Bool)
+        → ChainBelow r.anons.next (if b then Some (record { root = root_of r.anons u; parent = option_map_or (λ (anon : AnonVma). anon.parent) (r.anons.anon u) u; chain = chain_of r.anons (Some own) }) else r.anons.anon v)
+    at v true = chain
+    at v false = h.chains v
+
+over-makes : (q : ℕ) (areas : List Area) (r next : Rmap) → AreMade r → GoOver q areas r next → Makes r next
+over-makes q [] r next h goes = subst (Makes r) (sym goes) (none-made r h)
+over-makes q (area ∷ areas) r next h (mid, first, later) =
+    let one = goes-makes area.anon q area r mid refl h first in
+    let rest = over-makes q areas mid next one.made later in
+    let a = one.more in
+    let b = rest.more in
+    record { made = rest.made; more = omega (arith, a, b) }
+
+fork-makes : (p q : ℕ) (r next : Rmap) → AreMade r → AreForked p q r next → Makes r next
+fork-makes p q r next h (areas, rise, on, goes) =
+    let start = record r { areas = with_at q none_on r.areas } in
+    let all = over-makes q areas start next (record { owns = set-below r.anons.next q none_on r.areas (λ page. tt) h.owns; chains = h.chains }) goes in
+    record { made = all.made; more = all.more }
+
+-- made after one that made some
+makes-then : (r mid next : Rmap) → Makes r mid → Makes mid next → Makes r next
+makes-then r mid next a b = let x = a.more in let y = b.more in record { made = b.made; more = omega (arith, x, y) }
+
+pub step-makes : (m : Setting) (old : State) (command : Command) (reply : Reply) (new : State) → AreMade (rmap_of old)
+    → IsStep m old command reply new → Makes (rmap_of old) (rmap_of new)
+step-makes m old command reply new h step = by (next-cases later old.world command reply.answer (rmap_of new) step.rmap)
+  where
+    later : Rmap
+    later = rmap_after_all old.ledger step.events (rmap_of old)
+
+    makes : Makes (rmap_of old) later
+    makes = all-made old.ledger step.events (rmap_of old) h
+
+    by : IsPlain later old.world command reply.answer (rmap_of new) ⊎ IsFork later command reply.answer (rmap_of new) → Makes (rmap_of old) (rmap_of new)
+    by (inl plain) = plain-makes (rmap_of old) later (rmap_of new) old.world command reply.answer makes plain.is
+    by (inr fork) = makes-then (rmap_of old) later (rmap_of new) makes (fork-makes fork.parent fork.child later (rmap_of new) makes.made fork.forked)
 
 pub run-makes : (m : Setting) (old : State) (es : List Exchange) (new : State) → AreMade (rmap_of old) → IsRun m old es new → old.anons.next ≤ new.anons.next
 run-makes m old [] new h run = let same : new.anons.next ≡ old.anons.next = ap (λ (s : State). s.anons.next) run in omega (arith, same)
@@ -315,14 +415,6 @@ run-makes m old (e ∷ es) new h run =
     omega (arith, less, rest)
 
 -- ---- rows
-
-chain-below : (anons : Anons) (n : ℕ) (own : Option ℕ) → ((v : ℕ) → ChainBelow n (anons.anon v)) → AllByRecursion (λ v. v < n) (chain_of anons own)
-chain-below anons n None h = tt
-chain-below anons n (Some v) h = by (anons.anon v) (h v)
-  where
-    by : (o : Option AnonVma) → ChainBelow n o → AllByRecursion (λ v. v < n) (option_map_or (λ (x : AnonVma). x.chain) o [])
-    by None h = tt
-    by (Some x) h = h
 
 own-wide : (n : ℕ) (own : Option ℕ) → IsWide n → IsBelow n own → IfSome own IsWide
 own-wide n None wide h = tt

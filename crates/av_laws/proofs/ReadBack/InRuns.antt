@@ -2,7 +2,7 @@
 use Rattle.std.specs.List.{list_all}
 use Rattle.std.specs.Prelude.{MatchBool, MatchOption, slice_index}
 use Rattle.std.specs.Ordering.{nat_cmp, eq_by_cmp}
-use Rattle.std.proofs.Common.{◌≡◌, inl, inr, ℕ, ◌+◌, ◌-◌, ◌<◌, ◌≤◌, Bool, true, false, cond, not, ◌&&◌, List, [], ◌∷◌, ◌++◌, length, Option, Some, None, is_some, option_map, refl, sym, ap, subst, ◌∙◌, arith, ◌==◌, nat_lt, nat_le, if◌then◌else◌}
+use Rattle.std.proofs.Common.{◌≡◌, inl, inr, ℕ, ◌+◌, ◌-◌, ◌<◌, ◌≤◌, Bool, true, false, cond, not, ◌&&◌, List, [], ◌∷◌, ◌++◌, length, map, Option, Some, None, is_some, option_map, refl, sym, ap, subst, ◌∙◌, arith, ◌==◌, nat_lt, nat_le, if◌then◌else◌}
 use Rattle.std.proofs.lemmas.Bool.Decides.{nat_tests}
 use Rattle.av_base.specs.Limits.{low_page, top_page}
 use Rattle.av_base.specs.Page.{address_of, is_on_page, page_of, pages_of}
@@ -13,7 +13,7 @@ use Rattle.av_vma.specs.Gap.{IsGap}
 use Rattle.av_trace.specs.Command.{IsCommand}
 use Rattle.av_trace.specs.Number.{IsWide}
 use Rattle.av_trace.specs.declared.command.Command.{Command}
-use Rattle.av_trace.specs.declared.command.Command.TheVariants.{Spawn, Exit, Mmap, Munmap, Mprotect, Read, Write, Maps, Areas as AsksAreas, Rmap, Entry as AsksEntry, Stat}
+use Rattle.av_trace.specs.declared.command.Command.TheVariants.{Spawn, Fork, Exit, Mmap, Munmap, Mprotect, Read, Write, Maps, Areas as AsksAreas, Rmap, Entry as AsksEntry, Stat}
 use Rattle.av_trace.specs.declared.note.Cause.TheVariants.{NoSlot, Referenced, WriteStarted, Writeback}
 use Rattle.av_trace.specs.declared.note.Note.{Note}
 use Rattle.av_trace.specs.declared.note.Note.TheVariants.{Aged, Copied, Dropped, Failed, Kept, Loaded, Mapped, New, Put, Started, Unmapped, Written, Zeroed}
@@ -26,7 +26,7 @@ use Rattle.av_trace.specs.declared.reply.Errno.TheVariants.{Eexist, Einval, Enom
 use Rattle.av_trace.specs.declared.reply.Reply.{Reply}
 use Rattle.av_trace.specs.declared.row.Row.{Row}
 use Rattle.av_plain.specs.Access.{Accesses, End, after_write, first_bytes, page_events}
-use Rattle.av_plain.specs.Event.{Event, Forked, Moved, Noted, TurnedOff, TurnedOn, Used, Zapped, after, after_all, after_note, after_use_of, change_entries, entries_where, if_some, note_events, off_cache, off_flight, set_entry, settle_entry, to_inactive_tail, when, with_stale}
+use Rattle.av_plain.specs.Event.{Event, Forked, Inherited, is_inherited, without_seen, Moved, Noted, TurnedOff, TurnedOn, Used, Zapped, after, after_all, after_note, after_use_of, change_entries, entries_where, if_some, note_events, off_cache, off_flight, set_entry, settle_entry, to_inactive_tail, when, with_stale}
 use Rattle.av_plain.specs.Fault.{Stop}
 use Rattle.av_plain.specs.Ledger.{Entry, InFrame, InSlot, Key, Ledger, Setting, Zero, entry, frame_at, is_orphan, slot_of}
 use Rattle.av_plain.specs.Load.{with_loads}
@@ -37,6 +37,7 @@ use Rattle.av_plain.specs.Step.{Follows, IsLegal, next, next_world}
 use Rattle.av_plain.specs.Transcript.{IsStep, State}
 use Rattle.av_plain.specs.World.{Page, Process, World, end_process, is_mapped, lives, meets, no_pages, pages, pages_to_hole, set_process, with_bytes, with_pages, with_prot, with_prot_on, zeros}
 use Rattle.av_plain.specs.Zap.{orphan_drop, slot_behind_key, zap_of, zaps_of}
+use Rattle.av_plain.proofs.Fork.{put_all-only}
 use Rattle.av_plain.proofs.Refusal.{refused-next}
 use Rattle.av_plain.proofs.Sound.{map_count-loads}
 use Rattle.av_plain.proofs.Sound.There.{settle-on}
@@ -77,7 +78,7 @@ abbrev is_plain : Event → Bool
 is_plain (Noted note) = true
 is_plain (Zapped k) = true
 is_plain (Used write k) = true
-is_plain (Forked p c pages) = false
+is_plain (Forked p c pages) = true
 is_plain (Moved p n from to) = false
 is_plain (TurnedOn k slots bad) = false
 is_plain (TurnedOff k) = false
@@ -105,7 +106,10 @@ event-on (Used write k) l h = by write (entry l k)
     by write (Some (InSlot s)) = refl
     by false (Some (InFrame f seen)) = refl
     by true (Some (InFrame f seen)) = stale f (slot_of l f)
-event-on (Forked p c pages) l h = cc
+event-on (Forked p c pages) l h = ap (λ (l : Ledger). l.on) (put_all-only (copies_of p c pages l) l)
+  where
+    copies_of : ℕ → ℕ → List Inherited → Ledger → List (Key × Entry)
+    copies_of p q pages l = map (λ e. ((q, e.0.1), without_seen e.1)) (entries_where (λ k. k.0 == p && is_inherited pages k.1) l)
 event-on (Moved p n from to) l h = cc
 event-on (TurnedOn k slots bad) l h = cc
 event-on (TurnedOff k) l h = cc
@@ -172,6 +176,7 @@ plain-legal m w l command reply es legal = by (refusal (tests m w l command)) le
     follows : (command : Command) → Follows m w l command es reply.answer reply.rows
         → list_all is_plain es ≡ true
     follows (Spawn p) q = none q.1
+    follows (Fork p c) q = ap (list_all is_plain) q.1
     follows (Exit p) q = these _ q.1
     follows (Mmap p len prot Auto) q = none q.3
     follows (Mmap p len prot (At a)) q = none q.3
@@ -323,6 +328,9 @@ below-follows m w now l (Spawn p) es answer rows fit below none h = subst
   where
     never_some : false ≡ true → ⊥
     never_some e = cc
+below-follows m w now l (Fork p q) es answer rows fit below none h = subst
+    (λ x. Below (next now (Fork p q) x)) (sym h.0)
+    (below-set now q (pages now p) below (λ page h. ((below p page h).0, wide_number q fit.1.most)))
 below-follows m w now l (Exit p) es answer rows fit below none h = subst
     (λ x. Below (next now (Exit p) x)) (sym h.0) (below-ended now p below)
 below-follows m w now l (Mmap p len prot place) es answer rows fit below none h = at h.0 h.1 h.2
