@@ -26,7 +26,7 @@ none_some e = cc
 
 -- ---- the chain by an own anon_vma
 
-owns-is : (v : ℕ) (o : Option ℕ) → owns v o ≡ true → o ≡ Some v
+pub owns-is : (v : ℕ) (o : Option ℕ) → owns v o ≡ true → o ≡ Some v
 owns-is v None h = absurd (no h)
 owns-is v (Some w) h = ap (λ u. Some u) (eqb-true w v h)
 

@@ -3,6 +3,7 @@ pub mod ChangesOfParts
 pub mod ChangesReach
 pub mod Cuts
 pub mod CutsEmpty
+pub mod Forks
 pub mod Joins
 pub mod JoinsThree
 pub mod Kin

@@ -1,4 +1,5 @@
 pub mod Change
+pub mod Fork
 pub mod Kin
 pub mod Mapping
 pub mod Pages

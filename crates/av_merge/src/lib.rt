@@ -1,4 +1,5 @@
-//! The areas of one process: mapped, cut, protected and joined, with their chains of anon_vmas.
+//! The areas of one process: mapped, cut, protected, joined and forked, with their chains of
+//! anon_vmas.
 //!
 //! `Areas` holds the areas of all processes by number, a `Tree` the spans of one process's areas,
 //! and `Anons` the anon_vmas of all. Every call here changes the three together, but for `prepare`,
@@ -9,12 +10,15 @@
 //! A split links the upper part to the whole chain. Two areas become one where they are mergeable;
 //! where only one has an anon_vma, its chain has one node, and the other's pages get that. An area
 //! that goes leaves its anon_vmas first. Areas without anon_vma are changed directly. `prepare`
-//! gives an area its own anon_vma: that of an area beside it, or a new one.
+//! gives an area its own anon_vma: that of an area beside it, or a new one. `fork` gives a child an
+//! area of another process, linked to that one's whole chain.
 //!
 //! Proved: which area is on each page then, with every field (av_vma's `Pages`); that no area of
 //! another process changed; that chain order stays, that no anon_vma changes its kin and none is
-//! made but by `prepare`, where no area beside lends its own, and that each area's chain is the one
-//! that areas with its own anon_vma had, that of a new anon_vma itself alone (av_anon's `Kin`).
+//! made but by `prepare`, where no area beside lends its own, and by `fork`, where no member of the
+//! chain is idle; and that each area's chain is the one that areas with its own anon_vma had
+//! (av_anon's `Kin`), that of a new root itself alone, and that of a child's area its parent's,
+//! with its own one where that is new (`Fork`).
 //! Nothing is only tested. How much time a call takes is neither proved nor tested.
 //!
 //! A call that answers want of memory may have done a part of its work; areas and tree still go
@@ -23,6 +27,7 @@
 
 mod changing;
 mod cutting;
+mod forking;
 mod joining;
 mod laws;
 mod linking;
@@ -31,6 +36,7 @@ mod preparing;
 
 pub use changing::{Change, map, modify};
 pub use cutting::{clear, cut, split};
+pub use forking::fork;
 pub use joining::join_around;
 pub use laws::{
     areas_are_laid, cuts_keep_mappings, joins_keep_mappings, parts_are_changed_page_by_page,

@@ -4,7 +4,7 @@ ghost use Rattle.std.specs.Prelude.{◌≡◌, ℕ, ◌≤◌, Some, None, IsSom
 ghost use Rattle.av_vma.specs.Areas.{area_of};
 ghost use Rattle.av_vma.specs.Join.{first_of, past_of};
 ghost use Rattle.av_base.specs.Words.{with_at};
-ghost use Rattle.av_vmatree.specs.Spans.{IsFree, area_at, span, span_of, is_page_taken, unless_area, without_area};
+ghost use Rattle.av_vmatree.specs.Spans.{IsFree, area_at, span, span_of, is_page_taken, unless_area, with_span, without_area};
 ghost use Rattle.av_merge.specs.Pages.{pages_by};
 ghost use Rattle.av_vma.specs.Pages.{has_page, with_area, IsWhole};
 ghost use Rattle.av_anon.specs.Resize.{with_bounds};
@@ -31,6 +31,8 @@ pub fn add(areas: &mut Areas, tree: &mut Tree, area: Area) -> Result<AreaId, All
     ensures unused { IfOk result (λ number. area_of areas.old number ≡ None) }
     ensures areas { IfOk result (λ number. (k : ℕ)
         → area_of areas.new k ≡ with_at number (Some area) (area_of areas.old) k) }
+    ensures tree { IfOk result (λ number.
+        tree.new ≡ with_span (span number (first_of area) (past_of area)) tree.old) }
 {
     let number = areas.add(area)?;
     match tree.insert(number, area.start / PAGE_SIZE, area.end / PAGE_SIZE) {

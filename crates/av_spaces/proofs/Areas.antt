@@ -1,5 +1,5 @@
 -- The areas of one process: as areas by number and the spans of a tree give them.
-use Rattle.std.proofs.Common.{◌≡◌, ◌≢◌, ℕ, ◌-◌, ◌<◌, ◌≤◌, ◌==◌, Bool, true, false, cond, List, [], ◌∷◌, ◌++◌, drop, Option, Some, None, is_some, IfSome, IsSomeAnd, refl, sym, ap, subst, ◌∙◌, arith, suc, zero}
+use Rattle.std.proofs.Common.{◌≡◌, ℕ, ◌<◌, ◌==◌, Bool, true, false, cond, List, [], ◌∷◌, ◌++◌, drop, Option, Some, None, IfSome, IsSomeAnd, refl, sym, ap, subst, ◌∙◌, arith, suc, zero}
 use Rattle.std.proofs.lemmas.Bool.Decides.{nat_tests}
 use Rattle.std.proofs.lemmas.Bool.{eqb-true}
 use Rattle.std.proofs.lemmas.List.{append_assoc}
@@ -7,11 +7,10 @@ use Rattle.std.specs.Prelude.{IsSome, option_and_then}
 use Rattle.std.specs.List.{cons_option}
 use Rattle.av_vma.specs.declared.area.Area.{Area}
 use Rattle.av_base.specs.Limits.{top_page}
-use Rattle.av_vma.specs.Join.{first_of, past_of}
 use Rattle.av_vmatree.specs.declared.span.Span.{Span}
 use Rattle.av_vmatree.specs.Spans.{AreApart, AreDistinct, area_at, holds, span_of}
 use Rattle.av_vmatree.proofs.Spans.{held}
-use Rattle.av_vma.specs.Pages.{has_page, pages_in}
+use Rattle.av_vma.specs.Pages.{pages_in}
 use Rattle.av_merge.specs.Pages.{pages_by}
 use Rattle.av_merge.specs.Process.{AreAreasOf, IsAreaOf}
 use Rattle.av_merge.proofs.Places.{holds_is, holds_parts}

@@ -1,9 +1,10 @@
 -- What a change of areas leaves of the anon_vmas, said by numbers of areas, is so by pages.
-use Rattle.std.proofs.Common.{◌≡◌, ◌≢◌, ℕ, true, List, [], Option, Some, None, is_some, IfSome, IsSome, IsSomeAnd, refl, sym, ap, subst, ◌∙◌, arith}
-use Rattle.std.proofs.lemmas.Bool.{false≢true}
+use Rattle.std.proofs.Common.{◌≡◌, ◌≢◌, ◌≤◌, ◌+◌, ◌↔◌, ◌==◌, Bool, false, cond, ◌∷◌, ℕ, true, List, [], Option, Some, None, is_some, IfSome, IsSome, IsSomeAnd, refl, sym, ap, subst, ◌∙◌, arith}
+use Rattle.std.proofs.lemmas.Bool.{eq-eqb, eqb-true, false≢true}
+use Rattle.av_chain.specs.Links.{one_if}
 use Rattle.std.specs.Prelude.{MatchOption}
 use Rattle.std.specs.Option.{option_map_or}
-use Rattle.av_base.specs.Words.{is_in}
+use Rattle.av_base.specs.Words.{how_many, is_in}
 use Rattle.av_vma.specs.declared.area.Area.{Area}
 use Rattle.av_vma.specs.Areas.{area_of}
 use Rattle.av_vma.specs.Pages.{makes_anon}
@@ -13,9 +14,9 @@ use Rattle.av_anon.specs.declared.anons.Anons.{Anons}
 use Rattle.av_anon.specs.Anons.{family, own_of}
 use Rattle.av_anon.specs.declared.infos.Info.{Info}
 use Rattle.av_anon.specs.Kin.{IsSameKin}
-use Rattle.av_anon.specs.Order.{IsInOrder}
+use Rattle.av_anon.specs.Order.{IsInOrder, owns}
 use Rattle.av_anon.specs.Spans.{spans_of}
-use Rattle.av_anon.proofs.KinLaws.{chain_by-is, chains_stay, someone_linked}
+use Rattle.av_anon.proofs.KinLaws.{chain_by-is, chains_stay, owns-is, someone_linked}
 use Rattle.av_merge.specs.Kin.{AreInOrder, KeepsKin, PrepareKin, PreparesKin, lengths}
 use Rattle.av_merge.specs.Pages.{pages_by}
 use Rattle.av_merge.specs.Process.{AreAreasOf}
@@ -94,6 +95,27 @@ owner_there areas ts v trees h = by (pages_of (spaces_by (area_of areas) ts) h.0
     by None at is = absurd is
     by (Some A) at is = let b = area_of_page (area_of areas) ts h.0 h.1 A trees at in (b.0, ap own_of b.1 ∙ is)
 
+-- ---- how many pass
+
+-- where some pass, one does
+some_passes : (test : ℕ → Bool) (xs : List ℕ) → 1 ≤ how_many test xs → (b : ℕ) × (test b ≡ true)
+some_passes test [] some = absurd (omega (arith, some))
+some_passes test (x ∷ xs) some = by (test x) refl some (some_passes test xs)
+  where
+    by : (t : Bool) → test x ≡ t → 1 ≤ cond t 1 0 + how_many test xs → (1 ≤ how_many test xs → (b : ℕ) × (test b ≡ true)) → (b : ℕ) × (test b ≡ true)
+    by true e some rest = (x, e)
+    by false e some rest = rest (omega (arith, some))
+
+-- and where one of them does, some do
+passes_once : (test : ℕ → Bool) (b : ℕ) (xs : List ℕ) → how_many (λ c. b == c) xs ≡ 1 → test b ≡ true → 1 ≤ how_many test xs
+passes_once test b [] once h = absurd (omega (arith, once))
+passes_once test b (x ∷ xs) once h = by (b == x) refl once (passes_once test b xs)
+  where
+    by : (t : Bool) → (b == x) ≡ t → cond t 1 0 + how_many (λ c. b == c) xs ≡ 1 → (how_many (λ c. b == c) xs ≡ 1 → test b ≡ true → 1 ≤ how_many test xs)
+        → 1 ≤ cond (test x) 1 0 + how_many test xs
+    by true e once rest = let here : cond (test x) 1 0 ≡ 1 = ap one_if (ap test (sym (eqb-true b x e)) ∙ h) in omega (arith, here)
+    by false e once rest = let later = rest (omega (arith, once)) h in omega (arith, later)
+
 -- ---- linked anon_vmas
 
 module _ (areas : List (Option Area)) (ts : Trees) (a : Anons) (trees : AreTrees (area_of areas) ts) (order : IsInOrder (area_of areas) (family a) (spans_of a)) where
@@ -126,6 +148,24 @@ module _ (areas : List (Option Area)) (ts : Trees) (a : Anons) (trees : AreTrees
       by None at is = absurd is
       by (Some A) at is = let b = area_of_page (area_of areas) ts h.0 h.1 A trees at in of_own A b.0 b.1 A.anon refl is
 
+  -- one that counts active areas is some area's own, and the other way round
+  active_there : (v : ℕ) → IfSome (info_of a v) (λ i. (1 ≤ i.active) ↔ IsOwnedIn (all_spaces areas ts) v)
+  active_there v = by (info_of a v) refl
+    where
+      test : ℕ → Bool
+      test b = owns v (own_of (area_of areas b))
+
+      by : (o : Option Info) → info_of a v ≡ o → IfSome o (λ i. (1 ≤ i.active) ↔ IsOwnedIn (all_spaces areas ts) v)
+      by None is = tt
+      by (Some i) is =
+          let counted : i.active ≡ how_many test ((family a).users v) = (order.counted v i is).active in (
+            λ some. let b = some_passes test ((family a).users v) (subst (λ n. 1 ≤ n) counted some) in owned_there areas ts b.0 v trees (owns-is v (own_of (area_of areas b.0)) b.1),
+            λ owned.
+                let b = owner_there areas ts v trees owned in
+                let once : how_many (λ c. b.0 == c) ((family a).users v) ≡ 1 = order.inverse.inverse b.0 v ∙ ap one_if ((order.chains b.0).own_in v b.1) in
+                subst (λ n. 1 ≤ n) (sym counted) (passes_once test b.0 ((family a).users v) once (ap (owns v) b.1 ∙ eq-eqb v v refl)),
+          )
+
   -- so they fit
   pub fit_in : AnonsFit (all_spaces areas ts) a
   fit_in = record {
@@ -135,6 +175,7 @@ module _ (areas : List (Option Area)) (ts : Trees) (a : Anons) (trees : AreTrees
     own = λ v is.
         let b = owner_there areas ts v trees is in
         ap (is_in v) (chain_by-is (area_of areas) (family a) (spans_of a) b.0 v order b.1) ∙ (order.chains b.0).own_in v b.1;
+    active = active_there;
   }
 
 -- ---- what a change leaves

@@ -1,4 +1,6 @@
 pub mod Areas
+pub mod ForkLaws
+pub mod ForkKept
 pub mod Rising
 pub mod Trees
 pub mod Kin

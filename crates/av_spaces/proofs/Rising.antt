@@ -1,10 +1,10 @@
 -- What follows from the order of a process's areas: each is on all of its pages and on no other.
-use Rattle.std.proofs.Common.{◌≡◌, ℕ, ◌<◌, ◌≤◌, Bool, true, false, cond, List, [], ◌∷◌, Option, Some, None, IfSome, refl, sym, ap, subst, ◌∙◌, arith}
-use Rattle.std.proofs.lemmas.Bool.{false≢true, false_from_ne_true}
+use Rattle.std.proofs.Common.{◌≡◌, ℕ, ◌≤◌, Bool, true, false, cond, List, [], ◌∷◌, Option, Some, None, IfSome, refl, sym, ap, subst, ◌∙◌, arith}
+use Rattle.std.proofs.lemmas.Bool.{false_from_ne_true}
 use Rattle.std.proofs.lemmas.Option.{none-some, same_Some}
 use Rattle.av_vma.specs.declared.area.Area.{Area}
 use Rattle.av_vma.specs.Join.{first_of, past_of}
-use Rattle.av_vma.specs.Pages.{AreLaid, has_page, IsWhole, pages_in}
+use Rattle.av_vma.specs.Pages.{AreLaid, has_page, pages_in}
 use Rattle.av_vma.proofs.Laid.{has_parts}
 use Rattle.av_spaces.specs.Spaces.{Spaces, IsOwn, AreRising, AllRising, areas_of, pages_of}
 

@@ -14,6 +14,7 @@ use Rattle.av_vmatree.specs.Spans.{area_at, span_of, is_page_taken}
 use Rattle.av_vma.specs.Pages.{Pages, pages_in}
 use Rattle.av_merge.specs.Pages.{pages_by}
 use Rattle.av_merge.specs.Process.{AreAreasOf, IsAreaOf, KeepsOthers, Stays}
+use Rattle.av_merge.proofs.Places.{others_refl}
 use Rattle.av_spaces.specs.Spaces.{AllSpaces, Spaces, areas_of, pages_of, is_taken, AreRising, AllRising, IsSpawned, IsChanged, IsEnded}
 use Rattle.av_spaces.specs.Trees.{Trees, tree_at, areas_by, space_by, spaces_by, HasNone, AreTrees, IsGrown}
 use Rattle.av_spaces.proofs.Areas.{AreNumbered, numbered, pages_are, held_by, rising_of}
@@ -255,9 +256,9 @@ module _ (f f' : ℕ → Option Area) (p : ℕ) (others : KeepsOthers p f f') wh
       rising = all_rising f' new trees_changed;
     }
 
-    pub spawned : after ≡ Some [] → how_many is_some new ≡ how_many is_some old + 1 → IsSpawned (spaces_by f old) (spaces_by f' new) p
-    spawned empty number = record {
-      areas = λ q. areas_now_are q ∙ ap (λ o. cond (q == p) (option_map (areas_by f') o) (areas_of (spaces_by f old) q)) empty;
+    pub spawned : (spans : List Span) → after ≡ Some spans → how_many is_some new ≡ how_many is_some old + 1 → IsSpawned (spaces_by f old) (spaces_by f' new) p (areas_by f' spans)
+    spawned spans is number = record {
+      areas = λ q. areas_now_are q ∙ ap (λ o. cond (q == p) (option_map (areas_by f') o) (areas_of (spaces_by f old) q)) is;
       number = count_is f' new ∙ number ∙ ap (λ n. n + 1) (sym (count_is f old));
       rising = all_rising f' new trees_changed;
     }
@@ -295,7 +296,7 @@ none_left f p areas = λ n. each (f n) (areas.all n)
     each None h = tt
     each (Some area) h = λ same. false≢true (h same)
 
-none_there : (f : ℕ → Option Area) (m : Trees) (p : ℕ) → AreTrees f m → areas_of (spaces_by f m) p ≡ None → HasNone p f
+pub none_there : (f : ℕ → Option Area) (m : Trees) (p : ℕ) → AreTrees f m → areas_of (spaces_by f m) p ≡ None → HasNone p f
 none_there f m p trees dead = each (tree_at m p) (sym (areas_are f m p) ∙ dead) (trees p)
   where
     each : (o : Option (List Span)) → option_map (areas_by f) o ≡ None → MatchOption o (HasNone p f) (AreAreasOf p f) → HasNone p f
@@ -306,23 +307,23 @@ none_there f m p trees dead = each (tree_at m p) (sym (areas_are f m p) ∙ dead
         clash e = cc
 
 -- no area changes
-same_areas : (p : ℕ) (f : ℕ → Option Area) → KeepsOthers p f f
-same_areas p f = record { stay = λ n area other is. is; none_comes = λ n area other is. is }
+pub stays_empty : (f : ℕ → Option Area) (p : ℕ) (spans : List Span) → spans ≡ [] → HasNone p f → Stays p f f spans
+stays_empty f p spans empty none = subst (Stays p f f) (sym empty) (record { areas = empty_areas f p none; others = others_refl p f })
 
 pub trees_same : (f : ℕ → Option Area) (old new : Trees) → AreTrees f old → ((p : ℕ) → tree_at new p ≡ tree_at old p) → AreTrees f new
 trees_same f old new trees same p = subst (λ o. MatchOption o (HasNone p f) (AreAreasOf p f)) (sym (same p)) (trees p)
 
--- a process comes: its place is made, and an empty tree put there
-module _ (f : ℕ → Option Area) (old mid : Trees) (p : ℕ) (spans : List Span) (s : Spaces) (trees : AreTrees f old) (empty : spans ≡ []) (view : spaces_by f old ≡ s) (dead : areas_of s p ≡ None)
-    (grown : IsGrown old mid) (place : p < length mid) where
-  areas_now : AreAreasOf p f spans
-  areas_now = subst (AreAreasOf p f) (sym empty) (empty_areas f p (none_there f old p trees (ap (λ s. areas_of s p) view ∙ dead)))
+-- a process comes: its place is made, and its tree put there
+module _ (f f' : ℕ → Option Area) (old mid : Trees) (p : ℕ) (spans : List Span) (s : Spaces) (trees : AreTrees f old) (view : spaces_by f old ≡ s) (dead : areas_of s p ≡ None)
+    (stays : HasNone p f → Stays p f f' spans) (grown : IsGrown old mid) (place : p < length mid) where
+  stays_come : Stays p f f' spans
+  stays_come = stays (none_there f old p trees (ap (λ s. areas_of s p) view ∙ dead))
 
   now : (q : ℕ) → tree_at (slice_set mid p (Some spans)) q ≡ cond (q == p) (Some spans) (tree_at old q)
   now q = tree_set mid p (Some spans) place q ∙ ap (cond (q == p) (Some spans)) (grown.trees q)
 
-  pub trees_spawned : AreTrees f (slice_set mid p (Some spans))
-  trees_spawned = trees_changed f f p (same_areas p f) old (slice_set mid p (Some spans)) (Some spans) trees areas_now now
+  pub trees_spawned : AreTrees f' (slice_set mid p (Some spans))
+  trees_spawned = trees_changed f f' p stays_come.others old (slice_set mid p (Some spans)) (Some spans) trees stays_come.areas now
 
   pub count_spawned : how_many is_some (slice_set mid p (Some spans)) ≡ how_many is_some old + 1
   count_spawned = counted _ _ _ _ (count_set mid p (Some spans) place) (ap one_if (grown.trees p ∙ none)) grown.alive
@@ -337,8 +338,9 @@ module _ (f : ℕ → Option Area) (old mid : Trees) (p : ℕ) (spans : List Spa
       counted : (n w m k : ℕ) → n + w ≡ m + 1 → w ≡ 0 → m ≡ k → n ≡ k + 1
       counted n w m k a b c = omega arith
 
-  pub spawns : IsSpawned s (spaces_by f (slice_set mid p (Some spans))) p
-  spawns = subst (λ s. IsSpawned s (spaces_by f (slice_set mid p (Some spans))) p) view (spawned f f p (same_areas p f) old (slice_set mid p (Some spans)) (Some spans) trees areas_now now (ap Some empty) count_spawned)
+  pub spawns : IsSpawned s (spaces_by f' (slice_set mid p (Some spans))) p (areas_by f' spans)
+  spawns = subst (λ s. IsSpawned s (spaces_by f' (slice_set mid p (Some spans))) p (areas_by f' spans)) view
+      (spawned f f' p stays_come.others old (slice_set mid p (Some spans)) (Some spans) trees stays_come.areas now spans refl count_spawned)
 
 -- the tree of p is emptied, and has gone from its place
 module _ (f f' : ℕ → Option Area) (old : Trees) (p : ℕ) (before after : List Span) (s : Spaces) (trees : AreTrees f old) (view : spaces_by f old ≡ s) (was : tree_at old p ≡ Some before)

@@ -1,6 +1,6 @@
 -- The anon_vmas beside the areas of all processes, said by pages: which are linked, and what a
 -- change of areas leaves of them.
-use Rattle.std.specs.Prelude.{◌≡◌, ℕ, suc, Bool, true, false, if◌then◌else◌, List, [], ◌∷◌, Option, Some, None, option_map, IfSome, IsSome, IsSomeAnd}
+use Rattle.std.specs.Prelude.{◌≡◌, ◌≤◌, ◌↔◌, ℕ, suc, Bool, true, false, if◌then◌else◌, List, [], ◌∷◌, Option, Some, None, option_map, IfSome, IsSome, IsSomeAnd}
 use Rattle.std.specs.Option.{option_map_or}
 use Rattle.av_base.specs.Words.{is_in}
 use Rattle.av_vma.specs.Areas.{area_of}
@@ -40,13 +40,14 @@ abbrev pub IsOwnedIn : AllSpaces → ℕ → Type 0
 IsOwnedIn s v = (p : ℕ) × (page : ℕ)
     × IsSomeAnd (pages_of s.processes p page) (λ area. area.anon ≡ Some v)
 
--- there is chain order; the anon_vmas that are there are those that an area is linked to, and an
--- area's own one is in its chain
+-- there is chain order; the anon_vmas that are there are those that an area is linked to, an area's
+-- own one is in its chain, and one counts active areas exactly where it is some area's own
 pub record AnonsFit (s : AllSpaces) (anons : Anons) : Type 0 where
   pub order : InOrder s anons
   pub there : (v : ℕ) → IsSome (info_of anons v) → IsLinkedIn s anons v
   pub linked : (v : ℕ) → IsLinkedIn s anons v → IsSome (info_of anons v)
   pub own : (v : ℕ) → IsOwnedIn s v → is_in v (chain_on s anons (Some v)) ≡ true
+  pub active : (v : ℕ) → IfSome (info_of anons v) (λ i. (1 ≤ i.active) ↔ IsOwnedIn s v)
 
 -- after a change of areas: no anon_vma is made, and none changes its root or parent; an area's own
 -- one is one that some area had, and has the chain that it had

@@ -1,3 +1,4 @@
+pub mod Fork
 pub mod Kin
 pub mod Spaces
 pub mod Trees

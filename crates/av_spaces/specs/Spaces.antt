@@ -63,9 +63,9 @@ pub record AreNumbered (s : AllSpaces) : Type 0 where
 
 -- ---- what changes
 
--- p lives now, without any area
-pub record IsSpawned (old new : Spaces) (p : ℕ) : Type 0 where
-  pub areas : (q : ℕ) → areas_of new q ≡ (if q == p then Some [] else areas_of old q)
+-- p lives now, with these areas
+pub record IsSpawned (old new : Spaces) (p : ℕ) (these : List Area) : Type 0 where
+  pub areas : (q : ℕ) → areas_of new q ≡ (if q == p then Some these else areas_of old q)
   pub number : length new ≡ length old + 1
   pub rising : AllRising new
 

@@ -5,11 +5,13 @@
 //! area says, in the order of their pages; beside it stand the areas by number, by which chains of
 //! anon_vmas go. Proved: what a call answers and what it changes, page by page, is what `av_merge`
 //! says of one process; the areas of all others stay; the areas of a process are whole, rise and do
-//! not meet. Of the anon_vmas: a call makes none but `prepare`, and no call changes root or parent
-//! of one; those that are left are those that an area is linked to, and there is chain order. Not
-//! proved: how much time a call takes. Tests stand with those of the kernel, in `av_run_tests`.
+//! not meet. Of the anon_vmas: a call makes none but `prepare` and `fork`, and no call changes root
+//! or parent of one; those that are left are those that an area is linked to, and there is chain
+//! order. A fork goes area by area, by rising address, and each sees what the earlier ones left.
+//! Not proved: how much time a call takes. Tests stand in `av_tests`.
 #![tactic(auto)]
 
+mod fork;
 mod spaces;
 
 pub use spaces::Spaces;

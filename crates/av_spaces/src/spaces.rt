@@ -1,6 +1,6 @@
 //! The areas of every process that lives.
 
-ghost use Rattle.std.specs.Prelude.{◌≡◌, ℕ, ◌+◌, ◌-◌, ◌^◌, ◌<◌, ◌≤◌, [], Some, None, true, false, is_some, option_map, slice_set, length, IsSome, OnOk, OnErr, IfOk, IfSome};
+ghost use Rattle.std.specs.Prelude.{◌≡◌, ℕ, ◌+◌, ◌-◌, ◌^◌, ◌<◌, ◌≤◌, [], Some, None, true, false, is_some, option_map, slice_set, length, IsSome, IsSomeAnd, OnOk, OnErr, IfOk, IfSome};
 ghost use Rattle.av_vma.specs.Areas.{area_of};
 ghost use Rattle.av_base.specs.Limits.{low_page, top_page};
 ghost use Rattle.av_vma.specs.Gap.{IsGap};
@@ -10,11 +10,13 @@ ghost use Rattle.av_merge.specs.Pages.{IsReached};
 ghost use Rattle.av_merge.specs.Process.{AreAreasOf};
 ghost use Rattle.av_anon.specs.declared.anons.Anons.{Anons};
 ghost use Rattle.av_merge.specs.Kin.{lengths};
+ghost use Rattle.av_spaces.specs.Fork.{AreKept, GoInTurn, IsForked};
 ghost use Rattle.av_spaces.specs.Kin.{AnonsPrepare, AnonsStay, InOrder, chain_at};
 ghost use Rattle.av_spaces.specs.Spaces.{areas_of, pages_of, is_taken, AllRising, AreNumbered, AreThese, AreRising, IsSpawned, IsChanged, IsEnded};
 ghost use Rattle.av_vma.specs.Pages.{IsWhole, after_map, after_prepare, after_unmap, pages_changed, to_prot};
 ghost use Rattle.av_spaces.specs.Trees.{areas_by, tree_at, IsGrown};
 
+use crate::fork::fork_each;
 use av_anon::Anons;
 use av_base::Prot;
 use av_merge::Change;
@@ -107,7 +109,7 @@ impl Spaces {
     /// Gives a process that does not live no areas, so that it lives. Without memory all stays.
     pub fn spawn(&mut self, process: u16) -> Result<(), AllocError>
         requires { areas_of self.old.processes process ≡ None }
-        ensures ok { OnOk result (IsSpawned self.old.processes self.new.processes process) }
+        ensures ok { OnOk result (IsSpawned self.old.processes self.new.processes process []) }
         ensures anons { (anons : Anons) → InOrder self.old anons
             → OnOk result (AnonsStay self.old anons self.new anons) }
         ensures err { OnErr result (self.new ≡ self.old) }
@@ -116,6 +118,33 @@ impl Spaces {
         put_tree(&mut self.trees, process, Tree::new(self.alloc));
         self.alive += 1;
         Ok(())
+    }
+
+    /// Gives a process that does not live the areas of one that does, by rising address: each is
+    /// linked to the parent's whole chain, and has the lowest idle member of it as its own
+    /// anon_vma, else a new one below the parent's; none where the parent's area has none. Without
+    /// memory as for `map`.
+    pub fn fork(&mut self, anons: &mut Anons, parent: u16, child: u16) -> Result<(), AllocError>
+        requires order { InOrder self.old anons.old }
+        requires lives { is_some (areas_of self.old.processes parent) ≡ true }
+        requires dead { areas_of self.old.processes child ≡ None }
+        ensures forked { OnOk result (IsSomeAnd (areas_of self.old.processes parent)
+            (IsForked self.old anons.old self.new anons.new child)) }
+        ensures in_turn { OnOk result (IsSomeAnd (areas_of self.old.processes parent)
+            (GoInTurn self.old anons.old child)) }
+        ensures kept { OnOk result (AreKept self.old anons.old self.new anons.new) }
+    {
+        make_place(&mut self.trees, child)?;
+        let Some(tree) = tree_of(&self.trees, parent) else {
+            unreachable!()
+        };
+        let mut spans = Vec::new(self.alloc);
+        tree.append_to(&mut spans)?;
+        let mut tree = Tree::new(self.alloc);
+        let result = fork_each(&mut self.areas, &mut tree, anons, &spans, child);
+        put_tree(&mut self.trees, child, tree);
+        self.alive += 1;
+        result
     }
 
     /// Whether none of these pages of a process that lives is mapped.

@@ -1,4 +1,4 @@
-use Rattle.std.proofs.Common.{◌+◌, ◌≡◌, ◌∙◌, ◌++◌, ◌∷◌, [], List, Some, drop, slice_index_or, subst, sym, ap}
+use Rattle.std.proofs.Common.{◌+◌, ◌≡◌, ◌∙◌, ◌++◌, List, drop, slice_index_or, subst, sym}
 use Rattle.std.proofs.lemmas.List.{drop_more, at_drop_all, append-nil}
 use Rattle.av_vma.specs.Areas.{area_of}
 use Rattle.av_vma.specs.declared.area.Area.{Area}

@@ -1,17 +1,11 @@
-use Rattle.std.proofs.Common.{◌≡◌, ◌∙◌, ℕ, ◌+◌, List, ◌++◌, Some, None, is_some, option_map, length, slice_set, Result, Ok, Err, subst, sym, ap, refl}
-use Rattle.std.specs.Prelude.{IfOk, option_and_then}
+use Rattle.std.proofs.Common.{◌∙◌, is_some, subst, sym, ap}
+use Rattle.std.specs.Prelude.{option_and_then}
 use Rattle.av_vma.specs.Areas.{area_of}
-use Rattle.av_vma.specs.Gap.{IsGap}
-use Rattle.av_vmatree.specs.declared.span.Span.{Span}
-use Rattle.av_vmatree.specs.Spans.{IsFree, IsMet, is_page_taken}
-use Rattle.av_vma.specs.Pages.{Pages, after_map, after_unmap, no_chains}
-use Rattle.av_merge.specs.Pages.{pages_by, IsReached}
-use Rattle.av_merge.specs.Process.{AreAreasOf}
-use Rattle.av_spaces.specs.Spaces.{AllRising, areas_of, pages_of, AreRising, AreThese, IsChanged}
+use Rattle.av_spaces.specs.Spaces.{AllRising}
 use Rattle.av_spaces.proofs.Rising.{laid}
-use Rattle.av_spaces.specs.Trees.{tree_at, areas_by, spaces_by}
-use Rattle.av_spaces.proofs.Areas.{held_by, rising_of}
-use Rattle.av_spaces.proofs.Trees.{processes_are, areas_are, not_dead, lives_is, tree_of, pages_there, none_dead, taken_as, place_there, all_rising, trees_same, trees_spawned, count_spawned, spawns, trees_left, count_left, ends, place_still, trees_lent, count_lent, changes, if_each, on_ok}
+use Rattle.av_spaces.specs.Trees.{tree_at}
+use Rattle.av_spaces.proofs.Areas.{held_by}
+use Rattle.av_spaces.proofs.Trees.{processes_are, tree_of, pages_there, none_dead, all_rising}
 use Rattle.av_spaces.proofs.spaces.Spaces.area.Goals as goal
 
 pub returns-in_err-tree-clause-area : goal.returns-in_err-tree-clause-area

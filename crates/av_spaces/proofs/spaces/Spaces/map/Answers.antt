@@ -1,21 +1,15 @@
-use Rattle.std.proofs.Common.{◌-◌, ◌<◌, arith, true, ◌≤◌, ◌≡◌, ◌∙◌, ℕ, ◌+◌, List, ◌++◌, Option, Some, None, is_some, option_map, length, slice_set, Result, Ok, Err, subst, sym, ap, refl}
+use Rattle.std.proofs.Common.{◌<◌, ◌∙◌, ◌+◌, List, Option, Some, None, is_some, length, slice_set, subst, sym, ap}
 use Rattle.std.proofs.Math.ListN.{length-set}
-use Rattle.std.specs.Prelude.{IfOk, option_and_then}
 use Rattle.av_vma.specs.Areas.{area_of}
-use Rattle.av_vma.specs.Gap.{IsGap}
-use Rattle.av_vmatree.specs.declared.span.Span.{Span}
-use Rattle.av_vmatree.specs.Spans.{IsFree, IsMet, is_page_taken}
-use Rattle.av_vma.specs.Pages.{Pages, after_map, after_unmap, no_chains}
-use Rattle.av_merge.specs.Pages.{pages_by, IsReached}
-use Rattle.av_merge.specs.Process.{AreAreasOf}
-use Rattle.av_spaces.specs.Spaces.{IsSpawned, IsEnded, areas_of, pages_of, AreRising, AreThese, IsChanged}
+use Rattle.av_vmatree.specs.Spans.{IsFree}
+use Rattle.av_vma.specs.Pages.{after_map}
+use Rattle.av_spaces.specs.Spaces.{areas_of, pages_of, AreThese, IsChanged}
 use Rattle.av_vma.specs.declared.area.Area.{Area}
 use Rattle.av_merge.specs.Kin.{lengths}
 use Rattle.av_spaces.specs.Spaces.{AllSpaces}
 use Rattle.av_spaces.proofs.Kin.{anons_stay_by, order_in}
-use Rattle.av_spaces.specs.Trees.{AreTrees, Trees, HasTrees, tree_at, areas_by, spaces_by}
-use Rattle.av_spaces.proofs.Areas.{held_by, rising_of}
-use Rattle.av_spaces.proofs.Trees.{processes_are, some_mapped, count_is, areas_are, not_dead, tree_of, pages_there, none_dead, taken_as, place_there, trees_same, trees_spawned, count_spawned, spawns, trees_left, count_left, ends, place_still, trees_lent, count_lent, changes, count_below, some_alive, lives_is, if_each, on_ok}
+use Rattle.av_spaces.specs.Trees.{AreTrees, Trees, HasTrees, spaces_by}
+use Rattle.av_spaces.proofs.Trees.{processes_are, tree_of, taken_as, place_still, trees_lent, count_lent, changes, lives_is, on_ok}
 use Rattle.av_spaces.proofs.spaces.Spaces.map.Goals as goal
 
 pub take_tree-tree-requires : goal.take_tree-tree-requires

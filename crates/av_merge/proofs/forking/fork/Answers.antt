@@ -1,0 +1,45 @@
+use Rattle.std.proofs.Common.{ℕ, IsSomeAnd, sym, subst}
+use Rattle.av_vma.specs.Areas.{area_of}
+use Rattle.av_vma.specs.Pages.{IsWhole}
+use Rattle.av_anon.specs.Anons.{family}
+use Rattle.av_anon.specs.Spans.{spans_of}
+use Rattle.av_merge.specs.Fork.{IsForkedTo}
+use Rattle.av_merge.proofs.Forks.{areas_forked, kin_forked, order_added, order_forked}
+use Rattle.av_merge.proofs.Linked.{ok_three}
+use Rattle.av_merge.proofs.forking.fork.Goals as goal
+
+pub fork-requires-clause-order : goal.fork-requires-clause-order
+fork-requires-clause-order c =
+    let whole = subst (λ o. IsSomeAnd o IsWhole) c.get-area.ensures c.requires.whole in
+    order_added (area_of c.args.areas.now) (area_of c.add.new.areas) (family c.args.anons.now) (spans_of c.args.anons.now)
+    c.args.number c.in_ok-copy.copy c.args.child c.get-area.result
+    c.requires.order c.get-area.ensures whole c.in_ok-copy.ensures.unused c.in_ok-copy.ensures.areas
+
+pub returns-clause-forked : goal.returns-clause-forked
+returns-clause-forked c =
+    let old = area_of c.args.areas.now in
+    let mid = area_of c.add.new.areas in
+    let new = area_of c.fork.new.areas in
+    let f = family c.args.anons.now in
+    let f' = family c.fork.new.self in
+    let spans = spans_of c.args.anons.now in
+    let spans' = spans_of c.fork.new.self in
+    let n = c.args.number in
+    let copy = c.in_ok-copy.copy in
+    let A = c.get-area.result in
+    let whole = subst (λ o. IsSomeAnd o IsWhole) c.get-area.ensures c.requires.whole in
+    let unused = c.in_ok-copy.ensures.unused in
+    let added = c.in_ok-copy.ensures.areas in
+    ok_three c.fork.result c.fork.ensures.family c.fork.ensures.areas c.fork.ensures.spans (λ was now goes.
+    subst (λ o. IsSomeAnd o (λ area. (x : ℕ)
+    × IsForkedTo c.args.child area c.args.areas.now c.args.tree.now c.args.anons.now c.fork.new.areas c.add.new.tree c.fork.new.self x))
+    (sym c.get-area.ensures) (
+      copy,
+      record {
+        order = order_forked old mid f spans n copy c.args.child A c.requires.order c.get-area.ensures whole unused added new f' spans' now was goes;
+        kin = kin_forked old mid f spans n copy c.args.child A c.requires.order c.get-area.ensures whole unused added new f' spans' now was goes;
+        unused = unused;
+        areas = areas_forked old mid f spans n copy c.args.child A c.requires.order c.get-area.ensures whole unused added new f' spans' now was goes;
+        tree = c.in_ok-copy.ensures.tree;
+      },
+    ))
