@@ -9,6 +9,7 @@ use Rattle.av_trace.specs.declared.reply.Errno.TheVariants.{Esrch}
 use Rattle.av_trace.specs.declared.reply.Answer.{Answer}
 use Rattle.av_trace.specs.declared.reply.Answer.TheVariants as answers
 use Rattle.av_trace.specs.declared.command.Command.TheVariants.{Read, Write}
+use Rattle.av_plain.specs.Fork.{IsRmapNext}
 use Rattle.av_plain.specs.World.{World, lives, pages}
 use Rattle.av_plain.specs.Access.{Accesses, Whole, Stopped, pages_of_access, bytes_before, stop_answer, Reads, after_write}
 use Rattle.av_plain.specs.Step.{next}
@@ -19,10 +20,11 @@ use Rattle.av_reclaim.specs.declared.mem.Mem.{Mem}
 use Rattle.av_fault.specs.declared.fault.Stop.{Stop}
 use Rattle.av_fault.specs.declared.fault.Stop.TheVariants.{Segv, Oom}
 use Rattle.av_vma.specs.Pages.{Lengths}
-use Rattle.av_plain.specs.Areas.{AreNext, Areas, Rmap, chain_length, next_areas, rmap_after_all}
+use Rattle.av_plain.specs.Areas.{Areas, Rmap, chain_length, next_areas, rmap_after_all}
 use Rattle.av_trace.specs.declared.command.Command.{Command}
 use Rattle.av_reclaim.specs.Mem.{Keeps, setting, count}
 use Rattle.av_fault.specs.Fault.{stop_of}
+use Rattle.av_plain.proofs.Transcript.{is_fork, next-plain}
 use Rattle.av_kernel.specs.Step.{MemSteps}
 use Rattle.av_kernel.specs.Access.{IsAccess, answer_of}
 use Rattle.av_kernel.proofs.StepLaws.{left_alone}
@@ -47,13 +49,13 @@ world-stopped w p a k bytes (Oom out) = refl
 
 module _ (s : State) (old new : Mem) (p a : ℕ) (before notes : List Note) (rows : List Row) (k : ℕ) (fresh : before ≡ []) (none : rows ≡ []) (same : count new ≡ count old) (lived : lives s.world p ≡ true) (keeps : Keeps old s) where
   -- areas and anon_vmas are those that its events prepared
-  rmap_still : (command : Command) (answer : Answer) → ((long : Lengths) (on : Areas) → next_areas long on s.world command answer ≡ on) → (now : State) (events : List Event) → rmap_of now ≡ rmap_after_all s.ledger events (rmap_of s)
-      → Keeps new now → AreNext (rmap_after_all s.ledger events (rmap_of s)) s.world command answer (rmap_of now)
-  rmap_still command answer stay now events is kept = subst (λ (r : Rmap). AreNext r s.world command answer (rmap_of now)) is (record {
+  rmap_still : (command : Command) (answer : Answer) → is_fork command ≡ false → ((long : Lengths) (on : Areas) → next_areas long on s.world command answer ≡ on) → (now : State) (events : List Event) → rmap_of now ≡ rmap_after_all s.ledger events (rmap_of s)
+      → Keeps new now → IsRmapNext (rmap_after_all s.ledger events (rmap_of s)) s.world command answer (rmap_of now)
+  rmap_still command answer plain stay now events is kept = subst (λ (r : Rmap). IsRmapNext r s.world command answer (rmap_of now)) is (next-plain (rmap_of now) s.world command answer (rmap_of now) plain (record {
     areas = sym (stay (chain_length now.anons) now.areas);
     anons = left_alone new now kept;
     homes = refl;
-  })
+  }))
 
   -- the notes are those of the access alone
   alone : (events : List Event) → notes ≡ before ++ notes_of events → notes ≡ notes_of events
@@ -79,7 +81,7 @@ module _ (s : State) (old new : Mem) (p a : ℕ) (before notes : List Note) (row
       world = h.world;
       ledger = h.ledger;
       free = subst (λ m. ChoosesAll (setting m) None s.ledger h.events s.free h.next.free) same h.free;
-      rmap = rmap_still (Read p a n) answer (λ long on. refl) h.next h.events h.rmap h.keeps;
+      rmap = rmap_still (Read p a n) answer refl (λ long on. refl) h.next h.events h.rmap h.keeps;
       shows = tt;
     };
     keeps = h.keeps;
@@ -105,7 +107,7 @@ module _ (s : State) (old new : Mem) (p a : ℕ) (before notes : List Note) (row
       world = h.world;
       ledger = h.ledger;
       free = subst (λ m. ChoosesAll (setting m) None s.ledger h.events s.free h.next.free) same h.free;
-      rmap = rmap_still (Read p a n) answer (λ long on. refl) h.next h.events h.rmap h.keeps;
+      rmap = rmap_still (Read p a n) answer refl (λ long on. refl) h.next h.events h.rmap h.keeps;
       shows = tt;
     };
     keeps = h.keeps;
@@ -129,7 +131,7 @@ module _ (s : State) (old new : Mem) (p a : ℕ) (before notes : List Note) (row
       world = h.world ∙ ap (after_write s.world p a) (ap (λ k. take k bytes) h.is_end.1 ∙ take-length bytes) ∙ ap (next s.world (Write p a bytes)) (sym is);
       ledger = h.ledger;
       free = subst (λ m. ChoosesAll (setting m) None s.ledger h.events s.free h.next.free) same h.free;
-      rmap = rmap_still (Write p a bytes) answer (λ long on. refl) h.next h.events h.rmap h.keeps;
+      rmap = rmap_still (Write p a bytes) answer refl (λ long on. refl) h.next h.events h.rmap h.keeps;
       shows = tt;
     };
     keeps = h.keeps;
@@ -153,7 +155,7 @@ module _ (s : State) (old new : Mem) (p a : ℕ) (before notes : List Note) (row
       world = h.world ∙ world-stopped s.world p a k bytes stop ∙ ap (next s.world (Write p a bytes)) (sym is);
       ledger = h.ledger;
       free = subst (λ m. ChoosesAll (setting m) None s.ledger h.events s.free h.next.free) same h.free;
-      rmap = rmap_still (Write p a bytes) answer (λ long on. refl) h.next h.events h.rmap h.keeps;
+      rmap = rmap_still (Write p a bytes) answer refl (λ long on. refl) h.next h.events h.rmap h.keeps;
       shows = tt;
     };
     keeps = h.keeps;

@@ -1,5 +1,6 @@
 pub mod StepLaws
 pub mod ProcessLaws
+pub mod ForkLaws
 pub mod PlaceLaws
 pub mod MapLaws
 pub mod MapProts

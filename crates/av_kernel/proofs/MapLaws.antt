@@ -17,6 +17,7 @@ use Rattle.av_trace.specs.declared.reply.Reply.{Reply}
 use Rattle.av_trace.specs.declared.reply.Answer.{Answer}
 use Rattle.av_trace.specs.declared.reply.Answer.TheVariants.{Done, MapAt, Refused}
 use Rattle.av_pagetable.specs.Entries.{has}
+use Rattle.av_plain.specs.Fork.{IsRmapNext}
 use Rattle.av_plain.specs.World.{lives, Process, Page, zeros, pages, is_mapped, pages_to_hole, set_process, with_pages, with_prot_on, with_prot}
 use Rattle.av_base.specs.Page.{page_of, pages_of, address_of, is_on_page}
 use Rattle.av_plain.specs.Ledger.{names_frame, Ledger, Entry, Zero, InFrame, InSlot, entry, frame_at}
@@ -28,7 +29,7 @@ use Rattle.av_plain.specs.Place.{Goes}
 use Rattle.av_plain.specs.Map.{zaps_for_place, with_prot_to_hole}
 use Rattle.av_anon.specs.declared.anons.Anons.{Anons as AnonSet}
 use Rattle.av_merge.specs.Kin.{lengths}
-use Rattle.av_merge.proofs.Lengths.{AreAlike, map_alike, pages_alike}
+use Rattle.av_merge.proofs.Lengths.{map_alike, pages_alike}
 use Rattle.av_spaces.specs.Kin.{AnonsStay}
 use Rattle.av_spaces.proofs.Kin.{stay_both, stay_same}
 use Rattle.av_reclaim.proofs.AnonLaws.{are_left, lengths_alike}
@@ -36,7 +37,7 @@ use Rattle.av_plain.proofs.AreasLeft.{rmap_after_all-zaps}
 use Rattle.av_plain.proofs.Covered.{Names}
 use Rattle.av_plain.specs.Areas.{Rmap, rmap_after_all}
 use Rattle.av_vma.proofs.Homes.{KeepsHomes}
-use Rattle.av_plain.specs.Areas.{AreNext, areas_to_hole, chain_length, next_areas, with_room}
+use Rattle.av_plain.specs.Areas.{areas_to_hole, chain_length, next_areas, with_room}
 use Rattle.av_plain.specs.Choice.{ChoosesAll}
 use Rattle.av_plain.specs.Report.{ShowsAreas}
 use Rattle.av_plain.specs.Transcript.{State, rmap_of}
@@ -47,6 +48,7 @@ use Rattle.av_plain.proofs.World.Ranges.{is-pages_to_hole}
 use Rattle.av_plain.proofs.Zap.{entry-range}
 use Rattle.av_reclaim.specs.declared.mem.Mem.{Mem}
 use Rattle.av_spaces.specs.Spaces.{AllSpaces, Spaces, areas_of, is_taken, pages_of as areas_on}
+use Rattle.av_plain.proofs.Transcript.{is_fork, next-plain}
 use Rattle.av_kernel.specs.Map.{set_on, HasAreas, HasProts, HomesStay, AreCleared}
 use Rattle.av_reclaim.specs.Mem.{ranges_of, setting, view, count, Keeps, IsSteady, HasLedger}
 use Rattle.av_reclaim.specs.Zap.{HasZapped}
@@ -244,15 +246,15 @@ module _ (old new : Mem) (s : State) (command : Command) (reply : Reply) (p page
       own_area : (at : ℕ) → areas_on new.spaces.processes p at ≡ on at
       own_area at = areas p at ∙ ap (λ b. (cond b on (s.areas p)) at) (itself p)
 
-  pub replaced-steps : IsLegal (setting (count old)) s.world s.ledger command reply events
+  pub replaced-steps : is_fork command ≡ false → IsLegal (setting (count old)) s.world s.ledger command reply events
       → set_process s.world p (with_pages (pages s.world p) page n (λ _. o)) ≡ next_world (setting (count old)) s.world s.ledger events command reply.answer
       → with_at p on s.areas ≡ next_areas (chain_length s.anons) s.areas s.world command reply.answer
       → ShowsAreas s.areas s.anons command reply.answer reply.rows → MemSteps old new s command reply
-  replaced-steps legal world next shows =
+  replaced-steps plain legal world next shows =
       let now : Process = with_pages (pages s.world p) page n (λ _. o) in
       changed old new s command reply p now on (after_all s.ledger events) keeps stay same_count taken.stands bytes homes
       (λ q at other. entries q at ∙ ap (λ b. cond (b && within page n at) None (entry s.ledger (q, at))) other) kept there home
-      (record { events = events; legal = legal; world = world; ledger = refl; free = subst (λ free. ChoosesAll (setting (count old)) None s.ledger events free (free_of (view new))) keeps.stands.free taken.free; rmap = subst (λ r. AreNext r s.world command reply.answer (rmap_of (state_after s p now on (after_all s.ledger events) (free_of (view new)) new.anons))) (sym silent) (record { areas = next; anons = are_left old s keeps new.spaces new.anons stay (with_at p on s.areas) areas; homes = refl }); shows = shows })
+      (record { events = events; legal = legal; world = world; ledger = refl; free = subst (λ free. ChoosesAll (setting (count old)) None s.ledger events free (free_of (view new))) keeps.stands.free taken.free; rmap = subst (λ r. IsRmapNext r s.world command reply.answer (rmap_of (state_after s p now on (after_all s.ledger events) (free_of (view new)) new.anons))) (sym silent) (next-plain (rmap_of s) s.world command reply.answer _ plain (record { areas = next; anons = are_left old s keeps new.spaces new.anons stay (with_at p on s.areas) areas; homes = refl })); shows = shows })
       areas
       (areas_changed old new s p now (set_on page n (option_map (λ (x : Page). x.prot) o) (prot_of (ranges_of old.spaces.processes p))) keeps alive spaces covered)
       (tables_kept old new s p now (set_on page n (option_map (λ (x : Page). x.prot) o) (prot_of (ranges_of old.spaces.processes p))) keeps alive spaces covered processes)
@@ -290,6 +292,7 @@ module _ (old new : Mem) (s : State) (p a len : ℕ) (keeps : Keeps old s) (aliv
       replaced-steps old new s (Munmap p a len) (answer_only Done) p (page_of a) (pages_of len) None (after_unmap (page_of a) (page_of a + pages_of len) (s.areas p)) events keeps alive same_count cleared.taken (λ q at. entry-range s.ledger p (page_of a) (pages_of len) q at) tt cleared.spaces
       (areas_so old new s p (after_unmap (page_of a) (page_of a + pages_of len)) keeps cleared.areas) cleared.anons cleared.processes cleared.bytes cleared.homes cleared.stay
       (rmap_after_all-zaps s.ledger (keys_in s.ledger p (page_of a) (pages_of len)) s.ledger (rmap_of s))
+      refl
       (record {
         answer = subst (λ o. MatchOption o (Follows (setting (count old)) s.world s.ledger (Munmap p a len) events Done []) (λ e. Refuses e events Done [])) (sym munmap-allowed) (refl, refl, refl);
         notes = sym cleared.taken.notes;
@@ -370,6 +373,7 @@ module _ (old : Mem) (s : State) (p len : ℕ) (prot : Prot) (place : Place) (ke
         (twice_placed old.spaces.processes mid.spaces.processes spaces.processes p (after_map (chain_length s.anons) p page (page + pages_of len) prot) (with_room (pages_of len) place (areas_on old.spaces.processes p)) cleared.areas (re_areas mid.spaces.processes spaces.processes p _ _ alike areas)))
         (stay_both old.spaces mid.spaces spaces old.anons mid.anons anons cleared.anons stay) cleared.processes cleared.bytes cleared.homes (λ at home outside is. given_homes at home outside (cleared.stay at home outside is))
         (place-silent s.ledger p (pages_of len) place (rmap_of s))
+        refl
         (record {
           answer = subst (λ o. MatchOption o (Follows (setting (count old)) s.world s.ledger (Mmap p len prot place) events (MapAt (address_of page)) []) (λ e. Refuses e events (MapAt (address_of page)) [])) (sym (mmap-tests ∙ placed.0))
               (Some page, placed.1, refl, refl, refl);
@@ -476,7 +480,7 @@ module _ (old : Mem) (spaces : AllSpaces) (anons : AnonSet) (s : State) (p a len
         world = world;
         ledger = refl;
         free = keeps.stands.free;
-        rmap = record { areas = next; anons = are_left old s keeps spaces anons stay _ now_on; homes = refl };
+        rmap = next-plain (rmap_of s) s.world (Mprotect p a len prot) answer _ refl (record { areas = next; anons = are_left old s keeps spaces anons stay _ now_on; homes = refl });
         shows = tt;
       })
       now_on

@@ -19,7 +19,7 @@ use Rattle.av_plain.specs.Sound.{AllSound}
 use Rattle.av_plain.specs.Areas.{Rmap, rmap_after_all}
 use Rattle.av_plain.specs.Covered.{IsRmapSound}
 use Rattle.av_plain.specs.Choice.{ChoosesAll, Free, ListsFree}
-use Rattle.av_plain.specs.Stands.{AnonsStand, AreasAre, free_of}
+use Rattle.av_plain.specs.Stands.{free_of}
 use Rattle.av_spaces.specs.Kin.{AnonsFit}
 use Rattle.av_spaces.specs.Spaces.{AllSpaces, pages_of as areas_on}
 use Rattle.av_reclaim.proofs.MemLaws.{frames_free, listed}

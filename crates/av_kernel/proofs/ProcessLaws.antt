@@ -1,5 +1,5 @@
 -- A process that comes, and one that ends: its entries, its table and its areas have gone, and nothing of the others.
-use Rattle.std.proofs.Common.{◌≡◌, ℕ, suc, ◌+◌, ◌<◌, ◌≤◌, nat_le, Bool, true, false, cond, not, T, [], ◌∷◌, length, Some, None, is_some, option_map, refl, sym, ap, subst, ◌∙◌, arith, ◌==◌, Option, List}
+use Rattle.std.proofs.Common.{◌≡◌, ℕ, suc, ◌+◌, nat_le, Bool, true, false, cond, not, T, [], ◌∷◌, length, Some, None, is_some, option_map, refl, sym, ap, subst, ◌∙◌, arith, ◌==◌, Option, List}
 use Rattle.std.proofs.lemmas.Bool.Decides.{nat_tests}
 use Rattle.std.proofs.lemmas.Bool.{false≢true}
 use Rattle.std.specs.Prelude.{IsSomeAnd, MatchOption, map, option_and_then}
@@ -8,6 +8,8 @@ use Rattle.std.specs.FinMap.Entries.{is_sorted, below_all, find}
 use Rattle.av_base.specs.Limits.{most_processes}
 use Rattle.av_base.specs.Words.{with_at}
 use Rattle.av_trace.specs.declared.command.Command.TheVariants.{Spawn, Exit}
+use Rattle.av_vma.specs.declared.area.Area.{Area}
+use Rattle.av_trace.specs.declared.reply.Errno.{Errno}
 use Rattle.av_trace.specs.declared.reply.Errno.TheVariants.{Esrch, Eagain, Eexist}
 use Rattle.av_trace.specs.declared.reply.Answer.TheVariants.{Done}
 use Rattle.av_pagetable.specs.declared.pte.Pte.{Pte}
@@ -36,6 +38,7 @@ use Rattle.av_reclaim.specs.declared.mem.Mem.{Mem}
 use Rattle.av_spaces.specs.Spaces.{AllSpaces, Spaces, areas_of, pages_of, IsSpawned, IsEnded}
 use Rattle.av_plain.specs.Report.{range_of}
 use Rattle.av_reclaim.specs.Mem.{ranges_of, setting, plain, view, count, HasTables, Keeps, HasLedger}
+use Rattle.av_kernel.specs.Process.{new_tests}
 use Rattle.av_kernel.specs.Step.{MemSteps, answer_only}
 use Rattle.av_reclaim.specs.Zap.{HasZapped}
 use Rattle.av_reclaim.proofs.MemLaws.{alive_is, lives_is, all_apart, kept-nothing, no_cache}
@@ -46,7 +49,7 @@ use Rattle.av_kernel.proofs.StepLaws.{AreLeftIn, reach_after, is_number, orderly
 
 -- ---- the ranges of a process that comes or goes
 
-ranges_spawned : (old new : Spaces) (p : ℕ) → IsSpawned old new p → (q : ℕ) → ranges_of new q ≡ cond (q == p) (Some []) (ranges_of old q)
+ranges_spawned : (old new : Spaces) (p : ℕ) → IsSpawned old new p [] → (q : ℕ) → ranges_of new q ≡ cond (q == p) (Some []) (ranges_of old q)
 ranges_spawned old new p h q = ap (option_map (map range_of)) (h.areas q) ∙ by (q == p)
   where
     by : (b : Bool) → option_map (map range_of) (cond b (Some []) (areas_of old q)) ≡ cond b (Some []) (ranges_of old q)
@@ -60,39 +63,41 @@ ranges_ended old new p h q = ap (option_map (map range_of)) (h.areas q) ∙ by (
     by true = refl
     by false = refl
 
-at_number : (q p : ℕ) → eq_by_cmp nat_cmp q p ≡ (q == p)
+pub at_number : (q p : ℕ) → eq_by_cmp nat_cmp q p ≡ (q == p)
 at_number q p = grind (arith, nat_tests)
+
+-- ---- one more process
+
+-- the tests of a process that is to live, by the memories
+abbrev pub new_refusal : World → ℕ → Option Errno
+new_refusal w p = cond (lives w p) (Some Eexist) (cond (nat_le most_processes (length w)) (Some Eagain) None)
+
+pub new_is : (k : Mem) (s : State) (p : ℕ) → Keeps k s → new_refusal s.world p ≡ refusal (new_tests k.spaces.processes p)
+new_is k s p keeps = λ i. cond (sym (lives_is k s keeps p) i) (Some Eexist) (cond (nat_le most_processes (sym keeps.stands.parts.areas.number i)) (Some Eagain) None)
+
+-- one that may come doesn't live
+pub absent : (s : Spaces) (p : ℕ) → refusal (new_tests s p) ≡ None → areas_of s p ≡ None
+absent s p = by (areas_of s p)
+  where
+    by : (o : Option (List Area)) → cond (is_some o) (Some Eexist) (cond (nat_le most_processes (length s)) (Some Eagain) None) ≡ None → o ≡ None
+    by None may = refl
+    by (Some areas) may = cc
+
+pub no_table : (k : Mem) (s : State) (p : ℕ) → Keeps k s → areas_of k.spaces.processes p ≡ None → has k.tables p ≡ false
+no_table k s p keeps gone = keeps.tables p ∙ alive_is k.spaces.processes p ∙ ap is_some gone
 
 -- ---- spawn
 
--- a process that lives is refused, and so is one more than may live
-pub there_already : (k : Mem) (s : State) (p : ℕ) → Keeps k s → is_some (areas_of k.spaces.processes p) ≡ true → refusal (tests (setting (count k)) s.world s.ledger (Spawn p)) ≡ Some Eexist
-there_already k s p keeps alive = ap (λ b. cond b (Some Eexist) (cond (nat_le most_processes (length s.world)) (Some Eagain) None)) (sym (lives_is k s keeps p) ∙ alive)
-
-pub too_many : (k : Mem) (s : State) (p : ℕ) → Keeps k s → is_some (areas_of k.spaces.processes p) ≡ false → 4096 ≤ length k.spaces.processes → refusal (tests (setting (count k)) s.world s.ledger (Spawn p)) ≡ Some Eagain
-too_many k s p keeps dead many =
-    ap (λ b. cond b (Some Eexist) (cond (nat_le most_processes (length s.world)) (Some Eagain) None)) (sym (lives_is k s keeps p) ∙ dead)
-    ∙ ap (λ b. cond b (Some Eagain) None) (at_least (length s.world) (let number = keeps.stands.parts.areas.number in omega (arith, many, number)))
-  where
-    at_least : (n : ℕ) → 4096 ≤ n → nat_le most_processes n ≡ true
-    at_least n h = grind (arith, nat_tests, h)
-
 -- a process that didn't live does now
 module _ (old : Mem) (tables : ProcessTables) (spaces : AllSpaces) (s : State) (p : ℕ) (keeps : Keeps old s)
-    (absent : is_some (ranges_of old.spaces.processes p) ≡ false) (few : length old.spaces.processes < 4096)
-    (entries : entry_at tables ≡ entry_at old.tables) (processes : has tables ≡ with_at p true (has old.tables)) (spawned : IsSpawned old.spaces.processes spaces.processes p)
+    (may : refusal (new_tests old.spaces.processes p) ≡ None)
+    (entries : entry_at tables ≡ entry_at old.tables) (processes : has tables ≡ with_at p true (has old.tables)) (spawned : IsSpawned old.spaces.processes spaces.processes p [])
     (stay : AnonsStay old.spaces old.anons spaces old.anons) where
   dead_before : lives s.world p ≡ false
-  dead_before = sym (lives_is old s keeps p) ∙ sym (alive_is old.spaces.processes p) ∙ absent
-
-  few_live : nat_le most_processes (length s.world) ≡ false
-  few_live = let number = keeps.stands.parts.areas.number in let less : length s.world < 4096 = omega (arith, few, number) in not_le (length s.world) less
-    where
-      not_le : (n : ℕ) → n < 4096 → nat_le most_processes n ≡ false
-      not_le n h = grind (arith, nat_tests)
+  dead_before = sym (lives_is old s keeps p) ∙ ap is_some (absent old.spaces.processes p may)
 
   spawn-allowed : refusal (tests (setting (count old)) s.world s.ledger (Spawn p)) ≡ None
-  spawn-allowed = ap (λ b. cond b (Some Eexist) (cond (nat_le most_processes (length s.world)) (Some Eagain) None)) dead_before ∙ ap (λ b. cond b (Some Eagain) None) few_live
+  spawn-allowed = new_is old s p keeps ∙ may
 
   spawn-on : AreasAre (view (moved_on old tables spaces old.anons)) (with_at p none_on s.areas)
   spawn-on q page = ap (λ a. pages_in a page) (spawned.areas q) ∙ by (q == p)

@@ -17,7 +17,7 @@ use Rattle.av_reclaim.specs.declared.mem.Mem.{Mem}
 use Rattle.av_reclaim.specs.Mem.{Keeps, count, setting}
 use Rattle.av_reclaim.proofs.MemLaws.{lives_is, mapped_is, taken_has}
 use Rattle.av_kernel.specs.Step.{MemSteps, answer_only}
-use Rattle.av_kernel.proofs.StepLaws.{areas_kept}
+use Rattle.av_kernel.proofs.StepLaws.{rmap_kept}
 
 -- ---- which pages are mapped
 
@@ -50,7 +50,7 @@ module _ (k : Mem) (s : State) (p a : ℕ) (keeps : Keeps k s) (alive : is_some 
       world = refl;
       ledger = refl;
       free = refl;
-      rmap = areas_kept k s (AsksEntry p a) answer keeps refl;
+      rmap = rmap_kept k s (AsksEntry p a) answer refl keeps refl;
       shows = tt;
     };
     keeps = keeps;

@@ -1,5 +1,5 @@
 -- The reply of `rmap`.
-use Rattle.std.proofs.Common.{◌≡◌, ◌⊎◌, inl, inr, ℕ, true, List, [], Option, Some, None, is_some, refl, sym, ap, subst, ◌∙◌}
+use Rattle.std.proofs.Common.{◌≡◌, ◌⊎◌, inl, inr, ℕ, true, [], Option, is_some, refl, sym, ap, subst, ◌∙◌}
 use Rattle.std.specs.Prelude.{MatchOption}
 use Rattle.av_base.specs.Page.{page_of}
 use Rattle.av_base.specs.declared.slot.Slot.{Slot}
@@ -20,7 +20,7 @@ use Rattle.av_reclaim.specs.declared.mem.Mem.{Mem}
 use Rattle.av_reclaim.specs.Mem.{Keeps, count, plain, setting}
 use Rattle.av_kernel.specs.Step.{MemSteps, answer_only}
 use Rattle.av_kernel.proofs.ReportEntry.{tests_are}
-use Rattle.av_kernel.proofs.StepLaws.{areas_kept}
+use Rattle.av_kernel.proofs.StepLaws.{rmap_kept}
 
 -- what is shown of an entry
 abbrev pub shown : Ledger → Option Entry → Reply
@@ -40,7 +40,7 @@ module _ (k : Mem) (s : State) (p a : ℕ) (keeps : Keeps k s) (alive : is_some 
           world = refl;
           ledger = refl;
           free = refl;
-          rmap = areas_kept k s (Rmap p a) reply.answer keeps refl;
+          rmap = rmap_kept k s (Rmap p a) reply.answer refl keeps refl;
           shows = tt;
         };
         keeps = keeps;

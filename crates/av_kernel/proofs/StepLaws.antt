@@ -1,5 +1,5 @@
 -- One command's step: the ledger's parts stand after its events, and so do the areas and the bytes of the pages that it changed.
-use Rattle.std.proofs.Common.{◌≡◌, ◌≢◌, ℕ, Bool, true, false, cond, not, List, [], length, Option, Some, None, IsSome, is_some, option_map, Result, Ok, Err, refl, sym, ap, subst, ◌∙◌, arith, ◌==◌}
+use Rattle.std.proofs.Common.{◌≡◌, ◌≢◌, ℕ, Bool, true, false, cond, not, [], Option, Some, None, IsSome, is_some, option_map, Result, Ok, Err, refl, sym, ap, subst, ◌∙◌, arith, ◌==◌}
 use Rattle.std.proofs.lemmas.Bool.Decides.{nat_tests}
 use Rattle.std.proofs.lemmas.Bool.{false≢true}
 use Rattle.std.specs.Ordering.{nat_cmp, eq_by_cmp}
@@ -11,6 +11,7 @@ use Rattle.av_trace.specs.declared.reply.Errno.TheVariants.{Esrch}
 use Rattle.av_trace.specs.declared.reply.Reply.{Reply}
 use Rattle.av_trace.specs.declared.reply.Answer.{Answer}
 use Rattle.av_trace.specs.declared.reply.Answer.TheVariants.{Refused}
+use Rattle.av_plain.specs.Fork.{IsRmapNext}
 use Rattle.av_plain.specs.World.{Process, Page, lives, pages, set_process}
 use Rattle.av_plain.specs.Ledger.{Key, Ledger, Entry, Zero, InFrame, InSlot, entry, frame_at, names_frame}
 use Rattle.av_plain.specs.Refusal.{tests, refusal, Refuses}
@@ -26,10 +27,9 @@ use Rattle.av_anon.specs.declared.anons.Anons.{Anons as AnonSet}
 use Rattle.av_anon.specs.declared.infos.Info.{Info}
 use Rattle.av_spaces.specs.Kin.{AnonsFit, AnonsStay, chain_on, info_of}
 use Rattle.av_spaces.proofs.Kin.{stay_same}
-use Rattle.av_plain.specs.Areas.{AnonVma, Anons, AreLeft, AreNext, Areas, chain_length, next_areas}
+use Rattle.av_plain.specs.Areas.{AnonVma, AreLeft, AreNext, Areas, chain_length, next_areas}
 use Rattle.av_plain.specs.Covered.{IsRmapSound}
 use Rattle.av_plain.proofs.Covered.{Names, sound-next}
-use Rattle.av_vma.specs.declared.area.Area.{Area}
 use Rattle.av_reclaim.proofs.AnonLaws.{anons_stand, are_left, left_of}
 use Rattle.av_plain.proofs.FreeFrames.{step-lists_free}
 use Rattle.av_plain.proofs.Refusal.{refused-areas, refused-next}
@@ -39,7 +39,8 @@ use Rattle.av_plain.proofs.World.{pages-set, lives-set, length-set_old}
 use Rattle.av_pagetable.specs.Entries.{ProcessTables, entry_at, has}
 use Rattle.av_pagetable.specs.declared.pte.Pte.{Pte}
 use Rattle.av_reclaim.specs.declared.mem.Mem.{Mem}
-use Rattle.av_spaces.specs.Spaces.{AllSpaces, Spaces, areas_of, pages_of as areas_on}
+use Rattle.av_spaces.specs.Spaces.{AllSpaces, areas_of, pages_of as areas_on}
+use Rattle.av_plain.proofs.Transcript.{is_fork, next-plain}
 use Rattle.av_kernel.specs.Map.{HasProts}
 use Rattle.av_reclaim.specs.Mem.{anon_vma, ranges_of, setting, plain, view, count, HasTables, Keeps, HasLedger}
 use Rattle.av_kernel.specs.declared.refusal.Refusal.{Refusal}
@@ -78,6 +79,11 @@ left_alone k s keeps =
 pub areas_kept : (k : Mem) (s : State) (command : Command) (answer : Answer) → Keeps k s → next_areas (chain_length s.anons) s.areas s.world command answer ≡ s.areas
     → AreNext (rmap_of s) s.world command answer (rmap_of s)
 areas_kept k s command answer keeps stay = record { areas = sym stay; anons = left_alone k s keeps; homes = refl }
+
+-- after any command but a fork
+pub rmap_kept : (k : Mem) (s : State) (command : Command) (answer : Answer) → is_fork command ≡ false → Keeps k s → next_areas (chain_length s.anons) s.areas s.world command answer ≡ s.areas
+    → IsRmapNext (rmap_of s) s.world command answer (rmap_of s)
+rmap_kept k s command answer plain keeps stay = next-plain (rmap_of s) s.world command answer (rmap_of s) plain (areas_kept k s command answer keeps stay)
 
 -- ---- a refusal
 

@@ -1,4 +1,5 @@
 pub mod Step
+pub mod Process
 pub mod Place
 pub mod Map
 pub mod Page

@@ -1,8 +1,10 @@
-//! Processes: `spawn` and `exit`, and the test that a process lives.
+//! Processes: `spawn`, `fork` and `exit`, and the tests that a process lives, and may come.
 
-ghost use Rattle.std.specs.Prelude.{◌≡◌, true, false, is_some, MatchResult};
+ghost use Rattle.std.specs.Prelude.{◌≡◌, true, false, is_some, Some, None, MatchResult};
+ghost use Rattle.av_plain.specs.Refusal.{refusal};
 ghost use Rattle.av_spaces.specs.Spaces.{areas_of};
 ghost use Rattle.av_reclaim.specs.Mem.{IsSteady};
+ghost use Rattle.av_kernel.specs.Process.{new_tests};
 ghost use Rattle.av_kernel.specs.Step.{Does};
 ghost use Rattle.av_kernel.specs.declared.refusal.Refusal.TheVariants as refusals;
 ghost use Rattle.av_trace.specs.declared.command.Command.TheVariants as commands;
@@ -11,7 +13,9 @@ ghost use Rattle.av_trace.specs.declared.reply.Errno.TheVariants as errors;
 use crate::refusal::Refusal;
 use crate::step::answer_only;
 use av_base::MOST_PROCESSES;
+use av_fork::{fork_areas, fork_entries};
 use av_reclaim::{Mem, zap_all};
+use av_spaces::Spaces;
 use av_trace::{Answer, Errno, Reply};
 use std::alloc::Global;
 
@@ -28,19 +32,43 @@ pub fn check_lives(mem: &Mem, process: u16) -> Result<(), Refusal>
     Ok(())
 }
 
+/// Refuses where the process lives already, or as many live as may.
+fn check_new(spaces: &Spaces, process: u16) -> Result<(), Errno>
+    ensures { MatchResult result
+        (λ _. refusal (new_tests spaces.now.processes process) ≡ None)
+        (λ error. refusal (new_tests spaces.now.processes process) ≡ Some error) }
+{
+    if spaces.lives(process) {
+        return Err(Errno::Eexist);
+    }
+    if spaces.count() >= MOST_PROCESSES {
+        return Err(Errno::Eagain);
+    }
+    Ok(())
+}
+
 /// Does a `spawn`: the process lives then, without any page.
 pub fn spawn(mem: &mut Mem, alloc: Global, process: u16) -> Result<Reply, Refusal>
     requires { IsSteady mem.old }
     ensures { Does mem.old mem.new (commands.Spawn process) result }
 {
-    if mem.spaces.lives(process) {
-        return Err(Refusal::Refused(Errno::Eexist));
-    }
-    if mem.spaces.count() >= MOST_PROCESSES {
-        return Err(Refusal::Refused(Errno::Eagain));
-    }
+    check_new(&mem.spaces, process)?;
     mem.tables.spawn(alloc, process)?;
     mem.spaces.spawn(process)?;
+    Ok(answer_only(alloc, Answer::Done))
+}
+
+/// Does a `fork`: the child lives then, with the parent's pages. It has each entry of the parent,
+/// and each area.
+pub fn fork(mem: &mut Mem, alloc: Global, parent: u16, child: u16) -> Result<Reply, Refusal>
+    requires { IsSteady mem.old }
+    ensures { Does mem.old mem.new (commands.Fork parent child) result }
+{
+    check_lives(mem, parent)?;
+    check_new(&mem.spaces, child)?;
+    fork_areas(mem, parent, child)?;
+    mem.tables.spawn(alloc, child)?;
+    fork_entries(mem, parent, child)?;
     Ok(answer_only(alloc, Answer::Done))
 }
 

@@ -8,7 +8,7 @@ ghost use Rattle.av_kernel.specs.Step as step;
 
 use crate::access::{read, write};
 use crate::map::{mmap, mprotect, munmap};
-use crate::process::{exit, spawn};
+use crate::process::{exit, fork, spawn};
 use crate::refusal::Refusal;
 use crate::report::{areas, entry, maps, rmap, stat};
 use av_reclaim::Mem;
@@ -48,6 +48,7 @@ fn dispatch(mem: &mut Mem, alloc: Global, command: &Command) -> Result<Reply, Re
 {
     match command {
         Command::Spawn { process } => spawn(mem, alloc, *process),
+        Command::Fork { parent, child } => fork(mem, alloc, *parent, *child),
         Command::Exit { process } => exit(mem, alloc, *process),
         Command::Mmap {
             process,

@@ -1,5 +1,5 @@
 -- The memory system: its view and its areas, with no slot cached; and one with nothing in it stands for no memories.
-use Rattle.std.proofs.Common.{◌≡◌, ◌≢◌, ℕ, ◌+◌, ◌-◌, ◌<◌, ◌≤◌, Bool, true, false, cond, ◌&&◌, ◌==◌, nat_lt, nat_le, List, [], ◌∷◌, Option, Some, None, refl, sym, ap, subst, ◌∙◌, arith, is_some}
+use Rattle.std.proofs.Common.{◌≡◌, ◌≢◌, ℕ, ◌+◌, ◌-◌, ◌<◌, ◌≤◌, ◌↔◌, Bool, true, false, cond, ◌&&◌, ◌==◌, nat_lt, nat_le, List, [], ◌∷◌, Option, Some, None, refl, sym, ap, subst, ◌∙◌, arith, is_some}
 use Rattle.std.proofs.lemmas.Bool.Decides.{nat_tests}
 use Rattle.std.proofs.lemmas.Bool.{false≢true}
 use Rattle.std.specs.Prelude.{IfSome, IsSomeAnd, option_map, length, map}
@@ -24,7 +24,7 @@ use Rattle.av_anon.specs.Anons.{Family, family, nobody}
 use Rattle.av_anon.specs.Order.{IsInOrder}
 use Rattle.av_anon.specs.Spans.{spans_of}
 use Rattle.av_anon.proofs.OrderLaws.{order-nobody}
-use Rattle.av_spaces.specs.Kin.{AnonsFit, InOrder, chain_on, info_of}
+use Rattle.av_spaces.specs.Kin.{AnonsFit, InOrder, IsOwnedIn, chain_on, info_of}
 use Rattle.av_spaces.specs.Spaces.{AllSpaces, Spaces, areas_of, pages_of, is_taken, AreRising, AllRising, IsOwn}
 use Rattle.av_plain.specs.World.{Page, lives, pages}
 use Rattle.av_plain.specs.Ledger.{Ledger, Setting, Entry, Zero as ZeroEntry, InFrame, InSlot, first_ledger, frame_at, free_slots, cached_by, Cached, is_cached, same_slot, slot_count, slot_entries}
@@ -240,6 +240,7 @@ fresh-keeps frames tables spaces anons n is none empty unused nobodies unspanned
     there = λ v there. absurd (none_there_yet v there);
     linked = λ v h. absurd (subst (λ o. IsSomeAnd o (λ area. is_in v (chain_on spaces anons area.anon) ≡ true)) (none_on_page h.0 h.1) h.2);
     own = λ v h. absurd (subst (λ o. IsSomeAnd o (λ area. area.anon ≡ Some v)) (none_on_page h.0 h.1) h.2);
+    active = λ v. subst (λ o. IfSome o (λ i. (1 ≤ i.active) ↔ IsOwnedIn spaces v)) (sym (ap (λ (f : Family). f.info v) nobodies)) tt;
   };
 }
   where

@@ -1,7 +1,7 @@
 use Rattle.std.proofs.Common.{◌∙◌, subst, sym, ap}
 use Rattle.av_trace.specs.declared.command.Command.TheVariants.{Exit}
 use Rattle.av_spaces.specs.Spaces.{AllSpaces}
-use Rattle.av_spaces.specs.Kin.{AnonsFit, AnonsStay}
+use Rattle.av_spaces.specs.Kin.{AnonsStay}
 use Rattle.av_kernel.specs.Step.{MemSteps}
 use Rattle.av_trace.specs.declared.reply.Errno.TheVariants.{Esrch}
 use Rattle.av_kernel.proofs.StepLaws.{orderly, ranges_there, refuses, refuses-as, dead_first}

@@ -1,4 +1,4 @@
-use Rattle.std.proofs.Common.{◌≡◌, ◌∙◌, None, ap, sym}
+use Rattle.std.proofs.Common.{◌≡◌, ◌∙◌, ap, sym}
 use Rattle.av_trace.specs.declared.row.Row.TheVariants as row
 use Rattle.av_vma.specs.Join.{first_of}
 use Rattle.av_plain.specs.Areas.{chain_of}

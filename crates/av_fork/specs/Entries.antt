@@ -1,0 +1,39 @@
+-- How the entries of a process go over to a child, one by one.
+use Rattle.std.specs.Prelude.{ℕ, ◌+◌, Bool, false, if◌then◌else◌, Option, Some, None}
+use Rattle.av_pagetable.specs.Entries.{with_entry}
+use Rattle.av_plain.specs.Choice.{Chooses}
+use Rattle.av_plain.specs.Event.{Forked, after, without_seen}
+use Rattle.av_plain.specs.Fork.{inherited}
+use Rattle.av_plain.specs.Ledger.{Ledger, names_frame}
+use Rattle.av_plain.specs.Stands.{View, Pte, free_of}
+use Rattle.av_reclaim.specs.declared.mem.Mem.{Mem}
+use Rattle.av_reclaim.specs.Mem.{setting, count, view, HasLedger}
+
+-- what the parent keeps of its entry: no write bit, so that a write asks for a copy
+abbrev pub without_write : Option Pte → Option Pte
+without_write None = None
+without_write (Some t) = Some (record t { write = false })
+
+-- what the child gets of it: not seen either
+abbrev pub child_entry : Option Pte → Option Pte
+child_entry None = None
+child_entry (Some t) = Some (record { entry = without_seen t.entry; write = false })
+
+-- whether an entry, if there is one, names the frame
+abbrev pub names : ℕ → Option Pte → Bool
+names f None = false
+names f (Some t) = names_frame f t.entry
+
+-- the page's entry has gone over, and one more entry names its frame
+abbrev pub after_fork_entry : ℕ → ℕ → ℕ → View → View
+after_fork_entry p q page v = record v {
+  table = with_entry p page (without_write (v.table p page))
+      (with_entry q page (child_entry (v.table p page)) v.table);
+  maps = λ f. v.maps f + (if names f (v.table p page) then 1 else 0);
+}
+
+-- the child has inherited each entry of the parent: nothing is taken, and nothing becomes free
+pub record HasForked (old new : Mem) (l : Ledger) (p q : ℕ) : Type 0 where
+  pub stands : HasLedger new (after l (Forked p q (inherited l p)))
+  pub free : Chooses (setting (count old)) None l (Forked p q (inherited l p))
+      (free_of (view old)) (free_of (view new))

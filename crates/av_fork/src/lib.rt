@@ -1,0 +1,16 @@
+//! Fork, so far of the areas and of the entries of a process.
+//!
+//! `fork_areas` lets a child live with the areas of its parent. Proved for every state that the
+//! memory system stands for: it has the areas, anon_vmas and homes then that the definitions leave
+//! after a fork.
+//!
+//! `fork_entries` gives a process each entry of another one, in one pass over the parent's table.
+//! Proved for every ledger that the memory system's parts stand for: they stand for it after the
+//! event of the fork, and what is free is as it was.
+#![tactic(auto)]
+
+mod areas;
+mod entries;
+
+pub use areas::fork_areas;
+pub use entries::fork_entries;
