@@ -18,7 +18,9 @@ usage: avsim run FRAMES     replay a trace on a machine with 1 to 16384 frames o
 A trace has one command a line. An empty line, or one that begins with #, says nothing.
 
   spawn P                   process P (1 to 32767) begins without memory
-  exit P                    it ends, and its frames are free
+  fork P Q                  process Q begins with the memory of P; both have the same frames,
+                            and a write to one of these gets a copy
+  exit P                    process P ends; what no other process has of its frames is free
   mmap P LEN PROT           map LEN bytes, rounded up to pages, at the greatest address where they fit;
                             PROT is like rw-, r-- or ---; the line may end with one of
          .. at A            at the page of A if they may go there, else as without it
@@ -45,6 +47,7 @@ prints:      ok
 A reply is followed by notes of what happened, each on a line that begins with a space:
   zero P A                  the page's entry is the page of zeros now
   new P A f                 it is frame f, zeroed
+  copy P A f                it is frame f, a copy of the frame that it was
 
 exit status: 0, or 2 usage, 3 a line that is no command, 4 a failed read, 5 a failed write,
              6 out of memory, 7 too many lines
