@@ -42,6 +42,45 @@ fn first_run(rt: HostRuntime) -> Result<(), Fail> {
     Ok(())
 }
 
+/// A trace for a machine with so many frames, and its transcript.
+#[derive(Clone, Copy)]
+struct Case {
+    frames: &'static str,
+    trace: &'static [u8],
+    text: &'static [u8],
+}
+
+/// The child reads what there was, also when the parent has got a copy and is gone. Then the child
+/// has the frame alone.
+const COPY: Case = Case {
+    frames: "4",
+    trace: b"spawn 1\nmmap 1 4096 rw-\nwrite 1 7fffffffe000 07\nfork 1 2\n\
+        read 2 7fffffffe000 1\nwrite 1 7fffffffe000 08\nread 2 7fffffffe000 1\nexit 1\n\
+        rmap 2 7fffffffe000\nwrite 2 7fffffffe000 09\nread 2 7fffffffe000 1\n",
+    text: b"ok\nmap 7fffffffe000\nok\n new 1 7fffffffe000 0\nok\n\
+        data 07\nok\n copy 1 7fffffffe000 1\ndata 07\nok\n\
+        frame 0 maps 1\n 2 7fffffffe000\nok\ndata 09\n",
+};
+
+/// No frame is free for a copy: the one that was to be copied is pinned, and counts once.
+const PINNED: Case = Case {
+    frames: "1",
+    trace: b"spawn 1\nmmap 1 4096 rw-\nwrite 1 7fffffffe000 05\nfork 1 2\n\
+        write 2 7fffffffe000 06\nread 2 7fffffffe000 1\nfork 1 2\nfork 3 4\n",
+    text: b"ok\nmap 7fffffffe000\nok\n new 1 7fffffffe000 0\nok\n\
+        oom 0 pinned=1 noslot=0 fault=0\ndata 05\nerr EEXIST\nerr ESRCH\n",
+};
+
+#[test]
+fn traces_of_forks(rt: HostRuntime) -> Result<(), Fail> {
+    for case in [COPY, PINNED] {
+        let ran = run_on(rt.alloc(), &["run", case.frames], case.trace, 0, 0)?;
+        assert!(rt; ran.outcome.status == Status::Done);
+        assert!(rt; ran.text.bytes() == case.text);
+    }
+    Ok(())
+}
+
 #[test]
 fn a_call_that_fails_ends_the_run(rt: HostRuntime) -> Result<(), Fail> {
     let a = rt.alloc();
