@@ -1,4 +1,4 @@
-//! Fork, so far of the areas and of the entries of a process.
+//! Fork: what a child gets of its parent's areas, and of its parent's entries.
 //!
 //! `fork_areas` lets a child live with the areas of its parent. Proved for every state that the
 //! memory system stands for: it has the areas, anon_vmas and homes then that the definitions leave
