@@ -16,6 +16,7 @@ use Rattle.av_trace.specs.declared.reply.Errno.TheVariants.{Esrch, Enomem, Einva
 use Rattle.av_trace.specs.declared.reply.Reply.{Reply}
 use Rattle.av_trace.specs.declared.reply.Answer.{Answer}
 use Rattle.av_trace.specs.declared.reply.Answer.TheVariants.{Done, MapAt, Refused}
+use Rattle.av_trace.specs.Reply.{answer_only}
 use Rattle.av_pagetable.specs.Entries.{has}
 use Rattle.av_plain.specs.Fork.{IsRmapNext}
 use Rattle.av_plain.specs.World.{lives, Process, Page, zeros, pages, is_mapped, pages_to_hole, set_process, with_pages, with_prot_on, with_prot}
@@ -53,7 +54,7 @@ use Rattle.av_kernel.specs.Map.{set_on, HasAreas, HasProts, HomesStay, AreCleare
 use Rattle.av_reclaim.specs.Mem.{ranges_of, setting, view, count, Keeps, IsSteady, HasLedger}
 use Rattle.av_reclaim.specs.Zap.{HasZapped}
 use Rattle.av_kernel.specs.Place.{protect_tests, IsProcess, IsPlaced, AreToClear}
-use Rattle.av_kernel.specs.Step.{MemSteps, answer_only}
+use Rattle.av_kernel.specs.Step.{MemSteps}
 use Rattle.av_reclaim.proofs.MemLaws.{lives_is, alive_is, taken_has, mapped_is}
 use Rattle.av_kernel.proofs.PlaceLaws.{page_back, IsSuited, suited}
 use Rattle.av_kernel.proofs.StepLaws.{areas_kept, is_number, moved_on, orderly, refused, state_after, stays_orderly, changed, areas_changed, tables_kept}

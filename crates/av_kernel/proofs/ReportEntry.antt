@@ -6,6 +6,7 @@ use Rattle.av_trace.specs.declared.command.Command.TheVariants.{Entry as AsksEnt
 use Rattle.av_trace.specs.declared.reply.Answer.{Answer}
 use Rattle.av_trace.specs.declared.reply.Errno.{Errno}
 use Rattle.av_trace.specs.declared.reply.Errno.TheVariants.{Efault, Esrch}
+use Rattle.av_trace.specs.Reply.{answer_only}
 use Rattle.av_spaces.specs.Spaces.{areas_of, pages_of}
 use Rattle.av_plain.specs.Ledger.{entry}
 use Rattle.av_plain.specs.Refusal.{Refuses, refusal, tests}
@@ -16,7 +17,7 @@ use Rattle.av_plain.specs.World.{is_mapped, lives, pages}
 use Rattle.av_reclaim.specs.declared.mem.Mem.{Mem}
 use Rattle.av_reclaim.specs.Mem.{Keeps, count, setting}
 use Rattle.av_reclaim.proofs.MemLaws.{lives_is, mapped_is, taken_has}
-use Rattle.av_kernel.specs.Step.{MemSteps, answer_only}
+use Rattle.av_kernel.specs.Step.{MemSteps}
 use Rattle.av_kernel.proofs.StepLaws.{rmap_kept}
 
 -- ---- which pages are mapped

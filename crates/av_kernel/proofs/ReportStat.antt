@@ -4,12 +4,13 @@ use Rattle.av_base.specs.Words.{how_many, is_in}
 use Rattle.av_trace.specs.declared.command.Command.TheVariants.{Stat}
 use Rattle.av_trace.specs.declared.reply.Answer.TheVariants.{Counted}
 use Rattle.av_trace.specs.declared.reply.Totals.{Totals}
+use Rattle.av_trace.specs.Reply.{answer_only}
 use Rattle.av_plain.specs.Transcript.{State}
 use Rattle.av_plain.specs.Report.{totals}
 use Rattle.av_plain.proofs.Report.Totals.{free-once, totals-plain}
 use Rattle.av_reclaim.specs.declared.mem.Mem.{Mem}
 use Rattle.av_reclaim.specs.Mem.{setting, view, count, Keeps}
-use Rattle.av_kernel.specs.Step.{MemSteps, answer_only}
+use Rattle.av_kernel.specs.Step.{MemSteps}
 use Rattle.av_kernel.proofs.StepLaws.{areas_kept}
 
 -- what the kernel counts is what the ledger has

@@ -9,6 +9,7 @@ use Rattle.av_pagetable.specs.declared.pte.Pte.TheVariants.{Away, Empty, Zero}
 use Rattle.av_trace.specs.declared.command.Command.TheVariants.{Rmap}
 use Rattle.av_trace.specs.declared.reply.Answer.TheVariants.{NoWalk}
 use Rattle.av_trace.specs.declared.reply.Reply.{Reply}
+use Rattle.av_trace.specs.Reply.{answer_only}
 use Rattle.av_spaces.specs.Spaces.{areas_of, pages_of}
 use Rattle.av_plain.specs.Ledger.{Entry, Ledger, entry}
 use Rattle.av_plain.specs.Refusal.{Refuses}
@@ -18,7 +19,7 @@ use Rattle.av_plain.specs.Step.{Follows}
 use Rattle.av_plain.specs.Transcript.{State}
 use Rattle.av_reclaim.specs.declared.mem.Mem.{Mem}
 use Rattle.av_reclaim.specs.Mem.{Keeps, count, plain, setting}
-use Rattle.av_kernel.specs.Step.{MemSteps, answer_only}
+use Rattle.av_kernel.specs.Step.{MemSteps}
 use Rattle.av_kernel.proofs.ReportEntry.{tests_are}
 use Rattle.av_kernel.proofs.StepLaws.{rmap_kept}
 

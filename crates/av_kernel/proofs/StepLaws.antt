@@ -11,6 +11,7 @@ use Rattle.av_trace.specs.declared.reply.Errno.TheVariants.{Esrch}
 use Rattle.av_trace.specs.declared.reply.Reply.{Reply}
 use Rattle.av_trace.specs.declared.reply.Answer.{Answer}
 use Rattle.av_trace.specs.declared.reply.Answer.TheVariants.{Refused}
+use Rattle.av_trace.specs.Reply.{IsCleared, answer_only}
 use Rattle.av_plain.specs.Fork.{IsRmapNext}
 use Rattle.av_plain.specs.World.{Process, Page, lives, pages, set_process}
 use Rattle.av_plain.specs.Ledger.{Key, Ledger, Entry, Zero, InFrame, InSlot, entry, frame_at, names_frame}
@@ -45,7 +46,7 @@ use Rattle.av_kernel.specs.Map.{HasProts}
 use Rattle.av_reclaim.specs.Mem.{anon_vma, ranges_of, setting, plain, view, count, HasTables, Keeps, HasLedger}
 use Rattle.av_kernel.specs.declared.refusal.Refusal.{Refusal}
 use Rattle.av_kernel.specs.declared.refusal.Refusal.TheVariants as refusals
-use Rattle.av_kernel.specs.Step.{MemSteps, Does, answer_only}
+use Rattle.av_kernel.specs.Step.{MemSteps, Does, reply_in}
 use Rattle.av_reclaim.proofs.MemLaws.{alive_is, listed, lives_is, no_cache, no_frame_at, slot_kept, nothing_clean}
 use Rattle.av_fault.proofs.FaultParts.{no_headers}
 
@@ -115,16 +116,26 @@ pub wants : (old new : Mem) (command : Command) → count new ≡ count old → 
 wants old new command same = record { step = λ s keeps. tt; count = same }
 
 -- as `?` hands it out
-pub wants-by : (old new : Mem) (command : Command) (r : Result Reply Refusal) → IsErr r × IsErrAnd r (λ e. e ≡ refusals.Memory) → count new ≡ count old → Does old new command r
-wants-by old new command (Ok reply) is same = absurd is.1
-wants-by old new command (Err e) is same = subst (λ e. Does old new command (Err e)) (sym is.1) (wants old new command same)
+pub wants-by : (old new : Mem) (command : Command) (reply : Reply) (r : Result (Unit {0}) Refusal) → IsErr r × IsErrAnd r (λ e. e ≡ refusals.Memory) → count new ≡ count old → Does old new command (reply_in reply r)
+wants-by old new command reply (Ok done) is same = absurd is.1
+wants-by old new command reply (Err e) is same = subst (λ e. Does old new command (Err e)) (sym is.1) (wants old new command same)
 
-pub refuses-by : (old new : Mem) (command : Command) (error : Errno) (r : Result Reply Refusal) → IsErr r × IsErrAnd r (λ e. e ≡ refusals.Refused error) → Does old new command (Err (refusals.Refused error)) → Does old new command r
-refuses-by old new command error (Ok reply) is does = absurd is.1
-refuses-by old new command error (Err e) is does = subst (λ e. Does old new command (Err e)) (sym is.1) does
+pub refuses-by : (old new : Mem) (command : Command) (error : Errno) (reply : Reply) (r : Result (Unit {0}) Refusal) → IsErr r × IsErrAnd r (λ e. e ≡ refusals.Refused error) → Does old new command (Err (refusals.Refused error)) → Does old new command (reply_in reply r)
+refuses-by old new command error reply (Ok done) is does = absurd is.1
+refuses-by old new command error reply (Err e) is does = subst (λ e. Does old new command (Err e)) (sym is.1) does
 
-pub refuses-as : (old new : Mem) (command : Command) (error : Errno) (r : Result Reply Refusal) (x : Refusal) → IsErr r × IsErrAnd r (λ e. e ≡ x) → x ≡ refusals.Refused error → Does old new command (Err (refusals.Refused error)) → Does old new command r
-refuses-as old new command error r x is same does = refuses-by old new command error r (is.0, subst (λ (y : Refusal). IsErrAnd r (λ e. e ≡ y)) same is.1) does
+pub refuses-as : (old new : Mem) (command : Command) (error : Errno) (reply : Reply) (r : Result (Unit {0}) Refusal) (x : Refusal) → IsErr r × IsErrAnd r (λ e. e ≡ x) → x ≡ refusals.Refused error → Does old new command (Err (refusals.Refused error)) → Does old new command (reply_in reply r)
+refuses-as old new command error reply r x is same does = refuses-by old new command error reply r (is.0, subst (λ (y : Refusal). IsErrAnd r (λ e. e ≡ y)) same is.1) does
+
+-- a cleared reply that is given an answer says no more
+pub answers : {old new : Mem} {s : State} {command : Command} {answer : Answer} (reply : Reply) → IsCleared reply → MemSteps old new s command (answer_only answer) → MemSteps old new s command (record reply { answer = answer })
+answers {old} {new} {s} {command} {answer} reply cleared steps = subst (MemSteps old new s command) (ap (λ (r : Reply). record r { answer = answer }) (sym cleared)) steps
+
+pub no_notes : (reply : Reply) → IsCleared reply → reply.notes ≡ []
+no_notes reply cleared = ap (λ (r : Reply). r.notes) cleared
+
+pub no_rows : (reply : Reply) → IsCleared reply → reply.rows ≡ []
+no_rows reply cleared = ap (λ (r : Reply). r.rows) cleared
 
 -- a process that has no areas is refused first
 pub dead_first : (k : Mem) (s : State) (p : ℕ) (rest : Option Errno) → Keeps k s → is_some (areas_of k.spaces.processes p) ≡ false → cond (not (lives s.world p)) (Some Esrch) rest ≡ Some Esrch

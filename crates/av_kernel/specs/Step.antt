@@ -1,18 +1,19 @@
 -- What one command does to the memory system.
-use Rattle.std.specs.Prelude.{◌≡◌, [], Option, Some, None, Result, Ok, Err, IfSome}
+use Rattle.std.specs.Prelude.{◌≡◌, Option, Some, None, Result, Ok, Err, IfSome}
 use Rattle.av_trace.specs.declared.command.Command.{Command}
-use Rattle.av_trace.specs.declared.reply.Answer.{Answer}
 use Rattle.av_trace.specs.declared.reply.Answer.TheVariants as answers
 use Rattle.av_trace.specs.declared.reply.Reply.{Reply}
+use Rattle.av_trace.specs.Reply.{answer_only}
 use Rattle.av_plain.specs.Transcript.{State, IsStep}
 use Rattle.av_reclaim.specs.declared.mem.Mem.{Mem}
 use Rattle.av_reclaim.specs.Mem.{setting, count, Keeps}
 use Rattle.av_kernel.specs.declared.refusal.Refusal.{Refusal}
 use Rattle.av_kernel.specs.declared.refusal.Refusal.TheVariants.{Refused, Memory}
 
--- a reply without notes or rows
-abbrev pub answer_only : Answer → Reply
-answer_only answer = record { answer = answer; notes = []; rows = [] }
+-- what a command answers that filled this reply, or was not done
+abbrev pub reply_in : Reply → Result (Unit {0}) Refusal → Result Reply Refusal
+reply_in reply (Ok _) = Ok reply
+reply_in reply (Err refusal) = Err refusal
 
 -- the reply of a command that was done or refused, or none where memory was wanting
 abbrev pub reply_of : Result Reply Refusal → Option Reply

@@ -6,8 +6,9 @@ ghost use Rattle.av_plain.specs.Access.{Reads};
 ghost use Rattle.av_plain.specs.World.{pages};
 ghost use Rattle.av_spaces.specs.Spaces.{areas_of};
 ghost use Rattle.av_reclaim.specs.Mem.{count, Keeps, IsSteady};
-ghost use Rattle.av_kernel.specs.Step.{Does};
+ghost use Rattle.av_kernel.specs.Step.{Does, reply_in};
 ghost use Rattle.av_kernel.specs.Access.{IsPiece, IsAccess, answer_of};
+ghost use Rattle.av_trace.specs.Reply.{IsCleared};
 ghost use Rattle.av_trace.specs.declared.command.Command.TheVariants as commands;
 
 use crate::page::{read_page, write_page};
@@ -16,7 +17,7 @@ use crate::refusal::Refusal;
 use av_base::PAGE_SIZE;
 use av_fault::Stop;
 use av_reclaim::Mem;
-use av_trace::{Answer, Bytes, Notes, Reply, Rows};
+use av_trace::{Answer, Bytes, Notes, Reply};
 use std::alloc::{AllocError, Global};
 
 /// The part of an access that lies in one page.
@@ -44,23 +45,21 @@ pub fn read(
     process: u16,
     address: u64,
     len: u16,
-) -> Result<Reply, Refusal>
-    requires { IsSteady mem.old }
-    ensures { Does mem.old mem.new (commands.Read process address len) result }
+    reply: &mut Reply,
+) -> Result<(), Refusal>
+    requires steady { IsSteady mem.old }
+    requires cleared { IsCleared reply.old }
+    ensures { Does mem.old mem.new (commands.Read process address len) (reply_in reply.new result) }
 {
     check_lives(mem, process)?;
     let mut shown = Bytes::new(alloc);
-    let mut notes = Notes::new(alloc);
-    let ended = read_pieces(mem, process, address, len as usize, &mut shown, &mut notes)?;
-    let answer = match ended.stop {
-        None => Answer::Data(shown),
-        Some(stop) => stop_answer(stop, ended.served, shown),
-    };
-    Ok(Reply {
-        answer,
-        notes,
-        rows: Rows::new(alloc),
-    })
+    let notes = &mut reply.notes;
+    let ended = read_pieces(mem, process, address, len as usize, &mut shown, notes)?;
+    match ended.stop {
+        None => reply.answer = Answer::Data(shown),
+        Some(stop) => reply.answer = stop_answer(stop, ended.served, shown),
+    }
+    Ok(())
 }
 
 /// Does a `write`, or tells how many bytes are stored before the page at which it stops.
@@ -70,22 +69,20 @@ pub fn write(
     process: u16,
     address: u64,
     bytes: &[u8],
-) -> Result<Reply, Refusal>
-    requires { IsSteady mem.old }
-    ensures { Does mem.old mem.new (commands.Write process address bytes.now) result }
+    reply: &mut Reply,
+) -> Result<(), Refusal>
+    requires steady { IsSteady mem.old }
+    requires cleared { IsCleared reply.old }
+    ensures { Does mem.old mem.new (commands.Write process address bytes.now)
+        (reply_in reply.new result) }
 {
     check_lives(mem, process)?;
-    let mut notes = Notes::new(alloc);
-    let ended = write_pieces(mem, process, address, bytes, &mut notes)?;
-    let answer = match ended.stop {
-        None => Answer::Done,
-        Some(stop) => stop_answer(stop, ended.served, Bytes::new(alloc)),
-    };
-    Ok(Reply {
-        answer,
-        notes,
-        rows: Rows::new(alloc),
-    })
+    let ended = write_pieces(mem, process, address, bytes, &mut reply.notes)?;
+    match ended.stop {
+        None => reply.answer = Answer::Done,
+        Some(stop) => reply.answer = stop_answer(stop, ended.served, Bytes::new(alloc)),
+    }
+    Ok(())
 }
 
 /// Reads the pages in turn, up to the first that is not served.

@@ -69,14 +69,35 @@ impl Kernel {
         ensures counts { IfOk result (Counts self.old self.new) }
         ensures left { OnErr result (IsLeft self.old self.new) }
     {
+        let mut reply = Reply::new(alloc);
+        self.answer(alloc, command, &mut reply)?;
+        Ok(reply)
+    }
+
+    /// Does one command as `step` does, and makes this its reply, whatever it was. Its vectors
+    /// serve again, so a reply that is used for each command costs least.
+    ///
+    /// After want of memory nothing is promised of the reply.
+    pub fn answer(
+        &mut self,
+        alloc: Global,
+        command: &Command,
+        reply: &mut Reply,
+    ) -> Result<(), AllocError>
+        requires { self.old.steps < 2 ^ 24 }
+        ensures stands { (s : State) → Stands self.old s → OnOk result
+            (Steps self.old self.new no_device no_device s command.now reply.new) }
+        ensures counts { OnOk result (Counts self.old self.new reply.new) }
+        ensures left { OnErr result (IsLeft self.old self.new) }
+    {
         if self.spent {
             return Err(AllocError);
         }
-        match perform(&mut self.mem, alloc, command) {
-            Ok(reply) => {
+        match perform(&mut self.mem, alloc, command, reply) {
+            Ok(()) => {
                 self.steps += 1;
                 self.tally.count(&reply.answer);
-                Ok(reply)
+                Ok(())
             }
             Err(refused) => {
                 self.spent = true;

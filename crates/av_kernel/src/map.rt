@@ -11,29 +11,31 @@ ghost use Rattle.av_spaces.specs.Spaces.{areas_of, is_taken, pages_of};
 ghost use Rattle.av_reclaim.specs.Mem.{count, IsSteady, HasLedger};
 ghost use Rattle.av_kernel.specs.Place.{AreToClear};
 ghost use Rattle.av_kernel.specs.Map.{AreCleared};
-ghost use Rattle.av_kernel.specs.Step.{Does};
+ghost use Rattle.av_kernel.specs.Step.{Does, reply_in};
+ghost use Rattle.av_trace.specs.Reply.{IsCleared};
 ghost use Rattle.av_trace.specs.declared.command.Command.TheVariants as commands;
 
 use crate::place::{check_protect, find_place, is_no_range, is_too_long};
 use crate::process::check_lives;
 use crate::refusal::Refusal;
-use crate::step::answer_only;
 use av_base::{PAGE_SIZE, Prot};
 use av_reclaim::{Mem, zap_range};
 use av_trace::{Answer, Errno, Place, Reply};
-use std::alloc::{AllocError, Global};
+use std::alloc::AllocError;
 
 /// Does an `mmap`: the pages are zeros. At a fixed place they replace what stands there.
 pub fn mmap(
     mem: &mut Mem,
-    alloc: Global,
     process: u16,
     len: u64,
     prot: Prot,
     place: Place,
-) -> Result<Reply, Refusal>
-    requires { IsSteady mem.old }
-    ensures { Does mem.old mem.new (commands.Mmap process len prot place) result }
+    reply: &mut Reply,
+) -> Result<(), Refusal>
+    requires steady { IsSteady mem.old }
+    requires cleared { IsCleared reply.old }
+    ensures { Does mem.old mem.new (commands.Mmap process len prot place)
+        (reply_in reply.new result) }
 {
     check_lives(mem, process)?;
     if len == 0 {
@@ -46,40 +48,46 @@ pub fn mmap(
     let page = find_place(&mem.spaces, process, pages, place)?;
     make_room(mem, process, page, pages, place)?;
     mem.spaces.map(&mut mem.anons, process, page, pages, prot)?;
-    Ok(answer_only(alloc, Answer::MapAt(PAGE_SIZE * page)))
+    reply.answer = Answer::MapAt(PAGE_SIZE * page);
+    Ok(())
 }
 
 /// Does a `munmap`: the pages go, with their entries. The frames that no other page has become
 /// free.
 pub fn munmap(
     mem: &mut Mem,
-    alloc: Global,
     process: u16,
     address: u64,
     len: u64,
-) -> Result<Reply, Refusal>
-    requires { IsSteady mem.old }
-    ensures { Does mem.old mem.new (commands.Munmap process address len) result }
+    reply: &mut Reply,
+) -> Result<(), Refusal>
+    requires steady { IsSteady mem.old }
+    requires cleared { IsCleared reply.old }
+    ensures { Does mem.old mem.new (commands.Munmap process address len)
+        (reply_in reply.new result) }
 {
     check_lives(mem, process)?;
     if is_no_range(address, len) {
         return Err(Refusal::Refused(Errno::Einval));
     }
     clear(mem, process, address / PAGE_SIZE, len.div_ceil(PAGE_SIZE))?;
-    Ok(answer_only(alloc, Answer::Done))
+    reply.answer = Answer::Done;
+    Ok(())
 }
 
 /// Does an `mprotect`: the pages before the first that isn't mapped get the protection.
 pub fn mprotect(
     mem: &mut Mem,
-    alloc: Global,
     process: u16,
     address: u64,
     len: u64,
     prot: Prot,
-) -> Result<Reply, Refusal>
-    requires { IsSteady mem.old }
-    ensures { Does mem.old mem.new (commands.Mprotect process address len prot) result }
+    reply: &mut Reply,
+) -> Result<(), Refusal>
+    requires steady { IsSteady mem.old }
+    requires cleared { IsCleared reply.old }
+    ensures { Does mem.old mem.new (commands.Mprotect process address len prot)
+        (reply_in reply.new result) }
 {
     check_lives(mem, process)?;
     check_protect(address, len)?;
@@ -91,7 +99,8 @@ pub fn mprotect(
     if reached < past {
         return Err(Refusal::Refused(Errno::Enomem));
     }
-    Ok(answer_only(alloc, Answer::Done))
+    reply.answer = Answer::Done;
+    Ok(())
 }
 
 /// Takes away what stands where a mapping goes: all at a fixed place, and at another there is

@@ -5,13 +5,13 @@ ghost use Rattle.av_plain.specs.Refusal.{refusal};
 ghost use Rattle.av_spaces.specs.Spaces.{areas_of};
 ghost use Rattle.av_reclaim.specs.Mem.{IsSteady};
 ghost use Rattle.av_kernel.specs.Process.{new_tests};
-ghost use Rattle.av_kernel.specs.Step.{Does};
+ghost use Rattle.av_kernel.specs.Step.{Does, reply_in};
 ghost use Rattle.av_kernel.specs.declared.refusal.Refusal.TheVariants as refusals;
+ghost use Rattle.av_trace.specs.Reply.{IsCleared};
 ghost use Rattle.av_trace.specs.declared.command.Command.TheVariants as commands;
 ghost use Rattle.av_trace.specs.declared.reply.Errno.TheVariants as errors;
 
 use crate::refusal::Refusal;
-use crate::step::answer_only;
 use av_base::MOST_PROCESSES;
 use av_fork::{fork_areas, fork_entries};
 use av_reclaim::{Mem, zap_all};
@@ -48,39 +48,51 @@ fn check_new(spaces: &Spaces, process: u16) -> Result<(), Errno>
 }
 
 /// Does a `spawn`: the process lives then, without any page.
-pub fn spawn(mem: &mut Mem, alloc: Global, process: u16) -> Result<Reply, Refusal>
-    requires { IsSteady mem.old }
-    ensures { Does mem.old mem.new (commands.Spawn process) result }
+pub fn spawn(mem: &mut Mem, alloc: Global, process: u16, reply: &mut Reply) -> Result<(), Refusal>
+    requires steady { IsSteady mem.old }
+    requires cleared { IsCleared reply.old }
+    ensures { Does mem.old mem.new (commands.Spawn process) (reply_in reply.new result) }
 {
     check_new(&mem.spaces, process)?;
     mem.tables.spawn(alloc, process)?;
     mem.spaces.spawn(process)?;
-    Ok(answer_only(alloc, Answer::Done))
+    reply.answer = Answer::Done;
+    Ok(())
 }
 
 /// Does a `fork`: the child lives then, with the parent's pages. It has each entry of the parent,
 /// and each area.
-pub fn fork(mem: &mut Mem, alloc: Global, parent: u16, child: u16) -> Result<Reply, Refusal>
-    requires { IsSteady mem.old }
-    ensures { Does mem.old mem.new (commands.Fork parent child) result }
+pub fn fork(
+    mem: &mut Mem,
+    alloc: Global,
+    parent: u16,
+    child: u16,
+    reply: &mut Reply,
+) -> Result<(), Refusal>
+    requires steady { IsSteady mem.old }
+    requires cleared { IsCleared reply.old }
+    ensures { Does mem.old mem.new (commands.Fork parent child) (reply_in reply.new result) }
 {
     check_lives(mem, parent)?;
     check_new(&mem.spaces, child)?;
     fork_areas(mem, parent, child)?;
     mem.tables.spawn(alloc, child)?;
     fork_entries(mem, parent, child)?;
-    Ok(answer_only(alloc, Answer::Done))
+    reply.answer = Answer::Done;
+    Ok(())
 }
 
 /// Does an `exit`: its entries, its page table and its areas go. The frames that no other process
 /// has become free.
-pub fn exit(mem: &mut Mem, alloc: Global, process: u16) -> Result<Reply, Refusal>
-    requires { IsSteady mem.old }
-    ensures { Does mem.old mem.new (commands.Exit process) result }
+pub fn exit(mem: &mut Mem, process: u16, reply: &mut Reply) -> Result<(), Refusal>
+    requires steady { IsSteady mem.old }
+    requires cleared { IsCleared reply.old }
+    ensures { Does mem.old mem.new (commands.Exit process) (reply_in reply.new result) }
 {
     check_lives(mem, process)?;
     zap_all(mem, process);
     mem.tables.end(process);
     mem.spaces.end(&mut mem.anons, process);
-    Ok(answer_only(alloc, Answer::Done))
+    reply.answer = Answer::Done;
+    Ok(())
 }

@@ -1,6 +1,6 @@
 //! Reports: `maps`, `areas`, `rmap`, `entry` and `stat`. They change nothing.
 
-ghost use Rattle.std.specs.Prelude.{◌≡◌, ℕ, ◌<◌, true, false, is_some, map, MatchResult, Some, Ok, IfOk};
+ghost use Rattle.std.specs.Prelude.{◌≡◌, ℕ, ◌<◌, [], true, false, is_some, map, MatchResult, Some, Ok, IfOk, OnOk};
 ghost use Rattle.std.specs.List.{AllByRecursion};
 ghost use Rattle.av_base.specs.Limits.{top_page};
 ghost use Rattle.av_spaces.specs.Kin.{AnonsFit};
@@ -10,86 +10,95 @@ ghost use Rattle.av_plain.specs.Ledger.{entry as entry_of, walk as walk_of};
 ghost use Rattle.av_plain.specs.Report.{area_row as row_of_area, entry_answer as answer_of_entry, key_row, range_of};
 ghost use Rattle.av_plain.specs.Transcript.{State};
 ghost use Rattle.av_reclaim.specs.Mem.{IsSteady, Keeps, count, view};
-ghost use Rattle.av_kernel.specs.Step.{Does};
+ghost use Rattle.av_kernel.specs.Step.{Does, reply_in};
 ghost use Rattle.av_kernel.specs.Report.{AreRuns, shown_walk};
 ghost use Rattle.av_kernel.specs.declared.refusal.Refusal.TheVariants as refusals;
+ghost use Rattle.av_trace.specs.Reply.{IsCleared};
 ghost use Rattle.av_trace.specs.declared.command.Command.TheVariants as commands;
 ghost use Rattle.av_trace.specs.declared.reply.Errno.TheVariants as errors;
 ghost use Rattle.av_trace.specs.declared.row.Row.TheVariants as row;
 
 use crate::process::check_lives;
 use crate::refusal::Refusal;
-use crate::step::answer_only;
 use av_base::{PAGE_SIZE, Steps};
 use av_pagetable::Pte;
 use av_reclaim::Mem;
 use av_reclaim::walk::walk;
-use av_trace::{Answer, Chain, Errno, Notes, Reply, Row, Rows, Totals};
+use av_trace::{Answer, Chain, Errno, Reply, Row, Rows, Totals};
 use av_vma::Area;
 use std::alloc::{AllocError, Global};
 use std::marker::Brand;
 use std::sync::ledger::{Blank, Ledger};
 
 /// Does a `maps`: the longest runs of mapped pages with one protection, rising.
-pub fn maps(mem: &Mem, alloc: Global, process: u16) -> Result<Reply, Refusal>
-    requires { IsSteady mem.now }
-    ensures { Does mem.now mem.now (commands.Maps process) result }
+pub fn maps(mem: &Mem, process: u16, reply: &mut Reply) -> Result<(), Refusal>
+    requires steady { IsSteady mem.now }
+    requires cleared { IsCleared reply.old }
+    ensures { Does mem.now mem.now (commands.Maps process) (reply_in reply.new result) }
 {
     check_lives(mem, process)?;
     let areas = mem.spaces.areas(process)?;
-    let rows = runs_of(alloc, &areas)?;
-    Ok(Reply {
-        answer: Answer::Runs(rows.as_slice().len() as u64),
-        notes: Notes::new(alloc),
-        rows,
-    })
+    add_runs(&areas, &mut reply.rows)?;
+    reply.answer = Answer::Runs(reply.rows.as_slice().len() as u64);
+    Ok(())
 }
 
 /// Does an `areas`: the areas of a process, rising, each with its own anon_vma and its chain.
-pub fn areas(mem: &Mem, alloc: Global, process: u16) -> Result<Reply, Refusal>
-    requires { IsSteady mem.now }
-    ensures { Does mem.now mem.now (commands.Areas process) result }
+pub fn areas(mem: &Mem, alloc: Global, process: u16, reply: &mut Reply) -> Result<(), Refusal>
+    requires steady { IsSteady mem.now }
+    requires cleared { IsCleared reply.old }
+    ensures { Does mem.now mem.now (commands.Areas process) (reply_in reply.new result) }
 {
     check_lives(mem, process)?;
     let areas = mem.spaces.areas(process)?;
-    let rows = area_rows(mem, alloc, process, &areas)?;
-    Ok(Reply {
-        answer: Answer::AreaList(rows.as_slice().len() as u64),
-        notes: Notes::new(alloc),
-        rows,
-    })
+    add_areas(mem, alloc, process, &areas, &mut reply.rows)?;
+    reply.answer = Answer::AreaList(reply.rows.as_slice().len() as u64);
+    Ok(())
 }
 
 /// Does an `rmap`: the walk of the frame that the entry of a page names.
-pub fn rmap(mem: &Mem, alloc: Global, process: u16, address: u64) -> Result<Reply, Refusal>
-    requires { IsSteady mem.now }
-    ensures { Does mem.now mem.now (commands.Rmap process address) result }
+pub fn rmap(
+    mem: &Mem,
+    alloc: Global,
+    process: u16,
+    address: u64,
+    reply: &mut Reply,
+) -> Result<(), Refusal>
+    requires steady { IsSteady mem.now }
+    requires cleared { IsCleared reply.old }
+    ensures { Does mem.now mem.now (commands.Rmap process address) (reply_in reply.new result) }
 {
     check_lives(mem, process)?;
     let page = address / PAGE_SIZE;
     check_mapped(mem, process, page)?;
     match mem.tables.get(process, page) {
-        Pte::Here { frame, .. } => Ok(walk_reply(mem, alloc, frame)?),
-        Pte::Empty | Pte::Zero | Pte::Away { .. } => Ok(answer_only(alloc, Answer::NoWalk)),
+        Pte::Here { frame, .. } => Ok(show_walk(mem, alloc, frame, reply)?),
+        Pte::Empty | Pte::Zero | Pte::Away { .. } => {
+            reply.answer = Answer::NoWalk;
+            Ok(())
+        }
     }
 }
 
 /// Does an `entry`: what the entry of a page is.
-pub fn entry(mem: &Mem, alloc: Global, process: u16, address: u64) -> Result<Reply, Refusal>
-    requires { IsSteady mem.now }
-    ensures { Does mem.now mem.now (commands.Entry process address) result }
+pub fn entry(mem: &Mem, process: u16, address: u64, reply: &mut Reply) -> Result<(), Refusal>
+    requires steady { IsSteady mem.now }
+    requires cleared { IsCleared reply.old }
+    ensures { Does mem.now mem.now (commands.Entry process address) (reply_in reply.new result) }
 {
     check_lives(mem, process)?;
     let page = address / PAGE_SIZE;
     check_mapped(mem, process, page)?;
-    Ok(answer_only(alloc, entry_answer(mem, process, page)))
+    reply.answer = entry_answer(mem, process, page);
+    Ok(())
 }
 
 /// Does a `stat`: how many frames and processes there are. No frame is active, and there is no
 /// slot.
-pub fn stat(mem: &Mem, alloc: Global) -> Reply
-    requires { IsSteady mem.now }
-    ensures { Does mem.now mem.now commands.Stat (Ok result) }
+pub fn stat(mem: &Mem, reply: &mut Reply)
+    requires steady { IsSteady mem.now }
+    requires cleared { IsCleared reply.old }
+    ensures { Does mem.now mem.now commands.Stat (Ok reply.new) }
 {
     let (frames, free) = (mem.frames.count(), mem.frames.free());
     let totals = Totals {
@@ -102,17 +111,17 @@ pub fn stat(mem: &Mem, alloc: Global) -> Reply
         free_slots: 0,
         processes: mem.spaces.count() as u64,
     };
-    answer_only(alloc, Answer::Counted(totals))
+    reply.answer = Answer::Counted(totals);
 }
 
-/// The longest runs of pages with one protection of these areas of one process.
-fn runs_of(alloc: Global, areas: &[Area]) -> Result<Rows, AllocError>
-    requires { (process : ℕ) × AreRising process areas.now }
-    ensures { IfOk result (AreRuns (map range_of areas.now)) }
+/// Fills in the longest runs of pages with one protection of these areas of one process.
+fn add_runs(areas: &[Area], rows: &mut Rows) -> Result<(), AllocError>
+    requires rising { (process : ℕ) × AreRising process areas.now }
+    requires none { rows.old ≡ [] }
+    ensures { OnOk result (AreRuns (map range_of areas.now) rows.new) }
 {
-    let mut rows = Rows::new(alloc);
     let Some((first, rest)) = areas.split_first() else {
-        return Ok(rows);
+        return Ok(());
     };
     let mut run = *first;
     for next in rest {
@@ -124,7 +133,7 @@ fn runs_of(alloc: Global, areas: &[Area]) -> Result<Rows, AllocError>
         }
     }
     rows.push(row_of(&run))?;
-    Ok(rows)
+    Ok(())
 }
 
 /// Whether an area begins where a run ends, with its protection.
@@ -146,18 +155,24 @@ fn row_of(run: &Area) -> Row
     }
 }
 
-/// The rows of the areas of a process.
-fn area_rows(mem: &Mem, alloc: Global, process: u16, areas: &[Area]) -> Result<Rows, AllocError>
+/// Fills in the rows of the areas of a process.
+fn add_areas(
+    mem: &Mem,
+    alloc: Global,
+    process: u16,
+    areas: &[Area],
+    rows: &mut Rows,
+) -> Result<(), AllocError>
     requires fit { AnonsFit mem.now.spaces mem.now.anons }
     requires areas { areas_of mem.now.spaces.processes process ≡ Some areas.now }
     requires rising { AreRising process areas.now }
-    ensures { IfOk result (λ rows. rows ≡ map (row_of_area (view mem.now).anons) areas.now) }
+    requires none { rows.old ≡ [] }
+    ensures { OnOk result (rows.new ≡ map (row_of_area (view mem.now).anons) areas.now) }
 {
-    let mut rows = Rows::new(alloc);
     for area in areas {
         rows.push(area_row(mem, alloc, process, area)?)?;
     }
-    Ok(rows)
+    Ok(())
 }
 
 /// The row of an area of a process.
@@ -212,23 +227,21 @@ fn entry_answer(mem: &Mem, process: u16, page: u64) -> Answer
     }
 }
 
-/// The reply that shows the walk of a frame.
-fn walk_reply(mem: &Mem, alloc: Global, frame: u32) -> Result<Reply, AllocError>
+/// Shows the walk of a frame.
+fn show_walk(mem: &Mem, alloc: Global, frame: u32, reply: &mut Reply) -> Result<(), AllocError>
     requires steady { IsSteady mem.now }
     requires in_range { frame < count mem.now }
+    requires cleared { IsCleared reply.old }
     ensures { (s : State) → Keeps mem.now s
-        → IfOk result (λ reply. reply ≡ shown_walk frame (walk_of s.ledger frame)) }
+        → OnOk result (reply.new ≡ shown_walk frame (walk_of s.ledger frame)) }
 {
     let keys = keys_of(mem, alloc, frame, Blank::new(1))?;
-    let rows = key_rows(alloc, &keys)?;
-    Ok(Reply {
-        answer: Answer::Walk {
-            frame,
-            maps: rows.as_slice().len() as u64,
-        },
-        notes: Notes::new(alloc),
-        rows,
-    })
+    add_keys(&keys, &mut reply.rows)?;
+    reply.answer = Answer::Walk {
+        frame,
+        maps: reply.rows.as_slice().len() as u64,
+    };
+    Ok(())
 }
 
 /// Process and page of each entry of a frame, its walk counted by a ledger of its own.
@@ -267,17 +280,17 @@ fn keys_by<L: Ledger>(
     walk(mem, alloc, frame, &mut steps)
 }
 
-/// The rows of entries by process and page.
-fn key_rows(alloc: Global, keys: &[(u16, u64)]) -> Result<Rows, AllocError>
-    requires { AllByRecursion (λ key. key.1 < top_page) keys.now }
-    ensures { IfOk result (λ rows. rows ≡ map key_row keys.now) }
+/// Fills in the rows of entries by process and page.
+fn add_keys(keys: &[(u16, u64)], rows: &mut Rows) -> Result<(), AllocError>
+    requires below { AllByRecursion (λ key. key.1 < top_page) keys.now }
+    requires none { rows.old ≡ [] }
+    ensures { OnOk result (rows.new ≡ map key_row keys.now) }
 {
-    let mut rows = Rows::new(alloc);
     for key in keys {
         rows.push(Row::Entry {
             process: key.0,
             address: key.1 * PAGE_SIZE,
         })?;
     }
-    Ok(rows)
+    Ok(())
 }

@@ -1,10 +1,10 @@
 //! Which command goes where, and what a refusal replies.
 
-ghost use Rattle.std.specs.Prelude.{◌≡◌, [], IfOk};
+ghost use Rattle.std.specs.Prelude.{◌≡◌, OnOk};
+ghost use Rattle.av_trace.specs.Reply.{IsCleared};
 ghost use Rattle.av_plain.specs.Transcript.{State};
 ghost use Rattle.av_reclaim.specs.Mem.{count, Keeps, IsSteady};
-ghost use Rattle.av_kernel.specs.Step.{MemSteps, Does};
-ghost use Rattle.av_kernel.specs.Step as step;
+ghost use Rattle.av_kernel.specs.Step.{MemSteps, Does, reply_in};
 
 use crate::access::{read, write};
 use crate::map::{mmap, mprotect, munmap};
@@ -12,75 +12,83 @@ use crate::process::{exit, fork, spawn};
 use crate::refusal::Refusal;
 use crate::report::{areas, entry, maps, rmap, stat};
 use av_reclaim::Mem;
-use av_trace::{Answer, Command, Notes, Reply, Rows};
+use av_trace::{Answer, Command, Reply};
 use std::alloc::{AllocError, Global};
 
-/// A reply without notes or rows.
-pub fn answer_only(alloc: Global, answer: Answer) -> Reply
-    ensures { result ≡ step.answer_only answer }
-{
-    Reply {
-        answer,
-        notes: Notes::new(alloc),
-        rows: Rows::new(alloc),
-    }
-}
-
-/// Replies to a command. Memory may be wanting; then nothing is promised of the memory system but
-/// its frames' number.
-pub fn perform(mem: &mut Mem, alloc: Global, command: &Command) -> Result<Reply, AllocError>
+/// Replies to a command, whatever the reply held. Memory may be wanting; then nothing is promised
+/// of the memory system but its frames' number, nor of the reply.
+pub fn perform(
+    mem: &mut Mem,
+    alloc: Global,
+    command: &Command,
+    reply: &mut Reply,
+) -> Result<(), AllocError>
     requires { IsSteady mem.old }
     ensures step { (s : State) → Keeps mem.old s →
-        IfOk result (MemSteps mem.old mem.new s command.now) }
+        OnOk result (MemSteps mem.old mem.new s command.now reply.new) }
     ensures count { count mem.new ≡ count mem.old }
 {
-    match dispatch(mem, alloc, command) {
-        Ok(reply) => Ok(reply),
-        Err(Refusal::Refused(error)) => Ok(answer_only(alloc, Answer::Refused(error))),
+    reply.clear();
+    match dispatch(mem, alloc, command, reply) {
+        Ok(()) => Ok(()),
+        Err(Refusal::Refused(error)) => {
+            reply.clear();
+            reply.answer = Answer::Refused(error);
+            Ok(())
+        }
         Err(Refusal::Memory) => Err(AllocError),
     }
 }
 
-/// Does a command.
-fn dispatch(mem: &mut Mem, alloc: Global, command: &Command) -> Result<Reply, Refusal>
-    requires { IsSteady mem.old }
-    ensures { Does mem.old mem.new command.now result }
+/// Does a command, and fills the reply.
+fn dispatch(
+    mem: &mut Mem,
+    alloc: Global,
+    command: &Command,
+    reply: &mut Reply,
+) -> Result<(), Refusal>
+    requires steady { IsSteady mem.old }
+    requires cleared { IsCleared reply.old }
+    ensures { Does mem.old mem.new command.now (reply_in reply.new result) }
 {
     match command {
-        Command::Spawn { process } => spawn(mem, alloc, *process),
-        Command::Fork { parent, child } => fork(mem, alloc, *parent, *child),
-        Command::Exit { process } => exit(mem, alloc, *process),
+        Command::Spawn { process } => spawn(mem, alloc, *process, reply),
+        Command::Fork { parent, child } => fork(mem, alloc, *parent, *child, reply),
+        Command::Exit { process } => exit(mem, *process, reply),
         Command::Mmap {
             process,
             len,
             prot,
             place,
-        } => mmap(mem, alloc, *process, *len, *prot, *place),
+        } => mmap(mem, *process, *len, *prot, *place, reply),
         Command::Munmap {
             process,
             address,
             len,
-        } => munmap(mem, alloc, *process, *address, *len),
+        } => munmap(mem, *process, *address, *len, reply),
         Command::Mprotect {
             process,
             address,
             len,
             prot,
-        } => mprotect(mem, alloc, *process, *address, *len, *prot),
+        } => mprotect(mem, *process, *address, *len, *prot, reply),
         Command::Read {
             process,
             address,
             len,
-        } => read(mem, alloc, *process, *address, *len),
+        } => read(mem, alloc, *process, *address, *len, reply),
         Command::Write {
             process,
             address,
             bytes,
-        } => write(mem, alloc, *process, *address, bytes.as_slice()),
-        Command::Maps { process } => maps(mem, alloc, *process),
-        Command::Areas { process } => areas(mem, alloc, *process),
-        Command::Rmap { process, address } => rmap(mem, alloc, *process, *address),
-        Command::Entry { process, address } => entry(mem, alloc, *process, *address),
-        Command::Stat => Ok(stat(mem, alloc)),
+        } => write(mem, alloc, *process, *address, bytes.as_slice(), reply),
+        Command::Maps { process } => maps(mem, *process, reply),
+        Command::Areas { process } => areas(mem, alloc, *process, reply),
+        Command::Rmap { process, address } => rmap(mem, alloc, *process, *address, reply),
+        Command::Entry { process, address } => entry(mem, *process, *address, reply),
+        Command::Stat => {
+            stat(mem, reply);
+            Ok(())
+        }
     }
 }

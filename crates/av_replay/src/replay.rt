@@ -13,7 +13,7 @@ use crate::status::{RunErr, Status};
 use crate::turn::next_line;
 use av_io::{Sink, Source};
 use av_kernel::Kernel;
-use av_trace::Bytes;
+use av_trace::{Bytes, Reply};
 use std::alloc::Global;
 
 /// The lines of a trace, at most.
@@ -69,9 +69,11 @@ fn do_lines<S: Source, K: Sink>(
         (streams (S.view source.old) (K.view sink.old))
         (streams (S.view source.new) (K.view sink.new))) }
 {
+    let mut reply = Reply::new(alloc);
     let mut text = Bytes::new(alloc);
     for number in 0..MOST_LINES {
-        match next_line(alloc, kernel, source, sink, pending, &mut text) {
+        let turn = next_line(alloc, kernel, source, sink, pending, &mut reply, &mut text);
+        match turn {
             Ok(true) => {}
             Ok(false) => return Status::Done,
             Err(error) => return status_of(error, number + 1),

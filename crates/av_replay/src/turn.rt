@@ -12,14 +12,15 @@ use crate::status::RunErr;
 use crate::write::write_all;
 use av_io::{Sink, SinkErr, Source};
 use av_kernel::Kernel;
-use av_trace::{Bytes, LineFault, parse_line, reply_text};
+use av_trace::{Bytes, LineFault, Reply, parse_line, reply_text};
 use std::alloc::Global;
 
-/// Does a line, and makes the text of its reply.
+/// Does a line, and makes its reply and the reply's text. What the two held before is forgotten.
 pub fn do_line(
     alloc: Global,
     kernel: &mut Kernel,
     line: &[u8],
+    reply: &mut Reply,
     text: &mut Bytes,
 ) -> Result<(), RunErr>
     requires { kernel.old.steps < 2 ^ 24 }
@@ -36,8 +37,8 @@ pub fn do_line(
     let Some(command) = said else {
         return Ok(());
     };
-    let reply = kernel.step(alloc, &command)?;
-    reply_text(&reply, text)?;
+    kernel.answer(alloc, &command, reply)?;
+    reply_text(reply, text)?;
     Ok(())
 }
 
@@ -47,6 +48,7 @@ pub fn answer_line<K: Sink>(
     kernel: &mut Kernel,
     sink: &mut K,
     line: &[u8],
+    reply: &mut Reply,
     text: &mut Bytes,
 ) -> Result<(), RunErr>
     requires { kernel.old.steps < 2 ^ 24 }
@@ -57,7 +59,7 @@ pub fn answer_line<K: Sink>(
     ensures err { IfErr result (λ e. IsNotAnswered e line.now no_device no_device
         kernel.old kernel.new (K.view sink.old) (K.view sink.new)) }
 {
-    do_line(alloc, kernel, line, text)?;
+    do_line(alloc, kernel, line, reply, text)?;
     match write_all(sink, text.as_slice()) {
         Ok(()) => Ok(()),
         Err(SinkErr::Failed) => Err(RunErr::Write),
@@ -72,6 +74,7 @@ pub fn next_line<S: Source, K: Sink>(
     source: &mut S,
     sink: &mut K,
     pending: &mut Pending,
+    reply: &mut Reply,
     text: &mut Bytes,
 ) -> Result<bool, RunErr>
     requires { kernel.old.steps < 2 ^ 24 }
@@ -86,7 +89,8 @@ pub fn next_line<S: Source, K: Sink>(
     let Some(line) = read_line(source, sink, pending)? else {
         return Ok(false);
     };
-    answer_line(alloc, kernel, sink, &pending.as_slice()[..line.size], text)?;
+    let line_text = &pending.as_slice()[..line.size];
+    answer_line(alloc, kernel, sink, line_text, reply, text)?;
     pending.skip(line.whole);
     Ok(line.whole > line.size)
 }

@@ -161,3 +161,12 @@ Follow answer notes rows = AllByRecursion IsNote notes × (rows ≡ [])
 pub record IsReply (reply : Reply) : Type 0 where
   pub answer : IsAnswer reply.answer
   pub rest : Follow reply.answer reply.notes reply.rows
+
+-- ---- a reply without notes or rows
+
+abbrev pub answer_only : Answer → Reply
+answer_only answer = record { answer = answer; notes = []; rows = [] }
+
+-- what a reply is before it is filled: all is done, and there is no more to say
+abbrev pub IsCleared : Reply → Type 0
+IsCleared reply = reply ≡ answer_only answers.Done

@@ -102,6 +102,13 @@ impl Notes {
         Ok(())
     }
 
+    /// Forgets them and keeps the room.
+    pub fn clear(&mut self)
+        ensures { self.new ≡ [] }
+    {
+        self.items.clear();
+    }
+
     pub fn as_slice(&self) -> &[Note]
         ensures { result.now ≡ self.now }
     {

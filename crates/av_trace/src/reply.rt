@@ -4,7 +4,7 @@ ghost use Rattle.std.specs.Prelude.{◌∷◌, take};
 ghost use Rattle.std.specs.List.{flat_map};
 ghost use Rattle.std.specs.Fmt.{decimal as digits_of};
 ghost use Rattle.av_trace.specs.Note.{slot_text};
-ghost use Rattle.av_trace.specs.Reply.{errno_name, labelled as labelled_text, shown_words, out_words, cached_words, total_words, answer_line as line_of_answer};
+ghost use Rattle.av_trace.specs.Reply.{IsCleared, errno_name, labelled as labelled_text, shown_words, out_words, cached_words, total_words, answer_line as line_of_answer};
 ghost use Rattle.av_trace.specs.Word.{Adds, field, line};
 
 use crate::bytes::Bytes;
@@ -14,7 +14,7 @@ use crate::number::{add_decimal, add_number};
 use crate::row::Rows;
 use crate::word::add_word;
 use av_base::Slot;
-use std::alloc::AllocError;
+use std::alloc::{AllocError, Global};
 
 /// Why a command was refused, by the kernel's error numbers.
 ///
@@ -118,6 +118,28 @@ pub struct Reply {
     pub answer: Answer,
     pub notes: Notes,
     pub rows: Rows,
+}
+
+impl Reply {
+    /// The reply that says that all is done, and no more.
+    pub fn new(alloc: Global) -> Self
+        ensures { IsCleared result }
+    {
+        Reply {
+            answer: Answer::Done,
+            notes: Notes::new(alloc),
+            rows: Rows::new(alloc),
+        }
+    }
+
+    /// Makes the same of one that has served, and keeps the room of its notes and rows.
+    pub fn clear(&mut self)
+        ensures { IsCleared self.new }
+    {
+        self.answer = Answer::Done;
+        self.notes.clear();
+        self.rows.clear();
+    }
 }
 
 fn add_errno(text: &mut Bytes, error: Errno) -> Result<(), AllocError>

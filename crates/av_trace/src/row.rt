@@ -104,6 +104,13 @@ impl Rows {
         Ok(())
     }
 
+    /// Forgets them and keeps the room.
+    pub fn clear(&mut self)
+        ensures { self.new ≡ [] }
+    {
+        self.items.clear();
+    }
+
     pub fn as_slice(&self) -> &[Row]
         ensures { result.now ≡ self.now }
     {

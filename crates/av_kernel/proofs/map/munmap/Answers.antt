@@ -4,23 +4,22 @@ use Rattle.av_trace.specs.declared.command.Command.TheVariants.{Munmap}
 use Rattle.av_kernel.specs.Map.{AreCleared}
 use Rattle.av_vma.specs.Pages.{after_unmap}
 use Rattle.av_spaces.specs.Spaces.{pages_of}
-use Rattle.av_kernel.specs.Step.{MemSteps}
 use Rattle.av_trace.specs.declared.reply.Errno.TheVariants.{Esrch, Einval}
-use Rattle.av_kernel.proofs.StepLaws.{orderly, ranges_there, refuses, refuses-as, dead_first, wants-by}
+use Rattle.av_kernel.proofs.StepLaws.{answers, orderly, ranges_there, refuses, refuses-as, dead_first, wants-by}
 use Rattle.av_kernel.proofs.PlaceLaws.{rounded_up}
 use Rattle.av_kernel.proofs.MapLaws.{munmap-steps, munmap-refused}
 use Rattle.av_kernel.proofs.map.munmap.Goals as goal
 
 pub returns-in_err-check_lives : goal.returns-in_err-check_lives
 returns-in_err-check_lives c =
-    refuses-as c.args.mem.now c.args.mem.now (Munmap c.args.process c.args.address c.args.len) Esrch c.from_residual.result c.in_err-check_lives.field-0.0 c.from_residual.ensures c.in_err-check_lives.ensures.1
+    refuses-as c.args.mem.now c.args.mem.now (Munmap c.args.process c.args.address c.args.len) Esrch c.args.reply.now c.from_residual.result c.in_err-check_lives.field-0.0 c.from_residual.ensures c.in_err-check_lives.ensures.1
     (refuses c.args.mem.now (Munmap c.args.process c.args.address c.args.len) Esrch (λ s keeps. dead_first c.args.mem.now s c.args.process _ keeps c.in_err-check_lives.ensures.0))
 
 pub returns-then-is_no_range : goal.returns-then-is_no_range
 returns-then-is_no_range c = refuses c.args.mem.now (Munmap c.args.process c.args.address c.args.len) Einval (λ s keeps. munmap-refused c.args.mem.now s c.args.process c.args.address c.args.len keeps c.in_ok-check_lives.ensures (sym c.is_no_range.ensures ∙ c.if-is_no_range.true))
 
 pub returns-in_err-clear : goal.returns-in_err-clear
-returns-in_err-clear c = wants-by c.args.mem.now c.clear.new.mem (Munmap c.args.process c.args.address c.args.len) c.from_residual-in_err-clear.result c.from_residual-in_err-clear.ensures c.clear.ensures.count
+returns-in_err-clear c = wants-by c.args.mem.now c.clear.new.mem (Munmap c.args.process c.args.address c.args.len) c.args.reply.now c.from_residual-in_err-clear.result c.from_residual-in_err-clear.ensures c.clear.ensures.count
 
 pub returns : goal.returns
 returns c = record {
@@ -28,7 +27,7 @@ returns c = record {
   step = λ s keeps.
       let k = c.args.mem.now in
       let page = c.args.address / 4096 in
-      subst (MemSteps k c.clear.new.mem s (Munmap c.args.process c.args.address c.args.len)) (sym c.answer_only.ensures)
+      answers c.args.reply.now c.requires.cleared
       (munmap-steps k c.clear.new.mem s c.args.process c.args.address c.args.len keeps (ranges_there k c.args.process c.in_ok-check_lives.ensures) (sym c.is_no_range.ensures ∙ c.if-is_no_range.false) c.clear.ensures.count
       (subst (λ n. AreCleared k c.clear.new.mem c.args.process page n (after_unmap page (page + n) (pages_of k.spaces.processes c.args.process)) s.ledger (zaps_of s.ledger (keys_in s.ledger c.args.process page n))) (c.div_ceil.ensures ∙ rounded_up c.args.len) (c.in_ok-clear.ensures.cleared s.ledger (orderly k s keeps))));
 }

@@ -13,14 +13,14 @@ use Rattle.av_kernel.proofs.report.areas.Goals as goal
 
 pub returns-in_err-check_lives : goal.returns-in_err-check_lives
 returns-in_err-check_lives c =
-    refuses-as c.args.mem.now c.args.mem.now (AsksAreas c.args.process) Esrch c.from_residual.result c.in_err-check_lives.field-0.0 c.from_residual.ensures c.in_err-check_lives.ensures.1
+    refuses-as c.args.mem.now c.args.mem.now (AsksAreas c.args.process) Esrch c.args.reply.now c.from_residual.result c.in_err-check_lives.field-0.0 c.from_residual.ensures c.in_err-check_lives.ensures.1
     (refuses c.args.mem.now (AsksAreas c.args.process) Esrch (λ s keeps. dead_first c.args.mem.now s c.args.process _ keeps c.in_err-check_lives.ensures.0))
 
 pub returns-in_err-areas : goal.returns-in_err-areas
-returns-in_err-areas c = wants-by c.args.mem.now c.args.mem.now (AsksAreas c.args.process) c.from_residual-in_err-areas.result c.from_residual-in_err-areas.ensures refl
+returns-in_err-areas c = wants-by c.args.mem.now c.args.mem.now (AsksAreas c.args.process) c.args.reply.now c.from_residual-in_err-areas.result c.from_residual-in_err-areas.ensures refl
 
-pub returns-in_err-rows : goal.returns-in_err-rows
-returns-in_err-rows c = wants-by c.args.mem.now c.args.mem.now (AsksAreas c.args.process) c.from_residual-in_err-rows.result c.from_residual-in_err-rows.ensures refl
+pub returns-in_err-add_areas : goal.returns-in_err-add_areas
+returns-in_err-add_areas c = wants-by c.args.mem.now c.args.mem.now (AsksAreas c.args.process) (record c.args.reply.now { rows = c.add_areas.new.rows }) c.from_residual-in_err-add_areas.result c.from_residual-in_err-add_areas.ensures refl
 
 pub returns : goal.returns
 returns c = record {
@@ -29,16 +29,16 @@ returns c = record {
       let k = c.args.mem.now in
       let are = c.in_ok-areas.ensures in
       let areas = c.in_ok-areas.areas.items in
-      let rows : c.in_ok-rows.rows ≡ map (area_row (view k).anons) areas = c.in_ok-rows.ensures ∙ ap (map (area_row (view k).anons)) c.deref.ensures.value in
-      subst (MemSteps k k s (AsksAreas c.args.process)) (λ i. record { answer = AreaList (length ((sym rows ∙ sym c.as_slice.ensures) i)); notes = sym c.new.ensures i; rows = sym rows i })
+      let rows : c.add_areas.new.rows ≡ map (area_row (view k).anons) areas = c.in_ok-add_areas.ensures ∙ ap (map (area_row (view k).anons)) c.deref.ensures.value in
+      subst (MemSteps k k s (AsksAreas c.args.process)) (λ i. record { answer = AreaList (length ((sym rows ∙ sym c.as_slice.ensures) i)); notes = (sym c.requires.cleared i).notes; rows = sym rows i })
       (areas-steps k s c.args.process areas keeps c.in_ok-check_lives.ensures are.areas are.rising);
 }
 
-pub area_rows-requires-clause-areas : goal.area_rows-requires-clause-areas
-area_rows-requires-clause-areas c = c.in_ok-areas.ensures.areas ∙ ap (λ areas. Some areas) (sym c.deref.ensures.value)
+pub add_areas-requires-clause-areas : goal.add_areas-requires-clause-areas
+add_areas-requires-clause-areas c = c.in_ok-areas.ensures.areas ∙ ap (λ areas. Some areas) (sym c.deref.ensures.value)
 
-pub area_rows-requires-clause-rising : goal.area_rows-requires-clause-rising
-area_rows-requires-clause-rising c = subst (AreRising c.args.process) (sym c.deref.ensures.value) c.in_ok-areas.ensures.rising
+pub add_areas-requires-clause-rising : goal.add_areas-requires-clause-rising
+add_areas-requires-clause-rising c = subst (AreRising c.args.process) (sym c.deref.ensures.value) c.in_ok-areas.ensures.rising
 
-pub area_rows-requires-clause-fit : goal.area_rows-requires-clause-fit
-area_rows-requires-clause-fit c = c.requires.1.anons
+pub add_areas-requires-clause-fit : goal.add_areas-requires-clause-fit
+add_areas-requires-clause-fit c = c.requires.steady.1.anons

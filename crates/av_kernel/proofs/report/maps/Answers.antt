@@ -14,14 +14,14 @@ use Rattle.av_kernel.proofs.report.maps.Goals as goal
 
 pub returns-in_err-check_lives : goal.returns-in_err-check_lives
 returns-in_err-check_lives c =
-    refuses-as c.args.mem.now c.args.mem.now (Maps c.args.process) Esrch c.from_residual.result c.in_err-check_lives.field-0.0 c.from_residual.ensures c.in_err-check_lives.ensures.1
+    refuses-as c.args.mem.now c.args.mem.now (Maps c.args.process) Esrch c.args.reply.now c.from_residual.result c.in_err-check_lives.field-0.0 c.from_residual.ensures c.in_err-check_lives.ensures.1
     (refuses c.args.mem.now (Maps c.args.process) Esrch (λ s keeps. dead_first c.args.mem.now s c.args.process _ keeps c.in_err-check_lives.ensures.0))
 
 pub returns-in_err-areas : goal.returns-in_err-areas
-returns-in_err-areas c = wants-by c.args.mem.now c.args.mem.now (Maps c.args.process) c.from_residual-in_err-areas.result c.from_residual-in_err-areas.ensures refl
+returns-in_err-areas c = wants-by c.args.mem.now c.args.mem.now (Maps c.args.process) c.args.reply.now c.from_residual-in_err-areas.result c.from_residual-in_err-areas.ensures refl
 
-pub returns-in_err-rows : goal.returns-in_err-rows
-returns-in_err-rows c = wants-by c.args.mem.now c.args.mem.now (Maps c.args.process) c.from_residual-in_err-rows.result c.from_residual-in_err-rows.ensures refl
+pub returns-in_err-add_runs : goal.returns-in_err-add_runs
+returns-in_err-add_runs c = wants-by c.args.mem.now c.args.mem.now (Maps c.args.process) (record c.args.reply.now { rows = c.add_runs.new.rows }) c.from_residual-in_err-add_runs.result c.from_residual-in_err-add_runs.ensures refl
 
 pub returns : goal.returns
 returns c = record {
@@ -29,10 +29,10 @@ returns c = record {
   step = λ s keeps.
       let k = c.args.mem.now in
       let areas = c.in_ok-areas.ensures.areas in
-      let runs = subst (λ (areas : List Area). AreRuns (map range_of areas) c.in_ok-rows.rows) c.deref.ensures.value c.in_ok-rows.ensures in
-      subst (MemSteps k k s (Maps c.args.process)) (λ i. record { answer = Runs (length (sym c.as_slice.ensures i)); notes = sym c.new.ensures i; rows = c.in_ok-rows.rows })
-      (maps-steps k s c.args.process c.in_ok-areas.areas.items c.in_ok-rows.rows keeps c.in_ok-check_lives.ensures areas runs);
+      let runs = subst (λ (areas : List Area). AreRuns (map range_of areas) c.add_runs.new.rows) c.deref.ensures.value c.in_ok-add_runs.ensures in
+      subst (MemSteps k k s (Maps c.args.process)) (λ i. record { answer = Runs (length (sym c.as_slice.ensures i)); notes = (sym c.requires.cleared i).notes; rows = c.add_runs.new.rows })
+      (maps-steps k s c.args.process c.in_ok-areas.areas.items c.add_runs.new.rows keeps c.in_ok-check_lives.ensures areas runs);
 }
 
-pub runs_of-requires : goal.runs_of-requires
-runs_of-requires c = (c.args.process, subst (AreRising c.args.process) (sym c.deref.ensures.value) c.in_ok-areas.ensures.rising)
+pub add_runs-requires-clause-rising : goal.add_runs-requires-clause-rising
+add_runs-requires-clause-rising c = (c.args.process, subst (AreRising c.args.process) (sym c.deref.ensures.value) c.in_ok-areas.ensures.rising)

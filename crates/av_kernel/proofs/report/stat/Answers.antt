@@ -1,6 +1,7 @@
 use Rattle.std.proofs.Common.{◌-◌, subst, sym, ◌∙◌, arith, refl}
 use Rattle.av_trace.specs.declared.command.Command.TheVariants.{Stat}
 use Rattle.av_kernel.specs.Step.{MemSteps}
+use Rattle.av_kernel.proofs.StepLaws.{answers}
 use Rattle.av_kernel.proofs.ReportStat.{stat-steps, same_reply}
 use Rattle.av_kernel.proofs.report.stat.Goals as goal
 
@@ -14,7 +15,7 @@ returns c = record {
       let k = c.args.mem.now in
       let frames = c.count-frames.ensures in
       let free = c.free-free.ensures.count in
-      subst (MemSteps k k s Stat)
-      (sym (c.answer_only.ensures ∙ same_reply _ _ _ _ _ _ c.count.result (c.from.ensures ∙ frames) (c.from-2.ensures ∙ free) (c.from-3.ensures ∙ (λ j. frames j - free j))))
-      (stat-steps k s c.count.result keeps c.free-free.ensures.once c.free-free.ensures.in_range c.count.ensures);
+      answers c.args.reply.now c.requires.cleared (subst (MemSteps k k s Stat)
+      (sym (same_reply _ _ _ _ _ _ c.count.result (c.from.ensures ∙ frames) (c.from-2.ensures ∙ free) (c.from-3.ensures ∙ (λ j. frames j - free j))))
+      (stat-steps k s c.count.result keeps c.free-free.ensures.once c.free-free.ensures.in_range c.count.ensures));
 }

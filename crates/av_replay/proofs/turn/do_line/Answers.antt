@@ -3,13 +3,13 @@ use Rattle.av_replay.proofs.turn.do_line.Goals as goal
 
 pub returns-clause-ok : goal.returns-clause-ok
 returns-clause-ok c =
-    let counted = c.in_ok-reply.ensures.counts in
+    let counted = c.in_ok-answer.ensures.counts in
     record {
       answers = λ s stands.
           let says = rw c.in-Some.is at c.in-Ok.ensures.found in
-          let steps = c.in_ok-reply.ensures.stands s stands in
+          let steps = c.in_ok-answer.ensures.stands s stands in
           record {
-            did = Some (record { command = c.in-Some.command; reply = c.in_ok-reply.reply });
+            did = Some (record { command = c.in-Some.command; reply = c.answer.new.reply });
             next = steps.next;
             commands = says;
             run = (steps.next, steps.step, refl);

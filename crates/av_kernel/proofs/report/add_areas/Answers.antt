@@ -3,7 +3,7 @@ use Rattle.av_vma.specs.declared.area.Area.{Area}
 use Rattle.av_vma.specs.Join.{first_of}
 use Rattle.av_vma.specs.Pages.{pages_in}
 use Rattle.av_kernel.proofs.ReportAreas.{all_at, on_pages}
-use Rattle.av_kernel.proofs.report.area_rows.Goals as goal
+use Rattle.av_kernel.proofs.report.add_areas.Goals as goal
 
 abbrev none : Area
 none = record { pid = 0; start = 0; end = 0; prot = record { read = false; write = false; execute = false }; flags = 0; pgoff = 0; anon = None }

@@ -8,7 +8,7 @@ use Rattle.av_reclaim.specs.Mem.{count, setting, Keeps}
 use Rattle.av_kernel.specs.Machine.{Machine}
 use Rattle.av_kernel.specs.Tally.{IsAtMost}
 use Rattle.av_kernel.proofs.TallyCounts.{counted-few, few-enough}
-use Rattle.av_kernel.proofs.kernel.Kernel.step.Goals as goal
+use Rattle.av_kernel.proofs.kernel.Kernel.answer.Goals as goal
 
 pub count-requires : goal.count-requires
 count-requires c = few-enough c.self.inside.tally c.self.inside.steps (2 ^ 24) (let few = subst (λ (k : Machine). k.steps < 2 ^ 24) (sym c.self.view_is) c.requires in omega (arith, few)) c.self.invariant.few
@@ -16,7 +16,7 @@ count-requires c = few-enough c.self.inside.tally c.self.inside.steps (2 ^ 24) (
 pub invariant_of-self : goal.invariant_of-self
 invariant_of-self c =
     let steady = c.self.invariant.steady c.if-self.false in record {
-      few = subst (IsAtMost (c.self.inside.steps + 1)) (sym c.count.ensures) (counted-few c.in-Ok.reply.answer c.self.inside.tally c.self.inside.steps c.self.invariant.few);
+      few = subst (IsAtMost (c.self.inside.steps + 1)) (sym c.count.ensures) (counted-few c.perform.new.reply.answer c.self.inside.tally c.self.inside.steps c.self.invariant.few);
       steady = λ _. let after = c.in-Ok.ensures.step steady.0 steady.1 in (after.next, after.keeps);
     }
 
@@ -25,9 +25,9 @@ returns-in-Ok-clause-stands c = λ s stands.
     let after = c.in-Ok.ensures.step s (subst (λ (k : Machine). Keeps k.mem s) (sym c.self.view_is) stands) in
     record {
       next = after.next;
-      step = subst (λ (k : Machine). IsStep (setting k.frames) s c.args.command.now c.in-Ok.reply after.next) c.self.view_is after.step;
+      step = subst (λ (k : Machine). IsStep (setting k.frames) s c.args.command.now c.perform.new.reply after.next) c.self.view_is after.step;
       stands = after.keeps;
-      faults = none_rose c.in-Ok.reply (no-causes (setting (count c.self.inside.mem)) s.world s.ledger c.args.command.now c.in-Ok.reply after.step.events (λ k. refl)
+      faults = none_rose c.perform.new.reply (no-causes (setting (count c.self.inside.mem)) s.world s.ledger c.args.command.now c.perform.new.reply after.step.events (λ k. refl)
           (subst (λ (k : Machine). Keeps k.mem s) (sym c.self.view_is) stands).stands.sound after.step.legal);
     }
   where
