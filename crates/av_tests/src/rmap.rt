@@ -93,7 +93,10 @@ fn add_like(
 
 /// The walk of a frame that two processes have on their page 11. Three areas are linked to the
 /// anon_vma of its home, and two of them hold its index.
-fn shared<L: Ledger>(alloc: Global, steps: &mut Steps<L>) -> Result<Vec<(u16, u64)>, AllocError>
+fn walk_shared<L: Ledger>(
+    alloc: Global,
+    steps: &mut Steps<L>,
+) -> Result<Vec<(u16, u64)>, AllocError>
     ensures { OnOk result (steps.new ≡ steps.old + 2) }
 {
     nobody_is_in_order();
@@ -116,18 +119,18 @@ fn shared<L: Ledger>(alloc: Global, steps: &mut Steps<L>) -> Result<Vec<(u16, u6
 }
 
 /// The same, by a counter of its own.
-fn shared_alone<L: Ledger>(alloc: Global, blank: Blank) -> Result<Vec<(u16, u64)>, AllocError>
+fn walk_shared_alone<L: Ledger>(alloc: Global, blank: Blank) -> Result<Vec<(u16, u64)>, AllocError>
     requires name { blank.name ≡ L.name }
     requires parts { blank.parts ≡ L.parts }
     requires some { 0 < blank.parts }
 {
     let mut steps = Steps::<L>::open(blank);
-    shared(alloc, &mut steps)
+    walk_shared(alloc, &mut steps)
 }
 
 #[test]
 fn a_walk_finds_the_entries_of_both_processes(rt: HostRuntime) -> Result<(), Fail> {
-    let keys = shared_alone::<Brand>(rt.alloc(), Blank::new(1))?;
+    let keys = walk_shared_alone::<Brand>(rt.alloc(), Blank::new(1))?;
     assert_eq!(rt; keys.as_slice(), [(1, 11), (2, 11)].as_slice());
     Ok(())
 }

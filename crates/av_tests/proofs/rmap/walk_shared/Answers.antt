@@ -8,7 +8,7 @@ use Rattle.av_anon.specs.Anons.{Family, family, nobody}
 use Rattle.av_anon.specs.Order.{IsInOrder}
 use Rattle.av_anon.specs.Spans.{spans_of}
 use Rattle.av_tests.proofs.RmapLaws.{are_three, on_ok, three_apart, three_covered, two_at_most, two_looks}
-use Rattle.av_tests.proofs.rmap.shared.Goals as goal
+use Rattle.av_tests.proofs.rmap.walk_shared.Goals as goal
 
 pub add-requires-clause-order : goal.add-requires-clause-order
 add-requires-clause-order g c =
