@@ -128,14 +128,11 @@ pub refuses-as : (old new : Mem) (command : Command) (error : Errno) (reply : Re
 refuses-as old new command error reply r x is same does = refuses-by old new command error reply r (is.0, subst (λ (y : Refusal). IsErrAnd r (λ e. e ≡ y)) same is.1) does
 
 -- a cleared reply that is given an answer says no more
+pub only_answer : (reply : Reply) (answer : Answer) → IsCleared reply → record reply { answer = answer } ≡ answer_only answer
+only_answer reply answer cleared = λ i. record { answer = answer; notes = cleared.notes i; rows = cleared.rows i }
+
 pub answers : {old new : Mem} {s : State} {command : Command} {answer : Answer} (reply : Reply) → IsCleared reply → MemSteps old new s command (answer_only answer) → MemSteps old new s command (record reply { answer = answer })
-answers {old} {new} {s} {command} {answer} reply cleared steps = subst (MemSteps old new s command) (ap (λ (r : Reply). record r { answer = answer }) (sym cleared)) steps
-
-pub no_notes : (reply : Reply) → IsCleared reply → reply.notes ≡ []
-no_notes reply cleared = ap (λ (r : Reply). r.notes) cleared
-
-pub no_rows : (reply : Reply) → IsCleared reply → reply.rows ≡ []
-no_rows reply cleared = ap (λ (r : Reply). r.rows) cleared
+answers {old} {new} {s} {command} {answer} reply cleared steps = subst (MemSteps old new s command) (sym (only_answer reply answer cleared)) steps
 
 -- a process that has no areas is refused first
 pub dead_first : (k : Mem) (s : State) (p : ℕ) (rest : Option Errno) → Keeps k s → is_some (areas_of k.spaces.processes p) ≡ false → cond (not (lives s.world p)) (Some Esrch) rest ≡ Some Esrch

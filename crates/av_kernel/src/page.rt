@@ -85,6 +85,7 @@ fn append_zeros(shown: &mut Bytes, len: usize) -> Result<(), AllocError>
     requires { len ≤ page_size }
     ensures { OnOk result (shown.new ≡ shown.old ++ replicate len 0) }
 {
-    let zeros = [0; PAGE_SIZE as usize];
-    shown.append(&zeros[..len])
+    // Not a local: the function that this becomes a part of would pay for it at each entry.
+    static ZEROS: [u8; PAGE_SIZE as usize] = [0; PAGE_SIZE as usize];
+    shown.append(&ZEROS[..len])
 }

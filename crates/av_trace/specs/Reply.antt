@@ -162,11 +162,11 @@ pub record IsReply (reply : Reply) : Type 0 where
   pub answer : IsAnswer reply.answer
   pub rest : Follow reply.answer reply.notes reply.rows
 
--- ---- a reply without notes or rows
-
+-- a reply without notes or rows
 abbrev pub answer_only : Answer → Reply
 answer_only answer = record { answer = answer; notes = []; rows = [] }
 
--- what a reply is before it is filled: all is done, and there is no more to say
-abbrev pub IsCleared : Reply → Type 0
-IsCleared reply = reply ≡ answer_only answers.Done
+-- a reply to be filled, whatever it answers: there are no notes and no rows
+pub record IsCleared (reply : Reply) : Type 0 where
+  pub notes : reply.notes ≡ []
+  pub rows : reply.rows ≡ []

@@ -1,10 +1,10 @@
 //! What a command is answered: one answer, and then notes of what happened or the rows of a report.
 
-ghost use Rattle.std.specs.Prelude.{◌∷◌, take};
+ghost use Rattle.std.specs.Prelude.{◌≡◌, ◌∷◌, take};
 ghost use Rattle.std.specs.List.{flat_map};
 ghost use Rattle.std.specs.Fmt.{decimal as digits_of};
 ghost use Rattle.av_trace.specs.Note.{slot_text};
-ghost use Rattle.av_trace.specs.Reply.{IsCleared, errno_name, labelled as labelled_text, shown_words, out_words, cached_words, total_words, answer_line as line_of_answer};
+ghost use Rattle.av_trace.specs.Reply.{answer_only, errno_name, labelled as labelled_text, shown_words, out_words, cached_words, total_words, answer_line as line_of_answer};
 ghost use Rattle.av_trace.specs.Word.{Adds, field, line};
 
 use crate::bytes::Bytes;
@@ -121,9 +121,9 @@ pub struct Reply {
 }
 
 impl Reply {
-    /// The reply that says that all is done, and no more.
+    /// A reply that says that all is done, and no more.
     pub fn new(alloc: Global) -> Self
-        ensures { IsCleared result }
+        ensures { result ≡ answer_only Answer.Done }
     {
         Reply {
             answer: Answer::Done,
@@ -132,11 +132,11 @@ impl Reply {
         }
     }
 
-    /// Makes the same of one that has served, and keeps the room of its notes and rows.
+    /// Forgets its notes and rows, and keeps their room. The answer stays until another is given.
+    #[inline]
     pub fn clear(&mut self)
-        ensures { IsCleared self.new }
+        ensures { self.new ≡ answer_only self.old.answer }
     {
-        self.answer = Answer::Done;
         self.notes.clear();
         self.rows.clear();
     }

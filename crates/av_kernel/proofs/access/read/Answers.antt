@@ -5,7 +5,7 @@ use Rattle.av_reclaim.proofs.MemLaws.{lives_is}
 use Rattle.av_trace.specs.declared.command.Command.TheVariants.{Read}
 use Rattle.av_trace.specs.declared.reply.Errno.TheVariants.{Esrch}
 use Rattle.av_trace.specs.declared.reply.Answer.TheVariants.{Data}
-use Rattle.av_kernel.proofs.StepLaws.{no_notes, no_rows, refuses, refuses-as, dead_first, wants-by}
+use Rattle.av_kernel.proofs.StepLaws.{refuses, refuses-as, dead_first, wants-by}
 use Rattle.av_kernel.proofs.AccessSteps.{read-done, read-stopped}
 use Rattle.av_kernel.proofs.access.read.Goals as goal
 
@@ -17,7 +17,7 @@ returns-in-None c = record {
       let k = c.in_ok-ended.ended.served in
       let new = c.read_pieces.new in
       let lived = sym (lives_is c.args.mem.now s keeps c.args.process) ∙ c.in_ok-check_lives.ensures in
-      read-done s c.args.mem.now new.mem c.args.process c.args.address reply.notes new.notes reply.rows k (no_notes reply c.requires.cleared) (no_rows reply c.requires.cleared) c.in_ok-ended.ensures.count lived keeps
+      read-done s c.args.mem.now new.mem c.args.process c.args.address reply.notes new.notes reply.rows k c.requires.cleared.notes c.requires.cleared.rows c.in_ok-ended.ensures.count lived keeps
       c.args.len new.shown (Data new.shown)
       (subst (λ end. IsAccess s new.mem false c.args.process c.args.address c.args.len [] reply.notes new.notes end k) c.in-None.is (c.in_ok-ended.ensures.access s keeps))
       (c.in_ok-ended.ensures.reads s keeps) refl;
@@ -31,7 +31,7 @@ returns-in-Some c = record {
       let k = c.in_ok-ended.ended.served in
       let new = c.read_pieces.new in
       let lived = sym (lives_is c.args.mem.now s keeps c.args.process) ∙ c.in_ok-check_lives.ensures in
-      read-stopped s c.args.mem.now new.mem c.args.process c.args.address reply.notes new.notes reply.rows k (no_notes reply c.requires.cleared) (no_rows reply c.requires.cleared) c.in_ok-ended.ensures.count lived keeps
+      read-stopped s c.args.mem.now new.mem c.args.process c.args.address reply.notes new.notes reply.rows k c.requires.cleared.notes c.requires.cleared.rows c.in_ok-ended.ensures.count lived keeps
       c.args.len new.shown c.stop_answer.result c.in-Some.stop
       (subst (λ end. IsAccess s new.mem false c.args.process c.args.address c.args.len [] reply.notes new.notes end k) c.in-Some.is (c.in_ok-ended.ensures.access s keeps))
       (c.in_ok-ended.ensures.reads s keeps) c.stop_answer.ensures;

@@ -5,7 +5,7 @@ use Rattle.av_reclaim.proofs.MemLaws.{lives_is}
 use Rattle.av_trace.specs.declared.command.Command.TheVariants.{Write}
 use Rattle.av_trace.specs.declared.reply.Errno.TheVariants.{Esrch}
 use Rattle.av_trace.specs.declared.reply.Answer.TheVariants.{Done}
-use Rattle.av_kernel.proofs.StepLaws.{no_notes, no_rows, refuses, refuses-as, dead_first, wants-by}
+use Rattle.av_kernel.proofs.StepLaws.{refuses, refuses-as, dead_first, wants-by}
 use Rattle.av_kernel.proofs.AccessSteps.{write-done, write-stopped}
 use Rattle.av_kernel.proofs.access.write.Goals as goal
 
@@ -18,7 +18,7 @@ returns-in-None c = record {
       let k = c.in_ok-ended.ended.served in
       let new = c.write_pieces.new in
       let lived = sym (lives_is c.args.mem.now s keeps c.args.process) ∙ c.in_ok-check_lives.ensures in
-      write-done s c.args.mem.now new.mem c.args.process c.args.address reply.notes new.notes reply.rows k (no_notes reply c.requires.cleared) (no_rows reply c.requires.cleared) c.in_ok-ended.ensures.count lived keeps
+      write-done s c.args.mem.now new.mem c.args.process c.args.address reply.notes new.notes reply.rows k c.requires.cleared.notes c.requires.cleared.rows c.in_ok-ended.ensures.count lived keeps
       bytes Done
       (subst (λ end. IsAccess s new.mem true c.args.process c.args.address (length bytes) (take k bytes) reply.notes new.notes end k) c.in-None.is (c.in_ok-ended.ensures.access s keeps))
       refl;
@@ -33,7 +33,7 @@ returns-in-Some c = record {
       let k = c.in_ok-ended.ended.served in
       let new = c.write_pieces.new in
       let lived = sym (lives_is c.args.mem.now s keeps c.args.process) ∙ c.in_ok-check_lives.ensures in
-      write-stopped s c.args.mem.now new.mem c.args.process c.args.address reply.notes new.notes reply.rows k (no_notes reply c.requires.cleared) (no_rows reply c.requires.cleared) c.in_ok-ended.ensures.count lived keeps
+      write-stopped s c.args.mem.now new.mem c.args.process c.args.address reply.notes new.notes reply.rows k c.requires.cleared.notes c.requires.cleared.rows c.in_ok-ended.ensures.count lived keeps
       bytes c.stop_answer.result c.in-Some.stop
       (subst (λ end. IsAccess s new.mem true c.args.process c.args.address (length bytes) (take k bytes) reply.notes new.notes end k) c.in-Some.is (c.in_ok-ended.ensures.access s keeps))
       (c.stop_answer.ensures ∙ ap (answer_of c.in-Some.stop k) c.new.ensures);

@@ -6,8 +6,7 @@ use Rattle.av_fault.proofs.FaultSafe.{entry_frame}
 use Rattle.av_trace.specs.declared.command.Command.TheVariants.{Rmap}
 use Rattle.av_trace.specs.declared.reply.Answer.TheVariants.{NoWalk}
 use Rattle.av_trace.specs.declared.reply.Errno.TheVariants.{Efault, Esrch}
-use Rattle.av_trace.specs.declared.reply.Reply.{Reply}
-use Rattle.av_kernel.proofs.StepLaws.{dead_first, refuses, refuses-as}
+use Rattle.av_kernel.proofs.StepLaws.{dead_first, only_answer, refuses, refuses-as}
 use Rattle.av_kernel.proofs.ReportEntry.{unmapped_next}
 use Rattle.av_kernel.proofs.ReportWalk.{none-shown, walk-steps}
 use Rattle.av_kernel.proofs.report.rmap.Goals as goal
@@ -38,5 +37,5 @@ returns-in-Empty c = record {
   count = refl;
   step = λ s keeps.
       walk-steps c.args.mem.now s c.args.process c.args.address keeps c.in_ok-check_lives.ensures c.in_ok-check_mapped.ensures c.get.result (record c.args.reply.now { answer = NoWalk })
-      (sym c.get.ensures) (ap (λ (r : Reply). record r { answer = NoWalk }) c.requires.cleared ∙ none-shown s.ledger c.get.result c.in-Empty.is);
+      (sym c.get.ensures) (only_answer c.args.reply.now NoWalk c.requires.cleared ∙ none-shown s.ledger c.get.result c.in-Empty.is);
 }
