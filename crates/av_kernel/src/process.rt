@@ -68,7 +68,7 @@ pub fn fork(mem: &mut Mem, alloc: Global, parent: u16, child: u16) -> Result<Rep
     check_new(&mem.spaces, child)?;
     fork_areas(mem, parent, child)?;
     mem.tables.spawn(alloc, child)?;
-    fork_entries(mem, parent, child)?;
+    fork_entries(mem, alloc, parent, child)?;
     Ok(answer_only(alloc, Answer::Done))
 }
 
