@@ -9,6 +9,8 @@ use Rattle.std.specs.Ordering.{is_lt}
 use Rattle.av_base.specs.declared.slot.Slot.{Slot}
 use Rattle.av_pagetable.specs.declared.pte.Pte.{Pte}
 use Rattle.av_pagetable.specs.declared.pte.Pte.TheVariants.{Away, Empty, Here, Zero as ZeroPte}
+use Rattle.av_anon.specs.declared.anons.Anons.{Anons as AnonSet}
+use Rattle.av_frames.specs.Store.{Seen, seen}
 use Rattle.av_pagetable.specs.Entries.{entry_at}
 use Rattle.av_pagetable.specs.Table.{IsFirst, page_bound}
 use Rattle.av_plain.specs.Choice.{Chooses}
@@ -22,9 +24,10 @@ use Rattle.av_plain.proofs.Ledger.{entry-set, how_many-found, same_key, same_key
 use Rattle.av_plain.proofs.Ledger.NoSwap.{itself}
 use Rattle.av_plain.proofs.Ledger.Order.{both_first, both_second, is_less}
 use Rattle.av_reclaim.specs.declared.mem.Mem.{Mem}
-use Rattle.av_reclaim.specs.Mem.{HasLedger, SoundLedger, count, plain, setting, view}
+use Rattle.av_reclaim.specs.Mem.{HasLedger, SoundLedger, count, plain, setting, view, view_of_parts}
+use Rattle.av_spaces.specs.Spaces.{AllSpaces}
 use Rattle.av_reclaim.proofs.MemLaws.{no_cache}
-use Rattle.av_fork.specs.Entries.{HasForked, after_fork_entry, names}
+use Rattle.av_fork.specs.Entries.{HasForked, after_fork_entry}
 use Rattle.av_fork.proofs.EntriesLedger.{IsFrom, more_uses, stands_now}
 
 abbrev Entries : Type 0
@@ -185,25 +188,40 @@ none_from p at (e ∷ es) h = by_test (from_page p at e.0) refl (λ rest. none_f
 abbrev pub given_from : ℕ → ℕ → ℕ → Entries → Entries
 given_from p q at es = map (λ e. ((q, e.0.1), without_seen e.1)) (where_key key_cmp (from_page p at) es)
 
+-- what the view is put together from
+pub record Parts : Type 0 where
+  pub frames : Seen
+  pub table : ℕ → ℕ → Pte
+  pub spaces : AllSpaces
+  pub anons : AnonSet
+
+abbrev pub seen_as : Parts → View
+seen_as k = view_of_parts k.frames (λ p page. plain (k.table p page)) k.spaces k.anons
+
+abbrev pub parts_of : Mem → Parts
+parts_of k = record { frames = seen k.frames; table = entry_at k.tables; spaces = k.spaces; anons = k.anons }
+
+abbrev pub Stand : Parts → Ledger → Type 0
+Stand k l = SoundLedger (setting k.frames.count) (seen_as k) l
+
 -- the child has the parent's entries below a page: what is left to give makes the same ledger in the end
-pub record IsForking (old k : Mem) (p q next : ℕ) (first : Ledger) : Type 0 where
+pub record IsForking (k : Parts) (p q next : ℕ) (first : Ledger) : Type 0 where
   pub ledger : Ledger
-  pub stands : HasLedger k ledger
+  pub stands : Stand k ledger
   pub sorted : T (is_sorted key_cmp first.entries)
   pub same : after first (Forked p q (inherited first p)) ≡ put_all (given_from p q next first.entries) ledger
   pub parents : (o : ℕ) → entry ledger (p, o) ≡ entry first (p, o)
   pub children : (o : ℕ) → next ≤ o → entry ledger (q, o) ≡ None
   pub from : IsFrom p q ledger
   pub used : (f : ℕ) → uses first f ≤ uses ledger f
-  pub count : count k ≡ count old
 
 -- what a table's place says of the ledger
-at_place : (k : Mem) (l : Ledger) (p page : ℕ) (e : Pte) → HasLedger k l → entry_at k.tables p page ≡ e → entry l (p, page) ≡ entry_of (plain e)
+pub at_place : (k : Parts) (l : Ledger) (p page : ℕ) (e : Pte) → Stand k l → k.table p page ≡ e → entry l (p, page) ≡ entry_of (plain e)
 at_place k l p page e stands is = sym (stands.parts.tables.entries p page) ∙ ap (λ t. entry_of (plain t)) is
 
 -- no entry means an empty one
-no_entry : (k : Mem) (l : Ledger) (p page : ℕ) → HasLedger k l → entry l (p, page) ≡ None → entry_at k.tables p page ≡ Empty
-no_entry k l p page stands none = by (entry_at k.tables p page) (stands.parts.tables.entries p page ∙ none)
+no_entry : (k : Parts) (l : Ledger) (p page : ℕ) → Stand k l → entry l (p, page) ≡ None → k.table p page ≡ Empty
+no_entry k l p page stands none = by (k.table p page) (stands.parts.tables.entries p page ∙ none)
   where
     by : (t : Pte) → entry_of (plain t) ≡ None → t ≡ Empty
     by Empty e = refl
@@ -212,7 +230,7 @@ no_entry k l p page stands none = by (entry_at k.tables p page) (stands.parts.ta
     by (Away s) e = absurd (no_two e)
 
 -- no entry is a slot
-pub no_slots : (k : Mem) (l : Ledger) (p page : ℕ) (e : Entry) → HasLedger k l → entry l (p, page) ≡ Some e → (s : Slot) → names_slot s e ≡ false
+pub no_slots : (k : Parts) (l : Ledger) (p page : ℕ) (e : Entry) → Stand k l → entry l (p, page) ≡ Some e → (s : Slot) → names_slot s e ≡ false
 no_slots k l p page e stands is s = by (names_slot s e) refl
   where
     by : (b : Bool) → names_slot s e ≡ b → b ≡ false
@@ -220,11 +238,11 @@ no_slots k l p page e stands is s = by (names_slot s e) refl
     by false named = refl
 
 -- so no page is away
-pub not_away : (k : Mem) (l : Ledger) (p page : ℕ) (s : Slot) → HasLedger k l → entry_at k.tables p page ≡ Away s → ⊥
+pub not_away : (k : Parts) (l : Ledger) (p page : ℕ) (s : Slot) → Stand k l → k.table p page ≡ Away s → ⊥
 not_away k l p page s stands is = false≢true (sym (no_slots k l p page (InSlot s) stands (at_place k l p page (Away s) stands is) s) ∙ (λ i. itself s.area i && itself s.page i))
 
 -- nothing has gone over yet
-pub none_yet : (k : Mem) (p q : ℕ) (l : Ledger) → HasLedger k l → ((o : ℕ) → entry_at k.tables q o ≡ Empty) → IsForking k k p q 0 l
+pub none_yet : (k : Parts) (p q : ℕ) (l : Ledger) → Stand k l → ((o : ℕ) → k.table q o ≡ Empty) → IsForking k p q 0 l
 none_yet k p q l stands empty = record {
   ledger = l;
   stands = stands;
@@ -234,19 +252,18 @@ none_yet k p q l stands empty = record {
   children = λ o low. nothing o;
   from = λ o d is. absurd (no_two (sym is ∙ nothing o));
   used = λ f. omega arith;
-  count = refl;
 }
   where
     nothing : (o : ℕ) → entry l (q, o) ≡ None
     nothing o = at_place k l q o Empty stands (empty o)
 
 -- the child lacks the entries from there on
-pub child_lacks : (old k : Mem) (p q next o : ℕ) (first : Ledger) → IsForking old k p q next first → next ≤ o → entry_at k.tables q o ≡ Empty
-child_lacks old k p q next o first t low = no_entry k t.ledger q o t.stands (t.children o low)
+pub child_lacks : (k : Parts) (p q next o : ℕ) (first : Ledger) → IsForking k p q next first → next ≤ o → k.table q o ≡ Empty
+child_lacks k p q next o first t low = no_entry k t.ledger q o t.stands (t.children o low)
 
 -- one more goes over
-module _ (old mid new : Mem) (p q next page : ℕ) (first : Ledger) (t : IsForking old mid p q next first) (is : IsFirst (entry_at mid.tables p) next page_bound page)
-    (seen_so : view new ≡ after_fork_entry p q page (view mid)) (counts : count new ≡ count mid) where
+module _ (mid new : Parts) (p q next page : ℕ) (first : Ledger) (t : IsForking mid p q next first) (is : IsFirst (mid.table p) next page_bound page)
+    (seen_so : seen_as new ≡ after_fork_entry p q page (seen_as mid)) (counts : new.frames.count ≡ mid.frames.count) where
   module _ (e : Entry) (named : entry t.ledger (p, page) ≡ Some e) where
     absent : entry t.ledger (q, page) ≡ None
     absent = t.children page is.from_there
@@ -288,11 +305,11 @@ module _ (old mid new : Mem) (p q next page : ℕ) (first : Ledger) (t : IsForki
         by true i at = (e, parents_stay o ∙ ap (λ (k : Key). entry t.ledger (p, k.1)) (same_key-is (q, o) (q, page) i) ∙ named, sym (value at))
         by false i at = let c = t.from o d at in (c.0, parents_stay o ∙ c.1, c.2)
 
-    stands_next : SoundLedger (setting (count new)) (view new) next_ledger
-    stands_next = subst (λ n. SoundLedger (setting n) (view new) next_ledger) (sym counts) (subst (λ v. SoundLedger (setting (count mid)) v next_ledger) (sym seen_so)
-        (stands_now (setting (count mid)) t.ledger p q page e t.stands.sound named absent (no_slots mid t.ledger p page e t.stands named) (view mid) t.stands.parts (no_cache t.ledger t.stands.parts.swap.finds) t.from))
+    stands_next : SoundLedger (setting (new.frames.count)) (seen_as new) next_ledger
+    stands_next = subst (λ n. SoundLedger (setting n) (seen_as new) next_ledger) (sym counts) (subst (λ v. SoundLedger (setting (mid.frames.count)) v next_ledger) (sym seen_so)
+        (stands_now (setting (mid.frames.count)) t.ledger p q page e t.stands.sound named absent (no_slots mid t.ledger p page e t.stands named) (seen_as mid) t.stands.parts (no_cache t.ledger t.stands.parts.swap.finds) t.from))
 
-    one_more : IsForking old new p q (page + 1) first
+    one_more : IsForking new p q (page + 1) first
     one_more = record {
       ledger = next_ledger;
       stands = stands_next;
@@ -303,28 +320,18 @@ module _ (old mid new : Mem) (p q next page : ℕ) (first : Ledger) (t : IsForki
       parents = λ o. parents_stay o ∙ t.parents o;
       children = still_none;
       from = still_from;
-      used = λ f. let a = t.used f in let b = more_uses (setting (count mid)) t.ledger p q page e t.stands.sound named absent (no_slots mid t.ledger p page e t.stands named) f in omega (arith, a, b);
-      count = counts ∙ t.count;
+      used = λ f. let a = t.used f in let b = more_uses (setting (mid.frames.count)) t.ledger p q page e t.stands.sound named absent (no_slots mid t.ledger p page e t.stands named) f in omega (arith, a, b);
     }
 
-  pub more_given : IsForking old new p q (page + 1) first
+  pub more_given : IsForking new p q (page + 1) first
   more_given = by (entry t.ledger (p, page)) refl
     where
-      by : (o : Option Entry) → entry t.ledger (p, page) ≡ o → IsForking old new p q (page + 1) first
+      by : (o : Option Entry) → entry t.ledger (p, page) ≡ o → IsForking new p q (page + 1) first
       by None none = absurd (is.there (no_entry mid t.ledger p page t.stands none))
       by (Some e) some = one_more e some
 
--- and no frame has more than one entry more
-pub few_more : (mid new : Mem) (p q page most next : ℕ) → view new ≡ after_fork_entry p q page (view mid) → next ≤ page
-    → ((f : ℕ) → (view mid).maps f ≤ most + next) → (f : ℕ) → (view new).maps f ≤ most + (page + 1)
-few_more mid new p q page most next seen_so low few f = let few_f = few f in by (names f ((view mid).table p page)) (ap (λ (v : View). v.maps f) seen_so) few_f
-  where
-    by : (b : Bool) → (view new).maps f ≡ (view mid).maps f + cond b 1 0 → (view mid).maps f ≤ most + next → (view new).maps f ≤ most + (page + 1)
-    by true e h = omega (arith, e, h, low)
-    by false e h = omega (arith, e, h, low)
-
 -- where none is left, all has gone over, and no frame has become free
-pub all_given : (old new : Mem) (p q next : ℕ) (first : Ledger) → IsForking old new p q next first
+pub all_given : (old new : Mem) (p q next : ℕ) (first : Ledger) → IsForking (parts_of new) p q next first
     → ((o : ℕ) → next ≤ o → entry_at new.tables p o ≡ Empty) → free_of (view new) ≡ free_of (view old)
     → HasForked old new first p q
 all_given old new p q next first t none free = record {
@@ -342,4 +349,4 @@ all_given old new p q next first t none free = record {
 
     whole : after first event ≡ t.ledger
     whole = t.same ∙ ap (λ (es : Entries). put_all (map (λ e. ((q, e.0.1), without_seen e.1)) es) t.ledger)
-        (none_from p next first.entries (λ o low. sym (t.parents o) ∙ at_place new t.ledger p o Empty t.stands (none o low)))
+        (none_from p next first.entries (λ o low. sym (t.parents o) ∙ at_place (parts_of new) t.ledger p o Empty t.stands (none o low)))

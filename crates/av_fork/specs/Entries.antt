@@ -1,5 +1,8 @@
--- How the entries of a process go over to a child, one by one.
-use Rattle.std.specs.Prelude.{ℕ, ◌+◌, Bool, false, if◌then◌else◌, Option, Some, None}
+-- How the entries of a process go over to a child.
+use Rattle.std.specs.Prelude.{ℕ, ◌+◌, Bool, false, if◌then◌else◌, List, Option, Some, None}
+use Rattle.av_base.specs.Words.{how_many}
+use Rattle.av_frames.specs.Store.{Seen}
+use Rattle.av_pagetable.specs.declared.pte.Pte.{Pte as Raw}
 use Rattle.av_pagetable.specs.Entries.{with_entry}
 use Rattle.av_plain.specs.Choice.{Chooses}
 use Rattle.av_plain.specs.Event.{Forked, after, without_seen}
@@ -7,7 +10,7 @@ use Rattle.av_plain.specs.Fork.{inherited}
 use Rattle.av_plain.specs.Ledger.{Ledger, names_frame}
 use Rattle.av_plain.specs.Stands.{View, Pte, free_of}
 use Rattle.av_reclaim.specs.declared.mem.Mem.{Mem}
-use Rattle.av_reclaim.specs.Mem.{setting, count, view, HasLedger}
+use Rattle.av_reclaim.specs.Mem.{setting, count, plain, view, HasLedger}
 
 -- what the parent keeps of its entry: no write bit, so that a write asks for a copy
 abbrev pub without_write : Option Pte → Option Pte
@@ -23,6 +26,11 @@ child_entry (Some t) = Some (record { entry = without_seen t.entry; write = fals
 abbrev pub names : ℕ → Option Pte → Bool
 names f None = false
 names f (Some t) = names_frame f t.entry
+
+-- for each of these entries that names a frame, one more does
+abbrev pub after_map_ups : List Raw → Seen → Seen
+after_map_ups group s =
+    record s { maps = λ f. s.maps f + how_many (λ e. names f (plain e)) group }
 
 -- the page's entry has gone over, and one more entry names its frame
 abbrev pub after_fork_entry : ℕ → ℕ → ℕ → View → View

@@ -1,22 +1,24 @@
 //! How the entries of a process go over to another one.
 
-ghost use Rattle.std.specs.Prelude.{◌≡◌, ℕ, ◌-◌, ◌<◌, ◌≤◌, ◌^◌, true, false, MatchResult, OnErr, OnOk};
+ghost use Rattle.std.specs.Prelude.{◌≡◌, ℕ, ◌+◌, ◌<◌, ◌≤◌, ◌^◌, Bool, slice_index_or, true, OnErr, OnOk};
 ghost use Rattle.av_base.specs.Limits.{most_processes};
-ghost use Rattle.av_fork.specs.Entries.{after_fork_entry, HasForked};
+ghost use Rattle.av_fork.specs.Entries.{after_map_ups, HasForked};
+ghost use Rattle.av_frames.specs.Store.{seen};
 ghost use Rattle.av_pagetable.specs.Entries.{entry_at, has};
-ghost use Rattle.av_pagetable.specs.Table.{page_bound};
+ghost use Rattle.av_pagetable.specs.Table.{group_size};
 ghost use Rattle.av_plain.specs.Ledger.{Ledger};
 ghost use Rattle.av_plain.specs.Stands.{free_of};
 ghost use Rattle.av_reclaim.specs.Mem.{view, HasLedger, IsOrderly};
 ghost use Rattle.av_reclaim.specs.Zap.{KeepsRest};
 
-use av_pagetable::Pte;
+use av_frames::Frames;
+use av_pagetable::{GROUP, Pte};
 use av_reclaim::Mem;
-use std::alloc::AllocError;
+use std::alloc::{AllocError, Global};
 
 /// Gives a process with an empty table each entry of another one: not seen, and written in place by
-/// neither. Without memory some entries may have gone over.
-pub fn fork_entries(mem: &mut Mem, parent: u16, child: u16) -> Result<(), AllocError>
+/// neither. Without memory all stays.
+pub fn fork_entries(mem: &mut Mem, alloc: Global, parent: u16, child: u16) -> Result<(), AllocError>
     requires orderly { IsOrderly mem.old }
     requires few { (f : ℕ) → (view mem.old).maps f ≤ most_processes }
     requires there { has mem.old.tables child ≡ true }
@@ -27,50 +29,28 @@ pub fn fork_entries(mem: &mut Mem, parent: u16, child: u16) -> Result<(), AllocE
     ensures rest { KeepsRest mem.old mem.new }
     ensures orderly { OnErr result (IsOrderly mem.new) }
 {
-    let mut next = 0;
-    while let Some(page) = mem.tables.next_from(parent, next) {
-        fork_entry(mem, parent, child, page)?;
-        next = page + 1;
+    mem.tables.copy(alloc, parent, child)?;
+    mem.tables.protect(parent);
+    let mut number = 0;
+    while let Some(page) = mem.tables.next_from(child, number * GROUP as u64) {
+        let group = mem.tables.group(child, page / GROUP as u64);
+        map_up_each(&mut mem.frames, &group);
+        number = page / GROUP as u64 + 1;
     }
     Ok(())
 }
 
-/// Gives a child the parent's entry of a page: a write of either asks for a copy then. Without
-/// memory all stays.
-fn fork_entry(mem: &mut Mem, parent: u16, child: u16, page: u64) -> Result<(), AllocError>
-    requires orderly { IsOrderly mem.old }
-    requires room { (f : ℕ) → (view mem.old).maps f < 2 ^ 64 - 1 }
-    requires there { has mem.old.tables child ≡ true }
-    requires below { page < page_bound }
-    requires some { entry_at mem.old.tables parent page ≡ Pte.Empty → ⊥ }
-    requires absent { entry_at mem.old.tables child page ≡ Pte.Empty }
-    ensures gives { MatchResult result
-        (λ _. view mem.new ≡ after_fork_entry parent child page (view mem.old))
-        (λ _. view mem.new ≡ view mem.old) }
-    ensures rest { KeepsRest mem.old mem.new }
+/// One more entry names each frame that an entry of the group names.
+fn map_up_each(frames: &mut Frames, group: &[Pte; GROUP])
+    requires in_range { (i f : ℕ) (write was : Bool) → i < group_size
+        → slice_index_or group.now i Pte.Empty ≡ Pte.Here f write was
+        → f < (seen frames.old).count }
+    requires room { (f : ℕ) → (seen frames.old).maps f + group_size < 2 ^ 64 }
+    ensures { seen frames.new ≡ after_map_ups group.now (seen frames.old) }
 {
-    match mem.tables.get(parent, page) {
-        Pte::Zero => mem.tables.set(child, page, Pte::Zero),
-        Pte::Here { frame, write, seen } => {
-            mem.tables.set(child, page, read_only(frame, false))?;
-            mem.frames.map_up(frame);
-            if write {
-                mem.tables.change(parent, page, read_only(frame, seen));
-            }
-            Ok(())
+    for entry in group {
+        if let Pte::Here { frame, .. } = *entry {
+            frames.map_up(frame);
         }
-        // The page has an entry, and none names a slot yet.
-        Pte::Empty | Pte::Away { .. } => unreachable!(),
-    }
-}
-
-/// The entry of a frame at which a write asks for a copy.
-fn read_only(frame: u32, seen: bool) -> Pte
-    ensures { result ≡ Pte.Here frame false seen }
-{
-    Pte::Here {
-        frame,
-        write: false,
-        seen,
     }
 }

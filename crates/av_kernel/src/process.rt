@@ -77,7 +77,7 @@ pub fn fork(
     check_new(&mem.spaces, child)?;
     fork_areas(mem, parent, child)?;
     mem.tables.spawn(alloc, child)?;
-    fork_entries(mem, parent, child)?;
+    fork_entries(mem, alloc, parent, child)?;
     reply.answer = Answer::Done;
     Ok(())
 }

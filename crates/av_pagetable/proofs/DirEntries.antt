@@ -24,10 +24,10 @@ test_false q k h = grind (arith, nat_tests)
 less : (n m : ℕ) → n < m → nat_lt n m ≡ true
 less n m h = grind (arith, nat_tests)
 
-with_at_same : (k : ℕ) (x : Pte) (f : ℕ → Pte) → with_at k x f k ≡ x
+pub with_at_same : (k : ℕ) (x : Pte) (f : ℕ → Pte) → with_at k x f k ≡ x
 with_at_same k x f = ap (λ b. cond b x (f k)) (test_true k k refl)
 
-with_at_other : (k q : ℕ) (x : Pte) (f : ℕ → Pte) → q ≢ k → with_at k x f q ≡ f q
+pub with_at_other : (k q : ℕ) (x : Pte) (f : ℕ → Pte) → q ≢ k → with_at k x f q ≡ f q
 with_at_other k q x f ne = ap (λ b. cond b x (f q)) (test_false q k ne)
 
 -- ---- pages by part and page there

@@ -131,6 +131,25 @@ impl<C: Level> Level for Dir<C> {
         self.first_in(0)
     }
 
+    fn for_child(&self) -> Result<Self, AllocError> {
+        let mut parts = VecDeque::with_capacity(self.alloc, self.parts.len())?;
+        for place in 0..self.parts.len() {
+            let part = &self.parts[place];
+            parts.push_back((part.0, part.1.for_child()?))?;
+        }
+        Ok(Dir {
+            alloc: self.alloc,
+            parts,
+        })
+    }
+
+    fn protect(&mut self) {
+        for place in 0..self.parts.len() {
+            let part = &mut self.parts[place];
+            part.1.protect();
+        }
+    }
+
     fn held(&self) -> u64 {
         self.below() + 1
     }
@@ -143,9 +162,9 @@ impl<C: Level> Dir<C> {
     ghost use Rattle.av_pagetable.specs.Held.{AreHeld};
     ghost use Rattle.av_pagetable.specs.declared.pte.Pte.{Pte};
 
-    // The part of this number, if there is one.
+    /// The part of this number, if there is one.
     #[inline(always)]
-    fn part(&self, number: u64) -> Option<&C>
+    pub fn part(&self, number: u64) -> Option<&C>
         ensures { option_map (λ part. part.now) result ≡ part_of self.now number }
     {
         let parts = &self.parts;

@@ -5,7 +5,7 @@ use std::alloc::{AllocError, Global};
 pub trait Level: Drop {
     ghost use Rattle.std.specs.Prelude.{◌≡◌, ℕ, ◌<◌, ◌≤◌, ◌*◌, List, MatchBool, MatchOption, MatchResult, IfOk};
     ghost use Rattle.av_base.specs.Words.{with_at};
-    ghost use Rattle.av_pagetable.specs.Table.{IsFirst, HasSome, page_bound};
+    ghost use Rattle.av_pagetable.specs.Table.{IsFirst, HasSome, child_entry, page_bound, read_only};
     ghost use Rattle.av_pagetable.specs.Held.{AreHeld, AllDivide};
     ghost use Rattle.av_pagetable.specs.declared.pte.Pte.{Pte};
 
@@ -74,6 +74,14 @@ pub trait Level: Drop {
         ensures { MatchOption result
             ((q : ℕ) → 0 ≤ q → at self.now q ≡ Pte.Empty)
             (λ q. IsFirst (at self.now) 0 span q) };
+
+    /// The same part for a child: each entry as `Pte::for_child` makes it.
+    fn for_child(&self) -> Result<Self, AllocError>
+        ensures { IfOk result (λ t. (page : ℕ) → at t page ≡ child_entry (at self.now page)) };
+
+    /// Lets no entry be written in place.
+    fn protect(&mut self)
+        ensures { (page : ℕ) → at self.new page ≡ read_only (at self.old page) };
 
     /// How many tables the part is made of.
     fn held(&self) -> u64

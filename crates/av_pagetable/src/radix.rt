@@ -1,8 +1,11 @@
 use crate::dir::Dir;
 use crate::level::Level;
 use crate::pte::Pte;
-use crate::table::Table;
+use crate::table::{GROUP, Table, no_entries};
 use std::alloc::{AllocError, Global};
+
+/// How many groups a last table has.
+const GROUPS: u64 = 8;
 
 // An entry is the part that spans one page.
 impl Level for Pte {
@@ -61,6 +64,14 @@ impl Level for Pte {
         if self.is_empty() { None } else { Some(0) }
     }
 
+    fn for_child(&self) -> Result<Self, AllocError> {
+        Ok(Pte::for_child(*self))
+    }
+
+    fn protect(&mut self) {
+        *self = self.read_only();
+    }
+
     fn held(&self) -> u64 {
         0
     }
@@ -109,10 +120,47 @@ impl Table for RadixTable {
     fn next_from(&self, page: u64) -> Option<u64> {
         self.top.next_from(page)
     }
+
+    fn group(&self, number: u64) -> [Pte; GROUP] {
+        let mut group = no_entries();
+        if let Some(leaf) = self.leaf(number / GROUPS) {
+            let first = number % GROUPS * GROUP as u64;
+            for i in 0..GROUP {
+                group[i] = leaf.get(first + i as u64);
+            }
+        }
+        group
+    }
+
+    fn for_child(&self, _alloc: Global) -> Result<Self, AllocError> {
+        let top = self.top.for_child()?;
+        Ok(RadixTable { top })
+    }
+
+    fn protect(&mut self) {
+        self.top.protect();
+    }
 }
 
 impl RadixTable {
+    ghost use Rattle.std.specs.Prelude.{◌≡◌, ℕ, ◌+◌, ◌*◌, ◌<◌, MatchOption};
     ghost use Rattle.av_pagetable.specs.Held.{IsHeld};
+    ghost use Rattle.av_pagetable.specs.declared.pte.Pte.{Pte};
+
+    // The last table of this number, if there is one: of those that span 512 pages each.
+    fn leaf(&self, number: u64) -> Option<&Dir<Pte>>
+        ensures { MatchOption result
+            ((i : ℕ) → i < 512
+            → ⟦<RadixTable as Table>⟧.at self.now (number * 512 + i) ≡ Pte.Empty)
+            (λ leaf. (i : ℕ) → i < 512
+            → ⟦<RadixTable as Table>⟧.at self.now (number * 512 + i)
+            ≡ ⟦<Dir<Pte> as Level>⟧.at leaf.now i) }
+    {
+        let rest = number % 0x40000;
+        let upper = self.top.part(number / 0x40000)?;
+        let middle = upper.part(rest / 512)?;
+        middle.part(rest % 512)
+    }
 
     /// How many tables there are: 1, and one more for each part of a level that has an entry.
     pub fn held(&self) -> u64

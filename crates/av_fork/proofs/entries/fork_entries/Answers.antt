@@ -1,45 +1,88 @@
-use Rattle.std.proofs.Common.{ℕ, Bool, ap, arith, refl, ◌∙◌}
-use Rattle.av_base.specs.Limits.{most_processes}
+use Rattle.std.proofs.Common.{◌≡◌, ℕ, ◌+◌, ◌*◌, ◌/◌, ◌≤◌, ◌∙◌, ap, arith, length, refl, subst, sym}
+use Rattle.std.proofs.lemmas.Nat.{div-add-mod', le-div}
+use Rattle.av_base.specs.Words.{with_at}
+use Rattle.av_frames.specs.Store.{Seen, seen}
+use Rattle.av_pagetable.specs.Entries.{entry_at}
+use Rattle.av_pagetable.specs.Table.{read_only}
+use Rattle.av_pagetable.specs.declared.pte.Pte.{Pte}
 use Rattle.av_plain.specs.Stands.{free_of}
+use Rattle.av_reclaim.specs.Mem.{plain, view_of_parts}
+use Rattle.av_reclaim.proofs.MemLaws.{view_same}
 use Rattle.av_reclaim.proofs.ZapRange.{rest_rest}
-use Rattle.av_fork.proofs.EntriesPass.{all_given, few_more, more_given, none_yet}
-use Rattle.av_fork.proofs.EntriesViews.{in_error, same_ledger}
+use Rattle.av_fork.specs.Entries.{names}
+use Rattle.av_fork.proofs.EntriesViews.{IsForkingTo, all_over, few_named, group_is, in_error, in_range, none_over, parent_none, same_ledger, skip_to, whole_group}
 use Rattle.av_fork.proofs.entries.fork_entries.Goals as goal
+
+pub returns-in_err-copy-clause-orderly : goal.returns-in_err-copy-clause-orderly
+returns-in_err-copy-clause-orderly c =
+    let o = c.requires.orderly in
+    let old = c.args.mem.now in
+    let new = record old { tables = c.copy.new.self } in
+    in_error c.from_residual.result _ c.from_residual.ensures.0 (o.0, same_ledger old new o.0 (view_same old new c.in_err-copy.ensures.copies refl refl refl) refl o.1)
 
 pub loop-page-init : goal.loop-page-init
 loop-page-init c = record {
   within = omega arith;
   few = λ f. let few_f = c.requires.few f in omega (arith, few_f);
-  forking = λ first stands. none_yet c.args.mem.now c.args.parent c.args.child first stands c.requires.empty;
+  tables = c.protect.ensures.protects ∙ ap (λ (t : ℕ → ℕ → Pte). with_at {X = ℕ → Pte} c.args.parent (λ o. read_only (t c.args.parent o)) t) c.in_ok-copy.ensures.copies;
+  forking = λ first stands. none_over c.args.mem.now c.args.parent c.args.child c.requires.empty first stands;
   free = refl;
-  rest = record { processes = refl; bytes = refl; homes = refl; spaces = refl; anons = refl; count = refl };
+  rest = record { processes = c.protect.ensures.processes ∙ c.in_ok-copy.ensures.processes; bytes = refl; homes = refl; spaces = refl; anons = refl; count = refl };
 }
 
-pub fork_entry-requires-clause-there : goal.fork_entry-requires-clause-there
-fork_entry-requires-clause-there c = ap (λ (has : ℕ → Bool). has c.args.child) c.loop-page.invariant.rest.processes ∙ c.requires.there
-
-pub returns-in_err-fork_entry-clause-orderly : goal.returns-in_err-fork_entry-clause-orderly
-returns-in_err-fork_entry-clause-orderly c =
+pub map_up_each-requires-clause-in_range : goal.map_up_each-requires-clause-in_range
+map_up_each-requires-clause-in_range c = λ i f write was low is.
+    let old = c.args.mem.now in
+    let now = c.loop-page.mem in
+    let v = c.loop-page.invariant in
     let o = c.requires.orderly in
-    let t = c.loop-page.invariant.forking o.0 o.1 in
-    in_error c.from_residual.result _ c.from_residual.ensures.0
-    (t.ledger, same_ledger c.loop-page.mem c.fork_entry.new.mem t.ledger c.in_err-fork_entry.ensures.gives c.in_err-fork_entry.ensures.rest.count t.stands)
+    let page = c.in-Some.page in
+    let first = c.in-Some.ensures in
+    let from : c.loop-page.number ≤ page / 64 = le-div c.loop-page.number page 64 (omega arith) first.from_there in
+    in_range c.args.parent c.args.child (entry_at old.tables) c.requires.empty now.spaces now.anons o.0 (seen now.frames) (c.loop-page.number * 64) (v.forking o.0 o.1)
+    (page / 64 * 64 + i) (omega (arith, from)) f write was
+    (sym (group_is old c.args.parent c.args.child c.requires.empty now v.tables c.group-group.result (page / 64 * 64) c.group-group.ensures i low) ∙ is)
 
 pub loop-page-preserved : goal.loop-page-preserved
 loop-page-preserved c =
-    let i = c.loop-page.invariant in
+    let old = c.args.mem.now in
+    let now = c.loop-page.mem in
+    let v = c.loop-page.invariant in
+    let page = c.in-Some.page in
     let is = c.in-Some.ensures in
-    let given = c.in_ok-fork_entry.ensures.gives in
-    let rest = c.fork_entry.ensures.rest in
+    let group = c.group-group.result in
+    let start = page / 64 * 64 in
+    let past = (page / 64 + 1) * 64 in
+    let from : c.loop-page.number ≤ page / 64 = le-div c.loop-page.number page 64 (omega arith) is.from_there in
+    let low : c.loop-page.number * 64 ≤ start = omega (arith, from) in
+    let here : start ≤ page = omega (arith, div-add-mod' page 64) in
     let below = is.below in
+    let long : length group ≡ 64 = omega (arith, c.group-group.type_inv) in
+    let ups = c.map_up_each.ensures in
     record {
-      within = omega (arith, below);
-      few = few_more c.loop-page.mem c.fork_entry.new.mem c.args.parent c.args.child c.in-Some.page most_processes c.loop-page.next given is.from_there i.few;
-      forking = λ first stands. more_given c.args.mem.now c.loop-page.mem c.fork_entry.new.mem c.args.parent c.args.child c.loop-page.next c.in-Some.page first (i.forking first stands) is given rest.count;
-      free = ap free_of given ∙ i.free;
-      rest = rest_rest i.rest rest;
+      within = omega (arith, here, below);
+      few = λ f. let few = v.few f in let named = few_named (λ e. names f (plain e)) group in let up = ap (λ (s : Seen). s.maps f) ups in omega (arith, few, named, up, long, low);
+      tables = v.tables;
+      forking = λ first stands.
+          subst (λ n. IsForkingTo now.spaces now.anons c.args.parent c.args.child (entry_at old.tables) (seen c.map_up_each.new.frames) n first) (let same : start + length group ≡ past = omega (arith, long) in same)
+          (subst (λ (s : Seen). IsForkingTo now.spaces now.anons c.args.parent c.args.child (entry_at old.tables) s (start + length group) first) (sym ups)
+          (whole_group c.args.parent c.args.child (entry_at old.tables) c.requires.empty now.spaces now.anons first group (seen now.frames) start (omega (arith, long, here, below))
+          (λ i under. group_is old c.args.parent c.args.child c.requires.empty now v.tables group start c.group-group.ensures i (omega (arith, under, long)))
+          (skip_to c.args.parent c.args.child (entry_at old.tables) c.requires.empty now.spaces now.anons first (seen now.frames) (c.loop-page.number * 64) start low
+          (λ o above under. parent_none old c.args.parent c.args.child c.requires.empty now v.tables o (is.least o above (omega (arith, under, here))))
+          (v.forking first stands))));
+      free = ap (λ (s : Seen). free_of (view_of_parts s (λ p o. plain (entry_at now.tables p o)) now.spaces now.anons)) ups ∙ v.free;
+      rest = rest_rest v.rest (record {
+        processes = refl;
+        bytes = ap (λ (s : Seen). s.bytes) ups;
+        homes = ap (λ (s : Seen). s.home) ups;
+        spaces = refl;
+        anons = refl;
+        count = ap (λ (s : Seen). s.count) ups;
+      });
     }
 
 pub returns-clause-forks : goal.returns-clause-forks
 returns-clause-forks c = λ first stands.
-    all_given c.args.mem.now c.loop-page.mem c.args.parent c.args.child c.loop-page.next first (c.loop-page.invariant.forking first stands) c.in_default.ensures c.loop-page.invariant.free
+    all_over c.args.mem.now c.args.parent c.args.child c.requires.empty c.loop-page.mem c.loop-page.invariant.tables (c.loop-page.number * 64) first
+    c.in_default.ensures c.loop-page.invariant.free (c.loop-page.invariant.forking first stands)

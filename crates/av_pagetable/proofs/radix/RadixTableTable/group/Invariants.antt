@@ -1,0 +1,10 @@
+use Rattle.std.proofs.Common.{◌≡◌, ℕ, ◌+◌, ◌<◌, length, slice_index_or}
+use Rattle.av_pagetable.specs.declared.pte.Pte.TheVariants.{Empty}
+use Rattle.av_pagetable.specs.Dir.{alone, entries}
+use Rattle.av_pagetable.proofs.radix.RadixTableTable.group.Given as goal
+
+abbrev pub invariant-loop-i : goal.invariant-loop-i
+invariant-loop-i l = record {
+  long : length l.group ≡ 64;
+  done : (k : ℕ) → k < l.i → slice_index_or l.group k Empty ≡ entries alone 1 l.leaf (l.first + k);
+}
