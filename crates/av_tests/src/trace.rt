@@ -49,6 +49,56 @@ fn places(rt: HostRuntime) {
     );
 }
 
+#[test]
+fn forks_and_pages(rt: HostRuntime) {
+    let alloc = rt.alloc();
+    let fork = parse_line(alloc, b"fork 1 32767");
+    assert!(rt;
+        matches!(
+            fork,
+            Ok(Some(Command::Fork {
+                parent: 1,
+                child: 32767
+            }))
+        )
+    );
+    let entry = parse_line(alloc, b"entry 7 ffffffffffffffff");
+    assert!(rt;
+        matches!(
+            entry,
+            Ok(Some(Command::Entry {
+                process: 7,
+                address: u64::MAX
+            }))
+        )
+    );
+    let rmap = parse_line(alloc, b"rmap 7 10");
+    assert!(rt;
+        matches!(
+            rmap,
+            Ok(Some(Command::Rmap {
+                process: 7,
+                address: 0x10
+            }))
+        )
+    );
+    let bad = [
+        "fork 1",
+        "fork 1 2 3",
+        "fork 0 1",
+        "fork 1 32768",
+        "fork 1 02",
+        "entry 1",
+        "entry 1 0x10",
+        "entry 0 10",
+        "rmap 1",
+        "rmap 1 10 4096",
+    ];
+    for line in bad {
+        assert!(rt; matches!(parse_line(alloc, line.as_bytes()), Err(LineFault::Bad)));
+    }
+}
+
 /// Whether this is the text of the reply.
 fn has_text(alloc: Global, reply: &Reply, wanted: &str) -> Result<bool, AllocError> {
     let mut text = Bytes::new(alloc);
@@ -115,7 +165,12 @@ fn notes(rt: HostRuntime) -> Result<(), Fail> {
         address: 0x7fff_ffff_d000,
         frame: 0,
     })?;
-    let wanted = "oom 1 pinned=0 noslot=1 fault=0\n new 1 7fffffffd000 0\n";
+    reply.notes.push(Note::Copied {
+        process: 2,
+        address: 0x1000,
+        frame: 10,
+    })?;
+    let wanted = "oom 1 pinned=0 noslot=1 fault=0\n new 1 7fffffffd000 0\n copy 2 1000 10\n";
     assert!(rt; has_text(alloc, &reply, wanted)?);
     Ok(())
 }
