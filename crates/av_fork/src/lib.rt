@@ -4,7 +4,8 @@
 //! memory system stands for: it has the areas, anon_vmas and homes then that the definitions leave
 //! after a fork.
 //!
-//! `fork_entries` gives a process each entry of another one, in one pass over the parent's table.
+//! `fork_entries` gives a process each entry of another one: the parent's page table is copied
+//! whole, and then the frames that the copy names are counted, 64 pages at a time.
 //! Proved for every ledger that the memory system's parts stand for: they stand for it after the
 //! event of the fork, and what is free is as it was.
 #![tactic(auto)]
