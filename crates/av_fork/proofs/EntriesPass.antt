@@ -27,6 +27,7 @@ use Rattle.av_reclaim.specs.declared.mem.Mem.{Mem}
 use Rattle.av_reclaim.specs.Mem.{HasLedger, SoundLedger, count, plain, setting, view, view_of_parts}
 use Rattle.av_spaces.specs.Spaces.{AllSpaces}
 use Rattle.av_reclaim.proofs.MemLaws.{no_cache}
+use Rattle.av_reclaim.proofs.Parts.{Parts, Stand, parts_of, seen_as}
 use Rattle.av_fork.specs.Entries.{HasForked, after_fork_entry}
 use Rattle.av_fork.proofs.EntriesLedger.{IsFrom, more_uses, stands_now}
 
@@ -188,22 +189,6 @@ none_from p at (e ∷ es) h = by_test (from_page p at e.0) refl (λ rest. none_f
 abbrev pub given_from : ℕ → ℕ → ℕ → Entries → Entries
 given_from p q at es = map (λ e. ((q, e.0.1), without_seen e.1)) (where_key key_cmp (from_page p at) es)
 
--- what the view is put together from
-pub record Parts : Type 0 where
-  pub frames : Seen
-  pub table : ℕ → ℕ → Pte
-  pub spaces : AllSpaces
-  pub anons : AnonSet
-
-abbrev pub seen_as : Parts → View
-seen_as k = view_of_parts k.frames (λ p page. plain (k.table p page)) k.spaces k.anons
-
-abbrev pub parts_of : Mem → Parts
-parts_of k = record { frames = seen k.frames; table = entry_at k.tables; spaces = k.spaces; anons = k.anons }
-
-abbrev pub Stand : Parts → Ledger → Type 0
-Stand k l = SoundLedger (setting k.frames.count) (seen_as k) l
-
 -- the child has the parent's entries below a page: what is left to give makes the same ledger in the end
 pub record IsForking (k : Parts) (p q next : ℕ) (first : Ledger) : Type 0 where
   pub ledger : Ledger
@@ -305,9 +290,9 @@ module _ (mid new : Parts) (p q next page : ℕ) (first : Ledger) (t : IsForking
         by true i at = (e, parents_stay o ∙ ap (λ (k : Key). entry t.ledger (p, k.1)) (same_key-is (q, o) (q, page) i) ∙ named, sym (value at))
         by false i at = let c = t.from o d at in (c.0, parents_stay o ∙ c.1, c.2)
 
-    stands_next : SoundLedger (setting (new.frames.count)) (seen_as new) next_ledger
-    stands_next = subst (λ n. SoundLedger (setting n) (seen_as new) next_ledger) (sym counts) (subst (λ v. SoundLedger (setting (mid.frames.count)) v next_ledger) (sym seen_so)
-        (stands_now (setting (mid.frames.count)) t.ledger p q page e t.stands.sound named absent (no_slots mid t.ledger p page e t.stands named) (seen_as mid) t.stands.parts (no_cache t.ledger t.stands.parts.swap.finds) t.from))
+    stands_next : SoundLedger (setting new.frames.count) (seen_as new) next_ledger
+    stands_next = subst (λ n. SoundLedger (setting n) (seen_as new) next_ledger) (sym counts) (subst (λ v. SoundLedger (setting mid.frames.count) v next_ledger) (sym seen_so)
+        (stands_now (setting mid.frames.count) t.ledger p q page e t.stands.sound named absent (no_slots mid t.ledger p page e t.stands named) (seen_as mid) t.stands.parts (no_cache t.ledger t.stands.parts.swap.finds) t.from))
 
     one_more : IsForking new p q (page + 1) first
     one_more = record {
@@ -320,7 +305,7 @@ module _ (mid new : Parts) (p q next page : ℕ) (first : Ledger) (t : IsForking
       parents = λ o. parents_stay o ∙ t.parents o;
       children = still_none;
       from = still_from;
-      used = λ f. let a = t.used f in let b = more_uses (setting (mid.frames.count)) t.ledger p q page e t.stands.sound named absent (no_slots mid t.ledger p page e t.stands named) f in omega (arith, a, b);
+      used = λ f. let a = t.used f in let b = more_uses (setting mid.frames.count) t.ledger p q page e t.stands.sound named absent (no_slots mid t.ledger p page e t.stands named) f in omega (arith, a, b);
     }
 
   pub more_given : IsForking new p q (page + 1) first

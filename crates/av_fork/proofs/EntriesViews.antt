@@ -25,7 +25,8 @@ use Rattle.av_pagetable.proofs.DirImages.{child_none}
 use Rattle.av_pagetable.specs.Entries.{entry_at}
 use Rattle.av_plain.specs.Stands.{free_of}
 use Rattle.av_fork.specs.Entries.{HasForked}
-use Rattle.av_fork.proofs.EntriesPass.{IsForking, Parts, all_given, at_place, more_given, none_yet, parts_of, seen_as}
+use Rattle.av_reclaim.proofs.Parts.{Parts, parts_of, seen_as}
+use Rattle.av_fork.proofs.EntriesPass.{IsForking, all_given, at_place, more_given, none_yet}
 
 pub in_error : {X E : Type 0} (r : Result X E) (A : Type 0) {B : Type 0} → IsErr r → B → MatchResult r (λ _. A) (λ _. B)
 in_error (Ok x) A is h = absurd (false≢true is)

@@ -156,11 +156,18 @@ impl<C: Level> Level for Dir<C> {
 }
 
 impl<C: Level> Dir<C> {
-    ghost use Rattle.std.specs.Prelude.{◌≡◌, ℕ, ◌+◌, ◌*◌, ◌<◌, ◌≤◌, MatchOption, length, option_map};
+    ghost use Rattle.std.specs.Prelude.{◌≡◌, ℕ, ◌+◌, ◌*◌, ◌<◌, ◌≤◌, [], MatchOption, length, option_map};
     ghost use Rattle.av_pagetable.specs.Table.{page_bound};
     ghost use Rattle.av_pagetable.specs.Dir.{part_of, entries, entries_at, IsPlace, IsFirstIn};
     ghost use Rattle.av_pagetable.specs.Held.{AreHeld};
     ghost use Rattle.av_pagetable.specs.declared.pte.Pte.{Pte};
+
+    /// Takes out all parts.
+    pub fn clear(&mut self)
+        ensures { self.new ≡ [] }
+    {
+        self.parts.clear();
+    }
 
     /// The part of this number, if there is one.
     #[inline(always)]

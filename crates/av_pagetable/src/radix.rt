@@ -140,6 +140,10 @@ impl Table for RadixTable {
     fn protect(&mut self) {
         self.top.protect();
     }
+
+    fn clear(&mut self) {
+        self.top.clear();
+    }
 }
 
 impl RadixTable {

@@ -1,7 +1,9 @@
 pub mod MemLaws
+pub mod Parts
 pub mod ZapEntry
 pub mod ZapFrame
 pub mod ZapFirst
 pub mod ZapRange
+pub mod ZapGroup
 pub mod AnonLaws
 pub mod WalkLaws

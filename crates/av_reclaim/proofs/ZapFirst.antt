@@ -1,9 +1,9 @@
 -- The entry of the least page of a range is taken away, or there is none.
-use Rattle.std.proofs.Common.{◌≡◌, ℕ, ◌<◌, ◌≤◌, Bool, false, ◌&&◌, [], Option, Some, None, refl, sym, ap, subst, ◌∙◌, arith, ◌==◌, is_some, option_map}
+use Rattle.std.proofs.Common.{◌≡◌, ℕ, ◌<◌, ◌≤◌, Bool, true, false, ◌&&◌, [], Option, Some, None, refl, sym, ap, subst, ◌∙◌, arith, ◌==◌, is_some, option_map}
 use Rattle.std.proofs.lemmas.Bool.Decides.{nat_tests}
 use Rattle.std.specs.Ordering.{nat_cmp}
 use Rattle.av_base.specs.Words.{is_in}
-use Rattle.av_frames.specs.Store.{seen}
+use Rattle.av_frames.specs.Store.{Seen}
 use Rattle.av_pagetable.specs.declared.pte.Pte.{Pte}
 use Rattle.av_pagetable.specs.declared.pte.Pte.TheVariants.{Empty, Zero as ZeroPte, Here, Away}
 use Rattle.av_pagetable.specs.Table.{IsFirst, page_bound, or_empty, entry_in}
@@ -14,34 +14,45 @@ use Rattle.av_plain.specs.Event.{Zapped, after_zap}
 use Rattle.av_plain.specs.Stands.{View, entry_of, free_of}
 use Rattle.av_plain.proofs.Ledger.{how_many-found}
 use Rattle.av_plain.proofs.Ledger.NoSwap.{itself, free_is}
-use Rattle.av_reclaim.specs.declared.mem.Mem.{Mem}
-use Rattle.av_reclaim.specs.Mem.{setting, count, plain, view, view_of_parts, SoundLedger, HasLedger}
-use Rattle.av_reclaim.specs.Zap.{after_unmap_frame, ZapsFirst}
-use Rattle.av_reclaim.proofs.MemLaws.{frames_free, view_same, no_cache, entry_put_in}
+use Rattle.av_reclaim.specs.Mem.{setting, plain, SoundLedger}
+use Rattle.av_reclaim.specs.Zap.{after_unmap_frame}
+use Rattle.av_reclaim.proofs.MemLaws.{frames_free, no_cache}
+use Rattle.av_reclaim.proofs.Parts.{Parts, Stand, parts_put, parts_same, seen_as}
 use Rattle.av_reclaim.proofs.ZapEntry.{zero_left, zero_freed, released_left, released_freed}
 
-module _ (old : Mem) (l : Ledger) (stands : HasLedger old l) where
+-- the entry of the least page from `from` to below `past` goes, or there is none: as `ZapsFirst`, over parts
+abbrev pub Takes : Parts → Parts → Ledger → ℕ → ℕ → ℕ → Option ℕ → Type 0
+Takes old new l p from past None =
+    ((q : ℕ) → from ≤ q → q < past → entry l (p, q) ≡ None)
+    × (free_of (seen_as new) ≡ free_of (seen_as old)) × Stand new l
+Takes old new l p from past (Some page) =
+    (from ≤ page) × (is_some (entry l (p, page)) ≡ true)
+    × ((q : ℕ) → from ≤ q → q < page → entry l (p, q) ≡ None)
+    × Chooses (setting old.frames.count) None l (Zapped (p, page)) (free_of (seen_as old)) (free_of (seen_as new))
+    × Stand new (after_zap (p, page) l)
+
+module _ (old : Parts) (l : Ledger) (stands : Stand old l) where
   cache : l.cache ≡ []
   cache = no_cache l stands.parts.swap.finds
 
-  nothing_at : (p q : ℕ) → entry_at old.tables p q ≡ Empty → entry l (p, q) ≡ None
+  pub nothing_at : (p q : ℕ) → old.table p q ≡ Empty → entry l (p, q) ≡ None
   nothing_at p q e = sym (stands.parts.tables.entries p q) ∙ ap (λ t. entry_of (plain t)) e
 
-  frame_there : (p page f : ℕ) (write was : Bool) → entry_at old.tables p page ≡ Here f write was → entry l (p, page) ≡ Some (InFrame f was)
+  frame_there : (p page f : ℕ) (write was : Bool) → old.table p page ≡ Here f write was → entry l (p, page) ≡ Some (InFrame f was)
   frame_there p page f write was e = sym (stands.parts.tables.entries p page) ∙ ap (λ t. entry_of (plain t)) e
 
   -- an entry's frame is in use
-  pub frame_used : (p page f : ℕ) (write was : Bool) → entry_at old.tables p page ≡ Here f write was → (f < count old) × (0 < (view old).maps f) × (is_in f (view old).free ≡ false)
+  pub frame_used : (p page f : ℕ) (write was : Bool) → old.table p page ≡ Here f write was → (f < old.frames.count) × (0 < (seen_as old).maps f) × (is_in f (seen_as old).free ≡ false)
   frame_used p page f write was e =
       let some : 0 < map_count l f = how_many-found (names_frame f) (p, page) l.entries (InFrame f was) (frame_there p page f write was e) (itself f) in
-      let below : f < count old = stands.sound.in_range f (omega (arith, some)) in
+      let below : f < old.frames.count = stands.sound.in_range f (omega (arith, some)) in
       (below, subst (λ n. 0 < n) (sym (stands.parts.frames.maps f)) some, stands.parts.frames.free f below ∙ free_is l f cache ∙ positive _ some)
     where
       positive : (n : ℕ) → 0 < n → (n == 0) ≡ false
       positive n h = grind (arith, nat_tests, h)
 
   -- an entry that is neither a frame nor empty is the page of zeros
-  zero_there : (p page : ℕ) (e : Pte) → entry_at old.tables p page ≡ e → (e ≡ Empty → ⊥) → ((f : ℕ) (write was : Bool) → e ≡ Here f write was → ⊥) → entry l (p, page) ≡ Some Zero
+  zero_there : (p page : ℕ) (e : Pte) → old.table p page ≡ e → (e ≡ Empty → ⊥) → ((f : ℕ) (write was : Bool) → e ≡ Here f write was → ⊥) → entry l (p, page) ≡ Some Zero
   zero_there p page Empty is some other = absurd (some refl)
   zero_there p page ZeroPte is some other = sym (stands.parts.tables.entries p page) ∙ ap (λ t. entry_of (plain t)) is
   zero_there p page (Here f write was) is some other = absurd (other f write was refl)
@@ -50,40 +61,40 @@ module _ (old : Mem) (l : Ledger) (stands : HasLedger old l) where
       let zero = stands.parts.swap.counts s in
       absurd (omega (arith, found, zero))
 
-  module _ (new : Mem) (p from past : ℕ) where
-    pub none_taken : ((q : ℕ) → from ≤ q → q < past → entry_at old.tables p q ≡ Empty) → entry_at new.tables ≡ entry_at old.tables → new.frames ≡ old.frames → new.spaces ≡ old.spaces → new.anons ≡ old.anons → ZapsFirst old new l p from past None
+  module _ (new : Parts) (p from past : ℕ) where
+    pub none_taken : ((q : ℕ) → from ≤ q → q < past → old.table p q ≡ Empty) → new.table ≡ old.table → new.frames ≡ old.frames → new.spaces ≡ old.spaces → new.anons ≡ old.anons → Takes old new l p from past None
     none_taken none tables frames spaces anons = (
       λ q low high. nothing_at p q (none q low high),
-      ap (λ f. frames_free (seen f).free) frames,
-      subst (λ n. SoundLedger (setting n) (view new) l) (sym (ap (λ f. (seen f).count) frames)) (subst (λ v. SoundLedger (setting (count old)) v l) (sym (view_same old new tables frames spaces anons)) stands),
+      ap (λ (f : Seen). frames_free f.free) frames,
+      subst (λ n. SoundLedger (setting n) (seen_as new) l) (sym (ap (λ (f : Seen). f.count) frames)) (subst (λ v. SoundLedger (setting old.frames.count) v l) (sym (parts_same old new tables frames spaces anons)) stands),
     )
 
-    module _ (page : ℕ) (e : Pte) (first : IsFirst (entry_at old.tables p) from past page) (is : entry_at old.tables p page ≡ e) where
+    module _ (page : ℕ) (e : Pte) (first : IsFirst (old.table p) from past page) (is : old.table p page ≡ e) where
       least : (q : ℕ) → from ≤ q → q < page → entry l (p, q) ≡ None
       least q low high = nothing_at p q (first.least q low high)
 
-      pub zero_taken : ((f : ℕ) (write was : Bool) → e ≡ Here f write was → ⊥) → entry_at new.tables ≡ with_entry p page Empty (entry_at old.tables) → new.frames ≡ old.frames → new.spaces ≡ old.spaces → new.anons ≡ old.anons → ZapsFirst old new l p from past (Some page)
+      pub zero_taken : ((f : ℕ) (write was : Bool) → e ≡ Here f write was → ⊥) → new.table ≡ with_entry p page Empty (old.table) → new.frames ≡ old.frames → new.spaces ≡ old.spaces → new.anons ≡ old.anons → Takes old new l p from past (Some page)
       zero_taken other tables frames spaces anons =
           let there = zero_there p page e is (λ none. first.there (is ∙ none)) other in (
             first.from_there,
             ap is_some there,
             least,
-            subst (Chooses (setting (count old)) None l (Zapped (p, page)) (free_of (view old))) (sym (ap (λ f. frames_free (seen f).free) frames)) (zero_freed (setting (count old)) (view old) l p page cache stands refl (λ s. refl) (λ k. refl) there),
-            subst (λ n. SoundLedger (setting n) (view new) (after_zap (p, page) l)) (sym (ap (λ f. (seen f).count) frames))
-                (subst (λ v. SoundLedger (setting (count old)) v (after_zap (p, page) l)) (sym (entry_put_in old new p page Empty tables frames spaces anons))
-                (zero_left (setting (count old)) (view old) l p page cache stands refl (λ s. refl) there)),
+            subst (Chooses (setting old.frames.count) None l (Zapped (p, page)) (free_of (seen_as old))) (sym (ap (λ (f : Seen). frames_free f.free) frames)) (zero_freed (setting old.frames.count) (seen_as old) l p page cache stands refl (λ s. refl) (λ k. refl) there),
+            subst (λ n. SoundLedger (setting n) (seen_as new) (after_zap (p, page) l)) (sym (ap (λ (f : Seen). f.count) frames))
+                (subst (λ v. SoundLedger (setting old.frames.count) v (after_zap (p, page) l)) (sym (parts_put old new p page Empty tables frames spaces anons))
+                (zero_left (setting old.frames.count) (seen_as old) l p page cache stands refl (λ s. refl) there)),
           )
 
-      pub frame_taken : (mid : Mem) (f : ℕ) (write was : Bool) → e ≡ Here f write was → entry_at mid.tables ≡ with_entry p page Empty (entry_at old.tables) → mid.frames ≡ old.frames → mid.spaces ≡ old.spaces → mid.anons ≡ old.anons
-          → view new ≡ after_unmap_frame f (view mid) → count new ≡ count old → ZapsFirst old new l p from past (Some page)
+      pub frame_taken : (mid : Parts) (f : ℕ) (write was : Bool) → e ≡ Here f write was → mid.table ≡ with_entry p page Empty (old.table) → mid.frames ≡ old.frames → mid.spaces ≡ old.spaces → mid.anons ≡ old.anons
+          → seen_as new ≡ after_unmap_frame f (seen_as mid) → new.frames.count ≡ old.frames.count → Takes old new l p from past (Some page)
       frame_taken mid f write was here tables frames spaces anons same counts =
           let there = frame_there p page f write was (is ∙ here) in
-          let seen_so : view new ≡ after_unmap_frame f (record (view old) { table = with_entry p page None (view old).table }) = same ∙ ap (after_unmap_frame f) (entry_put_in old mid p page Empty tables frames spaces anons) in (
+          let seen_so : seen_as new ≡ after_unmap_frame f (record (seen_as old) { table = with_entry p page None (seen_as old).table }) = same ∙ ap (after_unmap_frame f) (parts_put old mid p page Empty tables frames spaces anons) in (
             first.from_there,
             ap is_some there,
             least,
-            subst (Chooses (setting (count old)) None l (Zapped (p, page)) (free_of (view old))) (sym (ap free_of seen_so)) (released_freed (setting (count old)) (view old) l p page cache stands refl (λ s. refl) f was there (λ k. refl)),
-            subst (λ n. SoundLedger (setting n) (view new) (after_zap (p, page) l)) (sym counts)
-                (subst (λ v. SoundLedger (setting (count old)) v (after_zap (p, page) l)) (sym seen_so)
-                (released_left (setting (count old)) (view old) l p page cache stands refl (λ s. refl) f was there)),
+            subst (Chooses (setting old.frames.count) None l (Zapped (p, page)) (free_of (seen_as old))) (sym (ap free_of seen_so)) (released_freed (setting old.frames.count) (seen_as old) l p page cache stands refl (λ s. refl) f was there (λ k. refl)),
+            subst (λ n. SoundLedger (setting n) (seen_as new) (after_zap (p, page) l)) (sym counts)
+                (subst (λ v. SoundLedger (setting old.frames.count) v (after_zap (p, page) l)) (sym seen_so)
+                (released_left (setting old.frames.count) (seen_as old) l p page cache stands refl (λ s. refl) f was there)),
           )

@@ -16,26 +16,28 @@ use Rattle.av_plain.proofs.Zap.{entry-after_zap, range-done, range-least, zap_of
 use Rattle.av_reclaim.specs.declared.mem.Mem.{Mem}
 use Rattle.av_plain.specs.Stands.{entry_of, free_of}
 use Rattle.av_reclaim.specs.Mem.{HasLedger, count, plain, setting, view}
-use Rattle.av_reclaim.specs.Zap.{ZapsFirst, HasZapped, KeepsRest}
+use Rattle.av_reclaim.proofs.Parts.{Parts, Stand, parts_of, seen_as}
+use Rattle.av_reclaim.proofs.ZapFirst.{Takes}
+use Rattle.av_reclaim.specs.Zap.{HasZapped, KeepsRest}
 use Rattle.av_reclaim.proofs.MemLaws.{no_cache}
 
 -- those of a range below a page are gone: the events so far, and what is left to go
-pub record IsTaking (old new : Mem) (p from past next : ℕ) (first : Ledger) : Type 0 where
+pub record IsTaking (old new : Parts) (p from past next : ℕ) (first : Ledger) : Type 0 where
   pub ledger : Ledger
   pub done : List Event
-  pub stands : HasLedger new ledger
+  pub stands : Stand new ledger
   pub rest : zaps_of first (keys_in first p from (past - from)) ≡ done ++ zaps_of ledger (keys_in ledger p from (past - from))
   pub after : after_all first done ≡ ledger
-  pub free : ChoosesAll (setting (count old)) None first done (free_of (view old)) (free_of (view new))
+  pub free : ChoosesAll (setting old.frames.count) None first done (free_of (seen_as old)) (free_of (seen_as new))
   pub notes : notes_of done ≡ []
   pub low : from ≤ next
-  pub counts : count new ≡ count old
+  pub counts : new.frames.count ≡ old.frames.count
   pub none : (q : ℕ) → from ≤ q → q < next → entry ledger (p, q) ≡ None
 
-pub none_yet : (k : Mem) (p from past : ℕ) (l : Ledger) → HasLedger k l → IsTaking k k p from past from l
+pub none_yet : (k : Parts) (p from past : ℕ) (l : Ledger) → Stand k l → IsTaking k k p from past from l
 none_yet k p from past l stands = record { counts = refl; ledger = l; done = []; stands = stands; rest = refl; after = refl; free = refl; notes = refl; low = omega arith; none = λ q low high. absurd (omega (arith, low, high)) }
 
-module _ (old mid new : Mem) (p from past next page : ℕ) (first : Ledger) (t : IsTaking old mid p from past next first) (step : ZapsFirst mid new t.ledger p next past (Some page)) (high : page < past) (same : count new ≡ count mid) where
+module _ (old mid new : Parts) (p from past next page : ℕ) (first : Ledger) (t : IsTaking old mid p from past next first) (step : Takes mid new t.ledger p next past (Some page)) (high : page < past) (same : new.frames.count ≡ mid.frames.count) where
   below : (q : ℕ) → from ≤ q → q < page → entry t.ledger (p, q) ≡ None
   below q low h = by (nat_lt q next) refl
     where
@@ -73,16 +75,16 @@ module _ (old mid new : Mem) (p from past next page : ℕ) (first : Ledger) (t :
     rest = t.rest ∙ ap (λ es. t.done ++ es) (unrolled (entry t.ledger (p, page)) refl step.1)
         ∙ sym (append_assoc t.done (Zapped (p, page) ∷ []) (zaps_of (after_zap (p, page) t.ledger) (keys_in (after_zap (p, page) t.ledger) p from (past - from))));
     after = after_all-append first t.done (Zapped (p, page) ∷ []) ∙ ap (after_zap (p, page)) t.after;
-    free = chooses-append (setting (count old)) None first t.done (Zapped (p, page) ∷ []) (free_of (view old)) (free_of (view mid)) (free_of (view new)) t.free
-        (subst (λ l. ChoosesAll (setting (count old)) None l (Zapped (p, page) ∷ []) (free_of (view mid)) (free_of (view new))) (sym t.after)
-        (free_of (view new), subst (λ n. Chooses (setting n) None t.ledger (Zapped (p, page)) (free_of (view mid)) (free_of (view new))) t.counts step.3, refl));
+    free = chooses-append (setting old.frames.count) None first t.done (Zapped (p, page) ∷ []) (free_of (seen_as old)) (free_of (seen_as mid)) (free_of (seen_as new)) t.free
+        (subst (λ l. ChoosesAll (setting old.frames.count) None l (Zapped (p, page) ∷ []) (free_of (seen_as mid)) (free_of (seen_as new))) (sym t.after)
+        (free_of (seen_as new), subst (λ n. Chooses (setting n) None t.ledger (Zapped (p, page)) (free_of (seen_as mid)) (free_of (seen_as new))) t.counts step.3, refl));
     notes = notes_of-append t.done (Zapped (p, page) ∷ []) ∙ ap (λ ns. ns ++ []) t.notes;
     low = let low = above in omega (arith, low);
     counts = same ∙ t.counts;
     none = gone;
   }
 
-pub all_taken : (old mid new : Mem) (p from past next : ℕ) (first : Ledger) (t : IsTaking old mid p from past next first) → ZapsFirst mid new t.ledger p next past None → HasZapped old new first (zaps_of first (keys_in first p from (past - from)))
+pub all_taken : (old : Mem) (mid : Parts) (new : Mem) (p from past next : ℕ) (first : Ledger) (t : IsTaking (parts_of old) mid p from past next first) → Takes mid (parts_of new) t.ledger p next past None → HasZapped old new first (zaps_of first (keys_in first p from (past - from)))
 all_taken old mid new p from past next first t step =
     let whole : zaps_of first (keys_in first p from (past - from)) ≡ t.done = t.rest ∙ ap (λ es. t.done ++ es) (range-done t.ledger p from (past - from) (λ q inside. none q (lower q inside) (upper q inside) (nat_lt q next) refl)) ∙ append-nil t.done in
     record {

@@ -5,13 +5,12 @@ ghost use Rattle.av_base.specs.Words.{is_in};
 ghost use Rattle.av_plain.specs.Ledger.{Ledger};
 ghost use Rattle.av_plain.specs.Zap.{keys_in, keys_of_process, zaps_of};
 ghost use Rattle.av_reclaim.specs.Mem.{count, view, HasLedger, IsOrderly};
-ghost use Rattle.av_reclaim.specs.Zap.{after_unmap_frame, ZapsFirst, HasZapped, KeepsRest};
+ghost use Rattle.av_frames.specs.Store.{seen};
+ghost use Rattle.av_reclaim.specs.Zap.{after_release, after_unmap_frame, after_unmaps, AreInUse, ZapsFirst, HasZapped, KeepsRest};
 
 use crate::mem::Mem;
-use av_pagetable::Pte;
-
-/// The first page that no page table has: four levels of 512 entries.
-const PAST_PAGES: u64 = 1 << 36;
+use av_frames::Frames;
+use av_pagetable::{GROUP, Pte};
 
 /// Takes away all entries of a process, by rising page.
 pub fn zap_all(mem: &mut Mem, process: u16)
@@ -20,7 +19,13 @@ pub fn zap_all(mem: &mut Mem, process: u16)
         HasZapped mem.old mem.new l (zaps_of l (keys_of_process l process)) }
     ensures rest { KeepsRest mem.old mem.new }
 {
-    zap_range(mem, process, 0, PAST_PAGES);
+    let mut number = 0;
+    while let Some(page) = mem.tables.next_from(process, number * GROUP as u64) {
+        let group = mem.tables.group(process, page / GROUP as u64);
+        unmap_each(&mut mem.frames, &group);
+        number = page / GROUP as u64 + 1;
+    }
+    mem.tables.clear(process);
 }
 
 /// Takes away the entries of a process's pages from `from` to below `past`, by rising page.
@@ -62,8 +67,30 @@ fn unmap_frame(mem: &mut Mem, frame: u32)
     ensures anons { mem.new.anons ≡ mem.old.anons }
     ensures count { count mem.new ≡ count mem.old }
 {
-    mem.frames.map_down(frame);
-    if mem.frames.maps(frame) == 0 {
-        mem.frames.give(frame);
+    release(&mut mem.frames, frame);
+}
+
+/// One entry fewer names each frame that an entry of the group names, in their order.
+fn unmap_each(frames: &mut Frames, group: &[Pte; GROUP])
+    requires { AreInUse group.now (seen frames.old) }
+    ensures { seen frames.new ≡ after_unmaps group.now (seen frames.old) }
+{
+    for entry in group {
+        if let Pte::Here { frame, .. } = *entry {
+            release(frames, frame);
+        }
+    }
+}
+
+/// The same of one frame.
+fn release(frames: &mut Frames, frame: u32)
+    requires in_range { frame < (seen frames.old).count }
+    requires named { 0 < (seen frames.old).maps frame }
+    requires not_free { is_in frame frames.old.free ≡ false }
+    ensures { seen frames.new ≡ after_release frame (seen frames.old) }
+{
+    frames.map_down(frame);
+    if frames.maps(frame) == 0 {
+        frames.give(frame);
     }
 }

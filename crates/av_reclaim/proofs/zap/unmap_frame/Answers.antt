@@ -1,9 +1,13 @@
-use Rattle.std.proofs.Common.{sym, ◌∙◌}
-use Rattle.av_reclaim.proofs.ZapFrame.{released_last, released_more}
+use Rattle.std.proofs.Common.{◌∙◌, ap}
+use Rattle.av_frames.specs.Store.{Seen}
+use Rattle.av_reclaim.proofs.Parts.{parts_of, seen_as}
+use Rattle.av_reclaim.proofs.ZapFrame.{released_count, seen_released}
 use Rattle.av_reclaim.proofs.zap.unmap_frame.Goals as goal
 
-pub returns-then-maps-eq0-clause-view : goal.returns-then-maps-eq0-clause-view
-returns-then-maps-eq0-clause-view c = released_last c.args.mem.now c.map_down.new.self c.args.frame c.map_down.ensures c.requires.named c.give.new.self c.give.ensures (sym c.maps.ensures ∙ c.if-maps-eq0.true)
+pub returns-clause-view : goal.returns-clause-view
+returns-clause-view c =
+    let k = parts_of c.args.mem.now in
+    ap (λ (s : Seen). seen_as (record k { frames = s })) c.release.ensures ∙ seen_released k c.args.frame
 
-pub returns-else-maps-eq0-clause-view : goal.returns-else-maps-eq0-clause-view
-returns-else-maps-eq0-clause-view c = released_more c.args.mem.now c.map_down.new.self c.args.frame c.map_down.ensures c.requires.named (λ zero. c.if-maps-eq0.false (c.maps.ensures ∙ zero))
+pub returns-clause-count : goal.returns-clause-count
+returns-clause-count c = ap (λ (s : Seen). s.count) c.release.ensures ∙ released_count (parts_of c.args.mem.now).frames c.args.frame

@@ -1,11 +1,12 @@
 use Rattle.std.proofs.Common.{◌∙◌, refl}
+use Rattle.av_reclaim.proofs.Parts.{parts_of}
 use Rattle.av_reclaim.proofs.ZapRange.{none_yet, taken_more, all_taken, rest_rest}
 use Rattle.av_reclaim.proofs.zap.zap_range.Goals as goal
 
 pub loop-page-init : goal.loop-page-init
 loop-page-init c = record {
   orderly = c.requires.orderly;
-  taking = λ first stands. none_yet c.args.mem.now c.args.process c.args.from c.args.past first stands;
+  taking = λ first stands. none_yet (parts_of c.args.mem.now) c.args.process c.args.from c.args.past first stands;
   rest = record { processes = refl; bytes = refl; homes = refl; spaces = refl; anons = refl; count = refl };
 }
 
@@ -18,11 +19,11 @@ loop-page-preserved c =
     record {
       orderly = let o = i.orderly in let step = c.in-Some.ensures.zapped o.0 o.1 in (_, step.4);
       taking = λ first stands. let t = i.taking first stands in
-          taken_more c.args.mem.now mid new c.args.process c.args.from c.args.past c.loop-page.next page first t (c.in-Some.ensures.zapped t.ledger t.stands) c.in-Some.ensures.within.1 c.in-Some.ensures.rest.count;
+          taken_more (parts_of c.args.mem.now) (parts_of mid) (parts_of new) c.args.process c.args.from c.args.past c.loop-page.next page first t (c.in-Some.ensures.zapped t.ledger t.stands) c.in-Some.ensures.within.1 c.in-Some.ensures.rest.count;
       rest = rest_rest i.rest c.in-Some.ensures.rest;
     }
 
 pub returns-clause-zapped : goal.returns-clause-zapped
 returns-clause-zapped c = λ first stands.
     let t = c.loop-page.invariant.taking first stands in
-    all_taken c.args.mem.now c.loop-page.mem c.zap_first.new.mem c.args.process c.args.from c.args.past c.loop-page.next first t (c.in_default.ensures.zapped t.ledger t.stands)
+    all_taken c.args.mem.now (parts_of c.loop-page.mem) c.zap_first.new.mem c.args.process c.args.from c.args.past c.loop-page.next first t (c.in_default.ensures.zapped t.ledger t.stands)

@@ -2,13 +2,14 @@ use Rattle.std.proofs.Common.{◌≡◌, ◌-◌}
 use Rattle.av_plain.specs.Ledger.{Ledger}
 use Rattle.av_reclaim.specs.Mem.{HasLedger, IsOrderly}
 use Rattle.av_reclaim.specs.Zap.{KeepsRest}
+use Rattle.av_reclaim.proofs.Parts.{parts_of}
 use Rattle.av_reclaim.proofs.ZapRange.{IsTaking}
 use Rattle.av_reclaim.proofs.zap.zap_range.Given as goal
 
 abbrev pub invariant-loop-page : goal.invariant-loop-page
 invariant-loop-page l = record {
   orderly : IsOrderly l.mem;
-  taking : (first : Ledger) → HasLedger l.initial.mem first → IsTaking l.initial.mem l.mem l.process l.from l.past l.next first;
+  taking : (first : Ledger) → HasLedger l.initial.mem first → IsTaking (parts_of l.initial.mem) (parts_of l.mem) l.process l.from l.past l.next first;
   rest : KeepsRest l.initial.mem l.mem;
 }
 

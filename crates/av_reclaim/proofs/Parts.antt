@@ -1,0 +1,35 @@
+-- What the view of the memory system is put together from. Where tables are changed as a whole and frames one by one, it also says what holds in between.
+use Rattle.std.proofs.Common.{◌≡◌, ℕ}
+use Rattle.av_anon.specs.declared.anons.Anons.{Anons as AnonSet}
+use Rattle.av_frames.specs.Store.{Seen, seen}
+use Rattle.av_pagetable.specs.declared.pte.Pte.{Pte}
+use Rattle.av_pagetable.specs.Entries.{entry_at, with_entry}
+use Rattle.av_plain.specs.Ledger.{Ledger}
+use Rattle.av_plain.specs.Stands.{View}
+use Rattle.av_spaces.specs.Spaces.{AllSpaces}
+use Rattle.av_reclaim.specs.declared.mem.Mem.{Mem}
+use Rattle.av_reclaim.specs.Mem.{SoundLedger, plain, setting, view_of_parts}
+use Rattle.av_reclaim.proofs.MemLaws.{plain_set}
+
+pub record Parts : Type 0 where
+  pub frames : Seen
+  pub table : ℕ → ℕ → Pte
+  pub spaces : AllSpaces
+  pub anons : AnonSet
+
+abbrev pub seen_as : Parts → View
+seen_as k = view_of_parts k.frames (λ p page. plain (k.table p page)) k.spaces k.anons
+
+abbrev pub parts_of : Mem → Parts
+parts_of k = record { frames = seen k.frames; table = entry_at k.tables; spaces = k.spaces; anons = k.anons }
+
+-- they stand for a ledger
+abbrev pub Stand : Parts → Ledger → Type 0
+Stand k l = SoundLedger (setting k.frames.count) (seen_as k) l
+
+pub parts_same : (old new : Parts) → new.table ≡ old.table → new.frames ≡ old.frames → new.spaces ≡ old.spaces → new.anons ≡ old.anons → seen_as new ≡ seen_as old
+parts_same old new table frames spaces anons = λ i. view_of_parts (frames i) (λ p page. plain (table i p page)) (spaces i) (anons i)
+
+pub parts_put : (old new : Parts) (p page : ℕ) (e : Pte) → new.table ≡ with_entry p page e old.table → new.frames ≡ old.frames → new.spaces ≡ old.spaces → new.anons ≡ old.anons
+    → seen_as new ≡ record (seen_as old) { table = with_entry p page (plain e) (seen_as old).table }
+parts_put old new p page e table frames spaces anons = λ i. view_of_parts (frames i) (plain_set old.table new.table p page e table i) (spaces i) (anons i)

@@ -1,0 +1,168 @@
+-- The entries of a process go as a whole once their frames are released, group by group. In between, the pages below one stand for no entry, and those from
+-- it on for the ones that there were.
+use Rattle.std.proofs.Common.{◌≡◌, ℕ, suc, ◌+◌, ◌<◌, ◌≤◌, Bool, true, false, cond, ◌&&◌, List, [], ◌∷◌, length, get_or, Option, Some, None, refl, sym, ap, subst, ◌∙◌, arith, inl, inr, ◌==◌, nat_lt}
+use Rattle.std.proofs.lemmas.Bool.Decides.{nat_tests}
+use Rattle.std.proofs.lemmas.Bool.{cases_lt}
+use Rattle.av_anon.specs.declared.anons.Anons.{Anons as AnonSet}
+use Rattle.av_base.specs.Words.{with_at}
+use Rattle.av_frames.specs.Store.{Seen, seen}
+use Rattle.av_pagetable.specs.Entries.{entry_at, with_entry}
+use Rattle.av_pagetable.specs.Table.{IsFirst}
+use Rattle.av_pagetable.specs.declared.pte.Pte.{Pte}
+use Rattle.av_pagetable.specs.declared.pte.Pte.TheVariants.{Away, Empty, Here, Zero}
+use Rattle.av_plain.specs.Ledger.{InSlot, Ledger, entry, names_slot}
+use Rattle.av_plain.specs.Stands.{entry_of, free_of}
+use Rattle.av_plain.specs.Zap.{keys_in, zaps_of}
+use Rattle.av_plain.proofs.Ledger.{how_many-found}
+use Rattle.av_plain.proofs.Ledger.NoSwap.{itself}
+use Rattle.av_reclaim.specs.declared.mem.Mem.{Mem}
+use Rattle.av_reclaim.specs.Mem.{HasLedger, plain}
+use Rattle.av_reclaim.specs.Zap.{AreInUse, HasZapped, IsInUse, after_release, after_unmap, after_unmaps}
+use Rattle.av_spaces.specs.Spaces.{AllSpaces}
+use Rattle.av_reclaim.proofs.Parts.{Parts, Stand, parts_of, seen_as}
+use Rattle.av_reclaim.proofs.ZapFirst.{Takes, frame_taken, frame_used, nothing_at, zero_taken}
+use Rattle.av_reclaim.proofs.ZapFrame.{released_count, seen_released}
+use Rattle.av_reclaim.proofs.ZapRange.{IsTaking, all_taken, none_yet, taken_more}
+
+equal : (a b : ℕ) → (a == b) ≡ true → a ≡ b
+equal a b h = grind (arith, nat_tests, h)
+
+-- the table without the entries of a process's pages below one
+abbrev pub stage : ℕ → (ℕ → ℕ → Pte) → ℕ → ℕ → ℕ → Pte
+stage p old next x o = cond (x == p && nat_lt o next) Empty (old x o)
+
+module _ (p : ℕ) (old : ℕ → ℕ → Pte) where
+  still : (next o : ℕ) → next ≤ o → stage p old next p o ≡ old p o
+  still next o high = by (p == p)
+    where
+      above : nat_lt o next ≡ false
+      above = grind (arith, nat_tests, high)
+
+      by : (b : Bool) → cond (b && nat_lt o next) Empty (old p o) ≡ old p o
+      by true = ap (λ b. cond b Empty (old p o)) above
+      by false = refl
+
+  -- the entry of one page more
+  stage_next : (page : ℕ) → stage p old (page + 1) ≡ with_entry p page Empty (stage p old page)
+  stage_next page = λ i x o. by x o (x == p) (o == page) refl i
+    where
+      by : (x o : ℕ) (b c : Bool) → (o == page) ≡ c → cond (b && nat_lt o (page + 1)) Empty (old x o) ≡ cond (b && c) Empty (cond (b && nat_lt o page) Empty (old x o))
+      by x o false c k = refl
+      by x o true true k = let low : nat_lt o (page + 1) ≡ true = grind (arith, nat_tests, k) in ap (λ b. cond b Empty (old x o)) low
+      by x o true false k = let same : nat_lt o (page + 1) ≡ nat_lt o page = grind (arith, nat_tests, k) in ap (λ b. cond b Empty (old x o)) same
+
+  -- nothing changes over pages without an entry
+  skip : (next next' : ℕ) → next ≤ next' → ((o : ℕ) → next ≤ o → o < next' → old p o ≡ Empty) → stage p old next' ≡ stage p old next
+  skip next next' le none = λ i x o. by x o (x == p) refl i
+    where
+      by : (x o : ℕ) (b : Bool) → (x == p) ≡ b → cond (b && nat_lt o next') Empty (old x o) ≡ cond (b && nat_lt o next) Empty (old x o)
+      by x o false k = refl
+      by x o true k = elim (cases_lt o next) [
+        | inl lt ↦ (let b : nat_lt o next' ≡ nat_lt o next = grind (arith, nat_tests, lt, le) in ap (λ b. cond b Empty (old x o)) b)
+        | inr ge ↦ elim (cases_lt o next') [
+          | inl lt ↦
+              (let b : nat_lt o next' ≡ true = grind (arith, nat_tests, lt) in ap (λ b. cond b Empty (old x o)) b)
+              ∙ sym (ap (λ x. old x o) (equal x p k) ∙ none o ge lt)
+              ∙ sym (let c : nat_lt o next ≡ false = grind (arith, nat_tests, ge) in ap (λ b. cond b Empty (old x o)) c)
+          | inr over ↦ (let b : nat_lt o next' ≡ nat_lt o next = grind (arith, nat_tests, over, ge) in ap (λ b. cond b Empty (old x o)) b)
+        ]
+      ]
+
+  module _ (first_parts : Parts) (spaces : AllSpaces) (anons : AnonSet) (past : ℕ) (first : Ledger) where
+    abbrev parts : Seen → ℕ → Parts
+    parts frames next = record { frames = frames; table = stage p old next; spaces = spaces; anons = anons }
+
+    -- those below a page are gone
+    abbrev pub IsZapping : Seen → ℕ → Type 0
+    IsZapping frames next = IsTaking first_parts (parts frames next) p 0 past next first
+
+    pub skip_to : (frames : Seen) (next next' : ℕ) → next ≤ next' → ((o : ℕ) → next ≤ o → o < next' → old p o ≡ Empty) → IsZapping frames next → IsZapping frames next'
+    skip_to frames next next' le none t = record (subst (λ (table : ℕ → ℕ → Pte). IsTaking first_parts (record { frames = frames; table = table; spaces = spaces; anons = anons }) p 0 past next first) (sym (skip next next' le none)) t) {
+      low = omega arith;
+      none = λ q low high. elim (cases_lt q next) [
+        | inl lt ↦ t.none q low lt
+        | inr ge ↦ nothing_at (parts frames next) t.ledger t.stands p q (still next q ge ∙ none q ge high)
+      ];
+    }
+
+    one_page : (frames : Seen) (page : ℕ) → page < past → IsZapping frames page → IsInUse (old p page) frames × IsZapping (after_unmap (old p page) frames) (page + 1)
+    one_page frames page below t = by (old p page) refl
+      where
+        mid : Parts
+        mid = parts frames page
+
+        here : mid.table p page ≡ old p page
+        here = still page page (omega arith)
+
+        is : (old p page ≡ Empty → ⊥) → IsFirst (mid.table p) page past page
+        is some = record {
+          from_there = omega arith;
+          below = below;
+          there = λ none. some (sym here ∙ none);
+          least = λ o low high. absurd (omega (arith, low, high));
+        }
+
+        by : (e : Pte) → old p page ≡ e → IsInUse e frames × IsZapping (after_unmap e frames) (page + 1)
+        by Empty e = (tt, skip_to frames page (page + 1) (omega arith) (λ o low high. ap (old p) (let same : o ≡ page = omega (arith, low, high) in same) ∙ e) t)
+        by Zero e = (tt, taken_more first_parts mid (parts frames (page + 1)) p 0 past page page first t
+            (zero_taken mid t.ledger t.stands (parts frames (page + 1)) p page past page Zero (is (λ none. let no : Zero ≡ Empty = sym e ∙ none in cc)) (here ∙ e) (λ f write was h. cc) (stage_next page) refl refl refl)
+            below refl)
+        by (Here f write was) e = (
+          frame_used mid t.ledger t.stands p page f write was (here ∙ e),
+          taken_more first_parts mid (parts (after_release f frames) (page + 1)) p 0 past page page first t
+              (frame_taken mid t.ledger t.stands (parts (after_release f frames) (page + 1)) p page past page (Here f write was) (is (λ none. let no : Here f write was ≡ Empty = sym e ∙ none in cc)) (here ∙ e)
+              (parts frames (page + 1)) f write was refl (stage_next page) refl refl refl (seen_released (parts frames (page + 1)) f) (released_count frames f))
+              below (released_count frames f),
+        )
+        by (Away s) e =
+            let named : entry t.ledger (p, page) ≡ Some (InSlot s) = sym (t.stands.parts.tables.entries p page) ∙ ap (λ t. entry_of (plain t)) (here ∙ e) in
+            let found = how_many-found (names_slot s) (p, page) t.ledger.entries (InSlot s) named (λ i. itself s.area i && itself s.page i) in
+            let zero = t.stands.parts.swap.counts s in
+            absurd (omega (arith, found, zero))
+
+    pub whole_group : (group : List Pte) (frames : Seen) (page : ℕ) → page + length group ≤ past → ((i : ℕ) → i < length group → get_or group i Empty ≡ old p (page + i)) → IsZapping frames page
+        → AreInUse group frames × IsZapping (after_unmaps group frames) (page + length group)
+    whole_group [] frames page below are t = (tt, subst (IsZapping frames) (let same : page ≡ page + 0 = omega arith in same) t)
+    whole_group (e ∷ es) frames page below are t =
+        let one = one_page frames page (omega (arith, below)) t in
+        let here : old p page ≡ e = ap (old p) (let same : page ≡ page + 0 = omega arith in same) ∙ sym (are 0 (omega arith)) in
+        let rest = whole_group es (after_unmap e frames) (page + 1) (omega (arith, below))
+            (λ i low. are (suc i) (omega (arith, low)) ∙ ap (old p) (let same : page + suc i ≡ page + 1 + i = omega arith in same))
+            (subst (λ e. IsZapping (after_unmap e frames) (page + 1)) here one.1) in (
+          (subst (λ e. IsInUse e frames) here one.0, rest.0),
+          subst (IsZapping (after_unmaps es (after_unmap e frames))) (let same : page + 1 + length es ≡ page + length (e ∷ es) = omega arith in same) rest.1,
+        )
+
+-- nothing has gone yet
+pub none_gone : (k : Mem) (p past : ℕ) (l : Ledger) → HasLedger k l → IsZapping p (entry_at k.tables) (parts_of k) k.spaces k.anons past l (seen k.frames) 0
+none_gone k p past l stands =
+    subst (λ (table : ℕ → ℕ → Pte). IsTaking (parts_of k) (record { frames = seen k.frames; table = table; spaces = k.spaces; anons = k.anons }) p 0 past 0 l)
+    (λ i x o. by x o (x == p) i) (none_yet (parts_of k) p 0 past l stands)
+  where
+    by : (x o : ℕ) (b : Bool) → entry_at k.tables x o ≡ cond (b && nat_lt o 0) Empty (entry_at k.tables x o)
+    by x o true = let above : nat_lt o 0 ≡ false = grind (arith, nat_tests) in sym (ap (λ b. cond b Empty (entry_at k.tables x o)) above)
+    by x o false = refl
+
+-- where no entry is left from a page on, all have gone
+pub all_gone_at : (old mid new : Mem) (p next past : ℕ) (first : Ledger) → IsZapping p (entry_at old.tables) (parts_of old) mid.spaces mid.anons past first (seen mid.frames) next
+    → ((o : ℕ) → next ≤ o → entry_at old.tables p o ≡ Empty) → entry_at new.tables ≡ with_at p (λ o. Empty) (entry_at old.tables)
+    → new.frames ≡ mid.frames → new.spaces ≡ mid.spaces → new.anons ≡ mid.anons → HasZapped old new first (zaps_of first (keys_in first p 0 past))
+all_gone_at old mid new p next past first t over tables frames spaces anons =
+    all_taken old (record { frames = seen mid.frames; table = stage p (entry_at old.tables) next; spaces = mid.spaces; anons = mid.anons }) new p 0 past next first t (
+      λ q low high. nothing_at (record { frames = seen mid.frames; table = stage p (entry_at old.tables) next; spaces = mid.spaces; anons = mid.anons }) t.ledger t.stands p q (still p (entry_at old.tables) next q low ∙ over q low),
+      ap (λ k. free_of (seen_as k)) (sym same),
+      subst (λ k. Stand k t.ledger) same t.stands,
+    )
+  where
+    point : (x o : ℕ) (b : Bool) → (x == p) ≡ b → cond (b && nat_lt o next) Empty (entry_at old.tables x o) ≡ cond b (λ o. Empty) (entry_at old.tables x) o
+    point x o false k = refl
+    point x o true k = elim (cases_lt o next) [
+      | inl lt ↦ (let b : nat_lt o next ≡ true = grind (arith, nat_tests, lt) in ap (λ b. cond b Empty (entry_at old.tables x o)) b)
+      | inr ge ↦ (let b : nat_lt o next ≡ false = grind (arith, nat_tests, ge) in ap (λ b. cond b Empty (entry_at old.tables x o)) b) ∙ ap (λ x. entry_at old.tables x o) (equal x p k) ∙ over o ge
+    ]
+
+    whole : stage p (entry_at old.tables) next ≡ entry_at new.tables
+    whole = (λ i x o. point x o (x == p) refl i) ∙ sym tables
+
+    same : ◌≡◌ {A = Parts} (record { frames = seen mid.frames; table = stage p (entry_at old.tables) next; spaces = mid.spaces; anons = mid.anons }) (parts_of new)
+    same = λ i. record { frames = seen (sym frames i); table = whole i; spaces = sym spaces i; anons = sym anons i }

@@ -1,0 +1,22 @@
+use Rattle.std.proofs.Common.{◌≡◌, ◌-◌, ◌*◌, ◌≤◌}
+use Rattle.av_frames.specs.Store.{seen}
+use Rattle.av_pagetable.specs.Entries.{entry_at}
+use Rattle.av_pagetable.specs.Table.{page_bound}
+use Rattle.av_plain.specs.Ledger.{Ledger}
+use Rattle.av_reclaim.specs.Mem.{HasLedger}
+use Rattle.av_reclaim.specs.Zap.{KeepsRest}
+use Rattle.av_reclaim.proofs.Parts.{parts_of}
+use Rattle.av_reclaim.proofs.ZapGroup.{IsZapping}
+use Rattle.av_reclaim.proofs.zap.zap_all.Given as goal
+
+abbrev pub invariant-loop-page : goal.invariant-loop-page
+invariant-loop-page l = record {
+  within : l.number * 64 ≤ page_bound;
+  tables : l.mem.tables ≡ l.fn.mem.tables;
+  zapping : (first : Ledger) → HasLedger l.fn.mem first
+      → IsZapping l.process (entry_at l.fn.mem.tables) (parts_of l.fn.mem) l.mem.spaces l.mem.anons page_bound first (seen l.mem.frames) (l.number * 64);
+  rest : KeepsRest l.fn.mem l.mem;
+}
+
+abbrev pub decreases-loop-page : goal.decreases-loop-page
+decreases-loop-page l = page_bound - l.number * 64
