@@ -9,8 +9,6 @@ use Rattle.std.specs.Ordering.{is_lt}
 use Rattle.av_base.specs.declared.slot.Slot.{Slot}
 use Rattle.av_pagetable.specs.declared.pte.Pte.{Pte}
 use Rattle.av_pagetable.specs.declared.pte.Pte.TheVariants.{Away, Empty, Here, Zero as ZeroPte}
-use Rattle.av_anon.specs.declared.anons.Anons.{Anons as AnonSet}
-use Rattle.av_frames.specs.Store.{Seen, seen}
 use Rattle.av_pagetable.specs.Entries.{entry_at}
 use Rattle.av_pagetable.specs.Table.{IsFirst, page_bound}
 use Rattle.av_plain.specs.Choice.{Chooses}
@@ -18,14 +16,13 @@ use Rattle.av_plain.specs.Event.{Event, Forked, Inherited, after, is_inherited, 
 use Rattle.av_plain.specs.Fork.{inherited}
 use Rattle.av_plain.specs.Ledger.{Entry, InSlot, Key, Ledger, Setting, entry, key_cmp, names_slot}
 use Rattle.av_plain.specs.Sound.{uses}
-use Rattle.av_plain.specs.Stands.{View, entry_of, free_of}
+use Rattle.av_plain.specs.Stands.{entry_of, free_of}
 use Rattle.av_plain.proofs.Choice.{chooses-kept, new_free-none, no-slot-chosen}
 use Rattle.av_plain.proofs.Ledger.{entry-set, how_many-found, same_key, same_key-is, same_key-itself}
 use Rattle.av_plain.proofs.Ledger.NoSwap.{itself}
 use Rattle.av_plain.proofs.Ledger.Order.{both_first, both_second, is_less}
 use Rattle.av_reclaim.specs.declared.mem.Mem.{Mem}
-use Rattle.av_reclaim.specs.Mem.{HasLedger, SoundLedger, count, plain, setting, view, view_of_parts}
-use Rattle.av_spaces.specs.Spaces.{AllSpaces}
+use Rattle.av_reclaim.specs.Mem.{HasLedger, SoundLedger, count, plain, setting, view}
 use Rattle.av_reclaim.proofs.MemLaws.{no_cache}
 use Rattle.av_reclaim.proofs.Parts.{Parts, Stand, parts_of, seen_as}
 use Rattle.av_fork.specs.Entries.{HasForked, after_fork_entry}

@@ -1,10 +1,9 @@
 -- A function is applied to the entries of a table, the least page first: to a copy, or in place.
-use Rattle.std.proofs.Common.{◌≡◌, ◌≢◌, ℕ, ◌+◌, ◌<◌, ◌≤◌, List, length, get_or, slice_set, get_or-set_same, get_or-set_other, sym, ap, ◌∙◌, arith, inl, inr}
+use Rattle.std.proofs.Common.{◌≡◌, ℕ, ◌+◌, ◌<◌, ◌≤◌, List, length, get_or, slice_set, get_or-set_same, get_or-set_other, sym, ap, ◌∙◌, arith, inl, inr}
 use Rattle.std.proofs.lemmas.Bool.{cases_eq, cases_lt}
 use Rattle.av_base.specs.Words.{with_at}
 use Rattle.av_pagetable.specs.declared.pte.Pte.{Pte}
 use Rattle.av_pagetable.specs.declared.pte.Pte.TheVariants.{Empty}
-use Rattle.av_pagetable.specs.Table.{IsFirst}
 use Rattle.av_pagetable.proofs.DirEntries.{with_at_same, with_at_other}
 
 -- below a page the new table has the function's values, and from it on what there was

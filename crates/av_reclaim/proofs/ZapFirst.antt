@@ -1,17 +1,16 @@
 -- The entry of the least page of a range is taken away, or there is none.
-use Rattle.std.proofs.Common.{◌≡◌, ℕ, ◌<◌, ◌≤◌, Bool, true, false, ◌&&◌, [], Option, Some, None, refl, sym, ap, subst, ◌∙◌, arith, ◌==◌, is_some, option_map}
+use Rattle.std.proofs.Common.{◌≡◌, ℕ, ◌<◌, ◌≤◌, Bool, true, false, ◌&&◌, [], Option, Some, None, refl, sym, ap, subst, ◌∙◌, arith, ◌==◌, is_some}
 use Rattle.std.proofs.lemmas.Bool.Decides.{nat_tests}
-use Rattle.std.specs.Ordering.{nat_cmp}
 use Rattle.av_base.specs.Words.{is_in}
 use Rattle.av_frames.specs.Store.{Seen}
 use Rattle.av_pagetable.specs.declared.pte.Pte.{Pte}
 use Rattle.av_pagetable.specs.declared.pte.Pte.TheVariants.{Empty, Zero as ZeroPte, Here, Away}
-use Rattle.av_pagetable.specs.Table.{IsFirst, page_bound, or_empty, entry_in}
-use Rattle.av_pagetable.specs.Entries.{entry_at, at_page, with_entry}
+use Rattle.av_pagetable.specs.Table.{IsFirst}
+use Rattle.av_pagetable.specs.Entries.{with_entry}
 use Rattle.av_plain.specs.Ledger.{Ledger, Zero, InFrame, InSlot, entry, map_count, names_frame, names_slot}
 use Rattle.av_plain.specs.Choice.{Chooses}
 use Rattle.av_plain.specs.Event.{Zapped, after_zap}
-use Rattle.av_plain.specs.Stands.{View, entry_of, free_of}
+use Rattle.av_plain.specs.Stands.{entry_of, free_of}
 use Rattle.av_plain.proofs.Ledger.{how_many-found}
 use Rattle.av_plain.proofs.Ledger.NoSwap.{itself, free_is}
 use Rattle.av_reclaim.specs.Mem.{setting, plain, SoundLedger}

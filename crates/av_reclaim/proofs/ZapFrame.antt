@@ -1,11 +1,10 @@
 -- The frames after one entry fewer names one, and after the entries of a group have gone.
-use Rattle.std.proofs.Common.{◌≡◌, ◌≢◌, ℕ, suc, zero, ◌+◌, ◌-◌, ◌<◌, true, false, Bool, cond, List, [], ◌∷◌, length, drop, get_or, refl, sym, ap, subst, ◌∙◌, arith, ◌==◌}
+use Rattle.std.proofs.Common.{◌≡◌, ◌≢◌, ℕ, suc, zero, ◌+◌, ◌-◌, ◌<◌, ◌≤◌, true, false, Bool, cond, List, [], ◌∷◌, length, drop, get_or, refl, sym, ap, subst, ◌∙◌, arith, ◌==◌}
 use Rattle.std.proofs.lemmas.Bool.Decides.{nat_tests}
 use Rattle.av_base.specs.Words.{is_in, with_at}
-use Rattle.av_frames.specs.Store.{Seen, seen}
+use Rattle.av_frames.specs.Store.{Seen}
 use Rattle.av_pagetable.specs.declared.pte.Pte.{Pte}
 use Rattle.av_pagetable.specs.declared.pte.Pte.TheVariants.{Away, Empty, Here, Zero}
-use Rattle.av_plain.specs.Stands.{View}
 use Rattle.av_plain.proofs.Ledger.NoSwap.{itself}
 use Rattle.av_reclaim.specs.Zap.{AreInUse, IsInUse, after_release, after_unmap, after_unmap_frame, after_unmaps}
 use Rattle.av_reclaim.proofs.Parts.{Parts, seen_as}
@@ -16,10 +15,10 @@ module _ (old mid : Seen) (f : ℕ) (down : mid ≡ record old { maps = with_at 
 
   -- that was the last, and the frame is given back
   pub released_last : (new : Seen) → new ≡ record mid { free = f ∷ mid.free } → mid.maps f ≡ 0 → new ≡ after_release f old
-  released_last new given zero =
+  released_last new given last =
       given ∙ ap (λ (s : Seen). record s { free = f ∷ s.free }) down
       ∙ sym (ap (λ b. cond b (record old { maps = with_at f (old.maps f - 1) old.maps; free = f ∷ old.free }) (record old { maps = with_at f (old.maps f - 1) old.maps }))
-      (one _ _ some left zero))
+      (one _ _ some left last))
     where
       one : (n k : ℕ) → 0 < n → k ≡ n - 1 → k ≡ 0 → (n == 1) ≡ true
       one n k h e z = grind (arith, nat_tests, h, e, z)

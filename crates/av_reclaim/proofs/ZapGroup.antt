@@ -1,6 +1,6 @@
 -- The entries of a process go as a whole once their frames are released, group by group. In between, the pages below one stand for no entry, and those from
 -- it on for the ones that there were.
-use Rattle.std.proofs.Common.{◌≡◌, ℕ, suc, ◌+◌, ◌<◌, ◌≤◌, Bool, true, false, cond, ◌&&◌, List, [], ◌∷◌, length, get_or, Option, Some, None, refl, sym, ap, subst, ◌∙◌, arith, inl, inr, ◌==◌, nat_lt}
+use Rattle.std.proofs.Common.{◌≡◌, ℕ, suc, ◌+◌, ◌-◌, ◌<◌, ◌≤◌, Bool, true, false, cond, ◌&&◌, List, [], ◌∷◌, length, get_or, Some, refl, sym, ap, subst, ◌∙◌, arith, inl, inr, ◌==◌, nat_lt}
 use Rattle.std.proofs.lemmas.Bool.Decides.{nat_tests}
 use Rattle.std.proofs.lemmas.Bool.{cases_lt}
 use Rattle.av_anon.specs.declared.anons.Anons.{Anons as AnonSet}
@@ -20,7 +20,7 @@ use Rattle.av_reclaim.specs.Mem.{HasLedger, plain}
 use Rattle.av_reclaim.specs.Zap.{AreInUse, HasZapped, IsInUse, after_release, after_unmap, after_unmaps}
 use Rattle.av_spaces.specs.Spaces.{AllSpaces}
 use Rattle.av_reclaim.proofs.Parts.{Parts, Stand, parts_of, seen_as}
-use Rattle.av_reclaim.proofs.ZapFirst.{Takes, frame_taken, frame_used, nothing_at, zero_taken}
+use Rattle.av_reclaim.proofs.ZapFirst.{frame_taken, frame_used, nothing_at, zero_taken}
 use Rattle.av_reclaim.proofs.ZapFrame.{released_count, seen_released}
 use Rattle.av_reclaim.proofs.ZapRange.{IsTaking, all_taken, none_yet, taken_more}
 
@@ -77,8 +77,16 @@ module _ (p : ℕ) (old : ℕ → ℕ → Pte) where
     IsZapping frames next = IsTaking first_parts (parts frames next) p 0 past next first
 
     pub skip_to : (frames : Seen) (next next' : ℕ) → next ≤ next' → ((o : ℕ) → next ≤ o → o < next' → old p o ≡ Empty) → IsZapping frames next → IsZapping frames next'
-    skip_to frames next next' le none t = record (subst (λ (table : ℕ → ℕ → Pte). IsTaking first_parts (record { frames = frames; table = table; spaces = spaces; anons = anons }) p 0 past next first) (sym (skip next next' le none)) t) {
+    skip_to frames next next' le none t = record {
+      ledger = t.ledger;
+      done = t.done;
+      stands = subst (λ (table : ℕ → ℕ → Pte). Stand (record { frames = frames; table = table; spaces = spaces; anons = anons }) t.ledger) (sym (skip next next' le none)) t.stands;
+      rest = t.rest;
+      after = t.after;
+      free = t.free;
+      notes = t.notes;
       low = omega arith;
+      counts = t.counts;
       none = λ q low high. elim (cases_lt q next) [
         | inl lt ↦ t.none q low lt
         | inr ge ↦ nothing_at (parts frames next) t.ledger t.stands p q (still next q ge ∙ none q ge high)
@@ -104,9 +112,12 @@ module _ (p : ℕ) (old : ℕ → ℕ → Pte) where
 
         by : (e : Pte) → old p page ≡ e → IsInUse e frames × IsZapping (after_unmap e frames) (page + 1)
         by Empty e = (tt, skip_to frames page (page + 1) (omega arith) (λ o low high. ap (old p) (let same : o ≡ page = omega (arith, low, high) in same) ∙ e) t)
-        by Zero e = (tt, taken_more first_parts mid (parts frames (page + 1)) p 0 past page page first t
-            (zero_taken mid t.ledger t.stands (parts frames (page + 1)) p page past page Zero (is (λ none. let no : Zero ≡ Empty = sym e ∙ none in cc)) (here ∙ e) (λ f write was h. cc) (stage_next page) refl refl refl)
-            below refl)
+        by Zero e = (
+          tt,
+          taken_more first_parts mid (parts frames (page + 1)) p 0 past page page first t
+              (zero_taken mid t.ledger t.stands (parts frames (page + 1)) p page past page Zero (is (λ none. let no : Zero ≡ Empty = sym e ∙ none in cc)) (here ∙ e) (λ f write was h. cc) (stage_next page) refl refl refl)
+              below refl,
+        )
         by (Here f write was) e = (
           frame_used mid t.ledger t.stands p page f write was (here ∙ e),
           taken_more first_parts mid (parts (after_release f frames) (page + 1)) p 0 past page page first t
@@ -127,8 +138,8 @@ module _ (p : ℕ) (old : ℕ → ℕ → Pte) where
         let one = one_page frames page (omega (arith, below)) t in
         let here : old p page ≡ e = ap (old p) (let same : page ≡ page + 0 = omega arith in same) ∙ sym (are 0 (omega arith)) in
         let rest = whole_group es (after_unmap e frames) (page + 1) (omega (arith, below))
-            (λ i low. are (suc i) (omega (arith, low)) ∙ ap (old p) (let same : page + suc i ≡ page + 1 + i = omega arith in same))
-            (subst (λ e. IsZapping (after_unmap e frames) (page + 1)) here one.1) in (
+        (λ i low. are (suc i) (omega (arith, low)) ∙ ap (old p) (let same : page + suc i ≡ page + 1 + i = omega arith in same))
+        (subst (λ e. IsZapping (after_unmap e frames) (page + 1)) here one.1) in (
           (subst (λ e. IsInUse e frames) here one.0, rest.0),
           subst (IsZapping (after_unmaps es (after_unmap e frames))) (let same : page + 1 + length es ≡ page + length (e ∷ es) = omega arith in same) rest.1,
         )
@@ -146,7 +157,7 @@ none_gone k p past l stands =
 -- where no entry is left from a page on, all have gone
 pub all_gone_at : (old mid new : Mem) (p next past : ℕ) (first : Ledger) → IsZapping p (entry_at old.tables) (parts_of old) mid.spaces mid.anons past first (seen mid.frames) next
     → ((o : ℕ) → next ≤ o → entry_at old.tables p o ≡ Empty) → entry_at new.tables ≡ with_at p (λ o. Empty) (entry_at old.tables)
-    → new.frames ≡ mid.frames → new.spaces ≡ mid.spaces → new.anons ≡ mid.anons → HasZapped old new first (zaps_of first (keys_in first p 0 past))
+    → new.frames ≡ mid.frames → new.spaces ≡ mid.spaces → new.anons ≡ mid.anons → HasZapped old new first (zaps_of first (keys_in first p 0 (past - 0)))
 all_gone_at old mid new p next past first t over tables frames spaces anons =
     all_taken old (record { frames = seen mid.frames; table = stage p (entry_at old.tables) next; spaces = mid.spaces; anons = mid.anons }) new p 0 past next first t (
       λ q low high. nothing_at (record { frames = seen mid.frames; table = stage p (entry_at old.tables) next; spaces = mid.spaces; anons = mid.anons }) t.ledger t.stands p q (still p (entry_at old.tables) next q low ∙ over q low),

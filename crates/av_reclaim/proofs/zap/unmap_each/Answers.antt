@@ -1,5 +1,5 @@
-use Rattle.std.proofs.Common.{◌≡◌, ◌+◌, ◌≤◌, ◌∙◌, ap, arith, length, refl, subst, sym}
-use Rattle.av_frames.specs.Store.{Seen, seen}
+use Rattle.std.proofs.Common.{◌+◌, ◌≤◌, ◌∙◌, ap, arith, length, refl, subst, sym}
+use Rattle.av_frames.specs.Store.{seen}
 use Rattle.av_reclaim.specs.Zap.{after_unmaps}
 use Rattle.av_reclaim.proofs.ZapFrame.{AreLeft, frame_in_use, next_other, next_released, none_left}
 use Rattle.av_reclaim.proofs.zap.unmap_each.Goals.{in-Here, in_default}

@@ -1,4 +1,4 @@
-use Rattle.std.proofs.Common.{◌≡◌, ℕ, ◌+◌, ◌*◌, ◌/◌, ◌<◌, ◌≤◌, ◌∙◌, ap, arith, length, refl, subst, sym}
+use Rattle.std.proofs.Common.{◌≡◌, ℕ, ◌+◌, ◌*◌, ◌/◌, ◌≤◌, ◌∙◌, ap, arith, length, refl, subst, sym}
 use Rattle.std.proofs.lemmas.Nat.{div-add-mod', le-div}
 use Rattle.av_base.specs.Words.{with_at}
 use Rattle.av_frames.specs.Store.{Seen, seen}
@@ -6,7 +6,6 @@ use Rattle.av_pagetable.specs.Entries.{entry_at}
 use Rattle.av_pagetable.specs.Table.{page_bound}
 use Rattle.av_pagetable.specs.declared.pte.Pte.{Pte}
 use Rattle.av_pagetable.specs.declared.pte.Pte.TheVariants.{Empty}
-use Rattle.av_reclaim.specs.Zap.{AreInUse}
 use Rattle.av_reclaim.proofs.Parts.{parts_of}
 use Rattle.av_reclaim.proofs.ZapFrame.{all_same}
 use Rattle.av_reclaim.proofs.ZapGroup.{IsZapping, all_gone_at, none_gone, skip_to, whole_group}

@@ -1,4 +1,4 @@
-use Rattle.std.proofs.Common.{◌∙◌, refl}
+use Rattle.std.proofs.Common.{refl}
 use Rattle.av_reclaim.proofs.Parts.{parts_of}
 use Rattle.av_reclaim.proofs.ZapRange.{none_yet, taken_more, all_taken, rest_rest}
 use Rattle.av_reclaim.proofs.zap.zap_range.Goals as goal

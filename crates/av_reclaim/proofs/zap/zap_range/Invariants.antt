@@ -1,4 +1,4 @@
-use Rattle.std.proofs.Common.{◌≡◌, ◌-◌}
+use Rattle.std.proofs.Common.{◌-◌}
 use Rattle.av_plain.specs.Ledger.{Ledger}
 use Rattle.av_reclaim.specs.Mem.{HasLedger, IsOrderly}
 use Rattle.av_reclaim.specs.Zap.{KeepsRest}

@@ -1,4 +1,4 @@
-use Rattle.std.proofs.Common.{◌∙◌, ap, arith}
+use Rattle.std.proofs.Common.{[], ◌∙◌, ap, arith}
 use Rattle.av_pagetable.proofs.DirEntries.{no_entries}
 use Rattle.av_pagetable.proofs.Leaf.{in_top, in_upper}
 use Rattle.av_pagetable.proofs.radix.RadixTableTable.clear.Goals as goal

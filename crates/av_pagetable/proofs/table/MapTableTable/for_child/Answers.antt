@@ -1,4 +1,4 @@
-use Rattle.std.proofs.Common.{◌≡◌, ℕ, ◌+◌, ◌<◌, ◌≤◌, ◌∙◌, ap, arith, refl}
+use Rattle.std.proofs.Common.{◌∙◌, ap, arith, refl}
 use Rattle.av_base.specs.Words.{with_at}
 use Rattle.av_pagetable.specs.Dir.{no_entry}
 use Rattle.av_pagetable.specs.Table.{child_entry, entry_in}

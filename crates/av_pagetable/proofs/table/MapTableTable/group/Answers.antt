@@ -1,4 +1,4 @@
-use Rattle.std.proofs.Common.{◌≡◌, ◌+◌, ◌*◌, ◌∙◌, arith, length-set}
+use Rattle.std.proofs.Common.{◌+◌, ◌*◌, ◌∙◌, arith, length-set}
 use Rattle.av_pagetable.specs.Table.{entry_in}
 use Rattle.av_pagetable.proofs.Pass.{one_filled}
 use Rattle.av_pagetable.proofs.table.MapTableTable.group.Goals as goal
