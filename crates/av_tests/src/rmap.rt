@@ -1,16 +1,22 @@
-ghost use Rattle.std.specs.Prelude.{◌≡◌, ℕ, ◌+◌, ◌<◌, ◌++◌, [], ◌∷◌, None, Some, IfOk, OnOk};
+ghost use Rattle.std.specs.Prelude.{◌≡◌, ℕ, ◌+◌, ◌<◌, ◌≤◌, ◌++◌, List, [], ◌∷◌, length, None, Some, IfOk, OnOk};
 ghost use Rattle.av_anon.specs.Anons.{family, own_of};
 ghost use Rattle.av_anon.specs.Order.{IsArea};
-ghost use Rattle.av_base.specs.Words.{with_at};
+ghost use Rattle.av_base.specs.Words.{how_many, with_at};
+ghost use Rattle.av_interval.specs.Search.{overlaps};
 ghost use Rattle.av_merge.specs.Kin.{AreInOrder};
+ghost use Rattle.av_rmap.specs.Covered.{IsCovered};
+ghost use Rattle.av_rmap.specs.View.{AreApart, AreSpanned};
+ghost use Rattle.av_rmap.specs.Walk.{AreItsEntries, Key};
 ghost use Rattle.av_vma.specs.Areas.{area_of};
 
 use av_anon::Anons;
 use av_anon::order::nobody_is_in_order;
 use av_base::{Prot, Steps};
 use av_pagetable::{PageTable, Pte, Tables};
+use av_rmap::look::LookMut;
+use av_rmap::seen::{any_seen, clear_seen};
 use av_rmap::sorted::walk_sorted;
-use av_rmap::stores::Stores;
+use av_rmap::stores::StoresMut;
 use av_vma::{Area, AreaId, Areas};
 use std::alloc::{AllocError, Global};
 use std::marker::Brand;
@@ -91,12 +97,56 @@ fn add_like(
     Ok(id)
 }
 
-/// The walk of a frame that two processes have on their page 11. Three areas are linked to the
-/// anon_vma of its home, and two of them hold its index.
-fn walk_shared<L: Ledger>(
+/// What is found of a frame: its entries, and whether one of them is seen, before and after the
+/// seen bits are cleared.
+type Found = (Vec<(u16, u64)>, (bool, bool));
+
+/// Whether a frame was accessed, and whether it still says so when its seen bits are cleared.
+fn seen_and_then<K: LookMut, L: Ledger>(
+    look: &mut K,
+    frame: u32,
+    home: (u64, u64),
+    blank: Blank,
+) -> (bool, bool)
+    requires spanned { AreSpanned (K.view look.old) }
+    requires apart { AreApart (K.view look.old) }
+    requires covered { IsCovered (K.view look.old) frame home }
+    requires name { blank.name ≡ L.name }
+    requires parts { blank.parts ≡ L.parts }
+    requires some { 0 < blank.parts }
+{
+    let mut steps = Steps::<L>::open(blank);
+    let before = any_seen(look, frame, home, &mut steps);
+    clear_seen(look, frame, home, &mut steps);
+    let after = any_seen(look, frame, home, &mut steps);
+    (before, after)
+}
+
+/// Walks a frame with `count` entries, and asks whether it was accessed.
+fn ask<K: LookMut, L: Ledger>(
     alloc: Global,
+    look: &mut K,
+    frame: u32,
+    home: (u64, u64),
+    count: u64,
     steps: &mut Steps<L>,
-) -> Result<Vec<(u16, u64)>, AllocError>
+) -> Result<Found, AllocError>
+    requires spanned { AreSpanned (K.view look.old) }
+    requires apart { AreApart (K.view look.old) }
+    requires covered { IsCovered (K.view look.old) frame home }
+    requires count { (keys : List Key) → AreItsEntries (K.view look.old) frame keys
+        → length keys ≤ count }
+    ensures counted { OnOk result (steps.new ≡ steps.old
+        + how_many (overlaps home.1) ((K.view look.old).spans home.0)) }
+{
+    let keys = walk_sorted(alloc, look, frame, home, count, steps)?;
+    let seen = seen_and_then::<K, Brand>(look, frame, home, Blank::new(1));
+    Ok((keys, seen))
+}
+
+/// What is found of a frame that two processes have on their page 11. Three areas are linked to
+/// the anon_vma of its home, and two of them hold its index.
+fn walk_shared<L: Ledger>(alloc: Global, steps: &mut Steps<L>) -> Result<Found, AllocError>
     ensures { OnOk result (steps.new ≡ steps.old + 2) }
 {
     nobody_is_in_order();
@@ -110,16 +160,16 @@ fn walk_shared<L: Ledger>(
     tables.spawn(alloc, 2)?;
     tables.set(1, 11, FRAME_7)?;
     tables.set(2, 11, FRAME_7)?;
-    let stores = Stores {
+    let mut stores = StoresMut {
         areas: &areas,
         anons: &anons,
-        tables: &tables,
+        tables: &mut tables,
     };
-    walk_sorted(alloc, &stores, 7, (0, 11), 2, steps)
+    ask(alloc, &mut stores, 7, (0, 11), 2, steps)
 }
 
 /// The same, by a counter of its own.
-fn walk_shared_alone<L: Ledger>(alloc: Global, blank: Blank) -> Result<Vec<(u16, u64)>, AllocError>
+fn walk_shared_alone<L: Ledger>(alloc: Global, blank: Blank) -> Result<Found, AllocError>
     requires name { blank.name ≡ L.name }
     requires parts { blank.parts ≡ L.parts }
     requires some { 0 < blank.parts }
@@ -130,7 +180,8 @@ fn walk_shared_alone<L: Ledger>(alloc: Global, blank: Blank) -> Result<Vec<(u16,
 
 #[test]
 fn a_walk_finds_the_entries_of_both_processes(rt: HostRuntime) -> Result<(), Fail> {
-    let keys = walk_shared_alone::<Brand>(rt.alloc(), Blank::new(1))?;
+    let (keys, seen) = walk_shared_alone::<Brand>(rt.alloc(), Blank::new(1))?;
     assert_eq!(rt; keys.as_slice(), [(1, 11), (2, 11)].as_slice());
+    assert_eq!(rt; seen, (true, false));
     Ok(())
 }

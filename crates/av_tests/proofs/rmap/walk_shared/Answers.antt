@@ -28,8 +28,8 @@ set-requires-clause-there g c = (λ i. c.in_ok-spawn-2.ensures.processes i 1) �
 pub set-requires-2-clause-there : goal.set-requires-2-clause-there
 set-requires-2-clause-there g c = (λ i. c.set.ensures.processes i 2) ∙ (λ i. c.in_ok-spawn-2.ensures.processes i 2)
 
-pub walk_sorted-requires-clause-apart : goal.walk_sorted-requires-clause-apart
-walk_sorted-requires-clause-apart g c =
+pub ask-requires-clause-apart : goal.ask-requires-clause-apart
+ask-requires-clause-apart g c =
     three_apart (area_of c.add_like-2.new.areas) (family c.add_like-2.new.anons) (spans_of c.add_like-2.new.anons) (entry_at c.set-2.new.self) c.in_ok-parent.parent c.in_ok-child.child c.in_ok-add_like.field-0
     (are_three (area_of c.new-areas.result) (area_of c.add.new.areas) (area_of c.add_like.new.areas) (area_of c.add_like-2.new.areas) c.in_ok-parent.parent c.in_ok-child.child c.in_ok-add_like.field-0
     c.new-areas.ensures c.in_ok-parent.ensures.added c.in_ok-child.ensures.unused c.in_ok-child.ensures.added c.in_ok-add_like.ensures.unused c.in_ok-add_like.ensures.added)
@@ -37,8 +37,8 @@ walk_sorted-requires-clause-apart g c =
     (λ p page. (λ i. c.in_ok-set-2.ensures.sets i p page) ∙ ap (λ e. cond (p == 2 && page == 11) (Here 7 false true) e) ((λ i. c.in_ok-set.ensures.sets i p page) ∙ ap (λ e. cond (p == 1 && page == 11) (Here 7 false true) e)
     ((λ i. c.in_ok-spawn-2.ensures.entries i p page) ∙ (λ i. c.in_ok-spawn.ensures.entries i p page) ∙ c.new-tables.ensures.entries p page)))
 
-pub walk_sorted-requires-clause-covered : goal.walk_sorted-requires-clause-covered
-walk_sorted-requires-clause-covered g c =
+pub ask-requires-clause-covered : goal.ask-requires-clause-covered
+ask-requires-clause-covered g c =
     three_covered (area_of c.add_like-2.new.areas) (family c.add_like-2.new.anons) (spans_of c.add_like-2.new.anons) (entry_at c.set-2.new.self) c.in_ok-parent.parent c.in_ok-child.child c.in_ok-add_like.field-0
     (are_three (area_of c.new-areas.result) (area_of c.add.new.areas) (area_of c.add_like.new.areas) (area_of c.add_like-2.new.areas) c.in_ok-parent.parent c.in_ok-child.child c.in_ok-add_like.field-0
     c.new-areas.ensures c.in_ok-parent.ensures.added c.in_ok-child.ensures.unused c.in_ok-child.ensures.added c.in_ok-add_like.ensures.unused c.in_ok-add_like.ensures.added)
@@ -46,8 +46,8 @@ walk_sorted-requires-clause-covered g c =
     (λ p page. (λ i. c.in_ok-set-2.ensures.sets i p page) ∙ ap (λ e. cond (p == 2 && page == 11) (Here 7 false true) e) ((λ i. c.in_ok-set.ensures.sets i p page) ∙ ap (λ e. cond (p == 1 && page == 11) (Here 7 false true) e)
     ((λ i. c.in_ok-spawn-2.ensures.entries i p page) ∙ (λ i. c.in_ok-spawn.ensures.entries i p page) ∙ c.new-tables.ensures.entries p page)))
 
-pub walk_sorted-requires-clause-count : goal.walk_sorted-requires-clause-count
-walk_sorted-requires-clause-count g c =
+pub ask-requires-clause-count : goal.ask-requires-clause-count
+ask-requires-clause-count g c =
     two_at_most (area_of c.add_like-2.new.areas) (family c.add_like-2.new.anons) (spans_of c.add_like-2.new.anons) (entry_at c.set-2.new.self) c.in_ok-parent.parent c.in_ok-child.child c.in_ok-add_like.field-0
     (are_three (area_of c.new-areas.result) (area_of c.add.new.areas) (area_of c.add_like.new.areas) (area_of c.add_like-2.new.areas) c.in_ok-parent.parent c.in_ok-child.child c.in_ok-add_like.field-0
     c.new-areas.ensures c.in_ok-parent.ensures.added c.in_ok-child.ensures.unused c.in_ok-child.ensures.added c.in_ok-add_like.ensures.unused c.in_ok-add_like.ensures.added)
@@ -64,4 +64,4 @@ returns g c =
     c.in_ok-add_like.ensures.order
     (λ p page. (λ i. c.in_ok-set-2.ensures.sets i p page) ∙ ap (λ e. cond (p == 2 && page == 11) (Here 7 false true) e) ((λ i. c.in_ok-set.ensures.sets i p page) ∙ ap (λ e. cond (p == 1 && page == 11) (Here 7 false true) e)
     ((λ i. c.in_ok-spawn-2.ensures.entries i p page) ∙ (λ i. c.in_ok-spawn.ensures.entries i p page) ∙ c.new-tables.ensures.entries p page))) users in
-    on_ok c.walk_sorted.result (λ counted. counted ∙ ap (λ n. c.args.steps.now + n) looks) c.walk_sorted.ensures.counted
+    on_ok c.ask.result (λ counted. counted ∙ ap (λ n. c.args.steps.now + n) looks) c.ask.ensures.counted
