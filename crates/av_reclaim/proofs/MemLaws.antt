@@ -117,6 +117,11 @@ plain_set old new p page e is = λ k q o. (ap (λ f. plain (f q o)) is ∙ pushe
     pushed true e x = refl
     pushed false e x = refl
 
+-- an entry has been set
+pub entry_put_in : (old new : Mem) (p page : ℕ) (e : Pte) → entry_at new.tables ≡ with_entry p page e (entry_at old.tables) → new.frames ≡ old.frames → new.spaces ≡ old.spaces → new.anons ≡ old.anons
+    → view new ≡ record (view old) { table = with_entry p page (plain e) (view old).table }
+entry_put_in old new p page e is frames spaces anons = λ i. view_of_parts (seen (frames i)) (plain_set (entry_at old.tables) (entry_at new.tables) p page e is i) (spaces i) (anons i)
+
 -- ---- no slot is cached
 
 pub equal_is : (a b : ℕ) → (a == b) ≡ true → a ≡ b
