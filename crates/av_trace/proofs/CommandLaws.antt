@@ -9,14 +9,17 @@ use Rattle.av_base.specs.declared.prot.Prot.{Prot}
 use Rattle.av_trace.specs.declared.command.Command.{Command}
 use Rattle.av_trace.specs.declared.command.Command.TheVariants as commands
 use Rattle.av_trace.specs.declared.place.Place.{Place}
-use Rattle.av_trace.specs.Command.{IsCommand, line_of, at_end, whole, no_words, fork_words, range_words, mmap_words, mprotect_words, read_words, write_words, CommandReader, fork_at, mmap_at, munmap_at, mprotect_at, read_at, write_at, rmap_at, entry_of, readers, command_of}
+use Rattle.av_trace.specs.declared.mode.Mode.{Mode}
+use Rattle.av_trace.specs.Command.{IsCommand, line_of, at_end, whole, no_words, fork_words, range_words, mmap_words, mprotect_words, mremap_words, read_words, write_words, CommandReader, fork_at, mmap_at, munmap_at, mprotect_at, mremap_at, read_at, write_at, rmap_at, entry_of, readers, command_of}
 use Rattle.av_trace.specs.Hex.{hex, hex_text, IsData}
 use Rattle.av_trace.specs.Number.{IsNumberIn, IsProcess, IsWide, process_at}
 use Rattle.av_trace.specs.Place.{IsPlace, place_words}
+use Rattle.av_trace.specs.Mode.{IsMode, mode_words}
 use Rattle.av_trace.specs.Prot.{prot_text}
 use Rattle.av_trace.specs.Word.{field, line, ◌>>=◌, BeginsWith, Reader, after}
 use Rattle.av_trace.proofs.HexLaws.{stored}
 use Rattle.av_trace.proofs.NumberLaws.{processes, lengths, entries, reads_decimal}
+use Rattle.av_trace.proofs.ModeLaws.{last_mode}
 use Rattle.av_trace.proofs.PlaceLaws.{last_place}
 use Rattle.av_trace.proofs.ProtLaws.{prots}
 use Rattle.av_trace.proofs.WordLaws.{bind_some, after-found, named-found, IsEnd, IsRest, words_onto, Reads, reads_both}
@@ -44,6 +47,10 @@ mmaps = reads_both (reads_both (reads_both processes lengths) prots) last_place
 mprotects : Reads mprotect_words (λ (x : ((ℕ × ℕ) × ℕ) × Prot). ((IsProcess x.0.0.0 × IsWide x.0.0.1) × IsWide x.0.1) × Unit {0})
     (λ (x : ((ℕ × ℕ) × ℕ) × Prot). decimal x.0.0.0 ∷ hex x.0.0.1 ∷ decimal x.0.1 ∷ prot_text x.1 ∷ []) IsRest
 mprotects = reads_both ranges prots
+
+mremaps : Reads mremap_words (λ (x : (((ℕ × ℕ) × ℕ) × ℕ) × Mode). (((IsProcess x.0.0.0.0 × IsWide x.0.0.0.1) × IsWide x.0.0.1) × IsWide x.0.1) × IsMode x.1)
+    (λ (x : (((ℕ × ℕ) × ℕ) × ℕ) × Mode). decimal x.0.0.0.0 ∷ hex x.0.0.0.1 ∷ decimal x.0.0.1 ∷ decimal x.0.1 ∷ mode_words x.1) IsEnd
+mremaps = reads_both (reads_both ranges lengths) last_mode
 
 reads : Reads read_words (λ (x : (ℕ × ℕ) × ℕ). (IsProcess x.0.0 × IsWide x.0.1) × IsNumberIn 1 page_size x.1)
     (λ (x : (ℕ × ℕ) × ℕ). decimal x.0.0 ∷ hex x.0.1 ∷ decimal x.1 ∷ []) IsRest
@@ -91,6 +98,9 @@ ranges-found = whole-found ranges (codes "munmap") _ (λ x h. (h.0.0, h.0.1, h.1
 mprotects-found : IsReader (codes "mprotect", mprotect_at)
 mprotects-found = whole-found mprotects (codes "mprotect") _ (λ x h. (h.0.0.0, h.0.0.1, h.0.1)) (λ _. refl)
 
+mremaps-found : IsReader (codes "mremap", mremap_at)
+mremaps-found = whole-found mremaps (codes "mremap") _ (λ x h. (h.0.0.0.0, h.0.0.0.1, h.0.0.1, h.0.1, h.1)) (λ _. refl)
+
 spawns-found : IsReader (codes "spawn", whole process_at commands.Spawn)
 spawns-found = whole-found processes (codes "spawn") commands.Spawn (λ _ h. h) (λ _. refl)
 
@@ -116,7 +126,19 @@ stats-found : IsReader (codes "stat", whole no_words (λ x. commands.Stat))
 stats-found = whole-found nothing (codes "stat") _ (λ _ _. tt) (λ _. refl)
 
 each_reads : AllByRecursion IsReader readers
-each_reads = (writes-found, (reads-found, (spawns-found, (forks-found, (exits-found, (mmaps-found, (ranges-found, (mprotects-found, (maps-found, (areas-found, (rmaps-found, (entries-found, (stats-found, tt)))))))))))))
+each_reads = (
+  writes-found,
+  (
+    reads-found,
+    (
+      spawns-found,
+      (
+        forks-found,
+        (exits-found, (mmaps-found, (ranges-found, (mprotects-found, (mremaps-found, (maps-found, (areas-found, (rmaps-found, (entries-found, (stats-found, tt)))))))))),
+      ),
+    ),
+  ),
+)
 
 pub command_of-found : (bytes : List ℕ) (c : Command) → command_of bytes ≡ Some c → IsCommand c × (bytes ≡ line_of c)
 unfolding command_of
@@ -144,6 +166,8 @@ command_of-again (commands.Exit p) h = whole-again processes tt commands.Exit p 
 command_of-again (commands.Mmap p len prot place) h = whole-again mmaps refl _ (((p, len), prot), place) (((h.0, h.1), tt), h.2)
 command_of-again (commands.Munmap p address len) h = whole-again ranges tt _ ((p, address), len) ((h.0, h.1), h.2)
 command_of-again (commands.Mprotect p address len prot) h = whole-again mprotects tt _ (((p, address), len), prot) (((h.0, h.1), h.2), tt)
+command_of-again (commands.Mremap p address old_len new_len mode) h =
+    whole-again mremaps refl _ ((((p, address), old_len), new_len), mode) ((((h.0, h.1), h.2), h.3), h.4)
 command_of-again (commands.Read p address len) h = whole-again reads tt _ ((p, address), len) ((h.0, h.1), h.2)
 command_of-again (commands.Write p address bytes) h = whole-again writes refl _ ((p, address), bytes) ((h.0, h.1), h.2)
 command_of-again (commands.Maps p) h = whole-again processes tt commands.Maps p h

@@ -3,6 +3,7 @@ pub mod NumberLaws
 pub mod HexLaws
 pub mod ProtLaws
 pub mod PlaceLaws
+pub mod ModeLaws
 pub mod CommandLaws
 pub mod LineLaws
 pub mod Split

@@ -41,7 +41,7 @@ place_at-found (b ∷ bytes) x e =
     ∙ sym (append_assoc name.name (words_onto (hex a.value.0 ∷ []) []) a.value.1) ∙ ap (λ (t : List ℕ). t ++ a.value.1) (sym kind.0) in
     subst (λ (y : Place × List ℕ). (b ∷ bytes ≡ words_onto (place_words y.0) y.1) × IsPlace y.0) same (whole, kind.1 address.1)
 
-read_address : (address : ℕ) → IsWide address → address_at (flat_map field (hex address ∷ [])) ≡ Some (address, [])
+pub read_address : (address : ℕ) → IsWide address → address_at (flat_map field (hex address ∷ [])) ≡ Some (address, [])
 read_address address wide = ap address_at (sym (append-nil (flat_map field (hex address ∷ [])))) ∙ addresses.again address [] wide tt
 
 place_at-again : (place : Place) → IsPlace place → place_at (flat_map field (place_words place)) ≡ Some (place, [])

@@ -4,6 +4,7 @@ use Rattle.std.specs.Fmt.{decimal}
 use Rattle.av_base.specs.Page.{page_size}
 use Rattle.av_base.specs.declared.prot.Prot.{Prot}
 use Rattle.av_trace.specs.declared.place.Place.{Place}
+use Rattle.av_trace.specs.declared.mode.Mode.{Mode}
 use Rattle.av_trace.specs.declared.command.Command.{Command}
 use Rattle.av_trace.specs.declared.command.Command.TheVariants as commands
 use Rattle.av_trace.specs.Word.{line, ◌>>=◌, Reader, both, by_name}
@@ -11,6 +12,7 @@ use Rattle.av_trace.specs.Number.{IsNumberIn, IsProcess, IsWide, decimal_at, pro
 use Rattle.av_trace.specs.Hex.{hex, hex_text, IsData, data_at}
 use Rattle.av_trace.specs.Prot.{prot_text, prot_at}
 use Rattle.av_trace.specs.Place.{IsPlace, place_words, place_at}
+use Rattle.av_trace.specs.Mode.{IsMode, mode_words, mode_at}
 
 -- the values are in range
 abbrev pub IsCommand : Command → Type 0
@@ -20,6 +22,8 @@ IsCommand (commands.Exit p) = IsProcess p
 IsCommand (commands.Mmap p len prot place) = IsProcess p × IsWide len × IsPlace place
 IsCommand (commands.Munmap p address len) = IsProcess p × IsWide address × IsWide len
 IsCommand (commands.Mprotect p address len prot) = IsProcess p × IsWide address × IsWide len
+IsCommand (commands.Mremap p address old_len new_len mode) =
+    IsProcess p × IsWide address × IsWide old_len × IsWide new_len × IsMode mode
 IsCommand (commands.Read p address len) =
     IsProcess p × IsWide address × IsNumberIn 1 page_size len
 IsCommand (commands.Write p address bytes) = IsProcess p × IsWide address × IsData bytes
@@ -40,6 +44,9 @@ line_of (commands.Munmap p address len) =
     line (codes "munmap") (decimal p ∷ hex address ∷ decimal len ∷ [])
 line_of (commands.Mprotect p address len prot) =
     line (codes "mprotect") (decimal p ∷ hex address ∷ decimal len ∷ prot_text prot ∷ [])
+line_of (commands.Mremap p address old_len new_len mode) =
+    line (codes "mremap")
+    (decimal p ∷ hex address ∷ decimal old_len ∷ decimal new_len ∷ mode_words mode)
 line_of (commands.Read p address len) =
     line (codes "read") (decimal p ∷ hex address ∷ decimal len ∷ [])
 line_of (commands.Write p address bytes) =
@@ -69,7 +76,7 @@ no_words bytes = Some (tt, bytes)
 abbrev pub fork_words : Reader (ℕ × ℕ)
 fork_words bytes = both process_at process_at bytes
 
--- the words of `munmap`, and the first of `mprotect`: a process, an address and a length
+-- the words of `munmap`, and the first of `mprotect` and `mremap`: a process, an address, a length
 abbrev pub range_words : Reader ((ℕ × ℕ) × ℕ)
 range_words bytes = both entry_at len_at bytes
 
@@ -80,6 +87,10 @@ mmap_words bytes = both (both (both process_at len_at) prot_at) place_at bytes
 -- the words of `mprotect`
 abbrev pub mprotect_words : Reader (((ℕ × ℕ) × ℕ) × Prot)
 mprotect_words bytes = both range_words prot_at bytes
+
+-- the words of `mremap`
+abbrev pub mremap_words : Reader ((((ℕ × ℕ) × ℕ) × ℕ) × Mode)
+mremap_words bytes = both (both range_words len_at) mode_at bytes
 
 -- the words of `read`
 abbrev pub read_words : Reader ((ℕ × ℕ) × ℕ)
@@ -105,6 +116,9 @@ munmap_at = whole range_words (λ x. commands.Munmap x.0.0 x.0.1 x.1)
 abbrev pub mprotect_at : CommandReader
 mprotect_at = whole mprotect_words (λ x. commands.Mprotect x.0.0.0 x.0.0.1 x.0.1 x.1)
 
+abbrev pub mremap_at : CommandReader
+mremap_at = whole mremap_words (λ x. commands.Mremap x.0.0.0.0 x.0.0.0.1 x.0.0.1 x.0.1 x.1)
+
 abbrev pub read_at : CommandReader
 read_at = whole read_words (λ x. commands.Read x.0.0 x.0.1 x.1)
 
@@ -128,6 +142,7 @@ readers =
     ∷ (codes "mmap", mmap_at)
     ∷ (codes "munmap", munmap_at)
     ∷ (codes "mprotect", mprotect_at)
+    ∷ (codes "mremap", mremap_at)
     ∷ (codes "maps", whole process_at commands.Maps)
     ∷ (codes "areas", whole process_at commands.Areas)
     ∷ (codes "rmap", rmap_at)

@@ -1,9 +1,9 @@
 //! A list of bytes, which contracts see as the list.
 
-ghost use Rattle.std.specs.Prelude.{◌≡◌, ℕ, List, [], ◌++◌, length, OnOk, OnErr};
-ghost use Rattle.av_trace.specs.Hex.{hex_text};
+ghost use Rattle.std.specs.Prelude.{◌≡◌, ℕ, ◌%◌, List, [], ◌++◌, if◌then◌else◌, length, Some, None, IfOk, OnOk, OnErr};
+ghost use Rattle.av_trace.specs.Hex.{hex_text, pairs_of};
 
-use crate::hex::encode;
+use crate::hex::{decode, encode};
 use std::alloc::{AllocError, Global};
 use std::marker::Model;
 
@@ -59,6 +59,18 @@ impl Bytes {
         ensures { self.new ≡ [] }
     {
         self.items.clear();
+    }
+
+    /// Makes it the bytes that pairs of digits spell; false where a byte is no digit. What it was
+    /// is forgotten, and its room serves.
+    pub(crate) fn decode(&mut self, digits: &[u8]) -> Result<bool, AllocError>
+        requires even { length digits.now % 2 ≡ 0 }
+        ensures { IfOk result (λ spelled. pairs_of digits.now
+            ≡ (if spelled then Some self.new else None)) }
+    {
+        self.items.clear();
+        self.items.resize(digits.len() / 2, 0)?;
+        Ok(decode(digits, self.items.as_mut_slice()))
     }
 
     /// Adds a piece at the end. Without memory all stays.

@@ -1,12 +1,13 @@
 //! What a line asks for.
 
 ghost use Rattle.std.specs.Prelude.{◌≡◌, codes, option_map, IfOk, OnErr};
-ghost use Rattle.av_trace.specs.Command.{at_end, whole, no_words, fork_at, mmap_at, munmap_at, mprotect_at, read_at, write_at, rmap_at, entry_of, command_of, range_words};
+ghost use Rattle.av_trace.specs.Command.{at_end, whole, no_words, fork_at, mmap_at, munmap_at, mprotect_at, mremap_at, read_at, write_at, rmap_at, entry_of, command_of, range_words};
 ghost use Rattle.av_trace.specs.Number.{process_at};
 ghost use Rattle.av_trace.specs.Word.{BeginsWith};
 
 use crate::bytes::Bytes;
 use crate::hex::data_field;
+use crate::mode::{Mode, mode_field};
 use crate::number::{address, decimal, entry, len, process};
 use crate::place::{Place, place_field};
 use crate::prot::prot;
@@ -16,7 +17,7 @@ use std::alloc::{AllocError, Global};
 
 /// What a line asks for, with the words of the line in order.
 ///
-/// Addresses and lengths are in bytes; each `len` but that of `Read` is rounded up to whole pages.
+/// Addresses and lengths are in bytes; each length but that of `Read` is rounded up to whole pages.
 #[derive(Drop)]
 pub enum Command {
     Spawn {
@@ -45,6 +46,13 @@ pub enum Command {
         address: u64,
         len: u64,
         prot: Prot,
+    },
+    Mremap {
+        process: u16,
+        address: u64,
+        old_len: u64,
+        new_len: u64,
+        mode: Mode,
     },
     Read {
         process: u16,
@@ -165,6 +173,23 @@ fn mprotect(bytes: &[u8]) -> Option<Command>
 }
 
 #[tactic(auto, unfolding(crate::specs::Command::whole, crate::specs::Word::both))]
+fn mremap(bytes: &[u8]) -> Option<Command>
+    ensures { result ≡ mremap_at bytes.now }
+{
+    let (((process, address), old_len), rest) = range(bytes)?;
+    let (new_len, rest) = len(rest)?;
+    let (mode, rest) = mode_field(rest)?;
+    let command = Command::Mremap {
+        process,
+        address,
+        old_len,
+        new_len,
+        mode,
+    };
+    end(command, rest)
+}
+
+#[tactic(auto, unfolding(crate::specs::Command::whole, crate::specs::Word::both))]
 fn read(bytes: &[u8]) -> Option<Command>
     ensures { result ≡ read_at bytes.now }
 {
@@ -179,13 +204,13 @@ fn read(bytes: &[u8]) -> Option<Command>
 }
 
 #[tactic(auto, unfolding(crate::specs::Command::whole, crate::specs::Command::at_end, crate::specs::Word::both))]
-fn write(alloc: Global, bytes: &[u8]) -> Result<Option<Command>, AllocError>
+fn write(alloc: Global, bytes: &[u8], spare: &mut Bytes) -> Result<Option<Command>, AllocError>
     ensures { IfOk result (λ found. found ≡ write_at bytes.now) }
 {
     let Some(((process, address), rest)) = entry(bytes) else {
         return Ok(None);
     };
-    match data_field(alloc, rest)? {
+    match data_field(alloc, rest, spare)? {
         Some(bytes) => Ok(Some(Command::Write {
             process,
             address,
@@ -234,14 +259,18 @@ fn stat(bytes: &[u8]) -> Option<Command>
     end(Command::Stat, bytes)
 }
 
-/// The command of a whole line. Only a write takes memory.
+/// The command of a whole line. Only a write takes memory, and first that of `spare`.
 #[tactic(auto, unfolding(crate::specs::Command::command_of))]
-pub fn whole_command(alloc: Global, line: &[u8]) -> Result<Option<Command>, AllocError>
+pub fn whole_command(
+    alloc: Global,
+    line: &[u8],
+    spare: &mut Bytes,
+) -> Result<Option<Command>, AllocError>
     ensures found { IfOk result (λ found. found ≡ command_of line.now) }
     ensures memory { OnErr result (BeginsWith (codes "write") line.now) }
 {
     if let Some(rest) = after(line, b"write") {
-        write(alloc, rest)
+        write(alloc, rest, spare)
     } else if let Some(rest) = after(line, b"read") {
         Ok(read(rest))
     } else if let Some(rest) = after(line, b"spawn") {
@@ -256,6 +285,8 @@ pub fn whole_command(alloc: Global, line: &[u8]) -> Result<Option<Command>, Allo
         Ok(munmap(rest))
     } else if let Some(rest) = after(line, b"mprotect") {
         Ok(mprotect(rest))
+    } else if let Some(rest) = after(line, b"mremap") {
+        Ok(mremap(rest))
     } else if let Some(rest) = after(line, b"maps") {
         Ok(maps(rest))
     } else if let Some(rest) = after(line, b"areas") {

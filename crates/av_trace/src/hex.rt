@@ -10,6 +10,7 @@ use crate::number::worth_by;
 use crate::word::after;
 use av_base::PAGE_SIZE;
 use std::alloc::{AllocError, Global};
+use std::mem::replace;
 
 /// Whether all bytes before were digits, and the next two are.
 #[inline]
@@ -24,7 +25,7 @@ fn are_digits(before: bool, high: u8, low: u8) -> bool
 const FEW: usize = 16;
 
 /// Fills `found` with the bytes that pairs of digits spell; false where a byte is no digit.
-fn decode(word: &[u8], found: &mut [u8]) -> bool
+pub fn decode(word: &[u8], found: &mut [u8]) -> bool
     requires { length word.now ≡ 2 * length found.old }
     ensures { pairs_of word.now ≡ (if result then Some found.new else None) }
 {
@@ -52,9 +53,10 @@ fn decode_by(by_table: bool, word: &[u8], found: &mut [u8]) -> bool
     spelled
 }
 
-/// The bytes of a word: 1 to 4096, two digits each. A longer word costs no memory.
+/// The bytes of a word, over the room of `spare`: 1 to 4096, two digits each. A longer word costs
+/// no memory.
 #[tactic(auto, using(crate::proofs::HexLaws::odd_none), unfolding(crate::specs::Hex::data_of))]
-fn data_word(alloc: Global, word: &[u8]) -> Result<Option<Bytes>, AllocError>
+fn data_word(alloc: Global, word: &[u8], spare: &mut Bytes) -> Result<Option<Bytes>, AllocError>
     ensures { IfOk result (λ found. found ≡ data_of word.now) }
 {
     if word.len() < 2 || 2 * PAGE_SIZE < word.len() as u64 {
@@ -63,9 +65,9 @@ fn data_word(alloc: Global, word: &[u8]) -> Result<Option<Bytes>, AllocError>
     if word.len() % 2 == 1 {
         return Ok(None);
     }
-    let mut found = vec![in alloc; 0u8; word.len() / 2]?;
-    if decode(word, found.as_mut_slice()) {
-        Ok(Some(Bytes::from_vec(found)))
+    let mut found = replace(spare, Bytes::new(alloc));
+    if found.decode(word)? {
+        Ok(Some(found))
     } else {
         Ok(None)
     }
@@ -73,11 +75,15 @@ fn data_word(alloc: Global, word: &[u8]) -> Result<Option<Bytes>, AllocError>
 
 /// What `write` stores: after a space, the rest of the line.
 #[tactic(auto, unfolding(crate::specs::Hex::data_at))]
-pub fn data_field(alloc: Global, bytes: &[u8]) -> Result<Option<Bytes>, AllocError>
+pub fn data_field(
+    alloc: Global,
+    bytes: &[u8],
+    spare: &mut Bytes,
+) -> Result<Option<Bytes>, AllocError>
     ensures { IfOk result (λ found. option_map (λ b. (b, [])) found ≡ data_at bytes.now) }
 {
     match after(bytes, b" ") {
-        Some(word) => data_word(alloc, word),
+        Some(word) => data_word(alloc, word, spare),
         None => Ok(None),
     }
 }

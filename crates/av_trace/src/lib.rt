@@ -15,6 +15,7 @@ mod bytes;
 mod command;
 mod hex;
 mod line;
+mod mode;
 mod note;
 mod number;
 mod place;
@@ -26,7 +27,8 @@ mod word;
 
 pub use bytes::Bytes;
 pub use command::Command;
-pub use line::{LineFault, one_meaning, parse_line};
+pub use line::{LineFault, one_meaning, parse_line, parse_line_with};
+pub use mode::Mode;
 pub use note::{Cause, Note, Notes};
 pub use number::number_in;
 pub use place::Place;

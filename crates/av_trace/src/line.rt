@@ -5,6 +5,7 @@ ghost use Rattle.av_trace.specs.declared.command.Command.{Command as AnyCommand}
 ghost use Rattle.av_trace.specs.Line.{is_blank, Says};
 ghost use Rattle.av_trace.specs.Word.{BeginsWith};
 
+use crate::bytes::Bytes;
 use crate::command::{Command, whole_command};
 use std::alloc::Global;
 
@@ -38,10 +39,25 @@ pub fn parse_line(alloc: Global, line: &[u8]) -> Result<Option<Command>, LineFau
     // Only what begins as a write takes memory.
     ensures memory { IsErrOf result LineFault.Memory → BeginsWith (codes "write") line.now }
 {
+    parse_line_with(alloc, line, &mut Bytes::new(alloc))
+}
+
+/// What a line says, as `parse_line` does; the bytes of a write take the room of `spare`, whatever
+/// it holds.
+pub fn parse_line_with(
+    alloc: Global,
+    line: &[u8],
+    spare: &mut Bytes,
+) -> Result<Option<Command>, LineFault>
+    ensures found { IfOk result (λ said. Says line.now said) }
+    ensures bad { IsErrOf result LineFault.Bad →
+        (said : Option AnyCommand) → Says line.now said → ⊥ }
+    ensures memory { IsErrOf result LineFault.Memory → BeginsWith (codes "write") line.now }
+{
     if says_nothing(line) {
         return Ok(None);
     }
-    match whole_command(alloc, line) {
+    match whole_command(alloc, line, spare) {
         Ok(Some(command)) => Ok(Some(command)),
         Ok(None) => Err(LineFault::Bad),
         Err(_) => Err(LineFault::Memory),

@@ -1,7 +1,7 @@
 use Rattle.std.proofs.Common.{sym, ◌∙◌}
 use Rattle.av_trace.proofs.LineLaws.{says_is}
 use Rattle.av_trace.proofs.CommandLaws.{command_of-found}
-use Rattle.av_trace.proofs.line.parse_line.Goals as goal
+use Rattle.av_trace.proofs.line.parse_line_with.Goals as goal
 
 pub returns-in-Ok-Some-clause-found : goal.returns-in-Ok-Some-clause-found
 returns-in-Ok-Some-clause-found c = command_of-found c.args.line.now c.in-Ok-Some.command (sym c.in-Ok-Some.ensures.found ∙ c.in-Ok-Some.field-0-is)
