@@ -93,7 +93,7 @@ module _ (len : Lengths) where
         ]
   ]
 
-  homes_around : (from past : ℕ) (on : Pages) → AreLaid on → KeepsHomes on (joined_around len from past on)
+  pub homes_around : (from past : ℕ) (on : Pages) → AreLaid on → KeepsHomes on (joined_around len from past on)
   homes_around from past on laid = keeps_both on (joined_at len from on) (joined_around len from past on)
       (homes_joined from on laid) (homes_joined past (joined_at len from on) (laid_joined len from on laid))
 

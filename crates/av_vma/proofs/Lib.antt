@@ -3,3 +3,7 @@ pub mod Cut
 pub mod Join
 pub mod Homes
 pub mod Owns
+pub mod Mremap
+pub mod MremapHomes
+pub mod Indices
+pub mod Prots

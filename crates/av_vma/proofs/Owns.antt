@@ -65,7 +65,7 @@ module _ (len : Lengths) where
       either left right before after None none joined = (at, is_own (on at) right own after joined)
       either left right before after (Some first) some joined = (at - 1, is_own (on (at - 1)) left own before (some ∙ joined))
 
-  owns_around : (from past : ℕ) (on : Pages) → AddsNoOwn on (joined_around len from past on)
+  pub owns_around : (from past : ℕ) (on : Pages) → AddsNoOwn on (joined_around len from past on)
   owns_around from past on = adds_neither on (joined_at len from on) (joined_around len from past on)
       (owns_joined from on) (owns_joined past (joined_at len from on))
 

@@ -1,5 +1,5 @@
 -- The linear index of a page, and when two areas are one.
-use Rattle.std.specs.Prelude.{ℕ, ◌+◌, ◌-◌, ◌/◌, Bool, true, ◌&&◌, ◌||◌, ◌==◌, Option, Some, None}
+use Rattle.std.specs.Prelude.{ℕ, ◌+◌, ◌-◌, Bool, true, ◌&&◌, ◌||◌, ◌==◌, Option, Some, None}
 use Rattle.std.proofs.Math.Bool.{beq}
 use Rattle.av_base.specs.Page.{page_of}
 use Rattle.av_base.specs.declared.prot.Prot.{Prot}

@@ -1,4 +1,6 @@
 pub mod Areas
 pub mod Gap
+pub mod Indices
 pub mod Join
+pub mod Mremap
 pub mod Pages
