@@ -1,5 +1,6 @@
 -- What holds of areas, anon_vmas and homes at all times: it holds after each event and each change of areas.
 pub mod Fork
+pub mod Mremap
 use Rattle.std.proofs.Common.{◌≡◌, ℕ, suc, ◌<◌, Bool, true, false, cond, not, ◌==◌, ◌&&◌, ◌||◌, ◌-◌, ◌⊎◌, inl, inr, [], ◌∷◌, Option, Some, None, is_some, option_map, refl, sym, ap, subst, ◌∙◌, arith, T, ◌≤◌}
 use Rattle.std.proofs.lemmas.Bool.{false≢true}
 use Rattle.std.proofs.lemmas.Bool.Decides.{nat_tests}
@@ -173,15 +174,23 @@ home_parts page (Some area) h is = by area.anon refl is
     by None e is = cc
     by (Some v) e is = let both : ◌≡◌ {A = ℕ × ℕ} (v, index_of area page) h = cc in (e ∙ ap (λ (x : ℕ × ℕ). Some x.0) both, ap (λ (x : ℕ × ℕ). x.1) both)
 
--- the areas become others: a page that stays and has an entry keeps its home, no area has an own anon_vma that none had, and of the anon_vmas is left what is linked
-pub sound-next : (l l' : Ledger) (r next : Rmap) → ((k : Key) (f : ℕ) → Names l' k f → Names l k f)
-    → ((k : Key) (f : ℕ) (h : ℕ × ℕ) → Names l' k f → home_of k.1 (r.areas k.0 k.1) ≡ Some h → home_of k.1 (next.areas k.0 k.1) ≡ Some h)
+-- an entry that names the frame came from a page that named it, and whose home the entry's page has now
+pub record Carries (l : Ledger) (r next : Rmap) (k : Key) (f : ℕ) : Type 0 where
+  pub was : Key
+  pub names : Names l was f
+  pub home : (h : ℕ × ℕ) → home_of was.1 (r.areas was.0 was.1) ≡ Some h → home_of k.1 (next.areas k.0 k.1) ≡ Some h
+
+-- the areas become others: each entry that names a frame carries its page's home with it, no area has an own anon_vma that none had, and of the anon_vmas is
+-- left what is linked
+pub sound-carried : (l l' : Ledger) (r next : Rmap) → ((k : Key) (f : ℕ) → Names l' k f → Carries l r next k f)
     → ((p page v : ℕ) → Owns next p page v → (q : ℕ) × (other : ℕ) × Owns r q other v)
     → AreLeft r.anons next.areas next.anons → next.homes ≡ r.homes → IsRmapSound l r → IsRmapSound l' next
-sound-next l l' r next fewer kept owns left homes h = record {
+sound-carried l l' r next carries owns left homes h = record {
   made = λ v there. subst (λ n. v < n) (sym left.next) (h.made v (subst IsSome (left.linked v (left.there v there)) there));
   own = λ p page v is. subst (λ c. is_in v c ≡ true) (sym (same_chain p page v is)) (in_chain p page v is);
-  covered = λ k f names. subst (λ (hs : ℕ → Option (ℕ × ℕ)). IsSomeAnd (hs f) (IsReached next k)) (sym homes) (reached k f names (r.homes f) (h.covered k f (fewer k f names)));
+  covered = λ k f names.
+      let c = carries k f names in
+      subst (λ (hs : ℕ → Option (ℕ × ℕ)). IsSomeAnd (hs f) (IsReached next k)) (sym homes) (reached k f c (r.homes f) (h.covered c.was f c.names));
 }
   where
     in_chain : (p page v : ℕ) → Owns next p page v → is_in v (chain_of r.anons (Some v)) ≡ true
@@ -194,19 +203,20 @@ sound-next l l' r next fewer kept owns left homes h = record {
     same_chain : (p page v : ℕ) → Owns next p page v → chain_of next.anons (Some v) ≡ chain_of r.anons (Some v)
     same_chain p page v is = ap (λ o. option_map_or (λ (x : AnonVma). x.chain) o []) (left.linked v (p, page, linked p page v (next.areas p page) is (in_chain p page v is)))
 
-    -- where an area had a home its page has it still
-    still_reached : (k : Key) (home : ℕ × ℕ) (x y : Option Area) → next.areas k.0 k.1 ≡ y
-        → IsSomeAnd x (λ area. (is_in home.0 (chain_of r.anons area.anon) ≡ true) × (index_of area k.1 ≡ home.1))
-        → ((h : ℕ × ℕ) → home_of k.1 x ≡ Some h → home_of k.1 y ≡ Some h)
+    -- where an area had a home the entry's page has it now
+    still_reached : (k was : Key) (home : ℕ × ℕ) (x y : Option Area) → next.areas k.0 k.1 ≡ y
+        → IsSomeAnd x (λ area. (is_in home.0 (chain_of r.anons area.anon) ≡ true) × (index_of area was.1 ≡ home.1))
+        → ((h : ℕ × ℕ) → home_of was.1 x ≡ Some h → home_of k.1 y ≡ Some h)
         → IsSomeAnd y (λ area. (is_in home.0 (chain_of next.anons area.anon) ≡ true) × (index_of area k.1 ≡ home.1))
-    still_reached k home None y e is kept = absurd is
-    still_reached k home (Some area) y e is kept =
+    still_reached k was home None y e is keeps = absurd is
+    still_reached k was home (Some area) y e is keeps =
         let own = chain_there r.anons area.anon home.0 is.0 in
-        let was : home_of k.1 (Some area) ≡ Some (own.0, index_of area k.1) = ap (option_map (λ v. (v, index_of area k.1))) own.1 in
-        let now = home_parts k.1 y (own.0, index_of area k.1) (kept (own.0, index_of area k.1) was) in
+        let had : home_of was.1 (Some area) ≡ Some (own.0, index_of area was.1) = ap (option_map (λ v. (v, index_of area was.1))) own.1 in
+        let now = home_parts k.1 y (own.0, index_of area was.1) (keeps (own.0, index_of area was.1) had) in
         there own.0 y e now (subst (λ o. is_in home.0 (chain_of r.anons o) ≡ true) own.1 is.0)
       where
-        there : (v : ℕ) (y : Option Area) → next.areas k.0 k.1 ≡ y → IsSomeAnd y (λ a. (a.anon ≡ Some v) × (index_of a k.1 ≡ index_of area k.1)) → is_in home.0 (chain_of r.anons (Some v)) ≡ true
+        there : (v : ℕ) (y : Option Area) → next.areas k.0 k.1 ≡ y → IsSomeAnd y (λ a. (a.anon ≡ Some v) × (index_of a k.1 ≡ index_of area was.1))
+            → is_in home.0 (chain_of r.anons (Some v)) ≡ true
             → IsSomeAnd y (λ a. (is_in home.0 (chain_of next.anons a.anon) ≡ true) × (index_of a k.1 ≡ home.1))
         there v None e is in_own = is
         there v (Some a) e now in_own = (
@@ -215,9 +225,17 @@ sound-next l l' r next fewer kept owns left homes h = record {
           now.1 ∙ is.1,
         )
 
-    reached : (k : Key) (f : ℕ) → Names l' k f → (o : Option (ℕ × ℕ)) → IsSomeAnd o (IsReached r k) → IsSomeAnd o (IsReached next k)
-    reached k f names None is = is
-    reached k f names (Some home) is = still_reached k home (r.areas k.0 k.1) (next.areas k.0 k.1) refl is (λ h. kept k f h names)
+    reached : (k : Key) (f : ℕ) (c : Carries l r next k f) (o : Option (ℕ × ℕ)) → IsSomeAnd o (IsReached r c.was) → IsSomeAnd o (IsReached next k)
+    reached k f c None is = is
+    reached k f c (Some home) is = still_reached k c.was home (r.areas c.was.0 c.was.1) (next.areas k.0 k.1) refl is c.home
+
+-- so it is where entries stay at their pages, and these keep their homes
+pub sound-next : (l l' : Ledger) (r next : Rmap) → ((k : Key) (f : ℕ) → Names l' k f → Names l k f)
+    → ((k : Key) (f : ℕ) (h : ℕ × ℕ) → Names l' k f → home_of k.1 (r.areas k.0 k.1) ≡ Some h → home_of k.1 (next.areas k.0 k.1) ≡ Some h)
+    → ((p page v : ℕ) → Owns next p page v → (q : ℕ) × (other : ℕ) × Owns r q other v)
+    → AreLeft r.anons next.areas next.anons → next.homes ≡ r.homes → IsRmapSound l r → IsRmapSound l' next
+sound-next l l' r next fewer kept = sound-carried l l' r next
+    (λ k f names. record { was = k; names = fewer k f names; home = λ h. kept k f h names })
 
 -- ---- an area is prepared
 

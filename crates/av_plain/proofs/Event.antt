@@ -9,8 +9,8 @@ use Rattle.av_base.specs.declared.slot.Slot.{Slot}
 use Rattle.av_base.specs.Words.{how_many}
 use Rattle.av_plain.specs.Ledger.{Key, key_cmp, Entry, InFrame, InSlot, Zero, Ledger, entry, map_count, slot_entries, names_frame, names_slot, same_slot}
 use Rattle.av_plain.specs.Event.{set_entry, change_entries, put_all}
-use Rattle.av_plain.proofs.Ledger.Order.{keys_total, both_first, both_second, is_less, find_below, below_less}
-use Rattle.av_plain.proofs.Ledger.{same_key, same_key-is, entry-set}
+use Rattle.av_plain.proofs.Ledger.Order.{keys_total, both_first, both_second, count-put, is_less, find_below, below_less, weight}
+use Rattle.av_plain.proofs.Ledger.{entry-set, is_sorted-set, same_key, same_key-is, same_key-itself}
 
 -- ---- counts
 
@@ -83,6 +83,41 @@ entry-put_all (e ∷ es) l q h =
       | true ↦ λ is. ap (λ o. option_or o (Some e.1)) (ap (λ k. find key_cmp k es) (same_key-is q e.0 is) ∙ find_below keys_total (λ _. true) e.0 es (both_first _ _ h))
       | false ↦ λ is. refl
     ] refl
+
+-- how many entries pass a test
+abbrev pub entries_with : (Entry → Bool) → List (Key × Entry) → ℕ
+entries_with t es = how_many (λ (e : Key × Entry). t e.1) es
+
+pub is_sorted-put_all : (es : List (Key × Entry)) (l : Ledger) → T (is_sorted key_cmp l.entries) → T (is_sorted key_cmp (put_all es l).entries)
+is_sorted-put_all [] l h = h
+is_sorted-put_all (e ∷ es) l h = is_sorted-put_all es (set_entry e.0 e.1 l) (is_sorted-set e.0 e.1 l h)
+
+pub put_all-only : (es : List (Key × Entry)) (l : Ledger) → put_all es l ≡ record l { entries = (put_all es l).entries }
+put_all-only [] l = refl
+put_all-only (e ∷ es) l = put_all-only es (set_entry e.0 e.1 l)
+
+pub count-put_all : (t : Entry → Bool) (es : List (Key × Entry)) (l : Ledger) → T (is_sorted key_cmp es) → T (is_sorted key_cmp l.entries)
+    → ((k : Key) (e : Entry) → find key_cmp k es ≡ Some e → entry l k ≡ None)
+    → how_many (λ e. t e.1) (put_all es l).entries ≡ how_many (λ e. t e.1) l.entries + how_many (λ e. t e.1) es
+count-put_all t [] l h g fresh = omega arith
+count-put_all t (e ∷ es) l h g fresh =
+    let l1 = set_entry e.0 e.1 l in
+    let head : find key_cmp e.0 (e ∷ es) ≡ Some e.1 = ap (λ b. cond b (Some e.1) (find key_cmp e.0 es)) (same_key-itself e.0) in
+    let none : weight t (entry l e.0) ≡ 0 = ap (weight t) (fresh e.0 e.1 head) in
+    let rest = count-put_all t es l1 (both_second _ _ h) (is_sorted-set e.0 e.1 l g) (λ k d at. later k d at (same_key k e.0) refl) in
+    sum _ _ _ _ _ _ rest (count-put keys_total t e.0 e.1 l.entries g) none
+  where
+    sum : (m n c v w o : ℕ) → m ≡ n + c → n + w ≡ o + v → w ≡ 0 → m ≡ o + (v + c)
+    sum m n c v w o h i j = omega arith
+
+    later : (k : Key) (d : Entry) → find key_cmp k es ≡ Some d → (b : Bool) → same_key k e.0 ≡ b → entry (set_entry e.0 e.1 l) k ≡ None
+    later k d at true is = absurd (not_both (find key_cmp k es) d (ap (λ x. find key_cmp x es) (same_key-is k e.0 is) ∙ find_below keys_total t e.0 es
+        (both_first _ _ h)) at)
+      where
+        not_both : (o : Option Entry) (d : Entry) → o ≡ None → o ≡ Some d → ⊥
+        not_both o d a b = cc
+    later k d at false is = entry-set e.0 e.1 l k ∙ ap (λ b. cond b (Some e.1) (entry l k)) is
+        ∙ fresh k d (ap (λ b. cond b (Some e.1) (find key_cmp k es)) is ∙ at)
 
 -- ---- the least key
 

@@ -8,12 +8,12 @@ use Rattle.std.specs.declared.cmp.Ordering.TheVariants.{Less}
 use Rattle.std.specs.FinMap.Entries.{find, where_key, is_sorted, below_all}
 use Rattle.av_base.specs.Words.{how_many}
 use Rattle.av_base.specs.declared.slot.Slot.{Slot}
-use Rattle.av_plain.specs.Event.{Inherited, after_fork, is_inherited, put_all, set_entry, without_seen}
+use Rattle.av_plain.specs.Event.{Inherited, after_fork, is_inherited, put_all, without_seen}
 use Rattle.av_plain.specs.Fork.{inherited}
 use Rattle.av_plain.specs.Ledger.{Entry, InFrame, InSlot, Key, Ledger, Zero, entry, key_cmp, names_frame, names_slot}
-use Rattle.av_plain.proofs.Event.{entry-put_all}
-use Rattle.av_plain.proofs.Ledger.{entry-set, is_sorted-set, same_key, same_key-is, same_key-itself}
-use Rattle.av_plain.proofs.Ledger.Order.{both_first, both_second, count-put, find_below, is_less, keys_total, weight}
+use Rattle.av_plain.proofs.Event.{count-put_all, entries_with, entry-put_all}
+use Rattle.av_plain.proofs.Ledger.{same_key}
+use Rattle.av_plain.proofs.Ledger.Order.{both_first, both_second, is_less}
 
 -- ---- what is copied
 
@@ -120,41 +120,7 @@ find-copies p q k (e ∷ es) =
 pub entry-forked : (p q : ℕ) (l : Ledger) (k : Key) → T (is_sorted key_cmp l.entries) → entry (child_ledger p q l) k ≡ option_or (cond (k.0 == q) (option_map without_seen (entry l (p, k.1))) None) (entry l k)
 entry-forked p q l k h = ap (λ l. entry l k) (forked-is p q l) ∙ entry-put_all (copies p q l.entries) l k (is_sorted-copies p q l.entries h) ∙ ap (λ o. option_or o (entry l k)) (find-copies p q k l.entries)
 
--- ---- entries put in at keys that had none
-
-pub is_sorted-put_all : (es : List (Key × Entry)) (l : Ledger) → T (is_sorted key_cmp l.entries) → T (is_sorted key_cmp (put_all es l).entries)
-is_sorted-put_all [] l h = h
-is_sorted-put_all (e ∷ es) l h = is_sorted-put_all es (set_entry e.0 e.1 l) (is_sorted-set e.0 e.1 l h)
-
-pub put_all-only : (es : List (Key × Entry)) (l : Ledger) → put_all es l ≡ record l { entries = (put_all es l).entries }
-put_all-only [] l = refl
-put_all-only (e ∷ es) l = put_all-only es (set_entry e.0 e.1 l)
-
-count-put_all : (t : Entry → Bool) (es : List (Key × Entry)) (l : Ledger) → T (is_sorted key_cmp es) → T (is_sorted key_cmp l.entries)
-    → ((k : Key) (e : Entry) → find key_cmp k es ≡ Some e → entry l k ≡ None) → how_many (λ e. t e.1) (put_all es l).entries ≡ how_many (λ e. t e.1) l.entries + how_many (λ e. t e.1) es
-count-put_all t [] l h g fresh = omega arith
-count-put_all t (e ∷ es) l h g fresh =
-    let l1 = set_entry e.0 e.1 l in
-    let head : find key_cmp e.0 (e ∷ es) ≡ Some e.1 = ap (λ b. cond b (Some e.1) (find key_cmp e.0 es)) (same_key-itself e.0) in
-    let none : weight t (entry l e.0) ≡ 0 = ap (weight t) (fresh e.0 e.1 head) in
-    let rest = count-put_all t es l1 (both_second _ _ h) (is_sorted-set e.0 e.1 l g) (λ k d at. later k d at (same_key k e.0) refl) in
-    sum _ _ _ _ _ _ rest (count-put keys_total t e.0 e.1 l.entries g) none
-  where
-    sum : (m n c v w o : ℕ) → m ≡ n + c → n + w ≡ o + v → w ≡ 0 → m ≡ o + (v + c)
-    sum m n c v w o h i j = omega arith
-
-    later : (k : Key) (d : Entry) → find key_cmp k es ≡ Some d → (b : Bool) → same_key k e.0 ≡ b → entry (set_entry e.0 e.1 l) k ≡ None
-    later k d at true is = absurd (not_both (find key_cmp k es) d (ap (λ x. find key_cmp x es) (same_key-is k e.0 is) ∙ find_below keys_total t e.0 es (both_first _ _ h)) at)
-      where
-        not_both : (o : Option Entry) (d : Entry) → o ≡ None → o ≡ Some d → ⊥
-        not_both o d a b = cc
-    later k d at false is = entry-set e.0 e.1 l k ∙ ap (λ b. cond b (Some e.1) (entry l k)) is ∙ fresh k d (ap (λ b. cond b (Some e.1) (find key_cmp k es)) is ∙ at)
-
 -- ---- counts
-
--- how many entries pass a test
-abbrev entries_with : (Entry → Bool) → List (Key × Entry) → ℕ
-entries_with t es = how_many (λ (e : Key × Entry). t e.1) es
 
 count-copies : (t : Entry → Bool) (p q : ℕ) (es : List (Key × Entry)) → ((e : Entry) → t (without_seen e) ≡ t e) → entries_with t (copies p q es) ≤ entries_with t es
 count-copies t p q [] h = omega arith

@@ -1,22 +1,22 @@
 -- In a run the list of free frames has each free frame of the machine once: a frame comes into use only where a note takes it.
-use Rattle.std.proofs.Common.{◌≡◌, ◌⊎◌, inl, inr, ℕ, zero, suc, ◌+◌, ◌<◌, ◌≤◌, Bool, true, false, cond, not, ◌&&◌, if◌then◌else◌, nat_lt, nat_le, T, List, [], ◌∷◌, ◌++◌, length, Option, Some, None, is_none, refl, sym, ap, subst, ◌∙◌, arith, ◌==◌}
+use Rattle.std.proofs.Common.{◌≡◌, ◌⊎◌, inl, inr, ℕ, zero, suc, ◌+◌, ◌-◌, min, ◌<◌, ◌≤◌, Bool, true, false, cond, not, ◌&&◌, if◌then◌else◌, nat_lt, nat_le, T, List, [], ◌∷◌, ◌++◌, length, Option, Some, None, is_none, refl, sym, ap, subst, ◌∙◌, arith, ◌==◌}
 use Rattle.std.proofs.lemmas.Bool.Decides.{nat_tests}
 use Rattle.std.specs.Prelude.{MatchBool, MatchOption}
 use Rattle.std.specs.FinMap.Entries.{is_sorted}
 use Rattle.av_trace.specs.declared.command.Command.{Command}
-use Rattle.av_trace.specs.declared.command.Command.TheVariants.{Spawn, Fork, Exit, Mmap, Munmap, Mprotect, Read, Write, Maps, Areas as AsksAreas, Rmap, Entry as AsksEntry, Stat}
+use Rattle.av_trace.specs.declared.command.Command.TheVariants.{Spawn, Fork, Exit, Mmap, Mremap, Munmap, Mprotect, Read, Write, Maps, Areas as AsksAreas, Rmap, Entry as AsksEntry, Stat}
 use Rattle.av_trace.specs.declared.place.Place.TheVariants.{Auto, At, Fixed, NoReplace}
 use Rattle.av_trace.specs.declared.reply.Errno.{Errno}
 use Rattle.av_trace.specs.declared.reply.Reply.{Reply}
 use Rattle.av_base.specs.Page.{address_of, page_of, pages_of}
-use Rattle.av_base.specs.Words.{how_many, is_in, numbers}
+use Rattle.av_base.specs.Words.{how_many, is_in, numbers, within}
 use Rattle.av_base.specs.declared.slot.Slot.{Slot}
 use Rattle.av_trace.specs.declared.note.Cause.TheVariants.{NoSlot, Referenced, WriteStarted, Writeback}
 use Rattle.av_trace.specs.declared.note.Note.{Note}
 use Rattle.av_trace.specs.declared.note.Note.TheVariants.{Aged, Copied, Dropped, Failed, Kept, Loaded, Mapped, New, Put, Started, Unmapped, Written, Zeroed}
 use Rattle.av_plain.specs.Access.{Accesses, End, page_events, pages_of_access}
 use Rattle.av_plain.specs.Choice.{ChoosesAll, Free, ListsFree, frame_in_note, new_free}
-use Rattle.av_plain.specs.Event.{Event, Forked, Used, after_all, after_note, after_notes, after_use, after_use_of, after_zap, change_entries, if_some, key_at, note_events, off_cache, put_all, set_entry, when, with_stale, without_seen}
+use Rattle.av_plain.specs.Event.{Event, Forked, Moved, Used, after_all, after_move, after_note, after_notes, after_use, after_use_of, after_zap, change_entries, if_some, key_at, note_events, off_cache, put_all, set_entry, when, with_stale, without_seen}
 use Rattle.av_plain.specs.Fault.{ComesIn, CopyOnWrite, Denied, IsMade, Lost, MapCached, Need, NewPage, Ready, RunsOut, Serves, Sparing, Starved, Stop, SwapIn, Touches, ZeroPage, drop_at, drop_of_entry, drop_of_slot, is_shared, is_unneeded, need, need_of_slot, pinned_by, sparing, was_slot}
 use Rattle.av_plain.specs.Fork.{inherited}
 use Rattle.av_plain.specs.Ledger.{Cached, Entry, InFrame, InSlot, Key, Ledger, Setting, Zero, entry, first_ledger, frame_at, has_free, is_free, is_orphan, key_cmp, map_count, names_frame, slot_of}
@@ -26,11 +26,12 @@ use Rattle.av_plain.specs.Sound.{AllSound, IsSound, count, flights, holders, use
 use Rattle.av_plain.specs.Step.{Follows, IsLegal, closing_area}
 use Rattle.av_plain.specs.Transcript.{Exchange, IsRun, IsStep, State, at_first}
 use Rattle.av_plain.specs.World.{World, lives}
+use Rattle.av_plain.specs.Mremap.{events_to, range_zaps, remap_events}
 use Rattle.av_plain.specs.Zap.{keys_in, keys_of_process, orphan_drop, slot_behind_key, zap_of, zaps_of}
 use Rattle.av_plain.proofs.Choice.{ChoosesFrames, frames-chosen, frames-first}
 use Rattle.av_plain.proofs.Access.{after_all-append, note_events-all}
-use Rattle.av_plain.proofs.Event.{how_many-map, how_many-same}
-use Rattle.av_plain.proofs.Fork.{copies, child_ledger, forked-is, frames-grow, put_all-only}
+use Rattle.av_plain.proofs.Event.{how_many-map, how_many-same, put_all-only}
+use Rattle.av_plain.proofs.Fork.{copies, child_ledger, forked-is, frames-grow}
 use Rattle.av_plain.proofs.Ledger.{entry-set, how_many-append, how_many-found, map_count-set, same_key-itself}
 use Rattle.av_plain.proofs.Ledger.Order.{weight}
 use Rattle.av_plain.proofs.Refusal.{may-fork}
@@ -39,6 +40,8 @@ use Rattle.av_plain.proofs.Sound.Access.{comes-kept, page_events-kept, touches-k
 use Rattle.av_plain.proofs.Sound.Cache.{frames_left}
 use Rattle.av_plain.proofs.Sound.Changes.{any-counts, free-is}
 use Rattle.av_plain.proofs.Sound.Counts.{frame_at-some, pair-frame, same-is}
+use Rattle.av_plain.proofs.Mremap.{others_of, shifted, then_tail, then_target}
+use Rattle.av_plain.proofs.Sound.Mremap.{frames-stay, free_target, tail-kept, target-kept}
 use Rattle.av_plain.proofs.Sound.Pages.{settle-entries}
 use Rattle.av_plain.proofs.Sound.Pass.{AreReady, TurnKept, alike-uses, all-ready, count-filter, ready-first, ready-rest, turn-kept}
 use Rattle.av_plain.proofs.Sound.Steps.{alike-end_note, alike-started, alike-with_stale, all_landed, completes-kept, holders-dropped}
@@ -472,6 +475,53 @@ fork-lists : (m : Setting) (l : Ledger) (p q : ℕ) (free free' : List ℕ) → 
     → ChoosesFrames m l (Forked p q (inherited l p) ∷ []) free free' → Lists m l free → Lists m (child_ledger p q l) free'
 fork-lists m l p q free free' s none c h = subst (Lists m (child_ledger p q l)) (sym (c.2 ∙ c.1.2)) (lists-event m l (child_ledger p q l) None free c.1.0 c.1.1 (fork-steady m l p q s none) h)
 
+-- ---- entries that move
+
+-- no frame comes into use
+move-steady : (m : Setting) (l : Ledger) (p n from to : ℕ) → IsSound m l
+    → ((page : ℕ) → within to n page ≡ true → within from n page ≡ false → entry l (p, page) ≡ None) → Steady l (after_move p n from to l) None
+move-steady m l p n from to s free = subst (λ l'. Steady l l' None) (sym (put_all-only (shifted p n from to l.entries) others))
+    (fewer-steady l (record l { entries = (put_all (shifted p n from to l.entries) others).entries })
+    (λ g gone. let a = frames-stay m l p n from to s free g in omega (arith, gone, a)))
+  where
+    others : Ledger
+    others = record l { entries = others_of p from n l.entries }
+
+remap-lists : (m : Setting) (l : Ledger) (p from n to k : ℕ) (free free' : List ℕ) → IsSound m l
+    → ChoosesFrames m l (remap_events l p from n to k) free free' → Lists m l free
+    → Lists m (after_all l (remap_events l p from n to k)) free'
+remap-lists m l p from n to k free free' s c h = by (to == from) c
+  where
+    target : Ledger
+    target = then_target l p from n to k
+
+    tail : Ledger
+    tail = then_tail l p from n to k
+
+    target_zaps : List Event
+    target_zaps = range_zaps l p to k
+
+    tail_zaps : List Event
+    tail_zaps = range_zaps target p (from + k) (n - k)
+
+    move : List Event
+    move = Moved p (min n k) from to ∷ []
+
+    by : (b : Bool) → ChoosesFrames m l (cond b (range_zaps l p (from + k) (n - k)) ((target_zaps ++ tail_zaps) ++ move)) free free'
+        → Lists m (after_all l (cond b (range_zaps l p (from + k) (n - k)) ((target_zaps ++ tail_zaps) ++ move))) free'
+    by true c = zaps-lists m l (keys_in l p (from + k) (n - k)) free free' s c h
+    by false c =
+        let two = frames-first m l (target_zaps ++ tail_zaps) move free free' c in
+        let one = frames-first m l target_zaps tail_zaps free two.0 two.1 in
+        let first = zaps-lists m l (keys_in l p to k) free one.0 s one.1 h in
+        let second = zaps-lists m target (keys_in target p (from + k) (n - k)) one.0 two.0 (target-kept m l p from n to k s) one.2 first in
+        let last = subst (λ x. ChoosesFrames m x move two.0 free') (after_all-append l target_zaps tail_zaps) two.2 in
+        subst (λ x. Lists m x free') (sym (after_all-append l (target_zaps ++ tail_zaps) move ∙ ap (after_move p (min n k) from to)
+        (after_all-append l target_zaps tail_zaps)))
+        (subst (Lists m (after_move p (min n k) from to tail)) (sym (last.2 ∙ last.1.2))
+        (lists-event m tail (after_move p (min n k) from to tail) None two.0 last.1.0 last.1.1
+        (move-steady m tail p (min n k) from to (tail-kept m l p from n to k s) (free_target m l p from n to k s)) second))
+
 -- ---- a step, and a run
 
 legal-lists : (m : Setting) (w : World) (l : Ledger) (command : Command) (reply : Reply)
@@ -494,6 +544,11 @@ legal-lists m w l command reply es free free' sound legal c h = by (refusal (tes
     these ks e = subst (λ es. Lists m (after_all l es) free') (sym e)
         (zaps-lists m l ks free free' s (subst (λ es. ChoosesFrames m l es free free') e c) h)
 
+    moves : (p from n k : ℕ) (to : Option ℕ) → es ≡ events_to l p from n to k → Lists m (after_all l es) free'
+    moves p from n k None e = none e
+    moves p from n k (Some to) e = subst (λ es. Lists m (after_all l es) free') (sym e)
+        (remap-lists m l p from n to k free free' s (subst (λ es. ChoosesFrames m l es free free') e c) h)
+
     follows : (command : Command) → refusal (tests m w l command) ≡ None → Follows m w l command es reply.answer reply.rows → Lists m (after_all l es) free'
     follows (Spawn p) fine q = none q.1
     follows (Fork p c) fine q = forks p c (may-fork m w l p c fine).child q.1
@@ -504,6 +559,7 @@ legal-lists m w l command reply es free free' sound legal c h = by (refusal (tes
     follows (Mmap p len prot (NoReplace a)) fine q = none q.3
     follows (Munmap p a len) fine q = these (keys_in l p (page_of a) (pages_of len)) q.1
     follows (Mprotect p a len prot) fine q = none q.1
+    follows (Mremap p a old new mode) fine q = moves p (page_of a) (pages_of old) (pages_of new) q.0 q.3
     follows (Read p a n) fine q = accesses-lists m w l p (pages_of_access false a n) es q.0 free free' s q.2 c h
     follows (Write p a bytes) fine q = accesses-lists m w l p (pages_of_access true a (length bytes)) es q.0 free free' s q.1 c h
     follows (Maps p) fine q = none q.2

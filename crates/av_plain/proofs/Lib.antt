@@ -8,6 +8,8 @@ pub mod Zap
 pub mod Report
 pub mod Refusal
 pub mod Fork
+pub mod Load
+pub mod Mremap
 pub mod Transcript
 pub mod Sound
 pub mod NoDevice

@@ -1,7 +1,7 @@
 -- Without a device no slot is in use: a page has at most one note, and is never lost.
 use Rattle.std.specs.List.{AllByRecursion}
 use Rattle.std.specs.Prelude.{MatchBool, MatchOption, IsTrue, unwrap_or}
-use Rattle.std.proofs.Common.{◌≡◌, ◌⊎◌, inl, inr, ℕ, zero, suc, ◌+◌, ◌<◌, Bool, true, false, cond, not, ◌&&◌, List, [], ◌∷◌, ◌++◌, Option, Some, None, is_some, refl, sym, ap, subst, ◌∙◌, arith, ◌==◌, nat_lt, append-nil}
+use Rattle.std.proofs.Common.{◌≡◌, ◌⊎◌, inl, inr, ℕ, zero, suc, ◌+◌, ◌-◌, ◌<◌, min, Bool, true, false, cond, not, ◌&&◌, List, [], ◌∷◌, ◌++◌, Option, Some, None, is_some, refl, sym, ap, subst, ◌∙◌, arith, ◌==◌, nat_lt, append-nil}
 use Rattle.std.proofs.lemmas.Bool.Decides.{nat_tests}
 use Rattle.av_base.specs.Page.{address_of}
 use Rattle.av_base.specs.Words.{how_many, numbers}
@@ -12,7 +12,7 @@ use Rattle.av_trace.specs.declared.note.Note.TheVariants.{Aged, Copied, Dropped,
 use Rattle.av_plain.specs.Device.{HasNoDevice}
 use Rattle.av_plain.specs.World.{Page, World, pages}
 use Rattle.av_plain.specs.Ledger.{has_free_slot, is_open, slot_count, Cached, Entry, InFrame, InSlot, Key, Ledger, Setting, Zero, entry, has_free, is_on, is_usable, may_give, names_slot, same_slot, size_of, slot_entries, slot_of}
-use Rattle.av_plain.specs.Event.{Event, Used, after_all, after_note, after_notes, note_events, notes_of}
+use Rattle.av_plain.specs.Event.{Event, Moved, Used, after_all, after_note, after_notes, note_events, notes_of}
 use Rattle.av_plain.specs.Pass.{Completes, IsPass, IsSlotFor, Seeks, Spared, Turns, frames_in_turn, is_stuck, stays_cached, turn_notes}
 use Rattle.av_plain.specs.Fault.{drop_of_slot, ComesIn, CopyOnWrite, Denied, IsMade, Lost, MapCached, Need, NewPage, Ready, RunsOut, Serves, Sparing, Starved, Stop, SwapIn, Touches, ZeroPage, drop_at, drop_of_entry, is_shared, need, permits, pinned_by, sparing, was_slot}
 use Rattle.av_plain.specs.Access.{Accesses, End, Stopped, Whole, page_events}
@@ -26,7 +26,7 @@ use Rattle.std.specs.FinMap.Entries.{is_sorted}
 use Rattle.std.specs.Prelude.{if◌then◌else◌, length, T}
 use Rattle.av_base.specs.Page.{page_of, pages_of}
 use Rattle.av_trace.specs.declared.command.Command.{Command}
-use Rattle.av_trace.specs.declared.command.Command.TheVariants.{Spawn, Fork, Exit, Mmap, Munmap, Mprotect, Read, Write, Maps, Areas as AsksAreas, Rmap, Entry as AsksEntry, Stat}
+use Rattle.av_trace.specs.declared.command.Command.TheVariants.{Spawn, Fork, Exit, Mmap, Mremap, Munmap, Mprotect, Read, Write, Maps, Areas as AsksAreas, Rmap, Entry as AsksEntry, Stat}
 use Rattle.av_trace.specs.declared.place.Place.{Place}
 use Rattle.av_trace.specs.declared.place.Place.TheVariants.{Auto, At, Fixed, NoReplace}
 use Rattle.av_trace.specs.declared.reply.Errno.{Errno}
@@ -39,6 +39,9 @@ use Rattle.av_plain.specs.Access.{bytes_before, pages_of_access, read_answer, st
 use Rattle.av_plain.specs.Ledger.{key_cmp}
 use Rattle.av_plain.specs.Event.{after_zap}
 use Rattle.av_plain.specs.Map.{zaps_for_place}
+use Rattle.av_plain.specs.Mremap.{events_to, range_zaps, remap_events}
+use Rattle.av_plain.proofs.Mremap.{then_target}
+use Rattle.av_plain.proofs.Sound.Zap.{zaps-in}
 use Rattle.av_plain.specs.Pass.{fails, how_many_others, is_fail}
 use Rattle.av_plain.specs.Place.{IsMapAt}
 use Rattle.av_plain.specs.Refusal.{Refuses, Tests, refusal, tests}
@@ -390,6 +393,25 @@ zaps-quiet l (k ∷ ks) q =
 pub no-zap-notes : (m : Setting) (l : Ledger) (ks : List Key) → HasNoDevice m → InAreas m l → notes_of (zaps_of l ks) ≡ []
 no-zap-notes m l ks none s = let q = no-slots m l none s in zaps-quiet l ks (record { cache = q.cache; entries = q.entries; in_order = s.sound.in_order })
 
+-- nor has an mremap
+pub no-remap-notes : (m : Setting) (l : Ledger) (p from n to k : ℕ) → HasNoDevice m → InAreas m l → notes_of (remap_events l p from n to k) ≡ []
+no-remap-notes m l p from n to k none s = by (to == from)
+  where
+    target : Ledger
+    target = then_target l p from n to k
+
+    quiet : notes_of (range_zaps l p to k) ≡ []
+    quiet = no-zap-notes m l (keys_in l p to k) none s
+
+    tail_quiet : notes_of (range_zaps target p (from + k) (n - k)) ≡ []
+    tail_quiet = no-zap-notes m target (keys_in target p (from + k) (n - k)) none (zaps-in m l (keys_in l p to k) s)
+
+    by : (b : Bool) → notes_of (cond b (range_zaps l p (from + k) (n - k))
+        ((range_zaps l p to k ++ range_zaps target p (from + k) (n - k)) ++ Moved p (min n k) from to ∷ [])) ≡ []
+    by true = no-zap-notes m l (keys_in l p (from + k) (n - k)) none s
+    by false = notes_of-append (range_zaps l p to k ++ range_zaps target p (from + k) (n - k)) (Moved p (min n k) from to ∷ [])
+        ∙ ap (λ ns. ns ++ []) (notes_of-append (range_zaps l p to k) (range_zaps target p (from + k) (n - k)) ∙ (λ i. quiet i ++ tail_quiet i))
+
 -- ---- a command
 
 -- the answer tells of no fault
@@ -475,6 +497,16 @@ follows-faultless m w l (Mprotect p a len prot) events answer rows none s h = re
     by : (b : Bool) → IsFaultless (if b then Done else Refused Enomem)
     by true = record { told = refl; failed = refl }
     by false = record { told = refl; failed = refl }
+follows-faultless m w l (Mremap p a old new mode) events answer rows none s h = record
+    { notes = ap (λ es. fails (notes_of es)) h.3 ∙ quiet h.0; answered = by h.0 h.2 }
+  where
+    by : (to : Option ℕ) → IsMapAt answer to → IsFaultless answer
+    by None e = is-faultless answer _ e (record { told = refl; failed = refl })
+    by (Some page) e = is-faultless answer _ e (record { told = refl; failed = refl })
+
+    quiet : (to : Option ℕ) → fails (notes_of (events_to l p (page_of a) (pages_of old) to (pages_of new))) ≡ 0
+    quiet None = refl
+    quiet (Some to) = ap fails (no-remap-notes m l p (page_of a) (pages_of old) to (pages_of new) none s)
 follows-faultless m w l (Read p a n) events answer rows none s h =
     let plain = accesses-plain (λ note. is_fail note ≡ false) m w p none (λ page note is. plain-fails m (p, page) note) l (pages_of_access false a n) events h.0 s h.2 in
     record { notes = no-fails (notes_of events) plain.notes; answered = is-faultless answer _ h.4 (read-faultless a h.0 h.1 plain.ends) }
@@ -509,6 +541,7 @@ tests-mild m w l (Mmap p len prot (Fixed a)) = (refl, (refl, (refl, (refl, (refl
 tests-mild m w l (Mmap p len prot (NoReplace a)) = (refl, (refl, (refl, (refl, (refl, (refl, (refl, tt)))))))
 tests-mild m w l (Munmap p a len) = (refl, (refl, tt))
 tests-mild m w l (Mprotect p a len prot) = (refl, (refl, (refl, tt)))
+tests-mild m w l (Mremap p a old new mode) = (refl, (refl, (refl, (refl, (refl, (refl, tt))))))
 tests-mild m w l (Read p a n) = (refl, tt)
 tests-mild m w l (Write p a bytes) = (refl, tt)
 tests-mild m w l (Maps p) = (refl, tt)

@@ -1,9 +1,11 @@
 -- A command that is refused changes nothing, but for the protection of the pages before a hole.
 use Rattle.std.proofs.Common.{◌≡◌, ◌⊎◌, inl, inr, ℕ, ◌<◌, ◌≤◌, Bool, true, false, cond, not, List, [], Option, Some, None, is_some, refl, sym, ap, subst, ◌∙◌, arith, ◌==◌, if◌then◌else◌}
 use Rattle.std.proofs.lemmas.Bool.Decides.{nat_tests}
-use Rattle.std.specs.Prelude.{MatchOption, length, nat_le}
+use Rattle.std.specs.Option.{option_map_or}
+use Rattle.std.specs.Prelude.{◌||◌, MatchOption, length, nat_le}
 use Rattle.av_trace.specs.declared.command.Command.{Command}
-use Rattle.av_trace.specs.declared.command.Command.TheVariants.{Spawn, Fork, Exit, Mmap, Munmap, Mprotect, Read, Write, Maps, Areas as AsksAreas, Rmap, Entry as AsksEntry, Stat}
+use Rattle.av_trace.specs.declared.command.Command.TheVariants.{Spawn, Fork, Exit, Mmap, Mremap, Munmap, Mprotect, Read, Write, Maps, Areas as AsksAreas, Rmap, Entry as AsksEntry, Stat}
+use Rattle.av_trace.specs.declared.mode.Mode.{Mode}
 use Rattle.av_trace.specs.declared.place.Place.{Place}
 use Rattle.av_trace.specs.declared.place.Place.TheVariants.{Auto, At, Fixed, NoReplace}
 use Rattle.av_trace.specs.declared.reply.Errno.{Errno}
@@ -24,11 +26,12 @@ use Rattle.av_plain.specs.Fault.{Denied, Lost, Starved, Stop}
 use Rattle.av_plain.specs.Ledger.{Entry, InFrame, InSlot, Ledger, Setting, Zero, entry}
 use Rattle.av_plain.specs.Load.{with_loads}
 use Rattle.av_plain.specs.Map.{StopsAtHole, with_prot_to_hole, zaps_for_place}
+use Rattle.av_plain.specs.Mremap.{events_to, have_prot, is_in_place, target_of}
 use Rattle.av_plain.specs.Place.{Goes, IsMapAt}
-use Rattle.av_plain.specs.Refusal.{Refuses, is_mprotect, refusal, tests, wraps}
+use Rattle.av_plain.specs.Refusal.{Refuses, are_bad_lengths, is_below_low, is_mprotect, is_no_target, is_tail_too_high, lacks_pages, refusal, tests, wraps}
 use Rattle.av_plain.specs.Report.{entry_answer, walk_answer}
 use Rattle.av_plain.specs.Step.{Follows, IsLegal, next, next_world}
-use Rattle.av_plain.specs.World.{Process, World, lives, pages, pages_to_hole}
+use Rattle.av_plain.specs.World.{Page, Process, World, lives, pages, pages_to_hole}
 use Rattle.av_plain.proofs.World.Ranges.{pages_to_hole-most}
 
 -- without events nothing is loaded
@@ -60,6 +63,45 @@ may-fork m w l p q is = let h = by (lives w p) (lives w q) (nat_le most_processe
     by true false true h = cc
     by true false false h = (refl, refl, refl)
 
+-- what an mremap that isn't refused by its tests has
+pub record MayRemap (w : World) (p a old new : ℕ) (mode : Mode) : Type 0 where
+  pub living : lives w p ≡ true
+  pub on_page : is_on_page a ≡ true
+  pub lengths : are_bad_lengths old new mode ≡ false
+  pub target : is_no_target a (pages_of old) (pages_of new) (target_of mode) ≡ false
+  pub has_pages : lacks_pages (pages w p) (page_of a) (pages_of old) (pages_of new) mode ≡ false
+  pub tail : is_tail_too_high a (pages_of old) (pages_of new) mode ≡ false
+  pub low : is_below_low (target_of mode) ≡ false
+
+pub may-remap : (m : Setting) (w : World) (l : Ledger) (p a old new : ℕ) (mode : Mode) → refusal (tests m w l (Mremap p a old new mode)) ≡ None
+    → MayRemap w p a old new mode
+may-remap m w l p a old new mode is =
+    let h = by (lives w p) (is_on_page a) (are_bad_lengths old new mode) (is_no_target a (pages_of old) (pages_of new) (target_of mode))
+    (lacks_pages (pages w p) (page_of a) (pages_of old) (pages_of new) mode) (is_tail_too_high a (pages_of old) (pages_of new) mode)
+    (is_below_low (target_of mode)) is in
+    record { living = h.0; on_page = h.1; lengths = h.2; target = h.3; has_pages = h.4; tail = h.5; low = h.6 }
+  where
+    by : (b c d e f g h : Bool) → cond (not b) (Some Esrch) (cond (not c || d) (Some Einval)
+        (cond e (Some Einval) (cond f (Some Efault) (cond g (Some Einval) (cond h (Some Eperm) None))))) ≡ None
+        → (b ≡ true) × (c ≡ true) × (d ≡ false) × (e ≡ false) × (f ≡ false) × (g ≡ false) × (h ≡ false)
+    by false c d e f g h is = cc
+    by true false d e f g h is = cc
+    by true true true e f g h is = cc
+    by true true false true f g h is = cc
+    by true true false false true g h is = cc
+    by true true false false false true h is = cc
+    by true true false false false false true is = cc
+    by true true false false false false false is = (refl, refl, refl, refl, refl, refl, refl)
+
+-- the first page is mapped
+pub first-mapped : (q : Process) (from n k : ℕ) (mode : Mode) → lacks_pages q from n k mode ≡ false → is_some (q from) ≡ true
+first-mapped q from n k mode h = by (is_in_place mode n k) (q from) h
+  where
+    by : (b : Bool) (o : Option Page) → not (cond b (is_some o) (option_map_or (λ (x : Page). have_prot q x.prot from n) o false)) ≡ false → is_some o ≡ true
+    by true None h = cc
+    by false None h = cc
+    by b (Some x) h = refl
+
 -- a command that is refused by its tests leaves any memories as they are
 pub refused-next : (m : Setting) (w now : World) (l : Ledger) (command : Command) (error : Errno) → refusal (tests m w l command) ≡ Some error → next now command (Refused error) ≡ now
 refused-next m w now l (Spawn p) error is = refl
@@ -76,6 +118,7 @@ refused-next m w now l (Mprotect p a len prot) Efault is = refl
 refused-next m w now l (Mprotect p a len prot) Ebusy is = refl
 refused-next m w now l (Mprotect p a len prot) Eexist is = refl
 refused-next m w now l (Mprotect p a len prot) Einval is = refl
+refused-next m w now l (Mremap p a old new mode) error is = refl
 refused-next m w now l (Read p a n) error is = refl
 refused-next m w now l (Write p a bytes) error is = refl
 refused-next m w now l (Maps p) error is = refl
@@ -100,6 +143,7 @@ refused-areas m w l long on (Mprotect p a len prot) Efault is = refl
 refused-areas m w l long on (Mprotect p a len prot) Ebusy is = refl
 refused-areas m w l long on (Mprotect p a len prot) Eexist is = refl
 refused-areas m w l long on (Mprotect p a len prot) Einval is = refl
+refused-areas m w l long on (Mremap p a old new mode) error is = refl
 refused-areas m w l long on (Read p a n) error is = refl
 refused-areas m w l long on (Write p a bytes) error is = refl
 refused-areas m w l long on (Maps p) error is = refl
@@ -157,6 +201,11 @@ follows-refused m w now l (Mmap p len prot place) events error rows other h = (h
     by : (to : Option ℕ) → Goes (pages w p) (pages_of len) place to → IsMapAt (Refused error) to → zaps_for_place l p (pages_of len) place ≡ []
     by None goes e = no_place-clears (pages w p) l p (pages_of len) place goes
     by (Some page) goes e = cc
+follows-refused m w now l (Mremap p a old new mode) events error rows other h = (h.3 ∙ by h.0 h.2, refl)
+  where
+    by : (to : Option ℕ) → IsMapAt (Refused error) to → events_to l p (page_of a) (pages_of old) to (pages_of new) ≡ []
+    by None e = refl
+    by (Some page) e = cc
 follows-refused m w now l (Munmap p a len) events error rows other h = absurd (no-refusal refl h.0)
 follows-refused m w now l (Mprotect p a len prot) events error rows other h = cc
 follows-refused m w now l (Read p a n) events error rows other h = absurd (read-refused a h.0 h.1 error h.4)

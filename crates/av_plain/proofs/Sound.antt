@@ -11,6 +11,7 @@ pub mod Pages
 pub mod There
 pub mod Zap
 pub mod Fork
+pub mod Mremap
 pub mod Bound
 pub mod Means
 use Rattle.std.proofs.Common.{◌≡◌, ℕ, suc, ◌≤◌, Bool, true, false, cond, not, ◌&&◌, T, List, [], ◌∷◌, length, Option, Some, None, is_some, option_map, refl, sym, ap, subst, ◌∙◌, arith, ◌==◌, nat_le, if◌then◌else◌}
@@ -20,7 +21,7 @@ use Rattle.std.specs.Ordering.{nat_cmp, is_lt, eq_by_cmp}
 use Rattle.std.specs.FinMap.Entries.{find, is_sorted, below_all}
 use Rattle.std.specs.Option.{option_or}
 use Rattle.av_trace.specs.declared.command.Command.{Command}
-use Rattle.av_trace.specs.declared.command.Command.TheVariants.{Spawn, Fork as AsksFork, Exit, Mmap, Munmap, Mprotect, Read, Write, Maps, Areas as AsksAreas, Rmap, Entry as AsksEntry, Stat}
+use Rattle.av_trace.specs.declared.command.Command.TheVariants.{Spawn, Fork as AsksFork, Exit, Mmap, Mremap as AsksMremap, Munmap, Mprotect, Read, Write, Maps, Areas as AsksAreas, Rmap, Entry as AsksEntry, Stat}
 use Rattle.av_trace.specs.declared.place.Place.{Place}
 use Rattle.av_trace.specs.declared.place.Place.TheVariants.{Auto, At, Fixed, NoReplace}
 use Rattle.av_trace.specs.declared.reply.Errno.{Errno}
@@ -33,12 +34,14 @@ use Rattle.av_trace.specs.declared.note.Note.TheVariants.{Aged, Copied, Dropped,
 use Rattle.av_base.specs.Limits.{most_processes}
 use Rattle.av_base.specs.Page.{address_of, page_of, pages_of}
 use Rattle.av_base.specs.Words.{within}
+use Rattle.av_base.specs.declared.prot.Prot.{Prot}
 use Rattle.av_base.specs.declared.slot.Slot.{Slot}
 use Rattle.av_plain.specs.Access.{Accesses, End, after_write, first_bytes, pages_of_access}
 use Rattle.av_plain.specs.Event.{Event, Forked, Moved, Noted, TurnedOff, TurnedOn, Used, Zapped, after, after_all, without_seen}
 use Rattle.av_plain.specs.Ledger.{Entry, Ledger, Setting, entry, first_ledger}
 use Rattle.av_plain.specs.Load.{after_load, after_loads, is_of_slot, with_loads, without_bytes, without_claims}
 use Rattle.av_plain.specs.Map.{with_prot_to_hole, zaps_for_place}
+use Rattle.av_plain.specs.Mremap.{events_to, prot_left, remap_events, remapped}
 use Rattle.av_plain.specs.Place.{Goes, IsMapAt}
 use Rattle.av_plain.specs.Refusal.{Refuses, refusal, tests, wraps}
 use Rattle.av_plain.specs.Sound.{AllSound, AtPages, IsTidy}
@@ -48,10 +51,11 @@ use Rattle.av_plain.specs.World.{Page, Process, World, end_process, lives, no_pa
 use Rattle.av_plain.specs.Zap.{keys_in, zaps_of}
 use Rattle.av_plain.proofs.Ledger.NoSwap.{itself}
 use Rattle.av_plain.proofs.Fork.{entry-forked, child_ledger}
-use Rattle.av_plain.proofs.Refusal.{may-fork, refused-next}
+use Rattle.av_plain.proofs.Refusal.{MayRemap, first-mapped, may-fork, may-remap, refused-next}
 use Rattle.av_plain.proofs.Sound.Access.{accesses-kept}
 use Rattle.av_plain.proofs.Sound.Counts.{same-itself}
 use Rattle.av_plain.proofs.Sound.Fork.{forked-kept, forked-no_new}
+use Rattle.av_plain.proofs.Sound.Mremap.{remap-here, remap-kept, remap-no_new, remap-others}
 use Rattle.av_plain.proofs.Sound.Pages.{accesses-at}
 use Rattle.av_plain.proofs.Sound.There.{InAreas, accesses-in, there-by}
 use Rattle.av_plain.proofs.Sound.Zap.{after_zap-sound, exit-sound, zaps_of-at}
@@ -267,6 +271,20 @@ stored-sound m w l p a (b ∷ bytes) s alive = changed-sound m w l p (with_bytes
     kept f None h = cc
     kept f (Some x) h = refl
 
+-- n pages become k, and those that go or move have their entries go or move
+remap-sound : (m : Setting) (w w' : World) (l : Ledger) (p from n to k : ℕ) (left : Option Prot) → AllSound m w l → AllSound m w' l → lives w' p ≡ true
+    → is_some (pages w' p from) ≡ true
+    → AllSound m (set_process w' p (remapped from n to k left (pages w' p))) (after_all l (remap_events l p from n to k))
+remap-sound m w w' l p from n to k left s s' alive first = record {
+  world = tidy-set w' p (remapped from n to k left (pages w' p)) s'.world alive;
+  ledger = remap-kept m l p from n to k s.ledger;
+  at_pages = at-changed w' (after_all l (remap_events l p from n to k)) p (remapped from n to k left (pages w' p))
+      (remap-here w' l p from n to k left s.ledger.in_order s'.at_pages first)
+      (λ q page other h. remap-others w' l p from n to k left s.ledger.in_order s'.at_pages first q page (grind (arith, nat_tests, other)) h);
+  in_areas = there-by m l (after_all l (remap_events l p from n to k)) (remap-no_new m l p from n to k s.ledger) s.in_areas;
+  areas_fit = (remap-no_new m l p from n to k s.ledger).fits s.areas_fit;
+}
+
 -- ---- a legal reply
 
 accesses-sound : (m : Setting) (w : World) (l : Ledger) (p : ℕ) (ps : List (Bool × ℕ)) (events : List Event) (end : End) → AllSound m w l → Accesses m w l p ps events end → AllSound m w (after_all l events)
@@ -389,6 +407,35 @@ follows-sound m w l (Mprotect p a len prot) events answer rows s fine h =
     by : (b : Bool) → AllSound m (next here (Mprotect p a len prot) (if b then Done else Refused Enomem)) (after_all l events)
     by true = changed (pages_of len)
     by false = stopped (wraps a len)
+follows-sound m w l (AsksMremap p a old new mode) events answer rows s fine h = by h.0 h.2 h.3
+  where
+    here : World
+    here = with_loads m w l events
+
+    loaded : AllSound m here l
+    loaded = loads-sound m w l l events s
+
+    may : MayRemap w p a old new mode
+    may = may-remap m w l p a old new mode fine
+
+    first : is_some (pages here p (page_of a)) ≡ true
+    first = map_count-loads m w l events p (page_of a) ∙ first-mapped (pages w p) (page_of a) (pages_of old) (pages_of new) mode may.has_pages
+
+    left : Option Prot
+    left = prot_left mode (pages here p) (page_of a)
+
+    back : (page : ℕ) → page_of (address_of page) ≡ page
+    back page = omega arith
+
+    by : (to : Option ℕ) → IsMapAt answer to → events ≡ events_to l p (page_of a) (pages_of old) to (pages_of new)
+        → AllSound m (next here (AsksMremap p a old new mode) answer) (after_all l events)
+    by None e es = subst (λ x. AllSound m (next here (AsksMremap p a old new mode) x) (after_all l events)) (sym e) (unchanged m here l events es loaded)
+    by (Some to) e es = subst (λ x. AllSound m (next here (AsksMremap p a old new mode) x) (after_all l events)) (sym e)
+        (subst (λ es. AllSound m (set_process here p (remapped (page_of a) (pages_of old) (page_of (address_of to)) (pages_of new) left (pages here p)))
+        (after_all l es)) (sym es)
+        (subst (λ b. AllSound m (set_process here p (remapped (page_of a) (pages_of old) b (pages_of new) left (pages here p)))
+        (after_all l (remap_events l p (page_of a) (pages_of old) to (pages_of new)))) (sym (back to))
+        (remap-sound m w here l p (page_of a) (pages_of old) to (pages_of new) left s loaded (lives-loads m w l events p ∙ may.living) first)))
 follows-sound m w l (Read p a n) events answer rows s fine h = loads-sound m w l (after_all l events) events (accesses-sound m w l p (pages_of_access false a n) events h.0 s h.2)
 follows-sound m w l (Write p a bytes) events answer rows s fine h =
     stored-sound m (with_loads m w l events) (after_all l events) p a (first_bytes answer bytes)

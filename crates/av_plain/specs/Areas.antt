@@ -7,7 +7,7 @@ use Rattle.av_base.specs.Page.{page_of, pages_of}
 use Rattle.av_base.specs.Words.{is_in, with_at}
 use Rattle.av_base.specs.declared.prot.Prot.{Prot}
 use Rattle.av_trace.specs.declared.command.Command.{Command}
-use Rattle.av_trace.specs.declared.command.Command.TheVariants.{Mprotect, Spawn, Exit, Mmap, Munmap}
+use Rattle.av_trace.specs.declared.command.Command.TheVariants.{Mprotect, Mremap, Spawn, Exit, Mmap, Munmap}
 use Rattle.av_trace.specs.declared.place.Place.{Place}
 use Rattle.av_trace.specs.declared.place.Place.TheVariants.{Auto, At, Fixed, NoReplace}
 use Rattle.av_trace.specs.declared.reply.Answer.{Answer}
@@ -18,6 +18,7 @@ use Rattle.av_trace.specs.declared.note.Note.TheVariants.{New, Copied}
 use Rattle.av_vma.specs.Pages.{Lengths, Pages, after_map, after_prepare, after_unmap, home_of, makes_anon, pages_changed, to_prot}
 use Rattle.av_plain.specs.Event.{Event, Noted, Used, after}
 use Rattle.av_plain.specs.Ledger.{Entry, InFrame, Key, Ledger, entry}
+use Rattle.av_plain.specs.Mremap.{after_mremap, prot_left}
 use Rattle.av_plain.specs.Refusal.{wraps}
 use Rattle.av_plain.specs.World.{World, pages, pages_to_hole}
 
@@ -168,6 +169,9 @@ next_areas long on w (Mprotect p a len prot) Done =
 next_areas long on w (Mprotect p a len prot) (Refused Enomem) =
     if wraps a len then on
     else with_at p (areas_to_hole long w p (page_of a) (pages_of len) prot (on p)) on
+next_areas long on w (Mremap p a old new mode) (MapAt b) =
+    with_at p (after_mremap long p (page_of a) (pages_of old) (page_of b) (pages_of new)
+    (prot_left mode (pages w p) (page_of a)) (on p)) on
 next_areas long on w command answer = on
 
 -- ---- the whole

@@ -10,6 +10,7 @@ pub mod Zap
 pub mod Process
 pub mod Place
 pub mod Map
+pub mod Mremap
 pub mod Report
 pub mod Refusal
 pub mod Step

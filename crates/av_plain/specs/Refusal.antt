@@ -1,10 +1,11 @@
 -- Which commands are refused, and with which error: the first test that holds, in one order for
 -- each command.
-use Rattle.std.specs.Prelude.{ℕ, ◌+◌, Bool, true, false, not, ◌==◌, if◌then◌else◌, List, [], ◌∷◌, ◌++◌, Option, Some, None, ◌≡◌, ◌||◌, length, nat_lt, nat_le, ◌*◌, ◌^◌}
+use Rattle.std.specs.Prelude.{ℕ, ◌+◌, Bool, true, false, not, ◌==◌, if◌then◌else◌, ◌&&◌, List, [], ◌∷◌, ◌++◌, Option, Some, None, ◌≡◌, ◌||◌, length, nat_lt, nat_le, ◌*◌, ◌^◌}
 use Rattle.av_base.specs.Limits.{most_processes, low_page, top_page}
 use Rattle.av_base.specs.Page.{page_of, address_of, pages_of, is_on_page}
 use Rattle.av_trace.specs.declared.command.Command.{Command}
-use Rattle.av_trace.specs.declared.command.Command.TheVariants.{Mprotect, Spawn, Fork, Exit, Mmap, Munmap, Read, Write, Maps, Areas as AsksAreas, Rmap, Entry as AsksEntry, Stat}
+use Rattle.av_trace.specs.declared.command.Command.TheVariants.{Mprotect, Mremap, Spawn, Fork, Exit, Mmap, Munmap, Read, Write, Maps, Areas as AsksAreas, Rmap, Entry as AsksEntry, Stat}
+use Rattle.av_trace.specs.declared.mode.Mode.{Mode}
 use Rattle.av_trace.specs.declared.place.Place.{Place}
 use Rattle.av_trace.specs.declared.place.Place.TheVariants.{Auto, At, Fixed, NoReplace}
 use Rattle.av_trace.specs.declared.reply.Answer.{Answer}
@@ -14,6 +15,7 @@ use Rattle.av_trace.specs.declared.reply.Errno.TheVariants.{Efault, Enomem, Eper
 use Rattle.av_trace.specs.declared.row.Row.{Row}
 use Rattle.av_plain.specs.Event.{Event}
 use Rattle.av_plain.specs.Ledger.{Setting, Ledger}
+use Rattle.av_plain.specs.Mremap.{have_one_prot, is_in_place, leaves_old, target_of}
 use Rattle.av_plain.specs.World.{Process, World, is_mapped, pages, lives, meets}
 
 -- tests in order, each with the error that it leads to
@@ -64,6 +66,45 @@ place_tests q n (At a) = []
 place_tests q n (Fixed a) = fixed_tests n a
 place_tests q n (NoReplace a) = fixed_tests n a ++ (meets q (page_of a) n, Eexist) ∷ []
 
+-- whether n pages from an address on, and m from another, have a page in common
+abbrev pub overlap : ℕ → ℕ → ℕ → ℕ → Bool
+overlap a n b m = nat_lt a (b + address_of m) && nat_lt b (a + address_of n)
+
+-- n pages from an address on may not become m at another: that is not on a page, they would end
+-- past the top, or the two ranges overlap
+abbrev pub is_no_target : ℕ → ℕ → ℕ → Option ℕ → Bool
+is_no_target a n m None = false
+is_no_target a n m (Some b) =
+    not (is_on_page b) || nat_lt top (b + address_of m) || overlap a n b m
+
+abbrev pub is_below_low : Option ℕ → Bool
+is_below_low None = false
+is_below_low (Some b) = nat_lt b low
+
+-- the two lengths cannot be what the mode asks for
+abbrev pub are_bad_lengths : ℕ → ℕ → Mode → Bool
+are_bad_lengths old new mode =
+    old == 0 || new == 0 || overflows old || overflows new || (leaves_old mode && not (old == new))
+
+-- the pages that have to be mapped are not: the first one where the range stays in place, else all
+-- of them, with one protection
+abbrev pub lacks_pages : Process → ℕ → ℕ → ℕ → Mode → Bool
+lacks_pages q from n m mode =
+    not (if is_in_place mode n m then is_mapped q from else have_one_prot q from n)
+
+-- in place, and a tail goes that ends past the top
+abbrev pub is_tail_too_high : ℕ → ℕ → ℕ → Mode → Bool
+is_tail_too_high a n m mode = is_in_place mode n m && nat_lt m n && nat_lt top (a + address_of n)
+
+-- the tests of an mremap
+abbrev pub mremap_tests : Process → ℕ → ℕ → ℕ → Mode → Tests
+mremap_tests q a old new mode =
+    (not (is_on_page a) || are_bad_lengths old new mode, Einval)
+    ∷ (is_no_target a (pages_of old) (pages_of new) (target_of mode), Einval)
+    ∷ (lacks_pages q (page_of a) (pages_of old) (pages_of new) mode, Efault)
+    ∷ (is_tail_too_high a (pages_of old) (pages_of new) mode, Einval)
+    ∷ (is_below_low (target_of mode), Eperm) ∷ []
+
 -- the tests of each command
 abbrev pub tests : Setting → World → Ledger → Command → Tests
 tests m w l (Spawn p) = (lives w p, Eexist) ∷ too_many w ∷ []
@@ -76,6 +117,8 @@ tests m w l (Munmap p a len) =
     no_process w p ∷ (not (is_on_page a) || len == 0 || nat_lt top (a + len), Einval) ∷ []
 tests m w l (Mprotect p a len prot) =
     no_process w p ∷ (not (is_on_page a), Einval) ∷ (wraps a len, Enomem) ∷ []
+tests m w l (Mremap p a old new mode) =
+    no_process w p ∷ mremap_tests (pages w p) a old new mode
 tests m w l (Read p a n) = no_process w p ∷ []
 tests m w l (Write p a bytes) = no_process w p ∷ []
 tests m w l (Maps p) = no_process w p ∷ []

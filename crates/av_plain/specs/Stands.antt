@@ -2,7 +2,7 @@
 -- answer: a view.
 use Rattle.std.specs.FinMap.Entries.{find}
 use Rattle.std.specs.Ordering.{nat_cmp}
-use Rattle.std.specs.Prelude.{ℕ, Bool, true, false, List, [], ◌∷◌, map, Option, Some, None, ◌≡◌, ◌<◌, IfSome, IsSomeAnd, is_some, ◌≤◌, length, option_map, slice_index}
+use Rattle.std.specs.Prelude.{ℕ, Bool, true, false, List, map, Option, Some, None, ◌≡◌, ◌<◌, IfSome, IsSomeAnd, is_some, length, option_map, slice_index}
 use Rattle.av_base.specs.Page.{page_size}
 use Rattle.av_base.specs.Words.{is_in}
 use Rattle.av_base.specs.declared.slot.Slot.{Slot}

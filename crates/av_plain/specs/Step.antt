@@ -2,7 +2,7 @@
 use Rattle.std.specs.Prelude.{ℕ, ◌+◌, if◌then◌else◌, List, Option, None, Some, ◌≡◌, length, max, MatchOption}
 use Rattle.av_base.specs.Page.{page_of, pages_of}
 use Rattle.av_trace.specs.declared.command.Command.{Command}
-use Rattle.av_trace.specs.declared.command.Command.TheVariants.{Mprotect, Spawn, Fork, Exit, Mmap, Munmap, Read, Write, Maps, Areas as AsksAreas, Rmap, Entry as AsksEntry, Stat}
+use Rattle.av_trace.specs.declared.command.Command.TheVariants.{Mprotect, Mremap, Spawn, Fork, Exit, Mmap, Munmap, Read, Write, Maps, Areas as AsksAreas, Rmap, Entry as AsksEntry, Stat}
 use Rattle.av_trace.specs.declared.reply.Answer.{Answer}
 use Rattle.av_trace.specs.declared.reply.Answer.TheVariants.{Bus, Done, MapAt, NoFrame, Oom, Refused}
 use Rattle.av_trace.specs.declared.reply.Errno.TheVariants.{Enomem, Eio}
@@ -14,6 +14,7 @@ use Rattle.av_plain.specs.Fork.{Forks}
 use Rattle.av_plain.specs.Ledger.{Setting, Ledger}
 use Rattle.av_plain.specs.Load.{with_loads}
 use Rattle.av_plain.specs.Map.{Unmaps, MapsAt, Protects, with_prot_to_hole}
+use Rattle.av_plain.specs.Mremap.{Remaps, prot_left, remapped}
 use Rattle.av_plain.specs.Pass.{fails}
 use Rattle.av_plain.specs.Process.{Spawns, Exits}
 use Rattle.av_plain.specs.Refusal.{tests, refusal, Refuses, wraps}
@@ -36,6 +37,9 @@ next w (Mprotect p a len prot) Done =
     set_process w p (with_prot_on (pages w p) (page_of a) (pages_of len) prot)
 next w (Mprotect p a len prot) (Refused Enomem) =
     if wraps a len then w else with_prot_to_hole w p (page_of a) (pages_of len) prot
+next w (Mremap p a old new mode) (MapAt b) =
+    set_process w p (remapped (page_of a) (pages_of old) (page_of b) (pages_of new)
+    (prot_left mode (pages w p) (page_of a)) (pages w p))
 next w (Write p a bytes) answer = after_write w p a (first_bytes answer bytes)
 next w command answer = w
 
@@ -60,6 +64,8 @@ Follows m w l (Munmap p a len) events answer rows =
     Unmaps l p (page_of a) (pages_of len) events answer rows
 Follows m w l (Mprotect p a len prot) events answer rows =
     Protects w p (page_of a) (pages_of len) events answer rows
+Follows m w l (Mremap p a old new mode) events answer rows =
+    Remaps (pages w p) l p (page_of a) (pages_of old) (pages_of new) mode events answer rows
 Follows m w l (Read p a n) events answer rows = ReadsPages m w l p a n events answer rows
 Follows m w l (Write p a bytes) events answer rows =
     WritesPages m w l p a (length bytes) events answer rows

@@ -5,7 +5,8 @@ use Rattle.std.specs.Option.{option_or}
 use Rattle.av_plain.specs.Event.{put_all, without_seen}
 use Rattle.av_plain.specs.Ledger.{Entry, InFrame, InSlot, Ledger, Setting, Zero, entry}
 use Rattle.av_plain.specs.Sound.{IsSound, kin}
-use Rattle.av_plain.proofs.Fork.{copies, entry-forked, child_ledger, forked-is, frames-grow, is_sorted-put_all, put_all-only, slots-grow}
+use Rattle.av_plain.proofs.Event.{is_sorted-put_all, put_all-only}
+use Rattle.av_plain.proofs.Fork.{copies, entry-forked, child_ledger, forked-is, frames-grow, slots-grow}
 use Rattle.av_plain.proofs.Sound.Cache.{back}
 use Rattle.av_plain.proofs.Sound.There.{NoNew, less}
 

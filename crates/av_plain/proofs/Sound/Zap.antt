@@ -20,7 +20,7 @@ use Rattle.av_plain.proofs.Sound.Changes.{Others, settle-kept}
 use Rattle.av_plain.proofs.Sound.Counts.{pair-frame, same-is, same-itself, slot_of-none, slot_of-some, two_slots}
 use Rattle.av_plain.proofs.Sound.Entries.{flag}
 use Rattle.av_plain.proofs.Sound.Flight.{drops-kept, excuse_of}
-use Rattle.av_plain.proofs.Sound.There.{NoNew, lawful-no_new, less, no_new-then, there-by}
+use Rattle.av_plain.proofs.Sound.There.{InAreas, NoNew, lawful-no_new, less, no_new-then, there-by}
 use Rattle.av_plain.proofs.Zap.{after_zap-is, entry-ended, entry-leaving, entry-zaps_of, in_order-after_zap, leaving, map_count-leaving, same_swap-after_zap, slot_entries-after_zap, slot_entries-leaving}
 
 -- ---- an entry goes
@@ -108,6 +108,14 @@ zaps_of-no_new m l (k ∷ ks) s = subst (NoNew m l) (sym (after_all-append l (za
 
 pub zaps_of-there : (m : Setting) (l : Ledger) (ks : List Key) → IsSound m l → AreThere m l → AreThere m (after_all l (zaps_of l ks))
 zaps_of-there m l ks s all = there-by m l (after_all l (zaps_of l ks)) (zaps_of-no_new m l ks s) all
+
+-- what holds of slots and areas stays
+pub zaps-in : (m : Setting) (l : Ledger) (ks : List Key) → InAreas m l → InAreas m (after_all l (zaps_of l ks))
+zaps-in m l ks s = record {
+  sound = zaps_of-kept m l ks s.sound;
+  there = zaps_of-there m l ks s.sound s.there;
+  fits = (zaps_of-no_new m l ks s.sound).fits s.fits;
+}
 
 -- ---- a process goes
 
