@@ -1,11 +1,13 @@
 -- Where devices tell their pages and do not fail, a command has one reply.
-use Rattle.std.proofs.Common.{◌≡◌, ℕ, zero, suc, ◌+◌, ◌-◌, ◌*◌, ◌/◌, ◌%◌, ◌<◌, ◌≤◌, Bool, true, false, cond, if◌then◌else◌, List, [], ◌∷◌, ◌++◌, length, Option, Some, None, is_some, option_map, refl, sym, ap, subst, ◌∙◌, arith, ◌==◌, append-nil, map, inl, inr}
+use Rattle.std.proofs.Common.{◌≡◌, ℕ, zero, suc, ◌+◌, ◌-◌, ◌*◌, ◌/◌, ◌%◌, ◌<◌, ◌≤◌, Bool, true, false, cond, if◌then◌else◌, List, [], ◌∷◌, ◌++◌, length, Option, Some, None, is_some, option_map, refl, sym, ap, subst, ◌∙◌, arith, ◌==◌, append-nil, map, inl, inr, nat_lt}
 use Rattle.std.proofs.lemmas.Bool.Decides.{nat_tests}
 use Rattle.std.specs.Prelude.{IfSome, MatchBool, MatchOption, option_and_then, slice_index}
 use Rattle.std.specs.Ordering.{nat_cmp, eq_by_cmp}
 use Rattle.av_vma.specs.Gap.{IsGap}
 use Rattle.av_trace.specs.declared.command.Command.{Command}
-use Rattle.av_trace.specs.declared.command.Command.TheVariants.{Spawn, Fork, Exit, Mmap, Munmap, Mprotect, Read, Write, Maps, Areas as AsksAreas, Rmap, Entry as AsksEntry, Stat}
+use Rattle.av_trace.specs.declared.command.Command.TheVariants.{Spawn, Fork, Exit, Mmap, Mremap, Munmap, Mprotect, Read, Write, Maps, Areas as AsksAreas, Rmap, Entry as AsksEntry, Stat}
+use Rattle.av_trace.specs.declared.mode.Mode.{Mode}
+use Rattle.av_trace.specs.declared.mode.Mode.TheVariants.{DontUnmap, Fixed as FixedAt, MayMove, Plain}
 use Rattle.av_trace.specs.declared.place.Place.{Place}
 use Rattle.av_trace.specs.declared.place.Place.TheVariants.{Auto, At, Fixed, NoReplace}
 use Rattle.av_trace.specs.declared.reply.Errno.{Errno}
@@ -27,6 +29,7 @@ use Rattle.av_plain.specs.Fork.{IsRmapNext}
 use Rattle.av_plain.specs.Ledger.{Key, Ledger, Setting}
 use Rattle.av_plain.specs.Load.{after_loads, with_loads}
 use Rattle.av_plain.specs.Map.{with_prot_to_hole}
+use Rattle.av_plain.specs.Mremap.{MovesTo, events_to, may_stay, prot_at, prot_left, remapped}
 use Rattle.av_plain.specs.Place.{Goes, IsMapAt, is_room}
 use Rattle.av_plain.specs.Refusal.{Refuses, low, refusal, tests, wraps}
 use Rattle.av_plain.specs.Areas.{rmap_after_all, Anons, Areas}
@@ -247,6 +250,18 @@ goes-one q n (At a) to to' h g = by (is_room q n (page_of a)) h g
 goes-one q n (Fixed a) to to' h g = h ∙ sym g
 goes-one q n (NoReplace a) to to' h g = h ∙ sym g
 
+-- so do the pages of an mremap
+moves-one : (q : Process) (from n m : ℕ) (mode : Mode) (to to' : Option ℕ) → MovesTo q from n m mode to → MovesTo q from n m mode to' → to ≡ to'
+moves-one q from n m Plain to to' h g = h ∙ sym g
+moves-one q from n m MayMove to to' h g = by (may_stay q from n m) h g
+  where
+    by : (b : Bool) → MatchBool b (to ≡ Some from) (IsGap (is_mapped q) m to) → MatchBool b (to' ≡ Some from) (IsGap (is_mapped q) m to') → to ≡ to'
+    by true h g = h ∙ sym g
+    by false h g = gap-one (is_mapped q) m to to' h g
+moves-one q from n m (FixedAt b) to to' h g = h ∙ sym g
+moves-one q from n m (DontUnmap (Some b)) to to' h g = h ∙ sym g
+moves-one q from n m (DontUnmap None) to to' h g = gap-one (is_mapped q) m to to' h g
+
 map_at-one : (to : Option ℕ) (answer answer' : Answer) → IsMapAt answer to → IsMapAt answer' to → answer ≡ answer'
 map_at-one None answer answer' h g = h ∙ sym g
 map_at-one (Some page) answer answer' h g = h ∙ sym g
@@ -314,6 +329,14 @@ follows-one m w l on anons (Munmap p at len) es fs answer answer' rows rows' clo
 follows-one m w l on anons (Mprotect p at len prot) es fs answer answer' rows rows' closing free a b told
     claimed kept kept' x y c d h
     g s t = record { events = h.1 ∙ sym g.1; answers = h.0 ∙ sym g.0; reports = h.2 ∙ sym g.2 }
+follows-one m w l on anons (Mremap p at old new mode) es fs answer answer' rows rows' closing free a b told
+    claimed kept kept' x y c d h g s t =
+    let same = moves-one (pages w p) (page_of at) (pages_of old) (pages_of new) mode h.0 g.0 h.1 g.1 in
+    record {
+      events = h.3 ∙ ap (λ to. events_to l p (page_of at) (pages_of old) to (pages_of new)) same ∙ sym g.3;
+      answers = map_at-one g.0 answer answer' (subst (IsMapAt answer) same h.2) g.2;
+      reports = h.4 ∙ sym g.4;
+    }
 follows-one m w l on anons (Read p at n) es fs answer answer' rows rows' closing free a b told claimed kept
     kept' x y c d h g s t =
     let one = accesses-one m closing told w l p (pages_of_access false at n) es fs h.0 g.0 free a b
@@ -469,6 +492,37 @@ claimed-follows m w l command es answer rows told claimed h = subst (λ v. IsCla
             stopped : (c : Bool) → IsClaimed (if c then w else with_prot_to_hole w p (page_of a) (pages_of len) prot)
             stopped true = claimed
             stopped false = claimed-protected w p (page_of a) (pages_to_hole (pages w p) (page_of a) (pages_of len)) prot claimed
+    by (Mremap p a old new mode) h = at h.0 h.2
+      where
+        q : Process
+        q = pages w p
+
+        left : Option Prot
+        left = prot_left mode q (page_of a)
+
+        fresh : (o : Option Prot) → Claims (option_map zeros o)
+        fresh None = tt
+        fresh (Some prot) = λ i below. refl
+
+        outside : (page : ℕ) (b : Bool) → Claims (cond b (option_map zeros left) (q page))
+        outside page true = fresh left
+        outside page false = claimed p page
+
+        inside : (to page : ℕ) (b : Bool) → Claims (cond b (q (page_of a + (page - to))) (option_map zeros (prot_at q (page_of a))))
+        inside to page true = claimed p (page_of a + (page - to))
+        inside to page false = fresh (prot_at q (page_of a))
+
+        each : (to page : ℕ) (b : Bool) → Claims (cond b (cond (nat_lt (page - to) (pages_of old)) (q (page_of a + (page - to)))
+            (option_map zeros (prot_at q (page_of a))))
+            (cond (within (page_of a) (pages_of old) page) (option_map zeros left) (q page)))
+        each to page true = inside to page (nat_lt (page - to) (pages_of old))
+        each to page false = outside page (within (page_of a) (pages_of old) page)
+
+        at : (to : Option ℕ) → IsMapAt answer to → IsClaimed (next w (Mremap p a old new mode) answer)
+        at None e = subst (λ x. IsClaimed (next w (Mremap p a old new mode) x)) (sym e) claimed
+        at (Some page) e = subst (λ x. IsClaimed (next w (Mremap p a old new mode) x)) (sym e)
+            (claimed-set w p (remapped (page_of a) (pages_of old) (page_of (address_of page)) (pages_of new) left q) claimed
+            (λ x. each (page_of (address_of page)) x (within (page_of (address_of page)) (pages_of new) x)))
     by (Read p a n) h = claimed
     by (Write p a bytes) h = claimed-stored w p a (first_bytes answer bytes) claimed
     by (Maps p) h = claimed

@@ -1,5 +1,5 @@
 -- In a run the slots of each area are listed as the ledger has them: a page is taken where its slot is in use, and only slots are free.
-use Rattle.std.proofs.Common.{◌≡◌, ◌⊎◌, inl, inr, ℕ, zero, suc, ◌+◌, ◌-◌, ◌<◌, ◌≤◌, Bool, true, false, cond, not, ◌&&◌, ◌||◌, nat_lt, nat_le, T, List, [], ◌∷◌, length, filter, Option, Some, None, IfSome, is_some, count_by, refl, sym, ap, subst, ◌∙◌, arith, ◌==◌}
+use Rattle.std.proofs.Common.{◌≡◌, ◌⊎◌, inl, inr, ℕ, zero, suc, ◌+◌, ◌-◌, min, ◌<◌, ◌≤◌, Bool, true, false, cond, not, ◌&&◌, ◌||◌, nat_lt, nat_le, T, List, [], ◌∷◌, length, filter, Option, Some, None, IfSome, is_some, count_by, refl, sym, ap, subst, ◌∙◌, arith, ◌==◌, ◌++◌}
 use Rattle.std.proofs.lemmas.Bool.Decides.{nat_tests}
 use Rattle.std.specs.Option.{option_map_or}
 use Rattle.std.specs.Ordering.{nat_cmp}
@@ -13,9 +13,9 @@ use Rattle.av_clusters.proofs.Pages.{free_below}
 use Rattle.av_clusters.proofs.Whole.{one_fewer}
 use Rattle.av_laws.proofs.Clusters.{AreTaken, Gives, back-at, back-count, gives-one, set-at}
 use Rattle.av_base.specs.Page.{page_of, pages_of}
-use Rattle.av_base.specs.Words.{how_many, numbers, with_at}
+use Rattle.av_base.specs.Words.{how_many, numbers, with_at, within}
 use Rattle.av_trace.specs.declared.command.Command.{Command}
-use Rattle.av_trace.specs.declared.command.Command.TheVariants.{Spawn, Fork, Exit, Mmap, Munmap, Mprotect, Read, Write, Maps, Areas as AsksAreas, Rmap, Entry as AsksEntry, Stat}
+use Rattle.av_trace.specs.declared.command.Command.TheVariants.{Spawn, Fork, Exit, Mmap, Mremap, Munmap, Mprotect, Read, Write, Maps, Areas as AsksAreas, Rmap, Entry as AsksEntry, Stat}
 use Rattle.av_trace.specs.declared.place.Place.TheVariants.{Auto, At, Fixed, NoReplace}
 use Rattle.av_trace.specs.declared.reply.Errno.{Errno}
 use Rattle.av_trace.specs.declared.reply.Reply.{Reply}
@@ -23,7 +23,7 @@ use Rattle.av_trace.specs.declared.note.Note.{Note}
 use Rattle.av_trace.specs.declared.note.Note.TheVariants.{Aged, Copied, Dropped, Failed, Kept, Loaded, Mapped, New, Put, Started, Unmapped, Written, Zeroed}
 use Rattle.av_plain.specs.Access.{Accesses, End, page_events, pages_of_access}
 use Rattle.av_plain.specs.Choice.{AreaSlots, ChoosesAll, Free, IsGiven, ListsSlots, new_free_slots, slot_in_note, with_given_back}
-use Rattle.av_plain.specs.Event.{Event, Forked, Used, after_all, after_note, after_notes, after_use, after_zap, note_events, when}
+use Rattle.av_plain.specs.Event.{Event, Forked, Moved, Used, after_all, after_move, after_note, after_notes, after_use, after_zap, note_events, when}
 use Rattle.av_plain.specs.Fault.{Stop, Touches}
 use Rattle.av_plain.specs.Fork.{inherited}
 use Rattle.av_plain.specs.Ledger.{Cached, Key, Ledger, Setting, SwapArea, entry, free_slots, is_cached, is_free_slot, is_on, is_orphan, is_usable, key_cmp, same_slot, size_of, slot_count, slot_entries, slots_in_use}
@@ -41,7 +41,10 @@ use Rattle.av_plain.proofs.Sound.{first-sound, no_entries, step-sound}
 use Rattle.av_plain.proofs.Sound.Access.{page_events-kept, touches-kept}
 use Rattle.av_plain.proofs.Sound.Changes.{any-counts}
 use Rattle.av_plain.proofs.Sound.Counts.{same-is, slot-is, slot-itself}
+use Rattle.av_plain.specs.Mremap.{events_to, range_zaps, remap_events}
+use Rattle.av_plain.proofs.Mremap.{then_tail, then_target}
 use Rattle.av_plain.proofs.Sound.Fork.{forked-no_new}
+use Rattle.av_plain.proofs.Sound.Mremap.{free_target, moved-no_new, tail-kept, target-kept}
 use Rattle.av_plain.proofs.Sound.There.{AreLawful, IsLawful, NoNew, lawful-no_new, lawful-touches, sorted-note, used-no_new}
 use Rattle.av_plain.proofs.Sound.Zap.{zap_of-kept}
 use Rattle.av_plain.proofs.Zap.{in_order-after_zap, same_swap-after_zap, slot_entries-after_zap}
@@ -506,8 +509,9 @@ zaps-inv m l (k ∷ ks) free free' s c h =
 
 -- ---- entries that go over
 
-fork-brings : (m : Setting) (l : Ledger) (p q : ℕ) → IsSound m l → ((page : ℕ) → entry l (q, page) ≡ None) → Brings l (child_ledger p q l) None
-fork-brings m l p q s none = plain-brings m l (child_ledger p q l) (forked-no_new (bare m) l p q (record {
+-- what holds of a setting's ledger holds of one with other headers
+bare-sound : (m : Setting) (l : Ledger) → IsSound m l → IsSound (bare m) l
+bare-sound m l s = record {
   in_order = s.in_order;
   slots_once = s.slots_once;
   frames_once = s.frames_once;
@@ -516,7 +520,10 @@ fork-brings m l p q s none = plain-brings m l (child_ledger p q l) (forked-no_ne
   flying = s.flying;
   used = s.used;
   one = s.one;
-}) none)
+}
+
+fork-brings : (m : Setting) (l : Ledger) (p q : ℕ) → IsSound m l → ((page : ℕ) → entry l (q, page) ≡ None) → Brings l (child_ledger p q l) None
+fork-brings m l p q s none = plain-brings m l (child_ledger p q l) (forked-no_new (bare m) l p q (bare-sound m l s) none)
 
 fork-inv : (m : Setting) (l : Ledger) (p q : ℕ) (free free' : Free) → IsSound m l → ((page : ℕ) → entry l (q, page) ≡ None)
     → ChoosesAll m None l (Forked p q (inherited l p) ∷ []) free free' → Inv m l free.slots → Inv m (child_ledger p q l) free'.slots
@@ -524,6 +531,49 @@ fork-inv m l p q free free' s none c h =
     let d = c.1.slots in
     subst (λ (f : Free). Inv m (child_ledger p q l) f.slots) (sym c.2)
     (event-inv m None l (child_ledger p q l) None free.slots c.0.slots d.0 d.1 d.2 d.3 d.4 (fork-brings m l p q s none) h)
+
+-- ---- entries that move
+
+move-brings : (m : Setting) (l : Ledger) (p n from to : ℕ) → IsSound m l
+    → ((page : ℕ) → within to n page ≡ true → within from n page ≡ false → entry l (p, page) ≡ None)
+    → Brings l (after_move p n from to l) None
+move-brings m l p n from to s free = plain-brings m l (after_move p n from to l) (moved-no_new (bare m) l p n from to (bare-sound m l s) free)
+
+remap-inv : (m : Setting) (l : Ledger) (p from n to k : ℕ) (free free' : Free) → IsSound m l
+    → ChoosesAll m None l (remap_events l p from n to k) free free' → Inv m l free.slots
+    → Inv m (after_all l (remap_events l p from n to k)) free'.slots
+remap-inv m l p from n to k free free' s c h = by (to == from) c
+  where
+    target : Ledger
+    target = then_target l p from n to k
+
+    tail : Ledger
+    tail = then_tail l p from n to k
+
+    target_zaps : List Event
+    target_zaps = range_zaps l p to k
+
+    tail_zaps : List Event
+    tail_zaps = range_zaps target p (from + k) (n - k)
+
+    move : List Event
+    move = Moved p (min n k) from to ∷ []
+
+    by : (b : Bool) → ChoosesAll m None l (cond b (range_zaps l p (from + k) (n - k)) ((target_zaps ++ tail_zaps) ++ move)) free free'
+        → Inv m (after_all l (cond b (range_zaps l p (from + k) (n - k)) ((target_zaps ++ tail_zaps) ++ move))) free'.slots
+    by true c = zaps-inv m l (keys_in l p (from + k) (n - k)) free free' s c h
+    by false c =
+        let two = chosen-first m None l (target_zaps ++ tail_zaps) move free free' c in
+        let one = chosen-first m None l target_zaps tail_zaps free two.0 two.1 in
+        let first = zaps-inv m l (keys_in l p to k) free one.0 s one.1 h in
+        let second = zaps-inv m target (keys_in target p (from + k) (n - k)) one.0 two.0 (target-kept m l p from n to k s) one.2 first in
+        let last = subst (λ x. ChoosesAll m None x move two.0 free') (after_all-append l target_zaps tail_zaps) two.2 in
+        let d = last.1.slots in
+        subst (λ x. Inv m x free'.slots) (sym (after_all-append l (target_zaps ++ tail_zaps) move ∙ ap (after_move p (min n k) from to)
+        (after_all-append l target_zaps tail_zaps)))
+        (subst (λ (f : Free). Inv m (after_move p (min n k) from to tail) f.slots) (sym last.2)
+        (event-inv m None tail (after_move p (min n k) from to tail) None two.0.slots last.0.slots d.0 d.1 d.2 d.3 d.4
+        (move-brings m tail p (min n k) from to (tail-kept m l p from n to k s) (free_target m l p from n to k s)) second))
 
 -- ---- a step
 
@@ -547,6 +597,11 @@ legal-inv m w l command reply es free free' sound legal c h = by (refusal (tests
     these ks e = subst (λ es. Inv m (after_all l es) free'.slots) (sym e)
         (zaps-inv m l ks free free' s (subst (λ es. ChoosesAll m None l es free free') e c) h)
 
+    moves : (p from n k : ℕ) (to : Option ℕ) → es ≡ events_to l p from n to k → Inv m (after_all l es) free'.slots
+    moves p from n k None e = none e
+    moves p from n k (Some to) e = subst (λ es. Inv m (after_all l es) free'.slots) (sym e)
+        (remap-inv m l p from n to k free free' s (subst (λ es. ChoosesAll m None l es free free') e c) h)
+
     follows : (command : Command) → refusal (tests m w l command) ≡ None → Follows m w l command es reply.answer reply.rows → Inv m (after_all l es) free'.slots
     follows (Spawn p) fine q = none q.1
     follows (Fork p c) fine q = forks p c (may-fork m w l p c fine).child q.1
@@ -557,6 +612,7 @@ legal-inv m w l command reply es free free' sound legal c h = by (refusal (tests
     follows (Mmap p len prot (NoReplace a)) fine q = none q.3
     follows (Munmap p a len) fine q = these (keys_in l p (page_of a) (pages_of len)) q.1
     follows (Mprotect p a len prot) fine q = none q.1
+    follows (Mremap p a old new mode) fine q = moves p (page_of a) (pages_of old) (pages_of new) q.0 q.3
     follows (Read p a n) fine q = accesses-inv m w l p (pages_of_access false a n) es q.0 free free' s q.2 c h
     follows (Write p a bytes) fine q = accesses-inv m w l p (pages_of_access true a (length bytes)) es q.0 free free' s q.1 c h
     follows (Maps p) fine q = none q.2

@@ -18,6 +18,7 @@ pub mod PairExamples
 pub mod PrepareExamples
 pub mod HomeExamples
 pub mod ForkExamples
+pub mod MremapExamples
 pub mod UnsoundExamples
 pub mod ReadBack
 pub mod NeedsFrame
@@ -31,5 +32,4 @@ pub mod AnonExamples
 pub mod RowExamples
 pub mod Clusters
 pub mod FreeSlots
-pub mod Prots
 pub mod Covered

@@ -3,7 +3,7 @@ use Rattle.std.proofs.Common.{◌≡◌, ◌⊎◌, inl, inr, ℕ, zero, suc, �
 use Rattle.std.proofs.lemmas.Bool.Decides.{nat_tests}
 use Rattle.std.specs.Prelude.{IfSome, MatchOption}
 use Rattle.av_trace.specs.declared.command.Command.{Command}
-use Rattle.av_trace.specs.declared.command.Command.TheVariants.{Spawn, Fork, Exit, Mmap, Munmap, Mprotect, Read, Write, Maps, Areas as AsksAreas, Rmap, Entry as AsksEntry, Stat}
+use Rattle.av_trace.specs.declared.command.Command.TheVariants.{Spawn, Fork, Exit, Mmap, Mremap, Munmap, Mprotect, Read, Write, Maps, Areas as AsksAreas, Rmap, Entry as AsksEntry, Stat}
 use Rattle.av_trace.specs.declared.reply.Errno.{Errno}
 use Rattle.av_trace.specs.declared.reply.Errno.TheVariants.{Enomem}
 use Rattle.av_trace.specs.declared.reply.Reply.{Reply}
@@ -177,6 +177,11 @@ follows-add m w l (Mprotect p a len prot) events answer rows s h = subst (Answer
     by : (b : Bool) → AnswerAdds m (if b then Done else Refused Enomem)
     by true = tt
     by false = tt
+follows-add m w l (Mremap p a old new mode) events answer rows s h = by h.0 h.2
+  where
+    by : (to : Option ℕ) → IsMapAt answer to → AnswerAdds m answer
+    by None e = subst (AnswerAdds m) (sym e) tt
+    by (Some page) e = subst (AnswerAdds m) (sym e) tt
 follows-add m w l (Read p a n) events answer rows s h = subst (AnswerAdds m) (sym h.4) (read-adds m a h.0 h.1 (accesses-add m w l p (pages_of_access false a n) events h.0 s h.2))
 follows-add m w l (Write p a bytes) events answer rows s h = subst (AnswerAdds m) (sym h.2) (write-adds m a h.0 (accesses-add m w l p (pages_of_access true a (length bytes)) events h.0 s h.1))
 follows-add m w l (Maps p) events answer rows s h = subst (AnswerAdds m) (sym h.0) tt

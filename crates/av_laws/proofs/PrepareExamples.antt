@@ -33,7 +33,7 @@ below-at v next x anons less more below w above = by (w == v) refl
 pub one-below : AreBelow one_root
 one-below = below-at 0 1 (alone 0) no_anons (omega arith) (omega arith) (λ v above. refl)
 
-two-below : AreBelow two_roots
+pub two-below : AreBelow two_roots
 two-below = below-at 1 2 (alone 1) one_root (omega arith) (omega arith) one-below
 
 pub kin-below : AreBelow kin

@@ -11,9 +11,11 @@ use Rattle.av_base.specs.Page.{address_of, page_of, pages_of, page_size, place_i
 use Rattle.av_base.specs.Words.{numbers}
 use Rattle.av_vma.specs.Gap.{IsGap}
 use Rattle.av_trace.specs.declared.command.Command.{Command}
-use Rattle.av_trace.specs.declared.command.Command.TheVariants.{Spawn, Fork, Exit, Mmap, Munmap, Mprotect, Read, Write, Maps, Areas as AsksAreas, Rmap, Entry as AsksEntry, Stat}
+use Rattle.av_trace.specs.declared.command.Command.TheVariants.{Spawn, Fork, Exit, Mmap, Mremap, Munmap, Mprotect, Read, Write, Maps, Areas as AsksAreas, Rmap, Entry as AsksEntry, Stat}
 use Rattle.av_trace.specs.declared.note.Note.{Note}
 use Rattle.av_trace.specs.declared.note.Note.TheVariants.{Aged, Copied, Dropped, Failed, Kept, Loaded, Mapped, New, Put, Started, Unmapped, Written, Zeroed}
+use Rattle.av_trace.specs.declared.mode.Mode.{Mode}
+use Rattle.av_trace.specs.declared.mode.Mode.TheVariants.{DontUnmap, Fixed as FixedAt, MayMove, Plain}
 use Rattle.av_trace.specs.declared.place.Place.{Place}
 use Rattle.av_trace.specs.declared.place.Place.TheVariants.{Auto, At, Fixed, NoReplace}
 use Rattle.av_trace.specs.declared.reply.Errno.{Errno}
@@ -26,6 +28,7 @@ use Rattle.av_trace.specs.declared.reply.Answer.{Answer}
 use Rattle.av_trace.specs.declared.reply.Answer.TheVariants.{AreaList, Done, MapAt, Refused, Oom, Runs, Counted}
 use Rattle.av_trace.specs.Command.{IsCommand}
 use Rattle.av_trace.specs.Note.{IsNote, IsSlot}
+use Rattle.av_trace.specs.Mode.{IsMode}
 use Rattle.av_trace.specs.Number.{IsWide}
 use Rattle.av_trace.specs.Place.{IsPlace}
 use Rattle.av_trace.specs.Reply.{AreCauses, Follow, IfThere, IsAnswer, IsReply}
@@ -37,6 +40,7 @@ use Rattle.av_plain.specs.Fork.{inherited}
 use Rattle.av_plain.specs.Access.{Accesses, End, Stopped, Whole, bytes_before, page_events, pages_of_access, read_answer, stop_answer, write_answer}
 use Rattle.av_plain.specs.Fault.{Denied, Lost, Starved, Stop}
 use Rattle.av_plain.specs.Map.{zaps_for_place}
+use Rattle.av_plain.specs.Mremap.{MovesTo, events_to, may_stay}
 use Rattle.av_plain.specs.Place.{Goes, IsMapAt, is_room}
 use Rattle.av_plain.specs.Refusal.{Refuses, refusal, tests}
 use Rattle.av_plain.specs.Report.{AreApart, AreLongest, Cover, Range, entry_answer, key_row, prot_in, row_of, run_of, totals, walk_answer, walk_rows}
@@ -52,7 +56,7 @@ use Rattle.av_plain.proofs.Report.Totals.{frames-add}
 use Rattle.av_plain.proofs.Sound.Counts.{slot-itself}
 use Rattle.av_plain.specs.Device.{HasNoDevice}
 use Rattle.av_laws.specs.ReadBack.{IsSmall, IsWideRow}
-use Rattle.av_plain.proofs.NoDevice.{HasNoSlots, IsPlainAt, accesses-plain, in-areas, no-slots, no-zap-notes}
+use Rattle.av_plain.proofs.NoDevice.{HasNoSlots, IsPlainAt, accesses-plain, in-areas, no-remap-notes, no-slots, no-zap-notes}
 use Rattle.av_laws.proofs.OutOfMemory.{legal-adds}
 
 -- what a reply has beside its notes
@@ -242,6 +246,22 @@ place-below q n page (At a) wide h = by (is_room q n (page_of a)) h
 place-below q n page (Fixed a) wide h = at_page page a wide (inner h)
 place-below q n page (NoReplace a) wide h = at_page page a wide (inner h)
 
+-- so is the address to which an mremap goes
+remap-below : (q : Process) (a n m page : ℕ) (mode : Mode) → IsWide a → IsMode mode → MovesTo q (page_of a) n m mode (Some page) → IsWide (address_of page)
+remap-below q a n m page Plain wide fits h = by (may_stay q (page_of a) n m) h
+  where
+    by : (b : Bool) → Some page ≡ cond b (Some (page_of a)) None → IsWide (address_of page)
+    by true e = at_page page a wide (inner e)
+    by false e = cc
+remap-below q a n m page MayMove wide fits h = by (may_stay q (page_of a) n m) h
+  where
+    by : (b : Bool) → MatchBool b (Some page ≡ Some (page_of a)) (IsGap (is_mapped q) m (Some page)) → IsWide (address_of page)
+    by true e = at_page page a wide (inner e)
+    by false gap = wide-page page (gap-below (is_mapped q) m page gap)
+remap-below q a n m page (FixedAt b) wide fits h = at_page page b fits (inner h)
+remap-below q a n m page (DontUnmap (Some b)) wide fits h = at_page page b fits (inner h)
+remap-below q a n m page (DontUnmap None) wide fits h = wide-page page (gap-below (is_mapped q) m page h)
+
 -- where areas are asked, what their rows say beside pages is of 64 bits
 abbrev pub AskedWide : Command → List Row → Type 0
 AskedWide (AsksAreas p) rows = AllByRecursion IsWideRow rows
@@ -314,6 +334,18 @@ follows-fit m w l (Mprotect p a len prot) events answer rows none s small fit ou
     by : (b : Bool) → Fits [] (if b then Done else Refused Enomem) []
     by true = (tt, (tt, refl))
     by false = (tt, (tt, refl))
+follows-fit m w l (Mremap p a old new mode) events answer rows none s small fit out wide h = by h.0 h.1 h.2 h.3
+  where
+    these : Option ℕ → List Event
+    these to = events_to l p (page_of a) (pages_of old) to (pages_of new)
+
+    by : (to : Option ℕ) → MovesTo (pages w p) (page_of a) (pages_of old) (pages_of new) mode to → IsMapAt answer to → events ≡ these to
+        → Fits events answer rows
+    by None goes e es = fits-by events (these None) answer (Refused Enomem) rows [] es e h.4 (fits-notes (these None) (Refused Enomem) [] refl tt (tt, refl))
+    by (Some page) goes e es = fits-by events (these (Some page)) answer (MapAt (address_of page)) rows [] es e h.4
+        (fits-notes (these (Some page)) (MapAt (address_of page)) []
+        (no-remap-notes m l p (page_of a) (pages_of old) page (pages_of new) none (in-areas m w l s))
+        (remap-below (pages w p) a (pages_of old) (pages_of new) page mode fit.1 fit.4 goes) (tt, refl))
 follows-fit m w l (Read p a n) events answer rows none s small fit out wide h =
     let plain = accesses-plain IsNote m w p none (λ page note is. plain-note m p page small.frames fit.0.most (small.below p page is) note) l (pages_of_access false a n) events h.0 (in-areas m w l s) h.2 in
     fits-by events events answer (read_answer a h.0 h.1) rows [] refl h.4 h.5

@@ -1,5 +1,6 @@
 -- The areas of each process, and its pages.
 use Rattle.std.specs.Prelude.{◌≡◌, ℕ, option_map}
+use Rattle.av_vma.specs.Indices.{AreIndicesBelow}
 use Rattle.av_vma.specs.Pages.{AreLaid}
 use Rattle.av_vma.specs.declared.area.Area.{Area}
 use Rattle.av_plain.specs.Areas.{Areas}
@@ -12,3 +13,8 @@ pub record CoverPages (w : World) (on : Areas) : Type 0 where
   pub prots : (p page : ℕ)
       → option_map (λ (area : Area). area.prot) (on p page)
       ≡ option_map (λ (q : Page). q.prot) (pages w p page)
+
+-- and all linear indices are below this number
+pub record CoverBelow (most : ℕ) (w : World) (on : Areas) : Type 0 where
+  pub cover : CoverPages w on
+  pub low : (p : ℕ) → AreIndicesBelow most (on p)

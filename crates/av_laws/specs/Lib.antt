@@ -10,3 +10,4 @@ pub mod Slots
 pub mod Covered
 pub mod Homes
 pub mod Forks
+pub mod Mremap

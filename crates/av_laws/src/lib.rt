@@ -1,8 +1,8 @@
 //! What follows from the definitions of `av_plain`, beside what the kernel needs of them: replies
 //! are determined, numbers add up, a refusal changes nothing, a reply is read back from its text,
 //! what is free is listed, areas cover what is mapped; and worked examples: legal ones and such as
-//! may not be, slots that are given, areas, anon_vmas and homes that come of commands, forks, sound
-//! states and unsound ones, views that stand for a state and such as don't.
+//! may not be, slots that are given, areas, anon_vmas and homes that come of commands, forks, pages
+//! that move, sound states and unsound ones, views that stand for a state and such as don't.
 //!
 //! No function does anything. Each one's contract is a law, proved of the definitions alone.
 #![tactic(auto)]
@@ -11,12 +11,14 @@ mod areas;
 mod examples;
 mod forks;
 mod homes;
+mod mremap;
 mod pairs;
 mod slots;
 mod unsound;
 mod views;
 
-ghost use Rattle.std.specs.Prelude.{◌≡◌, ◌⊎◌, ℕ, ◌+◌, false, true, length, List, []};
+ghost use Rattle.std.specs.Prelude.{◌≡◌, ◌⊎◌, ℕ, ◌+◌, ◌^◌, ◌≤◌, false, true, length, List, []};
+ghost use Rattle.av_base.specs.Limits.{top_page};
 ghost use Rattle.std.specs.List.{AllByRecursion};
 ghost use Rattle.av_base.specs.declared.prot.Prot.{Prot};
 ghost use Rattle.av_trace.specs.declared.command.Command.{Command};
@@ -42,7 +44,7 @@ ghost use Rattle.av_trace.specs.Command.{IsCommand};
 ghost use Rattle.av_trace.specs.Number.{IsWide};
 ghost use Rattle.av_trace.specs.Reply.{IsReply};
 ghost use Rattle.av_io.specs.Count.{Rose, RoseBy};
-ghost use Rattle.av_laws.specs.Covered.{CoverPages};
+ghost use Rattle.av_laws.specs.Covered.{CoverBelow, CoverPages};
 ghost use Rattle.av_laws.specs.NeedsFrame.{NoneWantsFrame};
 ghost use Rattle.av_plain.specs.Device.{HasNoDevice};
 ghost use Rattle.av_laws.specs.ReadBack.{IsSmall, IsWideRow};
@@ -66,6 +68,9 @@ pub use examples::{
 };
 pub use forks::{changed_forks_are_refused, forks_are_refused, forks_follow};
 pub use homes::{changed_homes_are_refused, homes_are_of_pages, homes_cover_entries, homes_follow};
+pub use mremap::{
+    changed_mremaps_are_refused, mremaps_are_refused, pages_move, pages_stay_or_find_a_place,
+};
 pub use pairs::{
     changed_pairs_are_refused, faults_are_counted, ledgers_of_two_follow, loads_make_unclaimed,
     passes_run, two_pages_run,
@@ -146,16 +151,18 @@ pub fn runs_list_free_slots()
         → ListsSlots m new.ledger new.free.slots }
 {}
 
-/// In a run the areas of each process cover exactly its pages, with their protection, and each area
-/// is whole and on all of its pages. So it is after each command that finds it so, however long the
-/// chains of anon_vmas are.
+/// In a run of at most 2^24 commands the areas of each process cover exactly its pages, with their
+/// protection, and each area is whole and on all of its pages. So it is after each command that
+/// finds it so, however long the chains of anon_vmas are, while linear indices stay small: a command
+/// raises them by no more than the pages that a process may have.
 pub fn runs_lay_areas()
     ensures from_nothing { (m : Setting) (exchanges : List Exchange) (new : State)
-        → IsRun m (at_first m) exchanges new
+        → length exchanges ≤ 2 ^ 24 → IsRun m (at_first m) exchanges new
         → CoverPages new.world new.areas }
-    ensures each_step { (m : Setting) (old new : State) (command : Command) (reply : Reply)
-        → CoverPages old.world old.areas → IsStep m old command reply new
-        → CoverPages new.world new.areas }
+    ensures each_step { (m : Setting) (most : ℕ) (old new : State) (command : Command)
+        (reply : Reply) → top_page ≤ most → most + top_page ≤ 2 ^ 60
+        → CoverBelow most old.world old.areas → IsStep m old command reply new
+        → CoverBelow (most + top_page) new.world new.areas }
 {}
 
 /// Each frame is free, active or inactive, and so the numbers of `stat` add up.
@@ -189,11 +196,11 @@ pub fn replies_are_read_back()
 {}
 
 /// So is each reply of a run from nothing on, where no device is attached, the machine's frames
-/// have numbers of 64 bits, fewer than 2^64 anon_vmas were made, and the commands are those of the
-/// grammar.
+/// have numbers of 64 bits, fewer than 2^64 anon_vmas were made, and the commands are at most 2^24,
+/// each of the grammar.
 pub fn replies_of_runs_are_read_back()
     ensures { (m : Setting) (exchanges : List Exchange) (new : State) → HasNoDevice m
-        → IsWide m.frames
+        → IsWide m.frames → length exchanges ≤ 2 ^ 24
         → AllByRecursion (λ (e : Exchange). IsCommand e.command) exchanges
         → IsRun m (at_first m) exchanges new → IsWide new.anons.next
         → AllByRecursion (λ (e : Exchange). IsReply e.reply) exchanges }

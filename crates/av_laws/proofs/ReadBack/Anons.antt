@@ -13,7 +13,7 @@ use Rattle.av_vma.specs.Join.{first_of, is_reusable, past_of}
 use Rattle.av_vma.specs.Pages.{AreLaid, Effect, Lengths, Pages, after_join, after_map, after_unmap, alters_at, cut_at, do_join, fresh_area, has_page, join_of, joined_around, joined_at, loan_beside, loan_of, makes_anon, page_changed, pages_changed, pages_in, part_changed, part_of, to_prot, with_anon, with_area, with_effect, with_effect_on, without_range}
 use Rattle.av_trace.specs.Number.{IsWide}
 use Rattle.av_trace.specs.declared.command.Command.{Command}
-use Rattle.av_trace.specs.declared.command.Command.TheVariants.{Spawn, Exit, Mmap, Munmap, Mprotect}
+use Rattle.av_trace.specs.declared.command.Command.TheVariants.{Spawn, Exit, Mmap, Mremap, Munmap, Mprotect}
 use Rattle.av_trace.specs.declared.note.Note.{Note}
 use Rattle.av_trace.specs.declared.note.Note.TheVariants.{Copied, New}
 use Rattle.av_trace.specs.declared.place.Place.{Place}
@@ -26,7 +26,9 @@ use Rattle.av_trace.specs.declared.row.Row.{Row}
 use Rattle.av_plain.specs.Areas.{Anons, AnonVma, Areas, areas_to_hole, AreLeft, AreNext, at_home, chain_length, chain_of, next_areas, none_on, prepare_page, Rmap, rmap_after, rmap_after_all, rmap_after_note, rmap_after_use, root_anon, with_room, with_root}
 use Rattle.av_plain.specs.Event.{Event, Noted, Used, after}
 use Rattle.av_plain.specs.Fork.{AreForked, GoOver, GoesBy, root_of}
+use Rattle.av_vma.specs.Mremap.{after_grow, after_move, after_resize, grown_to, joined_over, moved_area, moved_range}
 use Rattle.av_plain.specs.Ledger.{Entry, InFrame, Key, Ledger, Setting, entry}
+use Rattle.av_plain.specs.Mremap.{after_mremap, mapped_again, prot_left}
 use Rattle.av_plain.specs.Refusal.{wraps}
 use Rattle.av_plain.specs.Report.{AreRowsOf, area_row}
 use Rattle.av_plain.specs.Transcript.{Exchange, IsRun, IsStep, State, rmap_of}
@@ -151,6 +153,57 @@ set-below n p new on is h q = by (q == p)
     by true = is
     by false = h q
 
+-- ---- a range moves or grows
+
+over-below : (n : ℕ) (len : Lengths) (at k : ℕ) (on : Pages) → OwnBelow n on → OwnBelow n (joined_over len at k on)
+over-below n len at zero on h = h
+over-below n len at (suc k) on h = over-below n len (suc at) k (joined_at len at on) (joined-below n len at on h)
+
+moved-below : (n from k m to : ℕ) (on : Pages) → OwnBelow n on → OwnBelow n (moved_range from k m to on)
+moved-below n from k m to on h page = by (within to m page)
+  where
+    by : (b : Bool) → AreaBelow n (if b then option_map (moved_area from to) (on (from + (page - to))) else without_range from (from + k) on page)
+    by true = same_own n (moved_area from to) (λ a. refl) (on (from + (page - to))) (h (from + (page - to)))
+    by false = without-below n from (from + k) on h page
+
+grown-below : (n past : ℕ) (o : Option Area) (on : Pages) → AreaBelow n o → OwnBelow n on → OwnBelow n (grown_to past o on)
+grown-below n past None on is h = h
+grown-below n past (Some a) on is h = with-below n (record a { end = address_of past }) on is h
+
+move-below : (n : ℕ) (len : Lengths) (from k to m : ℕ) (on : Pages) → OwnBelow n on → OwnBelow n (after_move len from k to m on)
+move-below n len from k to m on h =
+    let cleared = after_unmap to (to + m) on in
+    let parts = cut_at (from + k) (cut_at (from + min k m) (cut_at from cleared)) in
+    let moved = moved_range from k (min k m) to parts in
+    let here = moved-below n from k (min k m) to parts (cut-below n (from + k) (cut_at (from + min k m) (cut_at from cleared))
+    (cut-below n (from + min k m) (cut_at from cleared) (cut-below n from cleared (unmap-below n to (to + m) on h)))) in
+    over-below n len to (suc m) (grown_to (to + m) (moved (to + min k m - 1)) moved)
+    (grown-below n (to + m) (moved (to + min k m - 1)) moved (here (to + min k m - 1)) here)
+
+resize-below : (n : ℕ) (len : Lengths) (from k m : ℕ) (on : Pages) → OwnBelow n on → OwnBelow n (after_resize len from k m on)
+resize-below n len from k m on h = by (nat_lt m k) (nat_lt k m)
+  where
+    grow : (o : Option Area) → AreaBelow n o → OwnBelow n (after_grow len (from + m) o on)
+    grow None is = h
+    grow (Some a) is = around-below n len (first_of a) (from + m) (grown_to (from + m) (Some a) on) (grown-below n (from + m) (Some a) on is h)
+
+    by : (b c : Bool) → OwnBelow n (if b then after_unmap (from + m) (from + k) on else (if c then after_grow len (from + m) (on (from + k - 1)) on else on))
+    by true c = unmap-below n (from + m) (from + k) on h
+    by false true = grow (on (from + k - 1)) (h (from + k - 1))
+    by false false = h
+
+again-below : (n : ℕ) (len : Lengths) (p from past : ℕ) (left : Option Prot) (on : Pages) → OwnBelow n on → OwnBelow n (mapped_again len p from past left on)
+again-below n len p from past None on h = h
+again-below n len p from past (Some prot) on h = map-below n len p from past prot on h
+
+remap-below : (n : ℕ) (len : Lengths) (p from k to m : ℕ) (left : Option Prot) (on : Pages) → OwnBelow n on
+    → OwnBelow n (after_mremap len p from k to m left on)
+remap-below n len p from k to m left on h = by (to == from)
+  where
+    by : (b : Bool) → OwnBelow n (if b then after_resize len from k m on else mapped_again len p from (from + k) left (after_move len from k to m on))
+    by true = resize-below n len from k m on h
+    by false = again-below n len p from (from + k) left (after_move len from k to m on) (move-below n len from k to m on h)
+
 next-below : (n : ℕ) (long : Lengths) (on : Areas) (w : World) (command : Command) (answer : Answer) → AllBelow n on → AllBelow n (next_areas long on w command answer)
 next-below n long on w (Spawn p) Done h = set-below n p none_on on (λ page. tt) h
 next-below n long on w (Exit p) Done h = set-below n p none_on on (λ page. tt) h
@@ -168,6 +221,9 @@ next-below n long on w (Mprotect p a len prot) (Refused Enomem) h = by (wraps a 
     by true = h
     by false = set-below n p (areas_to_hole long w p (page_of a) (pages_of len) prot (on p)) on
         (pages-below n long (to_prot prot) (page_of a) (pages_to_hole (pages w p) (page_of a) (pages_of len)) (on p) (h p)) h
+next-below n long on w (Mremap p a old new mode) (MapAt b) h =
+    set-below n p (after_mremap long p (page_of a) (pages_of old) (page_of b) (pages_of new) (prot_left mode (pages w p) (page_of a)) (on p)) on
+    (remap-below n long p (page_of a) (pages_of old) (page_of b) (pages_of new) (prot_left mode (pages w p) (page_of a)) (on p) (h p)) h
 next-below n long on w command answer h = h
 
 -- ---- anon_vmas

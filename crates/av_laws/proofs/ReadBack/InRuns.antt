@@ -2,7 +2,7 @@
 use Rattle.std.specs.List.{list_all}
 use Rattle.std.specs.Prelude.{MatchBool, MatchOption, slice_index}
 use Rattle.std.specs.Ordering.{nat_cmp, eq_by_cmp}
-use Rattle.std.proofs.Common.{◌≡◌, inl, inr, ℕ, ◌+◌, ◌-◌, ◌<◌, ◌≤◌, Bool, true, false, cond, not, ◌&&◌, List, [], ◌∷◌, ◌++◌, length, map, Option, Some, None, is_some, option_map, refl, sym, ap, subst, ◌∙◌, arith, ◌==◌, nat_lt, nat_le, if◌then◌else◌}
+use Rattle.std.proofs.Common.{◌≡◌, inl, inr, ℕ, ◌+◌, ◌-◌, ◌<◌, ◌≤◌, min, Bool, true, false, cond, not, ◌&&◌, List, [], ◌∷◌, ◌++◌, length, map, Option, Some, None, is_some, option_map, refl, sym, ap, subst, ◌∙◌, arith, ◌==◌, nat_lt, nat_le, if◌then◌else◌}
 use Rattle.std.proofs.lemmas.Bool.Decides.{nat_tests}
 use Rattle.av_base.specs.Limits.{low_page, top_page}
 use Rattle.av_base.specs.Page.{address_of, is_on_page, page_of, pages_of}
@@ -13,14 +13,15 @@ use Rattle.av_vma.specs.Gap.{IsGap}
 use Rattle.av_trace.specs.Command.{IsCommand}
 use Rattle.av_trace.specs.Number.{IsWide}
 use Rattle.av_trace.specs.declared.command.Command.{Command}
-use Rattle.av_trace.specs.declared.command.Command.TheVariants.{Spawn, Fork, Exit, Mmap, Munmap, Mprotect, Read, Write, Maps, Areas as AsksAreas, Rmap, Entry as AsksEntry, Stat}
+use Rattle.av_trace.specs.declared.command.Command.TheVariants.{Spawn, Fork, Exit, Mmap, Mremap, Munmap, Mprotect, Read, Write, Maps, Areas as AsksAreas, Rmap, Entry as AsksEntry, Stat}
 use Rattle.av_trace.specs.declared.note.Cause.TheVariants.{NoSlot, Referenced, WriteStarted, Writeback}
 use Rattle.av_trace.specs.declared.note.Note.{Note}
 use Rattle.av_trace.specs.declared.note.Note.TheVariants.{Aged, Copied, Dropped, Failed, Kept, Loaded, Mapped, New, Put, Started, Unmapped, Written, Zeroed}
+use Rattle.av_trace.specs.declared.mode.Mode.{Mode}
 use Rattle.av_trace.specs.declared.place.Place.{Place}
 use Rattle.av_trace.specs.declared.place.Place.TheVariants.{Auto, At, Fixed, NoReplace}
 use Rattle.av_trace.specs.declared.reply.Answer.{Answer}
-use Rattle.av_trace.specs.declared.reply.Answer.TheVariants.{Done, Refused}
+use Rattle.av_trace.specs.declared.reply.Answer.TheVariants.{Done, MapAt, Refused}
 use Rattle.av_trace.specs.declared.reply.Errno.{Errno}
 use Rattle.av_trace.specs.declared.reply.Errno.TheVariants.{Eexist, Einval, Enomem, Eperm, Esrch}
 use Rattle.av_trace.specs.declared.reply.Reply.{Reply}
@@ -31,14 +32,18 @@ use Rattle.av_plain.specs.Fault.{Stop}
 use Rattle.av_plain.specs.Ledger.{Entry, InFrame, InSlot, Key, Ledger, Setting, Zero, entry, frame_at, is_orphan, slot_of}
 use Rattle.av_plain.specs.Load.{with_loads}
 use Rattle.av_plain.specs.Map.{with_prot_to_hole}
+use Rattle.av_plain.specs.Mremap.{MovesTo, events_to, prot_at, prot_left, range_zaps, remap_events, remapped}
 use Rattle.av_plain.specs.Place.{Goes, IsMapAt, is_room}
 use Rattle.av_plain.specs.Refusal.{Refuses, Tests, fixed_tests, is_too_long, low, place_tests, refusal, tests, top, wraps}
 use Rattle.av_plain.specs.Step.{Follows, IsLegal, next, next_world}
 use Rattle.av_plain.specs.Transcript.{IsStep, State}
 use Rattle.av_plain.specs.World.{Page, Process, World, end_process, is_mapped, lives, meets, no_pages, pages, pages_to_hole, set_process, with_bytes, with_pages, with_prot, with_prot_on, zeros}
-use Rattle.av_plain.specs.Zap.{orphan_drop, slot_behind_key, zap_of, zaps_of}
-use Rattle.av_plain.proofs.Fork.{put_all-only}
-use Rattle.av_plain.proofs.Refusal.{refused-next}
+use Rattle.av_plain.specs.Zap.{keys_in, orphan_drop, slot_behind_key, zap_of, zaps_of}
+use Rattle.av_plain.proofs.Event.{put_all-only}
+use Rattle.av_plain.proofs.Load.{events_to-load_nothing, loads_nothing, without-loads}
+use Rattle.av_plain.proofs.Mremap.{others_of, shifted, then_target}
+use Rattle.av_plain.proofs.Mremap.Legal.{highest, left_each}
+use Rattle.av_plain.proofs.Refusal.{MayRemap, may-remap, refused-next}
 use Rattle.av_plain.proofs.Sound.{map_count-loads}
 use Rattle.av_plain.proofs.Sound.There.{settle-on}
 use Rattle.av_plain.proofs.Sound.Zap.{pages-ended}
@@ -79,7 +84,7 @@ is_plain (Noted note) = true
 is_plain (Zapped k) = true
 is_plain (Used write k) = true
 is_plain (Forked p c pages) = true
-is_plain (Moved p n from to) = false
+is_plain (Moved p n from to) = true
 is_plain (TurnedOn k slots bad) = false
 is_plain (TurnedOff k) = false
 
@@ -110,7 +115,8 @@ event-on (Forked p c pages) l h = ap (λ (l : Ledger). l.on) (put_all-only (copi
   where
     copies_of : ℕ → ℕ → List Inherited → Ledger → List (Key × Entry)
     copies_of p q pages l = map (λ e. ((q, e.0.1), without_seen e.1)) (entries_where (λ k. k.0 == p && is_inherited pages k.1) l)
-event-on (Moved p n from to) l h = cc
+event-on (Moved p n from to) l h = ap (λ (l : Ledger). l.on) (put_all-only (shifted p n from to l.entries)
+    (record l { entries = others_of p from n l.entries }))
 event-on (TurnedOn k slots bad) l h = cc
 event-on (TurnedOff k) l h = cc
 
@@ -145,6 +151,19 @@ plain-zaps l (k ∷ ks) = plain-append (zap_of l k) (zaps_of (after_all l (zap_o
     drop : (o : Option Slot) → list_all is_plain (orphan_drop now o) ≡ true
     drop None = refl
     drop (Some s) = plain-notes (when (is_orphan now s) (Dropped s))
+
+plain-remap : (l : Ledger) (p from n to k : ℕ) → list_all is_plain (remap_events l p from n to k) ≡ true
+plain-remap l p from n to k = by (to == from)
+  where
+    target : Ledger
+    target = then_target l p from n to k
+
+    by : (b : Bool) → list_all is_plain (cond b (range_zaps l p (from + k) (n - k))
+        ((range_zaps l p to k ++ range_zaps target p (from + k) (n - k)) ++ Moved p (min n k) from to ∷ [])) ≡ true
+    by true = plain-zaps l (keys_in l p (from + k) (n - k))
+    by false = plain-append (range_zaps l p to k ++ range_zaps target p (from + k) (n - k)) (Moved p (min n k) from to ∷ [])
+        (plain-append (range_zaps l p to k) (range_zaps target p (from + k) (n - k))
+        (plain-zaps l (keys_in l p to k)) (plain-zaps target (keys_in target p (from + k) (n - k)))) refl
 
 plain-page : (write : Bool) (k : Key) (notes : List Note) (end : Option Stop)
     → list_all is_plain (page_events write k notes end) ≡ true
@@ -184,6 +203,11 @@ plain-legal m w l command reply es legal = by (refusal (tests m w l command)) le
     follows (Mmap p len prot (NoReplace a)) q = none q.3
     follows (Munmap p a len) q = these _ q.1
     follows (Mprotect p a len prot) q = none q.1
+    follows (Mremap p a old new mode) q = moves q.0 q.3
+      where
+        moves : (to : Option ℕ) → es ≡ events_to l p (page_of a) (pages_of old) to (pages_of new) → list_all is_plain es ≡ true
+        moves None e = none e
+        moves (Some to) e = ap (list_all is_plain) e ∙ plain-remap l p (page_of a) (pages_of old) to (pages_of new)
     follows (Read p a n) q = plain-accesses m w l p _ es q.0 q.2
     follows (Write p a bytes) q = plain-accesses m w l p _ es q.0 q.1
     follows (Maps p) q = none q.2
@@ -316,24 +340,94 @@ goes-below q n page (NoReplace a) tests h = subst (λ x. x + n ≤ top_page) (sy
     inner : {x y : ℕ} → Some x ≡ Some y → x ≡ y
     inner e = cc
 
+-- ---- an mremap
+
+module _ (w : World) (p a old new : ℕ) (mode : Mode) (to : ℕ) (may : MayRemap w p a old new mode)
+    (goes : MovesTo (pages w p) (page_of a) (pages_of old) (pages_of new) mode (Some to)) (below : Below w) (wide : IsWide p) where
+  abbrev q : Process
+  q = pages w p
+
+  abbrev from : ℕ
+  from = page_of a
+
+  abbrev n : ℕ
+  n = pages_of old
+
+  abbrev m : ℕ
+  m = pages_of new
+
+  abbrev left : Option Prot
+  left = prot_left mode q from
+
+  mapped_with : (page : ℕ) (prot : Prot) → prot_at q page ≡ Some prot → is_some (q page) ≡ true
+  mapped_with page prot e = by (q page) e
+    where
+      by : (o : Option Page) → option_map (λ (x : Page). x.prot) o ≡ Some prot → is_some o ≡ true
+      by None e = cc
+      by (Some x) e = refl
+
+  -- each page after it is one that a process may have
+  pub remapped-below : (page : ℕ) → is_some (remapped from n to m left q page) ≡ true → page < top_page
+  remapped-below page h = by (within to m page) (within from n page) refl refl h
+    where
+      bounds : (b k : ℕ) → within b k page ≡ true → (b ≤ page) × (page < b + k)
+      bounds b k h = (grind (arith, nat_tests, h), grind (arith, nat_tests, h))
+
+      kept : is_some (cond (within from n page) (option_map zeros left) (q page)) ≡ true → (j : Bool) → within from n page ≡ j → page < top_page
+      kept h false f = (below p page (ap (λ b. is_some (cond b (option_map zeros left) (q page))) (sym f) ∙ h)).0
+      kept h true f = of_left left refl (ap (λ b. is_some (cond b (option_map zeros left) (q page))) (sym f) ∙ h)
+        where
+          of_left : (o : Option Prot) → left ≡ o → is_some (option_map zeros o) ≡ true → page < top_page
+          of_left None e h = cc
+          of_left (Some prot) e h =
+              let ends = bounds from n f in
+              (below p page (mapped_with page prot (left_each w p a old new mode to may goes prot e page ends.0 ends.1))).0
+
+      in_new : is_some (cond (nat_lt (page - to) n) (q (from + (page - to))) (option_map zeros (prot_at q from))) ≡ true
+          → within to m page ≡ true → page < top_page
+      in_new h i = place (to == from) (nat_lt n m) refl refl
+        where
+          ends : (to ≤ page) × (page < to + m)
+          ends = bounds to m i
+
+          place : (b c : Bool) → (to == from) ≡ b → nat_lt n m ≡ c → page < top_page
+          place false c e f = let high = highest w p a old new mode to may goes (inl e) in let b = ends in omega (arith, high, b)
+          place true true e f = let high = highest w p a old new mode to may goes (inr (grind (arith, nat_tests, f))) in let b = ends in omega (arith, high, b)
+          place true false e f =
+              let same : to ≡ from = grind (arith, nat_tests, e) in
+              let more : m ≤ n = grind (arith, nat_tests, f) in
+              let b = ends in
+              let inside : nat_lt (page - to) n ≡ true = (let less : page - to < n = omega (arith, b, more) in grind (arith, nat_tests, less)) in
+              let here : from + (page - to) ≡ page = omega (arith, b, same) in
+              (below p page (ap (λ x. is_some (q x)) (sym here) ∙ ap (λ b. is_some (cond b (q (from + (page - to))) (option_map zeros (prot_at q from))))
+              (sym inside) ∙ h)).0
+
+      by : (i j : Bool) → within to m page ≡ i → within from n page ≡ j
+          → is_some (cond (within to m page) (cond (nat_lt (page - to) n) (q (from + (page - to))) (option_map zeros (prot_at q from)))
+          (cond (within from n page) (option_map zeros left) (q page))) ≡ true → page < top_page
+      by true j i f h = in_new (ap (λ b. is_some (cond b (cond (nat_lt (page - to) n) (q (from + (page - to))) (option_map zeros (prot_at q from)))
+          (cond (within from n page) (option_map zeros left) (q page)))) (sym i) ∙ h) i
+      by false j i f h = kept (ap (λ b. is_some (cond b (cond (nat_lt (page - to) n) (q (from + (page - to))) (option_map zeros (prot_at q from)))
+          (cond (within from n page) (option_map zeros left) (q page)))) (sym i) ∙ h) j f
+
 -- ---- a step
 
 below-follows : (m : Setting) (w now : World) (l : Ledger) (command : Command) (es : List Event)
-    (answer : Answer) (rows : List Row) → IsCommand command → Below now
+    (answer : Answer) (rows : List Row) → IsCommand command → (list_all loads_nothing es ≡ true → now ≡ w) → Below now
     → refusal (tests m w l command) ≡ None
     → Follows m w l command es answer rows → Below (next now command answer)
-below-follows m w now l (Spawn p) es answer rows fit below none h = subst
+below-follows m w now l (Spawn p) es answer rows fit same below none h = subst
     (λ x. Below (next now (Spawn p) x)) (sym h.0)
     (below-set now p no_pages below (λ page h. absurd (never_some h)))
   where
     never_some : false ≡ true → ⊥
     never_some e = cc
-below-follows m w now l (Fork p q) es answer rows fit below none h = subst
+below-follows m w now l (Fork p q) es answer rows fit same below none h = subst
     (λ x. Below (next now (Fork p q) x)) (sym h.0)
     (below-set now q (pages now p) below (λ page h. ((below p page h).0, wide_number q fit.1.most)))
-below-follows m w now l (Exit p) es answer rows fit below none h = subst
+below-follows m w now l (Exit p) es answer rows fit same below none h = subst
     (λ x. Below (next now (Exit p) x)) (sym h.0) (below-ended now p below)
-below-follows m w now l (Mmap p len prot place) es answer rows fit below none h = at h.0 h.1 h.2
+below-follows m w now l (Mmap p len prot place) es answer rows fit same below none h = at h.0 h.1 h.2
   where
     places : refusal (place_tests (pages w p) (pages_of len) place) ≡ None
     places =
@@ -353,14 +447,14 @@ below-follows m w now l (Mmap p len prot place) es answer rows fit below none h 
         (below-ranged now p (page_of (address_of page)) (pages_of len) (λ _. Some (zeros prot))
         below (wide_number p fit.0.most) (λ q h. back page (pages_of len)
         (goes-below (pages w p) (pages_of len) page place places goes)))
-below-follows m w now l (Munmap p a len) es answer rows fit below none h = subst
+below-follows m w now l (Munmap p a len) es answer rows fit same below none h = subst
     (λ x. Below (next now (Munmap p a len) x)) (sym h.0)
     (below-ranged now p (page_of a) (pages_of len) no_pages below (wide_number p fit.0.most)
     (λ page h. absurd (never_some h)))
   where
     never_some : false ≡ true → ⊥
     never_some e = cc
-below-follows m w now l (Mprotect p a len prot) es answer rows fit below none h = subst
+below-follows m w now l (Mprotect p a len prot) es answer rows fit same below none h = subst
     (λ x. Below (next now (Mprotect p a len prot) x)) (sym h.0)
     (at (pages_to_hole (pages w p) (page_of a) (pages_of len) == pages_of len))
   where
@@ -373,14 +467,35 @@ below-follows m w now l (Mprotect p a len prot) es answer rows fit below none h 
     at : (b : Bool) → Below (next now (Mprotect p a len prot) (if b then Done else Refused Enomem))
     at true = below-protected now p (page_of a) (pages_of len) prot below
     at false = stopped (wraps a len)
-below-follows m w now l (Read p a n) es answer rows fit below none h = below
-below-follows m w now l (Write p a bytes) es answer rows fit below none h = below-stored now p a
+below-follows m w now l (Mremap p a old new mode) es answer rows fit same below none h = by h.0 h.1 h.2 h.3
+  where
+    back : (page : ℕ) → page_of (address_of page) ≡ page
+    back page = omega arith
+
+    by : (to : Option ℕ) → MovesTo (pages w p) (page_of a) (pages_of old) (pages_of new) mode to → IsMapAt answer to
+        → es ≡ events_to l p (page_of a) (pages_of old) to (pages_of new) → Below (next now (Mremap p a old new mode) answer)
+    by None goes e es_is = subst (λ x. Below (next now (Mremap p a old new mode) x)) (sym e) below
+    by (Some to) goes e es_is =
+        let still = same (ap (list_all loads_nothing) es_is ∙ events_to-load_nothing l p (page_of a) (pages_of old) (pages_of new) (Some to)) in
+        let here = subst Below still below in
+        subst (λ x. Below (next now (Mremap p a old new mode) x)) (sym e)
+        (subst (λ x. Below (next x (Mremap p a old new mode) (MapAt (address_of to)))) (sym still)
+        (subst (λ b. Below (set_process w p (remapped (page_of a) (pages_of old) b (pages_of new) (prot_left mode (pages w p) (page_of a)) (pages w p))))
+        (sym (back to))
+        (below-set w p (remapped (page_of a) (pages_of old) to (pages_of new) (prot_left mode (pages w p) (page_of a)) (pages w p)) here
+        (λ page some. (
+          remapped-below w p a old new mode to (may-remap m w l p a old new mode none) goes here
+              (wide_number p fit.0.most) page some,
+          wide_number p fit.0.most,
+        )))))
+below-follows m w now l (Read p a n) es answer rows fit same below none h = below
+below-follows m w now l (Write p a bytes) es answer rows fit same below none h = below-stored now p a
     (first_bytes answer bytes) below
-below-follows m w now l (Maps p) es answer rows fit below none h = below
-below-follows m w now l (AsksAreas p) es answer rows fit below none h = below
-below-follows m w now l (Rmap p a) es answer rows fit below none h = below
-below-follows m w now l (AsksEntry p a) es answer rows fit below none h = below
-below-follows m w now l Stat es answer rows fit below none h = below
+below-follows m w now l (Maps p) es answer rows fit same below none h = below
+below-follows m w now l (AsksAreas p) es answer rows fit same below none h = below
+below-follows m w now l (Rmap p a) es answer rows fit same below none h = below
+below-follows m w now l (AsksEntry p a) es answer rows fit same below none h = below
+below-follows m w now l Stat es answer rows fit same below none h = below
 
 pub step-small : (m : Setting) (old new : State) (command : Command) (reply : Reply)
     → IsCommand command → IsSmall m old.world old.ledger → IsStep m old command reply new
@@ -407,7 +522,7 @@ step-small m old new command reply fit small h = record {
         (λ error. Refuses error h.events reply.answer reply.rows)
         → Below (next_world m old.world old.ledger h.events command reply.answer)
     by None is x = below-follows m old.world now old.ledger command h.events reply.answer reply.rows
-        fit below is x
+        fit (without-loads m old.world old.ledger h.events) below is x
     by (Some error) is x = subst (λ a. Below (next now command a)) (sym x.0)
         (subst Below (sym (refused-next m old.world now old.ledger command error is)) below)
 

@@ -1,7 +1,8 @@
 -- All states of a run are small, where no device is attached: so each of its replies is read back.
 use Rattle.std.specs.List.{AllByRecursion}
 use Rattle.std.specs.Prelude.{MatchOption}
-use Rattle.std.proofs.Common.{◌≡◌, true, false, List, [], ◌∷◌, Option, Some, None, refl, sym, subst, arith}
+use Rattle.std.proofs.Common.{◌≡◌, ℕ, ◌+◌, ◌*◌, ◌^◌, ◌≤◌, length, true, false, List, [], ◌∷◌, Option, Some, None, refl, sym, subst, arith}
+use Rattle.av_base.specs.Limits.{top_page}
 use Rattle.av_trace.specs.Command.{IsCommand}
 use Rattle.av_trace.specs.Number.{IsWide}
 use Rattle.av_trace.specs.Reply.{IsReply}
@@ -17,7 +18,7 @@ use Rattle.av_plain.specs.Sound.{AllSound}
 use Rattle.av_plain.specs.Step.{Follows}
 use Rattle.av_plain.specs.Transcript.{Exchange, IsRun, IsStep, State, at_first, rmap_of}
 use Rattle.av_plain.proofs.Sound.{first-sound, step-sound}
-use Rattle.av_laws.specs.Covered.{CoverPages}
+use Rattle.av_laws.specs.Covered.{CoverBelow, CoverPages}
 use Rattle.av_laws.specs.ReadBack.{IsSmall, IsWideRow}
 use Rattle.av_laws.proofs.Covered.{first-covers, step-covers}
 use Rattle.av_laws.proofs.ReadBack.{AskedWide, legal-reads_back}
@@ -41,28 +42,29 @@ asked-now m old (AsksAreas p) reply new made covers wide h = by
     by (Some error) x = subst (AllByRecursion IsWideRow) (sym x.2) tt
 asked-now m old command reply new made covers wide h = tt
 
-runs-back : (m : Setting) (old : State) (es : List Exchange) (new : State) → HasNoDevice m
+runs-back : (m : Setting) (most : ℕ) (old : State) (es : List Exchange) (new : State) → HasNoDevice m
+    → top_page ≤ most → most + length es * top_page ≤ 2 ^ 60
     → AllSound m old.world old.ledger → IsSmall m old.world old.ledger
-    → AreMade (rmap_of old) → CoverPages old.world old.areas → IsWide new.anons.next
+    → AreMade (rmap_of old) → CoverBelow most old.world old.areas → IsWide new.anons.next
     → AllByRecursion (λ (e : Exchange). IsCommand e.command) es
     → IsRun m old es new → AllByRecursion (λ (e : Exchange). IsReply e.reply) es
-runs-back m old [] new none sound small made covers wide fit h = tt
-runs-back m old (e ∷ es) new none sound small made covers wide fit h = (
+runs-back m most old [] new none high room sound small made covers wide fit h = tt
+runs-back m most old (e ∷ es) new none high room sound small made covers wide fit h = (
   legal-reads_back m old.world old.ledger e.command e.reply h.1.events none sound small fit.0
-      (asked-now m old e.command e.reply h.0 made covers
+      (asked-now m old e.command e.reply h.0 made covers.cover
       (let less = run-makes m old (e ∷ es) new made h in omega (arith, wide, less)) h.1)
       h.1.legal,
-  runs-back m h.0 es new none (step-sound m old e.command e.reply h.0 sound h.1)
+  runs-back m (most + top_page) h.0 es new none (omega arith) (omega arith) (step-sound m old e.command e.reply h.0 sound h.1)
       (step-small m old h.0 e.command e.reply fit.0 small h.1)
       (step-makes m old e.command e.reply h.0 made h.1).made
-      (step-covers m old e.command e.reply h.0 covers h.1) wide fit.1 h.2,
+      (step-covers m most old e.command e.reply h.0 high (omega arith) covers h.1) wide fit.1 h.2,
 )
 
 pub run-reads_back : (m : Setting) (es : List Exchange) (new : State) → HasNoDevice m
-    → IsWide m.frames → AllByRecursion (λ (e : Exchange). IsCommand e.command) es
+    → IsWide m.frames → length es ≤ 2 ^ 24 → AllByRecursion (λ (e : Exchange). IsCommand e.command) es
     → IsRun m (at_first m) es new → IsWide new.anons.next
     → AllByRecursion (λ (e : Exchange). IsReply e.reply) es
-run-reads_back m es new none wide fit h few = runs-back m (at_first m) es new none (first-sound m)
+run-reads_back m es new none wide short fit h few = runs-back m top_page (at_first m) es new none (omega arith) (omega arith) (first-sound m)
     (record { frames = wide; below = λ p page h. absurd (never_some h); processes = λ p page h. absurd (never_some h); off = refl })
     (record { owns = λ p page. tt; chains = λ v. tt }) (first-covers m) few fit h
   where

@@ -5,4 +5,4 @@ pub returns-clause-from_nothing : goal.returns-clause-from_nothing
 returns-clause-from_nothing c = run-covers
 
 pub returns-clause-each_step : goal.returns-clause-each_step
-returns-clause-each_step c m old new command reply = step-covers m old command reply new
+returns-clause-each_step c m most old new command reply = step-covers m most old command reply new

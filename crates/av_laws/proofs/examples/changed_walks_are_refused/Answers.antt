@@ -1,4 +1,4 @@
-use Rattle.std.proofs.Common.{ℕ, List, [], ◌∷◌, length, ap, arith}
+use Rattle.std.proofs.Common.{ℕ, List, ◌∷◌, length, ap, arith}
 use Rattle.av_trace.specs.declared.row.Row.{Row}
 use Rattle.av_trace.specs.declared.row.Row.TheVariants.{Entry}
 use Rattle.av_laws.proofs.examples.changed_walks_are_refused.Goals as goal
