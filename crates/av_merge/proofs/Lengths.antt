@@ -8,6 +8,7 @@ use Rattle.av_base.specs.declared.prot.Prot.{Prot}
 use Rattle.av_interval.specs.declared.span.Span as interval
 use Rattle.av_vma.specs.declared.area.Area.{Area}
 use Rattle.av_vma.specs.Join.{are_mergeable}
+use Rattle.av_vma.specs.Mremap.{joined_over}
 use Rattle.av_vma.specs.Pages.{Effect, Lengths, Pages, after_join, after_map, alters_at, cut_at, fresh_area, has_page, join_of, joined_around, joined_at, page_changed, pages_changed, part_changed, part_of, with_area, with_effect, with_effect_on}
 use Rattle.av_vma.proofs.Cut.{part_own}
 use Rattle.av_vma.proofs.Join.{tried_is}
@@ -71,6 +72,20 @@ around_alike len len' from past on h page =
 -- a boundary that is tried after calls, by the lengths before them
 pub joined_later : (len len' : Lengths) (at : ℕ) (on old new : Pages) → AreAlike len' len on → ((page : ℕ) → on page ≡ old page) → ((page : ℕ) → new page ≡ joined_at len' at on page) → (page : ℕ) → new page ≡ joined_at len at old page
 joined_later len len' at on old new h is now page = now page ∙ joined_alike len' len at on h page ∙ (λ i. joined_at len at (λ q. is q i) page)
+
+-- so with two boundaries
+pub around_later : (len len' : Lengths) (from past : ℕ) (on old new : Pages) → AreAlike len' len on → ((page : ℕ) → on page ≡ old page)
+    → ((page : ℕ) → new page ≡ joined_around len' from past on page) → (page : ℕ) → new page ≡ joined_around len from past old page
+around_later len len' from past on old new h is now page =
+    now page ∙ around_alike len' len from past on h page ∙ (λ i. joined_around len from past (λ q. is q i) page)
+
+-- and with many
+pub over_alike : (len len' : Lengths) (at n : ℕ) (on : Pages) → AreAlike len len' on → (page : ℕ)
+    → joined_over len at n on page ≡ joined_over len' at n on page
+over_alike len len' at zero on h page = refl
+over_alike len len' at (suc n) on h page =
+    over_alike len len' (suc at) n (joined_at len at on) (alike_joined len len' len at on h) page
+    ∙ (λ i. joined_over len' (suc at) n (λ q. joined_alike len len' at on h q i) page)
 
 alike_cut : (len len' : Lengths) (at : ℕ) (on : Pages) → AreAlike len len' on → AreAlike len len' (cut_at at on)
 alike_cut len len' at on h = record { same = λ page area e. go page area (on page) refl e }

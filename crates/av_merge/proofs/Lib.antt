@@ -10,5 +10,6 @@ pub mod Kin
 pub mod Lengths
 pub mod Linked
 pub mod Mappings
+pub mod MremapLaws
 pub mod Places
 pub mod Prepares

@@ -5,6 +5,7 @@ use Rattle.std.proofs.lemmas.Bool.Decides.{nat_tests}
 use Rattle.std.proofs.lemmas.Grind.{common_steps}
 use Rattle.std.proofs.lemmas.Bool.{eqb-true, both_ways}
 use Rattle.av_vma.specs.declared.area.Area.{Area}
+use Rattle.av_vma.specs.Areas.{area_of}
 use Rattle.av_vma.specs.Join.{first_of, past_of}
 use Rattle.av_base.specs.Words.{within, with_at}
 use Rattle.av_vmatree.specs.declared.span.Span.{Span}
@@ -12,7 +13,7 @@ use Rattle.av_vmatree.specs.Spans.{without_area, AreApart, AreDistinct, AreSpans
 use Rattle.av_vmatree.proofs.Spans.{held, removed}
 use Rattle.av_vma.specs.Pages.{IsWhole, has_page, with_area}
 use Rattle.av_merge.specs.Pages.{pages_by}
-use Rattle.av_merge.specs.Process.{AreAreasOf, IsAreaOf, KeepsOthers, Stays}
+use Rattle.av_merge.specs.Process.{AreAreasOf, IsAreaOf, KeepsOthers, StayOfOne, Stays}
 
 -- ---- tests and bounds
 
@@ -71,7 +72,7 @@ pub record IsOn (p : ℕ) (areas : ℕ → Option Area) (spans : List Span) (pag
 of_some : {X : Type 0} (P : X → Type 0) (o : Option X) (x : X) → o ≡ Some x → IfSome o P → P x
 of_some P o x e h = subst (λ o. IfSome o P) e h
 
-of_some_and : {X : Type 0} (P : X → Type 0) (o : Option X) (x : X) → o ≡ Some x → IsSomeAnd o P → P x
+pub of_some_and : {X : Type 0} (P : X → Type 0) (o : Option X) (x : X) → o ≡ Some x → IsSomeAnd o P → P x
 of_some_and P o x e h = subst (λ o. IsSomeAnd o P) e h
 
 -- the area with a number that the tree has
@@ -169,6 +170,13 @@ others_trans p a b c h k = record {
 -- one call after another
 pub stays_trans : (p : ℕ) (a b c : ℕ → Option Area) (before after : List Span) → Stays p a b before → Stays p b c after → Stays p a c after
 stays_trans p a b c before after h k = record { areas = k.areas; others = others_trans p a b c h.others k.others }
+
+-- so in the values of `Areas` and `Tree`
+pub stays_then : (old mid new : List (Option Area)) (before between after : List Span) → StayOfOne old before mid between → StayOfOne mid between new after
+    → StayOfOne old before new after
+stays_then old mid new before between after h k p stands =
+    let one = h p stands in
+    stays_trans p (area_of old) (area_of mid) (area_of new) between after one (k p one.areas)
 
 self : {X : Type 0} (n : ℕ) (x : X) (f : ℕ → X) → with_at n x f n ≡ x
 self n x f = ap (λ b. cond b x (f n)) (same n)

@@ -100,7 +100,7 @@ fn cut_within(
 }
 
 /// Cuts before the page `at`, where one area lies on both sides.
-fn split_before(
+pub fn split_before(
     areas: &mut Areas,
     tree: &mut Tree,
     anons: &mut Anons,

@@ -39,7 +39,7 @@ pub fn join_around(
 }
 
 /// Tries the boundaries before the pages `from` and `past`.
-fn join_ends(
+pub fn join_ends(
     areas: &mut Areas,
     tree: &mut Tree,
     anons: &mut Anons,

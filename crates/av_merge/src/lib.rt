@@ -1,4 +1,4 @@
-//! The areas of one process: mapped, cut, protected, joined and forked, with their chains of
+//! The areas of one process: mapped, cut, protected, moved, joined and forked, with their chains of
 //! anon_vmas.
 //!
 //! `Areas` holds the areas of all processes by number, a `Tree` the spans of one process's areas,
@@ -9,9 +9,10 @@
 //!
 //! A split links the upper part to the whole chain. Two areas become one where they are mergeable;
 //! where only one has an anon_vma, its chain has one node, and the other's pages get that. An area
-//! that goes leaves its anon_vmas first. Areas without anon_vma are changed directly. `prepare`
-//! gives an area its own anon_vma: that of an area beside it, or a new one. `fork` gives a child an
-//! area of another process, linked to that one's whole chain.
+//! that goes leaves its anon_vmas first. Areas without anon_vma are changed directly. An area that
+//! moves keeps its number, and so its links; where it has an anon_vma its offset stays too, and so
+//! its spans. `prepare` gives an area its own anon_vma: that of an area beside it, or a new one.
+//! `fork` gives a child an area of another process, linked to that one's whole chain.
 //!
 //! Proved: which area is on each page then, with every field (av_vma's `Pages`); that no area of
 //! another process changed; that chain order stays, that no anon_vma changes its kin and none is
@@ -31,6 +32,7 @@ mod forking;
 mod joining;
 mod laws;
 mod linking;
+mod mremap;
 mod placing;
 mod preparing;
 
@@ -41,4 +43,5 @@ pub use joining::join_around;
 pub use laws::{
     areas_are_laid, cuts_keep_mappings, joins_keep_mappings, parts_are_changed_page_by_page,
 };
+pub use mremap::{grow, move_range};
 pub use preparing::prepare;
