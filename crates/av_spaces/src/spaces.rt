@@ -13,7 +13,8 @@ ghost use Rattle.av_merge.specs.Kin.{lengths};
 ghost use Rattle.av_spaces.specs.Fork.{AreKept, GoInTurn, IsForked};
 ghost use Rattle.av_spaces.specs.Kin.{AnonsPrepare, AnonsStay, InOrder, chain_at};
 ghost use Rattle.av_spaces.specs.Spaces.{areas_of, pages_of, is_taken, AllRising, AreNumbered, AreThese, AreRising, IsSpawned, IsChanged, IsEnded};
-ghost use Rattle.av_vma.specs.Pages.{IsWhole, after_map, after_prepare, after_unmap, pages_changed, to_prot};
+ghost use Rattle.av_vma.specs.Mremap.{IsGrowth, IsMove, after_grow, after_move};
+ghost use Rattle.av_vma.specs.Pages.{AreLaid, IsWhole, after_map, after_prepare, after_unmap, pages_changed, to_prot};
 ghost use Rattle.av_spaces.specs.Trees.{areas_by, tree_at, IsGrown};
 
 use crate::fork::fork_each;
@@ -81,6 +82,7 @@ impl Spaces {
         ensures area { result ≡ pages_of self.now.processes process page }
         ensures whole { IfSome result IsWhole }
         ensures below { IsSome result → page < top_page }
+        ensures laid { AreLaid (pages_of self.now.processes process) }
     {
         let tree = tree_of(&self.trees, process)?;
         let number = tree.find(page)?;
@@ -251,6 +253,63 @@ impl Spaces {
             from + pages,
             change,
         );
+        put_tree(&mut self.trees, process, tree);
+        result
+    }
+
+    /// Moves `pages` pages of a process that lives, all of them mapped, from the page `from` to the
+    /// page `to`, where they become `new_pages`. What stands there goes, and nothing is left where
+    /// they were. Without memory as for `map`.
+    pub fn move_range(
+        &mut self,
+        anons: &mut Anons,
+        process: u16,
+        from: u64,
+        pages: u64,
+        to: u64,
+        new_pages: u64,
+    ) -> Result<(), AllocError>
+        requires order { InOrder self.old anons.old }
+        requires lives { is_some (areas_of self.old.processes process) ≡ true }
+        requires range { IsMove from pages to new_pages (pages_of self.old.processes process) }
+        ensures areas { OnOk result (IsChanged self.old.processes self.new.processes process
+            (AreThese (after_move (lengths self.old.areas anons.old) from pages to new_pages
+            (pages_of self.old.processes process)))) }
+        ensures anons { OnOk result (AnonsStay self.old anons.old self.new anons.new) }
+    {
+        let mut tree = take_tree(&mut self.trees, process);
+        let result = av_merge::move_range(
+            &mut self.areas,
+            &mut tree,
+            anons,
+            from,
+            pages,
+            to,
+            new_pages,
+        );
+        put_tree(&mut self.trees, process, tree);
+        result
+    }
+
+    /// Makes the area of a page of a process that lives longer, from that page on, which is its
+    /// last one: it ends before the page `past` then. Without memory as for `map`.
+    pub fn grow(
+        &mut self,
+        anons: &mut Anons,
+        process: u16,
+        last: u64,
+        past: u64,
+    ) -> Result<(), AllocError>
+        requires order { InOrder self.old anons.old }
+        requires lives { is_some (areas_of self.old.processes process) ≡ true }
+        requires growth { IsGrowth last past (pages_of self.old.processes process) }
+        ensures areas { OnOk result (IsChanged self.old.processes self.new.processes process
+            (AreThese (after_grow (lengths self.old.areas anons.old) past
+            (pages_of self.old.processes process last) (pages_of self.old.processes process)))) }
+        ensures anons { OnOk result (AnonsStay self.old anons.old self.new anons.new) }
+    {
+        let mut tree = take_tree(&mut self.trees, process);
+        let result = av_merge::grow(&mut self.areas, &mut tree, anons, last, past);
         put_tree(&mut self.trees, process, tree);
         result
     }

@@ -34,3 +34,15 @@ pub returns-clause-whole : goal.returns-clause-whole
 returns-clause-whole c =
     (laid c.args.self.now.processes c.args.process (subst AllRising (processes_are c.self.view_is) (all_rising (area_of c.self.inside.areas) c.self.inside.trees.items c.self.invariant.trees))).whole
     c.args.page c.get.result (sym (returns-clause-area c))
+
+pub returns-in_err-tree-clause-laid : goal.returns-in_err-tree-clause-laid
+returns-in_err-tree-clause-laid c =
+    laid c.args.self.now.processes c.args.process (subst AllRising (processes_are c.self.view_is) (all_rising (area_of c.self.inside.areas) c.self.inside.trees.items c.self.invariant.trees))
+
+pub returns-in_err-number-clause-laid : goal.returns-in_err-number-clause-laid
+returns-in_err-number-clause-laid c =
+    laid c.args.self.now.processes c.args.process (subst AllRising (processes_are c.self.view_is) (all_rising (area_of c.self.inside.areas) c.self.inside.trees.items c.self.invariant.trees))
+
+pub returns-clause-laid : goal.returns-clause-laid
+returns-clause-laid c =
+    laid c.args.self.now.processes c.args.process (subst AllRising (processes_are c.self.view_is) (all_rising (area_of c.self.inside.areas) c.self.inside.trees.items c.self.invariant.trees))
