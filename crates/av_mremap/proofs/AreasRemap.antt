@@ -1,0 +1,215 @@
+-- The areas of a process that lives have changed, once or twice: they are what the definitions make of them.
+use Rattle.std.proofs.Common.{◌≡◌, ℕ, ◌+◌, ◌-◌, ◌<◌, ◌≤◌, Bool, true, false, cond, Option, Some, None, is_some, refl, sym, ap, subst, ◌∙◌, arith, ◌==◌, nat_lt}
+use Rattle.std.proofs.lemmas.Bool.Decides.{nat_tests}
+use Rattle.av_base.specs.Limits.{low_page, top_page}
+use Rattle.av_base.specs.Words.{with_at}
+use Rattle.av_base.specs.declared.prot.Prot.{Prot}
+use Rattle.av_vma.specs.Mremap.{IsMove, after_grow, after_move, after_resize}
+use Rattle.av_vma.specs.Pages.{Lengths, Pages, after_map, after_unmap, pages_in}
+use Rattle.av_anon.specs.declared.anons.Anons.{Anons as AnonSet}
+use Rattle.av_merge.specs.Kin.{lengths}
+use Rattle.av_merge.proofs.Lengths.{AreAlike, map_alike}
+use Rattle.av_spaces.specs.Kin.{AnonsStay}
+use Rattle.av_spaces.specs.Spaces.{AllSpaces, AreThese, IsChanged, Spaces, areas_of, is_taken, pages_of}
+use Rattle.av_spaces.proofs.Kin.{stay_both, stay_same}
+use Rattle.av_spaces.proofs.Rising.{laid}
+use Rattle.av_plain.specs.Areas.{chain_length}
+use Rattle.av_plain.specs.Mremap.{after_mremap, mapped_again}
+use Rattle.av_plain.specs.Transcript.{State}
+use Rattle.av_plain.proofs.Mremap.Areas.{room}
+use Rattle.av_reclaim.specs.declared.mem.Mem.{Mem}
+use Rattle.av_reclaim.specs.Mem.{Keeps}
+use Rattle.av_reclaim.proofs.AnonLaws.{lengths_alike}
+use Rattle.av_reclaim.proofs.MemLaws.{all_apart}
+use Rattle.av_mremap.specs.Areas.{HasRemap}
+use Rattle.av_mremap.proofs.AreasAlike.{grow_alike, move_alike}
+
+equal : (a b : ℕ) → (a == b) ≡ true → a ≡ b
+equal a b h = grind (arith, nat_tests, h)
+
+other : (a b : ℕ) → (a == b) ≡ false → a ≡ b → ⊥
+other a b h e = grind (arith, nat_tests, h, e)
+
+-- a process's areas are these, whatever these are called
+same_on : (old : Spaces) (p : ℕ) (on on' : Pages) → ((page : ℕ) → on page ≡ on' page) → (q page : ℕ)
+    → with_at p on (pages_of old) q page ≡ with_at p on' (pages_of old) q page
+same_on old p on on' same q page = by (q == p)
+  where
+    by : (b : Bool) → (cond b on (pages_of old q)) page ≡ (cond b on' (pages_of old q)) page
+    by true = same page
+    by false = refl
+
+-- ---- one change
+
+-- what a change of areas promises, said of all processes
+module _ (old : Mem) (spaces : AllSpaces) (anons : AnonSet) (p : ℕ) (alive : is_some (areas_of old.spaces.processes p) ≡ true) where
+  abbrev new : Mem
+  new = record old { spaces = spaces; anons = anons }
+
+  pub changed : (on : Pages) → IsChanged old.spaces.processes spaces.processes p (AreThese on) → AnonsStay old.spaces old.anons spaces anons
+      → (on' : Pages) → ((page : ℕ) → on page ≡ on' page) → HasRemap old new p on'
+  changed on h stay on' same = record {
+    areas = λ q page. areas q page (q == p) refl ∙ same_on old.spaces.processes p on on' same q page;
+    alive = λ q. lives q (q == p) refl;
+    number = h.number;
+    apart = all_apart spaces.processes h.rising;
+    anons = stay;
+  }
+    where
+      areas : (q page : ℕ) (b : Bool) → (q == p) ≡ b → pages_of spaces.processes q page ≡ with_at p on (pages_of old.spaces.processes) q page
+      areas q page true e = ap (λ n. pages_of spaces.processes n page) (equal q p e) ∙ h.pages page
+          ∙ ap (λ b. (cond b on (pages_of old.spaces.processes q)) page) (sym e)
+      areas q page false e = ap (λ a. pages_in a page) (h.others q (other q p e)) ∙ ap (λ b. (cond b on (pages_of old.spaces.processes q)) page) (sym e)
+
+      lives : (q : ℕ) (b : Bool) → (q == p) ≡ b → is_some (areas_of spaces.processes q) ≡ is_some (areas_of old.spaces.processes q)
+      lives q true e = ap (λ n. is_some (areas_of spaces.processes n)) (equal q p e) ∙ h.alive
+          ∙ sym (ap (λ n. is_some (areas_of old.spaces.processes n)) (equal q p e) ∙ alive)
+      lives q false e = ap is_some (h.others q (other q p e))
+
+-- nothing has changed
+pub unchanged : (old : Mem) (s : State) → Keeps old s → (p : ℕ) → HasRemap old old p (s.areas p)
+unchanged old s keeps p = record {
+  areas = λ q page. by q page (q == p) refl;
+  alive = λ q. refl;
+  number = refl;
+  apart = keeps.stands.parts.areas.apart;
+  anons = stay_same old.spaces old.anons keeps.anons;
+}
+  where
+    by : (q page : ℕ) (b : Bool) → (q == p) ≡ b → pages_of old.spaces.processes q page ≡ with_at p (s.areas p) (pages_of old.spaces.processes) q page
+    by q page true e = keeps.stands.areas q page ∙ ap (λ n. s.areas n page) (equal q p e)
+        ∙ ap (λ b. (cond b (s.areas p) (pages_of old.spaces.processes q)) page) (sym e)
+    by q page false e = ap (λ b. (cond b (s.areas p) (pages_of old.spaces.processes q)) page) (sym e)
+
+-- ---- the changes of an mremap
+
+module _ (old : Mem) (s : State) (keeps : Keeps old s) (p : ℕ) (alive : is_some (areas_of old.spaces.processes p) ≡ true) where
+  abbrev on : Pages
+  on = pages_of old.spaces.processes p
+
+  abbrev len : Lengths
+  len = chain_length s.anons
+
+  -- the lengths that the kernel has
+  abbrev was : Lengths
+  was = lengths old.spaces.areas old.anons
+
+  alike_before : AreAlike was len on
+  alike_before = lengths_alike old s keeps old.spaces old.anons (stay_same old.spaces old.anons keeps.anons) p
+
+  module _ (spaces : AllSpaces) (anons : AnonSet) (stay : AnonsStay old.spaces old.anons spaces anons) (from n m : ℕ) where
+    shrunk_is : nat_lt m n ≡ true → (page : ℕ) → after_unmap (from + m) (from + m + (n - m)) on page ≡ after_resize len from n m (s.areas p) page
+    shrunk_is e page = (λ i. after_unmap (from + m) (past i) (λ o. keeps.stands.areas p o i) page)
+        ∙ ap (λ b. (cond b (after_unmap (from + m) (from + n) (s.areas p))
+        (cond (nat_lt n m) (after_grow len (from + m) (s.areas p (from + n - 1)) (s.areas p)) (s.areas p))) page) (sym e)
+      where
+        past : from + m + (n - m) ≡ from + n
+        past = let less : m < n = grind (arith, nat_tests, e) in omega arith
+
+    pub has_shrunk : m < n → IsChanged old.spaces.processes spaces.processes p (AreThese (after_unmap (from + m) (from + m + (n - m)) on))
+        → HasRemap old (record old { spaces = spaces; anons = anons }) p (after_resize len from n m (s.areas p))
+    has_shrunk less h = changed old spaces anons p alive (after_unmap (from + m) (from + m + (n - m)) on) h stay
+        (after_resize len from n m (s.areas p))
+        (shrunk_is (grind (arith, nat_tests, less)))
+
+    grown_is : nat_lt m n ≡ false → nat_lt n m ≡ true → (page : ℕ)
+        → after_grow was (from + m) (on (from + n - 1)) on page ≡ after_resize len from n m (s.areas p) page
+    grown_is e f page = grow_alike was len on refl alike_before (from + m) (from + n - 1) page
+        ∙ (λ i. after_grow len (from + m) (keeps.stands.areas p (from + n - 1) i) (λ o. keeps.stands.areas p o i) page)
+        ∙ (λ i. (cond (sym e i) (after_unmap (from + m) (from + n) (s.areas p))
+        (cond (sym f i) (after_grow len (from + m) (s.areas p (from + n - 1)) (s.areas p)) (s.areas p))) page)
+
+    pub has_grown : n < m → IsChanged old.spaces.processes spaces.processes p (AreThese (after_grow was (from + m) (on (from + n - 1)) on))
+        → HasRemap old (record old { spaces = spaces; anons = anons }) p (after_resize len from n m (s.areas p))
+    has_grown more h = changed old spaces anons p alive (after_grow was (from + m) (on (from + n - 1)) on) h stay
+        (after_resize len from n m (s.areas p))
+        (grown_is (grind (arith, nat_tests, more)) (grind (arith, nat_tests, more)))
+
+  -- two changes of the process
+  both_changed : (mid now : Spaces) (a b : Pages → Type 0) → IsChanged old.spaces.processes mid p a → IsChanged mid now p b
+      → IsChanged old.spaces.processes now p b
+  both_changed mid now a b first second = record {
+    others = λ q o. second.others q o ∙ first.others q o;
+    alive = second.alive;
+    pages = second.pages;
+    number = second.number ∙ first.number;
+    were_rising = first.were_rising;
+    rising = second.rising;
+  }
+
+  module _ (spaces : AllSpaces) (anons : AnonSet) (stay : AnonsStay old.spaces old.anons spaces anons) (from n to m : ℕ)
+      (move : IsMove from n to m on)
+      (h : IsChanged old.spaces.processes spaces.processes p (AreThese (after_move was from n to m on))) where
+    moved_is : (page : ℕ) → after_move was from n to m on page ≡ after_move len from n to m (s.areas p) page
+    moved_is page = move_alike was len on refl alike_before from n to m page
+        ∙ (λ i. after_move len from n to m (λ o. keeps.stands.areas p o i) page)
+
+    -- which of the two the areas become
+    elsewhere : (left : Option Prot) → (to == from) ≡ false → (page : ℕ)
+        → mapped_again len p from (from + n) left (after_move len from n to m (s.areas p)) page ≡ after_mremap len p from n to m left (s.areas p) page
+    elsewhere left e page = ap (λ b. (cond b (after_resize len from n m (s.areas p))
+        (mapped_again len p from (from + n) left (after_move len from n to m (s.areas p)))) page) (sym e)
+
+    pub has_moved_areas : (to == from) ≡ false
+        → HasRemap old (record old { spaces = spaces; anons = anons }) p (after_mremap len p from n to m None (s.areas p))
+    has_moved_areas e = changed old spaces anons p alive (after_move was from n to m on) h stay (after_mremap len p from n to m None (s.areas p))
+        (λ page. moved_is page ∙ elsewhere None e page)
+
+    -- the old range is free then
+    pub left_low : low_page ≤ from
+    left_low = (room was p from n to m on (laid old.spaces.processes p h.were_rising) move).lowest
+
+    pub left_high : from + n ≤ top_page
+    left_high = let high = (room was p from n to m on (laid old.spaces.processes p h.were_rising) move).highest in omega arith
+
+    pub left_free : (page : ℕ) → from ≤ page → page < from + n → is_taken spaces.processes p page ≡ false
+    left_free page low high = ap is_some (h.pages page)
+        ∙ (room was p from n to m on (laid old.spaces.processes p h.were_rising) move).free page low (omega arith)
+
+    module _ (now : AllSpaces) (anons' : AnonSet) (stay' : AnonsStay spaces anons now anons') (prot : Prot)
+        (g : IsChanged spaces.processes now.processes p
+        (AreThese (after_map (lengths spaces.areas anons) p from (from + n) prot (pages_of spaces.processes p)))) where
+      mapped_is : (page : ℕ) → after_map (lengths spaces.areas anons) p from (from + n) prot (pages_of spaces.processes p) page
+          ≡ after_map len p from (from + n) prot (after_move len from n to m (s.areas p)) page
+      mapped_is page = map_alike (lengths spaces.areas anons) len p from (from + n) prot (pages_of spaces.processes p) refl
+          (lengths_alike old s keeps spaces anons stay p) page
+          ∙ (λ i. after_map len p from (from + n) prot (λ o. (h.pages o ∙ moved_is o) i) page)
+
+      pub has_left_areas : (to == from) ≡ false
+          → HasRemap old (record old { spaces = now; anons = anons' }) p (after_mremap len p from n to m (Some prot) (s.areas p))
+      has_left_areas e = changed old now anons' p alive (after_map (lengths spaces.areas anons) p from (from + n) prot (pages_of spaces.processes p))
+          (both_changed spaces.processes now.processes _ _ h g) (stay_both old.spaces spaces now old.anons anons anons' stay stay')
+          (after_mremap len p from n to m (Some prot) (s.areas p)) (λ page. mapped_is page ∙ elsewhere (Some prot) e page)
+
+-- as many pages as before change nothing
+pub unchanged_size : (old : Mem) (s : State) → Keeps old s → (p from n m : ℕ) → n ≤ m → m ≤ n
+    → HasRemap old old p (after_resize (chain_length s.anons) from n m (s.areas p))
+unchanged_size old s keeps p from n m more less = subst (HasRemap old old p) (sym is) (unchanged old s keeps p)
+  where
+    not_less : (a b : ℕ) → b ≤ a → nat_lt a b ≡ false
+    not_less a b h = grind (arith, nat_tests, h)
+
+    is : after_resize (chain_length s.anons) from n m (s.areas p) ≡ s.areas p
+    is = λ i. cond (not_less m n more i) (after_unmap (from + m) (from + n) (s.areas p))
+        (cond (not_less n m less i) (after_grow (chain_length s.anons) (from + m) (s.areas p (from + n - 1)) (s.areas p)) (s.areas p))
+
+-- where they stay they are resized
+pub stays_here : (old new : Mem) (s : State) (p from n to m : ℕ) (left : Option Prot) → to ≡ from
+    → HasRemap old new p (after_resize (chain_length s.anons) from n m (s.areas p))
+    → HasRemap old new p (after_mremap (chain_length s.anons) p from n to m left (s.areas p))
+stays_here old new s p from n to m left here h = subst (HasRemap old new p) (sym is) h
+  where
+    same : (to == from) ≡ true
+    same = grind (arith, nat_tests, here)
+
+    is : after_mremap (chain_length s.anons) p from n to m left (s.areas p) ≡ after_resize (chain_length s.anons) from n m (s.areas p)
+    is = ap (λ b. cond b (after_resize (chain_length s.anons) from n m (s.areas p))
+        (mapped_again (chain_length s.anons) p from (from + n) left (after_move (chain_length s.anons) from n to m (s.areas p)))) same
+
+-- elsewhere
+pub differs : (a b : ℕ) → (a ≡ b → ⊥) → (a == b) ≡ false
+differs a b h = by (a == b) refl
+  where
+    by : (c : Bool) → (a == b) ≡ c → c ≡ false
+    by true e = absurd (h (equal a b e))
+    by false e = refl

@@ -1,0 +1,5 @@
+pub mod EntriesTables
+pub mod EntriesLedger
+pub mod EntriesRemap
+pub mod AreasAlike
+pub mod AreasRemap

@@ -1,0 +1,15 @@
+use Rattle.std.proofs.Common.{◌≡◌, ◌-◌}
+use Rattle.av_pagetable.specs.Entries.{entry_at}
+use Rattle.av_reclaim.specs.Zap.{KeepsRest}
+use Rattle.av_mremap.proofs.EntriesTables.{IsMoving}
+use Rattle.av_mremap.proofs.entries.move_entries.Given as goal
+
+abbrev pub invariant-loop-page : goal.invariant-loop-page
+invariant-loop-page l = record {
+  moving : IsMoving (entry_at l.initial.mem.tables) (entry_at l.mem.tables) l.process l.pages l.from l.to l.next;
+  frames : l.mem.frames ≡ l.initial.mem.frames;
+  rest : KeepsRest l.initial.mem l.mem;
+}
+
+abbrev pub decreases-loop-page : goal.decreases-loop-page
+decreases-loop-page l = l.past - l.next

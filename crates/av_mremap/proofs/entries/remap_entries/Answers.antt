@@ -1,0 +1,53 @@
+use Rattle.std.proofs.Common.{ℕ, Bool, true, ◌≡◌, ◌+◌, ◌-◌, min, ap, arith, subst, ◌∙◌}
+use Rattle.av_base.specs.Words.{within}
+use Rattle.av_plain.proofs.Mremap.{then_tail, then_target}
+use Rattle.av_spaces.proofs.Trees.{on_ok}
+use Rattle.av_mremap.specs.Entries.{HasMoved}
+use Rattle.av_mremap.proofs.AreasRemap.{differs}
+use Rattle.av_mremap.proofs.EntriesRemap.{bare, elsewhere, in_place, of_length, same_place}
+use Rattle.av_mremap.proofs.entries.remap_entries.Goals as goal
+
+pub returns-then-to-from-clause-remaps : goal.returns-then-to-from-clause-remaps
+returns-then-to-from-clause-remaps c = λ l stands.
+    let a = c.args in
+    in_place a.mem.now c.zap_range.new.mem l a.process a.from a.pages a.to a.new_pages (same_place a.to a.from c.if-to-from.true)
+    (of_length a.mem.now c.zap_range.new.mem l a.process (a.from + a.new_pages) (a.from + a.pages) (a.pages - a.new_pages) (omega arith)
+    (c.zap_range.ensures.zapped l stands))
+
+pub move_entries-requires-clause-orderly : goal.move_entries-requires-clause-orderly
+move_entries-requires-clause-orderly c =
+    let o = c.requires.orderly in
+    let first = c.zap_range-2.ensures.zapped o.0 o.1 in
+    (_, (c.zap_range-3.ensures.zapped _ first.stands).stands)
+
+pub move_entries-requires-clause-there : goal.move_entries-requires-clause-there
+move_entries-requires-clause-there c = ap (λ (has : ℕ → Bool). has c.args.process)
+    (c.zap_range-3.ensures.rest.processes ∙ c.zap_range-2.ensures.rest.processes) ∙ c.requires.there
+
+pub move_entries-requires-clause-bare : goal.move_entries-requires-clause-bare
+move_entries-requires-clause-bare c =
+    let o = c.requires.orderly in
+    let a = c.args in
+    let first = of_length a.mem.now c.zap_range-2.new.mem o.0 a.process a.to (a.to + a.new_pages) a.new_pages (omega arith)
+    (c.zap_range-2.ensures.zapped o.0 o.1) in
+    let second = of_length c.zap_range-2.new.mem c.zap_range-3.new.mem (then_target o.0 a.process a.from a.pages a.to a.new_pages)
+    a.process (a.from + a.new_pages) (a.from + a.pages) (a.pages - a.new_pages) (omega arith)
+    (c.zap_range-3.ensures.zapped (then_target o.0 a.process a.from a.pages a.to a.new_pages) first.stands) in
+    λ page inside. bare a.mem.now c.zap_range-2.new.mem c.zap_range-3.new.mem o.0 a.process a.from a.pages a.to a.new_pages first second page
+    (subst (λ k. within a.to k page ≡ true) c.min.ensures inside)
+
+pub returns-clause-remaps : goal.returns-clause-remaps
+returns-clause-remaps c = λ l stands.
+    let a = c.args in
+    let first = of_length a.mem.now c.zap_range-2.new.mem l a.process a.to (a.to + a.new_pages) a.new_pages (omega arith)
+    (c.zap_range-2.ensures.zapped l stands) in
+    let second = of_length c.zap_range-2.new.mem c.zap_range-3.new.mem (then_target l a.process a.from a.pages a.to a.new_pages)
+    a.process (a.from + a.new_pages) (a.from + a.pages) (a.pages - a.new_pages) (omega arith)
+    (c.zap_range-3.ensures.zapped (then_target l a.process a.from a.pages a.to a.new_pages) first.stands) in
+    on_ok c.move_entries.result (λ third.
+    elsewhere a.mem.now c.zap_range-2.new.mem c.zap_range-3.new.mem l a.process a.from a.pages a.to a.new_pages first second c.move_entries.new.mem
+    c.zap_range-2.ensures.rest.count (c.zap_range-3.ensures.rest.count ∙ c.zap_range-2.ensures.rest.count)
+    (subst (λ k. HasMoved c.zap_range-3.new.mem c.move_entries.new.mem (then_tail l a.process a.from a.pages a.to a.new_pages) a.process k a.from a.to)
+    c.min.ensures third)
+    (differs a.to a.from c.if-to-from.false))
+    (c.move_entries.ensures.moves (then_tail l a.process a.from a.pages a.to a.new_pages) second.stands)

@@ -1,0 +1,30 @@
+-- What becomes of the entries of a range of pages.
+use Rattle.std.specs.Prelude.{◌≡◌, ℕ, ◌+◌, ◌-◌, ◌&&◌, ◌==◌, if◌then◌else◌, List, [], None}
+use Rattle.av_base.specs.Words.{within}
+use Rattle.av_plain.specs.Choice.{Chooses, ChoosesAll}
+use Rattle.av_plain.specs.Event.{Event, Moved, after, after_all, notes_of}
+use Rattle.av_plain.specs.Ledger.{Ledger}
+use Rattle.av_plain.specs.Stands.{free_of}
+use Rattle.av_reclaim.specs.declared.mem.Mem.{Mem}
+use Rattle.av_reclaim.specs.Mem.{setting, count, view, HasLedger}
+
+-- what n pages of a process have, from one page on, is on as many others then, and nothing is left
+-- where it was
+abbrev pub moved_entries : {X : Type 0} → X → ℕ → ℕ → ℕ → ℕ → (ℕ → ℕ → X) → ℕ → ℕ → X
+moved_entries nothing p n from to f q page =
+    if q == p && within to n page then f p (from + (page - to))
+    else if q == p && within from n page then nothing
+    else f q page
+
+-- the entries have moved: nothing is taken, and nothing becomes free
+pub record HasMoved (old new : Mem) (l : Ledger) (p n from to : ℕ) : Type 0 where
+  pub stands : HasLedger new (after l (Moved p n from to))
+  pub free : Chooses (setting (count old)) None l (Moved p n from to)
+      (free_of (view old)) (free_of (view new))
+
+-- these events of an mremap have happened, without a note, and what is free follows them
+pub record HasRemapped (old new : Mem) (l : Ledger) (events : List Event) : Type 0 where
+  pub stands : HasLedger new (after_all l events)
+  pub notes : notes_of events ≡ []
+  pub free : ChoosesAll (setting (count old)) None l events
+      (free_of (view old)) (free_of (view new))

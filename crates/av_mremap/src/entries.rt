@@ -1,0 +1,85 @@
+//! What becomes of the entries of a range of pages that moves, shrinks or grows.
+
+ghost use Rattle.std.specs.Prelude.{◌≡◌, ℕ, ◌+◌, ◌^◌, ◌<◌, ◌≤◌, ◌⊎◌, true, OnOk};
+ghost use Rattle.av_base.specs.Words.{within};
+ghost use Rattle.av_mremap.specs.Entries.{moved_entries, HasMoved, HasRemapped};
+ghost use Rattle.av_pagetable.specs.Entries.{entry_at, has};
+ghost use Rattle.av_pagetable.specs.Table.{page_bound};
+ghost use Rattle.av_pagetable.specs.declared.pte.Pte.TheVariants as Pte;
+ghost use Rattle.av_plain.specs.Ledger.{Ledger};
+ghost use Rattle.av_plain.specs.Mremap.{remap_events};
+ghost use Rattle.av_reclaim.specs.Mem.{HasLedger, IsOrderly};
+ghost use Rattle.av_reclaim.specs.Zap.{KeepsRest};
+
+use av_reclaim::{Mem, zap_range};
+use std::alloc::AllocError;
+
+/// Does to the entries of a process what an mremap does where `pages` pages from the page `from` on
+/// become `new_pages` from the page `to` on: those past the new pages go, and where the pages move,
+/// those of the new range go first, and last the rest moves.
+///
+/// Costs by the entries of the two ranges. Without memory some entries may have moved, and one may
+/// be lost.
+pub fn remap_entries(
+    mem: &mut Mem,
+    process: u16,
+    from: u64,
+    pages: u64,
+    to: u64,
+    new_pages: u64,
+) -> Result<(), AllocError>
+    requires orderly { IsOrderly mem.old }
+    requires there { has mem.old.tables process ≡ true }
+    requires few { from + pages < 2 ^ 64 }
+    requires new_few { from + new_pages < 2 ^ 64 }
+    requires old_range { (to ≡ from → ⊥) → from + pages ≤ page_bound }
+    requires new_range { (to ≡ from → ⊥) → to + new_pages ≤ page_bound }
+    requires apart { (to ≡ from → ⊥) → (to + new_pages ≤ from) ⊎ (from + pages ≤ to) }
+    ensures remaps { (l : Ledger) → HasLedger mem.old l → OnOk result (HasRemapped mem.old
+        mem.new l (remap_events l process from pages to new_pages)) }
+    ensures rest { KeepsRest mem.old mem.new }
+{
+    let (stay, past) = (from + new_pages, from + pages);
+    if to == from {
+        zap_range(mem, process, stay, past);
+        return Ok(());
+    }
+    zap_range(mem, process, to, to + new_pages);
+    zap_range(mem, process, stay, past);
+    move_entries(mem, process, from, pages.min(new_pages), to)
+}
+
+/// Gives each entry of a process's pages from the page `from` on, as many as `pages`, to the page
+/// as far from the page `to` on, as it is. The two ranges are apart, and the second has no entry.
+///
+/// Costs by the entries of the range alone. Without memory some entries may have moved, and one
+/// may be lost.
+fn move_entries(
+    mem: &mut Mem,
+    process: u16,
+    from: u64,
+    pages: u64,
+    to: u64,
+) -> Result<(), AllocError>
+    requires orderly { IsOrderly mem.old }
+    requires there { has mem.old.tables process ≡ true }
+    requires old_range { from + pages ≤ page_bound }
+    requires new_range { to + pages ≤ page_bound }
+    requires apart { (to + pages ≤ from) ⊎ (from + pages ≤ to) }
+    requires bare { (page : ℕ) → within to pages page ≡ true →
+        entry_at mem.old.tables process page ≡ Pte.Empty }
+    ensures moves { (l : Ledger) → HasLedger mem.old l →
+        OnOk result (HasMoved mem.old mem.new l process pages from to) }
+    ensures entries { OnOk result (entry_at mem.new.tables
+        ≡ moved_entries Pte.Empty process pages from to (entry_at mem.old.tables)) }
+    ensures frames { mem.new.frames ≡ mem.old.frames }
+    ensures rest { KeepsRest mem.old mem.new }
+{
+    let past = from + pages;
+    let mut next = from;
+    while let Some((page, entry)) = mem.tables.take_first(process, next, past) {
+        mem.tables.set(process, page - from + to, entry)?;
+        next = page + 1;
+    }
+    Ok(())
+}
