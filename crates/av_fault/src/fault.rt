@@ -62,6 +62,8 @@ pub fn touch(
 }
 
 /// The area that holds a page, where its protection allows the access.
+// An area that is handed up is copied twice, so this is made one with its caller.
+#[inline(always)]
 fn area_for(mem: &Mem, process: u16, page: u64, write: bool) -> Option<Area>
     ensures permitted { is_some result ≡ is_permitted write (prot_of (ranges_of
         mem.now.spaces.processes process) page) }

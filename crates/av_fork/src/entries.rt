@@ -17,7 +17,7 @@ use av_reclaim::Mem;
 use std::alloc::{AllocError, Global};
 
 /// Gives a process with an empty table each entry of another one: not seen, and written in place by
-/// neither. Without memory all stays.
+/// neither. Without memory the memory system still stands for a ledger.
 pub fn fork_entries(mem: &mut Mem, alloc: Global, parent: u16, child: u16) -> Result<(), AllocError>
     requires orderly { IsOrderly mem.old }
     requires few { (f : ℕ) → (view mem.old).maps f ≤ most_processes }

@@ -4,6 +4,11 @@ pub mod ForkLaws
 pub mod PlaceLaws
 pub mod MapLaws
 pub mod MapProts
+pub mod MremapTests
+pub mod MremapRefusals
+pub mod MremapKept
+pub mod MremapLaws
+pub mod MremapGoes
 pub mod PageWritten
 pub mod PageStep
 pub mod PageShown

@@ -19,6 +19,7 @@ use av_fault::Stop;
 use av_reclaim::Mem;
 use av_trace::{Answer, Bytes, Notes, Reply};
 use std::alloc::{AllocError, Global};
+use std::mem::replace;
 
 /// The part of an access that lies in one page.
 #[derive(Clone, Copy, Drop)]
@@ -38,9 +39,11 @@ struct Ended {
     served: usize,
 }
 
-/// Does a `read`: the bytes, or those before the page at which it stops.
+/// Does a `read`: the bytes, or those before the page at which it stops. They take the memory of
+/// `spare`.
 pub fn read(
     mem: &mut Mem,
+    spare: &mut Bytes,
     alloc: Global,
     process: u16,
     address: u64,
@@ -52,7 +55,8 @@ pub fn read(
     ensures { Does mem.old mem.new (commands.Read process address len) (reply_in reply.new result) }
 {
     check_lives(mem, process)?;
-    let mut shown = Bytes::new(alloc);
+    let mut shown = replace(spare, Bytes::new(alloc));
+    shown.clear();
     let notes = &mut reply.notes;
     let ended = read_pieces(mem, process, address, len as usize, &mut shown, notes)?;
     match ended.stop {

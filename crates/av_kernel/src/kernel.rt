@@ -13,7 +13,7 @@ use av_frames::Frames;
 use av_pagetable::{PageTable, Tables};
 use av_reclaim::Mem;
 use av_spaces::Spaces;
-use av_trace::{Command, Reply};
+use av_trace::{Bytes, Command, Reply};
 use std::alloc::{AllocError, Global};
 use std::marker::Model;
 
@@ -24,6 +24,8 @@ pub struct Kernel {
     steps: u32,
     tally: Tally,
     spent: bool,
+    /// The memory of bytes that a reply showed, for those of a later one.
+    spare: Bytes,
 }
 
 impl Model for Kernel {
@@ -58,6 +60,7 @@ impl Kernel {
             steps: 0,
             tally: Tally::new(),
             spent: false,
+            spare: Bytes::new(alloc),
         })
     }
 
@@ -74,8 +77,8 @@ impl Kernel {
         Ok(reply)
     }
 
-    /// Does one command as `step` does, and makes this its reply, whatever it was. Its vectors
-    /// serve again, so a reply that is used for each command costs least.
+    /// Does one command as `step` does, and makes this its reply, whatever it was. The room of its
+    /// notes, its rows and the bytes that it shows serves again.
     ///
     /// After want of memory nothing is promised of the reply.
     pub fn answer(
@@ -93,7 +96,7 @@ impl Kernel {
         if self.spent {
             return Err(AllocError);
         }
-        match perform(&mut self.mem, alloc, command, reply) {
+        match perform(&mut self.mem, &mut self.spare, alloc, command, reply) {
             Ok(()) => {
                 self.steps += 1;
                 self.tally.count(&reply.answer);

@@ -10,6 +10,7 @@
 mod access;
 mod kernel;
 mod map;
+mod mremap;
 mod page;
 mod place;
 mod process;

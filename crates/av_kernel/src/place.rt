@@ -108,7 +108,7 @@ pub fn find_place(spaces: &Spaces, process: u16, pages: u64, place: Place) -> Re
 }
 
 /// The greatest page from which on there is room for this many.
-fn find_gap(spaces: &Spaces, process: u16, pages: u64) -> Result<u64, Errno>
+pub fn find_gap(spaces: &Spaces, process: u16, pages: u64) -> Result<u64, Errno>
     requires lives { is_some (areas_of spaces.now.processes process) ≡ true }
     requires some { 1 ≤ pages }
     ensures { MatchResult result

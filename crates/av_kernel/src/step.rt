@@ -8,17 +8,22 @@ ghost use Rattle.av_kernel.specs.Step.{MemSteps, Does, reply_in};
 
 use crate::access::{read, write};
 use crate::map::{mmap, mprotect, munmap};
+use crate::mremap::mremap;
 use crate::process::{exit, fork, spawn};
 use crate::refusal::Refusal;
 use crate::report::{areas, entry, maps, rmap, stat};
 use av_reclaim::Mem;
-use av_trace::{Answer, Command, Reply};
+use av_trace::{Answer, Bytes, Command, Reply};
 use std::alloc::{AllocError, Global};
+use std::mem::swap;
 
 /// Replies to a command, whatever the reply held. Memory may be wanting; then nothing is promised
 /// of the memory system but its frames' number, nor of the reply.
+///
+/// Bytes that the reply showed give their memory to `spare`, and a read takes that of `spare`.
 pub fn perform(
     mem: &mut Mem,
+    spare: &mut Bytes,
     alloc: Global,
     command: &Command,
     reply: &mut Reply,
@@ -28,8 +33,11 @@ pub fn perform(
         OnOk result (MemSteps mem.old mem.new s command.now reply.new) }
     ensures count { count mem.new ≡ count mem.old }
 {
+    if let Answer::Data(shown) = &mut reply.answer {
+        swap(shown, spare);
+    }
     reply.clear();
-    match dispatch(mem, alloc, command, reply) {
+    match dispatch(mem, spare, alloc, command, reply) {
         Ok(()) => Ok(()),
         Err(Refusal::Refused(error)) => {
             reply.clear();
@@ -43,6 +51,7 @@ pub fn perform(
 /// Does a command, and fills the reply.
 fn dispatch(
     mem: &mut Mem,
+    spare: &mut Bytes,
     alloc: Global,
     command: &Command,
     reply: &mut Reply,
@@ -72,11 +81,18 @@ fn dispatch(
             len,
             prot,
         } => mprotect(mem, *process, *address, *len, *prot, reply),
+        Command::Mremap {
+            process,
+            address,
+            old_len,
+            new_len,
+            mode,
+        } => mremap(mem, *process, *address, *old_len, *new_len, *mode, reply),
         Command::Read {
             process,
             address,
             len,
-        } => read(mem, alloc, *process, *address, *len, reply),
+        } => read(mem, spare, alloc, *process, *address, *len, reply),
         Command::Write {
             process,
             address,

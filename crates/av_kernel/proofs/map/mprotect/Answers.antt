@@ -1,10 +1,10 @@
-use Rattle.std.proofs.Common.{◌+◌, ◌-◌, ◌/◌, ◌<◌, ◌≤◌, refl, sym, subst, ◌∙◌}
+use Rattle.std.proofs.Common.{◌+◌, ◌-◌, ◌/◌, ◌<◌, ◌≤◌, refl, subst, ◌∙◌}
 use Rattle.av_merge.specs.Pages.{IsReached}
 use Rattle.av_trace.specs.declared.command.Command.TheVariants.{Mprotect}
 use Rattle.av_spaces.specs.Spaces.{is_taken}
 use Rattle.av_merge.specs.Kin.{lengths}
 use Rattle.av_trace.specs.declared.reply.Errno.TheVariants.{Esrch}
-use Rattle.av_kernel.proofs.StepLaws.{answers, moved_on, ranges_there, refuses, refuses-as, refuses-by, dead_first, wants-by}
+use Rattle.av_kernel.proofs.StepLaws.{answers, ranges_there, refuses, refuses-as, refuses-by, dead_first, wants-by}
 use Rattle.av_kernel.proofs.PlaceLaws.{rounded_up}
 use Rattle.av_kernel.proofs.MapLaws.{mprotect-steps, mprotect-stops, mprotect-refused}
 use Rattle.av_kernel.proofs.MapProts.{has_areas, protected-homes, protected-prots}

@@ -1,4 +1,4 @@
-use Rattle.std.proofs.Common.{◌∙◌, subst, sym, ap}
+use Rattle.std.proofs.Common.{◌∙◌, subst, ap}
 use Rattle.av_trace.specs.declared.command.Command.TheVariants.{Exit}
 use Rattle.av_spaces.specs.Spaces.{AllSpaces}
 use Rattle.av_spaces.specs.Kin.{AnonsStay}

@@ -1,4 +1,4 @@
-use Rattle.std.proofs.Common.{refl, subst, sym}
+use Rattle.std.proofs.Common.{refl}
 use Rattle.av_trace.specs.declared.command.Command.TheVariants.{Entry as AsksEntry}
 use Rattle.av_trace.specs.declared.reply.Errno.TheVariants.{Efault, Esrch}
 use Rattle.av_kernel.proofs.StepLaws.{answers, dead_first, refuses, refuses-as}

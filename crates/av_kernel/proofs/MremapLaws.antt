@@ -1,0 +1,379 @@
+-- Pages move, shrink or grow: the memory system stands for what the definitions leave.
+use Rattle.std.proofs.Common.{◌≡◌, ◌⊎◌, inl, inr, ℕ, ◌+◌, ◌-◌, ◌^◌, ◌<◌, ◌≤◌, min, nat_lt, Bool, true, false, cond, not, ◌&&◌, T, [], ◌∷◌, ◌++◌, Option, Some, None, is_some, option_map, IsSomeAnd, refl, sym, ap, subst, ◌∙◌, arith, ◌==◌}
+use Rattle.std.proofs.lemmas.Bool.{cases_lt, false≢true, ltb-false}
+use Rattle.std.proofs.lemmas.Bool.Decides.{nat_tests}
+use Rattle.std.specs.FinMap.Entries.{is_sorted}
+use Rattle.std.specs.Prelude.{MatchOption}
+use Rattle.av_base.specs.Limits.{top_page}
+use Rattle.av_base.specs.Page.{address_of, page_of, pages_of}
+use Rattle.av_base.specs.Words.{with_at, within}
+use Rattle.av_base.specs.declared.prot.Prot.{Prot}
+use Rattle.av_trace.specs.Reply.{answer_only}
+use Rattle.av_trace.specs.declared.command.Command.TheVariants.{Mremap}
+use Rattle.av_trace.specs.declared.mode.Mode.{Mode}
+use Rattle.av_trace.specs.declared.reply.Answer.TheVariants.{MapAt}
+use Rattle.av_vma.specs.declared.area.Area.{Area}
+use Rattle.av_vma.specs.Join.{index_of}
+use Rattle.av_vma.specs.Mremap.{IsGrowth, IsMove}
+use Rattle.av_vma.specs.Pages.{AreLaid, Pages}
+use Rattle.av_vma.proofs.Laid.{has_parts}
+use Rattle.av_vma.proofs.Mremap.{in_range as range_bounds, is_in_range, out_of_range}
+use Rattle.av_vma.proofs.Prots.{area_prot, prots}
+use Rattle.av_anon.specs.declared.anons.Anons.{Anons as AnonSet}
+use Rattle.av_spaces.specs.Spaces.{AllSpaces, areas_of, is_taken, pages_of as areas_on}
+use Rattle.av_plain.specs.Areas.{chain_length, rmap_after_all}
+use Rattle.av_plain.specs.Choice.{ChoosesAll}
+use Rattle.av_plain.specs.Covered.{IsRmapSound}
+use Rattle.av_plain.specs.Device.{no_device}
+use Rattle.av_plain.specs.Event.{Moved, after_all}
+use Rattle.av_plain.specs.Fork.{IsRmapNext}
+use Rattle.av_plain.specs.Ledger.{Entry, Ledger, entry, key_cmp}
+use Rattle.av_plain.specs.Mremap.{MovesTo, after_mremap, have_one_prot, is_in_place, prot_at, prot_left, range_zaps, remap_events, remapped}
+use Rattle.av_plain.specs.Refusal.{Refuses, refusal, tests, top}
+use Rattle.av_plain.specs.Stands.{AreasAre, AreasStand, IsKept, free_of}
+use Rattle.av_plain.specs.Step.{Follows}
+use Rattle.av_plain.specs.Transcript.{IsStep, State, rmap_of}
+use Rattle.av_plain.specs.World.{Page, Process, is_mapped, lives, pages, set_process, zeros}
+use Rattle.av_plain.specs.Zap.{keys_in}
+use Rattle.av_plain.proofs.AreasLeft.{rmap_after_all-append, rmap_after_all-zaps}
+use Rattle.av_plain.proofs.Covered.Mremap.{sound-remapped}
+use Rattle.av_plain.proofs.Mremap.{then_target}
+use Rattle.av_plain.proofs.Mremap.Areas.{IsRemap}
+use Rattle.av_plain.proofs.Mremap.Cover.{becomes, from_itself, from_left, from_old, from_zeros, prots_become}
+use Rattle.av_plain.proofs.Mremap.Legal.{some, uniform, uniform-where}
+use Rattle.av_plain.proofs.Refusal.{MayRemap}
+use Rattle.av_plain.proofs.Transcript.{next-plain}
+use Rattle.av_plain.proofs.World.{pages-set, lives-set, length-set_old}
+use Rattle.av_reclaim.specs.declared.mem.Mem.{Mem}
+use Rattle.av_reclaim.specs.Mem.{HasTables, Keeps, count, setting, view}
+use Rattle.av_reclaim.specs.Zap.{KeepsRest}
+use Rattle.av_reclaim.proofs.AnonLaws.{anons_stand, are_left, left_of}
+use Rattle.av_reclaim.proofs.MemLaws.{alive_is, lives_is, no_cache, prots_are}
+use Rattle.av_mremap.specs.Areas.{HasRemap}
+use Rattle.av_mremap.specs.Entries.{HasRemapped}
+use Rattle.av_kernel.specs.Step.{MemSteps}
+use Rattle.av_kernel.proofs.MremapKept.{came, grew, here_goes, here_stays, left as has_left, of_others, stays}
+use Rattle.av_kernel.proofs.PlaceLaws.{page_back}
+use Rattle.av_kernel.proofs.ProcessLaws.{at_number}
+use Rattle.av_kernel.proofs.StepLaws.{is_number, kept-on, moved_on, stays_orderly, stepped}
+
+module _ (old : Mem) (s : State) (keeps : Keeps old s) (p a olen nlen : ℕ) (mode : Mode) (to : ℕ) (alive : is_some (areas_of old.spaces.processes p) ≡ true)
+    (may : MayRemap s.world p a olen nlen mode) (goes : MovesTo (pages s.world p) (page_of a) (pages_of olen) (pages_of nlen) mode (Some to))
+    (laid : AreLaid (areas_on old.spaces.processes p)) where
+  abbrev q : Process
+  q = pages s.world p
+
+  abbrev from : ℕ
+  from = page_of a
+
+  abbrev n : ℕ
+  n = pages_of olen
+
+  abbrev m : ℕ
+  m = pages_of nlen
+
+  abbrev left : Option Prot
+  left = prot_left mode q from
+
+  abbrev on : Pages
+  on = s.areas p
+
+  laid_on : AreLaid on
+  laid_on = subst AreLaid (λ i page. keeps.stands.areas p page i) laid
+
+  same_prots : (page : ℕ) → prots on page ≡ prot_at q page
+  same_prots page = ap (option_map area_prot) (sym (keeps.stands.areas p page)) ∙ sym (prots_are old.spaces.processes p page) ∙ keeps.stands.parts.areas.covers p page
+
+  -- neither range is empty
+  pub some_pages : (1 ≤ n) × (1 ≤ m)
+  some_pages = some s.world p a olen nlen mode to may goes
+
+  taken_as : (page : ℕ) (prot : Prot) → prot_at q page ≡ Some prot → is_taken old.spaces.processes p page ≡ true
+  taken_as page prot is = by (areas_on old.spaces.processes p page) (ap (option_map area_prot) (keeps.stands.areas p page) ∙ same_prots page ∙ is)
+    where
+      by : (o : Option Area) → option_map area_prot o ≡ Some prot → is_some o ≡ true
+      by None e = cc
+      by (Some area) e = refl
+
+  -- where they grow, the last one is mapped
+  pub last_taken : n < m → is_taken old.spaces.processes p (from + n - 1) ≡ true
+  last_taken more =
+      let u = uniform-where s.world p a olen nlen mode to may goes (inr more) in
+      let k = some_pages in
+      taken_as (from + n - 1) u.prot (u.each (from + n - 1) (omega (arith, k)) (omega (arith, k)))
+
+  -- where they shrink in place, the old range ends below the top
+  pub may_shrink : to ≡ from → m < n → from + n ≤ top_page
+  may_shrink here less = by (is_in_place mode n m) refl may.has_pages may.tail
+    where
+      turned : (b : Bool) → not b ≡ false → b ≡ true
+      turned true h = refl
+      turned false h = cc
+
+      below : (o : Option Area) → areas_on old.spaces.processes p (from + n - 1) ≡ o → is_some o ≡ true → from + n ≤ top_page
+      below None e h = cc
+      below (Some area) e h =
+          let whole = laid.whole (from + n - 1) area e in
+          let ends = has_parts area (from + n - 1) (laid.here (from + n - 1) area e) in
+          let high = whole.high in
+          let k = some_pages in
+          omega (arith, ends, high, k)
+
+      by : (b : Bool) → is_in_place mode n m ≡ b → not (cond b (is_mapped q from) (have_one_prot q from n)) ≡ false → (b && nat_lt m n && nat_lt top (a + address_of n)) ≡ false → from + n ≤ top_page
+      by true e h t = let far : nat_lt top (a + address_of n) ≡ false = grind (arith, nat_tests, less, t) in
+          let near : a + address_of n ≤ address_of top_page = grind (arith, nat_tests, far) in omega (arith, near)
+      by false e h t =
+          let u = uniform q from n (turned (have_one_prot q from n) h) in
+          let k = some_pages in
+          below (areas_on old.spaces.processes p (from + n - 1)) refl (taken_as (from + n - 1) u.prot (u.each (from + n - 1) (omega (arith, k)) (omega (arith, k))))
+
+  module _ (small : n < m → IsSomeAnd (areas_on old.spaces.processes p (from + n - 1)) (λ area. index_of area (from + n - 1) + (m - n) < 2 ^ 60)) where
+    -- linear indices stay small
+    small_on : ((to == from) ≡ false) ⊎ (n < m) → IsSomeAnd (on (from + min n m - 1)) (λ area. index_of area (from + min n m - 1) + (m - min n m) < 2 ^ 60)
+    small_on which = elim (cases_lt n m) [
+      | inl more ↦
+          let least : n ≡ min n m = omega (arith, more) in
+          subst (λ k. IsSomeAnd (on (from + k - 1)) (λ area. index_of area (from + k - 1) + (m - k) < 2 ^ 60)) least
+          (subst (λ o. IsSomeAnd o (λ area. index_of area (from + n - 1) + (m - n) < 2 ^ 60)) (keeps.stands.areas p (from + n - 1)) (small more))
+      | inr few ↦
+          let u = uniform-where s.world p a olen nlen mode to may goes which in
+          let k = some s.world p a olen nlen mode to may goes in
+          let last = from + min n m - 1 in
+          by (on last) refl (same_prots last ∙ u.each last (omega (arith, k)) (omega (arith, k, few))) few
+    ]
+      where
+        by : (o : Option Area) → on (from + min n m - 1) ≡ o → {prot : Prot} → option_map area_prot o ≡ Some prot → m ≤ n
+            → IsSomeAnd o (λ area. index_of area (from + min n m - 1) + (m - min n m) < 2 ^ 60)
+        by None e h few = cc
+        by (Some area) e h few =
+            let whole = laid_on.whole (from + min n m - 1) area e in
+            let ends = has_parts area (from + min n m - 1) (laid_on.here (from + min n m - 1) area e) in
+            let room = whole.small in
+            omega (arith, ends, room, few)
+
+    pub becomes_on : IsRemap from n to m on
+    becomes_on = becomes s.world p a olen nlen mode to may goes on laid_on same_prots small_on (chain_length s.anons)
+
+    -- where the pages grow or move, areas may
+    pub may_grow : to ≡ from → n < m → IsGrowth (from + n - 1) (from + m) (areas_on old.spaces.processes p)
+    may_grow here more = subst (IsGrowth (from + n - 1) (from + m)) (λ i page. sym (keeps.stands.areas p page) i) (becomes_on.grows (grind (arith, nat_tests, here)) more)
+
+    pub may_move : (to ≡ from → ⊥) → IsMove from n to m (areas_on old.spaces.processes p)
+    may_move there = subst (IsMove from n to m) (λ i page. sym (keeps.stands.areas p page) i) (becomes_on.moves (different there))
+      where
+        different : (to ≡ from → ⊥) → (to == from) ≡ false
+        different h = by (to == from) refl
+          where
+            by : (b : Bool) → (to == from) ≡ b → b ≡ false
+            by true e = absurd (h (is_number to from e))
+            by false e = refl
+
+    -- the old range ends below the top, too
+    pub old_high : (to ≡ from → ⊥) → from + n ≤ top_page
+    old_high there = by (areas_on old.spaces.processes p (from + n - 1)) refl ((may_move there).mapped (from + n - 1) (let k = some_pages in omega (arith, k)) (let k = some_pages in omega (arith, k)))
+      where
+        by : (o : Option Area) → areas_on old.spaces.processes p (from + n - 1) ≡ o → is_some o ≡ true → from + n ≤ top_page
+        by None e h = cc
+        by (Some area) e h =
+            let whole = laid.whole (from + n - 1) area e in
+            let ends = has_parts area (from + n - 1) (laid.here (from + n - 1) area e) in
+            let high = whole.high in
+            let k = some_pages in
+            omega (arith, ends, high, k)
+
+    -- ---- what stands then
+
+    module _ (spaces : AllSpaces) (anons : AnonSet) (remap : HasRemap old (moved_on old old.tables spaces anons) p (after_mremap (chain_length s.anons) p from n to m left on))
+        (mid : Mem) (done : HasRemapped (moved_on old old.tables spaces anons) mid s.ledger (remap_events s.ledger p from n to m)) (rest : KeepsRest (moved_on old old.tables spaces anons) mid) where
+      abbrev l : Ledger
+      l = after_all s.ledger (remap_events s.ledger p from n to m)
+
+      abbrev now : Process
+      now = remapped from n to m left q
+
+      abbrev now_on : Pages
+      now_on = after_mremap (chain_length s.anons) p from n to m left on
+
+      abbrev new : Mem
+      new = moved_on mid mid.tables spaces anons
+
+      abbrev next : State
+      next = record { world = set_process s.world p now; ledger = l; free = free_of (view mid); areas = with_at p now_on s.areas; anons = left_of anons s.anons; homes = s.homes }
+
+      areas_now : AreasAre (view new) next.areas
+      areas_now k page = remap.areas k page ∙ (λ i. with_at p now_on (λ r o. keeps.stands.areas r o i) k page)
+
+      -- the events make no anon_vma and change no home
+      silent : rmap_after_all s.ledger (remap_events s.ledger p from n to m) (rmap_of s) ≡ rmap_of s
+      silent = by (to == from)
+        where
+          target : Ledger
+          target = then_target s.ledger p from n to m
+
+          by : (b : Bool) → rmap_after_all s.ledger (cond b (range_zaps s.ledger p (from + m) (n - m))
+              ((range_zaps s.ledger p to m ++ range_zaps target p (from + m) (n - m)) ++ Moved p (min n m) from to ∷ [])) (rmap_of s) ≡ rmap_of s
+          by true = rmap_after_all-zaps s.ledger (keys_in s.ledger p (from + m) (n - m)) s.ledger (rmap_of s)
+          by false =
+              rmap_after_all-append s.ledger (range_zaps s.ledger p to m ++ range_zaps target p (from + m) (n - m)) (Moved p (min n m) from to ∷ []) (rmap_of s)
+              ∙ rmap_after_all-append s.ledger (range_zaps s.ledger p to m) (range_zaps target p (from + m) (n - m)) (rmap_of s)
+              ∙ rmap_after_all-zaps target (keys_in target p (from + m) (n - m)) (after_all s.ledger (range_zaps s.ledger p to m)) (rmap_after_all s.ledger (range_zaps s.ledger p to m) (rmap_of s))
+              ∙ rmap_after_all-zaps s.ledger (keys_in s.ledger p to m) s.ledger (rmap_of s)
+
+      lives_now : lives s.world p ≡ true
+      lives_now = sym (lives_is old s keeps p) ∙ alive
+
+      page_now : (k page : ℕ) → pages next.world k page ≡ cond (k == p) (now page) (pages s.world k page)
+      page_now k page = pages-set s.world p now k page ∙ ap (λ b. cond b (now page) (pages s.world k page)) (at_number k p)
+
+      -- the areas have the protections of the pages
+      prot_now : (k page : ℕ) → option_map area_prot (next.areas k page) ≡ option_map (λ (x : Page). x.prot) (cond (k == p) (now page) (pages s.world k page))
+      prot_now k page = by (k == p) refl
+        where
+          by : (b : Bool) → (k == p) ≡ b → option_map area_prot ((cond b now_on (s.areas k)) page) ≡ option_map (λ (x : Page). x.prot) (cond b (now page) (pages s.world k page))
+          by true same = prots_become s.world p a olen nlen mode to may goes on laid_on same_prots small_on (chain_length s.anons) page
+          by false other = ap (option_map area_prot) (sym (keeps.stands.areas k page)) ∙ sym (prots_are old.spaces.processes k page) ∙ keeps.stands.parts.areas.covers k page
+
+      areas_stand : AreasStand (view new) next.world
+      areas_stand = record {
+        alive = λ k. remap.alive k ∙ keeps.stands.parts.areas.alive k ∙ by k (k == p) refl
+            ∙ sym (lives-set s.world p now k ∙ ap (λ b. cond b true (lives s.world k)) (at_number k p));
+        number = remap.number ∙ keeps.stands.parts.areas.number ∙ sym (length-set_old s.world p now keeps.stands.sound.world.in_order lives_now);
+        apart = remap.apart;
+        covers = λ k page. prots_are spaces.processes k page ∙ ap (option_map area_prot) (areas_now k page) ∙ prot_now k page ∙ sym (ap (option_map (λ (x : Page). x.prot)) (page_now k page));
+      }
+        where
+          by : (k : ℕ) (b : Bool) → (k == p) ≡ b → lives s.world k ≡ cond (k == p) true (lives s.world k)
+          by k true e = ap (lives s.world) (is_number k p e) ∙ lives_now ∙ sym (ap (λ b. cond b true (lives s.world k)) e)
+          by k false e = sym (ap (λ b. cond b true (lives s.world k)) e)
+
+      tables_now : HasTables new
+      tables_now k = ap (λ (h : ℕ → Bool). h k) rest.processes ∙ keeps.tables k ∙ alive_is old.spaces.processes k ∙ sym (alive_is spaces.processes k ∙ remap.alive k)
+
+      -- ---- bytes
+
+      -- a page without entry that is zeros, or not mapped
+      bare : (o : Option Prot) (e : Option Entry) → e ≡ None → IsKept (view old) no_device s.ledger e (option_map zeros o)
+      bare None e is = subst (λ e. IsKept (view old) no_device s.ledger e None) (sym is) tt
+      bare (Some prot) e is = subst (λ e. IsKept (view old) no_device s.ledger e (Some (zeros prot))) (sym is) (λ i below. refl)
+
+      carried : (page was : ℕ) → entry l (p, page) ≡ entry s.ledger (p, was) → now page ≡ q was → IsKept (view old) no_device s.ledger (entry l (p, page)) (now page)
+      carried page was same is = subst (IsKept (view old) no_device s.ledger (entry l (p, page))) (sym is)
+          (subst (λ e. IsKept (view old) no_device s.ledger e (q was)) (sym same) (keeps.stands.parts.bytes.kept p was))
+
+      emptied : (page : ℕ) (o : Option Prot) → entry l (p, page) ≡ None → now page ≡ option_map zeros o → IsKept (view old) no_device s.ledger (entry l (p, page)) (now page)
+      emptied page o none is = subst (IsKept (view old) no_device s.ledger (entry l (p, page))) (sym is) (bare o (entry l (p, page)) none)
+
+      -- a page that isn't mapped has no entry
+      no_entry : (page : ℕ) → is_some (on page) ≡ false → entry s.ledger (p, page) ≡ None
+      no_entry page free = by (entry s.ledger (p, page)) refl
+        where
+          unmapped : (o : Option Area) (x : Option Page) → is_some o ≡ false → option_map area_prot o ≡ option_map (λ (x : Page). x.prot) x → is_some x ≡ false
+          unmapped None None h e = refl
+          unmapped None (Some x) h e = cc
+          unmapped (Some area) x h e = cc
+
+          by : (e : Option Entry) → entry s.ledger (p, page) ≡ e → e ≡ None
+          by None is = refl
+          by (Some e) is = absurd (false≢true (sym (unmapped (on page) (q page) free (same_prots page)) ∙ keeps.stands.sound.at_pages p page (ap is_some is)))
+
+      in_order : T (is_sorted key_cmp s.ledger.entries)
+      in_order = keeps.stands.sound.ledger.in_order
+
+      module _ (page : ℕ) where
+        kept_there : (to == from) ≡ false → (i j k : Bool) → within to m page ≡ i → within from n page ≡ j → nat_lt (page - to) n ≡ k
+            → IsKept (view old) no_device s.ledger (entry l (p, page)) (now page)
+        kept_there there true j true e f g =
+            carried page (from + (page - to)) (came s.ledger p from n to m in_order there (becomes_on.moves there).apart page e g) (from_old q from n to m left page e g)
+        kept_there there true j false e f g =
+            emptied page (prot_at q from) (grew s.ledger p from n to m in_order there (becomes_on.moves there).apart page e g) (from_zeros q from n to m left page e g)
+        kept_there there false true k e f g =
+            emptied page left (has_left s.ledger p from n to m in_order there (becomes_on.moves there).apart page e f) (from_left q from n to m left page e f)
+        kept_there there false false k e f g =
+            carried page page (stays s.ledger p from n to m in_order there (becomes_on.moves there).apart page e f) (from_itself q from n to m left page e f)
+
+        kept_here : (to == from) ≡ true → (i j k : Bool) → within to m page ≡ i → within from n page ≡ j → nat_lt (page - to) n ≡ k
+            → IsKept (view old) no_device s.ledger (entry l (p, page)) (now page)
+        kept_here here true j true e f g =
+            carried page page (here_stays s.ledger p from n to m in_order here page (before e)) (from_old q from n to m left page e g ∙ ap q (back e))
+          where
+            back : within to m page ≡ true → from + (page - to) ≡ page
+            back e = let b = range_bounds to m page e in let same = is_number to from here in omega arith
+
+            before : within to m page ≡ true → within (from + m) (n - m) page ≡ false
+            before e = let b = range_bounds to m page e in let same = is_number to from here in out_of_range (from + m) (n - m) page (λ low high. omega (arith, b, low, same))
+        kept_here here true j false e f g =
+            let b = range_bounds to m page e in
+            let same = is_number to from here in
+            let far = ltb-false (page - to) n g in
+            let more : n < m = omega (arith, b, far) in
+            let k = some s.world p a olen nlen mode to may goes in
+            emptied page (prot_at q from)
+            (here_stays s.ledger p from n to m in_order here page (out_of_range (from + m) (n - m) page (λ low high. omega (arith, b, low, same)))
+            ∙ no_entry page ((becomes_on.grows here more).free page (omega (arith, b, far, same, k)) (omega (arith, b, same))))
+            (from_zeros q from n to m left page e g)
+        kept_here here false true k e f g =
+            emptied page left (here_goes s.ledger p from n to m in_order here page (past e f)) (from_left q from n to m left page e f)
+          where
+            past : within to m page ≡ false → within from n page ≡ true → within (from + m) (n - m) page ≡ true
+            past e f = let b = range_bounds from n page f in let same = is_number to from here in
+                let low : from + m ≤ page = grind (arith, nat_tests, e, b, same) in is_in_range (from + m) (n - m) page low (omega (arith, b, low))
+        kept_here here false false k e f g =
+            carried page page (here_stays s.ledger p from n to m in_order here page (not_tail f)) (from_itself q from n to m left page e f)
+          where
+            not_tail : within from n page ≡ false → within (from + m) (n - m) page ≡ false
+            not_tail f = grind (arith, nat_tests, f)
+
+        kept_page : IsKept (view old) no_device s.ledger (entry l (p, page)) (now page)
+        kept_page = by (to == from) refl
+          where
+            by : (b : Bool) → (to == from) ≡ b → IsKept (view old) no_device s.ledger (entry l (p, page)) (now page)
+            by true here = kept_here here (within to m page) (within from n page) (nat_lt (page - to) n) refl refl refl
+            by false there = kept_there there (within to m page) (within from n page) (nat_lt (page - to) n) refl refl refl
+
+      kept_now : (k page : ℕ) → IsKept (view new) no_device l (entry l (k, page)) (pages next.world k page)
+      kept_now k page =
+          kept-on (view old) (view new) s.ledger l (entry l (k, page)) (pages next.world k page) rest.bytes (no_cache s.ledger keeps.stands.parts.ledger.swap.finds) (no_cache l done.stands.parts.swap.finds)
+          (subst (IsKept (view old) no_device s.ledger (entry l (k, page))) (sym (page_now k page)) (by (k == p) refl))
+        where
+          by : (b : Bool) → (k == p) ≡ b → IsKept (view old) no_device s.ledger (entry l (k, page)) (cond b (now page) (pages s.world k page))
+          by true same = subst (λ x. IsKept (view old) no_device s.ledger (entry l (x, page)) (now page)) (sym (is_number k p same)) (kept_page page)
+          by false other = subst (λ e. IsKept (view old) no_device s.ledger e (pages s.world k page))
+              (sym (of_others s.ledger p from n to m keeps.stands.sound.ledger.in_order k page other)) (keeps.stands.parts.bytes.kept k page)
+
+      -- ---- the step
+
+      remap-step : refusal (tests (setting (count old)) s.world s.ledger (Mremap p a olen nlen mode)) ≡ None → IsStep (setting (count old)) s (Mremap p a olen nlen mode) (answer_only (MapAt (address_of to))) next
+      remap-step allowed =
+          let events = remap_events s.ledger p from n to m in
+          record {
+            events = events;
+            legal = record {
+              answer = subst (λ o. MatchOption o (Follows (setting (count old)) s.world s.ledger (Mremap p a olen nlen mode) events (MapAt (address_of to)) []) (λ e. Refuses e events (MapAt (address_of to)) [])) (sym allowed)
+                  (Some to, goes, refl, refl, refl);
+              notes = sym done.notes;
+            };
+            world = ap (λ x. set_process s.world p (remapped from n x m left q)) (sym (page_back to));
+            ledger = refl;
+            free = subst (λ free. ChoosesAll (setting (count old)) None s.ledger events free (free_of (view mid))) keeps.stands.free done.free;
+            rmap = subst (λ r. IsRmapNext r s.world (Mremap p a olen nlen mode) (MapAt (address_of to)) (rmap_of next)) (sym silent)
+                (next-plain (rmap_of s) s.world (Mremap p a olen nlen mode) (MapAt (address_of to)) (rmap_of next) refl (record {
+                  areas = ap (λ x. with_at p (after_mremap (chain_length s.anons) p from n x m left on) s.areas) (sym (page_back to));
+                  anons = are_left old s keeps spaces anons remap.anons next.areas areas_now;
+                  homes = refl;
+                }));
+            shows = tt;
+          }
+
+      reach_now : IsRmapSound l (rmap_of next)
+      reach_now = sound-remapped s.ledger p from n to m left (rmap_of s) (rmap_of next) keeps.stands.sound.ledger.in_order laid_on becomes_on refl
+          (are_left old s keeps spaces anons remap.anons next.areas areas_now) refl keeps.stands.reach
+
+      steps : refusal (tests (setting (count old)) s.world s.ledger (Mremap p a olen nlen mode)) ≡ None → MemSteps old new s (Mremap p a olen nlen mode) (answer_only (MapAt (address_of to)))
+      steps allowed = stepped old new s next (Mremap p a olen nlen mode) (answer_only (MapAt (address_of to))) keeps (remap-step allowed) rest.count
+          (stays_orderly mid mid.tables spaces anons l refl done.stands) refl areas_now
+          (anons_stand old s keeps spaces anons remap.anons next.areas areas_now new refl refl) (λ f. ap (λ h. h f) rest.homes ∙ keeps.stands.homes f)
+          reach_now remap.anons.fit areas_stand tables_now kept_now
+
+      pub remaps : refusal (tests (setting (count old)) s.world s.ledger (Mremap p a olen nlen mode)) ≡ None → MemSteps old mid s (Mremap p a olen nlen mode) (answer_only (MapAt (address_of to)))
+      remaps allowed = subst (λ k. MemSteps old k s (Mremap p a olen nlen mode) (answer_only (MapAt (address_of to))))
+          (λ i. record { frames = mid.frames; tables = mid.tables; spaces = (sym rest.spaces) i; anons = (sym rest.anons) i }) (steps allowed)
