@@ -10,10 +10,9 @@ ghost use Rattle.av_replay.specs.Replay.{Headline, IsAtStart, status_at, UnlessF
 use crate::line::read_on;
 use crate::pending::Pending;
 use crate::status::{RunErr, Status};
-use crate::turn::next_line;
+use crate::turn::{Scratch, next_line};
 use av_io::{Sink, Source};
 use av_kernel::Kernel;
-use av_trace::{Bytes, Reply};
 use std::alloc::Global;
 
 /// The lines of a trace, at most.
@@ -69,11 +68,9 @@ fn do_lines<S: Source, K: Sink>(
         (streams (S.view source.old) (K.view sink.old))
         (streams (S.view source.new) (K.view sink.new))) }
 {
-    let mut reply = Reply::new(alloc);
-    let mut text = Bytes::new(alloc);
+    let mut scratch = Scratch::new(alloc);
     for number in 0..MOST_LINES {
-        let turn = next_line(alloc, kernel, source, sink, pending, &mut reply, &mut text);
-        match turn {
+        match next_line(alloc, kernel, source, sink, pending, &mut scratch) {
             Ok(true) => {}
             Ok(false) => return Status::Done,
             Err(error) => return status_of(error, number + 1),

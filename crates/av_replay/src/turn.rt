@@ -12,24 +12,44 @@ use crate::status::RunErr;
 use crate::write::write_all;
 use av_io::{Sink, SinkErr, Source};
 use av_kernel::Kernel;
-use av_trace::{Bytes, LineFault, Reply, parse_line, reply_text};
+use av_trace::{Bytes, Command, LineFault, Reply, parse_line_with, reply_text};
 use std::alloc::Global;
 
-/// Does a line, and makes its reply and the reply's text. What the two held before is forgotten.
+/// What the loop over the lines uses again for each line, for the sake of its memory.
+#[derive(Drop)]
+pub struct Scratch {
+    reply: Reply,
+    /// The text of the reply.
+    text: Bytes,
+    /// For the bytes of a write.
+    spare: Bytes,
+}
+
+impl Scratch {
+    pub fn new(alloc: Global) -> Self {
+        Scratch {
+            reply: Reply::new(alloc),
+            text: Bytes::new(alloc),
+            spare: Bytes::new(alloc),
+        }
+    }
+}
+
+/// Does a line, and makes its reply and the reply's text. What they were before is forgotten.
 pub fn do_line(
     alloc: Global,
     kernel: &mut Kernel,
     line: &[u8],
-    reply: &mut Reply,
-    text: &mut Bytes,
+    scratch: &mut Scratch,
 ) -> Result<(), RunErr>
     requires { kernel.old.steps < 2 ^ 24 }
     ensures ok { OnOk result (DoesLine line.now no_device no_device kernel.old kernel.new
-        text.new) }
+        scratch.new.text) }
     ensures err { IfErr result (λ e. IsNotDone e line.now kernel.old kernel.new) }
 {
+    let Scratch { reply, text, spare } = scratch;
     text.clear();
-    let said = match parse_line(alloc, line) {
+    let said = match parse_line_with(alloc, line, spare) {
         Ok(said) => said,
         Err(LineFault::Bad) => return Err(RunErr::BadLine),
         Err(LineFault::Memory) => return Err(RunErr::Memory),
@@ -38,6 +58,9 @@ pub fn do_line(
         return Ok(());
     };
     kernel.answer(alloc, &command, reply)?;
+    if let Command::Write { bytes, .. } = command {
+        *spare = bytes;
+    }
     reply_text(reply, text)?;
     Ok(())
 }
@@ -48,19 +71,18 @@ pub fn answer_line<K: Sink>(
     kernel: &mut Kernel,
     sink: &mut K,
     line: &[u8],
-    reply: &mut Reply,
-    text: &mut Bytes,
+    scratch: &mut Scratch,
 ) -> Result<(), RunErr>
     requires { kernel.old.steps < 2 ^ 24 }
     ensures does { OnOk result (DoesLine line.now no_device no_device kernel.old kernel.new
-        text.new) }
-    ensures writes { OnOk result (Writes (K.view sink.old) (K.view sink.new) text.new) }
+        scratch.new.text) }
+    ensures writes { OnOk result (Writes (K.view sink.old) (K.view sink.new) scratch.new.text) }
     ensures unfailed { UnlessFailed result ((K.view sink.new).faults ≡ (K.view sink.old).faults) }
     ensures err { IfErr result (λ e. IsNotAnswered e line.now no_device no_device
         kernel.old kernel.new (K.view sink.old) (K.view sink.new)) }
 {
-    do_line(alloc, kernel, line, reply, text)?;
-    match write_all(sink, text.as_slice()) {
+    do_line(alloc, kernel, line, scratch)?;
+    match write_all(sink, scratch.text.as_slice()) {
         Ok(()) => Ok(()),
         Err(SinkErr::Failed) => Err(RunErr::Write),
         Err(SinkErr::Memory) => Err(RunErr::Memory),
@@ -74,8 +96,7 @@ pub fn next_line<S: Source, K: Sink>(
     source: &mut S,
     sink: &mut K,
     pending: &mut Pending,
-    reply: &mut Reply,
-    text: &mut Bytes,
+    scratch: &mut Scratch,
 ) -> Result<bool, RunErr>
     requires { kernel.old.steps < 2 ^ 24 }
     ensures turned { Turned result pending.old pending.new
@@ -89,8 +110,13 @@ pub fn next_line<S: Source, K: Sink>(
     let Some(line) = read_line(source, sink, pending)? else {
         return Ok(false);
     };
-    let line_text = &pending.as_slice()[..line.size];
-    answer_line(alloc, kernel, sink, line_text, reply, text)?;
+    answer_line(
+        alloc,
+        kernel,
+        sink,
+        &pending.as_slice()[..line.size],
+        scratch,
+    )?;
     pending.skip(line.whole);
     Ok(line.whole > line.size)
 }

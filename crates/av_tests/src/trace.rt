@@ -49,6 +49,70 @@ fn places(rt: HostRuntime) {
     );
 }
 
+/// What the line's `mremap` may do with the pages.
+fn mode_of(alloc: Global, line: &[u8]) -> Option<Mode> {
+    match parse_line(alloc, line) {
+        Ok(Some(Command::Mremap { mode, .. })) => Some(mode),
+        _ => None,
+    }
+}
+
+#[test]
+fn modes(rt: HostRuntime) {
+    let alloc = rt.alloc();
+    let lines: [(&[u8], Option<Mode>); 11] = [
+        (b"mremap 1 10000 4096 8192", Some(Mode::Plain)),
+        (
+            b"mremap 1 10000 0 18446744073709551615 maymove",
+            Some(Mode::MayMove),
+        ),
+        (
+            b"mremap 1 10000 4096 8192 fixed 1f",
+            Some(Mode::Fixed(0x1f)),
+        ),
+        (
+            b"mremap 1 10000 4096 4096 dontunmap",
+            Some(Mode::DontUnmap(None)),
+        ),
+        (
+            b"mremap 1 10000 4096 4096 dontunmap 1f",
+            Some(Mode::DontUnmap(Some(0x1f))),
+        ),
+        (b"mremap 1 10000 4096", None),
+        (b"mremap 1 10000 4096 8192 fixed", None),
+        (b"mremap 1 10000 4096 8192 maymove 1f", None),
+        (b"mremap 1 10000 4096 8192 dontunmap 1f fixed 1f", None),
+        (b"mremap 1 10000 4096 8192 dontunmap ", None),
+        (b"mremap 1 10000 4096 18446744073709551616", None),
+    ];
+    for (line, wanted) in lines {
+        assert_eq!(rt; mode_of(alloc, line), wanted);
+    }
+}
+
+#[test]
+fn lengths_of_mremap(rt: HostRuntime) {
+    match parse_line(rt.alloc(), b"mremap 7 1f000 4096 8192 maymove") {
+        Ok(
+            Some(
+                Command::Mremap {
+                    process,
+                    address,
+                    old_len,
+                    new_len,
+                    ..
+                },
+            ),
+        ) => {
+            assert_eq!(rt; process, 7);
+            assert_eq!(rt; address, 0x1f000);
+            assert_eq!(rt; old_len, 4096);
+            assert_eq!(rt; new_len, 8192);
+        }
+        _ => assert!(rt; false),
+    }
+}
+
 #[test]
 fn forks_and_pages(rt: HostRuntime) {
     let alloc = rt.alloc();

@@ -28,6 +28,12 @@ A trace has one command a line. An empty line, or one that begins with #, says n
          .. noreplace A     at A, unless something is mapped there
   munmap P A LEN            what is mapped in the range goes
   mprotect P A LEN PROT     the range gets another protection
+  mremap P A OLD NEW        the OLD bytes at A, rounded up to pages, become NEW: pages go, or pages
+                            of zeros come behind them; the line may end with one of
+         .. maymove         they move to where they fit, if they can't grow where they are
+         .. fixed B         they move to B, in place of what is mapped there
+         .. dontunmap       they move to where they fit, and zeros stay at A; OLD is NEW
+         .. dontunmap B     as this, but to B, in place of what is mapped there
   read P A N                read N bytes (1 to 4096) at the hexadecimal address A
   write P A HEX             write the bytes of the hexadecimal digits HEX at A
   maps P                    the longest runs of mapped pages with one protection
