@@ -28,8 +28,7 @@ pub seen : (v : Forest) (n : ℕ) (w : Stored Span ℕ) → IsNode v n → store
       first = w.entry.first;
       last = w.entry.last;
       area = w.entry.area;
-      left =
-          child_of w.left;
+      left = child_of w.left;
       right = child_of w.right;
     })
 seen v n w is e =

@@ -89,8 +89,7 @@ child_same isn b t o i c =
       | Some n ↦ λ e. let f = child_some isn b t o i n c e in record {
         node = f.node;
         same = λ a. ap (λ u. span_reaching a i (entries u)) f.is;
-        ordered =
-            λ s. rw f.is s;
+        ordered = λ s. rw f.is s;
         height = rw f.is (omega arith);
       }
     ] refl
@@ -224,8 +223,7 @@ module _ (isn : ℕ → Type 0) (b : ℕ → Tree) (t : Tree) (v : Node) (s : Is
       record {
         node = m.node;
         ordered = λ o. m.ordered (ordered_front (entries k.l) (span_of v ∷ entries k.r) (subst IsOrdered k.is o));
-        height =
-            rw k.height (omega arith);
+        height = rw k.height (omega arith);
       }
 
   pub right_side : (i : ℕ) → IsSide i (reaching_child i v.right)
@@ -236,8 +234,7 @@ module _ (isn : ℕ → Type 0) (b : ℕ → Tree) (t : Tree) (v : Node) (s : Is
       record {
         node = m.node;
         ordered = λ o. m.ordered (ordered_back (entries k.l) (span_of v ∷ entries k.r) (subst IsOrdered k.is o)).1;
-        height =
-            rw k.height (omega arith);
+        height = rw k.height (omega arith);
       }
 
 pub lower : (m k h t : ℕ) → m + 1 ≤ k → h ≡ k → h ≡ t → m < t

@@ -393,8 +393,7 @@ empty_forest s r z e =
       held = λ a. subst (IsHeld key 0 max last_of s) (sym (top a)) (record {
         stored = rw n tt;
         link = rw n refl;
-        once =
-            λ j. rw n (omega arith);
+        once = λ j. rw n (omega arith);
         level = rw n tt;
       });
       rising = λ a. rw (top a, n) tt;

@@ -264,8 +264,7 @@ empty links back places n few next prev is =
       linked = (next.2, prev.2);
       apart = tt;
       placed = λ f there. absurd there;
-      listed =
-          λ f h. none-some Inactive (sym (none_at n f) ∙ h);
+      listed = λ f h. none-some Inactive (sym (none_at n f) ∙ h);
     }
 
     lengths : (v : Which) → length (list_of v (record { frames = n; active = []; inactive = [] })) ≡ len_of v (record { active = 0; inactive = 0 })

@@ -60,8 +60,7 @@ read_in_ok order page device header e =
           all = omega (arith, pages_are, slots_are, bad_are);
           some = omega (arith, slots_are);
           fits = omega (arith, pages_are);
-          most =
-              omega (arith, pages_are);
+          most = omega (arith, pages_are);
         }
 
 -- so does one that a page has on some device
