@@ -61,7 +61,10 @@ apart_left p (x ∷ xs) ys d h = either (IsFresh p ys) (same_ptr p x.0)
 
 pub apart_right : (p : Ptr) (xs ys : List Block) → IsApart (xs ++ ys) → has_place p ys ≡ true → IsFresh p xs
 apart_right p [] ys d h = tt
-apart_right p (x ∷ xs) ys d h = (fresh_differs x.0 p (xs ++ ys) (apart_head x (xs ++ ys) d) (has_right p xs ys h), apart_right p xs ys (apart_tail x (xs ++ ys) d) h)
+apart_right p (x ∷ xs) ys d h = (
+  fresh_differs x.0 p (xs ++ ys) (apart_head x (xs ++ ys) d) (has_right p xs ys h),
+  apart_right p xs ys (apart_tail x (xs ++ ys) d) h,
+)
 
 pub has_here : (b : Block) (bs : List Block) → has_place b.0 (b ∷ bs) ≡ true
 has_here b bs = or_left (same_ptr b.0 b.0) (has_place b.0 bs) (same_ptr_refl b.0)

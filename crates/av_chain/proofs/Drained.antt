@@ -25,7 +25,8 @@ first_has area bs p d e = subst (λ o. Reaches o bs) (sym e) (first_link_there a
 in_row : (area : ℕ) (bs : List Block) (b : Block) (rest : List Block) → row Area area bs ≡ b ∷ rest → has_place b.0 bs ≡ true
 in_row area bs b rest e = has_row Area area b.0 bs (ap (has_place b.0) e ∙ has_here b rest)
 
-pub first_removed : (area : ℕ) (bs : List Block) (p : Place) → IsApart bs → Some p ≡ first_or None (row Area area bs) → links_of (without_node p.ptr bs) ≡ without_first area (links_of bs)
+pub first_removed : (area : ℕ) (bs : List Block) (p : Place) → IsApart bs → Some p ≡ first_or None (row Area area bs) →
+    links_of (without_node p.ptr bs) ≡ without_first area (links_of bs)
 first_removed area [] p d e = cc
 first_removed area (b ∷ bs) p d e = either (links_of (without_node p.ptr (b ∷ bs)) ≡ without_first area (links_of (b ∷ bs))) (area == b.1.area)
     (λ is.
@@ -38,7 +39,8 @@ first_removed area (b ∷ bs) p d e = either (links_of (without_node p.ptr (b �
     (λ is.
     let later : Some p ≡ first_or None (row Area area bs) = e ∙ ap (λ y. first_or None (cond y (b ∷ row Area area bs) (row Area area bs))) is in
     let miss : same_ptr p.ptr b.0 ≡ false = fresh_differs b.0 p.ptr bs (apart_head b bs d) (first_has area bs p (apart_tail b bs d) later) in
-    ap (λ y. links_of (cond y (without_node p.ptr bs) (b ∷ without_node p.ptr bs))) miss ∙ ap (λ ls. (b.1.area, b.1.anon) ∷ ls) (first_removed area bs p (apart_tail b bs d) later)
+    ap (λ y. links_of (cond y (without_node p.ptr bs) (b ∷ without_node p.ptr bs))) miss ∙ ap (λ ls. (b.1.area, b.1.anon) ∷ ls)
+    (first_removed area bs p (apart_tail b bs d) later)
     ∙ sym (ap (λ y. cond y (links_of bs) ((b.1.area, b.1.anon) ∷ without_first area (links_of bs))) is))
 
 -- ---- fewer nodes are left
@@ -54,10 +56,11 @@ length_removed p (b ∷ bs) =
 
 pub fewer_left : (p : Ptr) (bs : List Block) → has_place p bs ≡ true → length (links_of (without_node p bs)) < length (links_of bs)
 fewer_left p [] h = cc
-fewer_left p (b ∷ bs) h = (elim (same_ptr p b.0) as (λ y. (y || has_place p bs) ≡ true → length (links_of (cond y (without_node p bs) (b ∷ without_node p bs))) < suc (length (links_of bs))) [
-  | true ↦ λ g. let rest = length_removed p bs in omega arith
-  | false ↦ λ g. let rest = fewer_left p bs g in omega arith
-]) h
+fewer_left p (b ∷ bs) h = (elim (same_ptr p b.0) as (λ y. (y || has_place p bs) ≡ true →
+    length (links_of (cond y (without_node p bs) (b ∷ without_node p bs))) < suc (length (links_of bs))) [
+      | true ↦ λ g. let rest = length_removed p bs in omega arith
+      | false ↦ λ g. let rest = fewer_left p bs g in omega arith
+    ]) h
 
 -- ---- a node of any list
 
@@ -71,14 +74,16 @@ no_values : (es : List (ℕ × Head)) → values_of es ≡ [] → (k : ℕ) → 
 no_values [] e k = refl
 no_values (e ∷ es) is k = cc
 
-pub any_has : (es : List (ℕ × Head)) (bs : List Block) (h : Head) (hs : List Head) → IsThreaded Area (λ k. lookup (nat_eq k) es) bs → IsApart bs → values_of es ≡ h ∷ hs → has_place h.first.ptr bs ≡ true
+pub any_has : (es : List (ℕ × Head)) (bs : List Block) (h : Head) (hs : List Head) → IsThreaded Area (λ k. lookup (nat_eq k) es) bs → IsApart bs →
+    values_of es ≡ h ∷ hs → has_place h.first.ptr bs ≡ true
 any_has es bs h hs t d e =
     let one = value_first es h hs e in
     first_has one.0 bs h.first d (row_first Area (λ k. lookup (nat_eq k) es) bs t one.0 h one.1)
 
 rows_empty : (bs : List Block) → ((k : ℕ) → row Area k bs ≡ []) → bs ≡ []
 rows_empty [] h = refl
-rows_empty (b ∷ bs) h = let clash : b ∷ row Area b.1.area bs ≡ [] = sym (ap (λ y. cond y (b ∷ row Area b.1.area bs) (row Area b.1.area bs)) (same_number b.1.area)) ∙ h b.1.area in cc
+rows_empty (b ∷ bs) h = let clash : b ∷ row Area b.1.area bs ≡ [] =
+    sym (ap (λ y. cond y (b ∷ row Area b.1.area bs) (row Area b.1.area bs)) (same_number b.1.area)) ∙ h b.1.area in cc
 
 pub none_left : (es : List (ℕ × Head)) (bs : List Block) → IsThreaded Area (λ k. lookup (nat_eq k) es) bs → values_of es ≡ [] → bs ≡ []
 none_left es bs t e = rows_empty bs (λ k. row_none Area (λ j. lookup (nat_eq j) es) bs t k (no_values es e k))

@@ -17,7 +17,8 @@ use Rattle.av_chain.proofs.Passing.{found_row_at}
 from_mid : (xs : List Block) (b : Block) (ys : List Block) → IsApart (xs ++ b ∷ ys) → from_place (Some (at_block b)) (xs ++ b ∷ ys) ≡ b ∷ ys
 from_mid [] b ys d = ap (λ y. cond y (b ∷ ys) (from_place (Some (at_block b)) ys)) (same_ptr_refl b.0)
 from_mid (x ∷ xs) b ys d =
-    ap (λ y. cond y (x ∷ xs ++ b ∷ ys) (from_place (Some (at_block b)) (xs ++ b ∷ ys))) (fresh_differs x.0 b.0 (xs ++ b ∷ ys) (apart_head x (xs ++ b ∷ ys) d) (has_past b.0 xs b ys))
+    ap (λ y. cond y (x ∷ xs ++ b ∷ ys) (from_place (Some (at_block b)) (xs ++ b ∷ ys)))
+    (fresh_differs x.0 b.0 (xs ++ b ∷ ys) (apart_head x (xs ++ b ∷ ys) d) (has_past b.0 xs b ys))
     ∙ from_mid xs b ys (apart_tail x (xs ++ b ∷ ys) d)
 
 from_first : (xs ys : List Block) → IsApart (xs ++ ys) → from_place (first_or None ys) (xs ++ ys) ≡ ys
@@ -42,7 +43,8 @@ module _ (anon : ℕ) (p : Place) (bs : List Block) (d : IsApart bs) (there : ha
     apart_cut = subst IsApart cut.2 (apart_row Anon anon bs d)
 
     pub users_there : Reaches n.in_anon.after (row Anon anon bs)
-    users_there = subst (λ cs. Reaches n.in_anon.after cs) (sym cut.2) (subst (λ o. Reaches o (cut.0 ++ (p.ptr, n) ∷ cut.1)) (sym after_is) (reaches_past (first_or None cut.1) cut.0 (p.ptr, n) cut.1 (first_reaches cut.1)))
+    users_there = subst (λ cs. Reaches n.in_anon.after cs) (sym cut.2)
+        (subst (λ o. Reaches o (cut.0 ++ (p.ptr, n) ∷ cut.1)) (sym after_is) (reaches_past (first_or None cut.1) cut.0 (p.ptr, n) cut.1 (first_reaches cut.1)))
 
     pub users_step : users_left anon (Some p) bs ≡ n.area ∷ users_left anon n.in_anon.after bs
     users_step =

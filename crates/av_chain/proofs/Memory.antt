@@ -38,7 +38,8 @@ mark = vstruct (vcons (vstruct vnil) vnil)
 
 module _ {M : Type 1} {𝓤 : Ura M} {𝓛 : Logic 𝓤} {K : Type 0} {Γ : List (Item 𝓤)} {G : Goal 𝓤 𝓛.H} where
   pub word_had : K → (c : Ptr) (vs : List Val) → (vs ≡ word c ∷ [] → Seq K 𝓛 Γ G) → Seq K 𝓛 (‵ (Word.own_val (c, tt) vs) ∷ Γ) G
-  word_had t c vs k = fpick t (λ vss. fsplit t $ feq_l t (λ ev. fsplit t $ feq_l t (λ e. drop t $ k (subst (λ (ws : List Val). vs ≡ vstruct (of_list (ws ++ [])) ∷ []) e ev))))
+  word_had t c vs k = fpick t (λ vss. fsplit t $ feq_l t (λ ev. fsplit t $
+      feq_l t (λ e. drop t $ k (subst (λ (ws : List Val). vs ≡ vstruct (of_list (ws ++ [])) ∷ []) e ev))))
 
   pub word_made : K → (c : Ptr) → Step K 𝓛 (‵ (Word.own_val (c, tt) (word c ∷ [])) ∷ Γ) G Γ G
   word_made t c = step (λ s.
@@ -56,12 +57,15 @@ node_at p (b ∷ bs) e = (elim (same_ptr p b.0) as (λ y. (y || has_place p bs) 
 module _ {M : Type 1} {𝓤 : Ura M} (𝓛 : Logic 𝓤) where
   pub seen_at : (κ : Lft) (p : Ptr) (bs : List Block) (n : Node) → found p bs ≡ Some n → ent 𝓤 (sem 𝓛 (blocks_lent bs κ)) (sem 𝓛 (lent_at T p n κ))
   seen_at κ p [] n e = cc
-  seen_at κ p (b ∷ bs) n e = (elim (same_ptr p b.0) as (λ y. same_ptr p b.0 ≡ y → cond y (Some b.1) (found p bs) ≡ Some n → ent 𝓤 (sem 𝓛 (blocks_lent (b ∷ bs) κ)) (sem 𝓛 (lent_at T p n κ))) [
-    | true ↦ λ at h.
-        let is : b.1 ≡ n = cc in
-        subst (λ (q : Ptr × Node). ent 𝓤 (sem 𝓛 (blocks_lent (b ∷ bs) κ)) (sem 𝓛 (lent_at T q.0 q.1 κ))) (λ i. (sym (same_ptr_eq p b.0 at) i, is i)) (fst∗ 𝓤 (sem 𝓛 (lent_at T b.0 b.1 κ)) (sem 𝓛 (blocks_lent bs κ)))
-    | false ↦ λ _ h. via 𝓤 (sem 𝓛 (blocks_lent bs κ)) (snd∗ 𝓤 (sem 𝓛 (lent_at T b.0 b.1 κ)) (sem 𝓛 (blocks_lent bs κ))) (seen_at κ p bs n h)
-  ]) refl e
+  seen_at κ p (b ∷ bs) n e = (elim (same_ptr p b.0) as (λ y. same_ptr p b.0 ≡ y → cond y (Some b.1) (found p bs) ≡ Some n →
+      ent 𝓤 (sem 𝓛 (blocks_lent (b ∷ bs) κ)) (sem 𝓛 (lent_at T p n κ))) [
+        | true ↦ λ at h.
+            let is : b.1 ≡ n = cc in
+            subst (λ (q : Ptr × Node). ent 𝓤 (sem 𝓛 (blocks_lent (b ∷ bs) κ)) (sem 𝓛 (lent_at T q.0 q.1 κ))) (λ i. (sym (same_ptr_eq p b.0 at) i, is i))
+            (fst∗ 𝓤 (sem 𝓛 (lent_at T b.0 b.1 κ)) (sem 𝓛 (blocks_lent bs κ)))
+        | false ↦ λ _ h. via 𝓤 (sem 𝓛 (blocks_lent bs κ)) (snd∗ 𝓤 (sem 𝓛 (lent_at T b.0 b.1 κ)) (sem 𝓛 (blocks_lent bs κ))) (seen_at κ p bs n h)
+      ]) refl e
 
 pub mark_made : {M : Type 1} {𝓤 : Ura M} (𝓛 : Logic 𝓤) → ent 𝓤 (emp 𝓤) (sem 𝓛 (Mark.own_val (tt, tt) (mark ∷ [])))
-mark_made 𝓛 = makes_shadow 𝓛 (Mark.own_val (tt, tt) (mark ∷ [])) (λ vss. (tt, ((λ uss. (tt, tt)), tt))) ((vstruct vnil ∷ [], tt), (refl, ((tt, (refl, tt)), tt)))
+mark_made 𝓛 = makes_shadow 𝓛 (Mark.own_val (tt, tt) (mark ∷ [])) (λ vss. (tt, ((λ uss. (tt, tt)), tt)))
+    ((vstruct vnil ∷ [], tt), (refl, ((tt, (refl, tt)), tt)))

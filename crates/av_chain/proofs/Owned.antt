@@ -38,10 +38,13 @@ module _ {M : Type 1} {𝓤 : Ura M} (𝓛 : Logic 𝓤) (𝓜 : Model 𝓤 𝓛
   clash null_ptr x y = qed 𝓛 (‵ (block_owns (null_ptr, x)) ∷ ‵ (block_owns (null_ptr, y)) ∷ []) ∵ fsplit ! $ keep ! (0 ∷ []) $ done !
 
   differ : (p : Ptr) (x : Node) (b : Block) → ent 𝓤 (sep 𝓤 (sem 𝓛 (block_owns (p, x))) (sem 𝓛 (block_owns b))) (fact 𝓤 (same_ptr p b.0 ≡ false))
-  differ p x b = (elim (same_ptr p b.0) as (λ y. same_ptr p b.0 ≡ y → ent 𝓤 (sep 𝓤 (sem 𝓛 (block_owns (p, x))) (sem 𝓛 (block_owns b))) (fact 𝓤 (same_ptr p b.0 ≡ false))) [
-    | true ↦ λ e. via 𝓤 (never 𝓤) (subst (λ (q : Ptr). ent 𝓤 (sep 𝓤 (sem 𝓛 (block_owns (q, x))) (sem 𝓛 (block_owns b))) (never 𝓤)) (sym (same_ptr_eq p b.0 e)) (clash b.0 x b.1)) (never_e 𝓤 _)
-    | false ↦ λ e. fact_i 𝓤 (same_ptr p b.0 ≡ false) _ e
-  ]) refl
+  differ p x b = (elim (same_ptr p b.0) as (λ y. same_ptr p b.0 ≡ y → ent 𝓤 (sep 𝓤 (sem 𝓛 (block_owns (p, x))) (sem 𝓛 (block_owns b)))
+      (fact 𝓤 (same_ptr p b.0 ≡ false))) [
+        | true ↦ λ e. via 𝓤 (never 𝓤) (subst (λ (q : Ptr). ent 𝓤 (sep 𝓤 (sem 𝓛 (block_owns (q, x))) (sem 𝓛 (block_owns b))) (never 𝓤))
+            (sym (same_ptr_eq p b.0 e))
+            (clash b.0 x b.1)) (never_e 𝓤 _)
+        | false ↦ λ e. fact_i 𝓤 (same_ptr p b.0 ≡ false) _ e
+      ]) refl
 
   -- a node lies apart from those that are owned beside it
   pub fresh : (p : Ptr) (x : Node) (bs : List Block) → ent 𝓤 (sep 𝓤 (sem 𝓛 (block_owns (p, x))) (sem 𝓛 (blocks_own bs))) (fact 𝓤 (IsFresh p bs))
@@ -62,13 +65,16 @@ module _ {M : Type 1} {𝓤 : Ura M} (𝓛 : Logic 𝓤) where
 
   own_others : (p : Ptr) (bs : List Block) → ent 𝓤 (sem 𝓛 (blocks_own bs)) (sem 𝓛 (blocks_own (without_node p bs)))
   own_others p [] = id⊢ 𝓤 _
-  own_others p (b ∷ bs) = elim (same_ptr p b.0) as (λ y. ent 𝓤 (sem 𝓛 (blocks_own (b ∷ bs))) (sem 𝓛 (blocks_own (cond y (without_node p bs) (b ∷ without_node p bs))))) [
-    | true ↦ via 𝓤 (sem 𝓛 (blocks_own bs)) (snd∗ 𝓤 (sem 𝓛 (block_owns b)) (sem 𝓛 (blocks_own bs))) (own_others p bs)
-    | false ↦ qed 𝓛 (‵ (blocks_own (b ∷ bs)) ∷ []) ∵ fsplit ! $ move ! (1 ∷ []) $ use1 𝓛 (‵ (blocks_own (without_node p bs))) (own_others p bs) $ move ! (1 ∷ 0 ∷ []) $ fjoin ! $ done !
-  ]
+  own_others p (b ∷ bs) = elim (same_ptr p b.0) as (λ y. ent 𝓤 (sem 𝓛 (blocks_own (b ∷ bs)))
+      (sem 𝓛 (blocks_own (cond y (without_node p bs) (b ∷ without_node p bs))))) [
+        | true ↦ via 𝓤 (sem 𝓛 (blocks_own bs)) (snd∗ 𝓤 (sem 𝓛 (block_owns b)) (sem 𝓛 (blocks_own bs))) (own_others p bs)
+        | false ↦ qed 𝓛 (‵ (blocks_own (b ∷ bs)) ∷ []) ∵ fsplit ! $ move ! (1 ∷ []) $ use1 𝓛 (‵ (blocks_own (without_node p bs))) (own_others p bs) $
+            move ! (1 ∷ 0 ∷ []) $ fjoin ! $ done !
+      ]
 
   -- the node at a place, and the others
-  pub own_cut : (p : Ptr) (bs : List Block) (n : Node) → found p bs ≡ Some n → ent 𝓤 (sem 𝓛 (blocks_own bs)) (sep 𝓤 (sem 𝓛 (block_owns (p, n))) (sem 𝓛 (blocks_own (without_node p bs))))
+  pub own_cut : (p : Ptr) (bs : List Block) (n : Node) → found p bs ≡ Some n →
+      ent 𝓤 (sem 𝓛 (blocks_own bs)) (sep 𝓤 (sem 𝓛 (block_owns (p, n))) (sem 𝓛 (blocks_own (without_node p bs))))
   own_cut p [] n e = cc
   own_cut p (b ∷ bs) n e = (elim (same_ptr p b.0) as (λ y. same_ptr p b.0 ≡ y → cond y (Some b.1) (found p bs) ≡ Some n
       → ent 𝓤 (sem 𝓛 (blocks_own (b ∷ bs))) (sep 𝓤 (sem 𝓛 (block_owns (p, n))) (sem 𝓛 (blocks_own (cond y (without_node p bs) (b ∷ without_node p bs)))))) [
@@ -77,17 +83,21 @@ module _ {M : Type 1} {𝓤 : Ura M} (𝓛 : Logic 𝓤) where
             qed 𝓛 (‵ (blocks_own (b ∷ bs)) ∷ []) ∵ fsplit ! $ rewrite ! 0 (λ (c : Block). ‵ (block_owns c)) (λ i. (sym (same_ptr_eq p b.0 at) i, is i)) refl $
             move ! (1 ∷ []) $ use1 𝓛 (‵ (blocks_own (without_node p bs))) (own_others p bs) $ move ! (1 ∷ 0 ∷ []) $ done !
         | false ↦ λ at h. qed 𝓛 (‵ (blocks_own (b ∷ bs)) ∷ []) ∵ fsplit ! $ move ! (1 ∷ []) $
-            use1 𝓛 (‵ (block_owns (p, n)) ⊛ ‵ (blocks_own (without_node p bs))) (own_cut p bs n h) $ split ! $ move ! (2 ∷ 1 ∷ []) $ fjoin ! $ move ! (1 ∷ 0 ∷ []) $ done !
+            use1 𝓛 (‵ (block_owns (p, n)) ⊛ ‵ (blocks_own (without_node p bs))) (own_cut p bs n h) $ split ! $ move ! (2 ∷ 1 ∷ []) $
+            fjoin ! $ move ! (1 ∷ 0 ∷ []) $ done !
       ]) refl e
 
   -- another node at that place, with the others
-  pub own_glue : (p : Ptr) (bs : List Block) (n m : Node) → IsApart bs → found p bs ≡ Some n → ent 𝓤 (sep 𝓤 (sem 𝓛 (block_owns (p, m))) (sem 𝓛 (blocks_own (without_node p bs)))) (sem 𝓛 (blocks_own (with_node p m bs)))
+  pub own_glue : (p : Ptr) (bs : List Block) (n m : Node) → IsApart bs → found p bs ≡ Some n →
+      ent 𝓤 (sep 𝓤 (sem 𝓛 (block_owns (p, m))) (sem 𝓛 (blocks_own (without_node p bs)))) (sem 𝓛 (blocks_own (with_node p m bs)))
   own_glue p [] n m d e = cc
   own_glue p (b ∷ bs) n m d e = (elim (same_ptr p b.0) as (λ y. same_ptr p b.0 ≡ y → cond y (Some b.1) (found p bs) ≡ Some n
-      → ent 𝓤 (sep 𝓤 (sem 𝓛 (block_owns (p, m))) (sem 𝓛 (blocks_own (cond y (without_node p bs) (b ∷ without_node p bs))))) (sem 𝓛 (blocks_own (cond y (b.0, m) b ∷ with_node p m bs)))) [
+      → ent 𝓤 (sep 𝓤 (sem 𝓛 (block_owns (p, m))) (sem 𝓛 (blocks_own (cond y (without_node p bs) (b ∷ without_node p bs)))))
+      (sem 𝓛 (blocks_own (cond y (b.0, m) b ∷ with_node p m bs)))) [
         | true ↦ λ at h.
             let f = fresh_at b.0 p bs (sym (same_ptr_eq p b.0 at)) (apart_head b bs d) in
-            qed 𝓛 (‵ (block_owns (p, m)) ∷ ‵ (blocks_own (without_node p bs)) ∷ []) ∵ rewrite ! 0 (λ (q : Ptr). ‵ (block_owns (q, m))) (same_ptr_eq p b.0 at) refl $
+            qed 𝓛 (‵ (block_owns (p, m)) ∷ ‵ (blocks_own (without_node p bs)) ∷ []) ∵ rewrite ! 0 (λ (q : Ptr). ‵ (block_owns (q, m)))
+            (same_ptr_eq p b.0 at) refl $
             rewrite ! 1 (λ (cs : List Block). ‵ (blocks_own cs)) (removed_fresh p bs f ∙ sym (stored_fresh p m bs f)) refl $ fjoin ! $ done !
         | false ↦ λ at h. qed 𝓛 (‵ (block_owns (p, m)) ∷ ‵ (blocks_own (b ∷ without_node p bs)) ∷ []) ∵ move ! (1 ∷ []) $ fsplit ! $ move ! (2 ∷ 1 ∷ []) $
             use2 𝓛 (‵ (blocks_own (with_node p m bs))) (own_glue p bs n m (apart_tail b bs d) h) $ move ! (1 ∷ 0 ∷ []) $ fjoin ! $ done !

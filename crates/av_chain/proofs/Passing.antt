@@ -23,11 +23,13 @@ use Rattle.av_chain.proofs.Wholes.{is_in_append, or_false}
 
 pub chain_row : (bs : List Block) (a : ℕ) → chain_of (links_of bs) a ≡ anons_of (row Area a bs)
 chain_row [] a = refl
-chain_row (b ∷ bs) a = (λ i. cond (a == b.1.area) (b.1.anon ∷ chain_row bs a i) (chain_row bs a i)) ∙ sym (cond_lift anons_of (a == b.1.area) (b ∷ row Area a bs) (row Area a bs))
+chain_row (b ∷ bs) a = (λ i. cond (a == b.1.area) (b.1.anon ∷ chain_row bs a i) (chain_row bs a i))
+    ∙ sym (cond_lift anons_of (a == b.1.area) (b ∷ row Area a bs) (row Area a bs))
 
 pub users_row : (bs : List Block) (v : ℕ) → users_of (links_of bs) v ≡ areas_of (row Anon v bs)
 users_row [] v = refl
-users_row (b ∷ bs) v = (λ i. cond (v == b.1.anon) (b.1.area ∷ users_row bs v i) (users_row bs v i)) ∙ sym (cond_lift areas_of (v == b.1.anon) (b ∷ row Anon v bs) (row Anon v bs))
+users_row (b ∷ bs) v = (λ i. cond (v == b.1.anon) (b.1.area ∷ users_row bs v i) (users_row bs v i))
+    ∙ sym (cond_lift areas_of (v == b.1.anon) (b ∷ row Anon v bs) (row Anon v bs))
 
 pub length_anons : (bs : List Block) → length (anons_of bs) ≡ length bs
 length_anons [] = refl
@@ -54,15 +56,16 @@ found_has p (b ∷ bs) n e = (elim (same_ptr p b.0) as (λ y. cond y (Some b.1) 
 
 found_out : (w : Way) (k : ℕ) (p : Ptr) (bs : List Block) (n : Node) → IsApart bs → found p (row w k bs) ≡ Some n → found p bs ≡ Some n
 found_out w k p [] n d e = cc
-found_out w k p (b ∷ bs) n d e = (elim (k == key_of w b.1) as (λ y. found p (cond y (b ∷ row w k bs) (row w k bs)) ≡ Some n → cond (same_ptr p b.0) (Some b.1) (found p bs) ≡ Some n) [
-  | true ↦ λ h. (elim (same_ptr p b.0) as (λ y. cond y (Some b.1) (found p (row w k bs)) ≡ Some n → cond y (Some b.1) (found p bs) ≡ Some n) [
-    | true ↦ λ g. g
-    | false ↦ λ g. found_out w k p bs n (apart_tail b bs d) g
-  ]) h
-  | false ↦ λ h.
-      ap (λ y. cond y (Some b.1) (found p bs)) (fresh_differs b.0 p bs (apart_head b bs d) (has_row w k p bs (found_has p (row w k bs) n h)))
-      ∙ found_out w k p bs n (apart_tail b bs d) h
-]) e
+found_out w k p (b ∷ bs) n d e = (elim (k == key_of w b.1) as (λ y. found p (cond y (b ∷ row w k bs) (row w k bs)) ≡ Some n →
+    cond (same_ptr p b.0) (Some b.1) (found p bs) ≡ Some n) [
+      | true ↦ λ h. (elim (same_ptr p b.0) as (λ y. cond y (Some b.1) (found p (row w k bs)) ≡ Some n → cond y (Some b.1) (found p bs) ≡ Some n) [
+        | true ↦ λ g. g
+        | false ↦ λ g. found_out w k p bs n (apart_tail b bs d) g
+      ]) h
+      | false ↦ λ h.
+          ap (λ y. cond y (Some b.1) (found p bs)) (fresh_differs b.0 p bs (apart_head b bs d) (has_row w k p bs (found_has p (row w k bs) n h)))
+          ∙ found_out w k p bs n (apart_tail b bs d) h
+    ]) e
 
 pub found_in_row : (w : Way) (k : ℕ) (bs xs : List Block) (y : Block) (ys : List Block) → IsApart bs → row w k bs ≡ xs ++ y ∷ ys → found y.0 bs ≡ Some y.1
 found_in_row w k bs xs y ys d e =
@@ -115,8 +118,13 @@ module _ (w : Way) (k : ℕ) (bs : List Block) (at : Option Place) (step : ℕ) 
       past_next t =
           let whole : IsRun w None (a.0 ++ (p.ptr, n) ∷ cut.1) None = subst (λ cs. IsRun w None cs None) past_split t in
           let long = length-append a.0 ((p.ptr, n) ∷ []) in
-          let so_far = a.4 in
-          (a.0 ++ (p.ptr, n) ∷ [], cut.1, past_split ∙ sym (append_assoc a.0 ((p.ptr, n) ∷ []) cut.1), (run_split w None None a.0 ((p.ptr, n) ∷ cut.1) whole).1.1, omega arith)
+          let so_far = a.4 in (
+            a.0 ++ (p.ptr, n) ∷ [],
+            cut.1,
+            past_split ∙ sym (append_assoc a.0 ((p.ptr, n) ∷ []) cut.1),
+            (run_split w None None a.0 ((p.ptr, n) ∷ cut.1) whole).1.1,
+            omega arith,
+          )
 
     -- there is one more
     pub past_longer : length a.0 < length (row w k bs)
@@ -145,7 +153,8 @@ pub is_in_not : (v : ℕ) (xs : List Block) (b : Block) → (v == b.1.anon) ≡ 
 is_in_not v xs b e n = ap (is_in v) (anons_append xs (b ∷ [])) ∙ is_in_append v (anons_of xs) (b.1.anon ∷ []) ∙ (λ i. n i || (e i || false))
 
 -- the one after an anon_vma that none before it is
-after_past : (v : ℕ) (xs : List Block) (b : Block) (ys : List Block) → b.1.anon ≡ v → is_in v (anons_of xs) ≡ false → after_in v (anons_of (xs ++ b ∷ ys)) ≡ first_in (anons_of ys)
+after_past : (v : ℕ) (xs : List Block) (b : Block) (ys : List Block) → b.1.anon ≡ v → is_in v (anons_of xs) ≡ false →
+    after_in v (anons_of (xs ++ b ∷ ys)) ≡ first_in (anons_of ys)
 after_past v [] b ys e n = ap (λ y. cond y (first_in (anons_of ys)) (after_in v (anons_of ys))) (ap (λ u. v == u) e ∙ same_number v)
 after_past v (x ∷ xs) b ys e n =
     ap (λ y. cond y (first_in (anons_of (xs ++ b ∷ ys))) (after_in v (anons_of (xs ++ b ∷ ys)))) (or_false (v == x.1.anon) (is_in v (anons_of xs)) n).0
@@ -170,7 +179,8 @@ module _ (area anon : ℕ) (p : Ptr) (bs : List Block) where
     node_is_n = some_is a.1 n (sym (found_in_row Area area bs a.0 (p, a.1) a.2 d a.3) ∙ e)
 
     after_is : n.in_area.after ≡ first_or None a.2
-    after_is = ap (λ (m : Node). m.in_area.after) (sym node_is_n) ∙ (run_split Area None None a.0 ((p, a.1) ∷ a.2) (subst (λ cs. IsRun Area None cs None) a.3 t)).1.1
+    after_is = ap (λ (m : Node). m.in_area.after) (sym node_is_n) ∙ (run_split Area None None a.0 ((p, a.1) ∷ a.2)
+        (subst (λ cs. IsRun Area None cs None) a.3 t)).1.1
 
     split_after : row Area area bs ≡ (a.0 ++ (p, a.1) ∷ []) ++ a.2
     split_after = a.3 ∙ sym (append_assoc a.0 ((p, a.1) ∷ []) a.2)
@@ -207,7 +217,8 @@ module _ (w : Way) (heads : ℕ → Option Head) (bs : List Block) (t : IsThread
   row_first h e = head_some h (row w k bs) (e ∙ t.head k)
 
 -- what is found at a place of a list's node
-pub found_row_at : (w : Way) (k : ℕ) (p : Ptr) (bs : List Block) (n : Node) → IsApart bs → has_place p (row w k bs) ≡ true → found p bs ≡ Some n → found p (row w k bs) ≡ Some n
+pub found_row_at : (w : Way) (k : ℕ) (p : Ptr) (bs : List Block) (n : Node) → IsApart bs → has_place p (row w k bs) ≡ true →
+    found p bs ≡ Some n → found p (row w k bs) ≡ Some n
 found_row_at w k p bs n d h e =
     let there = node_at p (row w k bs) h in
     there.1 ∙ sym (found_out w k p bs there.0 d there.1) ∙ e

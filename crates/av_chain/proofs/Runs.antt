@@ -39,7 +39,8 @@ last_altered : (p : Ptr) (f : Node → Node) (before : Option Place) (bs : List 
 last_altered p f before [] = refl
 last_altered p f before (b ∷ bs) = ap (λ q. last_from (Some q) (node_changed p f bs)) (at_cond (same_ptr p b.0) f b) ∙ last_altered p f (Some (at_block b)) bs
 
-pub last_changed : (o : Option Place) (f : Node → Node) (before : Option Place) (bs : List Block) → last_from before (place_changed o f bs) ≡ last_from before bs
+pub last_changed : (o : Option Place) (f : Node → Node) (before : Option Place) (bs : List Block) →
+    last_from before (place_changed o f bs) ≡ last_from before bs
 last_changed None f before bs = refl
 last_changed (Some p) f before bs = last_altered p.ptr f before bs
 
@@ -83,43 +84,52 @@ first_append after [] ys = refl
 first_append after (x ∷ xs) ys = refl
 
 module _ (w : Way) where
-  pub run_split : (before after : Option Place) (xs ys : List Block) → IsRun w before (xs ++ ys) after → IsRun w before xs (first_or after ys) × IsRun w (last_from before xs) ys after
+  pub run_split : (before after : Option Place) (xs ys : List Block) → IsRun w before (xs ++ ys) after →
+      IsRun w before xs (first_or after ys) × IsRun w (last_from before xs) ys after
   run_split before after [] ys r = (tt, r)
   run_split before after (x ∷ xs) ys r =
       let rest = run_split (Some (at_block x)) after xs ys r.2 in
       ((r.0, r.1 ∙ first_append after xs ys, rest.0), rest.1)
 
-  pub run_join : (before after : Option Place) (xs ys : List Block) → IsRun w before xs (first_or after ys) → IsRun w (last_from before xs) ys after → IsRun w before (xs ++ ys) after
+  pub run_join : (before after : Option Place) (xs ys : List Block) → IsRun w before xs (first_or after ys) → IsRun w (last_from before xs) ys after →
+      IsRun w before (xs ++ ys) after
   run_join before after [] ys r s = s
   run_join before after (x ∷ xs) ys r s = (r.0, r.1 ∙ sym (first_append after xs ys), run_join (Some (at_block x)) after xs ys r.2 s)
 
   -- the last node leads on to something else
-  pub run_on : (before after to : Option Place) (xs : List Block) → IsApart xs → IsRun w before xs after → IsRun w before (leads_on w (last_from None xs) to xs) to
+  pub run_on : (before after to : Option Place) (xs : List Block) → IsApart xs → IsRun w before xs after →
+      IsRun w before (leads_on w (last_from None xs) to xs) to
   run_on before after to [] d r = tt
   run_on before after to (x ∷ []) d r =
       let f = with_after w to in
       let new = sides_with w (record { before = (sides_of w x.1).before; after = to }) x.1 in
-      subst (λ (bs : List Block). IsRun w before bs to) (sym (changed_here f x [] d)) (ap (λ (s : Sides). s.before) new ∙ r.0, ap (λ (s : Sides). s.after) new, tt)
+      subst (λ (bs : List Block). IsRun w before bs to) (sym (changed_here f x [] d))
+      (ap (λ (s : Sides). s.before) new ∙ r.0, ap (λ (s : Sides). s.after) new, tt)
   run_on before after to (x ∷ y ∷ ys) d r =
       let f = with_after w to in
       let o = last_from (Some (at_block y)) ys in
       let stays : place_changed o f (x ∷ []) ≡ x ∷ [] = changed_avoids f o (x ∷ []) (avoids_reaches o (x ∷ []) (y ∷ ys) d (last_reaches y ys)) in
-      let is : place_changed o f (x ∷ y ∷ ys) ≡ x ∷ place_changed o f (y ∷ ys) = changed_append f o (x ∷ []) (y ∷ ys) ∙ ap (λ cs. cs ++ place_changed o f (y ∷ ys)) stays in
+      let is : place_changed o f (x ∷ y ∷ ys) ≡ x ∷ place_changed o f (y ∷ ys) = changed_append f o (x ∷ []) (y ∷ ys)
+      ∙ ap (λ cs. cs ++ place_changed o f (y ∷ ys)) stays in
       subst (λ (bs : List Block). IsRun w before bs to) (sym is)
       (r.0, r.1 ∙ sym (first_changed o f to (y ∷ ys)), run_on (Some (at_block x)) after to (y ∷ ys) (apart_tail x (y ∷ ys) d) r.2)
 
   -- the first node leads back to something else
-  pub run_back : (before after to : Option Place) (ys : List Block) → IsApart ys → IsRun w before ys after → IsRun w to (leads_back w (first_or None ys) to ys) after
+  pub run_back : (before after to : Option Place) (ys : List Block) → IsApart ys → IsRun w before ys after →
+      IsRun w to (leads_back w (first_or None ys) to ys) after
   run_back before after to [] d r = tt
   run_back before after to (y ∷ ys) d r =
       let new = sides_with w (record { before = to; after = (sides_of w y.1).after }) y.1 in
-      subst (λ (bs : List Block). IsRun w to bs after) (sym (changed_here (with_before w to) y ys d)) (ap (λ (s : Sides). s.before) new, ap (λ (s : Sides). s.after) new ∙ r.1, r.2)
+      subst (λ (bs : List Block). IsRun w to bs after) (sym (changed_here (with_before w to) y ys d))
+      (ap (λ (s : Sides). s.before) new, ap (λ (s : Sides). s.after) new ∙ r.1, r.2)
 
-  sides_cond : (f : Node → Node) → ((n : Node) → sides_of w (f n) ≡ sides_of w n) → (y : Bool) (b : Block) → sides_of w (cond y (b.0, f b.1) b).1 ≡ sides_of w b.1
+  sides_cond : (f : Node → Node) → ((n : Node) → sides_of w (f n) ≡ sides_of w n) → (y : Bool) (b : Block) →
+      sides_of w (cond y (b.0, f b.1) b).1 ≡ sides_of w b.1
   sides_cond f h true b = h b.1
   sides_cond f h false b = refl
 
-  run_altered : (p : Ptr) (f : Node → Node) → ((n : Node) → sides_of w (f n) ≡ sides_of w n) → (before after : Option Place) (bs : List Block) → IsRun w before bs after → IsRun w before (node_changed p f bs) after
+  run_altered : (p : Ptr) (f : Node → Node) → ((n : Node) → sides_of w (f n) ≡ sides_of w n) → (before after : Option Place) (bs : List Block) →
+      IsRun w before bs after → IsRun w before (node_changed p f bs) after
   run_altered p f h before after [] r = tt
   run_altered p f h before after (b ∷ bs) r =
       let same = sides_cond f h (same_ptr p b.0) b in (
@@ -129,7 +139,8 @@ module _ (w : Way) where
       )
 
   -- what changes no neighbours in this list
-  pub run_other : (o : Option Place) (f : Node → Node) → ((n : Node) → sides_of w (f n) ≡ sides_of w n) → (before after : Option Place) (bs : List Block) → IsRun w before bs after → IsRun w before (place_changed o f bs) after
+  pub run_other : (o : Option Place) (f : Node → Node) → ((n : Node) → sides_of w (f n) ≡ sides_of w n) → (before after : Option Place) (bs : List Block) →
+      IsRun w before bs after → IsRun w before (place_changed o f bs) after
   run_other None f h before after bs r = r
   run_other (Some p) f h before after bs r = run_altered p.ptr f h before after bs r
 
@@ -187,7 +198,8 @@ length_with [] ys b = refl
 length_with (x ∷ xs) ys b = ap (λ n. suc n) (length_with xs ys b)
 
 -- the head once a node between these is gone
-pub head_out : (xs ys : List Block) (b : Block) (s : Sides) → s.before ≡ last_from None xs → s.after ≡ first_or None ys → shrunk s (head_of (xs ++ b ∷ ys)) ≡ head_of (xs ++ ys)
+pub head_out : (xs ys : List Block) (b : Block) (s : Sides) → s.before ≡ last_from None xs → s.after ≡ first_or None ys →
+    shrunk s (head_of (xs ++ b ∷ ys)) ≡ head_of (xs ++ ys)
 head_out [] [] b s eb ea = λ i. kept s (record { first = at_block b; last = at_block b; count = 1 }) (eb i) (ea i)
 head_out [] (y ∷ ys) b s eb ea =
     let h : Head = record { first = at_block b; last = end_of (at_block y) ys; count = suc (suc (length ys)) } in
@@ -197,7 +209,8 @@ head_out (x ∷ xs) [] b s eb ea =
     let h : Head = record { first = at_block x; last = end_of (at_block x) (xs ++ b ∷ []); count = suc (length (xs ++ b ∷ [])) } in
     let long = length_with xs [] b in
     let less : suc (length (xs ++ b ∷ [])) - 1 ≡ suc (length (xs ++ [])) = omega arith in
-    (λ i. kept s h ((eb ∙ end_last (at_block x) xs) i) (ea i)) ∙ (λ i. Some (record { first = at_block x; last = end_of (at_block x) (sym (append-nil xs) i); count = less i }))
+    (λ i. kept s h ((eb ∙ end_last (at_block x) xs) i) (ea i)) ∙ (λ i. Some
+    (record { first = at_block x; last = end_of (at_block x) (sym (append-nil xs) i); count = less i }))
 head_out (x ∷ xs) (y ∷ ys) b s eb ea =
     let h : Head = record { first = at_block x; last = end_of (at_block x) (xs ++ b ∷ y ∷ ys); count = suc (length (xs ++ b ∷ y ∷ ys)) } in
     let long = length_with xs (y ∷ ys) b in
@@ -209,7 +222,8 @@ head_out (x ∷ xs) (y ∷ ys) b s eb ea =
 
 removed_mid : (xs : List Block) (b : Block) (ys : List Block) → IsFresh b.0 xs → IsFresh b.0 ys → without_node b.0 (xs ++ b ∷ ys) ≡ xs ++ ys
 removed_mid [] b ys f g = (λ i. cond (same_ptr_refl b.0 i) (without_node b.0 ys) (b ∷ without_node b.0 ys)) ∙ removed_fresh b.0 ys g
-removed_mid (x ∷ xs) b ys f g = (λ i. cond (f.0 i) (without_node b.0 (xs ++ b ∷ ys)) (x ∷ without_node b.0 (xs ++ b ∷ ys))) ∙ ap (λ cs. x ∷ cs) (removed_mid xs b ys f.1 g)
+removed_mid (x ∷ xs) b ys f g = (λ i. cond (f.0 i) (without_node b.0 (xs ++ b ∷ ys)) (x ∷ without_node b.0 (xs ++ b ∷ ys)))
+    ∙ ap (λ cs. x ∷ cs) (removed_mid xs b ys f.1 g)
 
 apart_rest : (xs ys : List Block) → IsApart (xs ++ ys) → IsApart ys
 apart_rest [] ys d = d
@@ -234,31 +248,38 @@ module _ (w : Way) (xs : List Block) (b : Block) (ys : List Block) (d : IsApart 
   ys' = leads_back w A B ys
 
   on : leads_on w B A (xs ++ b ∷ ys) ≡ xs' ++ b ∷ ys
-  on = changed_append (with_after w A) B xs (b ∷ ys) ∙ ap (λ cs. xs' ++ cs) (changed_avoids (with_after w A) B (b ∷ ys) (reaches_avoids B xs (b ∷ ys) d (end_reaches xs)))
+  on = changed_append (with_after w A) B xs (b ∷ ys) ∙ ap (λ cs. xs' ++ cs)
+      (changed_avoids (with_after w A) B (b ∷ ys) (reaches_avoids B xs (b ∷ ys) d (end_reaches xs)))
 
   back : leads_back w A B (xs' ++ b ∷ ys) ≡ xs' ++ b ∷ ys'
   back =
       let g = with_before w B in
       let d' : IsApart (xs' ++ b ∷ ys) = subst IsApart on (apart_changed (with_after w A) B (xs ++ b ∷ ys) d) in
       let front : place_changed A g xs' ≡ xs' = changed_avoids g A xs' (avoids_reaches A xs' (b ∷ ys) d' (reaches_later A b ys (first_reaches ys))) in
-      let here : place_changed A g (b ∷ []) ≡ b ∷ [] = changed_avoids g A (b ∷ []) (avoids_reaches A (b ∷ []) ys (apart_rest xs (b ∷ ys) d) (first_reaches ys)) in
+      let here : place_changed A g (b ∷ []) ≡ b ∷ [] = changed_avoids g A (b ∷ [])
+      (avoids_reaches A (b ∷ []) ys (apart_rest xs (b ∷ ys) d) (first_reaches ys)) in
       changed_append g A xs' (b ∷ ys) ∙ (λ i. front i ++ (changed_append g A (b ∷ []) ys ∙ ap (λ cs. cs ++ ys') here) i)
 
   gone : without_node b.0 (leads_back w A B (leads_on w B A (xs ++ b ∷ ys))) ≡ xs' ++ ys'
   gone =
       ap (λ cs. without_node b.0 (leads_back w A B cs)) on ∙ ap (without_node b.0) back
-      ∙ removed_mid xs' b ys' (fresh_changed (with_after w A) b.0 B xs (apart_right b.0 xs (b ∷ ys) d (has_here b ys))) (fresh_changed (with_before w B) b.0 A ys (apart_head b ys (apart_rest xs (b ∷ ys) d)))
+      ∙ removed_mid xs' b ys' (fresh_changed (with_after w A) b.0 B xs (apart_right b.0 xs (b ∷ ys) d (has_here b ys)))
+      (fresh_changed (with_before w B) b.0 A ys (apart_head b ys (apart_rest xs (b ∷ ys) d)))
 
   pub run_out : (s : Sides) → s.before ≡ B → s.after ≡ A → IsRun w None (xs ++ b ∷ ys) None
       → IsRun w None (without_node b.0 (leads_back w s.after s.before (leads_on w s.before s.after (xs ++ b ∷ ys)))) None
       × (shrunk s (head_of (xs ++ b ∷ ys)) ≡ head_of (without_node b.0 (leads_back w s.after s.before (leads_on w s.before s.after (xs ++ b ∷ ys)))))
   run_out s eb ea r =
-      let is : without_node b.0 (leads_back w s.after s.before (leads_on w s.before s.after (xs ++ b ∷ ys))) ≡ xs' ++ ys' = (λ i. without_node b.0 (leads_back w (ea i) (eb i) (leads_on w (eb i) (ea i) (xs ++ b ∷ ys)))) ∙ gone in
+      let is : without_node b.0 (leads_back w s.after s.before (leads_on w s.before s.after (xs ++ b ∷ ys))) ≡ xs' ++ ys' =
+      (λ i. without_node b.0 (leads_back w (ea i) (eb i) (leads_on w (eb i) (ea i) (xs ++ b ∷ ys)))) ∙ gone in
       let parts = run_split w None None xs (b ∷ ys) r in
-      let one : IsRun w None xs' (first_or None ys') = subst (IsRun w None xs') (sym (first_changed A (with_before w B) None ys)) (run_on w None (Some (at_block b)) A xs (apart_front xs (b ∷ ys) d) parts.0) in
-      let two : IsRun w (last_from None xs') ys' None = subst (λ o. IsRun w o ys' None) (sym (last_changed B (with_after w A) None xs)) (run_back w (Some (at_block b)) None B ys (apart_tail b ys (apart_rest xs (b ∷ ys) d)) parts.1.2) in
+      let one : IsRun w None xs' (first_or None ys') = subst (IsRun w None xs') (sym (first_changed A (with_before w B) None ys))
+      (run_on w None (Some (at_block b)) A xs (apart_front xs (b ∷ ys) d) parts.0) in
+      let two : IsRun w (last_from None xs') ys' None = subst (λ o. IsRun w o ys' None) (sym (last_changed B (with_after w A) None xs))
+      (run_back w (Some (at_block b)) None B ys (apart_tail b ys (apart_rest xs (b ∷ ys) d)) parts.1.2) in
       let places : map place_of (xs' ++ ys') ≡ map place_of (xs ++ ys) =
-      map-append place_of xs' ys' ∙ (λ i. places_changed (with_after w A) B xs i ++ places_changed (with_before w B) A ys i) ∙ sym (map-append place_of xs ys) in (
+      map-append place_of xs' ys' ∙ (λ i. places_changed (with_after w A) B xs i ++ places_changed (with_before w B) A ys i)
+      ∙ sym (map-append place_of xs ys) in (
         subst (λ cs. IsRun w None cs None) (sym is) (run_join w None None xs' ys' one two),
         head_out xs ys b s eb ea ∙ sym (head_places (xs' ++ ys') (xs ++ ys) places) ∙ ap head_of (sym is),
       )

@@ -110,11 +110,12 @@ module _ (w : Way) where
 
     pub has_row : (p : Ptr) (bs : List Block) → has_place p (row w k bs) ≡ true → has_place p bs ≡ true
     has_row p [] h = cc
-    has_row p (b ∷ bs) h = (elim (k == key_of w b.1) as (λ y. has_place p (cond y (b ∷ row w k bs) (row w k bs)) ≡ true → (same_ptr p b.0 || has_place p bs) ≡ true) [
-      | true ↦ λ g. either ((same_ptr p b.0 || has_place p bs) ≡ true) (same_ptr p b.0) (λ e. ap (λ y. y || has_place p bs) e)
-          (λ e. or_right (same_ptr p b.0) (has_place p bs) (has_row p bs (or_rest (same_ptr p b.0) (has_place p (row w k bs)) g e)))
-      | false ↦ λ g. or_right (same_ptr p b.0) (has_place p bs) (has_row p bs g)
-    ]) h
+    has_row p (b ∷ bs) h = (elim (k == key_of w b.1) as (λ y. has_place p (cond y (b ∷ row w k bs) (row w k bs)) ≡ true →
+        (same_ptr p b.0 || has_place p bs) ≡ true) [
+          | true ↦ λ g. either ((same_ptr p b.0 || has_place p bs) ≡ true) (same_ptr p b.0) (λ e. ap (λ y. y || has_place p bs) e)
+              (λ e. or_right (same_ptr p b.0) (has_place p bs) (has_row p bs (or_rest (same_ptr p b.0) (has_place p (row w k bs)) g e)))
+          | false ↦ λ g. or_right (same_ptr p b.0) (has_place p bs) (has_row p bs g)
+        ]) h
 
     pub reaches_row : (o : Option Place) (bs : List Block) → Reaches o (row w k bs) → Reaches o bs
     reaches_row None bs h = tt
@@ -145,10 +146,12 @@ module _ (w : Way) where
 
   -- ---- what changes no neighbours in these lists
 
-  pub thread_other : (heads : ℕ → Option Head) (bs : List Block) (o : Option Place) (f : Node → Node) → Keeps w f → KeepsSides w f → IsThreaded w heads bs → IsThreaded w heads (place_changed o f bs)
+  pub thread_other : (heads : ℕ → Option Head) (bs : List Block) (o : Option Place) (f : Node → Node) → Keeps w f → KeepsSides w f → IsThreaded w heads bs →
+      IsThreaded w heads (place_changed o f bs)
   thread_other heads bs o f h s t = record {
     run = λ k. subst (λ cs. IsRun w None cs None) (sym (row_changed k o f h bs)) (run_other w o f s None None (row w k bs) (t.run k));
-    head = λ k. t.head k ∙ head_places (row w k bs) (place_changed o f (row w k bs)) (sym (places_changed f o (row w k bs))) ∙ ap head_of (sym (row_changed k o f h bs));
+    head = λ k. t.head k ∙ head_places (row w k bs) (place_changed o f (row w k bs)) (sym (places_changed f o (row w k bs)))
+        ∙ ap head_of (sym (row_changed k o f h bs));
   }
 
   -- ---- a node joins
@@ -178,7 +181,8 @@ module _ (w : Way) where
 
     here : row w k (place_changed o f (bs ++ b ∷ [])) ≡ place_changed o f (row w k bs) ++ b ∷ []
     here = row_joined k ∙ ap (λ y. place_changed o f (row w k bs ++ cond y (b ∷ []) [])) (same_number k)
-        ∙ changed_append f o (row w k bs) (b ∷ []) ∙ ap (λ cs. place_changed o f (row w k bs) ++ cs) (changed_avoids f o (b ∷ []) (reaches_avoids o (row w k bs) (b ∷ []) apart_here reached))
+        ∙ changed_append f o (row w k bs) (b ∷ []) ∙ ap (λ cs. place_changed o f (row w k bs) ++ cs)
+        (changed_avoids f o (b ∷ []) (reaches_avoids o (row w k bs) (b ∷ []) apart_here reached))
 
     elsewhere : (j : ℕ) → (j == k) ≡ false → row w j (place_changed o f (bs ++ b ∷ [])) ≡ row w j bs
     elsewhere j other = row_joined j ∙ ap (λ y. place_changed o f (row w j bs ++ cond y (b ∷ []) [])) other ∙ ap (place_changed o f) (append-nil (row w j bs))
@@ -187,22 +191,30 @@ module _ (w : Way) where
     run_here : IsRun w None (place_changed o f (row w k bs) ++ b ∷ []) None
     run_here =
         let r = row w k bs in
-        let on : IsRun w None (place_changed o f r) (Some (at_block b)) = subst (λ q. IsRun w None (place_changed q f r) (Some (at_block b))) (sym last_is) (run_on w None None (Some (at_block b)) r (apart_row k bs (apart_front bs (b ∷ []) d)) (t.run k)) in
-        run_join w None None (place_changed o f r) (b ∷ []) on (ap (λ (q : Sides). q.before) s ∙ last_is ∙ sym (last_changed o f None r), ap (λ (q : Sides). q.after) s, tt)
+        let on : IsRun w None (place_changed o f r) (Some (at_block b)) = subst (λ q. IsRun w None (place_changed q f r) (Some (at_block b))) (sym last_is)
+        (run_on w None None (Some (at_block b)) r (apart_row k bs (apart_front bs (b ∷ []) d)) (t.run k)) in
+        run_join w None None (place_changed o f r) (b ∷ []) on (
+          ap (λ (q : Sides). q.before) s ∙ last_is ∙ sym (last_changed o f None r),
+          ap (λ (q : Sides). q.after) s,
+          tt,
+        )
 
     head_here : Some (grown (at_block b) (heads k)) ≡ head_of (place_changed o f (row w k bs) ++ b ∷ [])
     head_here =
         let r = row w k bs in
         ap (λ h. Some (grown (at_block b) h)) (t.head k) ∙ sym (head_push r b)
-        ∙ head_places (r ++ b ∷ []) (place_changed o f r ++ b ∷ []) (map-append place_of r (b ∷ []) ∙ (λ i. sym (places_changed f o r) i ++ b.0 ∷ []) ∙ sym (map-append place_of (place_changed o f r) (b ∷ [])))
+        ∙ head_places (r ++ b ∷ []) (place_changed o f r ++ b ∷ []) (map-append place_of r (b ∷ []) ∙ (λ i. sym (places_changed f o r) i ++ b.0 ∷ [])
+        ∙ sym (map-append place_of (place_changed o f r) (b ∷ [])))
 
     pub thread_grow : IsThreaded w (with_at k (Some (grown (at_block b) (heads k))) heads) (leads_on w o (Some (at_block b)) (bs ++ b ∷ []))
     thread_grow = record {
       run = λ j. either (IsRun w None (row w j (place_changed o f (bs ++ b ∷ []))) None) (j == k)
-          (λ e. subst (λ m. IsRun w None (row w m (place_changed o f (bs ++ b ∷ []))) None) (number_eq k j e) (subst (λ cs. IsRun w None cs None) (sym here) run_here))
+          (λ e. subst (λ m. IsRun w None (row w m (place_changed o f (bs ++ b ∷ []))) None) (number_eq k j e)
+          (subst (λ cs. IsRun w None cs None) (sym here) run_here))
           (λ e. subst (λ cs. IsRun w None cs None) (sym (elsewhere j e)) (t.run j));
       head = λ j. either (cond (j == k) (Some (grown (at_block b) (heads k))) (heads j) ≡ head_of (row w j (place_changed o f (bs ++ b ∷ [])))) (j == k)
-          (λ e. ap (λ y. cond y (Some (grown (at_block b) (heads k))) (heads j)) e ∙ head_here ∙ ap head_of (sym here) ∙ ap (λ m. head_of (row w m (place_changed o f (bs ++ b ∷ [])))) (number_eq k j e))
+          (λ e. ap (λ y. cond y (Some (grown (at_block b) (heads k))) (heads j)) e ∙ head_here ∙ ap head_of (sym here)
+          ∙ ap (λ m. head_of (row w m (place_changed o f (bs ++ b ∷ [])))) (number_eq k j e))
           (λ e. ap (λ y. cond y (Some (grown (at_block b) (heads k))) (heads j)) e ∙ t.head j ∙ ap head_of (sym (elsewhere j e)));
     }
 
@@ -210,26 +222,28 @@ module _ (w : Way) where
 
   pub found_row : (p : Ptr) (bs : List Block) (n : Node) → found p bs ≡ Some n → found p (row w (key_of w n) bs) ≡ Some n
   found_row p [] n e = cc
-  found_row p (b ∷ bs) n e = (elim (same_ptr p b.0) as (λ y. same_ptr p b.0 ≡ y → cond y (Some b.1) (found p bs) ≡ Some n → found p (row w (key_of w n) (b ∷ bs)) ≡ Some n) [
-    | true ↦ λ at h.
-        let is : b.1 ≡ n = cc in
-        ap (λ y. found p (cond y (b ∷ row w (key_of w n) bs) (row w (key_of w n) bs))) (ap (λ m. key_of w n == key_of w m) is ∙ same_number (key_of w n))
-        ∙ ap (λ y. cond y (Some b.1) (found p (row w (key_of w n) bs))) at ∙ h
-    | false ↦ λ at h.
-        let rest = found_row p bs n h in
-        elim (key_of w n == key_of w b.1) as (λ y. found p (cond y (b ∷ row w (key_of w n) bs) (row w (key_of w n) bs)) ≡ Some n) [
-          | true ↦ ap (λ y. cond y (Some b.1) (found p (row w (key_of w n) bs))) at ∙ rest
-          | false ↦ rest
-        ]
-  ]) refl e
+  found_row p (b ∷ bs) n e = (elim (same_ptr p b.0) as (λ y. same_ptr p b.0 ≡ y → cond y (Some b.1) (found p bs) ≡ Some n →
+      found p (row w (key_of w n) (b ∷ bs)) ≡ Some n) [
+        | true ↦ λ at h.
+            let is : b.1 ≡ n = cc in
+            ap (λ y. found p (cond y (b ∷ row w (key_of w n) bs) (row w (key_of w n) bs))) (ap (λ m. key_of w n == key_of w m) is ∙ same_number (key_of w n))
+            ∙ ap (λ y. cond y (Some b.1) (found p (row w (key_of w n) bs))) at ∙ h
+        | false ↦ λ at h.
+            let rest = found_row p bs n h in
+            elim (key_of w n == key_of w b.1) as (λ y. found p (cond y (b ∷ row w (key_of w n) bs) (row w (key_of w n) bs)) ≡ Some n) [
+              | true ↦ ap (λ y. cond y (Some b.1) (found p (row w (key_of w n) bs))) at ∙ rest
+              | false ↦ rest
+            ]
+      ]) refl e
 
   -- the nodes before a node, and those after it
   pub split_at : (p : Ptr) (r : List Block) (n : Node) → found p r ≡ Some n → (xs : List Block) × (ys : List Block) × (r ≡ xs ++ (p, n) ∷ ys)
   split_at p [] n e = cc
-  split_at p (b ∷ r) n e = (elim (same_ptr p b.0) as (λ y. same_ptr p b.0 ≡ y → cond y (Some b.1) (found p r) ≡ Some n → (xs : List Block) × (ys : List Block) × (b ∷ r ≡ xs ++ (p, n) ∷ ys)) [
-    | true ↦ λ at h. let is : b.1 ≡ n = cc in ([], r, λ i. (sym (same_ptr_eq p b.0 at) i, is i) ∷ r)
-    | false ↦ λ at h. let rest = split_at p r n h in (b ∷ rest.0, rest.1, ap (λ cs. b ∷ cs) rest.2)
-  ]) refl e
+  split_at p (b ∷ r) n e = (elim (same_ptr p b.0) as (λ y. same_ptr p b.0 ≡ y → cond y (Some b.1) (found p r) ≡ Some n →
+      (xs : List Block) × (ys : List Block) × (b ∷ r ≡ xs ++ (p, n) ∷ ys)) [
+        | true ↦ λ at h. let is : b.1 ≡ n = cc in ([], r, λ i. (sym (same_ptr_eq p b.0 at) i, is i) ∷ r)
+        | false ↦ λ at h. let rest = split_at p r n h in (b ∷ rest.0, rest.1, ap (λ cs. b ∷ cs) rest.2)
+      ]) refl e
 
   module _ (heads : ℕ → Option Head) (bs : List Block) (p : Ptr) (n : Node) (d : IsApart bs) (t : IsThreaded w heads bs) (e : found p bs ≡ Some n) where
     abbrev gone : List Block → List Block
@@ -251,7 +265,8 @@ module _ (w : Way) where
     sides_are : ((sides_of w n).before ≡ last_from None cut.0) × ((sides_of w n).after ≡ first_or None cut.1)
     sides_are = let r = (run_split w None None cut.0 ((p, n) ∷ cut.1) whole).1 in (r.0, r.1)
 
-    out : IsRun w None (gone (cut.0 ++ (p, n) ∷ cut.1)) None × (shrunk (sides_of w n) (head_of (cut.0 ++ (p, n) ∷ cut.1)) ≡ head_of (gone (cut.0 ++ (p, n) ∷ cut.1)))
+    out : IsRun w None (gone (cut.0 ++ (p, n) ∷ cut.1)) None × (shrunk (sides_of w n) (head_of (cut.0 ++ (p, n) ∷ cut.1)) ≡ head_of
+        (gone (cut.0 ++ (p, n) ∷ cut.1)))
     out = run_out w cut.0 (p, n) cut.1 (subst IsApart cut.2 (apart_row (key_of w n) bs d)) (sides_of w n) sides_are.0 sides_are.1 whole
 
     pub before_reaches : Reaches (sides_of w n).before (row w (key_of w n) bs)
@@ -268,7 +283,8 @@ module _ (w : Way) where
         let on = changed_avoids (with_after w s.after) s.before (row w j bs) (row_avoids k j other s.before bs d before_reaches) in
         let back = changed_avoids (with_before w s.before) s.after (row w j bs) (row_avoids k j other s.after bs d after_reaches) in
         let it : has_place p (row w k bs) ≡ true = subst (λ cs. has_place p cs ≡ true) (sym cut.2) (has_past p cut.0 (p, n) cut.1) in
-        ap (λ cs. without_node p (place_changed s.after (with_before w s.before) cs)) on ∙ ap (without_node p) back ∙ removed_fresh p (row w j bs) (row_fresh k j other p bs d it)
+        ap (λ cs. without_node p (place_changed s.after (with_before w s.before) cs)) on ∙ ap (without_node p) back
+        ∙ removed_fresh p (row w j bs) (row_fresh k j other p bs d it)
 
     pub thread_shrink : IsThreaded w (with_at (key_of w n) (shrunk (sides_of w n) (heads (key_of w n))) heads) (gone bs)
     thread_shrink =
@@ -279,7 +295,8 @@ module _ (w : Way) where
               (subst (λ cs. IsRun w None cs None) (sym (row_gone k)) (subst (λ cs. IsRun w None (gone cs) None) (sym cut.2) out.0)))
               (λ other. subst (λ cs. IsRun w None cs None) (sym (row_gone j ∙ gone_elsewhere j other)) (t.run j));
           head = λ j. either (cond (j == k) (shrunk s (heads k)) (heads j) ≡ head_of (row w j (gone bs))) (j == k)
-              (λ is. ap (λ y. cond y (shrunk s (heads k)) (heads j)) is ∙ ap (shrunk s) (t.head k ∙ ap head_of cut.2) ∙ out.1 ∙ ap (λ cs. head_of (gone cs)) (sym cut.2) ∙ ap head_of (sym (row_gone k))
+              (λ is. ap (λ y. cond y (shrunk s (heads k)) (heads j)) is ∙ ap (shrunk s) (t.head k ∙ ap head_of cut.2) ∙ out.1 ∙ ap (λ cs. head_of (gone cs))
+              (sym cut.2) ∙ ap head_of (sym (row_gone k))
               ∙ ap (λ m. head_of (row w m (gone bs))) (number_eq k j is))
               (λ other. ap (λ y. cond y (shrunk s (heads k)) (heads j)) other ∙ t.head j ∙ ap head_of (sym (row_gone j ∙ gone_elsewhere j other)));
         }

@@ -11,7 +11,8 @@ use Rattle.av_chain.proofs.Wholes.{chain_append, is_in_append, or_false}
 
 users_append : (ls ms : List Link) (v : ℕ) → users_of (ls ++ ms) v ≡ users_of ls v ++ users_of ms v
 users_append [] ms v = refl
-users_append (l ∷ ls) ms v = (λ i. cond (v == l.1) (l.0 ∷ users_append ls ms v i) (users_append ls ms v i)) ∙ sym (cond_lift (λ xs. xs ++ users_of ms v) (v == l.1) (l.0 ∷ users_of ls v) (users_of ls v))
+users_append (l ∷ ls) ms v = (λ i. cond (v == l.1) (l.0 ∷ users_append ls ms v i) (users_append ls ms v i))
+    ∙ sym (cond_lift (λ xs. xs ++ users_of ms v) (v == l.1) (l.0 ∷ users_of ls v) (users_of ls v))
 
 at_end : (f : ℕ → List ℕ) (k x j : ℕ) → f j ++ cond (j == k) (x ∷ []) [] ≡ with_at k (f k ++ x ∷ []) f j
 at_end f k x j = either (f j ++ cond (j == k) (x ∷ []) [] ≡ cond (j == k) (f k ++ x ∷ []) (f j)) (j == k)
@@ -38,7 +39,8 @@ swap_tests false false = refl
 
 pub dual : (ls : List Link) (a v : ℕ) → is_in v (chain_of ls a) ≡ is_in a (users_of ls v)
 dual [] a v = refl
-dual (l ∷ ls) a v = in_chain (a == l.0) l.1 v (chain_of ls a) ∙ (λ i. swap_tests (a == l.0) (v == l.1) i || dual ls a v i) ∙ sym (in_chain (v == l.1) l.0 a (users_of ls v))
+dual (l ∷ ls) a v = in_chain (a == l.0) l.1 v (chain_of ls a) ∙ (λ i. swap_tests (a == l.0) (v == l.1) i || dual ls a v i)
+    ∙ sym (in_chain (v == l.1) l.0 a (users_of ls v))
 
 -- how often a number stands in a list
 abbrev times : ℕ → List ℕ → ℕ
@@ -52,7 +54,8 @@ count_in false x v vs = omega arith
 pub count_dual : (ls : List Link) (a v : ℕ) → how_many (λ u. v == u) (chain_of ls a) ≡ how_many (λ b. a == b) (users_of ls v)
 count_dual [] a v = refl
 count_dual (l ∷ ls) a v =
-    count_in (a == l.0) l.1 v (chain_of ls a) ∙ (λ i. one_if (swap_tests (a == l.0) (v == l.1) i) + count_dual ls a v i) ∙ sym (count_in (v == l.1) l.0 a (users_of ls v))
+    count_in (a == l.0) l.1 v (chain_of ls a) ∙ (λ i. one_if (swap_tests (a == l.0) (v == l.1) i) + count_dual ls a v i)
+    ∙ sym (count_in (v == l.1) l.0 a (users_of ls v))
 
 both_hold : (s t : Bool) → cond s t false ≡ true → (s ≡ true) × (t ≡ true)
 both_hold true t e = (refl, e)
@@ -101,16 +104,24 @@ popped_chain a (l ∷ ls) b =
     let goal : chain_of ls b ≡ cond (b == a) (chain_of ls a) (cond (b == l.0) (l.1 ∷ chain_of ls b) (chain_of ls b)) =
     either (chain_of ls b ≡ cond (b == a) (chain_of ls a) (cond (b == l.0) (l.1 ∷ chain_of ls b) (chain_of ls b))) (b == a)
     (λ f. ap (chain_of ls) (sym (number_eq a b f)) ∙ sym (ap (λ y. cond y (chain_of ls a) (cond (b == l.0) (l.1 ∷ chain_of ls b) (chain_of ls b))) f))
-    (λ f. sym (ap (λ y. cond y (chain_of ls a) (cond (b == l.0) (l.1 ∷ chain_of ls b) (chain_of ls b))) f ∙ ap (λ y. cond y (l.1 ∷ chain_of ls b) (chain_of ls b)) (ap (λ k. b == k) (number_eq l.0 a e) ∙ f))) in
-    ap (λ y. chain_of (cond y ls (l ∷ without_first a ls)) b) e ∙ goal ∙ sym (ap (λ y. cond (b == a) (rest_in (cond y (l.1 ∷ chain_of ls a) (chain_of ls a))) (cond (b == l.0) (l.1 ∷ chain_of ls b) (chain_of ls b))) e))
+    (λ f. sym (ap (λ y. cond y (chain_of ls a) (cond (b == l.0) (l.1 ∷ chain_of ls b) (chain_of ls b))) f
+    ∙ ap (λ y. cond y (l.1 ∷ chain_of ls b) (chain_of ls b)) (ap (λ k. b == k) (number_eq l.0 a e) ∙ f))) in
+    ap (λ y. chain_of (cond y ls (l ∷ without_first a ls)) b) e ∙ goal
+    ∙ sym (ap (λ y. cond (b == a) (rest_in (cond y (l.1 ∷ chain_of ls a) (chain_of ls a))) (cond (b == l.0) (l.1 ∷ chain_of ls b) (chain_of ls b))) e))
     (λ e.
-    let goal : cond (b == l.0) (l.1 ∷ chain_of (without_first a ls) b) (chain_of (without_first a ls) b) ≡ cond (b == a) (rest_in (chain_of ls a)) (cond (b == l.0) (l.1 ∷ chain_of ls b) (chain_of ls b)) =
-    either (cond (b == l.0) (l.1 ∷ chain_of (without_first a ls) b) (chain_of (without_first a ls) b) ≡ cond (b == a) (rest_in (chain_of ls a)) (cond (b == l.0) (l.1 ∷ chain_of ls b) (chain_of ls b))) (b == a)
-    (λ f. ap (λ y. cond y (l.1 ∷ chain_of (without_first a ls) b) (chain_of (without_first a ls) b)) (ap (λ k. k == l.0) (sym (number_eq a b f)) ∙ e) ∙ popped_chain a ls b
-    ∙ ap (λ y. cond y (rest_in (chain_of ls a)) (chain_of ls b)) f ∙ sym (ap (λ y. cond y (rest_in (chain_of ls a)) (cond (b == l.0) (l.1 ∷ chain_of ls b) (chain_of ls b))) f))
+    let goal : cond (b == l.0) (l.1 ∷ chain_of (without_first a ls) b) (chain_of (without_first a ls) b) ≡ cond (b == a) (rest_in (chain_of ls a))
+    (cond (b == l.0) (l.1 ∷ chain_of ls b) (chain_of ls b)) =
+    either (cond (b == l.0) (l.1 ∷ chain_of (without_first a ls) b) (chain_of (without_first a ls) b) ≡ cond (b == a) (rest_in (chain_of ls a))
+    (cond (b == l.0) (l.1 ∷ chain_of ls b) (chain_of ls b))) (b == a)
+    (λ f. ap (λ y. cond y (l.1 ∷ chain_of (without_first a ls) b) (chain_of (without_first a ls) b)) (ap (λ k. k == l.0) (sym (number_eq a b f)) ∙ e)
+    ∙ popped_chain a ls b
+    ∙ ap (λ y. cond y (rest_in (chain_of ls a)) (chain_of ls b)) f
+    ∙ sym (ap (λ y. cond y (rest_in (chain_of ls a)) (cond (b == l.0) (l.1 ∷ chain_of ls b) (chain_of ls b))) f))
     (λ f. let rest : chain_of (without_first a ls) b ≡ chain_of ls b = popped_chain a ls b ∙ ap (λ y. cond y (rest_in (chain_of ls a)) (chain_of ls b)) f in
-    (λ i. cond (b == l.0) (l.1 ∷ rest i) (rest i)) ∙ sym (ap (λ y. cond y (rest_in (chain_of ls a)) (cond (b == l.0) (l.1 ∷ chain_of ls b) (chain_of ls b))) f)) in
-    ap (λ y. chain_of (cond y ls (l ∷ without_first a ls)) b) e ∙ goal ∙ sym (ap (λ y. cond (b == a) (rest_in (cond y (l.1 ∷ chain_of ls a) (chain_of ls a))) (cond (b == l.0) (l.1 ∷ chain_of ls b) (chain_of ls b))) e))
+    (λ i. cond (b == l.0) (l.1 ∷ rest i) (rest i)) ∙ sym (ap (λ y. cond y (rest_in (chain_of ls a)) (cond (b == l.0) (l.1 ∷ chain_of ls b) (chain_of ls b))) f))
+    in
+    ap (λ y. chain_of (cond y ls (l ∷ without_first a ls)) b) e ∙ goal
+    ∙ sym (ap (λ y. cond (b == a) (rest_in (cond y (l.1 ∷ chain_of ls a) (chain_of ls a))) (cond (b == l.0) (l.1 ∷ chain_of ls b) (chain_of ls b))) e))
 
 pub chain_popped : (a : ℕ) (ls : List Link) → chain_of (without_first a ls) ≡ with_at a (rest_in (chain_of ls a)) (chain_of ls)
 chain_popped a ls = λ i b. popped_chain a ls b i
@@ -119,11 +130,15 @@ chain_popped a ls = λ i b. popped_chain a ls b i
 passed_by : (a : ℕ) (o : Option ℕ) (l : Link) (ls : List Link) (u : ℕ) → (a == l.0) ≡ false
     → cond (u == l.1) (l.0 ∷ left_by a o (users_of ls) u) (left_by a o (users_of ls) u) ≡ left_by a o (users_of (l ∷ ls)) u
 passed_by a None l ls u e = refl
-passed_by a (Some v) l ls u e = either (cond (u == l.1) (l.0 ∷ with_at v (without a (users_of ls v)) (users_of ls) u) (with_at v (without a (users_of ls v)) (users_of ls) u) ≡ with_at v (without a (users_of (l ∷ ls) v)) (users_of (l ∷ ls)) u) (u == v)
+passed_by a (Some v) l ls u e = either (cond (u == l.1) (l.0 ∷ with_at v (without a (users_of ls v)) (users_of ls) u)
+    (with_at v (without a (users_of ls v)) (users_of ls) u) ≡ with_at v (without a (users_of (l ∷ ls) v)) (users_of (l ∷ ls)) u) (u == v)
     (λ f.
-    let here : with_at v (without a (users_of ls v)) (users_of ls) u ≡ without a (users_of ls v) = ap (λ y. cond y (without a (users_of ls v)) (users_of ls u)) f in
-    let past : without a (l.0 ∷ users_of ls v) ≡ l.0 ∷ without a (users_of ls v) = ap (λ y. cond y (without a (users_of ls v)) (l.0 ∷ without a (users_of ls v))) e in
-    (λ i. cond (u == l.1) (l.0 ∷ here i) (here i)) ∙ ap (λ k. cond (k == l.1) (l.0 ∷ without a (users_of ls v)) (without a (users_of ls v))) (sym (number_eq v u f))
+    let here : with_at v (without a (users_of ls v)) (users_of ls) u ≡ without a (users_of ls v) =
+    ap (λ y. cond y (without a (users_of ls v)) (users_of ls u)) f in
+    let past : without a (l.0 ∷ users_of ls v) ≡ l.0 ∷ without a (users_of ls v) =
+    ap (λ y. cond y (without a (users_of ls v)) (l.0 ∷ without a (users_of ls v))) e in
+    (λ i. cond (u == l.1) (l.0 ∷ here i) (here i)) ∙ ap (λ k. cond (k == l.1) (l.0 ∷ without a (users_of ls v)) (without a (users_of ls v)))
+    (sym (number_eq v u f))
     ∙ (λ i. cond (v == l.1) (sym past i) (without a (users_of ls v))) ∙ sym (cond_lift (without a) (v == l.1) (l.0 ∷ users_of ls v) (users_of ls v))
     ∙ sym (ap (λ y. cond y (without a (users_of (l ∷ ls) v)) (users_of (l ∷ ls) u)) f))
     (λ f.
@@ -140,12 +155,16 @@ popped_users a (l ∷ ls) o u =
     either (users_of ls u ≡ with_at l.1 (without a (users_of (l ∷ ls) l.1)) (users_of (l ∷ ls)) u) (u == l.1)
     (λ f.
     let mine : users_of (l ∷ ls) l.1 ≡ l.0 ∷ users_of ls l.1 = ap (λ y. cond y (l.0 ∷ users_of ls l.1) (users_of ls l.1)) (same_number l.1) in
-    let gone : without a (l.0 ∷ users_of ls l.1) ≡ users_of ls l.1 = ap (λ y. cond y (without a (users_of ls l.1)) (l.0 ∷ without a (users_of ls l.1))) e ∙ without_none a (users_of ls l.1) absent in
-    ap (users_of ls) (sym (number_eq l.1 u f)) ∙ sym (ap (without a) mine ∙ gone) ∙ sym (ap (λ y. cond y (without a (users_of (l ∷ ls) l.1)) (users_of (l ∷ ls) u)) f))
+    let gone : without a (l.0 ∷ users_of ls l.1) ≡ users_of ls l.1 = ap (λ y. cond y (without a (users_of ls l.1)) (l.0 ∷ without a (users_of ls l.1))) e
+    ∙ without_none a (users_of ls l.1) absent in
+    ap (users_of ls) (sym (number_eq l.1 u f)) ∙ sym (ap (without a) mine ∙ gone)
+    ∙ sym (ap (λ y. cond y (without a (users_of (l ∷ ls) l.1)) (users_of (l ∷ ls) u)) f))
     (λ f. sym (ap (λ y. cond y (without a (users_of (l ∷ ls) l.1)) (users_of (l ∷ ls) u)) f ∙ ap (λ y. cond y (l.0 ∷ users_of ls u) (users_of ls u)) f)) in
-    ap (λ y. users_of (cond y ls (l ∷ without_first a ls)) u) e ∙ goal ∙ sym (ap (λ y. left_by a (first_in (cond y (l.1 ∷ chain_of ls a) (chain_of ls a))) (users_of (l ∷ ls)) u) e))
+    ap (λ y. users_of (cond y ls (l ∷ without_first a ls)) u) e ∙ goal
+    ∙ sym (ap (λ y. left_by a (first_in (cond y (l.1 ∷ chain_of ls a) (chain_of ls a))) (users_of (l ∷ ls)) u) e))
     (λ e.
-    ap (λ y. users_of (cond y ls (l ∷ without_first a ls)) u) e ∙ (λ i. cond (u == l.1) (l.0 ∷ popped_users a ls o.1 u i) (popped_users a ls o.1 u i)) ∙ passed_by a (first_in (chain_of ls a)) l ls u e
+    ap (λ y. users_of (cond y ls (l ∷ without_first a ls)) u) e ∙ (λ i. cond (u == l.1) (l.0 ∷ popped_users a ls o.1 u i) (popped_users a ls o.1 u i))
+    ∙ passed_by a (first_in (chain_of ls a)) l ls u e
     ∙ sym (ap (λ y. left_by a (first_in (cond y (l.1 ∷ chain_of ls a) (chain_of ls a))) (users_of (l ∷ ls)) u) e))
 
 pub users_popped : (a : ℕ) (ls : List Link) → AreOnce ls → users_of (without_first a ls) ≡ left_by a (first_in (chain_of ls a)) (users_of ls)
@@ -160,7 +179,8 @@ left_all ls a v = either (cond (is_in v (chain_of ls a)) (without a (users_of ls
 -- ---- one link after another goes
 
 pub with_at_same : (k : ℕ) (f : ℕ → List ℕ) → with_at k (f k) f ≡ f
-with_at_same k f = λ i j. (either (cond (j == k) (f k) (f j) ≡ f j) (j == k) (λ e. ap (λ y. cond y (f k) (f j)) e ∙ ap f (number_eq k j e)) (λ e. ap (λ y. cond y (f k) (f j)) e)) i
+with_at_same k f = λ i j. (either (cond (j == k) (f k) (f j) ≡ f j) (j == k) (λ e. ap (λ y. cond y (f k) (f j)) e ∙ ap f (number_eq k j e))
+    (λ e. ap (λ y. cond y (f k) (f j)) e)) i
 
 pub with_at_twice : (k : ℕ) (x y : List ℕ) (f : ℕ → List ℕ) → with_at k x (with_at k y f) ≡ with_at k x f
 with_at_twice k x y f = λ i j. (either (cond (j == k) x (cond (j == k) y (f j)) ≡ cond (j == k) x (f j)) (j == k)
@@ -179,11 +199,14 @@ or_anyway true = refl
 or_anyway false = refl
 
 pub left_one_more : (a : ℕ) (gone : List ℕ) (v : ℕ) (f : ℕ → List ℕ) → left_by a (Some v) (left_by_all a gone f) ≡ left_by_all a (gone ++ v ∷ []) f
-left_one_more a gone v f = λ i u. (either (with_at v (without a (left_by_all a gone f v)) (left_by_all a gone f) u ≡ left_by_all a (gone ++ v ∷ []) f u) (u == v)
+left_one_more a gone v f = λ i u. (either (with_at v (without a (left_by_all a gone f v)) (left_by_all a gone f) u ≡ left_by_all a (gone ++ v ∷ []) f u)
+    (u == v)
     (λ e.
-    let mine : without a (left_by_all a gone f v) ≡ without a (f v) = cond_lift (without a) (is_in v gone) (without a (f v)) (f v) ∙ (λ j. cond (is_in v gone) (without_twice a (f v) j) (without a (f v))) ∙ cond_same (is_in v gone) (without a (f v)) in
+    let mine : without a (left_by_all a gone f v) ≡ without a (f v) = cond_lift (without a) (is_in v gone) (without a (f v)) (f v)
+    ∙ (λ j. cond (is_in v gone) (without_twice a (f v) j) (without a (f v))) ∙ cond_same (is_in v gone) (without a (f v)) in
     let there : is_in u (gone ++ v ∷ []) ≡ true = is_in_append u gone (v ∷ []) ∙ ap (λ y. is_in u gone || (y || false)) e ∙ or_anyway (is_in u gone) in
-    ap (λ y. cond y (without a (left_by_all a gone f v)) (left_by_all a gone f u)) e ∙ mine ∙ ap (λ k. without a (f k)) (number_eq v u e) ∙ sym (ap (λ y. cond y (without a (f u)) (f u)) there))
+    ap (λ y. cond y (without a (left_by_all a gone f v)) (left_by_all a gone f u)) e ∙ mine ∙ ap (λ k. without a (f k)) (number_eq v u e)
+    ∙ sym (ap (λ y. cond y (without a (f u)) (f u)) there))
     (λ e.
     let same : is_in u (gone ++ v ∷ []) ≡ is_in u gone = is_in_append u gone (v ∷ []) ∙ ap (λ y. is_in u gone || (y || false)) e ∙ or_nothing (is_in u gone) in
     ap (λ y. cond y (without a (left_by_all a gone f v)) (left_by_all a gone f u)) e ∙ sym (ap (λ y. cond y (without a (f u)) (f u)) same))) i

@@ -22,7 +22,8 @@ use Rattle.av_chain.proofs.Threads.{Keeps, KeepsSides, keeps_after, keeps_before
 thread_heads : (w : Way) (heads heads' : ℕ → Option Head) (bs : List Block) → ((k : ℕ) → heads' k ≡ heads k) → IsThreaded w heads bs → IsThreaded w heads' bs
 thread_heads w heads heads' bs e t = record { run = t.run; head = λ k. e k ∙ t.head k }
 
-pub whole_heads : (areas areas' anons anons' : ℕ → Option Head) (bs : List Block) → ((k : ℕ) → areas' k ≡ areas k) → ((k : ℕ) → anons' k ≡ anons k) → IsWhole areas anons bs → IsWhole areas' anons' bs
+pub whole_heads : (areas areas' anons anons' : ℕ → Option Head) (bs : List Block) → ((k : ℕ) → areas' k ≡ areas k) → ((k : ℕ) → anons' k ≡ anons k) →
+    IsWhole areas anons bs → IsWhole areas' anons' bs
 whole_heads areas areas' anons anons' bs ea ev t =
     record { areas_lead = thread_heads Area areas areas' bs ea t.areas_lead; anons_lead = thread_heads Anon anons anons' bs ev t.anons_lead; once = t.once }
 
@@ -75,7 +76,8 @@ both_false x y e f = ap (λ z. z || y) e ∙ f
 
 pub chain_append : (ls ms : List Link) (a : ℕ) → chain_of (ls ++ ms) a ≡ chain_of ls a ++ chain_of ms a
 chain_append [] ms a = refl
-chain_append (l ∷ ls) ms a = (λ i. cond (a == l.0) (l.1 ∷ chain_append ls ms a i) (chain_append ls ms a i)) ∙ sym (cond_lift (λ vs. vs ++ chain_of ms a) (a == l.0) (l.1 ∷ chain_of ls a) (chain_of ls a))
+chain_append (l ∷ ls) ms a = (λ i. cond (a == l.0) (l.1 ∷ chain_append ls ms a i) (chain_append ls ms a i))
+    ∙ sym (cond_lift (λ vs. vs ++ chain_of ms a) (a == l.0) (l.1 ∷ chain_of ls a) (chain_of ls a))
 
 pub is_in_append : (x : ℕ) (xs ys : List ℕ) → is_in x (xs ++ ys) ≡ (is_in x xs || is_in x ys)
 is_in_append x [] ys = refl
@@ -114,7 +116,8 @@ fewer p (b ∷ bs) a v n =
       | true ↦ rest
       | false ↦ (elim (a == b.1.area) as (λ y. is_in v (cond y (b.1.anon ∷ chain_of (links_of bs) a) (chain_of (links_of bs) a)) ≡ false
           → is_in v (cond y (b.1.anon ∷ chain_of (links_of (without_node p bs)) a) (chain_of (links_of (without_node p bs)) a)) ≡ false) [
-            | true ↦ λ h. both_false (v == b.1.anon) (is_in v (chain_of (links_of (without_node p bs)) a)) (false_left (v == b.1.anon) (is_in v (chain_of (links_of bs) a)) h) rest
+            | true ↦ λ h. both_false (v == b.1.anon) (is_in v (chain_of (links_of (without_node p bs)) a))
+                (false_left (v == b.1.anon) (is_in v (chain_of (links_of bs) a)) h) rest
             | false ↦ λ h. rest
           ]) n
     ]
@@ -130,7 +133,12 @@ once_removed p (b ∷ bs) o = elim (same_ptr p b.0) as (λ y. AreOnce (links_of 
 
 module _ (areas anons : ℕ → Option Head) (bs : List Block) (p : Ptr) (area anon : ℕ) (t : IsWhole areas anons bs) where
   abbrev pub new_node : Node
-  new_node = record { area = area; anon = anon; in_area = record { before = last_of (areas area); after = None }; in_anon = record { before = last_of (anons anon); after = None } }
+  new_node = record {
+    area = area;
+    anon = anon;
+    in_area = record { before = last_of (areas area); after = None };
+    in_anon = record { before = last_of (anons anon); after = None };
+  }
 
   abbrev b : Block
   b = (p, new_node)
@@ -140,10 +148,12 @@ module _ (areas anons : ℕ → Option Head) (bs : List Block) (p : Ptr) (area a
 
   module _ (d : IsApart (bs ++ b ∷ [])) where
     area_reaches : Reaches (last_of (areas area)) bs
-    area_reaches = reaches_row Area area (last_of (areas area)) bs (subst (λ o. Reaches o (row Area area bs)) (sym (ap last_of (t.areas_lead.head area) ∙ last_head (row Area area bs))) (end_reaches (row Area area bs)))
+    area_reaches = reaches_row Area area (last_of (areas area)) bs
+        (subst (λ o. Reaches o (row Area area bs)) (sym (ap last_of (t.areas_lead.head area) ∙ last_head (row Area area bs))) (end_reaches (row Area area bs)))
 
     anon_reaches : Reaches (last_of (anons anon)) bs
-    anon_reaches = reaches_row Anon anon (last_of (anons anon)) bs (subst (λ o. Reaches o (row Anon anon bs)) (sym (ap last_of (t.anons_lead.head anon) ∙ last_head (row Anon anon bs))) (end_reaches (row Anon anon bs)))
+    anon_reaches = reaches_row Anon anon (last_of (anons anon)) bs
+        (subst (λ o. Reaches o (row Anon anon bs)) (sym (ap last_of (t.anons_lead.head anon) ∙ last_head (row Anon anon bs))) (end_reaches (row Anon anon bs)))
 
     pub first_join : Reaches (last_of (areas area)) (bs ++ b ∷ [])
     first_join = reaches_front (last_of (areas area)) bs (b ∷ []) area_reaches
@@ -152,14 +162,16 @@ module _ (areas anons : ℕ → Option Head) (bs : List Block) (p : Ptr) (area a
     bs1 = leads_on Area (last_of (areas area)) at (bs ++ b ∷ [])
 
     pub second_join : Reaches (last_of (anons anon)) bs1
-    second_join = reaches_changed (with_after Area at) (last_of (anons anon)) (last_of (areas area)) (bs ++ b ∷ []) (reaches_front (last_of (anons anon)) bs (b ∷ []) anon_reaches)
+    second_join = reaches_changed (with_after Area at) (last_of (anons anon)) (last_of (areas area)) (bs ++ b ∷ [])
+        (reaches_front (last_of (anons anon)) bs (b ∷ []) anon_reaches)
 
     abbrev bs2 : List Block
     bs2 = leads_on Anon (last_of (anons anon)) at bs1
 
     pushed : bs1 ≡ leads_on Area (last_of (areas area)) at bs ++ b ∷ []
     pushed = changed_append (with_after Area at) (last_of (areas area)) bs (b ∷ [])
-        ∙ ap (λ cs. leads_on Area (last_of (areas area)) at bs ++ cs) (changed_avoids (with_after Area at) (last_of (areas area)) (b ∷ []) (reaches_avoids (last_of (areas area)) bs (b ∷ []) d area_reaches))
+        ∙ ap (λ cs. leads_on Area (last_of (areas area)) at bs ++ cs)
+        (changed_avoids (with_after Area at) (last_of (areas area)) (b ∷ []) (reaches_avoids (last_of (areas area)) bs (b ∷ []) d area_reaches))
 
     pub links_made : links_of bs2 ≡ links_of bs ++ (area, anon) ∷ []
     links_made = links_on Anon (last_of (anons anon)) at bs1 ∙ links_on Area (last_of (areas area)) at (bs ++ b ∷ []) ∙ links_append bs (b ∷ [])
@@ -167,12 +179,14 @@ module _ (areas anons : ℕ → Option Head) (bs : List Block) (p : Ptr) (area a
     pub whole_made : is_in anon (chain_of (links_of bs) area) ≡ false
         → IsWhole (with_at area (Some (grown (at_block b) (areas area))) areas) (with_at anon (Some (grown (at_block b) (anons anon))) anons) bs2
     whole_made n = record {
-      areas_lead = thread_other Area (with_at area (Some (grown (at_block b) (areas area))) areas) bs1 (last_of (anons anon)) (with_after Anon at) (keeps_after Area Anon at) (λ m. refl) (thread_grow Area areas bs b d t.areas_lead refl);
+      areas_lead = thread_other Area (with_at area (Some (grown (at_block b) (areas area))) areas) bs1 (last_of (anons anon)) (with_after Anon at)
+          (keeps_after Area Anon at) (λ m. refl) (thread_grow Area areas bs b d t.areas_lead refl);
       anons_lead =
           let cs = leads_on Area (last_of (areas area)) at bs in
           let d' : IsApart (cs ++ b ∷ []) = subst IsApart pushed (apart_changed (with_after Area at) (last_of (areas area)) (bs ++ b ∷ []) d) in
           subst (λ es. IsThreaded Anon (with_at anon (Some (grown (at_block b) (anons anon))) anons) (leads_on Anon (last_of (anons anon)) at es)) (sym pushed)
-          (thread_grow Anon anons cs b d' (thread_other Anon anons bs (last_of (areas area)) (with_after Area at) (keeps_after Anon Area at) (λ m. refl) t.anons_lead) refl);
+          (thread_grow Anon anons cs b d' (thread_other Anon anons bs (last_of (areas area)) (with_after Area at) (keeps_after Anon Area at)
+          (λ m. refl) t.anons_lead) refl);
       once = subst AreOnce (sym links_made) (once_push (links_of bs) area anon t.once n);
     }
 
@@ -195,11 +209,17 @@ found_altered p q f (b ∷ bs) n e hk hs =
     → (m : Node) × (found p (c ∷ node_changed q f bs) ≡ Some m) × (sides_of Anon m ≡ sides_of Anon n) × (key_of Anon m ≡ key_of Anon n)) [
       | true ↦ λ at h.
           let is : b.1 ≡ n = cc in
-          let hit : found p (c ∷ node_changed q f bs) ≡ Some c.1 = ap (λ y. cond y (Some c.1) (found p (node_changed q f bs))) (ap (same_ptr p) (place_cond (same_ptr q b.0) f b) ∙ at) in
+          let hit : found p (c ∷ node_changed q f bs) ≡ Some c.1 = ap (λ y. cond y (Some c.1) (found p (node_changed q f bs)))
+          (ap (same_ptr p) (place_cond (same_ptr q b.0) f b) ∙ at) in
           (c.1, hit, sides_kept f hs (same_ptr q b.0) b ∙ ap (sides_of Anon) is, key_kept f hk (same_ptr q b.0) b ∙ ap (key_of Anon) is)
       | false ↦ λ at h.
-          let rest = found_altered p q f bs n h hk hs in
-          (rest.0, ap (λ y. cond y (Some c.1) (found p (node_changed q f bs))) (ap (same_ptr p) (place_cond (same_ptr q b.0) f b) ∙ at) ∙ rest.1, rest.2, rest.3)
+          let rest = found_altered p q f bs n h hk hs in (
+            rest.0,
+            ap (λ y. cond y (Some c.1) (found p (node_changed q f bs))) (ap (same_ptr p) (place_cond (same_ptr q b.0) f b) ∙ at)
+                ∙ rest.1,
+            rest.2,
+            rest.3,
+          )
     ]) refl e
 
 found_changed : (p : Ptr) (o : Option Place) (f : Node → Node) (bs : List Block) (n : Node) → found p bs ≡ Some n → Keeps Anon f → KeepsSides Anon f
@@ -259,22 +279,29 @@ module _ (areas anons : ℕ → Option Head) (bs : List Block) (p : Ptr) (n : No
       ∙ has_changed (with_before Area sa.before) p sa.after cs0 ∙ has_changed (with_after Area sa.after) p sa.before bs ∙ h
 
   -- the anon_vma's list may be changed before or after the node is taken out
-  anon_past : (xs : List Block) → without_node p (leads_back Anon sv.after sv.before (leads_on Anon sv.before sv.after xs)) ≡ leads_back Anon sv.after sv.before (leads_on Anon sv.before sv.after (without_node p xs))
-  anon_past xs = removed_changed (with_before Anon sv.before) p sv.after (leads_on Anon sv.before sv.after xs) ∙ ap (leads_back Anon sv.after sv.before) (removed_changed (with_after Anon sv.after) p sv.before xs)
+  anon_past : (xs : List Block) → without_node p (leads_back Anon sv.after sv.before (leads_on Anon sv.before sv.after xs)) ≡ leads_back Anon sv.after sv.before
+      (leads_on Anon sv.before sv.after (without_node p xs))
+  anon_past xs = removed_changed (with_before Anon sv.before) p sv.after (leads_on Anon sv.before sv.after xs) ∙ ap (leads_back Anon sv.after sv.before)
+      (removed_changed (with_after Anon sv.after) p sv.before xs)
 
   area_past : without_node p cs1 ≡ leads_back Area sa.after sa.before (leads_on Area sa.before sa.after (without_node p bs))
-  area_past = removed_changed (with_before Area sa.before) p sa.after cs0 ∙ ap (leads_back Area sa.after sa.before) (removed_changed (with_after Area sa.after) p sa.before bs)
+  area_past = removed_changed (with_before Area sa.before) p sa.after cs0 ∙ ap (leads_back Area sa.after sa.before)
+      (removed_changed (with_after Area sa.after) p sa.before bs)
 
   pub links_gone : links_of (without_node p cs2) ≡ links_of (without_node p bs)
   links_gone =
-      ap links_of (anon_past cs1) ∙ links_back Anon sv.after sv.before (leads_on Anon sv.before sv.after (without_node p cs1)) ∙ links_on Anon sv.before sv.after (without_node p cs1)
-      ∙ ap links_of area_past ∙ links_back Area sa.after sa.before (leads_on Area sa.before sa.after (without_node p bs)) ∙ links_on Area sa.before sa.after (without_node p bs)
+      ap links_of (anon_past cs1) ∙ links_back Anon sv.after sv.before (leads_on Anon sv.before sv.after (without_node p cs1))
+      ∙ links_on Anon sv.before sv.after (without_node p cs1)
+      ∙ ap links_of area_past ∙ links_back Area sa.after sa.before (leads_on Area sa.before sa.after (without_node p bs))
+      ∙ links_on Area sa.before sa.after (without_node p bs)
 
   areas_gone : IsThreaded Area (with_at n.area (shrunk sa (areas n.area)) areas) (without_node p cs2)
   areas_gone =
       let heads = with_at n.area (shrunk sa (areas n.area)) areas in
-      let one = thread_other Area heads (without_node p cs1) sv.before (with_after Anon sv.after) (keeps_after Area Anon sv.after) (λ m. refl) (thread_shrink Area areas bs p n d t.areas_lead e) in
-      let two = thread_other Area heads (leads_on Anon sv.before sv.after (without_node p cs1)) sv.after (with_before Anon sv.before) (keeps_before Area Anon sv.before) (λ m. refl) one in
+      let one = thread_other Area heads (without_node p cs1) sv.before (with_after Anon sv.after) (keeps_after Area Anon sv.after) (λ m. refl)
+      (thread_shrink Area areas bs p n d t.areas_lead e) in
+      let two = thread_other Area heads (leads_on Anon sv.before sv.after (without_node p cs1)) sv.after (with_before Anon sv.before)
+      (keeps_before Area Anon sv.before) (λ m. refl) one in
       subst (IsThreaded Area heads) (sym (anon_past cs1)) two
 
   anons_gone : IsThreaded Anon (with_at n.anon (shrunk sv (anons n.anon)) anons) (without_node p cs2)
@@ -286,7 +313,8 @@ module _ (areas anons : ℕ → Option Head) (bs : List Block) (p : Ptr) (n : No
       let same : sides_of Anon f1.0 ≡ sv = f1.2 ∙ f0.2 in
       let key : key_of Anon f1.0 ≡ n.anon = f1.3 ∙ f0.3 in
       let d1 = apart_changed (with_before Area sa.before) sa.after cs0 (apart_changed (with_after Area sa.after) sa.before bs d) in
-      subst (λ (q : Sides × ℕ). IsThreaded Anon (with_at q.1 (shrunk q.0 (anons q.1)) anons) (without_node p (leads_back Anon q.0.after q.0.before (leads_on Anon q.0.before q.0.after cs1))))
+      subst (λ (q : Sides × ℕ). IsThreaded Anon (with_at q.1 (shrunk q.0 (anons q.1)) anons)
+      (without_node p (leads_back Anon q.0.after q.0.before (leads_on Anon q.0.before q.0.after cs1))))
       (λ i. (same i, key i)) (thread_shrink Anon anons cs1 p f1.0 d1 two f1.1)
 
   pub whole_gone : IsWhole (with_at n.area (shrunk sa (areas n.area)) areas) (with_at n.anon (shrunk sv (anons n.anon)) anons) (without_node p cs2)

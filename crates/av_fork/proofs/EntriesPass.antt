@@ -1,7 +1,6 @@
 -- The entries of a process are given to a child, the least page first.
 use Rattle.std.proofs.Common.{◌≡◌, ℕ, ◌+◌, ◌<◌, ◌≤◌, Bool, true, false, cond, ◌&&◌, ◌||◌, T, List, [], ◌∷◌, map, filter, Option, Some, None, refl, sym, ap, subst, ◌∙◌, arith, ◌==◌, nat_le}
 use Rattle.std.proofs.lemmas.Bool.Decides.{nat_tests}
-use Rattle.std.proofs.lemmas.Bool.{false≢true}
 use Rattle.std.specs.declared.cmp.Ordering.TheVariants.{Less}
 use Rattle.std.specs.FinMap.Entries.{find, where_key, is_sorted, below_all}
 use Rattle.std.specs.List.{list_any}
@@ -218,10 +217,6 @@ no_slots k l p page e stands is s = by (names_slot s e) refl
     by : (b : Bool) → names_slot s e ≡ b → b ≡ false
     by true named = let found = how_many-found (names_slot s) (p, page) l.entries e is named in let none = stands.parts.swap.counts s in absurd (omega (arith, found, none))
     by false named = refl
-
--- so no page is away
-pub not_away : (k : Parts) (l : Ledger) (p page : ℕ) (s : Slot) → Stand k l → k.table p page ≡ Away s → ⊥
-not_away k l p page s stands is = false≢true (sym (no_slots k l p page (InSlot s) stands (at_place k l p page (Away s) stands is) s) ∙ (λ i. itself s.area i && itself s.page i))
 
 -- nothing has gone over yet
 pub none_yet : (k : Parts) (p q : ℕ) (l : Ledger) → Stand k l → ((o : ℕ) → k.table q o ≡ Empty) → IsForking k p q 0 l

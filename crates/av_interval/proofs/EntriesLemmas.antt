@@ -8,30 +8,34 @@ use Rattle.av_interval.specs.Span.{key}
 there_first : (k : ℕ) (x : Span) (t : List Span) → IsSome (entry_at key k t) → IsSome (entry_at key k (x ∷ t))
 there_first k x t h = elim (eqb (key x) k) as (λ b. IsSome (cond b (Some x) (entry_at key k t))) [ true ↦ refl | false ↦ h ]
 
-there_next : (k : ℕ) (y : Span) (t u : List Span) → (IsSome (entry_at key k t) → IsSome (entry_at key k u)) → IsSome (entry_at key k (y ∷ t)) → IsSome (entry_at key k (y ∷ u))
-there_next k y t u f h = elim (eqb (key y) k) as (λ b. IsSome (cond b (Some y) (entry_at key k t)) → IsSome (cond b (Some y) (entry_at key k u))) [ true ↦ λ d. refl | false ↦ f ] h
+there_next : (k : ℕ) (y : Span) (t u : List Span) → (IsSome (entry_at key k t) → IsSome (entry_at key k u)) → IsSome (entry_at key k (y ∷ t)) →
+    IsSome (entry_at key k (y ∷ u))
+there_next k y t u f h = elim (eqb (key y) k) as (λ b. IsSome (cond b (Some y) (entry_at key k t)) →
+    IsSome (cond b (Some y) (entry_at key k u))) [ true ↦ λ d. refl | false ↦ f ] h
 
 -- what is there stays there
 pub there_with : (k : ℕ) (x : Span) (t : List Span) → IsSome (entry_at key k t) → IsSome (entry_at key k (with_entry key x t))
 there_with k x [] h = absurd (let d : ◌≡◌ {A = Bool} false true = h in cc)
-there_with k x (y ∷ t) h = elim (ltb (key x) (key y)) as (λ b. IsSome (entry_at key k (cond b (x ∷ y ∷ t) (y ∷ cond (ltb (key y) (key x)) (with_entry key x t) t)))) [
-  | true ↦ there_first k x (y ∷ t) h
-  | false ↦ elim (ltb (key y) (key x)) as (λ b. IsSome (entry_at key k (y ∷ cond b (with_entry key x t) t))) [
-    | true ↦ there_next k y t (with_entry key x t) (there_with k x t) h
-    | false ↦ h
-  ]
-]
+there_with k x (y ∷ t) h = elim (ltb (key x) (key y)) as (λ b. IsSome
+    (entry_at key k (cond b (x ∷ y ∷ t) (y ∷ cond (ltb (key y) (key x)) (with_entry key x t) t)))) [
+      | true ↦ there_first k x (y ∷ t) h
+      | false ↦ elim (ltb (key y) (key x)) as (λ b. IsSome (entry_at key k (y ∷ cond b (with_entry key x t) t))) [
+        | true ↦ there_next k y t (with_entry key x t) (there_with k x t) h
+        | false ↦ h
+      ]
+    ]
 
 -- what is put in is there, where no entry had its key
 pub there_new : (x : Span) (t : List Span) → IsSome (entry_at key (key x) (with_entry key x t))
 there_new x [] = rw (eq-eqb (key x) (key x) refl) refl
-there_new x (y ∷ t) = elim (ltb (key x) (key y)) as (λ b. ltb (key x) (key y) ≡ b → IsSome (entry_at key (key x) (cond b (x ∷ y ∷ t) (y ∷ cond (ltb (key y) (key x)) (with_entry key x t) t)))) [
-  | true ↦ λ e. rw (eq-eqb (key x) (key x) refl) refl
-  | false ↦ λ e. elim (ltb (key y) (key x)) as (λ b. ltb (key y) (key x) ≡ b → IsSome (entry_at key (key x) (y ∷ cond b (with_entry key x t) t))) [
-    | true ↦ λ d. there_next_one (key x) y (with_entry key x t) (there_new x t)
-    | false ↦ λ d. rw (eq-eqb (key y) (key x) (same_key (key x) (key y) e d)) refl
-  ] refl
-] refl
+there_new x (y ∷ t) = elim (ltb (key x) (key y)) as (λ b. ltb (key x) (key y) ≡ b →
+    IsSome (entry_at key (key x) (cond b (x ∷ y ∷ t) (y ∷ cond (ltb (key y) (key x)) (with_entry key x t) t)))) [
+      | true ↦ λ e. rw (eq-eqb (key x) (key x) refl) refl
+      | false ↦ λ e. elim (ltb (key y) (key x)) as (λ b. ltb (key y) (key x) ≡ b → IsSome (entry_at key (key x) (y ∷ cond b (with_entry key x t) t))) [
+        | true ↦ λ d. there_next_one (key x) y (with_entry key x t) (there_new x t)
+        | false ↦ λ d. rw (eq-eqb (key y) (key x) (same_key (key x) (key y) e d)) refl
+      ] refl
+    ] refl
   where
     there_next_one : (k : ℕ) (y : Span) (u : List Span) → IsSome (entry_at key k u) → IsSome (entry_at key k (y ∷ u))
     there_next_one k y u h = elim (eqb (key y) k) as (λ b. IsSome (cond b (Some y) (entry_at key k u))) [ true ↦ refl | false ↦ h ]

@@ -23,14 +23,22 @@ pub child_is : (v : Forest) (k : Option (Link ℕ)) → IsHeld key 0 max last_of
 child_is v None h = none_tree key 0 max last_of max_laws (store_of v)
 child_is v (Some k) h = ((k, (refl, h)), below_is v k h, sym (held_sum key 0 max last_of max_laws (store_of v) (Some k) h), λ e. let d = rw e at h.link in cc)
 
-pub seen : (v : Forest) (n : ℕ) (w : Stored Span ℕ) → IsNode v n → store_of v n ≡ Some w → IsSeen (IsNode v) (below v) (below v n) (record { first = w.entry.first; last = w.entry.last; area = w.entry.area; left = child_of w.left; right = child_of w.right })
+pub seen : (v : Forest) (n : ℕ) (w : Stored Span ℕ) → IsNode v n → store_of v n ≡ Some w →
+    IsSeen (IsNode v) (below v) (below v n) (record {
+      first = w.entry.first;
+      last = w.entry.last;
+      area = w.entry.area;
+      left = child_of w.left;
+      right = child_of w.right;
+    })
 seen v n w is e =
     let s = store_of v in
     let k = is.0 in
     let o = opened key 0 max last_of max_laws s k w is.1.1 (ap s is.1.0 ∙ e) in
     rw e (refl, child_is v w.left o.left, child_is v w.right o.right)
 
-pub root_is_node : (v : Forest) (a : ℕ) (k : Link ℕ) → IsForest (store_of v) (root_in v) → top_of (root_in v a) ≡ Some k → IsNode v k.number × (below v k.number ≡ tree_of v a)
+pub root_is_node : (v : Forest) (a : ℕ) (k : Link ℕ) → IsForest (store_of v) (root_in v) → top_of (root_in v a) ≡ Some k →
+    IsNode v k.number × (below v k.number ≡ tree_of v a)
 root_is_node v a k f e =
     let h = subst (IsHeld key 0 max last_of (store_of v)) e (f.held a) in
     ((k, (refl, h)), below_is v k h ∙ ap (tree_at (store_of v)) (sym e))

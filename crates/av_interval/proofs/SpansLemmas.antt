@@ -88,21 +88,24 @@ module _ (P : Span → Type 0) where
 -- lengths
 pub length_with : (x : Span) (t : List Span) → entry_at key (key x) t ≡ None → length (with_entry key x t) ≡ length t + 1
 length_with x [] e = omega arith
-length_with x (y ∷ t) e = elim (eqb (key y) (key x)) as (λ b. eqb (key y) (key x) ≡ b → cond b (Some y) (entry_at key (key x) t) ≡ None → length (with_entry key x (y ∷ t)) ≡ length (y ∷ t) + 1) [
-  | true ↦ λ q d. cc
-  | false ↦ λ q d. elim (cases_order (key x) (key y)) [
-    | inl k ↦ absurd (eqb-false _ _ q (sym k))
-    | inr (inl k) ↦ rw (Rattle.std.proofs.lemmas.Bool.lt-ltb (key x) (key y) k) (omega arith)
-    | inr (inr k) ↦ rw (Rattle.std.proofs.lemmas.Bool.le-ltb (key x) (key y) (omega arith), Rattle.std.proofs.lemmas.Bool.lt-ltb (key y) (key x) k) (let h = length_with x t d in omega arith)
-  ]
-] refl e
+length_with x (y ∷ t) e = elim (eqb (key y) (key x)) as (λ b. eqb (key y) (key x) ≡ b → cond b (Some y) (entry_at key (key x) t) ≡ None →
+    length (with_entry key x (y ∷ t)) ≡ length (y ∷ t) + 1) [
+      | true ↦ λ q d. cc
+      | false ↦ λ q d. elim (cases_order (key x) (key y)) [
+        | inl k ↦ absurd (eqb-false _ _ q (sym k))
+        | inr (inl k) ↦ rw (Rattle.std.proofs.lemmas.Bool.lt-ltb (key x) (key y) k) (omega arith)
+        | inr (inr k) ↦ rw (Rattle.std.proofs.lemmas.Bool.le-ltb (key x) (key y) (omega arith), Rattle.std.proofs.lemmas.Bool.lt-ltb (key y) (key x) k)
+            (let h = length_with x t d in omega arith)
+      ]
+    ] refl e
 
 pub length_without : (k : ℕ) (t : List Span) → IsSome (entry_at key k t) → length (without_key key k t) + 1 ≡ length t
 length_without k [] h = cc
-length_without k (y ∷ t) h = elim (eqb (key y) k) as (λ b. IsSome (cond b (Some y) (entry_at key k t)) → length (cond b t (y ∷ without_key key k t)) + 1 ≡ length (y ∷ t)) [
-  | true ↦ λ d. omega arith
-  | false ↦ λ d. let e = length_without k t d in omega arith
-] h
+length_without k (y ∷ t) h = elim (eqb (key y) k) as (λ b. IsSome (cond b (Some y) (entry_at key k t)) →
+    length (cond b t (y ∷ without_key key k t)) + 1 ≡ length (y ∷ t)) [
+      | true ↦ λ d. omega arith
+      | false ↦ λ d. let e = length_without k t d in omega arith
+    ] h
 
 -- the tree of an anon_vma that is new
 pub record IsChange (s : Store) (r : ℕ → Option Root) (s' : Store) (a : ℕ) (o : Option Root) : Type 0 where
@@ -137,7 +140,11 @@ module _ (s : Store) (r : ℕ → Option Root) (f : IsForest s r) (s' : Store) (
   of_other j z t =
       let b = t.anon in
       let n : a ≡ b → ⊥ = λ e. let d = ap (λ i. count j (tree_at s (top_of (r i)))) e in let h = t.there in omega arith in
-      record { anon = b; there = by_cases (λ i p. 1 ≤ count j (tree_at s (top_of (r i))) → 1 ≤ count j (tree_at s' (top_of p))) (λ i e h. let d = ap (λ y. count j (tree_at s (top_of (r y)))) e in absurd (omega arith)) (λ i m h. rw (other i m).tree h) b t.there }
+      record {
+        anon = b;
+        there = by_cases (λ i p. 1 ≤ count j (tree_at s (top_of (r i))) → 1 ≤ count j (tree_at s' (top_of p)))
+            (λ i e h. let d = ap (λ y. count j (tree_at s (top_of (r y)))) e in absurd (omega arith)) (λ i m h. rw (other i m).tree h) b t.there;
+      }
 
   here_is : with_at a o r a ≡ o
   here_is = rw (eq-eqb a a refl) refl
@@ -174,7 +181,8 @@ pub record IsSameForest (s s' : Store) (r : ℕ → Option Root) : Type 0 where
 
 pub same_forest : (s s' : Store) (r : ℕ → Option Root) → IsForest s r → ((j : ℕ) → s' j ≡ s j) → IsSameForest s s' r
 same_forest s s' r f same =
-    let k : (a : ℕ) → IsSame key 0 max last_of max_laws s s' (top_of (r a)) = λ a. kept key 0 max last_of max_laws s s' (top_of (r a)) (f.held a) (λ j h. same j) in
+    let k : (a : ℕ) → IsSame key 0 max last_of max_laws s s' (top_of (r a)) =
+    λ a. kept key 0 max last_of max_laws s s' (top_of (r a)) (f.held a) (λ j h. same j) in
     record {
       forest = record {
         whole = λ j u. let t = f.whole j (subst IsSome (same j) u) in record { anon = t.anon; there = rw (k t.anon).tree t.there };
@@ -195,12 +203,18 @@ not_used s r f n e a = elim (cases_lt 0 (count n (tree_at s (top_of (r a))))) [
 ]
 
 is_not : (n j : ℕ) (t : Tree) → count n t ≡ 0 → 1 ≤ count j t → is n j ≡ 0
-is_not n j t z h = elim (is_cases key 0 max last_of max_laws n j) [ inl e ↦ e | inr e ↦ absurd (let d : count j t ≡ 0 = ap (λ i. count i t) (sym e) ∙ z in omega arith) ]
+is_not n j t z h = elim (is_cases key 0 max last_of max_laws n j) [
+  | inl e ↦ e
+  | inr e ↦ absurd (let d : count j t ≡ 0 = ap (λ i. count i t) (sym e) ∙ z in omega arith)
+]
 
-with_node : (s : Store) (r : ℕ → Option Root) → IsForest s r → (n : ℕ) (v : Stored Span ℕ) → s n ≡ None → (a : ℕ) → IsSame key 0 max last_of max_laws s (with_at n (Some v) s) (top_of (r a))
-with_node s r f n v e a = kept key 0 max last_of max_laws s (with_at n (Some v) s) (top_of (r a)) (f.held a) (λ j h. with_at_other key 0 max last_of max_laws n (Some v) s j (is_not n j (tree_at s (top_of (r a))) (not_used s r f n e a) h))
+with_node : (s : Store) (r : ℕ → Option Root) → IsForest s r → (n : ℕ) (v : Stored Span ℕ) → s n ≡ None → (a : ℕ) →
+    IsSame key 0 max last_of max_laws s (with_at n (Some v) s) (top_of (r a))
+with_node s r f n v e a = kept key 0 max last_of max_laws s (with_at n (Some v) s) (top_of (r a)) (f.held a)
+    (λ j h. with_at_other key 0 max last_of max_laws n (Some v) s j (is_not n j (tree_at s (top_of (r a))) (not_used s r f n e a) h))
 
-pub place_for : (s : Store) (r : ℕ → Option Root) → IsForest s r → (n : ℕ) (v : Stored Span ℕ) → s n ≡ None → (a : ℕ) (x : Span) → x.area < 2 ^ 64 → IsNew x.area (entries (tree_at s (top_of (r a)))) → IsPlaceFor key 0 max last_of (with_at n (Some v) s) (top_of (r a)) n x
+pub place_for : (s : Store) (r : ℕ → Option Root) → IsForest s r → (n : ℕ) (v : Stored Span ℕ) → s n ≡ None → (a : ℕ) (x : Span) → x.area < 2 ^ 64 →
+    IsNew x.area (entries (tree_at s (top_of (r a)))) → IsPlaceFor key 0 max last_of (with_at n (Some v) s) (top_of (r a)) n x
 place_for s r f n v e a x p new =
     let w = with_node s r f n v e a in
     record {
@@ -216,7 +230,9 @@ pub record IsAdded (s : Store) (r : ℕ → Option Root) (s' : Store) (a : ℕ) 
   pub entries : entries (tree_at s' (Some k)) ≡ with_entry key x (entries (tree_at s (top_of (r a))))
   pub back : top_of (r a) ≡ None → (j : ℕ) → with_at n None s' j ≡ s j
 
-pub added : (s : Store) (r : ℕ → Option Root) → IsForest s r → (n : ℕ) (v : Stored Span ℕ) → s n ≡ None → (s' : Store) (a : ℕ) (x : Span) (k : Link ℕ) (l : ℕ) → l ≡ len_of (r a) + 1 → x.area < 2 ^ 64 → IsNew x.area (entries (tree_at s (top_of (r a)))) → IsPlaced key 0 max last_of (with_at n (Some v) s) s' (top_of (r a)) n x k → IsAdded s r s' a x k n l
+pub added : (s : Store) (r : ℕ → Option Root) → IsForest s r → (n : ℕ) (v : Stored Span ℕ) → s n ≡ None → (s' : Store) (a : ℕ) (x : Span) (k : Link ℕ) (l : ℕ) →
+    l ≡ len_of (r a) + 1 → x.area < 2 ^ 64 → IsNew x.area (entries (tree_at s (top_of (r a)))) →
+    IsPlaced key 0 max last_of (with_at n (Some v) s) s' (top_of (r a)) n x k → IsAdded s r s' a x k n l
 added s r f n v e s' a x k m q p new t =
     let w = with_node s r f n v e a in
     let old = tree_at s (top_of (r a)) in
@@ -241,7 +257,10 @@ added s r f n v e s' a x k m q p new t =
             omega arith;
         whole = λ j u. elim (in_use_cases key 0 max last_of max_laws (with_at n (Some v) s) s' (Some k) _ _ none t j u) [
           | inl h ↦ inl (omega arith)
-          | inr h ↦ let z = h.1 in let y = ap (count j) w.tree in inr (subst IsSome (with_at_other key 0 max last_of max_laws n (Some v) s j (omega arith)) h.0, omega arith)
+          | inr h ↦ let z = h.1 in let y = ap (count j) w.tree in inr (
+            subst IsSome (with_at_other key 0 max last_of max_laws n (Some v) s j (omega arith)) h.0,
+            omega arith,
+          )
         ];
       };
       back = λ gone j. elim (is_cases key 0 max last_of max_laws n j) [
@@ -253,7 +272,8 @@ added s r f n v e s' a x k m q p new t =
     }
 
 -- taking out
-pub has_key : (s : Store) (r : ℕ → Option Root) → IsForest s r → (a : ℕ) (x : Span) → IsSome (entry_at key (key x) (entries (tree_at s (top_of (r a))))) → HasKey key 0 max last_of s (top_of (r a)) x
+pub has_key : (s : Store) (r : ℕ → Option Root) → IsForest s r → (a : ℕ) (x : Span) → IsSome (entry_at key (key x) (entries (tree_at s (top_of (r a))))) →
+    HasKey key 0 max last_of s (top_of (r a)) x
 has_key s r f a x h = record { held = f.held a; rising = f.rising a; there = h }
 
 pub record IsRemoved (s : Store) (r : ℕ → Option Root) (s' : Store) (a m : ℕ) (xs : List Span) (n : ℕ) (k : Option (Link ℕ)) : Type 0 where
@@ -263,18 +283,21 @@ pub record IsRemoved (s : Store) (r : ℕ → Option Root) (s' : Store) (a m : �
   pub whole : (j : ℕ) → IsSome (with_at n None s' j) → (1 ≤ count j (tree_at (with_at n None s') k)) ⊎ (IsSome (s j) × (count j (tree_at s (top_of (r a))) ≡ 0))
   pub apart : (b j : ℕ) → (a ≡ b → ⊥) → 1 ≤ count j (tree_at s (top_of (r b))) → count j (tree_at (with_at n None s') k) ≡ 0
 
-pub removed : (s : Store) (r : ℕ → Option Root) → IsForest s r → (s' : Store) (a m : ℕ) (xs : List Span) (n : ℕ) (k : Option (Link ℕ)) → IsWithout key 0 max last_of s s' (top_of (r a)) xs n k → IsRemoved s r s' a m xs n k
+pub removed : (s : Store) (r : ℕ → Option Root) → IsForest s r → (s' : Store) (a m : ℕ) (xs : List Span) (n : ℕ) (k : Option (Link ℕ)) →
+    IsWithout key 0 max last_of s s' (top_of (r a)) xs n k → IsRemoved s r s' a m xs n k
 removed s r f s' a m xs n k t =
     let gone : count n (tree_at s' k) ≡ 0 = (let d = t.count n in let e = is_same key 0 max last_of max_laws n in let o = (f.held a).once n in omega arith) in
-    let g = kept key 0 max last_of max_laws s' (with_at n None s') k t.held (λ j h. with_at_other key 0 max last_of max_laws n None s' j (is_not n j (tree_at s' k) gone h)) in
+    let g = kept key 0 max last_of max_laws s' (with_at n None s') k t.held
+    (λ j h. with_at_other key 0 max last_of max_laws n None s' j (is_not n j (tree_at s' k) gone h)) in
     record {
       held = g.held;
       entries = rw g.tree t.entries;
       whole = λ j u. elim (is_cases key 0 max last_of max_laws n j) [
-        | inl o ↦ elim (in_use_cases key 0 max last_of max_laws s s' k xs _ (is n) t j (subst IsSome (with_at_other key 0 max last_of max_laws n None s' j o) u)) [
-          | inl h ↦ inl (rw g.tree (omega arith))
-          | inr h ↦ inr h
-        ]
+        | inl o ↦ elim (in_use_cases key 0 max last_of max_laws s s' k xs _ (is n) t j
+            (subst IsSome (with_at_other key 0 max last_of max_laws n None s' j o) u)) [
+              | inl h ↦ inl (rw g.tree (omega arith))
+              | inr h ↦ inr h
+            ]
         | inr o ↦ let h = rw (← o, with_at_same key 0 max last_of max_laws n None s') at u in cc
       ];
       kept = λ b j m h.
@@ -284,7 +307,9 @@ removed s r f s' a m xs n k t =
       apart = λ b j m h. let q = f.apart a b j m in let d = t.count j in rw g.tree (omega arith);
     }
 
-pub removed_change : (s : Store) (r : ℕ → Option Root) → IsForest s r → (s' : Store) (a m : ℕ) (x : Span) (n : ℕ) (o : Option Root) → IsSome (entry_at key (key x) (entries (tree_at s (top_of (r a))))) → IsRemoved s r s' a m (without_key key (key x) (entries (tree_at s (top_of (r a))))) n (top_of o) → len_of o + 1 ≡ len_of (r a) → IsChange s r (with_at n None s') a o
+pub removed_change : (s : Store) (r : ℕ → Option Root) → IsForest s r → (s' : Store) (a m : ℕ) (x : Span) (n : ℕ) (o : Option Root) →
+    IsSome (entry_at key (key x) (entries (tree_at s (top_of (r a))))) → IsRemoved s r s' a m (without_key key (key x) (entries (tree_at s (top_of (r a))))) n
+    (top_of o) → len_of o + 1 ≡ len_of (r a) → IsChange s r (with_at n None s') a o
 removed_change s r f s' a m x n o there d e =
     let old = entries (tree_at s (top_of (r a))) in
     record {
@@ -302,7 +327,8 @@ pub record IsDone (s : Store) (r : ℕ → Option Root) (s' : Store) (r' : ℕ �
   pub forest : IsForest s' r'
   pub triples : (b : ℕ) → entries (tree_at s' (top_of (r' b))) ≡ with_at a xs (λ d. entries (tree_at s (top_of (r d)))) b
 
-pub done : (s : Store) (r : ℕ → Option Root) → IsForest s r → (s' : Store) (r' : ℕ → Option Root) (a : ℕ) (o : Option Root) (xs : List Span) → IsChange s r s' a o → entries (tree_at s' (top_of o)) ≡ xs → r' ≡ with_at a o r → IsDone s r s' r' a xs
+pub done : (s : Store) (r : ℕ → Option Root) → IsForest s r → (s' : Store) (r' : ℕ → Option Root) (a : ℕ) (o : Option Root) (xs : List Span) →
+    IsChange s r s' a o → entries (tree_at s' (top_of o)) ≡ xs → r' ≡ with_at a o r → IsDone s r s' r' a xs
 done s r f s' r' a o xs c is e = subst (λ (q : ℕ → Option Root). IsDone s r s' q a xs) (sym e) (record {
   forest = changed s r f s' a o c;
   triples = λ b. elim (eqb b a) as (λ t. eqb b a ≡ t → entries (tree_at s' (top_of (cond t o (r b)))) ≡ cond t xs (entries (tree_at s (top_of (r b))))) [
@@ -312,20 +338,31 @@ done s r f s' r' a o xs c is e = subst (λ (q : ℕ → Option Root). IsDone s r
 })
 
 -- the same under the names that the code gives the parts
-pub placing : (s s1 : Store) (r : ℕ → Option Root) → IsForest s r → (n : ℕ) (v : Stored Span ℕ) → s n ≡ None → s1 ≡ with_at n (Some v) s → (a : ℕ) (x : Span) → x.area < 2 ^ 64 → IsNew x.area (entries (tree_at s (top_of (r a)))) → (t : Option (Link ℕ)) → t ≡ top_of (r a) → IsPlaceFor key 0 max last_of s1 t n x
-placing s s1 r f n v e is a x p new t d = subst (λ (q : Option (Link ℕ)). IsPlaceFor key 0 max last_of s1 q n x) (sym d) (subst (λ (q : Store). IsPlaceFor key 0 max last_of q (top_of (r a)) n x) (sym is) (place_for s r f n v e a x p new))
+pub placing : (s s1 : Store) (r : ℕ → Option Root) → IsForest s r → (n : ℕ) (v : Stored Span ℕ) → s n ≡ None → s1 ≡ with_at n (Some v) s → (a : ℕ) (x : Span) →
+    x.area < 2 ^ 64 → IsNew x.area (entries (tree_at s (top_of (r a)))) → (t : Option (Link ℕ)) → t ≡ top_of (r a) → IsPlaceFor key 0 max last_of s1 t n x
+placing s s1 r f n v e is a x p new t d = subst (λ (q : Option (Link ℕ)). IsPlaceFor key 0 max last_of s1 q n x) (sym d)
+    (subst (λ (q : Store). IsPlaceFor key 0 max last_of q (top_of (r a)) n x) (sym is) (place_for s r f n v e a x p new))
 
-pub adding : (s s1 s' : Store) (r : ℕ → Option Root) → IsForest s r → (n : ℕ) (v : Stored Span ℕ) → s n ≡ None → s1 ≡ with_at n (Some v) s → (a : ℕ) (x : Span) → x.area < 2 ^ 64 → IsNew x.area (entries (tree_at s (top_of (r a)))) → (t : Option (Link ℕ)) → t ≡ top_of (r a) → (k : Link ℕ) (l : ℕ) → l ≡ len_of (r a) + 1 → IsPlaced key 0 max last_of s1 s' t n x k → IsAdded s r s' a x k n l
+pub adding : (s s1 s' : Store) (r : ℕ → Option Root) → IsForest s r → (n : ℕ) (v : Stored Span ℕ) → s n ≡ None → s1 ≡ with_at n (Some v) s →
+    (a : ℕ) (x : Span) → x.area < 2 ^ 64 → IsNew x.area (entries (tree_at s (top_of (r a)))) → (t : Option (Link ℕ)) → t ≡ top_of (r a) → (k : Link ℕ) (l : ℕ) →
+    l ≡ len_of (r a) + 1 → IsPlaced key 0 max last_of s1 s' t n x k → IsAdded s r s' a x k n l
 adding s s1 s' r f n v e is a x p new t d k l q w =
-    added s r f n v e s' a x k l q p new (subst (λ (g : Store). IsPlaced key 0 max last_of g s' (top_of (r a)) n x k) is (subst (λ (g : Option (Link ℕ)). IsPlaced key 0 max last_of s1 s' g n x k) d w))
+    added s r f n v e s' a x k l q p new (subst (λ (g : Store). IsPlaced key 0 max last_of g s' (top_of (r a)) n x k) is
+    (subst (λ (g : Option (Link ℕ)). IsPlaced key 0 max last_of s1 s' g n x k) d w))
 
-pub added_done : (s s1 s' : Store) (r r' : ℕ → Option Root) → IsForest s r → (n : ℕ) (v : Stored Span ℕ) → s n ≡ None → s1 ≡ with_at n (Some v) s → (a : ℕ) (x : Span) → x.area < 2 ^ 64 → IsNew x.area (entries (tree_at s (top_of (r a)))) → (t : Option (Link ℕ)) → t ≡ top_of (r a) → (k : Link ℕ) (l : ℕ) → l ≡ len_of (r a) + 1 → IsPlaced key 0 max last_of s1 s' t n x k → r' ≡ with_at a (Some (record { tree = k; len = l })) r → IsDone s r s' r' a (with_entry key x (entries (tree_at s (top_of (r a)))))
+pub added_done : (s s1 s' : Store) (r r' : ℕ → Option Root) → IsForest s r → (n : ℕ) (v : Stored Span ℕ) → s n ≡ None → s1 ≡ with_at n (Some v) s →
+    (a : ℕ) (x : Span) → x.area < 2 ^ 64 → IsNew x.area (entries (tree_at s (top_of (r a)))) → (t : Option (Link ℕ)) → t ≡ top_of (r a) → (k : Link ℕ) (l : ℕ) →
+    l ≡ len_of (r a) + 1 → IsPlaced key 0 max last_of s1 s' t n x k → r' ≡ with_at a (Some (record { tree = k; len = l })) r →
+    IsDone s r s' r' a (with_entry key x (entries (tree_at s (top_of (r a)))))
 added_done s s1 s' r r' f n v e is a x p new t d k l q w y =
     let m = adding s s1 s' r f n v e is a x p new t d k l q w in
     done s r f s' r' a (Some (record { tree = k; len = l })) _ m.change m.entries y
 
 -- the node is given back where the root finds no room
-pub added_back : (s s1 s' s'' : Store) (r r' : ℕ → Option Root) → IsForest s r → (n : ℕ) (v : Stored Span ℕ) → s n ≡ None → s1 ≡ with_at n (Some v) s → (a : ℕ) (x : Span) → x.area < 2 ^ 64 → IsNew x.area (entries (tree_at s (top_of (r a)))) → (t : Option (Link ℕ)) → t ≡ top_of (r a) → (k : Link ℕ) → IsPlaced key 0 max last_of s1 s' t n x k → r a ≡ None → s'' ≡ with_at n None s' → r' ≡ r → IsForest s'' r' × ((b : ℕ) → tree_at s'' (top_of (r' b)) ≡ tree_at s (top_of (r b)))
+pub added_back : (s s1 s' s'' : Store) (r r' : ℕ → Option Root) → IsForest s r → (n : ℕ) (v : Stored Span ℕ) → s n ≡ None → s1 ≡ with_at n (Some v) s →
+    (a : ℕ) (x : Span) → x.area < 2 ^ 64 → IsNew x.area (entries (tree_at s (top_of (r a)))) → (t : Option (Link ℕ)) → t ≡ top_of (r a) → (k : Link ℕ) →
+    IsPlaced key 0 max last_of s1 s' t n x k → r a ≡ None → s'' ≡ with_at n None s' → r' ≡ r →
+    IsForest s'' r' × ((b : ℕ) → tree_at s'' (top_of (r' b)) ≡ tree_at s (top_of (r b)))
 added_back s s1 s' s'' r r' f n v e is a x p new t d k w z y g =
     let m = adding s s1 s' r f n v e is a x p new t d k (len_of (r a) + 1) refl w in
     let b = same_forest s (with_at n None s') r f (m.back (ap top_of z)) in
@@ -333,11 +370,16 @@ added_back s s1 s' s'' r r' f n v e is a x p new t d k w z y g =
     let Q : Store → Type 0 = λ q. IsForest q r × ((b : ℕ) → tree_at q (top_of (r b)) ≡ tree_at s (top_of (r b))) in
     subst P (sym g) (subst Q (sym y) (b.forest, b.trees))
 
-pub removed_done : (s s1 s' : Store) (r r' : ℕ → Option Root) → IsForest s r → (a : ℕ) (x : Span) (root : Root) → r a ≡ Some root → IsSome (entry_at key (key x) (entries (tree_at s (top_of (r a))))) → (n : ℕ) (k : Option (Link ℕ)) → IsWithout key 0 max last_of s s1 (Some root.tree) (without_key key (key x) (entries (tree_at s (Some root.tree)))) n k → s' ≡ with_at n None s1 → (o : Option Root) → top_of o ≡ k → len_of o + 1 ≡ root.len → r' ≡ with_at a o r → IsDone s r s' r' a (without_key key (key x) (entries (tree_at s (top_of (r a)))))
+pub removed_done : (s s1 s' : Store) (r r' : ℕ → Option Root) → IsForest s r → (a : ℕ) (x : Span) (root : Root) → r a ≡ Some root →
+    IsSome (entry_at key (key x) (entries (tree_at s (top_of (r a))))) → (n : ℕ) (k : Option (Link ℕ)) →
+    IsWithout key 0 max last_of s s1 (Some root.tree) (without_key key (key x) (entries (tree_at s (Some root.tree)))) n k → s' ≡ with_at n None s1 →
+    (o : Option Root) → top_of o ≡ k → len_of o + 1 ≡ root.len → r' ≡ with_at a o r →
+    IsDone s r s' r' a (without_key key (key x) (entries (tree_at s (top_of (r a)))))
 removed_done s s1 s' r r' f a x root ra there n k w y o ok len e =
     let top : Some root.tree ≡ top_of (r a) = ap top_of (sym ra) in
     let xs = without_key key (key x) (entries (tree_at s (top_of (r a)))) in
-    let w' : IsWithout key 0 max last_of s s1 (top_of (r a)) xs n k = subst (λ (g : Option (Link ℕ)). IsWithout key 0 max last_of s s1 g (without_key key (key x) (entries (tree_at s g))) n k) top w in
+    let w' : IsWithout key 0 max last_of s s1 (top_of (r a)) xs n k =
+    subst (λ (g : Option (Link ℕ)). IsWithout key 0 max last_of s s1 g (without_key key (key x) (entries (tree_at s g))) n k) top w in
     let d : IsRemoved s r s1 a 0 xs n (top_of o) = subst (λ (g : Option (Link ℕ)). IsRemoved s r s1 a 0 xs n g) (sym ok) (removed s r f s1 a 0 xs n k w') in
     let c = removed_change s r f s1 a 0 x n o there d (len ∙ ap len_of (sym ra)) in
     subst (λ (g : Store). IsDone s r g r' a xs) (sym y) (done s r f (with_at n None s1) r' a o xs c d.entries e)
@@ -348,7 +390,12 @@ empty_forest s r z e =
     let n = none_tree key 0 max last_of max_laws s in
     let top : (a : ℕ) → top_of (r a) ≡ None = λ a. ap top_of (e a) in
     record {
-      held = λ a. subst (IsHeld key 0 max last_of s) (sym (top a)) (record { stored = rw n tt; link = rw n refl; once = λ j. rw n (omega arith); level = rw n tt });
+      held = λ a. subst (IsHeld key 0 max last_of s) (sym (top a)) (record {
+        stored = rw n tt;
+        link = rw n refl;
+        once = λ j. rw n (omega arith);
+        level = rw n tt;
+      });
       rising = λ a. rw (top a, n) tt;
       fits = λ a. rw (top a, n) tt;
       len = λ a. rw (e a, n) refl;
@@ -357,15 +404,20 @@ empty_forest s r z e =
     }
 
 -- the count of a tree from which one is taken
-pub some_left : (s : Store) (r : ℕ → Option Root) → IsForest s r → (a k : ℕ) (root : Root) → r a ≡ Some root → IsSome (entry_at key k (entries (tree_at s (top_of (r a))))) → 1 ≤ root.len
+pub some_left : (s : Store) (r : ℕ → Option Root) → IsForest s r → (a k : ℕ) (root : Root) → r a ≡ Some root →
+    IsSome (entry_at key k (entries (tree_at s (top_of (r a))))) → 1 ≤ root.len
 some_left s r f a k root e there = let h = length_without k (entries (tree_at s (top_of (r a)))) there in let l = f.len a in let d = ap len_of e in omega arith
 
-pub one_left : (s s1 : Store) (r : ℕ → Option Root) → IsForest s r → (a k : ℕ) (root : Root) → r a ≡ Some root → IsSome (entry_at key k (entries (tree_at s (top_of (r a))))) → (n : ℕ) → IsWithout key 0 max last_of s s1 (Some root.tree) (without_key key k (entries (tree_at s (Some root.tree)))) n None → 1 ≡ root.len
+pub one_left : (s s1 : Store) (r : ℕ → Option Root) → IsForest s r → (a k : ℕ) (root : Root) → r a ≡ Some root →
+    IsSome (entry_at key k (entries (tree_at s (top_of (r a))))) → (n : ℕ) →
+    IsWithout key 0 max last_of s s1 (Some root.tree) (without_key key k (entries (tree_at s (Some root.tree)))) n None → 1 ≡ root.len
 one_left s s1 r f a k root e there n w =
     let top : Some root.tree ≡ top_of (r a) = ap top_of (sym e) in
     let h = length_without k (entries (tree_at s (top_of (r a)))) there in
-    let z : length (without_key key k (entries (tree_at s (Some root.tree)))) ≡ 0 = ap length (sym w.entries) ∙ ap (λ t. length (entries t)) (none_tree key 0 max last_of max_laws s1) in
-    let y : length (without_key key k (entries (tree_at s (top_of (r a))))) ≡ 0 = subst (λ (g : Option (Link ℕ)). length (without_key key k (entries (tree_at s g))) ≡ 0) top z in
+    let z : length (without_key key k (entries (tree_at s (Some root.tree)))) ≡ 0 = ap length (sym w.entries) ∙ ap (λ t. length (entries t))
+    (none_tree key 0 max last_of max_laws s1) in
+    let y : length (without_key key k (entries (tree_at s (top_of (r a))))) ≡ 0 =
+    subst (λ (g : Option (Link ℕ)). length (without_key key k (entries (tree_at s g))) ≡ 0) top z in
     let l = f.len a in
     let d = ap len_of e in
     omega arith

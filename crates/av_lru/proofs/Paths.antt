@@ -159,13 +159,15 @@ frame_past n at past = cond-false _ _ _ (le-ltb at n past)
 
 module _ (next prev : ℕ → ℕ) (n : ℕ) where
   -- what leads back to the end of a path is its last frame
-  pub last_path : (from : ℕ) (fs : List ℕ) (to : ℕ) (before : Option ℕ) → IsPath next prev from fs to → ((f : ℕ) → IsIn f fs → f < n) → frame_at n from ≡ before → frame_at n (prev to) ≡ last_of before fs
+  pub last_path : (from : ℕ) (fs : List ℕ) (to : ℕ) (before : Option ℕ) → IsPath next prev from fs to → ((f : ℕ) → IsIn f fs → f < n) →
+      frame_at n from ≡ before → frame_at n (prev to) ≡ last_of before fs
   last_path from [] to before path below start = ap (frame_at n) path.1 ∙ start
   last_path from (g ∷ gs) to before path below start =
       last_path g gs to (Some g) path.2 (λ f found. below f (inr found)) (frame_below n g (below g (inl refl)))
 
   -- what leads back from a frame of a path is the frame before it
-  pub prev_path : (from : ℕ) (fs : List ℕ) (to : ℕ) (before : Option ℕ) (f : ℕ) → IsPath next prev from fs to → ((g : ℕ) → IsIn g fs → g < n) → frame_at n from ≡ before → IsIn f fs → frame_at n (prev f) ≡ frame_before before f fs
+  pub prev_path : (from : ℕ) (fs : List ℕ) (to : ℕ) (before : Option ℕ) (f : ℕ) → IsPath next prev from fs to → ((g : ℕ) → IsIn g fs → g < n) →
+      frame_at n from ≡ before → IsIn f fs → frame_at n (prev f) ≡ frame_before before f fs
   prev_path from [] to before f path below start found = absurd found
   prev_path from (g ∷ gs) to before f path below start found =
       elim (cases_eq g f) [
@@ -178,7 +180,8 @@ module _ (next prev : ℕ → ℕ) (n : ℕ) where
 
 module _ (next prev next' prev' : ℕ → ℕ) where
   -- a path stays where the links stay on it
-  IsPath-kept : (from : ℕ) (fs : List ℕ) (to : ℕ) → IsPath next prev from fs to → ((at : ℕ) → IsOn from fs at → next' at ≡ next at) → ((at : ℕ) → IsOn to fs at → prev' at ≡ prev at) → IsPath next' prev' from fs to
+  IsPath-kept : (from : ℕ) (fs : List ℕ) (to : ℕ) → IsPath next prev from fs to → ((at : ℕ) → IsOn from fs at → next' at ≡ next at) →
+      ((at : ℕ) → IsOn to fs at → prev' at ≡ prev at) → IsPath next' prev' from fs to
   IsPath-kept from [] to path nexts prevs = (nexts from (inl refl) ∙ path.0, prevs to (inl refl) ∙ path.1)
   IsPath-kept from (f ∷ fs) to path nexts prevs = (
     nexts from (inl refl) ∙ path.0,
@@ -189,7 +192,8 @@ module _ (next prev next' prev' : ℕ → ℕ) where
   )
 
   -- the first frame leaves, and the start is joined to what followed it
-  IsPath-skip_first : (from f : ℕ) (fs : List ℕ) (to : ℕ) → IsPath next prev f fs to → AreApart fs → ¬ IsIn from fs → ¬ IsIn to fs → Joins next next' from (next f) → Joins prev prev' (next f) from → IsPath next' prev' from fs to
+  IsPath-skip_first : (from f : ℕ) (fs : List ℕ) (to : ℕ) → IsPath next prev f fs to → AreApart fs → ¬ IsIn from fs → ¬ IsIn to fs →
+      Joins next next' from (next f) → Joins prev prev' (next f) from → IsPath next' prev' from fs to
   IsPath-skip_first from f [] to path apart from_off to_off nexts prevs =
       (nexts.here ∙ path.0, ap prev' (sym path.0) ∙ prevs.here)
   IsPath-skip_first from f (g ∷ gs) to path apart from_off to_off nexts prevs = (
@@ -203,7 +207,8 @@ module _ (next prev next' prev' : ℕ → ℕ) where
   )
 
   -- a frame leaves, and its neighbours are joined
-  IsPath-skip : (from : ℕ) (fs : List ℕ) (to f : ℕ) → IsPath next prev from fs to → AreApart fs → ¬ IsIn from fs → ¬ IsIn to fs → IsIn f fs → Joins next next' (prev f) (next f) → Joins prev prev' (next f) (prev f) → IsPath next' prev' from (without f fs) to
+  IsPath-skip : (from : ℕ) (fs : List ℕ) (to f : ℕ) → IsPath next prev from fs to → AreApart fs → ¬ IsIn from fs → ¬ IsIn to fs → IsIn f fs →
+      Joins next next' (prev f) (next f) → Joins prev prev' (next f) (prev f) → IsPath next' prev' from (without f fs) to
   IsPath-skip from [] to f path apart from_off to_off found nexts prevs = absurd found
   IsPath-skip from (g ∷ gs) to f path apart from_off to_off found nexts prevs =
       elim (cases_eq g f) [
@@ -215,25 +220,29 @@ module _ (next prev next' prev' : ℕ → ℕ) where
         | inr differs ↦
             let there : IsIn f gs = elim found [ inl here ↦ absurd (differs here) | inr later ↦ later ] in
             subst (λ ks. IsPath next' prev' from ks to) (sym (without_past f g gs differs)) (
-              nexts.others from (not_on g gs from _ (λ end. from_off (inl (sym end))) (λ later. from_off (inr later)) (prev_on next prev g gs to f path.2 there)) ∙ path.0,
+              nexts.others from (not_on g gs from _ (λ end. from_off (inl (sym end))) (λ later. from_off (inr later))
+                  (prev_on next prev g gs to f path.2 there)) ∙ path.0,
               prevs.others g (not_on to gs g _ (λ end. to_off (inl end)) apart.0 (next_on next prev g gs to f path.2 there)) ∙ path.1,
               IsPath-skip g gs to f path.2 apart.1 apart.0 (λ later. to_off (inr later)) there nexts prevs,
             )
       ]
 
   -- a frame joins at the end
-  IsPath-push : (from : ℕ) (fs : List ℕ) (to f : ℕ) → IsPath next prev from fs to → AreApart fs → ¬ IsIn from fs → ¬ IsIn to fs → ¬ IsIn f fs → from ≢ f → Inserts next prev next' prev' (prev to) f to → IsPath next' prev' from (fs ++ f ∷ []) to
+  IsPath-push : (from : ℕ) (fs : List ℕ) (to f : ℕ) → IsPath next prev from fs to → AreApart fs → ¬ IsIn from fs → ¬ IsIn to fs → ¬ IsIn f fs → from ≢ f →
+      Inserts next prev next' prev' (prev to) f to → IsPath next' prev' from (fs ++ f ∷ []) to
   IsPath-push from [] to f path apart from_off to_off absent other splices =
       (ap next' (sym path.1) ∙ splices.into, splices.back_out ∙ path.1, (splices.out, splices.back_into))
   IsPath-push from (g ∷ gs) to f path apart from_off to_off absent other splices =
       let new : g ≢ f = λ same. absent (inl same) in (
-        splices.nexts from (not_on g gs from _ (λ end. from_off (inl (sym end))) (λ later. from_off (inr later)) (prev_end_on next prev g gs to path.2)) other ∙ path.0,
+        splices.nexts from (not_on g gs from _ (λ end. from_off (inl (sym end))) (λ later. from_off (inr later)) (prev_end_on next prev g gs to path.2)) other
+            ∙ path.0,
         splices.prevs g (λ end. to_off (inl end)) new ∙ path.1,
         IsPath-push g gs to f path.2 apart.1 apart.0 (λ later. to_off (inr later)) (λ later. absent (inr later)) new splices,
       )
 
   -- a frame joins at the start of a ring
-  IsPath-front : (head : ℕ) (fs : List ℕ) (f : ℕ) → IsPath next prev head fs head → AreApart fs → ¬ IsIn head fs → ¬ IsIn f fs → head ≢ f → Inserts next prev next' prev' head f (next head) → IsPath next' prev' head (f ∷ fs) head
+  IsPath-front : (head : ℕ) (fs : List ℕ) (f : ℕ) → IsPath next prev head fs head → AreApart fs → ¬ IsIn head fs → ¬ IsIn f fs → head ≢ f →
+      Inserts next prev next' prev' head f (next head) → IsPath next' prev' head (f ∷ fs) head
   IsPath-front head [] f path apart off absent other splices =
       (splices.into, splices.back_out, (splices.out ∙ path.0, ap prev' (sym path.0) ∙ splices.back_into))
   IsPath-front head (g ∷ gs) f path apart off absent other splices = (
@@ -259,7 +268,9 @@ module _ (next prev next' prev' : ℕ → ℕ) where
     off_ring fs ring found = none-some which (sym none ∙ ring.placed head found)
 
     -- a ring stays where its links and its frames stay
-    pub IsRing-kept : (fs : List ℕ) → IsRing next prev place which head fs → ((at : ℕ) → IsOn head fs at → next' at ≡ next at) → ((at : ℕ) → IsOn head fs at → prev' at ≡ prev at) → ((f : ℕ) → place f ≡ Some which → place' f ≡ Some which) → ((f : ℕ) → place' f ≡ Some which → place f ≡ Some which) → IsRing next' prev' place' which head fs
+    pub IsRing-kept : (fs : List ℕ) → IsRing next prev place which head fs → ((at : ℕ) → IsOn head fs at → next' at ≡ next at) →
+        ((at : ℕ) → IsOn head fs at → prev' at ≡ prev at) → ((f : ℕ) → place f ≡ Some which → place' f ≡ Some which) →
+        ((f : ℕ) → place' f ≡ Some which → place f ≡ Some which) → IsRing next' prev' place' which head fs
     IsRing-kept fs ring nexts prevs stay came =
         record {
           linked = IsPath-kept head fs head ring.linked nexts prevs;
@@ -268,7 +279,9 @@ module _ (next prev next' prev' : ℕ → ℕ) where
           listed = λ f was. ring.listed f (came f was);
         }
 
-    pub IsRing-skip : (fs : List ℕ) (f : ℕ) → IsRing next prev place which head fs → place f ≡ Some which → Joins next next' (prev f) (next f) → Joins prev prev' (next f) (prev f) → place' f ≡ None → ((other : ℕ) → other ≢ f → place' other ≡ place other) → IsRing next' prev' place' which head (without f fs)
+    pub IsRing-skip : (fs : List ℕ) (f : ℕ) → IsRing next prev place which head fs → place f ≡ Some which → Joins next next' (prev f) (next f) →
+        Joins prev prev' (next f) (prev f) → place' f ≡ None → ((other : ℕ) → other ≢ f → place' other ≡ place other) →
+        IsRing next' prev' place' which head (without f fs)
     IsRing-skip fs f ring was nexts prevs left others =
         let off : ¬ IsIn head fs = off_ring fs ring in
         record {
@@ -280,7 +293,9 @@ module _ (next prev next' prev' : ℕ → ℕ) where
               IsIn-without_kept f other fs (ring.listed other (sym (others other differs) ∙ now)) differs;
         }
 
-    pub IsRing-push : (fs : List ℕ) (f : ℕ) → IsRing next prev place which head fs → head ≢ f → place f ≡ None → Inserts next prev next' prev' (prev head) f head → place' f ≡ Some which → ((other : ℕ) → other ≢ f → place' other ≡ place other) → IsRing next' prev' place' which head (fs ++ f ∷ [])
+    pub IsRing-push : (fs : List ℕ) (f : ℕ) → IsRing next prev place which head fs → head ≢ f → place f ≡ None →
+        Inserts next prev next' prev' (prev head) f head → place' f ≡ Some which → ((other : ℕ) → other ≢ f → place' other ≡ place other) →
+        IsRing next' prev' place' which head (fs ++ f ∷ [])
     IsRing-push fs f ring differs free splices joined others =
         let off : ¬ IsIn head fs = off_ring fs ring in
         let absent : ¬ IsIn f fs = λ found. none-some which (sym free ∙ ring.placed f found) in
@@ -299,7 +314,9 @@ module _ (next prev next' prev' : ℕ → ℕ) where
               ];
         }
 
-    pub IsRing-front : (fs : List ℕ) (f : ℕ) → IsRing next prev place which head fs → head ≢ f → place f ≡ None → Inserts next prev next' prev' head f (next head) → place' f ≡ Some which → ((other : ℕ) → other ≢ f → place' other ≡ place other) → IsRing next' prev' place' which head (f ∷ fs)
+    pub IsRing-front : (fs : List ℕ) (f : ℕ) → IsRing next prev place which head fs → head ≢ f → place f ≡ None →
+        Inserts next prev next' prev' head f (next head) → place' f ≡ Some which → ((other : ℕ) → other ≢ f → place' other ≡ place other) →
+        IsRing next' prev' place' which head (f ∷ fs)
     IsRing-front fs f ring differs free splices joined others =
         let off : ¬ IsIn head fs = off_ring fs ring in
         let absent : ¬ IsIn f fs = λ found. none-some which (sym free ∙ ring.placed f found) in

@@ -18,18 +18,21 @@ use Rattle.av_lru.proofs.Whole.{found_in, is_apart, read, read_place, head_below
 abbrev pub Reads : List ℕ → ℕ → ℕ → Type 0
 Reads xs i x = x ≡ get_or xs i x
 
-module _ (links back : List ℕ) (places : List (Option Which)) (lens : Lengths) (whole : IsWhole links back places lens) (ls : Lists) (seen : lists_of links (length places) lens ≡ ls) where
+module _ (links back : List ℕ) (places : List (Option Which)) (lens : Lengths) (whole : IsWhole links back places lens) (ls : Lists)
+    (seen : lists_of links (length places) lens ≡ ls) where
   pub in_places : (f : ℕ) → f < ls.frames → f < length places
   in_places f h = subst (λ (v : Lists). f < v.frames) (sym seen) h
 
   -- ---- a frame joins
 
-  module _ (w : Which) (f n h : ℕ) (in_range : f < ls.frames) (not_active : is_in f ls.active ≡ false) (not_inactive : is_in f ls.inactive ≡ false) (count : n ≡ length places) (head : h ≡ head_of n w) where
+  module _ (w : Which) (f n h : ℕ) (in_range : f < ls.frames) (not_active : is_in f ls.active ≡ false) (not_inactive : is_in f ls.inactive ≡ false)
+      (count : n ≡ length places) (head : h ≡ head_of n w) where
     below : f < length places
     below = in_places f in_range
 
     free : place_of places f ≡ None
-    free = free_place links back places lens whole f (subst (λ (v : Lists). is_in f v.active ≡ false) (sym seen) not_active) (subst (λ (v : Lists). is_in f v.inactive ≡ false) (sym seen) not_inactive)
+    free = free_place links back places lens whole f (subst (λ (v : Lists). is_in f v.active ≡ false) (sym seen) not_active)
+        (subst (λ (v : Lists). is_in f v.inactive ≡ false) (sym seen) not_inactive)
 
     head_is : h ≡ head_of (length places) w
     head_is = head ∙ ap (λ m. head_of m w) count
@@ -48,7 +51,8 @@ module _ (links back : List ℕ) (places : List (Option Which)) (lens : Lengths)
       first_is = read links h first reads (let a = head_in in let b = whole.next in omega (arith, a, b)) ∙ ap (slice_index links) head_is
 
       pub first_in : first < length back
-      first_in = let a = on_below links back places lens whole w _ (first_on links back places lens whole w) in let b = whole.prev in let e = first_is in omega (arith, a, b, e)
+      first_in = let a = on_below links back places lens whole w _ (first_on links back places lens whole w) in let b = whole.prev in
+          let e = first_is in omega (arith, a, b, e)
 
       pub not_first : f ≢ first
       not_first same = off_ring links back places lens whole f below free w _ (first_on links back places lens whole w) (sym first_is ∙ sym same)
@@ -59,7 +63,8 @@ module _ (links back : List ℕ) (places : List (Option Which)) (lens : Lengths)
           → Shows links' back' (slice_set places f (Some w)) lens' (with_list w (f ∷ list_of w ls) ls)
       fronted links' back' lens' next prev splices lengths =
           subst (λ (v : Lists). Shows links' back' (slice_set places f (Some w)) lens' (with_list w (f ∷ list_of w v) v)) seen
-          (subst (λ (l : Lengths). Shows links' back' (slice_set places f (Some w)) l (with_list w (f ∷ list_of w (lists_of links (length places) lens)) (lists_of links (length places) lens))) (sym lengths)
+          (subst (λ (l : Lengths). Shows links' back' (slice_set places f (Some w)) l
+          (with_list w (f ∷ list_of w (lists_of links (length places) lens)) (lists_of links (length places) lens))) (sym lengths)
           (front links back places lens whole w f below free links' back' next prev
           (subst (λ m. Inserts (slice_index links) (slice_index back) (slice_index links') (slice_index back') (head_of (length places) w) f m) first_is
           (subst (λ m. Inserts (slice_index links) (slice_index back) (slice_index links') (slice_index back') m f first) head_is splices))))
@@ -69,7 +74,8 @@ module _ (links back : List ℕ) (places : List (Option Which)) (lens : Lengths)
       last_is = read back h last reads (let a = head_in in let b = whole.prev in omega (arith, a, b)) ∙ ap (slice_index back) head_is
 
       pub last_in : last < length links
-      last_in = let a = on_below links back places lens whole w _ (last_on links back places lens whole w) in let b = whole.next in let e = last_is in omega (arith, a, b, e)
+      last_in = let a = on_below links back places lens whole w _ (last_on links back places lens whole w) in let b = whole.next in
+          let e = last_is in omega (arith, a, b, e)
 
       pub not_last : f ≢ last
       not_last same = off_ring links back places lens whole f below free w _ (last_on links back places lens whole w) (sym last_is ∙ sym same)
@@ -80,7 +86,8 @@ module _ (links back : List ℕ) (places : List (Option Which)) (lens : Lengths)
           → Shows links' back' (slice_set places f (Some w)) lens' (with_list w (list_of w ls ++ f ∷ []) ls)
       pushed links' back' lens' next prev splices lengths =
           subst (λ (v : Lists). Shows links' back' (slice_set places f (Some w)) lens' (with_list w (list_of w v ++ f ∷ []) v)) seen
-          (subst (λ (l : Lengths). Shows links' back' (slice_set places f (Some w)) l (with_list w (list_of w (lists_of links (length places) lens) ++ f ∷ []) (lists_of links (length places) lens))) (sym lengths)
+          (subst (λ (l : Lengths). Shows links' back' (slice_set places f (Some w)) l
+          (with_list w (list_of w (lists_of links (length places) lens) ++ f ∷ []) (lists_of links (length places) lens))) (sym lengths)
           (push links back places lens whole w f below free links' back' next prev
           (subst (λ m. Inserts (slice_index links) (slice_index back) (slice_index links') (slice_index back') m f (head_of (length places) w)) last_is
           (subst (λ m. Inserts (slice_index links) (slice_index back) (slice_index links') (slice_index back') last f m) head_is splices))))
@@ -99,7 +106,8 @@ module _ (links back : List ℕ) (places : List (Option Which)) (lens : Lengths)
       was = at_is ∙ is
 
       pub before_in : slice_index back f < length links
-      before_in = let a = on_below links back places lens whole w _ (before_on links back places lens whole w f was) in let b = whole.next in omega (arith, a, b)
+      before_in = let a = on_below links back places lens whole w _ (before_on links back places lens whole w f was) in
+          let b = whole.next in omega (arith, a, b)
 
       pub after_in : slice_index links f < length back
       after_in = let a = on_below links back places lens whole w _ (after_on links back places lens whole w f was) in let b = whole.prev in omega (arith, a, b)
@@ -129,24 +137,31 @@ module _ (links back : List ℕ) (places : List (Option Which)) (lens : Lengths)
       by (inl a) = placed_below links back places lens f Active ((ring links back places lens whole Active).placed f (in_found f _ a))
       by (inr b) = placed_below links back places lens f Inactive ((ring links back places lens whole Inactive).placed f (in_found f _ b))
 
-  pub tail_is : (w : Which) (n h last : ℕ) (found : Option ℕ) → n ≡ length places → h ≡ head_of n w → Reads back h last → found ≡ frame_at n last → found ≡ last_of None (list_of w ls)
+  pub tail_is : (w : Which) (n h last : ℕ) (found : Option ℕ) → n ≡ length places → h ≡ head_of n w → Reads back h last → found ≡ frame_at n last →
+      found ≡ last_of None (list_of w ls)
   tail_is w n h last found count head reads is =
       let head_is : h ≡ head_of (length places) w = head ∙ ap (λ m. head_of m w) count in
-      let inside : h < length back = let a = subst (λ m. m < length places + 2) (sym head_is) (head_below (length places) w) in let b = whole.prev in omega (arith, a, b) in
+      let inside : h < length back = let a = subst (λ m. m < length places + 2) (sym head_is) (head_below (length places) w) in
+      let b = whole.prev in omega (arith, a, b) in
       let last_is : last ≡ slice_index back (head_of (length places) w) = read back h last reads inside ∙ ap (slice_index back) head_is in
       is ∙ ap (λ m. frame_at m last) count ∙ ap (frame_at (length places)) last_is
       ∙ subst (λ (v : Lists). frame_at (length places) (slice_index back (head_of (length places) w)) ≡ last_of None (list_of w v)) seen
       (last_path (slice_index links) (slice_index back) (length places) _ _ _ None (ring links back places lens whole w).linked
-      (λ f there. placed_below links back places lens f w ((ring links back places lens whole w).placed f there)) (frame_past (length places) _ (head_past (length places) w)))
+      (λ f there. placed_below links back places lens f w ((ring links back places lens whole w).placed f there))
+      (frame_past (length places) _ (head_past (length places) w)))
 
-  pub before_is : (w : Which) (f n at : ℕ) (found : Option ℕ) → n ≡ length places → Reads back f at → found ≡ frame_at n at → is_in f (list_of w ls) ≡ true → found ≡ frame_before None f (list_of w ls)
+  pub before_is : (w : Which) (f n at : ℕ) (found : Option ℕ) → n ≡ length places → Reads back f at → found ≡ frame_at n at → is_in f (list_of w ls) ≡ true →
+      found ≡ frame_before None f (list_of w ls)
   before_is w f n at found count reads is inside =
-      let there : IsIn f (list_of w (lists_of links (length places) lens)) = in_found f _ (subst (λ (v : Lists). is_in f (list_of w v) ≡ true) (sym seen) inside) in
-      let small : f < length back = let a = placed_below links back places lens f w ((ring links back places lens whole w).placed f there) in let b = whole.prev in omega (arith, a, b) in
+      let there : IsIn f (list_of w (lists_of links (length places) lens)) =
+      in_found f _ (subst (λ (v : Lists). is_in f (list_of w v) ≡ true) (sym seen) inside) in
+      let small : f < length back = let a = placed_below links back places lens f w ((ring links back places lens whole w).placed f there) in
+      let b = whole.prev in omega (arith, a, b) in
       is ∙ ap (λ m. frame_at m at) count ∙ ap (frame_at (length places)) (read back f at reads small)
       ∙ subst (λ (v : Lists). frame_at (length places) (slice_index back f) ≡ frame_before None f (list_of w v)) seen
       (prev_path (slice_index links) (slice_index back) (length places) _ _ _ None f (ring links back places lens whole w).linked
-      (λ g inside'. placed_below links back places lens g w ((ring links back places lens whole w).placed g inside')) (frame_past (length places) _ (head_past (length places) w)) there)
+      (λ g inside'. placed_below links back places lens g w ((ring links back places lens whole w).placed g inside'))
+      (frame_past (length places) _ (head_past (length places) w)) there)
 
   pub within_frames : (w : Which) → len_of w lens ≤ ls.frames
   within_frames w = subst (λ (v : Lists). len_of w lens ≤ v.frames) seen (by w)
@@ -181,7 +196,8 @@ module _ (links back : List ℕ) (places : List (Option Which)) (lens : Lengths)
     place_is o in_range reads = subst (λ (v : Lists). o ≡ place_in f v) seen (by o (read_place places f o reads (in_places f in_range)))
       where
         by : (o : Option Which) → place_of places f ≡ o → o ≡ place_in f (lists_of links (length places) lens)
-        by None e = sym (cond-false _ _ _ (outside Active (λ h. none-some Active (sym e ∙ h))) ∙ cond-false _ _ _ (outside Inactive (λ h. none-some Inactive (sym e ∙ h))))
+        by None e = sym (cond-false _ _ _ (outside Active (λ h. none-some Active (sym e ∙ h)))
+            ∙ cond-false _ _ _ (outside Inactive (λ h. none-some Inactive (sym e ∙ h))))
         by (Some Active) e = sym (cond-true _ _ _ (inside Active e))
         by (Some Inactive) e = sym (cond-false _ _ _ (outside Active (λ h. differ (sym h ∙ e))) ∙ cond-true _ _ _ (inside Inactive e))
           where
@@ -189,7 +205,8 @@ module _ (links back : List ℕ) (places : List (Option Which)) (lens : Lengths)
             differ e = cc
 
   -- the way back from a list's head
-  module _ (w : Which) (n h count k steps : ℕ) (size : n ≡ length places) (head : h ≡ head_of n w) (len : k ≡ length (list_of w ls)) (is : steps ≡ min count k) where
+  module _ (w : Which) (n h count k steps : ℕ) (size : n ≡ length places) (head : h ≡ head_of n w) (len : k ≡ length (list_of w ls))
+      (is : steps ≡ min count k) where
     head_at : h ≡ head_of (length places) w
     head_at = head ∙ ap (λ m. head_of m w) size
 
@@ -213,7 +230,8 @@ module _ (links back : List ℕ) (places : List (Option Which)) (lens : Lengths)
     pub tails_are : walk (slice_index back) steps h ≡ take count (reverse (list_of w ls))
     tails_are = subst (λ (v : Lists). walk (slice_index back) steps h ≡ take count (reverse (list_of w v))) seen
         (ap (walk (slice_index back) steps) head_at
-        ∙ tails_path (slice_index links) (slice_index back) _ (list_of w (lists_of links (length places) lens)) _ count steps (ring links back places lens whole w).linked (is ∙ ap (min count) len_at))
+        ∙ tails_path (slice_index links) (slice_index back) _ (list_of w (lists_of links (length places) lens)) _ count steps
+        (ring links back places lens whole w).linked (is ∙ ap (min count) len_at))
 
 -- a frame is not among the others
 pub gone : (f : ℕ) (fs : List ℕ) → is_in f (without f fs) ≡ false
@@ -239,9 +257,15 @@ empty links back places n few next prev is =
     none_at (suc m) zero = refl
     none_at (suc m) (suc f) = none_at m f
 
-    rings : (v : Which) → IsRing (slice_index links) (slice_index back) (place_of (replicate n None)) v (head_of n v) (list_of v (record { frames = n; active = []; inactive = [] }))
+    rings : (v : Which) → IsRing (slice_index links) (slice_index back) (place_of (replicate n None)) v (head_of n v)
+        (list_of v (record { frames = n; active = []; inactive = [] }))
     rings Active = record { linked = (next.1, prev.1); apart = tt; placed = λ f there. absurd there; listed = λ f h. none-some Active (sym (none_at n f) ∙ h) }
-    rings Inactive = record { linked = (next.2, prev.2); apart = tt; placed = λ f there. absurd there; listed = λ f h. none-some Inactive (sym (none_at n f) ∙ h) }
+    rings Inactive = record {
+      linked = (next.2, prev.2);
+      apart = tt;
+      placed = λ f there. absurd there;
+      listed = λ f h. none-some Inactive (sym (none_at n f) ∙ h);
+    }
 
     lengths : (v : Which) → length (list_of v (record { frames = n; active = []; inactive = [] })) ≡ len_of v (record { active = 0; inactive = 0 })
     lengths Active = refl

@@ -15,7 +15,8 @@ walk-suc next (suc n) from =
     ap (λ xs. next from ∷ xs) (walk-suc next n (next from) ∙ ap (λ x. walk next n (next from) ++ x ∷ []) (after_next next (suc n) from))
 
 -- one step more
-pub grown : (old now new : List ℕ) (next : ℕ → ℕ) (n m from at x : ℕ) → m ≡ n + 1 → now ≡ old ++ walk next n from → at ≡ after_links next n from → x ≡ next at → new ≡ now ++ x ∷ [] → new ≡ old ++ walk next m from
+pub grown : (old now new : List ℕ) (next : ℕ → ℕ) (n m from at x : ℕ) → m ≡ n + 1 → now ≡ old ++ walk next n from → at ≡ after_links next n from → x ≡ next at →
+    new ≡ now ++ x ∷ [] → new ≡ old ++ walk next m from
 grown old now new next n m from at x more so_far here is pushed =
     pushed ∙ ap (λ xs. xs ++ x ∷ []) so_far ∙ append_assoc old (walk next n from) (x ∷ [])
     ∙ ap (λ y. old ++ (walk next n from ++ y ∷ [])) (is ∙ ap next here)
@@ -52,7 +53,8 @@ module _ (next prev : ℕ → ℕ) where
       ]
 
   -- the last frames, from the end on
-  pub tails_path : (from : ℕ) (fs : List ℕ) (to count steps : ℕ) → IsPath next prev from fs to → steps ≡ min count (length fs) → walk prev steps to ≡ take count (reverse fs)
+  pub tails_path : (from : ℕ) (fs : List ℕ) (to count steps : ℕ) → IsPath next prev from fs to → steps ≡ min count (length fs) →
+      walk prev steps to ≡ take count (reverse fs)
   tails_path from fs to count steps path is =
       elim (cases_lt count (length fs)) [
         | inl fewer ↦
@@ -62,5 +64,6 @@ module _ (next prev : ℕ → ℕ) where
         | inr all ↦
             ap (λ k. walk prev k to) (let e : steps ≡ length fs = omega (arith, is, all) in e)
             ∙ back_path from fs to path
-            ∙ sym (take_all count (reverse fs) (subst (λ m. m ≤ count) (sym (ap length (sym (back_path from fs to path)) ∙ length-walk prev (length fs) to)) all))
+            ∙ sym (take_all count (reverse fs) (subst (λ m. m ≤ count) (sym (ap length (sym (back_path from fs to path)) ∙ length-walk prev (length fs) to))
+            all))
       ]

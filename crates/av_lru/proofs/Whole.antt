@@ -110,9 +110,11 @@ pub record Shows (links back : List ℕ) (places : List (Option Which)) (lens : 
   pub whole : IsWhole links back places lens
   pub seen : lists_of links (length places) lens ≡ ls
 
-frames_of_ring : (links back : List ℕ) (n head : ℕ) (fs : List ℕ) → IsPath (slice_index links) (slice_index back) head fs head → length fs ≡ n → frames_of links n head ≡ fs
+frames_of_ring : (links back : List ℕ) (n head : ℕ) (fs : List ℕ) → IsPath (slice_index links) (slice_index back) head fs head →
+    length fs ≡ n → frames_of links n head ≡ fs
 unfolding frames_of
-frames_of_ring links back n head fs path len = ap (λ k. walk (slice_index links) k head) (sym len) ∙ walk_path (slice_index links) (slice_index back) head fs head path
+frames_of_ring links back n head fs path len = ap (λ k. walk (slice_index links) k head) (sym len) ∙ walk_path (slice_index links)
+    (slice_index back) head fs head path
 
 pub length-frames_of : (links : List ℕ) (n head : ℕ) → length (frames_of links n head) ≡ n
 unfolding frames_of
@@ -131,7 +133,8 @@ shows links back places lens ls n size frames few next prev total rings lengths 
     next = next ∙ ap (λ m. m + 2) (sym size);
     prev = prev ∙ ap (λ m. m + 2) (sym size);
     total = total ∙ sym size;
-    rings = λ v. subst (λ m. IsRing (slice_index links) (slice_index back) (place_of places) v (head_of m v) (frames_of links (len_of v lens) (head_of m v))) (sym size)
+    rings = λ v. subst (λ m. IsRing (slice_index links) (slice_index back) (place_of places) v (head_of m v) (frames_of links (len_of v lens) (head_of m v)))
+        (sym size)
         (subst (IsRing (slice_index links) (slice_index back) (place_of places) v (head_of n v)) (sym (is v)) (rings v));
   };
   seen = λ k. record {
@@ -183,7 +186,8 @@ module _ (links back : List ℕ) (places : List (Option Which)) (lens : Lengths)
           | inr there ↦ let less = placed_below at v ((ring v).placed at there) in omega (arith, less)
         ]
 
-    apart : (v w : Which) → v ≢ w → (at on : ℕ) → IsOn (head_of (length places) v) (list_of v seen_lists) at → IsOn (head_of (length places) w) (list_of w seen_lists) on → at ≢ on
+    apart : (v w : Which) → v ≢ w → (at on : ℕ) → IsOn (head_of (length places) v) (list_of v seen_lists) at →
+        IsOn (head_of (length places) w) (list_of w seen_lists) on → at ≢ on
     apart v w ne at on first second same =
         elim first [
           | inl here ↦
@@ -199,7 +203,8 @@ module _ (links back : List ℕ) (places : List (Option Which)) (lens : Lengths)
         ]
 
     -- a frame that is off both lists is on no ring
-    pub off_ring : (f : ℕ) → f < length places → place_of places f ≡ None → (v : Which) (at : ℕ) → IsOn (head_of (length places) v) (list_of v seen_lists) at → at ≢ f
+    pub off_ring : (f : ℕ) → f < length places → place_of places f ≡ None → (v : Which) (at : ℕ) →
+        IsOn (head_of (length places) v) (list_of v seen_lists) at → at ≢ f
     off_ring f below free v at on same =
         elim on [
           | inl here ↦ let past = head_past (length places) v in omega (arith, past, here, same)
@@ -236,7 +241,8 @@ module _ (links back : List ℕ) (places : List (Option Which)) (lens : Lengths)
           by Active = let a = count_join in let b = whole.total in let d = whole.few in omega (arith, a, b, d)
           by Inactive = let a = count_join in let b = whole.total in let d = whole.few in omega (arith, a, b, d)
 
-      total_join : (v : Which) (k : ℕ) → k + 1 ≡ count_by is_off places → (with_len v (len_of v lens + 1) lens).active + (with_len v (len_of v lens + 1) lens).inactive + k ≡ length places
+      total_join : (v : Which) (k : ℕ) → k + 1 ≡ count_by is_off places →
+          (with_len v (len_of v lens + 1) lens).active + (with_len v (len_of v lens + 1) lens).inactive + k ≡ length places
       total_join Active k h = let b = whole.total in omega (arith, b, h)
       total_join Inactive k h = let b = whole.total in omega (arith, b, h)
 
@@ -258,10 +264,14 @@ module _ (links back : List ℕ) (places : List (Option Which)) (lens : Lengths)
             (length-set places f (Some w)) (frames_same w fs seen_lists) whole.few (next ∙ whole.next) (prev ∙ whole.prev)
             (total_join w _ count_join)
             (λ v. elim (same_or v w) [
-              | inl same ↦ subst (λ u. IsRing (slice_index links') (slice_index back') (place_of (slice_set places f (Some w))) u (head_of (length places) u) (list_of u (with_list w fs seen_lists))) (sym same)
-                  (subst (IsRing (slice_index links') (slice_index back') (place_of (slice_set places f (Some w))) w (head_of (length places) w)) (sym (list_same w fs seen_lists)) changed)
-              | inr ne ↦ subst (IsRing (slice_index links') (slice_index back') (place_of (slice_set places f (Some w))) v (head_of (length places) v)) (sym (list_other v w fs seen_lists ne))
-                  (IsRing-kept (slice_index links) (slice_index back) (slice_index links') (slice_index back') (place_of places) (place_of (slice_set places f (Some w))) v (head_of (length places) v) (heads_none v) (list_of v seen_lists) (ring v)
+              | inl same ↦ subst (λ u. IsRing (slice_index links') (slice_index back') (place_of (slice_set places f (Some w))) u (head_of (length places) u)
+                  (list_of u (with_list w fs seen_lists))) (sym same)
+                  (subst (IsRing (slice_index links') (slice_index back') (place_of (slice_set places f (Some w))) w (head_of (length places) w))
+                  (sym (list_same w fs seen_lists)) changed)
+              | inr ne ↦ subst (IsRing (slice_index links') (slice_index back') (place_of (slice_set places f (Some w))) v (head_of (length places) v))
+                  (sym (list_other v w fs seen_lists ne))
+                  (IsRing-kept (slice_index links) (slice_index back) (slice_index links') (slice_index back') (place_of places)
+                  (place_of (slice_set places f (Some w))) v (head_of (length places) v) (heads_none v) (list_of v seen_lists) (ring v)
                   (λ at on. splices.nexts at (apart v w ne at before on before_on) (off_ring f below free v at on))
                   (λ at on. splices.prevs at (apart v w ne at after on after_on) (off_ring f below free v at on))
                   (λ g was. place_other g (λ same. none-some v (sym free ∙ ap (place_of places) (sym same) ∙ was)) ∙ was)
@@ -276,17 +286,21 @@ module _ (links back : List ℕ) (places : List (Option Which)) (lens : Lengths)
               | inr ne ↦ ap length (list_other v w fs seen_lists ne) ∙ length-listed v ∙ sym (len_other v w _ lens ne)
             ])
 
-        pub front : Inserts (slice_index links) (slice_index back) (slice_index links') (slice_index back') (head_of (length places) w) f (slice_index links (head_of (length places) w))
+        pub front : Inserts (slice_index links) (slice_index back) (slice_index links') (slice_index back') (head_of (length places) w) f
+            (slice_index links (head_of (length places) w))
             → Shows links' back' (slice_set places f (Some w)) (with_len w (len_of w lens + 1) lens) (with_list w (f ∷ list_of w seen_lists) seen_lists)
         front splices = joins _ _ _ splices (inl refl) (first_on w)
-            (IsRing-front (slice_index links) (slice_index back) (slice_index links') (slice_index back') (place_of places) (place_of (slice_set places f (Some w))) w (head_of (length places) w) (heads_none w) (list_of w seen_lists) f (ring w)
+            (IsRing-front (slice_index links) (slice_index back) (slice_index links') (slice_index back') (place_of places)
+            (place_of (slice_set places f (Some w))) w (head_of (length places) w) (heads_none w) (list_of w seen_lists) f (ring w)
             (off_ring f below free w _ (inl refl)) free splices place_here place_other)
             (let len = length-listed w in omega (arith, len))
 
-        pub push : Inserts (slice_index links) (slice_index back) (slice_index links') (slice_index back') (slice_index back (head_of (length places) w)) f (head_of (length places) w)
+        pub push : Inserts (slice_index links) (slice_index back) (slice_index links') (slice_index back') (slice_index back (head_of (length places) w)) f
+            (head_of (length places) w)
             → Shows links' back' (slice_set places f (Some w)) (with_len w (len_of w lens + 1) lens) (with_list w (list_of w seen_lists ++ f ∷ []) seen_lists)
         push splices = joins _ _ _ splices (last_on w) (inl refl)
-            (IsRing-push (slice_index links) (slice_index back) (slice_index links') (slice_index back') (place_of places) (place_of (slice_set places f (Some w))) w (head_of (length places) w) (heads_none w) (list_of w seen_lists) f (ring w)
+            (IsRing-push (slice_index links) (slice_index back) (slice_index links') (slice_index back') (place_of places)
+            (place_of (slice_set places f (Some w))) w (head_of (length places) w) (heads_none w) (list_of w seen_lists) f (ring w)
             (off_ring f below free w _ (inl refl)) free splices place_here place_other)
             (let len = length-listed w in omega (arith, len, length-append (list_of w seen_lists) (f ∷ [])))
 
@@ -320,7 +334,8 @@ module _ (links back : List ℕ) (places : List (Option Which)) (lens : Lengths)
           let h2 = subst (λ o. count_by is_off (slice_set places f None) + cond (is_off o) 1 0 ≡ count_by is_off places + 1) was h in
           omega (arith, h2)
 
-      total_leave : (v : Which) (k : ℕ) → 0 < len_of v lens → k ≡ count_by is_off places + 1 → (with_len v (len_of v lens - 1) lens).active + (with_len v (len_of v lens - 1) lens).inactive + k ≡ length places
+      total_leave : (v : Which) (k : ℕ) → 0 < len_of v lens → k ≡ count_by is_off places + 1 →
+          (with_len v (len_of v lens - 1) lens).active + (with_len v (len_of v lens - 1) lens).inactive + k ≡ length places
       total_leave Active k some h = let b = whole.total in omega (arith, b, h, some)
       total_leave Inactive k some h = let b = whole.total in omega (arith, b, h, some)
 
@@ -338,12 +353,18 @@ module _ (links back : List ℕ) (places : List (Option Which)) (lens : Lengths)
           shows links' back' (slice_set places f None) (with_len w (len_of w lens - 1) lens) (without_frame f seen_lists) (length places)
           (length-set places f None) refl whole.few (next ∙ whole.next) (prev ∙ whole.prev)
           (total_leave w _ some count_leave)
-          (λ v. subst (IsRing (slice_index links') (slice_index back') (place_of (slice_set places f None)) v (head_of (length places) v)) (sym (list_taken v f seen_lists))
+          (λ v. subst (IsRing (slice_index links') (slice_index back') (place_of (slice_set places f None)) v (head_of (length places) v))
+          (sym (list_taken v f seen_lists))
           (elim (same_or v w) [
-            | inl same ↦ subst (λ u. IsRing (slice_index links') (slice_index back') (place_of (slice_set places f None)) u (head_of (length places) u) (without f (list_of u seen_lists))) (sym same)
-                (IsRing-skip (slice_index links) (slice_index back) (slice_index links') (slice_index back') (place_of places) (place_of (slice_set places f None)) w (head_of (length places) w) (heads_none w) (list_of w seen_lists) f (ring w) was nexts prevs place_none place_rest)
-            | inr ne ↦ subst (IsRing (slice_index links') (slice_index back') (place_of (slice_set places f None)) v (head_of (length places) v)) (sym (without_absent f (list_of v seen_lists) (absent v ne)))
-                (IsRing-kept (slice_index links) (slice_index back) (slice_index links') (slice_index back') (place_of places) (place_of (slice_set places f None)) v (head_of (length places) v) (heads_none v) (list_of v seen_lists) (ring v)
+            | inl same ↦ subst (λ u. IsRing (slice_index links') (slice_index back') (place_of (slice_set places f None)) u (head_of (length places) u)
+                (without f (list_of u seen_lists))) (sym same)
+                (IsRing-skip (slice_index links) (slice_index back) (slice_index links') (slice_index back') (place_of places)
+                (place_of (slice_set places f None)) w (head_of (length places) w) (heads_none w) (list_of w seen_lists) f
+                (ring w) was nexts prevs place_none place_rest)
+            | inr ne ↦ subst (IsRing (slice_index links') (slice_index back') (place_of (slice_set places f None)) v (head_of (length places) v))
+                (sym (without_absent f (list_of v seen_lists) (absent v ne)))
+                (IsRing-kept (slice_index links) (slice_index back) (slice_index links') (slice_index back') (place_of places)
+                (place_of (slice_set places f None)) v (head_of (length places) v) (heads_none v) (list_of v seen_lists) (ring v)
                 (λ at on. nexts.others at (apart v w ne at _ on before_on))
                 (λ at on. prevs.others at (apart v w ne at _ on after_on))
                 (λ g is. place_rest g (λ same. ne (same_Some v w (sym is ∙ ap (place_of places) same ∙ was))) ∙ is)
@@ -355,7 +376,8 @@ module _ (links back : List ℕ) (places : List (Option Which)) (lens : Lengths)
           (λ v. elim (same_or v w) [
             | inl same ↦ subst (λ u. length (list_of u (without_frame f seen_lists)) ≡ len_of u (with_len w (len_of w lens - 1) lens)) (sym same)
                 (ap length (list_taken w f seen_lists) ∙ one_less _ _ shorter ∙ sym (len_same w _ lens))
-            | inr ne ↦ ap length (list_taken v f seen_lists) ∙ ap length (without_absent f (list_of v seen_lists) (absent v ne)) ∙ length-listed v ∙ sym (len_other v w _ lens ne)
+            | inr ne ↦ ap length (list_taken v f seen_lists) ∙ ap length (without_absent f (list_of v seen_lists) (absent v ne)) ∙ length-listed v
+                ∙ sym (len_other v w _ lens ne)
           ])
         where
           one_less : (a b : ℕ) → a + 1 ≡ b → a ≡ b - 1

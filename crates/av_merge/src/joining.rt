@@ -1,9 +1,9 @@
 //! Joining: two areas become one where the second goes on in the way of the first.
 
-ghost use Rattle.std.specs.Prelude.{◌≡◌, ℕ, ◌-◌, ◌^◌, ◌<◌, ◌≤◌, Some, None, IsSome, IfSome, OnOk, true};
+ghost use Rattle.std.specs.Prelude.{◌≡◌, ℕ, ◌-◌, ◌^◌, ◌<◌, ◌≤◌, Some, None, OnOk, true};
 ghost use Rattle.av_vma.specs.Join.{first_of, index_of, past_of};
 ghost use Rattle.av_vma.specs.Areas.{area_of};
-ghost use Rattle.av_vmatree.specs.Spans.{area_at, span_of};
+ghost use Rattle.av_vmatree.specs.Spans.{area_at};
 ghost use Rattle.av_vma.specs.Pages.{joined_around, joined_at, do_join, join_of, no_chains};
 ghost use Rattle.av_merge.specs.Mapping.{ArePlainlyOne, DoDiffer};
 ghost use Rattle.av_merge.specs.Pages.{pages_by};
@@ -13,30 +13,9 @@ ghost use Rattle.av_merge.specs.Process.{AreAreasOf, Stays, AreOfOne, StayOfOne,
 use crate::linking::{chain_len, share, take};
 use crate::placing::replace;
 use av_anon::Anons;
-use av_base::PAGE_SIZE;
 use av_vma::{Area, AreaId, Areas, mergeable};
 use av_vmatree::Tree;
 use std::alloc::AllocError;
-
-/// Joins an area with the one before, then with the one after, each where the two are mergeable.
-pub fn join_around(
-    areas: &mut Areas,
-    tree: &mut Tree,
-    anons: &mut Anons,
-    area: AreaId,
-) -> Result<(), AllocError>
-    requires order { AreInOrder areas.old anons.old }
-    requires stands { AreOfOne areas.old tree.old }
-    requires there { IsSome (span_of tree.old area) }
-    ensures stands { StayOfOne areas.old tree.old areas.new tree.new }
-    ensures kin { OnOk result (StayKin areas.old anons.old areas.new anons.new) }
-    ensures pages { OnOk result (IfSome (span_of tree.old area)
-        (λ s. Becomes areas.old tree.old areas.new tree.new
-        (joined_around (lengths areas.old anons.old) s.from s.to))) }
-{
-    let Area { start, end, .. } = areas.get(area);
-    join_ends(areas, tree, anons, start / PAGE_SIZE, end / PAGE_SIZE)
-}
 
 /// Tries the boundaries before the pages `from` and `past`.
 pub fn join_ends(

@@ -39,7 +39,6 @@ mod preparing;
 pub use changing::{Change, map, modify};
 pub use cutting::{clear, cut, split};
 pub use forking::fork;
-pub use joining::join_around;
 pub use laws::{
     areas_are_laid, cuts_keep_mappings, joins_keep_mappings, parts_are_changed_page_by_page,
 };

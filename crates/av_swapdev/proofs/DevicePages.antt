@@ -27,7 +27,8 @@ same_at k f = λ i q. split q (eqb q k) refl i
     split q false e = refl
 
 -- an area that is attached and has the page is one of the list, and has it there
-pub is_there : (attached : List Bool) (areas : List (Vec (List ℕ) Global)) (area page : ℕ) → HasPage (sizes_in attached areas) area page → page < length (area_in areas area)
+pub is_there : (attached : List Bool) (areas : List (Vec (List ℕ) Global)) (area page : ℕ) → HasPage (sizes_in attached areas) area page →
+    page < length (area_in areas area)
 is_there attached areas area page has = split (get_or attached area false) has
   where
     split : (b : Bool) → HasPage (λ a. cond b (Some (size_in areas area)) None) area page → page < length (area_in areas area)
@@ -37,7 +38,8 @@ is_there attached areas area page has = split (get_or attached area false) has
 pub is_listed : (areas : List (Vec (List ℕ) Global)) (area page : ℕ) → page < length (area_in areas area) → area < length areas
 is_listed areas area page h = grind (arith, common_steps)
 
-module _ (areas : List (Vec (List ℕ) Global)) (area page : ℕ) (pages : Vec (List ℕ) Global) (bytes : List ℕ) (listed : area < length areas) (is : pages ≡ get_or areas area pages) where
+module _ (areas : List (Vec (List ℕ) Global)) (area page : ℕ) (pages : Vec (List ℕ) Global) (bytes : List ℕ) (listed : area < length areas)
+    (is : pages ≡ get_or areas area pages) where
   own : pages.items ≡ area_in areas area
   own = ap (λ (v : Vec (List ℕ) Global). v.items) is ∙ sym (get_or-map (λ (v : Vec (List ℕ) Global). v.items) areas area pages [] listed)
 
@@ -49,17 +51,20 @@ module _ (areas : List (Vec (List ℕ) Global)) (area page : ℕ) (pages : Vec (
   pub pages_written : page < length (area_in areas area) → pages_in (set areas area (with_item pages page bytes)) ≡ with_page area page bytes (pages_in areas)
   pages_written within = λ i a p. (ap (λ (l : List (List ℕ)). get_or l p []) (area_written a) ∙ split a p (eqb a area)) i
     where
-      split : (a p : ℕ) (b : Bool) → get_or (cond b (set pages.items page bytes) (area_in areas a)) p [] ≡ cond b (with_at page bytes (pages_in areas area)) (pages_in areas a) p
+      split : (a p : ℕ) (b : Bool) → get_or (cond b (set pages.items page bytes) (area_in areas a)) p [] ≡ cond b
+          (with_at page bytes (pages_in areas area)) (pages_in areas a) p
       split a p true =
           get_set pages.items page p bytes [] (let long : length pages.items ≡ length (area_in areas area) = ap length own in omega arith)
           ∙ ap (λ (l : List (List ℕ)). cond (eqb p page) bytes (get_or l p [])) own
       split a p false = refl
 
   pub sizes_written : (attached : List Bool) → sizes_in attached (set areas area (with_item pages page bytes)) ≡ sizes_in attached areas
-  sizes_written attached = λ i a. ap (λ (n : ℕ). cond (get_or attached a false) (Some (min n most_pages)) None) (ap length (area_written a) ∙ split a (eqb a area) refl) i
+  sizes_written attached = λ i a. ap (λ (n : ℕ). cond (get_or attached a false) (Some (min n most_pages)) None)
+      (ap length (area_written a) ∙ split a (eqb a area) refl) i
     where
       split : (a : ℕ) (b : Bool) → eqb a area ≡ b → length (cond b (set pages.items page bytes) (area_in areas a)) ≡ length (area_in areas a)
-      split a true e = let here : area ≡ a = grind (arith, nat_tests) in length-set pages.items page bytes ∙ ap length own ∙ ap (λ (k : ℕ). length (area_in areas k)) here
+      split a true e = let here : area ≡ a = grind (arith, nat_tests) in
+          length-set pages.items page bytes ∙ ap length own ∙ ap (λ (k : ℕ). length (area_in areas k)) here
       split a false e = refl
 
   same_number : (n : ℕ) → eqb n n ≡ true
@@ -72,7 +77,8 @@ module _ (areas : List (Vec (List ℕ) Global)) (area page : ℕ) (pages : Vec (
       ∙ ap (λ b. cond b (with_at page bytes (pages_in areas area)) (pages_in areas area) page) (same_number area)
       ∙ ap (λ b. cond b bytes (pages_in areas area page)) (same_number page)
 
-  pub page_inverted : (old : List ℕ) → old ≡ get_or pages.items page old → page < length (area_in areas area) → IsInverted old bytes → IsInverted (pages_in areas area page) (pages_in (set areas area (with_item pages page bytes)) area page)
+  pub page_inverted : (old : List ℕ) → old ≡ get_or pages.items page old → page < length (area_in areas area) → IsInverted old bytes →
+      IsInverted (pages_in areas area page) (pages_in (set areas area (with_item pages page bytes)) area page)
   page_inverted old is_old within inverted = λ k below.
       ap (λ (new : List ℕ). slice_index new k) (page_written within) ∙ inverted k below
       ∙ ap (λ (l : List ℕ). 255 - slice_index l k) (is_old ∙ get_or_default pages.items page old [] long ∙ ap (λ (l : List (List ℕ)). get_or l page []) own)

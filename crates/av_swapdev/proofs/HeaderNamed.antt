@@ -12,7 +12,8 @@ use Rattle.av_swapdev.specs.Header.{is_out}
 pub range_next : (i n : ℕ) → i < n → range_with_len i (n - i) ≡ i ∷ range_with_len (i + 1) (n - (i + 1))
 range_next i n h = let more : n - i ≡ suc (n - (i + 1)) = omega arith in ap (range_with_len i) more
 
-pub any_next : (p : ℕ → Bool) (f : ℕ → ℕ) (i n : ℕ) → i < n → list_any p (map f (range_with_len i (n - i))) ≡ (p (f i) || list_any p (map f (range_with_len (i + 1) (n - (i + 1)))))
+pub any_next : (p : ℕ → Bool) (f : ℕ → ℕ) (i n : ℕ) → i < n → list_any p (map f (range_with_len i (n - i)))
+    ≡ (p (f i) || list_any p (map f (range_with_len (i + 1) (n - (i + 1)))))
 any_next p f i n h = ap (λ (r : List ℕ). list_any p (map f r)) (range_next i n h)
 
 pub any_done : (p : ℕ → Bool) (f : ℕ → ℕ) (i n : ℕ) → n ≤ i → list_any p (map f (range_with_len i (n - i))) ≡ false
@@ -29,7 +30,8 @@ abbrev pub distinct_of : ℕ → List ℕ → List ℕ
 distinct_of pages named = unique_keys eqb (filter (within 1 (pages - 1)) named)
 
 -- one more that is named: it counts if it is behind the header, and isn't named again
-pub bad_next : (pages b : ℕ) (ns : List ℕ) → length (distinct_of pages (b ∷ ns)) ≡ cond (within 1 (pages - 1) b && not (is_in b ns)) 1 0 + length (distinct_of pages ns)
+pub bad_next : (pages b : ℕ) (ns : List ℕ) → length (distinct_of pages (b ∷ ns)) ≡ cond (within 1 (pages - 1) b && not (is_in b ns))
+    1 0 + length (distinct_of pages ns)
 bad_next pages b ns = split (within 1 (pages - 1) b) refl
   where
     kept : List ℕ
@@ -39,8 +41,10 @@ bad_next pages b ns = split (within 1 (pages - 1) b) refl
     counted true = omega arith
     counted false = omega arith
 
-    split : (behind : Bool) → within 1 (pages - 1) b ≡ behind → length (unique_keys eqb (cond behind (b ∷ kept) kept)) ≡ cond (behind && not (is_in b ns)) 1 0 + length (unique_keys eqb kept)
-    split true e = counted (is_in b kept) ∙ ap (λ t. cond (not t) 1 0 + length (unique_keys eqb kept)) (in_filter (within 1 (pages - 1)) b ns ∙ ap (λ t. is_in b ns && t) e ∙ and_true (is_in b ns))
+    split : (behind : Bool) → within 1 (pages - 1) b ≡ behind → length (unique_keys eqb (cond behind (b ∷ kept) kept)) ≡ cond (behind && not (is_in b ns))
+        1 0 + length (unique_keys eqb kept)
+    split true e = counted (is_in b kept) ∙ ap (λ t. cond (not t) 1 0 + length (unique_keys eqb kept))
+        (in_filter (within 1 (pages - 1)) b ns ∙ ap (λ t. is_in b ns && t) e ∙ and_true (is_in b ns))
       where
         and_true : (t : Bool) → (t && true) ≡ t
         and_true true = refl
@@ -48,7 +52,8 @@ bad_next pages b ns = split (within 1 (pages - 1) b) refl
     split false e = omega arith
 
 -- a loop has passed a number, and the test did not hold of it
-pub any_passed : (p : ℕ → Bool) (f : ℕ → ℕ) (i n : ℕ) (whole : Bool) → i < n → p (f i) ≡ false → list_any p (map f (range_with_len i (n - i))) ≡ whole → list_any p (map f (range_with_len (i + 1) (n - (i + 1)))) ≡ whole
+pub any_passed : (p : ℕ → Bool) (f : ℕ → ℕ) (i n : ℕ) (whole : Bool) → i < n → p (f i) ≡ false → list_any p (map f (range_with_len i (n - i))) ≡ whole →
+    list_any p (map f (range_with_len (i + 1) (n - (i + 1)))) ≡ whole
 any_passed p f i n whole h fails so = sym (any_next p f i n h ∙ ap (λ b. b || list_any p (map f (range_with_len (i + 1) (n - (i + 1))))) fails) ∙ so
 
 pub is_inside : (last b : ℕ) → (b ≡ 0 → ⊥) → b ≤ last → is_out last b ≡ false
@@ -64,7 +69,8 @@ pub bad_passed : (pages : ℕ) (f : ℕ → ℕ) (i n counted whole b : ℕ) (he
     → counted + cond (here && not again) 1 0 + length (distinct_of pages (map f (range_with_len (i + 1) (n - (i + 1))))) ≡ whole
 bad_passed pages f i n counted whole b here again h is_b is_here is_again so =
     let rest = map f (range_with_len (i + 1) (n - (i + 1))) in
-    let step = ap (λ (r : List ℕ). length (distinct_of pages (map f r))) (range_next i n h) ∙ ap (λ (k : ℕ). length (distinct_of pages (k ∷ rest))) (sym is_b) ∙ bad_next pages b rest in
+    let step = ap (λ (r : List ℕ). length (distinct_of pages (map f r))) (range_next i n h) ∙ ap (λ (k : ℕ). length (distinct_of pages (k ∷ rest)))
+    (sym is_b) ∙ bad_next pages b rest in
     let by_here = ap {B = ℕ} (λ (t : Bool). cond (t && not (is_in b rest)) 1 0) is_here in
     let by_again = ap {B = ℕ} (λ (t : Bool). cond (here && not t) 1 0) is_again in
     omega (arith, step, by_here, by_again)

@@ -15,7 +15,8 @@ apart : (p : ℕ → Bool) (b a n : ℕ) → b < a → AllByRecursion (λ y. eqb
 apart p b a zero h = tt
 apart p b a (suc n) h = split (p a) (apart p b (a + 1) n (omega arith))
   where
-    split : (t : Bool) → AllByRecursion (λ y. eqb b y ≡ false) (filter p (range_with_len (a + 1) n)) → AllByRecursion (λ y. eqb b y ≡ false) (cond t (a ∷ filter p (range_with_len (a + 1) n)) (filter p (range_with_len (a + 1) n)))
+    split : (t : Bool) → AllByRecursion (λ y. eqb b y ≡ false) (filter p (range_with_len (a + 1) n)) →
+        AllByRecursion (λ y. eqb b y ≡ false) (cond t (a ∷ filter p (range_with_len (a + 1) n)) (filter p (range_with_len (a + 1) n)))
     split true rest = (grind (arith, nat_tests), rest)
     split false rest = rest
 
@@ -24,7 +25,8 @@ unfolding IsDistinct
 distinct p a zero = tt
 distinct p a (suc n) = split (p a) (distinct p (a + 1) n)
   where
-    split : (t : Bool) → IsDistinct eqb (filter p (range_with_len (a + 1) n)) → IsDistinct eqb (cond t (a ∷ filter p (range_with_len (a + 1) n)) (filter p (range_with_len (a + 1) n)))
+    split : (t : Bool) → IsDistinct eqb (filter p (range_with_len (a + 1) n)) →
+        IsDistinct eqb (cond t (a ∷ filter p (range_with_len (a + 1) n)) (filter p (range_with_len (a + 1) n)))
     split true rest = (apart p a (a + 1) n (omega arith), rest)
     split false rest = rest
 

@@ -16,8 +16,10 @@ first_past-requires g t c κs within =
     let side = right_side (N.is_node s) (N.below s) _ v c.visit-node.ensures.seen i in
     let ord = subst (λ n. IsOrdered (entries (tree_at (N.below s) n))) c.in-Some.is c.requires.ordered in
     let d : height (tree_at (N.below s) c.args.number) ≡ t = c.decreases in
-    let h = rw (← c.child_that_reaches.ensures) at side.height in
-    (lower _ _ _ t h (ap (λ n. height (tree_at (N.below s) n)) c.in-Some.is) d, (within.0, (within.1, rw c.child_that_reaches.ensures (side.node, side.ordered ord))))
+    let h = rw (← c.child_that_reaches.ensures) at side.height in (
+      lower _ _ _ t h (ap (λ n. height (tree_at (N.below s) n)) c.in-Some.is) d,
+      (within.0, (within.1, rw c.child_that_reaches.ensures (side.node, side.ordered ord))),
+    )
 
 pub first_past-found-requires : goal.first_past-found-requires
 first_past-found-requires g t c κs within =
@@ -28,8 +30,10 @@ first_past-found-requires g t c κs within =
     let side = left_side (N.is_node s) (N.below s) _ v c.visit-node.ensures.seen i in
     let ord = subst (λ n. IsOrdered (entries (tree_at (N.below s) n))) c.in-Some.is c.requires.ordered in
     let d : height (tree_at (N.below s) c.args.number) ≡ t = c.decreases in
-    let h = rw (← c.child_that_reaches-2.ensures) at side.height in
-    (lower _ _ _ t h (ap (λ n. height (tree_at (N.below s) n)) c.in-Some.is) d, (within.0, (within.1, rw c.child_that_reaches-2.ensures (side.node, side.ordered ord))))
+    let h = rw (← c.child_that_reaches-2.ensures) at side.height in (
+      lower _ _ _ t h (ap (λ n. height (tree_at (N.below s) n)) c.in-Some.is) d,
+      (within.0, (within.1, rw c.child_that_reaches-2.ensures (side.node, side.ordered ord))),
+    )
 
 pub returns-then-not-comes_after-clause-first : goal.returns-then-not-comes_after-clause-first
 returns-then-not-comes_after-clause-first g t c =
@@ -40,7 +44,8 @@ returns-then-not-comes_after-clause-first g t c =
     let ord = subst (λ n. IsOrdered (entries (tree_at (N.below s) n))) c.in-Some.is c.requires.ordered in
     let p : is_past c.args.after (span_of v) ≡ false = search rules in
     let q = seen_past (N.is_node s) (N.below s) _ v c.visit-node.ensures.seen c.args.after i ord p in
-    c.first_past.ensures.first ∙ ap (λ n. span_reaching c.args.after i (entries (tree_at (N.below s) n))) c.child_that_reaches.ensures ∙ sym q ∙ ap (λ n. span_reaching c.args.after i (entries (tree_at (N.below s) n))) (sym c.in-Some.is)
+    c.first_past.ensures.first ∙ ap (λ n. span_reaching c.args.after i (entries (tree_at (N.below s) n))) c.child_that_reaches.ensures ∙ sym q
+    ∙ ap (λ n. span_reaching c.args.after i (entries (tree_at (N.below s) n))) (sym c.in-Some.is)
 
 pub returns-then-is_some-clause-first : goal.returns-then-is_some-clause-first
 returns-then-is_some-clause-first g t c =
@@ -51,7 +56,8 @@ returns-then-is_some-clause-first g t c =
     let a = c.args.after in
     let e = c.first_past-found.ensures.first ∙ ap (λ n. span_reaching a i (entries (tree_at (N.below s) n))) c.child_that_reaches-2.ensures in
     let p : is_some c.first_past-found.result ≡ true = search rules in
-    seen_as (N.is_node s) (N.below s) _ v c.visit-node.ensures.seen a i c.first_past-found.result p e ∙ ap (λ n. span_reaching a i (entries (tree_at (N.below s) n))) (sym c.in-Some.is)
+    seen_as (N.is_node s) (N.below s) _ v c.visit-node.ensures.seen a i c.first_past-found.result p e
+    ∙ ap (λ n. span_reaching a i (entries (tree_at (N.below s) n))) (sym c.in-Some.is)
 
 pub returns-then-index-node-clause-first : goal.returns-then-index-node-clause-first
 returns-then-index-node-clause-first g t c =
@@ -61,8 +67,10 @@ returns-then-index-node-clause-first g t c =
     let v = c.visit-node.result in
     let p : is_past c.args.after (span_of v) ≡ true = search rules in
     let none : c.first_past-found.result ≡ None = search rules in
-    let e = ap (λ n. span_reaching c.args.after i (entries (tree_at (N.below s) n))) (sym c.child_that_reaches-2.ensures) ∙ sym c.first_past-found.ensures.first ∙ ap (option_map span_of) none in
-    sym (seen_here (N.is_node s) (N.below s) _ v c.visit-node.ensures.seen c.args.after i e p c.if-index-node.true) ∙ ap (λ n. span_reaching c.args.after i (entries (tree_at (N.below s) n))) (sym c.in-Some.is)
+    let e = ap (λ n. span_reaching c.args.after i (entries (tree_at (N.below s) n))) (sym c.child_that_reaches-2.ensures) ∙ sym c.first_past-found.ensures.first
+    ∙ ap (option_map span_of) none in
+    sym (seen_here (N.is_node s) (N.below s) _ v c.visit-node.ensures.seen c.args.after i e p c.if-index-node.true)
+    ∙ ap (λ n. span_reaching c.args.after i (entries (tree_at (N.below s) n))) (sym c.in-Some.is)
 
 pub returns-in-Some-child_that_reaches-clause-first : goal.returns-in-Some-child_that_reaches-clause-first
 returns-in-Some-child_that_reaches-clause-first g t c =
@@ -73,7 +81,8 @@ returns-in-Some-child_that_reaches-clause-first g t c =
     let a = c.args.after in
     let p : is_past a (span_of v) ≡ true = search rules in
     let none : c.first_past-found.result ≡ None = search rules in
-    let e = ap (λ n. span_reaching a i (entries (tree_at (N.below s) n))) (sym c.child_that_reaches-2.ensures) ∙ sym c.first_past-found.ensures.first ∙ ap (option_map span_of) none in
+    let e = ap (λ n. span_reaching a i (entries (tree_at (N.below s) n))) (sym c.child_that_reaches-2.ensures) ∙ sym c.first_past-found.ensures.first
+    ∙ ap (option_map span_of) none in
     let ord = subst (λ n. IsOrdered (entries (tree_at (N.below s) n))) c.in-Some.is c.requires.ordered in
     let seen = c.visit-node.ensures.seen in
     let later = seen_later (N.is_node s) (N.below s) _ v seen a i e p c.if-index-node.false (later_ordered (N.is_node s) (N.below s) _ v seen a i ord p) in
@@ -90,7 +99,8 @@ returns-in-None-clause-first g t c =
     let a = c.args.after in
     let p : is_past a (span_of v) ≡ true = search rules in
     let none : c.first_past-found.result ≡ None = search rules in
-    let e = ap (λ n. span_reaching a i (entries (tree_at (N.below s) n))) (sym c.child_that_reaches-2.ensures) ∙ sym c.first_past-found.ensures.first ∙ ap (option_map span_of) none in
+    let e = ap (λ n. span_reaching a i (entries (tree_at (N.below s) n))) (sym c.child_that_reaches-2.ensures) ∙ sym c.first_past-found.ensures.first
+    ∙ ap (option_map span_of) none in
     let ord = subst (λ n. IsOrdered (entries (tree_at (N.below s) n))) c.in-Some.is c.requires.ordered in
     let seen = c.visit-node.ensures.seen in
     let later = seen_later (N.is_node s) (N.below s) _ v seen a i e p c.if-index-node.false (later_ordered (N.is_node s) (N.below s) _ v seen a i ord p) in

@@ -12,7 +12,8 @@ returns-in-Some-clause-first g t c =
     let i = c.args.index in
     let v = c.visit-node.result in
     let e : reaching_child i v.left ≡ Some c.in-Some.left = search rules in
-    seen_found (N.is_node s) (N.below s) _ v c.visit-node.ensures.seen None i _ (ap (λ n. span_reaching None i (entries (tree_at (N.below s) n))) e ∙ c.first_reaching.ensures.first)
+    seen_found (N.is_node s) (N.below s) _ v c.visit-node.ensures.seen None i _ (ap (λ n. span_reaching None i (entries (tree_at (N.below s) n))) e
+    ∙ c.first_reaching.ensures.first)
 
 pub returns-then-index-node-clause-first : goal.returns-then-index-node-clause-first
 returns-then-index-node-clause-first g t c =
@@ -21,7 +22,8 @@ returns-then-index-node-clause-first g t c =
     let i = c.args.index in
     let v = c.visit-node.result in
     let e : reaching_child i v.left ≡ None = search rules in
-    seen_here (N.is_node s) (N.below s) _ v c.visit-node.ensures.seen None i (ap (λ n. span_reaching None i (entries (tree_at (N.below s) n))) e) refl c.if-index-node.true
+    seen_here (N.is_node s) (N.below s) _ v c.visit-node.ensures.seen None i (ap (λ n. span_reaching None i (entries (tree_at (N.below s) n))) e)
+    refl c.if-index-node.true
 
 pub unreachable-requires : goal.unreachable-requires
 unreachable-requires g t c =
@@ -33,7 +35,8 @@ unreachable-requires g t c =
     let d : reaching_child i v.right ≡ None = search rules in
     let low : v.last < i = c.if-index-node.false in
     some_below i (entries (N.below s c.args.number)) (omega arith) c.requires.reaches
-    (seen_later (N.is_node s) (N.below s) _ v c.visit-node.ensures.seen None i (ap (λ n. span_reaching None i (entries (tree_at (N.below s) n))) e) refl low refl ∙ ap (λ n. span_reaching None i (entries (tree_at (N.below s) n))) d)
+    (seen_later (N.is_node s) (N.below s) _ v c.visit-node.ensures.seen None i (ap (λ n. span_reaching None i (entries (tree_at (N.below s) n))) e) refl low
+    refl ∙ ap (λ n. span_reaching None i (entries (tree_at (N.below s) n))) d)
 
 pub returns-clause-first : goal.returns-clause-first
 returns-clause-first g t c =
@@ -43,4 +46,6 @@ returns-clause-first g t c =
     let v = c.visit-node.result in
     let e : reaching_child i v.left ≡ None = search rules in
     let d : reaching_child i v.right ≡ Some c.in-Some-child_that_reaches.right = search rules in
-    seen_later (N.is_node s) (N.below s) _ v c.visit-node.ensures.seen None i (ap (λ n. span_reaching None i (entries (tree_at (N.below s) n))) e) refl c.if-index-node.false refl ∙ ap (λ n. span_reaching None i (entries (tree_at (N.below s) n))) d ∙ c.first_reaching-in-Some-child_that_reaches.ensures.first
+    seen_later (N.is_node s) (N.below s) _ v c.visit-node.ensures.seen None i (ap (λ n. span_reaching None i (entries (tree_at (N.below s) n))) e) refl
+    c.if-index-node.false refl ∙ ap (λ n. span_reaching None i (entries (tree_at (N.below s) n))) d
+    ∙ c.first_reaching-in-Some-child_that_reaches.ensures.first

@@ -18,7 +18,8 @@ overflow_cast-at c =
     let here = c.loop-step.invariant.1 in
     let inside = c.requires.within c.loop-step._step c.loop-step-test.true in
     let is = read c.args.self.now.prev.items c.loop-step.at c.index-at.result.now c.index-at.ensures (omega (arith, here, inside)) in
-    let next = stepped (slice_index c.args.self.now.prev.items) c.loop-step._step (c.loop-step._step + 1) c.args.from c.loop-step.at c.index-at.result.now refl here is in
+    let next = stepped (slice_index c.args.self.now.prev.items) c.loop-step._step (c.loop-step._step + 1) c.args.from c.loop-step.at
+    c.index-at.result.now refl here is in
     let small = c.requires.small c.loop-step._step c.loop-step-test.true in
     omega (arith, next, small)
 
@@ -38,7 +39,8 @@ loop-step-preserved c =
     let here = c.loop-step.invariant.1 in
     let inside = c.requires.within c.loop-step._step c.loop-step-test.true in
     let is = read c.args.self.now.prev.items c.loop-step.at c.index-at.result.now c.index-at.ensures (omega (arith, here, inside)) in (
-      grown c.args.found.now.items c.loop-step.found.items c.push_reserved.new.self.items (slice_index c.args.self.now.prev.items) c.loop-step._step (c.loop-step._step + 1) c.args.from c.loop-step.at c.index-at.result.now refl c.loop-step.invariant.0 here is c.push_reserved.ensures.items,
+      grown c.args.found.now.items c.loop-step.found.items c.push_reserved.new.self.items (slice_index c.args.self.now.prev.items) c.loop-step._step
+          (c.loop-step._step + 1) c.args.from c.loop-step.at c.index-at.result.now refl c.loop-step.invariant.0 here is c.push_reserved.ensures.items,
       stepped (slice_index c.args.self.now.prev.items) c.loop-step._step (c.loop-step._step + 1) c.args.from c.loop-step.at c.index-at.result.now refl here is,
       c.push_reserved.ensures.capacity ∙ c.loop-step.invariant.2,
     )

@@ -11,7 +11,9 @@ index-requires c =
     omega (arith, a, b, d)
 
 pub returns-clause-active : goal.returns-clause-active
-returns-clause-active c inside = before_is _ _ _ _ c.self.invariant _ c.self.view_is Active c.args.frame _ _ _ (c.len.ensures ∙ c.self.inside.places.ok.0) c.index.ensures c.frame_at.ensures inside
+returns-clause-active c inside = before_is _ _ _ _ c.self.invariant _ c.self.view_is Active c.args.frame _ _ _ (c.len.ensures ∙ c.self.inside.places.ok.0)
+    c.index.ensures c.frame_at.ensures inside
 
 pub returns-clause-inactive : goal.returns-clause-inactive
-returns-clause-inactive c inside = before_is _ _ _ _ c.self.invariant _ c.self.view_is Inactive c.args.frame _ _ _ (c.len.ensures ∙ c.self.inside.places.ok.0) c.index.ensures c.frame_at.ensures inside
+returns-clause-inactive c inside = before_is _ _ _ _ c.self.invariant _ c.self.view_is Inactive c.args.frame _ _ _ (c.len.ensures ∙ c.self.inside.places.ok.0)
+    c.index.ensures c.frame_at.ensures inside

@@ -20,7 +20,8 @@ loop-m-preserved c =
     let is : p m ≡ c.index.result.now = sym (c.index.ensures ∙ get_or_default marks m c.index.result.now false inside) in
     let passed = λ (t : Bool) (e : c.index.result.now ≡ t). number_passed p c.loop-m.bad.items _ m n t c.loop-m-test.true (is ∙ e) c.loop-m.invariant in
     elim c.if-index.branch [
-      | then-index+in_ok-push w ↦ ap (λ (l : List ℕ). l ++ filter p (range_with_len (m + 1) (n - (m + 1)))) (ap (λ (v : Vec ℕ Global). v.items) w.bad-is ∙ w.in_ok-push.ensures.items) ∙ passed true w.if-index.true
+      | then-index+in_ok-push w ↦ ap (λ (l : List ℕ). l ++ filter p (range_with_len (m + 1) (n - (m + 1))))
+          (ap (λ (v : Vec ℕ Global). v.items) w.bad-is ∙ w.in_ok-push.ensures.items) ∙ passed true w.if-index.true
       | else-index w ↦ ap (λ (v : Vec ℕ Global). v.items ++ filter p (range_with_len (m + 1) (n - (m + 1)))) w.bad-is ∙ passed false w.if-index.false
     ]
 
@@ -35,5 +36,7 @@ returns c device layout ok =
     let none : n - c.loop-m.m ≡ 0 = omega arith in
     let ended = ap (λ (k : ℕ). c.loop-m.bad.items ++ filter p (range_with_len c.loop-m.m k)) none in
     let found : order_of page ≡ Some order = sym c.byte_order.ensures ∙ c.in-Some.is in
-    let same : (m : ℕ) → 1 ≤ m → m < 1 + (n - 1) → p m ≡ q m = λ m low high. c.in_ok-marks.ensures.named m (omega arith) ∙ ap (λ (k : ℕ). is_in m (numbers_at order page 0 k)) c.number.ensures in
-    sym (ended ∙ append-nil c.loop-m.bad.items) ∙ c.loop-m.invariant ∙ filter_same p q 1 (n - 1) same ∙ sym (bad_is order page c.args.header.now device layout found c.requires.of_page ok)
+    let same : (m : ℕ) → 1 ≤ m → m < 1 + (n - 1) → p m ≡ q m = λ m low high. c.in_ok-marks.ensures.named m (omega arith)
+    ∙ ap (λ (k : ℕ). is_in m (numbers_at order page 0 k)) c.number.ensures in
+    sym (ended ∙ append-nil c.loop-m.bad.items) ∙ c.loop-m.invariant ∙ filter_same p q 1 (n - 1) same
+    ∙ sym (bad_is order page c.args.header.now device layout found c.requires.of_page ok)

@@ -5,6 +5,7 @@ use Rattle.av_swapdev.proofs.header.count_bad.Given as goal
 
 abbrev pub invariant-loop-place : goal.invariant-loop-place
 invariant-loop-place l = record {
-  sum : l.distinct + length (distinct_of l.pages (numbers_at l.order l.page l.place (l.count - l.place))) ≡ length (distinct_of l.pages (numbers_at l.order l.page 0 l.count));
+  sum : l.distinct + length (distinct_of l.pages (numbers_at l.order l.page l.place (l.count - l.place))) ≡ length
+      (distinct_of l.pages (numbers_at l.order l.page 0 l.count));
   few : l.distinct ≤ l.place;
 }

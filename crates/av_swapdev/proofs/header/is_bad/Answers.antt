@@ -11,7 +11,8 @@ returns-then-is_behind_header c device layout ok =
     let found : order_of page ≡ Some order = sym c.byte_order.ensures ∙ c.in-Some.is in
     let whole : c.number.result - 0 ≡ number_at order page 1032 = omega (arith, c.number.ensures) in
     c.is_named.ensures ∙ ap (λ (n : ℕ). is_in c.args.m (numbers_at order page 0 n)) whole
-    ∙ sym (is_in_bad c.args.m order page c.args.header.now device layout found c.requires.of_page ok ∙ ap (λ (b : Bool). b && is_in c.args.m (all_named order page)) (sym c.is_behind_header.ensures ∙ c.if-is_behind_header.true))
+    ∙ sym (is_in_bad c.args.m order page c.args.header.now device layout found c.requires.of_page ok
+    ∙ ap (λ (b : Bool). b && is_in c.args.m (all_named order page)) (sym c.is_behind_header.ensures ∙ c.if-is_behind_header.true))
 
 pub returns-else-is_behind_header : goal.returns-else-is_behind_header
 returns-else-is_behind_header c device layout ok =
@@ -19,4 +20,5 @@ returns-else-is_behind_header c device layout ok =
     let page = c.args.page.now in
     let found : order_of page ≡ Some order = sym c.byte_order.ensures ∙ c.in-Some.is in
     c.if-is_behind_header.false
-    ∙ sym (is_in_bad c.args.m order page c.args.header.now device layout found c.requires.of_page ok ∙ ap (λ (b : Bool). b && is_in c.args.m (all_named order page)) (sym c.is_behind_header.ensures ∙ c.if-is_behind_header.false))
+    ∙ sym (is_in_bad c.args.m order page c.args.header.now device layout found c.requires.of_page ok
+    ∙ ap (λ (b : Bool). b && is_in c.args.m (all_named order page)) (sym c.is_behind_header.ensures ∙ c.if-is_behind_header.false))

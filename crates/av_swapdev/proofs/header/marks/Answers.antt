@@ -23,14 +23,17 @@ loop-place-preserved c =
       named = λ m below.
           let whole = is_in m (numbers_at c.args.order c.args.page.now 0 c.args.count) in
           let rest = is_in m (numbers_at c.args.order c.args.page.now (c.loop-place.place + 1) (c.args.count - (c.loop-place.place + 1))) in
-          let passed = mark_passed f c.loop-place.place c.args.count m bad (get_or old m false) whole c.loop-place-test.true c.bad_at-bad.ensures (c.loop-place.invariant.named m below) in
+          let passed = mark_passed f c.loop-place.place c.args.count m bad (get_or old m false) whole c.loop-place-test.true c.bad_at-bad.ensures
+          (c.loop-place.invariant.named m below) in
           elim c.if-bad-pages.branch [
             | then-bad-pages w ↦
                 let within : bad < length old = omega (arith, c.loop-place.invariant.len, w.if-bad-pages.true) in
-                ap (λ (v : Vec Bool Global). get_or v.items m false || rest) w.marks-is ∙ ap (λ (t : Bool). t || rest) (get_set old bad m true false within) ∙ passed
+                ap (λ (v : Vec Bool Global). get_or v.items m false || rest) w.marks-is ∙ ap (λ (t : Bool). t || rest)
+                (get_set old bad m true false within) ∙ passed
             | else-bad-pages w ↦
                 let above = w.if-bad-pages.false in
                 let other : eqb m bad ≡ false = grind (arith, nat_tests) in
-                ap (λ (v : Vec Bool Global). get_or v.items m false || rest) w.marks-is ∙ sym (ap (λ (t : Bool). cond t true (get_or old m false) || rest) other) ∙ passed
+                ap (λ (v : Vec Bool Global). get_or v.items m false || rest) w.marks-is
+                ∙ sym (ap (λ (t : Bool). cond t true (get_or old m false) || rest) other) ∙ passed
           ];
     }

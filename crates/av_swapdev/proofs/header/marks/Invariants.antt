@@ -7,5 +7,6 @@ use Rattle.av_swapdev.proofs.header.marks.Given as goal
 abbrev pub invariant-loop-place : goal.invariant-loop-place
 invariant-loop-place l = record {
   len : length l.marks.items ≡ l.pages;
-  named : (m : ℕ) → m < l.pages → (get_or l.marks.items m false || is_in m (numbers_at l.order l.page l.place (l.count - l.place))) ≡ is_in m (numbers_at l.order l.page 0 l.count);
+  named : (m : ℕ) → m < l.pages → (get_or l.marks.items m false || is_in m (numbers_at l.order l.page l.place (l.count - l.place))) ≡ is_in m
+      (numbers_at l.order l.page 0 l.count);
 }

@@ -18,5 +18,6 @@ invariant_of-result c =
 pub returns : goal.returns
 returns c =
     let bs = c.self.inside.lists.nodes.blocks in
-    ap (λ o. users_left c.args.anon o bs) c.first_user.ensures ∙ ap areas_of (from_all (row Anon c.args.anon bs) (apart_row Anon c.args.anon bs c.self.inside.lists.nodes.apart))
+    ap (λ o. users_left c.args.anon o bs) c.first_user.ensures ∙ ap areas_of
+    (from_all (row Anon c.args.anon bs) (apart_row Anon c.args.anon bs c.self.inside.lists.nodes.apart))
     ∙ sym (users_row bs c.args.anon) ∙ ap (λ ls. users_of ls c.args.anon) c.self.view_is

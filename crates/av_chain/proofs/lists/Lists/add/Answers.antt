@@ -17,8 +17,14 @@ join-requires-clause-reaches c =
     let t : IsWhole A V bs = whole_heads _ A _ V bs c.reserve.ensures.same c.reserve-2.ensures.same c.requires.kept in
     let n : Node = new_node A V bs c.put-place.result.ptr c.args.area c.args.anon t in
     let value : c.of.result.value ≡ n = c.of.ensures ∙ c.in_ok-node.ensures.ok
-    ∙ (λ i. record { area = c.args.area; anon = c.args.anon; in_area = record { before = c.in_ok-end.ensures.last i; after = None }; in_anon = record { before = c.in_ok-end-2.ensures.last i; after = None } }) in
-    let blocks : c.put-place.new.self.blocks ≡ bs ++ (c.put-place.result.ptr, n) ∷ [] = c.put-place.ensures ∙ ap (λ (m : Node). bs ++ (c.put-place.result.ptr, m) ∷ []) value in
+    ∙ (λ i. record {
+      area = c.args.area;
+      anon = c.args.anon;
+      in_area = record { before = c.in_ok-end.ensures.last i; after = None };
+      in_anon = record { before = c.in_ok-end-2.ensures.last i; after = None };
+    }) in
+    let blocks : c.put-place.new.self.blocks ≡ bs ++ (c.put-place.result.ptr, n) ∷ [] =
+    c.put-place.ensures ∙ ap (λ (m : Node). bs ++ (c.put-place.result.ptr, m) ∷ []) value in
     let d : IsApart (bs ++ (c.put-place.result.ptr, n) ∷ []) = subst IsApart blocks c.put-place.new.self.apart in
     subst (Reaches (last_of (A c.args.area))) (sym blocks) (first_join A V bs c.put-place.result.ptr c.args.area c.args.anon t d)
 
@@ -30,8 +36,14 @@ join-requires-2-clause-reaches c =
     let t : IsWhole A V bs = whole_heads _ A _ V bs c.reserve.ensures.same c.reserve-2.ensures.same c.requires.kept in
     let n : Node = new_node A V bs c.put-place.result.ptr c.args.area c.args.anon t in
     let value : c.of.result.value ≡ n = c.of.ensures ∙ c.in_ok-node.ensures.ok
-    ∙ (λ i. record { area = c.args.area; anon = c.args.anon; in_area = record { before = c.in_ok-end.ensures.last i; after = None }; in_anon = record { before = c.in_ok-end-2.ensures.last i; after = None } }) in
-    let blocks : c.put-place.new.self.blocks ≡ bs ++ (c.put-place.result.ptr, n) ∷ [] = c.put-place.ensures ∙ ap (λ (m : Node). bs ++ (c.put-place.result.ptr, m) ∷ []) value in
+    ∙ (λ i. record {
+      area = c.args.area;
+      anon = c.args.anon;
+      in_area = record { before = c.in_ok-end.ensures.last i; after = None };
+      in_anon = record { before = c.in_ok-end-2.ensures.last i; after = None };
+    }) in
+    let blocks : c.put-place.new.self.blocks ≡ bs ++ (c.put-place.result.ptr, n) ∷ [] =
+    c.put-place.ensures ∙ ap (λ (m : Node). bs ++ (c.put-place.result.ptr, m) ∷ []) value in
     let d : IsApart (bs ++ (c.put-place.result.ptr, n) ∷ []) = subst IsApart blocks c.put-place.new.self.apart in
     rw (c.join.ensures.blocks, blocks) (second_join A V bs c.put-place.result.ptr c.args.area c.args.anon t d)
 
@@ -43,8 +55,14 @@ returns-clause-kept c =
     let t : IsWhole A V bs = whole_heads _ A _ V bs c.reserve.ensures.same c.reserve-2.ensures.same c.requires.kept in
     let n : Node = new_node A V bs c.put-place.result.ptr c.args.area c.args.anon t in
     let value : c.of.result.value ≡ n = c.of.ensures ∙ c.in_ok-node.ensures.ok
-    ∙ (λ i. record { area = c.args.area; anon = c.args.anon; in_area = record { before = c.in_ok-end.ensures.last i; after = None }; in_anon = record { before = c.in_ok-end-2.ensures.last i; after = None } }) in
-    let blocks : c.put-place.new.self.blocks ≡ bs ++ (c.put-place.result.ptr, n) ∷ [] = c.put-place.ensures ∙ ap (λ (m : Node). bs ++ (c.put-place.result.ptr, m) ∷ []) value in
+    ∙ (λ i. record {
+      area = c.args.area;
+      anon = c.args.anon;
+      in_area = record { before = c.in_ok-end.ensures.last i; after = None };
+      in_anon = record { before = c.in_ok-end-2.ensures.last i; after = None };
+    }) in
+    let blocks : c.put-place.new.self.blocks ≡ bs ++ (c.put-place.result.ptr, n) ∷ [] =
+    c.put-place.ensures ∙ ap (λ (m : Node). bs ++ (c.put-place.result.ptr, m) ∷ []) value in
     let d : IsApart (bs ++ (c.put-place.result.ptr, n) ∷ []) = subst IsApart blocks c.put-place.new.self.apart in
     rw (c.join-2.ensures.blocks, c.join.ensures.blocks, blocks)
     (whole_heads _ (get nat_eq c.join.new.heads) _ (get nat_eq c.join-2.new.heads) _ c.join.ensures.heads c.join-2.ensures.heads
@@ -58,8 +76,14 @@ returns-clause-links c =
     let t : IsWhole A V bs = whole_heads _ A _ V bs c.reserve.ensures.same c.reserve-2.ensures.same c.requires.kept in
     let n : Node = new_node A V bs c.put-place.result.ptr c.args.area c.args.anon t in
     let value : c.of.result.value ≡ n = c.of.ensures ∙ c.in_ok-node.ensures.ok
-    ∙ (λ i. record { area = c.args.area; anon = c.args.anon; in_area = record { before = c.in_ok-end.ensures.last i; after = None }; in_anon = record { before = c.in_ok-end-2.ensures.last i; after = None } }) in
-    let blocks : c.put-place.new.self.blocks ≡ bs ++ (c.put-place.result.ptr, n) ∷ [] = c.put-place.ensures ∙ ap (λ (m : Node). bs ++ (c.put-place.result.ptr, m) ∷ []) value in
+    ∙ (λ i. record {
+      area = c.args.area;
+      anon = c.args.anon;
+      in_area = record { before = c.in_ok-end.ensures.last i; after = None };
+      in_anon = record { before = c.in_ok-end-2.ensures.last i; after = None };
+    }) in
+    let blocks : c.put-place.new.self.blocks ≡ bs ++ (c.put-place.result.ptr, n) ∷ [] =
+    c.put-place.ensures ∙ ap (λ (m : Node). bs ++ (c.put-place.result.ptr, m) ∷ []) value in
     let d : IsApart (bs ++ (c.put-place.result.ptr, n) ∷ []) = subst IsApart blocks c.put-place.new.self.apart in
     rw (c.join-2.ensures.blocks, c.join.ensures.blocks, blocks)
     (links_made A V bs c.put-place.result.ptr c.args.area c.args.anon t d)

@@ -8,14 +8,20 @@ pub loop-at-init : goal.loop-at-init
 loop-at-init c = (0, past_start Area c.args.area c.args.self.now.nodes.blocks c.first-at.result c.first-at.ensures, c.new-chain.ensures.items)
 
 pub get-node-requires : goal.get-node-requires
-get-node-requires c = let a = c.loop-at.invariant in past_has Area c.args.area c.args.self.now.nodes.blocks c.loop-at.at a.0 a.1 c.in-Some.place c.in-Some.is c.args.self.now.nodes.apart
+get-node-requires c = let a = c.loop-at.invariant in past_has Area c.args.area c.args.self.now.nodes.blocks c.loop-at.at a.0 a.1 c.in-Some.place
+    c.in-Some.is c.args.self.now.nodes.apart
 
 pub loop-at-preserved : goal.loop-at-preserved
 loop-at-preserved c =
     let bs = c.args.self.now.nodes.blocks in
     let a = c.loop-at.invariant in
-    let next = past_next Area c.args.area bs c.loop-at.at a.0 a.1 c.in-Some.place c.in-Some.is c.args.self.now.nodes.apart c.get-node.result.now c.get-node.ensures (c.requires.areas_lead.run c.args.area) in
-    (a.0 + 1, next, c.in_ok-push.ensures.items ∙ ap (λ vs. vs ++ c.get-node.result.now.anon ∷ []) a.2 ∙ sym (anons_append a.1.0 ((c.in-Some.place.ptr, c.get-node.result.now) ∷ [])))
+    let next = past_next Area c.args.area bs c.loop-at.at a.0 a.1 c.in-Some.place c.in-Some.is c.args.self.now.nodes.apart c.get-node.result.now
+    c.get-node.ensures (c.requires.areas_lead.run c.args.area) in (
+      a.0 + 1,
+      next,
+      c.in_ok-push.ensures.items ∙ ap (λ vs. vs ++ c.get-node.result.now.anon ∷ []) a.2
+          ∙ sym (anons_append a.1.0 ((c.in-Some.place.ptr, c.get-node.result.now) ∷ [])),
+    )
 
 pub loop-at-smaller : goal.loop-at-smaller
 loop-at-smaller c =

@@ -7,8 +7,10 @@ pub get-requires : goal.get-requires
 get-requires c = link_has c.args.area c.args.anon c.in_ok-place.place.ptr c.args.self.now.nodes.blocks c.args.self.now.nodes.apart c.in_ok-place.ensures.place
 
 pub anon_at-requires : goal.anon_at-requires
-anon_at-requires c = link_next_reaches c.args.area c.args.anon c.in_ok-place.place.ptr c.args.self.now.nodes.blocks c.get.result.now c.args.self.now.nodes.apart c.in_ok-place.ensures.place c.get.ensures (c.requires.kept.areas_lead.run c.args.area)
+anon_at-requires c = link_next_reaches c.args.area c.args.anon c.in_ok-place.place.ptr c.args.self.now.nodes.blocks c.get.result.now c.args.self.now.nodes.apart
+    c.in_ok-place.ensures.place c.get.ensures (c.requires.kept.areas_lead.run c.args.area)
 
 pub returns : goal.returns
-returns c = c.anon_at.ensures ∙ link_after c.args.area c.args.anon c.in_ok-place.place.ptr c.args.self.now.nodes.blocks c.get.result.now c.args.self.now.nodes.apart c.in_ok-place.ensures.place c.get.ensures (c.requires.kept.areas_lead.run c.args.area)
+returns c = c.anon_at.ensures ∙ link_after c.args.area c.args.anon c.in_ok-place.place.ptr c.args.self.now.nodes.blocks c.get.result.now
+    c.args.self.now.nodes.apart c.in_ok-place.ensures.place c.get.ensures (c.requires.kept.areas_lead.run c.args.area)
     ∙ sym (ap (after_in c.args.anon) (chain_row c.args.self.now.nodes.blocks c.args.area))

@@ -56,7 +56,8 @@ stayed = (stay_dropped _ _, (stay_dropped _ _, tt))
 abbrev Out : Lft → denote.RattleType.RattleType
 Out κ = ShrRef (named 0) κ T
 
-module _ {M : Type 1} {𝓤 : Ura M} (𝓛 : Logic 𝓤) (at_mem : Memory → SProp 𝓤) (run : Routine → Fun 𝓤) (C : Calls 𝓤 𝓛.H) (Λ : Loops 𝓤 𝓛.H) (κ : Lft) (q : Share) (rb ro : ℕ) (d : Ns.Denot) (at : Pl.Denot) (us0 us1 : List Val) where
+module _ {M : Type 1} {𝓤 : Ura M} (𝓛 : Logic 𝓤) (at_mem : Memory → SProp 𝓤) (run : Routine → Fun 𝓤) (C : Calls 𝓤 𝓛.H) (Λ : Loops 𝓤 𝓛.H) (κ : Lft) (q : Share)
+    (rb ro : ℕ) (d : Ns.Denot) (at : Pl.Denot) (us0 us1 : List Val) where
   open 𝓛 use {H, A}
 
   abbrev self : Bor Ns.Denot
@@ -96,16 +97,23 @@ module _ {M : Type 1} {𝓤 : Ura M} (𝓛 : Logic 𝓤) (at_mem : Memory → SP
       returns ! (look_at ! 0 refl) $ free_all ! refl $ keep ! (1 ∷ 0 ∷ []) $
       by ! (exits out v there.1)))
 
-  entry : has_place at.ptr d.blocks ≡ true → ent 𝓤 (on_entry 𝓛 F.signature (κ, tt) (q, tt) (self, (at, tt)) (us0, (us1, tt))) (WpFn 𝓤 H C Λ function (us0 ++ (us1 ++ [])) Post)
+  entry : has_place at.ptr d.blocks ≡ true → ent 𝓤 (on_entry 𝓛 F.signature (κ, tt) (q, tt) (self, (at, tt)) (us0, (us1, tt)))
+      (WpFn 𝓤 H C Λ function (us0 ++ (us1 ++ [])) Post)
   entry asked =
       qed 𝓛 ((‵ (flft κ q) ⊛ ‵ ftrue) ∷ ‵ (owns (ShrRef (named 0) κ Ns ∷ Pl ∷ []) (self, (at, tt)) (us0, (us1, tt))) ∷ []) ∵
       split ! $ move ! (2 ∷ []) $ fsplit ! $ fsplit ! $ feq_l ! (λ e0. move ! (1 ∷ []) $ fsplit ! $ word_had ! at.ptr us1 (λ e1. keep ! (1 ∷ 2 ∷ []) $
-      by ! (subst (λ (ws : List Val × List Val). ent 𝓤 (⋆ 𝓛 Had) (WpFn 𝓤 H C Λ function (ws.0 ++ (ws.1 ++ [])) Post)) (λ j. (sym e0 j, sym e1 j)) (walk asked))))
+      by ! (subst (λ (ws : List Val × List Val). ent 𝓤 (⋆ 𝓛 Had) (WpFn 𝓤 H C Λ function (ws.0 ++ (ws.1 ++ [])) Post))
+      (λ j. (sym e0 j, sym e1 j)) (walk asked))))
 
 pub get_spec : {M : Type 1} → stated.statement M
 unfolding tables_of
 get_spec 𝓤 𝓛 𝓜 𝓡 wired =
     let 𝓣 : Tables 𝓤 𝓛.H = tables_of 𝓤 𝓛.H 𝓜 (tables 𝓤 𝓛.H 𝓜 𝓡 𝓡.env) in
     entered 𝓤 𝓛.H (triple_of 𝓛 F.signature (F.spec 𝓛 𝓜.mem 𝓡.returns)) 𝓣.C 𝓣.Λ #self function (code.unfolded 𝓤 𝓛.H 𝓜 𝓡 wired)
-    (walk_Meets 𝓛 F.ended stayed (Goes-dropped 𝓛 1 (RefOf (0 ∷ []) tt (plain (λ _. Ns)) (λ _. tt)) (F.ended).kept.0 (λ κs x f. refl), (Goes-dropped 𝓛 1 (plain (λ _. Pl)) (F.ended).kept.1.0 (λ κs x f. refl), tt)) (F.clauses 𝓛 𝓜.mem 𝓡.returns) (WpFn 𝓤 𝓛.H 𝓣.C 𝓣.Λ function) (WpFn-mono 𝓤 𝓛.H 𝓛.laws 𝓣 function)
-    (λ z. needs 𝓤 (has_place z.0.3.1.0.ptr z.0.3.0.now.blocks ≡ true) _ (entry 𝓛 𝓜.mem 𝓡.returns 𝓣.C 𝓣.Λ z.0.0.0 z.0.1.0 z.0.3.0.ref_ptr.0 z.0.3.0.ref_ptr.1 z.0.3.0.now z.0.3.1.0 z.0.4.0 z.0.4.1.0)))
+    (walk_Meets 𝓛 F.ended stayed (
+      Goes-dropped 𝓛 1 (RefOf (0 ∷ []) tt (plain (λ _. Ns)) (λ _. tt)) (F.ended).kept.0 (λ κs x f. refl),
+      (Goes-dropped 𝓛 1 (plain (λ _. Pl)) (F.ended).kept.1.0 (λ κs x f. refl), tt),
+    ) (F.clauses 𝓛 𝓜.mem 𝓡.returns) (WpFn 𝓤 𝓛.H 𝓣.C 𝓣.Λ function)
+    (WpFn-mono 𝓤 𝓛.H 𝓛.laws 𝓣 function)
+    (λ z. needs 𝓤 (has_place z.0.3.1.0.ptr z.0.3.0.now.blocks ≡ true) _
+    (entry 𝓛 𝓜.mem 𝓡.returns 𝓣.C 𝓣.Λ z.0.0.0 z.0.1.0 z.0.3.0.ref_ptr.0 z.0.3.0.ref_ptr.1 z.0.3.0.now z.0.3.1.0 z.0.4.0 z.0.4.1.0)))

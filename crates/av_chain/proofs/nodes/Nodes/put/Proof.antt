@@ -60,7 +60,8 @@ Pr = parts.the_row T Heap.the_row ghosts
 abbrev stayed : Stays (F.ended).signature.params (F.ended).kept
 stayed = (stay_ref (0 ∷ []) tt (plain (λ _. Ns)), (stay_dropped (plain (λ _. Pr)) (F.ended).kept.1.0, tt))
 
-module _ {M : Type 1} {𝓤 : Ura M} (𝓛 : Logic 𝓤) (𝓜 : Model 𝓤 𝓛.H) (at_mem : Memory → SProp 𝓤) (run : Routine → Fun 𝓤) (C : Calls 𝓤 𝓛.H) (Λ : Loops 𝓤 𝓛.H) (κ : Lft) (q : Share) (rb ro : ℕ) (γ : GName) (d : Ns.Denot) (node : Pr.Denot) (us0 us1 : List Val) where
+module _ {M : Type 1} {𝓤 : Ura M} (𝓛 : Logic 𝓤) (𝓜 : Model 𝓤 𝓛.H) (at_mem : Memory → SProp 𝓤) (run : Routine → Fun 𝓤) (C : Calls 𝓤 𝓛.H) (Λ : Loops 𝓤 𝓛.H)
+    (κ : Lft) (q : Share) (rb ro : ℕ) (γ : GName) (d : Ns.Denot) (node : Pr.Denot) (us0 us1 : List Val) where
   open 𝓛 use {H, A}
 
   abbrev self : MutBor Ns.Denot
@@ -77,17 +78,20 @@ module _ {M : Type 1} {𝓤 : Ura M} (𝓛 : Logic 𝓤) (𝓜 : Model 𝓤 𝓛
   exits passed r v new g0 =
       qed 𝓛 (‵ (fobs γ (Ns.coded.code new)) ∷ ‵ (fbor κ (Borrowed (mem Ns) rb ro γ)) ∷ ‵ (flft κ q) ∷ ‵ (Pl.own_val r (v ∷ [])) ∷ []) ∵
       suffices ! _ (ends_at 𝓛 F.ended stayed (F.clauses 𝓛 at_mem run) bound v r (new, (tt, tt)) (tt, (tt, tt))) $ says ! g0 $
-      nothing ! $ move ! (3 ∷ 0 ∷ []) $ join ! $ frame ! $ feq_i ! (List Val) us0 (vptr rb ro ∷ []) passed $ fjoin3 ! $ nothing ! $ nothing ! $ fjoin ! $ move ! (1 ∷ 0 ∷ []) $ fjoin ! $ done !
+      nothing ! $ move ! (3 ∷ 0 ∷ []) $ join ! $ frame ! $ feq_i ! (List Val) us0 (vptr rb ro ∷ []) passed $ fjoin3 ! $ nothing ! $ nothing ! $ fjoin ! $
+      move ! (1 ∷ 0 ∷ []) $ fjoin ! $ done !
 
   abbrev Had : ℕ → ℕ → List (Item 𝓤)
   Had b o = ‵ (fobs γ (Ns.coded.code d)) ∷ ‵ (fbor κ (Borrowed (mem Ns) rb ro γ)) ∷ ‵ (flft κ q) ∷ ‵ (block_owns (block_ptr b o, node.value)) ∷ []
 
-  walk : us0 ≡ vptr rb ro ∷ [] → (b o : ℕ) (hv : Val) → node.ptr ≡ block_ptr b o → Fits E.al hv → ent 𝓤 (⋆ 𝓛 (Had b o)) (WpFn 𝓤 H C Λ function (vptr rb ro ∷ box.word E hv b o ∷ []) Post)
+  walk : us0 ≡ vptr rb ro ∷ [] → (b o : ℕ) (hv : Val) → node.ptr ≡ block_ptr b o → Fits E.al hv →
+      ent 𝓤 (⋆ 𝓛 (Had b o)) (WpFn 𝓤 H C Λ function (vptr rb ro ∷ box.word E hv b o ∷ []) Post)
   walk passed b o hv at fa =
       let p : Ptr = block_ptr b o in
       let new_block : Block = (p, node.value) in
       let out : Pl.Denot = record { ptr = p } in
-      qed 𝓛 (Had b o) ∵ enter ! C Λ function (vptr rb ro ∷ box.word E hv b o ∷ []) _ $ alloc_all ! (λ l. pass_all ! refl ((tt, tt), (box.box_typed E hv b o fa, tt)) $
+      qed 𝓛 (Had b o) ∵ enter ! C Λ function (vptr rb ro ∷ box.word E hv b o ∷ []) _ $
+      alloc_all ! (λ l. pass_all ! refl ((tt, tt), (box.box_typed E hv b o fa, tt)) $
       opens ! tt Ns {h = d} rb ro (λ vs. move ! (1 ∷ []) $ fsplit ! $ move ! (6 ∷ 1 ∷ []) $
       knows ! (IsFresh p d.blocks) (fresh 𝓛 𝓜 p node.value d.blocks) (λ free.
       let new : Ns.Denot = record { mark = d.mark; blocks = d.blocks ++ new_block ∷ []; apart = apart_push d.blocks new_block free d.apart } in
@@ -104,12 +108,15 @@ module _ {M : Type 1} {𝓤 : Ura M} (𝓛 : Logic 𝓤) (𝓜 : Model 𝓤 𝓛
       qed 𝓛 ((‵ (flft κ q) ⊛ ‵ ftrue) ∷ ‵ (owns (MutRef (named 0) κ Ns ∷ Pr ∷ []) (self, (node, tt)) (us0, (us1, tt))) ∷ []) ∵
       split ! $ move ! (2 ∷ []) $ fsplit ! $ fsplit3 ! $ feq_l ! (λ e0. move ! (2 ∷ []) $ fsplit ! $ use1 𝓛 (‵ ((box.B E).own_val v us1)) (id⊢ 𝓤 _) $
       box_out E ! v us1 (λ b o hv at e1 fa. fjoin ! $ use1 𝓛 (‵ (block_owns (block_ptr b o, node.value))) (id⊢ 𝓤 _) $ keep ! (3 ∷ 4 ∷ 5 ∷ 0 ∷ []) $
-      by ! (subst (λ (ws : List Val × List Val). ent 𝓤 (⋆ 𝓛 (Had b o)) (WpFn 𝓤 H C Λ function (ws.0 ++ (ws.1 ++ [])) Post)) (λ j. (sym e0 j, sym e1 j)) (walk e0 b o hv at fa))))
+      by ! (subst (λ (ws : List Val × List Val). ent 𝓤 (⋆ 𝓛 (Had b o)) (WpFn 𝓤 H C Λ function (ws.0 ++ (ws.1 ++ [])) Post))
+      (λ j. (sym e0 j, sym e1 j)) (walk e0 b o hv at fa))))
 
 pub put_spec : {M : Type 1} → stated.statement M
 unfolding tables_of
 put_spec 𝓤 𝓛 𝓜 𝓡 wired =
     let 𝓣 : Tables 𝓤 𝓛.H = tables_of 𝓤 𝓛.H 𝓜 (tables 𝓤 𝓛.H 𝓜 𝓡 𝓡.env) in
     entered 𝓤 𝓛.H (triple_of 𝓛 F.signature (F.spec 𝓛 𝓜.mem 𝓡.returns)) 𝓣.C 𝓣.Λ #self function (code.unfolded 𝓤 𝓛.H 𝓜 𝓡 wired)
-    (walk_Meets 𝓛 F.ended stayed (Goes-ref 𝓛 1 0 tt (plain (λ _. Ns)), (Goes-blank 𝓛 1 (plain (λ _. Pr)) (F.ended).kept.1.0 (λ κs x f. tt), tt)) (F.clauses 𝓛 𝓜.mem 𝓡.returns) (WpFn 𝓤 𝓛.H 𝓣.C 𝓣.Λ function) (WpFn-mono 𝓤 𝓛.H 𝓛.laws 𝓣 function)
-    (λ z. via 𝓤 _ (fst∗ 𝓤 _ (emp 𝓤)) (entry 𝓛 𝓜 𝓜.mem 𝓡.returns 𝓣.C 𝓣.Λ z.0.0.0 z.0.1.0 z.0.3.0.ref_ptr.0 z.0.3.0.ref_ptr.1 z.0.3.0.ghost_name z.0.3.0.now z.0.3.1.0 z.0.4.0 z.0.4.1.0)))
+    (walk_Meets 𝓛 F.ended stayed (Goes-ref 𝓛 1 0 tt (plain (λ _. Ns)), (Goes-blank 𝓛 1 (plain (λ _. Pr)) (F.ended).kept.1.0 (λ κs x f. tt), tt))
+    (F.clauses 𝓛 𝓜.mem 𝓡.returns) (WpFn 𝓤 𝓛.H 𝓣.C 𝓣.Λ function) (WpFn-mono 𝓤 𝓛.H 𝓛.laws 𝓣 function)
+    (λ z. via 𝓤 _ (fst∗ 𝓤 _ (emp 𝓤)) (entry 𝓛 𝓜 𝓜.mem 𝓡.returns 𝓣.C 𝓣.Λ z.0.0.0 z.0.1.0 z.0.3.0.ref_ptr.0 z.0.3.0.ref_ptr.1 z.0.3.0.ghost_name
+    z.0.3.0.now z.0.3.1.0 z.0.4.0 z.0.4.1.0)))

@@ -9,20 +9,32 @@ use Rattle.av_chain.proofs.users.UsersIterator.next.Goals as goal
 pub get-node-requires : goal.get-node-requires
 get-node-requires c =
     let bs = c.self.inside.lists.now.nodes.blocks in
-    users_has c.self.inside.anon c.in_ok-place.place bs c.self.inside.lists.now.nodes.apart (subst (λ o. Reaches o (row Anon c.self.inside.anon bs)) c.in_ok-place.was c.self.invariant.there)
+    users_has c.self.inside.anon c.in_ok-place.place bs c.self.inside.lists.now.nodes.apart
+    (subst (λ o. Reaches o (row Anon c.self.inside.anon bs)) c.in_ok-place.was c.self.invariant.there)
 
 pub invariant_of-self : goal.invariant_of-self
 invariant_of-self c =
     let bs = c.self.inside.lists.now.nodes.blocks in
-    let there : has_place c.in_ok-place.place.ptr (row Anon c.self.inside.anon bs) ≡ true = subst (λ o. Reaches o (row Anon c.self.inside.anon bs)) c.in_ok-place.was c.self.invariant.there in
-    record { whole = c.self.invariant.whole; there = users_there c.self.inside.anon c.in_ok-place.place bs c.self.inside.lists.now.nodes.apart there c.get-node.result.now c.get-node.ensures (c.self.invariant.whole.anons_lead.run c.self.inside.anon) }
+    let there : has_place c.in_ok-place.place.ptr (row Anon c.self.inside.anon bs) ≡ true =
+    subst (λ o. Reaches o (row Anon c.self.inside.anon bs)) c.in_ok-place.was c.self.invariant.there in
+    record {
+      whole = c.self.invariant.whole;
+      there = users_there c.self.inside.anon c.in_ok-place.place bs c.self.inside.lists.now.nodes.apart there
+          c.get-node.result.now c.get-node.ensures (c.self.invariant.whole.anons_lead.run c.self.inside.anon);
+    }
 
 pub returns-clause-steps : goal.returns-clause-steps
 returns-clause-steps c =
     let bs = c.self.inside.lists.now.nodes.blocks in
-    let there : has_place c.in_ok-place.place.ptr (row Anon c.self.inside.anon bs) ≡ true = subst (λ o. Reaches o (row Anon c.self.inside.anon bs)) c.in_ok-place.was c.self.invariant.there in
+    let there : has_place c.in_ok-place.place.ptr (row Anon c.self.inside.anon bs) ≡ true =
+    subst (λ o. Reaches o (row Anon c.self.inside.anon bs)) c.in_ok-place.was c.self.invariant.there in
     sym c.self.view_is ∙ ap (λ o. users_left c.self.inside.anon o bs) c.in_ok-place.was
-    ∙ users_step c.self.inside.anon c.in_ok-place.place bs c.self.inside.lists.now.nodes.apart there c.get-node.result.now c.get-node.ensures (c.self.invariant.whole.anons_lead.run c.self.inside.anon)
+    ∙ users_step c.self.inside.anon c.in_ok-place.place bs c.self.inside.lists.now.nodes.apart there c.get-node.result.now c.get-node.ensures
+    (c.self.invariant.whole.anons_lead.run c.self.inside.anon)
 
 pub returns-clause-goes : goal.returns-clause-goes
-returns-clause-goes c = record { on = λ _. (tt, tt, shorter c.args.self.now _ c.get-node.result.now.area (returns-clause-steps c)); keeps = tt; rests = λ _. tt }
+returns-clause-goes c = record {
+  on = λ _. (tt, tt, shorter c.args.self.now _ c.get-node.result.now.area (returns-clause-steps c));
+  keeps = tt;
+  rests = λ _. tt;
+}

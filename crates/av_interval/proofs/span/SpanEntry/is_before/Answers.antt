@@ -6,4 +6,5 @@ pub returns-then-self-other : goal.returns-then-self-other
 returns-then-self-other c = same_first c.args.self.now.first c.args.self.now.area c.args.other.now.first c.args.other.now.area c.if-self-other.true
 
 pub returns-else-self-other : goal.returns-else-self-other
-returns-else-self-other c = other_first c.args.self.now.first c.args.self.now.area c.args.other.now.first c.args.other.now.area c.if-self-other.false (omega arith) (omega arith)
+returns-else-self-other c = other_first c.args.self.now.first c.args.self.now.area c.args.other.now.first c.args.other.now.area c.if-self-other.false
+    (omega arith) (omega arith)

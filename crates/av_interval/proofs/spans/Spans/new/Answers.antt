@@ -12,4 +12,5 @@ pub invariant_of-result : goal.invariant_of-result
 invariant_of-result c = empty_forest (store_of c.new.result) (root_of c.new-2.result) c.new.ensures c.new-2.ensures
 
 pub returns : goal.returns
-returns c = λ a. ap (λ o. entries (tree_at (store_of c.new.result) (top_of o))) (c.new-2.ensures a) ∙ ap entries (none_tree key 0 max last_of max_laws (store_of c.new.result))
+returns c = λ a. ap (λ o. entries (tree_at (store_of c.new.result) (top_of o))) (c.new-2.ensures a)
+    ∙ ap entries (none_tree key 0 max last_of max_laws (store_of c.new.result))

@@ -29,7 +29,8 @@ free-requires c =
     let r = root_of c.self.inside.roots in
     let root = c.in-Some.root in
     let at : r c.args.anon ≡ Some root = sym c.get.ensures ∙ c.in-Some.is in
-    without_used key 0 max last_of max_laws s (store_of c.remove-number.new.arena) (Some root.tree) _ c.remove-number.result.0 c.remove-number.result.1 (root_held s r c.self.invariant c.args.anon root at) c.remove-number.ensures.removed
+    without_used key 0 max last_of max_laws s (store_of c.remove-number.new.arena) (Some root.tree) _ c.remove-number.result.0 c.remove-number.result.1
+    (root_held s r c.self.invariant c.args.anon root at) c.remove-number.ensures.removed
 
 pub invariant_of-self : goal.invariant_of-self
 invariant_of-self c =
@@ -41,7 +42,11 @@ invariant_of-self c =
     let there = subst (λ (w : Forest). IsSome (entry_at key (key_of c.args.first c.args.area) (triples w c.args.anon))) (sym c.self.view_is) c.requires.there in
     let out = c.remove-number in
     let w = out.ensures.removed in
-    let d = removed_done s (store_of out.new.arena) (store_of c.free.new.self) r (root_of c.remove.new.self) c.self.invariant c.args.anon x root at there out.result.0 out.result.1 w c.free.ensures None (sym c.in-None.is) (one_left s (store_of out.new.arena) r c.self.invariant c.args.anon (key x) root at there out.result.0 (subst (λ (g : Option (Link ℕ)). IsWithout key 0 max last_of s (store_of out.new.arena) (Some root.tree) (without_key key (key x) (entries (tree_at s (Some root.tree)))) out.result.0 g) c.in-None.is w)) c.remove.ensures in
+    let d = removed_done s (store_of out.new.arena) (store_of c.free.new.self) r (root_of c.remove.new.self) c.self.invariant c.args.anon x root at there
+    out.result.0 out.result.1 w c.free.ensures None (sym c.in-None.is)
+    (one_left s (store_of out.new.arena) r c.self.invariant c.args.anon (key x) root at there out.result.0
+    (subst (λ (g : Option (Link ℕ)). IsWithout key 0 max last_of s (store_of out.new.arena) (Some root.tree)
+    (without_key key (key x) (entries (tree_at s (Some root.tree)))) out.result.0 g) c.in-None.is w)) c.remove.ensures in
     d.forest
 
 pub returns-in-None : goal.returns-in-None
@@ -54,8 +59,13 @@ returns-in-None c =
     let there = subst (λ (w : Forest). IsSome (entry_at key (key_of c.args.first c.args.area) (triples w c.args.anon))) (sym c.self.view_is) c.requires.there in
     let out = c.remove-number in
     let w = out.ensures.removed in
-    let d = removed_done s (store_of out.new.arena) (store_of c.free.new.self) r (root_of c.remove.new.self) c.self.invariant c.args.anon x root at there out.result.0 out.result.1 w c.free.ensures None (sym c.in-None.is) (one_left s (store_of out.new.arena) r c.self.invariant c.args.anon (key x) root at there out.result.0 (subst (λ (g : Option (Link ℕ)). IsWithout key 0 max last_of s (store_of out.new.arena) (Some root.tree) (without_key key (key x) (entries (tree_at s (Some root.tree)))) out.result.0 g) c.in-None.is w)) c.remove.ensures in
-    subst (λ (w : Forest). (a : ℕ) → entries (tree_at (store_of c.free.new.self) (top_of (root_of c.remove.new.self a))) ≡ with_at c.args.anon (without_key key (key_of c.args.first c.args.area) (triples w c.args.anon)) (triples w) a) c.self.view_is d.triples
+    let d = removed_done s (store_of out.new.arena) (store_of c.free.new.self) r (root_of c.remove.new.self) c.self.invariant c.args.anon x root at there
+    out.result.0 out.result.1 w c.free.ensures None (sym c.in-None.is)
+    (one_left s (store_of out.new.arena) r c.self.invariant c.args.anon (key x) root at there out.result.0
+    (subst (λ (g : Option (Link ℕ)). IsWithout key 0 max last_of s (store_of out.new.arena) (Some root.tree)
+    (without_key key (key x) (entries (tree_at s (Some root.tree)))) out.result.0 g) c.in-None.is w)) c.remove.ensures in
+    subst (λ (w : Forest). (a : ℕ) → entries (tree_at (store_of c.free.new.self) (top_of (root_of c.remove.new.self a))) ≡ with_at c.args.anon
+    (without_key key (key_of c.args.first c.args.area) (triples w c.args.anon)) (triples w) a) c.self.view_is d.triples
 
 pub invariant_of-self-in-Some-rest : goal.invariant_of-self-in-Some-rest
 invariant_of-self-in-Some-rest c =
@@ -67,7 +77,9 @@ invariant_of-self-in-Some-rest c =
     let there = subst (λ (w : Forest). IsSome (entry_at key (key_of c.args.first c.args.area) (triples w c.args.anon))) (sym c.self.view_is) c.requires.there in
     let out = c.remove-number in
     let w = out.ensures.removed in
-    let d = removed_done s (store_of out.new.arena) (store_of c.free.new.self) r (root_of c.change.new.self) c.self.invariant c.args.anon x root at there out.result.0 out.result.1 w c.free.ensures (Some (record { tree = c.in-Some-rest.tree; len = root.len - 1 })) (sym c.in-Some-rest.is) (let h = some_left s r c.self.invariant c.args.anon (key x) root at there in omega arith) c.change.ensures in
+    let d = removed_done s (store_of out.new.arena) (store_of c.free.new.self) r (root_of c.change.new.self) c.self.invariant c.args.anon x root at there
+    out.result.0 out.result.1 w c.free.ensures (Some (record { tree = c.in-Some-rest.tree; len = root.len - 1 })) (sym c.in-Some-rest.is)
+    (let h = some_left s r c.self.invariant c.args.anon (key x) root at there in omega arith) c.change.ensures in
     d.forest
 
 pub returns-in-Some-rest : goal.returns-in-Some-rest
@@ -80,5 +92,8 @@ returns-in-Some-rest c =
     let there = subst (λ (w : Forest). IsSome (entry_at key (key_of c.args.first c.args.area) (triples w c.args.anon))) (sym c.self.view_is) c.requires.there in
     let out = c.remove-number in
     let w = out.ensures.removed in
-    let d = removed_done s (store_of out.new.arena) (store_of c.free.new.self) r (root_of c.change.new.self) c.self.invariant c.args.anon x root at there out.result.0 out.result.1 w c.free.ensures (Some (record { tree = c.in-Some-rest.tree; len = root.len - 1 })) (sym c.in-Some-rest.is) (let h = some_left s r c.self.invariant c.args.anon (key x) root at there in omega arith) c.change.ensures in
-    subst (λ (w : Forest). (a : ℕ) → entries (tree_at (store_of c.free.new.self) (top_of (root_of c.change.new.self a))) ≡ with_at c.args.anon (without_key key (key_of c.args.first c.args.area) (triples w c.args.anon)) (triples w) a) c.self.view_is d.triples
+    let d = removed_done s (store_of out.new.arena) (store_of c.free.new.self) r (root_of c.change.new.self) c.self.invariant c.args.anon x root at there
+    out.result.0 out.result.1 w c.free.ensures (Some (record { tree = c.in-Some-rest.tree; len = root.len - 1 })) (sym c.in-Some-rest.is)
+    (let h = some_left s r c.self.invariant c.args.anon (key x) root at there in omega arith) c.change.ensures in
+    subst (λ (w : Forest). (a : ℕ) → entries (tree_at (store_of c.free.new.self) (top_of (root_of c.change.new.self a))) ≡ with_at c.args.anon
+    (without_key key (key_of c.args.first c.args.area) (triples w c.args.anon)) (triples w) a) c.self.view_is d.triples
