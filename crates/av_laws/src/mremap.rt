@@ -84,7 +84,7 @@ ghost use Rattle.av_laws.specs.Mremap.{
 };
 
 /// Pages that move take their areas, cut to them, and their entries with them; those of other
-/// processes stay. An area with an anon_vma keeps its offset, another one has that of its new place.
+/// processes stay. An area with an anon_vma keeps its offset, another has that of its new place.
 /// What stands at the target goes first, then the pages past the new length, and pages that are new
 /// are zeros. Each boundary is tried, by rising address, and a joined area with what is behind it,
 /// too. Pages that are left as zeros get one area of their own, with their protection, which is
