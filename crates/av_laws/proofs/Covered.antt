@@ -813,11 +813,21 @@ step-covers m most old command reply new high fits c h =
     from_low (most + top_page) higher new.world new.areas
     (low-step m most high higher old command reply new fits (to_low most high old.world old.areas c) h)
 
-run-from : (m : Setting) (most : ℕ) (old : State) (es : List Exchange) (new : State) → top_page ≤ most → most + length es * top_page ≤ 2 ^ 60
-    → CoverBelow most old.world old.areas → IsRun m old es new → CoverPages new.world new.areas
-run-from m most old [] new high fits c h = subst (λ (s : State). CoverPages s.world s.areas) (sym h) c.cover
-run-from m most old (e ∷ es) new high fits c h = run-from m (most + top_page) h.0 es new (omega arith) (omega arith)
-    (step-covers m most old e.command e.reply h.0 high (omega arith) c h.1) h.2
+-- each command raises indices by no more than the pages of a process
+run-below : (m : Setting) (most : ℕ) (old : State) (es : List Exchange) (new : State) → top_page ≤ most → most + length es * top_page ≤ 2 ^ 60
+    → CoverBelow most old.world old.areas → IsRun m old es new → CoverBelow (most + length es * top_page) new.world new.areas
+run-below m most old [] new high fits c h =
+    subst (λ k. CoverBelow k new.world new.areas) (zero_more most) (subst (λ (s : State). CoverBelow most s.world s.areas) (sym h) c)
+  where
+    zero_more : (k : ℕ) → k ≡ k + 0 * top_page
+    zero_more k = omega arith
+run-below m most old (e ∷ es) new high fits c h =
+    subst (λ k. CoverBelow k new.world new.areas) (one_more most (length es))
+    (run-below m (most + top_page) h.0 es new (omega arith) (omega (arith, fits))
+    (step-covers m most old e.command e.reply h.0 high (omega (arith, fits)) c h.1) h.2)
+  where
+    one_more : (k n : ℕ) → k + top_page + n * top_page ≡ k + suc n * top_page
+    one_more k n = omega arith
 
 pub first-covers : (m : Setting) → CoverBelow top_page (at_first m).world (at_first m).areas
 first-covers m = record {
@@ -826,4 +836,11 @@ first-covers m = record {
 }
 
 pub run-covers : (m : Setting) (es : List Exchange) (new : State) → length es ≤ 2 ^ 24 → IsRun m (at_first m) es new → CoverPages new.world new.areas
-run-covers m es new few h = run-from m top_page (at_first m) es new (omega arith) (omega arith) (first-covers m) h
+run-covers m es new few h = (run-below m top_page (at_first m) es new (omega arith) (omega (arith, few)) (first-covers m) h).cover
+
+-- so there is room for any growth
+pub run-fits : (m : Setting) (es : List Exchange) (new : State) (p page n : ℕ) (area : Area) → length es ≤ 2 ^ 24 → IsRun m (at_first m) es new
+    → new.areas p page ≡ Some area → n ≤ top_page → index_of area (past_of area) + n < 2 ^ 60
+run-fits m es new p page n area few h is small =
+    let below = (run-below m top_page (at_first m) es new (omega arith) (omega (arith, few)) (first-covers m) h).low p page area is in
+    omega (arith, below, small, few)

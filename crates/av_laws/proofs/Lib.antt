@@ -19,6 +19,7 @@ pub mod PrepareExamples
 pub mod HomeExamples
 pub mod ForkExamples
 pub mod MremapExamples
+pub mod MremapRefusals
 pub mod UnsoundExamples
 pub mod ReadBack
 pub mod NeedsFrame

@@ -1,5 +1,5 @@
 -- What an mremap leaves.
-use Rattle.std.proofs.Common.{◌≡◌, ℕ, ◌*◌, ◌≤◌, Bool, true, false, cond, List, [], ◌∷◌, length, Option, Some, None, is_some, refl, sym, ap, subst, ◌∙◌, arith}
+use Rattle.std.proofs.Common.{◌≡◌, ℕ, zero, suc, ◌+◌, ◌-◌, ◌*◌, ◌<◌, ◌≤◌, Bool, true, false, cond, List, [], ◌∷◌, length, Option, Some, None, is_some, refl, sym, ap, subst, ◌∙◌, arith}
 use Rattle.std.proofs.lemmas.Bool.{false≢true}
 use Rattle.std.proofs.lemmas.Bool.Decides.{nat_tests}
 use Rattle.std.specs.List.{AllByRecursion}
@@ -27,21 +27,21 @@ use Rattle.av_plain.specs.Transcript.{IsStep, State, at_first, rmap_of}
 use Rattle.av_plain.specs.World.{Page, World, is_mapped, pages, zeros}
 use Rattle.av_plain.proofs.AreasLeft.{AreBelow, left-all, left-none}
 use Rattle.av_laws.proofs.Choice.{gives_all}
-use Rattle.av_laws.specs.Areas.{area, area_of, one_root, two_roots}
+use Rattle.av_laws.specs.Areas.{area, area_of, kin, one_root, two_roots}
 use Rattle.av_laws.specs.Examples.{Forbids, Runs, machine, read_only, read_write, reply_with, says}
-use Rattle.av_laws.specs.Mremap.{LeavesPage, NeverLeavesEntries, NeverLeavesPage, NeverMoves, RemapsTo, all_move, at_top, behind_itself, entries_at_top, entries_here, entries_of_part, entries_of_second, entries_there, grows, grows_by_one, grows_by_two, grows_or_moves, with_neighbour, moved_of, of_none, of_root, of_two_roots, one_at_target, one_left_behind, one_lost, one_twice, one_unseen, onto_itself, onto_itself_low, part_moves, remap_refusals, second_moves, sevens, shrinks, three_kinds, top_moves, two_move, with_hole, with_target, zeros_stay}
+use Rattle.av_laws.specs.Mremap.{LeavesFrames, LeavesPage, NeverLeavesEntries, NeverLeavesPage, NeverMoves, RemapsTo, all_move, all_sevens, at_top, behind_itself, entries_at_top, entries_here, entries_of_first, entries_of_part, entries_of_second, entries_of_two, entries_there, entries_without_tail, first_doubles, for_reading, grows, grows_by_one, grows_by_two, grows_or_moves, moved_of, of_none, of_root, of_two_processes, of_two_roots, one_at_target, one_left_behind, one_lost, one_twice, one_unseen, out_of_place, pair_moves, part_moves, prepared, second_grows, second_moves, second_shrinks, second_stays, sevens, shrinks, three_kinds, top_grows, top_moves, two_move, with_frames, with_hole, with_long_chain, with_neighbour, with_next, with_target, zeros_stay}
 use Rattle.av_laws.proofs.AnonExamples.{now-is}
 use Rattle.av_plain.proofs.Choice.{ChoosesFrames}
 use Rattle.av_laws.proofs.Determined.{loads-told}
-use Rattle.av_laws.proofs.FirstExamples.{all_linked, by_steps, gap_under, linked-all, one-step, state_after}
-use Rattle.av_laws.proofs.PrepareExamples.{one-below, two-below}
+use Rattle.av_laws.proofs.FirstExamples.{all_linked, gap_under, linked-all, one-step, state_after}
+use Rattle.av_laws.proofs.PrepareExamples.{kin-below, one-below, two-below}
 
 -- ---- a step that may be
 
 -- pages on which areas are linked
 abbrev linked_on : List (Key × Entry)
 linked_on =
-    ((1, 0x10), Zero) ∷ ((1, 0x12), Zero) ∷ ((1, 0x18), Zero) ∷ ((1, 0x1a), Zero) ∷ ((1, 0x7fffffffa), Zero) ∷ ((1, 0x7fffffffd), Zero) ∷ []
+    ((1, 0x10), Zero) ∷ ((1, 0x12), Zero) ∷ ((1, 0x18), Zero) ∷ ((1, 0x1a), Zero) ∷ ((1, 0x7fffffffa), Zero) ∷ ((1, 0x7fffffffc), Zero) ∷ ((1, 0x7fffffffd), Zero) ∷ []
 
 -- where each is linked on one of these all are left
 stays : (anons : Anons) (on : Areas) → AreBelow anons → all_linked anons on linked_on anons.next ≡ true → AreLeft anons on anons
@@ -63,6 +63,9 @@ module _ (old : State) (a o n : ℕ) (mode : Mode) (b : ℕ) (events : List Even
       → AllByRecursion (λ page. then.areas 1 page ≡ pages_in (Some areas) page) (numbers first 16) → then.ledger.entries ≡ entries
       → RemapsTo old (Mremap 1 a o n mode) b first areas entries
   remaps first areas entries on there = (then, step, on, there)
+
+  may-be : (new : State) × IsStep (machine 4) old (Mremap 1 a o n mode) (reply_with (MapAt b) []) new
+  may-be = (then, step)
 
   leaves-page : (page : ℕ) (there : Option Page) → pages then.world 1 page ≡ there → LeavesPage old (Mremap 1 a o n mode) b page there
   leaves-page page there is = (then, step, is)
@@ -138,6 +141,96 @@ joined_after = remaps three_kinds 0x11000 4096 4096 (DontUnmap (Some 0x13000)) 0
     (still, (still, refl, refl), refl) refl (stays two_roots _ two-below refl) 0xf (area_of 0 0x10 0x12 ∷ area_of 1 0x12 0x14 ∷ []) entries_of_second
     (refl, (refl, (refl, (refl, (refl, (refl, (refl, (refl, (refl, (refl, (refl, (refl, (refl, (refl, (refl, (refl, tt)))))))))))))))) refl
 
+-- ---- which boundaries are tried
+
+pub joins_inside : RemapsTo out_of_place pair_moves 0x18000 0xf (area_of 0 0x18 0x1a ∷ area_of 1 0x1a 0x1b ∷ []) entries_there
+joins_inside = remaps out_of_place 0x10000 8192 8192 (FixedAt 0x18000) 0x18000 (Moved 1 2 0x10 0x18 ∷ [])
+    (record { answer = (Some 0x18, refl, refl, refl, refl); notes = refl })
+    (still, (still, refl, refl), refl) refl (stays two_roots _ two-below refl) 0xf (area_of 0 0x18 0x1a ∷ area_of 1 0x1a 0x1b ∷ []) entries_there
+    (refl, (refl, (refl, (refl, (refl, (refl, (refl, (refl, (refl, (refl, (refl, (refl, (refl, (refl, (refl, (refl, tt)))))))))))))))) refl
+
+pub joins_behind : RemapsTo with_next all_move 0x18000 0xf (area 0x18 0x1d read_write ∷ []) entries_there
+joins_behind = remaps with_next 0x10000 16384 16384 (FixedAt 0x18000) 0x18000 (Moved 1 4 0x10 0x18 ∷ [])
+    (record { answer = (Some 0x18, refl, refl, refl, refl); notes = refl })
+    (still, (still, refl, refl), refl) refl (left-none _) 0xf (area 0x18 0x1d read_write ∷ []) entries_there
+    (refl, (refl, (refl, (refl, (refl, (refl, (refl, (refl, (refl, (refl, (refl, (refl, (refl, (refl, (refl, (refl, tt)))))))))))))))) refl
+
+pub joins_before : RemapsTo prepared second_grows 0x11000 0xf (area_of 0 0x10 0x14 ∷ []) entries_here
+joins_before = remaps prepared 0x11000 8192 12288 Plain 0x11000 []
+    (record { answer = (Some 0x11, refl, refl, refl, refl); notes = refl })
+    refl refl (stays one_root _ one-below refl) 0xf (area_of 0 0x10 0x14 ∷ []) entries_here
+    (refl, (refl, (refl, (refl, (refl, (refl, (refl, (refl, (refl, (refl, (refl, (refl, (refl, (refl, (refl, (refl, tt)))))))))))))))) refl
+
+pub shrinks_apart : RemapsTo prepared second_shrinks 0x11000 0xf (area_of 0 0x10 0x11 ∷ area_of 0 0x11 0x12 ∷ []) entries_here
+shrinks_apart = remaps prepared 0x11000 8192 4096 Plain 0x11000 []
+    (record { answer = (Some 0x11, refl, refl, refl, refl); notes = refl })
+    refl refl (stays one_root _ one-below refl) 0xf (area_of 0 0x10 0x11 ∷ area_of 0 0x11 0x12 ∷ []) entries_here
+    (refl, (refl, (refl, (refl, (refl, (refl, (refl, (refl, (refl, (refl, (refl, (refl, (refl, (refl, (refl, (refl, tt)))))))))))))))) refl
+
+pub stays_apart : RemapsTo prepared second_stays 0x11000 0xf (area_of 0 0x10 0x11 ∷ area_of 0 0x11 0x13 ∷ []) entries_here
+stays_apart = remaps prepared 0x11000 8192 8192 Plain 0x11000 []
+    (record { answer = (Some 0x11, refl, refl, refl, refl); notes = refl })
+    refl refl (stays one_root _ one-below refl) 0xf (area_of 0 0x10 0x11 ∷ area_of 0 0x11 0x13 ∷ []) entries_here
+    (refl, (refl, (refl, (refl, (refl, (refl, (refl, (refl, (refl, (refl, (refl, (refl, (refl, (refl, (refl, (refl, tt)))))))))))))))) refl
+
+pub long_chain : RemapsTo with_long_chain grows_by_two 0x10000 0xf (area_of 1 0x10 0x14 ∷ area 0x14 0x16 read_write ∷ []) entries_here
+long_chain = remaps with_long_chain 0x10000 8192 16384 Plain 0x10000 []
+    (record { answer = (Some 0x10, refl, refl, refl, refl); notes = refl })
+    refl refl (stays kin _ kin-below refl) 0xf (area_of 1 0x10 0x14 ∷ area 0x14 0x16 read_write ∷ []) entries_here
+    (refl, (refl, (refl, (refl, (refl, (refl, (refl, (refl, (refl, (refl, (refl, (refl, (refl, (refl, (refl, (refl, tt)))))))))))))))) refl
+
+-- ---- what stays, goes and is new
+
+pub two_leave_one : RemapsTo of_two_roots zeros_stay 0x18000 0xf (area 0x10 0x14 read_write ∷ moved_of 0 0x18 0x1a 0x10 ∷ moved_of 1 0x1a 0x1c 0x12 ∷ []) entries_there
+two_leave_one = remaps of_two_roots 0x10000 16384 16384 (DontUnmap (Some 0x18000)) 0x18000 (Moved 1 4 0x10 0x18 ∷ [])
+    (record { answer = (Some 0x18, refl, refl, refl, refl); notes = refl })
+    (still, (still, refl, refl), refl) refl (stays two_roots _ two-below refl) 0xf (area 0x10 0x14 read_write ∷ moved_of 0 0x18 0x1a 0x10 ∷ moved_of 1 0x1a 0x1c 0x12 ∷ []) entries_there
+    (refl, (refl, (refl, (refl, (refl, (refl, (refl, (refl, (refl, (refl, (refl, (refl, (refl, (refl, (refl, (refl, tt)))))))))))))))) refl
+
+pub other_stays : RemapsTo of_two_processes all_move 0x18000 0xf (moved_of 0 0x18 0x1c 0x10 ∷ []) entries_of_two
+other_stays = remaps of_two_processes 0x10000 16384 16384 (FixedAt 0x18000) 0x18000 (Moved 1 4 0x10 0x18 ∷ [])
+    (record { answer = (Some 0x18, refl, refl, refl, refl); notes = refl })
+    (still, (still, refl, refl), refl) refl (stays one_root _ one-below refl) 0xf (moved_of 0 0x18 0x1c 0x10 ∷ []) entries_of_two
+    (refl, (refl, (refl, (refl, (refl, (refl, (refl, (refl, (refl, (refl, (refl, (refl, (refl, (refl, (refl, (refl, tt)))))))))))))))) refl
+
+pub denied_still : LeavesPage for_reading zeros_stay 0x18000 0x10 (Some (zeros read_only))
+denied_still = leaves-page for_reading 0x10000 16384 16384 (DontUnmap (Some 0x18000)) 0x18000 (Moved 1 4 0x10 0x18 ∷ [])
+    (record { answer = (Some 0x18, refl, refl, refl, refl); notes = refl })
+    (0 ∷ still, (0 ∷ still, refl, refl), refl) refl (left-none _) 0x10 (Some (zeros read_only)) refl
+
+pub grown_by_zeros : LeavesPage all_sevens first_doubles 0x18000 0x19 (Some (zeros read_write))
+grown_by_zeros = leaves-page all_sevens 0x10000 4096 8192 (FixedAt 0x18000) 0x18000 (Moved 1 1 0x10 0x18 ∷ [])
+    (record { answer = (Some 0x18, refl, refl, refl, refl); notes = refl })
+    (still, (still, refl, refl), refl) refl (stays one_root _ one-below refl) 0x19 (Some (zeros read_write)) refl
+
+-- a step after which these frames are free
+frees : (old : State) (a o n : ℕ) (mode : Mode) (b : ℕ) (events : List Event) (free : List ℕ) (entries : List (Key × Entry))
+    → IsLegal (machine 4) old.world old.ledger (Mremap 1 a o n mode) (reply_with (MapAt b) []) events
+    → ChoosesFrames (machine 4) old.ledger events old.free.frames free
+    → gives_all (machine 4) None old.ledger events old.free.slots ≡ true
+    → AreLeft (rmap_after_all old.ledger events (rmap_of old)).anons
+    (state_after (machine 4) old (says (Mremap 1 a o n mode) (MapAt b) []) events free old.anons).areas old.anons
+    → (after_all old.ledger events).entries ≡ entries
+    → LeavesFrames old (Mremap 1 a o n mode) b entries free
+frees old a o n mode b events free entries legal frames given left there = (
+  state_after (machine 4) old (says (Mremap 1 a o n mode) (MapAt b) []) events free old.anons,
+  one-step (machine 4) old (says (Mremap 1 a o n mode) (MapAt b) []) refl events free old.anons legal frames given left tt,
+  there,
+  refl,
+)
+
+pub target_before_tail : LeavesFrames with_frames two_move 0x18000 entries_of_first (1 ∷ 2 ∷ 3 ∷ [])
+target_before_tail = frees with_frames 0x10000 16384 8192 (FixedAt 0x18000) 0x18000
+    (Zapped (1, 0x18) ∷ Zapped (1, 0x13) ∷ Moved 1 2 0x10 0x18 ∷ []) (1 ∷ 2 ∷ 3 ∷ []) entries_of_first
+    (record { answer = (Some 0x18, refl, refl, refl, refl); notes = refl })
+    (2 ∷ 3 ∷ [], (3 ∷ [], refl, refl), (1 ∷ 2 ∷ 3 ∷ [], (2 ∷ 3 ∷ [], refl, refl), (1 ∷ 2 ∷ 3 ∷ [], (1 ∷ 2 ∷ 3 ∷ [], refl, refl), refl)))
+    refl (stays one_root _ one-below refl) refl
+
+pub tail_goes_here : LeavesFrames with_frames shrinks 0x10000 entries_without_tail (1 ∷ 3 ∷ [])
+tail_goes_here = frees with_frames 0x10000 16384 8192 Plain 0x10000 (Zapped (1, 0x13) ∷ []) (1 ∷ 3 ∷ []) entries_without_tail
+    (record { answer = (Some 0x10, refl, refl, refl, refl); notes = refl })
+    (1 ∷ 3 ∷ [], (3 ∷ [], refl, refl), refl) refl (stays one_root _ one-below refl) refl
+
 -- ---- pages that stay, or find a place
 
 pub shrinks_here : RemapsTo of_root shrinks 0x10000 0xf (area_of 0 0x10 0x12 ∷ []) entries_here
@@ -199,6 +292,24 @@ next_to_top = remaps at_top 0x7fffffffe000 4096 4096 (DontUnmap None) 0x7fffffff
     (record { answer = (Some 0x7fffffffd, below_top, refl, refl, refl); notes = refl })
     (0 ∷ still, (0 ∷ still, refl, refl), refl) refl (stays one_root _ one-below refl) 0x7fffffff0
     (moved_of 0 0x7fffffffd 0x7fffffffe 0x7fffffffe ∷ area 0x7fffffffe 0x7ffffffff read_write ∷ []) []
+    (refl, (refl, (refl, (refl, (refl, (refl, (refl, (refl, (refl, (refl, (refl, (refl, (refl, (refl, (refl, (refl, tt)))))))))))))))) refl
+
+at_top_free : (k q : ℕ) → q ≡ 0x7fffffffc + k → k < 2 → is_mapped (pages at_top.world 1) q ≡ false
+at_top_free zero q is less = subst (λ q. is_mapped (pages at_top.world 1) q ≡ false) (sym is) refl
+at_top_free (suc zero) q is less = subst (λ q. is_mapped (pages at_top.world 1) q ≡ false) (sym is) refl
+at_top_free (suc (suc k)) q is less = absurd (omega (arith, less))
+
+-- two pages fit below the one at the top, and not with it
+below_both : IsGap (is_mapped (pages at_top.world 1)) 2 (Some 0x7fffffffc)
+below_both = gap_under (is_mapped (pages at_top.world 1)) 0x7fffffffe 2 refl (omega arith) (omega arith) (omega arith)
+    (λ q low high. at_top_free (q - 0x7fffffffc) q (omega (arith, low)) (omega (arith, high)))
+    (λ q low high. let same : 0x7fffffffe ≡ q = omega (arith, low, high) in subst (λ q. is_mapped (pages at_top.world 1) q ≡ true) same refl)
+
+pub below_itself : RemapsTo at_top top_grows 0x7fffffffc000 0x7fffffff0 (moved_of 0 0x7fffffffc 0x7fffffffe 0x7fffffffe ∷ []) []
+below_itself = remaps at_top 0x7fffffffe000 4096 8192 MayMove 0x7fffffffc000 (Moved 1 1 0x7fffffffe 0x7fffffffc ∷ [])
+    (record { answer = (Some 0x7fffffffc, below_both, refl, refl, refl); notes = refl })
+    (0 ∷ still, (0 ∷ still, refl, refl), refl) refl (stays one_root _ one-below refl) 0x7fffffff0
+    (moved_of 0 0x7fffffffc 0x7fffffffe 0x7fffffffe ∷ []) []
     (refl, (refl, (refl, (refl, (refl, (refl, (refl, (refl, (refl, (refl, (refl, (refl, (refl, (refl, (refl, (refl, tt)))))))))))))))) refl
 
 -- ---- what no reply says
@@ -338,6 +449,26 @@ pub owned_still : NeverMoves of_root zeros_stay 0x18000 0x10 (area_of 0 0x10 0x1
 owned_still = never-moves of_root 0x10000 16384 16384 (DontUnmap (Some 0x18000)) 0x18000 refl 0x10 (area_of 0 0x10 0x14)
     (λ e. false≢true (ap has_own e))
 
+pub wrong_way : NeverMoves out_of_place pair_moves 0x18000 0x19 (area_of 1 0x19 0x1b)
+wrong_way = never-moves out_of_place 0x10000 8192 8192 (FixedAt 0x18000) 0x18000 refl 0x19 (area_of 1 0x19 0x1b)
+    (λ e. let d : ◌≡◌ {A = ℕ} 0x18000 0x19000 = ap start_in e in omega (arith, d))
+
+pub apart_behind : NeverMoves with_next all_move 0x18000 0x18 (area 0x18 0x1c read_write)
+apart_behind = never-moves with_next 0x10000 16384 16384 (FixedAt 0x18000) 0x18000 refl 0x18 (area 0x18 0x1c read_write)
+    (λ e. let d : ◌≡◌ {A = ℕ} 0x1d000 0x1c000 = ap end_in e in omega (arith, d))
+
+pub apart_before : NeverMoves prepared second_grows 0x11000 0x10 (area_of 0 0x10 0x11)
+apart_before = never-moves prepared 0x11000 8192 12288 Plain 0x11000 refl 0x10 (area_of 0 0x10 0x11)
+    (λ e. let d : ◌≡◌ {A = ℕ} 0x14000 0x11000 = ap end_in e in omega (arith, d))
+
+pub joined_when_shrunk : NeverMoves prepared second_shrinks 0x11000 0x10 (area_of 0 0x10 0x12)
+joined_when_shrunk = never-moves prepared 0x11000 8192 4096 Plain 0x11000 refl 0x10 (area_of 0 0x10 0x12)
+    (λ e. let d : ◌≡◌ {A = ℕ} 0x11000 0x12000 = ap end_in e in omega (arith, d))
+
+pub joined_by_long_chain : NeverMoves with_long_chain grows_by_two 0x10000 0x10 (area_of 1 0x10 0x16)
+joined_by_long_chain = never-moves with_long_chain 0x10000 8192 16384 Plain 0x10000 refl 0x10 (area_of 1 0x10 0x16)
+    (λ e. let d : ◌≡◌ {A = ℕ} 0x14000 0x16000 = ap end_in e in omega (arith, d))
+
 -- the first byte of a page
 abbrev byte_in : Option Page → ℕ
 byte_in None = 1
@@ -386,133 +517,3 @@ unseen_after = never-there one_unseen (λ e. false≢true (sym (ap first_seen e)
 
 pub entry_at_target : NeverLeavesEntries with_target all_move 0x18000 one_at_target
 entry_at_target = never-leaves with_target 0x10000 16384 16384 (FixedAt 0x18000) 0x18000 refl one_at_target (λ e. false≢true (sym (ap first_seen e)))
-
--- ---- refusals
-
-abbrev errno_code : Answer → ℕ
-errno_code (Refused Eperm) = 1
-errno_code (Refused Einval) = 22
-errno_code answer = 0
-
-pub onto_itself-not : Forbids (machine 4) of_root onto_itself (reply_with (MapAt 0x12000) [])
-onto_itself-not events legal = let e = ap errno_code legal.answer.0 in omega (arith, e)
-
-pub onto_itself_low-not : Forbids (machine 4) of_root onto_itself_low (reply_with (Refused Eperm) [])
-onto_itself_low-not events legal = let e = ap errno_code legal.answer.0 in omega (arith, e)
-
-pub remap_refusals-runs : Runs 4 remap_refusals
-remap_refusals-runs = by_steps (machine 4) (at_first (machine 4)) remap_refusals refl (
-  [],
-  0 ∷ 1 ∷ 2 ∷ 3 ∷ [],
-  record { answer = (refl, refl, refl); notes = refl },
-  refl,
-  (
-    [],
-    0 ∷ 1 ∷ 2 ∷ 3 ∷ [],
-    record { answer = (Some 0x10, refl, refl, refl, refl); notes = refl },
-    refl,
-    (
-      [],
-      0 ∷ 1 ∷ 2 ∷ 3 ∷ [],
-      record { answer = (refl, refl, refl); notes = refl },
-      refl,
-      (
-        [],
-        0 ∷ 1 ∷ 2 ∷ 3 ∷ [],
-        record { answer = (refl, refl, refl); notes = refl },
-        refl,
-        (
-          [],
-          0 ∷ 1 ∷ 2 ∷ 3 ∷ [],
-          record { answer = (refl, refl, refl); notes = refl },
-          refl,
-          (
-            [],
-            0 ∷ 1 ∷ 2 ∷ 3 ∷ [],
-            record { answer = (refl, refl, refl); notes = refl },
-            refl,
-            (
-              [],
-              0 ∷ 1 ∷ 2 ∷ 3 ∷ [],
-              record { answer = (refl, refl, refl); notes = refl },
-              refl,
-              (
-                [],
-                0 ∷ 1 ∷ 2 ∷ 3 ∷ [],
-                record { answer = (refl, refl, refl); notes = refl },
-                refl,
-                (
-                  [],
-                  0 ∷ 1 ∷ 2 ∷ 3 ∷ [],
-                  record { answer = (refl, refl, refl); notes = refl },
-                  refl,
-                  (
-                    [],
-                    0 ∷ 1 ∷ 2 ∷ 3 ∷ [],
-                    record { answer = (refl, refl, refl); notes = refl },
-                    refl,
-                    (
-                      [],
-                      0 ∷ 1 ∷ 2 ∷ 3 ∷ [],
-                      record { answer = (refl, refl, refl); notes = refl },
-                      refl,
-                      (
-                        [],
-                        0 ∷ 1 ∷ 2 ∷ 3 ∷ [],
-                        record { answer = (refl, refl, refl); notes = refl },
-                        refl,
-                        (
-                          [],
-                          0 ∷ 1 ∷ 2 ∷ 3 ∷ [],
-                          record { answer = (refl, refl, refl); notes = refl },
-                          refl,
-                          (
-                            [],
-                            0 ∷ 1 ∷ 2 ∷ 3 ∷ [],
-                            record { answer = (refl, refl, refl); notes = refl },
-                            refl,
-                            (
-                              [],
-                              0 ∷ 1 ∷ 2 ∷ 3 ∷ [],
-                              record { answer = (refl, refl, refl); notes = refl },
-                              refl,
-                              (
-                                [],
-                                0 ∷ 1 ∷ 2 ∷ 3 ∷ [],
-                                record { answer = (Some 0x10, refl, refl, refl, refl); notes = refl },
-                                refl,
-                                (
-                                  [],
-                                  0 ∷ 1 ∷ 2 ∷ 3 ∷ [],
-                                  record { answer = (Some 0x10, refl, refl, refl, refl); notes = refl },
-                                  refl,
-                                  (
-                                    [],
-                                    0 ∷ 1 ∷ 2 ∷ 3 ∷ [],
-                                    record { answer = (Some 0x10, refl, refl, refl, refl); notes = refl },
-                                    refl,
-                                    (
-                                      [],
-                                      0 ∷ 1 ∷ 2 ∷ 3 ∷ [],
-                                      record { answer = (Some 0x12, refl, refl, refl, refl); notes = refl },
-                                      refl,
-                                      ([], 0 ∷ 1 ∷ 2 ∷ 3 ∷ [], record { answer = (None, refl, refl, refl, refl); notes = refl }, refl, tt),
-                                    ),
-                                  ),
-                                ),
-                              ),
-                            ),
-                          ),
-                        ),
-                      ),
-                    ),
-                  ),
-                ),
-              ),
-            ),
-          ),
-        ),
-      ),
-    ),
-  ),
-)

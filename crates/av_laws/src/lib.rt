@@ -17,7 +17,7 @@ mod slots;
 mod unsound;
 mod views;
 
-ghost use Rattle.std.specs.Prelude.{◌≡◌, ◌⊎◌, ℕ, ◌+◌, ◌^◌, ◌≤◌, false, true, length, List, []};
+ghost use Rattle.std.specs.Prelude.{◌≡◌, ◌⊎◌, ℕ, ◌+◌, ◌^◌, ◌<◌, ◌≤◌, false, true, length, List, [], Some};
 ghost use Rattle.av_base.specs.Limits.{top_page};
 ghost use Rattle.std.specs.List.{AllByRecursion};
 ghost use Rattle.av_base.specs.declared.prot.Prot.{Prot};
@@ -33,7 +33,9 @@ ghost use Rattle.av_plain.specs.Ledger.{Ledger, Setting};
 ghost use Rattle.av_plain.specs.Event.{Event, after_all};
 ghost use Rattle.av_plain.specs.Areas.{Anons};
 ghost use Rattle.av_plain.specs.Report.{AreMaps, AreRowsOf, totals};
+ghost use Rattle.av_vma.specs.Join.{index_of, past_of};
 ghost use Rattle.av_vma.specs.Pages.{Pages};
+ghost use Rattle.av_vma.specs.declared.area.Area.{Area};
 ghost use Rattle.av_plain.specs.Step.{IsLegal, causes, next_world};
 ghost use Rattle.av_plain.specs.Refusal.{is_mprotect};
 ghost use Rattle.av_plain.specs.Map.{StopsAtHole};
@@ -154,7 +156,8 @@ pub fn runs_list_free_slots()
 /// In a run of at most 2^24 commands the areas of each process cover exactly its pages, with their
 /// protection, and each area is whole and on all of its pages. So it is after each command that
 /// finds it so, however long the chains of anon_vmas are, while linear indices stay small: a command
-/// raises them by no more than the pages that a process may have.
+/// raises them by no more than the pages that a process may have. So after such a run an area may
+/// grow by as many pages, and its indices are still below 2^60.
 pub fn runs_lay_areas()
     ensures from_nothing { (m : Setting) (exchanges : List Exchange) (new : State)
         → length exchanges ≤ 2 ^ 24 → IsRun m (at_first m) exchanges new
@@ -163,6 +166,10 @@ pub fn runs_lay_areas()
         (reply : Reply) → top_page ≤ most → most + top_page ≤ 2 ^ 60
         → CoverBelow most old.world old.areas → IsStep m old command reply new
         → CoverBelow (most + top_page) new.world new.areas }
+    ensures growth_fits { (m : Setting) (exchanges : List Exchange) (new : State) (p page n : ℕ)
+        (area : Area) → length exchanges ≤ 2 ^ 24 → IsRun m (at_first m) exchanges new
+        → new.areas p page ≡ Some area → n ≤ top_page
+        → index_of area (past_of area) + n < 2 ^ 60 }
 {}
 
 /// Each frame is free, active or inactive, and so the numbers of `stat` add up.

@@ -1,4 +1,4 @@
-use Rattle.av_laws.proofs.MremapExamples.{bytes_lost, bytes_stay, entry_at_target, entry_left_behind, entry_lost, gone_for_good, grown_apart, joined_with_source, mapped_twice, offset_anew, offset_kept, old_range_first, owned_still, tail_stays, target_stays, unseen_after}
+use Rattle.av_laws.proofs.MremapExamples.{apart_before, apart_behind, bytes_lost, bytes_stay, entry_at_target, entry_left_behind, entry_lost, gone_for_good, grown_apart, joined_by_long_chain, joined_when_shrunk, joined_with_source, mapped_twice, offset_anew, offset_kept, old_range_first, owned_still, tail_stays, target_stays, unseen_after, wrong_way}
 use Rattle.av_laws.proofs.mremap.changed_mremaps_are_refused.Goals as goal
 
 pub returns-clause-offset_anew : goal.returns-clause-offset_anew
@@ -48,3 +48,18 @@ returns-clause-entry_lost c = entry_lost
 
 pub returns-clause-unseen_after : goal.returns-clause-unseen_after
 returns-clause-unseen_after c = unseen_after
+
+pub returns-clause-wrong_way : goal.returns-clause-wrong_way
+returns-clause-wrong_way c = wrong_way
+
+pub returns-clause-apart_behind : goal.returns-clause-apart_behind
+returns-clause-apart_behind c = apart_behind
+
+pub returns-clause-apart_before : goal.returns-clause-apart_before
+returns-clause-apart_before c = apart_before
+
+pub returns-clause-joined_when_shrunk : goal.returns-clause-joined_when_shrunk
+returns-clause-joined_when_shrunk c = joined_when_shrunk
+
+pub returns-clause-joined_by_long_chain : goal.returns-clause-joined_by_long_chain
+returns-clause-joined_by_long_chain c = joined_by_long_chain

@@ -1,4 +1,4 @@
-use Rattle.av_laws.proofs.MremapExamples.{bare_moves, behind_itself-remaps, bytes_move, joined_after, old_range_stays, over_another, part_moves-remaps, tail_goes, to_another_place, two_areas, zeros_stay-leaves}
+use Rattle.av_laws.proofs.MremapExamples.{bare_moves, behind_itself-remaps, bytes_move, denied_still, grown_by_zeros, joined_after, joins_behind, joins_inside, old_range_stays, other_stays, over_another, part_moves-remaps, tail_goes, target_before_tail, to_another_place, two_areas, two_leave_one, zeros_stay-leaves}
 use Rattle.av_laws.proofs.mremap.pages_move.Goals as goal
 
 pub returns-clause-to_another_place : goal.returns-clause-to_another_place
@@ -33,3 +33,24 @@ returns-clause-bytes_move c = bytes_move
 
 pub returns-clause-zeros_stay : goal.returns-clause-zeros_stay
 returns-clause-zeros_stay c = zeros_stay-leaves
+
+pub returns-clause-joins_inside : goal.returns-clause-joins_inside
+returns-clause-joins_inside c = joins_inside
+
+pub returns-clause-joins_behind : goal.returns-clause-joins_behind
+returns-clause-joins_behind c = joins_behind
+
+pub returns-clause-other_stays : goal.returns-clause-other_stays
+returns-clause-other_stays c = other_stays
+
+pub returns-clause-target_before_tail : goal.returns-clause-target_before_tail
+returns-clause-target_before_tail c = target_before_tail
+
+pub returns-clause-two_leave_one : goal.returns-clause-two_leave_one
+returns-clause-two_leave_one c = two_leave_one
+
+pub returns-clause-denied_still : goal.returns-clause-denied_still
+returns-clause-denied_still c = denied_still
+
+pub returns-clause-grown_by_zeros : goal.returns-clause-grown_by_zeros
+returns-clause-grown_by_zeros c = grown_by_zeros
