@@ -40,13 +40,19 @@ module _ (l : Ledger) (p from n to m : ℕ) (sorted : T (is_sorted key_cmp l.ent
   kept = then_tail l p from n to m
 
   kept_sorted : T (is_sorted key_cmp kept.entries)
-  kept_sorted = in_order-zaps (keys_in (then_target l p from n to m) p (from + m) (n - m)) (then_target l p from n to m) (in_order-zaps (keys_in l p to m) l sorted)
+  kept_sorted =
+      let target = then_target l p from n to m in
+      in_order-zaps (keys_in target p (from + m) (n - m)) target (in_order-zaps (keys_in l p to m) l sorted)
 
   at_here : (to == from) ≡ true → (k page : ℕ) → entry later (k, page) ≡ cond (in_range p (from + m) (n - m) (k, page)) None (entry l (k, page))
   at_here here k page = ap (λ x. entry x (k, page)) (after-in_place l p from n to m here) ∙ entry-range l p (from + m) (n - m) k page
 
+  -- an entry that has come, or else one that has not left
+  abbrev either : Bool → Bool → ℕ → ℕ → Option Entry
+  either comes leaves k page = option_or (cond comes (entry kept (p, page - to + from)) None) (cond (not leaves) (entry kept (k, page)) None)
+
   at_there : (to == from) ≡ false → (k page : ℕ) → entry later (k, page)
-      ≡ option_or (cond (in_range p to (min n m) (k, page)) (entry kept (p, page - to + from)) None) (cond (not (in_range p from (min n m) (k, page))) (entry kept (k, page)) None)
+      ≡ either (in_range p to (min n m) (k, page)) (in_range p from (min n m) (k, page)) k page
   at_there there k page = ap (λ x. entry x (k, page)) (after-elsewhere l p from n to m there) ∙ entry-moved kept p (min n m) from to kept_sorted (k, page)
 
   -- other processes keep theirs
@@ -56,7 +62,7 @@ module _ (l : Ledger) (p from n to m : ℕ) (sorted : T (is_sorted key_cmp l.ent
       by : (b : Bool) → (to == from) ≡ b → entry later (k, page) ≡ entry l (k, page)
       by true here = at_here here k page ∙ (λ i. cond (other i && within (from + m) (n - m) page) None (entry l (k, page)))
       by false there = at_there there k page
-          ∙ (λ i. option_or (cond (other i && within to (min n m) page) (entry kept (p, page - to + from)) None) (cond (not (other i && within from (min n m) page)) (entry kept (k, page)) None))
+          ∙ (λ i. either (other i && within to (min n m) page) (other i && within from (min n m) page) k page)
           ∙ entry-then_tail l p from n to m k page
           ∙ (λ i. cond (other i && within (from + m) (n - m) page) None (cond (other i && within to m page) None (entry l (k, page))))
 
@@ -74,15 +80,16 @@ module _ (l : Ledger) (p from n to m : ℕ) (sorted : T (is_sorted key_cmp l.ent
   -- ---- elsewhere
 
   module _ (there : (to == from) ≡ false) (apart : (to + m ≤ from) ⊎ (from + n ≤ to)) where
-    kept_is : (page : ℕ) (b c : Bool) → within (from + m) (n - m) page ≡ b → within to m page ≡ c → entry kept (p, page) ≡ cond b None (cond c None (entry l (p, page)))
+    kept_is : (page : ℕ) (b c : Bool) → within (from + m) (n - m) page ≡ b → within to m page ≡ c
+        → entry kept (p, page) ≡ cond b None (cond c None (entry l (p, page)))
     kept_is page b c h i = entry-then_tail l p from n to m p page
         ∙ (λ j. cond (inside (from + m) (n - m) page b h j) None (cond (inside to m page c i j) None (entry l (p, page))))
 
     -- what it was: whether its entry has come there, and whether it has left
     now_is : (page : ℕ) (b c : Bool) → within to (min n m) page ≡ b → within from (min n m) page ≡ c
-        → entry later (p, page) ≡ option_or (cond b (entry kept (p, page - to + from)) None) (cond (not c) (entry kept (p, page)) None)
+        → entry later (p, page) ≡ either b c p page
     now_is page b c h i = at_there there p page
-        ∙ (λ j. option_or (cond (inside to (min n m) page b h j) (entry kept (p, page - to + from)) None) (cond (not (inside from (min n m) page c i j)) (entry kept (p, page)) None))
+        ∙ (λ j. either (inside to (min n m) page b h j) (inside from (min n m) page c i j) p page)
 
     none_target : (page : ℕ) → within to m page ≡ true → entry kept (p, page) ≡ None
     none_target page h = kept_is page (within (from + m) (n - m) page) true refl h ∙ none_both (within (from + m) (n - m) page)
@@ -129,8 +136,8 @@ module _ (l : Ledger) (p from n to m : ℕ) (sorted : T (is_sorted key_cmp l.ent
             past e b = grind (arith, nat_tests, e, b)
 
     pub stays : (page : ℕ) → within to m page ≡ false → within from n page ≡ false → entry later (p, page) ≡ entry l (p, page)
-    stays page h i = now_is page false false (out_of_range to (min n m) page (λ low high. not_new low high)) (out_of_range from (min n m) page (λ low high. not_first low high))
-        ∙ kept_is page false false (out_of_range (from + m) (n - m) page (λ low high. not_old low high)) h
+    stays page h i = now_is page false false (out_of_range to (min n m) page not_new) (out_of_range from (min n m) page not_first)
+        ∙ kept_is page false false (out_of_range (from + m) (n - m) page not_old) h
       where
         not_new : to ≤ page → page < to + min n m → ⊥
         not_new low high = not_both (within to m page) h (is_in_range to m page low (omega (arith, high)))

@@ -9,8 +9,10 @@ use Rattle.av_base.specs.Page.{address_of, page_of, pages_of}
 use Rattle.av_base.specs.Words.{with_at, within}
 use Rattle.av_base.specs.declared.prot.Prot.{Prot}
 use Rattle.av_trace.specs.Reply.{answer_only}
+use Rattle.av_trace.specs.declared.command.Command.{Command}
 use Rattle.av_trace.specs.declared.command.Command.TheVariants.{Mremap}
 use Rattle.av_trace.specs.declared.mode.Mode.{Mode}
+use Rattle.av_trace.specs.declared.reply.Answer.{Answer}
 use Rattle.av_trace.specs.declared.reply.Answer.TheVariants.{MapAt}
 use Rattle.av_vma.specs.declared.area.Area.{Area}
 use Rattle.av_vma.specs.Join.{index_of}
@@ -51,14 +53,16 @@ use Rattle.av_reclaim.proofs.AnonLaws.{anons_stand, are_left, left_of}
 use Rattle.av_reclaim.proofs.MemLaws.{alive_is, lives_is, no_cache, prots_are}
 use Rattle.av_mremap.specs.Areas.{HasRemap}
 use Rattle.av_mremap.specs.Entries.{HasRemapped}
+use Rattle.av_kernel.specs.Mremap.{StaySmall}
 use Rattle.av_kernel.specs.Step.{MemSteps}
 use Rattle.av_kernel.proofs.MremapKept.{came, grew, here_goes, here_stays, left as has_left, of_others, stays}
 use Rattle.av_kernel.proofs.PlaceLaws.{page_back}
 use Rattle.av_kernel.proofs.ProcessLaws.{at_number}
 use Rattle.av_kernel.proofs.StepLaws.{is_number, kept-on, moved_on, stays_orderly, stepped}
 
-module _ (old : Mem) (s : State) (keeps : Keeps old s) (p a olen nlen : ℕ) (mode : Mode) (to : ℕ) (alive : is_some (areas_of old.spaces.processes p) ≡ true)
-    (may : MayRemap s.world p a olen nlen mode) (goes : MovesTo (pages s.world p) (page_of a) (pages_of olen) (pages_of nlen) mode (Some to))
+module _ {old : Mem} {s : State} (keeps : Keeps old s) {p a olen nlen : ℕ} {mode : Mode} (may : MayRemap s.world p a olen nlen mode) (to : ℕ)
+    (alive : is_some (areas_of old.spaces.processes p) ≡ true)
+    (goes : MovesTo (pages s.world p) (page_of a) (pages_of olen) (pages_of nlen) mode (Some to))
     (laid : AreLaid (areas_on old.spaces.processes p)) where
   abbrev q : Process
   q = pages s.world p
@@ -81,8 +85,12 @@ module _ (old : Mem) (s : State) (keeps : Keeps old s) (p a olen nlen : ℕ) (mo
   laid_on : AreLaid on
   laid_on = subst AreLaid (λ i page. keeps.stands.areas p page i) laid
 
+  prots_of : (k page : ℕ) → prots (s.areas k) page ≡ prot_at (pages s.world k) page
+  prots_of k page = ap (option_map area_prot) (sym (keeps.stands.areas k page)) ∙ sym (prots_are old.spaces.processes k page)
+      ∙ keeps.stands.parts.areas.covers k page
+
   same_prots : (page : ℕ) → prots on page ≡ prot_at q page
-  same_prots page = ap (option_map area_prot) (sym (keeps.stands.areas p page)) ∙ sym (prots_are old.spaces.processes p page) ∙ keeps.stands.parts.areas.covers p page
+  same_prots page = prots_of p page
 
   -- neither range is empty
   pub some_pages : (1 ≤ n) × (1 ≤ m)
@@ -119,15 +127,17 @@ module _ (old : Mem) (s : State) (keeps : Keeps old s) (p a olen nlen : ℕ) (mo
           let k = some_pages in
           omega (arith, ends, high, k)
 
-      by : (b : Bool) → is_in_place mode n m ≡ b → not (cond b (is_mapped q from) (have_one_prot q from n)) ≡ false → (b && nat_lt m n && nat_lt top (a + address_of n)) ≡ false → from + n ≤ top_page
+      by : (b : Bool) → is_in_place mode n m ≡ b → not (cond b (is_mapped q from) (have_one_prot q from n)) ≡ false
+          → (b && nat_lt m n && nat_lt top (a + address_of n)) ≡ false → from + n ≤ top_page
       by true e h t = let far : nat_lt top (a + address_of n) ≡ false = grind (arith, nat_tests, less, t) in
           let near : a + address_of n ≤ address_of top_page = grind (arith, nat_tests, far) in omega (arith, near)
       by false e h t =
           let u = uniform q from n (turned (have_one_prot q from n) h) in
           let k = some_pages in
-          below (areas_on old.spaces.processes p (from + n - 1)) refl (taken_as (from + n - 1) u.prot (u.each (from + n - 1) (omega (arith, k)) (omega (arith, k))))
+          below (areas_on old.spaces.processes p (from + n - 1)) refl
+          (taken_as (from + n - 1) u.prot (u.each (from + n - 1) (omega (arith, k)) (omega (arith, k))))
 
-  module _ (small : n < m → IsSomeAnd (areas_on old.spaces.processes p (from + n - 1)) (λ area. index_of area (from + n - 1) + (m - n) < 2 ^ 60)) where
+  module _ (small : StaySmall old.spaces.processes p from n m) where
     -- linear indices stay small
     small_on : ((to == from) ≡ false) ⊎ (n < m) → IsSomeAnd (on (from + min n m - 1)) (λ area. index_of area (from + min n m - 1) + (m - min n m) < 2 ^ 60)
     small_on which = elim (cases_lt n m) [
@@ -156,7 +166,8 @@ module _ (old : Mem) (s : State) (keeps : Keeps old s) (p a olen nlen : ℕ) (mo
 
     -- where the pages grow or move, areas may
     pub may_grow : to ≡ from → n < m → IsGrowth (from + n - 1) (from + m) (areas_on old.spaces.processes p)
-    may_grow here more = subst (IsGrowth (from + n - 1) (from + m)) (λ i page. sym (keeps.stands.areas p page) i) (becomes_on.grows (grind (arith, nat_tests, here)) more)
+    may_grow here more = subst (IsGrowth (from + n - 1) (from + m)) (λ i page. sym (keeps.stands.areas p page) i)
+        (becomes_on.grows (grind (arith, nat_tests, here)) more)
 
     pub may_move : (to ≡ from → ⊥) → IsMove from n to m (areas_on old.spaces.processes p)
     may_move there = subst (IsMove from n to m) (λ i page. sym (keeps.stands.areas p page) i) (becomes_on.moves (different there))
@@ -170,7 +181,8 @@ module _ (old : Mem) (s : State) (keeps : Keeps old s) (p a olen nlen : ℕ) (mo
 
     -- the old range ends below the top, too
     pub old_high : (to ≡ from → ⊥) → from + n ≤ top_page
-    old_high there = by (areas_on old.spaces.processes p (from + n - 1)) refl ((may_move there).mapped (from + n - 1) (let k = some_pages in omega (arith, k)) (let k = some_pages in omega (arith, k)))
+    old_high there = by (areas_on old.spaces.processes p (from + n - 1)) refl
+        ((may_move there).mapped (from + n - 1) (let k = some_pages in omega (arith, k)) (let k = some_pages in omega (arith, k)))
       where
         by : (o : Option Area) → areas_on old.spaces.processes p (from + n - 1) ≡ o → is_some o ≡ true → from + n ≤ top_page
         by None e h = cc
@@ -183,8 +195,11 @@ module _ (old : Mem) (s : State) (keeps : Keeps old s) (p a olen nlen : ℕ) (mo
 
     -- ---- what stands then
 
-    module _ (spaces : AllSpaces) (anons : AnonSet) (remap : HasRemap old (moved_on old old.tables spaces anons) p (after_mremap (chain_length s.anons) p from n to m left on))
-        (mid : Mem) (done : HasRemapped (moved_on old old.tables spaces anons) mid s.ledger (remap_events s.ledger p from n to m)) (rest : KeepsRest (moved_on old old.tables spaces anons) mid) where
+    -- the areas have changed, and after them the entries
+    module _ (spaces : AllSpaces) (anons : AnonSet)
+        (remap : HasRemap old (moved_on old old.tables spaces anons) p (after_mremap (chain_length s.anons) p from n to m left on))
+        (mid : Mem) (done : HasRemapped (moved_on old old.tables spaces anons) mid s.ledger (remap_events s.ledger p from n to m))
+        (rest : KeepsRest (moved_on old old.tables spaces anons) mid) where
       abbrev l : Ledger
       l = after_all s.ledger (remap_events s.ledger p from n to m)
 
@@ -198,7 +213,24 @@ module _ (old : Mem) (s : State) (keeps : Keeps old s) (p a olen nlen : ℕ) (mo
       new = moved_on mid mid.tables spaces anons
 
       abbrev next : State
-      next = record { world = set_process s.world p now; ledger = l; free = free_of (view mid); areas = with_at p now_on s.areas; anons = left_of anons s.anons; homes = s.homes }
+      next = record {
+        world = set_process s.world p now;
+        ledger = l;
+        free = free_of (view mid);
+        areas = with_at p now_on s.areas;
+        anons = left_of anons s.anons;
+        homes = s.homes;
+      }
+
+      abbrev command : Command
+      command = Mremap p a olen nlen mode
+
+      -- no test refuses it
+      abbrev IsAllowed : Type 0
+      IsAllowed = refusal (tests (setting (count old)) s.world s.ledger command) ≡ None
+
+      abbrev answer : Answer
+      answer = MapAt (address_of to)
 
       areas_now : AreasAre (view new) next.areas
       areas_now k page = remap.areas k page ∙ (λ i. with_at p now_on (λ r o. keeps.stands.areas r o i) k page)
@@ -216,7 +248,8 @@ module _ (old : Mem) (s : State) (keeps : Keeps old s) (p a olen nlen : ℕ) (mo
           by false =
               rmap_after_all-append s.ledger (range_zaps s.ledger p to m ++ range_zaps target p (from + m) (n - m)) (Moved p (min n m) from to ∷ []) (rmap_of s)
               ∙ rmap_after_all-append s.ledger (range_zaps s.ledger p to m) (range_zaps target p (from + m) (n - m)) (rmap_of s)
-              ∙ rmap_after_all-zaps target (keys_in target p (from + m) (n - m)) (after_all s.ledger (range_zaps s.ledger p to m)) (rmap_after_all s.ledger (range_zaps s.ledger p to m) (rmap_of s))
+              ∙ rmap_after_all-zaps target (keys_in target p (from + m) (n - m)) (after_all s.ledger (range_zaps s.ledger p to m))
+              (rmap_after_all s.ledger (range_zaps s.ledger p to m) (rmap_of s))
               ∙ rmap_after_all-zaps s.ledger (keys_in s.ledger p to m) s.ledger (rmap_of s)
 
       lives_now : lives s.world p ≡ true
@@ -229,9 +262,10 @@ module _ (old : Mem) (s : State) (keeps : Keeps old s) (p a olen nlen : ℕ) (mo
       prot_now : (k page : ℕ) → option_map area_prot (next.areas k page) ≡ option_map (λ (x : Page). x.prot) (cond (k == p) (now page) (pages s.world k page))
       prot_now k page = by (k == p) refl
         where
-          by : (b : Bool) → (k == p) ≡ b → option_map area_prot ((cond b now_on (s.areas k)) page) ≡ option_map (λ (x : Page). x.prot) (cond b (now page) (pages s.world k page))
+          by : (b : Bool) → (k == p) ≡ b → option_map area_prot ((cond b now_on (s.areas k)) page)
+              ≡ option_map (λ (x : Page). x.prot) (cond b (now page) (pages s.world k page))
           by true same = prots_become s.world p a olen nlen mode to may goes on laid_on same_prots small_on (chain_length s.anons) page
-          by false other = ap (option_map area_prot) (sym (keeps.stands.areas k page)) ∙ sym (prots_are old.spaces.processes k page) ∙ keeps.stands.parts.areas.covers k page
+          by false other = prots_of k page
 
       areas_stand : AreasStand (view new) next.world
       areas_stand = record {
@@ -239,7 +273,8 @@ module _ (old : Mem) (s : State) (keeps : Keeps old s) (p a olen nlen : ℕ) (mo
             ∙ sym (lives-set s.world p now k ∙ ap (λ b. cond b true (lives s.world k)) (at_number k p));
         number = remap.number ∙ keeps.stands.parts.areas.number ∙ sym (length-set_old s.world p now keeps.stands.sound.world.in_order lives_now);
         apart = remap.apart;
-        covers = λ k page. prots_are spaces.processes k page ∙ ap (option_map area_prot) (areas_now k page) ∙ prot_now k page ∙ sym (ap (option_map (λ (x : Page). x.prot)) (page_now k page));
+        covers = λ k page. prots_are spaces.processes k page ∙ ap (option_map area_prot) (areas_now k page)
+            ∙ prot_now k page ∙ sym (ap (option_map (λ (x : Page). x.prot)) (page_now k page));
       }
         where
           by : (k : ℕ) (b : Bool) → (k == p) ≡ b → lives s.world k ≡ cond (k == p) true (lives s.world k)
@@ -247,20 +282,25 @@ module _ (old : Mem) (s : State) (keeps : Keeps old s) (p a olen nlen : ℕ) (mo
           by k false e = sym (ap (λ b. cond b true (lives s.world k)) e)
 
       tables_now : HasTables new
-      tables_now k = ap (λ (h : ℕ → Bool). h k) rest.processes ∙ keeps.tables k ∙ alive_is old.spaces.processes k ∙ sym (alive_is spaces.processes k ∙ remap.alive k)
+      tables_now k = ap (λ (h : ℕ → Bool). h k) rest.processes ∙ keeps.tables k
+          ∙ alive_is old.spaces.processes k ∙ sym (alive_is spaces.processes k ∙ remap.alive k)
 
       -- ---- bytes
+
+      -- the entry that p's page has now keeps the bytes that it has
+      abbrev IsKeptAt : ℕ → Type 0
+      IsKeptAt page = IsKept (view old) no_device s.ledger (entry l (p, page)) (now page)
 
       -- a page without entry that is zeros, or not mapped
       bare : (o : Option Prot) (e : Option Entry) → e ≡ None → IsKept (view old) no_device s.ledger e (option_map zeros o)
       bare None e is = subst (λ e. IsKept (view old) no_device s.ledger e None) (sym is) tt
       bare (Some prot) e is = subst (λ e. IsKept (view old) no_device s.ledger e (Some (zeros prot))) (sym is) (λ i below. refl)
 
-      carried : (page was : ℕ) → entry l (p, page) ≡ entry s.ledger (p, was) → now page ≡ q was → IsKept (view old) no_device s.ledger (entry l (p, page)) (now page)
+      carried : (page was : ℕ) → entry l (p, page) ≡ entry s.ledger (p, was) → now page ≡ q was → IsKeptAt page
       carried page was same is = subst (IsKept (view old) no_device s.ledger (entry l (p, page))) (sym is)
           (subst (λ e. IsKept (view old) no_device s.ledger e (q was)) (sym same) (keeps.stands.parts.bytes.kept p was))
 
-      emptied : (page : ℕ) (o : Option Prot) → entry l (p, page) ≡ None → now page ≡ option_map zeros o → IsKept (view old) no_device s.ledger (entry l (p, page)) (now page)
+      emptied : (page : ℕ) (o : Option Prot) → entry l (p, page) ≡ None → now page ≡ option_map zeros o → IsKeptAt page
       emptied page o none is = subst (IsKept (view old) no_device s.ledger (entry l (p, page))) (sym is) (bare o (entry l (p, page)) none)
 
       -- a page that isn't mapped has no entry
@@ -281,18 +321,20 @@ module _ (old : Mem) (s : State) (keeps : Keeps old s) (p a olen nlen : ℕ) (mo
 
       module _ (page : ℕ) where
         kept_there : (to == from) ≡ false → (i j k : Bool) → within to m page ≡ i → within from n page ≡ j → nat_lt (page - to) n ≡ k
-            → IsKept (view old) no_device s.ledger (entry l (p, page)) (now page)
+            → IsKeptAt page
         kept_there there true j true e f g =
-            carried page (from + (page - to)) (came s.ledger p from n to m in_order there (becomes_on.moves there).apart page e g) (from_old q from n to m left page e g)
+            carried page (from + (page - to)) (came s.ledger p from n to m in_order there (becomes_on.moves there).apart page e g)
+            (from_old q from n to m left page e g)
         kept_there there true j false e f g =
-            emptied page (prot_at q from) (grew s.ledger p from n to m in_order there (becomes_on.moves there).apart page e g) (from_zeros q from n to m left page e g)
+            emptied page (prot_at q from) (grew s.ledger p from n to m in_order there (becomes_on.moves there).apart page e g)
+            (from_zeros q from n to m left page e g)
         kept_there there false true k e f g =
             emptied page left (has_left s.ledger p from n to m in_order there (becomes_on.moves there).apart page e f) (from_left q from n to m left page e f)
         kept_there there false false k e f g =
             carried page page (stays s.ledger p from n to m in_order there (becomes_on.moves there).apart page e f) (from_itself q from n to m left page e f)
 
         kept_here : (to == from) ≡ true → (i j k : Bool) → within to m page ≡ i → within from n page ≡ j → nat_lt (page - to) n ≡ k
-            → IsKept (view old) no_device s.ledger (entry l (p, page)) (now page)
+            → IsKeptAt page
         kept_here here true j true e f g =
             carried page page (here_stays s.ledger p from n to m in_order here page (before e)) (from_old q from n to m left page e g ∙ ap q (back e))
           where
@@ -300,7 +342,10 @@ module _ (old : Mem) (s : State) (keeps : Keeps old s) (p a olen nlen : ℕ) (mo
             back e = let b = range_bounds to m page e in let same = is_number to from here in omega arith
 
             before : within to m page ≡ true → within (from + m) (n - m) page ≡ false
-            before e = let b = range_bounds to m page e in let same = is_number to from here in out_of_range (from + m) (n - m) page (λ low high. omega (arith, b, low, same))
+            before e =
+                let b = range_bounds to m page e in
+                let same = is_number to from here in
+                out_of_range (from + m) (n - m) page (λ low high. omega (arith, b, low, same))
         kept_here here true j false e f g =
             let b = range_bounds to m page e in
             let same = is_number to from here in
@@ -323,16 +368,17 @@ module _ (old : Mem) (s : State) (keeps : Keeps old s) (p a olen nlen : ℕ) (mo
             not_tail : within from n page ≡ false → within (from + m) (n - m) page ≡ false
             not_tail f = grind (arith, nat_tests, f)
 
-        kept_page : IsKept (view old) no_device s.ledger (entry l (p, page)) (now page)
+        kept_page : IsKeptAt page
         kept_page = by (to == from) refl
           where
-            by : (b : Bool) → (to == from) ≡ b → IsKept (view old) no_device s.ledger (entry l (p, page)) (now page)
+            by : (b : Bool) → (to == from) ≡ b → IsKeptAt page
             by true here = kept_here here (within to m page) (within from n page) (nat_lt (page - to) n) refl refl refl
             by false there = kept_there there (within to m page) (within from n page) (nat_lt (page - to) n) refl refl refl
 
       kept_now : (k page : ℕ) → IsKept (view new) no_device l (entry l (k, page)) (pages next.world k page)
       kept_now k page =
-          kept-on (view old) (view new) s.ledger l (entry l (k, page)) (pages next.world k page) rest.bytes (no_cache s.ledger keeps.stands.parts.ledger.swap.finds) (no_cache l done.stands.parts.swap.finds)
+          kept-on (view old) (view new) s.ledger l (entry l (k, page)) (pages next.world k page) rest.bytes
+          (no_cache s.ledger keeps.stands.parts.ledger.swap.finds) (no_cache l done.stands.parts.swap.finds)
           (subst (IsKept (view old) no_device s.ledger (entry l (k, page))) (sym (page_now k page)) (by (k == p) refl))
         where
           by : (b : Bool) → (k == p) ≡ b → IsKept (view old) no_device s.ledger (entry l (k, page)) (cond b (now page) (pages s.world k page))
@@ -342,21 +388,21 @@ module _ (old : Mem) (s : State) (keeps : Keeps old s) (p a olen nlen : ℕ) (mo
 
       -- ---- the step
 
-      remap-step : refusal (tests (setting (count old)) s.world s.ledger (Mremap p a olen nlen mode)) ≡ None → IsStep (setting (count old)) s (Mremap p a olen nlen mode) (answer_only (MapAt (address_of to))) next
+      remap-step : IsAllowed → IsStep (setting (count old)) s command (answer_only answer) next
       remap-step allowed =
           let events = remap_events s.ledger p from n to m in
           record {
             events = events;
             legal = record {
-              answer = subst (λ o. MatchOption o (Follows (setting (count old)) s.world s.ledger (Mremap p a olen nlen mode) events (MapAt (address_of to)) []) (λ e. Refuses e events (MapAt (address_of to)) [])) (sym allowed)
-                  (Some to, goes, refl, refl, refl);
+              answer = subst (λ o. MatchOption o (Follows (setting (count old)) s.world s.ledger command events answer []) (λ e. Refuses e events answer []))
+                  (sym allowed) (Some to, goes, refl, refl, refl);
               notes = sym done.notes;
             };
             world = ap (λ x. set_process s.world p (remapped from n x m left q)) (sym (page_back to));
             ledger = refl;
             free = subst (λ free. ChoosesAll (setting (count old)) None s.ledger events free (free_of (view mid))) keeps.stands.free done.free;
-            rmap = subst (λ r. IsRmapNext r s.world (Mremap p a olen nlen mode) (MapAt (address_of to)) (rmap_of next)) (sym silent)
-                (next-plain (rmap_of s) s.world (Mremap p a olen nlen mode) (MapAt (address_of to)) (rmap_of next) refl (record {
+            rmap = subst (λ r. IsRmapNext r s.world command answer (rmap_of next)) (sym silent)
+                (next-plain (rmap_of s) s.world command answer (rmap_of next) refl (record {
                   areas = ap (λ x. with_at p (after_mremap (chain_length s.anons) p from n x m left on) s.areas) (sym (page_back to));
                   anons = are_left old s keeps spaces anons remap.anons next.areas areas_now;
                   homes = refl;
@@ -368,12 +414,12 @@ module _ (old : Mem) (s : State) (keeps : Keeps old s) (p a olen nlen : ℕ) (mo
       reach_now = sound-remapped s.ledger p from n to m left (rmap_of s) (rmap_of next) keeps.stands.sound.ledger.in_order laid_on becomes_on refl
           (are_left old s keeps spaces anons remap.anons next.areas areas_now) refl keeps.stands.reach
 
-      steps : refusal (tests (setting (count old)) s.world s.ledger (Mremap p a olen nlen mode)) ≡ None → MemSteps old new s (Mremap p a olen nlen mode) (answer_only (MapAt (address_of to)))
-      steps allowed = stepped old new s next (Mremap p a olen nlen mode) (answer_only (MapAt (address_of to))) keeps (remap-step allowed) rest.count
+      steps : IsAllowed → MemSteps old new s command (answer_only answer)
+      steps allowed = stepped old new s next command (answer_only answer) keeps (remap-step allowed) rest.count
           (stays_orderly mid mid.tables spaces anons l refl done.stands) refl areas_now
-          (anons_stand old s keeps spaces anons remap.anons next.areas areas_now new refl refl) (λ f. ap (λ h. h f) rest.homes ∙ keeps.stands.homes f)
-          reach_now remap.anons.fit areas_stand tables_now kept_now
+          (anons_stand old s keeps spaces anons remap.anons next.areas areas_now new refl refl)
+          (λ f. ap (λ h. h f) rest.homes ∙ keeps.stands.homes f) reach_now remap.anons.fit areas_stand tables_now kept_now
 
-      pub remaps : refusal (tests (setting (count old)) s.world s.ledger (Mremap p a olen nlen mode)) ≡ None → MemSteps old mid s (Mremap p a olen nlen mode) (answer_only (MapAt (address_of to)))
-      remaps allowed = subst (λ k. MemSteps old k s (Mremap p a olen nlen mode) (answer_only (MapAt (address_of to))))
+      pub remaps : IsAllowed → MemSteps old mid s command (answer_only answer)
+      remaps allowed = subst (λ k. MemSteps old k s command (answer_only answer))
           (λ i. record { frames = mid.frames; tables = mid.tables; spaces = (sym rest.spaces) i; anons = (sym rest.anons) i }) (steps allowed)

@@ -71,10 +71,12 @@ mapped_as s p q same page = by (pages_of s p page) (q page) (same page)
     by (Some area) (Some x) e = refl
 
 -- what is asked of the pages, where the first one isn't mapped
-pub none_there : (s : Spaces) (p : ℕ) (q : Process) (from n : ℕ) → HasProtsOf s p q → pages_of s p from ≡ None → (b : Bool) → false ≡ cond b (is_mapped q from) (have_one_prot q from n)
+pub none_there : (s : Spaces) (p : ℕ) (q : Process) (from n : ℕ) → HasProtsOf s p q → pages_of s p from ≡ None → (b : Bool)
+    → false ≡ cond b (is_mapped q from) (have_one_prot q from n)
 none_there s p q from n same none b = by (q from) b (ap (option_map (λ (area : Area). area.prot)) (sym none) ∙ same from)
   where
-    by : (x : Option Page) (b : Bool) → None ≡ option_map (λ (x : Page). x.prot) x → false ≡ cond b (is_some x) (option_map_or (λ (x : Page). have_prot q x.prot from n) x false)
+    by : (x : Option Page) (b : Bool) → None ≡ option_map (λ (x : Page). x.prot) x
+        → false ≡ cond b (is_some x) (option_map_or (λ (x : Page). have_prot q x.prot from n) x false)
     by None true e = refl
     by None false e = refl
     by (Some x) b e = cc
@@ -94,7 +96,8 @@ module _ (s : Spaces) (p : ℕ) (q : Process) (from n : ℕ) (area : Area) (same
   pub all_there : have_prot q area.prot from n ≡ have_one_prot q from n
   all_there = by (q from) first_is
     where
-      by : (x : Option Page) → Some area.prot ≡ option_map (λ (x : Page). x.prot) x → have_prot q area.prot from n ≡ option_map_or (λ (x : Page). have_prot q x.prot from n) x false
+      by : (x : Option Page) → Some area.prot ≡ option_map (λ (x : Page). x.prot) x
+          → have_prot q area.prot from n ≡ option_map_or (λ (x : Page). have_prot q x.prot from n) x false
       by None e = cc
       by (Some x) e = let first : area.prot ≡ x.prot = cc in ap (λ prot. have_prot q prot from n) first
 
@@ -120,8 +123,8 @@ equal_same a b = by (beq a.read b.read) (beq a.write b.write) (beq a.execute b.e
     by true y z = refl
     by false y z = refl
 
-pub not_with : (s : Spaces) (p : ℕ) (q : Process) (page : ℕ) (area : Area) (prot : Prot) → HasProtsOf s p q → Some area ≡ pages_of s p page → not (equal_prots area.prot prot) ≡ true
-    → prot_at q page ≡ Some prot → ⊥
+pub not_with : (s : Spaces) (p : ℕ) (q : Process) (page : ℕ) (area : Area) (prot : Prot) → HasProtsOf s p q → Some area ≡ pages_of s p page
+    → not (equal_prots area.prot prot) ≡ true → prot_at q page ≡ Some prot → ⊥
 not_with s p q page area prot same there other is =
     let both : area.prot ≡ prot = some_is (ap (option_map (λ (area : Area). area.prot)) there ∙ same page ∙ is) in
     false≢true (sym (ap not (equal_same area.prot prot ∙ ap (λ x. same_prot x prot) both ∙ same_itself prot)) ∙ other)
@@ -158,7 +161,8 @@ module _ (s : Spaces) (p : ℕ) (q : Process) (same : HasProtsOf s p q) (from n 
       whole : (c : Bool) → meets q (from + n) (m - n) ≡ c → may_stay q from n m ≡ not c
       whole c e = λ i. less i || (below i && not (e i))
 
-      by : (b : Bool) → (b ≡ true → IsFree (is_taken s p) (from + n) (from + n + (m - n))) → (b ≡ false → IsMet (is_taken s p) (from + n) (from + n + (m - n))) → b ≡ may_stay q from n m
+      by : (b : Bool) → (b ≡ true → IsFree (is_taken s p) (from + n) (from + n + (m - n)))
+          → (b ≡ false → IsMet (is_taken s p) (from + n) (from + n + (m - n))) → b ≡ may_stay q from n m
       by true free met = sym (whole false (free_meets s p q taken_is (m - n) (from + n) (free refl)))
       by false free met = sym (whole true (met_meets s p q taken_is (m - n) (from + n) (met refl)))
 
@@ -193,7 +197,8 @@ module _ (q : Process) (a olen nlen n m : ℕ) (mode : Mode) (as_old : n ≡ pag
   pub tests_by : (b c d e f : Bool) → (not (is_on_page a) || are_bad_lengths olen nlen mode) ≡ b → is_no_target a n m (target_of mode) ≡ c
       → cond (is_in_place mode n m) (is_mapped q (page_of a)) (have_one_prot q (page_of a) n) ≡ d
       → (is_in_place mode n m && nat_lt m n && nat_lt top (a + address_of n)) ≡ e → is_below_low (target_of mode) ≡ f
-      → refusal (mremap_tests q a olen nlen mode) ≡ cond b (Some Einval) (cond c (Some Einval) (cond (not d) (Some Efault) (cond e (Some Einval) (cond f (Some Eperm) None))))
+      → refusal (mremap_tests q a olen nlen mode)
+      ≡ cond b (Some Einval) (cond c (Some Einval) (cond (not d) (Some Efault) (cond e (Some Einval) (cond f (Some Eperm) None))))
   tests_by b c d e f h i j k l =
       let i' = at_lengths (λ n m. is_no_target a n m (target_of mode) ≡ c) i in
       let j' = at_lengths (λ n m. cond (is_in_place mode n m) (is_mapped q (page_of a)) (have_one_prot q (page_of a) n) ≡ d) j in

@@ -1,8 +1,9 @@
 -- What an mremap goes by: the protections of pages, and where they go.
-use Rattle.std.specs.Prelude.{◌≡◌, ℕ, Some, None, option_map, Result, Ok, Err}
+use Rattle.std.specs.Prelude.{◌≡◌, ℕ, ◌+◌, ◌-◌, ◌^◌, ◌<◌, Some, None, option_map, IsSomeAnd, Result, Ok, Err}
 use Rattle.av_trace.specs.declared.mode.Mode.{Mode}
 use Rattle.av_trace.specs.declared.reply.Errno.{Errno}
 use Rattle.av_trace.specs.declared.reply.Errno.TheVariants.{Enomem}
+use Rattle.av_vma.specs.Join.{index_of}
 use Rattle.av_vma.specs.declared.area.Area.{Area}
 use Rattle.av_spaces.specs.Spaces.{Spaces, pages_of}
 use Rattle.av_plain.specs.Mremap.{MovesTo, prot_at}
@@ -17,3 +18,8 @@ HasProtsOf s p q = (page : ℕ)
 abbrev pub IsTarget : Process → ℕ → ℕ → ℕ → Mode → Result ℕ Errno → Type 0
 IsTarget q from n m mode (Ok to) = MovesTo q from n m mode (Some to)
 IsTarget q from n m mode (Err error) = MovesTo q from n m mode None × (error ≡ Enomem)
+
+-- where n pages of p, from one on, become more, linear indices stay small
+abbrev pub StaySmall : Spaces → ℕ → ℕ → ℕ → ℕ → Type 0
+StaySmall s p from n m = n < m → IsSomeAnd (pages_of s p (from + n - 1))
+    (λ (area : Area). index_of area (from + n - 1) + (m - n) < 2 ^ 60)

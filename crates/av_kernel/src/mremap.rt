@@ -1,9 +1,9 @@
 //! The command `mremap`: a range of pages moves, shrinks or grows, with what it has.
 
-ghost use Rattle.std.specs.Prelude.{◌≡◌, ℕ, ◌+◌, ◌-◌, ◌^◌, ◌<◌, ◌≤◌, ◌==◌, true, false, not, is_some, if◌then◌else◌, None, Some, IsSomeAnd, MatchResult, OnOk};
+ghost use Rattle.std.specs.Prelude.{◌≡◌, ℕ, ◌+◌, ◌-◌, ◌^◌, ◌<◌, ◌≤◌, ◌==◌, true, false, not, is_some, if◌then◌else◌, None, Some, MatchResult, OnOk};
 ghost use Rattle.av_base.specs.Limits.{top_page};
 ghost use Rattle.av_base.specs.Page.{is_on_page};
-ghost use Rattle.av_kernel.specs.Mremap.{HasProtsOf, IsTarget};
+ghost use Rattle.av_kernel.specs.Mremap.{HasProtsOf, IsTarget, StaySmall};
 ghost use Rattle.av_kernel.specs.Step.{Does, reply_in};
 ghost use Rattle.av_plain.specs.Mremap as plain;
 ghost use Rattle.av_plain.specs.Refusal as refusals;
@@ -13,7 +13,6 @@ ghost use Rattle.av_reclaim.specs.Mem.{IsSteady};
 ghost use Rattle.av_spaces.specs.Spaces.{areas_of, is_taken, pages_of};
 ghost use Rattle.av_trace.specs.Reply.{IsCleared};
 ghost use Rattle.av_trace.specs.declared.command.Command.TheVariants as commands;
-ghost use Rattle.av_vma.specs.Join.{index_of};
 ghost use Rattle.av_vma.specs.Pages.{AreLaid};
 
 use crate::place::find_gap;
@@ -86,6 +85,7 @@ fn check_remap(
     if !has_pages(spaces, process, from, pages, in_place) {
         return Err(Errno::Efault);
     }
+    // A tail that goes is unmapped, and `munmap` refuses a range past the top.
     if in_place && new_pages < pages && from + pages > TOP_PAGE {
         return Err(Errno::Einval);
     }
@@ -287,9 +287,7 @@ fn check_indices(
     requires new_few { new_pages < 2 ^ 62 }
     requires mapped { pages < new_pages
         → is_taken spaces.now.processes process (from + pages - 1) ≡ true }
-    ensures { OnOk result (pages < new_pages
-        → IsSomeAnd (pages_of spaces.now.processes process (from + pages - 1))
-        (λ area. index_of area (from + pages - 1) + (new_pages - pages) < 2 ^ 60)) }
+    ensures { OnOk result (StaySmall spaces.now.processes process from pages new_pages) }
 {
     if new_pages <= pages {
         return Ok(());

@@ -1,163 +1,125 @@
-use Rattle.std.proofs.Common.{◌≡◌, ◌+◌, ◌-◌, ◌/◌, ◌^◌, ◌<◌, ◌≤◌, ◌⊎◌, Some, Err, IsSomeAnd, true, refl, ap, arith, subst, sym, ◌∙◌}
-use Rattle.av_base.specs.Limits.{top_page}
+use Rattle.std.proofs.Common.{◌≡◌, ◌/◌, ◌≤◌, Err, refl, ap, arith, subst, sym, ◌∙◌}
 use Rattle.av_frames.specs.Store.{seen}
 use Rattle.av_pagetable.specs.Entries.{has}
 use Rattle.av_trace.specs.declared.command.Command.TheVariants.{Mremap}
+use Rattle.av_trace.specs.declared.reply.Errno.{Errno}
 use Rattle.av_trace.specs.declared.reply.Errno.TheVariants.{Esrch}
-use Rattle.av_vma.specs.Join.{index_of}
-use Rattle.av_vma.specs.Mremap.{IsGrowth, IsMove}
-use Rattle.av_spaces.specs.Spaces.{is_taken, pages_of}
 use Rattle.av_plain.specs.Areas.{chain_length}
-use Rattle.av_plain.specs.Mremap.{MovesTo, after_mremap, prot_left, remap_events}
+use Rattle.av_plain.specs.Mremap.{after_mremap}
 use Rattle.av_plain.specs.World.{pages}
 use Rattle.av_mremap.specs.Areas.{HasRemap}
-use Rattle.av_mremap.specs.Entries.{HasRemapped}
 use Rattle.av_kernel.specs.Mremap.{IsTarget}
-use Rattle.av_kernel.proofs.MremapGoes.{Goes, both_are, grow_by, high_by, last_by, move_by, no_room_does, shrink_by, some_by, some_new, steps_by, to_fits}
-use Rattle.av_kernel.proofs.MremapRefusals.{has_prots_of, tests_are}
+use Rattle.av_kernel.specs.declared.refusal.Refusal.TheVariants as refusals
+use Rattle.av_kernel.proofs.MremapGoes.{Goes, Passes, both_are, grow_by, high_by, last_by, move_by, shrink_by, some_by, some_new, steps_by, to_fits}
+use Rattle.av_kernel.proofs.MremapRefusals.{dead_does, has_prots_of, no_room_does, refused_does}
 use Rattle.av_kernel.proofs.PlaceLaws.{rounded_up}
-use Rattle.av_kernel.proofs.StepLaws.{answers, orderly, refuses, refuses-as, refuses-by, dead_first, ranges_there, wants-by}
+use Rattle.av_kernel.proofs.StepLaws.{answers, orderly, refuses-as, refuses-by, ranges_there, wants-by}
 use Rattle.av_kernel.proofs.ForkLaws.{still_orderly}
+use Rattle.av_kernel.proofs.mremap.mremap.Goals.{In_ok-check_remap, In_ok-to}
 use Rattle.av_kernel.proofs.mremap.mremap.Goals as goal
+
+-- ---- what its paths know
+
+passes : (c : In_ok-check_remap) → Passes c.args.mem.now c.args.process c.args.address c.args.old_len c.args.new_len c.args.mode
+passes c = record {
+  alive = c.in_ok-check_lives.ensures;
+  laid = c.in_ok-check_remap.ensures.laid;
+  tests = c.in_ok-check_remap.ensures.tests;
+}
+
+goes : (c : In_ok-to) → Goes c.args.mem.now c.args.process c.args.address c.args.old_len c.args.new_len
+    c.div_ceil-pages.result c.div_ceil-new_pages.result c.args.mode c.in_ok-to.to
+goes c = record {
+  passes = record {
+    alive = c.in_ok-check_lives.ensures;
+    laid = c.in_ok-check_remap.ensures.laid;
+    tests = c.in_ok-check_remap.ensures.tests;
+  };
+  as_old = c.div_ceil-pages.ensures ∙ rounded_up c.args.old_len;
+  as_new = c.div_ceil-new_pages.ensures ∙ rounded_up c.args.new_len;
+  goes = c.in_ok-to.ensures;
+}
+
+-- ---- refusals
 
 pub returns-in_err-check_lives : goal.returns-in_err-check_lives
 returns-in_err-check_lives c =
     let a = c.args in
-    refuses-as a.mem.now a.mem.now (Mremap a.process a.address a.old_len a.new_len a.mode) Esrch a.reply.now c.from_residual.result c.in_err-check_lives.field-0.0 c.from_residual.ensures c.in_err-check_lives.ensures.1
-    (refuses a.mem.now (Mremap a.process a.address a.old_len a.new_len a.mode) Esrch (λ s keeps. dead_first a.mem.now s a.process _ keeps c.in_err-check_lives.ensures.0))
+    refuses-as a.mem.now a.mem.now (Mremap a.process a.address a.old_len a.new_len a.mode) Esrch a.reply.now c.from_residual.result
+    c.in_err-check_lives.field-0.0 c.from_residual.ensures c.in_err-check_lives.ensures.1
+    (dead_does a.mem.now a.process a.address a.old_len a.new_len a.mode c.in_err-check_lives.ensures.0)
 
 pub returns-in_err-check_remap : goal.returns-in_err-check_remap
 returns-in_err-check_remap c =
     let a = c.args in
-    refuses-by a.mem.now a.mem.now (Mremap a.process a.address a.old_len a.new_len a.mode) c.in_err-check_remap.field-0.0 a.reply.now c.from_residual-in_err-check_remap.result c.from_residual-in_err-check_remap.ensures
-    (refuses a.mem.now (Mremap a.process a.address a.old_len a.new_len a.mode) c.in_err-check_remap.field-0.0 (λ s keeps.
-    tests_are a.mem.now s keeps a.process a.address a.old_len a.new_len a.mode c.in_ok-check_lives.ensures
-    ∙ c.in_err-check_remap.ensures.tests (pages s.world a.process) (has_prots_of a.mem.now s keeps a.process a.address a.old_len a.new_len a.mode c.in_ok-check_lives.ensures)))
+    let error = c.in_err-check_remap.field-0.0 in
+    refuses-by a.mem.now a.mem.now (Mremap a.process a.address a.old_len a.new_len a.mode) error a.reply.now
+    c.from_residual-in_err-check_remap.result c.from_residual-in_err-check_remap.ensures
+    (refused_does a.mem.now a.process a.address a.old_len a.new_len a.mode c.in_ok-check_lives.ensures error c.in_err-check_remap.ensures.tests)
 
 pub find_target-requires-clause-some : goal.find_target-requires-clause-some
 find_target-requires-clause-some c =
-    let a = c.args in
-    let s = c.requires.steady in
-    let em = c.div_ceil-new_pages.ensures ∙ rounded_up a.new_len in
-    subst (λ m. 1 ≤ m) (sym em) (some_new a.mem.now s.0 s.1 a.process a.address a.old_len a.new_len a.mode c.in_ok-check_lives.ensures
-    (c.in_ok-check_remap.ensures.tests (pages s.0.world a.process) (has_prots_of a.mem.now s.0 s.1 a.process a.address a.old_len a.new_len a.mode c.in_ok-check_lives.ensures)))
+    let em = c.div_ceil-new_pages.ensures ∙ rounded_up c.args.new_len in
+    subst (λ m. 1 ≤ m) (sym em) (some_new (passes (goal.at.find_target-requires-clause-some c).In_ok-check_remap) c.requires.steady)
 
 pub returns-in_err-to : goal.returns-in_err-to
 returns-in_err-to c =
     let a = c.args in
+    let error = c.in_err-to.field-0.0 in
     let en = c.div_ceil-pages.ensures ∙ rounded_up a.old_len in
     let em = c.div_ceil-new_pages.ensures ∙ rounded_up a.new_len in
-    refuses-by a.mem.now a.mem.now (Mremap a.process a.address a.old_len a.new_len a.mode) c.in_err-to.field-0.0 a.reply.now c.from_residual-in_err-to.result c.from_residual-in_err-to.ensures
-    (no_room_does a.mem.now a.process a.address a.old_len a.new_len a.mode c.in_err-to.field-0.0 c.in_ok-check_lives.ensures
-    (λ s keeps. c.in_ok-check_remap.ensures.tests (pages s.world a.process) (has_prots_of a.mem.now s keeps a.process a.address a.old_len a.new_len a.mode c.in_ok-check_lives.ensures))
-    (λ s keeps. both_are (λ n m. IsTarget (pages s.world a.process) (a.address / 4096) n m a.mode (Err c.in_err-to.field-0.0)) _ _ _ _ en em
-    (c.in_err-to.ensures (pages s.world a.process) (has_prots_of a.mem.now s keeps a.process a.address a.old_len a.new_len a.mode c.in_ok-check_lives.ensures))))
+    refuses-by a.mem.now a.mem.now (Mremap a.process a.address a.old_len a.new_len a.mode) error a.reply.now
+    c.from_residual-in_err-to.result c.from_residual-in_err-to.ensures
+    (no_room_does a.mem.now a.process a.address a.old_len a.new_len a.mode c.in_ok-check_lives.ensures error c.in_ok-check_remap.ensures.tests
+    (λ q same. both_are (λ n m. IsTarget q (a.address / 4096) n m a.mode (Err error)) en em (c.in_err-to.ensures q same)))
+
+-- ---- small linear indices
 
 pub check_indices-requires-clause-some : goal.check_indices-requires-clause-some
-check_indices-requires-clause-some c =
-    let a = c.args in
-    let en = c.div_ceil-pages.ensures ∙ rounded_up a.old_len in
-    let em = c.div_ceil-new_pages.ensures ∙ rounded_up a.new_len in
-    let go : Goes a.mem.now a.process a.address a.old_len a.new_len a.mode c.in_ok-to.to = (record {
-      alive = c.in_ok-check_lives.ensures;
-      laid = c.in_ok-check_remap.ensures.laid;
-      passed = λ s keeps. c.in_ok-check_remap.ensures.tests (pages s.world a.process) (has_prots_of a.mem.now s keeps a.process a.address a.old_len a.new_len a.mode c.in_ok-check_lives.ensures);
-      goes = λ s keeps. both_are (λ n m. MovesTo (pages s.world a.process) (a.address / 4096) n m a.mode (Some c.in_ok-to.to)) _ _ _ _ en em
-          (c.in_ok-to.ensures (pages s.world a.process) (has_prots_of a.mem.now s keeps a.process a.address a.old_len a.new_len a.mode c.in_ok-check_lives.ensures));
-    }) in
-    subst (λ n. 1 ≤ n) (sym en) (some_by a.mem.now a.process a.address a.old_len a.new_len a.mode c.in_ok-to.to go c.requires.steady).0
+check_indices-requires-clause-some c = (some_by (goes (goal.at.check_indices-requires-clause-some c).In_ok-to) c.requires.steady).0
 
 pub check_indices-requires-clause-mapped : goal.check_indices-requires-clause-mapped
-check_indices-requires-clause-mapped c =
-    let a = c.args in
-    let en = c.div_ceil-pages.ensures ∙ rounded_up a.old_len in
-    let em = c.div_ceil-new_pages.ensures ∙ rounded_up a.new_len in
-    let go : Goes a.mem.now a.process a.address a.old_len a.new_len a.mode c.in_ok-to.to = (record {
-      alive = c.in_ok-check_lives.ensures;
-      laid = c.in_ok-check_remap.ensures.laid;
-      passed = λ s keeps. c.in_ok-check_remap.ensures.tests (pages s.world a.process) (has_prots_of a.mem.now s keeps a.process a.address a.old_len a.new_len a.mode c.in_ok-check_lives.ensures);
-      goes = λ s keeps. both_are (λ n m. MovesTo (pages s.world a.process) (a.address / 4096) n m a.mode (Some c.in_ok-to.to)) _ _ _ _ en em
-          (c.in_ok-to.ensures (pages s.world a.process) (has_prots_of a.mem.now s keeps a.process a.address a.old_len a.new_len a.mode c.in_ok-check_lives.ensures));
-    }) in
-    both_are (λ n m. n < m → is_taken a.mem.now.spaces.processes a.process (a.address / 4096 + n - 1) ≡ true) _ _ _ _ (sym en) (sym em) (last_by a.mem.now a.process a.address a.old_len a.new_len a.mode c.in_ok-to.to go c.requires.steady)
+check_indices-requires-clause-mapped c = last_by (goes (goal.at.check_indices-requires-clause-mapped c).In_ok-to) c.requires.steady
 
 pub returns-in_err-check_indices : goal.returns-in_err-check_indices
 returns-in_err-check_indices c =
     let a = c.args in
-    wants-by a.mem.now a.mem.now (Mremap a.process a.address a.old_len a.new_len a.mode) a.reply.now c.from_residual-in_err-check_indices.result c.from_residual-in_err-check_indices.ensures refl
+    wants-by a.mem.now a.mem.now (Mremap a.process a.address a.old_len a.new_len a.mode) a.reply.now
+    c.from_residual-in_err-check_indices.result c.from_residual-in_err-check_indices.ensures refl
+
+-- ---- areas
 
 pub remap_areas-requires-clause-some : goal.remap_areas-requires-clause-some
-remap_areas-requires-clause-some c =
-    let a = c.args in
-    let en = c.div_ceil-pages.ensures ∙ rounded_up a.old_len in
-    let em = c.div_ceil-new_pages.ensures ∙ rounded_up a.new_len in
-    let go : Goes a.mem.now a.process a.address a.old_len a.new_len a.mode c.in_ok-to.to = (record {
-      alive = c.in_ok-check_lives.ensures;
-      laid = c.in_ok-check_remap.ensures.laid;
-      passed = λ s keeps. c.in_ok-check_remap.ensures.tests (pages s.world a.process) (has_prots_of a.mem.now s keeps a.process a.address a.old_len a.new_len a.mode c.in_ok-check_lives.ensures);
-      goes = λ s keeps. both_are (λ n m. MovesTo (pages s.world a.process) (a.address / 4096) n m a.mode (Some c.in_ok-to.to)) _ _ _ _ en em
-          (c.in_ok-to.ensures (pages s.world a.process) (has_prots_of a.mem.now s keeps a.process a.address a.old_len a.new_len a.mode c.in_ok-check_lives.ensures));
-    }) in
-    subst (λ n. 1 ≤ n) (sym en) (some_by a.mem.now a.process a.address a.old_len a.new_len a.mode c.in_ok-to.to go c.requires.steady).0
+remap_areas-requires-clause-some c = (some_by (goes (goal.at.remap_areas-requires-clause-some c).In_ok-to) c.requires.steady).0
 
 pub remap_areas-requires-clause-shrinks : goal.remap_areas-requires-clause-shrinks
-remap_areas-requires-clause-shrinks c =
-    let a = c.args in
-    let en = c.div_ceil-pages.ensures ∙ rounded_up a.old_len in
-    let em = c.div_ceil-new_pages.ensures ∙ rounded_up a.new_len in
-    let go : Goes a.mem.now a.process a.address a.old_len a.new_len a.mode c.in_ok-to.to = (record {
-      alive = c.in_ok-check_lives.ensures;
-      laid = c.in_ok-check_remap.ensures.laid;
-      passed = λ s keeps. c.in_ok-check_remap.ensures.tests (pages s.world a.process) (has_prots_of a.mem.now s keeps a.process a.address a.old_len a.new_len a.mode c.in_ok-check_lives.ensures);
-      goes = λ s keeps. both_are (λ n m. MovesTo (pages s.world a.process) (a.address / 4096) n m a.mode (Some c.in_ok-to.to)) _ _ _ _ en em
-          (c.in_ok-to.ensures (pages s.world a.process) (has_prots_of a.mem.now s keeps a.process a.address a.old_len a.new_len a.mode c.in_ok-check_lives.ensures));
-    }) in
-    both_are (λ n m. c.in_ok-to.to ≡ a.address / 4096 → m < n → a.address / 4096 + n ≤ top_page) _ _ _ _ (sym en) (sym em) (shrink_by a.mem.now a.process a.address a.old_len a.new_len a.mode c.in_ok-to.to go c.requires.steady)
+remap_areas-requires-clause-shrinks c = shrink_by (goes (goal.at.remap_areas-requires-clause-shrinks c).In_ok-to) c.requires.steady
 
 pub remap_areas-requires-clause-grows : goal.remap_areas-requires-clause-grows
 remap_areas-requires-clause-grows c =
-    let a = c.args in
-    let en = c.div_ceil-pages.ensures ∙ rounded_up a.old_len in
-    let em = c.div_ceil-new_pages.ensures ∙ rounded_up a.new_len in
-    let go : Goes a.mem.now a.process a.address a.old_len a.new_len a.mode c.in_ok-to.to = (record {
-      alive = c.in_ok-check_lives.ensures;
-      laid = c.in_ok-check_remap.ensures.laid;
-      passed = λ s keeps. c.in_ok-check_remap.ensures.tests (pages s.world a.process) (has_prots_of a.mem.now s keeps a.process a.address a.old_len a.new_len a.mode c.in_ok-check_lives.ensures);
-      goes = λ s keeps. both_are (λ n m. MovesTo (pages s.world a.process) (a.address / 4096) n m a.mode (Some c.in_ok-to.to)) _ _ _ _ en em
-          (c.in_ok-to.ensures (pages s.world a.process) (has_prots_of a.mem.now s keeps a.process a.address a.old_len a.new_len a.mode c.in_ok-check_lives.ensures));
-    }) in
-    let small = both_are (λ n m. n < m → IsSomeAnd (pages_of a.mem.now.spaces.processes a.process (a.address / 4096 + n - 1))
-    (λ area. index_of area (a.address / 4096 + n - 1) + (m - n) < 2 ^ 60)) _ _ _ _ en em c.in_ok-check_indices.ensures in
-    both_are (λ n m. c.in_ok-to.to ≡ a.address / 4096 → n < m → IsGrowth (a.address / 4096 + n - 1) (a.address / 4096 + m) (pages_of a.mem.now.spaces.processes a.process)) _ _ _ _ (sym en) (sym em)
-    (grow_by a.mem.now a.process a.address a.old_len a.new_len a.mode c.in_ok-to.to go c.requires.steady small)
+    grow_by (goes (goal.at.remap_areas-requires-clause-grows c).In_ok-to) c.requires.steady c.in_ok-check_indices.ensures
 
 pub remap_areas-requires-clause-moves : goal.remap_areas-requires-clause-moves
 remap_areas-requires-clause-moves c =
-    let a = c.args in
-    let en = c.div_ceil-pages.ensures ∙ rounded_up a.old_len in
-    let em = c.div_ceil-new_pages.ensures ∙ rounded_up a.new_len in
-    let go : Goes a.mem.now a.process a.address a.old_len a.new_len a.mode c.in_ok-to.to = (record {
-      alive = c.in_ok-check_lives.ensures;
-      laid = c.in_ok-check_remap.ensures.laid;
-      passed = λ s keeps. c.in_ok-check_remap.ensures.tests (pages s.world a.process) (has_prots_of a.mem.now s keeps a.process a.address a.old_len a.new_len a.mode c.in_ok-check_lives.ensures);
-      goes = λ s keeps. both_are (λ n m. MovesTo (pages s.world a.process) (a.address / 4096) n m a.mode (Some c.in_ok-to.to)) _ _ _ _ en em
-          (c.in_ok-to.ensures (pages s.world a.process) (has_prots_of a.mem.now s keeps a.process a.address a.old_len a.new_len a.mode c.in_ok-check_lives.ensures));
-    }) in
-    let small = both_are (λ n m. n < m → IsSomeAnd (pages_of a.mem.now.spaces.processes a.process (a.address / 4096 + n - 1))
-    (λ area. index_of area (a.address / 4096 + n - 1) + (m - n) < 2 ^ 60)) _ _ _ _ en em c.in_ok-check_indices.ensures in
-    both_are (λ n m. (c.in_ok-to.to ≡ a.address / 4096 → ⊥) → IsMove (a.address / 4096) n c.in_ok-to.to m (pages_of a.mem.now.spaces.processes a.process)) _ _ _ _ (sym en) (sym em)
-    (move_by a.mem.now a.process a.address a.old_len a.new_len a.mode c.in_ok-to.to go c.requires.steady small)
+    move_by (goes (goal.at.remap_areas-requires-clause-moves c).In_ok-to) c.requires.steady c.in_ok-check_indices.ensures
 
 pub returns-in_err-remap_areas : goal.returns-in_err-remap_areas
 returns-in_err-remap_areas c =
     let a = c.args in
-    wants-by a.mem.now c.remap_areas.new.mem (Mremap a.process a.address a.old_len a.new_len a.mode) a.reply.now c.from_residual-in_err-remap_areas.result c.from_residual-in_err-remap_areas.ensures (ap (λ f. (seen f).count) c.remap_areas.ensures.frames)
+    wants-by a.mem.now c.remap_areas.new.mem (Mremap a.process a.address a.old_len a.new_len a.mode) a.reply.now
+    c.from_residual-in_err-remap_areas.result c.from_residual-in_err-remap_areas.ensures (ap (λ f. (seen f).count) c.remap_areas.ensures.frames)
+
+-- ---- entries
 
 pub remap_entries-requires-clause-orderly : goal.remap_entries-requires-clause-orderly
 remap_entries-requires-clause-orderly c =
     let a = c.args in
     let s = c.requires.steady in
-    (s.0.ledger, still_orderly a.mem.now c.remap_areas.new.mem c.remap_areas.new.mem.tables s.0.ledger c.remap_areas.ensures.frames c.remap_areas.ensures.tables refl (orderly a.mem.now s.0 s.1))
+    let gone = c.remap_areas.new.mem in (
+      s.0.ledger,
+      still_orderly a.mem.now gone gone.tables s.0.ledger c.remap_areas.ensures.frames c.remap_areas.ensures.tables refl
+          (orderly a.mem.now s.0 s.1),
+    )
 
 pub remap_entries-requires-clause-there : goal.remap_entries-requires-clause-there
 remap_entries-requires-clause-there c =
@@ -166,104 +128,48 @@ remap_entries-requires-clause-there c =
     ap (λ t. has t a.process) c.remap_areas.ensures.tables ∙ s.1.tables a.process ∙ ranges_there a.mem.now a.process c.in_ok-check_lives.ensures
 
 pub remap_entries-requires-clause-old_range : goal.remap_entries-requires-clause-old_range
-remap_entries-requires-clause-old_range c =
-    let a = c.args in
-    let en = c.div_ceil-pages.ensures ∙ rounded_up a.old_len in
-    let em = c.div_ceil-new_pages.ensures ∙ rounded_up a.new_len in
-    let go : Goes a.mem.now a.process a.address a.old_len a.new_len a.mode c.in_ok-to.to = (record {
-      alive = c.in_ok-check_lives.ensures;
-      laid = c.in_ok-check_remap.ensures.laid;
-      passed = λ s keeps. c.in_ok-check_remap.ensures.tests (pages s.world a.process) (has_prots_of a.mem.now s keeps a.process a.address a.old_len a.new_len a.mode c.in_ok-check_lives.ensures);
-      goes = λ s keeps. both_are (λ n m. MovesTo (pages s.world a.process) (a.address / 4096) n m a.mode (Some c.in_ok-to.to)) _ _ _ _ en em
-          (c.in_ok-to.ensures (pages s.world a.process) (has_prots_of a.mem.now s keeps a.process a.address a.old_len a.new_len a.mode c.in_ok-check_lives.ensures));
-    }) in
-    let small = both_are (λ n m. n < m → IsSomeAnd (pages_of a.mem.now.spaces.processes a.process (a.address / 4096 + n - 1))
-    (λ area. index_of area (a.address / 4096 + n - 1) + (m - n) < 2 ^ 60)) _ _ _ _ en em c.in_ok-check_indices.ensures in
-    let high = both_are (λ n m. (c.in_ok-to.to ≡ a.address / 4096 → ⊥) → a.address / 4096 + n ≤ top_page) _ _ _ _ (sym en) (sym em) (high_by a.mem.now a.process a.address a.old_len a.new_len a.mode c.in_ok-to.to go c.requires.steady small) in
-    λ there. let h = high there in omega arith
+remap_entries-requires-clause-old_range c = λ there.
+    let high = high_by (goes (goal.at.remap_entries-requires-clause-old_range c).In_ok-to) c.requires.steady c.in_ok-check_indices.ensures there in
+    omega arith
 
 pub remap_entries-requires-clause-new_range : goal.remap_entries-requires-clause-new_range
-remap_entries-requires-clause-new_range c =
-    let a = c.args in
-    let en = c.div_ceil-pages.ensures ∙ rounded_up a.old_len in
-    let em = c.div_ceil-new_pages.ensures ∙ rounded_up a.new_len in
-    let go : Goes a.mem.now a.process a.address a.old_len a.new_len a.mode c.in_ok-to.to = (record {
-      alive = c.in_ok-check_lives.ensures;
-      laid = c.in_ok-check_remap.ensures.laid;
-      passed = λ s keeps. c.in_ok-check_remap.ensures.tests (pages s.world a.process) (has_prots_of a.mem.now s keeps a.process a.address a.old_len a.new_len a.mode c.in_ok-check_lives.ensures);
-      goes = λ s keeps. both_are (λ n m. MovesTo (pages s.world a.process) (a.address / 4096) n m a.mode (Some c.in_ok-to.to)) _ _ _ _ en em
-          (c.in_ok-to.ensures (pages s.world a.process) (has_prots_of a.mem.now s keeps a.process a.address a.old_len a.new_len a.mode c.in_ok-check_lives.ensures));
-    }) in
-    let small = both_are (λ n m. n < m → IsSomeAnd (pages_of a.mem.now.spaces.processes a.process (a.address / 4096 + n - 1))
-    (λ area. index_of area (a.address / 4096 + n - 1) + (m - n) < 2 ^ 60)) _ _ _ _ en em c.in_ok-check_indices.ensures in
-    let move = both_are (λ n m. (c.in_ok-to.to ≡ a.address / 4096 → ⊥) → IsMove (a.address / 4096) n c.in_ok-to.to m (pages_of a.mem.now.spaces.processes a.process)) _ _ _ _ (sym en) (sym em)
-    (move_by a.mem.now a.process a.address a.old_len a.new_len a.mode c.in_ok-to.to go c.requires.steady small) in
-    λ there. let h = (move there).high in omega arith
+remap_entries-requires-clause-new_range c = λ there.
+    let go = goes (goal.at.remap_entries-requires-clause-new_range c).In_ok-to in
+    let high = (move_by go c.requires.steady c.in_ok-check_indices.ensures there).high in
+    omega arith
 
 pub remap_entries-requires-clause-apart : goal.remap_entries-requires-clause-apart
-remap_entries-requires-clause-apart c =
-    let a = c.args in
-    let en = c.div_ceil-pages.ensures ∙ rounded_up a.old_len in
-    let em = c.div_ceil-new_pages.ensures ∙ rounded_up a.new_len in
-    let go : Goes a.mem.now a.process a.address a.old_len a.new_len a.mode c.in_ok-to.to = (record {
-      alive = c.in_ok-check_lives.ensures;
-      laid = c.in_ok-check_remap.ensures.laid;
-      passed = λ s keeps. c.in_ok-check_remap.ensures.tests (pages s.world a.process) (has_prots_of a.mem.now s keeps a.process a.address a.old_len a.new_len a.mode c.in_ok-check_lives.ensures);
-      goes = λ s keeps. both_are (λ n m. MovesTo (pages s.world a.process) (a.address / 4096) n m a.mode (Some c.in_ok-to.to)) _ _ _ _ en em
-          (c.in_ok-to.ensures (pages s.world a.process) (has_prots_of a.mem.now s keeps a.process a.address a.old_len a.new_len a.mode c.in_ok-check_lives.ensures));
-    }) in
-    let small = both_are (λ n m. n < m → IsSomeAnd (pages_of a.mem.now.spaces.processes a.process (a.address / 4096 + n - 1))
-    (λ area. index_of area (a.address / 4096 + n - 1) + (m - n) < 2 ^ 60)) _ _ _ _ en em c.in_ok-check_indices.ensures in
-    both_are (λ n m. (c.in_ok-to.to ≡ a.address / 4096 → ⊥) → (c.in_ok-to.to + m ≤ a.address / 4096) ⊎ (a.address / 4096 + n ≤ c.in_ok-to.to)) _ _ _ _ (sym en) (sym em)
-    (λ there. (move_by a.mem.now a.process a.address a.old_len a.new_len a.mode c.in_ok-to.to go c.requires.steady small there).apart)
+remap_entries-requires-clause-apart c = λ there.
+    (move_by (goes (goal.at.remap_entries-requires-clause-apart c).In_ok-to) c.requires.steady c.in_ok-check_indices.ensures there).apart
 
 pub returns-in_err-remap_entries : goal.returns-in_err-remap_entries
 returns-in_err-remap_entries c =
     let a = c.args in
-    wants-by a.mem.now c.remap_entries.new.mem (Mremap a.process a.address a.old_len a.new_len a.mode) a.reply.now c.from_residual-in_err-remap_entries.result c.from_residual-in_err-remap_entries.ensures
+    wants-by a.mem.now c.remap_entries.new.mem (Mremap a.process a.address a.old_len a.new_len a.mode) a.reply.now
+    c.from_residual-in_err-remap_entries.result c.from_residual-in_err-remap_entries.ensures
     (c.remap_entries.ensures.rest.count ∙ ap (λ f. (seen f).count) c.remap_areas.ensures.frames)
+
+-- ---- the answer
 
 pub overflow_mul-to : goal.overflow_mul-to
 overflow_mul-to c =
-    let a = c.args in
-    let en = c.div_ceil-pages.ensures ∙ rounded_up a.old_len in
-    let em = c.div_ceil-new_pages.ensures ∙ rounded_up a.new_len in
-    let go : Goes a.mem.now a.process a.address a.old_len a.new_len a.mode c.in_ok-to.to = (record {
-      alive = c.in_ok-check_lives.ensures;
-      laid = c.in_ok-check_remap.ensures.laid;
-      passed = λ s keeps. c.in_ok-check_remap.ensures.tests (pages s.world a.process) (has_prots_of a.mem.now s keeps a.process a.address a.old_len a.new_len a.mode c.in_ok-check_lives.ensures);
-      goes = λ s keeps. both_are (λ n m. MovesTo (pages s.world a.process) (a.address / 4096) n m a.mode (Some c.in_ok-to.to)) _ _ _ _ en em
-          (c.in_ok-to.ensures (pages s.world a.process) (has_prots_of a.mem.now s keeps a.process a.address a.old_len a.new_len a.mode c.in_ok-check_lives.ensures));
-    }) in
-    let small = both_are (λ n m. n < m → IsSomeAnd (pages_of a.mem.now.spaces.processes a.process (a.address / 4096 + n - 1))
-    (λ area. index_of area (a.address / 4096 + n - 1) + (m - n) < 2 ^ 60)) _ _ _ _ en em c.in_ok-check_indices.ensures in
-    let low = to_fits a.mem.now a.process a.address a.old_len a.new_len a.mode c.in_ok-to.to go c.requires.steady small (omega (arith, c.ranges.address)) in omega (arith, low)
+    let low = to_fits (goes (goal.at.overflow_mul-to c).In_ok-to) c.requires.steady c.in_ok-check_indices.ensures
+    (omega (arith, c.ranges.address)) in
+    omega (arith, low)
 
 pub returns : goal.returns
 returns c = record {
   count = c.remap_entries.ensures.rest.count ∙ ap (λ f. (seen f).count) c.remap_areas.ensures.frames;
   step = λ s keeps.
       let a = c.args in
-      let en = c.div_ceil-pages.ensures ∙ rounded_up a.old_len in
-      let em = c.div_ceil-new_pages.ensures ∙ rounded_up a.new_len in
-      let go : Goes a.mem.now a.process a.address a.old_len a.new_len a.mode c.in_ok-to.to = (record {
-        alive = c.in_ok-check_lives.ensures;
-        laid = c.in_ok-check_remap.ensures.laid;
-        passed = λ s keeps. c.in_ok-check_remap.ensures.tests (pages s.world a.process) (has_prots_of a.mem.now s keeps a.process a.address a.old_len a.new_len a.mode c.in_ok-check_lives.ensures);
-        goes = λ s keeps. both_are (λ n m. MovesTo (pages s.world a.process) (a.address / 4096) n m a.mode (Some c.in_ok-to.to)) _ _ _ _ en em
-            (c.in_ok-to.ensures (pages s.world a.process) (has_prots_of a.mem.now s keeps a.process a.address a.old_len a.new_len a.mode c.in_ok-check_lives.ensures));
-      }) in
-      let small = both_are (λ n m. n < m → IsSomeAnd (pages_of a.mem.now.spaces.processes a.process (a.address / 4096 + n - 1))
-      (λ area. index_of area (a.address / 4096 + n - 1) + (m - n) < 2 ^ 60)) _ _ _ _ en em c.in_ok-check_indices.ensures in
       let gone = c.remap_areas.new.mem in
-      let new = c.remap_entries.new.mem in
-      let left = c.prot_left-left.ensures (pages s.world a.process) (has_prots_of a.mem.now s keeps a.process a.address a.old_len a.new_len a.mode c.in_ok-check_lives.ensures) in
+      let left = c.prot_left-left.ensures (pages s.world a.process) (has_prots_of a.mem.now s keeps a.process) in
       answers a.reply.now c.requires.cleared
-      (steps_by a.mem.now a.process a.address a.old_len a.new_len a.mode c.in_ok-to.to go s keeps small gone new c.remap_areas.ensures.frames c.remap_areas.ensures.tables
-      (both_are (λ n m. HasRemap a.mem.now gone a.process (after_mremap (chain_length s.anons) a.process (a.address / 4096) n c.in_ok-to.to m (prot_left a.mode (pages s.world a.process) (a.address / 4096)) (s.areas a.process)))
-      _ _ _ _ en em (subst (λ left. HasRemap a.mem.now gone a.process (after_mremap (chain_length s.anons) a.process (a.address / 4096) c.div_ceil-pages.result c.in_ok-to.to c.div_ceil-new_pages.result left (s.areas a.process)))
-      left (c.in_ok-remap_areas.ensures.remaps s keeps)))
-      (both_are (λ n m. HasRemapped gone new s.ledger (remap_events s.ledger a.process (a.address / 4096) n c.in_ok-to.to m)) _ _ _ _ en em
-      (c.in_ok-remap_entries.ensures.remaps s.ledger (still_orderly a.mem.now gone gone.tables s.ledger c.remap_areas.ensures.frames c.remap_areas.ensures.tables refl (orderly a.mem.now s keeps))))
+      (steps_by (goes (goal.at.returns c).In_ok-to) s keeps c.in_ok-check_indices.ensures gone c.remap_entries.new.mem
+      c.remap_areas.ensures.frames c.remap_areas.ensures.tables
+      (subst (λ left. HasRemap a.mem.now gone a.process (after_mremap (chain_length s.anons) a.process (a.address / 4096)
+      c.div_ceil-pages.result c.in_ok-to.to c.div_ceil-new_pages.result left (s.areas a.process))) left (c.in_ok-remap_areas.ensures.remaps s keeps))
+      (c.in_ok-remap_entries.ensures.remaps s.ledger
+      (still_orderly a.mem.now gone gone.tables s.ledger c.remap_areas.ensures.frames c.remap_areas.ensures.tables refl (orderly a.mem.now s keeps)))
       c.remap_entries.ensures.rest);
 }
