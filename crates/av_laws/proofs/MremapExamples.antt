@@ -3,7 +3,7 @@ use Rattle.std.proofs.Common.{◌≡◌, ℕ, zero, suc, ◌+◌, ◌-◌, ◌*�
 use Rattle.std.proofs.lemmas.Bool.{false≢true}
 use Rattle.std.proofs.lemmas.Bool.Decides.{nat_tests}
 use Rattle.std.specs.List.{AllByRecursion}
-use Rattle.std.specs.Prelude.{MatchOption, option_map, unwrap_or}
+use Rattle.std.specs.Prelude.{MatchOption, map, option_map, unwrap_or}
 use Rattle.av_base.specs.Page.{address_of, page_of, pages_of}
 use Rattle.av_base.specs.Words.{numbers, within}
 use Rattle.av_trace.specs.declared.command.Command.TheVariants.{Mremap}
@@ -36,6 +36,20 @@ use Rattle.av_laws.proofs.Determined.{loads-told}
 use Rattle.av_laws.proofs.FirstExamples.{all_linked, gap_under, linked-all, one-step, state_after}
 use Rattle.av_laws.proofs.PrepareExamples.{kin-below, one-below, two-below}
 
+-- the first of some areas, and the others
+abbrev first_of_all : List (Option Area) → Option Area
+first_of_all [] = None
+first_of_all (o ∷ os) = o
+
+abbrev all_but_first : List (Option Area) → List (Option Area)
+all_but_first [] = []
+all_but_first (o ∷ os) = os
+
+-- what is alike as a whole is so on each page
+each-same : (f g : ℕ → Option Area) (pages : List ℕ) → map f pages ≡ map g pages → AllByRecursion (λ page. f page ≡ g page) pages
+each-same f g [] same = tt
+each-same f g (page ∷ pages) same = (ap first_of_all same, each-same f g pages (ap all_but_first same))
+
 -- ---- a step that may be
 
 -- pages on which areas are linked
@@ -60,12 +74,9 @@ module _ (old : State) (a o n : ℕ) (mode : Mode) (b : ℕ) (events : List Even
   step = one-step (machine 4) old (says (Mremap 1 a o n mode) (MapAt b) []) refl events old.free.frames old.anons legal frames given left tt
 
   remaps : (first : ℕ) (areas : List Area) (entries : List (Key × Entry))
-      → AllByRecursion (λ page. then.areas 1 page ≡ pages_in (Some areas) page) (numbers first 16) → then.ledger.entries ≡ entries
+      → map (then.areas 1) (numbers first 16) ≡ map (pages_in (Some areas)) (numbers first 16) → then.ledger.entries ≡ entries
       → RemapsTo old (Mremap 1 a o n mode) b first areas entries
-  remaps first areas entries on there = (then, step, on, there)
-
-  may-be : (new : State) × IsStep (machine 4) old (Mremap 1 a o n mode) (reply_with (MapAt b) []) new
-  may-be = (then, step)
+  remaps first areas entries on there = (then, step, each-same (then.areas 1) (pages_in (Some areas)) (numbers first 16) on, there)
 
   leaves-page : (page : ℕ) (there : Option Page) → pages then.world 1 page ≡ there → LeavesPage old (Mremap 1 a o n mode) b page there
   leaves-page page there is = (then, step, is)
@@ -80,7 +91,7 @@ pub to_another_place : RemapsTo of_root all_move 0x18000 0xf (moved_of 0 0x18 0x
 to_another_place = remaps of_root 0x10000 16384 16384 (FixedAt 0x18000) 0x18000 (Moved 1 4 0x10 0x18 ∷ [])
     (record { answer = (Some 0x18, refl, refl, refl, refl); notes = refl })
     (still, (still, refl, refl), refl) refl (stays one_root _ one-below refl) 0xf (moved_of 0 0x18 0x1c 0x10 ∷ []) entries_there
-    (refl, (refl, (refl, (refl, (refl, (refl, (refl, (refl, (refl, (refl, (refl, (refl, (refl, (refl, (refl, (refl, tt)))))))))))))))) refl
+    refl refl
 
 pub bytes_move : LeavesPage of_root all_move 0x18000 0x18 (Some sevens)
 bytes_move = leaves-page of_root 0x10000 16384 16384 (FixedAt 0x18000) 0x18000 (Moved 1 4 0x10 0x18 ∷ [])
@@ -91,44 +102,44 @@ pub bare_moves : RemapsTo of_none all_move 0x18000 0xf (area 0x18 0x1c read_writ
 bare_moves = remaps of_none 0x10000 16384 16384 (FixedAt 0x18000) 0x18000 (Moved 1 4 0x10 0x18 ∷ [])
     (record { answer = (Some 0x18, refl, refl, refl, refl); notes = refl })
     (still, (still, refl, refl), refl) refl (left-none _) 0xf (area 0x18 0x1c read_write ∷ []) entries_there
-    (refl, (refl, (refl, (refl, (refl, (refl, (refl, (refl, (refl, (refl, (refl, (refl, (refl, (refl, (refl, (refl, tt)))))))))))))))) refl
+    refl refl
 
 pub two_areas : RemapsTo of_two_roots all_move 0x18000 0xf (moved_of 0 0x18 0x1a 0x10 ∷ moved_of 1 0x1a 0x1c 0x12 ∷ []) entries_there
 two_areas = remaps of_two_roots 0x10000 16384 16384 (FixedAt 0x18000) 0x18000 (Moved 1 4 0x10 0x18 ∷ [])
     (record { answer = (Some 0x18, refl, refl, refl, refl); notes = refl })
     (still, (still, refl, refl), refl) refl (stays two_roots _ two-below refl) 0xf (moved_of 0 0x18 0x1a 0x10 ∷ moved_of 1 0x1a 0x1c 0x12 ∷ []) entries_there
-    (refl, (refl, (refl, (refl, (refl, (refl, (refl, (refl, (refl, (refl, (refl, (refl, (refl, (refl, (refl, (refl, tt)))))))))))))))) refl
+    refl refl
 
 pub tail_goes : RemapsTo of_root two_move 0x18000 0xf (moved_of 0 0x18 0x1a 0x10 ∷ []) entries_there
 tail_goes = remaps of_root 0x10000 16384 8192 (FixedAt 0x18000) 0x18000 (Moved 1 2 0x10 0x18 ∷ [])
     (record { answer = (Some 0x18, refl, refl, refl, refl); notes = refl })
     (still, (still, refl, refl), refl) refl (stays one_root _ one-below refl) 0xf (moved_of 0 0x18 0x1a 0x10 ∷ []) entries_there
-    (refl, (refl, (refl, (refl, (refl, (refl, (refl, (refl, (refl, (refl, (refl, (refl, (refl, (refl, (refl, (refl, tt)))))))))))))))) refl
+    refl refl
 
 pub part_moves-remaps : RemapsTo of_root part_moves 0x18000 0xf (area_of 0 0x10 0x11 ∷ area_of 0 0x13 0x14 ∷ moved_of 0 0x18 0x1b 0x11 ∷ []) entries_of_part
 part_moves-remaps = remaps of_root 0x11000 8192 12288 (FixedAt 0x18000) 0x18000 (Moved 1 2 0x11 0x18 ∷ [])
     (record { answer = (Some 0x18, refl, refl, refl, refl); notes = refl })
     (still, (still, refl, refl), refl) refl (stays one_root _ one-below refl) 0xf
     (area_of 0 0x10 0x11 ∷ area_of 0 0x13 0x14 ∷ moved_of 0 0x18 0x1b 0x11 ∷ []) entries_of_part
-    (refl, (refl, (refl, (refl, (refl, (refl, (refl, (refl, (refl, (refl, (refl, (refl, (refl, (refl, (refl, (refl, tt)))))))))))))))) refl
+    refl refl
 
 pub over_another : RemapsTo with_target all_move 0x18000 0xf (moved_of 0 0x18 0x1c 0x10 ∷ []) entries_there
 over_another = remaps with_target 0x10000 16384 16384 (FixedAt 0x18000) 0x18000 (Zapped (1, 0x18) ∷ Moved 1 4 0x10 0x18 ∷ [])
     (record { answer = (Some 0x18, refl, refl, refl, refl); notes = refl })
     (still, (still, refl, refl), (still, (still, refl, refl), refl)) refl (stays one_root _ one-below refl) 0xf (moved_of 0 0x18 0x1c 0x10 ∷ []) entries_there
-    (refl, (refl, (refl, (refl, (refl, (refl, (refl, (refl, (refl, (refl, (refl, (refl, (refl, (refl, (refl, (refl, tt)))))))))))))))) refl
+    refl refl
 
 pub behind_itself-remaps : RemapsTo of_none behind_itself 0x14000 0xf (area 0x10 0x12 read_write ∷ area 0x14 0x16 read_write ∷ []) entries_here
 behind_itself-remaps = remaps of_none 0x12000 8192 8192 (FixedAt 0x14000) 0x14000 (Moved 1 2 0x12 0x14 ∷ [])
     (record { answer = (Some 0x14, refl, refl, refl, refl); notes = refl })
     (still, (still, refl, refl), refl) refl (left-none _) 0xf (area 0x10 0x12 read_write ∷ area 0x14 0x16 read_write ∷ []) entries_here
-    (refl, (refl, (refl, (refl, (refl, (refl, (refl, (refl, (refl, (refl, (refl, (refl, (refl, (refl, (refl, (refl, tt)))))))))))))))) refl
+    refl refl
 
 pub old_range_stays : RemapsTo of_root zeros_stay 0x18000 0xf (area 0x10 0x14 read_write ∷ moved_of 0 0x18 0x1c 0x10 ∷ []) entries_there
 old_range_stays = remaps of_root 0x10000 16384 16384 (DontUnmap (Some 0x18000)) 0x18000 (Moved 1 4 0x10 0x18 ∷ [])
     (record { answer = (Some 0x18, refl, refl, refl, refl); notes = refl })
     (still, (still, refl, refl), refl) refl (stays one_root _ one-below refl) 0xf (area 0x10 0x14 read_write ∷ moved_of 0 0x18 0x1c 0x10 ∷ []) entries_there
-    (refl, (refl, (refl, (refl, (refl, (refl, (refl, (refl, (refl, (refl, (refl, (refl, (refl, (refl, (refl, (refl, tt)))))))))))))))) refl
+    refl refl
 
 pub zeros_stay-leaves : LeavesPage of_root zeros_stay 0x18000 0x10 (Some (zeros read_write))
 zeros_stay-leaves = leaves-page of_root 0x10000 16384 16384 (DontUnmap (Some 0x18000)) 0x18000 (Moved 1 4 0x10 0x18 ∷ [])
@@ -139,7 +150,7 @@ pub joined_after : RemapsTo three_kinds second_moves 0x13000 0xf (area_of 0 0x10
 joined_after = remaps three_kinds 0x11000 4096 4096 (DontUnmap (Some 0x13000)) 0x13000 (Moved 1 1 0x11 0x13 ∷ [])
     (record { answer = (Some 0x13, refl, refl, refl, refl); notes = refl })
     (still, (still, refl, refl), refl) refl (stays two_roots _ two-below refl) 0xf (area_of 0 0x10 0x12 ∷ area_of 1 0x12 0x14 ∷ []) entries_of_second
-    (refl, (refl, (refl, (refl, (refl, (refl, (refl, (refl, (refl, (refl, (refl, (refl, (refl, (refl, (refl, (refl, tt)))))))))))))))) refl
+    refl refl
 
 -- ---- which boundaries are tried
 
@@ -147,37 +158,37 @@ pub joins_inside : RemapsTo out_of_place pair_moves 0x18000 0xf (area_of 0 0x18 
 joins_inside = remaps out_of_place 0x10000 8192 8192 (FixedAt 0x18000) 0x18000 (Moved 1 2 0x10 0x18 ∷ [])
     (record { answer = (Some 0x18, refl, refl, refl, refl); notes = refl })
     (still, (still, refl, refl), refl) refl (stays two_roots _ two-below refl) 0xf (area_of 0 0x18 0x1a ∷ area_of 1 0x1a 0x1b ∷ []) entries_there
-    (refl, (refl, (refl, (refl, (refl, (refl, (refl, (refl, (refl, (refl, (refl, (refl, (refl, (refl, (refl, (refl, tt)))))))))))))))) refl
+    refl refl
 
 pub joins_behind : RemapsTo with_next all_move 0x18000 0xf (area 0x18 0x1d read_write ∷ []) entries_there
 joins_behind = remaps with_next 0x10000 16384 16384 (FixedAt 0x18000) 0x18000 (Moved 1 4 0x10 0x18 ∷ [])
     (record { answer = (Some 0x18, refl, refl, refl, refl); notes = refl })
     (still, (still, refl, refl), refl) refl (left-none _) 0xf (area 0x18 0x1d read_write ∷ []) entries_there
-    (refl, (refl, (refl, (refl, (refl, (refl, (refl, (refl, (refl, (refl, (refl, (refl, (refl, (refl, (refl, (refl, tt)))))))))))))))) refl
+    refl refl
 
 pub joins_before : RemapsTo prepared second_grows 0x11000 0xf (area_of 0 0x10 0x14 ∷ []) entries_here
 joins_before = remaps prepared 0x11000 8192 12288 Plain 0x11000 []
     (record { answer = (Some 0x11, refl, refl, refl, refl); notes = refl })
     refl refl (stays one_root _ one-below refl) 0xf (area_of 0 0x10 0x14 ∷ []) entries_here
-    (refl, (refl, (refl, (refl, (refl, (refl, (refl, (refl, (refl, (refl, (refl, (refl, (refl, (refl, (refl, (refl, tt)))))))))))))))) refl
+    refl refl
 
 pub shrinks_apart : RemapsTo prepared second_shrinks 0x11000 0xf (area_of 0 0x10 0x11 ∷ area_of 0 0x11 0x12 ∷ []) entries_here
 shrinks_apart = remaps prepared 0x11000 8192 4096 Plain 0x11000 []
     (record { answer = (Some 0x11, refl, refl, refl, refl); notes = refl })
     refl refl (stays one_root _ one-below refl) 0xf (area_of 0 0x10 0x11 ∷ area_of 0 0x11 0x12 ∷ []) entries_here
-    (refl, (refl, (refl, (refl, (refl, (refl, (refl, (refl, (refl, (refl, (refl, (refl, (refl, (refl, (refl, (refl, tt)))))))))))))))) refl
+    refl refl
 
 pub stays_apart : RemapsTo prepared second_stays 0x11000 0xf (area_of 0 0x10 0x11 ∷ area_of 0 0x11 0x13 ∷ []) entries_here
 stays_apart = remaps prepared 0x11000 8192 8192 Plain 0x11000 []
     (record { answer = (Some 0x11, refl, refl, refl, refl); notes = refl })
     refl refl (stays one_root _ one-below refl) 0xf (area_of 0 0x10 0x11 ∷ area_of 0 0x11 0x13 ∷ []) entries_here
-    (refl, (refl, (refl, (refl, (refl, (refl, (refl, (refl, (refl, (refl, (refl, (refl, (refl, (refl, (refl, (refl, tt)))))))))))))))) refl
+    refl refl
 
 pub long_chain : RemapsTo with_long_chain grows_by_two 0x10000 0xf (area_of 1 0x10 0x14 ∷ area 0x14 0x16 read_write ∷ []) entries_here
 long_chain = remaps with_long_chain 0x10000 8192 16384 Plain 0x10000 []
     (record { answer = (Some 0x10, refl, refl, refl, refl); notes = refl })
     refl refl (stays kin _ kin-below refl) 0xf (area_of 1 0x10 0x14 ∷ area 0x14 0x16 read_write ∷ []) entries_here
-    (refl, (refl, (refl, (refl, (refl, (refl, (refl, (refl, (refl, (refl, (refl, (refl, (refl, (refl, (refl, (refl, tt)))))))))))))))) refl
+    refl refl
 
 -- ---- what stays, goes and is new
 
@@ -185,13 +196,13 @@ pub two_leave_one : RemapsTo of_two_roots zeros_stay 0x18000 0xf (area 0x10 0x14
 two_leave_one = remaps of_two_roots 0x10000 16384 16384 (DontUnmap (Some 0x18000)) 0x18000 (Moved 1 4 0x10 0x18 ∷ [])
     (record { answer = (Some 0x18, refl, refl, refl, refl); notes = refl })
     (still, (still, refl, refl), refl) refl (stays two_roots _ two-below refl) 0xf (area 0x10 0x14 read_write ∷ moved_of 0 0x18 0x1a 0x10 ∷ moved_of 1 0x1a 0x1c 0x12 ∷ []) entries_there
-    (refl, (refl, (refl, (refl, (refl, (refl, (refl, (refl, (refl, (refl, (refl, (refl, (refl, (refl, (refl, (refl, tt)))))))))))))))) refl
+    refl refl
 
 pub other_stays : RemapsTo of_two_processes all_move 0x18000 0xf (moved_of 0 0x18 0x1c 0x10 ∷ []) entries_of_two
 other_stays = remaps of_two_processes 0x10000 16384 16384 (FixedAt 0x18000) 0x18000 (Moved 1 4 0x10 0x18 ∷ [])
     (record { answer = (Some 0x18, refl, refl, refl, refl); notes = refl })
     (still, (still, refl, refl), refl) refl (stays one_root _ one-below refl) 0xf (moved_of 0 0x18 0x1c 0x10 ∷ []) entries_of_two
-    (refl, (refl, (refl, (refl, (refl, (refl, (refl, (refl, (refl, (refl, (refl, (refl, (refl, (refl, (refl, (refl, tt)))))))))))))))) refl
+    refl refl
 
 pub denied_still : LeavesPage for_reading zeros_stay 0x18000 0x10 (Some (zeros read_only))
 denied_still = leaves-page for_reading 0x10000 16384 16384 (DontUnmap (Some 0x18000)) 0x18000 (Moved 1 4 0x10 0x18 ∷ [])
@@ -237,25 +248,25 @@ pub shrinks_here : RemapsTo of_root shrinks 0x10000 0xf (area_of 0 0x10 0x12 ∷
 shrinks_here = remaps of_root 0x10000 16384 8192 Plain 0x10000 []
     (record { answer = (Some 0x10, refl, refl, refl, refl); notes = refl })
     refl refl (stays one_root _ one-below refl) 0xf (area_of 0 0x10 0x12 ∷ []) entries_here
-    (refl, (refl, (refl, (refl, (refl, (refl, (refl, (refl, (refl, (refl, (refl, (refl, (refl, (refl, (refl, (refl, tt)))))))))))))))) refl
+    refl refl
 
 pub grows_here : RemapsTo of_root grows 0x10000 0xf (area_of 0 0x10 0x16 ∷ []) entries_here
 grows_here = remaps of_root 0x10000 16384 24576 Plain 0x10000 []
     (record { answer = (Some 0x10, refl, refl, refl, refl); notes = refl })
     refl refl (stays one_root _ one-below refl) 0xf (area_of 0 0x10 0x16 ∷ []) entries_here
-    (refl, (refl, (refl, (refl, (refl, (refl, (refl, (refl, (refl, (refl, (refl, (refl, (refl, (refl, (refl, (refl, tt)))))))))))))))) refl
+    refl refl
 
 pub grows_and_joins : RemapsTo with_hole grows_by_two 0x10000 0xf (area_of 0 0x10 0x16 ∷ []) entries_here
 grows_and_joins = remaps with_hole 0x10000 8192 16384 Plain 0x10000 []
     (record { answer = (Some 0x10, refl, refl, refl, refl); notes = refl })
     refl refl (stays one_root _ one-below refl) 0xf (area_of 0 0x10 0x16 ∷ []) entries_here
-    (refl, (refl, (refl, (refl, (refl, (refl, (refl, (refl, (refl, (refl, (refl, (refl, (refl, (refl, (refl, (refl, tt)))))))))))))))) refl
+    refl refl
 
 pub stays_here : RemapsTo of_root grows_or_moves 0x10000 0xf (area_of 0 0x10 0x15 ∷ []) entries_here
 stays_here = remaps of_root 0x10000 16384 20480 MayMove 0x10000 []
     (record { answer = (Some 0x10, refl, refl, refl, refl); notes = refl })
     refl refl (stays one_root _ one-below refl) 0xf (area_of 0 0x10 0x15 ∷ []) entries_here
-    (refl, (refl, (refl, (refl, (refl, (refl, (refl, (refl, (refl, (refl, (refl, (refl, (refl, (refl, (refl, (refl, tt)))))))))))))))) refl
+    refl refl
 
 -- no page is mapped far above the areas
 high_free : (q : ℕ) → 0x20 ≤ q → is_mapped (pages with_neighbour.world 1) q ≡ false
@@ -278,7 +289,7 @@ pub goes_to_top : RemapsTo with_neighbour grows_or_moves 0x7fffffffa000 0x7fffff
 goes_to_top = remaps with_neighbour 0x10000 16384 20480 MayMove 0x7fffffffa000 (Moved 1 4 0x10 0x7fffffffa ∷ [])
     (record { answer = (Some 0x7fffffffa, top_gap, refl, refl, refl); notes = refl })
     (still, (still, refl, refl), refl) refl (stays one_root _ one-below refl) 0x7fffffff0 (moved_of 0 0x7fffffffa 0x7ffffffff 0x10 ∷ []) entries_at_top
-    (refl, (refl, (refl, (refl, (refl, (refl, (refl, (refl, (refl, (refl, (refl, (refl, (refl, (refl, (refl, (refl, tt)))))))))))))))) refl
+    refl refl
 
 -- the page at the top is mapped, and none below it is
 below_top : IsGap (is_mapped (pages at_top.world 1)) 1 (Some 0x7fffffffd)
@@ -292,7 +303,7 @@ next_to_top = remaps at_top 0x7fffffffe000 4096 4096 (DontUnmap None) 0x7fffffff
     (record { answer = (Some 0x7fffffffd, below_top, refl, refl, refl); notes = refl })
     (0 ∷ still, (0 ∷ still, refl, refl), refl) refl (stays one_root _ one-below refl) 0x7fffffff0
     (moved_of 0 0x7fffffffd 0x7fffffffe 0x7fffffffe ∷ area 0x7fffffffe 0x7ffffffff read_write ∷ []) []
-    (refl, (refl, (refl, (refl, (refl, (refl, (refl, (refl, (refl, (refl, (refl, (refl, (refl, (refl, (refl, (refl, tt)))))))))))))))) refl
+    refl refl
 
 at_top_free : (k q : ℕ) → q ≡ 0x7fffffffc + k → k < 2 → is_mapped (pages at_top.world 1) q ≡ false
 at_top_free zero q is less = subst (λ q. is_mapped (pages at_top.world 1) q ≡ false) (sym is) refl
@@ -310,7 +321,7 @@ below_itself = remaps at_top 0x7fffffffe000 4096 8192 MayMove 0x7fffffffc000 (Mo
     (record { answer = (Some 0x7fffffffc, below_both, refl, refl, refl); notes = refl })
     (0 ∷ still, (0 ∷ still, refl, refl), refl) refl (stays one_root _ one-below refl) 0x7fffffff0
     (moved_of 0 0x7fffffffc 0x7fffffffe 0x7fffffffe ∷ []) []
-    (refl, (refl, (refl, (refl, (refl, (refl, (refl, (refl, (refl, (refl, (refl, (refl, (refl, (refl, (refl, (refl, tt)))))))))))))))) refl
+    refl refl
 
 -- ---- what no reply says
 
