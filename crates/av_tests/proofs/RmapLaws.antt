@@ -24,6 +24,7 @@ use Rattle.av_anon.specs.Order.{IsArea, IsInOrder}
 use Rattle.av_anon.specs.Prepare.{after_prepare, loan_to}
 use Rattle.av_anon.specs.Spans.{GoWithLinks}
 use Rattle.av_anon.proofs.OrderLaws.{order-bare}
+use Rattle.av_tests.specs.Rmap.{AreThree, child, frame_7, other, parent, shared_entries}
 
 -- an area was put under a number, and then got an own anon_vma
 pub given : (id own : ℕ) (A : Area) (old mid new : ℕ → Option Area) → ((n : ℕ) → mid n ≡ with_at id (Some A) old n) → ((n : ℕ) → new n ≡ give_own id (Some own) mid n)
@@ -103,27 +104,6 @@ put_only id A B old new n put is = by (n == id) refl (sym (put n) ∙ is)
     by true e h = inl (eqb-true n id e, same h)
     by false e h = inr h
 
-abbrev pub linked_area : ℕ → ℕ → ℕ → ℕ → Area
-linked_area pid start end pgoff = record { pid = pid; start = start; end = end; prot = record { read = true; write = true; execute = false }; flags = 0; pgoff = pgoff; anon = Some 0 }
-
-abbrev pub parent : Area
-parent = linked_area 1 40960 57344 10
-
-abbrev pub child : Area
-child = linked_area 2 40960 57344 10
-
-abbrev pub other : Area
-other = linked_area 2 81920 98304 20
-
-abbrev AreOnly : (ℕ → Option Area) → ℕ → ℕ → ℕ → Type 0
-AreOnly areas a b c = (n : ℕ) (A : Area) → areas n ≡ Some A → ((n ≡ c) × (A ≡ other)) ⊎ (((n ≡ b) × (A ≡ child)) ⊎ ((n ≡ a) × (A ≡ parent)))
-
-pub record AreThree (areas : ℕ → Option Area) (a b c : ℕ) : Type 0 where
-  pub first : areas a ≡ Some parent
-  pub second : areas b ≡ Some child
-  pub third : areas c ≡ Some other
-  pub only : AreOnly areas a b c
-
 pub are_three : (none one two three : ℕ → Option Area) (a b c : ℕ) → ((n : ℕ) → none n ≡ None) → ((n : ℕ) → one n ≡ with_at a (Some parent) none n)
     → one b ≡ None → ((n : ℕ) → two n ≡ with_at b (Some child) one n) → two c ≡ None → ((n : ℕ) → three n ≡ with_at c (Some other) two n) → AreThree three a b c
 are_three none one two three a b c nothing put-a free-b put-b free-c put-c = record {
@@ -147,14 +127,8 @@ are_three none one two three a b c nothing put-a free-b put-b free-c put-c = rec
 
 -- ---- the premises of a walk
 
-abbrev frame_7 : Pte
-frame_7 = Here 7 false true
-
-abbrev pub entries_of : ℕ → ℕ → Pte
-entries_of p page = cond (p == 2 && page == 11) frame_7 (cond (p == 1 && page == 11) frame_7 Empty)
-
 module _ (areas : ℕ → Option Area) (f : Family) (spans : ℕ → List Span) (entry : ℕ → ℕ → Pte) (a b c : ℕ) (three : AreThree areas a b c) (order : IsInOrder areas f spans)
-    (entries : (p page : ℕ) → entry p page ≡ entries_of p page) where
+    (entries : (p page : ℕ) → entry p page ≡ shared_entries p page) where
   pub three_apart : AreApart (view_with areas f spans entry)
   three_apart n m page A B is also same here there = by (three.only n A is) (three.only m B also)
     where

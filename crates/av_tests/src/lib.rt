@@ -24,6 +24,7 @@ mod merge;
 mod pagetable;
 #[cfg(test)]
 mod rmap;
+#[cfg(test)]
 mod spaces;
 #[cfg(test)]
 mod swapdev;

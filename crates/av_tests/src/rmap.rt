@@ -4,9 +4,11 @@ ghost use Rattle.av_anon.specs.Order.{IsArea};
 ghost use Rattle.av_base.specs.Words.{how_many, with_at};
 ghost use Rattle.av_interval.specs.Search.{overlaps};
 ghost use Rattle.av_merge.specs.Kin.{AreInOrder};
+ghost use Rattle.av_pagetable.specs.Entries.{entry_at};
 ghost use Rattle.av_rmap.specs.Covered.{IsCovered};
 ghost use Rattle.av_rmap.specs.View.{AreApart, AreSpanned};
 ghost use Rattle.av_rmap.specs.Walk.{AreItsEntries, Key};
+ghost use Rattle.av_tests.specs.Rmap.{AreThree, shared_entries};
 ghost use Rattle.av_vma.specs.Areas.{area_of};
 
 use av_anon::Anons;
@@ -144,25 +146,61 @@ fn ask<K: LookMut, L: Ledger>(
     Ok((keys, seen))
 }
 
-/// What is found of a frame that two processes have on their page 11. Three areas are linked to
-/// the anon_vma of its home, and two of them hold its index.
-fn walk_shared<L: Ledger>(alloc: Global, steps: &mut Steps<L>) -> Result<Found, AllocError>
-    ensures { OnOk result (steps.new ≡ steps.old + 2) }
+/// Three areas that are linked to one anon_vma, the first.
+#[derive(Drop)]
+struct Linked {
+    areas: Areas,
+    anons: Anons,
+    parent: AreaId,
+    child: AreaId,
+    other: AreaId,
+}
+
+/// Links the areas of page 11 in two processes, and one that doesn't hold its index.
+fn link_three(alloc: Global) -> Result<Linked, AllocError>
+    ensures order { IfOk result (λ l. AreInOrder l.areas l.anons) }
+    ensures areas { IfOk result (λ l. AreThree (area_of l.areas) l.parent l.child l.other) }
+    ensures users { IfOk result (λ l.
+        (family l.anons).users 0 ≡ l.parent ∷ l.child ∷ l.other ∷ []) }
 {
     nobody_is_in_order();
     let mut areas = Areas::new(alloc);
     let mut anons = Anons::new(alloc);
     let parent = add(&mut areas, &mut anons, PARENT)?;
     let child = add_like(&mut areas, &mut anons, CHILD, parent)?;
-    let _ = add_like(&mut areas, &mut anons, OTHER, child)?;
+    let other = add_like(&mut areas, &mut anons, OTHER, child)?;
+    Ok(Linked {
+        areas,
+        anons,
+        parent,
+        child,
+        other,
+    })
+}
+
+/// Tables of two processes that have one frame on their page 11.
+fn share_frame(alloc: Global) -> Result<Tables<PageTable>, AllocError>
+    ensures { IfOk result (λ tables. (p page : ℕ) → entry_at tables p page
+        ≡ shared_entries p page) }
+{
     let mut tables = Tables::<PageTable>::new(alloc);
     tables.spawn(alloc, 1)?;
     tables.spawn(alloc, 2)?;
     tables.set(1, 11, FRAME_7)?;
     tables.set(2, 11, FRAME_7)?;
+    Ok(tables)
+}
+
+/// What is found of a frame that two processes have on their page 11. Three areas are linked to
+/// the anon_vma of its home, and two of them hold its index.
+fn walk_shared<L: Ledger>(alloc: Global, steps: &mut Steps<L>) -> Result<Found, AllocError>
+    ensures { OnOk result (steps.new ≡ steps.old + 2) }
+{
+    let linked = link_three(alloc)?;
+    let mut tables = share_frame(alloc)?;
     let mut stores = StoresMut {
-        areas: &areas,
-        anons: &anons,
+        areas: &linked.areas,
+        anons: &linked.anons,
         tables: &mut tables,
     };
     ask(alloc, &mut stores, 7, (0, 11), 2, steps)
