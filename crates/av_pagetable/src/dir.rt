@@ -1,5 +1,6 @@
 use crate::level::Level;
 use crate::pte::Pte;
+use crate::table::{GROUP, no_entries};
 use std::alloc::{AllocError, Global};
 use std::collections::VecDeque;
 use std::marker::Model;
@@ -132,20 +133,20 @@ impl<C: Level> Level for Dir<C> {
     }
 
     fn for_child(&self) -> Result<Self, AllocError> {
-        let mut parts = VecDeque::with_capacity(self.alloc, self.parts.len())?;
-        for place in 0..self.parts.len() {
-            let part = &self.parts[place];
-            parts.push_back((part.0, part.1.for_child()?))?;
+        let mut parts = Vec::with_capacity(self.alloc, self.parts.len())?;
+        for part in &self.parts {
+            parts.push_reserved((part.0, part.1.for_child()?));
         }
         Ok(Dir {
             alloc: self.alloc,
-            parts,
+            parts: VecDeque::from_vec(parts),
         })
     }
 
     fn protect(&mut self) {
-        for place in 0..self.parts.len() {
-            let part = &mut self.parts[place];
+        let parts = self.parts.make_contiguous();
+        for place in 0..parts.len() {
+            let part = &mut parts[place];
             part.1.protect();
         }
     }
@@ -285,5 +286,32 @@ impl<C: Level> Dir<C> {
             total += self.parts[place].1.held();
         }
         total
+    }
+}
+
+impl Dir<Pte> {
+    ghost use Rattle.std.specs.Prelude.{◌≡◌, ℕ, ◌+◌, ◌<◌, slice_index_or};
+    ghost use Rattle.av_pagetable.specs.Table.{group_size};
+    ghost use Rattle.av_pagetable.specs.Dir.{alone, entries};
+    ghost use Rattle.av_pagetable.specs.declared.pte.Pte.{Pte};
+
+    /// The entries of a group of pages side by side, from page `first` on.
+    pub fn group(&self, first: u64) -> [Pte; GROUP]
+        ensures { (i : ℕ) → i < group_size
+            → slice_index_or result i Pte.Empty ≡ entries alone 1 self.now (first + i) }
+    {
+        let mut group = no_entries();
+        let start = match self.place(first) {
+            Ok(place) => place,
+            Err(place) => place,
+        };
+        for part in self.parts.range(start..) {
+            let i = u64::from(part.0) - first;
+            if i >= GROUP as u64 {
+                return group;
+            }
+            group[i as usize] = part.1;
+        }
+        group
     }
 }

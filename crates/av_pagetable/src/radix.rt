@@ -122,14 +122,10 @@ impl Table for RadixTable {
     }
 
     fn group(&self, number: u64) -> [Pte; GROUP] {
-        let mut group = no_entries();
-        if let Some(leaf) = self.leaf(number / GROUPS) {
-            let first = number % GROUPS * GROUP as u64;
-            for i in 0..GROUP {
-                group[i] = leaf.get(first + i as u64);
-            }
+        match self.leaf(number / GROUPS) {
+            Some(leaf) => leaf.group(number % GROUPS * GROUP as u64),
+            None => no_entries(),
         }
-        group
     }
 
     fn for_child(&self, _alloc: Global) -> Result<Self, AllocError> {

@@ -5,9 +5,8 @@ use Rattle.av_pagetable.proofs.dir.DirLevel.protect.Given as goal
 
 abbrev pub invariant-loop-place : goal.invariant-loop-place
 invariant-loop-place g l = record {
-  long : length l.self-inside.parts.items ≡ length l.initial.self-inside.parts.items;
-  within : l.place ≤ length l.initial.self-inside.parts.items;
-  images : AreImages g.C.Level.at read_only l.place l.initial.self-inside.parts.items l.self-inside.parts.items;
-  others : (i : ℕ) (d : ℕ × g.row.C.Denot) → l.place ≤ i → i < length l.initial.self-inside.parts.items
-      → get_or l.self-inside.parts.items i d ≡ get_or l.initial.self-inside.parts.items i d;
+  long : length l.parts ≡ length l.initial.parts;
+  within : l.place ≤ length l.initial.parts;
+  images : AreImages g.C.Level.at read_only l.place l.initial.parts l.parts;
+  others : (i : ℕ) (d : ℕ × g.row.C.Denot) → l.place ≤ i → i < length l.initial.parts → get_or l.parts i d ≡ get_or l.initial.parts i d;
 }
