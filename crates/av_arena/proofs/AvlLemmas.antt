@@ -1,11 +1,11 @@
 -- One tree in an arena of its own.
-use Rattle.std.proofs.Common.{◌≡◌, ℕ, ◌+◌, ◌*◌, ◌^◌, ◌<◌, ◌≤◌, inl, inr, IsSome, Option, Some, None, [], ◌∷◌, length, refl, sym, ap, ◌∙◌, subst, arith}
+use Rattle.std.proofs.Common.{◌≡◌, ℕ, ◌+◌, ◌*◌, ◌^◌, ◌<◌, ◌≤◌, inl, inr, IsSome, Option, Some, None, List, [], ◌∷◌, length, refl, sym, ap, ◌∙◌, subst, arith}
 use Rattle.std.proofs.lemmas.Bool.{cases_lt}
 use Rattle.std.proofs.Math.Pow.{pow_mono}
 use Rattle.std.proofs.Math.Nat.{mul-le-mul}
 use Rattle.av_arena.specs.Monoid.{MonoidLaws}
-use Rattle.av_arena.specs.Below.{IsSplit, IsSplitFor}
-use Rattle.av_arena.specs.Order.{NoneBetween, with_entry, with_two, without_key, entry_at}
+use Rattle.av_arena.specs.Below.{IsJoinFor, IsJoinedAt, IsSplit, IsSplitFor}
+use Rattle.av_arena.specs.Order.{IsRising, NoneBetween, NoneWithin, with_entry, with_joined, with_two, without_key, entry_at}
 use Rattle.av_arena.proofs.Order.{rising_front, rising_back, rising_with, rising_without}
 use Rattle.av_arena.proofs.Shallow.{shallow_entries}
 use Rattle.av_arena.specs.declared.link.Link.{Link}
@@ -106,17 +106,33 @@ module _ {T S : Type 0} (key : T → ℕ) (unit : S) (op : S → S → S) (of : 
       let up = rising_with key y _ (rising_with key x _ (rising_without key (key x) (entries (tree_at s k)) p.0.rising)) in
       ((record { held = w.held; rising = rw d up }, λ j i. let h = in_use key unit op of laws t u (Some k') _ _ none w all j i in omega arith), d)
 
-  pub freed : (s t u : Store T S) (k : Option (Link S)) → IsAvl key unit op of s k → (m n : ℕ) (k' : Option (Link S)) → IsWithout key unit op of s t k (without_key key m (entries (tree_at s k))) n k' → u ≡ with_at n None t → IsAvl key unit op of u k' × (entries (tree_at u k') ≡ without_key key m (entries (tree_at s k)))
-  freed s t u k p m n k' w at =
+  -- a node that is taken out of a tree is freed
+  freed_as : (s t u : Store T S) (k : Option (Link S)) → IsAvl key unit op of s k → (xs : List T) → IsRising key xs → (n : ℕ) (k' : Option (Link S)) → IsWithout key unit op of s t k xs n k' → u ≡ with_at n None t → IsAvl key unit op of u k' × (entries (tree_at u k') ≡ xs)
+  freed_as s t u k p xs up n k' w at =
       let gone : count n (tree_at t k') ≡ 0 = (let d = w.count n in let e = is_same key unit op of laws n in let o = p.0.held.once n in omega arith) in
       let g = kept key unit op of laws t (with_at n None t) k' w.held (λ j h. with_at_other key unit op of laws n None t j (is_not n j (tree_at t k') gone h)) in
-      let P : Store T S → Type 0 = λ q. IsAvl key unit op of q k' × (entries (tree_at q k') ≡ without_key key m (entries (tree_at s k))) in
-      let d : entries (tree_at (with_at n None t) k') ≡ without_key key m (entries (tree_at s k)) = ap entries g.tree ∙ w.entries in
+      let P : Store T S → Type 0 = λ q. IsAvl key unit op of q k' × (entries (tree_at q k') ≡ xs) in
+      let d : entries (tree_at (with_at n None t) k') ≡ xs = ap entries g.tree ∙ w.entries in
       let all : (j : ℕ) → IsSome (with_at n None t j) → 1 ≤ count j (tree_at (with_at n None t) k') = λ j i. elim (is_cases key unit op of laws n j) [
         | inl o ↦ let h = in_use key unit op of laws s t k' _ _ (is n) w p.1 j (subst IsSome (with_at_other key unit op of laws n None t j o) i) in rw g.tree (omega arith)
         | inr o ↦ let h = rw (← o, with_at_same key unit op of laws n None t) at i in cc
       ] in
-      subst P (sym at) ((record { held = g.held; rising = rw d (rising_without key m (entries (tree_at s k)) p.0.rising) }, all), d)
+      subst P (sym at) ((record { held = g.held; rising = rw d up }, all), d)
+
+  pub freed : (s t u : Store T S) (k : Option (Link S)) → IsAvl key unit op of s k → (m n : ℕ) (k' : Option (Link S)) → IsWithout key unit op of s t k (without_key key m (entries (tree_at s k))) n k' → u ≡ with_at n None t → IsAvl key unit op of u k' × (entries (tree_at u k') ≡ without_key key m (entries (tree_at s k)))
+  freed s t u k p m n k' w at = freed_as s t u k p _ (rising_without key m (entries (tree_at s k)) p.0.rising) n k' w at
+
+  pub joined_freed : (s t u : Store T S) (k : Option (Link S)) → IsAvl key unit op of s k → (x y z : T) (n : ℕ) (k' : Link S) → IsJoinedAt key unit op of s t k x y z n k' → u ≡ with_at n None t → IsAvl key unit op of u (Some k') × (entries (tree_at u (Some k')) ≡ with_joined key x y z (entries (tree_at s k)))
+  joined_freed s t u k p x y z n k' w at = freed_as s t u k p _ (rising_with key z _ (rising_without key (key x) _ (rising_without key (key y) (entries (tree_at s k)) p.0.rising))) n (Some k') w at
+
+  pub join_for : (s : Store T S) (k : Option (Link S)) → IsPart key unit op of s k → (x y z : T) → IsSome (entry_at key (key x) (entries (tree_at s k))) → IsSome (entry_at key (key y) (entries (tree_at s k))) → key x < key y → NoneWithin key (key x) (key y) (entries (tree_at s k)) → key z ≡ key x → IsJoinFor key unit op of s k x y z
+  join_for s k p x y z there too after next same = record {
+    has = record { held = p.held; rising = p.rising; there = there };
+    too = record { held = p.held; rising = p.rising; there = too };
+    after = after;
+    next = next;
+    same = same;
+  }
 
   pub replaced : (s u : Store T S) (k : Option (Link S)) → IsAvl key unit op of s k → (x : T) (k' : Link S) → IsReplaced key unit op of s u k x k' → IsAvl key unit op of u (Some k') × (entries (tree_at u (Some k')) ≡ with_entry key x (without_key key (key x) (entries (tree_at s k))))
   replaced s u k p x k' v =

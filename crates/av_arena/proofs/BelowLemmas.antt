@@ -91,7 +91,7 @@ module _ {T S : Type 0} (key : T → ℕ) (unit : S) (op : S → S → S) (of : 
   right_stays s n side k v b set e d = record { link = k; between = s; settled = set; told = right_again n (Some k) v s e d; stays = λ _ w f. ap (λ (x : Stored T S). x.right) (same_node s n w v f e) ∙ d }
 
   -- a node is put above sides that stand
-  above_put : (s t u : Store T S) (n : ℕ) (w : Stored T S) (xs : List T) (f g : ℕ → ℕ) → IsSpot key unit op of t n w.left w.right → u ≡ with_at n (Some w) t → entries (tree_at t w.left) ++ w.entry ∷ entries (tree_at t w.right) ≡ xs → ((j : ℕ) → (is n j + (count j (tree_at t w.left) + count j (tree_at t w.right))) + g j ≡ f j) → ((j : ℕ) → f j ≡ 0 → t j ≡ s j) → ((j : ℕ) → IsSome (s j) → IsSome (t j)) → IsAbove key unit op of s u n w xs f g
+  pub above_put : (s t u : Store T S) (n : ℕ) (w : Stored T S) (xs : List T) (f g : ℕ → ℕ) → IsSpot key unit op of t n w.left w.right → u ≡ with_at n (Some w) t → entries (tree_at t w.left) ++ w.entry ∷ entries (tree_at t w.right) ≡ xs → ((j : ℕ) → (is n j + (count j (tree_at t w.left) + count j (tree_at t w.right))) + g j ≡ f j) → ((j : ℕ) → f j ≡ 0 → t j ≡ s j) → ((j : ℕ) → IsSome (s j) → IsSome (t j)) → IsAbove key unit op of s u n w xs f g
   above_put s t u n w xs f g spot at is_xs co keep stay =
       let here : u n ≡ Some w = ap (λ (q : Store T S). q n) at ∙ with_at_same key unit op of laws n (Some w) t in
       let there : (j : ℕ) → is n j ≡ 0 → u j ≡ t j = λ j z. ap (λ (q : Store T S). q j) at ∙ with_at_other key unit op of laws n (Some w) t j z in

@@ -2,7 +2,7 @@
 use Rattle.std.specs.Prelude.{◌≡◌, ℕ, ◌+◌, ◌^◌, ◌<◌, ◌≤◌, max, None, Bool, true, false, IsSome, Option, Some, List, ◌∷◌, ◌++◌}
 use Rattle.av_base.specs.Words.{with_at}
 use Rattle.av_arena.specs.Arena.{left_put, right_put}
-use Rattle.av_arena.specs.Order.{NoneBetween, with_entry, with_two, without_key}
+use Rattle.av_arena.specs.Order.{NoneBetween, NoneWithin, with_entry, with_joined, with_two, without_key}
 use Rattle.av_arena.specs.declared.link.Link.{Link}
 use Rattle.av_arena.specs.declared.link.Stored.{Stored}
 use Rattle.av_arena.specs.Tree.{DifferByAtMost, IsHeightAfter, HasKey, IsJoined, IsPlaceFor, IsRoot, IsSet, IsSpot, IsTree, IsWithout, Store, count_at, entries_at, height_of, is, none, sum_of}
@@ -185,6 +185,39 @@ module _ {T S : Type 0} (key : T → ℕ) (unit : S) (op : S → S → S) (of : 
       IsChanged old new k changed (with_two key x y (entries_at old (Some k)))
       (λ j. is m j + count_at old (Some k) j) none 0 1
 
+  -- a tree that has the keys of two neighbours, x and y, and an entry z with the key of the first
+  pub record IsJoinFor (s : Store T S) (k : Option (Link S)) (x y z : T) : Type 0 where
+    pub has : HasKey key unit op of s k x
+    pub too : HasKey key unit op of s k y
+    pub after : key x < key y
+    pub next : NoneWithin key (key x) (key y) (entries_at s k)
+    pub same : key z ≡ key x
+
+  -- the same of the tree with the root n
+  pub record IsJoinBelowFor (s : Store T S) (n : ℕ) (x y z : T) : Type 0 where
+    pub link : Link S
+    pub number : link.number ≡ n
+    pub join : IsJoinFor s (Some link) x y z
+    pub low : link.height < 2 ^ 61
+
+  -- the node n lies neither before x nor after y
+  abbrev pub IsBetween : Store T S → ℕ → T → T → Type 0
+  IsBetween s n x y =
+      (v : Stored T S) → s n ≡ Some v → (key x ≤ key v.entry) × (key v.entry ≤ key y)
+
+  -- the tree with z in the place of the entries with the keys of x and y, without the node `out`
+  abbrev pub IsJoinedAt : Store T S → Store T S → Option (Link S) → T → T → T → ℕ → Link S → Type 0
+  IsJoinedAt old new k x y z out k' =
+      IsTree key unit op of old new (Some k') (with_joined key x y z (entries_at old k))
+      (count_at old k) (is out)
+
+  -- the same below the root n
+  abbrev pub IsJoinedBelow : Store T S → Store T S → ℕ → T → T → T → ℕ → Bool → Type 0
+  IsJoinedBelow old new n x y z out changed =
+      (k : Link S) → k.number ≡ n → IsJoinFor old (Some k) x y z →
+      IsChanged old new k changed (with_joined key x y z (entries_at old (Some k)))
+      (count_at old (Some k)) (is out) 1 0
+
 -- the height of the tree with the root n
 abbrev pub height_below : {T S : Type 0} → Option (Stored T S) → ℕ
 height_below None = 0
@@ -203,3 +236,8 @@ left_number (Some v) = number_of v.left
 abbrev pub right_number : {T S : Type 0} → Option (Stored T S) → Option ℕ
 right_number None = None
 right_number (Some v) = number_of v.right
+
+-- the entry of a node
+abbrev pub entry_below : {T S : Type 0} → Option (Stored T S) → Option T
+entry_below None = None
+entry_below (Some v) = Some v.entry

@@ -1,12 +1,12 @@
 ghost use Rattle.std.specs.Prelude.{◌≡◌, ◌+◌, ◌^◌, ◌<◌, [], None, is_ok, length, IsSome, MatchOption, OnOk, ◌++◌, if◌then◌else◌};
-ghost use Rattle.av_arena.specs.Order.{NoneBetween, entry_at, with_entry, with_two, without_key};
+ghost use Rattle.av_arena.specs.Order.{NoneBetween, NoneWithin, entry_at, with_entry, with_joined, with_two, without_key};
 ghost use Rattle.av_arena.specs.Avl.{IsLonger, IsParts};
 ghost use Rattle.av_arena.specs.Monoid.{total};
 
 use crate::arena::Arena;
 use crate::entry::Entry;
 use crate::link::{Link, Stored};
-use crate::tree::{open, place, remove, replace, split, sum};
+use crate::tree::{join, open, place, remove, replace, split, sum};
 use std::alloc::{AllocError, Global};
 use std::marker::Model;
 
@@ -115,6 +115,23 @@ impl<T: Entry> Avl<T> {
         let root = split(&mut self.arena, self.root, number, lower, upper);
         self.root = Some(root);
         Ok(())
+    }
+
+    /// Puts `joined`, which has the key of `lower`, in the place of two entries that are there:
+    /// those with the keys of `lower` and of `upper`, which comes right after it. It takes no
+    /// memory.
+    pub fn join(&mut self, lower: T, upper: T, joined: T)
+        requires room { length self.old < 2 ^ 63 }
+        requires there { IsSome (entry_at T.key (T.key lower) self.old) }
+        requires upper { IsSome (entry_at T.key (T.key upper) self.old) }
+        requires after { T.key lower < T.key upper }
+        requires next { NoneWithin T.key (T.key lower) (T.key upper) self.old }
+        requires same { T.key joined ≡ T.key lower }
+        ensures entries { self.new ≡ with_joined T.key lower upper joined self.old }
+    {
+        let (number, root) = join(&mut self.arena, self.root, lower, upper, joined);
+        self.arena.free(number);
+        self.root = Some(root);
     }
 
     /// Takes out the entry with the key of `like`, which is there. It takes no memory.

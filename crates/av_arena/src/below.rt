@@ -4,7 +4,7 @@
 // another one afterwards: where it is not, nothing above is looked at.
 ghost use Rattle.std.specs.Prelude.{◌≡◌, true, false, IsSome};
 ghost use Rattle.av_arena.specs.Arena.{store_of};
-ghost use Rattle.av_arena.specs.Below.{HasKeyBelow, IsAt, IsHungLeft, IsHungRight, IsLeftSettled, IsLeftTaken, IsLevelAt, IsPlaceBelow, IsPlacedBelow, IsRemovedBelow, IsReplacedBelow, IsRightSettled, IsRightTaken, IsSettled, IsSplitBelow, IsSplitBelowFor, IsTaken, IsTold, IsUnsettled, left_number, right_number};
+ghost use Rattle.av_arena.specs.Below.{HasKeyBelow, IsAt, IsBetween, IsHungLeft, IsHungRight, IsJoinBelowFor, IsJoinedBelow, IsLeftSettled, IsLeftTaken, IsLevelAt, IsPlaceBelow, IsPlacedBelow, IsRemovedBelow, IsReplacedBelow, IsRightSettled, IsRightTaken, IsSettled, IsSplitBelow, IsSplitBelowFor, IsTaken, IsTold, IsUnsettled, left_number, entry_below, right_number};
 
 use crate::arena::Arena;
 use crate::entry::Entry;
@@ -298,8 +298,10 @@ fn take_right<T: Entry>(arena: &mut Arena<T, T::Sum>, number: u64, side: u64, li
 pub fn removed_below<T: Entry>(arena: &mut Arena<T, T::Sum>, number: u64, like: &T) -> (u64, bool)
     requires there { HasKeyBelow T.key T.unit T.op T.of (store_of arena.old) number like.now }
     requires other { IsAt T.key T.unit T.op T.of (store_of arena.old) number like.now false }
-    ensures { IsRemovedBelow T.key T.unit T.op T.of (store_of arena.old) (store_of arena.new) number
-        like.now result.0 result.1 }
+    ensures removed { IsRemovedBelow T.key T.unit T.op T.of (store_of arena.old)
+        (store_of arena.new) number like.now result.0 result.1 }
+    ensures entry { entry_below (store_of arena.new number)
+        ≡ entry_below (store_of arena.old number) }
 {
     if like.is_before(&arena.look(number).entry) {
         let Some(side) = left_of(arena, number) else {
@@ -365,4 +367,71 @@ pub fn split_below<T: Entry>(
     arena.set_entry(number, *lower);
     let _ = placed_below(arena, number, new, upper);
     true
+}
+
+/// Takes the node of one of two neighbours, `lower` and `upper`, out of the tree with the root
+/// `number`, which is the other one and gets `joined`: the number of the node that goes.
+#[inline(never)]
+fn joined_at<T: Entry>(
+    arena: &mut Arena<T, T::Sum>,
+    number: u64,
+    lower: &T,
+    upper: &T,
+    joined: &T,
+) -> u64
+    requires join { IsJoinBelowFor T.key T.unit T.op T.of (store_of arena.old) number lower.now
+        upper.now joined.now }
+    requires meets { IsBetween T.key T.unit T.op T.of (store_of arena.old) number lower.now
+        upper.now }
+    ensures { IsJoinedBelow T.key T.unit T.op T.of (store_of arena.old) (store_of arena.new) number
+        lower.now upper.now joined.now result true }
+{
+    if lower.is_before(&arena.look(number).entry) {
+        let (out, _) = removed_below(arena, number, lower);
+        arena.set_entry(number, *joined);
+        return out;
+    }
+    let (out, _) = removed_below(arena, number, upper);
+    arena.set_entry(number, *joined);
+    out
+}
+
+/// Takes the node of `lower` or of `upper`, which comes right after it, out of the tree with the
+/// root `number`, and puts `joined`, which has the key of `lower`, into the other: the number of
+/// the node that goes, and whether the root is another one afterwards. Where `joined` is in sum
+/// what the two were, nothing above is written.
+pub fn joined_below<T: Entry>(
+    arena: &mut Arena<T, T::Sum>,
+    number: u64,
+    lower: &T,
+    upper: &T,
+    joined: &T,
+) -> (u64, bool)
+    requires { IsJoinBelowFor T.key T.unit T.op T.of (store_of arena.old) number lower.now upper.now
+        joined.now }
+    ensures { IsJoinedBelow T.key T.unit T.op T.of (store_of arena.old) (store_of arena.new) number
+        lower.now upper.now joined.now result.0 result.1 }
+{
+    let node = arena.look(number);
+    if upper.is_before(&node.entry) {
+        let Some(side) = left_of(arena, number) else {
+            unreachable!()
+        };
+        let (out, changed) = joined_below(arena, side, lower, upper, joined);
+        if !changed {
+            return (out, false);
+        }
+        return (out, left_settled(arena, number, side));
+    }
+    if node.entry.is_before(lower) {
+        let Some(side) = right_of(arena, number) else {
+            unreachable!()
+        };
+        let (out, changed) = joined_below(arena, side, lower, upper, joined);
+        if !changed {
+            return (out, false);
+        }
+        return (out, right_settled(arena, number, side));
+    }
+    (joined_at(arena, number, lower, upper, joined), true)
 }

@@ -2,10 +2,12 @@ ghost use Rattle.std.specs.Prelude.{◌≡◌, ◌+◌, ◌^◌, ◌<◌, ◌≤
 ghost use Rattle.av_arena.specs.Order.{without_key};
 ghost use Rattle.av_arena.specs.Tree.{DifferByAtMost, IsHeightAfter, HasKey, IsHeld, IsJoined, IsOpened, IsPlaceFor, IsPlaced, IsPopped, IsReplaced, IsRoot, IsSet, IsSpot, IsWithout, sum_of, height_of, tree_at, entries};
 ghost use Rattle.av_arena.specs.Arena.{store_of};
-ghost use Rattle.av_arena.specs.Below.{IsSplit, IsSplitFor};
+ghost use Rattle.av_arena.specs.Below.{IsJoinFor, IsJoinedAt, IsSplit, IsSplitFor};
 
 use crate::arena::Arena;
-use crate::below::{is_at, placed_below, removed_below, replaced_below, settle, split_below, take};
+use crate::below::{
+    is_at, joined_below, placed_below, removed_below, replaced_below, settle, split_below, take,
+};
 use crate::entry::Entry;
 use crate::link::{Link, Stored};
 
@@ -353,4 +355,27 @@ pub fn split<T: Entry>(
         return tree;
     }
     settle(arena, tree.number)
+}
+
+/// The tree with `joined` in the place of `lower` and of `upper`, which comes right after it, and
+/// the number of the node that goes.
+pub fn join<T: Entry>(
+    arena: &mut Arena<T, T::Sum>,
+    tree: Option<Link<T::Sum>>,
+    lower: T,
+    upper: T,
+    joined: T,
+) -> (u64, Link<T::Sum>)
+    requires join { IsJoinFor T.key T.unit T.op T.of (store_of arena.old) tree lower upper joined }
+    requires low { height_of tree < 2 ^ 61 }
+    ensures { IsJoinedAt T.key T.unit T.op T.of (store_of arena.old) (store_of arena.new) tree lower
+        upper joined result.0 result.1 }
+{
+    let Some(tree) = tree else { unreachable!() };
+    let (number, changed) = joined_below(arena, tree.number, &lower, &upper, &joined);
+    if !changed {
+        return (number, tree);
+    }
+    let whole = settle(arena, tree.number);
+    (number, whole)
 }

@@ -84,6 +84,32 @@ module _ (len : Lengths) (p l r at : ℕ) (lower upper : Area) (areas : ℕ → 
       let is : on_right.span.from ≡ at = omega arith in
       subst (λ o. IsSomeAnd o (λ s. s.from ≡ at)) (sym right_span) is
 
+  -- the boundary lies within the two as one
+  pub join_below : first_of (join_of lower upper) < at
+  join_below =
+      let left_has : first_of lower ≤ at - 1 = (has_parts lower (at - 1) on_left.has).0 in
+      let low = on_left.is.whole.low in
+      omega arith
+
+  pub join_above : at < past_of (join_of lower upper)
+  join_above = let right_has : at < past_of upper = (has_parts upper at on_right.has).1 in omega arith
+
+  -- the pages of the upper one are those of the two as one, and the area of each other page stays
+  pub upper_goes : (page : ℕ) → area_at spans page ≡ Some r → has_page (join_of lower upper) page ≡ true
+  upper_goes page e = right_pages len lower upper on_left.is.whole on_right.is.whole joins page ((laid_of p areas spans stands).here page upper (ap (option_and_then areas) e ∙ upper_is))
+
+  pub others_stay : (page k : ℕ) → k ≢ r → area_at spans page ≡ Some k → cond (has_page (join_of lower upper) page) (Some l) (unless_area l (unless_area r (area_at spans page))) ≡ Some k
+  others_stay page k apart e =
+      elim (has_page (join_of lower upper) page) as (λ b. has_page (join_of lower upper) page ≡ b → cond b (Some l) (unless_area l (unless_area r (area_at spans page))) ≡ Some k) [
+        | true ↦ λ h. elim (merged_pages len lower upper on_left.is.whole on_right.is.whole joins page h) [
+          | inl g ↦ sym (at_left page g) ∙ e
+          | inr g ↦ absurd (apart (same_Some k r (sym e ∙ at_right page g)))
+        ]
+        | false ↦ λ h.
+            let not_left : k ≢ l = λ same. both_ways (has_page (join_of lower upper) page) h (left_pages len lower upper on_left.is.whole on_right.is.whole joins page ((laid_of p areas spans stands).here page lower (ap (option_and_then areas) e ∙ ap areas same ∙ lower_is))) in
+            rw (e, ne_eqb k r apart, ne_eqb k l not_left) refl
+      ] refl
+
   -- the lower area has the anon_vma that either had, and the upper area has been taken out
   module _ (areas' : ℕ → Option Area) (spans' : List Span)
       (now : (k : ℕ) → areas' k ≡ with_at r None (with_at l (Some (record lower { anon = option_or lower.anon upper.anon })) areas) k)

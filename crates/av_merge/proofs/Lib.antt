@@ -5,7 +5,6 @@ pub mod Cuts
 pub mod CutsEmpty
 pub mod Forks
 pub mod Joins
-pub mod JoinsThree
 pub mod Kin
 pub mod Lengths
 pub mod Linked

@@ -39,11 +39,3 @@ IsRemapped from past effect old new = (page : ℕ) → mapping new page
 abbrev pub DoDiffer : ℕ → Pages → Type 0
 DoDiffer at on = IfSome (mapping on (at - 1)) (λ m. IfSome (mapping on at)
     (λ n. m.prot ≡ n.prot → m.flags ≡ n.flags → ⊥))
-
--- three areas without anon_vma become one
-pub record ArePlainlyOne (lower inner upper : Area) : Type 0 where
-  pub bare_lower : lower.anon ≡ None
-  pub bare_inner : inner.anon ≡ None
-  pub bare_upper : upper.anon ≡ None
-  pub first : do_join no_chains lower inner ≡ true
-  pub second : do_join no_chains inner upper ≡ true

@@ -1,17 +1,16 @@
 //! Joining: two areas become one where the second goes on in the way of the first.
 
-ghost use Rattle.std.specs.Prelude.{◌≡◌, ℕ, ◌-◌, ◌^◌, ◌<◌, ◌≤◌, Some, None, OnOk, true};
-ghost use Rattle.av_vma.specs.Join.{first_of, index_of, past_of};
+ghost use Rattle.std.specs.Prelude.{◌≡◌, ◌≢◌, ℕ, ◌-◌, ◌<◌, Some, IfOk, OnOk, true};
 ghost use Rattle.av_vma.specs.Areas.{area_of};
 ghost use Rattle.av_vmatree.specs.Spans.{area_at};
-ghost use Rattle.av_vma.specs.Pages.{joined_around, joined_at, do_join, join_of, no_chains};
-ghost use Rattle.av_merge.specs.Mapping.{ArePlainlyOne, DoDiffer};
+ghost use Rattle.av_vma.specs.Pages.{joined_around, joined_at, do_join, join_of};
+ghost use Rattle.av_merge.specs.Mapping.{DoDiffer};
 ghost use Rattle.av_merge.specs.Pages.{pages_by};
 ghost use Rattle.av_merge.specs.Kin.{AreInOrder, StayKin, lengths};
-ghost use Rattle.av_merge.specs.Process.{AreAreasOf, Stays, AreOfOne, StayOfOne, Becomes};
+ghost use Rattle.av_merge.specs.Process.{AreOfOne, StayOfOne, Becomes};
 
 use crate::linking::{chain_len, share, take};
-use crate::placing::replace;
+use crate::placing::replace_both;
 use av_anon::Anons;
 use av_vma::{Area, AreaId, Areas, mergeable};
 use av_vmatree::Tree;
@@ -112,7 +111,7 @@ fn join_both(
 }
 
 /// Tries both boundaries of the area between the pages `from` and `past`, which has another on each
-/// side. Where all three become one, the tree changes three times, and not four.
+/// side: none has to be sought again.
 fn join_three(
     areas: &mut Areas,
     tree: &mut Tree,
@@ -127,6 +126,7 @@ fn join_three(
     requires stands { AreOfOne areas.old tree.old }
     requires some { 0 < from }
     requires forward { from < past }
+    requires apart { right ≢ middle }
     requires below { area_at tree.old (from - 1) ≡ Some left }
     requires first { area_at tree.old from ≡ Some middle }
     requires last { area_at tree.old (past - 1) ≡ Some middle }
@@ -137,35 +137,9 @@ fn join_three(
         (Becomes areas.old tree.old areas.new tree.new
         (joined_around (lengths areas.old anons.old) from past)) }
 {
-    let lower = areas.get(left);
-    let inner = areas.get(middle);
-    let upper = areas.get(right);
-    if !are_plainly_one(&lower, &inner, &upper) {
-        return join_both(areas, tree, anons, from, past);
-    }
-    tree.remove(middle, from);
-    areas.remove(middle);
-    tree.remove(right, past);
-    areas.remove(right);
-    let both = merge(lower, inner);
-    replace(areas, tree, anons, left, merge(both, upper))
-}
-
-/// Whether three areas without anon_vma become one.
-///
-/// With anon_vmas whether the third one joins may depend on what the first two have together.
-fn are_plainly_one(lower: &Area, inner: &Area, upper: &Area) -> bool
-    requires forward { first_of lower.now ≤ past_of lower.now }
-    requires small { index_of lower.now (past_of lower.now) < 2 ^ 64 }
-    requires inner_forward { first_of inner.now ≤ past_of inner.now }
-    requires inner_small { index_of inner.now (past_of inner.now) < 2 ^ 64 }
-    ensures { result ≡ true → ArePlainlyOne lower.now inner.now upper.now }
-{
-    lower.anon.is_none()
-        && inner.anon.is_none()
-        && upper.anon.is_none()
-        && mergeable(lower, 0, inner, 0)
-        && mergeable(inner, 0, upper, 0)
+    let below = join(areas, tree, anons, left, middle, from)?;
+    join(areas, tree, anons, below, right, past)?;
+    Ok(())
 }
 
 /// Tries the boundary before the page `at`: the areas on its two sides become one where they are
@@ -195,11 +169,12 @@ pub fn join_at(
     if left.to != at || right.from != at {
         return Ok(());
     }
-    join(areas, tree, anons, left.area, right.area, at)
+    join(areas, tree, anons, left.area, right.area, at)?;
+    Ok(())
 }
 
 /// Makes one of the areas on the two sides of the boundary before the page `at`, where they are
-/// mergeable.
+/// mergeable, and answers the number of the one that has the pages above it then.
 fn join(
     areas: &mut Areas,
     tree: &mut Tree,
@@ -207,7 +182,7 @@ fn join(
     left: AreaId,
     right: AreaId,
     at: u64,
-) -> Result<(), AllocError>
+) -> Result<AreaId, AllocError>
     requires order { AreInOrder areas.old anons.old }
     requires stands { AreOfOne areas.old tree.old }
     requires below { area_at tree.old (at - 1) ≡ Some left }
@@ -216,18 +191,22 @@ fn join(
     ensures kin { OnOk result (StayKin areas.old anons.old areas.new anons.new) }
     ensures pages { OnOk result (Becomes areas.old tree.old areas.new tree.new
         (joined_at (lengths areas.old anons.old) at)) }
+    ensures number { IfOk result (λ number. (page : ℕ) → area_at tree.old page ≡ Some right
+        → area_at tree.new page ≡ Some number) }
+    ensures others { OnOk result ((page : ℕ) → (other : ℕ) → other ≢ right
+        → area_at tree.old page ≡ Some other → area_at tree.new page ≡ Some other) }
 {
     let lower = areas.get(left);
     let upper = areas.get(right);
     let left_len = chain_len(anons, left, lower.anon);
     let right_len = chain_len(anons, right, upper.anon);
     if !mergeable(&lower, left_len, &upper, right_len) {
-        return Ok(());
+        return Ok(right);
     }
     share(areas, anons, left, right)?;
-    tree.remove(right, at);
     take(areas, anons, right);
-    replace(areas, tree, anons, left, merge(lower, upper))
+    replace_both(areas, tree, anons, left, merge(lower, upper), right, at)?;
+    Ok(left)
 }
 
 /// Tries the boundary before the page `at`, unless the areas on its two sides are known not to be

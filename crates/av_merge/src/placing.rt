@@ -1,6 +1,6 @@
 //! One area is put, or another is put in its place.
 
-ghost use Rattle.std.specs.Prelude.{◌≡◌, ℕ, ◌≤◌, Some, None, IsSomeAnd, OnOk, IfOk, if◌then◌else◌};
+ghost use Rattle.std.specs.Prelude.{◌≡◌, ℕ, ◌<◌, ◌≤◌, Some, None, IsSomeAnd, OnOk, IfOk, if◌then◌else◌};
 ghost use Rattle.av_vma.specs.Areas.{area_of};
 ghost use Rattle.av_vma.specs.Join.{first_of, past_of};
 ghost use Rattle.av_base.specs.Words.{with_at};
@@ -68,6 +68,49 @@ pub fn replace(
     ensures kin { OnOk result (StayKin areas.old anons.old areas.new anons.new) }
 {
     tree.set_end(number, area.start / PAGE_SIZE, area.end / PAGE_SIZE);
+    put(areas, anons, number, area)
+}
+
+/// Takes out of the tree the area `other`, which begins with the page `at` and is out of `areas`
+/// already, and gives the area before it other bounds, on pages of the two or free.
+///
+/// The tree is gone down once for both.
+pub fn replace_both(
+    areas: &mut Areas,
+    tree: &mut Tree,
+    anons: &mut Anons,
+    number: AreaId,
+    area: Area,
+    other: AreaId,
+    at: u64,
+) -> Result<(), AllocError>
+    requires order { AreInOrder areas.old anons.old }
+    requires was { IsSomeAnd (area_of areas.old number)
+        (λ old. area ≡ with_bounds area.start area.end area.pgoff old) }
+    requires other { IsSomeAnd (span_of tree.old other) (λ s. s.from ≡ at) }
+    requires lower { first_of area < at }
+    requires upper { at < past_of area }
+    requires stands { AreAreasOf area.pid (area_of areas.old) (without_area other tree.old) }
+    requires there { IsSomeAnd (span_of (without_area other tree.old) number)
+        (λ s. s.from ≡ first_of area) }
+    requires whole { IsWhole area }
+    requires free { IsFree (is_page_taken (without_area number (without_area other tree.old)))
+        (first_of area) (past_of area) }
+    ensures stands { Stays area.pid (area_of areas.old) (area_of areas.new) tree.new }
+    ensures pages { (page : ℕ) → pages_by (area_of areas.new) tree.new page
+        ≡ with_area area (pages_by (with_at number None (area_of areas.old))
+        (without_area other tree.old)) page }
+    ensures number { (page : ℕ) → area_at tree.new page ≡ (if has_page area page then Some number
+        else unless_area number (area_at (without_area other tree.old) page)) }
+    ensures kin { OnOk result (StayKin areas.old anons.old areas.new anons.new) }
+{
+    tree.join(
+        number,
+        area.start / PAGE_SIZE,
+        other,
+        at,
+        area.end / PAGE_SIZE,
+    );
     put(areas, anons, number, area)
 }
 
