@@ -52,7 +52,7 @@ impl Model for Kernel {
 impl Kernel {
     /// A kernel with this many frames, all free, and no process.
     pub fn new(alloc: Global, frames: u32) -> Result<Kernel, AllocError>
-        ensures stands { IfOk result (λ k. Stands k (at_first (setting frames))) }
+        ensures stands { IfOk result (λ k. Stands k no_device (at_first (setting frames))) }
         ensures new { IfOk result (IsNew frames) }
     {
         Ok(Kernel {
@@ -67,7 +67,7 @@ impl Kernel {
     /// Does one command. After want of memory the kernel is spent: then it does nothing more.
     pub fn step(&mut self, alloc: Global, command: &Command) -> Result<Reply, AllocError>
         requires { self.old.steps < 2 ^ 24 }
-        ensures stands { (s : State) → Stands self.old s →
+        ensures stands { (s : State) → Stands self.old no_device s →
             IfOk result (Steps self.old self.new no_device no_device s command.now) }
         ensures counts { IfOk result (Counts self.old self.new) }
         ensures left { OnErr result (IsLeft self.old self.new) }
@@ -88,7 +88,7 @@ impl Kernel {
         reply: &mut Reply,
     ) -> Result<(), AllocError>
         requires { self.old.steps < 2 ^ 24 }
-        ensures stands { (s : State) → Stands self.old s → OnOk result
+        ensures stands { (s : State) → Stands self.old no_device s → OnOk result
             (Steps self.old self.new no_device no_device s command.now reply.new) }
         ensures counts { OnOk result (Counts self.old self.new reply.new) }
         ensures left { OnErr result (IsLeft self.old self.new) }

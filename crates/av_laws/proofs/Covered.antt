@@ -806,6 +806,11 @@ to_low most high w on c = record { laid = c.cover.laid; prots = c.cover.prots; l
 from_low : (most : ℕ) (high : top_page ≤ most) (w : World) (on : Areas) → Low most high w on → CoverBelow most w on
 from_low most high w on c = record { cover = record { laid = c.laid; prots = c.prots }; low = c.low }
 
+-- areas are laid once events have prepared some
+pub later-laid : (m : Setting) (most : ℕ) (old : State) (es : List Event) → top_page ≤ most → CoverBelow most old.world old.areas
+    → (p : ℕ) → AreLaid ((rmap_after_all old.ledger es (rmap_of old)).areas p)
+later-laid m most old es high c p = (covers_prepared most high old.world old.ledger es (rmap_of old) (to_low most high old.world old.areas c)).laid p
+
 pub step-covers : (m : Setting) (most : ℕ) (old : State) (command : Command) (reply : Reply) (new : State) → top_page ≤ most → most + top_page ≤ 2 ^ 60
     → CoverBelow most old.world old.areas → IsStep m old command reply new → CoverBelow (most + top_page) new.world new.areas
 step-covers m most old command reply new high fits c h =

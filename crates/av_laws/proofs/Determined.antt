@@ -5,7 +5,7 @@ use Rattle.std.specs.Prelude.{IfSome, MatchBool, MatchOption, option_and_then, s
 use Rattle.std.specs.Ordering.{nat_cmp, eq_by_cmp}
 use Rattle.av_vma.specs.Gap.{IsGap}
 use Rattle.av_trace.specs.declared.command.Command.{Command}
-use Rattle.av_trace.specs.declared.command.Command.TheVariants.{Spawn, Fork, Exit, Mmap, Mremap, Munmap, Mprotect, Read, Write, Maps, Areas as AsksAreas, Rmap, Entry as AsksEntry, Stat}
+use Rattle.av_trace.specs.declared.command.Command.TheVariants.{Spawn, Fork, Exit, Mmap, Mremap, Munmap, Mprotect, Read, Write, Maps, Areas as AsksAreas, Rmap as AsksRmap, Entry as AsksEntry, Stat}
 use Rattle.av_trace.specs.declared.mode.Mode.{Mode}
 use Rattle.av_trace.specs.declared.mode.Mode.TheVariants.{DontUnmap, Fixed as FixedAt, MayMove, Plain}
 use Rattle.av_trace.specs.declared.place.Place.{Place}
@@ -362,7 +362,7 @@ follows-one m w l on anons (AsksAreas p) es fs answer answer' rows rows' closing
     let same = one-rows anons (on p) rows rows' (subst (λ answer. ShowsAreas on anons (AsksAreas p) answer rows) h.0 s)
     (subst (λ answer. ShowsAreas on anons (AsksAreas p) answer rows') g.0 t) in
     record { events = h.2 ∙ sym g.2; answers = h.0 ∙ ap (λ (rs : List Row). AreaList (length rs)) same ∙ sym g.0; reports = same }
-follows-one m w l on anons (Rmap p at) es fs answer answer' rows rows' closing free a b told claimed kept kept'
+follows-one m w l on anons (AsksRmap p at) es fs answer answer' rows rows' closing free a b told claimed kept kept'
     x y c d h g s t = record { events = h.1 ∙ sym g.1; answers = h.0 ∙ sym g.0; reports = h.2 ∙ sym g.2 }
 follows-one m w l on anons (AsksEntry p at) es fs answer answer' rows rows' closing free a b told claimed kept kept'
     x y c d h g s t = record { events = h.1 ∙ sym g.1; answers = h.0 ∙ sym g.0; reports = h.2 ∙ sym g.2 }
@@ -527,7 +527,7 @@ claimed-follows m w l command es answer rows told claimed h = subst (λ v. IsCla
     by (Write p a bytes) h = claimed-stored w p a (first_bytes answer bytes) claimed
     by (Maps p) h = claimed
     by (AsksAreas p) h = claimed
-    by (Rmap p a) h = claimed
+    by (AsksRmap p a) h = claimed
     by (AsksEntry p a) h = claimed
     by Stat h = claimed
 

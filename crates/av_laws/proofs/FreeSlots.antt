@@ -1,5 +1,5 @@
 -- In a run the slots of each area are listed as the ledger has them: a page is taken where its slot is in use, and only slots are free.
-use Rattle.std.proofs.Common.{◌≡◌, ◌⊎◌, inl, inr, ℕ, zero, suc, ◌+◌, ◌-◌, min, ◌<◌, ◌≤◌, Bool, true, false, cond, not, ◌&&◌, ◌||◌, nat_lt, nat_le, T, List, [], ◌∷◌, length, filter, Option, Some, None, IfSome, is_some, count_by, refl, sym, ap, subst, ◌∙◌, arith, ◌==◌, ◌++◌}
+use Rattle.std.proofs.Common.{◌≡◌, ◌⊎◌, inl, inr, ℕ, zero, suc, ◌+◌, ◌-◌, min, ◌<◌, ◌≤◌, Bool, true, false, cond, not, ◌&&◌, ◌||◌, nat_lt, nat_le, T, List, [], ◌∷◌, length, filter, fold, Option, Some, None, IfSome, is_some, count_by, refl, sym, ap, subst, ◌∙◌, arith, ◌==◌, ◌++◌}
 use Rattle.std.proofs.lemmas.Bool.Decides.{nat_tests}
 use Rattle.std.specs.Option.{option_map_or}
 use Rattle.std.specs.Ordering.{nat_cmp}
@@ -8,21 +8,21 @@ use Rattle.std.specs.FinMap.Entries.{find, is_sorted}
 use Rattle.av_base.specs.declared.slot.Slot.{Slot}
 use Rattle.av_clusters.specs.declared.Page.{Page}
 use Rattle.av_clusters.specs.declared.Page.TheVariants.{Free as FreePage, Taken, Unusable}
-use Rattle.av_clusters.specs.Clusters.{Slots, is_free as is_free_page, is_taken, page_at, take_slot}
+use Rattle.av_clusters.specs.Clusters.{Slots, is_free as is_free_page, is_taken, give_slot, page_at, take_slot}
 use Rattle.av_clusters.proofs.Pages.{free_below}
 use Rattle.av_clusters.proofs.Whole.{one_fewer}
 use Rattle.av_laws.proofs.Clusters.{AreTaken, Gives, back-at, back-count, gives-one, set-at}
 use Rattle.av_base.specs.Page.{page_of, pages_of}
 use Rattle.av_base.specs.Words.{how_many, numbers, with_at, within}
 use Rattle.av_trace.specs.declared.command.Command.{Command}
-use Rattle.av_trace.specs.declared.command.Command.TheVariants.{Spawn, Fork, Exit, Mmap, Mremap, Munmap, Mprotect, Read, Write, Maps, Areas as AsksAreas, Rmap, Entry as AsksEntry, Stat}
+use Rattle.av_trace.specs.declared.command.Command.TheVariants.{Spawn, Fork, Exit, Mmap, Mremap, Munmap, Mprotect, Read, Write, Maps, Areas as AsksAreas, Rmap as AsksRmap, Entry as AsksEntry, Stat}
 use Rattle.av_trace.specs.declared.place.Place.TheVariants.{Auto, At, Fixed, NoReplace}
 use Rattle.av_trace.specs.declared.reply.Errno.{Errno}
 use Rattle.av_trace.specs.declared.reply.Reply.{Reply}
 use Rattle.av_trace.specs.declared.note.Note.{Note}
 use Rattle.av_trace.specs.declared.note.Note.TheVariants.{Aged, Copied, Dropped, Failed, Kept, Loaded, Mapped, New, Put, Started, Unmapped, Written, Zeroed}
 use Rattle.av_plain.specs.Access.{Accesses, End, page_events, pages_of_access}
-use Rattle.av_plain.specs.Choice.{AreaSlots, ChoosesAll, Free, IsGiven, ListsSlots, new_free_slots, slot_in_note, with_given_back}
+use Rattle.av_plain.specs.Choice.{AreaSlots, ChoosesAll, Free, IsGiven, ListsSlots, new_free_slots, no_slots, slot_in_note, with_given_back}
 use Rattle.av_plain.specs.Event.{Event, Forked, Moved, Used, after_all, after_move, after_note, after_notes, after_use, after_zap, note_events, when}
 use Rattle.av_plain.specs.Fault.{Stop, Touches}
 use Rattle.av_plain.specs.Fork.{inherited}
@@ -81,8 +81,42 @@ pub record Inv (m : Setting) (l : Ledger) (slots : AreaSlots) : Type 0 where
   pub there : (s : Slot) → is_used l s ≡ true → is_there m l s ≡ true
   pub sum : (k : ℕ) → count_by is_free_page (slots k).pages + length (slots_in_use m l k)
       ≡ slots_on (find nat_cmp k l.on)
+  pub off : (k : ℕ) → is_on l k ≡ false → slots k ≡ no_slots k
+
+-- ---- an area that is off
+
+there-on : (m : Setting) (l : Ledger) (s : Slot) → is_there m l s ≡ true → is_on l s.area ≡ true
+there-on m l s h = by (is_on l s.area) (nat_lt 0 s.page) (nat_lt s.page (size_of m s.area)) (is_usable m s) h
+  where
+    by : (a b c d : Bool) → (a && b && c && d) ≡ true → a ≡ true
+    by true b c d h = refl
+    by false b c d h = cc
+
+-- it has no slot in use
+off-unused : (m : Setting) (l : Ledger) → ((s : Slot) → is_used l s ≡ true → is_there m l s ≡ true) → (k page : ℕ) → is_on l k ≡ false
+    → is_used l (record { area = k; page = page }) ≡ false
+off-unused m l there k page is = by (is_used l s) refl
+  where
+    s : Slot
+    s = record { area = k; page = page }
+
+    by : (u : Bool) → is_used l s ≡ u → is_used l s ≡ false
+    by false e = e
+    by true e = absurd (never (sym is ∙ there-on m l s (there s e)))
+
+-- and is none that has one of these
+off-other : (m : Setting) (l : Ledger) (k : ℕ) (t : Slot) → is_on l k ≡ false → is_there m l t ≡ true → (k == t.area) ≡ false
+off-other m l k t is there = by (k == t.area) refl
+  where
+    by : (b : Bool) → (k == t.area) ≡ b → (k == t.area) ≡ false
+    by false e = e
+    by true e = absurd (never (sym is ∙ ap (is_on l) (same-is k t.area e) ∙ there-on m l t there))
 
 -- ---- how many numbers of a range pass
+
+none-passes : (p : ℕ → Bool) (a n : ℕ) → ((x : ℕ) → p x ≡ false) → filter p (numbers a n) ≡ []
+none-passes p a zero h = refl
+none-passes p a (suc n) h = ap (λ b. cond b (a ∷ filter p (numbers (a + 1) n)) (filter p (numbers (a + 1) n))) (h a) ∙ none-passes p (a + 1) n h
 
 one-longer : (b : Bool) (a : ℕ) (xs : List ℕ) → length (cond b (a ∷ xs) xs) ≡ cond b 1 0 + length xs
 one-longer true a xs = omega arith
@@ -335,9 +369,36 @@ module _ (m : Setting) (closing : Option ℕ) (l l' : Ledger) (taken : Option Sl
       ≡ slots_on (find nat_cmp k l.on) = omega (arith, a, b, c, d) in
       e ∙ ap (λ on. slots_on (find nat_cmp k on)) (sym brings.on_same)
 
+  -- ---- an area that is off is left alone
+
+  off-rest : (k : ℕ) → is_on l k ≡ false → rest k ≡ old k
+  off-rest k is = by taken given there-before
+    where
+      gave : (t : Slot) (o : Option (ℕ × Slots)) → IsSomeAnd o (λ x. (x.0 ≡ t.page) × (rest ≡ with_at t.area x.1 old)) → (k == t.area) ≡ false → rest k ≡ old k
+      gave t None h other = absurd h
+      gave t (Some x) h other = ap (λ (slots : AreaSlots). slots k) h.1 ∙ ap (λ b. cond b x.1 (old k)) other
+
+      by : (o : Option Slot) → MatchOption o (rest ≡ old) (λ s. IsGiven m closing l s old rest) → ((s : Slot) → is_that o s ≡ true → is_there m l s ≡ true)
+          → rest k ≡ old k
+      by None h there = ap (λ (slots : AreaSlots). slots k) h
+      by (Some t) h there = gave t (take_slot (old t.area)) h.1 (off-other m l k t is (there t (slot-itself t)))
+
+  off-back : (k : ℕ) → is_on l k ≡ false → new_free_slots m l l' k ≡ []
+  off-back k is = none-passes (λ page. let s : Slot = record { area = k; page = page } in slot_count l' s == 0 && is_used l s) 1 (size_of m k - 1)
+      (λ page. let s : Slot = record { area = k; page = page } in no (slot_count l' s == 0) (is_used l s) (off-unused m l inv.there k page is))
+    where
+      no : (a b : Bool) → b ≡ false → (a && b) ≡ false
+      no true b e = e
+      no false b e = refl
+
+  off-kept : (k : ℕ) → is_on l' k ≡ false → with_given_back m l l' rest k ≡ no_slots k
+  off-kept k is =
+      let was : is_on l k ≡ false = ap (λ on. is_some (find nat_cmp k on)) (sym brings.on_same) ∙ is in
+      ap (fold give_slot (rest k)) (off-back k was) ∙ off-rest k was ∙ inv.off k was
+
   -- all is kept
   pub inv-kept : Inv m l' (with_given_back m l l' rest)
-  inv-kept = record { taken = taken-kept; free = free-kept; there = there-kept; sum = sum-kept }
+  inv-kept = record { taken = taken-kept; free = free-kept; there = there-kept; sum = sum-kept; off = off-kept }
 
 -- ---- what each event brings
 
@@ -617,7 +678,7 @@ legal-inv m w l command reply es free free' sound legal c h = by (refusal (tests
     follows (Write p a bytes) fine q = accesses-inv m w l p (pages_of_access true a (length bytes)) es q.0 free free' s q.1 c h
     follows (Maps p) fine q = none q.2
     follows (AsksAreas p) fine q = none q.2
-    follows (Rmap p a) fine q = none q.1
+    follows (AsksRmap p a) fine q = none q.1
     follows (AsksEntry p a) fine q = none q.1
     follows Stat fine q = none q.1
 
@@ -648,14 +709,6 @@ free_is m l s = by (is_on l s.area) (nat_lt 0 s.page) (nat_lt s.page (size_of m 
     by true false c d z u e = refl
     by false b c d z u e = refl
 
-none-pass : (p : ℕ → Bool) (a n : ℕ) → ((x : ℕ) → p x ≡ false) → length (filter p (numbers a n)) ≡ 0
-none-pass p a zero h = refl
-none-pass p a (suc n) h =
-    let x = one-longer (p a) a (filter p (numbers (a + 1) n)) in
-    let y = ap {B = ℕ} (λ b. cond b 1 0) (h a) in
-    let z = none-pass p (a + 1) n h in
-    omega (arith, x, y, z)
-
 to_inv : (m : Setting) (w : World) (l : Ledger) (slots : AreaSlots) → AllSound m w l → ListsSlots m l slots → Inv m l slots
 to_inv m w l slots sound h = record {
   taken = h.taken;
@@ -663,6 +716,7 @@ to_inv m w l slots sound h = record {
       (sym (free_is m l s) ∙ h.free s is);
   there = there;
   sum = λ k. by k (find nat_cmp k l.on) refl (sound.areas_fit.fit k) (h.number k);
+  off = h.off;
 }
   where
     there : (s : Slot) → is_used l s ≡ true → is_there m l s ≡ true
@@ -672,19 +726,12 @@ to_inv m w l slots sound h = record {
     there_of true b h = refl
     there_of false b h = cc
 
-    off : (k : ℕ) → find nat_cmp k l.on ≡ None → (page : ℕ) → is_used l (record { area = k; page = page }) ≡ false
-    off k e page = let s : Slot = record { area = k; page = page } in no (is_used l s) (is_on l k) (there s) (ap is_some e)
-      where
-        no : (u on : Bool) → (u ≡ true → (on && nat_lt 0 page && nat_lt page (size_of m k) && is_usable m (record { area = k; page = page })) ≡ true)
-            → on ≡ false → u ≡ false
-        no false on h e = refl
-        no true true h e = cc
-        no true false h e = sym (h refl)
-
     by : (k : ℕ) (o : Option SwapArea) → find nat_cmp k l.on ≡ o → IfSome o (λ area. length (slots_in_use m l k) ≤ area.slots)
         → count_by is_free_page (slots k).pages ≡ option_map_or (λ area. free_slots m l (k, area)) o 0
         → count_by is_free_page (slots k).pages + length (slots_in_use m l k) ≡ slots_on o
-    by k None e fits n = let z = none-pass (λ page. is_used l (record { area = k; page = page })) 1 (size_of m k - 1) (off k e) in omega (arith, n, z)
+    by k None e fits n =
+        let z = ap length (none-passes (λ page. is_used l (record { area = k; page = page })) 1 (size_of m k - 1) (λ page. off-unused m l there k page (ap is_some e))) in
+        omega (arith, n, z)
     by k (Some area) e fits n = omega (arith, n, fits)
 
 from_inv : (m : Setting) (l : Ledger) (slots : AreaSlots) → Inv m l slots → ListsSlots m l slots
@@ -692,6 +739,7 @@ from_inv m l slots inv = record {
   taken = inv.taken;
   free = λ s is. free_is m l s ∙ (λ i. inv.free s is i && not (unused (at slots s) (is_used l s) is (inv.taken s) i));
   number = λ k. by k (find nat_cmp k l.on) (inv.sum k);
+  off = inv.off;
 }
   where
     unused : (a : Page) (u : Bool) → is_free_page a ≡ true → is_taken a ≡ u → u ≡ false
@@ -720,4 +768,4 @@ run-from m old (e ∷ es) new s h q = run-from m q.0 es new (step-sound m old e.
     (step-lists_slots m old e.command e.reply q.0 s h q.1) q.2
 
 pub run-lists_slots : (m : Setting) (es : List Exchange) (new : State) → IsRun m (at_first m) es new → ListsSlots m new.ledger new.free.slots
-run-lists_slots m es new q = run-from m (at_first m) es new (first-sound m) (record { taken = λ s. refl; free = λ s h. cc; number = λ k. refl }) q
+run-lists_slots m es new q = run-from m (at_first m) es new (first-sound m) (record { taken = λ s. refl; free = λ s h. cc; number = λ k. refl; off = λ k h. refl }) q

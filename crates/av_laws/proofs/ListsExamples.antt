@@ -4,11 +4,12 @@ use Rattle.std.specs.Option.{option_map_or}
 use Rattle.std.specs.FinMap.Entries.{find}
 use Rattle.std.specs.Prelude.{◌≡◌, ℕ, zero, suc, ◌+◌, ◌==◌, ◌&&◌, ◌||◌, Bool, true, false, cond, if◌then◌else◌, [], ◌∷◌, Some, None, nat_lt, count_by, is_none, option_map, refl}
 use Rattle.std.proofs.Common.{arith, sym, ap, subst, ◌∙◌}
+use Rattle.std.proofs.lemmas.Bool.{true≢false}
 use Rattle.std.proofs.lemmas.Bool.Decides.{nat_tests}
 use Rattle.av_base.specs.Words.{how_many}
 use Rattle.av_clusters.specs.Clusters.{is_free as is_free_page, Slots, fresh, is_taken, page_at}
 use Rattle.av_plain.specs.Choice.{ListsAll, no_slots}
-use Rattle.av_plain.specs.Ledger.{Cached, free_slots, is_free_slot}
+use Rattle.av_plain.specs.Ledger.{Cached, free_slots, is_free_slot, is_on}
 use Rattle.av_laws.specs.Examples.{cached_out, machine, slot, when_given, with_slots, with_swap}
 use Rattle.av_laws.specs.Views.{fork_state}
 
@@ -40,7 +41,7 @@ one-taken (suc (suc (suc (suc (suc (suc (suc (suc page)))))))) = grind (arith, n
 pub fork-listed : ListsAll (machine 4) fork_state.ledger fork_state.free
 fork-listed = record {
   frames = λ f. three-listed f ∙ by f (f == 0);
-  slots = record { taken = λ s. refl; free = λ s h. cc; number = λ k. refl };
+  slots = record { taken = λ s. refl; free = λ s h. cc; number = λ k. refl; off = λ k h. refl };
 }
   where
     by : (f : ℕ) (b : Bool) → ◌≡◌ {A = ℕ} (if (if b then false else true) && nat_lt f 4 then 1 else 0)
@@ -60,6 +61,7 @@ cached-listed flying stale = record {
     taken = λ s. taken (s.area == 0) s.page;
     free = λ s. free s.area (s.area == 0) refl s.page;
     number = λ k. number k (k == 0) refl;
+    off = λ k. off k (k == 0) refl;
   };
 }
   where
@@ -121,3 +123,10 @@ cached-listed flying stale = record {
             subst (λ k. 6 ≡ free_slots (with_swap 4 8 7) (cached_out flying stale).ledger
             (k, record { slots = 7; bad = 0 })) (sym e) refl
         by false is = refl
+
+    off : (k : ℕ) (b : Bool) → (k == 0) ≡ b → is_on (cached_out flying stale).ledger k ≡ false
+        → of_area b ≡ no_slots k
+    off k true e is =
+        let first : k ≡ 0 = grind (arith, nat_tests, e) in
+        absurd (true≢false (subst (λ k. is_on (cached_out flying stale).ledger k ≡ false) first is))
+    off k false e is = refl

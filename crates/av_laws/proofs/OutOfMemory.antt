@@ -3,7 +3,7 @@ use Rattle.std.proofs.Common.{◌≡◌, ◌⊎◌, inl, inr, ℕ, zero, suc, �
 use Rattle.std.proofs.lemmas.Bool.Decides.{nat_tests}
 use Rattle.std.specs.Prelude.{IfSome, MatchOption}
 use Rattle.av_trace.specs.declared.command.Command.{Command}
-use Rattle.av_trace.specs.declared.command.Command.TheVariants.{Spawn, Fork, Exit, Mmap, Mremap, Munmap, Mprotect, Read, Write, Maps, Areas as AsksAreas, Rmap, Entry as AsksEntry, Stat}
+use Rattle.av_trace.specs.declared.command.Command.TheVariants.{Spawn, Fork, Exit, Mmap, Mremap, Munmap, Mprotect, Read, Write, Maps, Areas as AsksAreas, Rmap as AsksRmap, Entry as AsksEntry, Stat}
 use Rattle.av_trace.specs.declared.reply.Errno.{Errno}
 use Rattle.av_trace.specs.declared.reply.Errno.TheVariants.{Enomem}
 use Rattle.av_trace.specs.declared.reply.Reply.{Reply}
@@ -186,7 +186,7 @@ follows-add m w l (Read p a n) events answer rows s h = subst (AnswerAdds m) (sy
 follows-add m w l (Write p a bytes) events answer rows s h = subst (AnswerAdds m) (sym h.2) (write-adds m a h.0 (accesses-add m w l p (pages_of_access true a (length bytes)) events h.0 s h.1))
 follows-add m w l (Maps p) events answer rows s h = subst (AnswerAdds m) (sym h.0) tt
 follows-add m w l (AsksAreas p) events answer rows s h = subst (AnswerAdds m) (sym h.0) tt
-follows-add m w l (Rmap p a) events answer rows s h = subst (AnswerAdds m) (sym h.0) (walk-adds m l (entry l (p, page_of a)))
+follows-add m w l (AsksRmap p a) events answer rows s h = subst (AnswerAdds m) (sym h.0) (walk-adds m l (entry l (p, page_of a)))
 follows-add m w l (AsksEntry p a) events answer rows s h = subst (AnswerAdds m) (sym h.0) (entry-adds m l (entry l (p, page_of a)))
 follows-add m w l Stat events answer rows s h = subst (AnswerAdds m) (sym h.0) tt
 

@@ -1,6 +1,7 @@
 -- The numbers of a legal reply are of 64 bits, and its bytes below 256.
 pub mod Anons
 pub mod InRuns
+pub mod Few
 pub mod OfRuns
 use Rattle.std.specs.List.{AllByRecursion}
 use Rattle.std.specs.Prelude.{MatchBool, MatchOption, sum_by}
@@ -11,7 +12,7 @@ use Rattle.av_base.specs.Page.{address_of, page_of, pages_of, page_size, place_i
 use Rattle.av_base.specs.Words.{numbers}
 use Rattle.av_vma.specs.Gap.{IsGap}
 use Rattle.av_trace.specs.declared.command.Command.{Command}
-use Rattle.av_trace.specs.declared.command.Command.TheVariants.{Spawn, Fork, Exit, Mmap, Mremap, Munmap, Mprotect, Read, Write, Maps, Areas as AsksAreas, Rmap, Entry as AsksEntry, Stat}
+use Rattle.av_trace.specs.declared.command.Command.TheVariants.{Spawn, Fork, Exit, Mmap, Mremap, Munmap, Mprotect, Read, Write, Maps, Areas as AsksAreas, Rmap as AsksRmap, Entry as AsksEntry, Stat}
 use Rattle.av_trace.specs.declared.note.Note.{Note}
 use Rattle.av_trace.specs.declared.note.Note.TheVariants.{Aged, Copied, Dropped, Failed, Kept, Loaded, Mapped, New, Put, Started, Unmapped, Written, Zeroed}
 use Rattle.av_trace.specs.declared.mode.Mode.{Mode}
@@ -365,7 +366,7 @@ follows-fit m w l (AsksAreas p) events answer rows none s small fit out wide h =
     let rest = areas-wide ranges rows h.1.1 (runs-wide ranges h.1.2 high) wide in
     fits-by events [] answer (AreaList (length rows)) rows rows h.2 h.0 refl
     (subst IsWide (sym rest.0) (few-rows ranges h.1.2 high), (refl, refl, rest.1))
-follows-fit m w l (Rmap p a) events answer rows none s small fit out wide h =
+follows-fit m w l (AsksRmap p a) events answer rows none s small fit out wide h =
     let e = entry l (p, page_of a) in
     fits-by events [] answer (walk_answer l e) rows (walk_rows l e) h.1 h.0 h.2 (walk-fits m w l (p, page_of a) s small e refl)
 follows-fit m w l (AsksEntry p a) events answer rows none s small fit out wide h =

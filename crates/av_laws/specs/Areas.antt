@@ -23,6 +23,10 @@
 --   the rows of `areas` (`ShowsAreas`, `AreRowsOf`, `area_row`): four_rows, area_left_out,
 --     shown_as_one, shown_in_two, falling_rows, other_offset_shown, root_owned, bare_shown,
 --     own_shown, chain_of_root, chain_of_child, chain_falling
+--   what both parts of an area have that is cut (`part_of`, `chain_of`): unmapped_inside,
+--     changed_inside, offset_kept, offset_of_address, own_lost, own_of_root, chain_lost,
+--     own_alone_linked, chain_turned, lower_chain_lost, hole_shown, middle_offset_kept,
+--     middle_own_lost, middle_own_alone, upper_offset_short
 use Rattle.std.specs.Prelude.{◌≡◌, ℕ, List, [], ◌∷◌, ◌++◌, length, Option, Some, None, option_map}
 use Rattle.std.specs.List.{AllByRecursion}
 use Rattle.av_base.specs.Words.{numbers, with_at}
@@ -44,7 +48,7 @@ use Rattle.av_plain.specs.Areas.{AnonVma, Anons, no_anons, no_areas, no_homes}
 use Rattle.av_plain.specs.Ledger.{first_ledger}
 use Rattle.av_plain.specs.Transcript.{Exchange, IsRun, IsStep, State, at_first}
 use Rattle.av_plain.specs.World.{Process, zeros}
-use Rattle.av_laws.specs.Examples.{Runs, machine, only_frames, read_only, read_write, reply_with, says, write_only}
+use Rattle.av_laws.specs.Examples.{Allows, Runs, machine, only_frames, read_only, read_write, reply_with, says, write_only}
 
 -- ---- what a row claims
 
@@ -341,3 +345,47 @@ Shows rows = (new : State)
 abbrev pub NeverShows : List Row → Type 0
 NeverShows rows = (new : State)
     → IsStep (machine 4) (state_of four_areas kin) (AsksAreas 1) (with_rows rows) new → ⊥
+
+-- ---- areas are shown before a cut and behind it
+
+-- the child has four pages in one area, which came from elsewhere: its offset isn't its first page
+abbrev pub child_four : State
+child_four = state_of (record (area_of 1 0x10 0x14) { pgoff = 0x20 } ∷ []) kin
+
+-- the second of them is unmapped, or is for reading only
+abbrev pub second_unmapped : Command
+second_unmapped = Munmap 1 0x11000 4096
+
+abbrev pub second_protected : Command
+second_protected = Mprotect 1 0x11000 4096 read_only
+
+-- a row of the child
+abbrev pub of_child : ℕ → ℕ → Prot → ℕ → Row
+of_child from past prot offset = row from past prot offset (Some 1) (0 ∷ 1 ∷ [])
+
+-- `areas` shows the one area, the command is done, and `areas` shows these rows
+abbrev pub around : Command → List Row → List Exchange
+around command rows =
+    record { command = AsksAreas 1; reply = with_rows (of_child 0x10 0x14 read_write 0x20 ∷ []) }
+    ∷ says command Done [] ∷ record { command = AsksAreas 1; reply = with_rows rows } ∷ []
+
+-- that may be, or never is
+abbrev pub ShowsAround : Command → List Row → Type 0
+ShowsAround command rows = Allows (machine 4) child_four (around command rows)
+
+abbrev pub NeverShowsAround : Command → List Row → Type 0
+NeverShowsAround command rows =
+    (new : State) → IsRun (machine 4) child_four (around command rows) new → ⊥
+
+-- the rows behind the hole, and behind the change, but for what the upper part has
+abbrev pub with_hole : Row → List Row
+with_hole upper = of_child 0x10 0x11 read_write 0x20 ∷ upper ∷ []
+
+abbrev pub with_middle : Row → Row → List Row
+with_middle middle upper = of_child 0x10 0x11 read_write 0x20 ∷ middle ∷ upper ∷ []
+
+abbrev pub right_middle : Row
+right_middle = of_child 0x11 0x12 read_only 0x21
+
+abbrev pub right_upper : Row
+right_upper = of_child 0x12 0x14 read_write 0x22

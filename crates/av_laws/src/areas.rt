@@ -23,7 +23,9 @@ ghost use Rattle.av_laws.specs.Areas.{
   behind_root,
   between_roots,
   NeverShows,
+  NeverShowsAround,
   Shows,
+  ShowsAround,
   bare_row,
   child_row,
   first_gone,
@@ -33,8 +35,11 @@ ghost use Rattle.av_laws.specs.Areas.{
   kin,
   last_row,
   made_alike,
+  of_child,
   of_second,
   one_root,
+  right_middle,
+  right_upper,
   root_four,
   two_roots,
   unlike,
@@ -49,6 +54,10 @@ ghost use Rattle.av_laws.specs.Areas.{
   root,
   row,
   second_goes,
+  second_protected,
+  second_unmapped,
+  with_hole,
+  with_middle,
   middle_map,
   after_exit,
   fixed_over,
@@ -236,4 +245,46 @@ pub fn changed_rows_are_refused()
         ∷ row 0x16 0x17 read_write 0x16 (Some 0) (0 ∷ 1 ∷ []) ∷ []) }
     ensures chain_falling { NeverShows (first_row ∷ bare_row
         ∷ row 0x14 0x16 read_write 0x14 (Some 1) (1 ∷ 0 ∷ []) ∷ last_row ∷ []) }
+{}
+
+/// `areas` shows both parts of an area with an anon_vma that is cut, whether a page inside it is
+/// unmapped or gets another protection: each has its own anon_vma and its whole chain still, and
+/// offsets run on.
+pub fn cut_areas_are_shown()
+    ensures unmapped_inside { ShowsAround second_unmapped (with_hole right_upper) }
+    ensures changed_inside { ShowsAround second_protected (with_middle right_middle right_upper) }
+{}
+
+/// No other rows: an upper part with the offset of the whole, or with that of its address; with no
+/// anon_vma, or with the root; without a chain, with itself alone in it, or with a chain that falls;
+/// a lower part without chain; the whole still, hole and all. And of a part that was changed: one
+/// with the offset of the whole, without anon_vma, or with that alone in its chain; nor an upper
+/// part whose offset runs on from the changed one's first page.
+pub fn changed_cuts_are_refused()
+    ensures offset_kept { NeverShowsAround second_unmapped
+        (with_hole (of_child 0x12 0x14 read_write 0x20)) }
+    ensures offset_of_address { NeverShowsAround second_unmapped
+        (with_hole (of_child 0x12 0x14 read_write 0x12)) }
+    ensures own_lost { NeverShowsAround second_unmapped
+        (with_hole (row 0x12 0x14 read_write 0x22 None [])) }
+    ensures own_of_root { NeverShowsAround second_unmapped
+        (with_hole (row 0x12 0x14 read_write 0x22 (Some 0) (0 ∷ []))) }
+    ensures chain_lost { NeverShowsAround second_unmapped
+        (with_hole (row 0x12 0x14 read_write 0x22 (Some 1) [])) }
+    ensures own_alone_linked { NeverShowsAround second_unmapped
+        (with_hole (row 0x12 0x14 read_write 0x22 (Some 1) (1 ∷ []))) }
+    ensures chain_turned { NeverShowsAround second_unmapped
+        (with_hole (row 0x12 0x14 read_write 0x22 (Some 1) (1 ∷ 0 ∷ []))) }
+    ensures lower_chain_lost { NeverShowsAround second_unmapped
+        (row 0x10 0x11 read_write 0x20 (Some 1) [] ∷ right_upper ∷ []) }
+    ensures hole_shown { NeverShowsAround second_unmapped
+        (of_child 0x10 0x14 read_write 0x20 ∷ []) }
+    ensures middle_offset_kept { NeverShowsAround second_protected
+        (with_middle (of_child 0x11 0x12 read_only 0x20) right_upper) }
+    ensures middle_own_lost { NeverShowsAround second_protected
+        (with_middle (row 0x11 0x12 read_only 0x21 None []) right_upper) }
+    ensures middle_own_alone { NeverShowsAround second_protected
+        (with_middle (row 0x11 0x12 read_only 0x21 (Some 1) (1 ∷ [])) right_upper) }
+    ensures upper_offset_short { NeverShowsAround second_protected
+        (with_middle right_middle (of_child 0x12 0x14 read_write 0x21)) }
 {}

@@ -11,7 +11,7 @@ ghost use Rattle.av_trace.specs.declared.command.Command.TheVariants.{
   Read,
   Write,
   Maps,
-  Rmap,
+  Rmap as AsksRmap,
   Entry as AsksEntry,
   Stat,
 };
@@ -362,30 +362,30 @@ pub fn changed_entries_are_refused()
 /// where the entry is none or a slot.
 pub fn walks_are_shown()
     ensures walk_of_two { Allows (machine 4) (after_fork (1 ∷ 2 ∷ 3 ∷ []))
-        (reports (Rmap 2 0x7fffffffe123) (Walk 0 2)
+        (reports (AsksRmap 2 0x7fffffffe123) (Walk 0 2)
         (Entry 1 0x7fffffffe000 ∷ Entry 2 0x7fffffffe000 ∷ []) ∷ []) }
     ensures walk_of_one { Allows (with_swap 4 8 7) in_swap_cache
-        (reports (Rmap 1 0x7fffffffe000) (Walk 0 1) (Entry 1 0x7fffffffe000 ∷ []) ∷ []) }
+        (reports (AsksRmap 1 0x7fffffffe000) (Walk 0 1) (Entry 1 0x7fffffffe000 ∷ []) ∷ []) }
     ensures no_walk { Allows (with_swap 4 8 7) in_writeback
-        (reports (Rmap 1 0x7fffffffe000) NoWalk [] ∷ []) }
+        (reports (AsksRmap 1 0x7fffffffe000) NoWalk [] ∷ []) }
 {}
 
 /// And nothing else: an entry left out, the one asked of or another; entries that fall; a slot's
 /// frame, though it is cached; an address within a page; a page that isn't mapped.
 pub fn changed_walks_are_refused()
     ensures other_left_out { Forbids (machine 4) (after_fork (1 ∷ 2 ∷ 3 ∷ []))
-        (Rmap 2 0x7fffffffe000)
+        (AsksRmap 2 0x7fffffffe000)
         (with_rows_of (Walk 0 1) (Entry 2 0x7fffffffe000 ∷ [])) }
     ensures own_left_out { Forbids (machine 4) (after_fork (1 ∷ 2 ∷ 3 ∷ []))
-        (Rmap 2 0x7fffffffe000)
+        (AsksRmap 2 0x7fffffffe000)
         (with_rows_of (Walk 0 2) (Entry 1 0x7fffffffe000 ∷ [])) }
     ensures falling_walk { Forbids (machine 4) (after_fork (1 ∷ 2 ∷ 3 ∷ []))
-        (Rmap 2 0x7fffffffe000)
+        (AsksRmap 2 0x7fffffffe000)
         (with_rows_of (Walk 0 2) (Entry 2 0x7fffffffe000 ∷ Entry 1 0x7fffffffe000 ∷ [])) }
-    ensures slot_walked { Forbids (with_swap 4 8 7) in_writeback (Rmap 1 0x7fffffffe000)
+    ensures slot_walked { Forbids (with_swap 4 8 7) in_writeback (AsksRmap 1 0x7fffffffe000)
         (with_rows_of (Walk 0 0) []) }
-    ensures within_page { Forbids (with_swap 4 8 7) in_swap_cache (Rmap 1 0x7fffffffe123)
+    ensures within_page { Forbids (with_swap 4 8 7) in_swap_cache (AsksRmap 1 0x7fffffffe123)
         (with_rows_of (Walk 0 1) (Entry 1 0x7fffffffe123 ∷ [])) }
-    ensures walked_though_unmapped { Forbids (machine 4) state_at_rest (Rmap 1 0x7fffffffd000)
+    ensures walked_though_unmapped { Forbids (machine 4) state_at_rest (AsksRmap 1 0x7fffffffd000)
         (with_rows_of NoWalk []) }
 {}

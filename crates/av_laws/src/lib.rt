@@ -59,8 +59,9 @@ ghost use Rattle.av_laws.specs.Determined.{
 };
 
 pub use areas::{
-    anon_vmas_are_left, areas_follow, changed_anon_vmas_are_refused, changed_areas_are_refused,
-    changed_prepares_are_refused, first_frames_prepare,
+    anon_vmas_are_left, areas_are_shown, areas_follow, changed_anon_vmas_are_refused,
+    changed_areas_are_refused, changed_cuts_are_refused, changed_prepares_are_refused,
+    changed_rows_are_refused, cut_areas_are_shown, first_frames_prepare,
 };
 pub use examples::{
     a_page_in_writeback_is_sound, changed_exits_and_reports_are_refused,
@@ -193,8 +194,10 @@ pub fn areas_has_one_answer()
 
 /// A legal reply to a command of the grammar is one that is read back from its text: its numbers
 /// are of 64 bits, its bytes below 256, and its rows as many as it says. This is so where no device
-/// is attached and no area is on, and where offsets and anon_vmas that the rows of `areas` say are
-/// of 64 bits, too: these aren't part of what makes a reply legal.
+/// is attached and no area is on, and where offsets, own anon_vmas and chains that the rows of
+/// `areas` say are of 64 bits, too. Legality says nothing of these, since it knows of memories and
+/// ledger alone: a step shows those of the state's areas, and in a run they are so, as the next law
+/// says.
 pub fn replies_are_read_back()
     ensures { (m : Setting) (w : World) (l : Ledger) (command : Command) (reply : Reply)
         (events : List Event) → HasNoDevice m → AllSound m w l → IsSmall m w l
@@ -203,13 +206,13 @@ pub fn replies_are_read_back()
 {}
 
 /// So is each reply of a run from nothing on, where no device is attached, the machine's frames
-/// have numbers of 64 bits, fewer than 2^64 anon_vmas were made, and the commands are at most 2^24,
-/// each of the grammar.
+/// have numbers of 64 bits, and the commands are at most 2^24, each of the grammar. A command makes
+/// fewer than 2^36 anon_vmas, so those of a run have numbers of 64 bits.
 pub fn replies_of_runs_are_read_back()
     ensures { (m : Setting) (exchanges : List Exchange) (new : State) → HasNoDevice m
         → IsWide m.frames → length exchanges ≤ 2 ^ 24
         → AllByRecursion (λ (e : Exchange). IsCommand e.command) exchanges
-        → IsRun m (at_first m) exchanges new → IsWide new.anons.next
+        → IsRun m (at_first m) exchanges new
         → AllByRecursion (λ (e : Exchange). IsReply e.reply) exchanges }
 {}
 

@@ -26,7 +26,7 @@ use Rattle.std.specs.FinMap.Entries.{is_sorted}
 use Rattle.std.specs.Prelude.{if◌then◌else◌, length, T}
 use Rattle.av_base.specs.Page.{page_of, pages_of}
 use Rattle.av_trace.specs.declared.command.Command.{Command}
-use Rattle.av_trace.specs.declared.command.Command.TheVariants.{Spawn, Fork, Exit, Mmap, Mremap, Munmap, Mprotect, Read, Write, Maps, Areas as AsksAreas, Rmap, Entry as AsksEntry, Stat}
+use Rattle.av_trace.specs.declared.command.Command.TheVariants.{Spawn, Fork, Exit, Mmap, Mremap, Munmap, Mprotect, Read, Write, Maps, Areas as AsksAreas, Rmap as AsksRmap, Entry as AsksEntry, Stat}
 use Rattle.av_trace.specs.declared.place.Place.{Place}
 use Rattle.av_trace.specs.declared.place.Place.TheVariants.{Auto, At, Fixed, NoReplace}
 use Rattle.av_trace.specs.declared.reply.Errno.{Errno}
@@ -515,7 +515,7 @@ follows-faultless m w l (Write p a bytes) events answer rows none s h =
     record { notes = no-fails (notes_of events) plain.notes; answered = is-faultless answer _ h.2 (write-faultless a h.0 plain.ends) }
 follows-faultless m w l (Maps p) events answer rows none s h = record { notes = ap (λ es. fails (notes_of es)) h.2; answered = is-faultless answer _ h.0 (record { told = refl; failed = refl }) }
 follows-faultless m w l (AsksAreas p) events answer rows none s h = record { notes = ap (λ es. fails (notes_of es)) h.2; answered = is-faultless answer _ h.0 (record { told = refl; failed = refl }) }
-follows-faultless m w l (Rmap p a) events answer rows none s h = record { notes = ap (λ es. fails (notes_of es)) h.1; answered = is-faultless answer _ h.0 (walk-faultless l (entry l (p, page_of a))) }
+follows-faultless m w l (AsksRmap p a) events answer rows none s h = record { notes = ap (λ es. fails (notes_of es)) h.1; answered = is-faultless answer _ h.0 (walk-faultless l (entry l (p, page_of a))) }
 follows-faultless m w l (AsksEntry p a) events answer rows none s h = record { notes = ap (λ es. fails (notes_of es)) h.1; answered = is-faultless answer _ h.0 (entry-faultless l (entry l (p, page_of a))) }
 follows-faultless m w l Stat events answer rows none s h = record { notes = ap (λ es. fails (notes_of es)) h.1; answered = is-faultless answer _ h.0 (record { told = refl; failed = refl }) }
 
@@ -546,7 +546,7 @@ tests-mild m w l (Read p a n) = (refl, tt)
 tests-mild m w l (Write p a bytes) = (refl, tt)
 tests-mild m w l (Maps p) = (refl, tt)
 tests-mild m w l (AsksAreas p) = (refl, tt)
-tests-mild m w l (Rmap p a) = (refl, (refl, tt))
+tests-mild m w l (AsksRmap p a) = (refl, (refl, tt))
 tests-mild m w l (AsksEntry p a) = (refl, (refl, tt))
 tests-mild m w l Stat = tt
 

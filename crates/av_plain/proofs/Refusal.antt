@@ -4,7 +4,7 @@ use Rattle.std.proofs.lemmas.Bool.Decides.{nat_tests}
 use Rattle.std.specs.Option.{option_map_or}
 use Rattle.std.specs.Prelude.{◌||◌, MatchOption, length, nat_le}
 use Rattle.av_trace.specs.declared.command.Command.{Command}
-use Rattle.av_trace.specs.declared.command.Command.TheVariants.{Spawn, Fork, Exit, Mmap, Mremap, Munmap, Mprotect, Read, Write, Maps, Areas as AsksAreas, Rmap, Entry as AsksEntry, Stat}
+use Rattle.av_trace.specs.declared.command.Command.TheVariants.{Spawn, Fork, Exit, Mmap, Mremap, Munmap, Mprotect, Read, Write, Maps, Areas as AsksAreas, Rmap as AsksRmap, Entry as AsksEntry, Stat}
 use Rattle.av_trace.specs.declared.mode.Mode.{Mode}
 use Rattle.av_trace.specs.declared.place.Place.{Place}
 use Rattle.av_trace.specs.declared.place.Place.TheVariants.{Auto, At, Fixed, NoReplace}
@@ -123,7 +123,7 @@ refused-next m w now l (Read p a n) error is = refl
 refused-next m w now l (Write p a bytes) error is = refl
 refused-next m w now l (Maps p) error is = refl
 refused-next m w now l (AsksAreas p) error is = refl
-refused-next m w now l (Rmap p a) error is = refl
+refused-next m w now l (AsksRmap p a) error is = refl
 refused-next m w now l (AsksEntry p a) error is = refl
 refused-next m w now l Stat error is = refl
 
@@ -148,7 +148,7 @@ refused-areas m w l long on (Read p a n) error is = refl
 refused-areas m w l long on (Write p a bytes) error is = refl
 refused-areas m w l long on (Maps p) error is = refl
 refused-areas m w l long on (AsksAreas p) error is = refl
-refused-areas m w l long on (Rmap p a) error is = refl
+refused-areas m w l long on (AsksRmap p a) error is = refl
 refused-areas m w l long on (AsksEntry p a) error is = refl
 refused-areas m w l long on Stat error is = refl
 
@@ -212,7 +212,7 @@ follows-refused m w now l (Read p a n) events error rows other h = absurd (read-
 follows-refused m w now l (Write p a bytes) events error rows other h = absurd (write-refused a h.0 error h.2)
 follows-refused m w now l (Maps p) events error rows other h = cc
 follows-refused m w now l (AsksAreas p) events error rows other h = cc
-follows-refused m w now l (Rmap p a) events error rows other h = absurd (walk-refused l (entry l (p, page_of a)) error h.0)
+follows-refused m w now l (AsksRmap p a) events error rows other h = absurd (walk-refused l (entry l (p, page_of a)) error h.0)
 follows-refused m w now l (AsksEntry p a) events error rows other h = absurd (entry-refused l (entry l (p, page_of a)) error h.0)
 follows-refused m w now l Stat events error rows other h = cc
 

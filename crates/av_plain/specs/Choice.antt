@@ -5,7 +5,7 @@ use Rattle.std.specs.FinMap.Entries.{find as find_area}
 use Rattle.std.specs.List.{find}
 use Rattle.std.specs.Option.{option_map_or}
 use Rattle.std.specs.Ordering.{nat_cmp}
-use Rattle.std.specs.Prelude.{◌≡◌, ◌≤◌, ℕ, min, ◌+◌, ◌-◌, not, ◌&&◌, ◌==◌, nat_lt, if◌then◌else◌, true, List, [], ◌∷◌, ◌++◌, filter, fold, count_by, option_map, Option, Some, None, IsSomeAnd, MatchOption}
+use Rattle.std.specs.Prelude.{◌≡◌, ◌≤◌, ℕ, min, ◌+◌, ◌-◌, not, ◌&&◌, ◌==◌, nat_lt, if◌then◌else◌, true, false, List, [], ◌∷◌, ◌++◌, filter, fold, count_by, option_map, Option, Some, None, IsSomeAnd, MatchOption}
 use Rattle.av_base.specs.Words.{how_many, numbers, with_at}
 use Rattle.av_base.specs.declared.slot.Slot.{Slot}
 use Rattle.av_clusters.specs.Clusters.{Slots, fresh, take_slot, give_slot, is_free as is_free_page, is_taken, page_at}
@@ -13,7 +13,7 @@ use Rattle.av_swapdev.specs.Device.{most_pages}
 use Rattle.av_swapdev.specs.Header.{Layout}
 use Rattle.av_trace.specs.declared.note.Note.{Note}
 use Rattle.av_trace.specs.declared.note.Note.TheVariants.{New, Copied, Loaded, Put}
-use Rattle.av_plain.specs.Ledger.{HasNumbers, Ledger, Setting, SwapArea, is_free, is_free_slot, is_open, free_slots, size_of, slot_count}
+use Rattle.av_plain.specs.Ledger.{HasNumbers, Ledger, Setting, SwapArea, is_free, is_free_slot, is_on, is_open, free_slots, size_of, slot_count}
 use Rattle.av_plain.specs.Event.{Event, Noted, TurnedOff, TurnedOn, after}
 
 -- the slots of each swap area, with their clusters
@@ -135,7 +135,8 @@ ListsFree m l free = (f : ℕ) →
     how_many (λ g. f == g) free ≡ (if is_free l f && nat_lt f m.frames then 1 else 0)
 
 -- in the slots of each area a page is taken exactly where its slot is in use, and free only where
--- the ledger has its slot free: as many as the area has free
+-- the ledger has its slot free: as many as the area has free. An area that is off has no slots, not
+-- even clusters: so nothing is left of it when it is turned on again
 pub record ListsSlots (m : Setting) (l : Ledger) (slots : AreaSlots) : Type 0 where
   pub taken : (s : Slot)
       → is_taken (page_at (slots s.area).pages s.page) ≡ nat_lt 0 (slot_count l s)
@@ -143,6 +144,7 @@ pub record ListsSlots (m : Setting) (l : Ledger) (slots : AreaSlots) : Type 0 wh
       → is_free_slot m l s ≡ true
   pub number : (k : ℕ) → count_by is_free_page (slots k).pages
       ≡ option_map_or (λ area. free_slots m l (k, area)) (find_area nat_cmp k l.on) 0
+  pub off : (k : ℕ) → is_on l k ≡ false → slots k ≡ no_slots k
 
 -- what is free is what the ledger has free
 pub record ListsAll (m : Setting) (l : Ledger) (free : Free) : Type 0 where

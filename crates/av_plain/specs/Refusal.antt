@@ -4,7 +4,7 @@ use Rattle.std.specs.Prelude.{ℕ, ◌+◌, Bool, true, false, not, ◌==◌, if
 use Rattle.av_base.specs.Limits.{most_processes, low_page, top_page}
 use Rattle.av_base.specs.Page.{page_of, address_of, pages_of, is_on_page}
 use Rattle.av_trace.specs.declared.command.Command.{Command}
-use Rattle.av_trace.specs.declared.command.Command.TheVariants.{Mprotect, Mremap, Spawn, Fork, Exit, Mmap, Munmap, Read, Write, Maps, Areas as AsksAreas, Rmap, Entry as AsksEntry, Stat}
+use Rattle.av_trace.specs.declared.command.Command.TheVariants.{Mprotect, Mremap, Spawn, Fork, Exit, Mmap, Munmap, Read, Write, Maps, Areas as AsksAreas, Rmap as AsksRmap, Entry as AsksEntry, Stat}
 use Rattle.av_trace.specs.declared.mode.Mode.{Mode}
 use Rattle.av_trace.specs.declared.place.Place.{Place}
 use Rattle.av_trace.specs.declared.place.Place.TheVariants.{Auto, At, Fixed, NoReplace}
@@ -123,7 +123,7 @@ tests m w l (Read p a n) = no_process w p ∷ []
 tests m w l (Write p a bytes) = no_process w p ∷ []
 tests m w l (Maps p) = no_process w p ∷ []
 tests m w l (AsksAreas p) = no_process w p ∷ []
-tests m w l (Rmap p a) = no_process w p ∷ no_page w p a ∷ []
+tests m w l (AsksRmap p a) = no_process w p ∷ no_page w p a ∷ []
 tests m w l (AsksEntry p a) = no_process w p ∷ no_page w p a ∷ []
 tests m w l Stat = []
 

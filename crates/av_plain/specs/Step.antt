@@ -2,7 +2,7 @@
 use Rattle.std.specs.Prelude.{ℕ, ◌+◌, if◌then◌else◌, List, Option, None, Some, ◌≡◌, length, max, MatchOption}
 use Rattle.av_base.specs.Page.{page_of, pages_of}
 use Rattle.av_trace.specs.declared.command.Command.{Command}
-use Rattle.av_trace.specs.declared.command.Command.TheVariants.{Mprotect, Mremap, Spawn, Fork, Exit, Mmap, Munmap, Read, Write, Maps, Areas as AsksAreas, Rmap, Entry as AsksEntry, Stat}
+use Rattle.av_trace.specs.declared.command.Command.TheVariants.{Mprotect, Mremap, Spawn, Fork, Exit, Mmap, Munmap, Read, Write, Maps, Areas as AsksAreas, Rmap as AsksRmap, Entry as AsksEntry, Stat}
 use Rattle.av_trace.specs.declared.reply.Answer.{Answer}
 use Rattle.av_trace.specs.declared.reply.Answer.TheVariants.{Bus, Done, MapAt, NoFrame, Oom, Refused}
 use Rattle.av_trace.specs.declared.reply.Errno.TheVariants.{Enomem, Eio}
@@ -71,7 +71,7 @@ Follows m w l (Write p a bytes) events answer rows =
     WritesPages m w l p a (length bytes) events answer rows
 Follows m w l (Maps p) events answer rows = ReportsRuns (pages w p) events answer rows
 Follows m w l (AsksAreas p) events answer rows = ReportsAreas (pages w p) events answer rows
-Follows m w l (Rmap p a) events answer rows = ReportsWalk l (p, page_of a) events answer rows
+Follows m w l (AsksRmap p a) events answer rows = ReportsWalk l (p, page_of a) events answer rows
 Follows m w l (AsksEntry p a) events answer rows =
     ReportsEntry l (p, page_of a) events answer rows
 Follows m w l Stat events answer rows = ReportsTotals m w l events answer rows

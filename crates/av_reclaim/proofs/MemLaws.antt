@@ -155,6 +155,7 @@ listed k m l frames swap free = record {
     taken = λ s. sym (ap (nat_lt 0) (unused s));
     free = λ s is. cc;
     number = λ a. ap (λ on. option_map_or (λ area. free_slots m l (a, area)) (find_key nat_cmp a on) 0) swap.on;
+    off = λ a is. refl;
   };
 }
   where

@@ -29,7 +29,7 @@ use Rattle.av_replay.proofs.Runs.{Past, whole, SoFar, longer, next_answers, read
 -- a run, the bytes that were written, and the kernel
 pub record Leaves (n : ℕ) (rest : List ℕ) (old new : Streams) (kernel : Machine) (run : Run) (written : List ℕ) : Type 0 where
   pub replays : Replays n old new run rest written
-  pub left : IsLeft kernel n run
+  pub left : IsLeft kernel new.device n run
 
 pub headline : (n : ℕ) (status : Status) (rest : List ℕ) (old new : Streams) (kernel : Machine) (run : Run) (written : List ℕ) → Leaves n rest old new kernel run written → Ends status old new run rest written → Headline n status old new (Some kernel)
 headline n status rest old new kernel run written leaves ends = record { run = run; rest = rest; written = written; replays = leaves.replays; ends = ends; handed_back = λ _. leaves.left }
@@ -55,7 +55,7 @@ waited n past ahead rest old now new k so_far few reads = record {
 pub stops : (n : ℕ) (past : Past) (ahead rest : List ℕ) (old now new : Streams) (k k' : Machine) → SoFar n past ahead old now k → length past.lines ≤ most_lines → Waits ahead rest now new k k' → Leaves n rest old new k' (whole past) (texts past.transcript)
 stops n past ahead rest old now new k k' so_far few waits = record {
   replays = waited n past ahead rest old now new k so_far few waits.reads;
-  left = subst (λ (m : Machine). IsLeft m n (whole past)) (sym waits.kernel) so_far.kernel_left;
+  left = subst (λ (d : Device). IsLeft k' d n (whole past)) (sym waits.reads.device) (subst (λ (m : Machine). IsLeft m now.device n (whole past)) (sym waits.kernel) so_far.kernel_left);
 }
 
 -- ---- a line was done in the turn
@@ -314,6 +314,9 @@ module _ (n : ℕ) (old now new : Streams) (kernel : Machine) (source : new.sour
     later = later_flush r.later;
   }
 
+  left_flush : (run : Run) → IsLeft kernel now.device n run → IsLeft kernel new.device n run
+  left_flush run left = subst (λ (d : Device). IsLeft kernel d n run) (sym device) left
+
   stops_flush : (status : Status) (run : Run) (rest : List ℕ) → StopsAt status now run rest → StopsAt status new run rest
   stops_flush statuses.Done run rest s = (s.0, subst IsAtEnd (sym source) s.1)
   stops_flush (statuses.BadLine number) run rest s = (s.0, s.1, s.2, subst (λ (v : SourceView). IsBad rest v.left) (sym source) s.3)
@@ -340,7 +343,7 @@ module _ (n : ℕ) (old now new : Streams) (kernel : Machine) (source : new.sour
     written = h.written;
     replays = replays_flush h.run h.rest h.written h.replays;
     ends = ends_flush status h.run h.rest h.written ne h.ends;
-    handed_back = h.handed_back;
+    handed_back = λ ne. left_flush h.run (h.handed_back ne);
   }
 
   whole_at : (status : Status) (run : Run) (rest written : List ℕ) → status ≢ statuses.Memory → status ≢ statuses.WriteFault → Ends status old now run rest written → StopsAt status now run rest × (written ≡ texts run.transcript)
@@ -362,5 +365,5 @@ module _ (n : ℕ) (old now new : Streams) (kernel : Machine) (source : new.sour
         written = h.written;
         replays = replays_flush h.run h.rest h.written h.replays;
         ends = (inr (record { untold = held ∙ untold; whole = w.1; status = status; stops = stops_flush status h.run h.rest w.0 }), Rose-earlier old.sink.faults now.sink.faults new.sink.faults h.replays.later.sink rose);
-        handed_back = λ _. h.handed_back no_memory;
+        handed_back = λ _. left_flush h.run (h.handed_back no_memory);
       }

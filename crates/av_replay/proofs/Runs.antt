@@ -67,7 +67,7 @@ pub record SoFar (n : ℕ) (past : Past) (ahead : List ℕ) (old now : Streams) 
   pub legal : IsRun (setting_of n old.device) (at_first (setting_of n old.device)) past.transcript past.state
   pub faults : RoseBy (causes_of past.transcript) old.device.faults now.device.faults
   pub wrote : Gained old.sink.held now.sink.held (texts past.transcript)
-  pub kernel_left : IsLeft kernel n (whole past)
+  pub kernel_left : IsLeft kernel now.device n (whole past)
   pub later : IsLater old now
 
 abbrev pub no_past : Setting → Past
@@ -116,7 +116,7 @@ module _ (n : ℕ) (past : Past) (ahead : List ℕ) (old now new : Streams) (k k
       (rose_then (causes_of past.transcript) (causes_of (option_to_list next_answers.did)) old.device.faults now.device.faults new.device.faults so_far.faults next_answers.faults)
 
   -- the kernel after the line
-  pub kernel_more : (lines : List (List ℕ)) (last : Option (List ℕ)) → IsLeft k' n (record { lines = lines; last = last; transcript = past.transcript ++ option_to_list next_answers.did; state = next_answers.next })
+  pub kernel_more : (lines : List (List ℕ)) (last : Option (List ℕ)) → IsLeft k' new.device n (record { lines = lines; last = last; transcript = past.transcript ++ option_to_list next_answers.did; state = next_answers.next })
   kernel_more lines last =
       let a = next_answers in
       let kept = so_far.kernel_left in

@@ -70,9 +70,10 @@ pub record Replays (frames : ℕ) (old new : Streams) (run : Run) (rest written 
 
 -- ---- the kernel that is handed back
 
--- it stands for the state that the transcript leaves, counted its replies, and can go on
-pub record IsLeft (kernel : Machine) (n : ℕ) (run : Run) : Type 0 where
-  pub stands : Stands kernel run.state
+-- it and the device stand for the state that the transcript leaves; it counted the replies, and can
+-- go on
+pub record IsLeft (kernel : Machine) (device : Device) (n : ℕ) (run : Run) : Type 0 where
+  pub stands : Stands kernel device run.state
   pub frames : kernel.frames ≡ n
   pub steps : kernel.steps ≡ length run.transcript
   pub tally : kernel.tally ≡ tally_of run.transcript none_counted
@@ -80,7 +81,7 @@ pub record IsLeft (kernel : Machine) (n : ℕ) (run : Run) : Type 0 where
 
 -- no command was done yet over this device, and no process lives
 pub record IsAtStart (kernel : Machine) (device : Device) : Type 0 where
-  pub stands : Stands kernel (at_first (setting_of kernel.frames device))
+  pub stands : Stands kernel device (at_first (setting_of kernel.frames device))
   pub steps : kernel.steps ≡ 0
   pub tally : kernel.tally ≡ none_counted
   pub unspent : kernel.spent ≡ false
@@ -170,4 +171,5 @@ pub record Headline (frames : ℕ) (status : Status) (old new : Streams) (kernel
   pub written : List ℕ
   pub replays : Replays frames old new run rest written
   pub ends : Ends status old new run rest written
-  pub handed_back : status ≢ statuses.Memory → IsSomeAnd kernel (λ k. IsLeft k frames run)
+  pub handed_back : status ≢ statuses.Memory
+      → IsSomeAnd kernel (λ k. IsLeft k new.device frames run)

@@ -45,7 +45,7 @@ pub record Counted (old new : Machine) (es : List Exchange) : Type 0 where
   pub frames : new.frames ≡ old.frames
   pub spent : old.spent ≡ false → new.spent ≡ false
 
--- what a line does in a state, over a device
+-- what a line does in a state, over a device: this one before it, and that one after it
 pub record Answers (line : List ℕ) (device device' : Device) (s : State) (old new : Machine)
     (text : List ℕ) : Type 0 where
   pub did : Option Exchange
@@ -53,14 +53,14 @@ pub record Answers (line : List ℕ) (device device' : Device) (s : State) (old 
   pub commands : Commands line did
   pub run : IsRun (setting_of old.frames device) s (option_to_list did) next
   pub said : text ≡ texts (option_to_list did)
-  pub stands : Stands new next
+  pub stands : Stands new device' next
   pub counts : Counted old new (option_to_list did)
   pub faults : RoseBy (causes_of (option_to_list did)) device.faults device'.faults
 
 -- the kernel does a line, and this is the text of the reply
 pub record DoesLine (line : List ℕ) (device device' : Device) (old new : Machine) (text : List ℕ)
     : Type 0 where
-  pub answers : (s : State) → Stands old s → Answers line device device' s old new text
+  pub answers : (s : State) → Stands old device s → Answers line device device' s old new text
   pub steps : new.steps ≤ old.steps + 1
 
 -- why a line is not done

@@ -13,7 +13,7 @@ use Rattle.av_vma.specs.Gap.{IsGap}
 use Rattle.av_trace.specs.Command.{IsCommand}
 use Rattle.av_trace.specs.Number.{IsWide}
 use Rattle.av_trace.specs.declared.command.Command.{Command}
-use Rattle.av_trace.specs.declared.command.Command.TheVariants.{Spawn, Fork, Exit, Mmap, Mremap, Munmap, Mprotect, Read, Write, Maps, Areas as AsksAreas, Rmap, Entry as AsksEntry, Stat}
+use Rattle.av_trace.specs.declared.command.Command.TheVariants.{Spawn, Fork, Exit, Mmap, Mremap, Munmap, Mprotect, Read, Write, Maps, Areas as AsksAreas, Rmap as AsksRmap, Entry as AsksEntry, Stat}
 use Rattle.av_trace.specs.declared.note.Cause.TheVariants.{NoSlot, Referenced, WriteStarted, Writeback}
 use Rattle.av_trace.specs.declared.note.Note.{Note}
 use Rattle.av_trace.specs.declared.note.Note.TheVariants.{Aged, Copied, Dropped, Failed, Kept, Loaded, Mapped, New, Put, Started, Unmapped, Written, Zeroed}
@@ -212,7 +212,7 @@ plain-legal m w l command reply es legal = by (refusal (tests m w l command)) le
     follows (Write p a bytes) q = plain-accesses m w l p _ es q.0 q.1
     follows (Maps p) q = none q.2
     follows (AsksAreas p) q = none q.2
-    follows (Rmap p a) q = none q.1
+    follows (AsksRmap p a) q = none q.1
     follows (AsksEntry p a) q = none q.1
     follows Stat q = none q.1
 
@@ -493,7 +493,7 @@ below-follows m w now l (Write p a bytes) es answer rows fit same below none h =
     (first_bytes answer bytes) below
 below-follows m w now l (Maps p) es answer rows fit same below none h = below
 below-follows m w now l (AsksAreas p) es answer rows fit same below none h = below
-below-follows m w now l (Rmap p a) es answer rows fit same below none h = below
+below-follows m w now l (AsksRmap p a) es answer rows fit same below none h = below
 below-follows m w now l (AsksEntry p a) es answer rows fit same below none h = below
 below-follows m w now l Stat es answer rows fit same below none h = below
 

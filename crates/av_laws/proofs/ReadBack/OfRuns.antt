@@ -22,7 +22,8 @@ use Rattle.av_laws.specs.Covered.{CoverBelow, CoverPages}
 use Rattle.av_laws.specs.ReadBack.{IsSmall, IsWideRow}
 use Rattle.av_laws.proofs.Covered.{first-covers, step-covers}
 use Rattle.av_laws.proofs.ReadBack.{AskedWide, legal-reads_back}
-use Rattle.av_laws.proofs.ReadBack.Anons.{AreMade, rows-wide, run-makes, step-makes}
+use Rattle.av_laws.proofs.ReadBack.Anons.{AreMade, rows-wide, step-makes}
+use Rattle.av_laws.proofs.ReadBack.Few.{step-few}
 use Rattle.av_laws.proofs.ReadBack.InRuns.{step-small}
 
 -- what the rows of areas say is of 64 bits, where fewer anon_vmas were made
@@ -45,28 +46,29 @@ asked-now m old command reply new made covers wide h = tt
 runs-back : (m : Setting) (most : ℕ) (old : State) (es : List Exchange) (new : State) → HasNoDevice m
     → top_page ≤ most → most + length es * top_page ≤ 2 ^ 60
     → AllSound m old.world old.ledger → IsSmall m old.world old.ledger
-    → AreMade (rmap_of old) → CoverBelow most old.world old.areas → IsWide new.anons.next
+    → AreMade (rmap_of old) → CoverBelow most old.world old.areas
+    → old.anons.next + length es * (2 * top_page) ≤ 2 ^ 62
     → AllByRecursion (λ (e : Exchange). IsCommand e.command) es
     → IsRun m old es new → AllByRecursion (λ (e : Exchange). IsReply e.reply) es
-runs-back m most old [] new none high room sound small made covers wide fit h = tt
-runs-back m most old (e ∷ es) new none high room sound small made covers wide fit h = (
+runs-back m most old [] new none high room sound small made covers few fit h = tt
+runs-back m most old (e ∷ es) new none high room sound small made covers few fit h = (
   legal-reads_back m old.world old.ledger e.command e.reply h.1.events none sound small fit.0
-      (asked-now m old e.command e.reply h.0 made covers.cover
-      (let less = run-makes m old (e ∷ es) new made h in omega (arith, wide, less)) h.1)
-      h.1.legal,
+      (asked-now m old e.command e.reply h.0 made covers.cover (omega (arith, few)) h.1) h.1.legal,
   runs-back m (most + top_page) h.0 es new none (omega arith) (omega arith) (step-sound m old e.command e.reply h.0 sound h.1)
       (step-small m old h.0 e.command e.reply fit.0 small h.1)
       (step-makes m old e.command e.reply h.0 made h.1).made
-      (step-covers m most old e.command e.reply h.0 high (omega arith) covers h.1) wide fit.1 h.2,
+      (step-covers m most old e.command e.reply h.0 high (omega arith) covers h.1)
+      (let more = step-few m most old e.command e.reply h.0 none high sound covers fit.0 h.1 in
+      omega (arith, few, more)) fit.1 h.2,
 )
 
 pub run-reads_back : (m : Setting) (es : List Exchange) (new : State) → HasNoDevice m
     → IsWide m.frames → length es ≤ 2 ^ 24 → AllByRecursion (λ (e : Exchange). IsCommand e.command) es
-    → IsRun m (at_first m) es new → IsWide new.anons.next
+    → IsRun m (at_first m) es new
     → AllByRecursion (λ (e : Exchange). IsReply e.reply) es
-run-reads_back m es new none wide short fit h few = runs-back m top_page (at_first m) es new none (omega arith) (omega arith) (first-sound m)
+run-reads_back m es new none wide short fit h = runs-back m top_page (at_first m) es new none (omega arith) (omega arith) (first-sound m)
     (record { frames = wide; below = λ p page h. absurd (never_some h); processes = λ p page h. absurd (never_some h); off = refl })
-    (record { owns = λ p page. tt; chains = λ v. tt }) (first-covers m) few fit h
+    (record { owns = λ p page. tt; chains = λ v. tt }) (first-covers m) (omega arith) fit h
   where
     never_some : false ≡ true → ⊥
     never_some e = cc

@@ -3,7 +3,7 @@ use Rattle.av_base.specs.Page.{page_of}
 use Rattle.av_pagetable.specs.declared.pte.Pte.TheVariants.{Here}
 use Rattle.av_fault.specs.Fault.{frame_named}
 use Rattle.av_fault.proofs.FaultSafe.{entry_frame}
-use Rattle.av_trace.specs.declared.command.Command.TheVariants.{Rmap}
+use Rattle.av_trace.specs.declared.command.Command.TheVariants.{Rmap as AsksRmap}
 use Rattle.av_trace.specs.declared.reply.Answer.TheVariants.{NoWalk}
 use Rattle.av_trace.specs.declared.reply.Errno.TheVariants.{Efault, Esrch}
 use Rattle.av_kernel.proofs.StepLaws.{dead_first, only_answer, refuses, refuses-as}
@@ -13,13 +13,13 @@ use Rattle.av_kernel.proofs.report.rmap.Goals as goal
 
 pub returns-in_err-check_lives : goal.returns-in_err-check_lives
 returns-in_err-check_lives c =
-    refuses-as c.args.mem.now c.args.mem.now (Rmap c.args.process c.args.address) Esrch c.args.reply.now c.from_residual.result c.in_err-check_lives.field-0.0 c.from_residual.ensures c.in_err-check_lives.ensures.1
-    (refuses c.args.mem.now (Rmap c.args.process c.args.address) Esrch (λ s keeps. dead_first c.args.mem.now s c.args.process _ keeps c.in_err-check_lives.ensures.0))
+    refuses-as c.args.mem.now c.args.mem.now (AsksRmap c.args.process c.args.address) Esrch c.args.reply.now c.from_residual.result c.in_err-check_lives.field-0.0 c.from_residual.ensures c.in_err-check_lives.ensures.1
+    (refuses c.args.mem.now (AsksRmap c.args.process c.args.address) Esrch (λ s keeps. dead_first c.args.mem.now s c.args.process _ keeps c.in_err-check_lives.ensures.0))
 
 pub returns-in_err-check_mapped : goal.returns-in_err-check_mapped
 returns-in_err-check_mapped c =
-    refuses-as c.args.mem.now c.args.mem.now (Rmap c.args.process c.args.address) Efault c.args.reply.now c.from_residual-in_err-check_mapped.result c.in_err-check_mapped.field-0.0 c.from_residual-in_err-check_mapped.ensures c.in_err-check_mapped.ensures.1
-    (refuses c.args.mem.now (Rmap c.args.process c.args.address) Efault (λ s keeps. unmapped_next c.args.mem.now s c.args.process c.args.address keeps c.in_ok-check_lives.ensures c.in_err-check_mapped.ensures.0))
+    refuses-as c.args.mem.now c.args.mem.now (AsksRmap c.args.process c.args.address) Efault c.args.reply.now c.from_residual-in_err-check_mapped.result c.in_err-check_mapped.field-0.0 c.from_residual-in_err-check_mapped.ensures c.in_err-check_mapped.ensures.1
+    (refuses c.args.mem.now (AsksRmap c.args.process c.args.address) Efault (λ s keeps. unmapped_next c.args.mem.now s c.args.process c.args.address keeps c.in_ok-check_lives.ensures c.in_err-check_mapped.ensures.0))
 
 pub show_walk-requires-clause-in_range : goal.show_walk-requires-clause-in_range
 show_walk-requires-clause-in_range c = (entry_frame c.args.mem.now c.args.process (page_of c.args.address) c.in-Here.frame c.requires.steady (ap frame_named (sym c.get.ensures ∙ c.in-Here.is))).0

@@ -1,0 +1,311 @@
+-- A step makes few anon_vmas: one for each page that gets a frame, and one for each area of a parent.
+use Rattle.std.specs.List.{AllByRecursion}
+use Rattle.std.proofs.Common.{◌≡◌, ◌⊎◌, inl, inr, ℕ, zero, suc, ◌+◌, ◌-◌, ◌*◌, ◌<◌, ◌≤◌, min, Bool, true, false, cond, List, [], ◌∷◌, ◌++◌, length, map, Option, Some, None, append-nil, refl, sym, ap, subst, ◌∙◌, arith, ◌==◌, if◌then◌else◌}
+use Rattle.std.specs.Prelude.{MatchOption}
+use Rattle.av_base.specs.Limits.{top_page}
+use Rattle.av_base.specs.Page.{address_of, page_of, pages_of, place_in_page}
+use Rattle.av_base.specs.Words.{how_many, numbers, with_at}
+use Rattle.av_base.specs.declared.slot.Slot.{Slot}
+use Rattle.av_trace.specs.Command.{IsCommand}
+use Rattle.av_trace.specs.declared.command.Command.{Command}
+use Rattle.av_trace.specs.declared.command.Command.TheVariants.{Spawn, Fork, Exit, Mmap, Mremap, Munmap, Mprotect, Read, Write, Maps, Areas as AsksAreas, Rmap as AsksRmap, Entry as AsksEntry, Stat}
+use Rattle.av_trace.specs.declared.note.Note.{Note}
+use Rattle.av_trace.specs.declared.note.Note.TheVariants.{Aged, Copied, Dropped, Failed, Kept, Loaded, Mapped, New, Put, Started, Unmapped, Written, Zeroed}
+use Rattle.av_trace.specs.declared.place.Place.TheVariants.{Auto, At, Fixed, NoReplace}
+use Rattle.av_trace.specs.declared.reply.Errno.{Errno}
+use Rattle.av_trace.specs.declared.reply.OutOf.{OutOf}
+use Rattle.av_trace.specs.declared.reply.Reply.{Reply}
+use Rattle.av_vma.specs.Join.{first_of, past_of}
+use Rattle.av_vma.specs.Pages.{AreLaid, makes_anon, pages_in}
+use Rattle.av_vma.specs.declared.area.Area.{Area}
+use Rattle.av_plain.specs.Access.{Accesses, End, pages_of_access}
+use Rattle.av_plain.specs.Areas.{Anons, Rmap, chain_length, none_on, prepare_page, rmap_after_all, with_root}
+use Rattle.av_plain.specs.Device.{HasNoDevice}
+use Rattle.av_plain.specs.Event.{Event, Used, after_all, after_notes, note_events, notes_of, when}
+use Rattle.av_plain.specs.Fault.{ComesIn, CopyOnWrite, Denied, IsMade, Lost, MapCached, Need, NewPage, Ready, RunsOut, Serves, Sparing, Starved, Stop, SwapIn, Touches, ZeroPage, drop_at, drop_of_entry, drop_of_slot, is_unneeded, need, pinned_by, sparing, was_slot}
+use Rattle.av_plain.specs.Fork.{AreForked, GoOver, GoesBy}
+use Rattle.av_plain.specs.Ledger.{Entry, InFrame, InSlot, Key, Ledger, Setting, Zero, entry, slot_of}
+use Rattle.av_plain.specs.Mremap.{events_to}
+use Rattle.av_plain.specs.Pass.{Seeks, Spared, TakesFor}
+use Rattle.av_plain.specs.Refusal.{Refuses, refusal, tests}
+use Rattle.av_plain.specs.Report.{AreApart, range_of}
+use Rattle.av_plain.specs.Sound.{AllSound}
+use Rattle.av_plain.specs.Step.{Follows, IsLegal}
+use Rattle.av_plain.specs.Transcript.{IsStep, State, rmap_of}
+use Rattle.av_plain.specs.World.{World}
+use Rattle.av_plain.specs.Zap.{zaps_of}
+use Rattle.av_plain.proofs.Access.{notes_of-append, notes_of-note_events}
+use Rattle.av_plain.proofs.AreasLeft.{prepare_note, prepare_notes, rmap_after_all-notes}
+use Rattle.av_plain.proofs.Ledger.{how_many-append}
+use Rattle.av_plain.proofs.NoDevice.{in-areas, no-remap-notes, no-zap-notes}
+use Rattle.av_plain.proofs.Report.Areas.{all_from, on_first}
+use Rattle.av_plain.proofs.Sound.Pages.{AllBring, Brings, bring-seeks}
+use Rattle.av_plain.proofs.Transcript.{IsFork, IsPlain, next-cases}
+use Rattle.av_laws.specs.Covered.{CoverBelow}
+use Rattle.av_laws.proofs.Covered.{later-laid}
+
+-- ---- notes that prepare an area
+
+abbrev is_new : Note → Bool
+is_new (New p a f) = true
+is_new note = false
+
+abbrev news : List Note → ℕ
+news notes = how_many is_new notes
+
+-- notes that bring no entry aren't among them
+none-new : (notes : List Note) → AllBring (λ k. false) notes → news notes ≡ 0
+none-new [] h = refl
+none-new (note ∷ notes) h = one note h.0 (none-new notes h.1)
+  where
+    one : (note : Note) → Brings (λ k. false) note → news notes ≡ 0 → news (note ∷ notes) ≡ 0
+    one (Zeroed p a) h rest = omega (arith, rest)
+    one (New p a f) h rest = cc
+    one (Copied p a f) h rest = omega (arith, rest)
+    one (Mapped p a f) h rest = omega (arith, rest)
+    one (Loaded s f) h rest = omega (arith, rest)
+    one (Put f s) h rest = omega (arith, rest)
+    one (Unmapped f) h rest = omega (arith, rest)
+    one (Started s) h rest = omega (arith, rest)
+    one (Written s) h rest = omega (arith, rest)
+    one (Failed s) h rest = omega (arith, rest)
+    one (Dropped s) h rest = omega (arith, rest)
+    one (Kept f c) h rest = omega (arith, rest)
+    one (Aged f) h rest = omega (arith, rest)
+
+seeks-new : (m : Setting) (sp : Spared) (l : Ledger) (notes : List Note) → Seeks m sp l notes → news notes ≡ 0
+seeks-new m sp l notes h = none-new notes (bring-seeks (λ k. false) m sp l notes h)
+
+two-new : (a b : List Note) (i j : ℕ) → news a ≤ i → news b ≤ j → news (a ++ b) ≤ i + j
+two-new a b i j x y = let all = how_many-append is_new a b in omega (arith, all, x, y)
+
+same-new : (a b : List Note) (i : ℕ) → a ≡ b → news b ≤ i → news a ≤ i
+same-new a b i e h = subst (λ (ns : List Note). news ns ≤ i) (sym e) h
+
+takes-new : (m : Setting) (sp : Spared) (l : Ledger) (notes : List Note) (note : ℕ → Note) (i : ℕ) → ((f : ℕ) → news (note f ∷ []) ≤ i)
+    → TakesFor m sp l notes note → news notes ≤ i
+takes-new m sp l notes note i h takes =
+    let none = seeks-new m sp l takes.sought takes.seeks in
+    let both = two-new takes.sought (note takes.frame ∷ []) 0 i (omega (arith, none)) (h takes.frame) in
+    same-new notes (takes.sought ++ note takes.frame ∷ []) i takes.whole (omega (arith, both))
+
+-- ---- a page
+
+comes-new : (m : Setting) (sp : Sparing) (l : Ledger) (k : Key) (n : Need) (notes : List Note) → ComesIn m sp l k n notes → news notes ≤ 0
+comes-new m sp l k (SwapIn s) notes q =
+    same-new notes (q.0 ++ Mapped k.0 (address_of k.1) q.1 ∷ []) 0 q.4
+    (two-new q.0 (Mapped k.0 (address_of k.1) q.1 ∷ []) 0 0 (takes-new m (sp l None) l q.0 (Loaded s) 0 (λ f. omega arith) q.2) (omega arith))
+comes-new m sp l k (MapCached f) notes q = same-new notes (Mapped k.0 (address_of k.1) f ∷ []) 0 q (omega arith)
+comes-new m sp l k Ready notes q = same-new notes [] 0 q (omega arith)
+comes-new m sp l k ZeroPage notes q = same-new notes [] 0 q (omega arith)
+comes-new m sp l k NewPage notes q = same-new notes [] 0 q (omega arith)
+comes-new m sp l k (CopyOnWrite g) notes q = same-new notes [] 0 q (omega arith)
+
+made-new : (m : Setting) (sp : Sparing) (l : Ledger) (k : Key) (n : Need) (notes : List Note) → IsMade m sp l k n notes → news notes ≤ 1
+made-new m sp l k Ready notes q = same-new notes [] 1 q (omega arith)
+made-new m sp l k ZeroPage notes q = same-new notes (Zeroed k.0 (address_of k.1) ∷ []) 1 q (omega arith)
+made-new m sp l k NewPage notes q = takes-new m (sp l None) l notes (New k.0 (address_of k.1)) 1 (λ f. omega arith) q
+made-new m sp l k (CopyOnWrite g) notes q = takes-new m (sp l (Some g)) l notes (Copied k.0 (address_of k.1)) 1 (λ f. omega arith) q
+made-new m sp l k (SwapIn s) notes q = absurd q
+made-new m sp l k (MapCached f) notes q = absurd q
+
+drop-new : (m : Setting) (write came : Bool) (l : Ledger) (k : Key) → news (drop_at m write came l k) ≤ 0
+drop-new m write came l k = by (entry l k)
+  where
+    one : (t : Slot) (b : Bool) → news (when b (Dropped t)) ≤ 0
+    one t true = omega arith
+    one t false = omega arith
+
+    slot : (o : Option Slot) → news (drop_of_slot m write came l o) ≤ 0
+    slot None = omega arith
+    slot (Some t) = one t (is_unneeded m write came l t)
+
+    by : (o : Option Entry) → news (drop_of_entry m write came l o) ≤ 0
+    by None = omega arith
+    by (Some Zero) = omega arith
+    by (Some (InFrame f seen)) = slot (slot_of l f)
+    by (Some (InSlot t)) = omega arith
+
+serves-new : (m : Setting) (sp : Sparing) (l : Ledger) (write : Bool) (k : Key) (notes : List Note) → Serves m sp l write k notes → news notes ≤ 1
+serves-new m sp l write k notes h =
+    let now = after_notes l h.coming in
+    let made = after_notes l (h.coming ++ h.making) in
+    let came = was_slot (need write l (entry l k)) in
+    same-new notes ((h.coming ++ h.making) ++ drop_at m write came made k) 1 h.whole
+    (two-new (h.coming ++ h.making) (drop_at m write came made k) 1 0
+    (two-new h.coming h.making 0 1 (comes-new m sp l k (need write l (entry l k)) h.coming h.comes_in) (made-new m sp now k (need write now (entry now k)) h.making h.made))
+    (drop-new m write came made k))
+
+runs_out-new : (m : Setting) (sp : Sparing) (l : Ledger) (write : Bool) (k : Key) (notes : List Note) (out : OutOf) → RunsOut m sp l write k notes out → news notes ≤ 1
+runs_out-new m sp l write k notes out h =
+    let now = after_notes l h.coming in
+    same-new notes (h.coming ++ h.sought) 1 h.whole
+    (two-new h.coming h.sought 0 1 (before h.before)
+    (let none = seeks-new m (sp now (pinned_by (need write now (entry now k)))) now h.sought h.finds.seeks in omega (arith, none)))
+  where
+    before : (h.coming ≡ []) ⊎ ComesIn m sp l k (need write l (entry l k)) h.coming → news h.coming ≤ 0
+    before (inl e) = same-new h.coming [] 0 e (omega arith)
+    before (inr c) = comes-new m sp l k (need write l (entry l k)) h.coming c
+
+touches-new : (m : Setting) (w : World) (l : Ledger) (write : Bool) (k : Key) (notes : List Note) (end : Option Stop) → Touches m w l write k notes end → news notes ≤ 1
+touches-new m w l write k notes None h = serves-new m (sparing w) l write k notes h.1
+touches-new m w l write k notes (Some Denied) h = same-new notes [] 1 h.1 (omega arith)
+touches-new m w l write k notes (Some (Starved out)) h = runs_out-new m (sparing w) l write k notes out h.1
+touches-new m w l write k notes (Some Lost) h = let none = seeks-new m (sparing w l None) l notes h.1.seeks in omega (arith, none)
+
+-- ---- an access
+
+accesses-new : (m : Setting) (w : World) (l : Ledger) (p : ℕ) (ps : List (Bool × ℕ)) (es : List Event) (end : End) → Accesses m w l p ps es end
+    → news (notes_of es) ≤ length ps
+accesses-new m w l p [] es end h = subst (λ (es : List Event). news (notes_of es) ≤ 0) (sym h.0) (omega arith)
+accesses-new m w l p (page ∷ ps) es end (inl h) =
+    let here = note_events h.0 ++ Used page.0 (p, page.1) ∷ [] in
+    let told : notes_of here ≡ h.0 = notes_of-append (note_events h.0) (Used page.0 (p, page.1) ∷ []) ∙ append-nil (notes_of (note_events h.0)) ∙ notes_of-note_events h.0 in
+    let all = same-new (notes_of es) (h.0 ++ notes_of h.1) (1 + length ps)
+    (ap notes_of h.3 ∙ notes_of-append here h.1 ∙ ap (λ ns. ns ++ notes_of h.1) told)
+    (two-new h.0 (notes_of h.1) 1 (length ps) (touches-new m w l page.0 (p, page.1) h.0 None h.2)
+    (accesses-new m w (after_all l here) p ps h.1 end h.4)) in
+    omega (arith, all)
+accesses-new m w l p (page ∷ ps) es end (inr h) =
+    let one = touches-new m w l page.0 (p, page.1) h.0 (Some h.1) h.2 in
+    let all = same-new (notes_of es) h.0 1 (ap notes_of h.3 ∙ notes_of-note_events h.0) one in
+    omega (arith, all)
+
+length-numbers : (a n : ℕ) → length (numbers a n) ≡ n
+length-numbers a zero = refl
+length-numbers a (suc n) = let rest = length-numbers (a + 1) n in omega (arith, rest)
+
+length-pages : (write : Bool) (pages : List ℕ) → length {A = Bool × ℕ} (map (λ (page : ℕ). (write, page)) pages) ≡ length pages
+length-pages write [] = refl
+length-pages write (page ∷ pages) = let rest = length-pages write pages in omega (arith, rest)
+
+few-pages : (write : Bool) (a n : ℕ) → n ≤ 4096 → length (pages_of_access write a n) ≤ 8192
+few-pages write a n h =
+    let count : ℕ = cond (n == 0) 0 (pages_of (place_in_page a + n)) in
+    let same = length-pages write (numbers (page_of a) count) in
+    let all = length-numbers (page_of a) count in
+    let some = by (n == 0) in
+    omega (arith, same, all, some)
+  where
+    by : (b : Bool) → cond b 0 (pages_of (place_in_page a + n)) ≤ 8192
+    by true = omega arith
+    by false = omega (arith, h)
+
+-- ---- a legal reply
+
+legal-new : (m : Setting) (w : World) (l : Ledger) (command : Command) (reply : Reply) (es : List Event) → HasNoDevice m → AllSound m w l → IsCommand command
+    → IsLegal m w l command reply es → news (notes_of es) ≤ 8192
+legal-new m w l command reply es none sound fit legal = by (refusal (tests m w l command)) legal.answer
+  where
+    quiet : (fs : List Event) → es ≡ fs → notes_of fs ≡ [] → news (notes_of es) ≤ 8192
+    quiet fs e q = same-new (notes_of es) [] 8192 (ap notes_of e ∙ q) (omega arith)
+
+    these : (ks : List Key) → es ≡ zaps_of l ks → news (notes_of es) ≤ 8192
+    these ks e = quiet (zaps_of l ks) e (no-zap-notes m l ks none (in-areas m w l sound))
+
+    accessed : (p : ℕ) (write : Bool) (a n : ℕ) (end : End) → n ≤ 4096 → Accesses m w l p (pages_of_access write a n) es end → news (notes_of es) ≤ 8192
+    accessed p write a n end few h =
+        let here = accesses-new m w l p (pages_of_access write a n) es end h in
+        let short = few-pages write a n few in omega (arith, here, short)
+
+    follows : (command : Command) → IsCommand command → Follows m w l command es reply.answer reply.rows → news (notes_of es) ≤ 8192
+    follows (Spawn p) fit q = quiet [] q.1 refl
+    follows (Fork p c) fit q = quiet _ q.1 refl
+    follows (Exit p) fit q = these _ q.1
+    follows (Mmap p len prot Auto) fit q = quiet [] q.3 refl
+    follows (Mmap p len prot (At a)) fit q = quiet [] q.3 refl
+    follows (Mmap p len prot (Fixed a)) fit q = these _ q.3
+    follows (Mmap p len prot (NoReplace a)) fit q = quiet [] q.3 refl
+    follows (Munmap p a len) fit q = these _ q.1
+    follows (Mprotect p a len prot) fit q = quiet [] q.1 refl
+    follows (Mremap p a old new mode) fit q = moves q.0 q.3
+      where
+        moves : (to : Option ℕ) → es ≡ events_to l p (page_of a) (pages_of old) to (pages_of new) → news (notes_of es) ≤ 8192
+        moves None e = quiet [] e refl
+        moves (Some to) e = quiet _ e (no-remap-notes m l p (page_of a) (pages_of old) to (pages_of new) none (in-areas m w l sound))
+    follows (Read p a n) fit q = accessed p false a n q.0 fit.2.most q.2
+    follows (Write p a bytes) fit q = accessed p true a (length bytes) q.0 fit.2.0.most q.1
+    follows (Maps p) fit q = quiet [] q.2 refl
+    follows (AsksAreas p) fit q = quiet [] q.2 refl
+    follows (AsksRmap p a) fit q = quiet [] q.1 refl
+    follows (AsksEntry p a) fit q = quiet [] q.1 refl
+    follows Stat fit q = quiet [] q.1 refl
+
+    by : (o : Option Errno) → MatchOption o (Follows m w l command es reply.answer reply.rows) (λ error. Refuses error es reply.answer reply.rows)
+        → news (notes_of es) ≤ 8192
+    by None q = follows command fit q
+    by (Some error) q = quiet [] q.1 refl
+
+-- ---- how many are made
+
+page-few : (p page : ℕ) (r : Rmap) → (prepare_page p page r).anons.next ≤ suc r.anons.next
+page-few p page r = by (makes_anon (chain_length r.anons) (r.areas p) (r.areas p page))
+  where
+    by : (b : Bool) → (if b then with_root r.anons else r.anons).next ≤ suc r.anons.next
+    by true = omega arith
+    by false = omega arith
+
+notes-few : (notes : List Note) (r : Rmap) → (prepare_notes notes r).anons.next ≤ r.anons.next + news notes
+notes-few [] r = omega arith
+notes-few (note ∷ notes) r = one note (notes-few notes (prepare_note note r))
+  where
+    one : (note : Note) → (prepare_notes notes (prepare_note note r)).anons.next ≤ (prepare_note note r).anons.next + news notes
+        → (prepare_notes notes (prepare_note note r)).anons.next ≤ r.anons.next + news (note ∷ notes)
+    one (New p a f) h = let here = page-few p (page_of a) r in omega (arith, h, here)
+    one note h = omega (arith, h)
+
+goes-few : (own : Option ℕ) (q : ℕ) (area : Area) (r next : Rmap) → GoesBy own q area r next → next.anons.next ≤ suc r.anons.next
+goes-few None q area r next goes = let same = ap (λ (x : Rmap). x.anons.next) goes in omega (arith, same)
+goes-few (Some own) q area r next (None, none, goes) = let same = ap (λ (x : Rmap). x.anons.next) goes in omega (arith, same)
+goes-few (Some own) q area r next (Some v, one, goes) = let same = ap (λ (x : Rmap). x.anons.next) goes in omega (arith, same)
+
+over-few : (q : ℕ) (areas : List Area) (r next : Rmap) → GoOver q areas r next → next.anons.next ≤ r.anons.next + length areas
+over-few q [] r next goes = let same = ap (λ (x : Rmap). x.anons.next) goes in omega (arith, same)
+over-few q (area ∷ areas) r next (mid, first, later) =
+    let one = goes-few area.anon q area r mid first in
+    let rest = over-few q areas mid next later in
+    omega (arith, one, rest)
+
+-- areas that are apart are no more than the pages below the top
+apart-few : (a : Area) (areas : List Area) → AreApart (map range_of (a ∷ areas)) → AllByRecursion (λ (a : Area). past_of a ≤ top_page) (a ∷ areas)
+    → first_of a + length (a ∷ areas) ≤ top_page
+apart-few a [] h high = let below = high.0 in omega (arith, h, below)
+apart-few a (b ∷ areas) h high =
+    let rest = apart-few b areas h.2 high.1 in
+    let some = h.0 in
+    let beside = h.1 in
+    omega (arith, rest, some, beside)
+
+fork-few : (p q : ℕ) (r next : Rmap) → AreLaid (r.areas p) → AreForked p q r next → next.anons.next ≤ r.anons.next + top_page
+fork-few p q r next laid (areas, rise, on, goes) =
+    let all = over-few q areas (record r { areas = with_at q none_on r.areas }) next goes in
+    let few = count areas rise (all_from (λ (a : Area). pages_in (Some areas) (first_of a) ≡ Some a) (λ (a : Area). past_of a ≤ top_page)
+    (λ a is. (laid.whole (first_of a) a (sym (on (first_of a)) ∙ is)).high) areas (on_first areas rise)) in
+    omega (arith, all, few)
+  where
+    count : (areas : List Area) → AreApart (map range_of areas) → AllByRecursion (λ (a : Area). past_of a ≤ top_page) areas → length areas ≤ top_page
+    count [] h high = omega arith
+    count (a ∷ areas) h high = let few = apart-few a areas h high in omega (arith, few)
+
+-- a step of a command of the grammar makes fewer than twice as many as a process may have pages
+pub step-few : (m : Setting) (most : ℕ) (old : State) (command : Command) (reply : Reply) (new : State) → HasNoDevice m → top_page ≤ most
+    → AllSound m old.world old.ledger → CoverBelow most old.world old.areas → IsCommand command → IsStep m old command reply new
+    → new.anons.next ≤ old.anons.next + 2 * top_page
+step-few m most old command reply new none high sound covers fit step = by (next-cases later old.world command reply.answer (rmap_of new) step.rmap)
+  where
+    later : Rmap
+    later = rmap_after_all old.ledger step.events (rmap_of old)
+
+    prepared : later.anons.next ≤ old.anons.next + 8192
+    prepared =
+        let same = ap (λ (a : Anons). a.next) (rmap_after_all-notes old.ledger step.events (rmap_of old) (rmap_of old) (record { areas = refl; anons = refl })).anons in
+        let few = notes-few (notes_of step.events) (rmap_of old) in
+        let notes = legal-new m old.world old.ledger command reply step.events none sound fit step.legal in
+        omega (arith, same, few, notes)
+
+    by : IsPlain later old.world command reply.answer (rmap_of new) ⊎ IsFork later command reply.answer (rmap_of new)
+        → new.anons.next ≤ old.anons.next + 2 * top_page
+    by (inl plain) = let same = plain.is.anons.next in omega (arith, same, prepared)
+    by (inr fork) =
+        let all = fork-few fork.parent fork.child later (rmap_of new) (later-laid m most old step.events high covers fork.parent) fork.forked in
+        omega (arith, all, prepared)
