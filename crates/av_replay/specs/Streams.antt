@@ -1,5 +1,5 @@
 -- A source, a sink and a device, side by side.
-use Rattle.std.specs.Prelude.{◌≡◌, ℕ, ◌≤◌, List, length, Option, true}
+use Rattle.std.specs.Prelude.{◌≡◌, ℕ, ◌≤◌, List, [], length, Option, true}
 use Rattle.av_io.specs.Source.{SourceView, in_front, HasEnded}
 use Rattle.av_io.specs.Sink.{SinkView, Gained}
 use Rattle.av_plain.specs.Device.{Device, IsSameDevice, no_device}
@@ -29,6 +29,16 @@ pub record IsLater (old new : Streams) : Type 0 where
   pub sink : old.sink.faults ≤ new.sink.faults
   pub device : IsSameDevice old.device new.device
   pub flushed : old.source.reads ≤ old.sink.flushes → new.source.reads ≤ new.sink.flushes
+
+-- where there was one flush for each read, there still is
+abbrev pub AreInStep : Streams → Streams → Type 0
+AreInStep old new = old.source.reads ≡ old.sink.flushes → new.source.reads ≡ new.sink.flushes
+
+-- A read failed: nothing is kept back, and no flush came since. So nothing was kept back when that
+-- read was waited for. Which read fails no one knows before, so it was so at each.
+pub record FlushedBefore (old new : Streams) : Type 0 where
+  pub none_kept : new.sink.kept_back ≡ []
+  pub in_step : AreInStep old new
 
 -- nothing was done of what was read, though more may have been read
 pub record ReadsOn (ahead ahead' : List ℕ) (old new : Streams) : Type 0 where

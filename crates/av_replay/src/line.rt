@@ -1,7 +1,7 @@
 //! Reading a line.
 
-ghost use Rattle.std.specs.Prelude.{◌≡◌, ◌+◌, ◌<◌, ◌≤◌, length, IfOk, IfErr, IfSome, IfNone};
-ghost use Rattle.av_replay.specs.Streams.{streams, ReadsOn, IsAtEnd, AreUnfailed};
+ghost use Rattle.std.specs.Prelude.{◌≡◌, ◌+◌, ◌<◌, ◌≤◌, [], length, IfOk, IfErr, IfSome, IfNone};
+ghost use Rattle.av_replay.specs.Streams.{streams, ReadsOn, IsAtEnd, AreUnfailed, AreInStep};
 ghost use Rattle.av_replay.specs.Line.{longest, Finds, LineRead, IsUnread, UnlessFailed};
 
 use crate::pending::Pending;
@@ -58,6 +58,10 @@ pub fn read_on<S: Source, K: Sink>(
     ensures unfailed { UnlessFailed result (AreUnfailed
         (streams (S.view source.old) (K.view sink.old))
         (streams (S.view source.new) (K.view sink.new))) }
+    ensures in_step { AreInStep (streams (S.view source.old) (K.view sink.old))
+        (streams (S.view source.new) (K.view sink.new)) }
+    ensures none_kept { IfErr result
+        (λ e. e ≡ RunErr.Read → (K.view sink.new).kept_back ≡ []) }
     ensures err { IfErr result (λ e. (pending.new ≡ pending.old)
         × IsUnread e (streams (S.view source.old) (K.view sink.old))
         (streams (S.view source.new) (K.view sink.new))) }
@@ -85,6 +89,10 @@ pub fn read_line<S: Source, K: Sink>(
     ensures unfailed { UnlessFailed result (AreUnfailed
         (streams (S.view source.old) (K.view sink.old))
         (streams (S.view source.new) (K.view sink.new))) }
+    ensures in_step { AreInStep (streams (S.view source.old) (K.view sink.old))
+        (streams (S.view source.new) (K.view sink.new)) }
+    ensures none_kept { IfErr result
+        (λ e. e ≡ RunErr.Read → (K.view sink.new).kept_back ≡ []) }
 {
     loop {
         match find_line(pending.as_slice()) {

@@ -1,8 +1,8 @@
 //! The loop over the lines.
 
-ghost use Rattle.std.specs.Prelude.{◌≡◌, ◌≢◌, [], Some};
+ghost use Rattle.std.specs.Prelude.{◌≡◌, ◌≢◌, [], Some, IfErr};
 ghost use Rattle.av_plain.specs.Device.{no_device};
-ghost use Rattle.av_replay.specs.Streams.{streams, ReadsOn, AreUnfailed};
+ghost use Rattle.av_replay.specs.Streams.{streams, ReadsOn, AreUnfailed, AreInStep, FlushedBefore};
 ghost use Rattle.av_replay.specs.Line.{UnlessFailed};
 ghost use Rattle.av_replay.specs.Turn.{Finished};
 ghost use Rattle.av_replay.specs.Replay.{Headline, IsAtStart, status_at, UnlessFault};
@@ -31,6 +31,10 @@ fn has_more<S: Source, K: Sink>(
     ensures unfailed { UnlessFailed result (AreUnfailed
         (streams (S.view source.old) (K.view sink.old))
         (streams (S.view source.new) (K.view sink.new))) }
+    ensures in_step { AreInStep (streams (S.view source.old) (K.view sink.old))
+        (streams (S.view source.new) (K.view sink.new)) }
+    ensures none_kept { IfErr result
+        (λ e. e ≡ RunErr.Read → (K.view sink.new).kept_back ≡ []) }
 {
     if !pending.as_slice().is_empty() {
         return Ok(true);
@@ -67,6 +71,9 @@ fn do_lines<S: Source, K: Sink>(
     ensures unfailed { UnlessFault result (AreUnfailed
         (streams (S.view source.old) (K.view sink.old))
         (streams (S.view source.new) (K.view sink.new))) }
+    ensures in_step { AreInStep (streams (S.view source.old) (K.view sink.old))
+        (streams (S.view source.new) (K.view sink.new)) }
+    ensures none_kept { result ≡ Status.ReadFault → (K.view sink.new).kept_back ≡ [] }
 {
     let mut scratch = Scratch::new(alloc);
     for number in 0..MOST_LINES {
@@ -85,7 +92,8 @@ fn do_lines<S: Source, K: Sink>(
 
 /// Does all lines of the source, and flushes the sink in the end.
 ///
-/// Where that last flush alone fails, the status is `WriteFault`.
+/// Where that last flush alone fails, the status is `WriteFault`. After a failed read there is none:
+/// nothing was kept back when that was waited for.
 pub fn replay<S: Source, K: Sink>(
     alloc: Global,
     kernel: &mut Kernel,
@@ -99,6 +107,9 @@ pub fn replay<S: Source, K: Sink>(
     ensures unfailed { UnlessFault result (AreUnfailed
         (streams (S.view source.old) (K.view sink.old))
         (streams (S.view source.new) (K.view sink.new))) }
+    ensures flushed_before { result ≡ Status.ReadFault → FlushedBefore
+        (streams (S.view source.old) (K.view sink.old))
+        (streams (S.view source.new) (K.view sink.new)) }
     ensures handed_on { result ≢ Status.Memory → result ≢ Status.WriteFault
         → (K.view sink.new).kept_back ≡ [] }
 {
@@ -107,7 +118,7 @@ pub fn replay<S: Source, K: Sink>(
     };
     let status = do_lines(alloc, kernel, source, sink, &mut pending);
     match status {
-        Status::WriteFault => return status,
+        Status::WriteFault | Status::ReadFault => return status,
         _ => {}
     }
     match sink.flush() {

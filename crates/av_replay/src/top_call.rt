@@ -1,7 +1,7 @@
 //! The top call.
 
 ghost use Rattle.std.specs.Prelude.{◌≡◌, ◌≢◌, ℕ, [], None, map, string_bytes};
-ghost use Rattle.av_replay.specs.Streams.{streams, AreUnfailed};
+ghost use Rattle.av_replay.specs.Streams.{streams, AreUnfailed, FlushedBefore};
 ghost use Rattle.av_replay.specs.Replay.{Headline, UnlessFault};
 ghost use Rattle.av_replay.specs.Trace.{IsComplete};
 ghost use Rattle.av_replay.specs.Words.{IsForm, RefusesWords};
@@ -63,6 +63,10 @@ pub fn run<S: Source, K: Sink>(
     ensures unfailed { UnlessFault result.status (AreUnfailed
         (streams (S.view source.old) (K.view sink.old))
         (streams (S.view source.new) (K.view sink.new))) }
+    // No text was kept back while a read was waited for.
+    ensures flushed_before { result.status ≡ Status.ReadFault → FlushedBefore
+        (streams (S.view source.old) (K.view sink.old))
+        (streams (S.view source.new) (K.view sink.new)) }
     // No text is kept back in the end.
     ensures handed_on { result.status ≢ Status.Usage → result.status ≢ Status.Memory
         → result.status ≢ Status.WriteFault → (K.view sink.new).kept_back ≡ [] }

@@ -1,8 +1,8 @@
 //! One turn of the loop over the lines: a line is read and done, and its text written.
 
-ghost use Rattle.std.specs.Prelude.{◌≡◌, ◌<◌, ◌^◌, OnOk, IfErr};
+ghost use Rattle.std.specs.Prelude.{◌≡◌, ◌<◌, ◌^◌, [], OnOk, IfErr};
 ghost use Rattle.av_plain.specs.Device.{no_device};
-ghost use Rattle.av_replay.specs.Streams.{streams, Writes, AreUnfailed};
+ghost use Rattle.av_replay.specs.Streams.{streams, Writes, AreUnfailed, AreInStep};
 ghost use Rattle.av_replay.specs.Line.{UnlessFailed};
 ghost use Rattle.av_replay.specs.Turn.{DoesLine, IsNotDone, IsNotAnswered, Turned};
 
@@ -78,6 +78,7 @@ pub fn answer_line<K: Sink>(
         scratch.new.text) }
     ensures writes { OnOk result (Writes (K.view sink.old) (K.view sink.new) scratch.new.text) }
     ensures unfailed { UnlessFailed result ((K.view sink.new).faults ≡ (K.view sink.old).faults) }
+    ensures flushes { (K.view sink.new).flushes ≡ (K.view sink.old).flushes }
     ensures err { IfErr result (λ e. IsNotAnswered e line.now no_device no_device
         kernel.old kernel.new (K.view sink.old) (K.view sink.new)) }
 {
@@ -106,6 +107,10 @@ pub fn next_line<S: Source, K: Sink>(
     ensures unfailed { UnlessFailed result (AreUnfailed
         (streams (S.view source.old) (K.view sink.old))
         (streams (S.view source.new) (K.view sink.new))) }
+    ensures in_step { AreInStep (streams (S.view source.old) (K.view sink.old))
+        (streams (S.view source.new) (K.view sink.new)) }
+    ensures none_kept { IfErr result
+        (λ e. e ≡ RunErr.Read → (K.view sink.new).kept_back ≡ []) }
 {
     let Some(line) = read_line(source, sink, pending)? else {
         return Ok(false);

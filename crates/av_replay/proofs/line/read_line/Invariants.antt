@@ -1,5 +1,5 @@
 use Rattle.std.proofs.Common.{◌≡◌, ◌-◌, length}
-use Rattle.av_replay.specs.Streams.{streams, undone, IsLater, AreUnfailed}
+use Rattle.av_replay.specs.Streams.{streams, undone, IsLater, AreUnfailed, AreInStep}
 use Rattle.av_replay.proofs.line.read_line.Given as goal
 
 abbrev pub invariant-loop-size : goal.invariant-loop-size
@@ -7,6 +7,7 @@ invariant-loop-size g l = record {
   same : undone l.pending (streams (g.S.Source.view l.source) (g.K.Sink.view l.sink)) ≡ undone l.fn.pending (streams (g.S.Source.view l.fn.source) (g.K.Sink.view l.fn.sink));
   held : (g.K.Sink.view l.sink).held ≡ (g.K.Sink.view l.fn.sink).held;
   unfailed : AreUnfailed (streams (g.S.Source.view l.fn.source) (g.K.Sink.view l.fn.sink)) (streams (g.S.Source.view l.source) (g.K.Sink.view l.sink));
+  in_step : AreInStep (streams (g.S.Source.view l.fn.source) (g.K.Sink.view l.fn.sink)) (streams (g.S.Source.view l.source) (g.K.Sink.view l.sink));
   later : IsLater (streams (g.S.Source.view l.fn.source) (g.K.Sink.view l.fn.sink)) (streams (g.S.Source.view l.source) (g.K.Sink.view l.sink));
 }
 

@@ -9,6 +9,7 @@ pub loop-number-init : goal.loop-number-init
 loop-number-init g c = record {
   so_far = (no_past (setting_of c.args.kernel.now.frames no_device), starts c.args.pending.now (streams (g.S.Source.view c.args.source.now) (g.K.Sink.view c.args.sink.now)) c.args.kernel.now c.requires.pending c.requires.start, refl);
   unfailed = record { source = refl; sink = refl };
+  in_step = λ same. same;
   steps = omega (arith, c.requires.start.steps);
 }
 
@@ -22,6 +23,7 @@ loop-number-preserved g c =
     record {
       so_far = (longer s.0 t.line a.did a.next, goes_on _ _ _ _ _ _ _ _ _ _ _ s.1 t.takes, length-append s.0.lines (t.line ∷ []) ∙ ap (λ n. n + 1) s.2);
       unfailed = record { source = now.source ∙ was.source; sink = now.sink ∙ was.sink };
+      in_step = λ same. c.in-Ok-true.ensures.in_step (c.loop-number.invariant.in_step same);
       steps = omega (arith, c.loop-number.invariant.steps, t.takes.does.steps);
     }
 

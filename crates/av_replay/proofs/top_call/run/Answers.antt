@@ -24,5 +24,6 @@ returns-in_default-replay g c =
       spent = λ e. absurd (c.in_default-replay.not-Memory e);
       complete = λ n form. complete _ _ _ _ _ h;
       unfailed = c.replay.ensures.unfailed;
+      flushed_before = c.replay.ensures.flushed_before;
       handed_on = λ no_usage no_memory no_write. c.replay.ensures.handed_on no_memory no_write;
     }
