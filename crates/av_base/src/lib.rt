@@ -7,14 +7,12 @@
 #![tactic(auto)]
 
 mod limits;
-mod mode;
 mod page;
 mod prot;
 mod slot;
 mod steps;
 
 pub use limits::{LOW_PAGE, MOST_PROCESSES, TOP_PAGE};
-pub use mode::Mode;
 pub use page::PAGE_SIZE;
 pub use prot::Prot;
 pub use slot::Slot;

@@ -11,7 +11,7 @@ use Rattle.av_chain.specs.declared.node.Way.TheVariants.{Area, Anon}
 use Rattle.av_chain.specs.declared.node.Sides.{Sides}
 use Rattle.av_chain.specs.declared.node.Place.{Place}
 use Rattle.av_chain.specs.Nodes.{Block, same_ptr, place_of, IsApart, has_place, without_node}
-use Rattle.av_chain.specs.Rows.{sides_of, with_sides, with_before, with_after, node_changed, place_changed, leads_on, leads_back, Reaches, at_block, first_or, last_from, IsRun, end_of, head_of, last_of, grown, kept, shrunk}
+use Rattle.av_chain.specs.Rows.{sides_of, with_sides, with_before, with_after, node_changed, place_changed, leads_on, leads_back, Reaches, at_block, first_or, last_from, IsRun, end_of, head_of, last_of, head_with, head_beside, head_without}
 use Rattle.av_chain.proofs.Pointers.{same_ptr_refl}
 use Rattle.av_chain.proofs.Apart.{IsFresh, apart_tail, apart_head, removed_fresh}
 use Rattle.av_chain.proofs.Altered.{either, or_right, or_rest, fresh_left, apart_right, has_here, place_cond, changed_avoids, changed_append, places_changed, apart_changed, fresh_changed, reaches_avoids, avoids_reaches}
@@ -186,7 +186,7 @@ length_push : (bs : List Block) (b : Block) → length (bs ++ b ∷ []) ≡ leng
 length_push [] b = refl
 length_push (c ∷ bs) b = let e = length_push bs b in omega arith
 
-pub head_push : (bs : List Block) (b : Block) → head_of (bs ++ b ∷ []) ≡ Some (grown (at_block b) (head_of bs))
+pub head_push : (bs : List Block) (b : Block) → head_of (bs ++ b ∷ []) ≡ Some (head_with (at_block b) (head_of bs))
 head_push [] b = refl
 head_push (c ∷ bs) b =
     let e = length_push bs b in
@@ -199,23 +199,23 @@ length_with (x ∷ xs) ys b = ap (λ n. suc n) (length_with xs ys b)
 
 -- the head once a node between these is gone
 pub head_out : (xs ys : List Block) (b : Block) (s : Sides) → s.before ≡ last_from None xs → s.after ≡ first_or None ys →
-    shrunk s (head_of (xs ++ b ∷ ys)) ≡ head_of (xs ++ ys)
-head_out [] [] b s eb ea = λ i. kept s (record { first = at_block b; last = at_block b; count = 1 }) (eb i) (ea i)
+    head_without s (head_of (xs ++ b ∷ ys)) ≡ head_of (xs ++ ys)
+head_out [] [] b s eb ea = λ i. head_beside s (record { first = at_block b; last = at_block b; count = 1 }) (eb i) (ea i)
 head_out [] (y ∷ ys) b s eb ea =
     let h : Head = record { first = at_block b; last = end_of (at_block y) ys; count = suc (suc (length ys)) } in
     let less : suc (suc (length ys)) - 1 ≡ suc (length ys) = omega arith in
-    (λ i. kept s h (eb i) (ea i)) ∙ (λ i. Some (record { first = at_block y; last = end_of (at_block y) ys; count = less i }))
+    (λ i. head_beside s h (eb i) (ea i)) ∙ (λ i. Some (record { first = at_block y; last = end_of (at_block y) ys; count = less i }))
 head_out (x ∷ xs) [] b s eb ea =
     let h : Head = record { first = at_block x; last = end_of (at_block x) (xs ++ b ∷ []); count = suc (length (xs ++ b ∷ [])) } in
     let long = length_with xs [] b in
     let less : suc (length (xs ++ b ∷ [])) - 1 ≡ suc (length (xs ++ [])) = omega arith in
-    (λ i. kept s h ((eb ∙ end_last (at_block x) xs) i) (ea i)) ∙ (λ i. Some
+    (λ i. head_beside s h ((eb ∙ end_last (at_block x) xs) i) (ea i)) ∙ (λ i. Some
     (record { first = at_block x; last = end_of (at_block x) (sym (append-nil xs) i); count = less i }))
 head_out (x ∷ xs) (y ∷ ys) b s eb ea =
     let h : Head = record { first = at_block x; last = end_of (at_block x) (xs ++ b ∷ y ∷ ys); count = suc (length (xs ++ b ∷ y ∷ ys)) } in
     let long = length_with xs (y ∷ ys) b in
     let less : suc (length (xs ++ b ∷ y ∷ ys)) - 1 ≡ suc (length (xs ++ y ∷ ys)) = omega arith in
-    (λ i. kept s h ((eb ∙ end_last (at_block x) xs) i) (ea i))
+    (λ i. head_beside s h ((eb ∙ end_last (at_block x) xs) i) (ea i))
     ∙ (λ i. Some (record { first = at_block x; last = (end_append (at_block x) xs b (y ∷ ys) ∙ sym (end_append (at_block x) xs y ys)) i; count = less i }))
 
 -- ---- a node leaves
@@ -268,7 +268,7 @@ module _ (w : Way) (xs : List Block) (b : Block) (ys : List Block) (d : IsApart 
 
   pub run_out : (s : Sides) → s.before ≡ B → s.after ≡ A → IsRun w None (xs ++ b ∷ ys) None
       → IsRun w None (without_node b.0 (leads_back w s.after s.before (leads_on w s.before s.after (xs ++ b ∷ ys)))) None
-      × (shrunk s (head_of (xs ++ b ∷ ys)) ≡ head_of (without_node b.0 (leads_back w s.after s.before (leads_on w s.before s.after (xs ++ b ∷ ys)))))
+      × (head_without s (head_of (xs ++ b ∷ ys)) ≡ head_of (without_node b.0 (leads_back w s.after s.before (leads_on w s.before s.after (xs ++ b ∷ ys)))))
   run_out s eb ea r =
       let is : without_node b.0 (leads_back w s.after s.before (leads_on w s.before s.after (xs ++ b ∷ ys))) ≡ xs' ++ ys' =
       (λ i. without_node b.0 (leads_back w (ea i) (eb i) (leads_on w (eb i) (ea i) (xs ++ b ∷ ys)))) ∙ gone in

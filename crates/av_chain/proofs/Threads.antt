@@ -12,7 +12,7 @@ use Rattle.av_chain.specs.declared.node.Way.TheVariants.{Area, Anon}
 use Rattle.av_chain.specs.declared.node.Sides.{Sides}
 use Rattle.av_chain.specs.declared.node.Place.{Place}
 use Rattle.av_chain.specs.Nodes.{Block, same_ptr, place_of, IsApart, has_place, found, without_node}
-use Rattle.av_chain.specs.Rows.{key_of, sides_of, with_before, with_after, node_changed, place_changed, leads_on, leads_back, Reaches, row, at_block, first_or, last_from, IsRun, head_of, last_of, grown, shrunk, IsThreaded}
+use Rattle.av_chain.specs.Rows.{key_of, sides_of, with_before, with_after, node_changed, place_changed, leads_on, leads_back, Reaches, row, at_block, first_or, last_from, IsRun, head_of, last_of, head_with, head_without, IsThreaded}
 use Rattle.av_chain.proofs.Pointers.{same_ptr_eq}
 use Rattle.av_chain.proofs.Apart.{IsFresh, apart_tail, apart_head, fresh_at, removed_fresh}
 use Rattle.av_chain.proofs.Altered.{either, cond_lift, or_right, or_rest, fresh_differs, Avoids, changed_avoids, changed_append, places_changed, reaches_avoids}
@@ -199,23 +199,23 @@ module _ (w : Way) where
           tt,
         )
 
-    head_here : Some (grown (at_block b) (heads k)) ≡ head_of (place_changed o f (row w k bs) ++ b ∷ [])
+    head_here : Some (head_with (at_block b) (heads k)) ≡ head_of (place_changed o f (row w k bs) ++ b ∷ [])
     head_here =
         let r = row w k bs in
-        ap (λ h. Some (grown (at_block b) h)) (t.head k) ∙ sym (head_push r b)
+        ap (λ h. Some (head_with (at_block b) h)) (t.head k) ∙ sym (head_push r b)
         ∙ head_places (r ++ b ∷ []) (place_changed o f r ++ b ∷ []) (map-append place_of r (b ∷ []) ∙ (λ i. sym (places_changed f o r) i ++ b.0 ∷ [])
         ∙ sym (map-append place_of (place_changed o f r) (b ∷ [])))
 
-    pub thread_grow : IsThreaded w (with_at k (Some (grown (at_block b) (heads k))) heads) (leads_on w o (Some (at_block b)) (bs ++ b ∷ []))
+    pub thread_grow : IsThreaded w (with_at k (Some (head_with (at_block b) (heads k))) heads) (leads_on w o (Some (at_block b)) (bs ++ b ∷ []))
     thread_grow = record {
       run = λ j. either (IsRun w None (row w j (place_changed o f (bs ++ b ∷ []))) None) (j == k)
           (λ e. subst (λ m. IsRun w None (row w m (place_changed o f (bs ++ b ∷ []))) None) (number_eq k j e)
           (subst (λ cs. IsRun w None cs None) (sym here) run_here))
           (λ e. subst (λ cs. IsRun w None cs None) (sym (elsewhere j e)) (t.run j));
-      head = λ j. either (cond (j == k) (Some (grown (at_block b) (heads k))) (heads j) ≡ head_of (row w j (place_changed o f (bs ++ b ∷ [])))) (j == k)
-          (λ e. ap (λ y. cond y (Some (grown (at_block b) (heads k))) (heads j)) e ∙ head_here ∙ ap head_of (sym here)
+      head = λ j. either (cond (j == k) (Some (head_with (at_block b) (heads k))) (heads j) ≡ head_of (row w j (place_changed o f (bs ++ b ∷ [])))) (j == k)
+          (λ e. ap (λ y. cond y (Some (head_with (at_block b) (heads k))) (heads j)) e ∙ head_here ∙ ap head_of (sym here)
           ∙ ap (λ m. head_of (row w m (place_changed o f (bs ++ b ∷ [])))) (number_eq k j e))
-          (λ e. ap (λ y. cond y (Some (grown (at_block b) (heads k))) (heads j)) e ∙ t.head j ∙ ap head_of (sym (elsewhere j e)));
+          (λ e. ap (λ y. cond y (Some (head_with (at_block b) (heads k))) (heads j)) e ∙ t.head j ∙ ap head_of (sym (elsewhere j e)));
     }
 
   -- ---- a node leaves
@@ -265,7 +265,7 @@ module _ (w : Way) where
     sides_are : ((sides_of w n).before ≡ last_from None cut.0) × ((sides_of w n).after ≡ first_or None cut.1)
     sides_are = let r = (run_split w None None cut.0 ((p, n) ∷ cut.1) whole).1 in (r.0, r.1)
 
-    out : IsRun w None (gone (cut.0 ++ (p, n) ∷ cut.1)) None × (shrunk (sides_of w n) (head_of (cut.0 ++ (p, n) ∷ cut.1)) ≡ head_of
+    out : IsRun w None (gone (cut.0 ++ (p, n) ∷ cut.1)) None × (head_without (sides_of w n) (head_of (cut.0 ++ (p, n) ∷ cut.1)) ≡ head_of
         (gone (cut.0 ++ (p, n) ∷ cut.1)))
     out = run_out w cut.0 (p, n) cut.1 (subst IsApart cut.2 (apart_row (key_of w n) bs d)) (sides_of w n) sides_are.0 sides_are.1 whole
 
@@ -286,7 +286,7 @@ module _ (w : Way) where
         ap (λ cs. without_node p (place_changed s.after (with_before w s.before) cs)) on ∙ ap (without_node p) back
         ∙ removed_fresh p (row w j bs) (row_fresh k j other p bs d it)
 
-    pub thread_shrink : IsThreaded w (with_at (key_of w n) (shrunk (sides_of w n) (heads (key_of w n))) heads) (gone bs)
+    pub thread_shrink : IsThreaded w (with_at (key_of w n) (head_without (sides_of w n) (heads (key_of w n))) heads) (gone bs)
     thread_shrink =
         let k = key_of w n in let s = sides_of w n in
         record {
@@ -294,9 +294,9 @@ module _ (w : Way) where
               (λ is. subst (λ m. IsRun w None (row w m (gone bs)) None) (number_eq k j is)
               (subst (λ cs. IsRun w None cs None) (sym (row_gone k)) (subst (λ cs. IsRun w None (gone cs) None) (sym cut.2) out.0)))
               (λ other. subst (λ cs. IsRun w None cs None) (sym (row_gone j ∙ gone_elsewhere j other)) (t.run j));
-          head = λ j. either (cond (j == k) (shrunk s (heads k)) (heads j) ≡ head_of (row w j (gone bs))) (j == k)
-              (λ is. ap (λ y. cond y (shrunk s (heads k)) (heads j)) is ∙ ap (shrunk s) (t.head k ∙ ap head_of cut.2) ∙ out.1 ∙ ap (λ cs. head_of (gone cs))
+          head = λ j. either (cond (j == k) (head_without s (heads k)) (heads j) ≡ head_of (row w j (gone bs))) (j == k)
+              (λ is. ap (λ y. cond y (head_without s (heads k)) (heads j)) is ∙ ap (head_without s) (t.head k ∙ ap head_of cut.2) ∙ out.1 ∙ ap (λ cs. head_of (gone cs))
               (sym cut.2) ∙ ap head_of (sym (row_gone k))
               ∙ ap (λ m. head_of (row w m (gone bs))) (number_eq k j is))
-              (λ other. ap (λ y. cond y (shrunk s (heads k)) (heads j)) other ∙ t.head j ∙ ap head_of (sym (row_gone j ∙ gone_elsewhere j other)));
+              (λ other. ap (λ y. cond y (head_without s (heads k)) (heads j)) other ∙ t.head j ∙ ap head_of (sym (row_gone j ∙ gone_elsewhere j other)));
         }

@@ -10,7 +10,7 @@ use Rattle.av_chain.specs.declared.node.Way.TheVariants.{Area, Anon}
 use Rattle.av_chain.specs.declared.node.Sides.{Sides}
 use Rattle.av_chain.specs.declared.node.Place.{Place}
 use Rattle.av_chain.specs.Nodes.{Block, same_ptr, IsApart, has_place, found, without_node}
-use Rattle.av_chain.specs.Rows.{key_of, sides_of, with_before, with_after, node_changed, place_changed, leads_on, leads_back, Reaches, row, at_block, head_of, last_of, grown, shrunk, IsThreaded}
+use Rattle.av_chain.specs.Rows.{key_of, sides_of, with_before, with_after, node_changed, place_changed, leads_on, leads_back, Reaches, row, at_block, head_of, last_of, head_with, head_without, IsThreaded}
 use Rattle.av_chain.specs.Links.{Link, chain_of, AreOnce}
 use Rattle.av_chain.specs.Lists.{links_of, IsWhole}
 use Rattle.av_chain.proofs.Altered.{either, cond_lift, changed_append, changed_avoids, reaches_avoids, removed_changed, apart_changed, has_changed, reaches_changed, place_cond}
@@ -177,14 +177,14 @@ module _ (areas anons : ℕ → Option Head) (bs : List Block) (p : Ptr) (area a
     links_made = links_on Anon (last_of (anons anon)) at bs1 ∙ links_on Area (last_of (areas area)) at (bs ++ b ∷ []) ∙ links_append bs (b ∷ [])
 
     pub whole_made : is_in anon (chain_of (links_of bs) area) ≡ false
-        → IsWhole (with_at area (Some (grown (at_block b) (areas area))) areas) (with_at anon (Some (grown (at_block b) (anons anon))) anons) bs2
+        → IsWhole (with_at area (Some (head_with (at_block b) (areas area))) areas) (with_at anon (Some (head_with (at_block b) (anons anon))) anons) bs2
     whole_made n = record {
-      areas_lead = thread_other Area (with_at area (Some (grown (at_block b) (areas area))) areas) bs1 (last_of (anons anon)) (with_after Anon at)
+      areas_lead = thread_other Area (with_at area (Some (head_with (at_block b) (areas area))) areas) bs1 (last_of (anons anon)) (with_after Anon at)
           (keeps_after Area Anon at) (λ m. refl) (thread_grow Area areas bs b d t.areas_lead refl);
       anons_lead =
           let cs = leads_on Area (last_of (areas area)) at bs in
           let d' : IsApart (cs ++ b ∷ []) = subst IsApart pushed (apart_changed (with_after Area at) (last_of (areas area)) (bs ++ b ∷ []) d) in
-          subst (λ es. IsThreaded Anon (with_at anon (Some (grown (at_block b) (anons anon))) anons) (leads_on Anon (last_of (anons anon)) at es)) (sym pushed)
+          subst (λ es. IsThreaded Anon (with_at anon (Some (head_with (at_block b) (anons anon))) anons) (leads_on Anon (last_of (anons anon)) at es)) (sym pushed)
           (thread_grow Anon anons cs b d' (thread_other Anon anons bs (last_of (areas area)) (with_after Area at) (keeps_after Anon Area at)
           (λ m. refl) t.anons_lead) refl);
       once = subst AreOnce (sym links_made) (once_push (links_of bs) area anon t.once n);
@@ -295,16 +295,16 @@ module _ (areas anons : ℕ → Option Head) (bs : List Block) (p : Ptr) (n : No
       ∙ ap links_of area_past ∙ links_back Area sa.after sa.before (leads_on Area sa.before sa.after (without_node p bs))
       ∙ links_on Area sa.before sa.after (without_node p bs)
 
-  areas_gone : IsThreaded Area (with_at n.area (shrunk sa (areas n.area)) areas) (without_node p cs2)
+  areas_gone : IsThreaded Area (with_at n.area (head_without sa (areas n.area)) areas) (without_node p cs2)
   areas_gone =
-      let heads = with_at n.area (shrunk sa (areas n.area)) areas in
+      let heads = with_at n.area (head_without sa (areas n.area)) areas in
       let one = thread_other Area heads (without_node p cs1) sv.before (with_after Anon sv.after) (keeps_after Area Anon sv.after) (λ m. refl)
       (thread_shrink Area areas bs p n d t.areas_lead e) in
       let two = thread_other Area heads (leads_on Anon sv.before sv.after (without_node p cs1)) sv.after (with_before Anon sv.before)
       (keeps_before Area Anon sv.before) (λ m. refl) one in
       subst (IsThreaded Area heads) (sym (anon_past cs1)) two
 
-  anons_gone : IsThreaded Anon (with_at n.anon (shrunk sv (anons n.anon)) anons) (without_node p cs2)
+  anons_gone : IsThreaded Anon (with_at n.anon (head_without sv (anons n.anon)) anons) (without_node p cs2)
   anons_gone =
       let one = thread_other Anon anons bs sa.before (with_after Area sa.after) (keeps_after Anon Area sa.after) (λ m. refl) t.anons_lead in
       let two = thread_other Anon anons cs0 sa.after (with_before Area sa.before) (keeps_before Anon Area sa.before) (λ m. refl) one in
@@ -313,9 +313,9 @@ module _ (areas anons : ℕ → Option Head) (bs : List Block) (p : Ptr) (n : No
       let same : sides_of Anon f1.0 ≡ sv = f1.2 ∙ f0.2 in
       let key : key_of Anon f1.0 ≡ n.anon = f1.3 ∙ f0.3 in
       let d1 = apart_changed (with_before Area sa.before) sa.after cs0 (apart_changed (with_after Area sa.after) sa.before bs d) in
-      subst (λ (q : Sides × ℕ). IsThreaded Anon (with_at q.1 (shrunk q.0 (anons q.1)) anons)
+      subst (λ (q : Sides × ℕ). IsThreaded Anon (with_at q.1 (head_without q.0 (anons q.1)) anons)
       (without_node p (leads_back Anon q.0.after q.0.before (leads_on Anon q.0.before q.0.after cs1))))
       (λ i. (same i, key i)) (thread_shrink Anon anons cs1 p f1.0 d1 two f1.1)
 
-  pub whole_gone : IsWhole (with_at n.area (shrunk sa (areas n.area)) areas) (with_at n.anon (shrunk sv (anons n.anon)) anons) (without_node p cs2)
+  pub whole_gone : IsWhole (with_at n.area (head_without sa (areas n.area)) areas) (with_at n.anon (head_without sv (anons n.anon)) anons) (without_node p cs2)
   whole_gone = record { areas_lead = areas_gone; anons_lead = anons_gone; once = subst AreOnce (sym links_gone) (once_removed p bs t.once) }

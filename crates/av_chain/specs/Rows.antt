@@ -97,24 +97,24 @@ last_of None = None
 last_of (Some h) = Some h.last
 
 -- one more node at the end of a list
-abbrev pub grown : Place → Option Head → Head
-grown p None = record { first = p; last = p; count = 1 }
-grown p (Some h) = record { first = h.first; last = p; count = h.count + 1 }
+abbrev pub head_with : Place → Option Head → Head
+head_with p None = record { first = p; last = p; count = 1 }
+head_with p (Some h) = record { first = h.first; last = p; count = h.count + 1 }
 
 abbrev pub or_place : Place → Option Place → Place
 or_place p None = p
 or_place p (Some q) = q
 
 -- a list without a node that had these neighbours
-abbrev pub kept : Sides → Head → Option Place → Option Place → Option Head
-kept s h None None = None
-kept s h None (Some q) = Some (record { first = q; last = h.last; count = h.count - 1 })
-kept s h (Some p) None = Some (record { first = h.first; last = p; count = h.count - 1 })
-kept s h (Some p) (Some q) = Some (record { first = h.first; last = h.last; count = h.count - 1 })
+abbrev pub head_beside : Sides → Head → Option Place → Option Place → Option Head
+head_beside s h None None = None
+head_beside s h None (Some q) = Some (record { first = q; last = h.last; count = h.count - 1 })
+head_beside s h (Some p) None = Some (record { first = h.first; last = p; count = h.count - 1 })
+head_beside s h (Some p) (Some q) = Some (record { first = h.first; last = h.last; count = h.count - 1 })
 
-abbrev pub shrunk : Sides → Option Head → Option Head
-shrunk s None = None
-shrunk s (Some h) = kept s h s.before s.after
+abbrev pub head_without : Sides → Option Head → Option Head
+head_without s None = None
+head_without s (Some h) = head_beside s h s.before s.after
 
 -- the heads, once that of one list is this one
 abbrev pub HaveHead : ℕ → Option Head → (ℕ → Option Head) → (ℕ → Option Head) → Type 0

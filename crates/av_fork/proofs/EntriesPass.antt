@@ -12,7 +12,7 @@ use Rattle.av_pagetable.specs.Entries.{entry_at}
 use Rattle.av_pagetable.specs.Table.{IsFirst, page_bound}
 use Rattle.av_plain.specs.Choice.{Chooses}
 use Rattle.av_plain.specs.Event.{Event, Forked, Inherited, after, is_inherited, put_all, set_entry, without_seen}
-use Rattle.av_plain.specs.Fork.{inherited}
+use Rattle.av_plain.specs.Fork.{inheritance}
 use Rattle.av_plain.specs.Ledger.{Entry, InSlot, Key, Ledger, Setting, entry, key_cmp, names_slot}
 use Rattle.av_plain.specs.Sound.{uses}
 use Rattle.av_plain.specs.Stands.{entry_of, free_of}
@@ -190,7 +190,7 @@ pub record IsForking (k : Parts) (p q next : ℕ) (first : Ledger) : Type 0 wher
   pub ledger : Ledger
   pub stands : Stand k ledger
   pub sorted : T (is_sorted key_cmp first.entries)
-  pub same : after first (Forked p q (inherited first p)) ≡ put_all (given_from p q next first.entries) ledger
+  pub same : after first (Forked p q (inheritance first p)) ≡ put_all (given_from p q next first.entries) ledger
   pub parents : (o : ℕ) → entry ledger (p, o) ≡ entry first (p, o)
   pub children : (o : ℕ) → next ≤ o → entry ledger (q, o) ≡ None
   pub from : IsFrom p q ledger
@@ -322,7 +322,7 @@ all_given old new p q next first t none free = record {
     m = setting (count old)
 
     event : Event
-    event = Forked p q (inherited first p)
+    event = Forked p q (inheritance first p)
 
     whole : after first event ≡ t.ledger
     whole = t.same ∙ ap (λ (es : Entries). put_all (map (λ e. ((q, e.0.1), without_seen e.1)) es) t.ledger)

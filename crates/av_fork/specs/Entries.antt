@@ -6,7 +6,7 @@ use Rattle.av_pagetable.specs.declared.pte.Pte.{Pte as Raw}
 use Rattle.av_pagetable.specs.Entries.{with_entry}
 use Rattle.av_plain.specs.Choice.{Chooses}
 use Rattle.av_plain.specs.Event.{Forked, after, without_seen}
-use Rattle.av_plain.specs.Fork.{inherited}
+use Rattle.av_plain.specs.Fork.{inheritance}
 use Rattle.av_plain.specs.Ledger.{Ledger, names_frame}
 use Rattle.av_plain.specs.Stands.{View, Pte, free_of}
 use Rattle.av_reclaim.specs.declared.mem.Mem.{Mem}
@@ -42,6 +42,6 @@ after_fork_entry p q page v = record v {
 
 -- the child has inherited each entry of the parent: nothing is taken, and nothing becomes free
 pub record HasForked (old new : Mem) (l : Ledger) (p q : ℕ) : Type 0 where
-  pub stands : HasLedger new (after l (Forked p q (inherited l p)))
-  pub free : Chooses (setting (count old)) None l (Forked p q (inherited l p))
+  pub stands : HasLedger new (after l (Forked p q (inheritance l p)))
+  pub free : Chooses (setting (count old)) None l (Forked p q (inheritance l p))
       (free_of (view old)) (free_of (view new))

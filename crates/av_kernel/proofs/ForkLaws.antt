@@ -15,7 +15,7 @@ use Rattle.av_pagetable.specs.Entries.{ProcessTables, entry_at, has}
 use Rattle.av_plain.specs.World.{Page, lives, pages, set_process}
 use Rattle.av_plain.specs.Ledger.{Entry, InFrame, InSlot, Ledger, Zero, entry}
 use Rattle.av_plain.specs.Event.{Forked, without_seen}
-use Rattle.av_plain.specs.Fork.{inherited}
+use Rattle.av_plain.specs.Fork.{inheritance}
 use Rattle.av_plain.specs.Refusal.{tests, refusal, Refuses}
 use Rattle.av_plain.specs.Step.{Follows}
 use Rattle.av_plain.specs.Choice.{Chooses}
@@ -118,7 +118,7 @@ module _ (old mid : Mem) (tables : ProcessTables) (spaces : AllSpaces) (anons : 
 
   fork-step : IsStep (setting (count old)) s (Fork p q) (answer_only Done) next
   fork-step =
-      let events = Forked p q (inherited s.ledger p) ∷ [] in
+      let events = Forked p q (inheritance s.ledger p) ∷ [] in
       record {
         events = events;
         legal = record {
@@ -127,7 +127,7 @@ module _ (old mid : Mem) (tables : ProcessTables) (spaces : AllSpaces) (anons : 
         };
         world = refl;
         ledger = refl;
-        free = (free_of (view mid), subst (λ free. Chooses (setting (count old)) None s.ledger (Forked p q (inherited s.ledger p)) free (free_of (view mid))) keeps.stands.free given.free, refl);
+        free = (free_of (view mid), subst (λ free. Chooses (setting (count old)) None s.ledger (Forked p q (inheritance s.ledger p)) free (free_of (view mid))) keeps.stands.free given.free, refl);
         rmap = shown.forked;
         shows = tt;
       }

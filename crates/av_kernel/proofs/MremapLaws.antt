@@ -30,7 +30,7 @@ use Rattle.av_plain.specs.Device.{no_device}
 use Rattle.av_plain.specs.Event.{Moved, after_all}
 use Rattle.av_plain.specs.Fork.{IsRmapNext}
 use Rattle.av_plain.specs.Ledger.{Entry, Ledger, entry, key_cmp}
-use Rattle.av_plain.specs.Mremap.{MovesTo, after_mremap, have_one_prot, is_in_place, prot_at, prot_left, range_zaps, remap_events, remapped}
+use Rattle.av_plain.specs.Mremap.{MovesTo, after_mremap, have_one_prot, is_in_place, prot_at, prot_left, range_zaps, remap_events, process_after_mremap}
 use Rattle.av_plain.specs.Refusal.{Refuses, refusal, tests, top}
 use Rattle.av_plain.specs.Stands.{AreasAre, AreasStand, IsKept, free_of}
 use Rattle.av_plain.specs.Step.{Follows}
@@ -204,7 +204,7 @@ module _ {old : Mem} {s : State} (keeps : Keeps old s) {p a olen nlen : ℕ} {mo
       l = after_all s.ledger (remap_events s.ledger p from n to m)
 
       abbrev now : Process
-      now = remapped from n to m left q
+      now = process_after_mremap from n to m left q
 
       abbrev now_on : Pages
       now_on = after_mremap (chain_length s.anons) p from n to m left on
@@ -398,7 +398,7 @@ module _ {old : Mem} {s : State} (keeps : Keeps old s) {p a olen nlen : ℕ} {mo
                   (sym allowed) (Some to, goes, refl, refl, refl);
               notes = sym done.notes;
             };
-            world = ap (λ x. set_process s.world p (remapped from n x m left q)) (sym (page_back to));
+            world = ap (λ x. set_process s.world p (process_after_mremap from n x m left q)) (sym (page_back to));
             ledger = refl;
             free = subst (λ free. ChoosesAll (setting (count old)) None s.ledger events free (free_of (view mid))) keeps.stands.free done.free;
             rmap = subst (λ r. IsRmapNext r s.world command answer (rmap_of next)) (sym silent)

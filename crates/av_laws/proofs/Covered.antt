@@ -35,7 +35,7 @@ use Rattle.av_plain.specs.Fork.{AreForked}
 use Rattle.av_plain.specs.Ledger.{Ledger, Setting, entry}
 use Rattle.av_plain.specs.Load.{is_of_slot, with_loads, without_bytes, without_claims}
 use Rattle.av_plain.specs.Map.{with_prot_to_hole, zaps_for_place}
-use Rattle.av_plain.specs.Mremap.{MovesTo, after_mremap, events_to, prot_left, remapped}
+use Rattle.av_plain.specs.Mremap.{MovesTo, after_mremap, events_to, prot_left, process_after_mremap}
 use Rattle.av_plain.specs.Place.{Goes, IsMapAt, is_room}
 use Rattle.av_plain.specs.Refusal.{Refuses, Tests, fixed_tests, is_too_long, low, place_tests, refusal, tests, top, wraps}
 use Rattle.av_plain.specs.Step.{Follows, next, next_world}
@@ -701,9 +701,9 @@ covers_remapped : (m : Setting) (w : World) (l : Ledger) (long : Lengths) (on : 
     (next_areas long on w (Mremap p a old new mode) (MapAt (address_of to)))
 covers_remapped m w l long on p a old new to most mode high higher fits c none goes =
     subst (λ b. Low (most + top_page) higher
-    (set_process w p (remapped (page_of a) (pages_of old) b (pages_of new) left (pages w p)))
+    (set_process w p (process_after_mremap (page_of a) (pages_of old) b (pages_of new) left (pages w p)))
     (with_at p (after_mremap long p (page_of a) (pages_of old) b (pages_of new) left (on p)) on)) (sym back)
-    (covers_set (most + top_page) higher w on p (remapped (page_of a) (pages_of old) to (pages_of new) left (pages w p))
+    (covers_set (most + top_page) higher w on p (process_after_mremap (page_of a) (pages_of old) to (pages_of new) left (pages w p))
     (after_mremap long p (page_of a) (pages_of old) to (pages_of new) left (on p)) (low-more most (most + top_page) w on (omega arith) high higher c) there)
   where
     left : Option Prot
@@ -723,7 +723,7 @@ covers_remapped m w l long on p a old new to most mode high higher fits c none g
         (λ area. index_of area (page_of a + min (pages_of old) (pages_of new) - 1) + (pages_of new - min (pages_of old) (pages_of new)) < 2 ^ 60)
     small = small-enough w p a old new mode to most may goes (on p) one.laid one.same one.low fits
 
-    there : Covers (most + top_page) higher (remapped (page_of a) (pages_of old) to (pages_of new) left (pages w p))
+    there : Covers (most + top_page) higher (process_after_mremap (page_of a) (pages_of old) to (pages_of new) left (pages w p))
         (after_mremap long p (page_of a) (pages_of old) to (pages_of new) left (on p))
     there = record {
       laid = laid_becomes w p a old new mode to may goes (on p) one.laid one.same small long;

@@ -29,7 +29,7 @@ use Rattle.av_plain.specs.Fork.{IsRmapNext}
 use Rattle.av_plain.specs.Ledger.{Key, Ledger, Setting}
 use Rattle.av_plain.specs.Load.{after_loads, with_loads}
 use Rattle.av_plain.specs.Map.{with_prot_to_hole}
-use Rattle.av_plain.specs.Mremap.{MovesTo, events_to, may_stay, prot_at, prot_left, remapped}
+use Rattle.av_plain.specs.Mremap.{MovesTo, events_to, may_stay, prot_at, prot_left, process_after_mremap}
 use Rattle.av_plain.specs.Place.{Goes, IsMapAt, is_room}
 use Rattle.av_plain.specs.Refusal.{Refuses, low, refusal, tests, wraps}
 use Rattle.av_plain.specs.Areas.{rmap_after_all, Anons, Areas}
@@ -521,7 +521,7 @@ claimed-follows m w l command es answer rows told claimed h = subst (λ v. IsCla
         at : (to : Option ℕ) → IsMapAt answer to → IsClaimed (next w (Mremap p a old new mode) answer)
         at None e = subst (λ x. IsClaimed (next w (Mremap p a old new mode) x)) (sym e) claimed
         at (Some page) e = subst (λ x. IsClaimed (next w (Mremap p a old new mode) x)) (sym e)
-            (claimed-set w p (remapped (page_of a) (pages_of old) (page_of (address_of page)) (pages_of new) left q) claimed
+            (claimed-set w p (process_after_mremap (page_of a) (pages_of old) (page_of (address_of page)) (pages_of new) left q) claimed
             (λ x. each (page_of (address_of page)) x (within (page_of (address_of page)) (pages_of new) x)))
     by (Read p a n) h = claimed
     by (Write p a bytes) h = claimed-stored w p a (first_bytes answer bytes) claimed

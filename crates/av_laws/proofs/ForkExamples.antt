@@ -8,7 +8,7 @@ use Rattle.av_vma.specs.declared.area.Area.{Area}
 use Rattle.av_vma.specs.Pages.{Pages, has_page, pages_in}
 use Rattle.av_plain.specs.Areas.{AnonVma, Anons, Areas, Rmap, no_anons, none_on, rmap_after_all}
 use Rattle.av_plain.specs.Event.{Event, Forked, after_all}
-use Rattle.av_plain.specs.Fork.{AreForked, IsIdle, IsRmapNext, inherited, own_of_child, with_child, with_child_area}
+use Rattle.av_plain.specs.Fork.{AreForked, IsIdle, IsRmapNext, inheritance, own_of_child, with_child, with_child_area}
 use Rattle.av_plain.specs.Ledger.{Entry, InFrame, Key, Ledger}
 use Rattle.av_plain.specs.Transcript.{IsStep, State, at_first, rmap_of}
 use Rattle.av_plain.specs.World.{pages, set_process}
@@ -27,7 +27,7 @@ use Rattle.av_laws.proofs.OneFork.{forked-one}
 
 -- the one event
 abbrev events_of : List Area → Anons → List Event
-events_of areas anons = Forked 1 2 (inherited (parent areas anons).ledger 1) ∷ []
+events_of areas anons = Forked 1 2 (inheritance (parent areas anons).ledger 1) ∷ []
 
 -- the state after the fork, with these areas, anon_vmas and homes
 abbrev state_with : List Area → Anons → Rmap → State

@@ -25,7 +25,7 @@ use Rattle.av_plain.specs.Access.{Accesses, End, page_events, pages_of_access}
 use Rattle.av_plain.specs.Choice.{AreaSlots, ChoosesAll, Free, IsGiven, ListsSlots, new_free_slots, no_slots, slot_in_note, with_given_back}
 use Rattle.av_plain.specs.Event.{Event, Forked, Moved, Used, after_all, after_move, after_note, after_notes, after_use, after_zap, note_events, when}
 use Rattle.av_plain.specs.Fault.{Stop, Touches}
-use Rattle.av_plain.specs.Fork.{inherited}
+use Rattle.av_plain.specs.Fork.{inheritance}
 use Rattle.av_plain.specs.Ledger.{Cached, Key, Ledger, Setting, SwapArea, entry, free_slots, is_cached, is_free_slot, is_on, is_orphan, is_usable, key_cmp, same_slot, size_of, slot_count, slot_entries, slots_in_use}
 use Rattle.av_plain.specs.Refusal.{Refuses, refusal, tests}
 use Rattle.av_plain.specs.Sound.{AllSound, IsSound, count, is_there, slots}
@@ -587,7 +587,7 @@ fork-brings : (m : Setting) (l : Ledger) (p q : ℕ) → IsSound m l → ((page 
 fork-brings m l p q s none = plain-brings m l (child_ledger p q l) (forked-no_new (bare m) l p q (bare-sound m l s) none)
 
 fork-inv : (m : Setting) (l : Ledger) (p q : ℕ) (free free' : Free) → IsSound m l → ((page : ℕ) → entry l (q, page) ≡ None)
-    → ChoosesAll m None l (Forked p q (inherited l p) ∷ []) free free' → Inv m l free.slots → Inv m (child_ledger p q l) free'.slots
+    → ChoosesAll m None l (Forked p q (inheritance l p) ∷ []) free free' → Inv m l free.slots → Inv m (child_ledger p q l) free'.slots
 fork-inv m l p q free free' s none c h =
     let d = c.1.slots in
     subst (λ (f : Free). Inv m (child_ledger p q l) f.slots) (sym c.2)
@@ -646,7 +646,7 @@ legal-inv m w l command reply es free free' sound legal c h = by (refusal (tests
     s : IsSound m l
     s = sound.ledger
 
-    forks : (p q : ℕ) → lives w q ≡ false → es ≡ Forked p q (inherited l p) ∷ [] → Inv m (after_all l es) free'.slots
+    forks : (p q : ℕ) → lives w q ≡ false → es ≡ Forked p q (inheritance l p) ∷ [] → Inv m (after_all l es) free'.slots
     forks p q dead e = subst (λ es. Inv m (after_all l es) free'.slots) (sym e)
         (fork-inv m l p q free free' s (no_entries w l q sound.at_pages dead) (subst (λ es. ChoosesAll m None l es free free') e c) h)
 

@@ -37,7 +37,7 @@ use Rattle.av_trace.specs.Row.{IsAreaRow, IsEntry, IsRun}
 use Rattle.av_plain.specs.World.{Page, Process, World, is_mapped, pages, pages_to_hole}
 use Rattle.av_plain.specs.Ledger.{Entry, InFrame, InSlot, Key, Ledger, Setting, SwapArea, Zero, entry, free_frames, free_slots, map_count, names_frame, names_slot, slot_entries, walk}
 use Rattle.av_plain.specs.Event.{Event, Forked, after_all, notes_of}
-use Rattle.av_plain.specs.Fork.{inherited}
+use Rattle.av_plain.specs.Fork.{inheritance}
 use Rattle.av_plain.specs.Access.{Accesses, End, Stopped, Whole, bytes_before, page_events, pages_of_access, read_answer, stop_answer, write_answer}
 use Rattle.av_plain.specs.Fault.{Denied, Lost, Starved, Stop}
 use Rattle.av_plain.specs.Map.{zaps_for_place}
@@ -314,7 +314,7 @@ follows-fit : (m : Setting) (w : World) (l : Ledger) (command : Command) (events
     → Follows m w l command events answer rows → Fits events answer rows
 follows-fit m w l (Spawn p) events answer rows none s small fit out wide h = fits-by events [] answer Done rows [] h.1 h.0 h.2 (tt, (tt, refl))
 follows-fit m w l (Fork p q) events answer rows none s small fit out wide h =
-    fits-by events (Forked p q (inherited l p) ∷ []) answer Done rows [] h.1 h.0 h.2 (tt, (tt, refl))
+    fits-by events (Forked p q (inheritance l p) ∷ []) answer Done rows [] h.1 h.0 h.2 (tt, (tt, refl))
 follows-fit m w l (Exit p) events answer rows none s small fit out wide h =
     fits-by events (zaps_of l (keys_of_process l p)) answer Done rows [] h.1 h.0 h.2 (fits-notes (zaps_of l (keys_of_process l p)) Done [] (no-zap-notes m l (keys_of_process l p) none (in-areas m w l s)) tt (tt, refl))
 follows-fit m w l (Mmap p len prot place) events answer rows none s small fit out wide h = by h.0 h.1 h.2

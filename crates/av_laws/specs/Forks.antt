@@ -2,7 +2,7 @@
 -- never gets.
 -- Which example would fail if a definition were wrong:
 --   the memories (`next`): all of `ForksTo`
---   the entries (`inherited`, `Forks`): entries_go_over, seen_in_child, entry_left_out,
+--   the entries (`inheritance`, `Forks`): entries_go_over, seen_in_child, entry_left_out,
 --     entry_of_parent_lost
 --   the own anon_vma of the child (`own_of_child`, `IsReused`): new_below_root, idle_again,
 --     lowest_again, own_of_parent, bare_in_child, made_though_idle, higher_again

@@ -10,12 +10,12 @@
 --   when a change in place joins (`after_grow`, `after_resize`): grows_and_joins, grown_apart,
 --     joins_before, apart_before, shrinks_apart, joined_when_shrunk, stays_apart, long_chain,
 --     joined_by_long_chain
---   the old range that stays (`mapped_again`, `prot_left`): old_range_stays, joined_after,
+--   the old range that stays (`with_old_range`, `prot_left`): old_range_stays, joined_after,
 --     old_range_first, owned_still, gone_for_good, two_leave_one, denied_still
 --   the entries (`after_move`): all that say entries, entry_left_behind, mapped_twice, entry_lost,
 --     unseen_after, other_stays
 --   which entries go, and in which order (`remap_events`): target_before_tail, tail_goes_here
---   the memory (`remapped`): bytes_move, zeros_stay, bytes_lost, bytes_stay, gone_for_good,
+--   the memory (`process_after_mremap`): bytes_move, zeros_stay, bytes_lost, bytes_stay, gone_for_good,
 --     grown_by_zeros
 --   where the pages go (`MovesTo`, `may_stay`): grows_here, shrinks_here, goes_to_top, stays_here,
 --     next_to_top, grown_over, moved_unasked, moved_in_vain, no_room_in_vain, sought_too_late,

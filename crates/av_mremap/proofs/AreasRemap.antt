@@ -14,7 +14,7 @@ use Rattle.av_spaces.specs.Spaces.{AllSpaces, AreThese, IsChanged, Spaces, areas
 use Rattle.av_spaces.proofs.Kin.{stay_both, stay_same}
 use Rattle.av_spaces.proofs.Rising.{laid}
 use Rattle.av_plain.specs.Areas.{chain_length}
-use Rattle.av_plain.specs.Mremap.{after_mremap, mapped_again}
+use Rattle.av_plain.specs.Mremap.{after_mremap, with_old_range}
 use Rattle.av_plain.specs.Transcript.{State}
 use Rattle.av_plain.proofs.Mremap.Areas.{room}
 use Rattle.av_reclaim.specs.declared.mem.Mem.{Mem}
@@ -146,9 +146,9 @@ module _ (old : Mem) (s : State) (keeps : Keeps old s) (p : ℕ) (alive : is_som
 
     -- which of the two the areas become
     elsewhere : (left : Option Prot) → (to == from) ≡ false → (page : ℕ)
-        → mapped_again len p from (from + n) left (after_move len from n to m (s.areas p)) page ≡ after_mremap len p from n to m left (s.areas p) page
+        → with_old_range len p from (from + n) left (after_move len from n to m (s.areas p)) page ≡ after_mremap len p from n to m left (s.areas p) page
     elsewhere left e page = ap (λ b. (cond b (after_resize len from n m (s.areas p))
-        (mapped_again len p from (from + n) left (after_move len from n to m (s.areas p)))) page) (sym e)
+        (with_old_range len p from (from + n) left (after_move len from n to m (s.areas p)))) page) (sym e)
 
     pub has_moved_areas : (to == from) ≡ false
         → HasRemap old (record old { spaces = spaces; anons = anons }) p (after_mremap len p from n to m None (s.areas p))
@@ -204,7 +204,7 @@ stays_here old new s p from n to m left here h = subst (HasRemap old new p) (sym
 
     is : after_mremap (chain_length s.anons) p from n to m left (s.areas p) ≡ after_resize (chain_length s.anons) from n m (s.areas p)
     is = ap (λ b. cond b (after_resize (chain_length s.anons) from n m (s.areas p))
-        (mapped_again (chain_length s.anons) p from (from + n) left (after_move (chain_length s.anons) from n to m (s.areas p)))) same
+        (with_old_range (chain_length s.anons) p from (from + n) left (after_move (chain_length s.anons) from n to m (s.areas p)))) same
 
 -- elsewhere
 pub differs : (a b : ℕ) → (a ≡ b → ⊥) → (a == b) ≡ false

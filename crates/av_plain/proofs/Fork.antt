@@ -9,7 +9,7 @@ use Rattle.std.specs.FinMap.Entries.{find, where_key, is_sorted, below_all}
 use Rattle.av_base.specs.Words.{how_many}
 use Rattle.av_base.specs.declared.slot.Slot.{Slot}
 use Rattle.av_plain.specs.Event.{Inherited, after_fork, is_inherited, put_all, without_seen}
-use Rattle.av_plain.specs.Fork.{inherited}
+use Rattle.av_plain.specs.Fork.{inheritance}
 use Rattle.av_plain.specs.Ledger.{Entry, InFrame, InSlot, Key, Ledger, Zero, entry, key_cmp, names_frame, names_slot}
 use Rattle.av_plain.proofs.Event.{count-put_all, entries_with, entry-put_all}
 use Rattle.av_plain.proofs.Ledger.{same_key}
@@ -23,7 +23,7 @@ copies p q es = map (λ e. ((q, e.0.1), without_seen e.1)) (where_key key_cmp (�
 
 -- the ledger after a fork of p
 abbrev pub child_ledger : ℕ → ℕ → Ledger → Ledger
-child_ledger p q l = after_fork p q (inherited l p) l
+child_ledger p q l = after_fork p q (inheritance l p) l
 
 -- the pages that have entries of p
 abbrev pages_with : ℕ → List (Key × Entry) → List Inherited
@@ -62,7 +62,7 @@ all_go p pages (e ∷ es) h = by (e.0.0 == p) refl (all_go p pages es)
         ∙ ap (λ b. cond b (e ∷ rest es) (rest es)) (sym is)
 
 pub forked-is : (p q : ℕ) (l : Ledger) → child_ledger p q l ≡ put_all (copies p q l.entries) l
-forked-is p q l = ap (λ es. put_all (map (λ (e : Key × Entry). ((q, e.0.1), without_seen e.1)) es) l) (all_go p (inherited l p) l.entries (λ page i. i))
+forked-is p q l = ap (λ es. put_all (map (λ (e : Key × Entry). ((q, e.0.1), without_seen e.1)) es) l) (all_go p (inheritance l p) l.entries (λ page i. i))
 
 -- ---- what is found
 

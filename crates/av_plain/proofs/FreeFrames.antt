@@ -18,7 +18,7 @@ use Rattle.av_plain.specs.Access.{Accesses, End, page_events, pages_of_access}
 use Rattle.av_plain.specs.Choice.{ChoosesAll, Free, ListsFree, frame_in_note, new_free}
 use Rattle.av_plain.specs.Event.{Event, Forked, Moved, Used, after_all, after_move, after_note, after_notes, after_use, after_use_of, after_zap, change_entries, if_some, key_at, note_events, off_cache, put_all, set_entry, when, with_stale, without_seen}
 use Rattle.av_plain.specs.Fault.{ComesIn, CopyOnWrite, Denied, IsMade, Lost, MapCached, Need, NewPage, Ready, RunsOut, Serves, Sparing, Starved, Stop, SwapIn, Touches, ZeroPage, drop_at, drop_of_entry, drop_of_slot, is_shared, is_unneeded, need, need_of_slot, pinned_by, sparing, was_slot}
-use Rattle.av_plain.specs.Fork.{inherited}
+use Rattle.av_plain.specs.Fork.{inheritance}
 use Rattle.av_plain.specs.Ledger.{Cached, Entry, InFrame, InSlot, Key, Ledger, Setting, Zero, entry, first_ledger, frame_at, has_free, is_free, is_orphan, key_cmp, map_count, names_frame, slot_of}
 use Rattle.av_plain.specs.Pass.{Completes, IsPass, IsSlotFor, Seeks, Spared, TakesFor, Turns, end_note, end_notes, frames_in_turn, is_dirty, is_stuck, stays_cached, turn_notes, unmap_notes}
 use Rattle.av_plain.specs.Refusal.{Refuses, refusal, tests}
@@ -472,7 +472,7 @@ fork-steady m l p q s none = subst (λ l'. Steady l l' None) (sym (forked-is p q
     (fewer-steady l (record l { entries = (put_all (copies p q l.entries) l).entries }) (λ g gone. let a = (frames-grow p q l s.in_order none g).count in let b = (frames-grow p q l s.in_order none g).few in omega (arith, gone, a, b)))
 
 fork-lists : (m : Setting) (l : Ledger) (p q : ℕ) (free free' : List ℕ) → IsSound m l → ((page : ℕ) → entry l (q, page) ≡ None)
-    → ChoosesFrames m l (Forked p q (inherited l p) ∷ []) free free' → Lists m l free → Lists m (child_ledger p q l) free'
+    → ChoosesFrames m l (Forked p q (inheritance l p) ∷ []) free free' → Lists m l free → Lists m (child_ledger p q l) free'
 fork-lists m l p q free free' s none c h = subst (Lists m (child_ledger p q l)) (sym (c.2 ∙ c.1.2)) (lists-event m l (child_ledger p q l) None free c.1.0 c.1.1 (fork-steady m l p q s none) h)
 
 -- ---- entries that move
@@ -532,7 +532,7 @@ legal-lists m w l command reply es free free' sound legal c h = by (refusal (tes
     s : IsSound m l
     s = sound.ledger
 
-    forks : (p q : ℕ) → lives w q ≡ false → es ≡ Forked p q (inherited l p) ∷ [] → Lists m (after_all l es) free'
+    forks : (p q : ℕ) → lives w q ≡ false → es ≡ Forked p q (inheritance l p) ∷ [] → Lists m (after_all l es) free'
     forks p q dead e = subst (λ es. Lists m (after_all l es) free') (sym e)
         (fork-lists m l p q free free' s (no_entries w l q sound.at_pages dead) (subst (λ es. ChoosesFrames m l es free free') e c) h)
 

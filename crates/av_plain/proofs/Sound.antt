@@ -41,7 +41,7 @@ use Rattle.av_plain.specs.Event.{Event, Forked, Moved, Noted, TurnedOff, TurnedO
 use Rattle.av_plain.specs.Ledger.{Entry, Ledger, Setting, entry, first_ledger}
 use Rattle.av_plain.specs.Load.{after_load, after_loads, is_of_slot, with_loads, without_bytes, without_claims}
 use Rattle.av_plain.specs.Map.{with_prot_to_hole, zaps_for_place}
-use Rattle.av_plain.specs.Mremap.{events_to, prot_left, remap_events, remapped}
+use Rattle.av_plain.specs.Mremap.{events_to, prot_left, remap_events, process_after_mremap}
 use Rattle.av_plain.specs.Place.{Goes, IsMapAt}
 use Rattle.av_plain.specs.Refusal.{Refuses, refusal, tests, wraps}
 use Rattle.av_plain.specs.Sound.{AllSound, AtPages, IsTidy}
@@ -274,11 +274,11 @@ stored-sound m w l p a (b ∷ bytes) s alive = changed-sound m w l p (with_bytes
 -- n pages become k, and those that go or move have their entries go or move
 remap-sound : (m : Setting) (w w' : World) (l : Ledger) (p from n to k : ℕ) (left : Option Prot) → AllSound m w l → AllSound m w' l → lives w' p ≡ true
     → is_some (pages w' p from) ≡ true
-    → AllSound m (set_process w' p (remapped from n to k left (pages w' p))) (after_all l (remap_events l p from n to k))
+    → AllSound m (set_process w' p (process_after_mremap from n to k left (pages w' p))) (after_all l (remap_events l p from n to k))
 remap-sound m w w' l p from n to k left s s' alive first = record {
-  world = tidy-set w' p (remapped from n to k left (pages w' p)) s'.world alive;
+  world = tidy-set w' p (process_after_mremap from n to k left (pages w' p)) s'.world alive;
   ledger = remap-kept m l p from n to k s.ledger;
-  at_pages = at-changed w' (after_all l (remap_events l p from n to k)) p (remapped from n to k left (pages w' p))
+  at_pages = at-changed w' (after_all l (remap_events l p from n to k)) p (process_after_mremap from n to k left (pages w' p))
       (remap-here w' l p from n to k left s.ledger.in_order s'.at_pages first)
       (λ q page other h. remap-others w' l p from n to k left s.ledger.in_order s'.at_pages first q page (grind (arith, nat_tests, other)) h);
   in_areas = there-by m l (after_all l (remap_events l p from n to k)) (remap-no_new m l p from n to k s.ledger) s.in_areas;
@@ -431,9 +431,9 @@ follows-sound m w l (AsksMremap p a old new mode) events answer rows s fine h = 
         → AllSound m (next here (AsksMremap p a old new mode) answer) (after_all l events)
     by None e es = subst (λ x. AllSound m (next here (AsksMremap p a old new mode) x) (after_all l events)) (sym e) (unchanged m here l events es loaded)
     by (Some to) e es = subst (λ x. AllSound m (next here (AsksMremap p a old new mode) x) (after_all l events)) (sym e)
-        (subst (λ es. AllSound m (set_process here p (remapped (page_of a) (pages_of old) (page_of (address_of to)) (pages_of new) left (pages here p)))
+        (subst (λ es. AllSound m (set_process here p (process_after_mremap (page_of a) (pages_of old) (page_of (address_of to)) (pages_of new) left (pages here p)))
         (after_all l es)) (sym es)
-        (subst (λ b. AllSound m (set_process here p (remapped (page_of a) (pages_of old) b (pages_of new) left (pages here p)))
+        (subst (λ b. AllSound m (set_process here p (process_after_mremap (page_of a) (pages_of old) b (pages_of new) left (pages here p)))
         (after_all l (remap_events l p (page_of a) (pages_of old) to (pages_of new)))) (sym (back to))
         (remap-sound m w here l p (page_of a) (pages_of old) to (pages_of new) left s loaded (lives-loads m w l events p ∙ may.living) first)))
 follows-sound m w l (Read p a n) events answer rows s fine h = loads-sound m w l (after_all l events) events (accesses-sound m w l p (pages_of_access false a n) events h.0 s h.2)

@@ -20,13 +20,13 @@ use Rattle.av_plain.specs.Zap.{keys_of_process}
 -- ---- entries
 
 -- what goes over: each page of the parent that has an entry
-abbrev pub inherited : Ledger → ℕ → List Inherited
-inherited l p = map (λ (k : Key). record { page = k.1; as_zeros = false }) (keys_of_process l p)
+abbrev pub inheritance : Ledger → ℕ → List Inherited
+inheritance l p = map (λ (k : Key). record { page = k.1; as_zeros = false }) (keys_of_process l p)
 
 -- a fork tells nothing; its one event names what goes over
 abbrev pub Forks : Ledger → ℕ → ℕ → List Event → Answer → List Row → Type 0
 Forks l p q events answer rows =
-    (answer ≡ Done) × (events ≡ Forked p q (inherited l p) ∷ []) × (rows ≡ [])
+    (answer ≡ Done) × (events ≡ Forked p q (inheritance l p) ∷ []) × (rows ≡ [])
 
 -- ---- anon_vmas
 

@@ -112,8 +112,8 @@ prot_left mode q from = if leaves_old mode then prot_at q from else None
 
 -- page i of the new range is page i of the old one, or, past it, zeros with its protection; the
 -- rest of the old range goes, or stays with zeros
-abbrev pub remapped : ℕ → ℕ → ℕ → ℕ → Option Prot → Process → Process
-remapped from n to m left q page =
+abbrev pub process_after_mremap : ℕ → ℕ → ℕ → ℕ → Option Prot → Process → Process
+process_after_mremap from n to m left q page =
     if within to m page
     then (if nat_lt (page - to) n then q (from + (page - to)) else option_map zeros (prot_at q from))
     else (if within from n page then option_map zeros left else q page)
@@ -121,12 +121,12 @@ remapped from n to m left q page =
 -- ---- the areas after it
 
 -- the range is mapped anew, if it has a protection
-abbrev pub mapped_again : Lengths → ℕ → ℕ → ℕ → Option Prot → Pages → Pages
-mapped_again long p from past None on = on
-mapped_again long p from past (Some prot) on = after_map long p from past prot on
+abbrev pub with_old_range : Lengths → ℕ → ℕ → ℕ → Option Prot → Pages → Pages
+with_old_range long p from past None on = on
+with_old_range long p from past (Some prot) on = after_map long p from past prot on
 
 -- the areas of the old range stay or move; then what stays of it gets a new one
 abbrev pub after_mremap : Lengths → ℕ → ℕ → ℕ → ℕ → ℕ → Option Prot → Pages → Pages
 after_mremap long p from n to m left on =
     if to == from then after_resize long from n m on
-    else mapped_again long p from (from + n) left (after_move long from n to m on)
+    else with_old_range long p from (from + n) left (after_move long from n to m on)

@@ -14,7 +14,7 @@ use Rattle.av_plain.specs.Fork.{Forks}
 use Rattle.av_plain.specs.Ledger.{Setting, Ledger}
 use Rattle.av_plain.specs.Load.{with_loads}
 use Rattle.av_plain.specs.Map.{Unmaps, MapsAt, Protects, with_prot_to_hole}
-use Rattle.av_plain.specs.Mremap.{Remaps, prot_left, remapped}
+use Rattle.av_plain.specs.Mremap.{Remaps, prot_left, process_after_mremap}
 use Rattle.av_plain.specs.Pass.{fails}
 use Rattle.av_plain.specs.Process.{Spawns, Exits}
 use Rattle.av_plain.specs.Refusal.{tests, refusal, Refuses, wraps}
@@ -38,7 +38,7 @@ next w (Mprotect p a len prot) Done =
 next w (Mprotect p a len prot) (Refused Enomem) =
     if wraps a len then w else with_prot_to_hole w p (page_of a) (pages_of len) prot
 next w (Mremap p a old new mode) (MapAt b) =
-    set_process w p (remapped (page_of a) (pages_of old) (page_of b) (pages_of new)
+    set_process w p (process_after_mremap (page_of a) (pages_of old) (page_of b) (pages_of new)
     (prot_left mode (pages w p) (page_of a)) (pages w p))
 next w (Write p a bytes) answer = after_write w p a (first_bytes answer bytes)
 next w command answer = w

@@ -2,7 +2,7 @@ use av_swapmap::Counts;
 use std::alloc::{AllocError, Global};
 
 // A slot's byte and its digits in the first five continuation pages.
-fn kept(alloc: Global, entries: u32, cached: bool) -> Result<[u8; 6], AllocError> {
+fn digits(alloc: Global, entries: u32, cached: bool) -> Result<[u8; 6], AllocError> {
     let mut counts = Counts::new(alloc, 1, &[])?;
     counts.add(0, entries)?;
     counts.set_cached(0, cached);
@@ -18,15 +18,15 @@ fn kept(alloc: Global, entries: u32, cached: bool) -> Result<[u8; 6], AllocError
 
 #[test]
 fn counts_are_kept_as_linux_keeps_them(rt: HostRuntime) -> Result<(), AllocError> {
-    assert_eq!(rt; kept(rt.alloc(), 0, true)?, [0x40, 0, 0, 0, 0, 0]);
-    assert_eq!(rt; kept(rt.alloc(), 62, false)?, [0x3e, 0, 0, 0, 0, 0]);
-    assert_eq!(rt; kept(rt.alloc(), 62, true)?, [0x7e, 0, 0, 0, 0, 0]);
-    assert_eq!(rt; kept(rt.alloc(), 63, false)?, [0x80, 0x01, 0, 0, 0, 0]);
-    assert_eq!(rt; kept(rt.alloc(), 66, false)?, [0x83, 0x01, 0, 0, 0, 0]);
-    assert_eq!(rt; kept(rt.alloc(), 8063, false)?, [0xbe, 0x7f, 0, 0, 0, 0]);
-    assert_eq!(rt; kept(rt.alloc(), 8064, false)?, [0x80, 0x80, 0x01, 0, 0, 0]);
+    assert_eq!(rt; digits(rt.alloc(), 0, true)?, [0x40, 0, 0, 0, 0, 0]);
+    assert_eq!(rt; digits(rt.alloc(), 62, false)?, [0x3e, 0, 0, 0, 0, 0]);
+    assert_eq!(rt; digits(rt.alloc(), 62, true)?, [0x7e, 0, 0, 0, 0, 0]);
+    assert_eq!(rt; digits(rt.alloc(), 63, false)?, [0x80, 0x01, 0, 0, 0, 0]);
+    assert_eq!(rt; digits(rt.alloc(), 66, false)?, [0x83, 0x01, 0, 0, 0, 0]);
+    assert_eq!(rt; digits(rt.alloc(), 8063, false)?, [0xbe, 0x7f, 0, 0, 0, 0]);
+    assert_eq!(rt; digits(rt.alloc(), 8064, false)?, [0x80, 0x80, 0x01, 0, 0, 0]);
     assert_eq!(rt;
-        kept(rt.alloc(), 0xffff_ffff, true)?,
+        digits(rt.alloc(), 0xffff_ffff, true)?,
         [0xc3, 0x84, 0x82, 0xc1, 0x20, 0]
     );
     Ok(())

@@ -28,7 +28,7 @@ use Rattle.av_plain.specs.Event.{Event, Noted, Used, after}
 use Rattle.av_plain.specs.Fork.{AreForked, GoOver, GoesBy, root_of}
 use Rattle.av_vma.specs.Mremap.{after_grow, after_move, after_resize, grown_to, joined_over, moved_area, moved_range}
 use Rattle.av_plain.specs.Ledger.{Entry, InFrame, Key, Ledger, Setting, entry}
-use Rattle.av_plain.specs.Mremap.{after_mremap, mapped_again, prot_left}
+use Rattle.av_plain.specs.Mremap.{after_mremap, with_old_range, prot_left}
 use Rattle.av_plain.specs.Refusal.{wraps}
 use Rattle.av_plain.specs.Report.{AreRowsOf, area_row}
 use Rattle.av_plain.specs.Transcript.{Exchange, IsRun, IsStep, State, rmap_of}
@@ -192,7 +192,7 @@ resize-below n len from k m on h = by (nat_lt m k) (nat_lt k m)
     by false true = grow (on (from + k - 1)) (h (from + k - 1))
     by false false = h
 
-again-below : (n : ℕ) (len : Lengths) (p from past : ℕ) (left : Option Prot) (on : Pages) → OwnBelow n on → OwnBelow n (mapped_again len p from past left on)
+again-below : (n : ℕ) (len : Lengths) (p from past : ℕ) (left : Option Prot) (on : Pages) → OwnBelow n on → OwnBelow n (with_old_range len p from past left on)
 again-below n len p from past None on h = h
 again-below n len p from past (Some prot) on h = map-below n len p from past prot on h
 
@@ -200,7 +200,7 @@ remap-below : (n : ℕ) (len : Lengths) (p from k to m : ℕ) (left : Option Pro
     → OwnBelow n (after_mremap len p from k to m left on)
 remap-below n len p from k to m left on h = by (to == from)
   where
-    by : (b : Bool) → OwnBelow n (if b then after_resize len from k m on else mapped_again len p from (from + k) left (after_move len from k to m on))
+    by : (b : Bool) → OwnBelow n (if b then after_resize len from k m on else with_old_range len p from (from + k) left (after_move len from k to m on))
     by true = resize-below n len from k m on h
     by false = again-below n len p from (from + k) left (after_move len from k to m on) (move-below n len from k to m on h)
 

@@ -32,7 +32,7 @@ use Rattle.av_plain.specs.Fault.{Stop}
 use Rattle.av_plain.specs.Ledger.{Entry, InFrame, InSlot, Key, Ledger, Setting, Zero, entry, frame_at, is_orphan, slot_of}
 use Rattle.av_plain.specs.Load.{with_loads}
 use Rattle.av_plain.specs.Map.{with_prot_to_hole}
-use Rattle.av_plain.specs.Mremap.{MovesTo, events_to, prot_at, prot_left, range_zaps, remap_events, remapped}
+use Rattle.av_plain.specs.Mremap.{MovesTo, events_to, prot_at, prot_left, range_zaps, remap_events, process_after_mremap}
 use Rattle.av_plain.specs.Place.{Goes, IsMapAt, is_room}
 use Rattle.av_plain.specs.Refusal.{Refuses, Tests, fixed_tests, is_too_long, low, place_tests, refusal, tests, top, wraps}
 use Rattle.av_plain.specs.Step.{Follows, IsLegal, next, next_world}
@@ -367,7 +367,7 @@ module _ (w : World) (p a old new : ℕ) (mode : Mode) (to : ℕ) (may : MayRema
       by (Some x) e = refl
 
   -- each page after it is one that a process may have
-  pub remapped-below : (page : ℕ) → is_some (remapped from n to m left q page) ≡ true → page < top_page
+  pub remapped-below : (page : ℕ) → is_some (process_after_mremap from n to m left q page) ≡ true → page < top_page
   remapped-below page h = by (within to m page) (within from n page) refl refl h
     where
       bounds : (b k : ℕ) → within b k page ≡ true → (b ≤ page) × (page < b + k)
@@ -480,9 +480,9 @@ below-follows m w now l (Mremap p a old new mode) es answer rows fit same below 
         let here = subst Below still below in
         subst (λ x. Below (next now (Mremap p a old new mode) x)) (sym e)
         (subst (λ x. Below (next x (Mremap p a old new mode) (MapAt (address_of to)))) (sym still)
-        (subst (λ b. Below (set_process w p (remapped (page_of a) (pages_of old) b (pages_of new) (prot_left mode (pages w p) (page_of a)) (pages w p))))
+        (subst (λ b. Below (set_process w p (process_after_mremap (page_of a) (pages_of old) b (pages_of new) (prot_left mode (pages w p) (page_of a)) (pages w p))))
         (sym (back to))
-        (below-set w p (remapped (page_of a) (pages_of old) to (pages_of new) (prot_left mode (pages w p) (page_of a)) (pages w p)) here
+        (below-set w p (process_after_mremap (page_of a) (pages_of old) to (pages_of new) (prot_left mode (pages w p) (page_of a)) (pages w p)) here
         (λ page some. (
           remapped-below w p a old new mode to (may-remap m w l p a old new mode none) goes here
               (wide_number p fit.0.most) page some,

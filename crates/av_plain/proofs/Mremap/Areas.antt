@@ -16,7 +16,7 @@ use Rattle.av_vma.proofs.Laid.{has_area, has_parts}
 use Rattle.av_vma.proofs.Mremap.{laid_after_move, laid_after_resize}
 use Rattle.av_vma.proofs.MremapHomes.{HomeGoes, home_after_move, home_not_moved, homes_after_resize, none_after_move, owns_after_move, owns_after_resize}
 use Rattle.av_vma.proofs.Owns.{AddsNoOwn, adds_neither, owns_mapped}
-use Rattle.av_plain.specs.Mremap.{after_mremap, mapped_again}
+use Rattle.av_plain.specs.Mremap.{after_mremap, with_old_range}
 
 -- n pages may become k: in place they grow over free pages, and elsewhere there is place for them
 pub record IsRemap (from n to k : ℕ) (on : Pages) : Type 0 where
@@ -63,23 +63,23 @@ module _ (long : Lengths) (p from n to k : ℕ) (on : Pages) (laid : AreLaid on)
         free = λ page least most. ap is_some (none_after_move long from n to k on laid move page least (omega arith));
       }
 
-  laid_again : (left : Option Prot) → AreLaid (mapped_again long p from (from + n) left then)
+  laid_again : (left : Option Prot) → AreLaid (with_old_range long p from (from + n) left then)
   laid_again None = laid_then
   laid_again (Some prot) = laid_mapped long p from (from + n) prot then laid_then nonempty room
 
-  owns_again : (left : Option Prot) → AddsNoOwn on (mapped_again long p from (from + n) left then)
+  owns_again : (left : Option Prot) → AddsNoOwn on (with_old_range long p from (from + n) left then)
   owns_again None = owns_after_move long from n to k on laid move
   owns_again (Some prot) = adds_neither on then (after_map long p from (from + n) prot then)
       (owns_after_move long from n to k on laid move) (owns_mapped long p from (from + n) prot then)
 
   -- only what is mapped anew at the target raises linear indices
   indices_again : (most : ℕ) → top_page ≤ most → AreIndicesBelow most on → (left : Option Prot)
-      → AreIndicesBelow (most + top_page) (mapped_again long p from (from + n) left then)
+      → AreIndicesBelow (most + top_page) (with_old_range long p from (from + n) left then)
   indices_again most high h None = indices_after_move long most high from n to k on laid move h
   indices_again most high h (Some prot) = indices_mapped long (most + top_page) p from (from + n) prot then laid_then nonempty room (omega arith)
       (indices_after_move long most high from n to k on laid move h)
 
-  home_again : (left : Option Prot) (page page' : ℕ) → HomeGoes on page then page' → HomeGoes on page (mapped_again long p from (from + n) left then) page'
+  home_again : (left : Option Prot) (page page' : ℕ) → HomeGoes on page then page' → HomeGoes on page (with_old_range long p from (from + n) left then) page'
   home_again None page page' goes home is = goes home is
   home_again (Some prot) page page' goes home is = homes_mapped long p from (from + n) prot then laid_then nonempty room page' home (goes home is)
 
@@ -90,10 +90,10 @@ module _ (long : Lengths) (p from n to k : ℕ) (left : Option Prot) (on : Pages
   next = after_mremap long p from n to k left on
 
   in_place : (to == from) ≡ true → next ≡ after_resize long from n k on
-  in_place here = ap (λ b. cond b (after_resize long from n k on) (mapped_again long p from (from + n) left (after_move long from n to k on))) here
+  in_place here = ap (λ b. cond b (after_resize long from n k on) (with_old_range long p from (from + n) left (after_move long from n to k on))) here
 
-  elsewhere : (to == from) ≡ false → next ≡ mapped_again long p from (from + n) left (after_move long from n to k on)
-  elsewhere there = ap (λ b. cond b (after_resize long from n k on) (mapped_again long p from (from + n) left (after_move long from n to k on))) there
+  elsewhere : (to == from) ≡ false → next ≡ with_old_range long p from (from + n) left (after_move long from n to k on)
+  elsewhere there = ap (λ b. cond b (after_resize long from n k on) (with_old_range long p from (from + n) left (after_move long from n to k on))) there
 
   pub laid_remapped : AreLaid next
   laid_remapped = by (to == from) refl

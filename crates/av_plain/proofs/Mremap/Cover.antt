@@ -16,7 +16,7 @@ use Rattle.av_vma.proofs.Laid.{has_parts}
 use Rattle.av_vma.proofs.Mremap.{in_range as range_bounds, is_in_range, out_of_range}
 use Rattle.av_vma.proofs.MremapHomes.{none_after_move}
 use Rattle.av_vma.proofs.Prots.{area_prot, prots, prots_filled, prots_grown, prots_mapped, prots_moved, prots_not_grown, prots_outside, prots_unmapped}
-use Rattle.av_plain.specs.Mremap.{MovesTo, after_mremap, mapped_again, prot_at, prot_left, remapped}
+use Rattle.av_plain.specs.Mremap.{MovesTo, after_mremap, with_old_range, prot_at, prot_left, process_after_mremap}
 use Rattle.av_plain.specs.World.{Page, Process, World, is_mapped, pages, zeros}
 use Rattle.av_plain.proofs.Mremap.Areas.{IsRemap, laid_remapped, laid_then, room}
 use Rattle.av_plain.proofs.Mremap.Legal.{highest, may-become, some, stays_bare, uniform-where}
@@ -26,7 +26,7 @@ use Rattle.av_plain.proofs.Refusal.{MayRemap}
 
 module _ (q : Process) (from n to m : ℕ) (left : Option Prot) (page : ℕ) where
   abbrev now : Option Page
-  now = remapped from n to m left q page
+  now = process_after_mremap from n to m left q page
 
   -- past what came there are zeros
   abbrev grown : Option Page
@@ -171,7 +171,7 @@ module _ (w : World) (p a old new : ℕ) (mode : Mode) (to : ℕ) (may : MayRema
             (is_in_range (from + m) (from + n - (from + m)) page low (omega (arith, low, high)))
         by false e = absurd (let more = ltb-false m n e in omega (arith, more, low, high))
 
-    prots_here : (page : ℕ) → prots resized page ≡ prot_at (remapped from n to m left q) page
+    prots_here : (page : ℕ) → prots resized page ≡ prot_at (process_after_mremap from n to m left q) page
     prots_here page = by (within to m page) (within from n page) (nat_lt (page - to) n) refl refl refl
       where
         in_new : within to m page ≡ true → (from ≤ page) × (page < from + m)
@@ -181,7 +181,7 @@ module _ (w : World) (p a old new : ℕ) (mode : Mode) (to : ℕ) (may : MayRema
         back low = let e = same_page in omega (arith, low, e)
 
         by : (i j k : Bool) → within to m page ≡ i → within from n page ≡ j → nat_lt (page - to) n ≡ k
-            → prots resized page ≡ prot_at (remapped from n to m left q) page
+            → prots resized page ≡ prot_at (process_after_mremap from n to m left q) page
         by true j true i f k =
             let b = in_new i in
             let less = ltb-true (page - to) n k in
@@ -217,8 +217,8 @@ module _ (w : World) (p a old new : ℕ) (mode : Mode) (to : ℕ) (may : MayRema
     then = after_move long from n to m on
 
     -- what is mapped again has the protection, and no other page changes
-    again : (o : Option Prot) (page : ℕ) → (within from n page ≡ true → prots (mapped_again long p from (from + n) o then) page ≡ o)
-        × (within from n page ≡ false → prots (mapped_again long p from (from + n) o then) page ≡ prots then page)
+    again : (o : Option Prot) (page : ℕ) → (within from n page ≡ true → prots (with_old_range long p from (from + n) o then) page ≡ o)
+        × (within from n page ≡ false → prots (with_old_range long p from (from + n) o then) page ≡ prots then page)
     again None page = (
       λ i. let b = range_bounds from n page i in ap (option_map area_prot) (none_after_move long from n to m on laid move page b.0 b.1),
       λ i. refl,
@@ -235,10 +235,10 @@ module _ (w : World) (p a old new : ℕ) (mode : Mode) (to : ℕ) (may : MayRema
         mapped = prots_mapped long p from (from + n) prot then (laid_then long p from n to m on laid move)
             (let s = some w p a old new mode to may goes in omega (arith, s)) (room long p from n to m on laid move) page
 
-    prots_there : (page : ℕ) → prots (mapped_again long p from (from + n) left then) page ≡ prot_at (remapped from n to m left q) page
+    prots_there : (page : ℕ) → prots (with_old_range long p from (from + n) left then) page ≡ prot_at (process_after_mremap from n to m left q) page
     prots_there page = by (within to m page) (within from n page) (nat_lt (page - to) n) refl refl refl
       where
-        keeps : within from n page ≡ false → prots (mapped_again long p from (from + n) left then) page ≡ prots then page
+        keeps : within from n page ≡ false → prots (with_old_range long p from (from + n) left then) page ≡ prots then page
         keeps i = (again left page).1 i
 
         apart : within to m page ≡ true → within from n page ≡ false
@@ -247,7 +247,7 @@ module _ (w : World) (p a old new : ℕ) (mode : Mode) (to : ℕ) (may : MayRema
             out_of_range from n page (λ low high. elim move.apart [ inl e ↦ omega (arith, e, b, low) | inr e ↦ omega (arith, e, b, high) ])
 
         by : (i j k : Bool) → within to m page ≡ i → within from n page ≡ j → nat_lt (page - to) n ≡ k
-            → prots (mapped_again long p from (from + n) left then) page ≡ prot_at (remapped from n to m left q) page
+            → prots (with_old_range long p from (from + n) left then) page ≡ prot_at (process_after_mremap from n to m left q) page
         by true j true i f k =
             let b = range_bounds to m page i in
             let less = ltb-true (page - to) n k in
@@ -269,11 +269,11 @@ module _ (w : World) (p a old new : ℕ) (mode : Mode) (to : ℕ) (may : MayRema
   pub laid_becomes : AreLaid (after_mremap long p from n to m left on)
   laid_becomes = laid_remapped long p from n to m left on laid becomes
 
-  pub prots_become : (page : ℕ) → prots (after_mremap long p from n to m left on) page ≡ prot_at (remapped from n to m left q) page
+  pub prots_become : (page : ℕ) → prots (after_mremap long p from n to m left on) page ≡ prot_at (process_after_mremap from n to m left q) page
   prots_become page = by (to == from) refl
     where
       by : (b : Bool) → (to == from) ≡ b
-          → prots (cond b (after_resize long from n m on) (mapped_again long p from (from + n) left (after_move long from n to m on))) page
-          ≡ prot_at (remapped from n to m left q) page
+          → prots (cond b (after_resize long from n m on) (with_old_range long p from (from + n) left (after_move long from n to m on))) page
+          ≡ prot_at (process_after_mremap from n to m left q) page
       by true here = prots_here here page
       by false there = prots_there there page

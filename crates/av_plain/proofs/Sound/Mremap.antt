@@ -8,7 +8,7 @@ use Rattle.av_base.specs.declared.prot.Prot.{Prot}
 use Rattle.av_base.specs.declared.slot.Slot.{Slot}
 use Rattle.av_plain.specs.Event.{after_all, after_move, put_all}
 use Rattle.av_plain.specs.Ledger.{Entry, Ledger, Setting, entry, key_cmp, map_count, names_frame, names_slot, slot_entries}
-use Rattle.av_plain.specs.Mremap.{prot_at, remap_events, remapped}
+use Rattle.av_plain.specs.Mremap.{prot_at, remap_events, process_after_mremap}
 use Rattle.av_plain.specs.Sound.{AtPages, IsSound}
 use Rattle.av_plain.specs.World.{Page, Process, World, pages, zeros}
 use Rattle.av_plain.specs.Zap.{keys_in}
@@ -131,7 +131,7 @@ module _ (q : Process) (from n to k : ℕ) (left : Option Prot) (first : is_some
 
   -- a page that keeps or gets an entry
   pub remapped-some : (page : ℕ) → (within to k page ≡ true → nat_lt (page - to) n ≡ true → is_some (q (from + (page - to))) ≡ true)
-      → (within to k page ≡ false → (within from n page ≡ false) × (is_some (q page) ≡ true)) → is_some (remapped from n to k left q page) ≡ true
+      → (within to k page ≡ false → (within from n page ≡ false) × (is_some (q page) ≡ true)) → is_some (process_after_mremap from n to k left q page) ≡ true
   remapped-some page moves stays = by (within to k page) refl
     where
       inside : (b : Bool) → nat_lt (page - to) n ≡ b → within to k page ≡ true
@@ -149,7 +149,7 @@ module _ (w : World) (l : Ledger) (p from n to k : ℕ) (left : Option Prot) (so
     (first : is_some (pages w p from) ≡ true) where
   -- an entry of the process is at a page that it has then
   pub remap-here : (page : ℕ) → is_some (entry (after_all l (remap_events l p from n to k)) (p, page)) ≡ true
-      → is_some (remapped from n to k left (pages w p) page) ≡ true
+      → is_some (process_after_mremap from n to k left (pages w p) page) ≡ true
   remap-here page h = by (to == from) refl
     where
       q : Process
@@ -165,7 +165,7 @@ module _ (w : World) (l : Ledger) (p from n to k : ℕ) (left : Option Prot) (so
       kept true o h = cc
       kept false o h = (refl, h)
 
-      in_place : (to == from) ≡ true → is_some (remapped from n to k left q page) ≡ true
+      in_place : (to == from) ≡ true → is_some (process_after_mremap from n to k left q page) ≡ true
       in_place here =
           let was = kept (p == p && within (from + k) (n - k) page) (entry l (p, page))
           (ap is_some (sym (ap (λ l. entry l (p, page)) (after-in_place l p from n to k here) ∙ entry-range l p (from + k) (n - k) p page)) ∙ h) in
@@ -186,7 +186,7 @@ module _ (w : World) (l : Ledger) (p from n to k : ℕ) (left : Option Prot) (so
       of_p : (b : Bool) → (p == p && b) ≡ false → b ≡ false
       of_p b h = grind (arith, nat_tests, h)
 
-      elsewhere : (to == from) ≡ false → is_some (remapped from n to k left q page) ≡ true
+      elsewhere : (to == from) ≡ false → is_some (process_after_mremap from n to k left q page) ≡ true
       elsewhere there =
           let e = some_is (entry (after_all l (remap_events l p from n to k)) (p, page)) h in
           let c = remap-came l p from n to k sorted there p page e.0 e.1 in
@@ -195,14 +195,14 @@ module _ (w : World) (l : Ledger) (p from n to k : ℕ) (left : Option Prot) (so
           moves : (was : ℕ) → is_some (q was) ≡ true
               → ((p == p) ≡ true) × (within to (min n k) page ≡ true) × (was ≡ page - to + from)
               ⊎ (in_range p from n (p, page) ≡ false) × (in_range p to k (p, page) ≡ false) × (was ≡ page)
-              → is_some (remapped from n to k left q page) ≡ true
+              → is_some (process_after_mremap from n to k left q page) ≡ true
           moves was mapped (inl x) = remapped-some q from n to k left first page
               (λ _ _. subst (λ y. is_some (q y) ≡ true) (x.2 ∙ turned (page - to) from) mapped) (λ i. absurd (whole x.1 i))
           moves was mapped (inr x) = remapped-some q from n to k left first page
               (λ i _. absurd (false≢true (sym (of_p (within to k page) x.1) ∙ i)))
               (λ i. (of_p (within from n page) x.0, subst (λ y. is_some (q y) ≡ true) x.2 mapped))
 
-      by : (b : Bool) → (to == from) ≡ b → is_some (remapped from n to k left q page) ≡ true
+      by : (b : Bool) → (to == from) ≡ b → is_some (process_after_mremap from n to k left q page) ≡ true
       by true here = in_place here
       by false there = elsewhere there
 
