@@ -105,6 +105,7 @@ module _ (a v : ℕ) (users : ℕ → List ℕ) (gone : List ℕ) (info now : �
           ]
 
   -- it goes or stays, by its other users
-  pub one_left : (alone : Bool) → alone ≡ has_no_other a users v → (w : ℕ) → cond alone (without_anon v now) now w ≡ info_without a users (gone ++ v ∷ []) info w
+  pub one_left : (alone : Bool) → alone ≡ has_no_other a users v → (w : ℕ) →
+      cond alone (without_anon v now) now w ≡ info_without a users (gone ++ v ∷ []) info w
   one_left true e w = one_goes (sym e) w
   one_left false e w = one_stays (sym e) w

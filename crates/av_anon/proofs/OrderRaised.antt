@@ -34,7 +34,8 @@ module _ (areas : ℕ → Option Area) (f : Family) (spans : ℕ
     → List Span) (o : IsInOrder areas f spans) (a : ℕ) (A : Area) (isA : areas a ≡ Some A) (none : A.anon ≡ None) where
   pub raised_keeps : (v : ℕ) (vs : List ℕ) (spans' : ℕ → List Span) → IsChain f.info f.next (Some v) vs → ((b : ℕ) → own_of (areas b) ≡ Some v
       → f.chain b ≡ vs)
-      → GoWithLinks (give_own a (Some v) areas) (with_at a vs f.chain) spans' → IsInOrder (give_own a (Some v) areas) (with_links a vs (with_active_area v f)) spans'
+      → GoWithLinks (give_own a (Some v) areas) (with_at a vs f.chain) spans' →
+      IsInOrder (give_own a (Some v) areas) (with_links a vs (with_active_area v f)) spans'
   raised_keeps v vs spans' mine alike spanned =
       let x = changed_extends v more_active f.info (λ i. refl) (λ i. refl) in
       joined_keeps areas f spans o a A isA none v vs f.next (with_info v more_active f.info) spans' x (omega arith)

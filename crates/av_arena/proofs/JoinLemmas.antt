@@ -15,7 +15,8 @@ use Rattle.av_arena.proofs.TreeLemmas.{is_same, key_left, key_right, with_at_sam
 
 -- lists
 module _ {A : Type 0} (key : A → ℕ) where
-  swap_cases : (a b : ℕ) (y : A) (t u v w : List A) → (a ≡ b → ⊥) → (p q : Bool) → eqb (key y) a ≡ p → eqb (key y) b ≡ q → u ≡ without_key key b t → v ≡ without_key key a t → without_key key a u ≡ without_key key b v → without_key key a (cond q t (y ∷ u)) ≡ without_key key b (cond p t (y ∷ v))
+  swap_cases : (a b : ℕ) (y : A) (t u v w : List A) → (a ≡ b → ⊥) → (p q : Bool) → eqb (key y) a ≡ p → eqb (key y) b ≡ q → u ≡ without_key key b t →
+      v ≡ without_key key a t → without_key key a u ≡ without_key key b v → without_key key a (cond q t (y ∷ u)) ≡ without_key key b (cond p t (y ∷ v))
   swap_cases a b y t u v w apart true true e f g h i = absurd (apart (sym (eqb-true (key y) a e) ∙ eqb-true (key y) b f))
   swap_cases a b y t u v w apart true false e f g h i = rw (e) g
   swap_cases a b y t u v w apart false true e f g h i = sym (rw (f) h)
@@ -24,9 +25,11 @@ module _ {A : Type 0} (key : A → ℕ) where
   -- two keys go in either order
   pub without_swap : (a b : ℕ) → (a ≡ b → ⊥) → (t : List A) → without_key key a (without_key key b t) ≡ without_key key b (without_key key a t)
   without_swap a b apart [] = refl
-  without_swap a b apart (y ∷ t) = swap_cases a b y t (without_key key b t) (without_key key a t) t apart (eqb (key y) a) (eqb (key y) b) refl refl refl refl (without_swap a b apart t)
+  without_swap a b apart (y ∷ t) = swap_cases a b y t (without_key key b t) (without_key key a t) t apart (eqb (key y) a) (eqb (key y) b) refl refl
+      refl refl (without_swap a b apart t)
 
-  gone_cases : (k : ℕ) (y : A) (t u : List A) (b : Bool) → eqb (key y) k ≡ b → AllOf (λ z. key y < key z) t → AllOf (λ z. key z ≡ k → ⊥) u → AllOf (λ z. key z ≡ k → ⊥) (cond b t (y ∷ u))
+  gone_cases : (k : ℕ) (y : A) (t u : List A) (b : Bool) → eqb (key y) k ≡ b → AllOf (λ z. key y < key z) t → AllOf (λ z. key z ≡ k → ⊥) u →
+      AllOf (λ z. key z ≡ k → ⊥) (cond b t (y ∷ u))
   gone_cases k y t u true e up a = let same = eqb-true (key y) k e in AllOf-map (λ z. key y < key z) (λ z. key z ≡ k → ⊥) (λ z p q. absurd (omega arith)) t up
   gone_cases k y t u false e up a = (λ q. both_ways (eqb (key y) k) e (eq-eqb (key y) k q), a)
 
@@ -54,32 +57,41 @@ module _ {A : Type 0} (key : A → ℕ) where
   all_both P Q R f (y ∷ l) a b = (f y a.0 b.0, all_both P Q R f l a.1 b.1)
 
   -- the root is the lower one, and the upper one goes
-  pub joined_lower : (x y z w : A) (xs l r : List A) → IsRising key xs → key z ≡ key x → key w ≡ key x → l ++ w ∷ r ≡ without_key key (key y) xs → l ++ z ∷ r ≡ with_joined key x y z xs
+  pub joined_lower : (x y z w : A) (xs l r : List A) → IsRising key xs → key z ≡ key x → key w ≡ key x → l ++ w ∷ r ≡ without_key key (key y) xs →
+      l ++ z ∷ r ≡ with_joined key x y z xs
   joined_lower x y z w xs l r up same at e =
       let up' : IsRising key (l ++ w ∷ r) = rw e (rising_without key (key y) xs up) in
       let zw : key z ≡ key w = same ∙ sym at in
-      sym (ap (λ t. with_entry key z (without_key key (key x) t)) (sym e) ∙ (ap (with_entry key z) (without_middle key (key x) w l r at up') ∙ with_between key z w l r zw up'))
+      sym (ap (λ t. with_entry key z (without_key key (key x) t)) (sym e)
+      ∙ (ap (with_entry key z) (without_middle key (key x) w l r at up') ∙ with_between key z w l r zw up'))
 
   -- the root is the upper one, and the lower one goes
-  pub joined_upper : (x y z w : A) (xs l r : List A) → IsRising key xs → key x < key y → NoneWithin key (key x) (key y) xs → key z ≡ key x → key w ≡ key y → l ++ w ∷ r ≡ without_key key (key x) xs → l ++ z ∷ r ≡ with_joined key x y z xs
+  pub joined_upper : (x y z w : A) (xs l r : List A) → IsRising key xs → key x < key y → NoneWithin key (key x) (key y) xs → key z ≡ key x → key w ≡ key y →
+      l ++ w ∷ r ≡ without_key key (key x) xs → l ++ z ∷ r ≡ with_joined key x y z xs
   joined_upper x y z w xs l r up after next same at e =
       let up' : IsRising key (l ++ w ∷ r) = rw e (rising_without key (key x) xs up) in
       let others : AllOf (λ o. key o ≡ key x → ⊥) (l ++ w ∷ r) = rw e (gone (key x) xs up) in
-      let near : AllOf (λ o. (key o ≤ key x) ⊎ (key y ≤ key o)) (l ++ w ∷ r) = rw e (all_without key (λ o. (key o ≤ key x) ⊎ (key y ≤ key o)) (key x) xs next) in
-      let below : AllOf (λ o. key o ≤ key x) l = all_both (λ o. (key o ≤ key x) ⊎ (key y ≤ key o)) (λ o. key o < key w) (λ o. key o ≤ key x) (λ o p q. elim p [ inl i ↦ i | inr i ↦ absurd (omega arith) ]) l (AllOf-front _ l (w ∷ r) near) (all_lower l w r up') in
-      let lower : AllOf (λ o. key o < key z) l = all_both (λ o. key o ≤ key x) (λ o. key o ≡ key x → ⊥) (λ o. key o < key z) (λ o p q. omega arith) l below (AllOf-front _ l (w ∷ r) others) in
+      let near : AllOf (λ o. (key o ≤ key x) ⊎ (key y ≤ key o)) (l ++ w ∷ r) =
+      rw e (all_without key (λ o. (key o ≤ key x) ⊎ (key y ≤ key o)) (key x) xs next) in
+      let below : AllOf (λ o. key o ≤ key x) l = all_both (λ o. (key o ≤ key x) ⊎ (key y ≤ key o)) (λ o. key o < key w) (λ o. key o ≤ key x)
+      (λ o p q. elim p [ inl i ↦ i | inr i ↦ absurd (omega arith) ]) l (AllOf-front _ l (w ∷ r) near) (all_lower l w r up') in
+      let lower : AllOf (λ o. key o < key z) l = all_both (λ o. key o ≤ key x) (λ o. key o ≡ key x → ⊥) (λ o. key o < key z) (λ o p q. omega arith) l below
+      (AllOf-front _ l (w ∷ r) others) in
       let up'' : IsRising key (l ++ z ∷ r) = rising_put l w z r up' (omega arith) lower in
-      let is : without_key key (key x) (without_key key (key y) xs) ≡ l ++ r = without_swap (key x) (key y) (λ d. absurd (omega arith)) xs ∙ (ap (without_key key (key y)) (sym e) ∙ without_middle key (key y) w l r at up') in
+      let is : without_key key (key x) (without_key key (key y) xs) ≡ l ++ r = without_swap (key x) (key y) (λ d. absurd (omega arith)) xs
+      ∙ (ap (without_key key (key y)) (sym e) ∙ without_middle key (key y) w l r at up') in
       sym (ap (with_entry key z) is ∙ with_between key z z l r refl up'')
 
-  pub joined_left : (x y z v : A) (l r : List A) → IsRising key (l ++ v ∷ r) → key x < key y → key z ≡ key x → key y < key v → with_joined key x y z (l ++ v ∷ r) ≡ with_joined key x y z l ++ v ∷ r
+  pub joined_left : (x y z v : A) (l r : List A) → IsRising key (l ++ v ∷ r) → key x < key y → key z ≡ key x → key y < key v →
+      with_joined key x y z (l ++ v ∷ r) ≡ with_joined key x y z l ++ v ∷ r
   joined_left x y z v l r up after same lt =
       let a = without_left key (key y) v l r lt up in
       let up' : IsRising key (without_key key (key y) l ++ v ∷ r) = subst (IsRising key) a (rising_without key (key y) _ up) in
       let b = without_left key (key x) v (without_key key (key y) l) r (omega arith) up' in
       ap (λ t. with_entry key z (without_key key (key x) t)) a ∙ (ap (with_entry key z) b ∙ with_left key z v _ r (omega arith))
 
-  pub joined_right : (x y z v : A) (l r : List A) → IsRising key (l ++ v ∷ r) → key x < key y → key z ≡ key x → key v < key x → with_joined key x y z (l ++ v ∷ r) ≡ l ++ v ∷ with_joined key x y z r
+  pub joined_right : (x y z v : A) (l r : List A) → IsRising key (l ++ v ∷ r) → key x < key y → key z ≡ key x → key v < key x →
+      with_joined key x y z (l ++ v ∷ r) ≡ l ++ v ∷ with_joined key x y z r
   joined_right x y z v l r up after same lt =
       let a = without_right key (key y) v l r (omega arith) up in
       let up' : IsRising key (l ++ v ∷ without_key key (key y) r) = subst (IsRising key) a (rising_without key (key y) _ up) in
@@ -97,33 +109,50 @@ module _ {T S : Type 0} (key : T → ℕ) (unit : S) (op : S → S → S) (of : 
   right_entry_put l None = refl
   right_entry_put l (Some v) = refl
 
-  pub left_entry_same : (s t : Store T S) (n : ℕ) (k : Link S) (v : Stored T S) (side : ℕ) (c : Bool) (xs : List T) (f g : ℕ → ℕ) (lower higher : ℕ) → IsLeftStep key unit op of laws s t k v side c xs f g lower higher → k.number ≡ n → entry_below (t n) ≡ entry_below (s n)
+  pub left_entry_same : (s t : Store T S) (n : ℕ) (k : Link S) (v : Stored T S) (side : ℕ) (c : Bool) (xs : List T) (f g : ℕ → ℕ) (lower higher : ℕ) →
+      IsLeftStep key unit op of laws s t k v side c xs f g lower higher → k.number ≡ n → entry_below (t n) ≡ entry_below (s n)
   left_entry_same s t n k v side c xs f g lower higher p e =
-      let stay : t k.number ≡ s k.number = p.changed.above.kept k.number (let i = p.once k.number in let j = is_same key unit op of laws k.number in omega arith) in
+      let stay : t k.number ≡ s k.number = p.changed.above.kept k.number (let i = p.once k.number in
+      let j = is_same key unit op of laws k.number in omega arith) in
       subst (λ i. entry_below (t i) ≡ entry_below (s i)) e (ap entry_below stay)
 
-  pub right_entry_same : (s t : Store T S) (n : ℕ) (k : Link S) (v : Stored T S) (side : ℕ) (c : Bool) (xs : List T) (f g : ℕ → ℕ) (lower higher : ℕ) → IsRightStep key unit op of laws s t k v side c xs f g lower higher → k.number ≡ n → entry_below (t n) ≡ entry_below (s n)
+  pub right_entry_same : (s t : Store T S) (n : ℕ) (k : Link S) (v : Stored T S) (side : ℕ) (c : Bool) (xs : List T) (f g : ℕ → ℕ) (lower higher : ℕ) →
+      IsRightStep key unit op of laws s t k v side c xs f g lower higher → k.number ≡ n → entry_below (t n) ≡ entry_below (s n)
   right_entry_same s t n k v side c xs f g lower higher p e =
-      let stay : t k.number ≡ s k.number = p.changed.above.kept k.number (let i = p.once k.number in let j = is_same key unit op of laws k.number in omega arith) in
+      let stay : t k.number ≡ s k.number = p.changed.above.kept k.number (let i = p.once k.number in
+      let j = is_same key unit op of laws k.number in omega arith) in
       subst (λ i. entry_below (t i) ≡ entry_below (s i)) e (ap entry_below stay)
 
-  pub left_entry : (s t u : Store T S) (n : ℕ) (k : Link S) (v : Stored T S) (side : ℕ) (c b : Bool) (xs : List T) (f g : ℕ → ℕ) (lower higher : ℕ) → IsLeftStep key unit op of laws s t k v side c xs f g lower higher → k.number ≡ n → IsLeftSettled key unit op of t u n side b → entry_below (u n) ≡ entry_below (s n)
+  pub left_entry : (s t u : Store T S) (n : ℕ) (k : Link S) (v : Stored T S) (side : ℕ) (c b : Bool) (xs : List T) (f g : ℕ → ℕ) (lower higher : ℕ) →
+      IsLeftStep key unit op of laws s t k v side c xs f g lower higher → k.number ≡ n → IsLeftSettled key unit op of t u n side b →
+      entry_below (u n) ≡ entry_below (s n)
   left_entry s t u n k v side c b xs f g lower higher p e set =
-      let set' : IsLeftSettled key unit op of t u k.number p.child.child.number b = subst (λ i. IsLeftSettled key unit op of t u k.number i b) (sym p.child.number) (subst (λ i. IsLeftSettled key unit op of t u i side b) (sym e) set) in
+      let set' : IsLeftSettled key unit op of t u k.number p.child.child.number b = subst (λ i. IsLeftSettled key unit op of t u k.number i b)
+      (sym p.child.number) (subst (λ i. IsLeftSettled key unit op of t u i side b) (sym e) set) in
       let d = done_settled key unit op of laws s t set'.between p.child.child set'.link c xs f g lower higher p.changed set'.settled in
-      let stay : set'.between k.number ≡ s k.number = d.tree.kept k.number (let i = p.once k.number in let j = is_same key unit op of laws k.number in omega arith) in
-      let put : u k.number ≡ left_put (Some set'.link) (set'.between k.number) = ap (λ (q : Store T S). q k.number) set'.told ∙ with_at_same key unit op of laws k.number _ set'.between in
-      subst (λ i. entry_below (u i) ≡ entry_below (s i)) e (ap entry_below put ∙ (left_entry_put (Some set'.link) (set'.between k.number) ∙ ap entry_below stay))
+      let stay : set'.between k.number ≡ s k.number = d.tree.kept k.number (let i = p.once k.number in
+      let j = is_same key unit op of laws k.number in omega arith) in
+      let put : u k.number ≡ left_put (Some set'.link) (set'.between k.number) = ap (λ (q : Store T S). q k.number) set'.told
+      ∙ with_at_same key unit op of laws k.number _ set'.between in
+      subst (λ i. entry_below (u i) ≡ entry_below (s i)) e (ap entry_below put
+      ∙ (left_entry_put (Some set'.link) (set'.between k.number) ∙ ap entry_below stay))
 
-  pub right_entry : (s t u : Store T S) (n : ℕ) (k : Link S) (v : Stored T S) (side : ℕ) (c b : Bool) (xs : List T) (f g : ℕ → ℕ) (lower higher : ℕ) → IsRightStep key unit op of laws s t k v side c xs f g lower higher → k.number ≡ n → IsRightSettled key unit op of t u n side b → entry_below (u n) ≡ entry_below (s n)
+  pub right_entry : (s t u : Store T S) (n : ℕ) (k : Link S) (v : Stored T S) (side : ℕ) (c b : Bool) (xs : List T) (f g : ℕ → ℕ) (lower higher : ℕ) →
+      IsRightStep key unit op of laws s t k v side c xs f g lower higher → k.number ≡ n → IsRightSettled key unit op of t u n side b →
+      entry_below (u n) ≡ entry_below (s n)
   right_entry s t u n k v side c b xs f g lower higher p e set =
-      let set' : IsRightSettled key unit op of t u k.number p.child.child.number b = subst (λ i. IsRightSettled key unit op of t u k.number i b) (sym p.child.number) (subst (λ i. IsRightSettled key unit op of t u i side b) (sym e) set) in
+      let set' : IsRightSettled key unit op of t u k.number p.child.child.number b = subst (λ i. IsRightSettled key unit op of t u k.number i b)
+      (sym p.child.number) (subst (λ i. IsRightSettled key unit op of t u i side b) (sym e) set) in
       let d = done_settled key unit op of laws s t set'.between p.child.child set'.link c xs f g lower higher p.changed set'.settled in
-      let stay : set'.between k.number ≡ s k.number = d.tree.kept k.number (let i = p.once k.number in let j = is_same key unit op of laws k.number in omega arith) in
-      let put : u k.number ≡ right_put (Some set'.link) (set'.between k.number) = ap (λ (q : Store T S). q k.number) set'.told ∙ with_at_same key unit op of laws k.number _ set'.between in
-      subst (λ i. entry_below (u i) ≡ entry_below (s i)) e (ap entry_below put ∙ (right_entry_put (Some set'.link) (set'.between k.number) ∙ ap entry_below stay))
+      let stay : set'.between k.number ≡ s k.number = d.tree.kept k.number (let i = p.once k.number in
+      let j = is_same key unit op of laws k.number in omega arith) in
+      let put : u k.number ≡ right_put (Some set'.link) (set'.between k.number) = ap (λ (q : Store T S). q k.number) set'.told
+      ∙ with_at_same key unit op of laws k.number _ set'.between in
+      subst (λ i. entry_below (u i) ≡ entry_below (s i)) e (ap entry_below put
+      ∙ (right_entry_put (Some set'.link) (set'.between k.number) ∙ ap entry_below stay))
 
-  pub left_entry_taken : (s u : Store T S) (n : ℕ) (v : Stored T S) (side : ℕ) (x : T) → HasKeyBelow key unit op of s n x → s n ≡ Some v → left_number (s n) ≡ Some side → key x < key v.entry → IsLeftTaken key unit op of s u n side x → entry_below (u n) ≡ entry_below (s n)
+  pub left_entry_taken : (s u : Store T S) (n : ℕ) (v : Stored T S) (side : ℕ) (x : T) → HasKeyBelow key unit op of s n x → s n ≡ Some v →
+      left_number (s n) ≡ Some side → key x < key v.entry → IsLeftTaken key unit op of s u n side x → entry_below (u n) ≡ entry_below (s n)
   left_entry_taken s u n v side x h e d lt w =
       let k = h.link in
       let o = opened_at key unit op of laws s n k v h.number h.there.held e in
@@ -131,11 +160,13 @@ module _ {T S : Type 0} (key : T → ℕ) (unit : S) (op : S → S → S) (of : 
       let has = key_left key unit op of laws s k v x h.there o lt in
       let got = w.taken m.child m.number (subst (λ l. HasKey key unit op of s l x) m.is has) in
       let tree = subst (λ l. IsWithout key unit op of s w.between l (without_key key (key x) (entries (tree_at s l))) side w.rest) (sym m.is) got.0 in
-      let stay : w.between k.number ≡ s k.number = tree.kept k.number (let i = o.once k.number in let j = is_same key unit op of laws k.number in omega arith) in
+      let stay : w.between k.number ≡ s k.number = tree.kept k.number (let i = o.once k.number in
+      let j = is_same key unit op of laws k.number in omega arith) in
       let put : u n ≡ left_put w.rest (w.between n) = ap (λ (q : Store T S). q n) w.told ∙ with_at_same key unit op of laws n _ w.between in
       ap entry_below put ∙ (left_entry_put w.rest (w.between n) ∙ ap entry_below (subst (λ i. w.between i ≡ s i) h.number stay))
 
-  pub right_entry_taken : (s u : Store T S) (n : ℕ) (v : Stored T S) (side : ℕ) (x : T) → HasKeyBelow key unit op of s n x → s n ≡ Some v → right_number (s n) ≡ Some side → key v.entry < key x → IsRightTaken key unit op of s u n side x → entry_below (u n) ≡ entry_below (s n)
+  pub right_entry_taken : (s u : Store T S) (n : ℕ) (v : Stored T S) (side : ℕ) (x : T) → HasKeyBelow key unit op of s n x → s n ≡ Some v →
+      right_number (s n) ≡ Some side → key v.entry < key x → IsRightTaken key unit op of s u n side x → entry_below (u n) ≡ entry_below (s n)
   right_entry_taken s u n v side x h e d lt w =
       let k = h.link in
       let o = opened_at key unit op of laws s n k v h.number h.there.held e in
@@ -143,27 +174,40 @@ module _ {T S : Type 0} (key : T → ℕ) (unit : S) (op : S → S → S) (of : 
       let has = key_right key unit op of laws s k v x h.there o lt in
       let got = w.taken m.child m.number (subst (λ l. HasKey key unit op of s l x) m.is has) in
       let tree = subst (λ l. IsWithout key unit op of s w.between l (without_key key (key x) (entries (tree_at s l))) side w.rest) (sym m.is) got.0 in
-      let stay : w.between k.number ≡ s k.number = tree.kept k.number (let i = o.once k.number in let j = is_same key unit op of laws k.number in omega arith) in
+      let stay : w.between k.number ≡ s k.number = tree.kept k.number (let i = o.once k.number in
+      let j = is_same key unit op of laws k.number in omega arith) in
       let put : u n ≡ right_put w.rest (w.between n) = ap (λ (q : Store T S). q n) w.told ∙ with_at_same key unit op of laws n _ w.between in
       ap entry_below put ∙ (right_entry_put w.rest (w.between n) ∙ ap entry_below (subst (λ i. w.between i ≡ s i) h.number stay))
 
   -- the neighbours on the left
-  join_left_for : (s : Store T S) (k : Link S) (v : Stored T S) (x y z : T) → IsJoinFor key unit op of s (Some k) x y z → IsOpened key unit op of s k v → key y < key v.entry → IsJoinFor key unit op of s v.left x y z
+  join_left_for : (s : Store T S) (k : Link S) (v : Stored T S) (x y z : T) → IsJoinFor key unit op of s (Some k) x y z → IsOpened key unit op of s k v →
+      key y < key v.entry → IsJoinFor key unit op of s v.left x y z
   join_left_for s k v x y z h o lt =
       let a = entries (tree_at s v.left) in
       let b = entries (tree_at s v.right) in
       let next : NoneWithin key (key x) (key y) (a ++ v.entry ∷ b) = rw o.tree at h.next in
       let after = h.after in
-      record { has = key_left key unit op of laws s k v x h.has o (omega arith); too = key_left key unit op of laws s k v y h.too o lt; after = h.after; next = AllOf-front (λ w. (key w ≤ key x) ⊎ (key y ≤ key w)) a (v.entry ∷ b) next; same = h.same }
+      record {
+        has = key_left key unit op of laws s k v x h.has o (omega arith);
+        too = key_left key unit op of laws s k v y h.too o lt;
+        after = h.after;
+        next = AllOf-front (λ w. (key w ≤ key x) ⊎ (key y ≤ key w)) a (v.entry ∷ b) next;
+        same = h.same;
+      }
 
-  join_left_is : (s : Store T S) (k : Link S) (v : Stored T S) (x y z : T) → IsJoinFor key unit op of s (Some k) x y z → IsOpened key unit op of s k v → key y < key v.entry → with_joined key x y z (entries (tree_at s v.left)) ++ v.entry ∷ entries (tree_at s v.right) ≡ with_joined key x y z (entries (tree_at s (Some k)))
+  join_left_is : (s : Store T S) (k : Link S) (v : Stored T S) (x y z : T) → IsJoinFor key unit op of s (Some k) x y z → IsOpened key unit op of s k v →
+      key y < key v.entry → with_joined key x y z (entries (tree_at s v.left)) ++ v.entry ∷ entries (tree_at s v.right) ≡ with_joined key x y z
+      (entries (tree_at s (Some k)))
   join_left_is s k v x y z h o lt =
       let a = entries (tree_at s v.left) in
       let b = entries (tree_at s v.right) in
       let up : IsRising key (a ++ v.entry ∷ b) = rw o.tree at h.has.rising in
       sym (joined_left key x y z v.entry a b up h.after h.same lt) ∙ rw o.tree refl
 
-  pub join_left_step : (s t : Store T S) (n out : ℕ) (k : Link S) (v : Stored T S) (side : ℕ) (x y z : T) (c : Bool) → k.number ≡ n → IsJoinFor key unit op of s (Some k) x y z → s n ≡ Some v → left_number (s n) ≡ Some side → key y < key v.entry → IsJoinedBelow key unit op of s t side x y z out c → IsLeftStep key unit op of laws s t k v side c (with_joined key x y z (entries (tree_at s v.left))) (λ j. count j (tree_at s v.left)) (is out) 1 0
+  pub join_left_step : (s t : Store T S) (n out : ℕ) (k : Link S) (v : Stored T S) (side : ℕ) (x y z : T) (c : Bool) → k.number ≡ n →
+      IsJoinFor key unit op of s (Some k) x y z → s n ≡ Some v → left_number (s n) ≡ Some side → key y < key v.entry →
+      IsJoinedBelow key unit op of s t side x y z out c → IsLeftStep key unit op of laws s t k v side c (with_joined key x y z (entries (tree_at s v.left)))
+      (λ j. count j (tree_at s v.left)) (is out) 1 0
   join_left_step s t n out k v side x y z c p h e d lt below =
       let o = opened_at key unit op of laws s n k v p h.has.held e in
       let m = left_child key unit op of laws s n k v side e d in
@@ -171,46 +215,70 @@ module _ {T S : Type 0} (key : T → ℕ) (unit : S) (op : S → S → S) (of : 
       record {
         child = m;
         opened = o;
-        changed = subst (λ l. IsChanged key unit op of s t m.child c (with_joined key x y z (entries (tree_at s l))) (λ j. count j (tree_at s l)) (is out) 1 0) (sym m.is) (below m.child m.number (subst (λ l. IsJoinFor key unit op of s l x y z) m.is for));
+        changed = subst (λ l. IsChanged key unit op of s t m.child c (with_joined key x y z (entries (tree_at s l))) (λ j. count j (tree_at s l)) (is out) 1 0)
+            (sym m.is) (below m.child m.number (subst (λ l. IsJoinFor key unit op of s l x y z) m.is for));
         once = o.once;
         few = omega arith;
       }
 
-  pub join_left_same : (s t : Store T S) (n out : ℕ) (v : Stored T S) (side : ℕ) (x y z : T) (c : Bool) → s n ≡ Some v → left_number (s n) ≡ Some side → key y < key v.entry → IsJoinedBelow key unit op of s t side x y z out c → c ≡ false → IsJoinedBelow key unit op of s t n x y z out false
+  pub join_left_same : (s t : Store T S) (n out : ℕ) (v : Stored T S) (side : ℕ) (x y z : T) (c : Bool) → s n ≡ Some v → left_number (s n) ≡ Some side →
+      key y < key v.entry → IsJoinedBelow key unit op of s t side x y z out c → c ≡ false → IsJoinedBelow key unit op of s t n x y z out false
   join_left_same s t n out v side x y z c e d lt below same k p h =
       let st = join_left_step s t n out k v side x y z c p h e d lt below in
-      rechanged key unit op of laws s t k false _ _ _ _ (is out) 1 0 (left_unchanged key unit op of laws s t k v side c _ _ (is out) 1 0 st same) (join_left_is s k v x y z h st.opened lt) (λ j. rw st.opened.tree refl)
+      rechanged key unit op of laws s t k false _ _ _ _ (is out) 1 0 (left_unchanged key unit op of laws s t k v side c _ _ (is out) 1 0 st same)
+      (join_left_is s k v x y z h st.opened lt) (λ j. rw st.opened.tree refl)
 
-  pub join_left_settled : (s t u : Store T S) (n out : ℕ) (v : Stored T S) (side : ℕ) (x y z : T) (c b : Bool) → s n ≡ Some v → left_number (s n) ≡ Some side → key y < key v.entry → IsJoinedBelow key unit op of s t side x y z out c → IsLeftSettled key unit op of t u n side b → IsJoinedBelow key unit op of s u n x y z out b
+  pub join_left_settled : (s t u : Store T S) (n out : ℕ) (v : Stored T S) (side : ℕ) (x y z : T) (c b : Bool) → s n ≡ Some v → left_number (s n) ≡ Some side →
+      key y < key v.entry → IsJoinedBelow key unit op of s t side x y z out c → IsLeftSettled key unit op of t u n side b →
+      IsJoinedBelow key unit op of s u n x y z out b
   join_left_settled s t u n out v side x y z c b e d lt below set k p h =
       let st = join_left_step s t n out k v side x y z c p h e d lt below in
-      rechanged key unit op of laws s u k b _ _ _ _ (is out) 1 0 (left_changed key unit op of laws s t u n k v side c b _ _ (is out) 1 0 st p set) (join_left_is s k v x y z h st.opened lt) (λ j. rw st.opened.tree refl)
+      rechanged key unit op of laws s u k b _ _ _ _ (is out) 1 0 (left_changed key unit op of laws s t u n k v side c b _ _ (is out) 1 0 st p set)
+      (join_left_is s k v x y z h st.opened lt) (λ j. rw st.opened.tree refl)
 
-  pub join_left_below : (s : Store T S) (n : ℕ) (v : Stored T S) (side : ℕ) (x y z : T) → IsJoinBelowFor key unit op of s n x y z → s n ≡ Some v → left_number (s n) ≡ Some side → key y < key v.entry → IsJoinBelowFor key unit op of s side x y z
+  pub join_left_below : (s : Store T S) (n : ℕ) (v : Stored T S) (side : ℕ) (x y z : T) → IsJoinBelowFor key unit op of s n x y z → s n ≡ Some v →
+      left_number (s n) ≡ Some side → key y < key v.entry → IsJoinBelowFor key unit op of s side x y z
   join_left_below s n v side x y z b e d lt =
       let o = opened_at key unit op of laws s n b.link v b.number b.join.has.held e in
       let m = left_child key unit op of laws s n b.link v side e d in
       let h : height_of v.left ≡ m.child.height = ap height_of m.is in
       let low = b.low in let g = o.height in
-      record { link = m.child; number = m.number; join = subst (λ l. IsJoinFor key unit op of s l x y z) m.is (join_left_for s b.link v x y z b.join o lt); low = omega arith }
+      record {
+        link = m.child;
+        number = m.number;
+        join = subst (λ l. IsJoinFor key unit op of s l x y z) m.is (join_left_for s b.link v x y z b.join o lt);
+        low = omega arith;
+      }
 
   -- the neighbours on the right
-  join_right_for : (s : Store T S) (k : Link S) (v : Stored T S) (x y z : T) → IsJoinFor key unit op of s (Some k) x y z → IsOpened key unit op of s k v → key v.entry < key x → IsJoinFor key unit op of s v.right x y z
+  join_right_for : (s : Store T S) (k : Link S) (v : Stored T S) (x y z : T) → IsJoinFor key unit op of s (Some k) x y z → IsOpened key unit op of s k v →
+      key v.entry < key x → IsJoinFor key unit op of s v.right x y z
   join_right_for s k v x y z h o lt =
       let a = entries (tree_at s v.left) in
       let b = entries (tree_at s v.right) in
       let next : NoneWithin key (key x) (key y) (a ++ v.entry ∷ b) = rw o.tree at h.next in
       let after = h.after in
-      record { has = key_right key unit op of laws s k v x h.has o lt; too = key_right key unit op of laws s k v y h.too o (omega arith); after = h.after; next = (AllOf-back (λ w. (key w ≤ key x) ⊎ (key y ≤ key w)) a (v.entry ∷ b) next).1; same = h.same }
+      record {
+        has = key_right key unit op of laws s k v x h.has o lt;
+        too = key_right key unit op of laws s k v y h.too o (omega arith);
+        after = h.after;
+        next = (AllOf-back (λ w. (key w ≤ key x) ⊎ (key y ≤ key w)) a (v.entry ∷ b) next).1;
+        same = h.same;
+      }
 
-  join_right_is : (s : Store T S) (k : Link S) (v : Stored T S) (x y z : T) → IsJoinFor key unit op of s (Some k) x y z → IsOpened key unit op of s k v → key v.entry < key x → entries (tree_at s v.left) ++ v.entry ∷ with_joined key x y z (entries (tree_at s v.right)) ≡ with_joined key x y z (entries (tree_at s (Some k)))
+  join_right_is : (s : Store T S) (k : Link S) (v : Stored T S) (x y z : T) → IsJoinFor key unit op of s (Some k) x y z → IsOpened key unit op of s k v →
+      key v.entry < key x → entries (tree_at s v.left) ++ v.entry ∷ with_joined key x y z (entries (tree_at s v.right)) ≡ with_joined key x y z
+      (entries (tree_at s (Some k)))
   join_right_is s k v x y z h o lt =
       let a = entries (tree_at s v.left) in
       let b = entries (tree_at s v.right) in
       let up : IsRising key (a ++ v.entry ∷ b) = rw o.tree at h.has.rising in
       sym (joined_right key x y z v.entry a b up h.after h.same lt) ∙ rw o.tree refl
 
-  pub join_right_step : (s t : Store T S) (n out : ℕ) (k : Link S) (v : Stored T S) (side : ℕ) (x y z : T) (c : Bool) → k.number ≡ n → IsJoinFor key unit op of s (Some k) x y z → s n ≡ Some v → right_number (s n) ≡ Some side → key v.entry < key x → IsJoinedBelow key unit op of s t side x y z out c → IsRightStep key unit op of laws s t k v side c (with_joined key x y z (entries (tree_at s v.right))) (λ j. count j (tree_at s v.right)) (is out) 1 0
+  pub join_right_step : (s t : Store T S) (n out : ℕ) (k : Link S) (v : Stored T S) (side : ℕ) (x y z : T) (c : Bool) → k.number ≡ n →
+      IsJoinFor key unit op of s (Some k) x y z → s n ≡ Some v → right_number (s n) ≡ Some side → key v.entry < key x →
+      IsJoinedBelow key unit op of s t side x y z out c → IsRightStep key unit op of laws s t k v side c (with_joined key x y z (entries (tree_at s v.right)))
+      (λ j. count j (tree_at s v.right)) (is out) 1 0
   join_right_step s t n out k v side x y z c p h e d lt below =
       let o = opened_at key unit op of laws s n k v p h.has.held e in
       let m = right_child key unit op of laws s n k v side e d in
@@ -218,56 +286,78 @@ module _ {T S : Type 0} (key : T → ℕ) (unit : S) (op : S → S → S) (of : 
       record {
         child = m;
         opened = o;
-        changed = subst (λ l. IsChanged key unit op of s t m.child c (with_joined key x y z (entries (tree_at s l))) (λ j. count j (tree_at s l)) (is out) 1 0) (sym m.is) (below m.child m.number (subst (λ l. IsJoinFor key unit op of s l x y z) m.is for));
+        changed = subst (λ l. IsChanged key unit op of s t m.child c (with_joined key x y z (entries (tree_at s l))) (λ j. count j (tree_at s l)) (is out) 1 0)
+            (sym m.is) (below m.child m.number (subst (λ l. IsJoinFor key unit op of s l x y z) m.is for));
         once = o.once;
         few = omega arith;
       }
 
-  pub join_right_same : (s t : Store T S) (n out : ℕ) (v : Stored T S) (side : ℕ) (x y z : T) (c : Bool) → s n ≡ Some v → right_number (s n) ≡ Some side → key v.entry < key x → IsJoinedBelow key unit op of s t side x y z out c → c ≡ false → IsJoinedBelow key unit op of s t n x y z out false
+  pub join_right_same : (s t : Store T S) (n out : ℕ) (v : Stored T S) (side : ℕ) (x y z : T) (c : Bool) → s n ≡ Some v → right_number (s n) ≡ Some side →
+      key v.entry < key x → IsJoinedBelow key unit op of s t side x y z out c → c ≡ false → IsJoinedBelow key unit op of s t n x y z out false
   join_right_same s t n out v side x y z c e d lt below same k p h =
       let st = join_right_step s t n out k v side x y z c p h e d lt below in
-      rechanged key unit op of laws s t k false _ _ _ _ (is out) 1 0 (right_unchanged key unit op of laws s t k v side c _ _ (is out) 1 0 st same) (join_right_is s k v x y z h st.opened lt) (λ j. rw st.opened.tree refl)
+      rechanged key unit op of laws s t k false _ _ _ _ (is out) 1 0 (right_unchanged key unit op of laws s t k v side c _ _ (is out) 1 0 st same)
+      (join_right_is s k v x y z h st.opened lt) (λ j. rw st.opened.tree refl)
 
-  pub join_right_settled : (s t u : Store T S) (n out : ℕ) (v : Stored T S) (side : ℕ) (x y z : T) (c b : Bool) → s n ≡ Some v → right_number (s n) ≡ Some side → key v.entry < key x → IsJoinedBelow key unit op of s t side x y z out c → IsRightSettled key unit op of t u n side b → IsJoinedBelow key unit op of s u n x y z out b
+  pub join_right_settled : (s t u : Store T S) (n out : ℕ) (v : Stored T S) (side : ℕ) (x y z : T) (c b : Bool) → s n ≡ Some v →
+      right_number (s n) ≡ Some side → key v.entry < key x → IsJoinedBelow key unit op of s t side x y z out c → IsRightSettled key unit op of t u n side b →
+      IsJoinedBelow key unit op of s u n x y z out b
   join_right_settled s t u n out v side x y z c b e d lt below set k p h =
       let st = join_right_step s t n out k v side x y z c p h e d lt below in
-      rechanged key unit op of laws s u k b _ _ _ _ (is out) 1 0 (right_changed key unit op of laws s t u n k v side c b _ _ (is out) 1 0 st p set) (join_right_is s k v x y z h st.opened lt) (λ j. rw st.opened.tree refl)
+      rechanged key unit op of laws s u k b _ _ _ _ (is out) 1 0 (right_changed key unit op of laws s t u n k v side c b _ _ (is out) 1 0 st p set)
+      (join_right_is s k v x y z h st.opened lt) (λ j. rw st.opened.tree refl)
 
-  pub join_right_below : (s : Store T S) (n : ℕ) (v : Stored T S) (side : ℕ) (x y z : T) → IsJoinBelowFor key unit op of s n x y z → s n ≡ Some v → right_number (s n) ≡ Some side → key v.entry < key x → IsJoinBelowFor key unit op of s side x y z
+  pub join_right_below : (s : Store T S) (n : ℕ) (v : Stored T S) (side : ℕ) (x y z : T) → IsJoinBelowFor key unit op of s n x y z → s n ≡ Some v →
+      right_number (s n) ≡ Some side → key v.entry < key x → IsJoinBelowFor key unit op of s side x y z
   join_right_below s n v side x y z b e d lt =
       let o = opened_at key unit op of laws s n b.link v b.number b.join.has.held e in
       let m = right_child key unit op of laws s n b.link v side e d in
       let h : height_of v.right ≡ m.child.height = ap height_of m.is in
       let low = b.low in let g = o.height in
-      record { link = m.child; number = m.number; join = subst (λ l. IsJoinFor key unit op of s l x y z) m.is (join_right_for s b.link v x y z b.join o lt); low = omega arith }
+      record {
+        link = m.child;
+        number = m.number;
+        join = subst (λ l. IsJoinFor key unit op of s l x y z) m.is (join_right_for s b.link v x y z b.join o lt);
+        low = omega arith;
+      }
 
   -- the root is one of the two, and the other goes
-  put_at_root : (s t u : Store T S) (n out : ℕ) (k : Link S) (v : Stored T S) (x y z : T) (c : Bool) (xs : List T) → k.number ≡ n → s n ≡ Some v → entry_below (t n) ≡ entry_below (s n) → u ≡ with_at n (entry_put z (t n)) t → IsChanged key unit op of s t k c xs (λ j. count j (tree_at s (Some k))) (is out) 1 0 → ((l r : List T) → l ++ v.entry ∷ r ≡ xs → l ++ z ∷ r ≡ with_joined key x y z (entries (tree_at s (Some k)))) → IsChanged key unit op of s u k true (with_joined key x y z (entries (tree_at s (Some k)))) (λ j. count j (tree_at s (Some k))) (is out) 1 0
+  put_at_root : (s t u : Store T S) (n out : ℕ) (k : Link S) (v : Stored T S) (x y z : T) (c : Bool) (xs : List T) → k.number ≡ n → s n ≡ Some v →
+      entry_below (t n) ≡ entry_below (s n) → u ≡ with_at n (entry_put z (t n)) t → IsChanged key unit op of s t k c xs (λ j. count j (tree_at s (Some k)))
+      (is out) 1 0 → ((l r : List T) → l ++ v.entry ∷ r ≡ xs → l ++ z ∷ r ≡ with_joined key x y z (entries (tree_at s (Some k)))) →
+      IsChanged key unit op of s u k true (with_joined key x y z (entries (tree_at s (Some k)))) (λ j. count j (tree_at s (Some k))) (is out) 1 0
   put_at_root s t u n out k v x y z c xs p e stays at ch told =
       let w = ch.node in
       let w' : Stored T S = record { left = w.left; entry = z; right = w.right } in
       let here : t n ≡ Some w = subst (λ i. t i ≡ Some w) p ch.above.stored in
       let same : w.entry ≡ v.entry = (let d : entry_below (Some w) ≡ entry_below (Some v) = ap entry_below (sym here) ∙ (stays ∙ ap entry_below e) in cc) in
       let put : u ≡ with_at k.number (Some w') t = rw p (at ∙ ap (λ m. with_at n (entry_put z m) t) here) in
-      let was : entries (tree_at t w.left) ++ v.entry ∷ entries (tree_at t w.right) ≡ xs = subst (λ i. entries (tree_at t w.left) ++ i ∷ entries (tree_at t w.right) ≡ xs) same ch.above.entries in
+      let was : entries (tree_at t w.left) ++ v.entry ∷ entries (tree_at t w.right) ≡ xs =
+      subst (λ i. entries (tree_at t w.left) ++ i ∷ entries (tree_at t w.right) ≡ xs) same ch.above.entries in
       record {
         node = w';
-        above = above_put key unit op of laws s t u k.number w' _ (λ j. count j (tree_at s (Some k))) (is out) ch.above.spot put (told _ _ was) ch.above.count ch.above.kept ch.above.used;
+        above = above_put key unit op of laws s t u k.number w' _ (λ j. count j (tree_at s (Some k))) (is out) ch.above.spot put
+            (told _ _ was) ch.above.count ch.above.kept ch.above.used;
         level = ch.level;
         low = ch.low;
         settles = ch.settles;
         stays = λ d. absurd (both_ways true d refl);
       }
 
-  pub join_lower_goes : (s t u : Store T S) (n out : ℕ) (v : Stored T S) (x y z : T) (c : Bool) → s n ≡ Some v → IsBetween key unit op of s n x y → key x < key v.entry → IsRemovedBelow key unit op of s t n x out c → entry_below (t n) ≡ entry_below (s n) → u ≡ with_at n (entry_put z (t n)) t → IsJoinedBelow key unit op of s u n x y z out true
+  pub join_lower_goes : (s t u : Store T S) (n out : ℕ) (v : Stored T S) (x y z : T) (c : Bool) → s n ≡ Some v → IsBetween key unit op of s n x y →
+      key x < key v.entry → IsRemovedBelow key unit op of s t n x out c → entry_below (t n) ≡ entry_below (s n) → u ≡ with_at n (entry_put z (t n)) t →
+      IsJoinedBelow key unit op of s u n x y z out true
   join_lower_goes s t u n out v x y z c e meets lt below stays at k p h =
       let o = opened_at key unit op of laws s n k v p h.has.held e in
       let le = (meets v e).1 in
       let mid = all_middle (λ w. (key w ≤ key x) ⊎ (key y ≤ key w)) (entries (tree_at s v.left)) v.entry (entries (tree_at s v.right)) (rw o.tree at h.next) in
       let is_y : key v.entry ≡ key y = elim mid [ inl i ↦ absurd (omega arith) | inr i ↦ omega arith ] in
-      put_at_root s t u n out k v x y z c _ p e stays at (below k p h.has) (λ l r d. joined_upper key x y z v.entry _ l r h.has.rising h.after h.next h.same is_y d)
+      put_at_root s t u n out k v x y z c _ p e stays at (below k p h.has)
+      (λ l r d. joined_upper key x y z v.entry _ l r h.has.rising h.after h.next h.same is_y d)
 
-  pub join_upper_goes : (s t u : Store T S) (n out : ℕ) (v : Stored T S) (x y z : T) (c : Bool) → s n ≡ Some v → IsBetween key unit op of s n x y → key v.entry ≤ key x → IsRemovedBelow key unit op of s t n y out c → entry_below (t n) ≡ entry_below (s n) → u ≡ with_at n (entry_put z (t n)) t → IsJoinedBelow key unit op of s u n x y z out true
+  pub join_upper_goes : (s t u : Store T S) (n out : ℕ) (v : Stored T S) (x y z : T) (c : Bool) → s n ≡ Some v → IsBetween key unit op of s n x y →
+      key v.entry ≤ key x → IsRemovedBelow key unit op of s t n y out c → entry_below (t n) ≡ entry_below (s n) → u ≡ with_at n (entry_put z (t n)) t →
+      IsJoinedBelow key unit op of s u n x y z out true
   join_upper_goes s t u n out v x y z c e meets le below stays at k p h =
       let ge = (meets v e).0 in
       let is_x : key v.entry ≡ key x = omega arith in
@@ -281,10 +371,20 @@ module _ {T S : Type 0} (key : T → ℕ) (unit : S) (op : S → S → S) (of : 
   join_upper_has s n x y z b = record { link = b.link; number = b.number; there = b.join.too; low = b.low }
 
   pub not_at_lower : (s : Store T S) (n : ℕ) (v : Stored T S) (x : T) → s n ≡ Some v → key x < key v.entry → IsAt key unit op of s n x false
-  not_at_lower s n v x e lt w f = let d : Some v ≡ Some w = sym e ∙ f in let same : v ≡ w = cc in (λ t. absurd (both_ways false refl t), λ _ q. let lt' : key x < key w.entry = subst (λ (i : Stored T S). key x < key i.entry) same lt in absurd (omega arith))
+  not_at_lower s n v x e lt w f = let d : Some v ≡ Some w = sym e ∙ f in let same : v ≡ w = cc in (
+    λ t. absurd (both_ways false refl t),
+    λ _ q. let lt' : key x < key w.entry = subst (λ (i : Stored T S). key x < key i.entry) same lt in
+        absurd (omega arith),
+  )
 
   pub not_at_upper : (s : Store T S) (n : ℕ) (v : Stored T S) (y : T) → s n ≡ Some v → key v.entry < key y → IsAt key unit op of s n y false
-  not_at_upper s n v y e lt w f = let d : Some v ≡ Some w = sym e ∙ f in let same : v ≡ w = cc in (λ t. absurd (both_ways false refl t), λ _ q. let lt' : key w.entry < key y = subst (λ (i : Stored T S). key i.entry < key y) same lt in absurd (omega arith))
+  not_at_upper s n v y e lt w f = let d : Some v ≡ Some w = sym e ∙ f in let same : v ≡ w = cc in (
+    λ t. absurd (both_ways false refl t),
+    λ _ q. let lt' : key w.entry < key y = subst (λ (i : Stored T S). key i.entry < key y) same lt in
+        absurd (omega arith),
+  )
 
-  pub between_here : (s : Store T S) (n : ℕ) (v : Stored T S) (x y : T) → s n ≡ Some v → key x ≤ key v.entry → key v.entry ≤ key y → IsBetween key unit op of s n x y
-  between_here s n v x y e a b w f = let d : Some v ≡ Some w = sym e ∙ f in let same : v ≡ w = cc in (subst (λ (i : Stored T S). key x ≤ key i.entry) same a, subst (λ (i : Stored T S). key i.entry ≤ key y) same b)
+  pub between_here : (s : Store T S) (n : ℕ) (v : Stored T S) (x y : T) → s n ≡ Some v → key x ≤ key v.entry → key v.entry ≤ key y →
+      IsBetween key unit op of s n x y
+  between_here s n v x y e a b w f = let d : Some v ≡ Some w = sym e ∙ f in let same : v ≡ w = cc in
+      (subst (λ (i : Stored T S). key x ≤ key i.entry) same a, subst (λ (i : Stored T S). key i.entry ≤ key y) same b)

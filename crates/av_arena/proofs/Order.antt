@@ -56,7 +56,8 @@ module _ {A : Type 0} (key : A → ℕ) where
         | false ↦ (a.0, elim (ltb (key y) (key x)) as (λ b. AllOf P (cond b (with_entry key x t) t)) [ true ↦ all_with P x t p a.1 | false ↦ a.1 ])
       ]
 
-  rising_with_cases : (x y : A) (t : List A) (a b : Bool) → ltb (key x) (key y) ≡ a → ltb (key y) (key x) ≡ b → IsRising key (y ∷ t) → IsRising key (with_entry key x t) → IsRising key (cond a (x ∷ y ∷ t) (y ∷ cond b (with_entry key x t) t))
+  rising_with_cases : (x y : A) (t : List A) (a b : Bool) → ltb (key x) (key y) ≡ a → ltb (key y) (key x) ≡ b → IsRising key (y ∷ t) →
+      IsRising key (with_entry key x t) → IsRising key (cond a (x ∷ y ∷ t) (y ∷ cond b (with_entry key x t) t))
   rising_with_cases x y t true b p q s u =
       let h : key x < key y = ltb-true (key x) (key y) p in
       ((h, AllOf-map (λ z. key y < key z) (λ z. key x < key z) (λ z r. omega arith) t s.0), s)
@@ -76,7 +77,8 @@ module _ {A : Type 0} (key : A → ℕ) where
   length_with x [] = omega arith
   length_with x (y ∷ t) = length_with_cases (ltb (key x) (key y)) (ltb (key y) (key x)) x y t (with_entry key x t) (length_with x t)
 
-  with_cases_append : (a b : Bool) (x y : A) (t u m v : List A) → v ≡ u ++ m → cond a (x ∷ y ∷ (t ++ m)) (y ∷ cond b v (t ++ m)) ≡ cond a (x ∷ y ∷ t) (y ∷ cond b u t) ++ m
+  with_cases_append : (a b : Bool) (x y : A) (t u m v : List A) → v ≡ u ++ m →
+      cond a (x ∷ y ∷ (t ++ m)) (y ∷ cond b v (t ++ m)) ≡ cond a (x ∷ y ∷ t) (y ∷ cond b u t) ++ m
   with_cases_append true b x y t u m v e = refl
   with_cases_append false true x y t u m v e = ap (λ z. y ∷ z) e
   with_cases_append false false x y t u m v e = refl
@@ -101,7 +103,8 @@ module _ {A : Type 0} (key : A → ℕ) where
       with_later x y (t ++ k ∷ r) (omega arith) ∙ ap (λ z. y ∷ z) (with_middle x k t r p s.1)
 
   -- taking out
-  without_other : (k : ℕ) (y : A) (t : List A) (b : Bool) → eqb (key y) k ≡ b → (P : List A → Type 0) → (key y ≡ k → P t) → (P (y ∷ without_key key k t)) → P (cond b t (y ∷ without_key key k t))
+  without_other : (k : ℕ) (y : A) (t : List A) (b : Bool) → eqb (key y) k ≡ b → (P : List A → Type 0) → (key y ≡ k → P t) → (P (y ∷ without_key key k t)) →
+      P (cond b t (y ∷ without_key key k t))
   without_other k y t true e P same other = same (eqb-true (key y) k e)
   without_other k y t false e P same other = other
 
@@ -111,11 +114,13 @@ module _ {A : Type 0} (key : A → ℕ) where
 
   pub rising_without : (k : ℕ) (t : List A) → IsRising key t → IsRising key (without_key key k t)
   rising_without k [] s = tt
-  rising_without k (y ∷ t) s = without_other k y t (eqb (key y) k) refl (IsRising key) (λ _. s.1) (all_without (λ z. key y < key z) k t s.0, rising_without k t s.1)
+  rising_without k (y ∷ t) s = without_other k y t (eqb (key y) k) refl (IsRising key) (λ _. s.1)
+      (all_without (λ z. key y < key z) k t s.0, rising_without k t s.1)
 
   pub length_without : (k : ℕ) (t : List A) → length (without_key key k t) ≤ length t
   length_without k [] = omega arith
-  length_without k (y ∷ t) = without_other k y t (eqb (key y) k) refl (λ z. length z ≤ length (y ∷ t)) (λ _. omega arith) (let h = length_without k t in omega arith)
+  length_without k (y ∷ t) = without_other k y t (eqb (key y) k) refl (λ z. length z ≤ length (y ∷ t)) (λ _. omega arith)
+      (let h = length_without k t in omega arith)
 
   without_none : (k : ℕ) (t : List A) → AllOf (λ z. k < key z) t → without_key key k t ≡ t
   without_none k [] a = refl
@@ -167,10 +172,12 @@ module _ {A : Type 0} (key : A → ℕ) where
       rw (ne_eqb (key y) k (omega arith)) (at_right k m t r p s.1)
 
   -- the parts of a rotation, under the names that the code gives them
-  pub right_part : (l x : List A) (j : A) (y : List A) (k : A) (z a : List A) (e : A) (c : List A) → IsRising key (l ++ k ∷ z) → l ≡ x ++ j ∷ y → a ≡ y → e ≡ k → c ≡ z → IsRising key (a ++ e ∷ c)
+  pub right_part : (l x : List A) (j : A) (y : List A) (k : A) (z a : List A) (e : A) (c : List A) → IsRising key (l ++ k ∷ z) → l ≡ x ++ j ∷ y → a ≡ y →
+      e ≡ k → c ≡ z → IsRising key (a ++ e ∷ c)
   right_part l x j y k z a e c s is p q r = rw (p, q, r) (rising_inner_right x j y k z (rw is at s))
 
-  pub left_part : (x : List A) (j : A) (y : List A) (k : A) (r z a : List A) (e : A) (c : List A) → IsRising key (x ++ j ∷ r) → r ≡ y ++ k ∷ z → a ≡ x → e ≡ j → c ≡ y → IsRising key (a ++ e ∷ c)
+  pub left_part : (x : List A) (j : A) (y : List A) (k : A) (r z a : List A) (e : A) (c : List A) → IsRising key (x ++ j ∷ r) → r ≡ y ++ k ∷ z → a ≡ x → e ≡ j →
+      c ≡ y → IsRising key (a ++ e ∷ c)
   left_part x j y k r z a e c s is p q t = rw (p, q, t) (rising_inner_left x j y k z (rw is at s))
 
   pub at_no_key : (k : ℕ) (t : List A) → AllOf (λ z. key z ≡ k → ⊥) t → entry_at key k t ≡ None

@@ -295,7 +295,8 @@ module _ (w : Way) where
               (subst (λ cs. IsRun w None cs None) (sym (row_gone k)) (subst (λ cs. IsRun w None (gone cs) None) (sym cut.2) out.0)))
               (λ other. subst (λ cs. IsRun w None cs None) (sym (row_gone j ∙ gone_elsewhere j other)) (t.run j));
           head = λ j. either (cond (j == k) (head_without s (heads k)) (heads j) ≡ head_of (row w j (gone bs))) (j == k)
-              (λ is. ap (λ y. cond y (head_without s (heads k)) (heads j)) is ∙ ap (head_without s) (t.head k ∙ ap head_of cut.2) ∙ out.1 ∙ ap (λ cs. head_of (gone cs))
+              (λ is. ap (λ y. cond y (head_without s (heads k)) (heads j)) is ∙ ap (head_without s) (t.head k ∙ ap head_of cut.2)
+              ∙ out.1 ∙ ap (λ cs. head_of (gone cs))
               (sym cut.2) ∙ ap head_of (sym (row_gone k))
               ∙ ap (λ m. head_of (row w m (gone bs))) (number_eq k j is))
               (λ other. ap (λ y. cond y (head_without s (heads k)) (heads j)) other ∙ t.head j ∙ ap head_of (sym (row_gone j ∙ gone_elsewhere j other)));

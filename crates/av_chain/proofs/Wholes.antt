@@ -184,7 +184,8 @@ module _ (areas anons : ℕ → Option Head) (bs : List Block) (p : Ptr) (area a
       anons_lead =
           let cs = leads_on Area (last_of (areas area)) at bs in
           let d' : IsApart (cs ++ b ∷ []) = subst IsApart pushed (apart_changed (with_after Area at) (last_of (areas area)) (bs ++ b ∷ []) d) in
-          subst (λ es. IsThreaded Anon (with_at anon (Some (head_with (at_block b) (anons anon))) anons) (leads_on Anon (last_of (anons anon)) at es)) (sym pushed)
+          subst (λ es. IsThreaded Anon (with_at anon (Some (head_with (at_block b) (anons anon))) anons) (leads_on Anon (last_of (anons anon)) at es))
+          (sym pushed)
           (thread_grow Anon anons cs b d' (thread_other Anon anons bs (last_of (areas area)) (with_after Area at) (keeps_after Anon Area at)
           (λ m. refl) t.anons_lead) refl);
       once = subst AreOnce (sym links_made) (once_push (links_of bs) area anon t.once n);

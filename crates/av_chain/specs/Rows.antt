@@ -110,7 +110,8 @@ abbrev pub head_beside : Sides → Head → Option Place → Option Place → Op
 head_beside s h None None = None
 head_beside s h None (Some q) = Some (record { first = q; last = h.last; count = h.count - 1 })
 head_beside s h (Some p) None = Some (record { first = h.first; last = p; count = h.count - 1 })
-head_beside s h (Some p) (Some q) = Some (record { first = h.first; last = h.last; count = h.count - 1 })
+head_beside s h (Some p) (Some q) =
+    Some (record { first = h.first; last = h.last; count = h.count - 1 })
 
 abbrev pub head_without : Sides → Option Head → Option Head
 head_without s None = None

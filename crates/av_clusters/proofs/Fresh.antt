@@ -24,7 +24,8 @@ set_aside pages b p = by (p == b) refl (cases_lt b (length pages))
         ap (page_at (set pages b Unusable)) is ∙ get_or-set_same pages b Unusable Unusable below ∙ sym (ap (λ t. cond t Unusable (page_at pages p)) e)
     by true e (inr past) =
         let is : p ≡ b = grind (arith, nat_tests) in
-        ap (page_at (set pages b Unusable)) is ∙ get_or_past (set pages b Unusable) b Unusable (subst (λ n. n ≤ b) (sym (length-set pages b Unusable)) past) ∙ sym (ap (λ t. cond t Unusable (page_at pages p)) e)
+        ap (page_at (set pages b Unusable)) is ∙ get_or_past (set pages b Unusable) b Unusable (subst (λ n. n ≤ b) (sym (length-set pages b Unusable)) past)
+        ∙ sym (ap (λ t. cond t Unusable (page_at pages p)) e)
     by false e _ = let apart : p ≢ b = grind (arith, nat_tests) in
         get_or-set_other pages b p Unusable Unusable apart ∙ sym (ap (λ t. cond t Unusable (page_at pages p)) e)
 
@@ -35,19 +36,23 @@ either false true x y = refl
 either false false x y = refl
 
 -- one more bad page is set aside
-pub one_more_aside : (old now : List Page) (bad : List ℕ) (i p : ℕ) → i < length bad → page_at now p ≡ cond (list_any (λ x. p == x) (take i bad)) Unusable (page_at old p)
+pub one_more_aside : (old now : List Page) (bad : List ℕ) (i p : ℕ) → i < length bad →
+    page_at now p ≡ cond (list_any (λ x. p == x) (take i bad)) Unusable (page_at old p)
     → page_at (set now (get_or bad i 0) Unusable) p ≡ cond (list_any (λ x. p == x) (take (i + 1) bad)) Unusable (page_at old p)
 one_more_aside old now bad i p below h =
-    set_aside now (get_or bad i 0) p ∙ ap (cond (p == get_or bad i 0) Unusable) h ∙ either (list_any (λ x. p == x) (take i bad)) (p == get_or bad i 0) Unusable (page_at old p)
+    set_aside now (get_or bad i 0) p ∙ ap (cond (p == get_or bad i 0) Unusable) h ∙ either (list_any (λ x. p == x) (take i bad))
+    (p == get_or bad i 0) Unusable (page_at old p)
     ∙ sym (ap (λ t. cond t Unusable (page_at old p)) (list_any_more (λ x. p == x) bad i 0 below))
 
 pub pages_are : (n : ℕ) (bad : List ℕ) (start done : List Page) → start ≡ set (replicate n Free) 0 Unusable → length done ≡ length start
     → ((p : ℕ) → page_at done p ≡ cond (list_any (λ x. p == x) bad) Unusable (page_at start p)) → done ≡ pages_of n bad
-pages_are n bad start done is len h = fill_by_all (at_first bad) done n Unusable (len ∙ ap length is ∙ length-set (replicate n Free) 0 Unusable ∙ length-replicate n Free) each
+pages_are n bad start done is len h = fill_by_all (at_first bad) done n Unusable
+    (len ∙ ap length is ∙ length-set (replicate n Free) 0 Unusable ∙ length-replicate n Free) each
   where
     each : (p : ℕ) → p < n → page_at done p ≡ at_first bad p
     each p below =
-        h p ∙ ap (λ ps. cond (list_any (λ x. p == x) bad) Unusable (page_at ps p)) is ∙ ap (cond (list_any (λ x. p == x) bad) Unusable) (set_aside (replicate n Free) 0 p)
+        h p ∙ ap (λ ps. cond (list_any (λ x. p == x) bad) Unusable (page_at ps p)) is ∙ ap (cond (list_any (λ x. p == x) bad) Unusable)
+        (set_aside (replicate n Free) 0 p)
         ∙ ap (λ f. cond (list_any (λ x. p == x) bad) Unusable (cond (p == 0) Unusable f)) (get_or-replicate n p Free Unusable below)
         ∙ either (p == 0) (list_any (λ x. p == x) bad) Unusable Free
 
@@ -62,7 +67,8 @@ never_taken n bad p = by (cases_lt p n)
     choose false = refl
 
     by : (p < n) ⊎ (n ≤ p) → is_taken (page_at (pages_of n bad) p) ≡ false
-    by (inl b) = let e : 0 + p ≡ p = omega arith in ap is_taken (get_or-map-range_with_len (at_first bad) 0 n p p Unusable b e) ∙ choose ((p == 0) || list_any (λ x. p == x) bad)
+    by (inl b) = let e : 0 + p ≡ p = omega arith in ap is_taken (get_or-map-range_with_len (at_first bad) 0 n p p Unusable b e)
+        ∙ choose ((p == 0) || list_any (λ x. p == x) bad)
     by (inr b) = ap is_taken (get_or_past (pages_of n bad) p Unusable (subst (λ m. m ≤ p) (sym (length-pages_of n bad)) b))
 
 -- ---- the clusters
@@ -75,21 +81,29 @@ map_same (x ∷ xs) = ap (λ ys. x ∷ ys) (map_same xs)
 pub next_cluster : (test : ℕ → Bool) (c : ℕ) → filter test (range_with_len 0 (c + 1)) ≡ filter test (range_with_len 0 c) ++ cond (test c) (c ∷ []) []
 next_cluster test c =
     let e : 0 + c ≡ c = omega arith in
-    ap (filter test) (sym (map_same (range_with_len 0 (c + 1)))) ∙ filter_of_map_range_with_len_more test (λ x. x) 0 c c e ∙ ap (λ xs. filter test xs ++ cond (test c) (c ∷ []) []) (map_same (range_with_len 0 c))
+    ap (filter test) (sym (map_same (range_with_len 0 (c + 1)))) ∙ filter_of_map_range_with_len_more test (λ x. x) 0 c c e
+    ∙ ap (λ xs. filter test xs ++ cond (test c) (c ∷ []) []) (map_same (range_with_len 0 c))
 
-pub next_free : (test : ℕ → Bool) (c n n' : ℕ) (old new : List ℕ) → new ≡ old ++ c ∷ [] → test c ≡ true → old ≡ filter test (range_with_len 0 c) → n ≡ length old → n' ≡ n + 1
+pub next_free : (test : ℕ → Bool) (c n n' : ℕ) (old new : List ℕ) → new ≡ old ++ c ∷ [] → test c ≡ true → old ≡ filter test (range_with_len 0 c) →
+    n ≡ length old → n' ≡ n + 1
     → (new ≡ filter test (range_with_len 0 (c + 1))) × (n' ≡ length new)
-next_free test c n n' old new grown passes is len more =
-    (grown ∙ (λ k. is k ++ cond (sym passes k) (c ∷ []) []) ∙ sym (next_cluster test c), more ∙ ap (λ m. m + 1) len ∙ sym (ap length grown ∙ length-append old (c ∷ [])))
+next_free test c n n' old new grown passes is len more = (
+  grown ∙ (λ k. is k ++ cond (sym passes k) (c ∷ []) []) ∙ sym (next_cluster test c),
+  more ∙ ap (λ m. m + 1) len
+      ∙ sym (ap length grown ∙ length-append old (c ∷ [])),
+)
 
-pub next_passed : (test : ℕ → Bool) (c : ℕ) (old : List ℕ) → test c ≡ false → old ≡ filter test (range_with_len 0 c) → old ≡ filter test (range_with_len 0 (c + 1))
-next_passed test c old fails is = is ∙ sym (append-nil (filter test (range_with_len 0 c))) ∙ (λ k. filter test (range_with_len 0 c) ++ cond (sym fails k) (c ∷ []) []) ∙ sym (next_cluster test c)
+pub next_passed : (test : ℕ → Bool) (c : ℕ) (old : List ℕ) → test c ≡ false → old ≡ filter test (range_with_len 0 c) →
+    old ≡ filter test (range_with_len 0 (c + 1))
+next_passed test c old fails is = is ∙ sym (append-nil (filter test (range_with_len 0 c)))
+    ∙ (λ k. filter test (range_with_len 0 c) ++ cond (sym fails k) (c ∷ []) []) ∙ sym (next_cluster test c)
   where
     append-nil : (xs : List ℕ) → xs ++ [] ≡ xs
     append-nil [] = refl
     append-nil (x ∷ xs) = ap (λ ys. x ∷ ys) (append-nil xs)
 
-pub next_flag : (test : ℕ → Bool) (c : ℕ) (b : Bool) (old new : List Bool) → new ≡ old ++ not b ∷ [] → b ≡ test c → old ≡ map (λ d. not (test d)) (range_with_len 0 c) → new ≡ map (λ d. not (test d)) (range_with_len 0 (c + 1))
+pub next_flag : (test : ℕ → Bool) (c : ℕ) (b : Bool) (old new : List Bool) → new ≡ old ++ not b ∷ [] → b ≡ test c →
+    old ≡ map (λ d. not (test d)) (range_with_len 0 c) → new ≡ map (λ d. not (test d)) (range_with_len 0 (c + 1))
 next_flag test c b old new grown same is =
     let e : 0 + c ≡ c = omega arith in
     grown ∙ (λ k. is k ++ not (same k) ∷ []) ∙ sym (map-range_with_len_more (λ d. not (test d)) 0 c c e)
@@ -107,14 +121,16 @@ module _ (test : ℕ → Bool) where
   total_fresh : (a m : ℕ) → length (filter test (range_with_len a m)) + count_by itself (map (λ c. not (test c)) (range_with_len a m)) ≡ m
   total_fresh a zero = refl
   total_fresh a (suc m) =
-      ap (λ k. length (filter test (range_with_len a (suc m))) + k) (sum_by-cons (λ b. cond b 1 0) (not (test a)) (map (λ c. not (test c)) (range_with_len (a + 1) m)))
+      ap (λ k. length (filter test (range_with_len a (suc m))) + k)
+      (sum_by-cons (λ b. cond b 1 0) (not (test a)) (map (λ c. not (test c)) (range_with_len (a + 1) m)))
       ∙ by (test a) _ _ (total_fresh (a + 1) m)
     where
       by : (t : Bool) (fs : List ℕ) (k : ℕ) → length fs + k ≡ m → length (cond t (a ∷ fs) fs) + (cond (not t) 1 0 + k) ≡ suc m
       by true fs k h = omega (arith, h)
       by false fs k h = omega (arith, h)
 
-  count_cons : (c a : ℕ) (b : Bool) (t : Bool) (fs : List ℕ) → (c == a) ≡ b → count_by (λ d. c == d) (cond t (a ∷ fs) fs) ≡ cond t (cond b 1 0) 0 + count_by (λ d. c == d) fs
+  count_cons : (c a : ℕ) (b : Bool) (t : Bool) (fs : List ℕ) → (c == a) ≡ b →
+      count_by (λ d. c == d) (cond t (a ∷ fs) fs) ≡ cond t (cond b 1 0) 0 + count_by (λ d. c == d) fs
   count_cons c a b true fs e = sum_by-cons (λ d. cond (c == d) 1 0) a fs ∙ ap (λ t. cond t 1 0 + count_by (λ d. c == d) fs) e
   count_cons c a b false fs e = sym (none_plus _)
 
@@ -128,7 +144,8 @@ module _ (test : ℕ → Bool) where
       by true k h = omega (arith, h)
       by false k h = omega (arith, h)
 
-  once_from : (a m i c : ℕ) → c ≡ a + i → count_by (λ d. c == d) (filter test (range_with_len a m)) ≡ cond (get_or (map (λ c. not (test c)) (range_with_len a m)) i true) 0 1
+  once_from : (a m i c : ℕ) → c ≡ a + i → count_by (λ d. c == d) (filter test (range_with_len a m)) ≡ cond
+      (get_or (map (λ c. not (test c)) (range_with_len a m)) i true) 0 1
   once_from a zero i c e = refl
   once_from a (suc m) zero c e =
       let t : (c == a) ≡ true = grind (arith, nat_tests) in
@@ -171,7 +188,9 @@ unmarked (suc m) zero = refl
 unmarked (suc m) (suc c) = unmarked m c
 
 pub whole_fresh : (n : ℕ) (bad : List ℕ) (len room : ℕ) → n < 2 ^ 32 → len ≡ length (clusters_of (pages_of n bad)) → length (pages_of n bad) / 256 + 1 ≤ room
-    → IsWhole (pages_of n bad) (count_by is_free (pages_of n bad)) (clusters_of (pages_of n bad)) len room (map (λ c. not (has_free (pages_of n bad) c)) (range_with_len 0 (length (pages_of n bad) / 256 + 1))) (replicate (length (pages_of n bad) / 256 + 1) false) None 0
+    → IsWhole (pages_of n bad) (count_by is_free (pages_of n bad)) (clusters_of (pages_of n bad)) len room
+    (map (λ c. not (has_free (pages_of n bad) c)) (range_with_len 0 (length (pages_of n bad) / 256 + 1)))
+    (replicate (length (pages_of n bad) / 256 + 1) false) None 0
 whole_fresh n bad len room few same wide =
     let count = length-map-range_with_len (λ c. not (has_free (pages_of n bad) c)) 0 (length (pages_of n bad) / 256 + 1) in
     record {

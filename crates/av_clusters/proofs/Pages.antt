@@ -13,7 +13,8 @@ use Rattle.av_clusters.specs.declared.Page.TheVariants.{Unusable, Free, Taken}
 use Rattle.av_clusters.specs.Clusters.{is_free, is_taken, page_at, pages_between, lowest, has_taken, start_of, end_of, AreFull}
 
 -- the end may lie past the area's
-pub cut_short : (pages : List Page) (from to : ℕ) → from ≤ to → from ≤ length pages → take (min to (length pages) - from) (drop from pages) ≡ pages_between from to pages
+pub cut_short : (pages : List Page) (from to : ℕ) → from ≤ to → from ≤ length pages →
+    take (min to (length pages) - from) (drop from pages) ≡ pages_between from to pages
 cut_short pages from to h k = by (cases_lt to (length pages))
   where
     by : (to < length pages) ⊎ (length pages ≤ to) → take (min to (length pages) - from) (drop from pages) ≡ take (to - from) (drop from pages)
@@ -55,7 +56,8 @@ found pages from to p h = by (position is_free (pages_between from to pages)) re
     short : (i : ℕ) → i < length (pages_between from to pages) → i < to - from
     short i b = omega (arith, b, length-take (to - from) (drop from pages))
 
-    by : (r : Option ℕ) → position is_free (pages_between from to pages) ≡ r → option_map (λ i. from + i) r ≡ Some p → (from ≤ p) × (p < to) × (is_free (page_at pages p) ≡ true)
+    by : (r : Option ℕ) → position is_free (pages_between from to pages) ≡ r → option_map (λ i. from + i) r ≡ Some p →
+        (from ≤ p) × (p < to) × (is_free (page_at pages p) ≡ true)
     by None e g = cc
     by (Some i) e g =
         let s = position-Some is_free (pages_between from to pages) i Unusable e in
@@ -70,16 +72,19 @@ found pages from to p h = by (position is_free (pages_between from to pages)) re
 all_fail : (xs : List Page) (i : ℕ) → position is_free xs ≡ None → is_free (get_or xs i Unusable) ≡ false
 all_fail xs i h = by (cases_lt (position_or_len is_free xs) (length xs)) (cases_lt i (length xs))
   where
-    by : (position_or_len is_free xs < length xs) ⊎ (length xs ≤ position_or_len is_free xs) → (i < length xs) ⊎ (length xs ≤ i) → is_free (get_or xs i Unusable) ≡ false
+    by : (position_or_len is_free xs < length xs) ⊎ (length xs ≤ position_or_len is_free xs) → (i < length xs) ⊎ (length xs ≤ i) →
+        is_free (get_or xs i Unusable) ≡ false
     by (inl b) c = let t : ltb (position_or_len is_free xs) (length xs) ≡ true = grind (arith, nat_tests) in
         absurd (let e : Some (position_or_len is_free xs) ≡ None = sym (ap (λ t. cond t (Some (position_or_len is_free xs)) None) t) ∙ h in cc)
     by (inr b) (inl c) = fails_before_first is_free xs i Unusable (omega (arith, b, c))
     by (inr b) (inr c) = ap is_free (get_or_past xs i Unusable c)
 
 pub none_free : (pages : List Page) (from to p : ℕ) → lowest pages from to ≡ None → from ≤ p → p < to → is_free (page_at pages p) ≡ false
-none_free pages from to p h low high = sym (ap is_free (at_between pages from to p low high)) ∙ all_fail (pages_between from to pages) (p - from) (by (position is_free (pages_between from to pages)) refl h)
+none_free pages from to p h low high = sym (ap is_free (at_between pages from to p low high)) ∙ all_fail (pages_between from to pages) (p - from)
+    (by (position is_free (pages_between from to pages)) refl h)
   where
-    by : (r : Option ℕ) → position is_free (pages_between from to pages) ≡ r → option_map (λ i. from + i) r ≡ None → position is_free (pages_between from to pages) ≡ None
+    by : (r : Option ℕ) → position is_free (pages_between from to pages) ≡ r → option_map (λ i. from + i) r ≡ None →
+        position is_free (pages_between from to pages) ≡ None
     by None e g = e
     by (Some i) e g = cc
 
@@ -95,11 +100,14 @@ none_taken pages c p h e = by (cases_Bool (is_taken (page_at pages p)))
     by (inl b) =
         let low : 256 * c ≤ p = omega arith in
         let high : p < 256 * c + 256 = omega arith in
-        let here : is_taken (get_or (pages_between (start_of c) (end_of c) pages) (p - start_of c) Unusable) ≡ true = ap is_taken (at_between pages (start_of c) (end_of c) p low high) ∙ b in
-        absurd (false≢true (sym h ∙ list_any_at is_taken (pages_between (start_of c) (end_of c) pages) (p - start_of c) Unusable (taken_below (pages_between (start_of c) (end_of c) pages) (p - start_of c) here) here))
+        let here : is_taken (get_or (pages_between (start_of c) (end_of c) pages) (p - start_of c) Unusable) ≡ true =
+        ap is_taken (at_between pages (start_of c) (end_of c) p low high) ∙ b in
+        absurd (false≢true (sym h ∙ list_any_at is_taken (pages_between (start_of c) (end_of c) pages) (p - start_of c) Unusable
+        (taken_below (pages_between (start_of c) (end_of c) pages) (p - start_of c) here) here))
 
 -- what a call answered, at other names of its arguments
-pub answered : (pages pages' : List Page) (from from' to to' : ℕ) (r s : Option ℕ) → pages' ≡ pages → from' ≡ from → to' ≡ to → r ≡ lowest pages' from' to' → r ≡ s → lowest pages from to ≡ s
+pub answered : (pages pages' : List Page) (from from' to to' : ℕ) (r s : Option ℕ) → pages' ≡ pages → from' ≡ from → to' ≡ to → r ≡ lowest pages' from' to' →
+    r ≡ s → lowest pages from to ≡ s
 answered pages pages' from from' to to' r s a b d e f = sym (e ∙ (λ k. lowest (a k) (b k) (d k))) ∙ f
 
 -- none before it is free
@@ -124,7 +132,8 @@ none_is pages from to h = by (lowest pages from to) refl
     by (Some p) e = let f = found pages from to p e in absurd (false≢true (sym (h p f.0 f.1) ∙ f.2))
 
 -- the lowest of the first cluster that has one is the lowest of the area
-pub lowest_of_all : (pages : List Page) (c : ℕ) (r : Option ℕ) → r ≡ lowest pages (start_of c) (end_of c) → is_some r ≡ true → ((q : ℕ) → q < 256 * c → is_free (page_at pages q) ≡ false) → r ≡ lowest pages 0 (length pages)
+pub lowest_of_all : (pages : List Page) (c : ℕ) (r : Option ℕ) → r ≡ lowest pages (start_of c) (end_of c) → is_some r ≡ true →
+    ((q : ℕ) → q < 256 * c → is_free (page_at pages q) ≡ false) → r ≡ lowest pages 0 (length pages)
 lowest_of_all pages c None e some before = absurd (false≢true some)
 lowest_of_all pages c (Some p) e some before = by (lowest pages 0 (length pages)) refl
   where
@@ -148,13 +157,15 @@ lowest_of_all pages c (Some p) e some before = by (lowest pages 0 (length pages)
         order (inr (inr l)) = absurd (false≢true (sym (earlier l (cases_lt q (256 * c))) ∙ g.2))
 
 -- a marked cluster has none, and one that has none may be marked
-pub none_marked : (pages : List Page) (marks : List Bool) (c : ℕ) → AreFull pages marks → get_or marks c false ≡ true → lowest pages (start_of c) (end_of c) ≡ None
+pub none_marked : (pages : List Page) (marks : List Bool) (c : ℕ) → AreFull pages marks → get_or marks c false ≡ true →
+    lowest pages (start_of c) (end_of c) ≡ None
 none_marked pages marks c full is = none_is pages (start_of c) (end_of c) (λ q low high. full q (ap (λ d. get_or marks d false) (inside q low high) ∙ is))
   where
     inside : (q : ℕ) → 256 * c ≤ q → q < 256 * c + 256 → q / 256 ≡ c
     inside q a b = omega (arith, a, b)
 
-pub mark_one : (pages : List Page) (marks : List Bool) (c : ℕ) → AreFull pages marks → lowest pages (start_of c) (end_of c) ≡ None → AreFull pages (set marks c true)
+pub mark_one : (pages : List Page) (marks : List Bool) (c : ℕ) → AreFull pages marks → lowest pages (start_of c) (end_of c) ≡ None →
+    AreFull pages (set marks c true)
 mark_one pages marks c full none q is = by (cases_eq (q / 256) c)
   where
     low : q / 256 ≡ c → 256 * c ≤ q
@@ -174,7 +185,8 @@ free_is Taken h = absurd (false≢true h)
 
 none_counted : (pages : List Page) → ((p : ℕ) → is_free (page_at pages p) ≡ false) → count_by is_free pages ≡ 0
 none_counted [] h = refl
-none_counted (page ∷ pages) h = sum_by-cons (λ x. cond (is_free x) 1 0) page pages ∙ zero_both _ _ (ap (λ b. cond b 1 0) (h 0)) (none_counted pages (λ p. h (suc p)))
+none_counted (page ∷ pages) h = sum_by-cons (λ x. cond (is_free x) 1 0) page pages ∙ zero_both _ _ (ap (λ b. cond b 1 0) (h 0))
+    (none_counted pages (λ p. h (suc p)))
   where
     zero_both : (a b : ℕ) → a ≡ 0 → b ≡ 0 → a + b ≡ 0
     zero_both a b x y = omega (arith, x, y)
@@ -199,7 +211,8 @@ pub written_over : (old new : List Bool) (n : ℕ) → length new ≡ n → take
 written_over old new n is = ap (λ k. take k (new ++ drop (length new) old)) (sym is) ∙ take-append_seam new (drop (length new) old)
 
 -- a search without a find has passed one more cluster
-pub passed : (pages : List Page) (c : ℕ) (r : Option ℕ) → r ≡ lowest pages (start_of c) (end_of c) → is_some r ≡ false → ((q : ℕ) → q < 256 * c → is_free (page_at pages q) ≡ false)
+pub passed : (pages : List Page) (c : ℕ) (r : Option ℕ) → r ≡ lowest pages (start_of c) (end_of c) → is_some r ≡ false →
+    ((q : ℕ) → q < 256 * c → is_free (page_at pages q) ≡ false)
     → (q : ℕ) → q < 256 * (c + 1) → is_free (page_at pages q) ≡ false
 passed pages c (Some p) e some before q h = absurd (false≢true (sym some))
 passed pages c None e some before q h = by (cases_lt q (256 * c))

@@ -21,7 +21,8 @@ pub one_fewer : (pages : List Page) (p : ℕ) → is_free (page_at pages p) ≡ 
 one_fewer pages p free = sum_fewer _ _ _ (ap (λ b. cond b 1 0) free) (sum_by-set (λ x. cond (is_free x) 1 0) pages p Taken Unusable (free_below pages p free))
 
 pub one_more : (pages : List Page) (p : ℕ) → is_taken (page_at pages p) ≡ true → count_by is_free (set pages p Free) ≡ count_by is_free pages + 1
-one_more pages p taken = sum_more _ _ _ (ap (λ b. cond b 1 0) (taken_not_free (page_at pages p) taken)) (sum_by-set (λ x. cond (is_free x) 1 0) pages p Free Unusable (taken_below pages p taken))
+one_more pages p taken = sum_more _ _ _ (ap (λ b. cond b 1 0) (taken_not_free (page_at pages p) taken))
+    (sum_by-set (λ x. cond (is_free x) 1 0) pages p Free Unusable (taken_below pages p taken))
 
 pub takes : (pages : List Page) (p : ℕ) → is_free (page_at pages p) ≡ true → Takes pages p (set pages p Taken)
 takes pages p free = let was = was_free pages p free in (was.0, was.1, refl, one_fewer pages p free)
@@ -70,7 +71,8 @@ one_of false n h = (refl, omega (arith, h))
 front : (c : ℕ) (rest : List ℕ) (b : Bool) → count_by (λ d. c == d) (c ∷ rest) ≡ cond b 0 1 → (b ≡ false) × (count_by (λ d. c == d) rest ≡ 0)
 front c rest b h = one_of b _ (sym (ap (λ t. cond t 1 0 + count_by (λ d. c == d) rest) (same_is c)) ∙ sym (sum_by-cons (λ d. cond (c == d) 1 0) c rest) ∙ h)
 
-once_taken : (c : ℕ) (rest : List ℕ) (flags : List Bool) → ((d : ℕ) → count_by (λ e. d == e) (c ∷ rest) ≡ cond (get_or flags d true) 0 1) → (d : ℕ) → count_by (λ e. d == e) rest ≡ cond (get_or (set flags c true) d true) 0 1
+once_taken : (c : ℕ) (rest : List ℕ) (flags : List Bool) → ((d : ℕ) → count_by (λ e. d == e) (c ∷ rest) ≡ cond (get_or flags d true) 0 1) → (d : ℕ) →
+    count_by (λ e. d == e) rest ≡ cond (get_or (set flags c true) d true) 0 1
 once_taken c rest flags once d = by (cases_eq d c)
   where
     by : (d ≡ c) ⊎ (d ≡ c → ⊥) → count_by (λ e. d == e) rest ≡ cond (get_or (set flags c true) d true) 0 1
@@ -80,27 +82,32 @@ once_taken c rest flags once d = by (cases_eq d c)
         sym (sum_by-cons (λ e. cond (d == e) 1 0) c rest ∙ ap (λ b. cond b 1 0 + count_by (λ e. d == e) rest) no_match ∙ none_plus _) ∙ once d
         ∙ sym (ap (λ b. cond b 0 1) (get_or-set_other flags c d true true n))
 
-once_given : (c : ℕ) (frees : List ℕ) (flags : List Bool) → c < length flags → get_or flags c true ≡ true → ((d : ℕ) → count_by (λ e. d == e) frees ≡ cond (get_or flags d true) 0 1)
+once_given : (c : ℕ) (frees : List ℕ) (flags : List Bool) → c < length flags → get_or flags c true ≡ true →
+    ((d : ℕ) → count_by (λ e. d == e) frees ≡ cond (get_or flags d true) 0 1)
     → (d : ℕ) → count_by (λ e. d == e) (frees ++ c ∷ []) ≡ cond (get_or (set flags c false) d true) 0 1
 once_given c frees flags below busy once d = by (cases_eq d c)
   where
     by : (d ≡ c) ⊎ (d ≡ c → ⊥) → count_by (λ e. d == e) (frees ++ c ∷ []) ≡ cond (get_or (set flags c false) d true) 0 1
     by (inl e) = subst (λ x. count_by (λ y. x == y) (frees ++ c ∷ []) ≡ cond (get_or (set flags c false) x true) 0 1) (sym e)
-        (sum_by_push (λ y. cond (c == y) 1 0) frees c ∙ ap (λ b. count_by (λ y. c == y) frees + cond b 1 0) (same_is c) ∙ ap (λ m. m + 1) (once c ∙ ap (λ b. cond b 0 1) busy)
+        (sum_by_push (λ y. cond (c == y) 1 0) frees c ∙ ap (λ b. count_by (λ y. c == y) frees + cond b 1 0) (same_is c)
+        ∙ ap (λ m. m + 1) (once c ∙ ap (λ b. cond b 0 1) busy)
         ∙ sym (ap (λ b. cond b 0 1) (get_or-set_same flags c false true below)))
     by (inr n) = let no_match : (d == c) ≡ false = grind (arith, nat_tests) in
         sum_by_push (λ e. cond (d == e) 1 0) frees c ∙ ap (λ b. count_by (λ e. d == e) frees + cond b 1 0) no_match ∙ plus_none _ ∙ once d
         ∙ sym (ap (λ b. cond b 0 1) (get_or-set_other flags c d false true n))
 
-total_taken : (c : ℕ) (rest : List ℕ) (flags : List Bool) → get_or flags c true ≡ false → suc (length rest) + count_by itself flags ≡ length flags → length rest + count_by itself (set flags c true) ≡ length (set flags c true)
-total_taken c rest flags h t = sum (length rest) _ _ _ _ (ap (λ b. cond b 1 0) h) (sum_by-set (λ b. cond b 1 0) flags c true true (flag_below flags c h)) t ∙ sym (length-set flags c true)
+total_taken : (c : ℕ) (rest : List ℕ) (flags : List Bool) → get_or flags c true ≡ false → suc (length rest) + count_by itself flags ≡ length flags →
+    length rest + count_by itself (set flags c true) ≡ length (set flags c true)
+total_taken c rest flags h t = sum (length rest) _ _ _ _ (ap (λ b. cond b 1 0) h) (sum_by-set (λ b. cond b 1 0) flags c true true (flag_below flags c h)) t
+    ∙ sym (length-set flags c true)
   where
     sum : (r m n k l : ℕ) → k ≡ 0 → m + k ≡ n + 1 → suc r + n ≡ l → r + m ≡ l
     sum r m n k l a b e = omega (arith, a, b, e)
 
 total_given : (c : ℕ) (frees : List ℕ) (flags : List Bool) → c < length flags → get_or flags c true ≡ true → length frees + count_by itself flags ≡ length flags
     → length (frees ++ c ∷ []) + count_by itself (set flags c false) ≡ length (set flags c false)
-total_given c frees flags below h t = sum (length frees) _ _ _ _ _ (length-append frees (c ∷ [])) (ap (λ b. cond b 1 0) h) (sum_by-set (λ b. cond b 1 0) flags c false true below) t ∙ sym (length-set flags c false)
+total_given c frees flags below h t = sum (length frees) _ _ _ _ _ (length-append frees (c ∷ [])) (ap (λ b. cond b 1 0) h)
+    (sum_by-set (λ b. cond b 1 0) flags c false true below) t ∙ sym (length-set flags c false)
   where
     sum : (r r' m n k l : ℕ) → r' ≡ r + 1 → k ≡ 1 → m + k ≡ n + 0 → r + n ≡ l → r' + m ≡ l
     sum r r' m n k l x a b e = omega (arith, x, a, b, e)
@@ -116,14 +123,16 @@ Fit pages flags = (d : ℕ) → get_or flags d true ≡ false → (q : ℕ) × (
 abbrev Grows : List Bool → List Bool → Type 0
 Grows flags flags' = (d : ℕ) → get_or flags d true ≡ true → get_or flags' d true ≡ true
 
-held_taken : (pages : List Page) (flags flags' : List Bool) (p : ℕ) → Held pages flags → Grows flags flags' → get_or flags' (p / 256) true ≡ true → Held (set pages p Taken) flags'
+held_taken : (pages : List Page) (flags flags' : List Bool) (p : ℕ) → Held pages flags → Grows flags flags' → get_or flags' (p / 256) true ≡ true →
+    Held (set pages p Taken) flags'
 held_taken pages flags flags' p held grow here q t = by (cases_eq q p)
   where
     by : (q ≡ p) ⊎ (q ≡ p → ⊥) → get_or flags' (q / 256) true ≡ true
     by (inl e) = ap (λ n. get_or flags' (n / 256) true) e ∙ here
     by (inr n) = grow (q / 256) (held q (sym (ap is_taken (get_or-set_other pages p q Taken Unusable n)) ∙ t))
 
-fit_taken : (pages : List Page) (flags flags' : List Bool) (p : ℕ) → Fit pages flags → Grows flags flags' → get_or flags' (p / 256) true ≡ true → Fit (set pages p Taken) flags'
+fit_taken : (pages : List Page) (flags flags' : List Bool) (p : ℕ) → Fit pages flags → Grows flags flags' → get_or flags' (p / 256) true ≡ true →
+    Fit (set pages p Taken) flags'
 fit_taken pages flags flags' p fit grow here d low = by (cases_Bool (get_or flags d true))
   where
     by : (get_or flags d true ≡ true) ⊎ (get_or flags d true ≡ false) → (q : ℕ) × (q / 256 ≡ d) × (is_free (page_at (set pages p Taken) q) ≡ true)
@@ -134,14 +143,16 @@ fit_taken pages flags flags' p fit grow here d low = by (cases_Bool (get_or flag
         (f.0, f.1, ap is_free (get_or-set_other pages p f.0 Taken Unusable apart) ∙ f.2)
 
 held_given : (pages : List Page) (flags flags' : List Bool) (p : ℕ) → p < length pages → Held pages flags
-    → ((q : ℕ) → is_taken (page_at (set pages p Free) q) ≡ true → get_or flags (q / 256) true ≡ true → get_or flags' (q / 256) true ≡ true) → Held (set pages p Free) flags'
+    → ((q : ℕ) → is_taken (page_at (set pages p Free) q) ≡ true → get_or flags (q / 256) true ≡ true → get_or flags' (q / 256) true ≡ true) →
+    Held (set pages p Free) flags'
 held_given pages flags flags' p below held kept q t = by (cases_eq q p)
   where
     by : (q ≡ p) ⊎ (q ≡ p → ⊥) → get_or flags' (q / 256) true ≡ true
     by (inl e) = absurd (false≢true (sym (ap (λ n. is_taken (page_at (set pages p Free) n)) e ∙ ap is_taken (get_or-set_same pages p Free Unusable below)) ∙ t))
     by (inr n) = kept q t (held q (sym (ap is_taken (get_or-set_other pages p q Free Unusable n)) ∙ t))
 
-fit_given : (pages : List Page) (flags flags' : List Bool) (p : ℕ) → p < length pages → Fit pages flags → ((d : ℕ) → get_or flags' d true ≡ false → (get_or flags d true ≡ false) ⊎ (p / 256 ≡ d)) → Fit (set pages p Free) flags'
+fit_given : (pages : List Page) (flags flags' : List Bool) (p : ℕ) → p < length pages → Fit pages flags →
+    ((d : ℕ) → get_or flags' d true ≡ false → (get_or flags d true ≡ false) ⊎ (p / 256 ≡ d)) → Fit (set pages p Free) flags'
 fit_given pages flags flags' p below fit same d low = by (same d low)
   where
     here : is_free (page_at (set pages p Free) p) ≡ true
@@ -162,7 +173,8 @@ full_taken pages marks p below full q is = by (cases_eq q p)
     by (inl e) = ap (λ n. is_free (page_at (set pages p Taken) n)) e ∙ ap is_free (get_or-set_same pages p Taken Unusable below)
     by (inr n) = ap is_free (get_or-set_other pages p q Taken Unusable n) ∙ full q is
 
-full_given : (pages : List Page) (marks : List Bool) (p : ℕ) → p / 256 < length marks → AreFull pages marks → AreFull (set pages p Free) (set marks (p / 256) false)
+full_given : (pages : List Page) (marks : List Bool) (p : ℕ) → p / 256 < length marks → AreFull pages marks →
+    AreFull (set pages p Free) (set marks (p / 256) false)
 full_given pages marks p below full q is = by (cases_eq (q / 256) (p / 256))
   where
     by : (q / 256 ≡ p / 256) ⊎ (q / 256 ≡ p / 256 → ⊥) → is_free (page_at (set pages p Free) q) ≡ false
@@ -174,10 +186,12 @@ full_given pages marks p below full q is = by (cases_eq (q / 256) (p / 256))
 -- ---- each call keeps the parts together
 
 module _ (pages : List Page) (left : ℕ) (frees : List ℕ) (n room : ℕ) (flags marks : List Bool) (filled : Option ℕ) (mark : ℕ) where
-  whole_taken : (p : ℕ) (frees' : List ℕ) (n' room' : ℕ) (flags' marks' : List Bool) (filled' : Option ℕ) (mark' : ℕ) → IsWhole pages left frees n room flags marks filled mark → is_free (page_at pages p) ≡ true
+  whole_taken : (p : ℕ) (frees' : List ℕ) (n' room' : ℕ) (flags' marks' : List Bool) (filled' : Option ℕ) (mark' : ℕ) →
+      IsWhole pages left frees n room flags marks filled mark → is_free (page_at pages p) ≡ true
       → Grows flags flags' → get_or flags' (p / 256) true ≡ true → length flags' ≡ length flags → n' ≡ length frees' → room' ≡ room
       → length frees' + count_by itself flags' ≡ length flags' → ((d : ℕ) → count_by (λ e. d == e) frees' ≡ cond (get_or flags' d true) 0 1)
-      → Fills flags' (length pages) mark' filled' → AreFull pages marks' → length marks' ≡ length pages / 256 + 1 → IsWhole (set pages p Taken) (left - 1) frees' n' room' flags' marks' filled' mark'
+      → Fills flags' (length pages) mark' filled' → AreFull pages marks' → length marks' ≡ length pages / 256 + 1 →
+      IsWhole (set pages p Taken) (left - 1) frees' n' room' flags' marks' filled' mark'
   whole_taken p frees' n' room' flags' marks' filled' mark' w free grow here long len same total once fills full marked =
       let count = length-set pages p Taken in
       record {
@@ -198,9 +212,11 @@ module _ (pages : List Page) (left : ℕ) (frees : List ℕ) (n room : ℕ) (fla
       minus : (l m k : ℕ) → l ≡ k → m + 1 ≡ k → l - 1 ≡ m
       minus l m k a b = omega (arith, a, b)
 
-  whole_given : (p : ℕ) (frees' : List ℕ) (n' room' : ℕ) (flags' : List Bool) (filled' : Option ℕ) → IsWhole pages left frees n room flags marks filled mark → is_taken (page_at pages p) ≡ true
+  whole_given : (p : ℕ) (frees' : List ℕ) (n' room' : ℕ) (flags' : List Bool) (filled' : Option ℕ) → IsWhole pages left frees n room flags marks filled mark →
+      is_taken (page_at pages p) ≡ true
       → ((q : ℕ) → is_taken (page_at (set pages p Free) q) ≡ true → get_or flags (q / 256) true ≡ true → get_or flags' (q / 256) true ≡ true)
-      → ((d : ℕ) → get_or flags' d true ≡ false → (get_or flags d true ≡ false) ⊎ (p / 256 ≡ d)) → length flags' ≡ length flags → n' ≡ length frees' → room' ≡ room
+      → ((d : ℕ) → get_or flags' d true ≡ false → (get_or flags d true ≡ false) ⊎ (p / 256 ≡ d)) → length flags' ≡ length flags →
+      n' ≡ length frees' → room' ≡ room
       → length frees' + count_by itself flags' ≡ length flags' → ((d : ℕ) → count_by (λ e. d == e) frees' ≡ cond (get_or flags' d true) 0 1)
       → Fills flags' (length pages) mark filled' → IsWhole (set pages p Free) (left + 1) frees' n' room' flags' (set marks (p / 256) false) filled' mark
   whole_given p frees' n' room' flags' filled' w taken kept fewer long len same total once fills =
@@ -262,8 +278,10 @@ module _ (pages : List Page) (left : ℕ) (frees : List ℕ) (n room : ℕ) (fla
       next : (q m : ℕ) → q < m → q + 1 ≤ m
       next q m a = omega (arith, a)
 
-  pub whole_anywhere : (p : ℕ) (marks' : List Bool) → IsWhole pages left frees n room flags marks filled mark → frees ≡ [] → is_free (page_at pages p) ≡ true → AreFull pages marks' → length marks' ≡ length marks → IsWhole (set pages p Taken) (left - 1) frees n room flags marks' filled mark
-  whole_anywhere p marks' w none free full long = whole_taken p frees n room flags marks' filled mark w free (λ d h. h) (by (cases_Bool (get_or flags (p / 256) true))) refl w.len refl w.total w.once w.fills full (long ∙ w.marked)
+  pub whole_anywhere : (p : ℕ) (marks' : List Bool) → IsWhole pages left frees n room flags marks filled mark → frees ≡ [] → is_free (page_at pages p) ≡ true →
+      AreFull pages marks' → length marks' ≡ length marks → IsWhole (set pages p Taken) (left - 1) frees n room flags marks' filled mark
+  whole_anywhere p marks' w none free full long = whole_taken p frees n room flags marks' filled mark w free (λ d h. h)
+      (by (cases_Bool (get_or flags (p / 256) true))) refl w.len refl w.total w.once w.fills full (long ∙ w.marked)
     where
       by : (get_or flags (p / 256) true ≡ true) ⊎ (get_or flags (p / 256) true ≡ false) → get_or flags (p / 256) true ≡ true
       by (inl b) = b
@@ -280,8 +298,10 @@ module _ (pages : List Page) (left : ℕ) (frees : List ℕ) (n room : ℕ) (fla
       small : (q : ℕ) → q / 256 ≡ c → q < length pages → 256 * c ≤ length pages
       small q a b = omega (arith, a, b)
 
-  pub has_one : (c : ℕ) (rest : List ℕ) → IsWhole pages left frees n room flags marks filled mark → frees ≡ c ∷ rest → lowest pages (start_of c) (end_of c) ≡ None → ⊥
-  has_one c rest w is none = let f = w.fit c (is_open c rest w is) in false≢true (sym (none_free pages (start_of c) (end_of c) f.0 none (low f.0 f.1) (high f.0 f.1)) ∙ f.2)
+  pub has_one : (c : ℕ) (rest : List ℕ) → IsWhole pages left frees n room flags marks filled mark → frees ≡ c ∷ rest →
+      lowest pages (start_of c) (end_of c) ≡ None → ⊥
+  has_one c rest w is none = let f = w.fit c (is_open c rest w is) in
+      false≢true (sym (none_free pages (start_of c) (end_of c) f.0 none (low f.0 f.1) (high f.0 f.1)) ∙ f.2)
     where
       low : (q : ℕ) → q / 256 ≡ c → 256 * c ≤ q
       low q a = omega (arith, a)
@@ -289,7 +309,8 @@ module _ (pages : List Page) (left : ℕ) (frees : List ℕ) (n room : ℕ) (fla
       high : (q : ℕ) → q / 256 ≡ c → q < 256 * c + 256
       high q a = omega (arith, a)
 
-  pub whole_in_next : (c p : ℕ) (rest : List ℕ) (n' room' : ℕ) → IsWhole pages left frees n room flags marks filled mark → frees ≡ c ∷ rest → lowest pages (start_of c) (end_of c) ≡ Some p → n' ≡ length rest → room' ≡ room
+  pub whole_in_next : (c p : ℕ) (rest : List ℕ) (n' room' : ℕ) → IsWhole pages left frees n room flags marks filled mark → frees ≡ c ∷ rest →
+      lowest pages (start_of c) (end_of c) ≡ Some p → n' ≡ length rest → room' ≡ room
       → IsWhole (set pages p Taken) (left - 1) rest n' room' (set flags c true) marks (Some c) (p + 1)
   whole_in_next c p rest n' room' w is low len same =
       let f = found pages (start_of c) (end_of c) p low in
@@ -298,7 +319,8 @@ module _ (pages : List Page) (left : ℕ) (frees : List ℕ) (n room : ℕ) (fla
       let start : start_of c ≤ p + 1 = above f.0 in
       let end : p + 1 ≤ end_of c = next _ _ f.1 in
       let last : p + 1 ≤ length pages = next _ _ below in
-      whole_taken p rest n' room' (set flags c true) marks (Some c) (p + 1) w f.2 (grow_set flags c) (ap (λ m. get_or (set flags c true) m true) inside ∙ set_true flags c) (length-set flags c true) len same
+      whole_taken p rest n' room' (set flags c true) marks (Some c) (p + 1) w f.2 (grow_set flags c)
+      (ap (λ m. get_or (set flags c true) m true) inside ∙ set_true flags c) (length-set flags c true) len same
       (total_taken c rest flags (is_open c rest w is) (sym (ap (λ fs. length fs + count_by itself flags) is) ∙ w.total))
       (once_taken c rest flags (λ d. sym (ap (count_by (λ e. d == e)) is) ∙ w.once d))
       (set_true flags c, start, end, last) w.full w.marked
@@ -313,7 +335,8 @@ module _ (pages : List Page) (left : ℕ) (frees : List ℕ) (n room : ℕ) (fla
       next q m a = omega (arith, a)
 
   -- where one is given back
-  pub whole_back : (p : ℕ) → IsWhole pages left frees n room flags marks filled mark → is_taken (page_at pages p) ≡ true → IsWhole (set pages p Free) (left + 1) frees n room flags (set marks (p / 256) false) filled mark
+  pub whole_back : (p : ℕ) → IsWhole pages left frees n room flags marks filled mark → is_taken (page_at pages p) ≡ true →
+      IsWhole (set pages p Free) (left + 1) frees n room flags (set marks (p / 256) false) filled mark
   whole_back p w taken = whole_given p frees n room flags filled w taken (λ q t h. h) (λ d h. inl h) refl w.len refl w.total w.once w.fills
 
   pub cluster_below : (p : ℕ) → IsWhole pages left frees n room flags marks filled mark → is_taken (page_at pages p) ≡ true → p / 256 < length flags
@@ -323,20 +346,25 @@ module _ (pages : List Page) (left : ℕ) (frees : List ℕ) (n room : ℕ) (fla
       sum l a b = omega (arith, a, b)
 
   pub has_room : (p : ℕ) → IsWhole pages left frees n room flags marks filled mark → is_taken (page_at pages p) ≡ true → n < room
-  has_room p w taken = sum _ _ _ (sum_by-set (λ b. cond b 1 0) flags (p / 256) false true (cluster_below p w taken)) (ap (λ b. cond b 1 0) (w.held p taken)) w.total w.len w.room
+  has_room p w taken = sum _ _ _ (sum_by-set (λ b. cond b 1 0) flags (p / 256) false true (cluster_below p w taken))
+      (ap (λ b. cond b 1 0) (w.held p taken)) w.total w.len w.room
     where
       sum : (m k c : ℕ) → m + c ≡ k + 0 → c ≡ 1 → length frees + k ≡ length flags → n ≡ length frees → length flags ≤ room → n < room
       sum m k c a b d e f = omega (arith, a, b, d, e, f)
 
-  pub whole_emptied : (p n' room' : ℕ) (filled' : Option ℕ) → IsWhole pages left frees n room flags marks filled mark → is_taken (page_at pages p) ≡ true → has_taken (set pages p Free) (p / 256) ≡ false
-      → n' ≡ n + 1 → room' ≡ room → Fills (set flags (p / 256) false) (length pages) mark filled' → IsWhole (set pages p Free) (left + 1) (frees ++ (p / 256) ∷ []) n' room' (set flags (p / 256) false) (set marks (p / 256) false) filled' mark
+  pub whole_emptied : (p n' room' : ℕ) (filled' : Option ℕ) → IsWhole pages left frees n room flags marks filled mark → is_taken (page_at pages p) ≡ true →
+      has_taken (set pages p Free) (p / 256) ≡ false
+      → n' ≡ n + 1 → room' ≡ room → Fills (set flags (p / 256) false) (length pages) mark filled' →
+      IsWhole (set pages p Free) (left + 1) (frees ++ (p / 256) ∷ []) n' room' (set flags (p / 256) false) (set marks (p / 256) false) filled' mark
   whole_emptied p n' room' filled' w taken none len same fills =
       let below = cluster_below p w taken in
       let busy = w.held p taken in
-      whole_given p (frees ++ (p / 256) ∷ []) n' room' (set flags (p / 256) false) filled' w taken kept fewer (length-set flags (p / 256) false) (len ∙ ap (λ m. m + 1) w.len ∙ sym (length-append frees ((p / 256) ∷ []))) same
+      whole_given p (frees ++ (p / 256) ∷ []) n' room' (set flags (p / 256) false) filled' w taken kept fewer (length-set flags (p / 256) false)
+      (len ∙ ap (λ m. m + 1) w.len ∙ sym (length-append frees ((p / 256) ∷ []))) same
       (total_given (p / 256) frees flags below busy w.total) (once_given (p / 256) frees flags below busy w.once) fills
     where
-      kept : (q : ℕ) → is_taken (page_at (set pages p Free) q) ≡ true → get_or flags (q / 256) true ≡ true → get_or (set flags (p / 256) false) (q / 256) true ≡ true
+      kept : (q : ℕ) → is_taken (page_at (set pages p Free) q) ≡ true → get_or flags (q / 256) true ≡ true →
+          get_or (set flags (p / 256) false) (q / 256) true ≡ true
       kept q t h = get_or-set_other flags (p / 256) (q / 256) false true (λ e. false≢true (sym (none_taken (set pages p Free) (p / 256) q none e) ∙ t)) ∙ h
 
       fewer : (d : ℕ) → get_or (set flags (p / 256) false) d true ≡ false → (get_or flags d true ≡ false) ⊎ (p / 256 ≡ d)
@@ -347,7 +375,8 @@ module _ (pages : List Page) (left : ℕ) (frees : List ℕ) (n room : ℕ) (fla
           by (inr m) = inl (sym (get_or-set_other flags (p / 256) d false true m) ∙ low)
 
 -- another cluster is still being filled
-pub fills_unless : (flags : List Bool) (count mark c : ℕ) (filled : Option ℕ) → Fills flags count mark filled → Fills (set flags c false) count mark (unless c filled)
+pub fills_unless : (flags : List Bool) (count mark c : ℕ) (filled : Option ℕ) → Fills flags count mark filled →
+    Fills (set flags c false) count mark (unless c filled)
 fills_unless flags count mark c None h = tt
 fills_unless flags count mark c (Some d) h = by (c == d) refl
   where

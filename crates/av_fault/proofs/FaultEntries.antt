@@ -38,7 +38,8 @@ zeroed m v w l p page parts there none =
 module _ (m : Setting) (v : View) (w : World) (l : Ledger) (p page f : ℕ) (was write : Bool) (parts : Parts m v w l) (there : is_some (pages w p page) ≡ true)
     (named : entry l (p, page) ≡ Some (InFrame f was)) (few : write ≡ true → map_count l f ≤ 1) where
   pub seen : Parts m (changed p page (as_pte (InFrame f true) write) v.bytes v.maps v.free v) w (set_entry (p, page) (InFrame f true) l)
-  seen = parts_now m v w l (set_entry (p, page) (InFrame f true) l) p page (InFrame f true) write v.bytes v.maps v.free parts refl parts.cache refl refl parts.active there
+  seen = parts_now m v w l (set_entry (p, page) (InFrame f true) l) p page (InFrame f true) write v.bytes v.maps v.free parts refl
+      parts.cache refl refl parts.active there
       (λ s. ap (weight (names_slot s)) named) (λ s. refl)
       (λ g. ap (λ o. v.maps g + weight (names_frame g) o) named)
       (frees m v w l parts) (λ g few. few)
@@ -53,7 +54,8 @@ abbrev pub given_to : ℕ → ℕ → ℕ → Ledger → Ledger
 given_to p page f l = to_inactive_head f (set_entry (p, page) (InFrame f false) l)
 
 pub entry_given : (p page f : ℕ) (l : Ledger) → entry (given_to p page f l) (p, page) ≡ Some (InFrame f false)
-entry_given p page f l = entry-set (p, page) (InFrame f false) l (p, page) ∙ ap (λ b. cond b (Some (InFrame f false)) (entry l (p, page))) (same_key-itself (p, page))
+entry_given p page f l = entry-set (p, page) (InFrame f false) l (p, page) ∙ ap (λ b. cond b (Some (InFrame f false)) (entry l (p, page)))
+    (same_key-itself (p, page))
 
 pub at_most_one : (test : Entry → Bool) (e : Option Entry) → weight test e ≤ 1
 at_most_one test None = omega arith
@@ -100,7 +102,8 @@ module _ (m : Setting) (v : View) (w : World) (l : Ledger) (p page f : ℕ) (res
             bound n k c h z = omega arith
 
     free_now : (g : ℕ) → g < m.frames → (b : Bool) → (g == f) ≡ b → is_in g rest ≡ (maps g == 0)
-    free_now g under true e = ap (λ x. is_in x rest) (equal_is g f e) ∙ gone ∙ sym (one _ _ _ (counts g ∙ ap (λ b. v.maps g + cond b 1 0) e) (ap v.maps (equal_is g f e) ∙ none_yet) (keeps g))
+    free_now g under true e = ap (λ x. is_in x rest) (equal_is g f e) ∙ gone
+        ∙ sym (one _ _ _ (counts g ∙ ap (λ b. v.maps g + cond b 1 0) e) (ap v.maps (equal_is g f e) ∙ none_yet) (keeps g))
       where
         one : (n k c : ℕ) → n + k ≡ c + 1 → c ≡ 0 → (0 < k → 1 < c) → (n == 0) ≡ false
         one n zero c h z more = grind (arith, nat_tests)
@@ -113,17 +116,20 @@ module _ (m : Setting) (v : View) (w : World) (l : Ledger) (p page f : ℕ) (res
 
         same_test : (n k c : ℕ) → n + k ≡ c + 0 → (0 < k → 1 < c) → k ≤ 1 → (n == 0) ≡ (c == 0)
         same_test n zero c h more few = grind (arith, nat_tests)
-        same_test n (suc k) c h more few = let two = more (omega arith) in let a : (n == 0) ≡ false = not_zero n (omega (arith, h, two, few)) in let b : (c == 0) ≡ false = not_zero c (omega (arith, two)) in a ∙ sym b
+        same_test n (suc k) c h more few = let two = more (omega arith) in let a : (n == 0) ≡ false = not_zero n (omega (arith, h, two, few)) in
+            let b : (c == 0) ≡ false = not_zero c (omega (arith, two)) in a ∙ sym b
 
     other_frame : (g : ℕ) → 0 < map_count l g → (b : Bool) → (g == f) ≡ b → (g == f) ≡ false
     other_frame g some false e = e
     other_frame g some true e = let zero = ap (map_count l) (equal_is g f e) ∙ unmapped in absurd (omega (arith, some, zero))
 
     pub given : Parts m (changed p page (as_pte (InFrame f false) true) (with_at f bytes v.bytes) maps rest v) w (given_to p page f l)
-    given = parts_now m v w l (given_to p page f l) p page (InFrame f false) true (with_at f bytes v.bytes) maps rest parts refl parts.cache refl refl (ap (without f) parts.active) there no_slot (λ s. refl) counts
+    given = parts_now m v w l (given_to p page f l) p page (InFrame f false) true (with_at f bytes v.bytes) maps rest parts refl parts.cache refl refl
+        (ap (without f) parts.active) there no_slot (λ s. refl) counts
         (λ g under. free_now g under (g == f) refl) few
         (λ writes g names. few_own g names)
-        (λ q o g was is other. ap (λ b. cond b bytes (v.bytes g)) (other_frame g (how_many-found (names_frame g) (q, o) l.entries (InFrame g was) is (itself g)) (g == f) refl))
+        (λ q o g was is other. ap (λ b. cond b bytes (v.bytes g)) (other_frame g (how_many-found (names_frame g) (q, o) l.entries (InFrame g was) is (itself g))
+        (g == f) refl))
         (subst (Holds (pages w p page)) (sym (ap (λ b. cond b bytes (v.bytes f)) (itself f))) holds)
       where
         few_own : (g : ℕ) → (g == f) ≡ true → maps g ≤ 1

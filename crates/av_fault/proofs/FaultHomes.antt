@@ -39,7 +39,8 @@ itself n = grind (arith, nat_tests)
 
 -- ---- the view with other homes
 
-kept_at_home : (v : View) (homes : Homes) (d : Device) (l : Ledger) (e : Option Entry) (x : Option Page) → IsKept v d l e x → IsKept (record v { homes = homes }) d l e x
+kept_at_home : (v : View) (homes : Homes) (d : Device) (l : Ledger) (e : Option Entry) (x : Option Page) → IsKept v d l e x →
+    IsKept (record v { homes = homes }) d l e x
 kept_at_home v homes d l None x h = h
 kept_at_home v homes d l (Some Zero) x h = h
 kept_at_home v homes d l (Some (InFrame f seen)) x h = h
@@ -54,10 +55,17 @@ clean_at_home v homes d t None h = h
 clean_at_home v homes d t (Some f) h = h
 
 -- no part looks at homes
-parts_at_home : (m : Setting) (v : View) (homes : Homes) (d : Device) (w : World) (l : Ledger) → PartsStand m v d w l → PartsStand m (record v { homes = homes }) d w l
+parts_at_home : (m : Setting) (v : View) (homes : Homes) (d : Device) (w : World) (l : Ledger) → PartsStand m v d w l →
+    PartsStand m (record v { homes = homes }) d w l
 parts_at_home m v homes d w l h = let ledger = h.ledger in record {
   ledger = record {
-    frames = record { frames = ledger.frames.frames; maps = ledger.frames.maps; slots = ledger.frames.slots; dirty = ledger.frames.dirty; free = ledger.frames.free };
+    frames = record {
+      frames = ledger.frames.frames;
+      maps = ledger.frames.maps;
+      slots = ledger.frames.slots;
+      dirty = ledger.frames.dirty;
+      free = ledger.frames.free;
+    };
     lists = record { active = ledger.lists.active };
     tables = record { entries = ledger.tables.entries; write_bits = ledger.tables.write_bits };
     swap = record { finds = ledger.swap.finds; counts = ledger.swap.counts; flight = ledger.swap.flight; on = ledger.swap.on };
@@ -101,13 +109,15 @@ module _ (mid : Mem) (frames : Store) (p page f : ℕ) (home : Option (ℕ × �
 at_home_twice : (k : Mem) (p page f : ℕ) (r : Rmap) → HasRmap k (at_home f (p, page) r) → HasRmap k (at_home f (p, page) (at_home f (p, page) r))
 at_home_twice k p page f r h = record { areas = h.areas; anons = h.anons; homes = λ g. h.homes g ∙ by g (g == f) }
   where
-    by : (g : ℕ) (b : Bool) → cond b (home_of page (r.areas p page)) (r.homes g) ≡ cond b (home_of page (r.areas p page)) (cond b (home_of page (r.areas p page)) (r.homes g))
+    by : (g : ℕ) (b : Bool) → cond b (home_of page (r.areas p page)) (r.homes g) ≡ cond b (home_of page (r.areas p page))
+        (cond b (home_of page (r.areas p page)) (r.homes g))
     by g true = refl
     by g false = refl
 
 -- ---- the page is ready
 
-module _ (s : State) (old : Mem) (keeps : Keeps old s) (mid : Mem) (frames : Store) (p page f : ℕ) (home : Option (ℕ × ℕ)) (is : seen frames ≡ with_home f home (seen mid.frames)) (notes now : List Note) where
+module _ (s : State) (old : Mem) (keeps : Keeps old s) (mid : Mem) (frames : Store) (p page f : ℕ) (home : Option (ℕ × ℕ))
+    (is : seen frames ≡ with_home f home (seen mid.frames)) (notes now : List Note) where
   same_count : count mid ≡ count (record mid { frames = frames })
   same_count = sym (ap (λ (x : Seen). x.count) is)
 
@@ -115,46 +125,58 @@ module _ (s : State) (old : Mem) (keeps : Keeps old s) (mid : Mem) (frames : Sto
   same_free = sym (ap (λ (x : Seen). frames_free x.free) is)
 
   -- a page that is written where it is
-  pub written_home : IsServed s mid true (p, page) notes now [] (ReadyAt f) → HasRmap mid (rmap_of s) → (was : Bool) → entry s.ledger (p, page) ≡ Some (InFrame f was) → map_count s.ledger f ≤ 1 → home ≡ home_of page (s.areas p page)
+  pub written_home : IsServed s mid true (p, page) notes now [] (ReadyAt f) → HasRmap mid (rmap_of s) → (was : Bool) →
+      entry s.ledger (p, page) ≡ Some (InFrame f was) → map_count s.ledger f ≤ 1 → home ≡ home_of page (s.areas p page)
       → IsTouched s (record mid { frames = frames }) true (p, page) notes now (ReadyAt f)
   written_home served rmap was named few at =
       let use_is = used_is true s.ledger (p, page) f was (of_keeps old s keeps).cache named in
       let names : Names s.ledger (p, page) f = subst (λ o. IsSomeAnd o (λ e. names_frame f e ≡ true)) (sym named) (itself f) in
-      to_touched s mid (record mid { frames = frames }) true (p, page) notes now [] (ReadyAt f) served same_count same_free (within_at_home mid frames p page f home is s.world _ served.parts)
-      (subst (λ o. HasRmap (record mid { frames = frames }) (rmap_after_use true (p, page) o (rmap_of s))) (sym named) (rmap_at_home mid frames p page f home is (rmap_of s) rmap at))
+      to_touched s mid (record mid { frames = frames }) true (p, page) notes now [] (ReadyAt f) served same_count same_free
+      (within_at_home mid frames p page f home is s.world _ served.parts)
+      (subst (λ o. HasRmap (record mid { frames = frames }) (rmap_after_use true (p, page) o (rmap_of s))) (sym named)
+      (rmap_at_home mid frames p page f home is (rmap_of s) rmap at))
       (subst (λ o. IsRmapSound (after_use true (p, page) s.ledger) (rmap_after_use true (p, page) o (rmap_of s))) (sym named)
       (subst (λ l. IsRmapSound l (at_home f (p, page) (rmap_of s))) (sym use_is)
-      (sound-put s.ledger (set_entry (p, page) (InFrame f true) s.ledger) (rmap_of s) (p, page) f true (entry-set (p, page) (InFrame f true) s.ledger) (covered-owns s.ledger (rmap_of s) (p, page) f keeps.stands.reach names)
+      (sound-put s.ledger (set_entry (p, page) (InFrame f true) s.ledger) (rmap_of s) (p, page) f true (entry-set (p, page) (InFrame f true) s.ledger)
+      (covered-owns s.ledger (rmap_of s) (p, page) f keeps.stands.reach names)
       (alone-by s.ledger (p, page) f (of_keeps old s keeps).in_order few names) keeps.stands.reach)))
 
   -- a page that gets a frame which no entry names
-  module _ (note : Note) (r : Rmap) (note_rmap : rmap_after_note note (rmap_of s) ≡ at_home f (p, page) r) (note_is : after_note note s.ledger ≡ given_to p page f s.ledger) (unnamed : map_count s.ledger f ≡ 0)
+  module _ (note : Note) (r : Rmap) (note_rmap : rmap_after_note note (rmap_of s) ≡ at_home f (p, page) r)
+      (note_is : after_note note s.ledger ≡ given_to p page f s.ledger) (unnamed : map_count s.ledger f ≡ 0)
       (owns : IsSomeAnd (r.areas p page) (λ a. IsSome a.anon)) (sound : IsRmapSound s.ledger r) where
     named : entry (after_note note s.ledger) (p, page) ≡ Some (InFrame f false)
     named = ap (λ l. entry l (p, page)) note_is ∙ entry_given p page f s.ledger
 
     use_is : after_use true (p, page) (after_note note s.ledger) ≡ set_entry (p, page) (InFrame f true) (given_to p page f s.ledger)
-    use_is = ap (after_use true (p, page)) note_is ∙ used_is true (given_to p page f s.ledger) (p, page) f false (of_keeps old s keeps).cache (entry_given p page f s.ledger)
+    use_is = ap (after_use true (p, page)) note_is ∙ used_is true (given_to p page f s.ledger) (p, page) f false (of_keeps old s keeps).cache
+        (entry_given p page f s.ledger)
 
     once : IsRmapSound (given_to p page f s.ledger) (at_home f (p, page) r)
-    once = sound-put s.ledger (given_to p page f s.ledger) r (p, page) f false (entry-set (p, page) (InFrame f false) s.ledger) owns (λ q other names. unnamed-by s.ledger f unnamed q names) sound
+    once = sound-put s.ledger (given_to p page f s.ledger) r (p, page) f false (entry-set (p, page) (InFrame f false) s.ledger) owns
+        (λ q other names. unnamed-by s.ledger f unnamed q names) sound
 
     others_not : (q : Key) → same_key q (p, page) ≡ false → Names (given_to p page f s.ledger) q f → ⊥
-    others_not q other names = unnamed-by s.ledger f unnamed q (subst (λ b. IsSomeAnd (cond b (Some (InFrame f false)) (entry s.ledger q)) (λ e. names_frame f e ≡ true)) other
+    others_not q other names = unnamed-by s.ledger f unnamed q (subst
+        (λ b. IsSomeAnd (cond b (Some (InFrame f false)) (entry s.ledger q)) (λ e. names_frame f e ≡ true)) other
         (subst (λ o. IsSomeAnd o (λ e. names_frame f e ≡ true)) (entry-set (p, page) (InFrame f false) s.ledger q) names))
 
     twice : IsRmapSound (set_entry (p, page) (InFrame f true) (given_to p page f s.ledger)) (at_home f (p, page) (at_home f (p, page) r))
-    twice = sound-put (given_to p page f s.ledger) (set_entry (p, page) (InFrame f true) (given_to p page f s.ledger)) (at_home f (p, page) r) (p, page) f true (entry-set (p, page) (InFrame f true) (given_to p page f s.ledger)) owns others_not once
+    twice = sound-put (given_to p page f s.ledger) (set_entry (p, page) (InFrame f true) (given_to p page f s.ledger)) (at_home f (p, page) r) (p, page) f true
+        (entry-set (p, page) (InFrame f true) (given_to p page f s.ledger)) owns others_not once
 
-    pub given_home : {first : Mem} → IsServed s first true (p, page) notes now (note ∷ []) (ReadyAt f) → count first ≡ count mid → free_of (view first) ≡ free_of (view mid)
+    pub given_home : {first : Mem} → IsServed s first true (p, page) notes now (note ∷ []) (ReadyAt f) → count first ≡ count mid →
+        free_of (view first) ≡ free_of (view mid)
         → KeepsWithin mid s.world (after_all s.ledger (page_events true (p, page) (note ∷ []) None)) → HasRmap mid r → home ≡ home_of page (r.areas p page)
         → IsTouched s (record mid { frames = frames }) true (p, page) notes now (ReadyAt f)
     given_home {first} served counted freed within rmap at =
-        to_touched s first (record mid { frames = frames }) true (p, page) notes now (note ∷ []) (ReadyAt f) served (counted ∙ same_count) (freed ∙ same_free) (within_at_home mid frames p page f home is s.world _ within)
+        to_touched s first (record mid { frames = frames }) true (p, page) notes now (note ∷ []) (ReadyAt f) served (counted ∙ same_count) (freed ∙ same_free)
+        (within_at_home mid frames p page f home is s.world _ within)
         (subst (λ x. HasRmap (record mid { frames = frames }) (rmap_after_use true (p, page) (entry (after_note note s.ledger) (p, page)) x)) (sym note_rmap)
         (subst (λ o. HasRmap (record mid { frames = frames }) (rmap_after_use true (p, page) o (at_home f (p, page) r))) (sym named)
         (at_home_twice (record mid { frames = frames }) p page f r (rmap_at_home mid frames p page f home is r rmap at))))
-        (subst (λ x. IsRmapSound (after_use true (p, page) (after_note note s.ledger)) (rmap_after_use true (p, page) (entry (after_note note s.ledger) (p, page)) x)) (sym note_rmap)
+        (subst (λ x. IsRmapSound (after_use true (p, page) (after_note note s.ledger))
+        (rmap_after_use true (p, page) (entry (after_note note s.ledger) (p, page)) x)) (sym note_rmap)
         (subst (λ o. IsRmapSound (after_use true (p, page) (after_note note s.ledger)) (rmap_after_use true (p, page) o (at_home f (p, page) r))) (sym named)
         (subst (λ l. IsRmapSound l (at_home f (p, page) (at_home f (p, page) r))) (sym use_is) twice)))
 
@@ -166,12 +188,16 @@ pub copied_rmap : (p page f : ℕ) (r : Rmap) → rmap_after_note (Copied p (409
 copied_rmap p page f r = ap (λ (k : Key). at_home f k r) (key_at-page p page)
 
 -- a page whose entry names a frame has an area with an own anon_vma
-pub owns_named : (s : State) (old : Mem) → Keeps old s → (p page from : ℕ) (was : Bool) → entry s.ledger (p, page) ≡ Some (InFrame from was) → IsSomeAnd (s.areas p page) (λ a. IsSome a.anon)
-owns_named s old keeps p page from was named = covered-owns s.ledger (rmap_of s) (p, page) from keeps.stands.reach (subst (λ o. IsSomeAnd o (λ e. names_frame from e ≡ true)) (sym named) (itself from))
+pub owns_named : (s : State) (old : Mem) → Keeps old s → (p page from : ℕ) (was : Bool) → entry s.ledger (p, page) ≡ Some (InFrame from was) →
+    IsSomeAnd (s.areas p page) (λ a. IsSome a.anon)
+owns_named s old keeps p page from was named = covered-owns s.ledger (rmap_of s) (p, page) from keeps.stands.reach
+    (subst (λ o. IsSomeAnd o (λ e. names_frame from e ≡ true)) (sym named) (itself from))
 
 -- one that may be written is mapped
-pub mapped_there : (s : State) (old : Mem) → Keeps old s → (p page : ℕ) → is_permitted true (prot_of (ranges_of old.spaces.processes p) page) ≡ true → IsSome (s.areas p page)
-mapped_there s old keeps p page allowed = subst IsSome (keeps.stands.areas p page) (by (pages_of old.spaces.processes p page) (sym (ap (is_permitted true) (prots_are old.spaces.processes p page)) ∙ allowed))
+pub mapped_there : (s : State) (old : Mem) → Keeps old s → (p page : ℕ) → is_permitted true (prot_of (ranges_of old.spaces.processes p) page) ≡ true →
+    IsSome (s.areas p page)
+mapped_there s old keeps p page allowed = subst IsSome (keeps.stands.areas p page)
+    (by (pages_of old.spaces.processes p page) (sym (ap (is_permitted true) (prots_are old.spaces.processes p page)) ∙ allowed))
   where
     by : (o : Option Area) → is_permitted true (option_map prot_on o) ≡ true → IsSome o
     by None h = absurd (false≢true h)

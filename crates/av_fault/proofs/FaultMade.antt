@@ -41,7 +41,8 @@ copied_is p page f l = ap (λ (k : Key). to_inactive_head f (set_entry k (InFram
 abbrev numbers_of : ℕ → ℕ → OutOf
 numbers_of pinned n = record { pinned = pinned; noslot = n - pinned; fault = 0 }
 
-module _ (s : State) (old new : Mem) (p page : ℕ) (notes : List Note) (keeps : Keeps old s) (processes : has new.tables ≡ has old.tables) (same : count new ≡ count old) (order : AnonsFit new.spaces new.anons)
+module _ (s : State) (old new : Mem) (p page : ℕ) (notes : List Note) (keeps : Keeps old s) (processes : has new.tables ≡ has old.tables)
+    (same : count new ≡ count old) (order : AnonsFit new.spaces new.anons)
     (allowed : is_permitted true (prot_of (ranges_in ((view old).areas p)) page) ≡ true) where
   free_now : (f : ℕ) → f < count old → (view old).free ≡ f ∷ (view new).free → is_free s.ledger f ≡ true
   free_now f below first = sym (keeps.stands.parts.ledger.frames.free f below) ∙ ap (is_in f) first ∙ ap (λ b. b || is_in f (view new).free) (itself f)
@@ -57,20 +58,28 @@ module _ (s : State) (old new : Mem) (p page : ℕ) (notes : List Note) (keeps :
 
   module _ (bare : frame_named (entry_at old.tables p page) ≡ None) where
     is_bare_now : is_bare (entry s.ledger (p, page)) ≡ true
-    is_bare_now = bare_entry (setting (count old)) (view old) s.world s.ledger (p, page) (entry_at old.tables p page) (of_keeps old s keeps) (λ t. refl) bare (keeps.stands.parts.ledger.tables.entries p page)
+    is_bare_now = bare_entry (setting (count old)) (view old) s.world s.ledger (p, page) (entry_at old.tables p page) (of_keeps old s keeps) (λ t. refl) bare
+        (keeps.stands.parts.ledger.tables.entries p page)
 
-    pub new_starved : (out : OutOf) → view new ≡ view old → (view old).free ≡ [] → out ≡ numbers_of 0 (count new) → IsTouched s new true (p, page) notes notes (Stopped (Oom out))
-    new_starved out is empty numbers = starved s old new p page notes keeps processes same order NewPage out is allowed (need_fresh s.ledger (entry s.ledger (p, page)) is_bare_now) refl empty
+    pub new_starved : (out : OutOf) → view new ≡ view old → (view old).free ≡ [] → out ≡ numbers_of 0 (count new) →
+        IsTouched s new true (p, page) notes notes (Stopped (Oom out))
+    new_starved out is empty numbers = starved s old new p page notes keeps processes same order NewPage out is allowed
+        (need_fresh s.ledger (entry s.ledger (p, page)) is_bare_now) refl empty
         (numbers ∙ ap (numbers_of 0) same ∙ out_is (setting (count old)) s.ledger None (of_keeps old s keeps).cache (λ g e. absurd (clash e)))
       where
         clash : {g : ℕ} → None ≡ Some g → ⊥
         clash e = cc
 
-    pub new_made : (f : ℕ) (now : List Note) → now ≡ notes ++ New p (4096 * page) f ∷ [] → IsTaken old new p page f (λ i. 0) (one_more f (view old).maps) → IsServed s new true (p, page) notes now (New p (4096 * page) f ∷ []) (ReadyAt f)
-    new_made f now added is = given_now s old new p page notes keeps processes same order now (New p (4096 * page) f) f (λ i. 0) (one_more f (view old).maps) added is allowed (new_is p page f s.ledger) refl
+    pub new_made : (f : ℕ) (now : List Note) → now ≡ notes ++ New p (4096 * page) f ∷ [] → IsTaken old new p page f (λ i. 0) (one_more f (view old).maps) →
+        IsServed s new true (p, page) notes now (New p (4096 * page) f ∷ []) (ReadyAt f)
+    new_made f now added is = given_now s old new p page notes keeps processes same order now (New p (4096 * page) f) f (λ i. 0) (one_more f (view old).maps)
+        added is allowed (new_is p page f s.ledger) refl
         (sym keeps.stands.free ∙ ap frames_free is.first)
-        (serves (setting (count old)) (sparing s.world) s.ledger true (p, page) (New p (4096 * page) f ∷ []) NewPage (need_fresh s.ledger (entry s.ledger (p, page)) is_bare_now) refl
-        (takes-alone (setting (count old)) (sparing s.world s.ledger None) s.ledger f (New p (4096 * page)) (no_swap (setting (count old)) (view old) s.world s.ledger (of_keeps old s keeps)) is.below (free_now f is.below is.first)) (of_keeps old s keeps).cache)
+        (serves (setting (count old)) (sparing s.world) s.ledger true (p, page) (New p (4096 * page) f ∷ []) NewPage
+        (need_fresh s.ledger (entry s.ledger (p, page)) is_bare_now) refl
+        (takes-alone (setting (count old)) (sparing s.world s.ledger None) s.ledger f (New p (4096 * page))
+        (no_swap (setting (count old)) (view old) s.world s.ledger (of_keeps old s keeps)) is.below (free_now f is.below is.first))
+        (of_keeps old s keeps).cache)
         (blank (entry s.ledger (p, page)) is_bare_now (keeps.stands.parts.bytes.kept p page))
         (λ g. counts g (g == f) refl (bare_frame (entry s.ledger (p, page)) is_bare_now g))
         (λ g some. absurd (let none = bare_frame (entry s.ledger (p, page)) is_bare_now g in omega (arith, some, none)))
@@ -82,8 +91,11 @@ module _ (s : State) (old new : Mem) (p page : ℕ) (notes : List Note) (keeps :
         blank (Some (InFrame g seen)) h k = absurd (false≢true h)
         blank (Some (InSlot t)) h k = absurd (false≢true h)
 
-        counts : (g : ℕ) (b : Bool) → (g == f) ≡ b → weight (names_frame g) (entry s.ledger (p, page)) ≡ 0 → cond (g == f) ((view old).maps f + 1) ((view old).maps g) + weight (names_frame g) (entry s.ledger (p, page)) ≡ (view old).maps g + cond (g == f) 1 0
-        counts g true e z = moved_up _ _ z (ap (λ b. cond b ((view old).maps f + 1) ((view old).maps g)) e ∙ ap (λ x. (view old).maps x + 1) (sym (equal_is g f e))) (ap (λ b. cond b 1 0) e)
+        counts : (g : ℕ) (b : Bool) → (g == f) ≡ b → weight (names_frame g) (entry s.ledger (p, page)) ≡ 0 →
+            cond (g == f) ((view old).maps f + 1) ((view old).maps g) + weight (names_frame g) (entry s.ledger (p, page))
+            ≡ (view old).maps g + cond (g == f) 1 0
+        counts g true e z = moved_up _ _ z (ap (λ b. cond b ((view old).maps f + 1) ((view old).maps g)) e ∙ ap (λ x. (view old).maps x + 1)
+            (sym (equal_is g f e))) (ap (λ b. cond b 1 0) e)
           where
             moved_up : (k n : ℕ) {x d : ℕ} → k ≡ 0 → x ≡ n + 1 → d ≡ 1 → x + k ≡ n + d
             moved_up k n a b c = omega arith
@@ -101,18 +113,25 @@ module _ (s : State) (old new : Mem) (p page : ℕ) (notes : List Note) (keeps :
     splits : need true s.ledger (entry s.ledger (p, page)) ≡ CopyOnWrite from
     splits = need_split s.ledger from was (entry s.ledger (p, page)) (of_keeps old s keeps).cache named many
 
-    pub copy_starved : (out : OutOf) → view new ≡ view old → (view old).free ≡ [] → out ≡ numbers_of 1 (count new) → IsTouched s new true (p, page) notes notes (Stopped (Oom out))
+    pub copy_starved : (out : OutOf) → view new ≡ view old → (view old).free ≡ [] → out ≡ numbers_of 1 (count new) →
+        IsTouched s new true (p, page) notes notes (Stopped (Oom out))
     copy_starved out is empty numbers = starved s old new p page notes keeps processes same order (CopyOnWrite from) out is allowed splits refl empty
-        (numbers ∙ ap (numbers_of 1) same ∙ out_is (setting (count old)) s.ledger (Some from) (of_keeps old s keeps).cache (λ g e. subst (λ x. x < count old) (inner e) (named_frame old s p page from was keeps named).0))
+        (numbers ∙ ap (numbers_of 1) same ∙ out_is (setting (count old)) s.ledger (Some from) (of_keeps old s keeps).cache
+        (λ g e. subst (λ x. x < count old) (inner e) (named_frame old s p page from was keeps named).0))
       where
         inner : {x y : ℕ} → Some x ≡ Some y → x ≡ y
         inner e = cc
 
-    pub copy_served : (f : ℕ) (now : List Note) → now ≡ notes ++ Copied p (4096 * page) f ∷ [] → IsTaken old new p page f ((view old).bytes from) (one_less from (one_more f (view old).maps)) → IsServed s new true (p, page) notes now (Copied p (4096 * page) f ∷ []) (ReadyAt f)
-    copy_served f now added is = given_now s old new p page notes keeps processes same order now (Copied p (4096 * page) f) f ((view old).bytes from) (one_less from (one_more f (view old).maps)) added is allowed (copied_is p page f s.ledger) refl
+    pub copy_served : (f : ℕ) (now : List Note) → now ≡ notes ++ Copied p (4096 * page) f ∷ [] →
+        IsTaken old new p page f ((view old).bytes from) (one_less from (one_more f (view old).maps)) →
+        IsServed s new true (p, page) notes now (Copied p (4096 * page) f ∷ []) (ReadyAt f)
+    copy_served f now added is = given_now s old new p page notes keeps processes same order now (Copied p (4096 * page) f) f ((view old).bytes from)
+        (one_less from (one_more f (view old).maps)) added is allowed (copied_is p page f s.ledger) refl
         (sym keeps.stands.free ∙ ap frames_free is.first)
         (serves (setting (count old)) (sparing s.world) s.ledger true (p, page) (Copied p (4096 * page) f ∷ []) (CopyOnWrite from) splits refl
-        (takes-alone (setting (count old)) (sparing s.world s.ledger (Some from)) s.ledger f (Copied p (4096 * page)) (no_swap (setting (count old)) (view old) s.world s.ledger (of_keeps old s keeps)) is.below (free_now f is.below is.first)) (of_keeps old s keeps).cache)
+        (takes-alone (setting (count old)) (sparing s.world s.ledger (Some from)) s.ledger f (Copied p (4096 * page))
+        (no_swap (setting (count old)) (view old) s.world s.ledger (of_keeps old s keeps)) is.below (free_now f is.below is.first))
+        (of_keeps old s keeps).cache)
         (subst (λ e. IsKept (view old) no_device s.ledger e (pages s.world p page)) named (keeps.stands.parts.bytes.kept p page))
         (λ g. counts g (g == from) refl (g == f) refl (ap (weight (names_frame g)) named))
         (λ g some. kept g (g == from) refl (subst (λ n. 0 < n) (ap (weight (names_frame g)) named) some))
@@ -130,21 +149,28 @@ module _ (s : State) (old new : Mem) (p page : ℕ) (notes : List Note) (keeps :
             → one_less from (one_more f (view old).maps) g + weight (names_frame g) (entry s.ledger (p, page)) ≡ (view old).maps g + cond (g == f) 1 0
         counts g true e b d z =
             let same = equal_is g from e in
-            let up : cond (from == f) ((view old).maps f + 1) ((view old).maps from) ≡ (view old).maps from = ap (λ t. cond t ((view old).maps f + 1) ((view old).maps from)) (apart (from == f) refl) in
+            let up : cond (from == f) ((view old).maps f + 1) ((view old).maps from) ≡ (view old).maps from =
+            ap (λ t. cond t ((view old).maps f + 1) ((view old).maps from)) (apart (from == f) refl) in
             let other : (g == f) ≡ false = ap (λ x. x == f) same ∙ apart (from == f) refl in
-            let now : one_less from (one_more f (view old).maps) g ≡ cond (from == f) ((view old).maps f + 1) ((view old).maps from) - 1 = ap (λ t. cond t (cond (from == f) ((view old).maps f + 1) ((view old).maps from) - 1) (cond (g == f) ((view old).maps f + 1) ((view old).maps g))) e in
+            let now : one_less from (one_more f (view old).maps) g ≡ cond (from == f) ((view old).maps f + 1) ((view old).maps from) - 1 =
+            ap (λ t. cond t (cond (from == f) ((view old).maps f + 1) ((view old).maps from) - 1) (cond (g == f) ((view old).maps f + 1) ((view old).maps g)))
+            e in
             less _ _ _ _ (now ∙ ap (λ n. n - 1) up) (z ∙ ap (λ t. cond {A = ℕ} t 1 0) e) shared (ap (view old).maps same) (ap (λ t. cond {A = ℕ} t 1 0) other)
           where
             less : (x k n o : ℕ) {d : ℕ} → x ≡ n - 1 → k ≡ 1 → 1 < n → o ≡ n → d ≡ 0 → x + k ≡ o + d
             less x k n o a b c q r = omega arith
         counts g false e true d z =
-            let now : one_less from (one_more f (view old).maps) g ≡ (view old).maps f + 1 = ap (λ t. cond t (cond (from == f) ((view old).maps f + 1) ((view old).maps from) - 1) (cond (g == f) ((view old).maps f + 1) ((view old).maps g))) e ∙ ap (λ t. cond t ((view old).maps f + 1) ((view old).maps g)) d in
+            let now : one_less from (one_more f (view old).maps) g ≡ (view old).maps f + 1 =
+            ap (λ t. cond t (cond (from == f) ((view old).maps f + 1) ((view old).maps from) - 1) (cond (g == f) ((view old).maps f + 1) ((view old).maps g)))
+            e ∙ ap (λ t. cond t ((view old).maps f + 1) ((view old).maps g)) d in
             more _ _ _ _ now (z ∙ ap (λ t. cond {A = ℕ} t 1 0) e) (ap (view old).maps (equal_is g f d)) (ap (λ t. cond {A = ℕ} t 1 0) d)
           where
             more : (x k n o : ℕ) {d : ℕ} → x ≡ n + 1 → k ≡ 0 → o ≡ n → d ≡ 1 → x + k ≡ o + d
             more x k n o a b q r = omega arith
         counts g false e false d z =
-            let now : one_less from (one_more f (view old).maps) g ≡ (view old).maps g = ap (λ t. cond t (cond (from == f) ((view old).maps f + 1) ((view old).maps from) - 1) (cond (g == f) ((view old).maps f + 1) ((view old).maps g))) e ∙ ap (λ t. cond t ((view old).maps f + 1) ((view old).maps g)) d in
+            let now : one_less from (one_more f (view old).maps) g ≡ (view old).maps g =
+            ap (λ t. cond t (cond (from == f) ((view old).maps f + 1) ((view old).maps from) - 1) (cond (g == f) ((view old).maps f + 1) ((view old).maps g)))
+            e ∙ ap (λ t. cond t ((view old).maps f + 1) ((view old).maps g)) d in
             equal _ _ _ now (z ∙ ap (λ t. cond {A = ℕ} t 1 0) e) (ap (λ t. cond {A = ℕ} t 1 0) d)
           where
             equal : (x k n : ℕ) {d : ℕ} → x ≡ n → k ≡ 0 → d ≡ 0 → x + k ≡ n + d

@@ -40,7 +40,8 @@ pub record Parts (m : Setting) (v : View) (w : World) (l : Ledger) : Type 0 wher
 
 -- no swap area is on, so no header is asked for
 pub no_headers : (m : Setting) (l : Ledger) → l.on ≡ [] → HeadersStand m l
-no_headers m l none k = subst (λ (on : List (ℕ × SwapArea)). IfSome (find nat_cmp k on) (λ area. IfSome m.headers (λ headers. IsSomeAnd (headers k) (HasNumbers area)))) (sym none) tt
+no_headers m l none k = subst (λ (on : List (ℕ × SwapArea)). IfSome (find nat_cmp k on)
+    (λ area. IfSome m.headers (λ headers. IsSomeAnd (headers k) (HasNumbers area)))) (sym none) tt
 
 pub of_stand : (k : Mem) (w : World) (l : Ledger) → KeepsWithin k w l → Parts (setting (count k)) (view k) w l
 of_stand k w l h =
@@ -74,7 +75,13 @@ to_stand k w l h tables order = record {
 }
 
 pub of_keeps : (k : Mem) (s : State) → Keeps k s → Parts (setting (count k)) (view k) s.world s.ledger
-of_keeps k s h = of_stand k s.world s.ledger (record { in_order = h.stands.sound.ledger.in_order; at_pages = h.stands.sound.at_pages; parts = h.stands.parts; tables = h.tables; anons = h.anons })
+of_keeps k s h = of_stand k s.world s.ledger (record {
+  in_order = h.stands.sound.ledger.in_order;
+  at_pages = h.stands.sound.at_pages;
+  parts = h.stands.parts;
+  tables = h.tables;
+  anons = h.anons;
+})
 
 -- nothing of the ledger is of swap
 pub no_swap : (m : Setting) (v : View) (w : World) (l : Ledger) → Parts m v w l → HasNoSwap l
@@ -91,7 +98,8 @@ changed p page t bytes maps rest v = record v { table = with_entry p page (Some 
 
 module _ (m : Setting) (v : View) (w : World) (l l' : Ledger) (p page : ℕ) (e : Entry) (write : Bool) (bytes : ℕ → ℕ → ℕ) (maps : ℕ → ℕ) (rest : List ℕ)
     (parts : Parts m v w l)
-    (entries_is : l'.entries ≡ put key_cmp (p, page) e l.entries) (cache_is : l'.cache ≡ []) (flight_is : l'.flight ≡ l.flight) (on_is : l'.on ≡ l.on) (active_is : l'.active ≡ [])
+    (entries_is : l'.entries ≡ put key_cmp (p, page) e l.entries) (cache_is : l'.cache ≡ []) (flight_is : l'.flight ≡ l.flight)
+    (on_is : l'.on ≡ l.on) (active_is : l'.active ≡ [])
     (there : is_some (pages w p page) ≡ true)
     (was_no_slot : (s : Slot) → weight (names_slot s) (entry l (p, page)) ≡ 0)
     (is_no_slot : (s : Slot) → names_slot s e ≡ false)
@@ -105,13 +113,15 @@ module _ (m : Setting) (v : View) (w : World) (l l' : Ledger) (p page : ℕ) (e 
   entry_now k = ap (find key_cmp k) entries_is ∙ entry-set (p, page) e l k
 
   mapped_now : (g : ℕ) → map_count l' g ≡ maps g
-  mapped_now g = equal _ _ _ _ _ _ _ (ap (how_many (λ x. names_frame g x.1)) entries_is) (map_count-set (p, page) e l g parts.in_order) (counts g) (parts.frames.maps g)
+  mapped_now g = equal _ _ _ _ _ _ _ (ap (how_many (λ x. names_frame g x.1)) entries_is) (map_count-set (p, page) e l g parts.in_order)
+      (counts g) (parts.frames.maps g)
     where
       equal : (x y n k a b c : ℕ) → x ≡ y → y + k ≡ b + c → n + k ≡ a + c → a ≡ b → x ≡ n
       equal x y n k a b e f g h = omega arith
 
   slots_now : (s : Slot) → slot_entries l' s ≡ slot_entries l s
-  slots_now s = equal _ _ _ _ _ (ap (how_many (λ x. names_slot s x.1)) entries_is) (count-put keys_total (names_slot s) (p, page) e l.entries parts.in_order) (was_no_slot s) (ap (λ b. cond b 1 0) (is_no_slot s))
+  slots_now s = equal _ _ _ _ _ (ap (how_many (λ x. names_slot s x.1)) entries_is) (count-put keys_total (names_slot s) (p, page) e l.entries parts.in_order)
+      (was_no_slot s) (ap (λ b. cond b 1 0) (is_no_slot s))
     where
       equal : (x y n k c : ℕ) → x ≡ y → y + k ≡ n + c → k ≡ 0 → c ≡ 0 → x ≡ n
       equal x y n k c e f g h = omega arith
@@ -124,7 +134,8 @@ module _ (m : Setting) (v : View) (w : World) (l l' : Ledger) (p page : ℕ) (e 
 
   tables_now : TablesStand (changed p page (as_pte e write) bytes maps rest v) l'
   tables_now = record {
-    entries = λ q o. pushed (q == p && o == page) (v.table q o) (entry l (q, o)) (parts.tables.entries q o) ∙ ap (λ b. cond b (Some e) (entry l (q, o))) (sym (key_is q o p page)) ∙ sym (entry_now (q, o));
+    entries = λ q o. pushed (q == p && o == page) (v.table q o) (entry l (q, o)) (parts.tables.entries q o) ∙ ap (λ b. cond b (Some e) (entry l (q, o)))
+        (sym (key_is q o p page)) ∙ sym (entry_now (q, o));
     write_bits = λ q o t g is writes names. at_key q o t g (q == p && o == page) is writes names;
   }
     where
@@ -133,7 +144,8 @@ module _ (m : Setting) (v : View) (w : World) (l l' : Ledger) (p page : ℕ) (e 
       pushed false x y h = h
 
       few_of : (g : ℕ) → is_shared l g ≡ false → v.maps g ≤ 1
-      few_of g h = let lt : nat_lt 1 (map_count l g) ≡ false = sym (shared_is l g parts.cache) ∙ h in subst (λ n. n ≤ 1) (sym (parts.frames.maps g)) (at_most _ lt)
+      few_of g h = let lt : nat_lt 1 (map_count l g) ≡ false = sym (shared_is l g parts.cache) ∙ h in
+          subst (λ n. n ≤ 1) (sym (parts.frames.maps g)) (at_most _ lt)
         where
           at_most : (n : ℕ) → nat_lt 1 n ≡ false → n ≤ 1
           at_most n h = grind (arith, nat_tests)
@@ -143,7 +155,8 @@ module _ (m : Setting) (v : View) (w : World) (l l' : Ledger) (p page : ℕ) (e 
           let inner : as_pte e write ≡ t = cc in
           own (ap (λ (t : Plain). t.write) inner ∙ writes) g (ap (λ (t : Plain). names_frame g t.entry) inner ∙ names)
 
-      at_key : (q o : ℕ) (t : Plain) (g : ℕ) (b : Bool) → cond b (Some (as_pte e write)) (v.table q o) ≡ Some t → t.write ≡ true → names_frame g t.entry ≡ true → is_shared l' g ≡ false
+      at_key : (q o : ℕ) (t : Plain) (g : ℕ) (b : Bool) → cond b (Some (as_pte e write)) (v.table q o) ≡ Some t → t.write ≡ true →
+          names_frame g t.entry ≡ true → is_shared l' g ≡ false
       at_key q o t g true is writes names = alone g (put_in t g is writes names)
       at_key q o t g false is writes names = alone g (few g (few_of g (parts.tables.write_bits q o t g is writes names)))
 
@@ -173,18 +186,23 @@ module _ (m : Setting) (v : View) (w : World) (l l' : Ledger) (p page : ℕ) (e 
 
   bytes_now : BytesStand (changed p page (as_pte e write) bytes maps rest v) no_device w l'
   bytes_now = record {
-    kept = λ q o. subst (λ x. IsKept (changed p page (as_pte e write) bytes maps rest v) no_device l' x (pages w q o)) (sym (entry_now (q, o))) (at_key q o (same_key (q, o) (p, page)) refl);
+    kept = λ q o. subst (λ x. IsKept (changed p page (as_pte e write) bytes maps rest v) no_device l' x (pages w q o)) (sym (entry_now (q, o)))
+        (at_key q o (same_key (q, o) (p, page)) refl);
     clean = λ s stale flying. nothing_clean (changed p page (as_pte e write) bytes maps rest v) s (frame_at l' s) (no_frame_at l' s cache_is);
   }
     where
-      others : (q o : ℕ) (x : Option Entry) → entry l (q, o) ≡ x → same_key (q, o) (p, page) ≡ false → IsKept v no_device l x (pages w q o) → IsKept (changed p page (as_pte e write) bytes maps rest v) no_device l' x (pages w q o)
+      others : (q o : ℕ) (x : Option Entry) → entry l (q, o) ≡ x → same_key (q, o) (p, page) ≡ false → IsKept v no_device l x (pages w q o) →
+          IsKept (changed p page (as_pte e write) bytes maps rest v) no_device l' x (pages w q o)
       others q o None is other h = h
       others q o (Some Zero) is other h = h
       others q o (Some (InFrame g was)) is other h = subst (Holds (pages w q o)) (sym (kept q o g was is other)) h
-      others q o (Some (InSlot s)) is other h = slot_kept v (changed p page (as_pte e write) bytes maps rest v) s (pages w q o) (frame_at l s) (frame_at l' s) (no_frame_at l s parts.cache) (no_frame_at l' s cache_is) h
+      others q o (Some (InSlot s)) is other h = slot_kept v (changed p page (as_pte e write) bytes maps rest v) s (pages w q o) (frame_at l s) (frame_at l' s)
+          (no_frame_at l s parts.cache) (no_frame_at l' s cache_is) h
 
-      at_key : (q o : ℕ) (b : Bool) → same_key (q, o) (p, page) ≡ b → IsKept (changed p page (as_pte e write) bytes maps rest v) no_device l' (cond b (Some e) (entry l (q, o))) (pages w q o)
-      at_key q o true same = subst (λ (k : Key). IsKept (changed p page (as_pte e write) bytes maps rest v) no_device l' (Some e) (pages w k.0 k.1)) (sym (same_key-is (q, o) (p, page) same)) holds
+      at_key : (q o : ℕ) (b : Bool) → same_key (q, o) (p, page) ≡ b → IsKept (changed p page (as_pte e write) bytes maps rest v) no_device l'
+          (cond b (Some e) (entry l (q, o))) (pages w q o)
+      at_key q o true same = subst (λ (k : Key). IsKept (changed p page (as_pte e write) bytes maps rest v) no_device l' (Some e) (pages w k.0 k.1))
+          (sym (same_key-is (q, o) (p, page) same)) holds
       at_key q o false same = others q o (entry l (q, o)) refl same (parts.bytes.kept q o)
 
   pub parts_now : Parts m (changed p page (as_pte e write) bytes maps rest v) w l'

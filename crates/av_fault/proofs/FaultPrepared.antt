@@ -14,12 +14,13 @@ use Rattle.av_merge.proofs.Lengths.{AreAlike}
 use Rattle.av_spaces.specs.Spaces.{AllSpaces, AreThese, IsChanged, areas_of, pages_of as areas_on}
 use Rattle.av_base.specs.Words.{is_in}
 use Rattle.av_anon.specs.declared.infos.Info.{Info}
-use Rattle.av_spaces.specs.Kin.{AnonsPrepare, IsOwnedIn, chain_on, info_of, made_for}
+use Rattle.av_spaces.specs.Kin as in_spaces
+use Rattle.av_spaces.specs.Kin.{AnonsPrepare, IsOwnedIn, info_of, made_for}
 use Rattle.av_plain.specs.Covered.{IsRmapSound}
 use Rattle.av_plain.proofs.Covered.{owns-prepared, sound-prepared}
 use Rattle.av_plain.specs.Stands.{AnonsStand, HomesAre, kin_of}
 use Rattle.av_spaces.proofs.Kin.{stay_same}
-use Rattle.av_plain.specs.Areas.{AnonVma, Anons, Areas, Rmap, chain_length, chain_of, prepare_page, with_root}
+use Rattle.av_plain.specs.Areas.{AnonVma, Anons, Areas, Rmap, chain_length, chain_by, prepare_page, with_root}
 use Rattle.av_plain.specs.Transcript.{State, rmap_of}
 use Rattle.av_pagetable.specs.Entries.{has}
 use Rattle.av_fault.specs.Fault.{HasRmap}
@@ -52,7 +53,8 @@ near_alike len len' on area h =
     let before = lent_alike len len' on area (first_of area - 1) h in
     λ i. option_or (after i) (before i)
 
-pub prepare_alike : (len len' : Lengths) (next page : ℕ) (on : Pages) → AreAlike len len' on → (q : ℕ) → after_prepare len next page on q ≡ after_prepare len' next page on q
+pub prepare_alike : (len len' : Lengths) (next page : ℕ) (on : Pages) → AreAlike len len' on → (q : ℕ) →
+    after_prepare len next page on q ≡ after_prepare len' next page on q
 prepare_alike len len' next page on h q = by (on page)
   where
     by : (o : Option Area) → with_anon len next o on q ≡ with_anon len' next o on q
@@ -78,7 +80,8 @@ other_is : (q p : ℕ) → (q == p) ≡ false → q ≢ p
 other_is q p e = grind (arith, nat_tests)
 
 module _ (old : Mem) (s : State) (keeps : Keeps old s) (spaces : AllSpaces) (now : AnonSet) (p page : ℕ)
-    (changed : IsChanged old.spaces.processes spaces.processes p (AreThese (after_prepare (lengths old.spaces.areas old.anons) old.anons.next page (areas_on old.spaces.processes p))))
+    (changed : IsChanged old.spaces.processes spaces.processes p (AreThese
+    (after_prepare (lengths old.spaces.areas old.anons) old.anons.next page (areas_on old.spaces.processes p))))
     (made : AnonsPrepare old.spaces old.anons spaces now p page) where
   abbrev on : Pages
   on = areas_on old.spaces.processes p
@@ -100,13 +103,15 @@ module _ (old : Mem) (s : State) (keeps : Keeps old s) (spaces : AllSpaces) (now
   pub areas_prepared : (q o : ℕ) → areas_on spaces.processes q o ≡ (prepare_page p page (rmap_of s)).areas q o
   areas_prepared q o = by (q == p) refl
     where
-      by : (b : Bool) → (q == p) ≡ b → areas_on spaces.processes q o ≡ (cond b (after_prepare (chain_length s.anons) s.anons.next page (s.areas p)) (s.areas q)) o
+      by : (b : Bool) → (q == p) ≡ b → areas_on spaces.processes q o
+          ≡ (cond b (after_prepare (chain_length s.anons) s.anons.next page (s.areas p)) (s.areas q)) o
       by true e = ap (λ n. areas_on spaces.processes n o) (number_is q p e) ∙ own_pages o
       by false e = ap (λ a. pages_in a o) (changed.others q (other_is q p e)) ∙ keeps.stands.areas q o
 
   -- whether an anon_vma is made
   made_is : made_for old.spaces old.anons p page ≡ makes_anon (chain_length s.anons) (s.areas p) (s.areas p page)
-  made_is = makes_alike (lengths old.spaces.areas old.anons) (chain_length s.anons) on (on page) alike ∙ (λ i. makes_anon (chain_length s.anons) (same_on i) (same_on i page))
+  made_is = makes_alike (lengths old.spaces.areas old.anons) (chain_length s.anons) on (on page) alike
+      ∙ (λ i. makes_anon (chain_length s.anons) (same_on i) (same_on i page))
 
   -- ---- the anon_vmas
 
@@ -116,17 +121,18 @@ module _ (old : Mem) (s : State) (keeps : Keeps old s) (spaces : AllSpaces) (now
   there_now : (v : ℕ) → IsOwnedIn spaces v → IsSome (info_of now v)
   there_now v h = made.fit.linked v (h.0, h.1, with_chain (areas_on spaces.processes h.0 h.1) h.2)
     where
-      with_chain : (x : Option Area) → IsSomeAnd x (λ area. area.anon ≡ Some v) → IsSomeAnd x (λ area. is_in v (chain_on spaces now area.anon) ≡ true)
+      with_chain : (x : Option Area) → IsSomeAnd x (λ area. area.anon ≡ Some v) → IsSomeAnd x (λ area. is_in v (in_spaces.chain_by spaces now area.anon) ≡ true)
       with_chain None is = is
-      with_chain (Some A) is = ap (λ own. is_in v (chain_on spaces now own)) is ∙ made.fit.own v h
+      with_chain (Some A) is = ap (λ own. is_in v (in_spaces.chain_by spaces now own)) is ∙ made.fit.own v h
 
   -- the chain of one that was owned before
-  old_chain : (v : ℕ) → IsOwnedIn old.spaces v → chain_on old.spaces old.anons (Some v) ≡ chain_of s.anons (Some v)
+  old_chain : (v : ℕ) → IsOwnedIn old.spaces v → in_spaces.chain_by old.spaces old.anons (Some v) ≡ chain_by s.anons (Some v)
   old_chain v h = by (areas_on old.spaces.processes h.0 h.1) refl h.2
     where
-      by : (x : Option Area) → areas_on old.spaces.processes h.0 h.1 ≡ x → IsSomeAnd x (λ area. area.anon ≡ Some v) → chain_on old.spaces old.anons (Some v) ≡ chain_of s.anons (Some v)
+      by : (x : Option Area) → areas_on old.spaces.processes h.0 h.1 ≡ x → IsSomeAnd x (λ area. area.anon ≡ Some v) →
+          in_spaces.chain_by old.spaces old.anons (Some v) ≡ chain_by s.anons (Some v)
       by None is own = absurd own
-      by (Some A) is own = subst (λ o. chain_on old.spaces old.anons o ≡ chain_of s.anons o) own
+      by (Some A) is own = subst (λ o. in_spaces.chain_by old.spaces old.anons o ≡ chain_by s.anons o) own
           (area_chain old s keeps old.spaces old.anons (stay_same old.spaces old.anons keeps.anons) h.0 h.1 A is)
 
   -- the kin that is shown
@@ -135,7 +141,7 @@ module _ (old : Mem) (s : State) (keeps : Keeps old s) (spaces : AllSpaces) (now
   shown_kin c (Some i) = refl
 
   old_kin : (n : ℕ) → option_map kin_in (info_of old.anons n) ≡ option_map kin_of (s.anons.anon n)
-  old_kin n = sym (shown_kin (chain_on old.spaces old.anons (Some n)) (info_of old.anons n)) ∙ keeps.stands.anons.kin n
+  old_kin n = sym (shown_kin (in_spaces.chain_by old.spaces old.anons (Some n)) (info_of old.anons n)) ∙ keeps.stands.anons.kin n
 
   same_number : (n : ℕ) → (n == old.anons.next) ≡ (n == s.anons.next)
   same_number n = ap (λ k. n == k) next_is
@@ -148,7 +154,8 @@ module _ (old : Mem) (s : State) (keeps : Keeps old s) (spaces : AllSpaces) (now
   next_by true = ap suc next_is
   next_by false = next_is
 
-  kin_by : (n : ℕ) (b : Bool) → cond (b && n == old.anons.next) (Some (n, n)) (option_map kin_in (info_of old.anons n)) ≡ option_map kin_of ((anons_by b).anon n)
+  kin_by : (n : ℕ) (b : Bool) → cond (b && n == old.anons.next) (Some (n, n)) (option_map kin_in (info_of old.anons n))
+      ≡ option_map kin_of ((anons_by b).anon n)
   kin_by n false = old_kin n
   kin_by n true = ap (λ c. cond c (Some (n, n)) (option_map kin_in (info_of old.anons n))) (same_number n) ∙ by (n == s.anons.next) refl
     where
@@ -158,42 +165,49 @@ module _ (old : Mem) (s : State) (keeps : Keeps old s) (spaces : AllSpaces) (now
       by false e = old_kin n
 
   chain_by_case : (v : ℕ) (b : Bool) → (IsOwnedIn spaces v → (b && v == old.anons.next) ≡ false → IsOwnedIn old.spaces v) → IsOwnedIn spaces v
-      → cond (b && v == old.anons.next) (v ∷ []) (chain_on old.spaces old.anons (Some v)) ≡ chain_of (anons_by b) (Some v)
+      → cond (b && v == old.anons.next) (v ∷ []) (in_spaces.chain_by old.spaces old.anons (Some v)) ≡ chain_by (anons_by b) (Some v)
   chain_by_case v false was h = old_chain v (was h refl)
-  chain_by_case v true was h = ap (λ c. cond c (v ∷ []) (chain_on old.spaces old.anons (Some v))) (same_number v) ∙ by (v == s.anons.next) refl
+  chain_by_case v true was h = ap (λ c. cond c (v ∷ []) (in_spaces.chain_by old.spaces old.anons (Some v))) (same_number v) ∙ by (v == s.anons.next) refl
     where
-      by : (c : Bool) → (v == s.anons.next) ≡ c → cond c (v ∷ []) (chain_on old.spaces old.anons (Some v))
-          ≡ option_map_or (λ (w : AnonVma). w.chain) (cond c (Some (record { root = s.anons.next; parent = s.anons.next; chain = s.anons.next ∷ [] })) (s.anons.anon v)) []
+      by : (c : Bool) → (v == s.anons.next) ≡ c → cond c (v ∷ []) (in_spaces.chain_by old.spaces old.anons (Some v))
+          ≡ option_map_or (λ (w : AnonVma). w.chain) (cond c (Some (record { root = s.anons.next; parent = s.anons.next; chain = s.anons.next ∷ [] }))
+          (s.anons.anon v)) []
       by true e = let is = number_is v s.anons.next e in λ i. is i ∷ []
       by false e = old_chain v (was h (same_number v ∙ e))
 
-  pub anons_prepared : (new : Mem) → new.spaces ≡ spaces → new.anons ≡ now → AnonsStand (view new) (prepare_page p page (rmap_of s)).areas (prepare_page p page (rmap_of s)).anons
+  pub anons_prepared : (new : Mem) → new.spaces ≡ spaces → new.anons ≡ now → AnonsStand (view new) (prepare_page p page (rmap_of s)).areas
+      (prepare_page p page (rmap_of s)).anons
   anons_prepared new same_spaces same_anons = subst (λ b. AnonsStand (view new) (prepare_page p page (rmap_of s)).areas (anons_by b)) made_is (record {
     next = ap (λ (a : AnonSet). a.next) same_anons ∙ made.next ∙ next_by (made_for old.spaces old.anons p page);
-    kin = λ n. ap (λ (a : Anons). option_map kin_of (a.anon n)) anons_are ∙ shown_kin (chain_on spaces now (Some n)) (info_of now n) ∙ made.kin n ∙ kin_by n (made_for old.spaces old.anons p page);
+    kin = λ n. ap (λ (a : Anons). option_map kin_of (a.anon n)) anons_are ∙ shown_kin (in_spaces.chain_by spaces now (Some n)) (info_of now n) ∙ made.kin n
+        ∙ kin_by n (made_for old.spaces old.anons p page);
     chains = λ q o. chain_at q o ((prepare_page p page (rmap_of s)).areas q o) refl;
   })
     where
       anons_are : anons_of new.spaces new.anons ≡ anons_of spaces now
       anons_are = λ i. anons_of (same_spaces i) (same_anons i)
 
-      own_chain : (A : Area) (q o : ℕ) → areas_on spaces.processes q o ≡ Some A → (own : Option ℕ) → A.anon ≡ own → chain_of (anons_of spaces now) own ≡ chain_of (anons_by (made_for old.spaces old.anons p page)) own
+      own_chain : (A : Area) (q o : ℕ) → areas_on spaces.processes q o ≡ Some A → (own : Option ℕ) → A.anon ≡ own →
+          chain_by (anons_of spaces now) own ≡ chain_by (anons_by (made_for old.spaces old.anons p page)) own
       own_chain A q o is None e = refl
       own_chain A q o is (Some v) e =
           let owned = owned_at v q o A is e in
           shown_chain spaces now v (there_now v owned) ∙ made.chains v owned ∙ chain_by_case v (made_for old.spaces old.anons p page) (made.owned v) owned
 
-      chain_at : (q o : ℕ) (x : Option Area) → (prepare_page p page (rmap_of s)).areas q o ≡ x → IfSome x (λ area. chain_of (view new).anons area.anon ≡ chain_of (anons_by (made_for old.spaces old.anons p page)) area.anon)
+      chain_at : (q o : ℕ) (x : Option Area) → (prepare_page p page (rmap_of s)).areas q o ≡ x →
+          IfSome x (λ area. chain_by (view new).anons area.anon ≡ chain_by (anons_by (made_for old.spaces old.anons p page)) area.anon)
       chain_at q o None e = tt
-      chain_at q o (Some A) e = ap (λ (a : Anons). chain_of a A.anon) anons_are ∙ own_chain A q o (areas_prepared q o ∙ e) A.anon refl
+      chain_at q o (Some A) e = ap (λ (a : Anons). chain_by a A.anon) anons_are ∙ own_chain A q o (areas_prepared q o ∙ e) A.anon refl
 
 -- ---- what stands beside
 
 -- protections stay
-prots_prepared : (len : Lengths) (next page : ℕ) (on : Pages) → AreLaid on → (q : ℕ) → option_map prot_on (after_prepare len next page on q) ≡ option_map prot_on (on q)
+prots_prepared : (len : Lengths) (next page : ℕ) (on : Pages) → AreLaid on → (q : ℕ) →
+    option_map prot_on (after_prepare len next page on q) ≡ option_map prot_on (on q)
 prots_prepared len next page on laid q = by (on page) refl
   where
-    over : (A : Area) (own : Option ℕ) → on page ≡ Some A → (b : Bool) → has_page A q ≡ b → option_map prot_on (cond b (Some (record A { anon = own })) (on q)) ≡ option_map prot_on (on q)
+    over : (A : Area) (own : Option ℕ) → on page ≡ Some A → (b : Bool) → has_page A q ≡ b →
+        option_map prot_on (cond b (Some (record A { anon = own })) (on q)) ≡ option_map prot_on (on q)
     over A own e true has = ap (option_map prot_on) (sym (laid.all page q A e has))
     over A own e false has = refl
 
@@ -201,20 +215,28 @@ prots_prepared len next page on laid q = by (on page) refl
     by None e = refl
     by (Some A) e = bare (is_some A.anon)
       where
-        bare : (b : Bool) → option_map prot_on (cond b on (with_area (record A { anon = Some (unwrap_or (loan_beside len on A) next) }) on) q) ≡ option_map prot_on (on q)
+        bare : (b : Bool) → option_map prot_on (cond b on (with_area (record A { anon = Some (unwrap_or (loan_beside len on A) next) }) on) q)
+            ≡ option_map prot_on (on q)
         bare true = refl
         bare false = over A (Some (unwrap_or (loan_beside len on A) next)) e (has_page A q) refl
 
 -- where areas change as a prepare makes them, what stands within an access still does
 pub within_prepared : (mid : Mem) (w : World) (l : Ledger) (spaces : AllSpaces) (now : AnonSet) (p page : ℕ) (len : Lengths) (next : ℕ)
-    → KeepsWithin mid w l → is_some (areas_of mid.spaces.processes p) ≡ true → IsChanged mid.spaces.processes spaces.processes p (AreThese (after_prepare len next page (areas_on mid.spaces.processes p))) → AnonsFit spaces now
+    → KeepsWithin mid w l → is_some (areas_of mid.spaces.processes p) ≡ true →
+    IsChanged mid.spaces.processes spaces.processes p (AreThese (after_prepare len next page (areas_on mid.spaces.processes p))) → AnonsFit spaces now
     → KeepsWithin (record mid { spaces = spaces; anons = now }) w l
 within_prepared mid w l spaces now p page len next h alive changed fit = record {
   in_order = h.in_order;
   at_pages = h.at_pages;
   parts = record {
     ledger = record {
-      frames = record { frames = ledger.frames.frames; maps = ledger.frames.maps; slots = ledger.frames.slots; dirty = ledger.frames.dirty; free = ledger.frames.free };
+      frames = record {
+        frames = ledger.frames.frames;
+        maps = ledger.frames.maps;
+        slots = ledger.frames.slots;
+        dirty = ledger.frames.dirty;
+        free = ledger.frames.free;
+      };
       lists = record { active = ledger.lists.active };
       tables = record { entries = ledger.tables.entries; write_bits = ledger.tables.write_bits };
       swap = record { finds = ledger.swap.finds; counts = ledger.swap.counts; flight = ledger.swap.flight; on = ledger.swap.on };
@@ -225,7 +247,11 @@ within_prepared mid w l spaces now p page len next h alive changed fit = record 
       apart = all_apart spaces.processes changed.rising;
       covers = λ q o. prots_same q o ∙ h.parts.areas.covers q o;
     };
-    bytes = record { kept = λ q o. same_kept (entry l (q, o)) (pages w q o) (h.parts.bytes.kept q o); clean = λ t stale flying. same_clean t (frame_at l t) (h.parts.bytes.clean t stale flying) };
+    bytes = record {
+      kept = λ q o. same_kept (entry l (q, o)) (pages w q o) (h.parts.bytes.kept q o);
+      clean = λ t stale flying. same_clean t (frame_at l t)
+          (h.parts.bytes.clean t stale flying);
+    };
     headers = h.parts.headers;
   };
   tables = λ q. h.tables q ∙ alive_is mid.spaces.processes q ∙ sym (lives_same q) ∙ sym (alive_is spaces.processes q);
@@ -239,7 +265,8 @@ within_prepared mid w l spaces now p page len next h alive changed fit = record 
     lives_same q = by (q == p) refl
       where
         by : (b : Bool) → (q == p) ≡ b → is_some (areas_of spaces.processes q) ≡ is_some (areas_of mid.spaces.processes q)
-        by true e = ap (λ n. is_some (areas_of spaces.processes n)) (number_is q p e) ∙ changed.alive ∙ sym (ap (λ n. is_some (areas_of mid.spaces.processes n)) (number_is q p e) ∙ alive)
+        by true e = ap (λ n. is_some (areas_of spaces.processes n)) (number_is q p e) ∙ changed.alive
+            ∙ sym (ap (λ n. is_some (areas_of mid.spaces.processes n)) (number_is q p e) ∙ alive)
         by false e = ap is_some (changed.others q (other_is q p e))
 
     prots_same : (q o : ℕ) → prot_of (ranges_of spaces.processes q) o ≡ prot_of (ranges_of mid.spaces.processes q) o
@@ -247,10 +274,12 @@ within_prepared mid w l spaces now p page len next h alive changed fit = record 
       where
         by : (b : Bool) → (q == p) ≡ b → option_map prot_on (areas_on spaces.processes q o) ≡ option_map prot_on (areas_on mid.spaces.processes q o)
         by true e = ap (λ n. option_map prot_on (areas_on spaces.processes n o)) (number_is q p e) ∙ ap (option_map prot_on) (changed.pages o)
-            ∙ prots_prepared len next page (areas_on mid.spaces.processes p) (laid mid.spaces.processes p changed.were_rising) o ∙ sym (ap (λ n. option_map prot_on (areas_on mid.spaces.processes n o)) (number_is q p e))
+            ∙ prots_prepared len next page (areas_on mid.spaces.processes p) (laid mid.spaces.processes p changed.were_rising) o
+            ∙ sym (ap (λ n. option_map prot_on (areas_on mid.spaces.processes n o)) (number_is q p e))
         by false e = ap (λ a. option_map prot_on (pages_in a o)) (changed.others q (other_is q p e))
 
-    same_kept : (e : Option Entry) (x : Option Page) → IsKept (view mid) no_device l e x → IsKept (view (record mid { spaces = spaces; anons = now })) no_device l e x
+    same_kept : (e : Option Entry) (x : Option Page) → IsKept (view mid) no_device l e x →
+        IsKept (view (record mid { spaces = spaces; anons = now })) no_device l e x
     same_kept None x h = h
     same_kept (Some Zero) x h = h
     same_kept (Some (InFrame f seen)) x h = h
@@ -267,18 +296,26 @@ within_prepared mid w l spaces now p page len next h alive changed fit = record 
 -- ---- the new page's areas and anon_vmas
 
 -- a process with a table lives, and still does where the areas stay
-pub lives_still : (old : Mem) (s : State) (mid : Mem) (p : ℕ) → Keeps old s → mid.spaces ≡ old.spaces → has old.tables p ≡ true → is_some (areas_of mid.spaces.processes p) ≡ true
-lives_still old s mid p keeps same there = ap (λ (x : AllSpaces). is_some (areas_of x.processes p)) same ∙ sym (alive_is old.spaces.processes p) ∙ sym (keeps.tables p) ∙ there
+pub lives_still : (old : Mem) (s : State) (mid : Mem) (p : ℕ) → Keeps old s → mid.spaces ≡ old.spaces → has old.tables p ≡ true →
+    is_some (areas_of mid.spaces.processes p) ≡ true
+lives_still old s mid p keeps same there = ap (λ (x : AllSpaces). is_some (areas_of x.processes p)) same ∙ sym (alive_is old.spaces.processes p)
+    ∙ sym (keeps.tables p) ∙ there
 
-module _ (old : Mem) (s : State) (keeps : Keeps old s) (mid : Mem) (same_spaces : mid.spaces ≡ old.spaces) (same_anons : mid.anons ≡ old.anons) (spaces : AllSpaces) (now : AnonSet) (p page : ℕ)
-    (changed : IsChanged mid.spaces.processes spaces.processes p (AreThese (after_prepare (lengths mid.spaces.areas mid.anons) mid.anons.next page (areas_on mid.spaces.processes p))))
+module _ (old : Mem) (s : State) (keeps : Keeps old s) (mid : Mem) (same_spaces : mid.spaces ≡ old.spaces) (same_anons : mid.anons ≡ old.anons)
+    (spaces : AllSpaces) (now : AnonSet) (p page : ℕ)
+    (changed : IsChanged mid.spaces.processes spaces.processes p (AreThese
+    (after_prepare (lengths mid.spaces.areas mid.anons) mid.anons.next page (areas_on mid.spaces.processes p))))
     (made : AnonsPrepare mid.spaces mid.anons spaces now p page) where
-  changed_old : IsChanged old.spaces.processes spaces.processes p (AreThese (after_prepare (lengths old.spaces.areas old.anons) old.anons.next page (areas_on old.spaces.processes p)))
-  changed_old = subst (λ (a : AnonSet). IsChanged old.spaces.processes spaces.processes p (AreThese (after_prepare (lengths old.spaces.areas a) a.next page (areas_on old.spaces.processes p)))) same_anons
-      (subst (λ (x : AllSpaces). IsChanged x.processes spaces.processes p (AreThese (after_prepare (lengths x.areas mid.anons) mid.anons.next page (areas_on x.processes p)))) same_spaces changed)
+  changed_old : IsChanged old.spaces.processes spaces.processes p
+      (AreThese (after_prepare (lengths old.spaces.areas old.anons) old.anons.next page (areas_on old.spaces.processes p)))
+  changed_old = subst (λ (a : AnonSet). IsChanged old.spaces.processes spaces.processes p
+      (AreThese (after_prepare (lengths old.spaces.areas a) a.next page (areas_on old.spaces.processes p)))) same_anons
+      (subst (λ (x : AllSpaces). IsChanged x.processes spaces.processes p
+      (AreThese (after_prepare (lengths x.areas mid.anons) mid.anons.next page (areas_on x.processes p)))) same_spaces changed)
 
   made_old : AnonsPrepare old.spaces old.anons spaces now p page
-  made_old = subst (λ (a : AnonSet). AnonsPrepare old.spaces a spaces now p page) same_anons (subst (λ (x : AllSpaces). AnonsPrepare x mid.anons spaces now p page) same_spaces made)
+  made_old = subst (λ (a : AnonSet). AnonsPrepare old.spaces a spaces now p page) same_anons
+      (subst (λ (x : AllSpaces). AnonsPrepare x mid.anons spaces now p page) same_spaces made)
 
   -- a page's area has its anon_vma then, and the frames have the homes that they had
   pub prepared_rmap : HomesAre (view mid) s.homes → HasRmap (record mid { spaces = spaces; anons = now }) (prepare_page p page (rmap_of s))
@@ -289,7 +326,8 @@ module _ (old : Mem) (s : State) (keeps : Keeps old s) (mid : Mem) (same_spaces 
   }
 
   -- what stands within an access still does
-  pub prepared_within : (w : World) (l : Ledger) → KeepsWithin mid w l → is_some (areas_of mid.spaces.processes p) ≡ true → KeepsWithin (record mid { spaces = spaces; anons = now }) w l
+  pub prepared_within : (w : World) (l : Ledger) → KeepsWithin mid w l → is_some (areas_of mid.spaces.processes p) ≡ true →
+      KeepsWithin (record mid { spaces = spaces; anons = now }) w l
   prepared_within w l within alive = within_prepared mid w l spaces now p page (lengths mid.spaces.areas mid.anons) mid.anons.next within alive changed made.fit
 
   laid_before : AreLaid (s.areas p)

@@ -38,7 +38,8 @@ free_unmapped k f rest steady first below =
     parts.frames.maps f ∙ zero_is _ (sym (free_is steady.0.ledger f parts.cache) ∙ free)
 
 -- a frame that an entry of the ledger names is one of the machine's, and is counted
-pub named_frame : (k : Mem) (s : State) (p page g : ℕ) (was : Bool) → Keeps k s → entry s.ledger (p, page) ≡ Some (InFrame g was) → (g < count k) × (0 < map_count s.ledger g)
+pub named_frame : (k : Mem) (s : State) (p page g : ℕ) (was : Bool) → Keeps k s → entry s.ledger (p, page) ≡ Some (InFrame g was) →
+    (g < count k) × (0 < map_count s.ledger g)
 named_frame k s p page g was keeps is =
     let some : 0 < map_count s.ledger g = how_many-found (names_frame g) (p, page) s.ledger.entries (InFrame g was) is (itself g) in
     (keeps.stands.sound.ledger.in_range g (omega (arith, some)), some)
@@ -56,7 +57,8 @@ none_away k p page t steady is =
     (sym (steady.1.stands.parts.ledger.tables.entries p page) ∙ ap (λ e. entry_of (plain e)) is)
 
 -- a process that may access a page has a table
-pub process_there : (k : Mem) (p page : ℕ) (write : Bool) → IsSteady k → is_permitted write (prot_of (ranges_of k.spaces.processes p) page) ≡ true → has k.tables p ≡ true
+pub process_there : (k : Mem) (p page : ℕ) (write : Bool) → IsSteady k → is_permitted write (prot_of (ranges_of k.spaces.processes p) page) ≡ true →
+    has k.tables p ≡ true
 process_there k p page write steady allowed = steady.1.tables p ∙ by (ranges_of k.spaces.processes p) allowed
   where
     by : (o : Option (List Range)) → is_permitted write (prot_of o page) ≡ true → is_some o ≡ true
@@ -64,15 +66,18 @@ process_there k p page write steady allowed = steady.1.tables p ∙ by (ranges_o
     by (Some areas) h = refl
 
 -- a frame that may be written in place has one entry at most
-pub few_by_bit : (k : Mem) (s : State) (p page f : ℕ) (bit was : Bool) → Keeps k s → entry_at k.tables p page ≡ Here f bit was → bit ≡ true → map_count s.ledger f ≤ 1
+pub few_by_bit : (k : Mem) (s : State) (p page f : ℕ) (bit was : Bool) → Keeps k s → entry_at k.tables p page ≡ Here f bit was →
+    bit ≡ true → map_count s.ledger f ≤ 1
 few_by_bit k s p page f bit was keeps is writes =
-    at_most _ (sym (shared_is s.ledger f (of_keeps k s keeps).cache) ∙ keeps.stands.parts.ledger.tables.write_bits p page (record { entry = InFrame f was; write = bit }) f (ap plain is) writes (itself f))
+    at_most _ (sym (shared_is s.ledger f (of_keeps k s keeps).cache) ∙ keeps.stands.parts.ledger.tables.write_bits p page
+    (record { entry = InFrame f was; write = bit }) f (ap plain is) writes (itself f))
   where
     at_most : (n : ℕ) → nat_lt 1 n ≡ false → n ≤ 1
     at_most n h = grind (arith, nat_tests)
 
 -- an entry that is a frame, in the ledger's words
-pub frame_entry : (k : Mem) (s : State) (p page f : ℕ) (bit was : Bool) → Keeps k s → entry_at k.tables p page ≡ Here f bit was → entry s.ledger (p, page) ≡ Some (InFrame f was)
+pub frame_entry : (k : Mem) (s : State) (p page f : ℕ) (bit was : Bool) → Keeps k s → entry_at k.tables p page ≡ Here f bit was →
+    entry s.ledger (p, page) ≡ Some (InFrame f was)
 frame_entry k s p page f bit was keeps is = sym (keeps.stands.parts.ledger.tables.entries p page) ∙ ap (λ e. entry_of (plain e)) is
 
 -- where areas and anon_vmas stay there is chain order still
@@ -80,31 +85,40 @@ pub order_still : (old new : Mem) → new.spaces ≡ old.spaces → new.anons �
 order_still old new spaces anons order = subst (λ s. AnonsFit s new.anons) (sym spaces) (subst (AnonsFit old.spaces) (sym anons) order)
 
 -- where it is marked as seen already, the page is ready: for a read, and for a write once its frame has its home there
-pub seen_there : (k : Mem) (s : State) (p page f : ℕ) (bit : Bool) (notes : List Note) → Keeps k s → is_permitted false (prot_of (ranges_of k.spaces.processes p) page) ≡ true → entry_at k.tables p page ≡ Here f bit true
+pub seen_there : (k : Mem) (s : State) (p page f : ℕ) (bit : Bool) (notes : List Note) → Keeps k s →
+    is_permitted false (prot_of (ranges_of k.spaces.processes p) page) ≡ true → entry_at k.tables p page ≡ Here f bit true
     → IsTouched s k false (p, page) notes notes (Ready f)
 seen_there k s p page f bit notes keeps allowed is =
-    read_marked s k k p page notes keeps refl refl keeps.anons bit true f (again p page (as_pte (InFrame f true) bit) (view k) (ap plain is)) allowed (frame_entry k s p page f bit true keeps is) (few_by_bit k s p page f bit true keeps is)
+    read_marked s k k p page notes keeps refl refl keeps.anons bit true f (again p page (as_pte (InFrame f true) bit) (view k) (ap plain is)) allowed
+    (frame_entry k s p page f bit true keeps is) (few_by_bit k s p page f bit true keeps is)
 
-pub written_there : (k : Mem) (s : State) (p page f : ℕ) (bit : Bool) (notes : List Note) → Keeps k s → is_permitted true (prot_of (ranges_of k.spaces.processes p) page) ≡ true → entry_at k.tables p page ≡ Here f bit true
+pub written_there : (k : Mem) (s : State) (p page f : ℕ) (bit : Bool) (notes : List Note) → Keeps k s →
+    is_permitted true (prot_of (ranges_of k.spaces.processes p) page) ≡ true → entry_at k.tables p page ≡ Here f bit true
     → bit ≡ true → IsServed s k true (p, page) notes notes [] (Ready f)
 written_there k s p page f bit notes keeps allowed is own =
-    marked s k k p page notes keeps refl refl keeps.anons true bit true f (again p page (as_pte (InFrame f true) bit) (view k) (ap plain is)) allowed (frame_entry k s p page f bit true keeps is)
+    marked s k k p page notes keeps refl refl keeps.anons true bit true f (again p page (as_pte (InFrame f true) bit) (view k) (ap plain is)) allowed
+    (frame_entry k s p page f bit true keeps is)
     (few_by_bit k s p page f bit true keeps is) (λ writes. few_by_bit k s p page f bit true keeps is own)
 
 -- it is marked as seen
 module _ (k new : Mem) (s : State) (p page f : ℕ) (bit bit' was : Bool) (notes : List Note) (keeps : Keeps k s) (is : entry_at k.tables p page ≡ Here f bit was)
-    (entries : entry_at new.tables ≡ with_entry p page (Here f bit' true) (entry_at k.tables)) (processes : has new.tables ≡ has k.tables) (frames : new.frames ≡ k.frames) (spaces : new.spaces ≡ k.spaces) (anons : new.anons ≡ k.anons)
+    (entries : entry_at new.tables ≡ with_entry p page (Here f bit' true) (entry_at k.tables)) (processes : has new.tables ≡ has k.tables)
+    (frames : new.frames ≡ k.frames) (spaces : new.spaces ≡ k.spaces) (anons : new.anons ≡ k.anons)
     (few : bit' ≡ true → map_count s.ledger f ≤ 1) where
   pub seen_now : is_permitted false (prot_of (ranges_of k.spaces.processes p) page) ≡ true → IsTouched s new false (p, page) notes notes (Ready f)
   seen_now allowed =
-      read_marked s k new p page notes keeps processes (ap (λ f. (seen f).count) frames) (order_still k new spaces anons keeps.anons) bit' was f (entry_put_in k new p page (Here f bit' true) entries frames spaces anons) allowed (frame_entry k s p page f bit was keeps is) few
+      read_marked s k new p page notes keeps processes (ap (λ f. (seen f).count) frames) (order_still k new spaces anons keeps.anons) bit' was f
+      (entry_put_in k new p page (Here f bit' true) entries frames spaces anons) allowed (frame_entry k s p page f bit was keeps is) few
 
-  pub written_now : is_permitted true (prot_of (ranges_of k.spaces.processes p) page) ≡ true → map_count s.ledger f ≤ 1 → IsServed s new true (p, page) notes notes [] (Ready f)
+  pub written_now : is_permitted true (prot_of (ranges_of k.spaces.processes p) page) ≡ true → map_count s.ledger f ≤ 1 →
+      IsServed s new true (p, page) notes notes [] (Ready f)
   written_now allowed own =
-      marked s k new p page notes keeps processes (ap (λ f. (seen f).count) frames) (order_still k new spaces anons keeps.anons) true bit' was f (entry_put_in k new p page (Here f bit' true) entries frames spaces anons) allowed (frame_entry k s p page f bit was keeps is) few (λ writes. own)
+      marked s k new p page notes keeps processes (ap (λ f. (seen f).count) frames) (order_still k new spaces anons keeps.anons) true bit' was f
+      (entry_put_in k new p page (Here f bit' true) entries frames spaces anons) allowed (frame_entry k s p page f bit was keeps is) few (λ writes. own)
 
 -- whether an access is permitted, by the area on the page
-pub may_be : (s : Spaces) (p page : ℕ) (write : Bool) (o : Option Area) → o ≡ pages_of s p page → is_permitted write (option_map prot_on o) ≡ is_permitted write (prot_of (ranges_of s p) page)
+pub may_be : (s : Spaces) (p page : ℕ) (write : Bool) (o : Option Area) → o ≡ pages_of s p page →
+    is_permitted write (option_map prot_on o) ≡ is_permitted write (prot_of (ranges_of s p) page)
 may_be s p page write o is = ap (λ x. is_permitted write (option_map prot_on x)) is ∙ sym (ap (is_permitted write) (prots_are s p page))
 
 -- something is there exactly under the test
@@ -119,7 +133,8 @@ found_has : (page : ℕ) (area : Area) (areas : List Area) → find (λ a. has_p
 found_has page area [] e = cc
 found_has page area (a ∷ areas) e = at (has_page a page) refl e (found_has page area areas)
   where
-    at : (b : Bool) → has_page a page ≡ b → cond b (Some a) (find (λ a. has_page a page) areas) ≡ Some area → (find (λ a. has_page a page) areas ≡ Some area → has_page area page ≡ true) → has_page area page ≡ true
+    at : (b : Bool) → has_page a page ≡ b → cond b (Some a) (find (λ a. has_page a page) areas) ≡ Some area →
+        (find (λ a. has_page a page) areas ≡ Some area → has_page area page ≡ true) → has_page area page ≡ true
     at true h e rest = let same : a ≡ area = cc in subst (λ a. has_page a page ≡ true) same h
     at false h e rest = rest e
 

@@ -26,7 +26,8 @@ use Rattle.av_fault.proofs.FaultParts.{Parts}
 
 -- ---- whether the access is allowed
 
-pub allowed_is : (v : View) (w : World) (write : Bool) (p page : ℕ) → AreasStand v w → permits write (pages w p page) ≡ is_permitted write (prot_of (ranges_in (v.areas p)) page)
+pub allowed_is : (v : View) (w : World) (write : Bool) (p page : ℕ) → AreasStand v w →
+    permits write (pages w p page) ≡ is_permitted write (prot_of (ranges_in (v.areas p)) page)
 allowed_is v w write p page areas = sym (ap (is_permitted write) (areas.covers p page) ∙ on_page (pages w p page))
   where
     on_page : (o : Option Page) → is_permitted write (option_map (λ (q : Page). q.prot) o) ≡ permits write o
@@ -49,7 +50,8 @@ is_bare (Some Zero) = true
 is_bare (Some (InFrame f was)) = false
 is_bare (Some (InSlot s)) = false
 
-pub not_away : (m : Setting) (v : View) (w : World) (l : Ledger) (k : Key) (s : Slot) → Parts m v w l → ((s : Slot) → v.entries s ≡ 0) → entry l k ≡ Some (InSlot s) → ⊥
+pub not_away : (m : Setting) (v : View) (w : World) (l : Ledger) (k : Key) (s : Slot) → Parts m v w l → ((s : Slot) → v.entries s ≡ 0) →
+    entry l k ≡ Some (InSlot s) → ⊥
 not_away m v w l k s parts none is =
     let some = how_many-found (names_slot s) k l.entries (InSlot s) is (λ i. itself s.area i && itself s.page i) in
     let zero : slot_entries l s ≡ 0 = sym (parts.swap.counts s) ∙ none s in
@@ -64,7 +66,8 @@ some_none e = cc
 inner : {x y : ℕ} → Some x ≡ Some y → x ≡ y
 inner e = cc
 
-pub bare_entry : (m : Setting) (v : View) (w : World) (l : Ledger) (k : Key) (e : Pte) → Parts m v w l → ((s : Slot) → v.entries s ≡ 0) → frame_named e ≡ None → entry_of (plain e) ≡ entry l k → is_bare (entry l k) ≡ true
+pub bare_entry : (m : Setting) (v : View) (w : World) (l : Ledger) (k : Key) (e : Pte) → Parts m v w l → ((s : Slot) → v.entries s ≡ 0) → frame_named e ≡ None →
+    entry_of (plain e) ≡ entry l k → is_bare (entry l k) ≡ true
 bare_entry m v w l k Empty parts none bare is = ap is_bare (sym is)
 bare_entry m v w l k ZeroPte parts none bare is = ap is_bare (sym is)
 bare_entry m v w l k (Here f write was) parts none bare is = absurd (some_none bare)
@@ -102,7 +105,8 @@ need_ready l f was e none is few = ap (need true l) is ∙ ap (λ b. cond b (Cop
     not_two : (n : ℕ) → n ≤ 1 → nat_lt 1 n ≡ false
     not_two n h = grind (arith, nat_tests)
 
-pub need_split : (l : Ledger) (f : ℕ) (was : Bool) (e : Option Entry) → l.cache ≡ [] → e ≡ Some (InFrame f was) → 1 < map_count l f → need true l e ≡ CopyOnWrite f
+pub need_split : (l : Ledger) (f : ℕ) (was : Bool) (e : Option Entry) → l.cache ≡ [] → e ≡ Some (InFrame f was) →
+    1 < map_count l f → need true l e ≡ CopyOnWrite f
 need_split l f was e none is many = ap (need true l) is ∙ ap (λ b. cond b (CopyOnWrite f) Ready) (shared_is l f none ∙ two _ many)
   where
     two : (n : ℕ) → 1 < n → nat_lt 1 n ≡ true
@@ -117,11 +121,13 @@ no_spare m write came l (Some (InFrame f seen)) none = ap (drop_of_slot m write 
 no_spare m write came l (Some (InSlot s)) none = refl
 
 -- nothing comes in, these notes make the page, and no slot is spare
-pub serves : (m : Setting) (spares : Sparing) (l : Ledger) (write : Bool) (k : Key) (notes : List Note) (n : Need) → need write l (entry l k) ≡ n → ComesIn m spares l k n [] → IsMade m spares l k n notes → (after_notes l notes).cache ≡ [] → Serves m spares l write k notes
+pub serves : (m : Setting) (spares : Sparing) (l : Ledger) (write : Bool) (k : Key) (notes : List Note) (n : Need) → need write l (entry l k) ≡ n →
+    ComesIn m spares l k n [] → IsMade m spares l k n notes → (after_notes l notes).cache ≡ [] → Serves m spares l write k notes
 serves m spares l write k notes n is comes_in made none = record {
   coming = [];
   making = notes;
-  whole = sym (append-nil notes) ∙ ap (λ ns. notes ++ ns) (sym (no_spare m write (was_slot (need write l (entry l k))) (after_notes l notes) (entry (after_notes l notes) k) none));
+  whole = sym (append-nil notes) ∙ ap (λ ns. notes ++ ns) (sym (no_spare m write (was_slot (need write l (entry l k))) (after_notes l notes)
+      (entry (after_notes l notes) k) none));
   comes_in = subst (λ n. ComesIn m spares l k n []) (sym is) comes_in;
   made = subst (λ n. IsMade m spares l k n notes) (sym is) made;
 }
@@ -130,10 +136,12 @@ serves m spares l write k notes n is comes_in made none = record {
 
 none_free : (test : ℕ → Bool) (a n : ℕ) → ((f : ℕ) → f < a + n → test f ≡ false) → list_any test (numbers a n) ≡ false
 none_free test a zero h = refl
-none_free test a (suc n) h = ap (λ b. b || list_any test (numbers (a + 1) n)) (h a (omega arith)) ∙ none_free test (a + 1) n (λ f under. h f (omega (arith, under)))
+none_free test a (suc n) h = ap (λ b. b || list_any test (numbers (a + 1) n)) (h a (omega arith)) ∙ none_free test (a + 1) n
+    (λ f under. h f (omega (arith, under)))
 
 pub nothing_free : (m : Setting) (v : View) (w : World) (l : Ledger) → Parts m v w l → v.free ≡ [] → has_free m l ≡ false
-nothing_free m v w l parts empty = none_free (is_free l) 0 m.frames (λ g under. sym (parts.frames.free g (omega (arith, under))) ∙ ap (λ fs. list_any (λ x. g == x) fs) empty)
+nothing_free m v w l parts empty = none_free (is_free l) 0 m.frames (λ g under. sym (parts.frames.free g (omega (arith, under)))
+    ∙ ap (λ fs. list_any (λ x. g == x) fs) empty)
 
 -- how many there are but for the pinned one
 abbrev pub how_pinned : Option ℕ → ℕ
@@ -190,7 +198,8 @@ pub out_is : (m : Setting) (l : Ledger) (pinned : Option ℕ) → l.cache ≡ []
     → ◌≡◌ {A = OutOf} (record { pinned = how_pinned pinned; noslot = m.frames - how_pinned pinned; fault = 0 }) (out_of m pinned (sparing_of pinned) l)
 out_is m l None none below = λ i. record {
   pinned = 0;
-  noslot = sym (how_many-same (λ f. is_none (slot_of l f)) (λ f. true) (numbers 0 m.frames) (λ f. ap is_none (no_slot l f none)) ∙ all_count 0 m.frames ∙ none_less m.frames) i;
+  noslot = sym (how_many-same (λ f. is_none (slot_of l f)) (λ f. true) (numbers 0 m.frames) (λ f. ap is_none (no_slot l f none))
+      ∙ all_count 0 m.frames ∙ none_less m.frames) i;
   fault = sym (how_many-none (λ f. is_some (slot_of l f)) (numbers 0 m.frames) (λ f. ap is_some (no_slot l f none))) i;
 }
   where
@@ -198,8 +207,11 @@ out_is m l None none below = λ i. record {
     none_less n = omega arith
 out_is m l (Some g) none below = λ i. record {
   pinned = 1;
-  noslot = sym (how_many-same (λ f. not (g == f) && is_none (slot_of l f)) (λ f. not (g == f)) (numbers 0 m.frames) (λ f. kept (not (g == f)) (is_none (slot_of l f)) (ap is_none (no_slot l f none))) ∙ less _ _ (count_but g 0 m.frames (omega arith) (from_zero _ (below g refl)))) i;
-  fault = sym (how_many-none (λ f. not (g == f) && is_some (slot_of l f)) (numbers 0 m.frames) (λ f. never (not (g == f)) (is_some (slot_of l f)) (ap is_some (no_slot l f none)))) i;
+  noslot = sym (how_many-same (λ f. not (g == f) && is_none (slot_of l f)) (λ f. not (g == f)) (numbers 0 m.frames)
+      (λ f. kept (not (g == f)) (is_none (slot_of l f)) (ap is_none (no_slot l f none)))
+      ∙ less _ _ (count_but g 0 m.frames (omega arith) (from_zero _ (below g refl)))) i;
+  fault = sym (how_many-none (λ f. not (g == f) && is_some (slot_of l f)) (numbers 0 m.frames)
+      (λ f. never (not (g == f)) (is_some (slot_of l f)) (ap is_some (no_slot l f none)))) i;
 }
   where
     less : (x n : ℕ) → x + 1 ≡ n → x ≡ n - 1
@@ -209,11 +221,13 @@ out_is m l (Some g) none below = λ i. record {
     from_zero n h = omega arith
 
 -- the page needs a frame, and none is free
-pub runs_out : (m : Setting) (w : World) (l : Ledger) (k : Key) (n : Need) (out : OutOf) → HasNoSwap l → need true l (entry l k) ≡ n → wants_frame n ≡ true → has_free m l ≡ false → out ≡ out_of m (pinned_by n) (sparing w l (pinned_by n)) l → RunsOut m (sparing w) l true k [] out
+pub runs_out : (m : Setting) (w : World) (l : Ledger) (k : Key) (n : Need) (out : OutOf) → HasNoSwap l → need true l (entry l k) ≡ n → wants_frame n ≡ true →
+    has_free m l ≡ false → out ≡ out_of m (pinned_by n) (sparing w l (pinned_by n)) l → RunsOut m (sparing w) l true k [] out
 runs_out m w l k n out swap is wants none same = record {
   coming = [];
   sought = [];
   whole = refl;
   before = inl refl;
-  finds = subst (λ n. FindsNone m (sparing w) l n [] out) (sym is) (record { wants = wants; seeks = none-seeks m (sparing w l (pinned_by n)) l swap; none = none; numbers = same });
+  finds = subst (λ n. FindsNone m (sparing w) l n [] out) (sym is)
+      (record { wants = wants; seeks = none-seeks m (sparing w l (pinned_by n)) l swap; none = none; numbers = same });
 }

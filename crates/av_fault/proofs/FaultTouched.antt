@@ -29,7 +29,7 @@ use Rattle.av_fault.specs.declared.fault.Touched.{Touched}
 use Rattle.av_fault.specs.declared.fault.Touched.TheVariants.{Ready as ReadyAt, Zeros, Stopped}
 use Rattle.av_vma.specs.Pages.{pages_in}
 use Rattle.av_reclaim.proofs.MemLaws.{frames_free}
-use Rattle.av_plain.specs.Areas.{Anons, Areas, Homes, chain_of, rmap_after_all}
+use Rattle.av_plain.specs.Areas.{Anons, Areas, Homes, chain_by, rmap_after_all}
 use Rattle.av_plain.specs.Covered.{IsRmapSound}
 use Rattle.av_plain.proofs.Covered.{sound-set}
 use Rattle.av_spaces.specs.Kin.{AnonsFit}
@@ -44,7 +44,12 @@ use Rattle.av_fault.proofs.FaultServes.{allowed_is, there_is, serves, need_ready
 -- of two entries put in at one page the later stays
 pub twice : (p page : ℕ) (a b : Plain) (bytes bytes' : ℕ → ℕ → ℕ) (maps maps' : ℕ → ℕ) (rest rest' : List ℕ) (v : View)
     → changed p page b bytes maps rest (changed p page a bytes' maps' rest' v) ≡ changed p page b bytes maps rest v
-twice p page a b bytes bytes' maps maps' rest rest' v = λ i. record v { table = λ q o. point (q == p && o == page) (v.table q o) i; bytes = bytes; maps = maps; free = rest }
+twice p page a b bytes bytes' maps maps' rest rest' v = λ i. record v {
+  table = λ q o. point (q == p && o == page) (v.table q o) i;
+  bytes = bytes;
+  maps = maps;
+  free = rest;
+}
   where
     point : (t : Bool) (x : Option Plain) → cond t (Some b) (cond t (Some a) x) ≡ cond t (Some b) x
     point true x = refl
@@ -55,12 +60,14 @@ pub again : (p page : ℕ) (t : Plain) (v : View) → v.table p page ≡ Some t 
 again p page t v is = λ i. record v { table = λ q o. point q o (q == p && o == page) refl i }
   where
     point : (q o : ℕ) (b : Bool) → (q == p && o == page) ≡ b → v.table q o ≡ cond b (Some t) (v.table q o)
-    point q o true h = let same : ◌≡◌ {A = Key} (q, o) (p, page) = same_key-is (q, o) (p, page) (key_is q o p page ∙ h) in ap (λ (k : Key). v.table k.0 k.1) same ∙ is
+    point q o true h = let same : ◌≡◌ {A = Key} (q, o) (p, page) = same_key-is (q, o) (p, page) (key_is q o p page ∙ h) in
+        ap (λ (k : Key). v.table k.0 k.1) same ∙ is
     point q o false h = refl
 
 -- ---- ledgers
 
-pub used_is : (write : Bool) (l : Ledger) (k : Key) (f : ℕ) (was : Bool) → l.cache ≡ [] → entry l k ≡ Some (InFrame f was) → after_use write k l ≡ set_entry k (InFrame f true) l
+pub used_is : (write : Bool) (l : Ledger) (k : Key) (f : ℕ) (was : Bool) → l.cache ≡ [] → entry l k ≡ Some (InFrame f was) →
+    after_use write k l ≡ set_entry k (InFrame f true) l
 used_is true l k f was none is = ap (after_use_of true k l) is ∙ ap (λ o. if_some o (with_stale true) (set_entry k (InFrame f true) l)) (no_slot l f none)
 used_is false l k f was none is = ap (after_use_of false k l) is
 
@@ -68,7 +75,8 @@ pub entry_put : (l : Ledger) (k : Key) (e : Entry) → entry (set_entry k e l) k
 entry_put l k e = entry-set k e l k ∙ ap (λ b. cond b (Some e) (entry l k)) (same_key-itself k)
 
 -- a frame that is seen is mapped as often as before
-mapped_still : (l : Ledger) (k : Key) (f g : ℕ) (was : Bool) → T (is_sorted key_cmp l.entries) → entry l k ≡ Some (InFrame f was) → map_count (set_entry k (InFrame f true) l) g ≡ map_count l g
+mapped_still : (l : Ledger) (k : Key) (f g : ℕ) (was : Bool) → T (is_sorted key_cmp l.entries) → entry l k ≡ Some (InFrame f was) →
+    map_count (set_entry k (InFrame f true) l) g ≡ map_count l g
 mapped_still l k f g was sorted is = same_sum _ _ _ _ (map_count-set k (InFrame f true) l g sorted) (ap (weight (names_frame g)) is)
   where
     same_sum : (n w m c : ℕ) → n + w ≡ m + c → w ≡ c → n ≡ m
@@ -78,37 +86,47 @@ mapped_still l k f g was sorted is = same_sum _ _ _ _ (map_count-set k (InFrame 
 
 none_pass : (test : ℕ → Bool) (a n : ℕ) → ((f : ℕ) → f < a + n → test f ≡ false) → filter test (numbers a n) ≡ []
 none_pass test a zero h = refl
-none_pass test a (suc n) h = ap (λ b. cond b (a ∷ filter test (numbers (a + 1) n)) (filter test (numbers (a + 1) n))) (h a (omega arith)) ∙ none_pass test (a + 1) n (λ f less. h f (omega (arith, less)))
+none_pass test a (suc n) h = ap (λ b. cond b (a ∷ filter test (numbers (a + 1) n)) (filter test (numbers (a + 1) n))) (h a (omega arith))
+    ∙ none_pass test (a + 1) n (λ f less. h f (omega (arith, less)))
 
 -- where the ledger stays
 none_freed : (m : Setting) (l l' : Ledger) → l' ≡ l → new_free m l l' ≡ []
 none_freed m l l' same = subst (λ x. new_free m l x ≡ []) (sym same) (new_free-none m l l (λ f below. omega arith))
 
 -- where an entry's frame is marked as seen
-seen_frees_none : (m : Setting) (l l' : Ledger) (k : Key) (f : ℕ) (was : Bool) → l' ≡ set_entry k (InFrame f true) l → T (is_sorted key_cmp l.entries) → entry l k ≡ Some (InFrame f was) → new_free m l l' ≡ []
-seen_frees_none m l l' k f was is sorted named = subst (λ x. new_free m l x ≡ []) (sym is) (new_free-set m k (InFrame f true) l sorted (λ g. subst (λ o. weight (names_frame g) o ≤ cond (g == f) 1 0) (sym named) (itself_le (cond (g == f) 1 0))))
+seen_frees_none : (m : Setting) (l l' : Ledger) (k : Key) (f : ℕ) (was : Bool) → l' ≡ set_entry k (InFrame f true) l → T (is_sorted key_cmp l.entries) →
+    entry l k ≡ Some (InFrame f was) → new_free m l l' ≡ []
+seen_frees_none m l l' k f was is sorted named = subst (λ x. new_free m l x ≡ []) (sym is)
+    (new_free-set m k (InFrame f true) l sorted (λ g. subst (λ o. weight (names_frame g) o ≤ cond (g == f) 1 0) (sym named) (itself_le (cond (g == f) 1 0))))
   where
     itself_le : (n : ℕ) → n ≤ n
     itself_le n = omega arith
 
 -- where an entry gets a frame, and no frame loses its last entry
-given_frees_none : (m : Setting) (v : View) (w : World) (l : Ledger) (p page f : ℕ) (rest : List ℕ) (bytes maps : ℕ → ℕ) → Parts m v w l → Parts m (changed p page (as_pte (InFrame f false) true) (with_at f bytes v.bytes) maps rest v) w (given_to p page f l)
-    → ((g : ℕ) → maps g + weight (names_frame g) (entry l (p, page)) ≡ v.maps g + cond (g == f) 1 0) → ((g : ℕ) → 0 < weight (names_frame g) (entry l (p, page)) → 1 < v.maps g)
+given_frees_none : (m : Setting) (v : View) (w : World) (l : Ledger) (p page f : ℕ) (rest : List ℕ) (bytes maps : ℕ → ℕ) → Parts m v w l →
+    Parts m (changed p page (as_pte (InFrame f false) true) (with_at f bytes v.bytes) maps rest v) w (given_to p page f l)
+    → ((g : ℕ) → maps g + weight (names_frame g) (entry l (p, page)) ≡ v.maps g + cond (g == f) 1 0) →
+    ((g : ℕ) → 0 < weight (names_frame g) (entry l (p, page)) → 1 < v.maps g)
     → new_free m l (given_to p page f l) ≡ []
-given_frees_none m v w l p page f rest bytes maps before after counts many = none_pass (λ g. is_free (given_to p page f l) g && not (is_free l g)) 0 m.frames (λ g below.
+given_frees_none m v w l p page f rest bytes maps before after counts many =
+    none_pass (λ g. is_free (given_to p page f l) g && not (is_free l g)) 0 m.frames (λ g below.
     by (is_free (given_to p page f l) g) (is_free l g) (maps g) (v.maps g) (weight (names_frame g) (entry l (p, page))) (cond (g == f) 1 0)
-    (free_is (given_to p page f l) g after.cache ∙ ap (λ n. n == 0) (sym (after.frames.maps g))) (free_is l g before.cache ∙ ap (λ n. n == 0) (sym (before.frames.maps g))) (counts g) (many g) (at_most_one (names_frame g) (entry l (p, page))))
+    (free_is (given_to p page f l) g after.cache ∙ ap (λ n. n == 0) (sym (after.frames.maps g)))
+    (free_is l g before.cache ∙ ap (λ n. n == 0) (sym (before.frames.maps g))) (counts g) (many g) (at_most_one (names_frame g) (entry l (p, page))))
   where
     by : (a b : Bool) (now was k c : ℕ) → a ≡ (now == 0) → b ≡ (was == 0) → now + k ≡ was + c → (0 < k → 1 < was) → k ≤ 1 → (a && not b) ≡ false
     by false b now was k c e f h many few = refl
     by true true now was k c e f h many few = refl
-    by true false now was zero c e f h many few = absurd (let some : 0 < was = grind (arith, nat_tests, f) in let none : now ≡ 0 = grind (arith, nat_tests, e) in omega (arith, some, none, h))
-    by true false now was (suc k) c e f h many few = absurd (let none : now ≡ 0 = grind (arith, nat_tests, e) in let two = many (omega arith) in omega (arith, none, two, h, few))
+    by true false now was zero c e f h many few = absurd (let some : 0 < was = grind (arith, nat_tests, f) in
+        let none : now ≡ 0 = grind (arith, nat_tests, e) in omega (arith, some, none, h))
+    by true false now was (suc k) c e f h many few = absurd (let none : now ≡ 0 = grind (arith, nat_tests, e) in let two = many (omega arith) in
+        omega (arith, none, two, h, few))
 
 -- ---- what is free
 
 -- without a device no slot is taken or given back
-unslotted : (n : ℕ) (l : Ledger) (e : Event) (slots : AreaSlots) → SwitchesArea (setting n) e slots slots → slot_in e ≡ None → ChoosesSlot (setting n) None l e slots slots
+unslotted : (n : ℕ) (l : Ledger) (e : Event) (slots : AreaSlots) → SwitchesArea (setting n) e slots slots → slot_in e ≡ None →
+    ChoosesSlot (setting n) None l e slots slots
 unslotted n l e slots turns takes = no-slot-chosen (setting n) None l e slots (λ k. refl) turns takes
 
 -- a note that takes a frame takes no slot
@@ -132,19 +150,22 @@ takes_no_slot (Aged g) f e = refl
 pub tables_still : (old new : Mem) → HasTables old → has new.tables ≡ has old.tables → (view new).areas ≡ (view old).areas → HasTables new
 tables_still old new h tables areas = λ p. ap (λ f. f p) tables ∙ h p ∙ sym (ap (λ f. is_some (ranges_in (f p))) areas)
 
-pub stand_now : (old new : Mem) (w : World) (l : Ledger) (v : View) → view new ≡ v → count new ≡ count old → Parts (setting (count old)) v w l → HasTables new → AnonsFit new.spaces new.anons → KeepsWithin new w l
-stand_now old new w l v is same parts tables order = to_stand new w l (subst (λ n. Parts (setting n) (view new) w l) (sym same) (subst (λ v. Parts (setting (count old)) v w l) (sym is) parts)) tables order
+pub stand_now : (old new : Mem) (w : World) (l : Ledger) (v : View) → view new ≡ v → count new ≡ count old → Parts (setting (count old)) v w l → HasTables new →
+    AnonsFit new.spaces new.anons → KeepsWithin new w l
+stand_now old new w l v is same parts tables order = to_stand new w l
+    (subst (λ n. Parts (setting n) (view new) w l) (sym same) (subst (λ v. Parts (setting (count old)) v w l) (sym is) parts)) tables order
 
 -- the anon_vmas are as they were
 pub anons_still : (v v' : View) (areas : Areas) (anons : Anons) → v'.anons ≡ v.anons → AnonsStand v areas anons → AnonsStand v' areas anons
 anons_still v v' areas anons same h = record {
   next = ap (λ (a : Anons). a.next) same ∙ h.next;
   kin = λ n. ap (λ (a : Anons). option_map kin_of (a.anon n)) same ∙ h.kin n;
-  chains = λ p page. subst (λ (a : Anons). IfSome (areas p page) (λ area. chain_of a area.anon ≡ chain_of anons area.anon)) (sym same) (h.chains p page);
+  chains = λ p page. subst (λ (a : Anons). IfSome (areas p page) (λ area. chain_by a area.anon ≡ chain_by anons area.anon)) (sym same) (h.chains p page);
 }
 
 -- where the areas, anon_vmas and homes are as they were they are those of the state
-pub rmap_still : (s : State) (old new : Mem) → Keeps old s → (view new).areas ≡ (view old).areas → (view new).anons ≡ (view old).anons → (view new).homes ≡ (view old).homes → HasRmap new (rmap_of s)
+pub rmap_still : (s : State) (old new : Mem) → Keeps old s → (view new).areas ≡ (view old).areas → (view new).anons ≡ (view old).anons →
+    (view new).homes ≡ (view old).homes → HasRmap new (rmap_of s)
 rmap_still s old new keeps areas anons homes = record {
   areas = λ q o. ap (λ a. pages_in (a q) o) areas ∙ keeps.stands.areas q o;
   anons = anons_still (view old) (view new) s.areas s.anons anons keeps.stands.anons;
@@ -163,9 +184,12 @@ pub record IsServed (s : State) (mid : Mem) (write : Bool) (k : Key) (before now
   pub free : ChoosesAll (setting (count mid)) None s.ledger (page_events write k added (end_of touched)) s.free (free_of (view mid))
 
 -- and after it has
-pub to_touched : (s : State) (mid new : Mem) (write : Bool) (k : Key) (before now added : List Note) (touched : Touched) → IsServed s mid write k before now added touched → count mid ≡ count new → free_of (view mid) ≡ free_of (view new)
-    → KeepsWithin new s.world (after_all s.ledger (page_events write k added (end_of touched))) → HasRmap new (rmap_after_all s.ledger (page_events write k added (end_of touched)) (rmap_of s))
-    → IsRmapSound (after_all s.ledger (page_events write k added (end_of touched))) (rmap_after_all s.ledger (page_events write k added (end_of touched)) (rmap_of s)) → IsTouched s new write k before now touched
+pub to_touched : (s : State) (mid new : Mem) (write : Bool) (k : Key) (before now added : List Note) (touched : Touched) →
+    IsServed s mid write k before now added touched → count mid ≡ count new → free_of (view mid) ≡ free_of (view new)
+    → KeepsWithin new s.world (after_all s.ledger (page_events write k added (end_of touched))) →
+    HasRmap new (rmap_after_all s.ledger (page_events write k added (end_of touched)) (rmap_of s))
+    → IsRmapSound (after_all s.ledger (page_events write k added (end_of touched)))
+    (rmap_after_all s.ledger (page_events write k added (end_of touched)) (rmap_of s)) → IsTouched s new write k before now touched
 to_touched s mid new write k before now added touched h same free parts rmap reach = record {
   added = added;
   notes = h.notes;
@@ -183,7 +207,8 @@ module _ (s : State) (old new : Mem) (p page : ℕ) (notes : List Note) (keeps :
   parts = of_keeps old s keeps
 
   -- the page is not mapped so
-  pub denied : (write : Bool) → is_permitted write (prot_of (ranges_in ((view old).areas p)) page) ≡ false → IsTouched s old write (p, page) notes notes (Stopped Segv)
+  pub denied : (write : Bool) → is_permitted write (prot_of (ranges_in ((view old).areas p)) page) ≡ false →
+      IsTouched s old write (p, page) notes notes (Stopped Segv)
   denied write refused = record {
     added = [];
     notes = sym (append-nil notes);
@@ -196,16 +221,27 @@ module _ (s : State) (old new : Mem) (p page : ℕ) (notes : List Note) (keeps :
   }
 
   -- its entry is zeros, at a read
-  pub zeros_there : is_permitted false (prot_of (ranges_in ((view old).areas p)) page) ≡ true → entry s.ledger (p, page) ≡ Some Zero → IsTouched s old false (p, page) notes notes Zeros
+  pub zeros_there : is_permitted false (prot_of (ranges_in ((view old).areas p)) page) ≡ true → entry s.ledger (p, page) ≡ Some Zero →
+      IsTouched s old false (p, page) notes notes Zeros
   zeros_there allowed is =
       let still : after_use false (p, page) s.ledger ≡ s.ledger = ap (after_use_of false (p, page) s.ledger) is in
       record {
         added = [];
         notes = sym (append-nil notes);
-        touches = (allowed_is (view old) s.world false p page keeps.stands.parts.areas ∙ allowed, serves (setting (count old)) (sparing s.world) s.ledger false (p, page) [] Ready (ap (need false s.ledger) is) refl refl (of_keeps old s keeps).cache);
+        touches = (
+          allowed_is (view old) s.world false p page keeps.stands.parts.areas ∙ allowed,
+          serves (setting (count old)) (sparing s.world) s.ledger false
+              (p, page) [] Ready (ap (need false s.ledger) is) refl refl (of_keeps old s keeps).cache,
+        );
         ready = (ap (λ l. entry l (p, page)) still ∙ is, refl);
         parts = subst (KeepsWithin old s.world) (sym still) (to_stand old s.world s.ledger (of_keeps old s keeps) keeps.tables keeps.anons);
-        free = (s.free, chooses-kept (setting (count old)) None s.ledger (Used false (p, page)) s.free (unslotted (count old) s.ledger (Used false (p, page)) s.free.slots refl refl) refl (none_freed (setting (count old)) s.ledger (after_use false (p, page) s.ledger) still), keeps.stands.free);
+        free = (
+          s.free,
+          chooses-kept (setting (count old)) None s.ledger (Used false (p, page)) s.free
+              (unslotted (count old) s.ledger (Used false (p, page)) s.free.slots refl refl) refl
+              (none_freed (setting (count old)) s.ledger (after_use false (p, page) s.ledger) still),
+          keeps.stands.free,
+        );
         rmap = rmap_now s old keeps;
         reach = subst (λ l. IsRmapSound l (rmap_of s)) (sym still) keeps.stands.reach;
       }
@@ -213,43 +249,60 @@ module _ (s : State) (old new : Mem) (p page : ℕ) (notes : List Note) (keeps :
   module _ (processes : has new.tables ≡ has old.tables) (same : count new ≡ count old) (order : AnonsFit new.spaces new.anons) where
     -- where the areas, anon_vmas and homes are as they were they are those of the state
     same_rmap : (v : View) → view new ≡ v → v.areas ≡ (view old).areas → v.anons ≡ (view old).anons → v.homes ≡ (view old).homes → HasRmap new (rmap_of s)
-    same_rmap v is areas anons homes = rmap_still s old new keeps (ap (λ (v : View). v.areas) is ∙ areas) (ap (λ (v : View). v.anons) is ∙ anons) (ap (λ (v : View). v.homes) is ∙ homes)
+    same_rmap v is areas anons homes = rmap_still s old new keeps (ap (λ (v : View). v.areas) is ∙ areas) (ap (λ (v : View). v.anons) is ∙ anons)
+        (ap (λ (v : View). v.homes) is ∙ homes)
 
     -- no frame is free
-    pub starved : (n : Need) (out : OutOf) → view new ≡ view old → is_permitted true (prot_of (ranges_in ((view old).areas p)) page) ≡ true → need true s.ledger (entry s.ledger (p, page)) ≡ n → wants_frame n ≡ true → (view old).free ≡ []
-        → out ≡ out_of (setting (count old)) (pinned_by n) (sparing s.world s.ledger (pinned_by n)) s.ledger → IsTouched s new true (p, page) notes notes (Stopped (Oom out))
+    pub starved : (n : Need) (out : OutOf) → view new ≡ view old → is_permitted true (prot_of (ranges_in ((view old).areas p)) page) ≡ true →
+        need true s.ledger (entry s.ledger (p, page)) ≡ n → wants_frame n ≡ true → (view old).free ≡ []
+        → out ≡ out_of (setting (count old)) (pinned_by n) (sparing s.world s.ledger (pinned_by n)) s.ledger →
+        IsTouched s new true (p, page) notes notes (Stopped (Oom out))
     starved n out is allowed needs wants empty numbers = record {
       added = [];
       notes = sym (append-nil notes);
-      touches = subst (λ c. Touches (setting c) s.world s.ledger true (p, page) [] (Some (Starved out))) (sym same)
-          (allowed_is (view old) s.world true p page keeps.stands.parts.areas ∙ allowed, runs_out (setting (count old)) s.world s.ledger (p, page) n out (no_swap (setting (count old)) (view old) s.world s.ledger (of_keeps old s keeps)) needs wants (nothing_free (setting (count old)) (view old) s.world s.ledger (of_keeps old s keeps) empty) numbers);
+      touches = subst (λ c. Touches (setting c) s.world s.ledger true (p, page) [] (Some (Starved out))) (sym same) (
+        allowed_is (view old) s.world true p page keeps.stands.parts.areas ∙ allowed,
+        runs_out (setting (count old)) s.world s.ledger (p, page) n out
+            (no_swap (setting (count old)) (view old) s.world s.ledger (of_keeps old s keeps)) needs wants
+            (nothing_free (setting (count old)) (view old) s.world s.ledger (of_keeps old s keeps) empty) numbers,
+      );
       ready = tt;
-      parts = stand_now old new s.world s.ledger (view old) is same (of_keeps old s keeps) (tables_still old new keeps.tables processes (ap (λ (v : View). v.areas) is)) order;
+      parts = stand_now old new s.world s.ledger (view old) is same (of_keeps old s keeps)
+          (tables_still old new keeps.tables processes (ap (λ (v : View). v.areas) is)) order;
       free = ap free_of is ∙ keeps.stands.free;
       rmap = same_rmap _ is refl refl refl;
       reach = keeps.stands.reach;
     }
 
     -- its entry is a frame, which a write has for itself; it is marked as seen
-    pub marked : (write bit was : Bool) (f : ℕ) → view new ≡ changed p page (as_pte (InFrame f true) bit) (view old).bytes (view old).maps (view old).free (view old) → is_permitted write (prot_of (ranges_in ((view old).areas p)) page) ≡ true
-        → entry s.ledger (p, page) ≡ Some (InFrame f was) → (bit ≡ true → map_count s.ledger f ≤ 1) → (write ≡ true → map_count s.ledger f ≤ 1) → IsServed s new write (p, page) notes notes [] (ReadyAt f)
+    pub marked : (write bit was : Bool) (f : ℕ) → view new ≡ changed p page (as_pte (InFrame f true) bit) (view old).bytes (view old).maps (view old).free
+        (view old) → is_permitted write (prot_of (ranges_in ((view old).areas p)) page) ≡ true
+        → entry s.ledger (p, page) ≡ Some (InFrame f was) → (bit ≡ true → map_count s.ledger f ≤ 1) → (write ≡ true → map_count s.ledger f ≤ 1) →
+        IsServed s new write (p, page) notes notes [] (ReadyAt f)
     marked write bit was f is allowed named few own =
         let use_is = used_is write s.ledger (p, page) f was (of_keeps old s keeps).cache named in
         let permit : permits write (pages s.world p page) ≡ true = allowed_is (view old) s.world write p page keeps.stands.parts.areas ∙ allowed in
         record {
           notes = sym (append-nil notes);
-          touches = subst (λ c. Touches (setting c) s.world s.ledger write (p, page) [] None) (sym same)
-              (permit, serves (setting (count old)) (sparing s.world) s.ledger write (p, page) [] Ready (needs write own) refl refl (of_keeps old s keeps).cache);
+          touches = subst (λ c. Touches (setting c) s.world s.ledger write (p, page) [] None) (sym same) (
+            permit,
+            serves (setting (count old)) (sparing s.world) s.ledger write (p, page) [] Ready (needs write own) refl refl
+                (of_keeps old s keeps).cache,
+          );
           ready = (
             ap (λ l. entry l (p, page)) use_is ∙ entry_put s.ledger (p, page) (InFrame f true),
-            λ writes. subst (λ n. n ≤ 1) (sym (ap (λ l. map_count l f) use_is ∙ mapped_still s.ledger (p, page) f f was (of_keeps old s keeps).in_order named)) (own writes),
+            λ writes. subst (λ n. n ≤ 1) (sym (ap (λ l. map_count l f) use_is ∙ mapped_still s.ledger (p, page) f f was (of_keeps old s keeps).in_order named))
+                (own writes),
           );
           parts = subst (KeepsWithin new s.world) (sym use_is) (stand_now old new s.world (set_entry (p, page) (InFrame f true) s.ledger) _ is same
               (seen (setting (count old)) (view old) s.world s.ledger p page f was bit (of_keeps old s keeps) (there_is s.world write p page permit) named few)
               (tables_still old new keeps.tables processes (ap (λ (v : View). v.areas) is)) order);
           free = subst (λ n. ChoosesAll (setting n) None s.ledger (page_events write (p, page) [] None) s.free (free_of (view new))) (sym same) (
             s.free,
-            chooses-kept (setting (count old)) None s.ledger (Used write (p, page)) s.free (unslotted (count old) s.ledger (Used write (p, page)) s.free.slots refl refl) refl (seen_frees_none (setting (count old)) s.ledger (after_use write (p, page) s.ledger) (p, page) f was use_is (of_keeps old s keeps).in_order named),
+            chooses-kept (setting (count old)) None s.ledger (Used write (p, page)) s.free
+                (unslotted (count old) s.ledger (Used write (p, page)) s.free.slots refl refl) refl
+                (seen_frees_none (setting (count old)) s.ledger (after_use write (p, page) s.ledger) (p, page) f was use_is
+                (of_keeps old s keeps).in_order named),
             ap free_of is ∙ keeps.stands.free,
           );
         }
@@ -259,7 +312,8 @@ module _ (s : State) (old new : Mem) (p page : ℕ) (notes : List Note) (keeps :
         needs false own = ap (need false s.ledger) named
 
     -- so a read of it is done
-    pub read_marked : (bit was : Bool) (f : ℕ) → view new ≡ changed p page (as_pte (InFrame f true) bit) (view old).bytes (view old).maps (view old).free (view old) → is_permitted false (prot_of (ranges_in ((view old).areas p)) page) ≡ true
+    pub read_marked : (bit was : Bool) (f : ℕ) → view new ≡ changed p page (as_pte (InFrame f true) bit) (view old).bytes (view old).maps (view old).free
+        (view old) → is_permitted false (prot_of (ranges_in ((view old).areas p)) page) ≡ true
         → entry s.ledger (p, page) ≡ Some (InFrame f was) → (bit ≡ true → map_count s.ledger f ≤ 1) → IsTouched s new false (p, page) notes notes (ReadyAt f)
     read_marked bit was f is allowed named few =
         let served = marked false bit was f is allowed named few (λ e. absurd (false≢true e)) in
@@ -269,39 +323,53 @@ module _ (s : State) (old new : Mem) (p page : ℕ) (notes : List Note) (keeps :
 
     module _ (now : List Note) where
       -- it has no entry, and gets the page of zeros, at a read
-      pub zeroed_now : now ≡ notes ++ Zeroed p (4096 * page) ∷ [] → view new ≡ changed p page (as_pte Zero false) (view old).bytes (view old).maps (view old).free (view old) → is_permitted false (prot_of (ranges_in ((view old).areas p)) page) ≡ true
+      pub zeroed_now : now ≡ notes ++ Zeroed p (4096 * page) ∷ [] → view new ≡ changed p page (as_pte Zero false) (view old).bytes (view old).maps
+          (view old).free (view old) → is_permitted false (prot_of (ranges_in ((view old).areas p)) page) ≡ true
           → entry s.ledger (p, page) ≡ None → IsTouched s new false (p, page) notes now Zeros
       zeroed_now added is allowed none =
           let permit : permits false (pages s.world p page) ≡ true = allowed_is (view old) s.world false p page keeps.stands.parts.areas ∙ allowed in
-          let put : after_note (Zeroed p (4096 * page)) s.ledger ≡ set_entry (p, page) Zero s.ledger = ap (λ (k : Key). set_entry k Zero s.ledger) (key_at-page p page) in
+          let put : after_note (Zeroed p (4096 * page)) s.ledger ≡ set_entry (p, page) Zero s.ledger =
+          ap (λ (k : Key). set_entry k Zero s.ledger) (key_at-page p page) in
           let after : after_use false (p, page) (after_note (Zeroed p (4096 * page)) s.ledger) ≡ set_entry (p, page) Zero s.ledger =
           ap (after_use false (p, page)) put ∙ ap (after_use_of false (p, page) (set_entry (p, page) Zero s.ledger)) (entry_put s.ledger (p, page) Zero) in
           record {
             added = Zeroed p (4096 * page) ∷ [];
             notes = added;
-            touches = subst (λ c. Touches (setting c) s.world s.ledger false (p, page) (Zeroed p (4096 * page) ∷ []) None) (sym same)
-                (permit, serves (setting (count old)) (sparing s.world) s.ledger false (p, page) (Zeroed p (4096 * page) ∷ []) ZeroPage (ap (need false s.ledger) none) refl refl (of_keeps old s keeps).cache);
+            touches = subst (λ c. Touches (setting c) s.world s.ledger false (p, page) (Zeroed p (4096 * page) ∷ []) None) (sym same) (
+              permit,
+              serves (setting (count old)) (sparing s.world) s.ledger false (p, page) (Zeroed p (4096 * page) ∷ []) ZeroPage
+                  (ap (need false s.ledger) none) refl refl (of_keeps old s keeps).cache,
+            );
             ready = (ap (λ l. entry l (p, page)) after ∙ entry_put s.ledger (p, page) Zero, refl);
             parts = subst (KeepsWithin new s.world) (sym after) (stand_now old new s.world (set_entry (p, page) Zero s.ledger) _ is same
                 (zeroed (setting (count old)) (view old) s.world s.ledger p page (of_keeps old s keeps) (there_is s.world false p page permit) none)
                 (tables_still old new keeps.tables processes (ap (λ (v : View). v.areas) is)) order);
-            free = subst (λ n. ChoosesAll (setting n) None s.ledger (page_events false (p, page) (Zeroed p (4096 * page) ∷ []) None) s.free (free_of (view new))) (sym same) (
-              s.free,
-              chooses-kept (setting (count old)) None s.ledger (Noted (Zeroed p (4096 * page))) s.free (unslotted (count old) s.ledger (Noted (Zeroed p (4096 * page))) s.free.slots refl refl) refl (subst (λ l. new_free (setting (count old)) s.ledger l ≡ []) (sym put)
-                  (new_free-set (setting (count old)) (p, page) Zero s.ledger (of_keeps old s keeps).in_order (λ g. subst (λ o. weight (names_frame g) o ≤ 0) (sym none) (omega arith)))),
-              (
-                s.free,
-                chooses-kept (setting (count old)) None (after_note (Zeroed p (4096 * page)) s.ledger) (Used false (p, page)) s.free (unslotted (count old) (after_note (Zeroed p (4096 * page)) s.ledger) (Used false (p, page)) s.free.slots refl refl) refl (none_freed (setting (count old)) (after_note (Zeroed p (4096 * page)) s.ledger) (after_use false (p, page) (after_note (Zeroed p (4096 * page)) s.ledger)) (after ∙ sym put)),
-                ap free_of is ∙ keeps.stands.free,
-              ),
-            );
+            free = subst (λ n. ChoosesAll (setting n) None s.ledger (page_events false (p, page) (Zeroed p (4096 * page) ∷ []) None) s.free
+                (free_of (view new))) (sym same) (
+                  s.free,
+                  chooses-kept (setting (count old)) None s.ledger (Noted (Zeroed p (4096 * page))) s.free
+                      (unslotted (count old) s.ledger (Noted (Zeroed p (4096 * page))) s.free.slots refl refl) refl
+                      (subst (λ l. new_free (setting (count old)) s.ledger l ≡ []) (sym put)
+                      (new_free-set (setting (count old)) (p, page) Zero s.ledger (of_keeps old s keeps).in_order
+                      (λ g. subst (λ o. weight (names_frame g) o ≤ 0) (sym none) (omega arith)))),
+                  (
+                    s.free,
+                    chooses-kept (setting (count old)) None (after_note (Zeroed p (4096 * page)) s.ledger) (Used false (p, page)) s.free
+                        (unslotted (count old) (after_note (Zeroed p (4096 * page)) s.ledger) (Used false (p, page)) s.free.slots refl refl) refl
+                        (none_freed (setting (count old)) (after_note (Zeroed p (4096 * page)) s.ledger)
+                        (after_use false (p, page) (after_note (Zeroed p (4096 * page)) s.ledger)) (after ∙ sym put)),
+                    ap free_of is ∙ keeps.stands.free,
+                  ),
+                );
             rmap = same_rmap _ is refl refl refl;
             reach = sound-set s.ledger _ (rmap_of s) (p, page) Zero after (λ f names. absurd (false≢true names)) keeps.stands.reach;
           }
 
       -- it gets a frame that was free
-      pub given_now : (note : Note) (f : ℕ) (bytes maps : ℕ → ℕ) → now ≡ notes ++ note ∷ [] → IsTaken old new p page f bytes maps → is_permitted true (prot_of (ranges_in ((view old).areas p)) page) ≡ true
-          → after_note note s.ledger ≡ given_to p page f s.ledger → frame_in_note note ≡ Some f → s.free ≡ frames_free (f ∷ (view new).free) → Serves (setting (count old)) (sparing s.world) s.ledger true (p, page) (note ∷ [])
+      pub given_now : (note : Note) (f : ℕ) (bytes maps : ℕ → ℕ) → now ≡ notes ++ note ∷ [] → IsTaken old new p page f bytes maps →
+          is_permitted true (prot_of (ranges_in ((view old).areas p)) page) ≡ true
+          → after_note note s.ledger ≡ given_to p page f s.ledger → frame_in_note note ≡ Some f → s.free ≡ frames_free (f ∷ (view new).free) →
+          Serves (setting (count old)) (sparing s.world) s.ledger true (p, page) (note ∷ [])
           → Holds (pages s.world p page) bytes
           → ((g : ℕ) → maps g + weight (names_frame g) (entry s.ledger (p, page)) ≡ (view old).maps g + cond (g == f) 1 0)
           → ((g : ℕ) → 0 < weight (names_frame g) (entry s.ledger (p, page)) → 1 < (view old).maps g)
@@ -312,10 +380,12 @@ module _ (s : State) (old new : Mem) (p page : ℕ) (notes : List Note) (keeps :
           let old_parts = of_keeps old s keeps in
           let mid = given_to p page f s.ledger in
           let permit : permits true (pages s.world p page) ≡ true = allowed_is (view old) s.world true p page keeps.stands.parts.areas ∙ allowed in
-          let mid_parts = given m (view old) s.world s.ledger p page f (view new).free bytes maps old_parts is.first is.gone is.below (there_is s.world true p page permit) holds counts many no_slot in
+          let mid_parts = given m (view old) s.world s.ledger p page f (view new).free bytes maps old_parts is.first is.gone is.below
+          (there_is s.world true p page permit) holds counts many no_slot in
           let alone : map_count mid f ≤ 1 = once_named m (view old) s.world s.ledger p page f (view new).free bytes maps old_parts is.first is.gone is.below in
           let named : entry mid (p, page) ≡ Some (InFrame f false) = entry_given p page f s.ledger in
-          let after : after_use true (p, page) (after_note note s.ledger) ≡ set_entry (p, page) (InFrame f true) mid = ap (after_use true (p, page)) note_is ∙ used_is true mid (p, page) f false old_parts.cache named in
+          let after : after_use true (p, page) (after_note note s.ledger) ≡ set_entry (p, page) (InFrame f true) mid = ap (after_use true (p, page)) note_is
+          ∙ used_is true mid (p, page) f false old_parts.cache named in
           record {
             notes = added;
             touches = subst (λ c. Touches (setting c) s.world s.ledger true (p, page) (note ∷ []) None) (sym same) (permit, lawful);
@@ -324,17 +394,24 @@ module _ (s : State) (old new : Mem) (p page : ℕ) (notes : List Note) (keeps :
               λ writes. subst (λ n. n ≤ 1) (sym (ap (λ l. map_count l f) after ∙ mapped_still mid (p, page) f f false mid_parts.in_order named)) alone,
             );
             parts = subst (KeepsWithin new s.world) (sym after) (stand_now old new s.world (set_entry (p, page) (InFrame f true) mid) _
-                (is.view ∙ sym (twice p page (as_pte (InFrame f false) true) (as_pte (InFrame f true) true) (with_at f bytes (view old).bytes) (with_at f bytes (view old).bytes) maps maps (view new).free (view new).free (view old))) same
+                (is.view ∙ sym (twice p page (as_pte (InFrame f false) true) (as_pte (InFrame f true) true) (with_at f bytes (view old).bytes)
+                (with_at f bytes (view old).bytes) maps maps (view new).free (view new).free (view old))) same
                 (seen m _ s.world mid p page f false true mid_parts (there_is s.world true p page permit) named (λ _. alone))
                 (tables_still old new keeps.tables processes (ap (λ (v : View). v.areas) is.view)) order);
             free = subst (λ n. ChoosesAll (setting n) None s.ledger (page_events true (p, page) (note ∷ []) None) s.free (free_of (view new))) (sym same) (
               free_of (view new),
-              subst (λ free. Chooses m None s.ledger (Noted note) free (free_of (view new))) (sym first) (chooses-taken m None s.ledger (Noted note) f (view new).free no_slots (unslotted (count old) s.ledger (Noted note) no_slots refl (takes_no_slot note f takes)) takes (subst (λ l. new_free m s.ledger l ≡ []) (sym note_is)
+              subst (λ free. Chooses m None s.ledger (Noted note) free (free_of (view new))) (sym first)
+                  (chooses-taken m None s.ledger (Noted note) f (view new).free no_slots
+                  (unslotted (count old) s.ledger (Noted note) no_slots refl (takes_no_slot note f takes)) takes
+                  (subst (λ l. new_free m s.ledger l ≡ []) (sym note_is)
                   (given_frees_none m (view old) s.world s.ledger p page f (view new).free bytes maps old_parts mid_parts counts many))),
               (
                 free_of (view new),
-                chooses-kept m None (after_note note s.ledger) (Used true (p, page)) (free_of (view new)) (unslotted (count old) (after_note note s.ledger) (Used true (p, page)) no_slots refl refl) refl (subst (λ l. new_free m l (after_use true (p, page) l) ≡ []) (sym note_is)
-                    (seen_frees_none m mid (after_use true (p, page) mid) (p, page) f false (used_is true mid (p, page) f false old_parts.cache named) mid_parts.in_order named)),
+                chooses-kept m None (after_note note s.ledger) (Used true (p, page)) (free_of (view new))
+                    (unslotted (count old) (after_note note s.ledger) (Used true (p, page)) no_slots refl refl) refl
+                    (subst (λ l. new_free m l (after_use true (p, page) l) ≡ []) (sym note_is)
+                    (seen_frees_none m mid (after_use true (p, page) mid) (p, page) f false (used_is true mid (p, page) f false old_parts.cache named)
+                    mid_parts.in_order named)),
                 refl,
               ),
             );

@@ -12,12 +12,13 @@ use Rattle.av_anon.specs.declared.infos.Info.{Info}
 use Rattle.av_merge.specs.Fork.{Kin, area_in_child, kin_with, own_in_child}
 use Rattle.av_merge.specs.Kin.{kin_in}
 use Rattle.av_spaces.specs.Fork.{GoInTurn, IsForked, areas_in_child, kin_after, kin_of as kin_now}
-use Rattle.av_spaces.specs.Kin.{IsOwnedIn, chain_on, info_of}
+use Rattle.av_spaces.specs.Kin as in_spaces
+use Rattle.av_spaces.specs.Kin.{IsOwnedIn, info_of}
 use Rattle.av_spaces.specs.Spaces.{AllSpaces, IsSpawned, Spaces, areas_of, pages_of as areas_on}
 use Rattle.av_spaces.proofs.ForkKept.{owned_there}
 use Rattle.av_spaces.proofs.ForkLaws.{areas_in_child-more, kin_after-more}
 use Rattle.av_spaces.proofs.Kin.{stay_same}
-use Rattle.av_plain.specs.Areas.{Rmap, chain_of, none_on}
+use Rattle.av_plain.specs.Areas.{Rmap, chain_by, none_on}
 use Rattle.av_plain.specs.Fork.{AreForked, GoOver, GoesBy, with_child_area}
 use Rattle.av_plain.specs.Ledger.{Ledger}
 use Rattle.av_plain.specs.Report.{AreApart, range_of}
@@ -94,18 +95,18 @@ module _ (old : Mem) (s : State) (keeps : Keeps old s) (parent child : ℕ) (are
   bare_kin : (n : ℕ) → option_map kin_in (k.info n) ≡ option_map kin_of (s.anons.anon n)
   bare_kin n = by (info_of old.anons n) ∙ keeps.stands.anons.kin n
     where
-      by : (o : Option Info) → option_map kin_in o ≡ option_map kin_of (option_map (anon_vma (chain_on old.spaces old.anons (Some n))) o)
+      by : (o : Option Info) → option_map kin_in o ≡ option_map kin_of (option_map (anon_vma (in_spaces.chain_by old.spaces old.anons (Some n))) o)
       by None = refl
       by (Some i) = refl
 
-  same_chain : (spaces : AllSpaces) (anons : AnonSet) (own : Option ℕ) → chain_in (kin_now spaces anons) own ≡ chain_on spaces anons own
+  same_chain : (spaces : AllSpaces) (anons : AnonSet) (own : Option ℕ) → chain_in (kin_now spaces anons) own ≡ in_spaces.chain_by spaces anons own
   same_chain spaces anons None = refl
   same_chain spaces anons (Some v) = refl
 
-  bare_chain : (p page : ℕ) → IfSome (s.areas p page) (λ area. chain_in k area.anon ≡ chain_of s.anons area.anon)
+  bare_chain : (p page : ℕ) → IfSome (s.areas p page) (λ area. chain_in k area.anon ≡ chain_by s.anons area.anon)
   bare_chain p page = by (s.areas p page) refl
     where
-      by : (o : Option Area) → s.areas p page ≡ o → IfSome o (λ area. chain_in k area.anon ≡ chain_of s.anons area.anon)
+      by : (o : Option Area) → s.areas p page ≡ o → IfSome o (λ area. chain_in k area.anon ≡ chain_by s.anons area.anon)
       by None is = tt
       by (Some area) is =
           same_chain old.spaces old.anons area.anon
@@ -127,7 +128,7 @@ module _ (old : Mem) (s : State) (keeps : Keeps old s) (parent child : ℕ) (are
       on p page true = refl
       on p page false = keeps.stands.areas p page
 
-      chains : (p page : ℕ) (b : Bool) → IfSome ((cond b none_on (s.areas p)) page) (λ area. chain_in k area.anon ≡ chain_of s.anons area.anon)
+      chains : (p page : ℕ) (b : Bool) → IfSome ((cond b none_on (s.areas p)) page) (λ area. chain_in k area.anon ≡ chain_by s.anons area.anon)
       chains p page true = tt
       chains p page false = bare_chain p page
 
@@ -238,17 +239,17 @@ module _ (old : Mem) (s : State) (keeps : Keeps old s) (parent child : ℕ) (are
       chains = λ p page. chain_at p page (next.areas p page) refl (shown.chains p page);
     }
       where
-        by : (n : ℕ) (o : Option Info) → option_map kin_of (option_map (anon_vma (chain_on new.spaces new.anons (Some n))) o) ≡ option_map kin_in o
+        by : (n : ℕ) (o : Option Info) → option_map kin_of (option_map (anon_vma (in_spaces.chain_by new.spaces new.anons (Some n))) o) ≡ option_map kin_in o
         by n None = refl
         by n (Some i) = refl
 
         chain_at : (p page : ℕ) (o : Option Area) → next.areas p page ≡ o
-            → IfSome o (λ area. chain_in (kin_now new.spaces new.anons) area.anon ≡ chain_of next.anons area.anon)
-            → IfSome o (λ area. chain_of (view new).anons area.anon ≡ chain_of next.anons area.anon)
+            → IfSome o (λ area. chain_in (kin_now new.spaces new.anons) area.anon ≡ chain_by next.anons area.anon)
+            → IfSome o (λ area. chain_by (view new).anons area.anon ≡ chain_by next.anons area.anon)
         chain_at p page None is h = tt
         chain_at p page (Some area) is h = own area.anon refl ∙ h
           where
-            own : (own : Option ℕ) → area.anon ≡ own → chain_of (view new).anons own ≡ chain_in (kin_now new.spaces new.anons) own
+            own : (own : Option ℕ) → area.anon ≡ own → chain_by (view new).anons own ≡ chain_in (kin_now new.spaces new.anons) own
             own None e = refl
             own (Some v) e = shown_chain new.spaces new.anons v (owned_there new.spaces new.anons f.fit v
                 (p, page, subst (λ o. IsSomeAnd o (λ area. area.anon ≡ Some v)) (sym (shown.areas p page ∙ is)) e))

@@ -20,7 +20,7 @@ use Rattle.av_merge.specs.Kin.{kin_in}
 use Rattle.av_spaces.specs.Fork.{kin_of as kin_now}
 use Rattle.av_spaces.specs.Kin.{AnonsFit, IsOwnedIn, info_of}
 use Rattle.av_spaces.specs.Spaces.{AllSpaces, Spaces, pages_of as areas_on}
-use Rattle.av_plain.specs.Areas.{AnonVma, Rmap, chain_of}
+use Rattle.av_plain.specs.Areas.{AnonVma, Rmap, chain_by}
 use Rattle.av_plain.specs.Fork.{IsIdle, IsReused, children, is_child}
 use Rattle.av_plain.specs.Stands.{kin_of}
 
@@ -34,7 +34,7 @@ pub record Shows (spaces : Spaces) (k : Kin) (r : Rmap) : Type 0 where
   pub areas : (p page : ℕ) → areas_on spaces p page ≡ r.areas p page
   pub next : k.next ≡ r.anons.next
   pub kin : (v : ℕ) → option_map kin_in (k.info v) ≡ option_map kin_of (r.anons.anon v)
-  pub chains : (p page : ℕ) → IfSome (r.areas p page) (λ area. chain_in k area.anon ≡ chain_of r.anons area.anon)
+  pub chains : (p page : ℕ) → IfSome (r.areas p page) (λ area. chain_in k area.anon ≡ chain_by r.anons area.anon)
 
 -- ---- the first of a list that rises is the lowest
 
@@ -218,8 +218,8 @@ module _ (mid : AllSpaces) (a : AnonSet) (fit : AnonsFit mid a) (r : Rmap) (show
       by None = tt
       by (Some b) = (fit.order.chains b).rising
 
-  pub is_reused : (own : ℕ) → (kin_now mid a).chain own ≡ chain_of r.anons (Some own)
-      → IsReused r (chain_of r.anons (Some own)) (member_to_reuse (info_of a) ((kin_now mid a).chain own))
+  pub is_reused : (own : ℕ) → (kin_now mid a).chain own ≡ chain_by r.anons (Some own)
+      → IsReused r (chain_by r.anons (Some own)) (member_to_reuse (info_of a) ((kin_now mid a).chain own))
   is_reused own same = subst (λ xs. IsReused r xs (member_to_reuse (info_of a) ((kin_now mid a).chain own))) same
       (by ((kin_now mid a).chain own) (chain_rises own) (member_to_reuse (info_of a) ((kin_now mid a).chain own)) refl)
     where

@@ -15,7 +15,7 @@ use Rattle.av_merge.specs.Kin.{kin_in}
 use Rattle.av_spaces.specs.Fork.{kin_of as kin_now}
 use Rattle.av_spaces.specs.Kin.{AnonsFit, IsOwnedIn}
 use Rattle.av_spaces.specs.Spaces.{AllSpaces, Spaces, pages_of as areas_on}
-use Rattle.av_plain.specs.Areas.{AnonVma, Anons, Rmap, chain_of}
+use Rattle.av_plain.specs.Areas.{AnonVma, Anons, Rmap, chain_by}
 use Rattle.av_plain.specs.Fork.{GoesBy, own_of_child, root_of as root_in, with_child, with_child_area}
 use Rattle.av_plain.specs.Stands.{kin_of}
 use Rattle.av_fork.proofs.AreasReused.{Shows, chain_in, is_reused}
@@ -58,13 +58,13 @@ module _ (mid : AllSpaces) (a : AnonSet) (fit : AnonsFit mid a) (r : Rmap) (show
   abbrev k : Kin
   k = kin_now mid a
 
-  chain_same : (v : ℕ) → IsOwnedIn mid v → k.chain v ≡ chain_of r.anons (Some v)
+  chain_same : (v : ℕ) → IsOwnedIn mid v → k.chain v ≡ chain_by r.anons (Some v)
   chain_same v h = by (r.areas h.0 h.1) (shows.chains h.0 h.1) (subst (λ o. IsSomeAnd o (λ area. area.anon ≡ Some v)) (shows.areas h.0 h.1) h.2)
     where
-      by : (o : Option Area) → IfSome o (λ area. chain_in k area.anon ≡ chain_of r.anons area.anon) → IsSomeAnd o (λ area. area.anon ≡ Some v)
-          → k.chain v ≡ chain_of r.anons (Some v)
+      by : (o : Option Area) → IfSome o (λ area. chain_in k area.anon ≡ chain_by r.anons area.anon) → IsSomeAnd o (λ area. area.anon ≡ Some v)
+          → k.chain v ≡ chain_by r.anons (Some v)
       by None c is = absurd is
-      by (Some A) c is = subst (λ o. chain_in k o ≡ chain_of r.anons o) is c
+      by (Some A) c is = subst (λ o. chain_in k o ≡ chain_by r.anons o) is c
 
   -- ---- without an own anon_vma
 
@@ -76,14 +76,14 @@ module _ (mid : AllSpaces) (a : AnonSet) (fit : AnonsFit mid a) (r : Rmap) (show
       areas = λ p page. now p page ∙ ap (λ o. (with_child_area child (record area { anon = o }) r).areas p page) (sym bare);
       next = shows.next;
       kin = shows.kin;
-      chains = each_area (λ A. chain_in k A.anon ≡ chain_of r.anons A.anon) child area r
-          (subst (λ o. chain_in k o ≡ chain_of r.anons o) (sym bare) refl) shows.chains;
+      chains = each_area (λ A. chain_in k A.anon ≡ chain_by r.anons A.anon) child area r
+          (subst (λ o. chain_in k o ≡ chain_by r.anons o) (sym bare) refl) shows.chains;
     };
   }
 
   -- ---- by an own one
 
-  module _ (own : ℕ) (reuse : Option ℕ) (is : member_to_reuse k.info (k.chain own) ≡ reuse) (same : k.chain own ≡ chain_of r.anons (Some own)) where
+  module _ (own : ℕ) (reuse : Option ℕ) (is : member_to_reuse k.info (k.chain own) ≡ reuse) (same : k.chain own ≡ chain_by r.anons (Some own)) where
     abbrev made : Anons
     made = with_child own reuse r.anons
 
@@ -96,7 +96,7 @@ module _ (mid : AllSpaces) (a : AnonSet) (fit : AnonsFit mid a) (r : Rmap) (show
 
     -- the one that is made where none is had again
     abbrev child_anon : AnonVma
-    child_anon = record { root = root_in r.anons own; parent = own; chain = chain_of r.anons (Some own) ++ r.anons.next ∷ [] }
+    child_anon = record { root = root_in r.anons own; parent = own; chain = chain_by r.anons (Some own) ++ r.anons.next ∷ [] }
 
     own_same : child_own reuse k.next ≡ own_of_child r.anons reuse
     own_same = by reuse
@@ -149,7 +149,7 @@ module _ (mid : AllSpaces) (a : AnonSet) (fit : AnonsFit mid a) (r : Rmap) (show
         again o = Some (record {
           root = option_map_or (λ (anon : AnonVma). anon.root) o w;
           parent = option_map_or (λ (anon : AnonVma). anon.parent) o w;
-          chain = chain_of r.anons (Some own);
+          chain = chain_by r.anons (Some own);
         })
 
         at : (i : Option Info) (o : Option AnonVma) → IsSome i → option_map kin_in i ≡ option_map kin_of o → option_map kin_of o ≡ option_map kin_of (again o)
@@ -170,17 +170,17 @@ module _ (mid : AllSpaces) (a : AnonSet) (fit : AnonsFit mid a) (r : Rmap) (show
         by (Some w) is = kin_had w (reused_there k.info (k.chain own) w is)
 
     -- the chain of one that is not the child's stays
-    chain_now : (v : ℕ) → ((v == own_of_child r.anons reuse) ≡ false → k.chain v ≡ chain_of r.anons (Some v))
-        → with_at (child_own reuse k.next) (child_chain reuse k.next (k.chain own)) k.chain v ≡ chain_of made (Some v)
+    chain_now : (v : ℕ) → ((v == own_of_child r.anons reuse) ≡ false → k.chain v ≡ chain_by r.anons (Some v))
+        → with_at (child_own reuse k.next) (child_chain reuse k.next (k.chain own)) k.chain v ≡ chain_by made (Some v)
     chain_now v other = by reuse other
       where
-        at : (chain : List ℕ) (anon : AnonVma) (b : Bool) → chain ≡ anon.chain → (b ≡ false → k.chain v ≡ chain_of r.anons (Some v))
+        at : (chain : List ℕ) (anon : AnonVma) (b : Bool) → chain ≡ anon.chain → (b ≡ false → k.chain v ≡ chain_by r.anons (Some v))
             → cond b chain (k.chain v) ≡ option_map_or (λ (w : AnonVma). w.chain) (cond b (Some anon) (r.anons.anon v)) []
         at chain anon true e other = e
         at chain anon false e other = other refl
 
-        by : (o : Option ℕ) → ((v == own_of_child r.anons o) ≡ false → k.chain v ≡ chain_of r.anons (Some v))
-            → with_at (child_own o k.next) (child_chain o k.next (k.chain own)) k.chain v ≡ chain_of (with_child own o r.anons) (Some v)
+        by : (o : Option ℕ) → ((v == own_of_child r.anons o) ≡ false → k.chain v ≡ chain_by r.anons (Some v))
+            → with_at (child_own o k.next) (child_chain o k.next (k.chain own)) k.chain v ≡ chain_by (with_child own o r.anons) (Some v)
         by None other =
             ap (λ b. cond b (k.chain own ++ k.next ∷ []) (k.chain v)) (same_number v)
             ∙ at (k.chain own ++ k.next ∷ []) child_anon (v == r.anons.next)
@@ -188,18 +188,18 @@ module _ (mid : AllSpaces) (a : AnonSet) (fit : AnonsFit mid a) (r : Rmap) (show
         by (Some w) other = at (k.chain own) (record {
           root = root_in r.anons w;
           parent = option_map_or (λ (anon : AnonVma). anon.parent) (r.anons.anon w) w;
-          chain = chain_of r.anons (Some own);
+          chain = chain_by r.anons (Some own);
         }) (v == w) same other
 
-    old_chain : (own' : Option ℕ) → chain_in k own' ≡ chain_of r.anons own' → chain_in after own' ≡ chain_of made own'
+    old_chain : (own' : Option ℕ) → chain_in k own' ≡ chain_by r.anons own' → chain_in after own' ≡ chain_by made own'
     old_chain None h = refl
     old_chain (Some v) h = chain_now v (λ _. h)
 
-    old_chains : (p page : ℕ) → IfSome (r.areas p page) (λ A. chain_in after A.anon ≡ chain_of made A.anon)
+    old_chains : (p page : ℕ) → IfSome (r.areas p page) (λ A. chain_in after A.anon ≡ chain_by made A.anon)
     old_chains p page = by (r.areas p page) (shows.chains p page)
       where
-        by : (o : Option Area) → IfSome o (λ A. chain_in k A.anon ≡ chain_of r.anons A.anon)
-            → IfSome o (λ A. chain_in after A.anon ≡ chain_of made A.anon)
+        by : (o : Option Area) → IfSome o (λ A. chain_in k A.anon ≡ chain_by r.anons A.anon)
+            → IfSome o (λ A. chain_in after A.anon ≡ chain_by made A.anon)
         by None h = tt
         by (Some A) h = old_chain A.anon h
 
@@ -213,7 +213,7 @@ module _ (mid : AllSpaces) (a : AnonSet) (fit : AnonsFit mid a) (r : Rmap) (show
       areas = λ p page. now p page ∙ ap (λ o. (with_child_area child (record area { anon = Some o }) r).areas p page) own_same;
       next = next_same;
       kin = kin_now_same;
-      chains = each_area (λ A. chain_in after A.anon ≡ chain_of made A.anon) child (record area { anon = Some (own_of_child r.anons reuse) }) r
+      chains = each_area (λ A. chain_in after A.anon ≡ chain_by made A.anon) child (record area { anon = Some (own_of_child r.anons reuse) }) r
           (chain_now (own_of_child r.anons reuse) (λ e. absurd (false≢true (sym e ∙ eq-eqb _ (own_of_child r.anons reuse) refl)))) old_chains;
     }
 

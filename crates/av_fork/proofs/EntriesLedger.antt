@@ -6,7 +6,7 @@ use Rattle.av_base.specs.declared.slot.Slot.{Slot}
 use Rattle.av_plain.specs.Event.{set_entry, without_seen}
 use Rattle.av_plain.specs.Fault.{is_shared}
 use Rattle.av_plain.specs.Ledger.{Entry, InFrame, InSlot, Ledger, Setting, Zero, entry, map_count, names_frame, names_slot, slot_entries}
-use Rattle.av_plain.specs.Sound.{IsSound, holders, kin, uses}
+use Rattle.av_plain.specs.Sound.{IsSound, holders, name_one, uses}
 use Rattle.av_plain.specs.Stands.{FramesStand, LedgerStands, Pte, TablesStand, View, entry_of}
 use Rattle.av_plain.proofs.Ledger.{entry-set, how_many-found, is_sorted-set, map_count-set, only_one}
 use Rattle.av_plain.proofs.Ledger.NoSwap.{free_is, key_is, shared_is}
@@ -27,14 +27,14 @@ unseen-slot s Zero = refl
 unseen-slot s (InFrame g seen) = refl
 unseen-slot s (InSlot t) = refl
 
-unseen-kin : (l : Ledger) (d e : Entry) → kin l (without_seen d) (without_seen e) ≡ kin l d e
-unseen-kin l Zero e = refl
-unseen-kin l (InFrame f seen) Zero = refl
-unseen-kin l (InFrame f seen) (InFrame g seen') = refl
-unseen-kin l (InFrame f seen) (InSlot t) = refl
-unseen-kin l (InSlot s) Zero = refl
-unseen-kin l (InSlot s) (InFrame g seen) = refl
-unseen-kin l (InSlot s) (InSlot t) = refl
+unseen-name_one : (l : Ledger) (d e : Entry) → name_one l (without_seen d) (without_seen e) ≡ name_one l d e
+unseen-name_one l Zero e = refl
+unseen-name_one l (InFrame f seen) Zero = refl
+unseen-name_one l (InFrame f seen) (InFrame g seen') = refl
+unseen-name_one l (InFrame f seen) (InSlot t) = refl
+unseen-name_one l (InSlot s) Zero = refl
+unseen-name_one l (InSlot s) (InFrame g seen) = refl
+unseen-name_one l (InSlot s) (InSlot t) = refl
 
 -- ---- the entries of a table's places
 
@@ -86,7 +86,8 @@ module _ (m : Setting) (l : Ledger) (p q page : ℕ) (e : Entry) (sound : IsSoun
   some f is = how_many-found (names_frame f) (p, page) l.entries e named is
 
   same_slots : (s : Slot) → slot_entries next_ledger s ≡ slot_entries l s
-  same_slots s = kept _ _ _ _ (slot_entries-set (q, page) (without_seen e) l s sound.in_order) (ap (weight (names_slot s)) absent) (ap (λ b. cond b 1 0) (unseen-slot s e ∙ no_slots s))
+  same_slots s = kept _ _ _ _ (slot_entries-set (q, page) (without_seen e) l s sound.in_order) (ap (weight (names_slot s)) absent)
+      (ap (λ b. cond b 1 0) (unseen-slot s e ∙ no_slots s))
     where
       kept : (n k x d : ℕ) → n + k ≡ x + d → k ≡ 0 → d ≡ 0 → n ≡ x
       kept n k x d h z w = omega arith
@@ -113,7 +114,7 @@ module _ (m : Setting) (l : Ledger) (p q page : ℕ) (e : Entry) (sound : IsSoun
     used = λ s f h. let u = sound.used s f h in let a = more f in let b = same_slots s in omega (arith, u, a, b);
     one = one-set l (q, page) (without_seen e) sound.one (λ b d at related.
         let c = from b d at in
-        sound.one p page b e c.0 named c.1 (sym (unseen-kin l e c.0) ∙ ap (kin l (without_seen e)) (sym c.2) ∙ related));
+        sound.one p page b e c.0 named c.1 (sym (unseen-name_one l e c.0) ∙ ap (name_one l (without_seen e)) (sym c.2) ∙ related));
   }
 
   -- ---- the parts
@@ -143,7 +144,8 @@ module _ (m : Setting) (l : Ledger) (p q page : ℕ) (e : Entry) (sound : IsSoun
     }
       where
         by : (x o : ℕ) (a b : Bool) → (x == p && o == page) ≡ a → (x == q && o == page) ≡ b
-            → entry_of (cond a (without_write (v.table p page)) (cond b (child_entry (v.table p page)) (v.table x o))) ≡ cond b (Some (without_seen e)) (entry l (x, o))
+            → entry_of (cond a (without_write (v.table p page)) (cond b (child_entry (v.table p page)) (v.table x o))) ≡ cond b
+            (Some (without_seen e)) (entry l (x, o))
         by x o true true i j = absurd (apart (sym (at_page x o p i).0 ∙ (at_page x o q j).0))
         by x o true false i j = let same = at_page x o p i in kept-entry (v.table p page) ∙ parts.tables.entries p page
             ∙ (λ k. entry l (sym same.0 k, sym same.1 k))
@@ -155,7 +157,8 @@ module _ (m : Setting) (l : Ledger) (p q page : ℕ) (e : Entry) (sound : IsSoun
 
         still : (g : ℕ) → is_shared l g ≡ false → names_frame g e ≡ false → is_shared next_ledger g ≡ false
         still g h other = shared_is next_ledger g cache
-            ∙ ap (nat_lt 1) (let a = more g in let z = ap (λ b. cond {A = ℕ} b 1 0) other in let same : map_count next_ledger g ≡ map_count l g = omega (arith, a, z) in same)
+            ∙ ap (nat_lt 1) (let a = more g in let z = ap (λ b. cond {A = ℕ} b 1 0) other in
+            let same : map_count next_ledger g ≡ map_count l g = omega (arith, a, z) in same)
             ∙ sym (shared_is l g cache) ∙ h
 
         bits : (x o : ℕ) (t : Pte) (g : ℕ) (a b : Bool) → (x == p && o == page) ≡ a

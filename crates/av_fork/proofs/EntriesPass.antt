@@ -51,7 +51,8 @@ inherited-is p page (e ∷ es) = by (e.0.0 == p) (inherited-is p page es)
     whole false = refl
 
     by : (b : Bool) → is_inherited (pages_of p es) page ≡ list_any (is_at p page) es
-        → is_inherited (map (λ (k : Key). record { page = k.1; as_zeros = false }) (cond b (e.0 ∷ filter (λ k. k.0 == p) (map (λ e. e.0) es)) (filter (λ k. k.0 == p) (map (λ e. e.0) es)))) page
+        → is_inherited (map (λ (k : Key). record { page = k.1; as_zeros = false })
+        (cond b (e.0 ∷ filter (λ k. k.0 == p) (map (λ e. e.0) es)) (filter (λ k. k.0 == p) (map (λ e. e.0) es)))) page
         ≡ ((b && e.0.1 == page) || list_any (is_at p page) es)
     by true rest = λ i. whole (e.0.1 == page) i || rest i
     by false rest = rest
@@ -114,7 +115,8 @@ least_first : (p at page : ℕ) (x : Entry) (es : Entries) → T (is_sorted key_
     → ((o : ℕ) → at ≤ o → o < page → find key_cmp (p, o) es ≡ None)
     → where_key key_cmp (from_page p at) es ≡ ((p, page), x) ∷ where_key key_cmp (from_page p (page + 1)) es
 least_first p at page x [] h low is least = cc
-least_first p at page x (e ∷ es) h low is least = by_key (same_key (p, page) e.0) refl is (λ found none. least_first p at page x es (both_second _ _ h) low found none)
+least_first p at page x (e ∷ es) h low is least = by_key (same_key (p, page) e.0) refl is
+    (λ found none. least_first p at page x es (both_second _ _ h) low found none)
   where
     here : (k : Key) → (p, page) ≡ k → from_page p at k ≡ true
     here k same = subst (λ k. from_page p at k ≡ true) same (grind (arith, nat_tests, low))
@@ -126,19 +128,22 @@ least_first p at page x (e ∷ es) h low is least = by_key (same_key (p, page) e
     first_value e = cc
 
     by_key : (b : Bool) → same_key (p, page) e.0 ≡ b → cond b (Some e.1) (find key_cmp (p, page) es) ≡ Some x
-        → (find key_cmp (p, page) es ≡ Some x → ((o : ℕ) → at ≤ o → o < page → find key_cmp (p, o) es ≡ None) → where_key key_cmp (from_page p at) es ≡ ((p, page), x) ∷ where_key key_cmp (from_page p (page + 1)) es)
+        → (find key_cmp (p, page) es ≡ Some x → ((o : ℕ) → at ≤ o → o < page → find key_cmp (p, o) es ≡ None) →
+        where_key key_cmp (from_page p at) es ≡ ((p, page), x) ∷ where_key key_cmp (from_page p (page + 1)) es)
         → where_key key_cmp (from_page p at) (e ∷ es) ≡ ((p, page), x) ∷ where_key key_cmp (from_page p (page + 1)) (e ∷ es)
     by_key true same found rest =
         let k : (p, page) ≡ e.0 = same_key-is (p, page) e.0 same in
         let below : T (below_all key_cmp (p, page) es) = subst (λ k. T (below_all key_cmp k es)) (sym k) (both_first _ _ h) in
         ap (λ b. cond b (e ∷ where_key key_cmp (from_page p at) es) (where_key key_cmp (from_page p at) es)) (here e.0 k)
         ∙ (λ i. (sym k i, first_value found i) ∷ past p at page es low below i)
-        ∙ ap (λ b. ((p, page), x) ∷ cond b (e ∷ where_key key_cmp (from_page p (page + 1)) es) (where_key key_cmp (from_page p (page + 1)) es)) (sym (not_next e.0 k))
+        ∙ ap (λ b. ((p, page), x) ∷ cond b (e ∷ where_key key_cmp (from_page p (page + 1)) es) (where_key key_cmp (from_page p (page + 1)) es))
+        (sym (not_next e.0 k))
     by_key false same found rest =
         let less = above (p, page) e.0 es x (both_first _ _ h) found in
         ap (λ b. cond b (e ∷ where_key key_cmp (from_page p at) es) (where_key key_cmp (from_page p at) es)) (skipped (from_page p at e.0) refl less)
         ∙ rest found (λ o a b. later o a b (same_key (p, o) e.0) (least o a b))
-        ∙ ap (λ b. ((p, page), x) ∷ cond b (e ∷ where_key key_cmp (from_page p (page + 1)) es) (where_key key_cmp (from_page p (page + 1)) es)) (sym (before e.0.0 e.0.1 less))
+        ∙ ap (λ b. ((p, page), x) ∷ cond b (e ∷ where_key key_cmp (from_page p (page + 1)) es) (where_key key_cmp (from_page p (page + 1)) es))
+        (sym (before e.0.0 e.0.1 less))
       where
         later : (o : ℕ) → at ≤ o → o < page → (b : Bool) → cond b (Some e.1) (find key_cmp (p, o) es) ≡ None → find key_cmp (p, o) es ≡ None
         later o a b true none = absurd (no_two none)
@@ -155,7 +160,8 @@ least_first p at page x (e ∷ es) h low is least = by_key (same_key (p, page) e
         skipped true t less =
             let w = within_page e.0.0 e.0.1 less t in
             let same : (p, e.0.1) ≡ e.0 = λ i. (sym w.0 i, e.0.1) in
-            let found : find key_cmp (p, e.0.1) (e ∷ es) ≡ Some e.1 = ap (λ b. cond b (Some e.1) (find key_cmp (p, e.0.1) es)) (ap (λ k. same_key k e.0) same ∙ same_key-itself e.0) in
+            let found : find key_cmp (p, e.0.1) (e ∷ es) ≡ Some e.1 = ap (λ b. cond b (Some e.1) (find key_cmp (p, e.0.1) es))
+            (ap (λ k. same_key k e.0) same ∙ same_key-itself e.0) in
             absurd (no_two (sym found ∙ least e.0.1 w.1 w.2))
 
 none_from : (p at : ℕ) (es : Entries) → ((o : ℕ) → at ≤ o → find key_cmp (p, o) es ≡ None) → where_key key_cmp (from_page p at) es ≡ []
@@ -174,7 +180,8 @@ none_from p at (e ∷ es) h = by_test (from_page p at e.0) refl (λ rest. none_f
     by_test true t rest =
         let w = in_page e.0.0 e.0.1 t in
         let same : (p, e.0.1) ≡ e.0 = λ i. (sym w.0 i, e.0.1) in
-        let found : find key_cmp (p, e.0.1) (e ∷ es) ≡ Some e.1 = ap (λ b. cond b (Some e.1) (find key_cmp (p, e.0.1) es)) (ap (λ k. same_key k e.0) same ∙ same_key-itself e.0) in
+        let found : find key_cmp (p, e.0.1) (e ∷ es) ≡ Some e.1 = ap (λ b. cond b (Some e.1) (find key_cmp (p, e.0.1) es))
+        (ap (λ k. same_key k e.0) same ∙ same_key-itself e.0) in
         absurd (no_two (sym found ∙ h e.0.1 w.1))
     by_test false t rest = ap (λ b. cond b (e ∷ where_key key_cmp (from_page p at) es) (where_key key_cmp (from_page p at) es)) t
         ∙ rest (λ o low. later o (same_key (p, o) e.0) (h o low))
@@ -215,7 +222,8 @@ pub no_slots : (k : Parts) (l : Ledger) (p page : ℕ) (e : Entry) → Stand k l
 no_slots k l p page e stands is s = by (names_slot s e) refl
   where
     by : (b : Bool) → names_slot s e ≡ b → b ≡ false
-    by true named = let found = how_many-found (names_slot s) (p, page) l.entries e is named in let none = stands.parts.swap.counts s in absurd (omega (arith, found, none))
+    by true named = let found = how_many-found (names_slot s) (p, page) l.entries e is named in let none = stands.parts.swap.counts s in
+        absurd (omega (arith, found, none))
     by false named = refl
 
 -- nothing has gone over yet
@@ -283,8 +291,10 @@ module _ (mid new : Parts) (p q next page : ℕ) (first : Ledger) (t : IsForking
         by false i at = let c = t.from o d at in (c.0, parents_stay o ∙ c.1, c.2)
 
     stands_next : SoundLedger (setting new.frames.count) (seen_as new) next_ledger
-    stands_next = subst (λ n. SoundLedger (setting n) (seen_as new) next_ledger) (sym counts) (subst (λ v. SoundLedger (setting mid.frames.count) v next_ledger) (sym seen_so)
-        (stands_now (setting mid.frames.count) t.ledger p q page e t.stands.sound named absent (no_slots mid t.ledger p page e t.stands named) (seen_as mid) t.stands.parts (no_cache t.ledger t.stands.parts.swap.finds) t.from))
+    stands_next = subst (λ n. SoundLedger (setting n) (seen_as new) next_ledger) (sym counts)
+        (subst (λ v. SoundLedger (setting mid.frames.count) v next_ledger) (sym seen_so)
+        (stands_now (setting mid.frames.count) t.ledger p q page e t.stands.sound named absent (no_slots mid t.ledger p page e t.stands named)
+        (seen_as mid) t.stands.parts (no_cache t.ledger t.stands.parts.swap.finds) t.from))
 
     one_more : IsForking new p q (page + 1) first
     one_more = record {
@@ -297,7 +307,8 @@ module _ (mid new : Parts) (p q next page : ℕ) (first : Ledger) (t : IsForking
       parents = λ o. parents_stay o ∙ t.parents o;
       children = still_none;
       from = still_from;
-      used = λ f. let a = t.used f in let b = more_uses (setting mid.frames.count) t.ledger p q page e t.stands.sound named absent (no_slots mid t.ledger p page e t.stands named) f in omega (arith, a, b);
+      used = λ f. let a = t.used f in let b = more_uses (setting mid.frames.count) t.ledger p q page e t.stands.sound named absent
+          (no_slots mid t.ledger p page e t.stands named) f in omega (arith, a, b);
     }
 
   pub more_given : IsForking new p q (page + 1) first

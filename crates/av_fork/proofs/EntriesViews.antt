@@ -34,11 +34,13 @@ in_error (Err e) A is h = h
 
 -- what is seen alike stands for the same ledger
 pub same_ledger : (old new : Mem) (l : Ledger) → view new ≡ view old → count new ≡ count old → HasLedger old l → HasLedger new l
-same_ledger old new l is counts stands = subst (λ n. SoundLedger (setting n) (view new) l) (sym counts) (subst (λ v. SoundLedger (setting (count old)) v l) (sym is) stands)
+same_ledger old new l is counts stands = subst (λ n. SoundLedger (setting n) (view new) l) (sym counts)
+    (subst (λ v. SoundLedger (setting (count old)) v l) (sym is) stands)
 
 -- in what a kernel stands for no more entries name a frame than processes may live
 pub few-entries : (k : Mem) (s : State) → Keeps k s → (f : ℕ) → (view k).maps f ≤ most_processes
-few-entries k s keeps f = subst (λ n. n ≤ most_processes) (sym (keeps.stands.parts.ledger.frames.maps f)) (map_count-few (setting (count k)) s.world s.ledger f keeps.stands.sound)
+few-entries k s keeps f = subst (λ n. n ≤ most_processes) (sym (keeps.stands.parts.ledger.frames.maps f))
+    (map_count-few (setting (count k)) s.world s.ledger f keeps.stands.sound)
 
 equal : (a b : ℕ) → (a == b) ≡ true → a ≡ b
 equal a b h = grind (arith, nat_tests, h)
@@ -133,8 +135,10 @@ module _ (p q : ℕ) (old : ℕ → ℕ → Pte) (empty : (o : ℕ) → old q o 
   forked_none x o none = by (x == p) (x == q) refl refl
     where
       by : (a b : Bool) → (x == p) ≡ a → (x == q) ≡ b → forked p q old x o ≡ old x o
-      by true b i j = let same = equal x p i in ap (λ x. forked p q old x o) same ∙ forked_parent o ∙ ap read_only none ∙ sym none ∙ ap (λ x. old x o) (sym same)
-      by false true i j = let same = equal x q j in ap (λ x. forked p q old x o) same ∙ forked_child o ∙ ap child_raw none ∙ sym (empty o) ∙ ap (λ x. old x o) (sym same)
+      by true b i j = let same = equal x p i in ap (λ x. forked p q old x o) same ∙ forked_parent o ∙ ap read_only none
+          ∙ sym none ∙ ap (λ x. old x o) (sym same)
+      by false true i j = let same = equal x q j in ap (λ x. forked p q old x o) same ∙ forked_child o ∙ ap child_raw none
+          ∙ sym (empty o) ∙ ap (λ x. old x o) (sym same)
       by false false i j = forked_other x o i j
 
   -- ---- stages
@@ -164,7 +168,8 @@ module _ (p q : ℕ) (old : ℕ → ℕ → Pte) (empty : (o : ℕ) → old q o 
   stage_next page = λ i x o. by x o (x == p) (x == q) (o == page) refl refl refl i
     where
       other : (x o : ℕ) → (o == page) ≡ false → plain (stage p q old (page + 1) x o) ≡ plain (stage p q old page x o)
-      other x o h = ap (λ b. plain (cond b (forked p q old x o) (old x o))) (let same : nat_lt o (page + 1) ≡ nat_lt o page = grind (arith, nat_tests, h) in same)
+      other x o h = ap (λ b. plain (cond b (forked p q old x o) (old x o))) (let same : nat_lt o (page + 1) ≡ nat_lt o page =
+          grind (arith, nat_tests, h) in same)
 
       here : (x o : ℕ) → (o == page) ≡ true → stage p q old (page + 1) x o ≡ forked p q old x page
       here x o h = let same = equal o page h in at_once (page + 1) x o (omega (arith, same)) ∙ ap (forked p q old x) same
@@ -186,7 +191,8 @@ module _ (p q : ℕ) (old : ℕ → ℕ → Pte) (empty : (o : ℕ) → old q o 
     skip_to frames next next' le none t = record {
       at = t.at;
       low = let low = t.low in omega (arith, low, le);
-      forking = subst (λ (table : ℕ → ℕ → Pte). IsForking (record { frames = frames; table = table; spaces = spaces; anons = anons }) p q t.at first) (sym (skip next next' le none)) t.forking;
+      forking = subst (λ (table : ℕ → ℕ → Pte). IsForking (record { frames = frames; table = table; spaces = spaces; anons = anons }) p q t.at first)
+          (sym (skip next next' le none)) t.forking;
       skipped = λ o low high. elim (cases_lt o next) [
         | inl lt ↦ t.skipped o low lt
         | inr ge ↦ none o ge high
@@ -198,7 +204,8 @@ module _ (p q : ℕ) (old : ℕ → ℕ → Pte) (empty : (o : ℕ) → old q o 
         → (f : ℕ) (write was : Bool) → child_raw (old p o) ≡ Here f write was → f < frames.count
     in_range frames next t o low f write was is =
         let e = given_frame (old p o) f write was is in
-        let named : entry t.forking.ledger (p, o) ≡ Some (InFrame f e.1) = at_place (stage_parts spaces anons p q old frames next) t.forking.ledger p o (Here f e.0 e.1) t.forking.stands (still next p o low ∙ e.2) in
+        let named : entry t.forking.ledger (p, o) ≡ Some (InFrame f e.1) = at_place (stage_parts spaces anons p q old frames next) t.forking.ledger p o
+        (Here f e.0 e.1) t.forking.stands (still next p o low ∙ e.2) in
         let some : 0 < map_count t.forking.ledger f = how_many-found (names_frame f) (p, o) t.forking.ledger.entries (InFrame f e.1) named (itself f) in
         t.forking.stands.sound.in_range f (omega (arith, some))
 
@@ -207,7 +214,8 @@ module _ (p q : ℕ) (old : ℕ → ℕ → Pte) (empty : (o : ℕ) → old q o 
     one_page frames page below t = none_or (old p page) _ empty_page (λ some. record {
       at = page + 1;
       low = omega arith;
-      forking = more_given (stage_parts spaces anons p q old frames page) (stage_parts spaces anons p q old counted (page + 1)) p q t.at page first t.forking (is some) seen_so refl;
+      forking = more_given (stage_parts spaces anons p q old frames page) (stage_parts spaces anons p q old counted (page + 1)) p q t.at page
+          first t.forking (is some) seen_so refl;
       skipped = λ o low high. absurd (omega (arith, low, high));
     })
       where
@@ -228,11 +236,13 @@ module _ (p q : ℕ) (old : ℕ → ℕ → Pte) (empty : (o : ℕ) → old q o 
         name : (f : ℕ) → names f (plain (child_raw (old p page))) ≡ names f (plain (stage p q old page p page))
         name f = given_names f (old p page) ∙ ap (λ e. names f (plain e)) (sym old_here)
 
-        seen_so : seen_as (stage_parts spaces anons p q old counted (page + 1)) ≡ after_fork_entry p q page (seen_as (stage_parts spaces anons p q old frames page))
+        seen_so : seen_as (stage_parts spaces anons p q old counted (page + 1)) ≡ after_fork_entry p q page
+            (seen_as (stage_parts spaces anons p q old frames page))
         seen_so =
             (λ i. view_of_parts counted (stage_next page i) spaces anons)
             ∙ (λ i. view_of_parts (record frames { maps = λ f. frames.maps f + cond (name f i) 1 0 })
-            (with_entry p page (without_write (plain (sym old_here i))) (with_entry q page (child_entry (plain (sym old_here i))) (λ x o. plain (stage p q old page x o)))) spaces anons)
+            (with_entry p page (without_write (plain (sym old_here i)))
+            (with_entry q page (child_entry (plain (sym old_here i))) (λ x o. plain (stage p q old page x o)))) spaces anons)
 
         nothing : (n : ℕ) → n ≡ n + 0
         nothing n = omega arith
@@ -242,7 +252,8 @@ module _ (p q : ℕ) (old : ℕ → ℕ → Pte) (empty : (o : ℕ) → old q o 
             (λ i f. (nothing (frames.maps f) ∙ ap (λ e. frames.maps f + cond (names f (plain (child_raw e))) 1 0) (sym none)) i)
             (skip_to frames page (page + 1) (omega arith) (λ o low high. ap (old p) (let same : o ≡ page = omega (arith, low, high) in same) ∙ none) t)
 
-    pub whole_group : (group : List Pte) (frames : Seen) (page : ℕ) → page + length group ≤ page_bound → ((i : ℕ) → i < length group → get_or group i Empty ≡ child_raw (old p (page + i)))
+    pub whole_group : (group : List Pte) (frames : Seen) (page : ℕ) → page + length group ≤ page_bound →
+        ((i : ℕ) → i < length group → get_or group i Empty ≡ child_raw (old p (page + i)))
         → IsForkingTo spaces anons p q old frames page first → IsForkingTo spaces anons p q old (after_map_ups group frames) (page + length group) first
     whole_group [] frames page below are t =
         subst (λ n. IsForkingTo spaces anons p q old (after_map_ups [] frames) n first) (let same : page ≡ page + 0 = omega arith in same)
@@ -251,7 +262,8 @@ module _ (p q : ℕ) (old : ℕ → ℕ → Pte) (empty : (o : ℕ) → old q o 
         nothing : (n : ℕ) → n ≡ n + 0
         nothing n = omega arith
     whole_group (e ∷ es) frames page below are t =
-        subst (λ n. IsForkingTo spaces anons p q old (after_map_ups (e ∷ es) frames) n first) (let same : page + 1 + length es ≡ page + length (e ∷ es) = omega arith in same)
+        subst (λ n. IsForkingTo spaces anons p q old (after_map_ups (e ∷ es) frames) n first)
+        (let same : page + 1 + length es ≡ page + length (e ∷ es) = omega arith in same)
         (subst (λ (maps : ℕ → ℕ). IsForkingTo spaces anons p q old (record frames { maps = maps }) (page + 1 + length es) first) (λ i f. joined f i)
         (whole_group es (record frames { maps = λ f. frames.maps f + cond (names f (plain (child_raw (old p page)))) 1 0 }) (page + 1) (omega (arith, below))
         (λ i low. are (suc i) (omega (arith, low)) ∙ ap (λ o. child_raw (old p o)) (let same : page + suc i ≡ page + 1 + i = omega arith in same))
@@ -265,7 +277,8 @@ module _ (p q : ℕ) (old : ℕ → ℕ → Pte) (empty : (o : ℕ) → old q o 
 
         joined : (f : ℕ) → frames.maps f + cond (names f (plain (child_raw (old p page)))) 1 0 + how_many (λ e. names f (plain e)) es
             ≡ frames.maps f + (cond (names f (plain e)) 1 0 + how_many (λ e. names f (plain e)) es)
-        joined f = ap (λ e. frames.maps f + cond (names f (plain e)) 1 0 + how_many (λ e. names f (plain e)) es) here ∙ add (frames.maps f) (cond (names f (plain e)) 1 0) (how_many (λ e. names f (plain e)) es)
+        joined f = ap (λ e. frames.maps f + cond (names f (plain e)) 1 0 + how_many (λ e. names f (plain e)) es) here ∙ add (frames.maps f)
+            (cond (names f (plain e)) 1 0) (how_many (λ e. names f (plain e)) es)
 
 -- ---- the whole pass
 
@@ -299,13 +312,15 @@ module _ (old : Mem) (p q : ℕ) (empty : (o : ℕ) → entry_at old.tables q o 
         → IsForkingTo new.spaces new.anons p q (entry_at old.tables) (seen new.frames) next first → HasForked old new first p q
     all_over next first over free t =
         all_given old new p q t.at first
-        (subst (λ (table : ℕ → ℕ → Pte). IsForking (record { frames = seen new.frames; table = table; spaces = new.spaces; anons = new.anons }) p q t.at first) (λ i x o. point x o i) t.forking)
+        (subst (λ (table : ℕ → ℕ → Pte). IsForking (record { frames = seen new.frames; table = table; spaces = new.spaces; anons = new.anons }) p q t.at first)
+        (λ i x o. point x o i) t.forking)
         (λ o low. ap (λ t. t p o) tables ∙ forked_parent p q (entry_at old.tables) empty o ∙ ap read_only (none o low)) free
       where
         point : (x o : ℕ) → stage p q (entry_at old.tables) next x o ≡ entry_at new.tables x o
         point x o = elim (cases_lt o next) [
           | inl lt ↦ at_once p q (entry_at old.tables) empty next x o lt ∙ sym (ap (λ t. t x o) tables)
-          | inr ge ↦ still p q (entry_at old.tables) empty next x o ge ∙ sym (forked_none p q (entry_at old.tables) empty x o (parent_none o (over o ge))) ∙ sym (ap (λ t. t x o) tables)
+          | inr ge ↦ still p q (entry_at old.tables) empty next x o ge ∙ sym (forked_none p q (entry_at old.tables) empty x o (parent_none o (over o ge)))
+              ∙ sym (ap (λ t. t x o) tables)
         ]
 
         none : (o : ℕ) → t.at ≤ o → entry_at old.tables p o ≡ Empty
@@ -333,7 +348,8 @@ few_first test (suc n) (x ∷ xs) = by (test x) (few_first test n xs)
     by true h = omega (arith, h)
     by false h = omega (arith, h)
 
-first_more : {X : Type 0} (test : X → Bool) (n : ℕ) (xs : List X) (d : X) → n < length xs → how_many test (take (suc n) xs) ≡ how_many test (take n xs) + cond (test (get_or xs n d)) 1 0
+first_more : {X : Type 0} (test : X → Bool) (n : ℕ) (xs : List X) (d : X) → n < length xs →
+    how_many test (take (suc n) xs) ≡ how_many test (take n xs) + cond (test (get_or xs n d)) 1 0
 first_more test zero [] d h = absurd (omega (arith, h))
 first_more test (suc n) [] d h = absurd (omega (arith, h))
 first_more test zero (x ∷ xs) d h = let n = cond {A = ℕ} (test x) 1 0 in omega arith
@@ -344,17 +360,22 @@ first_more test (suc n) (x ∷ xs) d h = add (cond (test x) 1 0) _ _ _ (first_mo
 
 module _ (group : List Pte) (n : ℕ) (within : n < length group) (old now : Seen) (is : now ≡ after_map_ups (take n group) old) where
   -- an entry that names a frame is counted
-  pub one_named : (f : ℕ) (write was : Bool) → get_or group n Empty ≡ Here f write was → (new : Seen) → new ≡ with_maps f (now.maps f + 1) now → new ≡ after_map_ups (take (n + 1) group) old
+  pub one_named : (f : ℕ) (write was : Bool) → get_or group n Empty ≡ Here f write was → (new : Seen) → new ≡ with_maps f (now.maps f + 1) now →
+      new ≡ after_map_ups (take (n + 1) group) old
   one_named f write was here new up =
       up ∙ ap (λ (s : Seen). with_maps f (s.maps f + 1) s) is
       ∙ (λ i. record old { maps = λ g. (point g (g == f) refl ∙ sym (ap (λ m. old.maps g + m) (more g))) i })
     where
       more : (g : ℕ) → how_many (λ e. names g (plain e)) (take (n + 1) group) ≡ how_many (λ e. names g (plain e)) (take n group) + cond (g == f) 1 0
-      more g = ap (λ k. how_many (λ e. names g (plain e)) (take k group)) (let next : n + 1 ≡ suc n = omega arith in next) ∙ first_more (λ e. names g (plain e)) n group Empty within ∙ ap (λ e. how_many (λ e. names g (plain e)) (take n group) + cond (names g (plain e)) 1 0) here
+      more g = ap (λ k. how_many (λ e. names g (plain e)) (take k group)) (let next : n + 1 ≡ suc n = omega arith in next)
+          ∙ first_more (λ e. names g (plain e)) n group Empty within ∙ ap
+          (λ e. how_many (λ e. names g (plain e)) (take n group) + cond (names g (plain e)) 1 0) here
 
-      point : (g : ℕ) (b : Bool) → (g == f) ≡ b → cond b (old.maps f + how_many (λ e. names f (plain e)) (take n group) + 1) (old.maps g + how_many (λ e. names g (plain e)) (take n group))
+      point : (g : ℕ) (b : Bool) → (g == f) ≡ b → cond b (old.maps f + how_many (λ e. names f (plain e)) (take n group) + 1)
+          (old.maps g + how_many (λ e. names g (plain e)) (take n group))
           ≡ old.maps g + (how_many (λ e. names g (plain e)) (take n group) + cond b 1 0)
-      point g true h = ap (λ f. old.maps f + how_many (λ e. names f (plain e)) (take n group) + 1) (sym (equal g f h)) ∙ add (old.maps g) (how_many (λ e. names g (plain e)) (take n group))
+      point g true h = ap (λ f. old.maps f + how_many (λ e. names f (plain e)) (take n group) + 1) (sym (equal g f h))
+          ∙ add (old.maps g) (how_many (λ e. names g (plain e)) (take n group))
         where
           add : (a b : ℕ) → a + b + 1 ≡ a + (b + 1)
           add a b = omega arith
@@ -377,5 +398,7 @@ module _ (group : List Pte) (n : ℕ) (within : n < length group) (old now : See
       nothing n = omega arith
 
       same : (g : ℕ) → how_many (λ e. names g (plain e)) (take (n + 1) group) ≡ how_many (λ e. names g (plain e)) (take n group)
-      same g = ap (λ k. how_many (λ e. names g (plain e)) (take k group)) (let next : n + 1 ≡ suc n = omega arith in next) ∙ first_more (λ e. names g (plain e)) n group Empty within
-          ∙ ap (λ b. how_many (λ e. names g (plain e)) (take n group) + cond b 1 0) (ap (λ e. names g (plain e)) here ∙ unnamed e other g) ∙ nothing (how_many (λ e. names g (plain e)) (take n group))
+      same g = ap (λ k. how_many (λ e. names g (plain e)) (take k group)) (let next : n + 1 ≡ suc n = omega arith in next)
+          ∙ first_more (λ e. names g (plain e)) n group Empty within
+          ∙ ap (λ b. how_many (λ e. names g (plain e)) (take n group) + cond b 1 0) (ap (λ e. names g (plain e)) here ∙ unnamed e other g)
+          ∙ nothing (how_many (λ e. names g (plain e)) (take n group))

@@ -39,7 +39,8 @@ none_in f (g ∷ fs) h = elim (f == g) as (λ b. b || is_in f fs ≡ false → c
 ] h
 
 -- how many flags stand, after one is set
-pub flagged : (flags : List Bool) (f : ℕ) (b : Bool) → f < length flags → how_many itself (slice_set flags f b) + cond (get_or flags f true) 1 0 ≡ how_many itself flags + cond b 1 0
+pub flagged : (flags : List Bool) (f : ℕ) (b : Bool) → f < length flags →
+    how_many itself (slice_set flags f b) + cond (get_or flags f true) 1 0 ≡ how_many itself flags + cond b 1 0
 flagged [] f b h = absurd (omega (arith, h))
 flagged (x ∷ flags) zero b h = swap (cond x 1 0) (cond b 1 0) (how_many itself flags)
   where
@@ -76,14 +77,16 @@ zeros zero i = refl
 zeros (suc n) zero = refl
 zeros (suc n) (suc i) = zeros n i
 
-module _ (frees : List ℕ) (n room : ℕ) (pages : List (List ℕ)) (flags : List Bool) (counts : List ℕ) (owners : List (Option (ℕ × ℕ))) (marks : List Bool) (places : List (Option Slot)) where
+module _ (frees : List ℕ) (n room : ℕ) (pages : List (List ℕ)) (flags : List Bool) (counts : List ℕ) (owners : List (Option (ℕ × ℕ))) (marks : List Bool)
+    (places : List (Option Slot)) where
   pub front_used : (f : ℕ) (rest : List ℕ) → IsWhole frees n room pages flags counts owners marks places → frees ≡ f ∷ rest
       → (get_or flags f true ≡ false) × (f < length pages) × (is_in f rest ≡ false)
   front_used f rest w is =
       let both = front f rest _ (sym (ap (how_many (λ g. f == g)) is) ∙ w.once f) in
       (both.0, subst (λ m. f < m) w.used (within_flags flags f both.0), not_in f rest both.1)
 
-  pub whole_taken : (f : ℕ) (rest : List ℕ) (n' room' : ℕ) → IsWhole frees n room pages flags counts owners marks places → frees ≡ f ∷ rest → n' ≡ length rest → room' ≡ room
+  pub whole_taken : (f : ℕ) (rest : List ℕ) (n' room' : ℕ) → IsWhole frees n room pages flags counts owners marks places → frees ≡ f ∷ rest →
+      n' ≡ length rest → room' ≡ room
       → IsWhole rest n' room' pages (slice_set flags f true) counts owners marks places
   whole_taken f rest n' room' w is len same =
       let both = front f rest _ (sym (ap (how_many (λ g. f == g)) is) ∙ w.once f) in
@@ -97,17 +100,20 @@ module _ (frees : List ℕ) (n room : ℕ) (pages : List (List ℕ)) (flags : Li
         slots = w.slots;
         len = len;
         room = subst (λ r. length pages ≤ r) (sym same) w.room;
-        total = sum (length rest) _ _ _ _ (sym (ap (λ fs. length fs + how_many itself flags) is) ∙ w.total) (flagged flags f true below) (ap (λ b. cond b 1 0) both.0);
+        total = sum (length rest) _ _ _ _ (sym (ap (λ fs. length fs + how_many itself flags) is) ∙ w.total) (flagged flags f true below)
+            (ap (λ b. cond b 1 0) both.0);
         once = λ g. others g (g == f) refl both.1 below (sym (ap (how_many (λ x. g == x)) is) ∙ w.once g);
       }
     where
       sum : (r k m c p : ℕ) → suc r + k ≡ p → m + c ≡ k + 1 → c ≡ 0 → r + m ≡ p
       sum r k m c p h e z = omega arith
 
-      others : (g : ℕ) (b : Bool) → (g == f) ≡ b → how_many (λ x. f == x) rest ≡ 0 → f < length flags → how_many (λ x. g == x) (f ∷ rest) ≡ cond (get_or flags g true) 0 1
+      others : (g : ℕ) (b : Bool) → (g == f) ≡ b → how_many (λ x. f == x) rest ≡ 0 → f < length flags →
+          how_many (λ x. g == x) (f ∷ rest) ≡ cond (get_or flags g true) 0 1
           → how_many (λ x. g == x) rest ≡ cond (get_or (slice_set flags f true) g true) 0 1
       others g true e none below h = let same : f ≡ g = grind (arith, nat_tests) in
-          subst (λ x. how_many (λ y. x == y) rest ≡ cond (get_or (slice_set flags f true) x true) 0 1) same (none ∙ sym (ap (λ b. cond b 0 1) (get_or-set_same flags f true true below)))
+          subst (λ x. how_many (λ y. x == y) rest ≡ cond (get_or (slice_set flags f true) x true) 0 1) same
+          (none ∙ sym (ap (λ b. cond b 0 1) (get_or-set_same flags f true true below)))
       others g false e none below h = let ne : g ≡ f → ⊥ = grind (arith, nat_tests) in
           sym (ap (λ b. cond b 1 0 + how_many (λ x. g == x) rest) e ∙ zero_plus _) ∙ h ∙ sym (ap (λ b. cond b 0 1) (get_or-set_other flags f g true true ne))
 
@@ -127,7 +133,8 @@ module _ (frees : List ℕ) (n room : ℕ) (pages : List (List ℕ)) (flags : Li
       fits : (c k m p : ℕ) → c ≡ 1 → k + c ≡ m + 0 → length frees + m ≡ p → n ≡ length frees → p ≤ room → n < room
       fits c k m p a b d e g = omega arith
 
-  pub whole_given : (f : ℕ) (n' room' : ℕ) → IsWhole frees n room pages flags counts owners marks places → f < length pages → is_in f frees ≡ false → n' ≡ n + 1 → room' ≡ room
+  pub whole_given : (f : ℕ) (n' room' : ℕ) → IsWhole frees n room pages flags counts owners marks places → f < length pages →
+      is_in f frees ≡ false → n' ≡ n + 1 → room' ≡ room
       → IsWhole (f ∷ frees) n' room' pages (slice_set flags f false) counts owners marks places
   whole_given f n' room' w below h len same =
       let below' : f < length flags = subst (λ m. f < m) (sym w.used) below in
@@ -147,14 +154,17 @@ module _ (frees : List ℕ) (n room : ℕ) (pages : List (List ℕ)) (flags : Li
       sum : (k m c p : ℕ) → length frees + k ≡ p → m + c ≡ k + 0 → c ≡ 1 → suc (length frees) + m ≡ p
       sum k m c p h e z = omega arith
 
-      others : (g : ℕ) (b : Bool) → (g == f) ≡ b → f < length flags → cond (g == f) 1 0 + how_many (λ x. g == x) frees ≡ cond (get_or (slice_set flags f false) g true) 0 1
+      others : (g : ℕ) (b : Bool) → (g == f) ≡ b → f < length flags → cond (g == f) 1 0 + how_many (λ x. g == x) frees ≡ cond
+          (get_or (slice_set flags f false) g true) 0 1
       others g true e below' = let same : f ≡ g = grind (arith, nat_tests) in
           subst (λ x. cond (x == f) 1 0 + how_many (λ y. x == y) frees ≡ cond (get_or (slice_set flags f false) x true) 0 1) same
-          (ap (λ t. cond t 1 0 + how_many (λ y. f == y) frees) (same_is f) ∙ ap (λ m. 1 + m) (none_in f frees h) ∙ sym (ap (λ b. cond b 0 1) (get_or-set_same flags f false true below')))
+          (ap (λ t. cond t 1 0 + how_many (λ y. f == y) frees) (same_is f) ∙ ap (λ m. 1 + m) (none_in f frees h)
+          ∙ sym (ap (λ b. cond b 0 1) (get_or-set_same flags f false true below')))
       others g false e below' = let ne : g ≡ f → ⊥ = grind (arith, nat_tests) in
           ap (λ t. cond t 1 0 + how_many (λ y. g == y) frees) e ∙ zero_plus _ ∙ w.once g ∙ sym (ap (λ b. cond b 0 1) (get_or-set_other flags f g false true ne))
 
-  pub free_is : (f : ℕ) → IsWhole frees n room pages flags counts owners marks places → f < length pages → (b : Bool) → b ≡ get_or flags f b → not b ≡ is_in f frees
+  pub free_is : (f : ℕ) → IsWhole frees n room pages flags counts owners marks places → f < length pages → (b : Bool) →
+      b ≡ get_or flags f b → not b ≡ is_in f frees
   free_is f w below b is =
       let below' : f < length flags = subst (λ m. f < m) (sym w.used) below in
       let flag : b ≡ get_or flags f true = is ∙ any_default flags f b true below' in
@@ -174,7 +184,8 @@ module _ (frees : List ℕ) (n room : ℕ) (pages : List (List ℕ)) (flags : Li
       fits m p a b d = omega arith
 
 -- the free list has no frame twice, and no number that isn't a frame
-pub once_free : (frees : List ℕ) (frees_len frees_room : ℕ) (pages : List (List ℕ)) (flags : List Bool) (counts : List ℕ) (owners : List (Option (ℕ × ℕ))) (marks : List Bool) (places : List (Option Slot))
+pub once_free : (frees : List ℕ) (frees_len frees_room : ℕ) (pages : List (List ℕ)) (flags : List Bool) (counts : List ℕ) (owners : List (Option (ℕ × ℕ)))
+    (marks : List Bool) (places : List (Option Slot))
     → IsWhole frees frees_len frees_room pages flags counts owners marks places → (f : ℕ) → how_many (λ g. f == g) frees ≤ 1
 once_free frees frees_len frees_room pages flags counts owners marks places h f = by (get_or flags f true) _ (h.once f)
   where
@@ -182,7 +193,8 @@ once_free frees frees_len frees_room pages flags counts owners marks places h f 
     by true n e = omega (arith, e)
     by false n e = omega (arith, e)
 
-pub in_range_free : (frees : List ℕ) (frees_len frees_room : ℕ) (pages : List (List ℕ)) (flags : List Bool) (counts : List ℕ) (owners : List (Option (ℕ × ℕ))) (marks : List Bool) (places : List (Option Slot))
+pub in_range_free : (frees : List ℕ) (frees_len frees_room : ℕ) (pages : List (List ℕ)) (flags : List Bool) (counts : List ℕ) (owners : List (Option (ℕ × ℕ)))
+    (marks : List Bool) (places : List (Option Slot))
     → IsWhole frees frees_len frees_room pages flags counts owners marks places → (f : ℕ) → is_in f frees ≡ true → f < length pages
 in_range_free frees frees_len frees_room pages flags counts owners marks places h f inside = by (get_or flags f true) refl (h.once f)
   where

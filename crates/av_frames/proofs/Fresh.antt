@@ -57,7 +57,8 @@ once_from a (suc n) (suc i) f e =
 once : (n f : ℕ) → how_many (λ g. f == g) (numbers 0 n) ≡ cond (get_or (replicate n false) f true) 0 1
 once n f = once_from 0 n f f (omega arith)
 
-pub whole_fresh : (n len room : ℕ) (page : List ℕ) → n < 2 ^ 32 → len ≡ n → n ≤ room → IsWhole (numbers 0 n) len room (replicate n page) (replicate n false) (replicate n 0) (replicate n None) (replicate n false) (replicate n None)
+pub whole_fresh : (n len room : ℕ) (page : List ℕ) → n < 2 ^ 32 → len ≡ n → n ≤ room → IsWhole (numbers 0 n) len room (replicate n page) (replicate n false)
+    (replicate n 0) (replicate n None) (replicate n false) (replicate n None)
 whole_fresh n len room page few same wide = record {
   few = subst (λ m. m < 2 ^ 32) (sym (length-replicate n page)) few;
   used = length-replicate n false ∙ sym (length-replicate n page);
@@ -71,7 +72,14 @@ whole_fresh n len room page few same wide = record {
   once = once n;
 }
 
-pub seen_fresh : (n : ℕ) → seen (record { free = numbers 0 n; bytes = replicate n (replicate {A = ℕ} 4096 0); maps = replicate {A = ℕ} n 0; homes = replicate n None; dirty = replicate n false; slots = replicate n None }) ≡ fresh n
+pub seen_fresh : (n : ℕ) → seen (record {
+  free = numbers 0 n;
+  bytes = replicate n (replicate {A = ℕ} 4096 0);
+  maps = replicate {A = ℕ} n 0;
+  homes = replicate n None;
+  dirty = replicate n false;
+  slots = replicate n None;
+}) ≡ fresh n
 seen_fresh n = λ k. record {
   count = length-replicate n (replicate {A = ℕ} 4096 0) k;
   free = numbers 0 n;

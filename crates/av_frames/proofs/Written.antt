@@ -7,13 +7,15 @@ use Rattle.av_frames.specs.Pages.{zeros, all_pages}
 pub one_more : {X : Type 0} (xs ys : List X) (x : X) (n m : ℕ) → n ≤ m → ys ≡ xs ++ replicate (m - n) x → ys ++ x ∷ [] ≡ xs ++ replicate (m + 1 - n) x
 one_more xs ys x n m le is =
     let count : m - n + 1 ≡ m + 1 - n = omega (arith, le) in
-    ap (λ l. l ++ x ∷ []) is ∙ append_assoc xs (replicate (m - n) x) (x ∷ []) ∙ ap (λ l. xs ++ l) (replicate-append-replicate (m - n) 1 x) ∙ ap (λ k. xs ++ replicate k x) count
+    ap (λ l. l ++ x ∷ []) is ∙ append_assoc xs (replicate (m - n) x) (x ∷ []) ∙ ap (λ l. xs ++ l) (replicate-append-replicate (m - n) 1 x)
+    ∙ ap (λ k. xs ++ replicate k x) count
 
 pub none_more : {X : Type 0} (xs : List X) (x : X) (n : ℕ) → n ≡ 0 → xs ≡ xs ++ replicate n x
 none_more xs x n none = sym (ap (λ k. xs ++ replicate k x) none ∙ append-nil xs)
 
 -- pages of zeros that are written out are no other pages
-pub same_pages : (filled : List (List ℕ)) (more count : ℕ) → more ≤ count → all_pages (filled ++ replicate (more - length filled) zeros) count ≡ all_pages filled count
+pub same_pages : (filled : List (List ℕ)) (more count : ℕ) → more ≤ count →
+    all_pages (filled ++ replicate (more - length filled) zeros) count ≡ all_pages filled count
 same_pages filled more count le =
     let n = length filled in
     let written = replicate (more - n) zeros in
@@ -29,18 +31,23 @@ pub page_set : (filled : List (List ℕ)) (frame count : ℕ) (page : List ℕ) 
     → all_pages (slice_set (filled ++ replicate (frame + 1 - length filled) zeros) frame page) count ≡ slice_set (all_pages filled count) frame page
 page_set filled frame count page below =
     let first = filled ++ replicate (frame + 1 - length filled) zeros in
-    let long : length first ≡ length filled + (frame + 1 - length filled) = length-append filled (replicate (frame + 1 - length filled) zeros) ∙ ap (λ k. length filled + k) (length-replicate (frame + 1 - length filled) zeros) in
+    let long : length first ≡ length filled + (frame + 1 - length filled) = length-append filled (replicate (frame + 1 - length filled) zeros)
+    ∙ ap (λ k. length filled + k) (length-replicate (frame + 1 - length filled) zeros) in
     ap (λ k. slice_set first frame page ++ replicate (count - k) zeros) (length-set first frame page)
     ∙ sym (set-append_left first (replicate (count - length first) zeros) frame page (omega (arith, long)))
     ∙ ap (λ l. slice_set l frame page) (same_pages filled (frame + 1) count (omega (arith, below)))
 
-pub page_read : (filled : List (List ℕ)) (frame count : ℕ) (page : List ℕ) → frame < count → page ≡ get_or (filled ++ replicate (frame + 1 - length filled) zeros) frame page
+pub page_read : (filled : List (List ℕ)) (frame count : ℕ) (page : List ℕ) → frame < count →
+    page ≡ get_or (filled ++ replicate (frame + 1 - length filled) zeros) frame page
     → page ≡ get_or (all_pages filled count) frame []
 page_read filled frame count page below is =
     let first = filled ++ replicate (frame + 1 - length filled) zeros in
-    let long : length first ≡ length filled + (frame + 1 - length filled) = length-append filled (replicate (frame + 1 - length filled) zeros) ∙ ap (λ k. length filled + k) (length-replicate (frame + 1 - length filled) zeros) in
+    let long : length first ≡ length filled + (frame + 1 - length filled) = length-append filled (replicate (frame + 1 - length filled) zeros)
+    ∙ ap (λ k. length filled + k) (length-replicate (frame + 1 - length filled) zeros) in
     let within : frame < length first = omega (arith, long) in
-    is ∙ get_or_default first frame page [] within ∙ sym (get_or_append_left first (replicate (count - length first) zeros) [] frame within) ∙ ap (λ l. get_or l frame []) (same_pages filled (frame + 1) count (omega (arith, below)))
+    is ∙ get_or_default first frame page [] within ∙ sym (get_or_append_left first (replicate (count - length first) zeros) [] frame within)
+    ∙ ap (λ l. get_or l frame []) (same_pages filled (frame + 1) count (omega (arith, below)))
 
 pub length_pages : (filled : List (List ℕ)) (count : ℕ) → length filled ≤ count → length (all_pages filled count) ≡ count
-length_pages filled count le = length-append filled (replicate (count - length filled) zeros) ∙ ap (λ k. length filled + k) (length-replicate (count - length filled) zeros) ∙ omega (arith, le)
+length_pages filled count le = length-append filled (replicate (count - length filled) zeros) ∙ ap (λ k. length filled + k)
+    (length-replicate (count - length filled) zeros) ∙ omega (arith, le)

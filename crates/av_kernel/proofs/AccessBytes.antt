@@ -16,7 +16,11 @@ use Rattle.av_plain.proofs.World.TwoWrites.{with_bytes_twice}
 
 pub shows-append : (q : Process) (a : ℕ) (xs ys : List ℕ) → Shows q a xs → Shows q (a + length xs) ys → Shows q a (xs ++ ys)
 shows-append q a [] ys h g = subst (λ b. Shows q b ys) (let same : a + 0 ≡ a = omega arith in same) g
-shows-append q a (x ∷ xs) ys h g = (h.0, shows-append q (a + 1) xs ys h.1 (subst (λ b. Shows q b ys) (let same : a + suc (length xs) ≡ (a + 1) + length xs = omega arith in same) g))
+shows-append q a (x ∷ xs) ys h g = (
+  h.0,
+  shows-append q (a + 1) xs ys h.1
+      (subst (λ b. Shows q b ys) (let same : a + suc (length xs) ≡ (a + 1) + length xs = omega arith in same) g),
+)
 
 -- and each of them is a byte
 all-append : (xs ys : List ℕ) → AllByRecursion (λ b. b < 2 ^ 8) xs → AllByRecursion (λ b. b < 2 ^ 8) ys → AllByRecursion (λ b. b < 2 ^ 8) (xs ++ ys)
@@ -24,7 +28,8 @@ all-append [] ys h g = g
 all-append (x ∷ xs) ys h g = (h.0, all-append xs ys h.1 g)
 
 -- a read shows a piece more
-pub reads-more : (q : Process) (a k m at : ℕ) (shown now piece : List ℕ) → at ≡ a + k → now ≡ shown ++ piece → length piece ≡ m → Shows q at piece → AllByRecursion (λ b. b < 2 ^ 8) piece → Reads q a k shown → Reads q a (k + m) now
+pub reads-more : (q : Process) (a k m at : ℕ) (shown now piece : List ℕ) → at ≡ a + k → now ≡ shown ++ piece → length piece ≡ m → Shows q at piece →
+    AllByRecursion (λ b. b < 2 ^ 8) piece → Reads q a k shown → Reads q a (k + m) now
 reads-more q a k m at shown now piece begins is long h below g = (
   ap length is ∙ length-append shown piece ∙ (λ i. g.0 i + long i),
   subst (Shows q a) (sym is) (shows-append q a shown piece g.1 (subst (λ b. Shows q b piece) (begins ∙ ap (λ n. a + n) (sym g.0)) h)),
@@ -36,10 +41,12 @@ reads-more q a k m at shown now piece begins is long h below g = (
 put_twice : (p : ℕ) (m n : Process) (w : World) → put nat_cmp p n (put nat_cmp p m w) ≡ put nat_cmp p n w
 put_twice p m n [] = ap (λ r. by_order r ((p, n) ∷ (p, m) ∷ []) ((p, n) ∷ []) ((p, m) ∷ (p, n) ∷ [])) (tied_itself nat_cmp_total p)
 put_twice p m n (e ∷ w) =
-    elim (nat_cmp p e.0) as (λ r. nat_cmp p e.0 ≡ r → put nat_cmp p n (by_order r ((p, m) ∷ e ∷ w) ((e.0, m) ∷ w) (e ∷ put nat_cmp p m w)) ≡ by_order r ((p, n) ∷ e ∷ w) ((e.0, n) ∷ w) (e ∷ put nat_cmp p n w)) [
+    elim (nat_cmp p e.0) as (λ r. nat_cmp p e.0 ≡ r → put nat_cmp p n (by_order r ((p, m) ∷ e ∷ w) ((e.0, m) ∷ w) (e ∷ put nat_cmp p m w)) ≡ by_order r
+    ((p, n) ∷ e ∷ w) ((e.0, n) ∷ w) (e ∷ put nat_cmp p n w)) [
       | Less ↦ λ is. ap (λ r. by_order r ((p, n) ∷ (p, m) ∷ e ∷ w) ((p, n) ∷ e ∷ w) ((p, m) ∷ put nat_cmp p n (e ∷ w))) (tied_itself nat_cmp_total p)
       | Equal ↦ λ is. ap (λ r. by_order r ((p, n) ∷ (e.0, m) ∷ w) ((e.0, n) ∷ w) ((e.0, m) ∷ put nat_cmp p n w)) is
-      | Greater ↦ λ is. ap (λ r. by_order r ((p, n) ∷ e ∷ put nat_cmp p m w) ((e.0, n) ∷ put nat_cmp p m w) (e ∷ put nat_cmp p n (put nat_cmp p m w))) is ∙ ap (λ es. e ∷ es) (put_twice p m n w)
+      | Greater ↦ λ is. ap (λ r. by_order r ((p, n) ∷ e ∷ put nat_cmp p m w) ((e.0, n) ∷ put nat_cmp p m w) (e ∷ put nat_cmp p n (put nat_cmp p m w))) is
+          ∙ ap (λ es. e ∷ es) (put_twice p m n w)
     ] refl
 
 pub itself : (p : ℕ) → eq_by_cmp nat_cmp p p ≡ true
@@ -53,7 +60,8 @@ pub stored_twice : (w : World) (p a : ℕ) (xs ys : List ℕ) → after_write (a
 stored_twice w p a [] ys = ap (λ b. after_write w p b ys) (let same : a + 0 ≡ a = omega arith in same)
 stored_twice w p a (x ∷ xs) [] = ap (λ zs. after_write w p a (x ∷ zs)) (sym (append-nil xs))
 stored_twice w p a (x ∷ xs) (y ∷ ys) =
-    ap (λ (m : Process). set_process (after_write w p a (x ∷ xs)) p (with_bytes m (a + length (x ∷ xs)) (y ∷ ys))) (pages-given w p (with_bytes (pages w p) a (x ∷ xs)))
+    ap (λ (m : Process). set_process (after_write w p a (x ∷ xs)) p (with_bytes m (a + length (x ∷ xs)) (y ∷ ys)))
+    (pages-given w p (with_bytes (pages w p) a (x ∷ xs)))
     ∙ put_twice p _ _ w
     ∙ ap (set_process w p) (with_bytes_twice (pages w p) a (x ∷ xs) (y ∷ ys))
 
@@ -62,9 +70,11 @@ lives-stored w p a [] h = h
 lives-stored w p a (b ∷ bytes) h = lives-set w p _ p ∙ ap (λ t. cond t true (lives w p)) (itself p)
 
 -- what is written leaves the protections
-pub allowed-stored : (w : World) (write : Bool) (p a : ℕ) (bytes : List ℕ) (page : ℕ) → is_allowed w write (p, page) ≡ is_allowed (after_write w p a bytes) write (p, page)
+pub allowed-stored : (w : World) (write : Bool) (p a : ℕ) (bytes : List ℕ) (page : ℕ) →
+    is_allowed w write (p, page) ≡ is_allowed (after_write w p a bytes) write (p, page)
 allowed-stored w write p a [] page = refl
-allowed-stored w write p a (b ∷ bytes) page = same (pages w p page) ∙ ap (permits write) (sym (λ i. pages-given w p (with_bytes (pages w p) a (b ∷ bytes)) i page))
+allowed-stored w write p a (b ∷ bytes) page = same (pages w p page)
+    ∙ ap (permits write) (sym (λ i. pages-given w p (with_bytes (pages w p) a (b ∷ bytes)) i page))
   where
     same : (o : Option Page) → permits write o ≡ permits write (with_bytes (λ _. o) a (b ∷ bytes) page)
     same None = refl

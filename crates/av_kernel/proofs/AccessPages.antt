@@ -24,7 +24,8 @@ touches-some a n some = ap (λ b. cond b 0 ((a % 4096 + n + 4095) / 4096)) (let 
 -- so many pages were touched before a page that begins behind k bytes
 pub pages_before : (a k page at : ℕ) → 4096 * page + at ≡ a + k → at < 4096 → (1 ≤ k → at ≡ 0) → page ≡ a / 4096 + touches a k
 pages_before a zero page at is small begins = omega arith
-pages_before a (suc k) page at is small begins = let none : at ≡ 0 = begins (omega arith) in let some = touches-some a (suc k) (omega arith) in omega (arith, is, none, some)
+pages_before a (suc k) page at is small begins = let none : at ≡ 0 = begins (omega arith) in let some = touches-some a (suc k) (omega arith) in
+    omega (arith, is, none, some)
 
 -- bytes of one page touch one page more
 pub one_more : (a k m page at : ℕ) → 4096 * page + at ≡ a + k → at + m ≤ 4096 → 1 ≤ m → (1 ≤ k → at ≡ 0) → touches a (k + m) ≡ touches a k + 1
@@ -54,9 +55,11 @@ touched-one write a k m page at is small some begins =
     ∙ map-append (λ page. (write, page)) (numbers (a / 4096) (touches a k)) (page ∷ [])
 
 pub touched-more : (write : Bool) (a k n page at : ℕ) → 4096 * page + at ≡ a + k → at < 4096 → k < n → (1 ≤ k → at ≡ 0)
-    → pages_of_access write a n ≡ pages_of_access write a k ++ (write, page) ∷ map (λ page. (write, page)) (numbers (page + 1) (touches a n - (touches a k + 1)))
+    → pages_of_access write a n ≡ pages_of_access write a k ++ (write, page) ∷ map (λ page. (write, page))
+    (numbers (page + 1) (touches a n - (touches a k + 1)))
 touched-more write a k n page at is small less begins =
-    let at_least : touches a k + 1 ≤ touches a n = subst (λ x. touches a k + 1 ≤ touches a x) (let same : k + (n - k) ≡ n = omega (arith, less) in same) (some_more a k (n - k) page at is small (omega (arith, less)) begins) in
+    let at_least : touches a k + 1 ≤ touches a n = subst (λ x. touches a k + 1 ≤ touches a x) (let same : k + (n - k) ≡ n = omega (arith, less) in
+    same) (some_more a k (n - k) page at is small (omega (arith, less)) begins) in
     let split : touches a n ≡ touches a k + suc (touches a n - (touches a k + 1)) = omega (arith, at_least) in
     ap (map (λ page. (write, page)))
     (ap (numbers (a / 4096)) split ∙ numbers-append (a / 4096) (touches a k) (suc (touches a n - (touches a k + 1)))

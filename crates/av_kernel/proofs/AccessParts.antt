@@ -26,7 +26,8 @@ use Rattle.av_kernel.proofs.AccessBytes.{reads-more, stored_twice, allowed-store
 
 -- ---- the memories after a part of an access
 
-pub allowed-served : (w : World) (write wants : Bool) (p a : ℕ) (bytes : List ℕ) (page : ℕ) → is_allowed w wants (p, page) ≡ is_allowed (world_served write p a bytes w) wants (p, page)
+pub allowed-served : (w : World) (write wants : Bool) (p a : ℕ) (bytes : List ℕ) (page : ℕ) →
+    is_allowed w wants (p, page) ≡ is_allowed (world_served write p a bytes w) wants (p, page)
 allowed-served w true wants p a bytes page = allowed-stored w wants p a bytes page
 allowed-served w false wants p a bytes page = refl
 
@@ -45,7 +46,8 @@ stop_answer-world true p page at ys stop w = refl
 stop_answer-world false p page at ys stop w = refl
 
 -- the process lives on after a part of an access
-pub still_lives : {s : State} {mid : Mem} {write : Bool} {p a k : ℕ} {xs : List ℕ} {before now : List Note} → lives s.world p ≡ true → (h : IsAccess s mid write p a k xs before now None k) → lives h.next.world p ≡ true
+pub still_lives : {s : State} {mid : Mem} {write : Bool} {p a k : ℕ} {xs : List ℕ} {before now : List Note} → lives s.world p ≡ true →
+    (h : IsAccess s mid write p a k xs before now None k) → lives h.next.world p ≡ true
 still_lives {s} {mid} {write} {p} {a} {k} {xs} lived h = ap (λ w. lives w p) h.world ∙ lives-served s.world write p a xs lived
 
 -- ---- what happens at one page
@@ -60,7 +62,8 @@ one_served : (m : Setting) (w : World) (l : Ledger) (write : Bool) (p page : ℕ
 one_served m w l write p page added h = inl (added, [], h, sym (append-nil _), (refl, refl))
 
 -- a page that stops an access of it and more
-one_stopped : (m : Setting) (w : World) (l : Ledger) (write : Bool) (p page : ℕ) (rest : List (Bool × ℕ)) (added : List Note) (stop : faults.Stop) → Touches m w l write (p, page) added (Some stop)
+one_stopped : (m : Setting) (w : World) (l : Ledger) (write : Bool) (p page : ℕ) (rest : List (Bool × ℕ)) (added : List Note) (stop : faults.Stop) →
+    Touches m w l write (p, page) added (Some stop)
     → Accesses m w l p ((write, page) ∷ rest) (page_events write (p, page) added (Some stop)) (Stopped page stop)
 one_stopped m w l write p page rest added stop h = inr (added, stop, h, refl, refl)
 
@@ -74,25 +77,32 @@ record Behind (a k page at : ℕ) : Type 0 where
 
 module _ (s : State) (mid new : Mem) (write : Bool) (p a k page at : ℕ) (xs ys : List ℕ) (before now after : List Note)
     (same : count new ≡ count mid) (behind : Behind a k page at) (h : IsAccess s mid write p a k xs before now None k) where
-  notes-both : (end : Option faults.Stop) (added : List Note) → after ≡ now ++ added → after ≡ before ++ notes_of (h.events ++ page_events write (p, page) added end)
+  notes-both : (end : Option faults.Stop) (added : List Note) → after ≡ now ++ added →
+      after ≡ before ++ notes_of (h.events ++ page_events write (p, page) added end)
   notes-both end added is = is ∙ ap (λ ns. ns ++ added) h.notes ∙ append_assoc before (notes_of h.events) added
-      ∙ ap (λ ns. before ++ ns) (ap (λ ns. notes_of h.events ++ ns) (sym (notes-happening write (p, page) added end)) ∙ sym (notes_of-append h.events (page_events write (p, page) added end)))
+      ∙ ap (λ ns. before ++ ns) (ap (λ ns. notes_of h.events ++ ns) (sym (notes-happening write (p, page) added end))
+      ∙ sym (notes_of-append h.events (page_events write (p, page) added end)))
 
   accesses-both : (pages : List (Bool × ℕ)) (more : List Event) (end : End) → Accesses (setting (count new)) h.next.world h.next.ledger p pages more end
       → Accesses (setting (count new)) s.world s.ledger p (pages_of_access write a k ++ pages) (h.events ++ more) end
   accesses-both pages more end g = accesses-append (setting (count new)) s.world h.next.world s.ledger p (pages_of_access write a k) pages h.events more end
-      (alike-by-allowed s.world h.next.world p (λ wants page. allowed-served s.world write wants p a xs page ∙ ap (λ w. is_allowed w wants (p, page)) (sym h.world)))
-      (subst (λ n. Accesses (setting n) s.world s.ledger p (pages_of_access write a k) h.events Whole) (sym same) (subst (λ end. Accesses (setting (count mid)) s.world s.ledger p (pages_of_access write a k) h.events end) h.is_end.0 h.accesses))
+      (alike-by-allowed s.world h.next.world p (λ wants page. allowed-served s.world write wants p a xs page
+      ∙ ap (λ w. is_allowed w wants (p, page)) (sym h.world)))
+      (subst (λ n. Accesses (setting n) s.world s.ledger p (pages_of_access write a k) h.events Whole) (sym same)
+      (subst (λ end. Accesses (setting (count mid)) s.world s.ledger p (pages_of_access write a k) h.events end) h.is_end.0 h.accesses))
       (subst (λ l. Accesses (setting (count new)) h.next.world l p pages more end) h.ledger g)
 
-  free-both : (more : List Event) (free : Free) → ChoosesAll (setting (count new)) None h.next.ledger more h.next.free free → ChoosesAll (setting (count new)) None s.ledger (h.events ++ more) s.free free
-  free-both more free g = chooses-append (setting (count new)) None s.ledger h.events more s.free h.next.free free (subst (λ n. ChoosesAll (setting n) None s.ledger h.events s.free h.next.free) (sym same) h.free)
+  free-both : (more : List Event) (free : Free) → ChoosesAll (setting (count new)) None h.next.ledger more h.next.free free →
+      ChoosesAll (setting (count new)) None s.ledger (h.events ++ more) s.free free
+  free-both more free g = chooses-append (setting (count new)) None s.ledger h.events more s.free h.next.free free
+      (subst (λ n. ChoosesAll (setting n) None s.ledger h.events s.free h.next.free) (sym same) h.free)
       (subst (λ l. ChoosesAll (setting (count new)) None l more h.next.free free) h.ledger g)
 
   ledger-both : (more : List Event) (l : Ledger) → l ≡ after_all h.next.ledger more → l ≡ after_all s.ledger (h.events ++ more)
   ledger-both more l is = is ∙ ap (λ x. after_all x more) h.ledger ∙ sym (after_all-append s.ledger h.events more)
 
-  rmap-both : (more : List Event) (r : Rmap) → r ≡ rmap_after_all h.next.ledger more (rmap_of h.next) → r ≡ rmap_after_all s.ledger (h.events ++ more) (rmap_of s)
+  rmap-both : (more : List Event) (r : Rmap) → r ≡ rmap_after_all h.next.ledger more (rmap_of h.next) →
+      r ≡ rmap_after_all s.ledger (h.events ++ more) (rmap_of s)
   rmap-both more r is = is ∙ (λ i. rmap_after_all (h.ledger i) more (h.rmap i)) ∙ sym (rmap_after_all-append s.ledger h.events more (rmap_of s))
 
   -- by m bytes of the page
@@ -102,11 +112,13 @@ module _ (s : State) (mid new : Mem) (write : Bool) (p a k page at : ℕ) (xs ys
     events = h.events ++ page_events write (p, page) g.added None;
     notes = notes-both None g.added g.notes;
     end = Whole;
-    accesses = subst (λ pages. Accesses (setting (count new)) s.world s.ledger p pages (h.events ++ page_events write (p, page) g.added None) Whole) (sym (touched-one write a k m page at behind.is small some behind.begins))
+    accesses = subst (λ pages. Accesses (setting (count new)) s.world s.ledger p pages (h.events ++ page_events write (p, page) g.added None) Whole)
+        (sym (touched-one write a k m page at behind.is small some behind.begins))
         (accesses-both ((write, page) ∷ []) _ Whole (one_served _ h.next.world h.next.ledger write p page g.added g.touches));
     is_end = (refl, refl);
     next = g.next;
-    world = g.world ∙ ap (world_after write p page at ys None) h.world ∙ served_twice s.world write p a page at xs ys (λ is. behind.is ∙ ap (λ n. a + n) (sym (long is)));
+    world = g.world ∙ ap (world_after write p page at ys None) h.world ∙ served_twice s.world write p a page at xs ys
+        (λ is. behind.is ∙ ap (λ n. a + n) (sym (long is)));
     ledger = ledger-both _ _ g.ledger;
     free = free-both _ _ g.free;
     rmap = rmap-both _ _ g.rmap;
@@ -120,8 +132,10 @@ module _ (s : State) (mid new : Mem) (write : Bool) (p a k page at : ℕ) (xs ys
     events = h.events ++ page_events write (p, page) g.added (Some (stop_of stop));
     notes = notes-both (Some (stop_of stop)) g.added g.notes;
     end = Stopped page (stop_of stop);
-    accesses = subst (λ pages. Accesses (setting (count new)) s.world s.ledger p pages (h.events ++ page_events write (p, page) g.added (Some (stop_of stop))) (Stopped page (stop_of stop))) (sym (touched-more write a k n page at behind.is behind.small less behind.begins))
-        (accesses-both ((write, page) ∷ map (λ page. (write, page)) (numbers (page + 1) (touches a n - (touches a k + 1)))) _ _ (one_stopped _ h.next.world h.next.ledger write p page _ g.added (stop_of stop) g.touches));
+    accesses = subst (λ pages. Accesses (setting (count new)) s.world s.ledger p pages (h.events ++ page_events write (p, page) g.added (Some (stop_of stop)))
+        (Stopped page (stop_of stop))) (sym (touched-more write a k n page at behind.is behind.small less behind.begins))
+        (accesses-both ((write, page) ∷ map (λ page. (write, page)) (numbers (page + 1) (touches a n - (touches a k + 1)))) _ _
+        (one_stopped _ h.next.world h.next.ledger write p page _ g.added (stop_of stop) g.touches));
     is_end = (page, refl, served k behind.is behind.begins, less);
     next = g.next;
     world = g.world ∙ stop_answer-world write p page at ys stop h.next.world ∙ h.world;
@@ -168,19 +182,24 @@ module _ (s : State) (mid new : Mem) (write : Bool) (p a n k : ℕ) (piece : Pie
   behind : Behind a k piece.page piece.at
   behind = behind-piece a n k piece is less begins
 
-  pub piece-served : IsPageStep h.next new write p piece.page piece.at ys now after end → ((stop : Stop) → end ≡ Some stop → ⊥) → (write ≡ true → length xs ≡ k) → (zs : List ℕ) → xs ++ ys ≡ zs
+  pub piece-served : IsPageStep h.next new write p piece.page piece.at ys now after end → ((stop : Stop) → end ≡ Some stop → ⊥) →
+      (write ≡ true → length xs ≡ k) → (zs : List ℕ) → xs ++ ys ≡ zs
       → IsAccess s new write p a (k + piece.len) zs before after None (k + piece.len)
   piece-served g none long zs whole = subst (λ zs. IsAccess s new write p a (k + piece.len) zs before after None (k + piece.len)) whole
-      (goes_on s mid new write p a k piece.page piece.at xs ys before now after same behind h piece.len (piece-in_page a n k piece is) (piece-some a n k piece is less) long
+      (goes_on s mid new write p a k piece.page piece.at xs ys before now after same behind h piece.len (piece-in_page a n k piece is)
+      (piece-some a n k piece is less) long
       (subst (λ end. IsPageStep h.next new write p piece.page piece.at ys now after end) (none_left end none) g))
 
-  pub piece-stopped : IsPageStep h.next new write p piece.page piece.at ys now after end → (stop : Stop) → end ≡ Some stop → IsAccess s new write p a n xs before after (Some stop) k
+  pub piece-stopped : IsPageStep h.next new write p piece.page piece.at ys now after end → (stop : Stop) → end ≡ Some stop →
+      IsAccess s new write p a n xs before after (Some stop) k
   piece-stopped g stop some = stops s mid new write p a k piece.page piece.at xs ys before now after same behind h n stop less
       (subst (λ end. IsPageStep h.next new write p piece.page piece.at ys now after end) some g)
 
 -- the piece that was served is shown too
-pub piece-shown : (w w' : World) (p a n k : ℕ) (piece : Piece) (shown now : List ℕ) (end : Option Stop) → w' ≡ w → IsPiece a n k piece → ((stop : Stop) → end ≡ Some stop → ⊥)
+pub piece-shown : (w w' : World) (p a n k : ℕ) (piece : Piece) (shown now : List ℕ) (end : Option Stop) → w' ≡ w → IsPiece a n k piece →
+    ((stop : Stop) → end ≡ Some stop → ⊥)
     → ShowsPiece w' p piece.page piece.at piece.len shown now end → Reads (pages w p) a k shown → Reads (pages w p) a (k + piece.len) now
 piece-shown w w' p a n k piece shown now end same is none g h =
-    let shows = subst (λ w. ShowsPiece w p piece.page piece.at piece.len shown now None) same (subst (λ end. ShowsPiece w' p piece.page piece.at piece.len shown now end) (none_left end none) g) in
+    let shows = subst (λ w. ShowsPiece w p piece.page piece.at piece.len shown now None) same
+    (subst (λ end. ShowsPiece w' p piece.page piece.at piece.len shown now end) (none_left end none) g) in
     reads-more (pages w p) a k piece.len (4096 * piece.page + piece.at) shown now shows.0 is.0 shows.1 shows.2 shows.3 shows.4 h

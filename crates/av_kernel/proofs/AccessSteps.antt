@@ -30,7 +30,8 @@ use Rattle.av_kernel.specs.Access.{IsAccess, answer_of}
 use Rattle.av_kernel.proofs.StepLaws.{left_alone}
 
 -- the process lives, so that the command is not refused
-not_refused : (lived : Bool) (Follow : Type 0) (Refuse : Errno → Type 0) → lived ≡ true → Follow → MatchOption (cond (not lived) (Some Esrch) None) Follow Refuse
+not_refused : (lived : Bool) (Follow : Type 0) (Refuse : Errno → Type 0) → lived ≡ true → Follow →
+    MatchOption (cond (not lived) (Some Esrch) None) Follow Refuse
 not_refused true Follow Refuse is h = h
 not_refused false Follow Refuse is h = absurd (no is)
   where
@@ -38,7 +39,8 @@ not_refused false Follow Refuse is h = absurd (no is)
     no e = cc
 
 -- the answer of an access that stopped
-answers-stopped : (a k page : ℕ) (stop : Stop) (shown : List ℕ) → k ≡ bytes_before a page → answer_of stop k shown ≡ stop_answer (stop_of stop) (bytes_before a page) shown
+answers-stopped : (a k page : ℕ) (stop : Stop) (shown : List ℕ) → k ≡ bytes_before a page →
+    answer_of stop k shown ≡ stop_answer (stop_of stop) (bytes_before a page) shown
 answers-stopped a k page Segv shown is = ap (λ k. answers.Segv k shown) is
 answers-stopped a k page (Oom out) shown is = ap (λ k. answers.Oom k out shown) is
 
@@ -47,21 +49,26 @@ world-stopped : (w : World) (p a k : ℕ) (bytes : List ℕ) (stop : Stop) → a
 world-stopped w p a k bytes Segv = refl
 world-stopped w p a k bytes (Oom out) = refl
 
-module _ (s : State) (old new : Mem) (p a : ℕ) (before notes : List Note) (rows : List Row) (k : ℕ) (fresh : before ≡ []) (none : rows ≡ []) (same : count new ≡ count old) (lived : lives s.world p ≡ true) (keeps : Keeps old s) where
+module _ (s : State) (old new : Mem) (p a : ℕ) (before notes : List Note) (rows : List Row) (k : ℕ) (fresh : before ≡ []) (none : rows ≡ [])
+    (same : count new ≡ count old) (lived : lives s.world p ≡ true) (keeps : Keeps old s) where
   -- areas and anon_vmas are those that its events prepared
-  rmap_still : (command : Command) (answer : Answer) → is_fork command ≡ false → ((long : Lengths) (on : Areas) → next_areas long on s.world command answer ≡ on) → (now : State) (events : List Event) → rmap_of now ≡ rmap_after_all s.ledger events (rmap_of s)
+  rmap_still : (command : Command) (answer : Answer) → is_fork command ≡ false →
+      ((long : Lengths) (on : Areas) → next_areas long on s.world command answer ≡ on) → (now : State) (events : List Event) →
+      rmap_of now ≡ rmap_after_all s.ledger events (rmap_of s)
       → Keeps new now → IsRmapNext (rmap_after_all s.ledger events (rmap_of s)) s.world command answer (rmap_of now)
-  rmap_still command answer plain stay now events is kept = subst (λ (r : Rmap). IsRmapNext r s.world command answer (rmap_of now)) is (next-plain (rmap_of now) s.world command answer (rmap_of now) plain (record {
-    areas = sym (stay (chain_length now.anons) now.areas);
-    anons = left_alone new now kept;
-    homes = refl;
-  }))
+  rmap_still command answer plain stay now events is kept = subst (λ (r : Rmap). IsRmapNext r s.world command answer (rmap_of now)) is
+      (next-plain (rmap_of now) s.world command answer (rmap_of now) plain (record {
+        areas = sym (stay (chain_length now.anons) now.areas);
+        anons = left_alone new now kept;
+        homes = refl;
+      }))
 
   -- the notes are those of the access alone
   alone : (events : List Event) → notes ≡ before ++ notes_of events → notes ≡ notes_of events
   alone events is = is ∙ ap (λ ns. ns ++ notes_of events) fresh
 
-  pub read-done : (n : ℕ) (shown : List ℕ) (answer : Answer) → IsAccess s new false p a n [] before notes None k → Reads (pages s.world p) a k shown → answer ≡ answers.Data shown
+  pub read-done : (n : ℕ) (shown : List ℕ) (answer : Answer) → IsAccess s new false p a n [] before notes None k → Reads (pages s.world p) a k shown →
+      answer ≡ answers.Data shown
       → MemSteps old new s (Read p a n) (record { answer = answer; notes = notes; rows = rows })
   read-done n shown answer h reads is = record {
     next = h.next;
@@ -71,7 +78,8 @@ module _ (s : State) (old new : Mem) (p a : ℕ) (before notes : List Note) (row
         answer = not_refused (lives s.world p) _ _ lived (
           Whole,
           shown,
-          subst (λ end. Accesses (setting (count old)) s.world s.ledger p (pages_of_access false a n) h.events end) h.is_end.0 (subst (λ m. Accesses (setting m) s.world s.ledger p (pages_of_access false a n) h.events h.end) same h.accesses),
+          subst (λ end. Accesses (setting (count old)) s.world s.ledger p (pages_of_access false a n) h.events end) h.is_end.0
+              (subst (λ m. Accesses (setting m) s.world s.ledger p (pages_of_access false a n) h.events h.end) same h.accesses),
           subst (λ k. Reads (pages s.world p) a k shown) h.is_end.1 reads,
           is,
           none,
@@ -87,7 +95,8 @@ module _ (s : State) (old new : Mem) (p a : ℕ) (before notes : List Note) (row
     keeps = h.keeps;
   }
 
-  pub read-stopped : (n : ℕ) (shown : List ℕ) (answer : Answer) (stop : Stop) → IsAccess s new false p a n [] before notes (Some stop) k → Reads (pages s.world p) a k shown → answer ≡ answer_of stop k shown
+  pub read-stopped : (n : ℕ) (shown : List ℕ) (answer : Answer) (stop : Stop) → IsAccess s new false p a n [] before notes (Some stop) k →
+      Reads (pages s.world p) a k shown → answer ≡ answer_of stop k shown
       → MemSteps old new s (Read p a n) (record { answer = answer; notes = notes; rows = rows })
   read-stopped n shown answer stop h reads is = record {
     next = h.next;
@@ -97,7 +106,8 @@ module _ (s : State) (old new : Mem) (p a : ℕ) (before notes : List Note) (row
         answer = not_refused (lives s.world p) _ _ lived (
           Stopped h.is_end.0 (stop_of stop),
           shown,
-          subst (λ end. Accesses (setting (count old)) s.world s.ledger p (pages_of_access false a n) h.events end) h.is_end.1 (subst (λ m. Accesses (setting m) s.world s.ledger p (pages_of_access false a n) h.events h.end) same h.accesses),
+          subst (λ end. Accesses (setting (count old)) s.world s.ledger p (pages_of_access false a n) h.events end) h.is_end.1
+              (subst (λ m. Accesses (setting m) s.world s.ledger p (pages_of_access false a n) h.events h.end) same h.accesses),
           subst (λ k. Reads (pages s.world p) a k shown) h.is_end.2 reads,
           is ∙ answers-stopped a k h.is_end.0 stop shown h.is_end.2,
           none,
@@ -122,7 +132,8 @@ module _ (s : State) (old new : Mem) (p a : ℕ) (before notes : List Note) (row
       legal = record {
         answer = not_refused (lives s.world p) _ _ lived (
           Whole,
-          subst (λ end. Accesses (setting (count old)) s.world s.ledger p (pages_of_access true a (length bytes)) h.events end) h.is_end.0 (subst (λ m. Accesses (setting m) s.world s.ledger p (pages_of_access true a (length bytes)) h.events h.end) same h.accesses),
+          subst (λ end. Accesses (setting (count old)) s.world s.ledger p (pages_of_access true a (length bytes)) h.events end) h.is_end.0
+              (subst (λ m. Accesses (setting m) s.world s.ledger p (pages_of_access true a (length bytes)) h.events h.end) same h.accesses),
           is,
           none,
         );
@@ -137,7 +148,8 @@ module _ (s : State) (old new : Mem) (p a : ℕ) (before notes : List Note) (row
     keeps = h.keeps;
   }
 
-  pub write-stopped : (bytes : List ℕ) (answer : Answer) (stop : Stop) → IsAccess s new true p a (length bytes) (take k bytes) before notes (Some stop) k → answer ≡ answer_of stop k []
+  pub write-stopped : (bytes : List ℕ) (answer : Answer) (stop : Stop) → IsAccess s new true p a (length bytes) (take k bytes) before notes (Some stop) k →
+      answer ≡ answer_of stop k []
       → MemSteps old new s (Write p a bytes) (record { answer = answer; notes = notes; rows = rows })
   write-stopped bytes answer stop h is = record {
     next = h.next;
@@ -146,7 +158,8 @@ module _ (s : State) (old new : Mem) (p a : ℕ) (before notes : List Note) (row
       legal = record {
         answer = not_refused (lives s.world p) _ _ lived (
           Stopped h.is_end.0 (stop_of stop),
-          subst (λ end. Accesses (setting (count old)) s.world s.ledger p (pages_of_access true a (length bytes)) h.events end) h.is_end.1 (subst (λ m. Accesses (setting m) s.world s.ledger p (pages_of_access true a (length bytes)) h.events h.end) same h.accesses),
+          subst (λ end. Accesses (setting (count old)) s.world s.ledger p (pages_of_access true a (length bytes)) h.events end) h.is_end.1
+              (subst (λ m. Accesses (setting m) s.world s.ledger p (pages_of_access true a (length bytes)) h.events h.end) same h.accesses),
           is ∙ answers-stopped a k h.is_end.0 stop [] h.is_end.2,
           none,
         );

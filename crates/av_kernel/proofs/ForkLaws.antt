@@ -60,7 +60,8 @@ entries_few k s keeps f =
     omega (arith, same, named, few)
 
 -- the parts stand for the ledger still, once the areas went over and the child has a table
-pub still_orderly : (old gone : Mem) (tables : ProcessTables) (l : Ledger) → gone.frames ≡ old.frames → gone.tables ≡ old.tables → entry_at tables ≡ entry_at gone.tables → HasLedger old l → HasLedger (record gone { tables = tables }) l
+pub still_orderly : (old gone : Mem) (tables : ProcessTables) (l : Ledger) → gone.frames ≡ old.frames → gone.tables ≡ old.tables →
+    entry_at tables ≡ entry_at gone.tables → HasLedger old l → HasLedger (record gone { tables = tables }) l
 still_orderly old gone tables l frames same entries h =
     subst (λ f. HasLedger (record { frames = f; tables = tables; spaces = gone.spaces; anons = gone.anons }) l) (sym frames)
     (stays_orderly old tables gone.spaces gone.anons l (entries ∙ ap (λ t. entry_at t) same) h)
@@ -73,7 +74,8 @@ has_table k tables q processes = ap (λ (h : ℕ → Bool). h q) processes ∙ a
     itself n = grind (arith, nat_tests)
 
 -- a page keeps its bytes by an entry that was not seen
-kept-unseen : (v : View) (l : Ledger) (e : Option Entry) (page : Option Page) → IsKept v no_device l e page → IsKept v no_device l (option_or (option_map without_seen e) None) page
+kept-unseen : (v : View) (l : Ledger) (e : Option Entry) (page : Option Page) → IsKept v no_device l e page →
+    IsKept v no_device l (option_or (option_map without_seen e) None) page
 kept-unseen v l None page h = h
 kept-unseen v l (Some Zero) page h = h
 kept-unseen v l (Some (InFrame f seen)) page h = h
@@ -83,8 +85,10 @@ kept-unseen v l (Some (InSlot s)) page h = h
 
 -- the areas went over, and then the entries, into an empty table
 module _ (old mid : Mem) (tables : ProcessTables) (spaces : AllSpaces) (anons : AnonSet) (s : State) (p q : ℕ) (keeps : Keeps old s)
-    (alive : is_some (areas_of old.spaces.processes p) ≡ true) (may : refusal (new_tests old.spaces.processes q) ≡ None) (shown : HasFork old (moved_on old old.tables spaces anons) p q s)
-    (processes : has tables ≡ with_at q true (has old.tables)) (given : HasForked (moved_on old tables spaces anons) mid s.ledger p q) (rest : KeepsRest (moved_on old tables spaces anons) mid) where
+    (alive : is_some (areas_of old.spaces.processes p) ≡ true) (may : refusal (new_tests old.spaces.processes q) ≡ None)
+    (shown : HasFork old (moved_on old old.tables spaces anons) p q s)
+    (processes : has tables ≡ with_at q true (has old.tables)) (given : HasForked (moved_on old tables spaces anons) mid s.ledger p q)
+    (rest : KeepsRest (moved_on old tables spaces anons) mid) where
   abbrev new : Mem
   new = moved_on mid mid.tables spaces anons
 
@@ -111,7 +115,14 @@ module _ (old mid : Mem) (tables : ProcessTables) (spaces : AllSpaces) (anons : 
   child = child-has p q (rmap_of s) shown.next shown.forked
 
   abbrev next : State
-  next = record { world = set_process s.world q (pages s.world p); ledger = l; free = free_of (view mid); areas = shown.next.areas; anons = shown.next.anons; homes = shown.next.homes }
+  next = record {
+    world = set_process s.world q (pages s.world p);
+    ledger = l;
+    free = free_of (view mid);
+    areas = shown.next.areas;
+    anons = shown.next.anons;
+    homes = shown.next.homes;
+  }
 
   allowed : refusal (tests (setting (count old)) s.world s.ledger (Fork p q)) ≡ None
   allowed = fork_is old s p q keeps alive ∙ may
@@ -122,12 +133,18 @@ module _ (old mid : Mem) (tables : ProcessTables) (spaces : AllSpaces) (anons : 
       record {
         events = events;
         legal = record {
-          answer = subst (λ o. MatchOption o (Follows (setting (count old)) s.world s.ledger (Fork p q) events Done []) (λ e. Refuses e events Done [])) (sym allowed) (refl, refl, refl);
+          answer = subst (λ o. MatchOption o (Follows (setting (count old)) s.world s.ledger (Fork p q) events Done []) (λ e. Refuses e events Done []))
+              (sym allowed) (refl, refl, refl);
           notes = refl;
         };
         world = refl;
         ledger = refl;
-        free = (free_of (view mid), subst (λ free. Chooses (setting (count old)) None s.ledger (Forked p q (inheritance s.ledger p)) free (free_of (view mid))) keeps.stands.free given.free, refl);
+        free = (
+          free_of (view mid),
+          subst (λ free. Chooses (setting (count old)) None s.ledger (Forked p q (inheritance s.ledger p)) free (free_of (view mid)))
+              keeps.stands.free given.free,
+          refl,
+        );
         rmap = shown.forked;
         shows = tt;
       }
@@ -135,7 +152,8 @@ module _ (old mid : Mem) (tables : ProcessTables) (spaces : AllSpaces) (anons : 
   -- ---- what stands then
 
   -- the child's areas have the protections of the parent's
-  prot_now : (k page : ℕ) → option_map prot_on (shown.next.areas k page) ≡ option_map (λ (x : Page). x.prot) (cond (k == q) (pages s.world p page) (pages s.world k page))
+  prot_now : (k page : ℕ) → option_map prot_on (shown.next.areas k page) ≡ option_map (λ (x : Page). x.prot)
+      (cond (k == q) (pages s.world p page) (pages s.world k page))
   prot_now k page = by (k == q) refl
     where
       was : (k : ℕ) → option_map prot_on (s.areas k page) ≡ option_map (λ (x : Page). x.prot) (pages s.world k page)
@@ -145,7 +163,8 @@ module _ (old mid : Mem) (tables : ProcessTables) (spaces : AllSpaces) (anons : 
       of_child None is = ap (option_map prot_on) (child.none page is)
       of_child (Some area) is = ap (option_map prot_on) (child.here page area is)
 
-      by : (b : Bool) → (k == q) ≡ b → option_map prot_on (shown.next.areas k page) ≡ option_map (λ (x : Page). x.prot) (cond b (pages s.world p page) (pages s.world k page))
+      by : (b : Bool) → (k == q) ≡ b → option_map prot_on (shown.next.areas k page) ≡ option_map (λ (x : Page). x.prot)
+          (cond b (pages s.world p page) (pages s.world k page))
       by true same = ap (λ n. option_map prot_on (shown.next.areas n page)) (is_number k q same) ∙ of_child (s.areas p page) refl ∙ was p
       by false other = ap (option_map prot_on) (child.others k page other) ∙ was k
 
@@ -154,10 +173,13 @@ module _ (old mid : Mem) (tables : ProcessTables) (spaces : AllSpaces) (anons : 
 
   areas_now : AreasStand (view new) next.world
   areas_now = record {
-    alive = λ k. ap is_some (shown.spawned.areas k) ∙ lives_as k (k == q) ∙ sym (lives-set s.world q (pages s.world p) k ∙ ap (λ b. cond b true (lives s.world k)) (at_number k q));
-    number = shown.spawned.number ∙ ap (λ n. n + 1) keeps.stands.parts.areas.number ∙ sym (length-set_new s.world q (pages s.world p) keeps.stands.sound.world.in_order child_dead);
+    alive = λ k. ap is_some (shown.spawned.areas k) ∙ lives_as k (k == q)
+        ∙ sym (lives-set s.world q (pages s.world p) k ∙ ap (λ b. cond b true (lives s.world k)) (at_number k q));
+    number = shown.spawned.number ∙ ap (λ n. n + 1) keeps.stands.parts.areas.number
+        ∙ sym (length-set_new s.world q (pages s.world p) keeps.stands.sound.world.in_order child_dead);
     apart = all_apart spaces.processes shown.spawned.rising;
-    covers = λ k page. prots_are spaces.processes k page ∙ ap (option_map prot_on) (shown.areas k page) ∙ prot_now k page ∙ sym (ap (option_map (λ (x : Page). x.prot)) (page_now k page));
+    covers = λ k page. prots_are spaces.processes k page ∙ ap (option_map prot_on) (shown.areas k page) ∙ prot_now k page
+        ∙ sym (ap (option_map (λ (x : Page). x.prot)) (page_now k page));
   }
     where
       lives_as : (k : ℕ) (b : Bool) → is_some (cond b (Some shown.these) (areas_of old.spaces.processes k)) ≡ cond b true (lives s.world k)
@@ -174,14 +196,18 @@ module _ (old mid : Mem) (tables : ProcessTables) (spaces : AllSpaces) (anons : 
   -- each page keeps its bytes, and the child's by the entry that went over
   kept_now : (k page : ℕ) → IsKept (view new) no_device l (entry l (k, page)) (pages next.world k page)
   kept_now k page =
-      kept-on (view old) (view new) s.ledger l (entry l (k, page)) (pages next.world k page) rest.bytes (no_cache s.ledger keeps.stands.parts.ledger.swap.finds) (no_cache l given.stands.parts.swap.finds)
+      kept-on (view old) (view new) s.ledger l (entry l (k, page)) (pages next.world k page) rest.bytes (no_cache s.ledger keeps.stands.parts.ledger.swap.finds)
+      (no_cache l given.stands.parts.swap.finds)
       (subst (IsKept (view old) no_device s.ledger (entry l (k, page))) (sym (page_now k page))
-      (subst (λ e. IsKept (view old) no_device s.ledger e (cond (k == q) (pages s.world p page) (pages s.world k page))) (sym (entry-forked p q s.ledger (k, page) keeps.stands.sound.ledger.in_order)) (by (k == q) refl)))
+      (subst (λ e. IsKept (view old) no_device s.ledger e (cond (k == q) (pages s.world p page) (pages s.world k page)))
+      (sym (entry-forked p q s.ledger (k, page) keeps.stands.sound.ledger.in_order)) (by (k == q) refl)))
     where
       by : (b : Bool) → (k == q) ≡ b
-          → IsKept (view old) no_device s.ledger (option_or (cond b (option_map without_seen (entry s.ledger (p, page))) None) (entry s.ledger (k, page))) (cond b (pages s.world p page) (pages s.world k page))
+          → IsKept (view old) no_device s.ledger (option_or (cond b (option_map without_seen (entry s.ledger (p, page))) None) (entry s.ledger (k, page)))
+          (cond b (pages s.world p page) (pages s.world k page))
       by true same =
-          subst (λ e. IsKept (view old) no_device s.ledger (option_or (option_map without_seen (entry s.ledger (p, page))) e) (pages s.world p page)) (sym (ap (λ n. entry s.ledger (n, page)) (is_number k q same) ∙ no_entry page))
+          subst (λ e. IsKept (view old) no_device s.ledger (option_or (option_map without_seen (entry s.ledger (p, page))) e) (pages s.world p page))
+          (sym (ap (λ n. entry s.ledger (n, page)) (is_number k q same) ∙ no_entry page))
           (kept-unseen (view old) s.ledger (entry s.ledger (p, page)) (pages s.world p page) (keeps.stands.parts.bytes.kept p page))
       by false other = keeps.stands.parts.bytes.kept k page
 
@@ -199,12 +225,15 @@ module _ (old mid : Mem) (tables : ProcessTables) (spaces : AllSpaces) (anons : 
       shown.areas anons_now homes_now reach_now shown.fit areas_now tables_now kept_now
 
   forks : MemSteps old mid s (Fork p q) (answer_only Done)
-  forks = subst (λ k. MemSteps old k s (Fork p q) (answer_only Done)) (λ i. record { frames = mid.frames; tables = mid.tables; spaces = (sym rest.spaces) i; anons = (sym rest.anons) i }) steps
+  forks = subst (λ k. MemSteps old k s (Fork p q) (answer_only Done))
+      (λ i. record { frames = mid.frames; tables = mid.tables; spaces = (sym rest.spaces) i; anons = (sym rest.anons) i }) steps
 
 -- neither frames nor entries changed as the areas went over
-pub fork-steps : (old gone mid : Mem) (tables : ProcessTables) (s : State) (p q : ℕ) (keeps : Keeps old s) → is_some (areas_of old.spaces.processes p) ≡ true → refusal (new_tests old.spaces.processes q) ≡ None
+pub fork-steps : (old gone mid : Mem) (tables : ProcessTables) (s : State) (p q : ℕ) (keeps : Keeps old s) → is_some (areas_of old.spaces.processes p) ≡ true →
+    refusal (new_tests old.spaces.processes q) ≡ None
     → gone.frames ≡ old.frames → gone.tables ≡ old.tables → HasFork old gone p q s → has tables ≡ with_at q true (has gone.tables)
-    → HasForked (record gone { tables = tables }) mid s.ledger p q → KeepsRest (record gone { tables = tables }) mid → MemSteps old mid s (Fork p q) (answer_only Done)
+    → HasForked (record gone { tables = tables }) mid s.ledger p q → KeepsRest (record gone { tables = tables }) mid →
+    MemSteps old mid s (Fork p q) (answer_only Done)
 fork-steps old gone mid tables s p q keeps alive may frames entries shown processes given rest =
     forks old mid tables gone.spaces gone.anons s p q keeps alive may
     (subst (λ g. HasFork old g p q s) (λ i. record { frames = frames i; tables = entries i; spaces = gone.spaces; anons = gone.anons }) shown)

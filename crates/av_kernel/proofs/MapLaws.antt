@@ -50,10 +50,10 @@ use Rattle.av_plain.proofs.Zap.{entry-range}
 use Rattle.av_reclaim.specs.declared.mem.Mem.{Mem}
 use Rattle.av_spaces.specs.Spaces.{AllSpaces, Spaces, areas_of, is_taken, pages_of as areas_on}
 use Rattle.av_plain.proofs.Transcript.{is_fork, next-plain}
-use Rattle.av_kernel.specs.Map.{set_on, HasAreas, HasProts, HomesStay, AreCleared}
+use Rattle.av_kernel.specs.Map.{set_on, HasAreas, HasProts, HomesStay, AreUnmapped}
 use Rattle.av_reclaim.specs.Mem.{ranges_of, setting, view, count, Keeps, IsSteady, HasLedger}
 use Rattle.av_reclaim.specs.Zap.{HasZapped}
-use Rattle.av_kernel.specs.Place.{protect_tests, IsProcess, IsPlaced, AreToClear}
+use Rattle.av_kernel.specs.Place.{protect_tests, IsProcess, IsPlaced, AreToUnmap}
 use Rattle.av_kernel.specs.Step.{MemSteps}
 use Rattle.av_reclaim.proofs.MemLaws.{lives_is, alive_is, taken_has, mapped_is}
 use Rattle.av_kernel.proofs.PlaceLaws.{page_back, IsSuited, suited}
@@ -66,13 +66,15 @@ pub taken_is : (k : Mem) (s : State) (p : ℕ) → Keeps k s → IsProcess k.spa
 taken_is k s p keeps page = taken_has k.spaces.processes p page ∙ ap is_some (keeps.stands.parts.areas.covers p page) ∙ mapped_is (pages s.world p page)
 
 -- a place suits the pages of a process, whatever the kernel stands for
-pub suits : (k : Mem) → IsSteady k → (p n page : ℕ) (place : Place) → ((q : Process) → IsProcess k.spaces.processes p q → IsPlaced q n place (Ok page)) → IsSuited k.spaces.processes p n page place
+pub suits : (k : Mem) → IsSteady k → (p n page : ℕ) (place : Place) → ((q : Process) → IsProcess k.spaces.processes p q → IsPlaced q n place (Ok page)) →
+    IsSuited k.spaces.processes p n page place
 suits k steady p n page place placed =
     let same = taken_is k steady.0 p steady.1 in
     suited k.spaces.processes p (pages steady.0.world p) same n page place (placed (pages steady.0.world p) same)
 
 -- the same pages change twice
-pub twice_changed : (s t u : Spaces) (p page n : ℕ) (x y : Option Prot) → HasProts s t p (set_on page n x (prot_of (ranges_of s p))) → HasProts t u p (set_on page n y (prot_of (ranges_of t p)))
+pub twice_changed : (s t u : Spaces) (p page n : ℕ) (x y : Option Prot) → HasProts s t p (set_on page n x (prot_of (ranges_of s p))) →
+    HasProts t u p (set_on page n y (prot_of (ranges_of t p)))
     → HasProts s u p (set_on page n y (prot_of (ranges_of s p)))
 twice_changed s t u p page n x y first second = record {
   others = λ q other. second.others q other ∙ first.others q other;
@@ -87,7 +89,8 @@ twice_changed s t u p page n x y first second = record {
     by o false e = first.pages o ∙ ap (λ b. cond b x (prot_of (ranges_of s p) o)) e
 
 -- the areas of the same process change twice
-twice_placed : (s t u : Spaces) (p : ℕ) (change : Pages → Pages) (on : Pages) → HasAreas s t p on → HasAreas t u p (change (areas_on t p)) → HasAreas s u p (change on)
+twice_placed : (s t u : Spaces) (p : ℕ) (change : Pages → Pages) (on : Pages) → HasAreas s t p on → HasAreas t u p (change (areas_on t p)) →
+    HasAreas s u p (change on)
 twice_placed s t u p change on first second q page = second q page ∙ by (q == p) refl
   where
     itself : (p : ℕ) → (p == p) ≡ true
@@ -117,7 +120,9 @@ unplaced s p q page = by (q == p) refl
     by false e = refl
 
 -- what the kernel's areas become, those of the state do
-areas_so : (old new : Mem) (s : State) (p : ℕ) (change : Pages → Pages) → Keeps old s → HasAreas old.spaces.processes new.spaces.processes p (change (areas_on old.spaces.processes p)) → AreasAre (view new) (with_at p (change (s.areas p)) s.areas)
+areas_so : (old new : Mem) (s : State) (p : ℕ) (change : Pages → Pages) → Keeps old s →
+    HasAreas old.spaces.processes new.spaces.processes p (change (areas_on old.spaces.processes p)) →
+    AreasAre (view new) (with_at p (change (s.areas p)) s.areas)
 areas_so old new s p change keeps h q page = h q page ∙ (λ i. with_at p (change (λ o. keeps.stands.areas p o i)) (λ r o. keeps.stands.areas r o i) q page)
 
 -- ---- the pages of a range go
@@ -131,12 +136,17 @@ both_ok (Ok x) f h g = f h g
 both_ok (Err e) f h g = tt
 
 -- their entries have gone, and then their areas
-pub are_cleared : (old mid : Mem) (spaces : AllSpaces) (anons : AnonSet) (p page n : ℕ) (l : Ledger) → HasZapped old mid l (zaps_of l (keys_in l p page (page + n - page))) → mid.spaces ≡ old.spaces → mid.anons ≡ old.anons → has mid.tables ≡ has old.tables → (view mid).bytes ≡ (view old).bytes → (view mid).homes ≡ (view old).homes
-    → HasProts mid.spaces.processes spaces.processes p (set_on page n None (prot_of (ranges_of mid.spaces.processes p))) → HasAreas mid.spaces.processes spaces.processes p (after_unmap page (page + n) (areas_on mid.spaces.processes p))
+pub are_unmapped : (old mid : Mem) (spaces : AllSpaces) (anons : AnonSet) (p page n : ℕ) (l : Ledger) →
+    HasZapped old mid l (zaps_of l (keys_in l p page (page + n - page))) → mid.spaces ≡ old.spaces → mid.anons ≡ old.anons → has mid.tables ≡ has old.tables →
+    (view mid).bytes ≡ (view old).bytes → (view mid).homes ≡ (view old).homes
+    → HasProts mid.spaces.processes spaces.processes p (set_on page n None (prot_of (ranges_of mid.spaces.processes p))) →
+    HasAreas mid.spaces.processes spaces.processes p (after_unmap page (page + n) (areas_on mid.spaces.processes p))
     → AnonsStay mid.spaces mid.anons spaces anons → HomesStay mid.spaces.processes spaces.processes p page n
-    → AreCleared old (moved_on mid mid.tables spaces anons) p page n (after_unmap page (page + n) (areas_on old.spaces.processes p)) l (zaps_of l (keys_in l p page n))
-are_cleared old mid spaces anons p page n l t same same_anons processes bytes homes gone areas anons_stay stay = record {
-  taken = subst (λ x. HasZapped old (moved_on mid mid.tables spaces anons) l (zaps_of l (keys_in l p page x))) (let size : page + n - page ≡ n = omega arith in size) (record { stands = stays_orderly mid mid.tables spaces anons _ refl t.stands; notes = t.notes; free = t.free });
+    → AreUnmapped old (moved_on mid mid.tables spaces anons) p page n (after_unmap page (page + n) (areas_on old.spaces.processes p)) l
+    (zaps_of l (keys_in l p page n))
+are_unmapped old mid spaces anons p page n l t same same_anons processes bytes homes gone areas anons_stay stay = record {
+  taken = subst (λ x. HasZapped old (moved_on mid mid.tables spaces anons) l (zaps_of l (keys_in l p page x))) (let size : page + n - page ≡ n = omega arith in
+      size) (record { stands = stays_orderly mid mid.tables spaces anons _ refl t.stands; notes = t.notes; free = t.free });
   spaces = subst (λ (x : AllSpaces). HasProts x.processes spaces.processes p (set_on page n None (prot_of (ranges_of x.processes p)))) same gone;
   areas = subst (λ (x : AllSpaces). HasAreas x.processes spaces.processes p (after_unmap page (page + n) (areas_on x.processes p))) same areas;
   anons = subst (λ (x : AllSpaces). AnonsStay x old.anons spaces anons) same (subst (λ a. AnonsStay mid.spaces a spaces anons) same_anons anons_stay);
@@ -146,7 +156,8 @@ are_cleared old mid spaces anons p page n l t same same_anons processes bytes ho
   stay = subst (λ (x : AllSpaces). HomesStay x.processes spaces.processes p page n) same stay;
 }
 
-left_alone : (k : Mem) → IsSteady k → (p page n : ℕ) (l : Ledger) → HasLedger k l → is_some (areas_of k.spaces.processes p) ≡ true → IsFree (is_taken k.spaces.processes p) page (page + n) → AreCleared k k p page n (areas_on k.spaces.processes p) l []
+left_alone : (k : Mem) → IsSteady k → (p page n : ℕ) (l : Ledger) → HasLedger k l → is_some (areas_of k.spaces.processes p) ≡ true →
+    IsFree (is_taken k.spaces.processes p) page (page + n) → AreUnmapped k k p page n (areas_on k.spaces.processes p) l []
 left_alone k steady p page n l stands alive free = record {
   taken = record { stands = stands; notes = refl; free = refl };
   spaces = record {
@@ -176,19 +187,22 @@ left_alone k steady p page n l stands alive free = record {
     by o false e = refl
 
 -- where a mapping isn't to be at a fixed place, its pages are free, and nothing goes
-pub nothing_there : (k : Mem) → IsSteady k → (p page n : ℕ) (place : Place) (l : Ledger) → HasLedger k l → is_some (areas_of k.spaces.processes p) ≡ true → AreToClear (is_taken k.spaces.processes p) page n place → ((a : ℕ) → place ≡ Fixed a → ⊥)
-    → AreCleared k k p page n (with_room n place (areas_on k.spaces.processes p)) l (zaps_for_place l p n place)
+pub nothing_there : (k : Mem) → IsSteady k → (p page n : ℕ) (place : Place) (l : Ledger) → HasLedger k l → is_some (areas_of k.spaces.processes p) ≡ true →
+    AreToUnmap (is_taken k.spaces.processes p) page n place → ((a : ℕ) → place ≡ Fixed a → ⊥)
+    → AreUnmapped k k p page n (with_room n place (areas_on k.spaces.processes p)) l (zaps_for_place l p n place)
 nothing_there k steady p page n Auto l stands alive free other = left_alone k steady p page n l stands alive free
 nothing_there k steady p page n (At a) l stands alive free other = left_alone k steady p page n l stands alive free
 nothing_there k steady p page n (Fixed a) l stands alive free other = absurd (other a refl)
 nothing_there k steady p page n (NoReplace a) l stands alive free other = left_alone k steady p page n l stands alive free
 
 -- the process lives on, and none of the pages is taken
-pub cleared_lives : (old new : Mem) (p page n : ℕ) (on : Pages) (l : Ledger) (events : List Event) → AreCleared old new p page n on l events → is_some (areas_of new.spaces.processes p) ≡ true
-cleared_lives old new p page n on l events h = sym (alive_is new.spaces.processes p) ∙ h.spaces.alive
+pub unmapped_lives : (old new : Mem) (p page n : ℕ) (on : Pages) (l : Ledger) (events : List Event) → AreUnmapped old new p page n on l events →
+    is_some (areas_of new.spaces.processes p) ≡ true
+unmapped_lives old new p page n on l events h = sym (alive_is new.spaces.processes p) ∙ h.spaces.alive
 
-pub cleared_free : (old new : Mem) (p page n : ℕ) (on : Pages) (l : Ledger) (events : List Event) → AreCleared old new p page n on l events → IsFree (is_taken new.spaces.processes p) page (page + n)
-cleared_free old new p page n on l events h o low high =
+pub unmapped_free : (old new : Mem) (p page n : ℕ) (on : Pages) (l : Ledger) (events : List Event) → AreUnmapped old new p page n on l events →
+    IsFree (is_taken new.spaces.processes p) page (page + n)
+unmapped_free old new p page n on l events h o low high =
     let inside : within page n o ≡ true = grind (arith, nat_tests, low, high) in
     taken_has new.spaces.processes p o ∙ ap is_some (h.spaces.pages o ∙ ap (λ b. cond b None (prot_of (ranges_of old.spaces.processes p) o)) inside)
 
@@ -203,19 +217,26 @@ place-silent l p n (NoReplace a) r = refl
 
 module _ (old new : Mem) (s : State) (command : Command) (reply : Reply) (p page n : ℕ) (o : Option Page) (on : Pages) (events : List Event)
     (keeps : Keeps old s) (alive : is_some (ranges_of old.spaces.processes p) ≡ true) (same_count : count new ≡ count old)
-    (taken : HasZapped old new s.ledger events) (entries : (q at : ℕ) → entry (after_all s.ledger events) (q, at) ≡ cond (q == p && within page n at) None (entry s.ledger (q, at)))
-    (blank : Holds o (λ _. 0)) (spaces : HasProts old.spaces.processes new.spaces.processes p (set_on page n (option_map (λ (x : Page). x.prot) o) (prot_of (ranges_of old.spaces.processes p))))
-    (areas : AreasAre (view new) (with_at p on s.areas)) (stay : AnonsStay old.spaces old.anons new.spaces new.anons) (processes : has new.tables ≡ has old.tables) (bytes : (view new).bytes ≡ (view old).bytes)
-    (homes : (view new).homes ≡ (view old).homes) (home_stay : HomesStay old.spaces.processes new.spaces.processes p page n) (silent : rmap_after_all s.ledger events (rmap_of s) ≡ rmap_of s) where
-  covered : (at : ℕ) → set_on page n (option_map (λ (x : Page). x.prot) o) (prot_of (ranges_of old.spaces.processes p)) at ≡ option_map (λ (x : Page). x.prot) (with_pages (pages s.world p) page n (λ _. o) at)
+    (taken : HasZapped old new s.ledger events) (entries : (q at : ℕ) →
+    entry (after_all s.ledger events) (q, at) ≡ cond (q == p && within page n at) None (entry s.ledger (q, at)))
+    (blank : Holds o (λ _. 0)) (spaces : HasProts old.spaces.processes new.spaces.processes p
+    (set_on page n (option_map (λ (x : Page). x.prot) o) (prot_of (ranges_of old.spaces.processes p))))
+    (areas : AreasAre (view new) (with_at p on s.areas)) (stay : AnonsStay old.spaces old.anons new.spaces new.anons)
+    (processes : has new.tables ≡ has old.tables) (bytes : (view new).bytes ≡ (view old).bytes)
+    (homes : (view new).homes ≡ (view old).homes) (home_stay : HomesStay old.spaces.processes new.spaces.processes p page n)
+    (silent : rmap_after_all s.ledger events (rmap_of s) ≡ rmap_of s) where
+  covered : (at : ℕ) → set_on page n (option_map (λ (x : Page). x.prot) o) (prot_of (ranges_of old.spaces.processes p)) at ≡ option_map (λ (x : Page). x.prot)
+      (with_pages (pages s.world p) page n (λ _. o) at)
   covered at = by (within page n at)
     where
-      by : (b : Bool) → cond b (option_map (λ (x : Page). x.prot) o) (prot_of (ranges_of old.spaces.processes p) at) ≡ option_map (λ (x : Page). x.prot) (cond b o (pages s.world p at))
+      by : (b : Bool) → cond b (option_map (λ (x : Page). x.prot) o) (prot_of (ranges_of old.spaces.processes p) at) ≡ option_map (λ (x : Page). x.prot)
+          (cond b o (pages s.world p at))
       by true = refl
       by false = keeps.stands.parts.areas.covers p at
 
   kept : (at : ℕ) → IsKept (view old) no_device s.ledger (entry (after_all s.ledger events) (p, at)) (with_pages (pages s.world p) page n (λ _. o) at)
-  kept at = subst (λ e. IsKept (view old) no_device s.ledger e (with_pages (pages s.world p) page n (λ _. o) at)) (sym (entries p at ∙ ap (λ b. cond (b && within page n at) None (entry s.ledger (p, at))) (itself p))) (by (within page n at))
+  kept at = subst (λ e. IsKept (view old) no_device s.ledger e (with_pages (pages s.world p) page n (λ _. o) at))
+      (sym (entries p at ∙ ap (λ b. cond (b && within page n at) None (entry s.ledger (p, at))) (itself p))) (by (within page n at))
     where
       itself : (p : ℕ) → (p == p) ≡ true
       itself p = grind (arith, nat_tests)
@@ -226,12 +247,14 @@ module _ (old new : Mem) (s : State) (command : Command) (reply : Reply) (p page
 
   -- an entry that is left was there, and stands outside of the range
   left_outside : (at f : ℕ) → Names (after_all s.ledger events) (p, at) f → (within page n at ≡ false) × Names s.ledger (p, at) f
-  left_outside at f names = by (within page n at) refl (subst (λ o. IsSomeAnd o (λ e. names_frame f e ≡ true)) (entries p at ∙ ap (λ b. cond (b && within page n at) None (entry s.ledger (p, at))) (itself p)) names)
+  left_outside at f names = by (within page n at) refl (subst (λ o. IsSomeAnd o (λ e. names_frame f e ≡ true))
+      (entries p at ∙ ap (λ b. cond (b && within page n at) None (entry s.ledger (p, at))) (itself p)) names)
     where
       itself : (p : ℕ) → (p == p) ≡ true
       itself p = grind (arith, nat_tests)
 
-      by : (b : Bool) → within page n at ≡ b → IsSomeAnd (cond b None (entry s.ledger (p, at))) (λ e. names_frame f e ≡ true) → (within page n at ≡ false) × Names s.ledger (p, at) f
+      by : (b : Bool) → within page n at ≡ b → IsSomeAnd (cond b None (entry s.ledger (p, at))) (λ e. names_frame f e ≡ true) →
+          (within page n at ≡ false) × Names s.ledger (p, at) f
       by true e names = absurd names
       by false e names = (e, names)
 
@@ -255,69 +278,103 @@ module _ (old new : Mem) (s : State) (command : Command) (reply : Reply) (p page
       let now : Process = with_pages (pages s.world p) page n (λ _. o) in
       changed old new s command reply p now on (after_all s.ledger events) keeps stay same_count taken.stands bytes homes
       (λ q at other. entries q at ∙ ap (λ b. cond (b && within page n at) None (entry s.ledger (q, at))) other) kept there home
-      (record { events = events; legal = legal; world = world; ledger = refl; free = subst (λ free. ChoosesAll (setting (count old)) None s.ledger events free (free_of (view new))) keeps.stands.free taken.free; rmap = subst (λ r. IsRmapNext r s.world command reply.answer (rmap_of (state_after s p now on (after_all s.ledger events) (free_of (view new)) new.anons))) (sym silent) (next-plain (rmap_of s) s.world command reply.answer _ plain (record { areas = next; anons = are_left old s keeps new.spaces new.anons stay (with_at p on s.areas) areas; homes = refl })); shows = shows })
+      (record {
+        events = events;
+        legal = legal;
+        world = world;
+        ledger = refl;
+        free = subst (λ free. ChoosesAll (setting (count old)) None s.ledger events free (free_of (view new))) keeps.stands.free taken.free;
+        rmap =
+            subst (λ r. IsRmapNext r s.world command reply.answer (rmap_of (state_after s p now on (after_all s.ledger events) (free_of (view new)) new.anons)))
+            (sym silent) (next-plain (rmap_of s) s.world command reply.answer _ plain
+            (record { areas = next; anons = are_left old s keeps new.spaces new.anons stay (with_at p on s.areas) areas; homes = refl }));
+        shows = shows;
+      })
       areas
-      (areas_changed old new s p now (set_on page n (option_map (λ (x : Page). x.prot) o) (prot_of (ranges_of old.spaces.processes p))) keeps alive spaces covered)
-      (tables_kept old new s p now (set_on page n (option_map (λ (x : Page). x.prot) o) (prot_of (ranges_of old.spaces.processes p))) keeps alive spaces covered processes)
+      (areas_changed old new s p now (set_on page n (option_map (λ (x : Page). x.prot) o) (prot_of (ranges_of old.spaces.processes p)))
+      keeps alive spaces covered)
+      (tables_kept old new s p now (set_on page n (option_map (λ (x : Page). x.prot) o) (prot_of (ranges_of old.spaces.processes p)))
+      keeps alive spaces covered processes)
 
 -- ---- what is refused
 
 -- the process lives
-lived : (k : Mem) (s : State) (p : ℕ) → Keeps k s → is_some (areas_of k.spaces.processes p) ≡ true → (rest : Option Errno) → cond (not (lives s.world p)) (Some Esrch) rest ≡ rest
+lived : (k : Mem) (s : State) (p : ℕ) → Keeps k s → is_some (areas_of k.spaces.processes p) ≡ true → (rest : Option Errno) →
+    cond (not (lives s.world p)) (Some Esrch) rest ≡ rest
 lived k s p keeps alive rest = ap (λ b. cond (not b) (Some Esrch) rest) (sym (lives_is k s keeps p) ∙ alive)
 
-pub munmap-refused : (k : Mem) (s : State) (p a len : ℕ) → Keeps k s → is_some (areas_of k.spaces.processes p) ≡ true → (not (is_on_page a) || len == 0 || nat_lt top (a + len)) ≡ true → refusal (tests (setting (count k)) s.world s.ledger (Munmap p a len)) ≡ Some Einval
-munmap-refused k s p a len keeps alive none = lived k s p keeps alive (cond (not (is_on_page a) || len == 0 || nat_lt top (a + len)) (Some Einval) None) ∙ ap (λ b. cond b (Some Einval) None) none
+pub munmap-refused : (k : Mem) (s : State) (p a len : ℕ) → Keeps k s → is_some (areas_of k.spaces.processes p) ≡ true →
+    (not (is_on_page a) || len == 0 || nat_lt top (a + len)) ≡ true → refusal (tests (setting (count k)) s.world s.ledger (Munmap p a len)) ≡ Some Einval
+munmap-refused k s p a len keeps alive none = lived k s p keeps alive (cond (not (is_on_page a) || len == 0 || nat_lt top (a + len)) (Some Einval) None)
+    ∙ ap (λ b. cond b (Some Einval) None) none
 
-pub mprotect-refused : (k : Mem) (s : State) (p a len : ℕ) (prot : Prot) (error : Errno) → Keeps k s → is_some (areas_of k.spaces.processes p) ≡ true → refusal (protect_tests a len) ≡ Some error → refusal (tests (setting (count k)) s.world s.ledger (Mprotect p a len prot)) ≡ Some error
+pub mprotect-refused : (k : Mem) (s : State) (p a len : ℕ) (prot : Prot) (error : Errno) → Keeps k s → is_some (areas_of k.spaces.processes p) ≡ true →
+    refusal (protect_tests a len) ≡ Some error → refusal (tests (setting (count k)) s.world s.ledger (Mprotect p a len prot)) ≡ Some error
 mprotect-refused k s p a len prot error keeps alive is = lived k s p keeps alive (refusal (protect_tests a len)) ∙ is
 
 module _ (k : Mem) (s : State) (p len : ℕ) (prot : Prot) (place : Place) (keeps : Keeps k s) (alive : is_some (areas_of k.spaces.processes p) ≡ true) where
   pub mmap-tests-first : (len == 0) ≡ true → refusal (tests (setting (count k)) s.world s.ledger (Mmap p len prot place)) ≡ Some Einval
-  mmap-tests-first none = lived k s p keeps alive _ ∙ ap (λ b. cond b (Some Einval) (cond (is_too_long len) (Some Enomem) (refusal (place_tests (pages s.world p) (pages_of len) place)))) none
+  mmap-tests-first none = lived k s p keeps alive _ ∙ ap (λ b. cond b (Some Einval)
+      (cond (is_too_long len) (Some Enomem) (refusal (place_tests (pages s.world p) (pages_of len) place)))) none
 
-  pub mmap-tests-second : (len == 0) ≡ false → is_too_long len ≡ true → refusal (tests (setting (count k)) s.world s.ledger (Mmap p len prot place)) ≡ Some Enomem
-  mmap-tests-second some long = lived k s p keeps alive _ ∙ ap (λ b. cond b (Some Einval) (cond (is_too_long len) (Some Enomem) (refusal (place_tests (pages s.world p) (pages_of len) place)))) some
+  pub mmap-tests-second : (len == 0) ≡ false → is_too_long len ≡ true →
+      refusal (tests (setting (count k)) s.world s.ledger (Mmap p len prot place)) ≡ Some Enomem
+  mmap-tests-second some long = lived k s p keeps alive _ ∙ ap (λ b. cond b (Some Einval)
+      (cond (is_too_long len) (Some Enomem) (refusal (place_tests (pages s.world p) (pages_of len) place)))) some
       ∙ ap (λ b. cond b (Some Enomem) (refusal (place_tests (pages s.world p) (pages_of len) place))) long
 
 -- ---- munmap
 
-module _ (old new : Mem) (s : State) (p a len : ℕ) (keeps : Keeps old s) (alive : is_some (ranges_of old.spaces.processes p) ≡ true) (valid : (not (is_on_page a) || len == 0 || nat_lt top (a + len)) ≡ false)
-    (same_count : count new ≡ count old) (cleared : AreCleared old new p (page_of a) (pages_of len) (after_unmap (page_of a) (page_of a + pages_of len) (areas_on old.spaces.processes p)) s.ledger (zaps_of s.ledger (keys_in s.ledger p (page_of a) (pages_of len)))) where
+module _ (old new : Mem) (s : State) (p a len : ℕ) (keeps : Keeps old s) (alive : is_some (ranges_of old.spaces.processes p) ≡ true)
+    (valid : (not (is_on_page a) || len == 0 || nat_lt top (a + len)) ≡ false)
+    (same_count : count new ≡ count old) (unmapped : AreUnmapped old new p (page_of a) (pages_of len)
+    (after_unmap (page_of a) (page_of a + pages_of len) (areas_on old.spaces.processes p)) s.ledger
+    (zaps_of s.ledger (keys_in s.ledger p (page_of a) (pages_of len)))) where
   munmap-allowed : refusal (tests (setting (count old)) s.world s.ledger (Munmap p a len)) ≡ None
-  munmap-allowed = ap (λ b. cond (not b) (Some Esrch) (cond (not (is_on_page a) || len == 0 || nat_lt top (a + len)) (Some Einval) None)) (sym (lives_is old s keeps p) ∙ sym (alive_is old.spaces.processes p) ∙ alive) ∙ ap (λ b. cond b (Some Einval) None) valid
+  munmap-allowed = ap (λ b. cond (not b) (Some Esrch) (cond (not (is_on_page a) || len == 0 || nat_lt top (a + len)) (Some Einval) None))
+      (sym (lives_is old s keeps p) ∙ sym (alive_is old.spaces.processes p) ∙ alive) ∙ ap (λ b. cond b (Some Einval) None) valid
 
   pub munmap-steps : MemSteps old new s (Munmap p a len) (answer_only Done)
   munmap-steps =
       let events = zaps_of s.ledger (keys_in s.ledger p (page_of a) (pages_of len)) in
-      replaced-steps old new s (Munmap p a len) (answer_only Done) p (page_of a) (pages_of len) None (after_unmap (page_of a) (page_of a + pages_of len) (s.areas p)) events keeps alive same_count cleared.taken (λ q at. entry-range s.ledger p (page_of a) (pages_of len) q at) tt cleared.spaces
-      (areas_so old new s p (after_unmap (page_of a) (page_of a + pages_of len)) keeps cleared.areas) cleared.anons cleared.processes cleared.bytes cleared.homes cleared.stay
+      replaced-steps old new s (Munmap p a len) (answer_only Done) p (page_of a) (pages_of len) None
+      (after_unmap (page_of a) (page_of a + pages_of len) (s.areas p)) events keeps alive same_count unmapped.taken
+      (λ q at. entry-range s.ledger p (page_of a) (pages_of len) q at) tt unmapped.spaces
+      (areas_so old new s p (after_unmap (page_of a) (page_of a + pages_of len)) keeps unmapped.areas) unmapped.anons unmapped.processes
+      unmapped.bytes unmapped.homes unmapped.stay
       (rmap_after_all-zaps s.ledger (keys_in s.ledger p (page_of a) (pages_of len)) s.ledger (rmap_of s))
       refl
       (record {
-        answer = subst (λ o. MatchOption o (Follows (setting (count old)) s.world s.ledger (Munmap p a len) events Done []) (λ e. Refuses e events Done [])) (sym munmap-allowed) (refl, refl, refl);
-        notes = sym cleared.taken.notes;
+        answer = subst (λ o. MatchOption o (Follows (setting (count old)) s.world s.ledger (Munmap p a len) events Done []) (λ e. Refuses e events Done []))
+            (sym munmap-allowed) (refl, refl, refl);
+        notes = sym unmapped.taken.notes;
       })
       refl refl tt
 
 -- ---- mmap
 
-module _ (old : Mem) (s : State) (p len : ℕ) (prot : Prot) (place : Place) (keeps : Keeps old s) (alive : is_some (ranges_of old.spaces.processes p) ≡ true) (some : (len == 0) ≡ false) (fits : is_too_long len ≡ false) where
+module _ (old : Mem) (s : State) (p len : ℕ) (prot : Prot) (place : Place) (keeps : Keeps old s) (alive : is_some (ranges_of old.spaces.processes p) ≡ true)
+    (some : (len == 0) ≡ false) (fits : is_too_long len ≡ false) where
   -- the tests of its place are left
   mmap-tests : refusal (tests (setting (count old)) s.world s.ledger (Mmap p len prot place)) ≡ refusal (place_tests (pages s.world p) (pages_of len) place)
-  mmap-tests = ap (λ b. cond (not b) (Some Esrch) (cond (len == 0) (Some Einval) (cond (is_too_long len) (Some Enomem) (refusal (place_tests (pages s.world p) (pages_of len) place))))) (sym (lives_is old s keeps p) ∙ sym (alive_is old.spaces.processes p) ∙ alive)
-      ∙ ap (λ b. cond b (Some Einval) (cond (is_too_long len) (Some Enomem) (refusal (place_tests (pages s.world p) (pages_of len) place)))) some ∙ ap (λ b. cond b (Some Enomem) (refusal (place_tests (pages s.world p) (pages_of len) place))) fits
+  mmap-tests = ap (λ b. cond (not b) (Some Esrch) (cond (len == 0) (Some Einval)
+      (cond (is_too_long len) (Some Enomem) (refusal (place_tests (pages s.world p) (pages_of len) place)))))
+      (sym (lives_is old s keeps p) ∙ sym (alive_is old.spaces.processes p) ∙ alive)
+      ∙ ap (λ b. cond b (Some Einval) (cond (is_too_long len) (Some Enomem) (refusal (place_tests (pages s.world p) (pages_of len) place)))) some
+      ∙ ap (λ b. cond b (Some Enomem) (refusal (place_tests (pages s.world p) (pages_of len) place))) fits
 
   -- the pages go nowhere
-  pub mmap-refused : (error : Errno) → IsPlaced (pages s.world p) (pages_of len) place (Err error) → MemSteps old old s (Mmap p len prot place) (answer_only (Refused error))
+  pub mmap-refused : (error : Errno) → IsPlaced (pages s.world p) (pages_of len) place (Err error) →
+      MemSteps old old s (Mmap p len prot place) (answer_only (Refused error))
   mmap-refused error (inl is) = refused old s (Mmap p len prot place) error keeps (mmap-tests ∙ is)
   mmap-refused error (inr h) = record {
     next = s;
     step = record {
       events = [];
       legal = record {
-        answer = subst (λ o. MatchOption o (Follows (setting (count old)) s.world s.ledger (Mmap p len prot place) [] (Refused error) []) (λ e. Refuses e [] (Refused error) [])) (sym (mmap-tests ∙ h.0))
-            (None, h.1, ap Refused h.2, sym (none_cleared_for place h.1), refl);
+        answer = subst (λ o. MatchOption o (Follows (setting (count old)) s.world s.ledger (Mmap p len prot place) [] (Refused error) [])
+            (λ e. Refuses e [] (Refused error) [])) (sym (mmap-tests ∙ h.0))
+            (None, h.1, ap Refused h.2, sym (none_unmapped_for place h.1), refl);
         notes = refl;
       };
       world = refl;
@@ -329,14 +386,15 @@ module _ (old : Mem) (s : State) (p len : ℕ) (prot : Prot) (place : Place) (ke
     keeps = keeps;
   }
     where
-      none_cleared_for : (x : Place) → Goes (pages s.world p) (pages_of len) x None → zaps_for_place s.ledger p (pages_of len) x ≡ []
-      none_cleared_for Auto goes = refl
-      none_cleared_for (At a) goes = refl
-      none_cleared_for (Fixed a) goes = cc
-      none_cleared_for (NoReplace a) goes = cc
+      none_unmapped_for : (x : Place) → Goes (pages s.world p) (pages_of len) x None → zaps_for_place s.ledger p (pages_of len) x ≡ []
+      none_unmapped_for Auto goes = refl
+      none_unmapped_for (At a) goes = refl
+      none_unmapped_for (Fixed a) goes = cc
+      none_unmapped_for (NoReplace a) goes = cc
 
   -- pages that are not mapped have no entries
-  nothing_mapped : (page n q at : ℕ) → IsFree (is_taken old.spaces.processes p) page (page + n) → entry s.ledger (q, at) ≡ cond (q == p && within page n at) None (entry s.ledger (q, at))
+  nothing_mapped : (page n q at : ℕ) → IsFree (is_taken old.spaces.processes p) page (page + n) →
+      entry s.ledger (q, at) ≡ cond (q == p && within page n at) None (entry s.ledger (q, at))
   nothing_mapped page n q at free = by (q == p) (within page n at) refl refl (entry s.ledger (q, at)) refl
     where
       by : (b c : Bool) → (q == p) ≡ b → within page n at ≡ c → (o : Option Entry) → entry s.ledger (q, at) ≡ o → o ≡ cond (b && c) None o
@@ -349,49 +407,70 @@ module _ (old : Mem) (s : State) (p len : ℕ) (prot : Prot) (place : Place) (ke
           let high : at < page + n = grind (arith, nat_tests, f) in
           absurd (false≢true (sym (free at low high) ∙ taken_is old s p keeps at ∙ there))
 
-  -- what is cleared are the entries of the pages
-  entry-cleared : (x : Place) (page n q at : ℕ) → AreToClear (is_taken old.spaces.processes p) page n x → entry (after_all s.ledger (zaps_for_place s.ledger p n x)) (q, at) ≡ cond (q == p && within page n at) None (entry s.ledger (q, at))
-  entry-cleared Auto page n q at free = nothing_mapped page n q at free
-  entry-cleared (At a) page n q at free = nothing_mapped page n q at free
-  entry-cleared (Fixed a) page n q at there = entry-range s.ledger p (page_of a) n q at ∙ ap (λ x. cond (q == p && within x n at) None (entry s.ledger (q, at))) (sym there)
-  entry-cleared (NoReplace a) page n q at free = nothing_mapped page n q at free
+  -- what is unmapped are the entries of the pages
+  entry-unmapped : (x : Place) (page n q at : ℕ) → AreToUnmap (is_taken old.spaces.processes p) page n x →
+      entry (after_all s.ledger (zaps_for_place s.ledger p n x)) (q, at) ≡ cond (q == p && within page n at) None (entry s.ledger (q, at))
+  entry-unmapped Auto page n q at free = nothing_mapped page n q at free
+  entry-unmapped (At a) page n q at free = nothing_mapped page n q at free
+  entry-unmapped (Fixed a) page n q at there = entry-range s.ledger p (page_of a) n q at
+      ∙ ap (λ x. cond (q == p && within x n at) None (entry s.ledger (q, at))) (sym there)
+  entry-unmapped (NoReplace a) page n q at free = nothing_mapped page n q at free
 
-  module _ (mid : Mem) (spaces : AllSpaces) (anons : AnonSet) (page : ℕ) (placed : IsPlaced (pages s.world p) (pages_of len) place (Ok page)) (clear : AreToClear (is_taken old.spaces.processes p) page (pages_of len) place)
-      (same_count : count mid ≡ count old) (cleared : AreCleared old mid p page (pages_of len) (with_room (pages_of len) place (areas_on old.spaces.processes p)) s.ledger (zaps_for_place s.ledger p (pages_of len) place))
-      (given : HasProts mid.spaces.processes spaces.processes p (set_on page (pages_of len) (Some prot) (prot_of (ranges_of mid.spaces.processes p)))) (areas : HasAreas mid.spaces.processes spaces.processes p (after_map (lengths mid.spaces.areas mid.anons) p page (page + pages_of len) prot (areas_on mid.spaces.processes p)))
+  module _ (mid : Mem) (spaces : AllSpaces) (anons : AnonSet) (page : ℕ) (placed : IsPlaced (pages s.world p) (pages_of len) place (Ok page))
+      (clear : AreToUnmap (is_taken old.spaces.processes p) page (pages_of len) place)
+      (same_count : count mid ≡ count old) (unmapped : AreUnmapped old mid p page (pages_of len)
+      (with_room (pages_of len) place (areas_on old.spaces.processes p)) s.ledger (zaps_for_place s.ledger p (pages_of len) place))
+      (given : HasProts mid.spaces.processes spaces.processes p (set_on page (pages_of len) (Some prot) (prot_of (ranges_of mid.spaces.processes p))))
+      (areas : HasAreas mid.spaces.processes spaces.processes p (after_map (lengths mid.spaces.areas mid.anons) p page (page + pages_of len) prot
+      (areas_on mid.spaces.processes p)))
       (stay : AnonsStay mid.spaces mid.anons spaces anons) (given_homes : HomesStay mid.spaces.processes spaces.processes p page (pages_of len)) where
-    alike : (q : ℕ) → after_map (lengths mid.spaces.areas mid.anons) p page (page + pages_of len) prot (areas_on mid.spaces.processes p) q ≡ after_map (chain_length s.anons) p page (page + pages_of len) prot (areas_on mid.spaces.processes p) q
-    alike = map_alike (lengths mid.spaces.areas mid.anons) (chain_length s.anons) p page (page + pages_of len) prot (areas_on mid.spaces.processes p) refl (lengths_alike old s keeps mid.spaces mid.anons cleared.anons p)
+    alike : (q : ℕ) → after_map (lengths mid.spaces.areas mid.anons) p page (page + pages_of len) prot (areas_on mid.spaces.processes p) q ≡ after_map
+        (chain_length s.anons) p page (page + pages_of len) prot (areas_on mid.spaces.processes p) q
+    alike = map_alike (lengths mid.spaces.areas mid.anons) (chain_length s.anons) p page (page + pages_of len) prot (areas_on mid.spaces.processes p) refl
+        (lengths_alike old s keeps mid.spaces mid.anons unmapped.anons p)
 
     pub mmap-steps : MemSteps old (moved_on mid mid.tables spaces anons) s (Mmap p len prot place) (answer_only (MapAt (address_of page)))
     mmap-steps =
         let events = zaps_for_place s.ledger p (pages_of len) place in
-        let t = cleared.taken in
-        replaced-steps old (moved_on mid mid.tables spaces anons) s (Mmap p len prot place) (answer_only (MapAt (address_of page))) p page (pages_of len) (Some (zeros prot)) (after_map (chain_length s.anons) p page (page + pages_of len) prot (with_room (pages_of len) place (s.areas p))) events keeps alive same_count
+        let t = unmapped.taken in
+        replaced-steps old (moved_on mid mid.tables spaces anons) s (Mmap p len prot place) (answer_only (MapAt (address_of page))) p page (pages_of len)
+        (Some (zeros prot)) (after_map (chain_length s.anons) p page (page + pages_of len) prot (with_room (pages_of len) place (s.areas p)))
+        events keeps alive same_count
         (record { stands = stays_orderly mid mid.tables spaces anons (after_all s.ledger events) refl t.stands; notes = t.notes; free = t.free })
-        (λ q at. entry-cleared place page (pages_of len) q at clear) (λ i below. refl) (twice_changed old.spaces.processes mid.spaces.processes spaces.processes p page (pages_of len) None (Some prot) cleared.spaces given)
-        (areas_so old (moved_on mid mid.tables spaces anons) s p (λ on. after_map (chain_length s.anons) p page (page + pages_of len) prot (with_room (pages_of len) place on)) keeps
-        (twice_placed old.spaces.processes mid.spaces.processes spaces.processes p (after_map (chain_length s.anons) p page (page + pages_of len) prot) (with_room (pages_of len) place (areas_on old.spaces.processes p)) cleared.areas (re_areas mid.spaces.processes spaces.processes p _ _ alike areas)))
-        (stay_both old.spaces mid.spaces spaces old.anons mid.anons anons cleared.anons stay) cleared.processes cleared.bytes cleared.homes (λ at home outside is. given_homes at home outside (cleared.stay at home outside is))
+        (λ q at. entry-unmapped place page (pages_of len) q at clear) (λ i below. refl)
+        (twice_changed old.spaces.processes mid.spaces.processes spaces.processes p page (pages_of len) None (Some prot) unmapped.spaces given)
+        (areas_so old (moved_on mid mid.tables spaces anons) s p (λ on. after_map (chain_length s.anons) p page (page + pages_of len) prot
+        (with_room (pages_of len) place on)) keeps
+        (twice_placed old.spaces.processes mid.spaces.processes spaces.processes p (after_map (chain_length s.anons) p page (page + pages_of len) prot)
+        (with_room (pages_of len) place (areas_on old.spaces.processes p)) unmapped.areas (re_areas mid.spaces.processes spaces.processes p _ _ alike areas)))
+        (stay_both old.spaces mid.spaces spaces old.anons mid.anons anons unmapped.anons stay) unmapped.processes unmapped.bytes unmapped.homes
+        (λ at home outside is. given_homes at home outside (unmapped.stay at home outside is))
         (place-silent s.ledger p (pages_of len) place (rmap_of s))
         refl
         (record {
-          answer = subst (λ o. MatchOption o (Follows (setting (count old)) s.world s.ledger (Mmap p len prot place) events (MapAt (address_of page)) []) (λ e. Refuses e events (MapAt (address_of page)) [])) (sym (mmap-tests ∙ placed.0))
+          answer = subst (λ o. MatchOption o (Follows (setting (count old)) s.world s.ledger (Mmap p len prot place) events (MapAt (address_of page)) [])
+              (λ e. Refuses e events (MapAt (address_of page)) [])) (sym (mmap-tests ∙ placed.0))
               (Some page, placed.1, refl, refl, refl);
           notes = sym t.notes;
         })
         (ap (λ x. set_process s.world p (with_pages (pages s.world p) x (pages_of len) (λ _. Some (zeros prot)))) (sym (page_back page)))
-        (ap (λ x. with_at p (after_map (chain_length s.anons) p x (x + pages_of len) prot (with_room (pages_of len) place (s.areas p))) s.areas) (sym (page_back page)))
+        (ap (λ x. with_at p (after_map (chain_length s.anons) p x (x + pages_of len) prot (with_room (pages_of len) place (s.areas p))) s.areas)
+        (sym (page_back page)))
         tt
 
 -- ---- mprotect
 
-module _ (old : Mem) (spaces : AllSpaces) (anons : AnonSet) (s : State) (p a len reached : ℕ) (prot : Prot) (keeps : Keeps old s) (alive : is_some (ranges_of old.spaces.processes p) ≡ true) (passed : refusal ((not (is_on_page a), Einval) ∷ (wraps a len, Enomem) ∷ []) ≡ None)
-    (reaches : IsReached (is_taken old.spaces.processes p) (page_of a) (page_of a + pages_of len) reached) (given : HasProts old.spaces.processes spaces.processes p (set_on (page_of a) (reached - page_of a) (Some prot) (prot_of (ranges_of old.spaces.processes p))))
-    (areas : HasAreas old.spaces.processes spaces.processes p (pages_changed (lengths old.spaces.areas old.anons) (to_prot prot) (page_of a) (reached - page_of a) (areas_on old.spaces.processes p)))
+module _ (old : Mem) (spaces : AllSpaces) (anons : AnonSet) (s : State) (p a len reached : ℕ) (prot : Prot) (keeps : Keeps old s)
+    (alive : is_some (ranges_of old.spaces.processes p) ≡ true) (passed : refusal ((not (is_on_page a), Einval) ∷ (wraps a len, Enomem) ∷ []) ≡ None)
+    (reaches : IsReached (is_taken old.spaces.processes p) (page_of a) (page_of a + pages_of len) reached)
+    (given : HasProts old.spaces.processes spaces.processes p (set_on (page_of a) (reached - page_of a) (Some prot)
+    (prot_of (ranges_of old.spaces.processes p))))
+    (areas : HasAreas old.spaces.processes spaces.processes p (pages_changed (lengths old.spaces.areas old.anons) (to_prot prot) (page_of a)
+    (reached - page_of a) (areas_on old.spaces.processes p)))
     (stay : AnonsStay old.spaces old.anons spaces anons) (homes : KeepsHomes (areas_on old.spaces.processes p) (areas_on spaces.processes p)) where
   mprotect-allowed : refusal (tests (setting (count old)) s.world s.ledger (Mprotect p a len prot)) ≡ None
-  mprotect-allowed = ap (λ b. cond (not b) (Some Esrch) (refusal ((not (is_on_page a), Einval) ∷ (wraps a len, Enomem) ∷ []))) (sym (lives_is old s keeps p) ∙ sym (alive_is old.spaces.processes p) ∙ alive) ∙ passed
+  mprotect-allowed = ap (λ b. cond (not b) (Some Esrch) (refusal ((not (is_on_page a), Einval) ∷ (wraps a len, Enomem) ∷ [])))
+      (sym (lives_is old s keeps p) ∙ sym (alive_is old.spaces.processes p) ∙ alive) ∙ passed
 
   in_reach : wraps a len ≡ false
   in_reach = by (is_on_page a) (wraps a len) passed
@@ -401,9 +480,11 @@ module _ (old : Mem) (spaces : AllSpaces) (anons : AnonSet) (s : State) (p a len
       by true true h = cc
       by true false h = refl
 
-  changed_alike : (q : ℕ) → pages_changed (lengths old.spaces.areas old.anons) (to_prot prot) (page_of a) (reached - page_of a) (areas_on old.spaces.processes p) q
+  changed_alike : (q : ℕ) → pages_changed (lengths old.spaces.areas old.anons) (to_prot prot) (page_of a) (reached - page_of a)
+      (areas_on old.spaces.processes p) q
       ≡ pages_changed (chain_length s.anons) (to_prot prot) (page_of a) (reached - page_of a) (areas_on old.spaces.processes p) q
-  changed_alike = pages_alike (lengths old.spaces.areas old.anons) (chain_length s.anons) (to_prot prot) (page_of a) (reached - page_of a) (areas_on old.spaces.processes p)
+  changed_alike = pages_alike (lengths old.spaces.areas old.anons) (chain_length s.anons) (to_prot prot) (page_of a) (reached - page_of a)
+      (areas_on old.spaces.processes p)
       (lengths_alike old s keeps old.spaces old.anons (stay_same old.spaces old.anons keeps.anons) p)
 
   -- so many pages are mapped before the first that isn't
@@ -417,28 +498,32 @@ module _ (old : Mem) (spaces : AllSpaces) (anons : AnonSet) (s : State) (p a len
   })
 
   -- the protection is that of the pages, and their bytes are as they were
-  covered-protected : (page : ℕ) → set_on (page_of a) (reached - page_of a) (Some prot) (prot_of (ranges_of old.spaces.processes p)) page ≡ option_map (λ (x : Page). x.prot) (with_prot_on (pages s.world p) (page_of a) (reached - page_of a) prot page)
+  covered-protected : (page : ℕ) → set_on (page_of a) (reached - page_of a) (Some prot) (prot_of (ranges_of old.spaces.processes p)) page ≡ option_map
+      (λ (x : Page). x.prot) (with_prot_on (pages s.world p) (page_of a) (reached - page_of a) prot page)
   covered-protected page = by (within (page_of a) (reached - page_of a) page) refl
     where
       there : (o : Option Page) → is_some o ≡ true → Some prot ≡ option_map (λ (x : Page). x.prot) (option_map (with_prot prot) o)
       there None e = cc
       there (Some x) e = refl
 
-      by : (b : Bool) → within (page_of a) (reached - page_of a) page ≡ b → cond b (Some prot) (prot_of (ranges_of old.spaces.processes p) page) ≡ option_map (λ (x : Page). x.prot) (cond b (option_map (with_prot prot) (pages s.world p page)) (pages s.world p page))
+      by : (b : Bool) → within (page_of a) (reached - page_of a) page ≡ b → cond b (Some prot) (prot_of (ranges_of old.spaces.processes p) page) ≡ option_map
+          (λ (x : Page). x.prot) (cond b (option_map (with_prot prot) (pages s.world p page)) (pages s.world p page))
       by true e =
           let low : page_of a ≤ page = grind (arith, nat_tests, e) in
           let high : page < page_of a + (reached - page_of a) = grind (arith, nat_tests, e) in
           there (pages s.world p page) (sym (taken_is old s p keeps page) ∙ reaches.all page low (let least = reaches.lowest in omega (arith, high, least)))
       by false e = keeps.stands.parts.areas.covers p page
 
-  kept-protected : (page : ℕ) → IsKept (view old) no_device s.ledger (entry s.ledger (p, page)) (with_prot_on (pages s.world p) (page_of a) (reached - page_of a) prot page)
+  kept-protected : (page : ℕ) → IsKept (view old) no_device s.ledger (entry s.ledger (p, page))
+      (with_prot_on (pages s.world p) (page_of a) (reached - page_of a) prot page)
   kept-protected page = by (within (page_of a) (reached - page_of a) page)
     where
       held : (o : Option Page) (at : ℕ → ℕ) → Holds o at → Holds (option_map (with_prot prot) o) at
       held None at h = h
       held (Some x) at h = h
 
-      kept : (e : Option Entry) (o : Option Page) → IsKept (view old) no_device s.ledger e o → IsKept (view old) no_device s.ledger e (option_map (with_prot prot) o)
+      kept : (e : Option Entry) (o : Option Page) → IsKept (view old) no_device s.ledger e o →
+          IsKept (view old) no_device s.ledger e (option_map (with_prot prot) o)
       kept None o h = held o (λ _. 0) h
       kept (Some Zero) o h = held o (λ _. 0) h
       kept (Some (InFrame f seen)) o h = held o ((view old).bytes f) h
@@ -448,66 +533,85 @@ module _ (old : Mem) (spaces : AllSpaces) (anons : AnonSet) (s : State) (p a len
           at None h = held o (slice_index []) h
           at (Some f) h = held o ((view old).bytes f) h
 
-      by : (b : Bool) → IsKept (view old) no_device s.ledger (entry s.ledger (p, page)) (cond b (option_map (with_prot prot) (pages s.world p page)) (pages s.world p page))
+      by : (b : Bool) → IsKept (view old) no_device s.ledger (entry s.ledger (p, page))
+          (cond b (option_map (with_prot prot) (pages s.world p page)) (pages s.world p page))
       by true = kept (entry s.ledger (p, page)) (pages s.world p page) (keeps.stands.parts.bytes.kept p page)
       by false = keeps.stands.parts.bytes.kept p page
 
-  home_protected : (page : ℕ) (home : ℕ × ℕ) → home_of page (s.areas p page) ≡ Some home → home_of page (pages_changed (chain_length s.anons) (to_prot prot) (page_of a) (reached - page_of a) (s.areas p) page) ≡ Some home
+  home_protected : (page : ℕ) (home : ℕ × ℕ) → home_of page (s.areas p page) ≡ Some home →
+      home_of page (pages_changed (chain_length s.anons) (to_prot prot) (page_of a) (reached - page_of a) (s.areas p) page) ≡ Some home
   home_protected page home is = sym (ap (home_of page) (now_there page)) ∙ homes page home (ap (home_of page) (keeps.stands.areas p page) ∙ is)
     where
       itself : (p : ℕ) → (p == p) ≡ true
       itself p = grind (arith, nat_tests)
 
-      now_there : (page : ℕ) → areas_on spaces.processes p page ≡ pages_changed (chain_length s.anons) (to_prot prot) (page_of a) (reached - page_of a) (s.areas p) page
+      now_there : (page : ℕ) → areas_on spaces.processes p page ≡ pages_changed (chain_length s.anons) (to_prot prot) (page_of a)
+          (reached - page_of a) (s.areas p) page
       now_there page =
-          areas p page ∙ ap (λ b. (cond b (pages_changed (lengths old.spaces.areas old.anons) (to_prot prot) (page_of a) (reached - page_of a) (areas_on old.spaces.processes p)) (areas_on old.spaces.processes p)) page) (itself p)
-          ∙ changed_alike page ∙ (λ i. pages_changed (chain_length s.anons) (to_prot prot) (page_of a) (reached - page_of a) (λ o. keeps.stands.areas p o i) page)
+          areas p page ∙ ap (λ b. (cond b (pages_changed (lengths old.spaces.areas old.anons) (to_prot prot) (page_of a) (reached - page_of a)
+          (areas_on old.spaces.processes p)) (areas_on old.spaces.processes p)) page) (itself p)
+          ∙ changed_alike page ∙ (λ i. pages_changed (chain_length s.anons) (to_prot prot) (page_of a) (reached - page_of a)
+          (λ o. keeps.stands.areas p o i) page)
 
   protected-steps : (answer : Answer) → answer ≡ (cond (pages_to_hole (pages s.world p) (page_of a) (pages_of len) == pages_of len) Done (Refused Enomem))
-      → set_process s.world p (with_prot_on (pages s.world p) (page_of a) (reached - page_of a) prot) ≡ next_world (setting (count old)) s.world s.ledger [] (Mprotect p a len prot) answer
-      → with_at p (pages_changed (chain_length s.anons) (to_prot prot) (page_of a) (reached - page_of a) (s.areas p)) s.areas ≡ next_areas (chain_length s.anons) s.areas s.world (Mprotect p a len prot) answer
+      → set_process s.world p (with_prot_on (pages s.world p) (page_of a) (reached - page_of a) prot) ≡ next_world (setting (count old)) s.world s.ledger []
+      (Mprotect p a len prot) answer
+      → with_at p (pages_changed (chain_length s.anons) (to_prot prot) (page_of a) (reached - page_of a) (s.areas p)) s.areas ≡ next_areas
+      (chain_length s.anons) s.areas s.world (Mprotect p a len prot) answer
       → MemSteps old (moved_on old old.tables spaces anons) s (Mprotect p a len prot) (answer_only answer)
   protected-steps answer is world next =
       let now : Process = with_prot_on (pages s.world p) (page_of a) (reached - page_of a) prot in
       let new = moved_on old old.tables spaces anons in
-      let now_on = areas_so old new s p (pages_changed (chain_length s.anons) (to_prot prot) (page_of a) (reached - page_of a)) keeps (re_areas old.spaces.processes spaces.processes p _ _ changed_alike areas) in
-      changed old new s (Mprotect p a len prot) (answer_only answer) p now (pages_changed (chain_length s.anons) (to_prot prot) (page_of a) (reached - page_of a) (s.areas p)) s.ledger keeps stay refl (stays_orderly old old.tables spaces anons s.ledger refl (orderly old s keeps)) refl refl (λ q page other. refl) kept-protected (λ page f names. names) (λ page f home names is. home_protected page home is)
+      let now_on = areas_so old new s p (pages_changed (chain_length s.anons) (to_prot prot) (page_of a) (reached - page_of a)) keeps
+      (re_areas old.spaces.processes spaces.processes p _ _ changed_alike areas) in
+      changed old new s (Mprotect p a len prot) (answer_only answer) p now
+      (pages_changed (chain_length s.anons) (to_prot prot) (page_of a) (reached - page_of a) (s.areas p)) s.ledger keeps stay refl
+      (stays_orderly old old.tables spaces anons s.ledger refl (orderly old s keeps)) refl refl (λ q page other. refl) kept-protected (λ page f names. names)
+      (λ page f home names is. home_protected page home is)
       (record {
         events = [];
         legal = record {
-          answer = subst (λ o. MatchOption o (Follows (setting (count old)) s.world s.ledger (Mprotect p a len prot) [] answer []) (λ e. Refuses e [] answer [])) (sym mprotect-allowed) (is, refl, refl);
+          answer = subst (λ o. MatchOption o (Follows (setting (count old)) s.world s.ledger (Mprotect p a len prot) [] answer [])
+              (λ e. Refuses e [] answer [])) (sym mprotect-allowed) (is, refl, refl);
           notes = refl;
         };
         world = world;
         ledger = refl;
         free = keeps.stands.free;
-        rmap = next-plain (rmap_of s) s.world (Mprotect p a len prot) answer _ refl (record { areas = next; anons = are_left old s keeps spaces anons stay _ now_on; homes = refl });
+        rmap = next-plain (rmap_of s) s.world (Mprotect p a len prot) answer _ refl
+            (record { areas = next; anons = are_left old s keeps spaces anons stay _ now_on; homes = refl });
         shows = tt;
       })
       now_on
-      (areas_changed old new s p now (set_on (page_of a) (reached - page_of a) (Some prot) (prot_of (ranges_of old.spaces.processes p))) keeps alive given covered-protected)
-      (tables_kept old new s p now (set_on (page_of a) (reached - page_of a) (Some prot) (prot_of (ranges_of old.spaces.processes p))) keeps alive given covered-protected refl)
+      (areas_changed old new s p now (set_on (page_of a) (reached - page_of a) (Some prot) (prot_of (ranges_of old.spaces.processes p)))
+      keeps alive given covered-protected)
+      (tables_kept old new s p now (set_on (page_of a) (reached - page_of a) (Some prot) (prot_of (ranges_of old.spaces.processes p))) keeps
+      alive given covered-protected refl)
 
   -- all pages were mapped
   pub mprotect-steps : page_of a + pages_of len ≤ reached → MemSteps old (moved_on old old.tables spaces anons) s (Mprotect p a len prot) (answer_only Done)
   mprotect-steps whole =
       let high = reaches.highest in
       let size : reached - page_of a ≡ pages_of len = omega (arith, whole, high) in
-      protected-steps Done (sym (ap (λ b. cond b Done (Refused Enomem)) (equal _ _ (leads ∙ size)))) (ap (λ k. set_process s.world p (with_prot_on (pages s.world p) (page_of a) k prot)) size)
+      protected-steps Done (sym (ap (λ b. cond b Done (Refused Enomem)) (equal _ _ (leads ∙ size))))
+      (ap (λ k. set_process s.world p (with_prot_on (pages s.world p) (page_of a) k prot)) size)
       (ap (λ k. with_at p (pages_changed (chain_length s.anons) (to_prot prot) (page_of a) k (s.areas p)) s.areas) (sym leads))
     where
       equal : (k n : ℕ) → k ≡ n → (k == n) ≡ true
       equal k n e = grind (arith, nat_tests, e)
 
   -- a page before the end was not
-  pub mprotect-stops : reached < page_of a + pages_of len → MemSteps old (moved_on old old.tables spaces anons) s (Mprotect p a len prot) (answer_only (Refused Enomem))
+  pub mprotect-stops : reached < page_of a + pages_of len → MemSteps old (moved_on old old.tables spaces anons) s (Mprotect p a len prot)
+      (answer_only (Refused Enomem))
   mprotect-stops less =
       let low = reaches.lowest in
       let fewer : reached - page_of a < pages_of len = omega (arith, less, low) in
       protected-steps (Refused Enomem) (sym (ap (λ b. cond b Done (Refused Enomem)) (differ _ _ _ leads fewer)))
-      (ap (λ k. set_process s.world p (with_prot_on (pages s.world p) (page_of a) k prot)) (sym leads) ∙ sym (ap (λ b. cond b s.world (with_prot_to_hole s.world p (page_of a) (pages_of len) prot)) in_reach))
+      (ap (λ k. set_process s.world p (with_prot_on (pages s.world p) (page_of a) k prot)) (sym leads)
+      ∙ sym (ap (λ b. cond b s.world (with_prot_to_hole s.world p (page_of a) (pages_of len) prot)) in_reach))
       (ap (λ k. with_at p (pages_changed (chain_length s.anons) (to_prot prot) (page_of a) k (s.areas p)) s.areas) (sym leads)
-      ∙ sym (ap (λ b. cond b s.areas (with_at p (areas_to_hole (chain_length s.anons) s.world p (page_of a) (pages_of len) prot (s.areas p)) s.areas)) in_reach))
+      ∙ sym (ap (λ b. cond b s.areas (with_at p (areas_to_hole (chain_length s.anons) s.world p (page_of a) (pages_of len) prot (s.areas p)) s.areas))
+      in_reach))
     where
       differ : (k m n : ℕ) → k ≡ m → m < n → (k == n) ≡ false
       differ k m n e h = grind (arith, nat_tests, e, h)

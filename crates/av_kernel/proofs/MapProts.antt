@@ -52,7 +52,8 @@ prots_cut : (on : Pages) (from n : ℕ) (new : Pages) → AreLaid on
     → (page : ℕ) → prots_on new page ≡ set_on from n None (prots_on on) page
 prots_cut on from n new laid is page =
     prots_mapped new page
-    ∙ ap (option_map prot_mapped) (ap (option_map (mapping_in page)) (is page) ∙ cut_out_maps from (from + n) on laid page ∙ ap (λ k. cond (within from k page) None (mapping on page)) (many from n))
+    ∙ ap (option_map prot_mapped) (ap (option_map (mapping_in page)) (is page) ∙ cut_out_maps from (from + n) on laid page
+    ∙ ap (λ k. cond (within from k page) None (mapping on page)) (many from n))
     ∙ elim (within from n page) as (λ b. option_map prot_mapped (cond b None (mapping on page)) ≡ cond b None (prots_on on page)) [
       | true ↦ refl
       | false ↦ sym (prots_mapped on page)
@@ -72,7 +73,8 @@ prots_protected on from to past prot new reached is page =
     upper : (from past page : ℕ) → within from (past - from) page ≡ true → page < past
     upper from past page h = grind (arith, nat_tests)
 
-    there : (o : Option Area) → is_some o ≡ true → option_map prot_mapped (option_map (mapping_with (to_prot prot)) (option_map (mapping_in page) o)) ≡ Some prot
+    there : (o : Option Area) → is_some o ≡ true → option_map prot_mapped
+        (option_map (mapping_with (to_prot prot)) (option_map (mapping_in page) o)) ≡ Some prot
     there None h = absurd (false≢true h)
     there (Some area) h = refl
 
@@ -95,7 +97,8 @@ prots_placed len p on from n prot new laid some low high free is page =
     ∙ placed_maps fresh on page
     ∙ ap (λ b. cond b (Some (mapping_in page fresh)) (mapping on page)) (fresh_has p from (from + n) prot page ∙ ap (λ k. within from k page) (many from n))
     )
-    ∙ elim (within from n page) as (λ b. option_map prot_mapped (cond b (Some (mapping_in page fresh)) (mapping on page)) ≡ cond b (Some prot) (prots_on on page)) [
+    ∙ elim (within from n page) as (λ b. option_map prot_mapped (cond b (Some (mapping_in page fresh)) (mapping on page)) ≡ cond b
+    (Some prot) (prots_on on page)) [
       | true ↦ refl
       | false ↦ sym (prots_mapped on page)
     ]
@@ -108,7 +111,8 @@ prots_placed len p on from n prot new laid some low high free is page =
 
 -- ---- what the spaces promise, as protections
 
-has_prots : (s t : Spaces) (p : ℕ) (IsSo : Pages → Type 0) (prots : ℕ → Option Prot) → IsChanged s t p IsSo → ((page : ℕ) → prots_on (pages_of t p) page ≡ prots page) → HasProts s t p prots
+has_prots : (s t : Spaces) (p : ℕ) (IsSo : Pages → Type 0) (prots : ℕ → Option Prot) → IsChanged s t p IsSo →
+    ((page : ℕ) → prots_on (pages_of t p) page ≡ prots page) → HasProts s t p prots
 has_prots s t p IsSo prots h is = record {
   others = λ q other. ap (option_map (map range_of)) (h.others q other);
   alive = alive_is t p ∙ h.alive;
@@ -125,38 +129,49 @@ has_areas s t p on h q page = by (q == p) refl
     by true e = ap (λ n. pages_of t n page) (is_number q p e) ∙ h.pages page
     by false e = ap (λ a. pages_in a page) (h.others q (other_number q p e))
 
-as_ranges : (s : Spaces) (p from n page : ℕ) (prot : Option Prot) → set_on from n prot (prots_on (pages_of s p)) page ≡ set_on from n prot (prot_of (ranges_of s p)) page
+as_ranges : (s : Spaces) (p from n page : ℕ) (prot : Option Prot) →
+    set_on from n prot (prots_on (pages_of s p)) page ≡ set_on from n prot (prot_of (ranges_of s p)) page
 as_ranges s p from n page prot = ap (cond (within from n page) prot) (sym (prots_are s p page))
 
-pub unmapped-prots : (s t : Spaces) (p from n : ℕ) → IsChanged s t p (AreThese (after_unmap from (from + n) (pages_of s p))) → HasProts s t p (set_on from n None (prot_of (ranges_of s p)))
+pub unmapped-prots : (s t : Spaces) (p from n : ℕ) → IsChanged s t p (AreThese (after_unmap from (from + n) (pages_of s p))) →
+    HasProts s t p (set_on from n None (prot_of (ranges_of s p)))
 unmapped-prots s t p from n h = has_prots s t p (AreThese (after_unmap from (from + n) (pages_of s p))) (set_on from n None (prot_of (ranges_of s p))) h
     (λ page. prots_cut (pages_of s p) from n (pages_of t p) (laid s p h.were_rising) h.pages page ∙ as_ranges s p from n page None)
 
-pub mapped-prots : (len : Lengths) (s t : Spaces) (p from n : ℕ) (prot : Prot) → 1 ≤ n → low_page ≤ from → from + n ≤ top_page → IsFree (is_taken s p) from (from + n)
+pub mapped-prots : (len : Lengths) (s t : Spaces) (p from n : ℕ) (prot : Prot) → 1 ≤ n → low_page ≤ from → from + n ≤ top_page →
+    IsFree (is_taken s p) from (from + n)
     → IsChanged s t p (AreThese (after_map len p from (from + n) prot (pages_of s p))) → HasProts s t p (set_on from n (Some prot) (prot_of (ranges_of s p)))
-mapped-prots len s t p from n prot some low high free h = has_prots s t p (AreThese (after_map len p from (from + n) prot (pages_of s p))) (set_on from n (Some prot) (prot_of (ranges_of s p))) h
-    (λ page. prots_placed len p (pages_of s p) from n prot (pages_of t p) (laid s p h.were_rising) some low high free h.pages page ∙ as_ranges s p from n page (Some prot))
+mapped-prots len s t p from n prot some low high free h = has_prots s t p (AreThese (after_map len p from (from + n) prot (pages_of s p)))
+    (set_on from n (Some prot) (prot_of (ranges_of s p))) h
+    (λ page. prots_placed len p (pages_of s p) from n prot (pages_of t p) (laid s p h.were_rising) some low high free h.pages page
+    ∙ as_ranges s p from n page (Some prot))
 
-pub protected-prots : (len : Lengths) (s t : Spaces) (p from to past : ℕ) (prot : Prot) → IsReached (is_taken s p) from to past → IsChanged s t p (AreThese (pages_changed len (to_prot prot) from (past - from) (pages_of s p))) → IsRemapped from past (to_prot prot) (pages_of s p) (pages_of t p)
+pub protected-prots : (len : Lengths) (s t : Spaces) (p from to past : ℕ) (prot : Prot) → IsReached (is_taken s p) from to past →
+    IsChanged s t p (AreThese (pages_changed len (to_prot prot) from (past - from) (pages_of s p))) →
+    IsRemapped from past (to_prot prot) (pages_of s p) (pages_of t p)
     → HasProts s t p (set_on from (past - from) (Some prot) (prot_of (ranges_of s p)))
-protected-prots len s t p from to past prot reached h remap = has_prots s t p (AreThese (pages_changed len (to_prot prot) from (past - from) (pages_of s p))) (set_on from (past - from) (Some prot) (prot_of (ranges_of s p))) h
+protected-prots len s t p from to past prot reached h remap = has_prots s t p (AreThese (pages_changed len (to_prot prot) from (past - from) (pages_of s p)))
+    (set_on from (past - from) (Some prot) (prot_of (ranges_of s p))) h
     (λ page. prots_protected (pages_of s p) from to past prot (pages_of t p) reached remap page ∙ as_ranges s p from (past - from) page (Some prot))
 
 -- ---- and as homes
 
 pub unmapped-homes : (s t : Spaces) (p from n : ℕ) → IsChanged s t p (AreThese (after_unmap from (from + n) (pages_of s p))) → HomesStay s t p from n
 unmapped-homes s t p from n h page home outside is =
-    ap (home_of page) (h.pages page) ∙ homes_unmapped from (from + n) (pages_of s p) (laid s p h.were_rising) page (ap (λ m. within from m page) (width from n) ∙ outside) ∙ is
+    ap (home_of page) (h.pages page) ∙ homes_unmapped from (from + n) (pages_of s p) (laid s p h.were_rising) page
+    (ap (λ m. within from m page) (width from n) ∙ outside) ∙ is
   where
     width : (from n : ℕ) → (from + n) - from ≡ n
     width from n = omega arith
 
-pub mapped-homes : (len : Lengths) (s t : Spaces) (p from n : ℕ) (prot : Prot) → 1 ≤ n → low_page ≤ from → from + n ≤ top_page → IsFree (is_taken s p) from (from + n)
+pub mapped-homes : (len : Lengths) (s t : Spaces) (p from n : ℕ) (prot : Prot) → 1 ≤ n → low_page ≤ from → from + n ≤ top_page →
+    IsFree (is_taken s p) from (from + n)
     → IsChanged s t p (AreThese (after_map len p from (from + n) prot (pages_of s p))) → HomesStay s t p from n
 mapped-homes len s t p from n prot some low high free h page home outside is =
     ap (home_of page) (h.pages page) ∙ homes_mapped len p from (from + n) prot (pages_of s p) (laid s p h.were_rising) (omega (arith, some))
     (record { lowest = low; highest = omega (arith, high); free = λ q least most. free q least (omega (arith, most)) }) page home is
 
-pub protected-homes : (len : Lengths) (s t : Spaces) (p from n : ℕ) (prot : Prot) → IsChanged s t p (AreThese (pages_changed len (to_prot prot) from n (pages_of s p))) → KeepsHomes (pages_of s p) (pages_of t p)
+pub protected-homes : (len : Lengths) (s t : Spaces) (p from n : ℕ) (prot : Prot) →
+    IsChanged s t p (AreThese (pages_changed len (to_prot prot) from n (pages_of s p))) → KeepsHomes (pages_of s p) (pages_of t p)
 protected-homes len s t p from n prot h page home is =
     ap (home_of page) (h.pages page) ∙ homes_changed len (to_prot prot) from n (pages_of s p) (laid s p h.were_rising) page home is

@@ -25,12 +25,15 @@ held_byte (Some p) at i below h = flip (p.bytes i) (h i below)
     flip (Some b) h = sym h
 
 -- a piece of the bytes that hold a page
-shown_from : (q : Process) (page at : ℕ) (bytes : ℕ → ℕ) (piece : List ℕ) → Holds (q page) bytes → at + length piece ≤ 4096 → ((j : ℕ) → j < length piece → get_or piece j 0 ≡ bytes (at + j)) → Shows q (4096 * page + at) piece
+shown_from : (q : Process) (page at : ℕ) (bytes : ℕ → ℕ) (piece : List ℕ) → Holds (q page) bytes → at + length piece ≤ 4096 →
+    ((j : ℕ) → j < length piece → get_or piece j 0 ≡ bytes (at + j)) → Shows q (4096 * page + at) piece
 shown_from q page at bytes [] h fits same = tt
 shown_from q page at bytes (b ∷ piece) h fits same = (
   subst (λ x. IfSome (byte_at q (4096 * page + at)) (λ claimed. claimed ≡ x)) (sym (same 0 (omega arith) ∙ ap bytes (from_zero at)))
-      (subst (λ o. IfSome o (λ claimed. claimed ≡ bytes at)) (λ i. option_and_then (λ (p : Page). p.bytes (sym place i)) (q (sym number i))) (held_byte (q page) bytes at (omega (arith, fits)) h)),
-  subst (λ a. Shows q a piece) (next (4096 * page) at) (shown_from q page (at + 1) bytes piece h (omega (arith, fits)) (λ j below. same (suc j) (omega (arith, below)) ∙ ap bytes (shifted at j))),
+      (subst (λ o. IfSome o (λ claimed. claimed ≡ bytes at)) (λ i. option_and_then (λ (p : Page). p.bytes (sym place i)) (q (sym number i)))
+      (held_byte (q page) bytes at (omega (arith, fits)) h)),
+  subst (λ a. Shows q a piece) (next (4096 * page) at) (shown_from q page (at + 1) bytes piece h (omega (arith, fits))
+      (λ j below. same (suc j) (omega (arith, below)) ∙ ap bytes (shifted at j))),
 )
   where
     from_zero : (n : ℕ) → n + 0 ≡ n
@@ -54,12 +57,16 @@ all_zeros (suc n) = (omega arith, all_zeros n)
 
 module _ (s : State) (new : Mem) (p page at n : ℕ) (before now : List Note) (fits : at + n ≤ 4096) where
   -- from a frame's bytes
-  pub frame_shown : (f : ℕ) (bytes shown shown' : List ℕ) → IsTouched s new false (p, page) before now (Ready f) → length bytes ≡ 4096 → ((i : ℕ) → get_or bytes i 0 ≡ (view new).bytes f i)
-      → shown' ≡ shown ++ take (at + n - at) (drop at bytes) → AllByRecursion (λ b. b < 2 ^ 8) (take (at + n - at) (drop at bytes)) → ShowsPiece s.world p page at n shown shown' None
+  pub frame_shown : (f : ℕ) (bytes shown shown' : List ℕ) → IsTouched s new false (p, page) before now (Ready f) → length bytes ≡ 4096 →
+      ((i : ℕ) → get_or bytes i 0 ≡ (view new).bytes f i)
+      → shown' ≡ shown ++ take (at + n - at) (drop at bytes) → AllByRecursion (λ b. b < 2 ^ 8) (take (at + n - at) (drop at bytes)) →
+      ShowsPiece s.world p page at n shown shown' None
   frame_shown f bytes shown shown' t long are is below =
       let l = after_all s.ledger (page_events false (p, page) t.added None) in
-      let holds : Holds (pages s.world p page) ((view new).bytes f) = subst (λ e. IsKept (view new) no_device l e (pages s.world p page)) t.ready.0 (t.parts.parts.bytes.kept p page) in
-      let size : length (take (at + n - at) (drop at bytes)) ≡ n = length-take-le (at + n - at) (drop at bytes) (enough (length (drop at bytes)) (length-drop at bytes) long) ∙ rest in (
+      let holds : Holds (pages s.world p page) ((view new).bytes f) = subst (λ e. IsKept (view new) no_device l e (pages s.world p page)) t.ready.0
+      (t.parts.parts.bytes.kept p page) in
+      let size : length (take (at + n - at) (drop at bytes)) ≡ n = length-take-le (at + n - at) (drop at bytes)
+      (enough (length (drop at bytes)) (length-drop at bytes) long) ∙ rest in (
         take (at + n - at) (drop at bytes),
         is,
         size,
@@ -75,14 +82,17 @@ module _ (s : State) (new : Mem) (p page at n : ℕ) (before now : List Note) (f
       enough k e long = omega (arith, e, long, fits)
 
   -- from the page of zeros
-  pub zeros_shown : (shown shown' : List ℕ) → IsTouched s new false (p, page) before now Zeros → shown' ≡ shown ++ replicate n 0 → ShowsPiece s.world p page at n shown shown' None
+  pub zeros_shown : (shown shown' : List ℕ) → IsTouched s new false (p, page) before now Zeros → shown' ≡ shown ++ replicate n 0 →
+      ShowsPiece s.world p page at n shown shown' None
   zeros_shown shown shown' t is =
       let l = after_all s.ledger (page_events false (p, page) t.added None) in
-      let holds : Holds (pages s.world p page) (λ _. 0) = subst (λ e. IsKept (view new) no_device l e (pages s.world p page)) t.ready.0 (t.parts.parts.bytes.kept p page) in
+      let holds : Holds (pages s.world p page) (λ _. 0) = subst (λ e. IsKept (view new) no_device l e (pages s.world p page)) t.ready.0
+      (t.parts.parts.bytes.kept p page) in
       let size : length (replicate {A = ℕ} n 0) ≡ n = length-replicate n 0 in (
         replicate n 0,
         is,
         size,
-        shown_from (pages s.world p) page at (λ _. 0) (replicate n 0) holds (omega (arith, size, fits)) (λ j below. get_or-replicate n j 0 0 (omega (arith, size, below))),
+        shown_from (pages s.world p) page at (λ _. 0) (replicate n 0) holds (omega (arith, size, fits))
+            (λ j below. get_or-replicate n j 0 0 (omega (arith, size, below))),
         all_zeros n,
       )

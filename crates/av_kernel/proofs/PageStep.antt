@@ -47,7 +47,8 @@ use Rattle.av_kernel.proofs.PageWritten.{over, written_now, stored_is}
 -- the page of a piece that ends within it
 one_page : (write : Bool) (page at n : ℕ) → 1 ≤ n → at + n ≤ 4096 → pages_of_access write (4096 * page + at) n ≡ (write, page) ∷ []
 one_page write page at n some fits =
-    ap (λ k. map (λ page. (write, page)) (numbers (page_of (4096 * page + at)) k)) (not_none ∙ one) ∙ ap (λ q. (write, q) ∷ []) (let q : (4096 * page + at) / 4096 ≡ page = omega (arith, some, fits) in q)
+    ap (λ k. map (λ page. (write, page)) (numbers (page_of (4096 * page + at)) k)) (not_none ∙ one) ∙ ap (λ q. (write, q) ∷ [])
+    (let q : (4096 * page + at) / 4096 ≡ page = omega (arith, some, fits) in q)
   where
     not_none : (if n == 0 then 0 else pages_of ((4096 * page + at) % 4096 + n)) ≡ pages_of ((4096 * page + at) % 4096 + n)
     not_none = let other : (n == 0) ≡ false = grind (arith, nat_tests) in ap (λ b. cond b 0 (pages_of ((4096 * page + at) % 4096 + n))) other
@@ -61,17 +62,20 @@ end_at page None = Whole
 end_at page (Some stop) = EndStopped page stop
 
 -- one page is a whole access
-accessed : (m : Setting) (w : World) (l : Ledger) (write : Bool) (p page : ℕ) (notes : List Note) (end : Option faults.Stop) → Touches m w l write (p, page) notes end
+accessed : (m : Setting) (w : World) (l : Ledger) (write : Bool) (p page : ℕ) (notes : List Note) (end : Option faults.Stop) →
+    Touches m w l write (p, page) notes end
     → Accesses m w l p ((write, page) ∷ []) (page_events write (p, page) notes end) (end_at page end)
 accessed m w l write p page notes None h = inl (notes, [], h, sym (append-nil (page_events write (p, page) notes None)), (refl, refl))
 accessed m w l write p page notes (Some stop) h = inr (notes, stop, h, refl, refl)
 
-pub sound_touched : (m : Setting) (w : World) (l : Ledger) (write : Bool) (p page : ℕ) (notes : List Note) (end : Option faults.Stop) → AllSound m w l → Touches m w l write (p, page) notes end
+pub sound_touched : (m : Setting) (w : World) (l : Ledger) (write : Bool) (p page : ℕ) (notes : List Note) (end : Option faults.Stop) → AllSound m w l →
+    Touches m w l write (p, page) notes end
     → AllSound m w (after_all l (page_events write (p, page) notes end))
 sound_touched m w l write p page notes end s h =
     let access = accessed m w l write p page notes end h in
     let events = page_events write (p, page) notes end in
-    let areas = accesses-in m w l p ((write, page) ∷ []) events (end_at page end) (record { sound = s.ledger; there = s.in_areas; fits = s.areas_fit }) access in
+    let areas = accesses-in m w l p ((write, page) ∷ []) events (end_at page end)
+    (record { sound = s.ledger; there = s.in_areas; fits = s.areas_fit }) access in
     record {
       world = s.world;
       ledger = accesses-kept m w l p ((write, page) ∷ []) events (end_at page end) s.ledger access;
@@ -80,15 +84,24 @@ sound_touched m w l write p page notes end s h =
       areas_fit = areas.fits;
     }
 
-sound_written : (n : ℕ) (w : World) (l : Ledger) (p page at : ℕ) (piece : List ℕ) (notes : List Note) → AllSound (setting n) w l → lives w p ≡ true → 1 ≤ length piece → at + length piece ≤ 4096
-    → Touches (setting n) w l true (p, page) notes None → AllSound (setting n) (after_write w p (4096 * page + at) piece) (after_all l (page_events true (p, page) notes None))
+sound_written : (n : ℕ) (w : World) (l : Ledger) (p page at : ℕ) (piece : List ℕ) (notes : List Note) → AllSound (setting n) w l → lives w p ≡ true →
+    1 ≤ length piece → at + length piece ≤ 4096
+    → Touches (setting n) w l true (p, page) notes None → AllSound (setting n) (after_write w p (4096 * page + at) piece)
+    (after_all l (page_events true (p, page) notes None))
 sound_written n w l p page at piece notes s alive some fits h =
-    follows-sound (setting n) w l (Write p (4096 * page + at) piece) (page_events true (p, page) notes None) Done [] s (ap (λ b. cond (not b) (Some Esrch) None) alive)
-    (Whole, subst (λ ps. Accesses (setting n) w l p ps (page_events true (p, page) notes None) Whole) (sym (one_page true page at (length piece) some fits)) (accessed (setting n) w l true p page notes None h), refl, refl)
+    follows-sound (setting n) w l (Write p (4096 * page + at) piece) (page_events true (p, page) notes None) Done [] s
+    (ap (λ b. cond (not b) (Some Esrch) None) alive) (
+      Whole,
+      subst (λ ps. Accesses (setting n) w l p ps (page_events true (p, page) notes None) Whole) (sym (one_page true page at (length piece) some fits))
+          (accessed (setting n) w l true p page notes None h),
+      refl,
+      refl,
+    )
 
 -- ---- the kernel
 
-pub keeps_now : (k : Mem) (w : World) (l : Ledger) (r : Rmap) → KeepsWithin k w l → AllSound (setting (count k)) w l → ListsFree (setting (count k)) l (view k).free → HasRmap k r → IsRmapSound l r
+pub keeps_now : (k : Mem) (w : World) (l : Ledger) (r : Rmap) → KeepsWithin k w l → AllSound (setting (count k)) w l →
+    ListsFree (setting (count k)) l (view k).free → HasRmap k r → IsRmapSound l r
     → Keeps k (record { world = w; ledger = l; free = free_of (view k); areas = r.areas; anons = r.anons; homes = r.homes })
 keeps_now k w l r h sound free rmap reach = record {
   stands = record {
@@ -111,31 +124,44 @@ module _ (s : State) (old : Mem) (p page at : ℕ) (piece : List ℕ) (before no
   pub frame_below : (new : Mem) (write : Bool) (f : ℕ) → count new ≡ count old → IsTouched s new write (p, page) before now (Ready f) → f < count new
   frame_below new write f same t =
       let l = after_all s.ledger (page_events write (p, page) t.added None) in
-      let sound = sound_touched (setting (count new)) s.world s.ledger write p page t.added None (subst (λ n. AllSound (setting n) s.world s.ledger) (sym same) keeps.stands.sound) t.touches in
+      let sound = sound_touched (setting (count new)) s.world s.ledger write p page t.added None
+      (subst (λ n. AllSound (setting n) s.world s.ledger) (sym same) keeps.stands.sound) t.touches in
       let some : 0 < map_count l f = how_many-found (names_frame f) (p, page) l.entries (InFrame f true) t.ready.0 (itself f) in
       sound.ledger.in_range f (omega (arith, some))
 
   -- what is free then is what the ledger has free
-  free_listed : (n : ℕ) (write : Bool) (added : List Note) (end : Option faults.Stop) (free : Free) → count old ≡ n → Touches (setting n) s.world s.ledger write (p, page) added end
-      → ChoosesAll (setting n) None s.ledger (page_events write (p, page) added end) s.free free → ListsFree (setting n) (after_all s.ledger (page_events write (p, page) added end)) free.frames
+  free_listed : (n : ℕ) (write : Bool) (added : List Note) (end : Option faults.Stop) (free : Free) → count old ≡ n →
+      Touches (setting n) s.world s.ledger write (p, page) added end
+      → ChoosesAll (setting n) None s.ledger (page_events write (p, page) added end) s.free free →
+      ListsFree (setting n) (after_all s.ledger (page_events write (p, page) added end)) free.frames
   free_listed n write added end free same touches chosen =
-      page-lists_free (setting n) s.world s.ledger write (p, page) added end None s.free free (subst (λ n. AllSound (setting n) s.world s.ledger) same keeps.stands.sound).ledger touches chosen
+      page-lists_free (setting n) s.world s.ledger write (p, page) added end None s.free free
+      (subst (λ n. AllSound (setting n) s.world s.ledger) same keeps.stands.sound).ledger touches chosen
       (subst (λ n. ListsFree (setting n) s.ledger s.free.frames) same keeps.stands.lists.frames)
 
   -- it was not served
-  pub stopped : (new : Mem) (write : Bool) (stop : Stop) → count new ≡ count old → IsTouched s new write (p, page) before now (Stopped stop) → IsPageStep s new write p page at piece before now (Some stop)
+  pub stopped : (new : Mem) (write : Bool) (stop : Stop) → count new ≡ count old → IsTouched s new write (p, page) before now (Stopped stop) →
+      IsPageStep s new write p page at piece before now (Some stop)
   stopped new write stop same t =
       let rs : Rmap = rmap_after_all s.ledger (page_events write (p, page) t.added (Some (stop_of stop))) (rmap_of s) in record {
         added = t.added;
         notes = t.notes;
         touches = t.touches;
-        next = record { world = s.world; ledger = after_all s.ledger (page_events write (p, page) t.added (Some (stop_of stop))); free = free_of (view new); areas = rs.areas; anons = rs.anons; homes = rs.homes };
+        next = record {
+          world = s.world;
+          ledger = after_all s.ledger (page_events write (p, page) t.added (Some (stop_of stop)));
+          free = free_of (view new);
+          areas = rs.areas;
+          anons = rs.anons;
+          homes = rs.homes;
+        };
         world = world_is write;
         ledger = refl;
         free = t.free;
         rmap = refl;
         keeps = keeps_now new s.world (after_all s.ledger (page_events write (p, page) t.added (Some (stop_of stop)))) rs t.parts
-            (sound_touched (setting (count new)) s.world s.ledger write p page t.added (Some (stop_of stop)) (subst (λ n. AllSound (setting n) s.world s.ledger) (sym same) keeps.stands.sound) t.touches)
+            (sound_touched (setting (count new)) s.world s.ledger write p page t.added (Some (stop_of stop))
+            (subst (λ n. AllSound (setting n) s.world s.ledger) (sym same) keeps.stands.sound) t.touches)
             (free_listed (count new) write t.added (Some (stop_of stop)) (free_of (view new)) (sym same) t.touches t.free) t.rmap t.reach;
       }
     where
@@ -144,56 +170,85 @@ module _ (s : State) (old : Mem) (p page at : ℕ) (piece : List ℕ) (before no
       world_is false = refl
 
   -- it was served to a read
-  pub read_served : (new : Mem) (ready : Touched) → count new ≡ count old → end_of ready ≡ None → IsTouched s new false (p, page) before now ready → IsPageStep s new false p page at piece before now None
+  pub read_served : (new : Mem) (ready : Touched) → count new ≡ count old → end_of ready ≡ None → IsTouched s new false (p, page) before now ready →
+      IsPageStep s new false p page at piece before now None
   read_served new ready same served t =
-      let touches : Touches (setting (count new)) s.world s.ledger false (p, page) t.added None = subst (Touches (setting (count new)) s.world s.ledger false (p, page) t.added) served t.touches in
+      let touches : Touches (setting (count new)) s.world s.ledger false (p, page) t.added None =
+      subst (Touches (setting (count new)) s.world s.ledger false (p, page) t.added) served t.touches in
       let after = ap (λ end. after_all s.ledger (page_events false (p, page) t.added end)) served in
       let rs : Rmap = rmap_after_all s.ledger (page_events false (p, page) t.added None) (rmap_of s) in
       let rmap : HasRmap new rs = subst (λ end. HasRmap new (rmap_after_all s.ledger (page_events false (p, page) t.added end) (rmap_of s))) served t.rmap in
-      let reach : IsRmapSound (after_all s.ledger (page_events false (p, page) t.added None)) rs = subst (λ end. IsRmapSound (after_all s.ledger (page_events false (p, page) t.added end)) (rmap_after_all s.ledger (page_events false (p, page) t.added end) (rmap_of s))) served t.reach in
-      let chosen = subst (λ end. ChoosesAll (setting (count new)) None s.ledger (page_events false (p, page) t.added end) s.free (free_of (view new))) served t.free in
+      let reach : IsRmapSound (after_all s.ledger (page_events false (p, page) t.added None)) rs =
+      subst (λ end. IsRmapSound (after_all s.ledger (page_events false (p, page) t.added end))
+      (rmap_after_all s.ledger (page_events false (p, page) t.added end) (rmap_of s))) served t.reach in
+      let chosen = subst (λ end. ChoosesAll (setting (count new)) None s.ledger (page_events false (p, page) t.added end) s.free (free_of (view new)))
+      served t.free in
       record {
         added = t.added;
         notes = t.notes;
         touches = touches;
-        next = record { world = s.world; ledger = after_all s.ledger (page_events false (p, page) t.added None); free = free_of (view new); areas = rs.areas; anons = rs.anons; homes = rs.homes };
+        next = record {
+          world = s.world;
+          ledger = after_all s.ledger (page_events false (p, page) t.added None);
+          free = free_of (view new);
+          areas = rs.areas;
+          anons = rs.anons;
+          homes = rs.homes;
+        };
         world = refl;
         ledger = refl;
         free = chosen;
         rmap = refl;
         keeps = keeps_now new s.world (after_all s.ledger (page_events false (p, page) t.added None)) rs (subst (KeepsWithin new s.world) after t.parts)
-            (sound_touched (setting (count new)) s.world s.ledger false p page t.added None (subst (λ n. AllSound (setting n) s.world s.ledger) (sym same) keeps.stands.sound) touches)
+            (sound_touched (setting (count new)) s.world s.ledger false p page t.added None
+            (subst (λ n. AllSound (setting n) s.world s.ledger) (sym same) keeps.stands.sound) touches)
             (free_listed (count new) false t.added None (free_of (view new)) (sym same) touches chosen) rmap reach;
       }
 
   -- it was served to a write, and then the piece was laid over the frame's bytes
-  pub written_served : (mid new : Mem) (f : ℕ) → count mid ≡ count old → lives s.world p ≡ true → 1 ≤ length piece → at + length piece ≤ 4096 → IsTouched s mid true (p, page) before now (Ready f)
-      → seen new.frames ≡ record (seen mid.frames) { bytes = with_at f (overlaid at piece ((seen mid.frames).bytes f)) (seen mid.frames).bytes } → new.tables ≡ mid.tables → new.spaces ≡ mid.spaces → new.anons ≡ mid.anons
+  pub written_served : (mid new : Mem) (f : ℕ) → count mid ≡ count old → lives s.world p ≡ true → 1 ≤ length piece → at + length piece ≤ 4096 →
+      IsTouched s mid true (p, page) before now (Ready f)
+      → seen new.frames ≡ record (seen mid.frames) { bytes = with_at f (overlaid at piece ((seen mid.frames).bytes f)) (seen mid.frames).bytes } →
+      new.tables ≡ mid.tables → new.spaces ≡ mid.spaces → new.anons ≡ mid.anons
       → IsPageStep s new true p page at piece before now None
   written_served mid new f same alive some fits t frames tables spaces anons =
       let l = after_all s.ledger (page_events true (p, page) t.added None) in
       let rs : Rmap = rmap_after_all s.ledger (page_events true (p, page) t.added None) (rmap_of s) in
       let m = setting (count mid) in
       let view_is : view new ≡ over f at piece (view mid) = λ i. view_of_parts (frames i) (λ q o. plain (entry_at (tables i) q o)) (spaces i) (anons i) in
-      let sound = sound_written (count mid) s.world s.ledger p page at piece t.added (subst (λ n. AllSound (setting n) s.world s.ledger) (sym same) keeps.stands.sound) alive some fits t.touches in
-      let parts = written_now m (view mid) s.world l p page f true at piece (of_stand mid s.world l t.parts) keeps.stands.sound.world alive t.ready.0 (t.ready.1 refl) fits in
-      let parts' : Parts m (view new) (after_write s.world p (4096 * page + at) piece) l = subst (λ w. Parts m (view new) w l) (sym (stored_is s.world p (4096 * page + at) piece some)) (subst (λ v. Parts m v (set_process s.world p (with_bytes (pages s.world p) (4096 * page + at) piece)) l) (sym view_is) parts) in
+      let sound = sound_written (count mid) s.world s.ledger p page at piece t.added
+      (subst (λ n. AllSound (setting n) s.world s.ledger) (sym same) keeps.stands.sound) alive some fits t.touches in
+      let parts = written_now m (view mid) s.world l p page f true at piece (of_stand mid s.world l t.parts) keeps.stands.sound.world alive
+      t.ready.0 (t.ready.1 refl) fits in
+      let parts' : Parts m (view new) (after_write s.world p (4096 * page + at) piece) l =
+      subst (λ w. Parts m (view new) w l) (sym (stored_is s.world p (4096 * page + at) piece some))
+      (subst (λ v. Parts m v (set_process s.world p (with_bytes (pages s.world p) (4096 * page + at) piece)) l) (sym view_is) parts) in
       let count_is : count mid ≡ count new = sym (ap (λ (s : Seen). s.count) frames) in
       let touches = subst (λ n. Touches (setting n) s.world s.ledger true (p, page) t.added None) count_is t.touches in
       let chosen = subst (λ n. ChoosesAll (setting n) None s.ledger (page_events true (p, page) t.added None) s.free (free_of (view new))) count_is
-      (subst (ChoosesAll (setting (count mid)) None s.ledger (page_events true (p, page) t.added None) s.free) (sym (ap (λ (s : Seen). frames_free s.free) frames)) t.free) in
+      (subst (ChoosesAll (setting (count mid)) None s.ledger (page_events true (p, page) t.added None) s.free)
+      (sym (ap (λ (s : Seen). frames_free s.free) frames)) t.free) in
       record {
         added = t.added;
         notes = t.notes;
         touches = touches;
-        next = record { world = after_write s.world p (4096 * page + at) piece; ledger = l; free = free_of (view new); areas = rs.areas; anons = rs.anons; homes = rs.homes };
+        next = record {
+          world = after_write s.world p (4096 * page + at) piece;
+          ledger = l;
+          free = free_of (view new);
+          areas = rs.areas;
+          anons = rs.anons;
+          homes = rs.homes;
+        };
         world = refl;
         ledger = refl;
         free = chosen;
         rmap = refl;
         keeps = keeps_now new (after_write s.world p (4096 * page + at) piece) l rs
-            (to_stand new (after_write s.world p (4096 * page + at) piece) l (subst (λ n. Parts (setting n) (view new) (after_write s.world p (4096 * page + at) piece) l) count_is parts')
-            (λ q. ap (λ t. has t q) tables ∙ t.parts.tables q ∙ sym (ap (λ (x : AllSpaces). is_some (ranges_of x.processes q)) spaces)) (subst (λ x. AnonsFit x new.anons) (sym spaces) (subst (AnonsFit mid.spaces) (sym anons) t.parts.anons)))
+            (to_stand new (after_write s.world p (4096 * page + at) piece) l
+            (subst (λ n. Parts (setting n) (view new) (after_write s.world p (4096 * page + at) piece) l) count_is parts')
+            (λ q. ap (λ t. has t q) tables ∙ t.parts.tables q ∙ sym (ap (λ (x : AllSpaces). is_some (ranges_of x.processes q)) spaces))
+            (subst (λ x. AnonsFit x new.anons) (sym spaces) (subst (AnonsFit mid.spaces) (sym anons) t.parts.anons)))
             (subst (λ n. AllSound (setting n) (after_write s.world p (4096 * page + at) piece) l) count_is sound)
             (free_listed (count new) true t.added None (free_of (view new)) (sym same ∙ count_is) touches chosen)
             (record {

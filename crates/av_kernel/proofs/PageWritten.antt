@@ -25,7 +25,8 @@ other_number : (q p : ℕ) → eq_by_cmp nat_cmp q p ≡ false → q ≢ p
 other_number q p h = grind (arith, nat_tests)
 
 -- what holds of the changed process, and of the others as they were
-by_process : (w : World) (p : ℕ) (new : Process) (q page : ℕ) (P : Option Page → Type 0) → (q ≡ p → P (new page)) → (q ≢ p → P (pages w q page)) → P (pages (set_process w p new) q page)
+by_process : (w : World) (p : ℕ) (new : Process) (q page : ℕ) (P : Option Page → Type 0) → (q ≡ p → P (new page)) → (q ≢ p → P (pages w q page)) →
+    P (pages (set_process w p new) q page)
 by_process w p new q page P here there = subst P (sym (pages-set w p new q page))
     (elim (eq_by_cmp nat_cmp q p) as (λ b. eq_by_cmp nat_cmp q p ≡ b → P (cond b (new page) (pages w q page))) [
       | true ↦ λ e. here (same_number q p e)
@@ -34,17 +35,20 @@ by_process w p new q page P here there = subst P (sym (pages-set w p new q page)
 
 -- some bytes of a page, where the bytes that hold it change so
 holds_written : (m : Process) (a : ℕ) (piece : List ℕ) (page : ℕ) (old new : ℕ → ℕ) → Holds (m page) old
-    → ((i : ℕ) → i < 4096 → new i ≡ cond (within a (length piece) (4096 * page + i)) (slice_index piece (4096 * page + i - a)) (old i)) → Holds (with_bytes m a piece page) new
+    → ((i : ℕ) → i < 4096 → new i ≡ cond (within a (length piece) (4096 * page + i)) (slice_index piece (4096 * page + i - a)) (old i)) →
+    Holds (with_bytes m a piece page) new
 holds_written m a piece page old new h change =
     elim (m page) as (λ o. Holds o old → Holds (option_map (λ (p : Page). record p {
       bytes = λ i.
           if within a (length piece) (4096 * page + i) then Some (slice_index piece (4096 * page + i - a)) else p.bytes i;
     }) o) new) [
       | None ↦ λ h. tt
-      | Some p ↦ λ h i below. byte (within a (length piece) (4096 * page + i)) (slice_index piece (4096 * page + i - a)) (p.bytes i) (old i) (new i) (h i below) (change i below)
+      | Some p ↦ λ h i below. byte (within a (length piece) (4096 * page + i)) (slice_index piece (4096 * page + i - a)) (p.bytes i) (old i)
+          (new i) (h i below) (change i below)
     ] h
   where
-    byte : (b : Bool) (x : ℕ) (claim : Option ℕ) (before now : ℕ) → IfSome claim (λ y. before ≡ y) → now ≡ cond b x before → IfSome (if b then Some x else claim) (λ y. now ≡ y)
+    byte : (b : Bool) (x : ℕ) (claim : Option ℕ) (before now : ℕ) → IfSome claim (λ y. before ≡ y) → now ≡ cond b x before →
+        IfSome (if b then Some x else claim) (λ y. now ≡ y)
     byte true x claim before now was is = is
     byte false x claim before now was is = subst (λ n. IfSome claim (λ y. n ≡ y)) (sym is) was
 
@@ -54,7 +58,8 @@ some_written m a piece page = elim (m page) as (λ o. is_some o ≡ true → is_
       if within a (length piece) (4096 * page + i) then Some (slice_index piece (4096 * page + i - a)) else p.bytes i;
 }) o) ≡ true) [ None ↦ λ h. h | Some p ↦ λ h. h ]
 
-prot_written : (m : Process) (a : ℕ) (piece : List ℕ) (page : ℕ) → option_map (λ (q : Page). q.prot) (with_bytes m a piece page) ≡ option_map (λ (q : Page). q.prot) (m page)
+prot_written : (m : Process) (a : ℕ) (piece : List ℕ) (page : ℕ) → option_map (λ (q : Page). q.prot) (with_bytes m a piece page) ≡ option_map
+    (λ (q : Page). q.prot) (m page)
 prot_written m a piece page = elim (m page) as (λ o. option_map (λ (q : Page). q.prot) (option_map (λ (p : Page). record p {
   bytes = λ i.
       if within a (length piece) (4096 * page + i) then Some (slice_index piece (4096 * page + i - a)) else p.bytes i;
@@ -110,7 +115,8 @@ module _ (m : Setting) (v : View) (w : World) (l : Ledger) (p page f : ℕ) (was
     alive = λ q. parts.areas.alive q ∙ sym (lives-set w p (with_bytes (pages w p) (4096 * page + start) piece) q ∙ lives_as q (eq_by_cmp nat_cmp q p) refl);
     number = parts.areas.number ∙ sym (length-set_old w p (with_bytes (pages w p) (4096 * page + start) piece) tidy.in_order alive);
     apart = parts.areas.apart;
-    covers = λ q o. parts.areas.covers q o ∙ sym (by_process w p (with_bytes (pages w p) (4096 * page + start) piece) q o (λ x. option_map (λ (q : Page). q.prot) x ≡ option_map (λ (q : Page). q.prot) (pages w q o))
+    covers = λ q o. parts.areas.covers q o ∙ sym (by_process w p (with_bytes (pages w p) (4096 * page + start) piece) q o
+        (λ x. option_map (λ (q : Page). q.prot) x ≡ option_map (λ (q : Page). q.prot) (pages w q o))
         (λ same. prot_written (pages w p) (4096 * page + start) piece o ∙ ap (λ x. option_map (λ (q : Page). q.prot) (pages w x o)) (sym same)) (λ _. refl));
   }
     where
@@ -119,7 +125,8 @@ module _ (m : Setting) (v : View) (w : World) (l : Ledger) (p page f : ℕ) (was
       lives_as q false e = refl
 
   -- the bytes of an entry that is not this one
-  others : (q o : ℕ) (x : Option Page) (e : Option Entry) → entry l (q, o) ≡ e → same_key (q, o) (p, page) ≡ false → IsKept v no_device l e x → IsKept (over f start piece v) no_device l e x
+  others : (q o : ℕ) (x : Option Page) (e : Option Entry) → entry l (q, o) ≡ e → same_key (q, o) (p, page) ≡ false → IsKept v no_device l e x →
+      IsKept (over f start piece v) no_device l e x
   others q o x None is ne h = h
   others q o x (Some Zero) is ne h = h
   others q o x (Some (InFrame g seen)) is ne h = subst (Holds x) (sym (ap (λ b. cond b (overlaid start piece (v.bytes f)) (v.bytes g)) (apart (g == f) refl))) h
@@ -127,12 +134,15 @@ module _ (m : Setting) (v : View) (w : World) (l : Ledger) (p page f : ℕ) (was
       apart : (b : Bool) → (g == f) ≡ b → (g == f) ≡ false
       apart false e = e
       apart true e = let same : g ≡ f = grind (arith, nat_tests) in
-          absurd (false≢true (sym ne ∙ only_one l f (p, page) (q, o) (InFrame f was) (InFrame g seen) parts.in_order few named (itself f) is (ap (λ x. f == x) same ∙ itself f)))
-  others q o x (Some (InSlot s)) is ne h = slot_kept v (over f start piece v) s x (frame_at l s) (frame_at l s) (no_frame_at l s parts.cache) (no_frame_at l s parts.cache) h
+          absurd (false≢true (sym ne ∙ only_one l f (p, page) (q, o) (InFrame f was) (InFrame g seen) parts.in_order few named (itself f) is
+          (ap (λ x. f == x) same ∙ itself f)))
+  others q o x (Some (InSlot s)) is ne h = slot_kept v (over f start piece v) s x (frame_at l s) (frame_at l s) (no_frame_at l s parts.cache)
+      (no_frame_at l s parts.cache) h
 
   keep_else : (o : ℕ) → o ≢ page → (at : ℕ → ℕ) → Holds (pages w p o) at → Holds (with_bytes (pages w p) (4096 * page + start) piece o) at
   keep_else o ne at h = holds_written (pages w p) (4096 * page + start) piece o at at h
-      (λ i below. sym (ap (λ b. cond b (slice_index piece (4096 * o + i - (4096 * page + start))) (at i)) (elsewhere page o start (length piece) i fits below ne)))
+      (λ i below. sym (ap (λ b. cond b (slice_index piece (4096 * o + i - (4096 * page + start))) (at i))
+      (elsewhere page o start (length piece) i fits below ne)))
 
   world_else : (q o : ℕ) (e : Option Entry) → same_key (q, o) (p, page) ≡ false → IsKept (over f start piece v) no_device l e (pages w q o)
       → IsKept (over f start piece v) no_device l e (pages (set_process w p (with_bytes (pages w p) (4096 * page + start) piece)) q o)
@@ -149,7 +159,8 @@ module _ (m : Setting) (v : View) (w : World) (l : Ledger) (p page f : ℕ) (was
       by_entry (Some (InFrame g seen)) h ne = keep_else o ne ((over f start piece v).bytes g) h
       by_entry (Some (InSlot s)) h ne = by_frame (frame_at l s) h
         where
-          by_frame : (y : Option ℕ) → IsKeptAt (over f start piece v) no_device s (pages w p o) y → IsKeptAt (over f start piece v) no_device s (with_bytes (pages w p) (4096 * page + start) piece o) y
+          by_frame : (y : Option ℕ) → IsKeptAt (over f start piece v) no_device s (pages w p o) y →
+              IsKeptAt (over f start piece v) no_device s (with_bytes (pages w p) (4096 * page + start) piece o) y
           by_frame None h = keep_else o ne (slice_index []) h
           by_frame (Some g) h = keep_else o ne ((over f start piece v).bytes g) h
 
@@ -159,16 +170,23 @@ module _ (m : Setting) (v : View) (w : World) (l : Ledger) (p page f : ℕ) (was
     clean = λ s stale flying. nothing_clean (over f start piece v) s (frame_at l s) (no_frame_at l s parts.cache);
   }
     where
-      here : Holds (pages (set_process w p (with_bytes (pages w p) (4096 * page + start) piece)) p page) (cond (f == f) (overlaid start piece (v.bytes f)) (v.bytes f))
-      here = by_process w p (with_bytes (pages w p) (4096 * page + start) piece) p page (λ x. Holds x (cond (f == f) (overlaid start piece (v.bytes f)) (v.bytes f)))
-          (λ _. subst (Holds (with_bytes (pages w p) (4096 * page + start) piece page)) (sym (ap (λ b. cond b (overlaid start piece (v.bytes f)) (v.bytes f)) (itself f)))
-          (holds_written (pages w p) (4096 * page + start) piece page (v.bytes f) (overlaid start piece (v.bytes f)) (subst (λ e. IsKept v no_device l e (pages w p page)) named (parts.bytes.kept p page))
+      here : Holds (pages (set_process w p (with_bytes (pages w p) (4096 * page + start) piece)) p page)
+          (cond (f == f) (overlaid start piece (v.bytes f)) (v.bytes f))
+      here = by_process w p (with_bytes (pages w p) (4096 * page + start) piece) p page
+          (λ x. Holds x (cond (f == f) (overlaid start piece (v.bytes f)) (v.bytes f)))
+          (λ _. subst (Holds (with_bytes (pages w p) (4096 * page + start) piece page))
+          (sym (ap (λ b. cond b (overlaid start piece (v.bytes f)) (v.bytes f)) (itself f)))
+          (holds_written (pages w p) (4096 * page + start) piece page (v.bytes f) (overlaid start piece (v.bytes f))
+          (subst (λ e. IsKept v no_device l e (pages w p page)) named (parts.bytes.kept p page))
           (λ i below. sym ((λ k. cond (in_place page start (length piece) i k) (slice_index piece (from_start page start i k)) (v.bytes f i))))))
           (λ ne. absurd (ne refl))
 
-      at_key : (q o : ℕ) (b : Bool) → same_key (q, o) (p, page) ≡ b → IsKept (over f start piece v) no_device l (entry l (q, o)) (pages (set_process w p (with_bytes (pages w p) (4096 * page + start) piece)) q o)
-      at_key q o true e = subst (λ (k : Key). IsKept (over f start piece v) no_device l (entry l k) (pages (set_process w p (with_bytes (pages w p) (4096 * page + start) piece)) k.0 k.1)) (sym (same_key-is (q, o) (p, page) e))
-          (subst (λ x. IsKept (over f start piece v) no_device l x (pages (set_process w p (with_bytes (pages w p) (4096 * page + start) piece)) p page)) (sym named) here)
+      at_key : (q o : ℕ) (b : Bool) → same_key (q, o) (p, page) ≡ b → IsKept (over f start piece v) no_device l (entry l (q, o))
+          (pages (set_process w p (with_bytes (pages w p) (4096 * page + start) piece)) q o)
+      at_key q o true e = subst (λ (k : Key). IsKept (over f start piece v) no_device l (entry l k)
+          (pages (set_process w p (with_bytes (pages w p) (4096 * page + start) piece)) k.0 k.1)) (sym (same_key-is (q, o) (p, page) e))
+          (subst (λ x. IsKept (over f start piece v) no_device l x (pages (set_process w p (with_bytes (pages w p) (4096 * page + start) piece)) p page))
+          (sym named) here)
       at_key q o false e = world_else q o (entry l (q, o)) e (others q o (pages w q o) (entry l (q, o)) refl e (parts.bytes.kept q o))
 
   pub written_now : Parts m (over f start piece v) (set_process w p (with_bytes (pages w p) (4096 * page + start) piece)) l
@@ -179,7 +197,13 @@ module _ (m : Setting) (v : View) (w : World) (l : Ledger) (p page f : ℕ) (was
     on = parts.on;
     active = parts.active;
     at_pages = at_pages_now;
-    frames = record { frames = parts.frames.frames; maps = parts.frames.maps; slots = parts.frames.slots; dirty = parts.frames.dirty; free = parts.frames.free };
+    frames = record {
+      frames = parts.frames.frames;
+      maps = parts.frames.maps;
+      slots = parts.frames.slots;
+      dirty = parts.frames.dirty;
+      free = parts.frames.free;
+    };
     tables = record { entries = parts.tables.entries; write_bits = parts.tables.write_bits };
     swap = record { finds = parts.swap.finds; counts = parts.swap.counts; flight = parts.swap.flight; on = parts.swap.on };
     areas = areas_now;

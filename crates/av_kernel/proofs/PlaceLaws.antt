@@ -15,7 +15,7 @@ use Rattle.av_plain.specs.Refusal.{Tests, top, low, fixed_tests, refusal}
 use Rattle.av_plain.specs.Place.{is_room}
 use Rattle.av_plain.proofs.World.Ranges.{none-meets, some-meets, meets-none, room-is}
 use Rattle.av_spaces.specs.Spaces.{Spaces, is_taken}
-use Rattle.av_kernel.specs.Place.{IsProcess, IsPlaced, AreToClear}
+use Rattle.av_kernel.specs.Place.{IsProcess, IsPlaced, AreToUnmap}
 use Rattle.std.specs.Int.{div_ceil}
 
 -- ---- pages and addresses
@@ -38,7 +38,8 @@ pub passed_first : (ts us : Tests) → refusal ts ≡ None → refusal (ts ++ us
 passed_first [] us is = refl
 passed_first (t ∷ ts) us is = by t.0 is (passed_first ts us)
   where
-    by : (b : Bool) → cond b (Some t.1) (refusal ts) ≡ None → (refusal ts ≡ None → refusal (ts ++ us) ≡ refusal us) → cond b (Some t.1) (refusal (ts ++ us)) ≡ refusal us
+    by : (b : Bool) → cond b (Some t.1) (refusal ts) ≡ None → (refusal ts ≡ None → refusal (ts ++ us) ≡ refusal us) →
+        cond b (Some t.1) (refusal (ts ++ us)) ≡ refusal us
     by true is rest = cc
     by false is rest = rest is
 
@@ -47,7 +48,8 @@ all_passed : (ts us : Tests) → refusal (ts ++ us) ≡ None → (refusal ts ≡
 all_passed [] us is = (refl, is)
 all_passed (t ∷ ts) us is = by t.0 is (all_passed ts us)
   where
-    by : (b : Bool) → cond b (Some t.1) (refusal (ts ++ us)) ≡ None → (refusal (ts ++ us) ≡ None → (refusal ts ≡ None) × (refusal us ≡ None)) → (cond b (Some t.1) (refusal ts) ≡ None) × (refusal us ≡ None)
+    by : (b : Bool) → cond b (Some t.1) (refusal (ts ++ us)) ≡ None → (refusal (ts ++ us) ≡ None → (refusal ts ≡ None) × (refusal us ≡ None)) →
+        (cond b (Some t.1) (refusal ts) ≡ None) × (refusal us ≡ None)
     by true is rest = cc
     by false is rest = rest is
 
@@ -61,8 +63,10 @@ module _ (s : Spaces) (p : ℕ) (q : Process) (same : IsProcess s p q) (n page :
   met_meets met = some-meets q page n met.page (record { lowest = met.lowest; highest = met.highest; mapped = sym (same met.page) ∙ met.met })
 
   -- there is room where no page is taken, among pages that a process may have
-  pub room_by : (b : Bool) → (nat_le low_page page && nat_le (page + n) top_page) ≡ true → (b ≡ true → IsFree (is_taken s p) page (page + n)) → (b ≡ false → IsMet (is_taken s p) page (page + n)) → b ≡ is_room q n page
-  room_by b within free met = by (nat_le low_page page) (nat_le (page + n) top_page) within ∙ ap (λ c. nat_le low_page page && nat_le (page + n) top_page && not c) (sym (either b free met))
+  pub room_by : (b : Bool) → (nat_le low_page page && nat_le (page + n) top_page) ≡ true → (b ≡ true → IsFree (is_taken s p) page (page + n)) →
+      (b ≡ false → IsMet (is_taken s p) page (page + n)) → b ≡ is_room q n page
+  room_by b within free met = by (nat_le low_page page) (nat_le (page + n) top_page) within
+      ∙ ap (λ c. nat_le low_page page && nat_le (page + n) top_page && not c) (sym (either b free met))
     where
       either : (b : Bool) → (b ≡ true → IsFree (is_taken s p) page (page + n)) → (b ≡ false → IsMet (is_taken s p) page (page + n)) → meets q page n ≡ not b
       either true free met = free_meets (free refl)
@@ -83,7 +87,7 @@ module _ (s : Spaces) (p : ℕ) (q : Process) (same : IsProcess s p q) (n page :
 pub record IsSuited (s : Spaces) (p n page : ℕ) (place : Place) : Type 0 where
   pub lowest : low_page ≤ page
   pub highest : page + n ≤ top_page
-  pub clear : AreToClear (is_taken s p) page n place
+  pub clear : AreToUnmap (is_taken s p) page n place
 
 module _ (s : Spaces) (p : ℕ) (q : Process) (same : IsProcess s p q) (n : ℕ) where
   -- an automatic place is the greatest gap
@@ -99,17 +103,28 @@ module _ (s : Spaces) (p : ℕ) (q : Process) (same : IsProcess s p q) (n : ℕ)
 
   -- a hint
   pub placed_elsewhere : (a : ℕ) (r : Result ℕ Errno) → is_room q n (page_of a) ≡ false → Automatic r → IsPlaced q n (At a) r
-  placed_elsewhere a (Ok page) none h = (refl, subst (λ b. MatchBool b (Some page ≡ Some (page_of a)) (IsGap (is_mapped q) n (Some page))) (sym none) (gap_is (Some page) h))
-  placed_elsewhere a (Err error) none h = inr (refl, subst (λ b. MatchBool b (None ≡ Some (page_of a)) (IsGap (is_mapped q) n None)) (sym none) (gap_is None h.0), h.1)
+  placed_elsewhere a (Ok page) none h = (
+    refl,
+    subst (λ b. MatchBool b (Some page ≡ Some (page_of a)) (IsGap (is_mapped q) n (Some page)))
+        (sym none) (gap_is (Some page) h),
+  )
+  placed_elsewhere a (Err error) none h = inr (
+    refl,
+    subst (λ b. MatchBool b (None ≡ Some (page_of a)) (IsGap (is_mapped q) n None))
+        (sym none) (gap_is None h.0),
+    h.1,
+  )
 
   -- an address that it has to have, and that nothing may stand at
-  pub placed_taken : (a page : ℕ) → (refusal (fixed_tests n a) ≡ None) × (page ≡ page_of a) → IsMet (is_taken s p) page (page + n) → IsPlaced q n (NoReplace a) (Err Eexist)
+  pub placed_taken : (a page : ℕ) → (refusal (fixed_tests n a) ≡ None) × (page ≡ page_of a) → IsMet (is_taken s p) page (page + n) →
+      IsPlaced q n (NoReplace a) (Err Eexist)
   placed_taken a page h met = inl (
       passed_first (fixed_tests n a) ((meets q (page_of a) n, Eexist) ∷ []) h.0
       ∙ ap (λ b. cond b (Some Eexist) None) (ap (λ x. meets q x n) (sym h.1) ∙ met_meets s p q same n page met)
       )
 
-  pub placed_free : (a page : ℕ) → (refusal (fixed_tests n a) ≡ None) × (page ≡ page_of a) → IsFree (is_taken s p) page (page + n) → IsPlaced q n (NoReplace a) (Ok page)
+  pub placed_free : (a page : ℕ) → (refusal (fixed_tests n a) ≡ None) × (page ≡ page_of a) → IsFree (is_taken s p) page (page + n) →
+      IsPlaced q n (NoReplace a) (Ok page)
   placed_free a page h free = (
     passed_first (fixed_tests n a) ((meets q (page_of a) n, Eexist) ∷ []) h.0
         ∙ ap (λ b. cond b (Some Eexist) None) (ap (λ x. meets q x n) (sym h.1) ∙ free_meets s p q same n page free),
@@ -125,7 +140,8 @@ module _ (s : Spaces) (p : ℕ) (q : Process) (same : IsProcess s p q) (n : ℕ)
   fixed_is : (a page : ℕ) → refusal (fixed_tests n a) ≡ None → page ≡ page_of a → (low_page ≤ page) × (page + n ≤ top_page)
   fixed_is a page is e = by (nat_lt top (a + address_of n)) (is_on_page a) (nat_lt a low) refl refl refl is
     where
-      by : (b c d : Bool) → nat_lt top (a + address_of n) ≡ b → is_on_page a ≡ c → nat_lt a low ≡ d → cond b (Some Enomem) (cond (not c) (Some Einval) (cond d (Some Eperm) None)) ≡ None
+      by : (b c d : Bool) → nat_lt top (a + address_of n) ≡ b → is_on_page a ≡ c → nat_lt a low ≡ d →
+          cond b (Some Enomem) (cond (not c) (Some Einval) (cond d (Some Eperm) None)) ≡ None
           → (low_page ≤ page) × (page + n ≤ top_page)
       by true c d t o u is = cc
       by false false d t o u is = cc
@@ -139,7 +155,8 @@ module _ (s : Spaces) (p : ℕ) (q : Process) (same : IsProcess s p q) (n : ℕ)
   suited page Auto h = record { lowest = h.1.0.lowest; highest = h.1.0.highest; clear = room_free page h.1.0 }
   suited page (At a) h = by (is_room q n (page_of a)) refl h.1
     where
-      by : (b : Bool) → is_room q n (page_of a) ≡ b → MatchBool b (Some page ≡ Some (page_of a)) (IsGap (is_mapped q) n (Some page)) → IsSuited s p n page (At a)
+      by : (b : Bool) → is_room q n (page_of a) ≡ b → MatchBool b (Some page ≡ Some (page_of a)) (IsGap (is_mapped q) n (Some page)) →
+          IsSuited s p n page (At a)
       by true e is =
           let there : page ≡ page_of a = cc in
           let room = subst (IsRoom (is_mapped q) n) (sym there) (room-is q n (page_of a) e) in
@@ -153,7 +170,12 @@ module _ (s : Spaces) (p : ℕ) (q : Process) (same : IsProcess s p q) (n : ℕ)
       let there : page ≡ page_of a = (let is = h.1 in cc) in
       let passed = all_passed (fixed_tests n a) ((meets q (page_of a) n, Eexist) ∷ []) h.0 in
       let ends = fixed_is a page passed.0 there in
-      record { lowest = ends.0; highest = ends.1; clear = λ o low high. same o ∙ meets-none q page n o (ap (λ x. meets q x n) there ∙ none (meets q (page_of a) n) passed.1) low high }
+      record {
+        lowest = ends.0;
+        highest = ends.1;
+        clear = λ o low high. same o ∙ meets-none q page n o
+            (ap (λ x. meets q x n) there ∙ none (meets q (page_of a) n) passed.1) low high;
+      }
     where
       none : (b : Bool) → cond b (Some Eexist) None ≡ None → b ≡ false
       none true is = cc

@@ -74,7 +74,8 @@ abbrev pub new_refusal : World → ℕ → Option Errno
 new_refusal w p = cond (lives w p) (Some Eexist) (cond (nat_le most_processes (length w)) (Some Eagain) None)
 
 pub new_is : (k : Mem) (s : State) (p : ℕ) → Keeps k s → new_refusal s.world p ≡ refusal (new_tests k.spaces.processes p)
-new_is k s p keeps = λ i. cond (sym (lives_is k s keeps p) i) (Some Eexist) (cond (nat_le most_processes (sym keeps.stands.parts.areas.number i)) (Some Eagain) None)
+new_is k s p keeps = λ i. cond (sym (lives_is k s keeps p) i) (Some Eexist)
+    (cond (nat_le most_processes (sym keeps.stands.parts.areas.number i)) (Some Eagain) None)
 
 -- one that may come doesn't live
 pub absent : (s : Spaces) (p : ℕ) → refusal (new_tests s p) ≡ None → areas_of s p ≡ None
@@ -92,7 +93,8 @@ no_table k s p keeps gone = keeps.tables p ∙ alive_is k.spaces.processes p ∙
 -- a process that didn't live does now
 module _ (old : Mem) (tables : ProcessTables) (spaces : AllSpaces) (s : State) (p : ℕ) (keeps : Keeps old s)
     (may : refusal (new_tests old.spaces.processes p) ≡ None)
-    (entries : entry_at tables ≡ entry_at old.tables) (processes : has tables ≡ with_at p true (has old.tables)) (spawned : IsSpawned old.spaces.processes spaces.processes p [])
+    (entries : entry_at tables ≡ entry_at old.tables) (processes : has tables ≡ with_at p true (has old.tables))
+    (spawned : IsSpawned old.spaces.processes spaces.processes p [])
     (stay : AnonsStay old.spaces old.anons spaces old.anons) where
   dead_before : lives s.world p ≡ false
   dead_before = sym (lives_is old s keeps p) ∙ ap is_some (absent old.spaces.processes p may)
@@ -111,7 +113,8 @@ module _ (old : Mem) (tables : ProcessTables) (spaces : AllSpaces) (s : State) (
   spawn-step = record {
     events = [];
     legal = record {
-      answer = subst (λ o. MatchOption o (Follows (setting (count old)) s.world s.ledger (Spawn p) [] Done []) (λ e. Refuses e [] Done [])) (sym spawn-allowed) (refl, refl, refl);
+      answer = subst (λ o. MatchOption o (Follows (setting (count old)) s.world s.ledger (Spawn p) [] Done []) (λ e. Refuses e [] Done []))
+          (sym spawn-allowed) (refl, refl, refl);
       notes = refl;
     };
     world = refl;
@@ -122,7 +125,8 @@ module _ (old : Mem) (tables : ProcessTables) (spaces : AllSpaces) (s : State) (
   }
 
   spawn-alive : (q : ℕ) → is_some (areas_of spaces.processes q) ≡ lives (set_process s.world p no_pages) q
-  spawn-alive q = ap is_some (spawned.areas q) ∙ by (q == p) refl ∙ sym (lives-set s.world p no_pages q ∙ ap (λ b. cond b true (lives s.world q)) (at_number q p))
+  spawn-alive q = ap is_some (spawned.areas q) ∙ by (q == p) refl
+      ∙ sym (lives-set s.world p no_pages q ∙ ap (λ b. cond b true (lives s.world q)) (at_number q p))
     where
       by : (b : Bool) → (q == p) ≡ b → is_some (cond b (Some []) (areas_of old.spaces.processes q)) ≡ cond b true (lives s.world q)
       by true e = refl
@@ -131,13 +135,15 @@ module _ (old : Mem) (tables : ProcessTables) (spaces : AllSpaces) (s : State) (
   spawn-areas : AreasStand (view (moved_on old tables spaces old.anons)) (set_process s.world p no_pages)
   spawn-areas = record {
     alive = spawn-alive;
-    number = spawned.number ∙ ap (λ n. n + 1) keeps.stands.parts.areas.number ∙ sym (length-set_new s.world p no_pages keeps.stands.sound.world.in_order dead_before);
+    number = spawned.number ∙ ap (λ n. n + 1) keeps.stands.parts.areas.number
+        ∙ sym (length-set_new s.world p no_pages keeps.stands.sound.world.in_order dead_before);
     apart = all_apart spaces.processes spawned.rising;
     covers = λ q page. ap (λ o. prot_of o page) (ranges_spawned old.spaces.processes spaces.processes p spawned q) ∙ by q page (q == p)
         ∙ sym (ap (option_map (λ (x : Page). x.prot)) (pages-set s.world p no_pages q page ∙ ap (λ b. cond b None (pages s.world q page)) (at_number q p)));
   }
     where
-      by : (q page : ℕ) (b : Bool) → prot_of (cond b (Some []) (ranges_of old.spaces.processes q)) page ≡ option_map (λ (x : Page). x.prot) (cond b None (pages s.world q page))
+      by : (q page : ℕ) (b : Bool) → prot_of (cond b (Some []) (ranges_of old.spaces.processes q)) page ≡ option_map (λ (x : Page). x.prot)
+          (cond b None (pages s.world q page))
       by q page true = refl
       by q page false = keeps.stands.parts.areas.covers q page
 
@@ -164,15 +170,19 @@ module _ (old : Mem) (tables : ProcessTables) (spaces : AllSpaces) (s : State) (
               none (Some q) gone there = false≢true (sym gone)
 
   pub spawned-steps : MemSteps old (moved_on old tables spaces old.anons) s (Spawn p) (answer_only Done)
-  spawned-steps = changed old (moved_on old tables spaces old.anons) s (Spawn p) (answer_only Done) p no_pages none_on s.ledger keeps stay refl (stays_orderly old tables spaces old.anons s.ledger entries (orderly old s keeps)) refl refl
-      (λ q page other. refl) (λ page. kept-nothing (view old) s.ledger (entry s.ledger (p, page))) (λ page f names. names) (λ page f home names is. absurd (no_entry page f names)) spawn-step spawn-on spawn-areas spawn-tables
+  spawned-steps = changed old (moved_on old tables spaces old.anons) s (Spawn p) (answer_only Done) p no_pages none_on s.ledger keeps stay refl
+      (stays_orderly old tables spaces old.anons s.ledger entries (orderly old s keeps)) refl refl
+      (λ q page other. refl) (λ page. kept-nothing (view old) s.ledger (entry s.ledger (p, page))) (λ page f names. names)
+      (λ page f home names is. absurd (no_entry page f names)) spawn-step spawn-on spawn-areas spawn-tables
 
 -- ---- exit: the memories
 
 -- a process below all others takes away nothing of them
 none_ended : (p : ℕ) (w : World) → T (below_all nat_cmp p w) → end_process w p ≡ w
 none_ended p [] h = refl
-none_ended p (e ∷ w) h = ap (λ b. cond (not b) (e ∷ end_process w p) (end_process w p)) (other p e.0 (both_first (is_lt (nat_cmp p e.0)) (below_all nat_cmp p w) h)) ∙ ap (λ w. e ∷ w) (none_ended p w (both_second (is_lt (nat_cmp p e.0)) (below_all nat_cmp p w) h))
+none_ended p (e ∷ w) h = ap (λ b. cond (not b) (e ∷ end_process w p) (end_process w p))
+    (other p e.0 (both_first (is_lt (nat_cmp p e.0)) (below_all nat_cmp p w) h))
+    ∙ ap (λ w. e ∷ w) (none_ended p w (both_second (is_lt (nat_cmp p e.0)) (below_all nat_cmp p w) h))
   where
     other : (p q : ℕ) → T (is_lt (nat_cmp p q)) → (q == p) ≡ false
     other p q h = grind (arith, nat_tests, h)
@@ -180,7 +190,8 @@ none_ended p (e ∷ w) h = ap (λ b. cond (not b) (e ∷ end_process w p) (end_p
 -- one process fewer lives
 length_ended : (w : World) (p : ℕ) → T (is_sorted nat_cmp w) → lives w p ≡ true → length (end_process w p) + 1 ≡ length w
 length_ended [] p sorted alive = absurd (false≢true alive)
-length_ended (e ∷ w) p sorted alive = by (e.0 == p) refl alive (λ alive. length_ended w p (both_second (below_all nat_cmp e.0 w) (is_sorted nat_cmp w) sorted) alive)
+length_ended (e ∷ w) p sorted alive = by (e.0 == p) refl alive (λ alive. length_ended w p
+    (both_second (below_all nat_cmp e.0 w) (is_sorted nat_cmp w) sorted) alive)
   where
     same : (q p : ℕ) → (q == p) ≡ true → q ≡ p
     same q p h = grind (arith, nat_tests, h)
@@ -197,8 +208,10 @@ length_ended (e ∷ w) p sorted alive = by (e.0 == p) refl alive (λ alive. leng
     by : (b : Bool) → (e.0 == p) ≡ b → lives (e ∷ w) p ≡ true → (lives w p ≡ true → length (end_process w p) + 1 ≡ length w)
         → length (cond (not b) (e ∷ end_process w p) (end_process w p)) + 1 ≡ suc (length w)
     by true is alive rest =
-        ap (λ w. length w + 1) (none_ended p w (subst (λ q. T (below_all nat_cmp q w)) (same e.0 p is) (both_first (below_all nat_cmp e.0 w) (is_sorted nat_cmp w) sorted))) ∙ longer (length w)
-    by false is alive rest = one_more (length (end_process w p)) (length w) (rest (sym (ap (λ b. is_some (cond b (Some e.1) (find nat_cmp p w))) (apart e.0 p is)) ∙ alive))
+        ap (λ w. length w + 1) (none_ended p w (subst (λ q. T (below_all nat_cmp q w)) (same e.0 p is)
+        (both_first (below_all nat_cmp e.0 w) (is_sorted nat_cmp w) sorted))) ∙ longer (length w)
+    by false is alive rest = one_more (length (end_process w p)) (length w)
+        (rest (sym (ap (λ b. is_some (cond b (Some e.1) (find nat_cmp p w))) (apart e.0 p is)) ∙ alive))
 
 lives-ended : (w : World) (p q : ℕ) → lives (end_process w p) q ≡ cond (q == p) false (lives w q)
 lives-ended w p q = ap is_some (process-ended w p q) ∙ by (q == p)
@@ -209,9 +222,13 @@ lives-ended w p q = ap is_some (process-ended w p q) ∙ by (q == p)
 
 -- ---- exit: the end
 
-module _ (old mid : Mem) (tables : ProcessTables) (spaces : AllSpaces) (anons : AnonSet) (s : State) (p : ℕ) (keeps : Keeps old s) (alive : is_some (ranges_of old.spaces.processes p) ≡ true)
-    (taken : HasZapped old mid s.ledger (zaps_of s.ledger (keys_of_process s.ledger p))) (bytes : (view mid).bytes ≡ (view old).bytes) (homes : (view mid).homes ≡ (view old).homes) (same_spaces : mid.spaces ≡ old.spaces) (same_tables : has mid.tables ≡ has old.tables) (same_count : count mid ≡ count old)
-    (processes : has tables ≡ with_at p false (has mid.tables)) (entries : entry_at tables ≡ with_at p (λ page. Empty) (entry_at mid.tables)) (ended : IsEnded mid.spaces.processes spaces.processes p)
+module _ (old mid : Mem) (tables : ProcessTables) (spaces : AllSpaces) (anons : AnonSet) (s : State) (p : ℕ) (keeps : Keeps old s)
+    (alive : is_some (ranges_of old.spaces.processes p) ≡ true)
+    (taken : HasZapped old mid s.ledger (zaps_of s.ledger (keys_of_process s.ledger p))) (bytes : (view mid).bytes ≡ (view old).bytes)
+    (homes : (view mid).homes ≡ (view old).homes) (same_spaces : mid.spaces ≡ old.spaces) (same_tables : has mid.tables ≡ has old.tables)
+    (same_count : count mid ≡ count old)
+    (processes : has tables ≡ with_at p false (has mid.tables)) (entries : entry_at tables ≡ with_at p (λ page. Empty) (entry_at mid.tables))
+    (ended : IsEnded mid.spaces.processes spaces.processes p)
     (stay : AnonsStay old.spaces old.anons spaces anons) where
   alive_now : lives s.world p ≡ true
   alive_now = sym (lives_is old s keeps p) ∙ sym (alive_is old.spaces.processes p) ∙ alive
@@ -226,18 +243,37 @@ module _ (old mid : Mem) (tables : ProcessTables) (spaces : AllSpaces) (anons : 
       by true = refl
       by false = ap (λ (x : AllSpaces). pages_of x.processes q page) same_spaces ∙ keeps.stands.areas q page
 
-  exit-step : IsStep (setting (count old)) s (Exit p) (answer_only Done) (record { world = end_process s.world p; ledger = after_all s.ledger (zaps_of s.ledger (keys_of_process s.ledger p)); free = free_of (view mid); areas = with_at p none_on s.areas; anons = left_of anons s.anons; homes = s.homes })
+  exit-step : IsStep (setting (count old)) s (Exit p) (answer_only Done)
+      (record {
+        world = end_process s.world p;
+        ledger = after_all s.ledger (zaps_of s.ledger (keys_of_process s.ledger p));
+        free = free_of (view mid);
+        areas = with_at p none_on s.areas;
+        anons = left_of anons s.anons;
+        homes = s.homes;
+      })
   exit-step = record {
     events = zaps_of s.ledger (keys_of_process s.ledger p);
     legal = record {
-      answer = subst (λ o. MatchOption o (Follows (setting (count old)) s.world s.ledger (Exit p) (zaps_of s.ledger (keys_of_process s.ledger p)) Done []) (λ e. Refuses e (zaps_of s.ledger (keys_of_process s.ledger p)) Done [])) (sym allowed) (refl, refl, refl);
+      answer = subst (λ o. MatchOption o (Follows (setting (count old)) s.world s.ledger (Exit p) (zaps_of s.ledger (keys_of_process s.ledger p)) Done [])
+          (λ e. Refuses e (zaps_of s.ledger (keys_of_process s.ledger p)) Done [])) (sym allowed) (refl, refl, refl);
       notes = sym taken.notes;
     };
     world = refl;
     ledger = refl;
-    free = subst (λ free. ChoosesAll (setting (count old)) None s.ledger (zaps_of s.ledger (keys_of_process s.ledger p)) free (free_of (view mid))) keeps.stands.free taken.free;
-    rmap = subst (λ r. AreNext r s.world (Exit p) Done (rmap_of (record { world = end_process s.world p; ledger = after_all s.ledger (zaps_of s.ledger (keys_of_process s.ledger p)); free = free_of (view mid); areas = with_at p none_on s.areas; anons = left_of anons s.anons; homes = s.homes })))
-        (sym (rmap_after_all-zaps s.ledger (keys_of_process s.ledger p) s.ledger (rmap_of s))) (record { areas = refl; anons = are_left old s keeps spaces anons stay (with_at p none_on s.areas) exit-on; homes = refl });
+    free = subst (λ free. ChoosesAll (setting (count old)) None s.ledger (zaps_of s.ledger (keys_of_process s.ledger p)) free (free_of (view mid)))
+        keeps.stands.free taken.free;
+    rmap = subst (λ r. AreNext r s.world (Exit p) Done (rmap_of (record {
+      world = end_process s.world p;
+      ledger = after_all s.ledger (zaps_of s.ledger (keys_of_process s.ledger p));
+      free = free_of (view mid);
+      areas =
+          with_at p none_on s.areas;
+      anons = left_of anons s.anons;
+      homes = s.homes;
+    })))
+        (sym (rmap_after_all-zaps s.ledger (keys_of_process s.ledger p) s.ledger (rmap_of s)))
+        (record { areas = refl; anons = are_left old s keeps spaces anons stay (with_at p none_on s.areas) exit-on; homes = refl });
     shows = tt;
   }
 
@@ -250,20 +286,24 @@ module _ (old mid : Mem) (tables : ProcessTables) (spaces : AllSpaces) (anons : 
       by true = refl
       by false = refl
 
-  tables_now : TablesStand (view (record { frames = mid.frames; tables = tables; spaces = spaces; anons = anons })) (after_all s.ledger (zaps_of s.ledger (keys_of_process s.ledger p)))
+  tables_now : TablesStand (view (record { frames = mid.frames; tables = tables; spaces = spaces; anons = anons }))
+      (after_all s.ledger (zaps_of s.ledger (keys_of_process s.ledger p)))
   tables_now = record {
     entries = λ q page. ap (λ e. entry_of (plain e)) (entry_is q page) ∙ kept q page (q == p) refl;
     write_bits = λ q page t f is writes names. bits (q == p) q page t f (sym (ap plain (entry_is q page)) ∙ is) writes names;
   }
     where
-      kept : (q page : ℕ) (b : Bool) → (q == p) ≡ b → entry_of (plain (cond b Empty (entry_at mid.tables q page))) ≡ entry (after_all s.ledger (zaps_of s.ledger (keys_of_process s.ledger p))) (q, page)
-      kept q page true e = sym (ap (λ n. entry (after_all s.ledger (zaps_of s.ledger (keys_of_process s.ledger p))) (n, page)) (is_number q p e) ∙ entry-ended s.ledger p page)
+      kept : (q page : ℕ) (b : Bool) → (q == p) ≡ b → entry_of (plain (cond b Empty (entry_at mid.tables q page))) ≡ entry
+          (after_all s.ledger (zaps_of s.ledger (keys_of_process s.ledger p))) (q, page)
+      kept q page true e = sym (ap (λ n. entry (after_all s.ledger (zaps_of s.ledger (keys_of_process s.ledger p))) (n, page)) (is_number q p e)
+          ∙ entry-ended s.ledger p page)
       kept q page false e = taken.stands.parts.tables.entries q page
 
       clash : {t : Plain} → None ≡ Some t → ⊥
       clash e = cc
 
-      bits : (b : Bool) (q page : ℕ) (t : Plain) (f : ℕ) → plain (cond b Empty (entry_at mid.tables q page)) ≡ Some t → t.write ≡ true → names_frame f t.entry ≡ true
+      bits : (b : Bool) (q page : ℕ) (t : Plain) (f : ℕ) → plain (cond b Empty (entry_at mid.tables q page)) ≡ Some t →
+          t.write ≡ true → names_frame f t.entry ≡ true
           → is_shared (after_all s.ledger (zaps_of s.ledger (keys_of_process s.ledger p))) f ≡ false
       bits true q page t f is writes names = absurd (clash is)
       bits false q page t f is writes names = taken.stands.parts.tables.write_bits q page t f is writes names
@@ -271,9 +311,11 @@ module _ (old mid : Mem) (tables : ProcessTables) (spaces : AllSpaces) (anons : 
   areas_now : AreasStand (view (record { frames = mid.frames; tables = tables; spaces = spaces; anons = anons })) (end_process s.world p)
   areas_now = record {
     alive = λ q. ap is_some (ended.areas q) ∙ lives_as q (q == p) ∙ sym (lives-ended s.world p q);
-    number = number _ _ _ _ (ended.number ∙ ap (λ (x : AllSpaces). length x.processes) same_spaces) keeps.stands.parts.areas.number (length_ended s.world p keeps.stands.sound.world.in_order alive_now);
+    number = number _ _ _ _ (ended.number ∙ ap (λ (x : AllSpaces). length x.processes) same_spaces) keeps.stands.parts.areas.number
+        (length_ended s.world p keeps.stands.sound.world.in_order alive_now);
     apart = all_apart spaces.processes ended.rising;
-    covers = λ q page. ap (λ o. prot_of o page) (ranges_ended mid.spaces.processes spaces.processes p ended q) ∙ covered q page (q == p) ∙ sym (ap (option_map (λ (x : Page). x.prot)) (pages-ended s.world p q page));
+    covers = λ q page. ap (λ o. prot_of o page) (ranges_ended mid.spaces.processes spaces.processes p ended q) ∙ covered q page (q == p)
+        ∙ sym (ap (option_map (λ (x : Page). x.prot)) (pages-ended s.world p q page));
   }
     where
       number : (n m w w' : ℕ) → n + 1 ≡ m → m ≡ w → w' + 1 ≡ w → n ≡ w'
@@ -283,19 +325,28 @@ module _ (old mid : Mem) (tables : ProcessTables) (spaces : AllSpaces) (anons : 
       lives_as q true = refl
       lives_as q false = ap (λ (x : AllSpaces). is_some (areas_of x.processes q)) same_spaces ∙ keeps.stands.parts.areas.alive q
 
-      covered : (q page : ℕ) (b : Bool) → prot_of (cond b None (ranges_of mid.spaces.processes q)) page ≡ option_map (λ (x : Page). x.prot) (cond b None (pages s.world q page))
+      covered : (q page : ℕ) (b : Bool) → prot_of (cond b None (ranges_of mid.spaces.processes q)) page ≡ option_map (λ (x : Page). x.prot)
+          (cond b None (pages s.world q page))
       covered q page true = refl
       covered q page false = ap (λ (x : AllSpaces). prot_of (ranges_of x.processes q) page) same_spaces ∙ keeps.stands.parts.areas.covers q page
 
-  kept_now : (q page : ℕ) → IsKept (view (record { frames = mid.frames; tables = tables; spaces = spaces; anons = anons })) no_device (after_all s.ledger (zaps_of s.ledger (keys_of_process s.ledger p))) (entry (after_all s.ledger (zaps_of s.ledger (keys_of_process s.ledger p))) (q, page)) (pages (end_process s.world p) q page)
+  kept_now : (q page : ℕ) → IsKept (view (record { frames = mid.frames; tables = tables; spaces = spaces; anons = anons })) no_device
+      (after_all s.ledger (zaps_of s.ledger (keys_of_process s.ledger p)))
+      (entry (after_all s.ledger (zaps_of s.ledger (keys_of_process s.ledger p))) (q, page))
+      (pages (end_process s.world p) q page)
   kept_now q page =
       let l = after_all s.ledger (zaps_of s.ledger (keys_of_process s.ledger p)) in
-      subst (IsKept (view (record { frames = mid.frames; tables = tables; spaces = spaces; anons = anons })) no_device l (entry l (q, page))) (sym (pages-ended s.world p q page))
-      (kept-on (view old) (view (record { frames = mid.frames; tables = tables; spaces = spaces; anons = anons })) s.ledger l (entry l (q, page)) (cond (q == p) None (pages s.world q page)) bytes (no_cache s.ledger keeps.stands.parts.ledger.swap.finds) (no_cache l taken.stands.parts.swap.finds) (by (q == p) refl))
+      subst (IsKept (view (record { frames = mid.frames; tables = tables; spaces = spaces; anons = anons })) no_device l (entry l (q, page)))
+      (sym (pages-ended s.world p q page))
+      (kept-on (view old) (view (record { frames = mid.frames; tables = tables; spaces = spaces; anons = anons })) s.ledger l (entry l (q, page))
+      (cond (q == p) None (pages s.world q page)) bytes (no_cache s.ledger keeps.stands.parts.ledger.swap.finds)
+      (no_cache l taken.stands.parts.swap.finds) (by (q == p) refl))
     where
-      by : (b : Bool) → (q == p) ≡ b → IsKept (view old) no_device s.ledger (entry (after_all s.ledger (zaps_of s.ledger (keys_of_process s.ledger p))) (q, page)) (cond b None (pages s.world q page))
+      by : (b : Bool) → (q == p) ≡ b → IsKept (view old) no_device s.ledger
+          (entry (after_all s.ledger (zaps_of s.ledger (keys_of_process s.ledger p))) (q, page)) (cond b None (pages s.world q page))
       by true e = kept-nothing (view old) s.ledger (entry (after_all s.ledger (zaps_of s.ledger (keys_of_process s.ledger p))) (q, page))
-      by false e = subst (λ x. IsKept (view old) no_device s.ledger x (pages s.world q page)) (sym (entry-others s.ledger p q page e)) (keeps.stands.parts.bytes.kept q page)
+      by false e = subst (λ x. IsKept (view old) no_device s.ledger x (pages s.world q page)) (sym (entry-others s.ledger p q page e))
+          (keeps.stands.parts.bytes.kept q page)
 
   has_now : HasTables (record { frames = mid.frames; tables = tables; spaces = spaces; anons = anons })
   has_now q = ap (λ (h : ℕ → Bool). h q) processes ∙ has_as q (q == p) ∙ sym (ap is_some (ranges_ended mid.spaces.processes spaces.processes p ended q))
@@ -304,7 +355,8 @@ module _ (old mid : Mem) (tables : ProcessTables) (spaces : AllSpaces) (anons : 
       has_as q true = refl
       has_as q false = ap (λ (h : ℕ → Bool). h q) same_tables ∙ keeps.tables q ∙ sym (ap (λ (x : AllSpaces). is_some (ranges_of x.processes q)) same_spaces)
 
-  stands_now : HasLedger (record { frames = mid.frames; tables = tables; spaces = spaces; anons = anons }) (after_all s.ledger (zaps_of s.ledger (keys_of_process s.ledger p)))
+  stands_now : HasLedger (record { frames = mid.frames; tables = tables; spaces = spaces; anons = anons })
+      (after_all s.ledger (zaps_of s.ledger (keys_of_process s.ledger p)))
   stands_now = record {
     sound = taken.stands.sound;
     parts =
@@ -325,18 +377,31 @@ module _ (old mid : Mem) (tables : ProcessTables) (spaces : AllSpaces) (anons : 
   }
     where
       gone : (k : Key) (f : ℕ) → (k.0 == p) ≡ true → Names (after_all s.ledger (zaps_of s.ledger (keys_of_process s.ledger p))) k f → ⊥
-      gone k f e names = subst (λ o. IsSomeAnd o (λ e. names_frame f e ≡ true)) (ap (λ n. entry (after_all s.ledger (zaps_of s.ledger (keys_of_process s.ledger p))) (n, k.1)) (is_number k.0 p e) ∙ entry-ended s.ledger p k.1) names
+      gone k f e names = subst (λ o. IsSomeAnd o (λ e. names_frame f e ≡ true))
+          (ap (λ n. entry (after_all s.ledger (zaps_of s.ledger (keys_of_process s.ledger p))) (n, k.1)) (is_number k.0 p e) ∙ entry-ended s.ledger p k.1) names
 
-      there : (k : Key) (f : ℕ) → Names (after_all s.ledger (zaps_of s.ledger (keys_of_process s.ledger p))) k f → (b : Bool) → (k.0 == p) ≡ b → Names s.ledger k f
+      there : (k : Key) (f : ℕ) → Names (after_all s.ledger (zaps_of s.ledger (keys_of_process s.ledger p))) k f → (b : Bool) →
+          (k.0 == p) ≡ b → Names s.ledger k f
       there k f names true e = absurd (gone k f e names)
       there k f names false e = subst (λ o. IsSomeAnd o (λ e. names_frame f e ≡ true)) (entry-others s.ledger p k.0 k.1 e) names
 
-      stays : (k : Key) (f : ℕ) (home : ℕ × ℕ) → Names (after_all s.ledger (zaps_of s.ledger (keys_of_process s.ledger p))) k f → home_of k.1 (s.areas k.0 k.1) ≡ Some home → (b : Bool) → (k.0 == p) ≡ b
+      stays : (k : Key) (f : ℕ) (home : ℕ × ℕ) → Names (after_all s.ledger (zaps_of s.ledger (keys_of_process s.ledger p))) k f →
+          home_of k.1 (s.areas k.0 k.1) ≡ Some home → (b : Bool) → (k.0 == p) ≡ b
           → home_of k.1 ((cond b none_on (s.areas k.0)) k.1) ≡ Some home
       stays k f home names is true e = absurd (gone k f e names)
       stays k f home names is false e = is
 
   pub exit-steps : MemSteps old (record { frames = mid.frames; tables = tables; spaces = spaces; anons = anons }) s (Exit p) (answer_only Done)
-  exit-steps = stepped old (record { frames = mid.frames; tables = tables; spaces = spaces; anons = anons }) s (record { world = end_process s.world p; ledger = after_all s.ledger (zaps_of s.ledger (keys_of_process s.ledger p)); free = free_of (view mid); areas = with_at p none_on s.areas; anons = left_of anons s.anons; homes = s.homes }) (Exit p) (answer_only Done)
-      keeps exit-step same_count stands_now refl exit-on (anons_stand old s keeps spaces anons stay (with_at p none_on s.areas) exit-on (record { frames = mid.frames; tables = tables; spaces = spaces; anons = anons }) refl refl)
-      (λ f. ap (λ h. h f) homes ∙ keeps.stands.homes f) (reach_after old s keeps spaces anons stay (after_all s.ledger (zaps_of s.ledger (keys_of_process s.ledger p))) (with_at p none_on s.areas) exit-on left_in) stay.fit areas_now has_now kept_now
+  exit-steps = stepped old (record { frames = mid.frames; tables = tables; spaces = spaces; anons = anons }) s
+      (record {
+        world = end_process s.world p;
+        ledger = after_all s.ledger (zaps_of s.ledger (keys_of_process s.ledger p));
+        free = free_of (view mid);
+        areas = with_at p none_on s.areas;
+        anons = left_of anons s.anons;
+        homes = s.homes;
+      }) (Exit p) (answer_only Done)
+      keeps exit-step same_count stands_now refl exit-on (anons_stand old s keeps spaces anons stay (with_at p none_on s.areas) exit-on
+      (record { frames = mid.frames; tables = tables; spaces = spaces; anons = anons }) refl refl)
+      (λ f. ap (λ h. h f) homes ∙ keeps.stands.homes f) (reach_after old s keeps spaces anons stay
+      (after_all s.ledger (zaps_of s.ledger (keys_of_process s.ledger p))) (with_at p none_on s.areas) exit-on left_in) stay.fit areas_now has_now kept_now

@@ -13,9 +13,10 @@ use Rattle.av_trace.specs.declared.reply.Answer.TheVariants.{AreaList}
 use Rattle.av_trace.specs.declared.reply.Errno.TheVariants.{Esrch}
 use Rattle.av_trace.specs.declared.row.Row.{Row}
 use Rattle.av_trace.specs.declared.row.Row.TheVariants as rows
-use Rattle.av_spaces.specs.Kin.{AnonsFit, chain_at, chain_on}
+use Rattle.av_spaces.specs.Kin as in_spaces
+use Rattle.av_spaces.specs.Kin.{AnonsFit, chain_at}
 use Rattle.av_spaces.specs.Spaces.{AllSpaces, AreRising, areas_of, pages_of as areas_on}
-use Rattle.av_plain.specs.Areas.{Anons, chain_of}
+use Rattle.av_plain.specs.Areas.{Anons, chain_by}
 use Rattle.av_plain.specs.Refusal.{tests, refusal, Refuses}
 use Rattle.av_plain.specs.Report.{area_row, range_of}
 use Rattle.av_plain.specs.Stands.{prot_of}
@@ -48,24 +49,30 @@ on_pages p areas h = on_first areas (apart_of p areas h)
 -- ---- its chain is that of its own anon_vma
 
 pub own_chain : (s : AllSpaces) (anons : AnonSet) (p page : ℕ) (a : Area) → AnonsFit s anons → areas_on s.processes p page ≡ Some a
-    → chain_at s anons p page ≡ chain_of (anons_of s anons) a.anon
-own_chain s anons p page a fit on = ap (λ o. option_map_or (λ (area : Area). chain_on s anons area.anon) o []) on ∙ by a.anon refl
+    → chain_at s anons p page ≡ chain_by (anons_of s anons) a.anon
+own_chain s anons p page a fit on = ap (λ o. option_map_or (λ (area : Area). in_spaces.chain_by s anons area.anon) o []) on ∙ by a.anon refl
   where
-    by : (own : Option ℕ) → a.anon ≡ own → chain_on s anons own ≡ chain_of (anons_of s anons) own
+    by : (own : Option ℕ) → a.anon ≡ own → in_spaces.chain_by s anons own ≡ chain_by (anons_of s anons) own
     by None is = refl
     by (Some v) is =
         let owned = fit.own v (p, page, subst (λ o. IsSomeAnd o (λ (area : Area). area.anon ≡ Some v)) (sym on) is) in
-        sym (shown_chain s anons v (fit.linked v (p, page, subst (λ o. IsSomeAnd o (λ (area : Area). is_in v (chain_on s anons area.anon) ≡ true)) (sym on) (subst (λ o. is_in v (chain_on s anons o) ≡ true) (sym is) owned))))
+        sym (shown_chain s anons v (fit.linked v (
+          p,
+          page,
+          subst (λ o. IsSomeAnd o (λ (area : Area). is_in v (in_spaces.chain_by s anons area.anon) ≡ true))
+              (sym on) (subst (λ o. is_in v (in_spaces.chain_by s anons o) ≡ true) (sym is) owned),
+        )))
 
 -- ---- the reply
 
 -- the same rows, by anon_vmas with the same chains
-rows_by : (a b : Anons) (areas : List Area) → AllByRecursion (λ (area : Area). chain_of a area.anon ≡ chain_of b area.anon) areas
+rows_by : (a b : Anons) (areas : List Area) → AllByRecursion (λ (area : Area). chain_by a area.anon ≡ chain_by b area.anon) areas
     → map (area_row a) areas ≡ map (area_row b) areas
 rows_by a b [] h = refl
 rows_by a b (area ∷ areas) h = λ i. rows.Area area.start area.end area.prot area.pgoff area.anon (h.0 i) ∷ rows_by a b areas h.1 i
 
-module _ (k : Mem) (s : State) (p : ℕ) (areas : List Area) (keeps : Keeps k s) (alive : is_some (areas_of k.spaces.processes p) ≡ true) (are : areas_of k.spaces.processes p ≡ Some areas) (rising : AreRising p areas) where
+module _ (k : Mem) (s : State) (p : ℕ) (areas : List Area) (keeps : Keeps k s) (alive : is_some (areas_of k.spaces.processes p) ≡ true)
+    (are : areas_of k.spaces.processes p ≡ Some areas) (rising : AreRising p areas) where
   allowed : refusal (tests (setting (count k)) s.world s.ledger (AsksAreas p)) ≡ None
   allowed = ap (λ b. cond (not b) (Some Esrch) None) (sym (lives_is k s keeps p) ∙ alive)
 
@@ -75,9 +82,10 @@ module _ (k : Mem) (s : State) (p : ℕ) (areas : List Area) (keeps : Keeps k s)
   on : (page : ℕ) → pages_in (Some areas) page ≡ s.areas p page
   on page = ap (λ o. pages_in o page) (sym are) ∙ keeps.stands.areas p page
 
-  chains : AllByRecursion (λ (area : Area). chain_of (view k).anons area.anon ≡ chain_of s.anons area.anon) areas
-  chains = all_from (λ (a : Area). pages_in (Some areas) (first_of a) ≡ Some a) (λ (a : Area). chain_of (view k).anons a.anon ≡ chain_of s.anons a.anon)
-      (λ a here. subst (λ o. IfSome o (λ area. chain_of (view k).anons area.anon ≡ chain_of s.anons area.anon)) (sym (on (first_of a)) ∙ here) (keeps.stands.anons.chains p (first_of a)))
+  chains : AllByRecursion (λ (area : Area). chain_by (view k).anons area.anon ≡ chain_by s.anons area.anon) areas
+  chains = all_from (λ (a : Area). pages_in (Some areas) (first_of a) ≡ Some a) (λ (a : Area). chain_by (view k).anons a.anon ≡ chain_by s.anons a.anon)
+      (λ a here. subst (λ o. IfSome o (λ area. chain_by (view k).anons area.anon ≡ chain_by s.anons area.anon)) (sym (on (first_of a)) ∙ here)
+      (keeps.stands.anons.chains p (first_of a)))
       areas (on_pages p areas rising)
 
   pub areas-steps : MemSteps k k s (AsksAreas p) (record { answer = AreaList (length shown); notes = []; rows = shown })
@@ -86,16 +94,17 @@ module _ (k : Mem) (s : State) (p : ℕ) (areas : List Area) (keeps : Keeps k s)
     step = record {
       events = [];
       legal = record {
-        answer = subst (λ o. MatchOption o (Follows (setting (count k)) s.world s.ledger (AsksAreas p) [] (AreaList (length shown)) shown) (λ e. Refuses e [] (AreaList (length shown)) shown)) (sym allowed) (
-          refl,
-          (
-            map range_of areas,
-            runs-of_rows (view k).anons areas (wholes p areas rising),
-            apart_of p areas rising,
-            λ page. sym (ap (λ o. prot_of (option_map (map range_of) o) page) are) ∙ keeps.stands.parts.areas.covers p page,
-          ),
-          refl,
-        );
+        answer = subst (λ o. MatchOption o (Follows (setting (count k)) s.world s.ledger (AsksAreas p) [] (AreaList (length shown)) shown)
+            (λ e. Refuses e [] (AreaList (length shown)) shown)) (sym allowed) (
+              refl,
+              (
+                map range_of areas,
+                runs-of_rows (view k).anons areas (wholes p areas rising),
+                apart_of p areas rising,
+                λ page. sym (ap (λ o. prot_of (option_map (map range_of) o) page) are) ∙ keeps.stands.parts.areas.covers p page,
+              ),
+              refl,
+            );
         notes = refl;
       };
       world = refl;

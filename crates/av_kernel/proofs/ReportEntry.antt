@@ -31,21 +31,25 @@ abbrev pub by_tests : Bool → Bool → Option Errno
 by_tests alive mapped = cond (not alive) (Some Esrch) (cond (not mapped) (Some Efault) None)
 
 module _ (k : Mem) (s : State) (p a : ℕ) (keeps : Keeps k s) (alive : is_some (areas_of k.spaces.processes p) ≡ true) where
-  pub tests_are : (b : Bool) → is_some (pages_of k.spaces.processes p (page_of a)) ≡ b → by_tests (lives s.world p) (is_mapped (pages s.world p) (page_of a)) ≡ by_tests true b
+  pub tests_are : (b : Bool) → is_some (pages_of k.spaces.processes p (page_of a)) ≡ b →
+      by_tests (lives s.world p) (is_mapped (pages s.world p) (page_of a)) ≡ by_tests true b
   tests_are b is = (λ i. by_tests ((sym (lives_is k s keeps p) ∙ alive) i) ((sym (area_there k s keeps p (page_of a)) ∙ is) i))
 
   -- one that isn't is refused
-  pub unmapped_next : is_some (pages_of k.spaces.processes p (page_of a)) ≡ false → refusal (tests (setting (count k)) s.world s.ledger (AsksEntry p a)) ≡ Some Efault
+  pub unmapped_next : is_some (pages_of k.spaces.processes p (page_of a)) ≡ false →
+      refusal (tests (setting (count k)) s.world s.ledger (AsksEntry p a)) ≡ Some Efault
   unmapped_next none = tests_are false none
 
-  pub entry-steps : is_some (pages_of k.spaces.processes p (page_of a)) ≡ true → (answer : Answer) → answer ≡ entry_answer s.ledger (entry s.ledger (p, page_of a))
+  pub entry-steps : is_some (pages_of k.spaces.processes p (page_of a)) ≡ true → (answer : Answer) →
+      answer ≡ entry_answer s.ledger (entry s.ledger (p, page_of a))
       → MemSteps k k s (AsksEntry p a) (answer_only answer)
   entry-steps mapped answer is = record {
     next = s;
     step = record {
       events = [];
       legal = record {
-        answer = subst (λ o. MatchOption o (Follows (setting (count k)) s.world s.ledger (AsksEntry p a) [] answer []) (λ e. Refuses e [] answer [])) (sym (tests_are true mapped)) (is, refl, refl);
+        answer = subst (λ o. MatchOption o (Follows (setting (count k)) s.world s.ledger (AsksEntry p a) [] answer []) (λ e. Refuses e [] answer []))
+            (sym (tests_are true mapped)) (is, refl, refl);
         notes = refl;
       };
       world = refl;

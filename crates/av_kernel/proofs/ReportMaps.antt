@@ -19,7 +19,8 @@ use Rattle.av_kernel.specs.Report.{AreRuns}
 use Rattle.av_kernel.specs.Step.{MemSteps}
 use Rattle.av_kernel.proofs.StepLaws.{areas_kept}
 
-module _ (k : Mem) (s : State) (p : ℕ) (areas : List Area) (rows : List Row) (keeps : Keeps k s) (alive : is_some (areas_of k.spaces.processes p) ≡ true) (are : areas_of k.spaces.processes p ≡ Some areas) (runs : AreRuns (map range_of areas) rows) where
+module _ (k : Mem) (s : State) (p : ℕ) (areas : List Area) (rows : List Row) (keeps : Keeps k s) (alive : is_some (areas_of k.spaces.processes p) ≡ true)
+    (are : areas_of k.spaces.processes p ≡ Some areas) (runs : AreRuns (map range_of areas) rows) where
   allowed : refusal (tests (setting (count k)) s.world s.ledger (Maps p)) ≡ None
   allowed = ap (λ b. cond (not b) (Some Esrch) None) (sym (lives_is k s keeps p) ∙ alive)
 
@@ -29,16 +30,17 @@ module _ (k : Mem) (s : State) (p : ℕ) (areas : List Area) (rows : List Row) (
     step = record {
       events = [];
       legal = record {
-        answer = subst (λ o. MatchOption o (Follows (setting (count k)) s.world s.ledger (Maps p) [] (Runs (length rows)) rows) (λ e. Refuses e [] (Runs (length rows)) rows)) (sym allowed) (
-          refl,
-          (
-            runs.runs,
-            runs.of_runs,
-            runs.longest,
-            λ page. runs.cover page ∙ sym (ap (λ o. prot_of (option_map (map range_of) o) page) are) ∙ keeps.stands.parts.areas.covers p page,
-          ),
-          refl,
-        );
+        answer = subst (λ o. MatchOption o (Follows (setting (count k)) s.world s.ledger (Maps p) [] (Runs (length rows)) rows)
+            (λ e. Refuses e [] (Runs (length rows)) rows)) (sym allowed) (
+              refl,
+              (
+                runs.runs,
+                runs.of_runs,
+                runs.longest,
+                λ page. runs.cover page ∙ sym (ap (λ o. prot_of (option_map (map range_of) o) page) are) ∙ keeps.stands.parts.areas.covers p page,
+              ),
+              refl,
+            );
         notes = refl;
       };
       world = refl;

@@ -84,7 +84,8 @@ itself : (n : ℕ) → (n == n) ≡ true
 itself n = grind (arith, nat_tests)
 
 joins-yes : (to from : ℕ) (p q : Prot) → to ≡ from → p ≡ q → (to == from && same_prot p q) ≡ true
-joins-yes to from p q here same = ap (λ x. x == from && same_prot p q) here ∙ ap (λ x. from == from && same_prot x q) same ∙ ap (λ b. b && same_prot q q) (itself from) ∙ prot_itself q
+joins-yes to from p q here same = ap (λ x. x == from && same_prot p q) here ∙ ap (λ x. from == from && same_prot x q) same
+    ∙ ap (λ b. b && same_prot q q) (itself from) ∙ prot_itself q
 
 joins-no : (to from : ℕ) (p q : Prot) → (to ≡ from → p ≡ q → ⊥) → (to == from && same_prot p q) ≡ false
 joins-no to from p q apart = by (to == from && same_prot p q) refl
@@ -102,13 +103,15 @@ range from to prot = record { from = from; to = to; prot = prot }
 pub grows : (rows all : List Row) (from to : ℕ) (prot : Prot) (r : Range) (ranges : List Range) → to ≡ r.from → prot ≡ r.prot
     → rows ++ joined_rows (range from to prot) (r ∷ ranges) ≡ all → rows ++ joined_rows (range from r.to prot) ranges ≡ all
 grows rows all from to prot r ranges here same h =
-    sym (ap (λ b. rows ++ map row_of (cond b (joined same_prot (range from r.to prot) ranges) (range from to prot ∷ joined same_prot r ranges))) (joins-yes to r.from prot r.prot here same)) ∙ h
+    sym (ap (λ b. rows ++ map row_of (cond b (joined same_prot (range from r.to prot) ranges) (range from to prot ∷ joined same_prot r ranges)))
+    (joins-yes to r.from prot r.prot here same)) ∙ h
 
 pub begins : (rows all : List Row) (from to : ℕ) (prot : Prot) (r : Range) (ranges : List Range) → (to ≡ r.from → prot ≡ r.prot → ⊥)
     → rows ++ joined_rows (range from to prot) (r ∷ ranges) ≡ all → (rows ++ Run (4096 * from) (4096 * to) prot ∷ []) ++ joined_rows r ranges ≡ all
 begins rows all from to prot r ranges apart h =
     append_assoc rows (Run (4096 * from) (4096 * to) prot ∷ []) (joined_rows r ranges)
-    ∙ sym (ap (λ b. rows ++ map row_of (cond b (joined same_prot (range from r.to prot) ranges) (range from to prot ∷ joined same_prot r ranges))) (joins-no to r.from prot r.prot apart)) ∙ h
+    ∙ sym (ap (λ b. rows ++ map row_of (cond b (joined same_prot (range from r.to prot) ranges) (range from to prot ∷ joined same_prot r ranges)))
+    (joins-no to r.from prot r.prot apart)) ∙ h
 
 -- ---- the areas
 
@@ -139,11 +142,18 @@ pub left-grown : (a run now : Area) (rows all : List Row) (areas : List Area) �
     → run.end ≡ a.start → run.prot ≡ a.prot → now ≡ record run { end = a.end } → IsLeft rows run (a ∷ areas) all → IsLeft rows now areas all
 left-grown a run now rows all areas whole here same is h =
     let old_end = h.3 in let next_start = whole.start in
-    subst (λ run. IsLeft rows run areas all) (sym is)
-    (h.0, past_of a, h.2, whole.end, grows rows all h.0 h.1 run.prot (range_of a) (map range_of areas) (let at : h.1 ≡ first_of a = omega (arith, old_end, next_start, here) in at) same h.4)
+    subst (λ run. IsLeft rows run areas all) (sym is) (
+      h.0,
+      past_of a,
+      h.2,
+      whole.end,
+      grows rows all h.0 h.1 run.prot (range_of a) (map range_of areas) (let at : h.1 ≡ first_of a =
+          omega (arith, old_end, next_start, here) in at) same h.4,
+    )
 
 pub left-begun : (a run now : Area) (rows rows' all : List Row) (areas : List Area) → IsWhole a
-    → (run.end ≡ a.start → run.prot ≡ a.prot → ⊥) → rows' ≡ rows ++ Run run.start run.end run.prot ∷ [] → now ≡ a → IsLeft rows run (a ∷ areas) all → IsLeft rows' now areas all
+    → (run.end ≡ a.start → run.prot ≡ a.prot → ⊥) → rows' ≡ rows ++ Run run.start run.end run.prot ∷ [] → now ≡ a → IsLeft rows run (a ∷ areas) all →
+    IsLeft rows' now areas all
 left-begun a run now rows rows' all areas whole apart added is h =
     let old_end = h.3 in let next_start = whole.start in
     subst (λ run. IsLeft rows' run areas all) (sym is) (
@@ -152,7 +162,8 @@ left-begun a run now rows rows' all areas whole apart added is h =
       whole.start,
       whole.end,
       ap (λ rows. rows ++ joined_rows (range_of a) (map range_of areas)) (added ∙ (λ i. rows ++ Run (h.2 i) (h.3 i) run.prot ∷ []))
-          ∙ begins rows all h.0 h.1 run.prot (range_of a) (map range_of areas) (λ at same. apart (let is : run.end ≡ a.start = omega (arith, old_end, next_start, at) in is) same) h.4,
+          ∙ begins rows all h.0 h.1 run.prot (range_of a) (map range_of areas)
+          (λ at same. apart (let is : run.end ≡ a.start = omega (arith, old_end, next_start, at) in is) same) h.4,
     )
 
 pub left-last : (run : Area) (rows rows' all : List Row) → rows' ≡ rows ++ Run run.start run.end run.prot ∷ [] → IsLeft rows run [] all → rows' ≡ all

@@ -14,18 +14,48 @@ use Rattle.av_kernel.specs.Step.{MemSteps}
 use Rattle.av_kernel.proofs.StepLaws.{areas_kept}
 
 -- what the kernel counts is what the ledger has
-pub counted : (k : Mem) (s : State) (processes : ℕ) → Keeps k s → ((f : ℕ) → how_many (λ g. f == g) (view k).free ≤ 1) → ((f : ℕ) → is_in f (view k).free ≡ true → f < count k) → processes ≡ length k.spaces.processes
-    → record { frames = count k; free = length (view k).free; active = 0; inactive = count k - length (view k).free; flight = 0; slots = 0; free_slots = 0; processes = processes } ≡ totals (setting (count k)) s.world s.ledger
+pub counted : (k : Mem) (s : State) (processes : ℕ) → Keeps k s → ((f : ℕ) → how_many (λ g. f == g) (view k).free ≤ 1) →
+    ((f : ℕ) → is_in f (view k).free ≡ true → f < count k) → processes ≡ length k.spaces.processes
+    → record {
+      frames = count k;
+      free = length (view k).free;
+      active = 0;
+      inactive = count k - length (view k).free;
+      flight = 0;
+      slots = 0;
+      free_slots = 0;
+      processes = processes;
+    } ≡ totals (setting (count k)) s.world s.ledger
 counted k s processes keeps once below number =
     let st = keeps.stands in
     ap (λ (n : ℕ). with_number n) (number ∙ st.parts.areas.number)
-    ∙ sym (totals-plain (setting (count k)) s.world s.ledger (view k).free st.sound.ledger (sym st.parts.ledger.lists.active) (sym st.parts.ledger.swap.flight) (sym st.parts.ledger.swap.on) (free-once (setting (count k)) s.ledger (view k).free once below st.parts.ledger.frames.free))
+    ∙ sym (totals-plain (setting (count k)) s.world s.ledger (view k).free st.sound.ledger (sym st.parts.ledger.lists.active) (sym st.parts.ledger.swap.flight)
+    (sym st.parts.ledger.swap.on) (free-once (setting (count k)) s.ledger (view k).free once below st.parts.ledger.frames.free))
   where
     with_number : ℕ → Totals
-    with_number n = record { frames = count k; free = length (view k).free; active = 0; inactive = count k - length (view k).free; flight = 0; slots = 0; free_slots = 0; processes = n }
+    with_number n = record {
+      frames = count k;
+      free = length (view k).free;
+      active = 0;
+      inactive = count k - length (view k).free;
+      flight = 0;
+      slots = 0;
+      free_slots = 0;
+      processes = n;
+    }
 
-pub stat-steps : (k : Mem) (s : State) (processes : ℕ) → Keeps k s → ((f : ℕ) → how_many (λ g. f == g) (view k).free ≤ 1) → ((f : ℕ) → is_in f (view k).free ≡ true → f < count k) → processes ≡ length k.spaces.processes
-    → MemSteps k k s Stat (answer_only (Counted (record { frames = count k; free = length (view k).free; active = 0; inactive = count k - length (view k).free; flight = 0; slots = 0; free_slots = 0; processes = processes })))
+pub stat-steps : (k : Mem) (s : State) (processes : ℕ) → Keeps k s → ((f : ℕ) → how_many (λ g. f == g) (view k).free ≤ 1) →
+    ((f : ℕ) → is_in f (view k).free ≡ true → f < count k) → processes ≡ length k.spaces.processes
+    → MemSteps k k s Stat (answer_only (Counted (record {
+      frames = count k;
+      free = length (view k).free;
+      active = 0;
+      inactive = count k - length (view k).free;
+      flight = 0;
+      slots = 0;
+      free_slots = 0;
+      processes = processes;
+    })))
 stat-steps k s processes keeps once below number = record {
   next = s;
   step = record {
@@ -44,4 +74,13 @@ stat-steps k s processes keeps once below number = record {
 pub same_reply : (a a' f f' i i' n : ℕ) → a ≡ a' → f ≡ f' → i ≡ i'
     → answer_only (Counted (record { frames = a; free = f; active = 0; inactive = i; flight = 0; slots = 0; free_slots = 0; processes = n }))
     ≡ answer_only (Counted (record { frames = a'; free = f'; active = 0; inactive = i'; flight = 0; slots = 0; free_slots = 0; processes = n }))
-same_reply a a' f f' i i' n p q r = λ j. answer_only (Counted (record { frames = p j; free = q j; active = 0; inactive = r j; flight = 0; slots = 0; free_slots = 0; processes = n }))
+same_reply a a' f f' i i' n p q r = λ j. answer_only (Counted (record {
+  frames = p j;
+  free = q j;
+  active = 0;
+  inactive = r j;
+  flight = 0;
+  slots = 0;
+  free_slots = 0;
+  processes = n;
+}))

@@ -27,7 +27,8 @@ use Rattle.av_kernel.proofs.StepLaws.{rmap_kept}
 abbrev pub shown : Ledger → Option Entry → Reply
 shown l e = record { answer = walk_answer l e; notes = []; rows = walk_rows l e }
 
-module _ (k : Mem) (s : State) (p a : ℕ) (keeps : Keeps k s) (alive : is_some (areas_of k.spaces.processes p) ≡ true) (mapped : is_some (pages_of k.spaces.processes p (page_of a)) ≡ true) where
+module _ (k : Mem) (s : State) (p a : ℕ) (keeps : Keeps k s) (alive : is_some (areas_of k.spaces.processes p) ≡ true)
+    (mapped : is_some (pages_of k.spaces.processes p (page_of a)) ≡ true) where
   shown-steps : MemSteps k k s (AsksRmap p a) (shown s.ledger (entry s.ledger (p, page_of a)))
   shown-steps =
       let reply = shown s.ledger (entry s.ledger (p, page_of a)) in record {
@@ -35,7 +36,8 @@ module _ (k : Mem) (s : State) (p a : ℕ) (keeps : Keeps k s) (alive : is_some 
         step = record {
           events = [];
           legal = record {
-            answer = subst (λ o. MatchOption o (Follows (setting (count k)) s.world s.ledger (AsksRmap p a) [] reply.answer reply.rows) (λ e. Refuses e [] reply.answer reply.rows)) (sym (tests_are k s p a keeps alive true mapped)) (refl, refl, refl);
+            answer = subst (λ o. MatchOption o (Follows (setting (count k)) s.world s.ledger (AsksRmap p a) [] reply.answer reply.rows)
+                (λ e. Refuses e [] reply.answer reply.rows)) (sym (tests_are k s p a keeps alive true mapped)) (refl, refl, refl);
             notes = refl;
           };
           world = refl;
@@ -48,9 +50,11 @@ module _ (k : Mem) (s : State) (p a : ℕ) (keeps : Keeps k s) (alive : is_some 
       }
 
   -- by what the table has
-  pub walk-steps : (t : Pte) (reply : Reply) → entry_at k.tables p (page_of a) ≡ t → reply ≡ shown s.ledger (entry_of (plain t)) → MemSteps k k s (AsksRmap p a) reply
+  pub walk-steps : (t : Pte) (reply : Reply) → entry_at k.tables p (page_of a) ≡ t → reply ≡ shown s.ledger (entry_of (plain t)) →
+      MemSteps k k s (AsksRmap p a) reply
   walk-steps t reply at is =
-      subst (MemSteps k k s (AsksRmap p a)) (sym (is ∙ ap (λ t. shown s.ledger (entry_of (plain t))) (sym at) ∙ ap (shown s.ledger) (keeps.stands.parts.ledger.tables.entries p (page_of a)))) shown-steps
+      subst (MemSteps k k s (AsksRmap p a)) (sym (is ∙ ap (λ t. shown s.ledger (entry_of (plain t))) (sym at)
+      ∙ ap (shown s.ledger) (keeps.stands.parts.ledger.tables.entries p (page_of a)))) shown-steps
 
 -- where the table has no frame there is no walk
 pub none-shown : (l : Ledger) (t : Pte) → (t ≡ Empty) ⊎ ((t ≡ Zero) ⊎ ((slot : Slot) × (t ≡ Away slot))) → answer_only NoWalk ≡ shown l (entry_of (plain t))

@@ -26,7 +26,7 @@ use Rattle.av_vma.specs.Pages.{Pages, home_of}
 use Rattle.av_plain.specs.Stands.{View, Holds, IsKept, AnonsStand, AreasAre, HomesAre, kin_of, AreasStand, entry_of, free_of, prot_of}
 use Rattle.av_anon.specs.declared.anons.Anons.{Anons as AnonSet}
 use Rattle.av_anon.specs.declared.infos.Info.{Info}
-use Rattle.av_spaces.specs.Kin.{AnonsFit, AnonsStay, chain_on, info_of}
+use Rattle.av_spaces.specs.Kin.{AnonsFit, AnonsStay, chain_by, info_of}
 use Rattle.av_spaces.proofs.Kin.{stay_same}
 use Rattle.av_plain.specs.Areas.{AnonVma, AreLeft, AreNext, Areas, chain_length, next_areas}
 use Rattle.av_plain.specs.Covered.{IsRmapSound}
@@ -70,32 +70,37 @@ left_alone k s keeps =
     still : (v : ℕ) → IsSome (s.anons.anon v) → IsSome ((left_of k.anons s.anons).anon v)
     still v there = by (info_of k.anons v) refl (s.anons.anon v) there (keeps.stands.anons.kin v)
       where
-        by : (i : Option Info) → info_of k.anons v ≡ i → (o : Option AnonVma) → IsSome o → option_map kin_of (option_map (anon_vma (chain_on k.spaces k.anons (Some v))) i) ≡ option_map kin_of o
+        by : (i : Option Info) → info_of k.anons v ≡ i → (o : Option AnonVma) → IsSome o →
+            option_map kin_of (option_map (anon_vma (chain_by k.spaces k.anons (Some v))) i) ≡ option_map kin_of o
             → IsSome (cond (is_some i) o None)
         by None e None there same = there
         by None e (Some x) there same = absurd (false≢true (ap is_some same))
         by (Some i) e o there same = there
 
 -- so a command that leaves the areas leaves the anon_vmas
-pub areas_kept : (k : Mem) (s : State) (command : Command) (answer : Answer) → Keeps k s → next_areas (chain_length s.anons) s.areas s.world command answer ≡ s.areas
+pub areas_kept : (k : Mem) (s : State) (command : Command) (answer : Answer) → Keeps k s →
+    next_areas (chain_length s.anons) s.areas s.world command answer ≡ s.areas
     → AreNext (rmap_of s) s.world command answer (rmap_of s)
 areas_kept k s command answer keeps stay = record { areas = sym stay; anons = left_alone k s keeps; homes = refl }
 
 -- after any command but a fork
-pub rmap_kept : (k : Mem) (s : State) (command : Command) (answer : Answer) → is_fork command ≡ false → Keeps k s → next_areas (chain_length s.anons) s.areas s.world command answer ≡ s.areas
+pub rmap_kept : (k : Mem) (s : State) (command : Command) (answer : Answer) → is_fork command ≡ false → Keeps k s →
+    next_areas (chain_length s.anons) s.areas s.world command answer ≡ s.areas
     → IsRmapNext (rmap_of s) s.world command answer (rmap_of s)
 rmap_kept k s command answer plain keeps stay = next-plain (rmap_of s) s.world command answer (rmap_of s) plain (areas_kept k s command answer keeps stay)
 
 -- ---- a refusal
 
 -- the first test that holds refuses the command, and nothing changes
-pub refused : (k : Mem) (s : State) (command : Command) (error : Errno) → Keeps k s → refusal (tests (setting (count k)) s.world s.ledger command) ≡ Some error → MemSteps k k s command (answer_only (Refused error))
+pub refused : (k : Mem) (s : State) (command : Command) (error : Errno) → Keeps k s →
+    refusal (tests (setting (count k)) s.world s.ledger command) ≡ Some error → MemSteps k k s command (answer_only (Refused error))
 refused k s command error keeps is = record {
   next = s;
   step = record {
     events = [];
     legal = record {
-      answer = subst (λ o. MatchOption o (Follows (setting (count k)) s.world s.ledger command [] (Refused error) []) (λ e. Refuses e [] (Refused error) [])) (sym is) (refl, refl, refl);
+      answer = subst (λ o. MatchOption o (Follows (setting (count k)) s.world s.ledger command [] (Refused error) []) (λ e. Refuses e [] (Refused error) []))
+          (sym is) (refl, refl, refl);
       notes = refl;
     };
     world = sym (refused-next (setting (count k)) s.world s.world s.ledger command error is);
@@ -108,7 +113,8 @@ refused k s command error keeps is = record {
 }
 
 -- so a command is done where it is refused
-pub refuses : (k : Mem) (command : Command) (error : Errno) → ((s : State) → Keeps k s → refusal (tests (setting (count k)) s.world s.ledger command) ≡ Some error) → Does k k command (Err (refusals.Refused error))
+pub refuses : (k : Mem) (command : Command) (error : Errno) → ((s : State) → Keeps k s →
+    refusal (tests (setting (count k)) s.world s.ledger command) ≡ Some error) → Does k k command (Err (refusals.Refused error))
 refuses k command error is = record { step = λ s keeps. refused k s command error keeps (is s keeps); count = refl }
 
 -- and where memory is wanting nothing is promised but the number of frames
@@ -116,26 +122,33 @@ pub wants : (old new : Mem) (command : Command) → count new ≡ count old → 
 wants old new command same = record { step = λ s keeps. tt; count = same }
 
 -- as `?` hands it out
-pub wants-by : (old new : Mem) (command : Command) (reply : Reply) (r : Result (Unit {0}) Refusal) → IsErr r × IsErrAnd r (λ e. e ≡ refusals.Memory) → count new ≡ count old → Does old new command (reply_in reply r)
+pub wants-by : (old new : Mem) (command : Command) (reply : Reply) (r : Result (Unit {0}) Refusal) → IsErr r × IsErrAnd r (λ e. e ≡ refusals.Memory) →
+    count new ≡ count old → Does old new command (reply_in reply r)
 wants-by old new command reply (Ok done) is same = absurd is.1
 wants-by old new command reply (Err e) is same = subst (λ e. Does old new command (Err e)) (sym is.1) (wants old new command same)
 
-pub refuses-by : (old new : Mem) (command : Command) (error : Errno) (reply : Reply) (r : Result (Unit {0}) Refusal) → IsErr r × IsErrAnd r (λ e. e ≡ refusals.Refused error) → Does old new command (Err (refusals.Refused error)) → Does old new command (reply_in reply r)
+pub refuses-by : (old new : Mem) (command : Command) (error : Errno) (reply : Reply) (r : Result (Unit {0}) Refusal) →
+    IsErr r × IsErrAnd r (λ e. e ≡ refusals.Refused error) → Does old new command (Err (refusals.Refused error)) → Does old new command (reply_in reply r)
 refuses-by old new command error reply (Ok done) is does = absurd is.1
 refuses-by old new command error reply (Err e) is does = subst (λ e. Does old new command (Err e)) (sym is.1) does
 
-pub refuses-as : (old new : Mem) (command : Command) (error : Errno) (reply : Reply) (r : Result (Unit {0}) Refusal) (x : Refusal) → IsErr r × IsErrAnd r (λ e. e ≡ x) → x ≡ refusals.Refused error → Does old new command (Err (refusals.Refused error)) → Does old new command (reply_in reply r)
-refuses-as old new command error reply r x is same does = refuses-by old new command error reply r (is.0, subst (λ (y : Refusal). IsErrAnd r (λ e. e ≡ y)) same is.1) does
+pub refuses-as : (old new : Mem) (command : Command) (error : Errno) (reply : Reply) (r : Result (Unit {0}) Refusal) (x : Refusal) →
+    IsErr r × IsErrAnd r (λ e. e ≡ x) → x ≡ refusals.Refused error → Does old new command (Err (refusals.Refused error)) →
+    Does old new command (reply_in reply r)
+refuses-as old new command error reply r x is same does = refuses-by old new command error reply r
+    (is.0, subst (λ (y : Refusal). IsErrAnd r (λ e. e ≡ y)) same is.1) does
 
 -- a cleared reply that is given an answer says no more
 pub only_answer : (reply : Reply) (answer : Answer) → IsCleared reply → record reply { answer = answer } ≡ answer_only answer
 only_answer reply answer cleared = λ i. record { answer = answer; notes = cleared.notes i; rows = cleared.rows i }
 
-pub answers : {old new : Mem} {s : State} {command : Command} {answer : Answer} (reply : Reply) → IsCleared reply → MemSteps old new s command (answer_only answer) → MemSteps old new s command (record reply { answer = answer })
+pub answers : {old new : Mem} {s : State} {command : Command} {answer : Answer} (reply : Reply) → IsCleared reply →
+    MemSteps old new s command (answer_only answer) → MemSteps old new s command (record reply { answer = answer })
 answers {old} {new} {s} {command} {answer} reply cleared steps = subst (MemSteps old new s command) (sym (only_answer reply answer cleared)) steps
 
 -- a process that has no areas is refused first
-pub dead_first : (k : Mem) (s : State) (p : ℕ) (rest : Option Errno) → Keeps k s → is_some (areas_of k.spaces.processes p) ≡ false → cond (not (lives s.world p)) (Some Esrch) rest ≡ Some Esrch
+pub dead_first : (k : Mem) (s : State) (p : ℕ) (rest : Option Errno) → Keeps k s → is_some (areas_of k.spaces.processes p) ≡ false →
+    cond (not (lives s.world p)) (Some Esrch) rest ≡ Some Esrch
 dead_first k s p rest keeps dead = ap (λ b. cond (not b) (Some Esrch) rest) (sym (lives_is k s keeps p) ∙ dead)
 
 -- a process that has areas has ranges
@@ -145,7 +158,8 @@ ranges_there k p alive = alive_is k.spaces.processes p ∙ alive
 -- ---- what pages keep
 
 -- where no slot is cached, a page keeps its bytes with the frames' ones
-pub kept-on : (v v' : View) (l l' : Ledger) (e : Option Entry) (p : Option Page) → v'.bytes ≡ v.bytes → l.cache ≡ [] → l'.cache ≡ [] → IsKept v no_device l e p → IsKept v' no_device l' e p
+pub kept-on : (v v' : View) (l l' : Ledger) (e : Option Entry) (p : Option Page) → v'.bytes ≡ v.bytes → l.cache ≡ [] → l'.cache ≡ [] →
+    IsKept v no_device l e p → IsKept v' no_device l' e p
 kept-on v v' l l' None p same was none h = h
 kept-on v v' l l' (Some Zero) p same was none h = h
 kept-on v v' l l' (Some (InFrame f seen)) p same was none h = subst (λ (b : ℕ → ℕ → ℕ). Holds p (b f)) (sym same) h
@@ -157,19 +171,27 @@ kept-on v v' l l' (Some (InSlot s)) p same was none h = slot_kept v v' s p (fram
 pub orderly : (k : Mem) (s : State) → Keeps k s → HasLedger k s.ledger
 orderly k s keeps = record { sound = keeps.stands.sound.ledger; parts = keeps.stands.parts.ledger }
 
-pub stepped : (old new : Mem) (s next : State) (command : Command) (reply : Reply) → Keeps old s → IsStep (setting (count old)) s command reply next → count new ≡ count old → HasLedger new next.ledger → free_of (view new) ≡ next.free
-    → AreasAre (view new) next.areas → AnonsStand (view new) next.areas next.anons → HomesAre (view new) next.homes → IsRmapSound next.ledger (rmap_of next) → AnonsFit new.spaces new.anons → AreasStand (view new) next.world → HasTables new → ((q page : ℕ) → IsKept (view new) no_device next.ledger (entry next.ledger (q, page)) (pages next.world q page)) → MemSteps old new s command reply
+pub stepped : (old new : Mem) (s next : State) (command : Command) (reply : Reply) → Keeps old s → IsStep (setting (count old)) s command reply next →
+    count new ≡ count old → HasLedger new next.ledger → free_of (view new) ≡ next.free
+    → AreasAre (view new) next.areas → AnonsStand (view new) next.areas next.anons → HomesAre (view new) next.homes → IsRmapSound next.ledger (rmap_of next) →
+    AnonsFit new.spaces new.anons → AreasStand (view new) next.world → HasTables new →
+    ((q page : ℕ) → IsKept (view new) no_device next.ledger (entry next.ledger (q, page)) (pages next.world q page)) → MemSteps old new s command reply
 stepped old new s next command reply keeps step same_count stands free areas_now anons_now homes_now reach fit areas tables kept = record {
   next = next;
   step = step;
   keeps = record {
     stands = record {
       over = record { sizes = refl; headers = refl };
-      sound = subst (λ n. AllSound (setting n) next.world next.ledger) (sym same_count) (step-sound (setting (count old)) s command reply next keeps.stands.sound step);
+      sound = subst (λ n. AllSound (setting n) next.world next.ledger) (sym same_count)
+          (step-sound (setting (count old)) s command reply next keeps.stands.sound step);
       parts = record {
         ledger = stands.parts;
         areas = areas;
-        bytes = record { kept = kept; clean = λ t stale flying. nothing_clean (view new) t (frame_at next.ledger t) (no_frame_at next.ledger t (no_cache next.ledger stands.parts.swap.finds)) };
+        bytes = record {
+          kept = kept;
+          clean = λ t stale flying. nothing_clean (view new) t (frame_at next.ledger t)
+              (no_frame_at next.ledger t (no_cache next.ledger stands.parts.swap.finds));
+        };
         headers = no_headers (setting (count new)) next.ledger (sym stands.parts.swap.on);
       };
       free = free;
@@ -186,7 +208,8 @@ stepped old new s next command reply keeps step same_count stands free areas_now
   where
     lists : ListsFree (setting (count new)) next.ledger (view new).free
     lists = subst (λ n. ListsFree (setting n) next.ledger (view new).free) (sym same_count)
-        (subst (ListsFree (setting (count old)) next.ledger) (sym (ap (λ (f : Free). f.frames) free)) (step-lists_free (setting (count old)) s command reply next keeps.stands.sound keeps.stands.lists.frames step))
+        (subst (ListsFree (setting (count old)) next.ledger) (sym (ap (λ (f : Free). f.frames) free))
+        (step-lists_free (setting (count old)) s command reply next keeps.stands.sound keeps.stands.lists.frames step))
 
 -- ---- what reverse mapping goes by, after areas changed
 
@@ -195,12 +218,15 @@ pub record AreLeftIn (s : State) (l : Ledger) (on : Areas) : Type 0 where
   pub there : (k : Key) (f : ℕ) → Names l k f → Names s.ledger k f
   pub home : (k : Key) (f : ℕ) (home : ℕ × ℕ) → Names l k f → home_of k.1 (s.areas k.0 k.1) ≡ Some home → home_of k.1 (on k.0 k.1) ≡ Some home
 
-pub reach_after : (old : Mem) (s : State) → Keeps old s → (spaces : AllSpaces) (anons : AnonSet) → AnonsStay old.spaces old.anons spaces anons → (l : Ledger) (on : Areas) → ((q page : ℕ) → areas_on spaces.processes q page ≡ on q page)
+pub reach_after : (old : Mem) (s : State) → Keeps old s → (spaces : AllSpaces) (anons : AnonSet) → AnonsStay old.spaces old.anons spaces anons →
+    (l : Ledger) (on : Areas) → ((q page : ℕ) → areas_on spaces.processes q page ≡ on q page)
     → AreLeftIn s l on → IsRmapSound l (record { areas = on; anons = left_of anons s.anons; homes = s.homes })
 reach_after old s keeps spaces anons stay l on same left =
-    sound-next s.ledger l (rmap_of s) (record { areas = on; anons = left_of anons s.anons; homes = s.homes }) left.there left.home owns (are_left old s keeps spaces anons stay on same) refl keeps.stands.reach
+    sound-next s.ledger l (rmap_of s) (record { areas = on; anons = left_of anons s.anons; homes = s.homes }) left.there left.home owns
+    (are_left old s keeps spaces anons stay on same) refl keeps.stands.reach
   where
-    owns : (p page v : ℕ) → IsSomeAnd (on p page) (λ area. area.anon ≡ Some v) → (q : ℕ) × (other : ℕ) × IsSomeAnd (s.areas q other) (λ area. area.anon ≡ Some v)
+    owns : (p page v : ℕ) → IsSomeAnd (on p page) (λ area. area.anon ≡ Some v) →
+        (q : ℕ) × (other : ℕ) × IsSomeAnd (s.areas q other) (λ area. area.anon ≡ Some v)
     owns p page v is =
         let had = stay.owned v (p, page, subst (λ o. IsSomeAnd o (λ area. area.anon ≡ Some v)) (sym (same p page)) is) in
         (had.0, had.1, subst (λ o. IsSomeAnd o (λ area. area.anon ≡ Some v)) (keeps.stands.areas had.0 had.1) had.2)
@@ -208,15 +234,27 @@ reach_after old s keeps spaces anons stay l on same left =
 -- ---- a step that changes one process
 
 abbrev pub state_after : State → ℕ → Process → Pages → Ledger → Free → AnonSet → State
-state_after s p now on l free anons = record { world = set_process s.world p now; ledger = l; free = free; areas = with_at p on s.areas; anons = left_of anons s.anons; homes = s.homes }
+state_after s p now on l free anons = record {
+  world = set_process s.world p now;
+  ledger = l;
+  free = free;
+  areas = with_at p on s.areas;
+  anons = left_of anons s.anons;
+  homes = s.homes;
+}
 
 module _ (old new : Mem) (s : State) (command : Command) (reply : Reply) (p : ℕ) (now : Process) (on : Pages) (l : Ledger)
-    (keeps : Keeps old s) (stay : AnonsStay old.spaces old.anons new.spaces new.anons) (same_count : count new ≡ count old) (stands : HasLedger new l) (bytes : (view new).bytes ≡ (view old).bytes) (homes : (view new).homes ≡ (view old).homes)
-    (others : (q page : ℕ) → (q == p) ≡ false → entry l (q, page) ≡ entry s.ledger (q, page)) (kept : (page : ℕ) → IsKept (view old) no_device s.ledger (entry l (p, page)) (now page))
-    (there : (page f : ℕ) → Names l (p, page) f → Names s.ledger (p, page) f) (home : (page f : ℕ) (home : ℕ × ℕ) → Names l (p, page) f → home_of page (s.areas p page) ≡ Some home → home_of page (on page) ≡ Some home) where
+    (keeps : Keeps old s) (stay : AnonsStay old.spaces old.anons new.spaces new.anons) (same_count : count new ≡ count old) (stands : HasLedger new l)
+    (bytes : (view new).bytes ≡ (view old).bytes) (homes : (view new).homes ≡ (view old).homes)
+    (others : (q page : ℕ) → (q == p) ≡ false → entry l (q, page) ≡ entry s.ledger (q, page))
+    (kept : (page : ℕ) → IsKept (view old) no_device s.ledger (entry l (p, page)) (now page))
+    (there : (page f : ℕ) → Names l (p, page) f → Names s.ledger (p, page) f) (home : (page f : ℕ) (home : ℕ × ℕ) → Names l (p, page) f →
+    home_of page (s.areas p page) ≡ Some home → home_of page (on page) ≡ Some home) where
   kept-all : (q page : ℕ) → IsKept (view new) no_device l (entry l (q, page)) (pages (set_process s.world p now) q page)
-  kept-all q page = subst (IsKept (view new) no_device l (entry l (q, page))) (sym (pages-set s.world p now q page ∙ ap (λ b. cond b (now page) (pages s.world q page)) (at_number q p)))
-      (kept-on (view old) (view new) s.ledger l (entry l (q, page)) (cond (q == p) (now page) (pages s.world q page)) bytes (no_cache s.ledger keeps.stands.parts.ledger.swap.finds) (no_cache l stands.parts.swap.finds) (by (q == p) refl))
+  kept-all q page = subst (IsKept (view new) no_device l (entry l (q, page)))
+      (sym (pages-set s.world p now q page ∙ ap (λ b. cond b (now page) (pages s.world q page)) (at_number q p)))
+      (kept-on (view old) (view new) s.ledger l (entry l (q, page)) (cond (q == p) (now page) (pages s.world q page)) bytes
+      (no_cache s.ledger keeps.stands.parts.ledger.swap.finds) (no_cache l stands.parts.swap.finds) (by (q == p) refl))
     where
       by : (b : Bool) → (q == p) ≡ b → IsKept (view old) no_device s.ledger (entry l (q, page)) (cond b (now page) (pages s.world q page))
       by true e = subst (λ n. IsKept (view old) no_device s.ledger (entry l (n, page)) (now page)) (sym (is_number q p e)) (kept page)
@@ -229,26 +267,33 @@ module _ (old new : Mem) (s : State) (command : Command) (reply : Reply) (p : �
   }
     where
       there_at : (k : Key) (f : ℕ) → Names l k f → (b : Bool) → (k.0 == p) ≡ b → Names s.ledger k f
-      there_at k f names true e = subst (λ q. Names s.ledger (q, k.1) f) (sym (is_number k.0 p e)) (there k.1 f (subst (λ q. Names l (q, k.1) f) (is_number k.0 p e) names))
+      there_at k f names true e = subst (λ q. Names s.ledger (q, k.1) f) (sym (is_number k.0 p e))
+          (there k.1 f (subst (λ q. Names l (q, k.1) f) (is_number k.0 p e) names))
       there_at k f names false e = subst (λ o. IsSomeAnd o (λ e. names_frame f e ≡ true)) (others k.0 k.1 e) names
 
-      home_at : (k : Key) (f : ℕ) (h : ℕ × ℕ) → Names l k f → home_of k.1 (s.areas k.0 k.1) ≡ Some h → (b : Bool) → (k.0 == p) ≡ b → home_of k.1 ((cond b on (s.areas k.0)) k.1) ≡ Some h
-      home_at k f h names is true e = home k.1 f h (subst (λ q. Names l (q, k.1) f) (is_number k.0 p e) names) (subst (λ q. home_of k.1 (s.areas q k.1) ≡ Some h) (is_number k.0 p e) is)
+      home_at : (k : Key) (f : ℕ) (h : ℕ × ℕ) → Names l k f → home_of k.1 (s.areas k.0 k.1) ≡ Some h → (b : Bool) → (k.0 == p) ≡ b →
+          home_of k.1 ((cond b on (s.areas k.0)) k.1) ≡ Some h
+      home_at k f h names is true e = home k.1 f h (subst (λ q. Names l (q, k.1) f) (is_number k.0 p e) names)
+          (subst (λ q. home_of k.1 (s.areas q k.1) ≡ Some h) (is_number k.0 p e) is)
       home_at k f h names is false e = is
 
-  pub changed : IsStep (setting (count old)) s command reply (state_after s p now on l (free_of (view new)) new.anons) → AreasAre (view new) (with_at p on s.areas) → AreasStand (view new) (set_process s.world p now) → HasTables new → MemSteps old new s command reply
-  changed step areas_now areas tables = stepped old new s (state_after s p now on l (free_of (view new)) new.anons) command reply keeps step same_count stands refl areas_now
+  pub changed : IsStep (setting (count old)) s command reply (state_after s p now on l (free_of (view new)) new.anons) →
+      AreasAre (view new) (with_at p on s.areas) → AreasStand (view new) (set_process s.world p now) → HasTables new → MemSteps old new s command reply
+  changed step areas_now areas tables = stepped old new s (state_after s p now on l (free_of (view new)) new.anons) command reply keeps
+      step same_count stands refl areas_now
       (anons_stand old s keeps new.spaces new.anons stay (with_at p on s.areas) areas_now new refl refl) (λ f. ap (λ h. h f) homes ∙ keeps.stands.homes f)
       (reach_after old s keeps new.spaces new.anons stay l (with_at p on s.areas) areas_now left_in) stay.fit areas tables kept-all
 
 -- the areas of a process that lives have changed
-module _ (old new : Mem) (s : State) (p : ℕ) (now : Process) (prots : ℕ → Option Prot) (keeps : Keeps old s) (alive : is_some (ranges_of old.spaces.processes p) ≡ true)
+module _ (old new : Mem) (s : State) (p : ℕ) (now : Process) (prots : ℕ → Option Prot) (keeps : Keeps old s)
+    (alive : is_some (ranges_of old.spaces.processes p) ≡ true)
     (spaces : HasProts old.spaces.processes new.spaces.processes p prots) (is : (page : ℕ) → prots page ≡ option_map (λ (x : Page). x.prot) (now page)) where
   lives_as : (q : ℕ) → is_some (ranges_of new.spaces.processes q) ≡ is_some (ranges_of old.spaces.processes q)
   lives_as q = by (q == p) refl
     where
       by : (b : Bool) → (q == p) ≡ b → is_some (ranges_of new.spaces.processes q) ≡ is_some (ranges_of old.spaces.processes q)
-      by true e = ap (λ n. is_some (ranges_of new.spaces.processes n)) (is_number q p e) ∙ spaces.alive ∙ sym (ap (λ n. is_some (ranges_of old.spaces.processes n)) (is_number q p e) ∙ alive)
+      by true e = ap (λ n. is_some (ranges_of new.spaces.processes n)) (is_number q p e) ∙ spaces.alive
+          ∙ sym (ap (λ n. is_some (ranges_of old.spaces.processes n)) (is_number q p e) ∙ alive)
       by false e = ap is_some (spaces.others q (other_number q p e))
 
   pub tables_kept : has new.tables ≡ has old.tables → HasTables new
@@ -256,7 +301,8 @@ module _ (old new : Mem) (s : State) (p : ℕ) (now : Process) (prots : ℕ → 
 
   pub areas_changed : AreasStand (view new) (set_process s.world p now)
   areas_changed = record {
-    alive = λ q. sym (alive_is new.spaces.processes q) ∙ lives_as q ∙ alive_is old.spaces.processes q ∙ keeps.stands.parts.areas.alive q ∙ by q (q == p) refl ∙ sym (lives-set s.world p now q ∙ ap (λ b. cond b true (lives s.world q)) (at_number q p));
+    alive = λ q. sym (alive_is new.spaces.processes q) ∙ lives_as q ∙ alive_is old.spaces.processes q ∙ keeps.stands.parts.areas.alive q ∙ by q (q == p) refl
+        ∙ sym (lives-set s.world p now q ∙ ap (λ b. cond b true (lives s.world q)) (at_number q p));
     number = spaces.number ∙ keeps.stands.parts.areas.number ∙ sym (length-set_old s.world p now keeps.stands.sound.world.in_order lives_now);
     apart = spaces.apart;
     covers = λ q page. covers_at q page (q == p) refl
@@ -270,7 +316,8 @@ module _ (old new : Mem) (s : State) (p : ℕ) (now : Process) (prots : ℕ → 
       by q true e = ap (lives s.world) (is_number q p e) ∙ lives_now ∙ sym (ap (λ b. cond b true (lives s.world q)) e)
       by q false e = sym (ap (λ b. cond b true (lives s.world q)) e)
 
-      covers_at : (q page : ℕ) (b : Bool) → (q == p) ≡ b → prot_of (ranges_of new.spaces.processes q) page ≡ option_map (λ (x : Page). x.prot) (cond (q == p) (now page) (pages s.world q page))
+      covers_at : (q page : ℕ) (b : Bool) → (q == p) ≡ b → prot_of (ranges_of new.spaces.processes q) page ≡ option_map (λ (x : Page). x.prot)
+          (cond (q == p) (now page) (pages s.world q page))
       covers_at q page true e = ap (λ n. prot_of (ranges_of new.spaces.processes n) page) (is_number q p e) ∙ spaces.pages page ∙ is page
           ∙ sym (ap (λ b. option_map (λ (x : Page). x.prot) (cond b (now page) (pages s.world q page))) e)
       covers_at q page false e = ap (λ a. prot_of a page) (spaces.others q (other_number q p e)) ∙ keeps.stands.parts.areas.covers q page
@@ -282,7 +329,8 @@ module _ (old new : Mem) (s : State) (p : ℕ) (now : Process) (prots : ℕ → 
 abbrev pub moved_on : Mem → ProcessTables → AllSpaces → AnonSet → Mem
 moved_on old tables spaces anons = record { frames = old.frames; tables = tables; spaces = spaces; anons = anons }
 
-pub stays_orderly : (old : Mem) (tables : ProcessTables) (spaces : AllSpaces) (anons : AnonSet) (l : Ledger) → entry_at tables ≡ entry_at old.tables → HasLedger old l → HasLedger (moved_on old tables spaces anons) l
+pub stays_orderly : (old : Mem) (tables : ProcessTables) (spaces : AllSpaces) (anons : AnonSet) (l : Ledger) → entry_at tables ≡ entry_at old.tables →
+    HasLedger old l → HasLedger (moved_on old tables spaces anons) l
 stays_orderly old tables spaces anons l entries h = record {
   sound = h.sound;
   parts =

@@ -37,7 +37,7 @@ HomesStay old new p from n = (page : ℕ) (home : ℕ × ℕ) → within from n 
     → home_of page (pages_of new p page) ≡ Some home
 
 -- the n pages of p from one on have gone, with their entries, by these events; its areas are these
-pub record AreCleared (old new : Mem) (p page n : ℕ) (on : Pages) (l : Ledger)
+pub record AreUnmapped (old new : Mem) (p page n : ℕ) (on : Pages) (l : Ledger)
     (events : List Event) : Type 0 where
   pub taken : HasZapped old new l events
   pub spaces : HasProts old.spaces.processes new.spaces.processes p

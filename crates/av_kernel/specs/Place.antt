@@ -28,6 +28,6 @@ IsPlaced q n place (Err error) =
     ⊎ ((refusal (place_tests q n place) ≡ None) × Goes q n place None × (error ≡ Enomem))
 
 -- the n pages from one on are those of a fixed place, or none of them is taken
-abbrev pub AreToClear : (ℕ → Bool) → ℕ → ℕ → Place → Type 0
-AreToClear is_taken page n (Fixed a) = page ≡ page_of a
-AreToClear is_taken page n place = IsFree is_taken page (page + n)
+abbrev pub AreToUnmap : (ℕ → Bool) → ℕ → ℕ → Place → Type 0
+AreToUnmap is_taken page n (Fixed a) = page ≡ page_of a
+AreToUnmap is_taken page n place = IsFree is_taken page (page + n)

@@ -9,8 +9,8 @@ ghost use Rattle.av_plain.specs.Areas.{with_room};
 ghost use Rattle.av_vma.specs.Pages.{after_unmap};
 ghost use Rattle.av_spaces.specs.Spaces.{areas_of, is_taken, pages_of};
 ghost use Rattle.av_reclaim.specs.Mem.{count, IsSteady, HasLedger};
-ghost use Rattle.av_kernel.specs.Place.{AreToClear};
-ghost use Rattle.av_kernel.specs.Map.{AreCleared};
+ghost use Rattle.av_kernel.specs.Place.{AreToUnmap};
+ghost use Rattle.av_kernel.specs.Map.{AreUnmapped};
 ghost use Rattle.av_kernel.specs.Step.{Does, reply_in};
 ghost use Rattle.av_trace.specs.Reply.{IsCleared};
 ghost use Rattle.av_trace.specs.declared.command.Command.TheVariants as commands;
@@ -70,7 +70,7 @@ pub fn munmap(
     if is_no_range(address, len) {
         return Err(Refusal::Refused(Errno::Einval));
     }
-    clear(mem, process, address / PAGE_SIZE, len.div_ceil(PAGE_SIZE))?;
+    unmap_pages(mem, process, address / PAGE_SIZE, len.div_ceil(PAGE_SIZE))?;
     reply.answer = Answer::Done;
     Ok(())
 }
@@ -115,26 +115,26 @@ fn make_room(
     requires steady { IsSteady mem.old }
     requires lives { is_some (areas_of mem.old.spaces.processes process) ≡ true }
     requires high { page + pages ≤ top_page }
-    requires there { AreToClear (is_taken mem.old.spaces.processes process) page pages place }
-    ensures cleared { (l : Ledger) → HasLedger mem.old l → OnOk result
-        (AreCleared mem.old mem.new process page pages
+    requires there { AreToUnmap (is_taken mem.old.spaces.processes process) page pages place }
+    ensures unmapped { (l : Ledger) → HasLedger mem.old l → OnOk result
+        (AreUnmapped mem.old mem.new process page pages
         (with_room pages place (pages_of mem.old.spaces.processes process)) l
         (zaps_for_place l process pages place)) }
     ensures count { count mem.new ≡ count mem.old }
 {
     match place {
-        Place::Fixed(_) => clear(mem, process, page, pages),
+        Place::Fixed(_) => unmap_pages(mem, process, page, pages),
         _ => Ok(()),
     }
 }
 
 /// Takes away pages of a process that lives, with their entries.
-fn clear(mem: &mut Mem, process: u16, page: u64, pages: u64) -> Result<(), AllocError>
+fn unmap_pages(mem: &mut Mem, process: u16, page: u64, pages: u64) -> Result<(), AllocError>
     requires steady { IsSteady mem.old }
     requires lives { is_some (areas_of mem.old.spaces.processes process) ≡ true }
     requires high { page + pages ≤ top_page }
-    ensures cleared { (l : Ledger) → HasLedger mem.old l → OnOk result
-        (AreCleared mem.old mem.new process page pages
+    ensures unmapped { (l : Ledger) → HasLedger mem.old l → OnOk result
+        (AreUnmapped mem.old mem.new process page pages
         (after_unmap page (page + pages) (pages_of mem.old.spaces.processes process)) l
         (zaps_of l (keys_in l process page pages))) }
     ensures count { count mem.new ≡ count mem.old }

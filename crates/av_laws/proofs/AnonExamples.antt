@@ -9,7 +9,7 @@ use Rattle.av_trace.specs.declared.reply.Reply.{Reply}
 use Rattle.av_trace.specs.declared.reply.Answer.TheVariants.{Done, MapAt}
 use Rattle.av_vma.specs.Pages.{after_unmap, pages_in, part_of}
 use Rattle.av_vma.specs.declared.area.Area.{Area}
-use Rattle.av_plain.specs.Areas.{AnonVma, Anons, AreLeft, AreNext, Areas, IsLinked, Rmap, chain_length, chain_of, next_areas, none_on, rmap_after_all}
+use Rattle.av_plain.specs.Areas.{AnonVma, Anons, AreLeft, AreNext, Areas, IsLinked, Rmap, chain_length, chain_by, next_areas, none_on, rmap_after_all}
 use Rattle.av_laws.specs.Areas.{Leaves, NeverLeaves, NeverPuts, anons_of, area, area_of, behind_first, behind_second, child, first_goes, root, second_goes, with_anons}
 use Rattle.av_vma.proofs.Cut.{part_own}
 use Rattle.av_laws.specs.Examples.{machine, read_write, reply_with}
@@ -52,10 +52,10 @@ linked-root : (v : ℕ) → IsLinked with_anons.anons (on_after second_goes Done
 linked-root v h = by (on_after second_goes Done h.0 h.1) (all_of_root h.0 h.1) h.2
   where
     by : (o : Option Area) → IfSome o (λ area. area.anon ≡ Some 0)
-        → IsSomeAnd o (λ area. is_in v (chain_of with_anons.anons area.anon) ≡ true) → v ≡ 0
+        → IsSomeAnd o (λ area. is_in v (chain_by with_anons.anons area.anon) ≡ true) → v ≡ 0
     by None own in_chain = absurd in_chain
     by (Some area) own in_chain =
-        let e : ((v == 0) || false) ≡ true = subst (λ own. is_in v (chain_of with_anons.anons own) ≡ true) own in_chain in
+        let e : ((v == 0) || false) ≡ true = subst (λ own. is_in v (chain_by with_anons.anons own) ≡ true) own in_chain in
         grind (arith, nat_tests, e)
 
 -- ---- what is left
@@ -165,10 +165,11 @@ pub record AreThen (now : Rmap) (w : World) (command : Command) (answer : Answer
 -- what was prepared follows from the notes
 pub now-is : (m : Setting) (old : State) (command : Command) → is_fork command ≡ false → (reply : Reply) (new : State) (step : IsStep m old command reply new)
     → AreThen (prepare_notes reply.notes (rmap_of old)) old.world command reply.answer (rmap_of new)
-now-is m old command other reply new step = subst (λ notes. AreThen (prepare_notes notes (rmap_of old)) old.world command reply.answer (rmap_of new)) (sym step.legal.notes) (record {
-  areas = plain.areas ∙ (λ i. next_areas (chain_length (same.anons i)) (same.areas i) old.world command reply.answer);
-  anons = subst (λ (anons : Anons). AreLeft anons new.areas new.anons) same.anons plain.anons;
-})
+now-is m old command other reply new step = subst (λ notes. AreThen (prepare_notes notes (rmap_of old)) old.world command reply.answer (rmap_of new))
+    (sym step.legal.notes) (record {
+      areas = plain.areas ∙ (λ i. next_areas (chain_length (same.anons i)) (same.areas i) old.world command reply.answer);
+      anons = subst (λ (anons : Anons). AreLeft anons new.areas new.anons) same.anons plain.anons;
+    })
   where
     plain : AreNext (rmap_after_all old.ledger step.events (rmap_of old)) old.world command reply.answer (rmap_of new)
     plain = plain-next (rmap_after_all old.ledger step.events (rmap_of old)) old.world command reply.answer (rmap_of new) other step.rmap

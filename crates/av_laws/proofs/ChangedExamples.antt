@@ -128,7 +128,8 @@ chosen-by m l (e ∷ es) free left h = by (take_first (frame_in e) free) refl h 
         same true is h = let e : f ≡ g = grind (arith, nat_tests, is) in let r : free ≡ rest = cc in λ i. sym e i ∷ r i
         same false is h = cc
 
-    by : (o : Option (List ℕ)) → take_first (frame_in e) free ≡ o → option_and_then (λ rest. choose m (after l e) es (new_free m l (after l e) ++ rest)) o ≡ Some left
+    by : (o : Option (List ℕ)) → take_first (frame_in e) free ≡ o →
+        option_and_then (λ rest. choose m (after l e) es (new_free m l (after l e) ++ rest)) o ≡ Some left
         → ((rest : List ℕ) → choose m (after l e) es (new_free m l (after l e) ++ rest) ≡ Some left
         → ChoosesFrames m (after l e) es (new_free m l (after l e) ++ rest) left)
         → ChoosesFrames m l (e ∷ es) free left
@@ -194,7 +195,8 @@ record OnePage (m : Setting) (w : World) (l : Ledger) (write : Bool) (p page : �
   told : notes_of es ≡ notes
   ending : end ≡ end_of stop page
 
-one_page : (m : Setting) (w : World) (l : Ledger) (write : Bool) (p page : ℕ) (es : List Event) (end : End) → Accesses m w l p ((write, page) ∷ []) es end → OnePage m w l write p page es end
+one_page : (m : Setting) (w : World) (l : Ledger) (write : Bool) (p page : ℕ) (es : List Event) (end : End) → Accesses m w l p ((write, page) ∷ []) es end →
+    OnePage m w l write p page es end
 one_page m w l write p page es end (inl h) = record {
   notes = h.0;
   stop = None;
@@ -203,28 +205,44 @@ one_page m w l write p page es end (inl h) = record {
       ∙ notes_of-append (note_events h.0) (Used write (p, page) ∷ []) ∙ append-nil (notes_of (note_events h.0)) ∙ notes_of-note_events h.0;
   ending = h.4.1;
 }
-one_page m w l write p page es end (inr h) = record { notes = h.0; stop = Some h.1; touches = h.2; told = ap notes_of h.3 ∙ notes_of-note_events h.0; ending = h.4 }
+one_page m w l write p page es end (inr h) = record {
+  notes = h.0;
+  stop = Some h.1;
+  touches = h.2;
+  told = ap notes_of h.3
+      ∙ notes_of-note_events h.0;
+  ending = h.4;
+}
 
 -- A reply to such an access is refused directly: what may come instead, with the same free frames, has other notes or another answer.
-write_legal : (m : Setting) (s : State) (p page a : ℕ) (bytes : List ℕ) (reply : Reply) → refusal (tests m s.world s.ledger (Write p a bytes)) ≡ None → pages_of_access true a (length bytes) ≡ (true, page) ∷ []
-    → (events : List Event) → IsLegal m s.world s.ledger (Write p a bytes) reply events → (stop : Option Stop) × Touches m s.world s.ledger true (p, page) reply.notes stop × (reply.answer ≡ write_answer a (end_of stop page))
+write_legal : (m : Setting) (s : State) (p page a : ℕ) (bytes : List ℕ) (reply : Reply) → refusal (tests m s.world s.ledger (Write p a bytes)) ≡ None →
+    pages_of_access true a (length bytes) ≡ (true, page) ∷ []
+    → (events : List Event) → IsLegal m s.world s.ledger (Write p a bytes) reply events →
+    (stop : Option Stop) × Touches m s.world s.ledger true (p, page) reply.notes stop × (reply.answer ≡ write_answer a (end_of stop page))
 write_legal m s p page a bytes reply fine one events legal =
     let h = follows (refusal (tests m s.world s.ledger (Write p a bytes))) fine legal.answer in
     let o = one_page m s.world s.ledger true p page events h.0 (subst (λ ps. Accesses m s.world s.ledger p ps events h.0) one h.1) in
     (o.stop, subst (λ ns. Touches m s.world s.ledger true (p, page) ns o.stop) (sym (legal.notes ∙ o.told)) o.touches, h.2 ∙ ap (write_answer a) o.ending)
   where
-    follows : (o : Option Errno) → o ≡ None → MatchOption o (Follows m s.world s.ledger (Write p a bytes) events reply.answer reply.rows) (λ error. Refuses error events reply.answer reply.rows) → Follows m s.world s.ledger (Write p a bytes) events reply.answer reply.rows
+    follows : (o : Option Errno) → o ≡ None → MatchOption o (Follows m s.world s.ledger (Write p a bytes) events reply.answer reply.rows)
+        (λ error. Refuses error events reply.answer reply.rows) → Follows m s.world s.ledger (Write p a bytes) events reply.answer reply.rows
     follows None e h = h
     follows (Some x) e h = cc
 
-read_legal : (m : Setting) (s : State) (p page a n : ℕ) (reply : Reply) → refusal (tests m s.world s.ledger (Read p a n)) ≡ None → pages_of_access false a n ≡ (false, page) ∷ []
-    → (events : List Event) → IsLegal m s.world s.ledger (Read p a n) reply events → (stop : Option Stop) × Touches m s.world s.ledger false (p, page) reply.notes stop × ((shown : List ℕ) × (reply.answer ≡ read_answer a (end_of stop page) shown))
+read_legal : (m : Setting) (s : State) (p page a n : ℕ) (reply : Reply) → refusal (tests m s.world s.ledger (Read p a n)) ≡ None →
+    pages_of_access false a n ≡ (false, page) ∷ []
+    → (events : List Event) → IsLegal m s.world s.ledger (Read p a n) reply events → (stop : Option Stop) × Touches m s.world s.ledger false
+    (p, page) reply.notes stop × ((shown : List ℕ) × (reply.answer ≡ read_answer a (end_of stop page) shown))
 read_legal m s p page a n reply fine one events legal =
     let h = follows (refusal (tests m s.world s.ledger (Read p a n))) fine legal.answer in
-    let o = one_page m s.world s.ledger false p page events h.0 (subst (λ ps. Accesses m s.world s.ledger p ps events h.0) one h.2) in
-    (o.stop, subst (λ ns. Touches m s.world s.ledger false (p, page) ns o.stop) (sym (legal.notes ∙ o.told)) o.touches, (h.1, h.4 ∙ ap (λ e. read_answer a e h.1) o.ending))
+    let o = one_page m s.world s.ledger false p page events h.0 (subst (λ ps. Accesses m s.world s.ledger p ps events h.0) one h.2) in (
+      o.stop,
+      subst (λ ns. Touches m s.world s.ledger false (p, page) ns o.stop) (sym (legal.notes ∙ o.told)) o.touches,
+      (h.1, h.4 ∙ ap (λ e. read_answer a e h.1) o.ending),
+    )
   where
-    follows : (o : Option Errno) → o ≡ None → MatchOption o (Follows m s.world s.ledger (Read p a n) events reply.answer reply.rows) (λ error. Refuses error events reply.answer reply.rows) → Follows m s.world s.ledger (Read p a n) events reply.answer reply.rows
+    follows : (o : Option Errno) → o ≡ None → MatchOption o (Follows m s.world s.ledger (Read p a n) events reply.answer reply.rows)
+        (λ error. Refuses error events reply.answer reply.rows) → Follows m s.world s.ledger (Read p a n) events reply.answer reply.rows
     follows None e h = h
     follows (Some x) e h = cc
 
@@ -235,7 +253,8 @@ write-lost a page (Some Denied) answer h none = refl
 write-lost a page (Some (Starved out)) answer h none = refl
 write-lost a page (Some Lost) answer h none = absurd (let e = ap fault_answers h in omega (arith, e, none))
 
-read-lost : (a page : ℕ) (stop : Option Stop) (shown : List ℕ) (answer : Answer) → answer ≡ read_answer a (end_of stop page) shown → fault_answers answer ≡ 0 → is_lost stop ≡ false
+read-lost : (a page : ℕ) (stop : Option Stop) (shown : List ℕ) (answer : Answer) → answer ≡ read_answer a (end_of stop page) shown →
+    fault_answers answer ≡ 0 → is_lost stop ≡ false
 read-lost a page None shown answer h none = refl
 read-lost a page (Some Denied) shown answer h none = refl
 read-lost a page (Some (Starved out)) shown answer h none = refl
@@ -250,7 +269,8 @@ by_write : (m : Setting) (told : Tells m) (s : State) (p page a : ℕ) (bytes : 
     → choose m s.ledger (note_events reply.notes) free ≡ Some left'
     → fault_answers reply.answer ≡ 0
     → refusal (tests m s.world s.ledger (Write p a bytes)) ≡ None → pages_of_access true a (length bytes) ≡ (true, page) ∷ []
-    → (reply.notes ≡ notes → reply.answer ≡ write_answer a (end_of end page) → ⊥) → (events : List Event) → IsLegal m s.world s.ledger (Write p a bytes) reply events → ⊥
+    → (reply.notes ≡ notes → reply.answer ≡ write_answer a (end_of end page) → ⊥) → (events : List Event) →
+    IsLegal m s.world s.ledger (Write p a bytes) reply events → ⊥
 by_write m told s p page a bytes reply notes end free left left' t lost plain chosen plain' chosen'
     none fine one differ events legal =
     let h = write_legal m s p page a bytes reply fine one events legal in
@@ -299,19 +319,47 @@ top_number = 0x7fffffffe
 
 -- what may come in these states: a new page, the zero page, a copy, none, a drop, and a page that comes in
 new_page : Touches (machine 4) state_at_rest.world state_at_rest.ledger true (1, top_number) (New 1 top 0 ∷ []) None
-new_page = (refl, record { coming = []; making = New 1 top 0 ∷ []; whole = refl; comes_in = refl; made = record { sought = []; frame = 0; seeks = refl; in_range = omega arith; free = refl; whole = refl } })
+new_page = (
+  refl,
+  record {
+    coming = [];
+    making = New 1 top 0 ∷ [];
+    whole = refl;
+    comes_in = refl;
+    made = record { sought = []; frame = 0; seeks = refl; in_range = omega arith; free = refl; whole = refl };
+  },
+)
 
 zero_page : Touches (machine 4) state_at_rest.world state_at_rest.ledger false (1, top_number) (Zeroed 1 top ∷ []) None
 zero_page = (refl, record { coming = []; making = Zeroed 1 top ∷ []; whole = refl; comes_in = refl; made = refl })
 
 copied_page : Touches (machine 4) (after_fork (1 ∷ 2 ∷ 3 ∷ [])).world (after_fork (1 ∷ 2 ∷ 3 ∷ [])).ledger true (1, top_number) (Copied 1 top 1 ∷ []) None
-copied_page = (refl, record { coming = []; making = Copied 1 top 1 ∷ []; whole = refl; comes_in = refl; made = record { sought = []; frame = 1; seeks = refl; in_range = omega arith; free = refl; whole = refl } })
+copied_page = (
+  refl,
+  record {
+    coming = [];
+    making = Copied 1 top 1 ∷ [];
+    whole = refl;
+    comes_in = refl;
+    made = record { sought = []; frame = 1; seeks = refl; in_range = omega arith; free = refl; whole = refl };
+  },
+)
 
 read_page : Touches (machine 4) (after_fork (1 ∷ 2 ∷ 3 ∷ [])).world (after_fork (1 ∷ 2 ∷ 3 ∷ [])).ledger false (2, top_number) [] None
 read_page = (refl, record { coming = []; making = []; whole = refl; comes_in = refl; made = refl })
 
-no_frame : Touches (machine 1) (after_fork []).world (after_fork []).ledger true (2, top_number) [] (Some (Starved (record { pinned = 1; noslot = 0; fault = 0 })))
-no_frame = (refl, record { coming = []; sought = []; whole = refl; before = inl refl; finds = record { wants = refl; seeks = ([], [], refl, refl, refl); none = refl; numbers = refl } })
+no_frame : Touches (machine 1) (after_fork []).world (after_fork []).ledger true (2, top_number) []
+    (Some (Starved (record { pinned = 1; noslot = 0; fault = 0 })))
+no_frame = (
+  refl,
+  record {
+    coming = [];
+    sought = [];
+    whole = refl;
+    before = inl refl;
+    finds = record { wants = refl; seeks = ([], [], refl, refl, refl); none = refl; numbers = refl };
+  },
+)
 
 cached_write : Touches (with_swap 4 8 7) in_swap_cache.world in_swap_cache.ledger true (1, top_number) (Dropped (slot 1) ∷ []) None
 cached_write = (refl, record { coming = []; making = []; whole = refl; comes_in = refl; made = refl })
@@ -342,7 +390,8 @@ no_note = by_write (machine 4) refl state_at_rest 1 top_number top (1 ∷ []) (r
     (New 1 top 0 ∷ []) None (0 ∷ 1 ∷ 2 ∷ 3 ∷ []) (1 ∷ 2 ∷ 3 ∷ []) (0 ∷ 1 ∷ 2 ∷ 3 ∷ []) new_page refl
     refl refl refl refl refl refl refl (λ e a. let d = ap length e in omega (arith, d))
 
-pub note_too_many : Forbids (machine 4) state_at_rest (Write 1 0x7fffffffe000 (1 ∷ [])) (reply_with Done (Zeroed 1 0x7fffffffe000 ∷ New 1 0x7fffffffe000 0 ∷ []))
+pub note_too_many : Forbids (machine 4) state_at_rest (Write 1 0x7fffffffe000 (1 ∷ []))
+    (reply_with Done (Zeroed 1 0x7fffffffe000 ∷ New 1 0x7fffffffe000 0 ∷ []))
 note_too_many = by_write (machine 4) refl state_at_rest 1 top_number top (1 ∷ [])
     (reply_with Done (Zeroed 1 0x7fffffffe000 ∷ New 1 0x7fffffffe000 0 ∷ [])) (New 1 top 0 ∷ []) None
     (0 ∷ 1 ∷ 2 ∷ 3 ∷ []) (1 ∷ 2 ∷ 3 ∷ []) (1 ∷ 2 ∷ 3 ∷ []) new_page refl refl refl refl refl refl
@@ -371,7 +420,8 @@ denied_though_allowed = by_write (machine 4) refl state_at_rest 1 top_number top
     (0 ∷ 1 ∷ 2 ∷ 3 ∷ []) new_page refl refl refl refl refl refl refl refl
     (λ e a. let d = ap length e in omega (arith, d))
 
-pub starved_though_free : Forbids (machine 4) state_at_rest (Write 1 0x7fffffffe000 (1 ∷ [])) (reply_with (Oom 0 (record { pinned = 0; noslot = 4; fault = 0 }) []) [])
+pub starved_though_free : Forbids (machine 4) state_at_rest (Write 1 0x7fffffffe000 (1 ∷ []))
+    (reply_with (Oom 0 (record { pinned = 0; noslot = 4; fault = 0 }) []) [])
 starved_though_free = by_write (machine 4) refl state_at_rest 1 top_number top (1 ∷ [])
     (reply_with (Oom 0 (record { pinned = 0; noslot = 4; fault = 0 }) []) []) (New 1 top 0 ∷ []) None
     (0 ∷ 1 ∷ 2 ∷ 3 ∷ []) (1 ∷ 2 ∷ 3 ∷ []) (0 ∷ 1 ∷ 2 ∷ 3 ∷ []) new_page refl refl refl refl refl
@@ -389,7 +439,8 @@ copy_for_a_read = by_read (machine 4) refl (after_fork (1 ∷ 2 ∷ 3 ∷ [])) 2
     (1 ∷ 2 ∷ 3 ∷ []) (2 ∷ 3 ∷ []) read_page refl refl refl refl refl refl refl refl
     (λ e. let d = ap length e in omega (arith, d))
 
-pub wrong_numbers : Forbids (machine 1) (after_fork []) (Write 2 0x7fffffffe000 (6 ∷ [])) (reply_with (Oom 0 (record { pinned = 0; noslot = 1; fault = 0 }) []) [])
+pub wrong_numbers : Forbids (machine 1) (after_fork []) (Write 2 0x7fffffffe000 (6 ∷ []))
+    (reply_with (Oom 0 (record { pinned = 0; noslot = 1; fault = 0 }) []) [])
 wrong_numbers = by_write (machine 1) refl (after_fork []) 2 top_number top (6 ∷ [])
     (reply_with (Oom 0 (record { pinned = 0; noslot = 1; fault = 0 }) []) []) []
     (Some (Starved (record { pinned = 1; noslot = 0; fault = 0 }))) [] [] [] no_frame refl refl refl
@@ -407,13 +458,15 @@ drop_though_not_full = by_read (with_swap 4 8 7) refl in_swap_cache 1 top_number
     (1 ∷ 2 ∷ 3 ∷ []) cached_read refl refl refl refl refl refl refl refl
     (λ e. let d = ap length e in omega (arith, d))
 
-pub drop_in_flight : Forbids (with_swap 4 8 7) in_writeback (Write 1 0x7fffffffe000 (8 ∷ [])) (reply_with Done (Mapped 1 0x7fffffffe000 0 ∷ Dropped (slot 1) ∷ []))
+pub drop_in_flight : Forbids (with_swap 4 8 7) in_writeback (Write 1 0x7fffffffe000 (8 ∷ []))
+    (reply_with Done (Mapped 1 0x7fffffffe000 0 ∷ Dropped (slot 1) ∷ []))
 drop_in_flight = by_write (with_swap 4 8 7) refl in_writeback 1 top_number top (8 ∷ [])
     (reply_with Done (Mapped 1 0x7fffffffe000 0 ∷ Dropped (slot 1) ∷ [])) (Mapped 1 top 0 ∷ []) None
     (1 ∷ 2 ∷ 3 ∷ []) (1 ∷ 2 ∷ 3 ∷ []) (1 ∷ 2 ∷ 3 ∷ []) written_back refl refl refl refl refl refl
     refl refl (λ e a. let d = ap length e in omega (arith, d))
 
-pub map_without_load : Forbids (with_swap 4 8 7) (paged_out 7 (0 ∷ 1 ∷ 2 ∷ 3 ∷ [])) (Read 1 0x7fffffffe000 1) (reply_with (Data (7 ∷ [])) (Mapped 1 0x7fffffffe000 0 ∷ []))
+pub map_without_load : Forbids (with_swap 4 8 7) (paged_out 7 (0 ∷ 1 ∷ 2 ∷ 3 ∷ [])) (Read 1 0x7fffffffe000 1)
+    (reply_with (Data (7 ∷ [])) (Mapped 1 0x7fffffffe000 0 ∷ []))
 map_without_load = by_read (with_swap 4 8 7) refl (paged_out 7 (0 ∷ 1 ∷ 2 ∷ 3 ∷ [])) 1 top_number
     top 1 (reply_with (Data (7 ∷ [])) (Mapped 1 0x7fffffffe000 0 ∷ []))
     (Loaded (slot 1) 0 ∷ Mapped 1 top 0 ∷ []) None (0 ∷ 1 ∷ 2 ∷ 3 ∷ []) (1 ∷ 2 ∷ 3 ∷ [])
@@ -423,7 +476,8 @@ map_without_load = by_read (with_swap 4 8 7) refl (paged_out 7 (0 ∷ 1 ∷ 2 �
 -- ---- a device's fault
 
 -- `bus` comes only where the page is on the device alone and a frame is free for it
-lost_only : (m : Setting) (w : World) (l : Ledger) (k : Key) (notes : List Note) (stop : Option Stop) (a page n : ℕ) (before shown : List ℕ) → Touches m w l false k notes stop → Bus n before ≡ read_answer a (end_of stop page) shown → IsLost m (sparing w) l false k notes
+lost_only : (m : Setting) (w : World) (l : Ledger) (k : Key) (notes : List Note) (stop : Option Stop) (a page n : ℕ) (before shown : List ℕ) →
+    Touches m w l false k notes stop → Bus n before ≡ read_answer a (end_of stop page) shown → IsLost m (sparing w) l false k notes
 lost_only m w l k notes None a page n before shown t h = absurd (let e = ap fault_answers h in omega (arith, e))
 lost_only m w l k notes (Some Denied) a page n before shown t h = absurd (let e = ap fault_answers h in omega (arith, e))
 lost_only m w l k notes (Some (Starved out)) a page n before shown t h = absurd (let e = ap fault_answers h in omega (arith, e))
@@ -441,7 +495,8 @@ bus_without_a_frame events legal =
 pub bus_at_a_frame : Forbids (machine 4) (after_fork (1 ∷ 2 ∷ 3 ∷ [])) (Read 1 0x7fffffffe000 1) (reply_with (Bus 0 []) [])
 bus_at_a_frame events legal =
     let h = read_legal (machine 4) (after_fork (1 ∷ 2 ∷ 3 ∷ [])) 1 top_number top 1 (reply_with (Bus 0 []) []) refl refl events legal in
-    let lost = lost_only (machine 4) (after_fork (1 ∷ 2 ∷ 3 ∷ [])).world (after_fork (1 ∷ 2 ∷ 3 ∷ [])).ledger (1, top_number) [] h.0 top top_number 0 [] h.2.0 h.1 h.2.1 in
+    let lost = lost_only (machine 4) (after_fork (1 ∷ 2 ∷ 3 ∷ [])).world (after_fork (1 ∷ 2 ∷ 3 ∷ [])).ledger (1, top_number) [] h.0 top
+    top_number 0 [] h.2.0 h.1 h.2.1 in
     never (ap need_code lost.absent)
   where
     never : ◌≡◌ {A = ℕ} 0 1 → ⊥
@@ -485,7 +540,8 @@ mapped_too_low events legal = by legal.answer.0 legal.answer.1 legal.answer.2
   where
     by : (to : Option ℕ) → IsGap (is_mapped no_pages) 1 to → IsMapAt (MapAt 0x7fffffffd000) to → ⊥
     by None gap h = let e = ap answer_code h in omega (arith, e)
-    by (Some page) gap h = let e = ap answer_code h in let most = gap.1 0x7fffffffe (record { lowest = omega arith; highest = omega arith; free = λ q a b. refl }) in omega (arith, e, most)
+    by (Some page) gap h = let e = ap answer_code h in let most = gap.1 0x7fffffffe
+        (record { lowest = omega arith; highest = omega arith; free = λ q a b. refl }) in omega (arith, e, most)
 
 -- there is room
 pub no_room_though_empty : Forbids (machine 4) (crowd 1) (Mmap 1 4096 read_write Auto) (reply_with (Refused Enomem) [])
@@ -498,10 +554,17 @@ no_room_though_empty events legal = by legal.answer.0 legal.answer.1 legal.answe
 -- ---- runs with a row of their own
 
 pub refused_write-runs : Runs 4 (refused_write Done)
-refused_write-runs = by_steps (machine 4) empty (refused_write Done) refl ([], 0 ∷ 1 ∷ 2 ∷ 3 ∷ [], record { answer = (refl, refl, refl); notes = refl }, refl, ([], 0 ∷ 1 ∷ 2 ∷ 3 ∷ [], record { answer = (refl, refl, refl); notes = refl }, refl, tt))
+refused_write-runs = by_steps (machine 4) empty (refused_write Done) refl (
+  [],
+  0 ∷ 1 ∷ 2 ∷ 3 ∷ [],
+  record { answer = (refl, refl, refl); notes = refl },
+  refl,
+  ([], 0 ∷ 1 ∷ 2 ∷ 3 ∷ [], record { answer = (refl, refl, refl); notes = refl }, refl, tt),
+)
 
 pub made_by_a_refused_write : Refutes 4 (refused_write (Refused Eexist))
-made_by_a_refused_write = same_run 4 (refused_write Done) (refused_write (Refused Eexist)) 1 refused_write-runs (refl, (refl, tt)) refl refl (λ e. omega (arith, e))
+made_by_a_refused_write = same_run 4 (refused_write Done) (refused_write (Refused Eexist)) 1 refused_write-runs
+    (refl, (refl, tt)) refl refl (λ e. omega (arith, e))
 
 pub lost_by_a_denied_write : Refutes 4 (denied_write 0)
 lost_by_a_denied_write = same_run 4 (denied_write 1) (denied_write 0) 3 denied_write-runs (refl, (refl, (refl, (refl, tt)))) refl refl (λ e. omega (arith, e))
@@ -511,10 +574,12 @@ protected_past_a_hole = same_run 4 (past_a_hole Done (New 1 0x7fffffffe000 0 ∷
     (refl, (refl, (refl, (refl, (refl, (refl, (refl, (refl, (refl, (refl, tt)))))))))) refl refl (λ e. omega (arith, e))
 
 pub entry_kept : Refutes 4 (fixed_over 2 0 (Zeroed 1 0x20000 ∷ []))
-entry_kept = same_run 4 (fixed_over 3 0 (Zeroed 1 0x20000 ∷ [])) (fixed_over 2 0 (Zeroed 1 0x20000 ∷ [])) 7 fixed_over-runs (refl, (refl, (refl, (refl, (refl, (refl, (refl, (refl, (refl, (refl, (refl, (refl, (refl, tt))))))))))))) refl refl (λ e. omega (arith, e))
+entry_kept = same_run 4 (fixed_over 3 0 (Zeroed 1 0x20000 ∷ [])) (fixed_over 2 0 (Zeroed 1 0x20000 ∷ [])) 7 fixed_over-runs
+    (refl, (refl, (refl, (refl, (refl, (refl, (refl, (refl, (refl, (refl, (refl, (refl, (refl, tt))))))))))))) refl refl (λ e. omega (arith, e))
 
 pub byte_kept : Refutes 4 (fixed_over 3 7 (Zeroed 1 0x20000 ∷ []))
-byte_kept = same_run 4 (fixed_over 3 0 (Zeroed 1 0x20000 ∷ [])) (fixed_over 3 7 (Zeroed 1 0x20000 ∷ [])) 8 fixed_over-runs (refl, (refl, (refl, (refl, (refl, (refl, (refl, (refl, (refl, (refl, (refl, (refl, (refl, tt))))))))))))) refl refl (λ e. omega (arith, e))
+byte_kept = same_run 4 (fixed_over 3 0 (Zeroed 1 0x20000 ∷ [])) (fixed_over 3 7 (Zeroed 1 0x20000 ∷ [])) 8 fixed_over-runs
+    (refl, (refl, (refl, (refl, (refl, (refl, (refl, (refl, (refl, (refl, (refl, (refl, (refl, tt))))))))))))) refl refl (λ e. omega (arith, e))
 
 -- ---- runs from other states
 
@@ -528,16 +593,19 @@ claimed b page = by (page == 0x7fffffffe)
 claimed_first : (p b : ℕ) (w : World) → IsClaimed w → IsClaimed ((p, with_byte b) ∷ w)
 claimed_first p b w rest q page = by (eq_by_cmp nat_cmp q p)
   where
-    by : (c : Bool) → IfSome (option_and_then (λ (m : Process). m page) (cond c (Some (with_byte b)) (process w q))) (λ (q : Page). (i : ℕ) → i < page_size → is_some (q.bytes i) ≡ true)
+    by : (c : Bool) → IfSome (option_and_then (λ (m : Process). m page) (cond c (Some (with_byte b)) (process w q))) (λ (q : Page). (i : ℕ) →
+        i < page_size → is_some (q.bytes i) ≡ true)
     by true = claimed b page
     by false = rest q page
 
 pub leaked-rejected : Rejects (machine 4) (after_fork (1 ∷ 2 ∷ 3 ∷ [])) leaking_run
-leaked-rejected = same_run_from (machine 4) (after_fork (1 ∷ 2 ∷ 3 ∷ [])) copies leaking_run 2 refl (claimed_first 1 7 ((2, with_byte 7) ∷ []) (claimed_first 2 7 [] (λ p page. tt))) copies-runs
+leaked-rejected = same_run_from (machine 4) (after_fork (1 ∷ 2 ∷ 3 ∷ [])) copies leaking_run 2 refl
+    (claimed_first 1 7 ((2, with_byte 7) ∷ []) (claimed_first 2 7 [] (λ p page. tt))) copies-runs
     (refl, (refl, (refl, (refl, (refl, (refl, tt)))))) refl refl (λ e. omega (arith, e))
 
 pub wrong_load-rejected : Rejects (with_swap 4 3 2) (paged_out 2 (0 ∷ 1 ∷ 2 ∷ 3 ∷ [])) wrong_load
-wrong_load-rejected = same_run_from (with_swap 4 3 2) (paged_out 2 (0 ∷ 1 ∷ 2 ∷ 3 ∷ [])) load_when_half_full wrong_load 0 refl (claimed_first 1 7 [] (λ p page. tt)) load_when_half_full-runs
+wrong_load-rejected = same_run_from (with_swap 4 3 2) (paged_out 2 (0 ∷ 1 ∷ 2 ∷ 3 ∷ [])) load_when_half_full wrong_load 0 refl
+    (claimed_first 1 7 [] (λ p page. tt)) load_when_half_full-runs
     (refl, tt) refl refl (λ e. omega (arith, e))
 
 -- a process with two pages has all their bytes claimed

@@ -17,7 +17,7 @@ use Rattle.av_plain.specs.Transcript.{IsStep, State, rmap_of}
 use Rattle.av_plain.specs.World.{Page, World, pages, with_prot, zeros}
 use Rattle.av_plain.proofs.AreasLeft.{left-one}
 use Rattle.av_plain.proofs.Transcript.{is_fork}
-use Rattle.av_laws.specs.Areas.{NeverShowsAround, ShowsAround, area, area_of, child_four, kin, of_child, right_middle, right_upper, second_protected, second_unmapped, with_hole, with_middle, with_own, with_rows}
+use Rattle.av_laws.specs.Areas.{NeverShowsAround, ShowsAround, area, area_of, child_four, family, of_child, right_middle, right_upper, second_protected, second_unmapped, with_hole, with_middle, with_own, with_rows}
 use Rattle.av_laws.specs.Examples.{machine, read_only, read_write, reply_with}
 use Rattle.av_laws.proofs.AnonExamples.{AreThen, both-left, now-is}
 use Rattle.av_laws.proofs.AreaRows.{one-rows}
@@ -52,15 +52,17 @@ upper = record (area_of 1 0x12 0x14) { pgoff = 0x22 }
 abbrev after : Command → State
 after command = record child_four {
   world = next_world (machine 4) child_four.world child_four.ledger [] command Done;
-  areas = next_areas (chain_length kin) child_four.areas child_four.world command Done;
+  areas = next_areas (chain_length family) child_four.areas child_four.world command Done;
 }
 
 hole-on : (page : ℕ) → pages_in (Some (lower ∷ upper ∷ [])) page ≡ (after second_unmapped).areas 1 page
 hole-on = each (λ page. pages_in (Some (lower ∷ upper ∷ [])) page ≡ (after second_unmapped).areas 1 page) refl refl refl refl
-    (λ page is. out _ _ (within 0x10 4 page) (within 0x11 1 page) (within 0x10 1 page) (within 0x12 2 page) is (grind (arith, nat_tests, is)) (grind (arith, nat_tests, is)))
+    (λ page is. out _ _ (within 0x10 4 page) (within 0x11 1 page) (within 0x10 1 page) (within 0x12 2 page) is (grind (arith, nat_tests, is))
+    (grind (arith, nat_tests, is)))
   where
     out : (f g : Area → Area) (four hole low high : Bool) → four ≡ false → low ≡ false → high ≡ false
-        → ◌≡◌ {A = Option Area} (cond low (Some lower) (cond high (Some upper) None)) (cond hole None (option_map f (option_map g (cond four (Some whole) None))))
+        → ◌≡◌ {A = Option Area} (cond low (Some lower) (cond high (Some upper) None))
+        (cond hole None (option_map f (option_map g (cond four (Some whole) None))))
     out f g true hole low high a b c = cc
     out f g false hole true high a b c = cc
     out f g false hole false true a b c = cc
@@ -69,7 +71,8 @@ hole-on = each (λ page. pages_in (Some (lower ∷ upper ∷ [])) page ≡ (afte
 
 middle-on : (page : ℕ) → pages_in (Some (lower ∷ middle ∷ upper ∷ [])) page ≡ (after second_protected).areas 1 page
 middle-on = each (λ page. pages_in (Some (lower ∷ middle ∷ upper ∷ [])) page ≡ (after second_protected).areas 1 page) refl refl refl refl
-    (λ page is. out _ _ _ (within 0x10 4 page) (within 0x11 1 page) (within 0x10 1 page) (within 0x12 2 page) is (grind (arith, nat_tests, is)) (grind (arith, nat_tests, is)) (grind (arith, nat_tests, is)))
+    (λ page is. out _ _ _ (within 0x10 4 page) (within 0x11 1 page) (within 0x10 1 page) (within 0x12 2 page) is (grind (arith, nat_tests, is))
+    (grind (arith, nat_tests, is)) (grind (arith, nat_tests, is)))
   where
     out : (f g h : Area → Area) (four mid low high : Bool) → four ≡ false → mid ≡ false → low ≡ false → high ≡ false
         → ◌≡◌ {A = Option Area} (cond low (Some lower) (cond mid (Some middle) (cond high (Some upper) None)))
@@ -95,7 +98,8 @@ whole-covers = each _ refl refl refl refl (λ page is. out (within 0x10 4 page) 
 
 hole-covers : Cover (pages (after second_unmapped).world 1) (map range_of (lower ∷ upper ∷ []))
 hole-covers = each _ refl refl refl refl
-    (λ page is. out (within 0x10 4 page) (within 0x11 1 page) (within 0x10 1 page) (within 0x12 2 page) is (grind (arith, nat_tests, is)) (grind (arith, nat_tests, is)))
+    (λ page is. out (within 0x10 4 page) (within 0x11 1 page) (within 0x10 1 page) (within 0x12 2 page) is (grind (arith, nat_tests, is))
+    (grind (arith, nat_tests, is)))
   where
     out : (four hole low high : Bool) → four ≡ false → low ≡ false → high ≡ false
         → ◌≡◌ {A = Option Prot} (cond low (Some read_write) (cond high (Some read_write) None))
@@ -108,7 +112,8 @@ hole-covers = each _ refl refl refl refl
 
 middle-covers : Cover (pages (after second_protected).world 1) (map range_of (lower ∷ middle ∷ upper ∷ []))
 middle-covers = each _ refl refl refl refl
-    (λ page is. out (within 0x10 4 page) (within 0x11 1 page) (within 0x10 1 page) (within 0x12 2 page) is (grind (arith, nat_tests, is)) (grind (arith, nat_tests, is)) (grind (arith, nat_tests, is)))
+    (λ page is. out (within 0x10 4 page) (within 0x11 1 page) (within 0x10 1 page) (within 0x12 2 page) is (grind (arith, nat_tests, is))
+    (grind (arith, nat_tests, is)) (grind (arith, nat_tests, is)))
   where
     out : (four mid low high : Bool) → four ≡ false → mid ≡ false → low ≡ false → high ≡ false
         → ◌≡◌ {A = Option Prot} (cond low (Some read_write) (cond mid (Some read_only) (cond high (Some read_write) None)))
@@ -128,10 +133,10 @@ hole-apart = (omega arith, omega arith, omega arith)
 middle-apart : AreApart (map range_of (lower ∷ middle ∷ upper ∷ []))
 middle-apart = (omega arith, omega arith, (omega arith, omega arith, omega arith))
 
-hole-rows : AreRowsOf kin ((after second_unmapped).areas 1) (with_hole right_upper)
+hole-rows : AreRowsOf family ((after second_unmapped).areas 1) (with_hole right_upper)
 hole-rows = (lower ∷ upper ∷ [], refl, hole-apart, hole-on)
 
-middle-rows : AreRowsOf kin ((after second_protected).areas 1) (with_middle right_middle right_upper)
+middle-rows : AreRowsOf family ((after second_protected).areas 1) (with_middle right_middle right_upper)
 middle-rows = (lower ∷ middle ∷ upper ∷ [], refl, middle-apart, middle-on)
 
 first-step : IsStep (machine 4) child_four (AsksAreas 1) (with_rows (of_child 0x10 0x14 read_write 0x20 ∷ [])) child_four
@@ -215,8 +220,8 @@ changed-shown = (
 
 -- ---- no other rows are
 
-module _ (command : Command) (other : is_fork command ≡ false) (right : List Row) (root_linked : IsLinked kin (after command).areas 0)
-    (child_linked : IsLinked kin (after command).areas 1) (right-rows : AreRowsOf kin ((after command).areas 1) right) where
+module _ (command : Command) (other : is_fork command ≡ false) (right : List Row) (root_linked : IsLinked family (after command).areas 0)
+    (child_linked : IsLinked family (after command).areas 1) (right-rows : AreRowsOf family ((after command).areas 1) right) where
   pub never-around : (rows : List Row) → (rows ≡ right → ⊥) → NeverShowsAround command rows
   never-around rows differ new run =
       let first = run.1 in let mid = run.0 in
@@ -224,16 +229,19 @@ module _ (command : Command) (other : is_fork command ≡ false) (right : List R
       let one : AreThen (rmap_of child_four) child_four.world (AsksAreas 1) (AreaList 1) (rmap_of mid) =
       now-is (machine 4) child_four (AsksAreas 1) refl (with_rows (of_child 0x10 0x14 read_write 0x20 ∷ [])) mid first in
       let areas : mid.areas ≡ child_four.areas = one.areas in
-      let anons : mid.anons ≡ kin =
-      left-one kin child_four.areas mid.anons kin (subst (λ (on : Areas). AreLeft kin on mid.anons) areas one.anons) (both-left child_four.areas (1, 0x10, refl) (1, 0x10, refl)) in
+      let anons : mid.anons ≡ family =
+      left-one family child_four.areas mid.anons family (subst (λ (on : Areas). AreLeft family on mid.anons) areas one.anons)
+      (both-left child_four.areas (1, 0x10, refl) (1, 0x10, refl)) in
       let world : mid.world ≡ child_four.world = first.world ∙ loads-told (machine 4) child_four.world child_four.ledger first.events refl in
       let two : AreThen (rmap_of mid) mid.world command Done (rmap_of then) = now-is (machine 4) mid command other (reply_with Done []) then second in
       let areas' : then.areas ≡ (after command).areas = two.areas ∙ (λ i. next_areas (chain_length (anons i)) (areas i) (world i) command Done) in
-      let anons' : then.anons ≡ kin =
-      left-one kin (after command).areas then.anons kin (subst (λ (on : Areas). AreLeft kin on then.anons) areas' (subst (λ (a : Anons). AreLeft a then.areas then.anons) anons two.anons))
+      let anons' : then.anons ≡ family =
+      left-one family (after command).areas then.anons family (subst (λ (on : Areas). AreLeft family on then.anons) areas'
+      (subst (λ (a : Anons). AreLeft a then.areas then.anons) anons two.anons))
       (both-left (after command).areas root_linked child_linked) in
-      differ (one-rows kin ((after command).areas 1) rows right
-      (subst (λ (a : Anons). AreRowsOf a ((after command).areas 1) rows) anons' (subst (λ (on : Areas). AreRowsOf then.anons (on 1) rows) areas' run.2.2.1.shows)) right-rows)
+      differ (one-rows family ((after command).areas 1) rows right
+      (subst (λ (a : Anons). AreRowsOf a ((after command).areas 1) rows) anons'
+      (subst (λ (on : Areas). AreRowsOf then.anons (on 1) rows) areas' run.2.2.1.shows)) right-rows)
 
 pub never-unmapped : (rows : List Row) → (rows ≡ with_hole right_upper → ⊥) → NeverShowsAround second_unmapped rows
 never-unmapped rows differ = never-around second_unmapped refl (with_hole right_upper) (1, 0x10, refl) (1, 0x10, refl) hole-rows rows differ

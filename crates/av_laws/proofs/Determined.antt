@@ -70,7 +70,8 @@ served-chosen m closing l write k notes later free free' h =
 served-notes : (write : Bool) (k : Key) (notes : List Note) (later : List Event) → notes_of (page_events write k notes None ++ later) ≡ notes ++ notes_of later
 served-notes write k notes later =
     notes_of-append (page_events write k notes None) later
-    ∙ ap (λ ns. ns ++ notes_of later) (notes_of-append (note_events notes) (Used write k ∷ []) ∙ append-nil (notes_of (note_events notes)) ∙ notes_of-note_events notes)
+    ∙ ap (λ ns. ns ++ notes_of later) (notes_of-append (note_events notes) (Used write k ∷ []) ∙ append-nil (notes_of (note_events notes))
+    ∙ notes_of-note_events notes)
 
 pub accesses-one : (m : Setting) (closing : Option ℕ) (told : Tells m) (w : World) (l : Ledger)
     (p : ℕ) (ps : List (Bool × ℕ)) (es fs : List Event) (end end' : End) (free a b : Free)
@@ -166,11 +167,13 @@ end_page Whole whole = whole
 end_page (Stopped page stop) whole = page
 
 -- each page before the end may be touched
-served-allowed : (m : Setting) (w : World) (l : Ledger) (write : Bool) (p from n : ℕ) (es : List Event) (end : End) → Accesses m w l p (map (λ page. (write, page)) (numbers from n)) es end
+served-allowed : (m : Setting) (w : World) (l : Ledger) (write : Bool) (p from n : ℕ) (es : List Event) (end : End) →
+    Accesses m w l p (map (λ page. (write, page)) (numbers from n)) es end
     → (page : ℕ) → from ≤ page → page < end_page end (from + n) → is_allowed w write (p, page) ≡ true
 served-allowed m w l write p from zero es end h page low high = absurd (let e = subst (λ e. page < end_page e (from + 0)) h.1 high in omega (arith, e, low))
 served-allowed m w l write p from (suc n) es end (inl h) page low high =
-    by (from == page) refl (λ above. served-allowed m w (after_all l (page_events write (p, from) h.0 None)) write p (from + 1) n h.1 end h.4 page above (later end high))
+    by (from == page) refl (λ above. served-allowed m w (after_all l (page_events write (p, from) h.0 None)) write p
+    (from + 1) n h.1 end h.4 page above (later end high))
   where
     later : (end : End) → page < end_page end (from + suc n) → page < end_page end ((from + 1) + n)
     later Whole h = omega (arith, h)
@@ -179,16 +182,19 @@ served-allowed m w l write p from (suc n) es end (inl h) page low high =
     by : (b : Bool) → (from == page) ≡ b → (from + 1 ≤ page → is_allowed w write (p, page) ≡ true) → is_allowed w write (p, page) ≡ true
     by true is rest = let e : from ≡ page = grind (arith, nat_tests, is) in subst (λ x. is_allowed w write (p, x) ≡ true) e h.2.0
     by false is rest = rest (grind (arith, nat_tests, is, low))
-served-allowed m w l write p from (suc n) es end (inr h) page low high = absurd (let e = subst (λ e. page < end_page e (from + suc n)) h.4 high in omega (arith, e, low))
+served-allowed m w l write p from (suc n) es end (inr h) page low high =
+    absurd (let e = subst (λ e. page < end_page e (from + suc n)) h.4 high in omega (arith, e, low))
 
 -- two lists that are shown at one place are one, where each byte is claimed
-shows-one : (q : Process) (a : ℕ) (xs ys : List ℕ) → length xs ≡ length ys → ((i : ℕ) → i < length xs → is_some (byte_at q (a + i)) ≡ true) → Shows q a xs → Shows q a ys → xs ≡ ys
+shows-one : (q : Process) (a : ℕ) (xs ys : List ℕ) → length xs ≡ length ys → ((i : ℕ) → i < length xs → is_some (byte_at q (a + i)) ≡ true) →
+    Shows q a xs → Shows q a ys → xs ≡ ys
 shows-one q a [] [] same some h g = refl
 shows-one q a [] (y ∷ ys) same some h g = absurd (omega (arith, same))
 shows-one q a (x ∷ xs) [] same some h g = absurd (omega (arith, same))
 shows-one q a (x ∷ xs) (y ∷ ys) same some h g =
     let first : x ≡ y = one (byte_at q a) (subst (λ n. is_some (byte_at q n) ≡ true) (plus_zero a) (some 0 (omega arith))) h.0 g.0 in
-    let rest = shows-one q (a + 1) xs ys (omega (arith, same)) (λ i below. subst (λ n. is_some (byte_at q n) ≡ true) (shifted a i) (some (i + 1) (omega (arith, below)))) h.1 g.1 in
+    let rest = shows-one q (a + 1) xs ys (omega (arith, same)) (λ i below. subst (λ n. is_some (byte_at q n) ≡ true) (shifted a i)
+    (some (i + 1) (omega (arith, below)))) h.1 g.1 in
     λ i. first i ∷ rest i
   where
     plus_zero : (a : ℕ) → a + 0 ≡ a
@@ -202,18 +208,22 @@ shows-one q a (x ∷ xs) (y ∷ ys) same some h g =
     one (Some b) i h g = sym h ∙ g
 
 -- a byte of a page that may be touched is claimed
-byte-claimed : (w : World) (write : Bool) (p address : ℕ) → IsClaimed w → is_allowed w write (p, page_of address) ≡ true → is_some (byte_at (pages w p) address) ≡ true
+byte-claimed : (w : World) (write : Bool) (p address : ℕ) → IsClaimed w → is_allowed w write (p, page_of address) ≡ true →
+    is_some (byte_at (pages w p) address) ≡ true
 byte-claimed w write p address claimed allowed = by (pages w p (page_of address)) refl (claimed p (page_of address)) allowed
   where
-    by : (o : Option Page) → pages w p (page_of address) ≡ o → IfSome o (λ (q : Page). (i : ℕ) → i < page_size → is_some (q.bytes i) ≡ true) → permits write o ≡ true → is_some (option_and_then (λ (q : Page). q.bytes (address % 4096)) o) ≡ true
+    by : (o : Option Page) → pages w p (page_of address) ≡ o → IfSome o (λ (q : Page). (i : ℕ) → i < page_size → is_some (q.bytes i) ≡ true) →
+        permits write o ≡ true → is_some (option_and_then (λ (q : Page). q.bytes (address % 4096)) o) ≡ true
     by None is c h = cc
     by (Some q) is c h = c (address % 4096) (omega arith)
 
 -- the bytes before the end lie on pages before the end
-served-claimed : (m : Setting) (w : World) (l : Ledger) (write : Bool) (p a n : ℕ) (es : List Event) (end : End) → IsClaimed w → Accesses m w l p (pages_of_access write a n) es end
+served-claimed : (m : Setting) (w : World) (l : Ledger) (write : Bool) (p a n : ℕ) (es : List Event) (end : End) → IsClaimed w →
+    Accesses m w l p (pages_of_access write a n) es end
     → (i : ℕ) → i < bytes_served a n end → is_some (byte_at (pages w p) (a + i)) ≡ true
 served-claimed m w l write p a n es end claimed h i below =
-    byte-claimed w write p (a + i) claimed (served-allowed m w l write p (page_of a) (if n == 0 then 0 else pages_of (a % 4096 + n)) es end h (page_of (a + i)) (rising a i) (inside end below))
+    byte-claimed w write p (a + i) claimed (served-allowed m w l write p (page_of a) (if n == 0 then 0 else pages_of (a % 4096 + n)) es end h (page_of (a + i))
+    (rising a i) (inside end below))
   where
     rising : (a i : ℕ) → a / 4096 ≤ (a + i) / 4096
     rising a i = omega arith
@@ -244,7 +254,8 @@ goes-one : (q : Process) (n : ℕ) (place : Place) (to to' : Option ℕ) → Goe
 goes-one q n Auto to to' h g = gap-one (is_mapped q) n to to' h g
 goes-one q n (At a) to to' h g = by (is_room q n (page_of a)) h g
   where
-    by : (b : Bool) → MatchBool b (to ≡ Some (page_of a)) (IsGap (is_mapped q) n to) → MatchBool b (to' ≡ Some (page_of a)) (IsGap (is_mapped q) n to') → to ≡ to'
+    by : (b : Bool) → MatchBool b (to ≡ Some (page_of a)) (IsGap (is_mapped q) n to) →
+        MatchBool b (to' ≡ Some (page_of a)) (IsGap (is_mapped q) n to') → to ≡ to'
     by true h g = h ∙ sym g
     by false h g = gap-one (is_mapped q) n to to' h g
 goes-one q n (Fixed a) to to' h g = h ∙ sym g
@@ -342,10 +353,13 @@ follows-one m w l on anons (Read p at n) es fs answer answer' rows rows' closing
     let one = accesses-one m closing told w l p (pages_of_access false at n) es fs h.0 g.0 free a b
     h.2 g.2 c d x y (read-kept at h.0 h.1 answer h.4 kept)
     (read-kept at g.0 g.1 answer' g.4 kept') in
-    let mine : Reads (pages w p) at (bytes_served at n h.0) h.1 = subst (λ v. Reads (pages v p) at (bytes_served at n h.0) h.1) (loads-told m w l es told) h.3 in
-    let other : Reads (pages w p) at (bytes_served at n h.0) g.1 = subst (λ e. Reads (pages w p) at (bytes_served at n e) g.1) (sym one.1) (subst (λ v. Reads (pages v p) at (bytes_served at n g.0) g.1) (loads-told m w l fs told) g.3) in
+    let mine : Reads (pages w p) at (bytes_served at n h.0) h.1 = subst (λ v. Reads (pages v p) at (bytes_served at n h.0) h.1)
+    (loads-told m w l es told) h.3 in
+    let other : Reads (pages w p) at (bytes_served at n h.0) g.1 = subst (λ e. Reads (pages w p) at (bytes_served at n e) g.1) (sym one.1)
+    (subst (λ v. Reads (pages v p) at (bytes_served at n g.0) g.1) (loads-told m w l fs told) g.3) in
     let length_is = mine.0 in
-    let shown = shows-one (pages w p) at h.1 g.1 (mine.0 ∙ sym other.0) (λ i below. served-claimed m w l false p at n es h.0 claimed h.2 i (omega (arith, below, length_is))) mine.1 other.1 in
+    let shown = shows-one (pages w p) at h.1 g.1 (mine.0 ∙ sym other.0)
+    (λ i below. served-claimed m w l false p at n es h.0 claimed h.2 i (omega (arith, below, length_is))) mine.1 other.1 in
     record { events = one.0; answers = h.4 ∙ (λ i. read_answer at (one.1 i) (shown i)) ∙ sym g.4; reports = h.5 ∙ sym g.5 }
 follows-one m w l on anons (Write p at bytes) es fs answer answer' rows rows' closing free a b told claimed
     kept kept' x y c d h g s t =
@@ -381,7 +395,8 @@ legal-one m w l on anons command reply reply' es fs closing free a b told claime
     (refusal (tests m w l command)) h.answer g.answer
   where
     by : (o : Option Errno) → MatchOption o (Follows m w l command es reply.answer reply.rows) (λ error. Refuses error es reply.answer reply.rows)
-        → MatchOption o (Follows m w l command fs reply'.answer reply'.rows) (λ error. Refuses error fs reply'.answer reply'.rows) → Same es fs reply.answer reply'.answer reply.rows reply'.rows
+        → MatchOption o (Follows m w l command fs reply'.answer reply'.rows) (λ error. Refuses error fs reply'.answer reply'.rows) →
+        Same es fs reply.answer reply'.answer reply.rows reply'.rows
     by None p q = follows-one m w l on anons command es fs reply.answer reply'.answer reply.rows reply'.rows
         closing free a b told claimed kept kept' x y c d p q s t
     by (Some error) p q = record { events = p.1 ∙ sym q.1; answers = p.0 ∙ sym q.0; reports = p.2 ∙ sym q.2 }
@@ -450,17 +465,20 @@ claimed-stored w p a (b ∷ bytes) claimed = claimed-set w p (with_bytes (pages 
           else p.bytes i;
     }) o)
     over page None h = tt
-    over page (Some q) h = λ i below. either (within a (length (b ∷ bytes)) (address_of page + i)) (slice_index (b ∷ bytes) (address_of page + i - a)) (q.bytes i) (h i below)
+    over page (Some q) h = λ i below. either (within a (length (b ∷ bytes)) (address_of page + i)) (slice_index (b ∷ bytes) (address_of page + i - a))
+        (q.bytes i) (h i below)
 
 claimed-protected : (w : World) (p from n : ℕ) (prot : Prot) → IsClaimed w → IsClaimed (set_process w p (with_prot_on (pages w p) from n prot))
-claimed-protected w p from n prot claimed = claimed-set w p (with_prot_on (pages w p) from n prot) claimed (λ page. by (within from n page) (pages w p page) (claimed p page))
+claimed-protected w p from n prot claimed = claimed-set w p (with_prot_on (pages w p) from n prot) claimed
+    (λ page. by (within from n page) (pages w p page) (claimed p page))
   where
     by : (b : Bool) (o : Option Page) → Claims o → Claims (if b then option_map (with_prot prot) o else o)
     by true None h = h
     by true (Some q) h = h
     by false o h = h
 
-claimed-follows : (m : Setting) (w : World) (l : Ledger) (command : Command) (es : List Event) (answer : Answer) (rows : List Row) → Tells m → IsClaimed w → Follows m w l command es answer rows → IsClaimed (next_world m w l es command answer)
+claimed-follows : (m : Setting) (w : World) (l : Ledger) (command : Command) (es : List Event) (answer : Answer) (rows : List Row) → Tells m → IsClaimed w →
+    Follows m w l command es answer rows → IsClaimed (next_world m w l es command answer)
 claimed-follows m w l command es answer rows told claimed h = subst (λ v. IsClaimed (next v command answer)) (sym (loads-told m w l es told)) (by command h)
   where
     by : (command : Command) → Follows m w l command es answer rows → IsClaimed (next w command answer)
@@ -476,14 +494,17 @@ claimed-follows m w l command es answer rows told claimed h = subst (λ v. IsCla
         at : (to : Option ℕ) → IsMapAt answer to → IsClaimed (next w (Mmap p len prot place) answer)
         at None e = subst (λ x. IsClaimed (next w (Mmap p len prot place) x)) (sym e) claimed
         at (Some page) e = subst (λ x. IsClaimed (next w (Mmap p len prot place) x)) (sym e)
-            (claimed-set w p (with_pages (pages w p) (page_of (address_of page)) (pages_of len) (λ _. Some (zeros prot))) claimed (λ q. inside (within (page_of (address_of page)) (pages_of len) q) (pages w p q) (claimed p q)))
+            (claimed-set w p (with_pages (pages w p) (page_of (address_of page)) (pages_of len) (λ _. Some (zeros prot))) claimed
+            (λ q. inside (within (page_of (address_of page)) (pages_of len) q) (pages w p q) (claimed p q)))
     by (Munmap p a len) h = subst (λ x. IsClaimed (next w (Munmap p a len) x)) (sym h.0)
-        (claimed-set w p (with_pages (pages w p) (page_of a) (pages_of len) no_pages) claimed (λ q. outside (within (page_of a) (pages_of len) q) (pages w p q) (claimed p q)))
+        (claimed-set w p (with_pages (pages w p) (page_of a) (pages_of len) no_pages) claimed
+        (λ q. outside (within (page_of a) (pages_of len) q) (pages w p q) (claimed p q)))
       where
         outside : (b : Bool) (o : Option Page) → Claims o → Claims (if b then None else o)
         outside true o h = tt
         outside false o h = h
-    by (Mprotect p a len prot) h = subst (λ x. IsClaimed (next w (Mprotect p a len prot) x)) (sym h.0) (at (pages_to_hole (pages w p) (page_of a) (pages_of len) == pages_of len))
+    by (Mprotect p a len prot) h = subst (λ x. IsClaimed (next w (Mprotect p a len prot) x)) (sym h.0)
+        (at (pages_to_hole (pages w p) (page_of a) (pages_of len) == pages_of len))
       where
         at : (b : Bool) → IsClaimed (next w (Mprotect p a len prot) (if b then Done else Refused Enomem))
         at true = claimed-protected w p (page_of a) (pages_of len) prot claimed
@@ -531,15 +552,21 @@ claimed-follows m w l command es answer rows told claimed h = subst (λ v. IsCla
     by (AsksEntry p a) h = claimed
     by Stat h = claimed
 
-claimed-refused : (m : Setting) (w : World) (l : Ledger) (command : Command) (es : List Event) (error : Errno) → Tells m → IsClaimed w → refusal (tests m w l command) ≡ Some error → IsClaimed (next_world m w l es command (Refused error))
-claimed-refused m w l command es error told claimed is = subst IsClaimed (sym (refused-next m w (with_loads m w l es) l command error is ∙ loads-told m w l es told)) claimed
+claimed-refused : (m : Setting) (w : World) (l : Ledger) (command : Command) (es : List Event) (error : Errno) → Tells m → IsClaimed w →
+    refusal (tests m w l command) ≡ Some error → IsClaimed (next_world m w l es command (Refused error))
+claimed-refused m w l command es error told claimed is = subst IsClaimed
+    (sym (refused-next m w (with_loads m w l es) l command error is ∙ loads-told m w l es told)) claimed
 
-claimed-step : (m : Setting) (old new : State) (command : Command) (reply : Reply) → Tells m → IsClaimed old.world → IsStep m old command reply new → IsClaimed new.world
+claimed-step : (m : Setting) (old new : State) (command : Command) (reply : Reply) → Tells m → IsClaimed old.world →
+    IsStep m old command reply new → IsClaimed new.world
 claimed-step m old new command reply told claimed h = subst IsClaimed (sym h.world) (by (refusal (tests m old.world old.ledger command)) refl h.legal.answer)
   where
-    by : (o : Option Errno) → refusal (tests m old.world old.ledger command) ≡ o → MatchOption o (Follows m old.world old.ledger command h.events reply.answer reply.rows) (λ error. Refuses error h.events reply.answer reply.rows) → IsClaimed (next_world m old.world old.ledger h.events command reply.answer)
+    by : (o : Option Errno) → refusal (tests m old.world old.ledger command) ≡ o →
+        MatchOption o (Follows m old.world old.ledger command h.events reply.answer reply.rows) (λ error. Refuses error h.events reply.answer reply.rows) →
+        IsClaimed (next_world m old.world old.ledger h.events command reply.answer)
     by None e x = claimed-follows m old.world old.ledger command h.events reply.answer reply.rows told claimed x
-    by (Some error) e x = subst (λ a. IsClaimed (next_world m old.world old.ledger h.events command a)) (sym x.0) (claimed-refused m old.world old.ledger command h.events error told claimed e)
+    by (Some error) e x = subst (λ a. IsClaimed (next_world m old.world old.ledger h.events command a)) (sym x.0)
+        (claimed-refused m old.world old.ledger command h.events error told claimed e)
 
 -- ---- runs
 

@@ -33,7 +33,23 @@ entries_shown-runs = by_steps (machine 4) state_at_rest entries_shown refl ((
       (
         Noted (Zeroed 1 0x7fffffffe000) ∷ Used false (1, 0x7fffffffe) ∷ [],
         0 ∷ 1 ∷ 2 ∷ 3 ∷ [],
-        record { answer = (Whole, 0 ∷ [], inl (Zeroed 1 0x7fffffffe000 ∷ [], [], (refl, record { coming = []; making = Zeroed 1 0x7fffffffe000 ∷ []; whole = refl; comes_in = refl; made = refl }), refl, (refl, refl)), (refl, (refl, tt), (omega arith, tt)), refl, refl); notes = refl },
+        record {
+          answer = (
+            Whole,
+            0 ∷ [],
+            inl (
+              Zeroed 1 0x7fffffffe000 ∷ [],
+              [],
+              (refl, record { coming = []; making = Zeroed 1 0x7fffffffe000 ∷ []; whole = refl; comes_in = refl; made = refl }),
+              refl,
+              (refl, refl),
+            ),
+            (refl, (refl, tt), (omega arith, tt)),
+            refl,
+            refl,
+          );
+          notes = refl;
+        },
         (0 ∷ 1 ∷ 2 ∷ 3 ∷ [], (0 ∷ 1 ∷ 2 ∷ 3 ∷ [], refl, refl), (0 ∷ 1 ∷ 2 ∷ 3 ∷ [], (0 ∷ 1 ∷ 2 ∷ 3 ∷ [], refl, refl), refl)),
         (
           [],
@@ -43,7 +59,30 @@ entries_shown-runs = by_steps (machine 4) state_at_rest entries_shown refl ((
           (
             Noted (New 1 0x7fffffffe000 0) ∷ Used true (1, 0x7fffffffe) ∷ [],
             1 ∷ 2 ∷ 3 ∷ [],
-            record { answer = (Whole, inl (New 1 0x7fffffffe000 0 ∷ [], [], (refl, record { coming = []; making = New 1 0x7fffffffe000 0 ∷ []; whole = refl; comes_in = refl; made = record { sought = []; frame = 0; seeks = refl; in_range = omega arith; free = refl; whole = refl } }), refl, (refl, refl)), refl, refl); notes = refl },
+            record {
+              answer = (
+                Whole,
+                inl (
+                  New 1 0x7fffffffe000 0 ∷ [],
+                  [],
+                  (
+                    refl,
+                    record {
+                      coming = [];
+                      making = New 1 0x7fffffffe000 0 ∷ [];
+                      whole = refl;
+                      comes_in = refl;
+                      made = record { sought = []; frame = 0; seeks = refl; in_range = omega arith; free = refl; whole = refl };
+                    },
+                  ),
+                  refl,
+                  (refl, refl),
+                ),
+                refl,
+                refl,
+              );
+              notes = refl;
+            },
             (1 ∷ 2 ∷ 3 ∷ [], (1 ∷ 2 ∷ 3 ∷ [], refl, refl), (1 ∷ 2 ∷ 3 ∷ [], (1 ∷ 2 ∷ 3 ∷ [], refl, refl), refl)),
             (
               [],
@@ -60,13 +99,17 @@ entries_shown-runs = by_steps (machine 4) state_at_rest entries_shown refl ((
 ))
 
 pub old_frame-runs : Allows (machine 4) (after_fork (1 ∷ 2 ∷ 3 ∷ [])) (has_entry 2 (EntryFrame 0 false None))
-old_frame-runs = by_steps (machine 4) (after_fork (1 ∷ 2 ∷ 3 ∷ [])) (has_entry 2 (EntryFrame 0 false None)) refl (([], 1 ∷ 2 ∷ 3 ∷ [], record { answer = (refl, refl, refl); notes = refl }, refl, tt))
+old_frame-runs = by_steps (machine 4) (after_fork (1 ∷ 2 ∷ 3 ∷ [])) (has_entry 2 (EntryFrame 0 false None)) refl
+    (([], 1 ∷ 2 ∷ 3 ∷ [], record { answer = (refl, refl, refl); notes = refl }, refl, tt))
 
 pub cached_frame-runs : Allows (with_swap 4 8 7) in_swap_cache (has_entry 1 (EntryFrame 0 true (Some (slot 1))))
-cached_frame-runs = by_steps (with_swap 4 8 7) in_swap_cache (has_entry 1 (EntryFrame 0 true (Some (slot 1)))) refl (([], 1 ∷ 2 ∷ 3 ∷ [], record { answer = (refl, refl, refl); notes = refl }, refl, tt))
+cached_frame-runs = by_steps (with_swap 4 8 7) in_swap_cache (has_entry 1 (EntryFrame 0 true (Some (slot 1)))) refl
+    (([], 1 ∷ 2 ∷ 3 ∷ [], record { answer = (refl, refl, refl); notes = refl }, refl, tt))
 
 pub cached_slot-runs : Allows (with_swap 4 8 7) in_writeback (has_entry 1 (EntrySlot (slot 1) (Some 0)))
-cached_slot-runs = by_steps (with_swap 4 8 7) in_writeback (has_entry 1 (EntrySlot (slot 1) (Some 0))) refl (([], 1 ∷ 2 ∷ 3 ∷ [], record { answer = (refl, refl, refl); notes = refl }, refl, tt))
+cached_slot-runs = by_steps (with_swap 4 8 7) in_writeback (has_entry 1 (EntrySlot (slot 1) (Some 0))) refl
+    (([], 1 ∷ 2 ∷ 3 ∷ [], record { answer = (refl, refl, refl); notes = refl }, refl, tt))
 
 pub slot_alone-runs : Allows (with_swap 4 8 7) (paged_out 7 (0 ∷ 1 ∷ 2 ∷ 3 ∷ [])) (has_entry 1 (EntrySlot (slot 1) None))
-slot_alone-runs = by_steps (with_swap 4 8 7) (paged_out 7 (0 ∷ 1 ∷ 2 ∷ 3 ∷ [])) (has_entry 1 (EntrySlot (slot 1) None)) refl (([], 0 ∷ 1 ∷ 2 ∷ 3 ∷ [], record { answer = (refl, refl, refl); notes = refl }, refl, tt))
+slot_alone-runs = by_steps (with_swap 4 8 7) (paged_out 7 (0 ∷ 1 ∷ 2 ∷ 3 ∷ [])) (has_entry 1 (EntrySlot (slot 1) None)) refl
+    (([], 0 ∷ 1 ∷ 2 ∷ 3 ∷ [], record { answer = (refl, refl, refl); notes = refl }, refl, tt))

@@ -40,12 +40,52 @@ pub exit_frees-runs : Runs 4 exit_frees
 exit_frees-runs = by_steps (machine 4) (at_first (machine 4)) exit_frees refl (topmost read_write (drop 2 exit_frees) (
   Noted (New 1 0x7fffffffe000 0) ∷ Used true (1, 0x7fffffffe) ∷ [],
   1 ∷ 2 ∷ 3 ∷ [],
-  record { answer = (Whole, inl (New 1 0x7fffffffe000 0 ∷ [], [], (refl, record { coming = []; making = New 1 0x7fffffffe000 0 ∷ []; whole = refl; comes_in = refl; made = record { sought = []; frame = 0; seeks = refl; in_range = omega arith; free = refl; whole = refl } }), refl, (refl, refl)), refl, refl); notes = refl },
+  record {
+    answer = (
+      Whole,
+      inl (
+        New 1 0x7fffffffe000 0 ∷ [],
+        [],
+        (
+          refl,
+          record {
+            coming = [];
+            making = New 1 0x7fffffffe000 0 ∷ [];
+            whole = refl;
+            comes_in = refl;
+            made = record { sought = []; frame = 0; seeks = refl; in_range = omega arith; free = refl; whole = refl };
+          },
+        ),
+        refl,
+        (refl, refl),
+      ),
+      refl,
+      refl,
+    );
+    notes =
+        refl;
+  },
   (1 ∷ 2 ∷ 3 ∷ [], (1 ∷ 2 ∷ 3 ∷ [], refl, refl), (1 ∷ 2 ∷ 3 ∷ [], (1 ∷ 2 ∷ 3 ∷ [], refl, refl), refl)),
   (
     Used false (1, 0x7fffffffe) ∷ [],
     1 ∷ 2 ∷ 3 ∷ [],
-    record { answer = (Whole, 0 ∷ 65 ∷ 0 ∷ [], inl ([], [], (refl, record { coming = []; making = []; whole = refl; comes_in = refl; made = refl }), refl, (refl, refl)), (refl, (refl, (refl, (refl, tt))), (omega arith, (omega arith, (omega arith, tt)))), refl, refl); notes = refl },
+    record {
+      answer = (
+        Whole,
+        0 ∷ 65 ∷ 0 ∷ [],
+        inl (
+          [],
+          [],
+          (refl, record { coming = []; making = []; whole = refl; comes_in = refl; made = refl }),
+          refl,
+          (refl, refl),
+        ),
+        (refl, (refl, (refl, (refl, tt))), (omega arith, (omega arith, (omega arith, tt)))),
+        refl,
+        refl,
+      );
+      notes = refl;
+    },
     (1 ∷ 2 ∷ 3 ∷ [], (1 ∷ 2 ∷ 3 ∷ [], refl, refl), refl),
     (
       [],
@@ -88,7 +128,10 @@ exit_frees-runs = by_steps (machine 4) (at_first (machine 4)) exit_frees refl (t
                     (
                       [],
                       0 ∷ 1 ∷ 2 ∷ 3 ∷ [],
-                      record { answer = (Stopped 0x7fffffffe Denied, [], inr ([], Denied, (refl, refl), refl, refl), (refl, tt, tt), refl, refl); notes = refl },
+                      record {
+                        answer = (Stopped 0x7fffffffe Denied, [], inr ([], Denied, (refl, refl), refl, refl), (refl, tt, tt), refl, refl);
+                        notes = refl;
+                      },
                       refl,
                       tt,
                     ),
@@ -128,18 +171,82 @@ exit_and_again-runs = by_steps (machine 4) (at_first (machine 4)) exit_and_again
     (
       [],
       0 ∷ 1 ∷ 2 ∷ 3 ∷ [],
-      record { answer = (Some 0x7fffffffd, (record { lowest = omega arith; highest = omega arith; free = λ q a b. refl }, (λ b h. omega (arith, h.highest))), refl, refl, refl); notes = refl },
+      record {
+        answer = (
+          Some 0x7fffffffd,
+          (record { lowest = omega arith; highest = omega arith; free = λ q a b. refl }, (λ b h. omega (arith, h.highest))),
+          refl,
+          refl,
+          refl,
+        );
+        notes = refl;
+      },
       refl,
       (
         [],
         0 ∷ 1 ∷ 2 ∷ 3 ∷ [],
-        record { answer = (Some 0x7fffffffd, (record { lowest = omega arith; highest = omega arith; free = λ q a b. refl }, (λ b h. omega (arith, h.highest))), refl, refl, refl); notes = refl },
+        record {
+          answer = (
+            Some 0x7fffffffd,
+            (record { lowest = omega arith; highest = omega arith; free = λ q a b. refl }, (λ b h. omega (arith, h.highest))),
+            refl,
+            refl,
+            refl,
+          );
+          notes = refl;
+        },
         refl,
         (
           Noted (New 1 0x7fffffffd000 0) ∷ Used true (1, 0x7fffffffd) ∷ Noted (New 1 0x7fffffffe000 1) ∷ Used true (1, 0x7fffffffe) ∷ [],
           2 ∷ 3 ∷ [],
-          record { answer = (Whole, inl (New 1 0x7fffffffd000 0 ∷ [], Noted (New 1 0x7fffffffe000 1) ∷ Used true (1, 0x7fffffffe) ∷ [], (refl, record { coming = []; making = New 1 0x7fffffffd000 0 ∷ []; whole = refl; comes_in = refl; made = record { sought = []; frame = 0; seeks = refl; in_range = omega arith; free = refl; whole = refl } }), refl, inl (New 1 0x7fffffffe000 1 ∷ [], [], (refl, record { coming = []; making = New 1 0x7fffffffe000 1 ∷ []; whole = refl; comes_in = refl; made = record { sought = []; frame = 1; seeks = refl; in_range = omega arith; free = refl; whole = refl } }), refl, (refl, refl))), refl, refl); notes = refl },
-          (1 ∷ 2 ∷ 3 ∷ [], (1 ∷ 2 ∷ 3 ∷ [], refl, refl), (1 ∷ 2 ∷ 3 ∷ [], (1 ∷ 2 ∷ 3 ∷ [], refl, refl), (2 ∷ 3 ∷ [], (2 ∷ 3 ∷ [], refl, refl), (2 ∷ 3 ∷ [], (2 ∷ 3 ∷ [], refl, refl), refl)))),
+          record {
+            answer = (
+              Whole,
+              inl (
+                New 1 0x7fffffffd000 0 ∷ [],
+                Noted (New 1 0x7fffffffe000 1) ∷ Used true (1, 0x7fffffffe) ∷ [],
+                (
+                  refl,
+                  record {
+                    coming = [];
+                    making = New 1 0x7fffffffd000 0 ∷ [];
+                    whole = refl;
+                    comes_in = refl;
+                    made = record { sought = []; frame = 0; seeks = refl; in_range = omega arith; free = refl; whole = refl };
+                  },
+                ),
+                refl,
+                inl (
+                  New 1 0x7fffffffe000 1 ∷ [],
+                  [],
+                  (
+                    refl,
+                    record {
+                      coming = [];
+                      making = New 1 0x7fffffffe000 1 ∷ [];
+                      whole = refl;
+                      comes_in = refl;
+                      made = record { sought = []; frame = 1; seeks = refl; in_range = omega arith; free = refl; whole = refl };
+                    },
+                  ),
+                  refl,
+                  (refl, refl),
+                ),
+              ),
+              refl,
+              refl,
+            );
+            notes = refl;
+          },
+          (
+            1 ∷ 2 ∷ 3 ∷ [],
+            (1 ∷ 2 ∷ 3 ∷ [], refl, refl),
+            (
+              1 ∷ 2 ∷ 3 ∷ [],
+              (1 ∷ 2 ∷ 3 ∷ [], refl, refl),
+              (2 ∷ 3 ∷ [], (2 ∷ 3 ∷ [], refl, refl), (2 ∷ 3 ∷ [], (2 ∷ 3 ∷ [], refl, refl), refl)),
+            ),
+          ),
           (
             Zapped (1, 0x7fffffffd) ∷ Zapped (1, 0x7fffffffe) ∷ [],
             1 ∷ 0 ∷ 2 ∷ 3 ∷ [],
@@ -151,8 +258,54 @@ exit_and_again-runs = by_steps (machine 4) (at_first (machine 4)) exit_and_again
               (
                 Noted (New 2 0x7fffffffd000 1) ∷ Used true (2, 0x7fffffffd) ∷ Noted (New 2 0x7fffffffe000 0) ∷ Used true (2, 0x7fffffffe) ∷ [],
                 2 ∷ 3 ∷ [],
-                record { answer = (Whole, inl (New 2 0x7fffffffd000 1 ∷ [], Noted (New 2 0x7fffffffe000 0) ∷ Used true (2, 0x7fffffffe) ∷ [], (refl, record { coming = []; making = New 2 0x7fffffffd000 1 ∷ []; whole = refl; comes_in = refl; made = record { sought = []; frame = 1; seeks = refl; in_range = omega arith; free = refl; whole = refl } }), refl, inl (New 2 0x7fffffffe000 0 ∷ [], [], (refl, record { coming = []; making = New 2 0x7fffffffe000 0 ∷ []; whole = refl; comes_in = refl; made = record { sought = []; frame = 0; seeks = refl; in_range = omega arith; free = refl; whole = refl } }), refl, (refl, refl))), refl, refl); notes = refl },
-                (0 ∷ 2 ∷ 3 ∷ [], (0 ∷ 2 ∷ 3 ∷ [], refl, refl), (0 ∷ 2 ∷ 3 ∷ [], (0 ∷ 2 ∷ 3 ∷ [], refl, refl), (2 ∷ 3 ∷ [], (2 ∷ 3 ∷ [], refl, refl), (2 ∷ 3 ∷ [], (2 ∷ 3 ∷ [], refl, refl), refl)))),
+                record {
+                  answer = (
+                    Whole,
+                    inl (
+                      New 2 0x7fffffffd000 1 ∷ [],
+                      Noted (New 2 0x7fffffffe000 0) ∷ Used true (2, 0x7fffffffe) ∷ [],
+                      (
+                        refl,
+                        record {
+                          coming = [];
+                          making = New 2 0x7fffffffd000 1 ∷ [];
+                          whole = refl;
+                          comes_in = refl;
+                          made = record { sought = []; frame = 1; seeks = refl; in_range = omega arith; free = refl; whole = refl };
+                        },
+                      ),
+                      refl,
+                      inl (
+                        New 2 0x7fffffffe000 0 ∷ [],
+                        [],
+                        (
+                          refl,
+                          record {
+                            coming = [];
+                            making = New 2 0x7fffffffe000 0 ∷ [];
+                            whole = refl;
+                            comes_in = refl;
+                            made = record { sought = []; frame = 0; seeks = refl; in_range = omega arith; free = refl; whole = refl };
+                          },
+                        ),
+                        refl,
+                        (refl, refl),
+                      ),
+                    ),
+                    refl,
+                    refl,
+                  );
+                  notes = refl;
+                },
+                (
+                  0 ∷ 2 ∷ 3 ∷ [],
+                  (0 ∷ 2 ∷ 3 ∷ [], refl, refl),
+                  (
+                    0 ∷ 2 ∷ 3 ∷ [],
+                    (0 ∷ 2 ∷ 3 ∷ [], refl, refl),
+                    (2 ∷ 3 ∷ [], (2 ∷ 3 ∷ [], refl, refl), (2 ∷ 3 ∷ [], (2 ∷ 3 ∷ [], refl, refl), refl)),
+                  ),
+                ),
                 (
                   [],
                   2 ∷ 3 ∷ [],
@@ -183,7 +336,23 @@ exit_shared-runs = by_steps (machine 4) (after_fork (1 ∷ 2 ∷ 3 ∷ [])) exit
     (
       Used false (2, 0x7fffffffe) ∷ [],
       1 ∷ 2 ∷ 3 ∷ [],
-      record { answer = (Whole, 7 ∷ [], inl ([], [], (refl, record { coming = []; making = []; whole = refl; comes_in = refl; made = refl }), refl, (refl, refl)), (refl, (refl, tt), (omega arith, tt)), refl, refl); notes = refl },
+      record {
+        answer = (
+          Whole,
+          7 ∷ [],
+          inl (
+            [],
+            [],
+            (refl, record { coming = []; making = []; whole = refl; comes_in = refl; made = refl }),
+            refl,
+            (refl, refl),
+          ),
+          (refl, (refl, tt), (omega arith, tt)),
+          refl,
+          refl,
+        );
+        notes = refl;
+      },
       (1 ∷ 2 ∷ 3 ∷ [], (1 ∷ 2 ∷ 3 ∷ [], refl, refl), refl),
       (
         Zapped (2, 0x7fffffffe) ∷ [],
@@ -273,22 +442,76 @@ pub two_runs-runs : Runs 4 two_runs
 two_runs-runs = by_steps (machine 4) (at_first (machine 4)) two_runs refl (topmost read_only (drop 2 two_runs) (
   [],
   0 ∷ 1 ∷ 2 ∷ 3 ∷ [],
-  record { answer = (Some 0x7fffffffc, (gap_below _ 0x7fffffffe 2 refl (omega arith) (omega arith) (omega arith) (λ q h. grind (arith, nat_tests, h)) (λ q h i. grind (arith, nat_tests, h, i))), refl, refl, refl); notes = refl },
+  record {
+    answer = (
+      Some 0x7fffffffc,
+      (gap_below _ 0x7fffffffe 2 refl (omega arith) (omega arith) (omega arith) (λ q h. grind (arith, nat_tests, h))
+          (λ q h i. grind (arith, nat_tests, h, i))),
+      refl,
+      refl,
+      refl,
+    );
+    notes = refl;
+  },
   refl,
   (
     [],
     0 ∷ 1 ∷ 2 ∷ 3 ∷ [],
-    record { answer = (refl, (record { from = 0x7fffffffc; to = 0x7fffffffe; prot = read_write } ∷ record { from = 0x7fffffffe; to = 0x7ffffffff; prot = read_only } ∷ [], refl, (omega arith, omega arith, (λ e p. differ p), omega arith), λ page. (λ i. cond (in_run 0x7fffffffc 2 page i) (Some read_write) (cond (in_run 0x7fffffffe 1 page i) (Some read_only) None)) ∙ two (within 0x7fffffffc 2 page) (within 0x7fffffffe 1 page)), refl); notes = refl },
+    record {
+      answer = (
+        refl,
+        (
+          record { from = 0x7fffffffc; to = 0x7fffffffe; prot = read_write } ∷ record {
+            from = 0x7fffffffe;
+            to = 0x7ffffffff;
+            prot = read_only;
+          } ∷ [],
+          refl,
+          (omega arith, omega arith, (λ e p. differ p), omega arith),
+          λ page. (λ i. cond (in_run 0x7fffffffc 2 page i) (Some read_write) (cond (in_run 0x7fffffffe 1 page i) (Some read_only) None))
+              ∙ two (within 0x7fffffffc 2 page) (within 0x7fffffffe 1 page),
+        ),
+        refl,
+      );
+      notes = refl;
+    },
     refl,
     (
       [],
       0 ∷ 1 ∷ 2 ∷ 3 ∷ [],
-      record { answer = (Some 0x7fffffffb, (gap_below _ 0x7fffffffc 1 refl (omega arith) (omega arith) (omega arith) (λ q h. grind (arith, nat_tests, h)) (λ q h i. grind (arith, nat_tests, h, i))), refl, refl, refl); notes = refl },
+      record {
+        answer = (
+          Some 0x7fffffffb,
+          (gap_below _ 0x7fffffffc 1 refl (omega arith) (omega arith) (omega arith) (λ q h. grind (arith, nat_tests, h))
+              (λ q h i. grind (arith, nat_tests, h, i))),
+          refl,
+          refl,
+          refl,
+        );
+        notes = refl;
+      },
       refl,
       (
         [],
         0 ∷ 1 ∷ 2 ∷ 3 ∷ [],
-        record { answer = (refl, (record { from = 0x7fffffffb; to = 0x7fffffffe; prot = read_write } ∷ record { from = 0x7fffffffe; to = 0x7ffffffff; prot = read_only } ∷ [], refl, (omega arith, omega arith, (λ e p. differ p), omega arith), λ page. (λ i. cond ((in_run 0x7fffffffb 3 page ∙ adjoining page) i) (Some read_write) (cond (in_run 0x7fffffffe 1 page i) (Some read_only) None)) ∙ three (within 0x7fffffffb 1 page) (within 0x7fffffffc 2 page) (within 0x7fffffffe 1 page)), refl); notes = refl },
+        record {
+          answer = (
+            refl,
+            (
+              record { from = 0x7fffffffb; to = 0x7fffffffe; prot = read_write } ∷ record {
+                from = 0x7fffffffe;
+                to = 0x7ffffffff;
+                prot = read_only;
+              } ∷ [],
+              refl,
+              (omega arith, omega arith, (λ e p. differ p), omega arith),
+              λ page. (λ i. cond ((in_run 0x7fffffffb 3 page ∙ adjoining page) i) (Some read_write) (cond (in_run 0x7fffffffe 1 page i) (Some read_only) None))
+                  ∙ three (within 0x7fffffffb 1 page) (within 0x7fffffffc 2 page) (within 0x7fffffffe 1 page),
+            ),
+            refl,
+          );
+          notes = refl;
+        },
         refl,
         tt,
       ),
@@ -299,12 +522,14 @@ two_runs-runs = by_steps (machine 4) (at_first (machine 4)) two_runs refl (topmo
     differ : read_write ≡ read_only → ⊥
     differ e = false≢true (sym (ap (λ (p : Prot). p.write) e))
 
-    two : (a b : Bool) → cond a (Some read_write) (cond b (Some read_only) None) ≡ option_map (λ (p : Page). p.prot) (cond a (Some (zeros read_write)) (cond b (Some (zeros read_only)) None))
+    two : (a b : Bool) → cond a (Some read_write) (cond b (Some read_only) None) ≡ option_map (λ (p : Page). p.prot)
+        (cond a (Some (zeros read_write)) (cond b (Some (zeros read_only)) None))
     two true b = refl
     two false true = refl
     two false false = refl
 
-    three : (a b c : Bool) → cond (a || b) (Some read_write) (cond c (Some read_only) None) ≡ option_map (λ (p : Page). p.prot) (cond a (Some (zeros read_write)) (cond b (Some (zeros read_write)) (cond c (Some (zeros read_only)) None)))
+    three : (a b c : Bool) → cond (a || b) (Some read_write) (cond c (Some read_only) None) ≡ option_map (λ (p : Page). p.prot)
+        (cond a (Some (zeros read_write)) (cond b (Some (zeros read_write)) (cond c (Some (zeros read_only)) None)))
     three true b c = refl
     three false true c = refl
     three false false true = refl
@@ -326,7 +551,8 @@ rows-of : (rs : List Range) (page : ℕ) → prot_in_rows (map row_of rs) page �
 rows-of [] page = refl
 rows-of (r ∷ rs) page = λ i. cond (in_pages r.from r.to page i) (Some r.prot) (rows-of rs page i)
   where
-    in_pages : (from to page : ℕ) → (nat_le (address_of from) (address_of page) && nat_lt (address_of page) (address_of to)) ≡ (nat_le from page && nat_lt page to)
+    in_pages : (from to page : ℕ) → (nat_le (address_of from) (address_of page) && nat_lt (address_of page) (address_of to))
+        ≡ (nat_le from page && nat_lt page to)
     in_pages from to page = grind (arith, nat_tests)
 
 -- a page is in a run exactly where it is mapped
@@ -342,7 +568,8 @@ two_rows = (
   λ page. covered page,
 )
   where
-    cases : (a b c d e : Bool) → d ≡ (b || c) → e ≡ a → (a && (b || c)) ≡ false → cond d (Some read_write) (cond e (Some read_only) None) ≡ option_map (λ (p : Page). p.prot) (if a then Some (zeros read_only) else (if b || c then Some (zeros read_write) else None))
+    cases : (a b c d e : Bool) → d ≡ (b || c) → e ≡ a → (a && (b || c)) ≡ false → cond d (Some read_write) (cond e (Some read_only) None) ≡ option_map
+        (λ (p : Page). p.prot) (if a then Some (zeros read_only) else (if b || c then Some (zeros read_write) else None))
     cases true true c d e x y h = cc
     cases true false true d e x y h = cc
     cases true false false d e x y h = λ i. cond (x i) (Some read_write) (cond (y i) (Some read_only) None)
@@ -350,8 +577,10 @@ two_rows = (
     cases false false true d e x y h = λ i. cond (x i) (Some read_write) (cond (y i) (Some read_only) None)
     cases false false false d e x y h = λ i. cond (x i) (Some read_write) (cond (y i) (Some read_only) None)
 
-    covered : (page : ℕ) → cond (nat_le 0x7fffffffc page && nat_lt page 0x7fffffffe) (Some read_write) (cond (nat_le 0x7fffffffe page && nat_lt page 0x7ffffffff) (Some read_only) None) ≡ option_map (λ (p : Page). p.prot) (two_kinds page)
-    covered page = cases (page == 0x7fffffffe) (page == 0x7fffffffd) (page == 0x7fffffffc) _ _ (grind (arith, nat_tests)) (grind (arith, nat_tests)) (grind (arith, nat_tests))
+    covered : (page : ℕ) → cond (nat_le 0x7fffffffc page && nat_lt page 0x7fffffffe) (Some read_write)
+        (cond (nat_le 0x7fffffffe page && nat_lt page 0x7ffffffff) (Some read_only) None) ≡ option_map (λ (p : Page). p.prot) (two_kinds page)
+    covered page = cases (page == 0x7fffffffe) (page == 0x7fffffffd) (page == 0x7fffffffc) _ _ (grind (arith, nat_tests))
+        (grind (arith, nat_tests)) (grind (arith, nat_tests))
 
 abbrev end_code : List Row → ℕ
 end_code [] = 0

@@ -19,7 +19,7 @@ use Rattle.av_plain.specs.Fault.{Denied, Starved}
 use Rattle.av_plain.specs.Access.{Whole, Stopped}
 use Rattle.av_plain.specs.Report.{ShowsAreas}
 use Rattle.av_plain.specs.Step.{IsLegal, next_world}
-use Rattle.av_plain.specs.Areas.{Anons, AnonVma, Areas, AreLeft, chain_length, chain_of, IsLinked, next_areas, no_anons, no_areas, no_homes, rmap_after_all, Rmap}
+use Rattle.av_plain.specs.Areas.{Anons, AnonVma, Areas, AreLeft, chain_length, chain_by, IsLinked, next_areas, no_anons, no_areas, no_homes, rmap_after_all, Rmap}
 use Rattle.av_plain.proofs.Transcript.{is_forked, next-unforked}
 use Rattle.av_plain.proofs.Report.Areas.{asks_areas, shows-none}
 use Rattle.av_plain.proofs.AreasLeft.{AreBelow, below-all, below-left, left-all}
@@ -34,7 +34,7 @@ use Rattle.av_laws.specs.Examples.{Allows, Runs, machine, says, read_write, writ
 -- an area that is there is linked to the anon_vma
 abbrev pub is_linked : Anons → ℕ → Option Area → Bool
 is_linked anons v None = false
-is_linked anons v (Some area) = is_in v (chain_of anons area.anon)
+is_linked anons v (Some area) = is_in v (chain_by anons area.anon)
 
 -- the area of one of these keys is
 abbrev pub is_linked_on : Anons → Areas → ℕ → List (Key × Entry) → Bool
@@ -52,7 +52,7 @@ linked-on : (anons : Anons) (on : Areas) (v : ℕ) (es : List (Key × Entry)) �
 linked-on anons on v [] h = cc
 linked-on anons on v (e ∷ es) h = by (is_linked anons v (on e.0.0 e.0.1)) refl (linked-on anons on v es) h
   where
-    there : (o : Option Area) → is_linked anons v o ≡ true → IsSomeAnd o (λ area. is_in v (chain_of anons area.anon) ≡ true)
+    there : (o : Option Area) → is_linked anons v o ≡ true → IsSomeAnd o (λ area. is_in v (chain_by anons area.anon) ≡ true)
     there None h = cc
     there (Some area) h = h
 
@@ -106,7 +106,8 @@ one-step m old e other events free left legal frames given is shows = record {
   world = refl;
   ledger = refl;
   free = all-chosen m None old.ledger events old.free.frames free old.free.slots frames given;
-  rmap = next-unforked (rmap_after_all old.ledger events (rmap_of old)) old.world e.command e.reply.answer (rmap_of (state_after m old e events free left)) other (record { areas = refl; anons = is; homes = refl });
+  rmap = next-unforked (rmap_after_all old.ledger events (rmap_of old)) old.world e.command e.reply.answer (rmap_of (state_after m old e events free left))
+      other (record { areas = refl; anons = is; homes = refl });
   shows = shows;
 }
 
@@ -120,7 +121,8 @@ Answers m old e events =
 no_fork : (m : Setting) (old : State) (e : Exchange) (events : List Event) → Answers m old e events → is_forked e.command e.reply.answer ≡ false
 no_fork m old e events h = by (is_forked e.command e.reply.answer) h
   where
-    by : (b : Bool) → MatchBool b ⊥ (MatchBool (asks_areas e.command) (IsLegal m old.world old.ledger e.command e.reply events × ShowsAreas old.areas old.anons e.command e.reply.answer e.reply.rows)
+    by : (b : Bool) → MatchBool b ⊥ (MatchBool (asks_areas e.command)
+        (IsLegal m old.world old.ledger e.command e.reply events × ShowsAreas old.areas old.anons e.command e.reply.answer e.reply.rows)
         (IsLegal m old.world old.ledger e.command e.reply events)) → b ≡ false
     by true h = absurd h
     by false h = refl
@@ -129,9 +131,11 @@ answers : (m : Setting) (old : State) (e : Exchange) (events : List Event) → A
     → IsLegal m old.world old.ledger e.command e.reply events × ShowsAreas old.areas old.anons e.command e.reply.answer e.reply.rows
 answers m old e events h = by (asks_areas e.command) refl (plain (is_forked e.command e.reply.answer) h)
   where
-    plain : (b : Bool) → MatchBool b ⊥ (MatchBool (asks_areas e.command) (IsLegal m old.world old.ledger e.command e.reply events × ShowsAreas old.areas old.anons e.command e.reply.answer e.reply.rows)
+    plain : (b : Bool) → MatchBool b ⊥ (MatchBool (asks_areas e.command)
+        (IsLegal m old.world old.ledger e.command e.reply events × ShowsAreas old.areas old.anons e.command e.reply.answer e.reply.rows)
         (IsLegal m old.world old.ledger e.command e.reply events))
-        → MatchBool (asks_areas e.command) (IsLegal m old.world old.ledger e.command e.reply events × ShowsAreas old.areas old.anons e.command e.reply.answer e.reply.rows)
+        → MatchBool (asks_areas e.command) (IsLegal m old.world old.ledger e.command e.reply events × ShowsAreas old.areas old.anons
+        e.command e.reply.answer e.reply.rows)
         (IsLegal m old.world old.ledger e.command e.reply events)
     plain true h = absurd h
     plain false h = h
@@ -219,7 +223,8 @@ not_free : (b : Bool) → b ≡ false → b ≡ true → ⊥
 not_free b h i = false≢true (sym h ∙ i)
 
 -- where all pages from one on are taken and the n below are not, the place ends there
-pub gap_under : (is_taken : ℕ → Bool) (from n : ℕ) {page : ℕ} → page ≡ from - n → 0 < n → low_page + n ≤ from → from ≤ top_page → ((q : ℕ) → page ≤ q → q < from → is_taken q ≡ false) → ((q : ℕ) → from ≤ q → q < top_page → is_taken q ≡ true) → IsGap is_taken n (Some page)
+pub gap_under : (is_taken : ℕ → Bool) (from n : ℕ) {page : ℕ} → page ≡ from - n → 0 < n → low_page + n ≤ from → from ≤ top_page →
+    ((q : ℕ) → page ≤ q → q < from → is_taken q ≡ false) → ((q : ℕ) → from ≤ q → q < top_page → is_taken q ≡ true) → IsGap is_taken n (Some page)
 gap_under is_taken from n {page} is some low high below above = (
   record { lowest = omega (arith, is, low); highest = omega (arith, is, low, high); free = λ q a b. below q a (omega (arith, is, b, low)) },
   (λ other room. fits other room),
@@ -236,10 +241,12 @@ gap_under is_taken from n {page} is some low high below above = (
         by false h =
             let more : page < other = grind (arith, nat_tests, h) in
             let top = room.highest in
-            absurd (not_free (is_taken (other + n - 1)) (room.free (other + n - 1) (omega (arith, some)) (omega (arith, some))) (above (other + n - 1) (omega (arith, is, low, some, more)) (omega (arith, some, top))))
+            absurd (not_free (is_taken (other + n - 1)) (room.free (other + n - 1) (omega (arith, some)) (omega (arith, some)))
+            (above (other + n - 1) (omega (arith, is, low, some, more)) (omega (arith, some, top))))
 
 -- and so where none is below
-pub gap_below : (is_taken : ℕ → Bool) (from n : ℕ) {page : ℕ} → page ≡ from - n → 0 < n → low_page + n ≤ from → from ≤ top_page → ((q : ℕ) → q < from → is_taken q ≡ false) → ((q : ℕ) → from ≤ q → q < top_page → is_taken q ≡ true) → IsGap is_taken n (Some page)
+pub gap_below : (is_taken : ℕ → Bool) (from n : ℕ) {page : ℕ} → page ≡ from - n → 0 < n → low_page + n ≤ from → from ≤ top_page →
+    ((q : ℕ) → q < from → is_taken q ≡ false) → ((q : ℕ) → from ≤ q → q < top_page → is_taken q ≡ true) → IsGap is_taken n (Some page)
 gap_below is_taken from n is some low high below above = gap_under is_taken from n is some low high (λ q a b. below q b) above
 
 -- process 1 has the topmost page mapped, and no other
@@ -257,7 +264,8 @@ one_page prot = record {
 }
 
 -- so many rows begin
-pub topmost : (prot : Prot) (row : List Exchange) → Steps (machine 4) (one_page prot) row → Steps (machine 4) (at_first (machine 4)) (says (Spawn 1) Done [] ∷ says (Mmap 1 4096 prot Auto) (MapAt 0x7fffffffe000) [] ∷ row)
+pub topmost : (prot : Prot) (row : List Exchange) → Steps (machine 4) (one_page prot) row →
+    Steps (machine 4) (at_first (machine 4)) (says (Spawn 1) Done [] ∷ says (Mmap 1 4096 prot Auto) (MapAt 0x7fffffffe000) [] ∷ row)
 topmost prot row rest = (
   [],
   0 ∷ 1 ∷ 2 ∷ 3 ∷ [],
@@ -266,7 +274,16 @@ topmost prot row rest = (
   (
     [],
     0 ∷ 1 ∷ 2 ∷ 3 ∷ [],
-    record { answer = (Some 0x7fffffffe, (record { lowest = omega arith; highest = omega arith; free = λ q a b. refl }, (λ b h. omega (arith, h.highest))), refl, refl, refl); notes = refl },
+    record {
+      answer = (
+        Some 0x7fffffffe,
+        (record { lowest = omega arith; highest = omega arith; free = λ q a b. refl }, (λ b h. omega (arith, h.highest))),
+        refl,
+        refl,
+        refl,
+      );
+      notes = refl;
+    },
     refl,
     rest,
   ),
@@ -276,12 +293,52 @@ pub first_run-runs : Runs 4 first_run
 first_run-runs = by_steps (machine 4) (at_first (machine 4)) first_run refl (topmost read_write (drop 2 first_run) (
   Noted (New 1 0x7fffffffe000 0) ∷ Used true (1, 0x7fffffffe) ∷ [],
   1 ∷ 2 ∷ 3 ∷ [],
-  record { answer = (Whole, inl (New 1 0x7fffffffe000 0 ∷ [], [], (refl, record { coming = []; making = New 1 0x7fffffffe000 0 ∷ []; whole = refl; comes_in = refl; made = record { sought = []; frame = 0; seeks = refl; in_range = omega arith; free = refl; whole = refl } }), refl, (refl, refl)), refl, refl); notes = refl },
+  record {
+    answer = (
+      Whole,
+      inl (
+        New 1 0x7fffffffe000 0 ∷ [],
+        [],
+        (
+          refl,
+          record {
+            coming = [];
+            making = New 1 0x7fffffffe000 0 ∷ [];
+            whole = refl;
+            comes_in = refl;
+            made = record { sought = []; frame = 0; seeks = refl; in_range = omega arith; free = refl; whole = refl };
+          },
+        ),
+        refl,
+        (refl, refl),
+      ),
+      refl,
+      refl,
+    );
+    notes =
+        refl;
+  },
   (1 ∷ 2 ∷ 3 ∷ [], (1 ∷ 2 ∷ 3 ∷ [], refl, refl), (1 ∷ 2 ∷ 3 ∷ [], (1 ∷ 2 ∷ 3 ∷ [], refl, refl), refl)),
   (
     Used false (1, 0x7fffffffe) ∷ [],
     1 ∷ 2 ∷ 3 ∷ [],
-    record { answer = (Whole, 0 ∷ 65 ∷ 0 ∷ [], inl ([], [], (refl, record { coming = []; making = []; whole = refl; comes_in = refl; made = refl }), refl, (refl, refl)), (refl, (refl, (refl, (refl, tt))), (omega arith, (omega arith, (omega arith, tt)))), refl, refl); notes = refl },
+    record {
+      answer = (
+        Whole,
+        0 ∷ 65 ∷ 0 ∷ [],
+        inl (
+          [],
+          [],
+          (refl, record { coming = []; making = []; whole = refl; comes_in = refl; made = refl }),
+          refl,
+          (refl, refl),
+        ),
+        (refl, (refl, (refl, (refl, tt))), (omega arith, (omega arith, (omega arith, tt)))),
+        refl,
+        refl,
+      );
+      notes = refl;
+    },
     (1 ∷ 2 ∷ 3 ∷ [], (1 ∷ 2 ∷ 3 ∷ [], refl, refl), refl),
     tt,
   ),
@@ -291,27 +348,101 @@ pub zero_first-runs : Runs 4 zero_first
 zero_first-runs = by_steps (machine 4) (at_first (machine 4)) zero_first refl (topmost read_write (drop 2 zero_first) (
   Noted (Zeroed 1 0x7fffffffe000) ∷ Used false (1, 0x7fffffffe) ∷ [],
   0 ∷ 1 ∷ 2 ∷ 3 ∷ [],
-  record { answer = (Whole, 0 ∷ 0 ∷ [], inl (Zeroed 1 0x7fffffffe000 ∷ [], [], (refl, record { coming = []; making = Zeroed 1 0x7fffffffe000 ∷ []; whole = refl; comes_in = refl; made = refl }), refl, (refl, refl)), (refl, (refl, (refl, tt)), (omega arith, (omega arith, tt))), refl, refl); notes = refl },
+  record {
+    answer = (
+      Whole,
+      0 ∷ 0 ∷ [],
+      inl (
+        Zeroed 1 0x7fffffffe000 ∷ [],
+        [],
+        (refl, record { coming = []; making = Zeroed 1 0x7fffffffe000 ∷ []; whole = refl; comes_in = refl; made = refl }),
+        refl,
+        (refl, refl),
+      ),
+      (refl, (refl, (refl, tt)), (omega arith, (omega arith, tt))),
+      refl,
+      refl,
+    );
+    notes = refl;
+  },
   (0 ∷ 1 ∷ 2 ∷ 3 ∷ [], (0 ∷ 1 ∷ 2 ∷ 3 ∷ [], refl, refl), (0 ∷ 1 ∷ 2 ∷ 3 ∷ [], (0 ∷ 1 ∷ 2 ∷ 3 ∷ [], refl, refl), refl)),
   (
     Used false (1, 0x7fffffffe) ∷ [],
     0 ∷ 1 ∷ 2 ∷ 3 ∷ [],
-    record { answer = (Whole, 0 ∷ [], inl ([], [], (refl, record { coming = []; making = []; whole = refl; comes_in = refl; made = refl }), refl, (refl, refl)), (refl, (refl, tt), (omega arith, tt)), refl, refl); notes = refl },
+    record {
+      answer = (
+        Whole,
+        0 ∷ [],
+        inl ([], [], (refl, record { coming = []; making = []; whole = refl; comes_in = refl; made = refl }), refl, (refl, refl)),
+        (refl, (refl, tt), (omega arith, tt)),
+        refl,
+        refl,
+      );
+      notes = refl;
+    },
     (0 ∷ 1 ∷ 2 ∷ 3 ∷ [], (0 ∷ 1 ∷ 2 ∷ 3 ∷ [], refl, refl), refl),
     (
       Noted (New 1 0x7fffffffe000 0) ∷ Used true (1, 0x7fffffffe) ∷ [],
       1 ∷ 2 ∷ 3 ∷ [],
-      record { answer = (Whole, inl (New 1 0x7fffffffe000 0 ∷ [], [], (refl, record { coming = []; making = New 1 0x7fffffffe000 0 ∷ []; whole = refl; comes_in = refl; made = record { sought = []; frame = 0; seeks = refl; in_range = omega arith; free = refl; whole = refl } }), refl, (refl, refl)), refl, refl); notes = refl },
+      record {
+        answer = (
+          Whole,
+          inl (
+            New 1 0x7fffffffe000 0 ∷ [],
+            [],
+            (
+              refl,
+              record {
+                coming = [];
+                making = New 1 0x7fffffffe000 0 ∷ [];
+                whole = refl;
+                comes_in = refl;
+                made = record { sought = []; frame = 0; seeks = refl; in_range = omega arith; free = refl; whole = refl };
+              },
+            ),
+            refl,
+            (refl, refl),
+          ),
+          refl,
+          refl,
+        );
+        notes =
+            refl;
+      },
       (1 ∷ 2 ∷ 3 ∷ [], (1 ∷ 2 ∷ 3 ∷ [], refl, refl), (1 ∷ 2 ∷ 3 ∷ [], (1 ∷ 2 ∷ 3 ∷ [], refl, refl), refl)),
       (
         Used true (1, 0x7fffffffe) ∷ [],
         1 ∷ 2 ∷ 3 ∷ [],
-        record { answer = (Whole, inl ([], [], (refl, record { coming = []; making = []; whole = refl; comes_in = refl; made = refl }), refl, (refl, refl)), refl, refl); notes = refl },
+        record {
+          answer = (
+            Whole,
+            inl ([], [], (refl, record { coming = []; making = []; whole = refl; comes_in = refl; made = refl }), refl, (refl, refl)),
+            refl,
+            refl,
+          );
+          notes = refl;
+        },
         (1 ∷ 2 ∷ 3 ∷ [], (1 ∷ 2 ∷ 3 ∷ [], refl, refl), refl),
         (
           Used false (1, 0x7fffffffe) ∷ [],
           1 ∷ 2 ∷ 3 ∷ [],
-          record { answer = (Whole, 1 ∷ 2 ∷ [], inl ([], [], (refl, record { coming = []; making = []; whole = refl; comes_in = refl; made = refl }), refl, (refl, refl)), (refl, (refl, (refl, tt)), (omega arith, (omega arith, tt))), refl, refl); notes = refl },
+          record {
+            answer = (
+              Whole,
+              1 ∷ 2 ∷ [],
+              inl (
+                [],
+                [],
+                (refl, record { coming = []; making = []; whole = refl; comes_in = refl; made = refl }),
+                refl,
+                (refl, refl),
+              ),
+              (refl, (refl, (refl, tt)), (omega arith, (omega arith, tt))),
+              refl,
+              refl,
+            );
+            notes = refl;
+          },
           (1 ∷ 2 ∷ 3 ∷ [], (1 ∷ 2 ∷ 3 ∷ [], refl, refl), refl),
           tt,
         ),
@@ -329,22 +460,123 @@ one_frame-runs = by_steps (machine 1) (at_first (machine 1)) one_frame refl ((
   (
     [],
     0 ∷ [],
-    record { answer = (Some 0x7fffffffd, (record { lowest = omega arith; highest = omega arith; free = λ q a b. refl }, (λ b h. omega (arith, h.highest))), refl, refl, refl); notes = refl },
+    record {
+      answer = (
+        Some 0x7fffffffd,
+        (record { lowest = omega arith; highest = omega arith; free = λ q a b. refl }, (λ b h. omega (arith, h.highest))),
+        refl,
+        refl,
+        refl,
+      );
+      notes = refl;
+    },
     refl,
     (
       Noted (New 1 0x7fffffffd000 0) ∷ Used true (1, 0x7fffffffd) ∷ [],
       [],
-      record { answer = (Stopped 0x7fffffffe (Starved (record { pinned = 0; noslot = 1; fault = 0 })), inl (New 1 0x7fffffffd000 0 ∷ [], [], (refl, record { coming = []; making = New 1 0x7fffffffd000 0 ∷ []; whole = refl; comes_in = refl; made = record { sought = []; frame = 0; seeks = refl; in_range = omega arith; free = refl; whole = refl } }), refl, inr ([], Starved (record { pinned = 0; noslot = 1; fault = 0 }), (refl, record { coming = []; sought = []; whole = refl; before = inl refl; finds = record { wants = refl; seeks = ([], [], refl, refl, refl); none = refl; numbers = refl } }), refl, refl)), refl, refl); notes = refl },
+      record {
+        answer = (
+          Stopped 0x7fffffffe (Starved (record { pinned = 0; noslot = 1; fault = 0 })),
+          inl (
+            New 1 0x7fffffffd000 0 ∷ [],
+            [],
+            (
+              refl,
+              record {
+                coming = [];
+                making = New 1 0x7fffffffd000 0 ∷ [];
+                whole = refl;
+                comes_in = refl;
+                made = record { sought = []; frame = 0; seeks = refl; in_range = omega arith; free = refl; whole = refl };
+              },
+            ),
+            refl,
+            inr (
+              [],
+              Starved (record { pinned = 0; noslot = 1; fault = 0 }),
+              (
+                refl,
+                record {
+                  coming = [];
+                  sought = [];
+                  whole = refl;
+                  before = inl refl;
+                  finds = record { wants = refl; seeks = ([], [], refl, refl, refl); none = refl; numbers = refl };
+                },
+              ),
+              refl,
+              refl,
+            ),
+          ),
+          refl,
+          refl,
+        );
+        notes = refl;
+      },
       ([], ([], refl, refl), ([], ([], refl, refl), refl)),
       (
         Used false (1, 0x7fffffffd) ∷ Noted (Zeroed 1 0x7fffffffe000) ∷ Used false (1, 0x7fffffffe) ∷ [],
         [],
-        record { answer = (Whole, 170 ∷ 0 ∷ [], inl ([], Noted (Zeroed 1 0x7fffffffe000) ∷ Used false (1, 0x7fffffffe) ∷ [], (refl, record { coming = []; making = []; whole = refl; comes_in = refl; made = refl }), refl, inl (Zeroed 1 0x7fffffffe000 ∷ [], [], (refl, record { coming = []; making = Zeroed 1 0x7fffffffe000 ∷ []; whole = refl; comes_in = refl; made = refl }), refl, (refl, refl))), (refl, (refl, (refl, tt)), (omega arith, (omega arith, tt))), refl, refl); notes = refl },
+        record {
+          answer = (
+            Whole,
+            170 ∷ 0 ∷ [],
+            inl (
+              [],
+              Noted (Zeroed 1 0x7fffffffe000) ∷ Used false (1, 0x7fffffffe) ∷ [],
+              (refl, record { coming = []; making = []; whole = refl; comes_in = refl; made = refl }),
+              refl,
+              inl (
+                Zeroed 1 0x7fffffffe000 ∷ [],
+                [],
+                (
+                  refl,
+                  record {
+                    coming = [];
+                    making = Zeroed 1 0x7fffffffe000 ∷ [];
+                    whole = refl;
+                    comes_in = refl;
+                    made = refl;
+                  },
+                ),
+                refl,
+                (refl, refl),
+              ),
+            ),
+            (refl, (refl, (refl, tt)), (omega arith, (omega arith, tt))),
+            refl,
+            refl,
+          );
+          notes = refl;
+        },
         ([], ([], refl, refl), ([], ([], refl, refl), ([], ([], refl, refl), refl))),
         (
           [],
           [],
-          record { answer = (Stopped 0x7fffffffe (Starved (record { pinned = 0; noslot = 1; fault = 0 })), inr ([], Starved (record { pinned = 0; noslot = 1; fault = 0 }), (refl, record { coming = []; sought = []; whole = refl; before = inl refl; finds = record { wants = refl; seeks = ([], [], refl, refl, refl); none = refl; numbers = refl } }), refl, refl), refl, refl); notes = refl },
+          record {
+            answer = (
+              Stopped 0x7fffffffe (Starved (record { pinned = 0; noslot = 1; fault = 0 })),
+              inr (
+                [],
+                Starved (record { pinned = 0; noslot = 1; fault = 0 }),
+                (
+                  refl,
+                  record {
+                    coming = [];
+                    sought = [];
+                    whole = refl;
+                    before = inl refl;
+                    finds = record { wants = refl; seeks = ([], [], refl, refl, refl); none = refl; numbers = refl };
+                  },
+                ),
+                refl,
+                refl,
+              ),
+              refl,
+              refl,
+            );
+            notes = refl;
+          },
           refl,
           tt,
         ),
@@ -362,27 +594,116 @@ part_denied-runs = by_steps (machine 4) (at_first (machine 4)) part_denied refl 
   (
     [],
     0 ∷ 1 ∷ 2 ∷ 3 ∷ [],
-    record { answer = (Some 0x7fffffffe, (record { lowest = omega arith; highest = omega arith; free = λ q a b. refl }, (λ b h. omega (arith, h.highest))), refl, refl, refl); notes = refl },
+    record {
+      answer = (
+        Some 0x7fffffffe,
+        (record { lowest = omega arith; highest = omega arith; free = λ q a b. refl }, (λ b h. omega (arith, h.highest))),
+        refl,
+        refl,
+        refl,
+      );
+      notes = refl;
+    },
     refl,
     (
       [],
       0 ∷ 1 ∷ 2 ∷ 3 ∷ [],
-      record { answer = (Some 0x7fffffffd, (gap_below _ 0x7fffffffe 1 refl (omega arith) (omega arith) (omega arith) (λ q h. grind (arith, nat_tests, h)) (λ q h i. grind (arith, nat_tests, h, i))), refl, refl, refl); notes = refl },
+      record {
+        answer = (
+          Some 0x7fffffffd,
+          (gap_below _ 0x7fffffffe 1 refl (omega arith) (omega arith) (omega arith) (λ q h. grind (arith, nat_tests, h))
+              (λ q h i. grind (arith, nat_tests, h, i))),
+          refl,
+          refl,
+          refl,
+        );
+        notes = refl;
+      },
       refl,
       (
         Noted (New 1 0x7fffffffd000 0) ∷ Used true (1, 0x7fffffffd) ∷ [],
         1 ∷ 2 ∷ 3 ∷ [],
-        record { answer = (Stopped 0x7fffffffe Denied, inl (New 1 0x7fffffffd000 0 ∷ [], [], (refl, record { coming = []; making = New 1 0x7fffffffd000 0 ∷ []; whole = refl; comes_in = refl; made = record { sought = []; frame = 0; seeks = refl; in_range = omega arith; free = refl; whole = refl } }), refl, inr ([], Denied, (refl, refl), refl, refl)), refl, refl); notes = refl },
+        record {
+          answer = (
+            Stopped 0x7fffffffe Denied,
+            inl (
+              New 1 0x7fffffffd000 0 ∷ [],
+              [],
+              (
+                refl,
+                record {
+                  coming = [];
+                  making = New 1 0x7fffffffd000 0 ∷ [];
+                  whole = refl;
+                  comes_in = refl;
+                  made = record { sought = []; frame = 0; seeks = refl; in_range = omega arith; free = refl; whole = refl };
+                },
+              ),
+              refl,
+              inr ([], Denied, (refl, refl), refl, refl),
+            ),
+            refl,
+            refl,
+          );
+          notes = refl;
+        },
         (1 ∷ 2 ∷ 3 ∷ [], (1 ∷ 2 ∷ 3 ∷ [], refl, refl), (1 ∷ 2 ∷ 3 ∷ [], (1 ∷ 2 ∷ 3 ∷ [], refl, refl), refl)),
         (
           Used false (1, 0x7fffffffd) ∷ Noted (Zeroed 1 0x7fffffffe000) ∷ Used false (1, 0x7fffffffe) ∷ [],
           1 ∷ 2 ∷ 3 ∷ [],
-          record { answer = (Whole, 1 ∷ 2 ∷ 0 ∷ 0 ∷ [], inl ([], Noted (Zeroed 1 0x7fffffffe000) ∷ Used false (1, 0x7fffffffe) ∷ [], (refl, record { coming = []; making = []; whole = refl; comes_in = refl; made = refl }), refl, inl (Zeroed 1 0x7fffffffe000 ∷ [], [], (refl, record { coming = []; making = Zeroed 1 0x7fffffffe000 ∷ []; whole = refl; comes_in = refl; made = refl }), refl, (refl, refl))), (refl, (refl, (refl, (refl, (refl, tt)))), (omega arith, (omega arith, (omega arith, (omega arith, tt))))), refl, refl); notes = refl },
+          record {
+            answer = (
+              Whole,
+              1 ∷ 2 ∷ 0 ∷ 0 ∷ [],
+              inl (
+                [],
+                Noted (Zeroed 1 0x7fffffffe000) ∷ Used false (1, 0x7fffffffe) ∷ [],
+                (refl, record { coming = []; making = []; whole = refl; comes_in = refl; made = refl }),
+                refl,
+                inl (
+                  Zeroed 1 0x7fffffffe000 ∷ [],
+                  [],
+                  (
+                    refl,
+                    record {
+                      coming = [];
+                      making = Zeroed 1 0x7fffffffe000 ∷ [];
+                      whole = refl;
+                      comes_in = refl;
+                      made = refl;
+                    },
+                  ),
+                  refl,
+                  (refl, refl),
+                ),
+              ),
+              (refl, (refl, (refl, (refl, (refl, tt)))), (omega arith, (omega arith, (omega arith, (omega arith, tt))))),
+              refl,
+              refl,
+            );
+            notes = refl;
+          },
           (1 ∷ 2 ∷ 3 ∷ [], (1 ∷ 2 ∷ 3 ∷ [], refl, refl), (1 ∷ 2 ∷ 3 ∷ [], (1 ∷ 2 ∷ 3 ∷ [], refl, refl), (1 ∷ 2 ∷ 3 ∷ [], (1 ∷ 2 ∷ 3 ∷ [], refl, refl), refl))),
           (
             Used false (1, 0x7fffffffe) ∷ [],
             1 ∷ 2 ∷ 3 ∷ [],
-            record { answer = (Stopped 0x7ffffffff Denied, 0 ∷ [], inl ([], [], (refl, record { coming = []; making = []; whole = refl; comes_in = refl; made = refl }), refl, inr ([], Denied, (refl, refl), refl, refl)), (refl, (refl, tt), (omega arith, tt)), refl, refl); notes = refl },
+            record {
+              answer = (
+                Stopped 0x7ffffffff Denied,
+                0 ∷ [],
+                inl (
+                  [],
+                  [],
+                  (refl, record { coming = []; making = []; whole = refl; comes_in = refl; made = refl }),
+                  refl,
+                  inr ([], Denied, (refl, refl), refl, refl),
+                ),
+                (refl, (refl, tt), (omega arith, tt)),
+                refl,
+                refl,
+              );
+              notes = refl;
+            },
             (1 ∷ 2 ∷ 3 ∷ [], (1 ∷ 2 ∷ 3 ∷ [], refl, refl), refl),
             (
               [],
@@ -418,17 +739,45 @@ two_processes-runs = by_steps (machine 4) (at_first (machine 4)) two_processes r
     (
       [],
       0 ∷ 1 ∷ 2 ∷ 3 ∷ [],
-      record { answer = (Some 0x7fffffffe, (record { lowest = omega arith; highest = omega arith; free = λ q a b. refl }, (λ b h. omega (arith, h.highest))), refl, refl, refl); notes = refl },
+      record {
+        answer = (
+          Some 0x7fffffffe,
+          (record { lowest = omega arith; highest = omega arith; free = λ q a b. refl }, (λ b h. omega (arith, h.highest))),
+          refl,
+          refl,
+          refl,
+        );
+        notes = refl;
+      },
       refl,
       (
         [],
         0 ∷ 1 ∷ 2 ∷ 3 ∷ [],
-        record { answer = (Some 0x7fffffffe, (record { lowest = omega arith; highest = omega arith; free = λ q a b. refl }, (λ b h. omega (arith, h.highest))), refl, refl, refl); notes = refl },
+        record {
+          answer = (
+            Some 0x7fffffffe,
+            (record { lowest = omega arith; highest = omega arith; free = λ q a b. refl }, (λ b h. omega (arith, h.highest))),
+            refl,
+            refl,
+            refl,
+          );
+          notes = refl;
+        },
         refl,
         (
           [],
           0 ∷ 1 ∷ 2 ∷ 3 ∷ [],
-          record { answer = (Some 0x7fffffffc, (gap_below _ 0x7fffffffe 2 refl (omega arith) (omega arith) (omega arith) (λ q h. grind (arith, nat_tests, h)) (λ q h i. grind (arith, nat_tests, h, i))), refl, refl, refl); notes = refl },
+          record {
+            answer = (
+              Some 0x7fffffffc,
+              (gap_below _ 0x7fffffffe 2 refl (omega arith) (omega arith) (omega arith) (λ q h. grind (arith, nat_tests, h))
+                  (λ q h i. grind (arith, nat_tests, h, i))),
+              refl,
+              refl,
+              refl,
+            );
+            notes = refl;
+          },
           refl,
           (
             [],
@@ -438,22 +787,100 @@ two_processes-runs = by_steps (machine 4) (at_first (machine 4)) two_processes r
             (
               Noted (New 7 0x7fffffffc000 0) ∷ Used true (7, 0x7fffffffc) ∷ [],
               1 ∷ 2 ∷ 3 ∷ [],
-              record { answer = (Whole, inl (New 7 0x7fffffffc000 0 ∷ [], [], (refl, record { coming = []; making = New 7 0x7fffffffc000 0 ∷ []; whole = refl; comes_in = refl; made = record { sought = []; frame = 0; seeks = refl; in_range = omega arith; free = refl; whole = refl } }), refl, (refl, refl)), refl, refl); notes = refl },
+              record {
+                answer = (
+                  Whole,
+                  inl (
+                    New 7 0x7fffffffc000 0 ∷ [],
+                    [],
+                    (
+                      refl,
+                      record {
+                        coming = [];
+                        making = New 7 0x7fffffffc000 0 ∷ [];
+                        whole = refl;
+                        comes_in = refl;
+                        made = record { sought = []; frame = 0; seeks = refl; in_range = omega arith; free = refl; whole = refl };
+                      },
+                    ),
+                    refl,
+                    (refl, refl),
+                  ),
+                  refl,
+                  refl,
+                );
+                notes = refl;
+              },
               (1 ∷ 2 ∷ 3 ∷ [], (1 ∷ 2 ∷ 3 ∷ [], refl, refl), (1 ∷ 2 ∷ 3 ∷ [], (1 ∷ 2 ∷ 3 ∷ [], refl, refl), refl)),
               (
                 Noted (New 3 0x7fffffffe000 1) ∷ Used true (3, 0x7fffffffe) ∷ [],
                 2 ∷ 3 ∷ [],
-                record { answer = (Whole, inl (New 3 0x7fffffffe000 1 ∷ [], [], (refl, record { coming = []; making = New 3 0x7fffffffe000 1 ∷ []; whole = refl; comes_in = refl; made = record { sought = []; frame = 1; seeks = refl; in_range = omega arith; free = refl; whole = refl } }), refl, (refl, refl)), refl, refl); notes = refl },
+                record {
+                  answer = (
+                    Whole,
+                    inl (
+                      New 3 0x7fffffffe000 1 ∷ [],
+                      [],
+                      (
+                        refl,
+                        record {
+                          coming = [];
+                          making = New 3 0x7fffffffe000 1 ∷ [];
+                          whole = refl;
+                          comes_in = refl;
+                          made = record { sought = []; frame = 1; seeks = refl; in_range = omega arith; free = refl; whole = refl };
+                        },
+                      ),
+                      refl,
+                      (refl, refl),
+                    ),
+                    refl,
+                    refl,
+                  );
+                  notes = refl;
+                },
                 (2 ∷ 3 ∷ [], (2 ∷ 3 ∷ [], refl, refl), (2 ∷ 3 ∷ [], (2 ∷ 3 ∷ [], refl, refl), refl)),
                 (
                   Used false (7, 0x7fffffffc) ∷ [],
                   2 ∷ 3 ∷ [],
-                  record { answer = (Whole, 5 ∷ [], inl ([], [], (refl, record { coming = []; making = []; whole = refl; comes_in = refl; made = refl }), refl, (refl, refl)), (refl, (refl, tt), (omega arith, tt)), refl, refl); notes = refl },
+                  record {
+                    answer = (
+                      Whole,
+                      5 ∷ [],
+                      inl (
+                        [],
+                        [],
+                        (refl, record { coming = []; making = []; whole = refl; comes_in = refl; made = refl }),
+                        refl,
+                        (refl, refl),
+                      ),
+                      (refl, (refl, tt), (omega arith, tt)),
+                      refl,
+                      refl,
+                    );
+                    notes = refl;
+                  },
                   (2 ∷ 3 ∷ [], (2 ∷ 3 ∷ [], refl, refl), refl),
                   (
                     Used false (3, 0x7fffffffe) ∷ [],
                     2 ∷ 3 ∷ [],
-                    record { answer = (Whole, 6 ∷ [], inl ([], [], (refl, record { coming = []; making = []; whole = refl; comes_in = refl; made = refl }), refl, (refl, refl)), (refl, (refl, tt), (omega arith, tt)), refl, refl); notes = refl },
+                    record {
+                      answer = (
+                        Whole,
+                        6 ∷ [],
+                        inl (
+                          [],
+                          [],
+                          (refl, record { coming = []; making = []; whole = refl; comes_in = refl; made = refl }),
+                          refl,
+                          (refl, refl),
+                        ),
+                        (refl, (refl, tt), (omega arith, tt)),
+                        refl,
+                        refl,
+                      );
+                      notes = refl;
+                    },
                     (2 ∷ 3 ∷ [], (2 ∷ 3 ∷ [], refl, refl), refl),
                     tt,
                   ),
@@ -471,17 +898,59 @@ pub readable-runs : Runs 4 readable
 readable-runs = by_steps (machine 4) (at_first (machine 4)) readable refl (topmost write_only (drop 2 readable) (
   [],
   0 ∷ 1 ∷ 2 ∷ 3 ∷ [],
-  record { answer = (Some 0x7fffffffd, (gap_below _ 0x7fffffffe 1 refl (omega arith) (omega arith) (omega arith) (λ q h. grind (arith, nat_tests, h)) (λ q h i. grind (arith, nat_tests, h, i))), refl, refl, refl); notes = refl },
+  record {
+    answer = (
+      Some 0x7fffffffd,
+      (gap_below _ 0x7fffffffe 1 refl (omega arith) (omega arith) (omega arith) (λ q h. grind (arith, nat_tests, h))
+          (λ q h i. grind (arith, nat_tests, h, i))),
+      refl,
+      refl,
+      refl,
+    );
+    notes = refl;
+  },
   refl,
   (
     Noted (Zeroed 1 0x7fffffffe000) ∷ Used false (1, 0x7fffffffe) ∷ [],
     0 ∷ 1 ∷ 2 ∷ 3 ∷ [],
-    record { answer = (Whole, 0 ∷ [], inl (Zeroed 1 0x7fffffffe000 ∷ [], [], (refl, record { coming = []; making = Zeroed 1 0x7fffffffe000 ∷ []; whole = refl; comes_in = refl; made = refl }), refl, (refl, refl)), (refl, (refl, tt), (omega arith, tt)), refl, refl); notes = refl },
+    record {
+      answer = (
+        Whole,
+        0 ∷ [],
+        inl (
+          Zeroed 1 0x7fffffffe000 ∷ [],
+          [],
+          (refl, record { coming = []; making = Zeroed 1 0x7fffffffe000 ∷ []; whole = refl; comes_in = refl; made = refl }),
+          refl,
+          (refl, refl),
+        ),
+        (refl, (refl, tt), (omega arith, tt)),
+        refl,
+        refl,
+      );
+      notes = refl;
+    },
     (0 ∷ 1 ∷ 2 ∷ 3 ∷ [], (0 ∷ 1 ∷ 2 ∷ 3 ∷ [], refl, refl), (0 ∷ 1 ∷ 2 ∷ 3 ∷ [], (0 ∷ 1 ∷ 2 ∷ 3 ∷ [], refl, refl), refl)),
     (
       Noted (Zeroed 1 0x7fffffffd000) ∷ Used false (1, 0x7fffffffd) ∷ [],
       0 ∷ 1 ∷ 2 ∷ 3 ∷ [],
-      record { answer = (Whole, 0 ∷ [], inl (Zeroed 1 0x7fffffffd000 ∷ [], [], (refl, record { coming = []; making = Zeroed 1 0x7fffffffd000 ∷ []; whole = refl; comes_in = refl; made = refl }), refl, (refl, refl)), (refl, (refl, tt), (omega arith, tt)), refl, refl); notes = refl },
+      record {
+        answer = (
+          Whole,
+          0 ∷ [],
+          inl (
+            Zeroed 1 0x7fffffffd000 ∷ [],
+            [],
+            (refl, record { coming = []; making = Zeroed 1 0x7fffffffd000 ∷ []; whole = refl; comes_in = refl; made = refl }),
+            refl,
+            (refl, refl),
+          ),
+          (refl, (refl, tt), (omega arith, tt)),
+          refl,
+          refl,
+        );
+        notes = refl;
+      },
       (0 ∷ 1 ∷ 2 ∷ 3 ∷ [], (0 ∷ 1 ∷ 2 ∷ 3 ∷ [], refl, refl), (0 ∷ 1 ∷ 2 ∷ 3 ∷ [], (0 ∷ 1 ∷ 2 ∷ 3 ∷ [], refl, refl), refl)),
       (
         [],
@@ -491,7 +960,30 @@ readable-runs = by_steps (machine 4) (at_first (machine 4)) readable refl (topmo
         (
           Noted (New 1 0x7fffffffe000 0) ∷ Used true (1, 0x7fffffffe) ∷ [],
           1 ∷ 2 ∷ 3 ∷ [],
-          record { answer = (Whole, inl (New 1 0x7fffffffe000 0 ∷ [], [], (refl, record { coming = []; making = New 1 0x7fffffffe000 0 ∷ []; whole = refl; comes_in = refl; made = record { sought = []; frame = 0; seeks = refl; in_range = omega arith; free = refl; whole = refl } }), refl, (refl, refl)), refl, refl); notes = refl },
+          record {
+            answer = (
+              Whole,
+              inl (
+                New 1 0x7fffffffe000 0 ∷ [],
+                [],
+                (
+                  refl,
+                  record {
+                    coming = [];
+                    making = New 1 0x7fffffffe000 0 ∷ [];
+                    whole = refl;
+                    comes_in = refl;
+                    made = record { sought = []; frame = 0; seeks = refl; in_range = omega arith; free = refl; whole = refl };
+                  },
+                ),
+                refl,
+                (refl, refl),
+              ),
+              refl,
+              refl,
+            );
+            notes = refl;
+          },
           (1 ∷ 2 ∷ 3 ∷ [], (1 ∷ 2 ∷ 3 ∷ [], refl, refl), (1 ∷ 2 ∷ 3 ∷ [], (1 ∷ 2 ∷ 3 ∷ [], refl, refl), refl)),
           tt,
         ),
@@ -529,7 +1021,10 @@ refusals-runs = by_steps (machine 4) (at_first (machine 4)) refusals refl ((
           (
             [],
             0 ∷ 1 ∷ 2 ∷ 3 ∷ [],
-            record { answer = (None, (λ page room. let low = room.lowest in let high = room.highest in absurd (omega (arith, low, high))), refl, refl, refl); notes = refl },
+            record {
+              answer = (None, (λ page room. let low = room.lowest in let high = room.highest in absurd (omega (arith, low, high))), refl, refl, refl);
+              notes = refl;
+            },
             refl,
             (
               [],
@@ -578,17 +1073,59 @@ all_mapped-runs = by_steps (machine 4) (at_first (machine 4)) all_mapped refl ((
   (
     [],
     0 ∷ 1 ∷ 2 ∷ 3 ∷ [],
-    record { answer = (Some 0x10, (record { lowest = omega arith; highest = omega arith; free = λ q a b. refl }, (λ b h. omega (arith, h.highest))), refl, refl, refl); notes = refl },
+    record {
+      answer = (
+        Some 0x10,
+        (record { lowest = omega arith; highest = omega arith; free = λ q a b. refl }, (λ b h. omega (arith, h.highest))),
+        refl,
+        refl,
+        refl,
+      );
+      notes = refl;
+    },
     refl,
     (
       [],
       0 ∷ 1 ∷ 2 ∷ 3 ∷ [],
-      record { answer = (None, (λ page room. not_free _ (room.free page (omega arith) (omega arith)) (let low = room.lowest in let high = room.highest in grind (arith, nat_tests, low, high))), refl, refl, refl); notes = refl },
+      record {
+        answer = (
+          None,
+          (λ page room. not_free _ (room.free page (omega arith) (omega arith)) (let low = room.lowest in let high = room.highest in
+              grind (arith, nat_tests, low, high))),
+          refl,
+          refl,
+          refl,
+        );
+        notes = refl;
+      },
       refl,
       (
         Noted (New 1 0x10000 0) ∷ Used true (1, 0x10) ∷ [],
         1 ∷ 2 ∷ 3 ∷ [],
-        record { answer = (Whole, inl (New 1 0x10000 0 ∷ [], [], (refl, record { coming = []; making = New 1 0x10000 0 ∷ []; whole = refl; comes_in = refl; made = record { sought = []; frame = 0; seeks = refl; in_range = omega arith; free = refl; whole = refl } }), refl, (refl, refl)), refl, refl); notes = refl },
+        record {
+          answer = (
+            Whole,
+            inl (
+              New 1 0x10000 0 ∷ [],
+              [],
+              (
+                refl,
+                record {
+                  coming = [];
+                  making = New 1 0x10000 0 ∷ [];
+                  whole = refl;
+                  comes_in = refl;
+                  made = record { sought = []; frame = 0; seeks = refl; in_range = omega arith; free = refl; whole = refl };
+                },
+              ),
+              refl,
+              (refl, refl),
+            ),
+            refl,
+            refl,
+          );
+          notes = refl;
+        },
         (1 ∷ 2 ∷ 3 ∷ [], (1 ∷ 2 ∷ 3 ∷ [], refl, refl), (1 ∷ 2 ∷ 3 ∷ [], (1 ∷ 2 ∷ 3 ∷ [], refl, refl), refl)),
         tt,
       ),
@@ -600,12 +1137,45 @@ pub denied_write-runs : Runs 4 (denied_write 1)
 denied_write-runs = by_steps (machine 4) (at_first (machine 4)) (denied_write 1) refl (topmost read_write (drop 2 (denied_write 1)) (
   Noted (New 1 0x7fffffffe000 0) ∷ Used true (1, 0x7fffffffe) ∷ [],
   1 ∷ 2 ∷ 3 ∷ [],
-  record { answer = (Stopped 0x7ffffffff Denied, inl (New 1 0x7fffffffe000 0 ∷ [], [], (refl, record { coming = []; making = New 1 0x7fffffffe000 0 ∷ []; whole = refl; comes_in = refl; made = record { sought = []; frame = 0; seeks = refl; in_range = omega arith; free = refl; whole = refl } }), refl, inr ([], Denied, (refl, refl), refl, refl)), refl, refl); notes = refl },
+  record {
+    answer = (
+      Stopped 0x7ffffffff Denied,
+      inl (
+        New 1 0x7fffffffe000 0 ∷ [],
+        [],
+        (
+          refl,
+          record {
+            coming = [];
+            making = New 1 0x7fffffffe000 0 ∷ [];
+            whole = refl;
+            comes_in = refl;
+            made = record { sought = []; frame = 0; seeks = refl; in_range = omega arith; free = refl; whole = refl };
+          },
+        ),
+        refl,
+        inr ([], Denied, (refl, refl), refl, refl),
+      ),
+      refl,
+      refl,
+    );
+    notes = refl;
+  },
   (1 ∷ 2 ∷ 3 ∷ [], (1 ∷ 2 ∷ 3 ∷ [], refl, refl), (1 ∷ 2 ∷ 3 ∷ [], (1 ∷ 2 ∷ 3 ∷ [], refl, refl), refl)),
   (
     Used false (1, 0x7fffffffe) ∷ [],
     1 ∷ 2 ∷ 3 ∷ [],
-    record { answer = (Whole, 1 ∷ [], inl ([], [], (refl, record { coming = []; making = []; whole = refl; comes_in = refl; made = refl }), refl, (refl, refl)), (refl, (refl, tt), (omega arith, tt)), refl, refl); notes = refl },
+    record {
+      answer = (
+        Whole,
+        1 ∷ [],
+        inl ([], [], (refl, record { coming = []; making = []; whole = refl; comes_in = refl; made = refl }), refl, (refl, refl)),
+        (refl, (refl, tt), (omega arith, tt)),
+        refl,
+        refl,
+      );
+      notes = refl;
+    },
     (1 ∷ 2 ∷ 3 ∷ [], (1 ∷ 2 ∷ 3 ∷ [], refl, refl), refl),
     tt,
   ),

@@ -16,7 +16,7 @@ use Rattle.av_trace.specs.declared.command.Command.TheVariants.{Fork}
 use Rattle.av_trace.specs.declared.reply.Answer.{Answer}
 use Rattle.av_trace.specs.declared.reply.Answer.TheVariants.{Done, Refused}
 use Rattle.av_trace.specs.declared.reply.Errno.TheVariants.{Eagain, Eexist, Esrch}
-use Rattle.av_laws.specs.Areas.{and_at, area, area_of, bare_four, child, kin, one_root, root_four, root, alone}
+use Rattle.av_laws.specs.Areas.{and_at, area, area_of, bare_four, child, family, one_root, root_four, root, alone}
 use Rattle.av_laws.specs.Examples.{Allows, Forbids, Runs, crowd, machine, read_write, reply_with}
 use Rattle.av_laws.specs.Forks.{ForksEntries, ForksTo, NeverForksEntries, NeverForksTo, NeverNumbersChild, active_pair, all_entries, bare_of_two, bare_parent, below, by_number, child_parent, ok_reply, fork_refusals, grandchild, idle_pair, idle_parent, idle_two_parent, of_child_alone, of_two, of_two_parent, parent, room_for_none, root_parent, roots_parent, seen_entries, sibling, three_deep, to_two, without_zero}
 use Rattle.av_laws.proofs.Choice.{all-chosen, slots_after_all}
@@ -57,7 +57,8 @@ fork-step areas anons next forks = record {
 fork-is : (areas : List Area) (anons : Anons) (next : Rmap) → AreForked 1 2 (rmap_of (parent areas anons)) next
     → (new : State) → IsStep (machine 4) (parent areas anons) to_two ok_reply new → rmap_of new ≡ next
 fork-is areas anons next forks new step = forked-one 1 2 (rmap_of (parent areas anons)) (rmap_of new) next
-    (subst (λ es. IsRmapNext (rmap_after_all (parent areas anons).ledger es (rmap_of (parent areas anons))) (parent areas anons).world to_two Done (rmap_of new)) step.legal.answer.1 step.rmap) forks
+    (subst (λ es. IsRmapNext (rmap_after_all (parent areas anons).ledger es (rmap_of (parent areas anons))) (parent areas anons).world to_two Done
+    (rmap_of new)) step.legal.answer.1 step.rmap) forks
 
 -- nor other entries
 entries-are : (areas : List Area) (anons : Anons) (new : State) → IsStep (machine 4) (parent areas anons) to_two ok_reply new → new.ledger.entries ≡ all_entries
@@ -77,7 +78,8 @@ none-in v (a ∷ areas) h page = by (has_page a page) (none-in v areas h.1 page)
     by true rest = h.0
     by false rest = rest
 
-none-at : (v p : ℕ) (x : Pages) (on : Areas) → ((page : ℕ) → NoneOwns v (x page)) → ((q page : ℕ) → NoneOwns v (on q page)) → (q page : ℕ) → NoneOwns v (with_at p x on q page)
+none-at : (v p : ℕ) (x : Pages) (on : Areas) → ((page : ℕ) → NoneOwns v (x page)) → ((q page : ℕ) → NoneOwns v (on q page)) → (q page : ℕ) →
+    NoneOwns v (with_at p x on q page)
 none-at v p x on here others q page = by (q == p)
   where
     by : (b : Bool) → NoneOwns v ((cond b x (on q)) page)
@@ -91,8 +93,10 @@ differ a b h e = let same : a ≡ b = cc in grind (arith, nat_tests, h, same)
 abbrev start : List Area → Anons → Rmap
 start areas anons = let r = rmap_of (parent areas anons) in record r { areas = with_at 2 none_on r.areas }
 
-none-start : (v : ℕ) (areas : List Area) (anons : Anons) → AllByRecursion (λ (a : Area). a.anon ≡ Some v → ⊥) areas → (p page : ℕ) → NoneOwns v ((start areas anons).areas p page)
-none-start v areas anons h = none-at v 2 none_on (rmap_of (parent areas anons)).areas (λ page. tt) (none-at v 1 (pages_in (Some areas)) (λ p page. None) (none-in v areas h) (λ p page. tt))
+none-start : (v : ℕ) (areas : List Area) (anons : Anons) → AllByRecursion (λ (a : Area). a.anon ≡ Some v → ⊥) areas → (p page : ℕ) →
+    NoneOwns v ((start areas anons).areas p page)
+none-start v areas anons h = none-at v 2 none_on (rmap_of (parent areas anons)).areas (λ page. tt)
+    (none-at v 1 (pages_in (Some areas)) (λ p page. None) (none-in v areas h) (λ p page. tt))
 
 -- ---- which member is had again
 
@@ -138,7 +142,9 @@ above-root r is w idle = by (w == 0) refl
 
 -- what an area leaves that goes with this member of its chain, or a new one
 abbrev after_area : ℕ → Option ℕ → Area → Rmap → Rmap
-after_area own reused area r = record (with_child_area 2 (record area { anon = Some (own_of_child r.anons reused) }) r) { anons = with_child own reused r.anons }
+after_area own reused area r = record (with_child_area 2 (record area { anon = Some (own_of_child r.anons reused) }) r) {
+  anons = with_child own reused r.anons;
+}
 
 -- four bare pages
 abbrev bare_then : Rmap
@@ -185,7 +191,7 @@ abbrev child_area : Area
 child_area = area_of 1 0x10 0x14
 
 abbrev child_start : Rmap
-child_start = start (child_area ∷ []) kin
+child_start = start (child_area ∷ []) family
 
 abbrev child_then : Rmap
 child_then = after_area 1 None child_area child_start
@@ -197,15 +203,19 @@ child-forks = (
   λ page. refl,
   (
     child_then,
-    (None, (λ v among. two-of (IsNot child_start) 0 1 v among (not-root child_start 0 root refl refl) (not-active child_start 1 1 0x10 child_area refl refl)), refl),
+    (
+      None,
+      (λ v among. two-of (IsNot child_start) 0 1 v among (not-root child_start 0 root refl refl) (not-active child_start 1 1 0x10 child_area refl refl)),
+      refl,
+    ),
     refl,
   ),
 )
 
 pub grandchild-leaves : ForksTo child_parent (of_two 2 0x10 0x14 ∷ []) (Some root ∷ Some child ∷ Some grandchild ∷ [])
 grandchild-leaves = (
-  state_with (child_area ∷ []) kin child_then,
-  fork-step (child_area ∷ []) kin child_then child-forks,
+  state_with (child_area ∷ []) family child_then,
+  fork-step (child_area ∷ []) family child_then child-forks,
   (refl, (refl, (refl, (refl, (refl, (refl, (refl, (refl, tt)))))))),
   (refl, (refl, (refl, (refl, (refl, (refl, (refl, (refl, tt)))))))),
   refl,
@@ -312,14 +322,16 @@ siblings-forks = (
     siblings_then,
     (
       None,
-      (λ v among. three-of (IsNot siblings_start) 0 1 2 v among (not-root siblings_start 0 root refl refl) (λ idle. let few = idle.few in omega (arith, few)) (not-active siblings_start 2 1 0x10 deep_area refl refl)),
+      (λ v among. three-of (IsNot siblings_start) 0 1 2 v among (not-root siblings_start 0 root refl refl) (λ idle. let few = idle.few in omega (arith, few))
+          (not-active siblings_start 2 1 0x10 deep_area refl refl)),
       refl,
     ),
     refl,
   ),
 )
 
-pub of_two_children-leaves : ForksTo of_two_parent (of_two 4 0x10 0x14 ∷ []) (Some root ∷ Some child ∷ Some grandchild ∷ Some sibling ∷ Some (below 2 (0 ∷ 1 ∷ 2 ∷ 4 ∷ [])) ∷ [])
+pub of_two_children-leaves : ForksTo of_two_parent (of_two 4 0x10 0x14 ∷ [])
+    (Some root ∷ Some child ∷ Some grandchild ∷ Some sibling ∷ Some (below 2 (0 ∷ 1 ∷ 2 ∷ 4 ∷ [])) ∷ [])
 of_two_children-leaves = (
   state_with (deep_area ∷ []) siblings siblings_then,
   fork-step (deep_area ∷ []) siblings siblings_then siblings-forks,
@@ -363,7 +375,8 @@ roots-forks = (
   ),
 )
 
-pub two_in_turn-leaves : ForksTo roots_parent (of_two 1 0x10 0x12 ∷ of_two 2 0x14 0x16 ∷ []) (Some (alone 0) ∷ Some (below 0 (0 ∷ 1 ∷ [])) ∷ Some (below 0 (0 ∷ 2 ∷ [])) ∷ [])
+pub two_in_turn-leaves : ForksTo roots_parent (of_two 1 0x10 0x12 ∷ of_two 2 0x14 0x16 ∷ [])
+    (Some (alone 0) ∷ Some (below 0 (0 ∷ 1 ∷ [])) ∷ Some (below 0 (0 ∷ 2 ∷ [])) ∷ [])
 two_in_turn-leaves = (
   state_with two_roots_of one_root roots_then,
   fork-step two_roots_of one_root roots_then roots-forks,
@@ -411,7 +424,8 @@ pair-forks = (
       pair_then,
       (
         None,
-        (λ v among. three-of (IsNot pair_mid) 0 1 2 v among (not-root pair_mid 0 root refl refl) (not-active pair_mid 1 2 0x10 (of_two 1 0x10 0x12) refl refl) (not-active pair_mid 2 1 0x10 first_deep refl refl)),
+        (λ v among. three-of (IsNot pair_mid) 0 1 2 v among (not-root pair_mid 0 root refl refl) (not-active pair_mid 1 2 0x10 (of_two 1 0x10 0x12) refl refl)
+            (not-active pair_mid 2 1 0x10 first_deep refl refl)),
         refl,
       ),
       refl,
@@ -419,7 +433,8 @@ pair-forks = (
   ),
 )
 
-pub idle_once-leaves : ForksTo idle_pair (of_two 1 0x10 0x12 ∷ of_two 3 0x14 0x16 ∷ []) (Some root ∷ Some (below 0 (0 ∷ 1 ∷ 2 ∷ [])) ∷ Some grandchild ∷ Some (below 2 (0 ∷ 1 ∷ 2 ∷ 3 ∷ [])) ∷ [])
+pub idle_once-leaves : ForksTo idle_pair (of_two 1 0x10 0x12 ∷ of_two 3 0x14 0x16 ∷ [])
+    (Some root ∷ Some (below 0 (0 ∷ 1 ∷ 2 ∷ [])) ∷ Some grandchild ∷ Some (below 2 (0 ∷ 1 ∷ 2 ∷ 3 ∷ [])) ∷ [])
 idle_once-leaves = (
   state_with two_deep three_deep pair_then,
   fork-step two_deep three_deep pair_then pair-forks,
@@ -451,12 +466,18 @@ active-forks = (
   λ page. refl,
   (
     active_mid,
-    (None, (λ v among. two-of (IsNot active_start) 0 1 v among (not-root active_start 0 root refl refl) (not-active active_start 1 1 0x10 first_child refl refl)), refl),
+    (
+      None,
+      (λ v among. two-of (IsNot active_start) 0 1 v among (not-root active_start 0 root refl refl)
+          (not-active active_start 1 1 0x10 first_child refl refl)),
+      refl,
+    ),
     (
       active_then,
       (
         None,
-        (λ v among. three-of (IsNot active_mid) 0 1 2 v among (not-root active_mid 0 root refl refl) (not-active active_mid 1 1 0x10 first_child refl refl) (not-active active_mid 2 1 0x14 second_deep refl refl)),
+        (λ v among. three-of (IsNot active_mid) 0 1 2 v among (not-root active_mid 0 root refl refl) (not-active active_mid 1 1 0x10 first_child refl refl)
+            (not-active active_mid 2 1 0x14 second_deep refl refl)),
         refl,
       ),
       refl,
@@ -464,7 +485,8 @@ active-forks = (
   ),
 )
 
-pub active_apart-leaves : ForksTo active_pair (of_two 3 0x10 0x12 ∷ of_two 4 0x14 0x16 ∷ []) (Some root ∷ Some child ∷ Some grandchild ∷ Some (below 1 (0 ∷ 1 ∷ 3 ∷ [])) ∷ Some (below 2 (0 ∷ 1 ∷ 2 ∷ 4 ∷ [])) ∷ [])
+pub active_apart-leaves : ForksTo active_pair (of_two 3 0x10 0x12 ∷ of_two 4 0x14 0x16 ∷ [])
+    (Some root ∷ Some child ∷ Some grandchild ∷ Some (below 1 (0 ∷ 1 ∷ 3 ∷ [])) ∷ Some (below 2 (0 ∷ 1 ∷ 2 ∷ 4 ∷ [])) ∷ [])
 active_apart-leaves = (
   state_with both_active three_deep active_then,
   fork-step both_active three_deep active_then active-forks,
@@ -481,11 +503,13 @@ entries_go_over-leaves = (state_with root_four one_root root_then, fork-step roo
 
 never-forks : (areas : List Area) (anons : Anons) (next : Rmap) → AreForked 1 2 (rmap_of (parent areas anons)) next → (page : ℕ) (wrong : Option Area)
     → (next.areas 2 page ≡ wrong → ⊥) → NeverForksTo (parent areas anons) page wrong
-never-forks areas anons next forks page wrong differ new step at = differ (ap (λ (r : Rmap). r.areas 2 page) (sym (fork-is areas anons next forks new step)) ∙ at)
+never-forks areas anons next forks page wrong differ new step at =
+    differ (ap (λ (r : Rmap). r.areas 2 page) (sym (fork-is areas anons next forks new step)) ∙ at)
 
 never-numbers : (areas : List Area) (anons : Anons) (next : Rmap) → AreForked 1 2 (rmap_of (parent areas anons)) next → (wrong : List (Option AnonVma))
     → (by_number next.anons ≡ wrong → ⊥) → NeverNumbersChild (parent areas anons) wrong
-never-numbers areas anons next forks wrong differ new step at = differ (ap (λ (r : Rmap). by_number r.anons) (sym (fork-is areas anons next forks new step)) ∙ at)
+never-numbers areas anons next forks wrong differ new step at = differ
+    (ap (λ (r : Rmap). by_number r.anons) (sym (fork-is areas anons next forks new step)) ∙ at)
 
 never-enters : (wrong : List (Key × Entry)) → (all_entries ≡ wrong → ⊥) → NeverForksEntries root_parent wrong
 never-enters wrong differ new step at = differ (sym (entries-are root_four one_root new step) ∙ at)
@@ -538,7 +562,7 @@ owned_in_child-not = never-forks bare_four no_anons bare_then bare-forks 0x10 (S
     (λ e. let d : ◌≡◌ {A = ℕ} 9 0 = ap area_code e in omega (arith, d))
 
 pub root_again-not : NeverForksTo child_parent 0x10 (Some (of_two 0 0x10 0x14))
-root_again-not = never-forks (child_area ∷ []) kin child_then child-forks 0x10 (Some (of_two 0 0x10 0x14))
+root_again-not = never-forks (child_area ∷ []) family child_then child-forks 0x10 (Some (of_two 0 0x10 0x14))
     (λ e. let d : ◌≡◌ {A = ℕ} 2 0 = ap area_code e in omega (arith, d))
 
 pub made_though_idle-not : NeverForksTo idle_parent 0x10 (Some (of_two 3 0x10 0x14))
@@ -566,11 +590,12 @@ active_again-not = never-forks both_active three_deep active_then active-forks 0
     (λ e. let d : ◌≡◌ {A = ℕ} 4 1 = ap area_code e in omega (arith, d))
 
 pub below_root-not : NeverNumbersChild child_parent (Some root ∷ Some child ∷ Some (record grandchild { parent = 0 }) ∷ [])
-below_root-not = never-numbers (child_area ∷ []) kin child_then child-forks (Some root ∷ Some child ∷ Some (record grandchild { parent = 0 }) ∷ [])
+below_root-not = never-numbers (child_area ∷ []) family child_then child-forks (Some root ∷ Some child ∷ Some (record grandchild { parent = 0 }) ∷ [])
     (λ e. let d : ◌≡◌ {A = ℕ} 1 0 = ap (λ os. third (codes_by (λ v. v.parent) os)) e in omega (arith, d))
 
 pub chain_of_parent-not : NeverNumbersChild child_parent (Some root ∷ Some child ∷ Some (record grandchild { chain = 0 ∷ 1 ∷ [] }) ∷ [])
-chain_of_parent-not = never-numbers (child_area ∷ []) kin child_then child-forks (Some root ∷ Some child ∷ Some (record grandchild { chain = 0 ∷ 1 ∷ [] }) ∷ [])
+chain_of_parent-not = never-numbers (child_area ∷ []) family child_then child-forks
+    (Some root ∷ Some child ∷ Some (record grandchild { chain = 0 ∷ 1 ∷ [] }) ∷ [])
     (λ e. let d : ◌≡◌ {A = ℕ} 3 2 = ap (λ os. third (codes_by (λ v. length v.chain) os)) e in omega (arith, d))
 
 pub chain_as_before-not : NeverNumbersChild idle_parent (Some root ∷ Some child ∷ Some grandchild ∷ [])

@@ -682,7 +682,8 @@ legal-inv m w l command reply es free free' sound legal c h = by (refusal (tests
     follows (AsksEntry p a) fine q = none q.1
     follows Stat fine q = none q.1
 
-    by : (o : Option Errno) → refusal (tests m w l command) ≡ o → MatchOption o (Follows m w l command es reply.answer reply.rows) (λ error. Refuses error es reply.answer reply.rows)
+    by : (o : Option Errno) → refusal (tests m w l command) ≡ o → MatchOption o (Follows m w l command es reply.answer reply.rows)
+        (λ error. Refuses error es reply.answer reply.rows)
         → Inv m (after_all l es) free'.slots
     by None fine q = follows command fine q
     by (Some error) fine q = none q.1
@@ -730,7 +731,8 @@ to_inv m w l slots sound h = record {
         → count_by is_free_page (slots k).pages ≡ option_map_or (λ area. free_slots m l (k, area)) o 0
         → count_by is_free_page (slots k).pages + length (slots_in_use m l k) ≡ slots_on o
     by k None e fits n =
-        let z = ap length (none-passes (λ page. is_used l (record { area = k; page = page })) 1 (size_of m k - 1) (λ page. off-unused m l there k page (ap is_some e))) in
+        let z = ap length (none-passes (λ page. is_used l (record { area = k; page = page })) 1 (size_of m k - 1)
+        (λ page. off-unused m l there k page (ap is_some e))) in
         omega (arith, n, z)
     by k (Some area) e fits n = omega (arith, n, fits)
 
@@ -768,4 +770,5 @@ run-from m old (e ∷ es) new s h q = run-from m q.0 es new (step-sound m old e.
     (step-lists_slots m old e.command e.reply q.0 s h q.1) q.2
 
 pub run-lists_slots : (m : Setting) (es : List Exchange) (new : State) → IsRun m (at_first m) es new → ListsSlots m new.ledger new.free.slots
-run-lists_slots m es new q = run-from m (at_first m) es new (first-sound m) (record { taken = λ s. refl; free = λ s h. cc; number = λ k. refl; off = λ k h. refl }) q
+run-lists_slots m es new q = run-from m (at_first m) es new (first-sound m)
+    (record { taken = λ s. refl; free = λ s h. cc; number = λ k. refl; off = λ k h. refl }) q

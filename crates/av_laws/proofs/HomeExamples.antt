@@ -8,11 +8,11 @@ use Rattle.av_trace.specs.declared.note.Note.TheVariants.{Copied, New}
 use Rattle.av_vma.specs.Pages.{has_page, pages_in}
 use Rattle.av_vma.specs.declared.area.Area.{Area}
 use Rattle.av_plain.specs.Access.{Whole}
-use Rattle.av_plain.specs.Areas.{Anons, AreLeft, Rmap, chain_of, none_on, rmap_after_all}
+use Rattle.av_plain.specs.Areas.{Anons, AreLeft, Rmap, chain_by, none_on, rmap_after_all}
 use Rattle.av_plain.specs.Event.{Event, Noted, Used, Zapped}
 use Rattle.av_plain.specs.Ledger.{Entry, Key, key_cmp, names_frame}
 use Rattle.av_plain.specs.Transcript.{Exchange, State, rmap_of}
-use Rattle.av_laws.specs.Areas.{child, kin, one_root, root}
+use Rattle.av_laws.specs.Areas.{child, family, one_root, root}
 use Rattle.av_laws.specs.Examples.{machine}
 use Rattle.av_laws.specs.Homes.{FourHomes, IsReachable, LeavesHomes, bare_child, child_alone, child_copy, child_exit, with_chain, child_new, child_read, child_write, homes_in, new_page, of_child, of_parent, with_child, with_home, with_number_to_come, bare_process}
 use Rattle.av_base.specs.Words.{is_in, with_at}
@@ -27,7 +27,7 @@ use Rattle.av_plain.proofs.AreasLeft.{left-bare}
 use Rattle.av_plain.proofs.Choice.{ChoosesFrames}
 use Rattle.av_laws.proofs.Choice.{gives_all}
 use Rattle.av_laws.proofs.FirstExamples.{one-step, state_after}
-use Rattle.av_laws.proofs.PrepareExamples.{kin-below, one-below, stays}
+use Rattle.av_laws.proofs.PrepareExamples.{family-below, one-below, stays}
 
 -- ---- what comes
 
@@ -40,7 +40,8 @@ Left old e events free left =
 leaves : (old : State) (e : Exchange) (events : List Event) (free : List ℕ) (left : Anons) (homes : FourHomes)
     → IsLegal (machine 4) old.world old.ledger e.command e.reply events → ChoosesFrames (machine 4) old.ledger events old.free.frames free
     → gives_all (machine 4) None old.ledger events old.free.slots ≡ true → Left old e events free left
-    → (asks_areas e.command || is_forked e.command e.reply.answer) ≡ false → homes_in (state_after (machine 4) old e events free left).homes ≡ homes → LeavesHomes old e homes
+    → (asks_areas e.command || is_forked e.command e.reply.answer) ≡ false → homes_in (state_after (machine 4) old e events free left).homes ≡ homes →
+    LeavesHomes old e homes
 leaves old e events free left homes legal frames given is plain same = let each = parts (asks_areas e.command) (is_forked e.command e.reply.answer) plain in (
   state_after (machine 4) old e events free left,
   one-step (machine 4) old e each.1 events free left legal frames given is (shows-none old.areas old.anons e.command e.reply.answer e.reply.rows each.0),
@@ -82,7 +83,7 @@ new-leaves = leaves bare_process new_page (Noted (New 1 0x12000 0) ∷ Used true
     (stays one_root _ one-below refl) refl refl
 
 pub new_in_child-leaves : LeavesHomes with_child child_new (Some (0, 0x22) ∷ Some (1, 0x23) ∷ None ∷ None ∷ [])
-new_in_child-leaves = leaves with_child child_new (Noted (New 2 0x13000 1) ∷ Used true (2, 0x13) ∷ []) (2 ∷ 3 ∷ []) kin
+new_in_child-leaves = leaves with_child child_new (Noted (New 2 0x13000 1) ∷ Used true (2, 0x13) ∷ []) (2 ∷ 3 ∷ []) family
     (Some (0, 0x22) ∷ Some (1, 0x23) ∷ None ∷ None ∷ [])
     (record {
       answer = (
@@ -109,10 +110,10 @@ new_in_child-leaves = leaves with_child child_new (Noted (New 2 0x13000 1) ∷ U
       notes = refl;
     })
     (2 ∷ 3 ∷ [], (2 ∷ 3 ∷ [], refl, refl), (2 ∷ 3 ∷ [], (2 ∷ 3 ∷ [], refl, refl), refl)) refl
-    (stays kin _ kin-below refl) refl refl
+    (stays family _ family-below refl) refl refl
 
 pub copy-leaves : LeavesHomes with_child child_copy (Some (0, 0x22) ∷ Some (1, 0x22) ∷ None ∷ None ∷ [])
-copy-leaves = leaves with_child child_copy (Noted (Copied 2 0x12000 1) ∷ Used true (2, 0x12) ∷ []) (2 ∷ 3 ∷ []) kin
+copy-leaves = leaves with_child child_copy (Noted (Copied 2 0x12000 1) ∷ Used true (2, 0x12) ∷ []) (2 ∷ 3 ∷ []) family
     (Some (0, 0x22) ∷ Some (1, 0x22) ∷ None ∷ None ∷ [])
     (record {
       answer = (
@@ -139,10 +140,10 @@ copy-leaves = leaves with_child child_copy (Noted (Copied 2 0x12000 1) ∷ Used 
       notes = refl;
     })
     (2 ∷ 3 ∷ [], (2 ∷ 3 ∷ [], refl, refl), (2 ∷ 3 ∷ [], (2 ∷ 3 ∷ [], refl, refl), refl)) refl
-    (stays kin _ kin-below refl) refl refl
+    (stays family _ family-below refl) refl refl
 
 pub in_place-leaves : LeavesHomes child_alone child_write (Some (1, 0x22) ∷ Some (0, 0x21) ∷ None ∷ None ∷ [])
-in_place-leaves = leaves child_alone child_write (Used true (2, 0x12) ∷ []) (1 ∷ 2 ∷ 3 ∷ []) kin
+in_place-leaves = leaves child_alone child_write (Used true (2, 0x12) ∷ []) (1 ∷ 2 ∷ 3 ∷ []) family
     (Some (1, 0x22) ∷ Some (0, 0x21) ∷ None ∷ None ∷ [])
     (record {
       answer = (
@@ -160,14 +161,14 @@ in_place-leaves = leaves child_alone child_write (Used true (2, 0x12) ∷ []) (1
       notes = refl;
     })
     (1 ∷ 2 ∷ 3 ∷ [], (1 ∷ 2 ∷ 3 ∷ [], refl, refl), refl) refl
-    (stays kin _ kin-below refl) refl refl
+    (stays family _ family-below refl) refl refl
 
 -- a read of the page, which is allowed
 reads : (old : State) → IsLegal (machine 4) old.world old.ledger child_read.command child_read.reply (Used false (2, 0x12) ∷ [])
     → ChoosesFrames (machine 4) old.ledger (Used false (2, 0x12) ∷ []) old.free.frames (1 ∷ 2 ∷ 3 ∷ [])
-    → Left old child_read (Used false (2, 0x12) ∷ []) (1 ∷ 2 ∷ 3 ∷ []) kin → homes_in old.homes ≡ Some (0, 0x22) ∷ Some (0, 0x21) ∷ None ∷ None ∷ []
+    → Left old child_read (Used false (2, 0x12) ∷ []) (1 ∷ 2 ∷ 3 ∷ []) family → homes_in old.homes ≡ Some (0, 0x22) ∷ Some (0, 0x21) ∷ None ∷ None ∷ []
     → LeavesHomes old child_read (Some (0, 0x22) ∷ Some (0, 0x21) ∷ None ∷ None ∷ [])
-reads old legal frames left same = leaves old child_read (Used false (2, 0x12) ∷ []) (1 ∷ 2 ∷ 3 ∷ []) kin
+reads old legal frames left same = leaves old child_read (Used false (2, 0x12) ∷ []) (1 ∷ 2 ∷ 3 ∷ []) family
     (Some (0, 0x22) ∷ Some (0, 0x21) ∷ None ∷ None ∷ []) legal frames refl left refl same
 
 pub read-leaves : LeavesHomes with_child child_read (Some (0, 0x22) ∷ Some (0, 0x21) ∷ None ∷ None ∷ [])
@@ -184,7 +185,7 @@ read-leaves = reads with_child
       notes = refl;
     })
     (1 ∷ 2 ∷ 3 ∷ [], (1 ∷ 2 ∷ 3 ∷ [], refl, refl), refl)
-    (stays kin _ kin-below refl) refl
+    (stays family _ family-below refl) refl
 
 pub read_alone-leaves : LeavesHomes child_alone child_read (Some (0, 0x22) ∷ Some (0, 0x21) ∷ None ∷ None ∷ [])
 read_alone-leaves = reads child_alone
@@ -200,11 +201,11 @@ read_alone-leaves = reads child_alone
       notes = refl;
     })
     (1 ∷ 2 ∷ 3 ∷ [], (1 ∷ 2 ∷ 3 ∷ [], refl, refl), refl)
-    (stays kin _ kin-below refl) refl
+    (stays family _ family-below refl) refl
 
 -- no anon_vma is left where the child's area goes
-none_after_exit : AreLeft kin (with_at 2 none_on child_alone.areas) (record { next = 2; anon = λ _. None })
-none_after_exit = left-bare kin (with_at 2 none_on child_alone.areas) (λ p page. by page (p == 2))
+none_after_exit : AreLeft family (with_at 2 none_on child_alone.areas) (record { next = 2; anon = λ _. None })
+none_after_exit = left-bare family (with_at 2 none_on child_alone.areas) (λ p page. by page (p == 2))
   where
     by : (page : ℕ) (b : Bool) → IfSome ((if b then none_on else (if b then pages_in (Some (of_child ∷ [])) else none_on)) page) (λ area. area.anon ≡ None)
     by page true = tt
@@ -235,7 +236,7 @@ first_named : (r : Rmap) (k : Key) → IsSomeAnd (r.homes 0) (IsReached r k) →
 first_named r k h f is = let e : f ≡ 0 = grind (arith, nat_tests, is) in subst (λ f. IsSomeAnd (r.homes f) (IsReached r k)) (sym e) h
 
 -- an anon_vma that is there has a number below the next one
-below_next : (v : ℕ) → IsSome (kin.anon v) → v < kin.next
+below_next : (v : ℕ) → IsSome (family.anon v) → v < family.next
 below_next v = by (v == 0) (v == 1) refl refl
   where
     by : (a b : Bool) → (v == 0) ≡ a → (v == 1) ≡ b → IsSome (if a then Some root else (if b then Some child else None)) → v < 2
@@ -245,10 +246,10 @@ below_next v = by (v == 0) (v == 1) refl refl
 
 -- an own anon_vma is in its chain
 own_in_chain : (v : ℕ) (o : Option Area) → IfSome o (λ area. (area.anon ≡ Some 0) ⊎ (area.anon ≡ Some 1)) → IsSomeAnd o (λ area. area.anon ≡ Some v)
-    → is_in v (chain_of kin (Some v)) ≡ true
+    → is_in v (chain_by family (Some v)) ≡ true
 own_in_chain v None h g = absurd g
-own_in_chain v (Some area) (inl h) g = let e : 0 ≡ v = same_Some 0 v (sym h ∙ g) in subst (λ v. is_in v (chain_of kin (Some v)) ≡ true) e refl
-own_in_chain v (Some area) (inr h) g = let e : 1 ≡ v = same_Some 1 v (sym h ∙ g) in subst (λ v. is_in v (chain_of kin (Some v)) ≡ true) e refl
+own_in_chain v (Some area) (inl h) g = let e : 0 ≡ v = same_Some 0 v (sym h ∙ g) in subst (λ v. is_in v (chain_by family (Some v)) ≡ true) e refl
+own_in_chain v (Some area) (inr h) g = let e : 1 ≡ v = same_Some 1 v (sym h ∙ g) in subst (λ v. is_in v (chain_by family (Some v)) ≡ true) e refl
 
 -- each area of the two has one of the two
 own_on : (page : ℕ) (a b : Bool) → IfSome ((if a then pages_in (Some (of_parent ∷ [])) else (if b then pages_in (Some (of_child ∷ [])) else none_on)) page)

@@ -8,7 +8,28 @@ use Rattle.av_laws.proofs.Choice.{all-chosen}
 use Rattle.av_laws.specs.Examples.{Leads, machine, ledger_with, slot, out_and_back, copied_and_gone, taken_and_freed, orphan, only_frames}
 
 pub out_and_back-leads : Leads (ledger_with (InFrame 5 true) [] [] (5 ∷ []) (6 ∷ [])) out_and_back
-out_and_back-leads = (refl, (refl, (refl, (refl, (refl, (refl, (refl, (refl, (refl, (refl, (refl, (refl, (refl, (refl, (refl, (refl, (refl, (refl, tt))))))))))))))))))
+out_and_back-leads = (
+  refl,
+  (
+    refl,
+    (
+      refl,
+      (
+        refl,
+        (
+          refl,
+          (
+            refl,
+            (
+              refl,
+              (refl, (refl, (refl, (refl, (refl, (refl, (refl, (refl, (refl, (refl, (refl, tt))))))))))),
+            ),
+          ),
+        ),
+      ),
+    ),
+  ),
+)
 
 pub copied_and_gone-leads : Leads first_ledger copied_and_gone
 copied_and_gone-leads = (refl, (refl, (refl, (refl, (refl, (refl, (refl, (refl, (refl, (refl, tt))))))))))

@@ -88,7 +88,8 @@ no_sooner a c rs others h start kind alike = by (nat_le c.to a.to) refl
         absurd (ends-there a rs h (alike a.to ∙ in-first c others a.to (omega (arith, start, long)) more ∙ ap Some (sym kind)))
 
 -- the later runs are alike too
-alike-later : (a c : Range) (rs others : List Range) → AreLongest (a ∷ rs) → AreLongest (c ∷ others) → a.to ≡ c.to → Alike (a ∷ rs) (c ∷ others) → Alike rs others
+alike-later : (a c : Range) (rs others : List Range) → AreLongest (a ∷ rs) → AreLongest (c ∷ others) → a.to ≡ c.to →
+    Alike (a ∷ rs) (c ∷ others) → Alike rs others
 alike-later a c rs others h i end alike page = by (nat_lt page a.to) refl
   where
     by : (t : Bool) → nat_lt page a.to ≡ t → prot_in rs page ≡ prot_in others page
@@ -110,7 +111,8 @@ runs-same (a ∷ rs) (c ∷ others) h i alike =
     let low' = no_earlier c a others rs i h back in
     let start : a.from ≡ c.from = omega (arith, low, low') in
     let long = not-empty a rs h in let long' = not-empty c others i in
-    let kind : a.prot ≡ c.prot = of_some (sym (in-first a rs a.from (omega arith) long) ∙ alike a.from ∙ in-first c others a.from (omega (arith, start)) (omega (arith, start, long'))) in
+    let kind : a.prot ≡ c.prot = of_some (sym (in-first a rs a.from (omega arith) long) ∙ alike a.from ∙ in-first c others a.from (omega (arith, start))
+    (omega (arith, start, long'))) in
     let high = no_sooner a c rs others h start kind alike in
     let high' = no_sooner c a others rs i (sym start) (sym kind) back in
     let end : a.to ≡ c.to = omega (arith, high, high') in

@@ -27,14 +27,14 @@ use Rattle.av_plain.specs.Transcript.{IsStep, State, at_first, rmap_of}
 use Rattle.av_plain.specs.World.{Page, World, is_mapped, pages, zeros}
 use Rattle.av_plain.proofs.AreasLeft.{AreBelow, left-all, left-none}
 use Rattle.av_laws.proofs.Choice.{gives_all}
-use Rattle.av_laws.specs.Areas.{area, area_of, kin, one_root, two_roots}
+use Rattle.av_laws.specs.Areas.{area, area_of, family, one_root, two_roots}
 use Rattle.av_laws.specs.Examples.{Forbids, Runs, machine, read_only, read_write, reply_with, says}
 use Rattle.av_laws.specs.Mremap.{LeavesFrames, LeavesPage, NeverLeavesEntries, NeverLeavesPage, NeverMoves, RemapsTo, all_move, all_sevens, at_top, behind_itself, entries_at_top, entries_here, entries_of_first, entries_of_part, entries_of_second, entries_of_two, entries_there, entries_without_tail, first_doubles, for_reading, grows, grows_by_one, grows_by_two, grows_or_moves, moved_of, of_none, of_root, of_two_processes, of_two_roots, one_at_target, one_left_behind, one_lost, one_twice, one_unseen, out_of_place, pair_moves, part_moves, prepared, second_grows, second_moves, second_shrinks, second_stays, sevens, shrinks, three_kinds, top_grows, top_moves, two_move, with_frames, with_hole, with_long_chain, with_neighbour, with_next, with_target, zeros_stay}
 use Rattle.av_laws.proofs.AnonExamples.{now-is}
 use Rattle.av_plain.proofs.Choice.{ChoosesFrames}
 use Rattle.av_laws.proofs.Determined.{loads-told}
 use Rattle.av_laws.proofs.FirstExamples.{all_linked, gap_under, linked-all, one-step, state_after}
-use Rattle.av_laws.proofs.PrepareExamples.{kin-below, one-below, two-below}
+use Rattle.av_laws.proofs.PrepareExamples.{family-below, one-below, two-below}
 
 -- the first of some areas, and the others
 abbrev first_of_all : List (Option Area) → Option Area
@@ -55,7 +55,8 @@ each-same f g (page ∷ pages) same = (ap first_of_all same, each-same f g pages
 -- pages on which areas are linked
 abbrev linked_on : List (Key × Entry)
 linked_on =
-    ((1, 0x10), Zero) ∷ ((1, 0x12), Zero) ∷ ((1, 0x18), Zero) ∷ ((1, 0x1a), Zero) ∷ ((1, 0x7fffffffa), Zero) ∷ ((1, 0x7fffffffc), Zero) ∷ ((1, 0x7fffffffd), Zero) ∷ []
+    ((1, 0x10), Zero) ∷ ((1, 0x12), Zero) ∷ ((1, 0x18), Zero) ∷ ((1, 0x1a), Zero) ∷ ((1, 0x7fffffffa), Zero) ∷ ((1, 0x7fffffffc), Zero)
+    ∷ ((1, 0x7fffffffd), Zero) ∷ []
 
 -- where each is linked on one of these all are left
 stays : (anons : Anons) (on : Areas) → AreBelow anons → all_linked anons on linked_on anons.next ≡ true → AreLeft anons on anons
@@ -187,15 +188,17 @@ stays_apart = remaps prepared 0x11000 8192 8192 Plain 0x11000 []
 pub long_chain : RemapsTo with_long_chain grows_by_two 0x10000 0xf (area_of 1 0x10 0x14 ∷ area 0x14 0x16 read_write ∷ []) entries_here
 long_chain = remaps with_long_chain 0x10000 8192 16384 Plain 0x10000 []
     (record { answer = (Some 0x10, refl, refl, refl, refl); notes = refl })
-    refl refl (stays kin _ kin-below refl) 0xf (area_of 1 0x10 0x14 ∷ area 0x14 0x16 read_write ∷ []) entries_here
+    refl refl (stays family _ family-below refl) 0xf (area_of 1 0x10 0x14 ∷ area 0x14 0x16 read_write ∷ []) entries_here
     refl refl
 
 -- ---- what stays, goes and is new
 
-pub two_leave_one : RemapsTo of_two_roots zeros_stay 0x18000 0xf (area 0x10 0x14 read_write ∷ moved_of 0 0x18 0x1a 0x10 ∷ moved_of 1 0x1a 0x1c 0x12 ∷ []) entries_there
+pub two_leave_one : RemapsTo of_two_roots zeros_stay 0x18000 0xf
+    (area 0x10 0x14 read_write ∷ moved_of 0 0x18 0x1a 0x10 ∷ moved_of 1 0x1a 0x1c 0x12 ∷ []) entries_there
 two_leave_one = remaps of_two_roots 0x10000 16384 16384 (DontUnmap (Some 0x18000)) 0x18000 (Moved 1 4 0x10 0x18 ∷ [])
     (record { answer = (Some 0x18, refl, refl, refl, refl); notes = refl })
-    (still, (still, refl, refl), refl) refl (stays two_roots _ two-below refl) 0xf (area 0x10 0x14 read_write ∷ moved_of 0 0x18 0x1a 0x10 ∷ moved_of 1 0x1a 0x1c 0x12 ∷ []) entries_there
+    (still, (still, refl, refl), refl) refl (stays two_roots _ two-below refl) 0xf
+    (area 0x10 0x14 read_write ∷ moved_of 0 0x18 0x1a 0x10 ∷ moved_of 1 0x1a 0x1c 0x12 ∷ []) entries_there
     refl refl
 
 pub other_stays : RemapsTo of_two_processes all_move 0x18000 0xf (moved_of 0 0x18 0x1c 0x10 ∷ []) entries_of_two

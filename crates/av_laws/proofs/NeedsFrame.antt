@@ -109,10 +109,12 @@ held-drop m came l k q h = by (entry l k)
 
 -- ---- a page comes in, and is made
 
-comes-held : (m : Setting) (sp : Sparing) (l : Ledger) (k q : Key) (n : Need) (notes : List Note) → same_key q k ≡ false → IsHeld n → ComesIn m sp l k n notes → Held l q → Held (after_notes l notes) q
+comes-held : (m : Setting) (sp : Sparing) (l : Ledger) (k q : Key) (n : Need) (notes : List Note) → same_key q k ≡ false → IsHeld n → ComesIn m sp l k n notes →
+    Held l q → Held (after_notes l notes) q
 comes-held m sp l k q Ready notes other n c h = subst (λ ns. Held (after_notes l ns) q) (sym c) h
 comes-held m sp l k q ZeroPage notes other n c h = subst (λ ns. Held (after_notes l ns) q) (sym c) h
-comes-held m sp l k q (MapCached f) notes other n c h = subst (λ ns. Held (after_notes l ns) q) (sym c) (subst (λ x. Held (set_entry x (InFrame f false) l) q) (sym (key_at-address k)) (held-set l k q (InFrame f false) other h))
+comes-held m sp l k q (MapCached f) notes other n c h = subst (λ ns. Held (after_notes l ns) q) (sym c)
+    (subst (λ x. Held (set_entry x (InFrame f false) l) q) (sym (key_at-address k)) (held-set l k q (InFrame f false) other h))
 comes-held m sp l k q (SwapIn s) notes other n c h = absurd n
 comes-held m sp l k q NewPage notes other n c h = absurd n
 comes-held m sp l k q (CopyOnWrite f) notes other n c h = absurd n
@@ -136,15 +138,18 @@ reading l (Some (InSlot s)) = by (frame_at l s)
     by None = tt
     by (Some f) = tt
 
-made-held : (m : Setting) (sp : Sparing) (l : Ledger) (k q : Key) (n : Need) (notes : List Note) → same_key q k ≡ false → IsReading n → IsMade m sp l k n notes → Held l q → Held (after_notes l notes) q
+made-held : (m : Setting) (sp : Sparing) (l : Ledger) (k q : Key) (n : Need) (notes : List Note) → same_key q k ≡ false → IsReading n →
+    IsMade m sp l k n notes → Held l q → Held (after_notes l notes) q
 made-held m sp l k q Ready notes other n c h = subst (λ ns. Held (after_notes l ns) q) (sym c) h
-made-held m sp l k q ZeroPage notes other n c h = subst (λ ns. Held (after_notes l ns) q) (sym c) (subst (λ x. Held (set_entry x Zero l) q) (sym (key_at-address k)) (held-set l k q Zero other h))
+made-held m sp l k q ZeroPage notes other n c h = subst (λ ns. Held (after_notes l ns) q) (sym c)
+    (subst (λ x. Held (set_entry x Zero l) q) (sym (key_at-address k)) (held-set l k q Zero other h))
 made-held m sp l k q (MapCached f) notes other n c h = absurd c
 made-held m sp l k q (SwapIn s) notes other n c h = absurd c
 made-held m sp l k q NewPage notes other n c h = absurd n
 made-held m sp l k q (CopyOnWrite f) notes other n c h = absurd n
 
-serves-held : (m : Setting) (sp : Sparing) (l : Ledger) (k q : Key) (notes : List Note) → same_key q k ≡ false → Held l k → Held l q → Serves m sp l false k notes → Held (after_all l (page_events false k notes None)) q
+serves-held : (m : Setting) (sp : Sparing) (l : Ledger) (k q : Key) (notes : List Note) → same_key q k ≡ false → Held l k → Held l q →
+    Serves m sp l false k notes → Held (after_all l (page_events false k notes None)) q
 serves-held m sp l k q notes other here h s =
     let n = need false l (entry l k) in
     let l1 = after_notes l s.coming in
@@ -185,13 +190,16 @@ never-out m sp l k notes out h r = by r.before
     unwanted false e t = never t
 
     nothing : r.coming ≡ [] → ⊥
-    nothing e = unwanted _ (ap (λ ns. wants_frame (need false (after_notes l ns) (entry (after_notes l ns) k))) e ∙ not-wanting (need false l (entry l k)) (held-need l k h)) wanted
+    nothing e = unwanted _ (ap (λ ns. wants_frame (need false (after_notes l ns) (entry (after_notes l ns) k))) e
+        ∙ not-wanting (need false l (entry l k)) (held-need l k h)) wanted
 
     in_frame : (f : ℕ) → entry (after_note (Mapped k.0 (address_of k.1) f) l) k ≡ Some (InFrame f false)
-    in_frame f = ap (λ x. entry (set_entry x (InFrame f false) l) k) (key_at-address k) ∙ entry-set k (InFrame f false) l k ∙ ap (λ b. cond b (Some (InFrame f false)) (entry l k)) (same_key-itself k)
+    in_frame f = ap (λ x. entry (set_entry x (InFrame f false) l) k) (key_at-address k) ∙ entry-set k (InFrame f false) l k
+        ∙ ap (λ b. cond b (Some (InFrame f false)) (entry l k)) (same_key-itself k)
 
     mapped : (f : ℕ) → r.coming ≡ Mapped k.0 (address_of k.1) f ∷ [] → ⊥
-    mapped f e = unwanted _ (ap (λ ns. wants_frame (need false (after_notes l ns) (entry (after_notes l ns) k))) e ∙ ap (λ o. wants_frame (need false (after_note (Mapped k.0 (address_of k.1) f) l) o)) (in_frame f)) wanted
+    mapped f e = unwanted _ (ap (λ ns. wants_frame (need false (after_notes l ns) (entry (after_notes l ns) k))) e
+        ∙ ap (λ o. wants_frame (need false (after_note (Mapped k.0 (address_of k.1) f) l) o)) (in_frame f)) wanted
 
     comes : (n : Need) → IsHeld n → ComesIn m sp l k n r.coming → ⊥
     comes Ready i c = nothing c
@@ -214,7 +222,8 @@ accesses-served : (m : Setting) (w : World) (p n from : ℕ) (l : Ledger) (event
 accesses-served m w p zero from l events end held h = subst EndsServed (sym h.1) tt
 accesses-served m w p (suc n) from l events end held (inl h) =
     accesses-served m w p n (from + 1) (after_all l (page_events false (p, from) h.0 None)) h.1 end
-    (λ q low high. serves-held m (sparing w) l (p, from) (p, q) h.0 (other q low) (held from (omega arith) (omega arith)) (held q (omega (arith, low)) (omega (arith, high))) h.2.1) h.4
+    (λ q low high. serves-held m (sparing w) l (p, from) (p, q) h.0 (other q low) (held from (omega arith) (omega arith))
+    (held q (omega (arith, low)) (omega (arith, high))) h.2.1) h.4
   where
     other : (q : ℕ) → from + 1 ≤ q → same_key (p, q) (p, from) ≡ false
     other q low = key_is p q p from ∙ grind (arith, nat_tests, low)
@@ -230,16 +239,19 @@ accesses-served m w p (suc n) from l events end held (inr h) = subst EndsServed 
 no_frame : (l : Ledger) (s : Slot) → slots l s ≡ 0 → frame_at l s ≡ None
 no_frame l s none = by l.cache none
   where
-    by : (cs : List Cached) → how_many (λ (c : Cached). same_slot s c.slot) cs ≡ 0 → option_map (λ (c : Cached). c.frame) (cached_by (λ c. same_slot s c.slot) cs) ≡ None
+    by : (cs : List Cached) → how_many (λ (c : Cached). same_slot s c.slot) cs ≡ 0 →
+        option_map (λ (c : Cached). c.frame) (cached_by (λ c. same_slot s c.slot) cs) ≡ None
     by [] h = refl
     by (c ∷ cs) h = first (same_slot s c.slot) h (by cs)
       where
-        first : (b : Bool) → cond b 1 0 + how_many (λ (c : Cached). same_slot s c.slot) cs ≡ 0 → (how_many (λ (c : Cached). same_slot s c.slot) cs ≡ 0 → option_map (λ (c : Cached). c.frame) (cached_by (λ c. same_slot s c.slot) cs) ≡ None)
+        first : (b : Bool) → cond b 1 0 + how_many (λ (c : Cached). same_slot s c.slot) cs ≡ 0 →
+            (how_many (λ (c : Cached). same_slot s c.slot) cs ≡ 0 → option_map (λ (c : Cached). c.frame) (cached_by (λ c. same_slot s c.slot) cs) ≡ None)
             → option_map (λ (c : Cached). c.frame) (cond b (Some c) (cached_by (λ c. same_slot s c.slot) cs)) ≡ None
         first true h rest = absurd (omega (arith, h))
         first false h rest = rest (omega (arith, h))
 
-all-held : (l : Ledger) (p n from : ℕ) → AllByRecursion (λ (x : Bool × ℕ). wants_frame (need false l (entry l (p, x.1))) ≡ false) (map (λ page. (false, page)) (numbers from n))
+all-held : (l : Ledger) (p n from : ℕ) → AllByRecursion (λ (x : Bool × ℕ). wants_frame (need false l (entry l (p, x.1))) ≡ false)
+    (map (λ page. (false, page)) (numbers from n))
     → (q : ℕ) → from ≤ q → q < from + n → Held l (p, q)
 all-held l p zero from all q low high = absurd (omega (arith, low, high))
 all-held l p (suc n) from all q low high = by (from == q) refl (all-held l p n (from + 1) all.1 q)
@@ -270,8 +282,10 @@ read-served m w l p a n reply events k out shown none legal is = by (refusal (te
     answered (Stopped page (Starved o)) bytes s e = s
     answered (Stopped page Lost) bytes s e = cc
 
-    by : (o : Option Errno) → MatchOption o (Follows m w l (Read p a n) events reply.answer reply.rows) (λ error. Refuses error events reply.answer reply.rows) → ⊥
-    by None h = answered h.0 h.1 (accesses-served m w p (cond (n == 0) 0 (pages_of (place_in_page a + n))) (page_of a) l events h.0 (all-held l p (cond (n == 0) 0 (pages_of (place_in_page a + n))) (page_of a) none) h.2) (sym h.4 ∙ is)
+    by : (o : Option Errno) → MatchOption o (Follows m w l (Read p a n) events reply.answer reply.rows)
+        (λ error. Refuses error events reply.answer reply.rows) → ⊥
+    by None h = answered h.0 h.1 (accesses-served m w p (cond (n == 0) 0 (pages_of (place_in_page a + n))) (page_of a) l events h.0
+        (all-held l p (cond (n == 0) 0 (pages_of (place_in_page a + n))) (page_of a) none) h.2) (sym h.4 ∙ is)
     by (Some error) h = let e = sym h.0 ∙ is in cc
 
 -- ---- a write

@@ -6,7 +6,7 @@ use Rattle.av_trace.specs.declared.command.Command.TheVariants.{Fork}
 use Rattle.av_trace.specs.declared.reply.Answer.{Answer}
 use Rattle.av_trace.specs.declared.reply.Answer.TheVariants.{Done}
 use Rattle.av_vma.specs.declared.area.Area.{Area}
-use Rattle.av_plain.specs.Areas.{AreLeft, AreNext, Rmap, chain_of, none_on}
+use Rattle.av_plain.specs.Areas.{AreLeft, AreNext, Rmap, chain_by, none_on}
 use Rattle.av_plain.specs.Fork.{AreForked, GoOver, GoesBy, IsReused, IsRmapDone, IsRmapNext, own_of_child, with_child, with_child_area}
 use Rattle.av_plain.specs.World.{World}
 use Rattle.av_plain.proofs.AreasLeft.{left-one}
@@ -23,7 +23,7 @@ goes-one : (own : Option ℕ) (q : ℕ) (area : Area) (r x y : Rmap) → GoesBy 
 goes-one None q area r x y h g = h ∙ sym g
 goes-one (Some own) q area r x y h g = h.2
     ∙ ap (λ reused. record (with_child_area q (record area { anon = Some (own_of_child r.anons reused) }) r) { anons = with_child own reused r.anons })
-    (reused-one r (chain_of r.anons (Some own)) h.0 g.0 h.1 g.1)
+    (reused-one r (chain_by r.anons (Some own)) h.0 g.0 h.1 g.1)
     ∙ sym g.2
 
 over-one : (q : ℕ) (areas : List Area) (r x y : Rmap) → GoOver q areas r x → GoOver q areas r y → x ≡ y
@@ -38,7 +38,8 @@ forked-one p q r x y (areas, rise, on, goes) (areas', rise', on', goes') =
     over-one q areas (record r { areas = with_at q none_on r.areas }) x y goes
     (subst (λ areas. GoOver q areas (record r { areas = with_at q none_on r.areas }) y) (sym same) goes')
 
-plain-one : (now : Rmap) (w : World) (command : Command) (answer : Answer) (x y : Rmap) → AreNext now w command answer x → AreNext now w command answer y → x ≡ y
+plain-one : (now : Rmap) (w : World) (command : Command) (answer : Answer) (x y : Rmap) → AreNext now w command answer x →
+    AreNext now w command answer y → x ≡ y
 plain-one now w command answer x y h g =
     let areas = h.areas ∙ sym g.areas in
     let anons = left-one now.anons y.areas x.anons y.anons (subst (λ on. AreLeft now.anons on x.anons) areas h.anons) g.anons in
@@ -46,7 +47,8 @@ plain-one now w command answer x y h g =
     λ i. record { areas = areas i; anons = anons i; homes = homes i }
 
 -- so do all commands
-pub next-one : (now : Rmap) (w : World) (command : Command) (answer : Answer) (x y : Rmap) → IsRmapNext now w command answer x → IsRmapNext now w command answer y → x ≡ y
+pub next-one : (now : Rmap) (w : World) (command : Command) (answer : Answer) (x y : Rmap) → IsRmapNext now w command answer x →
+    IsRmapNext now w command answer y → x ≡ y
 next-one now w command Done x y h g = done command h g
   where
     done : (command : Command) → IsRmapDone now w command x → IsRmapDone now w command y → x ≡ y

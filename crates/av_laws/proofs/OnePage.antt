@@ -219,7 +219,8 @@ runs_out-one m closing told sp l write k free a b out out' r q x y =
   where
     both : Alone m closing sp l write k free r.coming r.sought out
         → Alone m closing sp l write k free q.coming q.sought out'
-        → (r.coming ≡ []) ⊎ ComesIn m sp l k (need_at write l k) r.coming → (q.coming ≡ []) ⊎ ComesIn m sp l k (need_at write l k) q.coming → r.coming ≡ q.coming
+        → (r.coming ≡ []) ⊎ ComesIn m sp l k (need_at write l k) r.coming → (q.coming ≡ []) ⊎ ComesIn m sp l k (need_at write l k) q.coming →
+        r.coming ≡ q.coming
     both h g (inl e) (inl f) = e ∙ sym f
     both h g (inl e) (inr f) = e
         ∙ sym (comes-nothing m closing told sp l write k free r.coming r.sought q.coming q.sought

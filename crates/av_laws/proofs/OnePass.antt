@@ -250,7 +250,8 @@ completes-one l (t ∷ ts) a b c d x y =
 
 -- a turn that doesn't fail ends the pass
 turn-is : (f : ℕ) (s : Slot) (d a b failed : Bool) (notes : List Note) (X : List Note → Type 0)
-    → MatchBool (d && failed) ((rest : List Note) × (notes ≡ ((when a (Put f s) ++ when b (Unmapped f)) ++ (if d then Started s ∷ end_note failed s ∷ [] else [])) ++ rest) × X rest)
+    → MatchBool (d && failed) ((rest : List Note) × (notes ≡ ((when a (Put f s) ++ when b (Unmapped f))
+    ++ (if d then Started s ∷ end_note failed s ∷ [] else [])) ++ rest) × X rest)
     (notes ≡ ((when a (Put f s) ++ when b (Unmapped f)) ++ (if d then Started s ∷ end_note failed s ∷ [] else [])) ++ Dropped s ∷ [])
     → AreDone notes → notes ≡ ((when a (Put f s) ++ when b (Unmapped f))
     ++ (if d then Started s ∷ end_note false s ∷ [] else [])) ++ Dropped s ∷ []
@@ -379,7 +380,8 @@ none-taken m closing told sp l free a b note h seeks none x y =
     let xs = given-parts m closing l free h.sought (note h.frame ∷ [])
     (given-is m closing l free a _ h.whole x) in
     let same = seeks-one m closing told sp l free h.sought b h.seeks seeks xs.1 y in
-    differ (has_free m (after_notes l b)) (ap (λ s. has_free m (after_notes l s)) (sym same) ∙ has_free-some m (after_notes l h.sought) h.frame h.in_range h.free) none
+    differ (has_free m (after_notes l b)) (ap (λ s. has_free m (after_notes l s)) (sym same)
+    ∙ has_free-some m (after_notes l h.sought) h.frame h.in_range h.free) none
   where
     differ : (b : Bool) → b ≡ true → b ≡ false → ⊥
     differ b h g = cc

@@ -36,11 +36,13 @@ AddUp m out = out.pinned + out.noslot + out.fault ≡ m.frames
 -- ---- counted
 
 -- a frame is spared, or cached, or neither
-parts : (spared : ℕ → Bool) (l : Ledger) (fs : List ℕ) → how_many spared fs + how_many (λ f. not (spared f) && is_none (slot_of l f)) fs + how_many (λ f. not (spared f) && is_some (slot_of l f)) fs ≡ length fs
+parts : (spared : ℕ → Bool) (l : Ledger) (fs : List ℕ) → how_many spared fs + how_many (λ f. not (spared f) && is_none (slot_of l f)) fs + how_many
+    (λ f. not (spared f) && is_some (slot_of l f)) fs ≡ length fs
 parts spared l [] = refl
 parts spared l (f ∷ fs) = each (spared f) (slot_of l f) _ _ _ _ (parts spared l fs)
   where
-    each : (s : Bool) (o : Option Slot) (a b c n : ℕ) → a + b + c ≡ n → (cond s 1 0 + a) + (cond (not s && is_none o) 1 0 + b) + (cond (not s && is_some o) 1 0 + c) ≡ suc n
+    each : (s : Bool) (o : Option Slot) (a b c n : ℕ) → a + b + c ≡ n →
+        (cond s 1 0 + a) + (cond (not s && is_none o) 1 0 + b) + (cond (not s && is_some o) 1 0 + c) ≡ suc n
     each true o a b c n h = omega (arith, h)
     each false None a b c n h = omega (arith, h)
     each false (Some t) a b c n h = omega (arith, h)
@@ -70,9 +72,12 @@ none-pinned : (fs : List ℕ) → how_many (is_pinned None) fs ≡ 0
 none-pinned [] = refl
 none-pinned (f ∷ fs) = let e = none-pinned fs in omega (arith, e)
 
-pub numbers-add : (m : Setting) (w : World) (pinned : Option ℕ) (l now : Ledger) → IfSome pinned (λ g. g < m.frames) → AddUp m (out_of m pinned (sparing w l pinned) now)
-numbers-add m w None l now below = let a = parts (is_pinned None) now (numbers 0 m.frames) in let b = length-numbers 0 m.frames in let c = none-pinned (numbers 0 m.frames) in omega (arith, a, b, c)
-numbers-add m w (Some g) l now below = let a = parts (is_pinned (Some g)) now (numbers 0 m.frames) in let b = length-numbers 0 m.frames in let c = once g 0 m.frames (omega arith) (omega (arith, below)) in omega (arith, a, b, c)
+pub numbers-add : (m : Setting) (w : World) (pinned : Option ℕ) (l now : Ledger) → IfSome pinned (λ g. g < m.frames) →
+    AddUp m (out_of m pinned (sparing w l pinned) now)
+numbers-add m w None l now below = let a = parts (is_pinned None) now (numbers 0 m.frames) in let b = length-numbers 0 m.frames in
+    let c = none-pinned (numbers 0 m.frames) in omega (arith, a, b, c)
+numbers-add m w (Some g) l now below = let a = parts (is_pinned (Some g)) now (numbers 0 m.frames) in let b = length-numbers 0 m.frames in
+    let c = once g 0 m.frames (omega arith) (omega (arith, below)) in omega (arith, a, b, c)
 
 -- ---- the pinned frame is one of the machine's
 
@@ -100,10 +105,12 @@ pinned-below m l write k s = by write (entry l k) refl
     by false (Some (InSlot t)) is = slot t (frame_at l t)
     by true (Some (InSlot t)) is = slot t (frame_at l t)
 
-runs_out-adds : (m : Setting) (w : World) (l : Ledger) (write : Bool) (k : Key) (notes : List Note) (out : OutOf) → IsSound m l → RunsOut m (sparing w) l write k notes out → AddUp m out
+runs_out-adds : (m : Setting) (w : World) (l : Ledger) (write : Bool) (k : Key) (notes : List Note) (out : OutOf) → IsSound m l →
+    RunsOut m (sparing w) l write k notes out → AddUp m out
 runs_out-adds m w l write k notes out s h =
     let l1 = after_notes l h.coming in
-    subst (AddUp m) (sym h.finds.numbers) (numbers-add m w (pinned_by (need write l1 (entry l1 k))) l1 (after_notes l1 h.sought) (pinned-below m l1 write k (before h.before)))
+    subst (AddUp m) (sym h.finds.numbers) (numbers-add m w (pinned_by (need write l1 (entry l1 k))) l1 (after_notes l1 h.sought)
+    (pinned-below m l1 write k (before h.before)))
   where
     before : (h.coming ≡ []) ⊎ ComesIn m (sparing w) l k (need write l (entry l k)) h.coming → IsSound m (after_notes l h.coming)
     before (inl e) = subst (λ ns. IsSound m (after_notes l ns)) (sym e) s
@@ -121,15 +128,18 @@ abbrev pub EndAdds : Setting → End → Type 0
 EndAdds m Whole = Unit {0}
 EndAdds m (Stopped page stop) = StopAdds m stop
 
-touches-add : (m : Setting) (w : World) (l : Ledger) (write : Bool) (k : Key) (notes : List Note) (stop : Stop) → IsSound m l → Touches m w l write k notes (Some stop) → StopAdds m stop
+touches-add : (m : Setting) (w : World) (l : Ledger) (write : Bool) (k : Key) (notes : List Note) (stop : Stop) → IsSound m l →
+    Touches m w l write k notes (Some stop) → StopAdds m stop
 touches-add m w l write k notes Denied s h = tt
 touches-add m w l write k notes (Starved out) s h = runs_out-adds m w l write k notes out s h.1
 touches-add m w l write k notes Lost s h = tt
 
-accesses-add : (m : Setting) (w : World) (l : Ledger) (p : ℕ) (pages : List (Bool × ℕ)) (events : List Event) (end : End) → IsSound m l → Accesses m w l p pages events end → EndAdds m end
+accesses-add : (m : Setting) (w : World) (l : Ledger) (p : ℕ) (pages : List (Bool × ℕ)) (events : List Event) (end : End) → IsSound m l →
+    Accesses m w l p pages events end → EndAdds m end
 accesses-add m w l p [] events end s h = subst (EndAdds m) (sym h.1) tt
 accesses-add m w l p (page ∷ pages) events end s (inl h) =
-    accesses-add m w (after_all l (page_events page.0 (p, page.1) h.0 None)) p pages h.1 end (page_events-kept m l page.0 (p, page.1) h.0 None (touches-kept m w l page.0 (p, page.1) h.0 None s h.2)) h.4
+    accesses-add m w (after_all l (page_events page.0 (p, page.1) h.0 None)) p pages h.1 end
+    (page_events-kept m l page.0 (p, page.1) h.0 None (touches-kept m w l page.0 (p, page.1) h.0 None s h.2)) h.4
 accesses-add m w l p (page ∷ pages) events end s (inr h) = subst (EndAdds m) (sym h.4) (touches-add m w l page.0 (p, page.1) h.0 h.1 s h.2)
 
 -- the numbers of an answer, if it is one of want of a frame
@@ -162,7 +172,8 @@ entry-adds m l (Some Zero) = tt
 entry-adds m l (Some (InFrame f seen)) = tt
 entry-adds m l (Some (InSlot s)) = tt
 
-follows-add : (m : Setting) (w : World) (l : Ledger) (command : Command) (events : List Event) (answer : Answer) (rows : List Row) → IsSound m l → Follows m w l command events answer rows → AnswerAdds m answer
+follows-add : (m : Setting) (w : World) (l : Ledger) (command : Command) (events : List Event) (answer : Answer) (rows : List Row) → IsSound m l →
+    Follows m w l command events answer rows → AnswerAdds m answer
 follows-add m w l (Spawn p) events answer rows s h = subst (AnswerAdds m) (sym h.0) tt
 follows-add m w l (Fork p q) events answer rows s h = subst (AnswerAdds m) (sym h.0) tt
 follows-add m w l (Exit p) events answer rows s h = subst (AnswerAdds m) (sym h.0) tt
@@ -172,7 +183,8 @@ follows-add m w l (Mmap p len prot place) events answer rows s h = by h.0 h.2
     by None e = subst (AnswerAdds m) (sym e) tt
     by (Some page) e = subst (AnswerAdds m) (sym e) tt
 follows-add m w l (Munmap p a len) events answer rows s h = subst (AnswerAdds m) (sym h.0) tt
-follows-add m w l (Mprotect p a len prot) events answer rows s h = subst (AnswerAdds m) (sym h.0) (by (pages_to_hole (pages w p) (page_of a) (pages_of len) == pages_of len))
+follows-add m w l (Mprotect p a len prot) events answer rows s h =
+    subst (AnswerAdds m) (sym h.0) (by (pages_to_hole (pages w p) (page_of a) (pages_of len) == pages_of len))
   where
     by : (b : Bool) → AnswerAdds m (if b then Done else Refused Enomem)
     by true = tt
@@ -182,8 +194,10 @@ follows-add m w l (Mremap p a old new mode) events answer rows s h = by h.0 h.2
     by : (to : Option ℕ) → IsMapAt answer to → AnswerAdds m answer
     by None e = subst (AnswerAdds m) (sym e) tt
     by (Some page) e = subst (AnswerAdds m) (sym e) tt
-follows-add m w l (Read p a n) events answer rows s h = subst (AnswerAdds m) (sym h.4) (read-adds m a h.0 h.1 (accesses-add m w l p (pages_of_access false a n) events h.0 s h.2))
-follows-add m w l (Write p a bytes) events answer rows s h = subst (AnswerAdds m) (sym h.2) (write-adds m a h.0 (accesses-add m w l p (pages_of_access true a (length bytes)) events h.0 s h.1))
+follows-add m w l (Read p a n) events answer rows s h = subst (AnswerAdds m) (sym h.4)
+    (read-adds m a h.0 h.1 (accesses-add m w l p (pages_of_access false a n) events h.0 s h.2))
+follows-add m w l (Write p a bytes) events answer rows s h = subst (AnswerAdds m) (sym h.2)
+    (write-adds m a h.0 (accesses-add m w l p (pages_of_access true a (length bytes)) events h.0 s h.1))
 follows-add m w l (Maps p) events answer rows s h = subst (AnswerAdds m) (sym h.0) tt
 follows-add m w l (AsksAreas p) events answer rows s h = subst (AnswerAdds m) (sym h.0) tt
 follows-add m w l (AsksRmap p a) events answer rows s h = subst (AnswerAdds m) (sym h.0) (walk-adds m l (entry l (p, page_of a)))
@@ -194,6 +208,7 @@ pub legal-adds : (m : Setting) (w : World) (l : Ledger) (command : Command) (rep
     → AllSound m w l → IsLegal m w l command reply events → reply.answer ≡ Oom k out shown → out.pinned + out.noslot + out.fault ≡ m.frames
 legal-adds m w l command reply events k out shown s legal is = subst (AnswerAdds m) is (by (refusal (tests m w l command)) legal.answer)
   where
-    by : (o : Option Errno) → MatchOption o (Follows m w l command events reply.answer reply.rows) (λ error. Refuses error events reply.answer reply.rows) → AnswerAdds m reply.answer
+    by : (o : Option Errno) → MatchOption o (Follows m w l command events reply.answer reply.rows) (λ error. Refuses error events reply.answer reply.rows) →
+        AnswerAdds m reply.answer
     by None h = follows-add m w l command events reply.answer reply.rows s.ledger h
     by (Some error) h = subst (AnswerAdds m) (sym h.0) tt

@@ -49,17 +49,72 @@ pub second_lost-runs : Allows (with_swap 4 8 7) (second_out (0 ∷ 1 ∷ 2 ∷ 3
 second_lost-runs = by_steps (with_swap 4 8 7) (second_out (0 ∷ 1 ∷ 2 ∷ 3 ∷ [])) second_lost refl ((
   Noted (Zeroed 1 0x7fffffffd000) ∷ Used false (1, 0x7fffffffd) ∷ [],
   0 ∷ 1 ∷ 2 ∷ 3 ∷ [],
-  record { answer = (Stopped 0x7fffffffe Lost, 0 ∷ [], inl (Zeroed 1 0x7fffffffd000 ∷ [], [], (refl, record { coming = []; making = Zeroed 1 0x7fffffffd000 ∷ []; whole = refl; comes_in = refl; made = refl }), refl, inr ([], Lost, (refl, record { slot = slot 1; absent = refl; seeks = refl; frame = refl }), refl, refl)), (refl, (refl, tt), (omega arith, tt)), refl, refl); notes = refl },
+  record {
+    answer = (
+      Stopped 0x7fffffffe Lost,
+      0 ∷ [],
+      inl (
+        Zeroed 1 0x7fffffffd000 ∷ [],
+        [],
+        (refl, record { coming = []; making = Zeroed 1 0x7fffffffd000 ∷ []; whole = refl; comes_in = refl; made = refl }),
+        refl,
+        inr ([], Lost, (refl, record { slot = slot 1; absent = refl; seeks = refl; frame = refl }), refl, refl),
+      ),
+      (refl, (refl, tt), (omega arith, tt)),
+      refl,
+      refl,
+    );
+    notes = refl;
+  },
   (0 ∷ 1 ∷ 2 ∷ 3 ∷ [], (0 ∷ 1 ∷ 2 ∷ 3 ∷ [], refl, refl), (0 ∷ 1 ∷ 2 ∷ 3 ∷ [], (0 ∷ 1 ∷ 2 ∷ 3 ∷ [], refl, refl), refl)),
   (
     Noted (New 1 0x7fffffffd000 0) ∷ Used true (1, 0x7fffffffd) ∷ [],
     1 ∷ 2 ∷ 3 ∷ [],
-    record { answer = (Stopped 0x7fffffffe Lost, inl (New 1 0x7fffffffd000 0 ∷ [], [], (refl, record { coming = []; making = New 1 0x7fffffffd000 0 ∷ []; whole = refl; comes_in = refl; made = record { sought = []; frame = 0; seeks = refl; in_range = omega arith; free = refl; whole = refl } }), refl, inr ([], Lost, (refl, record { slot = slot 1; absent = refl; seeks = refl; frame = refl }), refl, refl)), refl, refl); notes = refl },
+    record {
+      answer = (
+        Stopped 0x7fffffffe Lost,
+        inl (
+          New 1 0x7fffffffd000 0 ∷ [],
+          [],
+          (
+            refl,
+            record {
+              coming = [];
+              making = New 1 0x7fffffffd000 0 ∷ [];
+              whole = refl;
+              comes_in = refl;
+              made = record { sought = []; frame = 0; seeks = refl; in_range = omega arith; free = refl; whole = refl };
+            },
+          ),
+          refl,
+          inr ([], Lost, (refl, record { slot = slot 1; absent = refl; seeks = refl; frame = refl }), refl, refl),
+        ),
+        refl,
+        refl,
+      );
+      notes = refl;
+    },
     (1 ∷ 2 ∷ 3 ∷ [], (1 ∷ 2 ∷ 3 ∷ [], refl, refl), (1 ∷ 2 ∷ 3 ∷ [], (1 ∷ 2 ∷ 3 ∷ [], refl, refl), refl)),
     (
       Used false (1, 0x7fffffffd) ∷ [],
       1 ∷ 2 ∷ 3 ∷ [],
-      record { answer = (Whole, 5 ∷ [], inl ([], [], (refl, record { coming = []; making = []; whole = refl; comes_in = refl; made = refl }), refl, (refl, refl)), (refl, (refl, tt), (omega arith, tt)), refl, refl); notes = refl },
+      record {
+        answer = (
+          Whole,
+          5 ∷ [],
+          inl (
+            [],
+            [],
+            (refl, record { coming = []; making = []; whole = refl; comes_in = refl; made = refl }),
+            refl,
+            (refl, refl),
+          ),
+          (refl, (refl, tt), (omega arith, tt)),
+          refl,
+          refl,
+        );
+        notes = refl;
+      },
       (1 ∷ 2 ∷ 3 ∷ [], (1 ∷ 2 ∷ 3 ∷ [], refl, refl), refl),
       tt,
     ),
@@ -70,17 +125,96 @@ pub second_starved-runs : Allows (with_swap 0 8 7) (second_out []) second_starve
 second_starved-runs = by_steps (with_swap 0 8 7) (second_out []) second_starved refl ((
   Noted (Zeroed 1 0x7fffffffd000) ∷ Used false (1, 0x7fffffffd) ∷ [],
   [],
-  record { answer = (Stopped 0x7fffffffe (Starved (record { pinned = 0; noslot = 0; fault = 0 })), 0 ∷ [], inl (Zeroed 1 0x7fffffffd000 ∷ [], [], (refl, record { coming = []; making = Zeroed 1 0x7fffffffd000 ∷ []; whole = refl; comes_in = refl; made = refl }), refl, inr ([], Starved (record { pinned = 0; noslot = 0; fault = 0 }), (refl, record { coming = []; sought = []; whole = refl; before = inl refl; finds = record { wants = refl; seeks = ([], [], refl, refl, refl); none = refl; numbers = refl } }), refl, refl)), (refl, (refl, tt), (omega arith, tt)), refl, refl); notes = refl },
+  record {
+    answer = (
+      Stopped 0x7fffffffe (Starved (record { pinned = 0; noslot = 0; fault = 0 })),
+      0 ∷ [],
+      inl (
+        Zeroed 1 0x7fffffffd000 ∷ [],
+        [],
+        (refl, record { coming = []; making = Zeroed 1 0x7fffffffd000 ∷ []; whole = refl; comes_in = refl; made = refl }),
+        refl,
+        inr (
+          [],
+          Starved (record { pinned = 0; noslot = 0; fault = 0 }),
+          (
+            refl,
+            record {
+              coming = [];
+              sought = [];
+              whole = refl;
+              before = inl refl;
+              finds = record {
+                wants = refl;
+                seeks = ([], [], refl, refl, refl);
+                none = refl;
+                numbers = refl;
+              };
+            },
+          ),
+          refl,
+          refl,
+        ),
+      ),
+      (refl, (refl, tt), (omega arith, tt)),
+      refl,
+      refl,
+    );
+    notes = refl;
+  },
   ([], ([], refl, refl), ([], ([], refl, refl), refl)),
   tt,
 ))
 
 pub evicts-runs : Allows bad_first full evicts
 evicts-runs = by_steps bad_first full evicts refl ((
-  Noted (Put 0 (slot 2)) ∷ Noted (Unmapped 0) ∷ Noted (Started (slot 2)) ∷ Noted (Written (slot 2)) ∷ Noted (Dropped (slot 2)) ∷ Noted (New 1 0x7fffffffd000 0) ∷ Used true (1, 0x7fffffffd) ∷ [],
+  Noted (Put 0 (slot 2)) ∷ Noted (Unmapped 0) ∷ Noted (Started (slot 2)) ∷ Noted (Written (slot 2)) ∷ Noted (Dropped (slot 2)) ∷ Noted
+      (New 1 0x7fffffffd000 0) ∷ Used true (1, 0x7fffffffd) ∷ [],
   [],
-  record { answer = (Whole, inl (Put 0 (slot 2) ∷ Unmapped 0 ∷ Started (slot 2) ∷ Written (slot 2) ∷ Dropped (slot 2) ∷ New 1 0x7fffffffd000 0 ∷ [], [], (refl, record { coming = []; making = Put 0 (slot 2) ∷ Unmapped 0 ∷ Started (slot 2) ∷ Written (slot 2) ∷ Dropped (slot 2) ∷ New 1 0x7fffffffd000 0 ∷ []; whole = refl; comes_in = refl; made = record { sought = Put 0 (slot 2) ∷ Unmapped 0 ∷ Started (slot 2) ∷ Written (slot 2) ∷ Dropped (slot 2) ∷ []; frame = 0; seeks = ([], Put 0 (slot 2) ∷ Unmapped 0 ∷ Started (slot 2) ∷ Written (slot 2) ∷ Dropped (slot 2) ∷ [], refl, refl, (slot 2, false, refl, refl)); in_range = omega arith; free = refl; whole = refl } }), refl, (refl, refl)), refl, refl); notes = refl },
-  ([], ([], refl, refl), ([], ([], refl, refl), ([], ([], refl, refl), ([], ([], refl, refl), (0 ∷ [], ([], refl, refl), ([], ([], refl, refl), ([], ([], refl, refl), refl))))))),
+  record {
+    answer = (
+      Whole,
+      inl (
+        Put 0 (slot 2) ∷ Unmapped 0 ∷ Started (slot 2) ∷ Written (slot 2) ∷ Dropped (slot 2) ∷ New 1 0x7fffffffd000 0 ∷ [],
+        [],
+        (
+          refl,
+          record {
+            coming = [];
+            making = Put 0 (slot 2) ∷ Unmapped 0 ∷ Started (slot 2) ∷ Written (slot 2) ∷ Dropped (slot 2) ∷ New 1 0x7fffffffd000 0 ∷ [];
+            whole = refl;
+            comes_in = refl;
+            made = record {
+              sought = Put 0 (slot 2) ∷ Unmapped 0 ∷ Started (slot 2) ∷ Written (slot 2) ∷ Dropped (slot 2) ∷ [];
+              frame = 0;
+              seeks = ([], Put 0 (slot 2) ∷ Unmapped 0 ∷ Started (slot 2) ∷ Written (slot 2) ∷ Dropped (slot 2) ∷ [], refl, refl, (slot 2, false, refl, refl));
+              in_range = omega arith;
+              free = refl;
+              whole = refl;
+            };
+          },
+        ),
+        refl,
+        (refl, refl),
+      ),
+      refl,
+      refl,
+    );
+    notes = refl;
+  },
+  (
+    [],
+    ([], refl, refl),
+    (
+      [],
+      ([], refl, refl),
+      (
+        [],
+        ([], refl, refl),
+        ([], ([], refl, refl), (0 ∷ [], ([], refl, refl), ([], ([], refl, refl), ([], ([], refl, refl), refl)))),
+      ),
+    ),
+  ),
   (
     refl,
     (
@@ -168,7 +302,41 @@ pub no_slot_written-runs : Allows bad_first full no_slot_written
 no_slot_written-runs = by_steps bad_first full no_slot_written refl ((
   Noted (Put 0 (slot 2)) ∷ Noted (Unmapped 0) ∷ Noted (Started (slot 2)) ∷ Noted (Failed (slot 2)) ∷ [],
   [],
-  record { answer = (Stopped 0x7fffffffd (Starved (record { pinned = 0; noslot = 0; fault = 1 })), inr (Put 0 (slot 2) ∷ Unmapped 0 ∷ Started (slot 2) ∷ Failed (slot 2) ∷ [], Starved (record { pinned = 0; noslot = 0; fault = 1 }), (refl, record { coming = []; sought = Put 0 (slot 2) ∷ Unmapped 0 ∷ Started (slot 2) ∷ Failed (slot 2) ∷ []; whole = refl; before = inl refl; finds = record { wants = refl; seeks = ([], Put 0 (slot 2) ∷ Unmapped 0 ∷ Started (slot 2) ∷ Failed (slot 2) ∷ [], refl, refl, (slot 2, true, refl, ([], refl, refl))); none = refl; numbers = refl } }), refl, refl), refl, refl); notes = refl },
+  record {
+    answer = (
+      Stopped 0x7fffffffd (Starved (record { pinned = 0; noslot = 0; fault = 1 })),
+      inr (
+        Put 0 (slot 2) ∷ Unmapped 0 ∷ Started (slot 2) ∷ Failed (slot 2) ∷ [],
+        Starved (record { pinned = 0; noslot = 0; fault = 1 }),
+        (
+          refl,
+          record {
+            coming = [];
+            sought = Put 0 (slot 2) ∷ Unmapped 0 ∷ Started (slot 2) ∷ Failed (slot 2) ∷ [];
+            whole = refl;
+            before = inl refl;
+            finds = record {
+              wants = refl;
+              seeks = (
+                [],
+                Put 0 (slot 2) ∷ Unmapped 0 ∷ Started (slot 2) ∷ Failed (slot 2) ∷ [],
+                refl,
+                refl,
+                (slot 2, true, refl, ([], refl, refl)),
+              );
+              none = refl;
+              numbers = refl;
+            };
+          },
+        ),
+        refl,
+        refl,
+      ),
+      refl,
+      refl,
+    );
+    notes = refl;
+  },
   ([], ([], refl, refl), ([], ([], refl, refl), ([], ([], refl, refl), ([], ([], refl, refl), refl)))),
   (refl, tt),
 ))
@@ -177,7 +345,43 @@ pub completes-runs : Allows (with_swap 2 8 7) two_in_flight completes
 completes-runs = by_steps (with_swap 2 8 7) two_in_flight completes refl ((
   Noted (Written (slot 1)) ∷ Noted (Written (slot 2)) ∷ Noted (Dropped (slot 2)) ∷ Noted (New 2 0x7fffffffe000 1) ∷ Used true (2, 0x7fffffffe) ∷ [],
   [],
-  record { answer = (Whole, inl (Written (slot 1) ∷ Written (slot 2) ∷ Dropped (slot 2) ∷ New 2 0x7fffffffe000 1 ∷ [], [], (refl, record { coming = []; making = Written (slot 1) ∷ Written (slot 2) ∷ Dropped (slot 2) ∷ New 2 0x7fffffffe000 1 ∷ []; whole = refl; comes_in = refl; made = record { sought = Written (slot 1) ∷ Written (slot 2) ∷ Dropped (slot 2) ∷ []; frame = 1; seeks = (Written (slot 1) ∷ Written (slot 2) ∷ [], Dropped (slot 2) ∷ [], refl, (false, Written (slot 2) ∷ [], refl, (false, [], refl, refl)), (slot 2, false, refl, refl)); in_range = omega arith; free = refl; whole = refl } }), refl, (refl, refl)), refl, refl); notes = refl },
+  record {
+    answer = (
+      Whole,
+      inl (
+        Written (slot 1) ∷ Written (slot 2) ∷ Dropped (slot 2) ∷ New 2 0x7fffffffe000 1 ∷ [],
+        [],
+        (
+          refl,
+          record {
+            coming = [];
+            making = Written (slot 1) ∷ Written (slot 2) ∷ Dropped (slot 2) ∷ New 2 0x7fffffffe000 1 ∷ [];
+            whole = refl;
+            comes_in = refl;
+            made = record {
+              sought = Written (slot 1) ∷ Written (slot 2) ∷ Dropped (slot 2) ∷ [];
+              frame = 1;
+              seeks = (
+                Written (slot 1) ∷ Written (slot 2) ∷ [],
+                Dropped (slot 2) ∷ [],
+                refl,
+                (false, Written (slot 2) ∷ [], refl, (false, [], refl, refl)),
+                (slot 2, false, refl, refl),
+              );
+              in_range = omega arith;
+              free = refl;
+              whole = refl;
+            };
+          },
+        ),
+        refl,
+        (refl, refl),
+      ),
+      refl,
+      refl,
+    );
+    notes = refl;
+  },
   ([], ([], refl, refl), ([], ([], refl, refl), (1 ∷ [], ([], refl, refl), ([], ([], refl, refl), ([], ([], refl, refl), refl))))),
   tt,
 ))
@@ -186,7 +390,43 @@ pub second_fails-runs : Allows (with_swap 2 8 7) two_in_flight second_fails
 second_fails-runs = by_steps (with_swap 2 8 7) two_in_flight second_fails refl ((
   Noted (Written (slot 1)) ∷ Noted (Failed (slot 2)) ∷ Noted (Dropped (slot 1)) ∷ Noted (New 2 0x7fffffffe000 0) ∷ Used true (2, 0x7fffffffe) ∷ [],
   [],
-  record { answer = (Whole, inl (Written (slot 1) ∷ Failed (slot 2) ∷ Dropped (slot 1) ∷ New 2 0x7fffffffe000 0 ∷ [], [], (refl, record { coming = []; making = Written (slot 1) ∷ Failed (slot 2) ∷ Dropped (slot 1) ∷ New 2 0x7fffffffe000 0 ∷ []; whole = refl; comes_in = refl; made = record { sought = Written (slot 1) ∷ Failed (slot 2) ∷ Dropped (slot 1) ∷ []; frame = 0; seeks = (Written (slot 1) ∷ Failed (slot 2) ∷ [], Dropped (slot 1) ∷ [], refl, (false, Failed (slot 2) ∷ [], refl, (true, [], refl, refl)), (slot 1, false, refl, refl)); in_range = omega arith; free = refl; whole = refl } }), refl, (refl, refl)), refl, refl); notes = refl },
+  record {
+    answer = (
+      Whole,
+      inl (
+        Written (slot 1) ∷ Failed (slot 2) ∷ Dropped (slot 1) ∷ New 2 0x7fffffffe000 0 ∷ [],
+        [],
+        (
+          refl,
+          record {
+            coming = [];
+            making = Written (slot 1) ∷ Failed (slot 2) ∷ Dropped (slot 1) ∷ New 2 0x7fffffffe000 0 ∷ [];
+            whole = refl;
+            comes_in = refl;
+            made = record {
+              sought = Written (slot 1) ∷ Failed (slot 2) ∷ Dropped (slot 1) ∷ [];
+              frame = 0;
+              seeks = (
+                Written (slot 1) ∷ Failed (slot 2) ∷ [],
+                Dropped (slot 1) ∷ [],
+                refl,
+                (false, Failed (slot 2) ∷ [], refl, (true, [], refl, refl)),
+                (slot 1, false, refl, refl),
+              );
+              in_range = omega arith;
+              free = refl;
+              whole = refl;
+            };
+          },
+        ),
+        refl,
+        (refl, refl),
+      ),
+      refl,
+      refl,
+    );
+    notes = refl;
+  },
   ([], ([], refl, refl), ([], ([], refl, refl), (0 ∷ [], ([], refl, refl), ([], ([], refl, refl), ([], ([], refl, refl), refl))))),
   tt,
 ))
@@ -195,12 +435,44 @@ pub named_by_other-runs : Allows (with_swap 4 2 1) (cached_for_two 1 (InSlot (sl
 named_by_other-runs = by_steps (with_swap 4 2 1) (cached_for_two 1 (InSlot (slot 1))) named_by_other refl ((
   Noted (Mapped 1 0x7fffffffe000 0) ∷ Used false (1, 0x7fffffffe) ∷ [],
   1 ∷ 2 ∷ 3 ∷ [],
-  record { answer = (Whole, 7 ∷ [], inl (Mapped 1 0x7fffffffe000 0 ∷ [], [], (refl, record { coming = Mapped 1 0x7fffffffe000 0 ∷ []; making = []; whole = refl; comes_in = refl; made = refl }), refl, (refl, refl)), (refl, (refl, tt), (omega arith, tt)), refl, refl); notes = refl },
+  record {
+    answer = (
+      Whole,
+      7 ∷ [],
+      inl (
+        Mapped 1 0x7fffffffe000 0 ∷ [],
+        [],
+        (refl, record { coming = Mapped 1 0x7fffffffe000 0 ∷ []; making = []; whole = refl; comes_in = refl; made = refl }),
+        refl,
+        (refl, refl),
+      ),
+      (refl, (refl, tt), (omega arith, tt)),
+      refl,
+      refl,
+    );
+    notes = refl;
+  },
   (1 ∷ 2 ∷ 3 ∷ [], (1 ∷ 2 ∷ 3 ∷ [], refl, refl), (1 ∷ 2 ∷ 3 ∷ [], (1 ∷ 2 ∷ 3 ∷ [], refl, refl), refl)),
   (
     Noted (Mapped 2 0x7fffffffe000 0) ∷ Noted (Dropped (slot 1)) ∷ Used false (2, 0x7fffffffe) ∷ [],
     1 ∷ 2 ∷ 3 ∷ [],
-    record { answer = (Whole, 7 ∷ [], inl (Mapped 2 0x7fffffffe000 0 ∷ Dropped (slot 1) ∷ [], [], (refl, record { coming = Mapped 2 0x7fffffffe000 0 ∷ []; making = []; whole = refl; comes_in = refl; made = refl }), refl, (refl, refl)), (refl, (refl, tt), (omega arith, tt)), refl, refl); notes = refl },
+    record {
+      answer = (
+        Whole,
+        7 ∷ [],
+        inl (
+          Mapped 2 0x7fffffffe000 0 ∷ Dropped (slot 1) ∷ [],
+          [],
+          (refl, record { coming = Mapped 2 0x7fffffffe000 0 ∷ []; making = []; whole = refl; comes_in = refl; made = refl }),
+          refl,
+          (refl, refl),
+        ),
+        (refl, (refl, tt), (omega arith, tt)),
+        refl,
+        refl,
+      );
+      notes = refl;
+    },
     (1 ∷ 2 ∷ 3 ∷ [], (1 ∷ 2 ∷ 3 ∷ [], refl, refl), (1 ∷ 2 ∷ 3 ∷ [], (1 ∷ 2 ∷ 3 ∷ [], refl, refl), (1 ∷ 2 ∷ 3 ∷ [], (1 ∷ 2 ∷ 3 ∷ [], refl, refl), refl))),
     tt,
   ),
@@ -275,7 +547,15 @@ protected_two-runs = by_steps (machine 4) two_written protected_two refl ((
         (
           Used true (1, 0x7fffffffd) ∷ [],
           2 ∷ 3 ∷ [],
-          record { answer = (Whole, inl ([], [], (refl, record { coming = []; making = []; whole = refl; comes_in = refl; made = refl }), refl, (refl, refl)), refl, refl); notes = refl },
+          record {
+            answer = (
+              Whole,
+              inl ([], [], (refl, record { coming = []; making = []; whole = refl; comes_in = refl; made = refl }), refl, (refl, refl)),
+              refl,
+              refl,
+            );
+            notes = refl;
+          },
           (2 ∷ 3 ∷ [], (2 ∷ 3 ∷ [], refl, refl), refl),
           (
             [],
@@ -294,7 +574,17 @@ pub hint_over-runs : Allows (machine 4) state_at_rest hint_over
 hint_over-runs = by_steps (machine 4) state_at_rest hint_over refl ((
   [],
   0 ∷ 1 ∷ 2 ∷ 3 ∷ [],
-  record { answer = (Some 0x7fffffffd, gap_under _ 0x7fffffffe 1 refl (omega arith) (omega arith) (omega arith) (λ q h i. below q (q == 0x7fffffffe) refl i) (λ q h i. there q (q == 0x7fffffffe) refl h i), refl, refl, refl); notes = refl },
+  record {
+    answer = (
+      Some 0x7fffffffd,
+      gap_under _ 0x7fffffffe 1 refl (omega arith) (omega arith) (omega arith) (λ q h i. below q (q == 0x7fffffffe) refl i)
+          (λ q h i. there q (q == 0x7fffffffe) refl h i),
+      refl,
+      refl,
+      refl,
+    );
+    notes = refl;
+  },
   refl,
   tt,
 ))

@@ -16,7 +16,7 @@ use Rattle.av_plain.specs.Step.{IsLegal}
 use Rattle.av_plain.specs.Transcript.{Exchange, rmap_of}
 use Rattle.av_plain.proofs.AreasLeft.{AreBelow, left-all, left-none, left-one, prepare_notes}
 use Rattle.av_plain.proofs.Transcript.{is_fork}
-use Rattle.av_laws.specs.Areas.{LeavesTwo, NeverHasThere, NeverMakes, NeverNumbers, Prepares, alike, alone, and_at, area, area_of, bare_four, behind_child, behind_root, between_roots, child, first_gone, first_read, first_write, kin, made_alike, of_second, one_root, with_own, root_four, root, second_writes, state_of, two_roots, two_with_areas, unlike}
+use Rattle.av_laws.specs.Areas.{LeavesTwo, NeverHasThere, NeverMakes, NeverNumbers, Prepares, alike, alone, and_at, area, area_of, bare_four, behind_child, behind_root, between_roots, child, first_gone, first_read, first_write, family, made_alike, of_second, one_root, with_own, root_four, root, second_writes, state_of, two_roots, two_with_areas, unlike}
 use Rattle.av_laws.specs.Examples.{machine, read_write}
 use Rattle.av_laws.proofs.AnonExamples.{first_page, length_of, now-is, parent_of, root_of}
 use Rattle.av_laws.proofs.FirstExamples.{all_linked, linked-all, one-step, state_after}
@@ -36,12 +36,12 @@ one-below = below-at 0 1 (alone 0) no_anons (omega arith) (omega arith) (λ v ab
 pub two-below : AreBelow two_roots
 two-below = below-at 1 2 (alone 1) one_root (omega arith) (omega arith) one-below
 
-pub kin-below : AreBelow kin
-kin-below = below-at 0 2 root (and_at 1 child 2 no_anons) (omega arith) (omega arith)
+pub family-below : AreBelow family
+family-below = below-at 0 2 root (and_at 1 child 2 no_anons) (omega arith) (omega arith)
     (below-at 1 2 child no_anons (omega arith) (omega arith) (λ v above. refl))
 
-third-below : AreBelow (and_at 2 (alone 2) 3 kin)
-third-below = below-at 2 3 (alone 2) kin (omega arith) (omega arith) kin-below
+third-below : AreBelow (and_at 2 (alone 2) 3 family)
+third-below = below-at 2 3 (alone 2) family (omega arith) (omega arith) family-below
 
 second-below : AreBelow (and_at 1 (alone 1) 2 first_gone)
 second-below = below-at 1 2 (alone 1) first_gone (omega arith) (omega arith) (λ v above. refl)
@@ -146,15 +146,15 @@ after_first-prepares = writes (between_roots unlike) (between_roots (with_own 1 
     two_roots refl after_first-left
     (refl, (refl, (refl, (refl, (refl, (refl, (refl, (refl, tt))))))))
 
-not_from_child-left : AreLeft (anons_then first_write (behind_child unlike) kin) (on_then first_write (behind_child unlike) kin)
-    (and_at 2 (alone 2) 3 kin)
-not_from_child-left = stays (and_at 2 (alone 2) 3 kin) (on_then first_write (behind_child unlike) kin)
+not_from_child-left : AreLeft (anons_then first_write (behind_child unlike) family) (on_then first_write (behind_child unlike) family)
+    (and_at 2 (alone 2) 3 family)
+not_from_child-left = stays (and_at 2 (alone 2) 3 family) (on_then first_write (behind_child unlike) family)
     third-below refl
 
-pub not_from_child-prepares : Prepares first_write (behind_child unlike) kin
-    (behind_child (with_own 2 unlike)) (and_at 2 (alone 2) 3 kin)
-not_from_child-prepares = writes (behind_child unlike) (behind_child (with_own 2 unlike)) kin
-    (and_at 2 (alone 2) 3 kin) refl not_from_child-left
+pub not_from_child-prepares : Prepares first_write (behind_child unlike) family
+    (behind_child (with_own 2 unlike)) (and_at 2 (alone 2) 3 family)
+not_from_child-prepares = writes (behind_child unlike) (behind_child (with_own 2 unlike)) family
+    (and_at 2 (alone 2) 3 family) refl not_from_child-left
     (refl, (refl, (refl, (refl, (refl, (refl, (refl, (refl, tt))))))))
 
 other_offset-left : AreLeft (anons_then first_write (behind_root (record unlike { pgoff = 0x20 })) one_root)
@@ -305,7 +305,8 @@ never-makes e other areas anons page wrong differ new step at =
     differ (sym (ap (λ (on : Areas). on 1 page) (now-is (machine 4) (state_of areas anons) e.command other e.reply new step).areas) ∙ at)
 
 -- and so do the anon_vmas
-never-numbers : (e : Exchange) → is_fork e.command ≡ false → (areas : List Area) (anons left wrong : Anons) → AreLeft (anons_then e areas anons) (on_then e areas anons) left
+never-numbers : (e : Exchange) → is_fork e.command ≡ false → (areas : List Area) (anons left wrong : Anons) →
+    AreLeft (anons_then e areas anons) (on_then e areas anons) left
     → (left ≡ wrong → ⊥) → NeverNumbers e areas anons wrong
 never-numbers e other areas anons left wrong is differ new step same =
     let next = now-is (machine 4) (state_of areas anons) e.command other e.reply new step in
@@ -337,8 +338,8 @@ pub taken_from_before-not : NeverMakes first_write (between_roots unlike) two_ro
 taken_from_before-not = never-makes first_write refl (between_roots unlike) two_roots 0x12 (with_own 0 unlike)
     (λ e. let d : ◌≡◌ {A = ℕ} 1 0 = ap own_on e in omega (arith, d))
 
-pub taken_from_child-not : NeverMakes first_write (behind_child unlike) kin 0x12 (with_own 1 unlike)
-taken_from_child-not = never-makes first_write refl (behind_child unlike) kin 0x12 (with_own 1 unlike)
+pub taken_from_child-not : NeverMakes first_write (behind_child unlike) family 0x12 (with_own 1 unlike)
+taken_from_child-not = never-makes first_write refl (behind_child unlike) family 0x12 (with_own 1 unlike)
     (λ e. let d : ◌≡◌ {A = ℕ} 2 1 = ap own_on e in omega (arith, d))
 
 pub number_used_again-not : NeverMakes first_write bare_four first_gone 0x12 (area_of 0 0x10 0x14)

@@ -26,7 +26,8 @@ differ : read_write ≡ read_only → ⊥
 differ e = false≢true (sym (ap (λ (p : Prot). p.write) e))
 
 -- a write changes no protection
-written-prot : (q : Process) (a : ℕ) (bytes : List ℕ) (page : ℕ) → option_map (λ (p : Page). p.prot) (q page) ≡ option_map (λ (p : Page). p.prot) (with_bytes q a bytes page)
+written-prot : (q : Process) (a : ℕ) (bytes : List ℕ) (page : ℕ) →
+    option_map (λ (p : Page). p.prot) (q page) ≡ option_map (λ (p : Page). p.prot) (with_bytes q a bytes page)
 written-prot q a bytes page = by (q page)
   where
     by : (o : Option Page) → option_map (λ (p : Page). p.prot) o ≡ option_map (λ (p : Page). p.prot) (option_map (λ (p : Page). record p {
@@ -46,7 +47,16 @@ protected_part-runs = by_steps (machine 4) (at_first (machine 4)) protected_part
   (
     [],
     0 ∷ 1 ∷ 2 ∷ 3 ∷ [],
-    record { answer = (Some 0x7fffffffd, (record { lowest = omega arith; highest = omega arith; free = λ q a b. refl }, (λ b h. omega (arith, h.highest))), refl, refl, refl); notes = refl },
+    record {
+      answer = (
+        Some 0x7fffffffd,
+        (record { lowest = omega arith; highest = omega arith; free = λ q a b. refl }, (λ b h. omega (arith, h.highest))),
+        refl,
+        refl,
+        refl,
+      );
+      notes = refl;
+    },
     refl,
     (
       [],
@@ -56,17 +66,90 @@ protected_part-runs = by_steps (machine 4) (at_first (machine 4)) protected_part
       (
         Noted (New 1 0x7fffffffd000 0) ∷ Used true (1, 0x7fffffffd) ∷ [],
         1 ∷ 2 ∷ 3 ∷ [],
-        record { answer = (Stopped 0x7fffffffe Denied, inl (New 1 0x7fffffffd000 0 ∷ [], [], (refl, record { coming = []; making = New 1 0x7fffffffd000 0 ∷ []; whole = refl; comes_in = refl; made = record { sought = []; frame = 0; seeks = refl; in_range = omega arith; free = refl; whole = refl } }), refl, inr ([], Denied, (refl, refl), refl, refl)), refl, refl); notes = refl },
+        record {
+          answer = (
+            Stopped 0x7fffffffe Denied,
+            inl (
+              New 1 0x7fffffffd000 0 ∷ [],
+              [],
+              (
+                refl,
+                record {
+                  coming = [];
+                  making = New 1 0x7fffffffd000 0 ∷ [];
+                  whole = refl;
+                  comes_in = refl;
+                  made = record { sought = []; frame = 0; seeks = refl; in_range = omega arith; free = refl; whole = refl };
+                },
+              ),
+              refl,
+              inr ([], Denied, (refl, refl), refl, refl),
+            ),
+            refl,
+            refl,
+          );
+          notes = refl;
+        },
         (1 ∷ 2 ∷ 3 ∷ [], (1 ∷ 2 ∷ 3 ∷ [], refl, refl), (1 ∷ 2 ∷ 3 ∷ [], (1 ∷ 2 ∷ 3 ∷ [], refl, refl), refl)),
         (
           Used false (1, 0x7fffffffd) ∷ Noted (Zeroed 1 0x7fffffffe000) ∷ Used false (1, 0x7fffffffe) ∷ [],
           1 ∷ 2 ∷ 3 ∷ [],
-          record { answer = (Whole, 1 ∷ 2 ∷ 0 ∷ 0 ∷ [], inl ([], Noted (Zeroed 1 0x7fffffffe000) ∷ Used false (1, 0x7fffffffe) ∷ [], (refl, record { coming = []; making = []; whole = refl; comes_in = refl; made = refl }), refl, inl (Zeroed 1 0x7fffffffe000 ∷ [], [], (refl, record { coming = []; making = Zeroed 1 0x7fffffffe000 ∷ []; whole = refl; comes_in = refl; made = refl }), refl, (refl, refl))), (refl, (refl, (refl, (refl, (refl, tt)))), (omega arith, (omega arith, (omega arith, (omega arith, tt))))), refl, refl); notes = refl },
+          record {
+            answer = (
+              Whole,
+              1 ∷ 2 ∷ 0 ∷ 0 ∷ [],
+              inl (
+                [],
+                Noted (Zeroed 1 0x7fffffffe000) ∷ Used false (1, 0x7fffffffe) ∷ [],
+                (refl, record { coming = []; making = []; whole = refl; comes_in = refl; made = refl }),
+                refl,
+                inl (
+                  Zeroed 1 0x7fffffffe000 ∷ [],
+                  [],
+                  (
+                    refl,
+                    record {
+                      coming = [];
+                      making = Zeroed 1 0x7fffffffe000 ∷ [];
+                      whole = refl;
+                      comes_in = refl;
+                      made = refl;
+                    },
+                  ),
+                  refl,
+                  (refl, refl),
+                ),
+              ),
+              (refl, (refl, (refl, (refl, (refl, tt)))), (omega arith, (omega arith, (omega arith, (omega arith, tt))))),
+              refl,
+              refl,
+            );
+            notes = refl;
+          },
           (1 ∷ 2 ∷ 3 ∷ [], (1 ∷ 2 ∷ 3 ∷ [], refl, refl), (1 ∷ 2 ∷ 3 ∷ [], (1 ∷ 2 ∷ 3 ∷ [], refl, refl), (1 ∷ 2 ∷ 3 ∷ [], (1 ∷ 2 ∷ 3 ∷ [], refl, refl), refl))),
           (
             [],
             1 ∷ 2 ∷ 3 ∷ [],
-            record { answer = (refl, (record { from = 0x7fffffffd; to = 0x7fffffffe; prot = read_write } ∷ record { from = 0x7fffffffe; to = 0x7ffffffff; prot = read_only } ∷ [], refl, (omega arith, omega arith, (λ e p. differ p), omega arith), λ page. (λ i. cond (in_run 0x7fffffffd 1 page i) (Some read_write) (cond (in_run 0x7fffffffe 1 page i) (Some read_only) None)) ∙ parts (within 0x7fffffffd 1 page) (within 0x7fffffffe 1 page) (within 0x7fffffffd 2 page) (apart page) (whole page) ∙ written-prot (with_prot_on (with_pages no_pages 0x7fffffffd 2 (λ _. Some (zeros read_write))) 0x7fffffffe 1 read_only) 0x7fffffffdffe (1 ∷ 2 ∷ []) page), refl); notes = refl },
+            record {
+              answer = (
+                refl,
+                (
+                  record { from = 0x7fffffffd; to = 0x7fffffffe; prot = read_write } ∷ record {
+                    from = 0x7fffffffe;
+                    to = 0x7ffffffff;
+                    prot = read_only;
+                  } ∷ [],
+                  refl,
+                  (omega arith, omega arith, (λ e p. differ p), omega arith),
+                  λ page. (λ i. cond (in_run 0x7fffffffd 1 page i) (Some read_write) (cond (in_run 0x7fffffffe 1 page i) (Some read_only) None))
+                      ∙ parts (within 0x7fffffffd 1 page) (within 0x7fffffffe 1 page) (within 0x7fffffffd 2 page) (apart page) (whole page)
+                      ∙ written-prot (with_prot_on (with_pages no_pages 0x7fffffffd 2 (λ _. Some (zeros read_write))) 0x7fffffffe 1 read_only) 0x7fffffffdffe
+                      (1 ∷ 2 ∷ []) page,
+                ),
+                refl,
+              );
+              notes = refl;
+            },
             refl,
             tt,
           ),
@@ -83,7 +166,8 @@ protected_part-runs = by_steps (machine 4) (at_first (machine 4)) protected_part
     whole page = grind (arith, nat_tests)
 
     parts : (a b c : Bool) → (a && b) ≡ false → c ≡ (a || b) → cond a (Some read_write) (cond b (Some read_only) None)
-        ≡ option_map (λ (p : Page). p.prot) (cond b (option_map (with_prot read_only) (cond c (Some (zeros read_write)) None)) (cond c (Some (zeros read_write)) None))
+        ≡ option_map (λ (p : Page). p.prot) (cond b (option_map (with_prot read_only) (cond c (Some (zeros read_write)) None))
+        (cond c (Some (zeros read_write)) None))
     parts true true c e f = cc
     parts true false true e f = refl
     parts true false false e f = cc
@@ -101,7 +185,16 @@ past_a_hole-runs = by_steps (machine 4) (at_first (machine 4)) (past_a_hole Done
   (
     [],
     0 ∷ 1 ∷ 2 ∷ 3 ∷ [],
-    record { answer = (Some 0x7fffffffc, (record { lowest = omega arith; highest = omega arith; free = λ q a b. refl }, (λ b h. omega (arith, h.highest))), refl, refl, refl); notes = refl },
+    record {
+      answer = (
+        Some 0x7fffffffc,
+        (record { lowest = omega arith; highest = omega arith; free = λ q a b. refl }, (λ b h. omega (arith, h.highest))),
+        refl,
+        refl,
+        refl,
+      );
+      notes = refl;
+    },
     refl,
     (
       [],
@@ -116,12 +209,53 @@ past_a_hole-runs = by_steps (machine 4) (at_first (machine 4)) (past_a_hole Done
         (
           [],
           0 ∷ 1 ∷ 2 ∷ 3 ∷ [],
-          record { answer = (refl, (record { from = 0x7fffffffc; to = 0x7fffffffd; prot = read_only } ∷ record { from = 0x7fffffffe; to = 0x7ffffffff; prot = read_write } ∷ [], refl, (omega arith, omega arith, (λ e p. differ (sym p)), omega arith), λ page. (λ i. cond (in_run 0x7fffffffc 1 page i) (Some read_only) (cond (in_run 0x7fffffffe 1 page i) (Some read_write) None)) ∙ parts (within 0x7fffffffc 1 page) (within 0x7fffffffd 1 page) (within 0x7fffffffe 1 page) (within 0x7fffffffc 3 page) (apart page) (whole page)), refl); notes = refl },
+          record {
+            answer = (
+              refl,
+              (
+                record { from = 0x7fffffffc; to = 0x7fffffffd; prot = read_only } ∷ record {
+                  from = 0x7fffffffe;
+                  to = 0x7ffffffff;
+                  prot = read_write;
+                } ∷ [],
+                refl,
+                (omega arith, omega arith, (λ e p. differ (sym p)), omega arith),
+                λ page. (λ i. cond (in_run 0x7fffffffc 1 page i) (Some read_only) (cond (in_run 0x7fffffffe 1 page i) (Some read_write) None))
+                    ∙ parts (within 0x7fffffffc 1 page) (within 0x7fffffffd 1 page) (within 0x7fffffffe 1 page)
+                    (within 0x7fffffffc 3 page) (apart page) (whole page),
+              ),
+              refl,
+            );
+            notes = refl;
+          },
           refl,
           (
             Noted (New 1 0x7fffffffe000 0) ∷ Used true (1, 0x7fffffffe) ∷ [],
             1 ∷ 2 ∷ 3 ∷ [],
-            record { answer = (Whole, inl (New 1 0x7fffffffe000 0 ∷ [], [], (refl, record { coming = []; making = New 1 0x7fffffffe000 0 ∷ []; whole = refl; comes_in = refl; made = record { sought = []; frame = 0; seeks = refl; in_range = omega arith; free = refl; whole = refl } }), refl, (refl, refl)), refl, refl); notes = refl },
+            record {
+              answer = (
+                Whole,
+                inl (
+                  New 1 0x7fffffffe000 0 ∷ [],
+                  [],
+                  (
+                    refl,
+                    record {
+                      coming = [];
+                      making = New 1 0x7fffffffe000 0 ∷ [];
+                      whole = refl;
+                      comes_in = refl;
+                      made = record { sought = []; frame = 0; seeks = refl; in_range = omega arith; free = refl; whole = refl };
+                    },
+                  ),
+                  refl,
+                  (refl, refl),
+                ),
+                refl,
+                refl,
+              );
+              notes = refl;
+            },
             (1 ∷ 2 ∷ 3 ∷ [], (1 ∷ 2 ∷ 3 ∷ [], refl, refl), (1 ∷ 2 ∷ 3 ∷ [], (1 ∷ 2 ∷ 3 ∷ [], refl, refl), refl)),
             (
               [],
@@ -162,7 +296,8 @@ past_a_hole-runs = by_steps (machine 4) (at_first (machine 4)) (past_a_hole Done
     whole page = grind (arith, nat_tests)
 
     parts : (a b c d : Bool) → (b && (a || c)) ≡ false → d ≡ (a || b || c) → cond a (Some read_only) (cond c (Some read_write) None)
-        ≡ option_map (λ (p : Page). p.prot) (cond a (option_map (with_prot read_only) (cond b None (cond d (Some (zeros read_write)) None))) (cond b None (cond d (Some (zeros read_write)) None)))
+        ≡ option_map (λ (p : Page). p.prot) (cond a (option_map (with_prot read_only) (cond b None (cond d (Some (zeros read_write)) None)))
+        (cond b None (cond d (Some (zeros read_write)) None)))
     parts true true c d e f = cc
     parts true false c true e f = refl
     parts true false c false e f = cc
@@ -182,7 +317,16 @@ places-runs = by_steps (machine 4) (at_first (machine 4)) places refl ((
   (
     [],
     0 ∷ 1 ∷ 2 ∷ 3 ∷ [],
-    record { answer = (Some 0x7fffffffd, (record { lowest = omega arith; highest = omega arith; free = λ q a b. refl }, (λ b h. omega (arith, h.highest))), refl, refl, refl); notes = refl },
+    record {
+      answer = (
+        Some 0x7fffffffd,
+        (record { lowest = omega arith; highest = omega arith; free = λ q a b. refl }, (λ b h. omega (arith, h.highest))),
+        refl,
+        refl,
+        refl,
+      );
+      notes = refl;
+    },
     refl,
     (
       [],
@@ -192,12 +336,32 @@ places-runs = by_steps (machine 4) (at_first (machine 4)) places refl ((
       (
         [],
         0 ∷ 1 ∷ 2 ∷ 3 ∷ [],
-        record { answer = (Some 0x7fffffffb, gap_under _ 0x7fffffffd 2 refl (omega arith) (omega arith) (omega arith) (λ q h i. grind (arith, nat_tests, h, i)) (λ q h i. grind (arith, nat_tests, h, i)), refl, refl, refl); notes = refl },
+        record {
+          answer = (
+            Some 0x7fffffffb,
+            gap_under _ 0x7fffffffd 2 refl (omega arith) (omega arith) (omega arith) (λ q h i. grind (arith, nat_tests, h, i))
+                (λ q h i. grind (arith, nat_tests, h, i)),
+            refl,
+            refl,
+            refl,
+          );
+          notes = refl;
+        },
         refl,
         (
           [],
           0 ∷ 1 ∷ 2 ∷ 3 ∷ [],
-          record { answer = (Some 0x7fffffffa, gap_under _ 0x7fffffffb 1 refl (omega arith) (omega arith) (omega arith) (λ q h i. grind (arith, nat_tests, h, i)) (λ q h i. grind (arith, nat_tests, h, i)), refl, refl, refl); notes = refl },
+          record {
+            answer = (
+              Some 0x7fffffffa,
+              gap_under _ 0x7fffffffb 1 refl (omega arith) (omega arith) (omega arith)
+                  (λ q h i. grind (arith, nat_tests, h, i)) (λ q h i. grind (arith, nat_tests, h, i)),
+              refl,
+              refl,
+              refl,
+            );
+            notes = refl;
+          },
           refl,
           (
             [],
@@ -227,7 +391,23 @@ places-runs = by_steps (machine 4) (at_first (machine 4)) places refl ((
                     (
                       Noted (Zeroed 1 0x31000) ∷ Used false (1, 0x31) ∷ [],
                       0 ∷ 1 ∷ 2 ∷ 3 ∷ [],
-                      record { answer = (Whole, 0 ∷ [], inl (Zeroed 1 0x31000 ∷ [], [], (refl, record { coming = []; making = Zeroed 1 0x31000 ∷ []; whole = refl; comes_in = refl; made = refl }), refl, (refl, refl)), (refl, (refl, tt), (omega arith, tt)), refl, refl); notes = refl },
+                      record {
+                        answer = (
+                          Whole,
+                          0 ∷ [],
+                          inl (
+                            Zeroed 1 0x31000 ∷ [],
+                            [],
+                            (refl, record { coming = []; making = Zeroed 1 0x31000 ∷ []; whole = refl; comes_in = refl; made = refl }),
+                            refl,
+                            (refl, refl),
+                          ),
+                          (refl, (refl, tt), (omega arith, tt)),
+                          refl,
+                          refl,
+                        );
+                        notes = refl;
+                      },
                       (0 ∷ 1 ∷ 2 ∷ 3 ∷ [], (0 ∷ 1 ∷ 2 ∷ 3 ∷ [], refl, refl), (0 ∷ 1 ∷ 2 ∷ 3 ∷ [], (0 ∷ 1 ∷ 2 ∷ 3 ∷ [], refl, refl), refl)),
                       (
                         Zapped (1, 0x31) ∷ [],
@@ -359,65 +539,187 @@ under_fixed page = by (within 0x20 2 page) (within 0x20 1 page) (within 0x7fffff
     by false false false is is' = tt
 
 pub fixed_over-runs : Runs 4 (fixed_over 3 0 (Zeroed 1 0x20000 ∷ []))
-fixed_over-runs = by_steps (machine 4) (at_first (machine 4)) (fixed_over 3 0 (Zeroed 1 0x20000 ∷ [])) refl (topmost read_write (drop 2 (fixed_over 3 0 (Zeroed 1 0x20000 ∷ []))) (
-  Noted (New 1 0x7fffffffe000 0) ∷ Used true (1, 0x7fffffffe) ∷ [],
-  1 ∷ 2 ∷ 3 ∷ [],
-  record { answer = (Whole, inl (New 1 0x7fffffffe000 0 ∷ [], [], (refl, record { coming = []; making = New 1 0x7fffffffe000 0 ∷ []; whole = refl; comes_in = refl; made = record { sought = []; frame = 0; seeks = refl; in_range = omega arith; free = refl; whole = refl } }), refl, (refl, refl)), refl, refl); notes = refl },
-  (1 ∷ 2 ∷ 3 ∷ [], (1 ∷ 2 ∷ 3 ∷ [], refl, refl), (1 ∷ 2 ∷ 3 ∷ [], (1 ∷ 2 ∷ 3 ∷ [], refl, refl), refl)),
-  (
-    [],
-    1 ∷ 2 ∷ 3 ∷ [],
-    record { answer = (Some 0x20, refl, refl, refl, refl); notes = refl },
-    refl,
-    (
-      Noted (New 1 0x20000 1) ∷ Used true (1, 0x20) ∷ [],
-      2 ∷ 3 ∷ [],
-      record { answer = (Whole, inl (New 1 0x20000 1 ∷ [], [], (refl, record { coming = []; making = New 1 0x20000 1 ∷ []; whole = refl; comes_in = refl; made = record { sought = []; frame = 1; seeks = refl; in_range = omega arith; free = refl; whole = refl } }), refl, (refl, refl)), refl, refl); notes = refl },
-      (2 ∷ 3 ∷ [], (2 ∷ 3 ∷ [], refl, refl), (2 ∷ 3 ∷ [], (2 ∷ 3 ∷ [], refl, refl), refl)),
+fixed_over-runs = by_steps (machine 4) (at_first (machine 4)) (fixed_over 3 0 (Zeroed 1 0x20000 ∷ [])) refl
+    (topmost read_write (drop 2 (fixed_over 3 0 (Zeroed 1 0x20000 ∷ []))) (
+      Noted (New 1 0x7fffffffe000 0) ∷ Used true (1, 0x7fffffffe) ∷ [],
+      1 ∷ 2 ∷ 3 ∷ [],
+      record {
+        answer = (
+          Whole,
+          inl (
+            New 1 0x7fffffffe000 0 ∷ [],
+            [],
+            (
+              refl,
+              record {
+                coming = [];
+                making = New 1 0x7fffffffe000 0 ∷ [];
+                whole = refl;
+                comes_in = refl;
+                made = record { sought = []; frame = 0; seeks = refl; in_range = omega arith; free = refl; whole = refl };
+              },
+            ),
+            refl,
+            (refl, refl),
+          ),
+          refl,
+          refl,
+        );
+        notes =
+            refl;
+      },
+      (1 ∷ 2 ∷ 3 ∷ [], (1 ∷ 2 ∷ 3 ∷ [], refl, refl), (1 ∷ 2 ∷ 3 ∷ [], (1 ∷ 2 ∷ 3 ∷ [], refl, refl), refl)),
       (
         [],
-        2 ∷ 3 ∷ [],
-        record { answer = (refl, refl, refl); notes = refl },
+        1 ∷ 2 ∷ 3 ∷ [],
+        record { answer = (Some 0x20, refl, refl, refl, refl); notes = refl },
         refl,
         (
-          Zapped (1, 0x20) ∷ [],
-          1 ∷ 2 ∷ 3 ∷ [],
-          record { answer = (Some 0x20, refl, refl, refl, refl); notes = refl },
-          (1 ∷ 2 ∷ 3 ∷ [], (2 ∷ 3 ∷ [], refl, refl), refl),
-          (
-            first_left,
-            left-root _ _ 0 refl (1, 0x7fffffffe, refl) (of_processes OfFirst 1 _ _ under_fixed (λ q page is. rw is tt)),
-            (
-              [],
-              1 ∷ 2 ∷ 3 ∷ [],
-              record { answer = (refl, refl, refl); notes = refl },
-              refl,
-              (
-                Noted (Zeroed 1 0x20000) ∷ Used false (1, 0x20) ∷ [],
-                1 ∷ 2 ∷ 3 ∷ [],
-                record { answer = (Whole, 0 ∷ [], inl (Zeroed 1 0x20000 ∷ [], [], (refl, record { coming = []; making = Zeroed 1 0x20000 ∷ []; whole = refl; comes_in = refl; made = refl }), refl, (refl, refl)), (refl, (refl, tt), (omega arith, tt)), refl, refl); notes = refl },
-                (1 ∷ 2 ∷ 3 ∷ [], (1 ∷ 2 ∷ 3 ∷ [], refl, refl), (1 ∷ 2 ∷ 3 ∷ [], (1 ∷ 2 ∷ 3 ∷ [], refl, refl), refl)),
+          Noted (New 1 0x20000 1) ∷ Used true (1, 0x20) ∷ [],
+          2 ∷ 3 ∷ [],
+          record {
+            answer = (
+              Whole,
+              inl (
+                New 1 0x20000 1 ∷ [],
+                [],
                 (
-                  Noted (New 1 0x21000 1) ∷ Used true (1, 0x21) ∷ [],
-                  2 ∷ 3 ∷ [],
-                  record { answer = (Whole, inl (New 1 0x21000 1 ∷ [], [], (refl, record { coming = []; making = New 1 0x21000 1 ∷ []; whole = refl; comes_in = refl; made = record { sought = []; frame = 1; seeks = refl; in_range = omega arith; free = refl; whole = refl } }), refl, (refl, refl)), refl, refl); notes = refl },
-                  (2 ∷ 3 ∷ [], (2 ∷ 3 ∷ [], refl, refl), (2 ∷ 3 ∷ [], (2 ∷ 3 ∷ [], refl, refl), refl)),
+                  refl,
+                  record {
+                    coming = [];
+                    making = New 1 0x20000 1 ∷ [];
+                    whole = refl;
+                    comes_in = refl;
+                    made = record { sought = []; frame = 1; seeks = refl; in_range = omega arith; free = refl; whole = refl };
+                  },
+                ),
+                refl,
+                (refl, refl),
+              ),
+              refl,
+              refl,
+            );
+            notes =
+                refl;
+          },
+          (2 ∷ 3 ∷ [], (2 ∷ 3 ∷ [], refl, refl), (2 ∷ 3 ∷ [], (2 ∷ 3 ∷ [], refl, refl), refl)),
+          (
+            [],
+            2 ∷ 3 ∷ [],
+            record { answer = (refl, refl, refl); notes = refl },
+            refl,
+            (
+              Zapped (1, 0x20) ∷ [],
+              1 ∷ 2 ∷ 3 ∷ [],
+              record { answer = (Some 0x20, refl, refl, refl, refl); notes = refl },
+              (1 ∷ 2 ∷ 3 ∷ [], (2 ∷ 3 ∷ [], refl, refl), refl),
+              (
+                first_left,
+                left-root _ _ 0 refl (1, 0x7fffffffe, refl) (of_processes OfFirst 1 _ _ under_fixed (λ q page is. rw is tt)),
+                (
+                  [],
+                  1 ∷ 2 ∷ 3 ∷ [],
+                  record { answer = (refl, refl, refl); notes = refl },
+                  refl,
                   (
-                    Zapped (1, 0x20) ∷ [],
-                    2 ∷ 3 ∷ [],
-                    record { answer = (refl, refl, refl); notes = refl },
-                    (2 ∷ 3 ∷ [], (2 ∷ 3 ∷ [], refl, refl), refl),
+                    Noted (Zeroed 1 0x20000) ∷ Used false (1, 0x20) ∷ [],
+                    1 ∷ 2 ∷ 3 ∷ [],
+                    record {
+                      answer = (
+                        Whole,
+                        0 ∷ [],
+                        inl (
+                          Zeroed 1 0x20000 ∷ [],
+                          [],
+                          (refl, record { coming = []; making = Zeroed 1 0x20000 ∷ []; whole = refl; comes_in = refl; made = refl }),
+                          refl,
+                          (refl, refl),
+                        ),
+                        (refl, (refl, tt), (omega arith, tt)),
+                        refl,
+                        refl,
+                      );
+                      notes = refl;
+                    },
+                    (1 ∷ 2 ∷ 3 ∷ [], (1 ∷ 2 ∷ 3 ∷ [], refl, refl), (1 ∷ 2 ∷ 3 ∷ [], (1 ∷ 2 ∷ 3 ∷ [], refl, refl), refl)),
                     (
-                      Used false (1, 0x21) ∷ [],
+                      Noted (New 1 0x21000 1) ∷ Used true (1, 0x21) ∷ [],
                       2 ∷ 3 ∷ [],
-                      record { answer = (Whole, 8 ∷ [], inl ([], [], (refl, record { coming = []; making = []; whole = refl; comes_in = refl; made = refl }), refl, (refl, refl)), (refl, (refl, tt), (omega arith, tt)), refl, refl); notes = refl },
-                      (2 ∷ 3 ∷ [], (2 ∷ 3 ∷ [], refl, refl), refl),
+                      record {
+                        answer = (
+                          Whole,
+                          inl (
+                            New 1 0x21000 1 ∷ [],
+                            [],
+                            (
+                              refl,
+                              record {
+                                coming = [];
+                                making = New 1 0x21000 1 ∷ [];
+                                whole = refl;
+                                comes_in = refl;
+                                made = record { sought = []; frame = 1; seeks = refl; in_range = omega arith; free = refl; whole = refl };
+                              },
+                            ),
+                            refl,
+                            (refl, refl),
+                          ),
+                          refl,
+                          refl,
+                        );
+                        notes = refl;
+                      },
+                      (2 ∷ 3 ∷ [], (2 ∷ 3 ∷ [], refl, refl), (2 ∷ 3 ∷ [], (2 ∷ 3 ∷ [], refl, refl), refl)),
                       (
-                        Used false (1, 0x7fffffffe) ∷ [],
+                        Zapped (1, 0x20) ∷ [],
                         2 ∷ 3 ∷ [],
-                        record { answer = (Whole, 9 ∷ [], inl ([], [], (refl, record { coming = []; making = []; whole = refl; comes_in = refl; made = refl }), refl, (refl, refl)), (refl, (refl, tt), (omega arith, tt)), refl, refl); notes = refl },
+                        record { answer = (refl, refl, refl); notes = refl },
                         (2 ∷ 3 ∷ [], (2 ∷ 3 ∷ [], refl, refl), refl),
-                        tt,
+                        (
+                          Used false (1, 0x21) ∷ [],
+                          2 ∷ 3 ∷ [],
+                          record {
+                            answer = (
+                              Whole,
+                              8 ∷ [],
+                              inl (
+                                [],
+                                [],
+                                (refl, record { coming = []; making = []; whole = refl; comes_in = refl; made = refl }),
+                                refl,
+                                (refl, refl),
+                              ),
+                              (refl, (refl, tt), (omega arith, tt)),
+                              refl,
+                              refl,
+                            );
+                            notes = refl;
+                          },
+                          (2 ∷ 3 ∷ [], (2 ∷ 3 ∷ [], refl, refl), refl),
+                          (
+                            Used false (1, 0x7fffffffe) ∷ [],
+                            2 ∷ 3 ∷ [],
+                            record {
+                              answer = (
+                                Whole,
+                                9 ∷ [],
+                                inl (
+                                  [],
+                                  [],
+                                  (refl, record { coming = []; making = []; whole = refl; comes_in = refl; made = refl }),
+                                  refl,
+                                  (refl, refl),
+                                ),
+                                (refl, (refl, tt), (omega arith, tt)),
+                                refl,
+                                refl,
+                              );
+                              notes = refl;
+                            },
+                            (2 ∷ 3 ∷ [], (2 ∷ 3 ∷ [], refl, refl), refl),
+                            tt,
+                          ),
+                        ),
                       ),
                     ),
                   ),
@@ -427,6 +729,4 @@ fixed_over-runs = by_steps (machine 4) (at_first (machine 4)) (fixed_over 3 0 (Z
           ),
         ),
       ),
-    ),
-  ),
-))
+    ))

@@ -64,11 +64,14 @@ use Rattle.av_laws.proofs.OutOfMemory.{legal-adds}
 abbrev Fits : List Event → Answer → List Row → Type 0
 Fits events answer rows = IsAnswer answer × Follow answer (notes_of events) rows
 
-fits-by : (events events' : List Event) (answer answer' : Answer) (rows rows' : List Row) → events ≡ events' → answer ≡ answer' → rows ≡ rows' → Fits events' answer' rows' → Fits events answer rows
-fits-by events events' answer answer' rows rows' e a r h = subst (λ es. Fits es answer rows) (sym e) (subst (λ x. Fits events' x rows) (sym a) (subst (Fits events' answer') (sym r) h))
+fits-by : (events events' : List Event) (answer answer' : Answer) (rows rows' : List Row) → events ≡ events' → answer ≡ answer' → rows ≡ rows' →
+    Fits events' answer' rows' → Fits events answer rows
+fits-by events events' answer answer' rows rows' e a r h = subst (λ es. Fits es answer rows) (sym e)
+    (subst (λ x. Fits events' x rows) (sym a) (subst (Fits events' answer') (sym r) h))
 
 -- the same, with the notes alone
-fits-notes : (events : List Event) (answer : Answer) (rows : List Row) → notes_of events ≡ [] → IsAnswer answer → Follow answer [] rows → Fits events answer rows
+fits-notes : (events : List Event) (answer : Answer) (rows : List Row) → notes_of events ≡ [] → IsAnswer answer →
+    Follow answer [] rows → Fits events answer rows
 fits-notes events answer rows e a f = (a, subst (λ ns. Follow answer ns rows) (sym e) f)
 
 -- ---- pages
@@ -83,9 +86,23 @@ wide-frame : (m : Setting) (f : ℕ) → IsWide m.frames → f < m.frames → Is
 wide-frame m f h i = omega (arith, h, i)
 
 plain-note : (m : Setting) (p page : ℕ) → IsWide m.frames → p ≤ 32767 → page < top_page → (note : Note) → IsPlainAt m (p, page) note → IsNote note
-plain-note m p page frames small below (Zeroed q a) h = (subst IsWide (sym h.0) (wide-process p small), subst IsWide (sym h.1) (wide-page page (omega (arith, below))))
-plain-note m p page frames small below (New q a f) h = (subst IsWide (sym h.0) (wide-process p small), subst IsWide (sym h.1) (wide-page page (omega (arith, below))), wide-frame m f frames h.2)
-plain-note m p page frames small below (Copied q a f) h = (subst IsWide (sym h.0) (wide-process p small), subst IsWide (sym h.1) (wide-page page (omega (arith, below))), wide-frame m f frames h.2)
+plain-note m p page frames small below (Zeroed q a) h = (
+  subst IsWide (sym h.0) (wide-process p small),
+  subst IsWide (sym h.1)
+      (wide-page page (omega (arith, below))),
+)
+plain-note m p page frames small below (New q a f) h = (
+  subst IsWide (sym h.0) (wide-process p small),
+  subst IsWide (sym h.1)
+      (wide-page page (omega (arith, below))),
+  wide-frame m f frames h.2,
+)
+plain-note m p page frames small below (Copied q a f) h = (
+  subst IsWide (sym h.0) (wide-process p small),
+  subst IsWide (sym h.1)
+      (wide-page page (omega (arith, below))),
+  wide-frame m f frames h.2,
+)
 plain-note m p page frames small below (Loaded s f) h = absurd h
 plain-note m p page frames small below (Mapped q a f) h = absurd h
 plain-note m p page frames small below (Put f s) h = absurd h
@@ -104,12 +121,14 @@ abbrev StopsIn : (ℕ → Type 0) → End → Type 0
 StopsIn P Whole = Unit {0}
 StopsIn P (Stopped page stop) = P page
 
-stops-in : (P : ℕ → Type 0) (m : Setting) (w : World) (l : Ledger) (p : ℕ) (pages : List (Bool × ℕ)) (events : List Event) (end : End) → AllByRecursion (λ (x : Bool × ℕ). P x.1) pages → Accesses m w l p pages events end → StopsIn P end
+stops-in : (P : ℕ → Type 0) (m : Setting) (w : World) (l : Ledger) (p : ℕ) (pages : List (Bool × ℕ)) (events : List Event) (end : End) →
+    AllByRecursion (λ (x : Bool × ℕ). P x.1) pages → Accesses m w l p pages events end → StopsIn P end
 stops-in P m w l p [] events end all h = subst (StopsIn P) (sym h.1) tt
 stops-in P m w l p (page ∷ rest) events end all (inl h) = stops-in P m w (after_all l (page_events page.0 (p, page.1) h.0 None)) p rest h.1 end all.1 h.4
 stops-in P m w l p (page ∷ rest) events end all (inr h) = subst (StopsIn P) (sym h.4) all.0
 
-all-pages : (P : ℕ → Type 0) (write : Bool) (from n : ℕ) → ((page : ℕ) → page < from + n → P page) → AllByRecursion (λ (x : Bool × ℕ). P x.1) (map (λ page. (write, page)) (numbers from n))
+all-pages : (P : ℕ → Type 0) (write : Bool) (from n : ℕ) → ((page : ℕ) → page < from + n → P page) →
+    AllByRecursion (λ (x : Bool × ℕ). P x.1) (map (λ page. (write, page)) (numbers from n))
 all-pages P write from zero each = tt
 all-pages P write from (suc n) each = (each from (omega arith), all-pages P write (from + 1) n (λ page below. each page (omega (arith, below))))
 
@@ -124,21 +143,25 @@ few-before a n page small below = by (n == 0) below
     by true h = omega (arith, h)
     by false h = omega (arith, h, small)
 
-access-stops : (m : Setting) (w : World) (l : Ledger) (write : Bool) (p a n : ℕ) (events : List Event) (end : End) → n ≤ page_size → Accesses m w l p (pages_of_access write a n) events end → StopsIn (FewBefore a) end
+access-stops : (m : Setting) (w : World) (l : Ledger) (write : Bool) (p a n : ℕ) (events : List Event) (end : End) → n ≤ page_size →
+    Accesses m w l p (pages_of_access write a n) events end → StopsIn (FewBefore a) end
 access-stops m w l write p a n events end small h =
-    stops-in (FewBefore a) m w l p (pages_of_access write a n) events end (all-pages (FewBefore a) write (page_of a) (cond (n == 0) 0 (pages_of (place_in_page a + n))) (λ page below. few-before a n page small below)) h
+    stops-in (FewBefore a) m w l p (pages_of_access write a n) events end
+    (all-pages (FewBefore a) write (page_of a) (cond (n == 0) 0 (pages_of (place_in_page a + n))) (λ page below. few-before a n page small below)) h
 
 -- the numbers of an out-of-memory, if the answer is one
 abbrev CausesFit : Answer → Type 0
 CausesFit answer = (k : ℕ) (out : OutOf) (shown : List ℕ) → answer ≡ Oom k out shown → AreCauses out
 
-stop-fits : (a page : ℕ) (stop : Stop) (shown : List ℕ) (notes : List Note) → IsWide (bytes_before a page) → AllByRecursion (λ b. b < 2 ^ 8) shown → AllByRecursion IsNote notes → CausesFit (stop_answer stop (bytes_before a page) shown)
+stop-fits : (a page : ℕ) (stop : Stop) (shown : List ℕ) (notes : List Note) → IsWide (bytes_before a page) → AllByRecursion (λ b. b < 2 ^ 8) shown →
+    AllByRecursion IsNote notes → CausesFit (stop_answer stop (bytes_before a page) shown)
     → IsAnswer (stop_answer stop (bytes_before a page) shown) × Follow (stop_answer stop (bytes_before a page) shown) notes []
 stop-fits a page Denied shown notes few bytes ns out = ((few, bytes), (ns, refl))
 stop-fits a page (Starved out) shown notes few bytes ns fit = ((few, fit (bytes_before a page) out shown refl, bytes), (ns, refl))
 stop-fits a page Lost shown notes few bytes ns out = ((few, bytes), (ns, refl))
 
-read-fits : (a : ℕ) (end : End) (shown : List ℕ) (notes : List Note) → StopsIn (FewBefore a) end → AllByRecursion (λ b. b < 2 ^ 8) shown → AllByRecursion IsNote notes → CausesFit (read_answer a end shown)
+read-fits : (a : ℕ) (end : End) (shown : List ℕ) (notes : List Note) → StopsIn (FewBefore a) end → AllByRecursion (λ b. b < 2 ^ 8) shown →
+    AllByRecursion IsNote notes → CausesFit (read_answer a end shown)
     → IsAnswer (read_answer a end shown) × Follow (read_answer a end shown) notes []
 read-fits a Whole shown notes few bytes ns out = (bytes, (ns, refl))
 read-fits a (Stopped page stop) shown notes few bytes ns out = stop-fits a page stop shown notes few bytes ns out
@@ -203,7 +226,8 @@ few-rows (a ∷ rs) h none = let few = few-runs a rs h none in omega (arith, few
 -- ---- areas
 
 -- rows of the runs of some ranges are as many, and say numbers of 64 bits
-areas-wide : (rs : List Range) (rows : List Row) → map run_of rows ≡ map (λ r. Some (row_of r)) rs → AllByRecursion IsRun (map row_of rs) → AllByRecursion IsWideRow rows
+areas-wide : (rs : List Range) (rows : List Row) → map run_of rows ≡ map (λ r. Some (row_of r)) rs → AllByRecursion IsRun (map row_of rs) →
+    AllByRecursion IsWideRow rows
     → (length rows ≡ length (map row_of rs)) × AllByRecursion IsAreaRow rows
 areas-wide [] [] is wide said = (refl, tt)
 areas-wide [] (row ∷ rows) is wide said = cc
@@ -279,7 +303,8 @@ keys-fit : (ks : List Key) → AllByRecursion (λ (k : Key). IsWide k.0 × (k.1 
 keys-fit [] h = tt
 keys-fit (k ∷ ks) h = let below = h.0.1 in ((h.0.0, wide-page k.1 (omega (arith, below))), keys-fit ks h.1)
 
-walk-fits : (m : Setting) (w : World) (l : Ledger) (k : Key) → AllSound m w l → IsSmall m w l → (e : Option Entry) → entry l k ≡ e → Fits [] (walk_answer l e) (walk_rows l e)
+walk-fits : (m : Setting) (w : World) (l : Ledger) (k : Key) → AllSound m w l → IsSmall m w l → (e : Option Entry) → entry l k ≡ e →
+    Fits [] (walk_answer l e) (walk_rows l e)
 walk-fits m w l k s small None is = (tt, (tt, refl))
 walk-fits m w l k s small (Some Zero) is = (tt, (tt, refl))
 walk-fits m w l k s small (Some (InFrame f seen)) is =
@@ -299,7 +324,8 @@ walk-fits m w l k s small (Some (InSlot t)) is = (tt, (tt, refl))
 -- ---- entries
 
 -- without a device no entry is a slot, and no frame is cached
-entry-fits : (m : Setting) (l : Ledger) (k : Key) → HasNoDevice m → IsSound m l → HasNoSlots l → IsWide m.frames → (e : Option Entry) → entry l k ≡ e → Fits [] (entry_answer l e) []
+entry-fits : (m : Setting) (l : Ledger) (k : Key) → HasNoDevice m → IsSound m l → HasNoSlots l → IsWide m.frames → (e : Option Entry) →
+    entry l k ≡ e → Fits [] (entry_answer l e) []
 entry-fits m l k none s bare wide None is = (tt, (tt, refl))
 entry-fits m l k none s bare wide (Some Zero) is = (tt, (tt, refl))
 entry-fits m l k none s bare wide (Some (InFrame f seen)) is =
@@ -310,13 +336,15 @@ entry-fits m l k none s bare wide (Some (InSlot t)) is =
     let zero = bare.entries t in
     absurd (omega (arith, some, zero))
 
-follows-fit : (m : Setting) (w : World) (l : Ledger) (command : Command) (events : List Event) (answer : Answer) (rows : List Row) → HasNoDevice m → AllSound m w l → IsSmall m w l → IsCommand command → CausesFit answer → AskedWide command rows
+follows-fit : (m : Setting) (w : World) (l : Ledger) (command : Command) (events : List Event) (answer : Answer) (rows : List Row) → HasNoDevice m →
+    AllSound m w l → IsSmall m w l → IsCommand command → CausesFit answer → AskedWide command rows
     → Follows m w l command events answer rows → Fits events answer rows
 follows-fit m w l (Spawn p) events answer rows none s small fit out wide h = fits-by events [] answer Done rows [] h.1 h.0 h.2 (tt, (tt, refl))
 follows-fit m w l (Fork p q) events answer rows none s small fit out wide h =
     fits-by events (Forked p q (inheritance l p) ∷ []) answer Done rows [] h.1 h.0 h.2 (tt, (tt, refl))
 follows-fit m w l (Exit p) events answer rows none s small fit out wide h =
-    fits-by events (zaps_of l (keys_of_process l p)) answer Done rows [] h.1 h.0 h.2 (fits-notes (zaps_of l (keys_of_process l p)) Done [] (no-zap-notes m l (keys_of_process l p) none (in-areas m w l s)) tt (tt, refl))
+    fits-by events (zaps_of l (keys_of_process l p)) answer Done rows [] h.1 h.0 h.2
+    (fits-notes (zaps_of l (keys_of_process l p)) Done [] (no-zap-notes m l (keys_of_process l p) none (in-areas m w l s)) tt (tt, refl))
 follows-fit m w l (Mmap p len prot place) events answer rows none s small fit out wide h = by h.0 h.1 h.2
   where
     quiet : (place : Place) → notes_of (zaps_for_place l p (pages_of len) place) ≡ []
@@ -326,11 +354,17 @@ follows-fit m w l (Mmap p len prot place) events answer rows none s small fit ou
     quiet (NoReplace a) = refl
 
     by : (to : Option ℕ) → Goes (pages w p) (pages_of len) place to → IsMapAt answer to → Fits events answer rows
-    by None goes e = fits-by events (zaps_for_place l p (pages_of len) place) answer (Refused Enomem) rows [] h.3 e h.4 (fits-notes (zaps_for_place l p (pages_of len) place) (Refused Enomem) [] (quiet place) tt (tt, refl))
-    by (Some page) goes e = fits-by events (zaps_for_place l p (pages_of len) place) answer (MapAt (address_of page)) rows [] h.3 e h.4 (fits-notes (zaps_for_place l p (pages_of len) place) (MapAt (address_of page)) [] (quiet place) (place-below (pages w p) (pages_of len) page place fit.2 goes) (tt, refl))
+    by None goes e = fits-by events (zaps_for_place l p (pages_of len) place) answer (Refused Enomem) rows [] h.3 e h.4
+        (fits-notes (zaps_for_place l p (pages_of len) place) (Refused Enomem) [] (quiet place) tt (tt, refl))
+    by (Some page) goes e = fits-by events (zaps_for_place l p (pages_of len) place) answer (MapAt (address_of page)) rows [] h.3 e h.4
+        (fits-notes (zaps_for_place l p (pages_of len) place) (MapAt (address_of page)) [] (quiet place)
+        (place-below (pages w p) (pages_of len) page place fit.2 goes) (tt, refl))
 follows-fit m w l (Munmap p a len) events answer rows none s small fit out wide h =
-    fits-by events (zaps_of l (keys_in l p (page_of a) (pages_of len))) answer Done rows [] h.1 h.0 h.2 (fits-notes (zaps_of l (keys_in l p (page_of a) (pages_of len))) Done [] (no-zap-notes m l (keys_in l p (page_of a) (pages_of len)) none (in-areas m w l s)) tt (tt, refl))
-follows-fit m w l (Mprotect p a len prot) events answer rows none s small fit out wide h = fits-by events [] answer _ rows [] h.1 h.0 h.2 (by (pages_to_hole (pages w p) (page_of a) (pages_of len) == pages_of len))
+    fits-by events (zaps_of l (keys_in l p (page_of a) (pages_of len))) answer Done rows [] h.1 h.0 h.2
+    (fits-notes (zaps_of l (keys_in l p (page_of a) (pages_of len))) Done []
+    (no-zap-notes m l (keys_in l p (page_of a) (pages_of len)) none (in-areas m w l s)) tt (tt, refl))
+follows-fit m w l (Mprotect p a len prot) events answer rows none s small fit out wide h =
+    fits-by events [] answer _ rows [] h.1 h.0 h.2 (by (pages_to_hole (pages w p) (page_of a) (pages_of len) == pages_of len))
   where
     by : (b : Bool) → Fits [] (if b then Done else Refused Enomem) []
     by true = (tt, (tt, refl))
@@ -348,11 +382,13 @@ follows-fit m w l (Mremap p a old new mode) events answer rows none s small fit 
         (no-remap-notes m l p (page_of a) (pages_of old) page (pages_of new) none (in-areas m w l s))
         (remap-below (pages w p) a (pages_of old) (pages_of new) page mode fit.1 fit.4 goes) (tt, refl))
 follows-fit m w l (Read p a n) events answer rows none s small fit out wide h =
-    let plain = accesses-plain IsNote m w p none (λ page note is. plain-note m p page small.frames fit.0.most (small.below p page is) note) l (pages_of_access false a n) events h.0 (in-areas m w l s) h.2 in
+    let plain = accesses-plain IsNote m w p none (λ page note is. plain-note m p page small.frames fit.0.most (small.below p page is) note) l
+    (pages_of_access false a n) events h.0 (in-areas m w l s) h.2 in
     fits-by events events answer (read_answer a h.0 h.1) rows [] refl h.4 h.5
     (read-fits a h.0 h.1 (notes_of events) (access-stops m w l false p a n events h.0 fit.2.most h.2) h.3.2 plain.notes (subst CausesFit h.4 out))
 follows-fit m w l (Write p a bytes) events answer rows none s small fit out wide h =
-    let plain = accesses-plain IsNote m w p none (λ page note is. plain-note m p page small.frames fit.0.most (small.below p page is) note) l (pages_of_access true a (length bytes)) events h.0 (in-areas m w l s) h.1 in
+    let plain = accesses-plain IsNote m w p none (λ page note is. plain-note m p page small.frames fit.0.most (small.below p page is) note) l
+    (pages_of_access true a (length bytes)) events h.0 (in-areas m w l s) h.1 in
     fits-by events events answer (write_answer a h.0) rows [] refl h.2 h.3
     (write-fits a h.0 (notes_of events) (access-stops m w l true p a (length bytes) events h.0 fit.2.0.most h.1) plain.notes (subst CausesFit h.2 out))
 follows-fit m w l (Maps p) events answer rows none s small fit out wide h =
@@ -370,7 +406,8 @@ follows-fit m w l (AsksRmap p a) events answer rows none s small fit out wide h 
     let e = entry l (p, page_of a) in
     fits-by events [] answer (walk_answer l e) rows (walk_rows l e) h.1 h.0 h.2 (walk-fits m w l (p, page_of a) s small e refl)
 follows-fit m w l (AsksEntry p a) events answer rows none s small fit out wide h =
-    fits-by events [] answer (entry_answer l (entry l (p, page_of a))) rows [] h.1 h.0 h.2 (entry-fits m l (p, page_of a) none s.ledger (no-slots m l none (in-areas m w l s)) small.frames (entry l (p, page_of a)) refl)
+    fits-by events [] answer (entry_answer l (entry l (p, page_of a))) rows [] h.1 h.0 h.2
+    (entry-fits m l (p, page_of a) none s.ledger (no-slots m l none (in-areas m w l s)) small.frames (entry l (p, page_of a)) refl)
 follows-fit m w l Stat events answer rows none s small fit out wide h = fits-by events [] answer (Counted (totals m w l)) rows [] h.1 h.0 h.2 (
   record {
     frames = frames;
@@ -394,14 +431,17 @@ follows-fit m w l Stat events answer rows none s small fit out wide h = fits-by 
     sums : length (free_frames m l) + length l.active + length l.inactive ≡ m.frames
     sums = frames-add m l s.ledger
 
-pub legal-reads_back : (m : Setting) (w : World) (l : Ledger) (command : Command) (reply : Reply) (events : List Event) → HasNoDevice m → AllSound m w l → IsSmall m w l → IsCommand command → AskedWide command reply.rows → IsLegal m w l command reply events → IsReply reply
+pub legal-reads_back : (m : Setting) (w : World) (l : Ledger) (command : Command) (reply : Reply) (events : List Event) → HasNoDevice m → AllSound m w l →
+    IsSmall m w l → IsCommand command → AskedWide command reply.rows → IsLegal m w l command reply events → IsReply reply
 legal-reads_back m w l command reply events none s small fit wide legal =
     let f = by (refusal (tests m w l command)) legal.answer in
     record { answer = f.0; rest = subst (λ ns. Follow reply.answer ns reply.rows) (sym legal.notes) f.1 }
   where
     out : CausesFit reply.answer
-    out k numbers shown is = let sum = legal-adds m w l command reply events k numbers shown s legal is in let frames : m.frames < 2 ^ 64 = small.frames in (omega (arith, sum, frames), omega (arith, sum, frames), omega (arith, sum, frames))
+    out k numbers shown is = let sum = legal-adds m w l command reply events k numbers shown s legal is in let frames : m.frames < 2 ^ 64 = small.frames in
+        (omega (arith, sum, frames), omega (arith, sum, frames), omega (arith, sum, frames))
 
-    by : (o : Option Errno) → MatchOption o (Follows m w l command events reply.answer reply.rows) (λ error. Refuses error events reply.answer reply.rows) → Fits events reply.answer reply.rows
+    by : (o : Option Errno) → MatchOption o (Follows m w l command events reply.answer reply.rows) (λ error. Refuses error events reply.answer reply.rows) →
+        Fits events reply.answer reply.rows
     by None h = follows-fit m w l command events reply.answer reply.rows none s small fit out wide h
     by (Some error) h = fits-by events [] reply.answer (Refused error) reply.rows [] h.1 h.0 h.2 (tt, (tt, refl))

@@ -43,16 +43,20 @@ abbrev same : ℕ → ℕ → Type 0
 same a b = a ≡ b
 
 pub frame_twice-not : Unsound four one_process frame_twice
-frame_twice-not h = let e : same 0x7fffffffd 0x7fffffffe = h.ledger.one 1 0x7fffffffd 0x7fffffffe (InFrame 0 true) (InFrame 0 false) refl refl refl in omega (arith, e)
+frame_twice-not h = let e : same 0x7fffffffd 0x7fffffffe = h.ledger.one 1 0x7fffffffd 0x7fffffffe (InFrame 0 true) (InFrame 0 false) refl refl refl in
+    omega (arith, e)
 
 pub frame_and_its_slot-not : Unsound four one_process frame_and_its_slot
-frame_and_its_slot-not h = let e : same 0x7fffffffd 0x7fffffffe = h.ledger.one 1 0x7fffffffd 0x7fffffffe (InFrame 0 true) (InSlot (slot 1)) refl refl refl in omega (arith, e)
+frame_and_its_slot-not h = let e : same 0x7fffffffd 0x7fffffffe = h.ledger.one 1 0x7fffffffd 0x7fffffffe (InFrame 0 true) (InSlot (slot 1)) refl refl refl in
+    omega (arith, e)
 
 pub slot_and_its_frame-not : Unsound four one_process slot_and_its_frame
-slot_and_its_frame-not h = let e : same 0x7fffffffd 0x7fffffffe = h.ledger.one 1 0x7fffffffd 0x7fffffffe (InSlot (slot 1)) (InFrame 0 true) refl refl refl in omega (arith, e)
+slot_and_its_frame-not h = let e : same 0x7fffffffd 0x7fffffffe = h.ledger.one 1 0x7fffffffd 0x7fffffffe (InSlot (slot 1)) (InFrame 0 true) refl refl refl in
+    omega (arith, e)
 
 pub slot_twice-not : Unsound four one_process slot_twice
-slot_twice-not h = let e : same 0x7fffffffd 0x7fffffffe = h.ledger.one 1 0x7fffffffd 0x7fffffffe (InSlot (slot 1)) (InSlot (slot 1)) refl refl refl in omega (arith, e)
+slot_twice-not h = let e : same 0x7fffffffd 0x7fffffffe = h.ledger.one 1 0x7fffffffd 0x7fffffffe (InSlot (slot 1)) (InSlot (slot 1)) refl refl refl in
+    omega (arith, e)
 
 pub unmapped-not : Unsound four one_process no_page_ledger
 unmapped-not h = never (h.at_pages 1 0x10 refl)

@@ -11,7 +11,7 @@ use Rattle.av_plain.specs.Sound.{AllSound}
 use Rattle.av_vma.specs.Pages.{has_page, pages_in}
 use Rattle.av_vma.specs.declared.area.Area.{Area}
 use Rattle.av_clusters.specs.Clusters.{fresh}
-use Rattle.av_plain.specs.Areas.{chain_of, no_anons, no_homes, none_on}
+use Rattle.av_plain.specs.Areas.{chain_by, no_anons, no_homes, none_on}
 use Rattle.av_plain.specs.Choice.{Free, ListsFree}
 use Rattle.av_plain.specs.Stands.{Holds, IsKept, Pte, Stands, entry_of, prot_of, ranges_in}
 use Rattle.av_plain.specs.World.{Page, Process, lives, pages, process}
@@ -157,7 +157,8 @@ too_few_processes-not h = let e : ◌≡◌ {A = ℕ} 1 2 = h.parts.areas.number
 only-page : (q : Key) (d : Entry) → entry fork_state.ledger q ≡ Some d → q.1 ≡ 0x7fffffffe
 only-page q d at = by (same_key q (1, 0x7fffffffe)) (same_key q (2, 0x7fffffffe)) refl refl at
   where
-    by : (b c : Bool) → same_key q (1, 0x7fffffffe) ≡ b → same_key q (2, 0x7fffffffe) ≡ c → cond b (Some (InFrame 0 true)) (cond c (Some (InFrame 0 false)) None) ≡ Some d → q.1 ≡ 0x7fffffffe
+    by : (b c : Bool) → same_key q (1, 0x7fffffffe) ≡ b → same_key q (2, 0x7fffffffe) ≡ c →
+        cond b (Some (InFrame 0 true)) (cond c (Some (InFrame 0 false)) None) ≡ Some d → q.1 ≡ 0x7fffffffe
     by true c is is' e = ap (λ (k : Key). k.1) (same_key-is q (1, 0x7fffffffe) is)
     by false true is is' e = ap (λ (k : Key). k.1) (same_key-is q (2, 0x7fffffffe) is')
     by false false is is' e = cc
@@ -165,7 +166,8 @@ only-page q d at = by (same_key q (1, 0x7fffffffe)) (same_key q (2, 0x7fffffffe)
 at_page : (q : Key) → is_some (entry fork_state.ledger q) ≡ true → is_some (pages fork_state.world q.0 q.1) ≡ true
 at_page q h = by (same_key q (1, 0x7fffffffe)) (same_key q (2, 0x7fffffffe)) refl refl h
   where
-    by : (b c : Bool) → same_key q (1, 0x7fffffffe) ≡ b → same_key q (2, 0x7fffffffe) ≡ c → is_some (cond b (Some (InFrame 0 true)) (cond c (Some (InFrame 0 false)) None)) ≡ true → is_some (pages fork_state.world q.0 q.1) ≡ true
+    by : (b c : Bool) → same_key q (1, 0x7fffffffe) ≡ b → same_key q (2, 0x7fffffffe) ≡ c →
+        is_some (cond b (Some (InFrame 0 true)) (cond c (Some (InFrame 0 false)) None)) ≡ true → is_some (pages fork_state.world q.0 q.1) ≡ true
     by true c is is' e = subst (λ (k : Key). is_some (pages fork_state.world k.0 k.1) ≡ true) (sym (same_key-is q (1, 0x7fffffffe) is)) refl
     by false true is is' e = subst (λ (k : Key). is_some (pages fork_state.world k.0 k.1) ≡ true) (sym (same_key-is q (2, 0x7fffffffe) is')) refl
     by false false is is' e = absurd (never e)
@@ -230,7 +232,8 @@ covers : (p page : ℕ)
     (pages fork_state.world p page)
 covers p page = by (p == 1) (p == 2) ∙ ap (λ o. option_map (λ (q : Page). q.prot) (option_and_then (λ (q : Process). q page) o)) (sym (found p))
   where
-    one : (c : Bool) → (nat_le 0x7fffffffe page && nat_lt page 0x7ffffffff) ≡ c → prot_in one_range page ≡ option_map (λ (q : Page). q.prot) (if c then Some (page_with 7) else None)
+    one : (c : Bool) → (nat_le 0x7fffffffe page && nat_lt page 0x7ffffffff) ≡ c → prot_in one_range page ≡ option_map (λ (q : Page). q.prot)
+        (if c then Some (page_with 7) else None)
     one true is = ap (λ b. if b then Some read_write else None) is
     one false is = ap (λ b. if b then Some read_write else None) is
 
@@ -261,10 +264,12 @@ areas p page = by (p == 1) (p == 2) refl refl
 
 kept : (p page : ℕ) → IsKept right no_device fork_state.ledger (entry fork_state.ledger (p, page)) (pages fork_state.world p page)
 kept p page = subst (λ o. IsKept right no_device fork_state.ledger o (pages fork_state.world p page)) (sym at)
-    (subst (λ o. IsKept right no_device fork_state.ledger (cond (p == 1 && page == 0x7fffffffe) (Some (InFrame 0 true)) (cond (p == 2 && page == 0x7fffffffe) (Some (InFrame 0 false)) None)) (option_and_then (λ (q : Process). q page) o)) (sym (found p))
+    (subst (λ o. IsKept right no_device fork_state.ledger (cond (p == 1 && page == 0x7fffffffe) (Some (InFrame 0 true))
+    (cond (p == 2 && page == 0x7fffffffe) (Some (InFrame 0 false)) None)) (option_and_then (λ (q : Process). q page) o)) (sym (found p))
     (by (p == 1) (p == 2) (page == 0x7fffffffe) (with_byte 7) refl))
   where
-    at : entry fork_state.ledger (p, page) ≡ cond (p == 1 && page == 0x7fffffffe) (Some (InFrame 0 true)) (cond (p == 2 && page == 0x7fffffffe) (Some (InFrame 0 false)) None)
+    at : entry fork_state.ledger (p, page) ≡ cond (p == 1 && page == 0x7fffffffe) (Some (InFrame 0 true))
+        (cond (p == 2 && page == 0x7fffffffe) (Some (InFrame 0 false)) None)
     at i = cond (key_is p page 1 0x7fffffffe i) (Some (InFrame 0 true)) (cond (key_is p page 2 0x7fffffffe i) (Some (InFrame 0 false)) None)
 
     holds : (q : Process) → q page ≡ Some (page_with 7) → Holds (q page) (right.bytes 0)
@@ -274,7 +279,8 @@ kept p page = subst (λ o. IsKept right no_device fork_state.ledger o (pages for
     nothing q is = subst (λ o. Holds o (λ _. 0)) (sym is) tt
 
     by : (a b c : Bool) (q : Process) → q page ≡ (if c then Some (page_with 7) else None)
-        → IsKept right no_device fork_state.ledger (cond (a && c) (Some (InFrame 0 true)) (cond (b && c) (Some (InFrame 0 false)) None)) (option_and_then (λ (q : Process). q page) (cond a (Some q) (cond b (Some q) None)))
+        → IsKept right no_device fork_state.ledger (cond (a && c) (Some (InFrame 0 true)) (cond (b && c) (Some (InFrame 0 false)) None))
+        (option_and_then (λ (q : Process). q page) (cond a (Some q) (cond b (Some q) None)))
     by true b true q is = holds q is
     by true true false q is = nothing q is
     by true false false q is = nothing q is
@@ -306,19 +312,24 @@ fork-reach = record {
     number : {n v : ℕ} → Some n ≡ Some v → v ≡ n
     number e = cc
 
-    owns : (p page v : ℕ) (a b : Bool) → (p == 1) ≡ a → (p == 2) ≡ b → IsSomeAnd ((cond a (pages_in (Some (topmost 1 ∷ []))) (cond b (pages_in (Some (topmost 2 ∷ []))) none_on)) page) (λ x. x.anon ≡ Some v)
-        → is_in v (chain_of parent_and_child (Some v)) ≡ true
-    owns p page v true b is is' h = subst (λ v. is_in v (chain_of parent_and_child (Some v)) ≡ true) (sym (number (its (topmost 1) page v h))) refl
-    owns p page v false true is is' h = subst (λ v. is_in v (chain_of parent_and_child (Some v)) ≡ true) (sym (number (its (topmost 2) page v h))) refl
+    owns : (p page v : ℕ) (a b : Bool) → (p == 1) ≡ a → (p == 2) ≡ b →
+        IsSomeAnd ((cond a (pages_in (Some (topmost 1 ∷ []))) (cond b (pages_in (Some (topmost 2 ∷ []))) none_on)) page) (λ x. x.anon ≡ Some v)
+        → is_in v (chain_by parent_and_child (Some v)) ≡ true
+    owns p page v true b is is' h = subst (λ v. is_in v (chain_by parent_and_child (Some v)) ≡ true) (sym (number (its (topmost 1) page v h))) refl
+    owns p page v false true is is' h = subst (λ v. is_in v (chain_by parent_and_child (Some v)) ≡ true) (sym (number (its (topmost 2) page v h))) refl
     owns p page v false false is is' h = absurd h
 
-    reached : (k : Key) (f : ℕ) → (f == 0) ≡ true → IsReached (rmap_of fork_state) k (0, 0x7fffffffe) → IsSomeAnd (parents_home f) (IsReached (rmap_of fork_state) k)
+    reached : (k : Key) (f : ℕ) → (f == 0) ≡ true → IsReached (rmap_of fork_state) k (0, 0x7fffffffe) →
+        IsSomeAnd (parents_home f) (IsReached (rmap_of fork_state) k)
     reached k f is h = let e : 0 ≡ f = grind (arith, nat_tests, is) in subst (λ f. IsSomeAnd (parents_home f) (IsReached (rmap_of fork_state) k)) e h
 
     covers_at : (k : Key) (f : ℕ) (a b : Bool) → same_key k (1, 0x7fffffffe) ≡ a → same_key k (2, 0x7fffffffe) ≡ b
-        → IsSomeAnd (cond a (Some (InFrame 0 true)) (cond b (Some (InFrame 0 false)) None)) (λ e. names_frame f e ≡ true) → IsSomeAnd (parents_home f) (IsReached (rmap_of fork_state) k)
-    covers_at k f true b is is' h = reached k f h (subst (λ (k : Key). IsReached (rmap_of fork_state) k (0, 0x7fffffffe)) (sym (same_key-is k (1, 0x7fffffffe) is)) (refl, refl))
-    covers_at k f false true is is' h = reached k f h (subst (λ (k : Key). IsReached (rmap_of fork_state) k (0, 0x7fffffffe)) (sym (same_key-is k (2, 0x7fffffffe) is')) (refl, refl))
+        → IsSomeAnd (cond a (Some (InFrame 0 true)) (cond b (Some (InFrame 0 false)) None)) (λ e. names_frame f e ≡ true) →
+        IsSomeAnd (parents_home f) (IsReached (rmap_of fork_state) k)
+    covers_at k f true b is is' h = reached k f h (subst (λ (k : Key). IsReached (rmap_of fork_state) k (0, 0x7fffffffe))
+        (sym (same_key-is k (1, 0x7fffffffe) is)) (refl, refl))
+    covers_at k f false true is is' h = reached k f h (subst (λ (k : Key). IsReached (rmap_of fork_state) k (0, 0x7fffffffe))
+        (sym (same_key-is k (2, 0x7fffffffe) is')) (refl, refl))
     covers_at k f false false is is' h = absurd h
 
 pub right-stands : Stands (machine 4) right no_device fork_state
@@ -329,7 +340,11 @@ right-stands = record {
     ledger = record {
       frames = record { frames = refl; maps = λ f. refl; slots = λ f. refl; dirty = λ f. tt; free = free };
       lists = record { active = refl };
-      tables = record { entries = λ p page. entries (entry fork_state.ledger (p, page)); write_bits = λ p page t f is write named. absurd (no_bit (entry fork_state.ledger (p, page)) t is write) };
+      tables = record {
+        entries = λ p page. entries (entry fork_state.ledger (p, page));
+        write_bits = λ p page t f is write named. absurd
+            (no_bit (entry fork_state.ledger (p, page)) t is write);
+      };
       swap = record { finds = λ s. refl; counts = λ s. refl; flight = refl; on = refl };
     };
     areas = record { alive = alive; number = refl; apart = apart; covers = covers };

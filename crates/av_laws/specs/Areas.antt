@@ -132,8 +132,8 @@ anons_of first second next = record {
 }
 
 -- a root and its child
-abbrev pub kin : Anons
-kin = anons_of (Some root) (Some child) 2
+abbrev pub family : Anons
+family = anons_of (Some root) (Some child) 2
 
 -- an area with this anon_vma as its own
 abbrev pub with_own : ℕ → Area → Area
@@ -176,7 +176,7 @@ NeverLeavesFrom old command reply anons = (new : State)
 
 -- two pages are of anon_vma 0, and two behind a hole of 1
 abbrev pub with_anons : State
-with_anons = state_of (area_of 0 0x10 0x12 ∷ area_of 1 0x14 0x16 ∷ []) kin
+with_anons = state_of (area_of 0 0x10 0x12 ∷ area_of 1 0x14 0x16 ∷ []) family
 
 -- and so from there on
 abbrev pub Leaves : Command → Answer → List Area → Anons → Type 0
@@ -339,18 +339,18 @@ with_rows rows = record { answer = AreaList (length rows); notes = []; rows = ro
 -- `areas` may show these rows of the four
 abbrev pub Shows : List Row → Type 0
 Shows rows = (new : State)
-    × IsStep (machine 4) (state_of four_areas kin) (AsksAreas 1) (with_rows rows) new
+    × IsStep (machine 4) (state_of four_areas family) (AsksAreas 1) (with_rows rows) new
 
 -- or never does
 abbrev pub NeverShows : List Row → Type 0
 NeverShows rows = (new : State)
-    → IsStep (machine 4) (state_of four_areas kin) (AsksAreas 1) (with_rows rows) new → ⊥
+    → IsStep (machine 4) (state_of four_areas family) (AsksAreas 1) (with_rows rows) new → ⊥
 
 -- ---- areas are shown before a cut and behind it
 
 -- the child has four pages in one area, which came from elsewhere: its offset isn't its first page
 abbrev pub child_four : State
-child_four = state_of (record (area_of 1 0x10 0x14) { pgoff = 0x20 } ∷ []) kin
+child_four = state_of (record (area_of 1 0x10 0x14) { pgoff = 0x20 } ∷ []) family
 
 -- the second of them is unmapped, or is for reading only
 abbrev pub second_unmapped : Command

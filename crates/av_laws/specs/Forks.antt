@@ -29,7 +29,7 @@ use Rattle.av_plain.specs.Areas.{AnonVma, Anons, no_anons}
 use Rattle.av_plain.specs.Ledger.{Entry, InFrame, Key, Zero, first_ledger}
 use Rattle.av_plain.specs.Transcript.{Exchange, IsStep, State}
 use Rattle.av_plain.specs.World.{pages}
-use Rattle.av_laws.specs.Areas.{and_at, area, area_of, bare_four, kin, one_root, root_four, state_of}
+use Rattle.av_laws.specs.Areas.{and_at, area, area_of, bare_four, family, one_root, root_four, state_of}
 use Rattle.av_laws.specs.Examples.{machine, only_frames, read_write, reply_with, says}
 
 -- ---- what a row claims
@@ -104,14 +104,14 @@ abbrev pub root_parent : State
 root_parent = parent root_four one_root
 
 abbrev pub child_parent : State
-child_parent = parent (area_of 1 0x10 0x14 ∷ []) kin
+child_parent = parent (area_of 1 0x10 0x14 ∷ []) family
 
 -- anon_vma 2 is below 1, which is below 0
 abbrev pub grandchild : AnonVma
 grandchild = below 1 (0 ∷ 1 ∷ 2 ∷ [])
 
 abbrev pub three_deep : Anons
-three_deep = and_at 2 grandchild 3 kin
+three_deep = and_at 2 grandchild 3 family
 
 -- no area has 1 as its own
 abbrev pub idle_parent : State

@@ -28,7 +28,7 @@ use Rattle.av_plain.specs.Covered.{IsRmapSound}
 use Rattle.av_plain.specs.Event.{Event, Noted, Used, Zapped, after}
 use Rattle.av_plain.specs.Ledger.{Entry, InFrame, Key, Ledger, first_ledger}
 use Rattle.av_plain.specs.Transcript.{Exchange, IsStep, State, rmap_of}
-use Rattle.av_laws.specs.Areas.{anons_of, area, child, kin, process_with, root, state_of, with_own}
+use Rattle.av_laws.specs.Areas.{anons_of, area, child, family, process_with, root, state_of, with_own}
 use Rattle.av_laws.specs.Examples.{machine, only_frames, read_write, says, slot}
 
 -- ---- what a row claims
@@ -91,7 +91,7 @@ with_child = record {
   free = only_frames (1 ∷ 2 ∷ 3 ∷ []);
   areas = with_at 1 (pages_in (Some (of_parent ∷ [])))
       (with_at 2 (pages_in (Some (of_child ∷ []))) no_areas);
-  anons = kin;
+  anons = family;
   homes = first_homes;
 }
 
@@ -102,7 +102,7 @@ child_alone = record {
   ledger = naming (((2, 0x12), InFrame 0 false) ∷ []);
   free = only_frames (1 ∷ 2 ∷ 3 ∷ []);
   areas = with_at 2 (pages_in (Some (of_child ∷ []))) no_areas;
-  anons = kin;
+  anons = family;
   homes = first_homes;
 }
 
@@ -175,4 +175,4 @@ bare_child = record with_child {
 
 -- the child's anon_vma has a number that is yet to be given
 abbrev pub with_number_to_come : State
-with_number_to_come = record with_child { anons = record kin { next = 1 } }
+with_number_to_come = record with_child { anons = record family { next = 1 } }

@@ -15,8 +15,8 @@
 --   the entries (`after_move`): all that say entries, entry_left_behind, mapped_twice, entry_lost,
 --     unseen_after, other_stays
 --   which entries go, and in which order (`remap_events`): target_before_tail, tail_goes_here
---   the memory (`process_after_mremap`): bytes_move, zeros_stay, bytes_lost, bytes_stay, gone_for_good,
---     grown_by_zeros
+--   the memory (`process_after_mremap`): bytes_move, zeros_stay, bytes_lost, bytes_stay,
+--     gone_for_good, grown_by_zeros
 --   where the pages go (`MovesTo`, `may_stay`): grows_here, shrinks_here, goes_to_top, stays_here,
 --     next_to_top, grown_over, moved_unasked, moved_in_vain, no_room_in_vain, sought_too_late,
 --     below_itself, past_the_top, up_to_top, no_room, no_room_at_all
@@ -38,7 +38,7 @@ use Rattle.av_plain.specs.Areas.{Anons, no_anons}
 use Rattle.av_plain.specs.Ledger.{Entry, InFrame, Key, Zero, first_ledger}
 use Rattle.av_plain.specs.Transcript.{IsStep, State}
 use Rattle.av_plain.specs.World.{Page, pages, with_pages}
-use Rattle.av_laws.specs.Areas.{area, area_of, bare_four, kin, one_root, process_with, root_four, state_of, two_roots}
+use Rattle.av_laws.specs.Areas.{area, area_of, bare_four, family, one_root, process_with, root_four, state_of, two_roots}
 use Rattle.av_laws.specs.Examples.{machine, only_frames, read_only, read_write, reply_with}
 
 -- ---- what a row claims
@@ -171,7 +171,7 @@ prepared = with_content (area_of 0 0x10 0x11 ∷ area_of 0 0x11 0x13 ∷ []) one
 
 -- two pages whose chain has two nodes, and two bare ones behind a hole of two
 abbrev pub with_long_chain : State
-with_long_chain = with_content (area_of 1 0x10 0x12 ∷ area 0x14 0x16 read_write ∷ []) kin
+with_long_chain = with_content (area_of 1 0x10 0x12 ∷ area 0x14 0x16 read_write ∷ []) family
 
 -- the first and the last of the four pages have a frame, and so has one of two where they may go
 abbrev pub with_frames : State

@@ -32,7 +32,7 @@ ghost use Rattle.av_laws.specs.Areas.{
   first_read,
   first_row,
   first_write,
-  kin,
+  family,
   last_row,
   made_alike,
   of_child,
@@ -161,8 +161,8 @@ pub fn first_frames_prepare()
     ensures after_first { Prepares first_write
         (between_roots unlike) two_roots (between_roots (with_own 1 unlike)) two_roots }
     ensures not_from_child { Prepares first_write
-        (behind_child unlike) kin
-        (behind_child (with_own 2 unlike)) (and_at 2 (alone 2) 3 kin) }
+        (behind_child unlike) family
+        (behind_child (with_own 2 unlike)) (and_at 2 (alone 2) 3 family) }
     ensures other_offset { Prepares first_write
         (behind_root (record unlike { pgoff = 0x20 })) one_root
         (behind_root (with_own 1 (record unlike { pgoff = 0x20 }))) two_roots }
@@ -193,7 +193,7 @@ pub fn changed_prepares_are_refused()
     ensures second_made { NeverNumbers first_write root_four one_root two_roots }
     ensures taken_from_before { NeverMakes first_write (between_roots unlike) two_roots 0x12
         (with_own 0 unlike) }
-    ensures taken_from_child { NeverMakes first_write (behind_child unlike) kin 0x12
+    ensures taken_from_child { NeverMakes first_write (behind_child unlike) family 0x12
         (with_own 1 unlike) }
     ensures made_though_lent { NeverNumbers first_write (behind_root unlike) one_root
         two_roots }
@@ -256,10 +256,10 @@ pub fn cut_areas_are_shown()
 {}
 
 /// No other rows: an upper part with the offset of the whole, or with that of its address; with no
-/// anon_vma, or with the root; without a chain, with itself alone in it, or with a chain that falls;
-/// a lower part without chain; the whole still, hole and all. And of a part that was changed: one
-/// with the offset of the whole, without anon_vma, or with that alone in its chain; nor an upper
-/// part whose offset runs on from the changed one's first page.
+/// anon_vma, or with the root; without a chain, with itself alone in it, or with a chain that
+/// falls; a lower part without chain; the whole still, hole and all. And of a part that was
+/// changed: one with the offset of the whole, without anon_vma, or with that alone in its chain;
+/// nor an upper part whose offset runs on from the changed one's first page.
 pub fn changed_cuts_are_refused()
     ensures offset_kept { NeverShowsAround second_unmapped
         (with_hole (of_child 0x12 0x14 read_write 0x20)) }

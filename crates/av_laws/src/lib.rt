@@ -156,9 +156,9 @@ pub fn runs_list_free_slots()
 
 /// In a run of at most 2^24 commands the areas of each process cover exactly its pages, with their
 /// protection, and each area is whole and on all of its pages. So it is after each command that
-/// finds it so, however long the chains of anon_vmas are, while linear indices stay small: a command
-/// raises them by no more than the pages that a process may have. So after such a run an area may
-/// grow by as many pages, and its indices are still below 2^60.
+/// finds it so, however long the chains of anon_vmas are, while linear indices stay small: a
+/// command raises them by no more than the pages that a process may have. So after such a run an
+/// area may grow by as many pages, and its indices are still below 2^60.
 pub fn runs_lay_areas()
     ensures from_nothing { (m : Setting) (exchanges : List Exchange) (new : State)
         → length exchanges ≤ 2 ^ 24 → IsRun m (at_first m) exchanges new

@@ -37,7 +37,8 @@ same_bit true = refl
 same_bit false = refl
 
 pub same_as_itself : (p : Prot) → same_prot p p ≡ true
-same_as_itself p = and_from (beq p.read p.read && beq p.write p.write) (beq p.execute p.execute) (and_from (beq p.read p.read) (beq p.write p.write) (same_bit p.read) (same_bit p.write)) (same_bit p.execute)
+same_as_itself p = and_from (beq p.read p.read && beq p.write p.write) (beq p.execute p.execute)
+    (and_from (beq p.read p.read) (beq p.write p.write) (same_bit p.read) (same_bit p.write)) (same_bit p.execute)
 
 shares : (len : Lengths) (o : Option ℕ) → share_anon o (len o) o (len o) ≡ true
 shares len None = refl
@@ -59,14 +60,16 @@ once_more (Some a) b = refl
 
 -- ---- a page more
 
-pages_and_one : (len : Lengths) (effect : Effect) (a n : ℕ) (on : Pages) → pages_changed len effect a (suc n) on ≡ page_changed len effect (a + n) (pages_changed len effect a n on)
+pages_and_one : (len : Lengths) (effect : Effect) (a n : ℕ) (on : Pages) → pages_changed len effect a (suc n) on ≡ page_changed len effect (a + n)
+    (pages_changed len effect a n on)
 pages_and_one len effect a zero on = (let same : a ≡ a + 0 = omega arith in ap (λ c. page_changed len effect c on) same)
 pages_and_one len effect a (suc n) on =
     let same : (a + 1) + n ≡ a + suc n = omega arith in
     pages_and_one len effect (a + 1) n (page_changed len effect a on)
     ∙ ap (λ c. page_changed len effect c (pages_changed len effect (a + 1) n (page_changed len effect a on))) same
 
-module _ (len : Lengths) (effect : Effect) (on : Pages) (laid : AreLaid on) (a : ℕ) (area : Area) (here : on a ≡ Some area) (does : alters effect area ≡ true) where
+module _ (len : Lengths) (effect : Effect) (on : Pages) (laid : AreLaid on) (a : ℕ) (area : Area) (here : on a ≡ Some area)
+    (does : alters effect area ≡ true) where
   whole : IsWhole area
   whole = laid.whole a area here
 
@@ -183,14 +186,17 @@ module _ (len : Lengths) (effect : Effect) (on : Pages) (laid : AreLaid on) (a :
     wider_last =
         let first = g.low in
         let out : within b ((b + 1) - b) (b - 1) ≡ false = grind (arith, nat_tests) in
-        cond-false (within b ((b + 1) - b) (b - 1)) (option_map (with_effect effect) (cut_at (b + 1) (cut_at b (grown x b)) (b - 1))) (cut_at (b + 1) (cut_at b (grown x b)) (b - 1)) out
+        cond-false (within b ((b + 1) - b) (b - 1)) (option_map (with_effect effect) (cut_at (b + 1) (cut_at b (grown x b)) (b - 1)))
+        (cut_at (b + 1) (cut_at b (grown x b)) (b - 1)) out
         ∙ ap (λ o. option_map (part_of (b + 1) (b - 1)) (option_map (part_of b (b - 1)) o)) (grown_in x b (b - 1) (omega arith) (omega arith))
-        ∙ ap Some (ap (part_of (b + 1) (b - 1)) (ended_part b b (b - 1) x (omega arith) (omega arith)) ∙ ended_part b (b + 1) (b - 1) x (omega arith) (omega arith))
+        ∙ ap Some (ap (part_of (b + 1) (b - 1)) (ended_part b b (b - 1) x (omega arith) (omega arith)) ∙ ended_part b (b + 1)
+        (b - 1) x (omega arith) (omega arith))
 
     wider_next : wider b ≡ Some (more b)
     wider_next =
         let there : within b ((b + 1) - b) b ≡ true = grind (arith, nat_tests) in
-        cond-true (within b ((b + 1) - b) b) (option_map (with_effect effect) (cut_at (b + 1) (cut_at b (grown x b)) b)) (cut_at (b + 1) (cut_at b (grown x b)) b) there
+        cond-true (within b ((b + 1) - b) b) (option_map (with_effect effect) (cut_at (b + 1) (cut_at b (grown x b)) b))
+        (cut_at (b + 1) (cut_at b (grown x b)) b) there
         ∙ ap (λ o. option_map (with_effect effect) (option_map (part_of (b + 1) b) (option_map (part_of b b) o))) (grown_past x b (omega arith) less)
         ∙ ap (λ z. Some (with_effect effect z)) (more_part b (omega arith) less)
 
@@ -201,9 +207,11 @@ module _ (len : Lengths) (effect : Effect) (on : Pages) (laid : AreLaid on) (a :
         let index = g.index in
         let same : index_of (ended b x) (past_of (ended b x)) ≡ index_of area b = omega arith in
         let e1 : ((ended b x).end == (more b).start) ≡ true = eq-eqb (4096 * b) (4096 * b) refl in
-        let e2 : same_prot x.prot (effect.prot area.prot) ≡ true = ap (λ p. same_prot p (effect.prot area.prot)) g.prot ∙ same_as_itself (effect.prot area.prot) in
+        let e2 : same_prot x.prot (effect.prot area.prot) ≡ true = ap (λ p. same_prot p (effect.prot area.prot)) g.prot
+        ∙ same_as_itself (effect.prot area.prot) in
         let e3 : (x.flags == effect.flags area.flags) ≡ true = eq-eqb x.flags (effect.flags area.flags) g.flags in
-        let e4 : (index_of (ended b x) (past_of (ended b x)) == index_of area b) ≡ true = eq-eqb (index_of (ended b x) (past_of (ended b x))) (index_of area b) same in
+        let e4 : (index_of (ended b x) (past_of (ended b x)) == index_of area b) ≡ true =
+        eq-eqb (index_of (ended b x) (past_of (ended b x))) (index_of area b) same in
         let e5 : share_anon x.anon (len x.anon) area.anon (len area.anon) ≡ true = g.shares in
         λ i. e1 i && e2 i && e3 i && e4 i && e5 i
 
@@ -215,13 +223,21 @@ module _ (len : Lengths) (effect : Effect) (on : Pages) (laid : AreLaid on) (a :
     wider_out q out =
         let beyond : first_of x ≤ q → q < b + 1 → ⊥ = λ first last. both_ways (has_page (ended (b + 1) x) q) out (has_ended (b + 1) x q first last) in
         let first = g.low in
-        let not_here : within b ((b + 1) - b) q ≡ false = false_from_ne_true (within b ((b + 1) - b) q) (λ h. let k : b ≤ q = grind (arith, nat_tests) in let m : q < b + 1 = grind (arith, nat_tests) in beyond (omega arith) m) in
-        let not_grown : has_page (ended b x) q ≡ false = false_from_ne_true (has_page (ended b x) q) (λ h. let k = ended_has b x q h in let n = k.1 in beyond k.0 (omega arith)) in
-        cond-false (within b ((b + 1) - b) q) (option_map (with_effect effect) (cut_at (b + 1) (cut_at b (grown x b)) q)) (cut_at (b + 1) (cut_at b (grown x b)) q) not_here
+        let not_here : within b ((b + 1) - b) q ≡ false = false_from_ne_true (within b ((b + 1) - b) q) (λ h. let k : b ≤ q = grind (arith, nat_tests) in
+        let m : q < b + 1 = grind (arith, nat_tests) in beyond (omega arith) m) in
+        let not_grown : has_page (ended b x) q ≡ false = false_from_ne_true (has_page (ended b x) q) (λ h. let k = ended_has b x q h in
+        let n = k.1 in beyond k.0 (omega arith)) in
+        cond-false (within b ((b + 1) - b) q) (option_map (with_effect effect) (cut_at (b + 1) (cut_at b (grown x b)) q))
+        (cut_at (b + 1) (cut_at b (grown x b)) q) not_here
         ∙ ap (λ o. option_map (part_of (b + 1) q) (option_map (part_of b q) o)) (grown_out x b q not_grown)
-        ∙ parts (on q) refl (elim (cases_lt q (first_of x)) [ inl early ↦ inl (omega arith) | inr late ↦ inr (elim (cases_lt q (b + 1)) [ inl k ↦ absurd (beyond late k) | inr k ↦ k ]) ])
+        ∙ parts (on q) refl (elim (cases_lt q (first_of x)) [
+          | inl early ↦ inl (omega arith)
+          | inr late ↦ inr (elim (cases_lt q (b + 1)) [ inl k ↦ absurd (beyond late k) | inr k ↦ k ])
+        ])
       where
-        parts : (o : Option Area) → on q ≡ o → (q < a) ⊎ (b + 1 ≤ q) → option_map (part_of (b + 1) q) (option_map (part_of b q) (option_map (part_of b q) (option_map (part_of a q) o))) ≡ option_map (part_of (b + 1) q) (option_map (part_of a q) o)
+        parts : (o : Option Area) → on q ≡ o → (q < a) ⊎ (b + 1 ≤ q) →
+            option_map (part_of (b + 1) q) (option_map (part_of b q) (option_map (part_of b q) (option_map (part_of a q) o))) ≡ option_map
+            (part_of (b + 1) q) (option_map (part_of a q) o)
         parts None e side = refl
         parts (Some z) e (inl early) =
             let once = early_part a b q z (omega arith) early in
@@ -230,13 +246,15 @@ module _ (len : Lengths) (effect : Effect) (on : Pages) (laid : AreLaid on) (a :
             let w = laid.whole q z e in
             let once = late_part a b q z w (omega arith) (omega arith) in
             let twice = late_part b b q z w (omega arith) (omega arith) in
-            ap Some (ap (λ y. part_of (b + 1) q (part_of b q y)) once ∙ ap (part_of (b + 1) q) twice ∙ late_part b (b + 1) q z w (omega arith) late ∙ sym (late_part a (b + 1) q z w (omega arith) late))
+            ap Some (ap (λ y. part_of (b + 1) q (part_of b q y)) once ∙ ap (part_of (b + 1) q) twice ∙ late_part b (b + 1) q z w (omega arith) late
+            ∙ sym (late_part a (b + 1) q z w (omega arith) late))
 
     grows : (q : ℕ) → joined_at len b wider q ≡ grown x (b + 1) q
     grows q =
         (λ i. after_join len (wider_last i) (wider_next i) q (wider q))
         ∙ (λ i. cond (joins i && has_page (merged_more i) q) (Some (merged_more i)) (wider q))
-        ∙ elim (has_page (ended (b + 1) x) q) as (λ h. has_page (ended (b + 1) x) q ≡ h → cond h (Some (ended (b + 1) x)) (wider q) ≡ cond h (Some (ended (b + 1) x)) (rest (b + 1) q)) [
+        ∙ elim (has_page (ended (b + 1) x) q) as (λ h. has_page (ended (b + 1) x) q ≡ h →
+        cond h (Some (ended (b + 1) x)) (wider q) ≡ cond h (Some (ended (b + 1) x)) (rest (b + 1) q)) [
           | true ↦ λ h. refl
           | false ↦ λ h. wider_out q h
         ] refl
@@ -251,7 +269,8 @@ module _ (len : Lengths) (effect : Effect) (on : Pages) (laid : AreLaid on) (a :
       let there : within a (b - a) q ≡ true = within_from a (b - a) q from (omega arith) in
       let end = whole.end in
       let last : min area.end (4096 * b) ≡ 4096 * b = omega arith in
-      let cut : part_of b q (upper a) ≡ ended b (upper a) = rw (lt-ltb q b less) (λ i. record area { start = 4096 * a; pgoff = index_of area a; end = last i }) in
+      let cut : part_of b q (upper a) ≡ ended b (upper a) = rw (lt-ltb q b less)
+      (λ i. record area { start = 4096 * a; pgoff = index_of area a; end = last i }) in
       cond-true (within a (b - a) q) (option_map (with_effect effect) (rest b q)) (rest b q) there
       ∙ ap (λ o. option_map (with_effect effect) (option_map (part_of b q) (option_map (part_of a q) o))) (inside q from (omega arith))
       ∙ ap (λ z. Some (with_effect effect z)) (ap (part_of b q) (upper_part a q (omega arith) from) ∙ cut)
@@ -276,7 +295,15 @@ module _ (len : Lengths) (effect : Effect) (on : Pages) (laid : AreLaid on) (a :
     pub pages : (b : ℕ) → a < b → b ≤ past_of area → (q : ℕ) → joined_at len a (first_pages b) q ≡ grown x b q
 
   part_grown : IsGrown part
-  part_grown = record { start = omega arith; low = omega arith; prot = refl; flags = refl; index = omega arith; shares = shares len area.anon; own = either_same area.anon area.anon refl }
+  part_grown = record {
+    start = omega arith;
+    low = omega arith;
+    prot = refl;
+    flags = refl;
+    index = omega arith;
+    shares = shares len area.anon;
+    own = either_same area.anon area.anon refl;
+  }
 
   -- the pages of the part alone
   alone : (b : ℕ) → a < b → b ≤ past_of area → (q : ℕ) → first_pages b q ≡ grown part b q
@@ -289,7 +316,8 @@ module _ (len : Lengths) (effect : Effect) (on : Pages) (laid : AreLaid on) (a :
   ] refl
 
   do_share : (l r : Area) → do_join len l r ≡ true → share_anon l.anon (len l.anon) r.anon (len r.anon) ≡ true
-  do_share l r e = (and_parts (l.end == r.start && same_prot l.prot r.prot && (l.flags == r.flags) && (index_of l (past_of l) == r.pgoff)) (share_anon l.anon (len l.anon) r.anon (len r.anon)) e).1
+  do_share l r e = (and_parts (l.end == r.start && same_prot l.prot r.prot && (l.flags == r.flags) && (index_of l (past_of l) == r.pgoff))
+      (share_anon l.anon (len l.anon) r.anon (len r.anon)) e).1
 
   begins : Begins
   begins = each (cut_at a on (a - 1)) refl
@@ -310,15 +338,26 @@ module _ (len : Lengths) (effect : Effect) (on : Pages) (laid : AreLaid on) (a :
             let first = (has_parts l (a - 1) (cut.here (a - 1) l e)).0 in
             let adjoin : l.end ≡ 4096 * a = k.adjoin in
             let index : index_of l (past_of l) ≡ index_of area a = k.index in
-            record { start = w.start; low = omega arith; prot = k.prot; flags = k.flags; index = omega arith; shares = still_shares len l.anon area.anon (do_share l part j); own = once_more l.anon area.anon };
+            record {
+              start = w.start;
+              low = omega arith;
+              prot = k.prot;
+              flags = k.flags;
+              index = omega arith;
+              shares = still_shares len l.anon area.anon
+                  (do_share l part j);
+              own = once_more l.anon area.anon;
+            };
         pages = λ b ab high q.
             let cut = laid_cut a on laid in
             let first = (has_parts l (a - 1) (cut.here (a - 1) l e)).0 in
             (λ i. after_join len ((before_is b ab some ∙ e) i) (itself b ab high i) q (first_pages b q))
             ∙ ap (λ t. cond (t && has_page (ended b (join_of l part)) q) (Some (ended b (join_of l part))) (first_pages b q)) j
-            ∙ elim (has_page (ended b (join_of l part)) q) as (λ h. has_page (ended b (join_of l part)) q ≡ h → cond h (Some (ended b (join_of l part))) (first_pages b q) ≡ cond h (Some (ended b (join_of l part))) (rest b q)) [
+            ∙ elim (has_page (ended b (join_of l part)) q) as (λ h. has_page (ended b (join_of l part)) q ≡ h →
+            cond h (Some (ended b (join_of l part))) (first_pages b q) ≡ cond h (Some (ended b (join_of l part))) (rest b q)) [
               | true ↦ λ h. refl
-              | false ↦ λ h. others_here b q (λ from less. both_ways (has_page (ended b (join_of l part)) q) h (has_ended b (join_of l part) q (omega arith) less))
+              | false ↦ λ h. others_here b q (λ from less. both_ways (has_page (ended b (join_of l part)) q) h
+                  (has_ended b (join_of l part) q (omega arith) less))
             ] refl;
       }
       with_left l e false j = record {
@@ -346,7 +385,8 @@ module _ (len : Lengths) (effect : Effect) (on : Pages) (laid : AreLaid on) (a :
   next_page : (b : ℕ) → a < b → b < past_of area → page_changed len effect b (part_changed len a b effect on) ≡ part_changed len a (b + 1) effect on
   next_page b ab less =
       ap (page_changed len effect b) (whole_part b ab (omega arith) ∙ (λ i q. kept begins.x begins.is b ab less q i))
-      ∙ cond-true (alters_at effect (grown begins.x b b)) (part_changed len b (b + 1) effect (grown begins.x b)) (grown begins.x b) (ap (alters_at effect) (grown_past begins.x b (omega arith) less) ∙ does)
+      ∙ cond-true (alters_at effect (grown begins.x b b)) (part_changed len b (b + 1) effect (grown begins.x b)) (grown begins.x b)
+      (ap (alters_at effect) (grown_past begins.x b (omega arith) less) ∙ does)
       ∙ (λ i. joined_at len (b + 1) (λ q. grows begins.x begins.is b ab less q i))
       ∙ sym (whole_part (b + 1) (omega arith) (omega arith))
 

@@ -29,9 +29,13 @@ record IsExact (from past : ℕ) (area : Area) : Type 0 where
   pub begins : first_of area ≡ from
   pub ends : past_of area ≡ past
 
-part_is_exact : (from past : ℕ) (area : Area) → IsWhole area → first_of area ≤ from → from < past → past ≤ past_of area → IsExact from past (part_of past from (part_of from from area))
+part_is_exact : (from past : ℕ) (area : Area) → IsWhole area → first_of area ≤ from → from < past → past ≤ past_of area →
+    IsExact from past (part_of past from (part_of from from area))
 part_is_exact from past area whole low some high =
-    rw (le-ltb from from (omega arith), lt-ltb from past some) (record { begins = first area.start (first_of area) whole.start low; ends = last area.end (past_of area) whole.end high })
+    rw (le-ltb from from (omega arith), lt-ltb from past some) (record {
+      begins = first area.start (first_of area) whole.start low;
+      ends = last area.end (past_of area) whole.end high;
+    })
   where
     first : (start n : ℕ) → start ≡ 4096 * n → n ≤ from → max start (4096 * from) / 4096 ≡ from
     first start n is low = omega arith
@@ -52,7 +56,8 @@ far_one on from past h = go (on from) refl h
     go None is h = absurd h
     go (Some area) is h = record { area = area; is = is; far = h }
 
-differ_at : (at : ℕ) (on : Pages) (m n : Mapping) → mapping on (at - 1) ≡ Some m → mapping on at ≡ Some n → (m.prot ≡ n.prot → m.flags ≡ n.flags → ⊥) → DoDiffer at on
+differ_at : (at : ℕ) (on : Pages) (m n : Mapping) → mapping on (at - 1) ≡ Some m → mapping on at ≡ Some n →
+    (m.prot ≡ n.prot → m.flags ≡ n.flags → ⊥) → DoDiffer at on
 differ_at at on m n before after apart =
     subst (λ o. IfSome o (λ a. IfSome (mapping on at) (λ b. a.prot ≡ b.prot → a.flags ≡ b.flags → ⊥))) (sym before)
     (subst (λ o. IfSome o (λ b. m.prot ≡ b.prot → m.flags ≡ b.flags → ⊥)) (sym after) apart)
@@ -60,7 +65,8 @@ differ_at at on m n before after apart =
 -- what an effect makes another isn't so already
 not_so : (effect : Effect) (area : Area) → alters effect area ≡ true → effect.prot area.prot ≡ area.prot → effect.flags area.flags ≡ area.flags → ⊥
 not_so effect area altered prot flags =
-    let both = and_from (same_prot (effect.prot area.prot) area.prot) (effect.flags area.flags == area.flags) (ap (λ q. same_prot q area.prot) prot ∙ same_as_itself area.prot) (eq-eqb (effect.flags area.flags) area.flags flags) in
+    let both = and_from (same_prot (effect.prot area.prot) area.prot) (effect.flags area.flags == area.flags)
+    (ap (λ q. same_prot q area.prot) prot ∙ same_as_itself area.prot) (eq-eqb (effect.flags area.flags) area.flags flags) in
     false≢true (sym (ap not both) ∙ altered)
 
 module _ (len : Lengths) (p from past number : ℕ) (effect : Effect) (area : Area) (areas two changed : ℕ → Option Area) (spans spans'' : List Span)
@@ -86,13 +92,19 @@ module _ (len : Lengths) (p from past number : ℕ) (effect : Effect) (area : Ar
   exact =
       let laid = laid_of p areas spans stands in
       let low = (has_parts whole.area from (laid.here from whole.area whole.is)).0 in
-      subst (IsExact from past) (same_Some _ area (sym (ap (option_map (part_of past from)) (ap (option_map (part_of from from)) whole.is)) ∙ sym (cut from) ∙ here))
+      subst (IsExact from past) (same_Some _ area (sym (ap (option_map (part_of past from)) (ap (option_map (part_of from from)) whole.is))
+      ∙ sym (cut from) ∙ here))
       (part_is_exact from past whole.area (laid.whole from whole.area whole.is) low some whole.far)
 
   is : IsAreaOf p on.span (with_effect effect area)
   is =
       let w = on.is.whole in
-      record { process = on.is.process; whole = record { start = w.start; end = w.end; some = w.some; low = w.low; high = w.high; small = w.small }; from = on.is.from; to = on.is.to }
+      record {
+        process = on.is.process;
+        whole = record { start = w.start; end = w.end; some = w.some; low = w.low; high = w.high; small = w.small };
+        from = on.is.from;
+        to = on.is.to;
+      }
 
   pub changed_stands : AreAreasOf p changed spans''
   changed_stands = change_stands p number on.span (with_effect effect area) two changed spans'' stays.areas there is now
@@ -107,7 +119,9 @@ module _ (len : Lengths) (p from past number : ℕ) (effect : Effect) (area : Ar
   changed_pages page =
       change_pages p number on.span (with_effect effect area) two changed spans'' stays.areas there is now page
       ∙ ap (λ b. cond b (Some (with_effect effect area)) (pages_by two spans'' page)) bounds
-      ∙ elim (within from (past - from) page) as (λ b. within from (past - from) page ≡ b → cond b (Some (with_effect effect area)) (pages_by two spans'' page) ≡ cond b (option_map (with_effect effect) (pages_by two spans'' page)) (pages_by two spans'' page)) [
+      ∙ elim (within from (past - from) page) as (λ b. within from (past - from) page ≡ b →
+      cond b (Some (with_effect effect area)) (pages_by two spans'' page) ≡ cond b (option_map (with_effect effect) (pages_by two spans'' page))
+      (pages_by two spans'' page)) [
         | true ↦ λ h. sym (ap (option_map (with_effect effect)) (one_area p two spans'' from page area stays.areas here (bounds ∙ h)))
         | false ↦ λ h. refl
       ] refl
@@ -123,11 +137,13 @@ module _ (len : Lengths) (p from past number : ℕ) (effect : Effect) (area : Ar
   laid_after = laid_of p changed spans'' changed_stands
 
   -- how each page is mapped when the part has the effect
-  changed_mapping : (page : ℕ) → mapping (pages_by changed spans'') page ≡ cond (within from (past - from) page) (option_map (mapping_with effect) (mapping (pages_by areas spans) page)) (mapping (pages_by areas spans) page)
+  changed_mapping : (page : ℕ) → mapping (pages_by changed spans'') page ≡ cond (within from (past - from) page)
+      (option_map (mapping_with effect) (mapping (pages_by areas spans) page)) (mapping (pages_by areas spans) page)
   changed_mapping page =
       ap (option_map (mapping_in page)) (changed_pages page)
       ∙ changed_maps from past effect (cut_at past (cut_at from (pages_by areas spans))) page
-      ∙ ap (λ (m : Option Mapping). cond (within from (past - from) page) (option_map (mapping_with effect) m) m) (cut_maps past (cut_at from (pages_by areas spans)) (laid_cut from (pages_by areas spans) laid) page ∙ cut_maps from (pages_by areas spans) laid page)
+      ∙ ap (λ (m : Option Mapping). cond (within from (past - from) page) (option_map (mapping_with effect) m) m)
+      (cut_maps past (cut_at from (pages_by areas spans)) (laid_cut from (pages_by areas spans) laid) page ∙ cut_maps from (pages_by areas spans) laid page)
 
   -- the area that the part is of, where the effect makes it another
   module _ (one : Area) (there : pages_by areas spans from ≡ Some one) (altered : alters effect one ≡ true) where
@@ -138,17 +154,21 @@ module _ (len : Lengths) (p from past number : ℕ) (effect : Effect) (area : Ar
     on_one page least most = ap (option_map (mapping_in page)) (laid.all from page one there (has_from one page least most))
 
     -- in the part and beside it
-    changed_in : (page : ℕ) → from ≤ page → page < past → page < past_of one → mapping (pages_by changed spans'') page ≡ Some (mapping_with effect (mapping_in page one))
+    changed_in : (page : ℕ) → from ≤ page → page < past → page < past_of one →
+        mapping (pages_by changed spans'') page ≡ Some (mapping_with effect (mapping_in page one))
     changed_in page least most inside =
         let least_of = low in
         changed_mapping page
-        ∙ ap (λ b. cond b (option_map (mapping_with effect) (mapping (pages_by areas spans) page)) (mapping (pages_by areas spans) page)) (within_from from (past - from) page least (omega arith))
+        ∙ ap (λ b. cond b (option_map (mapping_with effect) (mapping (pages_by areas spans) page)) (mapping (pages_by areas spans) page))
+        (within_from from (past - from) page least (omega arith))
         ∙ ap (option_map (mapping_with effect)) (on_one page (omega arith) inside)
 
-    beside : (page : ℕ) → (from ≤ page → page < past → ⊥) → first_of one ≤ page → page < past_of one → mapping (pages_by changed spans'') page ≡ Some (mapping_in page one)
+    beside : (page : ℕ) → (from ≤ page → page < past → ⊥) → first_of one ≤ page → page < past_of one →
+        mapping (pages_by changed spans'') page ≡ Some (mapping_in page one)
     beside page out least most =
         changed_mapping page
-        ∙ ap (λ b. cond b (option_map (mapping_with effect) (mapping (pages_by areas spans) page)) (mapping (pages_by areas spans) page)) (false_from_ne_true _ (λ h. let k = within_parts from (past - from) page h in let first = k.0 in let last = k.1 in out first (omega arith)))
+        ∙ ap (λ b. cond b (option_map (mapping_with effect) (mapping (pages_by areas spans) page)) (mapping (pages_by areas spans) page))
+        (false_from_ne_true _ (λ h. let k = within_parts from (past - from) page h in let first = k.0 in let last = k.1 in out first (omega arith)))
         ∙ on_one page least most
 
     pub differs_below : first_of one < from → DoDiffer from (pages_by changed spans'')
@@ -171,10 +191,17 @@ module _ (len : Lengths) (p from past number : ℕ) (effect : Effect) (area : Ar
   pub changed_kin : (f : Family) (s : ℕ → List interval.Span) → IsInOrder two f s → KeepsKin two changed f f s
   changed_kin f s o = keeps_fields two changed f s number o area (with_effect effect area) used refl refl is.whole now
 
-  pub part_pages : {T E : Type 0} (len' : Lengths) → AreAlike len len' (pages_by changed spans'') → (r : Result T E) (new : Pages) → OnOk r ((page : ℕ) → new page ≡ joined_around len from past (pages_by changed spans'') page) → OnOk r ((page : ℕ) → new page ≡ joined_around len' from past (with_effect_on from past effect (cut_at past (cut_at from (pages_by areas spans)))) page)
-  part_pages len' alike (Ok x) new h = λ page. h page ∙ around_alike len len' from past (pages_by changed spans'') alike page ∙ (λ i. joined_around len' from past (λ q. changed_pages q i) page)
+  pub part_pages : {T E : Type 0} (len' : Lengths) → AreAlike len len' (pages_by changed spans'') → (r : Result T E) (new : Pages) →
+      OnOk r ((page : ℕ) → new page ≡ joined_around len from past (pages_by changed spans'') page) →
+      OnOk r ((page : ℕ) → new page ≡ joined_around len' from past (with_effect_on from past effect (cut_at past (cut_at from (pages_by areas spans)))) page)
+  part_pages len' alike (Ok x) new h = λ page. h page ∙ around_alike len len' from past (pages_by changed spans'') alike page
+      ∙ (λ i. joined_around len' from past (λ q. changed_pages q i) page)
   part_pages len' alike (Err e) new h = tt
 
-  pub part_mapping : {T E : Type 0} (r : Result T E) (new : Pages) → OnOk r ((page : ℕ) → new page ≡ joined_around len from past (pages_by changed spans'') page) → OnOk r ((page : ℕ) → mapping new page ≡ cond (within from (past - from) page) (option_map (mapping_with effect) (mapping (pages_by areas spans) page)) (mapping (pages_by areas spans) page))
-  part_mapping (Ok x) new h = λ page. part_maps_to len from past effect (pages_by areas spans) (pages_by changed spans'') new laid laid_after changed_pages h page
+  pub part_mapping : {T E : Type 0} (r : Result T E) (new : Pages) →
+      OnOk r ((page : ℕ) → new page ≡ joined_around len from past (pages_by changed spans'') page) →
+      OnOk r ((page : ℕ) → mapping new page ≡ cond (within from (past - from) page) (option_map (mapping_with effect) (mapping (pages_by areas spans) page))
+      (mapping (pages_by areas spans) page))
+  part_mapping (Ok x) new h = λ page. part_maps_to len from past effect (pages_by areas spans) (pages_by changed spans'') new
+      laid laid_after changed_pages h page
   part_mapping (Err e) new h = tt

@@ -39,8 +39,10 @@ is_so effect area e =
 -- ---- pages in turn
 
 -- some pages, and then some more
-pages_then : (len : Lengths) (effect : Effect) (a m n : ℕ) (on : Pages) → pages_changed len effect (a + m) n (pages_changed len effect a m on) ≡ pages_changed len effect a (m + n) on
-pages_then len effect a zero n on = (let first : a + 0 ≡ a = omega arith in let all : n ≡ 0 + n = omega arith in λ i. pages_changed len effect (first i) (all i) on)
+pages_then : (len : Lengths) (effect : Effect) (a m n : ℕ) (on : Pages) →
+    pages_changed len effect (a + m) n (pages_changed len effect a m on) ≡ pages_changed len effect a (m + n) on
+pages_then len effect a zero n on = (let first : a + 0 ≡ a = omega arith in let all : n ≡ 0 + n = omega arith in
+    λ i. pages_changed len effect (first i) (all i) on)
 pages_then len effect a (suc m) n on =
     let first : a + suc m ≡ (a + 1) + m = omega arith in
     let all : suc (m + n) ≡ suc m + n = omega arith in
@@ -49,7 +51,8 @@ pages_then len effect a (suc m) n on =
     ∙ ap (λ c. pages_changed len effect a c on) all
 
 -- pages that are so already stay
-pages_stay : (len : Lengths) (effect : Effect) (a n : ℕ) (on : Pages) → ((q : ℕ) → a ≤ q → q < a + n → alters_at effect (on q) ≡ false) → pages_changed len effect a n on ≡ on
+pages_stay : (len : Lengths) (effect : Effect) (a n : ℕ) (on : Pages) → ((q : ℕ) → a ≤ q → q < a + n → alters_at effect (on q) ≡ false) →
+    pages_changed len effect a n on ≡ on
 pages_stay len effect a zero on so = refl
 pages_stay len effect a (suc n) on so =
     let first = cond-false (alters_at effect (on a)) _ on (so a (omega arith) (omega arith)) in
@@ -79,13 +82,15 @@ some_mapped on page = go (on page)
     go None = refl
     go (Some area) = refl
 
-pub done_first : (len : Lengths) (from to : ℕ) (effect : Effect) (areas : ℕ → Option Area) (spans : List Span) → from ≤ to → IsDone len from from to effect areas areas spans spans
+pub done_first : (len : Lengths) (from to : ℕ) (effect : Effect) (areas : ℕ → Option Area) (spans : List Span) → from ≤ to →
+    IsDone len from from to effect areas areas spans spans
 done_first len from to effect areas spans forward = record {
   stays = λ p stands. record { areas = stands; others = others_refl p areas };
   lowest = omega arith;
   highest = forward;
   all = λ q low high. absurd (omega arith);
-  pages = λ page. ap (λ b. cond b (option_map (mapping_with effect) (mapping (pages_by areas spans) page)) (mapping (pages_by areas spans) page)) (sym (in_none from page));
+  pages = λ page. ap (λ b. cond b (option_map (mapping_with effect) (mapping (pages_by areas spans) page)) (mapping (pages_by areas spans) page))
+      (sym (in_none from page));
   exact = (let none : 0 ≡ from - from = omega arith in ap (λ n. pages_changed len effect from n (pages_by areas spans)) none);
 }
 
@@ -96,7 +101,8 @@ module _ (len : Lengths) (p from page to : ℕ) (effect : Effect) (old new : ℕ
 
   -- from the page on, nothing changed yet
   later : (q : ℕ) → page ≤ q → mapping (pages_by new spans) q ≡ mapping (pages_by old before) q
-  later q low = done.pages q ∙ ap (λ b. cond b (option_map (mapping_with effect) (mapping (pages_by old before) q)) (mapping (pages_by old before) q)) (past_it from page q low)
+  later q low = done.pages q ∙ ap (λ b. cond b (option_map (mapping_with effect) (mapping (pages_by old before) q)) (mapping (pages_by old before) q))
+      (past_it from page q low)
 
   later_taken : (q : ℕ) → page ≤ q → is_page_taken before q ≡ is_page_taken spans q
   later_taken q low =
@@ -146,7 +152,10 @@ module _ (len : Lengths) (p from page to : ℕ) (effect : Effect) (old new : ℕ
       subst (λ n. IsRemapped from n effect (pages_by old before) (pages_by new spans)) same done.pages
 
   -- an area's pages from here on get the protection
-  pub done_step : (past : ℕ) (area : Area) (next : ℕ → Option Area) (spans' : List Span) → pages_by new spans page ≡ Some area → page < past → past ≤ past_of area → past ≤ to → ((q : ℕ) → AreAreasOf q new spans → Stays q new next spans') → IsRemapped page past effect (pages_by new spans) (pages_by next spans') → pages_by next spans' ≡ pages_changed len effect page (past - page) (pages_by new spans) → IsDone len from past to effect old next before spans'
+  pub done_step : (past : ℕ) (area : Area) (next : ℕ → Option Area) (spans' : List Span) → pages_by new spans page ≡ Some area → page < past →
+      past ≤ past_of area → past ≤ to → ((q : ℕ) → AreAreasOf q new spans → Stays q new next spans') →
+      IsRemapped page past effect (pages_by new spans) (pages_by next spans') → pages_by next spans' ≡ pages_changed len effect page (past - page)
+      (pages_by new spans) → IsDone len from past to effect old next before spans'
   done_step past area next spans' here less far high stays changed exact = record {
     stays = λ q is. let one = done.stays q is in stays_trans q old new next spans spans' one (stays q one.areas);
     lowest = let lowest = done.lowest in omega arith;
@@ -155,15 +164,21 @@ module _ (len : Lengths) (p from page to : ℕ) (effect : Effect) (old new : ℕ
       | inl early ↦ done.all q low early
       | inr late ↦
           let first = (has_parts area page (is_on p new spans page area there here).has).0 in
-          later_taken q late ∙ sym (taken_is p new spans q there) ∙ ap is_some (one_area p new spans page q area there here (has_from area q (omega arith) (omega arith)))
+          later_taken q late ∙ sym (taken_is p new spans q there) ∙ ap is_some
+          (one_area p new spans page q area there here (has_from area q (omega arith) (omega arith)))
     ];
     pages = λ q.
         changed q
-        ∙ elim (within page (past - page) q) as (λ b. within page (past - page) q ≡ b → cond b (option_map (mapping_with effect) (mapping (pages_by new spans) q)) (mapping (pages_by new spans) q) ≡ cond (cond b true (within from (page - from) q)) (option_map (mapping_with effect) (mapping (pages_by old before) q)) (mapping (pages_by old before) q)) [
-          | true ↦ λ h. ap (option_map (mapping_with effect)) (done.pages q ∙ ap (λ b. cond b (option_map (mapping_with effect) (mapping (pages_by old before) q)) (mapping (pages_by old before) q)) (apart from page past q h))
+        ∙ elim (within page (past - page) q) as (λ b. within page (past - page) q ≡ b →
+        cond b (option_map (mapping_with effect) (mapping (pages_by new spans) q)) (mapping (pages_by new spans) q) ≡ cond
+        (cond b true (within from (page - from) q)) (option_map (mapping_with effect) (mapping (pages_by old before) q)) (mapping (pages_by old before) q)) [
+          | true ↦ λ h. ap (option_map (mapping_with effect)) (done.pages q
+              ∙ ap (λ b. cond b (option_map (mapping_with effect) (mapping (pages_by old before) q)) (mapping (pages_by old before) q))
+              (apart from page past q h))
           | false ↦ λ h. done.pages q
         ] refl
-        ∙ ap (λ b. cond b (option_map (mapping_with effect) (mapping (pages_by old before) q)) (mapping (pages_by old before) q)) (sym (two_ranges from page past q done.lowest (omega arith)));
+        ∙ ap (λ b. cond b (option_map (mapping_with effect) (mapping (pages_by old before) q)) (mapping (pages_by old before) q))
+        (sym (two_ranges from page past q done.lowest (omega arith)));
     exact =
         let lowest = done.lowest in
         let here : page ≡ from + (page - from) = omega arith in
@@ -182,23 +197,27 @@ module _ (len : Lengths) (p from page to : ℕ) (effect : Effect) (old new : ℕ
         one_area p new spans page q area there here (has_from area q (omega arith) (omega arith))
 
     pub same_already : IsRemapped page past effect (pages_by new spans) (pages_by new spans)
-    same_already q = elim (within page (past - page) q) as (λ b. within page (past - page) q ≡ b → mapping (pages_by new spans) q ≡ cond b (option_map (mapping_with effect) (mapping (pages_by new spans) q)) (mapping (pages_by new spans) q)) [
-      | true ↦ λ h.
-          let low : page ≤ q = grind (arith, nat_tests) in
-          let high : q < past = grind (arith, nat_tests) in
-          let on = there_too q low high in
-          let so = is_so effect area same in
-          ap (option_map (mapping_in q)) on
-          ∙ (λ i. Some (record (mapping_in q area) { prot = sym so.prot i; flags = sym so.flags i }))
-          ∙ sym (ap (λ o. option_map (mapping_with effect) (option_map (mapping_in q) o)) on)
-      | false ↦ λ h. refl
-    ] refl
+    same_already q = elim (within page (past - page) q) as (λ b. within page (past - page) q ≡ b →
+        mapping (pages_by new spans) q ≡ cond b (option_map (mapping_with effect) (mapping (pages_by new spans) q)) (mapping (pages_by new spans) q)) [
+          | true ↦ λ h.
+              let low : page ≤ q = grind (arith, nat_tests) in
+              let high : q < past = grind (arith, nat_tests) in
+              let on = there_too q low high in
+              let so = is_so effect area same in
+              ap (option_map (mapping_in q)) on
+              ∙ (λ i. Some (record (mapping_in q area) { prot = sym so.prot i; flags = sym so.flags i }))
+              ∙ sym (ap (λ o. option_map (mapping_with effect) (option_map (mapping_in q) o)) on)
+          | false ↦ λ h. refl
+        ] refl
 
     pub same_exact : page ≤ past → pages_by new spans ≡ pages_changed len effect page (past - page) (pages_by new spans)
-    same_exact le = sym (pages_stay len effect page (past - page) (pages_by new spans) (λ q low high. ap (alters_at effect) (there_too q low (omega arith)) ∙ same))
+    same_exact le = sym (pages_stay len effect page (past - page) (pages_by new spans)
+        (λ q low high. ap (alters_at effect) (there_too q low (omega arith)) ∙ same))
 
   -- a part of an area that was changed at once was changed page by page
-  pub part_exact : (past : ℕ) (area : Area) → pages_by new spans page ≡ Some area → page < past → past ≤ past_of area → (b : Bool) → b ≡ alters effect area → b ≡ true → (next : Pages) → ((q : ℕ) → next q ≡ part_changed len page past effect (pages_by new spans) q) → next ≡ pages_changed len effect page (past - page) (pages_by new spans)
+  pub part_exact : (past : ℕ) (area : Area) → pages_by new spans page ≡ Some area → page < past → past ≤ past_of area → (b : Bool) → b ≡ alters effect area →
+      b ≡ true → (next : Pages) → ((q : ℕ) → next q ≡ part_changed len page past effect (pages_by new spans) q) →
+      next ≡ pages_changed len effect page (past - page) (pages_by new spans)
   part_exact past area here less far b is does next pages =
       let n = past - page - 1 in
       let all : page + suc n ≡ past = omega arith in

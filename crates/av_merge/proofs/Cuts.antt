@@ -24,11 +24,13 @@ most : (a b : ℕ) → b ≤ a → max a b ≡ a
 most a b h = omega arith
 
 -- an area that a cut doesn't cross is its own part
-pub part_is : (at page : ℕ) (area : Area) → IsWhole area → has_page area page ≡ true → (first_of area < at → at < past_of area → ⊥) → part_of at page area ≡ area
+pub part_is : (at page : ℕ) (area : Area) → IsWhole area → has_page area page ≡ true → (first_of area < at → at < past_of area → ⊥) →
+    part_of at page area ≡ area
 part_is at page area whole has out =
     let low = (has_parts area page has).0 in
     let high = (has_parts area page has).1 in
-    elim (nat_lt page at) as (λ b. nat_lt page at ≡ b → cond b (record area { end = min area.end (4096 * at) }) (record area { start = max area.start (4096 * at); pgoff = area.pgoff + (at - first_of area) }) ≡ area) [
+    elim (nat_lt page at) as (λ b. nat_lt page at ≡ b → cond b (record area { end = min area.end (4096 * at) })
+    (record area { start = max area.start (4096 * at); pgoff = area.pgoff + (at - first_of area) }) ≡ area) [
       | true ↦ λ h.
           let below : page < at = ltb-true page at h in
           let past : past_of area ≤ at = elim (cases_lt at (past_of area)) [ inl less ↦ absurd (out (omega arith) less) | inr more ↦ more ] in
@@ -67,7 +69,8 @@ abbrev pub without : Area → Pages → Pages
 without area on page = if has_page area page then None else on page
 
 -- where parts of an area are put in its place, the pages between them go
-module _ (on : Pages) (from to : ℕ) (area : Area) (are : AreLaid on) (there : on from ≡ Some area) (below : first_of area < from) (forward : from ≤ to) (inside : to < past_of area) (page : ℕ) where
+module _ (on : Pages) (from to : ℕ) (area : Area) (are : AreLaid on) (there : on from ≡ Some area) (below : first_of area < from) (forward : from ≤ to)
+    (inside : to < past_of area) (page : ℕ) where
   upper_part : to ≤ page → part_of to page (part_of from page area) ≡ upper_of to area
   upper_part above =
       let start = (are.whole from area there).start in
@@ -82,7 +85,8 @@ module _ (on : Pages) (from to : ℕ) (area : Area) (are : AreLaid on) (there : 
       let same : min (min area.end (4096 * from)) (4096 * to) ≡ 4096 * from = omega arith in
       rw (lt-ltb page from less, lt-ltb page to (omega arith)) (ap (λ n. record area { end = n }) same)
 
-  other_stays : (at : ℕ) → first_of area < at → at < past_of area → has_page area page ≡ false → (o : Option Area) → on page ≡ o → o ≡ option_map (part_of at page) o
+  other_stays : (at : ℕ) → first_of area < at → at < past_of area → has_page area page ≡ false → (o : Option Area) → on page ≡ o →
+      o ≡ option_map (part_of at page) o
   other_stays at low high out None e = refl
   other_stays at low high out (Some other) e = ap Some (sym (part_is at page other (are.whole page other e) (are.here page other e) (λ least most.
       let there' = are.all page at other e (has_from other at (omega arith) most) in
@@ -104,7 +108,8 @@ module _ (on : Pages) (from to : ℕ) (area : Area) (are : AreLaid on) (there : 
         ] in
         rw (within_from from (to - from) page first (omega arith)) refl
     | false ↦ λ out.
-        let apart : within from (to - from) page ≡ false = false_from_ne_true _ (λ h. let k = within_parts from (to - from) page h in let low = k.0 in let high = k.1 in both_ways _ out (has_from area page (omega arith) (omega arith))) in
+        let apart : within from (to - from) page ≡ false = false_from_ne_true _ (λ h. let k = within_parts from (to - from) page h in let low = k.0 in
+        let high = k.1 in both_ways _ out (has_from area page (omega arith) (omega arith))) in
         rw apart (
         other_stays from below (omega arith) out (on page) refl
         ∙ ap (option_map (part_of from page)) (other_stays to (omega arith) inside out (on page) refl)
@@ -112,7 +117,8 @@ module _ (on : Pages) (from to : ℕ) (area : Area) (are : AreLaid on) (there : 
         )
   ] refl
     where
-      swapped : (o : Option Area) → on page ≡ o → has_page area page ≡ false → option_map (part_of from page) (option_map (part_of to page) o) ≡ option_map (part_of to page) (option_map (part_of from page) o)
+      swapped : (o : Option Area) → on page ≡ o → has_page area page ≡ false → option_map (part_of from page) (option_map (part_of to page) o) ≡ option_map
+          (part_of to page) (option_map (part_of from page) o)
       swapped o e out =
           ap (option_map (part_of from page)) (sym (other_stays to (omega arith) inside out o e))
           ∙ sym (other_stays from below (omega arith) out o e)
@@ -121,7 +127,8 @@ module _ (on : Pages) (from to : ℕ) (area : Area) (are : AreLaid on) (there : 
 
   pub cut_through : with_area (upper_of to area) (with_area (lower_of from area) (without area on)) page ≡ after_unmap from to on page
   cut_through =
-      elim (has_page (upper_of to area) page) as (λ b. has_page (upper_of to area) page ≡ b → cond b (Some (upper_of to area)) (with_area (lower_of from area) (without area on) page) ≡ after_unmap from to on page) [
+      elim (has_page (upper_of to area) page) as (λ b. has_page (upper_of to area) page ≡ b →
+      cond b (Some (upper_of to area)) (with_area (lower_of from area) (without area on) page) ≡ after_unmap from to on page) [
         | true ↦ λ h.
             let low : first_of (upper_of to area) ≤ page = (has_parts (upper_of to area) page h).0 in
             let high : page < past_of area = (has_parts (upper_of to area) page h).1 in
@@ -129,16 +136,18 @@ module _ (on : Pages) (from to : ℕ) (area : Area) (are : AreLaid on) (there : 
             let here : on page ≡ Some area = are.all from page area there (has_from area page (omega arith) high) in
             let out : within from (to - from) page ≡ false = false_from_ne_true _ (λ h. let k = (within_parts from (to - from) page h).1 in omega arith) in
             rw (out, here) (ap Some (sym (upper_part at_page)))
-        | false ↦ λ h. elim (has_page (lower_of from area) page) as (λ b. has_page (lower_of from area) page ≡ b → cond b (Some (lower_of from area)) (without area on page) ≡ after_unmap from to on page) [
-          | true ↦ λ k.
-              let low : first_of area ≤ page = (has_parts (lower_of from area) page k).0 in
-              let high : page < past_of (lower_of from area) = (has_parts (lower_of from area) page k).1 in
-              let at_page : page < from = (let e = page_of from in omega arith) in
-              let here : on page ≡ Some area = are.all from page area there (has_from area page low (omega arith)) in
-              let out : within from (to - from) page ≡ false = false_from_ne_true _ (λ h. let k = (within_parts from (to - from) page h).0 in omega arith) in
-              rw (out, here) (ap Some (sym (lower_part at_page)))
-          | false ↦ λ k. outside h k
-        ] refl
+        | false ↦ λ h. elim (has_page (lower_of from area) page) as (λ b. has_page (lower_of from area) page ≡ b →
+            cond b (Some (lower_of from area)) (without area on page) ≡ after_unmap from to on page) [
+              | true ↦ λ k.
+                  let low : first_of area ≤ page = (has_parts (lower_of from area) page k).0 in
+                  let high : page < past_of (lower_of from area) = (has_parts (lower_of from area) page k).1 in
+                  let at_page : page < from = (let e = page_of from in omega arith) in
+                  let here : on page ≡ Some area = are.all from page area there (has_from area page low (omega arith)) in
+                  let out : within from (to - from) page ≡ false = false_from_ne_true _ (λ h. let k = (within_parts from (to - from) page h).0 in
+                  omega arith) in
+                  rw (out, here) (ap Some (sym (lower_part at_page)))
+              | false ↦ λ k. outside h k
+            ] refl
       ] refl
 
 -- after a cut, an area begins with the page
@@ -148,7 +157,8 @@ cut_starts on at area e = each (on at) e
     each : (o : Option Area) → option_map (part_of at at) o ≡ Some area → at ≤ first_of area
     each None e = cc
     each (Some b) e =
-        let same : record b { start = max b.start (4096 * at); pgoff = b.pgoff + (at - first_of b) } ≡ area = (let k : part_of at at b ≡ area = cc in rw (le-ltb at at (omega arith)) at k) in
+        let same : record b { start = max b.start (4096 * at); pgoff = b.pgoff + (at - first_of b) } ≡ area =
+        (let k : part_of at at b ≡ area = cc in rw (le-ltb at at (omega arith)) at k) in
         let start : max b.start (4096 * at) ≡ area.start = ap (λ (a : Area). a.start) same in
         omega arith
 
@@ -171,10 +181,12 @@ pub record IsCrossed (p n from to : ℕ) (spans : List Span) (area : Area) : Typ
   pub low : first_of area < from
   pub high : to < past_of area
 
-pub crossed : (p n from to : ℕ) (areas : ℕ → Option Area) (spans : List Span) (area : Area) → AreAreasOf p areas spans → IsSomeAnd (span_of spans n) (λ s. (s.from < from) × (to < s.to)) → areas n ≡ Some area → IsCrossed p n from to spans area
+pub crossed : (p n from to : ℕ) (areas : ℕ → Option Area) (spans : List Span) (area : Area) → AreAreasOf p areas spans →
+    IsSomeAnd (span_of spans n) (λ s. (s.from < from) × (to < s.to)) → areas n ≡ Some area → IsCrossed p n from to spans area
 crossed p n from to areas spans area stands inside used = each (span_of spans n) refl inside (stands.used n)
   where
-    each : (o : Option Span) → span_of spans n ≡ o → IsSomeAnd o (λ s. (s.from < from) × (to < s.to)) → IfSome o (λ s. IsSomeAnd (areas n) (IsAreaOf p s)) → IsCrossed p n from to spans area
+    each : (o : Option Span) → span_of spans n ≡ o → IsSomeAnd o (λ s. (s.from < from) × (to < s.to)) → IfSome o (λ s. IsSomeAnd (areas n) (IsAreaOf p s)) →
+        IsCrossed p n from to spans area
     each None e h k = absurd h
     each (Some s) e h k =
         let is : IsAreaOf p s area = subst (λ o. IsSomeAnd o (IsAreaOf p s)) used k in
@@ -184,7 +196,8 @@ crossed p n from to areas spans area stands inside used = each (span_of spans n)
         let last = is.to in
         record { span = s; there = e; is = is; low = omega arith; high = omega arith }
 
-module _ (p n from to : ℕ) (areas : ℕ → Option Area) (spans : List Span) (area : Area) (stands : AreAreasOf p areas spans) (used : areas n ≡ Some area) (forward : from ≤ to) (c : IsCrossed p n from to spans area) where
+module _ (p n from to : ℕ) (areas : ℕ → Option Area) (spans : List Span) (area : Area) (stands : AreAreasOf p areas spans) (used : areas n ≡ Some area)
+    (forward : from ≤ to) (c : IsCrossed p n from to spans area) where
   pub parts_ends : IsSomeAnd (span_of spans n) (λ s. (s.from ≡ first_of (lower_of from area)) × (s.to ≡ past_of (upper_of to area)))
   parts_ends = subst (λ o. IsSomeAnd o (λ s. (s.from ≡ first_of (lower_of from area)) × (s.to ≡ past_of (upper_of to area)))) (sym c.there) (c.is.from, c.is.to)
 
@@ -192,17 +205,24 @@ module _ (p n from to : ℕ) (areas : ℕ → Option Area) (spans : List Span) (
   rest_is page = pages_without p n c.span areas spans stands c.there page ∙ ap (λ b. cond b None (pages_by areas spans page)) (holds_is p c.span area page c.is)
 
   -- the two parts have been put
-  pub split_pages : (areas' : ℕ → Option Area) (spans' : List Span) → ((page : ℕ) → pages_by areas' spans' page ≡ with_area (upper_of to area) (with_area (lower_of from area) (pages_by (with_at n None areas) spans)) page) → (page : ℕ) → pages_by areas' spans' page ≡ after_unmap from to (pages_by areas spans) page
+  pub split_pages : (areas' : ℕ → Option Area) (spans' : List Span) →
+      ((page : ℕ) → pages_by areas' spans' page ≡ with_area (upper_of to area) (with_area (lower_of from area) (pages_by (with_at n None areas) spans)) page) →
+      (page : ℕ) → pages_by areas' spans' page ≡ after_unmap from to (pages_by areas spans) page
   split_pages areas' spans' pages' page =
       pages' page
-      ∙ ap (λ o. cond (has_page (upper_of to area) page) (Some (upper_of to area)) (cond (has_page (lower_of from area) page) (Some (lower_of from area)) o)) (rest_is page)
-      ∙ cut_through (pages_by areas spans) from to area (laid_of p areas spans stands) (on_span p areas spans n c.span area from stands c.there used (let e = c.is.from in let low = c.low in omega arith) (let e = c.is.to in let high = c.high in omega arith)) c.low forward c.high page
+      ∙ ap (λ o. cond (has_page (upper_of to area) page) (Some (upper_of to area)) (cond (has_page (lower_of from area) page) (Some (lower_of from area)) o))
+      (rest_is page)
+      ∙ cut_through (pages_by areas spans) from to area (laid_of p areas spans stands)
+      (on_span p areas spans n c.span area from stands c.there used (let e = c.is.from in let low = c.low in omega arith) (let e = c.is.to in
+      let high = c.high in omega arith)) c.low forward c.high page
 
   -- the numbers of what is left: the upper part's, and that of the area
   module _ (spans' : List Span) (number : ℕ)
-      (numbers' : (page : ℕ) → area_at spans' page ≡ cond (has_page (upper_of to area) page) (Some number) (cond (has_page (lower_of from area) page) (Some n) (unless_area n (area_at spans page)))) where
+      (numbers' : (page : ℕ) → area_at spans' page ≡ cond (has_page (upper_of to area) page) (Some number)
+      (cond (has_page (lower_of from area) page) (Some n) (unless_area n (area_at spans page)))) where
     pub upper_number : area_at spans' to ≡ Some number
-    upper_number = numbers' to ∙ ap (λ b. cond b (Some number) (cond (has_page (lower_of from area) to) (Some n) (unless_area n (area_at spans to)))) (has_from (upper_of to area) to (let e = page_of to in omega arith) c.high)
+    upper_number = numbers' to ∙ ap (λ b. cond b (Some number) (cond (has_page (lower_of from area) to) (Some n) (unless_area n (area_at spans to))))
+        (has_from (upper_of to area) to (let e = page_of to in omega arith) c.high)
 
     pub lower_number : (page : ℕ) → page < from → area_at spans page ≡ Some n → area_at spans' page ≡ Some n
     lower_number page below at =
@@ -212,7 +232,8 @@ module _ (p n from to : ℕ) (areas : ℕ → Option Area) (spans : List Span) (
         let low = c.is.from in
         let middle = page_of from in
         let above = page_of to in
-        let out : has_page (upper_of to area) page ≡ false = false_from_ne_true _ (λ has. let k : first_of (upper_of to area) ≤ page = (has_parts (upper_of to area) page has).0 in omega arith) in
+        let out : has_page (upper_of to area) page ≡ false = false_from_ne_true _ (λ has. let k : first_of (upper_of to area) ≤ page =
+        (has_parts (upper_of to area) page has).0 in omega arith) in
         numbers' page
         ∙ ap (λ b. cond b (Some number) (cond (has_page (lower_of from area) page) (Some n) (unless_area n (area_at spans page)))) out
         ∙ ap (λ b. cond b (Some n) (unless_area n (area_at spans page))) (has_from (lower_of from area) page (omega arith) (omega arith))
@@ -256,22 +277,26 @@ none_by_last spans at apart past n = each (span_of spans n) refl
     ]
 
 -- a cut at another page makes none that crosses
-pub cut_keeps : (on : Pages) (at page : ℕ) → ((area : Area) → on page ≡ Some area → page ≤ first_of area) → (area : Area) → cut_at at on page ≡ Some area → page ≤ first_of area
+pub cut_keeps : (on : Pages) (at page : ℕ) → ((area : Area) → on page ≡ Some area → page ≤ first_of area) → (area : Area) →
+    cut_at at on page ≡ Some area → page ≤ first_of area
 cut_keeps on at page starts area e = each (on page) refl e
   where
     each : (o : Option Area) → on page ≡ o → option_map (part_of at page) o ≡ Some area → page ≤ first_of area
     each None is e = cc
     each (Some b) is e =
         let first = starts b is in
-        elim (nat_lt page at) as (λ v. cond v (record b { end = min b.end (4096 * at) }) (record b { start = max b.start (4096 * at); pgoff = b.pgoff + (at - first_of b) }) ≡ area → page ≤ first_of area) [
+        elim (nat_lt page at) as (λ v. cond v (record b { end = min b.end (4096 * at) })
+        (record b { start = max b.start (4096 * at); pgoff = b.pgoff + (at - first_of b) }) ≡ area → page ≤ first_of area) [
           | true ↦ λ same. let start : b.start ≡ area.start = ap (λ (a : Area). a.start) same in omega arith
           | false ↦ λ same. let start : max b.start (4096 * at) ≡ area.start = ap (λ (a : Area). a.start) same in omega arith
         ] (let k : part_of at page b ≡ area = cc in k)
 
 -- where none crosses, a cut at another page leaves none that crosses
-pub none_after : (p at page : ℕ) (areas areas' : ℕ → Option Area) (spans spans' : List Span) → AreAreasOf p areas spans → AreAreasOf p areas' spans' → NoneCrosses page spans → ((q : ℕ) → pages_by areas' spans' q ≡ cut_at at (pages_by areas spans) q) → NoneCrosses page spans'
+pub none_after : (p at page : ℕ) (areas areas' : ℕ → Option Area) (spans spans' : List Span) → AreAreasOf p areas spans → AreAreasOf p areas' spans' →
+    NoneCrosses page spans → ((q : ℕ) → pages_by areas' spans' q ≡ cut_at at (pages_by areas spans) q) → NoneCrosses page spans'
 none_after p at page areas areas' spans spans' stands stands' none pages =
-    none_from p page areas' spans' stands' (λ area e. cut_keeps (pages_by areas spans) at page (none_starts p page areas spans stands none) area (sym (pages page) ∙ e))
+    none_from p page areas' spans' stands' (λ area e. cut_keeps (pages_by areas spans) at page (none_starts p page areas spans stands none) area
+    (sym (pages page) ∙ e))
 
 -- ---- an area is cut at a page of its own, or past one
 
@@ -284,14 +309,23 @@ pub record IsFound (p n page : ℕ) (areas : ℕ → Option Area) (spans : List 
   pub low : first_of area ≤ page
   pub high : page < past_of area
 
-pub found : (p n page : ℕ) (areas : ℕ → Option Area) (spans : List Span) (area : Area) → AreAreasOf p areas spans → area_at spans page ≡ Some n → areas n ≡ Some area → IsFound p n page areas spans area
+pub found : (p n page : ℕ) (areas : ℕ → Option Area) (spans : List Span) (area : Area) → AreAreasOf p areas spans → area_at spans page ≡ Some n →
+    areas n ≡ Some area → IsFound p n page areas spans area
 found p n page areas spans area stands at used =
     let here : pages_by areas spans page ≡ Some area = ap (option_and_then areas) at ∙ used in
     let on = is_on p areas spans page area stands here in
     let same : n ≡ on.number = same_Some n on.number (sym at ∙ on.at) in
-    record { span = on.span; span_is = ap (span_of spans) same ∙ on.span_is; is = on.is; here = here; low = (has_parts area page on.has).0; high = (has_parts area page on.has).1 }
+    record {
+      span = on.span;
+      span_is = ap (span_of spans) same ∙ on.span_is;
+      is = on.is;
+      here = here;
+      low = (has_parts area page on.has).0;
+      high = (has_parts area page on.has).1;
+    }
 
-pub found_inside : (p n at : ℕ) (areas : ℕ → Option Area) (spans : List Span) (area : Area) → IsFound p n at areas spans area → first_of area < at → IsSomeAnd (span_of spans n) (λ s. (s.from < at) × (at < s.to))
+pub found_inside : (p n at : ℕ) (areas : ℕ → Option Area) (spans : List Span) (area : Area) → IsFound p n at areas spans area → first_of area < at →
+    IsSomeAnd (span_of spans n) (λ s. (s.from < at) × (at < s.to))
 found_inside p n at areas spans area f below =
     let from = f.is.from in
     let to = f.is.to in
@@ -303,7 +337,8 @@ pub begins_uncut : (on : Pages) (at : ℕ) (area : Area) → AreLaid on → on a
 begins_uncut on at area laid here first = uncut on at laid (λ other e. subst (λ a. at ≤ first_of a) (same_Some area other (sym here ∙ e)) first)
 
 -- nor is one that ends before it
-pub ends_uncut : (on : Pages) (at : ℕ) (area : Area) → AreLaid on → 0 < at → on (at - 1) ≡ Some area → past_of area ≤ at → (page : ℕ) → on page ≡ cut_at at on page
+pub ends_uncut : (on : Pages) (at : ℕ) (area : Area) → AreLaid on → 0 < at → on (at - 1) ≡ Some area → past_of area ≤ at →
+    (page : ℕ) → on page ≡ cut_at at on page
 ends_uncut on at area laid some before past = uncut on at laid (λ other e. elim (cases_lt (first_of other) at) [
   | inr first ↦ first
   | inl below ↦
@@ -315,7 +350,8 @@ ends_uncut on at area laid some before past = uncut on at laid (λ other e. elim
 ])
 
 -- an area that goes up to a page has the one before it
-pub has_before : (p n at : ℕ) (areas : ℕ → Option Area) (spans : List Span) (area : Area) → AreAreasOf p areas spans → IsSomeAnd (span_of spans n) (λ s. (s.from < at) × (at ≤ s.to)) → areas n ≡ Some area → (0 < at) × (pages_by areas spans (at - 1) ≡ Some area)
+pub has_before : (p n at : ℕ) (areas : ℕ → Option Area) (spans : List Span) (area : Area) → AreAreasOf p areas spans →
+    IsSomeAnd (span_of spans n) (λ s. (s.from < at) × (at ≤ s.to)) → areas n ≡ Some area → (0 < at) × (pages_by areas spans (at - 1) ≡ Some area)
 has_before p n at areas spans area stands inside used = each (span_of spans n) refl inside
   where
     each : (o : Option Span) → span_of spans n ≡ o → IsSomeAnd o (λ s. (s.from < at) × (at ≤ s.to)) → (0 < at) × (pages_by areas spans (at - 1) ≡ Some area)
@@ -323,7 +359,9 @@ has_before p n at areas spans area stands inside used = each (span_of spans n) r
     each (Some s) e h = let low = h.0 in let high = h.1 in (omega arith, on_span p areas spans n s area (at - 1) stands e used (omega arith) (omega arith))
 
 -- what begins with a page, after a cut there, goes as far as what was on the page
-pub goes_to : (p n from past : ℕ) (on : Pages) (areas : ℕ → Option Area) (spans : List Span) → AreAreasOf p areas spans → from < past → area_at spans from ≡ Some n → pages_by areas spans from ≡ cut_at from on from → IsSomeAnd (on from) (λ area. past ≤ past_of area) → IsSomeAnd (span_of spans n) (λ s. (s.from < past) × (past ≤ s.to))
+pub goes_to : (p n from past : ℕ) (on : Pages) (areas : ℕ → Option Area) (spans : List Span) → AreAreasOf p areas spans → from < past →
+    area_at spans from ≡ Some n → pages_by areas spans from ≡ cut_at from on from → IsSomeAnd (on from) (λ area. past ≤ past_of area) →
+    IsSomeAnd (span_of spans n) (λ s. (s.from < past) × (past ≤ s.to))
 goes_to p n from past on areas spans stands some at is far = each (on from) refl far
   where
     each : (o : Option Area) → on from ≡ o → IsSomeAnd o (λ area. past ≤ past_of area) → IsSomeAnd (span_of spans n) (λ s. (s.from < past) × (past ≤ s.to))

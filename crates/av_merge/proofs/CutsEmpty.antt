@@ -24,24 +24,28 @@ pub record IsNext (spans : List Span) (page n : ℕ) : Type 0 where
 
 pub next_of : (spans : List Span) (page n : ℕ) → AreApart spans → AreDistinct spans → area_after spans page ≡ Some n → IsNext spans page n
 next_of [] page n apart distinct e = cc
-next_of (s ∷ spans) page n apart distinct e = elim (nat_lt page s.from) as (λ b. nat_lt page s.from ≡ b → cond b (Some s.area) (area_after spans page) ≡ Some n → IsNext (s ∷ spans) page n) [
-  | true ↦ λ h e.
-      let same : s.area ≡ n = cc in
-      record {
-        span = s;
-        there = ap (λ b. cond b (Some s) (span_of spans n)) (equal n s.area (sym same));
-        above = ltb-true page s.from h;
-        least = λ k t is _. in_row (s.from ≤ t.from) s spans k t is (λ first. subst (λ (u : Span). s.from ≤ u.from) first (omega arith)) (λ later. let past = later_from s spans k t apart later in let wide = apart.0 in omega arith);
-      }
-  | false ↦ λ h e.
-      let r = next_of spans page n apart.2 distinct.1 e in
-      record {
-        span = r.span;
-        there = ap (λ b. cond b (Some s) (span_of spans n)) (differ r) ∙ r.there;
-        above = r.above;
-        least = λ k t is above. in_row (r.span.from ≤ t.from) s spans k t is (λ first. absurd (below h (subst (λ (u : Span). page < u.from) (sym first) above))) (λ later. r.least k t later above);
-      }
-] refl e
+next_of (s ∷ spans) page n apart distinct e = elim (nat_lt page s.from) as (λ b. nat_lt page s.from ≡ b →
+    cond b (Some s.area) (area_after spans page) ≡ Some n → IsNext (s ∷ spans) page n) [
+      | true ↦ λ h e.
+          let same : s.area ≡ n = cc in
+          record {
+            span = s;
+            there = ap (λ b. cond b (Some s) (span_of spans n)) (equal n s.area (sym same));
+            above = ltb-true page s.from h;
+            least = λ k t is _. in_row (s.from ≤ t.from) s spans k t is (λ first. subst (λ (u : Span). s.from ≤ u.from) first (omega arith))
+                (λ later. let past = later_from s spans k t apart later in let wide = apart.0 in omega arith);
+          }
+      | false ↦ λ h e.
+          let r = next_of spans page n apart.2 distinct.1 e in
+          record {
+            span = r.span;
+            there = ap (λ b. cond b (Some s) (span_of spans n)) (differ r) ∙ r.there;
+            above = r.above;
+            least = λ k t is above. in_row (r.span.from ≤ t.from) s spans k t is
+                (λ first. absurd (below h (subst (λ (u : Span). page < u.from) (sym first) above)))
+                (λ later. r.least k t later above);
+          }
+    ] refl e
   where
     equal : (a b : ℕ) → a ≡ b → (a == b) ≡ true
     equal a b same = grind (arith, nat_tests)
@@ -50,17 +54,20 @@ next_of (s ∷ spans) page n apart distinct e = elim (nat_lt page s.from) as (λ
     below h above = let k = ltb-false page s.from h in omega arith
 
     differ : IsNext spans page n → (n == s.area) ≡ false
-    differ r = false_from_ne_true (n == s.area) (λ h. let same : span_of spans n ≡ span_of spans s.area = ap (span_of spans) (eqb-true n s.area h) in clash (sym (same ∙ distinct.0) ∙ r.there))
+    differ r = false_from_ne_true (n == s.area) (λ h. let same : span_of spans n ≡ span_of spans s.area = ap (span_of spans) (eqb-true n s.area h) in
+        clash (sym (same ∙ distinct.0) ∙ r.there))
       where
         clash : {t : Span} → None ≡ Some t → ⊥
         clash e = cc
 
 pub no_next : (spans : List Span) (page : ℕ) → area_after spans page ≡ None → (k : ℕ) (t : Span) → span_of spans k ≡ Some t → t.from ≤ page
 no_next [] page e k t is = cc
-no_next (s ∷ spans) page e k t is = elim (nat_lt page s.from) as (λ b. nat_lt page s.from ≡ b → cond b (Some s.area) (area_after spans page) ≡ None → t.from ≤ page) [
-  | true ↦ λ h e. cc
-  | false ↦ λ h e. in_row (t.from ≤ page) s spans k t is (λ first. subst (λ (u : Span). u.from ≤ page) first (ltb-false page s.from h)) (λ later. no_next spans page e k t later)
-] refl e
+no_next (s ∷ spans) page e k t is = elim (nat_lt page s.from) as (λ b. nat_lt page s.from ≡ b →
+    cond b (Some s.area) (area_after spans page) ≡ None → t.from ≤ page) [
+      | true ↦ λ h e. cc
+      | false ↦ λ h e. in_row (t.from ≤ page) s spans k t is (λ first. subst (λ (u : Span). u.from ≤ page) first (ltb-false page s.from h))
+          (λ later. no_next spans page e k t later)
+    ] refl e
 
 -- one less
 pub fewer : (spans : List Span) (n : ℕ) (s : Span) → span_of spans n ≡ Some s → length (without_area n spans) < length spans
@@ -82,10 +89,13 @@ pub record AreTaken (from to : ℕ) (old : ℕ → Option Area) (before : List S
   pub upper : NoneCrosses to spans
   pub pages : (page : ℕ) → without_range from to (pages_by areas spans) page ≡ without_range from to (pages_by old before) page
 
-none_fewer : (at n : ℕ) (spans spans' : List Span) → ((k : ℕ) → span_of spans' k ≡ with_at n None (span_of spans) k) → NoneCrosses at spans → NoneCrosses at spans'
-none_fewer at n spans spans' now none k = subst (λ o. IfSome o (λ s. s.from < at → s.to ≤ at)) (sym (now k)) (elim (k == n) as (λ b. IfSome (cond b None (span_of spans k)) (λ s. s.from < at → s.to ≤ at)) [ true ↦ tt | false ↦ none k ])
+none_fewer : (at n : ℕ) (spans spans' : List Span) → ((k : ℕ) → span_of spans' k ≡ with_at n None (span_of spans) k) →
+    NoneCrosses at spans → NoneCrosses at spans'
+none_fewer at n spans spans' now none k = subst (λ o. IfSome o (λ s. s.from < at → s.to ≤ at)) (sym (now k))
+    (elim (k == n) as (λ b. IfSome (cond b None (span_of spans k)) (λ s. s.from < at → s.to ≤ at)) [ true ↦ tt | false ↦ none k ])
 
-module _ (from to : ℕ) (old : ℕ → Option Area) (before : List Span) (areas : ℕ → Option Area) (spans : List Span) (p : ℕ) (first : AreAreasOf p old before) (so_far : AreTaken from to old before areas spans) where
+module _ (from to : ℕ) (old : ℕ → Option Area) (before : List Span) (areas : ℕ → Option Area) (spans : List Span) (p : ℕ) (first : AreAreasOf p old before)
+    (so_far : AreTaken from to old before areas spans) where
   -- each area begins above page 0
   lowest : (k : ℕ) (t : Span) → span_of spans k ≡ Some t → 0 < t.from
   lowest k t e =
@@ -95,11 +105,13 @@ module _ (from to : ℕ) (old : ℕ → Option Area) (before : List Span) (areas
       omega arith
 
   -- no area that begins in the range is left
-  pub all_taken : ((k : ℕ) (t : Span) → span_of spans k ≡ Some t → from - 1 < t.from → to ≤ t.from) → (page : ℕ) → pages_by areas spans page ≡ without_range from to (pages_by old before) page
-  all_taken none page = elim (within from (to - from) page) as (λ b. within from (to - from) page ≡ b → cond b None (pages_by areas spans page) ≡ cond b None (pages_by old before page) → pages_by areas spans page ≡ cond b None (pages_by old before page)) [
-    | true ↦ λ h _. each (within_parts from (to - from) page h) (pages_by areas spans page) refl
-    | false ↦ λ _ e. e
-  ] refl (so_far.pages page)
+  pub all_taken : ((k : ℕ) (t : Span) → span_of spans k ≡ Some t → from - 1 < t.from → to ≤ t.from) → (page : ℕ) →
+      pages_by areas spans page ≡ without_range from to (pages_by old before) page
+  all_taken none page = elim (within from (to - from) page) as (λ b. within from (to - from) page ≡ b →
+      cond b None (pages_by areas spans page) ≡ cond b None (pages_by old before page) → pages_by areas spans page ≡ cond b None (pages_by old before page)) [
+        | true ↦ λ h _. each (within_parts from (to - from) page h) (pages_by areas spans page) refl
+        | false ↦ λ _ e. e
+      ] refl (so_far.pages page)
     where
       each : (from ≤ page) × (page < from + (to - from)) → (o : Option Area) → pages_by areas spans page ≡ o → o ≡ None
       each k None e = refl
@@ -119,7 +131,9 @@ module _ (from to : ℕ) (old : ℕ → Option Area) (before : List Span) (areas
           ])
 
   -- the next one is taken out
-  pub one_more : (n : ℕ) (areas' : ℕ → Option Area) (spans' : List Span) (next : IsNext spans (from - 1) n) → next.span.from < to → ((k : ℕ) → areas' k ≡ with_at n None areas k) → AreSpans spans' → ((k : ℕ) → span_of spans' k ≡ with_at n None (span_of spans) k) → ((page : ℕ) → area_at spans' page ≡ unless_area n (area_at spans page)) → AreTaken from to old before areas' spans'
+  pub one_more : (n : ℕ) (areas' : ℕ → Option Area) (spans' : List Span) (next : IsNext spans (from - 1) n) → next.span.from < to →
+      ((k : ℕ) → areas' k ≡ with_at n None areas k) → AreSpans spans' → ((k : ℕ) → span_of spans' k ≡ with_at n None (span_of spans) k) →
+      ((page : ℕ) → area_at spans' page ≡ unless_area n (area_at spans page)) → AreTaken from to old before areas' spans'
   one_more n areas' spans' next high now kept spans_now pages_now = record {
     stands = λ q h.
         let stays = so_far.stands q h in
@@ -129,10 +143,12 @@ module _ (from to : ℕ) (old : ℕ → Option Area) (before : List Span) (areas
         });
     lower = none_fewer from n spans spans' spans_now so_far.lower;
     upper = none_fewer to n spans spans' spans_now so_far.upper;
-    pages = λ page. elim (within from (to - from) page) as (λ b. within from (to - from) page ≡ b → cond b None (pages_by areas spans page) ≡ cond b None (pages_by old before page) → cond b None (pages_by areas' spans' page) ≡ cond b None (pages_by old before page)) [
-      | true ↦ λ _ e. refl
-      | false ↦ λ h e. outside page h ∙ e
-    ] refl (so_far.pages page);
+    pages = λ page. elim (within from (to - from) page) as (λ b. within from (to - from) page ≡ b →
+        cond b None (pages_by areas spans page) ≡ cond b None (pages_by old before page) →
+        cond b None (pages_by areas' spans' page) ≡ cond b None (pages_by old before page)) [
+          | true ↦ λ _ e. refl
+          | false ↦ λ h e. outside page h ∙ e
+        ] refl (so_far.pages page);
   }
     where
       stands' : AreAreasOf p areas spans
@@ -151,14 +167,16 @@ module _ (from to : ℕ) (old : ℕ → Option Area) (before : List Span) (areas
           let end = past high in
           both_ways _ out (within_from from (to - from) page (omega arith) (omega arith))))
 
-pub next_area : (p : ℕ) (areas : ℕ → Option Area) (spans : List Span) (page n : ℕ) (next : IsNext spans page n) (area : Area) → AreAreasOf p areas spans → areas n ≡ Some area → IsAreaOf p next.span area
+pub next_area : (p : ℕ) (areas : ℕ → Option Area) (spans : List Span) (page n : ℕ) (next : IsNext spans page n) (area : Area) → AreAreasOf p areas spans →
+    areas n ≡ Some area → IsAreaOf p next.span area
 next_area p areas spans page n next area stands e =
     let i = area_in p areas spans n next.span stands next.there in
     let same : i.area ≡ area = cc in
     subst (IsAreaOf p next.span) same i.is
 
 -- where all pages that a process may have are empty, no area is left
-pub all_empty : (p : ℕ) (areas : ℕ → Option Area) (spans : List Span) (on : Pages) → AreAreasOf p areas spans → ((page : ℕ) → pages_by areas spans page ≡ without_range low_page top_page on page) → spans ≡ []
+pub all_empty : (p : ℕ) (areas : ℕ → Option Area) (spans : List Span) (on : Pages) → AreAreasOf p areas spans →
+    ((page : ℕ) → pages_by areas spans page ≡ without_range low_page top_page on page) → spans ≡ []
 all_empty p areas [] on stands empty = refl
 all_empty p areas (s ∷ spans) on stands empty =
     let there : span_of (s ∷ spans) s.area ≡ Some s = ap (λ b. cond b (Some s) (span_of spans s.area)) (same s.area) in
@@ -168,7 +186,8 @@ all_empty p areas (s ∷ spans) on stands empty =
     let low = in_range.0 in
     let high = in_range.1 in
     let here : pages_by areas (s ∷ spans) s.from ≡ Some i.area = on_span p areas (s ∷ spans) s.area s i.area s.from stands there i.area_is (omega arith) wide in
-    let none : without_range low_page top_page on s.from ≡ None = ap (λ b. cond b None (on s.from)) (within_from low_page (top_page - low_page) s.from low (omega arith)) in
+    let none : without_range low_page top_page on s.from ≡ None = ap (λ b. cond b None (on s.from))
+    (within_from low_page (top_page - low_page) s.from low (omega arith)) in
     let clash : Some i.area ≡ None = sym here ∙ empty s.from ∙ none in
     cc
   where

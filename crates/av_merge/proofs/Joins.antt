@@ -65,12 +65,14 @@ module _ (len : Lengths) (p l r at : ℕ) (lower upper : Area) (areas : ℕ → 
   at_left : (page : ℕ) → has_page lower page ≡ true → area_at spans page ≡ Some l
   at_left page h =
       let k = has_parts lower page h in
-      at_span spans l on_left.span page stands.spans_are.apart left_span (subst (λ n. n ≤ page) (sym on_left.is.from) k.0) (subst (λ n. page < n) (sym on_left.is.to) k.1)
+      at_span spans l on_left.span page stands.spans_are.apart left_span (subst (λ n. n ≤ page) (sym on_left.is.from) k.0)
+      (subst (λ n. page < n) (sym on_left.is.to) k.1)
 
   at_right : (page : ℕ) → has_page upper page ≡ true → area_at spans page ≡ Some r
   at_right page h =
       let k = has_parts upper page h in
-      at_span spans r on_right.span page stands.spans_are.apart right_span (subst (λ n. n ≤ page) (sym on_right.is.from) k.0) (subst (λ n. page < n) (sym on_right.is.to) k.1)
+      at_span spans r on_right.span page stands.spans_are.apart right_span (subst (λ n. n ≤ page) (sym on_right.is.from) k.0)
+      (subst (λ n. page < n) (sym on_right.is.to) k.1)
 
   -- the upper area begins with the page
   pub right_from : IsSomeAnd (span_of spans r) (λ s. s.from ≡ at)
@@ -96,17 +98,22 @@ module _ (len : Lengths) (p l r at : ℕ) (lower upper : Area) (areas : ℕ → 
 
   -- the pages of the upper one are those of the two as one, and the area of each other page stays
   pub upper_goes : (page : ℕ) → area_at spans page ≡ Some r → has_page (join_of lower upper) page ≡ true
-  upper_goes page e = right_pages len lower upper on_left.is.whole on_right.is.whole joins page ((laid_of p areas spans stands).here page upper (ap (option_and_then areas) e ∙ upper_is))
+  upper_goes page e = right_pages len lower upper on_left.is.whole on_right.is.whole joins page
+      ((laid_of p areas spans stands).here page upper (ap (option_and_then areas) e ∙ upper_is))
 
-  pub others_stay : (page k : ℕ) → k ≢ r → area_at spans page ≡ Some k → cond (has_page (join_of lower upper) page) (Some l) (unless_area l (unless_area r (area_at spans page))) ≡ Some k
+  pub others_stay : (page k : ℕ) → k ≢ r → area_at spans page ≡ Some k →
+      cond (has_page (join_of lower upper) page) (Some l) (unless_area l (unless_area r (area_at spans page))) ≡ Some k
   others_stay page k apart e =
-      elim (has_page (join_of lower upper) page) as (λ b. has_page (join_of lower upper) page ≡ b → cond b (Some l) (unless_area l (unless_area r (area_at spans page))) ≡ Some k) [
+      elim (has_page (join_of lower upper) page) as (λ b. has_page (join_of lower upper) page ≡ b →
+      cond b (Some l) (unless_area l (unless_area r (area_at spans page))) ≡ Some k) [
         | true ↦ λ h. elim (merged_pages len lower upper on_left.is.whole on_right.is.whole joins page h) [
           | inl g ↦ sym (at_left page g) ∙ e
           | inr g ↦ absurd (apart (same_Some k r (sym e ∙ at_right page g)))
         ]
         | false ↦ λ h.
-            let not_left : k ≢ l = λ same. both_ways (has_page (join_of lower upper) page) h (left_pages len lower upper on_left.is.whole on_right.is.whole joins page ((laid_of p areas spans stands).here page lower (ap (option_and_then areas) e ∙ ap areas same ∙ lower_is))) in
+            let not_left : k ≢ l = λ same. both_ways (has_page (join_of lower upper) page) h
+            (left_pages len lower upper on_left.is.whole on_right.is.whole joins page
+            ((laid_of p areas spans stands).here page lower (ap (option_and_then areas) e ∙ ap areas same ∙ lower_is))) in
             rw (e, ne_eqb k r apart, ne_eqb k l not_left) refl
       ] refl
 
@@ -141,13 +148,21 @@ module _ (len : Lengths) (p l r at : ℕ) (lower upper : Area) (areas : ℕ → 
         go : (o : Option ℕ) → area_at spans page ≡ o → option_and_then (with_at l None areas') (unless_area r o) ≡ option_and_then areas o
         go None e = refl
         go (Some k) e =
-            let not_left : k ≢ l = λ same. both_ways (has_page (join_of lower upper) page) out (left_pages len lower upper on_left.is.whole on_right.is.whole joins page ((laid_of p areas spans stands).here page lower (ap (option_and_then areas) e ∙ ap areas same ∙ lower_is))) in
-            let not_right : k ≢ r = λ same. both_ways (has_page (join_of lower upper) page) out (right_pages len lower upper on_left.is.whole on_right.is.whole joins page ((laid_of p areas spans stands).here page upper (ap (option_and_then areas) e ∙ ap areas same ∙ upper_is))) in
-            rw (ne_eqb k r not_right, ne_eqb k l not_left) (now k ∙ ap (λ b. cond b None (with_at l (Some (record lower { anon = option_or lower.anon upper.anon })) areas k)) (ne_eqb k r not_right) ∙ ap (λ b. cond b (Some (record lower { anon = option_or lower.anon upper.anon })) (areas k)) (ne_eqb k l not_left))
+            let not_left : k ≢ l = λ same. both_ways (has_page (join_of lower upper) page) out
+            (left_pages len lower upper on_left.is.whole on_right.is.whole joins page
+            ((laid_of p areas spans stands).here page lower (ap (option_and_then areas) e ∙ ap areas same ∙ lower_is))) in
+            let not_right : k ≢ r = λ same. both_ways (has_page (join_of lower upper) page) out
+            (right_pages len lower upper on_left.is.whole on_right.is.whole joins page
+            ((laid_of p areas spans stands).here page upper (ap (option_and_then areas) e ∙ ap areas same ∙ upper_is))) in
+            rw (ne_eqb k r not_right, ne_eqb k l not_left) (now k ∙ ap (λ b. cond b None
+            (with_at l (Some (record lower { anon = option_or lower.anon upper.anon })) areas k)) (ne_eqb k r not_right)
+            ∙ ap (λ b. cond b (Some (record lower { anon = option_or lower.anon upper.anon })) (areas k)) (ne_eqb k l not_left))
 
     pub join_pages : (page : ℕ) → with_area (join_of lower upper) (pages_by (with_at l None areas') spans') page ≡ joined_at len at (pages_by areas spans) page
     join_pages page =
-        elim (has_page (join_of lower upper) page) as (λ b. has_page (join_of lower upper) page ≡ b → cond b (Some (join_of lower upper)) (pages_by (with_at l None areas') spans' page) ≡ cond b (Some (join_of lower upper)) (pages_by areas spans page)) [
+        elim (has_page (join_of lower upper) page) as (λ b. has_page (join_of lower upper) page ≡ b →
+        cond b (Some (join_of lower upper)) (pages_by (with_at l None areas') spans' page) ≡ cond b (Some (join_of lower upper))
+        (pages_by areas spans page)) [
           | true ↦ λ h. refl
           | false ↦ λ h. rest page h
         ] refl
@@ -157,19 +172,29 @@ module _ (len : Lengths) (p l r at : ℕ) (lower upper : Area) (areas : ℕ → 
     is_given : IsAreaOf p on_left.span (record lower { anon = option_or lower.anon upper.anon })
     is_given =
         let w = on_left.is.whole in
-        record { process = on_left.is.process; whole = record { start = w.start; end = w.end; some = w.some; low = w.low; high = w.high; small = w.small }; from = on_left.is.from; to = on_left.is.to }
+        record {
+          process = on_left.is.process;
+          whole = record { start = w.start; end = w.end; some = w.some; low = w.low; high = w.high; small = w.small };
+          from = on_left.is.from;
+          to = on_left.is.to;
+        }
 
     stays_given : Stays p areas (with_at l (Some (record lower { anon = option_or lower.anon upper.anon })) areas) spans
     stays_given = record {
-      areas = change_stands p l on_left.span (record lower { anon = option_or lower.anon upper.anon }) areas (with_at l (Some (record lower { anon = option_or lower.anon upper.anon })) areas) spans stands left_span is_given (λ k. refl);
-      others = change_others p l on_left.span (record lower { anon = option_or lower.anon upper.anon }) areas (with_at l (Some (record lower { anon = option_or lower.anon upper.anon })) areas) spans stands left_span is_given (λ k. refl);
+      areas = change_stands p l on_left.span (record lower { anon = option_or lower.anon upper.anon }) areas
+          (with_at l (Some (record lower { anon = option_or lower.anon upper.anon })) areas) spans stands left_span is_given (λ k. refl);
+      others = change_others p l on_left.span (record lower { anon = option_or lower.anon upper.anon }) areas
+          (with_at l (Some (record lower { anon = option_or lower.anon upper.anon })) areas) spans stands left_span is_given (λ k. refl);
     }
 
     stays_taken : Stays p areas areas' spans'
-    stays_taken = stays_trans p areas (with_at l (Some (record lower { anon = option_or lower.anon upper.anon })) areas) areas' spans spans' stays_given (record {
-      areas = take_stands p r on_right.span (with_at l (Some (record lower { anon = option_or lower.anon upper.anon })) areas) areas' spans spans' stays_given.areas right_span now kept spans_now pages_now;
-      others = take_others p r on_right.span (with_at l (Some (record lower { anon = option_or lower.anon upper.anon })) areas) areas' spans spans' stays_given.areas right_span now kept spans_now pages_now;
-    })
+    stays_taken = stays_trans p areas (with_at l (Some (record lower { anon = option_or lower.anon upper.anon })) areas) areas'
+        spans spans' stays_given (record {
+          areas = take_stands p r on_right.span (with_at l (Some (record lower { anon = option_or lower.anon upper.anon })) areas) areas' spans spans'
+              stays_given.areas right_span now kept spans_now pages_now;
+          others = take_others p r on_right.span (with_at l (Some (record lower { anon = option_or lower.anon upper.anon })) areas) areas' spans spans'
+              stays_given.areas right_span now kept spans_now pages_now;
+        })
 
     pub right_taken : AreAreasOf lower.pid areas' spans'
     right_taken = subst (λ q. AreAreasOf q areas' spans') (sym on_left.is.process) stays_taken.areas
@@ -187,15 +212,18 @@ joined_now areas one two' l r lower upper low up first second k =
     ∙ (λ i. with_at r None (with_at l (with_own (option_or (own_of (low i)) (own_of (up i))) (low i)) areas) k)
 
 -- the test of two areas, by how long their chains are found to be
-pub test_is : (areas : ℕ → Option Area) (f : Family) (spans : ℕ → List interval.Span) (l r : ℕ) (lower upper : Area) (m n : ℕ) (b : Bool) → IsInOrder areas f spans → areas l ≡ Some lower → areas r ≡ Some upper
-    → m ≡ cond (is_some lower.anon) (length (f.chain l)) 0 → n ≡ cond (is_some upper.anon) (length (f.chain r)) 0 → b ≡ are_mergeable lower m upper n → do_join (length_by areas f) lower upper ≡ b
+pub test_is : (areas : ℕ → Option Area) (f : Family) (spans : ℕ → List interval.Span) (l r : ℕ) (lower upper : Area) (m n : ℕ) (b : Bool) →
+    IsInOrder areas f spans → areas l ≡ Some lower → areas r ≡ Some upper
+    → m ≡ cond (is_some lower.anon) (length (f.chain l)) 0 → n ≡ cond (is_some upper.anon) (length (f.chain r)) 0 → b ≡ are_mergeable lower m upper n →
+    do_join (length_by areas f) lower upper ≡ b
 test_is areas f spans l r lower upper m n b o low up first second is =
     let m' : length_by areas f lower.anon ≡ m = sym (first ∙ length_is areas f spans l lower o low) in
     let n' : length_by areas f upper.anon ≡ n = sym (second ∙ length_is areas f spans r upper o up) in
     (λ i. are_mergeable lower (m' i) upper (n' i)) ∙ sym is
 
 -- two areas that don't join stay
-pub apart_stay : (len : Lengths) (at l r : ℕ) (areas : ℕ → Option Area) (spans : List Span) (lower upper : Area) → area_at spans (at - 1) ≡ Some l → area_at spans at ≡ Some r → areas l ≡ Some lower → areas r ≡ Some upper → do_join len lower upper ≡ false
+pub apart_stay : (len : Lengths) (at l r : ℕ) (areas : ℕ → Option Area) (spans : List Span) (lower upper : Area) → area_at spans (at - 1) ≡ Some l →
+    area_at spans at ≡ Some r → areas l ≡ Some lower → areas r ≡ Some upper → do_join len lower upper ≡ false
     → (page : ℕ) → pages_by areas spans page ≡ joined_at len at (pages_by areas spans) page
 apart_stay len at l r areas spans lower upper left right low up out page =
     let before : pages_by areas spans (at - 1) ≡ Some lower = ap (option_and_then areas) left ∙ low in
@@ -206,7 +234,8 @@ apart_stay len at l r areas spans lower upper left right low up out page =
 -- ---- a boundary that is left as it is
 
 -- where the areas on its two sides don't join, trying a boundary changes nothing
-pub not_joined : (len : Lengths) (at : ℕ) (on : Pages) → ((left right : Area) → on (at - 1) ≡ Some left → on at ≡ Some right → do_join len left right ≡ true → ⊥) → (page : ℕ) → on page ≡ joined_at len at on page
+pub not_joined : (len : Lengths) (at : ℕ) (on : Pages) → ((left right : Area) → on (at - 1) ≡ Some left → on at ≡ Some right → do_join len left right ≡ true →
+    ⊥) → (page : ℕ) → on page ≡ joined_at len at on page
 not_joined len at on apart page = elim (tried_is len at page on) [
   | inl t ↦ absurd (apart t.left t.right t.before t.after t.joins)
   | inr k ↦ sym k.is
@@ -221,7 +250,8 @@ pub record AreSides (at : ℕ) (spans : List Span) : Type 0 where
   pub ends : left.to ≡ at
   pub begins : right.from ≡ at
 
-pub sides_of : (len : Lengths) (p at : ℕ) (areas : ℕ → Option Area) (spans : List Span) (left right : Area) → AreAreasOf p areas spans → pages_by areas spans (at - 1) ≡ Some left → pages_by areas spans at ≡ Some right → do_join len left right ≡ true → AreSides at spans
+pub sides_of : (len : Lengths) (p at : ℕ) (areas : ℕ → Option Area) (spans : List Span) (left right : Area) → AreAreasOf p areas spans →
+    pages_by areas spans (at - 1) ≡ Some left → pages_by areas spans at ≡ Some right → do_join len left right ≡ true → AreSides at spans
 sides_of len p at areas spans left right stands before after joins =
     let l = is_on p areas spans (at - 1) left stands before in
     let r = is_on p areas spans at right stands after in
@@ -246,7 +276,8 @@ sides_of len p at areas spans left right stands before after joins =
     }
 
 -- an area that ends at a page has the one before, and an area that begins with it has it
-pub left_side : (spans : List Span) (at : ℕ) (s : Span) → AreSpans spans → 0 < at → last_below spans at ≡ Some s → s.to ≡ at → area_at spans (at - 1) ≡ Some s.area
+pub left_side : (spans : List Span) (at : ℕ) (s : Span) → AreSpans spans → 0 < at → last_below spans at ≡ Some s → s.to ≡ at →
+    area_at spans (at - 1) ≡ Some s.area
 left_side spans at s good some e ends =
     let k = below_is spans at s good.distinct e in
     let side = k.side in
@@ -259,14 +290,17 @@ right_side spans at s good e begins =
     at_span spans s.area s at good.apart k.there (omega arith) (omega arith)
 
 -- and the page before its end
-pub last_side : (spans : List Span) (at past : ℕ) (s : Span) → AreSpans spans → at < past → first_from spans at ≡ Some s → s.from ≡ at → s.to ≡ past → area_at spans (past - 1) ≡ Some s.area
+pub last_side : (spans : List Span) (at past : ℕ) (s : Span) → AreSpans spans → at < past → first_from spans at ≡ Some s → s.from ≡ at → s.to ≡ past →
+    area_at spans (past - 1) ≡ Some s.area
 last_side spans at past s good some e begins ends =
     let k = from_is spans at s good.distinct e in
     at_span spans s.area s (past - 1) good.apart k.there (omega arith) (omega arith)
 
 -- where pages are mapped with another protection or flags, their areas don't join
-pub differ_apart : (len : Lengths) (at : ℕ) (on : Pages) → DoDiffer at on → (left right : Area) → on (at - 1) ≡ Some left → on at ≡ Some right → do_join len left right ≡ true → ⊥
+pub differ_apart : (len : Lengths) (at : ℕ) (on : Pages) → DoDiffer at on → (left right : Area) → on (at - 1) ≡ Some left → on at ≡ Some right →
+    do_join len left right ≡ true → ⊥
 differ_apart len at on differ left right before after joins =
     let j = join_is len left right joins in
-    let first = subst (λ o. IfSome (option_map (mapping_in (at - 1)) o) (λ m. IfSome (mapping on at) (λ n. m.prot ≡ n.prot → m.flags ≡ n.flags → ⊥))) before differ in
+    let first = subst (λ o. IfSome (option_map (mapping_in (at - 1)) o) (λ m. IfSome (mapping on at) (λ n. m.prot ≡ n.prot → m.flags ≡ n.flags → ⊥)))
+    before differ in
     subst (λ o. IfSome (option_map (mapping_in at) o) (λ n. left.prot ≡ n.prot → left.flags ≡ n.flags → ⊥)) after first j.prot j.flags

@@ -26,7 +26,8 @@ pub record AreAlike (len len' : Lengths) (on : Pages) : Type 0 where
   pub same : (page : ℕ) (area : Area) → on page ≡ Some area → len area.anon ≡ len' area.anon
 
 -- after calls that kept kin, the areas that stand have chains as long as before
-pub alike_after : (areas areas' : ℕ → Option Area) (f f' : Family) (spans spans' : ℕ → List interval.Span) (tree : List Span) → IsInOrder areas f spans → KeepsKin areas areas' f f' spans' → AreAlike (length_by areas' f') (length_by areas f) (pages_by areas' tree)
+pub alike_after : (areas areas' : ℕ → Option Area) (f f' : Family) (spans spans' : ℕ → List interval.Span) (tree : List Span) → IsInOrder areas f spans →
+    KeepsKin areas areas' f f' spans' → AreAlike (length_by areas' f') (length_by areas f) (pages_by areas' tree)
 alike_after areas areas' f f' spans spans' tree o k = record { same = λ page area e. numbers area (area_at tree page) e }
   where
     lengths : (n : ℕ) (area : Area) → areas' n ≡ Some area → (own : Option ℕ) → area.anon ≡ own → length_by areas' f' own ≡ length_by areas f own
@@ -48,7 +49,8 @@ pub alike_joined : (len len' other : Lengths) (at : ℕ) (on : Pages) → AreAli
 alike_joined len len' other at on h = record {
   same = λ page area e. elim (tried_is other at page on) [
     | inr k ↦ h.same page area (sym k.is ∙ e)
-    | inl t ↦ subst (λ (a : Area). len a.anon ≡ len' a.anon) (same_Some (join_of t.left t.right) area (sym t.is ∙ e)) (either len len' t.left.anon t.right.anon (h.same (at - 1) t.left t.before) (h.same at t.right t.after))
+    | inl t ↦ subst (λ (a : Area). len a.anon ≡ len' a.anon) (same_Some (join_of t.left t.right) area (sym t.is ∙ e))
+        (either len len' t.left.anon t.right.anon (h.same (at - 1) t.left t.before) (h.same at t.right t.after))
   ];
 }
 
@@ -64,13 +66,15 @@ joined_alike len len' at on h page = go (on (at - 1)) (on at) refl refl
         let second = h.same at r e' in
         λ i. cond (are_mergeable l (first i) r (second i) && has_page (join_of l r) page) (Some (join_of l r)) (on page)
 
-pub around_alike : (len len' : Lengths) (from past : ℕ) (on : Pages) → AreAlike len len' on → (page : ℕ) → joined_around len from past on page ≡ joined_around len' from past on page
+pub around_alike : (len len' : Lengths) (from past : ℕ) (on : Pages) → AreAlike len len' on → (page : ℕ) →
+    joined_around len from past on page ≡ joined_around len' from past on page
 around_alike len len' from past on h page =
     joined_alike len len' past (joined_at len from on) (alike_joined len len' len from on h) page
     ∙ (λ i. joined_at len' past (λ q. joined_alike len len' from on h q i) page)
 
 -- a boundary that is tried after calls, by the lengths before them
-pub joined_later : (len len' : Lengths) (at : ℕ) (on old new : Pages) → AreAlike len' len on → ((page : ℕ) → on page ≡ old page) → ((page : ℕ) → new page ≡ joined_at len' at on page) → (page : ℕ) → new page ≡ joined_at len at old page
+pub joined_later : (len len' : Lengths) (at : ℕ) (on old new : Pages) → AreAlike len' len on → ((page : ℕ) → on page ≡ old page) →
+    ((page : ℕ) → new page ≡ joined_at len' at on page) → (page : ℕ) → new page ≡ joined_at len at old page
 joined_later len len' at on old new h is now page = now page ∙ joined_alike len' len at on h page ∙ (λ i. joined_at len at (λ q. is q i) page)
 
 -- so with two boundaries
@@ -96,25 +100,29 @@ alike_cut len len' at on h = record { same = λ page area e. go page area (on pa
         let own : whole.anon ≡ area.anon = sym (part_own at page whole) ∙ ap (λ (a : Area). a.anon) (same_Some (part_of at page whole) area e') in
         subst (λ o. len o ≡ len' o) own (h.same page whole e)
 
-alike_effect : (len len' : Lengths) (from past : ℕ) (effect : Effect) (on : Pages) → AreAlike len len' on → AreAlike len len' (with_effect_on from past effect on)
+alike_effect : (len len' : Lengths) (from past : ℕ) (effect : Effect) (on : Pages) → AreAlike len len' on →
+    AreAlike len len' (with_effect_on from past effect on)
 alike_effect len len' from past effect on h = record { same = λ page area e. go page area (within from (past - from) page) e }
   where
     each : (page : ℕ) (area : Area) (o : Option Area) → on page ≡ o → option_map (with_effect effect) o ≡ Some area → len area.anon ≡ len' area.anon
     each page area None e e' = absurd (none-some area e')
-    each page area (Some other) e e' = subst (λ o. len o ≡ len' o) (ap (λ (a : Area). a.anon) (same_Some (with_effect effect other) area e')) (h.same page other e)
+    each page area (Some other) e e' = subst (λ o. len o ≡ len' o) (ap (λ (a : Area). a.anon) (same_Some (with_effect effect other) area e'))
+        (h.same page other e)
 
     go : (page : ℕ) (area : Area) (b : Bool) → cond b (option_map (with_effect effect) (on page)) (on page) ≡ Some area → len area.anon ≡ len' area.anon
     go page area true e = each page area (on page) refl e
     go page area false e = h.same page area e
 
-pub part_alike : (len len' : Lengths) (from past : ℕ) (effect : Effect) (on : Pages) → AreAlike len len' on → (page : ℕ) → part_changed len from past effect on page ≡ part_changed len' from past effect on page
+pub part_alike : (len len' : Lengths) (from past : ℕ) (effect : Effect) (on : Pages) → AreAlike len len' on → (page : ℕ) →
+    part_changed len from past effect on page ≡ part_changed len' from past effect on page
 part_alike len len' from past effect on h page =
     around_alike len len' from past (with_effect_on from past effect (cut_at past (cut_at from on)))
     (alike_effect len len' from past effect (cut_at past (cut_at from on)) (alike_cut len len' past (cut_at from on) (alike_cut len len' from on h))) page
 
 -- ---- the words of whole calls
 
-alike_part : (len len' other : Lengths) (from past : ℕ) (effect : Effect) (on : Pages) → AreAlike len len' on → AreAlike len len' (part_changed other from past effect on)
+alike_part : (len len' other : Lengths) (from past : ℕ) (effect : Effect) (on : Pages) → AreAlike len len' on →
+    AreAlike len len' (part_changed other from past effect on)
 alike_part len len' other from past effect on h =
     let cut = cut_at past (cut_at from on) in
     let now = with_effect_on from past effect cut in
@@ -128,7 +136,8 @@ alike_page len len' other effect page on h = go (alters_at effect (on page))
     go true = alike_part len len' other page (page + 1) effect on h
     go false = h
 
-page_alike : (len len' : Lengths) (effect : Effect) (page : ℕ) (on : Pages) → AreAlike len len' on → (q : ℕ) → page_changed len effect page on q ≡ page_changed len' effect page on q
+page_alike : (len len' : Lengths) (effect : Effect) (page : ℕ) (on : Pages) → AreAlike len len' on → (q : ℕ) →
+    page_changed len effect page on q ≡ page_changed len' effect page on q
 page_alike len len' effect page on h q = go (alters_at effect (on page))
   where
     go : (b : Bool) → (cond b (part_changed len page (page + 1) effect on) on) q ≡ (cond b (part_changed len' page (page + 1) effect on) on) q
@@ -136,16 +145,19 @@ page_alike len len' effect page on h q = go (alters_at effect (on page))
     go false = refl
 
 -- pages are changed with the same outcome
-pub pages_alike : (len len' : Lengths) (effect : Effect) (from n : ℕ) (on : Pages) → AreAlike len len' on → (q : ℕ) → pages_changed len effect from n on q ≡ pages_changed len' effect from n on q
+pub pages_alike : (len len' : Lengths) (effect : Effect) (from n : ℕ) (on : Pages) → AreAlike len len' on → (q : ℕ) →
+    pages_changed len effect from n on q ≡ pages_changed len' effect from n on q
 pages_alike len len' effect from zero on h q = refl
 pages_alike len len' effect from (suc n) on h q =
     pages_alike len len' effect (from + 1) n (page_changed len effect from on) (alike_page len len' len effect from on h) q
     ∙ (λ i. pages_changed len' effect (from + 1) n (λ o. page_alike len len' effect from on h o i) q)
 
 -- and so they are mapped, where the new area has no anon_vma
-pub map_alike : (len len' : Lengths) (p from past : ℕ) (prot : Prot) (on : Pages) → len None ≡ len' None → AreAlike len len' on → (q : ℕ) → after_map len p from past prot on q ≡ after_map len' p from past prot on q
+pub map_alike : (len len' : Lengths) (p from past : ℕ) (prot : Prot) (on : Pages) → len None ≡ len' None → AreAlike len len' on → (q : ℕ) →
+    after_map len p from past prot on q ≡ after_map len' p from past prot on q
 map_alike len len' p from past prot on none h q =
-    around_alike len len' from past (with_area (fresh_area p from past prot) on) (record { same = λ page area e. go page area (has_page (fresh_area p from past prot) page) e }) q
+    around_alike len len' from past (with_area (fresh_area p from past prot) on)
+    (record { same = λ page area e. go page area (has_page (fresh_area p from past prot) page) e }) q
   where
     go : (page : ℕ) (area : Area) (b : Bool) → cond b (Some (fresh_area p from past prot)) (on page) ≡ Some area → len area.anon ≡ len' area.anon
     go page area true e = subst (λ (a : Area). len a.anon ≡ len' a.anon) (same_Some (fresh_area p from past prot) area e) none

@@ -47,7 +47,8 @@ bare_now areas n = ap (λ b. own_of (cond b (with_own None (areas n)) (areas n))
     go (Some A) = refl
 
 -- a part of an area has been put as one without anon_vma, and then the two parts are
-pub both_parts : (areas one two : ℕ → Option Area) (n m : ℕ) (x y z : Option Area) → ((k : ℕ) → one k ≡ with_at m y areas k) → ((k : ℕ) → two k ≡ with_at n x (with_at m z one) k) → (k : ℕ) → two k ≡ with_at n x (with_at m z areas) k
+pub both_parts : (areas one two : ℕ → Option Area) (n m : ℕ) (x y z : Option Area) → ((k : ℕ) → one k ≡ with_at m y areas k) →
+    ((k : ℕ) → two k ≡ with_at n x (with_at m z one) k) → (k : ℕ) → two k ≡ with_at n x (with_at m z areas) k
 both_parts areas one two n m x y z first second k =
     second k
     ∙ (λ i. with_at n x (with_at m z (λ q. first q i)) k)
@@ -58,7 +59,8 @@ record IsBefore (areas : ℕ → Option Area) (n : ℕ) (area : Area) : Type 0 w
   pub there : areas n ≡ Some old
   pub is : area ≡ with_bounds area.start area.end area.pgoff old
 
-before : (areas : ℕ → Option Area) (n : ℕ) (area : Area) → IsSomeAnd (areas n) (λ old. area ≡ with_bounds area.start area.end area.pgoff old) → IsBefore areas n area
+before : (areas : ℕ → Option Area) (n : ℕ) (area : Area) → IsSomeAnd (areas n) (λ old. area ≡ with_bounds area.start area.end area.pgoff old) →
+    IsBefore areas n area
 before areas n area h = go (areas n) refl h
   where
     go : (o : Option Area) → areas n ≡ o → IsSomeAnd o (λ old. area ≡ with_bounds area.start area.end area.pgoff old) → IsBefore areas n area
@@ -72,7 +74,8 @@ module _ (areas one two : ℕ → Option Area) (f f' : Family) (spans spans' : �
       → ((k : ℕ) → one k ≡ with_at n (option_map (with_bounds area.start area.end area.pgoff) (areas n)) areas k) → f' ≡ f → KeepsKin areas two f f' spans'
   resized_keeps whole was now is =
       let b = before areas n area was in
-      let here : one n ≡ Some area = now n ∙ with_at-here n (option_map (with_bounds area.start area.end area.pgoff) (areas n)) areas ∙ ap (option_map (with_bounds area.start area.end area.pgoff)) b.there ∙ ap Some (sym b.is) in
+      let here : one n ≡ Some area = now n ∙ with_at-here n (option_map (with_bounds area.start area.end area.pgoff) (areas n)) areas
+      ∙ ap (option_map (with_bounds area.start area.end area.pgoff)) b.there ∙ ap Some (sym b.is) in
       keeps_same areas one two f f' spans' (λ k. last k ∙ with_at-same n (Some area) one here k)
       (keeps_resize areas one f spans n o f' spans' spanned area.start area.end area.pgoff b.old b.there (subst IsArea b.is (fits area whole)) now is)
 
@@ -88,14 +91,25 @@ module _ (areas one two : ℕ → Option Area) (f f' : Family) (spans spans' : �
       here (Some v) e = with_at-here n (with_own (Some v) (areas n)) areas ∙ ap (with_own (Some v)) there ∙ (λ i. Some (record area { anon = e i }))
 
 -- a part of an area comes without anon_vma
-pub bare_part : (areas areas' : ℕ → Option Area) (f : Family) (spans : ℕ → List Span) (n : ℕ) (area : Area) → IsInOrder areas f spans → areas n ≡ None → IsWhole area → ((k : ℕ) → areas' k ≡ with_at n (Some (record area { anon = None })) areas k) → KeepsKin areas areas' f f spans
+pub bare_part : (areas areas' : ℕ → Option Area) (f : Family) (spans : ℕ → List Span) (n : ℕ) (area : Area) → IsInOrder areas f spans → areas n ≡ None →
+    IsWhole area → ((k : ℕ) → areas' k ≡ with_at n (Some (record area { anon = None })) areas k) → KeepsKin areas areas' f f spans
 bare_part areas areas' f spans n area o unused w now =
     let bare : IsWhole (record area { anon = None }) = record { start = w.start; end = w.end; some = w.some; low = w.low; high = w.high; small = w.small } in
-    keeps_bare areas areas' f spans n o (Some (record area { anon = None })) (ap own_of unused) refl (λ A e. subst IsWhole (same_Some (record area { anon = None }) A e) bare) now
+    keeps_bare areas areas' f spans n o (Some (record area { anon = None })) (ap own_of unused) refl
+    (λ A e. subst IsWhole (same_Some (record area { anon = None }) A e) bare) now
 
 -- a new area of a process is whole, and comes without anon_vma
 pub whole_fresh : (p from past : ℕ) (prot : Prot) → from < past → low_page ≤ from → past ≤ top_page → IsWhole (fresh_area p from past prot)
-whole_fresh p from past prot some low high = record { start = omega arith; end = omega arith; some = omega arith; low = omega arith; high = omega arith; small = omega arith }
+whole_fresh p from past prot some low high = record {
+  start = omega arith;
+  end = omega arith;
+  some = omega arith;
+  low = omega arith;
+  high = omega arith;
+  small = omega arith;
+}
 
-pub added : (old new : List (Option Area)) (anons : Anons) (area : Area) (n : ℕ) → AreInOrder old anons → area_of old n ≡ None → IsWhole (record area { anon = None }) → ((k : ℕ) → area_of new k ≡ with_at n (Some (record area { anon = None })) (area_of old) k) → StayKin old anons new anons
+pub added : (old new : List (Option Area)) (anons : Anons) (area : Area) (n : ℕ) → AreInOrder old anons → area_of old n ≡ None →
+    IsWhole (record area { anon = None }) → ((k : ℕ) → area_of new k ≡ with_at n (Some (record area { anon = None })) (area_of old) k) →
+    StayKin old anons new anons
 added old new anons area n o unused w now = bare_part (area_of old) (area_of new) (family anons) (spans_of anons) n (record area { anon = None }) o unused w now

@@ -44,18 +44,20 @@ later_from t (u ∷ spans) n s apart e = elim (n == u.area) as (λ b. cond b (So
 ] e
 
 -- a span that is there holds its pages
-pub at_span : (spans : List Span) (n : ℕ) (s : Span) (page : ℕ) → AreApart spans → span_of spans n ≡ Some s → s.from ≤ page → page < s.to → area_at spans page ≡ Some n
+pub at_span : (spans : List Span) (n : ℕ) (s : Span) (page : ℕ) → AreApart spans → span_of spans n ≡ Some s → s.from ≤ page →
+    page < s.to → area_at spans page ≡ Some n
 at_span [] n s page apart e low high = cc
-at_span (t ∷ spans) n s page apart e low high = elim (n == t.area) as (λ b. (n == t.area) ≡ b → cond b (Some t) (span_of spans n) ≡ Some s → area_at (t ∷ spans) page ≡ Some n) [
-  | true ↦ λ h e.
-      let same : t ≡ s = cc in
-      let here : holds t page ≡ true = subst (λ u. holds u page ≡ true) (sym same) (holds_from s page low high) in
-      rw here (ap Some (sym (eqb-true n t.area h)))
-  | false ↦ λ _ e.
-      let after : t.to ≤ s.from = later_from t spans n s apart e in
-      let out : holds t page ≡ false = grind (arith, nat_tests) in
-      rw out (at_span spans n s page apart.2 e low high)
-] refl e
+at_span (t ∷ spans) n s page apart e low high = elim (n == t.area) as (λ b. (n == t.area) ≡ b → cond b (Some t) (span_of spans n) ≡ Some s →
+    area_at (t ∷ spans) page ≡ Some n) [
+      | true ↦ λ h e.
+          let same : t ≡ s = cc in
+          let here : holds t page ≡ true = subst (λ u. holds u page ≡ true) (sym same) (holds_from s page low high) in
+          rw here (ap Some (sym (eqb-true n t.area h)))
+      | false ↦ λ _ e.
+          let after : t.to ≤ s.from = later_from t spans n s apart e in
+          let out : holds t page ≡ false = grind (arith, nat_tests) in
+          rw out (at_span spans n s page apart.2 e low high)
+    ] refl e
 
 -- ---- the area that is on a page
 
@@ -95,20 +97,23 @@ pub record IsSpanAt (spans : List Span) (page number : ℕ) : Type 0 where
   pub holds : holds span page ≡ true
 
 pub span_at : (spans : List Span) (page n : ℕ) → AreDistinct spans → area_at spans page ≡ Some n → IsSpanAt spans page n
-span_at spans page n distinct e = each (span_of spans n) refl (of_some (λ n. IsSomeAnd (span_of spans n) (λ s. holds s page ≡ true)) (area_at spans page) n e (held spans page distinct))
+span_at spans page n distinct e = each (span_of spans n) refl (of_some (λ n. IsSomeAnd (span_of spans n) (λ s. holds s page ≡ true))
+    (area_at spans page) n e (held spans page distinct))
   where
     each : (o : Option Span) → span_of spans n ≡ o → IsSomeAnd o (λ s. holds s page ≡ true) → IsSpanAt spans page n
     each None e h = absurd h
     each (Some s) e h = record { span = s; span_is = e; holds = h }
 
-pub is_on : (p : ℕ) (areas : ℕ → Option Area) (spans : List Span) (page : ℕ) (area : Area) → AreAreasOf p areas spans → pages_by areas spans page ≡ Some area → IsOn p areas spans page area
+pub is_on : (p : ℕ) (areas : ℕ → Option Area) (spans : List Span) (page : ℕ) (area : Area) → AreAreasOf p areas spans → pages_by areas spans page ≡ Some area →
+    IsOn p areas spans page area
 is_on p areas spans page area stands e = each (area_at spans page) refl e
   where
     each : (o : Option ℕ) → area_at spans page ≡ o → option_and_then areas o ≡ Some area → IsOn p areas spans page area
     each None at e = cc
     each (Some n) at e =
         let s = span_at spans page n stands.spans_are.distinct at in
-        let is : IsAreaOf p s.span area = of_some_and (IsAreaOf p s.span) (areas n) area e (of_some (λ s. IsSomeAnd (areas n) (IsAreaOf p s)) (span_of spans n) s.span s.span_is (stands.used n)) in
+        let is : IsAreaOf p s.span area = of_some_and (IsAreaOf p s.span) (areas n) area e
+        (of_some (λ s. IsSomeAnd (areas n) (IsAreaOf p s)) (span_of spans n) s.span s.span_is (stands.used n)) in
         record {
           number = n;
           span = s.span;
@@ -127,22 +132,26 @@ used_at p areas spans page n stands at =
     subst IsSome (sym i.area_is) refl
 
 -- and its area is whole
-pub whole_at : (p : ℕ) (areas : ℕ → Option Area) (spans : List Span) (page n : ℕ) (area : Area) → AreAreasOf p areas spans → area_at spans page ≡ Some n → areas n ≡ Some area → IsWhole area
+pub whole_at : (p : ℕ) (areas : ℕ → Option Area) (spans : List Span) (page n : ℕ) (area : Area) → AreAreasOf p areas spans → area_at spans page ≡ Some n →
+    areas n ≡ Some area → IsWhole area
 whole_at p areas spans page n area stands at is = (is_on p areas spans page area stands (ap (option_and_then areas) at ∙ is)).is.whole
 
 -- an area that is there is on each page that it has
-pub on_span : (p : ℕ) (areas : ℕ → Option Area) (spans : List Span) (n : ℕ) (s : Span) (area : Area) (page : ℕ) → AreAreasOf p areas spans → span_of spans n ≡ Some s → areas n ≡ Some area → s.from ≤ page → page < s.to → pages_by areas spans page ≡ Some area
+pub on_span : (p : ℕ) (areas : ℕ → Option Area) (spans : List Span) (n : ℕ) (s : Span) (area : Area) (page : ℕ) → AreAreasOf p areas spans →
+    span_of spans n ≡ Some s → areas n ≡ Some area → s.from ≤ page → page < s.to → pages_by areas spans page ≡ Some area
 on_span p areas spans n s area page stands e is low high = ap (option_and_then areas) (at_span spans n s page stands.spans_are.apart e low high) ∙ is
 
 -- an area that is on one of its pages is on all
-pub one_area : (p : ℕ) (areas : ℕ → Option Area) (spans : List Span) (page other : ℕ) (area : Area) → AreAreasOf p areas spans → pages_by areas spans page ≡ Some area → has_page area other ≡ true → pages_by areas spans other ≡ Some area
+pub one_area : (p : ℕ) (areas : ℕ → Option Area) (spans : List Span) (page other : ℕ) (area : Area) → AreAreasOf p areas spans →
+    pages_by areas spans page ≡ Some area → has_page area other ≡ true → pages_by areas spans other ≡ Some area
 one_area p areas spans page other area stands e has =
     let on = is_on p areas spans page area stands e in
     let k = holds_parts on.span other (holds_is p on.span area other on.is ∙ has) in
     on_span p areas spans on.number on.span area other stands on.span_is on.area_is k.0 k.1
 
 -- a page is taken exactly where an area is on it
-pub taken_is : (p : ℕ) (areas : ℕ → Option Area) (spans : List Span) (page : ℕ) → AreAreasOf p areas spans → is_some (pages_by areas spans page) ≡ is_page_taken spans page
+pub taken_is : (p : ℕ) (areas : ℕ → Option Area) (spans : List Span) (page : ℕ) → AreAreasOf p areas spans →
+    is_some (pages_by areas spans page) ≡ is_page_taken spans page
 taken_is p areas spans page stands = each (area_at spans page) refl
   where
     each : (o : Option ℕ) → area_at spans page ≡ o → is_some (option_and_then areas o) ≡ is_some o
@@ -151,7 +160,8 @@ taken_is p areas spans page stands = each (area_at spans page) refl
 
 -- ---- the pages without one area
 
-pub at_rest : (spans : List Span) (n : ℕ) (s : Span) (page : ℕ) → AreSpans spans → span_of spans n ≡ Some s → area_at (without_area n spans) page ≡ unless_area n (area_at spans page)
+pub at_rest : (spans : List Span) (n : ℕ) (s : Span) (page : ℕ) → AreSpans spans → span_of spans n ≡ Some s →
+    area_at (without_area n spans) page ≡ unless_area n (area_at spans page)
 at_rest spans n s page good there =
     let r = removed n s.from spans spans _ refl good (subst (λ o. IsSomeAnd o (λ t. t.from ≡ s.from)) (sym there) refl) refl in
     ap (λ l. area_at l page) (sym r.spans) ∙ r.pages page
@@ -194,13 +204,15 @@ differ : (f : ℕ → Option Area) (n k : ℕ) (area : Area) → f n ≡ None �
 differ f n k area none some same = let e : f n ≡ f k = ap f (sym same) in cc
 
 -- where a number has another area, or none, the pages of its span have that
-pages_changed : (p n : ℕ) (s : Span) (areas : ℕ → Option Area) (spans : List Span) (x : Option Area) → AreAreasOf p areas spans → span_of spans n ≡ Some s → (page : ℕ) → pages_by (with_at n x areas) spans page ≡ cond (holds s page) x (pages_by areas spans page)
-pages_changed p n s areas spans x stands there page = elim (holds s page) as (λ b. holds s page ≡ b → pages_by (with_at n x areas) spans page ≡ cond b x (pages_by areas spans page)) [
-  | true ↦ λ h.
-      let k = holds_parts s page h in
-      ap (option_and_then (with_at n x areas)) (at_span spans n s page stands.spans_are.apart there k.0 k.1) ∙ self n x areas
-  | false ↦ λ h. each h (area_at spans page) refl
-] refl
+pages_changed : (p n : ℕ) (s : Span) (areas : ℕ → Option Area) (spans : List Span) (x : Option Area) → AreAreasOf p areas spans → span_of spans n ≡ Some s →
+    (page : ℕ) → pages_by (with_at n x areas) spans page ≡ cond (holds s page) x (pages_by areas spans page)
+pages_changed p n s areas spans x stands there page = elim (holds s page) as (λ b. holds s page ≡ b →
+    pages_by (with_at n x areas) spans page ≡ cond b x (pages_by areas spans page)) [
+      | true ↦ λ h.
+          let k = holds_parts s page h in
+          ap (option_and_then (with_at n x areas)) (at_span spans n s page stands.spans_are.apart there k.0 k.1) ∙ self n x areas
+      | false ↦ λ h. each h (area_at spans page) refl
+    ] refl
   where
     each : holds s page ≡ false → (o : Option ℕ) → area_at spans page ≡ o → option_and_then (with_at n x areas) o ≡ option_and_then areas o
     each h None at = refl
@@ -242,7 +254,8 @@ module _ (p n : ℕ) (s : Span) (area : Area) (areas areas' : ℕ → Option Are
 -- ---- an area's two parts are put in its place, the upper one under a new number
 
 module _ (p n m : ℕ) (s t : Span) (lower upper : Area) (areas areas' : ℕ → Option Area) (spans spans' : List Span)
-    (stands : AreAreasOf p areas spans) (there : IsSomeAnd (span_of spans n) (λ u. (u.from ≡ first_of lower) × (u.to ≡ past_of upper))) (unused : areas m ≡ None)
+    (stands : AreAreasOf p areas spans) (there : IsSomeAnd (span_of spans n) (λ u. (u.from ≡ first_of lower) × (u.to ≡ past_of upper)))
+    (unused : areas m ≡ None)
     (is_lower : IsAreaOf p s lower) (is_upper : IsAreaOf p t upper)
     (now : (k : ℕ) → areas' k ≡ with_at n (Some lower) (with_at m (Some upper) areas) k)
     (pages_now : (page : ℕ) → area_at spans' page ≡ cond (holds t page) (Some m) (cond (holds s page) (Some n) (unless_area n (area_at spans page)))) where
@@ -259,12 +272,14 @@ module _ (p n m : ℕ) (s t : Span) (lower upper : Area) (areas areas' : ℕ →
       ap (option_and_then areas') (pages_now page
       ∙ ap (λ b. cond b (Some m) (cond (holds s page) (Some n) (unless_area n (area_at spans page)))) (holds_is p t upper page is_upper)
       ∙ ap (λ b. cond (has_page upper page) (Some m) (cond b (Some n) (unless_area n (area_at spans page)))) (holds_is p s lower page is_lower))
-      ∙ elim (has_page upper page) as (λ b. option_and_then areas' (cond b (Some m) (cond (has_page lower page) (Some n) (unless_area n (area_at spans page)))) ≡ cond b (Some upper) (with_area lower (pages_by (with_at n None areas) spans) page)) [
+      ∙ elim (has_page upper page) as (λ b. option_and_then areas' (cond b (Some m) (cond (has_page lower page) (Some n) (unless_area n (area_at spans page))))
+      ≡ cond b (Some upper) (with_area lower (pages_by (with_at n None areas) spans) page)) [
         | true ↦ now m ∙ other_at n m (Some lower) (with_at m (Some upper) areas) apart ∙ self m (Some upper) areas
-        | false ↦ elim (has_page lower page) as (λ b. option_and_then areas' (cond b (Some n) (unless_area n (area_at spans page))) ≡ cond b (Some lower) (pages_by (with_at n None areas) spans page)) [
-          | true ↦ now n ∙ self n (Some lower) (with_at m (Some upper) areas)
-          | false ↦ each (area_at spans page) refl
-        ]
+        | false ↦ elim (has_page lower page) as (λ b. option_and_then areas' (cond b (Some n) (unless_area n (area_at spans page))) ≡ cond b (Some lower)
+            (pages_by (with_at n None areas) spans page)) [
+              | true ↦ now n ∙ self n (Some lower) (with_at m (Some upper) areas)
+              | false ↦ each (area_at spans page) refl
+            ]
       ]
     where
       each : (o : Option ℕ) → area_at spans page ≡ o → option_and_then areas' (unless_area n o) ≡ option_and_then (with_at n None areas) o
@@ -297,7 +312,8 @@ module _ (p n : ℕ) (s : Span) (areas areas' : ℕ → Option Area) (spans span
   take_pages page = grind (arith, common_steps)
 
 -- without its area, a number's pages have none; the others stay
-pub pages_without : (p n : ℕ) (s : Span) (areas : ℕ → Option Area) (spans : List Span) → AreAreasOf p areas spans → span_of spans n ≡ Some s → (page : ℕ) → pages_by (with_at n None areas) spans page ≡ cond (holds s page) None (pages_by areas spans page)
+pub pages_without : (p n : ℕ) (s : Span) (areas : ℕ → Option Area) (spans : List Span) → AreAreasOf p areas spans → span_of spans n ≡ Some s → (page : ℕ) →
+    pages_by (with_at n None areas) spans page ≡ cond (holds s page) None (pages_by areas spans page)
 pages_without p n s areas spans stands there page = pages_changed p n s areas spans None stands there page
 
 -- ---- another area on the same span

@@ -293,7 +293,7 @@ fn take_out(areas: &mut Areas, tree: &mut Tree, anons: &mut Anons, from: u64, to
 }
 
 /// Takes out every area of the process. It takes no memory.
-pub fn clear(areas: &mut Areas, tree: &mut Tree, anons: &mut Anons)
+pub fn cut_all(areas: &mut Areas, tree: &mut Tree, anons: &mut Anons)
     requires order { AreInOrder areas.old anons.old }
     requires stands { AreOfOne areas.old tree.old }
     ensures stands { StayOfOne areas.old tree.old areas.new tree.new }

@@ -47,7 +47,7 @@ pub fn move_range(
         (after_move (lengths areas.old anons.old) from pages to new_pages)) }
 {
     let common = pages.min(new_pages);
-    clear_ranges(areas, tree, anons, from, pages, to, new_pages)?;
+    cut_ranges(areas, tree, anons, from, pages, to, new_pages)?;
     relocate_all(areas, tree, anons, from, from + common, to)?;
     extend(areas, tree, anons, to + common - 1, to + new_pages)?;
     join_over(areas, tree, anons, to, to + new_pages)
@@ -55,7 +55,7 @@ pub fn move_range(
 
 /// Takes away what stands in the new range and, where that is shorter, the end of the old one; and
 /// cuts before the old one. What is left of it are whole areas.
-fn clear_ranges(
+fn cut_ranges(
     areas: &mut Areas,
     tree: &mut Tree,
     anons: &mut Anons,

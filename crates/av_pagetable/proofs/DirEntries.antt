@@ -43,7 +43,8 @@ later_part x y span some h = le-div (x / span) y span some (omega (arith, h, sta
 
 -- in the part of x it stands no earlier
 later_there : (x y span : ℕ) → x ≤ y → x / span ≡ y / span → x % span ≤ y % span
-later_there x y span h same = let e : x / span * span ≡ y / span * span = ap (λ d. d * span) same in omega (arith, h, e, div-add-mod' x span, div-add-mod' y span)
+later_there x y span h same = let e : x / span * span ≡ y / span * span = ap (λ d. d * span) same in
+    omega (arith, h, e, div-add-mod' x span, div-add-mod' y span)
 
 -- a part of a later number starts past the page
 starts_past : (x n span : ℕ) → 0 < span → x / span < n → x ≤ n * span
@@ -65,14 +66,16 @@ there_before : (i q x span : ℕ) → x < i * span + q → x / span ≡ i → x 
 there_before i q x span h same = let e : x / span * span ≡ i * span = ap (λ d. d * span) same in omega (arith, h, e, div-add-mod' x span)
 
 -- where one part changes at one page, the whole does
-join : (F F' : ℕ → ℕ → Pte) (span p : ℕ) (e : Pte) → ((j r : ℕ) → j ≢ p / span → F' j r ≡ F j r) → ((r : ℕ) → F' (p / span) r ≡ with_at (p % span) e (F (p / span)) r)
+join : (F F' : ℕ → ℕ → Pte) (span p : ℕ) (e : Pte) → ((j r : ℕ) → j ≢ p / span → F' j r ≡ F j r) →
+    ((r : ℕ) → F' (p / span) r ≡ with_at (p % span) e (F (p / span)) r)
     → ◌≡◌ {A = ℕ → Pte} (λ q. F' (q / span) (q % span)) (with_at p e (λ q. F (q / span) (q % span)))
 join F F' span p e others here = λ i q. point q i
   where
     point : (q : ℕ) → F' (q / span) (q % span) ≡ with_at p e (λ q. F (q / span) (q % span)) q
     point q = elim (cases_eq q p) [
       | inl same ↦
-          ap (λ q. F' (q / span) (q % span)) same ∙ here (p % span) ∙ with_at_same (p % span) e (F (p / span)) ∙ sym (with_at_same p e (λ q. F (q / span) (q % span)))
+          ap (λ q. F' (q / span) (q % span)) same ∙ here (p % span) ∙ with_at_same (p % span) e (F (p / span))
+          ∙ sym (with_at_same p e (λ q. F (q / span) (q % span)))
           ∙ ap (with_at p e (λ q. F (q / span) (q % span))) (sym same)
       | inr other ↦
           elim (cases_eq (q / span) (p / span)) [
@@ -98,7 +101,8 @@ no_part {C = C} parts n none = ap (cond (nat_lt n 512) (lookup (nat_eq n) parts)
 pub same_part : {C : Type 0} (parts parts' : List (ℕ × C)) (n : ℕ) → lookup (nat_eq n) parts' ≡ lookup (nat_eq n) parts → part_of parts' n ≡ part_of parts n
 same_part parts parts' n is = ap (λ o. cond (nat_lt n 512) o None) is
 
-module _ {C : Type 0} (at : C → ℕ → Pte) (span : ℕ) (parts : List (ℕ × C)) (good : AreParts at span parts) (k : ℕ) (p : ℕ × C) (within : k < length parts) (is : p ≡ get_or parts k p) where
+module _ {C : Type 0} (at : C → ℕ → Pte) (span : ℕ) (parts : List (ℕ × C)) (good : AreParts at span parts) (k : ℕ) (p : ℕ × C) (within : k < length parts)
+    (is : p ≡ get_or parts k p) where
   low : p.0 < 512
   low = let h = good.below k p within in omega (arith, h, ap (λ part. part.0) is)
 
@@ -115,10 +119,12 @@ module _ {C : Type 0} (at : C → ℕ → Pte) (span : ℕ) (parts : List (ℕ �
   pub entry_there : (page : ℕ) → p.0 ≡ page / span → entries at span parts page ≡ at p.1 (page % span)
   entry_there page here = ap (λ n. in_part at (part_of parts n) (page % span)) (sym here) ∙ ap (λ o. in_part at o (page % span)) there
 
-  pub written : (page : ℕ) (e : Pte) (c : C) → p.0 ≡ page / span → at c ≡ with_at (page % span) e (at p.1) → entries at span (slice_set parts k (p.0, c)) ≡ with_at page e (entries at span parts)
+  pub written : (page : ℕ) (e : Pte) (c : C) → p.0 ≡ page / span → at c ≡ with_at (page % span) e (at p.1) →
+      entries at span (slice_set parts k (p.0, c)) ≡ with_at page e (entries at span parts)
   written page e c here now =
       join (λ j. in_part at (part_of parts j)) (λ j. in_part at (part_of (slice_set parts k (p.0, c)) j)) span page e
-      (λ j r other. ap (λ o. in_part at o r) (same_part parts (slice_set parts k (p.0, c)) j (set_others at span parts good k p within is (p.0, c) refl j (λ e. other (e ∙ here)))))
+      (λ j r other. ap (λ o. in_part at o r) (same_part parts (slice_set parts k (p.0, c)) j
+      (set_others at span parts good k p within is (p.0, c) refl j (λ e. other (e ∙ here)))))
       (λ r. subst (λ n. in_part at (part_of (slice_set parts k (p.0, c)) n) r ≡ with_at (page % span) e (in_part at (part_of parts n)) r) here
       (ap (λ o. in_part at o r) (part_is (slice_set parts k (p.0, c)) p.0 (Some c) low (set_here at span parts good k p within is (p.0, c) refl))
       ∙ (λ i. now i r) ∙ ap (λ o. with_at (page % span) e (in_part at o) r) (sym there)))
@@ -129,12 +135,14 @@ module _ {C : Type 0} (at : C → ℕ → Pte) (span : ℕ) (parts : List (ℕ �
       same : (n : ℕ) → in_part at (part_of (slice_set parts k (p.0, c)) n) ≡ in_part at (part_of parts n)
       same n = elim (cases_eq n p.0) [
         | inl e ↦ subst (λ n. in_part at (part_of (slice_set parts k (p.0, c)) n) ≡ in_part at (part_of parts n)) (sym e)
-            (ap (in_part at) (part_is (slice_set parts k (p.0, c)) p.0 (Some c) low (set_here at span parts good k p within is (p.0, c) refl)) ∙ now ∙ ap (in_part at) (sym there))
+            (ap (in_part at) (part_is (slice_set parts k (p.0, c)) p.0 (Some c) low (set_here at span parts good k p within is (p.0, c) refl))
+            ∙ now ∙ ap (in_part at) (sym there))
         | inr ne ↦ ap (in_part at) (same_part parts (slice_set parts k (p.0, c)) n (set_others at span parts good k p within is (p.0, c) refl n ne))
       ]
 
   -- a part that has lost its last entry is taken out
-  pub dropped : (page : ℕ) (c : C) → p.0 ≡ page / span → at c ≡ with_at (page % span) Empty (at p.1) → ((q : ℕ) → at c q ≡ Empty) → entries at span (remove parts k) ≡ with_at page Empty (entries at span parts)
+  pub dropped : (page : ℕ) (c : C) → p.0 ≡ page / span → at c ≡ with_at (page % span) Empty (at p.1) → ((q : ℕ) → at c q ≡ Empty) →
+      entries at span (remove parts k) ≡ with_at page Empty (entries at span parts)
   dropped page c here now none =
       join (λ j. in_part at (part_of parts j)) (λ j. in_part at (part_of (remove parts k) j)) span page Empty
       (λ j r other. ap (λ o. in_part at o r) (same_part parts (remove parts k) j (remove_others at span parts good k p within is j (λ e. other (e ∙ here)))))
@@ -143,7 +151,8 @@ module _ {C : Type 0} (at : C → ℕ → Pte) (span : ℕ) (parts : List (ℕ �
       ∙ sym (none r) ∙ (λ i. now i r) ∙ ap (λ o. with_at (page % span) Empty (in_part at o) r) (sym there)))
 
   -- the first entry from a page of the part on, where the part has it
-  pub first_here : (page q : ℕ) → 0 < span → p.0 ≡ page / span → IsFirst (at p.1) (page % span) span q → IsFirst (entries at span parts) page (span * 512) (p.0 * span + q)
+  pub first_here : (page q : ℕ) → 0 < span → p.0 ≡ page / span → IsFirst (at p.1) (page % span) span q →
+      IsFirst (entries at span parts) page (span * 512) (p.0 * span + q)
   first_here page q some here first = record {
     from_there = let e : p.0 * span ≡ page / span * span = ap (λ d. d * span) here in omega (arith, e, div-add-mod' page span, first.from_there);
     below = mul-add-lt p.0 span q 512 low first.below;
@@ -159,7 +168,8 @@ module _ {C : Type 0} (at : C → ℕ → Pte) (span : ℕ) (parts : List (ℕ �
           entry_there x same ∙ first.least (x % span) (later_there page x span from (sym here ∙ same)) (there_before p.0 q x span to (sym same))
 
   -- and where an earlier page of the parts before has none
-  pub first_later : (page q : ℕ) → 0 < span → page ≤ p.0 * span → ((x : ℕ) → page ≤ x → x / span < p.0 → entries at span parts x ≡ Empty) → IsFirst (at p.1) 0 span q
+  pub first_later : (page q : ℕ) → 0 < span → page ≤ p.0 * span → ((x : ℕ) → page ≤ x → x / span < p.0 → entries at span parts x ≡ Empty) →
+      IsFirst (at p.1) 0 span q
       → IsFirst (entries at span parts) page (span * 512) (p.0 * span + q)
   first_later page q some later none first = record {
     from_there = omega (arith, later);
@@ -175,15 +185,18 @@ module _ {C : Type 0} (at : C → ℕ → Pte) (span : ℕ) (parts : List (ℕ �
       ]
 
 -- a part is put in
-pub added : {C : Type 0} (at : C → ℕ → Pte) (span : ℕ) (parts : List (ℕ × C)) (good : AreParts at span parts) (k n page : ℕ) (e : Pte) (c c' : C) → k ≤ length parts
+pub added : {C : Type 0} (at : C → ℕ → Pte) (span : ℕ) (parts : List (ℕ × C)) (good : AreParts at span parts) (k n page : ℕ) (e : Pte) (c c' : C) →
+    k ≤ length parts
     → AllWithin (λ part. part.0 < n) parts 0 k → AllWithin (λ part. n < part.0) parts k (length parts) → n < 512 → n ≡ page / span
     → ((q : ℕ) → at c q ≡ Empty) → at c' ≡ with_at (page % span) e (at c) → entries at span (insert parts k (n, c')) ≡ with_at page e (entries at span parts)
 added at span parts good k n page e c c' within lower higher low here none now =
     join (λ j. in_part at (part_of parts j)) (λ j. in_part at (part_of (insert parts k (n, c')) j)) span page e
-    (λ j r other. ap (λ o. in_part at o r) (same_part parts (insert parts k (n, c')) j (insert_others at span parts good k (n, c') within lower higher j (λ e. other (e ∙ here)))))
+    (λ j r other. ap (λ o. in_part at o r) (same_part parts (insert parts k (n, c')) j
+    (insert_others at span parts good k (n, c') within lower higher j (λ e. other (e ∙ here)))))
     (λ r. subst (λ n'. in_part at (part_of (insert parts k (n, c')) n') r ≡ with_at (page % span) e (in_part at (part_of parts n')) r) here
     (ap (λ o. in_part at o r) (part_is (insert parts k (n, c')) n (Some c') low (insert_here at span parts good k (n, c') within lower higher))
-    ∙ (λ i. now i r) ∙ ap (λ f. with_at (page % span) e f r) (λ i q. none q i) ∙ ap (λ o. with_at (page % span) e (in_part at o) r) (sym (no_part parts n (gap parts k n within lower higher)))))
+    ∙ (λ i. now i r) ∙ ap (λ f. with_at (page % span) e f r) (λ i q. none q i) ∙ ap (λ o. with_at (page % span) e (in_part at o) r)
+    (sym (no_part parts n (gap parts k n within lower higher)))))
 
 -- ---- the first entry from a page on
 module _ {C : Type 0} (at : C → ℕ → Pte) (span : ℕ) (parts : List (ℕ × C)) (good : AreParts at span parts) (some : 0 < span) where
@@ -191,29 +204,35 @@ module _ {C : Type 0} (at : C → ℕ → Pte) (span : ℕ) (parts : List (ℕ �
   above : (m n : ℕ) (p : ℕ × C) → m < length parts → p ≡ get_or parts m p → n < p.0 → AllWithin (λ part. n < part.0) parts m (length parts)
   above m n p within is h i d low high = elim (cases_eq i m) [
     | inl e ↦ let at_m = ap (λ i. (get_or parts i d).0) e ∙ ap (λ part. part.0) (get_or_default parts m d p within ∙ sym is) in omega (arith, at_m, h)
-    | inr ne ↦ let lt = good.rising m i d (omega (arith, low, ne)) high in let at_m = ap (λ part. part.0) (get_or_default parts m d p within ∙ sym is) in omega (arith, lt, at_m, h)
+    | inr ne ↦ let lt = good.rising m i d (omega (arith, low, ne)) high in let at_m = ap (λ part. part.0) (get_or_default parts m d p within ∙ sym is) in
+        omega (arith, lt, at_m, h)
   ]
 
   pub not_there : (page k : ℕ) → k ≤ length parts → AllWithin (λ part. part.0 < page / span) parts 0 k
       → (x : ℕ) → page ≤ x → AllWithin (λ part. x / span < part.0) parts k (length parts) → entries at span parts x ≡ Empty
   not_there page k within lower x from higher =
       let later = later_part page x span some from in
-      ap (λ o. in_part at o (x % span)) (no_part parts (x / span) (gap parts k (x / span) within (λ i d low high. let lt = lower i d low high in omega (arith, lt, later)) higher))
+      ap (λ o. in_part at o (x % span)) (no_part parts (x / span) (gap parts k (x / span) within (λ i d low high. let lt = lower i d low high in
+      omega (arith, lt, later)) higher))
 
   pub not_later : (page k : ℕ) (p : ℕ × C) → k < length parts → p ≡ get_or parts k p → p.0 ≡ page / span → ((q : ℕ) → page % span ≤ q → at p.1 q ≡ Empty)
       → (x : ℕ) → page ≤ x → AllWithin (λ part. x / span < part.0) parts (k + 1) (length parts) → entries at span parts x ≡ Empty
   not_later page k p within is here none x from higher = elim (cases_eq (x / span) p.0) [
     | inl same ↦ entry_there at span parts good k p within is x (sym same) ∙ none (x % span) (later_there page x span from (sym here ∙ sym same))
-    | inr apart ↦ ap (λ o. in_part at o (x % span)) (no_part parts (x / span) (gap parts (k + 1) (x / span) (omega (arith, within)) (λ i d low high. lower apart i d high) higher))
+    | inr apart ↦ ap (λ o. in_part at o (x % span)) (no_part parts (x / span)
+        (gap parts (k + 1) (x / span) (omega (arith, within)) (λ i d low high. lower apart i d high) higher))
   ]
     where
       lower : x / span ≢ p.0 → (i : ℕ) (d : ℕ × C) → i < k + 1 → (get_or parts i d).0 < x / span
       lower differs i d high = elim (cases_eq i k) [
-        | inl e ↦ let at_k = ap (λ i. (get_or parts i d).0) e ∙ ap (λ part. part.0) (get_or_default parts k d p within ∙ sym is) in omega (arith, at_k, here, later_part page x span some from, differs)
-        | inr ne ↦ let lt = good.rising i k d (omega (arith, high, ne)) within in let at_k = ap (λ part. part.0) (get_or_default parts k d p within ∙ sym is) in omega (arith, lt, at_k, here, later_part page x span some from)
+        | inl e ↦ let at_k = ap (λ i. (get_or parts i d).0) e ∙ ap (λ part. part.0) (get_or_default parts k d p within ∙ sym is) in
+            omega (arith, at_k, here, later_part page x span some from, differs)
+        | inr ne ↦ let lt = good.rising i k d (omega (arith, high, ne)) within in let at_k = ap (λ part. part.0) (get_or_default parts k d p within ∙ sym is) in
+            omega (arith, lt, at_k, here, later_part page x span some from)
       ]
 
-  pub from_place : (page m : ℕ) (r : Option ℕ) → ((x : ℕ) → page ≤ x → AllWithin (λ part. x / span < part.0) parts m (length parts) → entries at span parts x ≡ Empty)
+  pub from_place : (page m : ℕ) (r : Option ℕ) → ((x : ℕ) → page ≤ x → AllWithin (λ part. x / span < part.0) parts m (length parts) →
+      entries at span parts x ≡ Empty)
       → ((p : ℕ × C) → m < length parts → p ≡ get_or parts m p → page ≤ p.0 * span)
       → MatchOption r ((q : ℕ) → 0 ≤ q → entries_at at parts m q ≡ Empty) (λ found. IsFirstIn at span parts m 0 found)
       → MatchOption r ((q : ℕ) → page ≤ q → entries at span parts q ≡ Empty) (λ found. IsFirst (entries at span parts) page (span * 512) found)
@@ -221,35 +240,44 @@ module _ {C : Type 0} (at : C → ℕ → Pte) (span : ℕ) (parts : List (ℕ �
       let within = slice_get_within parts m p is in
       let at_m = sym (get_or_from_slice_get parts m p p is) in
       subst (λ n. IsFirst (entries at span parts) page (span * 512) n) (sym found_is)
-      (first_later at span parts good m p within at_m page q some (later p within at_m) (λ x from under. passed x from (above m (x / span) p within at_m under)) first)
+      (first_later at span parts good m p within at_m page q some (later p within at_m)
+      (λ x from under. passed x from (above m (x / span) p within at_m under)) first)
   from_place page m None passed later none = elim (slice_get_cases parts m).1 [
-    | inl (p, within, is, at_m) ↦ absurd (good.full m p within (λ q under. subst (λ (c : ℕ × C). at c.1 q ≡ Empty) (sym at_m) (ap (λ o. in_part at (option_map (λ part. part.1) o) q) (sym is) ∙ none q (omega arith))))
+    | inl (p, within, is, at_m) ↦ absurd (good.full m p within (λ q under. subst (λ (c : ℕ × C). at c.1 q ≡ Empty) (sym at_m)
+        (ap (λ o. in_part at (option_map (λ part. part.1) o) q) (sym is) ∙ none q (omega arith))))
     | inr (past, is) ↦ λ x from. passed x from (λ i d low high. absurd (omega (arith, past, low, high)))
   ]
 
   -- a part of the page's number has it
-  pub from_part : (page k page' : ℕ) → HoldsAt (λ part. part.0 ≡ page / span) parts k → IsFirstIn at span parts k (page % span) page' → IsFirst (entries at span parts) page (span * 512) page'
+  pub from_part : (page k page' : ℕ) → HoldsAt (λ part. part.0 ≡ page / span) parts k → IsFirstIn at span parts k (page % span) page' →
+      IsFirst (entries at span parts) page (span * 512) page'
   from_part page k page' number (p, q, is, found_is, first) =
       let within = slice_get_within parts k p is in
       let at_k : p ≡ get_or parts k p = sym (get_or_from_slice_get parts k p p is) in
-      subst (λ n. IsFirst (entries at span parts) page (span * 512) n) (sym found_is) (first_here at span parts good k p within at_k page q some (ap (λ part. part.0) at_k ∙ number p) first)
+      subst (λ n. IsFirst (entries at span parts) page (span * 512) n) (sym found_is)
+      (first_here at span parts good k p within at_k page q some (ap (λ part. part.0) at_k ∙ number p) first)
 
   -- it has none from the page on, so a later part has it
-  pub after_part : (page k : ℕ) (r : Option ℕ) → k < length parts → HoldsAt (λ part. part.0 ≡ page / span) parts k → ((q : ℕ) → page % span ≤ q → entries_at at parts k q ≡ Empty)
+  pub after_part : (page k : ℕ) (r : Option ℕ) → k < length parts → HoldsAt (λ part. part.0 ≡ page / span) parts k →
+      ((q : ℕ) → page % span ≤ q → entries_at at parts k q ≡ Empty)
       → MatchOption r ((q : ℕ) → 0 ≤ q → entries_at at parts (k + 1) q ≡ Empty) (λ found. IsFirstIn at span parts (k + 1) 0 found)
       → MatchOption r ((q : ℕ) → page ≤ q → entries at span parts q ≡ Empty) (λ found. IsFirst (entries at span parts) page (span * 512) found)
   after_part page k r within number none = elim (slice_get_cases parts k).1 [
     | inl (p, _, is, at_k) ↦ from_place page (k + 1) r
-        (not_later page k p within (sym at_k) (ap (λ part. part.0) (sym at_k) ∙ number p) (λ q from. ap (λ o. in_part at (option_map (λ part. part.1) o) q) (sym is) ∙ none q from))
-        (λ p' within' is'. let lt = good.rising k (k + 1) p' (omega arith) within' in starts_past page p'.0 span some (omega (arith, lt, number p', ap (λ part. part.0) is')))
+        (not_later page k p within (sym at_k) (ap (λ part. part.0) (sym at_k) ∙ number p)
+        (λ q from. ap (λ o. in_part at (option_map (λ part. part.1) o) q) (sym is) ∙ none q from))
+        (λ p' within' is'. let lt = good.rising k (k + 1) p' (omega arith) within' in
+        starts_past page p'.0 span some (omega (arith, lt, number p', ap (λ part. part.0) is')))
     | inr (past, _) ↦ absurd (omega (arith, past, within))
   ]
 
   -- no part has the page's number
-  pub after_gap : (page k : ℕ) (r : Option ℕ) → k ≤ length parts → AllWithin (λ part. part.0 < page / span) parts 0 k → AllWithin (λ part. page / span < part.0) parts k (length parts)
+  pub after_gap : (page k : ℕ) (r : Option ℕ) → k ≤ length parts → AllWithin (λ part. part.0 < page / span) parts 0 k →
+      AllWithin (λ part. page / span < part.0) parts k (length parts)
       → MatchOption r ((q : ℕ) → 0 ≤ q → entries_at at parts k q ≡ Empty) (λ found. IsFirstIn at span parts k 0 found)
       → MatchOption r ((q : ℕ) → page ≤ q → entries at span parts q ≡ Empty) (λ found. IsFirst (entries at span parts) page (span * 512) found)
-  after_gap page k r within lower higher = from_place page k r (not_there page k within lower) (λ p within' is'. let lt = higher k p (omega arith) within' in starts_past page p.0 span some (omega (arith, lt, ap (λ part. part.0) is')))
+  after_gap page k r within lower higher = from_place page k r (not_there page k within lower) (λ p within' is'. let lt = higher k p (omega arith) within' in
+      starts_past page p.0 span some (omega (arith, lt, ap (λ part. part.0) is')))
 
   -- the first part has the first of all
   pub from_start : (r : Option ℕ) → MatchOption r ((q : ℕ) → 0 ≤ q → entries_at at parts 0 q ≡ Empty) (λ found. IsFirstIn at span parts 0 0 found)
@@ -257,10 +285,12 @@ module _ {C : Type 0} (at : C → ℕ → Pte) (span : ℕ) (parts : List (ℕ �
   from_start r = from_place 0 0 r (not_there 0 0 (omega arith) (λ i d low high. absurd (omega (arith, low, high)))) (λ p within is. omega arith)
 
 -- ---- a directory is empty exactly where it has no part
-pub some_entry : {C : Type 0} (at : C → ℕ → Pte) (span : ℕ) (parts : List (ℕ × C)) → AreParts at span parts → 0 < length parts → HasSome (span * 512) (entries at span parts)
+pub some_entry : {C : Type 0} (at : C → ℕ → Pte) (span : ℕ) (parts : List (ℕ × C)) → AreParts at span parts → 0 < length parts →
+    HasSome (span * 512) (entries at span parts)
 some_entry {C = C} at span parts good more none = elim (slice_get_cases parts 0).1 [
   | inl (p, within, is, at_0) ↦ good.full 0 p within (λ q under. subst (λ (c : ℕ × C). at c.1 q ≡ Empty) (sym at_0)
-      (sym (entries_there at span parts good 0 p within (sym at_0) q under) ∙ none (p.0 * span + q) (mul-add-lt p.0 span q 512 (let h = good.below 0 p within in omega (arith, h, ap (λ part. part.0) at_0)) under)))
+      (sym (entries_there at span parts good 0 p within (sym at_0) q under) ∙ none (p.0 * span + q)
+      (mul-add-lt p.0 span q 512 (let h = good.below 0 p within in omega (arith, h, ap (λ part. part.0) at_0)) under)))
   | inr (past, is) ↦ omega (arith, past, more)
 ]
 
@@ -269,7 +299,8 @@ no_entries at span [] none page = ap (λ o. in_part at o (page % span)) (no_part
 no_entries at span (p ∷ ps) none page = absurd (omega (arith, none))
 
 -- ---- a part keeps an entry
-pub some_written : {C : Type 0} (at : C → ℕ → Pte) (span r : ℕ) (e : Pte) (c c' : C) → r < span → (e ≡ Empty → ⊥) → at c' ≡ with_at r e (at c) → HasSome span (at c')
+pub some_written : {C : Type 0} (at : C → ℕ → Pte) (span r : ℕ) (e : Pte) (c c' : C) → r < span → (e ≡ Empty → ⊥) →
+    at c' ≡ with_at r e (at c) → HasSome span (at c')
 some_written at span r e c c' under some now none = some (sym (with_at_same r e (at c)) ∙ ap (λ f. f r) (sym now) ∙ none r under)
 
 -- after a write that may have found no memory
@@ -279,16 +310,20 @@ some_either at span r e c c' (Ok x) had under some now = some_written at span r 
 some_either at span r e c c' (Err x) had under some now = λ none. had (λ q low. ap (λ f. f q) (sym now) ∙ none q low)
 
 -- the part at a place is that of its number
-pub part_there : {C : Type 0} (at : C → ℕ → Pte) (span : ℕ) (parts : List (ℕ × C)) → AreParts at span parts → (k : ℕ) (p : ℕ × C) → k < length parts → p ≡ get_or parts k p
+pub part_there : {C : Type 0} (at : C → ℕ → Pte) (span : ℕ) (parts : List (ℕ × C)) → AreParts at span parts → (k : ℕ) (p : ℕ × C) →
+    k < length parts → p ≡ get_or parts k p
     → (n : ℕ) → p.0 ≡ n → Some p.1 ≡ part_of parts n
 part_there at span parts good k p within is n here = sym (there at span parts good k p within is) ∙ ap (part_of parts) here
 
 -- where one would stand, there is none
-pub part_absent : {C : Type 0} (parts : List (ℕ × C)) (k n : ℕ) → k ≤ length parts → AllWithin (λ part. part.0 < n) parts 0 k → AllWithin (λ part. n < part.0) parts k (length parts)
+pub part_absent : {C : Type 0} (parts : List (ℕ × C)) (k n : ℕ) → k ≤ length parts → AllWithin (λ part. part.0 < n) parts 0 k →
+    AllWithin (λ part. n < part.0) parts k (length parts)
     → None ≡ part_of parts n
 part_absent parts k n within lower higher = sym (no_part parts n (gap parts k n within lower higher))
 
 -- where a part would stand, its pages have no entry
-pub absent : {C : Type 0} (at : C → ℕ → Pte) (span : ℕ) (parts : List (ℕ × C)) (k n page : ℕ) → k ≤ length parts → AllWithin (λ part. part.0 < n) parts 0 k → AllWithin (λ part. n < part.0) parts k (length parts)
+pub absent : {C : Type 0} (at : C → ℕ → Pte) (span : ℕ) (parts : List (ℕ × C)) (k n page : ℕ) → k ≤ length parts → AllWithin (λ part. part.0 < n) parts 0 k →
+    AllWithin (λ part. n < part.0) parts k (length parts)
     → n ≡ page / span → entries at span parts page ≡ Empty
-absent at span parts k n page within lower higher here = ap (λ n. in_part at (part_of parts n) (page % span)) (sym here) ∙ ap (λ o. in_part at o (page % span)) (no_part parts n (gap parts k n within lower higher))
+absent at span parts k n page within lower higher here = ap (λ n. in_part at (part_of parts n) (page % span)) (sym here) ∙ ap (λ o. in_part at o (page % span))
+    (no_part parts n (gap parts k n within lower higher))

@@ -51,7 +51,8 @@ pub skipped : {C : Type 0} (xs ys : List (ℕ × C)) (p : ℕ × C) (n : ℕ) �
 skipped [] ys p n h = ap (λ b. cond b (Some p.1) (lookup (nat_eq n) ys)) (differ n p.0 h)
 skipped (x ∷ xs) ys p n h = ap (cond (nat_eq n x.0) (Some x.1)) (skipped xs ys p n h)
 
-passed : {C : Type 0} (parts ys : List (ℕ × C)) (k n : ℕ) → k ≤ length parts → AllWithin (λ part. part.0 ≢ n) parts 0 k → lookup (nat_eq n) (take k parts ++ ys) ≡ lookup (nat_eq n) ys
+passed : {C : Type 0} (parts ys : List (ℕ × C)) (k n : ℕ) → k ≤ length parts → AllWithin (λ part. part.0 ≢ n) parts 0 k →
+    lookup (nat_eq n) (take k parts ++ ys) ≡ lookup (nat_eq n) ys
 passed parts ys zero n h apart = refl
 passed [] ys (suc k) n h apart = absurd (omega (arith, h))
 passed (x ∷ xs) ys (suc k) n h apart =
@@ -67,7 +68,8 @@ missed (x ∷ xs) zero n apart =
 missed (x ∷ xs) (suc k) n apart = missed xs k n (λ i d low high. apart (suc i) d (omega (arith, low)) (omega (arith, high)))
 
 -- ---- at a part that is there
-module _ {C : Type 0} (at : C → ℕ → Pte) (span : ℕ) (parts : List (ℕ × C)) (good : AreParts at span parts) (k : ℕ) (p : ℕ × C) (within : k < length parts) (is : p ≡ get_or parts k p) where
+module _ {C : Type 0} (at : C → ℕ → Pte) (span : ℕ) (parts : List (ℕ × C)) (good : AreParts at span parts) (k : ℕ) (p : ℕ × C) (within : k < length parts)
+    (is : p ≡ get_or parts k p) where
   at_k : (d : ℕ × C) → get_or parts k d ≡ p
   at_k d = get_or_default parts k d p within ∙ sym is
 
@@ -78,7 +80,8 @@ module _ {C : Type 0} (at : C → ℕ → Pte) (span : ℕ) (parts : List (ℕ �
   after i d low high e = let lt = good.rising k i d (omega (arith, low)) high in omega (arith, lt, e, ap (λ part. part.0) (at_k d))
 
   pub first_found : (ys : List (ℕ × C)) (w : ℕ × C) → w.0 ≡ p.0 → lookup (nat_eq p.0) (take k parts ++ w ∷ ys) ≡ Some w.1
-  first_found ys w number = passed parts (w ∷ ys) k p.0 (omega (arith, within)) before ∙ ap (λ b. cond b (Some w.1) (lookup (nat_eq p.0) ys)) (same p.0 w.0 (sym number))
+  first_found ys w number = passed parts (w ∷ ys) k p.0 (omega (arith, within)) before ∙ ap (λ b. cond b (Some w.1) (lookup (nat_eq p.0) ys))
+      (same p.0 w.0 (sym number))
 
   pub not_before : lookup (nat_eq p.0) (take k parts) ≡ None
   not_before = ap (lookup (nat_eq p.0)) (sym (append-nil (take k parts))) ∙ passed parts [] k p.0 (omega (arith, within)) before
@@ -104,13 +107,15 @@ module _ {C : Type 0} (at : C → ℕ → Pte) (span : ℕ) (parts : List (ℕ �
 
   same_number : (w : ℕ × C) → w.0 ≡ p.0 → (i : ℕ) (d : ℕ × C) → (get_or (slice_set parts k w) i d).0 ≡ (get_or parts i d).0
   same_number w number i d = elim (cases_eq i k) [
-    | inl e ↦ ap (λ i. (get_or (slice_set parts k w) i d).0) e ∙ ap (λ part. part.0) (get_or-set_same parts k w d within) ∙ number ∙ sym (ap (λ part. part.0) (at_k d)) ∙ ap (λ i. (get_or parts i d).0) (sym e)
+    | inl e ↦ ap (λ i. (get_or (slice_set parts k w) i d).0) e ∙ ap (λ part. part.0) (get_or-set_same parts k w d within) ∙ number
+        ∙ sym (ap (λ part. part.0) (at_k d)) ∙ ap (λ i. (get_or parts i d).0) (sym e)
     | inr ne ↦ ap (λ part. part.0) (get_or-set_other parts k i w d ne)
   ]
 
   pub set_good : (w : ℕ × C) → w.0 ≡ p.0 → HasSome span (at w.1) → AreParts at span (slice_set parts k w)
   set_good w number some = record {
-    rising = λ i j d lt high. let one = same_number w number i d in let two = same_number w number j d in let old = good.rising i j d lt (omega (arith, high, length-set parts k w)) in omega (arith, one, two, old);
+    rising = λ i j d lt high. let one = same_number w number i d in let two = same_number w number j d in
+        let old = good.rising i j d lt (omega (arith, high, length-set parts k w)) in omega (arith, one, two, old);
     below = λ i d high. let one = same_number w number i d in let old = good.below i d (omega (arith, high, length-set parts k w)) in omega (arith, one, old);
     full = All-set (λ part. HasSome span (at part.1)) parts k w some good.full;
   }
@@ -130,7 +135,8 @@ module _ {C : Type 0} (at : C → ℕ → Pte) (span : ℕ) (parts : List (ℕ �
 
 -- ---- where a part would stand
 -- no part has a number that lies between those of the parts before a place and those from it on
-pub gap : {C : Type 0} (parts : List (ℕ × C)) (k n : ℕ) → k ≤ length parts → AllWithin (λ part. part.0 < n) parts 0 k → AllWithin (λ part. n < part.0) parts k (length parts)
+pub gap : {C : Type 0} (parts : List (ℕ × C)) (k n : ℕ) → k ≤ length parts → AllWithin (λ part. part.0 < n) parts 0 k →
+    AllWithin (λ part. n < part.0) parts k (length parts)
     → lookup (nat_eq n) parts ≡ None
 gap parts k n within lower higher =
     sym (ap (lookup (nat_eq n)) (take-append-drop k parts))
@@ -154,15 +160,18 @@ module _ {C : Type 0} (at : C → ℕ → Pte) (span : ℕ) (parts : List (ℕ �
     | inr ge ↦ elim (cases_eq i k) [
       | inl e ↦ subst (λ i. P (get_or (insert parts k w) i d)) (sym e) (subst P (sym (get_or-insert_at parts k w d within)) new)
       | inr ne ↦ let more : k ≤ i - 1 = omega (arith, ge, ne) in let back : i - 1 + 1 ≡ i = omega (arith, ge, ne) in
-          subst (λ i. P (get_or (insert parts k w) i d)) back (subst P (sym (get_or-insert_above parts k w d (i - 1) more within)) (all (i - 1) d (omega (arith, high, more, back, length-insert parts k w within))))
+          subst (λ i. P (get_or (insert parts k w) i d)) back (subst P (sym (get_or-insert_above parts k w d (i - 1) more within))
+          (all (i - 1) d (omega (arith, high, more, back, length-insert parts k w within))))
     ]
   ]
 
-  number_at : (i : ℕ) (d : ℕ × C) → (i < k → (get_or (insert parts k w) i d).0 ≡ (get_or parts i d).0) × (i ≡ k → (get_or (insert parts k w) i d).0 ≡ w.0) × (k < i → (get_or (insert parts k w) i d).0 ≡ (get_or parts (i - 1) d).0)
+  number_at : (i : ℕ) (d : ℕ × C) → (i < k → (get_or (insert parts k w) i d).0 ≡ (get_or parts i d).0) × (i ≡ k → (get_or (insert parts k w) i d).0 ≡ w.0)
+      × (k < i → (get_or (insert parts k w) i d).0 ≡ (get_or parts (i - 1) d).0)
   number_at i d = (
     (λ lt. ap (λ part. part.0) (get_or-insert_below parts k w d i lt within)),
     (λ e. ap (λ i. (get_or (insert parts k w) i d).0) e ∙ ap (λ part. part.0) (get_or-insert_at parts k w d within)),
-    (λ gt. let back : i ≡ i - 1 + 1 = omega (arith, gt) in ap (λ i. (get_or (insert parts k w) i d).0) back ∙ ap (λ part. part.0) (get_or-insert_above parts k w d (i - 1) (omega (arith, gt)) within)),
+    (λ gt. let back : i ≡ i - 1 + 1 = omega (arith, gt) in ap (λ i. (get_or (insert parts k w) i d).0) back
+        ∙ ap (λ part. part.0) (get_or-insert_above parts k w d (i - 1) (omega (arith, gt)) within)),
   )
 
   rising : AllPairs (λ part later. part.0 < later.0) (insert parts k w)
@@ -173,12 +182,15 @@ module _ {C : Type 0} (at : C → ℕ → Pte) (span : ℕ) (parts : List (ℕ �
           | inl b ↦ let two = (number_at j d).0 b in let old = good.rising i j d lt (omega (arith, b, within)) in omega (arith, one, two, old)
           | inr b ↦ let old = lower i d (omega arith) a in elim (cases_eq j k) [
             | inl e ↦ let two = (number_at j d).1 e in omega (arith, one, two, old)
-            | inr ne ↦ let two = (number_at j d).2 (omega (arith, b, ne)) in let new = higher (j - 1) d (omega (arith, b, ne)) (omega (arith, b, ne, high, long)) in omega (arith, one, two, old, new)
+            | inr ne ↦ let two = (number_at j d).2 (omega (arith, b, ne)) in
+                let new = higher (j - 1) d (omega (arith, b, ne)) (omega (arith, b, ne, high, long)) in omega (arith, one, two, old, new)
           ]
         ]
         | inr a ↦ let two = (number_at j d).2 (omega (arith, a, lt)) in elim (cases_eq i k) [
-          | inl e ↦ let one = (number_at i d).1 e in let new = higher (j - 1) d (omega (arith, a, lt)) (omega (arith, lt, high, long)) in omega (arith, one, two, new)
-          | inr ne ↦ let one = (number_at i d).2 (omega (arith, a, ne)) in let old = good.rising (i - 1) (j - 1) d (omega (arith, a, ne, lt)) (omega (arith, lt, high, long)) in omega (arith, one, two, old)
+          | inl e ↦ let one = (number_at i d).1 e in let new = higher (j - 1) d (omega (arith, a, lt)) (omega (arith, lt, high, long)) in
+              omega (arith, one, two, new)
+          | inr ne ↦ let one = (number_at i d).2 (omega (arith, a, ne)) in
+              let old = good.rising (i - 1) (j - 1) d (omega (arith, a, ne, lt)) (omega (arith, lt, high, long)) in omega (arith, one, two, old)
         ]
       ]
 
@@ -229,7 +241,8 @@ few {C = C} at span (p ∷ ps) good = let high = number (length ps) (omega arith
     number (suc i) h = let less = good.rising i (suc i) p (omega arith) h in let before = number i (omega (arith, h)) in omega (arith, less, before)
 
 -- a number below the first part's is below each part's
-pub before_first : {C : Type 0} (parts : List (ℕ × C)) (number : ℕ) (first : ℕ × C) → AllPairs (λ part later. part.0 < later.0) parts → first ≡ get_or parts 0 first → number < first.0
+pub before_first : {C : Type 0} (parts : List (ℕ × C)) (number : ℕ) (first : ℕ × C) → AllPairs (λ part later. part.0 < later.0) parts →
+    first ≡ get_or parts 0 first → number < first.0
     → (k : ℕ) (d : ℕ × C) → 0 ≤ k → k < length parts → number < (get_or parts k d).0
 before_first parts number first rising is less zero d low high = subst (λ part. number < part.0) (is ∙ get_or_default parts 0 first d high) less
 before_first parts number first rising is less (suc k) d low high =
@@ -239,7 +252,8 @@ before_first parts number first rising is less (suc k) d low high =
     omega (arith, less, now, later, same)
 
 -- a number above the last part's is above each part's
-pub after_last : {C : Type 0} (parts : List (ℕ × C)) (number : ℕ) (last : ℕ × C) → AllPairs (λ part later. part.0 < later.0) parts → last ≡ get_or parts (length parts - 1) last → last.0 < number
+pub after_last : {C : Type 0} (parts : List (ℕ × C)) (number : ℕ) (last : ℕ × C) → AllPairs (λ part later. part.0 < later.0) parts →
+    last ≡ get_or parts (length parts - 1) last → last.0 < number
     → (k : ℕ) (d : ℕ × C) → k < length parts → (get_or parts k d).0 < number
 after_last parts number last rising is less k d high =
     let now = ap (λ part. part.0) is in

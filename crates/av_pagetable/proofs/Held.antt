@@ -36,14 +36,16 @@ whole page span = div-add-mod' page span
 -- a page whose unit is one of part k stands in part k
 part_from_unit : (page k v size t span : ℕ) → 0 < size → 0 < span → span ≡ t * size → v < t → page / size ≡ k * t + v → page / span ≡ k
 part_from_unit page k v size t span size_some span_some is low unit =
-    let one : page / size ≡ page / span * t + page % span / size = ap (λ p. p / size) (sym (whole page span)) ∙ in_units (page / span) (page % span) size t span size_some is in
+    let one : page / size ≡ page / span * t + page % span / size = ap (λ p. p / size) (sym (whole page span)) ∙ in_units (page / span)
+    (page % span) size t span size_some is in
     let under : page % span / size < t = div_below (page % span) size t size_some (omega (arith, mod_below page span span_some, is)) in
     same (page / span) k (page % span / size) v t under low (sym one ∙ unit)
   where
     same : (a b c d w : ℕ) → c < w → d < w → a * w + c ≡ b * w + d → a ≡ b
     same a b c d w h h' e = sym (div-mul-add a w c h) ∙ ap (λ n. n / w) e ∙ div-mul-add b w d h'
 
-pub joined : (f f' g : ℕ → Pte) (span bound k size t : ℕ) (vs values : List ℕ) → Adds f f' g span bound k → 0 < size → span ≡ t * size → AreValues g span size vs → AreValues f bound size values
+pub joined : (f f' g : ℕ → Pte) (span bound k size t : ℕ) (vs values : List ℕ) → Adds f f' g span bound k → 0 < size → span ≡ t * size →
+    AreValues g span size vs → AreValues f bound size values
     → AreValues f' bound size (map (λ v. k * t + v) vs ++ values)
 joined f f' g span bound k size t vs values adds some is part rest = record {
   different = λ i j h h' e. different i j h h' e;
@@ -58,7 +60,8 @@ joined f f' g span bound k size t vs values adds some is part rest = record {
     len = omega (arith, length-append (map (λ v. k * t + v) vs) values, length-map vs (λ v. k * t + v))
 
     first : (i : ℕ) → i < length vs → get_or (map (λ v. k * t + v) vs ++ values) i 0 ≡ k * t + get_or vs i 0
-    first i h = get_or_append_left (map (λ v. k * t + v) vs) values 0 i (omega (arith, h, length-map vs (λ v. k * t + v))) ∙ get_or-map (λ v. k * t + v) vs i 0 0 h
+    first i h = get_or_append_left (map (λ v. k * t + v) vs) values 0 i (omega (arith, h, length-map vs (λ v. k * t + v)))
+        ∙ get_or-map (λ v. k * t + v) vs i 0 0 h
 
     later : (i : ℕ) → length vs ≤ i → get_or (map (λ v. k * t + v) vs ++ values) i 0 ≡ get_or values (i - length vs) 0
     later i h = get_or-append_right (map (λ v. k * t + v) vs) values (length vs) i 0 (length-map vs (λ v. k * t + v)) h
@@ -75,9 +78,11 @@ joined f f' g span bound k size t vs values adds some is part rest = record {
 
     -- no value of the rest is a unit of part k
     apart : (i j : ℕ) → i < length vs → j < length values → k * t + get_or vs i 0 ≡ get_or values j 0 → ⊥
-    apart i j h h' e = rest.each j h' (λ page under unit. adds.none page (part_from_unit page k (get_or vs i 0) size t span some adds.some is (low i h) (unit ∙ sym e)))
+    apart i j h h' e = rest.each j h' (λ page under unit. adds.none page
+        (part_from_unit page k (get_or vs i 0) size t span some adds.some is (low i h) (unit ∙ sym e)))
 
-    different : (i j : ℕ) → i < length (map (λ v. k * t + v) vs ++ values) → j < length (map (λ v. k * t + v) vs ++ values) → get_or (map (λ v. k * t + v) vs ++ values) i 0 ≡ get_or (map (λ v. k * t + v) vs ++ values) j 0 → i ≡ j
+    different : (i j : ℕ) → i < length (map (λ v. k * t + v) vs ++ values) → j < length (map (λ v. k * t + v) vs ++ values) →
+        get_or (map (λ v. k * t + v) vs ++ values) i 0 ≡ get_or (map (λ v. k * t + v) vs ++ values) j 0 → i ≡ j
     different i j h h' e = elim (cases_lt i (length vs)) [
       | inl a ↦ elim (cases_lt j (length vs)) [
         | inl b ↦ part.different i j a b (omega (arith, first i a, first j b, e))
@@ -85,11 +90,13 @@ joined f f' g span bound k size t vs values adds some is part rest = record {
       ]
       | inr a ↦ elim (cases_lt j (length vs)) [
         | inl b ↦ absurd (apart j (i - length vs) b (omega (arith, h, len, a)) (sym (first j b) ∙ sym e ∙ later i a))
-        | inr b ↦ let same = rest.different (i - length vs) (j - length vs) (omega (arith, h, len, a)) (omega (arith, h', len, b)) (sym (later i a) ∙ e ∙ later j b) in omega (arith, same, a, b)
+        | inr b ↦ let same = rest.different (i - length vs) (j - length vs) (omega (arith, h, len, a)) (omega (arith, h', len, b))
+            (sym (later i a) ∙ e ∙ later j b) in omega (arith, same, a, b)
       ]
     ]
 
-    each : (i : ℕ) → i < length (map (λ v. k * t + v) vs ++ values) → ((page : ℕ) → page < bound → page / size ≡ get_or (map (λ v. k * t + v) vs ++ values) i 0 → f' page ≡ Empty) → ⊥
+    each : (i : ℕ) → i < length (map (λ v. k * t + v) vs ++ values) →
+        ((page : ℕ) → page < bound → page / size ≡ get_or (map (λ v. k * t + v) vs ++ values) i 0 → f' page ≡ Empty) → ⊥
     each i h none = elim (cases_lt i (length vs)) [
       | inl a ↦ part.each i a (λ q under unit.
           let page_part : (k * span + q) / span ≡ k = div-mul-add k span q under in
@@ -102,12 +109,14 @@ joined f f' g span bound k size t vs values adds some is part rest = record {
       ])
     ]
 
-    all : (page : ℕ) → page < bound → (f' page ≡ Empty → ⊥) → (i : ℕ) × (i < length (map (λ v. k * t + v) vs ++ values)) × (get_or (map (λ v. k * t + v) vs ++ values) i 0 ≡ page / size)
+    all : (page : ℕ) → page < bound → (f' page ≡ Empty → ⊥) → (i : ℕ) × (i < length (map (λ v. k * t + v) vs ++ values))
+        × (get_or (map (λ v. k * t + v) vs ++ values) i 0 ≡ page / size)
     all page h there = elim (cases_eq (page / span) k) [
       | inl here ↦
           let under = mod_below page span adds.some in
           let found = part.all (page % span) under (λ none. there (adds.new page here ∙ none)) in
-          let unit : page / size ≡ k * t + page % span / size = ap (λ p. p / size) (sym (whole page span)) ∙ in_units (page / span) (page % span) size t span some is ∙ ap (λ d. d * t + page % span / size) here in
+          let unit : page / size ≡ k * t + page % span / size = ap (λ p. p / size) (sym (whole page span)) ∙ in_units (page / span) (page % span) size t span
+          some is ∙ ap (λ d. d * t + page % span / size) here in
           (found.0, omega (arith, found.1, len), first found.0 found.1 ∙ ap (λ v. k * t + v) found.2 ∙ sym unit)
       | inr other ↦
           let found = rest.all page h (λ none. there (adds.old page other ∙ none)) in
@@ -115,12 +124,17 @@ joined f f' g span bound k size t vs values adds some is part rest = record {
           (length vs + found.0, omega (arith, found.1, len), later (length vs + found.0) (omega arith) ∙ ap (λ i. get_or values i 0) at ∙ found.2)
     ]
 
-pub joined_all : (f f' g : ℕ → Pte) (span bound k : ℕ) (sizes : List ℕ) (n m : ℕ) → Adds f f' g span bound k → AllDivide span sizes → AreHeld g span sizes n → AreHeld f bound sizes m → AreHeld f' bound sizes (m + n)
+pub joined_all : (f f' g : ℕ → Pte) (span bound k : ℕ) (sizes : List ℕ) (n m : ℕ) → Adds f f' g span bound k → AllDivide span sizes → AreHeld g span sizes n →
+    AreHeld f bound sizes m → AreHeld f' bound sizes (m + n)
 joined_all f f' g span bound k [] n m adds divide part rest = omega (arith, part, rest)
 joined_all f f' g span bound k (size ∷ sizes) n m adds (some, (t, is), divide) (vs, one, (a, part, n_is)) (values, two, (b, rest, m_is)) = (
   map (λ v. k * t + v) vs ++ values,
   joined f f' g span bound k size t vs values adds some is one two,
-  (b + a, joined_all f f' g span bound k sizes a b adds divide part rest, omega (arith, n_is, m_is, length-append (map (λ v. k * t + v) vs) values, length-map vs (λ v. k * t + v))),
+  (
+    b + a,
+    joined_all f f' g span bound k sizes a b adds divide part rest,
+    omega (arith, n_is, m_is, length-append (map (λ v. k * t + v) vs) values, length-map vs (λ v. k * t + v)),
+  ),
 )
 
 -- nothing is held
@@ -168,14 +182,17 @@ pub none_first : {C : Type 0} (at : C → ℕ → Pte) (span : ℕ) (parts : Lis
 none_first at span parts page = no_entries at span [] refl page
 
 -- one part more
-pub next_adds : {C : Type 0} (at : C → ℕ → Pte) (span : ℕ) (parts : List (ℕ × C)) (k : ℕ) (p : ℕ × C) → AreParts at span parts → 0 < span → k < length parts → p ≡ get_or parts k p
+pub next_adds : {C : Type 0} (at : C → ℕ → Pte) (span : ℕ) (parts : List (ℕ × C)) (k : ℕ) (p : ℕ × C) → AreParts at span parts → 0 < span →
+    k < length parts → p ≡ get_or parts k p
     → Adds (entries at span (take k parts)) (entries at span (take (k + 1) parts)) (at p.1) span (span * 512) p.0
 next_adds {C = C} at span parts k p good some within is = record {
   some = some;
   within = fits;
-  new = λ page here. ap (λ l. in_part at (part_of l (page / span)) (page % span)) one_more ∙ ap (λ n. in_part at (part_of (take k parts ++ p ∷ []) n) (page % span)) here
+  new = λ page here. ap (λ l. in_part at (part_of l (page / span)) (page % span)) one_more
+      ∙ ap (λ n. in_part at (part_of (take k parts ++ p ∷ []) n) (page % span)) here
       ∙ ap (λ o. in_part at o (page % span)) (part_is (take k parts ++ p ∷ []) p.0 (Some p.1) low (first_found at span parts good k p within is [] p refl));
-  none = λ page here. ap (λ n. in_part at (part_of (take k parts) n) (page % span)) here ∙ ap (λ o. in_part at o (page % span)) (no_part (take k parts) p.0 (not_before at span parts good k p within is));
+  none = λ page here. ap (λ n. in_part at (part_of (take k parts) n) (page % span)) here ∙ ap (λ o. in_part at o (page % span))
+      (no_part (take k parts) p.0 (not_before at span parts good k p within is));
   old = λ page other. ap (λ l. in_part at (part_of l (page / span)) (page % span)) one_more
       ∙ ap (λ o. in_part at o (page % span)) (same_part (take k parts) (take k parts ++ p ∷ []) (page / span)
       (skipped (take k parts) [] p (page / span) other ∙ ap (lookup (nat_eq (page / span))) (append-nil (take k parts))));

@@ -31,7 +31,8 @@ abbrev pub in_top : Top → ℕ → Pte
 in_top = entries in_upper 134217728
 
 -- page q of part p
-there : {C : Type 0} (at : C → ℕ → Pte) (span : ℕ) (parts : List (ℕ × C)) (p q : ℕ) → q < span → entries at span parts (p * span + q) ≡ in_part at (part_of parts p) q
+there : {C : Type 0} (at : C → ℕ → Pte) (span : ℕ) (parts : List (ℕ × C)) (p q : ℕ) → q < span →
+    entries at span parts (p * span + q) ≡ in_part at (part_of parts p) q
 there at span parts p q under =
     ap (λ n. in_part at (part_of parts n) ((p * span + q) % span)) (div-mul-add p span q under)
     ∙ ap (in_part at (part_of parts p)) (mod-mul-add p span q under)
@@ -58,7 +59,8 @@ module _ (n i : ℕ) (under : i < 512) where
   pub no_upper : (top : Top) → None ≡ part_of top (n / 262144) → in_top top (n * 512 + i) ≡ Empty
   no_upper top none = by_upper top ∙ ap (λ o. in_part in_upper o (n % 262144 * 512 + i)) (sym none)
 
-  pub no_middle : (top : Top) (upper : Upper) → Some upper ≡ part_of top (n / 262144) → None ≡ part_of upper (n % 262144 / 512) → in_top top (n * 512 + i) ≡ Empty
+  pub no_middle : (top : Top) (upper : Upper) → Some upper ≡ part_of top (n / 262144) → None ≡ part_of upper (n % 262144 / 512) →
+      in_top top (n * 512 + i) ≡ Empty
   no_middle top upper u none =
       by_upper top ∙ ap (λ o. in_part in_upper o (n % 262144 * 512 + i)) (sym u)
       ∙ by_middle upper ∙ ap (λ o. in_part in_middle o (n % 262144 % 512 * 512 + i)) (sym none)

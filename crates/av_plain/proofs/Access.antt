@@ -43,7 +43,8 @@ chooses-append m closing l (e ∷ es) fs free mid free' a b = (a.0, a.1, chooses
 
 -- what each page keeps, an access keeps
 pub accesses-keep : (P : Ledger → Type 0) (m : Setting) (w : World) (p : ℕ)
-    → ((l : Ledger) (write : Bool) (page : ℕ) (notes : List Note) (end : Option Stop) → P l → Touches m w l write (p, page) notes end → P (after_all l (page_events write (p, page) notes end)))
+    → ((l : Ledger) (write : Bool) (page : ℕ) (notes : List Note) (end : Option Stop) → P l → Touches m w l write (p, page) notes end →
+    P (after_all l (page_events write (p, page) notes end)))
     → (l : Ledger) (pages : List (Bool × ℕ)) (events : List Event) (end : End) → P l → Accesses m w l p pages events end → P (after_all l events)
 accesses-keep P m w p each l [] events end s h = subst (λ es. P (after_all l es)) (sym h.0) s
 accesses-keep P m w p each l (page ∷ rest) events end s (inl h) =
@@ -65,14 +66,24 @@ pub touches-alike : (m : Setting) (w w' : World) (l : Ledger) (write : Bool) (p 
     → Touches m w' l write (p, page) notes end → Touches m w l write (p, page) notes end
 touches-alike m w w' l write p page notes None same h = (same.allowed write page ∙ h.0, subst (λ sp. Serves m sp l write (p, page) notes) (sym same.spares) h.1)
 touches-alike m w w' l write p page notes (Some Denied) same h = (same.allowed write page ∙ h.0, h.1)
-touches-alike m w w' l write p page notes (Some (Starved out)) same h = (same.allowed write page ∙ h.0, subst (λ sp. RunsOut m sp l write (p, page) notes out) (sym same.spares) h.1)
-touches-alike m w w' l write p page notes (Some Lost) same h = (same.allowed write page ∙ h.0, subst (λ sp. IsLost m sp l write (p, page) notes) (sym same.spares) h.1)
+touches-alike m w w' l write p page notes (Some (Starved out)) same h =
+    (same.allowed write page ∙ h.0, subst (λ sp. RunsOut m sp l write (p, page) notes out) (sym same.spares) h.1)
+touches-alike m w w' l write p page notes (Some Lost) same h = (
+  same.allowed write page ∙ h.0,
+  subst (λ sp. IsLost m sp l write (p, page) notes) (sym same.spares) h.1,
+)
 
 pub accesses-alike : (m : Setting) (w w' : World) (l : Ledger) (p : ℕ) (pages : List (Bool × ℕ)) (events : List Event) (end : End) → SeenAlike w w' p
     → Accesses m w' l p pages events end → Accesses m w l p pages events end
 accesses-alike m w w' l p [] events end same h = h
 accesses-alike m w w' l p (page ∷ pages) events end same (inl h) =
-    inl (h.0, h.1, touches-alike m w w' l page.0 p page.1 h.0 None same h.2, h.3, accesses-alike m w w' (after_all l (page_events page.0 (p, page.1) h.0 None)) p pages h.1 end same h.4)
+    inl (
+      h.0,
+      h.1,
+      touches-alike m w w' l page.0 p page.1 h.0 None same h.2,
+      h.3,
+      accesses-alike m w w' (after_all l (page_events page.0 (p, page.1) h.0 None)) p pages h.1 end same h.4,
+    )
 accesses-alike m w w' l p (page ∷ pages) events end same (inr h) = inr (h.0, h.1, touches-alike m w w' l page.0 p page.1 h.0 (Some h.1) same h.2, h.3, h.4)
 
 not_whole : (page : ℕ) (stop : Stop) → Whole ≡ Stopped page stop → ⊥
@@ -82,7 +93,8 @@ not_whole page stop e = cc
 pub accesses-append : (m : Setting) (w w' : World) (l : Ledger) (p : ℕ) (xs ys : List (Bool × ℕ)) (es fs : List Event) (end : End) → SeenAlike w w' p
     → Accesses m w l p xs es Whole → Accesses m w' (after_all l es) p ys fs end → Accesses m w l p (xs ++ ys) (es ++ fs) end
 accesses-append m w w' l p [] ys es fs end same a b =
-    subst (λ x. Accesses m w l p ys (x ++ fs) end) (sym a.0) (accesses-alike m w w' l p ys fs end same (subst (λ x. Accesses m w' (after_all l x) p ys fs end) a.0 b))
+    subst (λ x. Accesses m w l p ys (x ++ fs) end) (sym a.0) (accesses-alike m w w' l p ys fs end same
+    (subst (λ x. Accesses m w' (after_all l x) p ys fs end) a.0 b))
 accesses-append m w w' l p (page ∷ xs) ys es fs end same (inl a) b =
     let here = page_events page.0 (p, page.1) a.0 None in
     inl (
@@ -90,6 +102,7 @@ accesses-append m w w' l p (page ∷ xs) ys es fs end same (inl a) b =
       a.1 ++ fs,
       a.2,
       ap (λ x. x ++ fs) a.3 ∙ append_assoc here a.1 fs,
-      accesses-append m w w' (after_all l here) p xs ys a.1 fs end same a.4 (subst (λ x. Accesses m w' x p ys fs end) (ap (after_all l) a.3 ∙ after_all-append l here a.1) b),
+      accesses-append m w w' (after_all l here) p xs ys a.1 fs end same a.4
+          (subst (λ x. Accesses m w' x p ys fs end) (ap (after_all l) a.3 ∙ after_all-append l here a.1) b),
     )
 accesses-append m w w' l p (page ∷ xs) ys es fs end same (inr a) b = absurd (not_whole page.1 a.1 a.4)

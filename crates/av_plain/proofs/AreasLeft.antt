@@ -7,7 +7,7 @@ use Rattle.av_base.specs.Page.{page_of}
 use Rattle.av_base.specs.Words.{is_in, with_at}
 use Rattle.av_vma.specs.declared.area.Area.{Area}
 use Rattle.av_plain.specs.Stands.{AnonsStand, View}
-use Rattle.av_plain.specs.Areas.{AnonVma, Anons, AreLeft, Areas, Homes, IsLinked, Rmap, at_home, chain_length, chain_of, no_anons, prepare_page, rmap_after, rmap_after_all, rmap_after_note, rmap_after_use, with_root}
+use Rattle.av_plain.specs.Areas.{AnonVma, Anons, AreLeft, Areas, Homes, IsLinked, Rmap, at_home, chain_length, chain_by, no_anons, prepare_page, rmap_after, rmap_after_all, rmap_after_note, rmap_after_use, with_root}
 use Rattle.av_base.specs.declared.slot.Slot.{Slot}
 use Rattle.av_plain.specs.Event.{Event, Noted, Zapped, Used, Forked, Moved, TurnedOn, TurnedOff, after, after_all, note_events, notes_of, when}
 use Rattle.av_plain.specs.Ledger.{Entry, InFrame, InSlot, Key, Ledger, Zero, entry, is_orphan}
@@ -28,12 +28,13 @@ one-left old (Some x) y L p q f g = f (p refl) ∙ sym (g (p refl))
 
 pub left-one : (anons : Anons) (on : Areas) (a b : Anons) → AreLeft anons on a → AreLeft anons on b → a ≡ b
 left-one anons on a b h g =
-    let anon : (v : ℕ) → a.anon v ≡ b.anon v = λ v. one-left (anons.anon v) (a.anon v) (b.anon v) (IsLinked anons on v) (h.there v) (g.there v) (h.linked v) (g.linked v) in
+    let anon : (v : ℕ) → a.anon v ≡ b.anon v = λ v. one-left (anons.anon v) (a.anon v) (b.anon v) (IsLinked anons on v) (h.there v)
+    (g.there v) (h.linked v) (g.linked v) in
     let next : a.next ≡ b.next = h.next ∙ sym g.next in
     λ i. record { next = next i; anon = λ v. anon v i }
 
 -- of none no chain has a node
-pub no-chain : (own : Option ℕ) → chain_of no_anons own ≡ []
+pub no-chain : (own : Option ℕ) → chain_by no_anons own ≡ []
 no-chain None = refl
 no-chain (Some v) = refl
 
@@ -41,7 +42,7 @@ no-chain (Some v) = refl
 pub anons-same : (v : View) (areas : Areas) → AnonsStand v areas v.anons
 anons-same v areas = record { next = refl; kin = λ n. refl; chains = λ p page. by (areas p page) }
   where
-    by : (o : Option Area) → IfSome o (λ area. chain_of v.anons area.anon ≡ chain_of v.anons area.anon)
+    by : (o : Option Area) → IfSome o (λ area. chain_by v.anons area.anon ≡ chain_by v.anons area.anon)
     by None = tt
     by (Some area) = refl
 
@@ -120,7 +121,8 @@ pub record AreSame (r r' : Rmap) : Type 0 where
 
 same_prepared : (p page : ℕ) (r r' : Rmap) → AreSame r r' → AreSame (prepare_page p page r) (prepare_page p page r')
 same_prepared p page r r' h =
-    let both : (homes : Homes) → prepare_page p page (record { areas = r.areas; anons = r.anons; homes = homes }) ≡ prepare_page p page (record { areas = r'.areas; anons = r'.anons; homes = homes }) =
+    let both : (homes : Homes) → prepare_page p page (record { areas = r.areas; anons = r.anons; homes = homes }) ≡ prepare_page p page
+    (record { areas = r'.areas; anons = r'.anons; homes = homes }) =
     λ homes i. prepare_page p page (record { areas = h.areas i; anons = h.anons i; homes = homes }) in
     record { areas = ap (λ (x : Rmap). x.areas) (both r.homes); anons = ap (λ (x : Rmap). x.anons) (both r.homes) }
 
@@ -143,7 +145,8 @@ rmap_after_all-notes l (Noted n ∷ es) r r' h = rmap_after_all-notes (after l (
     note (Kept f cause) = h
     note (Aged f) = h
 rmap_after_all-notes l (Zapped k ∷ es) r r' h = rmap_after_all-notes (after l (Zapped k)) es r r' h
-rmap_after_all-notes l (Used write k ∷ es) r r' h = rmap_after_all-notes (after l (Used write k)) es (rmap_after_use write k (entry l k) r) r' (through write (entry l k))
+rmap_after_all-notes l (Used write k ∷ es) r r' h = rmap_after_all-notes (after l (Used write k)) es (rmap_after_use write k (entry l k) r) r'
+    (through write (entry l k))
   where
     through : (write : Bool) (o : Option Entry) → AreSame (rmap_after_use write k o r) r'
     through true None = h
@@ -205,12 +208,12 @@ pub left-bare : (anons : Anons) (on : Areas) → ((p page : ℕ) → IfSome (on 
 left-bare anons on bare = record { next = refl; there = λ v h. absurd cc; linked = λ v h. absurd (none v (on h.0 h.1) (bare h.0 h.1) h.2) }
   where
     none : (v : ℕ) (o : Option Area) → IfSome o (λ area. area.anon ≡ None)
-        → IsSomeAnd o (λ area. is_in v (chain_of anons area.anon) ≡ true) → ⊥
+        → IsSomeAnd o (λ area. is_in v (chain_by anons area.anon) ≡ true) → ⊥
     none v None h g = absurd g
-    none v (Some area) h g = false≢true (subst (λ own. is_in v (chain_of anons own) ≡ true) h g)
+    none v (Some area) h g = false≢true (subst (λ own. is_in v (chain_by anons own) ≡ true) h g)
 
 -- where areas have this one, whose chain has no other, or none, it alone is left
-pub left-root : (anons : Anons) (on : Areas) (v : ℕ) → chain_of anons (Some v) ≡ v ∷ [] → IsLinked anons on v
+pub left-root : (anons : Anons) (on : Areas) (v : ℕ) → chain_by anons (Some v) ≡ v ∷ [] → IsLinked anons on v
     → ((p page : ℕ) → IfSome (on p page) (λ area. (area.anon ≡ None) ⊎ (area.anon ≡ Some v)))
     → AreLeft anons on (record { next = anons.next; anon = with_at v (anons.anon v) (λ _. None) })
 left-root anons on v chain there owns = record {
@@ -224,11 +227,11 @@ left-root anons on v chain there owns = record {
     is_there w false is h = absurd cc
 
     own : (w : ℕ) (o : Option Area) → IfSome o (λ area. (area.anon ≡ None) ⊎ (area.anon ≡ Some v))
-        → IsSomeAnd o (λ area. is_in w (chain_of anons area.anon) ≡ true) → w ≡ v
+        → IsSomeAnd o (λ area. is_in w (chain_by anons area.anon) ≡ true) → w ≡ v
     own w None h g = absurd g
-    own w (Some area) (inl h) g = absurd (false≢true (subst (λ own. is_in w (chain_of anons own) ≡ true) h g))
+    own w (Some area) (inl h) g = absurd (false≢true (subst (λ own. is_in w (chain_by anons own) ≡ true) h g))
     own w (Some area) (inr h) g =
-        let e : ((w == v) || false) ≡ true = subst (λ c. is_in w c ≡ true) chain (subst (λ own. is_in w (chain_of anons own) ≡ true) h g) in
+        let e : ((w == v) || false) ≡ true = subst (λ c. is_in w c ≡ true) chain (subst (λ own. is_in w (chain_by anons own) ≡ true) h g) in
         grind (arith, nat_tests, e)
 
     same : (w : ℕ) → w ≡ v → (b : Bool) → (w == v) ≡ b → (if b then anons.anon v else None) ≡ anons.anon w

@@ -35,27 +35,32 @@ passes-above test f a (suc n) less h = by (test a) (h a (grind (arith, nat_tests
     by true is rest = cc
     by false is rest = rest
 
-one-passes : (test : ℕ → Bool) (f a n : ℕ) → a ≤ f → f < a + n → test f ≡ true → ((g : ℕ) → (g == f) ≡ false → test g ≡ false) → filter test (numbers a n) ≡ f ∷ []
+one-passes : (test : ℕ → Bool) (f a n : ℕ) → a ≤ f → f < a + n → test f ≡ true → ((g : ℕ) → (g == f) ≡ false → test g ≡ false) →
+    filter test (numbers a n) ≡ f ∷ []
 one-passes test f a zero low high is others = absurd (omega (arith, low, high))
 one-passes test f a (suc n) low high is others = by (a == f) refl (λ low'. one-passes test f (a + 1) n low' (omega (arith, high)) is others)
   where
-    here : (b : Bool) → b ≡ true → a ≡ f → filter test (numbers (a + 1) n) ≡ [] → cond b (a ∷ filter test (numbers (a + 1) n)) (filter test (numbers (a + 1) n)) ≡ f ∷ []
+    here : (b : Bool) → b ≡ true → a ≡ f → filter test (numbers (a + 1) n) ≡ [] →
+        cond b (a ∷ filter test (numbers (a + 1) n)) (filter test (numbers (a + 1) n)) ≡ f ∷ []
     here true is same rest = λ i. same i ∷ rest i
     here false is same rest = cc
 
-    later : (b : Bool) → b ≡ false → filter test (numbers (a + 1) n) ≡ f ∷ [] → cond b (a ∷ filter test (numbers (a + 1) n)) (filter test (numbers (a + 1) n)) ≡ f ∷ []
+    later : (b : Bool) → b ≡ false → filter test (numbers (a + 1) n) ≡ f ∷ [] →
+        cond b (a ∷ filter test (numbers (a + 1) n)) (filter test (numbers (a + 1) n)) ≡ f ∷ []
     later true is rest = cc
     later false is rest = rest
 
     by : (b : Bool) → (a == f) ≡ b → (a + 1 ≤ f → filter test (numbers (a + 1) n) ≡ f ∷ []) → filter test (numbers a (suc n)) ≡ f ∷ []
-    by true e rest = here (test a) (ap test (same-is a f e) ∙ is) (same-is a f e) (passes-above test f (a + 1) n (let s = same-is a f e in omega (arith, s)) others)
+    by true e rest = here (test a) (ap test (same-is a f e) ∙ is) (same-is a f e)
+        (passes-above test f (a + 1) n (let s = same-is a f e in omega (arith, s)) others)
     by false e rest = later (test a) (others a e) (rest (grind (arith, nat_tests, e, low)))
 
 -- ---- what becomes free, by the uses of the frames
 
 -- no frame does whose uses don't become fewer
 pub new_free-none : (m : Setting) (l l' : Ledger) → ((f : ℕ) → f < m.frames → uses l f ≤ uses l' f) → new_free m l l' ≡ []
-new_free-none m l l' more = none-passes (λ f. is_free l' f && not (is_free l f)) 0 m.frames (λ f less. by (is_free l' f) (is_free l f) (uses l f) (uses l' f) (free-is l' f) (free-is l f) (more f (omega (arith, less))))
+new_free-none m l l' more = none-passes (λ f. is_free l' f && not (is_free l f)) 0 m.frames
+    (λ f less. by (is_free l' f) (is_free l f) (uses l f) (uses l' f) (free-is l' f) (free-is l f) (more f (omega (arith, less))))
   where
     by : (a b : Bool) (n n' : ℕ) → a ≡ (n' == 0) → b ≡ (n == 0) → n ≤ n' → (a && not b) ≡ false
     by true true n n' h i less = refl
@@ -63,7 +68,8 @@ new_free-none m l l' more = none-passes (λ f. is_free l' f && not (is_free l f)
     by false b n n' h i less = refl
 
 -- one does whose last use has gone, where the others keep theirs
-pub new_free-one : (m : Setting) (l l' : Ledger) (f : ℕ) → f < m.frames → 0 < uses l f → uses l' f ≡ 0 → ((g : ℕ) → (g == f) ≡ false → uses l g ≤ uses l' g) → new_free m l l' ≡ f ∷ []
+pub new_free-one : (m : Setting) (l l' : Ledger) (f : ℕ) → f < m.frames → 0 < uses l f → uses l' f ≡ 0 → ((g : ℕ) → (g == f) ≡ false → uses l g ≤ uses l' g) →
+    new_free m l l' ≡ f ∷ []
 new_free-one m l l' f below had gone others = one-passes (λ f. is_free l' f && not (is_free l f)) f 0 m.frames (omega arith) (omega (arith, below))
     (here (is_free l' f) (is_free l f) (uses l f) (uses l' f) (free-is l' f) (free-is l f) had gone)
     (λ g other. by (is_free l' g) (is_free l g) (uses l g) (uses l' g) (free-is l' g) (free-is l g) (others g other))
@@ -81,7 +87,8 @@ new_free-one m l l' f below had gone others = one-passes (λ f. is_free l' f && 
 -- ---- an event that makes none free
 
 -- where no area is attached, an event that neither takes a slot nor turns an area leaves the slots
-pub no-slot-chosen : (m : Setting) (closing : Option ℕ) (l : Ledger) (e : Event) (slots : AreaSlots) → HasNoDevice m → SwitchesArea m e slots slots → slot_in e ≡ None → ChoosesSlot m closing l e slots slots
+pub no-slot-chosen : (m : Setting) (closing : Option ℕ) (l : Ledger) (e : Event) (slots : AreaSlots) → HasNoDevice m → SwitchesArea m e slots slots →
+    slot_in e ≡ None → ChoosesSlot m closing l e slots slots
 no-slot-chosen m closing l e slots none turns takes = (
   slots,
   slots,
@@ -92,17 +99,24 @@ no-slot-chosen m closing l e slots none turns takes = (
   where
     given : ℕ → Option ℕ → Slots
     given k size = fold give_slot (slots k)
-        (filter (λ page. let s : Slot = record { area = k; page = page } in slot_count (after l e) s == 0 && nat_lt 0 (slot_count l s)) (numbers 1 (unwrap_or size 0 - 1)))
+        (filter (λ page. let s : Slot = record { area = k; page = page } in slot_count (after l e) s == 0 && nat_lt 0 (slot_count l s))
+        (numbers 1 (unwrap_or size 0 - 1)))
 
 -- nothing is taken and nothing becomes free
-pub chooses-kept : (m : Setting) (closing : Option ℕ) (l : Ledger) (e : Event) (free : Free) → ChoosesSlot m closing l e free.slots free.slots → frame_in e ≡ None → new_free m l (after l e) ≡ [] → Chooses m closing l e free free
+pub chooses-kept : (m : Setting) (closing : Option ℕ) (l : Ledger) (e : Event) (free : Free) → ChoosesSlot m closing l e free.slots free.slots →
+    frame_in e ≡ None → new_free m l (after l e) ≡ [] → Chooses m closing l e free free
 chooses-kept m closing l e free slots takes none = record {
-  frames = (free.frames, subst (λ o. MatchOption o (free.frames ≡ free.frames) (λ f. free.frames ≡ f ∷ free.frames)) (sym takes) refl, ap (λ fs. fs ++ free.frames) (sym none));
+  frames = (
+    free.frames,
+    subst (λ o. MatchOption o (free.frames ≡ free.frames) (λ f. free.frames ≡ f ∷ free.frames)) (sym takes) refl,
+    ap (λ fs. fs ++ free.frames) (sym none),
+  );
   slots = slots;
 }
 
 -- a frame is taken
-pub chooses-taken : (m : Setting) (closing : Option ℕ) (l : Ledger) (e : Event) (f : ℕ) (rest : List ℕ) (slots : AreaSlots) → ChoosesSlot m closing l e slots slots → frame_in e ≡ Some f → new_free m l (after l e) ≡ []
+pub chooses-taken : (m : Setting) (closing : Option ℕ) (l : Ledger) (e : Event) (f : ℕ) (rest : List ℕ) (slots : AreaSlots) →
+    ChoosesSlot m closing l e slots slots → frame_in e ≡ Some f → new_free m l (after l e) ≡ []
     → Chooses m closing l e (record { frames = f ∷ rest; slots = slots }) (record { frames = rest; slots = slots })
 chooses-taken m closing l e f rest slots kept takes none = record {
   frames = (rest, subst (λ o. MatchOption o ((f ∷ rest) ≡ rest) (λ g. (f ∷ rest) ≡ g ∷ rest)) (sym takes) refl, ap (λ fs. fs ++ rest) (sym none));
@@ -110,7 +124,8 @@ chooses-taken m closing l e f rest slots kept takes none = record {
 }
 
 -- an entry is set where there was none that names a frame, or one of the same frame
-pub new_free-set : (m : Setting) (k : Key) (e : Entry) (l : Ledger) → T (is_sorted key_cmp l.entries) → ((f : ℕ) → weight (names_frame f) (entry l k) ≤ cond (names_frame f e) 1 0) → new_free m l (set_entry k e l) ≡ []
+pub new_free-set : (m : Setting) (k : Key) (e : Entry) (l : Ledger) → T (is_sorted key_cmp l.entries) →
+    ((f : ℕ) → weight (names_frame f) (entry l k) ≤ cond (names_frame f e) 1 0) → new_free m l (set_entry k e l) ≡ []
 new_free-set m k e l h less = new_free-none m l (set_entry k e l) (λ f below. let a = map_count-set k e l f h in let b = less f in omega (arith, a, b))
 
 -- ---- an entry is taken away
@@ -122,11 +137,13 @@ zap-uses k l f h =
     omega (arith, a, b)
 
 -- it names no frame
-pub new_free-zap_none : (m : Setting) (k : Key) (l : Ledger) → T (is_sorted key_cmp l.entries) → ((f : ℕ) → weight (names_frame f) (entry l k) ≡ 0) → new_free m l (after_zap k l) ≡ []
+pub new_free-zap_none : (m : Setting) (k : Key) (l : Ledger) → T (is_sorted key_cmp l.entries) → ((f : ℕ) → weight (names_frame f) (entry l k) ≡ 0) →
+    new_free m l (after_zap k l) ≡ []
 new_free-zap_none m k l h none = new_free-none m l (after_zap k l) (λ f below. let a = zap-uses k l f h in let b = none f in omega (arith, a, b))
 
 -- its frame has another use
-pub new_free-zap_more : (m : Setting) (k : Key) (l : Ledger) (f : ℕ) (seen : Bool) → T (is_sorted key_cmp l.entries) → entry l k ≡ Some (InFrame f seen) → 1 < uses l f → new_free m l (after_zap k l) ≡ []
+pub new_free-zap_more : (m : Setting) (k : Key) (l : Ledger) (f : ℕ) (seen : Bool) → T (is_sorted key_cmp l.entries) → entry l k ≡ Some (InFrame f seen) →
+    1 < uses l f → new_free m l (after_zap k l) ≡ []
 new_free-zap_more m k l f seen h at more = empty
   where
     same-uses : (g : ℕ) → uses l g ≡ uses (after_zap k l) g + cond (g == f) 1 0
@@ -140,10 +157,12 @@ new_free-zap_more m k l f seen h at more = empty
 
     empty : new_free m l (after_zap k l) ≡ []
     empty = none-passes (λ g. is_free (after_zap k l) g && not (is_free l g)) 0 m.frames
-        (λ g below. by (is_free (after_zap k l) g) (is_free l g) (uses l g) (uses (after_zap k l) g) (g == f) (λ is. subst (λ y. 1 < uses l y) (sym (same-is g f is)) more) (same-uses g) (free-is (after_zap k l) g) (free-is l g))
+        (λ g below. by (is_free (after_zap k l) g) (is_free l g) (uses l g) (uses (after_zap k l) g) (g == f)
+        (λ is. subst (λ y. 1 < uses l y) (sym (same-is g f is)) more) (same-uses g) (free-is (after_zap k l) g) (free-is l g))
 
 -- it was the last use of its frame
-pub new_free-zap_last : (m : Setting) (k : Key) (l : Ledger) (f : ℕ) (seen : Bool) → T (is_sorted key_cmp l.entries) → entry l k ≡ Some (InFrame f seen) → f < m.frames → uses l f ≡ 1 → new_free m l (after_zap k l) ≡ f ∷ []
+pub new_free-zap_last : (m : Setting) (k : Key) (l : Ledger) (f : ℕ) (seen : Bool) → T (is_sorted key_cmp l.entries) → entry l k ≡ Some (InFrame f seen) →
+    f < m.frames → uses l f ≡ 1 → new_free m l (after_zap k l) ≡ f ∷ []
 new_free-zap_last m k l f seen h at below one = new_free-one m l (after_zap k l) f below (omega (arith, one))
     (let a = same-uses f in let b = flag_is (f == f) (same-itself f) in omega (arith, a, b, one))
     (λ g other. let a = same-uses g in let b = flag_not (g == f) other in omega (arith, a, b))

@@ -10,7 +10,7 @@ use Rattle.av_base.specs.Words.{is_in, with_at}
 use Rattle.av_vma.specs.declared.area.Area.{Area}
 use Rattle.av_vma.specs.Join.{first_of, index_of, is_reusable, past_of}
 use Rattle.av_vma.specs.Pages.{AreLaid, Lengths, Pages, after_prepare, has_page, home_of, loan_beside, loan_of, makes_anon, with_anon, with_area}
-use Rattle.av_plain.specs.Areas.{AnonVma, Anons, AreLeft, Rmap, at_home, chain_length, chain_of, prepare_page, with_root}
+use Rattle.av_plain.specs.Areas.{AnonVma, Anons, AreLeft, Rmap, at_home, chain_length, chain_by, prepare_page, with_root}
 use Rattle.av_plain.specs.Covered.{IsReached, IsRmapSound}
 use Rattle.av_plain.specs.Event.{set_entry}
 use Rattle.av_plain.specs.Ledger.{Entry, InFrame, Key, Ledger, Setting, entry, first_ledger, key_cmp, map_count, names_frame}
@@ -29,7 +29,7 @@ Owns r p page v = IsSomeAnd (r.areas p page) (λ area. area.anon ≡ Some v)
 -- ---- chains
 
 -- a chain that has a node is that of an anon_vma that is there
-pub chain_there : (anons : Anons) (own : Option ℕ) (v : ℕ) → is_in v (chain_of anons own) ≡ true → (w : ℕ) × (own ≡ Some w) × IsSome (anons.anon w)
+pub chain_there : (anons : Anons) (own : Option ℕ) (v : ℕ) → is_in v (chain_by anons own) ≡ true → (w : ℕ) × (own ≡ Some w) × IsSome (anons.anon w)
 chain_there anons None v h = absurd (false≢true h)
 chain_there anons (Some w) v h = (w, refl, by (anons.anon w) h)
   where
@@ -38,14 +38,15 @@ chain_there anons (Some w) v h = (w, refl, by (anons.anon w) h)
     by (Some x) h = refl
 
 -- it is the same once a root was made
-chain_rooted : (anons : Anons) (b : Bool) (own : Option ℕ) (v : ℕ) → ((w : ℕ) → IsSome (anons.anon w) → w < anons.next) → is_in v (chain_of anons own) ≡ true
-    → chain_of (cond b (with_root anons) anons) own ≡ chain_of anons own
+chain_rooted : (anons : Anons) (b : Bool) (own : Option ℕ) (v : ℕ) → ((w : ℕ) → IsSome (anons.anon w) → w < anons.next) → is_in v (chain_by anons own) ≡ true
+    → chain_by (cond b (with_root anons) anons) own ≡ chain_by anons own
 chain_rooted anons false own v made h = refl
 chain_rooted anons true own v made h = let w = chain_there anons own v h in
-    subst (λ o. chain_of (with_root anons) o ≡ chain_of anons o) (sym w.1) (other w.0 (made w.0 w.2) (w.0 == anons.next) refl)
+    subst (λ o. chain_by (with_root anons) o ≡ chain_by anons o) (sym w.1) (other w.0 (made w.0 w.2) (w.0 == anons.next) refl)
   where
     other : (w : ℕ) → w < anons.next → (c : Bool) → (w == anons.next) ≡ c
-        → option_map_or (λ (x : AnonVma). x.chain) (cond c (Some (record { root = anons.next; parent = anons.next; chain = anons.next ∷ [] })) (anons.anon w)) [] ≡ option_map_or (λ (x : AnonVma). x.chain) (anons.anon w) []
+        → option_map_or (λ (x : AnonVma). x.chain) (cond c (Some (record { root = anons.next; parent = anons.next; chain = anons.next ∷ [] })) (anons.anon w))
+        [] ≡ option_map_or (λ (x : AnonVma). x.chain) (anons.anon w) []
     other w less true is = absurd (let e : w ≡ anons.next = grind (arith, nat_tests, is) in omega (arith, less, e))
     other w less false is = refl
 
@@ -60,8 +61,11 @@ pub sound-first : (m : Setting) → IsRmapSound first_ledger (rmap_of (at_first 
 sound-first m = record { made = λ v there. absurd (false≢true there); own = λ p page v is. absurd is; covered = λ k f names. absurd names }
 
 -- an entry that names no other frame than before takes the place of one
-pub sound-set : (l l' : Ledger) (r : Rmap) (k : Key) (e : Entry) → l' ≡ set_entry k e l → ((f : ℕ) → names_frame f e ≡ true → Names l k f) → IsRmapSound l r → IsRmapSound l' r
-sound-set l l' r k e is same h = subst (λ l. IsRmapSound l r) (sym is) (sound-fewer l (set_entry k e l) r (λ q f names. by q f (same_key q k) refl (subst (λ o. IsSomeAnd o (λ e. names_frame f e ≡ true)) (entry-set k e l q) names)) h)
+pub sound-set : (l l' : Ledger) (r : Rmap) (k : Key) (e : Entry) → l' ≡ set_entry k e l → ((f : ℕ) → names_frame f e ≡ true → Names l k f) →
+    IsRmapSound l r → IsRmapSound l' r
+sound-set l l' r k e is same h = subst (λ l. IsRmapSound l r) (sym is)
+    (sound-fewer l (set_entry k e l) r (λ q f names. by q f (same_key q k) refl
+    (subst (λ o. IsSomeAnd o (λ e. names_frame f e ≡ true)) (entry-set k e l q) names)) h)
   where
     by : (q : Key) (f : ℕ) (b : Bool) → same_key q k ≡ b → IsSomeAnd (cond b (Some e) (entry l q)) (λ e. names_frame f e ≡ true) → Names l q f
     by q f true at names = subst (λ q. Names l q f) (sym (same_key-is q k at)) (same f names)
@@ -98,11 +102,15 @@ sound-given l l' r k f owns here others alone h = record { made = h.made; own = 
     home_is = ap (home_of k.1) is_area ∙ ap (option_map (λ v. (v, index_of area k.1))) is_own
 
     reached : IsReached r k (own, index_of area k.1)
-    reached = subst (λ x. IsSomeAnd x (λ a. (is_in own (chain_of r.anons a.anon) ≡ true) × (index_of a k.1 ≡ index_of area k.1))) (sym is_area)
-        (subst (λ o. is_in own (chain_of r.anons o) ≡ true) (sym is_own) (h.own k.0 k.1 own (subst (λ x. IsSomeAnd x (λ a. a.anon ≡ Some own)) (sym is_area) is_own)), refl)
+    reached = subst (λ x. IsSomeAnd x (λ a. (is_in own (chain_by r.anons a.anon) ≡ true) × (index_of a k.1 ≡ index_of area k.1))) (sym is_area) (
+      subst (λ o. is_in own (chain_by r.anons o) ≡ true) (sym is_own)
+          (h.own k.0 k.1 own (subst (λ x. IsSomeAnd x (λ a. a.anon ≡ Some own)) (sym is_area) is_own)),
+      refl,
+    )
 
     at_f : (c : Bool) → c ≡ true → IsSomeAnd (cond c (home_of k.1 (r.areas k.0 k.1)) (r.homes f)) (IsReached r k)
-    at_f c e = subst (λ c. IsSomeAnd (cond c (home_of k.1 (r.areas k.0 k.1)) (r.homes f)) (IsReached r k)) (sym e) (subst (λ o. IsSomeAnd o (IsReached r k)) (sym home_is) reached)
+    at_f c e = subst (λ c. IsSomeAnd (cond c (home_of k.1 (r.areas k.0 k.1)) (r.homes f)) (IsReached r k)) (sym e)
+        (subst (λ o. IsSomeAnd o (IsReached r k)) (sym home_is) reached)
 
     itself : (n : ℕ) → (n == n) ≡ true
     itself n = grind (arith, nat_tests)
@@ -120,7 +128,8 @@ sound-given l l' r k f owns here others alone h = record { made = h.made; own = 
         other false e = h.covered q g (others q g is names)
 
 -- so does one whose entry alone is put in
-pub sound-put : (l l' : Ledger) (r : Rmap) (k : Key) (f : ℕ) (seen : Bool) → ((q : Key) → entry l' q ≡ cond (same_key q k) (Some (InFrame f seen)) (entry l q)) → IsSomeAnd (r.areas k.0 k.1) (λ area. IsSome area.anon)
+pub sound-put : (l l' : Ledger) (r : Rmap) (k : Key) (f : ℕ) (seen : Bool) →
+    ((q : Key) → entry l' q ≡ cond (same_key q k) (Some (InFrame f seen)) (entry l q)) → IsSomeAnd (r.areas k.0 k.1) (λ area. IsSome area.anon)
     → ((q : Key) → same_key q k ≡ false → Names l q f → ⊥) → IsRmapSound l r → IsRmapSound l' (at_home f k r)
 sound-put l l' r k f seen entries owns alone h = sound-given l l' r k f owns here others (λ q other names. alone q other (others q f other names)) h
   where
@@ -132,13 +141,15 @@ sound-put l l' r k f seen entries owns alone h = sound-given l l' r k f owns her
     here g names = itself (same_key k k) refl g (subst (λ o. IsSomeAnd o (λ e. names_frame g e ≡ true)) (entries k) names)
 
     others : (q : Key) (g : ℕ) → same_key q k ≡ false → Names l' q g → Names l q g
-    others q g other names = subst (λ b. IsSomeAnd (cond b (Some (InFrame f seen)) (entry l q)) (λ e. names_frame g e ≡ true)) other (subst (λ o. IsSomeAnd o (λ e. names_frame g e ≡ true)) (entries q) names)
+    others q g other names = subst (λ b. IsSomeAnd (cond b (Some (InFrame f seen)) (entry l q)) (λ e. names_frame g e ≡ true)) other
+        (subst (λ o. IsSomeAnd o (λ e. names_frame g e ≡ true)) (entries q) names)
 
 -- an area whose page's entry names a frame has an own anon_vma
 pub covered-owns : (l : Ledger) (r : Rmap) (k : Key) (f : ℕ) → IsRmapSound l r → Names l k f → IsSomeAnd (r.areas k.0 k.1) (λ area. IsSome area.anon)
 covered-owns l r k f h names = by (r.homes f) (h.covered k f names)
   where
-    at : (home : ℕ × ℕ) (x : Option Area) → IsSomeAnd x (λ area. (is_in home.0 (chain_of r.anons area.anon) ≡ true) × (index_of area k.1 ≡ home.1)) → IsSomeAnd x (λ area. IsSome area.anon)
+    at : (home : ℕ × ℕ) (x : Option Area) → IsSomeAnd x (λ area. (is_in home.0 (chain_by r.anons area.anon) ≡ true) × (index_of area k.1 ≡ home.1)) →
+        IsSomeAnd x (λ area. IsSome area.anon)
     at home None is = is
     at home (Some area) is = let own = chain_there r.anons area.anon home.0 is.0 in subst IsSome (sym own.1) refl
 
@@ -147,7 +158,8 @@ covered-owns l r k f h names = by (r.homes f) (h.covered k f names)
     by (Some home) is = at home (r.areas k.0 k.1) is
 
 -- at most one entry names the frame, and it is this one
-pub alone-by : (l : Ledger) (k : Key) (f : ℕ) → T (is_sorted key_cmp l.entries) → map_count l f ≤ 1 → Names l k f → (q : Key) → same_key q k ≡ false → Names l q f → ⊥
+pub alone-by : (l : Ledger) (k : Key) (f : ℕ) → T (is_sorted key_cmp l.entries) → map_count l f ≤ 1 → Names l k f → (q : Key) →
+    same_key q k ≡ false → Names l q f → ⊥
 alone-by l k f sorted few here q other there = by (entry l k) (entry l q) refl refl here there
   where
     by : (x y : Option Entry) → entry l k ≡ x → entry l q ≡ y → IsSomeAnd x (λ e. names_frame f e ≡ true) → IsSomeAnd y (λ e. names_frame f e ≡ true) → ⊥
@@ -193,34 +205,36 @@ sound-carried l l' r next carries owns left homes h = record {
       subst (λ (hs : ℕ → Option (ℕ × ℕ)). IsSomeAnd (hs f) (IsReached next k)) (sym homes) (reached k f c (r.homes f) (h.covered c.was f c.names));
 }
   where
-    in_chain : (p page v : ℕ) → Owns next p page v → is_in v (chain_of r.anons (Some v)) ≡ true
+    in_chain : (p page v : ℕ) → Owns next p page v → is_in v (chain_by r.anons (Some v)) ≡ true
     in_chain p page v is = let was = owns p page v is in h.own was.0 was.1 v was.2
 
-    linked : (p page v : ℕ) (x : Option Area) → IsSomeAnd x (λ area. area.anon ≡ Some v) → is_in v (chain_of r.anons (Some v)) ≡ true → IsSomeAnd x (λ area. is_in v (chain_of r.anons area.anon) ≡ true)
+    linked : (p page v : ℕ) (x : Option Area) → IsSomeAnd x (λ area. area.anon ≡ Some v) → is_in v (chain_by r.anons (Some v)) ≡ true →
+        IsSomeAnd x (λ area. is_in v (chain_by r.anons area.anon) ≡ true)
     linked p page v None is in_own = is
-    linked p page v (Some area) is in_own = subst (λ o. is_in v (chain_of r.anons o) ≡ true) (sym is) in_own
+    linked p page v (Some area) is in_own = subst (λ o. is_in v (chain_by r.anons o) ≡ true) (sym is) in_own
 
-    same_chain : (p page v : ℕ) → Owns next p page v → chain_of next.anons (Some v) ≡ chain_of r.anons (Some v)
-    same_chain p page v is = ap (λ o. option_map_or (λ (x : AnonVma). x.chain) o []) (left.linked v (p, page, linked p page v (next.areas p page) is (in_chain p page v is)))
+    same_chain : (p page v : ℕ) → Owns next p page v → chain_by next.anons (Some v) ≡ chain_by r.anons (Some v)
+    same_chain p page v is = ap (λ o. option_map_or (λ (x : AnonVma). x.chain) o [])
+        (left.linked v (p, page, linked p page v (next.areas p page) is (in_chain p page v is)))
 
     -- where an area had a home the entry's page has it now
     still_reached : (k was : Key) (home : ℕ × ℕ) (x y : Option Area) → next.areas k.0 k.1 ≡ y
-        → IsSomeAnd x (λ area. (is_in home.0 (chain_of r.anons area.anon) ≡ true) × (index_of area was.1 ≡ home.1))
+        → IsSomeAnd x (λ area. (is_in home.0 (chain_by r.anons area.anon) ≡ true) × (index_of area was.1 ≡ home.1))
         → ((h : ℕ × ℕ) → home_of was.1 x ≡ Some h → home_of k.1 y ≡ Some h)
-        → IsSomeAnd y (λ area. (is_in home.0 (chain_of next.anons area.anon) ≡ true) × (index_of area k.1 ≡ home.1))
+        → IsSomeAnd y (λ area. (is_in home.0 (chain_by next.anons area.anon) ≡ true) × (index_of area k.1 ≡ home.1))
     still_reached k was home None y e is keeps = absurd is
     still_reached k was home (Some area) y e is keeps =
         let own = chain_there r.anons area.anon home.0 is.0 in
         let had : home_of was.1 (Some area) ≡ Some (own.0, index_of area was.1) = ap (option_map (λ v. (v, index_of area was.1))) own.1 in
         let now = home_parts k.1 y (own.0, index_of area was.1) (keeps (own.0, index_of area was.1) had) in
-        there own.0 y e now (subst (λ o. is_in home.0 (chain_of r.anons o) ≡ true) own.1 is.0)
+        there own.0 y e now (subst (λ o. is_in home.0 (chain_by r.anons o) ≡ true) own.1 is.0)
       where
         there : (v : ℕ) (y : Option Area) → next.areas k.0 k.1 ≡ y → IsSomeAnd y (λ a. (a.anon ≡ Some v) × (index_of a k.1 ≡ index_of area was.1))
-            → is_in home.0 (chain_of r.anons (Some v)) ≡ true
-            → IsSomeAnd y (λ a. (is_in home.0 (chain_of next.anons a.anon) ≡ true) × (index_of a k.1 ≡ home.1))
+            → is_in home.0 (chain_by r.anons (Some v)) ≡ true
+            → IsSomeAnd y (λ a. (is_in home.0 (chain_by next.anons a.anon) ≡ true) × (index_of a k.1 ≡ home.1))
         there v None e is in_own = is
         there v (Some a) e now in_own = (
-          subst (λ o. is_in home.0 (chain_of next.anons o) ≡ true) (sym now.0)
+          subst (λ o. is_in home.0 (chain_by next.anons o) ≡ true) (sym now.0)
               (subst (λ c. is_in home.0 c ≡ true) (sym (same_chain k.0 k.1 v (subst (λ x. IsSomeAnd x (λ a. a.anon ≡ Some v)) (sym e) now.0))) in_own),
           now.1 ∙ is.1,
         )
@@ -248,22 +262,26 @@ lent_own len area (Some near) w is = by (is_reusable area near (len near.anon)) 
     by true e = e
     by false e = cc
 
-lent_beside : (len : Lengths) (on : Pages) (area : Area) (w : ℕ) → loan_beside len on area ≡ Some w → (page : ℕ) × IsSomeAnd (on page) (λ near. near.anon ≡ Some w)
+lent_beside : (len : Lengths) (on : Pages) (area : Area) (w : ℕ) → loan_beside len on area ≡ Some w →
+    (page : ℕ) × IsSomeAnd (on page) (λ near. near.anon ≡ Some w)
 lent_beside len on area w is = by (loan_of len area (on (past_of area))) (loan_of len area (on (first_of area - 1))) refl refl is
   where
-    by : (x y : Option ℕ) → loan_of len area (on (past_of area)) ≡ x → loan_of len area (on (first_of area - 1)) ≡ y → option_or x y ≡ Some w → (page : ℕ) × IsSomeAnd (on page) (λ near. near.anon ≡ Some w)
+    by : (x y : Option ℕ) → loan_of len area (on (past_of area)) ≡ x → loan_of len area (on (first_of area - 1)) ≡ y → option_or x y ≡ Some w →
+        (page : ℕ) × IsSomeAnd (on page) (λ near. near.anon ≡ Some w)
     by (Some v) y e f is = (past_of area, lent_own len area (on (past_of area)) w (e ∙ is))
     by None y e f is = (first_of area - 1, lent_own len area (on (first_of area - 1)) w (f ∙ is))
 
 -- an area with an own anon_vma stays as it is
-pub prepared-stays : (len : Lengths) (next page : ℕ) (on : Pages) (at : ℕ) (a : Area) → AreLaid on → on at ≡ Some a → IsSome a.anon → after_prepare len next page on at ≡ Some a
+pub prepared-stays : (len : Lengths) (next page : ℕ) (on : Pages) (at : ℕ) (a : Area) → AreLaid on → on at ≡ Some a → IsSome a.anon →
+    after_prepare len next page on at ≡ Some a
 prepared-stays len next page on at a laid is own = by (on page) refl
   where
     by : (o : Option Area) → on page ≡ o → with_anon len next o on at ≡ Some a
     by None e = is
     by (Some b) e = bare (is_some b.anon) refl
       where
-        over : (has : Bool) → has_page b at ≡ has → is_some b.anon ≡ false → cond has (Some (record b { anon = Some (unwrap_or (loan_beside len on b) next) })) (on at) ≡ Some a
+        over : (has : Bool) → has_page b at ≡ has → is_some b.anon ≡ false →
+            cond has (Some (record b { anon = Some (unwrap_or (loan_beside len on b) next) })) (on at) ≡ Some a
         over true h none = let same : Some a ≡ Some b = sym is ∙ laid.all page at b e h in
             absurd (false≢true (sym none ∙ subst (λ (o : Option Area). option_map_or (λ (x : Area). is_some x.anon) o true ≡ true) same own))
         over false h none = is
@@ -273,18 +291,21 @@ prepared-stays len next page on at a laid is own = by (on page) refl
         bare false h = over (has_page b at) refl h
 
 -- the area of the page has one then
-pub prepared-own : (len : Lengths) (next page : ℕ) (on : Pages) → AreLaid on → IsSome (on page) → IsSomeAnd (after_prepare len next page on page) (λ a. IsSome a.anon)
+pub prepared-own : (len : Lengths) (next page : ℕ) (on : Pages) → AreLaid on → IsSome (on page) →
+    IsSomeAnd (after_prepare len next page on page) (λ a. IsSome a.anon)
 prepared-own len next page on laid there = by (on page) refl there
   where
     by : (o : Option Area) → on page ≡ o → IsSome o → IsSomeAnd (with_anon len next o on page) (λ a. IsSome a.anon)
     by None e there = absurd (false≢true there)
     by (Some b) e there = bare (is_some b.anon) refl
       where
-        over : (has : Bool) → has ≡ true → IsSomeAnd (cond has (Some (record b { anon = Some (unwrap_or (loan_beside len on b) next) })) (on page)) (λ a. IsSome a.anon)
+        over : (has : Bool) → has ≡ true → IsSomeAnd (cond has (Some (record b { anon = Some (unwrap_or (loan_beside len on b) next) })) (on page))
+            (λ a. IsSome a.anon)
         over true h = refl
         over false h = absurd (false≢true h)
 
-        bare : (c : Bool) → is_some b.anon ≡ c → IsSomeAnd (cond c on (with_area (record b { anon = Some (unwrap_or (loan_beside len on b) next) }) on) page) (λ a. IsSome a.anon)
+        bare : (c : Bool) → is_some b.anon ≡ c → IsSomeAnd (cond c on (with_area (record b { anon = Some (unwrap_or (loan_beside len on b) next) }) on) page)
+            (λ a. IsSome a.anon)
         bare true h = subst (λ o. IsSomeAnd o (λ a. IsSome a.anon)) (sym e) h
         bare false h = over (has_page b page) (laid.here page b e)
 
@@ -302,12 +323,14 @@ prepared-owns len next page on at v is = by (on page) refl is
     by None e is = inl is
     by (Some b) e is = bare (is_some b.anon) refl is
       where
-        over : (has : Bool) → is_some b.anon ≡ false → IsSomeAnd (cond has (Some (record b { anon = Some (unwrap_or (loan_beside len on b) next) })) (on at)) (λ a. a.anon ≡ Some v)
+        over : (has : Bool) → is_some b.anon ≡ false → IsSomeAnd (cond has (Some (record b { anon = Some (unwrap_or (loan_beside len on b) next) })) (on at))
+            (λ a. a.anon ≡ Some v)
             → HadOrGot len next page on at v
         over true none is = let same : v ≡ unwrap_or (loan_beside len on b) next = cc in inr (b, e, none, same)
         over false none is = inl is
 
-        bare : (c : Bool) → is_some b.anon ≡ c → IsSomeAnd (cond c on (with_area (record b { anon = Some (unwrap_or (loan_beside len on b) next) }) on) at) (λ a. a.anon ≡ Some v)
+        bare : (c : Bool) → is_some b.anon ≡ c → IsSomeAnd (cond c on (with_area (record b { anon = Some (unwrap_or (loan_beside len on b) next) }) on) at)
+            (λ a. a.anon ≡ Some v)
             → HadOrGot len next page on at v
         bare true h is = inl is
         bare false h is = over (has_page b at) h is
@@ -326,23 +349,25 @@ module _ (l : Ledger) (p page : ℕ) (r : Rmap) (laid : AreLaid (r.areas p)) (h 
   abbrev now_anons : Anons
   now_anons = cond roots (with_root r.anons) r.anons
 
-  same_chain : (own : Option ℕ) (v : ℕ) → is_in v (chain_of r.anons own) ≡ true → chain_of now_anons own ≡ chain_of r.anons own
+  same_chain : (own : Option ℕ) (v : ℕ) → is_in v (chain_by r.anons own) ≡ true → chain_by now_anons own ≡ chain_by r.anons own
   same_chain own v is = chain_rooted r.anons roots own v h.made is
 
   made_now : (b : Bool) (v : ℕ) → IsSome ((cond b (with_root r.anons) r.anons).anon v) → v < (cond b (with_root r.anons) r.anons).next
   made_now false v is = h.made v is
   made_now true v is = root (v == r.anons.next) refl is
     where
-      root : (c : Bool) → (v == r.anons.next) ≡ c → IsSome (cond c (Some (record { root = r.anons.next; parent = r.anons.next; chain = r.anons.next ∷ [] })) (r.anons.anon v)) → v < suc r.anons.next
+      root : (c : Bool) → (v == r.anons.next) ≡ c → IsSome (cond c (Some (record { root = r.anons.next; parent = r.anons.next; chain = r.anons.next ∷ [] }))
+          (r.anons.anon v)) → v < suc r.anons.next
       root true e is = let same : v ≡ r.anons.next = grind (arith, nat_tests, e) in omega (arith, same)
       root false e is = let less = h.made v is in omega (arith, less)
 
   -- an own anon_vma that was there
-  own_before : (q other v : ℕ) → Owns r q other v → is_in v (chain_of now_anons (Some v)) ≡ true
+  own_before : (q other v : ℕ) → Owns r q other v → is_in v (chain_by now_anons (Some v)) ≡ true
   own_before q other v is = let was = h.own q other v is in subst (λ c. is_in v c ≡ true) (sym (same_chain (Some v) v was)) was
 
   -- and the one that the area gets
-  own_got : (b : Area) → on page ≡ Some b → is_some b.anon ≡ false → is_in (unwrap_or (loan_beside len on b) r.anons.next) (chain_of now_anons (Some (unwrap_or (loan_beside len on b) r.anons.next))) ≡ true
+  own_got : (b : Area) → on page ≡ Some b → is_some b.anon ≡ false →
+      is_in (unwrap_or (loan_beside len on b) r.anons.next) (chain_by now_anons (Some (unwrap_or (loan_beside len on b) r.anons.next))) ≡ true
   own_got b is none = by (loan_beside len on b) refl
     where
       itself : (n : ℕ) → (n == n) ≡ true
@@ -351,14 +376,16 @@ module _ (l : Ledger) (p page : ℕ) (r : Rmap) (laid : AreLaid (r.areas p)) (h 
       makes : (o : Option ℕ) → loan_beside len on b ≡ o → roots ≡ not (is_some o)
       makes o e = ap (makes_anon len on) is ∙ ap (λ x. not x && not (is_some (loan_beside len on b))) none ∙ ap (λ o. not (is_some o)) e
 
-      root : (c : Bool) → c ≡ true → option_map_or (λ (x : AnonVma). x.chain) (cond c (Some (record { root = r.anons.next; parent = r.anons.next; chain = r.anons.next ∷ [] })) (r.anons.anon r.anons.next)) [] ≡ r.anons.next ∷ []
+      root : (c : Bool) → c ≡ true → option_map_or (λ (x : AnonVma). x.chain)
+          (cond c (Some (record { root = r.anons.next; parent = r.anons.next; chain = r.anons.next ∷ [] })) (r.anons.anon r.anons.next)) [] ≡ r.anons.next ∷ []
       root true e = refl
       root false e = cc
 
-      by : (o : Option ℕ) → loan_beside len on b ≡ o → is_in (unwrap_or o r.anons.next) (chain_of now_anons (Some (unwrap_or o r.anons.next))) ≡ true
+      by : (o : Option ℕ) → loan_beside len on b ≡ o → is_in (unwrap_or o r.anons.next) (chain_by now_anons (Some (unwrap_or o r.anons.next))) ≡ true
       by (Some w) e = let near = lent_beside len on b w e in own_before p near.0 w near.1
-      by None e = subst (λ m. is_in r.anons.next (chain_of (cond m (with_root r.anons) r.anons) (Some r.anons.next)) ≡ true) (sym (makes None e))
-          (subst (λ c. is_in r.anons.next c ≡ true) (sym (root (r.anons.next == r.anons.next) (itself r.anons.next))) (ap (λ b. b || false) (itself r.anons.next)))
+      by None e = subst (λ m. is_in r.anons.next (chain_by (cond m (with_root r.anons) r.anons) (Some r.anons.next)) ≡ true) (sym (makes None e))
+          (subst (λ c. is_in r.anons.next c ≡ true) (sym (root (r.anons.next == r.anons.next) (itself r.anons.next)))
+          (ap (λ b. b || false) (itself r.anons.next)))
 
   -- the areas then
   abbrev now_areas : ℕ → Pages
@@ -368,26 +395,30 @@ module _ (l : Ledger) (p page : ℕ) (r : Rmap) (laid : AreLaid (r.areas p)) (h 
   stays q other a is own = by (q == p) refl
     where
       by : (b : Bool) → (q == p) ≡ b → (cond b (after_prepare len r.anons.next page on) (r.areas q)) other ≡ Some a
-      by true e = let same : q ≡ p = grind (arith, nat_tests, e) in prepared-stays len r.anons.next page on other a laid (subst (λ q. r.areas q other ≡ Some a) same is) own
+      by true e = let same : q ≡ p = grind (arith, nat_tests, e) in
+          prepared-stays len r.anons.next page on other a laid (subst (λ q. r.areas q other ≡ Some a) same is) own
       by false e = is
 
-  own_now : (q other v : ℕ) → IsSomeAnd (now_areas q other) (λ a. a.anon ≡ Some v) → is_in v (chain_of now_anons (Some v)) ≡ true
+  own_now : (q other v : ℕ) → IsSomeAnd (now_areas q other) (λ a. a.anon ≡ Some v) → is_in v (chain_by now_anons (Some v)) ≡ true
   own_now q other v = by (q == p)
     where
-      got : HadOrGot len r.anons.next page on other v → is_in v (chain_of now_anons (Some v)) ≡ true
+      got : HadOrGot len r.anons.next page on other v → is_in v (chain_by now_anons (Some v)) ≡ true
       got (inl is) = own_before p other v is
-      got (inr (b, is, none, e)) = subst (λ v. is_in v (chain_of now_anons (Some v)) ≡ true) (sym e) (own_got b is none)
+      got (inr (b, is, none, e)) = subst (λ v. is_in v (chain_by now_anons (Some v)) ≡ true) (sym e) (own_got b is none)
 
-      by : (b : Bool) → IsSomeAnd ((cond b (after_prepare len r.anons.next page on) (r.areas q)) other) (λ a. a.anon ≡ Some v) → is_in v (chain_of now_anons (Some v)) ≡ true
+      by : (b : Bool) → IsSomeAnd ((cond b (after_prepare len r.anons.next page on) (r.areas q)) other) (λ a. a.anon ≡ Some v) →
+          is_in v (chain_by now_anons (Some v)) ≡ true
       by true is = got (prepared-owns len r.anons.next page on other v is)
       by false is = own_before q other v is
 
-  reached_now : (k : Key) (home : ℕ × ℕ) (x : Option Area) → r.areas k.0 k.1 ≡ x → IsSomeAnd x (λ a. (is_in home.0 (chain_of r.anons a.anon) ≡ true) × (index_of a k.1 ≡ home.1))
-      → IsSomeAnd (now_areas k.0 k.1) (λ a. (is_in home.0 (chain_of now_anons a.anon) ≡ true) × (index_of a k.1 ≡ home.1))
+  reached_now : (k : Key) (home : ℕ × ℕ) (x : Option Area) → r.areas k.0 k.1 ≡ x →
+      IsSomeAnd x (λ a. (is_in home.0 (chain_by r.anons a.anon) ≡ true) × (index_of a k.1 ≡ home.1))
+      → IsSomeAnd (now_areas k.0 k.1) (λ a. (is_in home.0 (chain_by now_anons a.anon) ≡ true) × (index_of a k.1 ≡ home.1))
   reached_now k home None e is = absurd is
   reached_now k home (Some a) e is =
       let own = chain_there r.anons a.anon home.0 is.0 in
-      subst (λ x. IsSomeAnd x (λ a. (is_in home.0 (chain_of now_anons a.anon) ≡ true) × (index_of a k.1 ≡ home.1))) (sym (stays k.0 k.1 a e (subst IsSome (sym own.1) refl)))
+      subst (λ x. IsSomeAnd x (λ a. (is_in home.0 (chain_by now_anons a.anon) ≡ true) × (index_of a k.1 ≡ home.1)))
+      (sym (stays k.0 k.1 a e (subst IsSome (sym own.1) refl)))
       (subst (λ c. is_in home.0 c ≡ true) (sym (same_chain a.anon home.0 is.0)) is.0, is.1)
 
   -- the page's area has an own anon_vma then

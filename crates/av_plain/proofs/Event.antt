@@ -23,7 +23,8 @@ how_many-map p g [] = refl
 how_many-map p g (x ∷ xs) = ap (λ n. cond (p (g x)) 1 0 + n) (how_many-map p g xs)
 
 -- where one passes either test and not both
-pub how_many-or : {X : Type 0} (p q r : X → Bool) (xs : List X) → ((x : X) → cond (r x) 1 0 ≡ cond (p x) 1 0 + cond (q x) 1 0) → how_many r xs ≡ how_many p xs + how_many q xs
+pub how_many-or : {X : Type 0} (p q r : X → Bool) (xs : List X) → ((x : X) → cond (r x) 1 0 ≡ cond (p x) 1 0 + cond (q x) 1 0) →
+    how_many r xs ≡ how_many p xs + how_many q xs
 how_many-or p q r [] h = refl
 how_many-or p q r (x ∷ xs) h = both _ _ _ _ _ _ (h x) (how_many-or p q r xs h)
   where
@@ -39,7 +40,8 @@ how_many-none p (x ∷ xs) h = λ i. cond (h x i) 1 0 + how_many-none p xs h i
 module _ {K X Y : Type 0} (R : K → K → Ordering) (g : X → Y) where
   pub find-map : (q : K) (es : List (K × X)) → find R q (map (λ e. (e.0, g e.1)) es) ≡ option_map g (find R q es)
   find-map q [] = refl
-  find-map q (e ∷ es) = elim (eq_by_cmp R q e.0) as (λ b. cond b (Some (g e.1)) (find R q (map (λ e. (e.0, g e.1)) es)) ≡ option_map g (cond b (Some e.1) (find R q es))) [ true ↦ refl | false ↦ find-map q es ]
+  find-map q (e ∷ es) = elim (eq_by_cmp R q e.0) as (λ b. cond b (Some (g e.1)) (find R q (map (λ e. (e.0, g e.1)) es)) ≡ option_map g
+      (cond b (Some e.1) (find R q es))) [ true ↦ refl | false ↦ find-map q es ]
 
   pub below-map : (x : K) (es : List (K × X)) → below_all R x (map (λ e. (e.0, g e.1)) es) ≡ below_all R x es
   below-map x [] = refl
@@ -62,25 +64,37 @@ map_count-unmap f s l = how_many-map (λ e. names_frame f e.1) (λ e. (e.0, to_s
   where
     gone : (e : Entry) → names_frame f (to_slot f s e) ≡ false
     gone Zero = refl
-    gone (InFrame g seen) = elim (f == g) as (λ b. (f == g) ≡ b → names_frame f (cond b (InSlot s) (InFrame g seen)) ≡ false) [ true ↦ λ _. refl | false ↦ λ e. e ] refl
+    gone (InFrame g seen) = elim (f == g) as (λ b. (f == g) ≡ b → names_frame f (cond b (InSlot s) (InFrame g seen)) ≡ false) [
+      | true ↦
+          λ _. refl
+      | false ↦ λ e. e
+    ] refl
     gone (InSlot t) = refl
 
-pub slot_entries-unmap : (f : ℕ) (s : Slot) (l : Ledger) → same_slot s s ≡ true → slot_entries (change_entries f (λ _. InSlot s) l) s ≡ slot_entries l s + map_count l f
+pub slot_entries-unmap : (f : ℕ) (s : Slot) (l : Ledger) → same_slot s s ≡ true →
+    slot_entries (change_entries f (λ _. InSlot s) l) s ≡ slot_entries l s + map_count l f
 slot_entries-unmap f s l itself = how_many-map (λ e. names_slot s e.1) (λ e. (e.0, to_slot f s e.1)) l.entries ∙ how_many-or _ _ _ l.entries (λ e. moved e.1)
   where
     moved : (e : Entry) → cond (names_slot s (to_slot f s e)) 1 0 ≡ cond (names_slot s e) 1 0 + cond (names_frame f e) 1 0
     moved Zero = refl
-    moved (InFrame g seen) = elim (f == g) as (λ b. cond (names_slot s (cond b (InSlot s) (InFrame g seen))) 1 0 ≡ 0 + cond b 1 0) [ true ↦ ap (λ b. cond b 1 0) itself | false ↦ refl ]
+    moved (InFrame g seen) = elim (f == g) as (λ b. cond (names_slot s (cond b (InSlot s) (InFrame g seen))) 1 0 ≡ 0 + cond b 1 0) [
+      | true ↦
+          ap (λ b. cond b 1 0) itself
+      | false ↦ refl
+    ]
     moved (InSlot t) = omega arith
 
 -- ---- entries put in
 
-pub entry-put_all : (es : List (Key × Entry)) (l : Ledger) (q : Key) → T (is_sorted key_cmp es) → entry (put_all es l) q ≡ option_or (find key_cmp q es) (entry l q)
+pub entry-put_all : (es : List (Key × Entry)) (l : Ledger) (q : Key) → T (is_sorted key_cmp es) →
+    entry (put_all es l) q ≡ option_or (find key_cmp q es) (entry l q)
 entry-put_all [] l q h = refl
 entry-put_all (e ∷ es) l q h =
     entry-put_all es (set_entry e.0 e.1 l) q (both_second _ _ h) ∙ ap (option_or (find key_cmp q es)) (entry-set e.0 e.1 l q)
-    ∙ elim (same_key q e.0) as (λ b. same_key q e.0 ≡ b → option_or (find key_cmp q es) (cond b (Some e.1) (entry l q)) ≡ option_or (cond b (Some e.1) (find key_cmp q es)) (entry l q)) [
-      | true ↦ λ is. ap (λ o. option_or o (Some e.1)) (ap (λ k. find key_cmp k es) (same_key-is q e.0 is) ∙ find_below keys_total (λ _. true) e.0 es (both_first _ _ h))
+    ∙ elim (same_key q e.0) as (λ b. same_key q e.0 ≡ b → option_or (find key_cmp q es) (cond b (Some e.1) (entry l q)) ≡ option_or
+    (cond b (Some e.1) (find key_cmp q es)) (entry l q)) [
+      | true ↦ λ is. ap (λ o. option_or o (Some e.1)) (ap (λ k. find key_cmp k es) (same_key-is q e.0 is) ∙ find_below keys_total
+          (λ _. true) e.0 es (both_first _ _ h))
       | false ↦ λ is. refl
     ] refl
 
@@ -126,17 +140,20 @@ module _ {K X : Type 0} {R : K → K → Ordering} (o : IsTotalOrder R) where
   without_below : (k : K) (es : List (K × X)) → T (below_all R k es) → where_key R (λ q. not (eq_by_cmp R k q)) es ≡ es
   without_below k [] h = refl
   without_below k (e ∷ es) h =
-      ap (λ r. cond (not (is_eq r)) (e ∷ where_key R (λ q. not (eq_by_cmp R k q)) es) (where_key R (λ q. not (eq_by_cmp R k q)) es)) (is_less _ (both_first _ _ h))
+      ap (λ r. cond (not (is_eq r)) (e ∷ where_key R (λ q. not (eq_by_cmp R k q)) es) (where_key R (λ q. not (eq_by_cmp R k q)) es))
+      (is_less _ (both_first _ _ h))
       ∙ ap (λ fs. e ∷ fs) (without_below k es (both_second _ _ h))
 
   -- the keys that pass, where k is the least of them
-  pub keys_from_least : (p : K → Bool) (k : K) (v : X) (es : List (K × X)) → ((x y : K) → R x y ≡ Equal → x ≡ y) → T (is_sorted R es) → find R k es ≡ Some v → p k ≡ true
+  pub keys_from_least : (p : K → Bool) (k : K) (v : X) (es : List (K × X)) → ((x y : K) → R x y ≡ Equal → x ≡ y) → T (is_sorted R es) →
+      find R k es ≡ Some v → p k ≡ true
       → ((q : K) → R q k ≡ Less → p q ≡ true → find R q es ≡ None)
       → filter p (map (λ e. e.0) es) ≡ k ∷ filter p (map (λ e. e.0) (where_key R (λ q. not (eq_by_cmp R k q)) es))
   keys_from_least p k v [] same h is passes least = cc
   keys_from_least p k v (e ∷ es) same h is passes least =
       elim (R k e.0) as (λ r. R k e.0 ≡ r → cond (is_eq r) (Some e.1) (find R k es) ≡ Some v
-      → filter p (map (λ e. e.0) (e ∷ es)) ≡ k ∷ filter p (map (λ e. e.0) (cond (not (is_eq r)) (e ∷ where_key R (λ q. not (eq_by_cmp R k q)) es) (where_key R (λ q. not (eq_by_cmp R k q)) es)))) [
+      → filter p (map (λ e. e.0) (e ∷ es)) ≡ k ∷ filter p (map (λ e. e.0)
+      (cond (not (is_eq r)) (e ∷ where_key R (λ q. not (eq_by_cmp R k q)) es) (where_key R (λ q. not (eq_by_cmp R k q)) es)))) [
         | Less ↦ λ at found. let none = find_below o (λ _. true) k es (below_less o (λ _. true) k e.0 es at (both_first _ _ h)) in cc
         | Equal ↦ λ at found. let here : e.0 ≡ k = sym (same k e.0 at) in
             let all_left = without_below k es (subst (λ x. T (below_all R x es)) here (both_first _ _ h)) in
@@ -147,7 +164,8 @@ module _ {K X : Type 0} {R : K → K → Ordering} (o : IsTotalOrder R) where
             let first_fails : p e.0 ≡ false = not_least (p e.0) (λ yields. least e.0 lower yields) in
             let rest = keys_from_least p k v es same (both_second _ _ h) found passes (λ q low yields. later q (R q e.0) (find R q es) (least q low yields)) in
             ap (λ b. cond b (e.0 ∷ filter p (map (λ e. e.0) es)) (filter p (map (λ e. e.0) es))) first_fails ∙ rest
-            ∙ ap (λ b. k ∷ cond b (e.0 ∷ filter p (map (λ e. e.0) (where_key R (λ q. not (eq_by_cmp R k q)) es))) (filter p (map (λ e. e.0) (where_key R (λ q. not (eq_by_cmp R k q)) es)))) (sym first_fails)
+            ∙ ap (λ b. k ∷ cond b (e.0 ∷ filter p (map (λ e. e.0) (where_key R (λ q. not (eq_by_cmp R k q)) es)))
+            (filter p (map (λ e. e.0) (where_key R (λ q. not (eq_by_cmp R k q)) es)))) (sym first_fails)
       ] refl is
     where
       not_least : (b : Bool) → (b ≡ true → find R e.0 (e ∷ es) ≡ None) → b ≡ false

@@ -46,18 +46,23 @@ all_go p pages (e ∷ es) h = by (e.0.0 == p) refl (all_go p pages es)
     later false b h = h
 
     list : Bool → List Inherited
-    list b = map (λ (k : Key). record { page = k.1; as_zeros = false }) (cond b (e.0 ∷ filter (λ k. k.0 == p) (map (λ e. e.0) es)) (filter (λ k. k.0 == p) (map (λ e. e.0) es)))
+    list b = map (λ (k : Key). record { page = k.1; as_zeros = false })
+        (cond b (e.0 ∷ filter (λ k. k.0 == p) (map (λ e. e.0) es)) (filter (λ k. k.0 == p) (map (λ e. e.0) es)))
 
     by : (b : Bool) → (e.0.0 == p) ≡ b
-        → (((page : ℕ) → is_inherited (pages_with p es) page ≡ true → is_inherited pages page ≡ true) → where_key key_cmp (λ k. k.0 == p && is_inherited pages k.1) es ≡ rest es)
+        → (((page : ℕ) → is_inherited (pages_with p es) page ≡ true → is_inherited pages page ≡ true) →
+        where_key key_cmp (λ k. k.0 == p && is_inherited pages k.1) es ≡ rest es)
         → where_key key_cmp (λ k. k.0 == p && is_inherited pages k.1) (e ∷ es) ≡ where_key key_cmp (λ k. k.0 == p) (e ∷ es)
     by true is go =
-        let has : (page : ℕ) → is_inherited (list true) page ≡ true → is_inherited pages page ≡ true = λ page i. h page (ap (λ b. is_inherited (list b) page) is ∙ i) in
-        (λ i. cond (is i && has e.0.1 (itself e.0.1 (is_inherited (pages_with p es) e.0.1)) i) (e ∷ where_key key_cmp (λ k. k.0 == p && is_inherited pages k.1) es) (where_key key_cmp (λ k. k.0 == p && is_inherited pages k.1) es))
+        let has : (page : ℕ) → is_inherited (list true) page ≡ true → is_inherited pages page ≡ true =
+        λ page i. h page (ap (λ b. is_inherited (list b) page) is ∙ i) in
+        (λ i. cond (is i && has e.0.1 (itself e.0.1 (is_inherited (pages_with p es) e.0.1)) i)
+        (e ∷ where_key key_cmp (λ k. k.0 == p && is_inherited pages k.1) es) (where_key key_cmp (λ k. k.0 == p && is_inherited pages k.1) es))
         ∙ ap (λ xs. e ∷ xs) (go (λ page i. has page (later (e.0.1 == page && not false) (is_inherited (pages_with p es) page) i)))
         ∙ ap (λ b. cond b (e ∷ rest es) (rest es)) (sym is)
     by false is go =
-        ap (λ b. cond (b && is_inherited pages e.0.1) (e ∷ where_key key_cmp (λ k. k.0 == p && is_inherited pages k.1) es) (where_key key_cmp (λ k. k.0 == p && is_inherited pages k.1) es)) is
+        ap (λ b. cond (b && is_inherited pages e.0.1) (e ∷ where_key key_cmp (λ k. k.0 == p && is_inherited pages k.1) es)
+        (where_key key_cmp (λ k. k.0 == p && is_inherited pages k.1) es)) is
         ∙ go (λ page i. h page (ap (λ b. is_inherited (list b) page) is ∙ i))
         ∙ ap (λ b. cond b (e ∷ rest es) (rest es)) (sym is)
 
@@ -79,7 +84,8 @@ both false b p q = p
 below_copies : (p q : ℕ) (x : Key) (es : List (Key × Entry)) → (x.0 == p) ≡ true → T (below_all key_cmp x es) → T (below_all key_cmp (q, x.1) (copies p q es))
 below_copies p q x [] at h = tt
 below_copies p q x (e ∷ es) at h =
-    elim (e.0.0 == p) as (λ b. (e.0.0 == p) ≡ b → T (below_all key_cmp (q, x.1) (map (λ e. ((q, e.0.1), without_seen e.1)) (cond b (e ∷ where_key key_cmp (λ k. k.0 == p) es) (where_key key_cmp (λ k. k.0 == p) es))))) [
+    elim (e.0.0 == p) as (λ b. (e.0.0 == p) ≡ b → T (below_all key_cmp (q, x.1)
+    (map (λ e. ((q, e.0.1), without_seen e.1)) (cond b (e ∷ where_key key_cmp (λ k. k.0 == p) es) (where_key key_cmp (λ k. k.0 == p) es))))) [
       | true ↦ λ is. both _ _ (less_is _ (lower x.0 e.0.0 x.1 e.0.1 at is (is_less _ (both_first _ _ h)))) (below_copies p q x es at (both_second _ _ h))
       | false ↦ λ is. below_copies p q x es at (both_second _ _ h)
     ] refl
@@ -91,18 +97,24 @@ pub is_sorted-copies : (p q : ℕ) (es : List (Key × Entry)) → T (is_sorted k
 is_sorted-copies p q [] h = tt
 is_sorted-copies p q (e ∷ es) h =
     let rest = is_sorted-copies p q es (both_second _ _ h) in
-    elim (e.0.0 == p) as (λ b. (e.0.0 == p) ≡ b → T (is_sorted key_cmp (map (λ e. ((q, e.0.1), without_seen e.1)) (cond b (e ∷ where_key key_cmp (λ k. k.0 == p) es) (where_key key_cmp (λ k. k.0 == p) es))))) [
+    elim (e.0.0 == p) as (λ b. (e.0.0 == p) ≡ b → T (is_sorted key_cmp
+    (map (λ e. ((q, e.0.1), without_seen e.1)) (cond b (e ∷ where_key key_cmp (λ k. k.0 == p) es) (where_key key_cmp (λ k. k.0 == p) es))))) [
       | true ↦ λ is. both _ _ (below_copies p q e.0 es is (both_first _ _ h)) rest
       | false ↦ λ is. rest
     ] refl
 
-pub find-copies : (p q : ℕ) (k : Key) (es : List (Key × Entry)) → find key_cmp k (copies p q es) ≡ cond (k.0 == q) (option_map without_seen (find key_cmp (p, k.1) es)) None
+pub find-copies : (p q : ℕ) (k : Key) (es : List (Key × Entry)) →
+    find key_cmp k (copies p q es) ≡ cond (k.0 == q) (option_map without_seen (find key_cmp (p, k.1) es)) None
 find-copies p q k [] = elim (k.0 == q) as (λ b. ◌≡◌ {A = Option Entry} None (cond b None None)) [ true ↦ refl | false ↦ refl ]
 find-copies p q k (e ∷ es) =
     let rest = find-copies p q k es in
-    elim (e.0.0 == p) as (λ b. (e.0.0 == p) ≡ b → find key_cmp k (map (λ e. ((q, e.0.1), without_seen e.1)) (cond b (e ∷ where_key key_cmp (λ k. k.0 == p) es) (where_key key_cmp (λ k. k.0 == p) es))) ≡ cond (k.0 == q) (option_map without_seen (cond (same_key (p, k.1) e.0) (Some e.1) (find key_cmp (p, k.1) es))) None) [
-      | true ↦ λ is. (λ i. cond (keys k.0 k.1 e.0.0 e.0.1 is i) (Some (without_seen e.1)) (rest i)) ∙ joined (k.0 == q) (same_key (p, k.1) e.0) (find key_cmp (p, k.1) es)
-      | false ↦ λ is. rest ∙ ap (λ b. cond (k.0 == q) (option_map without_seen (cond b (Some e.1) (find key_cmp (p, k.1) es))) None) (sym (other e.0.0 e.0.1 k.1 is))
+    elim (e.0.0 == p) as (λ b. (e.0.0 == p) ≡ b → find key_cmp k (map (λ e. ((q, e.0.1), without_seen e.1))
+    (cond b (e ∷ where_key key_cmp (λ k. k.0 == p) es) (where_key key_cmp (λ k. k.0 == p) es))) ≡ cond (k.0 == q)
+    (option_map without_seen (cond (same_key (p, k.1) e.0) (Some e.1) (find key_cmp (p, k.1) es))) None) [
+      | true ↦ λ is. (λ i. cond (keys k.0 k.1 e.0.0 e.0.1 is i) (Some (without_seen e.1)) (rest i))
+          ∙ joined (k.0 == q) (same_key (p, k.1) e.0) (find key_cmp (p, k.1) es)
+      | false ↦ λ is. rest ∙ ap (λ b. cond (k.0 == q) (option_map without_seen (cond b (Some e.1) (find key_cmp (p, k.1) es))) None)
+          (sym (other e.0.0 e.0.1 k.1 is))
     ] refl
   where
     keys : (a b c d : ℕ) → (c == p) ≡ true → same_key (a, b) (q, d) ≡ (a == q && same_key (p, b) (c, d))
@@ -111,21 +123,26 @@ find-copies p q k (e ∷ es) =
     other : (c d b : ℕ) → (c == p) ≡ false → same_key (p, b) (c, d) ≡ false
     other c d b e = grind (arith, nat_tests)
 
-    joined : (a b : Bool) (o : Option Entry) → cond (a && b) (Some (without_seen e.1)) (cond a (option_map without_seen o) None) ≡ cond a (option_map without_seen (cond b (Some e.1) o)) None
+    joined : (a b : Bool) (o : Option Entry) → cond (a && b) (Some (without_seen e.1)) (cond a (option_map without_seen o) None) ≡ cond a
+        (option_map without_seen (cond b (Some e.1) o)) None
     joined true true o = refl
     joined true false o = refl
     joined false b o = refl
 
 -- the child has the parent's entries, unseen; all others are as they were
-pub entry-forked : (p q : ℕ) (l : Ledger) (k : Key) → T (is_sorted key_cmp l.entries) → entry (child_ledger p q l) k ≡ option_or (cond (k.0 == q) (option_map without_seen (entry l (p, k.1))) None) (entry l k)
-entry-forked p q l k h = ap (λ l. entry l k) (forked-is p q l) ∙ entry-put_all (copies p q l.entries) l k (is_sorted-copies p q l.entries h) ∙ ap (λ o. option_or o (entry l k)) (find-copies p q k l.entries)
+pub entry-forked : (p q : ℕ) (l : Ledger) (k : Key) → T (is_sorted key_cmp l.entries) →
+    entry (child_ledger p q l) k ≡ option_or (cond (k.0 == q) (option_map without_seen (entry l (p, k.1))) None) (entry l k)
+entry-forked p q l k h = ap (λ l. entry l k) (forked-is p q l) ∙ entry-put_all (copies p q l.entries) l k (is_sorted-copies p q l.entries h)
+    ∙ ap (λ o. option_or o (entry l k)) (find-copies p q k l.entries)
 
 -- ---- counts
 
-count-copies : (t : Entry → Bool) (p q : ℕ) (es : List (Key × Entry)) → ((e : Entry) → t (without_seen e) ≡ t e) → entries_with t (copies p q es) ≤ entries_with t es
+count-copies : (t : Entry → Bool) (p q : ℕ) (es : List (Key × Entry)) → ((e : Entry) → t (without_seen e) ≡ t e) →
+    entries_with t (copies p q es) ≤ entries_with t es
 count-copies t p q [] h = omega arith
 count-copies t p q (e ∷ es) h = let rest = count-copies t p q es h in
-    elim (e.0.0 == p) as (λ b. entries_with t (map (λ (e : Key × Entry). ((q, e.0.1), without_seen e.1)) (cond b (e ∷ where_key key_cmp (λ k. k.0 == p) es) (where_key key_cmp (λ k. k.0 == p) es))) ≤ cond (t e.1) 1 0 + entries_with t es) [
+    elim (e.0.0 == p) as (λ b. entries_with t (map (λ (e : Key × Entry). ((q, e.0.1), without_seen e.1))
+    (cond b (e ∷ where_key key_cmp (λ k. k.0 == p) es) (where_key key_cmp (λ k. k.0 == p) es))) ≤ cond (t e.1) 1 0 + entries_with t es) [
       | true ↦ more (t (without_seen e.1)) (t e.1) _ _ (h e.1) rest
       | false ↦ less _ _ _ rest
     ]

@@ -70,9 +70,12 @@ once g a (suc n) = by (g == a) refl _ (once g (a + 1) n)
         plus : (n : ℕ) → 0 + n ≡ n
         plus n = omega arith
 
-    by : (b : Bool) → (g == a) ≡ b → (k : ℕ) → k ≡ cond (nat_le (a + 1) g && nat_lt g ((a + 1) + n)) 1 0 → cond b 1 0 + k ≡ cond (nat_le a g && nat_lt g (a + suc n)) 1 0
-    by true is k e = ends true (nat_le (a + 1) g && nat_lt g ((a + 1) + n)) (nat_le a g && nat_lt g (a + suc n)) (grind (arith, nat_tests, is)) (λ _. grind (arith, nat_tests, is)) k e
-    by false is k e = ends false (nat_le (a + 1) g && nat_lt g ((a + 1) + n)) (nat_le a g && nat_lt g (a + suc n)) (grind (arith, nat_tests, is)) (λ i. grind (arith, nat_tests, is, i)) k e
+    by : (b : Bool) → (g == a) ≡ b → (k : ℕ) → k ≡ cond (nat_le (a + 1) g && nat_lt g ((a + 1) + n)) 1 0 →
+        cond b 1 0 + k ≡ cond (nat_le a g && nat_lt g (a + suc n)) 1 0
+    by true is k e = ends true (nat_le (a + 1) g && nat_lt g ((a + 1) + n)) (nat_le a g && nat_lt g (a + suc n)) (grind (arith, nat_tests, is))
+        (λ _. grind (arith, nat_tests, is)) k e
+    by false is k e = ends false (nat_le (a + 1) g && nat_lt g ((a + 1) + n)) (nat_le a g && nat_lt g (a + suc n)) (grind (arith, nat_tests, is))
+        (λ i. grind (arith, nat_tests, is, i)) k e
 
 -- ---- the list after one event
 
@@ -101,22 +104,26 @@ at_most false = omega arith
 differ : {x : Bool} → false ≡ x → x ≡ true → ⊥
 differ h i = cc
 
-lists-event : (m : Setting) (l l' : Ledger) (taken : Option ℕ) (free rest : List ℕ) → MatchOption taken (free ≡ rest) (λ f. free ≡ f ∷ rest) → Steady l l' taken → Lists m l free → Lists m l' (new_free m l l' ++ rest)
+lists-event : (m : Setting) (l l' : Ledger) (taken : Option ℕ) (free rest : List ℕ) → MatchOption taken (free ≡ rest) (λ f. free ≡ f ∷ rest) →
+    Steady l l' taken → Lists m l free → Lists m l' (new_free m l l' ++ rest)
 lists-event m l l' taken free rest first steady h g =
     let a = how_many-append (λ x. g == x) (new_free m l l') rest in
     let b = count-filter (λ f. is_free l' f && not (is_free l f)) g (numbers 0 m.frames) in
     let c = once g 0 m.frames in
     let d = h g in
-    by (is_free l' g) (is_free l g) (nat_lt g m.frames) (is_that taken g) _ _ _ _ _ (uses l g) (uses l' g) (free-is l' g) (free-is l g) a b (c ∙ ap {B = ℕ} (λ x. cond x 1 0) (plain g m.frames)) d (left taken first) (steady.stays g) (steady.taken_used g)
+    by (is_free l' g) (is_free l g) (nat_lt g m.frames) (is_that taken g) _ _ _ _ _ (uses l g) (uses l' g) (free-is l' g) (free-is l g) a b
+    (c ∙ ap {B = ℕ} (λ x. cond x 1 0) (plain g m.frames)) d (left taken first) (steady.stays g) (steady.taken_used g)
   where
     plain : (g n : ℕ) → (nat_le 0 g && nat_lt g (0 + n)) ≡ nat_lt g n
     plain g n = grind (arith, nat_tests)
 
-    left : (o : Option ℕ) → MatchOption o (free ≡ rest) (λ f. free ≡ f ∷ rest) → how_many (λ x. g == x) free ≡ cond (is_that o g) 1 0 + how_many (λ x. g == x) rest
+    left : (o : Option ℕ) → MatchOption o (free ≡ rest) (λ f. free ≡ f ∷ rest) →
+        how_many (λ x. g == x) free ≡ cond (is_that o g) 1 0 + how_many (λ x. g == x) rest
     left None e = ap (how_many (λ x. g == x)) e ∙ omega arith
     left (Some f) e = ap (how_many (λ x. g == x)) e
 
-    by : (v u n t : Bool) (all new nums old k : ℕ) (count count' : ℕ) → v ≡ (count' == 0) → u ≡ (count == 0) → all ≡ new + k → new ≡ cond (v && not u) nums 0 → nums ≡ cond n 1 0 → old ≡ cond ((count == 0) && n) 1 0 → old ≡ cond t 1 0 + k
+    by : (v u n t : Bool) (all new nums old k : ℕ) (count count' : ℕ) → v ≡ (count' == 0) → u ≡ (count == 0) → all ≡ new + k → new ≡ cond (v && not u) nums 0 →
+        nums ≡ cond n 1 0 → old ≡ cond ((count == 0) && n) 1 0 → old ≡ cond t 1 0 + k
         → (count ≡ 0 → t ≡ false → count' ≡ 0) → (t ≡ true → 0 < count') → all ≡ cond ((count' == 0) && n) 1 0
     by v u n true all new nums old k count count' hv hu a b c d e stays used =
         let z = used refl in
@@ -154,10 +161,12 @@ abbrev AreHeld : Ledger → List Note → Type 0
 AreHeld l [] = Unit {0}
 AreHeld l (note ∷ notes) = IsHeld l note × AreHeld (after_note note l) notes
 
-set-steady : (l l' : Ledger) (k : Key) (f : ℕ) (seen : Bool) → T (is_sorted key_cmp l.entries) → ((g : ℕ) → uses l' g ≡ uses (set_entry k (InFrame f seen) l) g) → Steady l l' (Some f)
+set-steady : (l l' : Ledger) (k : Key) (f : ℕ) (seen : Bool) → T (is_sorted key_cmp l.entries) →
+    ((g : ℕ) → uses l' g ≡ uses (set_entry k (InFrame f seen) l) g) → Steady l l' (Some f)
 set-steady l l' k f seen sorted same = record {
   stays = λ g gone other. let e = same g in let a = map_count-set k (InFrame f seen) l g sorted in let b = flag (g == f) other in omega (arith, gone, e, a, b);
-  taken_used = λ g is. let e = same g in let n = how_many-found (names_frame g) k (set_entry k (InFrame f seen) l).entries (InFrame f seen) (entry-set k (InFrame f seen) l k ∙ ap (λ b. cond b (Some (InFrame f seen)) (entry l k)) (same_key-itself k)) is in omega (arith, e, n);
+  taken_used = λ g is. let e = same g in let n = how_many-found (names_frame g) k (set_entry k (InFrame f seen) l).entries (InFrame f seen)
+      (entry-set k (InFrame f seen) l k ∙ ap (λ b. cond b (Some (InFrame f seen)) (entry l k)) (same_key-itself k)) is in omega (arith, e, n);
 }
   where
     flag : (b : Bool) → b ≡ false → ◌≡◌ {A = ℕ} (cond b 1 0) 0
@@ -169,11 +178,15 @@ fewer-steady : (l l' : Ledger) → ((g : ℕ) → uses l g ≡ 0 → uses l' g �
 fewer-steady l l' h = record { stays = λ g gone other. h g gone; taken_used = λ g is. cc }
 
 unseen-frames : (f : ℕ) (l : Ledger) (j : ℕ) → map_count (change_entries f without_seen l) j ≡ map_count l j
-unseen-frames f l j = how_many-map (λ e. names_frame j e.1) (λ e. (e.0, if names_frame f e.1 then without_seen e.1 else e.1)) l.entries ∙ how_many-same _ _ l.entries (λ e. each e.1)
+unseen-frames f l j = how_many-map (λ e. names_frame j e.1) (λ e. (e.0, if names_frame f e.1 then without_seen e.1 else e.1)) l.entries
+    ∙ how_many-same _ _ l.entries (λ e. each e.1)
   where
     each : (e : Entry) → names_frame j (if names_frame f e then without_seen e else e) ≡ names_frame j e
     each Zero = refl
-    each (InFrame g seen) = elim (f == g) as (λ b. names_frame j (if b then without_seen (InFrame g seen) else InFrame g seen) ≡ (j == g)) [ true ↦ refl | false ↦ refl ]
+    each (InFrame g seen) = elim (f == g) as (λ b. names_frame j (if b then without_seen (InFrame g seen) else InFrame g seen) ≡ (j == g)) [
+      | true ↦ refl
+      | false ↦ refl
+    ]
     each (InSlot t) = refl
 
 note-steady : (l : Ledger) (note : Note) → T (is_sorted key_cmp l.entries) → IsHeld l note → Steady l (after_note note l) (frame_in_note note)
@@ -189,7 +202,8 @@ note-steady l (Loaded s f) sorted h = record { stays = λ g gone other. by (g ==
     some : (b : Bool) → b ≡ true → (g : ℕ) → 0 < map_count l g + (cond b 1 0 + holders l g)
     some true e g = omega arith
     some false e g = cc
-note-steady l (Mapped p a f) sorted h = fewer-steady l _ (λ g gone. let e = map_count-set (key_at p a) (InFrame f false) l g sorted in by g _ _ (g == f) refl gone e)
+note-steady l (Mapped p a f) sorted h = fewer-steady l _ (λ g gone. let e = map_count-set (key_at p a) (InFrame f false) l g sorted in
+    by g _ _ (g == f) refl gone e)
   where
     by : (g n w : ℕ) (b : Bool) → (g == f) ≡ b → uses l g ≡ 0 → n + w ≡ map_count l g + cond b 1 0 → n + holders l g ≡ 0
     by g n w true is gone e = let z = ap (uses l) (same-is g f is) in absurd (omega (arith, gone, z, h))
@@ -211,7 +225,9 @@ note-steady l (Unmapped f) sorted h = fewer-steady l _ (by (slot_of l f))
 note-steady l (Started s) sorted h = fewer-steady l _ (λ g gone. alike-uses l (after_note (Started s) l) (alike-started l s) g ∙ gone)
 note-steady l (Written s) sorted h = fewer-steady l _ (λ g gone. alike-uses l (after_note (Written s) l) (alike-end_note l false s) g ∙ gone)
 note-steady l (Failed s) sorted h = fewer-steady l _ (λ g gone. alike-uses l (after_note (Failed s) l) (alike-end_note l true s) g ∙ gone)
-note-steady l (Dropped s) sorted h = fewer-steady l _ (λ g gone. let a = ap (λ es. map_count (record l { entries = es }) g) (settle-entries (frame_at l s) (off_cache s l)) in let b = holders-dropped l s g in omega (arith, gone, a, b))
+note-steady l (Dropped s) sorted h = fewer-steady l _ (λ g gone. let a =
+    ap (λ es. map_count (record l { entries = es }) g) (settle-entries (frame_at l s) (off_cache s l)) in
+    let b = holders-dropped l s g in omega (arith, gone, a, b))
 note-steady l (Kept f Writeback) sorted h = fewer-steady l _ (λ g gone. gone)
 note-steady l (Kept f WriteStarted) sorted h = fewer-steady l _ (λ g gone. gone)
 note-steady l (Kept f Referenced) sorted h = fewer-steady l _ (λ g gone. let e = unseen-frames f l g in omega (arith, e, gone))
@@ -227,7 +243,8 @@ notes-lists : (m : Setting) (l : Ledger) (notes : List Note) (free free' : List 
 notes-lists m l [] free free' sorted held c h = subst (Lists m l) (sym c) h
 notes-lists m l (note ∷ notes) free free' sorted held c h =
     notes-lists m (after_note note l) notes c.0 free' (sorted-note l note sorted) held.1 c.2
-    (subst (Lists m (after_note note l)) (sym c.1.2) (lists-event m l (after_note note l) (frame_in_note note) free c.1.0 c.1.1 (note-steady l note sorted held.0) h))
+    (subst (Lists m (after_note note l)) (sym c.1.2) (lists-event m l (after_note note l) (frame_in_note note) free c.1.0 c.1.1
+    (note-steady l note sorted held.0) h))
 
 held-append : (l : Ledger) (a b : List Note) → AreHeld l a → AreHeld (after_notes l a) b → AreHeld l (a ++ b)
 held-append l [] b x y = y
@@ -240,7 +257,8 @@ held-is l a b e h = subst (AreHeld l) (sym e) h
 
 held-completes : (l : Ledger) (ts : List Slot) (notes : List Note) → Completes l ts notes → AreHeld l notes
 held-completes l [] notes c = held-is l notes [] c tt
-held-completes l (t ∷ ts) notes c = held-is l notes _ c.2 (held-append l (end_notes l t c.0) c.1 (one l c.0 (is_orphan (after_note (end_note c.0 t) l) t)) (held-completes (after_notes l (end_notes l t c.0)) ts c.1 c.3))
+held-completes l (t ∷ ts) notes c = held-is l notes _ c.2 (held-append l (end_notes l t c.0) c.1 (one l c.0 (is_orphan (after_note (end_note c.0 t) l) t))
+    (held-completes (after_notes l (end_notes l t c.0)) ts c.1 c.3))
   where
     one : (l : Ledger) (failed b : Bool) → AreHeld l (end_note failed t ∷ when b (Dropped t))
     one l true true = (tt, (tt, tt))
@@ -249,7 +267,8 @@ held-completes l (t ∷ ts) notes c = held-is l notes _ c.2 (held-append l (end_
     one l false false = (tt, tt)
 
 held-turn : (l : Ledger) (f : ℕ) (t : Slot) (failed : Bool) → 0 < uses l f → AreHeld l (turn_notes l f t failed)
-held-turn l f t failed count = held-append l (unmap_notes l f t) _ (held-append l (when (is_none (slot_of l f)) (Put f t)) _ (put (is_none (slot_of l f))) (unmaps _ (not (map_count l f == 0)))) (writes _ (is_dirty l f t))
+held-turn l f t failed count = held-append l (unmap_notes l f t) _ (held-append l (when (is_none (slot_of l f)) (Put f t)) _ (put (is_none (slot_of l f)))
+    (unmaps _ (not (map_count l f == 0)))) (writes _ (is_dirty l f t))
   where
     put : (b : Bool) → AreHeld l (when b (Put f t))
     put true = (count, tt)
@@ -267,28 +286,34 @@ held-turn l f t failed count = held-append l (unmap_notes l f t) _ (held-append 
     writes l true = (tt, (ends (after_note (Started t) l) failed, tt))
     writes l false = tt
 
-held-turns : (m : Setting) (sp : Spared) (l : Ledger) (fs : List ℕ) (notes : List Note) → IsSound m l → ((r : Slot) → flights l r ≡ 0) → AreReady l fs → Turns m sp l fs notes → AreHeld l notes
+held-turns : (m : Setting) (sp : Spared) (l : Ledger) (fs : List ℕ) (notes : List Note) → IsSound m l → ((r : Slot) → flights l r ≡ 0) → AreReady l fs →
+    Turns m sp l fs notes → AreHeld l notes
 held-turns m sp l [] notes s grounded ready r = held-is l notes [] r tt
 held-turns m sp l (f ∷ fs) notes s grounded ready r = stuck (λ l' ns s' g' r' t'. held-turns m sp l' fs ns s' g' r' t') (is_stuck m sp l f) r
   where
     stuck : ((l' : Ledger) (ns : List Note) → IsSound m l' → ((r : Slot) → flights l' r ≡ 0) → AreReady l' fs → Turns m sp l' fs ns → AreHeld l' ns)
         → (b : Bool) → MatchBool b (Turns m sp l fs notes) ((t : Slot) × (failed : Bool) × IsSlotFor m sp l f t × MatchBool (stays_cached l f t failed)
-        ((rest : List Note) × (notes ≡ turn_notes l f t failed ++ rest) × Turns m sp (after_notes l (turn_notes l f t failed)) fs rest) (notes ≡ turn_notes l f t failed ++ Dropped t ∷ [])) → AreHeld l notes
+        ((rest : List Note) × (notes ≡ turn_notes l f t failed ++ rest) × Turns m sp (after_notes l (turn_notes l f t failed)) fs rest)
+        (notes ≡ turn_notes l f t failed ++ Dropped t ∷ [])) → AreHeld l notes
     stuck again true r = again l notes s grounded (ready-rest l l f fs (λ g other. refl) ready) r
     stuck again false r = goes (stays_cached l f r.0 r.1) r.3
       where
         here : TurnKept m l f r.0 (after_notes l (turn_notes l f r.0 r.1))
         here = turn-kept m sp l f r.0 r.1 s grounded r.2 (ready-first l f fs ready)
 
-        goes : (b : Bool) → MatchBool b ((rest : List Note) × (notes ≡ turn_notes l f r.0 r.1 ++ rest) × Turns m sp (after_notes l (turn_notes l f r.0 r.1)) fs rest) (notes ≡ turn_notes l f r.0 r.1 ++ Dropped r.0 ∷ []) → AreHeld l notes
+        goes : (b : Bool) → MatchBool b ((rest : List Note) × (notes ≡ turn_notes l f r.0 r.1 ++ rest) × Turns m sp (after_notes l (turn_notes l f r.0 r.1)) fs
+            rest) (notes ≡ turn_notes l f r.0 r.1 ++ Dropped r.0 ∷ []) → AreHeld l notes
         goes true q = held-is l notes _ q.1 (held-append l (turn_notes l f r.0 r.1) q.0 (held-turn l f r.0 r.1 (ready-first l f fs ready))
-            (again (after_notes l (turn_notes l f r.0 r.1)) q.0 here.sound here.grounded (ready-rest l (after_notes l (turn_notes l f r.0 r.1)) f fs here.others ready) q.2))
-        goes false q = held-is l notes _ q (held-append l (turn_notes l f r.0 r.1) (Dropped r.0 ∷ []) (held-turn l f r.0 r.1 (ready-first l f fs ready)) (tt, tt))
+            (again (after_notes l (turn_notes l f r.0 r.1)) q.0 here.sound here.grounded
+            (ready-rest l (after_notes l (turn_notes l f r.0 r.1)) f fs here.others ready) q.2))
+        goes false q = held-is l notes _ q (held-append l (turn_notes l f r.0 r.1) (Dropped r.0 ∷ [])
+            (held-turn l f r.0 r.1 (ready-first l f fs ready)) (tt, tt))
 
 held-seeks : (m : Setting) (sp : Spared) (l : Ledger) (notes : List Note) → IsSound m l → Seeks m sp l notes → AreHeld l notes
 held-seeks m sp l notes s r = by (has_free m l) r
   where
-    pass : (b : Bool) (now : Ledger) (ns : List Note) → IsSound m now → ((r : Slot) → flights now r ≡ 0) → MatchBool b (ns ≡ []) (Turns m sp now (frames_in_turn sp now) ns) → AreHeld now ns
+    pass : (b : Bool) (now : Ledger) (ns : List Note) → IsSound m now → ((r : Slot) → flights now r ≡ 0) →
+        MatchBool b (ns ≡ []) (Turns m sp now (frames_in_turn sp now) ns) → AreHeld now ns
     pass true now ns s g q = held-is now ns [] q tt
     pass false now ns s g q = held-turns m sp now (frames_in_turn sp now) ns s g (all-ready m sp now s) q
 
@@ -297,14 +322,18 @@ held-seeks m sp l notes s r = by (has_free m l) r
     by false q =
         let now = after_notes l q.0 in
         let done = completes-kept m l l.flight q.0 s q.3 in
-        held-is l notes (q.0 ++ q.1) q.2 (held-append l q.0 q.1 (held-completes l l.flight q.0 q.3) (pass (has_free m now) now q.1 done.sound (all_landed m l now done) q.4))
+        held-is l notes (q.0 ++ q.1) q.2 (held-append l q.0 q.1 (held-completes l l.flight q.0 q.3)
+        (pass (has_free m now) now q.1 done.sound (all_landed m l now done) q.4))
 
 -- ---- a page
 
-held-takes : (m : Setting) (sp : Spared) (l : Ledger) (notes : List Note) (note : ℕ → Note) → IsSound m l → ((l : Ledger) (f : ℕ) → IsHeld l (note f)) → TakesFor m sp l notes note → AreHeld l notes
-held-takes m sp l notes note s h t = held-is l notes _ t.whole (held-append l t.sought (note t.frame ∷ []) (held-seeks m sp l t.sought s t.seeks) (h (after_notes l t.sought) t.frame, tt))
+held-takes : (m : Setting) (sp : Spared) (l : Ledger) (notes : List Note) (note : ℕ → Note) → IsSound m l → ((l : Ledger) (f : ℕ) → IsHeld l (note f)) →
+    TakesFor m sp l notes note → AreHeld l notes
+held-takes m sp l notes note s h t = held-is l notes _ t.whole (held-append l t.sought (note t.frame ∷ []) (held-seeks m sp l t.sought s t.seeks)
+    (h (after_notes l t.sought) t.frame, tt))
 
-held-comes : (m : Setting) (sp : Sparing) (l : Ledger) (write : Bool) (k : Key) (notes : List Note) → IsSound m l → ComesIn m sp l k (need write l (entry l k)) notes → AreHeld l notes
+held-comes : (m : Setting) (sp : Sparing) (l : Ledger) (write : Bool) (k : Key) (notes : List Note) → IsSound m l →
+    ComesIn m sp l k (need write l (entry l k)) notes → AreHeld l notes
 held-comes m sp l write k notes s h = by write (entry l k) h
   where
     cached : (l : Ledger) (t : Slot) (f : ℕ) → frame_at l t ≡ Some f → 0 < uses l f
@@ -314,7 +343,8 @@ held-comes m sp l write k notes s h = by write (entry l k) h
     none e = held-is l notes [] e tt
 
     slot_in : (t : Slot) (o : Option ℕ) → frame_at l t ≡ o → ComesIn m sp l k (need_of_slot t o) notes → AreHeld l notes
-    slot_in t None is q = held-is l notes _ q.4 (held-append l q.0 _ (held-takes m (sp l None) l q.0 (Loaded t) s (λ l f. tt) q.2) (cached (after_notes l q.0) t q.1 q.3, tt))
+    slot_in t None is q = held-is l notes _ q.4 (held-append l q.0 _ (held-takes m (sp l None) l q.0 (Loaded t) s (λ l f. tt) q.2)
+        (cached (after_notes l q.0) t q.1 q.3, tt))
     slot_in t (Some f) is q = held-is l notes _ q (cached l t f is, tt)
 
     ready : (b : Bool) (g : ℕ) → ComesIn m sp l k (cond b (CopyOnWrite g) Ready) notes → notes ≡ []
@@ -356,7 +386,8 @@ held-drop_at m l write came k = by (entry l k)
     by (Some (InFrame f seen)) = one (slot_of l f)
     by (Some (InSlot t)) = tt
 
-held-touches : (m : Setting) (w : World) (l : Ledger) (write : Bool) (k : Key) (notes : List Note) (end : Option Stop) → IsSound m l → Touches m w l write k notes end → AreHeld l notes
+held-touches : (m : Setting) (w : World) (l : Ledger) (write : Bool) (k : Key) (notes : List Note) (end : Option Stop) → IsSound m l →
+    Touches m w l write k notes end → AreHeld l notes
 held-touches m w l write k notes None s q = serves q.1
   where
     serves : Serves m (sparing w) l write k notes → AreHeld l notes
@@ -365,7 +396,8 @@ held-touches m w l write k notes None s q = serves q.1
         let s1 = comes-kept m (sparing w) l write k h.coming s h.comes_in in
         let l2 = after_notes l (h.coming ++ h.making) in
         held-is l notes _ h.whole (held-append l (h.coming ++ h.making) _
-        (held-append l h.coming h.making (held-comes m (sparing w) l write k h.coming s h.comes_in) (held-made m (sparing w) l1 k (need write l1 (entry l1 k)) h.making s1 h.made))
+        (held-append l h.coming h.making (held-comes m (sparing w) l write k h.coming s h.comes_in)
+        (held-made m (sparing w) l1 k (need write l1 (entry l1 k)) h.making s1 h.made))
         (held-drop_at m l2 write (was_slot (need write l (entry l k))) k))
 held-touches m w l write k notes (Some Denied) s q = held-is l notes [] q.1 tt
 held-touches m w l write k notes (Some (Starved out)) s q = runs_out q.1
@@ -374,8 +406,12 @@ held-touches m w l write k notes (Some (Starved out)) s q = runs_out q.1
     runs_out h = held-is l notes _ h.whole (by h.before)
       where
         by : (h.coming ≡ []) ⊎ ComesIn m (sparing w) l k (need write l (entry l k)) h.coming → AreHeld l (h.coming ++ h.sought)
-        by (inl e) = held-append l h.coming h.sought (held-is l h.coming [] e tt) (held-seeks m (sparing w (after_notes l h.coming) (pinned_by (need write (after_notes l h.coming) (entry (after_notes l h.coming) k)))) (after_notes l h.coming) h.sought (subst (λ ns. IsSound m (after_notes l ns)) (sym e) s) h.finds.seeks)
-        by (inr x) = held-append l h.coming h.sought (held-comes m (sparing w) l write k h.coming s x) (held-seeks m (sparing w (after_notes l h.coming) (pinned_by (need write (after_notes l h.coming) (entry (after_notes l h.coming) k)))) (after_notes l h.coming) h.sought (comes-kept m (sparing w) l write k h.coming s x) h.finds.seeks)
+        by (inl e) = held-append l h.coming h.sought (held-is l h.coming [] e tt)
+            (held-seeks m (sparing w (after_notes l h.coming) (pinned_by (need write (after_notes l h.coming) (entry (after_notes l h.coming) k))))
+            (after_notes l h.coming) h.sought (subst (λ ns. IsSound m (after_notes l ns)) (sym e) s) h.finds.seeks)
+        by (inr x) = held-append l h.coming h.sought (held-comes m (sparing w) l write k h.coming s x)
+            (held-seeks m (sparing w (after_notes l h.coming) (pinned_by (need write (after_notes l h.coming) (entry (after_notes l h.coming) k))))
+            (after_notes l h.coming) h.sought (comes-kept m (sparing w) l write k h.coming s x) h.finds.seeks)
 held-touches m w l write k notes (Some Lost) s q = held-seeks m (sparing w l None) l notes s q.1.seeks
 
 -- ---- a use, and an access
@@ -384,11 +420,14 @@ used-steady : (m : Setting) (l : Ledger) (write : Bool) (k : Key) → IsSound m 
 used-steady m l write k s = by write (entry l k) refl
   where
     seen : (f : ℕ) (was : Bool) → entry l k ≡ Some (InFrame f was) → (g : ℕ) → uses l g ≡ 0 → uses (set_entry k (InFrame f true) l) g ≡ 0
-    seen f was here g gone = let a = ap (λ o. map_count (set_entry k (InFrame f true) l) g + weight (names_frame g) o) (sym here) ∙ map_count-set k (InFrame f true) l g s.in_order in omega (arith, gone, a)
+    seen f was here g gone = let a = ap (λ o. map_count (set_entry k (InFrame f true) l) g + weight (names_frame g) o) (sym here)
+        ∙ map_count-set k (InFrame f true) l g s.in_order in omega (arith, gone, a)
 
-    stale : (f : ℕ) (was : Bool) → entry l k ≡ Some (InFrame f was) → (o : Option Slot) → Steady l (if_some o (with_stale true) (set_entry k (InFrame f true) l)) None
+    stale : (f : ℕ) (was : Bool) → entry l k ≡ Some (InFrame f was) → (o : Option Slot) →
+        Steady l (if_some o (with_stale true) (set_entry k (InFrame f true) l)) None
     stale f was here None = fewer-steady l _ (seen f was here)
-    stale f was here (Some t) = fewer-steady l _ (λ g gone. alike-uses (set_entry k (InFrame f true) l) (with_stale true t (set_entry k (InFrame f true) l)) (alike-with_stale (set_entry k (InFrame f true) l) true t) g ∙ seen f was here g gone)
+    stale f was here (Some t) = fewer-steady l _ (λ g gone. alike-uses (set_entry k (InFrame f true) l) (with_stale true t (set_entry k (InFrame f true) l))
+        (alike-with_stale (set_entry k (InFrame f true) l) true t) g ∙ seen f was here g gone)
 
     by : (write : Bool) (o : Option Entry) → entry l k ≡ o → Steady l (after_use_of write k l o) None
     by write None is = fewer-steady l l (λ g gone. gone)
@@ -401,7 +440,8 @@ page-lists : (m : Setting) (w : World) (l : Ledger) (write : Bool) (k : Key) (no
     (end : Option Stop) (free free' : List ℕ) → IsSound m l → Touches m w l write k notes end
     → ChoosesFrames m l (page_events write k notes end) free free'
     → Lists m l free → Lists m (after_all l (page_events write k notes end)) free'
-page-lists m w l write k notes (Some stop) free free' s q c h = subst (λ x. Lists m x free') (sym (note_events-all l notes)) (notes-lists m l notes free free' s.in_order (held-touches m w l write k notes (Some stop) s q) c h)
+page-lists m w l write k notes (Some stop) free free' s q c h = subst (λ x. Lists m x free') (sym (note_events-all l notes))
+    (notes-lists m l notes free free' s.in_order (held-touches m w l write k notes (Some stop) s q) c h)
 page-lists m w l write k notes None free free' s q c h =
     let p = frames-first m l (note_events notes) (Used write k ∷ []) free free' c in
     let now = after_notes l notes in
@@ -409,7 +449,8 @@ page-lists m w l write k notes None free free' s q c h =
     let last = subst (λ x. ChoosesFrames m x (Used write k ∷ []) p.0 free')
     (note_events-all l notes) p.2 in
     subst (λ x. Lists m x free') (sym (after_all-append l (note_events notes) (Used write k ∷ []) ∙ ap (after_use write k) (note_events-all l notes)))
-    (subst (Lists m (after_use write k now)) (sym (last.2 ∙ last.1.2)) (lists-event m now (after_use write k now) None p.0 last.1.0 last.1.1 (used-steady m now write k (touches-kept m w l write k notes None s q)) first))
+    (subst (Lists m (after_use write k now)) (sym (last.2 ∙ last.1.2))
+    (lists-event m now (after_use write k now) None p.0 last.1.0 last.1.1 (used-steady m now write k (touches-kept m w l write k notes None s q)) first))
 
 accesses-lists : (m : Setting) (w : World) (l : Ledger) (p : ℕ) (ps : List (Bool × ℕ))
     (es : List Event) (end : End) (free free' : List ℕ) → IsSound m l → Accesses m w l p ps es end
@@ -422,7 +463,8 @@ accesses-lists m w l p (page ∷ ps) es end free free' s (inl q) c h =
     (subst (λ es. ChoosesFrames m l es free free') q.3 c) in
     let s1 = page_events-kept m l page.0 (p, page.1) q.0 None (touches-kept m w l page.0 (p, page.1) q.0 None s q.2) in
     let first = page-lists m w l page.0 (p, page.1) q.0 None free both.0 s q.2 both.1 h in
-    subst (λ es. Lists m (after_all l es) free') (sym q.3) (subst (λ x. Lists m x free') (sym (after_all-append l here q.1)) (accesses-lists m w (after_all l here) p ps q.1 end both.0 free' s1 q.4 both.2 first))
+    subst (λ es. Lists m (after_all l es) free') (sym q.3) (subst (λ x. Lists m x free') (sym (after_all-append l here q.1))
+    (accesses-lists m w (after_all l here) p ps q.1 end both.0 free' s1 q.4 both.2 first))
 accesses-lists m w l p (page ∷ ps) es end free free' s (inr q) c h =
     subst (λ es. Lists m (after_all l es) free') (sym q.3)
     (page-lists m w l page.0 (p, page.1) q.0 (Some q.1) free free' s q.2
@@ -431,7 +473,8 @@ accesses-lists m w l p (page ∷ ps) es end free free' s (inr q) c h =
 -- ---- entries taken away
 
 zap-steady : (m : Setting) (l : Ledger) (k : Key) → T (is_sorted key_cmp l.entries) → Steady l (after_zap k l) None
-zap-steady m l k sorted = fewer-steady l _ (λ g gone. let a = map_count-after_zap k l g sorted in let b = ap (how_many (λ (c : Cached). g == c.frame)) (same_swap-after_zap k l).cache in omega (arith, gone, a, b))
+zap-steady m l k sorted = fewer-steady l _ (λ g gone. let a = map_count-after_zap k l g sorted in
+    let b = ap (how_many (λ (c : Cached). g == c.frame)) (same_swap-after_zap k l).cache in omega (arith, gone, a, b))
 
 zap-lists : (m : Setting) (l : Ledger) (k : Key) (free free' : List ℕ) → IsSound m l
     → ChoosesFrames m l (zap_of l k) free free' → Lists m l free
@@ -469,11 +512,13 @@ zaps-lists m l (k ∷ ks) free free' s c h =
 -- no frame comes into use
 fork-steady : (m : Setting) (l : Ledger) (p q : ℕ) → IsSound m l → ((page : ℕ) → entry l (q, page) ≡ None) → Steady l (child_ledger p q l) None
 fork-steady m l p q s none = subst (λ l'. Steady l l' None) (sym (forked-is p q l ∙ put_all-only (copies p q l.entries) l))
-    (fewer-steady l (record l { entries = (put_all (copies p q l.entries) l).entries }) (λ g gone. let a = (frames-grow p q l s.in_order none g).count in let b = (frames-grow p q l s.in_order none g).few in omega (arith, gone, a, b)))
+    (fewer-steady l (record l { entries = (put_all (copies p q l.entries) l).entries }) (λ g gone. let a = (frames-grow p q l s.in_order none g).count in
+    let b = (frames-grow p q l s.in_order none g).few in omega (arith, gone, a, b)))
 
 fork-lists : (m : Setting) (l : Ledger) (p q : ℕ) (free free' : List ℕ) → IsSound m l → ((page : ℕ) → entry l (q, page) ≡ None)
     → ChoosesFrames m l (Forked p q (inheritance l p) ∷ []) free free' → Lists m l free → Lists m (child_ledger p q l) free'
-fork-lists m l p q free free' s none c h = subst (Lists m (child_ledger p q l)) (sym (c.2 ∙ c.1.2)) (lists-event m l (child_ledger p q l) None free c.1.0 c.1.1 (fork-steady m l p q s none) h)
+fork-lists m l p q free free' s none c h = subst (Lists m (child_ledger p q l)) (sym (c.2 ∙ c.1.2))
+    (lists-event m l (child_ledger p q l) None free c.1.0 c.1.1 (fork-steady m l p q s none) h)
 
 -- ---- entries that move
 
@@ -568,7 +613,8 @@ legal-lists m w l command reply es free free' sound legal c h = by (refusal (tes
     follows (AsksEntry p a) fine q = none q.1
     follows Stat fine q = none q.1
 
-    by : (o : Option Errno) → refusal (tests m w l command) ≡ o → MatchOption o (Follows m w l command es reply.answer reply.rows) (λ error. Refuses error es reply.answer reply.rows) → Lists m (after_all l es) free'
+    by : (o : Option Errno) → refusal (tests m w l command) ≡ o → MatchOption o (Follows m w l command es reply.answer reply.rows)
+        (λ error. Refuses error es reply.answer reply.rows) → Lists m (after_all l es) free'
     by None fine q = follows command fine q
     by (Some error) fine q = none q.1
 

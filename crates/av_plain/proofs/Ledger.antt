@@ -30,7 +30,8 @@ same_key-itself k = (eq_by_cmp_equiv keys_total).refl k
 pub entry-set : (k : Key) (e : Entry) (l : Ledger) (q : Key) → entry (set_entry k e l) q ≡ cond (same_key q k) (Some e) (entry l q)
 entry-set k e l q = find-put key_cmp keys_total q k e l.entries
 
-pub map_count-set : (k : Key) (e : Entry) (l : Ledger) (f : ℕ) → T (is_sorted key_cmp l.entries) → map_count (set_entry k e l) f + weight (names_frame f) (entry l k) ≡ map_count l f + cond (names_frame f e) 1 0
+pub map_count-set : (k : Key) (e : Entry) (l : Ledger) (f : ℕ) → T (is_sorted key_cmp l.entries) →
+    map_count (set_entry k e l) f + weight (names_frame f) (entry l k) ≡ map_count l f + cond (names_frame f e) 1 0
 map_count-set k e l f h = count-put keys_total (names_frame f) k e l.entries h
 
 pub is_sorted-set : (k : Key) (e : Entry) (l : Ledger) → T (is_sorted key_cmp l.entries) → T (is_sorted key_cmp (set_entry k e l).entries)
@@ -56,7 +57,8 @@ only_one l f k q d e h few at named at' named' =
           let counted = count-without keys_total (names_frame f) k l.entries h in
           let one : weight (names_frame f) (entry l k) ≡ 1 = rw (at) (ap (λ b. cond b 1 0) named) in
           let found : find key_cmp q rest ≡ Some e =
-          find-where_key key_cmp (λ x. not (same_key k x)) q (λ x t. ap (λ y. not (same_key k y)) (sym (same_key-is q x (ap is_eq t)))) l.entries ∙ ap (λ b. cond (not b) (entry l q) None) is ∙ at' in
+          find-where_key key_cmp (λ x. not (same_key k x)) q (λ x t. ap (λ y. not (same_key k y)) (sym (same_key-is q x (ap is_eq t)))) l.entries
+          ∙ ap (λ b. cond (not b) (entry l q) None) is ∙ at' in
           let more = how_many-found (names_frame f) q rest e found named' in
           absurd (omega (arith, counted, one, more, few))
     ] refl

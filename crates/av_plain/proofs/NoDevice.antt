@@ -111,7 +111,8 @@ no-slots m l none h = record {
 -- ---- a pass has no notes
 
 ungiven : (m : Setting) (closing : Option ℕ) (l : Ledger) (s : Slot) → HasNoDevice m → IsTrue (may_give m closing l s) → ⊥
-ungiven m closing l s none h = by (is_on l s.area) (nat_lt 0 s.page) (nat_lt s.page (size_of m s.area)) (slot_count l s == 0) (is_usable m s) (is_open closing s.area) (has_free_slot m l s.area) small h
+ungiven m closing l s none h = by (is_on l s.area) (nat_lt 0 s.page) (nat_lt s.page (size_of m s.area)) (slot_count l s == 0) (is_usable m s)
+    (is_open closing s.area) (has_free_slot m l s.area) small h
   where
     below : (n : ℕ) → nat_lt n 0 ≡ false
     below n = grind (arith, nat_tests)
@@ -133,8 +134,10 @@ turns-nothing m sp l (f ∷ fs) notes none cache h = by (is_stuck m sp l f) (tur
     for_it s None e q = ungiven m sp.closing l s none q
     for_it s (Some t) e q = cc
 
-    by : (b : Bool) → (Turns m sp l fs notes → notes ≡ []) → MatchBool b (Turns m sp l fs notes) ((s : Slot) × (failed : Bool) × IsSlotFor m sp l f s × MatchBool (stays_cached l f s failed)
-        ((rest : List Note) × (notes ≡ turn_notes l f s failed ++ rest) × Turns m sp (after_notes l (turn_notes l f s failed)) fs rest) (notes ≡ turn_notes l f s failed ++ Dropped s ∷ [])) → notes ≡ []
+    by : (b : Bool) → (Turns m sp l fs notes → notes ≡ []) → MatchBool b (Turns m sp l fs notes)
+        ((s : Slot) × (failed : Bool) × IsSlotFor m sp l f s × MatchBool (stays_cached l f s failed)
+        ((rest : List Note) × (notes ≡ turn_notes l f s failed ++ rest) × Turns m sp (after_notes l (turn_notes l f s failed)) fs rest)
+        (notes ≡ turn_notes l f s failed ++ Dropped s ∷ [])) → notes ≡ []
     by true rest q = rest q
     by false rest q = absurd (for_it q.0 (slot_of l f) (no_slot l f cache) q.2)
 
@@ -145,9 +148,11 @@ seeks-nothing m sp l notes none h s = by (has_free m l) s
     completed [] ns e c = c
     completed (t ∷ ts) ns e c = cc
 
-    turned : (b : Bool) (done turns : List Note) → done ≡ [] → MatchBool b (turns ≡ []) (Turns m sp (after_notes l done) (frames_in_turn sp (after_notes l done)) turns) → turns ≡ []
+    turned : (b : Bool) (done turns : List Note) → done ≡ [] → MatchBool b (turns ≡ [])
+        (Turns m sp (after_notes l done) (frames_in_turn sp (after_notes l done)) turns) → turns ≡ []
     turned true done turns e q = q
-    turned false done turns e q = turns-nothing m sp (after_notes l done) (frames_in_turn sp (after_notes l done)) turns none (ap (λ ns. (after_notes l ns).cache) e ∙ h.cache) q
+    turned false done turns e q = turns-nothing m sp (after_notes l done) (frames_in_turn sp (after_notes l done)) turns none
+        (ap (λ ns. (after_notes l ns).cache) e ∙ h.cache) q
 
     by : (b : Bool) → MatchBool b (notes ≡ []) (IsPass m sp l notes) → notes ≡ []
     by true q = q
@@ -213,13 +218,16 @@ nothing-comes m sp l k (CopyOnWrite g) notes p h = h
 nothing-comes m sp l k (SwapIn s) notes p h = absurd p
 nothing-comes m sp l k (MapCached f) notes p h = absurd p
 
-made-plain : (m : Setting) (sp : Sparing) (l : Ledger) (k : Key) (n : Need) (notes : List Note) → HasNoDevice m → HasNoSlots l → IsMade m sp l k n notes → ArePlainAt m k notes
+made-plain : (m : Setting) (sp : Sparing) (l : Ledger) (k : Key) (n : Need) (notes : List Note) → HasNoDevice m → HasNoSlots l →
+    IsMade m sp l k n notes → ArePlainAt m k notes
 made-plain m sp l k Ready notes none q h = subst (ArePlainAt m k) (sym h) tt
 made-plain m sp l k ZeroPage notes none q h = subst (ArePlainAt m k) (sym h) ((refl, refl), tt)
 made-plain m sp l k NewPage notes none q h =
-    subst (ArePlainAt m k) (sym (h.whole ∙ ap (λ ns. ns ++ New k.0 (address_of k.1) h.frame ∷ []) (seeks-nothing m (sp l None) l h.sought none q h.seeks))) ((refl, refl, h.in_range), tt)
+    subst (ArePlainAt m k) (sym (h.whole ∙ ap (λ ns. ns ++ New k.0 (address_of k.1) h.frame ∷ []) (seeks-nothing m (sp l None) l h.sought none q h.seeks)))
+    ((refl, refl, h.in_range), tt)
 made-plain m sp l k (CopyOnWrite g) notes none q h =
-    subst (ArePlainAt m k) (sym (h.whole ∙ ap (λ ns. ns ++ Copied k.0 (address_of k.1) h.frame ∷ []) (seeks-nothing m (sp l (Some g)) l h.sought none q h.seeks))) ((refl, refl, h.in_range), tt)
+    subst (ArePlainAt m k) (sym (h.whole ∙ ap (λ ns. ns ++ Copied k.0 (address_of k.1) h.frame ∷ [])
+    (seeks-nothing m (sp l (Some g)) l h.sought none q h.seeks))) ((refl, refl, h.in_range), tt)
 made-plain m sp l k (SwapIn s) notes none q h = absurd h
 made-plain m sp l k (MapCached f) notes none q h = absurd h
 
@@ -260,7 +268,8 @@ IsKept (Some Lost) = ⊥
 
 none-counted : (test : ℕ → Bool) (xs : List ℕ) → ((x : ℕ) → test x ≡ false) → how_many test xs ≡ 0
 none-counted test [] h = refl
-none-counted test (x ∷ xs) h = let a : ◌≡◌ {A = ℕ} (cond (test x) 1 0) 0 = ap (λ b. cond b 1 0) (h x) in let rest = none-counted test xs h in omega (arith, a, rest)
+none-counted test (x ∷ xs) h = let a : ◌≡◌ {A = ℕ} (cond (test x) 1 0) 0 = ap (λ b. cond b 1 0) (h x) in
+    let rest = none-counted test xs h in omega (arith, a, rest)
 
 -- where nothing is cached, no frame is counted as cached
 none-cached : (m : Setting) (sp : Spared) (l : Ledger) → l.cache ≡ [] → how_many_others m sp (λ f. is_some (slot_of l f)) ≡ 0
@@ -271,7 +280,8 @@ none-cached m sp l cache = none-counted (λ f. not (sp.frame f) && is_some (slot
     and_false true = refl
     and_false false = refl
 
-serves-plain : (m : Setting) (sp : Sparing) (l : Ledger) (write : Bool) (k : Key) (notes : List Note) → HasNoDevice m → HasNoSlots l → Serves m sp l write k notes → ArePlainAt m k notes
+serves-plain : (m : Setting) (sp : Sparing) (l : Ledger) (write : Bool) (k : Key) (notes : List Note) → HasNoDevice m → HasNoSlots l →
+    Serves m sp l write k notes → ArePlainAt m k notes
 serves-plain m sp l write k notes none q h =
     let e = nothing-comes m sp l k (need write l (entry l k)) h.coming (plain-need l write k q) h.comes_in in
     let made = subst (λ ns. IsMade m sp (after_notes l ns) k (need write (after_notes l ns) (entry (after_notes l ns) k)) h.making) e h.made in
@@ -283,7 +293,8 @@ serves-plain m sp l write k notes none q h =
     ∙ ap (λ ns. h.making ++ ns) (nothing-dropped m write (was_slot (need write l (entry l k))) now k clean) ∙ append-nil h.making in
     subst (ArePlainAt m k) (sym all) plain
 
-runs_out-nothing : (m : Setting) (sp : Sparing) (l : Ledger) (write : Bool) (k : Key) (notes : List Note) {out : OutOf} → HasNoDevice m → HasNoSlots l → RunsOut m sp l write k notes out → notes ≡ []
+runs_out-nothing : (m : Setting) (sp : Sparing) (l : Ledger) (write : Bool) (k : Key) (notes : List Note) {out : OutOf} → HasNoDevice m → HasNoSlots l →
+    RunsOut m sp l write k notes out → notes ≡ []
 runs_out-nothing m sp l write k notes none q h =
     let e = before h.before in
     h.whole ∙ ap (λ ns. ns ++ h.sought) e
@@ -294,12 +305,15 @@ runs_out-nothing m sp l write k notes none q h =
     before (inr c) = nothing-comes m sp l k (need write l (entry l k)) h.coming (plain-need l write k q) c
 
 -- and its numbers are those of frames that aren't cached
-starved-uncached : (m : Setting) (sp : Sparing) (l : Ledger) (write : Bool) (k : Key) (notes : List Note) {out : OutOf} → HasNoDevice m → HasNoSlots l → RunsOut m sp l write k notes out → out.fault ≡ 0
+starved-uncached : (m : Setting) (sp : Sparing) (l : Ledger) (write : Bool) (k : Key) (notes : List Note) {out : OutOf} → HasNoDevice m → HasNoSlots l →
+    RunsOut m sp l write k notes out → out.fault ≡ 0
 starved-uncached m sp l write k notes none q h =
     let e = coming_none h.before in
     let sought_none = seeks-nothing m _ (after_notes l h.coming) h.sought none (subst (λ ns. HasNoSlots (after_notes l ns)) (sym e) q) h.finds.seeks in
     ap (λ (o : OutOf). o.fault) h.finds.numbers
-    ∙ none-cached m (sp (after_notes l h.coming) (pinned_by (need write (after_notes l h.coming) (entry (after_notes l h.coming) k)))) (after_notes (after_notes l h.coming) h.sought) (ap (λ ns. (after_notes (after_notes l h.coming) ns).cache) sought_none ∙ ap (λ ns. (after_notes l ns).cache) e ∙ q.cache)
+    ∙ none-cached m (sp (after_notes l h.coming) (pinned_by (need write (after_notes l h.coming) (entry (after_notes l h.coming) k))))
+    (after_notes (after_notes l h.coming) h.sought) (ap (λ ns. (after_notes (after_notes l h.coming) ns).cache) sought_none
+    ∙ ap (λ ns. (after_notes l ns).cache) e ∙ q.cache)
   where
     coming_none : (h.coming ≡ []) ⊎ ComesIn m sp l k (need write l (entry l k)) h.coming → h.coming ≡ []
     coming_none (inl e) = e
@@ -311,7 +325,8 @@ pub record PlainPage (m : Setting) (w : World) (k : Key) (notes : List Note) (st
   pub mapped : (notes ≡ []) ⊎ (is_some (pages w k.0 k.1) ≡ true)
   pub kept : IsKept stop
 
-pub touches-plain : (m : Setting) (w : World) (l : Ledger) (write : Bool) (k : Key) (notes : List Note) (stop : Option Stop) → HasNoDevice m → HasNoSlots l → Touches m w l write k notes stop → PlainPage m w k notes stop
+pub touches-plain : (m : Setting) (w : World) (l : Ledger) (write : Bool) (k : Key) (notes : List Note) (stop : Option Stop) → HasNoDevice m → HasNoSlots l →
+    Touches m w l write k notes stop → PlainPage m w k notes stop
 touches-plain m w l write k notes stop none q = by stop
   where
     mapped : (o : Option Page) → IsTrue (permits write o) → is_some o ≡ true
@@ -319,9 +334,14 @@ touches-plain m w l write k notes stop none q = by stop
     mapped (Some page) h = refl
 
     by : (stop : Option Stop) → Touches m w l write k notes stop → PlainPage m w k notes stop
-    by None (allowed, served) = record { plain = serves-plain m (sparing w) l write k notes none q served; mapped = inr (mapped (pages w k.0 k.1) allowed); kept = tt }
+    by None (allowed, served) = record {
+      plain = serves-plain m (sparing w) l write k notes none q served;
+      mapped = inr (mapped (pages w k.0 k.1) allowed);
+      kept = tt;
+    }
     by (Some Denied) (denied, e) = record { plain = subst (ArePlainAt m k) (sym e) tt; mapped = inl e; kept = tt }
-    by (Some (Starved out)) (allowed, h) = let e = runs_out-nothing m (sparing w) l write k notes none q h in record { plain = subst (ArePlainAt m k) (sym e) tt; mapped = inl e; kept = starved-uncached m (sparing w) l write k notes none q h }
+    by (Some (Starved out)) (allowed, h) = let e = runs_out-nothing m (sparing w) l write k notes none q h in
+        record { plain = subst (ArePlainAt m k) (sym e) tt; mapped = inl e; kept = starved-uncached m (sparing w) l write k notes none q h }
     by (Some Lost) (allowed, h) = absurd (subst IsPlain h.absent (plain-need l write k q))
 
 -- ---- an access
@@ -347,15 +367,20 @@ all-by P Q f (note ∷ notes) h = (f note h.0, all-by P Q f notes h.1)
 pub accesses-plain : (P : Note → Type 0) (m : Setting) (w : World) (p : ℕ) → HasNoDevice m
     → ((page : ℕ) (note : Note) → is_some (pages w p page) ≡ true → IsPlainAt m (p, page) note → P note)
     → (l : Ledger) (pages : List (Bool × ℕ)) (events : List Event) (end : End) → InAreas m l → Accesses m w l p pages events end → PlainAccess P events end
-accesses-plain P m w p none each l [] events end s h = record { notes = subst (λ es. AllByRecursion P (notes_of es)) (sym h.0) tt; ends = subst Ends (sym h.1) tt }
+accesses-plain P m w p none each l [] events end s h = record {
+  notes = subst (λ es. AllByRecursion P (notes_of es)) (sym h.0) tt;
+  ends = subst Ends (sym h.1) tt;
+}
 accesses-plain P m w p none each l (page ∷ rest) events end s (inl h) =
     let here = page_events page.0 (p, page.1) h.0 None in
     let t = touches-plain m w l page.0 (p, page.1) h.0 None none (no-slots m l none s) h.2 in
     let s' = accesses-in m w l p (page ∷ []) here Whole s (inl (h.0, [], h.2, sym (append-nil here), (refl, refl))) in
     let more = accesses-plain P m w p none each (after_all l here) rest h.1 end s' h.4 in
     record {
-      notes = subst (λ es. AllByRecursion P (notes_of es)) (sym h.3) (subst (AllByRecursion P) (sym (notes_of-append here h.1)) (all-append P (notes_of here) (notes_of h.1)
-          (subst (AllByRecursion P) (sym (notes_of-append (note_events h.0) (Used page.0 (p, page.1) ∷ []) ∙ append-nil (notes_of (note_events h.0)) ∙ notes_of-note_events h.0)) (all_at page.1 h.0 t.plain t.mapped)) more.notes));
+      notes = subst (λ es. AllByRecursion P (notes_of es)) (sym h.3)
+          (subst (AllByRecursion P) (sym (notes_of-append here h.1)) (all-append P (notes_of here) (notes_of h.1)
+          (subst (AllByRecursion P) (sym (notes_of-append (note_events h.0) (Used page.0 (p, page.1) ∷ []) ∙ append-nil (notes_of (note_events h.0))
+          ∙ notes_of-note_events h.0)) (all_at page.1 h.0 t.plain t.mapped)) more.notes));
       ends = more.ends;
     }
   where
@@ -364,7 +389,11 @@ accesses-plain P m w p none each l (page ∷ rest) events end s (inl h) =
     all_at page notes a (inr is) = all-by (IsPlainAt m (p, page)) P (λ note. each page note is) notes a
 accesses-plain P m w p none each l (page ∷ rest) events end s (inr h) =
     let t = touches-plain m w l page.0 (p, page.1) h.0 (Some h.1) none (no-slots m l none s) h.2 in
-    record { notes = subst (λ es. AllByRecursion P (notes_of es)) (sym h.3) (subst (AllByRecursion P) (sym (notes_of-note_events h.0)) (all_at page.1 h.0 t.plain t.mapped)); ends = subst Ends (sym h.4) t.kept }
+    record {
+      notes = subst (λ es. AllByRecursion P (notes_of es)) (sym h.3)
+          (subst (AllByRecursion P) (sym (notes_of-note_events h.0)) (all_at page.1 h.0 t.plain t.mapped));
+      ends = subst Ends (sym h.4) t.kept;
+    }
   where
     all_at : (page : ℕ) (notes : List Note) → ArePlainAt m (p, page) notes → (notes ≡ []) ⊎ (is_some (pages w p page) ≡ true) → AllByRecursion P notes
     all_at page notes a (inl e) = subst (AllByRecursion P) (sym e) tt
@@ -476,11 +505,22 @@ entry-faultless l (Some Zero) = record { told = refl; failed = refl }
 entry-faultless l (Some (InFrame f seen)) = record { told = refl; failed = refl }
 entry-faultless l (Some (InSlot s)) = record { told = refl; failed = refl }
 
-follows-faultless : (m : Setting) (w : World) (l : Ledger) (command : Command) (events : List Event) (answer : Answer) (rows : List Row) → HasNoDevice m → InAreas m l → Follows m w l command events answer rows → Faultless events answer
-follows-faultless m w l (Spawn p) events answer rows none s h = record { notes = ap (λ es. fails (notes_of es)) h.1; answered = is-faultless answer _ h.0 (record { told = refl; failed = refl }) }
-follows-faultless m w l (Fork p q) events answer rows none s h = record { notes = ap (λ es. fails (notes_of es)) h.1; answered = is-faultless answer _ h.0 (record { told = refl; failed = refl }) }
-follows-faultless m w l (Exit p) events answer rows none s h = record { notes = ap (λ es. fails (notes_of es)) h.1 ∙ ap fails (no-zap-notes m l (keys_of_process l p) none s); answered = is-faultless answer _ h.0 (record { told = refl; failed = refl }) }
-follows-faultless m w l (Mmap p len prot place) events answer rows none s h = record { notes = ap (λ es. fails (notes_of es)) h.3 ∙ ap fails (no-place-notes place); answered = by h.0 h.2 }
+follows-faultless : (m : Setting) (w : World) (l : Ledger) (command : Command) (events : List Event) (answer : Answer) (rows : List Row) → HasNoDevice m →
+    InAreas m l → Follows m w l command events answer rows → Faultless events answer
+follows-faultless m w l (Spawn p) events answer rows none s h = record {
+  notes = ap (λ es. fails (notes_of es)) h.1;
+  answered = is-faultless answer _ h.0
+      (record { told = refl; failed = refl });
+}
+follows-faultless m w l (Fork p q) events answer rows none s h =
+    record { notes = ap (λ es. fails (notes_of es)) h.1; answered = is-faultless answer _ h.0 (record { told = refl; failed = refl }) }
+follows-faultless m w l (Exit p) events answer rows none s h = record {
+  notes = ap (λ es. fails (notes_of es)) h.1 ∙ ap fails (no-zap-notes m l (keys_of_process l p) none s);
+  answered =
+      is-faultless answer _ h.0 (record { told = refl; failed = refl });
+}
+follows-faultless m w l (Mmap p len prot place) events answer rows none s h =
+    record { notes = ap (λ es. fails (notes_of es)) h.3 ∙ ap fails (no-place-notes place); answered = by h.0 h.2 }
   where
     by : (to : Option ℕ) → IsMapAt answer to → IsFaultless answer
     by None e = is-faultless answer _ e (record { told = refl; failed = refl })
@@ -491,8 +531,17 @@ follows-faultless m w l (Mmap p len prot place) events answer rows none s h = re
     no-place-notes (At a) = refl
     no-place-notes (Fixed a) = no-zap-notes m l (keys_in l p (page_of a) (pages_of len)) none s
     no-place-notes (NoReplace a) = refl
-follows-faultless m w l (Munmap p a len) events answer rows none s h = record { notes = ap (λ es. fails (notes_of es)) h.1 ∙ ap fails (no-zap-notes m l (keys_in l p (page_of a) (pages_of len)) none s); answered = is-faultless answer _ h.0 (record { told = refl; failed = refl }) }
-follows-faultless m w l (Mprotect p a len prot) events answer rows none s h = record { notes = ap (λ es. fails (notes_of es)) h.1; answered = is-faultless answer _ h.0 (by (pages_to_hole (pages w p) (page_of a) (pages_of len) == pages_of len)) }
+follows-faultless m w l (Munmap p a len) events answer rows none s h =
+    record {
+      notes = ap (λ es. fails (notes_of es)) h.1 ∙ ap fails (no-zap-notes m l (keys_in l p (page_of a) (pages_of len)) none s);
+      answered = is-faultless answer _ h.0 (record { told = refl; failed = refl });
+    }
+follows-faultless m w l (Mprotect p a len prot) events answer rows none s h =
+    record {
+      notes = ap (λ es. fails (notes_of es)) h.1;
+      answered = is-faultless answer _ h.0
+          (by (pages_to_hole (pages w p) (page_of a) (pages_of len) == pages_of len));
+    }
   where
     by : (b : Bool) → IsFaultless (if b then Done else Refused Enomem)
     by true = record { told = refl; failed = refl }
@@ -508,16 +557,29 @@ follows-faultless m w l (Mremap p a old new mode) events answer rows none s h = 
     quiet None = refl
     quiet (Some to) = ap fails (no-remap-notes m l p (page_of a) (pages_of old) to (pages_of new) none s)
 follows-faultless m w l (Read p a n) events answer rows none s h =
-    let plain = accesses-plain (λ note. is_fail note ≡ false) m w p none (λ page note is. plain-fails m (p, page) note) l (pages_of_access false a n) events h.0 s h.2 in
+    let plain = accesses-plain (λ note. is_fail note ≡ false) m w p none (λ page note is. plain-fails m (p, page) note) l
+    (pages_of_access false a n) events h.0 s h.2 in
     record { notes = no-fails (notes_of events) plain.notes; answered = is-faultless answer _ h.4 (read-faultless a h.0 h.1 plain.ends) }
 follows-faultless m w l (Write p a bytes) events answer rows none s h =
-    let plain = accesses-plain (λ note. is_fail note ≡ false) m w p none (λ page note is. plain-fails m (p, page) note) l (pages_of_access true a (length bytes)) events h.0 s h.1 in
+    let plain = accesses-plain (λ note. is_fail note ≡ false) m w p none (λ page note is. plain-fails m (p, page) note) l
+    (pages_of_access true a (length bytes)) events h.0 s h.1 in
     record { notes = no-fails (notes_of events) plain.notes; answered = is-faultless answer _ h.2 (write-faultless a h.0 plain.ends) }
-follows-faultless m w l (Maps p) events answer rows none s h = record { notes = ap (λ es. fails (notes_of es)) h.2; answered = is-faultless answer _ h.0 (record { told = refl; failed = refl }) }
-follows-faultless m w l (AsksAreas p) events answer rows none s h = record { notes = ap (λ es. fails (notes_of es)) h.2; answered = is-faultless answer _ h.0 (record { told = refl; failed = refl }) }
-follows-faultless m w l (AsksRmap p a) events answer rows none s h = record { notes = ap (λ es. fails (notes_of es)) h.1; answered = is-faultless answer _ h.0 (walk-faultless l (entry l (p, page_of a))) }
-follows-faultless m w l (AsksEntry p a) events answer rows none s h = record { notes = ap (λ es. fails (notes_of es)) h.1; answered = is-faultless answer _ h.0 (entry-faultless l (entry l (p, page_of a))) }
-follows-faultless m w l Stat events answer rows none s h = record { notes = ap (λ es. fails (notes_of es)) h.1; answered = is-faultless answer _ h.0 (record { told = refl; failed = refl }) }
+follows-faultless m w l (Maps p) events answer rows none s h = record {
+  notes = ap (λ es. fails (notes_of es)) h.2;
+  answered = is-faultless answer _ h.0
+      (record { told = refl; failed = refl });
+}
+follows-faultless m w l (AsksAreas p) events answer rows none s h =
+    record { notes = ap (λ es. fails (notes_of es)) h.2; answered = is-faultless answer _ h.0 (record { told = refl; failed = refl }) }
+follows-faultless m w l (AsksRmap p a) events answer rows none s h =
+    record { notes = ap (λ es. fails (notes_of es)) h.1; answered = is-faultless answer _ h.0 (walk-faultless l (entry l (p, page_of a))) }
+follows-faultless m w l (AsksEntry p a) events answer rows none s h =
+    record { notes = ap (λ es. fails (notes_of es)) h.1; answered = is-faultless answer _ h.0 (entry-faultless l (entry l (p, page_of a))) }
+follows-faultless m w l Stat events answer rows none s h = record {
+  notes = ap (λ es. fails (notes_of es)) h.1;
+  answered = is-faultless answer _ h.0
+      (record { told = refl; failed = refl });
+}
 
 -- no test leads to EIO
 abbrev AreMild : Tests → Type 0
@@ -527,7 +589,8 @@ mild-refusal : (ts : Tests) (error : Errno) → AreMild ts → refusal ts ≡ So
 mild-refusal [] error h e = cc
 mild-refusal (t ∷ ts) error h e = by t.0 e (mild-refusal ts error h.1)
   where
-    by : (b : Bool) → (if b then Some t.1 else refusal ts) ≡ Some error → (refusal ts ≡ Some error → fault_answers (Refused error) ≡ 0) → fault_answers (Refused error) ≡ 0
+    by : (b : Bool) → (if b then Some t.1 else refusal ts) ≡ Some error → (refusal ts ≡ Some error → fault_answers (Refused error) ≡ 0) →
+        fault_answers (Refused error) ≡ 0
     by true e rest = ap (λ o. fault_answers (Refused (unwrap_or o Eperm))) (sym e) ∙ h.0
     by false e rest = rest e
 
@@ -553,7 +616,8 @@ tests-mild m w l Stat = tt
 pub in-areas : (m : Setting) (w : World) (l : Ledger) → AllSound m w l → InAreas m l
 in-areas m w l s = record { sound = s.ledger; there = s.in_areas; fits = s.areas_fit }
 
-pub no-causes : (m : Setting) (w : World) (l : Ledger) (command : Command) (reply : Reply) (events : List Event) → HasNoDevice m → AllSound m w l → IsLegal m w l command reply events → causes reply ≡ 0
+pub no-causes : (m : Setting) (w : World) (l : Ledger) (command : Command) (reply : Reply) (events : List Event) → HasNoDevice m → AllSound m w l →
+    IsLegal m w l command reply events → causes reply ≡ 0
 no-causes m w l command reply events none s legal =
     let f = by (refusal (tests m w l command)) refl legal.answer in
     let a = ap fails legal.notes ∙ f.notes in
@@ -561,6 +625,11 @@ no-causes m w l command reply events none s legal =
     let c = f.answered.failed in
     grind (arith, a, b, c)
   where
-    by : (o : Option Errno) → refusal (tests m w l command) ≡ o → MatchOption o (Follows m w l command events reply.answer reply.rows) (λ error. Refuses error events reply.answer reply.rows) → Faultless events reply.answer
+    by : (o : Option Errno) → refusal (tests m w l command) ≡ o → MatchOption o (Follows m w l command events reply.answer reply.rows)
+        (λ error. Refuses error events reply.answer reply.rows) → Faultless events reply.answer
     by None is h = follows-faultless m w l command events reply.answer reply.rows none (in-areas m w l s) h
-    by (Some error) is h = record { notes = ap (λ es. fails (notes_of es)) h.1; answered = is-faultless reply.answer _ h.0 (record { told = mild-refusal (tests m w l command) error (tests-mild m w l command) is; failed = refl }) }
+    by (Some error) is h = record {
+      notes = ap (λ es. fails (notes_of es)) h.1;
+      answered = is-faultless reply.answer _ h.0
+          (record { told = mild-refusal (tests m w l command) error (tests-mild m w l command) is; failed = refl });
+    }

@@ -16,14 +16,17 @@ pub record HasNoSwap (l : Ledger) : Type 0 where
   pub on : l.on ≡ []
 
 stuck : (m : Setting) (sp : Spared) (l : Ledger) (f : ℕ) → HasNoSwap l → is_stuck m sp l f ≡ true
-stuck m sp l f h = λ i. is_none (option_map (λ (c : Cached). c.slot) (cached_by (λ c. f == c.frame) (h.cache i))) && list_all (λ a. not (is_open sp.closing a.0) || free_slots m l a == 0) (h.on i)
+stuck m sp l f h = λ i. is_none (option_map (λ (c : Cached). c.slot) (cached_by (λ c. f == c.frame) (h.cache i))) && list_all
+    (λ a. not (is_open sp.closing a.0) || free_slots m l a == 0) (h.on i)
 
 turns-none : (m : Setting) (sp : Spared) (l : Ledger) (fs : List ℕ) (notes : List Note) → HasNoSwap l → Turns m sp l fs notes → notes ≡ []
 turns-none m sp l [] notes h t = t
 turns-none m sp l (f ∷ fs) notes h t = by (is_stuck m sp l f) (stuck m sp l f h) (turns-none m sp l fs notes h) t
   where
-    by : (b : Bool) → b ≡ true → (Turns m sp l fs notes → notes ≡ []) → MatchBool b (Turns m sp l fs notes) ((s : Slot) × (failed : Bool) × IsSlotFor m sp l f s × MatchBool (stays_cached l f s failed)
-        ((rest : List Note) × (notes ≡ turn_notes l f s failed ++ rest) × Turns m sp (after_notes l (turn_notes l f s failed)) fs rest) (notes ≡ turn_notes l f s failed ++ Dropped s ∷ [])) → notes ≡ []
+    by : (b : Bool) → b ≡ true → (Turns m sp l fs notes → notes ≡ []) →
+        MatchBool b (Turns m sp l fs notes) ((s : Slot) × (failed : Bool) × IsSlotFor m sp l f s × MatchBool (stays_cached l f s failed)
+        ((rest : List Note) × (notes ≡ turn_notes l f s failed ++ rest) × Turns m sp (after_notes l (turn_notes l f s failed)) fs rest)
+        (notes ≡ turn_notes l f s failed ++ Dropped s ∷ [])) → notes ≡ []
     by true is rest q = rest q
     by false is rest q = cc
 
@@ -31,8 +34,10 @@ none-turns : (m : Setting) (sp : Spared) (l : Ledger) (fs : List ℕ) → HasNoS
 none-turns m sp l [] h = refl
 none-turns m sp l (f ∷ fs) h = by (is_stuck m sp l f) (stuck m sp l f h) (none-turns m sp l fs h)
   where
-    by : (b : Bool) → b ≡ true → Turns m sp l fs [] → MatchBool b (Turns m sp l fs []) ((s : Slot) × (failed : Bool) × IsSlotFor m sp l f s × MatchBool (stays_cached l f s failed)
-        ((rest : List Note) × ([] ≡ turn_notes l f s failed ++ rest) × Turns m sp (after_notes l (turn_notes l f s failed)) fs rest) ([] ≡ turn_notes l f s failed ++ Dropped s ∷ []))
+    by : (b : Bool) → b ≡ true → Turns m sp l fs [] → MatchBool b (Turns m sp l fs [])
+        ((s : Slot) × (failed : Bool) × IsSlotFor m sp l f s × MatchBool (stays_cached l f s failed)
+        ((rest : List Note) × ([] ≡ turn_notes l f s failed ++ rest) × Turns m sp (after_notes l (turn_notes l f s failed)) fs rest)
+        ([] ≡ turn_notes l f s failed ++ Dropped s ∷ []))
     by true is rest = rest
     by false is rest = cc
 
@@ -72,5 +77,6 @@ none-seeks m sp l h = by (has_free m l) refl
     by false is = ([], [], refl, completed l.flight h.flight, turned (has_free m l))
 
 -- a note that takes a frame stands alone then
-pub takes-alone : (m : Setting) (sp : Spared) (l : Ledger) (f : ℕ) (note : ℕ → Note) → HasNoSwap l → f < m.frames → is_free l f ≡ true → TakesFor m sp l (note f ∷ []) note
+pub takes-alone : (m : Setting) (sp : Spared) (l : Ledger) (f : ℕ) (note : ℕ → Note) → HasNoSwap l → f < m.frames → is_free l f ≡ true →
+    TakesFor m sp l (note f ∷ []) note
 takes-alone m sp l f note h below free = record { sought = []; frame = f; seeks = none-seeks m sp l h; in_range = below; free = free; whole = refl }

@@ -39,7 +39,8 @@ pub loads-none : (m : Setting) (w : World) (l : Ledger) (events : List Event) �
 loads-none m w l events none = ap (with_loads m w l) none ∙ elim (is_some m.headers) as (λ b. (if b then w else w) ≡ w) [ true ↦ refl | false ↦ refl ]
 
 -- an mprotect is refused with ENOMEM by its tests only where its pages do not end below 2^64
-wraps-told : (m : Setting) (w : World) (l : Ledger) (p a len : ℕ) (prot : Prot) → refusal (tests m w l (Mprotect p a len prot)) ≡ Some Enomem → wraps a len ≡ true
+wraps-told : (m : Setting) (w : World) (l : Ledger) (p a len : ℕ) (prot : Prot) →
+    refusal (tests m w l (Mprotect p a len prot)) ≡ Some Enomem → wraps a len ≡ true
 wraps-told m w l p a len prot is = by (lives w p) (is_on_page a) (wraps a len) is
   where
     by : (b c d : Bool) → cond (not b) (Some Esrch) (cond (not c) (Some Einval) (cond d (Some Enomem) None)) ≡ Some Enomem → d ≡ true
@@ -103,13 +104,15 @@ first-mapped q from n k mode h = by (is_in_place mode n k) (q from) h
     by b (Some x) h = refl
 
 -- a command that is refused by its tests leaves any memories as they are
-pub refused-next : (m : Setting) (w now : World) (l : Ledger) (command : Command) (error : Errno) → refusal (tests m w l command) ≡ Some error → next now command (Refused error) ≡ now
+pub refused-next : (m : Setting) (w now : World) (l : Ledger) (command : Command) (error : Errno) → refusal (tests m w l command) ≡ Some error →
+    next now command (Refused error) ≡ now
 refused-next m w now l (Spawn p) error is = refl
 refused-next m w now l (Fork p q) error is = refl
 refused-next m w now l (Exit p) error is = refl
 refused-next m w now l (Mmap p len prot place) error is = refl
 refused-next m w now l (Munmap p a len) error is = refl
-refused-next m w now l (Mprotect p a len prot) Enomem is = ap (λ b. if b then now else with_prot_to_hole now p (page_of a) (pages_of len) prot) (wraps-told m w l p a len prot is)
+refused-next m w now l (Mprotect p a len prot) Enomem is = ap (λ b. if b then now else with_prot_to_hole now p (page_of a) (pages_of len) prot)
+    (wraps-told m w l p a len prot is)
 refused-next m w now l (Mprotect p a len prot) Eperm is = refl
 refused-next m w now l (Mprotect p a len prot) Esrch is = refl
 refused-next m w now l (Mprotect p a len prot) Eio is = refl
@@ -128,13 +131,15 @@ refused-next m w now l (AsksEntry p a) error is = refl
 refused-next m w now l Stat error is = refl
 
 -- and the areas
-pub refused-areas : (m : Setting) (w : World) (l : Ledger) (long : Lengths) (on : Areas) (command : Command) (error : Errno) → refusal (tests m w l command) ≡ Some error → next_areas long on w command (Refused error) ≡ on
+pub refused-areas : (m : Setting) (w : World) (l : Ledger) (long : Lengths) (on : Areas) (command : Command) (error : Errno) →
+    refusal (tests m w l command) ≡ Some error → next_areas long on w command (Refused error) ≡ on
 refused-areas m w l long on (Spawn p) error is = refl
 refused-areas m w l long on (Fork p q) error is = refl
 refused-areas m w l long on (Exit p) error is = refl
 refused-areas m w l long on (Mmap p len prot place) error is = refl
 refused-areas m w l long on (Munmap p a len) error is = refl
-refused-areas m w l long on (Mprotect p a len prot) Enomem is = ap (λ b. if b then on else with_at p (areas_to_hole long w p (page_of a) (pages_of len) prot (on p)) on) (wraps-told m w l p a len prot is)
+refused-areas m w l long on (Mprotect p a len prot) Enomem is = ap
+    (λ b. if b then on else with_at p (areas_to_hole long w p (page_of a) (pages_of len) prot (on p)) on) (wraps-told m w l p a len prot is)
 refused-areas m w l long on (Mprotect p a len prot) Eperm is = refl
 refused-areas m w l long on (Mprotect p a len prot) Esrch is = refl
 refused-areas m w l long on (Mprotect p a len prot) Eio is = refl
@@ -191,7 +196,8 @@ no_place-clears q l p n (Fixed a) goes = cc
 no_place-clears q l p n (NoReplace a) goes = cc
 
 -- any other command than an mprotect has no events then, and leaves any memories as they are
-follows-refused : (m : Setting) (w now : World) (l : Ledger) (command : Command) (events : List Event) (error : Errno) (rows : List Row) → is_mprotect command ≡ false
+follows-refused : (m : Setting) (w now : World) (l : Ledger) (command : Command) (events : List Event) (error : Errno) (rows : List Row) →
+    is_mprotect command ≡ false
     → Follows m w l command events (Refused error) rows → (events ≡ []) × (next now command (Refused error) ≡ now)
 follows-refused m w now l (Spawn p) events error rows other h = absurd (no-refusal refl h.0)
 follows-refused m w now l (Fork p q) events error rows other h = absurd (no-refusal refl h.0)
@@ -219,28 +225,39 @@ follows-refused m w now l Stat events error rows other h = cc
 -- ---- the law
 
 -- what is legal and refused
-refused-by : (m : Setting) (w : World) (l : Ledger) (command : Command) (reply : Reply) (events : List Event) (error : Errno) (P : Type 0) → IsLegal m w l command reply events → reply.answer ≡ Refused error
-    → (refusal (tests m w l command) ≡ Some error → events ≡ [] → P) → (refusal (tests m w l command) ≡ None → Follows m w l command events (Refused error) reply.rows → P) → P
+refused-by : (m : Setting) (w : World) (l : Ledger) (command : Command) (reply : Reply) (events : List Event) (error : Errno) (P : Type 0) →
+    IsLegal m w l command reply events → reply.answer ≡ Refused error
+    → (refusal (tests m w l command) ≡ Some error → events ≡ [] → P) →
+    (refusal (tests m w l command) ≡ None → Follows m w l command events (Refused error) reply.rows → P) → P
 refused-by m w l command reply events error P legal is told met = by (refusal (tests m w l command)) refl legal.answer
   where
-    by : (o : Option Errno) → refusal (tests m w l command) ≡ o → MatchOption o (Follows m w l command events reply.answer reply.rows) (λ error. Refuses error events reply.answer reply.rows) → P
+    by : (o : Option Errno) → refusal (tests m w l command) ≡ o → MatchOption o (Follows m w l command events reply.answer reply.rows)
+        (λ error. Refuses error events reply.answer reply.rows) → P
     by None e h = met e (subst (λ a. Follows m w l command events a reply.rows) is h)
     by (Some other) e h = let same : other ≡ error = (let both = sym h.0 ∙ is in cc) in told (e ∙ ap Some same) h.1
 
 -- the memories and the ledger stay
-pub refused-nothing : (m : Setting) (w : World) (l : Ledger) (command : Command) (reply : Reply) (events : List Event) (error : Errno) → is_mprotect command ≡ false → IsLegal m w l command reply events → reply.answer ≡ Refused error
+pub refused-nothing : (m : Setting) (w : World) (l : Ledger) (command : Command) (reply : Reply) (events : List Event) (error : Errno) →
+    is_mprotect command ≡ false → IsLegal m w l command reply events → reply.answer ≡ Refused error
     → (next_world m w l events command reply.answer ≡ w) × (after_all l events ≡ l)
 refused-nothing m w l command reply events error other legal is =
-    let both = refused-by m w l command reply events error ((events ≡ []) × (next (with_loads m w l events) command (Refused error) ≡ with_loads m w l events)) legal is
+    let both = refused-by m w l command reply events error ((events ≡ []) × (next (with_loads m w l events) command (Refused error) ≡ with_loads m w l events))
+    legal is
     (λ e none. (none, refused-next m w (with_loads m w l events) l command error e))
     (λ e h. follows-refused m w (with_loads m w l events) l command events error reply.rows other h) in
     (ap (next (with_loads m w l events) command) is ∙ both.1 ∙ loads-none m w l events both.0, ap (after_all l) both.0)
 
 -- and after an mprotect, but for the pages before a hole
-pub refused-mprotect : (m : Setting) (w : World) (l : Ledger) (p a len : ℕ) (prot : Prot) (reply : Reply) (events : List Event) (error : Errno) → IsLegal m w l (Mprotect p a len prot) reply events → reply.answer ≡ Refused error
-    → ((next_world m w l events (Mprotect p a len prot) reply.answer ≡ w) ⊎ StopsAtHole w p a len prot error (next_world m w l events (Mprotect p a len prot) reply.answer)) × (after_all l events ≡ l)
+pub refused-mprotect : (m : Setting) (w : World) (l : Ledger) (p a len : ℕ) (prot : Prot) (reply : Reply) (events : List Event) (error : Errno) →
+    IsLegal m w l (Mprotect p a len prot) reply events → reply.answer ≡ Refused error
+    → ((next_world m w l events (Mprotect p a len prot) reply.answer ≡ w) ⊎ StopsAtHole w p a len prot error
+    (next_world m w l events (Mprotect p a len prot) reply.answer)) × (after_all l events ≡ l)
 refused-mprotect m w l p a len prot reply events error legal is = refused-by m w l (Mprotect p a len prot) reply events error _ legal is
-    (λ e none. (inl (ap (next (with_loads m w l events) (Mprotect p a len prot)) is ∙ refused-next m w (with_loads m w l events) l (Mprotect p a len prot) error e ∙ loads-none m w l events none), ap (after_all l) none))
+    (λ e none. (
+      inl (ap (next (with_loads m w l events) (Mprotect p a len prot)) is ∙ refused-next m w (with_loads m w l events) l (Mprotect p a len prot) error
+          e ∙ loads-none m w l events none),
+      ap (after_all l) none,
+    ))
     (λ e h. (inr (stopped e h.0 (loads-none m w l events h.1)), ap (after_all l) h.1))
   where
     in_reach : (b c d : Bool) → cond (not b) (Some Esrch) (cond (not c) (Some Einval) (cond d (Some Enomem) None)) ≡ None → d ≡ false
@@ -254,14 +271,17 @@ refused-mprotect m w l p a len prot reply events error legal is = refused-by m w
     short k n most true e h = cc
     short k n most false e h = ((let same : error ≡ Enomem = cc in same), grind (arith, nat_tests, e, most))
 
-    stopped : refusal (tests m w l (Mprotect p a len prot)) ≡ None → Refused error ≡ (if pages_to_hole (pages w p) (page_of a) (pages_of len) == pages_of len then Done else Refused Enomem) → with_loads m w l events ≡ w
+    stopped : refusal (tests m w l (Mprotect p a len prot)) ≡ None →
+        Refused error ≡ (if pages_to_hole (pages w p) (page_of a) (pages_of len) == pages_of len then Done else Refused Enomem) → with_loads m w l events ≡ w
         → StopsAtHole w p a len prot error (next_world m w l events (Mprotect p a len prot) reply.answer)
     stopped e h none =
-        let hole = short (pages_to_hole (pages w p) (page_of a) (pages_of len)) (pages_of len) (pages_to_hole-most (pages w p) (page_of a) (pages_of len)) (pages_to_hole (pages w p) (page_of a) (pages_of len) == pages_of len) refl h in
+        let hole = short (pages_to_hole (pages w p) (page_of a) (pages_of len)) (pages_of len) (pages_to_hole-most (pages w p) (page_of a) (pages_of len))
+        (pages_to_hole (pages w p) (page_of a) (pages_of len) == pages_of len) refl h in
         let reach = in_reach (lives w p) (is_on_page a) (wraps a len) e in
         record {
           error_is = hole.0;
           in_reach = reach;
           hole = hole.1;
-          before = (λ i. next (none i) (Mprotect p a len prot) ((is ∙ ap Refused hole.0) i)) ∙ ap (λ b. if b then w else with_prot_to_hole w p (page_of a) (pages_of len) prot) reach;
+          before = (λ i. next (none i) (Mprotect p a len prot) ((is ∙ ap Refused hole.0) i))
+              ∙ ap (λ b. if b then w else with_prot_to_hole w p (page_of a) (pages_of len) prot) reach;
         }

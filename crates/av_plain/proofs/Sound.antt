@@ -85,18 +85,22 @@ told-same g l (Moved a b c d) w h = refl
 told-same g l (TurnedOn a b c) w h = refl
 told-same g l (TurnedOff a) w h = refl
 
-forgotten-same : {A : Type 0} (g : World → A) (w : World) (l : Ledger) (es : List Event) → ((l : Ledger) (s : Slot) (w : World) → g (without_claims l s w) ≡ g w) → g (after_loads w l es) ≡ g w
+forgotten-same : {A : Type 0} (g : World → A) (w : World) (l : Ledger) (es : List Event) →
+    ((l : Ledger) (s : Slot) (w : World) → g (without_claims l s w) ≡ g w) → g (after_loads w l es) ≡ g w
 forgotten-same g w l [] h = refl
 forgotten-same g w l (e ∷ es) h = forgotten-same g (after_load l e w) (after l e) es h ∙ told-same g l e w (λ s. h l s w)
 
 -- whatever an unclaiming leaves as it is, loads do
-pub loads-same : {A : Type 0} (g : World → A) (m : Setting) (w : World) (l : Ledger) (es : List Event) → ((l : Ledger) (s : Slot) (w : World) → g (without_claims l s w) ≡ g w) → g (with_loads m w l es) ≡ g w
+pub loads-same : {A : Type 0} (g : World → A) (m : Setting) (w : World) (l : Ledger) (es : List Event) →
+    ((l : Ledger) (s : Slot) (w : World) → g (without_claims l s w) ≡ g w) → g (with_loads m w l es) ≡ g w
 loads-same g m w l es h = elim (is_some m.headers) as (λ b. g (if b then w else after_loads w l es) ≡ g w) [ true ↦ refl | false ↦ forgotten-same g w l es h ]
 
 unclaimed-pages : (p page : ℕ) (l : Ledger) (s : Slot) (w : World) → is_some (pages (without_claims l s w) p page) ≡ is_some (pages w p page)
 unclaimed-pages p page l s [] = refl
 unclaimed-pages p page l s (e ∷ w) =
-    elim (eq_by_cmp nat_cmp p e.0) as (λ b. is_some (option_and_then (λ (m : Process). m page) (cond b (Some (λ page. if is_of_slot s (entry l (e.0, page)) then option_map without_bytes (e.1 page) else e.1 page)) (find nat_cmp p (without_claims l s w)))) ≡ is_some (option_and_then (λ (m : Process). m page) (cond b (Some e.1) (find nat_cmp p w)))) [
+    elim (eq_by_cmp nat_cmp p e.0) as (λ b. is_some (option_and_then (λ (m : Process). m page)
+    (cond b (Some (λ page. if is_of_slot s (entry l (e.0, page)) then option_map without_bytes (e.1 page) else e.1 page))
+    (find nat_cmp p (without_claims l s w)))) ≡ is_some (option_and_then (λ (m : Process). m page) (cond b (Some e.1) (find nat_cmp p w)))) [
       | true ↦ one (is_of_slot s (entry l (e.0, page))) (e.1 page)
       | false ↦ unclaimed-pages p page l s w
     ]
@@ -109,7 +113,8 @@ unclaimed-pages p page l s (e ∷ w) =
 unclaimed-lives : (p : ℕ) (l : Ledger) (s : Slot) (w : World) → lives (without_claims l s w) p ≡ lives w p
 unclaimed-lives p l s [] = refl
 unclaimed-lives p l s (e ∷ w) =
-    elim (eq_by_cmp nat_cmp p e.0) as (λ b. is_some (cond b (Some (λ page. if is_of_slot s (entry l (e.0, page)) then option_map without_bytes (e.1 page) else e.1 page)) (find nat_cmp p (without_claims l s w))) ≡ is_some (cond b (Some e.1) (find nat_cmp p w))) [
+    elim (eq_by_cmp nat_cmp p e.0) as (λ b. is_some (cond b (Some (λ page. if is_of_slot s (entry l (e.0, page)) then option_map without_bytes (e.1 page)
+    else e.1 page)) (find nat_cmp p (without_claims l s w))) ≡ is_some (cond b (Some e.1) (find nat_cmp p w))) [
       | true ↦ refl
       | false ↦ unclaimed-lives p l s w
     ]
@@ -132,7 +137,8 @@ lives-loads m w l es p = loads-same (λ w. lives w p) m w l es (unclaimed-lives 
 pub length-loads : (m : Setting) (w : World) (l : Ledger) (es : List Event) → length (with_loads m w l es) ≡ length w
 length-loads m w l es = loads-same length m w l es unclaimed-length
 
-pub map_count-loads : (m : Setting) (w : World) (l : Ledger) (es : List Event) (p page : ℕ) → is_some (pages (with_loads m w l es) p page) ≡ is_some (pages w p page)
+pub map_count-loads : (m : Setting) (w : World) (l : Ledger) (es : List Event) (p page : ℕ) →
+    is_some (pages (with_loads m w l es) p page) ≡ is_some (pages w p page)
 map_count-loads m w l es p page = loads-same (λ w. is_some (pages w p page)) m w l es (unclaimed-pages p page)
 
 loads-sound : (m : Setting) (w : World) (l l' : Ledger) (es : List Event) → AllSound m w l' → AllSound m (with_loads m w l es) l'
@@ -156,11 +162,13 @@ at-changed : (w : World) (l : Ledger) (p : ℕ) (new : Process) → ((page : ℕ
     → ((q page : ℕ) → eq_by_cmp nat_cmp q p ≡ false → is_some (entry l (q, page)) ≡ true → is_some (pages w q page) ≡ true) → AtPages (set_process w p new) l
 at-changed w l p new here there q page h = by (eq_by_cmp nat_cmp q p) refl (pages-set w p new q page)
   where
-    by : (b : Bool) → eq_by_cmp nat_cmp q p ≡ b → pages (set_process w p new) q page ≡ cond b (new page) (pages w q page) → is_some (pages (set_process w p new) q page) ≡ true
+    by : (b : Bool) → eq_by_cmp nat_cmp q p ≡ b → pages (set_process w p new) q page ≡ cond b (new page) (pages w q page) →
+        is_some (pages (set_process w p new) q page) ≡ true
     by true is e = ap is_some e ∙ here page (ap (λ x. is_some (entry l (x, page))) (sym (cmp-is q p is)) ∙ h)
     by false is e = ap is_some e ∙ there q page is h
 
-at-set : (w : World) (l : Ledger) (p : ℕ) (new : Process) → ((page : ℕ) → is_some (entry l (p, page)) ≡ true → is_some (new page) ≡ true) → AtPages w l → AtPages (set_process w p new) l
+at-set : (w : World) (l : Ledger) (p : ℕ) (new : Process) → ((page : ℕ) → is_some (entry l (p, page)) ≡ true → is_some (new page) ≡ true) →
+    AtPages w l → AtPages (set_process w p new) l
 at-set w l p new here there = at-changed w l p new here (λ q page _ h. there q page h)
 
 -- a process that does not live has no entry
@@ -182,7 +190,8 @@ tidy-new w p new tidy dead room = record {
   few = subst (λ n. n ≤ most_processes) (sym (length-set_new w p new tidy.in_order dead)) (grind (arith, nat_tests, room));
 }
 
-started-sound : (m : Setting) (w : World) (l : Ledger) (p : ℕ) → AllSound m w l → lives w p ≡ false → nat_le most_processes (length w) ≡ false → AllSound m (set_process w p no_pages) l
+started-sound : (m : Setting) (w : World) (l : Ledger) (p : ℕ) → AllSound m w l → lives w p ≡ false → nat_le most_processes (length w) ≡ false →
+    AllSound m (set_process w p no_pages) l
 started-sound m w l p s dead room = record {
   world = tidy-new w p no_pages s.world dead room;
   ledger = s.ledger;
@@ -195,11 +204,13 @@ started-sound m w l p s dead room = record {
     never o e h = cc
 
 -- the child has the parent's memory and entries
-forked-sound : (m : Setting) (w : World) (l : Ledger) (p q : ℕ) → AllSound m w l → lives w q ≡ false → nat_le most_processes (length w) ≡ false → AllSound m (set_process w q (pages w p)) (child_ledger p q l)
+forked-sound : (m : Setting) (w : World) (l : Ledger) (p q : ℕ) → AllSound m w l → lives w q ≡ false → nat_le most_processes (length w) ≡ false →
+    AllSound m (set_process w q (pages w p)) (child_ledger p q l)
 forked-sound m w l p q s dead room = record {
   world = tidy-new w q (pages w p) s.world dead room;
   ledger = forked-kept m l p q s.ledger none;
-  at_pages = at-changed w (child_ledger p q l) q (pages w p) (λ page h. s.at_pages p page (copied page h)) (λ r page other h. s.at_pages r page (stayed r page other h));
+  at_pages = at-changed w (child_ledger p q l) q (pages w p) (λ page h. s.at_pages p page (copied page h))
+      (λ r page other h. s.at_pages r page (stayed r page other h));
   in_areas = there-by m l (child_ledger p q l) (forked-no_new m l p q s.ledger none) s.in_areas;
   areas_fit = (forked-no_new m l p q s.ledger none).fits s.areas_fit;
 }
@@ -207,7 +218,8 @@ forked-sound m w l p q s dead room = record {
     none : (page : ℕ) → entry l (q, page) ≡ None
     none = no_entries w l q s.at_pages dead
 
-    found : (r page : ℕ) → is_some (entry (child_ledger p q l) (r, page)) ≡ true → is_some (option_or (cond (r == q) (option_map without_seen (entry l (p, page))) None) (entry l (r, page))) ≡ true
+    found : (r page : ℕ) → is_some (entry (child_ledger p q l) (r, page)) ≡ true →
+        is_some (option_or (cond (r == q) (option_map without_seen (entry l (p, page))) None) (entry l (r, page))) ≡ true
     found r page h = ap is_some (sym (entry-forked p q l (r, page) s.ledger.in_order)) ∙ h
 
     copied : (page : ℕ) → is_some (entry (child_ledger p q l) (q, page)) ≡ true → is_some (entry l (p, page)) ≡ true
@@ -221,16 +233,22 @@ forked-sound m w l p q s dead room = record {
     stayed : (r page : ℕ) → eq_by_cmp nat_cmp r q ≡ false → is_some (entry (child_ledger p q l) (r, page)) ≡ true → is_some (entry l (r, page)) ≡ true
     stayed r page other h = by (r == q) (grind (arith, nat_tests, other)) (found r page h)
       where
-        by : (b : Bool) → b ≡ false → is_some (option_or (cond b (option_map without_seen (entry l (p, page))) None) (entry l (r, page))) ≡ true → is_some (entry l (r, page)) ≡ true
+        by : (b : Bool) → b ≡ false → is_some (option_or (cond b (option_map without_seen (entry l (p, page))) None) (entry l (r, page))) ≡ true →
+            is_some (entry l (r, page)) ≡ true
         by true e h = cc
         by false e h = h
 
 -- the number of processes is as it was
 tidy-set : (w : World) (p : ℕ) (new : Process) → IsTidy w → lives w p ≡ true → IsTidy (set_process w p new)
-tidy-set w p new tidy alive = record { in_order = is_sorted-set w p new tidy.in_order; few = subst (λ n. n ≤ most_processes) (sym (length-set_old w p new tidy.in_order alive)) tidy.few }
+tidy-set w p new tidy alive = record {
+  in_order = is_sorted-set w p new tidy.in_order;
+  few = subst (λ n. n ≤ most_processes)
+      (sym (length-set_old w p new tidy.in_order alive)) tidy.few;
+}
 
 -- what was mapped stays so
-changed-sound : (m : Setting) (w : World) (l : Ledger) (p : ℕ) (new : Process) → AllSound m w l → lives w p ≡ true → ((page : ℕ) → is_some (pages w p page) ≡ true → is_some (new page) ≡ true) → AllSound m (set_process w p new) l
+changed-sound : (m : Setting) (w : World) (l : Ledger) (p : ℕ) (new : Process) → AllSound m w l → lives w p ≡ true →
+    ((page : ℕ) → is_some (pages w p page) ≡ true → is_some (new page) ≡ true) → AllSound m (set_process w p new) l
 changed-sound m w l p new s alive stays = record {
   world = tidy-set w p new s.world alive;
   ledger = s.ledger;
@@ -244,7 +262,8 @@ range-sound : (m : Setting) (w w' : World) (l : Ledger) (p from n : ℕ) (new : 
     → AllSound m (set_process w' p (with_pages (pages w' p) from n new)) (after_all l (zaps_of l (keys_in l p from n)))
 range-sound m w w' l p from n new s s' alive = after_zap-sound m w (set_process w' p (with_pages (pages w' p) from n new)) l (keys_in l p from n) s
     (tidy-set w' p (with_pages (pages w' p) from n new) s'.world alive)
-    (at-set w' (after_all l (zaps_of l (keys_in l p from n))) p (with_pages (pages w' p) from n new) (λ page h. by page (within from n page) (gone page h) (was page h)) there)
+    (at-set w' (after_all l (zaps_of l (keys_in l p from n))) p (with_pages (pages w' p) from n new)
+    (λ page h. by page (within from n page) (gone page h) (was page h)) there)
   where
     there : AtPages w' (after_all l (zaps_of l (keys_in l p from n)))
     there = zaps_of-at w' l (keys_in l p from n) s'.at_pages
@@ -287,7 +306,8 @@ remap-sound m w w' l p from n to k left s s' alive first = record {
 
 -- ---- a legal reply
 
-accesses-sound : (m : Setting) (w : World) (l : Ledger) (p : ℕ) (ps : List (Bool × ℕ)) (events : List Event) (end : End) → AllSound m w l → Accesses m w l p ps events end → AllSound m w (after_all l events)
+accesses-sound : (m : Setting) (w : World) (l : Ledger) (p : ℕ) (ps : List (Bool × ℕ)) (events : List Event) (end : End) → AllSound m w l →
+    Accesses m w l p ps events end → AllSound m w (after_all l events)
 accesses-sound m w l p ps events end s h = record {
   world = s.world;
   ledger = accesses-kept m w l p ps events end s.ledger h;
@@ -307,7 +327,8 @@ alive : (b : Bool) (o : Option Errno) → cond (not b) (Some Esrch) o ≡ None �
 alive true o h = refl
 alive false o h = cc
 
-pub follows-sound : (m : Setting) (w : World) (l : Ledger) (command : Command) (events : List Event) (answer : Answer) (rows : List Row) → AllSound m w l → refusal (tests m w l command) ≡ None
+pub follows-sound : (m : Setting) (w : World) (l : Ledger) (command : Command) (events : List Event) (answer : Answer) (rows : List Row) → AllSound m w l →
+    refusal (tests m w l command) ≡ None
     → Follows m w l command events answer rows → AllSound m (next_world m w l events command answer) (after_all l events)
 follows-sound m w l (Spawn p) events answer rows s fine h =
     subst (λ a. AllSound m (next (with_loads m w l events) (Spawn p) a) (after_all l events)) (sym h.0)
@@ -327,7 +348,8 @@ follows-sound m w l (AsksFork p q) events answer rows s fine h =
     let may = may-fork m w l p q fine in
     subst (λ a. AllSound m (next (with_loads m w l events) (AsksFork p q) a) (after_all l events)) (sym h.0)
     (subst (λ es. AllSound m (set_process (with_loads m w l events) q (pages (with_loads m w l events) p)) (after_all l es)) (sym h.1)
-    (forked-sound m (with_loads m w l events) l p q (loads-sound m w l l events s) (lives-loads m w l events q ∙ may.child) (ap (nat_le most_processes) (length-loads m w l events) ∙ may.room)))
+    (forked-sound m (with_loads m w l events) l p q (loads-sound m w l l events s) (lives-loads m w l events q ∙ may.child)
+    (ap (nat_le most_processes) (length-loads m w l events) ∙ may.room)))
 follows-sound m w l (Exit p) events answer rows s fine h =
     let loaded = loads-sound m w l l events s in
     subst (λ a. AllSound m (next (with_loads m w l events) (Exit p) a) (after_all l events)) (sym h.0)
@@ -361,27 +383,33 @@ follows-sound m w l (Mmap p len prot place) events answer rows s fine h = by h.0
     same_page : {x y : ℕ} → Some x ≡ Some y → x ≡ y
     same_page e = cc
 
-    placed : (page : ℕ) (place : Place) → Goes (pages w p) (pages_of len) place (Some page) → events ≡ zaps_for_place l p (pages_of len) place → AllSound m (set_process here p (zeroed page)) (after_all l events)
+    placed : (page : ℕ) (place : Place) → Goes (pages w p) (pages_of len) place (Some page) → events ≡ zaps_for_place l p (pages_of len) place →
+        AllSound m (set_process here p (zeroed page)) (after_all l events)
     placed page Auto goes e = added page events e
     placed page (At a) goes e = added page events e
     placed page (NoReplace a) goes e = added page events e
     placed page (Fixed a) goes e = subst (λ es. AllSound m (set_process here p (zeroed page)) (after_all l es)) (sym e)
-        (subst (λ from. AllSound m (set_process here p (with_pages (pages here p) from (pages_of len) (λ _. Some (zeros prot)))) (after_all l (zaps_of l (keys_in l p (page_of a) (pages_of len))))) (sym (back page ∙ same_page goes))
+        (subst (λ from. AllSound m (set_process here p (with_pages (pages here p) from (pages_of len) (λ _. Some (zeros prot))))
+        (after_all l (zaps_of l (keys_in l p (page_of a) (pages_of len))))) (sym (back page ∙ same_page goes))
         (range-sound m w here l p (page_of a) (pages_of len) (λ _. Some (zeros prot)) s loaded living))
 
-    refused : (place : Place) → Goes (pages w p) (pages_of len) place None → events ≡ zaps_for_place l p (pages_of len) place → AllSound m here (after_all l events)
+    refused : (place : Place) → Goes (pages w p) (pages_of len) place None → events ≡ zaps_for_place l p (pages_of len) place →
+        AllSound m here (after_all l events)
     refused Auto goes e = unchanged m here l events e loaded
     refused (At a) goes e = unchanged m here l events e loaded
     refused (NoReplace a) goes e = cc
     refused (Fixed a) goes e = cc
 
-    by : (to : Option ℕ) → IsMapAt answer to → (place : Place) → Goes (pages w p) (pages_of len) place to → events ≡ zaps_for_place l p (pages_of len) place → AllSound m (next here (Mmap p len prot place) answer) (after_all l events)
+    by : (to : Option ℕ) → IsMapAt answer to → (place : Place) → Goes (pages w p) (pages_of len) place to → events ≡ zaps_for_place l p (pages_of len) place →
+        AllSound m (next here (Mmap p len prot place) answer) (after_all l events)
     by None e place goes es = subst (λ a. AllSound m (next here (Mmap p len prot place) a) (after_all l events)) (sym e) (refused place goes es)
     by (Some page) e place goes es = subst (λ a. AllSound m (next here (Mmap p len prot place) a) (after_all l events)) (sym e) (placed page place goes es)
 follows-sound m w l (Munmap p a len) events answer rows s fine h =
     subst (λ x. AllSound m (next (with_loads m w l events) (Munmap p a len) x) (after_all l events)) (sym h.0)
-    (subst (λ es. AllSound m (set_process (with_loads m w l events) p (with_pages (pages (with_loads m w l events) p) (page_of a) (pages_of len) no_pages)) (after_all l es)) (sym h.1)
-    (range-sound m w (with_loads m w l events) l p (page_of a) (pages_of len) no_pages s (loads-sound m w l l events s) (lives-loads m w l events p ∙ alive (lives w p) _ fine)))
+    (subst (λ es. AllSound m (set_process (with_loads m w l events) p (with_pages (pages (with_loads m w l events) p) (page_of a) (pages_of len) no_pages))
+    (after_all l es)) (sym h.1)
+    (range-sound m w (with_loads m w l events) l p (page_of a) (pages_of len) no_pages s (loads-sound m w l l events s)
+    (lives-loads m w l events p ∙ alive (lives w p) _ fine)))
 follows-sound m w l (Mprotect p a len prot) events answer rows s fine h =
     subst (λ x. AllSound m (next (with_loads m w l events) (Mprotect p a len prot) x) (after_all l events)) (sym h.0)
     (by (pages_to_hole (pages w p) (page_of a) (pages_of len) == pages_of len))
@@ -393,7 +421,8 @@ follows-sound m w l (Mprotect p a len prot) events answer rows s fine h =
     loaded = loads-sound m w l (after_all l events) events (unchanged m w l events h.1 s)
 
     changed : (n : ℕ) → AllSound m (set_process here p (with_prot_on (pages here p) (page_of a) n prot)) (after_all l events)
-    changed n = changed-sound m here (after_all l events) p (with_prot_on (pages here p) (page_of a) n prot) loaded (lives-loads m w l events p ∙ alive (lives w p) _ fine) (λ q i. still (within (page_of a) n q) (pages here p q) i)
+    changed n = changed-sound m here (after_all l events) p (with_prot_on (pages here p) (page_of a) n prot) loaded
+        (lives-loads m w l events p ∙ alive (lives w p) _ fine) (λ q i. still (within (page_of a) n q) (pages here p q) i)
       where
         still : (b : Bool) (o : Option Page) → is_some o ≡ true → is_some (if b then option_map (with_prot prot) o else o) ≡ true
         still true None h = h
@@ -431,12 +460,14 @@ follows-sound m w l (AsksMremap p a old new mode) events answer rows s fine h = 
         → AllSound m (next here (AsksMremap p a old new mode) answer) (after_all l events)
     by None e es = subst (λ x. AllSound m (next here (AsksMremap p a old new mode) x) (after_all l events)) (sym e) (unchanged m here l events es loaded)
     by (Some to) e es = subst (λ x. AllSound m (next here (AsksMremap p a old new mode) x) (after_all l events)) (sym e)
-        (subst (λ es. AllSound m (set_process here p (process_after_mremap (page_of a) (pages_of old) (page_of (address_of to)) (pages_of new) left (pages here p)))
+        (subst (λ es. AllSound m (set_process here p (process_after_mremap (page_of a) (pages_of old) (page_of (address_of to))
+        (pages_of new) left (pages here p)))
         (after_all l es)) (sym es)
         (subst (λ b. AllSound m (set_process here p (process_after_mremap (page_of a) (pages_of old) b (pages_of new) left (pages here p)))
         (after_all l (remap_events l p (page_of a) (pages_of old) to (pages_of new)))) (sym (back to))
         (remap-sound m w here l p (page_of a) (pages_of old) to (pages_of new) left s loaded (lives-loads m w l events p ∙ may.living) first)))
-follows-sound m w l (Read p a n) events answer rows s fine h = loads-sound m w l (after_all l events) events (accesses-sound m w l p (pages_of_access false a n) events h.0 s h.2)
+follows-sound m w l (Read p a n) events answer rows s fine h = loads-sound m w l (after_all l events) events
+    (accesses-sound m w l p (pages_of_access false a n) events h.0 s h.2)
 follows-sound m w l (Write p a bytes) events answer rows s fine h =
     stored-sound m (with_loads m w l events) (after_all l events) p a (first_bytes answer bytes)
     (loads-sound m w l (after_all l events) events (accesses-sound m w l p (pages_of_access true a (length bytes)) events h.0 s h.1))
@@ -447,19 +478,23 @@ follows-sound m w l (AsksRmap p a) events answer rows s fine h = loads-sound m w
 follows-sound m w l (AsksEntry p a) events answer rows s fine h = loads-sound m w l (after_all l events) events (unchanged m w l events h.1 s)
 follows-sound m w l Stat events answer rows s fine h = loads-sound m w l (after_all l events) events (unchanged m w l events h.1 s)
 
-refused-sound : (m : Setting) (w : World) (l : Ledger) (command : Command) (error : Errno) (events : List Event) → refusal (tests m w l command) ≡ Some error → events ≡ [] → AllSound m w l
+refused-sound : (m : Setting) (w : World) (l : Ledger) (command : Command) (error : Errno) (events : List Event) → refusal (tests m w l command) ≡ Some error →
+    events ≡ [] → AllSound m w l
     → AllSound m (next_world m w l events command (Refused error)) (after_all l events)
 refused-sound m w l command error events is none s =
-    subst (λ x. AllSound m x (after_all l events)) (sym (refused-next m w (with_loads m w l events) l command error is)) (loads-sound m w l (after_all l events) events (unchanged m w l events none s))
+    subst (λ x. AllSound m x (after_all l events)) (sym (refused-next m w (with_loads m w l events) l command error is))
+    (loads-sound m w l (after_all l events) events (unchanged m w l events none s))
 
 pub soundness-stays : (m : Setting) (w : World) (l : Ledger) (command : Command) (reply : Reply) (events : List Event)
     → AllSound m w l → IsLegal m w l command reply events → AllSound m (next_world m w l events command reply.answer) (after_all l events)
 soundness-stays m w l command reply events s legal = by (refusal (tests m w l command)) refl legal.answer
   where
-    by : (o : Option Errno) → refusal (tests m w l command) ≡ o → MatchOption o (Follows m w l command events reply.answer reply.rows) (λ error. Refuses error events reply.answer reply.rows)
+    by : (o : Option Errno) → refusal (tests m w l command) ≡ o → MatchOption o (Follows m w l command events reply.answer reply.rows)
+        (λ error. Refuses error events reply.answer reply.rows)
         → AllSound m (next_world m w l events command reply.answer) (after_all l events)
     by None is h = follows-sound m w l command events reply.answer reply.rows s is h
-    by (Some error) is h = subst (λ a. AllSound m (next_world m w l events command a) (after_all l events)) (sym h.0) (refused-sound m w l command error events is h.1 s)
+    by (Some error) is h = subst (λ a. AllSound m (next_world m w l events command a) (after_all l events)) (sym h.0)
+        (refused-sound m w l command error events is h.1 s)
 
 -- ---- runs
 
@@ -481,7 +516,8 @@ first-sound m = record {
   areas_fit = record { rising = tt; fit = λ k. tt };
 }
 
-pub transcript-sound : (m : Setting) (w : World) (l : Ledger) (es : List Exchange) (w' : World) (l' : Ledger) → AllSound m w l → IsLegalFrom m w l es w' l' → AllSound m w' l'
+pub transcript-sound : (m : Setting) (w : World) (l : Ledger) (es : List Exchange) (w' : World) (l' : Ledger) → AllSound m w l →
+    IsLegalFrom m w l es w' l' → AllSound m w' l'
 transcript-sound m w l [] w' l' s h = subst (λ x. AllSound m x l') (sym h.0) (subst (AllSound m w) (sym h.1) s)
 transcript-sound m w l (e ∷ es) w' l' s h =
     transcript-sound m (next_world m w l h.0 e.command e.reply.answer) (after_all l h.0) es w' l' (soundness-stays m w l e.command e.reply h.0 s h.1) h.2
@@ -490,12 +526,18 @@ transcript-sound m w l (e ∷ es) w' l' s h =
 pub run-legal : (m : Setting) (old : State) (es : List Exchange) (new : State) → IsRun m old es new → IsLegalFrom m old.world old.ledger es new.world new.ledger
 run-legal m old [] new h = (ap (λ (s : State). s.world) h, ap (λ (s : State). s.ledger) h)
 run-legal m old (e ∷ es) new h =
-    let rest = run-legal m h.0 es new h.2 in
-    (h.1.events, h.1.legal, subst (λ w. IsLegalFrom m w (after_all old.ledger h.1.events) es new.world new.ledger) h.1.world (subst (λ l. IsLegalFrom m h.0.world l es new.world new.ledger) h.1.ledger rest))
+    let rest = run-legal m h.0 es new h.2 in (
+      h.1.events,
+      h.1.legal,
+      subst (λ w. IsLegalFrom m w (after_all old.ledger h.1.events) es new.world new.ledger) h.1.world
+          (subst (λ l. IsLegalFrom m h.0.world l es new.world new.ledger) h.1.ledger rest),
+    )
 
-pub step-sound : (m : Setting) (old : State) (command : Command) (reply : Reply) (new : State) → AllSound m old.world old.ledger → IsStep m old command reply new → AllSound m new.world new.ledger
+pub step-sound : (m : Setting) (old : State) (command : Command) (reply : Reply) (new : State) → AllSound m old.world old.ledger →
+    IsStep m old command reply new → AllSound m new.world new.ledger
 step-sound m old command reply new s h =
-    subst (λ w. AllSound m w new.ledger) (sym h.world) (subst (AllSound m (next_world m old.world old.ledger h.events command reply.answer)) (sym h.ledger) (soundness-stays m old.world old.ledger command reply h.events s h.legal))
+    subst (λ w. AllSound m w new.ledger) (sym h.world) (subst (AllSound m (next_world m old.world old.ledger h.events command reply.answer)) (sym h.ledger)
+    (soundness-stays m old.world old.ledger command reply h.events s h.legal))
 
 pub run-sound : (m : Setting) (es : List Exchange) (new : State) → IsRun m (at_first m) es new → AllSound m new.world new.ledger
 run-sound m es new h = transcript-sound m [] first_ledger es new.world new.ledger (first-sound m) (run-legal m (at_first m) es new h)

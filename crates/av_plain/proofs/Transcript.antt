@@ -20,7 +20,12 @@ legal-push m w l [] w1 l1 e events h step = (
   subst (λ x. IsLegal m x l e.command e.reply events) h.0 (subst (λ y. IsLegal m w1 y e.command e.reply events) h.1 step),
   ((λ i. next_world m (h.0 i) (h.1 i) events e.command e.reply.answer), (λ i. after_all (h.1 i) events)),
 )
-legal-push m w l (s ∷ steps) w1 l1 e events h step = (h.0, h.1, legal-push m (next_world m w l h.0 s.command s.reply.answer) (after_all l h.0) steps w1 l1 e events h.2 step)
+legal-push m w l (s ∷ steps) w1 l1 e events h step = (
+  h.0,
+  h.1,
+  legal-push m (next_world m w l h.0 s.command s.reply.answer)
+      (after_all l h.0) steps w1 l1 e events h.2 step,
+)
 
 pub run-push : (m : Setting) (old : State) (steps : List Exchange) (mid : State) (e : Exchange) (new : State)
     → IsRun m old steps mid → IsStep m mid e.command e.reply new → IsRun m old (steps ++ e ∷ []) new
@@ -34,7 +39,8 @@ is_fork (Fork p q) = true
 is_fork command = false
 
 -- after any other command they are those that the areas leave
-pub next-plain : (now : Rmap) (w : World) (command : Command) (answer : Answer) (next : Rmap) → is_fork command ≡ false → AreNext now w command answer next → IsRmapNext now w command answer next
+pub next-plain : (now : Rmap) (w : World) (command : Command) (answer : Answer) (next : Rmap) → is_fork command ≡ false → AreNext now w command answer next →
+    IsRmapNext now w command answer next
 next-plain now w command Done next other h = done command other h
   where
     done : (command : Command) → is_fork command ≡ false → AreNext now w command Done next → IsRmapDone now w command next
@@ -48,12 +54,14 @@ is_forked command Done = is_fork command
 is_forked command answer = false
 
 -- so it is after one that was refused
-pub next-unforked : (now : Rmap) (w : World) (command : Command) (answer : Answer) (next : Rmap) → is_forked command answer ≡ false → AreNext now w command answer next → IsRmapNext now w command answer next
+pub next-unforked : (now : Rmap) (w : World) (command : Command) (answer : Answer) (next : Rmap) → is_forked command answer ≡ false →
+    AreNext now w command answer next → IsRmapNext now w command answer next
 next-unforked now w command Done next other h = next-plain now w command Done next other h
 next-unforked now w command answer next other h = h
 
 -- and no others
-pub plain-next : (now : Rmap) (w : World) (command : Command) (answer : Answer) (next : Rmap) → is_fork command ≡ false → IsRmapNext now w command answer next → AreNext now w command answer next
+pub plain-next : (now : Rmap) (w : World) (command : Command) (answer : Answer) (next : Rmap) → is_fork command ≡ false → IsRmapNext now w command answer next →
+    AreNext now w command answer next
 plain-next now w command Done next other h = done command other h
   where
     done : (command : Command) → is_fork command ≡ false → IsRmapDone now w command next → AreNext now w command Done next
@@ -75,7 +83,8 @@ pub record IsPlain (now : Rmap) (w : World) (command : Command) (answer : Answer
   pub is : AreNext now w command answer next
 
 -- either one was, or none
-pub next-cases : (now : Rmap) (w : World) (command : Command) (answer : Answer) (next : Rmap) → IsRmapNext now w command answer next → IsPlain now w command answer next ⊎ IsFork now command answer next
+pub next-cases : (now : Rmap) (w : World) (command : Command) (answer : Answer) (next : Rmap) → IsRmapNext now w command answer next →
+    IsPlain now w command answer next ⊎ IsFork now command answer next
 next-cases now w command Done next h = done command h
   where
     done : (command : Command) → IsRmapDone now w command next → IsPlain now w command Done next ⊎ IsFork now command Done next

@@ -16,11 +16,16 @@ lives-set w p m q = ap is_some (process-set w p m q)
 
 pub pages-set : (w : World) (p : ℕ) (m : Process) (q page : ℕ) → pages (set_process w p m) q page ≡ cond (eq_by_cmp nat_cmp q p) (m page) (pages w q page)
 pages-set w p m q page = ap (option_and_then (λ (n : Process). n page)) (process-set w p m q)
-    ∙ elim (eq_by_cmp nat_cmp q p) as (λ b. option_and_then (λ (n : Process). n page) (cond b (Some m) (process w q)) ≡ cond b (m page) (pages w q page)) [ true ↦ refl | false ↦ refl ]
+    ∙ elim (eq_by_cmp nat_cmp q p) as (λ b. option_and_then (λ (n : Process). n page) (cond b (Some m) (process w q)) ≡ cond b (m page)
+    (pages w q page)) [ true ↦ refl | false ↦ refl ]
 
 -- a process that does not live has no pages
 pub pages-no_process : (w : World) (q page : ℕ) → lives w q ≡ false → pages w q page ≡ None
-pages-no_process w q page h = elim (process w q) as (λ o. is_some o ≡ false → option_and_then (λ (n : Process). n page) o ≡ None) [ None ↦ λ _. refl | Some m ↦ λ e. cc ] h
+pages-no_process w q page h = elim (process w q) as (λ o. is_some o ≡ false → option_and_then (λ (n : Process). n page) o ≡ None) [
+  | None ↦
+      λ _. refl
+  | Some m ↦ λ e. cc
+] h
 
 pub length-set_new : (w : World) (p : ℕ) (m : Process) → T (is_sorted nat_cmp w) → lives w p ≡ false → length (set_process w p m) ≡ length w + 1
 length-set_new w p m h none = length-put nat_cmp nat_cmp_total p m w h ∙ ap (λ b. cond b (length w) (length w + 1)) none

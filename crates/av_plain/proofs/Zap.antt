@@ -29,19 +29,23 @@ test_same k q = grind (arith, nat_tests)
 
 -- an entry is taken: it leaves, and its frame is settled
 pub after_zap-is : (k : Key) (l : Ledger) → after_zap k l ≡ settle_entry (entry l k) (leaving k l)
-after_zap-is k l = ap (λ (test : Key → Bool). settle_entry (entry l k) (record l { entries = where_key key_cmp (λ q. not (test q)) l.entries })) (λ i q. sym (test_same k q) i)
+after_zap-is k l = ap (λ (test : Key → Bool). settle_entry (entry l k) (record l { entries = where_key key_cmp (λ q. not (test q)) l.entries }))
+    (λ i q. sym (test_same k q) i)
 
 pub entry-leaving : (k q : Key) (l : Ledger) → entry (leaving k l) q ≡ cond (same_key k q) None (entry l q)
-entry-leaving k q l = find-where_key key_cmp (λ x. not (same_key k x)) q (λ x t. ap (λ y. not (same_key k y)) (sym (same_key-is q x (ap is_eq t)))) l.entries ∙ turned (same_key k q) (entry l q)
+entry-leaving k q l = find-where_key key_cmp (λ x. not (same_key k x)) q (λ x t. ap (λ y. not (same_key k y)) (sym (same_key-is q x (ap is_eq t)))) l.entries
+    ∙ turned (same_key k q) (entry l q)
   where
     turned : (b : Bool) (o : Option Entry) → cond (not b) o None ≡ cond b None o
     turned true o = refl
     turned false o = refl
 
-pub map_count-leaving : (k : Key) (l : Ledger) (f : ℕ) → T (is_sorted key_cmp l.entries) → map_count l f ≡ map_count (leaving k l) f + weight (names_frame f) (entry l k)
+pub map_count-leaving : (k : Key) (l : Ledger) (f : ℕ) → T (is_sorted key_cmp l.entries) →
+    map_count l f ≡ map_count (leaving k l) f + weight (names_frame f) (entry l k)
 map_count-leaving k l f h = count-without keys_total (names_frame f) k l.entries h
 
-pub slot_entries-leaving : (k : Key) (l : Ledger) (s : Slot) → T (is_sorted key_cmp l.entries) → slot_entries l s ≡ slot_entries (leaving k l) s + weight (names_slot s) (entry l k)
+pub slot_entries-leaving : (k : Key) (l : Ledger) (s : Slot) → T (is_sorted key_cmp l.entries) →
+    slot_entries l s ≡ slot_entries (leaving k l) s + weight (names_slot s) (entry l k)
 slot_entries-leaving k l s h = count-without keys_total (names_slot s) k l.entries h
 
 -- ---- settling and dropping leave the entries
@@ -75,14 +79,19 @@ entries-zap_of l k = entries-drops (after_zap k l) (slot_behind_key l (entry l k
 pub entry-after_zap : (k : Key) (l : Ledger) (q : Key) → entry (after_zap k l) q ≡ cond (same_key k q) None (entry l q)
 entry-after_zap k l q = ap (find key_cmp q) (entries-after_zap k l) ∙ entry-leaving k q l
 
-pub map_count-after_zap : (k : Key) (l : Ledger) (f : ℕ) → T (is_sorted key_cmp l.entries) → map_count l f ≡ map_count (after_zap k l) f + weight (names_frame f) (entry l k)
-map_count-after_zap k l f h = map_count-leaving k l f h ∙ ap (λ es. how_many (λ (e : Key × Entry). names_frame f e.1) es + weight (names_frame f) (entry l k)) (sym (entries-after_zap k l))
+pub map_count-after_zap : (k : Key) (l : Ledger) (f : ℕ) → T (is_sorted key_cmp l.entries) →
+    map_count l f ≡ map_count (after_zap k l) f + weight (names_frame f) (entry l k)
+map_count-after_zap k l f h = map_count-leaving k l f h ∙ ap (λ es. how_many (λ (e : Key × Entry). names_frame f e.1) es + weight (names_frame f) (entry l k))
+    (sym (entries-after_zap k l))
 
-pub slot_entries-after_zap : (k : Key) (l : Ledger) (s : Slot) → T (is_sorted key_cmp l.entries) → slot_entries l s ≡ slot_entries (after_zap k l) s + weight (names_slot s) (entry l k)
-slot_entries-after_zap k l s h = slot_entries-leaving k l s h ∙ ap (λ es. how_many (λ (e : Key × Entry). names_slot s e.1) es + weight (names_slot s) (entry l k)) (sym (entries-after_zap k l))
+pub slot_entries-after_zap : (k : Key) (l : Ledger) (s : Slot) → T (is_sorted key_cmp l.entries) →
+    slot_entries l s ≡ slot_entries (after_zap k l) s + weight (names_slot s) (entry l k)
+slot_entries-after_zap k l s h = slot_entries-leaving k l s h ∙ ap (λ es. how_many (λ (e : Key × Entry). names_slot s e.1) es + weight (names_slot s)
+    (entry l k)) (sym (entries-after_zap k l))
 
 pub in_order-after_zap : (k : Key) (l : Ledger) → T (is_sorted key_cmp l.entries) → T (is_sorted key_cmp (after_zap k l).entries)
-in_order-after_zap k l h = subst (λ es. T (is_sorted key_cmp es)) (sym (entries-after_zap k l)) (is_sorted-where_key key_cmp (λ q. not (same_key k q)) l.entries h)
+in_order-after_zap k l h = subst (λ es. T (is_sorted key_cmp es)) (sym (entries-after_zap k l))
+    (is_sorted-where_key key_cmp (λ q. not (same_key k q)) l.entries h)
 
 -- the cache, flight and the areas that are on stay
 pub record SameSwap (l l' : Ledger) : Type 0 where
@@ -113,7 +122,8 @@ pub after_zap-blank : (k : Key) (l : Ledger) (e : Entry) → entry l k ≡ Some 
 after_zap-blank k l e is none = after_zap-is k l ∙ ap (λ o. settle_entry o (leaving k l)) is ∙ ap (λ o. if_some o settle (leaving k l)) none
 
 -- the frame of an entry leaves its list exactly where it is free then
-pub after_zap-frame : (k : Key) (l : Ledger) (f : ℕ) (seen : Bool) → entry l k ≡ Some (InFrame f seen) → after_zap k l ≡ cond (is_free (leaving k l) f) (off_lists f (leaving k l)) (leaving k l)
+pub after_zap-frame : (k : Key) (l : Ledger) (f : ℕ) (seen : Bool) → entry l k ≡ Some (InFrame f seen) →
+    after_zap k l ≡ cond (is_free (leaving k l) f) (off_lists f (leaving k l)) (leaving k l)
 after_zap-frame k l f seen is = after_zap-is k l ∙ ap (λ o. settle_entry o (leaving k l)) is
 
 -- ---- entries that go in order
@@ -128,7 +138,8 @@ pub entry-zaps_of : (l : Ledger) (ks : List Key) (q : Key) → entry (after_all 
 entry-zaps_of l [] q = refl
 entry-zaps_of l (k ∷ ks) q =
     ap (λ x. entry x q) (after_all-append l (zap_of l k) (zaps_of (after_all l (zap_of l k)) ks)) ∙ entry-zaps_of (after_all l (zap_of l k)) ks q
-    ∙ ap (cond (list_any (same_key q) ks) None) (entry-zap_of l k q ∙ ap (λ b. cond b None (entry l q)) (same_turned k q)) ∙ both (same_key q k) (list_any (same_key q) ks) (entry l q)
+    ∙ ap (cond (list_any (same_key q) ks) None) (entry-zap_of l k q ∙ ap (λ b. cond b None (entry l q)) (same_turned k q))
+    ∙ both (same_key q k) (list_any (same_key q) ks) (entry l q)
   where
     both : (a b : Bool) (o : Option Entry) → cond b None (cond a None o) ≡ cond (a || b) None o
     both true true o = refl
@@ -150,9 +161,11 @@ same-keys test other l h = same l.entries h
     later x o true h = refl
     later x o false h = h
 
-    same : (es : List (Key × Entry)) → ((k : Key) → is_some (find key_cmp k es) ≡ true → test k ≡ other k) → filter test (map (λ (e : Key × Entry). e.0) es) ≡ filter other (map (λ (e : Key × Entry). e.0) es)
+    same : (es : List (Key × Entry)) → ((k : Key) → is_some (find key_cmp k es) ≡ true → test k ≡ other k) →
+        filter test (map (λ (e : Key × Entry). e.0) es) ≡ filter other (map (λ (e : Key × Entry). e.0) es)
     same [] h = refl
-    same (e ∷ es) h = λ i. cond (h e.0 (here e es) i) (e.0 ∷ same es (λ k some. h k (later e.1 (find key_cmp k es) (same_key k e.0) some)) i) (same es (λ k some. h k (later e.1 (find key_cmp k es) (same_key k e.0) some)) i)
+    same (e ∷ es) h = λ i. cond (h e.0 (here e es) i) (e.0 ∷ same es (λ k some. h k (later e.1 (find key_cmp k es) (same_key k e.0) some)) i)
+        (same es (λ k some. h k (later e.1 (find key_cmp k es) (same_key k e.0) some)) i)
 
 -- no key that passes has an entry: then none goes
 pub none_that : (test : Key → Bool) (l : Ledger) → ((k : Key) → test k ≡ true → entry l k ≡ None) → keys_that test l ≡ []
@@ -192,15 +205,18 @@ listed-that test l q = passing (map (λ (e : Key × Entry). e.0) l.entries) ∙ 
 
     passing : (ks : List Key) → list_any (same_key q) (filter test ks) ≡ (test q && list_any (same_key q) ks)
     passing [] = none (test q)
-    passing (k ∷ ks) = front (test k) ∙ ap (λ x. test k && same_key q k || x) (passing ks) ∙ merged (test k) (same_key q k) (test q) (list_any (same_key q) ks) (λ is. ap test (sym (same_key-is q k is)))
+    passing (k ∷ ks) = front (test k) ∙ ap (λ x. test k && same_key q k || x) (passing ks) ∙ merged (test k) (same_key q k) (test q) (list_any (same_key q) ks)
+        (λ is. ap test (sym (same_key-is q k is)))
       where
-        front : (b : Bool) → list_any (same_key q) (cond b (k ∷ filter test ks) (filter test ks)) ≡ (b && same_key q k || list_any (same_key q) (filter test ks))
+        front : (b : Bool) → list_any (same_key q) (cond b (k ∷ filter test ks) (filter test ks))
+            ≡ (b && same_key q k || list_any (same_key q) (filter test ks))
         front true = refl
         front false = refl
 
     found : (es : List (Key × Entry)) → list_any (same_key q) (map (λ (e : Key × Entry). e.0) es) ≡ is_some (find key_cmp q es)
     found [] = refl
-    found (e ∷ es) = elim (same_key q e.0) as (λ b. (b || list_any (same_key q) (map (λ (e : Key × Entry). e.0) es)) ≡ is_some (cond b (Some e.1) (find key_cmp q es))) [ true ↦ refl | false ↦ found es ]
+    found (e ∷ es) = elim (same_key q e.0) as (λ b. (b || list_any (same_key q) (map (λ (e : Key × Entry). e.0) es)) ≡ is_some
+        (cond b (Some e.1) (find key_cmp q es))) [ true ↦ refl | false ↦ found es ]
 
 -- afterwards a key that passes has no entry, and the others' entries stay
 pub entry-that : (test : Key → Bool) (l : Ledger) (q : Key) → entry (after_all l (zaps_of l (keys_that test l))) q ≡ cond (test q) None (entry l q)
@@ -215,10 +231,12 @@ entry-that test l q = entry-zaps_of l (keys_that test l) q ∙ ap (λ b. cond b 
 
 -- a process without entries has none taken
 pub exit-done : (l : Ledger) (p : ℕ) → ((page : ℕ) → entry l (p, page) ≡ None) → zaps_of l (keys_of_process l p) ≡ []
-exit-done l p none = ap (zaps_of l) (none_that (λ k. k.0 == p) l (λ k t. let same : k.0 ≡ p = grind (arith, nat_tests) in subst (λ x. entry l (x, k.1) ≡ None) (sym same) (none k.1)))
+exit-done l p none = ap (zaps_of l) (none_that (λ k. k.0 == p) l (λ k t. let same : k.0 ≡ p = grind (arith, nat_tests) in
+    subst (λ x. entry l (x, k.1) ≡ None) (sym same) (none k.1)))
 
 -- the entry of its least page goes first
-pub exit-least : (l : Ledger) (p page : ℕ) (e : Entry) → T (is_sorted key_cmp l.entries) → entry l (p, page) ≡ Some e → ((q : ℕ) → q < page → entry l (p, q) ≡ None)
+pub exit-least : (l : Ledger) (p page : ℕ) (e : Entry) → T (is_sorted key_cmp l.entries) → entry l (p, page) ≡ Some e →
+    ((q : ℕ) → q < page → entry l (p, q) ≡ None)
     → zaps_of l (keys_of_process l p) ≡ (let now = after_all l (zap_of l (p, page)) in zap_of l (p, page) ++ zaps_of now (keys_of_process now p))
 exit-least l p page e sorted is least = zaps_of-least (λ k. k.0 == p) l (p, page) e sorted is (itself p) by_page
   where
@@ -248,7 +266,8 @@ in_range p from n k = k.0 == p && within from n k.1
 pub keys_in-is : (l : Ledger) (p from n : ℕ) → keys_in l p from n ≡ keys_that (in_range p from n) l
 keys_in-is l p from n = both (map (λ (e : Key × Entry). e.0) l.entries)
   where
-    either : (k : Key) (ks fs : List Key) (a : Bool) → filter (λ k. within from n k.1) ks ≡ fs → filter (λ k. within from n k.1) (cond a (k ∷ ks) ks) ≡ cond (a && within from n k.1) (k ∷ fs) fs
+    either : (k : Key) (ks fs : List Key) (a : Bool) → filter (λ k. within from n k.1) ks ≡ fs → filter (λ k. within from n k.1) (cond a (k ∷ ks) ks) ≡ cond
+        (a && within from n k.1) (k ∷ fs) fs
     either k ks fs true h = ap (λ x. cond (within from n k.1) (k ∷ x) x) h
     either k ks fs false h = h
 
@@ -257,7 +276,8 @@ keys_in-is l p from n = both (map (λ (e : Key × Entry). e.0) l.entries)
     both (k ∷ ks) = either k (filter (λ k. k.0 == p) ks) (filter (in_range p from n) ks) (k.0 == p) (both ks)
 
 -- its members are the process's keys of the range that have an entry
-pub keys_in-has : (l : Ledger) (p from n q page : ℕ) → list_any (same_key (q, page)) (keys_in l p from n) ≡ ((q == p && within from n page) && is_some (entry l (q, page)))
+pub keys_in-has : (l : Ledger) (p from n q page : ℕ) → list_any (same_key (q, page))
+    (keys_in l p from n) ≡ ((q == p && within from n page) && is_some (entry l (q, page)))
 keys_in-has l p from n q page = ap (list_any (same_key (q, page))) (keys_in-is l p from n) ∙ listed-that (in_range p from n) l (q, page)
 
 in_range-is : (p from n : ℕ) (k : Key) → in_range p from n k ≡ true → (k.0 ≡ p) × (within from n k.1 ≡ true)
@@ -271,13 +291,15 @@ in_range-is p from n k h = (same, inside)
 
 -- a range without entries has none, and none is taken
 pub range-empty : (l : Ledger) (p from n : ℕ) → ((page : ℕ) → within from n page ≡ true → entry l (p, page) ≡ None) → keys_in l p from n ≡ []
-range-empty l p from n none = keys_in-is l p from n ∙ none_that (in_range p from n) l (λ k t. let is = in_range-is p from n k t in subst (λ x. entry l (x, k.1) ≡ None) (sym is.0) (none k.1 is.1))
+range-empty l p from n none = keys_in-is l p from n ∙ none_that (in_range p from n) l (λ k t. let is = in_range-is p from n k t in
+    subst (λ x. entry l (x, k.1) ≡ None) (sym is.0) (none k.1 is.1))
 
 pub range-done : (l : Ledger) (p from n : ℕ) → ((page : ℕ) → within from n page ≡ true → entry l (p, page) ≡ None) → zaps_of l (keys_in l p from n) ≡ []
 range-done l p from n none = ap (zaps_of l) (range-empty l p from n none)
 
 -- the entry of its least page goes first
-pub range-least : (l : Ledger) (p from n page : ℕ) (e : Entry) → T (is_sorted key_cmp l.entries) → entry l (p, page) ≡ Some e → within from n page ≡ true → ((q : ℕ) → from ≤ q → q < page → entry l (p, q) ≡ None)
+pub range-least : (l : Ledger) (p from n page : ℕ) (e : Entry) → T (is_sorted key_cmp l.entries) → entry l (p, page) ≡ Some e → within from n page ≡ true →
+    ((q : ℕ) → from ≤ q → q < page → entry l (p, q) ≡ None)
     → zaps_of l (keys_in l p from n) ≡ (let now = after_all l (zap_of l (p, page)) in zap_of l (p, page) ++ zaps_of now (keys_in now p from n))
 range-least l p from n page e sorted is inside least =
     let now = after_all l (zap_of l (p, page)) in
@@ -295,12 +317,15 @@ range-least l p from n page e sorted is inside least =
         subst (λ x. entry l (x, q.1) ≡ None) (sym ends.0) (least q.1 above under)
 
 -- afterwards it has none, and the other entries stay
-pub entry-range : (l : Ledger) (p from n q page : ℕ) → entry (after_all l (zaps_of l (keys_in l p from n))) (q, page) ≡ cond (q == p && within from n page) None (entry l (q, page))
+pub entry-range : (l : Ledger) (p from n q page : ℕ) → entry (after_all l (zaps_of l (keys_in l p from n))) (q, page) ≡ cond
+    (q == p && within from n page) None (entry l (q, page))
 entry-range l p from n q page = ap (λ ks. entry (after_all l (zaps_of l ks)) (q, page)) (keys_in-is l p from n) ∙ entry-that (in_range p from n) l (q, page)
 
 -- where its first k pages have no entry, a range begins behind them
-pub range-behind : (l : Ledger) (p from n k : ℕ) → k ≤ n → ((page : ℕ) → from ≤ page → page < from + k → entry l (p, page) ≡ None) → keys_in l p from n ≡ keys_in l p (from + k) (n - k)
-range-behind l p from n k few none = keys_in-is l p from n ∙ same-keys (in_range p from n) (in_range p (from + k) (n - k)) l (λ q some. alike q (in_range p from k q) refl some) ∙ sym (keys_in-is l p (from + k) (n - k))
+pub range-behind : (l : Ledger) (p from n k : ℕ) → k ≤ n → ((page : ℕ) → from ≤ page → page < from + k → entry l (p, page) ≡ None) →
+    keys_in l p from n ≡ keys_in l p (from + k) (n - k)
+range-behind l p from n k few none = keys_in-is l p from n ∙ same-keys (in_range p from n) (in_range p (from + k) (n - k)) l
+    (λ q some. alike q (in_range p from k q) refl some) ∙ sym (keys_in-is l p (from + k) (n - k))
   where
     never : (o : Option Entry) → o ≡ None → is_some o ≡ true → ⊥
     never o e h = cc
@@ -334,4 +359,5 @@ zap_of-alone l k cache none = ap (λ o. Zapped k ∷ orphan_drop (after l (Zappe
     behind None is = refl
     behind (Some Zero) is = refl
     behind (Some (InFrame f seen)) is = ap (λ c. slot_of (record l { cache = c }) f) cache
-    behind (Some (InSlot s)) is = let some = how_many-found (names_slot s) k l.entries (InSlot s) is (slot-itself s) in let zero = none s in absurd (omega (arith, some, zero))
+    behind (Some (InSlot s)) is = let some = how_many-found (names_slot s) k l.entries (InSlot s) is (slot-itself s) in let zero = none s in
+        absurd (omega (arith, some, zero))

@@ -54,18 +54,18 @@ abbrev pub no_anons : Anons
 no_anons = record { next = 0; anon = λ _. None }
 
 -- the chain of an area, by its own anon_vma
-abbrev pub chain_of : Anons → Option ℕ → List ℕ
-chain_of anons None = []
-chain_of anons (Some own) = option_map_or (λ (v : AnonVma). v.chain) (anons.anon own) []
+abbrev pub chain_by : Anons → Option ℕ → List ℕ
+chain_by anons None = []
+chain_by anons (Some own) = option_map_or (λ (v : AnonVma). v.chain) (anons.anon own) []
 
 -- how long it is
 abbrev pub chain_length : Anons → Lengths
-chain_length anons own = length (chain_of anons own)
+chain_length anons own = length (chain_by anons own)
 
 -- an area is linked to the anon_vma: it is in the area's chain
 abbrev pub IsLinked : Anons → Areas → ℕ → Type 0
 IsLinked anons on v = (p : ℕ) × (page : ℕ)
-    × IsSomeAnd (on p page) (λ area. is_in v (chain_of anons area.anon) ≡ true)
+    × IsSomeAnd (on p page) (λ area. is_in v (chain_by anons area.anon) ≡ true)
 
 -- what is left of the anon_vmas once these are the areas: none changes, and one is there exactly
 -- while an area is linked to it

@@ -10,7 +10,7 @@ use Rattle.av_trace.specs.declared.reply.Answer.TheVariants.{Done}
 use Rattle.av_trace.specs.declared.row.Row.{Row}
 use Rattle.av_vma.specs.declared.area.Area.{Area}
 use Rattle.av_vma.specs.Pages.{pages_in, with_area}
-use Rattle.av_plain.specs.Areas.{AnonVma, Anons, AreNext, Rmap, chain_of, none_on}
+use Rattle.av_plain.specs.Areas.{AnonVma, Anons, AreNext, Rmap, chain_by, none_on}
 use Rattle.av_plain.specs.Event.{Event, Forked, Inherited}
 use Rattle.av_plain.specs.Ledger.{Key, Ledger}
 use Rattle.av_plain.specs.Report.{AreApart, range_of}
@@ -68,14 +68,14 @@ with_child own None anons = record {
   anon = with_at anons.next (Some (record {
     root = root_of anons own;
     parent = own;
-    chain = chain_of anons (Some own) ++ anons.next ∷ [];
+    chain = chain_by anons (Some own) ++ anons.next ∷ [];
   })) anons.anon;
 }
 with_child own (Some v) anons = record anons {
   anon = with_at v (Some (record {
     root = root_of anons v;
     parent = option_map_or (λ (anon : AnonVma). anon.parent) (anons.anon v) v;
-    chain = chain_of anons (Some own);
+    chain = chain_by anons (Some own);
   })) anons.anon;
 }
 
@@ -90,7 +90,7 @@ with_child_area q area r =
 abbrev pub GoesBy : Option ℕ → ℕ → Area → Rmap → Rmap → Type 0
 GoesBy None q area r next = next ≡ with_child_area q area r
 GoesBy (Some own) q area r next = (reused : Option ℕ)
-    × IsReused r (chain_of r.anons (Some own)) reused
+    × IsReused r (chain_by r.anons (Some own)) reused
     × (next ≡ record (with_child_area q
     (record area { anon = Some (own_of_child r.anons reused) }) r) {
       anons = with_child own reused r.anons;

@@ -115,7 +115,8 @@ prot_left mode q from = if leaves_old mode then prot_at q from else None
 abbrev pub process_after_mremap : ℕ → ℕ → ℕ → ℕ → Option Prot → Process → Process
 process_after_mremap from n to m left q page =
     if within to m page
-    then (if nat_lt (page - to) n then q (from + (page - to)) else option_map zeros (prot_at q from))
+    then (if nat_lt (page - to) n then q (from + (page - to))
+        else option_map zeros (prot_at q from))
     else (if within from n page then option_map zeros left else q page)
 
 -- ---- the areas after it

@@ -13,7 +13,7 @@ use Rattle.av_trace.specs.declared.reply.Totals.{Totals}
 use Rattle.av_vma.specs.declared.area.Area.{Area}
 use Rattle.av_vma.specs.Join.{first_of, past_of}
 use Rattle.av_vma.specs.Pages.{Pages, pages_in}
-use Rattle.av_plain.specs.Areas.{Anons, Areas, chain_of}
+use Rattle.av_plain.specs.Areas.{Anons, Areas, chain_by}
 use Rattle.av_plain.specs.World.{World, Process, Page}
 use Rattle.av_plain.specs.Event.{Event}
 use Rattle.av_plain.specs.Ledger.{Entry, InFrame, InSlot, Key, Ledger, Setting, SwapArea, Zero, entry, frame_at, free_frames, free_slots, slot_of, walk}
@@ -89,7 +89,7 @@ ReportsAreas q events answer rows =
 -- the row of an area, with the chain of its own anon_vma
 abbrev pub area_row : Anons → Area → Row
 area_row anons area =
-    AreaRow area.start area.end area.prot area.pgoff area.anon (chain_of anons area.anon)
+    AreaRow area.start area.end area.prot area.pgoff area.anon (chain_by anons area.anon)
 
 -- the rows are those of the areas that these pages have: each once, rising
 abbrev pub AreRowsOf : Anons → Pages → List Row → Type 0

@@ -36,14 +36,14 @@ abbrev pub uses : Ledger → ℕ → ℕ
 uses l f = map_count l f + holders l f
 
 -- two entries name one memory: one frame, a slot and the frame that caches it, or one slot
-abbrev pub kin : Ledger → Entry → Entry → Bool
-kin l Zero e = false
-kin l (InFrame f seen) Zero = false
-kin l (InFrame f seen) (InFrame g seen') = f == g
-kin l (InFrame f seen) (InSlot s) = nat_lt 0 (pairs l s f)
-kin l (InSlot s) Zero = false
-kin l (InSlot s) (InFrame f seen) = nat_lt 0 (pairs l s f)
-kin l (InSlot s) (InSlot t) = same_slot s t
+abbrev pub name_one : Ledger → Entry → Entry → Bool
+name_one l Zero e = false
+name_one l (InFrame f seen) Zero = false
+name_one l (InFrame f seen) (InFrame g seen') = f == g
+name_one l (InFrame f seen) (InSlot s) = nat_lt 0 (pairs l s f)
+name_one l (InSlot s) Zero = false
+name_one l (InSlot s) (InFrame f seen) = nat_lt 0 (pairs l s f)
+name_one l (InSlot s) (InSlot t) = same_slot s t
 
 -- ---- the ledger
 
@@ -64,7 +64,7 @@ pub record IsSoundBut (m : Setting) (excuse : Slot → ℕ) (l : Ledger) : Type 
       → 0 < flights l s + slot_entries l s + map_count l f + excuse s
   -- two entries of one process name different memories
   pub one : (p a b : ℕ) (d e : Entry) → entry l (p, a) ≡ Some d → entry l (p, b) ≡ Some e
-      → kin l d e ≡ true → a ≡ b
+      → name_one l d e ≡ true → a ≡ b
 
 -- no slot is excused
 abbrev pub no_excuse : Slot → ℕ

@@ -9,7 +9,7 @@ use Rattle.av_base.specs.declared.slot.Slot.{Slot}
 use Rattle.av_plain.specs.Device.{Device, headers_of}
 use Rattle.av_plain.specs.Fault.{is_shared}
 use Rattle.av_plain.specs.Ledger.{Entry, HasNumbers, InFrame, InSlot, Ledger, Setting, SwapArea, Zero, entry, frame_at, in_flight, is_free, is_stale, map_count, names_frame, slot_entries, slot_of}
-use Rattle.av_plain.specs.Areas.{AnonVma, Anons, Areas, Homes, chain_of}
+use Rattle.av_plain.specs.Areas.{AnonVma, Anons, Areas, Homes, chain_by}
 use Rattle.av_plain.specs.Choice.{AreaSlots, Free, ListsAll}
 use Rattle.av_plain.specs.Covered.{IsRmapSound}
 use Rattle.av_plain.specs.Report.{Range, prot_in, range_of, AreApart}
@@ -123,7 +123,7 @@ pub record AnonsStand (v : View) (areas : Areas) (anons : Anons) : Type 0 where
   pub next : v.anons.next ≡ anons.next
   pub kin : (n : ℕ) → option_map kin_of (v.anons.anon n) ≡ option_map kin_of (anons.anon n)
   pub chains : (p page : ℕ) → IfSome (areas p page)
-      (λ area. chain_of v.anons area.anon ≡ chain_of anons area.anon)
+      (λ area. chain_by v.anons area.anon ≡ chain_by anons area.anon)
 
 -- each page of each process is of the area that these have on it, with all that it says
 abbrev pub AreasAre : View → Areas → Type 0

@@ -11,8 +11,9 @@ use Rattle.av_anon.specs.Kin.{IsSameKin}
 use Rattle.av_merge.specs.Kin.{lengths}
 use Rattle.av_merge.proofs.Lengths.{AreAlike}
 use Rattle.av_spaces.specs.Spaces.{AllSpaces, pages_of as areas_on}
-use Rattle.av_spaces.specs.Kin.{AnonsStay, IsLinkedIn, IsOwnedIn, chain_on, info_of}
-use Rattle.av_plain.specs.Areas.{AnonVma, Anons, AreLeft, Areas, IsLinked, chain_length, chain_of}
+use Rattle.av_spaces.specs.Kin as in_spaces
+use Rattle.av_spaces.specs.Kin.{AnonsStay, IsLinkedIn, IsOwnedIn, info_of}
+use Rattle.av_plain.specs.Areas.{AnonVma, Anons, AreLeft, Areas, IsLinked, chain_length, chain_by}
 use Rattle.av_plain.specs.Stands.{AnonsStand, View, kin_of}
 use Rattle.av_plain.specs.Transcript.{State}
 use Rattle.av_reclaim.specs.declared.mem.Mem.{Mem}
@@ -23,10 +24,12 @@ some_is None h = absurd (false≢true h)
 some_is (Some x) h = (x, refl)
 
 -- an anon_vma that is there shows the chain of its areas
-pub shown_chain : (s : AllSpaces) (anons : AnonSet) (own : ℕ) → IsSome (info_of anons own) → chain_of (anons_of s anons) (Some own) ≡ chain_on s anons (Some own)
+pub shown_chain : (s : AllSpaces) (anons : AnonSet) (own : ℕ) → IsSome (info_of anons own) →
+    chain_by (anons_of s anons) (Some own) ≡ in_spaces.chain_by s anons (Some own)
 shown_chain s anons own there = by (info_of anons own) there
   where
-    by : (o : Option Info) → IsSome o → option_map_or (λ (v : AnonVma). v.chain) (option_map (anon_vma (chain_on s anons (Some own))) o) [] ≡ chain_on s anons (Some own)
+    by : (o : Option Info) → IsSome o → option_map_or (λ (v : AnonVma). v.chain) (option_map (anon_vma (in_spaces.chain_by s anons (Some own))) o) []
+        ≡ in_spaces.chain_by s anons (Some own)
     by None h = absurd (false≢true h)
     by (Some i) h = refl
 
@@ -43,9 +46,9 @@ module _ (old : Mem) (s : State) (keeps : Keeps old s) (spaces : AllSpaces) (now
   there_now : (v : ℕ) → IsOwnedIn spaces v → IsSome (info_of now v)
   there_now v h = stay.fit.linked v (h.0, h.1, with_chain (areas_on spaces.processes h.0 h.1) h.2)
     where
-      with_chain : (o : Option Area) → IsSomeAnd o (λ area. area.anon ≡ Some v) → IsSomeAnd o (λ area. is_in v (chain_on spaces now area.anon) ≡ true)
+      with_chain : (o : Option Area) → IsSomeAnd o (λ area. area.anon ≡ Some v) → IsSomeAnd o (λ area. is_in v (in_spaces.chain_by spaces now area.anon) ≡ true)
       with_chain None is = is
-      with_chain (Some A) is = ap (λ own. is_in v (chain_on spaces now own)) is ∙ stay.fit.own v h
+      with_chain (Some A) is = ap (λ own. is_in v (in_spaces.chain_by spaces now own)) is ∙ stay.fit.own v h
 
   there_before : (v : ℕ) → IsOwnedIn spaces v → IsSome (info_of old.anons v)
   there_before v h =
@@ -57,22 +60,23 @@ module _ (old : Mem) (s : State) (keeps : Keeps old s) (spaces : AllSpaces) (now
       of_and i (Some j) h = refl
 
   -- the chain of an own anon_vma is the one that the definitions have
-  own_chain : (v : ℕ) → IsOwnedIn spaces v → chain_on spaces now (Some v) ≡ chain_of s.anons (Some v)
+  own_chain : (v : ℕ) → IsOwnedIn spaces v → in_spaces.chain_by spaces now (Some v) ≡ chain_by s.anons (Some v)
   own_chain v h =
       let was = stay.owned v h in
       stay.chains v h ∙ sym (shown_chain old.spaces old.anons v (there_before v h))
-      ∙ at (s.areas was.0 was.1) (keeps.stands.anons.chains was.0 was.1) (subst (λ o. IsSomeAnd o (λ area. area.anon ≡ Some v)) (keeps.stands.areas was.0 was.1) was.2)
+      ∙ at (s.areas was.0 was.1) (keeps.stands.anons.chains was.0 was.1)
+      (subst (λ o. IsSomeAnd o (λ area. area.anon ≡ Some v)) (keeps.stands.areas was.0 was.1) was.2)
     where
-      at : (o : Option Area) → IfSome o (λ area. chain_of (view old).anons area.anon ≡ chain_of s.anons area.anon) → IsSomeAnd o (λ area. area.anon ≡ Some v)
-          → chain_of (anons_of old.spaces old.anons) (Some v) ≡ chain_of s.anons (Some v)
+      at : (o : Option Area) → IfSome o (λ area. chain_by (view old).anons area.anon ≡ chain_by s.anons area.anon) → IsSomeAnd o (λ area. area.anon ≡ Some v)
+          → chain_by (anons_of old.spaces old.anons) (Some v) ≡ chain_by s.anons (Some v)
       at None c is = absurd is
-      at (Some A) c is = subst (λ own. chain_of (anons_of old.spaces old.anons) own ≡ chain_of s.anons own) is c
+      at (Some A) c is = subst (λ own. chain_by (anons_of old.spaces old.anons) own ≡ chain_by s.anons own) is c
 
   -- so is that of each area
-  pub area_chain : (p page : ℕ) (A : Area) → areas_on spaces.processes p page ≡ Some A → chain_on spaces now A.anon ≡ chain_of s.anons A.anon
+  pub area_chain : (p page : ℕ) (A : Area) → areas_on spaces.processes p page ≡ Some A → in_spaces.chain_by spaces now A.anon ≡ chain_by s.anons A.anon
   area_chain p page A is = by A.anon refl
     where
-      by : (own : Option ℕ) → A.anon ≡ own → chain_on spaces now own ≡ chain_of s.anons own
+      by : (own : Option ℕ) → A.anon ≡ own → in_spaces.chain_by spaces now own ≡ chain_by s.anons own
       by None e = refl
       by (Some v) e = own_chain v (p, page, subst (λ o. IsSomeAnd o (λ area. area.anon ≡ Some v)) (sym is) e)
 
@@ -80,7 +84,7 @@ module _ (old : Mem) (s : State) (keeps : Keeps old s) (spaces : AllSpaces) (now
   pub lengths_alike : (p : ℕ) → AreAlike (lengths spaces.areas now) (chain_length s.anons) (areas_on spaces.processes p)
   lengths_alike p = record { same = λ page A is. by A.anon ∙ ap length (area_chain p page A is) }
     where
-      by : (own : Option ℕ) → lengths spaces.areas now own ≡ length (chain_on spaces now own)
+      by : (own : Option ℕ) → lengths spaces.areas now own ≡ length (in_spaces.chain_by spaces now own)
       by None = refl
       by (Some v) = refl
 
@@ -97,16 +101,28 @@ module _ (old : Mem) (s : State) (keeps : Keeps old s) (spaces : AllSpaces) (now
         kept v false e h = absurd (false≢true h)
 
         linked_on : (v : ℕ) → IsLinkedIn spaces now v → IsLinked s.anons on v
-        linked_on v h = (h.0, h.1, subst (λ o. IsSomeAnd o (λ area. is_in v (chain_of s.anons area.anon) ≡ true)) (areas h.0 h.1) (by (areas_on spaces.processes h.0 h.1) refl h.2))
+        linked_on v h = (
+          h.0,
+          h.1,
+          subst (λ o. IsSomeAnd o (λ area. is_in v (chain_by s.anons area.anon) ≡ true)) (areas h.0 h.1)
+              (by (areas_on spaces.processes h.0 h.1) refl h.2),
+        )
           where
-            by : (o : Option Area) → areas_on spaces.processes h.0 h.1 ≡ o → IsSomeAnd o (λ area. is_in v (chain_on spaces now area.anon) ≡ true) → IsSomeAnd o (λ area. is_in v (chain_of s.anons area.anon) ≡ true)
+            by : (o : Option Area) → areas_on spaces.processes h.0 h.1 ≡ o → IsSomeAnd o (λ area. is_in v (in_spaces.chain_by spaces now area.anon) ≡ true) →
+                IsSomeAnd o (λ area. is_in v (chain_by s.anons area.anon) ≡ true)
             by None e is = is
             by (Some A) e is = sym (ap (is_in v) (area_chain h.0 h.1 A e)) ∙ is
 
         linked_in : (v : ℕ) → IsLinked s.anons on v → IsLinkedIn spaces now v
-        linked_in v h = (h.0, h.1, by (areas_on spaces.processes h.0 h.1) refl (subst (λ o. IsSomeAnd o (λ area. is_in v (chain_of s.anons area.anon) ≡ true)) (sym (areas h.0 h.1)) h.2))
+        linked_in v h = (
+          h.0,
+          h.1,
+          by (areas_on spaces.processes h.0 h.1) refl
+              (subst (λ o. IsSomeAnd o (λ area. is_in v (chain_by s.anons area.anon) ≡ true)) (sym (areas h.0 h.1)) h.2),
+        )
           where
-            by : (o : Option Area) → areas_on spaces.processes h.0 h.1 ≡ o → IsSomeAnd o (λ area. is_in v (chain_of s.anons area.anon) ≡ true) → IsSomeAnd o (λ area. is_in v (chain_on spaces now area.anon) ≡ true)
+            by : (o : Option Area) → areas_on spaces.processes h.0 h.1 ≡ o → IsSomeAnd o (λ area. is_in v (chain_by s.anons area.anon) ≡ true) →
+                IsSomeAnd o (λ area. is_in v (in_spaces.chain_by spaces now area.anon) ≡ true)
             by None e is = is
             by (Some A) e is = ap (is_in v) (area_chain h.0 h.1 A e) ∙ is
 
@@ -124,25 +140,28 @@ module _ (old : Mem) (s : State) (keeps : Keeps old s) (spaces : AllSpaces) (now
         shown n = ap (λ (a : Anons). option_map kin_of (a.anon n)) anons_are
 
         same_kin : (n : ℕ) (i : Info) (o : Option Info) → IsSomeAnd o (λ was. IsSameKin was i)
-            → option_map kin_of (Some (anon_vma (chain_on spaces now (Some n)) i)) ≡ option_map kin_of (option_map (anon_vma (chain_on old.spaces old.anons (Some n))) o)
+            → option_map kin_of (Some (anon_vma (in_spaces.chain_by spaces now (Some n)) i)) ≡ option_map kin_of
+            (option_map (anon_vma (in_spaces.chain_by old.spaces old.anons (Some n))) o)
         same_kin n i None h = absurd h
         same_kin n i (Some was) h = λ k. Some (h.root k, h.parent k)
 
         kin_at : (n : ℕ) (o : Option Info) → info_of now n ≡ o → IfSome o (λ i. IsSomeAnd (info_of old.anons n) (λ was. IsSameKin was i))
-            → option_map kin_of (option_map (anon_vma (chain_on spaces now (Some n))) o) ≡ option_map kin_of (if_there (is_some o) (s.anons.anon n))
+            → option_map kin_of (option_map (anon_vma (in_spaces.chain_by spaces now (Some n))) o) ≡ option_map kin_of (if_there (is_some o) (s.anons.anon n))
         kin_at n None e h = refl
         kin_at n (Some i) e h = same_kin n i (info_of old.anons n) h ∙ keeps.stands.anons.kin n
 
-        left_chain : (A : Area) (p page : ℕ) → areas_on spaces.processes p page ≡ Some A → chain_of (anons_of spaces now) A.anon ≡ chain_of (left_of now s.anons) A.anon
+        left_chain : (A : Area) (p page : ℕ) → areas_on spaces.processes p page ≡ Some A →
+            chain_by (anons_of spaces now) A.anon ≡ chain_by (left_of now s.anons) A.anon
         left_chain A p page is = by A.anon refl
           where
-            by : (own : Option ℕ) → A.anon ≡ own → chain_of (anons_of spaces now) own ≡ chain_of (left_of now s.anons) own
+            by : (own : Option ℕ) → A.anon ≡ own → chain_by (anons_of spaces now) own ≡ chain_by (left_of now s.anons) own
             by None e = refl
             by (Some v) e =
                 let owned : IsOwnedIn spaces v = (p, page, subst (λ o. IsSomeAnd o (λ area. area.anon ≡ Some v)) (sym is) e) in
                 shown_chain spaces now v (there_now v owned) ∙ own_chain v owned
                 ∙ sym (ap (λ b. option_map_or (λ (w : AnonVma). w.chain) (if_there b (s.anons.anon v)) []) (there_now v owned))
 
-        chain_at : (p page : ℕ) (o : Option Area) → on p page ≡ o → IfSome o (λ area. chain_of (view new).anons area.anon ≡ chain_of (left_of now s.anons) area.anon)
+        chain_at : (p page : ℕ) (o : Option Area) → on p page ≡ o → IfSome o
+            (λ area. chain_by (view new).anons area.anon ≡ chain_by (left_of now s.anons) area.anon)
         chain_at p page None e = tt
-        chain_at p page (Some A) e = ap (λ (a : Anons). chain_of a A.anon) anons_are ∙ left_chain A p page (areas p page ∙ e)
+        chain_at p page (Some A) e = ap (λ (a : Anons). chain_by a A.anon) anons_are ∙ left_chain A p page (areas p page ∙ e)

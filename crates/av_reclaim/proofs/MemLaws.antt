@@ -24,7 +24,7 @@ use Rattle.av_anon.specs.Anons.{Family, family, nobody}
 use Rattle.av_anon.specs.Order.{IsInOrder}
 use Rattle.av_anon.specs.Spans.{spans_of}
 use Rattle.av_anon.proofs.OrderLaws.{order-nobody}
-use Rattle.av_spaces.specs.Kin.{AnonsFit, InOrder, IsOwnedIn, chain_on, info_of}
+use Rattle.av_spaces.specs.Kin.{AnonsFit, InOrder, IsOwnedIn, chain_by, info_of}
 use Rattle.av_spaces.specs.Spaces.{AllSpaces, Spaces, areas_of, pages_of, is_taken, AreRising, AllRising, IsOwn}
 use Rattle.av_plain.specs.World.{Page, lives, pages}
 use Rattle.av_plain.specs.Ledger.{Ledger, Setting, Entry, Zero as ZeroEntry, InFrame, InSlot, first_ledger, frame_at, free_slots, cached_by, Cached, is_cached, same_slot, slot_count, slot_entries}
@@ -65,7 +65,8 @@ prots_in : (areas : List Area) (page : ℕ) → prot_in (map range_of areas) pag
 prots_in [] page = refl
 prots_in (a ∷ areas) page =
     ap (λ b. cond b (Some a.prot) (prot_in (map range_of areas) page)) (in_range (first_of a) (past_of a) page)
-    ∙ elim (has_page a page) as (λ b. cond b (Some a.prot) (prot_in (map range_of areas) page) ≡ option_map prot_on (cond b (Some a) (find (λ area. has_page area page) areas))) [
+    ∙ elim (has_page a page) as (λ b. cond b (Some a.prot) (prot_in (map range_of areas) page) ≡ option_map prot_on
+    (cond b (Some a) (find (λ area. has_page area page) areas))) [
       | true ↦ refl
       | false ↦ prots_in areas page
     ]
@@ -106,7 +107,8 @@ all_apart s rising p = by (areas_of s p) (rising p)
 -- ---- the view
 
 -- tables with the same entries are seen alike
-pub view_same : (old new : Mem) → entry_at new.tables ≡ entry_at old.tables → new.frames ≡ old.frames → new.spaces ≡ old.spaces → new.anons ≡ old.anons → view new ≡ view old
+pub view_same : (old new : Mem) → entry_at new.tables ≡ entry_at old.tables → new.frames ≡ old.frames → new.spaces ≡ old.spaces →
+    new.anons ≡ old.anons → view new ≡ view old
 view_same old new tables frames spaces anons = λ i. view_of_parts (seen (frames i)) (λ p page. plain (tables i p page)) (spaces i) (anons i)
 
 pub plain_set : (old new : ℕ → ℕ → Pte) (p page : ℕ) (e : Pte) → new ≡ with_entry p page e old
@@ -118,9 +120,11 @@ plain_set old new p page e is = λ k q o. (ap (λ f. plain (f q o)) is ∙ pushe
     pushed false e x = refl
 
 -- an entry has been set
-pub entry_put_in : (old new : Mem) (p page : ℕ) (e : Pte) → entry_at new.tables ≡ with_entry p page e (entry_at old.tables) → new.frames ≡ old.frames → new.spaces ≡ old.spaces → new.anons ≡ old.anons
+pub entry_put_in : (old new : Mem) (p page : ℕ) (e : Pte) → entry_at new.tables ≡ with_entry p page e (entry_at old.tables) → new.frames ≡ old.frames →
+    new.spaces ≡ old.spaces → new.anons ≡ old.anons
     → view new ≡ record (view old) { table = with_entry p page (plain e) (view old).table }
-entry_put_in old new p page e is frames spaces anons = λ i. view_of_parts (seen (frames i)) (plain_set (entry_at old.tables) (entry_at new.tables) p page e is i) (spaces i) (anons i)
+entry_put_in old new p page e is frames spaces anons = λ i. view_of_parts (seen (frames i))
+    (plain_set (entry_at old.tables) (entry_at new.tables) p page e is i) (spaces i) (anons i)
 
 -- ---- no slot is cached
 
@@ -138,7 +142,8 @@ no_cache l none = by l.cache refl
     by [] e = e
     by (c ∷ cs) e =
         let same : same_slot c.slot c.slot ≡ true = λ i. itself c.slot.area i && itself c.slot.page i in
-        absurd (clash (none c.slot ∙ ap (λ (c' : List Cached). option_map (λ (c : Cached). c.frame) (cached_by (λ d. same_slot c.slot d.slot) c')) e ∙ ap (λ b. option_map (λ (c : Cached). c.frame) (cond b (Some c) (cached_by (λ d. same_slot c.slot d.slot) cs))) same))
+        absurd (clash (none c.slot ∙ ap (λ (c' : List Cached). option_map (λ (c : Cached). c.frame) (cached_by (λ d. same_slot c.slot d.slot) c')) e
+        ∙ ap (λ b. option_map (λ (c : Cached). c.frame) (cond b (Some c) (cached_by (λ d. same_slot c.slot d.slot) cs))) same))
 
 pub no_frame_at : (l : Ledger) (s : Slot) → l.cache ≡ [] → frame_at l s ≡ None
 no_frame_at l s none = ap (λ (c : List Cached). option_map (λ (c : Cached). c.frame) (cached_by (λ c. same_slot s c.slot) c)) none
@@ -192,7 +197,8 @@ kept-nothing v l (Some (InSlot s)) = at (frame_at l s)
 nothing : {A : Type 0} {x : A} → None ≡ Some x → ⊥
 nothing e = cc
 
-pub fresh-keeps : (frames : Store) (tables : ProcessTables) (spaces : AllSpaces) (anons : AnonSet) (n : ℕ) → seen frames ≡ fresh_frames n → ((p : ℕ) → has tables p ≡ false) → spaces.processes ≡ []
+pub fresh-keeps : (frames : Store) (tables : ProcessTables) (spaces : AllSpaces) (anons : AnonSet) (n : ℕ) → seen frames ≡ fresh_frames n →
+    ((p : ℕ) → has tables p ≡ false) → spaces.processes ≡ []
     → ((number : ℕ) → area_of spaces.areas number ≡ None) → family anons ≡ nobody → ((v : ℕ) → spans_of anons v ≡ [])
     → Keeps (record { frames = frames; tables = tables; spaces = spaces; anons = anons }) (at_first (setting n))
 fresh-keeps frames tables spaces anons n is none empty unused nobodies unspanned = record {
@@ -206,7 +212,8 @@ fresh-keeps frames tables spaces anons n is none empty unused nobodies unspanned
           maps = λ f. ap (λ (s : Seen). s.maps f) is;
           slots = λ f. ap (λ (s : Seen). s.slot f) is;
           dirty = λ f. tt;
-          free = λ f below. ap (λ (s : Seen). is_in f s.free) is ∙ is_in-numbers 0 n f (omega arith) (let same = ap (λ (s : Seen). s.count) is in omega (arith, below, same));
+          free = λ f below. ap (λ (s : Seen). is_in f s.free) is ∙ is_in-numbers 0 n f (omega arith) (let same = ap (λ (s : Seen). s.count) is in
+              omega (arith, below, same));
         };
         lists = record { active = refl };
         tables = record {
@@ -229,7 +236,7 @@ fresh-keeps frames tables spaces anons n is none empty unused nobodies unspanned
     areas = λ p page. ap (λ (s : Spaces). pages_of s p page) empty;
     anons = record {
       next = ap (λ (f : Family). f.next) nobodies;
-      kin = λ v. ap (λ (f : Family). option_map kin_of (option_map (anon_vma (chain_on spaces anons (Some v))) (f.info v))) nobodies;
+      kin = λ v. ap (λ (f : Family). option_map kin_of (option_map (anon_vma (chain_by spaces anons (Some v))) (f.info v))) nobodies;
       chains = λ p page. tt;
     };
     homes = λ f. ap (λ (s : Seen). s.home f) is;
@@ -239,7 +246,7 @@ fresh-keeps frames tables spaces anons n is none empty unused nobodies unspanned
   anons = record {
     order = in_order;
     there = λ v there. absurd (none_there_yet v there);
-    linked = λ v h. absurd (subst (λ o. IsSomeAnd o (λ area. is_in v (chain_on spaces anons area.anon) ≡ true)) (none_on_page h.0 h.1) h.2);
+    linked = λ v h. absurd (subst (λ o. IsSomeAnd o (λ area. is_in v (chain_by spaces anons area.anon) ≡ true)) (none_on_page h.0 h.1) h.2);
     own = λ v h. absurd (subst (λ o. IsSomeAnd o (λ area. area.anon ≡ Some v)) (none_on_page h.0 h.1) h.2);
     active = λ v. subst (λ o. IfSome o (λ i. (1 ≤ i.active) ↔ IsOwnedIn spaces v)) (sym (ap (λ (f : Family). f.info v) nobodies)) tt;
   };
@@ -253,7 +260,8 @@ fresh-keeps frames tables spaces anons n is none empty unused nobodies unspanned
 
     in_order : InOrder spaces anons
     in_order = subst (λ (areas : ℕ → Option Area). IsInOrder areas (family anons) (spans_of anons)) (λ i number. sym (unused number) i)
-        (subst (λ f. IsInOrder (λ _. None) f (spans_of anons)) (sym nobodies) (subst (λ (s : ℕ → List Span). IsInOrder (λ _. None) nobody s) (λ i v. sym (unspanned v) i) order-nobody))
+        (subst (λ f. IsInOrder (λ _. None) f (spans_of anons)) (sym nobodies)
+        (subst (λ (s : ℕ → List Span). IsInOrder (λ _. None) nobody s) (λ i v. sym (unspanned v) i) order-nobody))
 
     none_there_yet : (v : ℕ) → is_some (info_of anons v) ≡ true → ⊥
     none_there_yet v there = false≢true (sym (ap (λ (f : Family). is_some (f.info v)) nobodies) ∙ there)

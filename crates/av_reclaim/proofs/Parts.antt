@@ -27,9 +27,11 @@ parts_of k = record { frames = seen k.frames; table = entry_at k.tables; spaces 
 abbrev pub Stand : Parts → Ledger → Type 0
 Stand k l = SoundLedger (setting k.frames.count) (seen_as k) l
 
-pub parts_same : (old new : Parts) → new.table ≡ old.table → new.frames ≡ old.frames → new.spaces ≡ old.spaces → new.anons ≡ old.anons → seen_as new ≡ seen_as old
+pub parts_same : (old new : Parts) → new.table ≡ old.table → new.frames ≡ old.frames → new.spaces ≡ old.spaces →
+    new.anons ≡ old.anons → seen_as new ≡ seen_as old
 parts_same old new table frames spaces anons = λ i. view_of_parts (frames i) (λ p page. plain (table i p page)) (spaces i) (anons i)
 
-pub parts_put : (old new : Parts) (p page : ℕ) (e : Pte) → new.table ≡ with_entry p page e old.table → new.frames ≡ old.frames → new.spaces ≡ old.spaces → new.anons ≡ old.anons
+pub parts_put : (old new : Parts) (p page : ℕ) (e : Pte) → new.table ≡ with_entry p page e old.table → new.frames ≡ old.frames →
+    new.spaces ≡ old.spaces → new.anons ≡ old.anons
     → seen_as new ≡ record (seen_as old) { table = with_entry p page (plain e) (seen_as old).table }
 parts_put old new p page e table frames spaces anons = λ i. view_of_parts (frames i) (plain_set old.table new.table p page e table i) (spaces i) (anons i)

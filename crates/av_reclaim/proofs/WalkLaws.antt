@@ -23,7 +23,8 @@ use Rattle.av_anon.specs.Spans.{spans_of}
 use Rattle.av_anon.proofs.KinLaws.{chain_by-is}
 use Rattle.av_spaces.specs.Spaces.{AllRising, AreNumbered, IsNumber, pages_of}
 use Rattle.av_spaces.proofs.Rising.{laid}
-use Rattle.av_spaces.specs.Kin.{chain_on, info_of}
+use Rattle.av_spaces.specs.Kin as in_spaces
+use Rattle.av_spaces.specs.Kin.{info_of}
 use Rattle.av_rmap.specs.View.{AreApart, AreSpanned, View as Reach, view_with}
 use Rattle.av_rmap.specs.Covered.{IsCovered, IsReached}
 use Rattle.av_rmap.specs.Sorted.{AreRising, IsBefore}
@@ -32,7 +33,7 @@ use Rattle.av_interval.specs.Search.{overlaps}
 use Rattle.av_rmap.proofs.Counting.{keys-as-long}
 use Rattle.av_rmap.proofs.LinkedAreas.{spans-are-areas}
 use Rattle.av_rmap.proofs.SortedLemmas.{below-before, once-there, rising-same}
-use Rattle.av_plain.specs.Areas.{AnonVma, chain_of}
+use Rattle.av_plain.specs.Areas.{AnonVma, chain_by}
 use Rattle.av_plain.specs.Covered.{IsReached as IsReachedAt}
 use Rattle.av_plain.specs.Ledger.{Entry, Ledger, entry, key_cmp, map_count, names_frame as names, walk}
 use Rattle.av_plain.specs.Stands.{entry_of}
@@ -112,15 +113,18 @@ module _ (k : Mem) (s : State) (keeps : Keeps k s) where
 
   -- a link that the definitions say is one of the area's chain
   linked_is : (p page v n : ℕ) (A : Area) → IsNumber k.spaces p page A n → s.areas p page ≡ Some A
-      → is_in v (chain_of s.anons A.anon) ≡ true → is_in v ((family k.anons).chain n) ≡ true
-  linked_is p page v n A is on linked = of_own A.anon refl (ap (is_in v) (subst (λ o. IfSome o (λ area. chain_of (anons_of k.spaces k.anons) area.anon ≡ chain_of s.anons area.anon)) on (keeps.stands.anons.chains p page)) ∙ linked)
+      → is_in v (chain_by s.anons A.anon) ≡ true → is_in v ((family k.anons).chain n) ≡ true
+  linked_is p page v n A is on linked = of_own A.anon refl (ap (is_in v)
+      (subst (λ o. IfSome o (λ area. chain_by (anons_of k.spaces k.anons) area.anon ≡ chain_by s.anons area.anon)) on (keeps.stands.anons.chains p page))
+      ∙ linked)
     where
-      of_info : (own : ℕ) (o : Option Info) → is_in v (option_map_or (λ (x : AnonVma). x.chain) (option_map (anon_vma (chain_on k.spaces k.anons (Some own))) o) []) ≡ true
-          → is_in v (chain_on k.spaces k.anons (Some own)) ≡ true
+      of_info : (own : ℕ) (o : Option Info) → is_in v (option_map_or (λ (x : AnonVma). x.chain)
+          (option_map (anon_vma (in_spaces.chain_by k.spaces k.anons (Some own))) o) []) ≡ true
+          → is_in v (in_spaces.chain_by k.spaces k.anons (Some own)) ≡ true
       of_info own None h = absurd (false≢true h)
       of_info own (Some i) h = h
 
-      of_own : (own : Option ℕ) → A.anon ≡ own → is_in v (chain_of (anons_of k.spaces k.anons) own) ≡ true → is_in v ((family k.anons).chain n) ≡ true
+      of_own : (own : Option ℕ) → A.anon ≡ own → is_in v (chain_by (anons_of k.spaces k.anons) own) ≡ true → is_in v ((family k.anons).chain n) ≡ true
       of_own None e h = absurd (false≢true h)
       of_own (Some own) e h =
           ap (is_in v) (sym (chain_by-is (area_of k.spaces.areas) (family k.anons) (spans_of k.anons) n own keeps.anons.order (ap own_of is.at ∙ e)))
@@ -129,7 +133,8 @@ module _ (k : Mem) (s : State) (keeps : Keeps k s) where
   reached : AreNumbered k.spaces → (home : ℕ × ℕ) (p page : ℕ) → IsReachedAt (rmap_of s) (p, page) home → IsReached (reach k) home p page
   reached numbered home p page h = by (s.areas p page) refl h
     where
-      by : (o : Option Area) → s.areas p page ≡ o → IsSomeAnd o (λ area. (is_in home.0 (chain_of s.anons area.anon) ≡ true) × (index_of area page ≡ home.1)) → IsReached (reach k) home p page
+      by : (o : Option Area) → s.areas p page ≡ o → IsSomeAnd o (λ area. (is_in home.0 (chain_by s.anons area.anon) ≡ true) × (index_of area page ≡ home.1)) →
+          IsReached (reach k) home p page
       by None on h = absurd h
       by (Some A) on h =
           let n = numbered.numbers p page A (keeps.stands.areas p page ∙ on) in
@@ -167,7 +172,8 @@ module _ (k : Mem) (s : State) (keeps : Keeps k s) where
   -- it finds no more than the frame's count
   pub few : (f : ℕ) (keys : List Key) → AreItsEntries (reach k) f keys → length keys ≤ (view k).maps f
   few f keys also =
-      let same : length keys ≡ (view k).maps f = keys-as-long keys (walk s.ledger f) (λ q. also q ∙ sym (its f q)) ∙ length-walk s.ledger f ∙ sym (keeps.stands.parts.ledger.frames.maps f) in
+      let same : length keys ≡ (view k).maps f = keys-as-long keys (walk s.ledger f) (λ q. also q ∙ sym (its f q)) ∙ length-walk s.ledger f
+      ∙ sym (keeps.stands.parts.ledger.frames.maps f) in
       omega (arith, same)
 
   pub found : (f : ℕ) (keys : List Key) → AreItsEntries (reach k) f keys → AreRising keys → keys ≡ walk s.ledger f
@@ -184,7 +190,8 @@ module _ (k : Mem) (s : State) (keeps : Keeps k s) where
   -- and each is at a page below the top
   mapped_below : AllRising k.spaces.processes → (q : Key) → is_some (entry s.ledger q) ≡ true → q.1 < top_page
   mapped_below rising q is =
-      by (pages_of k.spaces.processes q.0 q.1) refl (taken_has k.spaces.processes q.0 q.1 ∙ ap is_some (keeps.stands.parts.areas.covers q.0 q.1) ∙ mapped_is (pages s.world q.0 q.1) ∙ keeps.stands.sound.at_pages q.0 q.1 is)
+      by (pages_of k.spaces.processes q.0 q.1) refl (taken_has k.spaces.processes q.0 q.1 ∙ ap is_some (keeps.stands.parts.areas.covers q.0 q.1)
+      ∙ mapped_is (pages s.world q.0 q.1) ∙ keeps.stands.sound.at_pages q.0 q.1 is)
     where
       by : (o : Option Area) → pages_of k.spaces.processes q.0 q.1 ≡ o → is_some o ≡ true → q.1 < top_page
       by None e h = absurd (false≢true h)

@@ -54,7 +54,8 @@ module _ (m : Setting) (v : View) (l : Ledger) (p page : ℕ) (e : Entry) (maps 
   cache_now = (same_swap-after_zap (p, page) l).cache ∙ cache
 
   pub mapped_now : (g : ℕ) → map_count (after_zap (p, page) l) g ≡ maps g
-  mapped_now g = equal _ _ _ _ _ (map_count-after_zap (p, page) l g parts.sound.in_order) (ap (weight (names_frame g)) is) (counts g) (parts.parts.frames.maps g)
+  mapped_now g = equal _ _ _ _ _ (map_count-after_zap (p, page) l g parts.sound.in_order) (ap (weight (names_frame g)) is)
+      (counts g) (parts.parts.frames.maps g)
     where
       equal : (n x y k c : ℕ) {w : ℕ} → n ≡ x + k → k ≡ c → y + c ≡ w → w ≡ n → x ≡ y
       equal n x y k c a b d f = omega arith
@@ -82,15 +83,18 @@ module _ (m : Setting) (v : View) (l : Ledger) (p page : ℕ) (e : Entry) (maps 
       fewer : (n x y k : ℕ) → nat_lt 1 n ≡ false → x + k ≡ n → y ≡ x → nat_lt 1 y ≡ false
       fewer n x y k h e same = let few : n ≤ 1 = grind (arith, nat_tests, h) in let less : y ≤ 1 = omega (arith, few, e, same) in grind (arith, nat_tests, less)
 
-      by : (b : Bool) (q o : ℕ) (t : Plain) (g : ℕ) → cond b None (v.table q o) ≡ Some t → t.write ≡ true → names_frame g t.entry ≡ true → is_shared (after_zap (p, page) l) g ≡ false
+      by : (b : Bool) (q o : ℕ) (t : Plain) (g : ℕ) → cond b None (v.table q o) ≡ Some t → t.write ≡ true → names_frame g t.entry ≡ true →
+          is_shared (after_zap (p, page) l) g ≡ false
       by true q o t g there writes names = absurd (clash there)
       by false q o t g there writes names =
           shared_is (after_zap (p, page) l) g cache_now
-          ∙ fewer (map_count l g) (maps g) (map_count (after_zap (p, page) l) g) (cond (names_frame g e) 1 0) (sym (shared_is l g cache) ∙ parts.parts.tables.write_bits q o t g there writes names) (counts g ∙ parts.parts.frames.maps g) (mapped_now g)
+          ∙ fewer (map_count l g) (maps g) (map_count (after_zap (p, page) l) g) (cond (names_frame g e) 1 0)
+          (sym (shared_is l g cache) ∙ parts.parts.tables.write_bits q o t g there writes names) (counts g ∙ parts.parts.frames.maps g) (mapped_now g)
 
   pub stands_now : SoundLedger m (record v { table = with_entry p page None v.table; maps = maps; free = rest }) (after_zap (p, page) l)
   stands_now = record {
-    sound = subst (IsSound m) (ap (after_all l) (zap_of-alone l (p, page) cache (λ s. sym (parts.parts.swap.counts s) ∙ no_entries s))) (zap_of-kept m l (p, page) parts.sound);
+    sound = subst (IsSound m) (ap (after_all l) (zap_of-alone l (p, page) cache (λ s. sym (parts.parts.swap.counts s) ∙ no_entries s)))
+        (zap_of-kept m l (p, page) parts.sound);
     parts = record {
       frames = record {
         frames = parts.parts.frames.frames;
@@ -128,7 +132,8 @@ module _ (m : Setting) (v : View) (l : Ledger) (p page : ℕ)
       same n = omega arith
 
   pub zero_freed : HasNoDevice m → entry l (p, page) ≡ Some Zero → Chooses m None l (Zapped (p, page)) (free_of v) (free_of v)
-  zero_freed none is = chooses-kept m None l (Zapped (p, page)) (free_of v) (unslotted none) refl (new_free-zap_none m (p, page) l parts.sound.in_order (λ g. ap (weight (names_frame g)) is))
+  zero_freed none is = chooses-kept m None l (Zapped (p, page)) (free_of v) (unslotted none) refl
+      (new_free-zap_none m (p, page) l parts.sound.in_order (λ g. ap (weight (names_frame g)) is))
 
   -- without a slot the uses of a frame are its entries
   uses_are : (g : ℕ) → uses l g ≡ v.maps g
@@ -173,10 +178,12 @@ module _ (m : Setting) (v : View) (l : Ledger) (p page : ℕ)
           by false e = refl
 
       pub shared_left : SoundLedger m (record v { table = with_entry p page None v.table; maps = with_at f (v.maps f - 1) v.maps }) (after_zap (p, page) l)
-      shared_left = stands_now m v l p page (InFrame f was) (with_at f (v.maps f - 1) v.maps) v.free cache parts no_active no_entries is (λ s. refl) fewer shared_free
+      shared_left = stands_now m v l p page (InFrame f was) (with_at f (v.maps f - 1) v.maps) v.free cache parts no_active no_entries is
+          (λ s. refl) fewer shared_free
 
       pub shared_freed : HasNoDevice m → Chooses m None l (Zapped (p, page)) (free_of v) (free_of v)
-      shared_freed none = chooses-kept m None l (Zapped (p, page)) (free_of v) (unslotted none) refl (new_free-zap_more m (p, page) l f was parts.sound.in_order is (subst (λ n. 1 < n) (sym (uses_are f)) two))
+      shared_freed none = chooses-kept m None l (Zapped (p, page)) (free_of v) (unslotted none) refl
+          (new_free-zap_more m (p, page) l f was parts.sound.in_order is (subst (λ n. 1 < n) (sym (uses_are f)) two))
 
     -- no other does
     module _ (one : (v.maps f == 1) ≡ true) where
@@ -190,12 +197,19 @@ module _ (m : Setting) (v : View) (l : Ledger) (p page : ℕ)
           by true e = gone (v.maps f) one
           by false e = refl
 
-      pub last_left : SoundLedger m (record v { table = with_entry p page None v.table; maps = with_at f (v.maps f - 1) v.maps; free = f ∷ v.free }) (after_zap (p, page) l)
-      last_left = stands_now m v l p page (InFrame f was) (with_at f (v.maps f - 1) v.maps) (f ∷ v.free) cache parts no_active no_entries is (λ s. refl) fewer last_free
+      pub last_left : SoundLedger m (record v { table = with_entry p page None v.table; maps = with_at f (v.maps f - 1) v.maps; free = f ∷ v.free })
+          (after_zap (p, page) l)
+      last_left = stands_now m v l p page (InFrame f was) (with_at f (v.maps f - 1) v.maps) (f ∷ v.free) cache parts no_active no_entries is
+          (λ s. refl) fewer last_free
 
       pub last_freed : HasNoDevice m → Chooses m None l (Zapped (p, page)) (free_of v) (record { frames = f ∷ v.free; slots = v.slots })
       last_freed none = record {
-        frames = (v.free, refl, ap (λ fs. fs ++ v.free) (sym (new_free-zap_last m (p, page) l f was parts.sound.in_order is below (uses_are f ∙ once (v.maps f) one))));
+        frames = (
+          v.free,
+          refl,
+          ap (λ fs. fs ++ v.free) (sym (new_free-zap_last m (p, page) l f was parts.sound.in_order is below
+              (uses_are f ∙ once (v.maps f) one))),
+        );
         slots = unslotted none;
       }
         where
@@ -210,15 +224,18 @@ module _ (m : Setting) (v : View) (l : Ledger) (p page : ℕ)
     released_left = by (v.maps f == 1) refl
       where
         by : (b : Bool) → (v.maps f == 1) ≡ b
-            → SoundLedger m (cond b (record v { table = with_entry p page None v.table; maps = with_at f (v.maps f - 1) v.maps; free = f ∷ v.free }) (record v { table = with_entry p page None v.table; maps = with_at f (v.maps f - 1) v.maps })) (after_zap (p, page) l)
+            → SoundLedger m (cond b (record v { table = with_entry p page None v.table; maps = with_at f (v.maps f - 1) v.maps; free = f ∷ v.free })
+            (record v { table = with_entry p page None v.table; maps = with_at f (v.maps f - 1) v.maps })) (after_zap (p, page) l)
         by true e = last_left e
         by false e = shared_left e
 
-    pub released_freed : HasNoDevice m → Chooses m None l (Zapped (p, page)) (free_of v) (free_of (after_unmap_frame f (record v { table = with_entry p page None v.table })))
+    pub released_freed : HasNoDevice m → Chooses m None l (Zapped (p, page)) (free_of v)
+        (free_of (after_unmap_frame f (record v { table = with_entry p page None v.table })))
     released_freed none = by (v.maps f == 1) refl
       where
         by : (b : Bool) → (v.maps f == 1) ≡ b
             → Chooses m None l (Zapped (p, page)) (free_of v)
-            (free_of (cond b (record v { table = with_entry p page None v.table; maps = with_at f (v.maps f - 1) v.maps; free = f ∷ v.free }) (record v { table = with_entry p page None v.table; maps = with_at f (v.maps f - 1) v.maps })))
+            (free_of (cond b (record v { table = with_entry p page None v.table; maps = with_at f (v.maps f - 1) v.maps; free = f ∷ v.free })
+            (record v { table = with_entry p page None v.table; maps = with_at f (v.maps f - 1) v.maps })))
         by true e = last_freed e none
         by false e = shared_freed e none

@@ -41,7 +41,8 @@ module _ (old : Parts) (l : Ledger) (stands : Stand old l) where
   frame_there p page f write was e = sym (stands.parts.tables.entries p page) ∙ ap (λ t. entry_of (plain t)) e
 
   -- an entry's frame is in use
-  pub frame_used : (p page f : ℕ) (write was : Bool) → old.table p page ≡ Here f write was → (f < old.frames.count) × (0 < (seen_as old).maps f) × (is_in f (seen_as old).free ≡ false)
+  pub frame_used : (p page f : ℕ) (write was : Bool) → old.table p page ≡ Here f write was → (f < old.frames.count) × (0 < (seen_as old).maps f)
+      × (is_in f (seen_as old).free ≡ false)
   frame_used p page f write was e =
       let some : 0 < map_count l f = how_many-found (names_frame f) (p, page) l.entries (InFrame f was) (frame_there p page f write was e) (itself f) in
       let below : f < old.frames.count = stands.sound.in_range f (omega (arith, some)) in
@@ -51,48 +52,57 @@ module _ (old : Parts) (l : Ledger) (stands : Stand old l) where
       positive n h = grind (arith, nat_tests, h)
 
   -- an entry that is neither a frame nor empty is the page of zeros
-  zero_there : (p page : ℕ) (e : Pte) → old.table p page ≡ e → (e ≡ Empty → ⊥) → ((f : ℕ) (write was : Bool) → e ≡ Here f write was → ⊥) → entry l (p, page) ≡ Some Zero
+  zero_there : (p page : ℕ) (e : Pte) → old.table p page ≡ e → (e ≡ Empty → ⊥) → ((f : ℕ) (write was : Bool) → e ≡ Here f write was → ⊥) →
+      entry l (p, page) ≡ Some Zero
   zero_there p page Empty is some other = absurd (some refl)
   zero_there p page ZeroPte is some other = sym (stands.parts.tables.entries p page) ∙ ap (λ t. entry_of (plain t)) is
   zero_there p page (Here f write was) is some other = absurd (other f write was refl)
   zero_there p page (Away s) is some other =
-      let found = how_many-found (names_slot s) (p, page) l.entries (InSlot s) (sym (stands.parts.tables.entries p page) ∙ ap (λ t. entry_of (plain t)) is) (λ i. itself s.area i && itself s.page i) in
+      let found = how_many-found (names_slot s) (p, page) l.entries (InSlot s) (sym (stands.parts.tables.entries p page) ∙ ap (λ t. entry_of (plain t)) is)
+      (λ i. itself s.area i && itself s.page i) in
       let zero = stands.parts.swap.counts s in
       absurd (omega (arith, found, zero))
 
   module _ (new : Parts) (p from past : ℕ) where
-    pub none_taken : ((q : ℕ) → from ≤ q → q < past → old.table p q ≡ Empty) → new.table ≡ old.table → new.frames ≡ old.frames → new.spaces ≡ old.spaces → new.anons ≡ old.anons → Takes old new l p from past None
+    pub none_taken : ((q : ℕ) → from ≤ q → q < past → old.table p q ≡ Empty) → new.table ≡ old.table → new.frames ≡ old.frames → new.spaces ≡ old.spaces →
+        new.anons ≡ old.anons → Takes old new l p from past None
     none_taken none tables frames spaces anons = (
       λ q low high. nothing_at p q (none q low high),
       ap (λ (f : Seen). frames_free f.free) frames,
-      subst (λ n. SoundLedger (setting n) (seen_as new) l) (sym (ap (λ (f : Seen). f.count) frames)) (subst (λ v. SoundLedger (setting old.frames.count) v l) (sym (parts_same old new tables frames spaces anons)) stands),
+      subst (λ n. SoundLedger (setting n) (seen_as new) l) (sym (ap (λ (f : Seen). f.count) frames))
+          (subst (λ v. SoundLedger (setting old.frames.count) v l) (sym (parts_same old new tables frames spaces anons)) stands),
     )
 
     module _ (page : ℕ) (e : Pte) (first : IsFirst (old.table p) from past page) (is : old.table p page ≡ e) where
       least : (q : ℕ) → from ≤ q → q < page → entry l (p, q) ≡ None
       least q low high = nothing_at p q (first.least q low high)
 
-      pub zero_taken : ((f : ℕ) (write was : Bool) → e ≡ Here f write was → ⊥) → new.table ≡ with_entry p page Empty (old.table) → new.frames ≡ old.frames → new.spaces ≡ old.spaces → new.anons ≡ old.anons → Takes old new l p from past (Some page)
+      pub zero_taken : ((f : ℕ) (write was : Bool) → e ≡ Here f write was → ⊥) → new.table ≡ with_entry p page Empty (old.table) → new.frames ≡ old.frames →
+          new.spaces ≡ old.spaces → new.anons ≡ old.anons → Takes old new l p from past (Some page)
       zero_taken other tables frames spaces anons =
           let there = zero_there p page e is (λ none. first.there (is ∙ none)) other in (
             first.from_there,
             ap is_some there,
             least,
-            subst (Chooses (setting old.frames.count) None l (Zapped (p, page)) (free_of (seen_as old))) (sym (ap (λ (f : Seen). frames_free f.free) frames)) (zero_freed (setting old.frames.count) (seen_as old) l p page cache stands refl (λ s. refl) (λ k. refl) there),
+            subst (Chooses (setting old.frames.count) None l (Zapped (p, page)) (free_of (seen_as old))) (sym (ap (λ (f : Seen). frames_free f.free) frames))
+                (zero_freed (setting old.frames.count) (seen_as old) l p page cache stands refl (λ s. refl) (λ k. refl) there),
             subst (λ n. SoundLedger (setting n) (seen_as new) (after_zap (p, page) l)) (sym (ap (λ (f : Seen). f.count) frames))
                 (subst (λ v. SoundLedger (setting old.frames.count) v (after_zap (p, page) l)) (sym (parts_put old new p page Empty tables frames spaces anons))
                 (zero_left (setting old.frames.count) (seen_as old) l p page cache stands refl (λ s. refl) there)),
           )
 
-      pub frame_taken : (mid : Parts) (f : ℕ) (write was : Bool) → e ≡ Here f write was → mid.table ≡ with_entry p page Empty (old.table) → mid.frames ≡ old.frames → mid.spaces ≡ old.spaces → mid.anons ≡ old.anons
+      pub frame_taken : (mid : Parts) (f : ℕ) (write was : Bool) → e ≡ Here f write was → mid.table ≡ with_entry p page Empty (old.table) →
+          mid.frames ≡ old.frames → mid.spaces ≡ old.spaces → mid.anons ≡ old.anons
           → seen_as new ≡ after_unmap_frame f (seen_as mid) → new.frames.count ≡ old.frames.count → Takes old new l p from past (Some page)
       frame_taken mid f write was here tables frames spaces anons same counts =
           let there = frame_there p page f write was (is ∙ here) in
-          let seen_so : seen_as new ≡ after_unmap_frame f (record (seen_as old) { table = with_entry p page None (seen_as old).table }) = same ∙ ap (after_unmap_frame f) (parts_put old mid p page Empty tables frames spaces anons) in (
+          let seen_so : seen_as new ≡ after_unmap_frame f (record (seen_as old) { table = with_entry p page None (seen_as old).table }) =
+          same ∙ ap (after_unmap_frame f) (parts_put old mid p page Empty tables frames spaces anons) in (
             first.from_there,
             ap is_some there,
             least,
-            subst (Chooses (setting old.frames.count) None l (Zapped (p, page)) (free_of (seen_as old))) (sym (ap free_of seen_so)) (released_freed (setting old.frames.count) (seen_as old) l p page cache stands refl (λ s. refl) f was there (λ k. refl)),
+            subst (Chooses (setting old.frames.count) None l (Zapped (p, page)) (free_of (seen_as old))) (sym (ap free_of seen_so))
+                (released_freed (setting old.frames.count) (seen_as old) l p page cache stands refl (λ s. refl) f was there (λ k. refl)),
             subst (λ n. SoundLedger (setting n) (seen_as new) (after_zap (p, page) l)) (sym counts)
                 (subst (λ v. SoundLedger (setting old.frames.count) v (after_zap (p, page) l)) (sym seen_so)
                 (released_left (setting old.frames.count) (seen_as old) l p page cache stands refl (λ s. refl) f was there)),

@@ -17,7 +17,8 @@ module _ (old mid : Seen) (f : ℕ) (down : mid ≡ record old { maps = with_at 
   pub released_last : (new : Seen) → new ≡ record mid { free = f ∷ mid.free } → mid.maps f ≡ 0 → new ≡ after_release f old
   released_last new given last =
       given ∙ ap (λ (s : Seen). record s { free = f ∷ s.free }) down
-      ∙ sym (ap (λ b. cond b (record old { maps = with_at f (old.maps f - 1) old.maps; free = f ∷ old.free }) (record old { maps = with_at f (old.maps f - 1) old.maps }))
+      ∙ sym (ap (λ b. cond b (record old { maps = with_at f (old.maps f - 1) old.maps; free = f ∷ old.free })
+      (record old { maps = with_at f (old.maps f - 1) old.maps }))
       (one _ _ some left last))
     where
       one : (n k : ℕ) → 0 < n → k ≡ n - 1 → k ≡ 0 → (n == 1) ≡ true
@@ -27,7 +28,8 @@ module _ (old mid : Seen) (f : ℕ) (down : mid ≡ record old { maps = with_at 
   pub released_more : mid.maps f ≢ 0 → mid ≡ after_release f old
   released_more more =
       down
-      ∙ sym (ap (λ b. cond b (record old { maps = with_at f (old.maps f - 1) old.maps; free = f ∷ old.free }) (record old { maps = with_at f (old.maps f - 1) old.maps }))
+      ∙ sym (ap (λ b. cond b (record old { maps = with_at f (old.maps f - 1) old.maps; free = f ∷ old.free })
+      (record old { maps = with_at f (old.maps f - 1) old.maps }))
       (many _ _ some left more))
     where
       many : (n k : ℕ) → 0 < n → k ≡ n - 1 → k ≢ 0 → (n == 1) ≡ false
@@ -37,15 +39,20 @@ module _ (old mid : Seen) (f : ℕ) (down : mid ≡ record old { maps = with_at 
 pub seen_released : (k : Parts) (f : ℕ) → seen_as (record k { frames = after_release f k.frames }) ≡ after_unmap_frame f (seen_as k)
 seen_released k f = by (k.frames.maps f == 1)
   where
-    by : (b : Bool) → seen_as (record k { frames = cond b (record (k.frames) { maps = with_at f (k.frames.maps f - 1) k.frames.maps; free = f ∷ k.frames.free }) (record (k.frames) { maps = with_at f (k.frames.maps f - 1) k.frames.maps }) })
-        ≡ cond b (record (seen_as k) { maps = with_at f (k.frames.maps f - 1) k.frames.maps; free = f ∷ k.frames.free }) (record (seen_as k) { maps = with_at f (k.frames.maps f - 1) k.frames.maps })
+    by : (b : Bool) → seen_as (record k {
+      frames = cond b (record (k.frames) { maps = with_at f (k.frames.maps f - 1) k.frames.maps; free = f ∷ k.frames.free })
+          (record (k.frames) { maps = with_at f (k.frames.maps f - 1) k.frames.maps });
+    })
+        ≡ cond b (record (seen_as k) { maps = with_at f (k.frames.maps f - 1) k.frames.maps; free = f ∷ k.frames.free })
+        (record (seen_as k) { maps = with_at f (k.frames.maps f - 1) k.frames.maps })
     by true = refl
     by false = refl
 
 pub released_count : (s : Seen) (f : ℕ) → (after_release f s).count ≡ s.count
 released_count s f = by (s.maps f == 1)
   where
-    by : (b : Bool) → (cond b (record s { maps = with_at f (s.maps f - 1) s.maps; free = f ∷ s.free }) (record s { maps = with_at f (s.maps f - 1) s.maps })).count ≡ s.count
+    by : (b : Bool) → (cond b (record s { maps = with_at f (s.maps f - 1) s.maps; free = f ∷ s.free })
+        (record s { maps = with_at f (s.maps f - 1) s.maps })).count ≡ s.count
     by true = refl
     by false = refl
 
@@ -58,7 +65,8 @@ pub record AreOfSame (old new : Seen) : Type 0 where
 released_same : (s : Seen) (f : ℕ) → AreOfSame s (after_release f s)
 released_same s f = by (s.maps f == 1)
   where
-    by : (b : Bool) → AreOfSame s (cond b (record s { maps = with_at f (s.maps f - 1) s.maps; free = f ∷ s.free }) (record s { maps = with_at f (s.maps f - 1) s.maps }))
+    by : (b : Bool) → AreOfSame s (cond b (record s { maps = with_at f (s.maps f - 1) s.maps; free = f ∷ s.free })
+        (record s { maps = with_at f (s.maps f - 1) s.maps }))
     by true = record { count = refl; bytes = refl; home = refl }
     by false = record { count = refl; bytes = refl; home = refl }
 
@@ -70,7 +78,8 @@ unmapped_same (Away slot) s = record { count = refl; bytes = refl; home = refl }
 
 pub all_same : (es : List Pte) (s : Seen) → AreOfSame s (after_unmaps es s)
 all_same [] s = record { count = refl; bytes = refl; home = refl }
-all_same (e ∷ es) s = let one = unmapped_same e s in let rest = all_same es (after_unmap e s) in record { count = rest.count ∙ one.count; bytes = rest.bytes ∙ one.bytes; home = rest.home ∙ one.home }
+all_same (e ∷ es) s = let one = unmapped_same e s in let rest = all_same es (after_unmap e s) in
+    record { count = rest.count ∙ one.count; bytes = rest.bytes ∙ one.bytes; home = rest.home ∙ one.home }
 
 -- ---- a group, entry by entry
 
@@ -103,7 +112,8 @@ module _ (group : List Pte) (k : ℕ) (within : k < length group) (old now : See
     rest = ap (after_unmaps (drop (suc k) group)) is ∙ ap (λ es. after_unmaps es now) (sym (left_from group k within)) ∙ t.rest;
   })
 
-  pub next_released : (f : ℕ) (write was : Bool) → get_or group k Empty ≡ Here f write was → (new : Seen) → new ≡ after_release f now → AreLeft group (k + 1) old new
+  pub next_released : (f : ℕ) (write was : Bool) → get_or group k Empty ≡ Here f write was → (new : Seen) → new ≡ after_release f now →
+      AreLeft group (k + 1) old new
   next_released f write was here new is = next_left new (is ∙ ap (λ e. after_unmap e now) (sym here))
 
   pub next_other : (e : Pte) → get_or group k Empty ≡ e → ((f : ℕ) (write was : Bool) → e ≡ Here f write was → ⊥) → AreLeft group (k + 1) old now

@@ -46,7 +46,8 @@ module _ (p : ℕ) (old : ℕ → ℕ → Pte) where
   stage_next : (page : ℕ) → stage p old (page + 1) ≡ with_entry p page Empty (stage p old page)
   stage_next page = λ i x o. by x o (x == p) (o == page) refl i
     where
-      by : (x o : ℕ) (b c : Bool) → (o == page) ≡ c → cond (b && nat_lt o (page + 1)) Empty (old x o) ≡ cond (b && c) Empty (cond (b && nat_lt o page) Empty (old x o))
+      by : (x o : ℕ) (b c : Bool) → (o == page) ≡ c → cond (b && nat_lt o (page + 1)) Empty (old x o) ≡ cond (b && c) Empty
+          (cond (b && nat_lt o page) Empty (old x o))
       by x o false c k = refl
       by x o true true k = let low : nat_lt o (page + 1) ≡ true = grind (arith, nat_tests, k) in ap (λ b. cond b Empty (old x o)) low
       by x o true false k = let same : nat_lt o (page + 1) ≡ nat_lt o page = grind (arith, nat_tests, k) in ap (λ b. cond b Empty (old x o)) same
@@ -76,11 +77,13 @@ module _ (p : ℕ) (old : ℕ → ℕ → Pte) where
     abbrev pub IsZapping : Seen → ℕ → Type 0
     IsZapping frames next = IsTaking first_parts (parts frames next) p 0 past next first
 
-    pub skip_to : (frames : Seen) (next next' : ℕ) → next ≤ next' → ((o : ℕ) → next ≤ o → o < next' → old p o ≡ Empty) → IsZapping frames next → IsZapping frames next'
+    pub skip_to : (frames : Seen) (next next' : ℕ) → next ≤ next' → ((o : ℕ) → next ≤ o → o < next' → old p o ≡ Empty) →
+        IsZapping frames next → IsZapping frames next'
     skip_to frames next next' le none t = record {
       ledger = t.ledger;
       done = t.done;
-      stands = subst (λ (table : ℕ → ℕ → Pte). Stand (record { frames = frames; table = table; spaces = spaces; anons = anons }) t.ledger) (sym (skip next next' le none)) t.stands;
+      stands = subst (λ (table : ℕ → ℕ → Pte). Stand (record { frames = frames; table = table; spaces = spaces; anons = anons }) t.ledger)
+          (sym (skip next next' le none)) t.stands;
       rest = t.rest;
       after = t.after;
       free = t.free;
@@ -93,7 +96,8 @@ module _ (p : ℕ) (old : ℕ → ℕ → Pte) where
       ];
     }
 
-    one_page : (frames : Seen) (page : ℕ) → page < past → IsZapping frames page → IsInUse (old p page) frames × IsZapping (after_unmap (old p page) frames) (page + 1)
+    one_page : (frames : Seen) (page : ℕ) → page < past → IsZapping frames page →
+        IsInUse (old p page) frames × IsZapping (after_unmap (old p page) frames) (page + 1)
     one_page frames page below t = by (old p page) refl
       where
         mid : Parts
@@ -111,17 +115,23 @@ module _ (p : ℕ) (old : ℕ → ℕ → Pte) where
         }
 
         by : (e : Pte) → old p page ≡ e → IsInUse e frames × IsZapping (after_unmap e frames) (page + 1)
-        by Empty e = (tt, skip_to frames page (page + 1) (omega arith) (λ o low high. ap (old p) (let same : o ≡ page = omega (arith, low, high) in same) ∙ e) t)
+        by Empty e = (
+          tt,
+          skip_to frames page (page + 1) (omega arith)
+              (λ o low high. ap (old p) (let same : o ≡ page = omega (arith, low, high) in same) ∙ e) t,
+        )
         by Zero e = (
           tt,
           taken_more first_parts mid (parts frames (page + 1)) p 0 past page page first t
-              (zero_taken mid t.ledger t.stands (parts frames (page + 1)) p page past page Zero (is (λ none. let no : Zero ≡ Empty = sym e ∙ none in cc)) (here ∙ e) (λ f write was h. cc) (stage_next page) refl refl refl)
+              (zero_taken mid t.ledger t.stands (parts frames (page + 1)) p page past page Zero (is (λ none. let no : Zero ≡ Empty = sym e ∙ none in cc))
+              (here ∙ e) (λ f write was h. cc) (stage_next page) refl refl refl)
               below refl,
         )
         by (Here f write was) e = (
           frame_used mid t.ledger t.stands p page f write was (here ∙ e),
           taken_more first_parts mid (parts (after_release f frames) (page + 1)) p 0 past page page first t
-              (frame_taken mid t.ledger t.stands (parts (after_release f frames) (page + 1)) p page past page (Here f write was) (is (λ none. let no : Here f write was ≡ Empty = sym e ∙ none in cc)) (here ∙ e)
+              (frame_taken mid t.ledger t.stands (parts (after_release f frames) (page + 1)) p page past page (Here f write was)
+              (is (λ none. let no : Here f write was ≡ Empty = sym e ∙ none in cc)) (here ∙ e)
               (parts frames (page + 1)) f write was refl (stage_next page) refl refl refl (seen_released (parts frames (page + 1)) f) (released_count frames f))
               below (released_count frames f),
         )
@@ -131,7 +141,8 @@ module _ (p : ℕ) (old : ℕ → ℕ → Pte) where
             let zero = t.stands.parts.swap.counts s in
             absurd (omega (arith, found, zero))
 
-    pub whole_group : (group : List Pte) (frames : Seen) (page : ℕ) → page + length group ≤ past → ((i : ℕ) → i < length group → get_or group i Empty ≡ old p (page + i)) → IsZapping frames page
+    pub whole_group : (group : List Pte) (frames : Seen) (page : ℕ) → page + length group ≤ past →
+        ((i : ℕ) → i < length group → get_or group i Empty ≡ old p (page + i)) → IsZapping frames page
         → AreInUse group frames × IsZapping (after_unmaps group frames) (page + length group)
     whole_group [] frames page below are t = (tt, subst (IsZapping frames) (let same : page ≡ page + 0 = omega arith in same) t)
     whole_group (e ∷ es) frames page below are t =
@@ -155,12 +166,15 @@ none_gone k p past l stands =
     by x o false = refl
 
 -- where no entry is left from a page on, all have gone
-pub all_gone_at : (old mid new : Mem) (p next past : ℕ) (first : Ledger) → IsZapping p (entry_at old.tables) (parts_of old) mid.spaces mid.anons past first (seen mid.frames) next
+pub all_gone_at : (old mid new : Mem) (p next past : ℕ) (first : Ledger) →
+    IsZapping p (entry_at old.tables) (parts_of old) mid.spaces mid.anons past first (seen mid.frames) next
     → ((o : ℕ) → next ≤ o → entry_at old.tables p o ≡ Empty) → entry_at new.tables ≡ with_at p (λ o. Empty) (entry_at old.tables)
     → new.frames ≡ mid.frames → new.spaces ≡ mid.spaces → new.anons ≡ mid.anons → HasZapped old new first (zaps_of first (keys_in first p 0 (past - 0)))
 all_gone_at old mid new p next past first t over tables frames spaces anons =
-    all_taken old (record { frames = seen mid.frames; table = stage p (entry_at old.tables) next; spaces = mid.spaces; anons = mid.anons }) new p 0 past next first t (
-      λ q low high. nothing_at (record { frames = seen mid.frames; table = stage p (entry_at old.tables) next; spaces = mid.spaces; anons = mid.anons }) t.ledger t.stands p q (still p (entry_at old.tables) next q low ∙ over q low),
+    all_taken old (record { frames = seen mid.frames; table = stage p (entry_at old.tables) next; spaces = mid.spaces; anons = mid.anons })
+    new p 0 past next first t (
+      λ q low high. nothing_at (record { frames = seen mid.frames; table = stage p (entry_at old.tables) next; spaces = mid.spaces; anons = mid.anons })
+          t.ledger t.stands p q (still p (entry_at old.tables) next q low ∙ over q low),
       ap (λ k. free_of (seen_as k)) (sym same),
       subst (λ k. Stand k t.ledger) same t.stands,
     )
@@ -169,11 +183,13 @@ all_gone_at old mid new p next past first t over tables frames spaces anons =
     point x o false k = refl
     point x o true k = elim (cases_lt o next) [
       | inl lt ↦ (let b : nat_lt o next ≡ true = grind (arith, nat_tests, lt) in ap (λ b. cond b Empty (entry_at old.tables x o)) b)
-      | inr ge ↦ (let b : nat_lt o next ≡ false = grind (arith, nat_tests, ge) in ap (λ b. cond b Empty (entry_at old.tables x o)) b) ∙ ap (λ x. entry_at old.tables x o) (equal x p k) ∙ over o ge
+      | inr ge ↦ (let b : nat_lt o next ≡ false = grind (arith, nat_tests, ge) in ap (λ b. cond b Empty (entry_at old.tables x o)) b)
+          ∙ ap (λ x. entry_at old.tables x o) (equal x p k) ∙ over o ge
     ]
 
     whole : stage p (entry_at old.tables) next ≡ entry_at new.tables
     whole = (λ i x o. point x o (x == p) refl i) ∙ sym tables
 
-    same : ◌≡◌ {A = Parts} (record { frames = seen mid.frames; table = stage p (entry_at old.tables) next; spaces = mid.spaces; anons = mid.anons }) (parts_of new)
+    same : ◌≡◌ {A = Parts} (record { frames = seen mid.frames; table = stage p (entry_at old.tables) next; spaces = mid.spaces; anons = mid.anons })
+        (parts_of new)
     same = λ i. record { frames = seen (sym frames i); table = whole i; spaces = sym spaces i; anons = sym anons i }

@@ -35,9 +35,21 @@ pub record IsTaking (old new : Parts) (p from past next : ℕ) (first : Ledger) 
   pub none : (q : ℕ) → from ≤ q → q < next → entry ledger (p, q) ≡ None
 
 pub none_yet : (k : Parts) (p from past : ℕ) (l : Ledger) → Stand k l → IsTaking k k p from past from l
-none_yet k p from past l stands = record { counts = refl; ledger = l; done = []; stands = stands; rest = refl; after = refl; free = refl; notes = refl; low = omega arith; none = λ q low high. absurd (omega (arith, low, high)) }
+none_yet k p from past l stands = record {
+  counts = refl;
+  ledger = l;
+  done = [];
+  stands = stands;
+  rest = refl;
+  after = refl;
+  free = refl;
+  notes = refl;
+  low = omega arith;
+  none = λ q low high. absurd (omega (arith, low, high));
+}
 
-module _ (old mid new : Parts) (p from past next page : ℕ) (first : Ledger) (t : IsTaking old mid p from past next first) (step : Takes mid new t.ledger p next past (Some page)) (high : page < past) (same : new.frames.count ≡ mid.frames.count) where
+module _ (old mid new : Parts) (p from past next page : ℕ) (first : Ledger) (t : IsTaking old mid p from past next first)
+    (step : Takes mid new t.ledger p next past (Some page)) (high : page < past) (same : new.frames.count ≡ mid.frames.count) where
   below : (q : ℕ) → from ≤ q → q < page → entry t.ledger (p, q) ≡ None
   below q low h = by (nat_lt q next) refl
     where
@@ -62,7 +74,8 @@ module _ (old mid new : Parts) (p from past next page : ℕ) (first : Ledger) (t
   inside = let low = above in grind (arith, nat_tests, low, high)
 
   unrolled : (o : Option Entry) → entry t.ledger (p, page) ≡ o → is_some o ≡ true
-      → zaps_of t.ledger (keys_in t.ledger p from (past - from)) ≡ Zapped (p, page) ∷ zaps_of (after_zap (p, page) t.ledger) (keys_in (after_zap (p, page) t.ledger) p from (past - from))
+      → zaps_of t.ledger (keys_in t.ledger p from (past - from)) ≡ Zapped (p, page) ∷ zaps_of (after_zap (p, page) t.ledger)
+      (keys_in (after_zap (p, page) t.ledger) p from (past - from))
   unrolled None is some = absurd (false≢true some)
   unrolled (Some e) is some = range-least t.ledger p from (past - from) page e t.stands.sound.in_order is inside below
       ∙ ap (λ es. es ++ zaps_of (after_all t.ledger es) (keys_in (after_all t.ledger es) p from (past - from))) alone
@@ -73,24 +86,34 @@ module _ (old mid new : Parts) (p from past next page : ℕ) (first : Ledger) (t
     done = t.done ++ Zapped (p, page) ∷ [];
     stands = step.4;
     rest = t.rest ∙ ap (λ es. t.done ++ es) (unrolled (entry t.ledger (p, page)) refl step.1)
-        ∙ sym (append_assoc t.done (Zapped (p, page) ∷ []) (zaps_of (after_zap (p, page) t.ledger) (keys_in (after_zap (p, page) t.ledger) p from (past - from))));
+        ∙ sym (append_assoc t.done (Zapped (p, page) ∷ []) (zaps_of (after_zap (p, page) t.ledger)
+        (keys_in (after_zap (p, page) t.ledger) p from (past - from))));
     after = after_all-append first t.done (Zapped (p, page) ∷ []) ∙ ap (after_zap (p, page)) t.after;
-    free = chooses-append (setting old.frames.count) None first t.done (Zapped (p, page) ∷ []) (free_of (seen_as old)) (free_of (seen_as mid)) (free_of (seen_as new)) t.free
-        (subst (λ l. ChoosesAll (setting old.frames.count) None l (Zapped (p, page) ∷ []) (free_of (seen_as mid)) (free_of (seen_as new))) (sym t.after)
-        (free_of (seen_as new), subst (λ n. Chooses (setting n) None t.ledger (Zapped (p, page)) (free_of (seen_as mid)) (free_of (seen_as new))) t.counts step.3, refl));
+    free = chooses-append (setting old.frames.count) None first t.done (Zapped (p, page) ∷ []) (free_of (seen_as old)) (free_of (seen_as mid))
+        (free_of (seen_as new)) t.free
+        (subst (λ l. ChoosesAll (setting old.frames.count) None l (Zapped (p, page) ∷ []) (free_of (seen_as mid)) (free_of (seen_as new))) (sym t.after) (
+          free_of (seen_as new),
+          subst (λ n. Chooses (setting n) None t.ledger (Zapped (p, page)) (free_of (seen_as mid)) (free_of (seen_as new)))
+              t.counts step.3,
+          refl,
+        ));
     notes = notes_of-append t.done (Zapped (p, page) ∷ []) ∙ ap (λ ns. ns ++ []) t.notes;
     low = let low = above in omega (arith, low);
     counts = same ∙ t.counts;
     none = gone;
   }
 
-pub all_taken : (old : Mem) (mid : Parts) (new : Mem) (p from past next : ℕ) (first : Ledger) (t : IsTaking (parts_of old) mid p from past next first) → Takes mid (parts_of new) t.ledger p next past None → HasZapped old new first (zaps_of first (keys_in first p from (past - from)))
+pub all_taken : (old : Mem) (mid : Parts) (new : Mem) (p from past next : ℕ) (first : Ledger) (t : IsTaking (parts_of old) mid p from past next first) →
+    Takes mid (parts_of new) t.ledger p next past None → HasZapped old new first (zaps_of first (keys_in first p from (past - from)))
 all_taken old mid new p from past next first t step =
-    let whole : zaps_of first (keys_in first p from (past - from)) ≡ t.done = t.rest ∙ ap (λ es. t.done ++ es) (range-done t.ledger p from (past - from) (λ q inside. none q (lower q inside) (upper q inside) (nat_lt q next) refl)) ∙ append-nil t.done in
+    let whole : zaps_of first (keys_in first p from (past - from)) ≡ t.done =
+    t.rest ∙ ap (λ es. t.done ++ es) (range-done t.ledger p from (past - from) (λ q inside. none q (lower q inside) (upper q inside) (nat_lt q next) refl))
+    ∙ append-nil t.done in
     record {
       stands = subst (HasLedger new) (sym (ap (after_all first) whole ∙ t.after)) step.2;
       notes = ap notes_of whole ∙ t.notes;
-      free = subst (λ es. ChoosesAll (setting (count old)) None first es (free_of (view old)) (free_of (view new))) (sym whole) (subst (ChoosesAll (setting (count old)) None first t.done (free_of (view old))) (sym step.1) t.free);
+      free = subst (λ es. ChoosesAll (setting (count old)) None first es (free_of (view old)) (free_of (view new))) (sym whole)
+          (subst (ChoosesAll (setting (count old)) None first t.done (free_of (view old))) (sym step.1) t.free);
     }
   where
     lower : (q : ℕ) → within from (past - from) q ≡ true → from ≤ q
@@ -113,13 +136,23 @@ entries_below k l p page stands some = by (nat_lt page page_bound) refl
     by true e = grind (arith, nat_tests, e)
     by false e =
         let high : page_bound ≤ page = grind (arith, nat_tests, e) in
-        absurd (false≢true (ap (λ t. is_some (entry_of (plain t))) (sym (past_pages k.tables p page high)) ∙ ap is_some (stands.parts.tables.entries p page) ∙ some))
+        absurd (false≢true (ap (λ t. is_some (entry_of (plain t))) (sym (past_pages k.tables p page high))
+        ∙ ap is_some (stands.parts.tables.entries p page) ∙ some))
 
 -- the entries that the whole range has lost are all of the process
-pub all_gone : (old new : Mem) (l : Ledger) (p : ℕ) → HasLedger old l → HasZapped old new l (zaps_of l (keys_in l p 0 page_bound)) → HasZapped old new l (zaps_of l (keys_of_process l p))
-all_gone old new l p stands = subst (λ ks. HasZapped old new l (zaps_of l ks)) (sym (exit-is-range l p page_bound (λ page some. entries_below old l p page stands some)))
+pub all_gone : (old new : Mem) (l : Ledger) (p : ℕ) → HasLedger old l → HasZapped old new l (zaps_of l (keys_in l p 0 page_bound)) →
+    HasZapped old new l (zaps_of l (keys_of_process l p))
+all_gone old new l p stands = subst (λ ks. HasZapped old new l (zaps_of l ks))
+    (sym (exit-is-range l p page_bound (λ page some. entries_below old l p page stands some)))
 
 -- ---- what stays, over two steps
 
 pub rest_rest : {a b c : Mem} → KeepsRest a b → KeepsRest b c → KeepsRest a c
-rest_rest first second = record { processes = second.processes ∙ first.processes; bytes = second.bytes ∙ first.bytes; homes = second.homes ∙ first.homes; spaces = second.spaces ∙ first.spaces; anons = second.anons ∙ first.anons; count = second.count ∙ first.count }
+rest_rest first second = record {
+  processes = second.processes ∙ first.processes;
+  bytes = second.bytes ∙ first.bytes;
+  homes = second.homes ∙ first.homes;
+  spaces = second.spaces ∙ first.spaces;
+  anons = second.anons ∙ first.anons;
+  count = second.count ∙ first.count;
+}

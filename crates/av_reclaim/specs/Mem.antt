@@ -17,7 +17,7 @@ use Rattle.av_frames.specs.Store.{Seen, seen}
 use Rattle.av_pagetable.specs.declared.pte.Pte.{Pte}
 use Rattle.av_pagetable.specs.declared.pte.Pte.TheVariants.{Empty, Zero, Here, Away}
 use Rattle.av_pagetable.specs.Entries.{entry_at, has}
-use Rattle.av_spaces.specs.Kin.{AnonsFit, chain_on, info_of}
+use Rattle.av_spaces.specs.Kin.{AnonsFit, chain_by, info_of}
 use Rattle.av_spaces.specs.Spaces.{AllSpaces, Spaces, areas_of}
 use Rattle.av_reclaim.specs.declared.mem.Mem.{Mem}
 
@@ -44,7 +44,7 @@ anon_vma chain info = record { root = info.root; parent = info.parent; chain = c
 abbrev pub anons_of : AllSpaces → AnonSet → Anons
 anons_of s anons = record {
   next = anons.next;
-  anon = λ v. option_map (anon_vma (chain_on s anons (Some v))) (info_of anons v);
+  anon = λ v. option_map (anon_vma (chain_by s anons (Some v))) (info_of anons v);
 }
 
 -- the view of frames, entries, areas and anon_vmas, without swap. No frame is active

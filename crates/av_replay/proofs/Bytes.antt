@@ -55,4 +55,5 @@ rose_then m n a b c first second = omega arith
 pub take-add : (n m : ℕ) (xs : List ℕ) → take (n + m) xs ≡ take n xs ++ take m (drop n xs)
 take-add n m xs =
     let parts = take-append-drop n (take (n + m) xs) in
-    sym parts ∙ ap (λ (t : List ℕ). t ++ drop n (take (n + m) xs)) (take-take n (n + m) xs (omega arith)) ∙ ap (λ (t : List ℕ). take n xs ++ t) (drop-take n m xs)
+    sym parts ∙ ap (λ (t : List ℕ). t ++ drop n (take (n + m) xs)) (take-take n (n + m) xs (omega arith))
+    ∙ ap (λ (t : List ℕ). take n xs ++ t) (drop-take n m xs)

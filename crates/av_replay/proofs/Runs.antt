@@ -29,11 +29,17 @@ pub all_push : (P : List ℕ → Type 0) (lines : List (List ℕ)) (line : List 
 all_push P [] line all p = (p, tt)
 all_push P (x ∷ lines) line all p = (all.0, all_push P lines line all.1 p)
 
-pub Transcribes-push : (lines : List (List ℕ)) (es : List Exchange) (line : List ℕ) (did : Option Exchange) → Transcribes lines es → Commands line did → Transcribes (lines ++ line ∷ []) (es ++ option_to_list did)
+pub Transcribes-push : (lines : List (List ℕ)) (es : List Exchange) (line : List ℕ) (did : Option Exchange) → Transcribes lines es → Commands line did →
+    Transcribes (lines ++ line ∷ []) (es ++ option_to_list did)
 Transcribes-push [] es line did e commands =
     (did, [], ap (λ (t : List Exchange). t ++ option_to_list did) e ∙ sym (append-nil (option_to_list did)), commands, refl)
-Transcribes-push (x ∷ lines) es line did t commands =
-    (t.0, t.1 ++ option_to_list did, ap (λ (l : List Exchange). l ++ option_to_list did) t.2 ∙ append_assoc (option_to_list t.0) t.1 (option_to_list did), t.3, Transcribes-push lines t.1 line did t.4 commands)
+Transcribes-push (x ∷ lines) es line did t commands = (
+  t.0,
+  t.1 ++ option_to_list did,
+  ap (λ (l : List Exchange). l ++ option_to_list did) t.2 ∙ append_assoc (option_to_list t.0) t.1 (option_to_list did),
+  t.3,
+  Transcribes-push lines t.1 line did t.4 commands,
+)
 
 pub joined-push : (lines : List (List ℕ)) (line : List ℕ) → all_lines (lines ++ line ∷ []) ≡ all_lines lines ++ (line ++ 10 ∷ [])
 joined-push lines line = flat_map-append (λ (l : List ℕ). l ++ 10 ∷ []) lines (line ∷ []) ∙ ap (λ (t : List ℕ). all_lines lines ++ t) (append-nil _)
@@ -73,7 +79,8 @@ pub record SoFar (n : ℕ) (past : Past) (ahead : List ℕ) (old now : Streams) 
 abbrev pub no_past : Setting → Past
 no_past m = record { lines = []; transcript = []; state = at_first m }
 
-pub starts : (ahead : List ℕ) (now : Streams) (kernel : Machine) → ahead ≡ [] → IsAtStart kernel now.device → SoFar kernel.frames (no_past (setting_of kernel.frames now.device)) ahead now now kernel
+pub starts : (ahead : List ℕ) (now : Streams) (kernel : Machine) → ahead ≡ [] → IsAtStart kernel now.device →
+    SoFar kernel.frames (no_past (setting_of kernel.frames now.device)) ahead now now kernel
 starts ahead now kernel none start = record {
   read = Took-none now.source.left ∙ ap (in_front []) (Took-none now.source.left ∙ ap (λ (bytes : List ℕ). in_front bytes now.source.left) (sym none));
   near = omega (arith, ap length none);
@@ -91,7 +98,8 @@ starts ahead now kernel none start = record {
 abbrev pub longer : Past → List ℕ → Option Exchange → State → Past
 longer past line did next = record { lines = past.lines ++ line ∷ []; transcript = past.transcript ++ option_to_list did; state = next }
 
-module _ (n : ℕ) (past : Past) (ahead : List ℕ) (old now new : Streams) (k k' : Machine) (line ending rest text written : List ℕ) (so_far : SoFar n past ahead old now k) (takes : TakesLine ahead now new k k' line ending rest text written) where
+module _ (n : ℕ) (past : Past) (ahead : List ℕ) (old now new : Streams) (k k' : Machine) (line ending rest text written : List ℕ)
+    (so_far : SoFar n past ahead old now k) (takes : TakesLine ahead now new k k' line ending rest text written) where
   -- the answers to the next line
   abbrev pub next_answers : Answers line now.device new.device past.state k k' text
   next_answers = takes.does.answers past.state so_far.kernel_left.stands
@@ -107,16 +115,21 @@ module _ (n : ℕ) (past : Past) (ahead : List ℕ) (old now new : Streams) (k k
   later_more = later_then old now new so_far.later takes.later
 
   pub legal_more : IsRun (setting_of n old.device) (at_first (setting_of n old.device)) (past.transcript ++ option_to_list next_answers.did) next_answers.next
-  legal_more = IsRun-append (setting_of n old.device) (at_first (setting_of n old.device)) past.state next_answers.next past.transcript (option_to_list next_answers.did) so_far.legal
-      (subst (λ (m : Setting). IsRun m past.state (option_to_list next_answers.did) next_answers.next) (ap (λ k. setting_of k now.device) so_far.kernel_left.frames ∙ setting_same n old.device now.device so_far.later.device) next_answers.run)
+  legal_more = IsRun-append (setting_of n old.device) (at_first (setting_of n old.device)) past.state next_answers.next past.transcript
+      (option_to_list next_answers.did) so_far.legal
+      (subst (λ (m : Setting). IsRun m past.state (option_to_list next_answers.did) next_answers.next)
+      (ap (λ k. setting_of k now.device) so_far.kernel_left.frames ∙ setting_same n old.device now.device so_far.later.device) next_answers.run)
 
   -- what only faults explain, with those of the line
   pub faults_more : RoseBy (causes_of (past.transcript ++ option_to_list next_answers.did)) old.device.faults new.device.faults
-  faults_more = subst (λ c. RoseBy c old.device.faults new.device.faults) (sym (sum_by-append (λ (e : Exchange). causes e.reply) past.transcript (option_to_list next_answers.did)))
-      (rose_then (causes_of past.transcript) (causes_of (option_to_list next_answers.did)) old.device.faults now.device.faults new.device.faults so_far.faults next_answers.faults)
+  faults_more = subst (λ c. RoseBy c old.device.faults new.device.faults)
+      (sym (sum_by-append (λ (e : Exchange). causes e.reply) past.transcript (option_to_list next_answers.did)))
+      (rose_then (causes_of past.transcript) (causes_of (option_to_list next_answers.did)) old.device.faults now.device.faults new.device.faults
+      so_far.faults next_answers.faults)
 
   -- the kernel after the line
-  pub kernel_more : (lines : List (List ℕ)) (last : Option (List ℕ)) → IsLeft k' new.device n (record { lines = lines; last = last; transcript = past.transcript ++ option_to_list next_answers.did; state = next_answers.next })
+  pub kernel_more : (lines : List (List ℕ)) (last : Option (List ℕ)) →
+      IsLeft k' new.device n (record { lines = lines; last = last; transcript = past.transcript ++ option_to_list next_answers.did; state = next_answers.next })
   kernel_more lines last =
       let a = next_answers in
       let kept = so_far.kernel_left in
@@ -130,19 +143,25 @@ module _ (n : ℕ) (past : Past) (ahead : List ℕ) (old now new : Streams) (k k
 
   -- the texts with the next one
   pub texts_more : texts past.transcript ++ text ≡ texts (past.transcript ++ option_to_list next_answers.did)
-  texts_more = ap (λ (t : List ℕ). texts past.transcript ++ t) next_answers.said ∙ sym (flat_map-append (λ (e : Exchange). text_of e.reply) past.transcript (option_to_list next_answers.did))
+  texts_more = ap (λ (t : List ℕ). texts past.transcript ++ t) next_answers.said
+      ∙ sym (flat_map-append (λ (e : Exchange). text_of e.reply) past.transcript (option_to_list next_answers.did))
 
-pub goes_on : (n : ℕ) (past : Past) (ahead rest : List ℕ) (old now new : Streams) (k k' : Machine) (line text : List ℕ) (so_far : SoFar n past ahead old now k) (takes : TakesLine ahead now new k k' line (10 ∷ []) rest text text) → SoFar n (longer past line (next_answers n past ahead old now new k k' line (10 ∷ []) rest text text so_far takes).did (next_answers n past ahead old now new k k' line (10 ∷ []) rest text text so_far takes).next) rest old new k'
+pub goes_on : (n : ℕ) (past : Past) (ahead rest : List ℕ) (old now new : Streams) (k k' : Machine) (line text : List ℕ) (so_far : SoFar n past ahead old now k)
+    (takes : TakesLine ahead now new k k' line (10 ∷ []) rest text text) →
+    SoFar n (longer past line (next_answers n past ahead old now new k k' line (10 ∷ []) rest text text so_far takes).did
+    (next_answers n past ahead old now new k k' line (10 ∷ []) rest text text so_far takes).next) rest old new k'
 goes_on n past ahead rest old now new k k' line text so_far takes =
     let a = next_answers n past ahead old now new k k' line (10 ∷ []) rest text text so_far takes in
     record {
-      read = subst (Took old.source.left (undone rest new)) (sym (joined-push past.lines line)) (read_more n past ahead old now new k k' line (10 ∷ []) rest text text so_far takes);
+      read = subst (Took old.source.left (undone rest new)) (sym (joined-push past.lines line))
+          (read_more n past ahead old now new k k' line (10 ∷ []) rest text text so_far takes);
       near = takes.near;
       lines = all_push IsLine past.lines line so_far.lines takes.is_line;
       commands = Transcribes-push past.lines past.transcript line a.did so_far.commands a.commands;
       legal = legal_more n past ahead old now new k k' line (10 ∷ []) rest text text so_far takes;
       faults = faults_more n past ahead old now new k k' line (10 ∷ []) rest text text so_far takes;
-      wrote = subst (Gained old.sink.held new.sink.held) (texts_more n past ahead old now new k k' line (10 ∷ []) rest text text so_far takes) (wrote_more n past ahead old now new k k' line (10 ∷ []) rest text text so_far takes);
+      wrote = subst (Gained old.sink.held new.sink.held) (texts_more n past ahead old now new k k' line (10 ∷ []) rest text text so_far takes)
+          (wrote_more n past ahead old now new k k' line (10 ∷ []) rest text text so_far takes);
       kernel_left = kernel_more n past ahead old now new k k' line (10 ∷ []) rest text text so_far takes (past.lines ++ line ∷ []) None;
       later = later_more n past ahead old now new k k' line (10 ∷ []) rest text text so_far takes;
     }

@@ -35,7 +35,8 @@ lines_of-last : (line : List ℕ) → HasNoNewline line → 0 < length line → 
 lines_of-last [] none some = absurd (omega arith)
 lines_of-last (b ∷ []) none some = lines_of-other b [] (All-head IsNoNewline b [] none)
 lines_of-last (b ∷ d ∷ line) none some =
-    lines_of-other b (d ∷ line) (All-head IsNoNewline b (d ∷ line) none) ∙ ap (onto_first b) (lines_of-last (d ∷ line) (All-tail IsNoNewline b (d ∷ line) none) (omega arith))
+    lines_of-other b (d ∷ line) (All-head IsNoNewline b (d ∷ line) none)
+    ∙ ap (onto_first b) (lines_of-last (d ∷ line) (All-tail IsNoNewline b (d ∷ line) none) (omega arith))
 
 -- a text without newline stands in its first line
 pub record First (size : ℕ) (lines : List (List ℕ)) : Type 0 where
@@ -53,7 +54,8 @@ starts_long [] more none some = absurd (omega arith)
 starts_long (b ∷ []) more none some = rw (lines_of-other b more (All-head IsNoNewline b [] none)) (first_onto b (lines_of more))
 starts_long (b ∷ d ∷ bytes) more none some =
     let f = starts_long (d ∷ bytes) more (All-tail IsNoNewline b (d ∷ bytes) none) (omega arith) in
-    let are : lines_of (b ∷ d ∷ (bytes ++ more)) ≡ (b ∷ f.line) ∷ f.others = lines_of-other b (d ∷ (bytes ++ more)) (All-head IsNoNewline b (d ∷ bytes) none) ∙ ap (onto_first b) f.are in
+    let are : lines_of (b ∷ d ∷ (bytes ++ more)) ≡ (b ∷ f.line) ∷ f.others = lines_of-other b (d ∷ (bytes ++ more)) (All-head IsNoNewline b (d ∷ bytes) none)
+    ∙ ap (onto_first b) f.are in
     record { line = b ∷ f.line; others = f.others; are = are; long = omega (arith, f.long) }
 
 some_line : (bytes : List ℕ) → 0 < length bytes → 0 < length (lines_of bytes)
@@ -79,24 +81,29 @@ member [] line others all = All-head IsGood line others all
 member (x ∷ lines) line others all = member lines line others (All-tail IsGood x (lines ++ line ∷ others) all)
 
 -- the lines that were done, and those that are left
-split : (lines : List (List ℕ)) (rest content more : List ℕ) → AllByRecursion IsLine lines → content ≡ (all_lines lines ++ rest) ++ more → lines_of content ≡ lines ++ lines_of (rest ++ more)
+split : (lines : List (List ℕ)) (rest content more : List ℕ) → AllByRecursion IsLine lines → content ≡ (all_lines lines ++ rest) ++ more →
+    lines_of content ≡ lines ++ lines_of (rest ++ more)
 split lines rest content more all e = ap lines_of (e ∙ append_assoc (all_lines lines) rest more) ∙ lines_of-joined lines (rest ++ more) all
 
 -- the first of the other lines is good
-first_good : (lines : List (List ℕ)) (rest content more line : List ℕ) (others : List (List ℕ)) → AllByRecursion IsLine lines → content ≡ (all_lines lines ++ rest) ++ more → All IsGood (lines_of content) → lines_of (rest ++ more) ≡ line ∷ others → IsGood line
+first_good : (lines : List (List ℕ)) (rest content more line : List ℕ) (others : List (List ℕ)) → AllByRecursion IsLine lines →
+    content ≡ (all_lines lines ++ rest) ++ more → All IsGood (lines_of content) → lines_of (rest ++ more) ≡ line ∷ others → IsGood line
 first_good lines rest content more line others all e good are =
-    member lines line others (subst (λ (ls : List (List ℕ)). All IsGood ls) (split lines rest content more all e ∙ ap (λ (ls : List (List ℕ)). lines ++ ls) are) good)
+    member lines line others (subst (λ (ls : List (List ℕ)). All IsGood ls)
+    (split lines rest content more all e ∙ ap (λ (ls : List (List ℕ)). lines ++ ls) are) good)
 
 ended_is_nil : (left' : Option (List ℕ)) (more : List ℕ) → left' ≡ Some more → HasEnded left' → more ≡ []
 ended_is_nil None more e ended = absurd cc
 ended_is_nil (Some rest) more e ended = sym (same_Some _ _ e) ∙ ended
 
-pub not_bad : (lines : List (List ℕ)) (rest content : List ℕ) (left' : Option (List ℕ)) → AllByRecursion IsLine lines → Took (Some content) left' (all_lines lines ++ rest) → All IsGood (lines_of content) → IsBad rest left' → ⊥
+pub not_bad : (lines : List (List ℕ)) (rest content : List ℕ) (left' : Option (List ℕ)) → AllByRecursion IsLine lines →
+    Took (Some content) left' (all_lines lines ++ rest) → All IsGood (lines_of content) → IsBad rest left' → ⊥
 not_bad lines rest content left' all took good (inl long) =
     let t = told content (all_lines lines ++ rest) left' took in
     let front = take 8449 rest in
     let len : length front ≡ 8449 = length-take-le 8449 rest (omega (arith, long.long)) in
-    let parts : rest ++ t.more ≡ front ++ (drop 8449 rest ++ t.more) = ap (λ (r : List ℕ). r ++ t.more) (sym (take-append-drop 8449 rest)) ∙ append_assoc front (drop 8449 rest) t.more in
+    let parts : rest ++ t.more ≡ front ++ (drop 8449 rest ++ t.more) = ap (λ (r : List ℕ). r ++ t.more) (sym (take-append-drop 8449 rest))
+    ∙ append_assoc front (drop 8449 rest) t.more in
     let f = starts_long front (drop 8449 rest ++ t.more) long.one (omega (arith, len)) in
     let g = first_good lines rest content t.more f.line f.others all t.parts good (ap lines_of parts ∙ f.are) in
     omega (arith, g.is_line.short, f.long, len)
@@ -106,7 +113,8 @@ not_bad lines rest content left' all took good (inr bad) =
     let is_good : IsGood line = elim bad.3 [
       | inl newline ↦
           let are : lines_of (rest ++ t.more) ≡ line ∷ lines_of (newline.0 ++ t.more) =
-          ap (λ (r : List ℕ). lines_of (r ++ t.more)) newline.1 ∙ ap lines_of (append_assoc line (10 ∷ newline.0) t.more) ∙ lines_of-line line (newline.0 ++ t.more) bad.1.one in
+          ap (λ (r : List ℕ). lines_of (r ++ t.more)) newline.1 ∙ ap lines_of (append_assoc line (10 ∷ newline.0) t.more)
+          ∙ lines_of-line line (newline.0 ++ t.more) bad.1.one in
           first_good lines rest content t.more line (lines_of (newline.0 ++ t.more)) all t.parts good are
       | inr last ↦
           let none = ended_is_nil left' t.more t.left_is last.2 in
@@ -115,16 +123,19 @@ not_bad lines rest content left' all took good (inr bad) =
     ] in
     bad.2 is_good.said is_good.says
 
-pub not_many : (lines : List (List ℕ)) (rest content : List ℕ) (left' : Option (List ℕ)) → AllByRecursion IsLine lines → Took (Some content) left' (all_lines lines ++ rest) → length (lines_of content) ≤ most_lines → length lines ≡ most_lines → 0 < length rest → ⊥
+pub not_many : (lines : List (List ℕ)) (rest content : List ℕ) (left' : Option (List ℕ)) → AllByRecursion IsLine lines →
+    Took (Some content) left' (all_lines lines ++ rest) → length (lines_of content) ≤ most_lines → length lines ≡ most_lines → 0 < length rest → ⊥
 not_many lines rest content left' all took few many one =
     let t = told content (all_lines lines ++ rest) left' took in
     let some = some_line (rest ++ t.more) (omega (arith, length-append rest t.more)) in
     omega (arith, ap length (split lines rest content t.more all t.parts), length-append lines (lines_of (rest ++ t.more)), some)
 
 -- what was read, where no last line without newline was done
-read_is : (left left' : Option (List ℕ)) (content taken rest : List ℕ) (last : Option (List ℕ)) → left ≡ Some content → last ≡ None → Took left left' (taken ++ (unwrap_or last [] ++ rest)) → Took (Some content) left' (taken ++ rest)
+read_is : (left left' : Option (List ℕ)) (content taken rest : List ℕ) (last : Option (List ℕ)) → left ≡ Some content → last ≡ None →
+    Took left left' (taken ++ (unwrap_or last [] ++ rest)) → Took (Some content) left' (taken ++ rest)
 read_is left left' content taken rest last e none took =
-    subst (λ (l : Option (List ℕ)). Took l left' (taken ++ rest)) e (subst (λ (o : Option (List ℕ)). Took left left' (taken ++ (unwrap_or o [] ++ rest))) none took)
+    subst (λ (l : Option (List ℕ)). Took l left' (taken ++ rest)) e
+    (subst (λ (o : Option (List ℕ)). Took left left' (taken ++ (unwrap_or o [] ++ rest))) none took)
 
 pub complete : (n : ℕ) (status : Status) (old new : Streams) (kernel : Option Machine) → Headline n status old new kernel → IsComplete status old new
 complete n statuses.Done old new kernel h content e trace no_read no_write = tt
@@ -134,7 +145,9 @@ complete n statuses.ReadFault old new kernel h content e trace no_read no_write 
 complete n statuses.WriteFault old new kernel h content e trace no_read no_write = no_write h.ends.1
 complete n (statuses.BadLine number) old new kernel h content e trace no_read no_write =
     let stops = h.ends.0 in
-    not_bad h.run.lines h.rest content new.source.left h.replays.lines (read_is old.source.left new.source.left content (all_lines h.run.lines) h.rest h.run.last e stops.0 h.replays.read) trace.good stops.3
+    not_bad h.run.lines h.rest content new.source.left h.replays.lines
+    (read_is old.source.left new.source.left content (all_lines h.run.lines) h.rest h.run.last e stops.0 h.replays.read) trace.good stops.3
 complete n statuses.TooMany old new kernel h content e trace no_read no_write =
     let stops = h.ends.0 in
-    not_many h.run.lines h.rest content new.source.left h.replays.lines (read_is old.source.left new.source.left content (all_lines h.run.lines) h.rest h.run.last e stops.0 h.replays.read) trace.few stops.1 stops.2
+    not_many h.run.lines h.rest content new.source.left h.replays.lines
+    (read_is old.source.left new.source.left content (all_lines h.run.lines) h.rest h.run.last e stops.0 h.replays.read) trace.few stops.1 stops.2

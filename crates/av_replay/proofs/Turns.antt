@@ -31,7 +31,8 @@ ends_line line ahead now has whole =
       next = inl (drop (line.size + 1) ahead, has.newline);
     }
 
-ends_last : (line : Line) (ahead : List ℕ) (now : Streams) → IsLine ahead → line.size ≡ length ahead → 0 < line.size → line.whole ≡ line.size → IsAtEnd now.source → EndsBy line ahead [] now
+ends_last : (line : Line) (ahead : List ℕ) (now : Streams) → IsLine ahead → line.size ≡ length ahead → 0 < line.size → line.whole ≡ line.size →
+    IsAtEnd now.source → EndsBy line ahead [] now
 ends_last line ahead now is_line size some whole end =
     let front = take line.size ahead in
     let all : front ≡ ahead = take_all line.size ahead (omega arith) in
@@ -46,11 +47,13 @@ ends_last line ahead now is_line size some whole end =
 
 module _ (ahead mid : List ℕ) (old now : Streams) (k k' : Machine) (line : Line) (sink : SinkView) (reads : ReadsOn ahead mid old now) where
   -- the line is done, and this was written
-  pub takes : (ending text written : List ℕ) → EndsBy line mid ending now → DoesLine (take line.size mid) now.device now.device k k' text → Writes now.sink sink written
+  pub takes : (ending text written : List ℕ) → EndsBy line mid ending now → DoesLine (take line.size mid) now.device now.device k k' text →
+      Writes now.sink sink written
       → TakesLine ahead old (record now { sink = sink }) k k' (take line.size mid) ending (drop line.whole mid) text written
   takes ending text written by does writes = record {
     is_line = by.is_line;
-    took = sym reads.same ∙ ap (λ (l : List ℕ). in_front l now.source.left) by.parts ∙ in_front-then (take line.size mid ++ ending) (drop line.whole mid) now.source.left;
+    took = sym reads.same ∙ ap (λ (l : List ℕ). in_front l now.source.left) by.parts ∙ in_front-then (take line.size mid ++ ending)
+        (drop line.whole mid) now.source.left;
     ends = by.ends;
     near = omega (arith, length-drop line.whole mid, reads.near);
     does = subst (λ d. DoesLine (take line.size mid) d now.device k k' text) reads.device does;
@@ -58,7 +61,8 @@ module _ (ahead mid : List ℕ) (old now : Streams) (k k' : Machine) (line : Lin
     later = later_writes old now sink written reads.later writes;
   }
 
-  cuts : (ending : List ℕ) → EndsBy line mid ending now → IsCut (take line.size mid) now.device now.device k k' now.sink sink → CutsShort ahead old (record now { sink = sink }) k k'
+  cuts : (ending : List ℕ) → EndsBy line mid ending now → IsCut (take line.size mid) now.device now.device k k' now.sink sink →
+      CutsShort ahead old (record now { sink = sink }) k k'
   cuts ending by cut = record {
     line = take line.size mid;
     ending = ending;
@@ -72,7 +76,8 @@ module _ (ahead mid : List ℕ) (old now : Streams) (k k' : Machine) (line : Lin
   same_sink : sink ≡ now.sink → ReadsOn ahead mid old (record now { sink = sink })
   same_sink e = subst (λ (s : SinkView). ReadsOn ahead mid old (record now { sink = s })) (sym e) reads
 
-  halts_by : (ending : List ℕ) (error : RunErr) → EndsBy line mid ending now → IsNotAnswered error (take line.size mid) now.device now.device k k' now.sink sink → Halts error ahead mid old (record now { sink = sink }) k k'
+  halts_by : (ending : List ℕ) (error : RunErr) → EndsBy line mid ending now →
+      IsNotAnswered error (take line.size mid) now.device now.device k k' now.sink sink → Halts error ahead mid old (record now { sink = sink }) k k'
   halts_by ending errors.BadLine by not = (record { reads = same_sink not.2; kernel = not.1 }, inr (take line.size mid, by.is_line, not.0, by.next))
   halts_by ending errors.Memory by (inl same) = inl (same_sink same)
   halts_by ending errors.Memory by (inr cut) = inr (cuts ending by cut)
@@ -80,20 +85,37 @@ module _ (ahead mid : List ℕ) (old now : Streams) (k k' : Machine) (line : Lin
   halts_by ending errors.Read by not = absurd not
 
   -- a line stood in front, and was not done, or its text not written
-  pub halts : (error : RunErr) → IsNext line mid now.source → IsNotAnswered error (take line.size mid) now.device now.device k k' now.sink sink → Halts error ahead mid old (record now { sink = sink }) k k'
+  pub halts : (error : RunErr) → IsNext line mid now.source → IsNotAnswered error (take line.size mid) now.device now.device k k' now.sink sink →
+      Halts error ahead mid old (record now { sink = sink }) k k'
   halts error (inl next) not = halts_by (10 ∷ []) error (ends_line line mid now next.0 next.1) not
   halts error (inr next) not = halts_by [] error (ends_last line mid now next.0 next.1 next.2 next.3 next.4) not
 
   -- it was done, and its text written
-  pub does_line : (text : List ℕ) → HasLine line.size mid → line.whole ≡ line.size + 1 → DoesLine (take line.size mid) now.device now.device k k' text → Writes now.sink sink text → DoesNext ahead (drop line.whole mid) old (record now { sink = sink }) k k' (10 ∷ [])
-  does_line text has whole does writes = record { line = take line.size mid; text = text; takes = takes (10 ∷ []) text text (ends_line line mid now has whole) does writes }
+  pub does_line : (text : List ℕ) → HasLine line.size mid → line.whole ≡ line.size + 1 → DoesLine (take line.size mid) now.device now.device k k' text →
+      Writes now.sink sink text → DoesNext ahead (drop line.whole mid) old (record now { sink = sink }) k k' (10 ∷ [])
+  does_line text has whole does writes = record {
+    line = take line.size mid;
+    text = text;
+    takes = takes (10 ∷ []) text text
+        (ends_line line mid now has whole) does writes;
+  }
 
-  pub does_last : (text : List ℕ) → IsLine mid → line.size ≡ length mid → 0 < line.size → line.whole ≡ line.size → IsAtEnd now.source → DoesLine (take line.size mid) now.device now.device k k' text → Writes now.sink sink text → DoesNext ahead (drop line.whole mid) old (record now { sink = sink }) k k' []
-  does_last text is_line size some whole end does writes = record { line = take line.size mid; text = text; takes = takes [] text text (ends_last line mid now is_line size some whole end) does writes }
+  pub does_last : (text : List ℕ) → IsLine mid → line.size ≡ length mid → 0 < line.size → line.whole ≡ line.size → IsAtEnd now.source →
+      DoesLine (take line.size mid) now.device now.device k k' text → Writes now.sink sink text →
+      DoesNext ahead (drop line.whole mid) old (record now { sink = sink }) k k' []
+  does_last text is_line size some whole end does writes = record {
+    line = take line.size mid;
+    text = text;
+    takes = takes [] text text (ends_last line mid now is_line size some whole end) does writes;
+  }
 
 -- no line could be read
-pub unread : (error : RunErr) (ahead mid : List ℕ) (old now : Streams) (k : Machine) → ReadsOn ahead mid old now → StopsReading error mid old now → Halts error ahead mid old now k k
+pub unread : (error : RunErr) (ahead mid : List ℕ) (old now : Streams) (k : Machine) → ReadsOn ahead mid old now → StopsReading error mid old now →
+    Halts error ahead mid old now k k
 unread errors.BadLine ahead mid old now k reads stops = (record { reads = reads; kernel = refl }, inl stops)
 unread errors.Read ahead mid old now k reads stops = (record { reads = reads; kernel = refl }, stops.0, stops.1)
-unread errors.Write ahead mid old now k reads stops = (inr (record { waits = record { reads = reads; kernel = refl }; part = stops.0; untold = stops.1.0 }), stops.1.1)
+unread errors.Write ahead mid old now k reads stops = (
+  inr (record { waits = record { reads = reads; kernel = refl }; part = stops.0; untold = stops.1.0 }),
+  stops.1.1,
+)
 unread errors.Memory ahead mid old now k reads stops = absurd stops.1

@@ -92,8 +92,8 @@ fn do_lines<S: Source, K: Sink>(
 
 /// Does all lines of the source, and flushes the sink in the end.
 ///
-/// Where that last flush alone fails, the status is `WriteFault`. After a failed read there is none:
-/// nothing was kept back when that was waited for.
+/// Where that last flush alone fails, the status is `WriteFault`. After a failed read there is
+/// none: nothing was kept back when that was waited for.
 pub fn replay<S: Source, K: Sink>(
     alloc: Global,
     kernel: &mut Kernel,

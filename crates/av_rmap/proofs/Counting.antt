@@ -55,5 +55,6 @@ key-same k j h = λ i. (first i, second i)
 pub keys-as-long : (ks js : List Key) → ((i : Key) → how_many (same_key i) ks ≡ how_many (same_key i) js) → length ks ≡ length js
 keys-as-long ks js h = sym (all-pass ks) ∙ as-many same_key key-itself key-same (λ _. true) ks js h ∙ all-pass js
 
-pub numbers-as-many : (test : ℕ → Bool) (xs ys : List ℕ) → ((n : ℕ) → how_many (λ m. n == m) xs ≡ how_many (λ m. n == m) ys) → how_many test xs ≡ how_many test ys
+pub numbers-as-many : (test : ℕ → Bool) (xs ys : List ℕ) → ((n : ℕ) → how_many (λ m. n == m) xs ≡ how_many (λ m. n == m) ys) →
+    how_many test xs ≡ how_many test ys
 numbers-as-many test xs ys h = as-many (λ n m. n == m) (λ n. eq-eqb n n refl) (λ n m e. eqb-true n m e) test xs ys h

@@ -64,26 +64,33 @@ look-found view f i k area h = is (holds i area) (f (view.entry area.pid (page_a
 
     is : (b c : Bool) → holds i area ≡ b → f (view.entry area.pid (page_at i area)) ≡ c → IsFound view f area k
     is true true e e' =
-        let found : 0 < how_many (same_key k) (one ∷ []) = subst (λ (b : Bool). 0 < how_many (same_key k) (cond b (one ∷ []) [])) (ap (λ b. b && f (view.entry area.pid (page_at i area))) e ∙ e') h in
+        let found : 0 < how_many (same_key k) (one ∷ []) = subst (λ (b : Bool). 0 < how_many (same_key k) (cond b (one ∷ []) []))
+        (ap (λ b. b && f (view.entry area.pid (page_at i area))) e ∙ e') h in
         let key = key_is k one (passes (same_key k one) found) in
         record {
           of = sym key.0;
           here = subst (λ n. has_page area n ≡ true) (sym key.1) (holds-has area i e);
           named = ap (λ n. f (view.entry n k.1)) key.0 ∙ ap (λ n. f (view.entry area.pid n)) key.1 ∙ e';
         }
-    is true false e e' = absurd (none (subst (λ (b : Bool). 0 < how_many (same_key k) (cond b (one ∷ []) [])) (ap (λ b. b && f (view.entry area.pid (page_at i area))) e ∙ e') h))
-    is false c e e' = absurd (none (subst (λ (b : Bool). 0 < how_many (same_key k) (cond b (one ∷ []) [])) (ap (λ b. b && f (view.entry area.pid (page_at i area))) e) h))
+    is true false e e' = absurd (none (subst (λ (b : Bool). 0 < how_many (same_key k) (cond b (one ∷ []) []))
+        (ap (λ b. b && f (view.entry area.pid (page_at i area))) e ∙ e') h))
+    is false c e e' = absurd (none (subst (λ (b : Bool). 0 < how_many (same_key k) (cond b (one ∷ []) []))
+        (ap (λ b. b && f (view.entry area.pid (page_at i area))) e) h))
 
 -- a look in the area of an entry that the home reaches finds it
-look-finds : (view : View) (f : Pte → Bool) (home : ℕ × ℕ) (k : Key) → f (view.entry k.0 k.1) ≡ true → (r : IsReached view home k.0 k.1) → how_many (same_key k) (found_in view f home.1 (Some r.area)) ≡ 1
+look-finds : (view : View) (f : Pte → Bool) (home : ℕ × ℕ) (k : Key) → f (view.entry k.0 k.1) ≡ true → (r : IsReached view home k.0 k.1) →
+    how_many (same_key k) (found_in view f home.1 (Some r.area)) ≡ 1
 look-finds view f home k named r =
     let there = has-holds r.area k.1 home.1 r.here r.index in
-    let it : f (view.entry r.area.pid (page_at home.1 r.area)) ≡ true = ap (λ n. f (view.entry n (page_at home.1 r.area))) r.of ∙ ap (λ n. f (view.entry k.0 n)) there.1 ∙ named in
-    ap (λ (b : Bool). how_many (same_key k) (cond b ((r.area.pid, page_at home.1 r.area) ∷ []) [])) (ap (λ b. b && f (view.entry r.area.pid (page_at home.1 r.area))) there.0 ∙ it)
+    let it : f (view.entry r.area.pid (page_at home.1 r.area)) ≡ true = ap (λ n. f (view.entry n (page_at home.1 r.area))) r.of
+    ∙ ap (λ n. f (view.entry k.0 n)) there.1 ∙ named in
+    ap (λ (b : Bool). how_many (same_key k) (cond b ((r.area.pid, page_at home.1 r.area) ∷ []) []))
+    (ap (λ b. b && f (view.entry r.area.pid (page_at home.1 r.area))) there.0 ∙ it)
     ∙ ap (λ b. cond b 1 0 + 0) (is_key k (r.area.pid, page_at home.1 r.area) (sym r.of) (sym there.1))
 
 -- of a key of the frame, only the look in its own area finds it
-look-of : (view : View) (f : Pte → Bool) (home : ℕ × ℕ) (k : Key) → AreApart view → f (view.entry k.0 k.1) ≡ true → (r : IsReached view home k.0 k.1) → (a : ℕ) → how_many (same_key k) (found_in view f home.1 (view.areas a)) ≡ cond (a == r.number) 1 0
+look-of : (view : View) (f : Pte → Bool) (home : ℕ × ℕ) (k : Key) → AreApart view → f (view.entry k.0 k.1) ≡ true → (r : IsReached view home k.0 k.1) →
+    (a : ℕ) → how_many (same_key k) (found_in view f home.1 (view.areas a)) ≡ cond (a == r.number) 1 0
 look-of view f home k apart named r a = elim (cases_eq a r.number) [
   | inl e ↦ ap (λ o. how_many (same_key k) (found_in view f home.1 o)) (ap view.areas e ∙ r.stands)
       ∙ look-finds view f home k named r ∙ sym (ap (λ b. cond b 1 0) (eq-eqb a r.number e))
@@ -98,20 +105,23 @@ look-of view f home k apart named r a = elim (cases_eq a r.number) [
         ne (apart a r.number k.1 area r.area is r.stands (found.of ∙ sym r.of) found.here r.here))
 
 -- a key that is not the frame's is never found
-look-none : (view : View) (f : Pte → Bool) (i : ℕ) (k : Key) → f (view.entry k.0 k.1) ≡ false → (o : Option Area) → how_many (same_key k) (found_in view f i o) ≡ 0
+look-none : (view : View) (f : Pte → Bool) (i : ℕ) (k : Key) → f (view.entry k.0 k.1) ≡ false → (o : Option Area) →
+    how_many (same_key k) (found_in view f i o) ≡ 0
 look-none view f i k not_it None = refl
 look-none view f i k not_it (Some area) = not_more (how_many (same_key k) (found_in view f i (Some area))) (λ h. two (look-found view f i k area h).named)
   where
     two : f (view.entry k.0 k.1) ≡ true → ⊥
     two h = cc
 
-walk-of : (view : View) (f : Pte → Bool) (i : ℕ) (k : Key) (n : ℕ) → ((a : ℕ) → how_many (same_key k) (found_in view f i (view.areas a)) ≡ cond (a == n) 1 0) → (xs : List Span) → how_many (same_key k) (walk_of view f i xs) ≡ how_many (is_of n) xs
+walk-of : (view : View) (f : Pte → Bool) (i : ℕ) (k : Key) (n : ℕ) → ((a : ℕ) → how_many (same_key k) (found_in view f i (view.areas a)) ≡ cond (a == n) 1 0) →
+    (xs : List Span) → how_many (same_key k) (walk_of view f i xs) ≡ how_many (is_of n) xs
 walk-of view f i k n each [] = refl
 walk-of view f i k n each (x ∷ xs) =
     let h = each x.area in let rest = walk-of view f i k n each xs in
     many-append (same_key k) (found_in view f i (view.areas x.area)) (walk_of view f i xs) ∙ omega (arith, h, rest)
 
-walk-none : (view : View) (f : Pte → Bool) (i : ℕ) (k : Key) → ((o : Option Area) → how_many (same_key k) (found_in view f i o) ≡ 0) → (xs : List Span) → how_many (same_key k) (walk_of view f i xs) ≡ 0
+walk-none : (view : View) (f : Pte → Bool) (i : ℕ) (k : Key) → ((o : Option Area) → how_many (same_key k) (found_in view f i o) ≡ 0) → (xs : List Span) →
+    how_many (same_key k) (walk_of view f i xs) ≡ 0
 walk-none view f i k each [] = refl
 walk-none view f i k each (x ∷ xs) =
     let h = each (view.areas x.area) in let rest = walk-none view f i k each xs in
@@ -121,7 +131,8 @@ walk-none view f i k each (x ∷ xs) =
 abbrev AreReached : View → (Pte → Bool) → ℕ × ℕ → Type 0
 AreReached view f home = (process page : ℕ) → f (view.entry process page) ≡ true → IsReached view home process page
 
-entries-are : (view : View) (f : Pte → Bool) (home : ℕ × ℕ) → AreSpanned view → AreApart view → AreReached view f home → (k : Key) → how_many (same_key k) (walk_of view f home.1 (view.spans home.0)) ≡ one_if (f (view.entry k.0 k.1))
+entries-are : (view : View) (f : Pte → Bool) (home : ℕ × ℕ) → AreSpanned view → AreApart view → AreReached view f home → (k : Key) →
+    how_many (same_key k) (walk_of view f home.1 (view.spans home.0)) ≡ one_if (f (view.entry k.0 k.1))
 entries-are view f home spanned apart covered k = is (f (view.entry k.0 k.1)) refl
   where
     is : (b : Bool) → f (view.entry k.0 k.1) ≡ b → how_many (same_key k) (walk_of view f home.1 (view.spans home.0)) ≡ one_if (f (view.entry k.0 k.1))
@@ -131,7 +142,8 @@ entries-are view f home spanned apart covered k = is (f (view.entry k.0 k.1)) re
         ∙ one-span view home.0 r.number r.area spanned r.stands r.linked ∙ sym (ap one_if e)
     is false e = walk-none view f home.1 k (look-none view f home.1 k e) (view.spans home.0) ∙ sym (ap one_if e)
 
-pub walk-is : (view : View) (frame : ℕ) (home : ℕ × ℕ) → AreSpanned view → AreApart view → IsCovered view frame home → AreItsEntries view frame (walk_of view (names_frame frame) home.1 (view.spans home.0))
+pub walk-is : (view : View) (frame : ℕ) (home : ℕ × ℕ) → AreSpanned view → AreApart view → IsCovered view frame home →
+    AreItsEntries view frame (walk_of view (names_frame frame) home.1 (view.spans home.0))
 walk-is view frame home spanned apart covered = entries-are view (names_frame frame) home spanned apart covered
 
 -- what is seen names the frame
@@ -146,7 +158,8 @@ seen-names frame (Here other write seen) h = first (frame == other) h
 seen-names frame (Away slot) h = cc
 
 -- where the looks find nothing seen, nothing is
-pub none-seen : (view : View) (frame : ℕ) (home : ℕ × ℕ) → AreSpanned view → AreApart view → IsCovered view frame home → walk_of view (names_seen frame) home.1 (view.spans home.0) ≡ [] → (process page : ℕ) → names_seen frame (view.entry process page) ≡ false
+pub none-seen : (view : View) (frame : ℕ) (home : ℕ × ℕ) → AreSpanned view → AreApart view → IsCovered view frame home →
+    walk_of view (names_seen frame) home.1 (view.spans home.0) ≡ [] → (process page : ℕ) → names_seen frame (view.entry process page) ≡ false
 none-seen view frame home spanned apart covered empty process page = is (names_seen frame (view.entry process page)) refl
   where
     is : (b : Bool) → names_seen frame (view.entry process page) ≡ b → b ≡ false

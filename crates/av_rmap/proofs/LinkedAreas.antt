@@ -31,7 +31,8 @@ by-number n (x ∷ xs) =
     let turned : (n == x.area) ≡ (x.area == n) = grind (arith, nat_tests) in
     ap (λ b. cond b 1 0 + how_many (λ m. n == m) (numbers_of xs)) turned ∙ ap (λ k. cond (x.area == n) 1 0 + k) (by-number n xs)
 
-pub spans-are-areas : (areas : ℕ → Option Area) (f : Family) (spans : ℕ → List Span) (v i : ℕ) → IsInOrder areas f spans → how_many (overlaps i) (spans v) ≡ how_many (λ a. is_held i (areas a)) (f.users v)
+pub spans-are-areas : (areas : ℕ → Option Area) (f : Family) (spans : ℕ → List Span) (v i : ℕ) → IsInOrder areas f spans →
+    how_many (overlaps i) (spans v) ≡ how_many (λ a. is_held i (areas a)) (f.users v)
 spans-are-areas areas f spans v i order =
     let view = view_with areas f spans (λ _ _. Empty) in
     let spanned : AreSpanned view = record { spanned = order.spanned; areas_fit = order.areas_fit } in

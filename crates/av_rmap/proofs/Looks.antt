@@ -43,7 +43,8 @@ rest-none [] = refl
 rest-none (x ∷ xs) = ap (λ zs. x ∷ zs) (rest-none xs)
 
 -- what is found among spans after x is after x
-key-after : (after : Option (ℕ × ℕ)) (i : ℕ) (k : ℕ × ℕ) (x : Span) (xs : List Span) → AllAfter x xs → overlap_of after i xs ≡ Some k → is_past (Some k) x ≡ false
+key-after : (after : Option (ℕ × ℕ)) (i : ℕ) (k : ℕ × ℕ) (x : Span) (xs : List Span) → AllAfter x xs →
+    overlap_of after i xs ≡ Some k → is_past (Some k) x ≡ false
 key-after after i k x [] all h = cc
 key-after after i k x (y ∷ ys) all h = is (λ h'. key-after after i k x ys all.1 h') (is_past after y && overlaps i y) refl
   where
@@ -75,31 +76,38 @@ zero_left : (n : ℕ) → 0 + n ≡ n
 zero_left n = omega arith
 
 -- a span that is past, or does not hold the index, takes no look
-skip-walk : (view : View) (f : Pte → Bool) (i : ℕ) (after : Option (ℕ × ℕ)) (x : Span) (xs : List Span) → IsSpanOf view x → (is_past after x && overlaps i x) ≡ false → walk_of view f i (rest after (x ∷ xs)) ≡ walk_of view f i (rest after xs)
+skip-walk : (view : View) (f : Pte → Bool) (i : ℕ) (after : Option (ℕ × ℕ)) (x : Span) (xs : List Span) → IsSpanOf view x →
+    (is_past after x && overlaps i x) ≡ false → walk_of view f i (rest after (x ∷ xs)) ≡ walk_of view f i (rest after xs)
 skip-walk view f i after x xs s none = is (is_past after x) refl (overlaps i x) refl
   where
     is : (b : Bool) → is_past after x ≡ b → (c : Bool) → overlaps i x ≡ c → walk_of view f i (rest after (x ∷ xs)) ≡ walk_of view f i (rest after xs)
     is false e c e' = ap (λ b. walk_of view f i (cond b (x ∷ rest after xs) (rest after xs))) e
     is true e true e' = cc
-    is true e false e' = ap (λ b. walk_of view f i (cond b (x ∷ rest after xs) (rest after xs))) e ∙ ap (λ ks. ks ++ walk_of view f i (rest after xs)) (look-nothing view f i x s e')
+    is true e false e' = ap (λ b. walk_of view f i (cond b (x ∷ rest after xs) (rest after xs))) e ∙ ap (λ ks. ks ++ walk_of view f i (rest after xs))
+        (look-nothing view f i x s e')
 
-skip-count : (i : ℕ) (after : Option (ℕ × ℕ)) (x : Span) (xs : List Span) → (is_past after x && overlaps i x) ≡ false → how_many (overlaps i) (rest after (x ∷ xs)) ≡ how_many (overlaps i) (rest after xs)
+skip-count : (i : ℕ) (after : Option (ℕ × ℕ)) (x : Span) (xs : List Span) → (is_past after x && overlaps i x) ≡ false →
+    how_many (overlaps i) (rest after (x ∷ xs)) ≡ how_many (overlaps i) (rest after xs)
 skip-count i after x xs none = is (is_past after x) refl (overlaps i x) refl
   where
     is : (b : Bool) → is_past after x ≡ b → (c : Bool) → overlaps i x ≡ c → how_many (overlaps i) (rest after (x ∷ xs)) ≡ how_many (overlaps i) (rest after xs)
     is false e c e' = ap (λ b. how_many (overlaps i) (cond b (x ∷ rest after xs) (rest after xs))) e
     is true e true e' = cc
-    is true e false e' = ap (λ b. how_many (overlaps i) (cond b (x ∷ rest after xs) (rest after xs))) e ∙ ap (λ t. cond t 1 0 + how_many (overlaps i) (rest after xs)) e' ∙ zero_left (how_many (overlaps i) (rest after xs))
+    is true e false e' = ap (λ b. how_many (overlaps i) (cond b (x ∷ rest after xs) (rest after xs))) e
+        ∙ ap (λ t. cond t 1 0 + how_many (overlaps i) (rest after xs)) e' ∙ zero_left (how_many (overlaps i) (rest after xs))
 
-next-found : (view : View) (f : Pte → Bool) (i : ℕ) (after : Option (ℕ × ℕ)) (k : ℕ × ℕ) (xs : List Span) → IsOrdered xs → AreSpans view xs → overlap_of after i xs ≡ Some k → Found view f i after k xs
+next-found : (view : View) (f : Pte → Bool) (i : ℕ) (after : Option (ℕ × ℕ)) (k : ℕ × ℕ) (xs : List Span) → IsOrdered xs → AreSpans view xs →
+    overlap_of after i xs ≡ Some k → Found view f i after k xs
 next-found view f i after k [] ordered spans h = cc
 next-found view f i after k (x ∷ xs) ordered spans h = is (λ h'. next-found view f i after k xs ordered.1 spans.1 h') (is_past after x) (overlaps i x) refl refl
   where
     -- where x is not what is found
-    skipped : (overlap_of after i xs ≡ Some k → Found view f i after k xs) → overlap_of after i xs ≡ Some k → (is_past after x && overlaps i x) ≡ false → Found view f i after k (x ∷ xs)
+    skipped : (overlap_of after i xs ≡ Some k → Found view f i after k xs) → overlap_of after i xs ≡ Some k → (is_past after x && overlaps i x) ≡ false →
+        Found view f i after k (x ∷ xs)
     skipped again h' none =
         let found = again h' in
-        let later : rest (Some k) (x ∷ xs) ≡ rest (Some k) xs = ap (λ b. cond b (x ∷ rest (Some k) xs) (rest (Some k) xs)) (key-after after i k x xs ordered.0 h') in
+        let later : rest (Some k) (x ∷ xs) ≡ rest (Some k) xs = ap (λ b. cond b (x ∷ rest (Some k) xs) (rest (Some k) xs))
+        (key-after after i k x xs ordered.0 h') in
         record {
           area = found.area;
           stands = found.stands;
@@ -110,8 +118,10 @@ next-found view f i after k (x ∷ xs) ordered spans h = is (λ h'. next-found v
 
     is : (overlap_of after i xs ≡ Some k → Found view f i after k xs) → (b c : Bool) → is_past after x ≡ b → overlaps i x ≡ c → Found view f i after k (x ∷ xs)
     is again true true e e' =
-        let key : (x.first, x.area) ≡ k = same (sym (ap (λ b. cond b (Some (x.first, x.area)) (overlap_of after i xs)) (ap (λ b. b && overlaps i x) e ∙ e')) ∙ h) in
-        let here : rest after (x ∷ xs) ≡ x ∷ xs = ap (λ b. cond b (x ∷ rest after xs) (rest after xs)) e ∙ ap (λ zs. x ∷ zs) (rest-all after x xs ordered.0 e) in
+        let key : (x.first, x.area) ≡ k = same (sym (ap (λ b. cond b (Some (x.first, x.area)) (overlap_of after i xs)) (ap (λ b. b && overlaps i x) e ∙ e'))
+        ∙ h) in
+        let here : rest after (x ∷ xs) ≡ x ∷ xs = ap (λ b. cond b (x ∷ rest after xs) (rest after xs)) e
+        ∙ ap (λ zs. x ∷ zs) (rest-all after x xs ordered.0 e) in
         let later : rest (Some k) (x ∷ xs) ≡ xs = subst (λ (j : ℕ × ℕ). rest (Some j) (x ∷ xs) ≡ xs) key
         (ap (λ b. cond b (x ∷ rest (Some (x.first, x.area)) xs) (rest (Some (x.first, x.area)) xs)) (not_past_itself x) ∙ all_later xs ordered.0) in
         let area : x.area ≡ k.1 = ap (λ (j : ℕ × ℕ). j.1) key in
@@ -119,7 +129,8 @@ next-found view f i after k (x ∷ xs) ordered spans h = is (λ h'. next-found v
           area = spans.0.area;
           stands = ap view.areas (sym area) ∙ spans.0.stands;
           there = sym (overlaps-holds view x i spans.0) ∙ e';
-          walk = ap (walk_of view f i) here ∙ ap (λ a. found_in view f i (view.areas a) ++ walk_of view f i xs) area ∙ sym (ap (λ zs. found_in view f i (view.areas k.1) ++ walk_of view f i zs) later);
+          walk = ap (walk_of view f i) here ∙ ap (λ a. found_in view f i (view.areas a) ++ walk_of view f i xs) area
+              ∙ sym (ap (λ zs. found_in view f i (view.areas k.1) ++ walk_of view f i zs) later);
           count = ap (how_many (overlaps i)) here ∙ ap (λ t. cond t 1 0 + how_many (overlaps i) xs) e' ∙ sym (ap (λ zs. 1 + how_many (overlaps i) zs) later);
         }
       where
@@ -128,16 +139,21 @@ next-found view f i after k (x ∷ xs) ordered spans h = is (λ h'. next-found v
 
         all_later : (ys : List Span) → AllAfter x ys → rest (Some (x.first, x.area)) ys ≡ ys
         all_later [] all = refl
-        all_later (y ∷ ys) all = ap (λ b. cond b (y ∷ rest (Some (x.first, x.area)) ys) (rest (Some (x.first, x.area)) ys)) (before-past x y all.0) ∙ ap (λ zs. y ∷ zs) (all_later ys all.1)
-    is again true false e e' = skipped again (sym (ap (λ b. cond b (Some (x.first, x.area)) (overlap_of after i xs)) (ap (λ b. b && overlaps i x) e ∙ e')) ∙ h) (ap (λ b. b && overlaps i x) e ∙ e')
-    is again false c e e' = skipped again (sym (ap (λ b. cond b (Some (x.first, x.area)) (overlap_of after i xs)) (ap (λ b. b && overlaps i x) e)) ∙ h) (ap (λ b. b && overlaps i x) e)
+        all_later (y ∷ ys) all = ap (λ b. cond b (y ∷ rest (Some (x.first, x.area)) ys) (rest (Some (x.first, x.area)) ys)) (before-past x y all.0)
+            ∙ ap (λ zs. y ∷ zs) (all_later ys all.1)
+    is again true false e e' = skipped again (sym (ap (λ b. cond b (Some (x.first, x.area)) (overlap_of after i xs)) (ap (λ b. b && overlaps i x) e ∙ e')) ∙ h)
+        (ap (λ b. b && overlaps i x) e ∙ e')
+    is again false c e e' = skipped again (sym (ap (λ b. cond b (Some (x.first, x.area)) (overlap_of after i xs)) (ap (λ b. b && overlaps i x) e)) ∙ h)
+        (ap (λ b. b && overlaps i x) e)
 
 -- where `next` finds none, nothing is left
-next-none : (view : View) (f : Pte → Bool) (i : ℕ) (after : Option (ℕ × ℕ)) (xs : List Span) → AreSpans view xs → overlap_of after i xs ≡ None → (walk_of view f i (rest after xs) ≡ []) × (how_many (overlaps i) (rest after xs) ≡ 0)
+next-none : (view : View) (f : Pte → Bool) (i : ℕ) (after : Option (ℕ × ℕ)) (xs : List Span) → AreSpans view xs → overlap_of after i xs ≡ None →
+    (walk_of view f i (rest after xs) ≡ []) × (how_many (overlaps i) (rest after xs) ≡ 0)
 next-none view f i after [] spans h = (refl, refl)
 next-none view f i after (x ∷ xs) spans h = is (λ h'. next-none view f i after xs spans.1 h') (is_past after x && overlaps i x) refl
   where
-    is : (overlap_of after i xs ≡ None → (walk_of view f i (rest after xs) ≡ []) × (how_many (overlaps i) (rest after xs) ≡ 0)) → (b : Bool) → (is_past after x && overlaps i x) ≡ b → (walk_of view f i (rest after (x ∷ xs)) ≡ []) × (how_many (overlaps i) (rest after (x ∷ xs)) ≡ 0)
+    is : (overlap_of after i xs ≡ None → (walk_of view f i (rest after xs) ≡ []) × (how_many (overlaps i) (rest after xs) ≡ 0)) → (b : Bool) →
+        (is_past after x && overlaps i x) ≡ b → (walk_of view f i (rest after (x ∷ xs)) ≡ []) × (how_many (overlaps i) (rest after (x ∷ xs)) ≡ 0)
     is again true e = absurd (some_none (sym (ap (λ b. cond b (Some (x.first, x.area)) (overlap_of after i xs)) e) ∙ h))
       where
         some_none : ◌≡◌ {A = Option (ℕ × ℕ)} (Some (x.first, x.area)) None → ⊥
@@ -148,15 +164,18 @@ next-none view f i after (x ∷ xs) spans h = is (λ h'. next-none view f i afte
 
 -- ---- one turn of the loop
 
-pub turn : (view : View) (f : Pte → Bool) (home : ℕ × ℕ) (after : Option (ℕ × ℕ)) (k : ℕ × ℕ) → AreSpanned view → IsOrdered (view.spans home.0) → overlap_of after home.1 (view.spans home.0) ≡ Some k → Found view f home.1 after k (view.spans home.0)
+pub turn : (view : View) (f : Pte → Bool) (home : ℕ × ℕ) (after : Option (ℕ × ℕ)) (k : ℕ × ℕ) → AreSpanned view → IsOrdered (view.spans home.0) →
+    overlap_of after home.1 (view.spans home.0) ≡ Some k → Found view f home.1 after k (view.spans home.0)
 turn view f home after k spanned ordered found = next-found view f home.1 after k (view.spans home.0) ordered (are_spans view home.0 spanned) found
 
 -- the area that was found holds the index
-pub turn-holds : (view : View) (f : Pte → Bool) (i : ℕ) (after : Option (ℕ × ℕ)) (k : ℕ × ℕ) (xs : List Span) → Found view f i after k xs → IsSomeAnd (view.areas k.1) (λ a. holds i a ≡ true)
+pub turn-holds : (view : View) (f : Pte → Bool) (i : ℕ) (after : Option (ℕ × ℕ)) (k : ℕ × ℕ) (xs : List Span) → Found view f i after k xs →
+    IsSomeAnd (view.areas k.1) (λ a. holds i a ≡ true)
 turn-holds view f i after k xs t = subst (λ (o : Option Area). IsSomeAnd o (λ a. holds i a ≡ true)) (sym t.stands) t.there
 
 -- the last turn finds no area, and nothing is left
-pub last : (view : View) (f : Pte → Bool) (home : ℕ × ℕ) (after : Option (ℕ × ℕ)) → AreSpanned view → overlap_of after home.1 (view.spans home.0) ≡ None → (walk_of view f home.1 (rest after (view.spans home.0)) ≡ []) × (how_many (overlaps home.1) (rest after (view.spans home.0)) ≡ 0)
+pub last : (view : View) (f : Pte → Bool) (home : ℕ × ℕ) (after : Option (ℕ × ℕ)) → AreSpanned view → overlap_of after home.1 (view.spans home.0) ≡ None →
+    (walk_of view f home.1 (rest after (view.spans home.0)) ≡ []) × (how_many (overlaps home.1) (rest after (view.spans home.0)) ≡ 0)
 last view f home after spanned none = next-none view f home.1 after (view.spans home.0) (are_spans view home.0 spanned) none
 
 -- what was found so far, what is left, and the whole, where the look found nothing
@@ -164,7 +183,8 @@ pub turn_without : {X : Type 0} (items left later look whole : List X) → items
 turn_without items left later look whole h e none = ap (λ ks. items ++ ks) (sym (e ∙ ap (λ ks. ks ++ later) (sym none))) ∙ h
 
 -- and where it found one
-pub turn_with : {X : Type 0} (items new left later look whole : List X) (k : X) → items ++ left ≡ whole → left ≡ look ++ later → k ∷ [] ≡ look → new ≡ items ++ k ∷ [] → new ++ later ≡ whole
+pub turn_with : {X : Type 0} (items new left later look whole : List X) (k : X) → items ++ left ≡ whole → left ≡ look ++ later → k ∷ [] ≡ look →
+    new ≡ items ++ k ∷ [] → new ++ later ≡ whole
 turn_with items new left later look whole k h e one n =
     ap (λ ks. ks ++ later) n ∙ append_assoc items (k ∷ []) later ∙ ap (λ ks. items ++ ks) (sym (e ∙ ap (λ ks. ks ++ later) (sym one))) ∙ h
 

@@ -52,7 +52,8 @@ unseen-stays f other write seen h = ap (λ b. Here other write b) (by (f == othe
 
 -- and one that is
 pub unseen-clears : (f other : ℕ) (write seen : Bool) → (f == other && seen) ≡ true → unseen f (Here other write seen) ≡ Here f write false
-unseen-clears f other write seen h = ap (λ b. Here other write (seen && not b)) (first (f == other) seen h) ∙ ap (λ b. Here other write b) (both seen) ∙ ap (λ g. Here g write false) (sym (eqb-true f other (first (f == other) seen h)))
+unseen-clears f other write seen h = ap (λ b. Here other write (seen && not b)) (first (f == other) seen h) ∙ ap (λ b. Here other write b) (both seen)
+    ∙ ap (λ g. Here g write false) (sym (eqb-true f other (first (f == other) seen h)))
   where
     first : (a b : Bool) → (a && b) ≡ true → a ≡ true
     first true b h = refl
@@ -78,7 +79,8 @@ same-entry p page entry q o = by (q == p && o == page) refl
         second e = grind (arith, nat_tests, e)
 
 -- where the entry stays as it is, so does all
-pub look-stays : (f i : ℕ) (o : Option Area) (view : View) (place : Key) → IsSomeAnd o (λ area. place ≡ (area.pid, page_at i area)) → unseen f (view.entry place.0 place.1) ≡ view.entry place.0 place.1
+pub look-stays : (f i : ℕ) (o : Option Area) (view : View) (place : Key) → IsSomeAnd o (λ area. place ≡ (area.pid, page_at i area)) →
+    unseen f (view.entry place.0 place.1) ≡ view.entry place.0 place.1
     → view ≡ unseen_in f i o view
 look-stays f i None view place at h = absurd at
 look-stays f i (Some area) view place at h =
@@ -87,7 +89,8 @@ look-stays f i (Some area) view place at h =
     λ n. record view { entry = λ q o. (sym (same-entry area.pid page view.entry q o) ∙ ap (λ e. with_entry area.pid page e view.entry q o) (sym it)) n }
 
 -- where it was changed
-pub look-clears : (f i : ℕ) (o : Option Area) (view new : View) (place : Key) (e : Pte) → IsSomeAnd o (λ area. place ≡ (area.pid, page_at i area)) → unseen f (view.entry place.0 place.1) ≡ e
+pub look-clears : (f i : ℕ) (o : Option Area) (view new : View) (place : Key) (e : Pte) → IsSomeAnd o (λ area. place ≡ (area.pid, page_at i area)) →
+    unseen f (view.entry place.0 place.1) ≡ e
     → new ≡ record view { entry = with_entry place.0 place.1 e view.entry } → new ≡ unseen_in f i o view
 look-clears f i None view new place e at h is = absurd at
 look-clears f i (Some area) view new place e at h is =
@@ -102,11 +105,13 @@ pub record IsCleared (f : ℕ) (before now : View) (left : List Key) : Type 0 wh
   pub same : (p page : ℕ) → unseen f (now.entry p page) ≡ unseen f (before.entry p page)
   pub done : (k : Key) → how_many (same_key k) left ≡ 0 → now.entry k.0 k.1 ≡ unseen f (before.entry k.0 k.1)
 
-pub none-cleared : (f : ℕ) (view : View) (home : ℕ × ℕ) → AreSpanned view → AreApart view → IsCovered view f home → IsCleared f view view (walk_of view (names_frame f) home.1 (view.spans home.0))
+pub none-cleared : (f : ℕ) (view : View) (home : ℕ × ℕ) → AreSpanned view → AreApart view → IsCovered view f home →
+    IsCleared f view view (walk_of view (names_frame f) home.1 (view.spans home.0))
 none-cleared f view home spanned apart covered = record {
   rest = refl;
   same = λ p page. refl;
-  done = λ k none. sym (unseen-other f (view.entry k.0 k.1) (unnamed (names_frame f (view.entry k.0 k.1)) (sym none ∙ walk-is view f home spanned apart covered k)));
+  done = λ k none. sym (unseen-other f (view.entry k.0 k.1) (unnamed (names_frame f (view.entry k.0 k.1))
+      (sym none ∙ walk-is view f home spanned apart covered k)));
 }
   where
     unnamed : (b : Bool) → 0 ≡ one_if b → b ≡ false
@@ -116,7 +121,8 @@ none-cleared f view home spanned apart covered = record {
 pub all-cleared : (f : ℕ) (before now : View) (left : List Key) → IsCleared f before now left → left ≡ [] → now ≡ with_unseen f before
 all-cleared f before now left h none = h.rest ∙ (λ i. record before { entry = λ p page. h.done (p, page) (ap (how_many (same_key (p, page))) none) i })
 
-pub one-cleared : (f i : ℕ) (before now new : View) (left later : List Key) (a : ℕ) → IsCleared f before now left → left ≡ found_in before (names_frame f) i (before.areas a) ++ later
+pub one-cleared : (f i : ℕ) (before now new : View) (left later : List Key) (a : ℕ) → IsCleared f before now left →
+    left ≡ found_in before (names_frame f) i (before.areas a) ++ later
     → new ≡ unseen_in f i (now.areas a) now → IsCleared f before new later
 one-cleared f i before now new left later a h e is = by (before.areas a) refl
   where
@@ -146,9 +152,11 @@ one-cleared f i before now new left later a h e is = by (before.areas a) refl
             second : page_at i A ≡ o
             second = grind (arith, nat_tests, e)
 
-        same_at : (p o : ℕ) (b : Bool) → (p == A.pid && o == page_at i A) ≡ b → unseen f (cond b (unseen f (now.entry A.pid (page_at i A))) (now.entry p o)) ≡ unseen f (before.entry p o)
+        same_at : (p o : ℕ) (b : Bool) → (p == A.pid && o == page_at i A) ≡ b →
+            unseen f (cond b (unseen f (now.entry A.pid (page_at i A))) (now.entry p o)) ≡ unseen f (before.entry p o)
         same_at p o false e = h.same p o
-        same_at p o true e = unseen-twice f (now.entry A.pid (page_at i A)) ∙ h.same A.pid (page_at i A) ∙ ap (λ (k : Key). unseen f (before.entry k.0 k.1)) (is_it p o e)
+        same_at p o true e = unseen-twice f (now.entry A.pid (page_at i A)) ∙ h.same A.pid (page_at i A)
+            ∙ ap (λ (k : Key). unseen f (before.entry k.0 k.1)) (is_it p o e)
 
         look-other : (k : Key) → same_key k (A.pid, page_at i A) ≡ false → (b : Bool) → how_many (same_key k) (cond b ((A.pid, page_at i A) ∷ []) []) ≡ 0
         look-other k e false = refl
@@ -164,14 +172,17 @@ one-cleared f i before now new left later a h e is = by (before.areas a) refl
 
 -- ---- one turn of the loop
 
-pub cleared-turn : (frame : ℕ) (home : ℕ × ℕ) (before now : View) (left : List Key) (after : Option (ℕ × ℕ)) (k : ℕ × ℕ) (next : Option (ℕ × ℕ)) → AreSpanned before → IsCleared frame before now left
-    → IsOrdered (now.spans home.0) → next ≡ overlap_of after home.1 (now.spans home.0) → next ≡ Some k → Found before (names_frame frame) home.1 after k (before.spans home.0)
+pub cleared-turn : (frame : ℕ) (home : ℕ × ℕ) (before now : View) (left : List Key) (after : Option (ℕ × ℕ)) (k : ℕ × ℕ) (next : Option (ℕ × ℕ)) →
+    AreSpanned before → IsCleared frame before now left
+    → IsOrdered (now.spans home.0) → next ≡ overlap_of after home.1 (now.spans home.0) → next ≡ Some k →
+    Found before (names_frame frame) home.1 after k (before.spans home.0)
 cleared-turn frame home before now left after k next spanned h ordered is some =
     let spans : now.spans home.0 ≡ before.spans home.0 = ap (λ (v : View). v.spans home.0) h.rest in
     turn before (names_frame frame) home after k spanned (subst IsOrdered spans ordered) (sym (ap (overlap_of after home.1) spans) ∙ sym is ∙ some)
 
 -- the last turn finds no area
-pub cleared-last : (frame : ℕ) (home : ℕ × ℕ) (before now : View) (left : List Key) (after : Option (ℕ × ℕ)) (next : Option (ℕ × ℕ)) → AreSpanned before → IsCleared frame before now left
+pub cleared-last : (frame : ℕ) (home : ℕ × ℕ) (before now : View) (left : List Key) (after : Option (ℕ × ℕ)) (next : Option (ℕ × ℕ)) → AreSpanned before →
+    IsCleared frame before now left
     → next ≡ overlap_of after home.1 (now.spans home.0) → next ≡ None
     → (walk_of before (names_frame frame) home.1 (rest after (before.spans home.0)) ≡ []) × (how_many (overlaps home.1) (rest after (before.spans home.0)) ≡ 0)
 cleared-last frame home before now left after next spanned h is none =

@@ -138,7 +138,8 @@ pub once-there : (k : Key) (ks : List Key) → AreRising ks → how_many (same_k
 once-there k [] rising = refl
 once-there k (j ∷ js) rising = by (once-there k js rising.1) (same_key k j) refl
   where
-    by : how_many (same_key k) js ≡ one_if (list_any (same_key k) js) → (b : Bool) → same_key k j ≡ b → how_many (same_key k) (j ∷ js) ≡ one_if (list_any (same_key k) (j ∷ js))
+    by : how_many (same_key k) js ≡ one_if (list_any (same_key k) js) → (b : Bool) → same_key k j ≡ b →
+        how_many (same_key k) (j ∷ js) ≡ one_if (list_any (same_key k) (j ∷ js))
     by rest true e =
         let none : how_many (same_key k) js ≡ 0 = ap (λ i. how_many (same_key i) js) (same-keys k j e) ∙ none-after j js rising.0 in
         ap (λ b. cond b 1 0 + how_many (same_key k) js) e ∙ omega (arith, none) ∙ sym (ap (λ b. one_if (b || list_any (same_key k) js)) e)

@@ -62,7 +62,8 @@ many-filter n (x ∷ xs) = step (is_of n x) (many-filter n xs)
     step true h = omega (arith, h)
     step false h = omega (arith, h)
 
-pub one-span : (view : View) (v n : ℕ) (area : Area) → AreSpanned view → view.areas n ≡ Some area → is_in v (view.chain n) ≡ true → how_many (is_of n) (view.spans v) ≡ 1
+pub one-span : (view : View) (v n : ℕ) (area : Area) → AreSpanned view → view.areas n ≡ Some area → is_in v (view.chain n) ≡ true →
+    how_many (is_of n) (view.spans v) ≡ 1
 one-span view v n area s stands linked =
     many-filter n (view.spans v)
     ∙ ap length (s.spanned.each v n ∙ ap (λ b. cond b (present n (view.areas n)) []) linked ∙ ap (present n) stands)

@@ -14,7 +14,7 @@ use Rattle.av_anon.proofs.Choosing.{found_idle}
 use Rattle.av_anon.proofs.Words.{with_at-here, with_at-other}
 use Rattle.av_merge.specs.Fork.{Kin, info_with, kin_with}
 use Rattle.av_spaces.specs.Fork.{AreKept, GoInTurn, IsForked, kin_after, kin_of}
-use Rattle.av_spaces.specs.Kin.{AnonsFit, IsOwnedIn, chain_on, info_of}
+use Rattle.av_spaces.specs.Kin.{AnonsFit, IsOwnedIn, chain_by, info_of}
 use Rattle.av_spaces.specs.Spaces.{AllSpaces, IsSpawned, areas_of, pages_of}
 use Rattle.av_spaces.proofs.ForkLaws.{kin_after-more}
 
@@ -45,16 +45,17 @@ module _ (s : AllSpaces) (a : Anons) (fit : AnonsFit s a) where
   pub owned_there : (v : ℕ) → IsOwnedIn s v → IsSome (info_of a v)
   owned_there v owned = fit.linked v (owned.0, owned.1, by (pages_of s.processes owned.0 owned.1) owned.2)
     where
-      by : (o : Option Area) → IsSomeAnd o (λ area. area.anon ≡ Some v) → IsSomeAnd o (λ area. is_in v (chain_on s a area.anon) ≡ true)
+      by : (o : Option Area) → IsSomeAnd o (λ area. area.anon ≡ Some v) → IsSomeAnd o (λ area. is_in v (chain_by s a area.anon) ≡ true)
       by None is = absurd is
-      by (Some area) is = ap (λ own. is_in v (chain_on s a own)) is ∙ fit.own v owned
+      by (Some area) is = ap (λ own. is_in v (chain_by s a own)) is ∙ fit.own v owned
 
   -- the child's own one is not some area's
   not_own : (own v : ℕ) → IsOwnedIn s v → v ≢ child_own (member_to_reuse (kin_of s a).info ((kin_of s a).chain own)) (kin_of s a).next
   not_own own v owned = by (member_to_reuse (kin_of s a).info ((kin_of s a).chain own)) refl
     where
       none : {i : Info} (o : Option Info) → o ≡ Some i → IfSome o (λ i. (1 ≤ i.active) ↔ IsOwnedIn s v) → (i.active ≡ 0) → ⊥
-      none {i} o e h idle = let some : 1 ≤ i.active = (subst (λ o. IfSome o (λ i. (1 ≤ i.active) ↔ IsOwnedIn s v)) e h).1 owned in absurd (omega (arith, some, idle))
+      none {i} o e h idle = let some : 1 ≤ i.active = (subst (λ o. IfSome o (λ i. (1 ≤ i.active) ↔ IsOwnedIn s v)) e h).1 owned in
+          absurd (omega (arith, some, idle))
 
       by : (reuse : Option ℕ) → member_to_reuse (kin_of s a).info ((kin_of s a).chain own) ≡ reuse → v ≢ child_own reuse (kin_of s a).next
       by None is e = let below : v < a.next = fit.order.below v (owned_there v owned) in absurd (omega (arith, below, e))
@@ -82,7 +83,7 @@ module _ (s : AllSpaces) (a : Anons) (fit : AnonsFit s a) where
 -- what there was is so after the first areas
 record IsKept (s : AllSpaces) (old : Anons) (k : Kin) : Type 0 where
   kin : (v : ℕ) → IfSome (info_of old v) (IsKin (k.info v))
-  chains : (v : ℕ) → IsOwnedIn s v → k.chain v ≡ chain_on s old (Some v)
+  chains : (v : ℕ) → IsOwnedIn s v → k.chain v ≡ chain_by s old (Some v)
 
 module _ (s : AllSpaces) (old : Anons) (child : ℕ) (areas : List Area) (dead : areas_of s.processes child ≡ None) (turn : GoInTurn s old child areas) where
   -- what an area had as its own it has
@@ -122,13 +123,15 @@ module _ (s : AllSpaces) (old : Anons) (child : ℕ) (areas : List Area) (dead :
       none : Area
       none = record { pid = 0; start = 0; end = 0; prot = record { read = false; write = false; execute = false }; flags = 0; pgoff = 0; anon = None }
 
-      by : (n < length areas) ⊎ (length areas ≤ n) → IsKept s old (kin_after (take n areas) (kin_of s old)) → IsKept s old (kin_after (take (suc n) areas) (kin_of s old))
+      by : (n < length areas) ⊎ (length areas ≤ n) → IsKept s old (kin_after (take n areas) (kin_of s old)) →
+          IsKept s old (kin_after (take (suc n) areas) (kin_of s old))
       by (inl inside) h =
           let m = turn n in
           let e : n + 1 ≡ suc n = omega arith in
           subst (λ l. IsKept s old (kin_after l (kin_of s old))) (sym (take_more areas n none inside) ∙ ap (λ n. take n areas) e)
           (kept_step m.0 m.1 (take n areas) (get_or areas n none) m.2 h)
-      by (inr outside) h = subst (λ l. IsKept s old (kin_after l (kin_of s old))) (take_all n areas outside ∙ sym (take_all (suc n) areas (omega (arith, outside)))) h
+      by (inr outside) h = subst (λ l. IsKept s old (kin_after l (kin_of s old)))
+          (take_all n areas outside ∙ sym (take_all (suc n) areas (omega (arith, outside)))) h
 
   pub kept : (s' : AllSpaces) (new : Anons) → IsForked s old s' new child areas → AreKept s old s' new
   kept s' new f =

@@ -39,7 +39,8 @@ pub record IsForking (child : ℕ) (old areas : List (Option Area)) (tree : List
   pub between : (n : ℕ) → n ≤ i → (mid : List (Option Area)) × (tree : List Span) × (anons : Anons) × HasForked child old before (take n spans) mid tree anons
 
 -- at first
-pub forks_none : (child : ℕ) (old : List (Option Area)) (before : Anons) (tree spans : List Span) → AreInOrder old before → HasNone child (area_of old) → tree ≡ []
+pub forks_none : (child : ℕ) (old : List (Option Area)) (before : Anons) (tree spans : List Span) → AreInOrder old before →
+    HasNone child (area_of old) → tree ≡ []
     → IsForking child old old tree before before spans 0
 forks_none child old before tree spans order none empty = record {
   done = first;
@@ -113,7 +114,8 @@ apart_rest (suc i) [] h = tt
 apart_rest (suc i) (s ∷ spans) h = apart_rest i spans h.2
 
 -- an area comes under a new number: those of these spans stay
-areas_kept : (f f' : ℕ → Option Area) (q n : ℕ) (new : Option Area) (spans : List Span) → AreNumbered f q spans → f n ≡ None → ((k : ℕ) → f' k ≡ with_at n new f k)
+areas_kept : (f f' : ℕ → Option Area) (q n : ℕ) (new : Option Area) (spans : List Span) → AreNumbered f q spans → f n ≡ None →
+    ((k : ℕ) → f' k ≡ with_at n new f k)
     → areas_by f' spans ≡ areas_by f spans
 areas_kept f f' q n new [] h unused now = refl
 areas_kept f f' q n new (s ∷ spans) h unused now = λ i. cons_option (same i) (areas_kept f f' q n new spans h.1 unused now i)
@@ -156,7 +158,8 @@ module _ (child p : ℕ) (old areas : List (Option Area)) (tree : List Span) (be
   pub next : IsNext p (area_of old) (area_of areas) s
   next = by (area_of old s.area) refl numbers.0 (none s.area)
     where
-      by : (o : Option Area) → area_of old s.area ≡ o → IsSomeAnd o (IsAreaOf p s) → IfSome o (λ area. area.pid ≢ child) → IsNext p (area_of old) (area_of areas) s
+      by : (o : Option Area) → area_of old s.area ≡ o → IsSomeAnd o (IsAreaOf p s) → IfSome o (λ area. area.pid ≢ child) →
+          IsNext p (area_of old) (area_of areas) s
       by None e is other = absurd is
       by (Some area) e is other = record { area = area; was = e; now = h.done.stands.others.stay s.area area other e; is = is }
 
@@ -184,7 +187,8 @@ module _ (child p : ℕ) (old areas : List (Option Area)) (tree : List Span) (be
         subst (λ from. AllOf (λ t. t.from < from) tree) is.from (begin_below tree s.from h.done.stands.areas.spans_are.apart ends_below) in
         let last : after ≡ tree ++ x ∷ [] = g.tree ∙ with_last x tree begins in
         let here : area_of new number ≡ Some made = g.areas number ∙ with_at-here number (Some made) (area_of areas) in
-        let kept = areas_kept (area_of areas) (area_of new) child number (Some made) tree (numbered (area_of areas) child tree h.done.stands.areas) g.unused g.areas in
+        let kept = areas_kept (area_of areas) (area_of new) child number (Some made) tree
+        (numbered (area_of areas) child tree h.done.stands.areas) g.unused g.areas in
         let list : areas_by (area_of new) after ≡ areas_by (area_of areas) tree ++ made ∷ [] =
         ap (areas_by (area_of new)) last ∙ filter_map-append (λ (t : Span). area_of new t.area) tree (x ∷ []) ∙ (λ j. kept j ++ cons_option (here j) []) in
         let more : areas_by (area_of old) (take (i + 1) spans) ≡ earlier ++ area ∷ [] =
@@ -226,7 +230,13 @@ module _ (child : ℕ) (old areas : List (Option Area)) (tree : List Span) (befo
 
   pub forks_in_turn : ForksInTurn child old before spans
   forks_in_turn n = elim (cases_lt i n) [
-    | inl late ↦ (areas, tree, anons, subst (λ l. HasForked child old before l areas tree anons) (sym (take_all n spans (omega (arith, late, outside)))) forks_all)
+    | inl late ↦ (
+      areas,
+      tree,
+      anons,
+      subst (λ l. HasForked child old before l areas tree anons)
+          (sym (take_all n spans (omega (arith, late, outside)))) forks_all,
+    )
     | inr early ↦ h.between n early
   ]
 
@@ -239,7 +249,8 @@ module _ (child parent : ℕ) (old : List (Option Area)) (before mid : Trees) (a
 
   -- the child's tree is put into its place
   forked_by : (new : List (Option Area)) (tree done : List Span) (a' : Anons) → areas_of (spaces_by (area_of old) before) child ≡ None
-      → HasForked child old a done new tree a' → IsForked (all_spaces old before) a (all_spaces new (slice_set mid child (Some tree))) a' child (areas_by (area_of old) done)
+      → HasForked child old a done new tree a' → IsForked (all_spaces old before) a (all_spaces new (slice_set mid child (Some tree))) a' child
+      (areas_by (area_of old) done)
   forked_by new tree done a' dead h = record {
     spawned = subst (IsSpawned (spaces_by (area_of old) before) (spaces_by (area_of new) (slice_set mid child (Some tree))) child) h.areas
         (spawns (area_of old) (area_of new) before mid child tree (spaces_by (area_of old) before) trees refl dead (λ _. h.stands) grown place);
@@ -266,5 +277,6 @@ module _ (child parent : ℕ) (old : List (Option Area)) (before mid : Trees) (a
       let first = areas_by-take (area_of old) parent n spans (numbered (area_of old) parent spans (tree_of (area_of old) before parent spans trees was)) in (
         all_spaces m.0 (slice_set mid child (Some m.1)),
         m.2,
-        subst (IsForked (all_spaces old before) a (all_spaces m.0 (slice_set mid child (Some m.1))) m.2 child) first (forked_by m.0 m.1 (take n spans) m.2 dead m.3),
+        subst (IsForked (all_spaces old before) a (all_spaces m.0 (slice_set mid child (Some m.1))) m.2 child) first
+            (forked_by m.0 m.1 (take n spans) m.2 dead m.3),
       ))) dead

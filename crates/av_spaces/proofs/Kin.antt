@@ -23,7 +23,7 @@ use Rattle.av_merge.specs.Process.{AreAreasOf}
 use Rattle.av_merge.proofs.Places.{area_in, is_on, on_span}
 use Rattle.av_spaces.specs.Spaces.{AllSpaces, pages_of}
 use Rattle.av_spaces.specs.Trees.{Trees, AreTrees, HasNone, all_spaces, spaces_by, tree_at}
-use Rattle.av_spaces.specs.Kin.{AnonsFit, AnonsPrepare, AnonsStay, InOrder, IsLinkedIn, IsOwnedIn, chain_at, chain_on, info_of, made_for}
+use Rattle.av_spaces.specs.Kin.{AnonsFit, AnonsPrepare, AnonsStay, InOrder, IsLinkedIn, IsOwnedIn, chain_at, chain_by, info_of, made_for}
 use Rattle.av_spaces.proofs.Trees.{none_dead, pages_there}
 
 -- ---- areas in use are on pages
@@ -81,17 +81,20 @@ owner_of f b v is = by (f b) refl is
     by (Some A) at e = record { area = A; area_is = at; own_is = e }
 
 -- its pages have it
-owned_there : (areas : List (Option Area)) (ts : Trees) (b v : ℕ) → AreTrees (area_of areas) ts → own_of (area_of areas b) ≡ Some v → IsOwnedIn (all_spaces areas ts) v
+owned_there : (areas : List (Option Area)) (ts : Trees) (b v : ℕ) → AreTrees (area_of areas) ts → own_of (area_of areas b) ≡ Some v →
+    IsOwnedIn (all_spaces areas ts) v
 owned_there areas ts b v trees is =
     let o = owner_of (area_of areas) b v is in
     let at = page_of_area (area_of areas) ts b o.area trees o.area_is in
     (o.area.pid, at.0, subst (λ o. IsSomeAnd o (λ area. area.anon ≡ Some v)) (sym at.1) o.own_is)
 
 -- and it is an area's number that has it
-owner_there : (areas : List (Option Area)) (ts : Trees) (v : ℕ) → AreTrees (area_of areas) ts → IsOwnedIn (all_spaces areas ts) v → (b : ℕ) × (own_of (area_of areas b) ≡ Some v)
+owner_there : (areas : List (Option Area)) (ts : Trees) (v : ℕ) → AreTrees (area_of areas) ts → IsOwnedIn (all_spaces areas ts) v →
+    (b : ℕ) × (own_of (area_of areas b) ≡ Some v)
 owner_there areas ts v trees h = by (pages_of (spaces_by (area_of areas) ts) h.0 h.1) refl h.2
   where
-    by : (o : Option Area) → pages_of (spaces_by (area_of areas) ts) h.0 h.1 ≡ o → IsSomeAnd o (λ area. area.anon ≡ Some v) → (b : ℕ) × (own_of (area_of areas b) ≡ Some v)
+    by : (o : Option Area) → pages_of (spaces_by (area_of areas) ts) h.0 h.1 ≡ o → IsSomeAnd o (λ area. area.anon ≡ Some v) →
+        (b : ℕ) × (own_of (area_of areas b) ≡ Some v)
     by None at is = absurd is
     by (Some A) at is = let b = area_of_page (area_of areas) ts h.0 h.1 A trees at in (b.0, ap own_of b.1 ∙ is)
 
@@ -118,7 +121,8 @@ passes_once test b (x ∷ xs) once h = by (b == x) refl once (passes_once test b
 
 -- ---- linked anon_vmas
 
-module _ (areas : List (Option Area)) (ts : Trees) (a : Anons) (trees : AreTrees (area_of areas) ts) (order : IsInOrder (area_of areas) (family a) (spans_of a)) where
+module _ (areas : List (Option Area)) (ts : Trees) (a : Anons) (trees : AreTrees (area_of areas) ts)
+    (order : IsInOrder (area_of areas) (family a) (spans_of a)) where
   -- one that is there has a page whose area is linked to it
   pub linked_there : (v : ℕ) → IsSome (info_of a v) → IsLinkedIn (all_spaces areas ts) a v
   linked_there v there =
@@ -132,19 +136,23 @@ module _ (areas : List (Option Area)) (ts : Trees) (a : Anons) (trees : AreTrees
           let at = page_of_area (area_of areas) ts b o.area trees o.area_is in (
             o.area.pid,
             at.0,
-            subst (λ o. IsSomeAnd o (λ area. is_in v (chain_on (all_spaces areas ts) a area.anon) ≡ true)) (sym at.1)
-                (ap (λ own. is_in v (chain_on (all_spaces areas ts) a own)) o.own_is ∙ ap (is_in v) (chain_by-is (area_of areas) (family a) (spans_of a) b own order is) ∙ member),
+            subst (λ o. IsSomeAnd o (λ area. is_in v (chain_by (all_spaces areas ts) a area.anon) ≡ true)) (sym at.1)
+                (ap (λ own. is_in v (chain_by (all_spaces areas ts) a own)) o.own_is
+                ∙ ap (is_in v) (chain_by-is (area_of areas) (family a) (spans_of a) b own order is) ∙ member),
           )
 
   -- and one with such a page is there
   pub there_linked : (v : ℕ) → IsLinkedIn (all_spaces areas ts) a v → IsSome (info_of a v)
   there_linked v h = by (pages_of (spaces_by (area_of areas) ts) h.0 h.1) refl h.2
     where
-      of_own : (A : Area) (b : ℕ) → area_of areas b ≡ Some A → (own : Option ℕ) → A.anon ≡ own → is_in v (chain_on (all_spaces areas ts) a own) ≡ true → IsSome (info_of a v)
+      of_own : (A : Area) (b : ℕ) → area_of areas b ≡ Some A → (own : Option ℕ) → A.anon ≡ own → is_in v (chain_by (all_spaces areas ts) a own) ≡ true →
+          IsSome (info_of a v)
       of_own A b at None is member = absurd (false≢true member)
-      of_own A b at (Some own) is member = (order.chains b).there v (sym (ap (is_in v) (chain_by-is (area_of areas) (family a) (spans_of a) b own order (ap own_of at ∙ is))) ∙ member)
+      of_own A b at (Some own) is member = (order.chains b).there v
+          (sym (ap (is_in v) (chain_by-is (area_of areas) (family a) (spans_of a) b own order (ap own_of at ∙ is))) ∙ member)
 
-      by : (o : Option Area) → pages_of (spaces_by (area_of areas) ts) h.0 h.1 ≡ o → IsSomeAnd o (λ area. is_in v (chain_on (all_spaces areas ts) a area.anon) ≡ true) → IsSome (info_of a v)
+      by : (o : Option Area) → pages_of (spaces_by (area_of areas) ts) h.0 h.1 ≡ o →
+          IsSomeAnd o (λ area. is_in v (chain_by (all_spaces areas ts) a area.anon) ≡ true) → IsSome (info_of a v)
       by None at is = absurd is
       by (Some A) at is = let b = area_of_page (area_of areas) ts h.0 h.1 A trees at in of_own A b.0 b.1 A.anon refl is
 
@@ -159,7 +167,8 @@ module _ (areas : List (Option Area)) (ts : Trees) (a : Anons) (trees : AreTrees
       by None is = tt
       by (Some i) is =
           let counted : i.active ≡ how_many test ((family a).users v) = (order.counted v i is).active in (
-            λ some. let b = some_passes test ((family a).users v) (subst (λ n. 1 ≤ n) counted some) in owned_there areas ts b.0 v trees (owns-is v (own_of (area_of areas b.0)) b.1),
+            λ some. let b = some_passes test ((family a).users v) (subst (λ n. 1 ≤ n) counted some) in
+                owned_there areas ts b.0 v trees (owns-is v (own_of (area_of areas b.0)) b.1),
             λ owned.
                 let b = owner_there areas ts v trees owned in
                 let once : how_many (λ c. b.0 == c) ((family a).users v) ≡ 1 = order.inverse.inverse b.0 v ∙ ap one_if ((order.chains b.0).own_in v b.1) in
@@ -229,7 +238,8 @@ pub anons_stay_by : (old new : List (Option Area)) (before after : Trees) (a a' 
     → AreTrees (area_of old) before → AreTrees (area_of new) after → InOrder s a
     → KeepsKin (area_of old) (area_of new) (family a) (family a') (spans_of a') → AnonsStay s a (all_spaces new after) a'
 anons_stay_by old new before after a a' s view trees trees' order h =
-    subst (λ (s : AllSpaces). AnonsStay s a (all_spaces new after) a') view (anons_stay old new before after a a' trees trees' (order_in old before s a view order) h)
+    subst (λ (s : AllSpaces). AnonsStay s a (all_spaces new after) a') view
+    (anons_stay old new before after a a' trees trees' (order_in old before s a view order) h)
 
 pub anons_prepare_by : (old new : List (Option Area)) (ts : Trees) (a a' : Anons) (p page : ℕ) (spans : List Span) (s : AllSpaces) → all_spaces old ts ≡ s
     → AreTrees (area_of old) ts → AreTrees (area_of new) ts → tree_at ts p ≡ Some spans → PrepareKin old spans a new a' page
@@ -244,17 +254,17 @@ pub chain_where : (s : AllSpaces) (a : Anons) (p page n : ℕ) → InOrder s a �
     → (family a).chain n ≡ chain_at s a p page
 chain_where s a p page n order is = by (pages_of s.processes p page) is
   where
-    owned : (own : Option ℕ) → own_of (area_of s.areas n) ≡ own → (family a).chain n ≡ chain_on s a own
+    owned : (own : Option ℕ) → own_of (area_of s.areas n) ≡ own → (family a).chain n ≡ chain_by s a own
     owned None e = (order.chains n).none e
     owned (Some v) e = sym (chain_by-is (area_of s.areas) (family a) (spans_of a) n v order e)
 
-    by : (o : Option Area) → area_of s.areas n ≡ o → (family a).chain n ≡ option_map_or (λ area. chain_on s a area.anon) o []
+    by : (o : Option Area) → area_of s.areas n ≡ o → (family a).chain n ≡ option_map_or (λ area. chain_by s a area.anon) o []
     by None e = (order.chains n).none (ap own_of e)
     by (Some area) e = owned area.anon (ap own_of e)
 
 -- a page without an area has no chain
 pub chain_nowhere : (s : AllSpaces) (a : Anons) (p page : ℕ) → None ≡ pages_of s.processes p page → [] ≡ chain_at s a p page
-chain_nowhere s a p page is = ap (λ o. option_map_or (λ (area : Area). chain_on s a area.anon) o []) is
+chain_nowhere s a p page is = ap (λ o. option_map_or (λ (area : Area). chain_by s a area.anon) o []) is
 
 -- ---- from one change to the next
 

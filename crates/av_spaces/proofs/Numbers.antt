@@ -30,7 +30,8 @@ module _ (areas : List (Option Area)) (ts : Trees) (trees : AreTrees (area_of ar
           → (number : ℕ) × IsNumber (all_spaces areas ts) p page A number
       by None at none = none_is (none_dead (area_of areas) ts p (spaces_by (area_of areas) ts) (sym at) refl page ∙ is)
       by (Some spans) at has =
-          let on = is_on p (area_of areas) spans page A has (sym (pages_there (area_of areas) ts p spans (spaces_by (area_of areas) ts) trees (sym at) refl page) ∙ is) in
+          let on = is_on p (area_of areas) spans page A has (sym (pages_there (area_of areas) ts p spans (spaces_by (area_of areas) ts) trees
+          (sym at) refl page) ∙ is) in
           (on.number, record { at = on.area_is; process = on.is.process; here = on.has })
 
   -- the tree has an area of its process at each page that the area has

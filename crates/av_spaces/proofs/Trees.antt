@@ -58,7 +58,8 @@ tree_set (t ∷ ts) (suc p) x below (suc q) = tree_set ts p x (omega (arith, bel
     next : (q p : ℕ) → (q == p) ≡ (suc q == suc p)
     next q p = grind (arith, nat_tests)
 
-count_set : (ts : Trees) (p : ℕ) (x : Option (List Span)) → p < length ts → how_many is_some (slice_set ts p x) + one_if (tree_at ts p) ≡ how_many is_some ts + one_if x
+count_set : (ts : Trees) (p : ℕ) (x : Option (List Span)) → p < length ts →
+    how_many is_some (slice_set ts p x) + one_if (tree_at ts p) ≡ how_many is_some ts + one_if x
 count_set [] p x below = absurd (omega (arith, below))
 count_set (t ∷ ts) zero x below = swapped (one_if x) (how_many is_some ts) (one_if t)
   where
@@ -78,7 +79,8 @@ from_place n f ts = filter_map (space_by f) (enumerate_from n ts)
 none_below : (f : ℕ → Option Area) (n : ℕ) (ts : Trees) (p : ℕ) → p < n → areas_of (from_place n f ts) p ≡ None
 none_below f n [] p below = refl
 none_below f n (None ∷ ts) p below = none_below f (n + 1) ts p (omega (arith, below))
-none_below f n (Some spans ∷ ts) p below = ap (λ b. cond b (Some (areas_by f spans)) (areas_of (from_place (n + 1) f ts) p)) (other p n below) ∙ none_below f (n + 1) ts p (omega (arith, below))
+none_below f n (Some spans ∷ ts) p below = ap (λ b. cond b (Some (areas_by f spans)) (areas_of (from_place (n + 1) f ts) p)) (other p n below)
+    ∙ none_below f (n + 1) ts p (omega (arith, below))
   where
     other : (p n : ℕ) → p < n → is_eq (nat_cmp p n) ≡ false
     other p n below = grind (arith, nat_tests, below)
@@ -86,12 +88,14 @@ none_below f n (Some spans ∷ ts) p below = ap (λ b. cond b (Some (areas_by f 
 areas_from : (f : ℕ → Option Area) (n k p : ℕ) (ts : Trees) → p ≡ n + k → areas_of (from_place n f ts) p ≡ option_map (areas_by f) (tree_at ts k)
 areas_from f n k p [] is = refl
 areas_from f n zero p (None ∷ ts) is = none_below f (n + 1) ts p (omega (arith, is))
-areas_from f n zero p (Some spans ∷ ts) is = ap (λ b. cond b (Some (areas_by f spans)) (areas_of (from_place (n + 1) f ts) p)) (same p n (let here : p ≡ n = omega (arith, is) in here))
+areas_from f n zero p (Some spans ∷ ts) is = ap (λ b. cond b (Some (areas_by f spans)) (areas_of (from_place (n + 1) f ts) p))
+    (same p n (let here : p ≡ n = omega (arith, is) in here))
   where
     same : (p n : ℕ) → p ≡ n → is_eq (nat_cmp p n) ≡ true
     same p n e = grind (arith, nat_tests, e)
 areas_from f n (suc k) p (None ∷ ts) is = areas_from f (n + 1) k p ts (omega (arith, is))
-areas_from f n (suc k) p (Some spans ∷ ts) is = ap (λ b. cond b (Some (areas_by f spans)) (areas_of (from_place (n + 1) f ts) p)) (other p n (let above : n < p = omega (arith, is) in above)) ∙ areas_from f (n + 1) k p ts (omega (arith, is))
+areas_from f n (suc k) p (Some spans ∷ ts) is = ap (λ b. cond b (Some (areas_by f spans)) (areas_of (from_place (n + 1) f ts) p))
+    (other p n (let above : n < p = omega (arith, is) in above)) ∙ areas_from f (n + 1) k p ts (omega (arith, is))
   where
     other : (p n : ℕ) → n < p → is_eq (nat_cmp p n) ≡ false
     other p n above = grind (arith, nat_tests, above)
@@ -133,7 +137,8 @@ pub tree_of : (f : ℕ → Option Area) (m : Trees) (p : ℕ) (spans : List Span
 tree_of f m p spans trees is = subst (λ o. MatchOption o (HasNone p f) (AreAreasOf p f)) is (trees p)
 
 -- a page has the area that its process's tree says
-pub pages_there : (f : ℕ → Option Area) (m : Trees) (p : ℕ) (spans : List Span) (s : Spaces) → AreTrees f m → Some spans ≡ tree_at m p → spaces_by f m ≡ s → (page : ℕ) → pages_of s p page ≡ pages_by f spans page
+pub pages_there : (f : ℕ → Option Area) (m : Trees) (p : ℕ) (spans : List Span) (s : Spaces) → AreTrees f m → Some spans ≡ tree_at m p → spaces_by f m ≡ s →
+    (page : ℕ) → pages_of s p page ≡ pages_by f spans page
 pages_there f m p spans s trees is view page =
     ap (λ s. pages_of s p page) (sym view)
     ∙ ap (λ o. pages_in o page) (areas_are f m p ∙ ap (option_map (areas_by f)) (sym is))
@@ -141,7 +146,8 @@ pages_there f m p spans s trees is view page =
 
 -- and none where it doesn't live
 pub none_dead : (f : ℕ → Option Area) (m : Trees) (p : ℕ) (s : Spaces) → None ≡ tree_at m p → spaces_by f m ≡ s → (page : ℕ) → None ≡ pages_of s p page
-none_dead f m p s is view page = sym (ap (λ s. pages_of s p page) (sym view) ∙ ap (λ o. pages_in o page) (areas_are f m p ∙ ap (option_map (areas_by f)) (sym is)))
+none_dead f m p s is view page = sym (ap (λ s. pages_of s p page) (sym view) ∙ ap (λ o. pages_in o page)
+    (areas_are f m p ∙ ap (option_map (areas_by f)) (sym is)))
 
 taken_at : (f : ℕ → Option Area) (p : ℕ) (spans : List Span) → AreAreasOf p f spans → (page : ℕ) → is_some (pages_by f spans page) ≡ is_page_taken spans page
 taken_at f p spans areas page = by (area_at spans page) refl
@@ -151,8 +157,10 @@ taken_at f p spans areas page = by (area_at spans page) refl
     by (Some n) at = ap is_some (held_by f p spans page n areas at).area_is
 
 -- the pages that are taken are those that the tree holds
-pub taken_as : (f : ℕ → Option Area) (m : Trees) (p : ℕ) (spans : List Span) (s : Spaces) → AreTrees f m → Some spans ≡ tree_at m p → spaces_by f m ≡ s → is_page_taken spans ≡ is_taken s p
-taken_as f m p spans s trees is view = λ i page. sym (ap is_some (pages_there f m p spans s trees is view page) ∙ taken_at f p spans (tree_of f m p spans trees (sym is)) page) i
+pub taken_as : (f : ℕ → Option Area) (m : Trees) (p : ℕ) (spans : List Span) (s : Spaces) → AreTrees f m → Some spans ≡ tree_at m p → spaces_by f m ≡ s →
+    is_page_taken spans ≡ is_taken s p
+taken_as f m p spans s trees is view = λ i page. sym (ap is_some (pages_there f m p spans s trees is view page)
+    ∙ taken_at f p spans (tree_of f m p spans trees (sym is)) page) i
 
 -- ---- the areas rise
 
@@ -216,7 +224,8 @@ module _ (f f' : ℕ → Option Area) (p : ℕ) (others : KeepsOthers p f f') wh
 
       each : (n : ℕ) (o : Option Area) → f' n ≡ o → IfSome o (λ area. area.pid ≡ q → is_some (span_of spans n) ≡ true)
       each n None is = tt
-      each n (Some area) is = λ same. subst (λ o. IfSome o (λ area. area.pid ≡ q → is_some (span_of spans n) ≡ true)) (others.none_comes n area (λ here. apart (sym same ∙ here)) is) (areas.all n) same
+      each n (Some area) is = λ same. subst (λ o. IfSome o (λ area. area.pid ≡ q → is_some (span_of spans n) ≡ true))
+          (others.none_comes n area (λ here. apart (sym same ∙ here)) is) (areas.all n) same
 
   areas_stay : (q : ℕ) → q ≢ p → (spans : List Span) → AreNumbered f q spans → areas_by f' spans ≡ areas_by f spans
   areas_stay q apart [] h = refl
@@ -242,7 +251,8 @@ module _ (f f' : ℕ → Option Area) (p : ℕ) (others : KeepsOthers p f f') wh
         each apart None h = refl
         each apart (Some spans) h = ap Some (areas_stay q apart spans (numbered f q spans h))
 
-        by : (b : Bool) → (q == p) ≡ b → option_map (areas_by f') (cond b after (tree_at old q)) ≡ cond b (option_map (areas_by f') after) (areas_of (spaces_by f old) q)
+        by : (b : Bool) → (q == p) ≡ b → option_map (areas_by f') (cond b after (tree_at old q)) ≡ cond b (option_map (areas_by f') after)
+            (areas_of (spaces_by f old) q)
         by true e = refl
         by false e = each (apart_of q e) (tree_at old q) (trees q) ∙ sym (areas_are f old q)
 
@@ -256,7 +266,8 @@ module _ (f f' : ℕ → Option Area) (p : ℕ) (others : KeepsOthers p f f') wh
       rising = all_rising f' new trees_changed;
     }
 
-    pub spawned : (spans : List Span) → after ≡ Some spans → how_many is_some new ≡ how_many is_some old + 1 → IsSpawned (spaces_by f old) (spaces_by f' new) p (areas_by f' spans)
+    pub spawned : (spans : List Span) → after ≡ Some spans → how_many is_some new ≡ how_many is_some old + 1 →
+        IsSpawned (spaces_by f old) (spaces_by f' new) p (areas_by f' spans)
     spawned spans is number = record {
       areas = λ q. areas_now_are q ∙ ap (λ o. cond (q == p) (option_map (areas_by f') o) (areas_of (spaces_by f old) q)) is;
       number = count_is f' new ∙ number ∙ ap (λ n. n + 1) (sym (count_is f old));
@@ -268,7 +279,8 @@ module _ (f f' : ℕ → Option Area) (p : ℕ) (others : KeepsOthers p f f') wh
     changed spans is number IsSo so = record {
       others = λ q apart. areas_now_are q ∙ ap (λ b. cond b (option_map (areas_by f') after) (areas_of (spaces_by f old) q)) (other q apart);
       alive = ap is_some here;
-      pages = subst IsSo (λ i page. sym (ap (λ o. pages_in o page) here ∙ pages_are f' p spans (numbered f' p spans (subst (λ o. MatchOption o (HasNone p f') (AreAreasOf p f')) is areas)) page) i) so;
+      pages = subst IsSo (λ i page. sym (ap (λ o. pages_in o page) here ∙ pages_are f' p spans
+          (numbered f' p spans (subst (λ o. MatchOption o (HasNone p f') (AreAreasOf p f')) is areas)) page) i) so;
       number = same_length number;
       were_rising = all_rising f old trees;
       rising = all_rising f' new trees_changed;
@@ -314,7 +326,8 @@ pub trees_same : (f : ℕ → Option Area) (old new : Trees) → AreTrees f old 
 trees_same f old new trees same p = subst (λ o. MatchOption o (HasNone p f) (AreAreasOf p f)) (sym (same p)) (trees p)
 
 -- a process comes: its place is made, and its tree put there
-module _ (f f' : ℕ → Option Area) (old mid : Trees) (p : ℕ) (spans : List Span) (s : Spaces) (trees : AreTrees f old) (view : spaces_by f old ≡ s) (dead : areas_of s p ≡ None)
+module _ (f f' : ℕ → Option Area) (old mid : Trees) (p : ℕ) (spans : List Span) (s : Spaces) (trees : AreTrees f old) (view : spaces_by f old ≡ s)
+    (dead : areas_of s p ≡ None)
     (stays : HasNone p f → Stays p f f' spans) (grown : IsGrown old mid) (place : p < length mid) where
   stays_come : Stays p f f' spans
   stays_come = stays (none_there f old p trees (ap (λ s. areas_of s p) view ∙ dead))
@@ -343,7 +356,8 @@ module _ (f f' : ℕ → Option Area) (old mid : Trees) (p : ℕ) (spans : List 
       (spawned f f' p stays_come.others old (slice_set mid p (Some spans)) (Some spans) trees stays_come.areas now spans refl count_spawned)
 
 -- the tree of p is emptied, and has gone from its place
-module _ (f f' : ℕ → Option Area) (old : Trees) (p : ℕ) (before after : List Span) (s : Spaces) (trees : AreTrees f old) (view : spaces_by f old ≡ s) (was : tree_at old p ≡ Some before)
+module _ (f f' : ℕ → Option Area) (old : Trees) (p : ℕ) (before after : List Span) (s : Spaces) (trees : AreTrees f old) (view : spaces_by f old ≡ s)
+    (was : tree_at old p ≡ Some before)
     (stays : AreAreasOf p f before → Stays p f f' after) (empty : after ≡ []) where
   place : p < length old
   place = place_there old p (ap is_some was)
@@ -352,7 +366,8 @@ module _ (f f' : ℕ → Option Area) (old : Trees) (p : ℕ) (before after : Li
   stays_now = stays (tree_of f old p before trees was)
 
   pub trees_left : AreTrees f' (slice_set old p None)
-  trees_left = trees_changed f f' p stays_now.others old (slice_set old p None) None trees (none_left f' p (subst (AreAreasOf p f') empty stays_now.areas)) (tree_set old p None place)
+  trees_left = trees_changed f f' p stays_now.others old (slice_set old p None) None trees (none_left f' p (subst (AreAreasOf p f') empty stays_now.areas))
+      (tree_set old p None place)
 
   pub count_left : how_many is_some (slice_set old p None) + 1 ≡ how_many is_some old
   count_left = counted _ _ _ (count_set old p None place) (ap one_if was)
@@ -361,7 +376,9 @@ module _ (f f' : ℕ → Option Area) (old : Trees) (p : ℕ) (before after : Li
       counted n w m a b = omega arith
 
   pub ends : IsEnded s (spaces_by f' (slice_set old p None)) p
-  ends = subst (λ s. IsEnded s (spaces_by f' (slice_set old p None)) p) view (ended f f' p stays_now.others old (slice_set old p None) None trees (none_left f' p (subst (AreAreasOf p f') empty stays_now.areas)) (tree_set old p None place) refl count_left)
+  ends = subst (λ s. IsEnded s (spaces_by f' (slice_set old p None)) p) view
+      (ended f f' p stays_now.others old (slice_set old p None) None trees (none_left f' p (subst (AreAreasOf p f') empty stays_now.areas))
+      (tree_set old p None place) refl count_left)
 
 -- the tree of p is changed: it has gone from its place, and another is put there
 module _ (f f' : ℕ → Option Area) (old : Trees) (p : ℕ) (before after : List Span) (trees : AreTrees f old) (was : tree_at old p ≡ Some before)
@@ -376,26 +393,31 @@ module _ (f f' : ℕ → Option Area) (old : Trees) (p : ℕ) (before after : Li
   areas_before = tree_of f old p before trees was
 
   lent_now : (q : ℕ) → tree_at (slice_set (slice_set old p None) p (Some after)) q ≡ cond (q == p) (Some after) (tree_at old q)
-  lent_now q = tree_set (slice_set old p None) p (Some after) place_still q ∙ ap (cond (q == p) (Some after)) (tree_set old p None held_place q) ∙ twice (q == p)
+  lent_now q = tree_set (slice_set old p None) p (Some after) place_still q ∙ ap (cond (q == p) (Some after))
+      (tree_set old p None held_place q) ∙ twice (q == p)
     where
       twice : (b : Bool) → cond b (Some after) (cond b None (tree_at old q)) ≡ cond b (Some after) (tree_at old q)
       twice true = refl
       twice false = refl
 
   pub trees_lent : AreTrees f' (slice_set (slice_set old p None) p (Some after))
-  trees_lent = trees_changed f f' p (stays areas_before).others old (slice_set (slice_set old p None) p (Some after)) (Some after) trees (stays areas_before).areas lent_now
+  trees_lent = trees_changed f f' p (stays areas_before).others old (slice_set (slice_set old p None) p (Some after)) (Some after) trees
+      (stays areas_before).areas lent_now
 
   pub count_lent : how_many is_some (slice_set (slice_set old p None) p (Some after)) ≡ how_many is_some old
-  count_lent = counted _ _ _ _ _ (count_set (slice_set old p None) p (Some after) place_still) (ap one_if (tree_set old p None held_place p ∙ ap (λ b. cond b None (tree_at old p)) (itself p))) (count_set old p None held_place) (ap one_if was)
+  count_lent = counted _ _ _ _ _ (count_set (slice_set old p None) p (Some after) place_still)
+      (ap one_if (tree_set old p None held_place p ∙ ap (λ b. cond b None (tree_at old p)) (itself p))) (count_set old p None held_place) (ap one_if was)
     where
       counted : (n w m v k : ℕ) → n + w ≡ m + 1 → w ≡ 0 → m + v ≡ k + 0 → v ≡ 1 → n ≡ k
       counted n w m v k a b c d = omega arith
 
   -- what holds of the pages, by what they were
-  pub changes : (s : Spaces) → spaces_by f old ≡ s → (IsSo : Pages → Pages → Type 0) → IsSo (pages_by f before) (pages_by f' after) → IsChanged s (spaces_by f' (slice_set (slice_set old p None) p (Some after))) p (IsSo (pages_of s p))
+  pub changes : (s : Spaces) → spaces_by f old ≡ s → (IsSo : Pages → Pages → Type 0) → IsSo (pages_by f before) (pages_by f' after) →
+      IsChanged s (spaces_by f' (slice_set (slice_set old p None) p (Some after))) p (IsSo (pages_of s p))
   changes s is IsSo so =
       subst (λ (t : Spaces). IsChanged t (spaces_by f' (slice_set (slice_set old p None) p (Some after))) p (IsSo (pages_of s p))) is
-      (changed f f' p (stays areas_before).others old (slice_set (slice_set old p None) p (Some after)) (Some after) trees (stays areas_before).areas lent_now after refl count_lent (IsSo (pages_of s p))
+      (changed f f' p (stays areas_before).others old (slice_set (slice_set old p None) p (Some after)) (Some after) trees (stays areas_before).areas lent_now
+      after refl count_lent (IsSo (pages_of s p))
       (subst (λ (on : Pages). IsSo on (pages_by f' after)) (λ i page. sym (pages_there f old p before s trees (sym was) is page) i) so))
 
 -- the areas of p change, and its tree stays

@@ -8,7 +8,7 @@ use Rattle.av_anon.specs.Kin.{IsSameKin}
 use Rattle.av_merge.specs.Fork.{Kin, area_in_child, kin_by, kin_with}
 use Rattle.av_merge.specs.Kin.{AreInOrder}
 use Rattle.av_merge.specs.Process.{Stays}
-use Rattle.av_spaces.specs.Kin.{AnonsFit, IsOwnedIn, chain_on, info_of}
+use Rattle.av_spaces.specs.Kin.{AnonsFit, IsOwnedIn, chain_by, info_of}
 use Rattle.av_spaces.specs.Spaces.{AllSpaces, IsSpawned}
 use Rattle.av_spaces.specs.Trees.{areas_by}
 
@@ -46,7 +46,7 @@ GoInTurn s old child areas =
 pub record AreKept (s : AllSpaces) (old : Anons) (s' : AllSpaces) (new : Anons) : Type 0 where
   pub kin : (v : ℕ) → IfSome (info_of old v) (λ was. IsSomeAnd (info_of new v) (λ i. IsSameKin was
       i))
-  pub chains : (v : ℕ) → IsOwnedIn s v → chain_on s' new (Some v) ≡ chain_on s old (Some v)
+  pub chains : (v : ℕ) → IsOwnedIn s v → chain_by s' new (Some v) ≡ chain_by s old (Some v)
 
 -- ---- by the values of `Areas`, `Tree` and `Anons`
 

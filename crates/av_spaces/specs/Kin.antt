@@ -8,7 +8,8 @@ use Rattle.av_vma.specs.Pages.{makes_anon}
 use Rattle.av_anon.specs.declared.anons.Anons.{Anons}
 use Rattle.av_anon.specs.declared.infos.Info.{Info}
 use Rattle.av_anon.specs.Anons.{family}
-use Rattle.av_anon.specs.Kin.{IsSameKin, chain_by}
+use Rattle.av_anon.specs.Kin as in_family
+use Rattle.av_anon.specs.Kin.{IsSameKin}
 use Rattle.av_merge.specs.Kin.{AreInOrder, is_made, kin_in, lengths}
 use Rattle.av_spaces.specs.Spaces.{AllSpaces, pages_of}
 
@@ -21,19 +22,19 @@ abbrev pub info_of : Anons → ℕ → Option Info
 info_of anons v = (family anons).info v
 
 -- the chain of an area, by its own anon_vma
-abbrev pub chain_on : AllSpaces → Anons → Option ℕ → List ℕ
-chain_on s anons None = []
-chain_on s anons (Some own) = chain_by (area_of s.areas) (family anons) own
+abbrev pub chain_by : AllSpaces → Anons → Option ℕ → List ℕ
+chain_by s anons None = []
+chain_by s anons (Some own) = in_family.chain_by (area_of s.areas) (family anons) own
 
 -- the chain of the area that holds a page of p; none where there is no area
 abbrev pub chain_at : AllSpaces → Anons → ℕ → ℕ → List ℕ
 chain_at s anons p page =
-    option_map_or (λ area. chain_on s anons area.anon) (pages_of s.processes p page) []
+    option_map_or (λ area. chain_by s anons area.anon) (pages_of s.processes p page) []
 
 -- an area is linked to the anon_vma
 abbrev pub IsLinkedIn : AllSpaces → Anons → ℕ → Type 0
 IsLinkedIn s anons v = (p : ℕ) × (page : ℕ) × IsSomeAnd (pages_of s.processes p page)
-    (λ area. is_in v (chain_on s anons area.anon) ≡ true)
+    (λ area. is_in v (chain_by s anons area.anon) ≡ true)
 
 -- an area has the anon_vma as its own
 abbrev pub IsOwnedIn : AllSpaces → ℕ → Type 0
@@ -46,7 +47,7 @@ pub record AnonsFit (s : AllSpaces) (anons : Anons) : Type 0 where
   pub order : InOrder s anons
   pub there : (v : ℕ) → IsSome (info_of anons v) → IsLinkedIn s anons v
   pub linked : (v : ℕ) → IsLinkedIn s anons v → IsSome (info_of anons v)
-  pub own : (v : ℕ) → IsOwnedIn s v → is_in v (chain_on s anons (Some v)) ≡ true
+  pub own : (v : ℕ) → IsOwnedIn s v → is_in v (chain_by s anons (Some v)) ≡ true
   pub active : (v : ℕ) → IfSome (info_of anons v) (λ i. (1 ≤ i.active) ↔ IsOwnedIn s v)
 
 -- after a change of areas: no anon_vma is made, and none changes its root or parent; an area's own
@@ -57,7 +58,7 @@ pub record AnonsStay (s : AllSpaces) (old : Anons) (s' : AllSpaces) (new : Anons
   pub kin : (v : ℕ) → IfSome (info_of new v) (λ i. IsSomeAnd (info_of old v) (λ was. IsSameKin was
       i))
   pub owned : (v : ℕ) → IsOwnedIn s' v → IsOwnedIn s v
-  pub chains : (v : ℕ) → IsOwnedIn s' v → chain_on s' new (Some v) ≡ chain_on s old (Some v)
+  pub chains : (v : ℕ) → IsOwnedIn s' v → chain_by s' new (Some v) ≡ chain_by s old (Some v)
 
 -- whether an anon_vma is made where the area of a page of p gets one
 abbrev pub made_for : AllSpaces → Anons → ℕ → ℕ → Bool
@@ -76,5 +77,5 @@ pub record AnonsPrepare (s : AllSpaces) (old : Anons) (s' : AllSpaces) (new : An
       else option_map kin_in (info_of old v))
   pub owned : (v : ℕ) → IsOwnedIn s' v → is_made (made_for s old p page) old.next v ≡ false
       → IsOwnedIn s v
-  pub chains : (v : ℕ) → IsOwnedIn s' v → chain_on s' new (Some v)
-      ≡ (if is_made (made_for s old p page) old.next v then v ∷ [] else chain_on s old (Some v))
+  pub chains : (v : ℕ) → IsOwnedIn s' v → chain_by s' new (Some v)
+      ≡ (if is_made (made_for s old p page) old.next v then v ∷ [] else chain_by s old (Some v))

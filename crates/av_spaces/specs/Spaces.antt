@@ -76,8 +76,8 @@ pub record IsEnded (old new : Spaces) (p : ℕ) : Type 0 where
   pub rising : AllRising new
 
 -- p lives on, and what it has on its pages is so now; the others have the areas that they had.
--- `were_rising` is promised, not asked: areas rise at all times, but callers don't see what the type
--- keeps, and what a change leaves of protections and homes goes by areas that were so
+-- `were_rising` is promised, not asked: areas rise at all times, but callers don't see what the
+-- type keeps, and what a change leaves of protections and homes goes by areas that were so
 pub record IsChanged (old new : Spaces) (p : ℕ) (IsSo : Pages → Type 0) : Type 0 where
   pub others : (q : ℕ) → q ≢ p → areas_of new q ≡ areas_of old q
   pub alive : is_some (areas_of new p) ≡ true

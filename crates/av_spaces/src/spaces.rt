@@ -340,7 +340,7 @@ impl Spaces {
         ensures anons { AnonsStay self.old anons.old self.new anons.new }
     {
         let mut tree = take_tree(&mut self.trees, process);
-        av_merge::clear(&mut self.areas, &mut tree, anons);
+        av_merge::cut_all(&mut self.areas, &mut tree, anons);
         self.alive -= 1;
     }
 

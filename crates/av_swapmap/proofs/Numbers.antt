@@ -64,7 +64,8 @@ count_is n c h = split (ltb n 63) refl
 
 -- the digits' worth, whether or not they are kept
 pub worth_is : (n : ℕ) (c : Bool) → n < 2 ^ 32 → byte_of n c % 64 + 63 * value_of (digit_of n 1 ∷ digit_of n 2 ∷ digit_of n 3 ∷ digit_of n 4 ∷ []) ≡ n
-worth_is n c h = ap (λ x. x + 63 * value_of (digit_of n 1 ∷ digit_of n 2 ∷ digit_of n 3 ∷ digit_of n 4 ∷ [])) (first_byte (n % 63) (ltb n 63) c (under n)) ∙ ap (λ x. n % 63 + 63 * x) (value_is n h) ∙ whole n
+worth_is n c h = ap (λ x. x + 63 * value_of (digit_of n 1 ∷ digit_of n 2 ∷ digit_of n 3 ∷ digit_of n 4 ∷ [])) (first_byte (n % 63) (ltb n 63) c (under n))
+    ∙ ap (λ x. n % 63 + 63 * x) (value_is n h) ∙ whole n
 
 pub never_bad : (n : ℕ) (c : Bool) → byte_of n c ≡ 63 → ⊥
 never_bad n c h = let good = good_byte n c in grind (arith, nat_tests, good)

@@ -37,7 +37,8 @@ kept_is b i ds slot one four = split (count_of b (Some ds)) (ltb (count_of b (So
     split : (n : ℕ) (t : Bool) → ltb n 63 ≡ t → Some ds ≡ further_of n → get_or ds (i - 1) 0 ≡ digit_of n i
     split n true e is = absurd (none n e is)
     split n false e is =
-        let all : ds ≡ digit_of n 1 ∷ digit_of n 2 ∷ digit_of n 3 ∷ digit_of n 4 ∷ [] = inner _ _ (is ∙ ap (λ t. cond t None (Some (digit_of n 1 ∷ digit_of n 2 ∷ digit_of n 3 ∷ digit_of n 4 ∷ []))) e) in
+        let all : ds ≡ digit_of n 1 ∷ digit_of n 2 ∷ digit_of n 3 ∷ digit_of n 4 ∷ [] =
+        inner _ _ (is ∙ ap (λ t. cond t None (Some (digit_of n 1 ∷ digit_of n 2 ∷ digit_of n 3 ∷ digit_of n 4 ∷ []))) e) in
         ap (λ xs. get_or xs (i - 1) 0) all ∙ place n i one four
 
 -- the same of a lookup

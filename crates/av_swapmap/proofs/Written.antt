@@ -26,10 +26,13 @@ at_set xs page x below q = point (q == page) refl
     point true e = let is : q ≡ page = grind (arith, nat_tests) in ap (λ p. get_or (slice_set xs page x) p 0) is ∙ get_or-set_same xs page x 0 below
     point false e = let ne : q ≡ page → ⊥ = grind (arith, nat_tests) in get_or-set_other xs page q x 0 ne
 
-module _ (all : List ℕ) (old new : List (ℕ × List ℕ)) (page n : ℕ) (c : Bool) (below : page < length all) (now : (q : ℕ) → more_at new q ≡ with_at page (further_of n) (more_at old) q) where
+module _ (all : List ℕ) (old new : List (ℕ × List ℕ)) (page n : ℕ) (c : Bool) (below : page < length all)
+    (now : (q : ℕ) → more_at new q ≡ with_at page (further_of n) (more_at old) q) where
   -- each slot is kept as it was but one
-  slot_at : (P : ℕ → Option (List ℕ) → Type 0) (q : ℕ) → P (byte_of n c) (further_of n) → P (get_or all q 0) (more_at old q) → P (get_or (slice_set all page (byte_of n c)) q 0) (more_at new q)
-  slot_at P q here other = subst (λ x. P x (more_at new q)) (sym (at_set all page (byte_of n c) below q)) (subst (λ y. P (with_at page (byte_of n c) (λ p. get_or all p 0) q) y) (sym (now q)) (pick (q == page)))
+  slot_at : (P : ℕ → Option (List ℕ) → Type 0) (q : ℕ) → P (byte_of n c) (further_of n) → P (get_or all q 0) (more_at old q) →
+      P (get_or (slice_set all page (byte_of n c)) q 0) (more_at new q)
+  slot_at P q here other = subst (λ x. P x (more_at new q)) (sym (at_set all page (byte_of n c) below q))
+      (subst (λ y. P (with_at page (byte_of n c) (λ p. get_or all p 0) q) y) (sym (now q)) (pick (q == page)))
     where
       pick : (b : Bool) → P (cond b (byte_of n c) (get_or all q 0)) (cond b (further_of n) (more_at old q))
       pick true = here
@@ -42,20 +45,28 @@ module _ (all : List ℕ) (old new : List (ℕ × List ℕ)) (page n : ℕ) (c :
   }
 
   -- any word on a slot, after the write
-  word_at : {X : Type 0} (f : ℕ → Option (List ℕ) → X) (q : ℕ) → f (get_or (slice_set all page (byte_of n c)) q 0) (more_at new q) ≡ with_at page (f (byte_of n c) (further_of n)) (λ p. f (get_or all p 0) (more_at old p)) q
-  word_at f q = ap (λ x. f x (more_at new q)) (at_set all page (byte_of n c) below q) ∙ ap (λ y. f (with_at page (byte_of n c) (λ p. get_or all p 0) q) y) (now q) ∙ pick (q == page)
+  word_at : {X : Type 0} (f : ℕ → Option (List ℕ) → X) (q : ℕ) → f (get_or (slice_set all page (byte_of n c)) q 0) (more_at new q) ≡ with_at page
+      (f (byte_of n c) (further_of n)) (λ p. f (get_or all p 0) (more_at old p)) q
+  word_at f q = ap (λ x. f x (more_at new q)) (at_set all page (byte_of n c) below q) ∙ ap (λ y. f (with_at page (byte_of n c) (λ p. get_or all p 0) q) y)
+      (now q) ∙ pick (q == page)
     where
-      pick : (b : Bool) → f (cond b (byte_of n c) (get_or all q 0)) (cond b (further_of n) (more_at old q)) ≡ cond b (f (byte_of n c) (further_of n)) (f (get_or all q 0) (more_at old q))
+      pick : (b : Bool) → f (cond b (byte_of n c) (get_or all q 0)) (cond b (further_of n) (more_at old q)) ≡ cond b (f (byte_of n c) (further_of n))
+          (f (get_or all q 0) (more_at old q))
       pick true = refl
       pick false = refl
 
   -- what is seen then, of a slot that isn't bad
   pub seen_written : n < 2 ^ 32 → (get_or all page 0 == 63) ≡ false
       → seen (record { bytes = slice_set all page (byte_of n c); more = new })
-      ≡ record (seen (record { bytes = all; more = old })) { cached = with_at page c (seen (record { bytes = all; more = old })).cached; count = with_at page n (seen (record { bytes = all; more = old })).count }
+      ≡ record (seen (record { bytes = all; more = old })) {
+        cached = with_at page c (seen (record { bytes = all; more = old })).cached;
+        count = with_at page n
+            (seen (record { bytes = all; more = old })).count;
+      }
   seen_written h good = λ k. record {
     pages = length-set all page (byte_of n c) k;
-    bad = λ q. (word_at (λ b m. b == 63) q ∙ ap (λ x. with_at page x (λ p. get_or all p 0 == 63) q) (good_byte n c) ∙ stays (λ p. get_or all p 0 == 63) false good q) k;
+    bad = λ q. (word_at (λ b m. b == 63) q ∙ ap (λ x. with_at page x (λ p. get_or all p 0 == 63) q) (good_byte n c)
+        ∙ stays (λ p. get_or all p 0 == 63) false good q) k;
     cached = λ q. (word_at (λ b m. cached_of b) q ∙ ap (λ x. with_at page x (λ p. cached_of (get_or all p 0)) q) (byte_cached n c)) k;
     count = λ q. (word_at count_of q ∙ ap (λ x. with_at page x (λ p. count_of (get_or all p 0) (more_at old p)) q) (count_is n c h)) k;
   }
@@ -76,7 +87,8 @@ same_again f page = λ k q. point q (q == page) refl k
     point q false e = refl
 
 -- the further digits stay where the count does
-pub digits_stay : (s : Store) (page n : ℕ) → IsWhole s.bytes s.more → n ≡ (seen s).count page → (q : ℕ) → more_at s.more q ≡ with_at page (further_of n) (more_at s.more) q
+pub digits_stay : (s : Store) (page n : ℕ) → IsWhole s.bytes s.more → n ≡ (seen s).count page → (q : ℕ) →
+    more_at s.more q ≡ with_at page (further_of n) (more_at s.more) q
 digits_stay s page n w is q = point (q == page) refl
   where
     point : (b : Bool) → (q == page) ≡ b → more_at s.more q ≡ cond b (further_of n) (more_at s.more q)
@@ -100,7 +112,8 @@ named_good s page n w some positive = split (get_or s.bytes page 0 == 63) refl
     split false e = e
 
 -- what a call that writes one slot leaves, where its value before is t
-module _ (s t : Store) (view_is : s ≡ t) (w : IsWhole s.bytes s.more) (page n b : ℕ) (c : Bool) (new : List (ℕ × List ℕ)) (below : page < (seen t).pages) (fits : n < 2 ^ 32) (b_is : b ≡ byte_of n c) (now : (q : ℕ) → more_at new q ≡ with_at page (further_of n) (more_at s.more) q) where
+module _ (s t : Store) (view_is : s ≡ t) (w : IsWhole s.bytes s.more) (page n b : ℕ) (c : Bool) (new : List (ℕ × List ℕ)) (below : page < (seen t).pages)
+    (fits : n < 2 ^ 32) (b_is : b ≡ byte_of n c) (now : (q : ℕ) → more_at new q ≡ with_at page (further_of n) (more_at s.more) q) where
   below_s : page < length s.bytes
   below_s = subst (λ (v : Store). page < length v.bytes) (sym view_is) below
 
@@ -108,7 +121,10 @@ module _ (s t : Store) (view_is : s ≡ t) (w : IsWhole s.bytes s.more) (page n 
   whole_after = subst (λ x. IsWhole (slice_set s.bytes page x) new) (sym b_is) (whole_written s.bytes s.more new page n c below_s now w fits)
 
   pub seen_after : (seen t).bad page ≡ false
-      → seen (record { bytes = slice_set s.bytes page b; more = new }) ≡ record (seen t) { cached = with_at page c (seen t).cached; count = with_at page n (seen t).count }
+      → seen (record { bytes = slice_set s.bytes page b; more = new }) ≡ record (seen t) {
+        cached = with_at page c (seen t).cached;
+        count = with_at page n (seen t).count;
+      }
   seen_after good = ap (λ x. seen (record { bytes = slice_set s.bytes page x; more = new })) b_is
       ∙ seen_written s.bytes s.more new page n c below_s now fits (subst (λ (v : Store). (seen v).bad page ≡ false) (sym view_is) good)
       ∙ ap (λ (v : Store). record (seen v) { cached = with_at page c (seen v).cached; count = with_at page n (seen v).count }) view_is
@@ -117,16 +133,19 @@ module _ (s t : Store) (view_is : s ≡ t) (w : IsWhole s.bytes s.more) (page n 
   pub count_after : (seen t).bad page ≡ false → c ≡ (seen t).cached page → (m : ℕ) → n ≡ m
       → seen (record { bytes = slice_set s.bytes page b; more = new }) ≡ record (seen t) { count = with_at page m (seen t).count }
   count_after good same m is = seen_after good
-      ∙ ap (λ f. record (seen t) { cached = f; count = with_at page n (seen t).count }) (ap (λ x. with_at page x (seen t).cached) same ∙ same_again (seen t).cached page)
+      ∙ ap (λ f. record (seen t) { cached = f; count = with_at page n (seen t).count })
+      (ap (λ x. with_at page x (seen t).cached) same ∙ same_again (seen t).cached page)
       ∙ ap (λ x. record (seen t) { count = with_at page x (seen t).count }) is
 
   -- the count stays
   pub cached_after : (seen t).bad page ≡ false → n ≡ (seen t).count page
       → seen (record { bytes = slice_set s.bytes page b; more = new }) ≡ record (seen t) { cached = with_at page c (seen t).cached }
-  cached_after good same = seen_after good ∙ ap (λ f. record (seen t) { cached = with_at page c (seen t).cached; count = f }) (ap (λ x. with_at page x (seen t).count) same ∙ same_again (seen t).count page)
+  cached_after good same = seen_after good ∙ ap (λ f. record (seen t) { cached = with_at page c (seen t).cached; count = f })
+      (ap (λ x. with_at page x (seen t).count) same ∙ same_again (seen t).count page)
 
 -- where neither bytes nor digits change
-pub seen_kept : (s t : Store) → s ≡ t → (new : List (ℕ × List ℕ)) → ((q : ℕ) → more_at new q ≡ more_at s.more q) → seen (record { bytes = s.bytes; more = new }) ≡ seen t
+pub seen_kept : (s t : Store) → s ≡ t → (new : List (ℕ × List ℕ)) → ((q : ℕ) → more_at new q ≡ more_at s.more q) →
+    seen (record { bytes = s.bytes; more = new }) ≡ seen t
 seen_kept s t is new now = (λ k. record (seen s) { count = λ q. count_of (get_or s.bytes q 0) (now q k) }) ∙ ap seen is
 
 -- a result that is an error

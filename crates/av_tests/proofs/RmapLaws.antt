@@ -27,7 +27,8 @@ use Rattle.av_anon.proofs.OrderLaws.{order-bare}
 use Rattle.av_tests.specs.Rmap.{AreThree, child, frame_7, other, parent, shared_entries}
 
 -- an area was put under a number, and then got an own anon_vma
-pub given : (id own : ℕ) (A : Area) (old mid new : ℕ → Option Area) → ((n : ℕ) → mid n ≡ with_at id (Some A) old n) → ((n : ℕ) → new n ≡ give_own id (Some own) mid n)
+pub given : (id own : ℕ) (A : Area) (old mid new : ℕ → Option Area) → ((n : ℕ) → mid n ≡ with_at id (Some A) old n) →
+    ((n : ℕ) → new n ≡ give_own id (Some own) mid n)
     → (n : ℕ) → new n ≡ with_at id (Some (record A { anon = Some own })) old n
 given id own A old mid new put got n = got n ∙ by (n == id) refl
   where
@@ -62,13 +63,15 @@ one_user f f' id loan none first unused is =
     ∙ ap (λ xs. xs ++ id ∷ []) unused
 
 -- and each more that is linked as a user is
-pub one_more_user : (f f' : Family) (src id : ℕ) (own : Option ℕ) → own ≡ Some 0 → is_in 0 (f.chain src) ≡ true → f' ≡ after_clone own src id f → f'.users 0 ≡ f.users 0 ++ id ∷ []
+pub one_more_user : (f f' : Family) (src id : ℕ) (own : Option ℕ) → own ≡ Some 0 → is_in 0 (f.chain src) ≡ true → f' ≡ after_clone own src id f →
+    f'.users 0 ≡ f.users 0 ++ id ∷ []
 one_more_user f f' src id own is linked eq =
     ap (λ (g : Family). g.users 0) (eq ∙ ap (λ o. after_clone o src id f) is)
     ∙ ap (λ b. cond b (f.users 0 ++ id ∷ []) (f.users 0)) linked
 
 -- an area that has an own anon_vma isn't at a number that was not in use
-pub other_number : (old mid : ℕ → Option Area) (A : Area) (src id : ℕ) → old id ≡ None → ((n : ℕ) → mid n ≡ with_at id (Some A) old n) → own_of (old src) ≡ Some 0 → own_of (mid src) ≡ Some 0
+pub other_number : (old mid : ℕ → Option Area) (A : Area) (src id : ℕ) → old id ≡ None → ((n : ℕ) → mid n ≡ with_at id (Some A) old n) →
+    own_of (old src) ≡ Some 0 → own_of (mid src) ≡ Some 0
 other_number old mid A src id unused put own = ap own_of (put src) ∙ by (src == id) refl
   where
     clash : ◌≡◌ {A = Option ℕ} None (Some 0) → ⊥
@@ -84,7 +87,8 @@ other_number old mid A src id unused put own = ap own_of (put src) ∙ by (src =
 pub put_here : (id : ℕ) (A : Area) (old new : ℕ → Option Area) → ((n : ℕ) → new n ≡ with_at id (Some A) old n) → new id ≡ Some A
 put_here id A old new put = put id ∙ ap (λ b. cond b (Some A) (old id)) (eq-eqb id id refl)
 
-put_other : (id : ℕ) (A B : Area) (old new : ℕ → Option Area) (n : ℕ) → old id ≡ None → ((n : ℕ) → new n ≡ with_at id (Some A) old n) → old n ≡ Some B → new n ≡ Some B
+put_other : (id : ℕ) (A B : Area) (old new : ℕ → Option Area) (n : ℕ) → old id ≡ None → ((n : ℕ) → new n ≡ with_at id (Some A) old n) →
+    old n ≡ Some B → new n ≡ Some B
 put_other id A B old new n unused put is = put n ∙ by (n == id) refl
   where
     clash : None ≡ Some B → ⊥
@@ -94,7 +98,8 @@ put_other id A B old new n unused put is = put n ∙ by (n == id) refl
     by true e = absurd (clash (sym (ap old (eqb-true n id e) ∙ unused) ∙ is))
     by false e = is
 
-put_only : (id : ℕ) (A B : Area) (old new : ℕ → Option Area) (n : ℕ) → ((n : ℕ) → new n ≡ with_at id (Some A) old n) → new n ≡ Some B → ((n ≡ id) × (B ≡ A)) ⊎ (old n ≡ Some B)
+put_only : (id : ℕ) (A B : Area) (old new : ℕ → Option Area) (n : ℕ) → ((n : ℕ) → new n ≡ with_at id (Some A) old n) → new n ≡ Some B →
+    ((n ≡ id) × (B ≡ A)) ⊎ (old n ≡ Some B)
 put_only id A B old new n put is = by (n == id) refl (sym (put n) ∙ is)
   where
     same : Some A ≡ Some B → B ≡ A
@@ -127,7 +132,8 @@ are_three none one two three a b c nothing put-a free-b put-b free-c put-c = rec
 
 -- ---- the premises of a walk
 
-module _ (areas : ℕ → Option Area) (f : Family) (spans : ℕ → List Span) (entry : ℕ → ℕ → Pte) (a b c : ℕ) (three : AreThree areas a b c) (order : IsInOrder areas f spans)
+module _ (areas : ℕ → Option Area) (f : Family) (spans : ℕ → List Span) (entry : ℕ → ℕ → Pte) (a b c : ℕ) (three : AreThree areas a b c)
+    (order : IsInOrder areas f spans)
     (entries : (p page : ℕ) → entry p page ≡ shared_entries p page) where
   pub three_apart : AreApart (view_with areas f spans entry)
   three_apart n m page A B is also same here there = by (three.only n A is) (three.only m B also)
@@ -147,7 +153,8 @@ module _ (areas : ℕ → Option Area) (f : Family) (spans : ℕ → List Span) 
       far : has_page child page ≡ true → has_page other page ≡ true → ⊥
       far e d = let low = within_parts 10 4 page e in let high = within_parts 20 4 page d in absurd (omega (arith, low.1, high.0))
 
-      by : ((n ≡ c) × (A ≡ other)) ⊎ (((n ≡ b) × (A ≡ child)) ⊎ ((n ≡ a) × (A ≡ parent))) → ((m ≡ c) × (B ≡ other)) ⊎ (((m ≡ b) × (B ≡ child)) ⊎ ((m ≡ a) × (B ≡ parent))) → n ≡ m
+      by : ((n ≡ c) × (A ≡ other)) ⊎ (((n ≡ b) × (A ≡ child)) ⊎ ((n ≡ a) × (A ≡ parent))) →
+          ((m ≡ c) × (B ≡ other)) ⊎ (((m ≡ b) × (B ≡ child)) ⊎ ((m ≡ a) × (B ≡ parent))) → n ≡ m
       by (inl h) (inl k) = h.0 ∙ sym k.0
       by (inl h) (inr (inl k)) = absurd (far (on' child k.1) (on other h.1))
       by (inl h) (inr (inr k)) = absurd (pids (sym (met other parent h.1 k.1)))
@@ -164,7 +171,8 @@ module _ (areas : ℕ → Option Area) (f : Family) (spans : ℕ → List Span) 
       first : (q o : ℕ) → (p == q && page == o) ≡ true → (p ≡ q) × (page ≡ o)
       first q o e = (grind (arith, nat_tests, e), grind (arith, nat_tests, e))
 
-      at : (n q : ℕ) (A : Area) → areas n ≡ Some A → A.anon ≡ Some 0 → A.pid ≡ q → has_page A 11 ≡ true → index_of A 11 ≡ 11 → (p ≡ q) × (page ≡ 11) → IsReached (view_with areas f spans entry) (0, 11) p page
+      at : (n q : ℕ) (A : Area) → areas n ≡ Some A → A.anon ≡ Some 0 → A.pid ≡ q → has_page A 11 ≡ true → index_of A 11 ≡ 11 → (p ≡ q) × (page ≡ 11) →
+          IsReached (view_with areas f spans entry) (0, 11) p page
       at n q A is own pid here index e = record {
         number = n;
         area = A;
@@ -175,11 +183,13 @@ module _ (areas : ℕ → Option Area) (f : Family) (spans : ℕ → List Span) 
         index = ap (index_of A) e.1 ∙ index;
       }
 
-      by : (x y : Bool) → (p == 2 && page == 11) ≡ x → (p == 1 && page == 11) ≡ y → names_frame 7 (cond (p == 2 && page == 11) frame_7 (cond (p == 1 && page == 11) frame_7 Empty)) ≡ true
+      by : (x y : Bool) → (p == 2 && page == 11) ≡ x → (p == 1 && page == 11) ≡ y →
+          names_frame 7 (cond (p == 2 && page == 11) frame_7 (cond (p == 1 && page == 11) frame_7 Empty)) ≡ true
           → IsReached (view_with areas f spans entry) (0, 11) p page
       by true y e d h = at b 2 child three.second refl refl refl refl (first 2 11 e)
       by false true e d h = at a 1 parent three.first refl refl refl refl (first 1 11 d)
-      by false false e d h = absurd (false≢true (sym (ap (λ x. names_frame 7 (cond x frame_7 (cond (p == 1 && page == 11) frame_7 Empty))) e ∙ ap (λ y. names_frame 7 (cond y frame_7 Empty)) d) ∙ h))
+      by false false e d h = absurd (false≢true (sym (ap (λ x. names_frame 7 (cond x frame_7 (cond (p == 1 && page == 11) frame_7 Empty))) e
+          ∙ ap (λ y. names_frame 7 (cond y frame_7 Empty)) d) ∙ h))
 
   pub two_entries : AreItsEntries (view_with areas f spans entry) 7 ((1, 11) ∷ (2, 11) ∷ [])
   two_entries k = by (k.0 == 1 && k.1 == 11) (k.0 == 2 && k.1 == 11) refl refl ∙ sym (ap (λ e. one_if (names_frame 7 e)) (entries k.0 k.1))
@@ -187,7 +197,8 @@ module _ (areas : ℕ → Option Area) (f : Family) (spans : ℕ → List Span) 
       both : (k.0 == 1 && k.1 == 11) ≡ true → (k.0 == 2 && k.1 == 11) ≡ true → ⊥
       both e d = let one : k.0 ≡ 1 = grind (arith, nat_tests, e) in let two : k.0 ≡ 2 = grind (arith, nat_tests, d) in absurd (omega (arith, one, two))
 
-      by : (x y : Bool) → (k.0 == 1 && k.1 == 11) ≡ x → (k.0 == 2 && k.1 == 11) ≡ y → cond x 1 0 + (cond y 1 0 + 0) ≡ one_if (names_frame 7 (cond y frame_7 (cond x frame_7 Empty)))
+      by : (x y : Bool) → (k.0 == 1 && k.1 == 11) ≡ x → (k.0 == 2 && k.1 == 11) ≡ y →
+          cond x 1 0 + (cond y 1 0 + 0) ≡ one_if (names_frame 7 (cond y frame_7 (cond x frame_7 Empty)))
       by true true e d = absurd (both e d)
       by true false e d = refl
       by false true e d = refl
@@ -207,7 +218,8 @@ on_ok (Ok x) h p = h p
 on_ok (Err e) h p = tt
 
 -- an area without anon_vma comes
-pub bare_comes : (old mid : ℕ → Option Area) (f : Family) (spans : ℕ → List Span) (id : ℕ) (A : Area) → IsInOrder old f spans → old id ≡ None → ((n : ℕ) → mid n ≡ with_at id (Some A) old n)
+pub bare_comes : (old mid : ℕ → Option Area) (f : Family) (spans : ℕ → List Span) (id : ℕ) (A : Area) → IsInOrder old f spans → old id ≡ None →
+    ((n : ℕ) → mid n ≡ with_at id (Some A) old n)
     → A.anon ≡ None → IsArea A → IsInOrder mid f spans
 bare_comes old mid f spans id A order unused put bare fits =
     subst (λ (g : ℕ → Option Area). IsInOrder g f spans) (λ i n. sym (put n) i)

@@ -131,7 +131,7 @@ fn end(areas: &mut Areas, tree: &mut Tree, anons: &mut Anons)
     ensures stands { AreAreasOf 1 (area_of areas.new) tree.new }
     ensures order { AreInOrder areas.new anons.new }
 {
-    clear(areas, tree, anons);
+    cut_all(areas, tree, anons);
 }
 
 fn make(call: Call, areas: &mut Areas, tree: &mut Tree, anons: &mut Anons) -> Result<(), Fail>

@@ -24,7 +24,10 @@ fn counts_are_kept_as_linux_keeps_them(rt: HostRuntime) -> Result<(), AllocError
     assert_eq!(rt; digits(rt.alloc(), 63, false)?, [0x80, 0x01, 0, 0, 0, 0]);
     assert_eq!(rt; digits(rt.alloc(), 66, false)?, [0x83, 0x01, 0, 0, 0, 0]);
     assert_eq!(rt; digits(rt.alloc(), 8063, false)?, [0xbe, 0x7f, 0, 0, 0, 0]);
-    assert_eq!(rt; digits(rt.alloc(), 8064, false)?, [0x80, 0x80, 0x01, 0, 0, 0]);
+    assert_eq!(rt;
+        digits(rt.alloc(), 8064, false)?,
+        [0x80, 0x80, 0x01, 0, 0, 0]
+    );
     assert_eq!(rt;
         digits(rt.alloc(), 0xffff_ffff, true)?,
         [0xc3, 0x84, 0x82, 0xc1, 0x20, 0]

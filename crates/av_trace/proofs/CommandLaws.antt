@@ -134,7 +134,19 @@ each_reads = (
       spawns-found,
       (
         forks-found,
-        (exits-found, (mmaps-found, (ranges-found, (mprotects-found, (mremaps-found, (maps-found, (areas-found, (rmaps-found, (entries-found, (stats-found, tt)))))))))),
+        (
+          exits-found,
+          (
+            mmaps-found,
+            (
+              ranges-found,
+              (
+                mprotects-found,
+                (mremaps-found, (maps-found, (areas-found, (rmaps-found, (entries-found, (stats-found, tt)))))),
+              ),
+            ),
+          ),
+        ),
       ),
     ),
   ),

@@ -41,7 +41,10 @@ dontunmap_at (b ∷ bytes) = do
 
 -- the modes that have a name
 abbrev pub names : List (List ℕ × Reader Mode)
-names = (codes " maymove", maymove_at) ∷ (codes " fixed", fixed_at) ∷ (codes " dontunmap", dontunmap_at) ∷ []
+names =
+    (codes " maymove", maymove_at)
+    ∷ (codes " fixed", fixed_at)
+    ∷ (codes " dontunmap", dontunmap_at) ∷ []
 
 -- a mode at the end of a line
 unfoldable pub mode_at : Reader Mode

@@ -13,13 +13,18 @@ use Rattle.av_vmatree.proofs.Spans.{AreClear, IsEnded, IsRemoved, clear_from_fre
 pub without_here : (n first : ℕ) (xs : List Span) → AreSpans xs → IsSomeAnd (span_of xs n) (λ a. a.from ≡ first) → IsRemoved n xs (without_area n xs)
 without_here n first xs good there = let r = removed_here n first xs good there in subst (IsRemoved n xs) r.spans r
 
-joined_here : (s : Span) (o at : ℕ) (xs : List Span) → AreSpans xs → IsSomeAnd (span_of xs o) (λ a. a.from ≡ at) → IsSomeAnd (span_of (without_area o xs) s.area) (λ a. a.from ≡ s.from) → s.from < s.to → s.to ≤ top_page → IsFree (is_page_taken (without_area s.area (without_area o xs))) s.from s.to → IsEnded s (without_area o xs) (with_span s (without_key start_of s.from (without_key start_of at xs)))
+joined_here : (s : Span) (o at : ℕ) (xs : List Span) → AreSpans xs → IsSomeAnd (span_of xs o) (λ a. a.from ≡ at) →
+    IsSomeAnd (span_of (without_area o xs) s.area) (λ a. a.from ≡ s.from) → s.from < s.to → s.to ≤ top_page →
+    IsFree (is_page_taken (without_area s.area (without_area o xs))) s.from s.to →
+    IsEnded s (without_area o xs) (with_span s (without_key start_of s.from (without_key start_of at xs)))
 joined_here s o at xs good there before some high free =
     let r = removed_here o at xs good there in
     let e = ended_here s (without_area o xs) (without_here o at xs good there).good before some high free in
     subst (λ l. IsEnded s (without_area o xs) (with_span s (without_key start_of s.from l))) (sym r.spans) e
 
-pub joined : (s : Span) (o at : ℕ) (l u : Span) (d xs new : List Span) → l.from ≡ s.from → u.from ≡ at → d ≡ xs → AreSpans d → IsSomeAnd (span_of xs o) (λ a. a.from ≡ at) → IsSomeAnd (span_of (without_area o xs) s.area) (λ a. a.from ≡ s.from) → s.from < s.to → s.to ≤ top_page → IsFree (is_page_taken (without_area s.area (without_area o xs))) s.from s.to → new ≡ with_joined start_of l u s d → IsEnded s (without_area o xs) new
+pub joined : (s : Span) (o at : ℕ) (l u : Span) (d xs new : List Span) → l.from ≡ s.from → u.from ≡ at → d ≡ xs → AreSpans d →
+    IsSomeAnd (span_of xs o) (λ a. a.from ≡ at) → IsSomeAnd (span_of (without_area o xs) s.area) (λ a. a.from ≡ s.from) → s.from < s.to → s.to ≤ top_page →
+    IsFree (is_page_taken (without_area s.area (without_area o xs))) s.from s.to → new ≡ with_joined start_of l u s d → IsEnded s (without_area o xs) new
 joined s o at l u d xs new a b is good there before some high free e =
     let h = joined_here s o at xs (subst AreSpans is good) there before some high free in
     subst (IsEnded s (without_area o xs)) (sym (e ∙ (ap (with_joined start_of l u s) is ∙ rw (a, b) refl))) h
@@ -29,7 +34,8 @@ before_cases : (n o : ℕ) (from : ℕ) (v : Bool) (a : Option Span) → IsSomeA
 before_cases n o from true a h = absurd h
 before_cases n o from false a h = h
 
-pub before_there : (n o at from : ℕ) (xs : List Span) → AreSpans xs → IsSomeAnd (span_of xs o) (λ a. a.from ≡ at) → IsSomeAnd (span_of (without_area o xs) n) (λ a. a.from ≡ from) → IsSomeAnd (span_of xs n) (λ a. a.from ≡ from)
+pub before_there : (n o at from : ℕ) (xs : List Span) → AreSpans xs → IsSomeAnd (span_of xs o) (λ a. a.from ≡ at) →
+    IsSomeAnd (span_of (without_area o xs) n) (λ a. a.from ≡ from) → IsSomeAnd (span_of xs n) (λ a. a.from ≡ from)
 before_there n o at from xs good there before =
     let r = removed_here o at xs good there in
     let here = subst (λ l. IsSomeAnd (span_of l n) (λ a. a.from ≡ from)) (sym r.spans) before in
@@ -46,10 +52,13 @@ all_back P k (y ∷ t) f a =
 
 spread : (from at to : ℕ) (zs : List Span) → from < at → at < to → AreApart zs → AreClear zs from (to - from) → AllOf (λ y. (y.from ≤ from) ⊎ (at ≤ y.from)) zs
 spread from at to [] low high apart clear = tt
-spread from at to (y ∷ zs) low high apart clear = let wide = apart.0 in (elim clear.0 [ inl i ↦ inl (omega arith) | inr i ↦ inr (omega arith) ], spread from at to zs low high apart.2 clear.1)
+spread from at to (y ∷ zs) low high apart clear = let wide = apart.0 in
+    (elim clear.0 [ inl i ↦ inl (omega arith) | inr i ↦ inr (omega arith) ], spread from at to zs low high apart.2 clear.1)
 
 -- no span begins between two that are joined
-pub neighbours : (n o from at to : ℕ) (xs : List Span) → AreSpans xs → IsSomeAnd (span_of xs o) (λ a. a.from ≡ at) → IsSomeAnd (span_of (without_area o xs) n) (λ a. a.from ≡ from) → from < at → at < to → IsFree (is_page_taken (without_area n (without_area o xs))) from to → NoneWithin start_of from at xs
+pub neighbours : (n o from at to : ℕ) (xs : List Span) → AreSpans xs → IsSomeAnd (span_of xs o) (λ a. a.from ≡ at) →
+    IsSomeAnd (span_of (without_area o xs) n) (λ a. a.from ≡ from) → from < at → at < to → IsFree (is_page_taken (without_area n (without_area o xs))) from to →
+    NoneWithin start_of from at xs
 neighbours n o from at to xs good there before low high free =
     let r = removed_here o at xs good there in
     let ys = without_key start_of at xs in

@@ -10,7 +10,8 @@ use Rattle.av_vmatree.proofs.Spans.{all_found}
 
 -- a span of the rest is that of another area than the first
 later_span : (b : Span) (xs : List Span) (n : ℕ) (s : Span) → AreDistinct (b ∷ xs) → span_of xs n ≡ Some s → span_of (b ∷ xs) n ≡ Some s
-later_span b xs n s d e = ap (λ v. cond v (Some b) (span_of xs n)) (false_from_ne_true (eqb n b.area) (λ h. none-some s (sym d.0 ∙ ap (span_of xs) (sym (eqb-true n b.area h)) ∙ e))) ∙ e
+later_span b xs n s d e = ap (λ v. cond v (Some b) (span_of xs n))
+    (false_from_ne_true (eqb n b.area) (λ h. none-some s (sym d.0 ∙ ap (span_of xs) (sym (eqb-true n b.area h)) ∙ e))) ∙ e
 
 -- the first span is that of its area
 first_span : (b : Span) (xs : List Span) → span_of (b ∷ xs) b.area ≡ Some b
@@ -31,7 +32,8 @@ below_is (b ∷ xs) page s d e = go (λ r is. below_is xs page r d.1 is) (last_b
       | false ↦ λ h e. absurd (none-some s e)
     ] refl e
 
-    go : ((r : Span) → last_below xs page ≡ Some r → IsThere xs r (λ t. t.from < page)) → (o : Option Span) → last_below xs page ≡ o → option_or o (cond (ltb b.from page) (Some b) None) ≡ Some s → IsThere (b ∷ xs) s (λ t. t.from < page)
+    go : ((r : Span) → last_below xs page ≡ Some r → IsThere xs r (λ t. t.from < page)) → (o : Option Span) → last_below xs page ≡ o →
+        option_or o (cond (ltb b.from page) (Some b) None) ≡ Some s → IsThere (b ∷ xs) s (λ t. t.from < page)
     go rest None is e = here e
     go rest (Some r) is e =
         let k = rest s (is ∙ e) in
@@ -39,10 +41,11 @@ below_is (b ∷ xs) page s d e = go (λ r is. below_is xs page r d.1 is) (last_b
 
 pub from_is : (spans : List Span) (page : ℕ) (s : Span) → AreDistinct spans → first_from spans page ≡ Some s → IsThere spans s (λ t. page ≤ t.from)
 from_is [] page s d e = absurd (none-some s e)
-from_is (b ∷ xs) page s d e = elim (leb page b.from) as (λ v. leb page b.from ≡ v → cond v (Some b) (first_from xs page) ≡ Some s → IsThere (b ∷ xs) s (λ t. page ≤ t.from)) [
-  | true ↦ λ h e. subst (λ t. IsThere (b ∷ xs) t (λ t. page ≤ t.from)) (same_Some b s e) (record { there = first_span b xs; side = leb-true _ _ h })
-  | false ↦ λ h e. let k = from_is xs page s d.1 e in record { there = later_span b xs s.area s d k.there; side = k.side }
-] refl e
+from_is (b ∷ xs) page s d e = elim (leb page b.from) as (λ v. leb page b.from ≡ v → cond v (Some b) (first_from xs page) ≡ Some s →
+    IsThere (b ∷ xs) s (λ t. page ≤ t.from)) [
+      | true ↦ λ h e. subst (λ t. IsThere (b ∷ xs) t (λ t. page ≤ t.from)) (same_Some b s e) (record { there = first_span b xs; side = leb-true _ _ h })
+      | false ↦ λ h e. let k = from_is xs page s d.1 e in record { there = later_span b xs s.area s d k.there; side = k.side }
+    ] refl e
 
 -- a span of a row is its first or a later one
 pub in_row : (P : Type 0) (s : Span) (spans : List Span) (k : ℕ) (t : Span) → span_of (s ∷ spans) k ≡ Some t → (s ≡ t → P) → (span_of spans k ≡ Some t → P) → P
@@ -65,10 +68,12 @@ all_from [] page to h all = tt
 all_from (b ∷ xs) page to h all = let k = all.0 in (omega arith, all_from xs page to h all.1)
 
 -- a span that begins below a page and goes on up to it is the last that begins below
-pub below_must : (spans : List Span) (n page : ℕ) (s : Span) → AreApart spans → span_of spans n ≡ Some s → s.from < page → page ≤ s.to → last_below spans page ≡ Some s
+pub below_must : (spans : List Span) (n page : ℕ) (s : Span) → AreApart spans → span_of spans n ≡ Some s → s.from < page →
+    page ≤ s.to → last_below spans page ≡ Some s
 below_must [] n page s apart e low high = absurd (none-some s e)
 below_must (b ∷ xs) n page s apart e low high = in_row (last_below (b ∷ xs) page ≡ Some s) b xs n s e
-    (λ same. subst (λ (t : Span). t.from < page → page ≤ t.to → last_below (b ∷ xs) page ≡ Some t) same (λ low high. rw (none_below xs page (all_from xs page b.to high apart.1), lt-ltb b.from page low) refl) low high)
+    (λ same. subst (λ (t : Span). t.from < page → page ≤ t.to → last_below (b ∷ xs) page ≡ Some t) same
+    (λ low high. rw (none_below xs page (all_from xs page b.to high apart.1), lt-ltb b.from page low) refl) low high)
     (λ later. rw (below_must xs n page s apart.2 later low high) refl)
 
 -- a span that begins with a page is the first that begins there or above

@@ -109,14 +109,20 @@ apart_with a (b ∷ xs) some s f =
 
 all_without : (P : Span → Type 0) (k : ℕ) (xs : List Span) → AllOf P xs → AllOf P (without_key start_of k xs)
 all_without P k [] s = tt
-all_without P k (b ∷ xs) s = elim (eqb b.from k) as (λ v. AllOf P (cond v xs (b ∷ without_key start_of k xs))) [ true ↦ s.1 | false ↦ (s.0, all_without P k xs s.1) ]
+all_without P k (b ∷ xs) s = elim (eqb b.from k) as (λ v. AllOf P (cond v xs (b ∷ without_key start_of k xs))) [
+  | true ↦ s.1
+  | false ↦ (s.0, all_without P k xs s.1)
+]
 
 pub within_without : (lo hi k : ℕ) (xs : List Span) → IsWithin lo hi xs → IsWithin lo hi (without_key start_of k xs)
 within_without lo hi k xs w = all_without (λ b. (lo ≤ b.from) × (b.to ≤ hi)) k xs w
 
 pub apart_without : (k : ℕ) (xs : List Span) → AreApart xs → AreApart (without_key start_of k xs)
 apart_without k [] s = tt
-apart_without k (b ∷ xs) s = elim (eqb b.from k) as (λ v. AreApart (cond v xs (b ∷ without_key start_of k xs))) [ true ↦ s.2 | false ↦ (s.0, all_without (λ c. b.to ≤ c.from) k xs s.1, apart_without k xs s.2) ]
+apart_without k (b ∷ xs) s = elim (eqb b.from k) as (λ v. AreApart (cond v xs (b ∷ without_key start_of k xs))) [
+  | true ↦ s.2
+  | false ↦ (s.0, all_without (λ c. b.to ≤ c.from) k xs s.1, apart_without k xs s.2)
+]
 
 -- a page below the end of a span is in none after it
 none_later : (p : ℕ) (a : Span) (xs : List Span) → p < a.to → AllOf (λ b. a.to ≤ b.from) xs → area_at xs p ≡ None
@@ -159,7 +165,8 @@ within_some (Some n) P Q f p = f n p
 pub held : (xs : List Span) (p : ℕ) → AreDistinct xs → IfSome (area_at xs p) (λ n. IsSomeAnd (span_of xs n) (λ s. holds s p ≡ true))
 held [] p d = tt
 held (b ∷ xs) p d =
-    elim (holds b p) as (λ v. holds b p ≡ v → IfSome (cond v (Some b.area) (area_at xs p)) (λ n. IsSomeAnd (cond (eqb n b.area) (Some b) (span_of xs n)) (λ s. holds s p ≡ true))) [
+    elim (holds b p) as (λ v. holds b p ≡ v → IfSome (cond v (Some b.area) (area_at xs p))
+    (λ n. IsSomeAnd (cond (eqb n b.area) (Some b) (span_of xs n)) (λ s. holds s p ≡ true))) [
       | true ↦ λ e. rw (eq-eqb b.area b.area refl) e
       | false ↦ λ e. within_some (area_at xs p) _ _ later (held xs p d.1)
     ] refl
@@ -187,31 +194,38 @@ other_later : (a b : Span) (xs : List Span) → span_of (b ∷ xs) a.area ≡ No
 other_later a b xs new = sym (cond-false (eqb a.area b.area) (Some b) (span_of xs a.area) (ne_eqb _ _ (other_here a b xs new))) ∙ new
 
 -- the pages and the numbers with one span more
-pub at_with : (a : Span) (xs : List Span) (p : ℕ) → a.from < a.to → AreApart xs → AreClear xs a.from (a.to - a.from) → area_at (with_span a xs) p ≡ cond (holds a p) (Some a.area) (area_at xs p)
+pub at_with : (a : Span) (xs : List Span) (p : ℕ) → a.from < a.to → AreApart xs → AreClear xs a.from (a.to - a.from) →
+    area_at (with_span a xs) p ≡ cond (holds a p) (Some a.area) (area_at xs p)
 at_with a [] p some s f = refl
 at_with a (b ∷ xs) p some s f =
-    elim (ltb a.from b.from) as (λ v. ltb a.from b.from ≡ v → area_at (cond v (a ∷ b ∷ xs) (b ∷ cond (ltb b.from a.from) (with_span a xs) xs)) p ≡ cond (holds a p) (Some a.area) (area_at (b ∷ xs) p)) [
+    elim (ltb a.from b.from) as (λ v. ltb a.from b.from ≡ v → area_at (cond v (a ∷ b ∷ xs) (b ∷ cond (ltb b.from a.from) (with_span a xs) xs)) p ≡ cond
+    (holds a p) (Some a.area) (area_at (b ∷ xs) p)) [
       | true ↦ λ e. refl
       | false ↦ λ e.
           let after : b.to ≤ a.from = past a b s.0 some f.0 e in
           let wide : b.from < b.to = s.0 in
           let less : b.from < a.from = omega arith in
-          rw (lt-ltb b.from a.from less, at_with a xs p some s.2 f.1) (swap_tests (holds b p) (holds a p) _ _ _ (λ h. holds_above b p (let low : a.from ≤ p = leb-true _ _ (and_parts _ _ h).0 in omega arith)))
+          rw (lt-ltb b.from a.from less, at_with a xs p some s.2 f.1) (swap_tests (holds b p) (holds a p) _ _ _
+          (λ h. holds_above b p (let low : a.from ≤ p = leb-true _ _ (and_parts _ _ h).0 in omega arith)))
     ] refl
 
-pub span_with : (a : Span) (xs : List Span) (n : ℕ) → a.from < a.to → AreApart xs → AreClear xs a.from (a.to - a.from) → span_of xs a.area ≡ None → span_of (with_span a xs) n ≡ with_at a.area (Some a) (span_of xs) n
+pub span_with : (a : Span) (xs : List Span) (n : ℕ) → a.from < a.to → AreApart xs → AreClear xs a.from (a.to - a.from) → span_of xs a.area ≡ None →
+    span_of (with_span a xs) n ≡ with_at a.area (Some a) (span_of xs) n
 span_with a [] n some s f new = refl
 span_with a (b ∷ xs) n some s f new =
-    elim (ltb a.from b.from) as (λ v. ltb a.from b.from ≡ v → span_of (cond v (a ∷ b ∷ xs) (b ∷ cond (ltb b.from a.from) (with_span a xs) xs)) n ≡ with_at a.area (Some a) (span_of (b ∷ xs)) n) [
+    elim (ltb a.from b.from) as (λ v. ltb a.from b.from ≡ v → span_of (cond v (a ∷ b ∷ xs) (b ∷ cond (ltb b.from a.from) (with_span a xs) xs)) n ≡ with_at
+    a.area (Some a) (span_of (b ∷ xs)) n) [
       | true ↦ λ e. refl
       | false ↦ λ e.
           let after : b.to ≤ a.from = past a b s.0 some f.0 e in
           let wide : b.from < b.to = s.0 in
           let less : b.from < a.from = omega arith in
-          rw (lt-ltb b.from a.from less, span_with a xs n some s.2 f.1 (other_later a b xs new)) (swap_tests (eqb n b.area) (eqb n a.area) _ _ _ (λ h. ne_eqb n b.area (λ same. other_here a b xs new (sym (eqb-true _ _ h) ∙ same))))
+          rw (lt-ltb b.from a.from less, span_with a xs n some s.2 f.1 (other_later a b xs new))
+          (swap_tests (eqb n b.area) (eqb n a.area) _ _ _ (λ h. ne_eqb n b.area (λ same. other_here a b xs new (sym (eqb-true _ _ h) ∙ same))))
     ] refl
 
-pub distinct_with : (a : Span) (xs : List Span) → a.from < a.to → AreApart xs → AreClear xs a.from (a.to - a.from) → span_of xs a.area ≡ None → AreDistinct xs → AreDistinct (with_span a xs)
+pub distinct_with : (a : Span) (xs : List Span) → a.from < a.to → AreApart xs → AreClear xs a.from (a.to - a.from) → span_of xs a.area ≡ None →
+    AreDistinct xs → AreDistinct (with_span a xs)
 distinct_with a [] some s f new d = (refl, tt)
 distinct_with a (b ∷ xs) some s f new d =
     elim (ltb a.from b.from) as (λ v. ltb a.from b.from ≡ v → AreDistinct (cond v (a ∷ b ∷ xs) (b ∷ cond (ltb b.from a.from) (with_span a xs) xs))) [
@@ -222,7 +236,8 @@ distinct_with a (b ∷ xs) some s f new d =
           let less : b.from < a.from = omega arith in
           let later = other_later a b xs new in
           rw (lt-ltb b.from a.from less) (
-            span_with a xs b.area some s.2 f.1 later ∙ cond-false (eqb b.area a.area) (Some a) (span_of xs b.area) (ne_eqb _ _ (λ same. other_here a b xs new (sym same))) ∙ d.0,
+            span_with a xs b.area some s.2 f.1 later ∙ cond-false (eqb b.area a.area) (Some a) (span_of xs b.area)
+                (ne_eqb _ _ (λ same. other_here a b xs new (sym same))) ∙ d.0,
             distinct_with a xs some s.2 f.1 later d.1,
           )
     ] refl
@@ -233,9 +248,11 @@ pub record IsInserted (a : Span) (xs new : List Span) : Type 0 where
   pub areas : (n : ℕ) → span_of new n ≡ with_at a.area (Some a) (span_of xs) n
   pub pages : (p : ℕ) → area_at new p ≡ cond (holds a p) (Some a.area) (area_at xs p)
 
-pub inserted : (a : Span) (xs : List Span) → AreSpans xs → a.from < a.to → low_page ≤ a.from → a.to ≤ top_page → IsFree (is_page_taken xs) a.from a.to → span_of xs a.area ≡ None → IsInserted a xs (with_span a xs)
+pub inserted : (a : Span) (xs : List Span) → AreSpans xs → a.from < a.to → low_page ≤ a.from → a.to ≤ top_page → IsFree (is_page_taken xs) a.from a.to →
+    span_of xs a.area ≡ None → IsInserted a xs (with_span a xs)
 inserted a xs good some low high free new =
-    let clear : AreClear xs a.from (a.to - a.from) = clear_from_free a.from (a.to - a.from) xs (omega arith) good.apart (λ page least most. free page least (omega arith)) in
+    let clear : AreClear xs a.from (a.to - a.from) = clear_from_free a.from (a.to - a.from) xs (omega arith) good.apart
+    (λ page least most. free page least (omega arith)) in
     record {
       good = record {
         apart = apart_with a xs some good.apart clear;
@@ -265,12 +282,15 @@ pub apart_right : (l : List Span) (a : Span) (r : List Span) → AreApart (l ++ 
 apart_right [] a r s = s.2
 apart_right (b ∷ l) a r s = apart_right l a r s.2
 
-pub inserted_span : (a : Span) (d xs new : List Span) → d ≡ xs → new ≡ with_span a d → AreSpans d → a.from < a.to → low_page ≤ a.from → a.to ≤ top_page → IsFree (is_page_taken xs) a.from a.to → span_of xs a.area ≡ None → IsInserted a xs new
+pub inserted_span : (a : Span) (d xs new : List Span) → d ≡ xs → new ≡ with_span a d → AreSpans d → a.from < a.to → low_page ≤ a.from → a.to ≤ top_page →
+    IsFree (is_page_taken xs) a.from a.to → span_of xs a.area ≡ None → IsInserted a xs new
 inserted_span a d xs new is e good some low high free other =
     subst (IsInserted a xs) (sym (e ∙ ap (with_span a) is)) (inserted a xs (subst AreSpans is good) some low high free other)
 
 -- what an insertion leaves that can lack memory
-pub inserted_if : {E : Type 0} (r : Result Unit E) (a : Span) (d xs new : List Span) → d ≡ xs → new ≡ cond (is_ok r) (with_span a d) d → AreSpans d → a.from < a.to → low_page ≤ a.from → a.to ≤ top_page → IsFree (is_page_taken xs) a.from a.to → span_of xs a.area ≡ None → OnOk r (IsInserted a xs new) × AreSpans new
+pub inserted_if : {E : Type 0} (r : Result Unit E) (a : Span) (d xs new : List Span) → d ≡ xs → new ≡ cond (is_ok r) (with_span a d) d → AreSpans d →
+    a.from < a.to → low_page ≤ a.from → a.to ≤ top_page → IsFree (is_page_taken xs) a.from a.to → span_of xs a.area ≡ None →
+    OnOk r (IsInserted a xs new) × AreSpans new
 inserted_if (Ok _) a d xs new is e good some low high free other = let h = inserted_span a d xs new is e good some low high free other in (h, h.good)
 inserted_if (Err _) a d xs new is e good some low high free other = (tt, subst AreSpans (sym e) good)
 
@@ -289,7 +309,8 @@ span_without n (b ∷ xs) k d =
             | true ↦ λ h. ap (span_of xs) (eqb-true k n h ∙ sym same) ∙ d.0
             | false ↦ λ h. rw (same, h) refl
           ] refl
-      | false ↦ λ e. rw (span_without n xs k d.1) (swap_tests (eqb k b.area) (eqb k n) (Some b) None (span_of xs k) (λ h. ne_eqb k b.area (λ same. eqb-false b.area n e (sym same ∙ eqb-true k n h))))
+      | false ↦ λ e. rw (span_without n xs k d.1) (swap_tests (eqb k b.area) (eqb k n) (Some b) None (span_of xs k)
+          (λ h. ne_eqb k b.area (λ same. eqb-false b.area n e (sym same ∙ eqb-true k n h))))
     ] refl
 
 distinct_without : (n : ℕ) (xs : List Span) → AreDistinct xs → AreDistinct (without_area n xs)
@@ -317,7 +338,9 @@ at_without n [] p s d = refl
 at_without n (b ∷ xs) p s d =
     elim (eqb b.area n) as (λ v. eqb b.area n ≡ v → area_at (cond v xs (b ∷ without_area n xs)) p ≡ unless_area n (area_at (b ∷ xs) p)) [
       | true ↦ λ e. elim (holds b p) as (λ v. holds b p ≡ v → area_at xs p ≡ unless_area n (cond v (Some b.area) (area_at xs p))) [
-        | true ↦ λ h. rw e (none_later p b xs (let high : p < b.from + (b.to - b.from) = ltb-true p (b.from + (b.to - b.from)) (and_parts (leb b.from p) (ltb p (b.from + (b.to - b.from))) h).1 in let wide : b.from < b.to = s.0 in omega arith) s.1)
+        | true ↦ λ h. rw e (none_later p b xs (let high : p < b.from + (b.to - b.from) =
+            ltb-true p (b.from + (b.to - b.from)) (and_parts (leb b.from p) (ltb p (b.from + (b.to - b.from))) h).1 in
+            let wide : b.from < b.to = s.0 in omega arith) s.1)
         | false ↦ λ h. unless_none n xs p (ap (span_of xs) (sym (eqb-true b.area n e)) ∙ d.0)
       ] refl
       | false ↦ λ e. elim (holds b p) as (λ v. cond v (Some b.area) (area_at (without_area n xs) p) ≡ unless_area n (cond v (Some b.area) (area_at xs p))) [
@@ -343,7 +366,8 @@ without_start n (b ∷ xs) a s found =
       | false ↦ λ e found.
           let later : b.to ≤ a.from = all_found (λ t. b.to ≤ t.from) n xs a s.1 found in
           let wide : b.from < b.to = s.0 in
-          rw (ne_eqb b.from a.from (λ same. omega arith), ne_eqb b.area n (λ same. eqb-false n b.area e (sym same))) (ap (λ t. b ∷ t) (without_start n xs a s.2 found))
+          rw (ne_eqb b.from a.from (λ same. omega arith), ne_eqb b.area n (λ same. eqb-false n b.area e (sym same)))
+          (ap (λ t. b ∷ t) (without_start n xs a s.2 found))
     ] refl found
 
 -- what the removal of an area leaves
@@ -367,14 +391,17 @@ removed_span n a xs good found =
       pages = λ p. ap (λ t. area_at t p) same ∙ at_without n xs p good.apart good.distinct;
     }
 
-removed_found : (n first : ℕ) (found : Option Span) (xs : List Span) → AreSpans xs → span_of xs n ≡ found → IsSomeAnd found (λ a. a.from ≡ first) → IsRemoved n xs (without_key start_of first xs)
+removed_found : (n first : ℕ) (found : Option Span) (xs : List Span) → AreSpans xs → span_of xs n ≡ found → IsSomeAnd found (λ a. a.from ≡ first) →
+    IsRemoved n xs (without_key start_of first xs)
 removed_found n first None xs good is there = absurd there
 removed_found n first (Some a) xs good is there = subst (λ k. IsRemoved n xs (without_key start_of k xs)) there (removed_span n a xs good is)
 
-pub removed_here : (n first : ℕ) (xs : List Span) → AreSpans xs → IsSomeAnd (span_of xs n) (λ a. a.from ≡ first) → IsRemoved n xs (without_key start_of first xs)
+pub removed_here : (n first : ℕ) (xs : List Span) → AreSpans xs → IsSomeAnd (span_of xs n) (λ a. a.from ≡ first) →
+    IsRemoved n xs (without_key start_of first xs)
 removed_here n first xs good there = removed_found n first (span_of xs n) xs good refl there
 
-pub removed : (n first : ℕ) (d xs new : List Span) → d ≡ xs → AreSpans d → IsSomeAnd (span_of xs n) (λ a. a.from ≡ first) → new ≡ without_key start_of first d → IsRemoved n xs new
+pub removed : (n first : ℕ) (d xs new : List Span) → d ≡ xs → AreSpans d → IsSomeAnd (span_of xs n) (λ a. a.from ≡ first) →
+    new ≡ without_key start_of first d → IsRemoved n xs new
 removed n first d xs new is good there e =
     subst (IsRemoved n xs) (sym (e ∙ ap (without_key start_of first) is)) (removed_here n first xs (subst AreSpans is good) there)
 
@@ -390,16 +417,19 @@ with_at_twice true x y z = refl
 with_at_twice false x y z = refl
 
 -- an area that is there begins with a page that a process may have
-pub low_there : (n first : ℕ) (found : Option Span) (xs : List Span) → AreSpans xs → span_of xs n ≡ found → IsSomeAnd found (λ a. a.from ≡ first) → low_page ≤ first
+pub low_there : (n first : ℕ) (found : Option Span) (xs : List Span) → AreSpans xs → span_of xs n ≡ found →
+    IsSomeAnd found (λ a. a.from ≡ first) → low_page ≤ first
 low_there n first None xs good is there = absurd there
 low_there n first (Some a) xs good is there = subst (λ k. low_page ≤ k) there (all_found (λ b. (low_page ≤ b.from) × (b.to ≤ top_page)) n xs a good.within is).0
 
-pub ended_here : (s : Span) (xs : List Span) → AreSpans xs → IsSomeAnd (span_of xs s.area) (λ a. a.from ≡ s.from) → s.from < s.to → s.to ≤ top_page → IsFree (is_page_taken (without_area s.area xs)) s.from s.to → IsEnded s xs (with_span s (without_key start_of s.from xs))
+pub ended_here : (s : Span) (xs : List Span) → AreSpans xs → IsSomeAnd (span_of xs s.area) (λ a. a.from ≡ s.from) → s.from < s.to → s.to ≤ top_page →
+    IsFree (is_page_taken (without_area s.area xs)) s.from s.to → IsEnded s xs (with_span s (without_key start_of s.from xs))
 ended_here s xs good there some high free =
     let left = removed_here s.area s.from xs good there in
     let new = without_key start_of s.from xs in
     let none : span_of new s.area ≡ None = left.areas s.area ∙ rw (eq-eqb s.area s.area refl) refl in
-    let h = inserted s new left.good some (low_there s.area s.from (span_of xs s.area) xs good refl there) high (subst (λ l. IsFree (is_page_taken l) s.from s.to) (sym left.spans) free) none in
+    let h = inserted s new left.good some (low_there s.area s.from (span_of xs s.area) xs good refl there) high
+    (subst (λ l. IsFree (is_page_taken l) s.from s.to) (sym left.spans) free) none in
     record {
       good = h.good;
       spans = ap (with_span s) left.spans;
@@ -407,7 +437,8 @@ ended_here s xs good there some high free =
       pages = λ p. h.pages p ∙ ap (cond (holds s p) (Some s.area)) (left.pages p);
     }
 
-pub ended : (s : Span) (d xs new : List Span) → d ≡ xs → AreSpans d → IsSomeAnd (span_of xs s.area) (λ a. a.from ≡ s.from) → s.from < s.to → s.to ≤ top_page → IsFree (is_page_taken (without_area s.area xs)) s.from s.to → new ≡ with_span s (without_key start_of s.from d) → IsEnded s xs new
+pub ended : (s : Span) (d xs new : List Span) → d ≡ xs → AreSpans d → IsSomeAnd (span_of xs s.area) (λ a. a.from ≡ s.from) → s.from < s.to → s.to ≤ top_page →
+    IsFree (is_page_taken (without_area s.area xs)) s.from s.to → new ≡ with_span s (without_key start_of s.from d) → IsEnded s xs new
 ended s d xs new is good there some high free e =
     subst (IsEnded s xs) (sym (e ∙ ap (λ l. with_span s (without_key start_of s.from l)) is)) (ended_here s xs (subst AreSpans is good) there some high free)
 
@@ -446,18 +477,21 @@ before_none p a (b ∷ xs) h later s =
     let k : a.to ≤ b.from = later.0 in
     rw (before_none p a xs h later.1 s.2, lt-leb b.to p (omega arith)) refl
 
-pub before_right : (p : ℕ) (d l : List Span) (a : Span) (r : List Span) (near : Option ℕ) → d ≡ l ++ a ∷ r → a.to ≤ p → or_else (area_before r p) (Some a.area) ≡ or_else (area_before d p) near
+pub before_right : (p : ℕ) (d l : List Span) (a : Span) (r : List Span) (near : Option ℕ) → d ≡ l ++ a ∷ r → a.to ≤ p →
+    or_else (area_before r p) (Some a.area) ≡ or_else (area_before d p) near
 before_right p d l a r near is h =
     rw (is, before_cut p l (a ∷ r), le-leb a.to p h, or_else_some (area_before r p) (area_before l p) a.area, or_else_some (area_before r p) near a.area) refl
 
-pub before_left : (p : ℕ) (d l : List Span) (a : Span) (r : List Span) (near : Option ℕ) → d ≡ l ++ a ∷ r → AreApart d → p < a.to → or_else (area_before l p) near ≡ or_else (area_before d p) near
+pub before_left : (p : ℕ) (d l : List Span) (a : Span) (r : List Span) (near : Option ℕ) → d ≡ l ++ a ∷ r → AreApart d → p < a.to →
+    or_else (area_before l p) near ≡ or_else (area_before d p) near
 before_left p d l a r near is s h =
     let apart = apart_tail l (a ∷ r) (subst AreApart is s) in
     rw (is, before_cut p l (a ∷ r), before_none p a r h apart.1 apart.2, lt-leb a.to p h) refl
 
 after_cut : (p : ℕ) (l m : List Span) → area_after (l ++ m) p ≡ or_else (area_after l p) (area_after m p)
 after_cut p [] m = refl
-after_cut p (b ∷ l) m = elim (ltb p b.from) as (λ v. cond v (Some b.area) (area_after (l ++ m) p) ≡ or_else (cond v (Some b.area) (area_after l p)) (area_after m p)) [ true ↦ refl | false ↦ after_cut p l m ]
+after_cut p (b ∷ l) m = elim (ltb p b.from) as (λ v. cond v (Some b.area) (area_after (l ++ m) p) ≡ or_else (cond v (Some b.area) (area_after l p))
+    (area_after m p)) [ true ↦ refl | false ↦ after_cut p l m ]
 
 after_none : (p : ℕ) (l : List Span) (a : Span) (r : List Span) → a.from ≤ p → AreApart (l ++ a ∷ r) → area_after l p ≡ None
 after_none p [] a r h s = refl
@@ -466,11 +500,13 @@ after_none p (b ∷ l) a r h s =
     let k : b.to ≤ a.from = middle_after b l a r s.1 in
     rw (le-ltb p b.from (omega arith)) (after_none p l a r h s.2)
 
-pub after_left : (p : ℕ) (d l : List Span) (a : Span) (r : List Span) (near : Option ℕ) → d ≡ l ++ a ∷ r → p < a.from → or_else (area_after l p) (Some a.area) ≡ or_else (area_after d p) near
+pub after_left : (p : ℕ) (d l : List Span) (a : Span) (r : List Span) (near : Option ℕ) → d ≡ l ++ a ∷ r → p < a.from →
+    or_else (area_after l p) (Some a.area) ≡ or_else (area_after d p) near
 after_left p d l a r near is h =
     rw (is, after_cut p l (a ∷ r), lt-ltb p a.from h, or_else_some (area_after l p) near a.area) refl
 
-pub after_right : (p : ℕ) (d l : List Span) (a : Span) (r : List Span) (near : Option ℕ) → d ≡ l ++ a ∷ r → AreApart d → a.from ≤ p → or_else (area_after r p) near ≡ or_else (area_after d p) near
+pub after_right : (p : ℕ) (d l : List Span) (a : Span) (r : List Span) (near : Option ℕ) → d ≡ l ++ a ∷ r → AreApart d → a.from ≤ p →
+    or_else (area_after r p) near ≡ or_else (area_after d p) near
 after_right p d l a r near is s h =
     rw (is, after_cut p l (a ∷ r), after_none p l a r h (subst AreApart is s), le-ltb p a.from h) refl
 
@@ -493,11 +529,13 @@ below_none p a (b ∷ xs) h later =
     let k : a.to ≤ b.from = later.0 in
     rw (below_none p a xs h later.1, le-ltb b.from p (omega arith)) refl
 
-pub below_right : (p : ℕ) (d l : List Span) (a : Span) (r : List Span) (near : Option Span) → d ≡ l ++ a ∷ r → a.from < p → option_or (last_below r p) (Some a) ≡ option_or (last_below d p) near
+pub below_right : (p : ℕ) (d l : List Span) (a : Span) (r : List Span) (near : Option Span) → d ≡ l ++ a ∷ r → a.from < p →
+    option_or (last_below r p) (Some a) ≡ option_or (last_below d p) near
 below_right p d l a r near is h =
     rw (is, below_cut p l (a ∷ r), lt-ltb a.from p h, or_some (last_below r p) (last_below l p) a, or_some (last_below r p) near a) refl
 
-pub below_left : (p : ℕ) (d l : List Span) (a : Span) (r : List Span) (near : Option Span) → d ≡ l ++ a ∷ r → AreApart d → p ≤ a.from → option_or (last_below l p) near ≡ option_or (last_below d p) near
+pub below_left : (p : ℕ) (d l : List Span) (a : Span) (r : List Span) (near : Option Span) → d ≡ l ++ a ∷ r → AreApart d → p ≤ a.from →
+    option_or (last_below l p) near ≡ option_or (last_below d p) near
 below_left p d l a r near is s h =
     let apart = apart_tail l (a ∷ r) (subst AreApart is s) in
     let wide : a.from < a.to = apart.0 in
@@ -505,7 +543,8 @@ below_left p d l a r near is s h =
 
 from_cut : (p : ℕ) (l m : List Span) → first_from (l ++ m) p ≡ option_or (first_from l p) (first_from m p)
 from_cut p [] m = refl
-from_cut p (b ∷ l) m = elim (leb p b.from) as (λ v. cond v (Some b) (first_from (l ++ m) p) ≡ option_or (cond v (Some b) (first_from l p)) (first_from m p)) [ true ↦ refl | false ↦ from_cut p l m ]
+from_cut p (b ∷ l) m = elim (leb p b.from) as (λ v. cond v (Some b) (first_from (l ++ m) p) ≡ option_or (cond v (Some b) (first_from l p))
+    (first_from m p)) [ true ↦ refl | false ↦ from_cut p l m ]
 
 from_none : (p : ℕ) (l : List Span) (a : Span) (r : List Span) → a.from < p → AreApart (l ++ a ∷ r) → first_from l p ≡ None
 from_none p [] a r h s = refl
@@ -514,11 +553,13 @@ from_none p (b ∷ l) a r h s =
     let k : b.to ≤ a.from = middle_after b l a r s.1 in
     rw (lt-leb p b.from (omega arith)) (from_none p l a r h s.2)
 
-pub from_left : (p : ℕ) (d l : List Span) (a : Span) (r : List Span) (near : Option Span) → d ≡ l ++ a ∷ r → p ≤ a.from → option_or (first_from l p) (Some a) ≡ option_or (first_from d p) near
+pub from_left : (p : ℕ) (d l : List Span) (a : Span) (r : List Span) (near : Option Span) → d ≡ l ++ a ∷ r → p ≤ a.from →
+    option_or (first_from l p) (Some a) ≡ option_or (first_from d p) near
 from_left p d l a r near is h =
     rw (is, from_cut p l (a ∷ r), le-leb p a.from h, or_some (first_from l p) near a) refl
 
-pub from_right : (p : ℕ) (d l : List Span) (a : Span) (r : List Span) (near : Option Span) → d ≡ l ++ a ∷ r → AreApart d → a.from < p → option_or (first_from r p) near ≡ option_or (first_from d p) near
+pub from_right : (p : ℕ) (d l : List Span) (a : Span) (r : List Span) (near : Option Span) → d ≡ l ++ a ∷ r → AreApart d → a.from < p →
+    option_or (first_from r p) near ≡ option_or (first_from d p) near
 from_right p d l a r near is s h =
     rw (is, from_cut p l (a ∷ r), from_none p l a r h (subst AreApart is s), lt-leb p a.from h) refl
 
@@ -531,7 +572,8 @@ holds_start s page h e q = let d : holds s page ≡ true = holds_here s page (om
 
 pub no_start : (spans : List Span) → AreApart spans → (page : ℕ) → is_page_taken spans page ≡ false → entry_at start_of page spans ≡ None
 no_start [] a page e = refl
-no_start (s ∷ t) a page e = elim (holds s page) as (λ b. holds s page ≡ b → is_some (cond b (Some s.area) (area_at t page)) ≡ false → entry_at start_of page (s ∷ t) ≡ None) [
-  | true ↦ λ q d. cc
-  | false ↦ λ q d. rw (ne_eqb s.from page (λ p. holds_start s page a.0 p q)) (no_start t a.2 page d)
-] refl e
+no_start (s ∷ t) a page e = elim (holds s page) as (λ b. holds s page ≡ b → is_some (cond b (Some s.area) (area_at t page)) ≡ false →
+    entry_at start_of page (s ∷ t) ≡ None) [
+      | true ↦ λ q d. cc
+      | false ↦ λ q d. rw (ne_eqb s.from page (λ p. holds_start s page a.0 p q)) (no_start t a.2 page d)
+    ] refl e

@@ -23,7 +23,7 @@ use Rattle.av_trace.specs.declared.reply.Answer.TheVariants.{Done, MapAt, Refuse
 use Rattle.av_trace.specs.declared.reply.Errno.TheVariants.{Enomem}
 use Rattle.av_trace.specs.declared.reply.Reply.{Reply}
 use Rattle.av_trace.specs.declared.row.Row.{Row}
-use Rattle.av_plain.specs.Areas.{Anons, AnonVma, Areas, areas_to_hole, AreLeft, AreNext, at_home, chain_length, chain_of, next_areas, none_on, prepare_page, Rmap, rmap_after, rmap_after_all, rmap_after_note, rmap_after_use, root_anon, with_room, with_root}
+use Rattle.av_plain.specs.Areas.{Anons, AnonVma, Areas, areas_to_hole, AreLeft, AreNext, at_home, chain_length, chain_by, next_areas, none_on, prepare_page, Rmap, rmap_after, rmap_after_all, rmap_after_note, rmap_after_use, root_anon, with_room, with_root}
 use Rattle.av_plain.specs.Event.{Event, Noted, Used, after}
 use Rattle.av_plain.specs.Fork.{AreForked, GoOver, GoesBy, root_of}
 use Rattle.av_vma.specs.Mremap.{after_grow, after_move, after_resize, grown_to, joined_over, moved_area, moved_range}
@@ -116,7 +116,8 @@ with-below n area on is h page = by (has_page area page)
     by false = h page
 
 map-below : (n : ℕ) (len : Lengths) (p from past : ℕ) (prot : Prot) (on : Pages) → OwnBelow n on → OwnBelow n (after_map len p from past prot on)
-map-below n len p from past prot on h = around-below n len from past (with_area (fresh_area p from past prot) on) (with-below n (fresh_area p from past prot) on tt h)
+map-below n len p from past prot on h = around-below n len from past (with_area (fresh_area p from past prot) on)
+    (with-below n (fresh_area p from past prot) on tt h)
 
 effect-below : (n from past : ℕ) (effect : Effect) (on : Pages) → OwnBelow n on → OwnBelow n (with_effect_on from past effect on)
 effect-below n from past effect on h page = by (within from (past - from) page)
@@ -204,7 +205,8 @@ remap-below n len p from k to m left on h = by (to == from)
     by true = resize-below n len from k m on h
     by false = again-below n len p from (from + k) left (after_move len from k to m on) (move-below n len from k to m on h)
 
-next-below : (n : ℕ) (long : Lengths) (on : Areas) (w : World) (command : Command) (answer : Answer) → AllBelow n on → AllBelow n (next_areas long on w command answer)
+next-below : (n : ℕ) (long : Lengths) (on : Areas) (w : World) (command : Command) (answer : Answer) → AllBelow n on →
+    AllBelow n (next_areas long on w command answer)
 next-below n long on w (Spawn p) Done h = set-below n p none_on on (λ page. tt) h
 next-below n long on w (Exit p) Done h = set-below n p none_on on (λ page. tt) h
 next-below n long on w (Mmap p len prot place) (MapAt a) h =
@@ -283,7 +285,8 @@ page-made p page r h = by (on page) (h.owns p page)
     at area true l is = same
     at area false (Some v) is = record {
       made = record {
-        owns = set-below r.anons.next p (with_area (record area { anon = Some v }) (r.areas p)) r.areas (with-below r.anons.next (record area { anon = Some v }) (r.areas p) is (h.owns p)) h.owns;
+        owns = set-below r.anons.next p (with_area (record area { anon = Some v }) (r.areas p)) r.areas
+            (with-below r.anons.next (record area { anon = Some v }) (r.areas p) is (h.owns p)) h.owns;
         chains = h.chains;
       };
       more = omega arith;
@@ -291,7 +294,8 @@ page-made p page r h = by (on page) (h.owns p page)
     at area false None is = record {
       made = record {
         owns = set-below (suc r.anons.next) p (with_area (record area { anon = Some r.anons.next }) (r.areas p)) r.areas
-            (with-below (suc r.anons.next) (record area { anon = Some r.anons.next }) (r.areas p) (omega arith) (λ o. more_area r.anons.next (suc r.anons.next) (r.areas p o) (omega arith) (h.owns p o)))
+            (with-below (suc r.anons.next) (record area { anon = Some r.anons.next }) (r.areas p) (omega arith)
+            (λ o. more_area r.anons.next (suc r.anons.next) (r.areas p o) (omega arith) (h.owns p o)))
             (λ q o. more_area r.anons.next (suc r.anons.next) (r.areas q o) (omega arith) (h.owns q o));
         chains = λ v. root-chains v (v == r.anons.next) refl;
       };
@@ -306,7 +310,8 @@ page-made p page r h = by (on page) (h.owns p page)
         })
     by None is = same
     by (Some area) is = at area (is_some area.anon) (loan_beside (chain_length r.anons) (r.areas p) area)
-        (either r.anons.next (loan_of (chain_length r.anons) area (r.areas p (past_of area))) (loan_of (chain_length r.anons) area (r.areas p (first_of area - 1)))
+        (either r.anons.next (loan_of (chain_length r.anons) area (r.areas p (past_of area)))
+        (loan_of (chain_length r.anons) area (r.areas p (first_of area - 1)))
         (loan-below r.anons.next (chain_length r.anons) area (r.areas p (past_of area)) (h.owns p (past_of area)))
         (loan-below r.anons.next (chain_length r.anons) area (r.areas p (first_of area - 1)) (h.owns p (first_of area - 1))))
 
@@ -350,7 +355,7 @@ left-below anons left on n is h v = by (left.anon v) refl
     by None e = tt
     by (Some x) e = subst (ChainBelow n) (sym (is.linked v (is.there v (ap is_some e))) ∙ e) (h v)
 
-chain-below : (anons : Anons) (n : ℕ) (own : Option ℕ) → ((v : ℕ) → ChainBelow n (anons.anon v)) → AllByRecursion (λ v. v < n) (chain_of anons own)
+chain-below : (anons : Anons) (n : ℕ) (own : Option ℕ) → ((v : ℕ) → ChainBelow n (anons.anon v)) → AllByRecursion (λ v. v < n) (chain_by anons own)
 chain-below anons n None h = tt
 chain-below anons n (Some v) h = by (anons.anon v) (h v)
   where
@@ -366,7 +371,8 @@ plain-makes r later next w command answer makes is =
       made = record {
         owns = subst (λ n. AllBelow n next.areas) (sym same) (subst (AllBelow later.anons.next) (sym is.areas)
             (next-below later.anons.next (chain_length later.anons) later.areas w command answer makes.made.owns));
-        chains = subst (λ n. (v : ℕ) → ChainBelow n (next.anons.anon v)) (sym same) (left-below later.anons next.anons next.areas later.anons.next is.anons makes.made.chains);
+        chains = subst (λ n. (v : ℕ) → ChainBelow n (next.anons.anon v)) (sym same)
+            (left-below later.anons next.anons next.areas later.anons.next is.anons makes.made.chains);
       };
       more = omega (arith, more, same);
     }
@@ -387,7 +393,8 @@ all_and P (y ∷ xs) x h p = (h.0, all_and P xs x h.1 p)
 goes-makes : (own : Option ℕ) (q : ℕ) (area : Area) (r next : Rmap) → area.anon ≡ own → AreMade r → GoesBy own q area r next → Makes r next
 goes-makes None q area r next is h goes = subst (Makes r) (sym goes) (record {
   made = record {
-    owns = set-below r.anons.next q (with_area (record area { pid = q }) (r.areas q)) r.areas (with-below r.anons.next (record area { pid = q }) (r.areas q) (subst (IsBelow r.anons.next) (sym is) tt) (h.owns q)) h.owns;
+    owns = set-below r.anons.next q (with_area (record area { pid = q }) (r.areas q)) r.areas
+        (with-below r.anons.next (record area { pid = q }) (r.areas q) (subst (IsBelow r.anons.next) (sym is) tt) (h.owns q)) h.owns;
     chains = h.chains;
   };
   more = omega arith;
@@ -395,7 +402,8 @@ goes-makes None q area r next is h goes = subst (Makes r) (sym goes) (record {
 goes-makes (Some own) q area r next is h (None, none, goes) = subst (Makes r) (sym goes) (record {
   made = record {
     owns = set-below (suc n) q (with_area (record area { pid = q; anon = Some n }) (r.areas q)) r.areas
-        (with-below (suc n) (record area { pid = q; anon = Some n }) (r.areas q) (omega arith) (λ o. more_area n (suc n) (r.areas q o) (omega arith) (h.owns q o)))
+        (with-below (suc n) (record area { pid = q; anon = Some n }) (r.areas q) (omega arith)
+        (λ o. more_area n (suc n) (r.areas q o) (omega arith) (h.owns q o)))
         (λ p o. more_area n (suc n) (r.areas p o) (omega arith) (h.owns p o));
     chains = λ v. at v (v == n);
   };
@@ -405,27 +413,35 @@ goes-makes (Some own) q area r next is h (None, none, goes) = subst (Makes r) (s
     n : ℕ
     n = r.anons.next
 
-    chain : AllByRecursion (λ v. v < suc r.anons.next) (chain_of r.anons (Some own) ++ r.anons.next ∷ [])
-    chain = all_and (λ v. v < suc r.anons.next) (chain_of r.anons (Some own)) r.anons.next
-        (all_from (λ v. v < r.anons.next) (λ v. v < suc r.anons.next) (λ v lt. omega (arith, lt)) (chain_of r.anons (Some own)) (chain-below r.anons r.anons.next (Some own) h.chains)) (omega arith)
+    chain : AllByRecursion (λ v. v < suc r.anons.next) (chain_by r.anons (Some own) ++ r.anons.next ∷ [])
+    chain = all_and (λ v. v < suc r.anons.next) (chain_by r.anons (Some own)) r.anons.next
+        (all_from (λ v. v < r.anons.next) (λ v. v < suc r.anons.next) (λ v lt. omega (arith, lt)) (chain_by r.anons (Some own))
+        (chain-below r.anons r.anons.next (Some own) h.chains)) (omega arith)
 
-    at : (v : ℕ) (b : Bool) → ChainBelow (suc r.anons.next) (if b then Some (record { root = root_of r.anons own; parent = own; chain = chain_of r.anons (Some own) ++ r.anons.next ∷ [] }) else r.anons.anon v)
+    at : (v : ℕ) (b : Bool) → ChainBelow (suc r.anons.next) (if b then Some
+        (record { root = root_of r.anons own; parent = own; chain = chain_by r.anons (Some own) ++ r.anons.next ∷ [] }) else r.anons.anon v)
     at v true = chain
     at v false = more_chain r.anons.next (suc r.anons.next) (r.anons.anon v) (omega arith) (h.chains v)
 goes-makes (Some own) q area r next is h (Some u, one, goes) = subst (Makes r) (sym goes) (record {
   made = record {
     owns = set-below r.anons.next q (with_area (record area { pid = q; anon = Some u }) (r.areas q)) r.areas
-        (with-below r.anons.next (record area { pid = q; anon = Some u }) (r.areas q) (in_all (λ v. v < r.anons.next) u (chain_of r.anons (Some own)) chain one.0) (h.owns q)) h.owns;
+        (with-below r.anons.next (record area { pid = q; anon = Some u }) (r.areas q)
+        (in_all (λ v. v < r.anons.next) u (chain_by r.anons (Some own)) chain one.0) (h.owns q)) h.owns;
     chains = λ v. at v (v == u);
   };
   more = omega arith;
 })
   where
-    chain : AllByRecursion (λ v. v < r.anons.next) (chain_of r.anons (Some own))
+    chain : AllByRecursion (λ v. v < r.anons.next) (chain_by r.anons (Some own))
     chain = chain-below r.anons r.anons.next (Some own) h.chains
 
     at : (v : ℕ) (b : Bool)
-        → ChainBelow r.anons.next (if b then Some (record { root = root_of r.anons u; parent = option_map_or (λ (anon : AnonVma). anon.parent) (r.anons.anon u) u; chain = chain_of r.anons (Some own) }) else r.anons.anon v)
+        → ChainBelow r.anons.next (if b then Some (record {
+          root = root_of r.anons u;
+          parent = option_map_or (λ (anon : AnonVma). anon.parent)
+              (r.anons.anon u) u;
+          chain = chain_by r.anons (Some own);
+        }) else r.anons.anon v)
     at v true = chain
     at v false = h.chains v
 
@@ -481,13 +497,14 @@ pub rows-wide : (r : Rmap) (p : ℕ) (rows : List Row) → AreMade r → AreLaid
     → AllByRecursion IsWideRow rows
 rows-wide r p rows h laid wide is =
     let all : List Area = is.0 in
-    subst (AllByRecursion IsWideRow) (sym is.1) (each is.0 (all_from (λ (a : Area). pages_in (Some all) (first_of a) ≡ Some a) (λ (a : Area). r.areas p (first_of a) ≡ Some a) (λ a on. sym (is.3 (first_of a)) ∙ on) is.0 (on_first is.0 is.2)))
+    subst (AllByRecursion IsWideRow) (sym is.1) (each is.0 (all_from (λ (a : Area). pages_in (Some all) (first_of a) ≡ Some a)
+    (λ (a : Area). r.areas p (first_of a) ≡ Some a) (λ a on. sym (is.3 (first_of a)) ∙ on) is.0 (on_first is.0 is.2)))
   where
     one : (a : Area) → r.areas p (first_of a) ≡ Some a → IsWideRow (area_row r.anons a)
     one a on = (
       let small = (laid.whole (first_of a) a on).small in omega (arith, small),
       own-wide r.anons.next a.anon wide (subst (AreaBelow r.anons.next) on (h.owns p (first_of a))),
-      all_from (λ v. v < r.anons.next) IsWide (λ v lt. omega (arith, wide, lt)) (chain_of r.anons a.anon) (chain-below r.anons r.anons.next a.anon h.chains),
+      all_from (λ v. v < r.anons.next) IsWide (λ v lt. omega (arith, wide, lt)) (chain_by r.anons a.anon) (chain-below r.anons r.anons.next a.anon h.chains),
     )
 
     each : (areas : List Area) → AllByRecursion (λ (a : Area). r.areas p (first_of a) ≡ Some a) areas → AllByRecursion IsWideRow (map (area_row r.anons) areas)

@@ -133,10 +133,12 @@ serves-new m sp l write k notes h =
     let came = was_slot (need write l (entry l k)) in
     same-new notes ((h.coming ++ h.making) ++ drop_at m write came made k) 1 h.whole
     (two-new (h.coming ++ h.making) (drop_at m write came made k) 1 0
-    (two-new h.coming h.making 0 1 (comes-new m sp l k (need write l (entry l k)) h.coming h.comes_in) (made-new m sp now k (need write now (entry now k)) h.making h.made))
+    (two-new h.coming h.making 0 1 (comes-new m sp l k (need write l (entry l k)) h.coming h.comes_in)
+    (made-new m sp now k (need write now (entry now k)) h.making h.made))
     (drop-new m write came made k))
 
-runs_out-new : (m : Setting) (sp : Sparing) (l : Ledger) (write : Bool) (k : Key) (notes : List Note) (out : OutOf) → RunsOut m sp l write k notes out → news notes ≤ 1
+runs_out-new : (m : Setting) (sp : Sparing) (l : Ledger) (write : Bool) (k : Key) (notes : List Note) (out : OutOf) →
+    RunsOut m sp l write k notes out → news notes ≤ 1
 runs_out-new m sp l write k notes out h =
     let now = after_notes l h.coming in
     same-new notes (h.coming ++ h.sought) 1 h.whole
@@ -147,7 +149,8 @@ runs_out-new m sp l write k notes out h =
     before (inl e) = same-new h.coming [] 0 e (omega arith)
     before (inr c) = comes-new m sp l k (need write l (entry l k)) h.coming c
 
-touches-new : (m : Setting) (w : World) (l : Ledger) (write : Bool) (k : Key) (notes : List Note) (end : Option Stop) → Touches m w l write k notes end → news notes ≤ 1
+touches-new : (m : Setting) (w : World) (l : Ledger) (write : Bool) (k : Key) (notes : List Note) (end : Option Stop) →
+    Touches m w l write k notes end → news notes ≤ 1
 touches-new m w l write k notes None h = serves-new m (sparing w) l write k notes h.1
 touches-new m w l write k notes (Some Denied) h = same-new notes [] 1 h.1 (omega arith)
 touches-new m w l write k notes (Some (Starved out)) h = runs_out-new m (sparing w) l write k notes out h.1
@@ -160,7 +163,8 @@ accesses-new : (m : Setting) (w : World) (l : Ledger) (p : ℕ) (ps : List (Bool
 accesses-new m w l p [] es end h = subst (λ (es : List Event). news (notes_of es) ≤ 0) (sym h.0) (omega arith)
 accesses-new m w l p (page ∷ ps) es end (inl h) =
     let here = note_events h.0 ++ Used page.0 (p, page.1) ∷ [] in
-    let told : notes_of here ≡ h.0 = notes_of-append (note_events h.0) (Used page.0 (p, page.1) ∷ []) ∙ append-nil (notes_of (note_events h.0)) ∙ notes_of-note_events h.0 in
+    let told : notes_of here ≡ h.0 = notes_of-append (note_events h.0) (Used page.0 (p, page.1) ∷ []) ∙ append-nil (notes_of (note_events h.0))
+    ∙ notes_of-note_events h.0 in
     let all = same-new (notes_of es) (h.0 ++ notes_of h.1) (1 + length ps)
     (ap notes_of h.3 ∙ notes_of-append here h.1 ∙ ap (λ ns. ns ++ notes_of h.1) told)
     (two-new h.0 (notes_of h.1) 1 (length ps) (touches-new m w l page.0 (p, page.1) h.0 None h.2)
@@ -298,7 +302,8 @@ step-few m most old command reply new none high sound covers fit step = by (next
 
     prepared : later.anons.next ≤ old.anons.next + 8192
     prepared =
-        let same = ap (λ (a : Anons). a.next) (rmap_after_all-notes old.ledger step.events (rmap_of old) (rmap_of old) (record { areas = refl; anons = refl })).anons in
+        let same = ap (λ (a : Anons). a.next) (rmap_after_all-notes old.ledger step.events (rmap_of old) (rmap_of old)
+        (record { areas = refl; anons = refl })).anons in
         let few = notes-few (notes_of step.events) (rmap_of old) in
         let notes = legal-new m old.world old.ledger command reply step.events none sound fit step.legal in
         omega (arith, same, few, notes)

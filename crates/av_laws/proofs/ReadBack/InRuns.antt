@@ -480,7 +480,8 @@ below-follows m w now l (Mremap p a old new mode) es answer rows fit same below 
         let here = subst Below still below in
         subst (λ x. Below (next now (Mremap p a old new mode) x)) (sym e)
         (subst (λ x. Below (next x (Mremap p a old new mode) (MapAt (address_of to)))) (sym still)
-        (subst (λ b. Below (set_process w p (process_after_mremap (page_of a) (pages_of old) b (pages_of new) (prot_left mode (pages w p) (page_of a)) (pages w p))))
+        (subst (λ b. Below (set_process w p (process_after_mremap (page_of a) (pages_of old) b (pages_of new)
+        (prot_left mode (pages w p) (page_of a)) (pages w p))))
         (sym (back to))
         (below-set w p (process_after_mremap (page_of a) (pages_of old) to (pages_of new) (prot_left mode (pages w p) (page_of a)) (pages w p)) here
         (λ page some. (

@@ -40,7 +40,8 @@ goes-with q area r next = by area.anon refl
     by (Some w) is goes = record { own = Some (own_of_child r.anons goes.0); anons = with_child w goes.0 r.anons; is = goes.2 }
 
 -- the areas then
-pub with_own-others : (q : ℕ) (area : Area) (own : Option ℕ) (anons : Anons) (r : Rmap) (p page : ℕ) → (p == q) ≡ false → (with_own q area own anons r).areas p page ≡ r.areas p page
+pub with_own-others : (q : ℕ) (area : Area) (own : Option ℕ) (anons : Anons) (r : Rmap) (p page : ℕ) → (p == q) ≡ false →
+    (with_own q area own anons r).areas p page ≡ r.areas p page
 with_own-others q area own anons r p page other = ap (λ b. (cond b (with_area (in_child q area own) (r.areas q)) (r.areas p)) page) other
 
 pub with_own-child : (q : ℕ) (area : Area) (own : Option ℕ) (anons : Anons) (r : Rmap) (page : ℕ)
@@ -71,14 +72,16 @@ abbrev pub IsLeft : ℕ → List Area → ℕ → ℕ → Type 0
 IsLeft q areas p page = ((p == q) ≡ false) ⊎ (pages_in (Some areas) page ≡ None)
 
 -- a page that none of several has, the first has not, nor the others
-pub none_of : (area : Area) (areas : List Area) (page : ℕ) → pages_in (Some (area ∷ areas)) page ≡ None → (has_page area page ≡ false) × (pages_in (Some areas) page ≡ None)
+pub none_of : (area : Area) (areas : List Area) (page : ℕ) → pages_in (Some (area ∷ areas)) page ≡ None →
+    (has_page area page ≡ false) × (pages_in (Some areas) page ≡ None)
 none_of area areas page is = by (has_page area page) is
   where
     by : (b : Bool) → cond b (Some area) (pages_in (Some areas) page) ≡ None → (b ≡ false) × (pages_in (Some areas) page ≡ None)
     by true e = cc
     by false e = (refl, e)
 
-pub first_left : (q : ℕ) (area : Area) (areas : List Area) (r next : Rmap) → LeavesArea q area r next → (p page : ℕ) → IsLeft q (area ∷ areas) p page → next.areas p page ≡ r.areas p page
+pub first_left : (q : ℕ) (area : Area) (areas : List Area) (r next : Rmap) → LeavesArea q area r next → (p page : ℕ) → IsLeft q (area ∷ areas) p page →
+    next.areas p page ≡ r.areas p page
 first_left q area areas r next w p page (inl other) = w.others p page other
 first_left q area areas r next w p page (inr none) = by (p == q) refl
   where
@@ -91,10 +94,12 @@ later_left q area areas p page (inl other) = inl other
 later_left q area areas p page (inr none) = inr (none_of area areas page none).1
 
 -- no later area is on a page of the first
-pub not_later : (area : Area) (areas : List Area) (page : ℕ) → AreApart (map range_of (area ∷ areas)) → has_page area page ≡ true → pages_in (Some areas) page ≡ None
+pub not_later : (area : Area) (areas : List Area) (page : ℕ) → AreApart (map range_of (area ∷ areas)) → has_page area page ≡ true →
+    pages_in (Some areas) page ≡ None
 not_later area areas page rise has = none_later area areas page rise (has_parts area page has).1
 
-pub not_first : (area : Area) (areas : List Area) (page : ℕ) (a : Area) → AreApart (map range_of (area ∷ areas)) → pages_in (Some areas) page ≡ Some a → has_page area page ≡ false
+pub not_first : (area : Area) (areas : List Area) (page : ℕ) (a : Area) → AreApart (map range_of (area ∷ areas)) → pages_in (Some areas) page ≡ Some a →
+    has_page area page ≡ false
 not_first area areas page a rise is = by (has_page area page) refl
   where
     never : pages_in (Some areas) page ≡ None → ⊥
@@ -127,16 +132,19 @@ areas-leave q (area ∷ areas) r next rise (mid, first, later) =
     }
   where
     -- what the first area left is there still
-    still : LeavesArea q area r mid → LeavesAreas q areas mid next → (w : Option ℕ) (page : ℕ) → has_page area page ≡ true → mid.areas q page ≡ Some (in_child q area w) → next.areas q page ≡ Some (in_child q area w)
+    still : LeavesArea q area r mid → LeavesAreas q areas mid next → (w : Option ℕ) (page : ℕ) → has_page area page ≡ true →
+        mid.areas q page ≡ Some (in_child q area w) → next.areas q page ≡ Some (in_child q area w)
     still w all own page has is = all.left q page (inr (not_later area areas page rise has)) ∙ is
 
-    here : (w : LeavesArea q area r mid) (all : LeavesAreas q areas mid next) (page : ℕ) (a : Area) (b : Bool) → has_page area page ≡ b → cond b (Some area) (pages_in (Some areas) page) ≡ Some a
+    here : (w : LeavesArea q area r mid) (all : LeavesAreas q areas mid next) (page : ℕ) (a : Area) (b : Bool) → has_page area page ≡ b →
+        cond b (Some area) (pages_in (Some areas) page) ≡ Some a
         → next.areas q page ≡ Some (in_child q a (cond b w.own (all.own page)))
     here w all page a true has is = let same_area : area ≡ a = cc in
         subst (λ a. next.areas q page ≡ Some (in_child q a w.own)) same_area (still w all w.own page has (w.here page has))
     here w all page a false has is = all.here page a is
 
-    one : (w : LeavesArea q area r mid) (all : LeavesAreas q areas mid next) (page other : ℕ) (a : Area) (b : Bool) → has_page area page ≡ b → cond b (Some area) (pages_in (Some areas) page) ≡ Some a
+    one : (w : LeavesArea q area r mid) (all : LeavesAreas q areas mid next) (page other : ℕ) (a : Area) (b : Bool) → has_page area page ≡ b →
+        cond b (Some area) (pages_in (Some areas) page) ≡ Some a
         → has_page a other ≡ true → next.areas q page ≡ next.areas q other
     one w all page other a true has is there = let same_area : area ≡ a = cc in
         let has_too : has_page area other ≡ true = subst (λ a. has_page a other ≡ true) (sym same_area) there in

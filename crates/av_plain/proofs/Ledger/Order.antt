@@ -64,20 +64,25 @@ module _ {K X : Type 0} {R : K → K → Ordering} (o : IsTotalOrder R) (p : X �
       let less = is_less _ (both_first _ _ h) in
       subst (λ r. T (is_lt r && below_all R x es)) (sym (o.congr x y f.0 e ∙ less)) (below_tied x y es e (both_second _ _ h))
 
-  pub count-put : (k : K) (v : X) (es : List (K × X)) → T (is_sorted R es) → how_many (λ e. p e.1) (put R k v es) + weight p (find R k es) ≡ how_many (λ e. p e.1) es + cond (p v) 1 0
+  pub count-put : (k : K) (v : X) (es : List (K × X)) → T (is_sorted R es) → how_many (λ e. p e.1) (put R k v es) + weight p (find R k es) ≡ how_many
+      (λ e. p e.1) es + cond (p v) 1 0
   count-put k v [] h = single _
   count-put k v (e ∷ es) h =
-      elim (R k e.0) as (λ r. R k e.0 ≡ r → how_many (λ e. p e.1) (by_order r ((k, v) ∷ e ∷ es) ((e.0, v) ∷ es) (e ∷ put R k v es)) + weight p (cond (is_eq r) (Some e.1) (find R k es)) ≡ how_many (λ e. p e.1) (e ∷ es) + cond (p v) 1 0) [
+      elim (R k e.0) as (λ r. R k e.0 ≡ r → how_many (λ e. p e.1) (by_order r ((k, v) ∷ e ∷ es) ((e.0, v) ∷ es) (e ∷ put R k v es)) + weight p
+      (cond (is_eq r) (Some e.1) (find R k es)) ≡ how_many (λ e. p e.1) (e ∷ es) + cond (p v) 1 0) [
         | Less ↦ λ is. let none = find_below k es (below_less k e.0 es is (both_first _ _ h)) in rw none (added _ _ _)
         | Equal ↦ λ is. swapped _ _ _
         | Greater ↦ λ is. deeper _ _ _ _ _ (count-put k v es (both_second _ _ h))
       ] refl
 
   -- the others, and what the key has
-  pub count-without : (k : K) (es : List (K × X)) → T (is_sorted R es) → how_many (λ e. p e.1) es ≡ how_many (λ e. p e.1) (where_key R (λ q. not (eq_by_cmp R k q)) es) + weight p (find R k es)
+  pub count-without : (k : K) (es : List (K × X)) → T (is_sorted R es) →
+      how_many (λ e. p e.1) es ≡ how_many (λ e. p e.1) (where_key R (λ q. not (eq_by_cmp R k q)) es) + weight p (find R k es)
   count-without k [] h = refl
   count-without k (e ∷ es) h =
-      elim (R k e.0) as (λ r. R k e.0 ≡ r → how_many (λ e. p e.1) (e ∷ es) ≡ how_many (λ e. p e.1) (cond (not (is_eq r)) (e ∷ where_key R (λ q. not (eq_by_cmp R k q)) es) (where_key R (λ q. not (eq_by_cmp R k q)) es)) + weight p (cond (is_eq r) (Some e.1) (find R k es))) [
+      elim (R k e.0) as (λ r. R k e.0 ≡ r → how_many (λ e. p e.1) (e ∷ es) ≡ how_many (λ e. p e.1)
+      (cond (not (is_eq r)) (e ∷ where_key R (λ q. not (eq_by_cmp R k q)) es) (where_key R (λ q. not (eq_by_cmp R k q)) es)) + weight p
+      (cond (is_eq r) (Some e.1) (find R k es))) [
         | Less ↦ λ is. later _ _ _ _ (count-without k es (both_second _ _ h))
         | Equal ↦ λ is. let none = find_below k es (below_tied k e.0 es is (both_first _ _ h)) in
             last _ _ _ (rw none at (count-without k es (both_second _ _ h)))

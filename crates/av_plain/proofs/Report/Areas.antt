@@ -62,8 +62,11 @@ all_from P R f (x ∷ xs) p = (f x p.0, all_from P R f xs p.1)
 -- all later areas begin behind this one
 pub behind : (a : Area) (areas : List Area) → AreApart (map range_of (a ∷ areas)) → AllByRecursion (λ b. past_of a ≤ first_of b) areas
 behind a [] h = tt
-behind a (b ∷ areas) h =
-    (h.1, all_from (λ (c : Area). past_of b ≤ first_of c) (λ (c : Area). past_of a ≤ first_of c) (λ c le. let meets = h.1 in let some = some_pages (range_of b) (map range_of areas) h.2 in omega (arith, meets, some, le)) areas (behind b areas h.2))
+behind a (b ∷ areas) h = (
+  h.1,
+  all_from (λ (c : Area). past_of b ≤ first_of c) (λ (c : Area). past_of a ≤ first_of c) (λ c le. let meets = h.1 in
+      let some = some_pages (range_of b) (map range_of areas) h.2 in omega (arith, meets, some, le)) areas (behind b areas h.2),
+)
 
 pub on_area : (a : Area) (page : ℕ) → first_of a ≤ page → page < past_of a → has_page a page ≡ true
 on_area a page from to = grind (arith, nat_tests, from, to)
@@ -85,7 +88,8 @@ pub on_first : (areas : List Area) → AreApart (map range_of areas) → AllByRe
 on_first [] h = tt
 on_first (a ∷ areas) h = (
   found a areas (first_of a) (on_area a (first_of a) (omega arith) (some_pages (range_of a) (map range_of areas) h)),
-  all_both (λ (b : Area). past_of a ≤ first_of b) (λ (b : Area). pages_in (Some areas) (first_of b) ≡ Some b) (λ (b : Area). pages_in (Some (a ∷ areas)) (first_of b) ≡ Some b)
+  all_both (λ (b : Area). past_of a ≤ first_of b) (λ (b : Area). pages_in (Some areas) (first_of b) ≡ Some b)
+      (λ (b : Area). pages_in (Some (a ∷ areas)) (first_of b) ≡ Some b)
       (λ b past on. passed a areas (first_of b) (past_area a (first_of b) past) ∙ on) areas
       (behind a areas h) (on_first areas (rest_apart (range_of a) (map range_of areas) h)),
 )
@@ -99,11 +103,13 @@ none_under (a ∷ areas) page h = passed a areas page (before_area a page h.0) �
 pub none_before : (a : Area) (areas : List Area) (page : ℕ) → AreApart (map range_of (a ∷ areas)) → page < first_of a → pages_in (Some (a ∷ areas)) page ≡ None
 none_before a areas page h before =
     passed a areas page (before_area a page before)
-    ∙ none_under areas page (all_from (λ (b : Area). past_of a ≤ first_of b) (λ (b : Area). page < first_of b) (λ b le. let some = some_pages (range_of a) (map range_of areas) h in omega (arith, some, le, before)) areas (behind a areas h))
+    ∙ none_under areas page (all_from (λ (b : Area). past_of a ≤ first_of b) (λ (b : Area). page < first_of b)
+    (λ b le. let some = some_pages (range_of a) (map range_of areas) h in omega (arith, some, le, before)) areas (behind a areas h))
 
 pub none_later : (a : Area) (areas : List Area) (page : ℕ) → AreApart (map range_of (a ∷ areas)) → page < past_of a → pages_in (Some areas) page ≡ None
 none_later a areas page h before =
-    none_under areas page (all_from (λ (b : Area). past_of a ≤ first_of b) (λ (b : Area). page < first_of b) (λ b le. omega (arith, le, before)) areas (behind a areas h))
+    none_under areas page (all_from (λ (b : Area). past_of a ≤ first_of b) (λ (b : Area). page < first_of b)
+    (λ b le. omega (arith, le, before)) areas (behind a areas h))
 
 -- areas that are apart are those that their pages have
 pub one_list : (areas others : List Area) → AreApart (map range_of areas) → AreApart (map range_of others)
@@ -131,8 +137,10 @@ one_list (a ∷ areas) (b ∷ others) h g same =
     inner e = cc
 
     by : (x : Bool) → nat_lt (first_of a) (first_of b) ≡ x → (y : Bool) → nat_lt (first_of b) (first_of a) ≡ y → first_of a ≡ first_of b
-    by true is y e = absurd (none_is (sym (none_before b others (first_of a) g (grind (arith, nat_tests, is))) ∙ sym (same (first_of a)) ∙ (on_first (a ∷ areas) h).0))
-    by false is true e = absurd (none_is (sym (none_before a areas (first_of b) h (grind (arith, nat_tests, e))) ∙ same (first_of b) ∙ (on_first (b ∷ others) g).0))
+    by true is y e = absurd (none_is (sym (none_before b others (first_of a) g (grind (arith, nat_tests, is))) ∙ sym (same (first_of a))
+        ∙ (on_first (a ∷ areas) h).0))
+    by false is true e = absurd (none_is (sym (none_before a areas (first_of b) h (grind (arith, nat_tests, e))) ∙ same (first_of b)
+        ∙ (on_first (b ∷ others) g).0))
     by false is false e = grind (arith, nat_tests, is, e)
 
     rest : a ≡ b → (page : ℕ) → (x : Bool) → nat_lt page (past_of a) ≡ x → pages_in (Some areas) page ≡ pages_in (Some others) page

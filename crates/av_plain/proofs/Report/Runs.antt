@@ -55,7 +55,8 @@ module _ (same : Prot → Prot → Bool) where
 
     pub cover : (a : Range) (ranges : List Range) → AreApart (a ∷ ranges) → (page : ℕ) → prot_in (joined a ranges) page ≡ prot_in (a ∷ ranges) page
     cover a [] h page = refl
-    cover a (b ∷ ranges) h page = by (a.to == b.from && same a.prot b.prot) refl (cover (grown a b) ranges (apart-grown a b ranges h) page) (cover b ranges h.2 page)
+    cover a (b ∷ ranges) h page = by (a.to == b.from && same a.prot b.prot) refl (cover (grown a b) ranges (apart-grown a b ranges h) page)
+        (cover b ranges h.2 page)
       where
         touching : (a.to == b.from && same a.prot b.prot) ≡ true → (a.to ≡ b.from) × (a.prot ≡ b.prot)
         touching e = (first a.to b.from (same a.prot b.prot) e, is a.prot b.prot (second (a.to == b.from) (same a.prot b.prot) e))
@@ -67,7 +68,8 @@ module _ (same : Prot → Prot → Bool) where
             second true t e = e
             second false t e = cc
 
-        two_parts : (x y y' z page : ℕ) → x < y → y ≡ y' → y' < z → (nat_le x page && nat_lt page z) ≡ ((nat_le x page && nat_lt page y) || (nat_le y' page && nat_lt page z))
+        two_parts : (x y y' z page : ℕ) → x < y → y ≡ y' → y' < z → (nat_le x page && nat_lt page z)
+            ≡ ((nat_le x page && nat_lt page y) || (nat_le y' page && nat_lt page z))
         two_parts x y y' z page less touch more = grind (arith, nat_tests, less, touch, more)
 
         long : (b : Range) (ranges : List Range) → AreApart (b ∷ ranges) → b.from < b.to
@@ -79,7 +81,8 @@ module _ (same : Prot → Prot → Bool) where
         either false true p q o e = ap Some e
         either false false p q o e = refl
 
-        by : (t : Bool) → (a.to == b.from && same a.prot b.prot) ≡ t → prot_in (joined (grown a b) ranges) page ≡ prot_in (grown a b ∷ ranges) page → prot_in (joined b ranges) page ≡ prot_in (b ∷ ranges) page
+        by : (t : Bool) → (a.to == b.from && same a.prot b.prot) ≡ t → prot_in (joined (grown a b) ranges) page ≡ prot_in (grown a b ∷ ranges) page →
+            prot_in (joined b ranges) page ≡ prot_in (b ∷ ranges) page
             → prot_in (cond t (joined (grown a b) ranges) (a ∷ joined b ranges)) page ≡ prot_in (a ∷ b ∷ ranges) page
         by true e one two =
             let at = touching e in
@@ -88,7 +91,8 @@ module _ (same : Prot → Prot → Bool) where
         by false e one two = ap (cond (nat_le a.from page && nat_lt page a.to) (Some a.prot)) two
 
     -- so their rows are what `maps` shows of a process whose pages the ranges cover
-    pub maps-joined : (w : World) (p : ℕ) (ranges : List Range) → AreApart ranges → ((page : ℕ) → prot_in ranges page ≡ option_map (λ (q : Page). q.prot) (pages w p page))
+    pub maps-joined : (w : World) (p : ℕ) (ranges : List Range) → AreApart ranges →
+        ((page : ℕ) → prot_in ranges page ≡ option_map (λ (q : Page). q.prot) (pages w p page))
         → AreMaps (pages w p) (map row_of (all_joined ranges))
     maps-joined w p [] h covered = ([], refl, tt, covered)
     maps-joined w p (a ∷ ranges) h covered = (joined a ranges, refl, longest a ranges h, λ page. cover a ranges h page ∙ covered page)

@@ -33,7 +33,8 @@ sum-below : (x a n : ℕ) → x < a → sum_of (λ f. cond (f == x) 1 0) (number
 sum-below x a zero h = refl
 sum-below x a (suc n) h = let rest = sum-below x (a + 1) n (omega (arith, h)) in by (a == x) refl rest
   where
-    by : (b : Bool) → (a == x) ≡ b → sum_of (λ f. cond (f == x) 1 0) (numbers (a + 1) n) ≡ 0 → cond b 1 0 + sum_of (λ f. cond (f == x) 1 0) (numbers (a + 1) n) ≡ 0
+    by : (b : Bool) → (a == x) ≡ b → sum_of (λ f. cond (f == x) 1 0) (numbers (a + 1) n) ≡ 0 →
+        cond b 1 0 + sum_of (λ f. cond (f == x) 1 0) (numbers (a + 1) n) ≡ 0
     by true is rest = absurd (grind (arith, nat_tests, is, h))
     by false is rest = omega (arith, rest)
 
@@ -41,7 +42,8 @@ sum-once : (x a n : ℕ) → a ≤ x → x < a + n → sum_of (λ f. cond (f == 
 sum-once x a zero low high = absurd (omega (arith, low, high))
 sum-once x a (suc n) low high = by (a == x) refl (λ more. sum-once x (a + 1) n more (omega (arith, high)))
   where
-    by : (b : Bool) → (a == x) ≡ b → (a + 1 ≤ x → sum_of (λ f. cond (f == x) 1 0) (numbers (a + 1) n) ≡ 1) → cond b 1 0 + sum_of (λ f. cond (f == x) 1 0) (numbers (a + 1) n) ≡ 1
+    by : (b : Bool) → (a == x) ≡ b → (a + 1 ≤ x → sum_of (λ f. cond (f == x) 1 0) (numbers (a + 1) n) ≡ 1) →
+        cond b 1 0 + sum_of (λ f. cond (f == x) 1 0) (numbers (a + 1) n) ≡ 1
     by true is later = let less : x < a + 1 = grind (arith, nat_tests, is) in let rest = sum-below x (a + 1) n less in omega (arith, rest)
     by false is later = let more : a + 1 ≤ x = grind (arith, nat_tests, is, low) in let rest = later more in omega (arith, rest)
 
@@ -50,7 +52,8 @@ pub sum-length : (n : ℕ) (fs : List ℕ) → ((f : ℕ) → 0 < how_many (λ g
 sum-length n [] below = sum-none (numbers 0 n)
 sum-length n (x ∷ fs) below =
     sum-plus (λ f. cond (f == x) 1 0) (λ f. how_many (λ g. f == g) fs) (numbers 0 n)
-    ∙ both _ _ _ (sum-once x 0 n (omega arith) (let less = below x (first (x == x) _ (same-itself x)) in omega (arith, less))) (sum-length n fs (λ f h. below f (more (f == x) _ h)))
+    ∙ both _ _ _ (sum-once x 0 n (omega arith) (let less = below x (first (x == x) _ (same-itself x)) in omega (arith, less)))
+    (sum-length n fs (λ f h. below f (more (f == x) _ h)))
   where
     first : (b : Bool) (k : ℕ) → b ≡ true → 0 < cond b 1 0 + k
     first true k h = omega arith
@@ -82,10 +85,12 @@ sum-ones a (suc n) = let rest = sum-ones (a + 1) n in omega (arith, rest)
 -- ---- the frames
 
 -- a list that has exactly the free frames, each once, is as long as there are free frames
-pub free-length : (m : Setting) (l : Ledger) (fs : List ℕ) → ((f : ℕ) → how_many (λ g. f == g) fs ≡ cond (nat_lt f m.frames && is_free l f) 1 0) → length fs ≡ length (free_frames m l)
+pub free-length : (m : Setting) (l : Ledger) (fs : List ℕ) → ((f : ℕ) → how_many (λ g. f == g) fs ≡ cond (nat_lt f m.frames && is_free l f) 1 0) →
+    length fs ≡ length (free_frames m l)
 free-length m l fs once =
     sym (sum-length m.frames fs (λ f h. below f (nat_lt f m.frames) refl (once f) h))
-    ∙ sum-same _ (λ f. cond (is_free l f) 1 0) 0 m.frames (λ f less. once f ∙ ap (λ b. cond (b && is_free l f) 1 0) (is_less f less)) ∙ sum-counts (is_free l) (numbers 0 m.frames)
+    ∙ sum-same _ (λ f. cond (is_free l f) 1 0) 0 m.frames (λ f less. once f ∙ ap (λ b. cond (b && is_free l f) 1 0) (is_less f less))
+    ∙ sum-counts (is_free l) (numbers 0 m.frames)
   where
     is_less : (f : ℕ) → f < 0 + m.frames → nat_lt f m.frames ≡ true
     is_less f h = grind (arith, nat_tests, h)
@@ -95,7 +100,8 @@ free-length m l fs once =
     below f false is e h = absurd (omega (arith, e, h))
 
 -- a list without repetition that has exactly the free frames
-pub free-once : (m : Setting) (l : Ledger) (fs : List ℕ) → ((f : ℕ) → how_many (λ g. f == g) fs ≤ 1) → ((f : ℕ) → is_in f fs ≡ true → f < m.frames) → ((f : ℕ) → f < m.frames → is_in f fs ≡ is_free l f)
+pub free-once : (m : Setting) (l : Ledger) (fs : List ℕ) → ((f : ℕ) → how_many (λ g. f == g) fs ≤ 1) → ((f : ℕ) → is_in f fs ≡ true → f < m.frames) →
+    ((f : ℕ) → f < m.frames → is_in f fs ≡ is_free l f)
     → (f : ℕ) → how_many (λ g. f == g) fs ≡ cond (nat_lt f m.frames && is_free l f) 1 0
 free-once m l fs once below same f = by (nat_lt f m.frames) refl (is_in f fs) (any-counts (λ g. f == g) fs) refl
   where
@@ -103,7 +109,8 @@ free-once m l fs once below same f = by (nat_lt f m.frames) refl (is_in f fs) (a
     count n true few e = let z : 0 < n = grind (arith, nat_tests, e) in omega (arith, few, z)
     count n false few e = let z : n ≡ 0 = grind (arith, nat_tests, e) in z
 
-    by : (t : Bool) → nat_lt f m.frames ≡ t → (b : Bool) → b ≡ nat_lt 0 (how_many (λ g. f == g) fs) → is_in f fs ≡ b → how_many (λ g. f == g) fs ≡ cond (t && is_free l f) 1 0
+    by : (t : Bool) → nat_lt f m.frames ≡ t → (b : Bool) → b ≡ nat_lt 0 (how_many (λ g. f == g) fs) → is_in f fs ≡ b →
+        how_many (λ g. f == g) fs ≡ cond (t && is_free l f) 1 0
     by true is b e at = count _ b (once f) e ∙ ap (λ b. cond b 1 0) (sym at ∙ same f (grind (arith, nat_tests, is)))
     by false is true e at = let less = below f at in absurd (grind (arith, nat_tests, is, less))
     by false is false e at = count _ false (once f) e
@@ -133,7 +140,16 @@ frames-add m l s =
 -- `stat` without swap and active frames: the frames that aren't free are the inactive ones
 pub totals-plain : (m : Setting) (w : World) (l : Ledger) (fs : List ℕ) → IsSound m l → l.active ≡ [] → l.flight ≡ [] → l.on ≡ []
     → ((f : ℕ) → how_many (λ g. f == g) fs ≡ cond (nat_lt f m.frames && is_free l f) 1 0)
-    → totals m w l ≡ record { frames = m.frames; free = length fs; active = 0; inactive = m.frames - length fs; flight = 0; slots = 0; free_slots = 0; processes = length w }
+    → totals m w l ≡ record {
+      frames = m.frames;
+      free = length fs;
+      active = 0;
+      inactive = m.frames - length fs;
+      flight = 0;
+      slots = 0;
+      free_slots = 0;
+      processes = length w;
+    }
 totals-plain m w l fs s active flight on once =
     let free = free-length m l fs once in
     let inactive : length l.inactive ≡ m.frames - length fs = let a = frames-add m l s in let none = ap length active in omega (arith, a, none, free) in

@@ -38,26 +38,33 @@ pub record LoadKept (m : Setting) (l : Ledger) (t : Slot) (l' : Ledger) : Type 0
   pub sound : IsSound m l'
   pub steady : (k : Key) (r : Slot) → entry l k ≡ Some (InSlot r) → entry l' k ≡ Some (InSlot r)
 
-pub load-kept : (m : Setting) (sp : Sparing) (l : Ledger) (t : Slot) (notes : List Note) → IsSound m l → frame_at l t ≡ None → 0 < slot_entries l t → Takes m sp l None notes (Loaded t) → LoadKept m l t (after_notes l notes)
+pub load-kept : (m : Setting) (sp : Sparing) (l : Ledger) (t : Slot) (notes : List Note) → IsSound m l → frame_at l t ≡ None → 0 < slot_entries l t →
+    Takes m sp l None notes (Loaded t) → LoadKept m l t (after_notes l notes)
 load-kept m sp l t notes s out named takes =
     let passed = seeks-kept m (sp l None) l takes.sought s takes.seeks in
     let l1 = after_notes l takes.sought in
-    subst (λ ns. LoadKept m l t (after_notes l ns)) (sym takes.whole) (subst (LoadKept m l t) (sym (after_notes-append l takes.sought (Loaded t takes.frame ∷ [])))
+    subst (λ ns. LoadKept m l t (after_notes l ns)) (sym takes.whole)
+    (subst (LoadKept m l t) (sym (after_notes-append l takes.sought (Loaded t takes.frame ∷ [])))
     (record {
-      sound = loaded-kept m no_excuse l1 t takes.frame passed.sound (passed.keeps.absent t (frame_at-none t l.cache out) named) (let a = passed.keeps.more t in omega (arith, a, named)) takes.in_range (unused l1 takes.frame takes.free);
+      sound = loaded-kept m no_excuse l1 t takes.frame passed.sound (passed.keeps.absent t (frame_at-none t l.cache out) named) (let a = passed.keeps.more t in
+          omega (arith, a, named)) takes.in_range (unused l1 takes.frame takes.free);
       steady = λ k r h. passed.keeps.steady k (ap (is_steady (sp l None).frame) h) ∙ h;
     }))
 
-map-kept : (m : Setting) (l : Ledger) (k : Key) (f : ℕ) (t : Slot) → IsSound m l → entry l k ≡ Some (InSlot t) → frame_at l t ≡ Some f → IsSound m (after_notes l (Mapped k.0 (address_of k.1) f ∷ []))
-map-kept m l k f t s at is = subst (λ q. IsSound m (set_entry q (InFrame f false) l)) (sym (key_at-address k)) (mapped-kept m no_excuse l k f t s at (frame_at-some f t l.cache is))
+map-kept : (m : Setting) (l : Ledger) (k : Key) (f : ℕ) (t : Slot) → IsSound m l → entry l k ≡ Some (InSlot t) → frame_at l t ≡ Some f →
+    IsSound m (after_notes l (Mapped k.0 (address_of k.1) f ∷ []))
+map-kept m l k f t s at is = subst (λ q. IsSound m (set_entry q (InFrame f false) l)) (sym (key_at-address k))
+    (mapped-kept m no_excuse l k f t s at (frame_at-some f t l.cache is))
 
-pub comes-kept : (m : Setting) (sp : Sparing) (l : Ledger) (write : Bool) (k : Key) (notes : List Note) → IsSound m l → ComesIn m sp l k (need write l (entry l k)) notes → IsSound m (after_notes l notes)
+pub comes-kept : (m : Setting) (sp : Sparing) (l : Ledger) (write : Bool) (k : Key) (notes : List Note) → IsSound m l →
+    ComesIn m sp l k (need write l (entry l k)) notes → IsSound m (after_notes l notes)
 comes-kept m sp l write k notes s h = by write (entry l k) refl h
   where
     none : notes ≡ [] → IsSound m (after_notes l notes)
     none e = subst (λ ns. IsSound m (after_notes l ns)) (sym e) s
 
-    slot : (t : Slot) → entry l k ≡ Some (InSlot t) → (o : Option ℕ) → frame_at l t ≡ o → ComesIn m sp l k (need_of_slot t o) notes → IsSound m (after_notes l notes)
+    slot : (t : Slot) → entry l k ≡ Some (InSlot t) → (o : Option ℕ) → frame_at l t ≡ o → ComesIn m sp l k (need_of_slot t o) notes →
+        IsSound m (after_notes l notes)
     slot t at None out q =
         let named = how_many-found (names_slot t) k l.entries (InSlot t) at (slot-itself t) in
         let load = load-kept m sp l t q.0 s out named q.2 in
@@ -91,7 +98,8 @@ shared-is l g h = by (nat_lt 1 (map_count l g)) refl (slot_of l g) refl h
 -- what shares the frame does so after a pass that leaves the frame alone
 shared-stays : (spared : ℕ → Bool) (l l' : Ledger) (g : ℕ) → spared g ≡ true → Keeps spared l l' → 0 < map_count l g → IsSharedBy l g → IsSharedBy l' g
 shared-stays spared l l' g alone keeps in_use (ByFrame two) = ByFrame (let e = keeps.mapped_same g alone in omega (arith, e, two))
-shared-stays spared l l' g alone keeps in_use (BySlot t pair named) = BySlot t (keeps.pairs_kept t g alone in_use pair) (let a = keeps.more t in omega (arith, a, named))
+shared-stays spared l l' g alone keeps in_use (BySlot t pair named) =
+    BySlot t (keeps.pairs_kept t g alone in_use pair) (let a = keeps.more t in omega (arith, a, named))
 
 blank-steady : (spared : ℕ → Bool) (o : Option Entry) → IsBlank o → is_steady spared o ≡ true
 blank-steady spared None h = refl
@@ -99,7 +107,8 @@ blank-steady spared (Some Zero) h = refl
 blank-steady spared (Some (InFrame g seen)) h = absurd h
 blank-steady spared (Some (InSlot t)) h = absurd h
 
-pub made-kept : (m : Setting) (sp : Sparing) (l : Ledger) (write : Bool) (k : Key) (notes : List Note) → Pins sp → IsSound m l → IsMade m sp l k (need write l (entry l k)) notes → IsSound m (after_notes l notes)
+pub made-kept : (m : Setting) (sp : Sparing) (l : Ledger) (write : Bool) (k : Key) (notes : List Note) → Pins sp → IsSound m l →
+    IsMade m sp l k (need write l (entry l k)) notes → IsSound m (after_notes l notes)
 made-kept m sp l write k notes pins s h = by write (entry l k) refl h
   where
     none : notes ≡ [] → IsSound m (after_notes l notes)
@@ -110,22 +119,27 @@ made-kept m sp l write k notes pins s h = by write (entry l k) refl h
         let passed = seeks-kept m (sp l None) l takes.sought s takes.seeks in
         let l1 = after_notes l takes.sought in
         let same = passed.keeps.steady k (blank-steady (sp l None).frame (entry l k) blank) in
-        subst (λ ns. IsSound m (after_notes l ns)) (sym takes.whole) (subst (IsSound m) (sym (after_notes-append l takes.sought (New k.0 (address_of k.1) takes.frame ∷ [])))
+        subst (λ ns. IsSound m (after_notes l ns)) (sym takes.whole)
+        (subst (IsSound m) (sym (after_notes-append l takes.sought (New k.0 (address_of k.1) takes.frame ∷ [])))
         (subst (λ q. IsSound m (to_inactive_head takes.frame (set_entry q (InFrame takes.frame false) l1))) (sym (key_at-address k))
         (new-kept m no_excuse l1 k takes.frame passed.sound (subst IsBlank (sym same) blank) takes.in_range (unused l1 takes.frame takes.free))))
 
-    split : (g : ℕ) (seen : Bool) → entry l k ≡ Some (InFrame g seen) → IsSharedBy l g → Takes m sp l (Some g) notes (Copied k.0 (address_of k.1)) → IsSound m (after_notes l notes)
+    split : (g : ℕ) (seen : Bool) → entry l k ≡ Some (InFrame g seen) → IsSharedBy l g → Takes m sp l (Some g) notes (Copied k.0 (address_of k.1)) →
+        IsSound m (after_notes l notes)
     split g seen at shared takes =
         let passed = seeks-kept m (sp l (Some g)) l takes.sought s takes.seeks in
         let l1 = after_notes l takes.sought in
         let alone = pins l g in
         let same = passed.keeps.steady k (ap (is_steady (sp l (Some g)).frame) at ∙ alone) ∙ at in
         let found = how_many-found (names_frame g) k l.entries (InFrame g seen) at (same-itself g) in
-        subst (λ ns. IsSound m (after_notes l ns)) (sym takes.whole) (subst (IsSound m) (sym (after_notes-append l takes.sought (Copied k.0 (address_of k.1) takes.frame ∷ [])))
+        subst (λ ns. IsSound m (after_notes l ns)) (sym takes.whole)
+        (subst (IsSound m) (sym (after_notes-append l takes.sought (Copied k.0 (address_of k.1) takes.frame ∷ [])))
         (subst (λ q. IsSound m (to_inactive_head takes.frame (set_entry q (InFrame takes.frame false) l1))) (sym (key_at-address k))
-        (copied-kept m no_excuse l1 k takes.frame g seen passed.sound same (shared-stays (sp l (Some g)).frame l l1 g alone passed.keeps found shared) takes.in_range (unused l1 takes.frame takes.free))))
+        (copied-kept m no_excuse l1 k takes.frame g seen passed.sound same (shared-stays (sp l (Some g)).frame l l1 g alone passed.keeps found shared)
+        takes.in_range (unused l1 takes.frame takes.free))))
 
-    maybe : (g : ℕ) (seen : Bool) → entry l k ≡ Some (InFrame g seen) → (b : Bool) → is_shared l g ≡ b → IsMade m sp l k (cond b (CopyOnWrite g) Ready) notes → IsSound m (after_notes l notes)
+    maybe : (g : ℕ) (seen : Bool) → entry l k ≡ Some (InFrame g seen) → (b : Bool) → is_shared l g ≡ b → IsMade m sp l k (cond b (CopyOnWrite g) Ready) notes →
+        IsSound m (after_notes l notes)
     maybe g seen at true is q = split g seen at (shared-is l g is) q
     maybe g seen at false is q = none q
 
@@ -134,7 +148,8 @@ made-kept m sp l write k notes pins s h = by write (entry l k) refl h
     never t (Some f) q = q
 
     by : (write : Bool) (o : Option Entry) → entry l k ≡ o → IsMade m sp l k (need write l o) notes → IsSound m (after_notes l notes)
-    by false None is q = subst (λ ns. IsSound m (after_notes l ns)) (sym q) (subst (λ x. IsSound m (set_entry x Zero l)) (sym (key_at-address k)) (zeroed-kept m no_excuse l k s (subst IsBlank (sym is) tt)))
+    by false None is q = subst (λ ns. IsSound m (after_notes l ns)) (sym q)
+        (subst (λ x. IsSound m (set_entry x Zero l)) (sym (key_at-address k)) (zeroed-kept m no_excuse l k s (subst IsBlank (sym is) tt)))
     by true None is q = fresh (subst IsBlank (sym is) tt) q
     by false (Some Zero) is q = none q
     by true (Some Zero) is q = fresh (subst IsBlank (sym is) tt) q
@@ -163,7 +178,8 @@ drop_at-kept m l write came k s = by (entry l k)
 
     slot : (o : Option Slot) → IsSound m (after_notes l (drop_of_slot m write came l o))
     slot None = s
-    slot (Some t) = when_kept t (not (in_flight l t) && slot_entries l t == 0 && (write || came && is_full m l)) (λ h. dropped t (slot_entries l t == 0) (write || came && is_full m l) h)
+    slot (Some t) = when_kept t (not (in_flight l t) && slot_entries l t == 0 && (write || came && is_full m l))
+        (λ h. dropped t (slot_entries l t == 0) (write || came && is_full m l) h)
 
     by : (o : Option Entry) → IsSound m (after_notes l (drop_of_entry m write came l o))
     by None = s
@@ -172,7 +188,8 @@ drop_at-kept m l write came k s = by (entry l k)
     by (Some (InSlot t)) = s
 
 -- ---- a page
-pub serves-kept : (m : Setting) (sp : Sparing) (l : Ledger) (write : Bool) (k : Key) (notes : List Note) → Pins sp → IsSound m l → Serves m sp l write k notes → IsSound m (after_notes l notes)
+pub serves-kept : (m : Setting) (sp : Sparing) (l : Ledger) (write : Bool) (k : Key) (notes : List Note) → Pins sp → IsSound m l → Serves m sp l write k notes →
+    IsSound m (after_notes l notes)
 serves-kept m sp l write k notes pins s h =
     let l1 = after_notes l h.coming in
     let s1 = comes-kept m sp l write k h.coming s h.comes_in in
@@ -183,7 +200,8 @@ serves-kept m sp l write k notes pins s h =
     (subst (IsSound m) (sym (after_notes-append l (h.coming ++ h.making) last))
     (drop_at-kept m now write (was_slot (need write l (entry l k))) k s2))
 
-pub runs_out-kept : (m : Setting) (sp : Sparing) (l : Ledger) (write : Bool) (k : Key) (notes : List Note) (out : OutOf) → IsSound m l → RunsOut m sp l write k notes out → IsSound m (after_notes l notes)
+pub runs_out-kept : (m : Setting) (sp : Sparing) (l : Ledger) (write : Bool) (k : Key) (notes : List Note) (out : OutOf) → IsSound m l →
+    RunsOut m sp l write k notes out → IsSound m (after_notes l notes)
 runs_out-kept m sp l write k notes out s h =
     let l1 = after_notes l h.coming in
     subst (λ ns. IsSound m (after_notes l ns)) (sym h.whole) (subst (IsSound m) (sym (after_notes-append l h.coming h.sought))
@@ -193,15 +211,20 @@ runs_out-kept m sp l write k notes out s h =
     before (inl e) = subst (λ ns. IsSound m (after_notes l ns)) (sym e) s
     before (inr q) = comes-kept m sp l write k h.coming s q
 
-pub touches-kept : (m : Setting) (w : World) (l : Ledger) (write : Bool) (k : Key) (notes : List Note) (end : Option Stop) → IsSound m l → Touches m w l write k notes end → IsSound m (after_notes l notes)
+pub touches-kept : (m : Setting) (w : World) (l : Ledger) (write : Bool) (k : Key) (notes : List Note) (end : Option Stop) → IsSound m l →
+    Touches m w l write k notes end → IsSound m (after_notes l notes)
 touches-kept m w l write k notes None s h = serves-kept m (sparing w) l write k notes (sparing-pins w) s h.1
 touches-kept m w l write k notes (Some Denied) s h = subst (λ ns. IsSound m (after_notes l ns)) (sym h.1) s
 touches-kept m w l write k notes (Some (Starved out)) s h = runs_out-kept m (sparing w) l write k notes out s h.1
 touches-kept m w l write k notes (Some Lost) s h = (seeks-kept m (sparing w l None) l notes s h.1.seeks).sound
 
-pub page_events-kept : (m : Setting) (l : Ledger) (write : Bool) (k : Key) (notes : List Note) (end : Option Stop) → IsSound m (after_notes l notes) → IsSound m (after_all l (page_events write k notes end))
-page_events-kept m l write k notes None s = subst (IsSound m) (sym (after_all-append l (note_events notes) (Used write k ∷ []) ∙ ap (after_use write k) (note_events-all l notes))) (after_use-kept m no_excuse (after_notes l notes) write k s)
+pub page_events-kept : (m : Setting) (l : Ledger) (write : Bool) (k : Key) (notes : List Note) (end : Option Stop) → IsSound m (after_notes l notes) →
+    IsSound m (after_all l (page_events write k notes end))
+page_events-kept m l write k notes None s = subst (IsSound m) (sym (after_all-append l (note_events notes) (Used write k ∷ []) ∙ ap (after_use write k)
+    (note_events-all l notes))) (after_use-kept m no_excuse (after_notes l notes) write k s)
 page_events-kept m l write k notes (Some stop) s = subst (IsSound m) (sym (note_events-all l notes)) s
 
-pub accesses-kept : (m : Setting) (w : World) (l : Ledger) (p : ℕ) (pages : List (Bool × ℕ)) (events : List Event) (end : End) → IsSound m l → Accesses m w l p pages events end → IsSound m (after_all l events)
-accesses-kept m w l p pages events end s h = accesses-keep (IsSound m) m w p (λ l write page notes end s t. page_events-kept m l write (p, page) notes end (touches-kept m w l write (p, page) notes end s t)) l pages events end s h
+pub accesses-kept : (m : Setting) (w : World) (l : Ledger) (p : ℕ) (pages : List (Bool × ℕ)) (events : List Event) (end : End) → IsSound m l →
+    Accesses m w l p pages events end → IsSound m (after_all l events)
+accesses-kept m w l p pages events end s h = accesses-keep (IsSound m) m w p
+    (λ l write page notes end s t. page_events-kept m l write (p, page) notes end (touches-kept m w l write (p, page) notes end s t)) l pages events end s h

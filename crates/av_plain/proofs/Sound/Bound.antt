@@ -7,7 +7,7 @@ use Rattle.av_base.specs.Limits.{most_processes}
 use Rattle.av_base.specs.Words.{how_many}
 use Rattle.av_base.specs.declared.slot.Slot.{Slot}
 use Rattle.av_plain.specs.Ledger.{Entry, InFrame, InSlot, Key, Ledger, Setting, Zero, entry, key_cmp, map_count, names_frame, names_slot, same_slot, slot_entries}
-use Rattle.av_plain.specs.Sound.{AllSound, kin}
+use Rattle.av_plain.specs.Sound.{AllSound, name_one}
 use Rattle.av_plain.specs.World.{World, lives}
 use Rattle.av_plain.proofs.Event.{how_many-none, how_many-or}
 use Rattle.av_plain.proofs.Ledger.{same_key, same_key-is}
@@ -19,14 +19,16 @@ abbrev Entries : Type 0
 Entries = List (Key × Entry)
 
 -- what the rest has, the whole has
-found-later : (e : Key × Entry) (es : Entries) (q : Key) (d : Entry) → T (is_sorted key_cmp (e ∷ es)) → find key_cmp q es ≡ Some d → find key_cmp q (e ∷ es) ≡ Some d
+found-later : (e : Key × Entry) (es : Entries) (q : Key) (d : Entry) → T (is_sorted key_cmp (e ∷ es)) → find key_cmp q es ≡ Some d →
+    find key_cmp q (e ∷ es) ≡ Some d
 found-later e es q d sorted at = by (same_key q e.0) refl
   where
     never : {o : Option Entry} → o ≡ None → o ≡ Some d → ⊥
     never a b = cc
 
     by : (b : Bool) → same_key q e.0 ≡ b → cond b (Some e.1) (find key_cmp q es) ≡ Some d
-    by true is = absurd (never (find_below keys_total (λ _. true) e.0 es (both_first _ _ sorted)) (ap (λ k. find key_cmp k es) (sym (same_key-is q e.0 is)) ∙ at))
+    by true is = absurd (never (find_below keys_total (λ _. true) e.0 es (both_first _ _ sorted))
+        (ap (λ k. find key_cmp k es) (sym (same_key-is q e.0 is)) ∙ at))
     by false is = at
 
 -- a key that the front has, the rest has not
@@ -44,19 +46,23 @@ front e es = by (same_key e.0 e.0) (grind (arith, nat_tests))
     by false is = cc
 
 -- where no key's entry passes none is counted
-pub none-passes : (test : Key × Entry → Bool) (es : Entries) → T (is_sorted key_cmp es) → ((q : Key) (d : Entry) → find key_cmp q es ≡ Some d → test (q, d) ≡ false) → how_many test es ≡ 0
+pub none-passes : (test : Key × Entry → Bool) (es : Entries) → T (is_sorted key_cmp es) →
+    ((q : Key) (d : Entry) → find key_cmp q es ≡ Some d → test (q, d) ≡ false) → how_many test es ≡ 0
 none-passes test [] sorted h = refl
-none-passes test (e ∷ es) sorted h = sum _ _ (h e.0 e.1 (front e es)) (none-passes test es (both_second _ _ sorted) (λ q d at. h q d (found-later e es q d sorted at)))
+none-passes test (e ∷ es) sorted h = sum _ _ (h e.0 e.1 (front e es))
+    (none-passes test es (both_second _ _ sorted) (λ q d at. h q d (found-later e es q d sorted at)))
   where
     sum : (b : Bool) (n : ℕ) → b ≡ false → n ≡ 0 → cond b 1 0 + n ≡ 0
     sum b n is z = rw (is, z) refl
 
 -- where all keys that pass are one, one is counted at most
 pub one-passes : (test : Key × Entry → Bool) (es : Entries) → T (is_sorted key_cmp es)
-    → ((q r : Key) (d e : Entry) → find key_cmp q es ≡ Some d → test (q, d) ≡ true → find key_cmp r es ≡ Some e → test (r, e) ≡ true → q ≡ r) → how_many test es ≤ 1
+    → ((q r : Key) (d e : Entry) → find key_cmp q es ≡ Some d → test (q, d) ≡ true → find key_cmp r es ≡ Some e → test (r, e) ≡ true → q ≡ r) →
+    how_many test es ≤ 1
 one-passes test [] sorted h = omega arith
 one-passes test (e ∷ es) sorted h =
-    by (test e) refl (one-passes test es (both_second _ _ sorted) (λ q r d d' at p at' p'. h q r d d' (found-later e es q d sorted at) p (found-later e es r d' sorted at') p'))
+    by (test e) refl (one-passes test es (both_second _ _ sorted) (λ q r d d' at p at' p'. h q r d d' (found-later e es q d sorted at) p
+    (found-later e es r d' sorted at') p'))
   where
     fails : test e ≡ true → (q : Key) (d : Entry) → find key_cmp q es ≡ Some d → (b : Bool) → test (q, d) ≡ b → test (q, d) ≡ false
     fails is q d at true p = absurd (not-later e es q d sorted at (h q e.0 d e.1 (found-later e es q d sorted at) p (front e es) is))
@@ -111,7 +117,8 @@ none-anywhere test (e ∷ es) h = sum (test e) (e.0.0 == e.0.0) _ _ (grind (arit
     sum false b n k is h z = omega (arith, z)
 
 -- one entry a process, and each of a process that lives
-counted : (test : Key × Entry → Bool) (es : Entries) (w : World) → ((p : ℕ) → how_many (of p test) es ≤ 1) → ((p : ℕ) → 0 < how_many (of p test) es → lives w p ≡ true) → how_many test es ≤ length w
+counted : (test : Key × Entry → Bool) (es : Entries) (w : World) → ((p : ℕ) → how_many (of p test) es ≤ 1) →
+    ((p : ℕ) → 0 < how_many (of p test) es → lives w p ≡ true) → how_many test es ≤ length w
 counted test es [] one alive = let z = none-anywhere test es (λ p. none (how_many (of p test) es) (λ h. never (alive p h))) in omega (arith, z)
   where
     never : ◌≡◌ {A = Bool} false true → ⊥
@@ -123,7 +130,8 @@ counted test es [] one alive = let z = none-anywhere test es (λ p. none (how_ma
 counted test es (x ∷ w) one alive =
     let parts = split test x.0 es in
     let here = one x.0 in
-    let rest = counted (not_of x.0 test) es w (λ p. let a = less p in let b = one p in omega (arith, a, b)) (λ p h. later p h (eq_by_cmp nat_cmp p x.0) refl (alive p (let a = less p in omega (arith, a, h)))) in
+    let rest = counted (not_of x.0 test) es w (λ p. let a = less p in let b = one p in omega (arith, a, b))
+    (λ p h. later p h (eq_by_cmp nat_cmp p x.0) refl (alive p (let a = less p in omega (arith, a, h)))) in
     sum _ _ _ _ parts here rest
   where
     less : (p : ℕ) → how_many (of p (not_of x.0 test)) es ≤ how_many (of p test) es
@@ -137,8 +145,10 @@ counted test es (x ∷ w) one alive =
     cmp-is : (q p : ℕ) → eq_by_cmp nat_cmp q p ≡ true → q ≡ p
     cmp-is q p h = grind (arith, nat_tests, h)
 
-    later : (p : ℕ) → 0 < how_many (of p (not_of x.0 test)) es → (b : Bool) → eq_by_cmp nat_cmp p x.0 ≡ b → is_some (cond b (Some x.1) (find nat_cmp p w)) ≡ true → lives w p ≡ true
-    later p h true is some = let z = how_many-none (of p (not_of x.0 test)) es (λ e. both (test e) (e.0.0 == x.0) (e.0.0 == p) (ap (λ y. e.0.0 == y) (sym (cmp-is p x.0 is)))) in absurd (omega (arith, h, z))
+    later : (p : ℕ) → 0 < how_many (of p (not_of x.0 test)) es → (b : Bool) → eq_by_cmp nat_cmp p x.0 ≡ b →
+        is_some (cond b (Some x.1) (find nat_cmp p w)) ≡ true → lives w p ≡ true
+    later p h true is some = let z = how_many-none (of p (not_of x.0 test)) es
+        (λ e. both (test e) (e.0.0 == x.0) (e.0.0 == p) (ap (λ y. e.0.0 == y) (sym (cmp-is p x.0 is)))) in absurd (omega (arith, h, z))
       where
         both : (a b c : Bool) → b ≡ c → ((a && not b) && c) ≡ false
         both true true c e = refl
@@ -150,13 +160,13 @@ counted test es (x ∷ w) one alive =
     sum : (n a b k : ℕ) → n ≡ a + b → a ≤ 1 → b ≤ k → n ≤ suc k
     sum n a b k e h i = omega (arith, e, h, i)
 
--- ---- of a sound ledger: entries that are kin two by two
+-- ---- of a sound ledger: entries that name one memory two by two
 
 abbrev at_entry : (Entry → Bool) → Key × Entry → Bool
 at_entry test e = test e.1
 
-abbrev AreKin : Ledger → (Entry → Bool) → Type 0
-AreKin l test = (d e : Entry) → test d ≡ true → test e ≡ true → kin l d e ≡ true
+abbrev NameOne : Ledger → (Entry → Bool) → Type 0
+NameOne l test = (d e : Entry) → test d ≡ true → test e ≡ true → name_one l d e ≡ true
 
 first_true : (a b : Bool) → (a && b) ≡ true → a ≡ true
 first_true true b h = refl
@@ -167,9 +177,11 @@ second_true true b h = h
 second_true false b h = cc
 
 -- a process has one of them at most
-kin-once : (m : Setting) (w : World) (l : Ledger) (test : Entry → Bool) (p : ℕ) → AllSound m w l → AreKin l test → how_many (of p (at_entry test)) l.entries ≤ 1
-kin-once m w l test p s kindred = one-passes (of p (at_entry test)) l.entries s.ledger.in_order
-    (λ q r d e at h at' i. same q r (here q r _ _ h i) (s.ledger.one q.0 q.1 r.1 d e at (ap (λ x. entry l (x, r.1)) (here q r _ _ h i) ∙ at') (kindred d e (first_true _ _ h) (first_true _ _ i))))
+name_one-once : (m : Setting) (w : World) (l : Ledger) (test : Entry → Bool) (p : ℕ) → AllSound m w l → NameOne l test →
+    how_many (of p (at_entry test)) l.entries ≤ 1
+name_one-once m w l test p s named_once = one-passes (of p (at_entry test)) l.entries s.ledger.in_order
+    (λ q r d e at h at' i. same q r (here q r _ _ h i) (s.ledger.one q.0 q.1 r.1 d e at (ap (λ x. entry l (x, r.1)) (here q r _ _ h i) ∙ at')
+    (named_once d e (first_true _ _ h) (first_true _ _ i))))
   where
     here : (q r : Key) (a b : Bool) → (a && q.0 == p) ≡ true → (b && r.0 == p) ≡ true → q.0 ≡ r.0
     here q r a b h i = same-is q.0 p (second_true a _ h) ∙ sym (same-is r.0 p (second_true b _ i))
@@ -178,7 +190,8 @@ kin-once m w l test p s kindred = one-passes (of p (at_entry test)) l.entries s.
     same q r h i = λ k. (h k, i k)
 
 -- a process that has an entry lives
-counted-lives : (m : Setting) (w : World) (l : Ledger) (test : Entry → Bool) (p : ℕ) → AllSound m w l → 0 < how_many (of p (at_entry test)) l.entries → lives w p ≡ true
+counted-lives : (m : Setting) (w : World) (l : Ledger) (test : Entry → Bool) (p : ℕ) → AllSound m w l →
+    0 < how_many (of p (at_entry test)) l.entries → lives w p ≡ true
 counted-lives m w l test p s h = by (lives w p) refl
   where
     fails : lives w p ≡ false → (q : Key) (d : Entry) → entry l q ≡ Some d → (b : Bool) → (q.0 == p) ≡ b → (test d && b) ≡ false
@@ -194,32 +207,34 @@ counted-lives m w l test p s h = by (lives w p) refl
 
     by : (b : Bool) → lives w p ≡ b → b ≡ true
     by true is = refl
-    by false is = let z : how_many (of p (at_entry test)) l.entries ≡ 0 = none-passes (of p (at_entry test)) l.entries s.ledger.in_order (λ q d at. fails is q d at (q.0 == p) refl) in absurd (omega (arith, h, z))
+    by false is = let z : how_many (of p (at_entry test)) l.entries ≡ 0 = none-passes (of p (at_entry test)) l.entries s.ledger.in_order
+        (λ q d at. fails is q d at (q.0 == p) refl) in absurd (omega (arith, h, z))
 
-kin-bound : (m : Setting) (w : World) (l : Ledger) (test : Entry → Bool) → AllSound m w l → AreKin l test → how_many (at_entry test) l.entries ≤ length w
-kin-bound m w l test s kindred = counted (at_entry test) l.entries w (λ p. kin-once m w l test p s kindred) (λ p h. counted-lives m w l test p s h)
+name_one-bound : (m : Setting) (w : World) (l : Ledger) (test : Entry → Bool) → AllSound m w l → NameOne l test → how_many (at_entry test) l.entries ≤ length w
+name_one-bound m w l test s named_once = counted (at_entry test) l.entries w (λ p. name_one-once m w l test p s named_once)
+    (λ p h. counted-lives m w l test p s h)
 
 -- at most as many entries name a frame as processes live
 pub map_count-bound : (m : Setting) (w : World) (l : Ledger) (f : ℕ) → AllSound m w l → map_count l f ≤ length w
-map_count-bound m w l f s = kin-bound m w l (names_frame f) s kindred
+map_count-bound m w l f s = name_one-bound m w l (names_frame f) s named_once
   where
-    kindred : AreKin l (names_frame f)
-    kindred Zero e h i = cc
-    kindred (InSlot t) e h i = cc
-    kindred (InFrame g seen) Zero h i = cc
-    kindred (InFrame g seen) (InSlot t) h i = cc
-    kindred (InFrame g seen) (InFrame j seen') h i = grind (arith, nat_tests, h, i)
+    named_once : NameOne l (names_frame f)
+    named_once Zero e h i = cc
+    named_once (InSlot t) e h i = cc
+    named_once (InFrame g seen) Zero h i = cc
+    named_once (InFrame g seen) (InSlot t) h i = cc
+    named_once (InFrame g seen) (InFrame j seen') h i = grind (arith, nat_tests, h, i)
 
 -- and as many a slot
 pub slot_entries-bound : (m : Setting) (w : World) (l : Ledger) (t : Slot) → AllSound m w l → slot_entries l t ≤ length w
-slot_entries-bound m w l t s = kin-bound m w l (names_slot t) s kindred
+slot_entries-bound m w l t s = name_one-bound m w l (names_slot t) s named_once
   where
-    kindred : AreKin l (names_slot t)
-    kindred Zero e h i = cc
-    kindred (InFrame g seen) e h i = cc
-    kindred (InSlot r) Zero h i = cc
-    kindred (InSlot r) (InFrame g seen) h i = cc
-    kindred (InSlot r) (InSlot q) h i = subst (λ y. same_slot y q ≡ true) (slot-is t r h) i
+    named_once : NameOne l (names_slot t)
+    named_once Zero e h i = cc
+    named_once (InFrame g seen) e h i = cc
+    named_once (InSlot r) Zero h i = cc
+    named_once (InSlot r) (InFrame g seen) h i = cc
+    named_once (InSlot r) (InSlot q) h i = subst (λ y. same_slot y q ≡ true) (slot-is t r h) i
 
 pub map_count-few : (m : Setting) (w : World) (l : Ledger) (f : ℕ) → AllSound m w l → map_count l f ≤ most_processes
 map_count-few m w l f s = let a = map_count-bound m w l f s in let b = s.world.few in omega (arith, a, b)

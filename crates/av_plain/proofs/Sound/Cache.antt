@@ -5,30 +5,59 @@ use Rattle.av_base.specs.Words.{how_many}
 use Rattle.av_base.specs.declared.slot.Slot.{Slot}
 use Rattle.av_plain.specs.Event.{change_entries, if_some, into_cache, to_active, to_inactive_head, to_inactive_tail}
 use Rattle.av_plain.specs.Ledger.{Entry, InFrame, InSlot, Key, Ledger, Setting, Zero, entry, key_cmp, map_count, names_frame, names_slot, same_slot, slot_entries}
-use Rattle.av_plain.specs.Sound.{IsSoundBut, flights, holders, kin, listings, pairs, slots, uses}
+use Rattle.av_plain.specs.Sound.{IsSoundBut, flights, holders, name_one, listings, pairs, slots, uses}
 use Rattle.av_plain.proofs.Event.{entry-unmap, how_many-map, how_many-or, how_many-same, map_count-unmap, to_slot, is_sorted-map}
 use Rattle.av_plain.proofs.Ledger.{how_many-found}
 use Rattle.av_plain.proofs.Sound.Counts.{listings-to_active, listings-to_head, listings-to_tail, pair-frame, same-is, slot-is, slot-itself, two_frames, two_slots}
-use Rattle.av_plain.proofs.Sound.Entries.{flag, kin-turned, listed_of}
+use Rattle.av_plain.proofs.Sound.Entries.{flag, name_one-turned, listed_of}
 
 -- ---- lists: a frame that is in use moves
 
 module _ (m : Setting) (x : Slot → ℕ) (l : Ledger) (f : ℕ) (s : IsSoundBut m x l) (in_use : 0 < uses l f) where
   moved_listed : (g : ℕ) → cond (g == f) 1 (listings l g) ≡ min 1 (uses l g)
-  moved_listed g = listed_of (g == f) (listings l g) (uses l g) (uses l g) (s.listed g) (λ is. subst (λ y. 0 < uses l y) (sym (same-is g f is)) in_use) (λ is. refl)
+  moved_listed g = listed_of (g == f) (listings l g) (uses l g) (uses l g) (s.listed g)
+      (λ is. subst (λ y. 0 < uses l y) (sym (same-is g f is)) in_use) (λ is. refl)
 
   pub head-kept : IsSoundBut m x (to_inactive_head f l)
-  head-kept = record { in_order = s.in_order; slots_once = s.slots_once; frames_once = s.frames_once; in_range = s.in_range; listed = λ g. listings-to_head f g l ∙ moved_listed g; flying = s.flying; used = s.used; one = s.one }
+  head-kept = record {
+    in_order = s.in_order;
+    slots_once = s.slots_once;
+    frames_once = s.frames_once;
+    in_range = s.in_range;
+    listed = λ g. listings-to_head f g l ∙ moved_listed g;
+    flying = s.flying;
+    used = s.used;
+    one = s.one;
+  }
 
   pub tail-kept : IsSoundBut m x (to_inactive_tail f l)
-  tail-kept = record { in_order = s.in_order; slots_once = s.slots_once; frames_once = s.frames_once; in_range = s.in_range; listed = λ g. listings-to_tail f g l ∙ moved_listed g; flying = s.flying; used = s.used; one = s.one }
+  tail-kept = record {
+    in_order = s.in_order;
+    slots_once = s.slots_once;
+    frames_once = s.frames_once;
+    in_range = s.in_range;
+    listed = λ g. listings-to_tail f g l ∙ moved_listed g;
+    flying = s.flying;
+    used = s.used;
+    one = s.one;
+  }
 
   pub active-kept : IsSoundBut m x (to_active f l)
-  active-kept = record { in_order = s.in_order; slots_once = s.slots_once; frames_once = s.frames_once; in_range = s.in_range; listed = λ g. listings-to_active f g l ∙ moved_listed g; flying = s.flying; used = s.used; one = s.one }
+  active-kept = record {
+    in_order = s.in_order;
+    slots_once = s.slots_once;
+    frames_once = s.frames_once;
+    in_range = s.in_range;
+    listed = λ g. listings-to_active f g l ∙ moved_listed g;
+    flying = s.flying;
+    used = s.used;
+    one = s.one;
+  }
 
 -- ---- a frame in use is put at a slot that is not
 
-pub put-kept : (m : Setting) (x : Slot → ℕ) (l : Ledger) (t : Slot) (f : ℕ) → IsSoundBut m x l → slots l t ≡ 0 → slot_entries l t ≡ 0 → holders l f ≡ 0 → 0 < map_count l f
+pub put-kept : (m : Setting) (x : Slot → ℕ) (l : Ledger) (t : Slot) (f : ℕ) → IsSoundBut m x l → slots l t ≡ 0 → slot_entries l t ≡ 0 →
+    holders l f ≡ 0 → 0 < map_count l f
     → IsSoundBut m x (into_cache t f true l)
 put-kept m x l t f s absent unnamed out in_use = record {
   in_order = s.in_order;
@@ -38,7 +67,7 @@ put-kept m x l t f s absent unnamed out in_use = record {
   listed = λ g. s.listed g ∙ same_use (g == f) g refl;
   flying = λ r. let h = s.flying r in omega (arith, h);
   used = λ r g h. still (same_slot r t) (g == f) r g refl refl h;
-  one = λ p a b d e if_some at' related. s.one p a b d e if_some at' (kin_of (p, a) (p, b) d e if_some at' related);
+  one = λ p a b d e if_some at' related. s.one p a b d e if_some at' (names_too (p, a) (p, b) d e if_some at' related);
 }
   where
     once_more : (b : Bool) (n : ℕ) → (b ≡ true → n ≡ 0) → n ≤ 1 → cond b 1 0 + n ≤ 1
@@ -56,26 +85,30 @@ put-kept m x l t f s absent unnamed out in_use = record {
     same_use true g is = let u = is_used g is in omega (arith, u)
     same_use false g is = omega arith
 
-    still : (b c : Bool) (r : Slot) (g : ℕ) → same_slot r t ≡ b → (g == f) ≡ c → 0 < cond (b && c) 1 0 + pairs l r g → 0 < flights l r + slot_entries l r + map_count l g + x r
+    still : (b c : Bool) (r : Slot) (g : ℕ) → same_slot r t ≡ b → (g == f) ≡ c → 0 < cond (b && c) 1 0 + pairs l r g →
+        0 < flights l r + slot_entries l r + map_count l g + x r
     still b true r g is is' h = let u = is_used g is' in omega (arith, u)
     still true false r g is is' h = s.used r g (omega (arith, h))
     still false false r g is is' h = s.used r g (omega (arith, h))
 
-    mixed : (q : Key) (g : ℕ) (r : Slot) → entry l q ≡ Some (InSlot r) → nat_lt 0 (cond (same_slot r t && g == f) 1 0 + pairs l r g) ≡ true → nat_lt 0 (pairs l r g) ≡ true
-    mixed q g r if_some h = let found = how_many-found (names_slot r) q l.entries (InSlot r) if_some (slot-itself r) in slot (same_slot r t) (g == f) g r refl found h
+    mixed : (q : Key) (g : ℕ) (r : Slot) → entry l q ≡ Some (InSlot r) → nat_lt 0 (cond (same_slot r t && g == f) 1 0 + pairs l r g) ≡ true →
+        nat_lt 0 (pairs l r g) ≡ true
+    mixed q g r if_some h = let found = how_many-found (names_slot r) q l.entries (InSlot r) if_some (slot-itself r) in
+        slot (same_slot r t) (g == f) g r refl found h
       where
-        slot : (b c : Bool) (g : ℕ) (r : Slot) → same_slot r t ≡ b → 0 < slot_entries l r → nat_lt 0 (cond (b && c) 1 0 + pairs l r g) ≡ true → nat_lt 0 (pairs l r g) ≡ true
+        slot : (b c : Bool) (g : ℕ) (r : Slot) → same_slot r t ≡ b → 0 < slot_entries l r → nat_lt 0 (cond (b && c) 1 0 + pairs l r g) ≡ true →
+            nat_lt 0 (pairs l r g) ≡ true
         slot true c g r is found h = let z = ap (slot_entries l) (slot-is r t is) ∙ unnamed in absurd (omega (arith, z, found))
         slot false c g r is found h = grind (arith, nat_tests, h)
 
-    kin_of : (k q : Key) (d e : Entry) → entry l k ≡ Some d → entry l q ≡ Some e → kin (into_cache t f true l) d e ≡ true → kin l d e ≡ true
-    kin_of k q Zero e if_some at' h = h
-    kin_of k q (InFrame g seen) Zero if_some at' h = h
-    kin_of k q (InFrame g seen) (InFrame j seen') if_some at' h = h
-    kin_of k q (InFrame g seen) (InSlot r) if_some at' h = mixed q g r at' h
-    kin_of k q (InSlot r) Zero if_some at' h = h
-    kin_of k q (InSlot r) (InFrame g seen) if_some at' h = mixed k g r if_some h
-    kin_of k q (InSlot r) (InSlot r') if_some at' h = h
+    names_too : (k q : Key) (d e : Entry) → entry l k ≡ Some d → entry l q ≡ Some e → name_one (into_cache t f true l) d e ≡ true → name_one l d e ≡ true
+    names_too k q Zero e if_some at' h = h
+    names_too k q (InFrame g seen) Zero if_some at' h = h
+    names_too k q (InFrame g seen) (InFrame j seen') if_some at' h = h
+    names_too k q (InFrame g seen) (InSlot r) if_some at' h = mixed q g r at' h
+    names_too k q (InSlot r) Zero if_some at' h = h
+    names_too k q (InSlot r) (InFrame g seen) if_some at' h = mixed k g r if_some h
+    names_too k q (InSlot r) (InSlot r') if_some at' h = h
 
 -- ---- entries of a frame become its slot
 
@@ -83,16 +116,22 @@ pub back : (c : Entry → Entry) (o : Option Entry) (d' : Entry) → option_map 
 back c None d' h = cc
 back c (Some d) d' h = (d, refl, cc)
 
-pub frames_left : (t : Slot) (f : ℕ) (l : Ledger) (j : ℕ) (b : Bool) → (j == f) ≡ b → map_count (change_entries f (λ _. InSlot t) l) j ≡ cond b 0 (map_count l j)
+pub frames_left : (t : Slot) (f : ℕ) (l : Ledger) (j : ℕ) (b : Bool) → (j == f) ≡ b →
+    map_count (change_entries f (λ _. InSlot t) l) j ≡ cond b 0 (map_count l j)
 frames_left t f l j true is = ap (map_count (change_entries f (λ _. InSlot t) l)) (same-is j f is) ∙ map_count-unmap f t l
 frames_left t f l j false is = how_many-map (λ e. names_frame j e.1) (λ e. (e.0, to_slot f t e.1)) l.entries ∙ how_many-same _ _ l.entries (λ e. each e.1)
   where
     each : (e : Entry) → names_frame j (to_slot f t e) ≡ names_frame j e
     each Zero = refl
-    each (InFrame g seen) = elim (f == g) as (λ b. (f == g) ≡ b → names_frame j (cond b (InSlot t) (InFrame g seen)) ≡ (j == g)) [ true ↦ λ i. sym (ap (λ y. j == y) (sym (same-is f g i)) ∙ is) | false ↦ λ i. refl ] refl
+    each (InFrame g seen) = elim (f == g) as (λ b. (f == g) ≡ b → names_frame j (cond b (InSlot t) (InFrame g seen)) ≡ (j == g)) [
+      | true ↦
+          λ i. sym (ap (λ y. j == y) (sym (same-is f g i)) ∙ is)
+      | false ↦ λ i. refl
+    ] refl
     each (InSlot r) = refl
 
-pub slots_more : (t : Slot) (f : ℕ) (l : Ledger) (r : Slot) → slot_entries (change_entries f (λ _. InSlot t) l) r ≡ slot_entries l r + cond (same_slot r t) (map_count l f) 0
+pub slots_more : (t : Slot) (f : ℕ) (l : Ledger) (r : Slot) → slot_entries (change_entries f (λ _. InSlot t) l) r ≡ slot_entries l r + cond
+    (same_slot r t) (map_count l f) 0
 slots_more t f l r = how_many-map (λ e. names_slot r e.1) (λ e. (e.0, to_slot f t e.1)) l.entries ∙ by (same_slot r t) refl
   where
     by : (b : Bool) → same_slot r t ≡ b → how_many (λ e. names_slot r (to_slot f t e.1)) l.entries ≡ slot_entries l r + cond b (map_count l f) 0
@@ -100,7 +139,11 @@ slots_more t f l r = how_many-map (λ e. names_slot r e.1) (λ e. (e.0, to_slot 
       where
         each : (e : Entry) → cond (names_slot r (to_slot f t e)) 1 0 ≡ cond (names_slot r e) 1 0 + cond (names_frame f e) 1 0
         each Zero = refl
-        each (InFrame g seen) = elim (f == g) as (λ b. cond (names_slot r (cond b (InSlot t) (InFrame g seen))) 1 0 ≡ 0 + cond b 1 0) [ true ↦ flag _ _ is | false ↦ refl ]
+        each (InFrame g seen) = elim (f == g) as (λ b. cond (names_slot r (cond b (InSlot t) (InFrame g seen))) 1 0 ≡ 0 + cond b 1 0) [
+          | true ↦
+              flag _ _ is
+          | false ↦ refl
+        ]
         each (InSlot q) = omega arith
     by false is = how_many-same _ _ l.entries (λ e. each e.1) ∙ plus_zero _
       where
@@ -112,7 +155,8 @@ slots_more t f l r = how_many-map (λ e. names_slot r e.1) (λ e. (e.0, to_slot 
         each (InFrame g seen) = elim (f == g) as (λ b. names_slot r (cond b (InSlot t) (InFrame g seen)) ≡ false) [ true ↦ is | false ↦ refl ]
         each (InSlot q) = refl
 
-pub unmapped-kept : (m : Setting) (x : Slot → ℕ) (l : Ledger) (t : Slot) (f : ℕ) → IsSoundBut m x l → 0 < pairs l t f → IsSoundBut m x (change_entries f (λ _. InSlot t) l)
+pub unmapped-kept : (m : Setting) (x : Slot → ℕ) (l : Ledger) (t : Slot) (f : ℕ) → IsSoundBut m x l → 0 < pairs l t f →
+    IsSoundBut m x (change_entries f (λ _. InSlot t) l)
 unmapped-kept m x l t f s pair =
     let l1 = change_entries f (λ _. InSlot t) l in
     let held = pair-frame t f l.cache in
@@ -126,8 +170,9 @@ unmapped-kept m x l t f s pair =
       listed = λ j. s.listed j ∙ (let a = me j in same_use (j == f) j refl _ a);
       flying = s.flying;
       used = λ r j h. let u = s.used r j h in still r j h (j == f) refl (same_slot r t) refl _ _ (me j) (se r);
-      one = λ p a b d e if_some at' related. let u = back (to_slot f t) (entry l (p, a)) d (sym (entry-unmap f t l (p, a)) ∙ if_some) in let v = back (to_slot f t) (entry l (p, b)) e (sym (entry-unmap f t l (p, b)) ∙ at') in
-          s.one p a b u.0 v.0 u.1 v.1 (kin_of u.0 v.0 ((λ i. kin l (u.2 i) (v.2 i)) ∙ related));
+      one = λ p a b d e if_some at' related. let u = back (to_slot f t) (entry l (p, a)) d (sym (entry-unmap f t l (p, a)) ∙ if_some) in
+          let v = back (to_slot f t) (entry l (p, b)) e (sym (entry-unmap f t l (p, b)) ∙ at') in
+          s.one p a b u.0 v.0 u.1 v.1 (names_too u.0 v.0 ((λ i. name_one l (u.2 i) (v.2 i)) ∙ related));
     }
   where
     below : (b : Bool) (n n' h : ℕ) → n ≡ cond b 0 n' → 0 < n + h → 0 < n' + h
@@ -135,29 +180,38 @@ unmapped-kept m x l t f s pair =
     below false n n' h e p = omega (arith, e, p)
 
     same_use : (b : Bool) (j : ℕ) → (j == f) ≡ b → (n : ℕ) → n ≡ cond b 0 (map_count l j) → min 1 (map_count l j + holders l j) ≡ min 1 (n + holders l j)
-    same_use true j is n h = let held = subst (λ y. 0 < holders l y) (sym (same-is j f is)) (let p = pair-frame t f l.cache in omega (arith, p, pair)) in omega (arith, held, h)
+    same_use true j is n h = let held = subst (λ y. 0 < holders l y) (sym (same-is j f is)) (let p = pair-frame t f l.cache in omega (arith, p, pair)) in
+        omega (arith, held, h)
     same_use false j is n h = omega (arith, h)
 
-    still : (r : Slot) (j : ℕ) → 0 < pairs l r j → (b : Bool) → (j == f) ≡ b → (c : Bool) → same_slot r t ≡ c → (n e : ℕ) → n ≡ cond b 0 (map_count l j) → e ≡ slot_entries l r + cond c (map_count l f) 0 → 0 < flights l r + e + n + x r
+    still : (r : Slot) (j : ℕ) → 0 < pairs l r j → (b : Bool) → (j == f) ≡ b → (c : Bool) → same_slot r t ≡ c → (n e : ℕ) → n ≡ cond b 0 (map_count l j) →
+        e ≡ slot_entries l r + cond c (map_count l f) 0 → 0 < flights l r + e + n + x r
     still r j h true is true is' n e me se = let u = s.used r j h in let v = ap (map_count l) (same-is j f is) in omega (arith, u, v, se, me)
-    still r j h true is false is' n e me se = let two = two_slots r t f l.cache is' in let once = s.frames_once f in let h' = subst (λ y. 0 < pairs l r y) (same-is j f is) h in absurd (omega (arith, two, once, h', pair))
+    still r j h true is false is' n e me se = let two = two_slots r t f l.cache is' in let once = s.frames_once f in
+        let h' = subst (λ y. 0 < pairs l r y) (same-is j f is) h in absurd (omega (arith, two, once, h', pair))
     still r j h false is c is' n e me se = let u = s.used r j h in omega (arith, u, se, me)
 
-    frame_slot : (g : ℕ) (seen : Bool) (r : Slot) (b : Bool) → (f == g) ≡ b → kin l (cond b (InSlot t) (InFrame g seen)) (InSlot r) ≡ true → nat_lt 0 (pairs l r g) ≡ true
-    frame_slot g seen r true is h = let p = subst (λ y. 0 < pairs l r y) (same-is f g is) (subst (λ y. 0 < pairs l y f) (slot-is t r h) pair) in grind (arith, nat_tests, p)
+    frame_slot : (g : ℕ) (seen : Bool) (r : Slot) (b : Bool) → (f == g) ≡ b → name_one l (cond b (InSlot t) (InFrame g seen)) (InSlot r) ≡ true →
+        nat_lt 0 (pairs l r g) ≡ true
+    frame_slot g seen r true is h = let p = subst (λ y. 0 < pairs l r y) (same-is f g is) (subst (λ y. 0 < pairs l y f) (slot-is t r h) pair) in
+        grind (arith, nat_tests, p)
     frame_slot g seen r false is h = h
 
-    kin_of : (d e : Entry) → kin l (to_slot f t d) (to_slot f t e) ≡ true → kin l d e ≡ true
-    kin_of Zero e h = h
-    kin_of (InFrame g seen) Zero h = elim (f == g) as (λ b. kin l (cond b (InSlot t) (InFrame g seen)) Zero ≡ true → ◌≡◌ {A = Bool} false true) [ true ↦ λ e. e | false ↦ λ e. e ] h
-    kin_of (InFrame g seen) (InFrame j seen') h = both (f == g) (f == j) refl refl h
+    names_too : (d e : Entry) → name_one l (to_slot f t d) (to_slot f t e) ≡ true → name_one l d e ≡ true
+    names_too Zero e h = h
+    names_too (InFrame g seen) Zero h = elim (f == g) as (λ b. name_one l (cond b (InSlot t) (InFrame g seen)) Zero ≡ true →
+        ◌≡◌ {A = Bool} false true) [ true ↦ λ e. e | false ↦ λ e. e ] h
+    names_too (InFrame g seen) (InFrame j seen') h = both (f == g) (f == j) refl refl h
       where
-        both : (b c : Bool) → (f == g) ≡ b → (f == j) ≡ c → kin l (cond b (InSlot t) (InFrame g seen)) (cond c (InSlot t) (InFrame j seen')) ≡ true → (g == j) ≡ true
+        both : (b c : Bool) → (f == g) ≡ b → (f == j) ≡ c → name_one l (cond b (InSlot t) (InFrame g seen)) (cond c (InSlot t) (InFrame j seen')) ≡ true →
+            (g == j) ≡ true
         both true true is is' h = grind (arith, nat_tests)
-        both true false is is' h = let pos : 0 < pairs l t j = grind (arith, nat_tests, h) in let two = two_frames t f j l.cache is' in let once = s.slots_once t in absurd (omega (arith, pos, two, once, pair))
-        both false true is is' h = let pos : 0 < pairs l t g = grind (arith, nat_tests, h) in let two = two_frames t f g l.cache is in let once = s.slots_once t in absurd (omega (arith, pos, two, once, pair))
+        both true false is is' h = let pos : 0 < pairs l t j = grind (arith, nat_tests, h) in let two = two_frames t f j l.cache is' in
+            let once = s.slots_once t in absurd (omega (arith, pos, two, once, pair))
+        both false true is is' h = let pos : 0 < pairs l t g = grind (arith, nat_tests, h) in let two = two_frames t f g l.cache is in
+            let once = s.slots_once t in absurd (omega (arith, pos, two, once, pair))
         both false false is is' h = h
-    kin_of (InFrame g seen) (InSlot r) h = frame_slot g seen r (f == g) refl h
-    kin_of (InSlot r) Zero h = h
-    kin_of (InSlot r) (InFrame g seen) h = frame_slot g seen r (f == g) refl (kin-turned l (cond (f == g) (InSlot t) (InFrame g seen)) (InSlot r) ∙ h)
-    kin_of (InSlot r) (InSlot q) h = h
+    names_too (InFrame g seen) (InSlot r) h = frame_slot g seen r (f == g) refl h
+    names_too (InSlot r) Zero h = h
+    names_too (InSlot r) (InFrame g seen) h = frame_slot g seen r (f == g) refl (name_one-turned l (cond (f == g) (InSlot t) (InFrame g seen)) (InSlot r) ∙ h)
+    names_too (InSlot r) (InSlot q) h = h

@@ -8,7 +8,7 @@ use Rattle.av_base.specs.declared.slot.Slot.{Slot}
 use Rattle.av_trace.specs.declared.note.Note.TheVariants.{Dropped}
 use Rattle.av_plain.specs.Event.{after_note, after_use, after_use_of, if_some, into_cache, off_cache, off_flight, off_lists, set_entry, settle, to_inactive_head, with_stale}
 use Rattle.av_plain.specs.Ledger.{Cached, Entry, InFrame, InSlot, Key, Ledger, Setting, Zero, entry, frame_at, is_free, key_cmp, map_count, names_frame, names_slot, same_slot, slot_entries, slot_of}
-use Rattle.av_plain.specs.Sound.{IsSound, IsSoundBut, flights, holders, kin, listings, no_excuse, pairs, slots, uses}
+use Rattle.av_plain.specs.Sound.{IsSound, IsSoundBut, flights, holders, name_one, listings, no_excuse, pairs, slots, uses}
 use Rattle.av_plain.proofs.Event.{how_many-map, how_many-same}
 use Rattle.av_plain.proofs.Ledger.{how_many-found, is_sorted-set, map_count-set}
 use Rattle.av_plain.proofs.Ledger.Order.{weight}
@@ -37,26 +37,39 @@ free-is l f = by (slot_of l f) refl
 
     by : (o : Option Slot) → slot_of l f ≡ o → ((map_count l f == 0) && is_none (slot_of l f)) ≡ (uses l f == 0)
     by None is = ap (λ o. (map_count l f == 0) && is_none o) is ∙ none _ _ (slot_of-none f l.cache is)
-    by (Some t) is = ap (λ o. (map_count l f == 0) && is_none o) is ∙ some _ _ (let p = slot_of-some f t l.cache is in let q = pair-frame t f l.cache in omega (arith, p, q))
+    by (Some t) is = ap (λ o. (map_count l f == 0) && is_none o) is ∙ some _ _ (let p = slot_of-some f t l.cache is in
+        let q = pair-frame t f l.cache in omega (arith, p, q))
 
--- fewer pairs, fewer kin
-pub kin-less : (l l' : Ledger) → ((t : Slot) (g : ℕ) → 0 < pairs l' t g → 0 < pairs l t g) → (d e : Entry) → kin l' d e ≡ true → kin l d e ≡ true
-kin-less l l' less Zero e h = h
-kin-less l l' less (InFrame f seen) Zero h = h
-kin-less l l' less (InFrame f seen) (InFrame g seen') h = h
-kin-less l l' less (InFrame f seen) (InSlot t) h = let pos : 0 < pairs l' t f = grind (arith, nat_tests, h) in let p = less t f pos in grind (arith, nat_tests, p)
-kin-less l l' less (InSlot t) Zero h = h
-kin-less l l' less (InSlot t) (InFrame f seen) h = let pos : 0 < pairs l' t f = grind (arith, nat_tests, h) in let p = less t f pos in grind (arith, nat_tests, p)
-kin-less l l' less (InSlot t) (InSlot r) h = h
+-- fewer pairs: fewer entries name one memory
+pub name_one-less : (l l' : Ledger) → ((t : Slot) (g : ℕ) → 0 < pairs l' t g → 0 < pairs l t g) → (d e : Entry) → name_one l' d e ≡ true → name_one l d e ≡ true
+name_one-less l l' less Zero e h = h
+name_one-less l l' less (InFrame f seen) Zero h = h
+name_one-less l l' less (InFrame f seen) (InFrame g seen') h = h
+name_one-less l l' less (InFrame f seen) (InSlot t) h = let pos : 0 < pairs l' t f = grind (arith, nat_tests, h) in
+    let p = less t f pos in grind (arith, nat_tests, p)
+name_one-less l l' less (InSlot t) Zero h = h
+name_one-less l l' less (InSlot t) (InFrame f seen) h = let pos : 0 < pairs l' t f = grind (arith, nat_tests, h) in
+    let p = less t f pos in grind (arith, nat_tests, p)
+name_one-less l l' less (InSlot t) (InSlot r) h = h
 
 -- ---- an excuse may be given where it isn't needed
 
 pub excused : (m : Setting) (x y : Slot → ℕ) (l : Ledger) → IsSoundBut m x l → ((t : Slot) (f : ℕ) → 0 < pairs l t f → x t ≤ y t) → IsSoundBut m y l
-excused m x y l s h = record { in_order = s.in_order; slots_once = s.slots_once; frames_once = s.frames_once; in_range = s.in_range; listed = s.listed; flying = s.flying; used = λ t f p. let u = s.used t f p in let v = h t f p in omega (arith, u, v); one = s.one }
+excused m x y l s h = record {
+  in_order = s.in_order;
+  slots_once = s.slots_once;
+  frames_once = s.frames_once;
+  in_range = s.in_range;
+  listed = s.listed;
+  flying = s.flying;
+  used = λ t f p. let u = s.used t f p in let v = h t f p in omega (arith, u, v);
+  one = s.one;
+}
 
 -- ---- a frame that was free takes a page from the device
 
-pub loaded-kept : (m : Setting) (x : Slot → ℕ) (l : Ledger) (t : Slot) (f : ℕ) → IsSoundBut m x l → slots l t ≡ 0 → 0 < slot_entries l t → f < m.frames → uses l f ≡ 0
+pub loaded-kept : (m : Setting) (x : Slot → ℕ) (l : Ledger) (t : Slot) (f : ℕ) → IsSoundBut m x l → slots l t ≡ 0 →
+    0 < slot_entries l t → f < m.frames → uses l f ≡ 0
     → IsSoundBut m x (to_inactive_head f (into_cache t f false l))
 loaded-kept m x l t f s absent named below free = record {
   in_order = s.in_order;
@@ -67,7 +80,7 @@ loaded-kept m x l t f s absent named below free = record {
       (λ is. let c = flag _ _ is in omega (arith, c)) (λ is. let c = flag _ _ is in omega (arith, c));
   flying = λ r. let h = s.flying r in omega (arith, h);
   used = λ r g h. still (same_slot r t) (g == f) r g refl refl h;
-  one = λ p a b d e if_some at' related. s.one p a b d e if_some at' (kin_of (p, a) (p, b) d e if_some at' related);
+  one = λ p a b d e if_some at' related. s.one p a b d e if_some at' (names_too (p, a) (p, b) d e if_some at' related);
 }
   where
     once_more : (b : Bool) (n : ℕ) → (b ≡ true → n ≡ 0) → n ≤ 1 → cond b 1 0 + n ≤ 1
@@ -78,33 +91,39 @@ loaded-kept m x l t f s absent named below free = record {
     range true g is h = subst (λ y. y < m.frames) (sym (same-is g f is)) below
     range false g is h = s.in_range g (omega (arith, h))
 
-    still : (b c : Bool) (r : Slot) (g : ℕ) → same_slot r t ≡ b → (g == f) ≡ c → 0 < cond (b && c) 1 0 + pairs l r g → 0 < flights l r + slot_entries l r + map_count l g + x r
+    still : (b c : Bool) (r : Slot) (g : ℕ) → same_slot r t ≡ b → (g == f) ≡ c → 0 < cond (b && c) 1 0 + pairs l r g →
+        0 < flights l r + slot_entries l r + map_count l g + x r
     still true c r g is is' h = let n = subst (λ y. 0 < slot_entries l y) (sym (slot-is r t is)) named in omega (arith, n)
     still false c r g is is' h = s.used r g (omega (arith, h))
 
-    mixed : (k : Key) (g : ℕ) (seen : Bool) (r : Slot) → entry l k ≡ Some (InFrame g seen) → nat_lt 0 (cond (same_slot r t && g == f) 1 0 + pairs l r g) ≡ true → nat_lt 0 (pairs l r g) ≡ true
-    mixed k g seen r if_some h = let found = how_many-found (names_frame g) k l.entries (InFrame g seen) if_some (same-itself g) in frame (same_slot r t) (g == f) g r refl found h
+    mixed : (k : Key) (g : ℕ) (seen : Bool) (r : Slot) → entry l k ≡ Some (InFrame g seen) →
+        nat_lt 0 (cond (same_slot r t && g == f) 1 0 + pairs l r g) ≡ true → nat_lt 0 (pairs l r g) ≡ true
+    mixed k g seen r if_some h = let found = how_many-found (names_frame g) k l.entries (InFrame g seen) if_some (same-itself g) in
+        frame (same_slot r t) (g == f) g r refl found h
       where
-        frame : (b c : Bool) (g : ℕ) (r : Slot) → (g == f) ≡ c → 0 < map_count l g → nat_lt 0 (cond (b && c) 1 0 + pairs l r g) ≡ true → nat_lt 0 (pairs l r g) ≡ true
+        frame : (b c : Bool) (g : ℕ) (r : Slot) → (g == f) ≡ c → 0 < map_count l g → nat_lt 0 (cond (b && c) 1 0 + pairs l r g) ≡ true →
+            nat_lt 0 (pairs l r g) ≡ true
         frame b true g r is found h = let z = ap (uses l) (same-is g f is) ∙ free in absurd (omega (arith, z, found))
         frame true false g r is found h = grind (arith, nat_tests, h)
         frame false false g r is found h = grind (arith, nat_tests, h)
 
-    kin_of : (k q : Key) (d e : Entry) → entry l k ≡ Some d → entry l q ≡ Some e → kin (to_inactive_head f (into_cache t f false l)) d e ≡ true → kin l d e ≡ true
-    kin_of k q Zero e if_some at' h = h
-    kin_of k q (InFrame g seen) Zero if_some at' h = h
-    kin_of k q (InFrame g seen) (InFrame j seen') if_some at' h = h
-    kin_of k q (InFrame g seen) (InSlot r) if_some at' h = mixed k g seen r if_some h
-    kin_of k q (InSlot r) Zero if_some at' h = h
-    kin_of k q (InSlot r) (InFrame g seen) if_some at' h = mixed q g seen r at' h
-    kin_of k q (InSlot r) (InSlot r') if_some at' h = h
+    names_too : (k q : Key) (d e : Entry) → entry l k ≡ Some d → entry l q ≡ Some e → name_one (to_inactive_head f (into_cache t f false l)) d e ≡ true →
+        name_one l d e ≡ true
+    names_too k q Zero e if_some at' h = h
+    names_too k q (InFrame g seen) Zero if_some at' h = h
+    names_too k q (InFrame g seen) (InFrame j seen') if_some at' h = h
+    names_too k q (InFrame g seen) (InSlot r) if_some at' h = mixed k g seen r if_some h
+    names_too k q (InSlot r) Zero if_some at' h = h
+    names_too k q (InSlot r) (InFrame g seen) if_some at' h = mixed q g seen r at' h
+    names_too k q (InSlot r) (InSlot r') if_some at' h = h
 
 -- ---- stale or not
 pub with_stale-kept : (m : Setting) (x : Slot → ℕ) (l : Ledger) (b : Bool) (t : Slot) → IsSoundBut m x l → IsSoundBut m x (with_stale b t l)
 with_stale-kept m x l b t s =
     let sl : (r : Slot) → slots (with_stale b t l) r ≡ slots l r = λ r. same (λ c. same_slot r c.slot) (λ c. slot_same c r) in
     let ho : (g : ℕ) → holders (with_stale b t l) g ≡ holders l g = λ g. same (λ c. g == c.frame) (λ c. frame_same c g) in
-    let pa : (r : Slot) (g : ℕ) → pairs (with_stale b t l) r g ≡ pairs l r g = λ r g. same (λ c. same_slot r c.slot && g == c.frame) (λ c i. slot_same c r i && frame_same c g i) in
+    let pa : (r : Slot) (g : ℕ) → pairs (with_stale b t l) r g ≡ pairs l r g =
+    λ r g. same (λ c. same_slot r c.slot && g == c.frame) (λ c i. slot_same c r i && frame_same c g i) in
     record {
       in_order = s.in_order;
       slots_once = λ r. let a = sl r in let h = s.slots_once r in omega (arith, a, h);
@@ -113,17 +132,25 @@ with_stale-kept m x l b t s =
       listed = λ g. s.listed g ∙ (let a = ho g in omega (arith, a));
       flying = λ r. let a = sl r in let h = s.flying r in omega (arith, a, h);
       used = λ r g h. let a = pa r g in s.used r g (omega (arith, a, h));
-      one = λ p a c d e if_some at' related. s.one p a c d e if_some at' (kin-less l (with_stale b t l) (λ r g h. let a = pa r g in omega (arith, a, h)) d e related);
+      one = λ p a c d e if_some at' related. s.one p a c d e if_some at'
+          (name_one-less l (with_stale b t l) (λ r g h. let a = pa r g in omega (arith, a, h)) d e related);
     }
   where
-    same : (p : Cached → Bool) → ((c : Cached) → p (if same_slot t c.slot then record c { stale = b } else c) ≡ p c) → how_many p (with_stale b t l).cache ≡ how_many p l.cache
+    same : (p : Cached → Bool) → ((c : Cached) → p (if same_slot t c.slot then record c { stale = b } else c) ≡ p c) →
+        how_many p (with_stale b t l).cache ≡ how_many p l.cache
     same p h = how_many-map p (λ (c : Cached). if same_slot t c.slot then record c { stale = b } else c) l.cache ∙ how_many-same _ _ l.cache h
 
     slot_same : (c : Cached) (r : Slot) → same_slot r (if same_slot t c.slot then record c { stale = b } else c).slot ≡ same_slot r c.slot
-    slot_same c r = elim (same_slot t c.slot) as (λ (v : Bool). same_slot r (if v then record c { stale = b } else c).slot ≡ same_slot r c.slot) [ true ↦ refl | false ↦ refl ]
+    slot_same c r = elim (same_slot t c.slot) as (λ (v : Bool). same_slot r (if v then record c { stale = b } else c).slot ≡ same_slot r c.slot) [
+      | true ↦ refl
+      | false ↦ refl
+    ]
 
     frame_same : (c : Cached) (g : ℕ) → (g == (if same_slot t c.slot then record c { stale = b } else c).frame) ≡ (g == c.frame)
-    frame_same c g = elim (same_slot t c.slot) as (λ (v : Bool). (g == (if v then record c { stale = b } else c).frame) ≡ (g == c.frame)) [ true ↦ refl | false ↦ refl ]
+    frame_same c g = elim (same_slot t c.slot) as (λ (v : Bool). (g == (if v then record c { stale = b } else c).frame) ≡ (g == c.frame)) [
+      | true ↦ refl
+      | false ↦ refl
+    ]
 
 -- ---- a frame that may have become free leaves its list
 -- all but the lists
@@ -136,11 +163,21 @@ pub record Others (m : Setting) (x : Slot → ℕ) (l : Ledger) : Type 0 where
   pub used : (s : Slot) (f : ℕ) → 0 < pairs l s f → 0 < flights l s + slot_entries l s + map_count l f + x s
   pub one : One l
 
-pub settle-kept : (m : Setting) (x : Slot → ℕ) (l : Ledger) (f : ℕ) → Others m x l → ((g : ℕ) → (g == f) ≡ false → listings l g ≡ min 1 (uses l g)) → listings l f ≡ 1 → IsSoundBut m x (settle f l)
+pub settle-kept : (m : Setting) (x : Slot → ℕ) (l : Ledger) (f : ℕ) → Others m x l → ((g : ℕ) → (g == f) ≡ false → listings l g ≡ min 1 (uses l g)) →
+    listings l f ≡ 1 → IsSoundBut m x (settle f l)
 settle-kept m x l f s others here = by (is_free l f) (sym (free-is l f))
   where
     by : (b : Bool) → (uses l f == 0) ≡ b → IsSoundBut m x (cond b (off_lists f l) l)
-    by true is = record { in_order = s.in_order; slots_once = s.slots_once; frames_once = s.frames_once; in_range = s.in_range; listed = λ g. listings-off_lists f g l ∙ gone (g == f) g refl; flying = s.flying; used = s.used; one = s.one }
+    by true is = record {
+      in_order = s.in_order;
+      slots_once = s.slots_once;
+      frames_once = s.frames_once;
+      in_range = s.in_range;
+      listed = λ g. listings-off_lists f g l ∙ gone (g == f) g refl;
+      flying = s.flying;
+      used = s.used;
+      one = s.one;
+    }
       where
         none : uses l f ≡ 0
         none = grind (arith, nat_tests, is)
@@ -148,17 +185,28 @@ settle-kept m x l f s others here = by (is_free l f) (sym (free-is l f))
         gone : (c : Bool) (g : ℕ) → (g == f) ≡ c → cond c 0 (listings l g) ≡ min 1 (uses l g)
         gone true g if_some = let z = ap (uses l) (same-is g f if_some) ∙ none in omega (arith, z)
         gone false g if_some = others g if_some
-    by false is = record { in_order = s.in_order; slots_once = s.slots_once; frames_once = s.frames_once; in_range = s.in_range; listed = λ g. each (g == f) g refl; flying = s.flying; used = s.used; one = s.one }
+    by false is = record {
+      in_order = s.in_order;
+      slots_once = s.slots_once;
+      frames_once = s.frames_once;
+      in_range = s.in_range;
+      listed = λ g. each (g == f) g refl;
+      flying = s.flying;
+      used = s.used;
+      one = s.one;
+    }
       where
         some : 0 < uses l f
         some = grind (arith, nat_tests, is)
 
         each : (c : Bool) (g : ℕ) → (g == f) ≡ c → listings l g ≡ min 1 (uses l g)
-        each true g if_some = let z = subst (λ y. 0 < uses l y) (sym (same-is g f if_some)) some in let e = ap (listings l) (same-is g f if_some) ∙ here in omega (arith, z, e)
+        each true g if_some = let z = subst (λ y. 0 < uses l y) (sym (same-is g f if_some)) some in
+            let e = ap (listings l) (same-is g f if_some) ∙ here in omega (arith, z, e)
         each false g if_some = others g if_some
 
 -- ---- drop
-pub dropped-kept : (m : Setting) (x : Slot → ℕ) (l : Ledger) (t : Slot) → IsSoundBut m x l → flights l t ≡ 0 → IsSoundBut m (λ r. cond (same_slot r t) 0 (x r)) (after_note (Dropped t) l)
+pub dropped-kept : (m : Setting) (x : Slot → ℕ) (l : Ledger) (t : Slot) → IsSoundBut m x l → flights l t ≡ 0 →
+    IsSoundBut m (λ r. cond (same_slot r t) 0 (x r)) (after_note (Dropped t) l)
 dropped-kept m x l t s off_flight = by (frame_at l t) refl
   where
     l0 : Ledger
@@ -192,24 +240,37 @@ dropped-kept m x l t s off_flight = by (frame_at l t) refl
       in_range = λ g h. s.in_range g (let a = ho g in omega (arith, a, h));
       flying = λ r. fits r (same_slot r t) refl _ (sl r);
       used = λ r g h. left r g (same_slot r t) refl _ (pa r g) h;
-      one = λ p a b d e if_some at' related. s.one p a b d e if_some at' (kin-less l (off_cache t l) (λ r g h. let a = less (same_slot r t) _ _ (pa r g) in omega (arith, a, h)) d e related);
+      one = λ p a b d e if_some at' related. s.one p a b d e if_some at' (name_one-less l (off_cache t l) (λ r g h. let a = less (same_slot r t) _ _ (pa r g) in
+          omega (arith, a, h)) d e related);
     }
       where
-        left : (r : Slot) (g : ℕ) (b : Bool) → same_slot r t ≡ b → (n : ℕ) → n ≡ cond b 0 (pairs l r g) → 0 < n → 0 < flights l r + slot_entries l r + map_count l g + cond b 0 (x r)
+        left : (r : Slot) (g : ℕ) (b : Bool) → same_slot r t ≡ b → (n : ℕ) → n ≡ cond b 0 (pairs l r g) → 0 < n →
+            0 < flights l r + slot_entries l r + map_count l g + cond b 0 (x r)
         left r g true is n e h = absurd (omega (arith, e, h))
         left r g false is n e h = s.used r g (omega (arith, e, h))
 
     by : (o : Option ℕ) → frame_at l t ≡ o → IsSoundBut m (λ r. cond (same_slot r t) 0 (x r)) (if_some o settle (off_cache t l))
-    by None is = record { in_order = rest.in_order; slots_once = rest.slots_once; frames_once = rest.frames_once; in_range = rest.in_range; listed = λ g. s.listed g ∙ same g; flying = rest.flying; used = rest.used; one = rest.one }
+    by None is = record {
+      in_order = rest.in_order;
+      slots_once = rest.slots_once;
+      frames_once = rest.frames_once;
+      in_range = rest.in_range;
+      listed = λ g. s.listed g ∙ same g;
+      flying = rest.flying;
+      used = rest.used;
+      one = rest.one;
+    }
       where
         same : (g : ℕ) → min 1 (uses l g) ≡ min 1 (uses (off_cache t l) g)
-        same g = let a = ho g in let z = frame_at-none t l.cache is in let p = pair-slot t g l.cache in ap (λ n. min 1 (map_count l g + n)) (omega (arith, a, z, p))
+        same g = let a = ho g in let z = frame_at-none t l.cache is in let p = pair-slot t g l.cache in
+            ap (λ n. min 1 (map_count l g + n)) (omega (arith, a, z, p))
     by (Some f) is = settle-kept m (λ r. cond (same_slot r t) 0 (x r)) (off_cache t l) f rest
         (λ g other. s.listed g ∙ same g other)
         (s.listed f ∙ (let p = frame_at-some f t l.cache is in let q = pair-frame t f l.cache in omega (arith, p, q)))
       where
         same : (g : ℕ) → (g == f) ≡ false → min 1 (uses l g) ≡ min 1 (uses (off_cache t l) g)
-        same g other = let a = ho g in let p = frame_at-some f t l.cache is in let two = two_frames t g f l.cache other in let once = s.slots_once t in ap (λ n. min 1 (map_count l g + n)) (omega (arith, a, p, two, once))
+        same g other = let a = ho g in let p = frame_at-some f t l.cache is in let two = two_frames t g f l.cache other in let once = s.slots_once t in
+            ap (λ n. min 1 (map_count l g + n)) (omega (arith, a, p, two, once))
 
 -- a slot that isn't in flight is dropped
 pub drop-sound : (m : Setting) (l : Ledger) (t : Slot) → IsSound m l → flights l t ≡ 0 → IsSound m (after_note (Dropped t) l)
@@ -220,11 +281,14 @@ drop-sound m l t s off_flight = excused m _ no_excuse _ (dropped-kept m no_excus
     none false = omega arith
 
 -- ---- a page is used
-pub seen-kept : (m : Setting) (x : Slot → ℕ) (l : Ledger) (k : Key) (f : ℕ) (seen now : Bool) → IsSoundBut m x l → entry l k ≡ Some (InFrame f seen) → IsSoundBut m x (set_entry k (InFrame f now) l)
+pub seen-kept : (m : Setting) (x : Slot → ℕ) (l : Ledger) (k : Key) (f : ℕ) (seen now : Bool) → IsSoundBut m x l → entry l k ≡ Some (InFrame f seen) →
+    IsSoundBut m x (set_entry k (InFrame f now) l)
 seen-kept m x l k f seen now s here =
     let new = InFrame f now in
-    let me : (g : ℕ) → map_count (set_entry k new l) g ≡ map_count l g = λ g. same _ _ _ (ap (λ o. map_count (set_entry k new l) g + weight (names_frame g) o) (sym here) ∙ map_count-set k new l g s.in_order) in
-    let se : (t : Slot) → slot_entries (set_entry k new l) t ≡ slot_entries l t = λ t. same _ _ _ (ap (λ o. slot_entries (set_entry k new l) t + weight (names_slot t) o) (sym here) ∙ slot_entries-set k new l t s.in_order) in
+    let me : (g : ℕ) → map_count (set_entry k new l) g ≡ map_count l g =
+    λ g. same _ _ _ (ap (λ o. map_count (set_entry k new l) g + weight (names_frame g) o) (sym here) ∙ map_count-set k new l g s.in_order) in
+    let se : (t : Slot) → slot_entries (set_entry k new l) t ≡ slot_entries l t =
+    λ t. same _ _ _ (ap (λ o. slot_entries (set_entry k new l) t + weight (names_slot t) o) (sym here) ∙ slot_entries-set k new l t s.in_order) in
     record {
       in_order = is_sorted-set k new l s.in_order;
       slots_once = s.slots_once;
@@ -233,21 +297,22 @@ seen-kept m x l k f seen now s here =
       listed = λ g. s.listed g ∙ (let a = me g in omega (arith, a));
       flying = s.flying;
       used = λ r g h. let u = s.used r g h in let a = me g in let b = se r in omega (arith, u, a, b);
-      one = one-set l k new s.one (λ b e if_some related. s.one k.0 k.1 b (InFrame f seen) e here if_some (kin_of e ∙ related));
+      one = one-set l k new s.one (λ b e if_some related. s.one k.0 k.1 b (InFrame f seen) e here if_some (names_too e ∙ related));
     }
   where
     same : (n w m : ℕ) → n + w ≡ m + w → n ≡ m
     same n w m h = omega (arith, h)
 
-    kin_of : (e : Entry) → kin l (InFrame f seen) e ≡ kin l (InFrame f now) e
-    kin_of Zero = refl
-    kin_of (InFrame j v) = refl
-    kin_of (InSlot t) = refl
+    names_too : (e : Entry) → name_one l (InFrame f seen) e ≡ name_one l (InFrame f now) e
+    names_too Zero = refl
+    names_too (InFrame j v) = refl
+    names_too (InSlot t) = refl
 
 pub after_use-kept : (m : Setting) (x : Slot → ℕ) (l : Ledger) (write : Bool) (k : Key) → IsSoundBut m x l → IsSoundBut m x (after_use write k l)
 after_use-kept m x l write k s = by write (entry l k) refl
   where
-    stale : (f : ℕ) (seen : Bool) → entry l k ≡ Some (InFrame f seen) → (o : Option Slot) → IsSoundBut m x (if_some o (with_stale true) (set_entry k (InFrame f true) l))
+    stale : (f : ℕ) (seen : Bool) → entry l k ≡ Some (InFrame f seen) → (o : Option Slot) →
+        IsSoundBut m x (if_some o (with_stale true) (set_entry k (InFrame f true) l))
     stale f seen is None = seen-kept m x l k f seen true s is
     stale f seen is (Some t) = with_stale-kept m x (set_entry k (InFrame f true) l) true t (seen-kept m x l k f seen true s is)
 

@@ -35,7 +35,8 @@ pub count-without-list : (f g : ℕ) (fs : List ℕ) → how_many (λ x. g == x)
 count-without-list f g [] = elim (g == f) as (λ b. ◌≡◌ {A = ℕ} 0 (cond b 0 0)) [ true ↦ refl | false ↦ refl ]
 count-without-list f g (x ∷ fs) =
     let rest = count-without-list f g fs in
-    elim (f == x) as (λ b. (f == x) ≡ b → how_many (λ x. g == x) (cond (not b) (x ∷ without f fs) (without f fs)) ≡ cond (g == f) 0 (cond (g == x) 1 0 + how_many (λ x. g == x) fs)) [
+    elim (f == x) as (λ b. (f == x) ≡ b → how_many (λ x. g == x) (cond (not b) (x ∷ without f fs) (without f fs)) ≡ cond (g == f) 0
+    (cond (g == x) 1 0 + how_many (λ x. g == x) fs)) [
       | true ↦ λ is. rest ∙ gone (g == f) (g == x) (how_many (λ x. g == x) fs) (ap (λ y. g == y) (same-is f x is))
       | false ↦ λ is. ap (λ n. cond (g == x) 1 0 + n) rest ∙ other (g == f) (g == x) (how_many (λ x. g == x) fs) (λ a b. apart a b is)
     ] refl
@@ -86,10 +87,13 @@ listings-off_lists f g l = (λ i. count-without-list f g l.active i + count-with
 -- ---- the cache
 
 -- what a slot that goes leaves
-pub slots-off_cache : (s t : Slot) (cs : List Cached) → how_many (λ (c : Cached). same_slot t c.slot) (filter (λ (c : Cached). not (same_slot s c.slot)) cs) ≡ cond (same_slot t s) 0 (how_many (λ (c : Cached). same_slot t c.slot) cs)
+pub slots-off_cache : (s t : Slot) (cs : List Cached) → how_many (λ (c : Cached). same_slot t c.slot) (filter (λ (c : Cached). not (same_slot s c.slot)) cs)
+    ≡ cond (same_slot t s) 0 (how_many (λ (c : Cached). same_slot t c.slot) cs)
 slots-off_cache s t [] = elim (same_slot t s) as (λ b. ◌≡◌ {A = ℕ} 0 (cond b 0 0)) [ true ↦ refl | false ↦ refl ]
 slots-off_cache s t (c ∷ cs) = let rest = slots-off_cache s t cs in
-    elim (same_slot s c.slot) as (λ b. same_slot s c.slot ≡ b → how_many (λ (c : Cached). same_slot t c.slot) (cond (not b) (c ∷ filter (λ (c : Cached). not (same_slot s c.slot)) cs) (filter (λ (c : Cached). not (same_slot s c.slot)) cs)) ≡ cond (same_slot t s) 0 (cond (same_slot t c.slot) 1 0 + how_many (λ (c : Cached). same_slot t c.slot) cs)) [
+    elim (same_slot s c.slot) as (λ b. same_slot s c.slot ≡ b → how_many (λ (c : Cached). same_slot t c.slot)
+    (cond (not b) (c ∷ filter (λ (c : Cached). not (same_slot s c.slot)) cs) (filter (λ (c : Cached). not (same_slot s c.slot)) cs)) ≡ cond (same_slot t s) 0
+    (cond (same_slot t c.slot) 1 0 + how_many (λ (c : Cached). same_slot t c.slot) cs)) [
       | true ↦ λ is. rest ∙ gone (same_slot t s) (same_slot t c.slot) _ (ap (same_slot t) (slot-is s c.slot is))
       | false ↦ λ is. ap (λ n. cond (same_slot t c.slot) 1 0 + n) rest ∙ other (same_slot t s) (same_slot t c.slot) _ (λ a b. apart a b is)
     ] refl
@@ -107,12 +111,16 @@ slots-off_cache s t (c ∷ cs) = let rest = slots-off_cache s t cs in
     apart : same_slot t s ≡ true → same_slot t c.slot ≡ true → same_slot s c.slot ≡ false → ⊥
     apart a b d = grind (arith, nat_tests)
 
-pub pairs-off_cache : (s t : Slot) (f : ℕ) (cs : List Cached) → how_many (λ (c : Cached). same_slot t c.slot && f == c.frame) (filter (λ (c : Cached). not (same_slot s c.slot)) cs) ≡ cond (same_slot t s) 0 (how_many (λ (c : Cached). same_slot t c.slot && f == c.frame) cs)
+pub pairs-off_cache : (s t : Slot) (f : ℕ) (cs : List Cached) → how_many (λ (c : Cached). same_slot t c.slot && f == c.frame)
+    (filter (λ (c : Cached). not (same_slot s c.slot)) cs) ≡ cond (same_slot t s) 0 (how_many (λ (c : Cached). same_slot t c.slot && f == c.frame) cs)
 pairs-off_cache s t f [] = elim (same_slot t s) as (λ b. ◌≡◌ {A = ℕ} 0 (cond b 0 0)) [ true ↦ refl | false ↦ refl ]
 pairs-off_cache s t f (c ∷ cs) = let rest = pairs-off_cache s t f cs in
-    elim (same_slot s c.slot) as (λ b. same_slot s c.slot ≡ b → how_many (λ (c : Cached). same_slot t c.slot && f == c.frame) (cond (not b) (c ∷ filter (λ (c : Cached). not (same_slot s c.slot)) cs) (filter (λ (c : Cached). not (same_slot s c.slot)) cs)) ≡ cond (same_slot t s) 0 (cond (same_slot t c.slot && f == c.frame) 1 0 + how_many (λ (c : Cached). same_slot t c.slot && f == c.frame) cs)) [
+    elim (same_slot s c.slot) as (λ b. same_slot s c.slot ≡ b → how_many (λ (c : Cached). same_slot t c.slot && f == c.frame)
+    (cond (not b) (c ∷ filter (λ (c : Cached). not (same_slot s c.slot)) cs) (filter (λ (c : Cached). not (same_slot s c.slot)) cs)) ≡ cond (same_slot t s) 0
+    (cond (same_slot t c.slot && f == c.frame) 1 0 + how_many (λ (c : Cached). same_slot t c.slot && f == c.frame) cs)) [
       | true ↦ λ is. rest ∙ gone (same_slot t s) (same_slot t c.slot) (f == c.frame) _ (ap (same_slot t) (slot-is s c.slot is))
-      | false ↦ λ is. ap (λ n. cond (same_slot t c.slot && f == c.frame) 1 0 + n) rest ∙ other (same_slot t s) (same_slot t c.slot) (f == c.frame) _ (λ a b. apart a b is)
+      | false ↦ λ is. ap (λ n. cond (same_slot t c.slot && f == c.frame) 1 0 + n) rest ∙ other (same_slot t s) (same_slot t c.slot)
+          (f == c.frame) _ (λ a b. apart a b is)
     ] refl
   where
     gone : (b c d : Bool) (n : ℕ) → b ≡ c → cond b 0 n ≡ cond b 0 (cond (c && d) 1 0 + n)
@@ -128,10 +136,14 @@ pairs-off_cache s t f (c ∷ cs) = let rest = pairs-off_cache s t f cs in
     apart : same_slot t s ≡ true → same_slot t c.slot ≡ true → same_slot s c.slot ≡ false → ⊥
     apart a b d = grind (arith, nat_tests)
 
-pub holders-off_cache : (s : Slot) (f : ℕ) (cs : List Cached) → how_many (λ (c : Cached). f == c.frame) (filter (λ (c : Cached). not (same_slot s c.slot)) cs) + how_many (λ (c : Cached). same_slot s c.slot && f == c.frame) cs ≡ how_many (λ (c : Cached). f == c.frame) cs
+pub holders-off_cache : (s : Slot) (f : ℕ) (cs : List Cached) → how_many (λ (c : Cached). f == c.frame) (filter (λ (c : Cached). not (same_slot s c.slot)) cs)
+    + how_many (λ (c : Cached). same_slot s c.slot && f == c.frame) cs ≡ how_many (λ (c : Cached). f == c.frame) cs
 holders-off_cache s f [] = refl
 holders-off_cache s f (c ∷ cs) = let rest = holders-off_cache s f cs in
-    elim (same_slot s c.slot) as (λ b. how_many (λ (c : Cached). f == c.frame) (cond (not b) (c ∷ filter (λ (c : Cached). not (same_slot s c.slot)) cs) (filter (λ (c : Cached). not (same_slot s c.slot)) cs)) + (cond (b && f == c.frame) 1 0 + how_many (λ (c : Cached). same_slot s c.slot && f == c.frame) cs) ≡ cond (f == c.frame) 1 0 + how_many (λ (c : Cached). f == c.frame) cs) [
+    elim (same_slot s c.slot) as (λ b. how_many (λ (c : Cached). f == c.frame)
+    (cond (not b) (c ∷ filter (λ (c : Cached). not (same_slot s c.slot)) cs) (filter (λ (c : Cached). not (same_slot s c.slot)) cs))
+    + (cond (b && f == c.frame) 1 0 + how_many (λ (c : Cached). same_slot s c.slot && f == c.frame) cs) ≡ cond (f == c.frame) 1 0 + how_many
+    (λ (c : Cached). f == c.frame) cs) [
       | true ↦ a _ _ _ _ rest
       | false ↦ b _ _ _ _ rest
     ]
@@ -146,19 +158,23 @@ zero_plus : (n : ℕ) → n ≡ 0 → 0 + n ≡ 0
 zero_plus n h = omega arith
 
 -- the first that passes, and how many do
-pub slot_of-none : (f : ℕ) (cs : List Cached) → option_map (λ (c : Cached). c.slot) (cached_by (λ c. f == c.frame) cs) ≡ None → how_many (λ (c : Cached). f == c.frame) cs ≡ 0
+pub slot_of-none : (f : ℕ) (cs : List Cached) → option_map (λ (c : Cached). c.slot) (cached_by (λ c. f == c.frame) cs) ≡ None →
+    how_many (λ (c : Cached). f == c.frame) cs ≡ 0
 slot_of-none f [] h = refl
-slot_of-none f (c ∷ cs) h = elim (f == c.frame) as (λ b. option_map (λ (c : Cached). c.slot) (cond b (Some c) (cached_by (λ c. f == c.frame) cs)) ≡ None → cond b 1 0 + how_many (λ (c : Cached). f == c.frame) cs ≡ 0) [
-  | true ↦ λ e. cc
-  | false ↦ λ e. zero_plus _ (slot_of-none f cs e)
-] h
+slot_of-none f (c ∷ cs) h = elim (f == c.frame) as (λ b. option_map (λ (c : Cached). c.slot) (cond b (Some c) (cached_by (λ c. f == c.frame) cs)) ≡ None →
+    cond b 1 0 + how_many (λ (c : Cached). f == c.frame) cs ≡ 0) [
+      | true ↦ λ e. cc
+      | false ↦ λ e. zero_plus _ (slot_of-none f cs e)
+    ] h
 
-pub slot_of-some : (f : ℕ) (s : Slot) (cs : List Cached) → option_map (λ (c : Cached). c.slot) (cached_by (λ c. f == c.frame) cs) ≡ Some s → 0 < how_many (λ (c : Cached). same_slot s c.slot && f == c.frame) cs
+pub slot_of-some : (f : ℕ) (s : Slot) (cs : List Cached) → option_map (λ (c : Cached). c.slot) (cached_by (λ c. f == c.frame) cs) ≡ Some s →
+    0 < how_many (λ (c : Cached). same_slot s c.slot && f == c.frame) cs
 slot_of-some f s [] h = cc
-slot_of-some f s (c ∷ cs) h = elim (f == c.frame) as (λ b. option_map (λ (c : Cached). c.slot) (cond b (Some c) (cached_by (λ c. f == c.frame) cs)) ≡ Some s → 0 < cond (same_slot s c.slot && b) 1 0 + how_many (λ (c : Cached). same_slot s c.slot && f == c.frame) cs) [
-  | true ↦ λ e. let is : c.slot ≡ s = cc in counted (same_slot s c.slot) _ (ap (same_slot s) is ∙ slot-itself s)
-  | false ↦ λ e. more _ _ (slot_of-some f s cs e)
-] h
+slot_of-some f s (c ∷ cs) h = elim (f == c.frame) as (λ b. option_map (λ (c : Cached). c.slot) (cond b (Some c) (cached_by (λ c. f == c.frame) cs)) ≡ Some s →
+    0 < cond (same_slot s c.slot && b) 1 0 + how_many (λ (c : Cached). same_slot s c.slot && f == c.frame) cs) [
+      | true ↦ λ e. let is : c.slot ≡ s = cc in counted (same_slot s c.slot) _ (ap (same_slot s) is ∙ slot-itself s)
+      | false ↦ λ e. more _ _ (slot_of-some f s cs e)
+    ] h
   where
     counted : (b : Bool) (n : ℕ) → b ≡ true → 0 < cond (b && true) 1 0 + n
     counted true n h = omega arith
@@ -167,19 +183,24 @@ slot_of-some f s (c ∷ cs) h = elim (f == c.frame) as (λ b. option_map (λ (c 
     more : (x n : ℕ) → 0 < n → 0 < x + n
     more x n h = omega arith
 
-pub frame_at-none : (s : Slot) (cs : List Cached) → option_map (λ (c : Cached). c.frame) (cached_by (λ c. same_slot s c.slot) cs) ≡ None → how_many (λ (c : Cached). same_slot s c.slot) cs ≡ 0
+pub frame_at-none : (s : Slot) (cs : List Cached) → option_map (λ (c : Cached). c.frame) (cached_by (λ c. same_slot s c.slot) cs) ≡ None →
+    how_many (λ (c : Cached). same_slot s c.slot) cs ≡ 0
 frame_at-none s [] h = refl
-frame_at-none s (c ∷ cs) h = elim (same_slot s c.slot) as (λ b. option_map (λ (c : Cached). c.frame) (cond b (Some c) (cached_by (λ c. same_slot s c.slot) cs)) ≡ None → cond b 1 0 + how_many (λ (c : Cached). same_slot s c.slot) cs ≡ 0) [
-  | true ↦ λ e. cc
-  | false ↦ λ e. zero_plus _ (frame_at-none s cs e)
-] h
+frame_at-none s (c ∷ cs) h = elim (same_slot s c.slot) as (λ b. option_map (λ (c : Cached). c.frame) (cond b (Some c) (cached_by (λ c. same_slot s c.slot) cs))
+    ≡ None → cond b 1 0 + how_many (λ (c : Cached). same_slot s c.slot) cs ≡ 0) [
+      | true ↦ λ e. cc
+      | false ↦ λ e. zero_plus _ (frame_at-none s cs e)
+    ] h
 
-pub frame_at-some : (f : ℕ) (s : Slot) (cs : List Cached) → option_map (λ (c : Cached). c.frame) (cached_by (λ c. same_slot s c.slot) cs) ≡ Some f → 0 < how_many (λ (c : Cached). same_slot s c.slot && f == c.frame) cs
+pub frame_at-some : (f : ℕ) (s : Slot) (cs : List Cached) → option_map (λ (c : Cached). c.frame) (cached_by (λ c. same_slot s c.slot) cs) ≡ Some f →
+    0 < how_many (λ (c : Cached). same_slot s c.slot && f == c.frame) cs
 frame_at-some f s [] h = cc
-frame_at-some f s (c ∷ cs) h = elim (same_slot s c.slot) as (λ b. option_map (λ (c : Cached). c.frame) (cond b (Some c) (cached_by (λ c. same_slot s c.slot) cs)) ≡ Some f → 0 < cond (b && f == c.frame) 1 0 + how_many (λ (c : Cached). same_slot s c.slot && f == c.frame) cs) [
-  | true ↦ λ e. let is : c.frame ≡ f = cc in counted (f == c.frame) _ (ap (λ x. f == x) is ∙ same-itself f)
-  | false ↦ λ e. more _ _ (frame_at-some f s cs e)
-] h
+frame_at-some f s (c ∷ cs) h = elim (same_slot s c.slot) as (λ b. option_map (λ (c : Cached). c.frame)
+    (cond b (Some c) (cached_by (λ c. same_slot s c.slot) cs)) ≡ Some f →
+    0 < cond (b && f == c.frame) 1 0 + how_many (λ (c : Cached). same_slot s c.slot && f == c.frame) cs) [
+      | true ↦ λ e. let is : c.frame ≡ f = cc in counted (f == c.frame) _ (ap (λ x. f == x) is ∙ same-itself f)
+      | false ↦ λ e. more _ _ (frame_at-some f s cs e)
+    ] h
   where
     counted : (b : Bool) (n : ℕ) → b ≡ true → 0 < cond b 1 0 + n
     counted true n h = omega arith
@@ -189,7 +210,8 @@ frame_at-some f s (c ∷ cs) h = elim (same_slot s c.slot) as (λ b. option_map 
     more x n h = omega arith
 
 -- a pair is a slot's and a frame's
-pub pair-slot : (s : Slot) (f : ℕ) (cs : List Cached) → how_many (λ (c : Cached). same_slot s c.slot && f == c.frame) cs ≤ how_many (λ (c : Cached). same_slot s c.slot) cs
+pub pair-slot : (s : Slot) (f : ℕ) (cs : List Cached) → how_many (λ (c : Cached). same_slot s c.slot && f == c.frame) cs ≤ how_many
+    (λ (c : Cached). same_slot s c.slot) cs
 pair-slot s f [] = omega arith
 pair-slot s f (c ∷ cs) = let rest = pair-slot s f cs in both (same_slot s c.slot) (f == c.frame) _ _ rest
   where
@@ -198,7 +220,8 @@ pair-slot s f (c ∷ cs) = let rest = pair-slot s f cs in both (same_slot s c.sl
     both true false n m h = omega arith
     both false b n m h = omega arith
 
-pub pair-frame : (s : Slot) (f : ℕ) (cs : List Cached) → how_many (λ (c : Cached). same_slot s c.slot && f == c.frame) cs ≤ how_many (λ (c : Cached). f == c.frame) cs
+pub pair-frame : (s : Slot) (f : ℕ) (cs : List Cached) → how_many (λ (c : Cached). same_slot s c.slot && f == c.frame) cs ≤ how_many
+    (λ (c : Cached). f == c.frame) cs
 pair-frame s f [] = omega arith
 pair-frame s f (c ∷ cs) = let rest = pair-frame s f cs in both (same_slot s c.slot) (f == c.frame) _ _ rest
   where
@@ -209,7 +232,8 @@ pair-frame s f (c ∷ cs) = let rest = pair-frame s f cs in both (same_slot s c.
     both false false n m h = omega arith
 
 -- two slots at one frame
-pub two_slots : (s t : Slot) (f : ℕ) (cs : List Cached) → same_slot s t ≡ false → how_many (λ (c : Cached). same_slot s c.slot && f == c.frame) cs + how_many (λ (c : Cached). same_slot t c.slot && f == c.frame) cs ≤ how_many (λ (c : Cached). f == c.frame) cs
+pub two_slots : (s t : Slot) (f : ℕ) (cs : List Cached) → same_slot s t ≡ false → how_many (λ (c : Cached). same_slot s c.slot && f == c.frame) cs + how_many
+    (λ (c : Cached). same_slot t c.slot && f == c.frame) cs ≤ how_many (λ (c : Cached). f == c.frame) cs
 two_slots s t f [] h = omega arith
 two_slots s t f (c ∷ cs) h = let rest = two_slots s t f cs h in each (same_slot s c.slot) (same_slot t c.slot) (f == c.frame) _ _ _ (λ a b. apart a b) rest
   where
@@ -226,7 +250,8 @@ two_slots s t f (c ∷ cs) h = let rest = two_slots s t f cs h in each (same_slo
     each false false false n m k h i = omega arith
 
 -- two frames at one slot
-pub two_frames : (s : Slot) (f g : ℕ) (cs : List Cached) → (f == g) ≡ false → how_many (λ (c : Cached). same_slot s c.slot && f == c.frame) cs + how_many (λ (c : Cached). same_slot s c.slot && g == c.frame) cs ≤ how_many (λ (c : Cached). same_slot s c.slot) cs
+pub two_frames : (s : Slot) (f g : ℕ) (cs : List Cached) → (f == g) ≡ false → how_many (λ (c : Cached). same_slot s c.slot && f == c.frame) cs + how_many
+    (λ (c : Cached). same_slot s c.slot && g == c.frame) cs ≤ how_many (λ (c : Cached). same_slot s c.slot) cs
 two_frames s f g [] h = omega arith
 two_frames s f g (c ∷ cs) h = let rest = two_frames s f g cs h in each (same_slot s c.slot) (f == c.frame) (g == c.frame) _ _ _ (λ a b. apart a b) rest
   where

@@ -15,7 +15,8 @@ use Rattle.av_plain.proofs.Sound.Cache.{tail-kept}
 
 -- ---- flight
 
-pub started-kept : (m : Setting) (x : Slot → ℕ) (l : Ledger) (t : Slot) → IsSoundBut m x l → 0 < slots l t → flights l t ≡ 0 → IsSoundBut m x (after_note (Started t) l)
+pub started-kept : (m : Setting) (x : Slot → ℕ) (l : Ledger) (t : Slot) → IsSoundBut m x l → 0 < slots l t → flights l t ≡ 0 →
+    IsSoundBut m x (after_note (Started t) l)
 started-kept m x l t s cached still = with_stale-kept m x (record l { flight = l.flight ++ t ∷ [] }) false t (record {
   in_order = s.in_order;
   slots_once = s.slots_once;
@@ -31,13 +32,17 @@ started-kept m x l t s cached still = with_stale-kept m x (record l { flight = l
     more r = how_many-append (same_slot r) l.flight (t ∷ [])
 
     fits : (r : Slot) (b : Bool) → same_slot r t ≡ b → (n : ℕ) → n ≡ flights l r + (cond b 1 0 + 0) → n ≤ slots l r
-    fits r true is n e = let z = ap (flights l) (slot-is r t is) ∙ still in let c = subst (λ y. 0 < slots l y) (sym (slot-is r t is)) cached in omega (arith, z, c, e)
+    fits r true is n e = let z = ap (flights l) (slot-is r t is) ∙ still in let c = subst (λ y. 0 < slots l y) (sym (slot-is r t is)) cached in
+        omega (arith, z, c, e)
     fits r false is n e = let h = s.flying r in omega (arith, h, e)
 
-pub flights-off_flight : (t r : Slot) (fs : List Slot) → how_many (same_slot r) (filter (λ q. not (same_slot t q)) fs) ≡ cond (same_slot r t) 0 (how_many (same_slot r) fs)
+pub flights-off_flight : (t r : Slot) (fs : List Slot) → how_many (same_slot r) (filter (λ q. not (same_slot t q)) fs) ≡ cond
+    (same_slot r t) 0 (how_many (same_slot r) fs)
 flights-off_flight t r [] = elim (same_slot r t) as (λ b. ◌≡◌ {A = ℕ} 0 (cond b 0 0)) [ true ↦ refl | false ↦ refl ]
 flights-off_flight t r (q ∷ fs) = let rest = flights-off_flight t r fs in
-    elim (same_slot t q) as (λ b. same_slot t q ≡ b → how_many (same_slot r) (cond (not b) (q ∷ filter (λ q. not (same_slot t q)) fs) (filter (λ q. not (same_slot t q)) fs)) ≡ cond (same_slot r t) 0 (cond (same_slot r q) 1 0 + how_many (same_slot r) fs)) [
+    elim (same_slot t q) as (λ b. same_slot t q ≡ b → how_many (same_slot r)
+    (cond (not b) (q ∷ filter (λ q. not (same_slot t q)) fs) (filter (λ q. not (same_slot t q)) fs)) ≡ cond (same_slot r t) 0
+    (cond (same_slot r q) 1 0 + how_many (same_slot r) fs)) [
       | true ↦ λ is. rest ∙ gone (same_slot r t) (same_slot r q) _ (ap (same_slot r) (slot-is t q is))
       | false ↦ λ is. ap (λ n. cond (same_slot r q) 1 0 + n) rest ∙ other (same_slot r t) (same_slot r q) _ (λ a b. apart a b is)
     ] refl
@@ -85,7 +90,8 @@ written-kept m l t s = by (frame_at l t) refl
   where
     by : (o : Option ℕ) → frame_at l t ≡ o → IsSoundBut m (excuse_of (Some t)) (if_some o to_inactive_tail (off_flight t l))
     by None is = off_flight-kept m l t s
-    by (Some f) is = tail-kept m (excuse_of (Some t)) (off_flight t l) f (off_flight-kept m l t s) (let p = frame_at-some f t l.cache is in let q = pair-frame t f l.cache in omega (arith, p, q))
+    by (Some f) is = tail-kept m (excuse_of (Some t)) (off_flight t l) f (off_flight-kept m l t s) (let p = frame_at-some f t l.cache is in
+        let q = pair-frame t f l.cache in omega (arith, p, q))
 
 pub failed-kept : (m : Setting) (l : Ledger) (t : Slot) → IsSound m l → IsSoundBut m (excuse_of (Some t)) (after_note (Failed t) l)
 failed-kept m l t s = with_stale-kept m (excuse_of (Some t)) (off_flight t l) true t (off_flight-kept m l t s)
@@ -93,9 +99,19 @@ failed-kept m l t s = with_stale-kept m (excuse_of (Some t)) (off_flight t l) tr
 -- ---- the excuse ends: the slot is dropped where it is an orphan, and else has a use
 
 pub unexcused : (m : Setting) (l : Ledger) (t : Slot) → IsSoundBut m (excuse_of (Some t)) l → is_orphan l t ≡ false → IsSound m l
-unexcused m l t s kept = record { in_order = s.in_order; slots_once = s.slots_once; frames_once = s.frames_once; in_range = s.in_range; listed = s.listed; flying = s.flying; used = λ r g h. by r g h (same_slot r t) refl (s.used r g h); one = s.one }
+unexcused m l t s kept = record {
+  in_order = s.in_order;
+  slots_once = s.slots_once;
+  frames_once = s.frames_once;
+  in_range = s.in_range;
+  listed = s.listed;
+  flying = s.flying;
+  used = λ r g h. by r g h (same_slot r t) refl (s.used r g h);
+  one = s.one;
+}
   where
-    by : (r : Slot) (g : ℕ) → 0 < pairs l r g → (b : Bool) → same_slot r t ≡ b → 0 < flights l r + slot_entries l r + map_count l g + cond b 1 0 → 0 < flights l r + slot_entries l r + map_count l g + 0
+    by : (r : Slot) (g : ℕ) → 0 < pairs l r g → (b : Bool) → same_slot r t ≡ b → 0 < flights l r + slot_entries l r + map_count l g + cond b 1 0 →
+        0 < flights l r + slot_entries l r + map_count l g + 0
     by r g h true is u = subst (λ z. 0 < flights l z + slot_entries l z + map_count l g + 0) (sym (slot-is r t is)) (has (frame_at l t) refl)
       where
         h' : 0 < pairs l t g
@@ -113,11 +129,13 @@ unexcused m l t s kept = record { in_order = s.in_order; slots_once = s.slots_on
                 (ap (λ y. (map_count l y == 0) && not (nat_lt 0 (flights l t)) && slot_entries l t == 0) (same-is g f e)
                 ∙ ap (λ y. (map_count l f == 0) && not y && slot_entries l t == 0) (sym (any-counts (same_slot t) l.flight))
                 ∙ ap (λ o. is_unmapped l o && not (in_flight l t) && slot_entries l t == 0) (sym if_some) ∙ kept)
-            same false e = let p = frame_at-some f t l.cache if_some in let two = two_frames t g f l.cache e in let once = s.slots_once t in absurd (omega (arith, p, two, once, h'))
+            same false e = let p = frame_at-some f t l.cache if_some in let two = two_frames t g f l.cache e in let once = s.slots_once t in
+                absurd (omega (arith, p, two, once, h'))
     by r g h false is u = u
 
 pub orphan-landed : (l : Ledger) (t : Slot) → is_orphan l t ≡ true → flights l t ≡ 0
-orphan-landed l t is = zero_is (flights l t) (is_unmapped l (frame_at l t)) (slot_entries l t == 0) (ap (λ y. is_unmapped l (frame_at l t) && not y && slot_entries l t == 0) (sym (any-counts (same_slot t) l.flight)) ∙ is)
+orphan-landed l t is = zero_is (flights l t) (is_unmapped l (frame_at l t)) (slot_entries l t == 0)
+    (ap (λ y. is_unmapped l (frame_at l t) && not y && slot_entries l t == 0) (sym (any-counts (same_slot t) l.flight)) ∙ is)
   where
     zero_is : (n : ℕ) (a c : Bool) → (a && not (nat_lt 0 n) && c) ≡ true → n ≡ 0
     zero_is n true c h = grind (arith, nat_tests, h)

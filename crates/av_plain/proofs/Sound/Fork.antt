@@ -4,20 +4,20 @@ use Rattle.std.proofs.lemmas.Bool.Decides.{nat_tests}
 use Rattle.std.specs.Option.{option_or}
 use Rattle.av_plain.specs.Event.{put_all, without_seen}
 use Rattle.av_plain.specs.Ledger.{Entry, InFrame, InSlot, Ledger, Setting, Zero, entry}
-use Rattle.av_plain.specs.Sound.{IsSound, kin}
+use Rattle.av_plain.specs.Sound.{IsSound, name_one}
 use Rattle.av_plain.proofs.Event.{is_sorted-put_all, put_all-only}
 use Rattle.av_plain.proofs.Fork.{copies, entry-forked, child_ledger, forked-is, frames-grow, slots-grow}
 use Rattle.av_plain.proofs.Sound.Cache.{back}
 use Rattle.av_plain.proofs.Sound.There.{NoNew, less}
 
-kin-unseen : (l : Ledger) (d e : Entry) → kin l (without_seen d) (without_seen e) ≡ kin l d e
-kin-unseen l Zero e = refl
-kin-unseen l (InFrame i v) Zero = refl
-kin-unseen l (InFrame i v) (InFrame j u) = refl
-kin-unseen l (InFrame i v) (InSlot t) = refl
-kin-unseen l (InSlot r) Zero = refl
-kin-unseen l (InSlot r) (InFrame j u) = refl
-kin-unseen l (InSlot r) (InSlot t) = refl
+name_one-unseen : (l : Ledger) (d e : Entry) → name_one l (without_seen d) (without_seen e) ≡ name_one l d e
+name_one-unseen l Zero e = refl
+name_one-unseen l (InFrame i v) Zero = refl
+name_one-unseen l (InFrame i v) (InFrame j u) = refl
+name_one-unseen l (InFrame i v) (InSlot t) = refl
+name_one-unseen l (InSlot r) Zero = refl
+name_one-unseen l (InSlot r) (InFrame j u) = refl
+name_one-unseen l (InSlot r) (InSlot t) = refl
 
 -- the child has no entries before
 module _ (m : Setting) (l : Ledger) (p q : ℕ) (s : IsSound m l) (none : (page : ℕ) → entry l (q, page) ≡ None) where
@@ -26,8 +26,10 @@ module _ (m : Setting) (l : Ledger) (p q : ℕ) (s : IsSound m l) (none : (page 
   then = put_all (copies p q l.entries) l
 
   -- an entry of the child is one of the parent
-  child : (r : ℕ) → (r == q) ≡ true → (a : ℕ) (d : Entry) → option_or (option_map without_seen (entry l (p, a))) (entry l (r, a)) ≡ Some d → option_map without_seen (entry l (p, a)) ≡ Some d
-  child r is a d at = sym (or_none (option_map without_seen (entry l (p, a)))) ∙ ap (option_or (option_map without_seen (entry l (p, a)))) (sym (ap (λ x. entry l (x, a)) (same r q is) ∙ none a)) ∙ at
+  child : (r : ℕ) → (r == q) ≡ true → (a : ℕ) (d : Entry) → option_or (option_map without_seen (entry l (p, a))) (entry l (r, a)) ≡ Some d →
+      option_map without_seen (entry l (p, a)) ≡ Some d
+  child r is a d at = sym (or_none (option_map without_seen (entry l (p, a)))) ∙ ap (option_or (option_map without_seen (entry l (p, a))))
+      (sym (ap (λ x. entry l (x, a)) (same r q is) ∙ none a)) ∙ at
     where
       same : (a b : ℕ) → (a == b) ≡ true → a ≡ b
       same a b h = grind (arith, nat_tests, h)
@@ -36,17 +38,19 @@ module _ (m : Setting) (l : Ledger) (p q : ℕ) (s : IsSound m l) (none : (page 
       or_none None = refl
       or_none (Some x) = refl
 
-  one_each : (r a b : ℕ) (d e : Entry) → entry then (r, a) ≡ Some d → entry then (r, b) ≡ Some e → kin l d e ≡ true → a ≡ b
+  one_each : (r a b : ℕ) (d e : Entry) → entry then (r, a) ≡ Some d → entry then (r, b) ≡ Some e → name_one l d e ≡ true → a ≡ b
   one_each r a b d e at at' related = by (r == q) refl (found a d at) (found b e at')
     where
-      found : (a : ℕ) (d : Entry) → entry then (r, a) ≡ Some d → option_or (cond (r == q) (option_map without_seen (entry l (p, a))) None) (entry l (r, a)) ≡ Some d
+      found : (a : ℕ) (d : Entry) → entry then (r, a) ≡ Some d → option_or (cond (r == q) (option_map without_seen (entry l (p, a))) None)
+          (entry l (r, a)) ≡ Some d
       found a d at = sym (entry-forked p q l (r, a) s.in_order) ∙ ap (λ l. entry l (r, a)) (forked-is p q l) ∙ at
 
-      by : (c : Bool) → (r == q) ≡ c → option_or (cond c (option_map without_seen (entry l (p, a))) None) (entry l (r, a)) ≡ Some d → option_or (cond c (option_map without_seen (entry l (p, b))) None) (entry l (r, b)) ≡ Some e → a ≡ b
+      by : (c : Bool) → (r == q) ≡ c → option_or (cond c (option_map without_seen (entry l (p, a))) None) (entry l (r, a)) ≡ Some d →
+          option_or (cond c (option_map without_seen (entry l (p, b))) None) (entry l (r, b)) ≡ Some e → a ≡ b
       by true is g g' =
           let u = back without_seen (entry l (p, a)) d (child r is a d g) in
           let v = back without_seen (entry l (p, b)) e (child r is b e g') in
-          s.one p a b u.0 v.0 u.1 v.1 (sym (kin-unseen l u.0 v.0) ∙ (λ i. kin l (u.2 i) (v.2 i)) ∙ related)
+          s.one p a b u.0 v.0 u.1 v.1 (sym (name_one-unseen l u.0 v.0) ∙ (λ i. name_one l (u.2 i) (v.2 i)) ∙ related)
       by false is g g' = s.one r a b d e g g' related
 
   sound-then : IsSound m (record l { entries = then.entries })

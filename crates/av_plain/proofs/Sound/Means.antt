@@ -5,7 +5,7 @@ use Rattle.std.specs.List.{AllByRecursion, IsDistinct}
 use Rattle.av_base.specs.Words.{how_many}
 use Rattle.av_base.specs.declared.slot.Slot.{Slot}
 use Rattle.av_plain.specs.Ledger.{Cached, Entry, InFrame, InSlot, Ledger, Setting, Zero, frame_at, in_flight, is_cached, is_free, is_orphan, is_unmapped, map_count, names_frame, names_slot, same_slot, slot_entries, slot_of}
-use Rattle.av_plain.specs.Sound.{AllSound, SaysSound, flights, is_at_slot, is_of, kin, pairs, same_cached, slots, uses}
+use Rattle.av_plain.specs.Sound.{AllSound, SaysSound, flights, is_at_slot, is_of, name_one, pairs, same_cached, slots, uses}
 use Rattle.av_plain.specs.World.{World}
 use Rattle.av_plain.proofs.Ledger.{how_many-append, how_many-found}
 use Rattle.av_plain.proofs.Sound.Bound.{map_count-bound, slot_entries-bound}
@@ -14,7 +14,8 @@ use Rattle.av_plain.proofs.Sound.Counts.{frame_at-some, same-is, same-itself, sl
 use Rattle.av_plain.proofs.Sound.Entries.{flag}
 
 -- none of them is counted: then each fails
-others-differ : (c : Cached) (cs : List Cached) → how_many (λ (d : Cached). same_slot c.slot d.slot) cs ≡ 0 → how_many (λ (d : Cached). c.frame == d.frame) cs ≡ 0 → AllByRecursion (λ d. same_cached c d ≡ false) cs
+others-differ : (c : Cached) (cs : List Cached) → how_many (λ (d : Cached). same_slot c.slot d.slot) cs ≡ 0 →
+    how_many (λ (d : Cached). c.frame == d.frame) cs ≡ 0 → AllByRecursion (λ d. same_cached c d ≡ false) cs
 others-differ c [] h i = tt
 others-differ c (d ∷ cs) h i = (neither (same_slot c.slot d.slot) (c.frame == d.frame) _ _ h i, others-differ c cs (rest _ _ h) (rest _ _ i))
   where
@@ -26,11 +27,13 @@ others-differ c (d ∷ cs) h i = (neither (same_slot c.slot d.slot) (c.frame == 
     neither false true n k h i = absurd (omega (arith, i))
     neither false false n k h i = refl
 
-distinct : (cs : List Cached) → ((s : Slot) → how_many (λ (c : Cached). same_slot s c.slot) cs ≤ 1) → ((f : ℕ) → how_many (λ (c : Cached). f == c.frame) cs ≤ 1) → IsDistinct same_cached cs
+distinct : (cs : List Cached) → ((s : Slot) → how_many (λ (c : Cached). same_slot s c.slot) cs ≤ 1) →
+    ((f : ℕ) → how_many (λ (c : Cached). f == c.frame) cs ≤ 1) → IsDistinct same_cached cs
 unfolding IsDistinct
 distinct [] h i = tt
 distinct (c ∷ cs) h i = (
-  others-differ c cs (let a = h c.slot in let b = flag _ _ (slot-itself c.slot) in omega (arith, a, b)) (let a = i c.frame in let b = flag _ _ (same-itself c.frame) in omega (arith, a, b)),
+  others-differ c cs (let a = h c.slot in let b = flag _ _ (slot-itself c.slot) in omega (arith, a, b)) (let a = i c.frame in
+      let b = flag _ _ (same-itself c.frame) in omega (arith, a, b)),
   distinct cs (λ s. let a = h s in omega (arith, a)) (λ f. let a = i f in omega (arith, a)),
 )
 
@@ -48,10 +51,11 @@ says m w l all = let s = all.ledger in record {
   frames = λ k e f at named. let p = how_many-found (names_frame f) k l.entries e at named in s.in_range f (omega (arith, p));
   cached_frames = in_range_all l.cache m.frames (λ f h. s.in_range f (omega (arith, h)));
   listed = λ f. how_many-append (λ g. f == g) l.active l.inactive ∙ s.listed f ∙ free_or (uses l f) (is_free l f) (free-is l f);
-  flying = λ t. let a = s.flying t in let b = s.slots_once t in fits (flights l t) (slots l t) a b (is_cached l t) (any-counts (λ (c : Cached). same_slot t c.slot) l.cache);
+  flying = λ t. let a = s.flying t in let b = s.slots_once t in fits (flights l t) (slots l t) a b (is_cached l t)
+      (any-counts (λ (c : Cached). same_slot t c.slot) l.cache);
   used = λ t. not_orphan t (frame_at l t) refl;
   one_frame = λ f p a b d e at named at' named'. s.one p a b d e at at' (both f d e named named');
-  one_slot = λ t p a b d e at named at' named'. s.one p a b d e at at' (slots_kin t d e named named');
+  one_slot = λ t p a b d e at named at' named'. s.one p a b d e at at' (slots_name_one t d e named named');
   mapped_few = λ f. map_count-bound m w l f all;
   slot_entries_few = λ t. slot_entries-bound m w l t all;
 }
@@ -68,7 +72,8 @@ says m w l all = let s = all.ledger in record {
     not_orphan t None at = ap (λ o. is_unmapped l o && not (in_flight l t) && slot_entries l t == 0) at
     not_orphan t (Some f) at =
         let u = all.ledger.used t f (frame_at-some f t l.cache at) in
-        ap (λ o. is_unmapped l o && not (in_flight l t) && slot_entries l t == 0) at ∙ ap (λ y. (map_count l f == 0) && not y && slot_entries l t == 0) (any-counts (same_slot t) l.flight) ∙ none (map_count l f) (flights l t) (slot_entries l t) u
+        ap (λ o. is_unmapped l o && not (in_flight l t) && slot_entries l t == 0) at ∙ ap (λ y. (map_count l f == 0) && not y && slot_entries l t == 0)
+        (any-counts (same_slot t) l.flight) ∙ none (map_count l f) (flights l t) (slot_entries l t) u
       where
         none : (a b c : ℕ) → 0 < b + c + a + 0 → ((a == 0) && not (nat_lt 0 b) && c == 0) ≡ false
         none a b c h = grind (arith, nat_tests, h)
@@ -81,8 +86,8 @@ says m w l all = let s = all.ledger in record {
     slot_pair f r None at h = cc
     slot_pair f r (Some t) at h = subst (λ y. 0 < pairs l y f) (slot-is t r h) (slot_of-some f t l.cache at)
 
-    -- two entries of one frame, or of its slot, are kin
-    both : (f : ℕ) (d e : Entry) → is_of l f d ≡ true → is_of l f e ≡ true → kin l d e ≡ true
+    -- two entries of one frame, or of its slot, name one memory
+    both : (f : ℕ) (d e : Entry) → is_of l f d ≡ true → is_of l f e ≡ true → name_one l d e ≡ true
     both f Zero e h i = absurd (no_zero (slot_of l f) h)
       where
         no_zero : (o : Option Slot) → is_at_slot o Zero ≡ true → ⊥
@@ -95,7 +100,8 @@ says m w l all = let s = all.ledger in record {
         no_zero (Some t) h = cc
     both f (InFrame g v) (InFrame j u) h i = same (slot_of l f) (f == g) (f == j) refl refl h i
       where
-        same : (o : Option Slot) (a b : Bool) → (f == g) ≡ a → (f == j) ≡ b → (a || is_at_slot o (InFrame g v)) ≡ true → (b || is_at_slot o (InFrame j u)) ≡ true → (g == j) ≡ true
+        same : (o : Option Slot) (a b : Bool) → (f == g) ≡ a → (f == j) ≡ b → (a || is_at_slot o (InFrame g v)) ≡ true →
+            (b || is_at_slot o (InFrame j u)) ≡ true → (g == j) ≡ true
         same o true true x y h i = grind (arith, nat_tests, x, y)
         same None false b x y h i = cc
         same (Some t) false b x y h i = cc
@@ -130,9 +136,9 @@ says m w l all = let s = all.ledger in record {
         same None h i = cc
         same (Some t) h i = subst (λ y. same_slot y q ≡ true) (slot-is t r h) i
 
-    slots_kin : (t : Slot) (d e : Entry) → names_slot t d ≡ true → names_slot t e ≡ true → kin l d e ≡ true
-    slots_kin t Zero e h i = cc
-    slots_kin t (InFrame g v) e h i = cc
-    slots_kin t (InSlot r) Zero h i = cc
-    slots_kin t (InSlot r) (InFrame g v) h i = cc
-    slots_kin t (InSlot r) (InSlot q) h i = subst (λ y. same_slot y q ≡ true) (slot-is t r h) i
+    slots_name_one : (t : Slot) (d e : Entry) → names_slot t d ≡ true → names_slot t e ≡ true → name_one l d e ≡ true
+    slots_name_one t Zero e h i = cc
+    slots_name_one t (InFrame g v) e h i = cc
+    slots_name_one t (InSlot r) Zero h i = cc
+    slots_name_one t (InSlot r) (InFrame g v) h i = cc
+    slots_name_one t (InSlot r) (InSlot q) h i = subst (λ y. same_slot y q ≡ true) (slot-is t r h) i

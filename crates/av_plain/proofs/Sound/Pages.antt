@@ -68,7 +68,8 @@ module _ (test : Key → Bool) where
   same-at l l' e all q h = all q (ap (λ es. is_some (entry (record l { entries = es }) q)) (sym e) ∙ h)
 
   change-at : (l : Ledger) (f : ℕ) (c : Entry → Entry) → AllAt l → AllAt (change_entries f c l)
-  change-at l f c all q h = all q (sym (kept (λ e. cond (names f e) (c e) e) (entry l q)) ∙ ap is_some (sym (find-map key_cmp (λ e. cond (names f e) (c e) e) q l.entries)) ∙ h)
+  change-at l f c all q h = all q (sym (kept (λ e. cond (names f e) (c e) e) (entry l q))
+      ∙ ap is_some (sym (find-map key_cmp (λ e. cond (names f e) (c e) e) q l.entries)) ∙ h)
     where
       names : ℕ → Entry → Bool
       names f Zero = false
@@ -125,11 +126,13 @@ module _ (test : Key → Bool) where
   bring-completes : (l : Ledger) (ts : List Slot) (notes : List Note) → Completes l ts notes → AllBring test notes
   bring-completes l [] notes c = bring-is notes [] c tt
   bring-completes l (t ∷ ts) notes c = bring-is notes _ c.2
-      (bring-append (end_notes l t c.0) c.1 (bring-end c.0 t, bring-when (is_orphan (after_note (end_note c.0 t) l) t) (Dropped t) tt) (bring-completes (after_notes l (end_notes l t c.0)) ts c.1 c.3))
+      (bring-append (end_notes l t c.0) c.1 (bring-end c.0 t, bring-when (is_orphan (after_note (end_note c.0 t) l) t) (Dropped t) tt)
+      (bring-completes (after_notes l (end_notes l t c.0)) ts c.1 c.3))
 
   bring-turn : (l : Ledger) (f : ℕ) (t : Slot) (failed : Bool) → AllBring test (turn_notes l f t failed)
   bring-turn l f t failed =
-      bring-append (unmap_notes l f t) _ (bring-append (when (is_none (slot_of l f)) (Put f t)) _ (bring-when (is_none (slot_of l f)) (Put f t) tt) (bring-when (not (map_count l f == 0)) (Unmapped f) tt)) (by (is_dirty l f t))
+      bring-append (unmap_notes l f t) _ (bring-append (when (is_none (slot_of l f)) (Put f t)) _ (bring-when (is_none (slot_of l f)) (Put f t) tt)
+      (bring-when (not (map_count l f == 0)) (Unmapped f) tt)) (by (is_dirty l f t))
     where
       by : (b : Bool) → AllBring test (cond b (Started t ∷ end_note failed t ∷ []) [])
       by true = (tt, (bring-end failed t, tt))
@@ -139,14 +142,18 @@ module _ (test : Key → Bool) where
   bring-turns m sp l [] notes r = bring-is notes [] r tt
   bring-turns m sp l (f ∷ fs) notes r = stuck (λ l' ns q. bring-turns m sp l' fs ns q) (is_stuck m sp l f) r
     where
-      stuck : ((l' : Ledger) (ns : List Note) → Turns m sp l' fs ns → AllBring test ns) → (b : Bool) → MatchBool b (Turns m sp l fs notes) ((t : Slot) × (failed : Bool) × IsSlotFor m sp l f t × MatchBool (stays_cached l f t failed)
-          ((rest : List Note) × (notes ≡ turn_notes l f t failed ++ rest) × Turns m sp (after_notes l (turn_notes l f t failed)) fs rest) (notes ≡ turn_notes l f t failed ++ Dropped t ∷ []))
+      stuck : ((l' : Ledger) (ns : List Note) → Turns m sp l' fs ns → AllBring test ns) → (b : Bool) →
+          MatchBool b (Turns m sp l fs notes) ((t : Slot) × (failed : Bool) × IsSlotFor m sp l f t × MatchBool (stays_cached l f t failed)
+          ((rest : List Note) × (notes ≡ turn_notes l f t failed ++ rest) × Turns m sp (after_notes l (turn_notes l f t failed)) fs rest)
+          (notes ≡ turn_notes l f t failed ++ Dropped t ∷ []))
           → AllBring test notes
       stuck again true r = again l notes r
       stuck again false r = goes (stays_cached l f r.0 r.1) r.3
         where
-          goes : (b : Bool) → MatchBool b ((rest : List Note) × (notes ≡ turn_notes l f r.0 r.1 ++ rest) × Turns m sp (after_notes l (turn_notes l f r.0 r.1)) fs rest) (notes ≡ turn_notes l f r.0 r.1 ++ Dropped r.0 ∷ []) → AllBring test notes
-          goes true q = bring-is notes _ q.1 (bring-append (turn_notes l f r.0 r.1) q.0 (bring-turn l f r.0 r.1) (again (after_notes l (turn_notes l f r.0 r.1)) q.0 q.2))
+          goes : (b : Bool) → MatchBool b ((rest : List Note) × (notes ≡ turn_notes l f r.0 r.1 ++ rest) × Turns m sp (after_notes l (turn_notes l f r.0 r.1))
+              fs rest) (notes ≡ turn_notes l f r.0 r.1 ++ Dropped r.0 ∷ []) → AllBring test notes
+          goes true q = bring-is notes _ q.1 (bring-append (turn_notes l f r.0 r.1) q.0 (bring-turn l f r.0 r.1)
+              (again (after_notes l (turn_notes l f r.0 r.1)) q.0 q.2))
           goes false q = bring-is notes _ q (bring-append (turn_notes l f r.0 r.1) (Dropped r.0 ∷ []) (bring-turn l f r.0 r.1) (tt, tt))
 
   pub bring-seeks : (m : Setting) (sp : Spared) (l : Ledger) (notes : List Note) → Seeks m sp l notes → AllBring test notes
@@ -158,12 +165,15 @@ module _ (test : Key → Bool) where
 
       by : (b : Bool) → MatchBool b (notes ≡ []) (IsPass m sp l notes) → AllBring test notes
       by true q = bring-is notes [] q tt
-      by false q = bring-is notes _ q.2 (bring-append q.0 q.1 (bring-completes l l.flight q.0 q.3) (pass (has_free m (after_notes l q.0)) (after_notes l q.0) (frames_in_turn sp (after_notes l q.0)) q.1 q.4))
+      by false q = bring-is notes _ q.2 (bring-append q.0 q.1 (bring-completes l l.flight q.0 q.3)
+          (pass (has_free m (after_notes l q.0)) (after_notes l q.0) (frames_in_turn sp (after_notes l q.0)) q.1 q.4))
 
   -- ---- accesses bring one at their page
 
-  pub bring-takes : (m : Setting) (sp : Spared) (l : Ledger) (notes : List Note) (note : ℕ → Note) → ((f : ℕ) → Brings test (note f)) → TakesFor m sp l notes note → AllBring test notes
-  bring-takes m sp l notes note h takes = bring-is notes _ takes.whole (bring-append takes.sought _ (bring-seeks m sp l takes.sought takes.seeks) (h takes.frame, tt))
+  pub bring-takes : (m : Setting) (sp : Spared) (l : Ledger) (notes : List Note) (note : ℕ → Note) → ((f : ℕ) → Brings test (note f)) →
+      TakesFor m sp l notes note → AllBring test notes
+  bring-takes m sp l notes note h takes = bring-is notes _ takes.whole
+      (bring-append takes.sought _ (bring-seeks m sp l takes.sought takes.seeks) (h takes.frame, tt))
 
   module _ (k : Key) (here : test k ≡ true) where
     at_key : test (key_at k.0 (address_of k.1)) ≡ true
@@ -199,10 +209,16 @@ module _ (test : Key → Bool) where
         by (Some (InSlot t)) = tt
 
     bring-serves : (m : Setting) (sp : Sparing) (l : Ledger) (write : Bool) (notes : List Note) → Serves m sp l write k notes → AllBring test notes
-    bring-serves m sp l write notes h = bring-is notes _ h.whole (bring-append (h.coming ++ h.making) _ (bring-append h.coming h.making (bring-comes m sp l (need write l (entry l k)) h.coming h.comes_in) (bring-made m sp (after_notes l h.coming) (need write (after_notes l h.coming) (entry (after_notes l h.coming) k)) h.making h.made)) (bring-spare m write (was_slot (need write l (entry l k))) (after_notes l (h.coming ++ h.making))))
+    bring-serves m sp l write notes h = bring-is notes _ h.whole (bring-append (h.coming ++ h.making) _
+        (bring-append h.coming h.making (bring-comes m sp l (need write l (entry l k)) h.coming h.comes_in)
+        (bring-made m sp (after_notes l h.coming) (need write (after_notes l h.coming) (entry (after_notes l h.coming) k)) h.making h.made))
+        (bring-spare m write (was_slot (need write l (entry l k))) (after_notes l (h.coming ++ h.making))))
 
-    bring-runs_out : (m : Setting) (sp : Sparing) (l : Ledger) (write : Bool) (notes : List Note) (out : OutOf) → RunsOut m sp l write k notes out → AllBring test notes
-    bring-runs_out m sp l write notes out h = bring-is notes _ h.whole (bring-append h.coming h.sought (by h.before) (bring-seeks m (sp (after_notes l h.coming) (pinned_by (need write (after_notes l h.coming) (entry (after_notes l h.coming) k)))) (after_notes l h.coming) h.sought h.finds.seeks))
+    bring-runs_out : (m : Setting) (sp : Sparing) (l : Ledger) (write : Bool) (notes : List Note) (out : OutOf) →
+        RunsOut m sp l write k notes out → AllBring test notes
+    bring-runs_out m sp l write notes out h = bring-is notes _ h.whole
+        (bring-append h.coming h.sought (by h.before) (bring-seeks m (sp (after_notes l h.coming)
+        (pinned_by (need write (after_notes l h.coming) (entry (after_notes l h.coming) k)))) (after_notes l h.coming) h.sought h.finds.seeks))
       where
         by : (h.coming ≡ []) ⊎ ComesIn m sp l k (need write l (entry l k)) h.coming → AllBring test h.coming
         by (inl e) = bring-is h.coming [] e tt
@@ -220,7 +236,8 @@ allowed-there w write k h = by (pages w k.0 k.1) h
     by None h = cc
     by (Some q) h = refl
 
-pub touches-bring : (m : Setting) (w : World) (l : Ledger) (write : Bool) (k : Key) (notes : List Note) (end : Option Stop) → Touches m w l write k notes end → AllBring (at_page w) notes
+pub touches-bring : (m : Setting) (w : World) (l : Ledger) (write : Bool) (k : Key) (notes : List Note) (end : Option Stop) →
+    Touches m w l write k notes end → AllBring (at_page w) notes
 touches-bring m w l write k notes None h = bring-serves (at_page w) k (allowed-there w write k h.0) m (sparing w) l write notes h.1
 touches-bring m w l write k notes (Some Denied) h = bring-is (at_page w) notes [] h.1 tt
 touches-bring m w l write k notes (Some (Starved out)) h = bring-runs_out (at_page w) k (allowed-there w write k h.0) m (sparing w) l write notes out h.1
@@ -243,9 +260,15 @@ used-at w l write k all = by write (entry l k) refl
     by false (Some (InFrame f seen)) is = set_here f seen is
     by true (Some (InFrame f seen)) is = stale (slot_of l f) _ (set_here f seen is)
 
-pub page_events-at : (w : World) (l : Ledger) (write : Bool) (k : Key) (notes : List Note) (end : Option Stop) → AllAt (at_page w) (after_notes l notes) → AllAt (at_page w) (after_all l (page_events write k notes end))
-page_events-at w l write k notes None s = subst (AllAt (at_page w)) (sym (after_all-append l (note_events notes) (Used write k ∷ []) ∙ ap (after_use write k) (note_events-all l notes))) (used-at w (after_notes l notes) write k s)
+pub page_events-at : (w : World) (l : Ledger) (write : Bool) (k : Key) (notes : List Note) (end : Option Stop) → AllAt (at_page w) (after_notes l notes) →
+    AllAt (at_page w) (after_all l (page_events write k notes end))
+page_events-at w l write k notes None s = subst (AllAt (at_page w))
+    (sym (after_all-append l (note_events notes) (Used write k ∷ []) ∙ ap (after_use write k) (note_events-all l notes)))
+    (used-at w (after_notes l notes) write k s)
 page_events-at w l write k notes (Some stop) s = subst (AllAt (at_page w)) (sym (note_events-all l notes)) s
 
-pub accesses-at : (m : Setting) (w : World) (l : Ledger) (p : ℕ) (ps : List (Bool × ℕ)) (events : List Event) (end : End) → AllAt (at_page w) l → Accesses m w l p ps events end → AllAt (at_page w) (after_all l events)
-accesses-at m w l p ps events end s h = accesses-keep (AllAt (at_page w)) m w p (λ l write page notes end s t. page_events-at w l write (p, page) notes end (notes-at (at_page w) l notes (touches-bring m w l write (p, page) notes end t) s)) l ps events end s h
+pub accesses-at : (m : Setting) (w : World) (l : Ledger) (p : ℕ) (ps : List (Bool × ℕ)) (events : List Event) (end : End) → AllAt (at_page w) l →
+    Accesses m w l p ps events end → AllAt (at_page w) (after_all l events)
+accesses-at m w l p ps events end s h = accesses-keep (AllAt (at_page w)) m w p
+    (λ l write page notes end s t. page_events-at w l write (p, page) notes end
+    (notes-at (at_page w) l notes (touches-bring m w l write (p, page) notes end t) s)) l ps events end s h

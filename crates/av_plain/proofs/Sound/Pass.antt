@@ -47,7 +47,8 @@ ready-rest l l' f fs others h g = by (g == f) refl (h g)
 pub alike-uses : (l l' : Ledger) → Alike l l' → (g : ℕ) → uses l' g ≡ uses l g
 alike-uses l l' a g = let e = ap (λ es. map_count (record l { entries = es }) g) a.entries in let h = a.holders_same g in omega (arith, e, h)
 
-pub drop-others : (m : Setting) (l : Ledger) (t : Slot) (f g : ℕ) → IsSound m l → 0 < pairs l t f → (g == f) ≡ false → uses (after_note (Dropped t) l) g ≡ uses l g
+pub drop-others : (m : Setting) (l : Ledger) (t : Slot) (f g : ℕ) → IsSound m l → 0 < pairs l t f → (g == f) ≡ false →
+    uses (after_note (Dropped t) l) g ≡ uses l g
 drop-others m l t f g s pair other =
     let e = ap (λ es. map_count (record l { entries = es }) g) (settle-entries (frame_at l t) (off_cache t l)) in
     let h = holders-dropped l t g in
@@ -73,15 +74,26 @@ pub record Calm (l l' : Ledger) : Type 0 where
 
 -- an entry names the slot: then it has a use
 pub named-sound : (m : Setting) (l : Ledger) (t : Slot) → IsSoundBut m (excuse_of (Some t)) l → 0 < slot_entries l t → IsSound m l
-named-sound m l t s named = record { in_order = s.in_order; slots_once = s.slots_once; frames_once = s.frames_once; in_range = s.in_range; listed = s.listed; flying = s.flying; used = λ r g h. by r (same_slot r t) refl _ (s.used r g h); one = s.one }
+named-sound m l t s named = record {
+  in_order = s.in_order;
+  slots_once = s.slots_once;
+  frames_once = s.frames_once;
+  in_range = s.in_range;
+  listed = s.listed;
+  flying = s.flying;
+  used = λ r g h. by r (same_slot r t) refl _ (s.used r g h);
+  one = s.one;
+}
   where
     by : (r : Slot) (b : Bool) → same_slot r t ≡ b → (n : ℕ) → 0 < flights l r + slot_entries l r + n + cond b 1 0 → 0 < flights l r + slot_entries l r + n + 0
     by r true is n h = let k = subst (λ y. 0 < slot_entries l y) (sym (slot-is r t is)) named in omega (arith, k)
     by r false is n h = h
 
-pub turn-kept : (m : Setting) (sp : Spared) (l : Ledger) (f : ℕ) (t : Slot) (failed : Bool) → IsSound m l → ((r : Slot) → flights l r ≡ 0) → IsSlotFor m sp l f t → 0 < uses l f → TurnKept m l f t (after_notes l (turn_notes l f t failed))
+pub turn-kept : (m : Setting) (sp : Spared) (l : Ledger) (f : ℕ) (t : Slot) (failed : Bool) → IsSound m l → ((r : Slot) → flights l r ≡ 0) →
+    IsSlotFor m sp l f t → 0 < uses l f → TurnKept m l f t (after_notes l (turn_notes l f t failed))
 turn-kept m sp l f t failed s grounded for in_use =
-    subst (TurnKept m l f t) (sym (after_notes-append l (unmap_notes l f t) (cond (is_dirty l f t) (Started t ∷ end_note failed t ∷ []) []))) (goes (is_dirty l f t))
+    subst (TurnKept m l f t) (sym (after_notes-append l (unmap_notes l f t) (cond (is_dirty l f t) (Started t ∷ end_note failed t ∷ []) [])))
+    (goes (is_dirty l f t))
   where
     u : UnmapKept m l f t (after_notes l (unmap_notes l f t))
     u = unmap_notes-kept m sp l f t s for in_use
@@ -93,7 +105,15 @@ turn-kept m sp l f t failed s grounded for in_use =
     cached = let p = pair-slot t f (after_notes l (unmap_notes l f t)).cache in let q = u.pair in omega (arith, p, q)
 
     goes : (d : Bool) → TurnKept m l f t (after_notes (after_notes l (unmap_notes l f t)) (cond d (Started t ∷ end_note failed t ∷ []) []))
-    goes false = record { sound = u.sound; grounded = still; pair = u.pair; others = u.others; keeps = u.keeps; counts = u.counts; named = (let w = u.sound.used t f u.pair in let z = u.none in let y = still t in omega (arith, w, z, y)) }
+    goes false = record {
+      sound = u.sound;
+      grounded = still;
+      pair = u.pair;
+      others = u.others;
+      keeps = u.keeps;
+      counts = u.counts;
+      named = (let w = u.sound.used t f u.pair in let z = u.none in let y = still t in omega (arith, w, z, y));
+    }
     goes true =
         let l1 = after_notes l (unmap_notes l f t) in
         let l2 = after_note (Started t) l1 in
@@ -101,12 +121,14 @@ turn-kept m sp l f t failed s grounded for in_use =
         let a = alike-then l1 l2 l3 (alike-started l1 t) (alike-end_note l2 failed t) in
         let named : 0 < slot_entries l1 t = (let w = u.sound.used t f u.pair in let z = u.none in let y = still t in omega (arith, w, z, y)) in
         record {
-          sound = named-sound m l3 t (ended m l2 failed t (started-kept m no_excuse l1 t u.sound cached (still t))) (subst (λ es. 0 < slot_entries (record l1 { entries = es }) t) (sym a.entries) named);
+          sound = named-sound m l3 t (ended m l2 failed t (started-kept m no_excuse l1 t u.sound cached (still t)))
+              (subst (λ es. 0 < slot_entries (record l1 { entries = es }) t) (sym a.entries) named);
           grounded = λ r. flights-end_note l2 failed t r ∙ lands r (same_slot r t) _ (flights-started l1 t r);
           pair = (let e = a.pairs_same t f in let p = u.pair in omega (arith, e, p));
           others = λ g other. alike-uses l1 l3 a g ∙ u.others g other;
           keeps = λ spared apart. keeps-then spared l l1 l3 (u.keeps spared apart) (keeps-alike spared l1 l3 a);
-          counts = λ r h. let c = u.counts r h in let e = a.slots_same r in let d = ap (λ es. slot_entries (record l1 { entries = es }) r) a.entries in omega (arith, c, e, d);
+          counts = λ r h. let c = u.counts r h in let e = a.slots_same r in let d = ap (λ es. slot_entries (record l1 { entries = es }) r) a.entries in
+              omega (arith, c, e, d);
           named = subst (λ es. 0 < slot_entries (record l1 { entries = es }) t) (sym a.entries) named;
         }
       where
@@ -137,14 +159,19 @@ less_out spared f fs out g h = let z = out g h in omega (arith, z)
 
 -- what the rest of the frames keeps, from any ledger on
 abbrev pub Again : Setting → Spared → List ℕ → Type 0
-Again m sp fs = (l' : Ledger) (ns : List Note) → IsSound m l' → ((r : Slot) → flights l' r ≡ 0) → AreReady l' fs → LeavesOut sp.frame fs → Turns m sp l' fs ns → Passed m sp.frame l' (after_notes l' ns)
+Again m sp fs = (l' : Ledger) (ns : List Note) → IsSound m l' → ((r : Slot) → flights l' r ≡ 0) → AreReady l' fs → LeavesOut sp.frame fs → Turns m sp l' fs ns →
+    Passed m sp.frame l' (after_notes l' ns)
 
-pub turns-kept : (m : Setting) (sp : Spared) (l : Ledger) (fs : List ℕ) (notes : List Note) → IsSound m l → ((r : Slot) → flights l r ≡ 0) → AreReady l fs → LeavesOut sp.frame fs → Turns m sp l fs notes → Passed m sp.frame l (after_notes l notes)
-turns-kept m sp l [] notes s grounded ready out r = subst (λ ns. Passed m sp.frame l (after_notes l ns)) (sym r) (record { sound = s; keeps = keeps-alike sp.frame l l (alike-by l l refl refl); calm = λ g. record { grounded = g; counts = λ r h. h } })
+pub turns-kept : (m : Setting) (sp : Spared) (l : Ledger) (fs : List ℕ) (notes : List Note) → IsSound m l → ((r : Slot) → flights l r ≡ 0) → AreReady l fs →
+    LeavesOut sp.frame fs → Turns m sp l fs notes → Passed m sp.frame l (after_notes l notes)
+turns-kept m sp l [] notes s grounded ready out r = subst (λ ns. Passed m sp.frame l (after_notes l ns)) (sym r)
+    (record { sound = s; keeps = keeps-alike sp.frame l l (alike-by l l refl refl); calm = λ g. record { grounded = g; counts = λ r h. h } })
 turns-kept m sp l (f ∷ fs) notes s grounded ready out r = stuck (λ l' ns s' g' r' o' t'. turns-kept m sp l' fs ns s' g' r' o' t') (is_stuck m sp l f) r
   where
-    stuck : Again m sp fs → (b : Bool) → MatchBool b (Turns m sp l fs notes) ((t : Slot) × (failed : Bool) × IsSlotFor m sp l f t × MatchBool (stays_cached l f t failed)
-        ((rest : List Note) × (notes ≡ turn_notes l f t failed ++ rest) × Turns m sp (after_notes l (turn_notes l f t failed)) fs rest) (notes ≡ turn_notes l f t failed ++ Dropped t ∷ []))
+    stuck : Again m sp fs → (b : Bool) → MatchBool b (Turns m sp l fs notes)
+        ((t : Slot) × (failed : Bool) × IsSlotFor m sp l f t × MatchBool (stays_cached l f t failed)
+        ((rest : List Note) × (notes ≡ turn_notes l f t failed ++ rest) × Turns m sp (after_notes l (turn_notes l f t failed)) fs rest)
+        (notes ≡ turn_notes l f t failed ++ Dropped t ∷ []))
         → Passed m sp.frame l (after_notes l notes)
     stuck again true r = again l notes s grounded (ready-rest l l f fs (λ g other. refl) ready) (less_out sp.frame f fs out) r
     stuck again false r = goes (stays_cached l f r.0 r.1) r.3
@@ -155,18 +182,27 @@ turns-kept m sp l (f ∷ fs) notes s grounded ready out r = stuck (λ l' ns s' g
         apart : sp.frame f ≡ false
         apart = not_first sp.frame f fs out
 
-        goes : (b : Bool) → MatchBool b ((rest : List Note) × (notes ≡ turn_notes l f r.0 r.1 ++ rest) × Turns m sp (after_notes l (turn_notes l f r.0 r.1)) fs rest) (notes ≡ turn_notes l f r.0 r.1 ++ Dropped r.0 ∷ []) → Passed m sp.frame l (after_notes l notes)
+        goes : (b : Bool) → MatchBool b ((rest : List Note) × (notes ≡ turn_notes l f r.0 r.1 ++ rest) × Turns m sp (after_notes l (turn_notes l f r.0 r.1)) fs
+            rest) (notes ≡ turn_notes l f r.0 r.1 ++ Dropped r.0 ∷ []) → Passed m sp.frame l (after_notes l notes)
         goes true q =
             let l1 = after_notes l (turn_notes l f r.0 r.1) in
             let later = again l1 q.0 here.sound here.grounded (ready-rest l l1 f fs here.others ready) (less_out sp.frame f fs out) q.2 in
-            subst (λ ns. Passed m sp.frame l (after_notes l ns)) (sym q.1) (subst (Passed m sp.frame l) (sym (after_notes-append l (turn_notes l f r.0 r.1) q.0))
-            (record { sound = later.sound; keeps = keeps-then sp.frame l l1 _ (here.keeps sp.frame apart) later.keeps; calm = λ z. record { grounded = (later.calm here.grounded).grounded; counts = λ x h. (later.calm here.grounded).counts x (here.counts x h) } }))
+            subst (λ ns. Passed m sp.frame l (after_notes l ns)) (sym q.1)
+            (subst (Passed m sp.frame l) (sym (after_notes-append l (turn_notes l f r.0 r.1) q.0))
+            (record {
+              sound = later.sound;
+              keeps = keeps-then sp.frame l l1 _ (here.keeps sp.frame apart) later.keeps;
+              calm = λ z. record { grounded = (later.calm here.grounded).grounded; counts = λ x h. (later.calm here.grounded).counts x (here.counts x h) };
+            }))
         goes false q =
             let l1 = after_notes l (turn_notes l f r.0 r.1) in
-            subst (λ ns. Passed m sp.frame l (after_notes l ns)) (sym q) (subst (Passed m sp.frame l) (sym (after_notes-append l (turn_notes l f r.0 r.1) (Dropped r.0 ∷ [])))
+            subst (λ ns. Passed m sp.frame l (after_notes l ns)) (sym q)
+            (subst (Passed m sp.frame l) (sym (after_notes-append l (turn_notes l f r.0 r.1) (Dropped r.0 ∷ [])))
             (record {
               sound = drop-sound m l1 r.0 here.sound (here.grounded r.0);
-              keeps = keeps-then sp.frame l l1 _ (here.keeps sp.frame apart) (keeps-dropped sp.frame l1 r.0 (λ g h i. let two = two_frames r.0 g f l1.cache (other g h) in let once = here.sound.slots_once r.0 in let p = here.pair in omega (arith, two, once, p)));
+              keeps = keeps-then sp.frame l l1 _ (here.keeps sp.frame apart)
+                  (keeps-dropped sp.frame l1 r.0 (λ g h i. let two = two_frames r.0 g f l1.cache (other g h) in let once = here.sound.slots_once r.0 in
+                  let p = here.pair in omega (arith, two, once, p)));
               calm = λ z. record {
                 grounded = λ x. ap (how_many (same_slot x)) (settle-flight (frame_at l1 r.0) (off_cache r.0 l1)) ∙ here.grounded x;
                 counts = λ x h. let e = ap (λ es. slot_entries (record l1 { entries = es }) x) (settle-entries (frame_at l1 r.0) (off_cache r.0 l1)) in
@@ -174,9 +210,11 @@ turns-kept m sp l (f ∷ fs) notes s grounded ready out r = stuck (λ l' ns s' g
               };
             }))
           where
-            dropped : (x : Slot) (b : Bool) → same_slot x r.0 ≡ b → (n e : ℕ) → n ≡ cond b 0 (slots (after_notes l (turn_notes l f r.0 r.1)) x) → e ≡ slot_entries (after_notes l (turn_notes l f r.0 r.1)) x
+            dropped : (x : Slot) (b : Bool) → same_slot x r.0 ≡ b → (n e : ℕ) → n ≡ cond b 0 (slots (after_notes l (turn_notes l f r.0 r.1)) x) →
+                e ≡ slot_entries (after_notes l (turn_notes l f r.0 r.1)) x
                 → 0 < slots (after_notes l (turn_notes l f r.0 r.1)) x + slot_entries (after_notes l (turn_notes l f r.0 r.1)) x → 0 < n + e
-            dropped x true is n e c d k = let w = subst (λ y. 0 < slot_entries (after_notes l (turn_notes l f r.0 r.1)) y) (sym (slot-is x r.0 is)) here.named in omega (arith, w, d)
+            dropped x true is n e c d k = let w = subst (λ y. 0 < slot_entries (after_notes l (turn_notes l f r.0 r.1)) y)
+                (sym (slot-is x r.0 is)) here.named in omega (arith, w, d)
             dropped x false is n e c d k = omega (arith, c, d, k)
 
             other : (g : ℕ) → sp.frame g ≡ true → (g == f) ≡ false
@@ -218,7 +256,8 @@ all-ready m sp l s g =
 
 pub pass-kept : (m : Setting) (sp : Spared) (l : Ledger) (notes : List Note) → IsSound m l → IsPass m sp l notes → Passed m sp.frame l (after_notes l notes)
 pass-kept m sp l notes s r =
-    subst (λ ns. Passed m sp.frame l (after_notes l ns)) (sym r.2) (subst (Passed m sp.frame l) (sym (after_notes-append l r.0 r.1)) (goes (has_free m (after_notes l r.0)) r.4))
+    subst (λ ns. Passed m sp.frame l (after_notes l ns)) (sym r.2)
+    (subst (Passed m sp.frame l) (sym (after_notes-append l r.0 r.1)) (goes (has_free m (after_notes l r.0)) r.4))
   where
     now : Ledger
     now = after_notes l r.0
@@ -240,22 +279,35 @@ pass-kept m sp l notes s r =
         by [] is c = ap (after_notes l) c
         by (t ∷ ts) is c = let z = g t in let e = ap (how_many (same_slot t)) is in let i = flag _ _ (slot-itself t) in absurd (omega (arith, z, e, i))
 
-    counted : ((x : Slot) → flights l x ≡ 0) → (x : Slot) → 0 < slots l x + slot_entries l x → 0 < slots (after_notes l r.0) x + slot_entries (after_notes l r.0) x
+    counted : ((x : Slot) → flights l x ≡ 0) → (x : Slot) → 0 < slots l x + slot_entries l x →
+        0 < slots (after_notes l r.0) x + slot_entries (after_notes l r.0) x
     counted g x h = subst (λ y. 0 < slots y x + slot_entries y x) (sym (nothing_done g)) h
 
-    goes : (b : Bool) → MatchBool b (r.1 ≡ []) (Turns m sp (after_notes l r.0) (frames_in_turn sp (after_notes l r.0)) r.1) → Passed m sp.frame l (after_notes (after_notes l r.0) r.1)
-    goes true q = subst (λ ns. Passed m sp.frame l (after_notes (after_notes l r.0) ns)) (sym q) (record { sound = done.sound; keeps = done.keeps sp.frame; calm = λ g. record { grounded = all_landed m l (after_notes l r.0) done; counts = counted g } })
+    goes : (b : Bool) → MatchBool b (r.1 ≡ []) (Turns m sp (after_notes l r.0) (frames_in_turn sp (after_notes l r.0)) r.1) →
+        Passed m sp.frame l (after_notes (after_notes l r.0) r.1)
+    goes true q = subst (λ ns. Passed m sp.frame l (after_notes (after_notes l r.0) ns)) (sym q)
+        (record {
+          sound = done.sound;
+          keeps = done.keeps sp.frame;
+          calm = λ g. record {
+            grounded = all_landed m l (after_notes l r.0) done;
+            counts = counted g;
+          };
+        })
     goes false q =
-        let later = turns-kept m sp (after_notes l r.0) (frames_in_turn sp (after_notes l r.0)) r.1 done.sound (all_landed m l (after_notes l r.0) done) ready (out (reverse (after_notes l r.0).inactive ++ reverse (after_notes l r.0).active)) q in
+        let later = turns-kept m sp (after_notes l r.0) (frames_in_turn sp (after_notes l r.0)) r.1 done.sound (all_landed m l (after_notes l r.0) done) ready
+        (out (reverse (after_notes l r.0).inactive ++ reverse (after_notes l r.0).active)) q in
         record {
           sound = later.sound;
           keeps = keeps-then sp.frame l (after_notes l r.0) _ (done.keeps sp.frame) later.keeps;
-          calm = λ g. let c = later.calm (all_landed m l (after_notes l r.0) done) in record { grounded = c.grounded; counts = λ x h. c.counts x (counted g x h) };
+          calm = λ g. let c = later.calm (all_landed m l (after_notes l r.0) done) in
+              record { grounded = c.grounded; counts = λ x h. c.counts x (counted g x h) };
         }
 
 pub seeks-kept : (m : Setting) (sp : Spared) (l : Ledger) (notes : List Note) → IsSound m l → Seeks m sp l notes → Passed m sp.frame l (after_notes l notes)
 seeks-kept m sp l notes s r = by (has_free m l) r
   where
     by : (b : Bool) → MatchBool b (notes ≡ []) (IsPass m sp l notes) → Passed m sp.frame l (after_notes l notes)
-    by true q = subst (λ ns. Passed m sp.frame l (after_notes l ns)) (sym q) (record { sound = s; keeps = keeps-alike sp.frame l l (alike-by l l refl refl); calm = λ g. record { grounded = g; counts = λ r h. h } })
+    by true q = subst (λ ns. Passed m sp.frame l (after_notes l ns)) (sym q)
+        (record { sound = s; keeps = keeps-alike sp.frame l l (alike-by l l refl refl); calm = λ g. record { grounded = g; counts = λ r h. h } })
     by false q = pass-kept m sp l notes s q

@@ -51,17 +51,25 @@ alike-with_stale l b t = record {
   pairs_same = λ r g. same (λ c. same_slot r c.slot && g == c.frame) (λ c i. slot_same c r i && frame_same c g i);
 }
   where
-    same : (p : Cached → Bool) → ((c : Cached) → p (if same_slot t c.slot then record c { stale = b } else c) ≡ p c) → how_many p (with_stale b t l).cache ≡ how_many p l.cache
+    same : (p : Cached → Bool) → ((c : Cached) → p (if same_slot t c.slot then record c { stale = b } else c) ≡ p c) →
+        how_many p (with_stale b t l).cache ≡ how_many p l.cache
     same p h = how_many-map p (λ (c : Cached). if same_slot t c.slot then record c { stale = b } else c) l.cache ∙ how_many-same _ _ l.cache h
 
     slot_same : (c : Cached) (r : Slot) → same_slot r (if same_slot t c.slot then record c { stale = b } else c).slot ≡ same_slot r c.slot
-    slot_same c r = elim (same_slot t c.slot) as (λ (v : Bool). same_slot r (if v then record c { stale = b } else c).slot ≡ same_slot r c.slot) [ true ↦ refl | false ↦ refl ]
+    slot_same c r = elim (same_slot t c.slot) as (λ (v : Bool). same_slot r (if v then record c { stale = b } else c).slot ≡ same_slot r c.slot) [
+      | true ↦ refl
+      | false ↦ refl
+    ]
 
     frame_same : (c : Cached) (g : ℕ) → (g == (if same_slot t c.slot then record c { stale = b } else c).frame) ≡ (g == c.frame)
-    frame_same c g = elim (same_slot t c.slot) as (λ (v : Bool). (g == (if v then record c { stale = b } else c).frame) ≡ (g == c.frame)) [ true ↦ refl | false ↦ refl ]
+    frame_same c g = elim (same_slot t c.slot) as (λ (v : Bool). (g == (if v then record c { stale = b } else c).frame) ≡ (g == c.frame)) [
+      | true ↦ refl
+      | false ↦ refl
+    ]
 
 pub alike-started : (l : Ledger) (t : Slot) → Alike l (after_note (Started t) l)
-alike-started l t = alike-then l (record l { flight = l.flight ++ t ∷ [] }) _ (alike-by l _ refl refl) (alike-with_stale (record l { flight = l.flight ++ t ∷ [] }) false t)
+alike-started l t = alike-then l (record l { flight = l.flight ++ t ∷ [] }) _ (alike-by l _ refl refl)
+    (alike-with_stale (record l { flight = l.flight ++ t ∷ [] }) false t)
 
 pub alike-end_note : (l : Ledger) (failed : Bool) (t : Slot) → Alike l (after_note (end_note failed t) l)
 alike-end_note l true t = alike-then l (off_flight t l) _ (alike-by l _ refl refl) (alike-with_stale (off_flight t l) true t)
@@ -103,10 +111,12 @@ pub slots-dropped : (l : Ledger) (t r : Slot) → slots (after_note (Dropped t) 
 slots-dropped l t r = ap (how_many (λ (c : Cached). same_slot r c.slot)) (settle-cache (frame_at l t) (off_cache t l)) ∙ slots-off_cache t r l.cache
 
 pub pairs-dropped : (l : Ledger) (t r : Slot) (g : ℕ) → pairs (after_note (Dropped t) l) r g ≡ cond (same_slot r t) 0 (pairs l r g)
-pairs-dropped l t r g = ap (how_many (λ (c : Cached). same_slot r c.slot && g == c.frame)) (settle-cache (frame_at l t) (off_cache t l)) ∙ pairs-off_cache t r g l.cache
+pairs-dropped l t r g = ap (how_many (λ (c : Cached). same_slot r c.slot && g == c.frame)) (settle-cache (frame_at l t) (off_cache t l))
+    ∙ pairs-off_cache t r g l.cache
 
 pub holders-dropped : (l : Ledger) (t : Slot) (g : ℕ) → holders (after_note (Dropped t) l) g + pairs l t g ≡ holders l g
-holders-dropped l t g = ap (λ cs. how_many (λ (c : Cached). g == c.frame) cs + pairs l t g) (settle-cache (frame_at l t) (off_cache t l)) ∙ holders-off_cache t g l.cache
+holders-dropped l t g = ap (λ cs. how_many (λ (c : Cached). g == c.frame) cs + pairs l t g) (settle-cache (frame_at l t) (off_cache t l))
+    ∙ holders-off_cache t g l.cache
 
 -- ---- what a pass keeps of a page that waits for a frame
 
@@ -142,7 +152,8 @@ keeps-alike spared l l' a = record {
   pairs_kept = λ t g h i j. let e = a.pairs_same t g in omega (arith, e, j);
 }
 
-pub keeps-dropped : (spared : ℕ → Bool) (l : Ledger) (t : Slot) → ((g : ℕ) → spared g ≡ true → 0 < map_count l g → pairs l t g ≡ 0) → Keeps spared l (after_note (Dropped t) l)
+pub keeps-dropped : (spared : ℕ → Bool) (l : Ledger) (t : Slot) → ((g : ℕ) → spared g ≡ true → 0 < map_count l g → pairs l t g ≡ 0) →
+    Keeps spared l (after_note (Dropped t) l)
 keeps-dropped spared l t apart = record {
   steady = λ k h. ap (λ es. entry (record l { entries = es }) k) same;
   more = λ r. let e = ap (λ es. slot_entries (record l { entries = es }) r) same in omega (arith, e);
@@ -183,12 +194,17 @@ end_notes-kept m l t failed s =
       keeps = λ spared. keeps-then spared l l1 _ (keeps-alike spared l l1 (alike-end_note l failed t)) (by_keeps spared s1 (is_orphan l1 t) refl);
     }
   where
-    by_flights : (b : Bool) (r : Slot) → flights (after_notes (after_note (end_note failed t) l) (when b (Dropped t))) r ≡ flights (after_note (end_note failed t) l) r
-    by_flights true r = ap (how_many (same_slot r)) (settle-flight (frame_at (after_note (end_note failed t) l) t) (off_cache t (after_note (end_note failed t) l)))
+    by_flights : (b : Bool) (r : Slot) → flights (after_notes (after_note (end_note failed t) l) (when b (Dropped t))) r ≡ flights
+        (after_note (end_note failed t) l) r
+    by_flights true r = ap (how_many (same_slot r)) (settle-flight (frame_at (after_note (end_note failed t) l) t)
+        (off_cache t (after_note (end_note failed t) l)))
     by_flights false r = refl
 
-    by_keeps : (spared : ℕ → Bool) → IsSoundBut m (excuse_of (Some t)) (after_note (end_note failed t) l) → (b : Bool) → is_orphan (after_note (end_note failed t) l) t ≡ b → Keeps spared (after_note (end_note failed t) l) (after_notes (after_note (end_note failed t) l) (when b (Dropped t)))
-    by_keeps spared s1 true is = keeps-dropped spared (after_note (end_note failed t) l) t (λ g h i. orphan_pairs m (after_note (end_note failed t) l) t g s1.slots_once is i)
+    by_keeps : (spared : ℕ → Bool) → IsSoundBut m (excuse_of (Some t)) (after_note (end_note failed t) l) → (b : Bool) →
+        is_orphan (after_note (end_note failed t) l) t ≡ b → Keeps spared (after_note (end_note failed t) l)
+        (after_notes (after_note (end_note failed t) l) (when b (Dropped t)))
+    by_keeps spared s1 true is = keeps-dropped spared (after_note (end_note failed t) l) t
+        (λ g h i. orphan_pairs m (after_note (end_note failed t) l) t g s1.slots_once is i)
       where
         orphan_pairs : (m : Setting) (l : Ledger) (t : Slot) (g : ℕ) → ((r : Slot) → slots l r ≤ 1) → is_orphan l t ≡ true → 0 < map_count l g → pairs l t g ≡ 0
         orphan_pairs m l t g once is h = at_frame (frame_at l t) refl (first_true (is_unmapped l (frame_at l t)) _ _ is)
@@ -205,7 +221,8 @@ end_notes-kept m l t failed s =
                 un' = ap (is_unmapped l) (sym if_some) ∙ un
 
                 each : (b : Bool) → (g == f) ≡ b → pairs l t g ≡ 0
-                each true e = let z : map_count l f ≡ 0 = grind (arith, nat_tests, un') in let y = ap (map_count l) (same-is g f e) in absurd (omega (arith, z, y, h))
+                each true e = let z : map_count l f ≡ 0 = grind (arith, nat_tests, un') in let y = ap (map_count l) (same-is g f e) in
+                    absurd (omega (arith, z, y, h))
                 each false e = let p = frame_at-some f t l.cache if_some in let two = two_frames t g f l.cache e in let o = once t in omega (arith, p, two, o)
     by_keeps spared s1 false is = keeps-alike spared _ _ (alike-by _ _ refl refl)
 
@@ -214,8 +231,10 @@ pub record Completed (m : Setting) (l : Ledger) (ts : List Slot) (l' : Ledger) :
   pub flown : (r : Slot) → flights l' r ≡ cond (list_any (same_slot r) ts) 0 (flights l r)
   pub keeps : (spared : ℕ → Bool) → Keeps spared l l'
 
-pub completes-kept : (m : Setting) (l : Ledger) (ts : List Slot) (notes : List Note) → IsSound m l → Completes l ts notes → Completed m l ts (after_notes l notes)
-completes-kept m l [] notes s c = subst (λ ns. Completed m l [] (after_notes l ns)) (sym c) (record { sound = s; flown = λ r. refl; keeps = λ spared. keeps-alike spared l l (alike-by l l refl refl) })
+pub completes-kept : (m : Setting) (l : Ledger) (ts : List Slot) (notes : List Note) → IsSound m l → Completes l ts notes →
+    Completed m l ts (after_notes l notes)
+completes-kept m l [] notes s c = subst (λ ns. Completed m l [] (after_notes l ns)) (sym c)
+    (record { sound = s; flown = λ r. refl; keeps = λ spared. keeps-alike spared l l (alike-by l l refl refl) })
 completes-kept m l (t ∷ ts) notes s c =
     let failed = c.0 in
     let here = end_notes-kept m l t failed s in
@@ -253,8 +272,13 @@ pub record IsNowhere (l : Ledger) (t : Slot) : Type 0 where
 
 pub given-nowhere : (m : Setting) (closing : Option ℕ) (l : Ledger) (t : Slot) → may_give m closing l t ≡ true → IsNowhere l t
 given-nowhere m closing l t h =
-    let zero : (slot_count l t == 0) ≡ true = fourth (is_on l t.area) (nat_lt 0 t.page) (nat_lt t.page (size_of m t.area)) (slot_count l t == 0) (is_usable m t) (is_open closing t.area) (has_free_slot m l t.area) h in
-    record { uncached = none (slots l t) (slot_entries l t) (ap (λ b. slot_entries l t + cond b 1 0 == 0) (sym (any-counts (λ (c : Cached). same_slot t c.slot) l.cache)) ∙ zero); unnamed = grind (arith, nat_tests, zero) }
+    let zero : (slot_count l t == 0) ≡ true = fourth (is_on l t.area) (nat_lt 0 t.page) (nat_lt t.page (size_of m t.area)) (slot_count l t == 0) (is_usable m t)
+    (is_open closing t.area) (has_free_slot m l t.area) h in
+    record {
+      uncached = none (slots l t) (slot_entries l t) (ap (λ b. slot_entries l t + cond b 1 0 == 0)
+          (sym (any-counts (λ (c : Cached). same_slot t c.slot) l.cache)) ∙ zero);
+      unnamed = grind (arith, nat_tests, zero);
+    }
   where
     fourth : (a b c d e f g : Bool) → ((a && b && c && d && e) && f && g) ≡ true → d ≡ true
     fourth true true true true e f g h = refl
@@ -313,16 +337,30 @@ unmap_one m l f t s pair = record {
         turned : (f g : ℕ) → (g == f) ≡ false → (f == g) ≡ false
         turned f g h = grind (arith, nat_tests, h)
 
-unmap_any : (m : Setting) (l : Ledger) (f : ℕ) (t : Slot) → IsSound m l → slot_of l f ≡ Some t → (b : Bool) → (map_count l f == 0) ≡ b → UnmapKept m l f t (after_notes l (when (not b) (Unmapped f)))
-unmap_any m l f t s cached true is = record { sound = s; pair = slot_of-some f t l.cache cached; none = grind (arith, nat_tests, is); flight_same = refl; others = λ g other. refl; keeps = λ spared apart. keeps-alike spared l l (alike-by l l refl refl); counts = λ r h. h }
-unmap_any m l f t s cached false is = subst (UnmapKept m l f t) (sym (ap (λ o. if_some o (λ s. change_entries f (λ _. InSlot s)) l) cached)) (unmap_one m l f t s (slot_of-some f t l.cache cached))
+unmap_any : (m : Setting) (l : Ledger) (f : ℕ) (t : Slot) → IsSound m l → slot_of l f ≡ Some t → (b : Bool) → (map_count l f == 0) ≡ b →
+    UnmapKept m l f t (after_notes l (when (not b) (Unmapped f)))
+unmap_any m l f t s cached true is = record {
+  sound = s;
+  pair = slot_of-some f t l.cache cached;
+  none = grind (arith, nat_tests, is);
+  flight_same = refl;
+  others = λ g other. refl;
+  keeps = λ spared apart. keeps-alike spared l l (alike-by l l refl refl);
+  counts = λ r h. h;
+}
+unmap_any m l f t s cached false is = subst (UnmapKept m l f t) (sym (ap (λ o. if_some o (λ s. change_entries f (λ _. InSlot s)) l) cached))
+    (unmap_one m l f t s (slot_of-some f t l.cache cached))
 
-pub unmap_notes-kept : (m : Setting) (sp : Spared) (l : Ledger) (f : ℕ) (t : Slot) → IsSound m l → IsSlotFor m sp l f t → 0 < uses l f → UnmapKept m l f t (after_notes l (unmap_notes l f t))
+pub unmap_notes-kept : (m : Setting) (sp : Spared) (l : Ledger) (f : ℕ) (t : Slot) → IsSound m l → IsSlotFor m sp l f t → 0 < uses l f →
+    UnmapKept m l f t (after_notes l (unmap_notes l f t))
 unmap_notes-kept m sp l f t s for in_use = by (slot_of l f) refl for
   where
-    by : (o : Option Slot) → slot_of l f ≡ o → MatchOption o (IsTrue (may_give m sp.closing l t)) (λ r. t ≡ r) → UnmapKept m l f t (after_notes l (when (is_none (slot_of l f)) (Put f t) ++ when (not (map_count l f == 0)) (Unmapped f)))
-    by (Some r) is same = subst (UnmapKept m l f t) (sym (ap (λ o. after_notes l (when (is_none o) (Put f t) ++ when (not (map_count l f == 0)) (Unmapped f))) is)) (unmap_any m l f t s (is ∙ ap Some (sym same)) (map_count l f == 0) refl)
-    by None is may = subst (UnmapKept m l f t) (sym (ap (λ o. after_notes l (when (is_none o) (Put f t) ++ when (not (map_count l f == 0)) (Unmapped f))) is)) put_first
+    by : (o : Option Slot) → slot_of l f ≡ o → MatchOption o (IsTrue (may_give m sp.closing l t)) (λ r. t ≡ r) →
+        UnmapKept m l f t (after_notes l (when (is_none (slot_of l f)) (Put f t) ++ when (not (map_count l f == 0)) (Unmapped f)))
+    by (Some r) is same = subst (UnmapKept m l f t) (sym (ap (λ o. after_notes l (when (is_none o) (Put f t) ++ when (not (map_count l f == 0)) (Unmapped f)))
+        is)) (unmap_any m l f t s (is ∙ ap Some (sym same)) (map_count l f == 0) refl)
+    by None is may = subst (UnmapKept m l f t) (sym (ap (λ o. after_notes l (when (is_none o) (Put f t) ++ when (not (map_count l f == 0)) (Unmapped f))) is))
+        put_first
       where
         out : holders l f ≡ 0
         out = slot_of-none f l.cache is
@@ -348,7 +386,8 @@ unmap_notes-kept m sp l f t s for in_use = by (slot_of l f) refl for
               counts = λ r h. u.counts r (omega (arith, h));
             }
           where
-            first : (b : Bool) → b ≡ true → option_map (λ (c : Cached). c.slot) (cond b (Some (record { slot = t; frame = f; stale = true })) (cached_by (λ c. f == c.frame) l.cache)) ≡ Some t
+            first : (b : Bool) → b ≡ true → option_map (λ (c : Cached). c.slot)
+                (cond b (Some (record { slot = t; frame = f; stale = true })) (cached_by (λ c. f == c.frame) l.cache)) ≡ Some t
             first true h = refl
             first false h = cc
 

@@ -54,25 +54,29 @@ fewer-pass p q a zero h = omega arith
 fewer-pass p q a (suc n) h = by (p a) (q a) refl refl (fewer-pass p q (a + 1) n h)
   where
     by : (b c : Bool) → p a ≡ b → q a ≡ c → length (filter p (numbers (a + 1) n)) ≤ length (filter q (numbers (a + 1) n))
-        → length (cond b (a ∷ filter p (numbers (a + 1) n)) (filter p (numbers (a + 1) n))) ≤ length (cond c (a ∷ filter q (numbers (a + 1) n)) (filter q (numbers (a + 1) n)))
+        → length (cond b (a ∷ filter p (numbers (a + 1) n)) (filter p (numbers (a + 1) n))) ≤ length
+        (cond c (a ∷ filter q (numbers (a + 1) n)) (filter q (numbers (a + 1) n)))
     by true true is is' k = omega (arith, k)
     by true false is is' k = let e = sym is' ∙ h a is in cc
     by false true is is' k = omega (arith, k)
     by false false is is' k = k
 
 -- one number more passes, at most once
-above-pass : (p q : ℕ → Bool) (t a n : ℕ) → t < a → ((x : ℕ) → p x ≡ true → (x == t) ≡ false → q x ≡ true) → length (filter p (numbers a n)) ≤ length (filter q (numbers a n))
+above-pass : (p q : ℕ → Bool) (t a n : ℕ) → t < a → ((x : ℕ) → p x ≡ true → (x == t) ≡ false → q x ≡ true) →
+    length (filter p (numbers a n)) ≤ length (filter q (numbers a n))
 above-pass p q t a zero less h = omega arith
 above-pass p q t a (suc n) less h = by (p a) (q a) refl refl (above-pass p q t (a + 1) n (omega (arith, less)) h)
   where
     by : (b c : Bool) → p a ≡ b → q a ≡ c → length (filter p (numbers (a + 1) n)) ≤ length (filter q (numbers (a + 1) n))
-        → length (cond b (a ∷ filter p (numbers (a + 1) n)) (filter p (numbers (a + 1) n))) ≤ length (cond c (a ∷ filter q (numbers (a + 1) n)) (filter q (numbers (a + 1) n)))
+        → length (cond b (a ∷ filter p (numbers (a + 1) n)) (filter p (numbers (a + 1) n))) ≤ length
+        (cond c (a ∷ filter q (numbers (a + 1) n)) (filter q (numbers (a + 1) n)))
     by true true is is' k = omega (arith, k)
     by true false is is' k = let e = sym is' ∙ h a is (grind (arith, nat_tests, less)) in cc
     by false true is is' k = omega (arith, k)
     by false false is is' k = k
 
-one-more-passes : (p q : ℕ → Bool) (t a n : ℕ) → ((x : ℕ) → p x ≡ true → (x == t) ≡ false → q x ≡ true) → length (filter p (numbers a n)) ≤ 1 + length (filter q (numbers a n))
+one-more-passes : (p q : ℕ → Bool) (t a n : ℕ) → ((x : ℕ) → p x ≡ true → (x == t) ≡ false → q x ≡ true) →
+    length (filter p (numbers a n)) ≤ 1 + length (filter q (numbers a n))
 one-more-passes p q t a zero h = omega arith
 one-more-passes p q t a (suc n) h = at (a == t) refl (one-more-passes p q t (a + 1) n h)
   where
@@ -83,23 +87,31 @@ one-more-passes p q t a (suc n) h = at (a == t) refl (one-more-passes p q t (a +
     more false false k k' xs ys e f less = omega (arith, e, f, less)
 
     by : (b c : Bool) → p a ≡ b → q a ≡ c → (a == t) ≡ false → length (filter p (numbers (a + 1) n)) ≤ 1 + length (filter q (numbers (a + 1) n))
-        → length (cond b (a ∷ filter p (numbers (a + 1) n)) (filter p (numbers (a + 1) n))) ≤ 1 + length (cond c (a ∷ filter q (numbers (a + 1) n)) (filter q (numbers (a + 1) n)))
+        → length (cond b (a ∷ filter p (numbers (a + 1) n)) (filter p (numbers (a + 1) n))) ≤ 1 + length
+        (cond c (a ∷ filter q (numbers (a + 1) n)) (filter q (numbers (a + 1) n)))
     by true true is is' other k = omega (arith, k)
     by true false is is' other k = let e = sym is' ∙ h a is other in cc
     by false true is is' other k = omega (arith, k)
     by false false is is' other k = k
 
-    at : (b : Bool) → (a == t) ≡ b → length (filter p (numbers (a + 1) n)) ≤ 1 + length (filter q (numbers (a + 1) n)) → length (filter p (numbers a (suc n))) ≤ 1 + length (filter q (numbers a (suc n)))
-    at true is k = more (p a) (q a) _ _ (filter p (numbers (a + 1) n)) (filter q (numbers (a + 1) n)) refl refl (above-pass p q t (a + 1) n (grind (arith, nat_tests, is)) h)
+    at : (b : Bool) → (a == t) ≡ b → length (filter p (numbers (a + 1) n)) ≤ 1 + length (filter q (numbers (a + 1) n)) →
+        length (filter p (numbers a (suc n))) ≤ 1 + length (filter q (numbers a (suc n)))
+    at true is k = more (p a) (q a) _ _ (filter p (numbers (a + 1) n)) (filter q (numbers (a + 1) n)) refl refl
+        (above-pass p q t (a + 1) n (grind (arith, nat_tests, is)) h)
     at false is k = by (p a) (q a) refl refl is k
 
 -- fewer slots come into use
 fits-less : (m : Setting) (l l' : Ledger) → l'.on ≡ l.on → ((s : Slot) → 0 < count l' s → 0 < count l s) → AreasFit m l → AreasFit m l'
-fits-less m l l' on h f = record { rising = subst (λ o. T (is_sorted nat_cmp o)) (sym on) f.rising; fit = λ k. subst (λ o. IfSome (find nat_cmp k o) (λ area. length (slots_in_use m l' k) ≤ area.slots)) (sym on) (by k (find nat_cmp k l.on) (f.fit k)) }
+fits-less m l l' on h f = record {
+  rising = subst (λ o. T (is_sorted nat_cmp o)) (sym on) f.rising;
+  fit = λ k. subst (λ o. IfSome (find nat_cmp k o) (λ area. length (slots_in_use m l' k) ≤ area.slots)) (sym on) (by k (find nat_cmp k l.on) (f.fit k));
+}
   where
     fewer : (k : ℕ) → length (slots_in_use m l' k) ≤ length (slots_in_use m l k)
-    fewer k = fewer-pass (λ page. nat_lt 0 (slot_count l' (record { area = k; page = page }))) (λ page. nat_lt 0 (slot_count l (record { area = k; page = page }))) 1 (size_of m k - 1)
-        (λ page is. let s : Slot = record { area = k; page = page } in let pos : 0 < count l' s = positive _ (sym (counted-slot l' s) ∙ is) in counted-slot l s ∙ is-positive _ (h s pos))
+    fewer k = fewer-pass (λ page. nat_lt 0 (slot_count l' (record { area = k; page = page })))
+        (λ page. nat_lt 0 (slot_count l (record { area = k; page = page }))) 1 (size_of m k - 1)
+        (λ page is. let s : Slot = record { area = k; page = page } in let pos : 0 < count l' s = positive _ (sym (counted-slot l' s) ∙ is) in
+        counted-slot l s ∙ is-positive _ (h s pos))
       where
         positive : (n : ℕ) → nat_lt 0 n ≡ true → 0 < n
         positive n e = grind (arith, nat_tests, e)
@@ -107,7 +119,8 @@ fits-less m l l' on h f = record { rising = subst (λ o. T (is_sorted nat_cmp o)
         is-positive : (n : ℕ) → 0 < n → nat_lt 0 n ≡ true
         is-positive n e = grind (arith, nat_tests, e)
 
-    by : (k : ℕ) (o : Option SwapArea) → IfSome o (λ area. length (slots_in_use m l k) ≤ area.slots) → IfSome o (λ area. length (slots_in_use m l' k) ≤ area.slots)
+    by : (k : ℕ) (o : Option SwapArea) → IfSome o (λ area. length (slots_in_use m l k) ≤ area.slots) →
+        IfSome o (λ area. length (slots_in_use m l' k) ≤ area.slots)
     by k None i = i
     by k (Some area) i = let e = fewer k in omega (arith, i, e)
 
@@ -132,7 +145,8 @@ fits-put m l f t free fits = record { rising = fits.rising; fit = λ k. by k (k 
         same false e i = omega (arith, i)
 
     more : (k : ℕ) → length (slots_in_use m (after_note (Put f t) l) k) ≤ 1 + length (slots_in_use m l k)
-    more k = one-more-passes (λ page. nat_lt 0 (slot_count (after_note (Put f t) l) (record { area = k; page = page }))) (λ page. nat_lt 0 (slot_count l (record { area = k; page = page }))) t.page 1 (size_of m k - 1)
+    more k = one-more-passes (λ page. nat_lt 0 (slot_count (after_note (Put f t) l) (record { area = k; page = page })))
+        (λ page. nat_lt 0 (slot_count l (record { area = k; page = page }))) t.page 1 (size_of m k - 1)
         (λ page is other. others (record { area = k; page = page }) (apart (k == t.area) (page == t.page) other) is)
       where
         apart : (a b : Bool) → b ≡ false → (a && b) ≡ false
@@ -140,16 +154,19 @@ fits-put m l f t free fits = record { rising = fits.rising; fit = λ k. by k (k 
         apart false b e = refl
 
     still : (k : ℕ) → (k == t.area) ≡ false → length (slots_in_use m (after_note (Put f t) l) k) ≤ length (slots_in_use m l k)
-    still k other = fewer-pass (λ page. nat_lt 0 (slot_count (after_note (Put f t) l) (record { area = k; page = page }))) (λ page. nat_lt 0 (slot_count l (record { area = k; page = page }))) 1 (size_of m k - 1)
+    still k other = fewer-pass (λ page. nat_lt 0 (slot_count (after_note (Put f t) l) (record { area = k; page = page })))
+        (λ page. nat_lt 0 (slot_count l (record { area = k; page = page }))) 1 (size_of m k - 1)
         (λ page is. others (record { area = k; page = page }) (ap (λ b. b && page == t.page) other) is)
 
-    by : (k : ℕ) (b : Bool) → (k == t.area) ≡ b → (o : Option SwapArea) → find nat_cmp k l.on ≡ o → IfSome o (λ area. length (slots_in_use m l k) ≤ area.slots) → IfSome o (λ area. length (slots_in_use m (after_note (Put f t) l) k) ≤ area.slots)
+    by : (k : ℕ) (b : Bool) → (k == t.area) ≡ b → (o : Option SwapArea) → find nat_cmp k l.on ≡ o →
+        IfSome o (λ area. length (slots_in_use m l k) ≤ area.slots) → IfSome o (λ area. length (slots_in_use m (after_note (Put f t) l) k) ≤ area.slots)
     by k b is None at i = tt
     by k false is (Some area) at i = let e = still k is in omega (arith, i, e)
     by k true is (Some area) at i =
         let e = more k in
         let same = same-is k t.area is in
-        let room : nat_lt 0 (area.slots - length (slots_in_use m l k)) ≡ true = ap (λ o. option_map_or (λ (a : SwapArea). nat_lt 0 (a.slots - length (slots_in_use m l k))) o false) (sym at) ∙ ap (has_free_slot m l) same ∙ free in
+        let room : nat_lt 0 (area.slots - length (slots_in_use m l k)) ≡ true =
+        ap (λ o. option_map_or (λ (a : SwapArea). nat_lt 0 (a.slots - length (slots_in_use m l k))) o false) (sym at) ∙ ap (has_free_slot m l) same ∙ free in
         some area.slots (length (slots_in_use m l k)) _ room e
       where
         some : (s n k : ℕ) → nat_lt 0 (s - n) ≡ true → k ≤ 1 + n → k ≤ s
@@ -180,21 +197,27 @@ abbrev to_unseen : ℕ → Entry → Entry
 to_unseen f e = if names_frame f e then without_seen e else e
 
 slots-unseen : (f : ℕ) (l : Ledger) (s : Slot) → slot_entries (change_entries f without_seen l) s ≡ slot_entries l s
-slots-unseen f l s = how_many-map (λ e. names_slot s e.1) (λ e. (e.0, if names_frame f e.1 then without_seen e.1 else e.1)) l.entries ∙ how_many-same _ _ l.entries (λ e. each e.1)
+slots-unseen f l s = how_many-map (λ e. names_slot s e.1) (λ e. (e.0, if names_frame f e.1 then without_seen e.1 else e.1)) l.entries
+    ∙ how_many-same _ _ l.entries (λ e. each e.1)
   where
     each : (e : Entry) → names_slot s (if names_frame f e then without_seen e else e) ≡ names_slot s e
     each Zero = refl
-    each (InFrame g seen) = elim (f == g) as (λ b. names_slot s (if b then without_seen (InFrame g seen) else InFrame g seen) ≡ false) [ true ↦ refl | false ↦ refl ]
+    each (InFrame g seen) = elim (f == g) as (λ b. names_slot s (if b then without_seen (InFrame g seen) else InFrame g seen) ≡ false) [
+      | true ↦ refl
+      | false ↦ refl
+    ]
     each (InSlot t) = refl
 
-pub lawful-no_new : (m : Setting) (closing : Option ℕ) (l : Ledger) (note : Note) → T (is_sorted key_cmp l.entries) → IsLawful m closing l note → NoNew m l (after_note note l)
+pub lawful-no_new : (m : Setting) (closing : Option ℕ) (l : Ledger) (note : Note) → T (is_sorted key_cmp l.entries) → IsLawful m closing l note →
+    NoNew m l (after_note note l)
 lawful-no_new m closing l note sorted lawful = go note lawful
   where
     fewer : (k : Key) (e : Entry) → ((s : Slot) → names_slot s e ≡ false) → NoNew m l (set_entry k e l)
     fewer k e none = less m l (set_entry k e l) refl (λ s h. let a = slot_entries-set k e l s sorted in let z = flag _ _ (none s) in omega (arith, a, z, h))
 
     alike : (l' : Ledger) → l'.on ≡ l.on → Alike l l' → NoNew m l l'
-    alike l' on a = less m l l' on (λ s i. let c = a.slots_same s in let e = ap (λ es. slot_entries (record l { entries = es }) s) a.entries in omega (arith, c, e, i))
+    alike l' on a = less m l l' on (λ s i. let c = a.slots_same s in let e = ap (λ es. slot_entries (record l { entries = es }) s) a.entries in
+        omega (arith, c, e, i))
 
     on_kept : (t : Slot) (o : Option ℕ) → (if_some o to_inactive_tail (off_flight t l)).on ≡ l.on
     on_kept t None = refl
@@ -202,15 +225,21 @@ lawful-no_new m closing l note sorted lawful = go note lawful
 
     go : (note : Note) → IsLawful m closing l note → NoNew m l (after_note note l)
     go (Zeroed p a) h = fewer (key_at p a) Zero (λ s. refl)
-    go (New p a f) h = let r = fewer (key_at p a) (InFrame f false) (λ s. refl) in record { on_same = r.on_same; fits = λ x. record { rising = (r.fits x).rising; fit = (r.fits x).fit }; came = r.came }
-    go (Copied p a f) h = let r = fewer (key_at p a) (InFrame f false) (λ s. refl) in record { on_same = r.on_same; fits = λ x. record { rising = (r.fits x).rising; fit = (r.fits x).fit }; came = r.came }
+    go (New p a f) h = let r = fewer (key_at p a) (InFrame f false) (λ s. refl) in
+        record { on_same = r.on_same; fits = λ x. record { rising = (r.fits x).rising; fit = (r.fits x).fit }; came = r.came }
+    go (Copied p a f) h = let r = fewer (key_at p a) (InFrame f false) (λ s. refl) in
+        record { on_same = r.on_same; fits = λ x. record { rising = (r.fits x).rising; fit = (r.fits x).fit }; came = r.came }
     go (Mapped p a f) h = fewer (key_at p a) (InFrame f false) (λ s. refl)
     go (Loaded t f) h = less m l (after_note (Loaded t f) l) refl (λ s i. by s (same_slot s t) refl i)
       where
         by : (s : Slot) (b : Bool) → same_slot s t ≡ b → 0 < (cond b 1 0 + slots l s) + slot_entries l s → 0 < count l s
         by s true is i = let n = subst (λ y. 0 < slot_entries l y) (sym (slot-is s t is)) h in omega (arith, n)
         by s false is i = omega (arith, i)
-    go (Put f t) h = record { on_same = refl; fits = fits-put m l f t (last_of (is_free_slot m l t) (is_open closing t.area) (has_free_slot m l t.area) h); came = λ s i. by s (same_slot s t) refl i }
+    go (Put f t) h = record {
+      on_same = refl;
+      fits = fits-put m l f t (last_of (is_free_slot m l t) (is_open closing t.area) (has_free_slot m l t.area) h);
+      came = λ s i. by s (same_slot s t) refl i;
+    }
       where
         last_of : (a b c : Bool) → (a && b && c) ≡ true → c ≡ true
         last_of true true c h = h
@@ -226,7 +255,8 @@ lawful-no_new m closing l note sorted lawful = go note lawful
         all_of false b c d e o r h = cc
 
         given : is_there m l t ≡ true
-        given = all_of (is_on l t.area) (nat_lt 0 t.page) (nat_lt t.page (size_of m t.area)) (slot_count l t == 0) (is_usable m t) (is_open closing t.area) (has_free_slot m l t.area) h
+        given = all_of (is_on l t.area) (nat_lt 0 t.page) (nat_lt t.page (size_of m t.area)) (slot_count l t == 0) (is_usable m t)
+            (is_open closing t.area) (has_free_slot m l t.area) h
 
         by : (s : Slot) (b : Bool) → same_slot s t ≡ b → 0 < (cond b 1 0 + slots l s) + slot_entries l s → (0 < count l s) ⊎ (is_there m l s ≡ true)
         by s true is i = inr (subst (λ y. is_there m l y ≡ true) (sym (slot-is s t is)) given)
@@ -238,12 +268,15 @@ lawful-no_new m closing l note sorted lawful = go note lawful
         by (Some t) is = less m l (change_entries f (λ _. InSlot t) l) refl (λ s i. more s (same_slot s t) refl (slots_more t f l s) i)
           where
             more : (s : Slot) (b : Bool) → same_slot s t ≡ b → {n : ℕ} → n ≡ slot_entries l s + cond b (map_count l f) 0 → 0 < slots l s + n → 0 < count l s
-            more s true e a i = let p = slot_of-some f t l.cache is in let q = pair-slot t f l.cache in let c = subst (λ y. 0 < slots l y) (sym (slot-is s t e)) (omega (arith, p, q)) in omega (arith, c)
+            more s true e a i = let p = slot_of-some f t l.cache is in let q = pair-slot t f l.cache in
+                let c = subst (λ y. 0 < slots l y) (sym (slot-is s t e)) (omega (arith, p, q)) in omega (arith, c)
             more s false e a i = omega (arith, a, i)
     go (Started t) h = alike (after_note (Started t) l) refl (alike-started l t)
     go (Written t) h = alike (after_note (Written t) l) (on_kept t (frame_at l t)) (alike-end_note l false t)
     go (Failed t) h = alike (after_note (Failed t) l) refl (alike-end_note l true t)
-    go (Dropped t) h = less m l (after_note (Dropped t) l) (settle-on (frame_at l t) (off_cache t l)) (λ s i. by s (same_slot s t) (slots-dropped l t s) (ap (λ es. slot_entries (record l { entries = es }) s) (settle-entries (frame_at l t) (off_cache t l))) i)
+    go (Dropped t) h = less m l (after_note (Dropped t) l) (settle-on (frame_at l t) (off_cache t l))
+        (λ s i. by s (same_slot s t) (slots-dropped l t s) (ap (λ es. slot_entries (record l { entries = es }) s)
+        (settle-entries (frame_at l t) (off_cache t l))) i)
       where
         by : (s : Slot) (b : Bool) → {n e : ℕ} → n ≡ cond b 0 (slots l s) → e ≡ slot_entries l s → 0 < n + e → 0 < count l s
         by s true a c i = omega (arith, a, c, i)
@@ -278,14 +311,17 @@ sorted-note l (Kept f Referenced) h = subst T (sym (is_sorted-map key_cmp (to_un
 sorted-note l (Kept f NoSlot) h = h
 sorted-note l (Aged f) h = subst T (sym (is_sorted-map key_cmp (to_unseen f) l.entries)) h
 
-pub all_lawful-no_new : (m : Setting) (closing : Option ℕ) (l : Ledger) (notes : List Note) → T (is_sorted key_cmp l.entries) → AreLawful m closing l notes → NoNew m l (after_notes l notes)
+pub all_lawful-no_new : (m : Setting) (closing : Option ℕ) (l : Ledger) (notes : List Note) → T (is_sorted key_cmp l.entries) → AreLawful m closing l notes →
+    NoNew m l (after_notes l notes)
 all_lawful-no_new m closing l [] sorted h = less m l l refl (λ s i. i)
 all_lawful-no_new m closing l (note ∷ notes) sorted h =
-    no_new-then m l (after_note note l) (after_notes (after_note note l) notes) (lawful-no_new m closing l note sorted h.0) (all_lawful-no_new m closing (after_note note l) notes (sorted-note l note sorted) h.1)
+    no_new-then m l (after_note note l) (after_notes (after_note note l) notes) (lawful-no_new m closing l note sorted h.0)
+    (all_lawful-no_new m closing (after_note note l) notes (sorted-note l note sorted) h.1)
 
 -- ---- the notes of a pass are lawful
 
-pub lawful-append : (m : Setting) (closing : Option ℕ) (l : Ledger) (a b : List Note) → AreLawful m closing l a → AreLawful m closing (after_notes l a) b → AreLawful m closing l (a ++ b)
+pub lawful-append : (m : Setting) (closing : Option ℕ) (l : Ledger) (a b : List Note) → AreLawful m closing l a → AreLawful m closing (after_notes l a) b →
+    AreLawful m closing l (a ++ b)
 lawful-append m closing l [] b x y = y
 lawful-append m closing l (note ∷ a) b x y = (x.0, lawful-append m closing (after_note note l) a b x.1 y)
 
@@ -302,10 +338,16 @@ lawful-end m sp l false t = tt
 
 pub lawful-completes : (m : Setting) (sp : Spared) (l : Ledger) (ts : List Slot) (notes : List Note) → Completes l ts notes → AreLawful m sp.closing l notes
 lawful-completes m sp l [] notes c = lawful-is m sp.closing l notes [] c tt
-lawful-completes m sp l (t ∷ ts) notes c = lawful-is m sp.closing l notes (end_notes l t c.0 ++ c.1) c.2 (lawful-append m sp.closing l (end_notes l t c.0) c.1 (lawful-end m sp l c.0 t, lawful-drop m sp.closing (after_note (end_note c.0 t) l) t (is_orphan (after_note (end_note c.0 t) l) t)) (lawful-completes m sp (after_notes l (end_notes l t c.0)) ts c.1 c.3))
+lawful-completes m sp l (t ∷ ts) notes c = lawful-is m sp.closing l notes (end_notes l t c.0 ++ c.1) c.2
+    (lawful-append m sp.closing l (end_notes l t c.0) c.1 (
+      lawful-end m sp l c.0 t,
+      lawful-drop m sp.closing (after_note (end_note c.0 t) l) t
+          (is_orphan (after_note (end_note c.0 t) l) t),
+    ) (lawful-completes m sp (after_notes l (end_notes l t c.0)) ts c.1 c.3))
 
 pub lawful-unmap : (m : Setting) (sp : Spared) (l : Ledger) (f : ℕ) (t : Slot) → IsSlotFor m sp l f t → AreLawful m sp.closing l (unmap_notes l f t)
-lawful-unmap m sp l f t for = lawful-append m sp.closing l (when (is_none (slot_of l f)) (Put f t)) (when (not (map_count l f == 0)) (Unmapped f)) (by (slot_of l f) for) (unmaps _ (not (map_count l f == 0)))
+lawful-unmap m sp l f t for = lawful-append m sp.closing l (when (is_none (slot_of l f)) (Put f t)) (when (not (map_count l f == 0)) (Unmapped f))
+    (by (slot_of l f) for) (unmaps _ (not (map_count l f == 0)))
   where
     by : (o : Option Slot) → MatchOption o (IsTrue (may_give m sp.closing l t)) (λ r. t ≡ r) → AreLawful m sp.closing l (when (is_none o) (Put f t))
     by None may = (may, tt)
@@ -315,8 +357,10 @@ lawful-unmap m sp l f t for = lawful-append m sp.closing l (when (is_none (slot_
     unmaps l' true = (tt, tt)
     unmaps l' false = tt
 
-lawful-turn : (m : Setting) (sp : Spared) (l : Ledger) (f : ℕ) (t : Slot) (failed : Bool) → IsSlotFor m sp l f t → AreLawful m sp.closing l (turn_notes l f t failed)
-lawful-turn m sp l f t failed for = lawful-append m sp.closing l (unmap_notes l f t) (if is_dirty l f t then Started t ∷ end_note failed t ∷ [] else []) (lawful-unmap m sp l f t for) (by (after_notes l (unmap_notes l f t)) (is_dirty l f t))
+lawful-turn : (m : Setting) (sp : Spared) (l : Ledger) (f : ℕ) (t : Slot) (failed : Bool) → IsSlotFor m sp l f t →
+    AreLawful m sp.closing l (turn_notes l f t failed)
+lawful-turn m sp l f t failed for = lawful-append m sp.closing l (unmap_notes l f t) (if is_dirty l f t then Started t ∷ end_note failed t ∷ [] else [])
+    (lawful-unmap m sp l f t for) (by (after_notes l (unmap_notes l f t)) (is_dirty l f t))
   where
     by : (l' : Ledger) (b : Bool) → AreLawful m sp.closing l' (if b then Started t ∷ end_note failed t ∷ [] else [])
     by l' true = (tt, (lawful-end m sp (after_note (Started t) l') failed t, tt))
@@ -329,15 +373,21 @@ lawful-turns : (m : Setting) (sp : Spared) (l : Ledger) (fs : List ℕ) (notes :
 lawful-turns m sp l [] notes r = lawful-is m sp.closing l notes [] r tt
 lawful-turns m sp l (f ∷ fs) notes r = stuck (λ l' ns q. lawful-turns m sp l' fs ns q) (is_stuck m sp l f) r
   where
-    stuck : AgainLawful m sp fs → (b : Bool) → MatchBool b (Turns m sp l fs notes) ((t : Slot) × (failed : Bool) × IsSlotFor m sp l f t × MatchBool (stays_cached l f t failed)
-        ((rest : List Note) × (notes ≡ turn_notes l f t failed ++ rest) × Turns m sp (after_notes l (turn_notes l f t failed)) fs rest) (notes ≡ turn_notes l f t failed ++ Dropped t ∷ []))
+    stuck : AgainLawful m sp fs → (b : Bool) → MatchBool b (Turns m sp l fs notes)
+        ((t : Slot) × (failed : Bool) × IsSlotFor m sp l f t × MatchBool (stays_cached l f t failed)
+        ((rest : List Note) × (notes ≡ turn_notes l f t failed ++ rest) × Turns m sp (after_notes l (turn_notes l f t failed)) fs rest)
+        (notes ≡ turn_notes l f t failed ++ Dropped t ∷ []))
         → AreLawful m sp.closing l notes
     stuck again true r = again l notes r
     stuck again false r = goes (stays_cached l f r.0 r.1) r.3
       where
-        goes : (b : Bool) → MatchBool b ((rest : List Note) × (notes ≡ turn_notes l f r.0 r.1 ++ rest) × Turns m sp (after_notes l (turn_notes l f r.0 r.1)) fs rest) (notes ≡ turn_notes l f r.0 r.1 ++ Dropped r.0 ∷ []) → AreLawful m sp.closing l notes
-        goes true q = lawful-is m sp.closing l notes (turn_notes l f r.0 r.1 ++ q.0) q.1 (lawful-append m sp.closing l (turn_notes l f r.0 r.1) q.0 (lawful-turn m sp l f r.0 r.1 r.2) (again (after_notes l (turn_notes l f r.0 r.1)) q.0 q.2))
-        goes false q = lawful-is m sp.closing l notes (turn_notes l f r.0 r.1 ++ Dropped r.0 ∷ []) q (lawful-append m sp.closing l (turn_notes l f r.0 r.1) (Dropped r.0 ∷ []) (lawful-turn m sp l f r.0 r.1 r.2) (tt, tt))
+        goes : (b : Bool) → MatchBool b ((rest : List Note) × (notes ≡ turn_notes l f r.0 r.1 ++ rest) × Turns m sp (after_notes l (turn_notes l f r.0 r.1)) fs
+            rest) (notes ≡ turn_notes l f r.0 r.1 ++ Dropped r.0 ∷ []) → AreLawful m sp.closing l notes
+        goes true q = lawful-is m sp.closing l notes (turn_notes l f r.0 r.1 ++ q.0) q.1
+            (lawful-append m sp.closing l (turn_notes l f r.0 r.1) q.0 (lawful-turn m sp l f r.0 r.1 r.2)
+            (again (after_notes l (turn_notes l f r.0 r.1)) q.0 q.2))
+        goes false q = lawful-is m sp.closing l notes (turn_notes l f r.0 r.1 ++ Dropped r.0 ∷ []) q
+            (lawful-append m sp.closing l (turn_notes l f r.0 r.1) (Dropped r.0 ∷ []) (lawful-turn m sp l f r.0 r.1 r.2) (tt, tt))
 
 pub lawful-seeks : (m : Setting) (sp : Spared) (l : Ledger) (notes : List Note) → Seeks m sp l notes → AreLawful m sp.closing l notes
 lawful-seeks m sp l notes r = by (has_free m l) r
@@ -348,7 +398,8 @@ lawful-seeks m sp l notes r = by (has_free m l) r
 
     by : (b : Bool) → MatchBool b (notes ≡ []) (IsPass m sp l notes) → AreLawful m sp.closing l notes
     by true q = lawful-is m sp.closing l notes [] q tt
-    by false q = lawful-is m sp.closing l notes (q.0 ++ q.1) q.2 (lawful-append m sp.closing l q.0 q.1 (lawful-completes m sp l l.flight q.0 q.3) (pass (has_free m (after_notes l q.0)) (after_notes l q.0) (frames_in_turn sp (after_notes l q.0)) q.1 q.4))
+    by false q = lawful-is m sp.closing l notes (q.0 ++ q.1) q.2 (lawful-append m sp.closing l q.0 q.1 (lawful-completes m sp l l.flight q.0 q.3)
+        (pass (has_free m (after_notes l q.0)) (after_notes l q.0) (frames_in_turn sp (after_notes l q.0)) q.1 q.4))
 
 pub there-by : (m : Setting) (l l' : Ledger) → NoNew m l l' → AreThere m l → AreThere m l'
 there-by m l l' n all s h = ap (λ o. is_there m (record l { on = o }) s) n.on_same ∙ by (n.came s h)
@@ -357,10 +408,12 @@ there-by m l l' n all s h = ap (λ o. is_there m (record l { on = o }) s) n.on_s
     by (inl i) = all s i
     by (inr i) = i
 
-pub fits-notes : (m : Setting) (closing : Option ℕ) (l : Ledger) (notes : List Note) → IsSound m l → AreLawful m closing l notes → AreasFit m l → AreasFit m (after_notes l notes)
+pub fits-notes : (m : Setting) (closing : Option ℕ) (l : Ledger) (notes : List Note) → IsSound m l → AreLawful m closing l notes → AreasFit m l →
+    AreasFit m (after_notes l notes)
 fits-notes m closing l notes s h = (all_lawful-no_new m closing l notes s.in_order h).fits
 
-pub there-notes : (m : Setting) (closing : Option ℕ) (l : Ledger) (notes : List Note) → IsSound m l → AreLawful m closing l notes → AreThere m l → AreThere m (after_notes l notes)
+pub there-notes : (m : Setting) (closing : Option ℕ) (l : Ledger) (notes : List Note) → IsSound m l → AreLawful m closing l notes → AreThere m l →
+    AreThere m (after_notes l notes)
 there-notes m closing l notes s h = there-by m l (after_notes l notes) (all_lawful-no_new m closing l notes s.in_order h)
 
 -- ---- the notes of a page: an access closes no area
@@ -368,18 +421,24 @@ there-notes m closing l notes s h = there-by m l (after_notes l notes) (all_lawf
 abbrev pub Opens : Sparing → Type 0
 Opens sp = (l : Ledger) (pinned : Option ℕ) → (sp l pinned).closing ≡ None
 
-lawful-takes : (m : Setting) (sp : Spared) (l : Ledger) (notes : List Note) (note : ℕ → Note) → (takes : TakesFor m sp l notes note) → IsLawful m sp.closing (after_notes l takes.sought) (note takes.frame) → AreLawful m sp.closing l notes
-lawful-takes m sp l notes note takes h = lawful-is m sp.closing l notes _ takes.whole (lawful-append m sp.closing l takes.sought (note takes.frame ∷ []) (lawful-seeks m sp l takes.sought takes.seeks) (h, tt))
+lawful-takes : (m : Setting) (sp : Spared) (l : Ledger) (notes : List Note) (note : ℕ → Note) → (takes : TakesFor m sp l notes note) →
+    IsLawful m sp.closing (after_notes l takes.sought) (note takes.frame) → AreLawful m sp.closing l notes
+lawful-takes m sp l notes note takes h = lawful-is m sp.closing l notes _ takes.whole
+    (lawful-append m sp.closing l takes.sought (note takes.frame ∷ []) (lawful-seeks m sp l takes.sought takes.seeks) (h, tt))
 
 -- and so where no area is closing
-lawful-opens : (m : Setting) (sp : Sparing) (pinned : Option ℕ) (l : Ledger) (notes : List Note) → Opens sp → AreLawful m (sp l pinned).closing l notes → AreLawful m None l notes
+lawful-opens : (m : Setting) (sp : Sparing) (pinned : Option ℕ) (l : Ledger) (notes : List Note) → Opens sp → AreLawful m (sp l pinned).closing l notes →
+    AreLawful m None l notes
 lawful-opens m sp pinned l notes none h = subst (λ c. AreLawful m c l notes) (none l pinned) h
 
-lawful-loaded : (m : Setting) (sp : Sparing) (l : Ledger) (t : Slot) (notes : List Note) → Opens sp → IsSound m l → 0 < slot_entries l t → Takes m sp l None notes (Loaded t) → AreLawful m None l notes
+lawful-loaded : (m : Setting) (sp : Sparing) (l : Ledger) (t : Slot) (notes : List Note) → Opens sp → IsSound m l → 0 < slot_entries l t →
+    Takes m sp l None notes (Loaded t) → AreLawful m None l notes
 lawful-loaded m sp l t notes none s named takes = lawful-opens m sp None l notes none
-    (lawful-takes m (sp l None) l notes (Loaded t) takes (let k = (seeks-kept m (sp l None) l takes.sought s takes.seeks).keeps.more t in omega (arith, k, named)))
+    (lawful-takes m (sp l None) l notes (Loaded t) takes (let k = (seeks-kept m (sp l None) l takes.sought s takes.seeks).keeps.more t in
+    omega (arith, k, named)))
 
-pub lawful-comes : (m : Setting) (sp : Sparing) (l : Ledger) (write : Bool) (k : Key) (notes : List Note) → Opens sp → IsSound m l → ComesIn m sp l k (need write l (entry l k)) notes → AreLawful m None l notes
+pub lawful-comes : (m : Setting) (sp : Sparing) (l : Ledger) (write : Bool) (k : Key) (notes : List Note) → Opens sp → IsSound m l →
+    ComesIn m sp l k (need write l (entry l k)) notes → AreLawful m None l notes
 lawful-comes m sp l write k notes open_ s h = by write (entry l k) refl h
   where
     none : notes ≡ [] → AreLawful m None l notes
@@ -387,7 +446,8 @@ lawful-comes m sp l write k notes open_ s h = by write (entry l k) refl h
 
     slot_in : (t : Slot) → entry l k ≡ Some (InSlot t) → (o : Option ℕ) → ComesIn m sp l k (need_of_slot t o) notes → AreLawful m None l notes
     slot_in t is None q = lawful-is m None l notes (q.0 ++ Mapped k.0 (address_of k.1) q.1 ∷ []) q.4
-        (lawful-append m None l q.0 (Mapped k.0 (address_of k.1) q.1 ∷ []) (lawful-loaded m sp l t q.0 open_ s (how_many-found (names_slot t) k l.entries (InSlot t) is (slot-itself t)) q.2) (tt, tt))
+        (lawful-append m None l q.0 (Mapped k.0 (address_of k.1) q.1 ∷ [])
+        (lawful-loaded m sp l t q.0 open_ s (how_many-found (names_slot t) k l.entries (InSlot t) is (slot-itself t)) q.2) (tt, tt))
     slot_in t is (Some f) q = lawful-is m None l notes (Mapped k.0 (address_of k.1) f ∷ []) q (tt, tt)
 
     ready : (b : Bool) (g : ℕ) → ComesIn m sp l k (cond b (CopyOnWrite g) Ready) notes → notes ≡ []
@@ -404,11 +464,13 @@ lawful-comes m sp l write k notes open_ s h = by write (entry l k) refl h
     by false (Some (InSlot t)) is q = slot_in t is (frame_at l t) q
     by true (Some (InSlot t)) is q = slot_in t is (frame_at l t) q
 
-pub lawful-made : (m : Setting) (sp : Sparing) (l : Ledger) (k : Key) (n : Need) (notes : List Note) → Opens sp → IsMade m sp l k n notes → AreLawful m None l notes
+pub lawful-made : (m : Setting) (sp : Sparing) (l : Ledger) (k : Key) (n : Need) (notes : List Note) → Opens sp →
+    IsMade m sp l k n notes → AreLawful m None l notes
 lawful-made m sp l k Ready notes none q = lawful-is m None l notes [] q tt
 lawful-made m sp l k ZeroPage notes none q = lawful-is m None l notes (Zeroed k.0 (address_of k.1) ∷ []) q (tt, tt)
 lawful-made m sp l k NewPage notes none q = lawful-opens m sp None l notes none (lawful-takes m (sp l None) l notes (New k.0 (address_of k.1)) q tt)
-lawful-made m sp l k (CopyOnWrite g) notes none q = lawful-opens m sp (Some g) l notes none (lawful-takes m (sp l (Some g)) l notes (Copied k.0 (address_of k.1)) q tt)
+lawful-made m sp l k (CopyOnWrite g) notes none q = lawful-opens m sp (Some g) l notes none
+    (lawful-takes m (sp l (Some g)) l notes (Copied k.0 (address_of k.1)) q tt)
 lawful-made m sp l k (SwapIn t) notes none q = absurd q
 lawful-made m sp l k (MapCached f) notes none q = absurd q
 
@@ -425,33 +487,40 @@ lawful-drop_at m l write came k = by (entry l k)
     by (Some (InFrame f seen)) = one (slot_of l f)
     by (Some (InSlot t)) = tt
 
-lawful-serves : (m : Setting) (sp : Sparing) (l : Ledger) (write : Bool) (k : Key) (notes : List Note) → Opens sp → IsSound m l → Serves m sp l write k notes → AreLawful m None l notes
+lawful-serves : (m : Setting) (sp : Sparing) (l : Ledger) (write : Bool) (k : Key) (notes : List Note) → Opens sp → IsSound m l →
+    Serves m sp l write k notes → AreLawful m None l notes
 lawful-serves m sp l write k notes none s h =
     let l1 = after_notes l h.coming in
     let l2 = after_notes l (h.coming ++ h.making) in
     let last = drop_at m write (was_slot (need write l (entry l k))) l2 k in
     lawful-is m None l notes (h.coming ++ h.making ++ last) h.whole (lawful-append m None l (h.coming ++ h.making) last
-    (lawful-append m None l h.coming h.making (lawful-comes m sp l write k h.coming none s h.comes_in) (lawful-made m sp l1 k (need write l1 (entry l1 k)) h.making none h.made))
+    (lawful-append m None l h.coming h.making (lawful-comes m sp l write k h.coming none s h.comes_in)
+    (lawful-made m sp l1 k (need write l1 (entry l1 k)) h.making none h.made))
     (lawful-drop_at m l2 write (was_slot (need write l (entry l k))) k))
 
-lawful-runs_out : (m : Setting) (sp : Sparing) (l : Ledger) (write : Bool) (k : Key) (notes : List Note) (out : OutOf) → Opens sp → IsSound m l → RunsOut m sp l write k notes out → AreLawful m None l notes
+lawful-runs_out : (m : Setting) (sp : Sparing) (l : Ledger) (write : Bool) (k : Key) (notes : List Note) (out : OutOf) → Opens sp → IsSound m l →
+    RunsOut m sp l write k notes out → AreLawful m None l notes
 lawful-runs_out m sp l write k notes out none s h =
     let l1 = after_notes l h.coming in
     let pinned = pinned_by (need write l1 (entry l1 k)) in
-    lawful-is m None l notes (h.coming ++ h.sought) h.whole (lawful-append m None l h.coming h.sought (by h.before) (lawful-opens m sp pinned l1 h.sought none (lawful-seeks m (sp l1 pinned) l1 h.sought h.finds.seeks)))
+    lawful-is m None l notes (h.coming ++ h.sought) h.whole (lawful-append m None l h.coming h.sought (by h.before)
+    (lawful-opens m sp pinned l1 h.sought none (lawful-seeks m (sp l1 pinned) l1 h.sought h.finds.seeks)))
   where
     by : (h.coming ≡ []) ⊎ ComesIn m sp l k (need write l (entry l k)) h.coming → AreLawful m None l h.coming
     by (inl e) = lawful-is m None l h.coming [] e tt
     by (inr x) = lawful-comes m sp l write k h.coming none s x
 
-pub lawful-touches : (m : Setting) (w : World) (l : Ledger) (write : Bool) (k : Key) (notes : List Note) (end : Option Stop) → IsSound m l → Touches m w l write k notes end → AreLawful m None l notes
+pub lawful-touches : (m : Setting) (w : World) (l : Ledger) (write : Bool) (k : Key) (notes : List Note) (end : Option Stop) → IsSound m l →
+    Touches m w l write k notes end → AreLawful m None l notes
 lawful-touches m w l write k notes None s q = lawful-serves m (sparing w) l write k notes (λ l' pinned. refl) s q.1
 lawful-touches m w l write k notes (Some Denied) s q = lawful-is m None l notes [] q.1 tt
 lawful-touches m w l write k notes (Some (Starved out)) s q = lawful-runs_out m (sparing w) l write k notes out (λ l' pinned. refl) s q.1
 lawful-touches m w l write k notes (Some Lost) s q = lawful-seeks m (sparing w l None) l notes q.1.seeks
 
 slots-marked : (l : Ledger) (t r : Slot) → slots (with_stale true t l) r ≡ slots l r
-slots-marked l t r = how_many-map (λ (c : Cached). same_slot r c.slot) (λ (c : Cached). if same_slot t c.slot then record c { stale = true } else c) l.cache ∙ how_many-same _ _ l.cache (λ c. elim (same_slot t c.slot) as (λ (v : Bool). same_slot r (if v then record c { stale = true } else c).slot ≡ same_slot r c.slot) [ true ↦ refl | false ↦ refl ])
+slots-marked l t r = how_many-map (λ (c : Cached). same_slot r c.slot) (λ (c : Cached). if same_slot t c.slot then record c { stale = true } else c) l.cache
+    ∙ how_many-same _ _ l.cache (λ c. elim (same_slot t c.slot) as (λ (v : Bool). same_slot r (if v then record c { stale = true } else c).slot ≡ same_slot r
+    c.slot) [ true ↦ refl | false ↦ refl ])
 
 pub used-no_new : (m : Setting) (l : Ledger) (write : Bool) (k : Key) → IsSound m l → NoNew m l (after_use write k l)
 used-no_new m l write k s = by write (entry l k)
@@ -461,7 +530,8 @@ used-no_new m l write k s = by write (entry l k)
 
     stale : (o : Option Slot) (l' : Ledger) → NoNew m l l' → NoNew m l (if_some o (with_stale true) l')
     stale None l' n = n
-    stale (Some t) l' n = no_new-then m l l' (with_stale true t l') n (less m l' (with_stale true t l') refl (λ r h. let a = slots-marked l' t r in omega (arith, a, h)))
+    stale (Some t) l' n = no_new-then m l l' (with_stale true t l') n
+        (less m l' (with_stale true t l') refl (λ r h. let a = slots-marked l' t r in omega (arith, a, h)))
 
     by : (write : Bool) (o : Option Entry) → NoNew m l (after_use_of write k l o)
     by write None = less m l l refl (λ t h. h)
@@ -471,11 +541,14 @@ used-no_new m l write k s = by write (entry l k)
     by true (Some (InFrame f seen)) = stale (slot_of l f) (set_entry k (InFrame f true) l) (set f)
 
 -- what a page of an access brings into use
-touches-no_new : (m : Setting) (w : World) (l : Ledger) (write : Bool) (k : Key) (notes : List Note) (end : Option Stop) → IsSound m l → Touches m w l write k notes end → NoNew m l (after_all l (page_events write k notes end))
-touches-no_new m w l write k notes end s t = by end (all_lawful-no_new m None l notes s.in_order (lawful-touches m w l write k notes end s t)) (touches-kept m w l write k notes end s t)
+touches-no_new : (m : Setting) (w : World) (l : Ledger) (write : Bool) (k : Key) (notes : List Note) (end : Option Stop) → IsSound m l →
+    Touches m w l write k notes end → NoNew m l (after_all l (page_events write k notes end))
+touches-no_new m w l write k notes end s t = by end (all_lawful-no_new m None l notes s.in_order (lawful-touches m w l write k notes end s t))
+    (touches-kept m w l write k notes end s t)
   where
     by : (end : Option Stop) → NoNew m l (after_notes l notes) → IsSound m (after_notes l notes) → NoNew m l (after_all l (page_events write k notes end))
-    by None n s' = subst (NoNew m l) (sym (after_all-append l (note_events notes) (Used write k ∷ []) ∙ ap (after_use write k) (note_events-all l notes))) (no_new-then m l (after_notes l notes) (after_use write k (after_notes l notes)) n (used-no_new m (after_notes l notes) write k s'))
+    by None n s' = subst (NoNew m l) (sym (after_all-append l (note_events notes) (Used write k ∷ []) ∙ ap (after_use write k) (note_events-all l notes)))
+        (no_new-then m l (after_notes l notes) (after_use write k (after_notes l notes)) n (used-no_new m (after_notes l notes) write k s'))
     by (Some stop) n s' = subst (NoNew m l) (sym (note_events-all l notes)) n
 
 -- an access
@@ -484,10 +557,16 @@ pub record InAreas (m : Setting) (l : Ledger) : Type 0 where
   pub there : AreThere m l
   pub fits : AreasFit m l
 
-pub accesses-in : (m : Setting) (w : World) (l : Ledger) (p : ℕ) (ps : List (Bool × ℕ)) (events : List Event) (end : End) → InAreas m l → Accesses m w l p ps events end → InAreas m (after_all l events)
+pub accesses-in : (m : Setting) (w : World) (l : Ledger) (p : ℕ) (ps : List (Bool × ℕ)) (events : List Event) (end : End) → InAreas m l →
+    Accesses m w l p ps events end → InAreas m (after_all l events)
 accesses-in m w l p ps events end s h = accesses-keep (InAreas m) m w p each l ps events end s h
   where
-    each : (l : Ledger) (write : Bool) (page : ℕ) (notes : List Note) (end : Option Stop) → InAreas m l → Touches m w l write (p, page) notes end → InAreas m (after_all l (page_events write (p, page) notes end))
+    each : (l : Ledger) (write : Bool) (page : ℕ) (notes : List Note) (end : Option Stop) → InAreas m l → Touches m w l write (p, page) notes end →
+        InAreas m (after_all l (page_events write (p, page) notes end))
     each l write page notes end s t =
         let n = touches-no_new m w l write (p, page) notes end s.sound t in
-        record { sound = page_events-kept m l write (p, page) notes end (touches-kept m w l write (p, page) notes end s.sound t); there = there-by m l (after_all l (page_events write (p, page) notes end)) n s.there; fits = n.fits s.fits }
+        record {
+          sound = page_events-kept m l write (p, page) notes end (touches-kept m w l write (p, page) notes end s.sound t);
+          there = there-by m l (after_all l (page_events write (p, page) notes end)) n s.there;
+          fits = n.fits s.fits;
+        }

@@ -46,24 +46,37 @@ module _ (m : Setting) (l : Ledger) (k : Key) (s : IsSound m l) where
         (stays_there (same_key k (p, b)) (entry l (p, b)) e (sym (entry-leaving k (p, b) l) ∙ at')) related;
   }
     where
-      left : (r : Slot) (g : ℕ) → 0 < pairs l r g → (o : Option Entry) (se se' me me' : ℕ) → 0 < flights l r + se + me + 0 → me ≡ me' + weight (names_frame g) o → se ≡ se' + weight (names_slot r) o → 0 < flights l r + se' + me' + excuse_of (slot_behind_key l o) r
+      left : (r : Slot) (g : ℕ) → 0 < pairs l r g → (o : Option Entry) (se se' me me' : ℕ) → 0 < flights l r + se + me + 0 →
+          me ≡ me' + weight (names_frame g) o → se ≡ se' + weight (names_slot r) o → 0 < flights l r + se' + me' + excuse_of (slot_behind_key l o) r
       left r g h None se se' me me' u a b = omega (arith, u, a, b)
       left r g h (Some Zero) se se' me me' u a b = omega (arith, u, a, b)
       left r g h (Some (InSlot t)) se se' me me' u a b = omega (arith, u, a, b)
       left r g h (Some (InFrame f seen)) se se' me me' u a b = by (g == f) refl (slot_of l f) refl a
         where
           by : (c : Bool) → (g == f) ≡ c → (o : Option Slot) → slot_of l f ≡ o → me ≡ me' + cond c 1 0 → 0 < flights l r + se' + me' + excuse_of o r
-          by true is None at a' = let z = slot_of-none f l.cache at in let p = pair-frame r g l.cache in let e = ap (holders l) (same-is g f is) in absurd (omega (arith, z, p, e, h))
+          by true is None at a' = let z = slot_of-none f l.cache at in let p = pair-frame r g l.cache in let e = ap (holders l) (same-is g f is) in
+              absurd (omega (arith, z, p, e, h))
           by true is (Some t) at a' = same (same_slot r t) refl
             where
               same : (v : Bool) → same_slot r t ≡ v → 0 < flights l r + se' + me' + cond v 1 0
               same true i = omega arith
-              same false i = let p = slot_of-some f t l.cache at in let two = two_slots r t f l.cache i in let once = s.frames_once f in let h' = subst (λ y. 0 < pairs l r y) (same-is g f is) h in absurd (omega (arith, p, two, once, h'))
+              same false i = let p = slot_of-some f t l.cache at in let two = two_slots r t f l.cache i in let once = s.frames_once f in
+                  let h' = subst (λ y. 0 < pairs l r y) (same-is g f is) h in absurd (omega (arith, p, two, once, h'))
           by false is o at a' = omega (arith, u, a', b)
 
   -- an entry that names no frame leaves the lists as they are
   whole : ((g : ℕ) → weight (names_frame g) (entry l k) ≡ 0) → IsSoundBut m (excuse_of (slot_behind_key l (entry l k))) (leaving k l)
-  whole none = record { in_order = leaving-others.in_order; slots_once = s.slots_once; frames_once = s.frames_once; in_range = leaving-others.in_range; listed = λ g. s.listed g ∙ (let a = mapped-less g in let z = none g in omega (arith, a, z)); flying = s.flying; used = leaving-others.used; one = leaving-others.one }
+  whole none = record {
+    in_order = leaving-others.in_order;
+    slots_once = s.slots_once;
+    frames_once = s.frames_once;
+    in_range = leaving-others.in_range;
+    listed = λ g. s.listed g ∙ (let a = mapped-less g in let z = none g in omega (arith, a, z));
+    flying = s.flying;
+    used =
+        leaving-others.used;
+    one = leaving-others.one;
+  }
 
   leaving-kept : (o : Option Entry) → entry l k ≡ o → IsSoundBut m (excuse_of (slot_behind_key l (entry l k))) (settle_entry o (leaving k l))
   leaving-kept None is = whole (λ g. ap (weight (names_frame g)) is)
@@ -81,14 +94,16 @@ zap_of-kept m l k s = drops-kept m (after_zap k l) (slot_behind_key l (entry l k
 
 pub zaps_of-kept : (m : Setting) (l : Ledger) (ks : List Key) → IsSound m l → IsSound m (after_all l (zaps_of l ks))
 zaps_of-kept m l [] s = s
-zaps_of-kept m l (k ∷ ks) s = subst (IsSound m) (sym (after_all-append l (zap_of l k) (zaps_of (after_all l (zap_of l k)) ks))) (zaps_of-kept m (after_all l (zap_of l k)) ks (zap_of-kept m l k s))
+zaps_of-kept m l (k ∷ ks) s = subst (IsSound m) (sym (after_all-append l (zap_of l k) (zaps_of (after_all l (zap_of l k)) ks)))
+    (zaps_of-kept m (after_all l (zap_of l k)) ks (zap_of-kept m l k s))
 
 -- ---- no slot comes into use
 
 no_new-taken : (m : Setting) (k : Key) (l : Ledger) → T (is_sorted key_cmp l.entries) → NoNew m l (after_zap k l)
 no_new-taken m k l h =
     let same = same_swap-after_zap k l in
-    less m l (after_zap k l) same.on (λ t i. let a = slot_entries-after_zap k l t h in let b = ap (how_many (λ c. same_slot t c.slot)) same.cache in omega (arith, a, b, i))
+    less m l (after_zap k l) same.on (λ t i. let a = slot_entries-after_zap k l t h in let b = ap (how_many (λ c. same_slot t c.slot)) same.cache in
+    omega (arith, a, b, i))
 
 no_new-drops : (m : Setting) (l : Ledger) (o : Option Slot) → T (is_sorted key_cmp l.entries) → NoNew m l (after_all l (orphan_drop l o))
 no_new-drops m l None h = less m l l refl (λ t i. i)
@@ -99,7 +114,8 @@ no_new-drops m l (Some t) h = by (is_orphan l t)
     by false = less m l l refl (λ r i. i)
 
 zap_of-no_new : (m : Setting) (l : Ledger) (k : Key) → IsSound m l → NoNew m l (after_all l (zap_of l k))
-zap_of-no_new m l k s = no_new-then m l (after_zap k l) (after_all l (zap_of l k)) (no_new-taken m k l s.in_order) (no_new-drops m (after_zap k l) (slot_behind_key l (entry l k)) (in_order-after_zap k l s.in_order))
+zap_of-no_new m l k s = no_new-then m l (after_zap k l) (after_all l (zap_of l k)) (no_new-taken m k l s.in_order)
+    (no_new-drops m (after_zap k l) (slot_behind_key l (entry l k)) (in_order-after_zap k l s.in_order))
 
 pub zaps_of-no_new : (m : Setting) (l : Ledger) (ks : List Key) → IsSound m l → NoNew m l (after_all l (zaps_of l ks))
 zaps_of-no_new m l [] s = less m l l refl (λ t i. i)
@@ -124,7 +140,8 @@ cmp-is q p h = grind (arith, nat_tests, h)
 
 -- what a process that is gone leaves of the others
 pub process-ended : (w : World) (p q : ℕ) → process (end_process w p) q ≡ cond (q == p) None (process w q)
-process-ended w p q = find-where_key nat_cmp (λ x. not (x == p)) q (λ x t. ap (λ y. not (y == p)) (sym (cmp-is q x (ap is_eq t)))) w ∙ turned (q == p) (process w q)
+process-ended w p q = find-where_key nat_cmp (λ x. not (x == p)) q (λ x t. ap (λ y. not (y == p)) (sym (cmp-is q x (ap is_eq t)))) w
+    ∙ turned (q == p) (process w q)
   where
     turned : (b : Bool) (o : Option Process) → cond (not b) o None ≡ cond b None o
     turned true o = refl
@@ -132,7 +149,8 @@ process-ended w p q = find-where_key nat_cmp (λ x. not (x == p)) q (λ x t. ap 
 
 pub pages-ended : (w : World) (p q page : ℕ) → pages (end_process w p) q page ≡ cond (q == p) None (pages w q page)
 pages-ended w p q page = ap (option_and_then (λ (n : Process). n page)) (process-ended w p q)
-    ∙ elim (q == p) as (λ b. option_and_then (λ (n : Process). n page) (cond b None (process w q)) ≡ cond b None (pages w q page)) [ true ↦ refl | false ↦ refl ]
+    ∙ elim (q == p) as (λ b. option_and_then (λ (n : Process). n page) (cond b None (process w q)) ≡ cond b None
+    (pages w q page)) [ true ↦ refl | false ↦ refl ]
 
 pub length-ended : (w : World) (p : ℕ) → length (end_process w p) ≤ length w
 length-ended [] p = omega arith
@@ -159,7 +177,8 @@ ended-at w l p none there q page h = by (q == p) refl
     by false is = ap is_some (pages-ended w p q page) ∙ ap (λ b. is_some (cond b None (pages w q page))) is ∙ there q page h
 
 -- entries that go leave a sound ledger, and so with memories in which the rest are at mapped pages
-pub after_zap-sound : (m : Setting) (w w' : World) (l : Ledger) (ks : List Key) → AllSound m w l → IsTidy w' → AtPages w' (after_all l (zaps_of l ks)) → AllSound m w' (after_all l (zaps_of l ks))
+pub after_zap-sound : (m : Setting) (w w' : World) (l : Ledger) (ks : List Key) → AllSound m w l → IsTidy w' → AtPages w' (after_all l (zaps_of l ks)) →
+    AllSound m w' (after_all l (zaps_of l ks))
 after_zap-sound m w w' l ks s tidy at = record {
   world = tidy;
   ledger = zaps_of-kept m l ks s.ledger;
@@ -169,7 +188,8 @@ after_zap-sound m w w' l ks s tidy at = record {
 }
 
 -- what an exit leaves is sound
-pub exit-sound : (m : Setting) (w w' : World) (l : Ledger) (p : ℕ) → AllSound m w l → IsTidy w' → AtPages w' l → AllSound m (end_process w' p) (after_all l (zaps_of l (keys_of_process l p)))
+pub exit-sound : (m : Setting) (w w' : World) (l : Ledger) (p : ℕ) → AllSound m w l → IsTidy w' → AtPages w' l →
+    AllSound m (end_process w' p) (after_all l (zaps_of l (keys_of_process l p)))
 exit-sound m w w' l p s tidy at = after_zap-sound m w (end_process w' p) l (keys_of_process l p) s
     (record {
       in_order = is_sorted-where_key nat_cmp (λ q. not (q == p)) w' tidy.in_order;

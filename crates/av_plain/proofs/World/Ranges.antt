@@ -25,7 +25,8 @@ at_first_or_later from n q low high = by (q == from) refl
 -- none is: each is free
 pub meets-none : (q : Process) (from n page : ℕ) → meets q from n ≡ false → from ≤ page → page < from + n → is_mapped q page ≡ false
 meets-none q from zero page none low high = absurd (omega (arith, low, high))
-meets-none q from (suc n) page none low high = by (at_first_or_later from n page low high) (meets-none q (from + 1) n page (later (is_mapped q from) (meets q (from + 1) n) none))
+meets-none q from (suc n) page none low high = by (at_first_or_later from n page low high)
+    (meets-none q (from + 1) n page (later (is_mapped q from) (meets q (from + 1) n) none))
   where
     first : (a b : Bool) → (a || b) ≡ false → a ≡ false
     first true b h = h
@@ -35,7 +36,8 @@ meets-none q from (suc n) page none low high = by (at_first_or_later from n page
     later true b h = cc
     later false b h = h
 
-    by : (page ≡ from) ⊎ ((from + 1 ≤ page) × (page < from + 1 + n)) → (from + 1 ≤ page → page < from + 1 + n → is_mapped q page ≡ false) → is_mapped q page ≡ false
+    by : (page ≡ from) ⊎ ((from + 1 ≤ page) × (page < from + 1 + n)) → (from + 1 ≤ page → page < from + 1 + n → is_mapped q page ≡ false) →
+        is_mapped q page ≡ false
     by (inl e) rest = ap (is_mapped q) e ∙ first (is_mapped q from) (meets q (from + 1) n) none
     by (inr h) rest = rest h.0 h.1
 
@@ -59,7 +61,8 @@ meets-some q from (suc n) some = by (is_mapped q from) refl some (meets-some q (
     widened : (page : ℕ) → IsMet q (from + 1) n page → IsMet q from (suc n) page
     widened page h = record { lowest = (let low = h.lowest in omega (arith, low)); highest = (let high = h.highest in omega (arith, high)); mapped = h.mapped }
 
-    by : (b : Bool) → is_mapped q from ≡ b → (b || meets q (from + 1) n) ≡ true → (meets q (from + 1) n ≡ true → (page : ℕ) × IsMet q (from + 1) n page) → (page : ℕ) × IsMet q from (suc n) page
+    by : (b : Bool) → is_mapped q from ≡ b → (b || meets q (from + 1) n) ≡ true → (meets q (from + 1) n ≡ true → (page : ℕ) × IsMet q (from + 1) n page) →
+        (page : ℕ) × IsMet q from (suc n) page
     by true e h rest = (from, record { lowest = omega arith; highest = omega arith; mapped = e })
     by false e h rest = let met = rest h in (met.0, widened met.0 met.1)
 
@@ -84,7 +87,8 @@ pub pages_to_hole-mapped : (q : Process) (from n page : ℕ) → from ≤ page �
 pages_to_hole-mapped q from zero page low high = absurd (omega (arith, low, high))
 pages_to_hole-mapped q from (suc n) page low high = by (is_mapped q from) refl high (pages_to_hole-mapped q (from + 1) n page)
   where
-    by : (b : Bool) → is_mapped q from ≡ b → page < from + cond b (pages_to_hole q (from + 1) n + 1) 0 → (from + 1 ≤ page → page < from + 1 + pages_to_hole q (from + 1) n → is_mapped q page ≡ true) → is_mapped q page ≡ true
+    by : (b : Bool) → is_mapped q from ≡ b → page < from + cond b (pages_to_hole q (from + 1) n + 1) 0 →
+        (from + 1 ≤ page → page < from + 1 + pages_to_hole q (from + 1) n → is_mapped q page ≡ true) → is_mapped q page ≡ true
     by false e h rest = absurd (omega (arith, low, h))
     by true e h rest = at (at_first_or_later from (pages_to_hole q (from + 1) n) page low (omega (arith, h)))
       where
@@ -97,10 +101,12 @@ pub pages_to_hole-hole : (q : Process) (from n : ℕ) → pages_to_hole q from n
 pages_to_hole-hole q from zero short = absurd (omega (arith, short))
 pages_to_hole-hole q from (suc n) short = by (is_mapped q from) refl short (pages_to_hole-hole q (from + 1) n)
   where
-    by : (b : Bool) → is_mapped q from ≡ b → cond b (pages_to_hole q (from + 1) n + 1) 0 < suc n → (pages_to_hole q (from + 1) n < n → is_mapped q (from + 1 + pages_to_hole q (from + 1) n) ≡ false)
+    by : (b : Bool) → is_mapped q from ≡ b → cond b (pages_to_hole q (from + 1) n + 1) 0 < suc n →
+        (pages_to_hole q (from + 1) n < n → is_mapped q (from + 1 + pages_to_hole q (from + 1) n) ≡ false)
         → is_mapped q (from + cond b (pages_to_hole q (from + 1) n + 1) 0) ≡ false
     by false e h rest = ap (is_mapped q) (let same : from + 0 ≡ from = omega arith in same) ∙ e
-    by true e h rest = ap (is_mapped q) (let same : from + (pages_to_hole q (from + 1) n + 1) ≡ from + 1 + pages_to_hole q (from + 1) n = omega arith in same) ∙ rest (omega (arith, h))
+    by true e h rest = ap (is_mapped q) (let same : from + (pages_to_hole q (from + 1) n + 1) ≡ from + 1 + pages_to_hole q (from + 1) n = omega arith in
+        same) ∙ rest (omega (arith, h))
 
 -- so many pages of n are mapped, and then there are no more, or one that isn't
 pub record IsLeading (q : Process) (from n k : ℕ) : Type 0 where
@@ -122,7 +128,8 @@ is-pages_to_hole q from n k h = by (nat_lt (pages_to_hole q from n) k) (nat_lt k
     by true b e f =
         let less : pages_to_hole q from n < k = grind (arith, nat_tests, e) in
         let top = h.most in
-        absurd (clash (from + pages_to_hole q from n) (h.mapped (from + pages_to_hole q from n) (omega arith) (omega (arith, less))) (pages_to_hole-hole q from n (omega (arith, less, top))))
+        absurd (clash (from + pages_to_hole q from n) (h.mapped (from + pages_to_hole q from n) (omega arith) (omega (arith, less)))
+        (pages_to_hole-hole q from n (omega (arith, less, top))))
     by false true e f =
         let less : k < pages_to_hole q from n = grind (arith, nat_tests, f) in
         let top = pages_to_hole-most q from n in
@@ -144,7 +151,11 @@ split false b c h = cc
 pub room-is : (q : Process) (n page : ℕ) → is_room q n page ≡ true → IsRoom (is_mapped q) n page
 room-is q n page h =
     let parts = split (nat_le low_page page) (nat_le (page + n) top_page) (meets q page n) h in
-    record { lowest = grind (arith, nat_tests, parts.0); highest = grind (arith, nat_tests, parts.1); free = λ other low high. meets-none q page n other parts.2 low high }
+    record {
+      lowest = grind (arith, nat_tests, parts.0);
+      highest = grind (arith, nat_tests, parts.1);
+      free = λ other low high. meets-none q page n other parts.2 low high;
+    }
 
 pub is-room : (q : Process) (n page : ℕ) → IsRoom (is_mapped q) n page → is_room q n page ≡ true
 is-room q n page room =
@@ -164,7 +175,8 @@ is-no_room q n page never = by (is_room q n page) refl
 
 -- ---- a range that is not mapped has no entries
 
-pub unmapped-none : (w : World) (l : Ledger) (p from n page : ℕ) → AtPages w l → meets (pages w p) from n ≡ false → within from n page ≡ true → entry l (p, page) ≡ None
+pub unmapped-none : (w : World) (l : Ledger) (p from n page : ℕ) → AtPages w l → meets (pages w p) from n ≡ false →
+    within from n page ≡ true → entry l (p, page) ≡ None
 unmapped-none w l p from n page at free inside =
     let low : from ≤ page = grind (arith, nat_tests, inside) in
     let high : page < from + n = grind (arith, nat_tests, inside) in

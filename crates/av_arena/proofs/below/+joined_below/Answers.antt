@@ -13,7 +13,8 @@ joined_below-out-requires g t c κs within =
     let v = c.look-node.result.now in
     let at : left_number (s c.args.number) ≡ Some c.in-Some.side = sym c.left_of.ensures ∙ c.in-Some.is in
     let r = c.requires in
-    let q = join_left_below m.key m.unit m.op m.of g.met.T.Entry.laws s c.args.number v c.in-Some.side c.args.lower.now c.args.upper.now c.args.joined.now r c.look-node.ensures at (ltb-true _ _ (search rules)) in
+    let q = join_left_below m.key m.unit m.op m.of g.met.T.Entry.laws s c.args.number v c.in-Some.side c.args.lower.now c.args.upper.now c.args.joined.now r
+    c.look-node.ensures at (ltb-true _ _ (search rules)) in
     let d = left_lower m.key m.unit m.op m.of g.met.T.Entry.laws s c.args.number r.link v c.in-Some.side r.number r.join.has.held c.look-node.ensures at in
     search (rules, q, d)
 
@@ -23,7 +24,9 @@ returns-then-not-changed g t c =
     let s = store_of c.args.arena.now in
     let v = c.look-node.result.now in
     let at : left_number (s c.args.number) ≡ Some c.in-Some.side = sym c.left_of.ensures ∙ c.in-Some.is in
-    join_left_same m.key m.unit m.op m.of g.met.T.Entry.laws s (store_of c.joined_below-out.new.arena) c.args.number c.joined_below-out.result.0 v c.in-Some.side c.args.lower.now c.args.upper.now c.args.joined.now _ c.look-node.ensures at (ltb-true _ _ (search rules)) c.joined_below-out.ensures (search rules)
+    join_left_same m.key m.unit m.op m.of g.met.T.Entry.laws s (store_of c.joined_below-out.new.arena) c.args.number c.joined_below-out.result.0 v
+    c.in-Some.side c.args.lower.now c.args.upper.now c.args.joined.now _ c.look-node.ensures at (ltb-true _ _ (search rules))
+    c.joined_below-out.ensures (search rules)
 
 pub left_settled-requires-clause-side : goal.left_settled-requires-clause-side
 left_settled-requires-clause-side g t c =
@@ -32,7 +35,9 @@ left_settled-requires-clause-side g t c =
     let v = c.look-node.result.now in
     let at : left_number (s c.args.number) ≡ Some c.in-Some.side = sym c.left_of.ensures ∙ c.in-Some.is in
     let r = c.requires in
-    let p = join_left_step m.key m.unit m.op m.of g.met.T.Entry.laws s (store_of c.joined_below-out.new.arena) c.args.number c.joined_below-out.result.0 r.link v c.in-Some.side c.args.lower.now c.args.upper.now c.args.joined.now _ r.number r.join c.look-node.ensures at (ltb-true _ _ (search rules)) c.joined_below-out.ensures in
+    let p = join_left_step m.key m.unit m.op m.of g.met.T.Entry.laws s (store_of c.joined_below-out.new.arena) c.args.number c.joined_below-out.result.0 r.link
+    v c.in-Some.side c.args.lower.now c.args.upper.now c.args.joined.now _ r.number r.join c.look-node.ensures at
+    (ltb-true _ _ (search rules)) c.joined_below-out.ensures in
     left_ready m.key m.unit m.op m.of g.met.T.Entry.laws s (store_of c.joined_below-out.new.arena) c.args.number r.link v c.in-Some.side _ _ _ _ 1 0 p r.low
 
 pub left_settled-requires-clause-used : goal.left_settled-requires-clause-used
@@ -42,7 +47,9 @@ left_settled-requires-clause-used g t c =
     let v = c.look-node.result.now in
     let at : left_number (s c.args.number) ≡ Some c.in-Some.side = sym c.left_of.ensures ∙ c.in-Some.is in
     let r = c.requires in
-    let p = join_left_step m.key m.unit m.op m.of g.met.T.Entry.laws s (store_of c.joined_below-out.new.arena) c.args.number c.joined_below-out.result.0 r.link v c.in-Some.side c.args.lower.now c.args.upper.now c.args.joined.now _ r.number r.join c.look-node.ensures at (ltb-true _ _ (search rules)) c.joined_below-out.ensures in
+    let p = join_left_step m.key m.unit m.op m.of g.met.T.Entry.laws s (store_of c.joined_below-out.new.arena) c.args.number c.joined_below-out.result.0 r.link
+    v c.in-Some.side c.args.lower.now c.args.upper.now c.args.joined.now _ r.number r.join c.look-node.ensures at
+    (ltb-true _ _ (search rules)) c.joined_below-out.ensures in
     left_used m.key m.unit m.op m.of g.met.T.Entry.laws s (store_of c.joined_below-out.new.arena) c.args.number r.link v c.in-Some.side _ _ _ _ 1 0 p r.number
 
 pub returns-then-is_before : goal.returns-then-is_before
@@ -51,7 +58,9 @@ returns-then-is_before g t c =
     let s = store_of c.args.arena.now in
     let v = c.look-node.result.now in
     let at : left_number (s c.args.number) ≡ Some c.in-Some.side = sym c.left_of.ensures ∙ c.in-Some.is in
-    join_left_settled m.key m.unit m.op m.of g.met.T.Entry.laws s (store_of c.joined_below-out.new.arena) (store_of c.left_settled.new.arena) c.args.number c.joined_below-out.result.0 v c.in-Some.side c.args.lower.now c.args.upper.now c.args.joined.now _ c.left_settled.result c.look-node.ensures at (ltb-true _ _ (search rules)) c.joined_below-out.ensures c.left_settled.ensures
+    join_left_settled m.key m.unit m.op m.of g.met.T.Entry.laws s (store_of c.joined_below-out.new.arena) (store_of c.left_settled.new.arena) c.args.number
+    c.joined_below-out.result.0 v c.in-Some.side c.args.lower.now c.args.upper.now c.args.joined.now _ c.left_settled.result c.look-node.ensures at
+    (ltb-true _ _ (search rules)) c.joined_below-out.ensures c.left_settled.ensures
 
 pub joined_below-out-requires-then-is_before-2 : goal.joined_below-out-requires-then-is_before-2
 joined_below-out-requires-then-is_before-2 g t c κs within =
@@ -60,8 +69,10 @@ joined_below-out-requires-then-is_before-2 g t c κs within =
     let v = c.look-node.result.now in
     let at : right_number (s c.args.number) ≡ Some c.in-Some-right_of.side = sym c.right_of.ensures ∙ c.in-Some-right_of.is in
     let r = c.requires in
-    let q = join_right_below m.key m.unit m.op m.of g.met.T.Entry.laws s c.args.number v c.in-Some-right_of.side c.args.lower.now c.args.upper.now c.args.joined.now r c.look-node.ensures at (ltb-true _ _ (search rules)) in
-    let d = right_lower m.key m.unit m.op m.of g.met.T.Entry.laws s c.args.number r.link v c.in-Some-right_of.side r.number r.join.has.held c.look-node.ensures at in
+    let q = join_right_below m.key m.unit m.op m.of g.met.T.Entry.laws s c.args.number v c.in-Some-right_of.side c.args.lower.now c.args.upper.now
+    c.args.joined.now r c.look-node.ensures at (ltb-true _ _ (search rules)) in
+    let d = right_lower m.key m.unit m.op m.of g.met.T.Entry.laws s c.args.number r.link v c.in-Some-right_of.side r.number
+    r.join.has.held c.look-node.ensures at in
     search (rules, q, d)
 
 pub returns-then-not-changed-2 : goal.returns-then-not-changed-2
@@ -70,7 +81,9 @@ returns-then-not-changed-2 g t c =
     let s = store_of c.args.arena.now in
     let v = c.look-node.result.now in
     let at : right_number (s c.args.number) ≡ Some c.in-Some-right_of.side = sym c.right_of.ensures ∙ c.in-Some-right_of.is in
-    join_right_same m.key m.unit m.op m.of g.met.T.Entry.laws s (store_of c.joined_below-out-then-is_before-2.new.arena) c.args.number c.joined_below-out-then-is_before-2.result.0 v c.in-Some-right_of.side c.args.lower.now c.args.upper.now c.args.joined.now _ c.look-node.ensures at (ltb-true _ _ (search rules)) c.joined_below-out-then-is_before-2.ensures (search rules)
+    join_right_same m.key m.unit m.op m.of g.met.T.Entry.laws s (store_of c.joined_below-out-then-is_before-2.new.arena) c.args.number
+    c.joined_below-out-then-is_before-2.result.0 v c.in-Some-right_of.side c.args.lower.now c.args.upper.now c.args.joined.now _ c.look-node.ensures at
+    (ltb-true _ _ (search rules)) c.joined_below-out-then-is_before-2.ensures (search rules)
 
 pub right_settled-requires-clause-side : goal.right_settled-requires-clause-side
 right_settled-requires-clause-side g t c =
@@ -79,8 +92,11 @@ right_settled-requires-clause-side g t c =
     let v = c.look-node.result.now in
     let at : right_number (s c.args.number) ≡ Some c.in-Some-right_of.side = sym c.right_of.ensures ∙ c.in-Some-right_of.is in
     let r = c.requires in
-    let p = join_right_step m.key m.unit m.op m.of g.met.T.Entry.laws s (store_of c.joined_below-out-then-is_before-2.new.arena) c.args.number c.joined_below-out-then-is_before-2.result.0 r.link v c.in-Some-right_of.side c.args.lower.now c.args.upper.now c.args.joined.now _ r.number r.join c.look-node.ensures at (ltb-true _ _ (search rules)) c.joined_below-out-then-is_before-2.ensures in
-    right_ready m.key m.unit m.op m.of g.met.T.Entry.laws s (store_of c.joined_below-out-then-is_before-2.new.arena) c.args.number r.link v c.in-Some-right_of.side _ _ _ _ 1 0 p r.low
+    let p = join_right_step m.key m.unit m.op m.of g.met.T.Entry.laws s (store_of c.joined_below-out-then-is_before-2.new.arena) c.args.number
+    c.joined_below-out-then-is_before-2.result.0 r.link v c.in-Some-right_of.side c.args.lower.now c.args.upper.now c.args.joined.now _ r.number r.join
+    c.look-node.ensures at (ltb-true _ _ (search rules)) c.joined_below-out-then-is_before-2.ensures in
+    right_ready m.key m.unit m.op m.of g.met.T.Entry.laws s (store_of c.joined_below-out-then-is_before-2.new.arena) c.args.number r.link v
+    c.in-Some-right_of.side _ _ _ _ 1 0 p r.low
 
 pub right_settled-requires-clause-used : goal.right_settled-requires-clause-used
 right_settled-requires-clause-used g t c =
@@ -89,8 +105,11 @@ right_settled-requires-clause-used g t c =
     let v = c.look-node.result.now in
     let at : right_number (s c.args.number) ≡ Some c.in-Some-right_of.side = sym c.right_of.ensures ∙ c.in-Some-right_of.is in
     let r = c.requires in
-    let p = join_right_step m.key m.unit m.op m.of g.met.T.Entry.laws s (store_of c.joined_below-out-then-is_before-2.new.arena) c.args.number c.joined_below-out-then-is_before-2.result.0 r.link v c.in-Some-right_of.side c.args.lower.now c.args.upper.now c.args.joined.now _ r.number r.join c.look-node.ensures at (ltb-true _ _ (search rules)) c.joined_below-out-then-is_before-2.ensures in
-    right_used m.key m.unit m.op m.of g.met.T.Entry.laws s (store_of c.joined_below-out-then-is_before-2.new.arena) c.args.number r.link v c.in-Some-right_of.side _ _ _ _ 1 0 p r.number
+    let p = join_right_step m.key m.unit m.op m.of g.met.T.Entry.laws s (store_of c.joined_below-out-then-is_before-2.new.arena) c.args.number
+    c.joined_below-out-then-is_before-2.result.0 r.link v c.in-Some-right_of.side c.args.lower.now c.args.upper.now c.args.joined.now _ r.number r.join
+    c.look-node.ensures at (ltb-true _ _ (search rules)) c.joined_below-out-then-is_before-2.ensures in
+    right_used m.key m.unit m.op m.of g.met.T.Entry.laws s (store_of c.joined_below-out-then-is_before-2.new.arena) c.args.number r.link v
+    c.in-Some-right_of.side _ _ _ _ 1 0 p r.number
 
 pub returns-then-is_before-2 : goal.returns-then-is_before-2
 returns-then-is_before-2 g t c =
@@ -98,9 +117,12 @@ returns-then-is_before-2 g t c =
     let s = store_of c.args.arena.now in
     let v = c.look-node.result.now in
     let at : right_number (s c.args.number) ≡ Some c.in-Some-right_of.side = sym c.right_of.ensures ∙ c.in-Some-right_of.is in
-    join_right_settled m.key m.unit m.op m.of g.met.T.Entry.laws s (store_of c.joined_below-out-then-is_before-2.new.arena) (store_of c.right_settled.new.arena) c.args.number c.joined_below-out-then-is_before-2.result.0 v c.in-Some-right_of.side c.args.lower.now c.args.upper.now c.args.joined.now _ c.right_settled.result c.look-node.ensures at (ltb-true _ _ (search rules)) c.joined_below-out-then-is_before-2.ensures c.right_settled.ensures
+    join_right_settled m.key m.unit m.op m.of g.met.T.Entry.laws s (store_of c.joined_below-out-then-is_before-2.new.arena) (store_of c.right_settled.new.arena)
+    c.args.number c.joined_below-out-then-is_before-2.result.0 v c.in-Some-right_of.side c.args.lower.now c.args.upper.now c.args.joined.now _
+    c.right_settled.result c.look-node.ensures at (ltb-true _ _ (search rules)) c.joined_below-out-then-is_before-2.ensures c.right_settled.ensures
 
 pub joined_at-requires-clause-meets : goal.joined_at-requires-clause-meets
 joined_at-requires-clause-meets g t c =
     let m = g.T.Entry in
-    between_here m.key m.unit m.op m.of g.met.T.Entry.laws (store_of c.args.arena.now) c.args.number c.look-node.result.now c.args.lower.now c.args.upper.now c.look-node.ensures (ltb-false _ _ (search rules)) (ltb-false _ _ (search rules))
+    between_here m.key m.unit m.op m.of g.met.T.Entry.laws (store_of c.args.arena.now) c.args.number c.look-node.result.now c.args.lower.now c.args.upper.now
+    c.look-node.ensures (ltb-false _ _ (search rules)) (ltb-false _ _ (search rules))

@@ -8,7 +8,8 @@ returns-then-is_same g c =
     let m = g.T.Entry in
     let s = store_of c.args.arena.now in
     right_stays m.key m.unit m.op m.of g.met.T.Entry.laws s c.args.number c.args.side c.told-link.result c.look.result.now _
-    (told_settled m.key m.unit m.op m.of g.met.T.Entry.laws s c.args.side c.told-link.result c.requires.side c.told-link.ensures (λ v e. c.is_level.ensures v e (search rules)))
+    (told_settled m.key m.unit m.op m.of g.met.T.Entry.laws s c.args.side c.told-link.result c.requires.side c.told-link.ensures
+    (λ v e. c.is_level.ensures v e (search rules)))
     c.look.ensures (c.is_same.ensures c.if-is_same.true)
 
 pub returns : goal.returns
@@ -16,5 +17,6 @@ returns g c =
     let m = g.T.Entry in
     let s = store_of c.args.arena.now in
     right_told m.key m.unit m.op m.of g.met.T.Entry.laws s s (store_of c.set_right.new.self) c.args.number c.args.side c.told-link.result
-    (told_settled m.key m.unit m.op m.of g.met.T.Entry.laws s c.args.side c.told-link.result c.requires.side c.told-link.ensures (λ v e. c.is_level.ensures v e (search rules)))
+    (told_settled m.key m.unit m.op m.of g.met.T.Entry.laws s c.args.side c.told-link.result c.requires.side c.told-link.ensures
+    (λ v e. c.is_level.ensures v e (search rules)))
     c.set_right.ensures

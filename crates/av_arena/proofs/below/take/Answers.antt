@@ -9,7 +9,8 @@ pub returns-in_default : goal.returns-in_default
 returns-in_default g c =
     let m = g.T.Entry in
     let none : c.get-node.result.right ≡ None = search rules in
-    taken_last m.key m.unit m.op m.of g.met.T.Entry.laws (store_of c.args.arena.now) c.args.number c.get-node.result c.args.like.now c.get-node.ensures c.requires.same none
+    taken_last m.key m.unit m.op m.of g.met.T.Entry.laws (store_of c.args.arena.now) c.args.number c.get-node.result c.args.like.now
+    c.get-node.ensures c.requires.same none
 
 pub pop_first-first-requires-clause-held : goal.pop_first-first-requires-clause-held
 pop_first-first-requires-clause-held g c =
@@ -36,7 +37,8 @@ balance-whole-requires-clause-spot g c =
     let s = store_of c.args.arena.now in
     let r = c.requires.there in
     let o = opened_at m.key m.unit m.op m.of g.met.T.Entry.laws s c.args.number r.link c.get-node.result r.number r.there.held c.get-node.ensures in
-    removed_middle_ready m.key m.unit m.op m.of g.met.T.Entry.laws s (store_of c.pop_first-first.new.arena) r.link c.in-Some.right c.get-node.result c.pop_first-first.result.0 c.pop_first-first.result.1 c.pop_first-first.result.2 o c.in-Some.is c.pop_first-first.ensures.popped
+    removed_middle_ready m.key m.unit m.op m.of g.met.T.Entry.laws s (store_of c.pop_first-first.new.arena) r.link c.in-Some.right c.get-node.result
+    c.pop_first-first.result.0 c.pop_first-first.result.1 c.pop_first-first.result.2 o c.in-Some.is c.pop_first-first.ensures.popped
 
 pub balance-whole-requires-clause-level : goal.balance-whole-requires-clause-level
 balance-whole-requires-clause-level g c =
@@ -67,4 +69,6 @@ pub returns : goal.returns
 returns g c =
     let m = g.T.Entry in
     let p = c.pop_first-first in
-    taken_middle m.key m.unit m.op m.of g.met.T.Entry.laws (store_of c.args.arena.now) (store_of p.new.arena) (store_of c.balance-whole.new.arena) c.args.number c.get-node.result c.args.like.now c.in-Some.right p.result.0 p.result.1 p.result.2 c.balance-whole.result c.get-node.ensures c.requires.same c.in-Some.is p.ensures.popped p.ensures.not_higher p.ensures.at_most_one_lower c.balance-whole.ensures.joined c.balance-whole.ensures.height
+    taken_middle m.key m.unit m.op m.of g.met.T.Entry.laws (store_of c.args.arena.now) (store_of p.new.arena) (store_of c.balance-whole.new.arena) c.args.number
+    c.get-node.result c.args.like.now c.in-Some.right p.result.0 p.result.1 p.result.2 c.balance-whole.result c.get-node.ensures c.requires.same c.in-Some.is
+    p.ensures.popped p.ensures.not_higher p.ensures.at_most_one_lower c.balance-whole.ensures.joined c.balance-whole.ensures.height

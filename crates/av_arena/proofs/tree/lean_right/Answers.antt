@@ -4,20 +4,29 @@ use Rattle.av_arena.proofs.TreeLemmas.{still_used, turned_left, turned_right_lef
 use Rattle.av_arena.proofs.tree.lean_right.Goals as goal
 
 pub close-requires-clause-used : goal.close-requires-clause-used
-close-requires-clause-used g c = let m = g.T.Entry in still_used m.key m.unit m.op m.of g.met.T.Entry.laws _ _ _ _ _ _ _ c.close-low.ensures.set c.args.right.number c.open-side.ensures.used
+close-requires-clause-used g c = let m = g.T.Entry in still_used m.key m.unit m.op m.of g.met.T.Entry.laws _ _ _ _ _ _ _ c.close-low.ensures.set
+    c.args.right.number c.open-side.ensures.used
 
 pub returns-then-height-clause-joined : goal.returns-then-height-clause-joined
 returns-then-height-clause-joined g c =
     let m = g.T.Entry in
-    turned_left m.key m.unit m.op m.of g.met.T.Entry.laws (store_of c.args.arena.now) (store_of c.close-low.new.arena) (store_of c.close.new.arena) c.args.number c.args.left c.args.entry c.args.right c.open-side.result c.close-low.result c.close.result c.requires.spot c.open-side.ensures c.close-low.ensures.set c.close.ensures.set (omega arith, omega arith) (omega arith, omega arith)
+    turned_left m.key m.unit m.op m.of g.met.T.Entry.laws (store_of c.args.arena.now) (store_of c.close-low.new.arena) (store_of c.close.new.arena)
+    c.args.number c.args.left c.args.entry c.args.right c.open-side.result c.close-low.result c.close.result c.requires.spot c.open-side.ensures
+    c.close-low.ensures.set c.close.ensures.set (omega arith, omega arith) (omega arith, omega arith)
 
 pub close-after-requires-clause-used : goal.close-after-requires-clause-used
-close-after-requires-clause-used g c = let m = g.T.Entry in still_used m.key m.unit m.op m.of g.met.T.Entry.laws _ _ _ _ _ _ _ c.close-before.ensures.set c.args.right.number c.open-side.ensures.used
+close-after-requires-clause-used g c = let m = g.T.Entry in still_used m.key m.unit m.op m.of g.met.T.Entry.laws _ _ _ _ _ _ _ c.close-before.ensures.set
+    c.args.right.number c.open-side.ensures.used
 
 pub close-requires-2-clause-used : goal.close-requires-2-clause-used
-close-requires-2-clause-used g c = let m = g.T.Entry in still_used m.key m.unit m.op m.of g.met.T.Entry.laws _ _ _ _ _ _ _ c.close-after.ensures.set c.in-Some.middle.number (still_used m.key m.unit m.op m.of g.met.T.Entry.laws _ _ _ _ _ _ _ c.close-before.ensures.set c.in-Some.middle.number c.open-inner.ensures.used)
+close-requires-2-clause-used g c = let m = g.T.Entry in still_used m.key m.unit m.op m.of g.met.T.Entry.laws _ _ _ _ _ _ _ c.close-after.ensures.set
+    c.in-Some.middle.number (still_used m.key m.unit m.op m.of g.met.T.Entry.laws _ _ _ _ _ _ _ c.close-before.ensures.set
+    c.in-Some.middle.number c.open-inner.ensures.used)
 
 pub returns-clause-joined : goal.returns-clause-joined
 returns-clause-joined g c =
     let m = g.T.Entry in
-    turned_right_left m.key m.unit m.op m.of g.met.T.Entry.laws (store_of c.args.arena.now) (store_of c.close-before.new.arena) (store_of c.close-after.new.arena) (store_of c.close-2.new.arena) c.args.number c.args.left c.args.entry c.args.right c.open-side.result c.in-Some.middle c.open-inner.result c.close-before.result c.close-after.result c.close-2.result c.requires.spot c.open-side.ensures c.in-Some.is c.open-inner.ensures c.close-before.ensures.set c.close-after.ensures.set c.close-2.ensures.set (search rules) (search rules) (search rules)
+    turned_right_left m.key m.unit m.op m.of g.met.T.Entry.laws (store_of c.args.arena.now) (store_of c.close-before.new.arena)
+    (store_of c.close-after.new.arena) (store_of c.close-2.new.arena) c.args.number c.args.left c.args.entry c.args.right c.open-side.result c.in-Some.middle
+    c.open-inner.result c.close-before.result c.close-after.result c.close-2.result c.requires.spot c.open-side.ensures c.in-Some.is c.open-inner.ensures
+    c.close-before.ensures.set c.close-after.ensures.set c.close-2.ensures.set (search rules) (search rules) (search rules)

@@ -6,4 +6,5 @@ pub get-requires : goal.get-requires
 get-requires g c = let m = g.T.Entry in used m.key m.unit m.op m.of g.met.T.Entry.laws (store_of c.args.arena.now) c.args.tree c.requires
 
 pub returns : goal.returns
-returns g c = let m = g.T.Entry in opened m.key m.unit m.op m.of g.met.T.Entry.laws (store_of c.args.arena.now) c.args.tree c.get.result c.requires c.get.ensures
+returns g c = let m = g.T.Entry in opened m.key m.unit m.op m.of g.met.T.Entry.laws (store_of c.args.arena.now) c.args.tree
+    c.get.result c.requires c.get.ensures

@@ -11,7 +11,8 @@ returns-in_default-clause-placed g c =
     let s = store_of c.args.arena.now in
     let e : c.args.tree ≡ None = search rules in
     let p = subst (λ k. IsPlaceFor m.key m.unit m.op m.of s k c.args.number c.args.entry) e c.requires.place in
-    subst (λ k. IsPlaced m.key m.unit m.op m.of s (store_of c.close.new.arena) k c.args.number c.args.entry c.close.result) (sym e) (placed_first m.key m.unit m.op m.of g.met.T.Entry.laws s (store_of c.close.new.arena) c.args.number c.args.entry c.close.result p c.close.ensures.set)
+    subst (λ k. IsPlaced m.key m.unit m.op m.of s (store_of c.close.new.arena) k c.args.number c.args.entry c.close.result) (sym e)
+    (placed_first m.key m.unit m.op m.of g.met.T.Entry.laws s (store_of c.close.new.arena) c.args.number c.args.entry c.close.result p c.close.ensures.set)
 
 pub placed_below-requires : goal.placed_below-requires
 placed_below-requires g c =
@@ -39,7 +40,8 @@ settle-requires g c =
     let s = store_of c.args.arena.now in
     let k = c.in-Some.tree in
     let p = subst (λ k. IsPlaceFor m.key m.unit m.op m.of s k c.args.number c.args.entry) c.in-Some.is c.requires.place in
-    unsettled m.key m.unit m.op m.of g.met.T.Entry.laws s (store_of c.placed_below.new.arena) k _ _ _ none 0 1 (c.placed_below.ensures k refl p) (let h = ap height_of c.in-Some.is in let l = c.requires.low in omega arith)
+    unsettled m.key m.unit m.op m.of g.met.T.Entry.laws s (store_of c.placed_below.new.arena) k _ _ _ none 0 1 (c.placed_below.ensures k refl p)
+    (let h = ap height_of c.in-Some.is in let l = c.requires.low in omega arith)
 
 pub returns-clause-placed : goal.returns-clause-placed
 returns-clause-placed g c =

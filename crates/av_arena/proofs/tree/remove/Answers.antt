@@ -22,7 +22,8 @@ returns-then-is_at-clause-removed g c =
     let k = c.in-Some.tree in
     let p = subst (λ o. HasKey m.key m.unit m.op m.of s o c.args.like) c.in-Some.is c.requires.there in
     let w = c.take-rest.ensures k refl p in
-    subst (λ o. IsWithout m.key m.unit m.op m.of s (store_of c.take-rest.new.arena) o (without_key m.key (m.key c.args.like) (entries_at s o)) k.number c.take-rest.result) (sym c.in-Some.is) w.0
+    subst (λ o. IsWithout m.key m.unit m.op m.of s (store_of c.take-rest.new.arena) o (without_key m.key (m.key c.args.like) (entries_at s o)) k.number
+    c.take-rest.result) (sym c.in-Some.is) w.0
 
 pub returns-then-is_at-clause-not_higher : goal.returns-then-is_at-clause-not_higher
 returns-then-is_at-clause-not_higher g c =
@@ -69,7 +70,8 @@ settle-whole-requires g c =
     let s = store_of c.args.arena.now in
     let k = c.in-Some.tree in
     let p = subst (λ o. HasKey m.key m.unit m.op m.of s o c.args.like) c.in-Some.is c.requires.there in
-    unsettled m.key m.unit m.op m.of g.met.T.Entry.laws s (store_of c.removed_below-number.new.arena) k _ _ _ (is c.removed_below-number.result.0) 1 0 (c.removed_below-number.ensures.removed k refl p) (let h = ap height_of c.in-Some.is in let l = c.requires.low in omega arith)
+    unsettled m.key m.unit m.op m.of g.met.T.Entry.laws s (store_of c.removed_below-number.new.arena) k _ _ _ (is c.removed_below-number.result.0) 1 0
+    (c.removed_below-number.ensures.removed k refl p) (let h = ap height_of c.in-Some.is in let l = c.requires.low in omega arith)
 
 pub returns-clause-removed : goal.returns-clause-removed
 returns-clause-removed g c =
@@ -80,8 +82,10 @@ returns-clause-removed g c =
     let out = c.removed_below-number.result.0 in
     let k = c.in-Some.tree in
     let p = subst (λ o. HasKey m.key m.unit m.op m.of s o c.args.like) c.in-Some.is c.requires.there in
-    let d = done_settled m.key m.unit m.op m.of g.met.T.Entry.laws s t u k c.settle-whole.result _ _ _ (is out) 1 0 (c.removed_below-number.ensures.removed k refl p) c.settle-whole.ensures in
-    subst (λ o. IsWithout m.key m.unit m.op m.of s u o (without_key m.key (m.key c.args.like) (entries_at s o)) out (Some c.settle-whole.result)) (sym c.in-Some.is) d.tree
+    let d = done_settled m.key m.unit m.op m.of g.met.T.Entry.laws s t u k c.settle-whole.result _ _ _ (is out) 1 0
+    (c.removed_below-number.ensures.removed k refl p) c.settle-whole.ensures in
+    subst (λ o. IsWithout m.key m.unit m.op m.of s u o (without_key m.key (m.key c.args.like) (entries_at s o)) out (Some c.settle-whole.result))
+    (sym c.in-Some.is) d.tree
 
 pub returns-clause-not_higher : goal.returns-clause-not_higher
 returns-clause-not_higher g c =
@@ -91,7 +95,8 @@ returns-clause-not_higher g c =
     let u = store_of c.settle-whole.new.arena in
     let k = c.in-Some.tree in
     let p = subst (λ o. HasKey m.key m.unit m.op m.of s o c.args.like) c.in-Some.is c.requires.there in
-    let d = done_settled m.key m.unit m.op m.of g.met.T.Entry.laws s t u k c.settle-whole.result _ _ _ (is c.removed_below-number.result.0) 1 0 (c.removed_below-number.ensures.removed k refl p) c.settle-whole.ensures in
+    let d = done_settled m.key m.unit m.op m.of g.met.T.Entry.laws s t u k c.settle-whole.result _ _ _ (is c.removed_below-number.result.0) 1 0
+    (c.removed_below-number.ensures.removed k refl p) c.settle-whole.ensures in
     let h = ap height_of c.in-Some.is in
     let a = d.not_higher in
     omega arith
@@ -104,7 +109,8 @@ returns-clause-at_most_one_lower g c =
     let u = store_of c.settle-whole.new.arena in
     let k = c.in-Some.tree in
     let p = subst (λ o. HasKey m.key m.unit m.op m.of s o c.args.like) c.in-Some.is c.requires.there in
-    let d = done_settled m.key m.unit m.op m.of g.met.T.Entry.laws s t u k c.settle-whole.result _ _ _ (is c.removed_below-number.result.0) 1 0 (c.removed_below-number.ensures.removed k refl p) c.settle-whole.ensures in
+    let d = done_settled m.key m.unit m.op m.of g.met.T.Entry.laws s t u k c.settle-whole.result _ _ _ (is c.removed_below-number.result.0) 1 0
+    (c.removed_below-number.ensures.removed k refl p) c.settle-whole.ensures in
     let h = ap height_of c.in-Some.is in
     let a = d.not_lower in
     omega arith

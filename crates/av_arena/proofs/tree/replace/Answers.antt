@@ -30,7 +30,8 @@ settle-requires g c =
     let s = store_of c.args.arena.now in
     let k = c.in-Some.tree in
     let p = subst (λ k. HasKey m.key m.unit m.op m.of s k c.args.entry) c.in-Some.is c.requires.there in
-    unsettled m.key m.unit m.op m.of g.met.T.Entry.laws s (store_of c.replaced_below.new.arena) k _ _ _ none 0 0 (c.replaced_below.ensures k refl p) (let h = ap height_of c.in-Some.is in let l = c.requires.low in omega arith)
+    unsettled m.key m.unit m.op m.of g.met.T.Entry.laws s (store_of c.replaced_below.new.arena) k _ _ _ none 0 0 (c.replaced_below.ensures k refl p)
+    (let h = ap height_of c.in-Some.is in let l = c.requires.low in omega arith)
 
 pub returns-clause-replaced : goal.returns-clause-replaced
 returns-clause-replaced g c =
@@ -40,7 +41,8 @@ returns-clause-replaced g c =
     let u = store_of c.settle.new.arena in
     let k = c.in-Some.tree in
     let p = subst (λ k. HasKey m.key m.unit m.op m.of s k c.args.entry) c.in-Some.is c.requires.there in
-    let d = done_settled m.key m.unit m.op m.of g.met.T.Entry.laws s t u k c.settle.result _ _ _ none 0 0 (c.replaced_below.ensures k refl p) c.settle.ensures in
+    let d = done_settled m.key m.unit m.op m.of g.met.T.Entry.laws s t u k c.settle.result _ _ _ none 0 0
+    (c.replaced_below.ensures k refl p) c.settle.ensures in
     subst (λ o. IsReplaced m.key m.unit m.op m.of s u o c.args.entry c.settle.result) (sym c.in-Some.is) d.tree
 
 pub returns-clause-height : goal.returns-clause-height
@@ -51,7 +53,8 @@ returns-clause-height g c =
     let u = store_of c.settle.new.arena in
     let k = c.in-Some.tree in
     let p = subst (λ k. HasKey m.key m.unit m.op m.of s k c.args.entry) c.in-Some.is c.requires.there in
-    let d = done_settled m.key m.unit m.op m.of g.met.T.Entry.laws s t u k c.settle.result _ _ _ none 0 0 (c.replaced_below.ensures k refl p) c.settle.ensures in
+    let d = done_settled m.key m.unit m.op m.of g.met.T.Entry.laws s t u k c.settle.result _ _ _ none 0 0
+    (c.replaced_below.ensures k refl p) c.settle.ensures in
     let h = ap height_of c.in-Some.is in
     let n = d.not_higher in
     let l = d.not_lower in

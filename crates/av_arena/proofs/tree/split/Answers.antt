@@ -31,7 +31,8 @@ settle-requires g c =
     let s = store_of c.args.arena.now in
     let k = c.in-Some.tree in
     let p = subst (λ k. IsSplitFor m.key m.unit m.op m.of s k c.args.new c.args.lower c.args.upper) c.in-Some.is c.requires.split in
-    unsettled m.key m.unit m.op m.of g.met.T.Entry.laws s (store_of c.split_below.new.arena) k _ _ _ none 0 1 (c.split_below.ensures k refl p) (let h = ap height_of c.in-Some.is in let l = c.requires.low in omega arith)
+    unsettled m.key m.unit m.op m.of g.met.T.Entry.laws s (store_of c.split_below.new.arena) k _ _ _ none 0 1 (c.split_below.ensures k refl p)
+    (let h = ap height_of c.in-Some.is in let l = c.requires.low in omega arith)
 
 pub returns : goal.returns
 returns g c =

@@ -7,11 +7,13 @@ use Rattle.av_clusters.proofs.Clusters.give.Goals as goal
 
 pub overflow_add-self : goal.overflow_add-self
 overflow_add-self c =
-    let room = room_for_one _ _ _ _ _ _ _ _ _ c.args.page c.self.invariant (subst (λ (v : Slots). is_taken (page_at v.pages c.args.page) ≡ true) (sym c.self.view_is) c.requires) in
+    let room = room_for_one _ _ _ _ _ _ _ _ _ c.args.page c.self.invariant
+    (subst (λ (v : Slots). is_taken (page_at v.pages c.args.page) ≡ true) (sym c.self.view_is) c.requires) in
     omega (arith, room)
 
 pub invariant_of-self-else-not-any_taken : goal.invariant_of-self-else-not-any_taken
-invariant_of-self-else-not-any_taken c = whole_back _ _ _ _ _ _ _ _ _ c.args.page c.self.invariant (subst (λ (v : Slots). is_taken (page_at v.pages c.args.page) ≡ true) (sym c.self.view_is) c.requires)
+invariant_of-self-else-not-any_taken c = whole_back _ _ _ _ _ _ _ _ _ c.args.page c.self.invariant
+    (subst (λ (v : Slots). is_taken (page_at v.pages c.args.page) ≡ true) (sym c.self.view_is) c.requires)
 
 pub invariant_of-self : goal.invariant_of-self
 invariant_of-self c =

@@ -20,6 +20,17 @@ cluster_count-requires c = few_pages c.args.pages c.args.bad.now _ (c.deref-4.en
 pub invariant_of-result : goal.invariant_of-result
 invariant_of-result c =
     let pages = c.deref-2.ensures.value ∙ c.in_ok-pages.ensures in
-    rw (c.count_free-left.ensures, c.in_ok-free.ensures.0, c.in_ok-busy.ensures, c.deref.ensures.value, c.deref-2.ensures.value, c.deref-3.ensures.value, c.in_ok-full.ensures, c.cluster_count.ensures, c.deref-4.ensures.value, c.in_ok-pages.ensures)
+    rw (
+      c.count_free-left.ensures,
+      c.in_ok-free.ensures.0,
+      c.in_ok-busy.ensures,
+      c.deref.ensures.value,
+      c.deref-2.ensures.value,
+      c.deref-3.ensures.value,
+      c.in_ok-full.ensures,
+      c.cluster_count.ensures,
+      c.deref-4.ensures.value,
+      c.in_ok-pages.ensures,
+    )
     (whole_fresh c.args.pages c.args.bad.now _ _ (omega arith) (c.in_ok-free.ensures.1 ∙ ap length (c.in_ok-free.ensures.0 ∙ ap clusters_of pages))
     (subst (λ (ps : List Page). length ps / 256 + 1 ≤ deque_capacity c.in_ok-free.free) pages c.in_ok-free.ensures.2))

@@ -15,12 +15,14 @@ returns-in_err-page-clause-none c =
     (answered _ _ _ _ _ _ _ _ c.deref.ensures.value c.start_of.ensures c.end_of.ensures c.lowest.ensures c.in_err-page.was))
 
 pub overflow_sub-self : goal.overflow_sub-self
-overflow_sub-self c = some_left _ _ _ _ _ _ _ _ _ c.in_ok-page.page c.self.invariant (found c.self.inside.pages.items _ _ _ (answered _ _ _ _ _ _ _ _ c.deref.ensures.value refl refl c.lowest.ensures c.in_ok-page.was)).2
+overflow_sub-self c = some_left _ _ _ _ _ _ _ _ _ c.in_ok-page.page c.self.invariant
+    (found c.self.inside.pages.items _ _ _ (answered _ _ _ _ _ _ _ _ c.deref.ensures.value refl refl c.lowest.ensures c.in_ok-page.was)).2
 
 pub invariant_of-self : goal.invariant_of-self
 invariant_of-self c =
     let is = first_is c.self.inside.free.items c.in_ok-cluster.field-0.now c.in_ok-cluster.ensures.item.3.0 c.in_ok-cluster.ensures.lookup in
-    rw c.pop_front.ensures.rest (whole_in_next _ _ _ _ _ _ _ _ _ c.in_ok-cluster.field-0.now c.in_ok-page.page (drop 1 c.self.inside.free.items) _ _ c.self.invariant is
+    rw c.pop_front.ensures.rest (whole_in_next _ _ _ _ _ _ _ _ _ c.in_ok-cluster.field-0.now c.in_ok-page.page
+    (drop 1 c.self.inside.free.items) _ _ c.self.invariant is
     (answered _ _ _ _ _ _ _ _ c.deref.ensures.value c.start_of.ensures c.end_of.ensures c.lowest.ensures c.in_ok-page.was)
     (one_shorter c.self.inside.free.items _ _ _ is c.self.invariant.len
     (one_popped _ _ _ _ _ _ is c.pop_front.ensures.items c.pop_front.ensures.rest c.pop_front.ensures.len)) c.pop_front.ensures.capacity)

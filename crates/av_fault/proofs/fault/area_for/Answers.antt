@@ -8,4 +8,5 @@ returns-in_err-area-clause-permitted c =
 
 pub returns-clause-permitted : goal.returns-clause-permitted
 returns-clause-permitted c =
-    ap is_some c.then_some.ensures ∙ some_then c.permits.result c.in_ok-area.area ∙ c.permits.ensures ∙ may_be c.args.mem.now.spaces.processes c.args.process c.args.page c.args.write (Some c.in_ok-area.area) c.in_ok-area.ensures.area
+    ap is_some c.then_some.ensures ∙ some_then c.permits.result c.in_ok-area.area ∙ c.permits.ensures ∙ may_be c.args.mem.now.spaces.processes c.args.process
+    c.args.page c.args.write (Some c.in_ok-area.area) c.in_ok-area.ensures.area

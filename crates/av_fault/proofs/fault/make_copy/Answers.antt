@@ -17,8 +17,11 @@ returns-in_default c = record {
   count = c.take_copy.ensures.count;
   step = λ s keeps.
       let none = rw c.in_default.is at c.in_ok-frame.ensures.taken in
-      let named = named_entry c.args.from (entry_at c.args.mem.now.tables c.args.process c.args.page) (entry s.ledger (c.args.process, c.args.page)) c.requires.named (keeps.stands.parts.ledger.tables.entries c.args.process c.args.page) in
-      copy_starved s c.args.mem.now c.take_copy.new.mem c.args.process c.args.page c.args.notes.now keeps c.take_copy.ensures.processes c.take_copy.ensures.count (order_still c.args.mem.now c.take_copy.new.mem c.take_copy.ensures.spaces c.take_copy.ensures.anons keeps.anons) c.requires.permitted
+      let named = named_entry c.args.from (entry_at c.args.mem.now.tables c.args.process c.args.page) (entry s.ledger (c.args.process, c.args.page))
+      c.requires.named (keeps.stands.parts.ledger.tables.entries c.args.process c.args.page) in
+      copy_starved s c.args.mem.now c.take_copy.new.mem c.args.process c.args.page c.args.notes.now keeps c.take_copy.ensures.processes
+      c.take_copy.ensures.count (order_still c.args.mem.now c.take_copy.new.mem c.take_copy.ensures.spaces c.take_copy.ensures.anons keeps.anons)
+      c.requires.permitted
       c.args.from named.0 named.1 c.requires.shared c.out_of.result none.1 none.0 c.out_of.ensures;
 }
 
@@ -32,10 +35,13 @@ returns c = record {
       let page = c.args.page in
       let f = c.in-Some.frame in
       let is = rw c.in-Some.is at c.in_ok-frame.ensures.taken in
-      let named = named_entry c.args.from (entry_at old.tables p page) (entry s.ledger (p, page)) c.requires.named (keeps.stands.parts.ledger.tables.entries p page) in
+      let named = named_entry c.args.from (entry_at old.tables p page) (entry s.ledger (p, page)) c.requires.named
+      (keeps.stands.parts.ledger.tables.entries p page) in
       let fit = order_still old mid c.take_copy.ensures.spaces c.take_copy.ensures.anons keeps.anons in
-      let served = copy_served s old mid p page c.args.notes.now keeps c.take_copy.ensures.processes c.take_copy.ensures.count fit c.requires.permitted c.args.from named.0 named.1 c.requires.shared f c.push.new.self c.in_ok-push.ensures.ok is in
-      given_home s old keeps mid c.set_home.new.self p page f c.args.home c.set_home.ensures c.args.notes.now c.push.new.self (Copied p (4096 * page) f) (rmap_of s) (copied_rmap p page f (rmap_of s)) (copied_is p page f s.ledger)
+      let served = copy_served s old mid p page c.args.notes.now keeps c.take_copy.ensures.processes c.take_copy.ensures.count fit c.requires.permitted
+      c.args.from named.0 named.1 c.requires.shared f c.push.new.self c.in_ok-push.ensures.ok is in
+      given_home s old keeps mid c.set_home.new.self p page f c.args.home c.set_home.ensures c.args.notes.now c.push.new.self (Copied p (4096 * page) f)
+      (rmap_of s) (copied_rmap p page f (rmap_of s)) (copied_is p page f s.ledger)
       (unnamed s old mid p page c.args.notes.now keeps c.take_copy.ensures.processes c.take_copy.ensures.count fit c.requires.permitted f is.below is.first)
       (owns_named s old keeps p page c.args.from named.0 named.1) keeps.stands.reach served refl refl served.parts
       (rmap_still s old mid keeps (ap (λ v. v.areas) is.view) (ap (λ v. v.anons) is.view) (ap (λ v. v.homes) is.view))

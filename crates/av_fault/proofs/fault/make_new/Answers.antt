@@ -15,7 +15,9 @@ returns-in_default c = record {
   count = c.take_zeros.ensures.count;
   step = λ s keeps.
       let none = rw c.in_default.is at c.in_ok-frame.ensures.taken in
-      new_starved s c.args.mem.now c.take_zeros.new.mem c.args.process c.args.page c.args.notes.now keeps c.take_zeros.ensures.processes c.take_zeros.ensures.count (order_still c.args.mem.now c.take_zeros.new.mem c.take_zeros.ensures.spaces c.take_zeros.ensures.anons keeps.anons) c.requires.permitted c.requires.bare
+      new_starved s c.args.mem.now c.take_zeros.new.mem c.args.process c.args.page c.args.notes.now keeps c.take_zeros.ensures.processes
+      c.take_zeros.ensures.count (order_still c.args.mem.now c.take_zeros.new.mem c.take_zeros.ensures.spaces c.take_zeros.ensures.anons keeps.anons)
+      c.requires.permitted c.requires.bare
       c.out_of.result none.1 none.0 c.out_of.ensures;
 }
 
@@ -32,19 +34,27 @@ returns c = record {
       let fit = order_still old first c.take_zeros.ensures.spaces c.take_zeros.ensures.anons keeps.anons in
       let mid = record first { spaces = c.prepare.new.self; anons = c.prepare.new.anons } in
       let alive = lives_still old s first p keeps c.take_zeros.ensures.spaces c.requires.there in
-      let served = new_made s old first p page c.args.notes.now keeps c.take_zeros.ensures.processes c.take_zeros.ensures.count fit c.requires.permitted c.requires.bare f c.push.new.self c.in_ok-push.ensures.ok is in
-      let rmap = prepared_rmap old s keeps first c.take_zeros.ensures.spaces c.take_zeros.ensures.anons c.prepare.new.self c.prepare.new.anons p page c.in_ok-prepare.ensures.areas c.in_ok-prepare.ensures.anons (λ g. ap (λ v. v.homes g) is.view ∙ keeps.stands.homes g) in
-      given_home s old keeps mid c.set_home.new.self p page f c.home_at-home.result c.set_home.ensures c.args.notes.now c.push.new.self (New p (4096 * page) f) (prepare_page p page (rmap_of s)) (new_rmap p page f (rmap_of s)) (new_is p page f s.ledger)
+      let served = new_made s old first p page c.args.notes.now keeps c.take_zeros.ensures.processes c.take_zeros.ensures.count fit c.requires.permitted
+      c.requires.bare f c.push.new.self c.in_ok-push.ensures.ok is in
+      let rmap = prepared_rmap old s keeps first c.take_zeros.ensures.spaces c.take_zeros.ensures.anons c.prepare.new.self c.prepare.new.anons p page
+      c.in_ok-prepare.ensures.areas c.in_ok-prepare.ensures.anons (λ g. ap (λ v. v.homes g) is.view ∙ keeps.stands.homes g) in
+      given_home s old keeps mid c.set_home.new.self p page f c.home_at-home.result c.set_home.ensures c.args.notes.now c.push.new.self (New p (4096 * page) f)
+      (prepare_page p page (rmap_of s)) (new_rmap p page f (rmap_of s)) (new_is p page f s.ledger)
       (unnamed s old first p page c.args.notes.now keeps c.take_zeros.ensures.processes c.take_zeros.ensures.count fit c.requires.permitted f is.below is.first)
-      (prepared_owns old s keeps first c.take_zeros.ensures.spaces c.take_zeros.ensures.anons c.prepare.new.self c.prepare.new.anons p page c.in_ok-prepare.ensures.areas c.in_ok-prepare.ensures.anons (mapped_there s old keeps p page c.requires.permitted))
-      (prepared_reach old s keeps first c.take_zeros.ensures.spaces c.take_zeros.ensures.anons c.prepare.new.self c.prepare.new.anons p page c.in_ok-prepare.ensures.areas c.in_ok-prepare.ensures.anons)
+      (prepared_owns old s keeps first c.take_zeros.ensures.spaces c.take_zeros.ensures.anons c.prepare.new.self c.prepare.new.anons p page
+      c.in_ok-prepare.ensures.areas c.in_ok-prepare.ensures.anons (mapped_there s old keeps p page c.requires.permitted))
+      (prepared_reach old s keeps first c.take_zeros.ensures.spaces c.take_zeros.ensures.anons c.prepare.new.self c.prepare.new.anons p page
+      c.in_ok-prepare.ensures.areas c.in_ok-prepare.ensures.anons)
       served refl refl
-      (prepared_within old s keeps first c.take_zeros.ensures.spaces c.take_zeros.ensures.anons c.prepare.new.self c.prepare.new.anons p page c.in_ok-prepare.ensures.areas c.in_ok-prepare.ensures.anons s.world _ served.parts alive)
+      (prepared_within old s keeps first c.take_zeros.ensures.spaces c.take_zeros.ensures.anons c.prepare.new.self c.prepare.new.anons p page
+      c.in_ok-prepare.ensures.areas c.in_ok-prepare.ensures.anons s.world _ served.parts alive)
       rmap (c.home_at-home.ensures ∙ ap (home_of page) (rmap.areas p page));
 }
 
 pub prepare-requires-clause-lives : goal.prepare-requires-clause-lives
-prepare-requires-clause-lives c = lives_still c.args.mem.now c.requires.steady.0 c.take_zeros.new.mem c.args.process c.requires.steady.1 c.take_zeros.ensures.spaces c.requires.there
+prepare-requires-clause-lives c = lives_still c.args.mem.now c.requires.steady.0 c.take_zeros.new.mem c.args.process c.requires.steady.1
+    c.take_zeros.ensures.spaces c.requires.there
 
 pub prepare-requires-clause-order : goal.prepare-requires-clause-order
-prepare-requires-clause-order c = (order_still c.args.mem.now c.take_zeros.new.mem c.take_zeros.ensures.spaces c.take_zeros.ensures.anons c.requires.steady.1.anons).order
+prepare-requires-clause-order c = (order_still c.args.mem.now c.take_zeros.new.mem c.take_zeros.ensures.spaces c.take_zeros.ensures.anons
+    c.requires.steady.1.anons).order

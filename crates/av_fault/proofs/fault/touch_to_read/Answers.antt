@@ -38,5 +38,7 @@ returns-else-seen c = record {
       let old = c.args.mem.now in
       let is = sym c.get.ensures ∙ h.is in
       seen_now old (record old { tables = c.change.new.self }) s c.args.process c.args.page h.frame h.write h.write h.seen c.args.notes.now keeps
-      is (subst (λ e. entry_at c.change.new.self ≡ with_entry c.args.process c.args.page e (entry_at old.tables)) c.accessed_entry.ensures c.change.ensures.sets) c.change.ensures.processes refl refl refl (few_by_bit old s c.args.process c.args.page h.frame h.write h.seen keeps is) (c.requires.permitted);
+      is (subst (λ e. entry_at c.change.new.self ≡ with_entry c.args.process c.args.page e (entry_at old.tables)) c.accessed_entry.ensures
+      c.change.ensures.sets) c.change.ensures.processes refl refl refl (few_by_bit old s c.args.process c.args.page h.frame h.write h.seen keeps is)
+      (c.requires.permitted);
 }

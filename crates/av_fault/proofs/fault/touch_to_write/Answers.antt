@@ -11,13 +11,16 @@ use Rattle.av_fault.proofs.FaultSafe.{none_away, entry_frame, few_by_bit, frame_
 use Rattle.av_fault.proofs.fault.touch_to_write.Goals as goal
 
 pub is_shared-requires : goal.is_shared-requires
-is_shared-requires c = (entry_frame c.args.mem.now c.args.process c.args.page c.in-Here.frame c.requires.steady (ap frame_named (sym c.get.ensures ∙ c.in-Here.is))).0
+is_shared-requires c = (entry_frame c.args.mem.now c.args.process c.args.page c.in-Here.frame c.requires.steady
+    (ap frame_named (sym c.get.ensures ∙ c.in-Here.is))).0
 
 pub set_home-requires : goal.set_home-requires
-set_home-requires c = (entry_frame c.args.mem.now c.args.process c.args.page c.in-Here.frame c.requires.steady (ap frame_named (sym c.get.ensures ∙ c.in-Here.is))).0
+set_home-requires c = (entry_frame c.args.mem.now c.args.process c.args.page c.in-Here.frame c.requires.steady
+    (ap frame_named (sym c.get.ensures ∙ c.in-Here.is))).0
 
 pub set_home-requires-in-Here : goal.set_home-requires-in-Here
-set_home-requires-in-Here c = (entry_frame c.args.mem.now c.args.process c.args.page c.in-Here.frame c.requires.steady (ap frame_named (sym c.get.ensures ∙ c.in-Here.is))).0
+set_home-requires-in-Here c = (entry_frame c.args.mem.now c.args.process c.args.page c.in-Here.frame c.requires.steady
+    (ap frame_named (sym c.get.ensures ∙ c.in-Here.is))).0
 
 pub unreachable-requires : goal.unreachable-requires
 unreachable-requires c = none_away c.args.mem.now c.args.process c.args.page c.in-Away.slot c.requires.steady (sym c.get.ensures ∙ c.in-Away.is)
@@ -29,11 +32,15 @@ returns-else-is_shared c = record {
       let h = c.in-Here in
       let old = c.args.mem.now in
       let is = sym c.get.ensures ∙ h.is in
-      let few : map_count s.ledger h.frame ≤ 1 = subst (λ n. n ≤ 1) (keeps.stands.parts.ledger.frames.maps h.frame) (rw c.if-is_shared.false at c.is_shared.ensures) in
-      written_home s old keeps (record old { tables = c.change.new.self }) c.set_home-in-Here.new.self c.args.process c.args.page h.frame c.args.home c.set_home-in-Here.ensures c.args.notes.now c.args.notes.now
+      let few : map_count s.ledger h.frame ≤ 1 = subst (λ n. n ≤ 1) (keeps.stands.parts.ledger.frames.maps h.frame)
+      (rw c.if-is_shared.false at c.is_shared.ensures) in
+      written_home s old keeps (record old { tables = c.change.new.self }) c.set_home-in-Here.new.self c.args.process c.args.page h.frame c.args.home
+      c.set_home-in-Here.ensures c.args.notes.now c.args.notes.now
       (written_now old (record old { tables = c.change.new.self }) s c.args.process c.args.page h.frame h.write true h.seen c.args.notes.now keeps is
-      (subst (λ e. entry_at c.change.new.self ≡ with_entry c.args.process c.args.page e (entry_at old.tables)) c.accessed_entry.ensures c.change.ensures.sets) c.change.ensures.processes refl refl refl (λ _. few) c.requires.permitted few)
-      (rmap_still s old (record old { tables = c.change.new.self }) keeps refl refl refl) h.seen (frame_entry old s c.args.process c.args.page h.frame h.write h.seen keeps is) few
+      (subst (λ e. entry_at c.change.new.self ≡ with_entry c.args.process c.args.page e (entry_at old.tables)) c.accessed_entry.ensures c.change.ensures.sets)
+      c.change.ensures.processes refl refl refl (λ _. few) c.requires.permitted few)
+      (rmap_still s old (record old { tables = c.change.new.self }) keeps refl refl refl) h.seen
+      (frame_entry old s c.args.process c.args.page h.frame h.write h.seen keeps is) few
       (c.requires.home ∙ ap (home_of c.args.page) (keeps.stands.areas c.args.process c.args.page));
 }
 
@@ -46,6 +53,7 @@ returns-then-seen c = record {
       let is = sym c.get.ensures ∙ h.is ∙ ap (Here h.frame h.write) c.if-seen.true in
       written_home s old keeps old c.set_home.new.self c.args.process c.args.page h.frame c.args.home c.set_home.ensures c.args.notes.now c.args.notes.now
       (written_there old s c.args.process c.args.page h.frame h.write c.args.notes.now keeps c.requires.permitted is c.if-write.true)
-      (rmap_now s old keeps) true (frame_entry old s c.args.process c.args.page h.frame h.write true keeps is) (few_by_bit old s c.args.process c.args.page h.frame h.write true keeps is c.if-write.true)
+      (rmap_now s old keeps) true (frame_entry old s c.args.process c.args.page h.frame h.write true keeps is)
+      (few_by_bit old s c.args.process c.args.page h.frame h.write true keeps is c.if-write.true)
       (c.requires.home ∙ ap (home_of c.args.page) (keeps.stands.areas c.args.process c.args.page));
 }

@@ -18,16 +18,28 @@ returns-in_err-copy-clause-orderly c =
     let o = c.requires.orderly in
     let old = c.args.mem.now in
     let new = record old { tables = c.copy.new.self } in
-    in_error c.from_residual.result _ c.from_residual.ensures.0 (o.0, same_ledger old new o.0 (view_same old new c.in_err-copy.ensures.copies refl refl refl) refl o.1)
+    in_error c.from_residual.result _ c.from_residual.ensures.0 (
+      o.0,
+      same_ledger old new o.0
+          (view_same old new c.in_err-copy.ensures.copies refl refl refl) refl o.1,
+    )
 
 pub loop-page-init : goal.loop-page-init
 loop-page-init c = record {
   within = omega arith;
   few = λ f. let few_f = c.requires.few f in omega (arith, few_f);
-  tables = c.protect.ensures.protects ∙ ap (λ (t : ℕ → ℕ → Pte). with_at {X = ℕ → Pte} c.args.parent (λ o. read_only (t c.args.parent o)) t) c.in_ok-copy.ensures.copies;
+  tables = c.protect.ensures.protects ∙ ap (λ (t : ℕ → ℕ → Pte). with_at {X = ℕ → Pte} c.args.parent (λ o. read_only (t c.args.parent o)) t)
+      c.in_ok-copy.ensures.copies;
   forking = λ first stands. none_over c.args.mem.now c.args.parent c.args.child c.requires.empty first stands;
   free = refl;
-  rest = record { processes = c.protect.ensures.processes ∙ c.in_ok-copy.ensures.processes; bytes = refl; homes = refl; spaces = refl; anons = refl; count = refl };
+  rest = record {
+    processes = c.protect.ensures.processes ∙ c.in_ok-copy.ensures.processes;
+    bytes = refl;
+    homes = refl;
+    spaces = refl;
+    anons = refl;
+    count = refl;
+  };
 }
 
 pub map_up_each-requires-clause-in_range : goal.map_up_each-requires-clause-in_range
@@ -39,7 +51,8 @@ map_up_each-requires-clause-in_range c = λ i f write was low is.
     let page = c.in-Some.page in
     let first = c.in-Some.ensures in
     let from : c.loop-page.number ≤ page / 64 = le-div c.loop-page.number page 64 (omega arith) first.from_there in
-    in_range c.args.parent c.args.child (entry_at old.tables) c.requires.empty now.spaces now.anons o.0 (seen now.frames) (c.loop-page.number * 64) (v.forking o.0 o.1)
+    in_range c.args.parent c.args.child (entry_at old.tables) c.requires.empty now.spaces now.anons o.0 (seen now.frames)
+    (c.loop-page.number * 64) (v.forking o.0 o.1)
     (page / 64 * 64 + i) (omega (arith, from)) f write was
     (sym (group_is old c.args.parent c.args.child c.requires.empty now v.tables c.group-group.result (page / 64 * 64) c.group-group.ensures i low) ∙ is)
 
@@ -61,14 +74,18 @@ loop-page-preserved c =
     let ups = c.map_up_each.ensures in
     record {
       within = omega (arith, here, below);
-      few = λ f. let few = v.few f in let named = few_named (λ e. names f (plain e)) group in let up = ap (λ (s : Seen). s.maps f) ups in omega (arith, few, named, up, long, low);
+      few = λ f. let few = v.few f in let named = few_named (λ e. names f (plain e)) group in let up = ap (λ (s : Seen). s.maps f) ups in
+          omega (arith, few, named, up, long, low);
       tables = v.tables;
       forking = λ first stands.
-          subst (λ n. IsForkingTo now.spaces now.anons c.args.parent c.args.child (entry_at old.tables) (seen c.map_up_each.new.frames) n first) (let same : start + length group ≡ past = omega (arith, long) in same)
+          subst (λ n. IsForkingTo now.spaces now.anons c.args.parent c.args.child (entry_at old.tables) (seen c.map_up_each.new.frames) n first)
+          (let same : start + length group ≡ past = omega (arith, long) in same)
           (subst (λ (s : Seen). IsForkingTo now.spaces now.anons c.args.parent c.args.child (entry_at old.tables) s (start + length group) first) (sym ups)
-          (whole_group c.args.parent c.args.child (entry_at old.tables) c.requires.empty now.spaces now.anons first group (seen now.frames) start (omega (arith, long, here, below))
+          (whole_group c.args.parent c.args.child (entry_at old.tables) c.requires.empty now.spaces now.anons first group (seen now.frames) start
+          (omega (arith, long, here, below))
           (λ i under. group_is old c.args.parent c.args.child c.requires.empty now v.tables group start c.group-group.ensures i (omega (arith, under, long)))
-          (skip_to c.args.parent c.args.child (entry_at old.tables) c.requires.empty now.spaces now.anons first (seen now.frames) (c.loop-page.number * 64) start low
+          (skip_to c.args.parent c.args.child (entry_at old.tables) c.requires.empty now.spaces now.anons first (seen now.frames)
+          (c.loop-page.number * 64) start low
           (λ o above under. parent_none old c.args.parent c.args.child c.requires.empty now v.tables o (is.least o above (omega (arith, under, here))))
           (v.forking first stands))));
       free = ap (λ (s : Seen). free_of (view_of_parts s (λ p o. plain (entry_at now.tables p o)) now.spaces now.anons)) ups ∙ v.free;

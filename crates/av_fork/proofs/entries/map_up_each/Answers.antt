@@ -19,6 +19,8 @@ loop-entry-preserved c =
     let group = c.args.group.now in
     let k = c.loop-entry.entry-index in
     elim c.match-entry.branch [
-      | in-Here w ↦ ap seen w.frames-is ∙ one_named group k (omega (arith, c.loop-entry-test.true, c.told-group)) (seen c.args.frames.now) (seen c.loop-entry.frames) c.loop-entry.invariant w.in-Here.frame w.in-Here.write w.in-Here.seen w.in-Here.is _ w.map_up.ensures
-      | in_default w ↦ ap seen w.frames-is ∙ none_named group k (omega (arith, c.loop-entry-test.true, c.told-group)) (seen c.args.frames.now) (seen c.loop-entry.frames) c.loop-entry.invariant _ refl w.in_default.not-Here
+      | in-Here w ↦ ap seen w.frames-is ∙ one_named group k (omega (arith, c.loop-entry-test.true, c.told-group)) (seen c.args.frames.now)
+          (seen c.loop-entry.frames) c.loop-entry.invariant w.in-Here.frame w.in-Here.write w.in-Here.seen w.in-Here.is _ w.map_up.ensures
+      | in_default w ↦ ap seen w.frames-is ∙ none_named group k (omega (arith, c.loop-entry-test.true, c.told-group)) (seen c.args.frames.now)
+          (seen c.loop-entry.frames) c.loop-entry.invariant _ refl w.in_default.not-Here
     ]

@@ -17,7 +17,8 @@ loop-preserved c =
 pub returns-clause-items : goal.returns-clause-items
 returns-clause-items c =
     let old = c.args.pages.now in
-    let same : c.loop.counter - length old.items ≡ c.args.count - length old.items = omega (arith, c.loop.auto.counter, c.loop.invariant.ends, c.loop-test.false, c.len-counter.ensures, old.ok.0) in
+    let same : c.loop.counter - length old.items ≡ c.args.count - length old.items =
+    omega (arith, c.loop.auto.counter, c.loop.invariant.ends, c.loop-test.false, c.len-counter.ensures, old.ok.0) in
     c.loop.invariant.items ∙ ap (λ k. old.items ++ replicate k zeros) same
 
 pub loop-init : goal.loop-init

@@ -17,9 +17,11 @@ returns-in-None c = record {
       let k = c.in_ok-ended.ended.served in
       let new = c.read_pieces.new in
       let lived = sym (lives_is c.args.mem.now s keeps c.args.process) ∙ c.in_ok-check_lives.ensures in
-      read-done s c.args.mem.now new.mem c.args.process c.args.address reply.notes new.notes reply.rows k c.requires.cleared.notes c.requires.cleared.rows c.in_ok-ended.ensures.count lived keeps
+      read-done s c.args.mem.now new.mem c.args.process c.args.address reply.notes new.notes reply.rows k c.requires.cleared.notes c.requires.cleared.rows
+      c.in_ok-ended.ensures.count lived keeps
       c.args.len new.shown (Data new.shown)
-      (subst (λ end. IsAccess s new.mem false c.args.process c.args.address c.args.len [] reply.notes new.notes end k) c.in-None.is (c.in_ok-ended.ensures.access s keeps))
+      (subst (λ end. IsAccess s new.mem false c.args.process c.args.address c.args.len [] reply.notes new.notes end k) c.in-None.is
+      (c.in_ok-ended.ensures.access s keeps))
       (c.in_ok-ended.ensures.reads s keeps) refl;
 }
 
@@ -31,16 +33,22 @@ returns-in-Some c = record {
       let k = c.in_ok-ended.ended.served in
       let new = c.read_pieces.new in
       let lived = sym (lives_is c.args.mem.now s keeps c.args.process) ∙ c.in_ok-check_lives.ensures in
-      read-stopped s c.args.mem.now new.mem c.args.process c.args.address reply.notes new.notes reply.rows k c.requires.cleared.notes c.requires.cleared.rows c.in_ok-ended.ensures.count lived keeps
+      read-stopped s c.args.mem.now new.mem c.args.process c.args.address reply.notes new.notes reply.rows k c.requires.cleared.notes c.requires.cleared.rows
+      c.in_ok-ended.ensures.count lived keeps
       c.args.len new.shown c.stop_answer.result c.in-Some.stop
-      (subst (λ end. IsAccess s new.mem false c.args.process c.args.address c.args.len [] reply.notes new.notes end k) c.in-Some.is (c.in_ok-ended.ensures.access s keeps))
+      (subst (λ end. IsAccess s new.mem false c.args.process c.args.address c.args.len [] reply.notes new.notes end k) c.in-Some.is
+      (c.in_ok-ended.ensures.access s keeps))
       (c.in_ok-ended.ensures.reads s keeps) c.stop_answer.ensures;
 }
 
 pub returns-in_err-check_lives : goal.returns-in_err-check_lives
 returns-in_err-check_lives c =
-    refuses-as c.args.mem.now c.args.mem.now (Read c.args.process c.args.address c.args.len) Esrch c.args.reply.now c.from_residual.result c.in_err-check_lives.field-0.0 c.from_residual.ensures c.in_err-check_lives.ensures.1
-    (refuses c.args.mem.now (Read c.args.process c.args.address c.args.len) Esrch (λ s keeps. dead_first c.args.mem.now s c.args.process _ keeps c.in_err-check_lives.ensures.0))
+    refuses-as c.args.mem.now c.args.mem.now (Read c.args.process c.args.address c.args.len) Esrch c.args.reply.now c.from_residual.result
+    c.in_err-check_lives.field-0.0 c.from_residual.ensures c.in_err-check_lives.ensures.1
+    (refuses c.args.mem.now (Read c.args.process c.args.address c.args.len) Esrch
+    (λ s keeps. dead_first c.args.mem.now s c.args.process _ keeps c.in_err-check_lives.ensures.0))
 
 pub returns-in_err-ended : goal.returns-in_err-ended
-returns-in_err-ended c = wants-by c.args.mem.now c.read_pieces.new.mem (Read c.args.process c.args.address c.args.len) (record c.args.reply.now { notes = c.read_pieces.new.notes }) c.from_residual-in_err-ended.result c.from_residual-in_err-ended.ensures c.read_pieces.ensures.count
+returns-in_err-ended c = wants-by c.args.mem.now c.read_pieces.new.mem (Read c.args.process c.args.address c.args.len)
+    (record c.args.reply.now { notes = c.read_pieces.new.notes }) c.from_residual-in_err-ended.result c.from_residual-in_err-ended.ensures
+    c.read_pieces.ensures.count

@@ -19,8 +19,10 @@ returns-in-Some-clause-access c = λ s keeps.
     let h = c.loop-done.invariant.access s keeps in
     let lived = sym (lives_is c.args.mem.now s keeps c.args.process) ∙ c.requires.lives in
     let alive = still_lives lived h in
-    piece-stopped s c.loop-done.mem c.read_page.new.mem false c.args.process c.args.address c.args.len k piece [] [] c.args.notes.now c.loop-done.notes _ c.in_ok-stop.field-0
-    c.read_page.ensures.count c.next_piece-piece.ensures c.loop-done-test.true c.loop-done.invariant.begins h (c.in_ok-stop.ensures.step h.next h.keeps alive) c.in-Some.stop c.in-Some.is
+    piece-stopped s c.loop-done.mem c.read_page.new.mem false c.args.process c.args.address c.args.len k piece [] [] c.args.notes.now
+    c.loop-done.notes _ c.in_ok-stop.field-0
+    c.read_page.ensures.count c.next_piece-piece.ensures c.loop-done-test.true c.loop-done.invariant.begins h
+    (c.in_ok-stop.ensures.step h.next h.keeps alive) c.in-Some.stop c.in-Some.is
 
 pub loop-done-preserved : goal.loop-done-preserved
 loop-done-preserved c =
@@ -33,14 +35,17 @@ loop-done-preserved c =
           let h = c.loop-done.invariant.access s keeps in
           let lived = sym (lives_is c.args.mem.now s keeps c.args.process) ∙ c.requires.lives in
           let alive = still_lives lived h in
-          piece-served s c.loop-done.mem c.read_page.new.mem false c.args.process c.args.address c.args.len k piece [] [] c.args.notes.now c.loop-done.notes _ c.in_ok-stop.field-0
-          c.read_page.ensures.count c.next_piece-piece.ensures c.loop-done-test.true c.loop-done.invariant.begins h (c.in_ok-stop.ensures.step h.next h.keeps alive) c.in_default.not-Some
+          piece-served s c.loop-done.mem c.read_page.new.mem false c.args.process c.args.address c.args.len k piece [] [] c.args.notes.now
+          c.loop-done.notes _ c.in_ok-stop.field-0
+          c.read_page.ensures.count c.next_piece-piece.ensures c.loop-done-test.true c.loop-done.invariant.begins h
+          (c.in_ok-stop.ensures.step h.next h.keeps alive) c.in_default.not-Some
           (λ e. absurd (no_write e)) [] refl;
       reads = λ s keeps.
           let h = c.loop-done.invariant.access s keeps in
           let lived = sym (lives_is c.args.mem.now s keeps c.args.process) ∙ c.requires.lives in
           let alive = still_lives lived h in
-          piece-shown s.world h.next.world c.args.process c.args.address c.args.len k piece c.loop-done.shown _ c.in_ok-stop.field-0 h.world c.next_piece-piece.ensures c.in_default.not-Some
+          piece-shown s.world h.next.world c.args.process c.args.address c.args.len k piece c.loop-done.shown _ c.in_ok-stop.field-0 h.world
+          c.next_piece-piece.ensures c.in_default.not-Some
           (c.in_ok-stop.ensures.shown h.next h.keeps alive) (c.loop-done.invariant.reads s keeps);
       count = c.read_page.ensures.count ∙ c.loop-done.invariant.count;
     }

@@ -21,8 +21,10 @@ returns-in-Some-clause-access c = λ s keeps.
     let h = c.loop-done.invariant.access s keeps in
     let lived = sym (lives_is c.args.mem.now s keeps c.args.process) ∙ c.requires.lives in
     let alive = still_lives lived h in
-    piece-stopped s c.loop-done.mem c.write_page.new.mem true c.args.process c.args.address (length bytes) k piece (take k bytes) (part k piece.len bytes) c.args.notes.now c.loop-done.notes _ c.in_ok-stop.field-0
-    c.write_page.ensures.count c.next_piece-piece.ensures c.loop-done-test.true c.loop-done.invariant.begins h (c.in_ok-stop.ensures.step h.next h.keeps alive) c.in-Some.stop c.in-Some.is
+    piece-stopped s c.loop-done.mem c.write_page.new.mem true c.args.process c.args.address (length bytes) k piece (take k bytes) (part k piece.len bytes)
+    c.args.notes.now c.loop-done.notes _ c.in_ok-stop.field-0
+    c.write_page.ensures.count c.next_piece-piece.ensures c.loop-done-test.true c.loop-done.invariant.begins h
+    (c.in_ok-stop.ensures.step h.next h.keeps alive) c.in-Some.stop c.in-Some.is
 
 pub loop-done-preserved : goal.loop-done-preserved
 loop-done-preserved c =
@@ -36,8 +38,10 @@ loop-done-preserved c =
           let h = c.loop-done.invariant.access s keeps in
           let lived = sym (lives_is c.args.mem.now s keeps c.args.process) ∙ c.requires.lives in
           let alive = still_lives lived h in
-          piece-served s c.loop-done.mem c.write_page.new.mem true c.args.process c.args.address (length bytes) k piece (take k bytes) (part k piece.len bytes) c.args.notes.now c.loop-done.notes _ c.in_ok-stop.field-0
-          c.write_page.ensures.count c.next_piece-piece.ensures c.loop-done-test.true c.loop-done.invariant.begins h (c.in_ok-stop.ensures.step h.next h.keeps alive) c.in_default.not-Some
+          piece-served s c.loop-done.mem c.write_page.new.mem true c.args.process c.args.address (length bytes) k piece (take k bytes) (part k piece.len bytes)
+          c.args.notes.now c.loop-done.notes _ c.in_ok-stop.field-0
+          c.write_page.ensures.count c.next_piece-piece.ensures c.loop-done-test.true c.loop-done.invariant.begins h
+          (c.in_ok-stop.ensures.step h.next h.keeps alive) c.in_default.not-Some
           (λ _. length-take-le k bytes c.loop-done.invariant.within) (take (k + piece.len) bytes) (parts k piece.len bytes);
       count = c.write_page.ensures.count ∙ c.loop-done.invariant.count;
     }

@@ -4,6 +4,7 @@ use Rattle.av_kernel.proofs.map.make_room.Goals as goal
 
 pub returns-in_default : goal.returns-in_default
 returns-in_default c = record {
-  cleared = λ l stands. nothing_there c.args.mem.now c.requires.steady c.args.process c.args.page c.args.pages c.args.place l stands c.requires.lives c.requires.there c.in_default.not-Fixed;
+  unmapped = λ l stands. nothing_there c.args.mem.now c.requires.steady c.args.process c.args.page c.args.pages c.args.place l stands c.requires.lives
+      c.requires.there c.in_default.not-Fixed;
   count = refl;
 }

@@ -12,15 +12,22 @@ use Rattle.av_kernel.proofs.map.mprotect.Goals as goal
 
 pub returns-in_err-check_lives : goal.returns-in_err-check_lives
 returns-in_err-check_lives c =
-    refuses-as c.args.mem.now c.args.mem.now (Mprotect c.args.process c.args.address c.args.len c.args.prot) Esrch c.args.reply.now c.from_residual.result c.in_err-check_lives.field-0.0 c.from_residual.ensures c.in_err-check_lives.ensures.1
-    (refuses c.args.mem.now (Mprotect c.args.process c.args.address c.args.len c.args.prot) Esrch (λ s keeps. dead_first c.args.mem.now s c.args.process _ keeps c.in_err-check_lives.ensures.0))
+    refuses-as c.args.mem.now c.args.mem.now (Mprotect c.args.process c.args.address c.args.len c.args.prot) Esrch c.args.reply.now c.from_residual.result
+    c.in_err-check_lives.field-0.0 c.from_residual.ensures c.in_err-check_lives.ensures.1
+    (refuses c.args.mem.now (Mprotect c.args.process c.args.address c.args.len c.args.prot) Esrch
+    (λ s keeps. dead_first c.args.mem.now s c.args.process _ keeps c.in_err-check_lives.ensures.0))
 
 pub returns-in_err-check_protect : goal.returns-in_err-check_protect
-returns-in_err-check_protect c = refuses-by c.args.mem.now c.args.mem.now (Mprotect c.args.process c.args.address c.args.len c.args.prot) c.in_err-check_protect.field-0.0 c.args.reply.now c.from_residual-in_err-check_protect.result c.from_residual-in_err-check_protect.ensures
-    (refuses c.args.mem.now (Mprotect c.args.process c.args.address c.args.len c.args.prot) c.in_err-check_protect.field-0.0 (λ s keeps. mprotect-refused c.args.mem.now s c.args.process c.args.address c.args.len c.args.prot _ keeps c.in_ok-check_lives.ensures c.in_err-check_protect.ensures))
+returns-in_err-check_protect c = refuses-by c.args.mem.now c.args.mem.now (Mprotect c.args.process c.args.address c.args.len c.args.prot)
+    c.in_err-check_protect.field-0.0 c.args.reply.now c.from_residual-in_err-check_protect.result c.from_residual-in_err-check_protect.ensures
+    (refuses c.args.mem.now (Mprotect c.args.process c.args.address c.args.len c.args.prot) c.in_err-check_protect.field-0.0
+    (λ s keeps. mprotect-refused c.args.mem.now s c.args.process c.args.address c.args.len c.args.prot _ keeps c.in_ok-check_lives.ensures
+    c.in_err-check_protect.ensures))
 
 pub returns-in_err-reached : goal.returns-in_err-reached
-returns-in_err-reached c = wants-by c.args.mem.now (record c.args.mem.now { spaces = c.protect.new.self; anons = c.protect.new.anons }) (Mprotect c.args.process c.args.address c.args.len c.args.prot) c.args.reply.now c.from_residual-in_err-reached.result c.from_residual-in_err-reached.ensures refl
+returns-in_err-reached c = wants-by c.args.mem.now (record c.args.mem.now { spaces = c.protect.new.self; anons = c.protect.new.anons })
+    (Mprotect c.args.process c.args.address c.args.len c.args.prot) c.args.reply.now c.from_residual-in_err-reached.result
+    c.from_residual-in_err-reached.ensures refl
 
 pub returns : goal.returns
 returns c = record {
@@ -31,10 +38,14 @@ returns c = record {
       let reached = c.in_ok-reached.reached in
       let size = c.div_ceil-pages.ensures ∙ rounded_up c.args.len in
       answers c.args.reply.now c.requires.cleared
-      (mprotect-steps k c.protect.new.self c.protect.new.anons s c.args.process c.args.address c.args.len reached c.args.prot keeps (ranges_there k c.args.process c.in_ok-check_lives.ensures) c.in_ok-check_protect.ensures
+      (mprotect-steps k c.protect.new.self c.protect.new.anons s c.args.process c.args.address c.args.len reached c.args.prot keeps
+      (ranges_there k c.args.process c.in_ok-check_lives.ensures) c.in_ok-check_protect.ensures
       (subst (λ n. IsReached (is_taken k.spaces.processes c.args.process) page (page + n) reached) size c.in_ok-reached.ensures.reached)
-      (protected-prots (lengths k.spaces.areas k.anons) k.spaces.processes c.protect.new.self.processes c.args.process page (page + c.div_ceil-pages.result) reached c.args.prot c.in_ok-reached.ensures.reached c.in_ok-reached.ensures.ok c.in_ok-reached.ensures.mapping)
-      (has_areas k.spaces.processes c.protect.new.self.processes c.args.process _ c.in_ok-reached.ensures.ok) c.in_ok-reached.ensures.anons (protected-homes (lengths k.spaces.areas k.anons) k.spaces.processes c.protect.new.self.processes c.args.process page (reached - page) c.args.prot c.in_ok-reached.ensures.ok) (subst (λ n. page + n ≤ reached) size c.if-reached-past.false));
+      (protected-prots (lengths k.spaces.areas k.anons) k.spaces.processes c.protect.new.self.processes c.args.process page (page + c.div_ceil-pages.result)
+      reached c.args.prot c.in_ok-reached.ensures.reached c.in_ok-reached.ensures.ok c.in_ok-reached.ensures.mapping)
+      (has_areas k.spaces.processes c.protect.new.self.processes c.args.process _ c.in_ok-reached.ensures.ok) c.in_ok-reached.ensures.anons
+      (protected-homes (lengths k.spaces.areas k.anons) k.spaces.processes c.protect.new.self.processes c.args.process page (reached - page) c.args.prot
+      c.in_ok-reached.ensures.ok) (subst (λ n. page + n ≤ reached) size c.if-reached-past.false));
 }
 
 pub returns-then-reached-past : goal.returns-then-reached-past
@@ -45,10 +56,14 @@ returns-then-reached-past c = record {
       let page = c.args.address / 4096 in
       let reached = c.in_ok-reached.reached in
       let size = c.div_ceil-pages.ensures ∙ rounded_up c.args.len in
-      mprotect-stops k c.protect.new.self c.protect.new.anons s c.args.process c.args.address c.args.len reached c.args.prot keeps (ranges_there k c.args.process c.in_ok-check_lives.ensures) c.in_ok-check_protect.ensures
+      mprotect-stops k c.protect.new.self c.protect.new.anons s c.args.process c.args.address c.args.len reached c.args.prot keeps
+      (ranges_there k c.args.process c.in_ok-check_lives.ensures) c.in_ok-check_protect.ensures
       (subst (λ n. IsReached (is_taken k.spaces.processes c.args.process) page (page + n) reached) size c.in_ok-reached.ensures.reached)
-      (protected-prots (lengths k.spaces.areas k.anons) k.spaces.processes c.protect.new.self.processes c.args.process page (page + c.div_ceil-pages.result) reached c.args.prot c.in_ok-reached.ensures.reached c.in_ok-reached.ensures.ok c.in_ok-reached.ensures.mapping)
-      (has_areas k.spaces.processes c.protect.new.self.processes c.args.process _ c.in_ok-reached.ensures.ok) c.in_ok-reached.ensures.anons (protected-homes (lengths k.spaces.areas k.anons) k.spaces.processes c.protect.new.self.processes c.args.process page (reached - page) c.args.prot c.in_ok-reached.ensures.ok) (subst (λ n. reached < page + n) size c.if-reached-past.true);
+      (protected-prots (lengths k.spaces.areas k.anons) k.spaces.processes c.protect.new.self.processes c.args.process page (page + c.div_ceil-pages.result)
+      reached c.args.prot c.in_ok-reached.ensures.reached c.in_ok-reached.ensures.ok c.in_ok-reached.ensures.mapping)
+      (has_areas k.spaces.processes c.protect.new.self.processes c.args.process _ c.in_ok-reached.ensures.ok) c.in_ok-reached.ensures.anons
+      (protected-homes (lengths k.spaces.areas k.anons) k.spaces.processes c.protect.new.self.processes c.args.process page (reached - page) c.args.prot
+      c.in_ok-reached.ensures.ok) (subst (λ n. reached < page + n) size c.if-reached-past.true);
 }
 
 pub protect-requires-clause-order : goal.protect-requires-clause-order

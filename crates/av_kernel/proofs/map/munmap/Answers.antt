@@ -1,7 +1,7 @@
 use Rattle.std.proofs.Common.{sym, subst, ◌∙◌, ◌+◌, ◌/◌}
 use Rattle.av_plain.specs.Zap.{keys_in, zaps_of}
 use Rattle.av_trace.specs.declared.command.Command.TheVariants.{Munmap}
-use Rattle.av_kernel.specs.Map.{AreCleared}
+use Rattle.av_kernel.specs.Map.{AreUnmapped}
 use Rattle.av_vma.specs.Pages.{after_unmap}
 use Rattle.av_spaces.specs.Spaces.{pages_of}
 use Rattle.av_trace.specs.declared.reply.Errno.TheVariants.{Esrch, Einval}
@@ -12,22 +12,30 @@ use Rattle.av_kernel.proofs.map.munmap.Goals as goal
 
 pub returns-in_err-check_lives : goal.returns-in_err-check_lives
 returns-in_err-check_lives c =
-    refuses-as c.args.mem.now c.args.mem.now (Munmap c.args.process c.args.address c.args.len) Esrch c.args.reply.now c.from_residual.result c.in_err-check_lives.field-0.0 c.from_residual.ensures c.in_err-check_lives.ensures.1
-    (refuses c.args.mem.now (Munmap c.args.process c.args.address c.args.len) Esrch (λ s keeps. dead_first c.args.mem.now s c.args.process _ keeps c.in_err-check_lives.ensures.0))
+    refuses-as c.args.mem.now c.args.mem.now (Munmap c.args.process c.args.address c.args.len) Esrch c.args.reply.now c.from_residual.result
+    c.in_err-check_lives.field-0.0 c.from_residual.ensures c.in_err-check_lives.ensures.1
+    (refuses c.args.mem.now (Munmap c.args.process c.args.address c.args.len) Esrch
+    (λ s keeps. dead_first c.args.mem.now s c.args.process _ keeps c.in_err-check_lives.ensures.0))
 
 pub returns-then-is_no_range : goal.returns-then-is_no_range
-returns-then-is_no_range c = refuses c.args.mem.now (Munmap c.args.process c.args.address c.args.len) Einval (λ s keeps. munmap-refused c.args.mem.now s c.args.process c.args.address c.args.len keeps c.in_ok-check_lives.ensures (sym c.is_no_range.ensures ∙ c.if-is_no_range.true))
+returns-then-is_no_range c = refuses c.args.mem.now (Munmap c.args.process c.args.address c.args.len) Einval
+    (λ s keeps. munmap-refused c.args.mem.now s c.args.process c.args.address c.args.len keeps c.in_ok-check_lives.ensures
+    (sym c.is_no_range.ensures ∙ c.if-is_no_range.true))
 
-pub returns-in_err-clear : goal.returns-in_err-clear
-returns-in_err-clear c = wants-by c.args.mem.now c.clear.new.mem (Munmap c.args.process c.args.address c.args.len) c.args.reply.now c.from_residual-in_err-clear.result c.from_residual-in_err-clear.ensures c.clear.ensures.count
+pub returns-in_err-unmap_pages : goal.returns-in_err-unmap_pages
+returns-in_err-unmap_pages c = wants-by c.args.mem.now c.unmap_pages.new.mem (Munmap c.args.process c.args.address c.args.len) c.args.reply.now
+    c.from_residual-in_err-unmap_pages.result c.from_residual-in_err-unmap_pages.ensures c.unmap_pages.ensures.count
 
 pub returns : goal.returns
 returns c = record {
-  count = c.clear.ensures.count;
+  count = c.unmap_pages.ensures.count;
   step = λ s keeps.
       let k = c.args.mem.now in
       let page = c.args.address / 4096 in
       answers c.args.reply.now c.requires.cleared
-      (munmap-steps k c.clear.new.mem s c.args.process c.args.address c.args.len keeps (ranges_there k c.args.process c.in_ok-check_lives.ensures) (sym c.is_no_range.ensures ∙ c.if-is_no_range.false) c.clear.ensures.count
-      (subst (λ n. AreCleared k c.clear.new.mem c.args.process page n (after_unmap page (page + n) (pages_of k.spaces.processes c.args.process)) s.ledger (zaps_of s.ledger (keys_in s.ledger c.args.process page n))) (c.div_ceil.ensures ∙ rounded_up c.args.len) (c.in_ok-clear.ensures.cleared s.ledger (orderly k s keeps))));
+      (munmap-steps k c.unmap_pages.new.mem s c.args.process c.args.address c.args.len keeps (ranges_there k c.args.process c.in_ok-check_lives.ensures)
+      (sym c.is_no_range.ensures ∙ c.if-is_no_range.false) c.unmap_pages.ensures.count
+      (subst (λ n. AreUnmapped k c.unmap_pages.new.mem c.args.process page n (after_unmap page (page + n) (pages_of k.spaces.processes c.args.process)) s.ledger
+      (zaps_of s.ledger (keys_in s.ledger c.args.process page n))) (c.div_ceil.ensures ∙ rounded_up c.args.len)
+      (c.in_ok-unmap_pages.ensures.unmapped s.ledger (orderly k s keeps))));
 }

@@ -7,7 +7,8 @@ pub write_at-requires-clause-in_range : goal.write_at-requires-clause-in_range
 write_at-requires-clause-in_range c =
     let s = c.requires.steady in
     let old = c.args.mem.now in
-    frame_below s.0 old c.args.process c.args.page c.args.at c.args.piece.now c.args.notes.now c.touch.new.notes s.1 c.touch.new.mem true c.in-Ready.frame c.touch.ensures.count
+    frame_below s.0 old c.args.process c.args.page c.args.at c.args.piece.now c.args.notes.now c.touch.new.notes s.1 c.touch.new.mem true
+    c.in-Ready.frame c.touch.ensures.count
     (rw c.in-Ready.is at (c.in_ok-frame.ensures.step s.0 s.1))
 
 pub unreachable-requires : goal.unreachable-requires
@@ -17,10 +18,12 @@ unreachable-requires c =
 
 pub returns-in-Ready-clause-step : goal.returns-in-Ready-clause-step
 returns-in-Ready-clause-step c = λ s keeps alive.
-    written_served s c.args.mem.now c.args.process c.args.page c.args.at c.args.piece.now c.args.notes.now c.touch.new.notes keeps c.touch.new.mem _ c.in-Ready.frame c.touch.ensures.count
+    written_served s c.args.mem.now c.args.process c.args.page c.args.at c.args.piece.now c.args.notes.now c.touch.new.notes keeps c.touch.new.mem _
+    c.in-Ready.frame c.touch.ensures.count
     alive c.requires.some c.requires.fits (rw c.in-Ready.is at (c.in_ok-frame.ensures.step s keeps)) c.write_at.ensures refl refl refl
 
 pub returns-in-Stopped-clause-step : goal.returns-in-Stopped-clause-step
 returns-in-Stopped-clause-step c = λ s keeps alive.
-    stopped s c.args.mem.now c.args.process c.args.page c.args.at c.args.piece.now c.args.notes.now c.touch.new.notes keeps c.touch.new.mem true c.in-Stopped.stop c.touch.ensures.count
+    stopped s c.args.mem.now c.args.process c.args.page c.args.at c.args.piece.now c.args.notes.now c.touch.new.notes keeps c.touch.new.mem true
+    c.in-Stopped.stop c.touch.ensures.count
     (rw c.in-Stopped.is at (c.in_ok-frame.ensures.step s keeps))

@@ -12,34 +12,45 @@ use Rattle.av_kernel.proofs.process.fork.Goals as goal
 
 pub returns-in_err-check_lives : goal.returns-in_err-check_lives
 returns-in_err-check_lives c =
-    refuses-as c.args.mem.now c.args.mem.now (Fork c.args.parent c.args.child) Esrch c.args.reply.now c.from_residual.result c.in_err-check_lives.field-0.0 c.from_residual.ensures c.in_err-check_lives.ensures.1
-    (refuses c.args.mem.now (Fork c.args.parent c.args.child) Esrch (λ s keeps. dead_first c.args.mem.now s c.args.parent _ keeps c.in_err-check_lives.ensures.0))
+    refuses-as c.args.mem.now c.args.mem.now (Fork c.args.parent c.args.child) Esrch c.args.reply.now c.from_residual.result c.in_err-check_lives.field-0.0
+    c.from_residual.ensures c.in_err-check_lives.ensures.1
+    (refuses c.args.mem.now (Fork c.args.parent c.args.child) Esrch
+    (λ s keeps. dead_first c.args.mem.now s c.args.parent _ keeps c.in_err-check_lives.ensures.0))
 
 pub returns-in_err-check_new : goal.returns-in_err-check_new
 returns-in_err-check_new c =
-    refuses-by c.args.mem.now c.args.mem.now (Fork c.args.parent c.args.child) c.in_err-check_new.field-0.0 c.args.reply.now c.from_residual-in_err-check_new.result c.from_residual-in_err-check_new.ensures
-    (refuses c.args.mem.now (Fork c.args.parent c.args.child) c.in_err-check_new.field-0.0 (λ s keeps. fork_is c.args.mem.now s c.args.parent c.args.child keeps c.in_ok-check_lives.ensures ∙ c.in_err-check_new.ensures))
+    refuses-by c.args.mem.now c.args.mem.now (Fork c.args.parent c.args.child) c.in_err-check_new.field-0.0 c.args.reply.now
+    c.from_residual-in_err-check_new.result c.from_residual-in_err-check_new.ensures
+    (refuses c.args.mem.now (Fork c.args.parent c.args.child) c.in_err-check_new.field-0.0
+    (λ s keeps. fork_is c.args.mem.now s c.args.parent c.args.child keeps c.in_ok-check_lives.ensures ∙ c.in_err-check_new.ensures))
 
 pub fork_areas-requires-clause-dead : goal.fork_areas-requires-clause-dead
 fork_areas-requires-clause-dead c = absent c.args.mem.now.spaces.processes c.args.child c.in_ok-check_new.ensures
 
 pub returns-in_err-fork_areas : goal.returns-in_err-fork_areas
-returns-in_err-fork_areas c = wants-by c.args.mem.now c.fork_areas.new.mem (Fork c.args.parent c.args.child) c.args.reply.now c.from_residual-in_err-fork_areas.result c.from_residual-in_err-fork_areas.ensures (ap (λ f. (seen f).count) c.fork_areas.ensures.frames)
+returns-in_err-fork_areas c = wants-by c.args.mem.now c.fork_areas.new.mem (Fork c.args.parent c.args.child) c.args.reply.now
+    c.from_residual-in_err-fork_areas.result c.from_residual-in_err-fork_areas.ensures (ap (λ f. (seen f).count) c.fork_areas.ensures.frames)
 
 pub spawn-requires : goal.spawn-requires
-spawn-requires c = ap (λ t. has t c.args.child) c.fork_areas.ensures.tables ∙ no_table c.args.mem.now c.requires.steady.0 c.args.child c.requires.steady.1 (absent c.args.mem.now.spaces.processes c.args.child c.in_ok-check_new.ensures)
+spawn-requires c = ap (λ t. has t c.args.child) c.fork_areas.ensures.tables ∙ no_table c.args.mem.now c.requires.steady.0 c.args.child c.requires.steady.1
+    (absent c.args.mem.now.spaces.processes c.args.child c.in_ok-check_new.ensures)
 
 pub returns-in_err-spawn : goal.returns-in_err-spawn
 returns-in_err-spawn c =
-    wants-by c.args.mem.now (record c.fork_areas.new.mem { tables = c.spawn.new.self }) (Fork c.args.parent c.args.child) c.args.reply.now c.from_residual-in_err-spawn.result c.from_residual-in_err-spawn.ensures (ap (λ f. (seen f).count) c.fork_areas.ensures.frames)
+    wants-by c.args.mem.now (record c.fork_areas.new.mem { tables = c.spawn.new.self }) (Fork c.args.parent c.args.child) c.args.reply.now
+    c.from_residual-in_err-spawn.result c.from_residual-in_err-spawn.ensures (ap (λ f. (seen f).count) c.fork_areas.ensures.frames)
 
 pub fork_entries-requires-clause-orderly : goal.fork_entries-requires-clause-orderly
 fork_entries-requires-clause-orderly c =
-    let k = c.args.mem.now in
-    (c.requires.steady.0.ledger, still_orderly k c.fork_areas.new.mem c.spawn.new.self c.requires.steady.0.ledger c.fork_areas.ensures.frames c.fork_areas.ensures.tables c.in_ok-spawn.ensures.entries (orderly k c.requires.steady.0 c.requires.steady.1))
+    let k = c.args.mem.now in (
+      c.requires.steady.0.ledger,
+      still_orderly k c.fork_areas.new.mem c.spawn.new.self c.requires.steady.0.ledger c.fork_areas.ensures.frames
+          c.fork_areas.ensures.tables c.in_ok-spawn.ensures.entries (orderly k c.requires.steady.0 c.requires.steady.1),
+    )
 
 pub fork_entries-requires-clause-few : goal.fork_entries-requires-clause-few
-fork_entries-requires-clause-few c f = subst (λ frames. (seen frames).maps f ≤ most_processes) (sym c.fork_areas.ensures.frames) (entries_few c.args.mem.now c.requires.steady.0 c.requires.steady.1 f)
+fork_entries-requires-clause-few c f = subst (λ frames. (seen frames).maps f ≤ most_processes) (sym c.fork_areas.ensures.frames)
+    (entries_few c.args.mem.now c.requires.steady.0 c.requires.steady.1 f)
 
 pub fork_entries-requires-clause-there : goal.fork_entries-requires-clause-there
 fork_entries-requires-clause-there c = has_table c.fork_areas.new.mem c.spawn.new.self c.args.child c.in_ok-spawn.ensures.processes
@@ -48,11 +59,13 @@ pub fork_entries-requires-clause-empty : goal.fork_entries-requires-clause-empty
 fork_entries-requires-clause-empty c page =
     ap (λ t. t c.args.child page) c.in_ok-spawn.ensures.entries
     ∙ none_there c.fork_areas.new.mem.tables c.args.child page
-    (ap (λ t. has t c.args.child) c.fork_areas.ensures.tables ∙ no_table c.args.mem.now c.requires.steady.0 c.args.child c.requires.steady.1 (absent c.args.mem.now.spaces.processes c.args.child c.in_ok-check_new.ensures))
+    (ap (λ t. has t c.args.child) c.fork_areas.ensures.tables ∙ no_table c.args.mem.now c.requires.steady.0 c.args.child c.requires.steady.1
+    (absent c.args.mem.now.spaces.processes c.args.child c.in_ok-check_new.ensures))
 
 pub returns-in_err-fork_entries : goal.returns-in_err-fork_entries
 returns-in_err-fork_entries c =
-    wants-by c.args.mem.now c.fork_entries.new.mem (Fork c.args.parent c.args.child) c.args.reply.now c.from_residual-in_err-fork_entries.result c.from_residual-in_err-fork_entries.ensures (c.fork_entries.ensures.rest.count ∙ ap (λ f. (seen f).count) c.fork_areas.ensures.frames)
+    wants-by c.args.mem.now c.fork_entries.new.mem (Fork c.args.parent c.args.child) c.args.reply.now c.from_residual-in_err-fork_entries.result
+    c.from_residual-in_err-fork_entries.ensures (c.fork_entries.ensures.rest.count ∙ ap (λ f. (seen f).count) c.fork_areas.ensures.frames)
 
 pub returns : goal.returns
 returns c = record {
@@ -62,6 +75,9 @@ returns c = record {
       let gone = c.fork_areas.new.mem in
       let areas = c.fork_areas.ensures in
       answers c.args.reply.now c.requires.cleared
-      (fork-steps k gone c.fork_entries.new.mem c.spawn.new.self s c.args.parent c.args.child keeps c.in_ok-check_lives.ensures c.in_ok-check_new.ensures areas.frames areas.tables (c.in_ok-fork_areas.ensures.forks s keeps)
-      c.in_ok-spawn.ensures.processes (c.in_ok-fork_entries.ensures.forks s.ledger (still_orderly k gone c.spawn.new.self s.ledger areas.frames areas.tables c.in_ok-spawn.ensures.entries (orderly k s keeps))) c.fork_entries.ensures.rest);
+      (fork-steps k gone c.fork_entries.new.mem c.spawn.new.self s c.args.parent c.args.child keeps c.in_ok-check_lives.ensures c.in_ok-check_new.ensures
+      areas.frames areas.tables (c.in_ok-fork_areas.ensures.forks s keeps)
+      c.in_ok-spawn.ensures.processes (c.in_ok-fork_entries.ensures.forks s.ledger
+      (still_orderly k gone c.spawn.new.self s.ledger areas.frames areas.tables c.in_ok-spawn.ensures.entries (orderly k s keeps)))
+      c.fork_entries.ensures.rest);
 }

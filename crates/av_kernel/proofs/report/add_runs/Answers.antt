@@ -31,7 +31,8 @@ loop-next-preserved c =
     let later = drop (i + 1) rest in
     let all = all_rows (map range_of c.args.areas.now) in
     let more = drop_more rest i none c.loop-next-test.true in
-    let rising = subst (AreRising p) more (rising_rest p i rest (own_rest p c.in-Some.first.now rest (subst (AreRising p) c.in-Some.ensures.cases.0 c.requires.rising.1))) in
+    let rising = subst (AreRising p) more (rising_rest p i rest (own_rest p c.in-Some.first.now rest
+    (subst (AreRising p) c.in-Some.ensures.cases.0 c.requires.rising.1))) in
     let whole = (own_first p a later rising).whole in
     let left = subst (λ (areas : List Area). IsLeft c.loop-next.rows c.loop-next.run areas all) more c.loop-next.invariant in
     elim c.if-goes_on.branch [
@@ -47,7 +48,9 @@ loop-next-preserved c =
 pub returns : goal.returns
 returns c =
     let all = all_rows (map range_of c.args.areas.now) in
-    let left = subst (λ (areas : List Area). IsLeft c.loop-next.rows c.loop-next.run areas all) (at_drop_all (λ (areas : List Area). areas) c.in-Some.rest.now c.loop-next.next-index c.loop-next-test.false) c.loop-next.invariant in
+    let left = subst (λ (areas : List Area). IsLeft c.loop-next.rows c.loop-next.run areas all)
+    (at_drop_all (λ (areas : List Area). areas) c.in-Some.rest.now c.loop-next.next-index c.loop-next-test.false) c.loop-next.invariant in
     subst (AreRuns (map range_of c.args.areas.now))
-    (sym (left-last c.loop-next.run c.loop-next.rows c.push-2.new.self all (c.in_ok-push-2.ensures.ok ∙ ap (λ row. c.loop-next.rows ++ row ∷ []) c.row_of-2.ensures) left))
+    (sym (left-last c.loop-next.run c.loop-next.rows c.push-2.new.self all
+    (c.in_ok-push-2.ensures.ok ∙ ap (λ row. c.loop-next.rows ++ row ∷ []) c.row_of-2.ensures) left))
     (rising-runs c.requires.rising.0 c.args.areas.now c.requires.rising.1)

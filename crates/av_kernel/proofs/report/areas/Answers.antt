@@ -13,14 +13,17 @@ use Rattle.av_kernel.proofs.report.areas.Goals as goal
 
 pub returns-in_err-check_lives : goal.returns-in_err-check_lives
 returns-in_err-check_lives c =
-    refuses-as c.args.mem.now c.args.mem.now (AsksAreas c.args.process) Esrch c.args.reply.now c.from_residual.result c.in_err-check_lives.field-0.0 c.from_residual.ensures c.in_err-check_lives.ensures.1
+    refuses-as c.args.mem.now c.args.mem.now (AsksAreas c.args.process) Esrch c.args.reply.now c.from_residual.result c.in_err-check_lives.field-0.0
+    c.from_residual.ensures c.in_err-check_lives.ensures.1
     (refuses c.args.mem.now (AsksAreas c.args.process) Esrch (λ s keeps. dead_first c.args.mem.now s c.args.process _ keeps c.in_err-check_lives.ensures.0))
 
 pub returns-in_err-areas : goal.returns-in_err-areas
-returns-in_err-areas c = wants-by c.args.mem.now c.args.mem.now (AsksAreas c.args.process) c.args.reply.now c.from_residual-in_err-areas.result c.from_residual-in_err-areas.ensures refl
+returns-in_err-areas c = wants-by c.args.mem.now c.args.mem.now (AsksAreas c.args.process) c.args.reply.now c.from_residual-in_err-areas.result
+    c.from_residual-in_err-areas.ensures refl
 
 pub returns-in_err-add_areas : goal.returns-in_err-add_areas
-returns-in_err-add_areas c = wants-by c.args.mem.now c.args.mem.now (AsksAreas c.args.process) (record c.args.reply.now { rows = c.add_areas.new.rows }) c.from_residual-in_err-add_areas.result c.from_residual-in_err-add_areas.ensures refl
+returns-in_err-add_areas c = wants-by c.args.mem.now c.args.mem.now (AsksAreas c.args.process) (record c.args.reply.now { rows = c.add_areas.new.rows })
+    c.from_residual-in_err-add_areas.result c.from_residual-in_err-add_areas.ensures refl
 
 pub returns : goal.returns
 returns c = record {
@@ -29,8 +32,13 @@ returns c = record {
       let k = c.args.mem.now in
       let are = c.in_ok-areas.ensures in
       let areas = c.in_ok-areas.areas.items in
-      let rows : c.add_areas.new.rows ≡ map (area_row (view k).anons) areas = c.in_ok-add_areas.ensures ∙ ap (map (area_row (view k).anons)) c.deref.ensures.value in
-      subst (MemSteps k k s (AsksAreas c.args.process)) (λ i. record { answer = AreaList (length ((sym rows ∙ sym c.as_slice.ensures) i)); notes = sym c.requires.cleared.notes i; rows = sym rows i })
+      let rows : c.add_areas.new.rows ≡ map (area_row (view k).anons) areas =
+      c.in_ok-add_areas.ensures ∙ ap (map (area_row (view k).anons)) c.deref.ensures.value in
+      subst (MemSteps k k s (AsksAreas c.args.process)) (λ i. record {
+        answer = AreaList (length ((sym rows ∙ sym c.as_slice.ensures) i));
+        notes = sym c.requires.cleared.notes i;
+        rows = sym rows i;
+      })
       (areas-steps k s c.args.process areas keeps c.in_ok-check_lives.ensures are.areas are.rising);
 }
 

@@ -14,14 +14,17 @@ use Rattle.av_kernel.proofs.report.maps.Goals as goal
 
 pub returns-in_err-check_lives : goal.returns-in_err-check_lives
 returns-in_err-check_lives c =
-    refuses-as c.args.mem.now c.args.mem.now (Maps c.args.process) Esrch c.args.reply.now c.from_residual.result c.in_err-check_lives.field-0.0 c.from_residual.ensures c.in_err-check_lives.ensures.1
+    refuses-as c.args.mem.now c.args.mem.now (Maps c.args.process) Esrch c.args.reply.now c.from_residual.result c.in_err-check_lives.field-0.0
+    c.from_residual.ensures c.in_err-check_lives.ensures.1
     (refuses c.args.mem.now (Maps c.args.process) Esrch (λ s keeps. dead_first c.args.mem.now s c.args.process _ keeps c.in_err-check_lives.ensures.0))
 
 pub returns-in_err-areas : goal.returns-in_err-areas
-returns-in_err-areas c = wants-by c.args.mem.now c.args.mem.now (Maps c.args.process) c.args.reply.now c.from_residual-in_err-areas.result c.from_residual-in_err-areas.ensures refl
+returns-in_err-areas c = wants-by c.args.mem.now c.args.mem.now (Maps c.args.process) c.args.reply.now c.from_residual-in_err-areas.result
+    c.from_residual-in_err-areas.ensures refl
 
 pub returns-in_err-add_runs : goal.returns-in_err-add_runs
-returns-in_err-add_runs c = wants-by c.args.mem.now c.args.mem.now (Maps c.args.process) (record c.args.reply.now { rows = c.add_runs.new.rows }) c.from_residual-in_err-add_runs.result c.from_residual-in_err-add_runs.ensures refl
+returns-in_err-add_runs c = wants-by c.args.mem.now c.args.mem.now (Maps c.args.process) (record c.args.reply.now { rows = c.add_runs.new.rows })
+    c.from_residual-in_err-add_runs.result c.from_residual-in_err-add_runs.ensures refl
 
 pub returns : goal.returns
 returns c = record {
@@ -30,7 +33,11 @@ returns c = record {
       let k = c.args.mem.now in
       let areas = c.in_ok-areas.ensures.areas in
       let runs = subst (λ (areas : List Area). AreRuns (map range_of areas) c.add_runs.new.rows) c.deref.ensures.value c.in_ok-add_runs.ensures in
-      subst (MemSteps k k s (Maps c.args.process)) (λ i. record { answer = Runs (length (sym c.as_slice.ensures i)); notes = sym c.requires.cleared.notes i; rows = c.add_runs.new.rows })
+      subst (MemSteps k k s (Maps c.args.process)) (λ i. record {
+        answer = Runs (length (sym c.as_slice.ensures i));
+        notes = sym c.requires.cleared.notes i;
+        rows = c.add_runs.new.rows;
+      })
       (maps-steps k s c.args.process c.in_ok-areas.areas.items c.add_runs.new.rows keeps c.in_ok-check_lives.ensures areas runs);
 }
 

@@ -7,7 +7,8 @@ use Rattle.av_laws.proofs.FirstExamples.{by_steps}
 use Rattle.av_laws.proofs.examples.walks_are_shown.Goals as goal
 
 pub returns-clause-walk_of_two : goal.returns-clause-walk_of_two
-returns-clause-walk_of_two c = by_steps (machine 4) (after_fork (1 ∷ 2 ∷ 3 ∷ [])) (reports (AsksRmap 2 0x7fffffffe123) (Walk 0 2) (Entry 1 0x7fffffffe000 ∷ Entry 2 0x7fffffffe000 ∷ []) ∷ []) refl
+returns-clause-walk_of_two c = by_steps (machine 4) (after_fork (1 ∷ 2 ∷ 3 ∷ []))
+    (reports (AsksRmap 2 0x7fffffffe123) (Walk 0 2) (Entry 1 0x7fffffffe000 ∷ Entry 2 0x7fffffffe000 ∷ []) ∷ []) refl
     (([], 1 ∷ 2 ∷ 3 ∷ [], record { answer = (refl, refl, refl); notes = refl }, refl, tt))
 
 pub returns-clause-walk_of_one : goal.returns-clause-walk_of_one

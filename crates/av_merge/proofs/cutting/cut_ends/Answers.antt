@@ -33,4 +33,5 @@ returns-clause-stands c p stands =
     let first = c.split_below.ensures.stands p stands in
     let second = c.split_before.ensures.stands p first.areas in
     let third = c.take_out.ensures.stands p second.areas in
-    stays_trans p _ (area_of c.split_before.new.areas) _ c.split_before.new.tree _ (stays_trans p _ (area_of c.split_below.new.areas) _ c.split_below.new.tree _ first second) third
+    stays_trans p _ (area_of c.split_before.new.areas) _ c.split_before.new.tree _
+    (stays_trans p _ (area_of c.split_below.new.areas) _ c.split_below.new.tree _ first second) third

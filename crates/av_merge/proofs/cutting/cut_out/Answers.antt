@@ -12,7 +12,8 @@ split_to-requires c =
     record {
       order = c.in_ok-part.ensures.kin.order;
       stands = (p, stands);
-      inside = goes_to p c.in_ok-part.part c.args.from c.args.past on (area_of c.split_from.new.areas) c.split_from.new.tree stands c.requires.some c.in_ok-part.ensures.part (c.in_ok-part.ensures.pages c.args.from) c.requires.inside;
+      inside = goes_to p c.in_ok-part.part c.args.from c.args.past on (area_of c.split_from.new.areas) c.split_from.new.tree stands c.requires.some
+          c.in_ok-part.ensures.part (c.in_ok-part.ensures.pages c.args.from) c.requires.inside;
     }
 
 pub returns-in_err-split_to-clause-stands : goal.returns-in_err-split_to-clause-stands

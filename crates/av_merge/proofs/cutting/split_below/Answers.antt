@@ -23,7 +23,8 @@ returns-in-Some-clause-none_crosses c =
     let after = area_of c.split.new.areas in
     let spans = c.split.new.tree in
     let stays = c.split.ensures.stands p c.requires.stands.1 in
-    on_ok_weaker c.split.result (λ pages. none_from p c.args.at after spans stays.areas (λ area e. cut_starts on c.args.at area (sym (pages c.args.at) ∙ e))) c.split.ensures.pages
+    on_ok_weaker c.split.result (λ pages. none_from p c.args.at after spans stays.areas (λ area e. cut_starts on c.args.at area (sym (pages c.args.at) ∙ e)))
+    c.split.ensures.pages
 
 -- none crosses where the last area below ends at the page or before it
 last_ends : (o last : Option Span) (at : ℕ) (s : Span) → o ≡ last → o ≡ Some s → s.to ≤ at → IfSome last (λ t. t.to ≤ at)
@@ -38,7 +39,8 @@ returns-in_default c =
     let stands = c.requires.stands.1 in
     let areas = area_of c.args.areas.now in
     let spans = c.args.tree.now in
-    let none : NoneCrosses c.args.at spans = none_by_last spans c.args.at stands.spans_are.apart (last_ends c.args.below _ c.args.at c.in-Some.span c.requires.last c.in-Some.is c.if-at-span.false) in
+    let none : NoneCrosses c.args.at spans = none_by_last spans c.args.at stands.spans_are.apart
+    (last_ends c.args.below _ c.args.at c.in-Some.span c.requires.last c.in-Some.is c.if-at-span.false) in
     record {
       stands = λ q h. record { areas = h; others = others_refl q areas };
       kin = kin_stays c.args.areas.now c.args.anons.now c.requires.order;
@@ -52,7 +54,8 @@ returns-in_default-2 c =
     let stands = c.requires.stands.1 in
     let areas = area_of c.args.areas.now in
     let spans = c.args.tree.now in
-    let none : NoneCrosses c.args.at spans = none_by_last spans c.args.at stands.spans_are.apart (no_last c.args.below _ c.args.at c.requires.last c.in_default.is) in
+    let none : NoneCrosses c.args.at spans = none_by_last spans c.args.at stands.spans_are.apart
+    (no_last c.args.below _ c.args.at c.requires.last c.in_default.is) in
     record {
       stands = λ q h. record { areas = h; others = others_refl q areas };
       kin = kin_stays c.args.areas.now c.args.anons.now c.requires.order;

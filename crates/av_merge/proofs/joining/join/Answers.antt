@@ -23,9 +23,12 @@ replace_both-requires-clause-other c =
     let lower = c.get-lower.result in
     let upper = c.get-upper.result in
     let len = lengths c.args.areas.now c.args.anons.now in
-    let joins : do_join len lower upper ≡ true = test_is areas (family c.args.anons.now) (spans_of c.args.anons.now) c.args.left c.args.right lower upper c.chain_len-left_len.result c.chain_len-right_len.result c.mergeable.result
-    c.requires.order c.get-lower.ensures c.get-upper.ensures c.chain_len-left_len.ensures c.chain_len-right_len.ensures c.mergeable.ensures ∙ c.if-not-mergeable.false in
-    right_from len c.requires.stands.0 c.args.left c.args.right c.args.at lower upper areas c.args.tree.now c.requires.stands.1 c.requires.below c.requires.above c.get-lower.ensures c.get-upper.ensures joins
+    let joins : do_join len lower upper ≡ true = test_is areas (family c.args.anons.now) (spans_of c.args.anons.now) c.args.left c.args.right lower upper
+    c.chain_len-left_len.result c.chain_len-right_len.result c.mergeable.result
+    c.requires.order c.get-lower.ensures c.get-upper.ensures c.chain_len-left_len.ensures c.chain_len-right_len.ensures c.mergeable.ensures
+    ∙ c.if-not-mergeable.false in
+    right_from len c.requires.stands.0 c.args.left c.args.right c.args.at lower upper areas c.args.tree.now c.requires.stands.1 c.requires.below
+    c.requires.above c.get-lower.ensures c.get-upper.ensures joins
 
 pub replace_both-requires-clause-lower : goal.replace_both-requires-clause-lower
 replace_both-requires-clause-lower c =
@@ -33,9 +36,13 @@ replace_both-requires-clause-lower c =
     let lower = c.get-lower.result in
     let upper = c.get-upper.result in
     let len = lengths c.args.areas.now c.args.anons.now in
-    let joins : do_join len lower upper ≡ true = test_is areas (family c.args.anons.now) (spans_of c.args.anons.now) c.args.left c.args.right lower upper c.chain_len-left_len.result c.chain_len-right_len.result c.mergeable.result
-    c.requires.order c.get-lower.ensures c.get-upper.ensures c.chain_len-left_len.ensures c.chain_len-right_len.ensures c.mergeable.ensures ∙ c.if-not-mergeable.false in
-    subst (λ (a : Area). first_of a < c.args.at) (sym c.merge.ensures) (join_below len c.requires.stands.0 c.args.left c.args.right c.args.at lower upper areas c.args.tree.now c.requires.stands.1 c.requires.below c.requires.above c.get-lower.ensures c.get-upper.ensures joins)
+    let joins : do_join len lower upper ≡ true = test_is areas (family c.args.anons.now) (spans_of c.args.anons.now) c.args.left c.args.right lower upper
+    c.chain_len-left_len.result c.chain_len-right_len.result c.mergeable.result
+    c.requires.order c.get-lower.ensures c.get-upper.ensures c.chain_len-left_len.ensures c.chain_len-right_len.ensures c.mergeable.ensures
+    ∙ c.if-not-mergeable.false in
+    subst (λ (a : Area). first_of a < c.args.at) (sym c.merge.ensures)
+    (join_below len c.requires.stands.0 c.args.left c.args.right c.args.at lower upper areas c.args.tree.now c.requires.stands.1 c.requires.below
+    c.requires.above c.get-lower.ensures c.get-upper.ensures joins)
 
 pub replace_both-requires-clause-upper : goal.replace_both-requires-clause-upper
 replace_both-requires-clause-upper c =
@@ -43,9 +50,13 @@ replace_both-requires-clause-upper c =
     let lower = c.get-lower.result in
     let upper = c.get-upper.result in
     let len = lengths c.args.areas.now c.args.anons.now in
-    let joins : do_join len lower upper ≡ true = test_is areas (family c.args.anons.now) (spans_of c.args.anons.now) c.args.left c.args.right lower upper c.chain_len-left_len.result c.chain_len-right_len.result c.mergeable.result
-    c.requires.order c.get-lower.ensures c.get-upper.ensures c.chain_len-left_len.ensures c.chain_len-right_len.ensures c.mergeable.ensures ∙ c.if-not-mergeable.false in
-    subst (λ (a : Area). c.args.at < past_of a) (sym c.merge.ensures) (join_above len c.requires.stands.0 c.args.left c.args.right c.args.at lower upper areas c.args.tree.now c.requires.stands.1 c.requires.below c.requires.above c.get-lower.ensures c.get-upper.ensures joins)
+    let joins : do_join len lower upper ≡ true = test_is areas (family c.args.anons.now) (spans_of c.args.anons.now) c.args.left c.args.right lower upper
+    c.chain_len-left_len.result c.chain_len-right_len.result c.mergeable.result
+    c.requires.order c.get-lower.ensures c.get-upper.ensures c.chain_len-left_len.ensures c.chain_len-right_len.ensures c.mergeable.ensures
+    ∙ c.if-not-mergeable.false in
+    subst (λ (a : Area). c.args.at < past_of a) (sym c.merge.ensures)
+    (join_above len c.requires.stands.0 c.args.left c.args.right c.args.at lower upper areas c.args.tree.now c.requires.stands.1 c.requires.below
+    c.requires.above c.get-lower.ensures c.get-upper.ensures joins)
 
 pub replace_both-requires-clause-there : goal.replace_both-requires-clause-there
 replace_both-requires-clause-there c =
@@ -53,10 +64,15 @@ replace_both-requires-clause-there c =
     let lower = c.get-lower.result in
     let upper = c.get-upper.result in
     let len = lengths c.args.areas.now c.args.anons.now in
-    let joins : do_join len lower upper ≡ true = test_is areas (family c.args.anons.now) (spans_of c.args.anons.now) c.args.left c.args.right lower upper c.chain_len-left_len.result c.chain_len-right_len.result c.mergeable.result
-    c.requires.order c.get-lower.ensures c.get-upper.ensures c.chain_len-left_len.ensures c.chain_len-right_len.ensures c.mergeable.ensures ∙ c.if-not-mergeable.false in
-    let gone = without_here c.args.right c.args.at c.args.tree.now c.requires.stands.1.spans_are (right_from len c.requires.stands.0 c.args.left c.args.right c.args.at lower upper areas c.args.tree.now c.requires.stands.1 c.requires.below c.requires.above c.get-lower.ensures c.get-upper.ensures joins) in
-    let now = joined_now areas (area_of c.share.new.areas) (area_of c.take.new.areas) c.args.left c.args.right lower upper c.get-lower.ensures c.get-upper.ensures c.in_ok-share.ensures.areas c.take.ensures.areas in
+    let joins : do_join len lower upper ≡ true = test_is areas (family c.args.anons.now) (spans_of c.args.anons.now) c.args.left c.args.right lower upper
+    c.chain_len-left_len.result c.chain_len-right_len.result c.mergeable.result
+    c.requires.order c.get-lower.ensures c.get-upper.ensures c.chain_len-left_len.ensures c.chain_len-right_len.ensures c.mergeable.ensures
+    ∙ c.if-not-mergeable.false in
+    let gone = without_here c.args.right c.args.at c.args.tree.now c.requires.stands.1.spans_are
+    (right_from len c.requires.stands.0 c.args.left c.args.right c.args.at lower upper areas c.args.tree.now c.requires.stands.1 c.requires.below
+    c.requires.above c.get-lower.ensures c.get-upper.ensures joins) in
+    let now = joined_now areas (area_of c.share.new.areas) (area_of c.take.new.areas) c.args.left c.args.right lower upper c.get-lower.ensures
+    c.get-upper.ensures c.in_ok-share.ensures.areas c.take.ensures.areas in
     subst (λ (a : Area). IsSomeAnd (span_of (without_area c.args.right c.args.tree.now) c.args.left) (λ s. s.from ≡ first_of a)) (sym c.merge.ensures)
     (left_from len c.requires.stands.0 c.args.left c.args.right c.args.at lower upper areas c.args.tree.now
     c.requires.stands.1 c.requires.below c.requires.above c.get-lower.ensures c.get-upper.ensures joins
@@ -68,8 +84,10 @@ replace_both-requires-clause-whole c =
     let lower = c.get-lower.result in
     let upper = c.get-upper.result in
     let len = lengths c.args.areas.now c.args.anons.now in
-    let joins : do_join len lower upper ≡ true = test_is areas (family c.args.anons.now) (spans_of c.args.anons.now) c.args.left c.args.right lower upper c.chain_len-left_len.result c.chain_len-right_len.result c.mergeable.result
-    c.requires.order c.get-lower.ensures c.get-upper.ensures c.chain_len-left_len.ensures c.chain_len-right_len.ensures c.mergeable.ensures ∙ c.if-not-mergeable.false in
+    let joins : do_join len lower upper ≡ true = test_is areas (family c.args.anons.now) (spans_of c.args.anons.now) c.args.left c.args.right lower upper
+    c.chain_len-left_len.result c.chain_len-right_len.result c.mergeable.result
+    c.requires.order c.get-lower.ensures c.get-upper.ensures c.chain_len-left_len.ensures c.chain_len-right_len.ensures c.mergeable.ensures
+    ∙ c.if-not-mergeable.false in
     subst IsWhole (sym c.merge.ensures)
     (join_whole len c.requires.stands.0 c.args.left c.args.right c.args.at lower upper areas c.args.tree.now
     c.requires.stands.1 c.requires.below c.requires.above c.get-lower.ensures c.get-upper.ensures joins)
@@ -80,11 +98,17 @@ replace_both-requires-clause-free c =
     let lower = c.get-lower.result in
     let upper = c.get-upper.result in
     let len = lengths c.args.areas.now c.args.anons.now in
-    let joins : do_join len lower upper ≡ true = test_is areas (family c.args.anons.now) (spans_of c.args.anons.now) c.args.left c.args.right lower upper c.chain_len-left_len.result c.chain_len-right_len.result c.mergeable.result
-    c.requires.order c.get-lower.ensures c.get-upper.ensures c.chain_len-left_len.ensures c.chain_len-right_len.ensures c.mergeable.ensures ∙ c.if-not-mergeable.false in
-    let gone = without_here c.args.right c.args.at c.args.tree.now c.requires.stands.1.spans_are (right_from len c.requires.stands.0 c.args.left c.args.right c.args.at lower upper areas c.args.tree.now c.requires.stands.1 c.requires.below c.requires.above c.get-lower.ensures c.get-upper.ensures joins) in
-    let now = joined_now areas (area_of c.share.new.areas) (area_of c.take.new.areas) c.args.left c.args.right lower upper c.get-lower.ensures c.get-upper.ensures c.in_ok-share.ensures.areas c.take.ensures.areas in
-    subst (λ (a : Area). IsFree (is_page_taken (without_area c.args.left (without_area c.args.right c.args.tree.now))) (first_of a) (past_of a)) (sym c.merge.ensures)
+    let joins : do_join len lower upper ≡ true = test_is areas (family c.args.anons.now) (spans_of c.args.anons.now) c.args.left c.args.right lower upper
+    c.chain_len-left_len.result c.chain_len-right_len.result c.mergeable.result
+    c.requires.order c.get-lower.ensures c.get-upper.ensures c.chain_len-left_len.ensures c.chain_len-right_len.ensures c.mergeable.ensures
+    ∙ c.if-not-mergeable.false in
+    let gone = without_here c.args.right c.args.at c.args.tree.now c.requires.stands.1.spans_are
+    (right_from len c.requires.stands.0 c.args.left c.args.right c.args.at lower upper areas c.args.tree.now c.requires.stands.1 c.requires.below
+    c.requires.above c.get-lower.ensures c.get-upper.ensures joins) in
+    let now = joined_now areas (area_of c.share.new.areas) (area_of c.take.new.areas) c.args.left c.args.right lower upper c.get-lower.ensures
+    c.get-upper.ensures c.in_ok-share.ensures.areas c.take.ensures.areas in
+    subst (λ (a : Area). IsFree (is_page_taken (without_area c.args.left (without_area c.args.right c.args.tree.now))) (first_of a) (past_of a))
+    (sym c.merge.ensures)
     (join_free len c.requires.stands.0 c.args.left c.args.right c.args.at lower upper areas c.args.tree.now
     c.requires.stands.1 c.requires.below c.requires.above c.get-lower.ensures c.get-upper.ensures joins
     (area_of c.take.new.areas) (without_area c.args.right c.args.tree.now) now gone.good gone.areas gone.pages)
@@ -95,16 +119,22 @@ returns-clause-stands c =
     let lower = c.get-lower.result in
     let upper = c.get-upper.result in
     let len = lengths c.args.areas.now c.args.anons.now in
-    let joins : do_join len lower upper ≡ true = test_is areas (family c.args.anons.now) (spans_of c.args.anons.now) c.args.left c.args.right lower upper c.chain_len-left_len.result c.chain_len-right_len.result c.mergeable.result
-    c.requires.order c.get-lower.ensures c.get-upper.ensures c.chain_len-left_len.ensures c.chain_len-right_len.ensures c.mergeable.ensures ∙ c.if-not-mergeable.false in
-    let gone = without_here c.args.right c.args.at c.args.tree.now c.requires.stands.1.spans_are (right_from len c.requires.stands.0 c.args.left c.args.right c.args.at lower upper areas c.args.tree.now c.requires.stands.1 c.requires.below c.requires.above c.get-lower.ensures c.get-upper.ensures joins) in
-    let now = joined_now areas (area_of c.share.new.areas) (area_of c.take.new.areas) c.args.left c.args.right lower upper c.get-lower.ensures c.get-upper.ensures c.in_ok-share.ensures.areas c.take.ensures.areas in
+    let joins : do_join len lower upper ≡ true = test_is areas (family c.args.anons.now) (spans_of c.args.anons.now) c.args.left c.args.right lower upper
+    c.chain_len-left_len.result c.chain_len-right_len.result c.mergeable.result
+    c.requires.order c.get-lower.ensures c.get-upper.ensures c.chain_len-left_len.ensures c.chain_len-right_len.ensures c.mergeable.ensures
+    ∙ c.if-not-mergeable.false in
+    let gone = without_here c.args.right c.args.at c.args.tree.now c.requires.stands.1.spans_are
+    (right_from len c.requires.stands.0 c.args.left c.args.right c.args.at lower upper areas c.args.tree.now c.requires.stands.1 c.requires.below
+    c.requires.above c.get-lower.ensures c.get-upper.ensures joins) in
+    let now = joined_now areas (area_of c.share.new.areas) (area_of c.take.new.areas) c.args.left c.args.right lower upper c.get-lower.ensures
+    c.get-upper.ensures c.in_ok-share.ensures.areas c.take.ensures.areas in
     λ p stands.
     join_stays len p c.args.left c.args.right c.args.at lower upper areas c.args.tree.now
     stands c.requires.below c.requires.above c.get-lower.ensures c.get-upper.ensures joins
     (area_of c.take.new.areas) (without_area c.args.right c.args.tree.now) now gone.good gone.areas gone.pages
     (area_of c.replace_both.new.areas) c.replace_both.new.tree
-    (subst (λ (a : Area). Stays a.pid (area_of c.take.new.areas) (area_of c.replace_both.new.areas) c.replace_both.new.tree) c.merge.ensures c.replace_both.ensures.stands)
+    (subst (λ (a : Area). Stays a.pid (area_of c.take.new.areas) (area_of c.replace_both.new.areas) c.replace_both.new.tree)
+    c.merge.ensures c.replace_both.ensures.stands)
 
 pub returns-in_err-replace_both-clause-stands : goal.returns-in_err-replace_both-clause-stands
 returns-in_err-replace_both-clause-stands c =
@@ -112,16 +142,22 @@ returns-in_err-replace_both-clause-stands c =
     let lower = c.get-lower.result in
     let upper = c.get-upper.result in
     let len = lengths c.args.areas.now c.args.anons.now in
-    let joins : do_join len lower upper ≡ true = test_is areas (family c.args.anons.now) (spans_of c.args.anons.now) c.args.left c.args.right lower upper c.chain_len-left_len.result c.chain_len-right_len.result c.mergeable.result
-    c.requires.order c.get-lower.ensures c.get-upper.ensures c.chain_len-left_len.ensures c.chain_len-right_len.ensures c.mergeable.ensures ∙ c.if-not-mergeable.false in
-    let gone = without_here c.args.right c.args.at c.args.tree.now c.requires.stands.1.spans_are (right_from len c.requires.stands.0 c.args.left c.args.right c.args.at lower upper areas c.args.tree.now c.requires.stands.1 c.requires.below c.requires.above c.get-lower.ensures c.get-upper.ensures joins) in
-    let now = joined_now areas (area_of c.share.new.areas) (area_of c.take.new.areas) c.args.left c.args.right lower upper c.get-lower.ensures c.get-upper.ensures c.in_ok-share.ensures.areas c.take.ensures.areas in
+    let joins : do_join len lower upper ≡ true = test_is areas (family c.args.anons.now) (spans_of c.args.anons.now) c.args.left c.args.right lower upper
+    c.chain_len-left_len.result c.chain_len-right_len.result c.mergeable.result
+    c.requires.order c.get-lower.ensures c.get-upper.ensures c.chain_len-left_len.ensures c.chain_len-right_len.ensures c.mergeable.ensures
+    ∙ c.if-not-mergeable.false in
+    let gone = without_here c.args.right c.args.at c.args.tree.now c.requires.stands.1.spans_are
+    (right_from len c.requires.stands.0 c.args.left c.args.right c.args.at lower upper areas c.args.tree.now c.requires.stands.1 c.requires.below
+    c.requires.above c.get-lower.ensures c.get-upper.ensures joins) in
+    let now = joined_now areas (area_of c.share.new.areas) (area_of c.take.new.areas) c.args.left c.args.right lower upper c.get-lower.ensures
+    c.get-upper.ensures c.in_ok-share.ensures.areas c.take.ensures.areas in
     λ p stands.
     join_stays len p c.args.left c.args.right c.args.at lower upper areas c.args.tree.now
     stands c.requires.below c.requires.above c.get-lower.ensures c.get-upper.ensures joins
     (area_of c.take.new.areas) (without_area c.args.right c.args.tree.now) now gone.good gone.areas gone.pages
     (area_of c.replace_both.new.areas) c.replace_both.new.tree
-    (subst (λ (a : Area). Stays a.pid (area_of c.take.new.areas) (area_of c.replace_both.new.areas) c.replace_both.new.tree) c.merge.ensures c.replace_both.ensures.stands)
+    (subst (λ (a : Area). Stays a.pid (area_of c.take.new.areas) (area_of c.replace_both.new.areas) c.replace_both.new.tree)
+    c.merge.ensures c.replace_both.ensures.stands)
 
 pub returns-clause-pages : goal.returns-clause-pages
 returns-clause-pages c =
@@ -129,31 +165,45 @@ returns-clause-pages c =
     let lower = c.get-lower.result in
     let upper = c.get-upper.result in
     let len = lengths c.args.areas.now c.args.anons.now in
-    let joins : do_join len lower upper ≡ true = test_is areas (family c.args.anons.now) (spans_of c.args.anons.now) c.args.left c.args.right lower upper c.chain_len-left_len.result c.chain_len-right_len.result c.mergeable.result
-    c.requires.order c.get-lower.ensures c.get-upper.ensures c.chain_len-left_len.ensures c.chain_len-right_len.ensures c.mergeable.ensures ∙ c.if-not-mergeable.false in
-    let gone = without_here c.args.right c.args.at c.args.tree.now c.requires.stands.1.spans_are (right_from len c.requires.stands.0 c.args.left c.args.right c.args.at lower upper areas c.args.tree.now c.requires.stands.1 c.requires.below c.requires.above c.get-lower.ensures c.get-upper.ensures joins) in
-    let now = joined_now areas (area_of c.share.new.areas) (area_of c.take.new.areas) c.args.left c.args.right lower upper c.get-lower.ensures c.get-upper.ensures c.in_ok-share.ensures.areas c.take.ensures.areas in
+    let joins : do_join len lower upper ≡ true = test_is areas (family c.args.anons.now) (spans_of c.args.anons.now) c.args.left c.args.right lower upper
+    c.chain_len-left_len.result c.chain_len-right_len.result c.mergeable.result
+    c.requires.order c.get-lower.ensures c.get-upper.ensures c.chain_len-left_len.ensures c.chain_len-right_len.ensures c.mergeable.ensures
+    ∙ c.if-not-mergeable.false in
+    let gone = without_here c.args.right c.args.at c.args.tree.now c.requires.stands.1.spans_are
+    (right_from len c.requires.stands.0 c.args.left c.args.right c.args.at lower upper areas c.args.tree.now c.requires.stands.1 c.requires.below
+    c.requires.above c.get-lower.ensures c.get-upper.ensures joins) in
+    let now = joined_now areas (area_of c.share.new.areas) (area_of c.take.new.areas) c.args.left c.args.right lower upper c.get-lower.ensures
+    c.get-upper.ensures c.in_ok-share.ensures.areas c.take.ensures.areas in
     λ page.
     c.replace_both.ensures.pages page
-    ∙ ap (λ (a : Area). with_area a (pages_by (with_at c.args.left None (area_of c.take.new.areas)) (without_area c.args.right c.args.tree.now)) page) c.merge.ensures
+    ∙ ap (λ (a : Area). with_area a (pages_by (with_at c.args.left None (area_of c.take.new.areas)) (without_area c.args.right c.args.tree.now)) page)
+    c.merge.ensures
     ∙ join_pages len c.requires.stands.0 c.args.left c.args.right c.args.at lower upper areas c.args.tree.now
     c.requires.stands.1 c.requires.below c.requires.above c.get-lower.ensures c.get-upper.ensures joins
     (area_of c.take.new.areas) (without_area c.args.right c.args.tree.now) now gone.good gone.areas gone.pages page
 
 pub get-lower-requires : goal.get-lower-requires
-get-lower-requires c = record { used = used_at c.requires.stands.0 (area_of c.args.areas.now) c.args.tree.now (c.args.at - 1) c.args.left c.requires.stands.1 c.requires.below }
+get-lower-requires c = record {
+  used = used_at c.requires.stands.0 (area_of c.args.areas.now) c.args.tree.now (c.args.at - 1) c.args.left
+      c.requires.stands.1 c.requires.below;
+}
 
 pub get-upper-requires : goal.get-upper-requires
-get-upper-requires c = record { used = used_at c.requires.stands.0 (area_of c.args.areas.now) c.args.tree.now c.args.at c.args.right c.requires.stands.1 c.requires.above }
+get-upper-requires c = record {
+  used = used_at c.requires.stands.0 (area_of c.args.areas.now) c.args.tree.now c.args.at c.args.right
+      c.requires.stands.1 c.requires.above;
+}
 
 pub mergeable-requires-clause-forward : goal.mergeable-requires-clause-forward
 mergeable-requires-clause-forward c =
-    let w = (whole_at c.requires.stands.0 (area_of c.args.areas.now) c.args.tree.now (c.args.at - 1) c.args.left c.get-lower.result c.requires.stands.1 c.requires.below c.get-lower.ensures).some in
+    let w = (whole_at c.requires.stands.0 (area_of c.args.areas.now) c.args.tree.now (c.args.at - 1) c.args.left c.get-lower.result c.requires.stands.1
+    c.requires.below c.get-lower.ensures).some in
     omega arith
 
 pub mergeable-requires-clause-small : goal.mergeable-requires-clause-small
 mergeable-requires-clause-small c =
-    let w = (whole_at c.requires.stands.0 (area_of c.args.areas.now) c.args.tree.now (c.args.at - 1) c.args.left c.get-lower.result c.requires.stands.1 c.requires.below c.get-lower.ensures).small in
+    let w = (whole_at c.requires.stands.0 (area_of c.args.areas.now) c.args.tree.now (c.args.at - 1) c.args.left c.get-lower.result c.requires.stands.1
+    c.requires.below c.get-lower.ensures).small in
     omega arith
 
 pub replace_both-requires-clause-stands : goal.replace_both-requires-clause-stands
@@ -162,10 +212,15 @@ replace_both-requires-clause-stands c =
     let lower = c.get-lower.result in
     let upper = c.get-upper.result in
     let len = lengths c.args.areas.now c.args.anons.now in
-    let joins : do_join len lower upper ≡ true = test_is areas (family c.args.anons.now) (spans_of c.args.anons.now) c.args.left c.args.right lower upper c.chain_len-left_len.result c.chain_len-right_len.result c.mergeable.result
-    c.requires.order c.get-lower.ensures c.get-upper.ensures c.chain_len-left_len.ensures c.chain_len-right_len.ensures c.mergeable.ensures ∙ c.if-not-mergeable.false in
-    let gone = without_here c.args.right c.args.at c.args.tree.now c.requires.stands.1.spans_are (right_from len c.requires.stands.0 c.args.left c.args.right c.args.at lower upper areas c.args.tree.now c.requires.stands.1 c.requires.below c.requires.above c.get-lower.ensures c.get-upper.ensures joins) in
-    let now = joined_now areas (area_of c.share.new.areas) (area_of c.take.new.areas) c.args.left c.args.right lower upper c.get-lower.ensures c.get-upper.ensures c.in_ok-share.ensures.areas c.take.ensures.areas in
+    let joins : do_join len lower upper ≡ true = test_is areas (family c.args.anons.now) (spans_of c.args.anons.now) c.args.left c.args.right lower upper
+    c.chain_len-left_len.result c.chain_len-right_len.result c.mergeable.result
+    c.requires.order c.get-lower.ensures c.get-upper.ensures c.chain_len-left_len.ensures c.chain_len-right_len.ensures c.mergeable.ensures
+    ∙ c.if-not-mergeable.false in
+    let gone = without_here c.args.right c.args.at c.args.tree.now c.requires.stands.1.spans_are
+    (right_from len c.requires.stands.0 c.args.left c.args.right c.args.at lower upper areas c.args.tree.now c.requires.stands.1 c.requires.below
+    c.requires.above c.get-lower.ensures c.get-upper.ensures joins) in
+    let now = joined_now areas (area_of c.share.new.areas) (area_of c.take.new.areas) c.args.left c.args.right lower upper c.get-lower.ensures
+    c.get-upper.ensures c.in_ok-share.ensures.areas c.take.ensures.areas in
     subst (λ (a : Area). AreAreasOf a.pid (area_of c.take.new.areas) (without_area c.args.right c.args.tree.now)) (sym c.merge.ensures)
     (right_taken len c.requires.stands.0 c.args.left c.args.right c.args.at lower upper areas c.args.tree.now
     c.requires.stands.1 c.requires.below c.requires.above c.get-lower.ensures c.get-upper.ensures joins
@@ -173,9 +228,12 @@ replace_both-requires-clause-stands c =
 
 pub returns-then-not-mergeable-clause-pages : goal.returns-then-not-mergeable-clause-pages
 returns-then-not-mergeable-clause-pages c =
-    apart_stay (lengths c.args.areas.now c.args.anons.now) c.args.at c.args.left c.args.right (area_of c.args.areas.now) c.args.tree.now c.get-lower.result c.get-upper.result c.requires.below c.requires.above c.get-lower.ensures c.get-upper.ensures
-    (test_is (area_of c.args.areas.now) (family c.args.anons.now) (spans_of c.args.anons.now) c.args.left c.args.right c.get-lower.result c.get-upper.result c.chain_len-left_len.result c.chain_len-right_len.result c.mergeable.result
-    c.requires.order c.get-lower.ensures c.get-upper.ensures c.chain_len-left_len.ensures c.chain_len-right_len.ensures c.mergeable.ensures ∙ c.if-not-mergeable.true)
+    apart_stay (lengths c.args.areas.now c.args.anons.now) c.args.at c.args.left c.args.right (area_of c.args.areas.now) c.args.tree.now c.get-lower.result
+    c.get-upper.result c.requires.below c.requires.above c.get-lower.ensures c.get-upper.ensures
+    (test_is (area_of c.args.areas.now) (family c.args.anons.now) (spans_of c.args.anons.now) c.args.left c.args.right c.get-lower.result c.get-upper.result
+    c.chain_len-left_len.result c.chain_len-right_len.result c.mergeable.result
+    c.requires.order c.get-lower.ensures c.get-upper.ensures c.chain_len-left_len.ensures c.chain_len-right_len.ensures c.mergeable.ensures
+    ∙ c.if-not-mergeable.true)
 
 pub replace_both-requires-clause-was : goal.replace_both-requires-clause-was
 replace_both-requires-clause-was c =
@@ -183,10 +241,15 @@ replace_both-requires-clause-was c =
     let lower = c.get-lower.result in
     let upper = c.get-upper.result in
     let len = lengths c.args.areas.now c.args.anons.now in
-    let joins : do_join len lower upper ≡ true = test_is areas (family c.args.anons.now) (spans_of c.args.anons.now) c.args.left c.args.right lower upper c.chain_len-left_len.result c.chain_len-right_len.result c.mergeable.result
-    c.requires.order c.get-lower.ensures c.get-upper.ensures c.chain_len-left_len.ensures c.chain_len-right_len.ensures c.mergeable.ensures ∙ c.if-not-mergeable.false in
-    let gone = without_here c.args.right c.args.at c.args.tree.now c.requires.stands.1.spans_are (right_from len c.requires.stands.0 c.args.left c.args.right c.args.at lower upper areas c.args.tree.now c.requires.stands.1 c.requires.below c.requires.above c.get-lower.ensures c.get-upper.ensures joins) in
-    let now = joined_now areas (area_of c.share.new.areas) (area_of c.take.new.areas) c.args.left c.args.right lower upper c.get-lower.ensures c.get-upper.ensures c.in_ok-share.ensures.areas c.take.ensures.areas in
+    let joins : do_join len lower upper ≡ true = test_is areas (family c.args.anons.now) (spans_of c.args.anons.now) c.args.left c.args.right lower upper
+    c.chain_len-left_len.result c.chain_len-right_len.result c.mergeable.result
+    c.requires.order c.get-lower.ensures c.get-upper.ensures c.chain_len-left_len.ensures c.chain_len-right_len.ensures c.mergeable.ensures
+    ∙ c.if-not-mergeable.false in
+    let gone = without_here c.args.right c.args.at c.args.tree.now c.requires.stands.1.spans_are
+    (right_from len c.requires.stands.0 c.args.left c.args.right c.args.at lower upper areas c.args.tree.now c.requires.stands.1 c.requires.below
+    c.requires.above c.get-lower.ensures c.get-upper.ensures joins) in
+    let now = joined_now areas (area_of c.share.new.areas) (area_of c.take.new.areas) c.args.left c.args.right lower upper c.get-lower.ensures
+    c.get-upper.ensures c.in_ok-share.ensures.areas c.take.ensures.areas in
     subst (λ (a : Area). IsSomeAnd (area_of c.take.new.areas c.args.left) (λ old. a ≡ with_bounds a.start a.end a.pgoff old)) (sym c.merge.ensures)
     (left_was len c.requires.stands.0 c.args.left c.args.right c.args.at lower upper areas c.args.tree.now
     c.requires.stands.1 c.requires.below c.requires.above c.get-lower.ensures c.get-upper.ensures joins
@@ -195,7 +258,8 @@ replace_both-requires-clause-was c =
 pub returns-clause-kin : goal.returns-clause-kin
 returns-clause-kin c =
     kin_then c.args.areas.now c.take.new.areas c.replace_both.new.areas c.args.anons.now c.take.new.anons c.replace_both.new.anons
-    (kin_then c.args.areas.now c.share.new.areas c.take.new.areas c.args.anons.now c.share.new.anons c.take.new.anons c.in_ok-share.ensures.kin c.take.ensures.kin) c.in_ok-replace_both.ensures.kin
+    (kin_then c.args.areas.now c.share.new.areas c.take.new.areas c.args.anons.now c.share.new.anons c.take.new.anons c.in_ok-share.ensures.kin
+    c.take.ensures.kin) c.in_ok-replace_both.ensures.kin
 
 pub returns-clause-number : goal.returns-clause-number
 returns-clause-number c =
@@ -203,11 +267,15 @@ returns-clause-number c =
     let lower = c.get-lower.result in
     let upper = c.get-upper.result in
     let len = lengths c.args.areas.now c.args.anons.now in
-    let joins : do_join len lower upper ≡ true = test_is areas (family c.args.anons.now) (spans_of c.args.anons.now) c.args.left c.args.right lower upper c.chain_len-left_len.result c.chain_len-right_len.result c.mergeable.result
-    c.requires.order c.get-lower.ensures c.get-upper.ensures c.chain_len-left_len.ensures c.chain_len-right_len.ensures c.mergeable.ensures ∙ c.if-not-mergeable.false in
+    let joins : do_join len lower upper ≡ true = test_is areas (family c.args.anons.now) (spans_of c.args.anons.now) c.args.left c.args.right lower upper
+    c.chain_len-left_len.result c.chain_len-right_len.result c.mergeable.result
+    c.requires.order c.get-lower.ensures c.get-upper.ensures c.chain_len-left_len.ensures c.chain_len-right_len.ensures c.mergeable.ensures
+    ∙ c.if-not-mergeable.false in
     λ page e. c.replace_both.ensures.number page
-    ∙ ap (λ (a : Area). cond (has_page a page) (Some c.args.left) (unless_area c.args.left (area_at (without_area c.args.right c.args.tree.now) page))) c.merge.ensures
-    ∙ rw (upper_goes len c.requires.stands.0 c.args.left c.args.right c.args.at lower upper areas c.args.tree.now c.requires.stands.1 c.requires.below c.requires.above c.get-lower.ensures c.get-upper.ensures joins page e) refl
+    ∙ ap (λ (a : Area). cond (has_page a page) (Some c.args.left) (unless_area c.args.left (area_at (without_area c.args.right c.args.tree.now) page)))
+    c.merge.ensures
+    ∙ rw (upper_goes len c.requires.stands.0 c.args.left c.args.right c.args.at lower upper areas c.args.tree.now c.requires.stands.1 c.requires.below
+    c.requires.above c.get-lower.ensures c.get-upper.ensures joins page e) refl
 
 pub returns-clause-others : goal.returns-clause-others
 returns-clause-others c =
@@ -215,10 +283,16 @@ returns-clause-others c =
     let lower = c.get-lower.result in
     let upper = c.get-upper.result in
     let len = lengths c.args.areas.now c.args.anons.now in
-    let joins : do_join len lower upper ≡ true = test_is areas (family c.args.anons.now) (spans_of c.args.anons.now) c.args.left c.args.right lower upper c.chain_len-left_len.result c.chain_len-right_len.result c.mergeable.result
-    c.requires.order c.get-lower.ensures c.get-upper.ensures c.chain_len-left_len.ensures c.chain_len-right_len.ensures c.mergeable.ensures ∙ c.if-not-mergeable.false in
-    let gone = without_here c.args.right c.args.at c.args.tree.now c.requires.stands.1.spans_are (right_from len c.requires.stands.0 c.args.left c.args.right c.args.at lower upper areas c.args.tree.now c.requires.stands.1 c.requires.below c.requires.above c.get-lower.ensures c.get-upper.ensures joins) in
+    let joins : do_join len lower upper ≡ true = test_is areas (family c.args.anons.now) (spans_of c.args.anons.now) c.args.left c.args.right lower upper
+    c.chain_len-left_len.result c.chain_len-right_len.result c.mergeable.result
+    c.requires.order c.get-lower.ensures c.get-upper.ensures c.chain_len-left_len.ensures c.chain_len-right_len.ensures c.mergeable.ensures
+    ∙ c.if-not-mergeable.false in
+    let gone = without_here c.args.right c.args.at c.args.tree.now c.requires.stands.1.spans_are
+    (right_from len c.requires.stands.0 c.args.left c.args.right c.args.at lower upper areas c.args.tree.now c.requires.stands.1 c.requires.below
+    c.requires.above c.get-lower.ensures c.get-upper.ensures joins) in
     λ page other apart e. c.replace_both.ensures.number page
-    ∙ ap (λ (a : Area). cond (has_page a page) (Some c.args.left) (unless_area c.args.left (area_at (without_area c.args.right c.args.tree.now) page))) c.merge.ensures
+    ∙ ap (λ (a : Area). cond (has_page a page) (Some c.args.left) (unless_area c.args.left (area_at (without_area c.args.right c.args.tree.now) page)))
+    c.merge.ensures
     ∙ ap (λ a. cond (has_page (join_of lower upper) page) (Some c.args.left) (unless_area c.args.left a)) (gone.pages page)
-    ∙ others_stay len c.requires.stands.0 c.args.left c.args.right c.args.at lower upper areas c.args.tree.now c.requires.stands.1 c.requires.below c.requires.above c.get-lower.ensures c.get-upper.ensures joins page other apart e
+    ∙ others_stay len c.requires.stands.0 c.args.left c.args.right c.args.at lower upper areas c.args.tree.now c.requires.stands.1 c.requires.below
+    c.requires.above c.get-lower.ensures c.get-upper.ensures joins page other apart e

@@ -23,17 +23,21 @@ join_unless-requires-2-clause-differ c = λ differs.
 pub returns-clause-stands : goal.returns-clause-stands
 returns-clause-stands c = λ p stands.
     let one = c.join_unless.ensures.stands p stands in
-    stays_trans p (area_of c.args.areas.now) (area_of c.join_unless.new.areas) (area_of c.join_unless-2.new.areas) c.join_unless.new.tree c.join_unless-2.new.tree one (c.join_unless-2.ensures.stands p one.areas)
+    stays_trans p (area_of c.args.areas.now) (area_of c.join_unless.new.areas) (area_of c.join_unless-2.new.areas) c.join_unless.new.tree
+    c.join_unless-2.new.tree one (c.join_unless-2.ensures.stands p one.areas)
 
 pub returns-clause-pages : goal.returns-clause-pages
 returns-clause-pages c = on_ok_weaker c.join_unless-2.result
-    (λ last. joined_later (lengths c.args.areas.now c.args.anons.now) (lengths c.join_unless.new.areas c.join_unless.new.anons) c.args.past (pages_by (area_of c.join_unless.new.areas) c.join_unless.new.tree) _
+    (λ last. joined_later (lengths c.args.areas.now c.args.anons.now) (lengths c.join_unless.new.areas c.join_unless.new.anons) c.args.past
+    (pages_by (area_of c.join_unless.new.areas) c.join_unless.new.tree) _
     (pages_by (area_of c.join_unless-2.new.areas) c.join_unless-2.new.tree)
-    (alike_after (area_of c.args.areas.now) (area_of c.join_unless.new.areas) (family c.args.anons.now) (family c.join_unless.new.anons) (spans_of c.args.anons.now) (spans_of c.join_unless.new.anons) c.join_unless.new.tree c.requires.order c.in_ok-join_unless.ensures.kin)
+    (alike_after (area_of c.args.areas.now) (area_of c.join_unless.new.areas) (family c.args.anons.now) (family c.join_unless.new.anons)
+    (spans_of c.args.anons.now) (spans_of c.join_unless.new.anons) c.join_unless.new.tree c.requires.order c.in_ok-join_unless.ensures.kin)
     c.in_ok-join_unless.ensures.pages last)
     c.join_unless-2.ensures.pages
 
 pub returns-clause-kin : goal.returns-clause-kin
 returns-clause-kin c = on_ok_weaker c.join_unless-2.result
-    (λ last. kin_then c.args.areas.now c.join_unless.new.areas c.join_unless-2.new.areas c.args.anons.now c.join_unless.new.anons c.join_unless-2.new.anons c.in_ok-join_unless.ensures.kin last)
+    (λ last. kin_then c.args.areas.now c.join_unless.new.areas c.join_unless-2.new.areas c.args.anons.now c.join_unless.new.anons c.join_unless-2.new.anons
+    c.in_ok-join_unless.ensures.kin last)
     c.join_unless-2.ensures.kin

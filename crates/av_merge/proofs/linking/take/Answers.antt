@@ -15,4 +15,5 @@ returns-clause-kin c =
     let spans = spans_of c.leave.new.anons in
     let left = c.leave.ensures.kin in
     keeps_trans old mid (area_of c.remove.new.self) (family c.args.anons.now) f f spans spans left
-    (keeps_bare mid (area_of c.remove.new.self) f spans c.args.number left.order None (ap own_of (c.leave.ensures.areas c.args.number) ∙ bare_now old c.args.number) refl (λ A e. absurd (none-some A e)) c.remove.ensures)
+    (keeps_bare mid (area_of c.remove.new.self) f spans c.args.number left.order None
+    (ap own_of (c.leave.ensures.areas c.args.number) ∙ bare_now old c.args.number) refl (λ A e. absurd (none-some A e)) c.remove.ensures)

@@ -11,6 +11,7 @@ returns-in-Ok-clause-pages c =
     let area = c.args.area in
     let r = c.requires in
     let e = c.in-Ok.ensures in
-    put_pages area.pid number (span number (first_of area) (past_of area)) area (area_of c.args.areas.now) (area_of c.add.new.self) c.args.tree.now c.insert.new.self
+    put_pages area.pid number (span number (first_of area) (past_of area)) area (area_of c.args.areas.now)
+    (area_of c.add.new.self) c.args.tree.now c.insert.new.self
     r.stands c.in_ok-number.ensures.unused (record { process = refl; whole = r.whole; from = refl; to = refl }) c.in_ok-number.ensures.added
     e.kept e.areas e.pages

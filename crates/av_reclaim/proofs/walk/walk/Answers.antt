@@ -34,7 +34,8 @@ walk_sorted-requires-clause-covered g c = let s = c.requires.steady in
 
 pub walk_sorted-requires-clause-count : goal.walk_sorted-requires-clause-count
 walk_sorted-requires-clause-count g c = let s = c.requires.steady in
-    subst (λ (n : ℕ). (keys : List Key) → AreItsEntries (reach_by c.args.mem.now c.by_number.result.now) c.args.frame keys → length keys ≤ n) (sym c.maps.ensures)
+    subst (λ (n : ℕ). (keys : List Key) → AreItsEntries (reach_by c.args.mem.now c.by_number.result.now) c.args.frame keys →
+    length keys ≤ n) (sym c.maps.ensures)
     (few c.args.mem.now s.0 s.1 c.args.frame)
 
 pub returns-clause-keys : goal.returns-clause-keys
@@ -50,7 +51,8 @@ pub returns-clause-below : goal.returns-clause-below
 returns-clause-below g c = let s = c.requires.steady in
     if_both c.walk_sorted.result (λ keys. AreItsEntries (reach_by c.args.mem.now c.by_number.result.now) c.args.frame keys.items) (λ keys. AreRising keys.items)
     (λ keys. AllByRecursion (λ (key : ℕ × ℕ). key.1 < top_page) keys.items)
-    (λ keys its rising. subst (AllByRecursion (λ (key : ℕ × ℕ). key.1 < top_page)) (sym (found c.args.mem.now s.0 s.1 c.args.frame keys.items its rising)) (below c.args.mem.now s.0 s.1 c.by_number.ensures.rising c.args.frame))
+    (λ keys its rising. subst (AllByRecursion (λ (key : ℕ × ℕ). key.1 < top_page)) (sym (found c.args.mem.now s.0 s.1 c.args.frame keys.items its rising))
+    (below c.args.mem.now s.0 s.1 c.by_number.ensures.rising c.args.frame))
     c.walk_sorted.ensures.entries c.walk_sorted.ensures.rising
 
 pub returns-clause-counted : goal.returns-clause-counted

@@ -10,15 +10,18 @@ loop-entry-init c = record { used = c.requires; rest = refl }
 
 pub release-requires-clause-in_range : goal.release-requires-clause-in_range
 release-requires-clause-in_range c =
-    (frame_in_use c.args.group.now c.loop-entry.entry-index (omega (arith, c.loop-entry-test.true, c.told-group)) (seen c.args.frames.now) (seen c.loop-entry.frames) c.loop-entry.invariant c.in-Here.frame c.in-Here.write c.in-Here.seen c.in-Here.is).0
+    (frame_in_use c.args.group.now c.loop-entry.entry-index (omega (arith, c.loop-entry-test.true, c.told-group)) (seen c.args.frames.now)
+    (seen c.loop-entry.frames) c.loop-entry.invariant c.in-Here.frame c.in-Here.write c.in-Here.seen c.in-Here.is).0
 
 pub release-requires-clause-named : goal.release-requires-clause-named
 release-requires-clause-named c =
-    (frame_in_use c.args.group.now c.loop-entry.entry-index (omega (arith, c.loop-entry-test.true, c.told-group)) (seen c.args.frames.now) (seen c.loop-entry.frames) c.loop-entry.invariant c.in-Here.frame c.in-Here.write c.in-Here.seen c.in-Here.is).1
+    (frame_in_use c.args.group.now c.loop-entry.entry-index (omega (arith, c.loop-entry-test.true, c.told-group)) (seen c.args.frames.now)
+    (seen c.loop-entry.frames) c.loop-entry.invariant c.in-Here.frame c.in-Here.write c.in-Here.seen c.in-Here.is).1
 
 pub release-requires-clause-not_free : goal.release-requires-clause-not_free
 release-requires-clause-not_free c =
-    (frame_in_use c.args.group.now c.loop-entry.entry-index (omega (arith, c.loop-entry-test.true, c.told-group)) (seen c.args.frames.now) (seen c.loop-entry.frames) c.loop-entry.invariant c.in-Here.frame c.in-Here.write c.in-Here.seen c.in-Here.is).2
+    (frame_in_use c.args.group.now c.loop-entry.entry-index (omega (arith, c.loop-entry-test.true, c.told-group)) (seen c.args.frames.now)
+    (seen c.loop-entry.frames) c.loop-entry.invariant c.in-Here.frame c.in-Here.write c.in-Here.seen c.in-Here.is).2
 
 pub loop-entry-preserved : goal.loop-entry-preserved
 loop-entry-preserved c =
@@ -28,7 +31,8 @@ loop-entry-preserved c =
     let now = seen c.loop-entry.frames in
     elim c.match-entry.branch [
       | in-Here w ↦ subst (λ s. AreLeft group (k + 1) old (seen s)) (sym w.frames-is)
-          (next_released group k (omega (arith, c.loop-entry-test.true, c.told-group)) old now c.loop-entry.invariant w.in-Here.frame w.in-Here.write w.in-Here.seen w.in-Here.is _ w.release.ensures)
+          (next_released group k (omega (arith, c.loop-entry-test.true, c.told-group)) old now c.loop-entry.invariant w.in-Here.frame w.in-Here.write
+          w.in-Here.seen w.in-Here.is _ w.release.ensures)
       | in_default w ↦ subst (λ s. AreLeft group (k + 1) old (seen s)) (sym w.frames-is)
           (next_other group k (omega (arith, c.loop-entry-test.true, c.told-group)) old now c.loop-entry.invariant _ refl w.in_default.not-Here)
     ]

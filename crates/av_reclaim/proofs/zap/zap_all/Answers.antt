@@ -35,7 +35,8 @@ unmap_each-requires c =
     let here : start ≤ page = omega (arith, div-add-mod' page 64) in
     let below = is.below in
     let long : length group ≡ 64 = omega (arith, c.group-group.type_inv) in
-    (whole_group c.args.process (entry_at old.tables) (parts_of old) now.spaces now.anons page_bound o.0 group (seen now.frames) start (omega (arith, long, here, below))
+    (whole_group c.args.process (entry_at old.tables) (parts_of old) now.spaces now.anons page_bound o.0 group (seen now.frames) start
+    (omega (arith, long, here, below))
     (λ i under. c.group-group.ensures i (omega (arith, under, long)) ∙ ap (λ t. entry_at t c.args.process (start + i)) v.tables)
     (skip_to c.args.process (entry_at old.tables) (parts_of old) now.spaces now.anons page_bound o.0 (seen now.frames) (c.loop-page.number * 64) start low
     (λ q above under. ap (λ t. entry_at t c.args.process q) (sym v.tables) ∙ is.least q above (omega (arith, under, here))) (v.zapping o.0 o.1))).0
@@ -61,11 +62,15 @@ loop-page-preserved c =
       within = omega (arith, here, below);
       tables = v.tables;
       zapping = λ first stands.
-          subst (λ n. IsZapping c.args.process (entry_at old.tables) (parts_of old) now.spaces now.anons page_bound first (seen c.unmap_each.new.frames) n) (let same : start + length group ≡ past = omega (arith, long) in same)
-          (subst (λ (s : Seen). IsZapping c.args.process (entry_at old.tables) (parts_of old) now.spaces now.anons page_bound first s (start + length group)) (sym gone)
-          (whole_group c.args.process (entry_at old.tables) (parts_of old) now.spaces now.anons page_bound first group (seen now.frames) start (omega (arith, long, here, below))
+          subst (λ n. IsZapping c.args.process (entry_at old.tables) (parts_of old) now.spaces now.anons page_bound first (seen c.unmap_each.new.frames) n)
+          (let same : start + length group ≡ past = omega (arith, long) in same)
+          (subst (λ (s : Seen). IsZapping c.args.process (entry_at old.tables) (parts_of old) now.spaces now.anons page_bound first s (start + length group))
+          (sym gone)
+          (whole_group c.args.process (entry_at old.tables) (parts_of old) now.spaces now.anons page_bound first group (seen now.frames) start
+          (omega (arith, long, here, below))
           (λ i under. c.group-group.ensures i (omega (arith, under, long)) ∙ ap (λ t. entry_at t c.args.process (start + i)) v.tables)
-          (skip_to c.args.process (entry_at old.tables) (parts_of old) now.spaces now.anons page_bound first (seen now.frames) (c.loop-page.number * 64) start low
+          (skip_to c.args.process (entry_at old.tables) (parts_of old) now.spaces now.anons page_bound first (seen now.frames)
+          (c.loop-page.number * 64) start low
           (λ q above under. ap (λ t. entry_at t c.args.process q) (sym v.tables) ∙ is.least q above (omega (arith, under, here))) (v.zapping first stands))).1);
       rest = rest_rest v.rest (record {
         processes = refl;

@@ -19,11 +19,13 @@ loop-page-preserved c =
     record {
       orderly = let o = i.orderly in let step = c.in-Some.ensures.zapped o.0 o.1 in (_, step.4);
       taking = λ first stands. let t = i.taking first stands in
-          taken_more (parts_of c.args.mem.now) (parts_of mid) (parts_of new) c.args.process c.args.from c.args.past c.loop-page.next page first t (c.in-Some.ensures.zapped t.ledger t.stands) c.in-Some.ensures.within.1 c.in-Some.ensures.rest.count;
+          taken_more (parts_of c.args.mem.now) (parts_of mid) (parts_of new) c.args.process c.args.from c.args.past c.loop-page.next page first t
+          (c.in-Some.ensures.zapped t.ledger t.stands) c.in-Some.ensures.within.1 c.in-Some.ensures.rest.count;
       rest = rest_rest i.rest c.in-Some.ensures.rest;
     }
 
 pub returns-clause-zapped : goal.returns-clause-zapped
 returns-clause-zapped c = λ first stands.
     let t = c.loop-page.invariant.taking first stands in
-    all_taken c.args.mem.now (parts_of c.loop-page.mem) c.zap_first.new.mem c.args.process c.args.from c.args.past c.loop-page.next first t (c.in_default.ensures.zapped t.ledger t.stands)
+    all_taken c.args.mem.now (parts_of c.loop-page.mem) c.zap_first.new.mem c.args.process c.args.from c.args.past c.loop-page.next first t
+    (c.in_default.ensures.zapped t.ledger t.stands)

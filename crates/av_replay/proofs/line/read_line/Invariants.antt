@@ -4,7 +4,8 @@ use Rattle.av_replay.proofs.line.read_line.Given as goal
 
 abbrev pub invariant-loop-size : goal.invariant-loop-size
 invariant-loop-size g l = record {
-  same : undone l.pending (streams (g.S.Source.view l.source) (g.K.Sink.view l.sink)) ≡ undone l.fn.pending (streams (g.S.Source.view l.fn.source) (g.K.Sink.view l.fn.sink));
+  same : undone l.pending (streams (g.S.Source.view l.source) (g.K.Sink.view l.sink)) ≡ undone l.fn.pending
+      (streams (g.S.Source.view l.fn.source) (g.K.Sink.view l.fn.sink));
   held : (g.K.Sink.view l.sink).held ≡ (g.K.Sink.view l.fn.sink).held;
   unfailed : AreUnfailed (streams (g.S.Source.view l.fn.source) (g.K.Sink.view l.fn.sink)) (streams (g.S.Source.view l.source) (g.K.Sink.view l.sink));
   in_step : AreInStep (streams (g.S.Source.view l.fn.source) (g.K.Sink.view l.fn.sink)) (streams (g.S.Source.view l.source) (g.K.Sink.view l.sink));

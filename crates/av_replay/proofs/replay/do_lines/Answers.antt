@@ -7,7 +7,12 @@ use Rattle.av_replay.proofs.replay.do_lines.Goals as goal
 
 pub loop-number-init : goal.loop-number-init
 loop-number-init g c = record {
-  so_far = (no_past (setting_of c.args.kernel.now.frames no_device), starts c.args.pending.now (streams (g.S.Source.view c.args.source.now) (g.K.Sink.view c.args.sink.now)) c.args.kernel.now c.requires.pending c.requires.start, refl);
+  so_far = (
+    no_past (setting_of c.args.kernel.now.frames no_device),
+    starts c.args.pending.now
+        (streams (g.S.Source.view c.args.source.now) (g.K.Sink.view c.args.sink.now)) c.args.kernel.now c.requires.pending c.requires.start,
+    refl,
+  );
   unfailed = record { source = refl; sink = refl };
   in_step = λ same. same;
   steps = omega (arith, c.requires.start.steps);
@@ -40,7 +45,8 @@ returns-in-Err-clause-headline g c =
 pub returns-in-Ok-true-has_more-clause-headline : goal.returns-in-Ok-true-has_more-clause-headline
 returns-in-Ok-true-has_more-clause-headline g c =
     let s = c.loop-number.invariant.so_far in
-    too_many _ _ _ _ _ _ _ _ s.1 (omega (arith, s.2)) c.in-Ok-true-has_more.ensures.reads (rw c.in-Ok-true-has_more.field-0-test at c.in-Ok-true-has_more.ensures.finished)
+    too_many _ _ _ _ _ _ _ _ s.1 (omega (arith, s.2)) c.in-Ok-true-has_more.ensures.reads
+    (rw c.in-Ok-true-has_more.field-0-test at c.in-Ok-true-has_more.ensures.finished)
 
 pub returns-in-Ok-false-has_more-clause-headline : goal.returns-in-Ok-false-has_more-clause-headline
 returns-in-Ok-false-has_more-clause-headline g c =
@@ -51,4 +57,5 @@ returns-in-Ok-false-has_more-clause-headline g c =
 pub returns-clause-headline : goal.returns-clause-headline
 returns-clause-headline g c =
     let s = c.loop-number.invariant.so_far in
-    rw c.status_of-in-Err-has_more.ensures (unfinished _ _ _ _ _ _ _ _ c.in-Err-has_more.error _ s.1 (omega (arith, s.2)) c.in-Err-has_more.ensures.reads c.in-Err-has_more.ensures.finished)
+    rw c.status_of-in-Err-has_more.ensures (unfinished _ _ _ _ _ _ _ _ c.in-Err-has_more.error _ s.1 (omega (arith, s.2)) c.in-Err-has_more.ensures.reads
+    c.in-Err-has_more.ensures.finished)

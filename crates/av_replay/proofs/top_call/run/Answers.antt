@@ -10,7 +10,12 @@ pub returns-in_default-new-clause-headline : goal.returns-in_default-new-clause-
 returns-in_default-new-clause-headline g c =
     let io = streams (g.S.Source.view c.args.source.now) (g.K.Sink.view c.args.sink.now) in
     let made = c.without_kernel-in_default-new in
-    λ _. (c.in-Some.frames, c.in-Some.ensures.found, subst (λ (s : Status). Headline c.in-Some.frames s io io made.result.kernel) (sym made.ensures.status) (nothing_done c.in-Some.frames io made.result.kernel))
+    λ _. (
+      c.in-Some.frames,
+      c.in-Some.ensures.found,
+      subst (λ (s : Status). Headline c.in-Some.frames s io io made.result.kernel) (sym made.ensures.status)
+          (nothing_done c.in-Some.frames io made.result.kernel),
+    )
 
 pub returns-in_default-replay : goal.returns-in_default-replay
 returns-in_default-replay g c =

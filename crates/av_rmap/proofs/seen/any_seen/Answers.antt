@@ -20,7 +20,8 @@ pub seen_in-requires : goal.seen_in-requires
 seen_in-requires g c =
     let view = g.K.Look.view c.args.look.now in
     let f = names_seen c.args.frame in
-    let t = turn view f c.args.home c.looks.after (c.in-Some.first, c.in-Some.area) c.requires.spanned c.next.ensures.ordered (sym c.next.ensures.first ∙ c.in-Some.is) in
+    let t = turn view f c.args.home c.looks.after (c.in-Some.first, c.in-Some.area) c.requires.spanned c.next.ensures.ordered
+    (sym c.next.ensures.first ∙ c.in-Some.is) in
     turn-holds view f c.args.home.1 c.looks.after (c.in-Some.first, c.in-Some.area) (view.spans c.args.home.0) t
 
 pub returns-then-seen_in-clause-seen : goal.returns-then-seen_in-clause-seen
@@ -31,14 +32,16 @@ returns-then-seen_in-clause-seen g c =
 pub returns-then-seen_in-clause-counted : goal.returns-then-seen_in-clause-counted
 returns-then-seen_in-clause-counted g c =
     let view = g.K.Look.view c.args.look.now in
-    let t = turn view (names_seen c.args.frame) c.args.home c.looks.after (c.in-Some.first, c.in-Some.area) c.requires.spanned c.next.ensures.ordered (sym c.next.ensures.first ∙ c.in-Some.is) in
+    let t = turn view (names_seen c.args.frame) c.args.home c.looks.after (c.in-Some.first, c.in-Some.area) c.requires.spanned c.next.ensures.ordered
+    (sym c.next.ensures.first ∙ c.in-Some.is) in
     let count = t.count in let kept = c.looks.invariant.counted in let step = c.seen_in.ensures.counted in
     omega (arith, count, kept, step)
 
 pub looks-smaller : goal.looks-smaller
 looks-smaller g c =
     let view = g.K.Look.view c.args.look.now in
-    let t = turn view (names_seen c.args.frame) c.args.home c.looks.after (c.in-Some.first, c.in-Some.area) c.requires.spanned c.next.ensures.ordered (sym c.next.ensures.first ∙ c.in-Some.is) in
+    let t = turn view (names_seen c.args.frame) c.args.home c.looks.after (c.in-Some.first, c.in-Some.area) c.requires.spanned c.next.ensures.ordered
+    (sym c.next.ensures.first ∙ c.in-Some.is) in
     let count = t.count in omega (arith, count)
 
 pub looks-preserved : goal.looks-preserved
@@ -46,7 +49,8 @@ looks-preserved g c =
     let view = g.K.Look.view c.args.look.now in
     let f = names_seen c.args.frame in
     let i = c.args.home.1 in
-    let t = turn view f c.args.home c.looks.after (c.in-Some.first, c.in-Some.area) c.requires.spanned c.next.ensures.ordered (sym c.next.ensures.first ∙ c.in-Some.is) in
+    let t = turn view f c.args.home c.looks.after (c.in-Some.first, c.in-Some.area) c.requires.spanned c.next.ensures.ordered
+    (sym c.next.ensures.first ∙ c.in-Some.is) in
     let none = unseen view c.args.frame i (view.areas c.in-Some.area) (sym c.seen_in.ensures.seen ∙ c.if-seen_in.false) in
     let count = t.count in let kept = c.looks.invariant.counted in let step = c.seen_in.ensures.counted in
     record {

@@ -26,7 +26,8 @@ clear_in-requires g c =
     let now = g.K.Look.view c.looks.look in
     let h = c.looks.invariant.cleared in
     let k : ℕ × ℕ = (c.in-Some.first, c.in-Some.area) in
-    let t = cleared-turn c.args.frame c.args.home before now _ c.looks.after k c.next.result c.requires.spanned h c.next.ensures.ordered c.next.ensures.first c.in-Some.is in
+    let t = cleared-turn c.args.frame c.args.home before now _ c.looks.after k c.next.result c.requires.spanned h c.next.ensures.ordered
+    c.next.ensures.first c.in-Some.is in
     subst (λ (v : View). IsSomeAnd (v.areas c.in-Some.area) (λ a. holds c.args.home.1 a ≡ true)) (sym h.rest)
     (turn-holds before (names_frame c.args.frame) c.args.home.1 c.looks.after k (before.spans c.args.home.0) t)
 
@@ -34,7 +35,8 @@ pub looks-smaller : goal.looks-smaller
 looks-smaller g c =
     let before = g.K.Look.view c.args.look.now in
     let now = g.K.Look.view c.looks.look in
-    let t = cleared-turn c.args.frame c.args.home before now _ c.looks.after (c.in-Some.first, c.in-Some.area) c.next.result c.requires.spanned c.looks.invariant.cleared c.next.ensures.ordered c.next.ensures.first c.in-Some.is in
+    let t = cleared-turn c.args.frame c.args.home before now _ c.looks.after (c.in-Some.first, c.in-Some.area) c.next.result c.requires.spanned
+    c.looks.invariant.cleared c.next.ensures.ordered c.next.ensures.first c.in-Some.is in
     let count = t.count in omega (arith, count)
 
 pub looks-preserved : goal.looks-preserved
@@ -42,7 +44,8 @@ looks-preserved g c =
     let before = g.K.Look.view c.args.look.now in
     let now = g.K.Look.view c.looks.look in
     let h = c.looks.invariant.cleared in
-    let t = cleared-turn c.args.frame c.args.home before now _ c.looks.after (c.in-Some.first, c.in-Some.area) c.next.result c.requires.spanned h c.next.ensures.ordered c.next.ensures.first c.in-Some.is in
+    let t = cleared-turn c.args.frame c.args.home before now _ c.looks.after (c.in-Some.first, c.in-Some.area) c.next.result c.requires.spanned h
+    c.next.ensures.ordered c.next.ensures.first c.in-Some.is in
     let count = t.count in let kept = c.looks.invariant.counted in let step = c.clear_in.ensures.counted in
     record {
       cleared = one-cleared c.args.frame c.args.home.1 before now (g.K.Look.view c.clear_in.new.look) _ _ c.in-Some.area h t.walk c.clear_in.ensures.cleared;
@@ -55,11 +58,13 @@ returns-clause-cleared g c =
     let before = g.K.Look.view c.args.look.now in
     let now = g.K.Look.view c.looks.look in
     let h = c.looks.invariant.cleared in
-    all-cleared c.args.frame before now _ h (cleared-last c.args.frame c.args.home before now _ c.looks.after c.next.result c.requires.spanned h c.next.ensures.first c.in_default.is).0
+    all-cleared c.args.frame before now _ h (cleared-last c.args.frame c.args.home before now _ c.looks.after c.next.result c.requires.spanned h
+    c.next.ensures.first c.in_default.is).0
 
 pub returns-clause-counted : goal.returns-clause-counted
 returns-clause-counted g c =
     let before = g.K.Look.view c.args.look.now in
     let now = g.K.Look.view c.looks.look in
-    let none = (cleared-last c.args.frame c.args.home before now _ c.looks.after c.next.result c.requires.spanned c.looks.invariant.cleared c.next.ensures.first c.in_default.is).1 in
+    let none = (cleared-last c.args.frame c.args.home before now _ c.looks.after c.next.result c.requires.spanned c.looks.invariant.cleared
+    c.next.ensures.first c.in_default.is).1 in
     let kept = c.looks.invariant.counted in omega (arith, none, kept)

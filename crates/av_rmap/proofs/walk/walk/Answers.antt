@@ -43,13 +43,15 @@ pub found-requires : goal.found-requires
 found-requires g c =
     let view = g.K.Look.view c.args.look.now in
     let f = names_frame c.args.frame in
-    let t = turn view f c.args.home c.looks.after (c.in-Some.first, c.in-Some.area) c.requires.spanned c.next.ensures.ordered (sym c.next.ensures.first ∙ c.in-Some.is) in
+    let t = turn view f c.args.home c.looks.after (c.in-Some.first, c.in-Some.area) c.requires.spanned c.next.ensures.ordered
+    (sym c.next.ensures.first ∙ c.in-Some.is) in
     turn-holds view f c.args.home.1 c.looks.after (c.in-Some.first, c.in-Some.area) (view.spans c.args.home.0) t
 
 pub push_reserved-requires : goal.push_reserved-requires
 push_reserved-requires g c =
     let view = g.K.Look.view c.args.look.now in
-    let t = turn view (names_frame c.args.frame) c.args.home c.looks.after (c.in-Some.first, c.in-Some.area) c.requires.spanned c.next.ensures.ordered (sym c.next.ensures.first ∙ c.in-Some.is) in
+    let t = turn view (names_frame c.args.frame) c.args.home c.looks.after (c.in-Some.first, c.in-Some.area) c.requires.spanned c.next.ensures.ordered
+    (sym c.next.ensures.first ∙ c.in-Some.is) in
     let more = room_with _ _ _ c.in-Some-found.key t.walk (ap list_of (sym c.in-Some-found.is) ∙ c.found.ensures.found) in
     let room = c.looks.invariant.room in
     omega (arith, more, room)
@@ -57,25 +59,29 @@ push_reserved-requires g c =
 pub looks-smaller-in-Some-found : goal.looks-smaller-in-Some-found
 looks-smaller-in-Some-found g c =
     let view = g.K.Look.view c.args.look.now in
-    let t = turn view (names_frame c.args.frame) c.args.home c.looks.after (c.in-Some.first, c.in-Some.area) c.requires.spanned c.next.ensures.ordered (sym c.next.ensures.first ∙ c.in-Some.is) in
+    let t = turn view (names_frame c.args.frame) c.args.home c.looks.after (c.in-Some.first, c.in-Some.area) c.requires.spanned c.next.ensures.ordered
+    (sym c.next.ensures.first ∙ c.in-Some.is) in
     let count = t.count in omega (arith, count)
 
 pub looks-smaller : goal.looks-smaller
 looks-smaller g c =
     let view = g.K.Look.view c.args.look.now in
-    let t = turn view (names_frame c.args.frame) c.args.home c.looks.after (c.in-Some.first, c.in-Some.area) c.requires.spanned c.next.ensures.ordered (sym c.next.ensures.first ∙ c.in-Some.is) in
+    let t = turn view (names_frame c.args.frame) c.args.home c.looks.after (c.in-Some.first, c.in-Some.area) c.requires.spanned c.next.ensures.ordered
+    (sym c.next.ensures.first ∙ c.in-Some.is) in
     let count = t.count in omega (arith, count)
 
 pub looks-preserved-in-Some-found : goal.looks-preserved-in-Some-found
 looks-preserved-in-Some-found g c =
     let view = g.K.Look.view c.args.look.now in
-    let t = turn view (names_frame c.args.frame) c.args.home c.looks.after (c.in-Some.first, c.in-Some.area) c.requires.spanned c.next.ensures.ordered (sym c.next.ensures.first ∙ c.in-Some.is) in
+    let t = turn view (names_frame c.args.frame) c.args.home c.looks.after (c.in-Some.first, c.in-Some.area) c.requires.spanned c.next.ensures.ordered
+    (sym c.next.ensures.first ∙ c.in-Some.is) in
     let one = ap list_of (sym c.in-Some-found.is) ∙ c.found.ensures.found in
     let more = room_with _ _ _ c.in-Some-found.key t.walk one in
     let count = t.count in let room = c.looks.invariant.room in let kept = c.looks.invariant.counted in
     let step = c.found.ensures.counted in let len = c.push_reserved.ensures.len in let cap = c.push_reserved.ensures.capacity in
     record {
-      found = turn_with c.looks.into.items c.push_reserved.new.self.items _ _ _ _ c.in-Some-found.key c.looks.invariant.found t.walk one c.push_reserved.ensures.items;
+      found = turn_with c.looks.into.items c.push_reserved.new.self.items _ _ _ _ c.in-Some-found.key c.looks.invariant.found t.walk
+          one c.push_reserved.ensures.items;
       room = omega (arith, more, room, len, cap);
       counted = omega (arith, count, kept, step);
     }
@@ -83,7 +89,8 @@ looks-preserved-in-Some-found g c =
 pub looks-preserved : goal.looks-preserved
 looks-preserved g c =
     let view = g.K.Look.view c.args.look.now in
-    let t = turn view (names_frame c.args.frame) c.args.home c.looks.after (c.in-Some.first, c.in-Some.area) c.requires.spanned c.next.ensures.ordered (sym c.next.ensures.first ∙ c.in-Some.is) in
+    let t = turn view (names_frame c.args.frame) c.args.home c.looks.after (c.in-Some.first, c.in-Some.area) c.requires.spanned c.next.ensures.ordered
+    (sym c.next.ensures.first ∙ c.in-Some.is) in
     let none = ap list_of (sym c.in_default-found.is) ∙ c.found.ensures.found in
     let less = room_without _ _ _ t.walk none in
     let count = t.count in let room = c.looks.invariant.room in let kept = c.looks.invariant.counted in let step = c.found.ensures.counted in

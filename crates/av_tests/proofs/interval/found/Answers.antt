@@ -10,10 +10,12 @@ use Rattle.av_interval.proofs.SpansLemmas.{all_with}
 use Rattle.av_interval.proofs.EntriesLemmas.{there_with, there_new, there_without}
 use Rattle.av_tests.proofs.interval.found.Goals as goal
 
-there_next : (i j : ℕ) (old : List Span) → ((j : ℕ) → j < i → IsSome (entry_at key (key_of (10 * j) j) old)) → j < i + 1 → IsSome (entry_at key (key_of (10 * j) j) (with_entry key (triple (10 * i) (10 * i + 4) i) old))
+there_next : (i j : ℕ) (old : List Span) → ((j : ℕ) → j < i → IsSome (entry_at key (key_of (10 * j) j) old)) → j < i + 1 →
+    IsSome (entry_at key (key_of (10 * j) j) (with_entry key (triple (10 * i) (10 * i + 4) i) old))
 there_next i j old f h = elim (cases_lt j i) [
   | inl k ↦ there_with (key_of (10 * j) j) (triple (10 * i) (10 * i + 4) i) old (f j k)
-  | inr k ↦ let e : i ≡ j = omega arith in subst (λ m. IsSome (entry_at key (key_of (10 * m) m) (with_entry key (triple (10 * i) (10 * i + 4) i) old))) e (there_new (triple (10 * i) (10 * i + 4) i) old)
+  | inr k ↦ let e : i ≡ j = omega arith in subst (λ m. IsSome (entry_at key (key_of (10 * m) m) (with_entry key (triple (10 * i) (10 * i + 4) i) old))) e
+      (there_new (triple (10 * i) (10 * i + 4) i) old)
 ]
 
 other_key : (i j : ℕ) → 2 * (i + 1) ≤ j → key_of (20 * i) (2 * i) ≡ key_of (10 * j) j → ⊥
@@ -27,9 +29,12 @@ loop-i-preserved g c =
     let x : Span = triple (10 * i) (10 * i + 4) i in
     let e : triples c.add.new.self 7 ≡ with_entry key x old = c.in_ok-add.ensures.spans 7 in
     record {
-      below = subst (AllOf (λ y. y.area < i + 1)) (sym e) (all_with (λ y. y.area < i + 1) x old (omega arith) (AllOf-map (λ (y : Span). y.area < i) (λ y. y.area < i + 1) (λ y h. omega arith) old c.loop-i.invariant.below));
+      below = subst (AllOf (λ y. y.area < i + 1)) (sym e) (all_with (λ y. y.area < i + 1) x old (omega arith)
+          (AllOf-map (λ (y : Span). y.area < i) (λ y. y.area < i + 1) (λ y h. omega arith) old c.loop-i.invariant.below));
       there = λ j h. subst (λ xs. IsSome (entry_at key (key_of (10 * j) j) xs)) (sym e) (there_next i j old c.loop-i.invariant.there h);
     }
 
 pub loop-i-2-preserved : goal.loop-i-2-preserved
-loop-i-2-preserved g c = λ j h k. subst (λ xs. IsSome (entry_at key (key_of (10 * j) j) xs)) (sym (c.remove.ensures 7)) (there_without (key_of (10 * j) j) (key_of (20 * c.loop-i-2.i) (2 * c.loop-i-2.i)) (triples c.loop-i-2.spans 7) (other_key c.loop-i-2.i j h) (c.loop-i-2.invariant j (omega arith) k))
+loop-i-2-preserved g c = λ j h k. subst (λ xs. IsSome (entry_at key (key_of (10 * j) j) xs)) (sym (c.remove.ensures 7))
+    (there_without (key_of (10 * j) j) (key_of (20 * c.loop-i-2.i) (2 * c.loop-i-2.i)) (triples c.loop-i-2.spans 7) (other_key c.loop-i-2.i j h)
+    (c.loop-i-2.invariant j (omega arith) k))

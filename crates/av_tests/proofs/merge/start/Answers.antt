@@ -7,11 +7,13 @@ use Rattle.av_anon.specs.Order.{IsInOrder}
 use Rattle.av_anon.specs.Spans.{spans_of}
 use Rattle.av_tests.proofs.merge.start.Goals as goal
 
-nothing : (areas : ℕ → Option Area) (f : Family) (spans : ℕ → List Span) → ((n : ℕ) → areas n ≡ None) → f ≡ nobody → ((v : ℕ) → spans v ≡ []) → IsInOrder (λ _. None) nobody (λ _. []) → IsInOrder areas f spans
+nothing : (areas : ℕ → Option Area) (f : Family) (spans : ℕ → List Span) → ((n : ℕ) → areas n ≡ None) → f ≡ nobody → ((v : ℕ) → spans v ≡ []) →
+    IsInOrder (λ _. None) nobody (λ _. []) → IsInOrder areas f spans
 nothing areas f spans none is empty o =
     subst (λ (a : ℕ → Option Area). IsInOrder a f spans) (λ i n. sym (none n) i)
     (subst (λ (g : Family). IsInOrder (λ _. None) g spans) (sym is)
     (subst (λ (s : ℕ → List Span). IsInOrder (λ _. None) nobody s) (λ i v. sym (empty v) i) o))
 
 pub returns-clause-order : goal.returns-clause-order
-returns-clause-order c = nothing (area_of c.new.result) (family c.new-3.result) (spans_of c.new-3.result) c.new.ensures c.new-3.ensures.family c.new-3.ensures.spans c.nobody_is_in_order.ensures
+returns-clause-order c = nothing (area_of c.new.result) (family c.new-3.result) (spans_of c.new-3.result) c.new.ensures c.new-3.ensures.family
+    c.new-3.ensures.spans c.nobody_is_in_order.ensures

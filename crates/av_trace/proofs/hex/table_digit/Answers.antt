@@ -12,4 +12,5 @@ table_is = refl
 
 pub returns : goal.returns
 returns c =
-    ap (λ t. get_or t c.args.value 0) table_is ∙ get_or-map-range_with_len (digit_glyph false) 0 16 c.args.value c.args.value 0 (omega (arith, c.requires)) (omega arith)
+    ap (λ t. get_or t c.args.value 0) table_is ∙ get_or-map-range_with_len (digit_glyph false) 0 16 c.args.value c.args.value 0
+    (omega (arith, c.requires)) (omega arith)

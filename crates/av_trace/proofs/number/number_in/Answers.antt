@@ -9,7 +9,8 @@ returns-in_err-n-clause-none c =
 
 pub returns-then-n-high-clause-found : goal.returns-then-n-high-clause-found
 returns-then-n-high-clause-found c =
-    in-found c.args.low c.args.high c.in_ok-n.n c.args.word.now c.in_ok-n.rest.now c.in_ok-n.ensures (sym c.is_empty.ensures ∙ c.if-is_empty.true) c.if-low-n.true c.if-n-high.true
+    in-found c.args.low c.args.high c.in_ok-n.n c.args.word.now c.in_ok-n.rest.now c.in_ok-n.ensures (sym c.is_empty.ensures ∙ c.if-is_empty.true)
+    c.if-low-n.true c.if-n-high.true
 
 pub returns-else-is_empty-clause-none : goal.returns-else-is_empty-clause-none
 returns-else-is_empty-clause-none c = λ n within is.

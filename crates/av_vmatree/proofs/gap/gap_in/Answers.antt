@@ -10,7 +10,8 @@ returns c =
     let a = c.args in
     let xs = a.spans.now in
     let e = ap (λ d. gap_of a.pages c.down.low c.down.high d) c.in_default-parts.ensures.parts in
-    gap_by_pages a.pages xs _ c.requires.some c.requires.apart (subst (IsGapOf a.pages low_page top_page xs) (sym c.down.invariant ∙ e ∙ sym c.last_start-2.ensures) (gap_is a.pages low_page top_page xs c.requires.some c.requires.apart c.requires.within))
+    gap_by_pages a.pages xs _ c.requires.some c.requires.apart (subst (IsGapOf a.pages low_page top_page xs)
+    (sym c.down.invariant ∙ e ∙ sym c.last_start-2.ensures) (gap_is a.pages low_page top_page xs c.requires.some c.requires.apart c.requires.within))
 
 pub returns-then-saturating_sub-pages : goal.returns-then-saturating_sub-pages
 returns-then-saturating_sub-pages c =
@@ -20,7 +21,8 @@ returns-then-saturating_sub-pages c =
     let sum : Between s.from s.to s.widest ≡ row_of xs = s.ensures ∙ ap row_of c.part-part.ensures in
     let low : top_page - s.to < a.pages = subst (λ n. n < a.pages) c.saturating_sub.ensures c.if-saturating_sub-pages.true in
     let is = gap_below a.pages low_page top_page s.from s.to s.widest xs c.requires.some sum c.if-widest-pages.true low in
-    gap_by_pages a.pages xs _ c.requires.some c.requires.apart (subst (IsGapOf a.pages low_page top_page xs) (sym is ∙ sym c.last_start.ensures) (gap_is a.pages low_page top_page xs c.requires.some c.requires.apart c.requires.within))
+    gap_by_pages a.pages xs _ c.requires.some c.requires.apart (subst (IsGapOf a.pages low_page top_page xs) (sym is ∙ sym c.last_start.ensures)
+    (gap_is a.pages low_page top_page xs c.requires.some c.requires.apart c.requires.within))
 
 pub down-preserved-then-is_room : goal.down-preserved-then-is_room
 down-preserved-then-is_room c =

@@ -14,12 +14,14 @@ only bytes xs a word n p is = rw (one xs a n p, is) refl
 
 pub returns-in-len1-clause-some : goal.returns-in-len1-clause-some
 returns-in-len1-clause-some c =
-    let word : string_bytes c.word-item.result ≡ codes "--help" = sym c.as_str.ensures.value ∙ (bytes_eq-Decides c.as_str.result.now (codes "--help")).0 (sym c.eq.ensures ∙ c.if-eq.true) in
+    let word : string_bytes c.word-item.result ≡ codes "--help" = sym c.as_str.ensures.value ∙ (bytes_eq-Decides c.as_str.result.now (codes "--help")).0
+    (sym c.eq.ensures ∙ c.if-eq.true) in
     inl (only string_bytes c.args.words.now c.word-item.result (codes "--help") (omega arith) c.word-item.is word, refl)
 
 pub returns-in-len1-2-clause-some : goal.returns-in-len1-2-clause-some
 returns-in-len1-2-clause-some c =
     let item = c.word-item-then-words-lt2 in
     let text = c.as_str-then-words-lt2 in
-    let word : string_bytes item.result ≡ codes "--version" = sym text.ensures.value ∙ (bytes_eq-Decides text.result.now (codes "--version")).0 (sym c.eq-then-words-lt2.ensures ∙ c.if-eq-2.true) in
+    let word : string_bytes item.result ≡ codes "--version" = sym text.ensures.value ∙ (bytes_eq-Decides text.result.now (codes "--version")).0
+    (sym c.eq-then-words-lt2.ensures ∙ c.if-eq-2.true) in
     inr (only string_bytes c.args.words.now item.result (codes "--version") (omega arith) item.is word, refl)

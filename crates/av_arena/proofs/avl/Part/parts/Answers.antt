@@ -8,10 +8,12 @@ pub invariant_of-before : goal.invariant_of-before
 invariant_of-before g c =
     let m = g.T.Entry in
     let s = store_of c.self.inside.arena.now in
-    left_part m.key m.unit m.op m.of g.met.T.Entry.laws s c.in-Some.tree c.open-left.result (subst (IsPart m.key m.unit m.op m.of s) c.in-Some.is c.self.invariant) c.open-left.ensures
+    left_part m.key m.unit m.op m.of g.met.T.Entry.laws s c.in-Some.tree c.open-left.result
+    (subst (IsPart m.key m.unit m.op m.of s) c.in-Some.is c.self.invariant) c.open-left.ensures
 
 pub invariant_of-after : goal.invariant_of-after
 invariant_of-after g c =
     let m = g.T.Entry in
     let s = store_of c.self.inside.arena.now in
-    right_part m.key m.unit m.op m.of g.met.T.Entry.laws s c.in-Some.tree c.open-left.result (subst (IsPart m.key m.unit m.op m.of s) c.in-Some.is c.self.invariant) c.open-left.ensures
+    right_part m.key m.unit m.op m.of g.met.T.Entry.laws s c.in-Some.tree c.open-left.result
+    (subst (IsPart m.key m.unit m.op m.of s) c.in-Some.is c.self.invariant) c.open-left.ensures

@@ -7,7 +7,12 @@ pub returns : goal.returns
 returns c =
     let s = c.self.inside in
     let few : length s.filled.items ≤ s.count = omega (arith, c.self.invariant.0, s.filled.ok.0) in
-    let below : c.args.frame < s.count = omega (arith, length_pages s.filled.items s.count few, subst (λ (v : List (List ℕ)). c.args.frame < length v) (sym c.self.view_is) c.requires) in
+    let below : c.args.frame < s.count = omega (
+      arith,
+      length_pages s.filled.items s.count few,
+      subst (λ (v : List (List ℕ)). c.args.frame < length v)
+          (sym c.self.view_is) c.requires,
+    ) in
     ap (λ l. all_pages (slice_set l c.args.frame c.args.page) s.count) c.fill.ensures.items
     ∙ page_set s.filled.items c.args.frame s.count c.args.page below
     ∙ ap (λ v. slice_set v c.args.frame c.args.page) c.self.view_is

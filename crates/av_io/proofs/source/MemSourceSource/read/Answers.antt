@@ -7,7 +7,8 @@ use Rattle.av_io.proofs.source.MemSourceSource.read.Goals as goal
 read_front : (at n : ℕ) (bytes x rest : List ℕ) → x ≡ take n (drop at bytes) → length x ≡ n → drop at bytes ≡ take n (x ++ rest) ++ drop (at + n) bytes
 read_front at n bytes x rest e len =
     let parts = take-append-drop n (drop at bytes) in
-    sym parts ∙ ap (λ (t : List ℕ). t ++ drop n (drop at bytes)) (sym e ∙ sym (take_at x rest n len)) ∙ ap (λ (t : List ℕ). take n (x ++ rest) ++ t) (drop-drop n at bytes)
+    sym parts ∙ ap (λ (t : List ℕ). t ++ drop n (drop at bytes)) (sym e ∙ sym (take_at x rest n len))
+    ∙ ap (λ (t : List ℕ). take n (x ++ rest) ++ t) (drop-drop n at bytes)
 
 pub returns-then-not-is_empty-clause-ok : goal.returns-then-not-is_empty-clause-ok
 returns-then-not-is_empty-clause-ok c =
@@ -15,7 +16,8 @@ returns-then-not-is_empty-clause-ok c =
     let n = c.min-count.result in
     let size : at + n - at ≡ n = omega arith in
     let within : n ≤ length c.args.into.now = omega arith in
-    let copied = c.copy_from_slice.ensures.after ∙ ap (λ (k : ℕ). take k (drop at c.deref.result.now)) size ∙ ap (λ (l : List ℕ). take n (drop at l)) c.deref.ensures.value in
+    let copied = c.copy_from_slice.ensures.after ∙ ap (λ (k : ℕ). take k (drop at c.deref.result.now)) size
+    ∙ ap (λ (l : List ℕ). take n (drop at l)) c.deref.ensures.value in
     let len = c.copy_from_slice.ensures.len ∙ length-take-le n c.args.into.now within in
     record {
       within = grind (arith, common_steps);

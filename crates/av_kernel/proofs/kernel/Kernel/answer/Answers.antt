@@ -13,12 +13,14 @@ use Rattle.av_kernel.proofs.TallyCounts.{counted-few, few-enough}
 use Rattle.av_kernel.proofs.kernel.Kernel.answer.Goals as goal
 
 pub count-requires : goal.count-requires
-count-requires c = few-enough c.self.inside.tally c.self.inside.steps (2 ^ 24) (let few = subst (λ (k : Machine). k.steps < 2 ^ 24) (sym c.self.view_is) c.requires in omega (arith, few)) c.self.invariant.few
+count-requires c = few-enough c.self.inside.tally c.self.inside.steps (2 ^ 24)
+    (let few = subst (λ (k : Machine). k.steps < 2 ^ 24) (sym c.self.view_is) c.requires in omega (arith, few)) c.self.invariant.few
 
 pub invariant_of-self : goal.invariant_of-self
 invariant_of-self c =
     let steady = c.self.invariant.steady c.if-self.false in record {
-      few = subst (IsAtMost (c.self.inside.steps + 1)) (sym c.count.ensures) (counted-few c.perform.new.reply.answer c.self.inside.tally c.self.inside.steps c.self.invariant.few);
+      few = subst (IsAtMost (c.self.inside.steps + 1)) (sym c.count.ensures)
+          (counted-few c.perform.new.reply.answer c.self.inside.tally c.self.inside.steps c.self.invariant.few);
       steady = λ _. let after = c.in-Ok.ensures.step steady.0 steady.1 in (after.next, after.keeps);
     }
 
@@ -31,7 +33,8 @@ returns-in-Ok-clause-stands c = λ s stands.
       step = subst (λ (k : Machine). IsStep (setting k.frames) s c.args.command.now c.perform.new.reply after.next) c.self.view_is after.step;
       same = record { sizes = refl; first = refl; faults = omega arith };
       stands = record { stands = after.keeps.stands; tables = after.keeps.tables; anons = after.keeps.anons };
-      faults = none_rose c.perform.new.reply (no-causes (setting (count c.self.inside.mem)) s.world s.ledger c.args.command.now c.perform.new.reply after.step.events (λ k. refl)
+      faults = none_rose c.perform.new.reply (no-causes (setting (count c.self.inside.mem)) s.world s.ledger c.args.command.now
+          c.perform.new.reply after.step.events (λ k. refl)
           keeps.stands.sound after.step.legal);
     }
   where

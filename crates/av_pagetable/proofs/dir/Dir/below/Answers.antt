@@ -11,7 +11,13 @@ pub overflow_add-total : goal.overflow_add-total
 overflow_add-total g c =
     let d = c.self.inside in
     let C = g.C.Level in
-    let small : c.loop-place.place ≤ 512 = omega (arith, c.loop-place-test.true, c.len-place-end.ensures, d.parts.ok.0, few C.at C.span d.parts.items c.self.invariant) in
+    let small : c.loop-place.place ≤ 512 = omega (
+      arith,
+      c.loop-place-test.true,
+      c.len-place-end.ensures,
+      d.parts.ok.0,
+      few C.at C.span d.parts.items c.self.invariant,
+    ) in
     let total = few_some c.loop-place.place c.loop-place.total C.span small c.requires.fits c.loop-place.invariant.few in
     omega (arith, total, c.held-total.ensures.few, c.requires.fits)
 
@@ -33,10 +39,12 @@ loop-place-preserved g c =
     let is : p ≡ get_or d.parts.items j p = c.index.ensures in
     let adds = next_adds C.at C.span d.parts.items j p c.self.invariant c.span-span.ensures.some under is in
     let some : HasSome C.span (C.at p.1) = subst (λ part. HasSome C.span (C.at part.1)) (sym is) (c.self.invariant.full j p under) in
-    let before = subst (λ v. AreHeld (entries C.at C.span (take j v)) (C.span * 512) C.own c.loop-place.total) (sym c.self.view_is) c.loop-place.invariant.held in
+    let before = subst (λ v. AreHeld (entries C.at C.span (take j v)) (C.span * 512) C.own c.loop-place.total)
+    (sym c.self.view_is) c.loop-place.invariant.held in
     record {
       held = subst (λ v. AreHeld (entries C.at C.span (take (j + 1) v)) (C.span * 512) C.own (c.loop-place.total + c.held-total.result)) c.self.view_is
-          (joined_all (entries C.at C.span (take j d.parts.items)) (entries C.at C.span (take (j + 1) d.parts.items)) (C.at p.1) C.span (C.span * 512) p.0 C.own c.held-total.result c.loop-place.total adds c.span-span.ensures.whole (c.held-total.ensures.counts some) before);
+          (joined_all (entries C.at C.span (take j d.parts.items)) (entries C.at C.span (take (j + 1) d.parts.items)) (C.at p.1) C.span (C.span * 512) p.0 C.own
+          c.held-total.result c.loop-place.total adds c.span-span.ensures.whole (c.held-total.ensures.counts some) before);
       few = omega (arith, c.loop-place.invariant.few, c.held-total.ensures.few);
     }
 
@@ -46,8 +54,16 @@ returns g c =
     let C = g.C.Level in
     let j = c.loop-place.place in
     let all : length d.parts.items ≤ j = omega (arith, c.loop-place-test.false, c.loop-place.auto.place-end, c.len-place-end.ensures, d.parts.ok.0) in
-    let small : j ≤ 512 = omega (arith, c.loop-place-test.false, c.loop-place.auto.place-end, c.len-place-end.ensures, d.parts.ok.0, few C.at C.span d.parts.items c.self.invariant) in
+    let small : j ≤ 512 = omega (
+      arith,
+      c.loop-place-test.false,
+      c.loop-place.auto.place-end,
+      c.len-place-end.ensures,
+      d.parts.ok.0,
+      few C.at C.span d.parts.items c.self.invariant,
+    ) in
     record {
       few = few_all j c.loop-place.total C.span c.span-span.ensures.some small c.loop-place.invariant.few;
-      counts = subst (λ v. AreHeld (entries C.at C.span v) (C.span * 512) C.own c.loop-place.total) (take_all j c.args.self.now (rw (← c.self.view_is) all)) c.loop-place.invariant.held;
+      counts = subst (λ v. AreHeld (entries C.at C.span v) (C.span * 512) C.own c.loop-place.total) (take_all j c.args.self.now (rw (← c.self.view_is) all))
+          c.loop-place.invariant.held;
     }

@@ -13,7 +13,8 @@ returns-then-from-number-2 g c =
     let len = c.len.ensures in
     let same = c.self.inside.parts.ok.0 in
     let here : p.0 ≡ c.args.number = sym c.from-then-reach-len.ensures ∙ c.if-from-number-2.true in
-    part_there C.at C.span parts c.self.invariant _ p (omega (arith, within, len, same)) c.index-part.ensures c.args.number here ∙ ap (λ v. part_of v c.args.number) c.self.view_is
+    part_there C.at C.span parts c.self.invariant _ p (omega (arith, within, len, same)) c.index-part.ensures c.args.number here
+    ∙ ap (λ v. part_of v c.args.number) c.self.view_is
 
 pub returns-in-Ok : goal.returns-in-Ok
 returns-in-Ok g c =

@@ -8,7 +8,12 @@ pub returns-then-number-first : goal.returns-then-number-first
 returns-then-number-first g c =
     let parts = c.self.inside.parts.items in
     let less : c.args.number < c.index.result.now.0 = subst (λ n. c.args.number < n) c.from-first.ensures c.if-number-first.true in
-    rw (← c.self.view_is) (omega arith, (λ k d low high. absurd (omega (arith, low, high))), before_first parts c.args.number c.index.result.now c.self.invariant.rising c.index.ensures less)
+    rw (← c.self.view_is) (
+      omega arith,
+      (λ k d low high. absurd (omega (arith, low, high))),
+      before_first parts c.args.number c.index.result.now
+          c.self.invariant.rising c.index.ensures less,
+    )
 
 pub returns-then-from-number : goal.returns-then-from-number
 returns-then-from-number g c =
@@ -16,13 +21,19 @@ returns-then-from-number g c =
     let len = c.len-len.ensures in
     let same = c.self.inside.parts.ok.0 in
     let less : c.index-2.result.now.0 < c.args.number = subst (λ n. n < c.args.number) c.from.ensures c.if-from-number.true in
-    let last : c.index-2.result.now ≡ get_or parts (length parts - 1) c.index-2.result.now = subst (λ n. c.index-2.result.now ≡ get_or parts (n - 1) c.index-2.result.now) (omega (arith, len, same)) c.index-2.ensures in
+    let last : c.index-2.result.now ≡ get_or parts (length parts - 1) c.index-2.result.now =
+    subst (λ n. c.index-2.result.now ≡ get_or parts (n - 1) c.index-2.result.now) (omega (arith, len, same)) c.index-2.ensures in
     let lower = after_last parts c.args.number c.index-2.result.now c.self.invariant.rising last less in
-    rw (← c.self.view_is) (omega (arith, len, same), (λ k d low high. lower k d (omega (arith, len, same, high))), (λ k d low high. absurd (omega (arith, len, same, low, high))))
+    rw (← c.self.view_is) (
+      omega (arith, len, same),
+      (λ k d low high. lower k d (omega (arith, len, same, high))),
+      (λ k d low high. absurd (omega (arith, len, same, low, high))),
+    )
 
 pub returns : goal.returns
 returns g c =
     let d = c.self.inside in
     let facts = c.binary_search_by_key.ensures in
     let by_key = facts.position (λ part. part.0) (answers_always _ _ _ (λ f a r g called. search rules)) in
-    rw (← c.self.view_is) (searched d.parts.items c.args.number c.binary_search_by_key.result c.self.invariant.rising (subst (IsSearchInRange c.binary_search_by_key.result) d.parts.ok.0 facts.bound) by_key)
+    rw (← c.self.view_is) (searched d.parts.items c.args.number c.binary_search_by_key.result c.self.invariant.rising
+    (subst (IsSearchInRange c.binary_search_by_key.result) d.parts.ok.0 facts.bound) by_key)

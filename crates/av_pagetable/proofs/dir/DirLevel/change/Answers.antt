@@ -17,7 +17,8 @@ invariant_of-self g c =
     let within : k < length d.parts.items = rw c.self.view_is c.in-Ok.ensures.0 in
     let here : p.0 ≡ c.args.page / C.span = ap (λ part. part.0) is ∙ rw (c.self.view_is, ← c.span-span.ensures.is) (c.in-Ok.ensures.1 p) in
     let under : c.args.page % c.span-span.result < C.span = rw c.span-span.ensures.is (mod_below c.args.page C.span c.span-span.ensures.some) in
-    set_good C.at C.span d.parts.items c.self.invariant k p within is (p.0, c.change.new.self) refl (some_written C.at C.span (c.args.page % c.span-span.result) c.args.entry p.1 c.change.new.self under c.requires.some c.change.ensures)
+    set_good C.at C.span d.parts.items c.self.invariant k p within is (p.0, c.change.new.self) refl
+    (some_written C.at C.span (c.args.page % c.span-span.result) c.args.entry p.1 c.change.new.self under c.requires.some c.change.ensures)
 
 pub returns-in-Ok : goal.returns-in-Ok
 returns-in-Ok g c =
@@ -29,7 +30,8 @@ returns-in-Ok g c =
     let within : k < length d.parts.items = rw c.self.view_is c.in-Ok.ensures.0 in
     let here : p.0 ≡ c.args.page / C.span = ap (λ part. part.0) is ∙ rw (c.self.view_is, ← c.span-span.ensures.is) (c.in-Ok.ensures.1 p) in
     let under : c.args.page % c.span-span.result < C.span = rw c.span-span.ensures.is (mod_below c.args.page C.span c.span-span.ensures.some) in
-    written C.at C.span d.parts.items c.self.invariant k p within is c.args.page c.args.entry c.change.new.self here (rw (← c.span-span.ensures.is) c.change.ensures)
+    written C.at C.span d.parts.items c.self.invariant k p within is c.args.page c.args.entry c.change.new.self here
+    (rw (← c.span-span.ensures.is) c.change.ensures)
     ∙ ap (λ v. with_at c.args.page c.args.entry (entries C.at C.span v)) c.self.view_is
 
 pub returns-in-Err : goal.returns-in-Err
@@ -54,4 +56,5 @@ change-requires-clause-there g c =
     let is = c.index_mut-part.ensures.value in
     let within : k < length d.parts.items = rw c.self.view_is c.in-Ok.ensures.0 in
     let here : p.0 ≡ c.args.page / C.span = ap (λ part. part.0) is ∙ rw (c.self.view_is, ← c.span-span.ensures.is) (c.in-Ok.ensures.1 p) in
-    λ none. c.requires.there (ap (λ v. entries C.at C.span v c.args.page) (sym c.self.view_is) ∙ entry_there C.at C.span d.parts.items c.self.invariant k p within is c.args.page here ∙ ap (λ s. C.at p.1 (c.args.page % s)) (sym c.span-span.ensures.is) ∙ none)
+    λ none. c.requires.there (ap (λ v. entries C.at C.span v c.args.page) (sym c.self.view_is) ∙ entry_there C.at C.span d.parts.items c.self.invariant k p
+    within is c.args.page here ∙ ap (λ s. C.at p.1 (c.args.page % s)) (sym c.span-span.ensures.is) ∙ none)

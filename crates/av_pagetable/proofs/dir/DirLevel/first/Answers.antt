@@ -10,8 +10,10 @@ pub returns : goal.returns
 returns g c =
     let d = c.self.inside in
     let C = g.C.Level in
-    let first : MatchOption c.first_in.result ((q : ℕ) → 0 ≤ q → entries_at C.at d.parts.items 0 q ≡ Empty) (λ found. IsFirstIn C.at C.span d.parts.items 0 0 found) = rw c.self.view_is c.first_in.ensures in
-    subst (λ v. MatchOption c.first_in.result ((q : ℕ) → 0 ≤ q → entries C.at C.span v q ≡ Empty) (λ found. IsFirst (entries C.at C.span v) 0 (C.span * 512) found)) c.self.view_is
+    let first : MatchOption c.first_in.result ((q : ℕ) → 0 ≤ q → entries_at C.at d.parts.items 0 q ≡ Empty)
+    (λ found. IsFirstIn C.at C.span d.parts.items 0 0 found) = rw c.self.view_is c.first_in.ensures in
+    subst (λ v. MatchOption c.first_in.result ((q : ℕ) → 0 ≤ q → entries C.at C.span v q ≡ Empty)
+    (λ found. IsFirst (entries C.at C.span v) 0 (C.span * 512) found)) c.self.view_is
     (from_start C.at C.span d.parts.items c.self.invariant c.span-span.ensures.some c.first_in.result first)
 
 zero_from : (n : ℕ) (b : Bool) → b ≡ (n == 0) → b ≡ true → n ≡ 0

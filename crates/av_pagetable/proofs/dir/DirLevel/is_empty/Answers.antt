@@ -16,4 +16,5 @@ returns g c =
     let C = g.C.Level in
     by_test d.parts.len c.is_empty.result _ _ c.is_empty.ensures
     (λ none q. ap (λ v. entries C.at C.span v q) (sym c.self.view_is) ∙ no_entries C.at C.span d.parts.items (omega (arith, none, d.parts.ok.0)) q)
-    (λ more. subst (λ v. HasSome (C.span * 512) (entries C.at C.span v)) c.self.view_is (some_entry C.at C.span d.parts.items c.self.invariant (omega (arith, more, d.parts.ok.0))))
+    (λ more. subst (λ v. HasSome (C.span * 512) (entries C.at C.span v)) c.self.view_is
+    (some_entry C.at C.span d.parts.items c.self.invariant (omega (arith, more, d.parts.ok.0))))

@@ -19,8 +19,11 @@ pub returns-in-Some : goal.returns-in-Some
 returns-in-Some g c =
     let d = c.self.inside in
     let C = g.C.Level in
-    let number : HoldsAt (λ part. part.0 ≡ c.args.page / C.span) d.parts.items c.in-Ok.place = rw (c.self.view_is, ← c.span-span.ensures.is) c.in-Ok.ensures.1 in
-    let first : IsFirstIn C.at C.span d.parts.items c.in-Ok.place (c.args.page % C.span) c.in-Some.found = subst (λ s. IsFirstIn C.at C.span d.parts.items c.in-Ok.place (c.args.page % s) c.in-Some.found) c.span-span.ensures.is (rw c.self.view_is c.in-Some.ensures) in
+    let number : HoldsAt (λ part. part.0 ≡ c.args.page / C.span) d.parts.items c.in-Ok.place =
+    rw (c.self.view_is, ← c.span-span.ensures.is) c.in-Ok.ensures.1 in
+    let first : IsFirstIn C.at C.span d.parts.items c.in-Ok.place (c.args.page % C.span) c.in-Some.found =
+    subst (λ s. IsFirstIn C.at C.span d.parts.items c.in-Ok.place (c.args.page % s) c.in-Some.found) c.span-span.ensures.is
+    (rw c.self.view_is c.in-Some.ensures) in
     subst (λ v. IsFirst (entries C.at C.span v) c.args.page (C.span * 512) c.in-Some.found) c.self.view_is
     (from_part C.at C.span d.parts.items c.self.invariant c.span-span.ensures.some c.args.page c.in-Ok.place c.in-Some.found number first)
 
@@ -31,9 +34,12 @@ returns-in-None g c =
     let k = c.in-Ok.place in
     let within : k < length d.parts.items = rw c.self.view_is c.in-Ok.ensures.0 in
     let number : HoldsAt (λ part. part.0 ≡ c.args.page / C.span) d.parts.items k = rw (c.self.view_is, ← c.span-span.ensures.is) c.in-Ok.ensures.1 in
-    let none : (q : ℕ) → c.args.page % C.span ≤ q → entries_at C.at d.parts.items k q ≡ Empty = subst (λ s. (q : ℕ) → c.args.page % s ≤ q → entries_at C.at d.parts.items k q ≡ Empty) c.span-span.ensures.is (rw c.self.view_is c.in-None.ensures) in
-    let next : MatchOption c.first_in.result ((q : ℕ) → 0 ≤ q → entries_at C.at d.parts.items (k + 1) q ≡ Empty) (λ found. IsFirstIn C.at C.span d.parts.items (k + 1) 0 found) = rw c.self.view_is c.first_in.ensures in
-    subst (λ v. MatchOption c.first_in.result ((q : ℕ) → c.args.page ≤ q → entries C.at C.span v q ≡ Empty) (λ found. IsFirst (entries C.at C.span v) c.args.page (C.span * 512) found)) c.self.view_is
+    let none : (q : ℕ) → c.args.page % C.span ≤ q → entries_at C.at d.parts.items k q ≡ Empty =
+    subst (λ s. (q : ℕ) → c.args.page % s ≤ q → entries_at C.at d.parts.items k q ≡ Empty) c.span-span.ensures.is (rw c.self.view_is c.in-None.ensures) in
+    let next : MatchOption c.first_in.result ((q : ℕ) → 0 ≤ q → entries_at C.at d.parts.items (k + 1) q ≡ Empty)
+    (λ found. IsFirstIn C.at C.span d.parts.items (k + 1) 0 found) = rw c.self.view_is c.first_in.ensures in
+    subst (λ v. MatchOption c.first_in.result ((q : ℕ) → c.args.page ≤ q → entries C.at C.span v q ≡ Empty)
+    (λ found. IsFirst (entries C.at C.span v) c.args.page (C.span * 512) found)) c.self.view_is
     (after_part C.at C.span d.parts.items c.self.invariant c.span-span.ensures.some c.args.page k c.first_in.result within number none next)
 
 pub returns-in-Err : goal.returns-in-Err
@@ -43,9 +49,12 @@ returns-in-Err g c =
     let k = c.in-Err.place in
     let within : k ≤ length d.parts.items = rw c.self.view_is c.in-Err.ensures.0 in
     let lower : AllWithin (λ part. part.0 < c.args.page / C.span) d.parts.items 0 k = rw (c.self.view_is, ← c.span-span.ensures.is) c.in-Err.ensures.1 in
-    let higher : AllWithin (λ part. c.args.page / C.span < part.0) d.parts.items k (length d.parts.items) = rw (c.self.view_is, ← c.span-span.ensures.is) c.in-Err.ensures.2 in
-    let next : MatchOption c.first_in-in-Err.result ((q : ℕ) → 0 ≤ q → entries_at C.at d.parts.items k q ≡ Empty) (λ found. IsFirstIn C.at C.span d.parts.items k 0 found) = rw c.self.view_is c.first_in-in-Err.ensures in
-    subst (λ v. MatchOption c.first_in-in-Err.result ((q : ℕ) → c.args.page ≤ q → entries C.at C.span v q ≡ Empty) (λ found. IsFirst (entries C.at C.span v) c.args.page (C.span * 512) found)) c.self.view_is
+    let higher : AllWithin (λ part. c.args.page / C.span < part.0) d.parts.items k (length d.parts.items) =
+    rw (c.self.view_is, ← c.span-span.ensures.is) c.in-Err.ensures.2 in
+    let next : MatchOption c.first_in-in-Err.result ((q : ℕ) → 0 ≤ q → entries_at C.at d.parts.items k q ≡ Empty)
+    (λ found. IsFirstIn C.at C.span d.parts.items k 0 found) = rw c.self.view_is c.first_in-in-Err.ensures in
+    subst (λ v. MatchOption c.first_in-in-Err.result ((q : ℕ) → c.args.page ≤ q → entries C.at C.span v q ≡ Empty)
+    (λ found. IsFirst (entries C.at C.span v) c.args.page (C.span * 512) found)) c.self.view_is
     (after_gap C.at C.span d.parts.items c.self.invariant c.span-span.ensures.some c.args.page k c.first_in-in-Err.result within lower higher next)
 
 zero_from : (n : ℕ) (b : Bool) → b ≡ (n == 0) → b ≡ true → n ≡ 0

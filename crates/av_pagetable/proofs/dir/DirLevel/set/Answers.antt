@@ -20,7 +20,8 @@ invariant_of-self g c =
     let here : p.0 ≡ c.args.page / C.span = ap (λ part. part.0) is ∙ rw (c.self.view_is, ← c.span-span.ensures.is) (c.in-Ok.ensures.1 p) in
     let under : c.args.page % c.span-span.result < C.span = rw c.span-span.ensures.is (mod_below c.args.page C.span c.span-span.ensures.some) in
     let had : HasSome C.span (C.at p.1) = subst (λ part. HasSome C.span (C.at part.1)) (sym is) (c.self.invariant.full k p within) in
-    set_good C.at C.span d.parts.items c.self.invariant k p within is (p.0, c.set.new.self) refl (some_either C.at C.span (c.args.page % c.span-span.result) c.args.entry p.1 c.set.new.self c.set.result had under c.requires.some c.set.ensures)
+    set_good C.at C.span d.parts.items c.self.invariant k p within is (p.0, c.set.new.self) refl
+    (some_either C.at C.span (c.args.page % c.span-span.result) c.args.entry p.1 c.set.new.self c.set.result had under c.requires.some c.set.ensures)
 
 pub returns-in-Ok : goal.returns-in-Ok
 returns-in-Ok g c =
@@ -50,7 +51,8 @@ invariant_of-self-in-Err g c =
     let part = c.set-in-Err.new.self in
     let low : n < 512 = rw c.span-span.ensures.is (div_below c.args.page C.span 512 c.span-span.ensures.some (omega (arith, c.requires.below))) in
     let under : c.args.page % c.span-span.result < C.span = rw c.span-span.ensures.is (mod_below c.args.page C.span c.span-span.ensures.some) in
-    rw c.in_ok-insert-in-Err.ensures.items (insert_good C.at C.span d.parts.items c.self.invariant k (n, part) within lower higher low (some_written C.at C.span (c.args.page % c.span-span.result) c.args.entry c.in_ok-part-in-Err.part part under c.requires.some c.in_ok-set-in-Err.ensures))
+    rw c.in_ok-insert-in-Err.ensures.items (insert_good C.at C.span d.parts.items c.self.invariant k (n, part) within lower higher low
+    (some_written C.at C.span (c.args.page % c.span-span.result) c.args.entry c.in_ok-part-in-Err.part part under c.requires.some c.in_ok-set-in-Err.ensures))
 
 pub returns-in_ok-insert-in-Err : goal.returns-in_ok-insert-in-Err
 returns-in_ok-insert-in-Err g c =
@@ -65,5 +67,6 @@ returns-in_ok-insert-in-Err g c =
     let part = c.set-in-Err.new.self in
     let low : n < 512 = rw c.span-span.ensures.is (div_below c.args.page C.span 512 c.span-span.ensures.some (omega (arith, c.requires.below))) in
     ap (entries C.at C.span) c.in_ok-insert-in-Err.ensures.items
-    ∙ added C.at C.span d.parts.items c.self.invariant k n c.args.page c.args.entry c.in_ok-part-in-Err.part part within lower higher low here c.in_ok-part-in-Err.ensures (rw (← c.span-span.ensures.is) c.in_ok-set-in-Err.ensures)
+    ∙ added C.at C.span d.parts.items c.self.invariant k n c.args.page c.args.entry c.in_ok-part-in-Err.part part within lower higher low here
+    c.in_ok-part-in-Err.ensures (rw (← c.span-span.ensures.is) c.in_ok-set-in-Err.ensures)
     ∙ ap (λ v. with_at c.args.page c.args.entry (entries C.at C.span v)) c.self.view_is

@@ -23,7 +23,11 @@ invariant_of-self g c =
     let within : k < length d.parts.items = rw c.self.view_is c.in-Ok.ensures.0 in
     let here : p.0 ≡ c.args.page / C.span = ap (λ part. part.0) is ∙ rw (c.self.view_is, ← c.span-span.ensures.is) (c.in-Ok.ensures.1 p) in
     let under : c.args.page % c.span-span.result < C.span = rw c.span-span.ensures.is (mod_below c.args.page C.span c.span-span.ensures.some) in
-    rw (removed_from c.remove.result _ _ c.remove.ensures.items (c.remove.ensures.succeeds p (omega (arith, within, d.parts.ok.0))), set_removed d.parts.items k (p.0, c.take-entry.new.self)) (remove_good C.at C.span d.parts.items c.self.invariant k p within is)
+    rw (
+      removed_from c.remove.result _ _ c.remove.ensures.items (c.remove.ensures.succeeds p (omega (arith, within, d.parts.ok.0))),
+      set_removed d.parts.items k
+          (p.0, c.take-entry.new.self),
+    ) (remove_good C.at C.span d.parts.items c.self.invariant k p within is)
 
 pub invariant_of-self-else-is_empty : goal.invariant_of-self-else-is_empty
 invariant_of-self-else-is_empty g c =
@@ -47,7 +51,8 @@ returns-then-is_empty-clause-gives g c =
     let within : k < length d.parts.items = rw c.self.view_is c.in-Ok.ensures.0 in
     let here : p.0 ≡ c.args.page / C.span = ap (λ part. part.0) is ∙ rw (c.self.view_is, ← c.span-span.ensures.is) (c.in-Ok.ensures.1 p) in
     let under : c.args.page % c.span-span.result < C.span = rw c.span-span.ensures.is (mod_below c.args.page C.span c.span-span.ensures.some) in
-    c.take-entry.ensures.gives ∙ ap (λ s. C.at p.1 (c.args.page % s)) c.span-span.ensures.is ∙ sym (entry_there C.at C.span d.parts.items c.self.invariant k p within is c.args.page here) ∙ ap (λ v. entries C.at C.span v c.args.page) c.self.view_is
+    c.take-entry.ensures.gives ∙ ap (λ s. C.at p.1 (c.args.page % s)) c.span-span.ensures.is
+    ∙ sym (entry_there C.at C.span d.parts.items c.self.invariant k p within is c.args.page here) ∙ ap (λ v. entries C.at C.span v c.args.page) c.self.view_is
 
 pub returns-else-is_empty-clause-gives : goal.returns-else-is_empty-clause-gives
 returns-else-is_empty-clause-gives g c =
@@ -59,7 +64,8 @@ returns-else-is_empty-clause-gives g c =
     let within : k < length d.parts.items = rw c.self.view_is c.in-Ok.ensures.0 in
     let here : p.0 ≡ c.args.page / C.span = ap (λ part. part.0) is ∙ rw (c.self.view_is, ← c.span-span.ensures.is) (c.in-Ok.ensures.1 p) in
     let under : c.args.page % c.span-span.result < C.span = rw c.span-span.ensures.is (mod_below c.args.page C.span c.span-span.ensures.some) in
-    c.take-entry.ensures.gives ∙ ap (λ s. C.at p.1 (c.args.page % s)) c.span-span.ensures.is ∙ sym (entry_there C.at C.span d.parts.items c.self.invariant k p within is c.args.page here) ∙ ap (λ v. entries C.at C.span v c.args.page) c.self.view_is
+    c.take-entry.ensures.gives ∙ ap (λ s. C.at p.1 (c.args.page % s)) c.span-span.ensures.is
+    ∙ sym (entry_there C.at C.span d.parts.items c.self.invariant k p within is c.args.page here) ∙ ap (λ v. entries C.at C.span v c.args.page) c.self.view_is
 
 pub returns-then-is_empty-clause-takes : goal.returns-then-is_empty-clause-takes
 returns-then-is_empty-clause-takes g c =
@@ -72,8 +78,10 @@ returns-then-is_empty-clause-takes g c =
     let here : p.0 ≡ c.args.page / C.span = ap (λ part. part.0) is ∙ rw (c.self.view_is, ← c.span-span.ensures.is) (c.in-Ok.ensures.1 p) in
     let under : c.args.page % c.span-span.result < C.span = rw c.span-span.ensures.is (mod_below c.args.page C.span c.span-span.ensures.some) in
     let same : c.match-remove.self ≡ c.remove.new.self.items = search rules in
-    ap (entries C.at C.span) (same ∙ removed_from c.remove.result _ _ c.remove.ensures.items (c.remove.ensures.succeeds p (omega (arith, within, d.parts.ok.0))) ∙ set_removed d.parts.items k (p.0, c.take-entry.new.self))
-    ∙ dropped C.at C.span d.parts.items c.self.invariant k p within is c.args.page c.take-entry.new.self here (rw (← c.span-span.ensures.is) c.take-entry.ensures.takes) c.if-is_empty.ensures
+    ap (entries C.at C.span) (same ∙ removed_from c.remove.result _ _ c.remove.ensures.items (c.remove.ensures.succeeds p (omega (arith, within, d.parts.ok.0)))
+    ∙ set_removed d.parts.items k (p.0, c.take-entry.new.self))
+    ∙ dropped C.at C.span d.parts.items c.self.invariant k p within is c.args.page c.take-entry.new.self here
+    (rw (← c.span-span.ensures.is) c.take-entry.ensures.takes) c.if-is_empty.ensures
     ∙ ap (λ v. with_at c.args.page Empty (entries C.at C.span v)) c.self.view_is
 
 pub returns-else-is_empty-clause-takes : goal.returns-else-is_empty-clause-takes
@@ -86,7 +94,8 @@ returns-else-is_empty-clause-takes g c =
     let within : k < length d.parts.items = rw c.self.view_is c.in-Ok.ensures.0 in
     let here : p.0 ≡ c.args.page / C.span = ap (λ part. part.0) is ∙ rw (c.self.view_is, ← c.span-span.ensures.is) (c.in-Ok.ensures.1 p) in
     let under : c.args.page % c.span-span.result < C.span = rw c.span-span.ensures.is (mod_below c.args.page C.span c.span-span.ensures.some) in
-    written C.at C.span d.parts.items c.self.invariant k p within is c.args.page Empty c.take-entry.new.self here (rw (← c.span-span.ensures.is) c.take-entry.ensures.takes)
+    written C.at C.span d.parts.items c.self.invariant k p within is c.args.page Empty c.take-entry.new.self here
+    (rw (← c.span-span.ensures.is) c.take-entry.ensures.takes)
     ∙ ap (λ v. with_at c.args.page Empty (entries C.at C.span v)) c.self.view_is
 
 pub returns-in-Err-clause-gives : goal.returns-in-Err-clause-gives
@@ -124,4 +133,5 @@ take-entry-requires-clause-there g c =
     let is = c.index_mut-part.ensures.value in
     let within : k < length d.parts.items = rw c.self.view_is c.in-Ok.ensures.0 in
     let here : p.0 ≡ c.args.page / C.span = ap (λ part. part.0) is ∙ rw (c.self.view_is, ← c.span-span.ensures.is) (c.in-Ok.ensures.1 p) in
-    λ none. c.requires.there (ap (λ v. entries C.at C.span v c.args.page) (sym c.self.view_is) ∙ entry_there C.at C.span d.parts.items c.self.invariant k p within is c.args.page here ∙ ap (λ s. C.at p.1 (c.args.page % s)) (sym c.span-span.ensures.is) ∙ none)
+    λ none. c.requires.there (ap (λ v. entries C.at C.span v c.args.page) (sym c.self.view_is) ∙ entry_there C.at C.span d.parts.items c.self.invariant k p
+    within is c.args.page here ∙ ap (λ s. C.at p.1 (c.args.page % s)) (sym c.span-span.ensures.is) ∙ none)

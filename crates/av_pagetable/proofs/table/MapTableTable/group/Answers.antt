@@ -8,5 +8,6 @@ loop-i-preserved c =
     let i = c.loop-i.invariant in
     record {
       long = length-set c.loop-i.group c.loop-i.i c.get.result ∙ i.long;
-      done = one_filled (λ k. entry_in c.args.self.now.entries (c.args.number * 64 + k)) c.loop-i.group c.loop-i.i c.get.result (omega (arith, i.long, c.loop-i-test.true)) c.get.ensures i.done;
+      done = one_filled (λ k. entry_in c.args.self.now.entries (c.args.number * 64 + k)) c.loop-i.group c.loop-i.i c.get.result
+          (omega (arith, i.long, c.loop-i-test.true)) c.get.ensures i.done;
     }

@@ -16,5 +16,6 @@ loop-page-preserved c =
     record {
       within = let below = is.below in omega (arith, below);
       passed = one_passed read_only refl first first table c.loop-page.next i.passed (entry_in c.change.new.self.entries) page is.from_there
-          (c.change.ensures ∙ ap (λ e. with_at page e table) (c.read_only.ensures ∙ ap read_only (c.get.ensures ∙ i.passed.after page is.from_there))) least least;
+          (c.change.ensures ∙ ap (λ e. with_at page e table) (c.read_only.ensures ∙ ap read_only (c.get.ensures ∙ i.passed.after page is.from_there)))
+          least least;
     }

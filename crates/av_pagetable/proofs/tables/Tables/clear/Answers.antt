@@ -11,7 +11,8 @@ returns-in-Some-clause-clears g c =
     ∙ ap (λ t. with_at c.args.process t (entry_by g.T.Table.at c.args.self.now)) c.clear.ensures
 
 pub returns-in-Some-clause-processes : goal.returns-in-Some-clause-processes
-returns-in-Some-clause-processes g c = same_processes g.T.Table.at c.args.self.now (c.of_mut.follows.lender c.clear.new.self) c.args.process _ _ (rw c.in-Some.is at (c.of_mut.follows.holds c.clear.new.self)) c.in-Some.ensures.value
+returns-in-Some-clause-processes g c = same_processes g.T.Table.at c.args.self.now (c.of_mut.follows.lender c.clear.new.self) c.args.process _ _
+    (rw c.in-Some.is at (c.of_mut.follows.holds c.clear.new.self)) c.in-Some.ensures.value
 
 pub returns-in_default-clause-clears : goal.returns-in_default-clause-clears
 returns-in_default-clause-clears g c = none_applied (λ e. Empty) refl _ _ c.args.process c.in_default.ensures.value c.of_mut.follows.holds-at-none

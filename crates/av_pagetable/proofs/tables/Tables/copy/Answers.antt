@@ -10,4 +10,5 @@ returns-in-Some-clause-copies g c =
     ∙ ap (λ t. with_at c.args.to t (entry_by g.T.Table.at c.args.self.now)) c.in_ok-child.ensures
 
 pub returns-in-Some-clause-processes : goal.returns-in-Some-clause-processes
-returns-in-Some-clause-processes g c = same_processes g.T.Table.at c.args.self.now (c.of_mut.follows.lender c.in_ok-child.child) c.args.to _ _ (rw c.in-Some.is at (c.of_mut.follows.holds c.in_ok-child.child)) c.in-Some.ensures.value
+returns-in-Some-clause-processes g c = same_processes g.T.Table.at c.args.self.now (c.of_mut.follows.lender c.in_ok-child.child) c.args.to _ _
+    (rw c.in-Some.is at (c.of_mut.follows.holds c.in_ok-child.child)) c.in-Some.ensures.value

@@ -8,10 +8,12 @@ use Rattle.av_pagetable.proofs.tables.Tables.protect.Goals as goal
 pub returns-in-Some-clause-protects : goal.returns-in-Some-clause-protects
 returns-in-Some-clause-protects g c =
     table_one _ _ c.args.process _ (rw c.in-Some.is at (c.of_mut.follows.holds c.protect.new.self))
-    ∙ ap (λ t. with_at c.args.process t (entry_by g.T.Table.at c.args.self.now)) (c.protect.ensures ∙ (λ i page. read_only (at_page (c.in-Some.ensures.value i) page)))
+    ∙ ap (λ t. with_at c.args.process t (entry_by g.T.Table.at c.args.self.now))
+    (c.protect.ensures ∙ (λ i page. read_only (at_page (c.in-Some.ensures.value i) page)))
 
 pub returns-in-Some-clause-processes : goal.returns-in-Some-clause-processes
-returns-in-Some-clause-processes g c = same_processes g.T.Table.at c.args.self.now (c.of_mut.follows.lender c.protect.new.self) c.args.process _ _ (rw c.in-Some.is at (c.of_mut.follows.holds c.protect.new.self)) c.in-Some.ensures.value
+returns-in-Some-clause-processes g c = same_processes g.T.Table.at c.args.self.now (c.of_mut.follows.lender c.protect.new.self) c.args.process _ _
+    (rw c.in-Some.is at (c.of_mut.follows.holds c.protect.new.self)) c.in-Some.ensures.value
 
 pub returns-in_default-clause-protects : goal.returns-in_default-clause-protects
 returns-in_default-clause-protects g c = none_applied read_only refl _ _ c.args.process c.in_default.ensures.value c.of_mut.follows.holds-at-none

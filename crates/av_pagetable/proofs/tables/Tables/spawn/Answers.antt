@@ -20,5 +20,6 @@ returns-clause-processes g c =
 pub returns-clause-entries : goal.returns-clause-entries
 returns-clause-entries g c =
     let put = table_put c.make_place.new.tables.items c.args.process (Some c.in_ok-table.table) c.in_ok-make_place.ensures.place in
-    entries_put g.T.Table.at _ _ c.args.process (Some c.in_ok-table.table) (put ∙ (λ i. with_at c.args.process (Some c.in_ok-table.table) (c.make_place.ensures.same i)))
+    entries_put g.T.Table.at _ _ c.args.process (Some c.in_ok-table.table)
+    (put ∙ (λ i. with_at c.args.process (Some c.in_ok-table.table) (c.make_place.ensures.same i)))
     ∙ bare_spawned g.T.Table.at c.args.self.now c.args.process c.in_ok-table.table c.requires c.in_ok-table.ensures

@@ -9,4 +9,5 @@ pub returns-clause-numbered : goal.returns-clause-numbered
 returns-clause-numbered c = subst AreNumbered c.self.view_is (numbered_in c.self.inside.areas c.self.inside.trees.items c.self.invariant.trees)
 
 pub returns-clause-rising : goal.returns-clause-rising
-returns-clause-rising c = subst AllRising (processes_are c.self.view_is) (all_rising (area_of c.self.inside.areas) c.self.inside.trees.items c.self.invariant.trees)
+returns-clause-rising c = subst AllRising (processes_are c.self.view_is)
+    (all_rising (area_of c.self.inside.areas) c.self.inside.trees.items c.self.invariant.trees)

@@ -12,20 +12,25 @@ pub returns-in_default : goal.returns-in_default
 returns-in_default c =
     let areas = area_of c.self.inside.areas in
     c.new.ensures.items ∙ chain_nowhere c.args.self.now c.args.anons.now c.args.process c.args.page
-    (none_dead areas c.self.inside.trees.items c.args.process c.args.self.now.processes (sym (ap (λ ts. tree_at ts c.args.process) (sym c.deref.ensures.value) ∙ sym c.in_default.ensures)) (processes_are c.self.view_is) c.args.page)
+    (none_dead areas c.self.inside.trees.items c.args.process c.args.self.now.processes
+    (sym (ap (λ ts. tree_at ts c.args.process) (sym c.deref.ensures.value) ∙ sym c.in_default.ensures)) (processes_are c.self.view_is) c.args.page)
 
 pub returns-in-None : goal.returns-in-None
 returns-in-None c =
     let areas = area_of c.self.inside.areas in
     c.new-in-None.ensures.items ∙ chain_nowhere c.args.self.now c.args.anons.now c.args.process c.args.page
     (ap (option_and_then areas) c.in-None.ensures.area
-    ∙ sym (pages_there areas c.self.inside.trees.items c.args.process c.in-Some.tree.now c.args.self.now.processes c.self.invariant.trees (sym (ap (λ ts. tree_at ts c.args.process) (sym c.deref.ensures.value) ∙ sym c.in-Some.ensures)) (processes_are c.self.view_is) c.args.page))
+    ∙ sym (pages_there areas c.self.inside.trees.items c.args.process c.in-Some.tree.now c.args.self.now.processes c.self.invariant.trees
+    (sym (ap (λ ts. tree_at ts c.args.process) (sym c.deref.ensures.value) ∙ sym c.in-Some.ensures)) (processes_are c.self.view_is) c.args.page))
 
 pub returns-in-Some-find : goal.returns-in-Some-find
 returns-in-Some-find c =
     let areas = area_of c.self.inside.areas in
     let n = c.in-Some-find.number in
     let there = ap (λ s. area_of s.areas n) (sym c.self.view_is) ∙ ap (option_and_then areas) c.in-Some-find.ensures.area
-    ∙ sym (pages_there areas c.self.inside.trees.items c.args.process c.in-Some.tree.now c.args.self.now.processes c.self.invariant.trees (sym (ap (λ ts. tree_at ts c.args.process) (sym c.deref.ensures.value) ∙ sym c.in-Some.ensures)) (processes_are c.self.view_is) c.args.page) in
-    if_each c.chain.result (λ chain. chain.items ≡ chain_of c.links.result.now n) (λ chain. chain.items ≡ chain_at c.args.self.now c.args.anons.now c.args.process c.args.page)
-    (λ chain is. is ∙ ap (λ links. chain_of links n) c.links.ensures ∙ chain_where c.args.self.now c.args.anons.now c.args.process c.args.page n c.requires.order there) c.chain.ensures
+    ∙ sym (pages_there areas c.self.inside.trees.items c.args.process c.in-Some.tree.now c.args.self.now.processes c.self.invariant.trees
+    (sym (ap (λ ts. tree_at ts c.args.process) (sym c.deref.ensures.value) ∙ sym c.in-Some.ensures)) (processes_are c.self.view_is) c.args.page) in
+    if_each c.chain.result (λ chain. chain.items ≡ chain_of c.links.result.now n)
+    (λ chain. chain.items ≡ chain_at c.args.self.now c.args.anons.now c.args.process c.args.page)
+    (λ chain is. is ∙ ap (λ links. chain_of links n) c.links.ensures ∙ chain_where c.args.self.now c.args.anons.now c.args.process c.args.page n
+    c.requires.order there) c.chain.ensures

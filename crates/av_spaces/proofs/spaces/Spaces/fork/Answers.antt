@@ -68,4 +68,5 @@ returns-clause-in_turn c =
 pub returns-clause-kept : goal.returns-clause-kept
 returns-clause-kept c =
     ok_both c.fork_each-result.result (returns-clause-forked c) (returns-clause-in_turn c) (λ f turn.
-    kept_by c.args.self.now c.args.anons.now _ c.fork_each-result.new.anons c.args.child (areas_of c.args.self.now.processes c.args.parent) c.requires.dead f turn)
+    kept_by c.args.self.now c.args.anons.now _ c.fork_each-result.new.anons c.args.child
+    (areas_of c.args.self.now.processes c.args.parent) c.requires.dead f turn)

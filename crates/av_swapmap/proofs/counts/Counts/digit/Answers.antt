@@ -9,4 +9,5 @@ returns-in-Some c = subst (λ (v : Store). get_or c.in-Some.digits.now (c.args.i
     (kept_at _ c.args.i _ _ c.in-Some.ensures.value (c.self.invariant.slots c.args.page) c.requires.from_one c.if-i-le4.true)
 
 pub returns-in_default : goal.returns-in_default
-returns-in_default c = subst (λ (v : Store). 0 ≡ digit_of ((seen v).count c.args.page) c.args.i) c.self.view_is (past_is _ c.args.i (c.self.invariant.slots c.args.page).fits c.if-i-le4.false)
+returns-in_default c = subst (λ (v : Store). 0 ≡ digit_of ((seen v).count c.args.page) c.args.i) c.self.view_is
+    (past_is _ c.args.i (c.self.invariant.slots c.args.page).fits c.if-i-le4.false)

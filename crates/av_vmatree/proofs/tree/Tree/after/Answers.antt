@@ -7,7 +7,8 @@ pub down-preserved-then-span-page : goal.down-preserved-then-span-page
 down-preserved-then-span-page c =
     let s = c.in-Some in
     let apart = subst AreApart s.ensures.parts.entries c.down.invariant.1 in (
-      after_right c.args.page c.down.part s.left s.span s.right c.down.nearest s.ensures.parts.entries c.down.invariant.1 c.if-span-page.true ∙ c.down.invariant.0,
+      after_right c.args.page c.down.part s.left s.span s.right c.down.nearest s.ensures.parts.entries c.down.invariant.1 c.if-span-page.true
+          ∙ c.down.invariant.0,
       apart_right s.left s.span s.right apart,
     )
 

@@ -15,6 +15,7 @@ pub down-preserved : goal.down-preserved
 down-preserved c =
     let s = c.in-Some in
     let apart = subst AreApart s.ensures.parts.entries c.down.invariant.1 in (
-      before_left c.args.page c.down.part s.left s.span s.right c.down.nearest s.ensures.parts.entries c.down.invariant.1 c.if-span-page.false ∙ c.down.invariant.0,
+      before_left c.args.page c.down.part s.left s.span s.right c.down.nearest s.ensures.parts.entries c.down.invariant.1 c.if-span-page.false
+          ∙ c.down.invariant.0,
       apart_left s.left s.span s.right apart,
     )

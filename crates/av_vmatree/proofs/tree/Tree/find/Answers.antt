@@ -7,21 +7,27 @@ pub down-preserved-then-page-span : goal.down-preserved-then-page-span
 down-preserved-then-page-span c =
     let s = c.in-Some in
     let e = s.ensures.parts.entries in
-    let apart = c.down.invariant.1 in
-    (at_left c.args.page c.down.part s.left s.span s.right e apart c.if-page-span.true ∙ c.down.invariant.0, apart_left s.left s.span s.right (subst AreApart e apart))
+    let apart = c.down.invariant.1 in (
+      at_left c.args.page c.down.part s.left s.span s.right e apart c.if-page-span.true ∙ c.down.invariant.0,
+      apart_left s.left s.span s.right (subst AreApart e apart),
+    )
 
 pub down-preserved : goal.down-preserved
 down-preserved c =
     let s = c.in-Some in
     let e = s.ensures.parts.entries in
-    let apart = c.down.invariant.1 in
-    (at_right c.args.page c.down.part s.left s.span s.right e apart c.if-span-page.true ∙ c.down.invariant.0, apart_right s.left s.span s.right (subst AreApart e apart))
+    let apart = c.down.invariant.1 in (
+      at_right c.args.page c.down.part s.left s.span s.right e apart c.if-span-page.true ∙ c.down.invariant.0,
+      apart_right s.left s.span s.right (subst AreApart e apart),
+    )
 
 pub returns-else-span-page : goal.returns-else-span-page
 returns-else-span-page c =
     let s = c.in-Some in
-    let here = at_here c.args.page c.down.part s.left s.span s.right s.ensures.parts.entries c.down.invariant.1 c.if-page-span.false c.if-span-page.false ∙ c.down.invariant.0 in
+    let here = at_here c.args.page c.down.part s.left s.span s.right s.ensures.parts.entries c.down.invariant.1 c.if-page-span.false c.if-span-page.false
+    ∙ c.down.invariant.0 in
     record {
       area = here;
-      span = subst (λ o. IfSome o (λ n. IsSomeAnd (span_of c.args.self.now n) (λ s. holds s c.args.page ≡ true))) (sym here) (held c.args.self.now c.args.page (subst AreDistinct c.self.view_is c.self.invariant.distinct));
+      span = subst (λ o. IfSome o (λ n. IsSomeAnd (span_of c.args.self.now n) (λ s. holds s c.args.page ≡ true))) (sym here)
+          (held c.args.self.now c.args.page (subst AreDistinct c.self.view_is c.self.invariant.distinct));
     }

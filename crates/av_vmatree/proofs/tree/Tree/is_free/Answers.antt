@@ -32,5 +32,6 @@ returns-else-span-from-clause-met c _ =
       page = page;
       lowest = low;
       highest = high;
-      met = ap is_some (sym (at_here page c.down.part s.left s.span s.right s.ensures.parts.entries c.down.invariant.1 (omega arith) (omega arith) ∙ c.down.invariant.0 page low high));
+      met = ap is_some (sym (at_here page c.down.part s.left s.span s.right s.ensures.parts.entries c.down.invariant.1 (omega arith) (omega arith)
+          ∙ c.down.invariant.0 page low high));
     }

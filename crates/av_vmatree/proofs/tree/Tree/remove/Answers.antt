@@ -6,15 +6,18 @@ use Rattle.av_vmatree.proofs.tree.Tree.remove.Goals as goal
 pub remove-requires : goal.remove-requires
 remove-requires c = record {
   room = room_here _ c.self.invariant;
-  there = entry_there c.args.area c.args.from c.self.inside.spans (subst (λ xs. IsSomeAnd (span_of xs c.args.area) (λ s. s.from ≡ c.args.from)) (sym c.self.view_is) c.requires.there);
+  there = entry_there c.args.area c.args.from c.self.inside.spans
+      (subst (λ xs. IsSomeAnd (span_of xs c.args.area) (λ s. s.from ≡ c.args.from)) (sym c.self.view_is) c.requires.there);
 }
 
 pub invariant_of-self : goal.invariant_of-self
-invariant_of-self c = (removed c.args.area c.args.from c.self.inside.spans c.args.self.now c.remove.new.self c.self.view_is c.self.invariant c.requires.there c.remove.ensures.entries).good
+invariant_of-self c = (removed c.args.area c.args.from c.self.inside.spans c.args.self.now c.remove.new.self c.self.view_is c.self.invariant
+    c.requires.there c.remove.ensures.entries).good
 
 pub returns : goal.returns
 returns c =
-    let h = removed c.args.area c.args.from c.self.inside.spans c.args.self.now c.remove.new.self c.self.view_is c.self.invariant c.requires.there c.remove.ensures.entries in
+    let h = removed c.args.area c.args.from c.self.inside.spans c.args.self.now c.remove.new.self c.self.view_is c.self.invariant
+    c.requires.there c.remove.ensures.entries in
     record {
       spans = h.spans;
       areas = h.areas;

@@ -26,7 +26,8 @@ split-requires c =
 pub invariant_of-self : goal.invariant_of-self
 invariant_of-self c =
     let r = c.requires in
-    (cut_if c.split.result c.args.lower c.args.upper c.self.inside.spans c.args.self.now c.split.new.self c.self.view_is c.split.ensures.entries c.self.invariant r.there r.apart r.some r.more r.other).1
+    (cut_if c.split.result c.args.lower c.args.upper c.self.inside.spans c.args.self.now c.split.new.self c.self.view_is c.split.ensures.entries
+    c.self.invariant r.there r.apart r.some r.more r.other).1
 
 pub returns : goal.returns
 returns c =
@@ -35,7 +36,8 @@ returns c =
     let u = c.args.upper in
     let xs = c.args.self.now in
     let new = c.split.new.self in
-    let h = cut_if c.split.result l u c.self.inside.spans xs new c.self.view_is c.split.ensures.entries c.self.invariant r.there r.apart r.some r.more r.other in
+    let h = cut_if c.split.result l u c.self.inside.spans xs new c.self.view_is c.split.ensures.entries c.self.invariant
+    r.there r.apart r.some r.more r.other in
     record {
       spans = cut_spans c.split.result l u c.self.inside.spans xs new c.self.view_is c.split.ensures.entries h.0;
       areas = on_ok c.split.result (IsCut l u xs new) _ (λ i. i.areas) h.0;

@@ -7,7 +7,7 @@ use Rattle.av_merge.specs.Pages.{pages_by}
 use Rattle.av_merge.proofs.Kin.{kin_then}
 use Rattle.av_merge.proofs.Mappings.{laid_of}
 use Rattle.av_merge.proofs.Places.{stays_then}
-use Rattle.av_merge.proofs.mremap.clear_ranges.Goals as goal
+use Rattle.av_merge.proofs.mremap.cut_ranges.Goals as goal
 
 pub split_before-requires-clause-stands : goal.split_before-requires-clause-stands
 split_before-requires-clause-stands c = (c.requires.stands.0, (c.cut.ensures.stands c.requires.stands.0 c.requires.stands.1).areas)
