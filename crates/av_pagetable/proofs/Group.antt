@@ -24,7 +24,8 @@ pub record IsGathered (parts : List (ℕ × Pte)) (first : ℕ) (group : List Pt
 
 module _ (parts : List (ℕ × Pte)) (good : AreParts alone 1 parts) (first : ℕ) where
   -- at the start no part of a lower number is left, and the group has no entry
-  pub from_gap : (k : ℕ) (group : List Pte) (rest : List (ℕ × Pte)) → k ≤ length parts → AllWithin (λ part. part.0 < first) parts 0 k → AllWithin (λ part. first < part.0) parts k (length parts)
+  pub from_gap : (k : ℕ) (group : List Pte) (rest : List (ℕ × Pte)) → k ≤ length parts → AllWithin (λ part. part.0 < first) parts 0 k
+      → AllWithin (λ part. first < part.0) parts k (length parts)
       → ((i : ℕ) → get_or group i Empty ≡ Empty) → rest ≡ drop k parts → IsGathered parts first group rest
   from_gap k group rest within lower higher none is = record {
     place = k;
@@ -63,7 +64,8 @@ module _ (parts : List (ℕ × Pte)) (good : AreParts alone 1 parts) (first : �
         absent alone 1 parts w.place x x w.within (λ i d low high. let h = w.lower i d low high in omega (arith, h, from)) higher here
 
     -- where no part below a number is left, the group is whole up to it
-    whole : (past : ℕ) → AllWithin (λ part. past ≤ part.0) parts w.place (length parts) → (i : ℕ) → i < 64 → first + i < past → get_or group i Empty ≡ entries alone 1 parts (first + i)
+    whole : (past : ℕ) → AllWithin (λ part. past ≤ part.0) parts w.place (length parts)
+        → (i : ℕ) → i < 64 → first + i < past → get_or group i Empty ≡ entries alone 1 parts (first + i)
     whole past higher i under low = elim (cases_lt (first + i) w.bound) [
       | inl lt ↦ w.done i under lt
       | inr ge ↦ w.none i under ge ∙ sym (between (first + i) ge (λ k d from high. let h = higher k d from high in omega (arith, h, low)))
@@ -124,7 +126,9 @@ module _ (parts : List (ℕ × Pte)) (good : AreParts alone 1 parts) (first : �
             done = λ i small low. elim (cases_eq (first + i) p.0) [
               | inl e ↦ let same : i ≡ k = omega (arith, e, is) in
                   ap (λ i. get_or (slice_set group k p.1) i Empty) same ∙ get_or-set_same group k p.1 Empty (omega (arith, under, long)) ∙ sym (here i e)
-              | inr ne ↦ get_or-set_other group k i p.1 Empty (λ e. ne (omega (arith, e, is, past, from))) ∙ whole p.0 from_here i small (omega (arith, low, ne))
+              | inr ne ↦ get_or-set_other group k i p.1 Empty (λ e. ne (omega (arith, e, is, past, from)))
+                  ∙ whole p.0 from_here i small (omega (arith, low, ne))
             ];
-            none = λ i small high. get_or-set_other group k i p.1 Empty (λ e. omega (arith, e, is, high, past, from)) ∙ w.none i small (omega (arith, high, past));
+            none = λ i small high. get_or-set_other group k i p.1 Empty (λ e. omega (arith, e, is, high, past, from))
+                ∙ w.none i small (omega (arith, high, past));
           }

@@ -21,7 +21,8 @@ loop-part-preserved g c =
       rest = item.2 ∙ ap (λ n. drop n v) (sym grown);
       within = omega (arith, grown, item.0);
       images = λ k e low. subst (λ l. IsImage C.at child_entry (get_or v k e) (get_or l k e)) (sym items)
-          (pushed C.at child_entry v news (length news) p x refl item.0 item.1 (record { number = refl; each = c.in_ok-for_child.ensures }) i.images k e (omega (arith, low, grown)));
+          (pushed C.at child_entry v news (length news) p x refl item.0 item.1
+          (record { number = refl; each = c.in_ok-for_child.ensures }) i.images k e (omega (arith, low, grown)));
       room = omega (arith, i.room, c.push_reserved.ensures.capacity);
     }
 
@@ -34,7 +35,8 @@ invariant_of-result g c =
     let all : length v ≤ length news = omega (arith, c.in-None.ensures.steps.0, ap length i.rest, length-drop (length news) v) in
     let long : length news ≡ length v = omega (arith, all, i.within) in
     let good : AreParts C.at C.span v = subst (λ v. AreParts C.at C.span v) c.self.view_is c.self.invariant in
-    subst (λ l. AreParts C.at C.span l) (sym c.from_vec.ensures.items) (good_image C.at C.span child_entry v news long (λ k e low. i.images k e (omega (arith, low, all))) child_none good)
+    subst (λ l. AreParts C.at C.span l) (sym c.from_vec.ensures.items)
+    (good_image C.at C.span child_entry v news long (λ k e low. i.images k e (omega (arith, low, all))) child_none good)
 
 pub returns : goal.returns
 returns g c = λ page.
