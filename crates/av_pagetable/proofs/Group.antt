@@ -24,8 +24,8 @@ pub record IsGathered (parts : List (ℕ × Pte)) (first : ℕ) (group : List Pt
 
 module _ (parts : List (ℕ × Pte)) (good : AreParts alone 1 parts) (first : ℕ) where
   -- at the start no part of a lower number is left, and the group has no entry
-  pub from_gap : (k : ℕ) (group : List Pte) (rest : List (ℕ × Pte)) → k ≤ length parts → AllWithin (λ part. part.0 < first) parts 0 k →
-      AllWithin (λ part. first < part.0) parts k (length parts)
+  pub from_gap : (k : ℕ) (group : List Pte) (rest : List (ℕ × Pte)) → k ≤ length parts → AllWithin (λ part. part.0 < first) parts 0 k
+      → AllWithin (λ part. first < part.0) parts k (length parts)
       → ((i : ℕ) → get_or group i Empty ≡ Empty) → rest ≡ drop k parts → IsGathered parts first group rest
   from_gap k group rest within lower higher none is = record {
     place = k;
@@ -64,8 +64,8 @@ module _ (parts : List (ℕ × Pte)) (good : AreParts alone 1 parts) (first : �
         absent alone 1 parts w.place x x w.within (λ i d low high. let h = w.lower i d low high in omega (arith, h, from)) higher here
 
     -- where no part below a number is left, the group is whole up to it
-    whole : (past : ℕ) → AllWithin (λ part. past ≤ part.0) parts w.place (length parts) → (i : ℕ) → i < 64 → first + i < past →
-        get_or group i Empty ≡ entries alone 1 parts (first + i)
+    whole : (past : ℕ) → AllWithin (λ part. past ≤ part.0) parts w.place (length parts)
+        → (i : ℕ) → i < 64 → first + i < past → get_or group i Empty ≡ entries alone 1 parts (first + i)
     whole past higher i under low = elim (cases_lt (first + i) w.bound) [
       | inl lt ↦ w.done i under lt
       | inr ge ↦ w.none i under ge ∙ sym (between (first + i) ge (λ k d from high. let h = higher k d from high in omega (arith, h, low)))

@@ -20,8 +20,8 @@ loop-part-init c =
       long = omega (arith, c.no_entries-group.type_inv);
       gathered = elim c.match-place.branch [
         | in-Ok w ↦ from_part v good c.args.first k _ _
-            (omega (arith, w.in-Ok.ensures.0, w.start-is)) (λ d. subst (λ k. (get_or v k d).0 ≡ c.args.first) (sym w.start-is) (w.in-Ok.ensures.1 d))
-            c.no_entries-group.ensures left
+            (omega (arith, w.in-Ok.ensures.0, w.start-is))
+            (λ d. subst (λ k. (get_or v k d).0 ≡ c.args.first) (sym w.start-is) (w.in-Ok.ensures.1 d)) c.no_entries-group.ensures left
         | in-Err w ↦ from_gap v good c.args.first k _ _
             (omega (arith, w.in-Err.ensures.0, w.start-is)) (λ i d low high. w.in-Err.ensures.1 i d low (omega (arith, high, w.start-is)))
             (λ i d low high. w.in-Err.ensures.2 i d (omega (arith, low, w.start-is)) high) c.no_entries-group.ensures left
@@ -45,8 +45,8 @@ loop-part-preserved c =
     let i = c.from.result - c.args.first in
     record {
       long = length-set c.loop-part.group i c.in-Some.part.now.1 ∙ c.loop-part.invariant.long;
-      gathered = one_more c.args.self.now good c.args.first _ _ c.loop-part.invariant.gathered c.in-Some.part.now _ c.in-Some.ensures.steps i
-          (omega (arith, c.from.ensures)) c.if-i.false c.loop-part.invariant.long;
+      gathered = one_more c.args.self.now good c.args.first _ _ c.loop-part.invariant.gathered c.in-Some.part.now _ c.in-Some.ensures.steps
+          i (omega (arith, c.from.ensures)) c.if-i.false c.loop-part.invariant.long;
     }
 
 pub returns : goal.returns

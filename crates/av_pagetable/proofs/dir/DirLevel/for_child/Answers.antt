@@ -21,8 +21,8 @@ loop-part-preserved g c =
       rest = item.2 ∙ ap (λ n. drop n v) (sym grown);
       within = omega (arith, grown, item.0);
       images = λ k e low. subst (λ l. IsImage C.at child_entry (get_or v k e) (get_or l k e)) (sym items)
-          (pushed C.at child_entry v news (length news) p x refl item.0 item.1 (record { number = refl; each = c.in_ok-for_child.ensures }) i.images k e
-          (omega (arith, low, grown)));
+          (pushed C.at child_entry v news (length news) p x refl item.0 item.1
+          (record { number = refl; each = c.in_ok-for_child.ensures }) i.images k e (omega (arith, low, grown)));
       room = omega (arith, i.room, c.push_reserved.ensures.capacity);
     }
 
