@@ -18,7 +18,9 @@ use Rattle.av_reclaim.specs.Zap.{HasZapped}
 abbrev pub set_on : ℕ → ℕ → Option Prot → (ℕ → Option Prot) → ℕ → Option Prot
 set_on from n prot prots page = if within from n page then prot else prots page
 
--- the pages of p have these protections now, and those of the others are as they were
+-- the pages of p have these protections now, and those of the others are as they were. (So they are
+-- after a change, `IsChanged`, whose areas rise; but also where nothing was done, and then it isn't
+-- told that areas rise.)
 pub record HasProts (old new : Spaces) (p : ℕ) (prots : ℕ → Option Prot) : Type 0 where
   pub others : (q : ℕ) → q ≢ p → ranges_of new q ≡ ranges_of old q
   pub alive : is_some (ranges_of new p) ≡ true

@@ -7,6 +7,7 @@ use Rattle.std.proofs.lemmas.Bool.Decides.{nat_tests}
 use Rattle.av_base.specs.Page.{page_size}
 use Rattle.av_base.specs.Words.{is_in}
 use Rattle.av_base.specs.declared.slot.Slot.{Slot}
+use Rattle.av_clusters.specs.Clusters.{Slots, fresh}
 use Rattle.av_swapdev.specs.Header.{header_of, number_at}
 use Rattle.av_vma.specs.Pages.{has_page, pages_in}
 use Rattle.av_plain.specs.Areas.{none_on}
@@ -20,7 +21,7 @@ use Rattle.av_plain.specs.Report.{prot_in, AreApart}
 use Rattle.av_plain.specs.Stands.{View, Holds, IsClean, IsKept, Pte, entry_of, prot_of, ranges_in}
 use Rattle.av_plain.specs.World.{Page, Process, lives, pages, process}
 use Rattle.av_laws.specs.Examples.{cached_out, page_with, read_write, slot, with_byte, with_slots, with_swap}
-use Rattle.av_laws.specs.Views.{NotFor, NotGiven, StandsFor, cached_view, fewer_slots, header_page, swap_device, area, with_fewer_slots}
+use Rattle.av_laws.specs.Views.{NotFor, NotGiven, NotOff, StandsFor, cached_view, fewer_slots, header_page, swap_device, area, with_fewer_slots}
 use Rattle.av_laws.proofs.ListsExamples.{cached-listed}
 use Rattle.av_laws.proofs.SoundExample.{cached_out-sound}
 use Rattle.av_plain.proofs.Ledger.NoSwap.{key_is}
@@ -346,6 +347,9 @@ none_given-not h = never (h.lists.slots.taken (slot 1))
 
 pub another_given-not : NotGiven 2
 another_given-not h = never (sym (h.lists.slots.taken (slot 2)))
+
+pub left_over-not : NotOff (fresh 4 (1 ∷ 2 ∷ 3 ∷ []))
+left_over-not h = let e : ◌≡◌ {A = ℕ} 4 0 = ap (λ (s : Slots). length s.pages) (h.lists.slots.off 1 refl) in omega (arith, e)
 
 pub entry_gone-not : NotFor (record (cached_view false false) { table = λ p page. None }) 7
     (cached_out false false)

@@ -1,6 +1,7 @@
 -- Views of a kernel after a fork, when two processes have frame 0: the right one, which stands for
 -- the state, and some that don't. Each of these is the right one but for one thing.
 use Rattle.std.specs.Prelude.{ℕ, ◌-◌, Bool, false, ◌==◌, ◌&&◌, ◌||◌, if◌then◌else◌, List, [], ◌∷◌, ◌++◌, Some, None, option_map, replicate, codes}
+use Rattle.av_clusters.specs.Clusters.{Slots}
 use Rattle.av_plain.specs.Device.{Device, no_device}
 use Rattle.av_plain.specs.Ledger.{SwapArea, entry, frame_at, map_count, slot_entries, slot_of}
 use Rattle.av_base.specs.Words.{with_at}
@@ -178,3 +179,11 @@ abbrev pub NotGiven : ℕ → Type 0
 NotGiven n =
     NotFor (record (cached_view false false) { slots = (with_slots 8 [] n []).slots }) 7
     (record (cached_out false false) { free = with_slots 8 [] n (1 ∷ 2 ∷ 3 ∷ []) })
+
+-- nor one that agrees with the state on what is left of area 1, which is off
+abbrev pub NotOff : Slots → Type 0
+NotOff left = let slots = with_at 1 left (with_slots 8 [] 1 []).slots in
+    NotFor (record (cached_view false false) { slots = slots }) 7
+    (record (cached_out false false) {
+      free = record { frames = 1 ∷ 2 ∷ 3 ∷ []; slots = slots };
+    })

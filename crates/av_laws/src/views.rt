@@ -13,6 +13,7 @@ ghost use Rattle.av_laws.specs.Views.{
   NotGiven,
   NotKin,
   NotLinked,
+  NotOff,
   NotReached,
   Refused,
   StandsFor,
@@ -92,7 +93,8 @@ pub fn cached_views_stand()
 /// A view of a cached page doesn't stand where the device has other bytes than a clean page; where
 /// its frame isn't dirty though stale, or has no slot; where the slot isn't found, isn't named,
 /// isn't in flight or was given back, also where the state has it so, or where another is given;
-/// where its entry is gone; or where an area is on with other numbers than those of its header.
+/// where an area that is off has pages left, though all are bad; where its entry is gone; or where
+/// an area is on with other numbers than those of its header.
 pub fn changed_cached_views_do_not_stand()
     ensures not_written { NotFor (cached_view false false) 9 (cached_out false false) }
     ensures not_dirty { NotFor (record (cached_view false true) { dirty = λ f. false }) 9
@@ -110,6 +112,7 @@ pub fn changed_cached_views_do_not_stand()
         (cached_out false false) }
     ensures none_given { NotGiven 0 }
     ensures another_given { NotGiven 2 }
+    ensures left_over { NotOff (fresh 4 (1 ∷ 2 ∷ 3 ∷ [])) }
     ensures entry_gone { NotFor (record (cached_view false false) { table = λ p page. None }) 7
         (cached_out false false) }
     ensures other_area { NotFor (record (cached_view false false) { on = fewer_slots }) 7

@@ -1,4 +1,4 @@
-use Rattle.av_laws.proofs.SwapViewExamples.{none_given-not, another_given-not, not_written-not, not_dirty-not, no_slot-not, not_found-not, not_named-not, not_flying-not, given_back-not, entry_gone-not, other_area-not, other_header-not}
+use Rattle.av_laws.proofs.SwapViewExamples.{left_over-not, none_given-not, another_given-not, not_written-not, not_dirty-not, no_slot-not, not_found-not, not_named-not, not_flying-not, given_back-not, entry_gone-not, other_area-not, other_header-not}
 use Rattle.av_laws.proofs.views.changed_cached_views_do_not_stand.Goals as goal
 
 pub returns-clause-not_written : goal.returns-clause-not_written
@@ -27,6 +27,9 @@ returns-clause-none_given c = none_given-not
 
 pub returns-clause-another_given : goal.returns-clause-another_given
 returns-clause-another_given c = another_given-not
+
+pub returns-clause-left_over : goal.returns-clause-left_over
+returns-clause-left_over c = left_over-not
 
 pub returns-clause-entry_gone : goal.returns-clause-entry_gone
 returns-clause-entry_gone c = entry_gone-not
