@@ -1,6 +1,9 @@
-ghost use Rattle.std.specs.Prelude.{◌≤◌, OnOk};
+ghost use Rattle.std.specs.Prelude.{◌≡◌, ◌≤◌, ◌<◌, ℕ, true, IsSomeAnd, OnOk};
 ghost use Rattle.av_vma.specs.Areas.{area_of};
+ghost use Rattle.av_vma.specs.Mremap.{IsGrowth, IsMove};
+ghost use Rattle.av_vmatree.specs.Spans.{is_page_taken};
 ghost use Rattle.av_merge.specs.Kin.{AreInOrder};
+ghost use Rattle.av_merge.specs.Pages.{pages_by};
 ghost use Rattle.av_merge.specs.Process.{AreAreasOf};
 
 use av_anon::Anons;
@@ -33,24 +36,42 @@ enum Call {
     Protect(u64, u64, Prot, u64),
     /// Of one page.
     Prepare(u64),
+    /// The first page and how many, then those that they become.
+    Move(u64, u64, u64, u64),
+    /// From an area's last page to below another.
+    Grow(u64, u64),
     Clear,
 }
 
-/// An area: its pages, its protection and its own anon_vma.
+/// An area: its pages, its protection, its offset and its own anon_vma.
 #[derive(Clone, Copy, Drop, PartialEq)]
 struct Seen {
     from: u64,
     to: u64,
     prot: Prot,
+    offset: u64,
     anon: Option<u64>,
 }
 
+/// One whose offset is its first page.
 fn area(from: u64, to: u64, prot: Prot, anon: Option<u64>) -> Seen {
     Seen {
         from,
         to,
         prot,
+        offset: from,
         anon,
+    }
+}
+
+/// One that has been moved, with the anon_vma for which it keeps its offset.
+fn area_with_offset(from: u64, to: u64, offset: u64, anon: u64) -> Seen {
+    Seen {
+        from,
+        to,
+        prot: READ,
+        offset,
+        anon: Some(anon),
     }
 }
 
@@ -125,6 +146,103 @@ fn give_anon(areas: &mut Areas, tree: &Tree, anons: &mut Anons, page: u64) -> Re
     prepare(areas, tree, anons, page)
 }
 
+/// Whether an area holds each page.
+fn are_taken(tree: &Tree, from: u64, past: u64) -> bool
+    ensures { result ≡ true
+        → (page : ℕ) → from ≤ page → page < past → is_page_taken tree.now page ≡ true }
+{
+    let mut page = from;
+    while page < past {
+        if tree.find(page).is_none() {
+            return false;
+        }
+        page += 1;
+    }
+    true
+}
+
+/// Whether an area holds the page, and its offset is far from the greatest one.
+fn is_low(areas: &Areas, tree: &Tree, page: u64) -> bool
+    requires { AreAreasOf 1 (area_of areas.now) tree.now }
+    ensures { result ≡ true → IsSomeAnd (pages_by (area_of areas.now) tree.now page)
+        (λ area. area.pgoff ≤ 64) }
+{
+    let Some(number) = tree.find(page) else {
+        return false;
+    };
+    areas.get(number).pgoff <= 64
+}
+
+/// Whether the pages may become those, for pages below 64.
+fn may_move(areas: &Areas, tree: &Tree, from: u64, pages: u64, to: u64, new_pages: u64) -> bool
+    requires stands { AreAreasOf 1 (area_of areas.now) tree.now }
+    ensures { result ≡ true
+        → IsMove from pages to new_pages (pages_by (area_of areas.now) tree.now) }
+{
+    if from > 32 || to < LOW_PAGE || to > 32 {
+        return false;
+    }
+    if pages == 0 || pages > 32 || new_pages == 0 || new_pages > 32 {
+        return false;
+    }
+    let is_apart = to + new_pages <= from || from + pages <= to;
+    if !is_apart || !are_taken(tree, from, from + pages) {
+        return false;
+    }
+    is_low(areas, tree, from + pages.min(new_pages) - 1)
+}
+
+/// Whether the area of a page may grow from there on, to below another page below 64.
+fn may_grow(areas: &Areas, tree: &Tree, last: u64, past: u64) -> bool
+    requires stands { AreAreasOf 1 (area_of areas.now) tree.now }
+    ensures { result ≡ true → IsGrowth last past (pages_by (area_of areas.now) tree.now) }
+{
+    if last > 64 || past > 64 || past <= last + 1 || !tree.is_free(last + 1, past) {
+        return false;
+    }
+    is_low(areas, tree, last)
+}
+
+fn carry(
+    areas: &mut Areas,
+    tree: &mut Tree,
+    anons: &mut Anons,
+    from: u64,
+    pages: u64,
+    to: u64,
+    new_pages: u64,
+) -> Result<(), Fail>
+    requires order { AreInOrder areas.old anons.old }
+    requires stands { AreAreasOf 1 (area_of areas.old) tree.old }
+    ensures stands { AreAreasOf 1 (area_of areas.new) tree.new }
+    ensures order { OnOk result (AreInOrder areas.new anons.new) }
+{
+    if !may_move(areas, tree, from, pages, to, new_pages) {
+        return Err(Fail::new("the pages can't be moved"));
+    }
+    move_range(areas, tree, anons, from, pages, to, new_pages)?;
+    Ok(())
+}
+
+fn lengthen(
+    areas: &mut Areas,
+    tree: &mut Tree,
+    anons: &mut Anons,
+    last: u64,
+    past: u64,
+) -> Result<(), Fail>
+    requires order { AreInOrder areas.old anons.old }
+    requires stands { AreAreasOf 1 (area_of areas.old) tree.old }
+    ensures stands { AreAreasOf 1 (area_of areas.new) tree.new }
+    ensures order { OnOk result (AreInOrder areas.new anons.new) }
+{
+    if !may_grow(areas, tree, last, past) {
+        return Err(Fail::new("the area can't grow"));
+    }
+    grow(areas, tree, anons, last, past)?;
+    Ok(())
+}
+
 fn end(areas: &mut Areas, tree: &mut Tree, anons: &mut Anons)
     requires order { AreInOrder areas.old anons.old }
     requires stands { AreAreasOf 1 (area_of areas.old) tree.old }
@@ -149,6 +267,10 @@ fn make(call: Call, areas: &mut Areas, tree: &mut Tree, anons: &mut Anons) -> Re
             }
         }
         Call::Prepare(page) => give_anon(areas, tree, anons, page)?,
+        Call::Move(from, pages, to, new_pages) => {
+            carry(areas, tree, anons, from, pages, to, new_pages)?
+        }
+        Call::Grow(last, past) => lengthen(areas, tree, anons, last, past)?,
         Call::Clear => end(areas, tree, anons),
         _ => return Err(Fail::new("no range")),
     }
@@ -192,10 +314,16 @@ fn area_from(areas: &Areas, tree: &Tree, anons: &Anons, page: u64) -> Result<Opt
     }
     let links = anons.links();
     let is_alone = links.first(number) == anon && links.len(number) == u64::from(anon.is_some());
-    if pid != 1 || flags != 0 || pgoff != page || !is_alone {
-        return Err(Fail::new("another process, offset, flags or chain"));
+    if pid != 1 || flags != 0 || !is_alone {
+        return Err(Fail::new("another process, flags or chain"));
     }
-    Ok(Some(area(page, end / PAGE_SIZE, prot, anon)))
+    Ok(Some(Seen {
+        from: page,
+        to: end / PAGE_SIZE,
+        prot,
+        offset: pgoff,
+        anon,
+    }))
 }
 
 /// Whether the calls leave these areas on the pages from 16 to below 26.
@@ -306,5 +434,140 @@ fn areas_on_both_sides_take_the_anon_vma_between(rt: HostRuntime) -> Result<(), 
     ];
     assert!(rt; leave(rt.alloc(), &calls[..5], &one)?);
     assert!(rt; leave(rt.alloc(), &calls, &all)?);
+    Ok(())
+}
+
+#[test]
+fn a_move_keeps_the_offset_where_there_is_an_anon_vma(rt: HostRuntime) -> Result<(), Fail> {
+    let calls = [
+        Call::Map(16, 18, READ),
+        Call::Move(16, 2, 22, 2),
+        Call::Prepare(23),
+        Call::Move(22, 2, 17, 2),
+    ];
+    assert!(rt; leave(rt.alloc(), &calls[..2], &[area(22, 24, READ, None)])?);
+    assert!(rt; leave(rt.alloc(), &calls, &[area_with_offset(17, 19, 22, 0)])?);
+    Ok(())
+}
+
+#[test]
+fn a_move_cuts_at_both_ends(rt: HostRuntime) -> Result<(), Fail> {
+    let calls = [
+        Call::Map(16, 22, READ),
+        Call::Prepare(17),
+        Call::Move(18, 2, 23, 2),
+        Call::Move(20, 2, 17, 1),
+    ];
+    let apart = [
+        area(16, 18, READ, Some(0)),
+        area(20, 22, READ, Some(0)),
+        area_with_offset(23, 25, 18, 0),
+    ];
+    let short = [
+        area(16, 17, READ, Some(0)),
+        area_with_offset(17, 18, 20, 0),
+        area_with_offset(23, 25, 18, 0),
+    ];
+    assert!(rt; leave(rt.alloc(), &calls[..3], &apart)?);
+    assert!(rt; leave(rt.alloc(), &calls, &short)?);
+    Ok(())
+}
+
+#[test]
+fn what_stands_at_the_target_goes_and_what_is_beside_it_joins(rt: HostRuntime) -> Result<(), Fail> {
+    let calls = [
+        Call::Map(16, 18, READ),
+        Call::Map(18, 20, WRITE),
+        Call::Map(22, 23, READ),
+        Call::Prepare(22),
+        Call::Map(24, 25, READ),
+        Call::Move(24, 1, 18, 4),
+    ];
+    let one = [area(16, 23, READ, Some(0))];
+    assert!(rt; leave(rt.alloc(), &calls, &one)?);
+    Ok(())
+}
+
+/// Two pieces go back to where their offsets are, and what was mapped between them joins the first.
+#[test]
+fn pieces_join_by_rising_address(rt: HostRuntime) -> Result<(), Fail> {
+    let calls = [
+        Call::Map(16, 17, READ),
+        Call::Prepare(16),
+        Call::Move(16, 1, 22, 1),
+        Call::Map(18, 19, READ),
+        Call::Prepare(18),
+        Call::Move(18, 1, 24, 1),
+        Call::Map(23, 24, READ),
+        Call::Move(22, 3, 16, 3),
+    ];
+    let apart = [
+        area_with_offset(22, 23, 16, 0),
+        area(23, 24, READ, None),
+        area_with_offset(24, 25, 18, 1),
+    ];
+    let joined = [area(16, 18, READ, Some(0)), area(18, 19, READ, Some(1))];
+    assert!(rt; leave(rt.alloc(), &calls[..7], &apart)?);
+    assert!(rt; leave(rt.alloc(), &calls, &joined)?);
+    Ok(())
+}
+
+/// The first piece would go on where the last one ends that still stands at the source.
+#[test]
+fn nothing_joins_what_is_to_move(rt: HostRuntime) -> Result<(), Fail> {
+    let calls = [
+        Call::Map(16, 18, READ),
+        Call::Prepare(16),
+        Call::Move(17, 1, 20, 1),
+        Call::Move(16, 1, 21, 1),
+        Call::Move(20, 2, 22, 2),
+    ];
+    let pieces = [
+        area_with_offset(22, 23, 17, 0),
+        area_with_offset(23, 24, 16, 0),
+    ];
+    assert!(rt; leave(rt.alloc(), &calls, &pieces)?);
+    Ok(())
+}
+
+/// The moved page joins the one before it first; then its old page is mapped, and joins another.
+#[test]
+fn a_range_that_stays_is_mapped_after_the_joins(rt: HostRuntime) -> Result<(), Fail> {
+    let calls = [
+        Call::Map(16, 17, READ),
+        Call::Prepare(16),
+        Call::Map(19, 20, READ),
+        Call::Prepare(19),
+        Call::Move(19, 1, 17, 1),
+        Call::Map(18, 19, READ),
+        Call::Move(17, 1, 19, 1),
+        Call::Map(17, 18, READ),
+    ];
+    let gone = [area(16, 17, READ, Some(0)), area(18, 20, READ, Some(1))];
+    let stays = [area(16, 18, READ, Some(0)), area(18, 20, READ, Some(1))];
+    assert!(rt; leave(rt.alloc(), &calls[..7], &gone)?);
+    assert!(rt; leave(rt.alloc(), &calls, &stays)?);
+    Ok(())
+}
+
+#[test]
+fn an_area_grows_up_to_the_next(rt: HostRuntime) -> Result<(), Fail> {
+    let calls = [
+        Call::Map(16, 18, READ),
+        Call::Prepare(16),
+        Call::Map(22, 24, READ),
+        Call::Grow(17, 20),
+        Call::Grow(19, 22),
+        Call::Cut(18, 19),
+        Call::Cut(20, 24),
+        Call::Move(19, 1, 20, 1),
+        Call::Grow(20, 22),
+        Call::Grow(17, 20),
+    ];
+    let parts = [area(16, 20, READ, Some(0)), area(22, 24, READ, None)];
+    let apart = [area(16, 20, READ, Some(0)), area_with_offset(20, 22, 19, 0)];
+    assert!(rt; leave(rt.alloc(), &calls[..4], &parts)?);
+    assert!(rt; leave(rt.alloc(), &calls[..5], &[area(16, 24, READ, Some(0))])?);
+    assert!(rt; leave(rt.alloc(), &calls, &apart)?);
     Ok(())
 }
