@@ -1,7 +1,7 @@
 //! Lists of nodes. A node lies in two at once, and leaves both in constant time.
 ghost use Rattle.std.specs.Prelude.{◌≡◌, ℕ, ◌-◌, ◌<◌, ◌^◌, ◌⊎◌, Some, IfSome, IsSome, nat_eq};
 ghost use Rattle.std.specs.HashMap.{get, spare};
-ghost use Rattle.av_chain.specs.Rows.{leads_on, leads_back, Reaches, last_of, grown, shrunk, after_join, after_part, HaveHead};
+ghost use Rattle.av_chain.specs.Rows.{leads_on, leads_back, Reaches, last_of, head_with, head_without, after_join, after_part, HaveHead};
 
 use crate::node::{Head, Node, Place, Sides, Way};
 use crate::nodes::Nodes;
@@ -39,7 +39,7 @@ impl Nodes {
         requires few { IfSome (get nat_eq heads.old key) (λ h. h.count < 2 ^ 64 - 1) }
         ensures blocks { self.new.blocks
             ≡ after_join way place (get nat_eq heads.old key) self.old.blocks }
-        ensures heads { HaveHead key (Some (grown place (get nat_eq heads.old key)))
+        ensures heads { HaveHead key (Some (head_with place (get nat_eq heads.old key)))
             (get nat_eq heads.old) (get nat_eq heads.new) }
     {
         let head = match heads.get(&key) {
@@ -78,7 +78,7 @@ impl Nodes {
         requires some { IsSome (get nat_eq heads.old key) }
         requires few { IfSome (get nat_eq heads.old key) (λ h. 0 < h.count) }
         ensures blocks { self.new.blocks ≡ after_part way sides self.old.blocks }
-        ensures heads { HaveHead key (shrunk sides (get nat_eq heads.old key))
+        ensures heads { HaveHead key (head_without sides (get nat_eq heads.old key))
             (get nat_eq heads.old) (get nat_eq heads.new) }
     {
         self.lead_on(way, sides.before, sides.after);
@@ -99,7 +99,7 @@ impl Nodes {
 // What a list's head is without a node that had these neighbours.
 fn left(sides: Sides, head: Head) -> Option<Head>
     requires { 0 < head.count }
-    ensures { result ≡ shrunk sides (Some head) }
+    ensures { result ≡ head_without sides (Some head) }
 {
     let count = head.count - 1;
     match (sides.before, sides.after) {
