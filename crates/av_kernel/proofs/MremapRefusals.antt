@@ -1,5 +1,5 @@
 -- What refuses an mremap.
-use Rattle.std.proofs.Common.{◌≡◌, ℕ, Bool, true, false, cond, not, [], Some, None, Err, is_some, refl, sym, ap, subst, ◌∙◌}
+use Rattle.std.proofs.Common.{◌≡◌, ℕ, true, false, cond, not, [], Some, None, Err, is_some, refl, sym, ap, subst, ◌∙◌}
 use Rattle.std.specs.Prelude.{MatchOption}
 use Rattle.av_base.specs.Page.{page_of, pages_of}
 use Rattle.av_trace.specs.Reply.{answer_only}

@@ -1,18 +1,17 @@
 -- Which mremap is refused, by the protections of pages.
-use Rattle.std.proofs.Common.{◌≡◌, ℕ, zero, suc, ◌+◌, ◌-◌, ◌<◌, ◌≤◌, nat_le, nat_lt, Bool, true, false, cond, not, ◌&&◌, ◌||◌, Result, Ok, Err, Option, Some, None, is_some, option_map, refl, sym, ap, subst, ◌∙◌, arith}
+use Rattle.std.proofs.Common.{◌≡◌, ℕ, zero, suc, ◌+◌, ◌-◌, ◌<◌, ◌≤◌, nat_le, Bool, true, false, not, ◌&&◌, ◌||◌, Result, Ok, Err, Option, Some, None, is_some, option_map, refl, sym, ap, subst, ◌∙◌, arith}
 use Rattle.std.proofs.lemmas.Bool.{false≢true}
 use Rattle.std.proofs.lemmas.Bool.Decides.{nat_tests}
 use Rattle.std.specs.Option.{option_map_or}
 use Rattle.std.specs.Bool.{beq}
 use Rattle.std.specs.Prelude.{MatchBool, MatchResult}
 use Rattle.av_base.specs.Limits.{top_page}
-use Rattle.av_base.specs.Page.{address_of, is_on_page, page_of, pages_of as pages_of_length}
 use Rattle.av_base.specs.declared.prot.Prot.{Prot}
 use Rattle.av_vma.specs.declared.area.Area.{Area}
 use Rattle.av_trace.specs.declared.mode.Mode.{Mode}
 use Rattle.av_trace.specs.declared.mode.Mode.TheVariants.{DontUnmap, MayMove}
 use Rattle.av_trace.specs.declared.reply.Errno.{Errno}
-use Rattle.av_trace.specs.declared.reply.Errno.TheVariants.{Efault, Einval, Enomem, Eperm}
+use Rattle.av_trace.specs.declared.reply.Errno.TheVariants.{Enomem}
 use Rattle.av_vma.specs.Gap.{IsGap}
 use Rattle.av_vma.specs.Join.{past_of, same_prot}
 use Rattle.av_vma.specs.Pages.{AreLaid, Pages}
@@ -21,8 +20,7 @@ use Rattle.av_vma.proofs.Laid.{has_from, has_parts}
 use Rattle.av_vma.proofs.Prots.{area_prot, prots}
 use Rattle.av_vmatree.specs.Spans.{IsFree, IsMet}
 use Rattle.av_spaces.specs.Spaces.{Spaces, is_taken, pages_of}
-use Rattle.av_plain.specs.Mremap.{has_prot, have_one_prot, have_prot, is_in_place, may_stay, prot_at, target_of}
-use Rattle.av_plain.specs.Refusal.{are_bad_lengths, is_below_low, is_no_target, mremap_tests, refusal, top}
+use Rattle.av_plain.specs.Mremap.{has_prot, have_one_prot, have_prot, may_stay, prot_at}
 use Rattle.av_plain.specs.World.{Page, Process, is_mapped, meets}
 use Rattle.av_plain.proofs.Mremap.Legal.{have_prot-each}
 use Rattle.av_kernel.specs.Mremap.{HasProtsOf, IsTarget}
@@ -70,28 +68,10 @@ mapped_as s p q same page = by (pages_of s p page) (q page) (same page)
     by (Some area) None e = cc
     by (Some area) (Some x) e = refl
 
--- what is asked of the pages, where the first one isn't mapped
-pub none_there : (s : Spaces) (p : ℕ) (q : Process) (from n : ℕ) → HasProtsOf s p q → pages_of s p from ≡ None → (b : Bool)
-    → false ≡ cond b (is_mapped q from) (have_one_prot q from n)
-none_there s p q from n same none b = by (q from) b (ap (option_map (λ (area : Area). area.prot)) (sym none) ∙ same from)
-  where
-    by : (x : Option Page) (b : Bool) → None ≡ option_map (λ (x : Page). x.prot) x
-        → false ≡ cond b (is_some x) (option_map_or (λ (x : Page). have_prot q x.prot from n) x false)
-    by None true e = refl
-    by None false e = refl
-    by (Some x) b e = cc
-
--- and where it is
+-- where the first page is mapped
 module _ (s : Spaces) (p : ℕ) (q : Process) (from n : ℕ) (area : Area) (same : HasProtsOf s p q) (there : pages_of s p from ≡ Some area) where
   first_is : Some area.prot ≡ prot_at q from
   first_is = ap (option_map (λ (area : Area). area.prot)) (sym there) ∙ same from
-
-  pub one_there : true ≡ is_mapped q from
-  one_there = by (q from) first_is
-    where
-      by : (x : Option Page) → Some area.prot ≡ option_map (λ (x : Page). x.prot) x → true ≡ is_some x
-      by None e = cc
-      by (Some x) e = refl
 
   pub all_there : have_prot q area.prot from n ≡ have_one_prot q from n
   all_there = by (q from) first_is
@@ -186,21 +166,3 @@ module _ (s : Spaces) (p : ℕ) (q : Process) (same : HasProtsOf s p q) (from n 
       by : (r : Result ℕ Errno) → Gap r → IsTarget q from n m (DontUnmap None) r
       by (Ok to) h = gap_is (Some to) h
       by (Err error) h = (gap_is None h.0, h.1)
-
--- ---- the tests in their order
-
--- each by its outcome, where the lengths are told in pages
-module _ (q : Process) (a olen nlen n m : ℕ) (mode : Mode) (as_old : n ≡ pages_of_length olen) (as_new : m ≡ pages_of_length nlen) where
-  at_lengths : (P : ℕ → ℕ → Type 0) → P n m → P (pages_of_length olen) (pages_of_length nlen)
-  at_lengths P h = subst (λ x. P x (pages_of_length nlen)) as_old (subst (P n) as_new h)
-
-  pub tests_by : (b c d e f : Bool) → (not (is_on_page a) || are_bad_lengths olen nlen mode) ≡ b → is_no_target a n m (target_of mode) ≡ c
-      → cond (is_in_place mode n m) (is_mapped q (page_of a)) (have_one_prot q (page_of a) n) ≡ d
-      → (is_in_place mode n m && nat_lt m n && nat_lt top (a + address_of n)) ≡ e → is_below_low (target_of mode) ≡ f
-      → refusal (mremap_tests q a olen nlen mode)
-      ≡ cond b (Some Einval) (cond c (Some Einval) (cond (not d) (Some Efault) (cond e (Some Einval) (cond f (Some Eperm) None))))
-  tests_by b c d e f h i j k l =
-      let i' = at_lengths (λ n m. is_no_target a n m (target_of mode) ≡ c) i in
-      let j' = at_lengths (λ n m. cond (is_in_place mode n m) (is_mapped q (page_of a)) (have_one_prot q (page_of a) n) ≡ d) j in
-      let k' = at_lengths (λ n m. (is_in_place mode n m && nat_lt m n && nat_lt top (a + address_of n)) ≡ e) k in
-      (λ t. cond (h t) (Some Einval) (cond (i' t) (Some Einval) (cond (not (j' t)) (Some Efault) (cond (k' t) (Some Einval) (cond (l t) (Some Eperm) None)))))

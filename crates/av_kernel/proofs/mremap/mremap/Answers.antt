@@ -1,8 +1,7 @@
-use Rattle.std.proofs.Common.{◌≡◌, ◌/◌, ◌≤◌, Err, refl, ap, arith, subst, sym, ◌∙◌}
+use Rattle.std.proofs.Common.{◌/◌, ◌≤◌, Err, refl, ap, arith, subst, sym, ◌∙◌}
 use Rattle.av_frames.specs.Store.{seen}
 use Rattle.av_pagetable.specs.Entries.{has}
 use Rattle.av_trace.specs.declared.command.Command.TheVariants.{Mremap}
-use Rattle.av_trace.specs.declared.reply.Errno.{Errno}
 use Rattle.av_trace.specs.declared.reply.Errno.TheVariants.{Esrch}
 use Rattle.av_plain.specs.Areas.{chain_length}
 use Rattle.av_plain.specs.Mremap.{after_mremap}

@@ -11,8 +11,8 @@ pub take_tree-tree-requires : goal.take_tree-tree-requires
 take_tree-tree-requires c = (lives_is (area_of c.self.inside.areas) c.self.inside.trees.items c.args.process ∙ ap (λ s. is_some (areas_of s c.args.process))
     (processes_are c.self.view_is) ∙ c.requires.lives)
 
-pub clear-requires : goal.clear-requires
-clear-requires c = record {
+pub cut_all-requires : goal.cut_all-requires
+cut_all-requires c = record {
   order = order_in c.self.inside.areas c.self.inside.trees.items c.args.self.now c.args.anons.now c.self.view_is c.requires.order;
   stands = (
     c.args.process,
