@@ -1,5 +1,5 @@
 -- What an mremap goes by: the protections of pages, and where they go.
-use Rattle.std.specs.Prelude.{◌≡◌, ℕ, ◌+◌, ◌-◌, ◌^◌, ◌<◌, Some, None, option_map, IsSomeAnd, Result, Ok, Err}
+use Rattle.std.specs.Prelude.{◌≡◌, ℕ, ◌+◌, ◌-◌, ◌^◌, ◌<◌, ◌≤◌, Some, None, option_map, IsSomeAnd, Result, Ok, Err}
 use Rattle.av_trace.specs.declared.mode.Mode.{Mode}
 use Rattle.av_trace.specs.declared.reply.Errno.{Errno}
 use Rattle.av_trace.specs.declared.reply.Errno.TheVariants.{Enomem}
@@ -23,3 +23,8 @@ IsTarget q from n m mode (Err error) = MovesTo q from n m mode None × (error �
 abbrev pub StaySmall : Spaces → ℕ → ℕ → ℕ → ℕ → Type 0
 StaySmall s p from n m = n < m → IsSomeAnd (pages_of s p (from + n - 1))
     (λ (area : Area). index_of area (from + n - 1) + (m - n) < 2 ^ 60)
+
+-- one would get too great
+abbrev pub GrowTooFar : Spaces → ℕ → ℕ → ℕ → ℕ → Type 0
+GrowTooFar s p from n m = IsSomeAnd (pages_of s p (from + n - 1))
+    (λ (area : Area). 2 ^ 60 ≤ index_of area (from + n - 1) + (m - n))

@@ -1,9 +1,9 @@
 //! The command `mremap`: a range of pages moves, shrinks or grows, with what it has.
 
-ghost use Rattle.std.specs.Prelude.{◌≡◌, ℕ, ◌+◌, ◌-◌, ◌^◌, ◌<◌, ◌≤◌, ◌==◌, true, false, not, is_some, if◌then◌else◌, None, Some, MatchResult, OnOk};
+ghost use Rattle.std.specs.Prelude.{◌≡◌, ℕ, ◌+◌, ◌-◌, ◌^◌, ◌<◌, ◌≤◌, ◌==◌, true, false, not, is_some, if◌then◌else◌, None, Some, MatchResult, OnErr, OnOk};
 ghost use Rattle.av_base.specs.Limits.{top_page};
 ghost use Rattle.av_base.specs.Page.{is_on_page};
-ghost use Rattle.av_kernel.specs.Mremap.{HasProtsOf, IsTarget, StaySmall};
+ghost use Rattle.av_kernel.specs.Mremap.{GrowTooFar, HasProtsOf, IsTarget, StaySmall};
 ghost use Rattle.av_kernel.specs.Step.{Does, reply_in};
 ghost use Rattle.av_plain.specs.Mremap as plain;
 ghost use Rattle.av_plain.specs.Refusal as refusals;
@@ -287,7 +287,8 @@ fn check_indices(
     requires new_few { new_pages < 2 ^ 62 }
     requires mapped { pages < new_pages
         → is_taken spaces.now.processes process (from + pages - 1) ≡ true }
-    ensures { OnOk result (StaySmall spaces.now.processes process from pages new_pages) }
+    ensures small { OnOk result (StaySmall spaces.now.processes process from pages new_pages) }
+    ensures great { OnErr result (GrowTooFar spaces.now.processes process from pages new_pages) }
 {
     if new_pages <= pages {
         return Ok(());

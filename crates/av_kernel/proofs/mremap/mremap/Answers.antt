@@ -96,11 +96,11 @@ remap_areas-requires-clause-shrinks c = shrink_by (goes (goal.at.remap_areas-req
 
 pub remap_areas-requires-clause-grows : goal.remap_areas-requires-clause-grows
 remap_areas-requires-clause-grows c =
-    grow_by (goes (goal.at.remap_areas-requires-clause-grows c).In_ok-to) c.requires.steady c.in_ok-check_indices.ensures
+    grow_by (goes (goal.at.remap_areas-requires-clause-grows c).In_ok-to) c.requires.steady c.in_ok-check_indices.ensures.small
 
 pub remap_areas-requires-clause-moves : goal.remap_areas-requires-clause-moves
 remap_areas-requires-clause-moves c =
-    move_by (goes (goal.at.remap_areas-requires-clause-moves c).In_ok-to) c.requires.steady c.in_ok-check_indices.ensures
+    move_by (goes (goal.at.remap_areas-requires-clause-moves c).In_ok-to) c.requires.steady c.in_ok-check_indices.ensures.small
 
 pub returns-in_err-remap_areas : goal.returns-in_err-remap_areas
 returns-in_err-remap_areas c =
@@ -128,18 +128,18 @@ remap_entries-requires-clause-there c =
 
 pub remap_entries-requires-clause-old_range : goal.remap_entries-requires-clause-old_range
 remap_entries-requires-clause-old_range c = λ there.
-    let high = high_by (goes (goal.at.remap_entries-requires-clause-old_range c).In_ok-to) c.requires.steady c.in_ok-check_indices.ensures there in
+    let high = high_by (goes (goal.at.remap_entries-requires-clause-old_range c).In_ok-to) c.requires.steady c.in_ok-check_indices.ensures.small there in
     omega arith
 
 pub remap_entries-requires-clause-new_range : goal.remap_entries-requires-clause-new_range
 remap_entries-requires-clause-new_range c = λ there.
     let go = goes (goal.at.remap_entries-requires-clause-new_range c).In_ok-to in
-    let high = (move_by go c.requires.steady c.in_ok-check_indices.ensures there).high in
+    let high = (move_by go c.requires.steady c.in_ok-check_indices.ensures.small there).high in
     omega arith
 
 pub remap_entries-requires-clause-apart : goal.remap_entries-requires-clause-apart
 remap_entries-requires-clause-apart c = λ there.
-    (move_by (goes (goal.at.remap_entries-requires-clause-apart c).In_ok-to) c.requires.steady c.in_ok-check_indices.ensures there).apart
+    (move_by (goes (goal.at.remap_entries-requires-clause-apart c).In_ok-to) c.requires.steady c.in_ok-check_indices.ensures.small there).apart
 
 pub returns-in_err-remap_entries : goal.returns-in_err-remap_entries
 returns-in_err-remap_entries c =
@@ -152,7 +152,7 @@ returns-in_err-remap_entries c =
 
 pub overflow_mul-to : goal.overflow_mul-to
 overflow_mul-to c =
-    let low = to_fits (goes (goal.at.overflow_mul-to c).In_ok-to) c.requires.steady c.in_ok-check_indices.ensures
+    let low = to_fits (goes (goal.at.overflow_mul-to c).In_ok-to) c.requires.steady c.in_ok-check_indices.ensures.small
     (omega (arith, c.ranges.address)) in
     omega (arith, low)
 
@@ -164,7 +164,7 @@ returns c = record {
       let gone = c.remap_areas.new.mem in
       let left = c.prot_left-left.ensures (pages s.world a.process) (has_prots_of a.mem.now s keeps a.process) in
       answers a.reply.now c.requires.cleared
-      (steps_by (goes (goal.at.returns c).In_ok-to) s keeps c.in_ok-check_indices.ensures gone c.remap_entries.new.mem
+      (steps_by (goes (goal.at.returns c).In_ok-to) s keeps c.in_ok-check_indices.ensures.small gone c.remap_entries.new.mem
       c.remap_areas.ensures.frames c.remap_areas.ensures.tables
       (subst (λ left. HasRemap a.mem.now gone a.process (after_mremap (chain_length s.anons) a.process (a.address / 4096)
       c.div_ceil-pages.result c.in_ok-to.to c.div_ceil-new_pages.result left (s.areas a.process))) left (c.in_ok-remap_areas.ensures.remaps s keeps))
