@@ -116,7 +116,7 @@ abbrev pub process_after_mremap : ℕ → ℕ → ℕ → ℕ → Option Prot �
 process_after_mremap from n to m left q page =
     if within to m page
     then (if nat_lt (page - to) n then q (from + (page - to))
-        else option_map zeros (prot_at q from))
+    else option_map zeros (prot_at q from))
     else (if within from n page then option_map zeros left else q page)
 
 -- ---- the areas after it
