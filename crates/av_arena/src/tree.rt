@@ -9,7 +9,7 @@ use crate::below::{
     is_at, joined_below, placed_below, removed_below, replaced_below, settle, split_below, take,
 };
 use crate::entry::Entry;
-use crate::link::{Link, Stored};
+use crate::link::{Link, Side, Stored};
 
 #[inline]
 pub fn height<S: Copy + Drop>(tree: Option<Link<S>>) -> u64
@@ -185,7 +185,8 @@ pub fn balance<T: Entry>(
 /// Whether two links are the same.
 #[inline]
 pub fn is_same<T: Entry>(left: Option<Link<T::Sum>>, right: Option<Link<T::Sum>>) -> bool
-    ensures { result ≡ true → left ≡ right }
+    ensures same { result ≡ true → left ≡ right }
+    ensures told { left ≡ right → result ≡ true }
 {
     match (left, right) {
         (None, None) => true,
@@ -233,7 +234,7 @@ fn with_left<T: Entry>(
         return balance(arena, tree.number, left, middle, after);
     }
     let total = T::join_sums(sum::<T>(left), &middle, sum::<T>(after));
-    arena.set_left(tree.number, left);
+    arena.set_side(tree.number, Side::Left, left);
     Link {
         number: tree.number,
         height: tree.height,
