@@ -2,7 +2,11 @@
 //
 // They go by the numbers of nodes, which are read where they lie, and answer whether the node is
 // another one afterwards: where it is not, nothing above is looked at.
-ghost use Rattle.std.specs.Prelude.{◌≡◌, true, false, IsSome};
+//
+// A step to either side is one function, in line and called with a constant, so that no side is
+// kept over the call below. What is called but once in a change takes the side last, so that what
+// comes before it lies where the caller was given it.
+ghost use Rattle.std.specs.Prelude.{◌≡◌, true, false, IsSome, Some};
 ghost use Rattle.av_arena.specs.Arena.{store_of};
 ghost use Rattle.av_arena.specs.Below.{HasKeyBelow, IsAt, IsBeside, IsBetween, IsHung, IsJoinBelowFor, IsJoinedBelow, IsLevelAt, IsPlaceBelow, IsPlacedBelow, IsRemovedBelow, IsReplacedBelow, IsSettled, IsSideFor, IsSideSettled, IsSideTaken, IsSplitBelow, IsSplitBelowFor, IsTaken, IsTold, IsUnsettled, TellsSide, child_number, entry_below, number_of};
 
@@ -64,7 +68,7 @@ fn rotate<T: Entry>(arena: &mut Arena<T, T::Sum>, number: u64) -> Link<T::Sum>
 /// Settles a side of a node, whose root is `child`, by a rotation.
 #[cold]
 #[inline(never)]
-fn turn_side<T: Entry>(arena: &mut Arena<T, T::Sum>, number: u64, side: Side, child: u64) -> bool
+fn turn_side<T: Entry>(arena: &mut Arena<T, T::Sum>, number: u64, child: u64, side: Side) -> bool
     requires child { IsUnsettled T.key T.unit T.op T.of 2 (store_of arena.old) child }
     requires used { IsSome (store_of arena.old number) }
     ensures { IsSideSettled T.key T.unit T.op T.of side (store_of arena.old) (store_of arena.new)
@@ -77,7 +81,7 @@ fn turn_side<T: Entry>(arena: &mut Arena<T, T::Sum>, number: u64, side: Side, ch
 
 /// Whether a node is told this of its side.
 #[inline(always)]
-fn tells<T: Entry>(arena: &Arena<T, T::Sum>, number: u64, side: Side, link: Link<T::Sum>) -> bool
+fn tells<T: Entry>(arena: &Arena<T, T::Sum>, number: u64, link: Link<T::Sum>, side: Side) -> bool
     requires { IsSome (store_of arena.now number) }
     ensures { TellsSide (store_of arena.now) number side link result }
 {
@@ -91,17 +95,17 @@ fn tells<T: Entry>(arena: &Arena<T, T::Sum>, number: u64, side: Side, link: Link
 /// Settles a side of a node, whose root is `child`, and tells it to the node, where it is told
 /// otherwise.
 #[inline(always)]
-fn settle_side<T: Entry>(arena: &mut Arena<T, T::Sum>, number: u64, side: Side, child: u64) -> bool
+fn settle_side<T: Entry>(arena: &mut Arena<T, T::Sum>, number: u64, child: u64, side: Side) -> bool
     requires child { IsUnsettled T.key T.unit T.op T.of 2 (store_of arena.old) child }
     requires used { IsSome (store_of arena.old number) }
     ensures { IsSideSettled T.key T.unit T.op T.of side (store_of arena.old) (store_of arena.new)
         number child result }
 {
     if !is_level(arena, child) {
-        return turn_side(arena, number, side, child);
+        return turn_side(arena, number, child, side);
     }
     let link = told(arena, child);
-    if tells(arena, number, side, link) {
+    if tells(arena, number, link, side) {
         return false;
     }
     arena.set_side(number, side, Some(link));
@@ -110,7 +114,7 @@ fn settle_side<T: Entry>(arena: &mut Arena<T, T::Sum>, number: u64, side: Side, 
 
 /// Puts a node without sides on a side of another.
 #[inline(never)]
-fn hang<T: Entry>(arena: &mut Arena<T, T::Sum>, number: u64, side: Side, new: u64, entry: &T)
+fn hang<T: Entry>(arena: &mut Arena<T, T::Sum>, number: u64, new: u64, entry: &T, side: Side)
     requires used { IsSome (store_of arena.old number) }
     requires new { IsSome (store_of arena.old new) }
     ensures { IsHung T.key T.unit T.op T.of side (store_of arena.old) (store_of arena.new) number
@@ -175,6 +179,7 @@ fn side_beside<T: Entry>(arena: &Arena<T, T::Sum>, number: u64, first: &T, last:
 }
 
 /// Puts the node `new`, which is in use and not in the tree, into the tree with the root `number`.
+#[cycle(place)]
 pub fn placed_below<T: Entry>(
     arena: &mut Arena<T, T::Sum>,
     number: u64,
@@ -185,34 +190,71 @@ pub fn placed_below<T: Entry>(
     ensures { IsPlacedBelow T.key T.unit T.op T.of (store_of arena.old) (store_of arena.new) number
         new entry.now result }
 {
-    let side = side_for(arena, number, entry);
+    match side_for(arena, number, entry) {
+        Side::Left => placed_on(arena, number, new, entry, Side::Left),
+        Side::Right => placed_on(arena, number, new, entry, Side::Right),
+    }
+}
+
+/// The step of `placed_below` to the side where the key of `entry` belongs.
+#[cycle(place)]
+#[inline(always)]
+fn placed_on<T: Entry>(
+    arena: &mut Arena<T, T::Sum>,
+    number: u64,
+    new: u64,
+    entry: &T,
+    side: Side,
+) -> bool
+    requires place { IsPlaceBelow T.key T.unit T.op T.of (store_of arena.old) number new entry.now }
+    requires side { IsSideFor T.key T.unit T.op T.of (store_of arena.old) number entry.now side }
+    ensures { IsPlacedBelow T.key T.unit T.op T.of (store_of arena.old) (store_of arena.new) number
+        new entry.now result }
+{
     let Some(child) = child_of(arena, number, side) else {
-        hang(arena, number, side, new, entry);
+        hang(arena, number, new, entry, side);
         return true;
     };
     if !placed_below(arena, child, new, entry) {
         return false;
     }
-    settle_side(arena, number, side, child)
+    settle_side(arena, number, child, side)
 }
 
 /// Puts `entry` in the place of the one with its key in the tree with the root `number`.
+#[cycle(replace)]
 pub fn replaced_below<T: Entry>(arena: &mut Arena<T, T::Sum>, number: u64, entry: &T) -> bool
     requires { HasKeyBelow T.key T.unit T.op T.of (store_of arena.old) number entry.now }
     ensures { IsReplacedBelow T.key T.unit T.op T.of (store_of arena.old) (store_of arena.new)
         number entry.now result }
 {
-    let Some(side) = side_beside(arena, number, entry, entry) else {
-        arena.set_entry(number, *entry);
-        return true;
-    };
+    match side_beside(arena, number, entry, entry) {
+        Some(Side::Left) => replaced_on(arena, number, entry, Side::Left),
+        Some(Side::Right) => replaced_on(arena, number, entry, Side::Right),
+        None => {
+            arena.set_entry(number, *entry);
+            true
+        }
+    }
+}
+
+/// The step of `replaced_below` to the side where the key of `entry` belongs.
+#[cycle(replace)]
+#[inline(always)]
+fn replaced_on<T: Entry>(arena: &mut Arena<T, T::Sum>, number: u64, entry: &T, side: Side) -> bool
+    requires key { HasKeyBelow T.key T.unit T.op T.of (store_of arena.old) number entry.now }
+    requires side { IsBeside T.key T.unit T.op T.of (store_of arena.old) number entry.now entry.now
+        (Some side) }
+    ensures { IsReplacedBelow T.key T.unit T.op T.of (store_of arena.old) (store_of arena.new)
+        number entry.now result }
+{
     let Some(child) = child_of(arena, number, side) else {
         unreachable!()
     };
     if !replaced_below(arena, child, entry) {
         return false;
     }
-    settle_side(arena, number, side, child)
+    settle_side(arena, number, child, side)
 }
 
 /// Whether a node has the key of `like`.
@@ -249,7 +291,7 @@ pub fn take<T: Entry>(arena: &mut Arena<T, T::Sum>, number: u64, like: &T) -> Op
 
 /// Takes out the root of a side, `child`, which has the key of `like`.
 #[inline(never)]
-fn take_child<T: Entry>(arena: &mut Arena<T, T::Sum>, number: u64, side: Side, child: u64, like: &T)
+fn take_child<T: Entry>(arena: &mut Arena<T, T::Sum>, number: u64, child: u64, like: &T, side: Side)
     requires used { IsSome (store_of arena.old number) }
     requires there { HasKeyBelow T.key T.unit T.op T.of (store_of arena.old) child like.now }
     requires same { IsAt T.key T.unit T.op T.of (store_of arena.old) child like.now true }
@@ -262,6 +304,7 @@ fn take_child<T: Entry>(arena: &mut Arena<T, T::Sum>, number: u64, side: Side, c
 
 /// Takes the node with the key of `like` out of the tree with the root `number`, which is another
 /// one: the number of that node, and whether the root is another one afterwards.
+#[cycle(remove)]
 pub fn removed_below<T: Entry>(arena: &mut Arena<T, T::Sum>, number: u64, like: &T) -> (u64, bool)
     requires there { HasKeyBelow T.key T.unit T.op T.of (store_of arena.old) number like.now }
     requires other { IsAt T.key T.unit T.op T.of (store_of arena.old) number like.now false }
@@ -270,23 +313,46 @@ pub fn removed_below<T: Entry>(arena: &mut Arena<T, T::Sum>, number: u64, like: 
     ensures entry { entry_below (store_of arena.new number)
         ≡ entry_below (store_of arena.old number) }
 {
-    let side = side_for(arena, number, like);
+    match side_for(arena, number, like) {
+        Side::Left => removed_on(arena, number, like, Side::Left),
+        Side::Right => removed_on(arena, number, like, Side::Right),
+    }
+}
+
+/// The step of `removed_below` to the side where the key of `like` belongs.
+#[cycle(remove)]
+#[inline(always)]
+fn removed_on<T: Entry>(
+    arena: &mut Arena<T, T::Sum>,
+    number: u64,
+    like: &T,
+    side: Side,
+) -> (u64, bool)
+    requires there { HasKeyBelow T.key T.unit T.op T.of (store_of arena.old) number like.now }
+    requires other { IsAt T.key T.unit T.op T.of (store_of arena.old) number like.now false }
+    requires side { IsSideFor T.key T.unit T.op T.of (store_of arena.old) number like.now side }
+    ensures removed { IsRemovedBelow T.key T.unit T.op T.of (store_of arena.old)
+        (store_of arena.new) number like.now result.0 result.1 }
+    ensures entry { entry_below (store_of arena.new number)
+        ≡ entry_below (store_of arena.old number) }
+{
     let Some(child) = child_of(arena, number, side) else {
         unreachable!()
     };
     if is_at(arena, child, like) {
-        take_child(arena, number, side, child, like);
+        take_child(arena, number, child, like, side);
         return (child, true);
     }
     let (out, changed) = removed_below(arena, child, like);
     if !changed {
         return (out, false);
     }
-    (out, settle_side(arena, number, side, child))
+    (out, settle_side(arena, number, child, side))
 }
 
 /// Puts `lower` in the place of the entry with its key, and the node `new` for `upper` right after
 /// it. Where both are in sum what that entry was, nothing above is written.
+#[cycle(split)]
 pub fn split_below<T: Entry>(
     arena: &mut Arena<T, T::Sum>,
     number: u64,
@@ -299,18 +365,42 @@ pub fn split_below<T: Entry>(
     ensures { IsSplitBelow T.key T.unit T.op T.of (store_of arena.old) (store_of arena.new) number
         new lower.now upper.now result }
 {
-    let Some(side) = side_beside(arena, number, lower, lower) else {
-        arena.set_entry(number, *lower);
-        let _ = placed_below(arena, number, new, upper);
-        return true;
-    };
+    match side_beside(arena, number, lower, lower) {
+        Some(Side::Left) => split_on(arena, number, new, lower, upper, Side::Left),
+        Some(Side::Right) => split_on(arena, number, new, lower, upper, Side::Right),
+        None => {
+            arena.set_entry(number, *lower);
+            let _ = placed_below(arena, number, new, upper);
+            true
+        }
+    }
+}
+
+/// The step of `split_below` to the side where the key of `lower` belongs.
+#[cycle(split)]
+#[inline(always)]
+fn split_on<T: Entry>(
+    arena: &mut Arena<T, T::Sum>,
+    number: u64,
+    new: u64,
+    lower: &T,
+    upper: &T,
+    side: Side,
+) -> bool
+    requires split { IsSplitBelowFor T.key T.unit T.op T.of (store_of arena.old) number new
+        lower.now upper.now }
+    requires side { IsBeside T.key T.unit T.op T.of (store_of arena.old) number lower.now lower.now
+        (Some side) }
+    ensures { IsSplitBelow T.key T.unit T.op T.of (store_of arena.old) (store_of arena.new) number
+        new lower.now upper.now result }
+{
     let Some(child) = child_of(arena, number, side) else {
         unreachable!()
     };
     if !split_below(arena, child, new, lower, upper) {
         return false;
     }
-    settle_side(arena, number, side, child)
+    settle_side(arena, number, child, side)
 }
 
 /// Takes the node of one of two neighbours, `lower` and `upper`, out of the tree with the root
@@ -344,6 +434,7 @@ fn joined_at<T: Entry>(
 /// root `number`, and puts `joined`, which has the key of `lower`, into the other: the number of
 /// the node that goes, and whether the root is another one afterwards. Where `joined` is in sum
 /// what the two were, nothing above is written.
+#[cycle(join)]
 pub fn joined_below<T: Entry>(
     arena: &mut Arena<T, T::Sum>,
     number: u64,
@@ -356,9 +447,31 @@ pub fn joined_below<T: Entry>(
     ensures { IsJoinedBelow T.key T.unit T.op T.of (store_of arena.old) (store_of arena.new) number
         lower.now upper.now joined.now result.0 result.1 }
 {
-    let Some(side) = side_beside(arena, number, lower, upper) else {
-        return (joined_at(arena, number, lower, upper, joined), true);
-    };
+    match side_beside(arena, number, lower, upper) {
+        Some(Side::Left) => joined_on(arena, number, lower, upper, joined, Side::Left),
+        Some(Side::Right) => joined_on(arena, number, lower, upper, joined, Side::Right),
+        None => (joined_at(arena, number, lower, upper, joined), true),
+    }
+}
+
+/// The step of `joined_below` to the side where both keys belong.
+#[cycle(join)]
+#[inline(always)]
+fn joined_on<T: Entry>(
+    arena: &mut Arena<T, T::Sum>,
+    number: u64,
+    lower: &T,
+    upper: &T,
+    joined: &T,
+    side: Side,
+) -> (u64, bool)
+    requires join { IsJoinBelowFor T.key T.unit T.op T.of (store_of arena.old) number lower.now
+        upper.now joined.now }
+    requires side { IsBeside T.key T.unit T.op T.of (store_of arena.old) number lower.now upper.now
+        (Some side) }
+    ensures { IsJoinedBelow T.key T.unit T.op T.of (store_of arena.old) (store_of arena.new) number
+        lower.now upper.now joined.now result.0 result.1 }
+{
     let Some(child) = child_of(arena, number, side) else {
         unreachable!()
     };
@@ -366,5 +479,5 @@ pub fn joined_below<T: Entry>(
     if !changed {
         return (out, false);
     }
-    (out, settle_side(arena, number, side, child))
+    (out, settle_side(arena, number, child, side))
 }
