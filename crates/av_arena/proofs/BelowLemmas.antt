@@ -105,7 +105,8 @@ module _ {T S : Type 0} (key : T → ℕ) (unit : S) (op : S → S → S) (of : 
   side_again side n k v s e d =
       sym (with_at_self n (side_put side k (s n)) s (e ∙ (ap Some (sym (with_same side k v d)) ∙ ap (side_put side k) (sym e))))
 
-  stays_at : (side : Side) (s : Store T S) (n child : ℕ) (k : Link S) (b : Bool) (o : Option (Stored T S)) → IsSettled key unit op of s s child k → s n ≡ o → IsSome o →
+  stays_at : (side : Side) (s : Store T S) (n child : ℕ) (k : Link S) (b : Bool) (o : Option (Stored T S)) → IsSettled key unit op of s s child k → s n ≡ o →
+      IsSome o →
       ((v : Stored T S) → o ≡ Some v → on_side side v ≡ Some k) → IsSideSettled key unit op of side s s n child b
   stays_at side s n child k b None set e u tells = absurd (both_ways false refl u)
   stays_at side s n child k b (Some v) set e u tells = record {
@@ -182,7 +183,8 @@ module _ {T S : Type 0} (key : T → ℕ) (unit : S) (op : S → S → S) (of : 
       let w : Stored T S = record { left = v.left; entry = v.entry; right = new } in
       let here : t n ≡ Some v = tr.kept n (let c = once n in let d = is_same key unit op of laws n in omega arith) ∙ o.root.stored in
       let put : u ≡ with_at n (Some w) t = at ∙ ap (λ m. with_at n (side_put Right new m) t) here in
-      let spot : IsSpot key unit op of t n v.left new = ready_right key unit op of laws s t n v.left new xs f g tr o.left o.used (λ j. let i = once j in omega arith) in
+      let spot : IsSpot key unit op of t n v.left new = ready_right key unit op of laws s t n v.left new xs f g tr o.left o.used
+      (λ j. let i = once j in omega arith) in
       let ka = kept key unit op of laws s t v.left o.left (λ j c. tr.kept j (let d = once j in omega arith)) in
       let e : entries (tree_at t v.left) ≡ entries (tree_at s v.left) = ap entries ka.tree in
       let l0 = o.level.0 in let l1 = o.level.1 in let oh = o.height in
@@ -339,7 +341,8 @@ module _ {T S : Type 0} (key : T → ℕ) (unit : S) (op : S → S → S) (of : 
   pub entry_put_side : (side : Side) (s t : Store T S) (n : ℕ) (l : Option (Link S)) → t ≡ with_at n (side_put side l (s n)) s →
       entry_below (t n) ≡ entry_below (s n)
   entry_put_side side s t n l e =
-      ap (λ (q : Store T S). entry_below (q n)) e ∙ (ap entry_below (with_at_same key unit op of laws n (side_put side l (s n)) s) ∙ with_side_entry side l (s n))
+      ap (λ (q : Store T S). entry_below (q n)) e ∙ (ap entry_below (with_at_same key unit op of laws n (side_put side l (s n)) s)
+      ∙ with_side_entry side l (s n))
 
   -- one level further down
   pub record IsFurther (Asked : Option (Link S) → Type 0) (s : Store T S) (n below : ℕ) : Type 0 where
@@ -370,7 +373,8 @@ module _ {T S : Type 0} (key : T → ℕ) (unit : S) (op : S → S → S) (of : 
       low high few stays) p.entries p.count
 
   -- where the node that is above stands, while its side changes
-  pub above_stays : (side : Side) (s t : Store T S) (k : Link S) (v : Stored T S) (new : Option (Link S)) → GoesDown key unit op of laws Asked list numbers side s k v →
+  pub above_stays : (side : Side) (s t : Store T S) (k : Link S) (v : Stored T S) (new : Option (Link S)) →
+      GoesDown key unit op of laws Asked list numbers side s k v →
       IsTree key unit op of s t new (list (entries_at s (on_side side v))) (numbers (count_at s (on_side side v))) gone → t k.number ≡ s k.number
   above_stays side s t k v new p tree =
       tree.kept k.number (let c = p.count k.number in let i = p.once k.number in let j = is_same key unit op of laws k.number in omega arith)
@@ -453,7 +457,8 @@ module _ {T S : Type 0} (key : T → ℕ) (unit : S) (op : S → S → S) (of : 
       entry_put_side key unit op of laws side st.between u k.number (Some st.link) st.told
       ∙ ap entry_below (above_stays side s st.between k v (Some st.link) p (done_settle side s t u k v below c b m p done st).tree)
 
-  pub step : (side : Side) (s t : Store T S) (n : ℕ) (v : Stored T S) (below : ℕ) (c : Bool) → lower + higher ≤ 1 → s n ≡ Some v → child_number side (s n) ≡ Some below →
+  pub step : (side : Side) (s t : Store T S) (n : ℕ) (v : Stored T S) (below : ℕ) (c : Bool) → lower + higher ≤ 1 → s n ≡ Some v →
+      child_number side (s n) ≡ Some below →
       ((k : Link S) → k.number ≡ n → Asked (Some k) → GoesDown key unit op of laws Asked list numbers side s k v) → IsAskedBelow Asked n →
       IsDoneBelow key unit op of Asked list numbers gone lower higher s t below c → IsStepped side s t n below c
   step side s t n v below c few e d down b done =
@@ -529,19 +534,25 @@ module _ {T S : Type 0} (key : T → ℕ) (unit : S) (op : S → S → S) (of : 
   pub replaced_further : (side : Side) (s : Store T S) (n below : ℕ) (x : T) → HasKeyBelow key unit op of s n x → child_number side (s n) ≡ Some below →
       IsBeside key unit op of s n x x (Some side) → IsFurther key unit op of laws (λ l. HasKey key unit op of s l x) s n below
   replaced_further side s n below x b d on = let w = node_at key unit op of laws s n b.link b.number b.asked.held in
-      further key unit op of laws (λ l. HasKey key unit op of s l x) (λ xs. with_entry key x (without_key key (key x) xs)) (λ f. f) none 0 0 side s n w.node below w.stored d
+      further key unit op of laws (λ l. HasKey key unit op of s l x) (λ xs. with_entry key x (without_key key (key x) xs)) (λ f. f) none 0 0 side s n w.node
+      below w.stored d
       (replaced_down side s n w.node x w.stored (on w.node w.stored)) b
 
-  pub replaced_step : (side : Side) (s t : Store T S) (n below : ℕ) (x : T) (c : Bool) → HasKeyBelow key unit op of s n x → child_number side (s n) ≡ Some below →
+  pub replaced_step : (side : Side) (s t : Store T S) (n below : ℕ) (x : T) (c : Bool) → HasKeyBelow key unit op of s n x →
+      child_number side (s n) ≡ Some below →
       IsBeside key unit op of s n x x (Some side) → IsReplacedBelow key unit op of s t below x c →
-      IsStepped key unit op of laws (λ l. HasKey key unit op of s l x) (λ xs. with_entry key x (without_key key (key x) xs)) (λ f. f) none 0 0 side s t n below c
+      IsStepped key unit op of laws (λ l. HasKey key unit op of s l x) (λ xs. with_entry key x (without_key key (key x) xs)) (λ f. f) none 0 0 side s t n
+      below c
   replaced_step side s t n below x c b d on done = let w = node_at key unit op of laws s n b.link b.number b.asked.held in
-      step key unit op of laws (λ l. HasKey key unit op of s l x) (λ xs. with_entry key x (without_key key (key x) xs)) (λ f. f) none 0 0 side s t n w.node below c (omega arith) w.stored d
+      step key unit op of laws (λ l. HasKey key unit op of s l x) (λ xs. with_entry key x (without_key key (key x) xs)) (λ f. f) none 0 0 side s t n w.node
+      below c (omega arith) w.stored d
       (replaced_down side s n w.node x w.stored (on w.node w.stored)) b done
 
-  pub replaced_never : (side : Side) (s : Store T S) (n : ℕ) (x : T) → HasKeyBelow key unit op of s n x → child_number side (s n) ≡ None → IsBeside key unit op of s n x x (Some side) → ⊥
+  pub replaced_never : (side : Side) (s : Store T S) (n : ℕ) (x : T) → HasKeyBelow key unit op of s n x → child_number side (s n) ≡ None →
+      IsBeside key unit op of s n x x (Some side) → ⊥
   replaced_never side s n x b d on = let w = node_at key unit op of laws s n b.link b.number b.asked.held in
-      never key unit op of laws (λ l. HasKey key unit op of s l x) (λ xs. with_entry key x (without_key key (key x) xs)) (λ f. f) none 0 0 side s n w.node w.stored d
+      never key unit op of laws (λ l. HasKey key unit op of s l x) (λ xs. with_entry key x (without_key key (key x) xs)) (λ f. f) none 0 0 side s n w.node
+      w.stored d
       (replaced_down side s n w.node x w.stored (on w.node w.stored)) b (λ h. no_key key unit op of laws s x h)
 
   -- the node itself has the key
@@ -567,7 +578,8 @@ module _ {T S : Type 0} (key : T → ℕ) (unit : S) (op : S → S → S) (of : 
         stays = λ d. absurd (both_ways true d refl);
       }
 
-  pub replaced_at : (s u : Store T S) (n : ℕ) (x : T) → IsBetween key unit op of s n x x → u ≡ with_at n (entry_put x (s n)) s → IsReplacedBelow key unit op of s u n x true
+  pub replaced_at : (s u : Store T S) (n : ℕ) (x : T) → IsBetween key unit op of s n x x → u ≡ with_at n (entry_put x (s n)) s →
+      IsReplacedBelow key unit op of s u n x true
   replaced_at s u n x same at k p h =
       let w = node_at key unit op of laws s n k p h.held in
       replaced_node s u n w.node x w.stored (let m = same w.node w.stored in let a = m.0 in let b = m.1 in omega arith) at k p h
@@ -607,17 +619,20 @@ module _ {T S : Type 0} (key : T → ℕ) (unit : S) (op : S → S → S) (of : 
         once = fresh_at s k v m o h.fresh;
       }
 
-  pub placed_further : (side : Side) (s : Store T S) (n below : ℕ) (m : ℕ) (x : T) → IsPlaceBelow key unit op of s n m x → child_number side (s n) ≡ Some below →
+  pub placed_further : (side : Side) (s : Store T S) (n below : ℕ) (m : ℕ) (x : T) → IsPlaceBelow key unit op of s n m x →
+      child_number side (s n) ≡ Some below →
       IsSideFor key unit op of s n x side → IsFurther key unit op of laws (λ l. IsPlaceFor key unit op of s l m x) s n below
   placed_further side s n below m x b d for = let w = node_at key unit op of laws s n b.link b.number b.asked.held in
       further key unit op of laws (λ l. IsPlaceFor key unit op of s l m x) (with_entry key x) (λ f j. is m j + f j) none 0 1 side s n w.node below w.stored d
       (placed_down side s n m w.node x w.stored for) b
 
-  pub placed_step : (side : Side) (s t : Store T S) (n below : ℕ) (m : ℕ) (x : T) (c : Bool) → IsPlaceBelow key unit op of s n m x → child_number side (s n) ≡ Some below →
+  pub placed_step : (side : Side) (s t : Store T S) (n below : ℕ) (m : ℕ) (x : T) (c : Bool) → IsPlaceBelow key unit op of s n m x →
+      child_number side (s n) ≡ Some below →
       IsSideFor key unit op of s n x side → IsPlacedBelow key unit op of s t below m x c →
       IsStepped key unit op of laws (λ l. IsPlaceFor key unit op of s l m x) (with_entry key x) (λ f j. is m j + f j) none 0 1 side s t n below c
   placed_step side s t n below m x c b d for done = let w = node_at key unit op of laws s n b.link b.number b.asked.held in
-      step key unit op of laws (λ l. IsPlaceFor key unit op of s l m x) (with_entry key x) (λ f j. is m j + f j) none 0 1 side s t n w.node below c (omega arith) w.stored d
+      step key unit op of laws (λ l. IsPlaceFor key unit op of s l m x) (with_entry key x) (λ f j. is m j + f j) none 0 1 side s t n w.node below c
+      (omega arith) w.stored d
       (placed_down side s n m w.node x w.stored for) b done
 
   pub placed_hung : (side : Side) (s u : Store T S) (n m : ℕ) (x : T) → child_number side (s n) ≡ None →
@@ -678,14 +693,17 @@ module _ {T S : Type 0} (key : T → ℕ) (unit : S) (op : S → S → S) (of : 
       further key unit op of laws (λ l. HasKey key unit op of s l x) (without_key key (key x)) (λ f. f) none 1 0 side s n w.node below w.stored d
       (removed_down side s n w.node x w.stored other for) b
 
-  pub removed_step : (side : Side) (s t : Store T S) (n below : ℕ) (x : T) (out : ℕ) (c : Bool) → HasKeyBelow key unit op of s n x → child_number side (s n) ≡ Some below →
+  pub removed_step : (side : Side) (s t : Store T S) (n below : ℕ) (x : T) (out : ℕ) (c : Bool) → HasKeyBelow key unit op of s n x →
+      child_number side (s n) ≡ Some below →
       IsAt key unit op of s n x false → IsSideFor key unit op of s n x side → IsRemovedBelow key unit op of s t below x out c →
       IsStepped key unit op of laws (λ l. HasKey key unit op of s l x) (without_key key (key x)) (λ f. f) (is out) 1 0 side s t n below c
   removed_step side s t n below x out c b d other for done = let w = node_at key unit op of laws s n b.link b.number b.asked.held in
-      step key unit op of laws (λ l. HasKey key unit op of s l x) (without_key key (key x)) (λ f. f) (is out) 1 0 side s t n w.node below c (omega arith) w.stored d
+      step key unit op of laws (λ l. HasKey key unit op of s l x) (without_key key (key x)) (λ f. f) (is out) 1 0 side s t n w.node below c (omega arith)
+      w.stored d
       (removed_down side s n w.node x w.stored other for) b done
 
-  pub removed_never : (side : Side) (s : Store T S) (n : ℕ) (x : T) → HasKeyBelow key unit op of s n x → child_number side (s n) ≡ None → IsAt key unit op of s n x false → IsSideFor key unit op of s n x side → ⊥
+  pub removed_never : (side : Side) (s : Store T S) (n : ℕ) (x : T) → HasKeyBelow key unit op of s n x → child_number side (s n) ≡ None →
+      IsAt key unit op of s n x false → IsSideFor key unit op of s n x side → ⊥
   removed_never side s n x b d other for = let w = node_at key unit op of laws s n b.link b.number b.asked.held in
       never key unit op of laws (λ l. HasKey key unit op of s l x) (without_key key (key x)) (λ f. f) none 1 0 side s n w.node w.stored d
       (removed_down side s n w.node x w.stored other for) b (λ h. no_key key unit op of laws s x h)
@@ -811,20 +829,24 @@ module _ {T S : Type 0} (key : T → ℕ) (unit : S) (op : S → S → S) (of : 
     once = fresh_at s k v m o h.fresh;
   }
 
-  pub split_further : (side : Side) (s : Store T S) (n below : ℕ) (m : ℕ) (x y : T) → IsSplitBelowFor key unit op of s n m x y → child_number side (s n) ≡ Some below →
+  pub split_further : (side : Side) (s : Store T S) (n below : ℕ) (m : ℕ) (x y : T) → IsSplitBelowFor key unit op of s n m x y →
+      child_number side (s n) ≡ Some below →
       IsBeside key unit op of s n x x (Some side) → IsFurther key unit op of laws (λ l. IsSplitFor key unit op of s l m x y) s n below
   split_further side s n below m x y b d on = let w = node_at key unit op of laws s n b.link b.number b.asked.has.held in
       further key unit op of laws (λ l. IsSplitFor key unit op of s l m x y) (with_two key x y) (λ f j. is m j + f j) none 0 1 side s n w.node below w.stored d
       (split_down side s n m w.node x y w.stored (on w.node w.stored)) b
 
-  pub split_step : (side : Side) (s t : Store T S) (n below : ℕ) (m : ℕ) (x y : T) (c : Bool) → IsSplitBelowFor key unit op of s n m x y → child_number side (s n) ≡ Some below →
+  pub split_step : (side : Side) (s t : Store T S) (n below : ℕ) (m : ℕ) (x y : T) (c : Bool) → IsSplitBelowFor key unit op of s n m x y →
+      child_number side (s n) ≡ Some below →
       IsBeside key unit op of s n x x (Some side) → IsSplitBelow key unit op of s t below m x y c →
       IsStepped key unit op of laws (λ l. IsSplitFor key unit op of s l m x y) (with_two key x y) (λ f j. is m j + f j) none 0 1 side s t n below c
   split_step side s t n below m x y c b d on done = let w = node_at key unit op of laws s n b.link b.number b.asked.has.held in
-      step key unit op of laws (λ l. IsSplitFor key unit op of s l m x y) (with_two key x y) (λ f j. is m j + f j) none 0 1 side s t n w.node below c (omega arith) w.stored d
+      step key unit op of laws (λ l. IsSplitFor key unit op of s l m x y) (with_two key x y) (λ f j. is m j + f j) none 0 1 side s t n w.node below c
+      (omega arith) w.stored d
       (split_down side s n m w.node x y w.stored (on w.node w.stored)) b done
 
-  pub split_never : (side : Side) (s : Store T S) (n : ℕ) (m : ℕ) (x y : T) → IsSplitBelowFor key unit op of s n m x y → child_number side (s n) ≡ None → IsBeside key unit op of s n x x (Some side) → ⊥
+  pub split_never : (side : Side) (s : Store T S) (n : ℕ) (m : ℕ) (x y : T) → IsSplitBelowFor key unit op of s n m x y → child_number side (s n) ≡ None →
+      IsBeside key unit op of s n x x (Some side) → ⊥
   split_never side s n m x y b d on = let w = node_at key unit op of laws s n b.link b.number b.asked.has.held in
       never key unit op of laws (λ l. IsSplitFor key unit op of s l m x y) (with_two key x y) (λ f j. is m j + f j) none 0 1 side s n w.node w.stored d
       (split_down side s n m w.node x y w.stored (on w.node w.stored)) b (λ h. no_key key unit op of laws s x h.has)
@@ -859,7 +881,8 @@ module _ {T S : Type 0} (key : T → ℕ) (unit : S) (op : S → S → S) (of : 
       }
 
   split_place : (s t : Store T S) (n m : ℕ) (x y : T) (k m' : Link S) → IsSplitFor key unit op of s (Some k) m x y →
-      IsDone key unit op of laws s t k m' (with_entry key x (without_key key (key x) (entries (tree_at s (Some k))))) (λ j. count j (tree_at s (Some k))) none 0 0 →
+      IsDone key unit op of laws s t k m' (with_entry key x (without_key key (key x) (entries (tree_at s (Some k))))) (λ j. count j (tree_at s (Some k)))
+      none 0 0 →
       IsPlaceFor key unit op of t (Some m') m y
   split_place s t n m x y k m' h d =
       let xs = entries (tree_at s (Some k)) in

@@ -162,14 +162,17 @@ module _ {T S : Type 0} (key : T → ℕ) (unit : S) (op : S → S → S) (of : 
       further key unit op of laws (λ l. IsJoinFor key unit op of s l x y z) (with_joined key x y z) (λ f. f) none 1 0 side s n w.node below w.stored d
       (join_down side s n w.node x y z w.stored (on w.node w.stored)) b
 
-  pub join_step : (side : Side) (s t : Store T S) (n below : ℕ) (x y z : T) (out : ℕ) (c : Bool) → IsJoinBelowFor key unit op of s n x y z → child_number side (s n) ≡ Some below →
+  pub join_step : (side : Side) (s t : Store T S) (n below : ℕ) (x y z : T) (out : ℕ) (c : Bool) → IsJoinBelowFor key unit op of s n x y z →
+      child_number side (s n) ≡ Some below →
       IsBeside key unit op of s n x y (Some side) → IsJoinedBelow key unit op of s t below x y z out c →
       IsStepped key unit op of laws (λ l. IsJoinFor key unit op of s l x y z) (with_joined key x y z) (λ f. f) (is out) 1 0 side s t n below c
   join_step side s t n below x y z out c b d on done = let w = node_at key unit op of laws s n b.link b.number b.asked.has.held in
-      step key unit op of laws (λ l. IsJoinFor key unit op of s l x y z) (with_joined key x y z) (λ f. f) (is out) 1 0 side s t n w.node below c (omega arith) w.stored d
+      step key unit op of laws (λ l. IsJoinFor key unit op of s l x y z) (with_joined key x y z) (λ f. f) (is out) 1 0 side s t n w.node below c
+      (omega arith) w.stored d
       (join_down side s n w.node x y z w.stored (on w.node w.stored)) b done
 
-  pub join_never : (side : Side) (s : Store T S) (n : ℕ) (x y z : T) → IsJoinBelowFor key unit op of s n x y z → child_number side (s n) ≡ None → IsBeside key unit op of s n x y (Some side) → ⊥
+  pub join_never : (side : Side) (s : Store T S) (n : ℕ) (x y z : T) → IsJoinBelowFor key unit op of s n x y z → child_number side (s n) ≡ None →
+      IsBeside key unit op of s n x y (Some side) → ⊥
   join_never side s n x y z b d on = let w = node_at key unit op of laws s n b.link b.number b.asked.has.held in
       never key unit op of laws (λ l. IsJoinFor key unit op of s l x y z) (with_joined key x y z) (λ f. f) none 1 0 side s n w.node w.stored d
       (join_down side s n w.node x y z w.stored (on w.node w.stored)) b (λ h. no_key key unit op of laws s x h.has)

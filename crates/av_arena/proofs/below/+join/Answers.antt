@@ -24,14 +24,16 @@ joined_on-unreachable-requires g t c =
     let m = g.T.Entry in
     let s = store_of c.args.arena.now in
     let at : child_number c.args.side (s c.args.number) ≡ None = sym c.child_of.ensures ∙ search rules in
-    join_never m.key m.unit m.op m.of g.met.T.Entry.laws c.args.side s c.args.number c.args.lower.now c.args.upper.now c.args.joined.now c.requires.join at c.requires.side
+    join_never m.key m.unit m.op m.of g.met.T.Entry.laws c.args.side s c.args.number c.args.lower.now c.args.upper.now c.args.joined.now c.requires.join at
+    c.requires.side
 
 pub joined_on-joined_below-out-requires : goal.joined_on-joined_below-out-requires
 joined_on-joined_below-out-requires g t c κs within =
     let m = g.T.Entry in
     let s = store_of c.args.arena.now in
     let at : child_number c.args.side (s c.args.number) ≡ Some c.in-Some.child = sym c.child_of.ensures ∙ c.in-Some.is in
-    let f = join_further m.key m.unit m.op m.of g.met.T.Entry.laws c.args.side s c.args.number c.in-Some.child c.args.lower.now c.args.upper.now c.args.joined.now c.requires.join at c.requires.side in
+    let f = join_further m.key m.unit m.op m.of g.met.T.Entry.laws c.args.side s c.args.number c.in-Some.child c.args.lower.now c.args.upper.now
+    c.args.joined.now c.requires.join at c.requires.side in
     search (rules, f.asked, f.falls)
 
 pub joined_on-returns-then-not-changed : goal.joined_on-returns-then-not-changed
@@ -39,25 +41,30 @@ joined_on-returns-then-not-changed g t c =
     let m = g.T.Entry in
     let s = store_of c.args.arena.now in
     let at : child_number c.args.side (s c.args.number) ≡ Some c.in-Some.child = sym c.child_of.ensures ∙ c.in-Some.is in
-    (join_step m.key m.unit m.op m.of g.met.T.Entry.laws c.args.side s (store_of c.joined_below-out.new.arena) c.args.number c.in-Some.child c.args.lower.now c.args.upper.now c.args.joined.now c.joined_below-out.result.0 _ c.requires.join at c.requires.side c.joined_below-out.ensures).same (search rules)
+    (join_step m.key m.unit m.op m.of g.met.T.Entry.laws c.args.side s (store_of c.joined_below-out.new.arena) c.args.number c.in-Some.child c.args.lower.now
+    c.args.upper.now c.args.joined.now c.joined_below-out.result.0 _ c.requires.join at c.requires.side c.joined_below-out.ensures).same (search rules)
 
 pub joined_on-settle_side-requires-clause-child : goal.joined_on-settle_side-requires-clause-child
 joined_on-settle_side-requires-clause-child g t c =
     let m = g.T.Entry in
     let s = store_of c.args.arena.now in
     let at : child_number c.args.side (s c.args.number) ≡ Some c.in-Some.child = sym c.child_of.ensures ∙ c.in-Some.is in
-    (join_step m.key m.unit m.op m.of g.met.T.Entry.laws c.args.side s (store_of c.joined_below-out.new.arena) c.args.number c.in-Some.child c.args.lower.now c.args.upper.now c.args.joined.now c.joined_below-out.result.0 _ c.requires.join at c.requires.side c.joined_below-out.ensures).ready
+    (join_step m.key m.unit m.op m.of g.met.T.Entry.laws c.args.side s (store_of c.joined_below-out.new.arena) c.args.number c.in-Some.child c.args.lower.now
+    c.args.upper.now c.args.joined.now c.joined_below-out.result.0 _ c.requires.join at c.requires.side c.joined_below-out.ensures).ready
 
 pub joined_on-settle_side-requires-clause-used : goal.joined_on-settle_side-requires-clause-used
 joined_on-settle_side-requires-clause-used g t c =
     let m = g.T.Entry in
     let s = store_of c.args.arena.now in
     let at : child_number c.args.side (s c.args.number) ≡ Some c.in-Some.child = sym c.child_of.ensures ∙ c.in-Some.is in
-    (join_step m.key m.unit m.op m.of g.met.T.Entry.laws c.args.side s (store_of c.joined_below-out.new.arena) c.args.number c.in-Some.child c.args.lower.now c.args.upper.now c.args.joined.now c.joined_below-out.result.0 _ c.requires.join at c.requires.side c.joined_below-out.ensures).used
+    (join_step m.key m.unit m.op m.of g.met.T.Entry.laws c.args.side s (store_of c.joined_below-out.new.arena) c.args.number c.in-Some.child c.args.lower.now
+    c.args.upper.now c.args.joined.now c.joined_below-out.result.0 _ c.requires.join at c.requires.side c.joined_below-out.ensures).used
 
 pub joined_on-returns : goal.joined_on-returns
 joined_on-returns g t c =
     let m = g.T.Entry in
     let s = store_of c.args.arena.now in
     let at : child_number c.args.side (s c.args.number) ≡ Some c.in-Some.child = sym c.child_of.ensures ∙ c.in-Some.is in
-    (join_step m.key m.unit m.op m.of g.met.T.Entry.laws c.args.side s (store_of c.joined_below-out.new.arena) c.args.number c.in-Some.child c.args.lower.now c.args.upper.now c.args.joined.now c.joined_below-out.result.0 _ c.requires.join at c.requires.side c.joined_below-out.ensures).settled (store_of c.settle_side.new.arena) _ c.settle_side.ensures
+    (join_step m.key m.unit m.op m.of g.met.T.Entry.laws c.args.side s (store_of c.joined_below-out.new.arena) c.args.number c.in-Some.child c.args.lower.now
+    c.args.upper.now c.args.joined.now c.joined_below-out.result.0 _ c.requires.join at c.requires.side c.joined_below-out.ensures).settled
+    (store_of c.settle_side.new.arena) _ c.settle_side.ensures

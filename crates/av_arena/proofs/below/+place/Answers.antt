@@ -9,14 +9,16 @@ placed_on-returns-in_default g t c =
     let m = g.T.Entry in
     let s = store_of c.args.arena.now in
     let at : child_number c.args.side (s c.args.number) ≡ None = sym c.child_of.ensures ∙ search rules in
-    placed_hung m.key m.unit m.op m.of g.met.T.Entry.laws c.args.side s (store_of c.hang.new.arena) c.args.number c.args.new c.args.entry.now at c.requires.side c.hang.ensures
+    placed_hung m.key m.unit m.op m.of g.met.T.Entry.laws c.args.side s (store_of c.hang.new.arena) c.args.number c.args.new c.args.entry.now at
+    c.requires.side c.hang.ensures
 
 pub placed_on-placed_below-requires : goal.placed_on-placed_below-requires
 placed_on-placed_below-requires g t c κs within =
     let m = g.T.Entry in
     let s = store_of c.args.arena.now in
     let at : child_number c.args.side (s c.args.number) ≡ Some c.in-Some.child = sym c.child_of.ensures ∙ c.in-Some.is in
-    let f = placed_further m.key m.unit m.op m.of g.met.T.Entry.laws c.args.side s c.args.number c.in-Some.child c.args.new c.args.entry.now c.requires.place at c.requires.side in
+    let f = placed_further m.key m.unit m.op m.of g.met.T.Entry.laws c.args.side s c.args.number c.in-Some.child c.args.new c.args.entry.now c.requires.place
+    at c.requires.side in
     search (rules, f.asked, f.falls)
 
 pub placed_on-returns-then-not-placed_below : goal.placed_on-returns-then-not-placed_below
@@ -24,25 +26,29 @@ placed_on-returns-then-not-placed_below g t c =
     let m = g.T.Entry in
     let s = store_of c.args.arena.now in
     let at : child_number c.args.side (s c.args.number) ≡ Some c.in-Some.child = sym c.child_of.ensures ∙ c.in-Some.is in
-    (placed_step m.key m.unit m.op m.of g.met.T.Entry.laws c.args.side s (store_of c.placed_below.new.arena) c.args.number c.in-Some.child c.args.new c.args.entry.now _ c.requires.place at c.requires.side c.placed_below.ensures).same (search rules)
+    (placed_step m.key m.unit m.op m.of g.met.T.Entry.laws c.args.side s (store_of c.placed_below.new.arena) c.args.number c.in-Some.child c.args.new
+    c.args.entry.now _ c.requires.place at c.requires.side c.placed_below.ensures).same (search rules)
 
 pub placed_on-settle_side-requires-clause-child : goal.placed_on-settle_side-requires-clause-child
 placed_on-settle_side-requires-clause-child g t c =
     let m = g.T.Entry in
     let s = store_of c.args.arena.now in
     let at : child_number c.args.side (s c.args.number) ≡ Some c.in-Some.child = sym c.child_of.ensures ∙ c.in-Some.is in
-    (placed_step m.key m.unit m.op m.of g.met.T.Entry.laws c.args.side s (store_of c.placed_below.new.arena) c.args.number c.in-Some.child c.args.new c.args.entry.now _ c.requires.place at c.requires.side c.placed_below.ensures).ready
+    (placed_step m.key m.unit m.op m.of g.met.T.Entry.laws c.args.side s (store_of c.placed_below.new.arena) c.args.number c.in-Some.child c.args.new
+    c.args.entry.now _ c.requires.place at c.requires.side c.placed_below.ensures).ready
 
 pub placed_on-settle_side-requires-clause-used : goal.placed_on-settle_side-requires-clause-used
 placed_on-settle_side-requires-clause-used g t c =
     let m = g.T.Entry in
     let s = store_of c.args.arena.now in
     let at : child_number c.args.side (s c.args.number) ≡ Some c.in-Some.child = sym c.child_of.ensures ∙ c.in-Some.is in
-    (placed_step m.key m.unit m.op m.of g.met.T.Entry.laws c.args.side s (store_of c.placed_below.new.arena) c.args.number c.in-Some.child c.args.new c.args.entry.now _ c.requires.place at c.requires.side c.placed_below.ensures).used
+    (placed_step m.key m.unit m.op m.of g.met.T.Entry.laws c.args.side s (store_of c.placed_below.new.arena) c.args.number c.in-Some.child c.args.new
+    c.args.entry.now _ c.requires.place at c.requires.side c.placed_below.ensures).used
 
 pub placed_on-returns : goal.placed_on-returns
 placed_on-returns g t c =
     let m = g.T.Entry in
     let s = store_of c.args.arena.now in
     let at : child_number c.args.side (s c.args.number) ≡ Some c.in-Some.child = sym c.child_of.ensures ∙ c.in-Some.is in
-    (placed_step m.key m.unit m.op m.of g.met.T.Entry.laws c.args.side s (store_of c.placed_below.new.arena) c.args.number c.in-Some.child c.args.new c.args.entry.now _ c.requires.place at c.requires.side c.placed_below.ensures).settled (store_of c.settle_side.new.arena) _ c.settle_side.ensures
+    (placed_step m.key m.unit m.op m.of g.met.T.Entry.laws c.args.side s (store_of c.placed_below.new.arena) c.args.number c.in-Some.child c.args.new
+    c.args.entry.now _ c.requires.place at c.requires.side c.placed_below.ensures).settled (store_of c.settle_side.new.arena) _ c.settle_side.ensures

@@ -9,21 +9,24 @@ removed_on-take_child-requires-clause-there g t c =
     let m = g.T.Entry in
     let s = store_of c.args.arena.now in
     let at : child_number c.args.side (s c.args.number) ≡ Some c.in-Some.child = sym c.child_of.ensures ∙ c.in-Some.is in
-    (removed_further m.key m.unit m.op m.of g.met.T.Entry.laws c.args.side s c.args.number c.in-Some.child c.args.like.now c.requires.there at c.requires.other c.requires.side).asked
+    (removed_further m.key m.unit m.op m.of g.met.T.Entry.laws c.args.side s c.args.number c.in-Some.child c.args.like.now c.requires.there at
+    c.requires.other c.requires.side).asked
 
 pub removed_on-returns-then-is_at-clause-removed : goal.removed_on-returns-then-is_at-clause-removed
 removed_on-returns-then-is_at-clause-removed g t c =
     let m = g.T.Entry in
     let s = store_of c.args.arena.now in
     let at : child_number c.args.side (s c.args.number) ≡ Some c.in-Some.child = sym c.child_of.ensures ∙ c.in-Some.is in
-    (cut m.key m.unit m.op m.of g.met.T.Entry.laws c.args.side s (store_of c.take_child.new.arena) c.args.number c.in-Some.child c.args.like.now at c.requires.other c.requires.side c.requires.there c.take_child.ensures).removed
+    (cut m.key m.unit m.op m.of g.met.T.Entry.laws c.args.side s (store_of c.take_child.new.arena) c.args.number c.in-Some.child c.args.like.now at
+    c.requires.other c.requires.side c.requires.there c.take_child.ensures).removed
 
 pub removed_on-returns-then-is_at-clause-entry : goal.removed_on-returns-then-is_at-clause-entry
 removed_on-returns-then-is_at-clause-entry g t c =
     let m = g.T.Entry in
     let s = store_of c.args.arena.now in
     let at : child_number c.args.side (s c.args.number) ≡ Some c.in-Some.child = sym c.child_of.ensures ∙ c.in-Some.is in
-    (cut m.key m.unit m.op m.of g.met.T.Entry.laws c.args.side s (store_of c.take_child.new.arena) c.args.number c.in-Some.child c.args.like.now at c.requires.other c.requires.side c.requires.there c.take_child.ensures).entry
+    (cut m.key m.unit m.op m.of g.met.T.Entry.laws c.args.side s (store_of c.take_child.new.arena) c.args.number c.in-Some.child c.args.like.now at
+    c.requires.other c.requires.side c.requires.there c.take_child.ensures).entry
 
 pub removed_on-unreachable-requires : goal.removed_on-unreachable-requires
 removed_on-unreachable-requires g t c =
@@ -37,8 +40,10 @@ removed_on-removed_below-out-requires g t c κs within =
     let m = g.T.Entry in
     let s = store_of c.args.arena.now in
     let at : child_number c.args.side (s c.args.number) ≡ Some c.in-Some.child = sym c.child_of.ensures ∙ c.in-Some.is in
-    let f = removed_further m.key m.unit m.op m.of g.met.T.Entry.laws c.args.side s c.args.number c.in-Some.child c.args.like.now c.requires.there at c.requires.other c.requires.side in
-    let o : IsAt m.key m.unit m.op m.of s c.in-Some.child c.args.like.now false = subst (IsAt m.key m.unit m.op m.of s c.in-Some.child c.args.like.now) c.if-is_at.false c.is_at.ensures in
+    let f = removed_further m.key m.unit m.op m.of g.met.T.Entry.laws c.args.side s c.args.number c.in-Some.child c.args.like.now c.requires.there at
+    c.requires.other c.requires.side in
+    let o : IsAt m.key m.unit m.op m.of s c.in-Some.child c.args.like.now false = subst (IsAt m.key m.unit m.op m.of s c.in-Some.child c.args.like.now)
+    c.if-is_at.false c.is_at.ensures in
     search (rules, f.asked, f.falls, o)
 
 pub removed_on-returns-then-not-changed-clause-removed : goal.removed_on-returns-then-not-changed-clause-removed
@@ -46,39 +51,47 @@ removed_on-returns-then-not-changed-clause-removed g t c =
     let m = g.T.Entry in
     let s = store_of c.args.arena.now in
     let at : child_number c.args.side (s c.args.number) ≡ Some c.in-Some.child = sym c.child_of.ensures ∙ c.in-Some.is in
-    (removed_step m.key m.unit m.op m.of g.met.T.Entry.laws c.args.side s (store_of c.removed_below-out.new.arena) c.args.number c.in-Some.child c.args.like.now c.removed_below-out.result.0 _ c.requires.there at c.requires.other c.requires.side c.removed_below-out.ensures.removed).same (search rules)
+    (removed_step m.key m.unit m.op m.of g.met.T.Entry.laws c.args.side s (store_of c.removed_below-out.new.arena) c.args.number c.in-Some.child
+    c.args.like.now c.removed_below-out.result.0 _ c.requires.there at c.requires.other c.requires.side c.removed_below-out.ensures.removed).same (search rules)
 
 pub removed_on-returns-then-not-changed-clause-entry : goal.removed_on-returns-then-not-changed-clause-entry
 removed_on-returns-then-not-changed-clause-entry g t c =
     let m = g.T.Entry in
     let s = store_of c.args.arena.now in
     let at : child_number c.args.side (s c.args.number) ≡ Some c.in-Some.child = sym c.child_of.ensures ∙ c.in-Some.is in
-    (removed_step m.key m.unit m.op m.of g.met.T.Entry.laws c.args.side s (store_of c.removed_below-out.new.arena) c.args.number c.in-Some.child c.args.like.now c.removed_below-out.result.0 _ c.requires.there at c.requires.other c.requires.side c.removed_below-out.ensures.removed).entry
+    (removed_step m.key m.unit m.op m.of g.met.T.Entry.laws c.args.side s (store_of c.removed_below-out.new.arena) c.args.number c.in-Some.child
+    c.args.like.now c.removed_below-out.result.0 _ c.requires.there at c.requires.other c.requires.side c.removed_below-out.ensures.removed).entry
 
 pub removed_on-settle_side-requires-clause-child : goal.removed_on-settle_side-requires-clause-child
 removed_on-settle_side-requires-clause-child g t c =
     let m = g.T.Entry in
     let s = store_of c.args.arena.now in
     let at : child_number c.args.side (s c.args.number) ≡ Some c.in-Some.child = sym c.child_of.ensures ∙ c.in-Some.is in
-    (removed_step m.key m.unit m.op m.of g.met.T.Entry.laws c.args.side s (store_of c.removed_below-out.new.arena) c.args.number c.in-Some.child c.args.like.now c.removed_below-out.result.0 _ c.requires.there at c.requires.other c.requires.side c.removed_below-out.ensures.removed).ready
+    (removed_step m.key m.unit m.op m.of g.met.T.Entry.laws c.args.side s (store_of c.removed_below-out.new.arena) c.args.number c.in-Some.child
+    c.args.like.now c.removed_below-out.result.0 _ c.requires.there at c.requires.other c.requires.side c.removed_below-out.ensures.removed).ready
 
 pub removed_on-settle_side-requires-clause-used : goal.removed_on-settle_side-requires-clause-used
 removed_on-settle_side-requires-clause-used g t c =
     let m = g.T.Entry in
     let s = store_of c.args.arena.now in
     let at : child_number c.args.side (s c.args.number) ≡ Some c.in-Some.child = sym c.child_of.ensures ∙ c.in-Some.is in
-    (removed_step m.key m.unit m.op m.of g.met.T.Entry.laws c.args.side s (store_of c.removed_below-out.new.arena) c.args.number c.in-Some.child c.args.like.now c.removed_below-out.result.0 _ c.requires.there at c.requires.other c.requires.side c.removed_below-out.ensures.removed).used
+    (removed_step m.key m.unit m.op m.of g.met.T.Entry.laws c.args.side s (store_of c.removed_below-out.new.arena) c.args.number c.in-Some.child
+    c.args.like.now c.removed_below-out.result.0 _ c.requires.there at c.requires.other c.requires.side c.removed_below-out.ensures.removed).used
 
 pub removed_on-returns-clause-removed : goal.removed_on-returns-clause-removed
 removed_on-returns-clause-removed g t c =
     let m = g.T.Entry in
     let s = store_of c.args.arena.now in
     let at : child_number c.args.side (s c.args.number) ≡ Some c.in-Some.child = sym c.child_of.ensures ∙ c.in-Some.is in
-    (removed_step m.key m.unit m.op m.of g.met.T.Entry.laws c.args.side s (store_of c.removed_below-out.new.arena) c.args.number c.in-Some.child c.args.like.now c.removed_below-out.result.0 _ c.requires.there at c.requires.other c.requires.side c.removed_below-out.ensures.removed).settled (store_of c.settle_side.new.arena) _ c.settle_side.ensures
+    (removed_step m.key m.unit m.op m.of g.met.T.Entry.laws c.args.side s (store_of c.removed_below-out.new.arena) c.args.number c.in-Some.child
+    c.args.like.now c.removed_below-out.result.0 _ c.requires.there at c.requires.other c.requires.side c.removed_below-out.ensures.removed).settled
+    (store_of c.settle_side.new.arena) _ c.settle_side.ensures
 
 pub removed_on-returns-clause-entry : goal.removed_on-returns-clause-entry
 removed_on-returns-clause-entry g t c =
     let m = g.T.Entry in
     let s = store_of c.args.arena.now in
     let at : child_number c.args.side (s c.args.number) ≡ Some c.in-Some.child = sym c.child_of.ensures ∙ c.in-Some.is in
-    (removed_step m.key m.unit m.op m.of g.met.T.Entry.laws c.args.side s (store_of c.removed_below-out.new.arena) c.args.number c.in-Some.child c.args.like.now c.removed_below-out.result.0 _ c.requires.there at c.requires.other c.requires.side c.removed_below-out.ensures.removed).settled_entry (store_of c.settle_side.new.arena) _ c.settle_side.ensures
+    (removed_step m.key m.unit m.op m.of g.met.T.Entry.laws c.args.side s (store_of c.removed_below-out.new.arena) c.args.number c.in-Some.child
+    c.args.like.now c.removed_below-out.result.0 _ c.requires.there at c.requires.other c.requires.side c.removed_below-out.ensures.removed).settled_entry
+    (store_of c.settle_side.new.arena) _ c.settle_side.ensures

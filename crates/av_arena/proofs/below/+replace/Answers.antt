@@ -40,7 +40,8 @@ replaced_on-replaced_below-requires g t c κs within =
     let m = g.T.Entry in
     let s = store_of c.args.arena.now in
     let at : child_number c.args.side (s c.args.number) ≡ Some c.in-Some.child = sym c.child_of.ensures ∙ c.in-Some.is in
-    let f = replaced_further m.key m.unit m.op m.of g.met.T.Entry.laws c.args.side s c.args.number c.in-Some.child c.args.entry.now c.requires.key at c.requires.side in
+    let f = replaced_further m.key m.unit m.op m.of g.met.T.Entry.laws c.args.side s c.args.number c.in-Some.child c.args.entry.now c.requires.key at
+    c.requires.side in
     search (rules, f.asked, f.falls)
 
 pub replaced_on-returns-then-not-replaced_below : goal.replaced_on-returns-then-not-replaced_below
@@ -48,25 +49,29 @@ replaced_on-returns-then-not-replaced_below g t c =
     let m = g.T.Entry in
     let s = store_of c.args.arena.now in
     let at : child_number c.args.side (s c.args.number) ≡ Some c.in-Some.child = sym c.child_of.ensures ∙ c.in-Some.is in
-    (replaced_step m.key m.unit m.op m.of g.met.T.Entry.laws c.args.side s (store_of c.replaced_below.new.arena) c.args.number c.in-Some.child c.args.entry.now _ c.requires.key at c.requires.side c.replaced_below.ensures).same (search rules)
+    (replaced_step m.key m.unit m.op m.of g.met.T.Entry.laws c.args.side s (store_of c.replaced_below.new.arena) c.args.number c.in-Some.child
+    c.args.entry.now _ c.requires.key at c.requires.side c.replaced_below.ensures).same (search rules)
 
 pub replaced_on-settle_side-requires-clause-child : goal.replaced_on-settle_side-requires-clause-child
 replaced_on-settle_side-requires-clause-child g t c =
     let m = g.T.Entry in
     let s = store_of c.args.arena.now in
     let at : child_number c.args.side (s c.args.number) ≡ Some c.in-Some.child = sym c.child_of.ensures ∙ c.in-Some.is in
-    (replaced_step m.key m.unit m.op m.of g.met.T.Entry.laws c.args.side s (store_of c.replaced_below.new.arena) c.args.number c.in-Some.child c.args.entry.now _ c.requires.key at c.requires.side c.replaced_below.ensures).ready
+    (replaced_step m.key m.unit m.op m.of g.met.T.Entry.laws c.args.side s (store_of c.replaced_below.new.arena) c.args.number c.in-Some.child
+    c.args.entry.now _ c.requires.key at c.requires.side c.replaced_below.ensures).ready
 
 pub replaced_on-settle_side-requires-clause-used : goal.replaced_on-settle_side-requires-clause-used
 replaced_on-settle_side-requires-clause-used g t c =
     let m = g.T.Entry in
     let s = store_of c.args.arena.now in
     let at : child_number c.args.side (s c.args.number) ≡ Some c.in-Some.child = sym c.child_of.ensures ∙ c.in-Some.is in
-    (replaced_step m.key m.unit m.op m.of g.met.T.Entry.laws c.args.side s (store_of c.replaced_below.new.arena) c.args.number c.in-Some.child c.args.entry.now _ c.requires.key at c.requires.side c.replaced_below.ensures).used
+    (replaced_step m.key m.unit m.op m.of g.met.T.Entry.laws c.args.side s (store_of c.replaced_below.new.arena) c.args.number c.in-Some.child
+    c.args.entry.now _ c.requires.key at c.requires.side c.replaced_below.ensures).used
 
 pub replaced_on-returns : goal.replaced_on-returns
 replaced_on-returns g t c =
     let m = g.T.Entry in
     let s = store_of c.args.arena.now in
     let at : child_number c.args.side (s c.args.number) ≡ Some c.in-Some.child = sym c.child_of.ensures ∙ c.in-Some.is in
-    (replaced_step m.key m.unit m.op m.of g.met.T.Entry.laws c.args.side s (store_of c.replaced_below.new.arena) c.args.number c.in-Some.child c.args.entry.now _ c.requires.key at c.requires.side c.replaced_below.ensures).settled (store_of c.settle_side.new.arena) _ c.settle_side.ensures
+    (replaced_step m.key m.unit m.op m.of g.met.T.Entry.laws c.args.side s (store_of c.replaced_below.new.arena) c.args.number c.in-Some.child
+    c.args.entry.now _ c.requires.key at c.requires.side c.replaced_below.ensures).settled (store_of c.settle_side.new.arena) _ c.settle_side.ensures

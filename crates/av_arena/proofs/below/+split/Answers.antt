@@ -26,8 +26,10 @@ split_below-placed_below-requires g t c =
     let none : c.side_beside.result ≡ None = search rules in
     let between : IsBetween m.key m.unit m.op m.of s c.args.number c.args.lower.now c.args.lower.now =
     subst (IsBeside m.key m.unit m.op m.of s c.args.number c.args.lower.now c.args.lower.now) none c.side_beside.ensures in
-    let r = replaced_at m.key m.unit m.op m.of g.met.T.Entry.laws s (store_of c.set_entry.new.self) c.args.number c.args.lower.now between c.set_entry.ensures in
-    split_ready m.key m.unit m.op m.of g.met.T.Entry.laws s (store_of c.set_entry.new.self) c.args.number c.args.new c.args.lower.now c.args.upper.now c.requires r
+    let r = replaced_at m.key m.unit m.op m.of g.met.T.Entry.laws s (store_of c.set_entry.new.self) c.args.number c.args.lower.now between
+    c.set_entry.ensures in
+    split_ready m.key m.unit m.op m.of g.met.T.Entry.laws s (store_of c.set_entry.new.self) c.args.number c.args.new c.args.lower.now c.args.upper.now
+    c.requires r
 
 pub split_below-returns-in-None : goal.split_below-returns-in-None
 split_below-returns-in-None g t c =
@@ -36,8 +38,10 @@ split_below-returns-in-None g t c =
     let none : c.side_beside.result ≡ None = search rules in
     let between : IsBetween m.key m.unit m.op m.of s c.args.number c.args.lower.now c.args.lower.now =
     subst (IsBeside m.key m.unit m.op m.of s c.args.number c.args.lower.now c.args.lower.now) none c.side_beside.ensures in
-    let r = replaced_at m.key m.unit m.op m.of g.met.T.Entry.laws s (store_of c.set_entry.new.self) c.args.number c.args.lower.now between c.set_entry.ensures in
-    split_at m.key m.unit m.op m.of g.met.T.Entry.laws s (store_of c.set_entry.new.self) (store_of c.placed_below.new.arena) c.args.number c.args.new c.args.lower.now c.args.upper.now _ r
+    let r = replaced_at m.key m.unit m.op m.of g.met.T.Entry.laws s (store_of c.set_entry.new.self) c.args.number c.args.lower.now between
+    c.set_entry.ensures in
+    split_at m.key m.unit m.op m.of g.met.T.Entry.laws s (store_of c.set_entry.new.self) (store_of c.placed_below.new.arena) c.args.number c.args.new
+    c.args.lower.now c.args.upper.now _ r
     c.placed_below.ensures
 
 pub split_on-unreachable-requires : goal.split_on-unreachable-requires
@@ -45,14 +49,16 @@ split_on-unreachable-requires g t c =
     let m = g.T.Entry in
     let s = store_of c.args.arena.now in
     let at : child_number c.args.side (s c.args.number) ≡ None = sym c.child_of.ensures ∙ search rules in
-    split_never m.key m.unit m.op m.of g.met.T.Entry.laws c.args.side s c.args.number c.args.new c.args.lower.now c.args.upper.now c.requires.split at c.requires.side
+    split_never m.key m.unit m.op m.of g.met.T.Entry.laws c.args.side s c.args.number c.args.new c.args.lower.now c.args.upper.now c.requires.split at
+    c.requires.side
 
 pub split_on-split_below-requires : goal.split_on-split_below-requires
 split_on-split_below-requires g t c κs within =
     let m = g.T.Entry in
     let s = store_of c.args.arena.now in
     let at : child_number c.args.side (s c.args.number) ≡ Some c.in-Some.child = sym c.child_of.ensures ∙ c.in-Some.is in
-    let f = split_further m.key m.unit m.op m.of g.met.T.Entry.laws c.args.side s c.args.number c.in-Some.child c.args.new c.args.lower.now c.args.upper.now c.requires.split at c.requires.side in
+    let f = split_further m.key m.unit m.op m.of g.met.T.Entry.laws c.args.side s c.args.number c.in-Some.child c.args.new c.args.lower.now c.args.upper.now
+    c.requires.split at c.requires.side in
     search (rules, f.asked, f.falls)
 
 pub split_on-returns-then-not-split_below : goal.split_on-returns-then-not-split_below
@@ -60,25 +66,30 @@ split_on-returns-then-not-split_below g t c =
     let m = g.T.Entry in
     let s = store_of c.args.arena.now in
     let at : child_number c.args.side (s c.args.number) ≡ Some c.in-Some.child = sym c.child_of.ensures ∙ c.in-Some.is in
-    (split_step m.key m.unit m.op m.of g.met.T.Entry.laws c.args.side s (store_of c.split_below.new.arena) c.args.number c.in-Some.child c.args.new c.args.lower.now c.args.upper.now _ c.requires.split at c.requires.side c.split_below.ensures).same (search rules)
+    (split_step m.key m.unit m.op m.of g.met.T.Entry.laws c.args.side s (store_of c.split_below.new.arena) c.args.number c.in-Some.child c.args.new
+    c.args.lower.now c.args.upper.now _ c.requires.split at c.requires.side c.split_below.ensures).same (search rules)
 
 pub split_on-settle_side-requires-clause-child : goal.split_on-settle_side-requires-clause-child
 split_on-settle_side-requires-clause-child g t c =
     let m = g.T.Entry in
     let s = store_of c.args.arena.now in
     let at : child_number c.args.side (s c.args.number) ≡ Some c.in-Some.child = sym c.child_of.ensures ∙ c.in-Some.is in
-    (split_step m.key m.unit m.op m.of g.met.T.Entry.laws c.args.side s (store_of c.split_below.new.arena) c.args.number c.in-Some.child c.args.new c.args.lower.now c.args.upper.now _ c.requires.split at c.requires.side c.split_below.ensures).ready
+    (split_step m.key m.unit m.op m.of g.met.T.Entry.laws c.args.side s (store_of c.split_below.new.arena) c.args.number c.in-Some.child c.args.new
+    c.args.lower.now c.args.upper.now _ c.requires.split at c.requires.side c.split_below.ensures).ready
 
 pub split_on-settle_side-requires-clause-used : goal.split_on-settle_side-requires-clause-used
 split_on-settle_side-requires-clause-used g t c =
     let m = g.T.Entry in
     let s = store_of c.args.arena.now in
     let at : child_number c.args.side (s c.args.number) ≡ Some c.in-Some.child = sym c.child_of.ensures ∙ c.in-Some.is in
-    (split_step m.key m.unit m.op m.of g.met.T.Entry.laws c.args.side s (store_of c.split_below.new.arena) c.args.number c.in-Some.child c.args.new c.args.lower.now c.args.upper.now _ c.requires.split at c.requires.side c.split_below.ensures).used
+    (split_step m.key m.unit m.op m.of g.met.T.Entry.laws c.args.side s (store_of c.split_below.new.arena) c.args.number c.in-Some.child c.args.new
+    c.args.lower.now c.args.upper.now _ c.requires.split at c.requires.side c.split_below.ensures).used
 
 pub split_on-returns : goal.split_on-returns
 split_on-returns g t c =
     let m = g.T.Entry in
     let s = store_of c.args.arena.now in
     let at : child_number c.args.side (s c.args.number) ≡ Some c.in-Some.child = sym c.child_of.ensures ∙ c.in-Some.is in
-    (split_step m.key m.unit m.op m.of g.met.T.Entry.laws c.args.side s (store_of c.split_below.new.arena) c.args.number c.in-Some.child c.args.new c.args.lower.now c.args.upper.now _ c.requires.split at c.requires.side c.split_below.ensures).settled (store_of c.settle_side.new.arena) _ c.settle_side.ensures
+    (split_step m.key m.unit m.op m.of g.met.T.Entry.laws c.args.side s (store_of c.split_below.new.arena) c.args.number c.in-Some.child c.args.new
+    c.args.lower.now c.args.upper.now _ c.requires.split at c.requires.side c.split_below.ensures).settled (store_of c.settle_side.new.arena) _
+    c.settle_side.ensures
