@@ -44,6 +44,12 @@ IsPlace number parts result = MatchResult result
     × AllWithin (λ part. part.0 < number) parts 0 k
     × AllWithin (λ part. number < part.0) parts k (length parts))
 
+-- the place from which on the parts have this number or a greater one
+pub record IsPlaceFrom {C : Type 0} (number : ℕ) (parts : List (ℕ × C)) (k : ℕ) : Type 0 where
+  pub within : k ≤ length parts
+  pub lower : AllWithin (λ part. part.0 < number) parts 0 k
+  pub higher : AllWithin (λ part. number ≤ part.0) parts k (length parts)
+
 -- the entries of the part at a place
 abbrev pub entries_at : {C : Type 0} → (C → ℕ → Pte) → List (ℕ × C) → ℕ → ℕ → Pte
 entries_at at parts k = in_part at (option_map (λ part. part.1) (slice_get parts k))
