@@ -6,9 +6,15 @@ use Rattle.std.proofs.lemmas.Nat.{div-add-mod', mod_below}
 use Rattle.std.specs.List.{AllWithin, HoldsAt}
 use Rattle.av_pagetable.specs.declared.pte.Pte.{Pte}
 use Rattle.av_pagetable.specs.declared.pte.Pte.TheVariants.{Empty}
-use Rattle.av_pagetable.specs.Dir.{alone, entries, AreParts, IsPlaceFrom}
+use Rattle.av_pagetable.specs.Dir.{alone, entries, AreParts}
 use Rattle.av_pagetable.proofs.DirEntries.{absent, entries_there}
 use Rattle.av_pagetable.proofs.Walk.{next_item}
+
+-- the place from which on the parts have this number or a greater one
+pub record IsPlaceFrom {C : Type 0} (number : ℕ) (parts : List (ℕ × C)) (k : ℕ) : Type 0 where
+  pub within : k ≤ length parts
+  pub lower : AllWithin (λ part. part.0 < number) parts 0 k
+  pub higher : AllWithin (λ part. number ≤ part.0) parts k (length parts)
 
 -- the walk stands at a place: the group has the entries of the pages below a bound, and no other
 pub record IsGathered (parts : List (ℕ × Pte)) (first : ℕ) (group : List Pte) (rest : List (ℕ × Pte)) : Type 0 where

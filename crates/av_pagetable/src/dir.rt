@@ -1,6 +1,6 @@
-ghost use Rattle.std.specs.Prelude.{◌≡◌, ℕ, ◌+◌, ◌<◌, ◌≤◌, length, slice_index_or, HoldsAt};
-ghost use Rattle.std.specs.Bool.{OnTrue};
+ghost use Rattle.std.specs.Prelude.{◌≡◌, ℕ, ◌+◌, ◌<◌, ◌≤◌, length, slice_index_or, HoldsAt, MatchBool};
 ghost use Rattle.av_pagetable.specs.Table.{group_size};
+ghost use Rattle.av_pagetable.specs.Dir.{IsWhole};
 ghost use Rattle.av_pagetable.specs.declared.pte.Pte.{Pte};
 
 use crate::level::Level;
@@ -329,8 +329,9 @@ impl Dir<Pte> {
 // of so many is that of the group's last page, none is missing.
 #[inline]
 fn is_whole(parts: &[(u16, Pte)], start: usize, first: u64) -> bool
-    ensures { OnTrue result ((start + 63 < length parts.now)
-        × HoldsAt (λ part. part.0 ≡ first + 63) parts.now (start + 63)) }
+    ensures { MatchBool result
+        (IsWhole first parts.now start)
+        (IsWhole first parts.now start → ⊥) }
 {
     if parts.len() < GROUP || start > parts.len() - GROUP {
         return false;

@@ -28,7 +28,7 @@ returns-then-is_whole c = λ i under.
       | in-Err w ↦ from_gap v good c.args.first k
           (omega (arith, w.in-Err.ensures.0, w.start-is)) (λ i d low high. w.in-Err.ensures.1 i d low (omega (arith, high, w.start-is)))
           (λ i d low high. w.in-Err.ensures.2 i d (omega (arith, low, w.start-is)) high)
-    ]) many (λ d. ap (λ part. part.0) (same (k + 63) d found.0) ∙ found.1 d) i under)
+    ]) many (λ d. let is = ap (λ part. part.0) (same (k + 63) d (omega (arith, found.0))) in let last = found.1 d in omega (arith, is, last)) i under)
 
 pub loop-part-init : goal.loop-part-init
 loop-part-init c =
