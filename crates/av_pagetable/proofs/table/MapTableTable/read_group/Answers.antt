@@ -1,7 +1,7 @@
 use Rattle.std.proofs.Common.{◌+◌, ◌*◌, ◌∙◌, arith, length-set}
 use Rattle.av_pagetable.specs.Table.{entry_in}
 use Rattle.av_pagetable.proofs.Pass.{one_filled}
-use Rattle.av_pagetable.proofs.table.MapTableTable.group.Goals as goal
+use Rattle.av_pagetable.proofs.table.MapTableTable.read_group.Goals as goal
 
 pub loop-i-preserved : goal.loop-i-preserved
 loop-i-preserved c =

@@ -1,7 +1,7 @@
 use Rattle.std.proofs.Common.{◌≡◌, ℕ, ◌+◌, ◌*◌, ◌<◌, length, slice_index_or}
 use Rattle.av_pagetable.specs.declared.pte.Pte.TheVariants.{Empty}
 use Rattle.av_pagetable.specs.Table.{entry_in}
-use Rattle.av_pagetable.proofs.table.MapTableTable.group.Given as goal
+use Rattle.av_pagetable.proofs.table.MapTableTable.read_group.Given as goal
 
 abbrev pub invariant-loop-i : goal.invariant-loop-i
 invariant-loop-i l = record {
