@@ -203,21 +203,22 @@ fn read(bytes: &[u8]) -> Option<Command>
     end(command, rest)
 }
 
-#[tactic(auto, unfolding(crate::specs::Command::whole, crate::specs::Command::at_end, crate::specs::Word::both))]
+#[tactic(auto, unfolding(crate::specs::Command::whole, crate::specs::Word::both))]
 fn write(alloc: Global, bytes: &[u8], spare: &mut Bytes) -> Result<Option<Command>, AllocError>
     ensures { IfOk result (λ found. found ≡ write_at bytes.now) }
 {
     let Some(((process, address), rest)) = entry(bytes) else {
         return Ok(None);
     };
-    match data_field(alloc, rest, spare)? {
-        Some(bytes) => Ok(Some(Command::Write {
-            process,
-            address,
-            bytes,
-        })),
-        None => Ok(None),
-    }
+    let Some(bytes) = data_field(alloc, rest, spare)? else {
+        return Ok(None);
+    };
+    let command = Command::Write {
+        process,
+        address,
+        bytes,
+    };
+    Ok(end(command, b""))
 }
 
 #[tactic(auto, unfolding(crate::specs::Command::whole))]
