@@ -1,6 +1,6 @@
 -- Which entry a page has after the events of an mremap.
 use Rattle.std.proofs.Common.{◌≡◌, ◌⊎◌, inl, inr, ℕ, ◌+◌, ◌-◌, ◌≤◌, ◌<◌, min, nat_lt, Bool, true, false, cond, not, ◌&&◌, T, Option, Some, None, refl, ap, ◌∙◌, arith, ◌==◌}
-use Rattle.std.proofs.lemmas.Bool.{ltb-true, ltb-false}
+use Rattle.std.proofs.lemmas.Bool.{both_ways, eq-eqb, ltb-true, ltb-false}
 use Rattle.std.proofs.lemmas.Bool.Decides.{nat_tests}
 use Rattle.std.specs.FinMap.Entries.{is_sorted}
 use Rattle.std.specs.Option.{option_or}
@@ -13,9 +13,6 @@ use Rattle.av_plain.specs.Zap.{keys_in}
 use Rattle.av_plain.proofs.Mremap.{after-elsewhere, after-in_place, entry-moved, entry-then_tail, in_order-zaps, then_tail, then_target}
 use Rattle.av_plain.proofs.Zap.{entry-range, in_range}
 
-itself : (p : ℕ) → (p == p) ≡ true
-itself p = grind (arith, nat_tests)
-
 or_none : (o : Option Entry) → option_or o None ≡ o
 or_none None = refl
 or_none (Some e) = refl
@@ -27,10 +24,6 @@ none_either false o h = h
 none_both : (b : Bool) → ◌≡◌ {A = Option Entry} (cond b None None) None
 none_both true = refl
 none_both false = refl
-
-not_both : (b : Bool) → b ≡ false → b ≡ true → ⊥
-not_both true e f = cc
-not_both false e f = cc
 
 module _ (l : Ledger) (p from n to m : ℕ) (sorted : T (is_sorted key_cmp l.entries)) where
   abbrev later : Ledger
@@ -67,7 +60,7 @@ module _ (l : Ledger) (p from n to m : ℕ) (sorted : T (is_sorted key_cmp l.ent
           ∙ (λ i. cond (other i && within (from + m) (n - m) page) None (cond (other i && within to m page) None (entry l (k, page))))
 
   inside : (a b page : ℕ) (c : Bool) → within a b page ≡ c → in_range p a b (p, page) ≡ c
-  inside a b page c h = λ i. itself p i && h i
+  inside a b page c h = λ i. eq-eqb p p refl i && h i
 
   -- ---- in place
 
@@ -124,7 +117,7 @@ module _ (l : Ledger) (p from n to m : ℕ) (sorted : T (is_sorted key_cmp l.ent
     left page h i = now_is page false (within from (min n m) page) (out_of_range to (min n m) page outside) refl ∙ by (within from (min n m) page) refl
       where
         outside : to ≤ page → page < to + min n m → ⊥
-        outside low high = not_both (within to m page) h (is_in_range to m page low (omega (arith, high)))
+        outside low high = both_ways (within to m page) h (is_in_range to m page low (omega (arith, high)))
 
         by : (c : Bool) → within from (min n m) page ≡ c → option_or None (cond (not c) (entry kept (p, page)) None) ≡ None
         by true e = refl
@@ -140,10 +133,10 @@ module _ (l : Ledger) (p from n to m : ℕ) (sorted : T (is_sorted key_cmp l.ent
         ∙ kept_is page false false (out_of_range (from + m) (n - m) page not_old) h
       where
         not_new : to ≤ page → page < to + min n m → ⊥
-        not_new low high = not_both (within to m page) h (is_in_range to m page low (omega (arith, high)))
+        not_new low high = both_ways (within to m page) h (is_in_range to m page low (omega (arith, high)))
 
         not_first : from ≤ page → page < from + min n m → ⊥
-        not_first low high = not_both (within from n page) i (is_in_range from n page low (omega (arith, high)))
+        not_first low high = both_ways (within from n page) i (is_in_range from n page low (omega (arith, high)))
 
         not_old : from + m ≤ page → page < from + m + (n - m) → ⊥
-        not_old low high = not_both (within from n page) i (is_in_range from n page (omega (arith, low)) (omega (arith, low, high)))
+        not_old low high = both_ways (within from n page) i (is_in_range from n page (omega (arith, low)) (omega (arith, low, high)))
