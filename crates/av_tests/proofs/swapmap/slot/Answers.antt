@@ -1,5 +1,5 @@
 use Rattle.std.proofs.Common.{ℕ, ◌+◌, ◌<◌, ◌^◌, ◌∙◌, sym, subst, arith}
-use Rattle.av_tests.proofs.swapmap.digits.Goals as goal
+use Rattle.av_tests.proofs.swapmap.slot.Goals as goal
 
 pub add-requires-clause-not_bad : goal.add-requires-clause-not_bad
 add-requires-clause-not_bad c = λ i. (c.in_ok-counts.ensures i).bad 0
