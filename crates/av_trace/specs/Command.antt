@@ -1,5 +1,5 @@
 -- The lines that are commands. Each command has one line.
-use Rattle.std.specs.Prelude.{ℕ, List, [], ◌∷◌, codes, Option, Some, None}
+use Rattle.std.specs.Prelude.{ℕ, List, [], ◌∷◌, ◌++◌, codes, Option, Some, None}
 use Rattle.std.specs.Fmt.{decimal}
 use Rattle.av_base.specs.Page.{page_size}
 use Rattle.av_base.specs.declared.prot.Prot.{Prot}
@@ -131,7 +131,28 @@ rmap_at = whole entry_at (λ x. commands.Rmap x.0 x.1)
 abbrev pub entry_of : CommandReader
 entry_of = whole entry_at (λ x. commands.Entry x.0 x.1)
 
--- the commands, by name: reports,
+-- the commands, by name: those that access pages,
+abbrev pub access_readers : List (List ℕ × CommandReader)
+access_readers = (codes "write", write_at) ∷ (codes "read", read_at) ∷ []
+
+-- that begin and end processes,
+abbrev pub process_readers : List (List ℕ × CommandReader)
+process_readers =
+    (codes "spawn", whole process_at commands.Spawn)
+    ∷ (codes "fork", fork_at)
+    ∷ (codes "exit", whole process_at commands.Exit)
+    ∷ []
+
+-- that change ranges,
+abbrev pub range_readers : List (List ℕ × CommandReader)
+range_readers =
+    (codes "mmap", mmap_at)
+    ∷ (codes "munmap", munmap_at)
+    ∷ (codes "mprotect", mprotect_at)
+    ∷ (codes "mremap", mremap_at)
+    ∷ []
+
+-- and reports
 abbrev pub report_readers : List (List ℕ × CommandReader)
 report_readers =
     (codes "maps", whole process_at commands.Maps)
@@ -141,26 +162,8 @@ report_readers =
     ∷ (codes "stat", whole no_words (λ x. commands.Stat))
     ∷ []
 
--- before them what changes ranges,
-abbrev pub range_readers : List (List ℕ × CommandReader)
-range_readers =
-    (codes "mmap", mmap_at)
-    ∷ (codes "munmap", munmap_at)
-    ∷ (codes "mprotect", mprotect_at)
-    ∷ (codes "mremap", mremap_at)
-    ∷ report_readers
-
--- before these what begins and ends processes,
-abbrev pub process_readers : List (List ℕ × CommandReader)
-process_readers =
-    (codes "spawn", whole process_at commands.Spawn)
-    ∷ (codes "fork", fork_at)
-    ∷ (codes "exit", whole process_at commands.Exit)
-    ∷ range_readers
-
--- and first the accesses
 abbrev pub readers : List (List ℕ × CommandReader)
-readers = (codes "write", write_at) ∷ (codes "read", read_at) ∷ process_readers
+readers = access_readers ++ process_readers ++ range_readers ++ report_readers
 
 -- the command of a line that has one of these names
 abbrev pub command_in : List (List ℕ × CommandReader) → CommandReader

@@ -1,6 +1,6 @@
 //! What a line asks for.
 
-ghost use Rattle.std.specs.Prelude.{◌≡◌, codes, option_map, IfOk, OnErr};
+ghost use Rattle.std.specs.Prelude.{◌≡◌, ◌++◌, codes, option_map, IfOk, OnErr};
 ghost use Rattle.av_trace.specs.Command.{at_end, whole, no_words, fork_at, mmap_at, munmap_at, mprotect_at, mremap_at, read_at, write_at, rmap_at, entry_of, command_in, command_of, process_readers, range_readers, report_readers, range_words};
 ghost use Rattle.av_trace.specs.Number.{process_at};
 ghost use Rattle.av_trace.specs.Word.{BeginsWith};
@@ -283,7 +283,7 @@ fn report(line: &[u8]) -> Option<Command>
 /// The change of a range, or the report, that a line asks for.
 #[inline]
 fn of_ranges(line: &[u8]) -> Option<Command>
-    ensures { result ≡ command_in range_readers line.now }
+    ensures { result ≡ command_in (range_readers ++ report_readers) line.now }
 {
     if let Some(rest) = after(line, b"mmap") {
         mmap(rest)
@@ -301,7 +301,8 @@ fn of_ranges(line: &[u8]) -> Option<Command>
 /// The command on a process or a range, or the report, that a line asks for.
 #[inline]
 fn of_processes(line: &[u8]) -> Option<Command>
-    ensures { result ≡ command_in process_readers line.now }
+    ensures { result ≡ command_in (process_readers ++ range_readers ++ report_readers)
+        line.now }
 {
     if let Some(rest) = after(line, b"spawn") {
         spawn(rest)
