@@ -300,7 +300,8 @@ impl Dir<Pte> {
     ghost use Rattle.av_pagetable.specs.Dir.{alone, entries};
     ghost use Rattle.av_pagetable.specs.declared.pte.Pte.{Pte};
 
-    /// Reads the entries of a group of pages side by side, from page `first` on, over what is there.
+    /// Reads the entries of a group of pages side by side, from page `first` on, over what is
+    /// there.
     pub fn read_group(&self, first: u64, group: &mut [Pte; GROUP])
         ensures { (i : ℕ) → i < group_size
             → slice_index_or group.new i Pte.Empty ≡ entries alone 1 self.now (first + i) }
